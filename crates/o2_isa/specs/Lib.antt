@@ -1,0 +1,4 @@
+pub mod Table
+pub mod Operands
+pub mod Spelling
+pub mod Reading

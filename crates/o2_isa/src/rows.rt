@@ -76,3 +76,14 @@ pub enum Decoded {
     /// They are a proper front of an instruction.
     Need,
 }
+
+/// What stands before the displacement and the immediate bytes.
+#[derive(Clone, Copy)]
+pub enum Head {
+    /// More bytes are wanted to tell.
+    More,
+    /// No instruction has this head.
+    Bad,
+    /// A whole head, and how many bytes it has.
+    Whole(Plan, usize),
+}

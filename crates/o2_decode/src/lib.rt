@@ -1,0 +1,10 @@
+//! Decoding of 80286 instructions.
+#![tactic(auto)]
+
+mod lookup;
+mod operands;
+mod reading;
+mod table;
+
+pub use o2_isa::Decoded;
+pub use reading::{decode, one_spelling};

@@ -1,0 +1,177 @@
+ghost use Rattle.std.specs.Prelude.{◌≡◌, ◌+◌, ◌<◌, ◌≤◌, length};
+ghost use Rattle.o2_isa.specs.Operands.{is_direct, disp_len, imm_len, tail_len, word_at, sign_extended, sreg_of, default_segment, ea_of, register, arg_of, rep_of, instr_of};
+
+use o2_isa::{Arg, Ea, Instr, Plan, Prefixes, Rep, Repeat, Slot, Sreg, Width};
+
+fn is_direct_offset(modrm: u8) -> bool
+    ensures { result ≡ is_direct modrm }
+{
+    modrm / 64 == 0 && modrm % 8 == 6
+}
+
+pub fn displacement_len(modrm: u8) -> usize
+    ensures { result ≡ disp_len modrm }
+{
+    if is_direct_offset(modrm) {
+        return 2;
+    }
+    match modrm / 64 {
+        1 => 1,
+        2 => 2,
+        _ => 0,
+    }
+}
+
+fn immediate_len(slot: Slot) -> usize
+    ensures value { result ≡ imm_len slot }
+    ensures small { result ≤ 4 }
+{
+    match slot {
+        Slot::ImmByte | Slot::ImmSigned => 1,
+        Slot::ImmWord | Slot::Offset => 2,
+        Slot::FarImm => 4,
+        _ => 0,
+    }
+}
+
+pub fn rest_len(plan: &Plan) -> usize
+    requires { plan.now.disp ≤ 2 }
+    ensures value { result ≡ tail_len plan.now }
+    ensures small { result ≤ 14 }
+{
+    plan.disp
+        + immediate_len(plan.row.left)
+        + immediate_len(plan.row.right)
+        + immediate_len(plan.row.third)
+}
+
+fn word(bytes: &[u8], at: usize) -> u16
+    requires { at + 2 ≤ length bytes.now }
+    ensures { result ≡ word_at bytes.now at }
+{
+    bytes[at] as u16 + 256 * (bytes[at + 1] as u16)
+}
+
+fn extended(b: u8) -> u16
+    ensures { result ≡ sign_extended b }
+{
+    if b < 128 { b as u16 } else { b as u16 + 65280 }
+}
+
+fn segment_register(n: u8) -> Sreg
+    ensures { result ≡ sreg_of n }
+{
+    match n {
+        0 => Sreg::Es,
+        1 => Sreg::Cs,
+        2 => Sreg::Ss,
+        _ => Sreg::Ds,
+    }
+}
+
+fn base_segment(modrm: u8) -> Sreg
+    ensures { result ≡ default_segment modrm }
+{
+    let rm = modrm % 8;
+    if rm == 2 || rm == 3 || (rm == 6 && !is_direct_offset(modrm)) {
+        Sreg::Ss
+    } else {
+        Sreg::Ds
+    }
+}
+
+fn address(prefixes: &Prefixes, modrm: u8, disp: usize, tail: &[u8]) -> Ea
+    requires { disp ≤ length tail.now }
+    ensures { result ≡ ea_of prefixes.now modrm disp tail.now }
+{
+    let offset = match disp {
+        0 => 0,
+        1 => extended(tail[0]),
+        _ => word(tail, 0),
+    };
+    Ea {
+        base: if is_direct_offset(modrm) {
+            8
+        } else {
+            modrm % 8
+        },
+        disp: offset,
+        seg: prefixes.seg.unwrap_or(base_segment(modrm)),
+    }
+}
+
+fn register_of(width: Width, n: u8) -> Arg
+    ensures { result ≡ register width n }
+{
+    match width {
+        Width::Byte => Arg::R8(n),
+        Width::Word => Arg::R16(n),
+    }
+}
+
+fn operand(slot: Slot, prefixes: &Prefixes, plan: &Plan, tail: &[u8], at: usize) -> Arg
+    requires disp { plan.now.disp ≤ length tail.now }
+    requires room { at + imm_len slot ≤ length tail.now }
+    ensures { result ≡ arg_of slot plan.now.row.width prefixes.now plan.now tail.now at }
+{
+    let width = plan.row.width;
+    match slot {
+        Slot::Absent => Arg::No,
+        Slot::ModRm => {
+            if plan.modrm / 64 == 3 {
+                register_of(width, plan.modrm % 8)
+            } else {
+                Arg::M(address(prefixes, plan.modrm, plan.disp, tail))
+            }
+        }
+        Slot::Memory => Arg::M(address(prefixes, plan.modrm, plan.disp, tail)),
+        Slot::Register => register_of(width, plan.modrm / 8 % 8),
+        Slot::Segment | Slot::SegmentNotCs => Arg::S(segment_register(plan.modrm / 8 % 8)),
+        Slot::Fixed(n) => register_of(width, n),
+        Slot::FixedByte(n) => Arg::R8(n),
+        Slot::FixedWord(n) => Arg::R16(n),
+        Slot::FixedSegment(s) => Arg::S(s),
+        Slot::ImmByte => Arg::Imm(tail[at] as u16),
+        Slot::ImmWord => Arg::Imm(word(tail, at)),
+        Slot::ImmSigned => Arg::Imm(extended(tail[at])),
+        Slot::FarImm => Arg::Far(word(tail, at), word(tail, at + 2)),
+        Slot::Offset => Arg::M(Ea {
+            base: 8,
+            disp: word(tail, at),
+            seg: prefixes.seg.unwrap_or(Sreg::Ds),
+        }),
+        Slot::Constant(n) => Arg::Imm(n),
+    }
+}
+
+fn repeat_of(repeat: Repeat, rep: Rep) -> Rep
+    ensures { result ≡ rep_of repeat rep }
+{
+    match repeat {
+        Repeat::Never => Rep::No,
+        Repeat::WhileZero => rep,
+        Repeat::Always => match rep {
+            Rep::No => Rep::No,
+            _ => Rep::Equal,
+        },
+    }
+}
+
+pub fn instruction(prefixes: &Prefixes, plan: &Plan, tail: &[u8]) -> Instr
+    requires { length tail.now ≡ tail_len plan.now }
+    ensures { result ≡ instr_of prefixes.now plan.now tail.now }
+{
+    let row = plan.row;
+    let second = plan.disp + immediate_len(row.left);
+    let third = second + immediate_len(row.right);
+    Instr {
+        op: row.op,
+        width: row.width,
+        left: operand(row.left, prefixes, plan, tail, plan.disp),
+        right: operand(row.right, prefixes, plan, tail, second),
+        third: operand(row.third, prefixes, plan, tail, third),
+        seg: prefixes.seg.unwrap_or(Sreg::Ds),
+        rep: repeat_of(row.repeat, prefixes.rep),
+        lock: prefixes.lock,
+    }
+}

@@ -1,0 +1,152 @@
+ghost use Rattle.std.specs.Prelude.{◌≡◌, List, [], ◌++◌, ◌+◌, ◌<◌, ◌≤◌, ◌↔◌, ℕ, length, take};
+ghost use Rattle.o2_isa.specs.Spelling.{is_prefix, mark, no_prefixes, Spells, IsFront};
+ghost use Rattle.o2_isa.specs.Reading.{head_after, head_of, read_tail, read, limited, decoded, IsShort, IsWithin};
+ghost use Rattle.o2_isa.specs.declared.instr.Instr.{Instr};
+
+use crate::lookup::{entry, row_at, second_entry};
+use crate::operands::{displacement_len, instruction, rest_len};
+use o2_isa::{Decoded, Entry, Head, Plan, Prefixes, Rep, Sreg};
+
+fn is_prefix_byte(b: u8) -> bool
+    ensures { result ≡ is_prefix b }
+{
+    matches!(b, 0x26 | 0x2E | 0x36 | 0x3E | 0xF0 | 0xF2 | 0xF3)
+}
+
+#[tactic(auto, unfolding(o2_isa::specs::Spelling::mark))]
+fn marked(prefixes: Prefixes, b: u8) -> Prefixes
+    ensures { result ≡ mark prefixes b }
+{
+    let mut p = prefixes;
+    match b {
+        0x26 => p.seg = Some(Sreg::Es),
+        0x2E => p.seg = Some(Sreg::Cs),
+        0x36 => p.seg = Some(Sreg::Ss),
+        0x3E => p.seg = Some(Sreg::Ds),
+        0xF0 => p.lock = true,
+        0xF2 => p.rep = Rep::NotEqual,
+        0xF3 => p.rep = Rep::Equal,
+        _ => {}
+    }
+    p
+}
+
+fn after_opcode(entry: Entry, bytes: &[u8], len: usize) -> Head
+    requires { len ≤ 2 }
+    ensures value { result ≡ head_after entry bytes.now len }
+    ensures short { IsShort result }
+{
+    match entry {
+        Entry::Unused => Head::Bad,
+        Entry::Bare(row) => Head::Whole(
+            Plan {
+                row,
+                modrm: 0,
+                disp: 0,
+            },
+            len,
+        ),
+        _ => match bytes {
+            [] => Head::More,
+            [modrm, ..] => match row_at(entry, *modrm) {
+                None => Head::Bad,
+                Some(row) => Head::Whole(
+                    Plan {
+                        row,
+                        modrm: *modrm,
+                        disp: displacement_len(*modrm),
+                    },
+                    len + 1,
+                ),
+            },
+        },
+    }
+}
+
+#[tactic(auto, unfolding(o2_isa::specs::Reading::head_of))]
+fn head(bytes: &[u8]) -> Head
+    ensures value { result ≡ head_of bytes.now }
+    ensures short { IsShort result }
+{
+    match bytes {
+        [] => Head::More,
+        [0x0F] => Head::More,
+        [0x0F, b, rest @ ..] => after_opcode(second_entry(*b), rest, 2),
+        [b, rest @ ..] => after_opcode(entry(*b), rest, 1),
+    }
+}
+
+fn after_prefixes(prefixes: &Prefixes, at: usize, bytes: &[u8]) -> Decoded
+    requires { at ≤ 10 }
+    ensures { result ≡ read_tail (head_of bytes.now) prefixes.now at bytes.now }
+{
+    match head(bytes) {
+        Head::More => Decoded::Need,
+        Head::Bad => Decoded::Invalid,
+        Head::Whole(plan, len) => {
+            let rest = rest_len(&plan);
+            if bytes.len() < len + rest {
+                Decoded::Need
+            } else {
+                let (_, after) = bytes.split_at(len);
+                let (tail, _) = after.split_at(rest);
+                Decoded::One(
+                    instruction(prefixes, &plan, tail),
+                    (at + (len + rest)) as u8,
+                )
+            }
+        }
+    }
+}
+
+fn read_bytes(bytes: &[u8]) -> Decoded
+    requires { length bytes.now ≤ 10 }
+    ensures { result ≡ read no_prefixes 0 bytes.now }
+{
+    let mut prefixes = Prefixes {
+        seg: None,
+        rep: Rep::No,
+        lock: false,
+    };
+    for (i, b) in bytes.iter().enumerate() {
+        if !is_prefix_byte(*b) {
+            return after_prefixes(&prefixes, i, &bytes[i..]);
+        }
+        prefixes = marked(prefixes, *b);
+    }
+    Decoded::Need
+}
+
+fn limited_bytes(bytes: &[u8]) -> Decoded
+    requires { length bytes.now ≤ 10 }
+    ensures { result ≡ limited (length bytes.now) (read no_prefixes 0 bytes.now) }
+{
+    match read_bytes(bytes) {
+        Decoded::Need => {
+            if bytes.len() < 10 {
+                Decoded::Need
+            } else {
+                Decoded::TooLong
+            }
+        }
+        other => other,
+    }
+}
+
+/// The instruction at the front of the bytes.
+pub fn decode(bytes: &[u8]) -> Decoded
+    requires { length bytes.now ≤ 10 }
+    ensures is { result ≡ decoded bytes.now }
+    ensures one { (i : Instr) (n : ℕ) → (result ≡ Decoded.One i n) ↔ ((n ≤ length bytes.now) × Spells (take n bytes.now) i) }
+    ensures within { IsWithin result (length bytes.now) }
+    ensures need { (result ≡ Decoded.Need) ↔ ((length bytes.now < 10) × IsFront bytes.now) }
+    ensures too_long { (result ≡ Decoded.TooLong) ↔ ((10 ≤ length bytes.now) × IsFront bytes.now) }
+{
+    limited_bytes(bytes)
+}
+
+/// No spelling begins another, and bytes spell one instruction at most.
+pub fn one_spelling()
+    ensures unique { (bytes : List ℕ) (i j : Instr) → Spells bytes i → Spells bytes j → i ≡ j }
+    ensures no_front { (a b : List ℕ) (i j : Instr) → Spells a i → Spells (a ++ b) j → b ≡ [] }
+{}
