@@ -1,5 +1,5 @@
 ghost use Rattle.std.specs.Prelude.{◌≡◌, List, [], ◌++◌, ◌+◌, ◌<◌, ◌≤◌, ◌↔◌, ℕ, length, take};
-ghost use Rattle.o2_isa.specs.Spelling.{is_prefix, mark, no_prefixes, Spells, IsFront};
+ghost use Rattle.o2_isa.specs.Spelling.{is_prefix, mark, no_prefixes, Spells, IsFront, IsUndefined};
 ghost use Rattle.o2_isa.specs.Reading.{head_after, head_of, read_tail, read, limited, decoded, IsShort, IsWithin};
 ghost use Rattle.o2_isa.specs.declared.instr.Instr.{Instr};
 
@@ -141,6 +141,7 @@ pub fn decode(bytes: &[u8]) -> Decoded
     ensures within { IsWithin result (length bytes.now) }
     ensures need { (result ≡ Decoded.Need) ↔ ((length bytes.now < 10) × IsFront bytes.now) }
     ensures too_long { (result ≡ Decoded.TooLong) ↔ ((10 ≤ length bytes.now) × IsFront bytes.now) }
+    ensures invalid { (result ≡ Decoded.Invalid) ↔ IsUndefined bytes.now }
 {
     limited_bytes(bytes)
 }

@@ -122,10 +122,10 @@ pub static TABLE: [Entry; 256] = [
     Entry::Modrm(row!(OpImulThree Word Register ModRm ImmWord Never)), // 69
     Entry::Bare(row!(OpPush Word ImmSigned Absent Absent Never)), // 6A
     Entry::Modrm(row!(OpImulThree Word Register ModRm ImmSigned Never)), // 6B
-    Entry::Bare(row!(OpIns Byte Absent Absent Absent Never)), // 6C
-    Entry::Bare(row!(OpIns Word Absent Absent Absent Never)), // 6D
-    Entry::Bare(row!(OpOuts Byte Absent Absent Absent Never)), // 6E
-    Entry::Bare(row!(OpOuts Word Absent Absent Absent Never)), // 6F
+    Entry::Bare(row!(OpIns Byte Absent Absent Absent Always)), // 6C
+    Entry::Bare(row!(OpIns Word Absent Absent Absent Always)), // 6D
+    Entry::Bare(row!(OpOuts Byte Absent Source Absent Always)), // 6E
+    Entry::Bare(row!(OpOuts Word Absent Source Absent Always)), // 6F
     Entry::Bare(row!(OpJo Word ImmSigned Absent Absent Never)), // 70
     Entry::Bare(row!(OpJno Word ImmSigned Absent Absent Never)), // 71
     Entry::Bare(row!(OpJb Word ImmSigned Absent Absent Never)), // 72
@@ -178,16 +178,16 @@ pub static TABLE: [Entry; 256] = [
     Entry::Bare(row!(OpMov Word Fixed(0) Offset Absent Never)), // A1
     Entry::Bare(row!(OpMov Byte Offset Fixed(0) Absent Never)), // A2
     Entry::Bare(row!(OpMov Word Offset Fixed(0) Absent Never)), // A3
-    Entry::Bare(row!(OpMovs Byte Absent Absent Absent Always)), // A4
-    Entry::Bare(row!(OpMovs Word Absent Absent Absent Always)), // A5
-    Entry::Bare(row!(OpCmps Byte Absent Absent Absent WhileZero)), // A6
-    Entry::Bare(row!(OpCmps Word Absent Absent Absent WhileZero)), // A7
+    Entry::Bare(row!(OpMovs Byte Absent Source Absent Always)), // A4
+    Entry::Bare(row!(OpMovs Word Absent Source Absent Always)), // A5
+    Entry::Bare(row!(OpCmps Byte Source Absent Absent WhileZero)), // A6
+    Entry::Bare(row!(OpCmps Word Source Absent Absent WhileZero)), // A7
     Entry::Bare(row!(OpTest Byte Fixed(0) ImmByte Absent Never)), // A8
     Entry::Bare(row!(OpTest Word Fixed(0) ImmWord Absent Never)), // A9
     Entry::Bare(row!(OpStos Byte Absent Absent Absent Always)), // AA
     Entry::Bare(row!(OpStos Word Absent Absent Absent Always)), // AB
-    Entry::Bare(row!(OpLods Byte Absent Absent Absent Always)), // AC
-    Entry::Bare(row!(OpLods Word Absent Absent Absent Always)), // AD
+    Entry::Bare(row!(OpLods Byte Absent Source Absent Always)), // AC
+    Entry::Bare(row!(OpLods Word Absent Source Absent Always)), // AD
     Entry::Bare(row!(OpScas Byte Absent Absent Absent WhileZero)), // AE
     Entry::Bare(row!(OpScas Word Absent Absent Absent WhileZero)), // AF
     Entry::Bare(row!(OpMov Byte Fixed(0) ImmByte Absent Never)), // B0
@@ -226,10 +226,10 @@ pub static TABLE: [Entry; 256] = [
     Entry::Group(7), // D1
     Entry::Group(8), // D2
     Entry::Group(9), // D3
-    Entry::Bare(row!(OpAam Byte ImmByte Absent Absent Never)), // D4
-    Entry::Bare(row!(OpAad Byte ImmByte Absent Absent Never)), // D5
+    Entry::Bare(row!(OpAam Word ImmByte Absent Absent Never)), // D4
+    Entry::Bare(row!(OpAad Word ImmByte Absent Absent Never)), // D5
     Entry::Unused, // D6
-    Entry::Bare(row!(OpXlat Byte Absent Absent Absent Never)), // D7
+    Entry::Bare(row!(OpXlat Byte Absent Source Absent Never)), // D7
     Entry::Modrm(row!(OpEsc Word ModRm Absent Absent Never)), // D8
     Entry::Modrm(row!(OpEsc Word ModRm Absent Absent Never)), // D9
     Entry::Modrm(row!(OpEsc Word ModRm Absent Absent Never)), // DA
