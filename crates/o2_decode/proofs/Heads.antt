@@ -66,9 +66,6 @@ after_again (Group k) [] rest n p h = cc
 after_again (Group k) (b ∷ []) rest n p h = after_modrm_again (Group k) b n rest p (λ _. refl) h
 after_again (Group k) (b ∷ c ∷ bs) rest n p h = cc
 
-with_modrm_bad : (r : Option Row) (b n : ℕ) (x : Head) → head_with r b n ≡ x → head_with r b n ≡ x
-with_modrm_bad r b n x h = h
-
 pub after_bad : (e : Entry) (bs more : List ℕ) (n : ℕ) → head_after e bs n ≡ Bad → head_after e (bs ++ more) n ≡ Bad
 after_bad Unused bs more n h = refl
 after_bad (Bare row) bs more n h = cc
