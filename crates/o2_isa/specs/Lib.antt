@@ -2,3 +2,11 @@ pub mod Table
 pub mod Operands
 pub mod Spelling
 pub mod Reading
+pub mod View
+pub mod Registers
+pub mod Steps
+pub mod DataRows
+pub mod FlowRows
+pub mod Meaning
+pub mod Presence
+pub mod Step
