@@ -2,10 +2,12 @@
 #![tactic(auto)]
 
 mod cpu;
+mod flags;
 mod instr;
 mod rows;
 
 pub use cpu::{Cpu, Loaded, Purpose, Stop};
+pub use flags::Flag;
 pub use instr::{Arg, Ea, Instr, Op, Rep, Sreg, Width};
 pub use o2_base::Selector;
 pub use rows::{Decoded, Entry, Plan, Prefixes, Repeat, Row, Slot};
