@@ -10,6 +10,6 @@ mod widths;
 
 pub use decimal::adjust;
 pub use flags::{is_set, with_flag};
-pub use products::{div, mul};
+pub use products::{div, mul, mul_low};
 pub use shifts::shift;
 pub use sums::{add, binary, complement, decrement, increment, logic, negate, sub, unary};

@@ -1,35 +1,41 @@
 // Products and quotients.
 
-ghost use Rattle.std.specs.Prelude.{◌≡◌, ◌<◌, ◌≤◌, ◌/◌, ◌^◌};
-ghost use Rattle.o2_isa.specs.Widths.{IsOfWidth};
-ghost use Rattle.o2_isa.specs.Products.{magnitude, number, signed_fits, mul_of, signed_div, div_of, IsOfTwice};
+ghost use Rattle.std.specs.Prelude.{◌≡◌, ◌<◌, ◌≤◌, ◌*◌, ◌^◌, unsigned_abs};
+ghost use Rattle.o2_isa.specs.Widths.{modulus, IsOfWidth, IsOfTwice};
+ghost use Rattle.o2_isa.specs.Products.{signed_product, mul_value, mul_overflows, mul_of, mul_low_of, unsigned_div, signed_quotient, signed_remainder, signed_div, div_of};
 
 use crate::flags::with_flag;
-use crate::widths::{half_size, size};
+use crate::widths::{is_outside, signed_value, signed_value_of_twice, size, wrapped};
 use o2_isa::{Flag, Width};
 
-fn magnitude_of(m: u64, x: u64) -> u64
-    requires big { x < m }
-    requires small { m ≤ 2 ^ 32 }
-    ensures value { result ≡ magnitude m x }
-    ensures fits { result ≤ m / 2 }
+#[inline]
+#[tactic(auto, unfolding(o2_isa::specs::Products::signed_product), using(crate::proofs::Bounds::product_size))]
+fn signed_times(w: Width, a: u16, b: u16) -> i64
+    requires left { IsOfWidth w a }
+    requires right { IsOfWidth w b }
+    ensures value { result ≡ signed_product w a b }
+    ensures size { unsigned_abs result ≤ 2 ^ 30 }
+    ensures near { unsigned_abs result < modulus w * modulus w }
 {
-    if x * 2 < m { x } else { m - x }
+    signed_value(w, a) * signed_value(w, b)
 }
 
-fn signed_number(m: u64, negative: bool, x: u64) -> u64
-    requires big { x < m }
-    requires small { m ≤ 2 ^ 32 }
-    ensures value { result ≡ number m negative x }
-    ensures fits { result < m }
+#[tactic(auto, unfolding(o2_isa::specs::Products::mul_value, o2_isa::specs::Products::mul_overflows))]
+fn product(w: Width, signed: bool, a: u16, b: u16) -> (u32, bool)
+    requires left { IsOfWidth w a }
+    requires right { IsOfWidth w b }
+    ensures value { result.0 ≡ mul_value w signed a b }
+    ensures over { result.1 ≡ mul_overflows w signed a b }
+    ensures fits { IsOfTwice w result.0 }
 {
-    if negative { (m - x) % m } else { x }
-}
-
-fn is_in_range(h: u64, negative: bool, x: u64) -> bool
-    ensures { result ≡ signed_fits h negative x }
-{
-    if negative { x <= h } else { x < h }
+    if signed {
+        let p = signed_times(w, a, b);
+        let m = size(w) as u64;
+        (wrapped(m * m, p), is_outside(w, p))
+    } else {
+        let p = a as u32 * b as u32;
+        (p, size(w) <= p)
+    }
 }
 
 /// MUL and, where `signed`, IMUL: the product of twice the width, and the flags word.
@@ -37,43 +43,67 @@ fn is_in_range(h: u64, negative: bool, x: u64) -> bool
 pub fn mul(w: Width, signed: bool, a: u16, b: u16, f: u16) -> (u32, u16)
     requires left { IsOfWidth w a }
     requires right { IsOfWidth w b }
-    ensures { result ≡ mul_of w signed a b f }
+    ensures value { result ≡ mul_of w signed a b f }
+    ensures fits { IsOfTwice w result.0 }
 {
-    let m = size(w) as u64;
-    let (value, over) = if signed {
-        let negative = (m <= a as u64 * 2) != (m <= b as u64 * 2);
-        let p = magnitude_of(m, a as u64) * magnitude_of(m, b as u64);
-        (
-            signed_number(m * m, negative, p),
-            !is_in_range(half_size(w) as u64, negative, p),
-        )
-    } else {
-        let p = a as u64 * b as u64;
-        (p, m <= p)
-    };
+    let (value, over) = product(w, signed, a, b);
     let f = with_flag(f, Flag::Carry, over);
-    (value as u32, with_flag(f, Flag::Overflow, over))
+    (value, with_flag(f, Flag::Overflow, over))
 }
 
-fn signed_quotient(w: Width, a: u32, b: u16) -> Option<(u16, u16)>
+/// IMUL with three operands: the low word of the signed product, and the flags word.
+#[tactic(auto, unfolding(o2_isa::specs::Products::mul_low_of))]
+pub fn mul_low(a: u16, b: u16, f: u16) -> (u16, u16)
+    ensures { result ≡ mul_low_of a b f }
+{
+    let (value, f) = mul(Width::Word, true, a, b, f);
+    ((value % 0x1_0000) as u16, f)
+}
+
+#[inline]
+#[tactic(auto, unfolding(o2_isa::specs::Products::unsigned_div))]
+fn divide_unsigned(w: Width, a: u32, b: u16) -> Option<(u16, u16)>
     requires some { 0 < b }
-    requires small { IsOfWidth w b }
+    requires divisor { IsOfWidth w b }
+    ensures { result ≡ unsigned_div w a b }
+{
+    let b = b as u32;
+    if size(w) <= a / b {
+        None
+    } else {
+        Some(((a / b) as u16, (a % b) as u16))
+    }
+}
+
+#[inline]
+#[tactic(auto, unfolding(o2_isa::specs::Products::signed_quotient, o2_isa::specs::Products::signed_remainder), using(std::proofs::lemmas::Int::rem_below))]
+fn signed_parts(w: Width, a: u32, b: u16) -> (i64, i64)
+    requires some { 0 < b }
+    requires divisor { IsOfWidth w b }
+    requires dividend { IsOfTwice w a }
+    ensures quotient { result.0 ≡ signed_quotient w a b }
+    ensures remainder { result.1 ≡ signed_remainder w a b }
+    ensures near { unsigned_abs result.1 < modulus w }
+{
+    let x = signed_value_of_twice(w, a);
+    let y = signed_value(w, b);
+    (x / y, x % y)
+}
+
+#[inline]
+#[tactic(auto, unfolding(o2_isa::specs::Products::signed_div))]
+fn divide_signed(w: Width, a: u32, b: u16) -> Option<(u16, u16)>
+    requires some { 0 < b }
+    requires divisor { IsOfWidth w b }
     requires dividend { IsOfTwice w a }
     ensures { result ≡ signed_div w a b }
 {
-    let m = size(w) as u64;
-    let big = m * m;
-    let a_negative = big <= a as u64 * 2;
-    let negative = a_negative != (m <= b as u64 * 2);
-    let top = magnitude_of(big, a as u64);
-    let below = magnitude_of(m, b as u64);
-    let q = top / below;
-    if is_in_range(half_size(w) as u64, negative, q) {
-        let quotient = signed_number(m, negative, q);
-        let rest = signed_number(m, a_negative, top % below);
-        Some((quotient as u16, rest as u16))
-    } else {
+    let (q, r) = signed_parts(w, a, b);
+    if is_outside(w, q) {
         None
+    } else {
+        let m = size(w) as u64;
+        Some((wrapped(m, q) as u16, wrapped(m, r) as u16))
     }
 }
 
@@ -88,10 +118,8 @@ pub fn div(w: Width, signed: bool, a: u32, b: u16) -> Option<(u16, u16)>
     if b == 0 {
         None
     } else if signed {
-        signed_quotient(w, a, b)
-    } else if a / (b as u32) < size(w) {
-        Some(((a / b as u32) as u16, (a % b as u32) as u16))
+        divide_signed(w, a, b)
     } else {
-        None
+        divide_unsigned(w, a, b)
     }
 }

@@ -1,7 +1,7 @@
 // Sums, differences and bitwise results.
 
-ghost use Rattle.std.specs.Prelude.{◌≡◌, ◌≤◌};
-ghost use Rattle.o2_isa.specs.Widths.{IsOfWidth};
+ghost use Rattle.std.specs.Prelude.{◌≡◌, ◌≤◌, ◌+ℤ◌, ◌-ℤ◌, pos};
+ghost use Rattle.o2_isa.specs.Widths.{IsOfWidth, signed};
 ghost use Rattle.o2_isa.specs.Sums.{bit, sum_value, sum_carries, sum_adjusts, sum_overflows, add_of, difference_value, difference_borrows, difference_overflows, sub_of, logic_value, logic_of, increment_of, decrement_of, negate_of, complement_of};
 ghost use Rattle.o2_isa.specs.Alu.{binary_of, unary_of};
 
@@ -38,16 +38,22 @@ fn sum_adjust(a: u16, b: u16, carry: bool) -> bool
 }
 
 #[inline]
+fn signed_sum(w: Width, a: u16, b: u16, carry: bool) -> i64
+    requires left { IsOfWidth w a }
+    requires right { IsOfWidth w b }
+    ensures { result ≡ signed w a +ℤ signed w b +ℤ pos (bit carry) }
+{
+    signed_value(w, a) + signed_value(w, b) + bit_of(carry) as i64
+}
+
+#[inline]
 #[tactic(auto, unfolding(o2_isa::specs::Sums::sum_overflows))]
 fn sum_overflow(w: Width, a: u16, b: u16, carry: bool) -> bool
     requires left { IsOfWidth w a }
     requires right { IsOfWidth w b }
     ensures { result ≡ sum_overflows w a b carry }
 {
-    is_outside(
-        w,
-        signed_value(w, a) + signed_value(w, b) + bit_of(carry) as i32,
-    )
+    is_outside(w, signed_sum(w, a, b, carry))
 }
 
 /// ADD and, with CF for `carry`, ADC: the sum and the flags word.
@@ -87,16 +93,22 @@ fn borrows(a: u16, b: u16, borrow: bool) -> bool
 }
 
 #[inline]
+fn signed_difference(w: Width, a: u16, b: u16, borrow: bool) -> i64
+    requires left { IsOfWidth w a }
+    requires right { IsOfWidth w b }
+    ensures { result ≡ signed w a -ℤ signed w b -ℤ pos (bit borrow) }
+{
+    signed_value(w, a) - signed_value(w, b) - bit_of(borrow) as i64
+}
+
+#[inline]
 #[tactic(auto, unfolding(o2_isa::specs::Sums::difference_overflows))]
 fn difference_overflow(w: Width, a: u16, b: u16, borrow: bool) -> bool
     requires left { IsOfWidth w a }
     requires right { IsOfWidth w b }
     ensures { result ≡ difference_overflows w a b borrow }
 {
-    is_outside(
-        w,
-        signed_value(w, a) - signed_value(w, b) - bit_of(borrow) as i32,
-    )
+    is_outside(w, signed_difference(w, a, b, borrow))
 }
 
 /// SUB, CMP and, with CF for `borrow`, SBB: the difference and the flags word.
