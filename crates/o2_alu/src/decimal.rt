@@ -1,6 +1,6 @@
 // Decimal adjustment. AX is 256 times AH plus AL.
 
-ghost use Rattle.std.specs.Prelude.{◌≡◌, ◌<◌, ◌≤◌};
+ghost use Rattle.std.specs.Prelude.{◌≡◌, ◌<◌, ◌≤◌, ◌↔◌, IsNone};
 ghost use Rattle.o2_isa.specs.Adjust.{digit_adjusts, digits_adjust, n_where, aaa_value, aas_value, unpacked_flags, daa_value, das_value, packed_flags, aam_value, aad_value, adjust_of};
 
 use crate::flags::{is_set, szp, with_flag};
@@ -95,7 +95,8 @@ fn aad(ax: u16, base: u8) -> u16
 /// None for AAM with base 0, a divide error. For any other `op` both stay.
 #[tactic(auto, unfolding(o2_isa::specs::Adjust::adjust_of))]
 pub fn adjust(op: Op, ax: u16, base: u8, f: u16) -> Option<(u16, u16)>
-    ensures { result ≡ adjust_of op ax base f }
+    ensures value { result ≡ adjust_of op ax base f }
+    ensures refused { IsNone result ↔ ((op ≡ Op.OpAam) × (base ≡ 0)) }
 {
     let units = units_adjust(ax % 256, f);
     let tens = tens_adjust(ax % 256, f);

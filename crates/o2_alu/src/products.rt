@@ -1,8 +1,8 @@
 // Products and quotients.
 
-ghost use Rattle.std.specs.Prelude.{◌≡◌, ◌<◌, ◌≤◌, ◌*◌, ◌^◌, unsigned_abs};
+ghost use Rattle.std.specs.Prelude.{◌≡◌, ◌<◌, ◌≤◌, ◌*◌, ◌^◌, ◌↔◌, unsigned_abs, true, false, if◌then◌else◌, IsNone, IsTrue};
 ghost use Rattle.o2_isa.specs.Widths.{modulus, IsOfWidth, IsOfTwice};
-ghost use Rattle.o2_isa.specs.Products.{signed_product, mul_value, mul_overflows, mul_of, mul_low_of, unsigned_div, signed_quotient, signed_remainder, signed_div, div_of};
+ghost use Rattle.o2_isa.specs.Products.{signed_product, mul_value, mul_overflows, mul_of, mul_low_of, signed_quotient, signed_remainder, quotient_overflows, quotient, remainder, is_divide_error, div_of};
 
 use crate::flags::with_flag;
 use crate::widths::{is_outside, signed_value, signed_value_of_twice, size, wrapped};
@@ -61,11 +61,11 @@ pub fn mul_low(a: u16, b: u16, f: u16) -> (u16, u16)
 }
 
 #[inline]
-#[tactic(auto, unfolding(o2_isa::specs::Products::unsigned_div))]
+#[tactic(auto, unfolding(o2_isa::specs::Products::quotient_overflows, o2_isa::specs::Products::quotient, o2_isa::specs::Products::remainder))]
 fn divide_unsigned(w: Width, a: u32, b: u16) -> Option<(u16, u16)>
     requires some { 0 < b }
     requires divisor { IsOfWidth w b }
-    ensures { result ≡ unsigned_div w a b }
+    ensures { result ≡ (if quotient_overflows w false a b then None else Some (quotient w false a b, remainder w false a b)) }
 {
     let b = b as u32;
     if size(w) <= a / b {
@@ -91,12 +91,12 @@ fn signed_parts(w: Width, a: u32, b: u16) -> (i64, i64)
 }
 
 #[inline]
-#[tactic(auto, unfolding(o2_isa::specs::Products::signed_div))]
+#[tactic(auto, unfolding(o2_isa::specs::Products::quotient_overflows, o2_isa::specs::Products::quotient, o2_isa::specs::Products::remainder))]
 fn divide_signed(w: Width, a: u32, b: u16) -> Option<(u16, u16)>
     requires some { 0 < b }
     requires divisor { IsOfWidth w b }
     requires dividend { IsOfTwice w a }
-    ensures { result ≡ signed_div w a b }
+    ensures { result ≡ (if quotient_overflows w true a b then None else Some (quotient w true a b, remainder w true a b)) }
 {
     let (q, r) = signed_parts(w, a, b);
     if is_outside(w, q) {
@@ -109,11 +109,12 @@ fn divide_signed(w: Width, a: u32, b: u16) -> Option<(u16, u16)>
 
 /// DIV and, where `signed`, IDIV of a number of twice the width: quotient and remainder.
 /// None at divisor 0 and where the quotient is no number of the width.
-#[tactic(auto, unfolding(o2_isa::specs::Products::div_of))]
+#[tactic(auto, unfolding(o2_isa::specs::Products::div_of, o2_isa::specs::Products::is_divide_error))]
 pub fn div(w: Width, signed: bool, a: u32, b: u16) -> Option<(u16, u16)>
     requires divisor { IsOfWidth w b }
     requires dividend { IsOfTwice w a }
-    ensures { result ≡ div_of w signed a b }
+    ensures value { result ≡ div_of w signed a b }
+    ensures refused { IsNone result ↔ IsTrue (is_divide_error w signed a b) }
 {
     if b == 0 {
         None

@@ -1,5 +1,5 @@
 -- Products and quotients. A product has twice the width of its factors, and so has a dividend.
-use Rattle.std.specs.Prelude.{ℕ, ◌*◌, ◌/◌, ◌%◌, Bool, true, false, ◌==◌, nat_le, if◌then◌else◌, ℤ, ◌*ℤ◌, int_div, int_rem, Option, Some, None}
+use Rattle.std.specs.Prelude.{ℕ, ◌*◌, ◌/◌, ◌%◌, Bool, true, false, ◌==◌, ◌||◌, nat_le, if◌then◌else◌, ℤ, ◌*ℤ◌, int_div, int_rem, Option, Some, None}
 use Rattle.o2_isa.specs.declared.instr.Width.{Width}
 use Rattle.o2_isa.specs.declared.instr.Width.TheVariants.{Word}
 use Rattle.o2_isa.specs.declared.flags.Flag.TheVariants.{Carry, Overflow}
@@ -28,20 +28,33 @@ mul_of w s a b f = (mul_value w s a b, put (put f Carry (mul_overflows w s a b))
 unfoldable pub mul_low_of : ℕ → ℕ → ℕ → ℕ × ℕ
 mul_low_of a b f = let r = mul_of Word true a b f in (r.0 % 65536, r.1)
 
--- ---- DIV, and IDIV where signed: quotient and remainder; None is a divide error
+-- ---- DIV, and IDIV where signed
 
-unfoldable pub unsigned_div : Width → ℕ → ℕ → Option (ℕ × ℕ)
-unsigned_div w a b = if nat_le (modulus w) (a / b) then None else Some (a / b, a % b)
-
--- the quotient is cut to a whole number towards 0, so the remainder has the dividend's sign
+-- the signed quotient, cut to a whole number towards 0
 unfoldable pub signed_quotient : Width → ℕ → ℕ → ℤ
 signed_quotient w a b = int_div (signed_of_twice w a) (signed w b)
 
+-- what is left of the dividend, with its sign
 unfoldable pub signed_remainder : Width → ℕ → ℕ → ℤ
 signed_remainder w a b = int_rem (signed_of_twice w a) (signed w b)
 
-unfoldable pub signed_div : Width → ℕ → ℕ → Option (ℕ × ℕ)
-signed_div w a b = if overflows w (signed_quotient w a b) then None else Some (residue (modulus w) (signed_quotient w a b), residue (modulus w) (signed_remainder w a b))
+-- the quotient is no number of the width
+unfoldable pub quotient_overflows : Width → Bool → ℕ → ℕ → Bool
+quotient_overflows w false a b = nat_le (modulus w) (a / b)
+quotient_overflows w true a b = overflows w (signed_quotient w a b)
 
+unfoldable pub quotient : Width → Bool → ℕ → ℕ → ℕ
+quotient w false a b = a / b
+quotient w true a b = residue (modulus w) (signed_quotient w a b)
+
+unfoldable pub remainder : Width → Bool → ℕ → ℕ → ℕ
+remainder w false a b = a % b
+remainder w true a b = residue (modulus w) (signed_remainder w a b)
+
+-- no quotient: a divide error
+unfoldable pub is_divide_error : Width → Bool → ℕ → ℕ → Bool
+is_divide_error w s a b = b == 0 || quotient_overflows w s a b
+
+-- quotient and remainder
 unfoldable pub div_of : Width → Bool → ℕ → ℕ → Option (ℕ × ℕ)
-div_of w s a b = if b == 0 then None else if s then signed_div w a b else unsigned_div w a b
+div_of w s a b = if is_divide_error w s a b then None else Some (quotient w s a b, remainder w s a b)
