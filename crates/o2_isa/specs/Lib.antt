@@ -1,4 +1,3 @@
-<<<<<<< HEAD
 pub mod Table
 pub mod Operands
 pub mod Spelling
@@ -11,7 +10,6 @@ pub mod FlowRows
 pub mod Meaning
 pub mod Presence
 pub mod Step
-=======
 pub mod Adjust
 pub mod Alu
 pub mod Flags
@@ -19,4 +17,3 @@ pub mod Products
 pub mod Shifts
 pub mod Sums
 pub mod Widths
->>>>>>> d20892684aa4e7d53d1f0a292589e6b5f941e795
