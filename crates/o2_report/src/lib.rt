@@ -5,4 +5,6 @@ mod line;
 mod lines;
 
 pub use line::LineBuffer;
-pub use lines::{put_holds, put_start, set_calls, set_ends, set_exits, set_holds, set_starts, set_traps};
+pub use lines::{
+    put_holds, put_start, set_calls, set_ends, set_exits, set_holds, set_starts, set_traps,
+};

@@ -60,8 +60,8 @@ module _ (before_it now : World → Type 0) (s : Setting) (w : World) (i l c d e
       (λ t x. let y = part.to_report t (h.to_report t x) in
       (y.0, y.1, (rw (report_so_far (after s w h.steps) part.runs) y.2.0, (y.2.1.0 ++ last_line (after s w (suc h.steps)), ap (λ z. z ++ last_line (after s w (suc h.steps))) y.2.1.1 ∙ append_assoc y.0 y.2.1.0 (last_line (after s w (suc h.steps)))))))
       (elim part.in_order [
-      inl same ↦ inl (λ t x. same ∙ h.to_report t x)
-      | inr goes ↦ inr (λ t x. goes t (h.to_console t x))
+        | inl same ↦ inl (λ t x. same ∙ h.to_report t x)
+        | inr goes ↦ inr (λ t x. goes t (h.to_console t x))
       ])
 
   pub stopped_at_last : (h : HasReached before_it s w i c d r q) → IsClosedInPart (after s w h.steps) d e q p → HasPartTexts s w c e r p

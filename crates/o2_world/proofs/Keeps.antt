@@ -84,8 +84,8 @@ module _ (ps : List Process) (segments : Map Segment) (k : ℕ) (p : Process) (e
   sound_live : is_live e.state ≡ true → IsSoundFor (slice_set ps k (record p { cpu = e.cpu; state = e.state })) (with_bytes segments e.bytes)
   sound_live lives = record {
     held = λ place j h there.
-      let old = sound.held place j h (held_after ps k p (record p { cpu = e.cpu; state = e.state }) at (λ j h x. x) place j h there) in
-      (bytes_there segments e.bytes h.name ∙ old.0, old.1);
+        let old = sound.held place j h (held_after ps k p (record p { cpu = e.cpu; state = e.state }) at (λ j h x. x) place j h there) in
+        (bytes_there segments e.bytes h.name ∙ old.0, old.1);
     named = λ q there. held_same ps k p (record p { cpu = e.cpu; state = e.state }) q at refl ∙ sound.named q (sym (bytes_there segments e.bytes q) ∙ there);
     ended = ended_after ps k (record p { cpu = e.cpu; state = e.state }) (λ ends. absurd (let x : true ≡ false = sym lives ∙ ends in cc)) sound.ended;
   }
@@ -96,8 +96,8 @@ module _ (ps : List Process) (segments : Map Segment) (k : ℕ) (p : Process) (e
       let qs : List Process = slice_set ps k new in
       record {
         held = λ place j h there.
-          let old = sound.held place j h (held_after ps k p new at (nothing_held p.held) place j h there) in
-          (rw (get-filter (is_held qs) (with_bytes segments e.bytes) h.name, held_found qs place j h there) (bytes_there segments e.bytes h.name ∙ old.0), old.1);
+            let old = sound.held place j h (held_after ps k p new at (nothing_held p.held) place j h there) in
+            (rw (get-filter (is_held qs) (with_bytes segments e.bytes) h.name, held_found qs place j h there) (bytes_there segments e.bytes h.name ∙ old.0), old.1);
         named = λ q there. kept_held (is_held qs q) (get (with_bytes segments e.bytes) q) (ap is_some (sym (get-filter (is_held qs) (with_bytes segments e.bytes) q)) ∙ there);
         ended = ended_after ps k new (λ _. refl) sound.ended;
       }

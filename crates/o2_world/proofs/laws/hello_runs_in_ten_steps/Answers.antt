@@ -19,7 +19,6 @@ use Rattle.o2_world.specs.Run.{changed, step}
 use Rattle.o2_world.specs.Opening.{opening}
 use Rattle.o2_world.proofs.laws.hello_runs_in_ten_steps.Goals as goal
 
-
 pub returns-clause-over : goal.returns-clause-over
 unfolding built_gates probe_of bind read_of room_of poke size_at fetched reg16 table table_0f groups mark head_of decoded valued storing within push call_far group_of steps_of stepped hex4 line_text holds_name may_read may_write range_of put_at_pointer dos_write dos_exit effect changed step opening digits
 returns-clause-over c = refl
