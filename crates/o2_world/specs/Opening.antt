@@ -57,15 +57,15 @@ environment_front strings = flat_map (λ (s : List ℕ). s ++ 0 ∷ []) strings 
 abbrev pub environment : List (List ℕ) → List ℕ → List ℕ → List ℕ
 environment strings name arguments = environment_front strings ++ name ++ 0 ∷ [] ++ arguments ++ 0 ∷ 0 ∷ []
 
--- the segments of a program by name, from `first` on, with the environment behind them
+-- the segments of a program, segment n under name n - 1, with the environment behind them
 abbrev pub opening_names : Program → ℕ → List ProgramSegment → List ℕ → Map Segment
-opening_names p n [] env = (n, data_segment env) ∷ []
-opening_names p n (s ∷ ss) env = (n, program_segment p n s) ∷ opening_names p (n + 1) ss env
+opening_names p name [] env = (name, data_segment env) ∷ []
+opening_names p name (s ∷ ss) env = (name, program_segment p (name + 1) s) ∷ opening_names p (name + 1) ss env
 
 -- what its process holds: segment n under index n, and the environment under the next
 abbrev pub opening_held : ℕ → List ProgramSegment → Map Held
-opening_held n [] = (n, held_by_load n 242) ∷ []
-opening_held n (s ∷ ss) = (n, held_by_load n s.rights) ∷ opening_held (n + 1) ss
+opening_held name [] = (name + 1, held_by_load name 242) ∷ []
+opening_held name (s ∷ ss) = (name + 1, held_by_load name s.rights) ∷ opening_held (name + 1) ss
 
 -- the lines of a start: the module's name, and each selector held by load
 abbrev pub hold_lines : ℕ → List ℕ → List Line
@@ -114,13 +114,13 @@ start_cpu p command = record {
 -- the opening world of one process of a program, without environment strings and arguments
 unfoldable pub opening : Program → ℕ → List ℕ → World
 opening p budget input = record {
-  names = opening_names p 1 p.segments (environment [] p.name []);
-  next_name = length p.segments + 2;
-  processes = record { cpu = start_cpu p 1; state = Live; held = opening_held 1 p.segments } ∷ [];
+  names = opening_names p 0 p.segments (environment [] p.name []);
+  next_name = length p.segments + 1;
+  processes = record { cpu = start_cpu p 1; state = Live; held = opening_held 0 p.segments } ∷ [];
   reserved = [];
   texts = [];
   input = input;
   dispatch = record { script = []; current = 0; left = 0; turn = 0; budget = budget };
   console = [];
-  lines = start_lines 1 p.name (selectors_in (opening_held 1 p.segments));
+  lines = start_lines 1 p.name (selectors_in (opening_held 0 p.segments));
 }

@@ -1,7 +1,7 @@
 -- What a process sees of the world.
-use Rattle.std.specs.Prelude.{ℕ, true, false, List, [], length, map, Option, Some, None, option_map}
+use Rattle.std.specs.Prelude.{ℕ, true, List, [], map, Option, Some, None, option_map}
 use Rattle.o2_isa.specs.declared.cpu.Cpu.{Cpu}
-use Rattle.o2_isa.specs.View.{View, Hold, no_rest, no_hidden, built_gates, bound_registers}
+use Rattle.o2_isa.specs.View.{View, Hold, simple_view, bound_registers}
 use Rattle.o2_world.specs.Map.{Map, get}
 use Rattle.o2_world.specs.World.{Segment, Held, Process}
 
@@ -22,17 +22,7 @@ bytes_in names n = segment_bytes (get names n)
 
 -- maps and bytes as the processor sees them: everything is present
 abbrev pub view_over : (ℕ → Option Hold) → (ℕ → List ℕ) → Cpu → View
-view_over held bytes cpu = record {
-  held = held;
-  gate = built_gates;
-  size = λ n. length (bytes n);
-  present = λ n. true;
-  discarded = λ n. false;
-  bytes = bytes;
-  registers = bound_registers held cpu;
-  rest = no_rest;
-  hidden = no_hidden;
-}
+view_over held bytes cpu = simple_view held (λ n. true) bytes (bound_registers held cpu)
 
 abbrev pub view_of : Map Segment → Process → View
 view_of names p = view_over (holds_in p.held) (bytes_in names) p.cpu
