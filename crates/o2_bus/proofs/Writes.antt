@@ -45,7 +45,7 @@ unfolding room_of bus_view bytes_in
 room_of_grant nm p pid h g r k w e room =
     room_reaches (bus_view nm p pid h) (hold_of g) r k w (subst (λ (o : Option Hold). IsOk (reached o is_writable (bus_view nm p pid h) r k w)) (sym e) room)
 
-name_within : (xs : List Segment) (n k : ℕ) → k + 1 ≤ length (segment_bytes (slice_get xs n)) → n < length xs
+pub name_within : (xs : List Segment) (n k : ℕ) → k + 1 ≤ length (segment_bytes (slice_get xs n)) → n < length xs
 name_within [] n k h = absurd (omega arith)
 name_within (x ∷ xs) zero k h = omega arith
 name_within (x ∷ xs) (suc n) k h = omega (arith, name_within xs n k h)
@@ -66,7 +66,7 @@ same_view v s t p q b d e f g =
     ap (λ (z : ℕ → ℕ). built v z p b) (fun_ext e)
     ∙ (ap (λ (z : ℕ → Bool). built v t z b) (fun_ext f) ∙ ap (λ (z : ℕ → List ℕ). built v t q z) (fun_ext g))
 
-bytes_after : (xs ys : List Segment) (n : ℕ) (bs : List ℕ) → PutsBytes xs ys n bs → (m : ℕ) → segment_bytes (slice_get ys m) ≡ cond (m == n) bs (segment_bytes (slice_get xs m))
+pub bytes_after : (xs ys : List Segment) (n : ℕ) (bs : List ℕ) → PutsBytes xs ys n bs → (m : ℕ) → segment_bytes (slice_get ys m) ≡ cond (m == n) bs (segment_bytes (slice_get xs m))
 bytes_after xs ys n bs h m = go (m == n) refl
   where
     go : (b : Bool) → (m == n) ≡ b → segment_bytes (slice_get ys m) ≡ cond b bs (segment_bytes (slice_get xs m))

@@ -5,6 +5,8 @@ mod access;
 mod bus;
 mod plain;
 mod plain_bus;
+mod plain_end;
+mod plain_parts;
 mod registers;
 mod segment;
 

@@ -17,3 +17,4 @@ pub mod Products
 pub mod Shifts
 pub mod Sums
 pub mod Widths
+pub mod Parts

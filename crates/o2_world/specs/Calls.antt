@@ -5,7 +5,8 @@ use Rattle.std.specs.Result.{result_unwrap_or}
 use Rattle.o2_isa.specs.declared.cpu.Cpu.{Cpu}
 use Rattle.o2_isa.specs.declared.instr.Sreg.TheVariants.{Ss}
 use Rattle.o2_isa.specs.declared.instr.Width.TheVariants.{Word as WordWide}
-use Rattle.o2_isa.specs.View.{View, Hold, is_null, is_readable, is_writable, found, read_of}
+use Rattle.o2_isa.specs.Parts.{put_part}
+use Rattle.o2_isa.specs.View.{View, Hold, is_readable, is_writable, bound_in, read_of}
 use Rattle.o2_world.specs.declared.types.Argument.TheVariants.{Word, Far}
 use Rattle.o2_world.specs.declared.types.State.{State}
 use Rattle.o2_world.specs.declared.types.State.TheVariants.{Live, Exited, Trapped}
@@ -42,53 +43,45 @@ trapped b vector = record {
 -- Arguments. They are pushed from left to right as words, each of which must lie in SS.
 
 -- the i-th word from the top of the stack
-abbrev pub word_of : Before → ℕ → Result ℕ (ℕ × ℕ)
-word_of b i = read_of b.view Ss ((b.cpu.sp + 2 * i) % 65536) WordWide
+abbrev pub word_of : View → Cpu → ℕ → Result ℕ (ℕ × ℕ)
+word_of v c i = read_of v Ss ((c.sp + 2 * i) % 65536) WordWide
 
-abbrev pub argument : Before → ℕ → ℕ
-argument b i = result_unwrap_or (word_of b i) 0
+unfoldable pub argument : View → Cpu → ℕ → ℕ
+argument v c i = result_unwrap_or (word_of v c i) 0
 
 -- the first n words from the top of the stack lie in SS
-abbrev pub has_arguments : Before → ℕ → Bool
-has_arguments b zero = true
-has_arguments b (suc n) = has_arguments b n && is_ok (word_of b n)
+abbrev pub has_arguments : View → Cpu → ℕ → Bool
+has_arguments v c zero = true
+has_arguments v c (suc n) = has_arguments v c n && is_ok (word_of v c n)
 
 -- Pointers. A selector must pass the rules for loading ES and not be null, and the range must lie in the segment.
 
--- what a selector names as a pointer
-abbrev pub pointed : View → ℕ → Option Hold
-pointed v s = if is_null s then None else found v s
+abbrev pub has_range : (ℕ → List ℕ) → (ℕ → Bool) → ℕ → ℕ → Option Hold → Bool
+has_range bytes ok offset count None = false
+has_range bytes ok offset count (Some h) = ok h.rights && nat_le (offset + count) (length (bytes h.name))
 
-abbrev pub has_range : View → (ℕ → Bool) → ℕ → ℕ → Option Hold → Bool
-has_range v ok offset count None = false
-has_range v ok offset count (Some h) = ok h.rights && nat_le (offset + count) (v.size h.name)
+-- the range may be read, or written, by what a process holds and the bytes of the names; a range of no bytes is not looked at
+unfoldable pub may_read : (ℕ → Option Hold) → (ℕ → List ℕ) → ℕ → ℕ → ℕ → Bool
+may_read held bytes selector offset count = (count == 0) || has_range bytes is_readable offset count (bound_in held selector)
 
--- the range may be read, or written; a range of no bytes is not looked at
-unfoldable pub may_read : View → ℕ → ℕ → ℕ → Bool
-may_read v selector offset count = (count == 0) || has_range v is_readable offset count (pointed v selector)
+unfoldable pub may_write : (ℕ → Option Hold) → (ℕ → List ℕ) → ℕ → ℕ → ℕ → Bool
+may_write held bytes selector offset count = (count == 0) || has_range bytes is_writable offset count (bound_in held selector)
 
-unfoldable pub may_write : View → ℕ → ℕ → ℕ → Bool
-may_write v selector offset count = (count == 0) || has_range v is_writable offset count (pointed v selector)
-
-abbrev pub range_in : View → ℕ → ℕ → Option Hold → List ℕ
-range_in v offset count None = []
-range_in v offset count (Some h) = take count (drop offset (v.bytes h.name))
+abbrev pub range_in : (ℕ → List ℕ) → ℕ → ℕ → Option Hold → List ℕ
+range_in bytes offset count None = []
+range_in bytes offset count (Some h) = take count (drop offset (bytes h.name))
 
 -- the bytes behind a pointer
-unfoldable pub range_of : View → ℕ → ℕ → ℕ → List ℕ
-range_of v selector offset count = if count == 0 then [] else range_in v offset count (pointed v selector)
-
--- a list with these bytes from a place on
-abbrev pub put_part : List ℕ → ℕ → List ℕ → List ℕ
-put_part bytes at part = take at bytes ++ part ++ drop (at + length part) bytes
+unfoldable pub range_of : (ℕ → Option Hold) → (ℕ → List ℕ) → ℕ → ℕ → ℕ → List ℕ
+range_of held bytes selector offset count = if count == 0 then [] else range_in bytes offset count (bound_in held selector)
 
 abbrev pub put_in : (ℕ → List ℕ) → ℕ → List ℕ → Option Hold → ℕ → List ℕ
 put_in bytes offset part None n = bytes n
 put_in bytes offset part (Some h) n = if n == h.name then put_part (bytes n) offset part else bytes n
 
 -- the bytes of all names after a write behind a pointer
-unfoldable pub put_at_pointer : View → (ℕ → List ℕ) → ℕ → ℕ → List ℕ → ℕ → List ℕ
-put_at_pointer v bytes selector offset part = put_in bytes offset part (pointed v selector)
+unfoldable pub put_at_pointer : (ℕ → Option Hold) → (ℕ → List ℕ) → ℕ → ℕ → List ℕ → ℕ → List ℕ
+put_at_pointer held bytes selector offset part = put_in bytes offset part (bound_in held selector)
 
 abbrev pub word_bytes : ℕ → List ℕ
 word_bytes n = n % 256 ∷ n / 256 ∷ []
@@ -109,14 +102,14 @@ is_console handle = (handle == 1) || (handle == 2)
 abbrev pub written : Before → ℕ → (handle selector offset count done_selector done_offset : ℕ) → Effect
 written b next handle selector offset count done_selector done_offset =
     let line = write_line b.number handle selector offset count done_selector done_offset in
-    if may_read b.view selector offset count && may_write b.view done_selector done_offset 2
+    if may_read b.view.held b.view.bytes selector offset count && may_write b.view.held b.view.bytes done_selector done_offset 2
     then (if is_console handle
     then record {
       cpu = returned b.cpu next 6 0;
       state = Live;
-      bytes = put_at_pointer b.view b.view.bytes done_selector done_offset (word_bytes count);
+      bytes = put_at_pointer b.view.held b.view.bytes done_selector done_offset (word_bytes count);
       input = b.input;
-      piece = range_of b.view selector offset count;
+      piece = range_of b.view.held b.view.bytes selector offset count;
       lines = line 0 ∷ [];
     }
     else record {
@@ -131,22 +124,21 @@ written b next handle selector offset count done_selector done_offset =
 
 unfoldable pub dos_write : Before → ℕ → Effect
 dos_write b next =
-    if has_arguments b 6
-    then written b next (argument b 5) (argument b 4) (argument b 3) (argument b 2) (argument b 1) (argument b 0)
-    else trapped b 12
+    let a : ℕ → ℕ = argument b.view b.cpu in
+    if has_arguments b.view b.cpu 6 then written b next (a 5) (a 4) (a 3) (a 2) (a 1) (a 0) else trapped b 12
 
 -- DosExit(action, code): the process ends with the code, whatever the action is
 unfoldable pub dos_exit : Before → Effect
 dos_exit b =
-    let code = argument b 0 in
-    if has_arguments b 2
+    let code = argument b.view b.cpu 0 in
+    if has_arguments b.view b.cpu 2
     then record {
       cpu = b.cpu;
       state = Exited code;
       bytes = b.view.bytes;
       input = b.input;
       piece = [];
-      lines = Exits b.number (argument b 1) code ∷ Ends b.number code ∷ [];
+      lines = Exits b.number (argument b.view b.cpu 1) code ∷ Ends b.number code ∷ [];
     }
     else trapped b 12
 
