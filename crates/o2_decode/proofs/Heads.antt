@@ -9,7 +9,8 @@ use Rattle.o2_isa.specs.declared.rows.Head.{Head}
 use Rattle.o2_isa.specs.declared.rows.Head.TheVariants.{More, Bad, Whole}
 use Rattle.o2_isa.specs.Table.{table, table_0f, groups}
 use Rattle.o2_isa.specs.Operands.{disp_len}
-use Rattle.o2_isa.specs.Spelling.{row_of, with_modrm, plan_after}
+use Rattle.std.specs.List.{AllByRecursion}
+use Rattle.o2_isa.specs.Spelling.{IsByte, row_of, with_modrm, plan_after}
 use Rattle.o2_isa.specs.Reading.{head_with, head_modrm, head_after}
 
 -- which way a test went
@@ -65,9 +66,6 @@ after_again (Group k) [] rest n p h = cc
 after_again (Group k) (b ∷ []) rest n p h = after_modrm_again (Group k) b n rest p (λ _. refl) h
 after_again (Group k) (b ∷ c ∷ bs) rest n p h = cc
 
-with_modrm_bad : (r : Option Row) (b n : ℕ) (x : Head) → head_with r b n ≡ x → head_with r b n ≡ x
-with_modrm_bad r b n x h = h
-
 pub after_bad : (e : Entry) (bs more : List ℕ) (n : ℕ) → head_after e bs n ≡ Bad → head_after e (bs ++ more) n ≡ Bad
 after_bad Unused bs more n h = refl
 after_bad (Bare row) bs more n h = cc
@@ -108,6 +106,7 @@ table_0f_finish b = finish_at table_0f b refl
 pub record Goes (e : Entry) (bs : List ℕ) : Type 0 where
   pub more : List ℕ
   pub some_more : 0 < length more
+  pub each : AllByRecursion IsByte more
   pub plan : Plan
   pub known : plan_after e (bs ++ more) ≡ Some plan
 
@@ -118,7 +117,7 @@ some_plan (Some row) b h = (record { row = row; modrm = b; disp = disp_len b }, 
 goes_modrm : (e : Entry) → ((b : ℕ) → plan_after e (b ∷ []) ≡ with_modrm (row_of e b) b) → is_some (row_of e 0) ≡ true → Goes e []
 goes_modrm e same h =
     let s = some_plan (row_of e 0) 0 h in
-    record { more = 0 ∷ []; some_more = omega arith; plan = s.0; known = same 0 ∙ s.1 }
+    record { more = 0 ∷ []; some_more = omega arith; each = (omega arith, tt); plan = s.0; known = same 0 ∙ s.1 }
 
 no_more : (r : Option Row) (b n : ℕ) → head_with r b n ≡ More → ⊥
 no_more None b n h = cc

@@ -1,5 +1,5 @@
 -- Reading: what is read is spelled so, what is spelled so is read, what is begun can be finished, what is refused stays refused.
-use Rattle.std.proofs.Common.{◌≡◌, ◌⊎◌, ◌↔◌, inl, inr, refl, sym, ◌∙◌, ap, subst, ℕ, ◌+◌, ◌-◌, ◌<◌, ◌≤◌, Bool, true, false, cond, ◌||◌, eqb, nat_lt, List, [], ◌∷◌, ◌++◌, length, take, drop, replicate, slice_index_or, arith, append_assoc, length-append}
+use Rattle.std.proofs.Common.{◌≡◌, ◌⊎◌, ◌↔◌, inl, inr, refl, sym, ◌∙◌, ap, subst, ℕ, zero, suc, ◌+◌, ◌-◌, ◌<◌, ◌≤◌, Bool, true, false, cond, ◌||◌, eqb, nat_lt, List, [], ◌∷◌, ◌++◌, length, take, drop, replicate, slice_index_or, arith, append_assoc, length-append}
 use Rattle.std.specs.Prelude.{Some}
 use Rattle.std.specs.List.{AllByRecursion}
 use Rattle.std.proofs.lemmas.Bool.{eqb-true, ltb-true, ltb-false, lt-ltb, le-ltb}
@@ -16,7 +16,7 @@ use Rattle.o2_isa.specs.declared.rows.Decoded.{Decoded}
 use Rattle.o2_isa.specs.declared.rows.Decoded.TheVariants.{One, Invalid, TooLong, Need}
 use Rattle.o2_isa.specs.Table.{table, table_0f}
 use Rattle.o2_isa.specs.Operands.{tail_len, instr_of}
-use Rattle.o2_isa.specs.Spelling.{is_prefix, no_prefixes, mark, marks, plan_after, plan_two, plan_of, IsPrefix, SpellsAfter, Spells, IsFront}
+use Rattle.o2_isa.specs.Spelling.{is_prefix, no_prefixes, mark, marks, plan_after, plan_two, plan_of, IsPrefix, IsByte, SpellsAfter, Spells, IsFront, IsUndefined}
 use Rattle.o2_isa.specs.Reading.{IsWithin, head_after, head_two, head_of, read_tail, read, limited, decoded}
 use Rattle.o2_decode.proofs.Heads.{chosen, after_sound, after_again, after_bad, after_more, table_finish, table_0f_finish}
 
@@ -81,6 +81,7 @@ head_bad (b ∷ bs) more e =
 pub record Begun (bs : List ℕ) : Type 0 where
   pub more : List ℕ
   pub some_more : 0 < length more
+  pub each : AllByRecursion IsByte more
   pub plan : Plan
   pub known : plan_of (bs ++ more) ≡ Some plan
 
@@ -95,20 +96,20 @@ nop : (p : Plan) × (plan_of (144 ∷ []) ≡ Some p) × (0 ≡ tail_len p)
 unfolding table
 nop = (_, refl, refl)
 
-two_more : (bs : List ℕ) → head_two bs ≡ More → (more : List ℕ) × (0 < length more) × (p : Plan) × (plan_two (bs ++ more) ≡ Some p)
-two_more [] e = (6 ∷ [], omega arith, clts.0, clts.1)
+two_more : (bs : List ℕ) → head_two bs ≡ More → (more : List ℕ) × (0 < length more) × (AllByRecursion IsByte more) × (p : Plan) × (plan_two (bs ++ more) ≡ Some p)
+two_more [] e = (6 ∷ [], omega arith, (omega arith, tt), clts.0, clts.1)
 two_more (b ∷ bs) e =
     let g = after_more (slice_index_or table_0f b Unused) bs 2 (table_0f_finish b) e in
-    (g.more, g.some_more, g.plan, g.known)
+    (g.more, g.some_more, g.each, g.plan, g.known)
 
 pub head_more : (bs : List ℕ) → head_of bs ≡ More → Begun bs
 unfolding head_of
-head_more [] e = record { more = 144 ∷ []; some_more = omega arith; plan = nop.0; known = nop.1 }
+head_more [] e = record { more = 144 ∷ []; some_more = omega arith; each = (omega arith, tt); plan = nop.0; known = nop.1 }
 head_more (b ∷ bs) e =
     elim (chosen (eqb b 15) (head_two bs) (head_after (slice_index_or table b Unused) bs 1) More e) [
-      | inl w ↦ (let g = two_more bs w.1 in record { more = g.0; some_more = g.1; plan = g.2; known = cond_true (eqb b 15) _ _ w.0 ∙ g.3 })
+      | inl w ↦ (let g = two_more bs w.1 in record { more = g.0; some_more = g.1; each = g.2; plan = g.3; known = cond_true (eqb b 15) _ _ w.0 ∙ g.4 })
       | inr w ↦ (let g = after_more (slice_index_or table b Unused) bs 1 (table_finish b) w.1 in
-          record { more = g.more; some_more = g.some_more; plan = g.plan; known = cond_false (eqb b 15) _ _ w.0 ∙ g.known })
+          record { more = g.more; some_more = g.some_more; each = g.each; plan = g.plan; known = cond_false (eqb b 15) _ _ w.0 ∙ g.known })
     ]
 
 -- A head begins with no prefix.
@@ -306,9 +307,18 @@ read_again front rest p k i s =
     size : k + (length s.prefixes + (length s.head + tail_len s.plan)) ≡ k + length front
     size = omega (arith, ap length s.spelled, length-append s.prefixes (s.head ++ s.tail), length-append s.head s.tail, s.whole)
 
+zeros_are_bytes : (n : ℕ) → AllByRecursion IsByte (replicate n 0)
+zeros_are_bytes zero = tt
+zeros_are_bytes (suc n) = (omega arith, zeros_are_bytes n)
+
+bytes_and_bytes : (xs ys : List ℕ) → AllByRecursion IsByte xs → AllByRecursion IsByte ys → AllByRecursion IsByte (xs ++ ys)
+bytes_and_bytes [] ys a b = b
+bytes_and_bytes (x ∷ xs) ys a b = (a.0, bytes_and_bytes xs ys a.1 b)
+
 pub record Goes_on (p : Prefixes) (bs : List ℕ) : Type 0 where
   pub more : List ℕ
   pub some_more : 0 < length more
+  pub each : AllByRecursion IsByte more
   pub instr : Instr
   pub spells : SpellsAfter p (bs ++ more) instr
 
@@ -320,6 +330,7 @@ short_tail : (plan : Plan) (m : ℕ) (p : Prefixes) (bs : List ℕ) → HeadOf b
 short_tail plan m p bs h short = record {
   more = zeros;
   some_more = some;
+  each = zeros_are_bytes _;
   instr = instr_of p plan (h.rest ++ zeros);
   spells = finished h.head plan p (h.rest ++ zeros) (bs ++ zeros) h.known full (ap (λ x. x ++ zeros) h.whole ∙ append_assoc h.head h.rest zeros);
 }
@@ -343,6 +354,7 @@ begun_goes : (p : Prefixes) (bs : List ℕ) → Begun bs → Goes_on p bs
 begun_goes p bs b = record {
   more = b.more ++ zeros;
   some_more = omega (arith, length-append b.more zeros, b.some_more);
+  each = bytes_and_bytes b.more zeros b.each (zeros_are_bytes _);
   instr = instr_of p b.plan zeros;
   spells = finished (bs ++ b.more) b.plan p zeros (bs ++ (b.more ++ zeros)) b.known (length-replicate (tail_len b.plan) 0) (sym (append_assoc bs b.more zeros));
 }
@@ -363,13 +375,14 @@ body_more (Whole plan m) p k bs q e =
     never i n q = cc
 
 pub read_more : (bs : List ℕ) (p : Prefixes) (k : ℕ) → read p k bs ≡ Need → Goes_on p bs
-read_more [] p k e = record { more = 144 ∷ []; some_more = omega arith; instr = instr_of p nop.0 []; spells = finished (144 ∷ []) nop.0 p [] (144 ∷ []) nop.1 nop.2 refl }
+read_more [] p k e = record { more = 144 ∷ []; some_more = omega arith; each = (omega arith, tt); instr = instr_of p nop.0 []; spells = finished (144 ∷ []) nop.0 p [] (144 ∷ []) nop.1 nop.2 refl }
 read_more (b ∷ bs) p k e =
     elim (chosen (is_prefix b) (read (mark p b) (k + 1) bs) (read_tail (head_of (b ∷ bs)) p k (b ∷ bs)) Need e) [
       | inl w ↦ (let r = read_more bs (mark p b) (k + 1) w.1 in
           record {
             more = r.more;
             some_more = r.some_more;
+            each = r.each;
             instr = r.instr;
             spells = record {
               prefixes = b ∷ r.spells.prefixes;
@@ -479,7 +492,7 @@ pub need_exactly : (bs : List ℕ) → (read no_prefixes 0 bs ≡ Need) ↔ IsFr
 need_exactly bs = (there, λ f. front_needs bs (read no_prefixes 0 bs) refl f)
   where
     there : read no_prefixes 0 bs ≡ Need → IsFront bs
-    there e = let g = read_more bs no_prefixes 0 e in record { more = g.more; some_more = g.some_more; instr = g.instr; spells = g.spells }
+    there e = let g = read_more bs no_prefixes 0 e in record { more = g.more; some_more = g.some_more; each = g.each; instr = g.instr; spells = g.spells }
 
 limited_one : (r : Decoded) (len : ℕ) (i : Instr) (n : ℕ) → (limited len r ≡ One i n) ↔ (r ≡ One i n)
 limited_one Need len i n = (λ e. elim (chosen (nat_lt len 10) Need TooLong (One i n) e) [ inl w ↦ w.1 | inr w ↦ absurd (never w.1) ], λ e. absurd (needs e))
@@ -529,6 +542,13 @@ limited_long TooLong len other = (λ e. absurd (other refl), λ h. absurd (never
     never : TooLong ≡ Need → ⊥
     never e = cc
 
+less_or_not : (a b : ℕ) → (a < b) ⊎ (b ≤ a)
+less_or_not a b = elim (either_way (nat_lt a b)) [ inl t ↦ inl (ltb-true _ _ t) | inr f ↦ inr (ltb-false _ _ f) ]
+  where
+    either_way : (x : Bool) → (x ≡ true) ⊎ (x ≡ false)
+    either_way true = inl refl
+    either_way false = inr refl
+
 pub one_law : (bs : List ℕ) (len : ℕ) (i : Instr) (n : ℕ) → (limited len (read no_prefixes 0 bs) ≡ One i n) ↔ ((n ≤ length bs) × Spells (take n bs) i)
 one_law bs len i n =
     let l = limited_one (read no_prefixes 0 bs) len i n in
@@ -546,6 +566,33 @@ long_law bs len =
     let l = limited_long (read no_prefixes 0 bs) len (read_no_limit bs no_prefixes 0) in
     let x = need_exactly bs in
     (λ e. (let h = l.0 e in (h.0, x.0 h.1)), λ h. l.1 (h.0, x.1 h.1))
+
+pub invalid_law : (bs : List ℕ) (len : ℕ) → (limited len (read no_prefixes 0 bs) ≡ Invalid) ↔ IsUndefined bs
+invalid_law bs len = (there, λ u. back (limited len (read no_prefixes 0 bs)) refl u)
+  where
+    there : limited len (read no_prefixes 0 bs) ≡ Invalid → IsUndefined bs
+    there e = record {
+      no_instruction = λ i n h s. never_one i n (sym e ∙ (one_law bs len i n).1 (h, s));
+      no_front = λ f. elim (less_or_not len 10) [
+        | inl l ↦ never_need (sym e ∙ (need_law bs len).1 (l, f))
+        | inr l ↦ never_long (sym e ∙ (long_law bs len).1 (l, f))
+      ];
+    }
+      where
+        never_one : (i : Instr) (n : ℕ) → Invalid ≡ One i n → ⊥
+        never_one i n q = cc
+
+        never_need : Invalid ≡ Need → ⊥
+        never_need q = cc
+
+        never_long : Invalid ≡ TooLong → ⊥
+        never_long q = cc
+
+    back : (r : Decoded) → limited len (read no_prefixes 0 bs) ≡ r → IsUndefined bs → limited len (read no_prefixes 0 bs) ≡ Invalid
+    back (One i n) e u = (let h = (one_law bs len i n).0 e in absurd (u.no_instruction i n h.0 h.1))
+    back Invalid e u = e
+    back TooLong e u = absurd (u.no_front ((long_law bs len).0 e).1)
+    back Need e u = absurd (u.no_front ((need_law bs len).0 e).1)
 
 pub within_law : (bs : List ℕ) (len : ℕ) (r : Decoded) → r ≡ limited len (read no_prefixes 0 bs) → IsWithin r (length bs)
 within_law bs len (One i n) e = (let h = (one_law bs len i n).0 (sym e) in h.0)

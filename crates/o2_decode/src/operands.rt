@@ -1,7 +1,7 @@
 ghost use Rattle.std.specs.Prelude.{◌≡◌, ◌+◌, ◌<◌, ◌≤◌, length};
-ghost use Rattle.o2_isa.specs.Operands.{is_direct, disp_len, imm_len, tail_len, word_at, sign_extended, sreg_of, default_segment, ea_of, register, arg_of, rep_of, instr_of};
+ghost use Rattle.o2_isa.specs.Operands.{is_direct, disp_len, imm_len, tail_len, word_at, sign_extended, sreg_of, default_segment, ea_of, register, arg_of, source_segment, rep_of, instr_of};
 
-use o2_isa::{Arg, Ea, Instr, Plan, Prefixes, Rep, Repeat, Slot, Sreg, Width};
+use o2_isa::{Arg, Ea, Instr, Plan, Prefixes, Rep, Repeat, Row, Slot, Sreg, Width};
 
 fn is_direct_offset(modrm: u8) -> bool
     ensures { result ≡ is_direct modrm }
@@ -141,6 +141,17 @@ fn operand(slot: Slot, prefixes: &Prefixes, plan: &Plan, tail: &[u8], at: usize)
             seg: prefixes.seg.unwrap_or(Sreg::Ds),
         }),
         Slot::Constant(n) => Arg::Imm(n),
+        Slot::Source => Arg::No,
+    }
+}
+
+fn segment_of_source(prefixes: &Prefixes, row: &Row) -> Sreg
+    ensures { result ≡ source_segment prefixes.now row.now }
+{
+    if matches!(row.left, Slot::Source) || matches!(row.right, Slot::Source) {
+        prefixes.seg.unwrap_or(Sreg::Ds)
+    } else {
+        Sreg::Ds
     }
 }
 
@@ -170,7 +181,7 @@ pub fn instruction(prefixes: &Prefixes, plan: &Plan, tail: &[u8]) -> Instr
         left: operand(row.left, prefixes, plan, tail, plan.disp),
         right: operand(row.right, prefixes, plan, tail, second),
         third: operand(row.third, prefixes, plan, tail, third),
-        seg: prefixes.seg.unwrap_or(Sreg::Ds),
+        seg: segment_of_source(prefixes, &row),
         rep: repeat_of(row.repeat, prefixes.rep),
         lock: prefixes.lock,
     }

@@ -1,6 +1,7 @@
 ghost use Rattle.std.specs.Prelude.{◌≡◌, List, [], ◌++◌, ◌+◌, ◌<◌, ◌≤◌, ◌↔◌, ℕ, length, take};
-ghost use Rattle.o2_isa.specs.Spelling.{is_prefix, mark, no_prefixes, Spells, IsFront};
-ghost use Rattle.o2_isa.specs.Reading.{head_after, head_of, read_tail, read, limited, decoded, IsShort, IsWithin};
+ghost use Rattle.o2_isa.specs.Spelling.{is_prefix, mark, no_prefixes, Spells, IsFront, IsUndefined};
+ghost use Rattle.o2_isa.specs.Reading.{head_after, head_of, read_tail, read, limited, decoded, IsWithin};
+ghost use Rattle.o2_decode.specs.Short.{IsShort};
 ghost use Rattle.o2_isa.specs.declared.instr.Instr.{Instr};
 
 use crate::lookup::{entry, row_at, second_entry};
@@ -141,6 +142,7 @@ pub fn decode(bytes: &[u8]) -> Decoded
     ensures within { IsWithin result (length bytes.now) }
     ensures need { (result ≡ Decoded.Need) ↔ ((length bytes.now < 10) × IsFront bytes.now) }
     ensures too_long { (result ≡ Decoded.TooLong) ↔ ((10 ≤ length bytes.now) × IsFront bytes.now) }
+    ensures invalid { (result ≡ Decoded.Invalid) ↔ IsUndefined bytes.now }
 {
     limited_bytes(bytes)
 }

@@ -1,3 +1,5 @@
+// The opcodes of the 80286, as the Intel 80286 Programmer's Reference Manual has them.
+
 use o2_isa::{Entry, Op, Repeat, Row, Slot, Sreg, Width};
 
 macro_rules! row {
@@ -13,6 +15,58 @@ macro_rules! row {
     };
 }
 
+macro_rules! sums {
+    ($width:ident $right:ident) => {
+        [
+            Some(row!(OpAdd $width ModRm $right Absent Never)),
+            Some(row!(OpOr $width ModRm $right Absent Never)),
+            Some(row!(OpAdc $width ModRm $right Absent Never)),
+            Some(row!(OpSbb $width ModRm $right Absent Never)),
+            Some(row!(OpAnd $width ModRm $right Absent Never)),
+            Some(row!(OpSub $width ModRm $right Absent Never)),
+            Some(row!(OpXor $width ModRm $right Absent Never)),
+            Some(row!(OpCmp $width ModRm $right Absent Never)),
+        ]
+    };
+}
+
+macro_rules! shifts {
+    ($width:ident $right:ident $(($r:expr))?) => {
+        [
+            Some(row!(OpRol $width ModRm $right $(($r))? Absent Never)),
+            Some(row!(OpRor $width ModRm $right $(($r))? Absent Never)),
+            Some(row!(OpRcl $width ModRm $right $(($r))? Absent Never)),
+            Some(row!(OpRcr $width ModRm $right $(($r))? Absent Never)),
+            Some(row!(OpShl $width ModRm $right $(($r))? Absent Never)),
+            Some(row!(OpShr $width ModRm $right $(($r))? Absent Never)),
+            None,
+            Some(row!(OpSar $width ModRm $right $(($r))? Absent Never)),
+        ]
+    };
+}
+
+macro_rules! units {
+    ($width:ident $right:ident) => {
+        [
+            Some(row!(OpTest $width ModRm $right Absent Never)),
+            None,
+            Some(row!(OpNot $width ModRm Absent Absent Never)),
+            Some(row!(OpNeg $width ModRm Absent Absent Never)),
+            Some(row!(OpMul $width ModRm Absent Absent Never)),
+            Some(row!(OpImul $width ModRm Absent Absent Never)),
+            Some(row!(OpDiv $width ModRm Absent Absent Never)),
+            Some(row!(OpIdiv $width ModRm Absent Absent Never)),
+        ]
+    };
+}
+
+macro_rules! only {
+    ($op:ident $width:ident $right:ident) => {
+        [Some(row!($op $width ModRm $right Absent Never)), None, None, None, None, None, None, None]
+    };
+}
+
+/// The opcodes of one byte.
 pub static TABLE: [Entry; 256] = [
     Entry::Modrm(row!(OpAdd Byte ModRm Register Absent Never)), // 00
     Entry::Modrm(row!(OpAdd Word ModRm Register Absent Never)), // 01
@@ -122,10 +176,10 @@ pub static TABLE: [Entry; 256] = [
     Entry::Modrm(row!(OpImulThree Word Register ModRm ImmWord Never)), // 69
     Entry::Bare(row!(OpPush Word ImmSigned Absent Absent Never)), // 6A
     Entry::Modrm(row!(OpImulThree Word Register ModRm ImmSigned Never)), // 6B
-    Entry::Bare(row!(OpIns Byte Absent Absent Absent Never)), // 6C
-    Entry::Bare(row!(OpIns Word Absent Absent Absent Never)), // 6D
-    Entry::Bare(row!(OpOuts Byte Absent Absent Absent Never)), // 6E
-    Entry::Bare(row!(OpOuts Word Absent Absent Absent Never)), // 6F
+    Entry::Bare(row!(OpIns Byte Absent Absent Absent Always)), // 6C
+    Entry::Bare(row!(OpIns Word Absent Absent Absent Always)), // 6D
+    Entry::Bare(row!(OpOuts Byte Absent Source Absent Always)), // 6E
+    Entry::Bare(row!(OpOuts Word Absent Source Absent Always)), // 6F
     Entry::Bare(row!(OpJo Word ImmSigned Absent Absent Never)), // 70
     Entry::Bare(row!(OpJno Word ImmSigned Absent Absent Never)), // 71
     Entry::Bare(row!(OpJb Word ImmSigned Absent Absent Never)), // 72
@@ -178,16 +232,16 @@ pub static TABLE: [Entry; 256] = [
     Entry::Bare(row!(OpMov Word Fixed(0) Offset Absent Never)), // A1
     Entry::Bare(row!(OpMov Byte Offset Fixed(0) Absent Never)), // A2
     Entry::Bare(row!(OpMov Word Offset Fixed(0) Absent Never)), // A3
-    Entry::Bare(row!(OpMovs Byte Absent Absent Absent Always)), // A4
-    Entry::Bare(row!(OpMovs Word Absent Absent Absent Always)), // A5
-    Entry::Bare(row!(OpCmps Byte Absent Absent Absent WhileZero)), // A6
-    Entry::Bare(row!(OpCmps Word Absent Absent Absent WhileZero)), // A7
+    Entry::Bare(row!(OpMovs Byte Absent Source Absent Always)), // A4
+    Entry::Bare(row!(OpMovs Word Absent Source Absent Always)), // A5
+    Entry::Bare(row!(OpCmps Byte Source Absent Absent WhileZero)), // A6
+    Entry::Bare(row!(OpCmps Word Source Absent Absent WhileZero)), // A7
     Entry::Bare(row!(OpTest Byte Fixed(0) ImmByte Absent Never)), // A8
     Entry::Bare(row!(OpTest Word Fixed(0) ImmWord Absent Never)), // A9
     Entry::Bare(row!(OpStos Byte Absent Absent Absent Always)), // AA
     Entry::Bare(row!(OpStos Word Absent Absent Absent Always)), // AB
-    Entry::Bare(row!(OpLods Byte Absent Absent Absent Always)), // AC
-    Entry::Bare(row!(OpLods Word Absent Absent Absent Always)), // AD
+    Entry::Bare(row!(OpLods Byte Absent Source Absent Always)), // AC
+    Entry::Bare(row!(OpLods Word Absent Source Absent Always)), // AD
     Entry::Bare(row!(OpScas Byte Absent Absent Absent WhileZero)), // AE
     Entry::Bare(row!(OpScas Word Absent Absent Absent WhileZero)), // AF
     Entry::Bare(row!(OpMov Byte Fixed(0) ImmByte Absent Never)), // B0
@@ -226,10 +280,10 @@ pub static TABLE: [Entry; 256] = [
     Entry::Group(7), // D1
     Entry::Group(8), // D2
     Entry::Group(9), // D3
-    Entry::Bare(row!(OpAam Byte ImmByte Absent Absent Never)), // D4
-    Entry::Bare(row!(OpAad Byte ImmByte Absent Absent Never)), // D5
+    Entry::Bare(row!(OpAam Word ImmByte Absent Absent Never)), // D4
+    Entry::Bare(row!(OpAad Word ImmByte Absent Absent Never)), // D5
     Entry::Unused, // D6
-    Entry::Bare(row!(OpXlat Byte Absent Absent Absent Never)), // D7
+    Entry::Bare(row!(OpXlat Byte Absent Source Absent Never)), // D7
     Entry::Modrm(row!(OpEsc Word ModRm Absent Absent Never)), // D8
     Entry::Modrm(row!(OpEsc Word ModRm Absent Absent Never)), // D9
     Entry::Modrm(row!(OpEsc Word ModRm Absent Absent Never)), // DA
@@ -272,157 +326,34 @@ pub static TABLE: [Entry; 256] = [
     Entry::Group(15), // FF
 ];
 
+/// The second bytes of the opcodes that begin with 0F.
 pub static TABLE_0F: [Entry; 7] = [
-    Entry::Group(16),
-    Entry::Group(17),
-    Entry::Modrm(row!(OpLar Word Register ModRm Absent Never)),
-    Entry::Modrm(row!(OpLsl Word Register ModRm Absent Never)),
-    Entry::Unused,
-    Entry::Unused,
-    Entry::Bare(row!(OpClts Word Absent Absent Absent Never)),
+    Entry::Group(16), // 0F 00
+    Entry::Group(17), // 0F 01
+    Entry::Modrm(row!(OpLar Word Register ModRm Absent Never)), // 0F 02
+    Entry::Modrm(row!(OpLsl Word Register ModRm Absent Never)), // 0F 03
+    Entry::Unused, // 0F 04
+    Entry::Unused, // 0F 05
+    Entry::Bare(row!(OpClts Word Absent Absent Absent Never)), // 0F 06
 ];
 
+/// The groups, each with its rows by reg of the ModRM byte.
 pub static GROUPS: [[Option<Row>; 8]; 18] = [
-    [
-        Some(row!(OpAdd Byte ModRm ImmByte Absent Never)),
-        Some(row!(OpOr Byte ModRm ImmByte Absent Never)),
-        Some(row!(OpAdc Byte ModRm ImmByte Absent Never)),
-        Some(row!(OpSbb Byte ModRm ImmByte Absent Never)),
-        Some(row!(OpAnd Byte ModRm ImmByte Absent Never)),
-        Some(row!(OpSub Byte ModRm ImmByte Absent Never)),
-        Some(row!(OpXor Byte ModRm ImmByte Absent Never)),
-        Some(row!(OpCmp Byte ModRm ImmByte Absent Never)),
-    ],
-    [
-        Some(row!(OpAdd Word ModRm ImmWord Absent Never)),
-        Some(row!(OpOr Word ModRm ImmWord Absent Never)),
-        Some(row!(OpAdc Word ModRm ImmWord Absent Never)),
-        Some(row!(OpSbb Word ModRm ImmWord Absent Never)),
-        Some(row!(OpAnd Word ModRm ImmWord Absent Never)),
-        Some(row!(OpSub Word ModRm ImmWord Absent Never)),
-        Some(row!(OpXor Word ModRm ImmWord Absent Never)),
-        Some(row!(OpCmp Word ModRm ImmWord Absent Never)),
-    ],
-    [
-        Some(row!(OpAdd Word ModRm ImmSigned Absent Never)),
-        Some(row!(OpOr Word ModRm ImmSigned Absent Never)),
-        Some(row!(OpAdc Word ModRm ImmSigned Absent Never)),
-        Some(row!(OpSbb Word ModRm ImmSigned Absent Never)),
-        Some(row!(OpAnd Word ModRm ImmSigned Absent Never)),
-        Some(row!(OpSub Word ModRm ImmSigned Absent Never)),
-        Some(row!(OpXor Word ModRm ImmSigned Absent Never)),
-        Some(row!(OpCmp Word ModRm ImmSigned Absent Never)),
-    ],
-    [
-        Some(row!(OpPop Word ModRm Absent Absent Never)),
-        None,
-        None,
-        None,
-        None,
-        None,
-        None,
-        None,
-    ],
-    [
-        Some(row!(OpRol Byte ModRm ImmByte Absent Never)),
-        Some(row!(OpRor Byte ModRm ImmByte Absent Never)),
-        Some(row!(OpRcl Byte ModRm ImmByte Absent Never)),
-        Some(row!(OpRcr Byte ModRm ImmByte Absent Never)),
-        Some(row!(OpShl Byte ModRm ImmByte Absent Never)),
-        Some(row!(OpShr Byte ModRm ImmByte Absent Never)),
-        None,
-        Some(row!(OpSar Byte ModRm ImmByte Absent Never)),
-    ],
-    [
-        Some(row!(OpRol Word ModRm ImmByte Absent Never)),
-        Some(row!(OpRor Word ModRm ImmByte Absent Never)),
-        Some(row!(OpRcl Word ModRm ImmByte Absent Never)),
-        Some(row!(OpRcr Word ModRm ImmByte Absent Never)),
-        Some(row!(OpShl Word ModRm ImmByte Absent Never)),
-        Some(row!(OpShr Word ModRm ImmByte Absent Never)),
-        None,
-        Some(row!(OpSar Word ModRm ImmByte Absent Never)),
-    ],
-    [
-        Some(row!(OpRol Byte ModRm Constant(1) Absent Never)),
-        Some(row!(OpRor Byte ModRm Constant(1) Absent Never)),
-        Some(row!(OpRcl Byte ModRm Constant(1) Absent Never)),
-        Some(row!(OpRcr Byte ModRm Constant(1) Absent Never)),
-        Some(row!(OpShl Byte ModRm Constant(1) Absent Never)),
-        Some(row!(OpShr Byte ModRm Constant(1) Absent Never)),
-        None,
-        Some(row!(OpSar Byte ModRm Constant(1) Absent Never)),
-    ],
-    [
-        Some(row!(OpRol Word ModRm Constant(1) Absent Never)),
-        Some(row!(OpRor Word ModRm Constant(1) Absent Never)),
-        Some(row!(OpRcl Word ModRm Constant(1) Absent Never)),
-        Some(row!(OpRcr Word ModRm Constant(1) Absent Never)),
-        Some(row!(OpShl Word ModRm Constant(1) Absent Never)),
-        Some(row!(OpShr Word ModRm Constant(1) Absent Never)),
-        None,
-        Some(row!(OpSar Word ModRm Constant(1) Absent Never)),
-    ],
-    [
-        Some(row!(OpRol Byte ModRm FixedByte(1) Absent Never)),
-        Some(row!(OpRor Byte ModRm FixedByte(1) Absent Never)),
-        Some(row!(OpRcl Byte ModRm FixedByte(1) Absent Never)),
-        Some(row!(OpRcr Byte ModRm FixedByte(1) Absent Never)),
-        Some(row!(OpShl Byte ModRm FixedByte(1) Absent Never)),
-        Some(row!(OpShr Byte ModRm FixedByte(1) Absent Never)),
-        None,
-        Some(row!(OpSar Byte ModRm FixedByte(1) Absent Never)),
-    ],
-    [
-        Some(row!(OpRol Word ModRm FixedByte(1) Absent Never)),
-        Some(row!(OpRor Word ModRm FixedByte(1) Absent Never)),
-        Some(row!(OpRcl Word ModRm FixedByte(1) Absent Never)),
-        Some(row!(OpRcr Word ModRm FixedByte(1) Absent Never)),
-        Some(row!(OpShl Word ModRm FixedByte(1) Absent Never)),
-        Some(row!(OpShr Word ModRm FixedByte(1) Absent Never)),
-        None,
-        Some(row!(OpSar Word ModRm FixedByte(1) Absent Never)),
-    ],
-    [
-        Some(row!(OpMov Byte ModRm ImmByte Absent Never)),
-        None,
-        None,
-        None,
-        None,
-        None,
-        None,
-        None,
-    ],
-    [
-        Some(row!(OpMov Word ModRm ImmWord Absent Never)),
-        None,
-        None,
-        None,
-        None,
-        None,
-        None,
-        None,
-    ],
-    [
-        Some(row!(OpTest Byte ModRm ImmByte Absent Never)),
-        None,
-        Some(row!(OpNot Byte ModRm Absent Absent Never)),
-        Some(row!(OpNeg Byte ModRm Absent Absent Never)),
-        Some(row!(OpMul Byte ModRm Absent Absent Never)),
-        Some(row!(OpImul Byte ModRm Absent Absent Never)),
-        Some(row!(OpDiv Byte ModRm Absent Absent Never)),
-        Some(row!(OpIdiv Byte ModRm Absent Absent Never)),
-    ],
-    [
-        Some(row!(OpTest Word ModRm ImmWord Absent Never)),
-        None,
-        Some(row!(OpNot Word ModRm Absent Absent Never)),
-        Some(row!(OpNeg Word ModRm Absent Absent Never)),
-        Some(row!(OpMul Word ModRm Absent Absent Never)),
-        Some(row!(OpImul Word ModRm Absent Absent Never)),
-        Some(row!(OpDiv Word ModRm Absent Absent Never)),
-        Some(row!(OpIdiv Word ModRm Absent Absent Never)),
-    ],
+    sums!(Byte ImmByte), // 0: 80
+    sums!(Word ImmWord), // 1: 81
+    sums!(Word ImmSigned), // 2: 83
+    only!(OpPop Word Absent), // 3: 8F
+    shifts!(Byte ImmByte), // 4: C0
+    shifts!(Word ImmByte), // 5: C1
+    shifts!(Byte Constant(1)), // 6: D0
+    shifts!(Word Constant(1)), // 7: D1
+    shifts!(Byte FixedByte(1)), // 8: D2
+    shifts!(Word FixedByte(1)), // 9: D3
+    only!(OpMov Byte ImmByte), // 10: C6
+    only!(OpMov Word ImmWord), // 11: C7
+    units!(Byte ImmByte), // 12: F6
+    units!(Word ImmWord), // 13: F7
+    // 14: FE
     [
         Some(row!(OpInc Byte ModRm Absent Absent Never)),
         Some(row!(OpDec Byte ModRm Absent Absent Never)),
@@ -433,6 +364,7 @@ pub static GROUPS: [[Option<Row>; 8]; 18] = [
         None,
         None,
     ],
+    // 15: FF
     [
         Some(row!(OpInc Word ModRm Absent Absent Never)),
         Some(row!(OpDec Word ModRm Absent Absent Never)),
@@ -443,6 +375,7 @@ pub static GROUPS: [[Option<Row>; 8]; 18] = [
         Some(row!(OpPush Word ModRm Absent Absent Never)),
         None,
     ],
+    // 16: 0F 00
     [
         Some(row!(OpSldt Word ModRm Absent Absent Never)),
         Some(row!(OpStr Word ModRm Absent Absent Never)),
@@ -453,6 +386,7 @@ pub static GROUPS: [[Option<Row>; 8]; 18] = [
         None,
         None,
     ],
+    // 17: 0F 01
     [
         Some(row!(OpSgdt Word Memory Absent Absent Never)),
         Some(row!(OpSidt Word Memory Absent Absent Never)),

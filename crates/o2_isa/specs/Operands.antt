@@ -1,5 +1,5 @@
 -- Operands of a row, from its prefixes, its ModRM byte and the bytes after that.
-use Rattle.std.specs.Prelude.{ℕ, ◌+◌, ◌*◌, ◌/◌, ◌%◌, Bool, true, not, ◌&&◌, ◌||◌, ◌==◌, nat_lt, if◌then◌else◌, List, slice_index, unwrap_or}
+use Rattle.std.specs.Prelude.{ℕ, ◌+◌, ◌*◌, ◌/◌, ◌%◌, Bool, true, false, not, ◌&&◌, ◌||◌, ◌==◌, nat_lt, if◌then◌else◌, List, slice_index, unwrap_or}
 use Rattle.o2_isa.specs.declared.rows.Row.{Row}
 use Rattle.o2_isa.specs.declared.instr.Ea.{Ea}
 use Rattle.o2_isa.specs.declared.instr.Arg.{Arg}
@@ -10,7 +10,7 @@ use Rattle.o2_isa.specs.declared.rows.Prefixes.{Prefixes}
 use Rattle.o2_isa.specs.declared.instr.Width.{Width}
 use Rattle.o2_isa.specs.declared.instr.Width.TheVariants.{Byte, Word}
 use Rattle.o2_isa.specs.declared.rows.Slot.{Slot}
-use Rattle.o2_isa.specs.declared.rows.Slot.TheVariants.{Absent, ModRm, Memory, Register, Segment, SegmentNotCs, Fixed, FixedByte, FixedWord, FixedSegment, ImmByte, ImmWord, ImmSigned, FarImm, Offset, Constant}
+use Rattle.o2_isa.specs.declared.rows.Slot.TheVariants.{Absent, ModRm, Memory, Register, Segment, SegmentNotCs, Fixed, FixedByte, FixedWord, FixedSegment, ImmByte, ImmWord, ImmSigned, FarImm, Offset, Constant, Source}
 use Rattle.o2_isa.specs.declared.rows.Repeat.{Repeat}
 use Rattle.o2_isa.specs.declared.rows.Repeat.TheVariants.{Never, Always, WhileZero}
 use Rattle.o2_isa.specs.declared.instr.Rep.{Rep}
@@ -100,6 +100,15 @@ arg_of ImmSigned w p plan t k = arg.Imm (sign_extended (slice_index t k))
 arg_of FarImm w p plan t k = arg.Far (word_at t k) (word_at t (k + 2))
 arg_of Offset w p plan t k = arg.M (record { base = 8; disp = word_at t k; seg = unwrap_or p.seg Ds })
 arg_of (Constant n) w p plan t k = arg.Imm n
+arg_of Source w p plan t k = arg.No
+
+abbrev pub is_source : Slot → Bool
+is_source Source = true
+is_source _ = false
+
+-- the segment of a source that isn't written as an operand
+abbrev pub source_segment : Prefixes → Row → Sreg
+source_segment p row = if is_source row.left || is_source row.right then unwrap_or p.seg Ds else Ds
 
 -- a repeat prefix counts only on string instructions, and is one thing on some of them
 abbrev pub rep_of : Repeat → Rep → Rep
@@ -116,7 +125,7 @@ instr_of p plan t = record {
   left = arg_of plan.row.left plan.row.width p plan t plan.disp;
   right = arg_of plan.row.right plan.row.width p plan t (plan.disp + imm_len plan.row.left);
   third = arg_of plan.row.third plan.row.width p plan t (plan.disp + imm_len plan.row.left + imm_len plan.row.right);
-  seg = unwrap_or p.seg Ds;
+  seg = source_segment p plan.row;
   rep = rep_of plan.row.repeat p.rep;
   lock = p.lock;
 }

@@ -51,12 +51,6 @@ limited len (One i n) = One i n
 limited len Invalid = Invalid
 limited len TooLong = TooLong
 
--- a head has at most 3 bytes, and asks for a displacement of at most 2
-abbrev pub IsShort : Head → Type 0
-IsShort More = Unit {0}
-IsShort Bad = Unit {0}
-IsShort (Whole plan n) = (plan.disp ≤ 2) × (n ≤ 3)
-
 -- an instruction lies in the bytes
 abbrev pub IsWithin : Decoded → ℕ → Type 0
 IsWithin (One i n) len = n ≤ len

@@ -1,5 +1,5 @@
 -- Which bytes spell which instruction: prefixes, then a head that the table knows, then as many bytes as the head asks for.
-use Rattle.std.specs.Prelude.{◌≡◌, ℕ, ◌<◌, Bool, true, false, ◌||◌, ◌==◌, if◌then◌else◌, List, [], ◌∷◌, ◌++◌, length, slice_index_or, Option, Some, None}
+use Rattle.std.specs.Prelude.{◌≡◌, ℕ, ◌<◌, ◌≤◌, Bool, true, false, ◌||◌, ◌==◌, if◌then◌else◌, List, [], ◌∷◌, ◌++◌, length, take, slice_index_or, Option, Some, None}
 use Rattle.std.specs.List.{AllByRecursion}
 use Rattle.o2_isa.specs.declared.rows.Entry.{Entry}
 use Rattle.o2_isa.specs.declared.rows.Entry.TheVariants.{Unused, Bare, Modrm, Group}
@@ -73,9 +73,18 @@ pub record SpellsAfter (p : Prefixes) (bytes : List ℕ) (i : Instr) : Type 0 wh
 abbrev pub Spells : List ℕ → Instr → Type 0
 Spells bytes i = SpellsAfter no_prefixes bytes i
 
--- the bytes are a proper front of a spelling
+abbrev pub IsByte : ℕ → Type 0
+IsByte b = b < 256
+
+-- the bytes are a proper front of a spelling: with some more bytes they spell an instruction
 pub record IsFront (bytes : List ℕ) : Type 0 where
   pub more : List ℕ
   pub some_more : 0 < length more
+  pub each : AllByRecursion IsByte more
   pub instr : Instr
   pub spells : Spells (bytes ++ more) instr
+
+-- no instruction begins with the bytes, and they begin none
+pub record IsUndefined (bytes : List ℕ) : Type 0 where
+  pub no_instruction : (i : Instr) (n : ℕ) → n ≤ length bytes → Spells (take n bytes) i → ⊥
+  pub no_front : IsFront bytes → ⊥

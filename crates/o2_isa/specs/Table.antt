@@ -1,3 +1,4 @@
+-- The opcodes of the 80286, as the Intel 80286 Programmer's Reference Manual has them.
 use Rattle.std.specs.Prelude.{List, [], ◌∷◌, Option, Some, None}
 use Rattle.o2_isa.specs.declared.rows.Entry.{Entry}
 use Rattle.o2_isa.specs.declared.rows.Entry.TheVariants.{Unused, Bare, Modrm, Group}
@@ -7,14 +8,17 @@ use Rattle.o2_isa.specs.declared.instr.Op.TheVariants.{OpAdd, OpOr, OpAdc, OpSbb
 use Rattle.o2_isa.specs.declared.instr.Width.{Width}
 use Rattle.o2_isa.specs.declared.instr.Width.TheVariants.{Byte, Word}
 use Rattle.o2_isa.specs.declared.rows.Slot.{Slot}
-use Rattle.o2_isa.specs.declared.rows.Slot.TheVariants.{Absent, ModRm, Memory, Register, Segment, SegmentNotCs, Fixed, FixedByte, FixedWord, FixedSegment, ImmByte, ImmWord, ImmSigned, FarImm, Offset, Constant}
+use Rattle.o2_isa.specs.declared.rows.Slot.TheVariants.{Absent, ModRm, Memory, Register, Segment, SegmentNotCs, Fixed, FixedByte, FixedWord, FixedSegment, ImmByte, ImmWord, ImmSigned, FarImm, Offset, Constant, Source}
 use Rattle.o2_isa.specs.declared.rows.Repeat.{Repeat}
 use Rattle.o2_isa.specs.declared.rows.Repeat.TheVariants.{Never, Always, WhileZero}
 use Rattle.o2_isa.specs.declared.instr.Sreg.TheVariants.{Es, Cs, Ss, Ds}
 
+-- an instruction: its mnemonic, its width, its operands, and what a repeat prefix does
 abbrev pub row : Op → Width → Slot → Slot → Slot → Repeat → Row
 row o w l r t p = record { op = o; width = w; left = l; right = r; third = t; repeat = p }
 
+-- The opcodes of one byte, from 00. A prefix is no instruction, and behind 0F comes an opcode's second byte.
+-- 82, D6 and F1, to which the manual gives no meaning, are no instructions either.
 unfoldable pub table : List Entry
 table =
     Modrm (row OpAdd Byte ModRm Register Absent Never) ∷  -- 00
@@ -125,10 +129,10 @@ table =
     Modrm (row OpImulThree Word Register ModRm ImmWord Never) ∷  -- 69
     Bare (row OpPush Word ImmSigned Absent Absent Never) ∷  -- 6A
     Modrm (row OpImulThree Word Register ModRm ImmSigned Never) ∷  -- 6B
-    Bare (row OpIns Byte Absent Absent Absent Never) ∷  -- 6C
-    Bare (row OpIns Word Absent Absent Absent Never) ∷  -- 6D
-    Bare (row OpOuts Byte Absent Absent Absent Never) ∷  -- 6E
-    Bare (row OpOuts Word Absent Absent Absent Never) ∷  -- 6F
+    Bare (row OpIns Byte Absent Absent Absent Always) ∷  -- 6C
+    Bare (row OpIns Word Absent Absent Absent Always) ∷  -- 6D
+    Bare (row OpOuts Byte Absent Source Absent Always) ∷  -- 6E
+    Bare (row OpOuts Word Absent Source Absent Always) ∷  -- 6F
     Bare (row OpJo Word ImmSigned Absent Absent Never) ∷  -- 70
     Bare (row OpJno Word ImmSigned Absent Absent Never) ∷  -- 71
     Bare (row OpJb Word ImmSigned Absent Absent Never) ∷  -- 72
@@ -181,16 +185,16 @@ table =
     Bare (row OpMov Word (Fixed 0) Offset Absent Never) ∷  -- A1
     Bare (row OpMov Byte Offset (Fixed 0) Absent Never) ∷  -- A2
     Bare (row OpMov Word Offset (Fixed 0) Absent Never) ∷  -- A3
-    Bare (row OpMovs Byte Absent Absent Absent Always) ∷  -- A4
-    Bare (row OpMovs Word Absent Absent Absent Always) ∷  -- A5
-    Bare (row OpCmps Byte Absent Absent Absent WhileZero) ∷  -- A6
-    Bare (row OpCmps Word Absent Absent Absent WhileZero) ∷  -- A7
+    Bare (row OpMovs Byte Absent Source Absent Always) ∷  -- A4
+    Bare (row OpMovs Word Absent Source Absent Always) ∷  -- A5
+    Bare (row OpCmps Byte Source Absent Absent WhileZero) ∷  -- A6
+    Bare (row OpCmps Word Source Absent Absent WhileZero) ∷  -- A7
     Bare (row OpTest Byte (Fixed 0) ImmByte Absent Never) ∷  -- A8
     Bare (row OpTest Word (Fixed 0) ImmWord Absent Never) ∷  -- A9
     Bare (row OpStos Byte Absent Absent Absent Always) ∷  -- AA
     Bare (row OpStos Word Absent Absent Absent Always) ∷  -- AB
-    Bare (row OpLods Byte Absent Absent Absent Always) ∷  -- AC
-    Bare (row OpLods Word Absent Absent Absent Always) ∷  -- AD
+    Bare (row OpLods Byte Absent Source Absent Always) ∷  -- AC
+    Bare (row OpLods Word Absent Source Absent Always) ∷  -- AD
     Bare (row OpScas Byte Absent Absent Absent WhileZero) ∷  -- AE
     Bare (row OpScas Word Absent Absent Absent WhileZero) ∷  -- AF
     Bare (row OpMov Byte (Fixed 0) ImmByte Absent Never) ∷  -- B0
@@ -229,10 +233,10 @@ table =
     Group 7 ∷  -- D1
     Group 8 ∷  -- D2
     Group 9 ∷  -- D3
-    Bare (row OpAam Byte ImmByte Absent Absent Never) ∷  -- D4
-    Bare (row OpAad Byte ImmByte Absent Absent Never) ∷  -- D5
+    Bare (row OpAam Word ImmByte Absent Absent Never) ∷  -- D4
+    Bare (row OpAad Word ImmByte Absent Absent Never) ∷  -- D5
     Unused ∷  -- D6
-    Bare (row OpXlat Byte Absent Absent Absent Never) ∷  -- D7
+    Bare (row OpXlat Byte Absent Source Absent Never) ∷  -- D7
     Modrm (row OpEsc Word ModRm Absent Absent Never) ∷  -- D8
     Modrm (row OpEsc Word ModRm Absent Absent Never) ∷  -- D9
     Modrm (row OpEsc Word ModRm Absent Absent Never) ∷  -- DA
@@ -275,35 +279,96 @@ table =
     Group 15 ∷  -- FF
     []
 
+-- the second bytes of the opcodes that begin with 0F; those behind the last are no instructions
 unfoldable pub table_0f : List Entry
 table_0f =
-    Group 16 ∷
-    Group 17 ∷
-    Modrm (row OpLar Word Register ModRm Absent Never) ∷
-    Modrm (row OpLsl Word Register ModRm Absent Never) ∷
-    Unused ∷
-    Unused ∷
-    Bare (row OpClts Word Absent Absent Absent Never) ∷
+    Group 16 ∷  -- 0F 00
+    Group 17 ∷  -- 0F 01
+    Modrm (row OpLar Word Register ModRm Absent Never) ∷  -- 0F 02
+    Modrm (row OpLsl Word Register ModRm Absent Never) ∷  -- 0F 03
+    Unused ∷  -- 0F 04
+    Unused ∷  -- 0F 05
+    Bare (row OpClts Word Absent Absent Absent Never) ∷  -- 0F 06
     []
 
+-- eight mnemonics that take the same operands
+abbrev sums : (Op → Row) → List (Option Row)
+sums f = Some (f OpAdd) ∷ Some (f OpOr) ∷ Some (f OpAdc) ∷ Some (f OpSbb) ∷ Some (f OpAnd) ∷ Some (f OpSub) ∷ Some (f OpXor) ∷ Some (f OpCmp) ∷ []
+
+-- seven, of which the sixth has no number
+abbrev shifts : (Op → Row) → List (Option Row)
+shifts f = Some (f OpRol) ∷ Some (f OpRor) ∷ Some (f OpRcl) ∷ Some (f OpRcr) ∷ Some (f OpShl) ∷ Some (f OpShr) ∷ None ∷ Some (f OpSar) ∷ []
+
+-- TEST with its immediate operand, and the mnemonics of one operand
+abbrev units : Row → (Op → Row) → List (Option Row)
+units test f = Some test ∷ None ∷ Some (f OpNot) ∷ Some (f OpNeg) ∷ Some (f OpMul) ∷ Some (f OpImul) ∷ Some (f OpDiv) ∷ Some (f OpIdiv) ∷ []
+
+abbrev only : Row → List (Option Row)
+only r = Some r ∷ None ∷ None ∷ None ∷ None ∷ None ∷ None ∷ None ∷ []
+
+-- FE
+abbrev incs : List (Option Row)
+incs =
+    Some (row OpInc Byte ModRm Absent Absent Never) ∷  -- /0
+    Some (row OpDec Byte ModRm Absent Absent Never) ∷  -- /1
+    None ∷ None ∷ None ∷ None ∷ None ∷ None ∷ []
+
+-- FF
+abbrev transfers : List (Option Row)
+transfers =
+    Some (row OpInc Word ModRm Absent Absent Never) ∷  -- /0
+    Some (row OpDec Word ModRm Absent Absent Never) ∷  -- /1
+    Some (row OpCallAt Word ModRm Absent Absent Never) ∷  -- /2
+    Some (row OpCallFarAt Word Memory Absent Absent Never) ∷  -- /3
+    Some (row OpJmpAt Word ModRm Absent Absent Never) ∷  -- /4
+    Some (row OpJmpFarAt Word Memory Absent Absent Never) ∷  -- /5
+    Some (row OpPush Word ModRm Absent Absent Never) ∷  -- /6
+    None ∷  -- /7
+    []
+
+-- 0F 00
+abbrev tables : List (Option Row)
+tables =
+    Some (row OpSldt Word ModRm Absent Absent Never) ∷  -- /0
+    Some (row OpStr Word ModRm Absent Absent Never) ∷  -- /1
+    Some (row OpLldt Word ModRm Absent Absent Never) ∷  -- /2
+    Some (row OpLtr Word ModRm Absent Absent Never) ∷  -- /3
+    Some (row OpVerr Word ModRm Absent Absent Never) ∷  -- /4
+    Some (row OpVerw Word ModRm Absent Absent Never) ∷  -- /5
+    None ∷ None ∷ []
+
+-- 0F 01
+abbrev registers : List (Option Row)
+registers =
+    Some (row OpSgdt Word Memory Absent Absent Never) ∷  -- /0
+    Some (row OpSidt Word Memory Absent Absent Never) ∷  -- /1
+    Some (row OpLgdt Word Memory Absent Absent Never) ∷  -- /2
+    Some (row OpLidt Word Memory Absent Absent Never) ∷  -- /3
+    Some (row OpSmsw Word ModRm Absent Absent Never) ∷  -- /4
+    None ∷  -- /5
+    Some (row OpLmsw Word ModRm Absent Absent Never) ∷  -- /6
+    None ∷  -- /7
+    []
+
+-- The groups by number, each with its rows by reg of the ModRM byte, from /0 to /7.
 unfoldable pub groups : List (List (Option Row))
 groups =
-    (Some (row OpAdd Byte ModRm ImmByte Absent Never) ∷ Some (row OpOr Byte ModRm ImmByte Absent Never) ∷ Some (row OpAdc Byte ModRm ImmByte Absent Never) ∷ Some (row OpSbb Byte ModRm ImmByte Absent Never) ∷ Some (row OpAnd Byte ModRm ImmByte Absent Never) ∷ Some (row OpSub Byte ModRm ImmByte Absent Never) ∷ Some (row OpXor Byte ModRm ImmByte Absent Never) ∷ Some (row OpCmp Byte ModRm ImmByte Absent Never) ∷ []) ∷
-    (Some (row OpAdd Word ModRm ImmWord Absent Never) ∷ Some (row OpOr Word ModRm ImmWord Absent Never) ∷ Some (row OpAdc Word ModRm ImmWord Absent Never) ∷ Some (row OpSbb Word ModRm ImmWord Absent Never) ∷ Some (row OpAnd Word ModRm ImmWord Absent Never) ∷ Some (row OpSub Word ModRm ImmWord Absent Never) ∷ Some (row OpXor Word ModRm ImmWord Absent Never) ∷ Some (row OpCmp Word ModRm ImmWord Absent Never) ∷ []) ∷
-    (Some (row OpAdd Word ModRm ImmSigned Absent Never) ∷ Some (row OpOr Word ModRm ImmSigned Absent Never) ∷ Some (row OpAdc Word ModRm ImmSigned Absent Never) ∷ Some (row OpSbb Word ModRm ImmSigned Absent Never) ∷ Some (row OpAnd Word ModRm ImmSigned Absent Never) ∷ Some (row OpSub Word ModRm ImmSigned Absent Never) ∷ Some (row OpXor Word ModRm ImmSigned Absent Never) ∷ Some (row OpCmp Word ModRm ImmSigned Absent Never) ∷ []) ∷
-    (Some (row OpPop Word ModRm Absent Absent Never) ∷ None ∷ None ∷ None ∷ None ∷ None ∷ None ∷ None ∷ []) ∷
-    (Some (row OpRol Byte ModRm ImmByte Absent Never) ∷ Some (row OpRor Byte ModRm ImmByte Absent Never) ∷ Some (row OpRcl Byte ModRm ImmByte Absent Never) ∷ Some (row OpRcr Byte ModRm ImmByte Absent Never) ∷ Some (row OpShl Byte ModRm ImmByte Absent Never) ∷ Some (row OpShr Byte ModRm ImmByte Absent Never) ∷ None ∷ Some (row OpSar Byte ModRm ImmByte Absent Never) ∷ []) ∷
-    (Some (row OpRol Word ModRm ImmByte Absent Never) ∷ Some (row OpRor Word ModRm ImmByte Absent Never) ∷ Some (row OpRcl Word ModRm ImmByte Absent Never) ∷ Some (row OpRcr Word ModRm ImmByte Absent Never) ∷ Some (row OpShl Word ModRm ImmByte Absent Never) ∷ Some (row OpShr Word ModRm ImmByte Absent Never) ∷ None ∷ Some (row OpSar Word ModRm ImmByte Absent Never) ∷ []) ∷
-    (Some (row OpRol Byte ModRm (Constant 1) Absent Never) ∷ Some (row OpRor Byte ModRm (Constant 1) Absent Never) ∷ Some (row OpRcl Byte ModRm (Constant 1) Absent Never) ∷ Some (row OpRcr Byte ModRm (Constant 1) Absent Never) ∷ Some (row OpShl Byte ModRm (Constant 1) Absent Never) ∷ Some (row OpShr Byte ModRm (Constant 1) Absent Never) ∷ None ∷ Some (row OpSar Byte ModRm (Constant 1) Absent Never) ∷ []) ∷
-    (Some (row OpRol Word ModRm (Constant 1) Absent Never) ∷ Some (row OpRor Word ModRm (Constant 1) Absent Never) ∷ Some (row OpRcl Word ModRm (Constant 1) Absent Never) ∷ Some (row OpRcr Word ModRm (Constant 1) Absent Never) ∷ Some (row OpShl Word ModRm (Constant 1) Absent Never) ∷ Some (row OpShr Word ModRm (Constant 1) Absent Never) ∷ None ∷ Some (row OpSar Word ModRm (Constant 1) Absent Never) ∷ []) ∷
-    (Some (row OpRol Byte ModRm (FixedByte 1) Absent Never) ∷ Some (row OpRor Byte ModRm (FixedByte 1) Absent Never) ∷ Some (row OpRcl Byte ModRm (FixedByte 1) Absent Never) ∷ Some (row OpRcr Byte ModRm (FixedByte 1) Absent Never) ∷ Some (row OpShl Byte ModRm (FixedByte 1) Absent Never) ∷ Some (row OpShr Byte ModRm (FixedByte 1) Absent Never) ∷ None ∷ Some (row OpSar Byte ModRm (FixedByte 1) Absent Never) ∷ []) ∷
-    (Some (row OpRol Word ModRm (FixedByte 1) Absent Never) ∷ Some (row OpRor Word ModRm (FixedByte 1) Absent Never) ∷ Some (row OpRcl Word ModRm (FixedByte 1) Absent Never) ∷ Some (row OpRcr Word ModRm (FixedByte 1) Absent Never) ∷ Some (row OpShl Word ModRm (FixedByte 1) Absent Never) ∷ Some (row OpShr Word ModRm (FixedByte 1) Absent Never) ∷ None ∷ Some (row OpSar Word ModRm (FixedByte 1) Absent Never) ∷ []) ∷
-    (Some (row OpMov Byte ModRm ImmByte Absent Never) ∷ None ∷ None ∷ None ∷ None ∷ None ∷ None ∷ None ∷ []) ∷
-    (Some (row OpMov Word ModRm ImmWord Absent Never) ∷ None ∷ None ∷ None ∷ None ∷ None ∷ None ∷ None ∷ []) ∷
-    (Some (row OpTest Byte ModRm ImmByte Absent Never) ∷ None ∷ Some (row OpNot Byte ModRm Absent Absent Never) ∷ Some (row OpNeg Byte ModRm Absent Absent Never) ∷ Some (row OpMul Byte ModRm Absent Absent Never) ∷ Some (row OpImul Byte ModRm Absent Absent Never) ∷ Some (row OpDiv Byte ModRm Absent Absent Never) ∷ Some (row OpIdiv Byte ModRm Absent Absent Never) ∷ []) ∷
-    (Some (row OpTest Word ModRm ImmWord Absent Never) ∷ None ∷ Some (row OpNot Word ModRm Absent Absent Never) ∷ Some (row OpNeg Word ModRm Absent Absent Never) ∷ Some (row OpMul Word ModRm Absent Absent Never) ∷ Some (row OpImul Word ModRm Absent Absent Never) ∷ Some (row OpDiv Word ModRm Absent Absent Never) ∷ Some (row OpIdiv Word ModRm Absent Absent Never) ∷ []) ∷
-    (Some (row OpInc Byte ModRm Absent Absent Never) ∷ Some (row OpDec Byte ModRm Absent Absent Never) ∷ None ∷ None ∷ None ∷ None ∷ None ∷ None ∷ []) ∷
-    (Some (row OpInc Word ModRm Absent Absent Never) ∷ Some (row OpDec Word ModRm Absent Absent Never) ∷ Some (row OpCallAt Word ModRm Absent Absent Never) ∷ Some (row OpCallFarAt Word Memory Absent Absent Never) ∷ Some (row OpJmpAt Word ModRm Absent Absent Never) ∷ Some (row OpJmpFarAt Word Memory Absent Absent Never) ∷ Some (row OpPush Word ModRm Absent Absent Never) ∷ None ∷ []) ∷
-    (Some (row OpSldt Word ModRm Absent Absent Never) ∷ Some (row OpStr Word ModRm Absent Absent Never) ∷ Some (row OpLldt Word ModRm Absent Absent Never) ∷ Some (row OpLtr Word ModRm Absent Absent Never) ∷ Some (row OpVerr Word ModRm Absent Absent Never) ∷ Some (row OpVerw Word ModRm Absent Absent Never) ∷ None ∷ None ∷ []) ∷
-    (Some (row OpSgdt Word Memory Absent Absent Never) ∷ Some (row OpSidt Word Memory Absent Absent Never) ∷ Some (row OpLgdt Word Memory Absent Absent Never) ∷ Some (row OpLidt Word Memory Absent Absent Never) ∷ Some (row OpSmsw Word ModRm Absent Absent Never) ∷ None ∷ Some (row OpLmsw Word ModRm Absent Absent Never) ∷ None ∷ []) ∷
+    sums (λ op. row op Byte ModRm ImmByte Absent Never) ∷  -- 0: 80
+    sums (λ op. row op Word ModRm ImmWord Absent Never) ∷  -- 1: 81
+    sums (λ op. row op Word ModRm ImmSigned Absent Never) ∷  -- 2: 83
+    only (row OpPop Word ModRm Absent Absent Never) ∷  -- 3: 8F
+    shifts (λ op. row op Byte ModRm ImmByte Absent Never) ∷  -- 4: C0
+    shifts (λ op. row op Word ModRm ImmByte Absent Never) ∷  -- 5: C1
+    shifts (λ op. row op Byte ModRm (Constant 1) Absent Never) ∷  -- 6: D0
+    shifts (λ op. row op Word ModRm (Constant 1) Absent Never) ∷  -- 7: D1
+    shifts (λ op. row op Byte ModRm (FixedByte 1) Absent Never) ∷  -- 8: D2
+    shifts (λ op. row op Word ModRm (FixedByte 1) Absent Never) ∷  -- 9: D3
+    only (row OpMov Byte ModRm ImmByte Absent Never) ∷  -- 10: C6
+    only (row OpMov Word ModRm ImmWord Absent Never) ∷  -- 11: C7
+    units (row OpTest Byte ModRm ImmByte Absent Never) (λ op. row op Byte ModRm Absent Absent Never) ∷  -- 12: F6
+    units (row OpTest Word ModRm ImmWord Absent Never) (λ op. row op Word ModRm Absent Absent Never) ∷  -- 13: F7
+    incs ∷  -- 14: FE
+    transfers ∷  -- 15: FF
+    tables ∷  -- 16: 0F 00
+    registers ∷  -- 17: 0F 01
     []

@@ -1,5 +1,5 @@
 use Rattle.std.proofs.Common.{◌∙◌}
-use Rattle.o2_decode.proofs.Laws.{decoded_law, one_law, need_law, long_law, within_law}
+use Rattle.o2_decode.proofs.Laws.{decoded_law, one_law, need_law, long_law, invalid_law, within_law}
 use Rattle.o2_decode.proofs.reading.decode.Goals as goal
 
 pub returns-clause-is : goal.returns-clause-is
@@ -16,3 +16,6 @@ returns-clause-too_long c = rw c.limited_bytes.ensures (long_law _ _)
 
 pub returns-clause-within : goal.returns-clause-within
 returns-clause-within c = within_law _ _ _ c.limited_bytes.ensures
+
+pub returns-clause-invalid : goal.returns-clause-invalid
+returns-clause-invalid c = rw c.limited_bytes.ensures (invalid_law _ _)
