@@ -33,12 +33,7 @@ pub fn room<B: Bus>(bus: &B, reg: Sreg, off: u16, width: Width) -> Result<(), St
 }
 
 /// The load rules and the present test, as a check. `next` is the IP to which a service returns.
-pub fn check_load<B: Bus>(
-    bus: &mut B,
-    purpose: Purpose,
-    sel: u16,
-    next: u16,
-) -> Result<(), Stop>
+pub fn check_load<B: Bus>(bus: &mut B, purpose: Purpose, sel: u16, next: u16) -> Result<(), Stop>
     ensures check { SameCheck result (passed next (probe_of (B.view bus.old) purpose (selector sel))) }
     ensures loadable { OnOk result (is_loadable (B.view bus.old) (selector sel) ≡ true) }
     ensures same { B.view bus.new ≡ B.view bus.old }

@@ -31,11 +31,7 @@ pub struct PlainBus<'p> {
 fn bound(plain: &Plain, pid: u16, sel: u16) -> Option<Grant>
     ensures { option_map hold_of result ≡ bound_in (held_in plain.now pid) sel }
 {
-    if sel < 4 {
-        None
-    } else {
-        plain.found(pid, sel)
-    }
+    if sel < 4 { None } else { plain.found(pid, sel) }
 }
 
 fn holds_of(plain: &Plain, pid: u16, cpu: &Cpu) -> Holds

@@ -23,12 +23,7 @@ fn execute_one<B: Bus>(cpu: &mut Cpu, bus: &mut B, i: &Instr, next: u16) -> Resu
 }
 
 #[tactic(auto, unfolding(o2_isa::specs::Meaning::meaning, o2_isa::specs::Meaning::steps_of))]
-fn execute_unlocked<B: Bus>(
-    cpu: &mut Cpu,
-    bus: &mut B,
-    i: &Instr,
-    next: u16,
-) -> Result<(), Stop>
+fn execute_unlocked<B: Bus>(cpu: &mut Cpu, bus: &mut B, i: &Instr, next: u16) -> Result<(), Stop>
     requires group { group_of i.now.op ≡ Data }
     ensures { Gives result (state cpu.new (B.view bus.new)) (state cpu.old (B.view bus.old)) (meaning (state cpu.old (B.view bus.old)) i.now next) }
 {

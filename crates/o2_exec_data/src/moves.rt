@@ -35,12 +35,7 @@ fn execute_mov_sreg<B: Bus>(
 }
 
 #[tactic(auto, using(o2_isa::proofs::Runs::run_valued, o2_isa::proofs::Runs::run_storing), unfolding(o2_isa::specs::DataRows::mov_into))]
-fn execute_mov_into<B: Bus>(
-    cpu: &mut Cpu,
-    bus: &mut B,
-    i: &Instr,
-    next: u16,
-) -> Result<(), Stop>
+fn execute_mov_into<B: Bus>(cpu: &mut Cpu, bus: &mut B, i: &Instr, next: u16) -> Result<(), Stop>
     ensures { Gives result (state cpu.new (B.view bus.new)) (state cpu.old (B.view bus.old)) (run (mov_into cpu.old i.now next) (B.view bus.old)) }
 {
     let x = value(cpu, bus, i.width, &i.right)?;

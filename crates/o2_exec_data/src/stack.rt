@@ -8,12 +8,7 @@ use o2_bus::{Bus, check_load, read, room, set_segment_register, store, value};
 use o2_isa::{Arg, Cpu, Selector, Sreg, Stop, Width};
 
 #[tactic(auto, using(o2_isa::proofs::Runs::run_valued), unfolding(o2_isa::specs::DataRows::push))]
-pub fn execute_push<B: Bus>(
-    cpu: &mut Cpu,
-    bus: &mut B,
-    arg: &Arg,
-    next: u16,
-) -> Result<(), Stop>
+pub fn execute_push<B: Bus>(cpu: &mut Cpu, bus: &mut B, arg: &Arg, next: u16) -> Result<(), Stop>
     ensures { Gives result (state cpu.new (B.view bus.new)) (state cpu.old (B.view bus.old)) (run (push cpu.old arg.now next) (B.view bus.old)) }
 {
     let x = value(cpu, bus, Width::Word, arg)?;
@@ -26,12 +21,7 @@ pub fn execute_push<B: Bus>(
 }
 
 #[tactic(auto, unfolding(o2_isa::specs::DataRows::pop_sreg, o2_isa::specs::DataRows::loading))]
-fn execute_pop_sreg<B: Bus>(
-    cpu: &mut Cpu,
-    bus: &mut B,
-    reg: Sreg,
-    next: u16,
-) -> Result<(), Stop>
+fn execute_pop_sreg<B: Bus>(cpu: &mut Cpu, bus: &mut B, reg: Sreg, next: u16) -> Result<(), Stop>
     ensures { Gives result (state cpu.new (B.view bus.new)) (state cpu.old (B.view bus.old)) (run (pop_sreg cpu.old reg next) (B.view bus.old)) }
 {
     let x = read(bus, Sreg::Ss, cpu.sp, Width::Word)?;
@@ -44,12 +34,7 @@ fn execute_pop_sreg<B: Bus>(
 }
 
 #[tactic(auto, using(o2_isa::proofs::Runs::run_storing), unfolding(o2_isa::specs::DataRows::pop_into))]
-fn execute_pop_into<B: Bus>(
-    cpu: &mut Cpu,
-    bus: &mut B,
-    arg: &Arg,
-    next: u16,
-) -> Result<(), Stop>
+fn execute_pop_into<B: Bus>(cpu: &mut Cpu, bus: &mut B, arg: &Arg, next: u16) -> Result<(), Stop>
     ensures { Gives result (state cpu.new (B.view bus.new)) (state cpu.old (B.view bus.old)) (run (pop_into cpu.old arg.now next) (B.view bus.old)) }
 {
     let x = read(bus, Sreg::Ss, cpu.sp, Width::Word)?;

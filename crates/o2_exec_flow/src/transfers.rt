@@ -28,12 +28,7 @@ pub fn far_of(arg: &Arg) -> (u16, u16)
 }
 
 #[tactic(auto, using(o2_isa::proofs::Runs::run_within), unfolding(o2_isa::specs::FlowRows::jmp))]
-pub fn execute_jmp<B: Bus>(
-    cpu: &mut Cpu,
-    bus: &mut B,
-    distance: u16,
-    next: u16,
-) -> Result<(), Stop>
+pub fn execute_jmp<B: Bus>(cpu: &mut Cpu, bus: &mut B, distance: u16, next: u16) -> Result<(), Stop>
     ensures { Gives result (state cpu.new (B.view bus.new)) (state cpu.old (B.view bus.old)) (run (jmp cpu.old distance next) (B.view bus.old)) }
 {
     let ip = next.wrapping_add(distance);
