@@ -15,7 +15,7 @@ use Rattle.o2_bus.specs.declared.plain.Plain.{Plain}
 use Rattle.o2_bus.specs.declared.plain.Grant.{Grant}
 use Rattle.o2_bus.specs.declared.segment.Segment.{Segment}
 use Rattle.o2_bus.specs.declared.plain_bus.Holds.{Holds}
-use Rattle.o2_bus.specs.Plain.{hold_of, held_in, bytes_in, shown_in, segment_bytes, is_shown, registers_of, bus_view, PutsBytes}
+use Rattle.o2_bus.specs.Plain.{hold_of, held_in, bytes_in, shown_in, count_in, segment_bytes, is_shown, registers_of, bus_view, PutsBytes}
 
 get_set_same : (xs : List Segment) (i : ℕ) (x : Segment) → i < length xs → slice_get (set xs i x) i ≡ Some x
 get_set_same [] i x h = absurd (omega arith)
@@ -57,14 +57,14 @@ width_pos Word k n h = omega arith
 pub grant_within : (nm : GName) (p : Plain) (pid : ℕ) (h : Holds) (g : Grant) (r : Sreg) (k : ℕ) (w : Width) → Some (hold_of g) ≡ in_register (registers_of h) r → IsOk (room_of (bus_view nm p pid h) r k w) → g.name < length p.segments.items
 grant_within nm p pid h g r k w e room = name_within p.segments.items g.name k (width_pos w k _ (room_of_grant nm p pid h g r k w e room))
 
--- the view with other sizes, marks and bytes
-abbrev built : View → (ℕ → ℕ) → (ℕ → Bool) → (ℕ → List ℕ) → View
-built v s p b = record v { size = s; present = p; bytes = b }
+-- the view with other sizes, marks, bytes and number of names
+abbrev built : View → (ℕ → ℕ) → (ℕ → Bool) → (ℕ → List ℕ) → ℕ → View
+built v s p b m = record v { size = s; present = p; bytes = b; rest = record v.rest { most = m } }
 
-same_view : (v : View) (s t : ℕ → ℕ) (p q : ℕ → Bool) (b d : ℕ → List ℕ) → ((n : ℕ) → s n ≡ t n) → ((n : ℕ) → p n ≡ q n) → ((n : ℕ) → b n ≡ d n) → built v s p b ≡ built v t q d
-same_view v s t p q b d e f g =
-    ap (λ (z : ℕ → ℕ). built v z p b) (fun_ext e)
-    ∙ (ap (λ (z : ℕ → Bool). built v t z b) (fun_ext f) ∙ ap (λ (z : ℕ → List ℕ). built v t q z) (fun_ext g))
+same_view : (v : View) (s t : ℕ → ℕ) (p q : ℕ → Bool) (b d : ℕ → List ℕ) (m n : ℕ) → ((k : ℕ) → s k ≡ t k) → ((k : ℕ) → p k ≡ q k) → ((k : ℕ) → b k ≡ d k) → m ≡ n → built v s p b m ≡ built v t q d n
+same_view v s t p q b d m n e f g h =
+    ap (λ (z : ℕ → ℕ). built v z p b m) (fun_ext e)
+    ∙ (ap (λ (z : ℕ → Bool). built v t z b m) (fun_ext f) ∙ (ap (λ (z : ℕ → List ℕ). built v t q z m) (fun_ext g) ∙ ap (built v t q d) h))
 
 pub bytes_after : (xs ys : List Segment) (n : ℕ) (bs : List ℕ) → PutsBytes xs ys n bs → (m : ℕ) → segment_bytes (slice_get ys m) ≡ cond (m == n) bs (segment_bytes (slice_get xs m))
 bytes_after xs ys n bs h m = go (m == n) refl
@@ -81,12 +81,13 @@ size_after xs ys n bs h e m = go (m == n) refl
     go false t = ap (λ o. length (segment_bytes o)) (h.others m (λ q. false≢true (sym t ∙ eq-eqb m n q)))
 
 pub view_after : (nm : GName) (p q : Plain) (pid : ℕ) (h : Holds) (g : Grant) (r : Sreg) (k : ℕ) (w : Width) (x : ℕ) → Some (hold_of g) ≡ in_register (registers_of h) r → PutsBytes p.segments.items q.segments.items g.name (put_at (segment_bytes (slice_get p.segments.items g.name)) k w x) → bus_view nm (record p { segments = q.segments }) pid h ≡ poke (bus_view nm p pid h) r k w x
-unfolding bus_view held_in bytes_in shown_in poke
+unfolding bus_view held_in bytes_in shown_in count_in poke
 view_after nm p q pid h g r k w x e puts_it =
-    same_view (bus_view nm p pid h) _ _ _ _ _ _
+    same_view (bus_view nm p pid h) _ _ _ _ _ _ _ _
     (size_after _ _ _ _ puts_it (length_put_at (segment_bytes (slice_get p.segments.items g.name)) k w x))
     puts_it.same_shown
     (bytes_after _ _ _ _ puts_it)
+    puts_it.same_count
     ∙ ap (λ (o : Option Hold). poke_hold (bus_view nm p pid h) o k w x) e
 
 -- what has room has a hold

@@ -55,9 +55,9 @@ plain_view p pid c = simple_view (held_in p pid) (shown_in p) (bytes_in p) (boun
 abbrev pub registers_of : Holds → Registers
 registers_of h = record { es = option_map hold_of h.es; cs = option_map hold_of h.cs; ss = option_map hold_of h.ss; ds = option_map hold_of h.ds }
 
--- what a bus over it shows: the maps of all processes are a part that no step changes, and so is the reference
+-- what a bus over it shows: no step changes the maps of all processes, the number of names, or the reference
 unfoldable pub bus_view : GName → Plain → ℕ → Holds → View
-bus_view name p pid h = with_unseen (record no_rest { maps = held_in p }) (record no_hidden { store = Some name }) (simple_view (held_in p pid) (shown_in p) (bytes_in p) (registers_of h))
+bus_view name p pid h = with_unseen (record no_rest { maps = held_in p; most = count_in p }) (record no_hidden { store = Some name }) (simple_view (held_in p pid) (shown_in p) (bytes_in p) (registers_of h))
 
 abbrev pub view_in : PlainBus → View
 view_in b = bus_view b.plain.ghost_name b.plain.now b.pid b.holds

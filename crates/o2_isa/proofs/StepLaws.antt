@@ -15,6 +15,7 @@ use Rattle.o2_isa.specs.declared.cpu.Stop.TheVariants as stop
 use Rattle.o2_isa.specs.Reading.{decoded}
 use Rattle.o2_isa.specs.View.{Hold, Rest, Hidden, Filling, whole, KeepsFrame, IsBound, Agrees, present_or_none, fetched, hold_bytes}
 use Rattle.o2_isa.specs.Steps.{State, Steps, Gives, run}
+use Rattle.o2_isa.specs.Meaning.{meaning}
 use Rattle.o2_isa.specs.Presence.{whole_state, unseen, unseen_result, with_unseen, loaded_names, AsWhole, IsMissed, IsRow, is_in}
 use Rattle.o2_isa.specs.Step.{Answers, AsBoundless, seen, steps_at, step_steps, stepped, step_names, outcome_from, is_miss}
 use Rattle.o2_isa.proofs.Alike.{run_whole, run_missed, run_frame, run_unseen, run_agrees, few_loads, loaded_present}
@@ -127,3 +128,7 @@ unfolding stepped step_names
 stepped_present h o new old b a m n i =
     loaded_present h (step_steps old) old.view b (λ t e. not_missed o new old t a m e) n
     (subst (λ (p : Steps). is_in n (loaded_names p (whole h old.view)) ≡ true) (steps_whole h old b) i)
+
+pub decoded_one : (bs : List ℕ) (i : Instr) (n : ℕ) (o : Outcome) (new old : State) → bs ≡ seen old → One i n ≡ decoded bs → Answers o new old (meaning old i ((old.cpu.ip + n) % 65536)) → Answers o new old (stepped old)
+unfolding meaning
+decoded_one bs i n o new old e is a = decoded_step bs (One i n) o new old e is a

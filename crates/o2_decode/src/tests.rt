@@ -1,0 +1,73 @@
+mod cases;
+mod map;
+
+use crate::decode;
+use cases::CASES;
+use map::{Reading, expected};
+use o2_isa::Decoded;
+
+// Each instruction is read from its bytes, and wants the last of them.
+#[test]
+fn reads_instructions(rt: HostRuntime) {
+    for ((bytes, length), instr) in &CASES {
+        assert!(rt; 0 < *length && *length <= 10);
+        assert_eq!(rt;
+            decode(bytes),
+            Decoded::One(*instr, *length as u8),
+            "{bytes:?}"
+        );
+        assert_eq!(rt; decode(&bytes[..*length - 1]), Decoded::Need, "{bytes:?}");
+    }
+}
+
+// What is wanted and what is refused, by the bytes alone.
+#[test]
+fn reads_fronts(rt: HostRuntime) {
+    let cases: [(&[u8], Decoded); 12] = [
+        (&[], Decoded::Need),
+        (&[0x82, 0xC0, 0x01], Decoded::Invalid),
+        (&[0xFF, 0xF8], Decoded::Invalid),
+        (&[0xF0, 0x82], Decoded::Invalid),
+        (&[0x0F], Decoded::Need),
+        (&[0x0F, 0x05], Decoded::Invalid),
+        (&[0x69, 0x06, 0x34, 0x12], Decoded::Need),
+        (&[0x8E, 0xC8], Decoded::Invalid),
+        (&[0x2E; 9], Decoded::Need),
+        (&[0x2E; 10], Decoded::TooLong),
+        (
+            &[0x2E, 0x2E, 0x2E, 0x2E, 0x2E, 0x2E, 0x2E, 0x2E, 0x2E, 0x82],
+            Decoded::Invalid,
+        ),
+        (
+            &[0x2E, 0x2E, 0x2E, 0x2E, 0x2E, 0x2E, 0x2E, 0x2E, 0x9A, 0x00],
+            Decoded::TooLong,
+        ),
+    ];
+    for (bytes, want) in &cases {
+        assert!(rt; bytes.len() <= 10);
+        assert_eq!(rt; decode(bytes), *want, "{bytes:?}");
+    }
+}
+
+fn reading_of(decoded: Decoded) -> Reading {
+    match decoded {
+        Decoded::One(_, length) => Reading::One(length as usize),
+        Decoded::Invalid => Reading::Invalid,
+        Decoded::TooLong => Reading::TooLong,
+        Decoded::Need => Reading::Need,
+    }
+}
+
+// All first bytes, and all pairs of them, alone and with bytes behind them, against the opcode map.
+#[test]
+fn reads_pairs(rt: HostRuntime) {
+    for a in 0..=255u8 {
+        assert_eq!(rt; reading_of(decode(&[a])), expected(&[a]), "{a:X}");
+        for b in 0..=255u8 {
+            let pair = [a, b];
+            assert_eq!(rt; reading_of(decode(&pair)), expected(&pair), "{a:X} {b:X}");
+            let ten = [a, b, 0x34, 0x92, 0x56, 0x78, 0x9A, 0xBC, 0xDE, 0xF1];
+            assert_eq!(rt; reading_of(decode(&ten)), expected(&ten), "{a:X} {b:X} ..");
+        }
+    }
+}
