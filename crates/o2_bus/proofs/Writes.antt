@@ -73,7 +73,7 @@ bytes_after xs ys n bs h m = go (m == n) refl
     go true e = ap (λ (j : ℕ). segment_bytes (slice_get ys j)) (eqb-true m n e) ∙ h.put
     go false e = ap segment_bytes (h.others m (λ q. false≢true (sym e ∙ eq-eqb m n q)))
 
-size_after : (xs ys : List Segment) (n : ℕ) (bs : List ℕ) → PutsBytes xs ys n bs → length bs ≡ length (segment_bytes (slice_get xs n)) → (m : ℕ) → length (segment_bytes (slice_get ys m)) ≡ length (segment_bytes (slice_get xs m))
+pub size_after : (xs ys : List Segment) (n : ℕ) (bs : List ℕ) → PutsBytes xs ys n bs → length bs ≡ length (segment_bytes (slice_get xs n)) → (m : ℕ) → length (segment_bytes (slice_get ys m)) ≡ length (segment_bytes (slice_get xs m))
 size_after xs ys n bs h e m = go (m == n) refl
   where
     go : (b : Bool) → (m == n) ≡ b → length (segment_bytes (slice_get ys m)) ≡ length (segment_bytes (slice_get xs m))

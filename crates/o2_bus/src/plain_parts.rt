@@ -29,6 +29,7 @@ impl Plain {
         requires some { 0 < length part.now }
         requires there { at + length part.now ≤ length (bytes_in self.old name) }
         ensures bytes { (n : ℕ) → bytes_in self.new n ≡ (if n == name then put_part (bytes_in self.old name) at part.now else bytes_in self.old n) }
+        ensures sizes { (n : ℕ) → length (bytes_in self.new n) ≡ length (bytes_in self.old n) }
         ensures maps { held_in self.new ≡ held_in self.old }
         ensures shown { (n : ℕ) → shown_in self.new n ≡ shown_in self.old n }
         ensures count { count_in self.new ≡ count_in self.old }

@@ -1,7 +1,7 @@
 // The call of a service.
-ghost use Rattle.std.specs.Prelude.{◌≡◌, ◌≤◌, ◌⊎◌, ℕ, List};
+ghost use Rattle.std.specs.Prelude.{◌≡◌, ◌≤◌, ◌⊎◌, ℕ, List, length};
 ghost use Rattle.o2_outer.specs.Texts.{Rose};
-ghost use Rattle.o2_bus.specs.Plain.{held_in, shown_in};
+ghost use Rattle.o2_bus.specs.Plain.{held_in, bytes_in, shown_in};
 ghost use Rattle.o2_world.specs.Calls.{serviced};
 ghost use Rattle.o2_gate.specs.Befores.{before_call};
 ghost use Rattle.o2_gate.specs.Called.{Does, OnSinkFault};
@@ -27,6 +27,7 @@ pub fn call<C: Sink, R: Sink>(
 ) -> Called
     ensures does { (input : List ℕ) → let b = before_call plain.old pid cpu.old input in
         Does b (serviced b service next) cpu.new plain.old plain.new (C.taken console.old) (C.taken console.new) (R.taken report.old) (R.taken report.new) result }
+    ensures sizes { (n : ℕ) → length (bytes_in plain.new n) ≡ length (bytes_in plain.old n) }
     ensures maps { held_in plain.new ≡ held_in plain.old }
     ensures shown { (n : ℕ) → shown_in plain.new n ≡ shown_in plain.old n }
     ensures console_count { C.faults console.old ≤ C.faults console.new }

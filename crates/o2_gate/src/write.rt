@@ -1,5 +1,5 @@
 // DosWrite.
-ghost use Rattle.std.specs.Prelude.{◌≡◌, ◌≤◌, ◌<◌, ◌+◌, ◌*◌, ◌%◌, ◌⊎◌, ◌∷◌, [], ◌==◌, ◌||◌, ℕ, List, Option, IsTrue};
+ghost use Rattle.std.specs.Prelude.{◌≡◌, ◌≤◌, ◌<◌, ◌+◌, ◌*◌, ◌%◌, ◌⊎◌, ◌∷◌, [], ◌==◌, ◌||◌, ℕ, List, Option, IsTrue, length};
 ghost use Rattle.o2_outer.specs.Texts.{Rose};
 ghost use Rattle.o2_outer.specs.Answers.{Takes, OnFailed};
 ghost use Rattle.o2_bus.specs.Plain.{held_in, bytes_in, shown_in, count_in};
@@ -99,6 +99,7 @@ fn put_both<C: Sink, R: Sink>(
 fn store_count(plain: &mut Plain, pid: u16, write: &Write)
     requires { IsTrue (writes_at (held_in plain.old pid) (bytes_in plain.old) write.now.done_selector write.now.done_offset 2) }
     ensures bytes { (n : ℕ) → bytes_in plain.new n ≡ put_at_pointer (held_in plain.old pid) (bytes_in plain.old) write.now.done_selector write.now.done_offset (word_bytes write.now.count) n }
+    ensures sizes { (n : ℕ) → length (bytes_in plain.new n) ≡ length (bytes_in plain.old n) }
     ensures maps { held_in plain.new ≡ held_in plain.old }
     ensures shown { (n : ℕ) → shown_in plain.new n ≡ shown_in plain.old n }
     ensures count { count_in plain.new ≡ count_in plain.old }
@@ -133,6 +134,7 @@ fn written<C: Sink, R: Sink>(
     ensures does { (input : List ℕ) → let b = before_call plain.old pid cpu.old input in
         Does b (written_row b next write.now.handle write.now.selector write.now.offset write.now.count write.now.done_selector write.now.done_offset)
             cpu.new plain.old plain.new (C.taken console.old) (C.taken console.new) (R.taken report.old) (R.taken report.new) result }
+    ensures sizes { (n : ℕ) → length (bytes_in plain.new n) ≡ length (bytes_in plain.old n) }
     ensures maps { held_in plain.new ≡ held_in plain.old }
     ensures shown { (n : ℕ) → shown_in plain.new n ≡ shown_in plain.old n }
     ensures console_count { C.faults console.old ≤ C.faults console.new }
@@ -177,6 +179,7 @@ pub fn dos_write<C: Sink, R: Sink>(
 ) -> Called
     ensures does { (input : List ℕ) → let b = before_call plain.old pid cpu.old input in
         Does b (dos_write_row b next) cpu.new plain.old plain.new (C.taken console.old) (C.taken console.new) (R.taken report.old) (R.taken report.new) result }
+    ensures sizes { (n : ℕ) → length (bytes_in plain.new n) ≡ length (bytes_in plain.old n) }
     ensures maps { held_in plain.new ≡ held_in plain.old }
     ensures shown { (n : ℕ) → shown_in plain.new n ≡ shown_in plain.old n }
     ensures console_count { C.faults console.old ≤ C.faults console.new }
