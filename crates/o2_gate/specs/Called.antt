@@ -32,7 +32,7 @@ pub record IsTrap (b : Before) (e : Effect) (vector : ℕ) (registers : Cpu) (ol
 -- a sink failed: registers and bytes are as before, and both texts are fronts, the report's only behind the whole piece
 pub record IsInPart (e : Effect) (registers before : Cpu) (old new : Plain) (console_old console_new report_old report_new : Option (List ℕ)) : Type 0 where
   pub cpu : registers ≡ before
-  pub plain : new ≡ old
+  pub bytes : (n : ℕ) → bytes_in new n ≡ bytes_in old n
   pub to_console : GainsSome console_old console_new (λ front. IsPrefix front e.piece)
   pub to_report : GainsSome report_old report_new (λ front. IsPrefix front (lines_text e.lines))
   pub in_order : (report_new ≡ report_old) ⊎ Gains console_old console_new e.piece

@@ -1,0 +1,86 @@
+-- What a step leaves, from what its instruction or its call did.
+use Rattle.std.proofs.Common.{◌≡◌, ℕ, List, [], ◌∷◌, ◌++◌, Option, Bool, true, false, ◌&&◌, ap, sym, ◌∙◌, refl, subst}
+use Rattle.std.specs.Prelude.{Result, Ok, Err, if◌then◌else◌}
+use Rattle.std.proofs.lemmas.Grind.{flat_map-append}
+use Rattle.o2_outer.specs.declared.sink.Put.TheVariants as put
+use Rattle.o2_outer.specs.Texts.{Gains, GainsSome, IsPrefix}
+use Rattle.o2_outer.specs.Answers.{Takes}
+use Rattle.o2_outer.proofs.TextLemmas.{puts_more, puts_front, gains_none, puts_none}
+use Rattle.o2_isa.specs.declared.cpu.Cpu.{Cpu}
+use Rattle.o2_isa.specs.declared.cpu.Stop.{Stop}
+use Rattle.o2_isa.specs.declared.cpu.Stop.TheVariants as stop
+use Rattle.o2_isa.specs.Steps.{State as Machine, state}
+use Rattle.o2_isa.specs.Step.{stepped}
+use Rattle.o2_bus.specs.declared.plain.Plain.{Plain}
+use Rattle.o2_bus.specs.Plain.{bytes_in, plain_view}
+use Rattle.o2_world.specs.declared.types.State.{State}
+use Rattle.o2_world.specs.declared.types.State.TheVariants.{Live, Exited, Trapped}
+use Rattle.o2_world.specs.World.{Line, Traps, is_live}
+use Rattle.o2_world.specs.Calls.{Before, Effect, trapped, serviced}
+use Rattle.o2_world.specs.Effect.{effect, answered, single_stepped, has_trap_flag}
+use Rattle.o2_world.specs.Text.{lines_text, line_text}
+use Rattle.o2_gate.specs.Called.{IsMade, IsInPart}
+use Rattle.o2_machine.specs.Ran.{IsMadeLate}
+
+-- the effect, by what the instruction came to
+pub effect_by : (b : Before) (r : Result Machine Stop) → stepped (state b.cpu b.view) ≡ r → effect b ≡ single_stepped b (answered b r)
+unfolding effect
+effect_by b r e = ap (λ (x : Result Machine Stop). single_stepped b (answered b x)) e
+
+trap_line : Before → List Line
+trap_line b = Traps b.number 1 b.cpu.cs b.cpu.ip ∷ []
+
+-- with the trap flag, and without
+pub with_flag : (b : Before) (e : Effect) → has_trap_flag b.cpu.flags ≡ true → e.state ≡ Live → single_stepped b e ≡ record e { state = Trapped 1; lines = e.lines ++ Traps b.number 1 b.cpu.cs b.cpu.ip ∷ [] }
+with_flag b e flag live = rw (flag, live) refl
+
+pub without_flag : (b : Before) (e : Effect) → has_trap_flag b.cpu.flags ≡ false → single_stepped b e ≡ e
+without_flag b e flag = rw flag refl
+
+not_live : (b c : Bool) (e f : Effect) → c ≡ false → (if b && c then f else e) ≡ e
+not_live true c e f h = rw h refl
+not_live false c e f h = refl
+
+pub ended_stays : (b : Before) (e : Effect) → is_live e.state ≡ false → single_stepped b e ≡ e
+ended_stays b e dead = not_live (has_trap_flag b.cpu.flags) (is_live e.state) e _ dead
+
+more_lines : (e : Effect) (l : Line) → lines_text (e.lines ++ l ∷ []) ≡ lines_text e.lines ++ lines_text (l ∷ [])
+more_lines e l = flat_map-append line_text e.lines (l ∷ [])
+
+module _ (b : Before) (e : Effect) (cpu : Cpu) (old new : Plain) (c d r s q : Option (List ℕ)) where
+  -- the exception behind a step, with its line whole or in part
+  pub made_with_trap : has_trap_flag b.cpu.flags ≡ true → IsMade e Live cpu new c d r s → Gains s q (lines_text (Traps b.number 1 b.cpu.cs b.cpu.ip ∷ [])) → IsMade (single_stepped b e) (Trapped 1) cpu new c d r q
+  made_with_trap flag made took =
+      subst (λ (x : Effect). IsMade x (Trapped 1) cpu new c d r q) (sym (with_flag b e flag made.state)) (record {
+        state = refl;
+        cpu = made.cpu;
+        bytes = made.bytes;
+        to_console = made.to_console;
+        to_report = rw (more_lines e (Traps b.number 1 b.cpu.cs b.cpu.ip)) (puts_more _ _ r s q put.Done made.to_report took);
+      })
+
+  pub late_with_trap : has_trap_flag b.cpu.flags ≡ true → IsMade e Live cpu new c d r s → GainsSome s q (λ front. IsPrefix front (lines_text (Traps b.number 1 b.cpu.cs b.cpu.ip ∷ []))) → IsMadeLate (single_stepped b e) (Trapped 1) cpu new c d r q
+  late_with_trap flag made took =
+      subst (λ (x : Effect). IsMadeLate x (Trapped 1) cpu new c d r q) (sym (with_flag b e flag made.state)) (record {
+        state = refl;
+        cpu = made.cpu;
+        bytes = made.bytes;
+        to_console = made.to_console;
+        to_report = rw (more_lines e (Traps b.number 1 b.cpu.cs b.cpu.ip)) (puts_more _ _ r s q put.Failed made.to_report took);
+      })
+
+-- a fault in a call is a fault in the step, whatever line would follow
+in_part_more : (b : Before) (e : Effect) (flag live : Bool) (cpu before : Cpu) (old new : Plain) (c d r q : Option (List ℕ)) → IsInPart e cpu before old new c d r q
+    → IsInPart (if flag && live then record e { state = Trapped 1; lines = e.lines ++ Traps b.number 1 b.cpu.cs b.cpu.ip ∷ [] } else e) cpu before old new c d r q
+in_part_more b e true true cpu before old new c d r q part = record {
+  cpu = part.cpu;
+  bytes = part.bytes;
+  to_console = part.to_console;
+  to_report = rw (more_lines e (Traps b.number 1 b.cpu.cs b.cpu.ip)) (puts_front _ _ r q part.to_report);
+  in_order = part.in_order;
+}
+in_part_more b e true false cpu before old new c d r q part = part
+in_part_more b e false live cpu before old new c d r q part = part
+
+pub in_part : (b : Before) (e : Effect) (cpu before : Cpu) (old new : Plain) (c d r q : Option (List ℕ)) → IsInPart e cpu before old new c d r q → IsInPart (single_stepped b e) cpu before old new c d r q
+in_part b e cpu before old new c d r q part = in_part_more b e (has_trap_flag b.cpu.flags) (is_live e.state) cpu before old new c d r q part

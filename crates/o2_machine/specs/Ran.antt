@@ -1,0 +1,30 @@
+-- What one step of a process did to its registers, the bytes and both sinks.
+use Rattle.std.specs.Prelude.{◌≡◌, ℕ, List, Option}
+use Rattle.o2_outer.specs.Texts.{Gains, GainsSome, IsPrefix}
+use Rattle.o2_isa.specs.declared.cpu.Cpu.{Cpu}
+use Rattle.o2_bus.specs.declared.plain.Plain.{Plain}
+use Rattle.o2_bus.specs.Plain.{bytes_in}
+use Rattle.o2_world.specs.declared.types.State.{State}
+use Rattle.o2_world.specs.Calls.{Before, Effect}
+use Rattle.o2_world.specs.Text.{lines_text}
+use Rattle.o2_gate.specs.Called.{IsMade, IsInPart}
+use Rattle.o2_machine.specs.declared.one_step.Ran.{Ran}
+use Rattle.o2_machine.specs.declared.one_step.Ran.TheVariants.{Done, Fault, LateFault}
+
+-- all is made but the report, which has a front of the lines
+pub record IsMadeLate (e : Effect) (ends : State) (registers : Cpu) (after : Plain) (console_old console_new report_old report_new : Option (List ℕ)) : Type 0 where
+  pub state : e.state ≡ ends
+  pub cpu : registers ≡ e.cpu
+  pub bytes : (n : ℕ) → bytes_in after n ≡ e.bytes n
+  pub to_console : Gains console_old console_new e.piece
+  pub to_report : GainsSome report_old report_new (λ front. IsPrefix front (lines_text e.lines))
+
+abbrev pub Leaves : Before → Effect → Cpu → (old new : Plain) → (console_old console_new report_old report_new : Option (List ℕ)) → Ran → Type 0
+Leaves b e cpu old new c d r q (Done state) = IsMade e state cpu new c d r q
+Leaves b e cpu old new c d r q (LateFault state) = IsMadeLate e state cpu new c d r q
+Leaves b e cpu old new c d r q Fault = IsInPart e cpu b.cpu old new c d r q
+
+abbrev pub OnFault : Ran → Type 0 → Type 0
+OnFault (Done state) P = Unit {0}
+OnFault (LateFault state) P = P
+OnFault Fault P = P
