@@ -1,13 +1,16 @@
 -- Shifts and rotations by any count.
-use Rattle.std.proofs.Common.{◌≡◌, ◌≢◌, ℕ, zero, suc, ◌+◌, ◌-◌, ◌*◌, ◌/◌, ◌%◌, ◌^◌, ◌<◌, ◌≤◌, Bool, true, false, not, if◌then◌else◌, arith, refl, ap, sym, ◌∙◌, ◌==◌, nat_le}
+use Rattle.std.proofs.Common.{◌≡◌, ℕ, zero, suc, ◌-◌, ◌*◌, ◌/◌, ◌%◌, ◌^◌, ◌<◌, Bool, true, false, if◌then◌else◌, arith, refl, ap, sym, ◌∙◌, ◌==◌}
 use Rattle.std.proofs.Math.Numerals.{sub-one}
 use Rattle.o2_isa.specs.declared.instr.Width.{Width}
 use Rattle.o2_isa.specs.declared.instr.Op.{Op}
-use Rattle.o2_isa.specs.declared.instr.Op.TheVariants.{OpRol, OpRor, OpRcl, OpRcr, OpShl, OpShr, OpSar}
+use Rattle.o2_isa.specs.declared.instr.Op.TheVariants.{OpRol, OpRor, OpShl, OpShr, OpSar}
 use Rattle.o2_isa.specs.declared.flags.Flag.TheVariants.{Carry, Overflow}
 use Rattle.o2_isa.specs.Flags.{put, is_set, with_szp}
 use Rattle.o2_isa.specs.Shifts.{once, repeated, is_rotation, shift_flags, shift_of, shift_times}
-use Rattle.o2_alu.specs.AtOnce.{is_at_once, IsAtOnce}
+use Rattle.o2_isa.specs.declared.instr.Width.TheVariants.{Byte, Word}
+use Rattle.o2_isa.specs.Widths.{modulus, IsOfWidth}
+use Rattle.o2_alu.specs.AtOnce.{bits, lowered, IsAtOnce}
+use Rattle.o2_alu.proofs.RotateLaws.{rol_value, ror_value, shl_value, shr_value, sar_value}
 use Rattle.o2_alu.proofs.FlagLaws.{put_same, put_other}
 use Rattle.o2_alu.proofs.SumLaws.{szp_carry}
 
@@ -68,3 +71,25 @@ counted_shift op w (suc n) a f h =
     let many = many_shifts (suc n) op w a f in
     let one = none_or_many op w (suc n) a f (small_count (suc n) h) (omega arith) in
     (one.0 ∙ sym (ap (λ x. x.0) many), one.1 ∙ sym (ap (λ x. x.1) many))
+
+shift_value : (op : Op) (w : Width) (n a f : ℕ) → n < 32 → (shift_of op w a n f).0 ≡ (repeated n op w (a, is_set f Carry)).0
+unfolding shift_of
+shift_value op w zero a f h = refl
+shift_value op w (suc n) a f h = (none_or_many op w (suc n) a f (small_count (suc n) h) (omega arith)).0
+
+pub shl_multiplies : (w : Width) (n a f : ℕ) → n < 32 → IsOfWidth w a → (shift_of OpShl w a n f).0 ≡ a * 2 ^ n % modulus w
+shl_multiplies w n a f h p = shift_value OpShl w n a f h ∙ shl_value w n a (is_set f Carry) p
+
+pub shr_divides : (w : Width) (n a f : ℕ) → n < 32 → (shift_of OpShr w a n f).0 ≡ a / 2 ^ n
+shr_divides w n a f h = shift_value OpShr w n a f h ∙ shr_value w n a (is_set f Carry)
+
+pub sar_divides : (w : Width) (n a f : ℕ) → n < 32 → IsOfWidth w a → (shift_of OpSar w a n f).0 ≡ lowered w n a
+sar_divides w n a f h p = shift_value OpSar w n a f h ∙ sar_value w n a (is_set f Carry) p
+
+pub rol_returns : (w : Width) (a f : ℕ) → IsOfWidth w a → (shift_of OpRol w a (bits w) f).0 ≡ a
+rol_returns Byte a f h = shift_value OpRol Byte 8 a f (omega arith) ∙ rol_value Byte 8 a (is_set f Carry) h ∙ omega arith
+rol_returns Word a f h = shift_value OpRol Word 16 a f (omega arith) ∙ rol_value Word 16 a (is_set f Carry) h ∙ omega arith
+
+pub ror_returns : (w : Width) (a f : ℕ) → IsOfWidth w a → (shift_of OpRor w a (bits w) f).0 ≡ a
+ror_returns Byte a f h = shift_value OpRor Byte 8 a f (omega arith) ∙ ror_value Byte 8 a (is_set f Carry) h ∙ omega arith
+ror_returns Word a f h = shift_value OpRor Word 16 a f (omega arith) ∙ ror_value Word 16 a (is_set f Carry) h ∙ omega arith

@@ -1,15 +1,16 @@
 // What a reader expects of the definitions. Each law is a function with nothing to do: its clauses are the law.
 
-ghost use Rattle.std.specs.Prelude.{◌≡◌, ◌≢◌, ◌<◌, ◌+◌, ◌-◌, ◌*◌, ◌/◌, ◌%◌, ◌==◌, ◌+ℤ◌, ◌*ℤ◌, false, true, nat_le, nat_lt, int_lt, unsigned_abs, IfSome};
+ghost use Rattle.std.specs.Prelude.{◌≡◌, ◌≢◌, ◌<◌, ◌+◌, ◌-◌, ◌*◌, ◌/◌, ◌%◌, ◌^◌, ◌==◌, ◌+ℤ◌, ◌*ℤ◌, false, true, nat_le, nat_lt, int_lt, unsigned_abs, IfSome};
 ghost use Rattle.o2_isa.specs.declared.flags.Flag.{Flag};
-ghost use Rattle.o2_isa.specs.Widths.{IsOfWidth, signed, signed_of_twice};
+ghost use Rattle.o2_isa.specs.Widths.{modulus, IsOfWidth, signed, signed_of_twice};
 ghost use Rattle.o2_isa.specs.Flags.{put, is_set};
 ghost use Rattle.o2_isa.specs.Sums.{add_of, sub_of, negate_of};
-ghost use Rattle.o2_isa.specs.Shifts.{differs};
+ghost use Rattle.o2_isa.specs.Shifts.{differs, shift_of, shift_times};
+ghost use Rattle.o2_alu.specs.AtOnce.{bits};
 ghost use Rattle.o2_isa.specs.Products.{mul_value, div_of};
 ghost use Rattle.o2_isa.specs.Adjust.{aam_value, aad_value};
 
-use o2_isa::{Flag, Width};
+use o2_isa::{Flag, Op, Width};
 
 /// A flag that is put has that value, and every other flag is as it was.
 #[tactic(auto, using(crate::proofs::FlagLaws::put_same, crate::proofs::FlagLaws::put_other))]
@@ -74,4 +75,29 @@ pub fn idiv_divides(w: Width, a: u32, b: u16)
 pub fn aad_undoes_aam(ax: u16, base: u8)
     requires { 0 < base }
     ensures { aad_value (aam_value ax base) base ≡ ax % 256 }
+{}
+
+/// A shift or rotation by `n` gives the value and CF of `n` single ones.
+#[tactic(auto, using(crate::proofs::ShiftLaws::counted_shift))]
+pub fn shift_repeats(op: Op, w: Width, a: u16, n: u8, f: u16)
+    requires { n < 32 }
+    ensures value { (shift_of op w a n f).0 ≡ (shift_times n op w (a, f)).0 }
+    ensures carry { is_set (shift_of op w a n f).1 Flag.Carry ≡ is_set (shift_times n op w (a, f)).1 Flag.Carry }
+{}
+
+/// SHL by `n` multiplies by 2 to the `n`, and SHR divides by it.
+#[tactic(auto, using(crate::proofs::ShiftLaws::shl_multiplies, crate::proofs::ShiftLaws::shr_divides))]
+pub fn shl_multiplies(w: Width, a: u16, n: u8, f: u16)
+    requires width { IsOfWidth w a }
+    requires count { n < 32 }
+    ensures left { (shift_of Op.OpShl w a n f).0 ≡ a * 2 ^ n % modulus w }
+    ensures right { (shift_of Op.OpShr w a n f).0 ≡ a / 2 ^ n }
+{}
+
+/// A rotation by as many bits as the value has gives the value.
+#[tactic(auto, using(crate::proofs::ShiftLaws::rol_returns, crate::proofs::ShiftLaws::ror_returns))]
+pub fn rotation_returns(w: Width, a: u16, f: u16)
+    requires { IsOfWidth w a }
+    ensures left { (shift_of Op.OpRol w a (bits w) f).0 ≡ a }
+    ensures right { (shift_of Op.OpRor w a (bits w) f).0 ≡ a }
 {}

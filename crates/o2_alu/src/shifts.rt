@@ -170,7 +170,10 @@ fn value_after(op: Op, w: Width, a: u16, carry: bool, n: u8) -> u16
 fn goes_at_once(op: Op) -> bool
     ensures { result ≡ is_at_once op }
 {
-    matches!(op, Op::OpRol | Op::OpRor | Op::OpShl | Op::OpShr | Op::OpSar)
+    matches!(
+        op,
+        Op::OpRol | Op::OpRor | Op::OpShl | Op::OpShr | Op::OpSar
+    )
 }
 
 /// The value and CF after `n` bits of ROL, ROR, SHL, SHR or SAR: all but the last at once, and the last.
@@ -253,7 +256,8 @@ fn flags_after(op: Op, w: Width, n: u8, a: u16, r: u16, c: bool, f: u16) -> u16
 #[tactic(auto, unfolding(o2_isa::specs::Shifts::shift_of))]
 pub fn shift(op: Op, w: Width, a: u16, count: u8, f: u16) -> (u16, u16)
     requires { IsOfWidth w a }
-    ensures { result ≡ shift_of op w a count f }
+    ensures value { result ≡ shift_of op w a count f }
+    ensures fits { IsOfWidth w result.0 }
 {
     let n = count % 32;
     if n == 0 {
