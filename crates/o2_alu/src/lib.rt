@@ -18,3 +18,6 @@ pub use laws::{
 pub use products::{div, mul, mul_low};
 pub use shifts::shift;
 pub use sums::{add, binary, complement, decrement, increment, logic, negate, sub, unary};
+
+#[cfg(test)]
+mod tests;
