@@ -4,3 +4,4 @@ pub mod SumLaws
 pub mod SignLaws
 pub mod ShiftLaws
 pub mod RotateLaws
+pub mod ControlLaws

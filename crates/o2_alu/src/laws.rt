@@ -3,12 +3,13 @@
 ghost use Rattle.std.specs.Prelude.{◌≡◌, ◌≢◌, ◌<◌, ◌+◌, ◌-◌, ◌*◌, ◌/◌, ◌%◌, ◌^◌, ◌==◌, ◌+ℤ◌, ◌*ℤ◌, false, true, nat_le, nat_lt, int_lt, unsigned_abs, IfSome};
 ghost use Rattle.o2_isa.specs.declared.flags.Flag.{Flag};
 ghost use Rattle.o2_isa.specs.Widths.{modulus, IsOfWidth, signed, signed_of_twice};
-ghost use Rattle.o2_isa.specs.Flags.{put, is_set};
-ghost use Rattle.o2_isa.specs.Sums.{add_of, sub_of, negate_of};
+ghost use Rattle.o2_isa.specs.Flags.{put, is_set, is_status};
+ghost use Rattle.o2_isa.specs.Sums.{add_of, sub_of, increment_of, decrement_of, negate_of};
 ghost use Rattle.o2_isa.specs.Shifts.{differs, shift_of, shift_times};
 ghost use Rattle.o2_alu.specs.AtOnce.{bits};
-ghost use Rattle.o2_isa.specs.Products.{mul_value, div_of};
-ghost use Rattle.o2_isa.specs.Adjust.{aam_value, aad_value};
+ghost use Rattle.o2_isa.specs.Products.{mul_value, mul_of, div_of};
+ghost use Rattle.o2_isa.specs.Adjust.{aam_value, aad_value, adjust_of};
+ghost use Rattle.o2_isa.specs.Alu.{binary_of, unary_of};
 
 use o2_isa::{Flag, Op, Width};
 
@@ -100,4 +101,21 @@ pub fn rotation_returns(w: Width, a: u16, f: u16)
     requires { IsOfWidth w a }
     ensures left { (shift_of Op.OpRol w a (bits w) f).0 ≡ a }
     ensures right { (shift_of Op.OpRor w a (bits w) f).0 ≡ a }
+{}
+
+/// Arithmetic leaves every flag but CF, PF, AF, ZF, SF and OF as it is.
+#[tactic(auto, using(crate::proofs::ControlLaws::binary_control, crate::proofs::ControlLaws::unary_control, crate::proofs::ControlLaws::shift_control, crate::proofs::ControlLaws::mul_control, crate::proofs::ControlLaws::adjust_control))]
+pub fn control_flags_stay(op: Op, w: Width, a: u16, b: u16, n: u8, signed: bool, f: u16)
+    ensures binary { (j : Flag) → is_status j ≡ false → is_set (binary_of op w a b f).1 j ≡ is_set f j }
+    ensures unary { (j : Flag) → is_status j ≡ false → is_set (unary_of op w a f).1 j ≡ is_set f j }
+    ensures shift { (j : Flag) → is_status j ≡ false → is_set (shift_of op w a n f).1 j ≡ is_set f j }
+    ensures mul { (j : Flag) → is_status j ≡ false → is_set (mul_of w signed a b f).1 j ≡ is_set f j }
+    ensures adjust { (j : Flag) → is_status j ≡ false → IfSome (adjust_of op a n f) (λ r. is_set r.1 j ≡ is_set f j) }
+{}
+
+/// INC and DEC leave CF as it is.
+#[tactic(auto, using(crate::proofs::ControlLaws::increment_keeps_carry, crate::proofs::ControlLaws::decrement_keeps_carry))]
+pub fn inc_and_dec_keep_carry(w: Width, a: u16, f: u16)
+    ensures inc { is_set (increment_of w a f).1 Flag.Carry ≡ is_set f Flag.Carry }
+    ensures dec { is_set (decrement_of w a f).1 Flag.Carry ≡ is_set f Flag.Carry }
 {}
