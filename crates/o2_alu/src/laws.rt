@@ -23,13 +23,22 @@ pub fn flag_is_put(f: u16, flag: Flag, on: bool)
 /// ADD of the low words and ADC of the high ones add double words, with the carry out of 32 bits.
 #[tactic(auto, using(crate::proofs::SumLaws::long_sum))]
 pub fn adc_chains(low: u16, high: u16, other_low: u16, other_high: u16, f: u16)
-    ensures { let first = add_of Width.Word low other_low false f in let second = add_of Width.Word high other_high (is_set first.1 Flag.Carry) first.1 in let sum = low + 65536 * high + (other_low + 65536 * other_high) in (first.0 + 65536 * second.0 ≡ sum % (65536 * 65536)) × (is_set second.1 Flag.Carry ≡ nat_le (65536 * 65536) sum) }
+    ensures { let first = add_of Width.Word low other_low false f in
+        let second = add_of Width.Word high other_high (is_set first.1 Flag.Carry) first.1 in
+        let sum = low + 65536 * high + (other_low + 65536 * other_high) in
+        (first.0 + 65536 * second.0 ≡ sum % (65536 * 65536))
+        × (is_set second.1 Flag.Carry ≡ nat_le (65536 * 65536) sum) }
 {}
 
 /// SUB of the low words and SBB of the high ones subtract double words, with the borrow out of 32 bits.
 #[tactic(auto, using(crate::proofs::SumLaws::long_difference))]
 pub fn sbb_chains(low: u16, high: u16, other_low: u16, other_high: u16, f: u16)
-    ensures { let first = sub_of Width.Word low other_low false f in let second = sub_of Width.Word high other_high (is_set first.1 Flag.Carry) first.1 in (first.0 + 65536 * second.0 ≡ (low + 65536 * high + 65536 * 65536 - (other_low + 65536 * other_high)) % (65536 * 65536)) × (is_set second.1 Flag.Carry ≡ nat_lt (low + 65536 * high) (other_low + 65536 * other_high)) }
+    ensures { let first = sub_of Width.Word low other_low false f in
+        let second = sub_of Width.Word high other_high (is_set first.1 Flag.Carry) first.1 in
+        let left = low + 65536 * high in
+        let right = other_low + 65536 * other_high in
+        (first.0 + 65536 * second.0 ≡ (left + 65536 * 65536 - right) % (65536 * 65536))
+        × (is_set second.1 Flag.Carry ≡ nat_lt left right) }
 {}
 
 /// NEG is 0 minus the operand, flags included.
