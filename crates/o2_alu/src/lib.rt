@@ -10,7 +10,7 @@ mod sums;
 mod widths;
 
 pub use decimal::adjust;
-pub use flags::{is_set, with_flag};
+pub use flags::{bit_number, is_set, with_flag};
 pub use laws::{
     aad_undoes_aam, adc_chains, cmp_compares, control_flags_stay, div_divides, flag_is_put,
     idiv_divides, imul_multiplies, inc_and_dec_keep_carry, neg_is_zero_minus, rotation_returns,
