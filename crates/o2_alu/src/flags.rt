@@ -1,10 +1,18 @@
 // The flags word.
 
 ghost use Rattle.std.specs.Prelude.{◌≡◌};
-ghost use Rattle.o2_isa.specs.Flags.{put, is_set as is_set_of, is_even, with_szp, with_carries};
+ghost use Rattle.o2_isa.specs.Flags.{flag_number, put, is_set as is_set_of, is_even, with_szp, with_carries};
 
 use crate::widths::half_size;
 use o2_isa::{Flag, Width};
+
+/// The place of a flag in the flags word, from 0 at the lowest bit.
+#[inline]
+pub fn bit_number(flag: Flag) -> u8
+    ensures { result ≡ flag_number flag }
+{
+    flag as u8
+}
 
 /// The flags word with one flag put, all other bits as they are.
 #[inline]

@@ -1,15 +1,17 @@
 // What a reader expects of the definitions. Each law is a function with nothing to do: its clauses are the law.
 
-ghost use Rattle.std.specs.Prelude.{◌≡◌, ◌≢◌, ◌<◌, ◌+◌, ◌-◌, ◌*◌, ◌/◌, ◌%◌, ◌==◌, ◌+ℤ◌, ◌*ℤ◌, false, true, nat_le, nat_lt, int_lt, unsigned_abs, IfSome};
+ghost use Rattle.std.specs.Prelude.{◌≡◌, ◌≢◌, ◌<◌, ◌+◌, ◌-◌, ◌*◌, ◌/◌, ◌%◌, ◌^◌, ◌==◌, ◌+ℤ◌, ◌*ℤ◌, false, true, nat_le, nat_lt, int_lt, unsigned_abs, IfSome};
 ghost use Rattle.o2_isa.specs.declared.flags.Flag.{Flag};
-ghost use Rattle.o2_isa.specs.Widths.{IsOfWidth, signed, signed_of_twice};
-ghost use Rattle.o2_isa.specs.Flags.{put, is_set};
-ghost use Rattle.o2_isa.specs.Sums.{add_of, sub_of, negate_of};
-ghost use Rattle.o2_isa.specs.Shifts.{differs};
-ghost use Rattle.o2_isa.specs.Products.{mul_value, div_of};
-ghost use Rattle.o2_isa.specs.Adjust.{aam_value, aad_value};
+ghost use Rattle.o2_isa.specs.Widths.{modulus, IsOfWidth, signed, signed_of_twice};
+ghost use Rattle.o2_isa.specs.Flags.{put, is_set, is_status};
+ghost use Rattle.o2_isa.specs.Sums.{add_of, sub_of, increment_of, decrement_of, negate_of};
+ghost use Rattle.o2_isa.specs.Shifts.{differs, shift_of, shift_times};
+ghost use Rattle.o2_alu.specs.AtOnce.{bits};
+ghost use Rattle.o2_isa.specs.Products.{mul_value, mul_of, div_of};
+ghost use Rattle.o2_isa.specs.Adjust.{aam_value, aad_value, adjust_of};
+ghost use Rattle.o2_isa.specs.Alu.{binary_of, unary_of};
 
-use o2_isa::{Flag, Width};
+use o2_isa::{Flag, Op, Width};
 
 /// A flag that is put has that value, and every other flag is as it was.
 #[tactic(auto, using(crate::proofs::FlagLaws::put_same, crate::proofs::FlagLaws::put_other))]
@@ -21,13 +23,22 @@ pub fn flag_is_put(f: u16, flag: Flag, on: bool)
 /// ADD of the low words and ADC of the high ones add double words, with the carry out of 32 bits.
 #[tactic(auto, using(crate::proofs::SumLaws::long_sum))]
 pub fn adc_chains(low: u16, high: u16, other_low: u16, other_high: u16, f: u16)
-    ensures { let first = add_of Width.Word low other_low false f in let second = add_of Width.Word high other_high (is_set first.1 Flag.Carry) first.1 in let sum = low + 65536 * high + (other_low + 65536 * other_high) in (first.0 + 65536 * second.0 ≡ sum % (65536 * 65536)) × (is_set second.1 Flag.Carry ≡ nat_le (65536 * 65536) sum) }
+    ensures { let first = add_of Width.Word low other_low false f in
+        let second = add_of Width.Word high other_high (is_set first.1 Flag.Carry) first.1 in
+        let sum = low + 65536 * high + (other_low + 65536 * other_high) in
+        (first.0 + 65536 * second.0 ≡ sum % (65536 * 65536))
+        × (is_set second.1 Flag.Carry ≡ nat_le (65536 * 65536) sum) }
 {}
 
 /// SUB of the low words and SBB of the high ones subtract double words, with the borrow out of 32 bits.
 #[tactic(auto, using(crate::proofs::SumLaws::long_difference))]
 pub fn sbb_chains(low: u16, high: u16, other_low: u16, other_high: u16, f: u16)
-    ensures { let first = sub_of Width.Word low other_low false f in let second = sub_of Width.Word high other_high (is_set first.1 Flag.Carry) first.1 in (first.0 + 65536 * second.0 ≡ (low + 65536 * high + 65536 * 65536 - (other_low + 65536 * other_high)) % (65536 * 65536)) × (is_set second.1 Flag.Carry ≡ nat_lt (low + 65536 * high) (other_low + 65536 * other_high)) }
+    ensures { let first = sub_of Width.Word low other_low false f in
+        let second = sub_of Width.Word high other_high (is_set first.1 Flag.Carry) first.1 in
+        let left = low + 65536 * high in
+        let right = other_low + 65536 * other_high in
+        (first.0 + 65536 * second.0 ≡ (left + 65536 * 65536 - right) % (65536 * 65536))
+        × (is_set second.1 Flag.Carry ≡ nat_lt left right) }
 {}
 
 /// NEG is 0 minus the operand, flags included.
@@ -74,4 +85,46 @@ pub fn idiv_divides(w: Width, a: u32, b: u16)
 pub fn aad_undoes_aam(ax: u16, base: u8)
     requires { 0 < base }
     ensures { aad_value (aam_value ax base) base ≡ ax % 256 }
+{}
+
+/// A shift or rotation by `n` gives the value and CF of `n` single ones.
+#[tactic(auto, using(crate::proofs::ShiftLaws::counted_shift))]
+pub fn shift_repeats(op: Op, w: Width, a: u16, n: u8, f: u16)
+    requires { n < 32 }
+    ensures value { (shift_of op w a n f).0 ≡ (shift_times n op w (a, f)).0 }
+    ensures carry { is_set (shift_of op w a n f).1 Flag.Carry ≡ is_set (shift_times n op w (a, f)).1 Flag.Carry }
+{}
+
+/// SHL by `n` multiplies by 2 to the `n`, and SHR divides by it.
+#[tactic(auto, using(crate::proofs::ShiftLaws::shl_multiplies, crate::proofs::ShiftLaws::shr_divides))]
+pub fn shl_multiplies(w: Width, a: u16, n: u8, f: u16)
+    requires width { IsOfWidth w a }
+    requires count { n < 32 }
+    ensures left { (shift_of Op.OpShl w a n f).0 ≡ a * 2 ^ n % modulus w }
+    ensures right { (shift_of Op.OpShr w a n f).0 ≡ a / 2 ^ n }
+{}
+
+/// A rotation by as many bits as the value has gives the value.
+#[tactic(auto, using(crate::proofs::ShiftLaws::rol_returns, crate::proofs::ShiftLaws::ror_returns))]
+pub fn rotation_returns(w: Width, a: u16, f: u16)
+    requires { IsOfWidth w a }
+    ensures left { (shift_of Op.OpRol w a (bits w) f).0 ≡ a }
+    ensures right { (shift_of Op.OpRor w a (bits w) f).0 ≡ a }
+{}
+
+/// Arithmetic leaves every flag but CF, PF, AF, ZF, SF and OF as it is.
+#[tactic(auto, using(crate::proofs::ControlLaws::binary_control, crate::proofs::ControlLaws::unary_control, crate::proofs::ControlLaws::shift_control, crate::proofs::ControlLaws::mul_control, crate::proofs::ControlLaws::adjust_control))]
+pub fn control_flags_stay(op: Op, w: Width, a: u16, b: u16, n: u8, signed: bool, f: u16)
+    ensures binary { (j : Flag) → is_status j ≡ false → is_set (binary_of op w a b f).1 j ≡ is_set f j }
+    ensures unary { (j : Flag) → is_status j ≡ false → is_set (unary_of op w a f).1 j ≡ is_set f j }
+    ensures shift { (j : Flag) → is_status j ≡ false → is_set (shift_of op w a n f).1 j ≡ is_set f j }
+    ensures mul { (j : Flag) → is_status j ≡ false → is_set (mul_of w signed a b f).1 j ≡ is_set f j }
+    ensures adjust { (j : Flag) → is_status j ≡ false → IfSome (adjust_of op a n f) (λ r. is_set r.1 j ≡ is_set f j) }
+{}
+
+/// INC and DEC leave CF as it is.
+#[tactic(auto, using(crate::proofs::ControlLaws::increment_keeps_carry, crate::proofs::ControlLaws::decrement_keeps_carry))]
+pub fn inc_and_dec_keep_carry(w: Width, a: u16, f: u16)
+    ensures inc { is_set (increment_of w a f).1 Flag.Carry ≡ is_set f Flag.Carry }
+    ensures dec { is_set (decrement_of w a f).1 Flag.Carry ≡ is_set f Flag.Carry }
 {}

@@ -1,6 +1,6 @@
 // Products and quotients.
 
-ghost use Rattle.std.specs.Prelude.{◌≡◌, ◌<◌, ◌≤◌, ◌*◌, ◌^◌, ◌↔◌, unsigned_abs, true, false, if◌then◌else◌, IsNone, IsTrue};
+ghost use Rattle.std.specs.Prelude.{◌≡◌, ◌<◌, ◌≤◌, ◌*◌, ◌^◌, ◌↔◌, unsigned_abs, true, false, if◌then◌else◌, IsNone, IsTrue, IfSome};
 ghost use Rattle.o2_isa.specs.Widths.{modulus, IsOfWidth, IsOfTwice};
 ghost use Rattle.o2_isa.specs.Products.{signed_product, mul_value, mul_overflows, mul_of, mul_low_of, signed_quotient, signed_remainder, quotient_overflows, quotient, remainder, is_divide_error, div_of};
 
@@ -65,7 +65,8 @@ pub fn mul_low(a: u16, b: u16, f: u16) -> (u16, u16)
 fn divide_unsigned(w: Width, a: u32, b: u16) -> Option<(u16, u16)>
     requires some { 0 < b }
     requires divisor { IsOfWidth w b }
-    ensures { result ≡ (if quotient_overflows w false a b then None else Some (quotient w false a b, remainder w false a b)) }
+    ensures value { result ≡ (if quotient_overflows w false a b then None else Some (quotient w false a b, remainder w false a b)) }
+    ensures fits { IfSome result (λ r. IsOfWidth w r.0 × IsOfWidth w r.1) }
 {
     let b = b as u32;
     if size(w) <= a / b {
@@ -96,7 +97,8 @@ fn divide_signed(w: Width, a: u32, b: u16) -> Option<(u16, u16)>
     requires some { 0 < b }
     requires divisor { IsOfWidth w b }
     requires dividend { IsOfTwice w a }
-    ensures { result ≡ (if quotient_overflows w true a b then None else Some (quotient w true a b, remainder w true a b)) }
+    ensures value { result ≡ (if quotient_overflows w true a b then None else Some (quotient w true a b, remainder w true a b)) }
+    ensures fits { IfSome result (λ r. IsOfWidth w r.0 × IsOfWidth w r.1) }
 {
     let (q, r) = signed_parts(w, a, b);
     if is_outside(w, q) {
@@ -114,6 +116,7 @@ pub fn div(w: Width, signed: bool, a: u32, b: u16) -> Option<(u16, u16)>
     requires divisor { IsOfWidth w b }
     requires dividend { IsOfTwice w a }
     ensures value { result ≡ div_of w signed a b }
+    ensures fits { IfSome result (λ r. IsOfWidth w r.0 × IsOfWidth w r.1) }
     ensures refused { IsNone result ↔ IsTrue (is_divide_error w signed a b) }
 {
     if b == 0 {

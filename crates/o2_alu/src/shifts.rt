@@ -1,7 +1,8 @@
 // Shifts and rotations.
 
-ghost use Rattle.std.specs.Prelude.{◌≡◌};
-ghost use Rattle.o2_isa.specs.Widths.{IsOfWidth};
+ghost use Rattle.std.specs.Prelude.{◌≡◌, ◌<◌, ◌≤◌, ◌*◌, ◌/◌, ◌^◌, ◌%◌};
+ghost use Rattle.o2_isa.specs.Widths.{modulus, IsOfWidth};
+ghost use Rattle.o2_alu.specs.AtOnce.{bits, rolled, unrolled, lowered, is_at_once, IsAtOnce};
 ghost use Rattle.o2_isa.specs.Shifts.{once, repeated, differs, shift_overflow, shift_flags, shift_of};
 
 use crate::flags::{is_set, szp, with_flag};
@@ -40,17 +41,183 @@ fn one_bit(op: Op, w: Width, a: u16, carry: bool) -> (u16, bool)
     }
 }
 
-fn many_bits(op: Op, w: Width, a: u16, carry: bool, count: u8) -> (u16, bool)
+/// How many bits a number of the width has.
+#[inline]
+fn bit_count(w: Width) -> u8
+    ensures value { result ≡ bits w }
+    ensures below { result ≤ 16 }
+    ensures some { 0 < result }
+{
+    match w {
+        Width::Byte => 8,
+        Width::Word => 16,
+    }
+}
+
+/// `x` times 2 to the `k`.
+#[inline]
+#[tactic(auto, using(crate::proofs::RotateLaws::raised_small))]
+fn raised(x: u32, k: u8) -> u64
+    requires small { x < 2 ^ 17 }
+    requires count { k < 32 }
+    ensures { result ≡ x * 2 ^ k }
+{
+    (x as u64) << k
+}
+
+#[inline]
+fn wide_left(w: Width, a: u16, k: u8) -> u64
+    requires { k < bits w }
+    ensures { result ≡ rolled w k a }
+{
+    let down = bit_count(w) - k;
+    raised(a as u32 % (1 << down), k) + (a as u64 >> down)
+}
+
+/// ROL of the value by `k` bits, fewer than it has.
+#[inline]
+#[tactic(auto, using(crate::proofs::RotateLaws::rolled_small))]
+fn rolled_left(w: Width, a: u16, k: u8) -> u16
+    requires width { IsOfWidth w a }
+    requires count { k < bits w }
+    ensures value { result ≡ rolled w k a }
+    ensures fits { IsOfWidth w result }
+{
+    wide_left(w, a, k) as u16
+}
+
+#[inline]
+fn wide_right(w: Width, a: u16, k: u8) -> u64
+    requires { k < bits w }
+    ensures { result ≡ unrolled w k a }
+{
+    let up = bit_count(w) - k;
+    raised(a as u32 % (1 << k), up) + (a as u64 >> k)
+}
+
+/// ROR of the value by `k` bits, fewer than it has.
+#[inline]
+#[tactic(auto, using(crate::proofs::RotateLaws::unrolled_small))]
+fn rolled_right(w: Width, a: u16, k: u8) -> u16
+    requires width { IsOfWidth w a }
+    requires count { k < bits w }
+    ensures value { result ≡ unrolled w k a }
+    ensures fits { IsOfWidth w result }
+{
+    wide_right(w, a, k) as u16
+}
+
+/// SHL of the value by `n` bits.
+#[inline]
+fn shifted_left(w: Width, a: u16, n: u8) -> u16
+    requires count { n < 32 }
+    ensures value { result ≡ a * 2 ^ n % modulus w }
+    ensures fits { IsOfWidth w result }
+{
+    (raised(a as u32, n) % size(w) as u64) as u16
+}
+
+/// SHR of the value by `n` bits.
+#[inline]
+#[tactic(auto, using(crate::proofs::RotateLaws::divided_small))]
+fn shifted_right(w: Width, a: u16, n: u8) -> u16
+    requires width { IsOfWidth w a }
+    requires count { n < 32 }
+    ensures value { result ≡ a / 2 ^ n }
+    ensures fits { IsOfWidth w result }
+{
+    (a as u32 >> n) as u16
+}
+
+/// SAR of the value by `n` bits.
+#[inline]
+#[tactic(auto, using(crate::proofs::RotateLaws::divided_small))]
+fn lowered_by(w: Width, a: u16, n: u8) -> u16
+    requires width { IsOfWidth w a }
+    requires count { n < 32 }
+    ensures value { result ≡ lowered w n a }
+    ensures fits { IsOfWidth w result }
+{
+    if half_size(w) <= a as u32 {
+        let most = size(w) - 1;
+        (most - ((most - a as u32) >> n)) as u16
+    } else {
+        (a as u32 >> n) as u16
+    }
+}
+
+/// The value after `n` bits of ROL, ROR, SHL, SHR or SAR.
+#[inline]
+#[tactic(auto, using(crate::proofs::RotateLaws::rol_value, crate::proofs::RotateLaws::ror_value, crate::proofs::RotateLaws::shl_value, crate::proofs::RotateLaws::shr_value, crate::proofs::RotateLaws::sar_value))]
+fn value_after(op: Op, w: Width, a: u16, carry: bool, n: u8) -> u16
+    requires width { IsOfWidth w a }
+    requires count { n < 32 }
+    requires group { IsAtOnce op }
+    ensures value { result ≡ (repeated n op w (a, carry)).0 }
+    ensures fits { IsOfWidth w result }
+{
+    match op {
+        Op::OpRol => rolled_left(w, a, n % bit_count(w)),
+        Op::OpRor => rolled_right(w, a, n % bit_count(w)),
+        Op::OpShl => shifted_left(w, a, n),
+        Op::OpShr => shifted_right(w, a, n),
+        _ => lowered_by(w, a, n),
+    }
+}
+
+/// Whether the result of the shift or rotation doesn't depend on CF.
+#[inline]
+fn goes_at_once(op: Op) -> bool
+    ensures { result ≡ is_at_once op }
+{
+    matches!(
+        op,
+        Op::OpRol | Op::OpRor | Op::OpShl | Op::OpShr | Op::OpSar
+    )
+}
+
+/// The value and CF after `n` bits of ROL, ROR, SHL, SHR or SAR: all but the last at once, and the last.
+#[inline]
+#[tactic(auto, using(crate::proofs::ShiftLaws::once_more))]
+fn bits_at_once(op: Op, w: Width, a: u16, carry: bool, n: u8) -> (u16, bool)
+    requires width { IsOfWidth w a }
+    requires some { 0 < n }
+    requires count { n < 32 }
+    requires group { IsAtOnce op }
+    ensures value { result ≡ repeated n op w (a, carry) }
+    ensures fits { IsOfWidth w result.0 }
+{
+    one_bit(op, w, value_after(op, w, a, carry, n - 1), carry)
+}
+
+/// The value and CF after `n` bits, one by one.
+fn bits_one_by_one(op: Op, w: Width, a: u16, carry: bool, n: u8) -> (u16, bool)
     requires { IsOfWidth w a }
-    ensures value { result ≡ repeated count op w (a, carry) }
+    ensures value { result ≡ repeated n op w (a, carry) }
     ensures fits { IsOfWidth w result.0 }
 {
     let mut value = a;
     let mut out = carry;
-    for k in 0..count {
+    for k in 0..n {
         (value, out) = one_bit(op, w, value, out);
     }
     (value, out)
+}
+
+/// The value and CF after `n` bits.
+#[inline]
+fn many_bits(op: Op, w: Width, a: u16, carry: bool, n: u8) -> (u16, bool)
+    requires width { IsOfWidth w a }
+    requires some { 0 < n }
+    requires count { n < 32 }
+    ensures value { result ≡ repeated n op w (a, carry) }
+    ensures fits { IsOfWidth w result.0 }
+{
+    if goes_at_once(op) {
+        bits_at_once(op, w, a, carry, n)
+    } else {
+        bits_one_by_one(op, w, a, carry, n)
+    }
 }
 
 /// OF at count 1.
@@ -89,7 +256,8 @@ fn flags_after(op: Op, w: Width, n: u8, a: u16, r: u16, c: bool, f: u16) -> u16
 #[tactic(auto, unfolding(o2_isa::specs::Shifts::shift_of))]
 pub fn shift(op: Op, w: Width, a: u16, count: u8, f: u16) -> (u16, u16)
     requires { IsOfWidth w a }
-    ensures { result ≡ shift_of op w a count f }
+    ensures value { result ≡ shift_of op w a count f }
+    ensures fits { IsOfWidth w result.0 }
 {
     let n = count % 32;
     if n == 0 {

@@ -24,6 +24,7 @@ pub fn bit_of(carry: bool) -> u16
 fn sum(w: Width, a: u16, b: u16, carry: bool) -> (u16, bool)
     ensures value { result.0 ≡ sum_value w a b carry }
     ensures carry { result.1 ≡ sum_carries w a b carry }
+    ensures fits { IsOfWidth w result.0 }
 {
     let sum = a as u32 + b as u32 + bit_of(carry) as u32;
     ((sum % size(w)) as u16, size(w) <= sum)
@@ -62,7 +63,8 @@ fn sum_overflow(w: Width, a: u16, b: u16, carry: bool) -> bool
 pub fn add(w: Width, a: u16, b: u16, carry: bool, f: u16) -> (u16, u16)
     requires left { IsOfWidth w a }
     requires right { IsOfWidth w b }
-    ensures { result ≡ add_of w a b carry f }
+    ensures value { result ≡ add_of w a b carry f }
+    ensures fits { IsOfWidth w result.0 }
 {
     let (r, out) = sum(w, a, b, carry);
     let f = carries(
@@ -79,7 +81,8 @@ pub fn add(w: Width, a: u16, b: u16, carry: bool, f: u16) -> (u16, u16)
 fn difference(w: Width, a: u16, b: u16, borrow: bool) -> u16
     requires left { IsOfWidth w a }
     requires right { IsOfWidth w b }
-    ensures { result ≡ difference_value w a b borrow }
+    ensures value { result ≡ difference_value w a b borrow }
+    ensures fits { IsOfWidth w result }
 {
     ((a as u32 + size(w) - b as u32 - bit_of(borrow) as u32) % size(w)) as u16
 }
@@ -117,7 +120,8 @@ fn difference_overflow(w: Width, a: u16, b: u16, borrow: bool) -> bool
 pub fn sub(w: Width, a: u16, b: u16, borrow: bool, f: u16) -> (u16, u16)
     requires left { IsOfWidth w a }
     requires right { IsOfWidth w b }
-    ensures { result ≡ sub_of w a b borrow f }
+    ensures value { result ≡ sub_of w a b borrow f }
+    ensures fits { IsOfWidth w result.0 }
 {
     let r = difference(w, a, b, borrow);
     let f = carries(
@@ -133,7 +137,8 @@ pub fn sub(w: Width, a: u16, b: u16, borrow: bool, f: u16) -> (u16, u16)
 #[tactic(auto, unfolding(o2_isa::specs::Sums::increment_of))]
 pub fn increment(w: Width, a: u16, f: u16) -> (u16, u16)
     requires { IsOfWidth w a }
-    ensures { result ≡ increment_of w a f }
+    ensures value { result ≡ increment_of w a f }
+    ensures fits { IsOfWidth w result.0 }
 {
     let (r, _) = sum(w, a, 1, false);
     let f = with_flag(f, Flag::Auxiliary, sum_adjust(a, 1, false));
@@ -145,7 +150,8 @@ pub fn increment(w: Width, a: u16, f: u16) -> (u16, u16)
 #[tactic(auto, unfolding(o2_isa::specs::Sums::decrement_of))]
 pub fn decrement(w: Width, a: u16, f: u16) -> (u16, u16)
     requires { IsOfWidth w a }
-    ensures { result ≡ decrement_of w a f }
+    ensures value { result ≡ decrement_of w a f }
+    ensures fits { IsOfWidth w result.0 }
 {
     let r = difference(w, a, 1, false);
     let f = with_flag(f, Flag::Auxiliary, borrows(a % 16, 1, false));
@@ -157,7 +163,8 @@ pub fn decrement(w: Width, a: u16, f: u16) -> (u16, u16)
 #[tactic(auto, unfolding(o2_isa::specs::Sums::negate_of))]
 pub fn negate(w: Width, a: u16, f: u16) -> (u16, u16)
     requires { IsOfWidth w a }
-    ensures { result ≡ negate_of w a f }
+    ensures value { result ≡ negate_of w a f }
+    ensures fits { IsOfWidth w result.0 }
 {
     let r = ((size(w) - a as u32) % size(w)) as u16;
     let f = carries(f, a != 0, a % 16 != 0, a as u32 == half_size(w));
@@ -174,8 +181,13 @@ pub fn complement(w: Width, a: u16) -> u16
     (size(w) - 1 - a as u32) as u16
 }
 
-fn logic_result(op: Op, a: u16, b: u16) -> u16
-    ensures { result ≡ logic_value op a b }
+#[inline]
+#[tactic(auto, using(crate::proofs::Bounds::or_fits, crate::proofs::Bounds::xor_fits))]
+fn logic_result(op: Op, w: Width, a: u16, b: u16) -> u16
+    requires left { IsOfWidth w a }
+    requires right { IsOfWidth w b }
+    ensures value { result ≡ logic_value op a b }
+    ensures fits { IsOfWidth w result }
 {
     match op {
         Op::OpAnd | Op::OpTest => a & b,
@@ -187,9 +199,12 @@ fn logic_result(op: Op, a: u16, b: u16) -> u16
 /// AND, TEST, OR, and for any other `op` XOR: the result and the flags word.
 #[tactic(auto, unfolding(o2_isa::specs::Sums::logic_of))]
 pub fn logic(op: Op, w: Width, a: u16, b: u16, f: u16) -> (u16, u16)
-    ensures { result ≡ logic_of op w a b f }
+    requires left { IsOfWidth w a }
+    requires right { IsOfWidth w b }
+    ensures value { result ≡ logic_of op w a b f }
+    ensures fits { IsOfWidth w result.0 }
 {
-    let r = logic_result(op, a, b);
+    let r = logic_result(op, w, a, b);
     let f = with_flag(f, Flag::Carry, false);
     let f = with_flag(f, Flag::Overflow, false);
     (r, szp(w, r, f))
@@ -200,7 +215,8 @@ pub fn logic(op: Op, w: Width, a: u16, b: u16, f: u16) -> (u16, u16)
 pub fn binary(op: Op, w: Width, a: u16, b: u16, f: u16) -> (u16, u16)
     requires left { IsOfWidth w a }
     requires right { IsOfWidth w b }
-    ensures { result ≡ binary_of op w a b f }
+    ensures value { result ≡ binary_of op w a b f }
+    ensures fits { IsOfWidth w result.0 }
 {
     match op {
         Op::OpAdd => add(w, a, b, false, f),
@@ -215,7 +231,8 @@ pub fn binary(op: Op, w: Width, a: u16, b: u16, f: u16) -> (u16, u16)
 #[tactic(auto, unfolding(o2_isa::specs::Alu::unary_of))]
 pub fn unary(op: Op, w: Width, a: u16, f: u16) -> (u16, u16)
     requires { IsOfWidth w a }
-    ensures { result ≡ unary_of op w a f }
+    ensures value { result ≡ unary_of op w a f }
+    ensures fits { IsOfWidth w result.0 }
 {
     match op {
         Op::OpInc => increment(w, a, f),

@@ -1,5 +1,5 @@
 -- The flags word of the 80286: the place of each flag, and one flag read or put.
-use Rattle.std.specs.Prelude.{ℕ, ◌+◌, ◌*◌, ◌/◌, ◌%◌, ◌^◌, Bool, ◌==◌, nat_le, if◌then◌else◌, count_ones}
+use Rattle.std.specs.Prelude.{ℕ, ◌+◌, ◌*◌, ◌/◌, ◌%◌, ◌^◌, Bool, true, false, ◌==◌, nat_le, if◌then◌else◌, count_ones}
 use Rattle.o2_isa.specs.declared.instr.Width.{Width}
 use Rattle.o2_isa.specs.declared.flags.Flag.{Flag}
 use Rattle.o2_isa.specs.declared.flags.Flag.TheVariants.{Carry, Parity, Auxiliary, Zero, Sign, Trap, Interrupt, Direction, Overflow, PrivilegeLow, PrivilegeHigh, Nested}
@@ -29,6 +29,16 @@ put f k on = f / (2 * weight k) * (2 * weight k) + (if on then weight k else 0) 
 
 abbrev pub is_set : ℕ → Flag → Bool
 is_set f k = f / weight k % 2 == 1
+
+-- the six flags that arithmetic may put; the others are for control
+abbrev pub is_status : Flag → Bool
+is_status Carry = true
+is_status Parity = true
+is_status Auxiliary = true
+is_status Zero = true
+is_status Sign = true
+is_status Overflow = true
+is_status _ = false
 
 -- an even number of ones in the low byte
 unfoldable pub is_even : ℕ → Bool

@@ -62,3 +62,8 @@ shift_of op w a count f =
     let n = count % 32 in
     let x = repeated n op w (a, is_set f Carry) in
     if n == 0 then (a, f) else (x.0, shift_flags op w n a x.0 x.1 f)
+
+-- n shifts by one bit, each from the value and the flags word that the last one left
+abbrev pub shift_times : ℕ → Op → Width → ℕ × ℕ → ℕ × ℕ
+shift_times zero op w x = x
+shift_times (suc n) op w x = shift_of op w (shift_times n op w x).0 1 (shift_times n op w x).1

@@ -1,0 +1,255 @@
+// Values from the Intel manuals and from sums written another way.
+
+ghost use Rattle.std.specs.Prelude.{◌<◌, IsTrue};
+ghost use Rattle.o2_isa.specs.Widths.{IsOfWidth, IsOfTwice};
+
+use crate::{add, adjust, binary, div, mul, shift, unary};
+use o2_isa::{Op, Width};
+
+/// What a byte addition leaves in the flags word 0202h, by the bits of operands and sum.
+fn flags_by_bits(a: u16, b: u16, sum: u16) -> u16 {
+    let crossed = a ^ b ^ sum;
+    let folded = sum ^ (sum >> 4);
+    let folded = folded ^ (folded >> 2);
+    let even = !(folded ^ (folded >> 1)) & 1;
+    let zero = if sum & 0xFF == 0 { 0x40 } else { 0 };
+    let overflow = (crossed ^ (crossed >> 1)) & 0x80;
+    0x202 | (sum >> 8) & 1 | even << 2 | crossed & 0x10 | zero | sum & 0x80 | overflow << 4
+}
+
+#[test]
+fn all_byte_additions(rt: HostRuntime) {
+    for n in 0..0x2_0000u32 {
+        let a = (n % 256) as u16;
+        let b = (n / 256 % 256) as u16;
+        let carry = n / 65536;
+        let sum = a + b + carry as u16;
+        let (r, f) = add(Width::Byte, a, b, carry == 1, 0x202);
+        assert_eq!(rt; r, sum & 0xFF, "{a} + {b}");
+        assert_eq!(rt; f, flags_by_bits(a, b, sum), "{a} + {b}");
+    }
+}
+
+/// A mnemonic with two operands, the flags word before, and the result and the flags word after.
+static SUMS: [(Op, Width, u16, u16, u16, u16, u16); 12] = [
+    // MOV AL, 7Fh; ADD AL, 1
+    (Op::OpAdd, Width::Byte, 0x7F, 0x01, 0x0202, 0x80, 0x0A92),
+    (
+        Op::OpAdd,
+        Width::Word,
+        0xFFFF,
+        0x0001,
+        0x0202,
+        0x0000,
+        0x0257,
+    ),
+    (Op::OpAdc, Width::Byte, 0xFF, 0x00, 0x0203, 0x00, 0x0257),
+    (Op::OpAdc, Width::Byte, 0x80, 0x80, 0x0202, 0x00, 0x0A47),
+    // The pair of the manual's DAS: 35h - 47h.
+    (Op::OpSub, Width::Byte, 0x35, 0x47, 0x0202, 0xEE, 0x0297),
+    (
+        Op::OpSub,
+        Width::Word,
+        0x8000,
+        0x0001,
+        0x0202,
+        0x7FFF,
+        0x0A16,
+    ),
+    (
+        Op::OpSbb,
+        Width::Word,
+        0x0000,
+        0xFFFF,
+        0x0203,
+        0x0000,
+        0x0257,
+    ),
+    (Op::OpCmp, Width::Byte, 0x05, 0x05, 0x0ED7, 0x00, 0x0646),
+    (
+        Op::OpAnd,
+        Width::Word,
+        0xF0F0,
+        0x8FF0,
+        0x0AD7,
+        0x80F0,
+        0x0296,
+    ),
+    (Op::OpOr, Width::Byte, 0x00, 0x00, 0x0203, 0x00, 0x0246),
+    (Op::OpXor, Width::Byte, 0xAA, 0x55, 0x0202, 0xFF, 0x0286),
+    (Op::OpTest, Width::Byte, 0x81, 0x01, 0x0202, 0x01, 0x0202),
+];
+
+#[test]
+fn sums_of_the_manual(rt: HostRuntime) {
+    for (op, w, a, b, f, r, g) in SUMS {
+        if fits(w, a) && fits(w, b) {
+            assert_eq!(rt; binary(op, w, a, b, f), (r, g), "{a} and {b}");
+        }
+    }
+}
+
+/// Whether `x` is a number of the width.
+fn fits(w: Width, x: u16) -> bool
+    ensures { IsTrue result → IsOfWidth w x }
+{
+    match w {
+        Width::Byte => x < 256,
+        Width::Word => true,
+    }
+}
+
+static ONES: [(Op, Width, u16, u16, u16, u16); 7] = [
+    // INC and DEC leave CF.
+    (Op::OpInc, Width::Byte, 0x7F, 0x0203, 0x80, 0x0A93),
+    (Op::OpInc, Width::Word, 0xFFFF, 0x0202, 0x0000, 0x0256),
+    (Op::OpDec, Width::Byte, 0x80, 0x0202, 0x7F, 0x0A12),
+    (Op::OpDec, Width::Word, 0x0000, 0x0203, 0xFFFF, 0x0297),
+    (Op::OpNeg, Width::Byte, 0x80, 0x0202, 0x80, 0x0A83),
+    (Op::OpNeg, Width::Word, 0x0000, 0x0203, 0x0000, 0x0246),
+    (Op::OpNot, Width::Byte, 0x0F, 0x0ED7, 0xF0, 0x0ED7),
+];
+
+#[test]
+fn one_operand(rt: HostRuntime) {
+    for (op, w, a, f, r, g) in ONES {
+        if fits(w, a) {
+            assert_eq!(rt; unary(op, w, a, f), (r, g), "{a}");
+        }
+    }
+}
+
+/// A shift of a value by a count, the flags word before, and the result and the flags word after.
+static SHIFTS: [(Op, Width, u16, u8, u16, u16, u16); 16] = [
+    (Op::OpShl, Width::Byte, 0x81, 1, 0x0202, 0x02, 0x0A03),
+    (Op::OpShl, Width::Byte, 0x81, 2, 0x0202, 0x04, 0x0202),
+    (Op::OpShl, Width::Word, 0x0001, 16, 0x0202, 0x0000, 0x0247),
+    (Op::OpShl, Width::Word, 0x0001, 31, 0x0203, 0x0000, 0x0246),
+    (Op::OpShr, Width::Byte, 0x81, 1, 0x0202, 0x40, 0x0A03),
+    (Op::OpSar, Width::Byte, 0x81, 1, 0x0A02, 0xC0, 0x0287),
+    (Op::OpSar, Width::Word, 0x8000, 31, 0x0202, 0xFFFF, 0x0287),
+    (Op::OpRol, Width::Byte, 0x81, 1, 0x0202, 0x03, 0x0A03),
+    (Op::OpRol, Width::Byte, 0x81, 8, 0x0202, 0x81, 0x0203),
+    (Op::OpRol, Width::Word, 0x1234, 4, 0x0202, 0x2341, 0x0203),
+    (Op::OpRor, Width::Word, 0x1234, 4, 0x0202, 0x4123, 0x0202),
+    (Op::OpRor, Width::Byte, 0x01, 1, 0x0202, 0x80, 0x0A03),
+    (Op::OpRcl, Width::Byte, 0x80, 1, 0x0203, 0x01, 0x0A03),
+    (Op::OpRcl, Width::Byte, 0xA5, 9, 0x0203, 0xA5, 0x0203),
+    (Op::OpRcr, Width::Word, 0x0001, 17, 0x0202, 0x0001, 0x0202),
+    // A count of 32 is a count of 0, which changes nothing.
+    (Op::OpRcr, Width::Byte, 0xA5, 32, 0x0AD7, 0xA5, 0x0AD7),
+];
+
+#[test]
+fn shifts_by_hand(rt: HostRuntime) {
+    for (op, w, a, n, f, r, g) in SHIFTS {
+        if fits(w, a) {
+            assert_eq!(rt; shift(op, w, a, n, f), (r, g), "{a} by {n}");
+        }
+    }
+}
+
+/// Factors, whether they are signed, the product and the flags word after 0202h.
+static PRODUCTS: [(Width, bool, u16, u16, u32, u16); 7] = [
+    (Width::Byte, false, 0xFF, 0xFF, 0xFE01, 0x0A03),
+    (Width::Byte, false, 0x0F, 0x11, 0x00FF, 0x0202),
+    (Width::Byte, true, 0xFF, 0xFF, 0x0001, 0x0202),
+    (Width::Byte, true, 0x80, 0x80, 0x4000, 0x0A03),
+    (Width::Byte, true, 0x80, 0x01, 0xFF80, 0x0202),
+    (Width::Word, true, 0x8000, 0x0002, 0xFFFF_0000, 0x0A03),
+    (Width::Word, true, 0x8000, 0x8000, 0x4000_0000, 0x0A03),
+];
+
+#[test]
+fn products_by_hand(rt: HostRuntime) {
+    for (w, signed, a, b, r, g) in PRODUCTS {
+        if fits(w, a) && fits(w, b) {
+            assert_eq!(rt; mul(w, signed, a, b, 0x202), (r, g), "{a} times {b}");
+        }
+    }
+}
+
+/// Signed dividends and divisors, quotients and remainders: None is a divide error.
+static QUOTIENTS: [(Width, u32, u16, Option<(u16, u16)>); 12] = [
+    (Width::Byte, 0xFF80, 0x01, Some((0x80, 0x00))),
+    (Width::Byte, 0x0080, 0x01, None),
+    (Width::Byte, 0x0080, 0xFF, Some((0x80, 0x00))),
+    (Width::Byte, 0xFF80, 0xFF, None),
+    (Width::Byte, 0x8000, 0xFF, None),
+    (Width::Byte, 0xFFF9, 0x02, Some((0xFD, 0xFF))),
+    (Width::Byte, 0x0007, 0xFE, Some((0xFD, 0x01))),
+    (Width::Byte, 0x0007, 0x00, None),
+    (Width::Word, 0x8000_0000, 0xFFFF, None),
+    (Width::Word, 0xFFFF_8000, 0x0001, Some((0x8000, 0x0000))),
+    (Width::Word, 0xFFFF_FFF9, 0x0002, Some((0xFFFD, 0xFFFF))),
+    (Width::Word, 0x3FFF_FFFF, 0x7FFF, None),
+];
+
+#[test]
+fn signed_quotients_by_hand(rt: HostRuntime) {
+    for (w, a, b, want) in QUOTIENTS {
+        if fits(w, b) && fits_twice(w, a) {
+            assert_eq!(rt; div(w, true, a, b), want, "{a} by {b}");
+        }
+    }
+}
+
+/// Whether `x` is a number of twice the width.
+fn fits_twice(w: Width, x: u32) -> bool
+    ensures { IsTrue result → IsOfTwice w x }
+{
+    match w {
+        Width::Byte => x < 0x1_0000,
+        Width::Word => true,
+    }
+}
+
+/// Whether this is the outcome of dividing `a` by `b` in bytes.
+fn is_quotient(a: u32, b: u16, outcome: Option<(u16, u16)>) -> bool
+    requires byte { b < 256 }
+    requires word { a < 65536 }
+{
+    match outcome {
+        None => b as u32 * 256 <= a,
+        Some((q, r)) => q < 256 && r < b && q as u32 * b as u32 + r as u32 == a,
+    }
+}
+
+#[test]
+fn all_byte_quotients_of_some_divisors(rt: HostRuntime) {
+    for n in 0..0x6_0000u32 {
+        let a = n % 0x1_0000;
+        let b = [0, 1, 3, 10, 0x80, 0xFF][(n / 0x1_0000) as usize];
+        if b < 256 {
+            assert!(rt;
+                is_quotient(a, b, div(Width::Byte, false, a, b)),
+                "{a} by {b}"
+            );
+        }
+    }
+}
+
+/// AX, the base and the flags word, and both after.
+static DECIMALS: [(Op, u16, u8, u16, Option<(u16, u16)>); 12] = [
+    // 79h + 35h = AEh, in decimal 79 + 35 = 114: the manual's example.
+    (Op::OpDaa, 0x00AE, 10, 0x0A82, Some((0x0014, 0x0A17))),
+    // 35h - 47h = EEh, in decimal 35 - 47 = 88 with a borrow: the manual's example.
+    (Op::OpDas, 0x00EE, 10, 0x0297, Some((0x0088, 0x0297))),
+    (Op::OpDaa, 0x1200, 10, 0x0203, Some((0x1260, 0x0207))),
+    (Op::OpDaa, 0x009A, 10, 0x0202, Some((0x0000, 0x0257))),
+    (Op::OpAaa, 0x000E, 10, 0x0202, Some((0x0104, 0x0213))),
+    (Op::OpAaa, 0x0005, 10, 0x0203, Some((0x0005, 0x0202))),
+    (Op::OpAas, 0x02FF, 10, 0x0212, Some((0x0109, 0x0213))),
+    (Op::OpAam, 0x003F, 10, 0x0202, Some((0x0603, 0x0206))),
+    (Op::OpAam, 0x003F, 0, 0x0202, None),
+    (Op::OpAam, 0x00FF, 16, 0x0202, Some((0x0F0F, 0x0206))),
+    (Op::OpAad, 0x0207, 10, 0x0202, Some((0x001B, 0x0206))),
+    (Op::OpAad, 0xFFFF, 0xFF, 0x0202, Some((0x0000, 0x0246))),
+];
+
+#[test]
+fn decimals_of_the_manual(rt: HostRuntime) {
+    for (op, ax, base, f, want) in DECIMALS {
+        assert_eq!(rt; adjust(op, ax, base, f), want, "{ax} at base {base}");
+    }
+}
