@@ -6,6 +6,7 @@ mod bus;
 mod outcome;
 mod plain;
 mod plain_bus;
+mod plain_edit;
 mod registers;
 mod segment;
 
