@@ -1,21 +1,19 @@
 -- A write, as the view sees it.
-use Rattle.std.proofs.Common.{◌≡◌, ◌≢◌, refl, sym, ◌∙◌, ap, subst, ℕ, zero, suc, ◌+◌, ◌<◌, ◌≤◌, Bool, true, false, cond, ◌==◌, List, [], ◌∷◌, length, get_or, set, arith, not}
+use Rattle.std.proofs.Common.{◌≡◌, ◌≢◌, refl, sym, ◌∙◌, ap, subst, ℕ, zero, suc, ◌+◌, ◌<◌, ◌≤◌, Bool, true, false, cond, ◌==◌, List, [], ◌∷◌, length, set, arith}
 use Rattle.std.specs.Prelude.{Option, Some, None, Result, Ok, Err, IsOk, slice_get, nat_le}
 use Rattle.std.specs.Borrow.{GName}
 use Rattle.std.proofs.lemmas.Bool.{eqb-true, eq-eqb, leb-true, false≢true}
-use Rattle.std.proofs.lemmas.Option.{slice_get-get_or}
-use Rattle.std.proofs.lemmas.List.{length-set}
 use mathlib.Core.Path.{fun_ext}
 use Rattle.o2_isa.specs.declared.instr.Width.{Width}
 use Rattle.o2_isa.specs.declared.instr.Width.TheVariants.{Byte, Word}
 use Rattle.o2_isa.specs.declared.instr.Sreg.{Sreg}
-use Rattle.o2_isa.specs.View.{View, Hold, in_register, is_writable, reached, room_of, poke, poke_hold, with_bytes, put_at, width_len, outside}
+use Rattle.o2_isa.specs.View.{View, Hold, in_register, is_writable, reached, room_of, poke, poke_hold, put_at, width_len, outside}
 use Rattle.o2_isa.proofs.Pokes.{length_put_at}
 use Rattle.o2_bus.specs.declared.plain.Plain.{Plain}
 use Rattle.o2_bus.specs.declared.plain.Grant.{Grant}
 use Rattle.o2_bus.specs.declared.segment.Segment.{Segment}
 use Rattle.o2_bus.specs.declared.plain_bus.Holds.{Holds}
-use Rattle.o2_bus.specs.Plain.{hold_of, held_in, bytes_in, shown_in, count_in, segment_bytes, is_shown, registers_of, bus_view, PutsBytes}
+use Rattle.o2_bus.specs.Plain.{hold_of, held_in, bytes_in, shown_in, count_in, segment_bytes, registers_of, bus_view, PutsBytes}
 
 get_set_same : (xs : List Segment) (i : ℕ) (x : Segment) → i < length xs → slice_get (set xs i x) i ≡ Some x
 get_set_same [] i x h = absurd (omega arith)

@@ -1,9 +1,9 @@
 -- What a plain memory of segments holds, by look-ups, and how a processor sees it.
-use Rattle.std.specs.Prelude.{◌≡◌, ◌≢◌, ℕ, Bool, true, false, not, List, [], slice_get, length, Option, Some, None, option_map}
+use Rattle.std.specs.Prelude.{◌≡◌, ◌≢◌, ℕ, Bool, true, not, List, [], slice_get, length, take, drop, ◌++◌, ◌+◌, Option, Some, None, option_map}
 use Rattle.std.specs.Borrow.{GName}
 use Rattle.o2_isa.specs.declared.cpu.Cpu.{Cpu}
 use Rattle.o2_isa.specs.declared.cpu.Purpose.{Purpose}
-use Rattle.o2_isa.specs.declared.cpu.Purpose.TheVariants.{DataReg, StackReg, Jump, Call, Return}
+use Rattle.o2_isa.specs.declared.cpu.Purpose.TheVariants.{DataReg, StackReg}
 use Rattle.o2_isa.specs.View.{View, Hold, Registers, is_readable, is_writable, is_code, bound_registers, simple_view, no_rest, no_hidden}
 use Rattle.o2_isa.specs.Presence.{with_unseen}
 use Rattle.o2_bus.specs.declared.plain.Plain.{Plain}
@@ -79,3 +79,7 @@ pub record PutsBytes (old new : List Segment) (name : ℕ) (bytes : List ℕ) : 
   pub others : (n : ℕ) → n ≢ name → slice_get new n ≡ slice_get old n
   pub same_shown : (n : ℕ) → is_shown (slice_get new n) ≡ is_shown (slice_get old n)
   pub same_count : length new ≡ length old
+
+-- the bytes with others in place of those at a place
+abbrev pub spliced : List ℕ → ℕ → List ℕ → List ℕ
+spliced bs at new = take at bs ++ (new ++ drop (at + length new) bs)

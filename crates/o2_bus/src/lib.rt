@@ -8,6 +8,7 @@ mod plain;
 mod plain_bus;
 mod plain_end;
 mod plain_parts;
+mod plain_edit;
 mod registers;
 mod segment;
 

@@ -30,6 +30,14 @@ pub struct Plain {
 }
 
 impl Plain {
+    /// How many names were added: they are numbered from 0.
+    #[tactic(auto, unfolding(crate::specs::Plain::count_in))]
+    pub fn count(&self) -> usize
+        ensures { result ≡ count_in self.now }
+    {
+        self.segments.len()
+    }
+
     /// The bytes of a name. None where it was never added.
     #[tactic(auto, unfolding(crate::specs::Plain::bytes_in))]
     pub fn bytes(&self, name: u32) -> &[u8]

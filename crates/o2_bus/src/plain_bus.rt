@@ -90,7 +90,7 @@ fn with_hold(holds: Holds, reg: Sreg, grant: Option<Grant>) -> Holds
 fn is_readable_byte(access: u8) -> bool
     ensures { result ≡ is_readable access }
 {
-    access == 0xFA || access == 0xF2 || access == 0xF0
+    access == 0xFA || access == 0xF0 || is_writable_byte(access)
 }
 
 fn is_writable_byte(access: u8) -> bool
@@ -183,24 +183,15 @@ impl PlainBus<'_> {
                 _ => Loaded::Trap(13, 0),
             };
         }
+        let outer = sel % 4 == 3;
         match purpose {
+            Purpose::StackReg if !outer => refuses(sel),
+            Purpose::Return if !outer => refuses(sel),
             Purpose::DataReg => self.tested(Purpose::DataReg, sel, grant),
-            Purpose::StackReg => {
-                if sel % 4 == 3 {
-                    self.tested(Purpose::StackReg, sel, grant)
-                } else {
-                    refuses(sel)
-                }
-            }
+            Purpose::StackReg => self.tested(Purpose::StackReg, sel, grant),
             Purpose::Jump => self.tested(Purpose::Jump, sel, grant),
             Purpose::Call => self.far_call(sel, grant),
-            Purpose::Return => {
-                if sel % 4 == 3 {
-                    self.tested(Purpose::Return, sel, grant)
-                } else {
-                    refuses(sel)
-                }
-            }
+            Purpose::Return => self.tested(Purpose::Return, sel, grant),
         }
     }
 }

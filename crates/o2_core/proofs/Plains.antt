@@ -1,18 +1,16 @@
 -- From the view of a plain bus to what its memory holds.
-use Rattle.std.proofs.Common.{◌≡◌, refl, sym, ◌∙◌, ap, subst, ℕ, Bool, true, false, List, [], length}
-use Rattle.std.specs.Prelude.{Option, Some, None, Result, Ok, Err}
+use Rattle.std.proofs.Common.{◌≡◌, refl, sym, ◌∙◌, ap, subst, ℕ, true, false, List, [], length}
+use Rattle.std.specs.Prelude.{Option, Some, None}
 use Rattle.std.specs.Borrow.{GName}
 use Rattle.std.proofs.lemmas.Bool.{false≢true}
 use Rattle.o2_base.specs.declared.selector.Selector.{Selector}
 use Rattle.o2_isa.specs.declared.cpu.Cpu.{Cpu}
 use Rattle.o2_isa.specs.declared.cpu.Outcome.{Outcome}
 use Rattle.o2_isa.specs.declared.cpu.Outcome.TheVariants as outcome
-use Rattle.o2_isa.specs.declared.cpu.Stop.{Stop}
-use Rattle.o2_isa.specs.declared.cpu.Stop.TheVariants as stop
 use Rattle.o2_isa.specs.View.{View, Hold, Hidden, Rest, Registers, Filling, KeepsFrame, IsBound, Agrees, bound_registers, simple_view, present_or_none, in_register, no_rest, no_hidden}
 use Rattle.o2_isa.specs.Steps.{State, state}
-use Rattle.o2_isa.specs.Presence.{unseen, with_unseen, IsMissed, whole_state}
-use Rattle.o2_isa.specs.Step.{Answers, stepped, step_names, is_miss}
+use Rattle.o2_isa.specs.Presence.{unseen, IsMissed}
+use Rattle.o2_isa.specs.Step.{Answers, stepped, is_miss}
 use Rattle.o2_isa.proofs.StepLaws.{answers_unseen, stepped_missed}
 use Rattle.o2_bus.specs.declared.plain.Plain.{Plain}
 use Rattle.o2_bus.specs.declared.plain_bus.Holds.{Holds}

@@ -4,3 +4,4 @@ pub mod Runs
 pub mod Alike
 pub mod Mnemonics
 pub mod StepLaws
+pub mod Views

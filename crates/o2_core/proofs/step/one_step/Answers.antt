@@ -1,8 +1,7 @@
-use Rattle.std.proofs.Common.{refl, ◌+◌, ◌%◌}
-use Rattle.o2_isa.specs.declared.rows.Decoded.TheVariants.{One, Invalid}
+use Rattle.std.proofs.Common.{refl}
+use Rattle.o2_isa.specs.declared.rows.Decoded.TheVariants.{Invalid}
 use Rattle.o2_isa.specs.declared.cpu.Outcome.TheVariants.{Trap}
 use Rattle.o2_isa.specs.Steps.{state}
-use Rattle.o2_isa.specs.Meaning.{meaning}
 use Rattle.o2_isa.proofs.StepLaws.{decoded_step, decoded_one, other_step}
 use Rattle.o2_core.proofs.step.one_step.Goals as goal
 

@@ -1,12 +1,11 @@
-use Rattle.std.proofs.Common.{subst, sym, ◌∙◌, List, ◌≡◌, refl}
-use Rattle.std.specs.Prelude.{slice_get, None, Option, Some}
+use Rattle.std.proofs.Common.{subst, sym, ◌∙◌, List}
+use Rattle.std.specs.Prelude.{slice_get}
 use Rattle.std.specs.Vec.{with_items}
 use Rattle.std.proofs.lemmas.List.{with_items_is}
-use Rattle.o2_isa.specs.View.{Hold, put_at, in_register}
+use Rattle.o2_isa.specs.View.{put_at}
 use Rattle.o2_bus.specs.declared.plain.Plain.{Plain}
-use Rattle.o2_bus.specs.declared.plain.Grant.{Grant}
 use Rattle.o2_bus.specs.declared.segment.Segment.{Segment}
-use Rattle.o2_bus.specs.Plain.{PutsBytes, segment_bytes, registers_of}
+use Rattle.o2_bus.specs.Plain.{PutsBytes, segment_bytes}
 use Rattle.o2_bus.proofs.Writes.{room_of_grant, grant_within, view_after, no_room_without}
 use Rattle.o2_bus.proofs.plain_bus.PlainBusBus.write.Goals as goal
 
