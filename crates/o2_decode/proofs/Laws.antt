@@ -8,10 +8,9 @@ use Rattle.std.proofs.lemmas.Grind.{common_steps}
 use Rattle.std.proofs.Math.Seq.{take-append_seam}
 use Rattle.o2_isa.specs.declared.rows.Entry.TheVariants.{Unused}
 use Rattle.o2_isa.specs.declared.rows.Prefixes.{Prefixes}
-use Rattle.o2_isa.specs.declared.rows.Plan.{Plan}
+use Rattle.o2_isa.specs.Operands.{Plan}
 use Rattle.o2_isa.specs.declared.instr.Instr.{Instr}
-use Rattle.o2_isa.specs.declared.rows.Head.{Head}
-use Rattle.o2_isa.specs.declared.rows.Head.TheVariants.{More, Bad, Whole}
+use Rattle.o2_isa.specs.Reading.{Head, More, Bad, Whole}
 use Rattle.o2_isa.specs.declared.rows.Decoded.{Decoded}
 use Rattle.o2_isa.specs.declared.rows.Decoded.TheVariants.{One, Invalid, TooLong, Need}
 use Rattle.o2_isa.specs.Table.{table, table_0f}

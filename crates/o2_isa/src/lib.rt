@@ -8,4 +8,4 @@ mod rows;
 pub use cpu::{Cpu, Loaded, Purpose, Stop};
 pub use instr::{Arg, Ea, Instr, Op, Rep, Sreg, Width};
 pub use o2_base::Selector;
-pub use rows::{Decoded, Entry, Head, Plan, Prefixes, Repeat, Row, Slot};
+pub use rows::{Decoded, Entry, Prefixes, Repeat, Row, Slot};
