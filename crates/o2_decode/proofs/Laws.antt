@@ -17,7 +17,7 @@ use Rattle.o2_isa.specs.Table.{table, table_0f}
 use Rattle.o2_isa.specs.Operands.{tail_len, instr_of}
 use Rattle.o2_isa.specs.Spelling.{is_prefix, no_prefixes, mark, marks, plan_after, plan_two, plan_of, IsPrefix, IsByte, SpellsAfter, Spells, IsFront, IsUndefined}
 use Rattle.o2_isa.specs.Reading.{IsWithin, head_after, head_two, head_of, read_tail, read, limited, decoded}
-use Rattle.o2_decode.proofs.Heads.{chosen, after_sound, after_again, after_bad, after_more, table_finish, table_0f_finish}
+use Rattle.o2_decode.proofs.HeadLaws.{chosen, after_sound, after_again, after_bad, after_more, table_finish, table_0f_finish}
 
 -- Heads with their opcode.
 

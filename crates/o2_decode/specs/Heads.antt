@@ -1,7 +1,7 @@
 -- A head of the code, as the head of the definitions that it is.
 use Rattle.std.specs.Prelude.{◌≡◌, ◌≤◌}
-use Rattle.o2_decode.specs.declared.lookup.Head.{Head}
-use Rattle.o2_decode.specs.declared.lookup.Head.TheVariants as code
+use Rattle.o2_decode.specs.declared.heads.Head.{Head}
+use Rattle.o2_decode.specs.declared.heads.Head.TheVariants as code
 use Rattle.o2_isa.specs.Reading as spec
 
 abbrev pub IsHead : Head → spec.Head → Type 0

@@ -3,7 +3,7 @@ ghost use Rattle.o2_isa.specs.Spelling.{is_prefix, mark, no_prefixes, Spells, Is
 ghost use Rattle.o2_isa.specs.Reading.{Whole, head_of, read_tail, read, limited, decoded, IsWithin};
 ghost use Rattle.o2_isa.specs.declared.instr.Instr.{Instr};
 
-use crate::lookup::{Head, head_at};
+use crate::heads::{Head, head_at};
 use crate::operands::{instruction, rest_len};
 use o2_isa::{Decoded, Prefixes, Rep, Row, Sreg};
 
