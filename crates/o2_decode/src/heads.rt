@@ -1,3 +1,5 @@
+// Looking up what an instruction is: its opcode, and its ModRM byte where it takes one.
+
 ghost use Rattle.std.specs.Prelude.{◌≡◌, ◌<◌, ◌≤◌, [], slice_index_or};
 ghost use Rattle.o2_isa.specs.Table.{table, table_0f, groups};
 ghost use Rattle.o2_isa.specs.Operands.{slot_takes, row_takes};

@@ -1,3 +1,5 @@
+// The operands of an instruction, from its prefixes, its ModRM byte and the bytes after that.
+
 ghost use Rattle.std.specs.Prelude.{◌≡◌, ◌+◌, ◌<◌, ◌≤◌, length};
 ghost use Rattle.o2_isa.specs.Operands.{is_direct, disp_len, imm_len, tail_len, word_at, sign_extended, sreg_of, default_segment, disp_of, ea_of, register, arg_of, source_segment, rep_of, instr_of};
 

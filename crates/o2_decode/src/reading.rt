@@ -1,6 +1,9 @@
+// Reading an instruction from its bytes, from left to right.
+
 ghost use Rattle.std.specs.Prelude.{◌≡◌, List, [], ◌++◌, ◌+◌, ◌<◌, ◌≤◌, ◌↔◌, ℕ, length, take};
 ghost use Rattle.o2_isa.specs.Spelling.{is_prefix, mark, no_prefixes, Spells, IsFront, IsUndefined};
 ghost use Rattle.o2_isa.specs.Reading.{Whole, head_of, read_tail, read, limited, decoded, IsWithin};
+ghost use Rattle.o2_isa.specs.Canonical.{IsCanonical};
 ghost use Rattle.o2_isa.specs.declared.instr.Instr.{Instr};
 
 use crate::heads::{Head, head_at};
@@ -102,11 +105,16 @@ fn limited_bytes(bytes: &[u8]) -> Decoded
     }
 }
 
-/// The instruction at the front of the bytes.
+/// The instruction at the front of at most ten bytes, by the opcode table of the Intel 80286 Programmer's Reference
+/// Manual. `One` has the instruction and how many of the bytes it has. `Need` says that fewer than ten bytes are a
+/// proper front of an instruction, and `TooLong` that ten are, so that it is longer than the processor allows.
+/// `Invalid` says that no instruction begins with the bytes, whatever follows them. It takes no memory.
 pub fn decode(bytes: &[u8]) -> Decoded
     requires { length bytes.now ≤ 10 }
+    // the reading from left to right, by which a step of the machine is defined
     ensures is { result ≡ decoded bytes.now }
-    ensures one { (i : Instr) (n : ℕ) → (result ≡ Decoded.One i n) ↔ ((n ≤ length bytes.now) × Spells (take n bytes.now) i) }
+    ensures one { (i : Instr) (n : ℕ) →
+        (result ≡ Decoded.One i n) ↔ ((n ≤ length bytes.now) × Spells (take n bytes.now) i) }
     ensures within { IsWithin result (length bytes.now) }
     ensures need { (result ≡ Decoded.Need) ↔ ((length bytes.now < 10) × IsFront bytes.now) }
     ensures too_long { (result ≡ Decoded.TooLong) ↔ ((10 ≤ length bytes.now) × IsFront bytes.now) }
@@ -115,8 +123,10 @@ pub fn decode(bytes: &[u8]) -> Decoded
     limited_bytes(bytes)
 }
 
-/// No spelling begins another, and bytes spell one instruction at most.
+/// What holds of every spelling: bytes spell one instruction at most, no spelling begins another, and the fields of an
+/// instruction that mean nothing for its mnemonic have one value.
 pub fn one_spelling()
     ensures unique { (bytes : List ℕ) (i j : Instr) → Spells bytes i → Spells bytes j → i ≡ j }
     ensures no_front { (a b : List ℕ) (i j : Instr) → Spells a i → Spells (a ++ b) j → b ≡ [] }
+    ensures canonical { (bytes : List ℕ) (i : Instr) → Spells bytes i → IsCanonical i }
 {}

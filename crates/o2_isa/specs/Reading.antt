@@ -1,4 +1,5 @@
--- Reading from left to right.
+-- What the bytes at a place spell, read from left to right. What is read is spelled so, and what is spelled so is read:
+-- the clauses of o2_decode's `decode` and `one_spelling` say it.
 use Rattle.std.specs.Prelude.{ℕ, ◌+◌, ◌==◌, ◌≤◌, nat_lt, if◌then◌else◌, List, [], ◌∷◌, length, take, drop, slice_index_or, Option, Some, None}
 use Rattle.o2_isa.specs.declared.rows.Entry.{Entry}
 use Rattle.o2_isa.specs.declared.rows.Entry.TheVariants.{Unused, Bare, Modrm, Group}

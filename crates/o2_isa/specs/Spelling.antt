@@ -1,4 +1,5 @@
--- Which bytes spell which instruction: prefixes, then a head that the table knows, then as many bytes as the head asks for.
+-- Which bytes spell which instruction: prefixes, then a head that the table knows (the opcode, with the ModRM byte where it
+-- takes one), then as many bytes as the head asks for. No bound on the length stands here.
 use Rattle.std.specs.Prelude.{◌≡◌, ℕ, ◌<◌, ◌≤◌, Bool, true, false, ◌||◌, ◌==◌, if◌then◌else◌, List, [], ◌∷◌, ◌++◌, length, take, slice_index_or, Option, Some, None}
 use Rattle.std.specs.List.{AllByRecursion}
 use Rattle.o2_isa.specs.declared.rows.Entry.{Entry}
