@@ -59,3 +59,21 @@ pub enum Stop {
     /// It calls this service, which returns to this IP.
     Gate(u16, u16),
 }
+
+/// What a step answers.
+#[derive(Clone, Copy, Debug, PartialEq, Eq)]
+pub enum Outcome {
+    /// It completed.
+    Done,
+    /// It loads a selector whose segment isn't present; nothing is changed.
+    Miss(Selector),
+    /// It ends in this exception, with this error code; nothing is changed.
+    Trap(u8, u16),
+    /// It calls a service; nothing is changed.
+    Gate {
+        /// The number of the service.
+        service: u16,
+        /// The IP behind the call.
+        next: u16,
+    },
+}

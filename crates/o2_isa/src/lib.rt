@@ -2,10 +2,16 @@
 #![tactic(auto)]
 
 mod cpu;
+mod flags;
+mod groups;
 mod instr;
+mod laws;
 mod rows;
 
-pub use cpu::{Cpu, Loaded, Purpose, Stop};
+pub use cpu::{Cpu, Loaded, Outcome, Purpose, Stop};
+pub use flags::Flag;
+pub use groups::{Group, instruction_group};
 pub use instr::{Arg, Ea, Instr, Op, Rep, Sreg, Width};
+pub use laws::{presence_is_invisible, rows_are_rows, steps_keep};
 pub use o2_base::Selector;
 pub use rows::{Decoded, Entry, Prefixes, Repeat, Row, Slot};

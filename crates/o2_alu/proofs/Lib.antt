@@ -1,0 +1,4 @@
+pub mod Bounds
+pub mod FlagLaws
+pub mod SumLaws
+pub mod SignLaws

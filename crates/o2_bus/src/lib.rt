@@ -1,0 +1,24 @@
+//! The processor's view of a process's segments: the trait of a bus, what instructions want of it, and a plain bus.
+#![tactic(auto)]
+
+mod access;
+mod bus;
+mod outcome;
+mod plain;
+mod plain_bus;
+mod plain_end;
+mod plain_parts;
+mod registers;
+mod segment;
+
+pub use access::{check_load, check_target, read, room, store, value};
+pub use bus::{Bus, Caches};
+pub use o2_base::{NoMemory, Selector};
+pub use o2_isa::{Cpu, Loaded, Outcome, Purpose, Stop};
+pub use outcome::outcome_of;
+pub use plain::{Grant, Plain};
+pub use plain_bus::PlainBus;
+pub use registers::{
+    byte_register, offset, segment_register, set_byte_register, set_segment_register,
+    set_word_register, word_register,
+};

@@ -1,0 +1,398 @@
+// A bus over a plain memory of segments.
+ghost use Rattle.std.specs.Prelude.{◌≡◌, ◌<◌, ◌≤◌, ◌+◌, ◌*◌, ◌/◌, ◌%◌, ℕ, length, take, drop, IsOk, IfOk, option_map, None, Some};
+ghost use Rattle.o2_isa.specs.declared.instr.Width.TheVariants.{Byte};
+ghost use Rattle.o2_isa.specs.View.{with_register, in_register, bound_in, bound_registers, is_null, is_code, is_readable, is_writable, refused, here, when, called, gate_at, load_rules, outside, width_len, value_at, put_at, reached, read_name, SameRoom};
+ghost use Rattle.std.specs.Prelude.{slice_get};
+ghost use Rattle.o2_bus.specs.Plain.{hold_of, held_in, bus_view, view_in, registers_of, passes_of, absent_of, segment_bytes, PutsBytes};
+
+use crate::segment::Segment;
+use crate::{Bus, Grant, Plain};
+use o2_base::{Selector, is_built};
+use o2_isa::{Cpu, Loaded, Purpose, Sreg, Width};
+
+/// What the four segment registers hold.
+#[derive(Clone, Copy)]
+pub struct Holds {
+    pub es: Option<Grant>,
+    pub cs: Option<Grant>,
+    pub ss: Option<Grant>,
+    pub ds: Option<Grant>,
+}
+
+/// The bus of one process over a plain memory of segments.
+#[derive(Drop)]
+pub struct PlainBus<'p> {
+    pub plain: &'p mut Plain,
+    pub pid: u16,
+    pub holds: Holds,
+}
+
+/// What a segment register holds after the load of a selector.
+fn bound(plain: &Plain, pid: u16, sel: u16) -> Option<Grant>
+    ensures { option_map hold_of result ≡ bound_in (held_in plain.now pid) sel }
+{
+    if sel < 4 { None } else { plain.found(pid, sel) }
+}
+
+fn holds_of(plain: &Plain, pid: u16, cpu: &Cpu) -> Holds
+    ensures { registers_of result ≡ bound_registers (held_in plain.now pid) cpu.now }
+{
+    Holds {
+        es: bound(plain, pid, cpu.es),
+        cs: bound(plain, pid, cpu.cs),
+        ss: bound(plain, pid, cpu.ss),
+        ds: bound(plain, pid, cpu.ds),
+    }
+}
+
+impl Plain {
+    /// The bus of a process whose processor has these registers. A register whose selector names nothing in the map holds
+    /// nothing.
+    pub fn bus(&mut self, pid: u16, cpu: &Cpu) -> PlainBus<'_>
+        ensures same_reference { result.plain.ghost_name ≡ self.entry.ghost_name }
+        ensures plain { result.plain.now ≡ self.old }
+        ensures pid { result.pid ≡ pid }
+        ensures registers { registers_of result.holds ≡ bound_registers (held_in self.old pid) cpu.now }
+    {
+        let holds = holds_of(self, pid, cpu);
+        PlainBus {
+            plain: self,
+            pid,
+            holds,
+        }
+    }
+}
+
+fn hold_in(holds: &Holds, reg: Sreg) -> Option<Grant>
+    ensures { option_map hold_of result ≡ in_register (registers_of holds.now) reg }
+{
+    match reg {
+        Sreg::Es => holds.es,
+        Sreg::Cs => holds.cs,
+        Sreg::Ss => holds.ss,
+        Sreg::Ds => holds.ds,
+    }
+}
+
+fn with_hold(holds: Holds, reg: Sreg, grant: Option<Grant>) -> Holds
+    ensures { registers_of result ≡ with_register (registers_of holds) reg (option_map hold_of grant) }
+{
+    match reg {
+        Sreg::Es => Holds { es: grant, ..holds },
+        Sreg::Cs => Holds { cs: grant, ..holds },
+        Sreg::Ss => Holds { ss: grant, ..holds },
+        Sreg::Ds => Holds { ds: grant, ..holds },
+    }
+}
+
+// Access bytes.
+
+fn is_readable_byte(access: u8) -> bool
+    ensures { result ≡ is_readable access }
+{
+    access == 0xFA || access == 0xF2 || access == 0xF0
+}
+
+fn is_writable_byte(access: u8) -> bool
+    ensures { result ≡ is_writable access }
+{
+    access == 0xF2
+}
+
+fn is_code_byte(access: u8) -> bool
+    ensures { result ≡ is_code access }
+{
+    access == 0xFA || access == 0xF8
+}
+
+fn passes(purpose: Purpose, access: u8) -> bool
+    ensures { result ≡ passes_of purpose access }
+{
+    match purpose {
+        Purpose::DataReg => is_readable_byte(access),
+        Purpose::StackReg => is_writable_byte(access),
+        _ => is_code_byte(access),
+    }
+}
+
+// Loads.
+
+fn refuses(sel: u16) -> Loaded
+    ensures { result ≡ refused sel }
+{
+    Loaded::Trap(13, sel - sel % 4)
+}
+
+impl PlainBus<'_> {
+    #[tactic(auto, unfolding(crate::specs::Plain::bus_view))]
+    fn present_test(&self, _purpose: Purpose, sel: u16, grant: Grant) -> Loaded
+        ensures { result ≡ here (view_in self.now) (absent_of _purpose) sel (hold_of grant) }
+    {
+        if self.plain.is_shown(grant.name) {
+            Loaded::Done
+        } else {
+            Loaded::Miss(Selector(sel))
+        }
+    }
+
+    fn tested(&self, purpose: Purpose, sel: u16, grant: Option<Grant>) -> Loaded
+        ensures { result ≡ when (view_in self.now) (absent_of purpose) sel (passes_of purpose) (option_map hold_of grant) }
+    {
+        match grant {
+            Some(g) => {
+                if passes(purpose, g.access) {
+                    self.present_test(purpose, sel, g)
+                } else {
+                    refuses(sel)
+                }
+            }
+            None => refuses(sel),
+        }
+    }
+
+    #[tactic(auto, unfolding(crate::specs::Plain::bus_view, o2_isa::specs::View::built_gates))]
+    fn gate(&self, sel: u16) -> Option<u16>
+        ensures value { result ≡ gate_at (view_in self.now) sel }
+    {
+        let index = sel / 8;
+        if sel / 4 % 2 == 1 || index < 16 || !is_built(index - 16) {
+            None
+        } else {
+            Some(index - 16)
+        }
+    }
+
+    fn far_call(&self, sel: u16, grant: Option<Grant>) -> Loaded
+        ensures { result ≡ called (view_in self.now) sel (option_map hold_of grant) }
+    {
+        match grant {
+            Some(_) => self.tested(Purpose::Call, sel, grant),
+            None => match self.gate(sel) {
+                Some(service) => Loaded::Gate(service),
+                None => refuses(sel),
+            },
+        }
+    }
+
+    fn rules(&self, purpose: Purpose, sel: u16, grant: Option<Grant>) -> Loaded
+        ensures { result ≡ load_rules (view_in self.now) purpose sel (option_map hold_of grant) }
+    {
+        if sel < 4 {
+            return match purpose {
+                Purpose::DataReg => Loaded::Done,
+                _ => Loaded::Trap(13, 0),
+            };
+        }
+        match purpose {
+            Purpose::DataReg => self.tested(Purpose::DataReg, sel, grant),
+            Purpose::StackReg => {
+                if sel % 4 == 3 {
+                    self.tested(Purpose::StackReg, sel, grant)
+                } else {
+                    refuses(sel)
+                }
+            }
+            Purpose::Jump => self.tested(Purpose::Jump, sel, grant),
+            Purpose::Call => self.far_call(sel, grant),
+            Purpose::Return => {
+                if sel % 4 == 3 {
+                    self.tested(Purpose::Return, sel, grant)
+                } else {
+                    refuses(sel)
+                }
+            }
+        }
+    }
+}
+
+// Accesses.
+
+fn outside_of(reg: Sreg) -> (u8, u16)
+    ensures { result ≡ outside reg }
+{
+    match reg {
+        Sreg::Ss => (12, 0),
+        _ => (13, 0),
+    }
+}
+
+fn len_of(width: Width) -> usize
+    ensures value { result ≡ width_len width }
+    ensures small { result ≤ 2 }
+{
+    match width {
+        Width::Byte => 1,
+        Width::Word => 2,
+    }
+}
+
+fn value_in(bytes: &[u8], at: usize, width: Width) -> u16
+    requires room { at + width_len width ≤ length bytes.now }
+    ensures value { result ≡ value_at bytes.now at width }
+    ensures fits { width ≡ Width.Byte → result < 256 }
+{
+    match width {
+        Width::Byte => bytes[at] as u16,
+        Width::Word => bytes[at] as u16 + 256 * bytes[at + 1] as u16,
+    }
+}
+
+fn put(bytes: &mut [u8], at: usize, width: Width, value: u16)
+    requires room { at + width_len width ≤ length bytes.old }
+    requires fits { width ≡ Width.Byte → value < 256 }
+    ensures { bytes.new ≡ put_at bytes.old at width value }
+{
+    match width {
+        Width::Byte => bytes[at] = value as u8,
+        Width::Word => {
+            bytes[at] = (value % 256) as u8;
+            bytes[at + 1] = (value / 256) as u8;
+        }
+    }
+}
+
+/// Up to ten bytes from a place on, to the front of `into`.
+fn front(bytes: &[u8], at: u16, into: &mut [u8; 10]) -> usize
+    ensures count { result ≡ length (take 10 (drop at bytes.now)) }
+    ensures within { result ≤ 10 }
+    ensures bytes { take result into.new ≡ take 10 (drop at bytes.now) }
+    ensures rest { drop result into.new ≡ drop result into.old }
+{
+    let at = at as usize;
+    if bytes.len() <= at {
+        return 0;
+    }
+    let count = (bytes.len() - at).min(10);
+    into[..count].copy_from_slice(&bytes[at..at + count]);
+    count
+}
+
+impl PlainBus<'_> {
+    #[tactic(auto, unfolding(crate::specs::Plain::bus_view))]
+    fn room_with(
+        &self,
+        grant: Option<Grant>,
+        reg: Sreg,
+        off: u16,
+        width: Width,
+    ) -> Result<(), (u8, u16)>
+        ensures { SameRoom result (reached (option_map hold_of grant) is_writable (view_in self.now) reg off width) }
+    {
+        match grant {
+            Some(g) => {
+                if !is_writable_byte(g.access) {
+                    return Err((13, 0));
+                }
+                if off as usize + len_of(width) <= self.plain.bytes(g.name).len() {
+                    Ok(())
+                } else {
+                    Err(outside_of(reg))
+                }
+            }
+            None => Err((13, 0)),
+        }
+    }
+
+    #[tactic(auto, unfolding(crate::specs::Plain::bus_view))]
+    fn read_with(
+        &self,
+        grant: Option<Grant>,
+        reg: Sreg,
+        off: u16,
+        width: Width,
+    ) -> Result<u16, (u8, u16)>
+        ensures value { result ≡ read_name (view_in self.now) off width (reached (option_map hold_of grant) is_readable (view_in self.now) reg off width) }
+        ensures fits { IfOk result (λ x. width ≡ Width.Byte → x < 256) }
+    {
+        match grant {
+            Some(g) => {
+                if !is_readable_byte(g.access) {
+                    return Err((13, 0));
+                }
+                let bytes = self.plain.bytes(g.name);
+                if off as usize + len_of(width) <= bytes.len() {
+                    Ok(value_in(bytes, off as usize, width))
+                } else {
+                    Err(outside_of(reg))
+                }
+            }
+            None => Err((13, 0)),
+        }
+    }
+}
+
+fn put_segment(segments: &mut [Segment], name: usize, at: usize, width: Width, value: u16)
+    requires named { name < length segments.old }
+    requires room { at + width_len width ≤ length (segment_bytes (slice_get segments.old name)) }
+    requires fits { width ≡ Width.Byte → value < 256 }
+    ensures { PutsBytes segments.old segments.new name (put_at (segment_bytes (slice_get segments.old name)) at width value) }
+{
+    let segment = &mut segments[name];
+    put(&mut segment.bytes, at, width, value);
+}
+
+impl Bus for PlainBus<'_> {
+    ghost view = { λ b. view_in b };
+
+    #[tactic(auto, unfolding(crate::specs::Plain::bus_view, o2_isa::specs::View::fetched))]
+    fn fetch(&self, ip: u16, into: &mut [u8; 10]) -> usize {
+        match self.holds.cs {
+            Some(grant) => front(self.plain.bytes(grant.name), ip, into),
+            None => 0,
+        }
+    }
+
+    #[tactic(auto, unfolding(crate::specs::Plain::bus_view, o2_isa::specs::View::probe_of))]
+    fn probe(&mut self, purpose: Purpose, sel: Selector) -> Loaded {
+        let grant = self.plain.found(self.pid, sel.0);
+        self.rules(purpose, sel.0, grant)
+    }
+
+    #[tactic(auto, unfolding(crate::specs::Plain::bus_view, o2_isa::specs::View::bind))]
+    fn load(&mut self, reg: Sreg, sel: Selector) {
+        let grant = bound(self.plain, self.pid, sel.0);
+        self.holds = with_hold(self.holds, reg, grant);
+    }
+
+    #[tactic(auto, unfolding(crate::specs::Plain::bus_view, o2_isa::specs::View::read_of))]
+    fn read(&self, reg: Sreg, off: u16, width: Width) -> Result<u16, (u8, u16)> {
+        self.read_with(hold_in(&self.holds, reg), reg, off, width)
+    }
+
+    #[tactic(auto, unfolding(crate::specs::Plain::bus_view, o2_isa::specs::View::room_of))]
+    fn room(&self, reg: Sreg, off: u16, width: Width) -> Result<(), (u8, u16)> {
+        self.room_with(hold_in(&self.holds, reg), reg, off, width)
+    }
+
+    fn write(&mut self, reg: Sreg, off: u16, width: Width, value: u16) {
+        match hold_in(&self.holds, reg) {
+            Some(grant) => put_segment(
+                &mut self.plain.segments,
+                grant.name as usize,
+                off as usize,
+                width,
+                value,
+            ),
+            None => {}
+        }
+    }
+
+    #[tactic(auto, unfolding(crate::specs::Plain::bus_view, o2_isa::specs::View::size_at))]
+    fn size_of(&self, sel: Selector) -> Option<u32> {
+        match self.plain.found(self.pid, sel.0) {
+            Some(grant) => Some(self.plain.bytes(grant.name).len() as u32),
+            None => None,
+        }
+    }
+
+    #[tactic(auto, unfolding(crate::specs::Plain::bus_view, o2_isa::specs::View::rights_at))]
+    fn rights_of(&self, sel: Selector) -> Option<u8> {
+        match self.plain.found(self.pid, sel.0) {
+            Some(grant) => Some(grant.access / 2 % 64 * 2 + 129),
+            None => match self.gate(sel.0) {
+                Some(_) => Some(0xE4),
+                None => None,
+            },
+        }
+    }
+}

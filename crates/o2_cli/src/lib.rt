@@ -1,0 +1,9 @@
+//! The top call: the words of a command, the files that it names, and the run.
+#![tactic(auto)]
+
+mod messages;
+mod status;
+mod words;
+
+pub use messages::{number, text};
+pub use status::Status;

@@ -1,0 +1,32 @@
+use Rattle.std.proofs.Common.{ap, ℕ, Bool}
+use Rattle.std.specs.Prelude.{Option}
+use Rattle.o2_isa.specs.View.{Hold}
+use Rattle.o2_isa.specs.Steps.{state}
+use Rattle.o2_bus.specs.Plain.{plain_view}
+use Rattle.o2_core.proofs.Plains.{framed, agrees_at, plain_answers, never_missed}
+use Rattle.o2_core.proofs.plain_step.step_in.Goals as goal
+
+pub returns-clause-same_reference : goal.returns-clause-same_reference
+returns-clause-same_reference c = (framed c.args.bus.now.plain.ghost_name c.step_one.new.bus.plain.ghost_name c.args.bus.now.plain.now c.step_one.new.bus.plain.now c.args.bus.now.pid c.step_one.new.bus.pid c.args.bus.now.holds c.step_one.new.bus.holds c.step_one.ensures.frame).reference
+
+pub returns-clause-step : goal.returns-clause-step
+returns-clause-step c =
+    let agrees = agrees_at c.args.bus.now.plain.ghost_name c.args.bus.now.plain.now c.args.bus.now.pid c.args.bus.now.holds c.args.cpu.now c.requires.agrees in
+    plain_answers c.step_one.result c.args.bus.now.plain.ghost_name c.step_one.new.bus.plain.ghost_name c.args.bus.now.plain.now c.step_one.new.bus.plain.now c.args.bus.now.pid c.step_one.new.bus.pid c.args.bus.now.holds c.step_one.new.bus.holds c.args.cpu.now c.step_one.new.cpu (framed c.args.bus.now.plain.ghost_name c.step_one.new.bus.plain.ghost_name c.args.bus.now.plain.now c.step_one.new.bus.plain.now c.args.bus.now.pid c.step_one.new.bus.pid c.args.bus.now.holds c.step_one.new.bus.holds c.step_one.ensures.frame) agrees (c.step_one.ensures.agrees agrees) c.step_one.ensures.step
+
+pub returns-clause-held : goal.returns-clause-held
+returns-clause-held c = λ p i. ap (λ (m : ℕ → ℕ → Option Hold). m p i) (framed c.args.bus.now.plain.ghost_name c.step_one.new.bus.plain.ghost_name c.args.bus.now.plain.now c.step_one.new.bus.plain.now c.args.bus.now.pid c.step_one.new.bus.pid c.args.bus.now.holds c.step_one.new.bus.holds c.step_one.ensures.frame).maps
+
+pub returns-clause-shown : goal.returns-clause-shown
+returns-clause-shown c = λ n. ap (λ (m : ℕ → Bool). m n) (framed c.args.bus.now.plain.ghost_name c.step_one.new.bus.plain.ghost_name c.args.bus.now.plain.now c.step_one.new.bus.plain.now c.args.bus.now.pid c.step_one.new.bus.pid c.args.bus.now.holds c.step_one.new.bus.holds c.step_one.ensures.frame).shown
+
+pub returns-clause-sizes : goal.returns-clause-sizes
+returns-clause-sizes c = (framed c.args.bus.now.plain.ghost_name c.step_one.new.bus.plain.ghost_name c.args.bus.now.plain.now c.step_one.new.bus.plain.now c.args.bus.now.pid c.step_one.new.bus.pid c.args.bus.now.holds c.step_one.new.bus.holds c.step_one.ensures.frame).sizes
+
+pub returns-clause-count : goal.returns-clause-count
+returns-clause-count c = (framed c.args.bus.now.plain.ghost_name c.step_one.new.bus.plain.ghost_name c.args.bus.now.plain.now c.step_one.new.bus.plain.now c.args.bus.now.pid c.step_one.new.bus.pid c.args.bus.now.holds c.step_one.new.bus.holds c.step_one.ensures.frame).count
+
+pub returns-clause-never_missed : goal.returns-clause-never_missed
+returns-clause-never_missed c = λ all.
+    let agrees = agrees_at c.args.bus.now.plain.ghost_name c.args.bus.now.plain.now c.args.bus.now.pid c.args.bus.now.holds c.args.cpu.now c.requires.agrees in
+    never_missed c.step_one.result (state c.step_one.new.cpu (plain_view c.step_one.new.bus.plain.now c.args.bus.now.pid c.step_one.new.cpu)) (state c.args.cpu.now (plain_view c.args.bus.now.plain.now c.args.bus.now.pid c.args.cpu.now)) (plain_answers c.step_one.result c.args.bus.now.plain.ghost_name c.step_one.new.bus.plain.ghost_name c.args.bus.now.plain.now c.step_one.new.bus.plain.now c.args.bus.now.pid c.step_one.new.bus.pid c.args.bus.now.holds c.step_one.new.bus.holds c.args.cpu.now c.step_one.new.cpu (framed c.args.bus.now.plain.ghost_name c.step_one.new.bus.plain.ghost_name c.args.bus.now.plain.now c.step_one.new.bus.plain.now c.args.bus.now.pid c.step_one.new.bus.pid c.args.bus.now.holds c.step_one.new.bus.holds c.step_one.ensures.frame) agrees (c.step_one.ensures.agrees agrees) c.step_one.ensures.step) all

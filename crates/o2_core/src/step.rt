@@ -1,0 +1,58 @@
+// One step over any bus.
+ghost use Rattle.std.specs.Prelude.{◌≡◌, ◌≤◌, ℕ, true, false, length};
+ghost use Rattle.o2_isa.specs.View.{Filling, IsBound, KeepsFrame, Agrees};
+ghost use Rattle.o2_isa.specs.Steps.{state, State};
+ghost use Rattle.o2_isa.specs.Meaning.{meaning};
+ghost use Rattle.o2_isa.specs.Presence.{whole_state, is_in};
+ghost use Rattle.o2_isa.specs.Step.{Answers, AsBoundless, stepped, step_names, is_miss};
+
+use o2_bus::{Bus, Cpu, Outcome};
+use o2_decode::decode;
+use o2_isa::{Decoded, Group, Instr, instruction_group};
+
+/// One instruction, by its group.
+#[tactic(auto, unfolding(o2_isa::specs::Meaning::meaning, o2_isa::specs::Meaning::steps_of))]
+fn execute<B: Bus>(cpu: &mut Cpu, bus: &mut B, i: &Instr, next: u16) -> Outcome
+    ensures { Answers result (state cpu.new (B.view bus.new)) (state cpu.old (B.view bus.old)) (meaning (state cpu.old (B.view bus.old)) i.now next) }
+{
+    match instruction_group(i.op) {
+        Group::Data => o2_exec_data::execute(cpu, bus, i, next),
+        Group::Flow => o2_exec_flow::execute(cpu, bus, i, next),
+        Group::Strings => {
+            if i.lock {
+                Outcome::Trap(13, 0)
+            } else {
+                Outcome::Trap(6, 0)
+            }
+        }
+    }
+}
+
+fn one_step<B: Bus>(cpu: &mut Cpu, bus: &mut B) -> Outcome
+    ensures { Answers result (state cpu.new (B.view bus.new)) (state cpu.old (B.view bus.old)) (stepped (state cpu.old (B.view bus.old))) }
+{
+    let mut bytes = [0u8; 10];
+    let count = bus.fetch(cpu.ip, &mut bytes);
+    match decode(&bytes[..count]) {
+        Decoded::One(i, n) => {
+            let next = cpu.ip.wrapping_add(n as u16);
+            execute(cpu, bus, &i, next)
+        }
+        Decoded::Invalid => Outcome::Trap(6, 0),
+        _ => Outcome::Trap(13, 0),
+    }
+}
+
+/// One instruction, or one repetition of a string instruction.
+///
+/// It answers what the bytes at CS:IP mean, in the order of checks of the 80286. A miss, a trap and a call of a service leave
+/// the registers and all bytes as they were; at most accessed bits are set.
+pub fn step_one<B: Bus>(cpu: &mut Cpu, bus: &mut B) -> Outcome
+    ensures step { Answers result (state cpu.new (B.view bus.new)) (state cpu.old (B.view bus.old)) (stepped (state cpu.old (B.view bus.old))) }
+    ensures boundless { (f : Filling) → IsBound (B.view bus.old) → AsBoundless f result (state cpu.new (B.view bus.new)) (state cpu.old (B.view bus.old)) }
+    ensures frame { KeepsFrame (B.view bus.old) (B.view bus.new) }
+    ensures agrees { Agrees cpu.old (B.view bus.old) → Agrees cpu.new (B.view bus.new) }
+    ensures present { (f : Filling) → IsBound (B.view bus.old) → is_miss result ≡ false → (n : ℕ) → is_in n (step_names (whole_state f (state cpu.old (B.view bus.old)))) ≡ true → (B.view bus.old).present n ≡ true }
+{
+    one_step(cpu, bus)
+}

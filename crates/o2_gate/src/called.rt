@@ -1,0 +1,14 @@
+// What a call came to.
+
+/// What a call of a service came to.
+#[derive(Clone, Copy, Debug, PartialEq, Eq)]
+pub enum Called {
+    /// It came back to its caller.
+    Back,
+    /// The process ends with this code; both of its lines are put.
+    Exited(u16),
+    /// A pointer or the arguments are bad: the process ends by this exception, and nothing is changed or put.
+    Trap(u8),
+    /// A sink failed: registers and bytes are as before the call.
+    SinkFault,
+}

@@ -1,0 +1,63 @@
+// DosExit.
+ghost use Rattle.std.specs.Prelude.{◌≡◌, ◌≤◌, ◌∷◌, [], ℕ, List, Option};
+ghost use Rattle.o2_outer.specs.Texts.{Rose};
+ghost use Rattle.o2_outer.specs.Answers.{Takes, OnFailed};
+ghost use Rattle.o2_world.specs.World.{Exits, Ends};
+ghost use Rattle.o2_world.specs.Text.{lines_text};
+ghost use Rattle.o2_world.specs.Calls.{dos_exit as dos_exit_row};
+ghost use Rattle.o2_gate.specs.Befores.{before_call};
+ghost use Rattle.o2_gate.specs.Called.{Does, OnSinkFault};
+
+use crate::Called;
+use crate::stack::{argument, fit};
+use o2_bus::Plain;
+use o2_isa::Cpu;
+use o2_outer::{Put, Sink};
+use o2_report::{LineBuffer, set_ends, set_exits};
+
+/// Puts the two lines of an exit.
+fn put_exit<R: Sink>(
+    line: &mut LineBuffer,
+    pid: u16,
+    action: u16,
+    code: u16,
+    report: &mut R,
+) -> Put
+    ensures report { Takes (R.taken report.old) (R.taken report.new) (lines_text (Exits pid action code ∷ Ends pid code ∷ [])) result }
+    ensures count { R.faults report.old ≤ R.faults report.new }
+    ensures cause { OnFailed result (Rose (R.faults report.old) (R.faults report.new)) }
+{
+    set_exits(line, pid, action, code);
+    match report.put(line.as_slice()) {
+        Put::Failed => Put::Failed,
+        Put::Done => {
+            set_ends(line, pid, code);
+            report.put(line.as_slice())
+        }
+    }
+}
+
+/// DosExit(action, code): the process ends with the code, whatever the action is.
+#[tactic(auto, unfolding(o2_world::specs::Calls::dos_exit), using(o2_outer::proofs::TextLemmas::gains_none, o2_outer::proofs::TextLemmas::puts_none))]
+pub fn dos_exit<R: Sink>(
+    pid: u16,
+    cpu: &Cpu,
+    plain: &Plain,
+    line: &mut LineBuffer,
+    report: &mut R,
+) -> Called
+    ensures does { (input : List ℕ) (c : Option (List ℕ)) → let b = before_call plain.now pid cpu.now input in
+        Does b (dos_exit_row b) cpu.now plain.now plain.now c c (R.taken report.old) (R.taken report.new) result }
+    ensures count { R.faults report.old ≤ R.faults report.new }
+    ensures cause { OnSinkFault result (Rose (R.faults report.old) (R.faults report.new)) }
+{
+    if !fit(plain, pid, cpu, 2) {
+        return Called::Trap(12);
+    }
+    let action = argument(plain, pid, cpu, 1);
+    let code = argument(plain, pid, cpu, 0);
+    match put_exit(line, pid, action, code, report) {
+        Put::Failed => Called::SinkFault,
+        Put::Done => Called::Exited(code),
+    }
+}

@@ -1,0 +1,82 @@
+// The arguments of a call, on the caller's stack.
+ghost use Rattle.std.specs.Prelude.{◌≡◌, ◌<◌, ◌≤◌, ◌+◌, ◌*◌, ◌%◌, is_ok, option_map};
+ghost use Rattle.o2_isa.specs.View.{bound_in, is_readable as readable_rights};
+ghost use Rattle.o2_bus.specs.Plain.{hold_of, held_in, plain_view};
+ghost use Rattle.o2_world.specs.Calls.{argument as argument_of, has_arguments, word_of};
+
+use o2_bus::{Grant, Plain};
+use o2_isa::Cpu;
+
+/// What a selector names, as a pointer or in a segment register. A null selector names nothing.
+pub fn bound(plain: &Plain, pid: u16, selector: u16) -> Option<Grant>
+    ensures { option_map hold_of result ≡ bound_in (held_in plain.now pid) selector }
+{
+    if selector < 4 {
+        None
+    } else {
+        plain.found(pid, selector)
+    }
+}
+
+/// Whether a segment with this access byte may be read through.
+pub fn is_readable(access: u8) -> bool
+    ensures { result ≡ readable_rights access }
+{
+    access == 0xFA || access == 0xF2 || access == 0xF0
+}
+
+/// The offset of the i-th word from the top of the stack.
+fn word_offset(cpu: &Cpu, i: u16) -> u16
+    requires { i < 16 }
+    ensures { result ≡ (cpu.now.sp + 2 * i) % 65536 }
+{
+    cpu.sp.wrapping_add(2 * i)
+}
+
+/// Whether the i-th word from the top of the stack lies in SS.
+#[tactic(auto, unfolding(o2_isa::specs::View::read_of))]
+fn has_word(plain: &Plain, pid: u16, cpu: &Cpu, i: u16) -> bool
+    requires { i < 16 }
+    ensures { result ≡ is_ok (word_of (plain_view plain.now pid cpu.now) cpu.now i) }
+{
+    match bound(plain, pid, cpu.ss) {
+        Some(grant) => {
+            is_readable(grant.access)
+                && word_offset(cpu, i) as usize + 2 <= plain.bytes(grant.name).len()
+        }
+        None => false,
+    }
+}
+
+/// The i-th word from the top of the stack, 0 where it doesn't lie in SS.
+#[tactic(auto, unfolding(o2_isa::specs::View::read_of, o2_world::specs::Calls::argument))]
+pub fn argument(plain: &Plain, pid: u16, cpu: &Cpu, i: u16) -> u16
+    requires { i < 16 }
+    ensures { result ≡ argument_of (plain_view plain.now pid cpu.now) cpu.now i }
+{
+    match bound(plain, pid, cpu.ss) {
+        Some(grant) => {
+            let bytes = plain.bytes(grant.name);
+            let at = word_offset(cpu, i) as usize;
+            if is_readable(grant.access) && at + 2 <= bytes.len() {
+                bytes[at] as u16 + 256 * bytes[at + 1] as u16
+            } else {
+                0
+            }
+        }
+        None => 0,
+    }
+}
+
+/// Whether the first words from the top of the stack lie in SS.
+pub fn fit(plain: &Plain, pid: u16, cpu: &Cpu, words: u16) -> bool
+    requires { words ≤ 16 }
+    ensures { result ≡ has_arguments (plain_view plain.now pid cpu.now) cpu.now words }
+{
+    for i in 0..words {
+        if !has_word(plain, pid, cpu, i) {
+            return false;
+        }
+    }
+    true
+}

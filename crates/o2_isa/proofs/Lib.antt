@@ -1,0 +1,6 @@
+pub mod Loads
+pub mod Pokes
+pub mod Runs
+pub mod Alike
+pub mod Mnemonics
+pub mod StepLaws

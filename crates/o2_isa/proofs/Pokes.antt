@@ -1,0 +1,46 @@
+-- A store changes no size, so what had room has it still, and what could be loaded still can.
+use Rattle.std.proofs.Common.{◌≡◌, refl, sym, ◌∙◌, ap, ℕ, ◌+◌, ◌%◌, ◌/◌, Bool, true, false, cond, ◌==◌, List, length, slice_set}
+use Rattle.std.specs.Prelude.{Option, Some, None, Ok, Err, nat_le}
+use Rattle.std.proofs.lemmas.Bool.{eqb-true}
+use Rattle.std.proofs.lemmas.List.{length-set}
+use Rattle.o2_isa.specs.declared.instr.Width.{Width}
+use Rattle.o2_isa.specs.declared.instr.Width.TheVariants.{Byte, Word}
+use Rattle.o2_isa.specs.declared.instr.Sreg.{Sreg}
+use Rattle.o2_base.specs.declared.selector.Selector.{Selector}
+use Rattle.o2_isa.specs.View.{View, Hold, in_register, is_writable, reached, room_of, poke, poke_hold, put_at, width_len, outside, is_loadable}
+
+pub length_put_at : (bs : List ℕ) (k : ℕ) (w : Width) (x : ℕ) → length (put_at bs k w x) ≡ length bs
+length_put_at bs k Byte x = length-set bs k x
+length_put_at bs k Word x = length-set (slice_set bs k (x % 256)) (k + 1) (x / 256) ∙ length-set bs k (x % 256)
+
+length_after : (v : View) (n m k : ℕ) (w : Width) (x : ℕ) → length (cond (m == n) (put_at (v.bytes n) k w x) (v.bytes m)) ≡ length (v.bytes m)
+length_after v n m k w x = go (m == n) refl
+  where
+    go : (b : Bool) → (m == n) ≡ b → length (cond b (put_at (v.bytes n) k w x) (v.bytes m)) ≡ length (v.bytes m)
+    go true e = length_put_at (v.bytes n) k w x ∙ ap (λ i. length (v.bytes i)) (sym (eqb-true m n e))
+    go false e = refl
+
+room_after : (v : View) (g h : Option Hold) (k : ℕ) (w : Width) (x : ℕ) (r : Sreg) (j : ℕ) (u : Width) → reached h is_writable (poke_hold v g k w x) r j u ≡ reached h is_writable v r j u
+room_after v g None k w x r j u = refl
+room_after v None (Some h) k w x r j u = refl
+room_after v (Some g) (Some h) k w x r j u =
+    ap (λ (n : ℕ). cond (is_writable h.rights) (cond (nat_le (j + width_len u) n) (Ok h.name) (Err (outside r))) (Err (13, 0))) (length_after v g.name h.name k w x)
+
+same_registers : (v : View) (g : Option Hold) (k : ℕ) (w : Width) (x : ℕ) (r : Sreg) → in_register (poke_hold v g k w x).registers r ≡ in_register v.registers r
+same_registers v None k w x r = refl
+same_registers v (Some g) k w x r = refl
+
+pub room_of_poke : (v : View) (s : Sreg) (k : ℕ) (w : Width) (x : ℕ) (r : Sreg) (j : ℕ) (u : Width) → room_of (poke v s k w x) r j u ≡ room_of v r j u
+unfolding room_of poke
+room_of_poke v s k w x r j u =
+    ap (λ (h : Option Hold). reached h is_writable (poke_hold v (in_register v.registers s) k w x) r j u) (same_registers v (in_register v.registers s) k w x r)
+    ∙ room_after v (in_register v.registers s) (in_register v.registers r) k w x r j u
+
+loadable_after : (v : View) (g : Option Hold) (k : ℕ) (w : Width) (x : ℕ) (s : Selector) → is_loadable (poke_hold v g k w x) s ≡ is_loadable v s
+unfolding is_loadable
+loadable_after v None k w x s = refl
+loadable_after v (Some g) k w x s = refl
+
+pub is_loadable_poke : (v : View) (r : Sreg) (k : ℕ) (w : Width) (x : ℕ) (s : Selector) → is_loadable (poke v r k w x) s ≡ is_loadable v s
+unfolding poke
+is_loadable_poke v r k w x s = loadable_after v (in_register v.registers r) k w x s

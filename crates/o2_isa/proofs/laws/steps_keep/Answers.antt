@@ -1,0 +1,5 @@
+use Rattle.o2_isa.proofs.StepLaws.{stepped_frame, stepped_agrees, answers_unseen}
+use Rattle.o2_isa.proofs.laws.steps_keep.Goals as goal
+
+pub returns : goal.returns
+returns c = record { frame = stepped_frame; agrees = stepped_agrees; unseen = answers_unseen }

@@ -1,0 +1,99 @@
+-- What instructions mean: a row for each mnemonic, by group.
+use Rattle.std.specs.Prelude.{ℕ, if◌then◌else◌, Result}
+use Rattle.o2_isa.specs.declared.instr.Op.{Op}
+use Rattle.o2_isa.specs.declared.instr.Op.TheVariants.{OpJo, OpJno, OpJb, OpJae, OpJe, OpJne, OpJbe, OpJa, OpJs, OpJns, OpJp, OpJnp, OpJl, OpJge, OpJle, OpJg, OpLoop, OpLoope, OpLoopne, OpJcxz, OpJmp, OpJmpFar, OpJmpAt, OpJmpFarAt, OpCall, OpCallFar, OpCallAt, OpCallFarAt, OpRet, OpRetf, OpIret, OpInt, OpIntThree, OpInto, OpBound, OpEnter, OpLeave, OpLar, OpLsl, OpVerr, OpVerw, OpArpl, OpEsc, OpIn, OpOut, OpIns, OpOuts, OpCli, OpSti, OpHlt, OpSldt, OpStr, OpLldt, OpLtr, OpSgdt, OpSidt, OpLgdt, OpLidt, OpSmsw, OpLmsw, OpClts, OpMovs, OpCmps, OpStos, OpLods, OpScas}
+use Rattle.o2_isa.specs.declared.instr.Instr.{Instr}
+use Rattle.o2_isa.specs.declared.groups.Group.{Group}
+use Rattle.o2_isa.specs.declared.groups.Group.TheVariants.{Data, Flow, Strings}
+use Rattle.o2_isa.specs.declared.cpu.Cpu.{Cpu}
+use Rattle.o2_isa.specs.declared.cpu.Stop.{Stop}
+use Rattle.o2_isa.specs.declared.cpu.Stop.TheVariants as stop
+use Rattle.o2_isa.specs.Steps.{State, Steps, Stops, run}
+use Rattle.o2_isa.specs.DataRows.{data_steps}
+use Rattle.o2_isa.specs.FlowRows.{flow_steps}
+
+unfoldable pub group_of : Op → Group
+group_of OpJo = Flow
+group_of OpJno = Flow
+group_of OpJb = Flow
+group_of OpJae = Flow
+group_of OpJe = Flow
+group_of OpJne = Flow
+group_of OpJbe = Flow
+group_of OpJa = Flow
+group_of OpJs = Flow
+group_of OpJns = Flow
+group_of OpJp = Flow
+group_of OpJnp = Flow
+group_of OpJl = Flow
+group_of OpJge = Flow
+group_of OpJle = Flow
+group_of OpJg = Flow
+group_of OpLoop = Flow
+group_of OpLoope = Flow
+group_of OpLoopne = Flow
+group_of OpJcxz = Flow
+group_of OpJmp = Flow
+group_of OpJmpFar = Flow
+group_of OpJmpAt = Flow
+group_of OpJmpFarAt = Flow
+group_of OpCall = Flow
+group_of OpCallFar = Flow
+group_of OpCallAt = Flow
+group_of OpCallFarAt = Flow
+group_of OpRet = Flow
+group_of OpRetf = Flow
+group_of OpIret = Flow
+group_of OpInt = Flow
+group_of OpIntThree = Flow
+group_of OpInto = Flow
+group_of OpBound = Flow
+group_of OpEnter = Flow
+group_of OpLeave = Flow
+group_of OpLar = Flow
+group_of OpLsl = Flow
+group_of OpVerr = Flow
+group_of OpVerw = Flow
+group_of OpArpl = Flow
+group_of OpEsc = Flow
+group_of OpIn = Flow
+group_of OpOut = Flow
+group_of OpIns = Flow
+group_of OpOuts = Flow
+group_of OpCli = Flow
+group_of OpSti = Flow
+group_of OpHlt = Flow
+group_of OpSldt = Flow
+group_of OpStr = Flow
+group_of OpLldt = Flow
+group_of OpLtr = Flow
+group_of OpSgdt = Flow
+group_of OpSidt = Flow
+group_of OpLgdt = Flow
+group_of OpLidt = Flow
+group_of OpSmsw = Flow
+group_of OpLmsw = Flow
+group_of OpClts = Flow
+group_of OpMovs = Strings
+group_of OpCmps = Strings
+group_of OpStos = Strings
+group_of OpLods = Strings
+group_of OpScas = Strings
+group_of _ = Data
+
+-- no string instruction is built yet
+abbrev pub string_steps : Op → Cpu → Instr → ℕ → Steps
+string_steps op c i next = Stops (stop.Trap 6 0)
+
+abbrev pub group_steps : Group → Cpu → Instr → ℕ → Steps
+group_steps Data c i next = data_steps i.op c i next
+group_steps Flow c i next = flow_steps i.op c i next
+group_steps Strings c i next = string_steps i.op c i next
+
+-- a LOCK prefix traps before all else
+unfoldable pub steps_of : Cpu → Instr → ℕ → Steps
+steps_of c i next = if i.lock then Stops (stop.Trap 13 0) else group_steps (group_of i.op) c i next
+
+-- one instruction, with the IP behind it
+unfoldable pub meaning : State → Instr → ℕ → Result State Stop
+meaning s i next = run (steps_of s.cpu i next) s.view

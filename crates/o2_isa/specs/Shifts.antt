@@ -1,0 +1,64 @@
+-- Shifts and rotations: one bit at a time, as often as the count says.
+use Rattle.std.specs.Prelude.{ℕ, zero, suc, ◌+◌, ◌*◌, ◌/◌, ◌%◌, Bool, true, false, not, ◌==◌, nat_le, if◌then◌else◌}
+use Rattle.o2_isa.specs.declared.instr.Width.{Width}
+use Rattle.o2_isa.specs.declared.instr.Op.{Op}
+use Rattle.o2_isa.specs.declared.instr.Op.TheVariants.{OpRol, OpRor, OpRcl, OpRcr, OpShl, OpShr, OpSar}
+use Rattle.o2_isa.specs.declared.flags.Flag.TheVariants.{Carry, Overflow}
+use Rattle.o2_isa.specs.Widths.{modulus, half}
+use Rattle.o2_isa.specs.Flags.{put, is_set, with_szp}
+use Rattle.o2_isa.specs.Sums.{bit}
+
+-- the top bit
+abbrev pub top : Width → ℕ → Bool
+top w a = nat_le (half w) a
+
+-- the lowest bit
+abbrev pub low : ℕ → Bool
+low a = a % 2 == 1
+
+-- one bit: from the value and CF to the value and CF
+abbrev pub once : Op → Width → ℕ × Bool → ℕ × Bool
+once OpRol w x = (x.0 * 2 % modulus w + bit (top w x.0), top w x.0)
+once OpRor w x = (x.0 / 2 + (if low x.0 then half w else 0), low x.0)
+once OpRcl w x = (x.0 * 2 % modulus w + bit x.1, top w x.0)
+once OpRcr w x = (x.0 / 2 + (if x.1 then half w else 0), low x.0)
+once OpShl w x = (x.0 * 2 % modulus w, top w x.0)
+once OpShr w x = (x.0 / 2, low x.0)
+once OpSar w x = (x.0 / 2 + (if top w x.0 then half w else 0), low x.0)
+once _ w x = x
+
+abbrev pub repeated : ℕ → Op → Width → ℕ × Bool → ℕ × Bool
+repeated zero op w x = x
+repeated (suc n) op w x = once op w (repeated n op w x)
+
+abbrev pub differs : Bool → Bool → Bool
+differs a b = if a then not b else b
+
+-- OF at count 1, by the old value a, the result r and the new CF
+abbrev pub shift_overflow : Op → Width → ℕ → ℕ → Bool → Bool
+shift_overflow OpShr w a r c = top w a
+shift_overflow OpSar w a r c = false
+shift_overflow OpRor w a r c = differs (top w r) (top w (r * 2 % modulus w))
+shift_overflow OpRcr w a r c = differs (top w r) (top w (r * 2 % modulus w))
+shift_overflow _ w a r c = differs (top w r) c
+
+-- a rotation leaves SF, ZF and PF
+abbrev pub is_rotation : Op → Bool
+is_rotation OpShl = false
+is_rotation OpShr = false
+is_rotation OpSar = false
+is_rotation _ = true
+
+-- the flags after n bits, where n isn't 0
+unfoldable pub shift_flags : Op → Width → ℕ → ℕ → ℕ → Bool → ℕ → ℕ
+shift_flags op w n a r c f =
+    let g = put f Carry c in
+    let h = if n == 1 then put g Overflow (shift_overflow op w a r c) else g in
+    if is_rotation op then h else with_szp w r h
+
+-- the result and the flags word: the count is modulo 32, and a count of 0 changes nothing
+unfoldable pub shift_of : Op → Width → ℕ → ℕ → ℕ → ℕ × ℕ
+shift_of op w a count f =
+    let n = count % 32 in
+    let x = repeated n op w (a, is_set f Carry) in
+    if n == 0 then (a, f) else (x.0, shift_flags op w n a x.0 x.1 f)

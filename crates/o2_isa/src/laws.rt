@@ -1,0 +1,35 @@
+// Laws over the meanings of all instructions.
+ghost use Rattle.std.specs.Prelude.{◌≡◌, ◌≤◌, ℕ, Bool, true, false, length, Err};
+ghost use Rattle.o2_base.specs.declared.selector.Selector.{Selector};
+ghost use Rattle.o2_isa.specs.declared.cpu.Cpu.{Cpu};
+ghost use Rattle.o2_isa.specs.declared.cpu.Outcome.{Outcome};
+ghost use Rattle.o2_isa.specs.declared.cpu.Stop.TheVariants.{Miss};
+ghost use Rattle.o2_isa.specs.declared.instr.Instr.{Instr};
+ghost use Rattle.o2_isa.specs.View.{Filling, Rest, Hidden, IsBound, Agrees, KeepsFrame};
+ghost use Rattle.o2_isa.specs.Steps.{State};
+ghost use Rattle.o2_isa.specs.Meaning.{steps_of};
+ghost use Rattle.o2_isa.specs.Presence.{IsMissed, IsRow, whole_state, unseen, is_in};
+ghost use Rattle.o2_isa.specs.Step.{Answers, AsBoundless, stepped, step_names, is_miss};
+
+/// Every mnemonic checks before it changes anything, writes before it binds, binds the selectors that it leaves, and has one
+/// load at most.
+pub fn rows_are_rows()
+    ensures { (c : Cpu) (i : Instr) (next : ℕ) → IsRow c 1 (steps_of c i next) }
+{}
+
+/// Where nothing is missed a step does the same whatever is present, and both views are alike again after its changes; what
+/// is missed isn't present and is one of the names that the step loads.
+pub fn presence_is_invisible()
+    ensures boundless { (f : Filling) (o : Outcome) (new old : State) → IsBound old.view → Answers o new old (stepped old) → AsBoundless f o new old }
+    ensures missed { (f : Filling) (s : State) (t : Selector) → IsBound s.view → stepped s ≡ Err (Miss t) → IsMissed s.view t (step_names (whole_state f s)) }
+    ensures present { (f : Filling) (o : Outcome) (new old : State) → IsBound old.view → Answers o new old (stepped old) → is_miss o ≡ false → (n : ℕ) → is_in n (step_names (whole_state f old)) ≡ true → old.view.present n ≡ true }
+    ensures few { (s : State) → length (step_names s) ≤ 1 }
+{}
+
+/// What a step leaves as it is: the map, sizes, marks, and what no instruction sees, which doesn't matter either. The segment
+/// registers hold what their selectors name.
+pub fn steps_keep()
+    ensures frame { (o : Outcome) (new old : State) → Answers o new old (stepped old) → KeepsFrame old.view new.view }
+    ensures agrees { (o : Outcome) (new old : State) → Answers o new old (stepped old) → Agrees old.cpu old.view → Agrees new.cpu new.view }
+    ensures unseen { (r : Rest) (h : Hidden) (o : Outcome) (new old : State) → Answers o new old (stepped old) → Answers o (unseen r h new) (unseen r h old) (stepped (unseen r h old)) }
+{}

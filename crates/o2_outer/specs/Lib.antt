@@ -1,0 +1,6 @@
+pub mod Texts
+pub mod Answers
+pub mod Contents
+pub mod Sinks
+pub mod Sources
+pub mod Devices

@@ -1,0 +1,93 @@
+// Files of the folder that the program runs in.
+ghost use Rattle.std.specs.Prelude.{None, ◌≡◌, ◌≤◌, IfOk, vec_len};
+ghost use Rattle.o2_outer.specs.Texts.{Rose};
+
+use crate::{Fetch, Files};
+use o2_base::Bytes;
+use std::alloc::Global;
+use std::io::{ErrorKind, Read};
+use std::{fs, rt};
+
+/// Files of the system, by the names that it knows. It tells no content; each error of the system is a fault.
+#[derive(Drop)]
+pub struct FolderFiles<R: rt::Files + Drop> {
+    system: R,
+    faults: u64,
+}
+
+/// Why a file isn't read.
+enum Unread {
+    TooLong,
+    Failed,
+    NoMemory,
+}
+
+/// How many bytes are read at a time.
+const PIECE: usize = 4096;
+
+/// The bytes of a reader, `most` at most.
+fn read_whole<F: Read>(alloc: Global, file: &mut F, most: u32) -> Result<Vec<u8>, Unread>
+    ensures { IfOk result (λ bytes. vec_len bytes ≤ most) }
+{
+    let mut bytes = Vec::new(alloc);
+    let mut piece = [0u8; PIECE];
+    for _ in 0..u64::MAX {
+        match file.read(&mut piece) {
+            Err(_) => return Err(Unread::Failed),
+            Ok(0) => return Ok(bytes),
+            Ok(count) => {
+                if count > most as usize || bytes.len() > most as usize - count {
+                    return Err(Unread::TooLong);
+                }
+                if bytes.extend_from_slice(&piece[..count]).is_err() {
+                    return Err(Unread::NoMemory);
+                }
+            }
+        }
+    }
+    Err(Unread::Failed)
+}
+
+impl<R: rt::Files + Drop> FolderFiles<R> {
+    /// The files that this system has.
+    pub fn new(system: R) -> FolderFiles<R> {
+        FolderFiles { system, faults: 0 }
+    }
+
+    /// One fault more.
+    fn fault(&mut self) -> Fetch
+        ensures failed { result ≡ Fetch.Failed }
+        ensures later { self.old.faults ≤ self.new.faults }
+        ensures rose { Rose self.old.faults self.new.faults }
+    {
+        self.faults = self.faults.saturating_add(1);
+        Fetch::Failed
+    }
+}
+
+impl<R: rt::Files + Drop> Files for FolderFiles<R> {
+    ghost told = { λ _. None };
+
+    ghost faults = { λ f. f.faults };
+
+    fn fetch(&mut self, alloc: Global, name: &Bytes, most: u32) -> Fetch {
+        let Ok(path) = str::from_utf8(name.as_slice()) else {
+            return self.fault();
+        };
+        match fs::open(&self.system, path) {
+            Err(error) => {
+                if error.kind() == ErrorKind::NotFound {
+                    Fetch::NoFile
+                } else {
+                    self.fault()
+                }
+            }
+            Ok(mut file) => match read_whole(alloc, &mut file, most) {
+                Ok(bytes) => Fetch::Got(Bytes::new(bytes)),
+                Err(Unread::TooLong) => Fetch::TooLong,
+                Err(Unread::Failed) => self.fault(),
+                Err(Unread::NoMemory) => Fetch::NoMemory,
+            },
+        }
+    }
+}

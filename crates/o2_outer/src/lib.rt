@@ -1,0 +1,22 @@
+//! What lies outside the machine: files, an input, sinks and a swap device, each with a count of its faults.
+#![tactic(auto)]
+
+mod files;
+mod folder;
+mod mem_files;
+mod mem_sink;
+mod sink;
+mod source;
+mod streams;
+mod sure;
+mod swap;
+
+pub use files::{Fetch, Files};
+pub use folder::FolderFiles;
+pub use mem_files::MemFiles;
+pub use mem_sink::MemSink;
+pub use sink::{Put, Sink};
+pub use source::{Source, Took};
+pub use streams::{StderrSink, StdoutSink, StreamSink};
+pub use sure::{SureSource, SureSwap};
+pub use swap::{Dev, SwapDevice};

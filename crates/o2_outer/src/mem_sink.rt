@@ -1,0 +1,97 @@
+// A sink in memory, with its room reserved.
+ghost use Rattle.std.specs.Prelude.{◌≡◌, ◌≤◌, ◌+◌, ◌<◌, ◌++◌, [], List, ℕ, Option, Some, length, vec_len, vec_capacity, IfOk};
+
+use crate::{Put, Sink};
+use o2_base::NoMemory;
+use std::alloc::Global;
+
+/// A sink in memory with room for a number of bytes, which it takes when it is made. Each pair of `fails` is a call,
+/// counted from 1, that is to fail, and how many bytes it takes before. A piece that is longer than the room left takes
+/// the front that fits, and fails. No other call fails.
+#[derive(Drop)]
+pub struct MemSink {
+    bytes: Vec<u8>,
+    room: usize,
+    calls: u64,
+    fails: Vec<(u64, usize)>,
+    faults: u64,
+    ghost within: { vec_len bytes ≤ room },
+    ghost reserved: { room ≤ vec_capacity bytes },
+}
+
+/// Adds bytes to a vector that has the room.
+fn append(bytes: &mut Vec<u8>, more: &[u8])
+    requires { vec_len bytes.old + length more.now ≤ vec_capacity bytes.old }
+    ensures items { bytes.new.items ≡ bytes.old.items ++ more.now }
+    ensures len { vec_len bytes.new ≡ vec_len bytes.old + length more.now }
+    ensures capacity { vec_capacity bytes.old ≤ vec_capacity bytes.new }
+{
+    let _ = bytes.extend_from_slice(more);
+}
+
+/// How many bytes a call takes before it fails, where it is to fail.
+fn planned(fails: &[(u64, usize)], call: u64) -> Option<usize> {
+    for (number, taken) in fails {
+        if *number == call {
+            return Some(*taken);
+        }
+    }
+    None
+}
+
+impl MemSink {
+    ghost use Rattle.o2_outer.specs.Sinks.{sink_bytes, sink_faults};
+
+    /// An empty sink.
+    pub fn new(alloc: Global, room: usize, fails: Vec<(u64, usize)>) -> Result<MemSink, NoMemory>
+        ensures empty { IfOk result (λ s. sink_bytes s ≡ []) }
+        ensures faultless { IfOk result (λ s. sink_faults s ≡ 0) }
+    {
+        let bytes = Vec::with_capacity(alloc, room)?;
+        Ok(MemSink {
+            bytes,
+            room,
+            calls: 0,
+            fails,
+            faults: 0,
+        })
+    }
+
+    /// The bytes taken.
+    pub fn taken(&self) -> &[u8]
+        ensures { result.now ≡ sink_bytes self.now }
+    {
+        self.bytes.as_slice()
+    }
+
+    /// How often it has failed.
+    pub fn faults(&self) -> u64
+        ensures { result ≡ sink_faults self.now }
+    {
+        self.faults
+    }
+}
+
+impl Sink for MemSink {
+    ghost taken = { λ s. Some s.bytes.items };
+
+    ghost faults = { λ s. s.faults };
+
+    fn put(&mut self, piece: &[u8]) -> Put {
+        self.calls = self.calls.saturating_add(1);
+        let plan = planned(&self.fails, self.calls);
+        let left = self.room - self.bytes.len();
+        let wanted = match plan {
+            None => piece.len(),
+            Some(count) => count.min(piece.len()),
+        };
+        let taken = left.min(wanted);
+        append(&mut self.bytes, &piece[..taken]);
+        if plan.is_none() && taken == piece.len() {
+            Put::Done
+        } else {
+            self.faults = self.faults.saturating_add(1);
+            Put::Failed
+        }
+    }
+}

@@ -1,0 +1,84 @@
+// A source and a device in memory that never fail.
+ghost use Rattle.std.specs.Prelude.{◌≡◌, ◌≤◌, ◌<◌, List, ℕ, Some, drop, take, length, true, IfOk, replicate};
+ghost use Rattle.o2_outer.specs.Contents.{block_of};
+
+use crate::{Dev, Source, SwapDevice, Took};
+use o2_base::{Bytes, NoMemory};
+use std::alloc::Global;
+
+/// Bytes in memory.
+#[derive(Drop)]
+pub struct SureSource {
+    bytes: Bytes,
+    at: usize,
+    ghost within: { at ≤ length bytes },
+}
+
+impl SureSource {
+    ghost use Rattle.o2_outer.specs.Sources.{source_left};
+
+    /// A source of these bytes.
+    pub fn new(bytes: Bytes) -> SureSource
+        ensures { source_left result ≡ bytes }
+    {
+        SureSource { bytes, at: 0 }
+    }
+}
+
+impl Source for SureSource {
+    ghost left = { λ s. Some (drop s.at s.bytes) };
+
+    ghost faults = { λ _. 0 };
+
+    fn take(&mut self, into: &mut [u8]) -> Took {
+        let rest = &self.bytes.as_slice()[self.at..];
+        let count = into.len().min(rest.len());
+        into[..count].copy_from_slice(&rest[..count]);
+        self.at += count;
+        Took::Done(count)
+    }
+}
+
+/// Blocks in memory, 65,536 at most.
+#[derive(Drop)]
+pub struct SureSwap {
+    blocks: Vec<[u8; 512]>,
+    ghost few: { length blocks.items ≤ 65536 },
+}
+
+impl SureSwap {
+    ghost use Rattle.o2_outer.specs.Devices.{swap_blocks};
+
+    /// A device of so many blocks of zeros.
+    pub fn new(alloc: Global, blocks: u32) -> Result<SureSwap, NoMemory>
+        requires { blocks ≤ 65536 }
+        ensures { IfOk result (λ s. swap_blocks s ≡ blocks) }
+    {
+        let blocks = vec![in alloc; [0u8; 512]; blocks as usize]?;
+        Ok(SureSwap { blocks })
+    }
+}
+
+impl SwapDevice for SureSwap {
+    ghost blocks = { λ s. length s.blocks.items };
+
+    ghost told = { λ _. true };
+
+    ghost block = { λ s. block_of s.blocks.items };
+
+    ghost faults = { λ _. 0 };
+
+    fn count(&self) -> u32 {
+        self.blocks.len() as u32
+    }
+
+    fn read(&mut self, i: u32, into: &mut [u8; 512]) -> Dev {
+        *into = self.blocks[i as usize];
+        Dev::Done
+    }
+
+    fn write(&mut self, i: u32, from: &[u8; 512]) -> Dev {
+        self.blocks[i as usize] = *from;
+        Dev::Done
+    }
+}

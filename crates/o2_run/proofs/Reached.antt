@@ -1,0 +1,70 @@
+-- How a run goes on, and how it ends.
+use Rattle.std.proofs.Common.{◌≡◌, ℕ, suc, ◌+◌, ◌<◌, ◌≤◌, Bool, true, false, not, List, [], ◌∷◌, ◌++◌, Option, Some, subst, inl, inr, ap, sym, ◌∙◌, refl, arith, ◌||◌, ◌==◌, if◌then◌else◌, below_more, append-nil, append_assoc}
+use Rattle.o2_outer.specs.Texts.{IsPrefix}
+use Rattle.o2_world.specs.World.{World, Setting}
+use Rattle.o2_world.specs.Text.{lines_text}
+use Rattle.o2_world.specs.Run.{any_lives, after, is_over, last_line, report, HasWholeTexts, HasPartTexts, Between, AtLastLine, IsBelowLast}
+use Rattle.o2_run.specs.Turn.{StepsOn, StepsInPart, IsClosed, IsClosedInPart, IsStopped}
+use Rattle.o2_run.specs.Ended.{HasReached, HasWholeRun, HasStoppedTexts}
+use Rattle.o2_run.specs.declared.steps.Stop.{Stop}
+
+neither : (a b : Bool) (x y : List ℕ) → (a || b) ≡ false → (if a then x else (if b then y else [])) ≡ []
+neither true b x y e = cc
+neither false true x y e = cc
+neither false false x y e = refl
+
+no_last : (w : World) → is_over w ≡ false → last_line w ≡ []
+no_last w e = neither (not (any_lives w.processes)) (w.dispatch.budget == 0) _ _ e
+
+report_so_far : (w : World) → is_over w ≡ false → report w ≡ lines_text w.lines
+report_so_far w e = ap (λ x. lines_text w.lines ++ x) (no_last w e) ∙ append-nil (lines_text w.lines)
+
+module _ (before_it now : World → Type 0) (s : Setting) (w : World) (i l c d e r q p : Option (List ℕ)) where
+  runs_to : (k : ℕ) → ((j : ℕ) → j < k → is_over (after s w j) ≡ false) → is_over (after s w k) ≡ false → (j : ℕ) → j < k + 1 → is_over (after s w j) ≡ false
+  runs_to k before now = let P : ℕ → Type 0 = λ j. is_over (after s w j) ≡ false in below_more P k before now
+
+  pub one_more : (h : HasReached before_it s w i c d r q) → StepsOn now s (after s w h.steps) l d e q p → HasReached now s w l c e r p
+  one_more h on = record {
+    steps = suc h.steps;
+    stands = on.stands;
+    runs = λ j below. runs_to h.steps h.runs on.runs j (omega (arith, below));
+    input = on.input;
+    to_console = λ t x. on.to_console t (h.to_console t x);
+    to_report = λ t x. on.to_report t (h.to_report t x);
+  }
+
+  pub closed : (h : HasReached before_it s w i c d r q) → IsClosed (after s w h.steps) l d e q p → HasWholeRun s w l c e r p
+  closed h end = record {
+    texts = record {
+      last = h.steps;
+      is_last = record { over = end.over; first = h.runs };
+      to_console = λ t x. end.to_console ∙ h.to_console t x;
+      to_report = λ t x. end.to_report t (h.to_report t x);
+    };
+    input = end.input;
+  }
+
+  pub stopped_before : (h : HasReached before_it s w i c d r q) (why : Stop) → IsStopped now s (after s w h.steps) why l d e q p → HasStoppedTexts s w why l c e r p
+  stopped_before h why stop = record {
+    steps = h.steps;
+    below = λ j le. runs_to h.steps h.runs stop.runs j (omega (arith, le));
+    cause = stop.cause;
+    input = stop.input;
+    to_console = λ t x. stop.to_console ∙ h.to_console t x;
+    to_report = λ t x. stop.to_report t (h.to_report t x);
+  }
+
+  pub stopped_between : (h : HasReached before_it s w i c d r q) → StepsInPart now s (after s w h.steps) d e q p → HasPartTexts s w c e r p
+  stopped_between h part = Between h.steps (λ j le. runs_to h.steps h.runs part.runs j (omega (arith, le)))
+      (λ t x. part.to_console t (h.to_console t x))
+      (λ t x. let y = part.to_report t (h.to_report t x) in
+      (y.0, y.1, (rw (report_so_far (after s w h.steps) part.runs) y.2.0, (y.2.1.0 ++ last_line (after s w (suc h.steps)), ap (λ z. z ++ last_line (after s w (suc h.steps))) y.2.1.1 ∙ append_assoc y.0 y.2.1.0 (last_line (after s w (suc h.steps)))))))
+      (elim part.in_order [
+        | inl same ↦ inl (λ t x. same ∙ h.to_report t x)
+        | inr goes ↦ inr (λ t x. goes t (h.to_console t x))
+      ])
+
+  pub stopped_at_last : (h : HasReached before_it s w i c d r q) → IsClosedInPart (after s w h.steps) d e q p → HasPartTexts s w c e r p
+  stopped_at_last h end = AtLastLine h.steps (record { over = end.over; first = h.runs })
+      (λ t x. end.to_console ∙ h.to_console t x)
+      (λ t x. end.to_report t (h.to_report t x))

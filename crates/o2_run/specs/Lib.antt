@@ -1,0 +1,3 @@
+pub mod Stops
+pub mod Turn
+pub mod Ended

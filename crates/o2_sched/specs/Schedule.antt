@@ -1,0 +1,36 @@
+-- The schedule of a run.
+use Rattle.std.specs.Prelude.{◌≡◌, ℕ, Bool, true, false, not, List, [], if◌then◌else◌, ◌==◌}
+use Rattle.std.specs.List.{list_any}
+use Rattle.o2_world.specs.World.{Dispatch}
+use Rattle.o2_world.specs.Dispatch.{lives, dispatched, counted}
+use Rattle.o2_sched.specs.declared.sched.Pick.{Pick}
+use Rattle.o2_sched.specs.declared.sched.Pick.TheVariants.{Step, AllEnded, BudgetSpent}
+
+-- whose turn it is, which processes live by place, and the steps of a turn
+pub record Schedule : Type 0 where
+  pub dispatch : Dispatch
+  pub flags : List Bool
+  pub quantum : ℕ
+
+-- the dispatch of the next step
+abbrev pub next_of : Schedule → Dispatch
+next_of s = dispatched s.quantum s.flags s.dispatch
+
+-- what comes next
+abbrev pub pick_of : Schedule → Pick
+pick_of s = if not (list_any (λ b. b) s.flags) then AllEnded else (if s.dispatch.budget == 0 then BudgetSpent else Step (next_of s).current)
+
+abbrev pub is_step : Pick → Bool
+is_step (Step n) = true
+is_step AllEnded = false
+is_step BudgetSpent = false
+
+-- the process that is chosen lives
+abbrev pub PicksLive : List Bool → Pick → Type 0
+PicksLive flags (Step n) = lives flags n ≡ true
+PicksLive flags AllEnded = Unit {0}
+PicksLive flags BudgetSpent = Unit {0}
+
+-- before the first step all live
+abbrev pub opening_dispatch : List (ℕ × ℕ) → ℕ → Dispatch
+opening_dispatch script budget = record { script = script; current = 0; left = 0; turn = 0; budget = budget }

@@ -1,0 +1,98 @@
+// The place in the script and in the turns.
+ghost use Rattle.std.specs.Prelude.{◌≡◌, ◌≤◌, ◌<◌, ℕ, length, drop, position, IfSome};
+ghost use Rattle.o2_world.specs.Dispatch.{lives, next_live, turn_after, live_script, dispatched};
+ghost use Rattle.o2_sched.specs.Places.{place_dispatch};
+
+/// How many words of the script are behind, the process of the slice or turn with its steps left, and the process of the
+/// last turn (0 before the first).
+#[derive(Clone, Copy)]
+pub struct Place {
+    pub at: usize,
+    pub current: u16,
+    pub left: u32,
+    pub turn: u16,
+}
+
+/// Whether a process lives.
+pub fn is_live(flags: &[bool], number: u16) -> bool
+    ensures { result ≡ lives flags.now number }
+{
+    number > 0 && flags.get(number as usize - 1).copied().unwrap_or(false)
+}
+
+fn first_live(flags: &[bool]) -> Option<usize>
+    ensures value { result ≡ position (λ b. b) flags.now }
+    ensures bound { IfSome result (λ i. i < length flags.now) }
+{
+    flags.iter().position(|live| *live)
+}
+
+/// The lowest live number above another.
+fn live_above(flags: &[bool], number: u16) -> Option<u16>
+    requires few { length flags.now < 65 }
+    requires inside { number ≤ length flags.now }
+    ensures { result ≡ next_live flags.now number }
+{
+    let from = number as usize;
+    match first_live(&flags[from..]) {
+        None => None,
+        Some(i) => Some((i + from + 1) as u16),
+    }
+}
+
+/// The next higher live number, or the lowest.
+fn next_turn(flags: &[bool], number: u16) -> u16
+    requires few { length flags.now < 65 }
+    requires inside { number ≤ length flags.now }
+    ensures value { result ≡ turn_after flags.now number }
+    ensures bound { result ≤ length flags.now }
+{
+    match live_above(flags, number) {
+        Some(next) => next,
+        None => live_above(flags, 0).unwrap_or(0),
+    }
+}
+
+/// How many words stand before the first whose process lives.
+fn passed(flags: &[bool], words: &[(u16, u32)]) -> usize
+    ensures within { result ≤ length words.now }
+    ensures script { drop result words.now ≡ live_script flags.now words.now }
+{
+    let mut count = 0;
+    while count < words.len() && !is_live(flags, words[count].0) {
+        count += 1;
+    }
+    count
+}
+
+/// The place of the next step.
+pub fn advanced(place: Place, script: &[(u16, u32)], flags: &[bool], quantum: u32) -> Place
+    requires within { place.at ≤ length script.now }
+    requires few { length flags.now < 65 }
+    requires inside { place.turn ≤ length flags.now }
+    ensures dispatch { (budget : ℕ) → place_dispatch script.now result budget ≡ dispatched quantum flags.now (place_dispatch script.now place budget) }
+    ensures within { result.at ≤ length script.now }
+    ensures inside { result.turn ≤ length flags.now }
+{
+    if place.left > 0 && is_live(flags, place.current) {
+        return place;
+    }
+    let at = place.at + passed(flags, &script[place.at..]);
+    if at < script.len() {
+        let (current, left) = script[at];
+        Place {
+            at: at + 1,
+            current,
+            left,
+            turn: place.turn,
+        }
+    } else {
+        let number = next_turn(flags, place.turn);
+        Place {
+            at,
+            current: number,
+            left: quantum,
+            turn: number,
+        }
+    }
+}

@@ -1,0 +1,121 @@
+// The schedule of a run.
+ghost use Rattle.std.specs.Prelude.{◌≡◌, ◌≤◌, ◌<◌, ◌-◌, true, false, length, slice_set, replicate, IfOk};
+ghost use Rattle.std.specs.List.{list_any};
+ghost use Rattle.o2_world.specs.Dispatch.{counted};
+
+use crate::place::{Place, advanced};
+use o2_base::NoMemory;
+use std::alloc::Global;
+use std::marker::Model;
+
+/// What comes next.
+#[derive(Clone, Copy, Debug, PartialEq, Eq)]
+pub enum Pick {
+    /// A step of this process.
+    Step(u16),
+    /// Nothing: all processes have ended.
+    AllEnded,
+    /// Nothing: the budget is spent.
+    BudgetSpent,
+}
+
+/// The schedule of a run of 1 to 64 processes. After `new` no call takes memory.
+#[derive(Drop)]
+pub struct Sched {
+    script: Vec<(u16, u32)>,
+    place: Place,
+    budget: u32,
+    quantum: u32,
+    flags: Vec<bool>,
+    any_lives: bool,
+}
+
+impl Model for Sched {
+    ghost use Rattle.std.specs.Prelude.{length};
+    ghost use Rattle.o2_sched.specs.Places.{place_dispatch, IsWithin};
+    ghost use Rattle.o2_sched.specs.Schedule.{Schedule};
+
+    ghost Value = { Schedule };
+
+    ghost view = { λ s. record { dispatch = place_dispatch s.script.items s.place s.budget; flags = s.flags.items; quantum = s.quantum } };
+
+    ghost invariant = { λ s. IsWithin (length s.script.items) s.place s.flags.items s.any_lives };
+}
+
+impl Sched {
+    ghost use Rattle.o2_sched.specs.Schedule.{Schedule, next_of, pick_of, is_step, PicksLive, opening_dispatch};
+
+    /// The schedule of so many processes, before their first step. The script is a list of slices, each a process with its
+    /// steps; the budget is the steps of the whole run, and the quantum those of a turn.
+    pub fn new(
+        alloc: Global,
+        processes: u16,
+        script: Vec<(u16, u32)>,
+        budget: u32,
+        quantum: u32,
+    ) -> Result<Sched, NoMemory>
+        requires { processes ≤ 64 }
+        ensures { IfOk result (λ s. s ≡ record { dispatch = opening_dispatch script.items budget; flags = replicate processes true; quantum = quantum }) }
+    {
+        let flags = vec![in alloc; true; processes as usize]?;
+        Ok(Sched {
+            script,
+            place: Place {
+                at: 0,
+                current: 0,
+                left: 0,
+                turn: 0,
+            },
+            budget,
+            quantum,
+            any_lives: any(&flags),
+            flags,
+        })
+    }
+
+    /// What comes next. A step is one of a process that lives.
+    pub fn next(&mut self) -> Pick
+        ensures pick { result ≡ pick_of self.old }
+        ensures live { PicksLive self.old.flags result }
+        ensures same { self.new ≡ self.old }
+    {
+        if !self.any_lives {
+            return Pick::AllEnded;
+        }
+        if self.budget == 0 {
+            return Pick::BudgetSpent;
+        }
+        let place = advanced(self.place, &self.script, &self.flags, self.quantum);
+        Pick::Step(place.current)
+    }
+
+    /// The step that was next is done.
+    pub fn stepped(&mut self)
+        requires { is_step (pick_of self.old) ≡ true }
+        ensures { self.new ≡ record self.old { dispatch = counted (next_of self.old) } }
+    {
+        let place = advanced(self.place, &self.script, &self.flags, self.quantum);
+        self.place = Place {
+            left: place.left.saturating_sub(1),
+            ..place
+        };
+        self.budget -= 1;
+    }
+
+    /// A process has ended.
+    pub fn ended(&mut self, pid: u16)
+        requires first { 0 < pid }
+        requires there { pid ≤ length self.old.flags }
+        ensures { self.new ≡ record self.old { flags = slice_set self.old.flags (pid - 1) false } }
+    {
+        self.flags[pid as usize - 1] = false;
+        self.any_lives = any(&self.flags);
+    }
+}
+
+/// Whether any process lives.
+fn any(flags: &[bool]) -> bool
+    ensures { result ≡ list_any (λ b. b) flags.now }
+{
+    flags.iter().any(|live| *live)
+}

@@ -1,0 +1,5 @@
+pub mod MapLemmas
+pub mod Choice
+pub mod Flags
+pub mod Keeps
+pub mod Budget

@@ -1,0 +1,5 @@
+use Rattle.o2_world.proofs.Keeps.{step_sound}
+use Rattle.o2_world.proofs.laws.each_step_keeps_a_sound_world_sound.Goals as goal
+
+pub returns : goal.returns
+returns c = step_sound

@@ -1,0 +1,147 @@
+-- The calls of DOSCALLS by the OS/2 1.3 Programmer's Reference: for each its pointers in order, its conditions in order, its
+-- error number, what it changes, and its line.
+use Rattle.std.specs.Prelude.{ℕ, zero, suc, ◌+◌, ◌*◌, ◌/◌, ◌%◌, Bool, true, false, List, [], ◌∷◌, ◌++◌, length, take, drop, if◌then◌else◌, ◌==◌, nat_le, ◌&&◌, ◌||◌, Option, Some, None, Result, is_ok, codes}
+use Rattle.std.specs.Result.{result_unwrap_or}
+use Rattle.o2_isa.specs.declared.cpu.Cpu.{Cpu}
+use Rattle.o2_isa.specs.declared.instr.Sreg.TheVariants.{Ss}
+use Rattle.o2_isa.specs.declared.instr.Width.TheVariants.{Word as WordWide}
+use Rattle.o2_isa.specs.Parts.{put_part}
+use Rattle.o2_isa.specs.View.{View, Hold, is_readable, is_writable, bound_in, read_of}
+use Rattle.o2_world.specs.declared.types.Argument.TheVariants.{Word, Far}
+use Rattle.o2_world.specs.declared.types.State.{State}
+use Rattle.o2_world.specs.declared.types.State.TheVariants.{Live, Exited, Trapped}
+use Rattle.o2_world.specs.World.{Line, Calls, Exits, Ends, Traps}
+
+-- what a step does: the registers and the state after it, the bytes of the names after it, the input left, the piece for the
+-- console, and the lines
+pub record Effect : Type 0 where
+  pub cpu : Cpu
+  pub state : State
+  pub bytes : ℕ → List ℕ
+  pub input : List ℕ
+  pub piece : List ℕ
+  pub lines : List Line
+
+-- what a step starts from: the number of its process, its registers, what it sees, and the input left
+pub record Before : Type 0 where
+  pub number : ℕ
+  pub cpu : Cpu
+  pub view : View
+  pub input : List ℕ
+
+-- a trap: nothing changes but that the process ends
+abbrev pub trapped : Before → ℕ → Effect
+trapped b vector = record {
+  cpu = b.cpu;
+  state = Trapped vector;
+  bytes = b.view.bytes;
+  input = b.input;
+  piece = [];
+  lines = Traps b.number vector b.cpu.cs b.cpu.ip ∷ [];
+}
+
+-- Arguments. They are pushed from left to right as words, each of which must lie in SS.
+
+-- the i-th word from the top of the stack
+abbrev pub word_of : View → Cpu → ℕ → Result ℕ (ℕ × ℕ)
+word_of v c i = read_of v Ss ((c.sp + 2 * i) % 65536) WordWide
+
+unfoldable pub argument : View → Cpu → ℕ → ℕ
+argument v c i = result_unwrap_or (word_of v c i) 0
+
+-- the first n words from the top of the stack lie in SS
+abbrev pub has_arguments : View → Cpu → ℕ → Bool
+has_arguments v c zero = true
+has_arguments v c (suc n) = has_arguments v c n && is_ok (word_of v c n)
+
+-- Pointers. A selector must pass the rules for loading ES and not be null, and the range must lie in the segment.
+
+abbrev pub has_range : (ℕ → List ℕ) → (ℕ → Bool) → ℕ → ℕ → Option Hold → Bool
+has_range bytes ok offset count None = false
+has_range bytes ok offset count (Some h) = ok h.rights && nat_le (offset + count) (length (bytes h.name))
+
+-- the range may be read, or written, by what a process holds and the bytes of the names; a range of no bytes is not looked at
+unfoldable pub may_read : (ℕ → Option Hold) → (ℕ → List ℕ) → ℕ → ℕ → ℕ → Bool
+may_read held bytes selector offset count = (count == 0) || has_range bytes is_readable offset count (bound_in held selector)
+
+unfoldable pub may_write : (ℕ → Option Hold) → (ℕ → List ℕ) → ℕ → ℕ → ℕ → Bool
+may_write held bytes selector offset count = (count == 0) || has_range bytes is_writable offset count (bound_in held selector)
+
+abbrev pub range_in : (ℕ → List ℕ) → ℕ → ℕ → Option Hold → List ℕ
+range_in bytes offset count None = []
+range_in bytes offset count (Some h) = take count (drop offset (bytes h.name))
+
+-- the bytes behind a pointer
+unfoldable pub range_of : (ℕ → Option Hold) → (ℕ → List ℕ) → ℕ → ℕ → ℕ → List ℕ
+range_of held bytes selector offset count = if count == 0 then [] else range_in bytes offset count (bound_in held selector)
+
+abbrev pub put_in : (ℕ → List ℕ) → ℕ → List ℕ → Option Hold → ℕ → List ℕ
+put_in bytes offset part None n = bytes n
+put_in bytes offset part (Some h) n = if n == h.name then put_part (bytes n) offset part else bytes n
+
+-- the bytes of all names after a write behind a pointer
+unfoldable pub put_at_pointer : (ℕ → Option Hold) → (ℕ → List ℕ) → ℕ → ℕ → List ℕ → ℕ → List ℕ
+put_at_pointer held bytes selector offset part = put_in bytes offset part (bound_in held selector)
+
+abbrev pub word_bytes : ℕ → List ℕ
+word_bytes n = n % 256 ∷ n / 256 ∷ []
+
+-- the registers as a call comes back: AX has the error number, and the arguments are gone
+abbrev pub returned : Cpu → ℕ → ℕ → ℕ → Cpu
+returned c next words error = record c { ax = error; sp = (c.sp + 2 * words) % 65536; ip = next }
+
+-- DosWrite(handle, buffer, count, pdone): 6 unless the handle is 1 or 2. The bytes go to the console, and their number is
+-- written to pdone.
+abbrev pub write_line : ℕ → (handle selector offset count done_selector done_offset error : ℕ) → Line
+write_line number handle selector offset count done_selector done_offset error =
+    Calls number (codes "DosWrite") (Word handle ∷ Far selector offset ∷ Word count ∷ Far done_selector done_offset ∷ []) error (Word count ∷ [])
+
+abbrev pub is_console : ℕ → Bool
+is_console handle = (handle == 1) || (handle == 2)
+
+abbrev pub written : Before → ℕ → (handle selector offset count done_selector done_offset : ℕ) → Effect
+written b next handle selector offset count done_selector done_offset =
+    let line = write_line b.number handle selector offset count done_selector done_offset in
+    if may_read b.view.held b.view.bytes selector offset count && may_write b.view.held b.view.bytes done_selector done_offset 2
+    then (if is_console handle
+    then record {
+      cpu = returned b.cpu next 6 0;
+      state = Live;
+      bytes = put_at_pointer b.view.held b.view.bytes done_selector done_offset (word_bytes count);
+      input = b.input;
+      piece = range_of b.view.held b.view.bytes selector offset count;
+      lines = line 0 ∷ [];
+    }
+    else record {
+      cpu = returned b.cpu next 6 6;
+      state = Live;
+      bytes = b.view.bytes;
+      input = b.input;
+      piece = [];
+      lines = line 6 ∷ [];
+    })
+    else trapped b 13
+
+unfoldable pub dos_write : Before → ℕ → Effect
+dos_write b next =
+    let a : ℕ → ℕ = argument b.view b.cpu in
+    if has_arguments b.view b.cpu 6 then written b next (a 5) (a 4) (a 3) (a 2) (a 1) (a 0) else trapped b 12
+
+-- DosExit(action, code): the process ends with the code, whatever the action is
+unfoldable pub dos_exit : Before → Effect
+dos_exit b =
+    let code = argument b.view b.cpu 0 in
+    if has_arguments b.view b.cpu 2
+    then record {
+      cpu = b.cpu;
+      state = Exited code;
+      bytes = b.view.bytes;
+      input = b.input;
+      piece = [];
+      lines = Exits b.number (argument b.view b.cpu 1) code ∷ Ends b.number code ∷ [];
+    }
+    else trapped b 12
+
+-- the call of a service that comes back to `next`
+abbrev pub serviced : Before → ℕ → ℕ → Effect
+serviced b service next = if service == 1 then dos_exit b else dos_write b next

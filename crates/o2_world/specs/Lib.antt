@@ -1,0 +1,12 @@
+pub mod Map
+pub mod World
+pub mod Dispatch
+pub mod Text
+pub mod Holders
+pub mod Views
+pub mod Calls
+pub mod Effect
+pub mod Run
+pub mod Opening
+pub mod Sound
+pub mod Hello

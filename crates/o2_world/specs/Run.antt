@@ -1,0 +1,110 @@
+-- The run of the boundless machine, its texts, and what a stopped run shows of them.
+use Rattle.std.specs.Prelude.{◌⊎◌, ◌≡◌, ℕ, zero, suc, ◌≤◌, ◌<◌, Bool, true, false, not, List, [], ◌∷◌, ◌++◌, if◌then◌else◌, ◌==◌, ◌||◌, Option, Some, None, codes, map}
+use Rattle.std.specs.List.{list_any}
+use Rattle.o2_outer.specs.Texts.{Gains, GainsSome, GainsBetween, IsPrefix}
+use Rattle.o2_world.specs.Map.{Map}
+use Rattle.o2_world.specs.World.{World, Setting, Process, Segment, Dispatch, Line, is_live}
+use Rattle.o2_world.specs.Dispatch.{dispatched, counted}
+use Rattle.o2_world.specs.Holders.{process_at, with_process, kept}
+use Rattle.o2_world.specs.Views.{view_of, with_bytes}
+use Rattle.o2_world.specs.Calls.{Before, Effect}
+use Rattle.o2_world.specs.Effect.{effect}
+use Rattle.o2_world.specs.Text.{lines_text}
+
+abbrev pub live_flags : List Process → List Bool
+live_flags ps = map (λ (p : Process). is_live p.state) ps
+
+abbrev pub any_lives : List Process → Bool
+any_lives ps = list_any (λ b. b) (live_flags ps)
+
+-- the process after an effect: where that ended it, it holds nothing
+abbrev pub process_after : Process → Effect → Process
+process_after p e = if is_live e.state then record p { cpu = e.cpu; state = e.state } else record p { cpu = e.cpu; state = e.state; held = [] }
+
+-- the names after it: where it ended the process, those that nobody holds go
+abbrev pub names_after : List Process → Map Segment → Effect → Map Segment
+names_after ps names e = if is_live e.state then with_bytes names e.bytes else kept ps (with_bytes names e.bytes)
+
+-- the world after this effect of a step of process d.current
+unfoldable pub changed : World → Dispatch → Process → Effect → World
+changed w d p e =
+    let ps = with_process w.processes d.current (process_after p e) in
+    record w {
+      names = names_after ps w.names e;
+      processes = ps;
+      input = e.input;
+      dispatch = counted d;
+      console = w.console ++ e.piece;
+      lines = w.lines ++ e.lines;
+    }
+
+-- what a step of process n starts from
+abbrev pub before : World → ℕ → Process → Before
+before w n p = record { number = n; cpu = p.cpu; view = view_of w.names p; input = w.input }
+
+-- the world after the step, where there is one
+abbrev pub acted : World → Dispatch → Option Process → World
+acted w d None = w
+acted w d (Some p) = changed w d p (effect (before w d.current p))
+
+-- whose step is next
+abbrev pub next_dispatch : Setting → World → Dispatch
+next_dispatch s w = dispatched s.quantum (live_flags w.processes) w.dispatch
+
+-- one step of the machine
+unfoldable pub step : Setting → World → World
+step s w = let d = next_dispatch s w in acted w d (process_at w.processes d.current)
+
+-- after k steps
+abbrev pub after : Setting → World → ℕ → World
+after s w zero = w
+after s w (suc k) = step s (after s w k)
+
+-- all have ended, or the budget is spent
+abbrev pub is_over : World → Bool
+is_over w = not (any_lives w.processes) || (w.dispatch.budget == 0)
+
+-- the run is over after k steps, and not before
+pub record IsLast (s : Setting) (w : World) (k : ℕ) : Type 0 where
+  pub over : is_over (after s w k) ≡ true
+  pub first : (j : ℕ) → j < k → is_over (after s w j) ≡ false
+
+-- k is below the number of steps of the run
+abbrev pub IsBelowLast : Setting → World → ℕ → Type 0
+IsBelowLast s w k = (j : ℕ) → j ≤ k → is_over (after s w j) ≡ false
+
+abbrev pub last_line : World → List ℕ
+last_line w = if not (any_lives w.processes) then codes "all ended" ++ 10 ∷ [] else (if w.dispatch.budget == 0 then codes "budget spent" ++ 10 ∷ [] else [])
+
+abbrev pub console : World → List ℕ
+console w = w.console
+
+abbrev pub report : World → List ℕ
+report w = lines_text w.lines ++ last_line w
+
+-- both texts of the whole run
+pub record HasWholeTexts (s : Setting) (w : World) (console_old console_new report_old report_new : Option (List ℕ)) : Type 0 where
+  pub last : ℕ
+  pub is_last : IsLast s w last
+  pub to_console : Gains console_old console_new (console (after s w last))
+  pub to_report : Gains report_old report_new (report (after s w last))
+
+-- of one step either the report has no byte of its lines, or the console has its whole piece
+abbrev pub PieceFirst : World → World → (console_old console_new report_old report_new : Option (List ℕ)) → Type 0
+PieceFirst w next c d r q = Gains r q (lines_text w.lines) ⊎ Gains c d (console next)
+
+-- both texts are those of a front of the run
+pub data HasPartTexts (s : Setting) (w : World) (console_old console_new report_old report_new : Option (List ℕ)) : Type 0 where
+  -- in the opening and among the start lines
+  InOpening : Gains console_old console_new [] → GainsSome report_old report_new (λ piece. IsPrefix piece (lines_text w.lines)) → HasPartTexts s w console_old console_new report_old report_new
+  -- between two steps: one k serves both texts
+  Between : (k : ℕ) → IsBelowLast s w k
+      → GainsBetween console_old console_new (console (after s w k)) (console (after s w (suc k)))
+      → GainsBetween report_old report_new (report (after s w k)) (report (after s w (suc k)))
+      → PieceFirst (after s w k) (after s w (suc k)) console_old console_new report_old report_new
+      → HasPartTexts s w console_old console_new report_old report_new
+  -- at the last line
+  AtLastLine : (k : ℕ) → IsLast s w k
+      → Gains console_old console_new (console (after s w k))
+      → GainsBetween report_old report_new (lines_text (after s w k).lines) (report (after s w k))
+      → HasPartTexts s w console_old console_new report_old report_new

@@ -1,0 +1,33 @@
+// Laws of the boundless machine.
+ghost use Rattle.std.specs.Prelude.{◌≡◌, ◌≢◌, ◌-◌, ◌≤◌, ℕ, ◌++◌, [], ◌∷◌, codes, true, slice_get};
+ghost use Rattle.o2_world.specs.World.{World, Setting};
+ghost use Rattle.o2_world.specs.Sound.{IsSound};
+ghost use Rattle.o2_world.specs.Run.{after, step, next_dispatch, is_over, IsLast, console as console_text, report as report_text};
+ghost use Rattle.o2_world.specs.Hello.{hello_world, hello_setting, hello_report, hello_start, hello_write, text_of};
+
+/// A program that writes `hello` by DosWrite and ends by DosExit takes ten steps. Its console and its report are these,
+/// and with a budget of nine steps these fronts of them.
+pub fn hello_runs_in_ten_steps()
+    ensures over { is_over (after hello_setting (hello_world 1000000) 10) ≡ true }
+    ensures console { console_text (after hello_setting (hello_world 1000000) 10) ≡ codes "hello" }
+    ensures report { report_text (after hello_setting (hello_world 1000000) 10) ≡ hello_report }
+    ensures short_console { console_text (after hello_setting (hello_world 9) 9) ≡ codes "hello" }
+    ensures short_report { report_text (after hello_setting (hello_world 9) 9) ≡ text_of (hello_start ++ hello_write ∷ codes "budget spent" ∷ []) }
+{}
+
+/// Each step keeps a sound world sound: what is held is a live segment and is held at least once, each live segment is held,
+/// and a process that has ended holds nothing.
+pub fn each_step_keeps_a_sound_world_sound()
+    ensures { (s : Setting) (w : World) → IsSound w → IsSound (step s w) }
+{}
+
+/// A step changes no process but the one that is chosen.
+pub fn other_processes_stay()
+    ensures { (s : Setting) (w : World) (place : ℕ) → place ≢ (next_dispatch s w).current - 1 → slice_get (step s w).processes place ≡ slice_get w.processes place }
+{}
+
+/// Each run comes to its end, which is not past its budget.
+pub fn no_run_is_longer_than_its_budget()
+    ensures ends { (s : Setting) (w : World) → (k : ℕ) × IsLast s w k }
+    ensures within { (s : Setting) (w : World) (k : ℕ) → IsLast s w k → k ≤ w.dispatch.budget }
+{}

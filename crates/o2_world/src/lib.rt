@@ -1,0 +1,11 @@
+//! The boundless machine: its world, the rows of the calls, steps, dispatch, runs and the texts of a run.
+#![tactic(auto)]
+
+mod laws;
+mod types;
+
+pub use laws::{
+    each_step_keeps_a_sound_world_sound, hello_runs_in_ten_steps, no_run_is_longer_than_its_budget,
+    other_processes_stay,
+};
+pub use types::{Argument, State};
