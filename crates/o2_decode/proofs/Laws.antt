@@ -8,17 +8,16 @@ use Rattle.std.proofs.lemmas.Grind.{common_steps}
 use Rattle.std.proofs.Math.Seq.{take-append_seam}
 use Rattle.o2_isa.specs.declared.rows.Entry.TheVariants.{Unused}
 use Rattle.o2_isa.specs.declared.rows.Prefixes.{Prefixes}
-use Rattle.o2_isa.specs.declared.rows.Plan.{Plan}
+use Rattle.o2_isa.specs.Operands.{Plan}
 use Rattle.o2_isa.specs.declared.instr.Instr.{Instr}
-use Rattle.o2_isa.specs.declared.rows.Head.{Head}
-use Rattle.o2_isa.specs.declared.rows.Head.TheVariants.{More, Bad, Whole}
+use Rattle.o2_isa.specs.Reading.{Head, More, Bad, Whole}
 use Rattle.o2_isa.specs.declared.rows.Decoded.{Decoded}
 use Rattle.o2_isa.specs.declared.rows.Decoded.TheVariants.{One, Invalid, TooLong, Need}
 use Rattle.o2_isa.specs.Table.{table, table_0f}
 use Rattle.o2_isa.specs.Operands.{tail_len, instr_of}
 use Rattle.o2_isa.specs.Spelling.{is_prefix, no_prefixes, mark, marks, plan_after, plan_two, plan_of, IsPrefix, IsByte, SpellsAfter, Spells, IsFront, IsUndefined}
 use Rattle.o2_isa.specs.Reading.{IsWithin, head_after, head_two, head_of, read_tail, read, limited, decoded}
-use Rattle.o2_decode.proofs.Heads.{chosen, after_sound, after_again, after_bad, after_more, table_finish, table_0f_finish}
+use Rattle.o2_decode.proofs.HeadLaws.{chosen, after_sound, after_again, after_bad, after_more, table_finish, table_0f_finish}
 
 -- Heads with their opcode.
 

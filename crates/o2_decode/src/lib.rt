@@ -1,7 +1,7 @@
 //! Decoding of 80286 instructions.
 #![tactic(auto)]
 
-mod lookup;
+mod heads;
 mod operands;
 mod reading;
 mod table;

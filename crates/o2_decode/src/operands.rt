@@ -1,7 +1,9 @@
-ghost use Rattle.std.specs.Prelude.{◌≡◌, ◌+◌, ◌<◌, ◌≤◌, length};
-ghost use Rattle.o2_isa.specs.Operands.{is_direct, disp_len, imm_len, tail_len, word_at, sign_extended, sreg_of, default_segment, ea_of, register, arg_of, source_segment, rep_of, instr_of};
+// The operands of an instruction, from its prefixes, its ModRM byte and the bytes after that.
 
-use o2_isa::{Arg, Ea, Instr, Plan, Prefixes, Rep, Repeat, Row, Slot, Sreg, Width};
+ghost use Rattle.std.specs.Prelude.{◌≡◌, ◌+◌, ◌<◌, ◌≤◌, length};
+ghost use Rattle.o2_isa.specs.Operands.{is_direct, disp_len, imm_len, tail_len, word_at, sign_extended, sreg_of, default_segment, disp_of, ea_of, register, arg_of, source_segment, rep_of, instr_of};
+
+use o2_isa::{Arg, Ea, Instr, Prefixes, Rep, Repeat, Row, Slot, Sreg, Width};
 
 fn is_direct_offset(modrm: u8) -> bool
     ensures { result ≡ is_direct modrm }
@@ -34,15 +36,15 @@ fn immediate_len(slot: Slot) -> usize
     }
 }
 
-pub fn rest_len(plan: &Plan) -> usize
-    requires { plan.now.disp ≤ 2 }
-    ensures value { result ≡ tail_len plan.now }
+/// How many bytes the displacement and the immediates of the row have.
+pub fn rest_len(row: &Row, modrm: u8) -> usize
+    ensures value { result ≡ tail_len (record { row = row.now; modrm = modrm }) }
     ensures small { result ≤ 14 }
 {
-    plan.disp
-        + immediate_len(plan.row.left)
-        + immediate_len(plan.row.right)
-        + immediate_len(plan.row.third)
+    displacement_len(modrm)
+        + immediate_len(row.left)
+        + immediate_len(row.right)
+        + immediate_len(row.third)
 }
 
 fn word(bytes: &[u8], at: usize) -> u16
@@ -80,22 +82,28 @@ fn base_segment(modrm: u8) -> Sreg
     }
 }
 
-fn address(prefixes: &Prefixes, modrm: u8, disp: usize, tail: &[u8]) -> Ea
-    requires { disp ≤ length tail.now }
-    ensures { result ≡ ea_of prefixes.now modrm disp tail.now }
+fn displacement(modrm: u8, tail: &[u8]) -> u16
+    requires { disp_len modrm ≤ length tail.now }
+    ensures { result ≡ disp_of modrm tail.now }
 {
-    let offset = match disp {
+    match displacement_len(modrm) {
         0 => 0,
         1 => extended(tail[0]),
         _ => word(tail, 0),
-    };
+    }
+}
+
+fn address(prefixes: &Prefixes, modrm: u8, tail: &[u8]) -> Ea
+    requires { disp_len modrm ≤ length tail.now }
+    ensures { result ≡ ea_of prefixes.now modrm tail.now }
+{
     Ea {
         base: if is_direct_offset(modrm) {
             8
         } else {
             modrm % 8
         },
-        disp: offset,
+        disp: displacement(modrm, tail),
         seg: prefixes.seg.unwrap_or(base_segment(modrm)),
     }
 }
@@ -109,24 +117,23 @@ fn register_of(width: Width, n: u8) -> Arg
     }
 }
 
-fn operand(slot: Slot, prefixes: &Prefixes, plan: &Plan, tail: &[u8], at: usize) -> Arg
-    requires disp { plan.now.disp ≤ length tail.now }
+fn operand(slot: Slot, width: Width, prefixes: &Prefixes, modrm: u8, tail: &[u8], at: usize) -> Arg
+    requires disp { disp_len modrm ≤ length tail.now }
     requires room { at + imm_len slot ≤ length tail.now }
-    ensures { result ≡ arg_of slot plan.now.row.width prefixes.now plan.now tail.now at }
+    ensures { result ≡ arg_of slot width prefixes.now modrm tail.now at }
 {
-    let width = plan.row.width;
     match slot {
         Slot::Absent => Arg::No,
         Slot::ModRm => {
-            if plan.modrm / 64 == 3 {
-                register_of(width, plan.modrm % 8)
+            if modrm / 64 == 3 {
+                register_of(width, modrm % 8)
             } else {
-                Arg::M(address(prefixes, plan.modrm, plan.disp, tail))
+                Arg::M(address(prefixes, modrm, tail))
             }
         }
-        Slot::Memory => Arg::M(address(prefixes, plan.modrm, plan.disp, tail)),
-        Slot::Register => register_of(width, plan.modrm / 8 % 8),
-        Slot::Segment | Slot::SegmentNotCs => Arg::S(segment_register(plan.modrm / 8 % 8)),
+        Slot::Memory => Arg::M(address(prefixes, modrm, tail)),
+        Slot::Register => register_of(width, modrm / 8 % 8),
+        Slot::Segment | Slot::SegmentNotCs => Arg::S(segment_register(modrm / 8 % 8)),
         Slot::Fixed(n) => register_of(width, n),
         Slot::FixedByte(n) => Arg::R8(n),
         Slot::FixedWord(n) => Arg::R16(n),
@@ -168,20 +175,21 @@ fn repeat_of(repeat: Repeat, rep: Rep) -> Rep
     }
 }
 
-pub fn instruction(prefixes: &Prefixes, plan: &Plan, tail: &[u8]) -> Instr
-    requires { length tail.now ≡ tail_len plan.now }
-    ensures { result ≡ instr_of prefixes.now plan.now tail.now }
+/// The instruction of the prefixes, the row, its ModRM byte (0 where it takes none) and the bytes after that.
+pub fn instruction(prefixes: &Prefixes, row: &Row, modrm: u8, tail: &[u8]) -> Instr
+    requires { length tail.now ≡ tail_len (record { row = row.now; modrm = modrm }) }
+    ensures { result ≡ instr_of prefixes.now (record { row = row.now; modrm = modrm }) tail.now }
 {
-    let row = plan.row;
-    let second = plan.disp + immediate_len(row.left);
+    let first = displacement_len(modrm);
+    let second = first + immediate_len(row.left);
     let third = second + immediate_len(row.right);
     Instr {
         op: row.op,
         width: row.width,
-        left: operand(row.left, prefixes, plan, tail, plan.disp),
-        right: operand(row.right, prefixes, plan, tail, second),
-        third: operand(row.third, prefixes, plan, tail, third),
-        seg: segment_of_source(prefixes, &row),
+        left: operand(row.left, row.width, prefixes, modrm, tail, first),
+        right: operand(row.right, row.width, prefixes, modrm, tail, second),
+        third: operand(row.third, row.width, prefixes, modrm, tail, third),
+        seg: segment_of_source(prefixes, row),
         rep: repeat_of(row.repeat, prefixes.rep),
         lock: prefixes.lock,
     }

@@ -1,12 +1,14 @@
+// Reading an instruction from its bytes, from left to right.
+
 ghost use Rattle.std.specs.Prelude.{◌≡◌, List, [], ◌++◌, ◌+◌, ◌<◌, ◌≤◌, ◌↔◌, ℕ, length, take};
 ghost use Rattle.o2_isa.specs.Spelling.{is_prefix, mark, no_prefixes, Spells, IsFront, IsUndefined};
-ghost use Rattle.o2_isa.specs.Reading.{head_after, head_of, read_tail, read, limited, decoded, IsWithin};
-ghost use Rattle.o2_decode.specs.Short.{IsShort};
+ghost use Rattle.o2_isa.specs.Reading.{Whole, head_of, read_tail, read, limited, decoded, IsWithin};
+ghost use Rattle.o2_isa.specs.Canonical.{IsCanonical};
 ghost use Rattle.o2_isa.specs.declared.instr.Instr.{Instr};
 
-use crate::lookup::{entry, row_at, second_entry};
-use crate::operands::{displacement_len, instruction, rest_len};
-use o2_isa::{Decoded, Entry, Head, Plan, Prefixes, Rep, Sreg};
+use crate::heads::{Head, head_at};
+use crate::operands::{instruction, rest_len};
+use o2_isa::{Decoded, Prefixes, Rep, Row, Sreg};
 
 fn is_prefix_byte(b: u8) -> bool
     ensures { result ≡ is_prefix b }
@@ -32,71 +34,40 @@ fn marked(prefixes: Prefixes, b: u8) -> Prefixes
     p
 }
 
-fn after_opcode(entry: Entry, bytes: &[u8], len: usize) -> Head
-    requires { len ≤ 2 }
-    ensures value { result ≡ head_after entry bytes.now len }
-    ensures short { IsShort result }
+// `len` bytes are the head of the row
+fn read_row(
+    row: &Row,
+    modrm: u8,
+    len: usize,
+    prefixes: &Prefixes,
+    at: usize,
+    bytes: &[u8],
+) -> Decoded
+    requires head { len ≤ 3 }
+    requires before { at ≤ 10 }
+    ensures { result ≡ read_tail (Whole (record { row = row.now; modrm = modrm }) len) prefixes.now at bytes.now }
 {
-    match entry {
-        Entry::Unused => Head::Bad,
-        Entry::Bare(row) => Head::Whole(
-            Plan {
-                row,
-                modrm: 0,
-                disp: 0,
-            },
-            len,
-        ),
-        _ => match bytes {
-            [] => Head::More,
-            [modrm, ..] => match row_at(entry, *modrm) {
-                None => Head::Bad,
-                Some(row) => Head::Whole(
-                    Plan {
-                        row,
-                        modrm: *modrm,
-                        disp: displacement_len(*modrm),
-                    },
-                    len + 1,
-                ),
-            },
-        },
+    let rest = rest_len(row, modrm);
+    if bytes.len() < len + rest {
+        return Decoded::Need;
     }
+    let (_, after) = bytes.split_at(len);
+    let (tail, _) = after.split_at(rest);
+    Decoded::One(
+        instruction(prefixes, row, modrm, tail),
+        (at + (len + rest)) as u8,
+    )
 }
 
-#[tactic(auto, unfolding(o2_isa::specs::Reading::head_of))]
-fn head(bytes: &[u8]) -> Head
-    ensures value { result ≡ head_of bytes.now }
-    ensures short { IsShort result }
-{
-    match bytes {
-        [] => Head::More,
-        [0x0F] => Head::More,
-        [0x0F, b, rest @ ..] => after_opcode(second_entry(*b), rest, 2),
-        [b, rest @ ..] => after_opcode(entry(*b), rest, 1),
-    }
-}
-
+// the bytes behind `at` bytes of prefixes
 fn after_prefixes(prefixes: &Prefixes, at: usize, bytes: &[u8]) -> Decoded
     requires { at ≤ 10 }
     ensures { result ≡ read_tail (head_of bytes.now) prefixes.now at bytes.now }
 {
-    match head(bytes) {
+    match head_at(bytes) {
         Head::More => Decoded::Need,
         Head::Bad => Decoded::Invalid,
-        Head::Whole(plan, len) => {
-            let rest = rest_len(&plan);
-            if bytes.len() < len + rest {
-                Decoded::Need
-            } else {
-                let (_, after) = bytes.split_at(len);
-                let (tail, _) = after.split_at(rest);
-                Decoded::One(
-                    instruction(prefixes, &plan, tail),
-                    (at + (len + rest)) as u8,
-                )
-            }
-        }
+        Head::Whole(row, modrm, len) => read_row(row, modrm, len, prefixes, at, bytes),
     }
 }
 
@@ -134,11 +105,16 @@ fn limited_bytes(bytes: &[u8]) -> Decoded
     }
 }
 
-/// The instruction at the front of the bytes.
+/// The instruction at the front of at most ten bytes, by the opcode table of the Intel 80286 Programmer's Reference
+/// Manual. `One` has the instruction and how many of the bytes it has. `Need` says that fewer than ten bytes are a
+/// proper front of an instruction, and `TooLong` that ten are, so that it is longer than the processor allows.
+/// `Invalid` says that no instruction begins with the bytes, whatever follows them. It takes no memory.
 pub fn decode(bytes: &[u8]) -> Decoded
     requires { length bytes.now ≤ 10 }
+    // the reading from left to right, by which a step of the machine is defined
     ensures is { result ≡ decoded bytes.now }
-    ensures one { (i : Instr) (n : ℕ) → (result ≡ Decoded.One i n) ↔ ((n ≤ length bytes.now) × Spells (take n bytes.now) i) }
+    ensures one { (i : Instr) (n : ℕ) →
+        (result ≡ Decoded.One i n) ↔ ((n ≤ length bytes.now) × Spells (take n bytes.now) i) }
     ensures within { IsWithin result (length bytes.now) }
     ensures need { (result ≡ Decoded.Need) ↔ ((length bytes.now < 10) × IsFront bytes.now) }
     ensures too_long { (result ≡ Decoded.TooLong) ↔ ((10 ≤ length bytes.now) × IsFront bytes.now) }
@@ -147,8 +123,10 @@ pub fn decode(bytes: &[u8]) -> Decoded
     limited_bytes(bytes)
 }
 
-/// No spelling begins another, and bytes spell one instruction at most.
+/// What holds of every spelling: bytes spell one instruction at most, no spelling begins another, and the fields of an
+/// instruction that mean nothing for its mnemonic have one value.
 pub fn one_spelling()
     ensures unique { (bytes : List ℕ) (i j : Instr) → Spells bytes i → Spells bytes j → i ≡ j }
     ensures no_front { (a b : List ℕ) (i j : Instr) → Spells a i → Spells (a ++ b) j → b ≡ [] }
+    ensures canonical { (bytes : List ℕ) (i : Instr) → Spells bytes i → IsCanonical i }
 {}

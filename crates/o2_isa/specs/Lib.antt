@@ -2,6 +2,7 @@ pub mod Table
 pub mod Operands
 pub mod Spelling
 pub mod Reading
+pub mod Canonical
 pub mod View
 pub mod Registers
 pub mod Steps

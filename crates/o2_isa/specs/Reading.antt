@@ -1,20 +1,26 @@
--- Reading from left to right.
+-- What the bytes at a place spell, read from left to right. What is read is spelled so, and what is spelled so is read:
+-- the clauses of o2_decode's `decode` and `one_spelling` say it.
 use Rattle.std.specs.Prelude.{ℕ, ◌+◌, ◌==◌, ◌≤◌, nat_lt, if◌then◌else◌, List, [], ◌∷◌, length, take, drop, slice_index_or, Option, Some, None}
 use Rattle.o2_isa.specs.declared.rows.Entry.{Entry}
 use Rattle.o2_isa.specs.declared.rows.Entry.TheVariants.{Unused, Bare, Modrm, Group}
 use Rattle.o2_isa.specs.declared.rows.Row.{Row}
 use Rattle.o2_isa.specs.declared.rows.Prefixes.{Prefixes}
-use Rattle.o2_isa.specs.declared.rows.Head.{Head}
-use Rattle.o2_isa.specs.declared.rows.Head.TheVariants.{More, Bad, Whole}
 use Rattle.o2_isa.specs.declared.rows.Decoded.{Decoded}
 use Rattle.o2_isa.specs.declared.rows.Decoded.TheVariants.{One, Invalid, TooLong, Need}
 use Rattle.o2_isa.specs.Table.{table, table_0f}
-use Rattle.o2_isa.specs.Operands.{disp_len, tail_len, instr_of}
+use Rattle.o2_isa.specs.Operands.{Plan, tail_len, instr_of}
 use Rattle.o2_isa.specs.Spelling.{is_prefix, no_prefixes, mark, row_of}
+
+-- what stands between the prefixes and the bytes of the displacement and the immediates: too few bytes to tell, bytes that
+-- no instruction has, or a whole head and how many bytes it has
+pub data Head : Type 0 where
+  More : Head
+  Bad : Head
+  Whole : Plan → ℕ → Head
 
 abbrev pub head_with : Option Row → ℕ → ℕ → Head
 head_with None m n = Bad
-head_with (Some row) m n = Whole (record { row = row; modrm = m; disp = disp_len m }) n
+head_with (Some row) m n = Whole (record { row = row; modrm = m }) n
 
 abbrev pub head_modrm : Entry → List ℕ → ℕ → Head
 head_modrm e [] n = More
@@ -23,7 +29,7 @@ head_modrm e (m ∷ bs) n = head_with (row_of e m) m (n + 1)
 -- n bytes of opcode stand before
 abbrev pub head_after : Entry → List ℕ → ℕ → Head
 head_after Unused bs n = Bad
-head_after (Bare row) bs n = Whole (record { row = row; modrm = 0; disp = 0 }) n
+head_after (Bare row) bs n = Whole (record { row = row; modrm = 0 }) n
 head_after (Modrm row) bs n = head_modrm (Modrm row) bs n
 head_after (Group k) bs n = head_modrm (Group k) bs n
 

@@ -1,16 +1,16 @@
--- Which bytes spell which instruction: prefixes, then a head that the table knows, then as many bytes as the head asks for.
+-- Which bytes spell which instruction: prefixes, then a head that the table knows (the opcode, with the ModRM byte where it
+-- takes one), then as many bytes as the head asks for. No bound on the length stands here.
 use Rattle.std.specs.Prelude.{◌≡◌, ℕ, ◌<◌, ◌≤◌, Bool, true, false, ◌||◌, ◌==◌, if◌then◌else◌, List, [], ◌∷◌, ◌++◌, length, take, slice_index_or, Option, Some, None}
 use Rattle.std.specs.List.{AllByRecursion}
 use Rattle.o2_isa.specs.declared.rows.Entry.{Entry}
 use Rattle.o2_isa.specs.declared.rows.Entry.TheVariants.{Unused, Bare, Modrm, Group}
 use Rattle.o2_isa.specs.declared.rows.Row.{Row}
-use Rattle.o2_isa.specs.declared.rows.Plan.{Plan}
 use Rattle.o2_isa.specs.declared.rows.Prefixes.{Prefixes}
 use Rattle.o2_isa.specs.declared.instr.Instr.{Instr}
 use Rattle.o2_isa.specs.declared.instr.Rep.TheVariants.{No, Equal, NotEqual}
 use Rattle.o2_isa.specs.declared.instr.Sreg.TheVariants.{Es, Cs, Ss, Ds}
 use Rattle.o2_isa.specs.Table.{table, table_0f, groups}
-use Rattle.o2_isa.specs.Operands.{reg_of, disp_len, row_takes, tail_len, instr_of}
+use Rattle.o2_isa.specs.Operands.{Plan, reg_of, row_takes, tail_len, instr_of}
 
 abbrev pub is_prefix : ℕ → Bool
 is_prefix b = b == 38 || b == 46 || b == 54 || b == 62 || b == 240 || b == 242 || b == 243
@@ -38,11 +38,11 @@ row_of _ m = None
 
 abbrev pub with_modrm : Option Row → ℕ → Option Plan
 with_modrm None m = None
-with_modrm (Some row) m = Some (record { row = row; modrm = m; disp = disp_len m })
+with_modrm (Some row) m = Some (record { row = row; modrm = m })
 
 -- the opcode's entry, and the ModRM byte where it takes one
 abbrev pub plan_after : Entry → List ℕ → Option Plan
-plan_after (Bare row) [] = Some (record { row = row; modrm = 0; disp = 0 })
+plan_after (Bare row) [] = Some (record { row = row; modrm = 0 })
 plan_after e (m ∷ []) = with_modrm (row_of e m) m
 plan_after _ _ = None
 

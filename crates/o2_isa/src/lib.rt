@@ -14,4 +14,4 @@ pub use groups::{Group, instruction_group};
 pub use instr::{Arg, Ea, Instr, Op, Rep, Sreg, Width};
 pub use laws::{presence_is_invisible, rows_are_rows, steps_keep};
 pub use o2_base::Selector;
-pub use rows::{Decoded, Entry, Head, Plan, Prefixes, Repeat, Row, Slot};
+pub use rows::{Decoded, Entry, Prefixes, Repeat, Row, Slot};

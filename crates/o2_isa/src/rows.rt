@@ -93,28 +93,6 @@ pub struct Prefixes {
     pub lock: bool,
 }
 
-/// A row with its ModRM byte.
-#[derive(Clone, Copy)]
-pub struct Plan {
-    /// The row.
-    pub row: Row,
-    /// The ModRM byte, or 0 where the row takes none.
-    pub modrm: u8,
-    /// How many bytes the displacement has: 0, 1 or 2.
-    pub disp: usize,
-}
-
-/// What stands between the prefixes and the bytes of the displacement and the immediates.
-#[derive(Clone, Copy)]
-pub enum Head {
-    /// More bytes are wanted to tell.
-    More,
-    /// No instruction has these bytes.
-    Bad,
-    /// A whole head, and how many bytes it has.
-    Whole(Plan, usize),
-}
-
 /// What the bytes at a place spell.
 #[derive(Clone, Copy, Debug, PartialEq, Eq)]
 pub enum Decoded {

@@ -4,11 +4,9 @@ use Rattle.std.specs.Prelude.{Option, Some, None, is_some}
 use Rattle.o2_isa.specs.declared.rows.Entry.{Entry}
 use Rattle.o2_isa.specs.declared.rows.Entry.TheVariants.{Unused, Bare, Modrm, Group}
 use Rattle.o2_isa.specs.declared.rows.Row.{Row}
-use Rattle.o2_isa.specs.declared.rows.Plan.{Plan}
-use Rattle.o2_isa.specs.declared.rows.Head.{Head}
-use Rattle.o2_isa.specs.declared.rows.Head.TheVariants.{More, Bad, Whole}
+use Rattle.o2_isa.specs.Operands.{Plan}
+use Rattle.o2_isa.specs.Reading.{More, Bad, Whole}
 use Rattle.o2_isa.specs.Table.{table, table_0f, groups}
-use Rattle.o2_isa.specs.Operands.{disp_len}
 use Rattle.std.specs.List.{AllByRecursion}
 use Rattle.o2_isa.specs.Spelling.{IsByte, row_of, with_modrm, plan_after}
 use Rattle.o2_isa.specs.Reading.{head_with, head_modrm, head_after}
@@ -40,7 +38,7 @@ pub after_sound : (e : Entry) (bs : List ℕ) (n : ℕ) (p : Plan) (m : ℕ) →
 after_sound Unused bs n p m h = cc
 after_sound (Bare row) bs n p m h = record { head = []; rest = bs; whole = refl; size = omega (arith, size_of h); known = cc }
   where
-    size_of : Whole (record { row = row; modrm = 0; disp = 0 }) n ≡ Whole p m → n ≡ m
+    size_of : Whole (record { row = row; modrm = 0 }) n ≡ Whole p m → n ≡ m
     size_of q = cc
 after_sound (Modrm row) bs n p m h = after_modrm_sound (Modrm row) (λ b. refl) bs n p m h
 after_sound (Group k) bs n p m h = after_modrm_sound (Group k) (λ b. refl) bs n p m h
@@ -112,7 +110,7 @@ pub record Goes (e : Entry) (bs : List ℕ) : Type 0 where
 
 some_plan : (r : Option Row) (b : ℕ) → is_some r ≡ true → (p : Plan) × (with_modrm r b ≡ Some p)
 some_plan None b h = cc
-some_plan (Some row) b h = (record { row = row; modrm = b; disp = disp_len b }, refl)
+some_plan (Some row) b h = (record { row = row; modrm = b }, refl)
 
 goes_modrm : (e : Entry) → ((b : ℕ) → plan_after e (b ∷ []) ≡ with_modrm (row_of e b) b) → is_some (row_of e 0) ≡ true → Goes e []
 goes_modrm e same h =
