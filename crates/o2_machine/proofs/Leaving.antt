@@ -63,6 +63,7 @@ module _ (b : Before) (e : Effect) (cpu : Cpu) (old new : Plain) (c d r s q : Op
   late_with_trap flag made took =
       subst (λ (x : Effect). IsMadeLate x (Trapped 1) cpu new c d r q) (sym (with_flag b e flag made.state)) (record {
         state = refl;
+        late = refl;
         cpu = made.cpu;
         bytes = made.bytes;
         to_console = made.to_console;

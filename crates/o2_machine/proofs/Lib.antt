@@ -1,2 +1,5 @@
 pub mod Leaving
 pub mod Gates
+pub mod Spaces
+pub mod Commits
+pub mod Acted

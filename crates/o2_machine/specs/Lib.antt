@@ -1,1 +1,4 @@
 pub mod Ran
+pub mod Stands
+pub mod Commit
+pub mod Acts

@@ -2,3 +2,4 @@
 #![tactic(auto)]
 
 mod one_step;
+mod space;
