@@ -13,7 +13,7 @@ use Rattle.o2_world.specs.Holders.{is_held, kept, with_process}
 use Rattle.o2_world.specs.Views.{hold_of, holds_in, segment_bytes, bytes_in as bytes_of, with_bytes}
 use Rattle.o2_world.specs.Calls.{Effect}
 use Rattle.o2_world.specs.Run.{process_after, names_after}
-use Rattle.o2_world.specs.Sound.{held_of, held_in as held_at}
+use Rattle.o2_world.specs.Sound.{held_of}
 use Rattle.o2_world.proofs.MapLemmas.{get-filter, get-map}
 use Rattle.o2_world.proofs.Keeps.{held_found}
 use Rattle.o2_world.proofs.Holding.{held_by, IsHeldBy}

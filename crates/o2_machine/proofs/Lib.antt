@@ -2,4 +2,5 @@ pub mod Leaving
 pub mod Gates
 pub mod Spaces
 pub mod Commits
-pub mod Acted
+pub mod Between
+pub mod Turns

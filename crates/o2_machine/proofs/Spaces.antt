@@ -1,31 +1,19 @@
 -- What becomes of the world that a machine stands for.
-use Rattle.std.proofs.Common.{◌≡◌, ◌≢◌, ℕ, zero, suc, ◌+◌, ◌-◌, ◌<◌, ◌≤◌, Bool, true, false, List, [], ◌∷◌, length, Option, Some, None, ap, sym, ◌∙◌, refl, arith, if◌then◌else◌, ◌==◌, slice_set, slice_index_or, subst}
-use Rattle.std.specs.Prelude.{slice_get, option_map}
-use Rattle.std.specs.List.{list_any}
-use Rattle.std.proofs.lemmas.Bool.{eqb-true, eq-eqb, false≢true}
+use Rattle.std.proofs.Common.{◌≡◌, ℕ, zero, suc, ◌+◌, ◌-◌, ◌<◌, Bool, true, List, [], ◌∷◌, length, Option, Some, None, ap, sym, ◌∙◌, refl, arith, slice_index_or, subst}
+use Rattle.std.specs.Prelude.{slice_get}
 use mathlib.Core.Path.{fun_ext}
 use Rattle.o2_isa.specs.declared.cpu.Cpu.{Cpu}
 use Rattle.o2_isa.specs.View.{View, Hold, simple_view, bound_registers}
 use Rattle.o2_bus.specs.declared.plain.Plain.{Plain}
 use Rattle.o2_bus.specs.Plain.{held_in, bytes_in, shown_in, plain_view}
-use Rattle.o2_bus.specs.Ends.{is_held_in}
-use Rattle.o2_bus.proofs.Holders.{held_is_held, is_held_at, IsHeldAt}
-use Rattle.o2_world.specs.declared.types.State.{State}
-use Rattle.o2_world.specs.declared.types.State.TheVariants.{Live}
-use Rattle.o2_world.specs.Map.{Map, get}
-use Rattle.o2_world.specs.World.{Process, Segment, Held, is_live}
-use Rattle.o2_world.specs.Holders.{is_held, holds_name, names_it, kept, with_process}
-use Rattle.o2_world.specs.Views.{hold_of, holds_in, segment_bytes, bytes_in as bytes_of, view_of, with_bytes}
-use Rattle.o2_world.specs.Calls.{Before, Effect}
-use Rattle.o2_world.specs.Run.{process_after, names_after}
-use Rattle.o2_world.proofs.MapLemmas.{get-filter, get-map}
-use Rattle.o2_world.proofs.Keeps.{some_is, at_other}
+use Rattle.o2_world.specs.Map.{Map}
+use Rattle.o2_world.specs.World.{Process, Segment}
+use Rattle.o2_world.specs.Views.{holds_in, bytes_in as bytes_of, view_of}
+use Rattle.o2_world.specs.Calls.{Before}
 use Rattle.o2_gate.specs.Befores.{before_call}
 use Rattle.o2_machine.specs.declared.space.Proc.{Proc}
 use Rattle.o2_machine.specs.declared.space.Space.{Space}
 use Rattle.o2_machine.specs.Stands.{IsProcess, IsAt, StandsIn}
-use Rattle.o2_machine.specs.Commit.{IsBetween}
-use Rattle.o2_machine.specs.Acts.{StandsAfter}
 
 -- what the machine's process sees is what the world's process sees
 same_view : (held holds : ℕ → Option Hold) (shown : ℕ → Bool) (bytes data_bytes : ℕ → List ℕ) (c d : Cpu) → ((j : ℕ) → held j ≡ holds j) → ((n : ℕ) → shown n ≡ true) → ((n : ℕ) → bytes n ≡ data_bytes n) → c ≡ d

@@ -2,3 +2,5 @@ pub mod Ran
 pub mod Stands
 pub mod Commit
 pub mod Acts
+pub mod Closes
+pub mod StandsFor

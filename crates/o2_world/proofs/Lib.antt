@@ -3,4 +3,5 @@ pub mod Choice
 pub mod Flags
 pub mod Keeps
 pub mod Holding
+pub mod Inputs
 pub mod Budget

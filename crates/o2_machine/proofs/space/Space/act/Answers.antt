@@ -1,20 +1,13 @@
-use Rattle.std.proofs.Common.{rules, arith, sym, ap, refl, subst, ◌∙◌, ◌≡◌, ◌<◌, ◌≤◌, ◌+◌, ◌-◌, ◌⊎◌, ℕ, List, length, true, false, Some, ◌*◌, ◌/◌, ◌%◌, Bool, nat_eq, nat_lt, [], ◌∷◌, ◌++◌, slice_index_or, slice_set, bit_and, bit_or, Fits, w8, w32, w64, Bor, MutBor}
-use Rattle.o2_world.specs.Map.{Map}
-use Rattle.o2_world.specs.World.{Process, Segment}
+use Rattle.std.proofs.Common.{arith, sym, ap, subst, ◌∙◌}
 use Rattle.o2_world.specs.World.{is_live as lives}
-use Rattle.o2_world.specs.Holders.{process_at}
-use Rattle.o2_world.specs.Views.{view_of}
 use Rattle.o2_world.specs.Calls.{Before, Effect}
 use Rattle.o2_world.specs.Effect.{effect}
 use Rattle.o2_gate.specs.Befores.{before_call}
-use Rattle.o2_machine.specs.Ran.{Leaves}
-use Rattle.o2_machine.specs.Stands.{StandsIn, IsProcess}
-use Rattle.o2_machine.specs.Commit.{IsBetween}
-use Rattle.o2_machine.specs.Acts.{Acts, OnFault, StandsAfter}
+use Rattle.o2_machine.specs.Acts.{Acts}
 use Rattle.o2_machine.specs.declared.space.Proc.{Proc}
 use Rattle.o2_machine.specs.declared.space.Acted.TheVariants as acted
 use Rattle.o2_machine.proofs.Spaces.{process_is, before_is}
-use Rattle.o2_machine.proofs.Acted.{between, stays}
+use Rattle.o2_machine.proofs.Between.{between, stays}
 use Rattle.o2_machine.proofs.space.Space.act.Goals as goal
 
 -- src/space.rt:74:5

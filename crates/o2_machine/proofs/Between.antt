@@ -1,12 +1,11 @@
 -- What a step leaves, as the machine of many processes has it.
-use Rattle.std.proofs.Common.{◌≡◌, ℕ, zero, suc, ◌+◌, Bool, true, false, List, [], ◌∷◌, length, Option, Some, None, ap, sym, ◌∙◌, refl, arith}
+use Rattle.std.proofs.Common.{◌≡◌, ℕ, ◌+◌, List, [], ◌∷◌, length, ap, sym, ◌∙◌, refl, arith}
 use Rattle.std.specs.Prelude.{slice_get}
-use Rattle.o2_isa.specs.View.{Hold}
 use Rattle.o2_bus.specs.declared.plain.Plain.{Plain}
 use Rattle.o2_bus.specs.Plain.{held_in, bytes_in, shown_in}
-use Rattle.o2_world.specs.Map.{Map, get}
+use Rattle.o2_world.specs.Map.{Map}
 use Rattle.o2_world.specs.World.{Process, Segment}
-use Rattle.o2_world.specs.Views.{segment_bytes, bytes_in as bytes_of}
+use Rattle.o2_world.specs.Views.{segment_bytes}
 use Rattle.o2_world.specs.Calls.{Effect}
 use Rattle.o2_machine.specs.declared.space.Space.{Space}
 use Rattle.o2_machine.specs.Stands.{StandsIn}
