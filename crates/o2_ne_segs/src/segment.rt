@@ -1,0 +1,244 @@
+ghost use Rattle.std.specs.Prelude.{◌≡◌, ◌+◌, ◌*◌, ◌-◌, ◌≤◌, ◌<◌, ◌^◌, [], ◌∷◌, length, vec_len, OnOk};
+ghost use Rattle.o2_ne.specs.Checks.{all_hold};
+ghost use Rattle.o2_ne.specs.Steps.{steps};
+ghost use Rattle.o2_ne_segs.specs.declared.segment.SegFault.TheVariants.{NoMemory};
+ghost use Rattle.o2_ne_segs.specs.SegmentTable.{SegGives, file_len_of, nth_segment, in_file, kind_of, profile_checks, row, row_step, segment_at, segment_of, segments_of, unit_of};
+
+use ne::u16_at;
+use std::alloc::{AllocError, AllocFailed, Global};
+use std::marker::Model;
+
+/// What a segment may be used for.
+#[derive(Clone, Copy, Debug, PartialEq, Eq)]
+pub enum Kind {
+    Code,
+    CodeOnly,
+    Writable,
+    ReadOnly,
+}
+
+/// What a segment has that is outside the profile.
+#[derive(Clone, Copy, Debug, PartialEq, Eq)]
+pub enum Part {
+    Iterated,
+    Conforming,
+    Ring,
+    Wide,
+}
+
+/// Why a segment table was not read.
+#[derive(Clone, Copy, Debug, PartialEq, Eq)]
+pub enum SegFault {
+    Truncated(u32),
+    OutOfProfile(Part),
+    NoMemory,
+}
+
+impl From<AllocError> for SegFault {
+    ghost from_gives = { λ _ e. e ≡ NoMemory };
+
+    fn from(_e: AllocError) -> SegFault {
+        SegFault::NoMemory
+    }
+}
+
+impl<T: Drop> From<AllocFailed<T>> for SegFault {
+    ghost from_gives = { λ _ e. e ≡ NoMemory };
+
+    fn from(_e: AllocFailed<T>) -> SegFault {
+        SegFault::NoMemory
+    }
+}
+
+/// A segment of a file.
+#[derive(Clone, Copy, Debug, PartialEq, Eq)]
+pub struct Segment {
+    pub file_at: u32,
+    pub file_len: u32,
+    pub size: u32,
+    pub kind: Kind,
+    pub relocs: bool,
+    pub flags: u16,
+}
+
+fn need(file: &[u8], at: u32, len: u32) -> Result<(), SegFault>
+    requires { length file.now ≤ 4194304 }
+    ensures { result ≡ all_hold (in_file file.now at len ∷ []) }
+{
+    let end = at as usize + len as usize;
+    if len == 0 || end <= file.len() {
+        return Ok(());
+    }
+    Err(SegFault::Truncated(at.max(file.len() as u32)))
+}
+
+fn kind_of(flags: u16) -> Kind
+    ensures { result ≡ kind_of flags }
+{
+    if flags & 1 != 0 {
+        if flags & 0x80 != 0 {
+            Kind::ReadOnly
+        } else {
+            Kind::Writable
+        }
+    } else if flags & 0x80 != 0 {
+        Kind::CodeOnly
+    } else {
+        Kind::Code
+    }
+}
+
+fn profile(flags: u16) -> Result<(), SegFault>
+    ensures { result ≡ all_hold (profile_checks flags) }
+{
+    if flags & 8 != 0 {
+        return Err(SegFault::OutOfProfile(Part::Iterated));
+    }
+    if flags & 0x200 != 0 {
+        return Err(SegFault::OutOfProfile(Part::Conforming));
+    }
+    if flags & 0xC00 == 0x400 || flags & 0xC00 == 0x800 {
+        return Err(SegFault::OutOfProfile(Part::Ring));
+    }
+    if flags & 0x2000 != 0 {
+        return Err(SegFault::OutOfProfile(Part::Wide));
+    }
+    Ok(())
+}
+
+fn unit_of(shift: u16) -> u32
+    requires { shift ≤ 15 }
+    ensures value { result ≡ unit_of shift }
+    ensures small { result ≤ 32768 }
+{
+    if shift == 0 { 512 } else { 1u32 << shift }
+}
+
+fn file_len_of(position: u16, len: u16) -> u32
+    ensures { result ≡ file_len_of position len }
+{
+    if position == 0 {
+        0
+    } else if len == 0 {
+        65536
+    } else {
+        u32::from(len)
+    }
+}
+
+fn row(unit: u32, position: u16, len: u16, flags: u16, minimum: u16) -> Segment
+    requires { unit ≤ 32768 }
+    ensures { result ≡ row unit position len flags minimum }
+{
+    let file_len = file_len_of(position, len);
+    let least = if minimum == 0 {
+        65536
+    } else {
+        u32::from(minimum)
+    };
+    Segment {
+        file_at: u32::from(position) * unit,
+        file_len,
+        size: file_len.max(least),
+        kind: kind_of(flags),
+        relocs: position != 0 && flags & 0x100 != 0,
+        flags,
+    }
+}
+
+#[tactic(auto, unfolding(crate::specs::SegmentTable::segment_of))]
+fn read_row(file: &[u8], shift: u16, at: u32) -> Result<Segment, SegFault>
+    requires shift { shift ≤ 15 }
+    requires small { length file.now ≤ 4194304 }
+    ensures { result ≡ segment_of file.now shift at }
+{
+    need(file, at, 8)?;
+    let p = at as usize;
+    let segment = row(
+        unit_of(shift),
+        u16_at(file, p),
+        u16_at(file, p + 2),
+        u16_at(file, p + 4),
+        u16_at(file, p + 6),
+    );
+    profile(segment.flags)?;
+    need(file, segment.file_at, segment.file_len)?;
+    Ok(segment)
+}
+
+/// The segments of a file.
+#[derive(Drop)]
+pub struct SegTable {
+    found: Vec<Segment>,
+}
+
+impl Model for SegTable {
+    ghost use Rattle.std.specs.Prelude.{List};
+    ghost use Rattle.o2_ne_segs.specs.declared.segment.Segment.{Segment};
+
+    ghost Value = { List Segment };
+
+    ghost view = { λ a. a.found.items };
+}
+
+// The next row.
+fn add_row(file: &[u8], at: u32, shift: u16, found: &mut Vec<Segment>) -> Result<(), SegFault>
+    requires shift { shift ≤ 15 }
+    requires small { length file.now ≤ 4194304 }
+    requires place { at + 8 * vec_len found.old < 2 ^ 32 }
+    ensures step { SegGives (λ _. found.new.items) result (row_step file.now at shift found.old.items) }
+    ensures more { OnOk result (vec_len found.new ≡ vec_len found.old + 1) }
+{
+    let place = at + 8 * found.len() as u32;
+    found.push(read_row(file, shift, place)?)?;
+    Ok(())
+}
+
+fn rows(
+    alloc: Global,
+    file: &[u8],
+    at: u32,
+    count: u16,
+    shift: u16,
+) -> Result<Vec<Segment>, SegFault>
+    requires shift { shift ≤ 15 }
+    requires small { length file.now ≤ 4194304 }
+    requires place { at + 8 * count < 2 ^ 32 }
+    ensures { SegGives (λ v. v.items) result (steps (row_step file.now at shift) count []) }
+{
+    let mut found = Vec::new(alloc);
+    for _ in 0..count {
+        add_row(file, at, shift, &mut found)?;
+    }
+    Ok(found)
+}
+
+impl SegTable {
+    /// The segments whose rows begin at a place, or the first check that fails.
+    #[tactic(auto, unfolding(crate::specs::SegmentTable::segments_of))]
+    pub fn read(
+        alloc: Global,
+        file: &[u8],
+        at: u32,
+        count: u16,
+        shift: u16,
+    ) -> Result<SegTable, SegFault>
+        requires shift { shift ≤ 15 }
+        requires small { length file.now ≤ 4194304 }
+        requires place { at + 8 * count < 2 ^ 32 }
+        ensures { SegGives (λ t. t) result (segments_of file.now at count shift) }
+    {
+        let found = rows(alloc, file, at, count, shift)?;
+        Ok(SegTable { found })
+    }
+
+    /// A segment, by its number from 1.
+    pub fn get(&self, n: u16) -> Option<Segment>
+        ensures { result ≡ nth_segment n self.now }
+    {
+        if n == 0 {
+            return None;
+        }
+        self.found.get(n as usize - 1).copied()
+    }
+}
