@@ -3,8 +3,8 @@ use Rattle.std.proofs.Common.{◌≡◌, ℕ, ◌-◌, ◌<◌, Result}
 use Rattle.o2_base.specs.declared.memory.Fail.TheVariants.{Bad}
 use Rattle.o2_ne.specs.Steps.{steps}
 use Rattle.o2_ne.proofs.Stepwise as stepwise
-use Rattle.o2_ne_segs.specs.declared.segment.SegFault.{SegFault}
-use Rattle.o2_ne_segs.specs.declared.segment.SegFault.TheVariants as fault
+use Rattle.o2_base.specs.declared.faults.SegFault.{SegFault}
+use Rattle.o2_base.specs.declared.faults.SegFault.TheVariants as fault
 use Rattle.o2_ne_segs.specs.SegmentTable.{SegFails}
 
 module _ {S : Type 0} where

@@ -1,43 +1,51 @@
--- The records of a segment: each must lead somewhere, and patch nothing twice.
-use Rattle.std.specs.Prelude.{ℕ, ◌+◌, ◌==◌, ◌&&◌, ◌||◌, Bool, not, List, [], ◌∷◌, nat_le, Result, Ok, if◌then◌else◌}
-use Rattle.std.specs.Int.RustNames.{bit_and}
-use Rattle.o2_ne.specs.Checks.{all_hold, or_fault, ◌>>=◌}
-use Rattle.o2_ne_segs.specs.declared.chain.ChainFault.{ChainFault}
-use Rattle.o2_ne_segs.specs.declared.chain.ChainFault.TheVariants.{BadTarget}
-use Rattle.o2_ne_segs.specs.declared.records.Reloc.{Reloc}
-use Rattle.o2_ne_segs.specs.Chains.{Marks, chain, single}
+-- The relocation records of a segment: behind its bytes in the file a count word, then rows of eight bytes.
+use Rattle.std.specs.Prelude.{ℕ, zero, suc, ◌+◌, ◌*◌, List, [], ◌∷◌, Result, Ok, if◌then◌else◌}
+use Rattle.o2_base.specs.declared.faults.SegFault.{SegFault}
+use Rattle.o2_ne.specs.Words.{byte_at, word_at}
+use Rattle.o2_ne.specs.Checks.{Check, all_hold, ◌>>=◌}
+use Rattle.o2_ne_segs.specs.declared.reloc.Reloc.{Reloc}
+use Rattle.o2_ne_segs.specs.declared.segment.Segment.{Segment}
+use Rattle.o2_ne_segs.specs.SegmentTable.{in_file}
 
--- the items in turn, or the fault of the first that fails
-unfoldable pub over : {X S F : Type 0} → (X → S → Result S F) → List X → S → Result S F
-over f [] s = Ok s
-over f (x ∷ xs) s = f x s >>= over f xs
+-- the record whose row stands at place p: source type, flags, place, two target words
+abbrev pub reloc_at : List ℕ → ℕ → Reloc
+reloc_at file p = record {
+  source = byte_at file p;
+  flags = byte_at file (p + 1);
+  place = word_at file (p + 2);
+  first = word_at file (p + 4);
+  second = word_at file (p + 6);
+}
 
-abbrev pub is_source : ℕ → Bool
-is_source n = n == 0 || (n == 2 || (n == 3 || n == 5))
+-- the n records from place p on
+unfoldable pub relocs_at : List ℕ → ℕ → ℕ → List Reloc
+relocs_at file p zero = []
+relocs_at file p (suc n) = reloc_at file p ∷ relocs_at file (p + 8) n
 
-abbrev pub width_of : ℕ → ℕ
-width_of source = if source == 0 then 1 else (if source == 3 then 4 else 2)
+-- the first place behind a segment's bytes in the file
+abbrev pub end_of : Segment → ℕ
+end_of s = s.file_at + s.file_len
 
-abbrev pub has_one_place : Reloc → Bool
-has_one_place r = r.source == 0 || not (bit_and r.flags 4 == 0)
+abbrev pub reloc_count : List ℕ → Segment → ℕ
+reloc_count file s = if s.relocs then word_at file (end_of s) else 0
 
-abbrev pub is_fixup : Reloc → Bool
-is_fixup r = bit_and r.flags 3 == 3
+-- the records of a segment, where the file has them
+abbrev pub relocs_in : List ℕ → Segment → List Reloc
+relocs_in file s = relocs_at file (end_of s + 2) (reloc_count file s)
 
--- its places, of which a system fixup has none
-abbrev pub patches_of : List ℕ → Reloc → Marks → Result Marks ChainFault
-patches_of bytes r marks =
-    if has_one_place r then single bytes (width_of r.source) r.place marks
-    else chain bytes (width_of r.source) r.place marks
+-- the file has the count word, then all rows
+abbrev pub reloc_checks : List ℕ → Segment → List (Check SegFault)
+reloc_checks file s =
+    if s.relocs then in_file file (end_of s) 2 ∷ in_file file (end_of s + 2) (8 * word_at file (end_of s)) ∷ [] else []
 
--- the marks so far, and the number of the next record
-pub record Checking : Type 0 where
-  pub marks : Marks
-  pub number : ℕ
+-- how many records a segment has, or the fault of the first check that fails
+abbrev pub counted : List ℕ → Segment → Result ℕ SegFault
+counted file s = do
+  _ ← all_hold (reloc_checks file s)
+  Ok (reloc_count file s)
 
-unfoldable pub record_step : List ℕ → ℕ → Reloc → Checking → Result Checking ChainFault
-record_step bytes segments r c = do
-  _ ← all_hold (or_fault (is_source r.source && nat_le r.first segments) (BadTarget c.number) ∷ [])
-  if is_fixup r then Ok (record c { number = c.number + 1 }) else (do
-    marks ← patches_of bytes r c.marks
-    Ok (record { marks = marks; number = c.number + 1 }))
+-- the records of a segment, or the fault of the first check that fails
+unfoldable pub relocs_of : List ℕ → Segment → Result (List Reloc) SegFault
+relocs_of file s = do
+  _ ← all_hold (reloc_checks file s)
+  Ok (relocs_in file s)

@@ -1,18 +1,19 @@
--- The segment table of an NE file.
-use Rattle.std.specs.Prelude.{◌≡◌, ℕ, ◌+◌, ◌-◌, ◌*◌, ◌^◌, Option, None, slice_get, ◌==◌, ◌&&◌, ◌||◌, Bool, not, List, [], ◌∷◌, ◌++◌, length, max, nat_le, Result, Ok, Err, if◌then◌else◌}
+-- The segment table of a segmented executable: rows of four words, which are position, length, flags and minimum
+-- allocation.
+use Rattle.std.specs.Prelude.{◌≡◌, ℕ, ◌+◌, ◌-◌, ◌*◌, ◌^◌, Option, None, slice_get, ◌==◌, ◌&&◌, Bool, not, List, [], ◌∷◌, ◌++◌, length, max, Result, Ok, Err, if◌then◌else◌}
 use Rattle.std.specs.Int.RustNames.{bit_and}
-use Rattle.o2_ne.specs.Words.{word_at}
+use Rattle.o2_base.specs.declared.faults.SegFault.{SegFault}
+use Rattle.o2_base.specs.declared.faults.SegFault.TheVariants as fault
+use Rattle.o2_base.specs.declared.faults.Part.TheVariants.{Iterated, Conforming, Ring, Wide}
+use Rattle.o2_ne.specs.Words.{first_missing, lies_in, word_at}
 use Rattle.o2_ne.specs.Checks.{Check, all_hold, or_fault, ◌>>=◌}
 use Rattle.o2_ne.specs.Steps.{steps}
-use Rattle.o2_ne_segs.specs.declared.segment.SegFault.{SegFault}
-use Rattle.o2_ne_segs.specs.declared.segment.SegFault.TheVariants as fault
-use Rattle.o2_ne_segs.specs.declared.segment.Part.TheVariants.{Iterated, Conforming, Ring, Wide}
 use Rattle.o2_ne_segs.specs.declared.segment.Segment.{Segment}
 use Rattle.o2_ne_segs.specs.declared.segment.Kind.{Kind}
 use Rattle.o2_ne_segs.specs.declared.segment.Kind.TheVariants as kind
 
 abbrev pub in_file : List ℕ → ℕ → ℕ → Check SegFault
-in_file file p len = or_fault (len == 0 || nat_le (p + len) (length file)) (fault.Truncated (max p (length file)))
+in_file file p n = or_fault (lies_in file p n) (fault.Truncated (first_missing file p))
 
 -- 0 stands for 65,536
 abbrev pub or_64k : ℕ → ℕ
@@ -30,7 +31,7 @@ kind_of flags =
     if has_bits flags 1 then (if has_bits flags 0x80 then kind.ReadOnly else kind.Writable)
     else (if has_bits flags 0x80 then kind.CodeOnly else kind.Code)
 
--- a row: position, length, flags, minimum
+-- position 0 stands for no bytes
 abbrev pub file_len_of : ℕ → ℕ → ℕ
 file_len_of position len = if position == 0 then 0 else or_64k len
 
@@ -58,7 +59,7 @@ profile_checks flags =
     ∷ or_fault (not (has_bits flags 0x2000)) (fault.OutOfProfile Wide)
     ∷ []
 
--- the segment at place p, or the first check that fails
+-- the segment whose row stands at place p, or the fault of the first check that fails
 unfoldable pub segment_of : List ℕ → ℕ → ℕ → Result Segment SegFault
 segment_of file shift p = do
   _ ← all_hold (in_file file p 8 ∷ [])
@@ -72,6 +73,7 @@ row_step file at shift found = do
   s ← segment_of file shift (at + 8 * length found)
   Ok (found ++ s ∷ [])
 
+-- the segments of the `count` rows from place `at` on
 unfoldable pub segments_of : List ℕ → ℕ → ℕ → ℕ → Result (List Segment) SegFault
 segments_of file at count shift = steps (row_step file at shift) count []
 
@@ -81,6 +83,7 @@ SegFails fault.NoMemory read = Unit {0}
 SegFails (fault.Truncated p) read = read ≡ Err (fault.Truncated p)
 SegFails (fault.OutOfProfile p) read = read ≡ Err (fault.OutOfProfile p)
 
+-- What a function returned, seen by view, is what the reading gives, unless memory ran out.
 abbrev pub SegGives : {X Y : Type 0} → (X → Y) → Result X SegFault → Result Y SegFault → Type 0
 SegGives view (Ok x) read = read ≡ Ok (view x)
 SegGives view (Err e) read = SegFails e read

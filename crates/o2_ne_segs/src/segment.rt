@@ -1,75 +1,53 @@
+// The segment table.
 ghost use Rattle.std.specs.Prelude.{◌≡◌, ◌+◌, ◌*◌, ◌-◌, ◌≤◌, ◌<◌, ◌^◌, [], ◌∷◌, length, vec_len, OnOk};
 ghost use Rattle.o2_ne.specs.Checks.{all_hold};
 ghost use Rattle.o2_ne.specs.Steps.{steps};
-ghost use Rattle.o2_ne_segs.specs.declared.segment.SegFault.TheVariants.{NoMemory};
 ghost use Rattle.o2_ne_segs.specs.SegmentTable.{SegGives, file_len_of, nth_segment, in_file, kind_of, profile_checks, row, row_step, segment_at, segment_of, segments_of, unit_of};
 
-use ne::u16_at;
-use std::alloc::{AllocError, AllocFailed, Global};
+use o2_base::{Part, SegFault};
+use o2_ne::{first_missing, lies_in, u16_at};
+use std::alloc::Global;
 use std::marker::Model;
 
 /// What a segment may be used for.
 #[derive(Clone, Copy, Debug, PartialEq, Eq)]
 pub enum Kind {
+    /// Code that can be read as data.
     Code,
+    /// Code that can only be executed.
     CodeOnly,
+    /// Data that can be written.
     Writable,
+    /// Data that can only be read.
     ReadOnly,
-}
-
-/// What a segment has that is outside the profile.
-#[derive(Clone, Copy, Debug, PartialEq, Eq)]
-pub enum Part {
-    Iterated,
-    Conforming,
-    Ring,
-    Wide,
-}
-
-/// Why a segment table was not read.
-#[derive(Clone, Copy, Debug, PartialEq, Eq)]
-pub enum SegFault {
-    Truncated(u32),
-    OutOfProfile(Part),
-    NoMemory,
-}
-
-impl From<AllocError> for SegFault {
-    ghost from_gives = { λ _ e. e ≡ NoMemory };
-
-    fn from(_e: AllocError) -> SegFault {
-        SegFault::NoMemory
-    }
-}
-
-impl<T: Drop> From<AllocFailed<T>> for SegFault {
-    ghost from_gives = { λ _ e. e ≡ NoMemory };
-
-    fn from(_e: AllocFailed<T>) -> SegFault {
-        SegFault::NoMemory
-    }
 }
 
 /// A segment of a file.
 #[derive(Clone, Copy, Debug, PartialEq, Eq)]
 pub struct Segment {
+    /// The place of its bytes in the file.
     pub file_at: u32,
+    /// How many bytes it has in the file, 0 to 65,536.
     pub file_len: u32,
+    /// Its size, 1 to 65,536; the bytes behind those in the file are zeros.
     pub size: u32,
+    /// What it may be used for.
     pub kind: Kind,
+    /// Whether relocation records follow its bytes in the file.
     pub relocs: bool,
+    /// The flags word of its row.
     pub flags: u16,
 }
 
-fn need(file: &[u8], at: u32, len: u32) -> Result<(), SegFault>
+// The file has these bytes; else the first of them that it lacks.
+pub(crate) fn need(file: &[u8], at: u32, len: u32) -> Result<(), SegFault>
     requires { length file.now ≤ 4194304 }
     ensures { result ≡ all_hold (in_file file.now at len ∷ []) }
 {
-    let end = at as usize + len as usize;
-    if len == 0 || end <= file.len() {
+    if lies_in(file, at, len) {
         return Ok(());
     }
-    Err(SegFault::Truncated(at.max(file.len() as u32)))
+    Err(SegFault::Truncated(first_missing(file, at)))
 }
 
 fn kind_of(flags: u16) -> Kind
@@ -146,6 +124,7 @@ fn row(unit: u32, position: u16, len: u16, flags: u16, minimum: u16) -> Segment
     }
 }
 
+// The segment whose row stands at a place.
 #[tactic(auto, unfolding(crate::specs::SegmentTable::segment_of))]
 fn read_row(file: &[u8], shift: u16, at: u32) -> Result<Segment, SegFault>
     requires shift { shift ≤ 15 }
@@ -190,10 +169,14 @@ fn add_row(file: &[u8], at: u32, shift: u16, found: &mut Vec<Segment>) -> Result
     ensures more { OnOk result (vec_len found.new ≡ vec_len found.old + 1) }
 {
     let place = at + 8 * found.len() as u32;
-    found.push(read_row(file, shift, place)?)?;
-    Ok(())
+    let segment = read_row(file, shift, place)?;
+    match found.push(segment) {
+        Ok(()) => Ok(()),
+        Err(_) => Err(SegFault::NoMemory),
+    }
 }
 
+// The segments of some rows.
 fn rows(
     alloc: Global,
     file: &[u8],
@@ -214,7 +197,8 @@ fn rows(
 }
 
 impl SegTable {
-    /// The segments whose rows begin at a place, or the first check that fails.
+    /// The segments whose rows begin at a place of a file of at most 4,194,304 bytes, or the fault of the first check
+    /// that fails. Shift 0 is read as 9.
     #[tactic(auto, unfolding(crate::specs::SegmentTable::segments_of))]
     pub fn read(
         alloc: Global,
@@ -232,7 +216,7 @@ impl SegTable {
         Ok(SegTable { found })
     }
 
-    /// A segment, by its number from 1.
+    /// A segment by its number from 1. None exactly where there is no such segment.
     pub fn get(&self, n: u16) -> Option<Segment>
         ensures { result ≡ nth_segment n self.now }
     {
