@@ -1,5 +1,5 @@
 -- Reading by steps, each of which may fail, and what a function gives of it.
-use Rattle.std.specs.Prelude.{◌≡◌, ℕ, zero, suc, List, [], ◌∷◌, Result, Ok, Err}
+use Rattle.std.specs.Prelude.{◌≡◌, ℕ, zero, suc, ◌+◌, List, [], ◌∷◌, Result, Ok, Err}
 use Rattle.o2_base.specs.declared.memory.Fail.{Fail}
 use Rattle.o2_base.specs.declared.memory.Fail.TheVariants.{Bad, NoMemory}
 use Rattle.o2_ne.specs.Checks.{◌>>=◌}
@@ -23,3 +23,8 @@ Fails (Bad f) read = read ≡ Err f
 abbrev pub Gives : {X Y F : Type 0} → (X → Y) → Result X (Fail F) → Result Y F → Type 0
 Gives view (Ok x) read = read ≡ Ok (view x)
 Gives view (Err e) read = Fails e read
+
+-- f at i, i + 1 and so on, n of them
+unfoldable pub tabulate : {X : Type 0} → (ℕ → X) → ℕ → ℕ → List X
+tabulate f i zero = []
+tabulate f i (suc n) = f i ∷ tabulate f (i + 1) n

@@ -1,8 +1,9 @@
 -- The relocation records of a segment: behind its bytes in the file a count word, then rows of eight bytes.
-use Rattle.std.specs.Prelude.{ℕ, zero, suc, ◌+◌, ◌*◌, List, [], ◌∷◌, Result, Ok, if◌then◌else◌}
+use Rattle.std.specs.Prelude.{ℕ, ◌+◌, ◌*◌, List, [], ◌∷◌, Result, Ok, if◌then◌else◌}
 use Rattle.o2_base.specs.declared.faults.SegFault.{SegFault}
 use Rattle.o2_ne.specs.Words.{byte_at, word_at}
 use Rattle.o2_ne.specs.Checks.{Check, all_hold, ◌>>=◌}
+use Rattle.o2_ne.specs.Steps.{tabulate}
 use Rattle.o2_ne_segs.specs.declared.reloc.Reloc.{Reloc}
 use Rattle.o2_ne_segs.specs.declared.segment.Segment.{Segment}
 use Rattle.o2_ne_segs.specs.SegmentTable.{in_file}
@@ -18,9 +19,8 @@ reloc_at file p = record {
 }
 
 -- the n records from place p on
-unfoldable pub relocs_at : List ℕ → ℕ → ℕ → List Reloc
-relocs_at file p zero = []
-relocs_at file p (suc n) = reloc_at file p ∷ relocs_at file (p + 8) n
+abbrev pub relocs_at : List ℕ → ℕ → ℕ → List Reloc
+relocs_at file p n = tabulate (λ k. reloc_at file (p + 8 * k)) 0 n
 
 -- the first place behind a segment's bytes in the file
 abbrev pub end_of : Segment → ℕ

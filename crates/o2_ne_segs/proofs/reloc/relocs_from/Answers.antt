@@ -1,7 +1,7 @@
-use Rattle.std.proofs.Common.{◌≡◌, ◌+◌, ◌*◌, [], ◌∷◌, ◌++◌, ap, ◌∙◌, rules}
+use Rattle.std.proofs.Common.{◌≡◌, ◌+◌, ◌*◌, ◌++◌, [], ◌∷◌, ap, ◌∙◌, rules}
+use Rattle.o2_ne.proofs.Tabulated.{goes_on, is_done}
 use Rattle.o2_ne_segs.specs.declared.reloc.Reloc.{Reloc}
 use Rattle.o2_ne_segs.specs.Records.{reloc_at}
-use Rattle.o2_ne_segs.proofs.Rows.{goes_on, is_done}
 use Rattle.o2_ne_segs.proofs.reloc.relocs_from.Goals as goal
 
 pub loop-k-preserved : goal.loop-k-preserved
@@ -9,7 +9,7 @@ loop-k-preserved c =
     let row : c.reloc_at.result ≡ reloc_at c.args.file.now (c.args.at + 8 * c.loop-k.k) = search rules in
     let items : c.push.new.self.items ≡ c.loop-k.found.items ++ reloc_at c.args.file.now (c.args.at + 8 * c.loop-k.k) ∷ [] =
     c.in_ok-push.ensures.items ∙ ap (λ (r : Reloc). c.loop-k.found.items ++ r ∷ []) row in
-    rw items (goes_on c.args.file.now c.args.at c.args.count c.loop-k.k _ _ c.loop-k-test.true c.loop-k.invariant)
+    rw items (goes_on _ _ _ _ _ c.loop-k-test.true c.loop-k.invariant)
 
 pub returns : goal.returns
-returns c = is_done c.args.file.now c.args.at c.args.count c.loop-k.k _ _ c.loop-k-test.false c.loop-k.invariant
+returns c = is_done _ _ _ _ _ c.loop-k-test.false c.loop-k.invariant
