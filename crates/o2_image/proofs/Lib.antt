@@ -1,0 +1,4 @@
+pub mod MarkSteps
+pub mod ChainSteps
+pub mod CheckedChains
+pub mod ChainEnds

@@ -1,0 +1,9 @@
+//! Modules: segmented executables (NE) that pass every check, and the images of their segments.
+#![tactic(auto)]
+
+mod chain;
+mod faults;
+mod references;
+mod targets;
+
+pub use o2_base::ModuleFault;
