@@ -10,6 +10,8 @@ use Rattle.o2_base.specs.declared.faults.Which.{Which}
 use Rattle.o2_base.specs.declared.faults.Which.TheVariants as which
 use Rattle.o2_base.specs.declared.faults.ModuleFault.{ModuleFault}
 use Rattle.o2_base.specs.declared.faults.ModuleFault.TheVariants as module_fault
+use Rattle.o2_base.specs.declared.memory.Fail.{Fail}
+use Rattle.o2_base.specs.declared.memory.Fail.TheVariants.{Bad, NoMemory}
 use Rattle.o2_ne.specs.Words.{first_missing, lies_in}
 use Rattle.o2_ne.specs.Checks.{Check, or_fault}
 
@@ -50,3 +52,9 @@ under_seg (Err f) = Err (of_seg f)
 abbrev pub StepsTo : {X F : Type 0} → X → Result (Unit {0}) F → Result X F → Type 0
 StepsTo after (Ok x) read = read ≡ Ok after
 StepsTo after (Err e) read = read ≡ Err e
+
+-- The failure of a module that a segment's fault stands for.
+abbrev pub SegFailsAs : SegFault → Fail ModuleFault → Type 0
+SegFailsAs seg.NoMemory e = e ≡ NoMemory
+SegFailsAs (seg.Truncated p) e = e ≡ Bad (module_fault.Truncated p)
+SegFailsAs (seg.OutOfProfile p) e = e ≡ Bad (module_fault.OutOfProfile (of_part p))

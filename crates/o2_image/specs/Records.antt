@@ -9,7 +9,7 @@ use Rattle.o2_ne.specs.Checks.{all_hold, or_fault, ◌>>=◌}
 use Rattle.o2_ne.specs.Steps.{over}
 use Rattle.o2_ne_segs.specs.declared.reloc.Reloc.{Reloc}
 use Rattle.o2_ne_segs.specs.declared.segment.Segment.{Segment}
-use Rattle.o2_ne_segs.specs.Records.{reloc_checks, relocs_in}
+use Rattle.o2_ne_segs.specs.Records.{counted, relocs_in}
 use Rattle.o2_image.specs.Faults.{under_seg}
 use Rattle.o2_image.specs.Targets.{has_target, is_additive, is_fixup, is_source, width_of}
 use Rattle.o2_image.specs.Chains.{Marks, chain, single}
@@ -43,7 +43,7 @@ record_step file h es seg bytes r c = do
 -- the records of segment n, and the number of the next segment
 unfoldable pub segment_step : List ℕ → Head → List Entry → Segment → ℕ → Result ℕ ModuleFault
 segment_step file h es s n = do
-  _ ← under_seg (all_hold (reloc_checks file s))
+  _ ← under_seg (counted file s)
   _ ← over (record_step file h es n (bytes_of file s)) (relocs_in file s)
       (record { marks = replicate s.file_len false; number = 0 })
   Ok (n + 1)

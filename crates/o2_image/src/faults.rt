@@ -1,9 +1,9 @@
 // Faults of the parts, as faults of a module.
 ghost use Rattle.std.specs.Prelude.{◌≡◌, ◌≤◌, [], ◌∷◌, length};
 ghost use Rattle.o2_ne.specs.Checks.{all_hold};
-ghost use Rattle.o2_image.specs.Faults.{in_file, of_ne, of_part};
+ghost use Rattle.o2_image.specs.Faults.{SegFailsAs, in_file, of_ne, of_part};
 
-use o2_base::{ModuleFault, NeFault, Part, Which};
+use o2_base::{Fail, ModuleFault, NeFault, Part, SegFault, Which};
 use o2_ne::{first_missing, lies_in};
 
 // A fault of the header or of a table, as one of the module.
@@ -42,4 +42,15 @@ pub(crate) fn need(file: &[u8], at: u32, len: u32) -> Result<(), ModuleFault>
         return Ok(());
     }
     Err(ModuleFault::Truncated(first_missing(file, at)))
+}
+
+// A fault of a segment's reading, as one of the module, or want of memory.
+pub(crate) fn of_seg(fault: SegFault) -> Fail<ModuleFault>
+    ensures { SegFailsAs fault result }
+{
+    match fault {
+        SegFault::NoMemory => Fail::NoMemory,
+        SegFault::Truncated(at) => Fail::Bad(ModuleFault::Truncated(at)),
+        SegFault::OutOfProfile(part) => Fail::Bad(ModuleFault::OutOfProfile(of_part(part))),
+    }
 }

@@ -3,6 +3,7 @@
 
 mod chain;
 mod faults;
+mod records;
 mod references;
 mod targets;
 
