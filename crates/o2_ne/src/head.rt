@@ -62,6 +62,7 @@ impl Head {
         ensures exact { result ≡ head_of file.now }
         ensures inside { IfOk result (λ h. h.at + 64 ≤ length file.now) }
         ensures shift { IfOk result (λ h. h.shift ≤ 15) }
+        ensures few { IfOk result (λ h. h.segments ≤ 254) }
     {
         let at = place(file)?;
         let head = fields(file, at);
@@ -136,6 +137,7 @@ fn fields(file: &[u8], at: u32) -> Head
 fn profile(head: &Head) -> Result<(), NeFault>
     ensures exact { result ≡ all_hold (profile_checks head.now) }
     ensures shift { OnOk result (head.now.shift ≤ 15) }
+    ensures few { OnOk result (head.now.segments ≤ 254) }
 {
     if head.target > 1 {
         return Err(NeFault::NotOs2);

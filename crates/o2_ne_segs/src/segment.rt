@@ -1,5 +1,7 @@
 // The segment table.
-ghost use Rattle.std.specs.Prelude.{◌≡◌, ◌+◌, ◌*◌, ◌-◌, ◌≤◌, ◌<◌, ◌^◌, [], ◌∷◌, length, vec_len, OnOk};
+ghost use Rattle.std.specs.Prelude.{◌≡◌, ◌+◌, ◌*◌, ◌-◌, ◌≤◌, ◌<◌, ◌^◌, ℕ, [], ◌∷◌, get_or, length, vec_len, IfOk, OnOk};
+ghost use Rattle.o2_ne_segs.specs.declared.segment.Segment.{Segment};
+ghost use Rattle.o2_ne_segs.specs.Records.{end_of};
 ghost use Rattle.o2_ne.specs.Checks.{all_hold};
 ghost use Rattle.o2_ne.specs.Steps.{steps};
 ghost use Rattle.o2_ne_segs.specs.SegmentTable.{SegGives, file_len_of, nth_segment, in_file, kind_of, profile_checks, row, row_step, segment_at, segment_of, segments_of, unit_of};
@@ -129,7 +131,8 @@ fn row(unit: u32, position: u16, len: u16, flags: u16, minimum: u16) -> Segment
 fn read_row(file: &[u8], shift: u16, at: u32) -> Result<Segment, SegFault>
     requires shift { shift ≤ 15 }
     requires small { length file.now ≤ 4194304 }
-    ensures { result ≡ segment_of file.now shift at }
+    ensures exact { result ≡ segment_of file.now shift at }
+    ensures inside { IfOk result (λ s. end_of s ≤ length file.now) }
 {
     need(file, at, 8)?;
     let p = at as usize;
@@ -167,6 +170,8 @@ fn add_row(file: &[u8], at: u32, shift: u16, found: &mut Vec<Segment>) -> Result
     requires place { at + 8 * vec_len found.old < 2 ^ 32 }
     ensures step { SegGives (λ _. found.new.items) result (row_step file.now at shift found.old.items) }
     ensures more { OnOk result (vec_len found.new ≡ vec_len found.old + 1) }
+    ensures before { OnOk result ((k : ℕ) (d : Segment) → k < length found.old.items → get_or found.new.items k d ≡ get_or found.old.items k d) }
+    ensures inside { OnOk result ((d : Segment) → end_of (get_or found.new.items (length found.old.items) d) ≤ length file.now) }
 {
     let place = at + 8 * found.len() as u32;
     let segment = read_row(file, shift, place)?;
@@ -187,7 +192,9 @@ fn rows(
     requires shift { shift ≤ 15 }
     requires small { length file.now ≤ 4194304 }
     requires place { at + 8 * count < 2 ^ 32 }
-    ensures { SegGives (λ v. v.items) result (steps (row_step file.now at shift) count []) }
+    ensures exact { SegGives (λ v. v.items) result (steps (row_step file.now at shift) count []) }
+    ensures many { IfOk result (λ v. length v.items ≡ count) }
+    ensures inside { IfOk result (λ v. (k : ℕ) (d : Segment) → k < length v.items → end_of (get_or v.items k d) ≤ length file.now) }
 {
     let mut found = Vec::new(alloc);
     for _ in 0..count {
@@ -210,7 +217,9 @@ impl SegTable {
         requires shift { shift ≤ 15 }
         requires small { length file.now ≤ 4194304 }
         requires place { at + 8 * count < 2 ^ 32 }
-        ensures { SegGives (λ t. t) result (segments_of file.now at count shift) }
+        ensures exact { SegGives (λ t. t) result (segments_of file.now at count shift) }
+        ensures many { IfOk result (λ t. length t ≡ count) }
+        ensures inside { IfOk result (λ t. (k : ℕ) (d : Segment) → k < length t → end_of (get_or t k d) ≤ length file.now) }
     {
         let found = rows(alloc, file, at, count, shift)?;
         Ok(SegTable { found })
@@ -224,5 +233,12 @@ impl SegTable {
             return None;
         }
         self.found.get(n as usize - 1).copied()
+    }
+
+    /// The segments, in the order of the table.
+    pub fn as_slice(&self) -> &[Segment]
+        ensures { result.now ≡ self.now }
+    {
+        self.found.as_slice()
     }
 }
