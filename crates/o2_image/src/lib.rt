@@ -3,8 +3,10 @@
 
 mod chain;
 mod faults;
+mod module;
 mod records;
 mod references;
 mod targets;
 
+pub use module::Module;
 pub use o2_base::ModuleFault;

@@ -43,6 +43,7 @@ fn mark_places(seg: u16, bytes: &[u8], reloc: &Reloc, marks: &mut [bool]) -> Res
 }
 
 // What the records of a module are judged by: its file, its header and its entries.
+#[derive(Drop)]
 pub(crate) struct Scope<'a> {
     pub(crate) file: &'a [u8],
     pub(crate) head: &'a Head,

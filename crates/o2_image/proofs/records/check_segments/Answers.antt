@@ -1,9 +1,8 @@
-use Rattle.std.proofs.Common.{◌≡◌, ℕ, ◌+◌, ◌<◌, Ok, Result, ap, ◌∙◌, arith, length, get_or, below_more}
+use Rattle.std.proofs.Common.{◌≡◌, ℕ, ◌+◌, Ok, Result, ap, ◌∙◌, arith, length}
 use Rattle.std.proofs.lemmas.Result.{err_from_is_err_and}
 use Rattle.o2_base.specs.declared.faults.ModuleFault.{ModuleFault}
 use Rattle.o2_ne.proofs.Each.{each_more}
 use Rattle.o2_ne.proofs.Overwise.{goes_on, fails_here, is_done}
-use Rattle.o2_ne_segs.specs.declared.segment.Segment.{Segment}
 use Rattle.o2_image.specs.Whole.{HasSegment}
 use Rattle.o2_image.proofs.records.check_segments.Goals as goal
 

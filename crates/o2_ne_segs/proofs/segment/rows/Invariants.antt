@@ -1,4 +1,4 @@
-use Rattle.std.proofs.Common.{◌≡◌, ℕ, ◌+◌, ◌-◌, ◌<◌, ◌≤◌, [], get_or, length, vec_len}
+use Rattle.std.proofs.Common.{◌≡◌, ℕ, ◌-◌, ◌<◌, ◌≤◌, [], get_or, length, vec_len}
 use Rattle.o2_ne.specs.Steps.{steps}
 use Rattle.o2_ne_segs.specs.declared.segment.Segment.{Segment}
 use Rattle.o2_ne_segs.specs.Records.{end_of}
