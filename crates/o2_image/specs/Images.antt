@@ -5,6 +5,7 @@ use Rattle.o2_ne.specs.Steps.{tabulate}
 use Rattle.o2_ne_segs.specs.declared.reloc.Reloc.{Reloc}
 use Rattle.o2_ne_segs.specs.declared.segment.Segment.{Segment}
 use Rattle.o2_ne_segs.specs.SegmentTable.{nth_segment}
+use Rattle.o2_image.specs.Getters.{nth_list}
 use Rattle.o2_image.specs.Parts.{Parts}
 use Rattle.o2_image.specs.Targets.{is_additive, is_fixup}
 use Rattle.o2_image.specs.Chains.{places}
@@ -65,9 +66,6 @@ image_byte bytes patches i = fold (byte_after i) (slice_index bytes i) patches
 -- the first n bytes of the image
 abbrev pub image : List ℕ → List Patch → ℕ → List ℕ
 image bytes patches n = tabulate (image_byte bytes patches) 0 n
-
-abbrev pub nth_list : {X : Type 0} → List (List X) → ℕ → List X
-nth_list xss n = get_or xss (n - 1) []
 
 -- the first n bytes of the image of segment `seg` of a module, whose records have these targets
 abbrev pub image_in : Parts → List (List Target) → ℕ → Option Segment → ℕ → List ℕ

@@ -6,6 +6,7 @@ pub mod Chains
 pub mod Records
 pub mod Whole
 pub mod Modules
+pub mod Getters
 pub mod Images
 pub mod Thin
 pub mod ChainViews

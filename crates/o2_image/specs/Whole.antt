@@ -1,5 +1,5 @@
 -- What lies in the file of a module that passed every check.
-use Rattle.std.specs.Prelude.{◌≡◌, ℕ, ◌+◌, ◌*◌, ◌<◌, ◌≤◌, true, false, List, length, get_or}
+use Rattle.std.specs.Prelude.{◌≡◌, ℕ, ◌+◌, ◌*◌, ◌<◌, ◌≤◌, true, false, List, length, get_or, IsTrue}
 use Rattle.std.specs.List.{AllByRecursion}
 use Rattle.o2_ne.specs.declared.head.Head.{Head}
 use Rattle.o2_ne.specs.Words.{byte_at}
@@ -21,7 +21,10 @@ pub record HasReference (file : List ℕ) (h : Head) (k : ℕ) : Type 0 where
   pub word : reference_word h k + 2 ≤ length file
   pub name : HasString file (reference_place file h k)
 
--- the rows of a segment's records
+-- the count word of a segment's records, and their rows
+abbrev pub HasCount : List ℕ → Segment → Type 0
+HasCount file s = IsTrue s.relocs → end_of s + 2 ≤ length file
+
 abbrev pub HasRelocs : List ℕ → Segment → Type 0
 HasRelocs file s = 0 < reloc_count file s → end_of s + 2 + 8 * reloc_count file s ≤ length file
 
@@ -37,6 +40,7 @@ pub record HasPlaces (bytes : List ℕ) (r : Reloc) : Type 0 where
 -- a segment's bytes, its records and their places
 pub record HasSegment (file : List ℕ) (s : Segment) : Type 0 where
   pub bytes : end_of s ≤ length file
+  pub count : HasCount file s
   pub relocs : HasRelocs file s
   pub places : (j : ℕ) → j < reloc_count file s → HasPlaces (bytes_of file s) (reloc_at file (end_of s + 2 + 8 * j))
 

@@ -1,5 +1,5 @@
 // A module: a file that passed every check.
-ghost use Rattle.std.specs.Prelude.{◌≡◌, ◌+◌, ◌≤◌, ◌<◌, ◌∷◌, [], ℕ, get_or, length, IfOk, OnOk};
+ghost use Rattle.std.specs.Prelude.{◌≡◌, ◌+◌, ◌≤◌, ◌<◌, ◌∷◌, [], ℕ, get_or, length, option_map, IfOk, OnOk};
 ghost use Rattle.o2_ne.specs.Checks.{all_hold};
 ghost use Rattle.o2_ne.specs.EntryTable.{entries_of};
 ghost use Rattle.o2_ne.specs.Header.{head_of};
@@ -9,16 +9,17 @@ ghost use Rattle.o2_ne_segs.specs.declared.segment.Segment.{Segment};
 ghost use Rattle.o2_ne_segs.specs.Records.{end_of};
 ghost use Rattle.o2_ne_segs.specs.SegmentTable.{nth_segment, segments_of};
 ghost use Rattle.o2_image.specs.Faults.{under_ne, under_seg};
+ghost use Rattle.o2_image.specs.Getters.{imported_name, is_library, nth, nth_reloc};
 ghost use Rattle.o2_image.specs.Modules.{auto_data_checks, is_code, is_writable, module_of};
 ghost use Rattle.o2_image.specs.References.{all_references};
 ghost use Rattle.o2_image.specs.Whole.{HasReference};
 
 use crate::faults::{of_ne, of_seg};
-use crate::records::{Scope, check_segments};
-use crate::references::check_references;
+use crate::records::{Scope, check_segments, reloc_in};
+use crate::references::{check_references, has_string, imported_place, reference_at, string_at};
 use o2_base::{Bytes, Fail, ModuleFault, Which};
 use o2_ne::{Entries, Head, Names};
-use o2_ne_segs::{Kind, SegTable, Segment};
+use o2_ne_segs::{Kind, Reloc, SegTable, Segment};
 use std::alloc::Global;
 use std::marker::Model;
 
@@ -125,15 +126,16 @@ fn check_auto_data(head: &Head, segments: &SegTable) -> Result<(), ModuleFault>
 /// A file that passed every check of the format and of what is run here.
 #[derive(Drop)]
 pub struct Module {
-    file: Bytes,
-    head: Head,
-    segments: SegTable,
-    names: Names,
-    entries: Entries,
+    pub(crate) file: Bytes,
+    pub(crate) head: Head,
+    pub(crate) segments: SegTable,
+    pub(crate) names: Names,
+    pub(crate) entries: Entries,
 }
 
 impl Model for Module {
-    ghost use Rattle.o2_image.specs.Modules.{parts_of};
+    ghost use Rattle.o2_image.specs.Getters.{imported_name, is_library, nth, nth_reloc};
+ghost use Rattle.o2_image.specs.Modules.{parts_of};
     ghost use Rattle.o2_image.specs.Parts.{Parts};
     ghost use Rattle.o2_image.specs.Whole.{IsWhole};
 
@@ -171,5 +173,87 @@ impl Module {
             names,
             entries,
         })
+    }
+
+    /// The module's name.
+    pub fn name(&self) -> &Bytes
+        ensures { result.now ≡ self.now.names.own }
+    {
+        self.names.module()
+    }
+
+    /// Whether it is a library; else it is a program.
+    pub fn is_library(&self) -> bool
+        ensures { result ≡ is_library self.now }
+    {
+        self.head.flags & 0x8000 != 0
+    }
+
+    /// How many segments it has, at most 254.
+    pub fn segment_count(&self) -> u16
+        ensures { result ≡ length self.now.segments }
+    {
+        self.segments.as_slice().len() as u16
+    }
+
+    /// A segment by its number from 1. None exactly where there is no such segment.
+    pub fn segment(&self, n: u16) -> Option<Segment>
+        ensures { result ≡ nth_segment n self.now.segments }
+    {
+        self.segments.get(n)
+    }
+
+    /// The header.
+    pub fn head(&self) -> &Head
+        ensures { result.now ≡ self.now.head }
+    {
+        &self.head
+    }
+
+    /// The module's own name, and the names that it exports.
+    pub fn names(&self) -> &Names
+        ensures { result.now ≡ self.now.names }
+    {
+        &self.names
+    }
+
+    /// The defined ordinals, and where they lead.
+    pub fn entries(&self) -> &Entries
+        ensures { result.now ≡ self.now.entries }
+    {
+        &self.entries
+    }
+
+    /// The name of a reference by its number from 1. None exactly where there is no such reference.
+    pub fn reference(&self, k: u16) -> Option<&[u8]>
+        ensures { option_map (λ b. b.now) result ≡ nth self.now.references k }
+    {
+        if k == 0 {
+            return None;
+        }
+        if k > self.head.references {
+            return None;
+        }
+        Some(reference_at(self.file.as_slice(), &self.head, k - 1))
+    }
+
+    /// The imported name at an offset in the table of imported names. None exactly where it doesn't lie in the file.
+    pub fn imported(&self, at: u16) -> Option<&[u8]>
+        ensures { option_map (λ b. b.now) result ≡ imported_name self.now at }
+    {
+        let file = self.file.as_slice();
+        let place = imported_place(&self.head, at);
+        if !has_string(file, place) {
+            return None;
+        }
+        Some(string_at(file, place))
+    }
+
+    /// A record by its segment from 1 and its number from 0. None exactly where there is no such record.
+    pub fn reloc(&self, seg: u16, k: u16) -> Option<Reloc>
+        ensures { result ≡ nth_reloc self.now seg k }
+    {
+        let segment = self.segments.get(seg)?;
+        reloc_in(self.file.as_slice(), &segment, k)
     }
 }

@@ -1,8 +1,8 @@
 // The records of the segments: each leads somewhere, and patches nothing twice.
-ghost use Rattle.std.specs.Prelude.{◌≡◌, ◌+◌, ◌*◌, ◌≤◌, ◌<◌, ◌^◌, ℕ, false, get_or, length, replicate, OnOk, IfOk};
+ghost use Rattle.std.specs.Prelude.{◌≡◌, ◌+◌, ◌*◌, ◌≤◌, ◌<◌, ◌^◌, ℕ, false, get_or, length, replicate, slice_get, IsTrue, OnOk, IfOk};
 ghost use Rattle.o2_ne.specs.Steps.{Gives, over};
 ghost use Rattle.o2_ne_segs.specs.declared.segment.Segment.{Segment};
-ghost use Rattle.o2_ne_segs.specs.Records.{counted, end_of, reloc_at, reloc_count, relocs_at};
+ghost use Rattle.o2_ne_segs.specs.Records.{counted, end_of, reloc_at, reloc_count, relocs_at, relocs_in};
 ghost use Rattle.o2_image.specs.Faults.{StepsTo, under_seg};
 ghost use Rattle.o2_image.specs.Records.{bytes_of, marks_after, record_step, segment_step};
 ghost use Rattle.o2_image.specs.Whole.{HasPlaces, HasSegment};
@@ -11,7 +11,7 @@ use crate::chain::{follow, place};
 use crate::faults::of_seg;
 use crate::targets::{has_target, is_additive, is_fixup, is_source, width_of};
 use o2_base::{Fail, ModuleFault, SegFault};
-use o2_ne::{Entries, Head};
+use o2_ne::{Entries, Head, u16_at};
 use o2_ne_segs::{Reloc, Segment, check_relocs, reloc_at};
 use std::alloc::Global;
 
@@ -101,6 +101,7 @@ fn count_records(file: &[u8], segment: &Segment) -> Result<u16, Fail<ModuleFault
     requires inside { end_of segment.now ≤ length file.now }
     ensures exact { Gives (λ n. n) result (under_seg (counted file.now segment.now)) }
     ensures value { IfOk result (λ n. n ≡ reloc_count file.now segment.now) }
+    ensures word { OnOk result (IsTrue segment.now.relocs → end_of segment.now + 2 ≤ length file.now) }
     ensures rows { IfOk result (λ n. 0 < n → end_of segment.now + 2 + 8 * n ≤ length file.now) }
 {
     match check_relocs(file, segment) {
@@ -149,4 +150,27 @@ pub(crate) fn check_segments(
         number += 1;
     }
     Ok(())
+}
+
+// How many records a segment has.
+pub(crate) fn reloc_count(file: &[u8], segment: &Segment) -> u16
+    requires { HasSegment file.now segment.now }
+    ensures { result ≡ reloc_count file.now segment.now }
+{
+    if !segment.relocs {
+        return 0;
+    }
+    u16_at(file, segment.file_at as usize + segment.file_len as usize)
+}
+
+// A record of a segment by its number from 0.
+pub(crate) fn reloc_in(file: &[u8], segment: &Segment, k: u16) -> Option<Reloc>
+    requires { HasSegment file.now segment.now }
+    ensures { result ≡ slice_get (relocs_in file.now segment.now) k }
+{
+    if k >= reloc_count(file, segment) {
+        return None;
+    }
+    let at = segment.file_at as usize + segment.file_len as usize + 2;
+    Some(reloc_at(file, at + 8 * usize::from(k)))
 }

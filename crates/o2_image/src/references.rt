@@ -3,7 +3,7 @@ ghost use Rattle.std.specs.Prelude.{◌≡◌, ◌+◌, ◌*◌, ◌≤◌, ◌<
 ghost use Rattle.o2_ne.specs.Checks.{all_hold};
 ghost use Rattle.o2_ne.specs.Words.{byte_at, word_at};
 ghost use Rattle.o2_image.specs.Faults.{StepsTo};
-ghost use Rattle.o2_image.specs.References.{all_references, counted_string, has_string, imported_place, reference_place, reference_step, reference_word, string_checks};
+ghost use Rattle.o2_image.specs.References.{all_references, counted_string, has_string, imported_place, reference_at, reference_place, reference_step, reference_word, string_checks};
 ghost use Rattle.o2_image.specs.Whole.{HasReference, HasString};
 
 use crate::faults::need;
@@ -54,6 +54,16 @@ pub(crate) fn imported_place(head: &Head, offset: u16) -> u32
     ensures { result ≡ imported_place head.now offset }
 {
     head.at + u32::from(head.imported_at) + u32::from(offset)
+}
+
+// The name of reference k, from 0.
+pub(crate) fn reference_at<'a>(file: &'a [u8], head: &Head, k: u16) -> &'a [u8]
+    requires inside { head.now.at ≤ 4194304 }
+    requires lies { HasReference file.now head.now k }
+    ensures { result.now ≡ reference_at file.now head.now k }
+{
+    let word = reference_word(head, k);
+    string_at(file, imported_place(head, u16_at(file, word as usize)))
 }
 
 // Reference k lies in the file.

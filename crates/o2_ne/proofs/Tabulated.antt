@@ -1,5 +1,7 @@
 -- A list of the values of a function, one after the other.
-use Rattle.std.proofs.Common.{◌≡◌, ℕ, zero, suc, ◌+◌, ◌-◌, ◌<◌, ◌≤◌, List, [], ◌∷◌, ◌++◌, length, get_or, refl, rules, ap, sym, ◌∙◌, arith, append_assoc}
+use Rattle.std.proofs.Common.{◌≡◌, ℕ, zero, suc, ◌+◌, ◌-◌, ◌<◌, ◌≤◌, List, [], ◌∷◌, ◌++◌, Some, None, length, get_or, refl, rules, ap, sym, ◌∙◌, arith, append_assoc}
+use Rattle.std.specs.List.{slice_get}
+use Rattle.std.proofs.lemmas.Option.{slice_get_past}
 use Rattle.o2_ne.specs.Steps.{tabulate}
 
 module _ {X : Type 0} where
@@ -33,3 +35,20 @@ module _ {X : Type 0} where
   get_or-tabulate f i (suc n) (suc k) d lt =
       let e : i + 1 + k ≡ i + suc k = omega arith in
       get_or-tabulate f (i + 1) n k d (omega arith) ∙ ap f e
+
+  pub slice_get-tabulate : (f : ℕ → X) (i n k : ℕ) → k < n → slice_get (tabulate f i n) k ≡ Some (f (i + k))
+  unfolding tabulate
+  slice_get-tabulate f i zero k lt = absurd (omega arith)
+  slice_get-tabulate f i (suc n) zero lt = let e : i + 0 ≡ i = omega arith in rw e refl
+  slice_get-tabulate f i (suc n) (suc k) lt =
+      let e : i + 1 + k ≡ i + suc k = omega arith in
+      slice_get-tabulate f (i + 1) n k (omega arith) ∙ ap (λ (q : ℕ). Some (f q)) e
+
+  pub slice_get-tabulate_past : (f : ℕ → X) (i n k : ℕ) → n ≤ k → slice_get (tabulate f i n) k ≡ None
+  slice_get-tabulate_past f i n k le = slice_get_past (tabulate f i n) k (let e = length-tabulate f i n in omega arith)
+
+  pub slice_get-table : (f : ℕ → X) (n k : ℕ) → k < n → slice_get (tabulate f 0 n) k ≡ Some (f k)
+  slice_get-table f n k lt = let e : 0 + k ≡ k = omega arith in slice_get-tabulate f 0 n k lt ∙ ap (λ (q : ℕ). Some (f q)) e
+
+  pub get_or-table : (f : ℕ → X) (n k : ℕ) (d : X) → k < n → get_or (tabulate f 0 n) k d ≡ f k
+  get_or-table f n k d lt = let e : 0 + k ≡ k = omega arith in get_or-tabulate f 0 n k d lt ∙ ap f e

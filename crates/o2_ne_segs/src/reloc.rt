@@ -1,5 +1,5 @@
 // The relocation records of a segment.
-ghost use Rattle.std.specs.Prelude.{◌≡◌, ◌+◌, ◌*◌, ◌≤◌, ◌<◌, ◌^◌, length, slice_get, IfOk};
+ghost use Rattle.std.specs.Prelude.{◌≡◌, ◌+◌, ◌*◌, ◌≤◌, ◌<◌, ◌^◌, length, slice_get, IfOk, OnOk, IsTrue};
 ghost use Rattle.o2_ne.specs.Checks.{all_hold};
 ghost use Rattle.o2_ne_segs.specs.SegmentTable.{SegGives};
 ghost use Rattle.o2_ne_segs.specs.Records.{counted, end_of, reloc_at, reloc_count, relocs_at, relocs_of};
@@ -47,6 +47,7 @@ pub fn check_relocs(file: &[u8], seg: &Segment) -> Result<u16, SegFault>
     requires inside { end_of seg.now ≤ length file.now }
     ensures exact { result ≡ counted file.now seg.now }
     ensures value { IfOk result (λ n. n ≡ reloc_count file.now seg.now) }
+    ensures word { OnOk result (IsTrue seg.now.relocs → end_of seg.now + 2 ≤ length file.now) }
     ensures rows { IfOk result (λ n. 0 < n → end_of seg.now + 2 + 8 * n ≤ length file.now) }
 {
     if !seg.relocs {
