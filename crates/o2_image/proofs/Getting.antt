@@ -1,5 +1,5 @@
 -- Items by their numbers from 1.
-use Rattle.std.proofs.Common.{◌≡◌, ◌≢◌, ℕ, ◌+◌, ◌-◌, ◌<◌, ◌≤◌, ◌==◌, List, Some, None, false, refl, arith}
+use Rattle.std.proofs.Common.{◌≡◌, ◌≢◌, ℕ, ◌-◌, ◌<◌, ◌≤◌, ◌==◌, Some, None, false, arith}
 use Rattle.std.proofs.lemmas.Bool.{ne_eqb}
 use Rattle.o2_ne.specs.Steps.{tabulate}
 use Rattle.o2_ne.proofs.Tabulated.{slice_get-table, slice_get-tabulate_past}

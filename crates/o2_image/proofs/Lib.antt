@@ -3,3 +3,7 @@ pub mod ChainSteps
 pub mod CheckedChains
 pub mod ChainEnds
 pub mod Getting
+pub mod PlaceSteps
+pub mod ThinSteps
+pub mod ServiceSteps
+pub mod ForeignSteps

@@ -1,5 +1,5 @@
 -- What the calls of a module answer.
-use Rattle.std.specs.Prelude.{ℕ, ◌-◌, ◌==◌, Bool, not, List, [], Option, Some, None, get_or, length, slice_get, if◌then◌else◌}
+use Rattle.std.specs.Prelude.{ℕ, ◌-◌, ◌==◌, Bool, not, List, [], Option, Some, None, length, slice_get, if◌then◌else◌}
 use Rattle.std.specs.List.{sum_by}
 use Rattle.std.specs.Int.RustNames.{bit_and}
 use Rattle.o2_ne_segs.specs.declared.reloc.Reloc.{Reloc}

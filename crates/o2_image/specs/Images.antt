@@ -1,5 +1,5 @@
 -- The image of a segment: its bytes in the file, with the patches of its records.
-use Rattle.std.specs.Prelude.{ℕ, ◌+◌, ◌-◌, ◌/◌, ◌%◌, ◌==◌, ◌&&◌, Bool, List, [], ◌∷◌, ◌++◌, Option, Some, None, length, fold, get_or, map, nat_le, nat_lt, slice_index, if◌then◌else◌}
+use Rattle.std.specs.Prelude.{ℕ, ◌+◌, ◌-◌, ◌/◌, ◌%◌, ◌==◌, ◌&&◌, Bool, List, [], ◌∷◌, ◌++◌, Option, Some, None, length, fold, map, nat_le, nat_lt, slice_index, if◌then◌else◌}
 use Rattle.o2_ne.specs.Words.{byte_at, word_at}
 use Rattle.o2_ne.specs.Steps.{tabulate}
 use Rattle.o2_ne_segs.specs.declared.reloc.Reloc.{Reloc}

@@ -1,6 +1,6 @@
 -- Thin modules: a program of one code segment and one data segment that imports services by far pointers alone.
-use Rattle.std.specs.Prelude.{ℕ, ◌==◌, ◌&&◌, ◌||◌, Bool, true, false, not, List, [], ◌∷◌, Option, Some, None, codes, find, map, nat_lt, option_map, Result, Ok, Err, if◌then◌else◌}
-use Rattle.std.specs.List.{flat_map, list_all}
+use Rattle.std.specs.Prelude.{ℕ, ◌==◌, ◌&&◌, ◌||◌, Bool, true, false, not, List, [], ◌∷◌, Option, Some, None, codes, find, get_or, length, map, nat_lt, option_map, Result, Ok, Err, if◌then◌else◌}
+use Rattle.std.specs.List.{list_all}
 use Rattle.std.specs.Option.{option_map_or}
 use Rattle.std.specs.Int.RustNames.{bit_and}
 use Rattle.o2_base.specs.Services.{gate_of, is_built, service_by_ordinal}
@@ -34,9 +34,7 @@ are_thin_segments h (code ∷ writable ∷ s ∷ ss) = false
 
 -- one reference, to the module of the services
 abbrev pub are_thin_references : List (List ℕ) → Bool
-are_thin_references [] = false
-are_thin_references (name ∷ []) = same_name name (codes "DOSCALLS")
-are_thin_references (name ∷ n ∷ ns) = false
+are_thin_references names = length names == 1 && same_name (get_or names 0 []) (codes "DOSCALLS")
 
 -- a far pointer to an import by ordinal, at one place
 abbrev pub is_thin_reloc : List ℕ → Reloc → Bool
@@ -56,10 +54,20 @@ is_thin m =
 abbrev pub has_service : ℕ → Bool
 has_service ordinal = option_map_or is_built (service_by_ordinal ordinal) false
 
--- the ordinal of the first import, by segment and record, that is no such service
+-- the ordinal of the first import that is no such service: of a segment, and of all by segment and record
+abbrev pub foreign_in : List Reloc → Option ℕ
+foreign_in rs = option_map (λ r. r.second) (find (λ r. not (has_service r.second)) rs)
+
+abbrev pub or_else : Option ℕ → Option ℕ → Option ℕ
+or_else (Some n) other = Some n
+or_else None other = other
+
+abbrev pub foreign_of : List (List Reloc) → Option ℕ
+foreign_of [] = None
+foreign_of (rs ∷ rss) = or_else (foreign_in rs) (foreign_of rss)
+
 abbrev pub first_foreign : Parts → Option ℕ
-first_foreign m =
-    option_map (λ r. r.second) (find (λ r. not (has_service r.second)) (flat_map (λ rs. rs) m.relocs))
+first_foreign m = foreign_of m.relocs
 
 -- where the imports of a thin module lead: to the call gate of each service, at offset 0
 abbrev pub gate_target : Reloc → Target

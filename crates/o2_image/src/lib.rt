@@ -7,6 +7,10 @@ mod module;
 mod records;
 mod references;
 mod targets;
+mod thin;
 
 pub use module::Module;
 pub use o2_base::ModuleFault;
+
+#[cfg(test)]
+mod tests;

@@ -135,7 +135,7 @@ pub struct Module {
 
 impl Model for Module {
     ghost use Rattle.o2_image.specs.Getters.{imported_name, is_library, nth, nth_reloc};
-ghost use Rattle.o2_image.specs.Modules.{parts_of};
+    ghost use Rattle.o2_image.specs.Modules.{parts_of};
     ghost use Rattle.o2_image.specs.Parts.{Parts};
     ghost use Rattle.o2_image.specs.Whole.{IsWhole};
 

@@ -1,6 +1,6 @@
 -- A list of the values of a function, one after the other.
-use Rattle.std.proofs.Common.{◌≡◌, ℕ, zero, suc, ◌+◌, ◌-◌, ◌<◌, ◌≤◌, List, [], ◌∷◌, ◌++◌, Some, None, length, get_or, refl, rules, ap, sym, ◌∙◌, arith, append_assoc}
-use Rattle.std.specs.List.{slice_get}
+use Rattle.std.proofs.Common.{◌≡◌, Bool, true, false, ℕ, zero, suc, ◌+◌, ◌-◌, ◌<◌, ◌≤◌, List, [], ◌∷◌, ◌++◌, Some, None, length, get_or, refl, rules, ap, sym, ◌∙◌, arith, append_assoc}
+use Rattle.std.specs.List.{find, list_all, slice_get}
 use Rattle.std.proofs.lemmas.Option.{slice_get_past}
 use Rattle.o2_ne.specs.Steps.{tabulate}
 
@@ -52,3 +52,42 @@ module _ {X : Type 0} where
 
   pub get_or-table : (f : ℕ → X) (n k : ℕ) (d : X) → k < n → get_or (tabulate f 0 n) k d ≡ f k
   get_or-table f n k d lt = let e : 0 + k ≡ k = omega arith in get_or-tabulate f 0 n k d lt ∙ ap f e
+
+  -- a test of each value in turn
+  pub all_goes_on : (p : X → Bool) (f : ℕ → X) (n k : ℕ) (total : Bool) → k < n → p (f k) ≡ true
+      → list_all p (tabulate f k (n - k)) ≡ total → list_all p (tabulate f (k + 1) (n - (k + 1))) ≡ total
+  unfolding tabulate
+  all_goes_on p f n k total lt h so_far =
+      let e : n - k ≡ suc (n - (k + 1)) = omega arith in
+      let one : list_all p (tabulate f k (n - k)) ≡ list_all p (tabulate f (k + 1) (n - (k + 1))) = rw (e, h) refl in
+      sym one ∙ so_far
+
+  pub all_fails : (p : X → Bool) (f : ℕ → X) (n k : ℕ) (total : Bool) → k < n → p (f k) ≡ false
+      → list_all p (tabulate f k (n - k)) ≡ total → false ≡ total
+  unfolding tabulate
+  all_fails p f n k total lt h so_far =
+      let e : n - k ≡ suc (n - (k + 1)) = omega arith in
+      let one : list_all p (tabulate f k (n - k)) ≡ false = rw (e, h) refl in
+      sym one ∙ so_far
+
+  pub all_done : (p : X → Bool) (f : ℕ → X) (n k : ℕ) (total : Bool) → n ≤ k
+      → list_all p (tabulate f k (n - k)) ≡ total → true ≡ total
+  unfolding tabulate
+  all_done p f n k total le so_far =
+      let e : n - k ≡ 0 = omega arith in
+      let one : list_all p (tabulate f k (n - k)) ≡ true = rw e refl in
+      sym one ∙ so_far
+
+  -- the first value that passes a test
+  pub find_goes_on : (p : X → Bool) (f : ℕ → X) (n k : ℕ) → k < n → p (f k) ≡ false
+      → find p (tabulate f k (n - k)) ≡ find p (tabulate f (k + 1) (n - (k + 1)))
+  unfolding tabulate
+  find_goes_on p f n k lt h = let e : n - k ≡ suc (n - (k + 1)) = omega arith in rw (e, h) refl
+
+  pub find_here : (p : X → Bool) (f : ℕ → X) (n k : ℕ) → k < n → p (f k) ≡ true → find p (tabulate f k (n - k)) ≡ Some (f k)
+  unfolding tabulate
+  find_here p f n k lt h = let e : n - k ≡ suc (n - (k + 1)) = omega arith in rw (e, h) refl
+
+  pub find_none : (p : X → Bool) (f : ℕ → X) (n k : ℕ) → n ≤ k → find p (tabulate f k (n - k)) ≡ None
+  unfolding tabulate
+  find_none p f n k le = let e : n - k ≡ 0 = omega arith in rw e refl
