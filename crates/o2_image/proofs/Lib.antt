@@ -7,3 +7,4 @@ pub mod PlaceSteps
 pub mod ThinSteps
 pub mod ServiceSteps
 pub mod ForeignSteps
+pub mod FillSteps

@@ -3,6 +3,7 @@
 
 mod chain;
 mod faults;
+mod fill;
 mod module;
 mod records;
 mod references;

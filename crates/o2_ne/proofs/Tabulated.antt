@@ -91,3 +91,13 @@ module _ {X : Type 0} where
   pub find_none : (p : X → Bool) (f : ℕ → X) (n k : ℕ) → n ≤ k → find p (tabulate f k (n - k)) ≡ None
   unfolding tabulate
   find_none p f n k le = let e : n - k ≡ 0 = omega arith in rw e refl
+
+-- a list of the values of a function is the table of them
+pub tabulate-each : (f : ℕ → ℕ) (xs : List ℕ) (i : ℕ) → ((k : ℕ) → k < length xs → get_or xs k 0 ≡ f (i + k)) → xs ≡ tabulate f i (length xs)
+unfolding tabulate
+tabulate-each f [] i each = refl
+tabulate-each f (x ∷ xs) i each =
+    let here : x ≡ f i = let e : i + 0 ≡ i = omega arith in each 0 (omega arith) ∙ ap f e in
+    let rest : xs ≡ tabulate f (i + 1) (length xs) =
+        tabulate-each f xs (i + 1) (λ k h. let e : i + suc k ≡ i + 1 + k = omega arith in each (suc k) (omega arith) ∙ ap f e) in
+    ap (λ (y : ℕ). y ∷ xs) here ∙ ap (λ (ys : List ℕ). f i ∷ ys) rest
