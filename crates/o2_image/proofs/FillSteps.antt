@@ -1,11 +1,21 @@
 -- The patches of a segment's records, one record after the other, and the image that they make.
-use Rattle.std.proofs.Common.{◌≡◌, ℕ, suc, ◌+◌, ◌-◌, ◌<◌, ◌≤◌, List, ◌∷◌, ◌++◌, drop, length, get_or, fold, refl, sym, subst, ap, ◌∙◌, arith, add-one}
+use Rattle.std.proofs.Common.{◌≡◌, ℕ, suc, ◌+◌, ◌-◌, ◌*◌, ◌<◌, ◌≤◌, List, ◌∷◌, ◌++◌, Some, map, drop, length, get_or, fold, refl, sym, subst, ap, ◌∙◌, arith, add-one}
 use Rattle.std.proofs.Math.Seq.{drop-cons}
 use Rattle.std.proofs.lemmas.List.Sums.{fold-append}
+use Rattle.o2_ne.specs.declared.entries.Entry.{Entry}
+use Rattle.o2_ne.specs.declared.head.Head.{Head}
+use Rattle.o2_ne.specs.NameTable.{Exports}
 use Rattle.o2_ne.specs.Steps.{tabulate}
-use Rattle.o2_ne.proofs.Tabulated.{tabulate-each}
+use Rattle.o2_ne.proofs.Tabulated.{length-tabulate, tabulate-each}
 use Rattle.o2_ne_segs.specs.declared.reloc.Reloc.{Reloc}
-use Rattle.o2_image.specs.Images.{Patch, Target, all_patches, byte_after, image, image_byte, patches_of}
+use Rattle.o2_ne_segs.specs.declared.segment.Segment.{Segment}
+use Rattle.o2_ne_segs.specs.Records.{end_of, reloc_at, reloc_count, relocs_in}
+use Rattle.o2_ne_segs.specs.SegmentTable.{nth_segment}
+use Rattle.o2_image.specs.Getters.{nth_list}
+use Rattle.o2_image.specs.Images.{Patch, Target, all_patches, byte_after, image, image_byte, patches_of, segment_image}
+use Rattle.o2_image.specs.Modules.{parts_of}
+use Rattle.o2_image.specs.Records.{bytes_of}
+use Rattle.o2_image.proofs.Getting.{nth_list-map, same_lengths}
 
 -- the patches of the record at k, then those behind it
 next_record : (bytes : List ℕ) (g : ℕ → Reloc) (n k : ℕ) (ts : List Target) (d : Target) → k < n → k < length ts
@@ -44,3 +54,20 @@ filled bytes seen patches before copied after same len_copied len_after copy pat
         ∙ ap (image_byte bytes patches) (sym e) in
     tabulate-each (image_byte bytes patches) after 0 each
     ∙ ap (λ (n : ℕ). tabulate (image_byte bytes patches) 0 n) (len_after ∙ len_copied)
+
+-- a segment of a module has as many targets as records
+pub belonging : (file : List ℕ) (ss : List Segment) (targets : List (List Target)) (seg : ℕ) (s : Segment) → nth_segment seg ss ≡ Some s
+    → map length targets ≡ map length (map (relocs_in file) ss) → length (nth_list targets seg) ≡ reloc_count file s
+belonging file ss targets seg s is h =
+    same_lengths targets (map (relocs_in file) ss) seg h
+    ∙ ap (λ (rs : List Reloc). length rs) (nth_list-map (relocs_in file) ss seg s is)
+    ∙ length-tabulate (λ k. reloc_at file (end_of s + 2 + 8 * k)) 0 (reloc_count file s)
+
+-- its image is that of its bytes and its records
+pub image_is : (file : List ℕ) (h : Head) (ss : List Segment) (names : Exports) (es : List Entry) (targets : List (List Target)) (seg : ℕ) (s : Segment) (n : ℕ)
+    → nth_segment seg ss ≡ Some s
+    → segment_image (parts_of file h ss names es) targets seg n
+    ≡ image (bytes_of file s) (all_patches (bytes_of file s) (relocs_in file s) (nth_list targets seg)) n
+image_is file h ss names es targets seg s n is =
+    let relocs = nth_list-map (relocs_in file) ss seg s is in
+    rw (is, relocs) refl

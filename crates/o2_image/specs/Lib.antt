@@ -8,5 +8,6 @@ pub mod Whole
 pub mod Modules
 pub mod Getters
 pub mod Images
+pub mod ImageList
 pub mod Thin
 pub mod ChainViews

@@ -1,5 +1,5 @@
 // The image of a segment: its bytes in the file, with the patches of its records.
-ghost use Rattle.std.specs.Prelude.{◌≡◌, ◌≢◌, ◌+◌, ◌*◌, ◌≤◌, ◌<◌, ◌^◌, ◌==◌, ◌++◌, ℕ, false, fold, if◌then◌else◌, length, map, slice_index, IsTrue};
+ghost use Rattle.std.specs.Prelude.{◌≡◌, ◌≢◌, ◌+◌, ◌*◌, ◌≤◌, ◌<◌, ◌^◌, ◌==◌, ◌++◌, ℕ, [], false, fold, if◌then◌else◌, length, map, slice_index, IsTrue};
 ghost use Rattle.o2_ne.specs.Words.{byte_at, word_at};
 ghost use Rattle.o2_ne_segs.specs.Records.{reloc_count, relocs_in};
 ghost use Rattle.o2_image.specs.Chains.{places};
@@ -146,4 +146,11 @@ pub(crate) fn fill_segment(file: &[u8], segment: &Segment, targets: &[(u16, u16)
 {
     copy_front(bytes_of(file, segment), into);
     fill_relocs(file, segment, targets, into);
+}
+
+// Writes the first of some bytes, which have no patches.
+pub(crate) fn fill_bytes(bytes: &[u8], into: &mut [u8])
+    ensures { into.new ≡ image bytes.now [] (length into.old) }
+{
+    copy_front(bytes, into);
 }

@@ -4,12 +4,14 @@
 mod chain;
 mod faults;
 mod fill;
+mod images;
 mod module;
 mod records;
 mod references;
 mod targets;
 mod thin;
 
+pub use images::{Images, Resolved};
 pub use module::Module;
 pub use o2_base::ModuleFault;
 
