@@ -49,9 +49,9 @@ pub filled : (bytes seen : List ℕ) (patches : List Patch) (before copied after
     → after ≡ image bytes patches (length before)
 filled bytes seen patches before copied after same len_copied len_after copy patch =
     let each : (k : ℕ) → k < length after → get_or after k 0 ≡ image_byte bytes patches (0 + k) = λ k h.
-        let e : 0 + k ≡ k = omega arith in
-        patch k h ∙ ap (λ (v : ℕ). fold (byte_after k) v patches) (copy k (omega arith) ∙ ap (λ (bs : List ℕ). get_or bs k 0) same)
-        ∙ ap (image_byte bytes patches) (sym e) in
+    let e : 0 + k ≡ k = omega arith in
+    patch k h ∙ ap (λ (v : ℕ). fold (byte_after k) v patches) (copy k (omega arith) ∙ ap (λ (bs : List ℕ). get_or bs k 0) same)
+    ∙ ap (image_byte bytes patches) (sym e) in
     tabulate-each (image_byte bytes patches) after 0 each
     ∙ ap (λ (n : ℕ). tabulate (image_byte bytes patches) 0 n) (len_after ∙ len_copied)
 

@@ -8,3 +8,4 @@ pub mod ThinSteps
 pub mod ServiceSteps
 pub mod ForeignSteps
 pub mod FillSteps
+pub mod TotalSteps

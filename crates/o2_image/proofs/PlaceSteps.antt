@@ -27,6 +27,7 @@ fits_first bytes n i p lt h =
 
 pub fits_rest : (bytes : List ℕ) (n i p : ℕ) → i < n → (word_at bytes p == 65535) ≡ false → Fit bytes (places bytes (n - i) p) → Fit bytes (places bytes (n - (i + 1)) (word_at bytes p))
 fits_rest bytes n i p lt go h = (subst (λ (ps : List ℕ). Fit bytes ps) (places_go bytes n i p lt go) h).1
+
 -- the patches of a chain at byte j, one after the other
 pub fill_goes : (bytes : List ℕ) (put : ℕ → Patch) (n i p j old new total : ℕ) → i < n → (word_at bytes p == 65535) ≡ false → new ≡ byte_after j old (put p)
     → fold (byte_after j) old (map put (places bytes (n - i) p)) ≡ total

@@ -9,13 +9,13 @@ ghost use Rattle.o2_ne_segs.specs.declared.segment.Segment.{Segment};
 ghost use Rattle.o2_ne_segs.specs.Records.{end_of};
 ghost use Rattle.o2_ne_segs.specs.SegmentTable.{nth_segment, segments_of};
 ghost use Rattle.o2_image.specs.Faults.{under_ne, under_seg};
-ghost use Rattle.o2_image.specs.Getters.{imported_name, is_library, nth, nth_reloc};
+ghost use Rattle.o2_image.specs.Getters.{imported_name, is_library, nth, nth_reloc, reloc_total};
 ghost use Rattle.o2_image.specs.Modules.{auto_data_checks, is_code, is_writable, module_of};
 ghost use Rattle.o2_image.specs.References.{all_references};
 ghost use Rattle.o2_image.specs.Whole.{HasReference};
 
 use crate::faults::{of_ne, of_seg};
-use crate::records::{Scope, check_segments, reloc_in};
+use crate::records::{Scope, check_segments, reloc_in, total_relocs};
 use crate::references::{check_references, has_string, imported_place, reference_at, string_at};
 use o2_base::{Bytes, Fail, ModuleFault, Which};
 use o2_ne::{Entries, Head, Names};
@@ -134,7 +134,7 @@ pub struct Module {
 }
 
 impl Model for Module {
-    ghost use Rattle.o2_image.specs.Getters.{imported_name, is_library, nth, nth_reloc};
+    ghost use Rattle.o2_image.specs.Getters.{imported_name, is_library, nth, nth_reloc, reloc_total};
     ghost use Rattle.o2_image.specs.Modules.{parts_of};
     ghost use Rattle.o2_image.specs.Parts.{Parts};
     ghost use Rattle.o2_image.specs.Whole.{IsWhole};
@@ -255,5 +255,19 @@ impl Module {
     {
         let segment = self.segments.get(seg)?;
         reloc_in(self.file.as_slice(), &segment, k)
+    }
+
+    /// How many records all segments have together.
+    pub fn reloc_count(&self) -> u32
+        ensures { result ≡ reloc_total self.now }
+    {
+        total_relocs(self.file.as_slice(), self.segments.as_slice())
+    }
+
+    /// How many ordinals are defined.
+    pub fn entry_count(&self) -> u32
+        ensures { result ≡ length self.now.entries }
+    {
+        self.entries.len()
     }
 }

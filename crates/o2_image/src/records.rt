@@ -1,5 +1,5 @@
 // The records of the segments: each leads somewhere, and patches nothing twice.
-ghost use Rattle.std.specs.Prelude.{◌≡◌, ◌+◌, ◌*◌, ◌≤◌, ◌<◌, ◌^◌, ℕ, false, get_or, length, replicate, slice_get, IsTrue, OnOk, IfOk};
+ghost use Rattle.std.specs.Prelude.{◌≡◌, ◌+◌, ◌*◌, ◌≤◌, ◌<◌, ◌^◌, ℕ, false, get_or, length, replicate, map, slice_get, sum_by, IsTrue, OnOk, IfOk};
 ghost use Rattle.o2_ne.specs.Steps.{Gives, over};
 ghost use Rattle.o2_ne_segs.specs.declared.segment.Segment.{Segment};
 ghost use Rattle.o2_ne_segs.specs.Records.{counted, end_of, reloc_at, reloc_count, relocs_at, relocs_in};
@@ -173,4 +173,17 @@ pub(crate) fn reloc_in(file: &[u8], segment: &Segment, k: u16) -> Option<Reloc>
     }
     let at = segment.file_at as usize + segment.file_len as usize + 2;
     Some(reloc_at(file, at + 8 * usize::from(k)))
+}
+
+// How many records the segments have together.
+pub(crate) fn total_relocs(file: &[u8], segments: &[Segment]) -> u32
+    requires has { (k : ℕ) (d : Segment) → k < length segments.now → HasSegment file.now (get_or segments.now k d) }
+    requires few { length segments.now ≤ 254 }
+    ensures { result ≡ sum_by length (map (relocs_in file.now) segments.now) }
+{
+    let mut total = 0u32;
+    for segment in segments {
+        total += u32::from(reloc_count(file, segment));
+    }
+    total
 }

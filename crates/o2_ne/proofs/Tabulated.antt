@@ -99,5 +99,5 @@ tabulate-each f [] i each = refl
 tabulate-each f (x ∷ xs) i each =
     let here : x ≡ f i = let e : i + 0 ≡ i = omega arith in each 0 (omega arith) ∙ ap f e in
     let rest : xs ≡ tabulate f (i + 1) (length xs) =
-        tabulate-each f xs (i + 1) (λ k h. let e : i + suc k ≡ i + 1 + k = omega arith in each (suc k) (omega arith) ∙ ap f e) in
+    tabulate-each f xs (i + 1) (λ k h. let e : i + suc k ≡ i + 1 + k = omega arith in each (suc k) (omega arith) ∙ ap f e) in
     ap (λ (y : ℕ). y ∷ xs) here ∙ ap (λ (ys : List ℕ). f i ∷ ys) rest

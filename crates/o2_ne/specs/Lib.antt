@@ -4,5 +4,6 @@ pub mod Steps
 pub mod Header
 pub mod NameTable
 pub mod NameViews
+pub mod Rising
 pub mod EntryTable
 pub mod EntryViews

@@ -1,7 +1,8 @@
-ghost use Rattle.std.specs.Prelude.{◌≡◌, ◌+◌, ◌*◌, ◌≤◌, ◌<◌, ◌^◌, length, List, Option, option_map, find, ◌==◌};
+ghost use Rattle.std.specs.Prelude.{◌≡◌, ◌+◌, ◌*◌, ◌≤◌, ◌<◌, ◌^◌, length, List, Option, option_map, find, ◌==◌, nat_lt, true, false, slice_get};
 ghost use Rattle.o2_ne.specs.Steps.{Gives, steps};
+ghost use Rattle.o2_ne.specs.Rising.{IsRising};
 ghost use Rattle.o2_ne.specs.EntryTable.{Table, bundle, entry_step, entries_of, is_segment, table_step, target_of};
-ghost use Rattle.o2_ne.specs.EntryViews.{table};
+ghost use Rattle.std.specs.List.Sorted.{IsNonDecreasingBy, IsPartitionPoint};
 
 use crate::bytes::u16_at;
 use crate::head::{Head, need};
@@ -24,6 +25,7 @@ struct Reading {
     ordinal: u32,
     place: u32,
     ended: bool,
+    ghost rising: { IsRising found.items ordinal },
 }
 
 fn is_segment(count: u16, segment: u8) -> bool
@@ -33,6 +35,8 @@ fn is_segment(count: u16, segment: u8) -> bool
 }
 
 impl Reading {
+    ghost use Rattle.o2_ne.specs.EntryViews.{table};
+
     // One entry of a bundle.
     fn entry(&mut self, file: &[u8], segments: u16, kind: u8) -> Result<(), Fail<NeFault>>
         requires small { length file.now ≤ 4194304 }
@@ -155,13 +159,29 @@ impl Reading {
         requires small { length file.now ≤ 4194304 }
         requires place { self.old.place < 2 ^ 23 }
         requires ordinal { self.old.ordinal ≤ 1 }
-        ensures { Gives (λ _. table self.new) result (steps (table_step file.now segments end) most (table self.old)) }
+        ensures exact { Gives (λ _. table self.new) result (steps (table_step file.now segments end) most (table self.old)) }
+        ensures ordinal { self.new.ordinal < 16777216 }
     {
         for _ in 0..most {
             self.next(file, segments, end)?;
         }
         Ok(())
     }
+}
+
+// How many entries have a lower ordinal.
+fn place_of(found: &[Entry], ordinal: u32) -> usize
+    requires { IsNonDecreasingBy (λ e. e.ordinal) found.now }
+    ensures { IsPartitionPoint (λ e. nat_lt e.ordinal ordinal ≡ true) (λ e. nat_lt e.ordinal ordinal ≡ false) found.now result }
+{
+    found.partition_point(|e| e.ordinal < ordinal)
+}
+
+// The entry at an index.
+fn entry_at(found: &[Entry], at: usize) -> Option<Entry>
+    ensures { result ≡ slice_get found.now at }
+{
+    found.get(at).copied()
 }
 
 /// The defined ordinals of a file.
@@ -173,10 +193,13 @@ pub struct Entries {
 impl Model for Entries {
     ghost use Rattle.std.specs.Prelude.{List};
     ghost use Rattle.o2_ne.specs.declared.entries.Entry.{Entry};
+    ghost use Rattle.o2_ne.specs.Rising.{AreEntries};
 
     ghost Value = { List Entry };
 
     ghost view = { λ a. a.found.items };
+
+    ghost invariant = { λ a. AreEntries a.found.items };
 }
 
 impl Entries {
@@ -200,13 +223,25 @@ impl Entries {
         Ok(Entries { found })
     }
 
-    /// Where an ordinal leads, as a segment and an offset.
+    /// Where an ordinal leads, as a segment and an offset. None exactly where it isn't defined.
     pub fn get(&self, ordinal: u16) -> Option<(u8, u16)>
         ensures { result ≡ target_of ordinal self.now }
     {
-        match self.found.iter().find(|e| e.ordinal == u32::from(ordinal)) {
-            Some(e) => Some((e.segment, e.offset)),
-            None => None,
+        let found = self.found.as_slice();
+        let wanted = u32::from(ordinal);
+        let Some(entry) = entry_at(found, place_of(found, wanted)) else {
+            return None;
+        };
+        if entry.ordinal != wanted {
+            return None;
         }
+        Some((entry.segment, entry.offset))
+    }
+
+    /// How many ordinals are defined.
+    pub fn len(&self) -> u32
+        ensures { result ≡ length self.now }
+    {
+        self.found.len() as u32
     }
 }

@@ -9,5 +9,5 @@ fill_segment-requires-clause-belong c =
 pub returns : goal.returns
 returns c =
     let is = image_is c.self.inside.file c.self.inside.head c.self.inside.segments c.self.inside.names c.self.inside.entries
-        c.args.r.now c.args.seg c.in-Some.segment (length c.args.into.now) (sym c.in-Some.ensures) in
+    c.args.r.now c.args.seg c.in-Some.segment (length c.args.into.now) (sym c.in-Some.ensures) in
     rw (← c.self.view_is) ((rw (c.as_slice.ensures, c.of_segment.ensures) at c.fill_segment.ensures) ∙ sym is)
