@@ -1,5 +1,5 @@
 -- The patches of a segment's records, one record after the other, and the image that they make.
-use Rattle.std.proofs.Common.{◌≡◌, ℕ, suc, ◌+◌, ◌-◌, ◌*◌, ◌<◌, ◌≤◌, List, ◌∷◌, ◌++◌, Some, map, drop, length, get_or, fold, refl, sym, subst, ap, ◌∙◌, arith, add-one}
+use Rattle.std.proofs.Common.{◌≡◌, ℕ, suc, ◌+◌, ◌-◌, ◌*◌, ◌<◌, ◌≤◌, List, ◌∷◌, ◌++◌, Some, true, map, drop, length, get_or, fold, refl, sym, subst, ap, ◌∙◌, arith, add-one}
 use Rattle.std.proofs.Math.Seq.{drop-cons}
 use Rattle.std.proofs.lemmas.List.Sums.{fold-append}
 use Rattle.o2_ne.specs.declared.entries.Entry.{Entry}
@@ -15,6 +15,8 @@ use Rattle.o2_image.specs.Getters.{nth_list}
 use Rattle.o2_image.specs.Images.{Patch, Target, all_patches, byte_after, image, image_byte, patches_of, segment_image}
 use Rattle.o2_image.specs.Modules.{parts_of}
 use Rattle.o2_image.specs.Records.{bytes_of}
+use Rattle.o2_image.specs.ImageList.{same_shape}
+use Rattle.o2_image.proofs.Shapes.{shape_lengths}
 use Rattle.o2_image.proofs.Getting.{nth_list-map, same_lengths}
 
 -- the patches of the record at k, then those behind it
@@ -57,9 +59,9 @@ filled bytes seen patches before copied after same len_copied len_after copy pat
 
 -- a segment of a module has as many targets as records
 pub belonging : (file : List ℕ) (ss : List Segment) (targets : List (List Target)) (seg : ℕ) (s : Segment) → nth_segment seg ss ≡ Some s
-    → map length targets ≡ map length (map (relocs_in file) ss) → length (nth_list targets seg) ≡ reloc_count file s
+    → same_shape targets (map (relocs_in file) ss) ≡ true → length (nth_list targets seg) ≡ reloc_count file s
 belonging file ss targets seg s is h =
-    same_lengths targets (map (relocs_in file) ss) seg h
+    same_lengths targets (map (relocs_in file) ss) seg (shape_lengths targets (map (relocs_in file) ss) h)
     ∙ ap (λ (rs : List Reloc). length rs) (nth_list-map (relocs_in file) ss seg s is)
     ∙ length-tabulate (λ k. reloc_at file (end_of s + 2 + 8 * k)) 0 (reloc_count file s)
 

@@ -9,3 +9,4 @@ pub mod ServiceSteps
 pub mod ForeignSteps
 pub mod FillSteps
 pub mod TotalSteps
+pub mod Shapes

@@ -1,13 +1,20 @@
 -- The images of a run: those of the modules' segments, and those of the processes' environments.
-use Rattle.std.specs.Prelude.{◌≡◌, ℕ, ◌≤◌, ◌<◌, ◌==◌, List, [], Option, Some, None, get_or, length, map, if◌then◌else◌}
+use Rattle.std.specs.Prelude.{ℕ, ◌≤◌, ◌<◌, ◌==◌, ◌&&◌, Bool, true, false, List, [], ◌∷◌, Option, Some, None, get_or, length, if◌then◌else◌, IsTrue}
 use Rattle.std.specs.Prelude.{MatchBool}
 use Rattle.o2_image.specs.Getters.{nth, nth_list}
 use Rattle.o2_image.specs.Images.{Target, image, segment_image}
 use Rattle.o2_image.specs.Parts.{Parts}
 
--- each record of the module has a target
+-- as many lists, each as long as the other at its place
+abbrev pub same_shape : {A B : Type 0} → List (List A) → List (List B) → Bool
+same_shape [] [] = true
+same_shape [] (ys ∷ yss) = false
+same_shape (xs ∷ xss) [] = false
+same_shape (xs ∷ xss) (ys ∷ yss) = length xs == length ys && same_shape xss yss
+
+-- each record of the module has a target, and there is no other
 abbrev pub Belongs : Parts → List (List Target) → Type 0
-Belongs m targets = map length targets ≡ map length m.relocs
+Belongs m targets = IsTrue (same_shape targets m.relocs)
 
 -- an item of this number, from 1, exists
 abbrev pub Exists : {X : Type 0} → List X → ℕ → Type 0

@@ -1,12 +1,17 @@
 // The targets of records, and the images of a run.
-ghost use Rattle.std.specs.Prelude.{◌≡◌, ◌≤◌, ◌<◌, ℕ, length, map, option_map, slice_get, Some};
+ghost use Rattle.std.specs.Prelude.{◌≡◌, ◌≤◌, ◌<◌, ◌↔◌, ℕ, get_or, length, map, option_map, slice_get, IsTrue, Some};
+ghost use Rattle.o2_ne_segs.specs.declared.segment.Segment.{Segment};
+ghost use Rattle.o2_ne_segs.specs.Records.{relocs_in};
 ghost use Rattle.o2_image.specs.Getters.{nth, nth_list};
-ghost use Rattle.o2_image.specs.ImageList.{AllBelong, Belongs, Exists, HasImage, image_front};
+ghost use Rattle.o2_image.specs.ImageList.{AllBelong, Belongs, Exists, HasImage, image_front, same_shape};
 ghost use Rattle.o2_image.specs.Images.{segment_image};
+ghost use Rattle.o2_image.specs.Whole.{HasSegment};
 
 use crate::fill::{fill_bytes, fill_segment};
 use crate::module::Module;
+use crate::records::reloc_count;
 use o2_base::Bytes;
+use o2_ne_segs::Segment;
 use std::marker::Model;
 
 /// Where each record of a module leads: a selector and an offset, by segment from 1 and number from 0.
@@ -52,7 +57,31 @@ impl Resolved {
     }
 }
 
+// Whether each segment from one on has as many targets as records, and there is no other list.
+fn are_targets(file: &[u8], segments: &[Segment], targets: &[Vec<(u16, u16)>]) -> bool
+    requires { (k : ℕ) (d : Segment) → k < length segments.now → HasSegment file.now (get_or segments.now k d) }
+    ensures { result ≡ same_shape (map (λ v. v.items) targets.now) (map (relocs_in file.now) segments.now) }
+{
+    if segments.len() != targets.len() {
+        return false;
+    }
+    for (i, segment) in segments.iter().enumerate() {
+        let count = usize::from(reloc_count(file, segment));
+        if targets[i].len() != count {
+            return false;
+        }
+    }
+    true
+}
+
 impl Module {
+    /// Whether these are targets of its records: for each segment as many as it has records.
+    pub fn is_resolved_by(&self, r: &Resolved) -> bool
+        ensures { IsTrue result ↔ Belongs self.now r.now }
+    {
+        are_targets(self.file.as_slice(), self.segments.as_slice(), r.targets.as_slice())
+    }
+
     /// Writes the first bytes of a segment's image into a slice, as many as it has, with zeros behind the image's end.
     /// It takes no memory.
     pub fn fill(&self, seg: u16, r: &Resolved, into: &mut [u8])
