@@ -79,7 +79,11 @@ impl Module {
     pub fn is_resolved_by(&self, r: &Resolved) -> bool
         ensures { IsTrue result ↔ Belongs self.now r.now }
     {
-        are_targets(self.file.as_slice(), self.segments.as_slice(), r.targets.as_slice())
+        are_targets(
+            self.file.as_slice(),
+            self.segments.as_slice(),
+            r.targets.as_slice(),
+        )
     }
 
     /// Writes the first bytes of a segment's image into a slice, as many as it has, with zeros behind the image's end.

@@ -92,6 +92,15 @@ module _ {X : Type 0} where
   unfolding tabulate
   find_none p f n k le = let e : n - k ≡ 0 = omega arith in rw e refl
 
+  -- a list that is a table
+  pub table_length : (f : ℕ → X) (n : ℕ) (xs : List X) → xs ≡ tabulate f 0 n → length xs ≡ n
+  table_length f n xs h = ap (λ (ys : List X). length ys) h ∙ length-tabulate f 0 n
+
+  pub table_items : (f : ℕ → X) (n : ℕ) (xs : List X) → xs ≡ tabulate f 0 n → (k : ℕ) (d : X) → k < length xs → get_or xs k d ≡ f k
+  table_items f n xs h k d lt =
+      let len = table_length f n xs h in
+      ap (λ (ys : List X). get_or ys k d) h ∙ get_or-table f n k d (omega arith)
+
 -- a list of the values of a function is the table of them
 pub tabulate-each : (f : ℕ → ℕ) (xs : List ℕ) (i : ℕ) → ((k : ℕ) → k < length xs → get_or xs k 0 ≡ f (i + k)) → xs ≡ tabulate f i (length xs)
 unfolding tabulate

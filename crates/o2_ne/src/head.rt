@@ -1,6 +1,7 @@
 // The header of a segmented executable.
 ghost use Rattle.std.specs.Prelude.{◌≡◌, ◌+◌, ◌≤◌, [], ◌∷◌, length, IfOk, OnOk};
 ghost use Rattle.o2_ne.specs.Checks.{all_hold, checked, in_file};
+ghost use Rattle.o2_ne.specs.Words.{long_at};
 ghost use Rattle.o2_ne.specs.Header.{head_at, place_checks, place_of_header, profile_checks, head_of};
 
 use crate::bytes::{first_missing, lies_in, u16_at, u32_at};
@@ -60,6 +61,8 @@ impl Head {
     pub fn read(file: &[u8]) -> Result<Head, NeFault>
         requires { length file.now ≤ 4194304 }
         ensures exact { result ≡ head_of file.now }
+        ensures place { IfOk result (λ h. h.at ≡ long_at file.now 60) }
+        ensures words { IfOk result (λ h. h ≡ head_at file.now h.at) }
         ensures inside { IfOk result (λ h. h.at + 64 ≤ length file.now) }
         ensures shift { IfOk result (λ h. h.shift ≤ 15) }
         ensures few { IfOk result (λ h. h.segments ≤ 254) }
@@ -86,6 +89,7 @@ pub(crate) fn need(file: &[u8], at: u32, len: u32) -> Result<(), NeFault>
 fn place(file: &[u8]) -> Result<u32, NeFault>
     requires { length file.now ≤ 4194304 }
     ensures value { result ≡ checked (place_checks file.now) (place_of_header file.now) }
+    ensures place { IfOk result (λ at. at ≡ long_at file.now 60) }
     ensures within { IfOk result (λ at. at + 64 ≤ length file.now) }
 {
     if !file.starts_with(b"MZ") {

@@ -1,6 +1,7 @@
 // The relocation records of a segment.
-ghost use Rattle.std.specs.Prelude.{◌≡◌, ◌+◌, ◌*◌, ◌≤◌, ◌<◌, ◌^◌, length, slice_get, IfOk, OnOk, IsTrue};
+ghost use Rattle.std.specs.Prelude.{◌≡◌, ◌+◌, ◌*◌, ◌≤◌, ◌<◌, ◌^◌, ℕ, get_or, length, slice_get, IfOk, OnOk, IsTrue};
 ghost use Rattle.o2_ne.specs.Checks.{all_hold};
+ghost use Rattle.o2_ne_segs.specs.declared.reloc.Reloc.{Reloc};
 ghost use Rattle.o2_ne_segs.specs.SegmentTable.{SegGives};
 ghost use Rattle.o2_ne_segs.specs.Records.{counted, end_of, reloc_at, reloc_count, relocs_at, relocs_of};
 
@@ -63,7 +64,9 @@ pub fn check_relocs(file: &[u8], seg: &Segment) -> Result<u16, SegFault>
 // The records from a place on.
 fn relocs_from(alloc: Global, file: &[u8], at: usize, count: u16) -> Result<Vec<Reloc>, AllocError>
     requires { 0 < count → at + 8 * count ≤ length file.now }
-    ensures { IfOk result (λ v. v.items ≡ relocs_at file.now at count) }
+    ensures exact { IfOk result (λ v. v.items ≡ relocs_at file.now at count) }
+    ensures count { IfOk result (λ v. length v.items ≡ count) }
+    ensures rows { IfOk result (λ v. (k : ℕ) (d : Reloc) → k < length v.items → get_or v.items k d ≡ reloc_at file.now (at + 8 * k)) }
 {
     let mut found = Vec::new(alloc);
     for k in 0..count {
@@ -93,7 +96,9 @@ impl Relocs {
     pub fn read(alloc: Global, file: &[u8], seg: &Segment) -> Result<Relocs, SegFault>
         requires small { length file.now ≤ 4194304 }
         requires inside { end_of seg.now ≤ length file.now }
-        ensures { SegGives (λ t. t) result (relocs_of file.now seg.now) }
+        ensures exact { SegGives (λ t. t) result (relocs_of file.now seg.now) }
+        ensures count { IfOk result (λ t. length t ≡ reloc_count file.now seg.now) }
+        ensures rows { IfOk result (λ t. (k : ℕ) (d : Reloc) → k < length t → get_or t k d ≡ reloc_at file.now (end_of seg.now + 2 + 8 * k)) }
     {
         let count = check_relocs(file, seg)?;
         let at = seg.file_at as usize + seg.file_len as usize + 2;

@@ -133,6 +133,7 @@ fn read_row(file: &[u8], shift: u16, at: u32) -> Result<Segment, SegFault>
     requires small { length file.now ≤ 4194304 }
     ensures exact { result ≡ segment_of file.now shift at }
     ensures inside { IfOk result (λ s. end_of s ≤ length file.now) }
+    ensures row { IfOk result (λ s. s ≡ segment_at file.now shift at) }
 {
     need(file, at, 8)?;
     let p = at as usize;
@@ -172,6 +173,7 @@ fn add_row(file: &[u8], at: u32, shift: u16, found: &mut Vec<Segment>) -> Result
     ensures more { OnOk result (vec_len found.new ≡ vec_len found.old + 1) }
     ensures before { OnOk result ((k : ℕ) (d : Segment) → k < length found.old.items → get_or found.new.items k d ≡ get_or found.old.items k d) }
     ensures inside { OnOk result ((d : Segment) → end_of (get_or found.new.items (length found.old.items) d) ≤ length file.now) }
+    ensures row { OnOk result ((d : Segment) → get_or found.new.items (length found.old.items) d ≡ segment_at file.now shift (at + 8 * length found.old.items)) }
 {
     let place = at + 8 * found.len() as u32;
     let segment = read_row(file, shift, place)?;
@@ -195,6 +197,7 @@ fn rows(
     ensures exact { SegGives (λ v. v.items) result (steps (row_step file.now at shift) count []) }
     ensures many { IfOk result (λ v. length v.items ≡ count) }
     ensures inside { IfOk result (λ v. (k : ℕ) (d : Segment) → k < length v.items → end_of (get_or v.items k d) ≤ length file.now) }
+    ensures rows { IfOk result (λ v. (k : ℕ) (d : Segment) → k < length v.items → get_or v.items k d ≡ segment_at file.now shift (at + 8 * k)) }
 {
     let mut found = Vec::new(alloc);
     for _ in 0..count {
@@ -219,6 +222,7 @@ impl SegTable {
         requires place { at + 8 * count < 2 ^ 32 }
         ensures exact { SegGives (λ t. t) result (segments_of file.now at count shift) }
         ensures many { IfOk result (λ t. length t ≡ count) }
+        ensures rows { IfOk result (λ t. (k : ℕ) (d : Segment) → k < length t → get_or t k d ≡ segment_at file.now shift (at + 8 * k)) }
         ensures inside { IfOk result (λ t. (k : ℕ) (d : Segment) → k < length t → end_of (get_or t k d) ≤ length file.now) }
     {
         let found = rows(alloc, file, at, count, shift)?;
