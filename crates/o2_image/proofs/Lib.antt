@@ -10,3 +10,4 @@ pub mod ForeignSteps
 pub mod FillSteps
 pub mod TotalSteps
 pub mod Shapes
+pub mod GateSteps

@@ -4,6 +4,7 @@
 mod chain;
 mod faults;
 mod fill;
+mod gates;
 mod images;
 mod module;
 mod records;

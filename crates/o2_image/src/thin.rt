@@ -98,7 +98,7 @@ fn are_thin_relocs(file: &[u8], segments: &[Segment]) -> bool
 
 // The service with this default ordinal.
 #[tactic(auto, unfolding(o2_base::specs::Services::services))]
-fn service_by_ordinal(ordinal: u16) -> Option<u16>
+pub(crate) fn service_by_ordinal(ordinal: u16) -> Option<u16>
     ensures value { result ≡ service_by_ordinal ordinal }
     ensures some { IfSome result (λ n. n ≤ 31) }
 {
