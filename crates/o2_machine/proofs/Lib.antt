@@ -4,3 +4,4 @@ pub mod Spaces
 pub mod Commits
 pub mod Between
 pub mod Turns
+pub mod Openings

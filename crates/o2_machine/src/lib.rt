@@ -4,6 +4,7 @@
 mod close;
 mod machine;
 mod one_step;
+mod opening;
 mod space;
 
 pub use machine::Machine;
