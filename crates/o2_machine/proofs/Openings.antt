@@ -17,9 +17,9 @@ use Rattle.o2_image.specs.Images.{Target, image, image_in, segment_image}
 use Rattle.o2_image.specs.Thin.{gate_targets, is_thin, is_thin_head, are_thin_segments}
 use Rattle.o2_world.specs.declared.types.State.TheVariants.{Live}
 use Rattle.o2_world.specs.Map.{Map, get}
-use Rattle.o2_world.specs.World.{World, Process, Held}
+use Rattle.o2_world.specs.World.{World, Setting, Process, Held}
 use Rattle.o2_world.specs.Views.{hold_of, holds_in, segment_bytes, bytes_in as bytes_of}
-use Rattle.o2_world.specs.Opening.{Program, opening, environment, held_by_load, start_cpu, static_size, stack_segment, ProgramSegment, segment_bytes_at, program_segment, data_segment, opening_held, opening_names}
+use Rattle.o2_world.specs.Opening.{Program, opening, environment, held_by_load, start_cpu, static_size, stack_segment, ProgramSegment, segment_bytes_at, program_segment, data_segment, opening_held, opening_names, start_lines, selectors_in}
 use Rattle.o2_machine.specs.declared.space.Proc.{Proc}
 use Rattle.o2_world.proofs.Keeps.{some_is}
 use Rattle.o2_sched.specs.Schedule.{Schedule, opening_dispatch}
@@ -222,3 +222,15 @@ module _ (m : Parts) (a b : Segment) (thin : IsThinOf m a b) where
     dispatch = sym (ap (λ (z : Schedule). z.dispatch) sched);
     quantum = sym (ap (λ (z : Schedule). z.quantum) sched);
   }
+
+  pub lines_are : (budget : ℕ) (input : List ℕ) → start_lines 1 m.names.own (15 ∷ 23 ∷ 31 ∷ []) ≡ (opening (program_of m) budget input).lines
+  unfolding opening
+  lines_are budget input = sym (ap (λ (ss : List ProgramSegment). start_lines 1 m.names.own (selectors_in (opening_held 0 ss))) segments_are)
+
+pub same_stands : (old new : Machine) (s : Setting) (w : World) → new.space ≡ old.space → new.sched ≡ old.sched → StandsFor old s w → StandsFor new s w
+same_stands old new s w space sched stands = record {
+  space = subst (λ (z : Space). StandsIn z w.processes w.names) (sym space) stands.space;
+  flags = stands.flags ∙ ap (λ (z : Schedule). z.flags) (sym sched);
+  dispatch = stands.dispatch ∙ ap (λ (z : Schedule). z.dispatch) (sym sched);
+  quantum = stands.quantum ∙ ap (λ (z : Schedule). z.quantum) (sym sched);
+}

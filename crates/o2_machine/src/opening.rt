@@ -5,6 +5,10 @@ ghost use Rattle.o2_ne_segs.specs.SegmentTable.{nth_segment};
 ghost use Rattle.o2_image.specs.ImageList.{Exists, Belongs};
 ghost use Rattle.o2_image.specs.Images.{segment_image};
 ghost use Rattle.o2_image.specs.Thin.{is_thin, gate_targets};
+ghost use Rattle.o2_outer.specs.Texts.{Rose};
+ghost use Rattle.o2_outer.specs.Answers.{Takes, OnFailed};
+ghost use Rattle.o2_world.specs.World.{World, Setting};
+ghost use Rattle.o2_world.specs.Text.{lines_text};
 ghost use Rattle.o2_world.specs.Opening.{opening, environment};
 ghost use Rattle.o2_machine.specs.Programs.{rights_of, program_of, exe_setting};
 ghost use Rattle.o2_machine.specs.Segments.{Adds, AddsSegment, IsOpened, room_of, thin_cpu};
@@ -18,7 +22,8 @@ use o2_image::{Module, Resolved};
 use o2_isa::Cpu;
 use o2_ne::Head;
 use o2_ne_segs::Kind;
-use o2_report::LineBuffer;
+use o2_outer::{Put, Sink};
+use o2_report::{LineBuffer, put_start};
 use o2_sched::Sched;
 use o2_world::State;
 use std::alloc::Global;
@@ -153,7 +158,8 @@ fn first_cpu(head: &Head, size: u32) -> Cpu
 /// The segments of a thin program, and its environment.
 fn first_plain(alloc: Global, program: &Module) -> Result<Plain, NoMemory>
     requires thin { is_thin program.now ≡ true }
-    ensures { IfOk result (IsOpened program.now) }
+    ensures opened { IfOk result (IsOpened program.now) }
+    ensures short { IfOk result (λ p. length program.now.names.own ≤ 255) }
 {
     let name = program.name().as_slice();
     if name.len() > 255 {
@@ -171,7 +177,8 @@ impl Machine {
     /// The machine of a thin program before its first step, with a budget of steps.
     pub fn open(alloc: Global, program: &Module, budget: u32) -> Result<Machine, NoMemory>
         requires thin { is_thin program.now ≡ true }
-        ensures { IfOk result (λ m. (input : List ℕ) → StandsFor m exe_setting (opening (program_of program.now) budget input)) }
+        ensures stands { IfOk result (λ m. (input : List ℕ) → StandsFor m exe_setting (opening (program_of program.now) budget input)) }
+        ensures short { IfOk result (λ m. length program.now.names.own ≤ 255) }
     {
         let Some(data) = program.segment(2) else {
             unreachable!()
@@ -189,5 +196,23 @@ impl Machine {
             sched,
             line,
         })
+    }
+
+    /// Puts the lines of the start.
+    pub fn put_opening<R: Sink>(&mut self, program: &Module, report: &mut R) -> Put
+        requires thin { is_thin program.now ≡ true }
+        requires short { length program.now.names.own ≤ 255 }
+        ensures report { (budget : ℕ) (input : List ℕ) → Takes (R.taken report.old) (R.taken report.new) (lines_text (opening (program_of program.now) budget input).lines) result }
+        ensures stands { (s : Setting) (w : World) → StandsFor self.old s w → StandsFor self.new s w }
+        ensures count { R.faults report.old ≤ R.faults report.new }
+        ensures cause { OnFailed result (Rose (R.faults report.old) (R.faults report.new)) }
+    {
+        put_start(
+            &mut self.line,
+            1,
+            program.name().as_slice(),
+            &[15, 23, 31],
+            report,
+        )
     }
 }
