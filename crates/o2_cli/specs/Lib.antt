@@ -1,2 +1,4 @@
 pub mod Words
 pub mod StatusTexts
+pub mod Loads
+pub mod Top

@@ -2,6 +2,7 @@
 ghost use Rattle.std.specs.Prelude.{◌≡◌, ◌≤◌, true, length, IfOk};
 ghost use Rattle.o2_ne.specs.Steps.{Gives};
 ghost use Rattle.o2_image.specs.Thin.{is_thin, thin_of};
+ghost use Rattle.o2_cli.specs.Loads.{refused_as, IsNoOrdinal};
 
 use o2_base::{Bytes, Fail, ModuleFault, Which};
 use o2_image::Module;
