@@ -5,3 +5,4 @@ pub mod Processes
 pub mod Ordinals
 pub mod Script
 pub mod Setting
+pub mod Limits

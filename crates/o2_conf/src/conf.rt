@@ -1,13 +1,14 @@
 // The setting that a machine file gives.
-ghost use Rattle.std.specs.Prelude.{◌≡◌};
+ghost use Rattle.std.specs.Prelude.{◌≡◌, length, IfOk};
 ghost use Rattle.toml.specs.View.{table_view};
 ghost use Rattle.o2_conf.specs.Steps.{Gives};
 ghost use Rattle.o2_conf.specs.Values.{document_of};
-ghost use Rattle.o2_conf.specs.Setting.{are_short, modules_at, setting};
+ghost use Rattle.o2_conf.specs.Limits.{IsFrom, NumbersLimits, IsWithinLimits};
+ghost use Rattle.o2_conf.specs.Setting.{are_short, modules_at, numbers_at, setting};
 
 use crate::arrays::texts;
 use crate::lists::{Ordinals, Processes, Script, Texts};
-use crate::numbers::read_numbers;
+use crate::numbers::{Numbers, read_numbers};
 use crate::ordinals::ordinals;
 use crate::process::processes;
 use crate::script::script;
@@ -41,6 +42,17 @@ pub struct Conf {
     pub script: Script,
 }
 
+/// The integers at the top of a machine file.
+fn integers(table: &Table) -> Result<Numbers, Fail<MachineFault>>
+    ensures exact { Gives (λ n. n) result (numbers_at (table_view table.now)) }
+    ensures within { IfOk result NumbersLimits }
+{
+    match read_numbers(table) {
+        Ok(numbers) => Ok(numbers),
+        Err(fault) => Err(Fail::Bad(fault)),
+    }
+}
+
 /// Whether each name has 1 to 255 bytes.
 fn all_short(names: &[Bytes]) -> bool
     ensures { result ≡ are_short names.now }
@@ -51,7 +63,8 @@ fn all_short(names: &[Bytes]) -> bool
 /// The names of the module files.
 #[tactic(auto, unfolding(crate::specs::Setting::modules_at))]
 fn modules(alloc: Global, table: &Table) -> Result<Texts, Fail<MachineFault>>
-    ensures { Gives (λ t. t) result (modules_at (table_view table.now)) }
+    ensures exact { Gives (λ t. t) result (modules_at (table_view table.now)) }
+    ensures count { IfOk result (λ t. IsFrom 1 64 (length t)) }
 {
     let Some(found) = value(table, Key::Modules) else {
         return Err(Fail::Bad(MachineFault::Missing(Key::Modules)));
@@ -85,13 +98,14 @@ impl Conf {
     /// What a machine file says, or the first fault in it.
     #[tactic(auto, unfolding(crate::specs::Setting::setting))]
     pub fn read(alloc: Global, file: &[u8]) -> Result<Conf, Fail<MachineFault>>
-        ensures { Gives (λ c. c) result (setting file.now) }
+        ensures exact { Gives (λ c. c) result (setting file.now) }
+        ensures within { IfOk result IsWithinLimits }
     {
         if file.len() > 1048576 {
             return Err(Fail::Bad(MachineFault::Limit(Key::File)));
         }
         let table = document(alloc, file)?;
-        let numbers = read_numbers(&table).map_err(Fail::Bad)?;
+        let numbers = integers(&table)?;
         let modules = modules(alloc, &table)?;
         let process = Processes::new(processes(alloc, &table)?);
         let ordinals = Ordinals::new(ordinals(alloc, &table)?);

@@ -4,6 +4,7 @@
 mod arrays;
 mod conf;
 mod keys;
+mod laws;
 mod lists;
 mod numbers;
 mod ordinals;
@@ -12,7 +13,11 @@ mod script;
 mod table;
 
 pub use conf::Conf;
+pub use laws::services_rise;
 pub use lists::{Ordinals, Processes, Script, Texts};
 pub use o2_base::{Key, MachineFault};
 pub use process::Process;
 pub use script::Word;
+
+#[cfg(test)]
+mod tests;

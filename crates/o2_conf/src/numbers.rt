@@ -1,7 +1,8 @@
 // The integers of a machine file.
-ghost use Rattle.std.specs.Prelude.{◌≡◌, ◌≤◌, IfOk};
+ghost use Rattle.std.specs.Prelude.{◌≡◌, ◌%◌, IfOk};
 ghost use Rattle.toml.specs.View.{table_view};
 ghost use Rattle.o2_conf.specs.Values.{value_at};
+ghost use Rattle.o2_conf.specs.Limits.{IsFrom, NumbersLimits};
 ghost use Rattle.o2_conf.specs.Setting.{avail_or, memory_at, numbers_at};
 
 use crate::table::{integer, integer_in, value};
@@ -21,7 +22,8 @@ pub struct Numbers {
 
 #[tactic(auto, unfolding(crate::specs::Setting::memory_at))]
 fn memory(table: &Table) -> Result<u32, MachineFault>
-    ensures { result ≡ memory_at (table_view table.now) }
+    ensures exact { result ≡ memory_at (table_view table.now) }
+    ensures within { IfOk result (λ n. IsFrom 4096 16777216 n × (n % 16 ≡ 0)) }
 {
     let size = integer_in(table, Key::Memory, 4096, 16777216)?;
     if size % 16 != 0 {
@@ -42,7 +44,8 @@ fn avail(table: &Table) -> Result<u32, MachineFault>
 /// The integers in the order in which they are read.
 #[tactic(auto, unfolding(crate::specs::Setting::numbers_at))]
 pub fn read_numbers(table: &Table) -> Result<Numbers, MachineFault>
-    ensures { result ≡ numbers_at (table_view table.now) }
+    ensures exact { result ≡ numbers_at (table_view table.now) }
+    ensures within { IfOk result NumbersLimits }
 {
     let memory = memory(table)?;
     let swap = integer_in(table, Key::Swap, 0, 65536)?;

@@ -1,8 +1,9 @@
 // The processes of a machine file.
-ghost use Rattle.std.specs.Prelude.{◌≡◌, ◌+◌, ◌≤◌, ◌<◌, ◌^◌, [], nat_le, length, IfOk};
+ghost use Rattle.std.specs.Prelude.{◌≡◌, ◌+◌, ◌≤◌, ◌<◌, ◌^◌, [], nat_le, length, All, IfOk};
 ghost use Rattle.toml.specs.View.{items_view, table_view, view};
 ghost use Rattle.o2_conf.specs.Steps.{Gives, each};
 ghost use Rattle.o2_conf.specs.Values.{value_at};
+ghost use Rattle.o2_conf.specs.Limits.{IsFrom, HasEnvironment};
 ghost use Rattle.o2_conf.specs.Processes.{strings_size, environment_size, module_at, arguments_or, environment_or, process_at, process_step, processes_at, table_step};
 
 use crate::arrays::texts;
@@ -94,7 +95,8 @@ fn environment_fits(name: &Bytes, arguments: &Bytes, strings: &[Bytes]) -> bool
 /// A process by its table.
 #[tactic(auto, unfolding(crate::specs::Processes::process_at))]
 fn read_process(alloc: Global, table: &Table) -> Result<Process, Fail<MachineFault>>
-    ensures { Gives (λ p. p) result (process_at (table_view table.now)) }
+    ensures exact { Gives (λ p. p) result (process_at (table_view table.now)) }
+    ensures fits { IfOk result HasEnvironment }
 {
     let module = module_name(alloc, table)?;
     let arguments = arguments(alloc, table)?;
@@ -115,7 +117,9 @@ fn process_item(
     value: &Value,
     found: &mut Vec<Process>,
 ) -> Result<(), Fail<MachineFault>>
-    ensures { Gives (λ _. found.new.items) result (process_step (view value.now) found.old.items) }
+    ensures exact { Gives (λ _. found.new.items) result (process_step (view value.now) found.old.items) }
+    ensures count { IfOk result (λ _. length found.new.items ≡ length found.old.items + 1) }
+    ensures fits { All HasEnvironment found.old.items → IfOk result (λ _. All HasEnvironment found.new.items) }
 {
     let Some(table) = value.as_table() else {
         return Err(Fail::Bad(MachineFault::BadValue(Key::Process)));
@@ -126,7 +130,9 @@ fn process_item(
 
 /// The processes of an array.
 fn process_items(alloc: Global, values: &[Value]) -> Result<Vec<Process>, Fail<MachineFault>>
-    ensures { Gives (λ v. v.items) result (each process_step (items_view values.now) []) }
+    ensures exact { Gives (λ v. v.items) result (each process_step (items_view values.now) []) }
+    ensures count { IfOk result (λ v. length v.items ≡ length values.now) }
+    ensures fits { IfOk result (λ v. All HasEnvironment v.items) }
 {
     let mut found = Vec::new(alloc);
     for value in values {
@@ -138,7 +144,8 @@ fn process_items(alloc: Global, values: &[Value]) -> Result<Vec<Process>, Fail<M
 /// Counts a value, which must be a table.
 fn table_item(value: &Value, count: usize) -> Result<usize, MachineFault>
     requires { count + 1 < 2 ^ 64 }
-    ensures { result ≡ table_step (view value.now) count }
+    ensures exact { result ≡ table_step (view value.now) count }
+    ensures count { IfOk result (λ n. n ≡ count + 1) }
 {
     if value.as_table().is_none() {
         return Err(MachineFault::BadValue(Key::Process));
@@ -148,7 +155,8 @@ fn table_item(value: &Value, count: usize) -> Result<usize, MachineFault>
 
 /// How many values an array has, each of them a table.
 fn count_tables(values: &[Value]) -> Result<usize, MachineFault>
-    ensures { result ≡ each table_step (items_view values.now) 0 }
+    ensures exact { result ≡ each table_step (items_view values.now) 0 }
+    ensures count { IfOk result (λ n. n ≡ length values.now) }
 {
     let mut count = 0usize;
     for value in values {
@@ -160,7 +168,9 @@ fn count_tables(values: &[Value]) -> Result<usize, MachineFault>
 /// The processes of a machine file.
 #[tactic(auto, unfolding(crate::specs::Processes::processes_at))]
 pub fn processes(alloc: Global, table: &Table) -> Result<Vec<Process>, Fail<MachineFault>>
-    ensures { Gives (λ v. v.items) result (processes_at (table_view table.now)) }
+    ensures exact { Gives (λ v. v.items) result (processes_at (table_view table.now)) }
+    ensures count { IfOk result (λ v. IsFrom 1 64 (length v.items)) }
+    ensures fits { IfOk result (λ v. All HasEnvironment v.items) }
 {
     let Some(found) = value(table, Key::Process) else {
         return Err(Fail::Bad(MachineFault::Missing(Key::Process)));

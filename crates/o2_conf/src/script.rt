@@ -1,5 +1,5 @@
 // The script: slices in their order.
-ghost use Rattle.std.specs.Prelude.{◌≡◌, ◌≤◌, [], IfOk, option_map};
+ghost use Rattle.std.specs.Prelude.{◌≡◌, ◌≤◌, [], length, IfOk, option_map};
 ghost use Rattle.std.specs.Char.{is_ascii_digit};
 ghost use Rattle.std.specs.List.{list_all};
 ghost use Rattle.toml.specs.View.{items_view, table_view, view};
@@ -93,7 +93,8 @@ fn word_items(alloc: Global, values: &[Value]) -> Result<Vec<Word>, Fail<Machine
 
 /// The script of a machine file.
 pub fn script(alloc: Global, table: &Table) -> Result<Vec<Word>, Fail<MachineFault>>
-    ensures { Gives (λ v. v.items) result (script_or (value_at (table_view table.now) Key.Script)) }
+    ensures exact { Gives (λ v. v.items) result (script_or (value_at (table_view table.now) Key.Script)) }
+    ensures count { IfOk result (λ v. length v.items ≤ 100000) }
 {
     let Some(found) = value(table, Key::Script) else {
         return Ok(Vec::new(alloc));
