@@ -79,7 +79,3 @@ pub record PutsBytes (old new : List Segment) (name : ℕ) (bytes : List ℕ) : 
   pub others : (n : ℕ) → n ≢ name → slice_get new n ≡ slice_get old n
   pub same_shown : (n : ℕ) → is_shown (slice_get new n) ≡ is_shown (slice_get old n)
   pub same_count : length new ≡ length old
-
--- the bytes with others in place of those at a place
-abbrev pub spliced : List ℕ → ℕ → List ℕ → List ℕ
-spliced bs at new = take at bs ++ (new ++ drop (at + length new) bs)

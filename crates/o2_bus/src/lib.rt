@@ -6,9 +6,9 @@ mod bus;
 mod outcome;
 mod plain;
 mod plain_bus;
+mod plain_edit;
 mod plain_end;
 mod plain_parts;
-mod plain_edit;
 mod registers;
 mod segment;
 

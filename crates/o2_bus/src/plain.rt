@@ -38,7 +38,7 @@ impl Plain {
         self.segments.len()
     }
 
-    /// The bytes of a name. None where it was never added.
+    /// The bytes of a name: none where it was never added.
     #[tactic(auto, unfolding(crate::specs::Plain::bytes_in))]
     pub fn bytes(&self, name: u32) -> &[u8]
         ensures value { result.now ≡ bytes_in self.now name }

@@ -1,6 +1,6 @@
 // What is added to a plain memory of segments, and changed in it.
 ghost use Rattle.std.specs.Prelude.{◌≡◌, ◌≢◌, ◌==◌, ◌&&◌, ◌<◌, ◌≤◌, ◌+◌, ◌++◌, ℕ, Bool, true, false, length, take, drop, slice_get, IfOk, OnOk, OnErr, IsOk, is_ok, if◌then◌else◌, Some, None, not};
-ghost use Rattle.o2_bus.specs.Plain.{hold_of, held_in, bytes_in, shown_in, count_in, granted, in_map, segment_bytes, is_shown, spliced};
+ghost use Rattle.o2_bus.specs.Plain.{hold_of, held_in, bytes_in, shown_in, count_in, granted, in_map, segment_bytes, is_shown};
 
 use crate::plain::Map;
 use crate::segment::Segment;
@@ -70,36 +70,6 @@ fn show_segment(segments: &mut Vec<Segment>, name: usize, present: bool)
 {
     let segment = &mut segments[name];
     segment.hidden = !present;
-}
-
-/// Bytes over those at a place.
-fn splice(bytes: &mut [u8], at: usize, new: &[u8])
-    requires { at + length new.now ≤ length bytes.old }
-    ensures value { bytes.new ≡ spliced bytes.old at new.now }
-    ensures len { length bytes.new ≡ length bytes.old }
-{
-    bytes[at..at + new.len()].copy_from_slice(new);
-}
-
-fn splice_segment(segments: &mut Vec<Segment>, name: usize, at: usize, new: &[u8])
-    requires named { name < length segments.old.items }
-    requires room { at + length new.now ≤ length (segment_bytes (slice_get segments.old.items name)) }
-    ensures at { segment_bytes (slice_get segments.new.items name) ≡ spliced (segment_bytes (slice_get segments.old.items name)) at new.now }
-    ensures same { is_shown (slice_get segments.new.items name) ≡ is_shown (slice_get segments.old.items name) }
-    ensures others { (n : ℕ) → n ≢ name → slice_get segments.new.items n ≡ slice_get segments.old.items n }
-    ensures count { length segments.new.items ≡ length segments.old.items }
-{
-    let segment = &mut segments[name];
-    splice(&mut segment.bytes, at, new);
-}
-
-fn forget(maps: &mut Vec<Map>, pid: usize)
-    requires { pid < length maps.old.items }
-    ensures at { (i : ℕ) → in_map (slice_get maps.new.items pid) i ≡ None }
-    ensures others { (p : ℕ) → p ≢ pid → slice_get maps.new.items p ≡ slice_get maps.old.items p }
-{
-    let map = &mut maps[pid];
-    map.grants.clear();
 }
 
 impl Plain {
@@ -173,31 +143,5 @@ impl Plain {
         ensures count { count_in self.new ≡ count_in self.old }
     {
         show_segment(&mut self.segments, name as usize, present);
-    }
-
-    /// Bytes into a name, over those at a place.
-    #[tactic(auto, unfolding(crate::specs::Plain::held_in, crate::specs::Plain::bytes_in, crate::specs::Plain::shown_in, crate::specs::Plain::count_in))]
-    pub fn put(&mut self, name: u32, at: u32, bytes: &[u8])
-        requires named { name < count_in self.old }
-        requires room { at + length bytes.now ≤ length (bytes_in self.old name) }
-        ensures bytes { (n : ℕ) → bytes_in self.new n ≡ (if n == name then spliced (bytes_in self.old name) at bytes.now else bytes_in self.old n) }
-        ensures shown { (n : ℕ) → shown_in self.new n ≡ shown_in self.old n }
-        ensures held { (p i : ℕ) → held_in self.new p i ≡ held_in self.old p i }
-        ensures count { count_in self.new ≡ count_in self.old }
-    {
-        splice_segment(&mut self.segments, name as usize, at as usize, bytes);
-    }
-
-    /// A process holds nothing more.
-    #[tactic(auto, unfolding(crate::specs::Plain::held_in, crate::specs::Plain::bytes_in, crate::specs::Plain::shown_in, crate::specs::Plain::count_in))]
-    pub fn clear(&mut self, pid: u16)
-        ensures held { (p i : ℕ) → held_in self.new p i ≡ (if p == pid then None else held_in self.old p i) }
-        ensures bytes { (n : ℕ) → bytes_in self.new n ≡ bytes_in self.old n }
-        ensures shown { (n : ℕ) → shown_in self.new n ≡ shown_in self.old n }
-        ensures count { count_in self.new ≡ count_in self.old }
-    {
-        if (pid as usize) < self.maps.len() {
-            forget(&mut self.maps, pid as usize);
-        }
     }
 }

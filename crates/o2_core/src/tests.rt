@@ -33,7 +33,12 @@ fn memory(alloc: Global, code: &[u8], content: &[u8]) -> Result<Plain, NoMemory>
     let mut plain = Plain::new(alloc)?;
     for index in 1..9u16 {
         let is_code = index % 4 == 1 || index % 4 == 2;
-        one(&mut plain, alloc, index, if is_code { code } else { content })?;
+        one(
+            &mut plain,
+            alloc,
+            index,
+            if is_code { code } else { content },
+        )?;
     }
     Ok(plain)
 }

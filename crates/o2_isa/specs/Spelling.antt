@@ -12,6 +12,7 @@ use Rattle.o2_isa.specs.declared.instr.Sreg.TheVariants.{Es, Cs, Ss, Ds}
 use Rattle.o2_isa.specs.Table.{table, table_0f, groups}
 use Rattle.o2_isa.specs.Operands.{Plan, reg_of, row_takes, tail_len, instr_of}
 
+-- 26h, 2Eh, 36h and 3Eh are the segment prefixes of ES, CS, SS and DS, F0h is LOCK, F2h REPNE, and F3h REP or REPE
 abbrev pub is_prefix : ℕ → Bool
 is_prefix b = b == 38 || b == 46 || b == 54 || b == 62 || b == 240 || b == 242 || b == 243
 
@@ -46,10 +47,12 @@ plan_after (Bare row) [] = Some (record { row = row; modrm = 0 })
 plan_after e (m ∷ []) = with_modrm (row_of e m) m
 plan_after _ _ = None
 
+-- the head behind 0Fh
 abbrev pub plan_two : List ℕ → Option Plan
 plan_two [] = None
 plan_two (b ∷ bs) = plan_after (slice_index_or table_0f b Unused) bs
 
+-- the head of an instruction, where the bytes are a whole one
 abbrev pub plan_of : List ℕ → Option Plan
 plan_of [] = None
 plan_of (b ∷ bs) = if b == 15 then plan_two bs else plan_after (slice_index_or table b Unused) bs

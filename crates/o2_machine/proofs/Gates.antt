@@ -1,19 +1,13 @@
 -- A step that calls a service.
-use Rattle.std.proofs.Common.{◌≡◌, ℕ, List, Option, ap, sym, ◌∙◌, refl, subst}
-use Rattle.std.specs.Prelude.{Result, Ok, Err}
+use Rattle.std.proofs.Common.{◌≡◌, ℕ, List, Option, ap, ◌∙◌, subst}
 use Rattle.o2_isa.specs.declared.cpu.Cpu.{Cpu}
-use Rattle.o2_isa.specs.declared.cpu.Stop.{Stop}
-use Rattle.o2_isa.specs.declared.cpu.Stop.TheVariants as stop
 use Rattle.o2_isa.specs.Steps.{State as Machine, state}
-use Rattle.o2_isa.specs.Step.{stepped}
 use Rattle.o2_bus.specs.declared.plain.Plain.{Plain}
 use Rattle.o2_bus.specs.Plain.{bytes_in, plain_view}
 use Rattle.o2_world.specs.declared.types.State.{State}
-use Rattle.o2_world.specs.Calls.{Before, Effect, trapped, serviced}
-use Rattle.o2_world.specs.Effect.{effect, single_stepped}
+use Rattle.o2_world.specs.Calls.{Before, serviced}
 use Rattle.o2_gate.specs.Befores.{before_call}
 use Rattle.o2_gate.specs.Called.{IsMade, IsInPart, IsTrap}
-use Rattle.o2_machine.proofs.Leaving.{effect_by, in_part, ended_stays}
 
 -- what a call starts from depends on registers and view alone
 pub same_before : (old mid : Plain) (pid : ℕ) (cpu_old cpu_mid : Cpu) (input : List ℕ) → state cpu_mid (plain_view mid pid cpu_mid) ≡ state cpu_old (plain_view old pid cpu_old)

@@ -1,22 +1,18 @@
 -- What a step leaves, from what its instruction or its call did.
-use Rattle.std.proofs.Common.{◌≡◌, ℕ, List, [], ◌∷◌, ◌++◌, Option, Bool, true, false, ◌&&◌, ap, sym, ◌∙◌, refl, subst}
-use Rattle.std.specs.Prelude.{Result, Ok, Err, if◌then◌else◌}
+use Rattle.std.proofs.Common.{◌≡◌, ℕ, List, [], ◌∷◌, ◌++◌, Option, Bool, true, false, ◌&&◌, ap, sym, refl, subst}
+use Rattle.std.specs.Prelude.{Result, if◌then◌else◌}
 use Rattle.std.proofs.lemmas.Grind.{flat_map-append}
 use Rattle.o2_outer.specs.declared.sink.Put.TheVariants as put
 use Rattle.o2_outer.specs.Texts.{Gains, GainsSome, IsPrefix}
-use Rattle.o2_outer.specs.Answers.{Takes}
-use Rattle.o2_outer.proofs.TextLemmas.{puts_more, puts_front, gains_none, puts_none}
+use Rattle.o2_outer.proofs.TextLemmas.{puts_more, puts_front}
 use Rattle.o2_isa.specs.declared.cpu.Cpu.{Cpu}
 use Rattle.o2_isa.specs.declared.cpu.Stop.{Stop}
-use Rattle.o2_isa.specs.declared.cpu.Stop.TheVariants as stop
 use Rattle.o2_isa.specs.Steps.{State as Machine, state}
 use Rattle.o2_isa.specs.Step.{stepped}
 use Rattle.o2_bus.specs.declared.plain.Plain.{Plain}
-use Rattle.o2_bus.specs.Plain.{bytes_in, plain_view}
-use Rattle.o2_world.specs.declared.types.State.{State}
-use Rattle.o2_world.specs.declared.types.State.TheVariants.{Live, Exited, Trapped}
+use Rattle.o2_world.specs.declared.types.State.TheVariants.{Live, Trapped}
 use Rattle.o2_world.specs.World.{Line, Traps, is_live}
-use Rattle.o2_world.specs.Calls.{Before, Effect, trapped, serviced}
+use Rattle.o2_world.specs.Calls.{Before, Effect}
 use Rattle.o2_world.specs.Effect.{effect, answered, single_stepped, has_trap_flag}
 use Rattle.o2_world.specs.Text.{lines_text, line_text}
 use Rattle.o2_gate.specs.Called.{IsMade, IsInPart}
@@ -63,6 +59,7 @@ module _ (b : Before) (e : Effect) (cpu : Cpu) (old new : Plain) (c d r s q : Op
   late_with_trap flag made took =
       subst (λ (x : Effect). IsMadeLate x (Trapped 1) cpu new c d r q) (sym (with_flag b e flag made.state)) (record {
         state = refl;
+        late = refl;
         cpu = made.cpu;
         bytes = made.bytes;
         to_console = made.to_console;

@@ -1,2 +1,6 @@
 pub mod Leaving
 pub mod Gates
+pub mod Spaces
+pub mod Commits
+pub mod Between
+pub mod Turns

@@ -1,1 +1,6 @@
 pub mod Ran
+pub mod Stands
+pub mod Commit
+pub mod Acts
+pub mod Closes
+pub mod StandsFor

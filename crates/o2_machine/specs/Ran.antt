@@ -1,10 +1,11 @@
 -- What one step of a process did to its registers, the bytes and both sinks.
-use Rattle.std.specs.Prelude.{◌≡◌, ℕ, List, Option}
+use Rattle.std.specs.Prelude.{◌≡◌, ℕ, false, List, Option}
 use Rattle.o2_outer.specs.Texts.{Gains, GainsSome, IsPrefix}
 use Rattle.o2_isa.specs.declared.cpu.Cpu.{Cpu}
 use Rattle.o2_bus.specs.declared.plain.Plain.{Plain}
 use Rattle.o2_bus.specs.Plain.{bytes_in}
 use Rattle.o2_world.specs.declared.types.State.{State}
+use Rattle.o2_world.specs.World.{is_live}
 use Rattle.o2_world.specs.Calls.{Before, Effect}
 use Rattle.o2_world.specs.Text.{lines_text}
 use Rattle.o2_gate.specs.Called.{IsMade, IsInPart}
@@ -14,6 +15,7 @@ use Rattle.o2_machine.specs.declared.one_step.Ran.TheVariants.{Done, Fault, Late
 -- all is made but the report, which has a front of the lines
 pub record IsMadeLate (e : Effect) (ends : State) (registers : Cpu) (after : Plain) (console_old console_new report_old report_new : Option (List ℕ)) : Type 0 where
   pub state : e.state ≡ ends
+  pub late : is_live ends ≡ false
   pub cpu : registers ≡ e.cpu
   pub bytes : (n : ℕ) → bytes_in after n ≡ e.bytes n
   pub to_console : Gains console_old console_new e.piece

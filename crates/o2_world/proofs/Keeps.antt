@@ -46,7 +46,7 @@ holds_found : (held : Map Held) (i : ℕ) (h : Held) → get held i ≡ Some h �
 unfolding holds_name
 holds_found held i h e = found_any (λ j. names_it h.name (get held j)) held i h e (ap (names_it h.name) e ∙ same_name h.name)
 
-held_found : (ps : List Process) (place i : ℕ) (h : Held) → held_in ps place i ≡ Some h → is_held ps h.name ≡ true
+pub held_found : (ps : List Process) (place i : ℕ) (h : Held) → held_in ps place i ≡ Some h → is_held ps h.name ≡ true
 held_found [] place i h e = absurd (cc)
 held_found (p ∷ ps) zero i h e = or_left _ _ (holds_found p.held i h e)
 held_found (p ∷ ps) (suc place) i h e = or_right _ _ (held_found ps place i h e)

@@ -2,4 +2,6 @@ pub mod MapLemmas
 pub mod Choice
 pub mod Flags
 pub mod Keeps
+pub mod Holding
+pub mod Inputs
 pub mod Budget

@@ -1,5 +1,4 @@
-use Rattle.std.proofs.Common.{◌≡◌, true, ap, sym, ◌∙◌, subst, ℕ, List, Option}
-use Rattle.o2_outer.specs.Texts.{GainsSome, IsPrefix}
+use Rattle.std.proofs.Common.{◌≡◌, true, ap, sym, ◌∙◌}
 use Rattle.o2_isa.specs.declared.cpu.Cpu.{Cpu}
 use Rattle.o2_world.specs.Effect.{has_trap_flag}
 use Rattle.o2_machine.proofs.Leaving.{late_with_trap}

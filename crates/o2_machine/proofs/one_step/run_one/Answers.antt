@@ -1,4 +1,4 @@
-use Rattle.std.proofs.Common.{◌≡◌, ℕ, List, Option, ap, sym, ◌∙◌, refl, subst}
+use Rattle.std.proofs.Common.{ℕ, List, Option, ap, sym, ◌∙◌, refl, subst}
 use Rattle.std.specs.Prelude.{Result, Ok, Err}
 use Rattle.o2_outer.proofs.TextLemmas.{gains_none}
 use Rattle.o2_isa.specs.declared.cpu.Stop.TheVariants as stop

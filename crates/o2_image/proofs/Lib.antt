@@ -1,0 +1,12 @@
+pub mod MarkSteps
+pub mod ChainSteps
+pub mod CheckedChains
+pub mod ChainEnds
+pub mod Getting
+pub mod PlaceSteps
+pub mod ThinSteps
+pub mod ServiceSteps
+pub mod ForeignSteps
+pub mod FillSteps
+pub mod TotalSteps
+pub mod Shapes

@@ -1,0 +1,76 @@
+-- Lists of lists of the same lengths.
+use Rattle.std.proofs.Common.{◌≡◌, ◌≢◌, ℕ, suc, ◌+◌, ◌*◌, ◌<◌, ◌≤◌, ◌==◌, ◌&&◌, List, [], ◌∷◌, Bool, true, false, drop, length, get_or, map, refl, sym, ap, ◌∙◌, arith, add-one, eq-eqb}
+use Rattle.std.proofs.Math.Seq.{drop-cons}
+use Rattle.std.proofs.lemmas.Bool.{eqb-true, ne_eqb}
+use Rattle.std.proofs.lemmas.List.{drop_all}
+use Rattle.o2_ne.proofs.Tabulated.{length-tabulate}
+use Rattle.o2_ne_segs.specs.declared.segment.Segment.{Segment}
+use Rattle.o2_ne_segs.specs.Records.{end_of, reloc_at, reloc_count, relocs_in}
+use Rattle.o2_image.specs.ImageList.{same_shape}
+
+both : (a b : Bool) → a && b ≡ true → (a ≡ true) × (b ≡ true)
+both true b h = (refl, h)
+both false b h = absurd cc
+
+module _ {A B : Type 0} where
+  -- they have the same lengths
+  pub shape_lengths : (xss : List (List A)) (yss : List (List B)) → same_shape xss yss ≡ true → map length xss ≡ map length yss
+  shape_lengths [] [] h = refl
+  shape_lengths [] (ys ∷ yss) h = absurd cc
+  shape_lengths (xs ∷ xss) [] h = absurd cc
+  shape_lengths (xs ∷ xss) (ys ∷ yss) h =
+      let parts = both (length xs == length ys) (same_shape xss yss) h in
+      let first : length xs ≡ length ys = eqb-true _ _ parts.0 in
+      ap (λ (n : ℕ). n ∷ map length xss) first ∙ ap (λ (ns : List ℕ). length ys ∷ ns) (shape_lengths xss yss parts.1)
+
+  -- and lists of the same lengths have the same shape
+  pub lengths_shape : (xss : List (List A)) (yss : List (List B)) → map length xss ≡ map length yss → same_shape xss yss ≡ true
+  lengths_shape [] [] h = refl
+  lengths_shape [] (ys ∷ yss) h = absurd cc
+  lengths_shape (xs ∷ xss) [] h = absurd cc
+  lengths_shape (xs ∷ xss) (ys ∷ yss) h =
+      let first : length xs ≡ length ys = cc in
+      let rest : map length xss ≡ map length yss = cc in
+      rw (eq-eqb _ _ first) (lengths_shape xss yss rest)
+
+falls : (b c : Bool) → c ≡ false → b && c ≡ false
+falls true c h = h
+falls false c h = refl
+
+module _ {P Q A B : Type 0} where
+  pub other_lengths : (f : P → List A) (g : Q → List B) (xs : List P) (ys : List Q) → length xs ≢ length ys → same_shape (map f xs) (map g ys) ≡ false
+  other_lengths f g [] [] ne = absurd (ne refl)
+  other_lengths f g [] (y ∷ ys) ne = refl
+  other_lengths f g (x ∷ xs) [] ne = refl
+  other_lengths f g (x ∷ xs) (y ∷ ys) ne =
+      falls (length (f x) == length (g y)) (same_shape (map f xs) (map g ys)) (other_lengths f g xs ys (λ e. ne (omega arith)))
+
+  next : (f : P → List A) (g : Q → List B) (xs : List P) (ys : List Q) (i : ℕ) (x : P) (y : Q) → i < length xs → i < length ys
+      → same_shape (map f (drop i xs)) (map g (drop i ys))
+      ≡ ((length (f (get_or xs i x)) == length (g (get_or ys i y))) && same_shape (map f (drop (i + 1) xs)) (map g (drop (i + 1) ys)))
+  next f g xs ys i x y in_xs in_ys = rw (drop-cons xs i x in_xs, drop-cons ys i y in_ys, add-one) refl
+
+  pub goes_on : (f : P → List A) (g : Q → List B) (xs : List P) (ys : List Q) (i : ℕ) (x : P) (y : Q) (total : Bool) → i < length xs → i < length ys
+      → length (f (get_or xs i x)) ≡ length (g (get_or ys i y))
+      → same_shape (map f (drop i xs)) (map g (drop i ys)) ≡ total → same_shape (map f (drop (i + 1) xs)) (map g (drop (i + 1) ys)) ≡ total
+  goes_on f g xs ys i x y total in_xs in_ys same h =
+      let one = next f g xs ys i x y in_xs in_ys in
+      let is : (length (f (get_or xs i x)) == length (g (get_or ys i y))) ≡ true = eq-eqb _ _ same in
+      let two = rw is at one in
+      sym two ∙ h
+
+  pub fails : (f : P → List A) (g : Q → List B) (xs : List P) (ys : List Q) (i : ℕ) (x : P) (y : Q) (total : Bool) → i < length xs → i < length ys
+      → length (f (get_or xs i x)) ≢ length (g (get_or ys i y))
+      → same_shape (map f (drop i xs)) (map g (drop i ys)) ≡ total → false ≡ total
+  fails f g xs ys i x y total in_xs in_ys other h =
+      let one = next f g xs ys i x y in_xs in_ys in
+      let is : (length (f (get_or xs i x)) == length (g (get_or ys i y))) ≡ false = ne_eqb _ _ other in
+      let two = rw is at one in
+      sym two ∙ h
+
+  pub is_done : (f : P → List A) (g : Q → List B) (xs : List P) (ys : List Q) (i : ℕ) (total : Bool) → length xs ≤ i → length ys ≤ i
+      → same_shape (map f (drop i xs)) (map g (drop i ys)) ≡ total → true ≡ total
+  is_done f g xs ys i total past_xs past_ys h = rw (drop_all i xs past_xs, drop_all i ys past_ys) at h
+
+pub relocs_length : (file : List ℕ) (s : Segment) → length (relocs_in file s) ≡ reloc_count file s
+relocs_length file s = length-tabulate (λ k. reloc_at file (end_of s + 2 + 8 * k)) 0 (reloc_count file s)

@@ -1,0 +1,13 @@
+pub mod Faults
+pub mod Parts
+pub mod References
+pub mod Targets
+pub mod Chains
+pub mod Records
+pub mod Whole
+pub mod Modules
+pub mod Getters
+pub mod Images
+pub mod ImageList
+pub mod Thin
+pub mod ChainViews

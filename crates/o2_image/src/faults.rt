@@ -1,0 +1,56 @@
+// Faults of the parts, as faults of a module.
+ghost use Rattle.std.specs.Prelude.{◌≡◌, ◌≤◌, [], ◌∷◌, length};
+ghost use Rattle.o2_ne.specs.Checks.{all_hold};
+ghost use Rattle.o2_image.specs.Faults.{SegFailsAs, in_file, of_ne, of_part};
+
+use o2_base::{Fail, ModuleFault, NeFault, Part, SegFault, Which};
+use o2_ne::{first_missing, lies_in};
+
+// A fault of the header or of a table, as one of the module.
+pub(crate) fn of_ne(fault: NeFault) -> ModuleFault
+    ensures { result ≡ of_ne fault }
+{
+    match fault {
+        NeFault::NotMz => ModuleFault::NotMz,
+        NeFault::NotNe => ModuleFault::NotNe,
+        NeFault::Truncated(at) => ModuleFault::Truncated(at),
+        NeFault::NotOs2 => ModuleFault::NotOs2,
+        NeFault::LinkErrors => ModuleFault::LinkErrors,
+        NeFault::BadTable(which) => ModuleFault::BadTable(which),
+        NeFault::OutOfProfile(which) => ModuleFault::OutOfProfile(which),
+    }
+}
+
+// What a segment has, as a refusal of the module names it.
+pub(crate) fn of_part(part: Part) -> Which
+    ensures { result ≡ of_part part }
+{
+    match part {
+        Part::Iterated => Which::Iterated,
+        Part::Conforming => Which::Conforming,
+        Part::Ring => Which::Ring,
+        Part::Wide => Which::Wide,
+    }
+}
+
+// The file has these bytes; else the first of them that it lacks.
+pub(crate) fn need(file: &[u8], at: u32, len: u32) -> Result<(), ModuleFault>
+    requires { length file.now ≤ 4194304 }
+    ensures { result ≡ all_hold (in_file file.now at len ∷ []) }
+{
+    if lies_in(file, at, len) {
+        return Ok(());
+    }
+    Err(ModuleFault::Truncated(first_missing(file, at)))
+}
+
+// A fault of a segment's reading, as one of the module, or want of memory.
+pub(crate) fn of_seg(fault: SegFault) -> Fail<ModuleFault>
+    ensures { SegFailsAs fault result }
+{
+    match fault {
+        SegFault::NoMemory => Fail::NoMemory,
+        SegFault::Truncated(at) => Fail::Bad(ModuleFault::Truncated(at)),
+        SegFault::OutOfProfile(part) => Fail::Bad(ModuleFault::OutOfProfile(of_part(part))),
+    }
+}

@@ -1,0 +1,19 @@
+//! Modules: segmented executables (NE) that pass every check, and the images of their segments.
+#![tactic(auto)]
+
+mod chain;
+mod faults;
+mod fill;
+mod images;
+mod module;
+mod records;
+mod references;
+mod targets;
+mod thin;
+
+pub use images::{Images, Resolved};
+pub use module::Module;
+pub use o2_base::ModuleFault;
+
+#[cfg(test)]
+mod tests;

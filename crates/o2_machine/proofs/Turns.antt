@@ -1,0 +1,193 @@
+-- What a turn does to the world that the machine stands for.
+use Rattle.std.proofs.Common.{◌≡◌, ℕ, ◌-◌, ◌⊎◌, Bool, true, false, not, List, [], ◌∷◌, ◌++◌, Option, Some, ap, sym, ◌∙◌, refl, inl, inr, ◌==◌, if◌then◌else◌, subst, slice_set}
+use Rattle.std.specs.Prelude.{codes}
+use Rattle.std.specs.List.{list_any}
+use Rattle.std.proofs.lemmas.Grind.{flat_map-append}
+use Rattle.o2_outer.specs.Texts.{Gains, GainsSome, IsPrefix, Continues}
+use Rattle.o2_outer.proofs.TextLemmas.{continues_by, continues_in_part, gains_some}
+use Rattle.o2_world.specs.World.{World, Setting, Dispatch, Process}
+use Rattle.o2_world.specs.declared.types.State.TheVariants.{Live}
+use Rattle.o2_world.specs.Dispatch.{counted, lives}
+use Rattle.o2_world.specs.Holders.{process_at, with_process}
+use Rattle.o2_world.specs.Calls.{Effect}
+use Rattle.o2_world.specs.Effect.{effect}
+use Rattle.o2_world.specs.Text.{lines_text, line_text}
+use Rattle.o2_world.specs.Run.{process_after, before, step, changed, is_over, any_lives, live_flags, console, last_line, next_dispatch}
+use Rattle.o2_world.proofs.Flags.{live_process, flags_after, flags_ended}
+use Rattle.o2_world.proofs.Inputs.{effect_input}
+use Rattle.o2_run.specs.Turn.{StepsOn, StepsInPart, Turns}
+use Rattle.o2_run.specs.declared.steps.Turn.{Turn}
+use Rattle.o2_run.specs.declared.steps.Turn.TheVariants as turn
+use Rattle.o2_sched.specs.Schedule.{Schedule, next_of, pick_of}
+use Rattle.o2_sched.specs.declared.sched.Pick.TheVariants.{Step, AllEnded, BudgetSpent}
+use Rattle.o2_machine.specs.Acts.{ActsAll, ActsInPart, ActsLate}
+use Rattle.o2_machine.specs.Closes.{ClosesWith}
+use Rattle.o2_machine.specs.StandsFor.{StandsFor}
+use Rattle.o2_machine.specs.declared.machine.Machine.{Machine}
+
+abbrev pub any_of : Schedule → Bool
+any_of s = list_any (λ (x : Bool). x) s.flags
+
+-- what the schedule picks
+record IsPicked (s : Schedule) (n : ℕ) : Type 0 where
+  any : any_of s ≡ true
+  some : (s.dispatch.budget == 0) ≡ false
+  number : (next_of s).current ≡ n
+
+pub by_parts : (any none : Bool) (a b : ℕ) → (if not any then AllEnded else (if none then BudgetSpent else Step a)) ≡ Step b → (any ≡ true) × ((none ≡ false) × (a ≡ b))
+by_parts true true a b e = absurd (cc)
+by_parts true false a b e = (refl, (refl, cc))
+by_parts false none a b e = absurd (cc)
+
+picked : (s : Schedule) (n : ℕ) → pick_of s ≡ Step n → IsPicked s n
+picked s n e = let three = by_parts (any_of s) (s.dispatch.budget == 0) (next_of s).current n e in record { any = three.0; some = three.1.0; number = three.1.1 }
+
+by_ended : (any none : Bool) (a : ℕ) → (if not any then AllEnded else (if none then BudgetSpent else Step a)) ≡ AllEnded → any ≡ false
+by_ended true true a e = absurd (cc)
+by_ended true false a e = absurd (cc)
+by_ended false none a e = refl
+
+by_spent : (any none : Bool) (a : ℕ) → (if not any then AllEnded else (if none then BudgetSpent else Step a)) ≡ BudgetSpent → (any ≡ true) × (none ≡ true)
+by_spent true true a e = (refl, refl)
+by_spent true false a e = absurd (cc)
+by_spent false none a e = absurd (cc)
+
+any_is : (m : Machine) (s : Setting) (w : World) (b : Bool) → StandsFor m s w → any_of m.sched ≡ b → any_lives w.processes ≡ b
+any_is m s w b stands e = ap (λ (x : List Bool). list_any (λ (y : Bool). y) x) stands.flags ∙ e
+
+module _ (m : Machine) (s : Setting) (w : World) (p : Process) (c d r q : Option (List ℕ))
+    (stands : StandsFor m s w) (any : any_of m.sched ≡ true) (some : (m.sched.dispatch.budget == 0) ≡ false) (at : process_at w.processes (next_of m.sched).current ≡ Some p) where
+  abbrev pub made : Effect
+  made = effect (before w (next_of m.sched).current p)
+
+  next_is : next_dispatch s w ≡ next_of m.sched
+  next_is = rw (stands.flags, stands.dispatch, stands.quantum) refl
+
+  step_is : step s w ≡ changed w (next_of m.sched) p made
+  unfolding step
+  step_is = rw (next_is, at) refl
+
+  runs : is_over w ≡ false
+  runs = rw (any_is m s w true stands any, stands.dispatch, some) refl
+
+  console_of : console (step s w) ≡ console w ++ made.piece
+  unfolding changed
+  console_of = ap console step_is
+
+  input_of : (step s w).input ≡ w.input
+  unfolding changed
+  input_of = ap (λ (v : World). v.input) step_is ∙ effect_input (before w (next_of m.sched).current p)
+
+  lines_of : lines_text (step s w).lines ≡ lines_text w.lines ++ lines_text made.lines
+  unfolding changed
+  lines_of = ap (λ (v : World). lines_text v.lines) step_is ∙ flat_map-append line_text w.lines made.lines
+
+  stands_next : (n : Machine) → Rattle.o2_machine.specs.Acts.StandsAfter (next_of m.sched).current w.processes w.names p made n.space
+      → n.sched.dispatch ≡ counted (next_of m.sched) → n.sched.quantum ≡ m.sched.quantum → live_flags (with_process w.processes (next_of m.sched).current (process_after p made)) ≡ n.sched.flags
+      → StandsFor n s (step s w)
+  unfolding changed
+  stands_next n space dispatch quantum flags = rw step_is (record { space = space; flags = flags; dispatch = sym dispatch; quantum = stands.quantum ∙ sym quantum })
+
+  pub steps_in_part : (n : Machine) → StandsFor n s w ⊎ StandsFor n s (step s w) → GainsSome c d (λ front. IsPrefix front made.piece) → GainsSome r q (λ front. IsPrefix front (lines_text made.lines))
+      → (q ≡ r) ⊎ Gains c d made.piece → StepsInPart (StandsFor n s) s w c d r q
+  steps_in_part n now to_console to_report in_order = record {
+    runs = runs;
+    stands = now;
+    to_console = rw console_of (continues_in_part made.piece (console w) c d to_console);
+    to_report = rw lines_of (continues_in_part (lines_text made.lines) (lines_text w.lines) r q to_report);
+    in_order = in_order_of in_order;
+  } where
+    in_order_of : (q ≡ r) ⊎ Gains c d made.piece → (q ≡ r) ⊎ Continues c d (console w) (console (step s w))
+    in_order_of (inl same) = inl same
+    in_order_of (inr whole) = inr (rw console_of (continues_by made.piece (console w) c d whole))
+
+  pub steps_on : (i : Option (List ℕ)) (n : Machine) → i ≡ Some w.input → StandsFor n s (step s w) → Gains c d made.piece → Gains r q (lines_text made.lines) → StepsOn (StandsFor n s) s w i c d r q
+  steps_on i n left now to_console to_report = record {
+    runs = runs;
+    input = left ∙ ap Some (sym input_of);
+    stands = now;
+    to_console = rw console_of (continues_by made.piece (console w) c d to_console);
+    to_report = rw lines_of (continues_by (lines_text made.lines) (lines_text w.lines) r q to_report);
+  }
+
+same_space : (n m : Machine) (s : Setting) (w : World) → StandsFor m s w → n.sched ≡ m.sched → Rattle.o2_machine.specs.Stands.StandsIn n.space w.processes w.names → StandsFor n s w
+same_space n m s w stands same space = record {
+  space = space;
+  flags = stands.flags ∙ ap (λ (z : Schedule). z.flags) (sym same);
+  dispatch = stands.dispatch ∙ ap (λ (z : Schedule). z.dispatch) (sym same);
+  quantum = stands.quantum ∙ ap (λ (z : Schedule). z.quantum) (sym same);
+}
+
+module _ (m : Machine) (s : Setting) (w : World) (number : ℕ) (c d r q : Option (List ℕ))
+    (stands : StandsFor m s w) (pick : pick_of m.sched ≡ Step number) (live : lives m.sched.flags number ≡ true) where
+  abbrev pub k : ℕ
+  k = (next_of m.sched).current
+
+  is : IsPicked m.sched number
+  is = picked m.sched number pick
+
+  here : (p : Process) × (process_at w.processes k ≡ Some p) × (p.state ≡ Live)
+  here = live_process w.processes m.sched.flags k stands.flags (ap (lives m.sched.flags) is.number ∙ live)
+
+  pub faulted : (n : Machine) → n.sched ≡ m.sched → ((p : Process) → process_at w.processes number ≡ Some p → p.state ≡ Live → ActsInPart w.processes w.names (effect (before w number p)) n.space c d r q)
+      → StepsInPart (StandsFor n s) s w c d r q
+  faulted n same did =
+      let at_k = subst (λ (z : ℕ). (p : Process) → process_at w.processes z ≡ Some p → p.state ≡ Live → ActsInPart w.processes w.names (effect (before w z p)) n.space c d r q) (sym is.number) did in
+      let all = at_k here.0 here.1 here.2 in
+      steps_in_part m s w here.0 c d r q stands is.any is.some here.1 n (inl (same_space n m s w stands same all.stands)) all.to_console all.to_report all.in_order
+
+  pub went : (i : Option (List ℕ)) (n : Machine) → i ≡ Some w.input → ((p : Process) → process_at w.processes number ≡ Some p → p.state ≡ Live → ActsAll number w.processes w.names p (effect (before w number p)) n.space c d r q true)
+      → n.sched ≡ record m.sched { dispatch = counted (next_of m.sched) } → StepsOn (StandsFor n s) s w i c d r q
+  went i n left did sched =
+      let at_k = subst (λ (z : ℕ). (p : Process) → process_at w.processes z ≡ Some p → p.state ≡ Live → ActsAll z w.processes w.names p (effect (before w z p)) n.space c d r q true) (sym is.number) did in
+      let all = at_k here.0 here.1 here.2 in
+      let flags = flags_after w.processes m.sched.flags k here.0 (effect (before w k here.0)) stands.flags (ap (lives m.sched.flags) is.number ∙ live) all.lives in
+      steps_on m s w here.0 c d r q stands is.any is.some here.1 i n left
+          (stands_next m s w here.0 c d r q stands is.any is.some here.1 n all.stands (ap (λ (z : Schedule). z.dispatch) sched) (ap (λ (z : Schedule). z.quantum) sched) (flags ∙ sym (ap (λ (z : Schedule). z.flags) sched)))
+          all.to_console all.to_report
+
+  abbrev pub ended_sched : Schedule
+  ended_sched = record { dispatch = counted (next_of m.sched); flags = slice_set m.sched.flags (number - 1) false; quantum = m.sched.quantum }
+
+  ended_flags : (e : Effect) (p : Process) → Rattle.o2_world.specs.World.is_live e.state ≡ false → live_flags (with_process w.processes k (process_after p e)) ≡ slice_set m.sched.flags (number - 1) false
+  ended_flags e p ends = flags_ended w.processes m.sched.flags k p e stands.flags ends ∙ ap (λ (z : ℕ). slice_set m.sched.flags (z - 1) false) is.number
+
+  pub over : (i : Option (List ℕ)) (n : Machine) → i ≡ Some w.input → ((p : Process) → process_at w.processes number ≡ Some p → p.state ≡ Live → ActsAll number w.processes w.names p (effect (before w number p)) n.space c d r q false)
+      → n.sched ≡ ended_sched → StepsOn (StandsFor n s) s w i c d r q
+  over i n left did sched =
+      let at_k = subst (λ (z : ℕ). (p : Process) → process_at w.processes z ≡ Some p → p.state ≡ Live → ActsAll z w.processes w.names p (effect (before w z p)) n.space c d r q false) (sym is.number) did in
+      let all = at_k here.0 here.1 here.2 in
+      steps_on m s w here.0 c d r q stands is.any is.some here.1 i n left
+          (stands_next m s w here.0 c d r q stands is.any is.some here.1 n all.stands (ap (λ (z : Schedule). z.dispatch) sched) (ap (λ (z : Schedule). z.quantum) sched)
+              (ended_flags (effect (before w k here.0)) here.0 all.lives ∙ sym (ap (λ (z : Schedule). z.flags) sched)))
+          all.to_console all.to_report
+
+  pub late : (n : Machine) → ((p : Process) → process_at w.processes number ≡ Some p → p.state ≡ Live → ActsLate number w.processes w.names p (effect (before w number p)) n.space c d r q)
+      → n.sched ≡ ended_sched → StepsInPart (StandsFor n s) s w c d r q
+  late n did sched =
+      let at_k = subst (λ (z : ℕ). (p : Process) → process_at w.processes z ≡ Some p → p.state ≡ Live → ActsLate z w.processes w.names p (effect (before w z p)) n.space c d r q) (sym is.number) did in
+      let all = at_k here.0 here.1 here.2 in
+      steps_in_part m s w here.0 c d r q stands is.any is.some here.1 n
+          (inr (stands_next m s w here.0 c d r q stands is.any is.some here.1 n all.stands (ap (λ (z : Schedule). z.dispatch) sched) (ap (λ (z : Schedule). z.quantum) sched)
+              (ended_flags (effect (before w k here.0)) here.0 all.lives ∙ sym (ap (λ (z : Schedule). z.flags) sched))))
+          (gains_some _ c d all.to_console) all.to_report (inr all.to_console)
+
+-- the last line
+pub closes : (f : World → Type 0) (s : Setting) (w : World) (text : List ℕ) (i c r q : Option (List ℕ)) (answer : Turn) → i ≡ Some w.input → is_over w ≡ true → last_line w ≡ text → ClosesWith r q text answer → Turns f s w i c c r q answer
+closes f s w text i c r q turn.Closed left done last g = record { input = left; over = done; to_console = refl; to_report = rw last (continues_by text (lines_text w.lines) r q g) }
+closes f s w text i c r q turn.LastFault left done last g = record { over = done; to_console = refl; to_report = rw last (continues_in_part text (lines_text w.lines) r q g) }
+closes f s w text i c r q turn.Ran left done last g = absurd g
+closes f s w text i c r q turn.StepFault left done last g = absurd g
+closes f s w text i c r q (turn.Stopped why) left done last g = absurd g
+
+pub closes_ended : (f : World → Type 0) (s : Setting) (m : Machine) (w : World) (i c r q : Option (List ℕ)) (answer : Turn) → StandsFor m s w → i ≡ Some w.input → pick_of m.sched ≡ AllEnded
+    → ClosesWith r q (codes "all ended" ++ 10 ∷ []) answer → Turns f s w i c c r q answer
+closes_ended f s m w i c r q answer stands left pick g =
+    let none : any_of m.sched ≡ false = by_ended (any_of m.sched) (m.sched.dispatch.budget == 0) (next_of m.sched).current pick in
+    closes f s w _ i c r q answer left (rw (any_is m s w false stands none) refl) (rw (any_is m s w false stands none) refl) g
+
+pub closes_spent : (f : World → Type 0) (s : Setting) (m : Machine) (w : World) (i c r q : Option (List ℕ)) (answer : Turn) → StandsFor m s w → i ≡ Some w.input → pick_of m.sched ≡ BudgetSpent
+    → ClosesWith r q (codes "budget spent" ++ 10 ∷ []) answer → Turns f s w i c c r q answer
+closes_spent f s m w i c r q answer stands left pick g =
+    let both = by_spent (any_of m.sched) (m.sched.dispatch.budget == 0) (next_of m.sched).current pick in
+    closes f s w _ i c r q answer left (rw (any_is m s w true stands both.0, stands.dispatch, both.1) refl) (rw (any_is m s w true stands both.0, stands.dispatch, both.1) refl) g

@@ -1,0 +1,12 @@
+-- The machine stands for a world, whatever its texts and its input are.
+use Rattle.std.specs.Prelude.{◌≡◌}
+use Rattle.o2_world.specs.World.{World, Setting}
+use Rattle.o2_world.specs.Run.{live_flags}
+use Rattle.o2_machine.specs.Stands.{StandsIn}
+use Rattle.o2_machine.specs.declared.machine.Machine.{Machine}
+
+pub record StandsFor (m : Machine) (s : Setting) (w : World) : Type 0 where
+  pub space : StandsIn m.space w.processes w.names
+  pub flags : live_flags w.processes ≡ m.sched.flags
+  pub dispatch : w.dispatch ≡ m.sched.dispatch
+  pub quantum : s.quantum ≡ m.sched.quantum

@@ -1,0 +1,104 @@
+// The processes and their segments.
+ghost use Rattle.std.specs.Prelude.{◌≡◌, ◌<◌, ◌≤◌, ◌+◌, ◌-◌, ◌⊎◌, ℕ, List, length, true, false, Some};
+ghost use Rattle.o2_outer.specs.Texts.{Rose};
+ghost use Rattle.o2_world.specs.Map.{Map};
+ghost use Rattle.o2_world.specs.World.{Process, Segment, is_live as lives};
+ghost use Rattle.o2_world.specs.Holders.{process_at};
+ghost use Rattle.o2_world.specs.Views.{view_of};
+ghost use Rattle.o2_world.specs.Calls.{Before, Effect};
+ghost use Rattle.o2_world.specs.Effect.{effect};
+
+use crate::one_step::{Ran, run_one};
+use o2_bus::Plain;
+use o2_isa::Cpu;
+use o2_outer::Sink;
+use o2_report::LineBuffer;
+use o2_world::State;
+
+/// A process: its registers, and how far it is.
+#[derive(Clone, Copy, Debug)]
+pub struct Proc {
+    pub cpu: Cpu,
+    pub state: State,
+}
+
+/// The processes, process n at place n - 1, and the segments with their maps.
+#[derive(Drop)]
+pub struct Space {
+    pub procs: Vec<Proc>,
+    pub plain: Plain,
+}
+
+/// What a step came to.
+#[derive(Clone, Copy, Debug, PartialEq, Eq)]
+pub enum Acted {
+    /// The process goes on.
+    Went,
+    /// The process has ended.
+    Ended,
+    /// A sink failed, and the machine is as before the step.
+    Fault,
+    /// A sink failed in the last line of the step, behind which the process has ended.
+    LateFault,
+}
+
+/// Whether a process goes on.
+pub fn is_live(state: State) -> bool
+    ensures { result ≡ lives state }
+{
+    matches!(state, State::Live)
+}
+
+impl Space {
+    ghost use Rattle.o2_machine.specs.Stands.{StandsIn};
+    ghost use Rattle.o2_machine.specs.Commit.{IsBetween};
+    ghost use Rattle.o2_machine.specs.Acts.{Acts, OnFault, StandsAfter};
+
+    /// Registers and state of a process after its step; where it has ended it holds nothing any more.
+    fn commit(&mut self, pid: u16, cpu: &Cpu, state: State)
+        requires some { 0 < pid }
+        requires there { pid ≤ length self.old.procs.items }
+        ensures stands { (ps : List Process) (names : Map Segment) (p : Process) (e : Effect) → IsBetween self.old ps names e → process_at ps pid ≡ Some p → p.state ≡ State.Live
+            → cpu.now ≡ e.cpu → e.state ≡ state → StandsAfter pid ps names p e self.new }
+        ensures len { length self.new.procs.items ≡ length self.old.procs.items }
+    {
+        let process = &mut self.procs[pid as usize - 1];
+        process.cpu = *cpu;
+        if !is_live(state) {
+            process.state = state;
+            self.plain.end(pid);
+        }
+    }
+
+    /// One step of a process that lives.
+    pub fn act<C: Sink, R: Sink>(
+        &mut self,
+        pid: u16,
+        line: &mut LineBuffer,
+        console: &mut C,
+        report: &mut R,
+    ) -> Acted
+        requires some { 0 < pid }
+        requires there { pid ≤ length self.old.procs.items }
+        ensures acts { (ps : List Process) (names : Map Segment) (p : Process) (input : List ℕ) → StandsIn self.old ps names → process_at ps pid ≡ Some p → p.state ≡ State.Live
+            → Acts pid ps names p (effect (record { number = pid; cpu = p.cpu; view = view_of names p; input = input })) self.new
+                (C.taken console.old) (C.taken console.new) (R.taken report.old) (R.taken report.new) result }
+        ensures console_count { C.faults console.old ≤ C.faults console.new }
+        ensures report_count { R.faults report.old ≤ R.faults report.new }
+        ensures cause { OnFault result (Rose (C.faults console.old) (C.faults console.new) ⊎ Rose (R.faults report.old) (R.faults report.new)) }
+        ensures len { length self.new.procs.items ≡ length self.old.procs.items }
+    {
+        let mut cpu = self.procs[pid as usize - 1].cpu;
+        match run_one(pid, &mut cpu, &mut self.plain, line, console, report) {
+            Ran::Fault => Acted::Fault,
+            Ran::Done(state) => {
+                self.commit(pid, &cpu, state);
+                if is_live(state) { Acted::Went } else { Acted::Ended }
+            }
+            Ran::LateFault(state) => {
+                self.commit(pid, &cpu, state);
+                Acted::LateFault
+            }
+        }
+    }
+}

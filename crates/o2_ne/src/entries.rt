@@ -1,0 +1,247 @@
+ghost use Rattle.std.specs.Prelude.{◌≡◌, ◌+◌, ◌*◌, ◌≤◌, ◌<◌, ◌^◌, length, List, Option, option_map, find, ◌==◌, nat_lt, true, false, slice_get};
+ghost use Rattle.o2_ne.specs.Steps.{Gives, steps};
+ghost use Rattle.o2_ne.specs.Rising.{IsRising};
+ghost use Rattle.o2_ne.specs.EntryTable.{Table, bundle, entry_step, entries_of, is_segment, table_step, target_of};
+ghost use Rattle.std.specs.List.Sorted.{IsNonDecreasingBy, IsPartitionPoint};
+
+use crate::bytes::u16_at;
+use crate::head::{Head, need};
+use o2_base::{Fail, NeFault, Which};
+use std::alloc::Global;
+use std::marker::Model;
+
+/// A defined ordinal, and where it leads.
+#[derive(Clone, Copy, Debug, PartialEq, Eq)]
+pub struct Entry {
+    pub ordinal: u32,
+    pub segment: u8,
+    pub offset: u16,
+}
+
+// The reading of the table so far.
+#[derive(Drop)]
+struct Reading {
+    found: Vec<Entry>,
+    ordinal: u32,
+    place: u32,
+    ended: bool,
+    ghost rising: { IsRising found.items ordinal },
+}
+
+fn is_segment(count: u16, segment: u8) -> bool
+    ensures { result ≡ is_segment count segment }
+{
+    segment >= 1 && segment as u16 <= count
+}
+
+impl Reading {
+    ghost use Rattle.o2_ne.specs.EntryViews.{table};
+
+    // One entry of a bundle.
+    fn entry(&mut self, file: &[u8], segments: u16, kind: u8) -> Result<(), Fail<NeFault>>
+        requires small { length file.now ≤ 4194304 }
+        requires place { self.old.place < 2 ^ 23 }
+        requires ordinal { self.old.ordinal + 1 < 2 ^ 32 }
+        ensures step { Gives (λ _. table self.new) result (entry_step file.now segments kind (table self.old)) }
+        ensures place { self.new.place < 2 ^ 23 }
+        ensures ordinal { self.new.ordinal ≤ self.old.ordinal + 1 }
+    {
+        let place = self.place as usize;
+        if kind == 255 {
+            need(file, self.place, 6).map_err(Fail::Bad)?;
+            let segment = file[place + 3];
+            if !is_segment(segments, segment) {
+                return Err(Fail::Bad(NeFault::BadTable(Which::Entries)));
+            }
+            let offset = u16_at(file, place + 4);
+            self.found.push(Entry {
+                ordinal: self.ordinal,
+                segment,
+                offset,
+            })?;
+            self.place += 6;
+        } else {
+            need(file, self.place, 3).map_err(Fail::Bad)?;
+            let offset = u16_at(file, place + 1);
+            self.found.push(Entry {
+                ordinal: self.ordinal,
+                segment: kind,
+                offset,
+            })?;
+            self.place += 3;
+        }
+        self.ordinal += 1;
+        Ok(())
+    }
+
+    // The entries of a bundle.
+    fn entries(
+        &mut self,
+        file: &[u8],
+        segments: u16,
+        count: u8,
+        kind: u8,
+    ) -> Result<(), Fail<NeFault>>
+        requires small { length file.now ≤ 4194304 }
+        requires place { self.old.place < 2 ^ 23 }
+        requires ordinal { self.old.ordinal + count < 2 ^ 32 }
+        ensures step { Gives (λ _. table self.new) result (steps (entry_step file.now segments kind) count (table self.old)) }
+        ensures place { self.new.place < 2 ^ 23 }
+        ensures ordinal { self.new.ordinal ≤ self.old.ordinal + count }
+    {
+        for _ in 0..count {
+            self.entry(file, segments, kind)?;
+        }
+        Ok(())
+    }
+
+    // A bundle whose entries begin at the place.
+    fn bundle(
+        &mut self,
+        file: &[u8],
+        segments: u16,
+        count: u8,
+        kind: u8,
+    ) -> Result<(), Fail<NeFault>>
+        requires small { length file.now ≤ 4194304 }
+        requires place { self.old.place < 2 ^ 23 }
+        requires ordinal { self.old.ordinal + count < 2 ^ 32 }
+        ensures step { Gives (λ _. table self.new) result (bundle file.now segments count kind (table self.old)) }
+        ensures place { self.new.place < 2 ^ 23 }
+        ensures ordinal { self.new.ordinal ≤ self.old.ordinal + count }
+    {
+        if kind == 0 {
+            self.ordinal += u32::from(count);
+            return Ok(());
+        }
+        if kind == 254 {
+            return Err(Fail::Bad(NeFault::OutOfProfile(Which::Constant)));
+        }
+        if kind != 255 && !is_segment(segments, kind) {
+            return Err(Fail::Bad(NeFault::BadTable(Which::Entries)));
+        }
+        self.entries(file, segments, count, kind)
+    }
+
+    // The next bundle, where the table has not ended.
+    #[tactic(auto, unfolding(crate::specs::EntryTable::table_step))]
+    fn next(&mut self, file: &[u8], segments: u16, end: u32) -> Result<(), Fail<NeFault>>
+        requires small { length file.now ≤ 4194304 }
+        requires place { self.old.place < 2 ^ 23 }
+        requires ordinal { self.old.ordinal + 255 < 2 ^ 32 }
+        ensures step { Gives (λ _. table self.new) result (table_step file.now segments end (table self.old)) }
+        ensures place { self.new.place < 2 ^ 23 }
+        ensures ordinal { self.new.ordinal ≤ self.old.ordinal + 255 }
+    {
+        if self.ended || self.place >= end {
+            return Ok(());
+        }
+        need(file, self.place, 1).map_err(Fail::Bad)?;
+        let count = file[self.place as usize];
+        if count == 0 {
+            self.ended = true;
+            return Ok(());
+        }
+        need(file, self.place + 1, 1).map_err(Fail::Bad)?;
+        let kind = file[self.place as usize + 1];
+        self.place += 2;
+        self.bundle(file, segments, count, kind)
+    }
+
+    // The bundles up to the end, of which there are at most `most`.
+    fn bundles(
+        &mut self,
+        file: &[u8],
+        segments: u16,
+        most: u16,
+        end: u32,
+    ) -> Result<(), Fail<NeFault>>
+        requires small { length file.now ≤ 4194304 }
+        requires place { self.old.place < 2 ^ 23 }
+        requires ordinal { self.old.ordinal ≤ 1 }
+        ensures exact { Gives (λ _. table self.new) result (steps (table_step file.now segments end) most (table self.old)) }
+        ensures ordinal { self.new.ordinal < 16777216 }
+    {
+        for _ in 0..most {
+            self.next(file, segments, end)?;
+        }
+        Ok(())
+    }
+}
+
+// How many entries have a lower ordinal.
+fn place_of(found: &[Entry], ordinal: u32) -> usize
+    requires { IsNonDecreasingBy (λ e. e.ordinal) found.now }
+    ensures { IsPartitionPoint (λ e. nat_lt e.ordinal ordinal ≡ true) (λ e. nat_lt e.ordinal ordinal ≡ false) found.now result }
+{
+    found.partition_point(|e| e.ordinal < ordinal)
+}
+
+// The entry at an index.
+fn entry_at(found: &[Entry], at: usize) -> Option<Entry>
+    ensures { result ≡ slice_get found.now at }
+{
+    found.get(at).copied()
+}
+
+/// The defined ordinals of a file.
+#[derive(Drop)]
+pub struct Entries {
+    found: Vec<Entry>,
+}
+
+impl Model for Entries {
+    ghost use Rattle.std.specs.Prelude.{List};
+    ghost use Rattle.o2_ne.specs.declared.entries.Entry.{Entry};
+    ghost use Rattle.o2_ne.specs.Rising.{AreEntries};
+
+    ghost Value = { List Entry };
+
+    ghost view = { λ a. a.found.items };
+
+    ghost invariant = { λ a. AreEntries a.found.items };
+}
+
+impl Entries {
+    #[tactic(auto, unfolding(crate::specs::EntryTable::entries_of))]
+    /// The entries of a file with this header, or the fault of the first check that fails.
+    pub fn read(alloc: Global, file: &[u8], head: &Head) -> Result<Entries, Fail<NeFault>>
+        requires small { length file.now ≤ 4194304 }
+        requires inside { head.now.at + 64 ≤ length file.now }
+        ensures { Gives (λ es. es) result (entries_of file.now head.now) }
+    {
+        let start = head.at + u32::from(head.entries);
+        let end = start + u32::from(head.entries_len);
+        let mut reading = Reading {
+            found: Vec::new(alloc),
+            ordinal: 1,
+            place: start,
+            ended: false,
+        };
+        reading.bundles(file, head.segments, head.entries_len, end)?;
+        let Reading { found, .. } = reading;
+        Ok(Entries { found })
+    }
+
+    /// Where an ordinal leads, as a segment and an offset. None exactly where it isn't defined.
+    pub fn get(&self, ordinal: u16) -> Option<(u8, u16)>
+        ensures { result ≡ target_of ordinal self.now }
+    {
+        let found = self.found.as_slice();
+        let wanted = u32::from(ordinal);
+        let Some(entry) = entry_at(found, place_of(found, wanted)) else {
+            return None;
+        };
+        if entry.ordinal != wanted {
+            return None;
+        }
+        Some((entry.segment, entry.offset))
+    }
+
+    /// How many ordinals are defined.
+    pub fn len(&self) -> u32
+        ensures { result ≡ length self.now }
+    {
+        self.found.len() as u32
+    }
+}

@@ -1,0 +1,16 @@
+//! The header, the names and the entries of a segmented executable (NE) file.
+#![tactic(auto)]
+
+mod bytes;
+mod entries;
+mod head;
+mod names;
+
+pub use bytes::{first_missing, lies_in, u16_at, u32_at};
+pub use entries::{Entries, Entry};
+pub use head::Head;
+pub use names::{Name, Names, is_same_name};
+pub use o2_base::{Bytes, Fail, NeFault, NoMemory, Which};
+
+#[cfg(test)]
+mod tests;

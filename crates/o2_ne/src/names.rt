@@ -1,0 +1,201 @@
+// The names of a module.
+ghost use Rattle.std.specs.Prelude.{◌≡◌, ◌==◌, ◌+◌, ◌≤◌, ◌<◌, [], IfOk, false, length};
+ghost use Rattle.std.specs.List.{list_any};
+ghost use Rattle.o2_ne.specs.Steps.{Gives, steps};
+ghost use Rattle.o2_ne.specs.NameTable.{name_step, named, names_at, exports_of, nonresident, ordinal_of, own_name, own_text, same_name};
+ghost use Rattle.o2_ne.specs.NameViews.{walk};
+
+use crate::bytes::u16_at;
+use crate::head::{Head, need};
+use o2_base::{Bytes, Fail, NeFault, Which};
+use std::alloc::Global;
+use std::marker::Model;
+
+/// A name and its ordinal.
+#[derive(Debug, Drop)]
+pub struct Name {
+    /// The name, of 1 to 255 bytes.
+    pub text: Bytes,
+    /// The ordinal of the entry that it names.
+    pub ordinal: u16,
+}
+
+// The reading of a name table so far.
+#[derive(Drop)]
+struct Walking {
+    found: Vec<Name>,
+    place: u32,
+    ended: bool,
+}
+
+impl Walking {
+    // A name of this many bytes.
+    fn name(&mut self, alloc: Global, file: &[u8], len: u8) -> Result<(), Fail<NeFault>>
+        requires small { length file.now ≤ 4194304 }
+        requires place { self.old.place < length file.now }
+        requires goes_on { self.old.ended ≡ false }
+        ensures { Gives (λ _. walk self.new) result (named file.now len (walk self.old)) }
+    {
+        if len == 0 {
+            self.ended = true;
+            return Ok(());
+        }
+        let start = self.place + 1;
+        need(file, start, u32::from(len) + 2).map_err(Fail::Bad)?;
+        let (_, rest) = file.split_at(start as usize);
+        let (text, _) = rest.split_at(usize::from(len));
+        let ordinal = u16_at(file, start as usize + usize::from(len));
+        let text = Bytes::from_slice(alloc, text)?;
+        self.found.push(Name { text, ordinal })?;
+        self.place = start + u32::from(len) + 2;
+        Ok(())
+    }
+
+    // The next name, where the table has not ended.
+    #[tactic(auto, unfolding(crate::specs::NameTable::name_step))]
+    fn step(&mut self, alloc: Global, file: &[u8]) -> Result<(), Fail<NeFault>>
+        requires small { length file.now ≤ 4194304 }
+        requires goes_on { self.old.ended ≡ false }
+        ensures { Gives (λ _. walk self.new) result (name_step file.now (walk self.old)) }
+    {
+        need(file, self.place, 1).map_err(Fail::Bad)?;
+        let len = file[self.place as usize];
+        self.name(alloc, file, len)
+    }
+}
+
+// The walk to the end of a table.
+fn walk_on(alloc: Global, file: &[u8], at: u32) -> Result<Walking, Fail<NeFault>>
+    requires { length file.now ≤ 4194304 }
+    ensures { Gives walk result (steps (name_step file.now) (length file.now) (record { found = []; place = at; ended = false })) }
+{
+    let mut walking = Walking {
+        found: Vec::new(alloc),
+        place: at,
+        ended: false,
+    };
+    for _ in 0..file.len() {
+        if walking.ended {
+            return Ok(walking);
+        }
+        walking.step(alloc, file)?;
+    }
+    Ok(walking)
+}
+
+// The names of the table from a place on.
+#[tactic(auto, unfolding(crate::specs::NameTable::names_at))]
+fn names_at(alloc: Global, file: &[u8], at: u32) -> Result<Vec<Name>, Fail<NeFault>>
+    requires { length file.now ≤ 4194304 }
+    ensures { Gives (λ v. v.items) result (names_at file.now at) }
+{
+    let walking = walk_on(alloc, file, at)?;
+    let Walking { found, .. } = walking;
+    Ok(found)
+}
+
+/// Whether two names are the same, with ASCII letters folded.
+pub fn is_same_name(a: &[u8], b: &[u8]) -> bool
+    ensures { result ≡ same_name a.now b.now }
+{
+    a.eq_ignore_ascii_case(b)
+}
+
+fn has_line_end(text: &[u8]) -> bool
+    ensures { result ≡ list_any (λ b. b == 10) text.now }
+{
+    text.contains(&10)
+}
+
+// The module's name, of this many bytes, with which the table at a place begins.
+fn own_text(alloc: Global, file: &[u8], at: u32, len: u8) -> Result<Bytes, Fail<NeFault>>
+    requires small { length file.now ≤ 4194304 }
+    requires place { at < length file.now }
+    ensures { Gives (λ b. b) result (own_text file.now at len) }
+{
+    if len == 0 {
+        return Err(Fail::Bad(NeFault::BadTable(Which::Names)));
+    }
+    let start = at + 1;
+    need(file, start, u32::from(len) + 2).map_err(Fail::Bad)?;
+    let (_, rest) = file.split_at(start as usize);
+    let (text, _) = rest.split_at(usize::from(len));
+    if has_line_end(text) {
+        return Err(Fail::Bad(NeFault::BadTable(Which::Names)));
+    }
+    Ok(Bytes::from_slice(alloc, text)?)
+}
+
+// The module's name, with which the table at a place begins.
+fn own_name(alloc: Global, file: &[u8], at: u32) -> Result<Bytes, Fail<NeFault>>
+    requires { length file.now ≤ 4194304 }
+    ensures exact { Gives (λ b. b) result (own_name file.now at) }
+    ensures inside { IfOk result (λ b. at + length b + 3 ≤ length file.now) }
+{
+    need(file, at, 1).map_err(Fail::Bad)?;
+    own_text(alloc, file, at, file[at as usize])
+}
+
+// The nonresident names.
+fn nonresident(alloc: Global, file: &[u8], head: &Head) -> Result<Vec<Name>, Fail<NeFault>>
+    requires { length file.now ≤ 4194304 }
+    ensures { Gives (λ v. v.items) result (nonresident file.now head.now) }
+{
+    if head.nonresident_len == 0 {
+        return Ok(Vec::new(alloc));
+    }
+    names_at(alloc, file, head.nonresident_at)
+}
+
+/// A module's own name, and the names that it exports: the resident ones behind its own, then the nonresident ones.
+#[derive(Drop)]
+pub struct Names {
+    own: Bytes,
+    names: Vec<Name>,
+}
+
+impl Model for Names {
+    ghost use Rattle.o2_ne.specs.NameTable.{Exports};
+
+    ghost Value = { Exports };
+
+    ghost view = { λ a. record { own = a.own; names = a.names.items } };
+}
+
+impl Names {
+    /// The names of a file of at most 4,194,304 bytes with this header, or the fault of the first check that fails.
+    #[tactic(auto, unfolding(crate::specs::NameTable::exports_of))]
+    pub fn read(alloc: Global, file: &[u8], head: &Head) -> Result<Names, Fail<NeFault>>
+        requires small { length file.now ≤ 4194304 }
+        requires inside { head.now.at + 64 ≤ length file.now }
+        ensures { Gives (λ ns. ns) result (exports_of file.now head.now) }
+    {
+        let at = head.at + u32::from(head.resident_at);
+        let own = own_name(alloc, file, at)?;
+        let mut names = names_at(alloc, file, at + own.len() as u32 + 3)?;
+        let mut others = nonresident(alloc, file, head)?;
+        names.append(&mut others)?;
+        Ok(Names { own, names })
+    }
+
+    /// The module's name.
+    pub fn module(&self) -> &Bytes
+        ensures { result.now ≡ self.now.own }
+    {
+        &self.own
+    }
+
+    /// The ordinal of a name, with ASCII letters folded; the first match counts. None exactly where no name matches.
+    pub fn ordinal(&self, name: &[u8]) -> Option<u16>
+        ensures { result ≡ ordinal_of name.now self.now.names }
+    {
+        match self
+            .names
+            .iter()
+            .find(|n| is_same_name(n.text.as_slice(), name))
+        {
+            Some(n) => Some(n.ordinal),
+            None => None,
+        }
+    }
+}
