@@ -77,7 +77,7 @@ fn many_items_and_long_texts(rt: HostRuntime) -> Result<(), test::Fail> {
 #[test]
 fn a_file_of_the_longest_length(rt: HostRuntime) -> Result<(), test::Fail> {
     let mut file = file_with(rt.alloc(), "", "")?;
-    while file.len() < 1048576 {
+    for _ in file.len()..1048576 {
         file.push('#')?;
     }
     assert_eq!(rt; fault_of(rt.alloc(), file.as_bytes())?, None);
