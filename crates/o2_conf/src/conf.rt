@@ -95,7 +95,8 @@ fn document(alloc: Global, file: &[u8]) -> Result<Table, Fail<MachineFault>>
 }
 
 impl Conf {
-    /// What a machine file says, or the first fault in it.
+    /// What a machine file says, or the first fault in it, in the order of the crate's page: a file of more than 1,048,576
+    /// bytes, bytes that are no TOML document, and then the faults key by key. The setting is within its limits.
     #[tactic(auto, unfolding(crate::specs::Setting::setting))]
     pub fn read(alloc: Global, file: &[u8]) -> Result<Conf, Fail<MachineFault>>
         ensures exact { Gives (λ c. c) result (setting file.now) }

@@ -1,4 +1,4 @@
-// Machine files, with what they say or what they are refused for, by the rules of the machine file (docs/machine.md).
+// Machine files, with what they say or what they are refused for, by the rules of the machine file.
 mod cases;
 
 use crate::{Conf, Key, MachineFault, Word};
