@@ -5,3 +5,6 @@ mod place;
 mod sched;
 
 pub use sched::{Pick, Sched};
+
+#[cfg(test)]
+mod tests;

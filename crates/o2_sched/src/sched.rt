@@ -1,10 +1,12 @@
 // The schedule of a run.
-ghost use Rattle.std.specs.Prelude.{◌≡◌, ◌≤◌, ◌<◌, ◌-◌, true, false, length, slice_set, replicate, IfOk};
+ghost use Rattle.std.specs.Prelude.{◌≡◌, ◌≤◌, ◌<◌, ◌-◌, true, false, length, map, slice_set, replicate, IfOk};
 ghost use Rattle.std.specs.List.{list_any};
+ghost use Rattle.o2_conf.specs.Script.{slice_of};
 ghost use Rattle.o2_world.specs.Dispatch.{counted};
 
 use crate::place::{Place, advanced};
 use o2_base::NoMemory;
+use o2_conf::Conf;
 use std::alloc::Global;
 use std::marker::Model;
 
@@ -71,6 +73,21 @@ impl Sched {
             any_lives: any(&flags),
             flags,
         })
+    }
+
+    /// The schedule of a setting, before the first step.
+    pub fn make(alloc: Global, conf: &Conf) -> Result<Sched, NoMemory>
+        requires { length conf.now.process ≤ 64 }
+        ensures { IfOk result (λ s. s ≡ record { dispatch = opening_dispatch (map slice_of conf.now.script) conf.now.budget; flags = replicate (length conf.now.process) true; quantum = conf.now.quantum }) }
+    {
+        let script = conf.script.slices(alloc)?;
+        Sched::new(
+            alloc,
+            conf.process.len() as u16,
+            script,
+            conf.budget,
+            conf.quantum,
+        )
     }
 
     /// What comes next. A step is one of a process that lives.

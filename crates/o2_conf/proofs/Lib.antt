@@ -1,0 +1,5 @@
+pub mod Each
+pub mod Document
+pub mod EachMember
+pub mod Decimals
+pub mod ByName
