@@ -1,12 +1,13 @@
 -- Lemmas on ranges by rising place.
-use Rattle.std.proofs.Common.{◌≡◌, ◌≢◌, ℕ, zero, suc, ◌+◌, ◌-◌, ◌<◌, ◌≤◌, ◌⊎◌, inl, inr, List, length, [], ◌∷◌, take, Option, Some, None, cond, eqb, leb, ltb, refl, sym, ap, ◌∙◌, arith, true, false, get_or, subst, set, unwrap_or}
+use Rattle.std.proofs.Common.{◌≡◌, ◌≢◌, ℕ, zero, suc, ◌+◌, ◌-◌, ◌<◌, ◌≤◌, ◌⊎◌, inl, inr, List, length, [], ◌∷◌, take, Option, Some, None, cond, eqb, leb, ltb, refl, sym, ap, ◌∙◌, arith, true, false, get_or, subst, set, unwrap_or, add-one}
 use Rattle.std.specs.List.{insert, remove}
 use Rattle.std.proofs.lemmas.Bool.Decides.{nat_tests}
 use Rattle.std.proofs.lemmas.Bool.{cases_lt, cases_eq}
 use Rattle.std.proofs.lemmas.List.Sums.{sum_by-cons, sum_by_push, sum_by-set}
 use Rattle.std.proofs.lemmas.List.{take_more_set}
+use Rattle.std.proofs.lemmas.Grind.{common_steps}
 use Rattle.o2_place.specs.declared.ranges.Range.{Range}
-use Rattle.o2_place.specs.Layout.{Layout, find_in, AreLaid, AreApart, IsFree, IsLowestFrom, used, Changes, end_before, start_of}
+use Rattle.o2_place.specs.Layout.{Layout, find_in, AreLaid, AreApart, IsFree, IsLowestFrom, used, Changes, IsLayout, end_before, start_of, IsPacked, no_range, range_at}
 
 -- an id without a range isn't the first one's
 pub not_first : (r : Range) (rs : List Range) (id : ℕ) → find_in (r ∷ rs) id ≡ None → (id ≢ r.id) × (find_in rs id ≡ None)
@@ -328,3 +329,55 @@ below_first rs size at a i j d l m h =
     let b : (get_or rs j d).at < at = grind (arith, nat_tests) in
     let c : (get_or rs i d).at < at = omega (arith, r.1) in
     grind (arith, nat_tests)
+
+-- the k-th range isn't empty, and ends before the next begins
+pub laid_at : (rs : List Range) (k low size : ℕ) (d : Range) → k < length rs → AreLaid low size rs → (0 < (get_or rs k d).len) × ((get_or rs k d).at + (get_or rs k d).len ≤ start_of size rs (suc k)) × (end_before low rs k ≤ (get_or rs k d).at)
+laid_at [] k low size d l a = absurd (omega arith)
+laid_at (s ∷ []) zero low size d l a = (a.1, a.2, a.0)
+laid_at (s ∷ t ∷ rs) zero low size d l a = (a.1, a.2.0, a.0)
+laid_at (s ∷ rs) (suc k) low size d l a = laid_at rs k (s.at + s.len) size d (omega arith) a.2
+
+-- past the last range the memory ends
+pub start_of-end : (rs : List Range) (size : ℕ) → start_of size rs (length rs) ≡ size
+start_of-end [] size = refl
+start_of-end (s ∷ rs) size = start_of-end rs size
+
+pub start_of-set : (rs : List Range) (k size : ℕ) (r : Range) → k < length rs → start_of size (set rs k r) k ≡ r.at
+start_of-set [] k size r l = absurd (omega arith)
+start_of-set (s ∷ rs) zero size r l = refl
+start_of-set (s ∷ rs) (suc k) size r l = start_of-set rs k size r (omega arith)
+
+pub end_before-set_same : (rs : List Range) (k low : ℕ) (r : Range) → end_before low (set rs k r) k ≡ end_before low rs k
+end_before-set_same [] k low r = refl
+end_before-set_same (s ∷ rs) zero low r = refl
+end_before-set_same (s ∷ rs) (suc k) low r = end_before-set_same rs k (s.at + s.len) r
+
+-- the bytes of one range more
+pub used-take_more : (rs : List Range) (k : ℕ) (d : Range) → k < length rs → used (take (k + 1) rs) ≡ used (take k rs) + (get_or rs k d).len
+used-take_more rs k d l = grind (arith, common_steps)
+
+-- where the ranges are packed, each ends where the bytes before it end
+pub packed_end : (rs : List Range) (k : ℕ) → k ≤ length rs → IsPacked rs k → end_before 0 rs k ≡ used (take k rs)
+packed_end rs zero l h = end_before-zero rs 0
+packed_end rs (suc k) l h =
+  let e = end_before-more rs k 0 no_range (omega arith) in
+  let u = used-take_more rs k no_range (omega arith) in
+  let a = h k (omega arith) in
+  let v : used (take (suc k) rs) ≡ used (take k rs) + (get_or rs k no_range).len = rw (add-one k) at u in
+  omega (arith, e, v, a)
+
+-- a range that is laid at the end of the packed ones
+pub packed-set : (rs : List Range) (k j : ℕ) (r : Range) → j ≤ k → k < length rs → IsPacked rs j → IsPacked (set rs k r) j
+packed-set rs k j r l m h i w =
+  let e : get_or (set rs k r) i no_range ≡ get_or rs i no_range = grind (arith, common_steps) in
+  let t : take i (set rs k r) ≡ take i rs = grind (arith, common_steps) in
+  ap (λ (x : Range). x.at) e ∙ h i w ∙ ap used (sym t)
+
+pub packed-more : (rs : List Range) (k : ℕ) (r : Range) → k < length rs → IsPacked rs k → r.at ≡ used (take k rs) → IsPacked (set rs k r) (k + 1)
+packed-more rs k r l h e i w = elim (cases_eq i k) [
+    inl same ↦
+      (let g : get_or (set rs k r) k no_range ≡ r = grind (arith, common_steps) in
+       let t : take k (set rs k r) ≡ take k rs = grind (arith, common_steps) in
+       let q : (get_or (set rs k r) k no_range).at ≡ used (take k (set rs k r)) = ap (λ (x : Range). x.at) g ∙ e ∙ ap used (sym t) in
+       subst (λ (x : ℕ). (get_or (set rs k r) x no_range).at ≡ used (take x (set rs k r))) (sym same) q)
+  | inr other ↦ packed-set rs k k r (omega arith) l h i (omega arith) ]

@@ -1,5 +1,5 @@
 -- Disjoint ranges of a memory, by rising place.
-use Rattle.std.specs.Prelude.{◌≡◌, ℕ, ◌+◌, ◌<◌, ◌≤◌, ◌⊎◌, List, [], ◌∷◌, Option, Some, None, if◌then◌else◌, ◌==◌, sum_by, zero, suc, slice_set}
+use Rattle.std.specs.Prelude.{◌≡◌, ℕ, ◌+◌, ◌<◌, ◌≤◌, ◌⊎◌, List, [], ◌∷◌, Option, Some, None, if◌then◌else◌, ◌==◌, sum_by, zero, suc, slice_set, slice_index_or, take}
 use Rattle.o2_place.specs.declared.ranges.Range.{Range}
 
 -- the ranges, the memory's size, and how many ids there may be
@@ -65,6 +65,17 @@ abbrev pub start_of : ℕ → List Range → ℕ → ℕ
 start_of size [] k = size
 start_of size (r ∷ rs) zero = r.at
 start_of size (r ∷ rs) (suc k) = start_of size rs k
+
+abbrev pub no_range : Range
+no_range = record { id = 0; at = 0; len = 0 }
+
+-- the k-th range
+abbrev pub range_at : List Range → ℕ → Range
+range_at rs k = slice_index_or rs k no_range
+
+-- the first n ranges lie one behind the other from 0 on
+abbrev pub IsPacked : List Range → ℕ → Type 0
+IsPacked rs n = (k : ℕ) → k < n → (range_at rs k).at ≡ used (take k rs)
 
 -- the layout with another place and length of the k-th range, whose id is this
 abbrev pub reshaped : Layout → ℕ → ℕ → ℕ → ℕ → Layout

@@ -1,7 +1,7 @@
 // The ranges of a memory, with an index by id.
 ghost use Rattle.std.specs.Prelude.{◌≡◌, ◌≢◌, ℕ, ◌+◌, ◌<◌, ◌≤◌, [], length, IfOk, None, Some, IfSome, slice_get, option_map, ◌⊎◌, if◌then◌else◌};
-ghost use Rattle.std.specs.Option.{is_some};
-ghost use Rattle.o2_place.specs.Layout.{find_in, IsLayout, IsFree, IsLowestFree, used, Changes, len_of, one_of, over, end_before, start_of, reshaped};
+ghost use Rattle.std.specs.Option.{is_some, IfNone};
+ghost use Rattle.o2_place.specs.Layout.{find_in, IsLayout, IsFree, IsLowestFree, used, Changes, len_of, one_of, over, end_before, start_of, reshaped, range_at};
 
 use crate::ranges::{Range, insert_at, lowest_free, slot_for};
 use o2_base::NoMemory;
@@ -118,6 +118,19 @@ impl Places {
             Some(r) => Some((r.id, r.at, r.len)),
             None => None,
         }
+    }
+
+    /// How many ranges lie below that of an id, and none exactly where it has none.
+    pub fn rank(&self, id: u32) -> Option<u32>
+        requires { id < self.now.most }
+        ensures none { IfNone result (find_in self.now.ranges id ≡ None) }
+        ensures some { IfSome result (λ k. (k < length self.now.ranges) × ((range_at self.now.ranges k).id ≡ id)) }
+    {
+        let spot = self.spots[id as usize];
+        if spot.len == 0 {
+            return None;
+        }
+        Some(slot_for(&self.ranges, self.size, spot.at) as u32)
     }
 
     /// How many bytes of the memory are in no range.
