@@ -381,3 +381,8 @@ packed-more rs k r l h e i w = elim (cases_eq i k) [
        let q : (get_or (set rs k r) k no_range).at ≡ used (take k (set rs k r)) = ap (λ (x : Range). x.at) g ∙ e ∙ ap used (sym t) in
        subst (λ (x : ℕ). (get_or (set rs k r) x no_range).at ≡ used (take x (set rs k r))) (sym same) q)
   | inr other ↦ packed-set rs k k r (omega arith) l h i (omega arith) ]
+
+pub start_of-le : (rs : List Range) (k low size : ℕ) → AreLaid low size rs → start_of size rs k ≤ size
+start_of-le [] k low size a = omega arith
+start_of-le (s ∷ rs) zero low size a = let w = AreLaid-within rs (s.at + s.len) size a.2 in omega arith
+start_of-le (s ∷ rs) (suc k) low size a = start_of-le rs k (s.at + s.len) size a.2

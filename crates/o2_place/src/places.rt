@@ -1,5 +1,5 @@
 // The ranges of a memory, with an index by id.
-ghost use Rattle.std.specs.Prelude.{◌≡◌, ◌≢◌, ℕ, ◌+◌, ◌<◌, ◌≤◌, [], length, IfOk, None, Some, IfSome, slice_get, option_map, ◌⊎◌, if◌then◌else◌};
+ghost use Rattle.std.specs.Prelude.{◌≡◌, ◌≢◌, ℕ, ◌+◌, ◌<◌, ◌≤◌, ◌^◌, [], length, IfOk, None, Some, IfSome, slice_get, option_map, ◌⊎◌, if◌then◌else◌};
 ghost use Rattle.std.specs.Option.{is_some, IfNone};
 ghost use Rattle.o2_place.specs.Layout.{find_in, IsLayout, IsFree, IsLowestFree, used, Changes, len_of, one_of, over, end_before, start_of, reshaped, range_at};
 
@@ -120,6 +120,14 @@ impl Places {
         }
     }
 
+    /// The k-th range from 0 by rising place, where there are more than k.
+    pub fn range_at(&self, k: u32) -> Range
+        requires { k < length self.now.ranges }
+        ensures { result ≡ range_at self.now.ranges k }
+    {
+        self.ranges[k as usize]
+    }
+
     /// How many ranges lie below that of an id, and none exactly where it has none.
     pub fn rank(&self, id: u32) -> Option<u32>
         requires { id < self.now.most }
@@ -162,8 +170,8 @@ impl Places {
         requires some { 0 < len }
         requires above { end_before 0 self.old.ranges k ≤ at }
         requires below { at + len ≤ start_of self.old.size self.old.ranges (k + 1) }
-        ensures was { slice_get self.old.ranges k ≡ Some result }
-        ensures reshaped { self.new ≡ reshaped self.old k result.id at len }
+        ensures was { result ≡ range_at self.old.ranges k }
+        ensures reshaped { self.new ≡ reshaped self.old k (range_at self.old.ranges k).id at len }
     {
         let was = self.ranges[k as usize];
         self.ranges[k as usize] = Range {
@@ -189,7 +197,8 @@ impl Places {
         ensures sum { (n : ℕ) → self.now.most ≤ n → over (λ k. len_of (find_in self.now.ranges k)) n ≡ used self.now.ranges }
         ensures number { (n : ℕ) → self.now.most ≤ n → over (λ k. one_of (find_in self.now.ranges k)) n ≡ length self.now.ranges }
         ensures room { used self.now.ranges ≤ self.now.size }
+        ensures small { self.now.size < 2 ^ 32 }
     {
-        let _ = &self.ranges;
+        let _size = self.size;
     }
 }
