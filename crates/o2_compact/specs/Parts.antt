@@ -14,6 +14,7 @@ length_of places id = len_of (find_in places.ranges id)
 -- each id's bytes stay, though its range may move
 pub record KeepsParts (m : List ℕ) (p : Layout) (n : List ℕ) (q : Layout) : Type 0 where
   pub parts : (id : ℕ) → part_of n q id ≡ part_of m p id
+  pub lengths : (id : ℕ) → length_of q id ≡ length_of p id
   pub whole : length n ≡ length m
   pub size : q.size ≡ p.size
   pub most : q.most ≡ p.most

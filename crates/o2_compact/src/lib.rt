@@ -18,6 +18,7 @@ pub fn close_up(phys: &mut Phys, places: &mut Places)
 {
     let mut end = 0;
     for k in 0..places.count() {
+        places.law();
         end = move_range(phys, places, k, end);
     }
     places.law();
@@ -48,13 +49,11 @@ fn move_range(phys: &mut Phys, places: &mut Places, k: u32, to: u32) -> u32
     ensures end { result ≡ to + (range_at places.old.ranges k).len }
 {
     places.law();
-    let Some((_, from, len)) = places.range(k) else {
-        return to;
-    };
-    places.reshape(k, to, len);
+    let was = places.range_at(k);
+    places.reshape(k, to, was.len);
     places.law();
-    phys.slide(from, to, len);
-    to + len
+    phys.slide(was.at, to, was.len);
+    to + was.len
 }
 
 // Where the ranges are packed, moves those behind that of an id up, and gives it the length.
@@ -70,15 +69,15 @@ fn widen(phys: &mut Phys, places: &mut Places, id: u32, len: u32)
     let Some(i) = places.rank(id) else {
         return;
     };
-    let Some((_, at, was)) = places.range(i) else {
-        return;
-    };
-    let growth = len - was;
-    for k in (i + 1..places.count()).rev() {
+    places.law();
+    let was = places.range_at(i);
+    let growth = len - was.len;
+    let count = places.count();
+    for k in (i + 1..count).rev() {
         lift(phys, places, k, growth);
     }
     places.law();
-    places.reshape(i, at, len);
+    places.reshape(i, was.at, len);
 }
 
 // Moves the k-th range up by a growth, where those below it are packed and there is so much room above it.
@@ -93,8 +92,6 @@ fn lift(phys: &mut Phys, places: &mut Places, k: u32, growth: u32)
     ensures before { (j : ℕ) → j < k → range_at places.new.ranges j ≡ range_at places.old.ranges j }
 {
     places.law();
-    let Some((_, at, _)) = places.range(k) else {
-        return;
-    };
-    move_range(phys, places, k, at + growth);
+    let was = places.range_at(k);
+    move_range(phys, places, k, was.at + growth);
 }
