@@ -8,7 +8,6 @@ ghost use Rattle.o2_compact.specs.Parts.{KeepsParts, OpensGap, length_of};
 use o2_phys::Phys;
 use o2_place::Places;
 
-
 /// Moves the ranges down, in order, until they lie one behind the other from 0 on. Each id's bytes stay.
 pub fn close_up(phys: &mut Phys, places: &mut Places)
     requires memory { places.old.size ≤ length phys.old }
@@ -95,3 +94,6 @@ fn lift(phys: &mut Phys, places: &mut Places, k: u32, growth: u32)
     let was = places.range_at(k);
     move_range(phys, places, k, was.at + growth);
 }
+
+#[cfg(test)]
+mod tests;

@@ -1,12 +1,11 @@
 -- The ring of ids, and what the clock's calls leave.
-use Rattle.std.proofs.Common.{◌≡◌, ◌≢◌, ℕ, zero, suc, ◌+◌, ◌-◌, ◌<◌, ◌≤◌, ◌⊎◌, inl, inr, List, length, Bool, cond, eqb, ltb, leb, refl, sym, ap, ◌∙◌, arith, rules, true, false, get_or, subst, set, replicate, Option, Some, None}
-use Rattle.std.proofs.lemmas.Bool.{cases_lt, cases_eq}
+use Rattle.std.proofs.Common.{◌≡◌, ℕ, ◌<◌, ◌≤◌, ◌⊎◌, inl, inr, List, length, ltb, sym, ap, ◌∙◌, arith, true, false, get_or, subst, Option, Some, None}
+use Rattle.std.proofs.lemmas.Bool.{cases_lt}
 use Rattle.std.proofs.lemmas.Bool.Decides.{nat_tests}
-use Rattle.std.proofs.lemmas.Grind.{common_steps}
-use Rattle.std.proofs.lemmas.List.{length-set, get_or-set_same, get_or-set_other, get_or-replicate, length-replicate, get_or_past}
+use Rattle.std.proofs.lemmas.List.{get_or_past}
 use Rattle.std.specs.Option.{IfSome, IfNone}
 use Rattle.o2_place.specs.declared.clock.Mark.{Mark}
-use Rattle.o2_place.specs.Marks.{no_mark, mark_of, IsPresent, IsUnused, IsOutside, IsKept, OnlyUnmarks, IsVictim, IsRing, IsClock, NoneUnused, StandsIn, turn_after}
+use Rattle.o2_place.specs.Marks.{no_mark, mark_of, IsPresent, IsUnused, IsOutside, IsKept, IsVictim, IsClock, NoneUnused, StandsIn}
 
 -- where a present id stands
 pub present_turn : (ms : List Mark) (ring turns : List ℕ) (count : ℕ) → IsClock ms ring turns count → (id : ℕ) → IsPresent ms id → (get_or turns id 0 < count) × (get_or ring (get_or turns id 0) 0 ≡ id)

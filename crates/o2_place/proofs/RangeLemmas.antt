@@ -7,7 +7,7 @@ use Rattle.std.proofs.lemmas.List.Sums.{sum_by-cons, sum_by_push, sum_by-set}
 use Rattle.std.proofs.lemmas.List.{take_more_set}
 use Rattle.std.proofs.lemmas.Grind.{common_steps}
 use Rattle.o2_place.specs.declared.ranges.Range.{Range}
-use Rattle.o2_place.specs.Layout.{Layout, find_in, AreLaid, AreApart, IsFree, IsLowestFrom, used, Changes, IsLayout, end_before, start_of, IsPacked, no_range, range_at}
+use Rattle.o2_place.specs.Layout.{Layout, find_in, AreLaid, AreApart, IsFree, IsLowestFrom, used, Changes, end_before, start_of, IsPacked, no_range}
 
 -- an id without a range isn't the first one's
 pub not_first : (r : Range) (rs : List Range) (id : ℕ) → find_in (r ∷ rs) id ≡ None → (id ≢ r.id) × (find_in rs id ≡ None)
@@ -360,27 +360,28 @@ used-take_more rs k d l = grind (arith, common_steps)
 pub packed_end : (rs : List Range) (k : ℕ) → k ≤ length rs → IsPacked rs k → end_before 0 rs k ≡ used (take k rs)
 packed_end rs zero l h = end_before-zero rs 0
 packed_end rs (suc k) l h =
-  let e = end_before-more rs k 0 no_range (omega arith) in
-  let u = used-take_more rs k no_range (omega arith) in
-  let a = h k (omega arith) in
-  let v : used (take (suc k) rs) ≡ used (take k rs) + (get_or rs k no_range).len = rw (add-one k) at u in
-  omega (arith, e, v, a)
+    let e = end_before-more rs k 0 no_range (omega arith) in
+    let u = used-take_more rs k no_range (omega arith) in
+    let a = h k (omega arith) in
+    let v : used (take (suc k) rs) ≡ used (take k rs) + (get_or rs k no_range).len = rw (add-one k) at u in
+    omega (arith, e, v, a)
 
 -- a range that is laid at the end of the packed ones
 pub packed-set : (rs : List Range) (k j : ℕ) (r : Range) → j ≤ k → k < length rs → IsPacked rs j → IsPacked (set rs k r) j
 packed-set rs k j r l m h i w =
-  let e : get_or (set rs k r) i no_range ≡ get_or rs i no_range = grind (arith, common_steps) in
-  let t : take i (set rs k r) ≡ take i rs = grind (arith, common_steps) in
-  ap (λ (x : Range). x.at) e ∙ h i w ∙ ap used (sym t)
+    let e : get_or (set rs k r) i no_range ≡ get_or rs i no_range = grind (arith, common_steps) in
+    let t : take i (set rs k r) ≡ take i rs = grind (arith, common_steps) in
+    ap (λ (x : Range). x.at) e ∙ h i w ∙ ap used (sym t)
 
 pub packed-more : (rs : List Range) (k : ℕ) (r : Range) → k < length rs → IsPacked rs k → r.at ≡ used (take k rs) → IsPacked (set rs k r) (k + 1)
 packed-more rs k r l h e i w = elim (cases_eq i k) [
-    inl same ↦
+  | inl same ↦
       (let g : get_or (set rs k r) k no_range ≡ r = grind (arith, common_steps) in
-       let t : take k (set rs k r) ≡ take k rs = grind (arith, common_steps) in
-       let q : (get_or (set rs k r) k no_range).at ≡ used (take k (set rs k r)) = ap (λ (x : Range). x.at) g ∙ e ∙ ap used (sym t) in
-       subst (λ (x : ℕ). (get_or (set rs k r) x no_range).at ≡ used (take x (set rs k r))) (sym same) q)
-  | inr other ↦ packed-set rs k k r (omega arith) l h i (omega arith) ]
+      let t : take k (set rs k r) ≡ take k rs = grind (arith, common_steps) in
+      let q : (get_or (set rs k r) k no_range).at ≡ used (take k (set rs k r)) = ap (λ (x : Range). x.at) g ∙ e ∙ ap used (sym t) in
+      subst (λ (x : ℕ). (get_or (set rs k r) x no_range).at ≡ used (take x (set rs k r))) (sym same) q)
+  | inr other ↦ packed-set rs k k r (omega arith) l h i (omega arith)
+]
 
 pub start_of-le : (rs : List Range) (k low size : ℕ) → AreLaid low size rs → start_of size rs k ≤ size
 start_of-le [] k low size a = omega arith

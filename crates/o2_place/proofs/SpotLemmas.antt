@@ -7,7 +7,7 @@ use Rattle.std.proofs.lemmas.Grind.{common_steps}
 use Rattle.std.proofs.lemmas.List.{length-set, get_or-set_same, get_or-set_other, get_or_read}
 use Rattle.o2_place.specs.declared.ranges.Range.{Range}
 use Rattle.o2_place.specs.declared.places.Spot.{Spot}
-use Rattle.o2_place.specs.Layout.{Layout, find_in, AreLaid, AreApart, IsFree, used, Changes, IsLayout, end_before, start_of, one_of, over, no_range, range_at, reshaped}
+use Rattle.o2_place.specs.Layout.{Layout, find_in, AreLaid, AreApart, IsFree, used, Changes, end_before, start_of, one_of, over, no_range, range_at, reshaped}
 use Rattle.o2_place.specs.Spots.{no_spot, spot_of, spot_at, layout_of, IsPlaces}
 use Rattle.o2_place.proofs.RangeLemmas.{find_in-insert, find_in-remove, AreLaid-insert, AreLaid-remove, AreApart-insert, AreApart-remove, AreLaid-reshape, AreApart-reshape, find_in-reshape, find_in-at, used-reshape, len-le-used, found_at}
 use Rattle.o2_place.proofs.Sums.{over-ranges, over-few, over-fewer, sum-ones}
@@ -174,24 +174,24 @@ taken_is rs ss size taken id i spot h l e n b a =
 
 -- the range of an id with a spot stands behind those that begin below it
 pub ranked : (rs : List Range) (ss : List Spot) (size taken id i : ℕ) (spot : Spot) → IsPlaces rs ss size taken → id < length ss → spot ≡ get_or ss id spot → (spot.len ≡ 0 → ⊥)
-  → ((k : ℕ) (d : Range) → k < i → (get_or rs k d).at < spot.at) → ((k : ℕ) (d : Range) → i ≤ k → k < length rs → spot.at ≤ (get_or rs k d).at) → (i < length rs) × ((get_or rs i no_range).id ≡ id)
+    → ((k : ℕ) (d : Range) → k < i → (get_or rs k d).at < spot.at) → ((k : ℕ) (d : Range) → i ≤ k → k < length rs → spot.at ≤ (get_or rs k d).at) → (i < length rs) × ((get_or rs i no_range).id ≡ id)
 ranked rs ss size taken id i spot h l e n b a =
-  let p : 0 < spot.len = omega arith in
-  let q = found_at rs 0 size id spot.at spot.len i no_range h.layout.laid (spot_read rs ss size taken id spot h l e p) b a in
-  (q.0, ap (λ (r : Range). r.id) q.1)
+    let p : 0 < spot.len = omega arith in
+    let q = found_at rs 0 size id spot.at spot.len i no_range h.layout.laid (spot_read rs ss size taken id spot h l e p) b a in
+    (q.0, ap (λ (r : Range). r.id) q.1)
 
 -- an id whose spot is empty has no range
 pub unranked : (rs : List Range) (ss : List Spot) (size taken id : ℕ) (spot : Spot) → IsPlaces rs ss size taken → id < length ss → spot ≡ get_or ss id spot → spot.len ≡ 0 → find_in rs id ≡ None
 unranked rs ss size taken id spot h l e n =
-  let z : eqb spot.len 0 ≡ true = grind (arith, nat_tests) in
-  let s : spot_of spot ≡ None = rw z refl in
-  sym (h.indexed id) ∙ ap spot_of (sym (get_or_read ss id spot l e no_spot)) ∙ s
+    let z : eqb spot.len 0 ≡ true = grind (arith, nat_tests) in
+    let s : spot_of spot ≡ None = rw z refl in
+    sym (h.indexed id) ∙ ap spot_of (sym (get_or_read ss id spot l e no_spot)) ∙ s
 
 -- the layout after a change of the k-th range
 pub reshaped_read : (rs : List Range) (ss : List Spot) (size k at len : ℕ) (was : Range) → was ≡ range_at rs k
-  → layout_of (set rs k (record {id = was.id; at = at; len = len})) (set ss was.id (record {at = at; len = len})) size ≡ reshaped (layout_of rs ss size) k (range_at rs k).id at len
+    → layout_of (set rs k (record { id = was.id; at = at; len = len })) (set ss was.id (record { at = at; len = len })) size ≡ reshaped (layout_of rs ss size) k (range_at rs k).id at len
 reshaped_read rs ss size k at len was e =
-  let n : length (set ss was.id (record {at = at; len = len})) ≡ length ss = length-set ss was.id (record {at = at; len = len}) in
-  let f : layout_of (set rs k (record {id = was.id; at = at; len = len})) (set ss was.id (record {at = at; len = len})) size ≡ reshaped (layout_of rs ss size) k was.id at len =
-    ap (λ (m : ℕ). let y : Layout = record {ranges = set rs k (record {id = was.id; at = at; len = len}); size = size; most = m} in y) n in
-  f ∙ ap (λ (r : Range). reshaped (layout_of rs ss size) k r.id at len) e
+    let n : length (set ss was.id (record { at = at; len = len })) ≡ length ss = length-set ss was.id (record { at = at; len = len }) in
+    let f : layout_of (set rs k (record { id = was.id; at = at; len = len })) (set ss was.id (record { at = at; len = len })) size ≡ reshaped (layout_of rs ss size) k was.id at len =
+    ap (λ (m : ℕ). let y : Layout = record { ranges = set rs k (record { id = was.id; at = at; len = len }); size = size; most = m } in y) n in
+    f ∙ ap (λ (r : Range). reshaped (layout_of rs ss size) k r.id at len) e

@@ -1,5 +1,5 @@
 -- Who is present, who was used, and whose turn is next.
-use Rattle.std.specs.Prelude.{◌≡◌, ◌≢◌, ◌⊎◌, ℕ, ◌<◌, ◌≤◌, List, length, Bool, true, false, slice_index, slice_index_or, nat_lt, ◌==◌, if◌then◌else◌}
+use Rattle.std.specs.Prelude.{◌≡◌, ◌≢◌, ◌⊎◌, ℕ, ◌<◌, ◌≤◌, List, length, true, false, slice_index, slice_index_or, nat_lt, ◌==◌, if◌then◌else◌}
 use Rattle.o2_place.specs.declared.clock.Mark.{Mark}
 
 abbrev pub no_mark : Mark

@@ -1,7 +1,7 @@
 -- One block goes from the top of a pile to another.
 use Rattle.std.proofs.lemmas.Option.{slice_get-get_or, slice_get_cases}
-use Rattle.std.proofs.Common.{◌^◌, slice_get, Option, Some, None, replicate, ◌≡◌, ◌≢◌, ℕ, zero, suc, ◌+◌, ◌-◌, ◌<◌, ◌≤◌, ◌⊎◌, inl, inr, List, length, [], ◌∷◌, ◌++◌, get_or, set, refl, sym, ap, ◌∙◌, arith, rules, sum_by, subst, add-one}
-use Rattle.std.proofs.lemmas.List.{places, get_or-set_other, get_or-set_same, length-set, get_or-append_right, get_or_append_left, get_or-map, length-append, get_or_past, get_or-replicate, length-replicate}
+use Rattle.std.proofs.Common.{◌^◌, slice_get, Some, None, replicate, ◌≡◌, ◌≢◌, ℕ, zero, suc, ◌+◌, ◌-◌, ◌<◌, ◌≤◌, inl, inr, List, length, [], ◌∷◌, ◌++◌, get_or, set, refl, sym, ap, ◌∙◌, arith, sum_by, add-one}
+use Rattle.std.proofs.lemmas.List.{places, get_or-set_other, get_or-set_same, length-set, get_or-map, get_or_past, get_or-replicate, length-replicate}
 use Rattle.std.proofs.lemmas.List.Sums.{sum_by-set, sum_by-cons, get_or-le-sum_by}
 use Rattle.std.proofs.lemmas.Bool.{cases_lt, cases_eq}
 use Rattle.std.proofs.lemmas.Grind.{common_steps}

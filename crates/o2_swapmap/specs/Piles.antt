@@ -1,5 +1,5 @@
 -- Swap blocks in piles, one pile for each owner and one for the free blocks.
-use Rattle.std.specs.Prelude.{◌≡◌, ◌≢◌, ℕ, zero, suc, ◌+◌, ◌<◌, ◌≤◌, List, length, [], ◌∷◌, ◌++◌, map, slice_index_or, sum_by, take, ◌^◌}
+use Rattle.std.specs.Prelude.{◌≡◌, ◌≢◌, ℕ, zero, suc, ◌+◌, ◌<◌, ◌≤◌, List, length, [], ◌∷◌, ◌++◌, map, slice_index_or, sum_by, ◌^◌}
 use Rattle.o2_swapmap.specs.declared.piles.Block.{Block}
 use Rattle.o2_swapmap.specs.declared.piles.Pile.{Pile}
 

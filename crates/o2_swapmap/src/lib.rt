@@ -6,3 +6,6 @@ mod piles;
 mod swap_map;
 
 pub use swap_map::SwapMap;
+
+#[cfg(test)]
+mod tests;

@@ -1,4 +1,4 @@
-use Rattle.std.proofs.Common.{◌≡◌, ◌≤◌, ◌<◌, ℕ, vec_len, length, slice_index}
+use Rattle.std.proofs.Common.{◌≡◌, ◌≤◌, ◌<◌, ℕ, length, slice_index}
 use Rattle.std.specs.Vec.{vec_capacity}
 use Rattle.o2_place.proofs.clock.numbers_below.Given as goal
 

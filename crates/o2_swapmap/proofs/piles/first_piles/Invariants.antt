@@ -1,4 +1,4 @@
-use Rattle.std.proofs.Common.{◌≡◌, ◌≤◌, ◌<◌, ◌+◌, ℕ, vec_len, length, replicate}
+use Rattle.std.proofs.Common.{◌≡◌, ◌≤◌, ◌+◌, vec_len, replicate}
 use Rattle.std.specs.Vec.{vec_capacity}
 use Rattle.o2_swapmap.specs.Piles.{no_pile}
 use Rattle.o2_swapmap.proofs.piles.first_piles.Given as goal

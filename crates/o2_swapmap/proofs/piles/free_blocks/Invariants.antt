@@ -1,4 +1,4 @@
-use Rattle.std.proofs.Common.{◌≡◌, ◌≤◌, ◌<◌, ◌-◌, ℕ, vec_len, length}
+use Rattle.std.proofs.Common.{◌≡◌, ◌≤◌, ◌<◌, ◌-◌, ℕ, vec_len}
 use Rattle.std.specs.Vec.{vec_capacity}
 use Rattle.o2_swapmap.specs.Piles.{block}
 use Rattle.o2_swapmap.proofs.piles.free_blocks.Given as goal

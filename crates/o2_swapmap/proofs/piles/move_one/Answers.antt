@@ -1,8 +1,8 @@
-use Rattle.std.proofs.Common.{◌≡◌, arith, ◌<◌, length}
+use Rattle.std.proofs.Common.{arith}
 use Rattle.std.proofs.lemmas.List.Sums.{get_or-le-sum_by}
 use Rattle.o2_swapmap.specs.declared.piles.Pile.{Pile}
 use Rattle.o2_swapmap.specs.Piles.{no_pile}
-use Rattle.o2_swapmap.proofs.Moves.{moved, top_in, at}
+use Rattle.o2_swapmap.proofs.Moves.{moved, top_in}
 use Rattle.o2_swapmap.proofs.piles.move_one.Goals as goal
 
 pub overflow_cast-below : goal.overflow_cast-below

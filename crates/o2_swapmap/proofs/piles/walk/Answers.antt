@@ -1,7 +1,4 @@
-use Rattle.std.proofs.Common.{◌≡◌, ◌+◌, ◌-◌, ◌<◌, ◌∙◌, sym, subst, ℕ, ap, arith, rules}
-use Rattle.std.proofs.lemmas.List.{get_or_read}
-use Rattle.o2_swapmap.specs.declared.piles.Block.{Block}
-use Rattle.o2_swapmap.specs.Piles.{pile, IsPile, block, no_block}
+use Rattle.std.proofs.Common.{◌≡◌, ◌+◌, ◌-◌, ◌∙◌, sym, arith}
 use Rattle.o2_swapmap.proofs.Moves.{walk_step, walk_end}
 use Rattle.o2_swapmap.proofs.piles.walk.Goals as goal
 

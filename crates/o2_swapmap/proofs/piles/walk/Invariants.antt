@@ -1,4 +1,4 @@
-use Rattle.std.proofs.Common.{◌≡◌, ◌+◌, ◌-◌, slice_index, suc, ◌≤◌}
+use Rattle.std.proofs.Common.{◌≡◌, ◌+◌, ◌-◌, slice_index}
 use Rattle.o2_swapmap.specs.Piles.{pile, IsPile}
 use Rattle.o2_swapmap.proofs.piles.walk.Given as goal
 

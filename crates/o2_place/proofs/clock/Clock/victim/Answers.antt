@@ -1,5 +1,5 @@
-use Rattle.std.proofs.Common.{◌≡◌, ◌<◌, ◌≤◌, ℕ, length, arith, rules, sym, subst, get_or, inl, List}
-use Rattle.o2_place.specs.Marks.{NoneUnused, IsPresent, IsOutside, IsUnused, IsVictim, IsKept, StandsIn}
+use Rattle.std.proofs.Common.{◌≤◌, arith, inl}
+use Rattle.o2_place.specs.Marks.{NoneUnused}
 use Rattle.o2_place.proofs.MarkLemmas.{used_victim, all_kept, none_unused, some_weaker, none_weaker}
 use Rattle.o2_place.proofs.clock.Clock.victim.Goals as goal
 

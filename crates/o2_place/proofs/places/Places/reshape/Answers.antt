@@ -1,4 +1,4 @@
-use Rattle.std.proofs.Common.{◌<◌, ◌^◌, length, vec_len, ◌≡◌, arith, rules, sym, ap, ◌∙◌, Some}
+use Rattle.std.proofs.Common.{◌<◌, ◌^◌, length, vec_len, ◌≡◌, arith, rules}
 use Rattle.std.proofs.lemmas.List.{length-set, get_or_read}
 use Rattle.o2_place.specs.Layout.{no_range}
 use Rattle.o2_place.proofs.RangeLemmas.{used-le}
@@ -29,12 +29,12 @@ invariant_of-self c =
 
 pub returns-clause-was : goal.returns-clause-was
 returns-clause-was c =
-  let i = c.self.inside in
-  rw (← c.self.view_is) (get_or_read i.ranges.items c.args.k c.index-was.result.now (rw (← c.self.view_is) at c.requires.within) c.index-was.ensures no_range)
+    let i = c.self.inside in
+    rw (← c.self.view_is) (get_or_read i.ranges.items c.args.k c.index-was.result.now (rw (← c.self.view_is) at c.requires.within) c.index-was.ensures no_range)
 
 pub returns-clause-reshaped : goal.returns-clause-reshaped
 returns-clause-reshaped c =
-  let i = c.self.inside in
-  let e = get_or_read i.ranges.items c.args.k c.index-was.result.now (rw (← c.self.view_is) at c.requires.within) c.index-was.ensures no_range in
-  let n = length-set i.spots.items c.index-was.result.now.id (record {at = c.args.at; len = c.args.len}) in
-  rw (← c.self.view_is) (reshaped_read i.ranges.items i.spots.items i.size c.args.k c.args.at c.args.len c.index-was.result.now e)
+    let i = c.self.inside in
+    let e = get_or_read i.ranges.items c.args.k c.index-was.result.now (rw (← c.self.view_is) at c.requires.within) c.index-was.ensures no_range in
+    let n = length-set i.spots.items c.index-was.result.now.id (record { at = c.args.at; len = c.args.len }) in
+    rw (← c.self.view_is) (reshaped_read i.ranges.items i.spots.items i.size c.args.k c.args.at c.args.len c.index-was.result.now e)

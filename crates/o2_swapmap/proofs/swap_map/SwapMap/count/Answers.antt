@@ -1,4 +1,4 @@
-use Rattle.std.proofs.Common.{arith, rules, sym, ◌≡◌, ◌∙◌, ap, List}
+use Rattle.std.proofs.Common.{rules, sym, ◌∙◌, ap}
 use Rattle.std.proofs.lemmas.List.{get_or_read}
 use Rattle.o2_swapmap.specs.declared.piles.Pile.{Pile}
 use Rattle.o2_swapmap.specs.Piles.{no_pile}

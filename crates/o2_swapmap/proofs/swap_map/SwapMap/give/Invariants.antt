@@ -1,4 +1,4 @@
-use Rattle.std.proofs.Common.{◌≡◌, ◌≤◌, ◌<◌, length, take, min}
+use Rattle.std.proofs.Common.{◌≡◌, ◌≤◌, length, take, min}
 use Rattle.o2_swapmap.specs.Piles.{blocks_of, OnlyOf}
 use Rattle.o2_swapmap.proofs.swap_map.SwapMap.give.Given as goal
 

@@ -1,5 +1,4 @@
-use Rattle.std.proofs.Common.{◌≡◌, ◌≤◌, ◌<◌, ◌+◌, ◌-◌, ◌∙◌, sym, ap, arith, rules, List, length, get_or, replicate, set}
-use Rattle.o2_swapmap.specs.Piles.{no_pile}
+use Rattle.std.proofs.Common.{◌∙◌}
 use Rattle.o2_swapmap.proofs.Moves.{fresh_map, fresh_empty, fresh_free, all_is}
 use Rattle.o2_swapmap.proofs.swap_map.SwapMap.new.Goals as goal
 

@@ -1,9 +1,7 @@
-use Rattle.std.proofs.Common.{◌≡◌, ◌≤◌, ◌<◌, ◌∙◌, sym, subst, ℕ, ap, arith, rules, List, length, get_or, Option, Some, slice_get}
+use Rattle.std.proofs.Common.{sym, rules}
 use Rattle.std.proofs.lemmas.List.{get_or_read}
-use Rattle.std.proofs.lemmas.Option.{slice_get-get_or, slice_get_cases}
-use Rattle.o2_swapmap.specs.declared.piles.Pile.{Pile}
-use Rattle.o2_swapmap.specs.Piles.{pile, IsPile, no_pile, lists_of, list_of}
-use Rattle.o2_swapmap.proofs.Moves.{length-list, list_at, at, nth_past, nth_at}
+use Rattle.o2_swapmap.specs.Piles.{no_pile}
+use Rattle.o2_swapmap.proofs.Moves.{nth_past, nth_at}
 use Rattle.o2_swapmap.proofs.swap_map.SwapMap.nth.Goals as goal
 
 pub returns-then-k-pile : goal.returns-then-k-pile

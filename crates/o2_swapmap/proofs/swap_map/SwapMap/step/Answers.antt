@@ -1,7 +1,5 @@
-use Rattle.std.proofs.Common.{arith, rules, sym, ◌≡◌, ◌∙◌, length, ap, List}
+use Rattle.std.proofs.Common.{◌≡◌, ◌∙◌, length, ap}
 use Rattle.std.proofs.lemmas.List.{with_items_is}
-use Rattle.std.specs.Vec.{with_items}
-use Rattle.o2_swapmap.specs.Piles.{lists_of}
 use Rattle.o2_swapmap.proofs.Moves.{step_is}
 use Rattle.o2_swapmap.proofs.swap_map.SwapMap.step.Goals as goal
 

@@ -1,5 +1,5 @@
 use Rattle.std.proofs.Common.{◌≡◌, ◌+◌, length, take}
-use Rattle.o2_swapmap.specs.Piles.{blocks_of, OnlyOf, free}
+use Rattle.o2_swapmap.specs.Piles.{blocks_of, OnlyOf}
 use Rattle.o2_swapmap.proofs.swap_map.SwapMap.take.Given as goal
 
 abbrev pub invariant-loop : goal.invariant-loop

@@ -1,4 +1,4 @@
-use Rattle.std.proofs.Common.{◌≡◌, ◌≤◌, ◌<◌, ◌+◌, ◌-◌, ◌∙◌, sym, ap, arith, rules, List, ℕ, length, get_or}
+use Rattle.std.proofs.Common.{◌≡◌, ◌≤◌, ◌-◌, ◌∙◌, ap, arith, ℕ, length}
 use Rattle.o2_swapmap.specs.Piles.{all_of, free, blocks_of}
 use Rattle.o2_swapmap.proofs.Moves.{all_is, free_le}
 use Rattle.o2_swapmap.proofs.swap_map.SwapMap.taken.Goals as goal
