@@ -1,0 +1,3 @@
+pub mod BitTests
+pub mod Choices
+pub mod Places
