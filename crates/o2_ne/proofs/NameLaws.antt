@@ -1,6 +1,6 @@
 -- The names that a reading found stand in the file.
 use Rattle.std.proofs.Common.{◌≡◌, ℕ, zero, suc, ◌+◌, ◌-◌, ◌*◌, ◌<◌, ◌≤◌, ◌==◌, List, [], ◌∷◌, ◌++◌, Bool, true, false, Result, Ok, length, drop, refl, sym, subst, ap, ◌∙◌, arith, append_assoc, eqb-true, inl, inr, ◌⊎◌}
-use Rattle.std.proofs.lemmas.List.{length-take-le, length-drop}
+use Rattle.std.proofs.lemmas.List.{append-nil, length-take-le, length-drop}
 use Rattle.o2_base.specs.declared.faults.NeFault.{NeFault}
 use Rattle.o2_ne.specs.declared.names.Name.{Name}
 use Rattle.o2_ne.specs.Checks.{all_hold, in_file}
@@ -79,10 +79,6 @@ step_is file w after going e =
 abbrev walk_ok : Walk → Result Walk NeFault
 walk_ok w = Ok w
 
-append_none : (xs : List Name) → xs ≡ xs ++ []
-append_none [] = refl
-append_none (x ∷ xs) = ap (λ (ys : List Name). x ∷ ys) (append_none xs)
-
 -- the names behind what was found, where the table's end was met
 pub Rest : List ℕ → Walk → Walk → Type 0
 Rest file w after = (rest : List Name) × (after.found ≡ w.found ++ rest) × NamesStand file w.place rest
@@ -99,7 +95,7 @@ after_end file n w next after ends e =
     let over : next.ended ≡ true = ap (λ (v : Walk). v.ended) ends.2 in
     let same = is_over file n next (Ok after) over e in
     let found : after.found ≡ next.found = found_is after next same in
-    ([], found ∙ ap (λ (v : Walk). v.found) ends.2 ∙ append_none w.found, (ends.0, ends.1))
+    ([], found ∙ ap (λ (v : Walk). v.found) ends.2 ∙ sym (append-nil w.found), (ends.0, ends.1))
 
 after_name : (file : List ℕ) (w next after : Walk) → Finds file w next → Rest file next after → Rest file w after
 unfolding Rest

@@ -7,4 +7,5 @@ pub mod NamePlaces
 pub mod NameViews
 pub mod Rising
 pub mod EntryTable
+pub mod EntryPlaces
 pub mod EntryViews
