@@ -7,7 +7,7 @@ use Rattle.o2_ne.specs.Words.{word_at}
 use Rattle.o2_ne.specs.Steps.{steps}
 use Rattle.o2_base.specs.declared.faults.ModuleFault.{ModuleFault}
 use Rattle.o2_image.specs.Chains.{Marks, Walk, any_patched, chain_step, patched, single}
-use Rattle.o2_image.proofs.CheckedChains.{bind_ok}
+use Rattle.o2_ne.proofs.Binding.{bind_ok}
 use Rattle.o2_image.proofs.ChainSteps.{is_over}
 
 -- how many bytes are not patched

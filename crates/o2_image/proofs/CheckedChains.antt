@@ -1,16 +1,12 @@
 -- A chain that was checked has a word at each place.
-use Rattle.std.proofs.Common.{◌≡◌, ℕ, zero, suc, ◌+◌, ◌≤◌, ◌==◌, List, [], ◌∷◌, Bool, true, false, Result, Ok, Err, refl, ◌∙◌, length, arith, cond}
+use Rattle.std.proofs.Common.{◌≡◌, ℕ, zero, suc, ◌+◌, ◌≤◌, ◌==◌, List, [], ◌∷◌, Bool, true, false, Ok, refl, ◌∙◌, length, arith, cond}
 use Rattle.std.specs.Prelude.{nat_le}
 use Rattle.std.proofs.lemmas.Bool.{leb-true}
 use Rattle.o2_ne.specs.Words.{word_at}
-use Rattle.o2_ne.specs.Checks.{◌>>=◌}
 use Rattle.o2_ne.specs.Steps.{steps}
+use Rattle.o2_ne.proofs.Binding.{bind_ok}
 use Rattle.o2_image.specs.Chains.{Marks, Walk, chain_step, places, single}
 use Rattle.o2_image.specs.Whole.{Fit}
-
-pub bind_ok : {A B F : Type 0} (r : Result A F) (f : A → Result B F) (y : B) → (r >>= f) ≡ Ok y → (x : A) × (r ≡ Ok x) × (f x ≡ Ok y)
-bind_ok (Ok x) f y e = (x, refl, e)
-bind_ok (Err d) f y e = absurd cc
 
 single_fits : (seg : ℕ) (bytes : List ℕ) (width p : ℕ) (marks after : Marks) → single seg bytes width p marks ≡ Ok after → p + width ≤ length bytes
 single_fits seg bytes width p marks after e = go (nat_le (p + width) (length bytes)) refl

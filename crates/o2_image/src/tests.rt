@@ -205,10 +205,12 @@ fn the_parts_of_a_program(rt: HostRuntime) -> Result<(), Fail> {
     assert_eq!(rt; module.head().stack, 512);
     assert_eq!(rt; module.names().ordinal(b"HELLO"), None);
     assert_eq!(rt; module.entries().get(1), None);
-    assert_eq!(rt; module.reference(1), Some(b"DOSCALLS".as_slice()));
-    assert_eq!(rt; module.reference(2), None);
-    assert_eq!(rt; module.imported(1), Some(b"DOSCALLS".as_slice()));
-    assert_eq!(rt; module.imported(600), None);
+    let reference = module.reference(1).ok_or("no reference 1")?;
+    assert_eq!(rt; reference, b"DOSCALLS".as_slice());
+    assert!(rt; module.reference(2).is_none());
+    let imported = module.imported(1).ok_or("no name at 1")?;
+    assert_eq!(rt; imported, b"DOSCALLS".as_slice());
+    assert!(rt; module.imported(600).is_none());
     assert_eq!(rt; module.segment(2).map(|s| s.size), Some(16));
     assert_eq!(rt; module.segment(3), None);
     assert_eq!(rt; module.reloc(1, 1).map(|r| r.second), Some(5));

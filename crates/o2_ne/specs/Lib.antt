@@ -3,7 +3,9 @@ pub mod Checks
 pub mod Steps
 pub mod Header
 pub mod NameTable
+pub mod NamePlaces
 pub mod NameViews
 pub mod Rising
 pub mod EntryTable
+pub mod EntryPlaces
 pub mod EntryViews

@@ -1,5 +1,5 @@
 -- Entries by rising ordinal.
-use Rattle.std.specs.Prelude.{ℕ, ◌<◌, ◌≤◌, List, get_or, length}
+use Rattle.std.specs.Prelude.{ℕ, ◌<◌, List, get_or, length}
 use Rattle.std.specs.List.Sorted.{IsNonDecreasingBy}
 use Rattle.o2_ne.specs.declared.entries.Entry.{Entry}
 

@@ -1,6 +1,7 @@
-ghost use Rattle.std.specs.Prelude.{◌≡◌, ◌+◌, ◌*◌, ◌≤◌, ◌<◌, ◌^◌, length, List, Option, option_map, find, ◌==◌, nat_lt, true, false, slice_get};
+ghost use Rattle.std.specs.Prelude.{◌≡◌, ◌+◌, ◌*◌, ◌≤◌, ◌<◌, ◌^◌, length, List, Option, option_map, find, ◌==◌, nat_lt, true, false, slice_get, IfOk};
 ghost use Rattle.o2_ne.specs.Steps.{Gives, steps};
 ghost use Rattle.o2_ne.specs.Rising.{IsRising};
+ghost use Rattle.o2_ne.specs.EntryPlaces.{BundlesStand};
 ghost use Rattle.o2_ne.specs.EntryTable.{Table, bundle, entry_step, entries_of, is_segment, table_step, target_of};
 ghost use Rattle.std.specs.List.Sorted.{IsNonDecreasingBy, IsPartitionPoint};
 
@@ -208,7 +209,8 @@ impl Entries {
     pub fn read(alloc: Global, file: &[u8], head: &Head) -> Result<Entries, Fail<NeFault>>
         requires small { length file.now ≤ 4194304 }
         requires inside { head.now.at + 64 ≤ length file.now }
-        ensures { Gives (λ es. es) result (entries_of file.now head.now) }
+        ensures exact { Gives (λ es. es) result (entries_of file.now head.now) }
+        ensures stand { IfOk result (λ es. BundlesStand file.now (head.now.at + head.now.entries + head.now.entries_len) (head.now.at + head.now.entries) 1 es) }
     {
         let start = head.at + u32::from(head.entries);
         let end = start + u32::from(head.entries_len);

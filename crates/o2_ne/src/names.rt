@@ -3,7 +3,9 @@ ghost use Rattle.std.specs.Prelude.{◌≡◌, ◌==◌, ◌+◌, ◌≤◌, ◌
 ghost use Rattle.std.specs.List.{list_any};
 ghost use Rattle.o2_ne.specs.Steps.{Gives, steps};
 ghost use Rattle.o2_ne.specs.NameTable.{name_step, named, names_at, exports_of, nonresident, ordinal_of, own_name, own_text, same_name};
+ghost use Rattle.o2_ne.specs.NamePlaces.{ExportsStand, NamesStand, StringStands};
 ghost use Rattle.o2_ne.specs.NameViews.{walk};
+ghost use Rattle.o2_ne.specs.Words.{byte_at};
 
 use crate::bytes::u16_at;
 use crate::head::{Head, need};
@@ -86,8 +88,10 @@ fn walk_on(alloc: Global, file: &[u8], at: u32) -> Result<Walking, Fail<NeFault>
 // The names of the table from a place on.
 #[tactic(auto, unfolding(crate::specs::NameTable::names_at))]
 fn names_at(alloc: Global, file: &[u8], at: u32) -> Result<Vec<Name>, Fail<NeFault>>
-    requires { length file.now ≤ 4194304 }
-    ensures { Gives (λ v. v.items) result (names_at file.now at) }
+    requires small { length file.now ≤ 4194304 }
+    requires some { 0 < length file.now }
+    ensures exact { Gives (λ v. v.items) result (names_at file.now at) }
+    ensures stand { IfOk result (λ v. NamesStand file.now at v.items) }
 {
     let walking = walk_on(alloc, file, at)?;
     let Walking { found, .. } = walking;
@@ -111,7 +115,9 @@ fn has_line_end(text: &[u8]) -> bool
 fn own_text(alloc: Global, file: &[u8], at: u32, len: u8) -> Result<Bytes, Fail<NeFault>>
     requires small { length file.now ≤ 4194304 }
     requires place { at < length file.now }
-    ensures { Gives (λ b. b) result (own_text file.now at len) }
+    requires len { len ≡ byte_at file.now at }
+    ensures exact { Gives (λ b. b) result (own_text file.now at len) }
+    ensures stands { IfOk result (λ b. StringStands file.now at b) }
 {
     if len == 0 {
         return Err(Fail::Bad(NeFault::BadTable(Which::Names)));
@@ -130,7 +136,7 @@ fn own_text(alloc: Global, file: &[u8], at: u32, len: u8) -> Result<Bytes, Fail<
 fn own_name(alloc: Global, file: &[u8], at: u32) -> Result<Bytes, Fail<NeFault>>
     requires { length file.now ≤ 4194304 }
     ensures exact { Gives (λ b. b) result (own_name file.now at) }
-    ensures inside { IfOk result (λ b. at + length b + 3 ≤ length file.now) }
+    ensures stands { IfOk result (λ b. StringStands file.now at b) }
 {
     need(file, at, 1).map_err(Fail::Bad)?;
     own_text(alloc, file, at, file[at as usize])
@@ -138,8 +144,11 @@ fn own_name(alloc: Global, file: &[u8], at: u32) -> Result<Bytes, Fail<NeFault>>
 
 // The nonresident names.
 fn nonresident(alloc: Global, file: &[u8], head: &Head) -> Result<Vec<Name>, Fail<NeFault>>
-    requires { length file.now ≤ 4194304 }
-    ensures { Gives (λ v. v.items) result (nonresident file.now head.now) }
+    requires small { length file.now ≤ 4194304 }
+    requires some { 0 < length file.now }
+    ensures exact { Gives (λ v. v.items) result (nonresident file.now head.now) }
+    ensures none { head.now.nonresident_len ≡ 0 → IfOk result (λ v. v.items ≡ []) }
+    ensures stand { 0 < head.now.nonresident_len → IfOk result (λ v. NamesStand file.now head.now.nonresident_at v.items) }
 {
     if head.nonresident_len == 0 {
         return Ok(Vec::new(alloc));
@@ -168,7 +177,8 @@ impl Names {
     pub fn read(alloc: Global, file: &[u8], head: &Head) -> Result<Names, Fail<NeFault>>
         requires small { length file.now ≤ 4194304 }
         requires inside { head.now.at + 64 ≤ length file.now }
-        ensures { Gives (λ ns. ns) result (exports_of file.now head.now) }
+        ensures exact { Gives (λ ns. ns) result (exports_of file.now head.now) }
+        ensures stand { IfOk result (λ ns. ExportsStand file.now head.now ns) }
     {
         let at = head.at + u32::from(head.resident_at);
         let own = own_name(alloc, file, at)?;

@@ -1,4 +1,4 @@
-use Rattle.std.proofs.Common.{arith, ◌≡◌, ◌≤◌, ◌<◌, ◌+◌, ◌*◌, ℕ, length, get_or, rules}
+use Rattle.std.proofs.Common.{arith, ◌≡◌, ◌≤◌, ◌<◌, ◌+◌, ◌*◌, rules}
 use Rattle.o2_ne_segs.specs.Records.{end_of, reloc_at, reloc_count}
 use Rattle.o2_image.proofs.FillSteps.{goes_on, is_done}
 use Rattle.o2_image.proofs.fill.fill_relocs.Goals as goal

@@ -1,5 +1,5 @@
-use Rattle.std.proofs.Common.{◌≡◌, ◌≢◌, ◌<◌, ◌≤◌, ℕ, List, length, get_or, ap, sym, ◌∙◌, arith, rules, Vec, Global}
-use Rattle.o2_image.proofs.Shapes.{fails, goes_on, is_done, other_lengths, relocs_length}
+use Rattle.std.proofs.Common.{◌≡◌, ℕ, length, get_or, ap, sym, ◌∙◌, arith, rules, Vec, Global}
+use Rattle.o2_image.proofs.Shapes.{fails, goes_on, other_lengths, relocs_length}
 use Rattle.o2_image.proofs.images.are_targets.Goals as goal
 
 pub returns-then-segments-targets : goal.returns-then-segments-targets

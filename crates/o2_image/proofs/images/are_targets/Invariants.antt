@@ -1,4 +1,4 @@
-use Rattle.std.proofs.Common.{◌≡◌, drop, length, map}
+use Rattle.std.proofs.Common.{◌≡◌, drop, map}
 use Rattle.o2_ne_segs.specs.Records.{relocs_in}
 use Rattle.o2_image.specs.ImageList.{same_shape}
 use Rattle.o2_image.proofs.images.are_targets.Given as goal
