@@ -6,9 +6,9 @@ ghost use Rattle.o2_image.specs.Thin.{is_thin};
 ghost use Rattle.o2_machine.specs.Programs.{program_of};
 ghost use Rattle.o2_cli.specs.Top.{Refuses, Shows, ShowsRun, IsOfRun, OnFileFault, OnInputFault, OnSinkFault, exe_budget};
 
+use crate::Status;
 use crate::load::thin_module;
 use crate::words::file_of;
-use crate::Status;
 use o2_base::{Bytes, Fail, ModuleFault, NoMemory, Which};
 use o2_image::Module;
 use o2_machine::Machine;

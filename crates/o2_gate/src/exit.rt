@@ -16,13 +16,7 @@ use o2_outer::{Put, Sink};
 use o2_report::{LineBuffer, set_ends, set_exits};
 
 /// Puts the two lines of an exit.
-fn put_exit<R: Sink>(
-    line: &mut LineBuffer,
-    pid: u16,
-    action: u16,
-    code: u16,
-    report: &mut R,
-) -> Put
+fn put_exit<R: Sink>(line: &mut LineBuffer, pid: u16, action: u16, code: u16, report: &mut R) -> Put
     ensures report { Takes (R.taken report.old) (R.taken report.new) (lines_text (Exits pid action code ∷ Ends pid code ∷ [])) result }
     ensures count { R.faults report.old ≤ R.faults report.new }
     ensures cause { OnFailed result (Rose (R.faults report.old) (R.faults report.new)) }

@@ -39,13 +39,7 @@ fn put_range<C: Sink>(plain: &Plain, pid: u16, write: &Write, console: &mut C) -
     if write.count == 0 {
         return Put::Done;
     }
-    console.put(range(
-        plain,
-        pid,
-        write.selector,
-        write.offset,
-        write.count,
-    ))
+    console.put(range(plain, pid, write.selector, write.offset, write.count))
 }
 
 /// Puts the line of the call.
@@ -133,7 +127,7 @@ fn written<C: Sink, R: Sink>(
 ) -> Called
     ensures does { (input : List ℕ) → let b = before_call plain.old pid cpu.old input in
         Does b (written_row b next write.now.handle write.now.selector write.now.offset write.now.count write.now.done_selector write.now.done_offset)
-            cpu.new plain.old plain.new (C.taken console.old) (C.taken console.new) (R.taken report.old) (R.taken report.new) result }
+        cpu.new plain.old plain.new (C.taken console.old) (C.taken console.new) (R.taken report.old) (R.taken report.new) result }
     ensures sizes { (n : ℕ) → length (bytes_in plain.new n) ≡ length (bytes_in plain.old n) }
     ensures maps { held_in plain.new ≡ held_in plain.old }
     ensures shown { (n : ℕ) → shown_in plain.new n ≡ shown_in plain.old n }

@@ -94,7 +94,7 @@ module _ (procs : List Proc) (plain : Plain) (ps : List Process) (each : (i : �
   held_there : (name : ℕ) → IsHeldBy name ps → is_held_in plain name ≡ true
   held_there name by =
       subst (λ (n : ℕ). is_held_in plain n ≡ true) by.named
-          (held_is_held plain (by.place + 1) by.index (hold_of by.hold) (hold_there (slice_get procs by.place) (slice_get ps by.place) (held_in plain (by.place + 1)) by.index by.hold (each by.place) by.there))
+      (held_is_held plain (by.place + 1) by.index (hold_of by.hold) (hold_there (slice_get procs by.place) (slice_get ps by.place) (held_in plain (by.place + 1)) by.index by.hold (each by.place) by.there))
 
   held_back : (name pid i : ℕ) (h : Hold) → held_in plain pid i ≡ Some h → h.name ≡ name → is_held ps name ≡ true
   held_back name zero i h there named = absurd (none_some h (held_in plain 0 i) (none i) there)
@@ -137,14 +137,14 @@ module _ (m new : Space) (ps : List Process) (names : Map Segment) (p : Process)
   held_before : (j : ℕ) → holds_in p.held j ≡ held_in m.plain n j
   held_before j =
       subst (λ (k : ℕ). holds_in p.held j ≡ held_in m.plain k j) (omega arith)
-          (holds_at (slice_get m.procs.items (n - 1)) (slice_get ps (n - 1)) (held_in m.plain (n - 1 + 1)) p at (between.processes (n - 1)) j)
+      (holds_at (slice_get m.procs.items (n - 1)) (slice_get ps (n - 1)) (held_in m.plain (n - 1 + 1)) p at (between.processes (n - 1)) j)
 
   processes_put : (x : Process) → IsProcess q (held_in new.plain n) x → ((i j : ℕ) → i ≢ n → held_in new.plain i j ≡ held_in m.plain i j)
       → (i : ℕ) → IsAt (slice_get new.procs.items i) (held_in new.plain (i + 1)) (slice_get (slice_set ps (n - 1) x) i)
   processes_put x is same i =
       let here : IsProcess q (held_in new.plain (n - 1 + 1)) x = subst (λ (k : ℕ). IsProcess q (held_in new.plain k) x) (omega arith) is in
       subst (λ (qs : List Proc). IsAt (slice_get qs i) (held_in new.plain (i + 1)) (slice_get (slice_set ps (n - 1) x) i)) (sym put)
-          (put_process m.procs.items ps (n - 1) q x (λ i. held_in m.plain (i + 1)) (λ i. held_in new.plain (i + 1)) (omega arith) between.processes (λ i other j. same (i + 1) j (past i n other)) here i)
+      (put_process m.procs.items ps (n - 1) q x (λ i. held_in m.plain (i + 1)) (λ i. held_in new.plain (i + 1)) (omega arith) between.processes (λ i other j. same (i + 1) j (past i n other)) here i)
 
   -- the process lives on
   pub live_stands : is_live e.state ≡ true → new.plain ≡ m.plain → StandsIn new (with_process ps n (process_after p e)) (names_after (with_process ps n (process_after p e)) names e)

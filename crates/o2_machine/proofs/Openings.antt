@@ -98,14 +98,19 @@ thin_is m e =
     let parts = first_of_four (is_thin_head m.head) (are_thin_segments m.head m.segments) _ _ e in
     let has = seven _ (m.head.auto_seg == 2) (m.head.cs == 1) ((m.head.ss == 0) || (m.head.ss == 2)) (m.head.sp == 0) _ _ parts.0 in
     let two = two_segments m.head m.segments parts.1 in
-    let auto : m.head.auto_seg ≡ 2 = eqb-true m.head.auto_seg 2 has.two in
-    (two.0, (two.1.0, record {
-      segments = two.1.1;
-      auto_seg = auto;
-      cs = eqb-true m.head.cs 1 has.one;
-      ss = thin_ss m.head.ss m.head.auto_seg has.either auto;
-      sp = eqb-true m.head.sp 0 has.zero_is;
-    }))
+    let auto : m.head.auto_seg ≡ 2 = eqb-true m.head.auto_seg 2 has.two in (
+      two.0,
+      (
+        two.1.0,
+        record {
+          segments = two.1.1;
+          auto_seg = auto;
+          cs = eqb-true m.head.cs 1 has.one;
+          ss = thin_ss m.head.ss m.head.auto_seg has.either auto;
+          sp = eqb-true m.head.sp 0 has.zero_is;
+        },
+      ),
+    )
 
 image_length : (m : Parts) (ts : List (List Target)) (n size : ℕ) (o : Option Segment) → length (image_in m ts n o size) ≡ size
 image_length m ts n size None = length-tabulate _ 0 size

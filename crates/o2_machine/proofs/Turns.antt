@@ -143,8 +143,8 @@ module _ (m : Machine) (s : Setting) (w : World) (number : ℕ) (c d r q : Optio
       let all = at_k here.0 here.1 here.2 in
       let flags = flags_after w.processes m.sched.flags k here.0 (effect (before w k here.0)) stands.flags (ap (lives m.sched.flags) is.number ∙ live) all.lives in
       steps_on m s w here.0 c d r q stands is.any is.some here.1 i n left
-          (stands_next m s w here.0 c d r q stands is.any is.some here.1 n all.stands (ap (λ (z : Schedule). z.dispatch) sched) (ap (λ (z : Schedule). z.quantum) sched) (flags ∙ sym (ap (λ (z : Schedule). z.flags) sched)))
-          all.to_console all.to_report
+      (stands_next m s w here.0 c d r q stands is.any is.some here.1 n all.stands (ap (λ (z : Schedule). z.dispatch) sched) (ap (λ (z : Schedule). z.quantum) sched) (flags ∙ sym (ap (λ (z : Schedule). z.flags) sched)))
+      all.to_console all.to_report
 
   abbrev pub ended_sched : Schedule
   ended_sched = record { dispatch = counted (next_of m.sched); flags = slice_set m.sched.flags (number - 1) false; quantum = m.sched.quantum }
@@ -158,9 +158,9 @@ module _ (m : Machine) (s : Setting) (w : World) (number : ℕ) (c d r q : Optio
       let at_k = subst (λ (z : ℕ). (p : Process) → process_at w.processes z ≡ Some p → p.state ≡ Live → ActsAll z w.processes w.names p (effect (before w z p)) n.space c d r q false) (sym is.number) did in
       let all = at_k here.0 here.1 here.2 in
       steps_on m s w here.0 c d r q stands is.any is.some here.1 i n left
-          (stands_next m s w here.0 c d r q stands is.any is.some here.1 n all.stands (ap (λ (z : Schedule). z.dispatch) sched) (ap (λ (z : Schedule). z.quantum) sched)
-              (ended_flags (effect (before w k here.0)) here.0 all.lives ∙ sym (ap (λ (z : Schedule). z.flags) sched)))
-          all.to_console all.to_report
+      (stands_next m s w here.0 c d r q stands is.any is.some here.1 n all.stands (ap (λ (z : Schedule). z.dispatch) sched) (ap (λ (z : Schedule). z.quantum) sched)
+      (ended_flags (effect (before w k here.0)) here.0 all.lives ∙ sym (ap (λ (z : Schedule). z.flags) sched)))
+      all.to_console all.to_report
 
   pub late : (n : Machine) → ((p : Process) → process_at w.processes number ≡ Some p → p.state ≡ Live → ActsLate number w.processes w.names p (effect (before w number p)) n.space c d r q)
       → n.sched ≡ ended_sched → StepsInPart (StandsFor n s) s w c d r q
@@ -168,9 +168,9 @@ module _ (m : Machine) (s : Setting) (w : World) (number : ℕ) (c d r q : Optio
       let at_k = subst (λ (z : ℕ). (p : Process) → process_at w.processes z ≡ Some p → p.state ≡ Live → ActsLate z w.processes w.names p (effect (before w z p)) n.space c d r q) (sym is.number) did in
       let all = at_k here.0 here.1 here.2 in
       steps_in_part m s w here.0 c d r q stands is.any is.some here.1 n
-          (inr (stands_next m s w here.0 c d r q stands is.any is.some here.1 n all.stands (ap (λ (z : Schedule). z.dispatch) sched) (ap (λ (z : Schedule). z.quantum) sched)
-              (ended_flags (effect (before w k here.0)) here.0 all.lives ∙ sym (ap (λ (z : Schedule). z.flags) sched))))
-          (gains_some _ c d all.to_console) all.to_report (inr all.to_console)
+      (inr (stands_next m s w here.0 c d r q stands is.any is.some here.1 n all.stands (ap (λ (z : Schedule). z.dispatch) sched) (ap (λ (z : Schedule). z.quantum) sched)
+      (ended_flags (effect (before w k here.0)) here.0 all.lives ∙ sym (ap (λ (z : Schedule). z.flags) sched))))
+      (gains_some _ c d all.to_console) all.to_report (inr all.to_console)
 
 -- the last line
 pub closes : (f : World → Type 0) (s : Setting) (w : World) (text : List ℕ) (i c r q : Option (List ℕ)) (answer : Turn) → i ≡ Some w.input → is_over w ≡ true → last_line w ≡ text → ClosesWith r q text answer → Turns f s w i c c r q answer

@@ -38,13 +38,7 @@ fn has_trap_flag(flags: u16) -> bool
 }
 
 /// Puts the line of an exception at the instruction of these registers.
-fn put_trap<R: Sink>(
-    line: &mut LineBuffer,
-    pid: u16,
-    vector: u8,
-    cpu: &Cpu,
-    report: &mut R,
-) -> Put
+fn put_trap<R: Sink>(line: &mut LineBuffer, pid: u16, vector: u8, cpu: &Cpu, report: &mut R) -> Put
     ensures report { Takes (R.taken report.old) (R.taken report.new) (lines_text (Traps pid vector cpu.now.cs cpu.now.ip ∷ [])) result }
     ensures count { R.faults report.old ≤ R.faults report.new }
     ensures cause { OnFailed result (Rose (R.faults report.old) (R.faults report.new)) }
@@ -54,13 +48,7 @@ fn put_trap<R: Sink>(
 }
 
 /// An exception: nothing changes but that the process ends.
-fn trap<R: Sink>(
-    pid: u16,
-    vector: u8,
-    cpu: &Cpu,
-    line: &mut LineBuffer,
-    report: &mut R,
-) -> Ran
+fn trap<R: Sink>(pid: u16, vector: u8, cpu: &Cpu, line: &mut LineBuffer, report: &mut R) -> Ran
     ensures leaves { (b : Before) (registers : Cpu) (old new : Plain) (c : Option (List ℕ)) → b.number ≡ pid → b.cpu ≡ cpu.now → registers ≡ b.cpu
         → ((n : ℕ) → bytes_in new n ≡ b.view.bytes n) → ((n : ℕ) → bytes_in new n ≡ bytes_in old n)
         → Leaves b (single_stepped b (trapped b vector)) registers old new c c (R.taken report.old) (R.taken report.new) result }

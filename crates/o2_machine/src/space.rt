@@ -82,7 +82,7 @@ impl Space {
         requires there { pid ≤ length self.old.procs.items }
         ensures acts { (ps : List Process) (names : Map Segment) (p : Process) (input : List ℕ) → StandsIn self.old ps names → process_at ps pid ≡ Some p → p.state ≡ State.Live
             → Acts pid ps names p (effect (record { number = pid; cpu = p.cpu; view = view_of names p; input = input })) self.new
-                (C.taken console.old) (C.taken console.new) (R.taken report.old) (R.taken report.new) result }
+            (C.taken console.old) (C.taken console.new) (R.taken report.old) (R.taken report.new) result }
         ensures console_count { C.faults console.old ≤ C.faults console.new }
         ensures report_count { R.faults report.old ≤ R.faults report.new }
         ensures cause { OnFault result (Rose (C.faults console.old) (C.faults console.new) ⊎ Rose (R.faults report.old) (R.faults report.new)) }
@@ -93,7 +93,11 @@ impl Space {
             Ran::Fault => Acted::Fault,
             Ran::Done(state) => {
                 self.commit(pid, &cpu, state);
-                if is_live(state) { Acted::Went } else { Acted::Ended }
+                if is_live(state) {
+                    Acted::Went
+                } else {
+                    Acted::Ended
+                }
             }
             Ran::LateFault(state) => {
                 self.commit(pid, &cpu, state);

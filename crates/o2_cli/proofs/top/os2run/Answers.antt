@@ -7,5 +7,5 @@ use Rattle.o2_cli.proofs.top.os2run.Goals as goal
 pub returns-in-Ok-thin_module-clause-texts : goal.returns-in-Ok-thin_module-clause-texts
 returns-in-Ok-thin_module-clause-texts g c =
     shown c.args.words.now (g.F.Files.told c.args.files.now) _ _ _ _ _ _ c.in-Ok.name c.in-Got.file c.in-Ok-thin_module.program
-        (subst (λ name. IsCommandFor c.args.words.now name) (sym c.in-Ok.ensures) c.in-Some.ensures) c.in-Got.ensures.answers (read_ok c.in-Got.file c.in-Ok-thin_module.program c.in-Got.ensures.bounded c.in-Ok-thin_module.ensures.exact)
-        c.run_program.result c.run_program.ensures.kind c.run_program.ensures.texts
+    (subst (λ name. IsCommandFor c.args.words.now name) (sym c.in-Ok.ensures) c.in-Some.ensures) c.in-Got.ensures.answers (read_ok c.in-Got.file c.in-Ok-thin_module.program c.in-Got.ensures.bounded c.in-Ok-thin_module.ensures.exact)
+    c.run_program.result c.run_program.ensures.kind c.run_program.ensures.texts

@@ -15,5 +15,5 @@ returns-clause-stands c = λ input.
     let same : c.in-Some.data ≡ is.1.0 = second_segment c.args.program.now is.0 is.1.0 is.1.1 c.in-Some.data c.segment.result c.segment.ensures c.in-Some.is in
     let cpu : q.cpu ≡ thin_cpu c.args.program.now.head is.1.0.size = c.first_cpu.ensures ∙ ap (λ (h : Head). thin_cpu h c.in-Some.data.size) c.head.ensures ∙ ap (λ (s : Segment). thin_cpu c.args.program.now.head s.size) same in
     stands_start c.args.program.now is.0 is.1.0 is.1.1 _ q c.args.budget input c.in_ok-plain.ensures.opened cpu refl
-        (c.in_ok-push.ensures.items ∙ ap (λ (ps : List Proc). ps ++ q ∷ []) c.in_ok-procs.ensures.items)
-        (c.in_ok-sched.ensures ∙ ap (λ script. record { dispatch = opening_dispatch script c.args.budget; flags = true ∷ []; quantum = 1000 }) c.new.ensures.items)
+    (c.in_ok-push.ensures.items ∙ ap (λ (ps : List Proc). ps ++ q ∷ []) c.in_ok-procs.ensures.items)
+    (c.in_ok-sched.ensures ∙ ap (λ script. record { dispatch = opening_dispatch script c.args.budget; flags = true ∷ []; quantum = 1000 }) c.new.ensures.items)

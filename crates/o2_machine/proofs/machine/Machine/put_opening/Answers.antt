@@ -12,7 +12,7 @@ returns-clause-report g c = λ budget input.
     let lines = lines_are c.args.program.now is.0 is.1.0 is.1.1 budget input in
     let name = c.as_slice.ensures ∙ c.name.ensures in
     subst (λ (ls : List Line). Takes (g.R.Sink.taken c.args.report.now) (g.R.Sink.taken c.put_start.new.report) (lines_text ls) c.put_start.result) lines
-        (subst (λ (own : List ℕ). Takes (g.R.Sink.taken c.args.report.now) (g.R.Sink.taken c.put_start.new.report) (lines_text (start_lines 1 own (15 ∷ 23 ∷ 31 ∷ []))) c.put_start.result) name c.put_start.ensures.report)
+    (subst (λ (own : List ℕ). Takes (g.R.Sink.taken c.args.report.now) (g.R.Sink.taken c.put_start.new.report) (lines_text (start_lines 1 own (15 ∷ 23 ∷ 31 ∷ []))) c.put_start.result) name c.put_start.ensures.report)
 
 pub returns-clause-stands : goal.returns-clause-stands
 returns-clause-stands g c = λ s w stands. same_stands c.args.self.now _ s w refl refl stands

@@ -18,7 +18,7 @@ returns-in-Fault-clause-acts g c = λ ps names p input stands at live.
     let same = before_is c.args.self.now ps names c.args.pid q p input stands is in
     let left = c.in-Fault.ensures.leaves input in
     subst (λ (b : Before). Acts c.args.pid ps names p (effect b) (record { procs = c.args.self.now.procs; plain = c.run_one.new.plain }) (g.C.Sink.taken c.args.console.now) (g.C.Sink.taken c.run_one.new.console) (g.R.Sink.taken c.args.report.now) (g.R.Sink.taken c.run_one.new.report) acted.Fault) (sym same)
-        (record { stands = stays c.args.self.now ps names c.run_one.new.plain stands c.run_one.ensures.held c.run_one.ensures.shown left.bytes; to_console = left.to_console; to_report = left.to_report; in_order = left.in_order })
+    (record { stands = stays c.args.self.now ps names c.run_one.new.plain stands c.run_one.ensures.held c.run_one.ensures.shown left.bytes; to_console = left.to_console; to_report = left.to_report; in_order = left.in_order })
 
 -- src/space.rt:74:5
 pub returns-then-is_live-clause-acts : goal.returns-then-is_live-clause-acts
@@ -30,7 +30,7 @@ returns-then-is_live-clause-acts g c = λ ps names p input stands at live.
     let e : Effect = effect (before_call c.args.self.now.plain c.args.pid q.cpu input) in
     let done = c.commit.ensures.stands ps names p e (between c.args.self.now ps names c.run_one.new.plain stands c.run_one.ensures.held c.run_one.ensures.shown e left.bytes c.run_one.ensures.sizes) at live left.cpu left.state in
     subst (λ (b : Before). Acts c.args.pid ps names p (effect b) c.commit.new.self (g.C.Sink.taken c.args.console.now) (g.C.Sink.taken c.run_one.new.console) (g.R.Sink.taken c.args.report.now) (g.R.Sink.taken c.run_one.new.report) acted.Went) (sym same)
-        (record { lives = ap lives left.state ∙ sym c.if-is_live.ensures; stands = done; to_console = left.to_console; to_report = left.to_report })
+    (record { lives = ap lives left.state ∙ sym c.if-is_live.ensures; stands = done; to_console = left.to_console; to_report = left.to_report })
 
 -- src/space.rt:74:5
 pub returns-else-is_live-clause-acts : goal.returns-else-is_live-clause-acts
@@ -42,7 +42,7 @@ returns-else-is_live-clause-acts g c = λ ps names p input stands at live.
     let e : Effect = effect (before_call c.args.self.now.plain c.args.pid q.cpu input) in
     let done = c.commit.ensures.stands ps names p e (between c.args.self.now ps names c.run_one.new.plain stands c.run_one.ensures.held c.run_one.ensures.shown e left.bytes c.run_one.ensures.sizes) at live left.cpu left.state in
     subst (λ (b : Before). Acts c.args.pid ps names p (effect b) c.commit.new.self (g.C.Sink.taken c.args.console.now) (g.C.Sink.taken c.run_one.new.console) (g.R.Sink.taken c.args.report.now) (g.R.Sink.taken c.run_one.new.report) acted.Ended) (sym same)
-        (record { lives = ap lives left.state ∙ sym c.if-is_live.ensures; stands = done; to_console = left.to_console; to_report = left.to_report })
+    (record { lives = ap lives left.state ∙ sym c.if-is_live.ensures; stands = done; to_console = left.to_console; to_report = left.to_report })
 
 -- src/space.rt:74:5
 pub returns-in-LateFault-clause-acts : goal.returns-in-LateFault-clause-acts
@@ -54,4 +54,4 @@ returns-in-LateFault-clause-acts g c = λ ps names p input stands at live.
     let e : Effect = effect (before_call c.args.self.now.plain c.args.pid q.cpu input) in
     let done = c.commit-in-LateFault.ensures.stands ps names p e (between c.args.self.now ps names c.run_one.new.plain stands c.run_one.ensures.held c.run_one.ensures.shown e left.bytes c.run_one.ensures.sizes) at live left.cpu left.state in
     subst (λ (b : Before). Acts c.args.pid ps names p (effect b) c.commit-in-LateFault.new.self (g.C.Sink.taken c.args.console.now) (g.C.Sink.taken c.run_one.new.console) (g.R.Sink.taken c.args.report.now) (g.R.Sink.taken c.run_one.new.report) acted.LateFault) (sym same)
-        (record { lives = ap lives left.state ∙ left.late; stands = done; to_console = left.to_console; to_report = left.to_report })
+    (record { lives = ap lives left.state ∙ left.late; stands = done; to_console = left.to_console; to_report = left.to_report })
