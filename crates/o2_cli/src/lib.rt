@@ -10,3 +10,6 @@ mod words;
 pub use messages::{number, text};
 pub use status::Status;
 pub use top::os2run;
+
+#[cfg(test)]
+mod tests;
