@@ -1,7 +1,10 @@
 // Rows: a program that writes `hello`, and what may go wrong with it, over files and sinks in memory.
-use crate::{number, os2run};
-use o2_base::{Bytes, NoMemory};
-use o2_outer::{MemFiles, MemSink, SureSource, SureSwap};
+use crate::load::thin_module;
+use crate::{Status, number, os2run, text};
+use o2_base::{Bytes, Key, MachineFault, ModuleFault, NoMemory, Which};
+use o2_machine::Machine;
+use o2_outer::{MemFiles, MemSink, Put, SureSource, SureSwap};
+use o2_run::{Ended, run};
 use std::alloc::Global;
 use std::test::Fail;
 
@@ -210,5 +213,81 @@ fn the_put_of_the_console_fails(rt: HostRuntime) -> Result<(), Fail> {
         assert_eq!(rt; answer.console.taken(), &whole[..taken]);
         assert_eq!(rt; answer.report.taken(), report.as_bytes());
     }
+    Ok(())
+}
+
+/// The report of the program with a budget of steps.
+fn report_with(alloc: Global, budget: u32) -> Result<MemSink, NoMemory> {
+    let file = Bytes::from_slice(alloc, &HELLO)?;
+    let Ok(program) = thin_module(alloc, file) else {
+        return Err(NoMemory);
+    };
+    let mut machine = Machine::open(alloc, &program, budget)?;
+    let mut input = SureSource::new(Bytes::from_slice(alloc, &[])?);
+    let mut console = MemSink::new(alloc, 4096, Vec::new(alloc))?;
+    let mut report = MemSink::new(alloc, 4096, Vec::new(alloc))?;
+    let mut swap = SureSwap::new(alloc, 1)?;
+    if program.name().as_slice().len() > 255 {
+        return Err(NoMemory);
+    }
+    if machine.put_opening(&program, &mut report) == Put::Failed {
+        return Err(NoMemory);
+    }
+    match run(
+        &mut machine,
+        &mut input,
+        &mut console,
+        &mut report,
+        &mut swap,
+    ) {
+        Ended::Fine => Ok(report),
+        _ => Err(NoMemory),
+    }
+}
+
+#[test]
+fn budgets(rt: HostRuntime) -> Result<(), Fail> {
+    // the call of DosWrite is step 7, and that of DosExit step 10
+    for budget in 0..=11 {
+        let report = report_with(rt.alloc(), budget)?;
+        let lines = if budget < 7 {
+            4
+        } else if budget < 10 {
+            5
+        } else {
+            8
+        };
+        let rest = if budget < 10 { "budget spent\n" } else { "" };
+        let wanted = report_of(rt.alloc(), lines, rest)?;
+        assert_eq!(rt; report.taken(), wanted.as_bytes(), "with {budget}");
+    }
+    Ok(())
+}
+
+/// Checks the number and the line of a status.
+fn is_told(rt: &HostRuntime, status: Status, expected: u8, line: &str) -> Result<bool, NoMemory> {
+    let told = text(rt.alloc(), &status)?;
+    Ok(number(&status) == expected && told.as_slice() == line.as_bytes())
+}
+
+#[test]
+fn statuses(rt: HostRuntime) -> Result<(), Fail> {
+    let name = Bytes::from_slice(rt.alloc(), b"a.exe")?;
+    let other = Bytes::from_slice(rt.alloc(), b"a.exe")?;
+    let usage = "os2run: usage: os2run exe FILE, run FILE, check FILE, bench N or dump FILE\n";
+    assert!(rt; is_told(&rt, Status::Fine, 0, "")?);
+    assert!(rt; is_told(&rt, Status::BadWords, 1, usage)?);
+    assert!(rt; is_told(&rt, Status::NoFile(name), 2, "os2run: no file a.exe\n")?);
+    let machine = Status::BadMachine(MachineFault::Limit(Key::Budget));
+    assert!(rt; is_told(&rt, machine, 3, "os2run: machine file: reason 4 budget\n")?);
+    let refused = Status::BadModule(other, ModuleFault::OutOfProfile(Which::NotYet));
+    assert!(rt; is_told(&rt, refused, 4, "os2run: module a.exe: reason 7\n")?);
+    assert!(rt; is_told(&rt, Status::FileFault, 5, "os2run: file fault\n")?);
+    assert!(rt; is_told(&rt, Status::InputFault, 6, "os2run: input fault\n")?);
+    assert!(rt; is_told(&rt, Status::SinkFault, 7, "os2run: output fault\n")?);
+    assert!(rt; is_told(&rt, Status::NoRoom, 8, "os2run: no room\n")?);
+    assert!(rt; is_told(&rt, Status::SwapFull, 9, "os2run: swap full\n")?);
+    assert!(rt; is_told(&rt, Status::SwapFault, 10, "os2run: swap fault\n")?);
+    assert!(rt; is_told(&rt, Status::NoMemory, 11, "os2run: no memory\n")?);
     Ok(())
 }
