@@ -3,9 +3,10 @@ use crate::load::thin_module;
 use crate::{Status, number, os2run, text};
 use o2_base::{Bytes, Key, MachineFault, ModuleFault, NoMemory, Which};
 use o2_machine::Machine;
-use o2_outer::{MemFiles, MemSink, Put, SureSource, SureSwap};
+use o2_outer::{Fetch, Files, FolderFiles, MemFiles, MemSink, Put, SureSource, SureSwap};
 use o2_run::{Ended, run};
 use std::alloc::Global;
+use std::fs;
 use std::test::Fail;
 
 /// The file of the program; its code begins at B0h, and the ordinals of its two imports stand at D1h and D9h.
@@ -289,5 +290,34 @@ fn statuses(rt: HostRuntime) -> Result<(), Fail> {
     assert!(rt; is_told(&rt, Status::SwapFull, 9, "os2run: swap full\n")?);
     assert!(rt; is_told(&rt, Status::SwapFault, 10, "os2run: swap fault\n")?);
     assert!(rt; is_told(&rt, Status::NoMemory, 11, "os2run: no memory\n")?);
+    Ok(())
+}
+
+/// What a fetch of the folder's file comes to, in a word.
+fn fetched(rt: &HostRuntime, name: &[u8], most: u32) -> Result<&'static str, NoMemory> {
+    let mut files = FolderFiles::new(rt);
+    let name = Bytes::from_slice(rt.alloc(), name)?;
+    Ok(match files.fetch(rt.alloc(), &name, most) {
+        Fetch::Got(bytes) => {
+            if bytes.as_slice() == b"abc".as_slice() {
+                "got"
+            } else {
+                "other bytes"
+            }
+        }
+        Fetch::NoFile => "no file",
+        Fetch::TooLong => "too long",
+        Fetch::Failed => "failed",
+        Fetch::NoMemory => "no memory",
+    })
+}
+
+#[test]
+fn a_file_of_the_folder(rt: HostRuntime) -> Result<(), Fail> {
+    fs::write(&rt, "fetched.bin", "abc")?;
+    assert_eq!(rt; fetched(&rt, b"fetched.bin", 3)?, "got");
+    assert_eq!(rt; fetched(&rt, b"fetched.bin", 2)?, "too long");
+    assert_eq!(rt; fetched(&rt, b"not_there.bin", 3)?, "no file");
+    fs::remove_file(&rt, "fetched.bin")?;
     Ok(())
 }

@@ -1,0 +1,40 @@
+// Times the calls that its arguments name, each by one line: the name, how many were done, and milliseconds.
+//
+// The names are `decode`, `loop` and `moves`. Without arguments it prints nothing.
+#![tactic(auto)]
+
+mod decoding;
+mod stepping;
+
+use decoding::decode_many;
+use std::time::Instant;
+use std::{env, io};
+use stepping::{LOOP, MOVES, step_many};
+
+const STEPS: u64 = 3_000_000;
+
+const ROUNDS: u64 = 300_000;
+
+/// What the name stands for, done many times; 0 for another name, and where there is no memory.
+fn measure(rt: &HostRuntime, name: &str) -> u64 {
+    let done = match name {
+        "decode" => return decode_many(ROUNDS),
+        "loop" => step_many(rt.alloc(), &LOOP, STEPS),
+        "moves" => step_many(rt.alloc(), &MOVES, STEPS),
+        _ => return 0,
+    };
+    match done {
+        Ok(done) => done,
+        Err(_) => 0,
+    }
+}
+
+fn main(rt: HostRuntime) -> io::Result<()> {
+    for name in env::args(&rt)?.skip(1) {
+        let start = Instant::now(&rt)?;
+        let done = measure(&rt, name.as_str());
+        let spent = start.elapsed(&rt)?;
+        println!(rt; "{name} {done} {}", spent.as_millis())?;
+    }
+    Ok(())
+}

@@ -1,0 +1,74 @@
+// Steps over a plain memory.
+
+use o2_bus::{Cpu, NoMemory, Outcome, Plain};
+use o2_core::step_one;
+use std::alloc::Global;
+
+/// A jump to itself.
+pub static LOOP: [u8; 2] = [0xEB, 0xFE];
+
+/// Moves, pushes and pops, and a jump to the first.
+pub static MOVES: [u8; 23] = [
+    0xB8, 0x34, 0x12, // MOV AX, 1234h
+    0x50, 0x51, 0x1E, // PUSH AX, PUSH CX, PUSH DS
+    0x1F, 0x5B, 0x5A, // POP DS, POP BX, POP DX
+    0x8C, 0xD9, // MOV CX, DS
+    0xBE, 0x05, 0x00, // MOV SI, 5
+    0x6A, 0x07, 0x5F, // PUSH 7, POP DI
+    0x8E, 0xC1, // MOV ES, CX
+    0x57, 0x5D, // PUSH DI, POP BP
+    0xEB, 0xE9, // JMP to the first
+];
+
+fn start() -> Cpu {
+    Cpu {
+        ax: 0,
+        cx: 0,
+        dx: 0,
+        bx: 0,
+        sp: 4096,
+        bp: 0,
+        si: 0,
+        di: 0,
+        ip: 0,
+        flags: 2,
+        cs: 15,
+        ds: 23,
+        es: 23,
+        ss: 31,
+    }
+}
+
+/// A memory with this code, data and stack, all of which process 1 holds.
+fn memory(alloc: Global, code: &[u8]) -> Result<Plain, NoMemory> {
+    let zeros = [0u8; 4096];
+    let mut plain = Plain::new(alloc)?;
+    if code.len() > 4096 {
+        return Err(NoMemory);
+    }
+    plain.add(alloc, code)?;
+    plain.add(alloc, &zeros)?;
+    plain.add(alloc, &zeros)?;
+    if plain.count() != 3 {
+        return Err(NoMemory);
+    }
+    plain.hold(alloc, 1, 1, 0, 0xFA)?;
+    plain.hold(alloc, 1, 2, 1, 0xF2)?;
+    plain.hold(alloc, 1, 3, 2, 0xF2)?;
+    Ok(plain)
+}
+
+/// So many steps of this code; the answer is how many were done.
+pub fn step_many(alloc: Global, code: &[u8], steps: u64) -> Result<u64, NoMemory> {
+    let mut plain = memory(alloc, code)?;
+    let mut cpu = start();
+    let mut bus = plain.bus(1, &cpu);
+    let mut done = 0u64;
+    for _ in 0..steps {
+        match step_one(&mut cpu, &mut bus) {
+            Outcome::Done => done = done.wrapping_add(1),
+            _ => {}
+        }
+    }
+    Ok(done)
+}
