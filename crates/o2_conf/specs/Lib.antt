@@ -6,3 +6,4 @@ pub mod Ordinals
 pub mod Script
 pub mod Setting
 pub mod Limits
+pub mod Dispatch

@@ -5,9 +5,9 @@ use Rattle.std.specs.List.{list_any}
 use Rattle.std.proofs.lemmas.Grind.{flat_map-append}
 use Rattle.o2_outer.specs.Texts.{Gains, GainsSome, IsPrefix, Continues}
 use Rattle.o2_outer.proofs.TextLemmas.{continues_by, continues_in_part, gains_some}
-use Rattle.o2_world.specs.World.{World, Setting, Dispatch, Process}
+use Rattle.o2_world.specs.World.{World, Setting, Process}
+use Rattle.o2_conf.specs.Dispatch.{Dispatch, counted, lives}
 use Rattle.o2_world.specs.declared.types.State.TheVariants.{Live}
-use Rattle.o2_world.specs.Dispatch.{counted, lives}
 use Rattle.o2_world.specs.Holders.{process_at, with_process}
 use Rattle.o2_world.specs.Calls.{Effect}
 use Rattle.o2_world.specs.Effect.{effect}

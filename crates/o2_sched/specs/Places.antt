@@ -1,7 +1,7 @@
 -- What a place in the script and in the turns stands for.
 use Rattle.std.specs.Prelude.{◌≡◌, ◌≤◌, ◌<◌, ℕ, Bool, List, drop, length}
 use Rattle.std.specs.List.{list_any}
-use Rattle.o2_world.specs.World.{Dispatch}
+use Rattle.o2_conf.specs.Dispatch.{Dispatch}
 use Rattle.o2_sched.specs.declared.place.Place.{Place}
 
 abbrev pub place_dispatch : List (ℕ × ℕ) → Place → ℕ → Dispatch

@@ -1,8 +1,7 @@
 -- The schedule of a run.
 use Rattle.std.specs.Prelude.{◌≡◌, ℕ, Bool, true, false, not, List, if◌then◌else◌, ◌==◌}
 use Rattle.std.specs.List.{list_any}
-use Rattle.o2_world.specs.World.{Dispatch}
-use Rattle.o2_world.specs.Dispatch.{lives, dispatched}
+use Rattle.o2_conf.specs.Dispatch.{Dispatch, lives, dispatched}
 use Rattle.o2_sched.specs.declared.sched.Pick.{Pick}
 use Rattle.o2_sched.specs.declared.sched.Pick.TheVariants.{Step, AllEnded, BudgetSpent}
 

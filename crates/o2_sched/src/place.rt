@@ -1,6 +1,6 @@
 // The place in the script and in the turns.
 ghost use Rattle.std.specs.Prelude.{◌≡◌, ◌≤◌, ◌<◌, ℕ, length, drop, position, IfSome};
-ghost use Rattle.o2_world.specs.Dispatch.{lives, next_live, turn_after, live_script, dispatched};
+ghost use Rattle.o2_conf.specs.Dispatch.{lives, next_live, turn_after, live_script, dispatched};
 ghost use Rattle.o2_sched.specs.Places.{place_dispatch};
 
 /// How many words of the script are behind, the process of the slice or turn with its steps left, and the process of the

@@ -2,7 +2,7 @@
 ghost use Rattle.std.specs.Prelude.{◌≡◌, ◌≤◌, ◌<◌, ◌-◌, true, false, length, map, slice_set, replicate, IfOk};
 ghost use Rattle.std.specs.List.{list_any};
 ghost use Rattle.o2_conf.specs.Script.{slice_of};
-ghost use Rattle.o2_world.specs.Dispatch.{counted};
+ghost use Rattle.o2_conf.specs.Dispatch.{counted};
 
 use crate::place::{Place, advanced};
 use o2_base::NoMemory;

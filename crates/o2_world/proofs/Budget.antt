@@ -1,7 +1,7 @@
 -- A run has no more steps than its budget.
 use Rattle.std.proofs.Common.{◌≡◌, ℕ, zero, suc, ◌+◌, ◌-◌, ◌<◌, ◌≤◌, Bool, true, false, not, ◌||◌, ◌==◌, nat_lt, ◌&&◌, if◌then◌else◌, List, [], ◌∷◌, Option, Some, None, ap, sym, ◌∙◌, refl, arith, subst, below_more}
-use Rattle.o2_world.specs.World.{World, Setting, Dispatch, Process}
-use Rattle.o2_world.specs.Dispatch.{dispatched, started, live_script, lives, counted}
+use Rattle.o2_world.specs.World.{World, Setting, Process}
+use Rattle.o2_conf.specs.Dispatch.{Dispatch, dispatched, started, live_script, lives, counted}
 use Rattle.o2_world.specs.Holders.{process_at}
 use Rattle.o2_world.specs.Run.{changed, acted, step, after, is_over, any_lives, live_flags, next_dispatch, IsLast}
 use Rattle.o2_world.proofs.Choice.{chosen_lives}

@@ -4,7 +4,7 @@ use Rattle.std.specs.Prelude.{slice_get, map}
 use Rattle.o2_world.specs.declared.types.State.{State}
 use Rattle.o2_world.specs.declared.types.State.TheVariants.{Live, Exited, Trapped}
 use Rattle.o2_world.specs.World.{Process, is_live}
-use Rattle.o2_world.specs.Dispatch.{lives}
+use Rattle.o2_conf.specs.Dispatch.{lives}
 use Rattle.o2_world.specs.Calls.{Effect}
 use Rattle.o2_world.specs.Run.{live_flags, process_after}
 

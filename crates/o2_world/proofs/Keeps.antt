@@ -2,7 +2,8 @@
 use Rattle.std.proofs.Common.{◌≡◌, ◌≢◌, ℕ, zero, suc, ◌+◌, ◌-◌, ◌<◌, Bool, true, false, List, [], ◌∷◌, length, Option, Some, None, ap, sym, ◌∙◌, refl, arith, if◌then◌else◌, ◌||◌, ◌&&◌, ◌==◌, slice_set, subst}
 use Rattle.std.specs.Prelude.{is_some, slice_get, option_map}
 use Rattle.o2_world.specs.Map.{Map, get}
-use Rattle.o2_world.specs.World.{World, Setting, Dispatch, Process, Segment, Held, is_live}
+use Rattle.o2_world.specs.World.{World, Setting, Process, Segment, Held, is_live}
+use Rattle.o2_conf.specs.Dispatch.{Dispatch}
 use Rattle.o2_world.specs.Holders.{names_it, holds_name, is_held, kept, process_at}
 use Rattle.o2_world.specs.Views.{with_bytes}
 use Rattle.o2_world.specs.Calls.{Effect}

@@ -1,6 +1,5 @@
 pub mod Map
 pub mod World
-pub mod Dispatch
 pub mod Text
 pub mod Holders
 pub mod Views

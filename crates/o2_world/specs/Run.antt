@@ -3,8 +3,8 @@ use Rattle.std.specs.Prelude.{◌⊎◌, ◌≡◌, ℕ, zero, suc, ◌≤◌, �
 use Rattle.std.specs.List.{list_any}
 use Rattle.o2_outer.specs.Texts.{Gains, GainsSome, GainsBetween, IsPrefix}
 use Rattle.o2_world.specs.Map.{Map}
-use Rattle.o2_world.specs.World.{World, Setting, Process, Segment, Dispatch, Line, is_live}
-use Rattle.o2_world.specs.Dispatch.{dispatched, counted}
+use Rattle.o2_world.specs.World.{World, Setting, Process, Segment, Line, is_live}
+use Rattle.o2_conf.specs.Dispatch.{Dispatch, dispatched, counted}
 use Rattle.o2_world.specs.Holders.{process_at, with_process, kept}
 use Rattle.o2_world.specs.Views.{view_of, with_bytes}
 use Rattle.o2_world.specs.Calls.{Before, Effect}

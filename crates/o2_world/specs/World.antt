@@ -5,6 +5,7 @@ use Rattle.o2_world.specs.declared.types.Argument.{Argument}
 use Rattle.o2_world.specs.declared.types.State.{State}
 use Rattle.o2_world.specs.declared.types.State.TheVariants.{Live, Exited, Trapped}
 use Rattle.o2_world.specs.Map.{Map}
+use Rattle.o2_conf.specs.Dispatch.{Dispatch}
 
 -- a live segment; one is clean where it is code or read-only data of a module, whose bytes never change
 pub record Segment : Type 0 where
@@ -52,15 +53,6 @@ pub data Line : Type 0 where
   Exits : (process action code : ℕ) → Line
   Ends : (process code : ℕ) → Line
   Traps : (process vector selector offset : ℕ) → Line
-
--- whose turn it is: the script left as pairs of process and steps, the process of the slice or turn with its steps left,
--- the process of the last turn (0 before the first), and the budget left
-pub record Dispatch : Type 0 where
-  pub script : List (ℕ × ℕ)
-  pub current : ℕ
-  pub left : ℕ
-  pub turn : ℕ
-  pub budget : ℕ
 
 -- process n is the one at place n - 1, and a name is never used twice
 pub record World : Type 0 where

@@ -1,5 +1,5 @@
 use Rattle.std.proofs.Common.{◌≡◌, ◌≤◌, ◌-◌, drop, length}
-use Rattle.o2_world.specs.Dispatch.{live_script}
+use Rattle.o2_conf.specs.Dispatch.{live_script}
 use Rattle.o2_sched.proofs.place.passed.Given as goal
 
 abbrev pub invariant-loop-count : goal.invariant-loop-count

@@ -1,5 +1,5 @@
 use Rattle.std.proofs.Common.{◌-◌, false, slice_set, sym, ◌∙◌, ap}
-use Rattle.o2_world.specs.Dispatch.{counted}
+use Rattle.o2_conf.specs.Dispatch.{counted}
 use Rattle.o2_sched.specs.Schedule.{Schedule, next_of}
 use Rattle.o2_machine.proofs.Turns.{closes_ended, closes_spent, faulted, went, over, late}
 use Rattle.o2_machine.proofs.machine.MachineSteps.turn.Goals as goal
