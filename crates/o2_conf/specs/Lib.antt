@@ -7,3 +7,4 @@ pub mod Script
 pub mod Setting
 pub mod Limits
 pub mod Dispatch
+pub mod Environments

@@ -19,7 +19,8 @@ use Rattle.o2_world.specs.declared.types.State.TheVariants.{Live}
 use Rattle.o2_world.specs.Map.{Map, get}
 use Rattle.o2_world.specs.World.{World, Setting, Process, Held}
 use Rattle.o2_world.specs.Views.{hold_of, holds_in, segment_bytes, bytes_in as bytes_of}
-use Rattle.o2_world.specs.Opening.{Program, opening, environment, held_by_load, start_cpu, static_size, stack_segment, ProgramSegment, segment_bytes_at, program_segment, data_segment, opening_held, opening_names, start_lines, selectors_in}
+use Rattle.o2_world.specs.Opening.{Program, opening, held_by_load, start_cpu, static_size, stack_segment, ProgramSegment, segment_bytes_at, program_segment, data_segment, opening_held, opening_names, start_lines, selectors_in}
+use Rattle.o2_conf.specs.Environments.{environment}
 use Rattle.o2_machine.specs.declared.space.Proc.{Proc}
 use Rattle.o2_world.proofs.Keeps.{some_is}
 use Rattle.o2_sched.specs.Schedule.{Schedule, opening_dispatch}

@@ -10,7 +10,7 @@ use Rattle.o2_ne_segs.specs.SegmentTable.{nth_segment}
 use Rattle.o2_image.specs.Parts.{Parts}
 use Rattle.o2_image.specs.Images.{Target, segment_image}
 use Rattle.o2_image.specs.Thin.{gate_targets}
-use Rattle.o2_world.specs.Opening.{environment}
+use Rattle.o2_conf.specs.Environments.{environment}
 use Rattle.o2_machine.specs.Programs.{rights_of}
 
 -- one more name, the last, with these bytes; process 1 holds it under the next index with this access byte

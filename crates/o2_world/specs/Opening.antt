@@ -6,6 +6,7 @@ use Rattle.o2_isa.specs.View.{is_code, is_writable}
 use Rattle.o2_world.specs.declared.types.State.TheVariants.{Live}
 use Rattle.o2_world.specs.Map.{Map}
 use Rattle.o2_world.specs.World.{World, Process, Segment, Held, Line, Starts, HoldsBy, ByLoad}
+use Rattle.o2_conf.specs.Environments.{environment}
 
 -- a segment of a program module: its access byte, and its image, which is as long as the segment
 pub record ProgramSegment : Type 0 where
@@ -49,13 +50,6 @@ data_segment bytes = record { bytes = bytes; clean = false; code = false; flags 
 
 abbrev pub held_by_load : ℕ → ℕ → Held
 held_by_load name rights = record { name = name; rights = rights; holds = 1; cause = ByLoad; first = 0; reserved = 0 }
-
--- the environment segment: each string with a zero, a zero, the module's name and a zero, the arguments and two zeros
-abbrev pub environment_front : List (List ℕ) → List ℕ
-environment_front strings = flat_map (λ (s : List ℕ). s ++ 0 ∷ []) strings ++ 0 ∷ []
-
-abbrev pub environment : List (List ℕ) → List ℕ → List ℕ → List ℕ
-environment strings name arguments = environment_front strings ++ name ++ 0 ∷ [] ++ arguments ++ 0 ∷ 0 ∷ []
 
 -- the segments of a program, segment n under name n - 1, with the environment behind them
 abbrev pub opening_names : Program → ℕ → List ProgramSegment → List ℕ → Map Segment

@@ -1,5 +1,5 @@
 use Rattle.std.proofs.Common.{[], subst, ◌∙◌}
-use Rattle.o2_world.specs.Opening.{environment}
+use Rattle.o2_conf.specs.Environments.{environment}
 use Rattle.o2_machine.specs.Segments.{Adds, AddsSegment}
 use Rattle.o2_machine.proofs.Openings.{three_names}
 use Rattle.o2_machine.proofs.opening.first_plain.Goals as goal
