@@ -1,0 +1,65 @@
+// Commands over files, an input and sinks in memory.
+
+use o2_base::{Bytes, NoMemory};
+use o2_cli::{number, os2run};
+use o2_outer::{MemFiles, MemSink, SureSource, SureSwap};
+use std::alloc::Global;
+
+/// What a command came to.
+#[derive(Drop)]
+pub struct Answer {
+    pub status: u8,
+    pub console: MemSink,
+    pub report: MemSink,
+}
+
+/// The calls of a sink that fail, counted from 1, each with the number of bytes that it takes before.
+pub type Fails<'a> = &'a [(u64, usize)];
+
+fn words_of(alloc: Global, words: &[&str]) -> Result<Vec<String>, NoMemory> {
+    let mut list = Vec::new(alloc);
+    for word in words {
+        let mut text = String::new(alloc);
+        text.push_str(word)?;
+        list.push(text)?;
+    }
+    Ok(list)
+}
+
+/// A command over these files and this input.
+pub fn command(
+    alloc: Global,
+    words: &[&str],
+    files: Vec<(Bytes, Bytes)>,
+    input: &[u8],
+    console_fails: Fails<'_>,
+    report_fails: Fails<'_>,
+) -> Result<Answer, NoMemory> {
+    let mut files = MemFiles::new(files, Vec::new(alloc));
+    let mut input = SureSource::new(Bytes::from_slice(alloc, input)?);
+    let mut console = MemSink::new(alloc, 4096, console_fails.to_vec(alloc)?)?;
+    let mut report = MemSink::new(alloc, 16384, report_fails.to_vec(alloc)?)?;
+    let mut swap = SureSwap::new(alloc, 1)?;
+    let list = words_of(alloc, words)?;
+    let status = os2run(
+        alloc,
+        list.as_slice(),
+        &mut files,
+        &mut input,
+        &mut console,
+        &mut report,
+        &mut swap,
+    );
+    Ok(Answer {
+        status: number(&status),
+        console,
+        report,
+    })
+}
+
+/// One file.
+pub fn one_file(alloc: Global, name: &[u8], file: Bytes) -> Result<Vec<(Bytes, Bytes)>, NoMemory> {
+    let mut files = Vec::new(alloc);
+    files.push((Bytes::from_slice(alloc, name)?, file))?;
+    Ok(files)
+}

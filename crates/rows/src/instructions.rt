@@ -1,0 +1,100 @@
+// Instructions, one or a few at a time, as programs that write what they left to the console. The code begins at 000F:0000, with
+// DS and SS 0017, SP 0200h, and 0202h as flags; after it the 16 bytes from DS:0010 on are written.
+
+mod data;
+mod flow;
+
+use crate::command::{command, one_file};
+use o2_base::{Bytes, NoMemory};
+use std::alloc::Global;
+use std::test::Fail;
+
+/// What stands before the code: header, segment table and names of a program of two segments, the second with 128 bytes and a
+/// stack of 384.
+static FRONT: [u8; 176] = [
+    0x4D, 0x5A, 0x00, 0x00, 0x00, 0x00, 0x00, 0x00, 0x00, 0x00, 0x00, 0x00, 0x00, 0x00, 0x00, 0x00,
+    0x00, 0x00, 0x00, 0x00, 0x00, 0x00, 0x00, 0x00, 0x00, 0x00, 0x00, 0x00, 0x00, 0x00, 0x00, 0x00,
+    0x00, 0x00, 0x00, 0x00, 0x00, 0x00, 0x00, 0x00, 0x00, 0x00, 0x00, 0x00, 0x00, 0x00, 0x00, 0x00,
+    0x00, 0x00, 0x00, 0x00, 0x00, 0x00, 0x00, 0x00, 0x00, 0x00, 0x00, 0x00, 0x40, 0x00, 0x00, 0x00,
+    0x4E, 0x45, 0x05, 0x00, 0x65, 0x00, 0x00, 0x00, 0x00, 0x00, 0x00, 0x00, 0x02, 0x00, 0x02, 0x00,
+    0x00, 0x00, 0x80, 0x01, 0x00, 0x00, 0x01, 0x00, 0x00, 0x00, 0x02, 0x00, 0x02, 0x00, 0x01, 0x00,
+    0x00, 0x00, 0x40, 0x00, 0x50, 0x00, 0x50, 0x00, 0x59, 0x00, 0x5B, 0x00, 0x00, 0x00, 0x00, 0x00,
+    0x00, 0x00, 0x04, 0x00, 0x00, 0x00, 0x01, 0x00, 0x00, 0x00, 0x00, 0x00, 0x00, 0x00, 0x00, 0x00,
+    0x0B, 0x00, 0x00, 0x00, 0x00, 0x0D, 0x00, 0x00, 0x00, 0x00, 0x00, 0x00, 0x01, 0x0C, 0x80, 0x00,
+    0x05, 0x48, 0x45, 0x4C, 0x4C, 0x4F, 0x00, 0x00, 0x00, 0x01, 0x00, 0x00, 0x08, 0x44, 0x4F, 0x53,
+    0x43, 0x41, 0x4C, 0x4C, 0x53, 0x00, 0x00, 0x00, 0x00, 0x00, 0x00, 0x00, 0x00, 0x00, 0x00, 0x00,
+];
+
+/// What follows the code: push 1; push 17h; push 10h; push 16; push 17h; push 40h; call far DosWrite; push 1; push 0;
+/// call far DosExit.
+static END: [u8; 30] = [
+    0x6A, 0x01, 0x68, 0x17, 0x00, 0x68, 0x10, 0x00, 0x6A, 0x10, 0x68, 0x17, 0x00, 0x68, 0x40, 0x00,
+    0x9A, 0xFF, 0xFF, 0x00, 0x00, 0x6A, 0x01, 0x6A, 0x00, 0x9A, 0xFF, 0xFF, 0x00, 0x00,
+];
+
+/// The places of the two calls' addresses behind the code, with their ordinals.
+static IMPORTS: [(u16, u16); 2] = [(0x11, 138), (0x1A, 5)];
+
+/// A program of this code, of 60,000 bytes at most.
+fn program(alloc: Global, code: &[u8]) -> Result<Bytes, NoMemory> {
+    let len = code.len().min(60000) as u16;
+    let [low, high] = (len + 30).to_le_bytes();
+    let mut file = FRONT.to_vec(alloc)?;
+    for (at, byte) in [(0x82usize, low), (0x83, high), (0x86, low), (0x87, high)] {
+        if let Some(place) = file.get_mut(at) {
+            *place = byte;
+        }
+    }
+    file.extend_from_slice(code)?;
+    file.extend_from_slice(&END)?;
+    file.extend_from_slice(&[2, 0])?;
+    for (behind, ordinal) in IMPORTS.iter() {
+        file.extend_from_slice(&[3, 1])?;
+        file.extend_from_slice(&len.saturating_add(*behind).to_le_bytes())?;
+        file.extend_from_slice(&[1, 0])?;
+        file.extend_from_slice(&ordinal.to_le_bytes())?;
+    }
+    Ok(Bytes::new(file))
+}
+
+/// The start of the report of each of them.
+const START: &str =
+    "1 start HELLO\n1 hold 000F by load\n1 hold 0017 by load\n1 hold 001F by load\n";
+
+/// Runs programs whose code leaves these words at DS:0010.
+fn shown(rt: &HostRuntime, cases: &[(&str, &[u8], [u8; 16])]) -> Result<(), Fail> {
+    for (name, code, wanted) in cases.iter() {
+        let files = one_file(rt.alloc(), b"a.exe", program(rt.alloc(), code)?)?;
+        let answer = command(rt.alloc(), &["exe", "a.exe"], files, &[], &[], &[])?;
+        assert_eq!(rt; answer.console.taken(), wanted.as_slice(), "of {name}");
+        assert_eq!(rt; answer.status, 0, "of {name}");
+    }
+    Ok(())
+}
+
+/// Runs programs whose code ends the process with this line.
+fn ended(rt: &HostRuntime, cases: &[(&str, &[u8], &str)]) -> Result<(), Fail> {
+    for (name, code, line) in cases.iter() {
+        let files = one_file(rt.alloc(), b"a.exe", program(rt.alloc(), code)?)?;
+        let answer = command(rt.alloc(), &["exe", "a.exe"], files, &[], &[], &[])?;
+        let mut report = String::new(rt.alloc());
+        report.push_str(START)?;
+        report.push_str(line)?;
+        report.push_str("\nall ended\n")?;
+        assert_eq!(rt; answer.report.taken(), report.as_bytes(), "of {name}");
+        assert_eq!(rt; answer.status, 0, "of {name}");
+    }
+    Ok(())
+}
+
+#[test]
+fn data_instructions(rt: HostRuntime) -> Result<(), Fail> {
+    shown(&rt, &data::SHOWN)?;
+    ended(&rt, &data::ENDED)
+}
+
+#[test]
+fn flow_and_string_instructions(rt: HostRuntime) -> Result<(), Fail> {
+    shown(&rt, &flow::SHOWN)?;
+    ended(&rt, &flow::ENDED)
+}

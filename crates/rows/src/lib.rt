@@ -1,0 +1,9 @@
+//! Rows: whole commands over files, an input and sinks in memory, with what they must come to.
+#![tactic(auto)]
+
+#[cfg(test)]
+mod command;
+#[cfg(test)]
+mod hello;
+#[cfg(test)]
+mod instructions;
