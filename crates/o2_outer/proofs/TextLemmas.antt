@@ -1,5 +1,5 @@
 -- How texts grow put by put.
-use Rattle.std.proofs.Common.{◌≡◌, List, ℕ, [], ◌∷◌, ◌++◌, Option, Some, ap, sym, ◌∙◌, append_assoc, append-nil, refl}
+use Rattle.std.proofs.Common.{List, ℕ, [], ◌++◌, Option, Some, ap, sym, ◌∙◌, append_assoc, append-nil, refl}
 use Rattle.o2_outer.specs.declared.sink.Put.{Put}
 use Rattle.o2_outer.specs.declared.sink.Put.TheVariants as put
 use Rattle.o2_outer.specs.Texts.{Gains, GainsSome, IsPrefix, Continues, ContinuesBetween}

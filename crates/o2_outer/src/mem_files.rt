@@ -1,5 +1,6 @@
 // Files in memory, which fail when told to.
 ghost use Rattle.std.specs.Prelude.{◌≡◌, Some, drop, option_map, List, ℕ};
+ghost use Rattle.o2_outer.specs.Answers.{Answers, IsBounded};
 ghost use Rattle.o2_outer.specs.Contents.{file_in};
 
 use crate::{Fetch, Files};
@@ -26,6 +27,26 @@ fn find<'a>(files: &'a [(Bytes, Bytes)], name: &[u8]) -> Option<&'a Bytes>
         .map(|file| &file.1)
 }
 
+/// What files in memory answer, where the call doesn't fail.
+pub fn fetch_from(files: &[(Bytes, Bytes)], alloc: Global, name: &Bytes, most: u32) -> Fetch
+    ensures answers { Answers (file_in files.now) name.now most result }
+    ensures bounded { IsBounded most result }
+    ensures sure { result ≡ Fetch.Failed → ⊥ }
+{
+    match find(files, name.as_slice()) {
+        None => Fetch::NoFile,
+        Some(file) => {
+            if file.len() > most as usize {
+                return Fetch::TooLong;
+            }
+            match Bytes::from_slice(alloc, file.as_slice()) {
+                Ok(bytes) => Fetch::Got(bytes),
+                Err(_) => Fetch::NoMemory,
+            }
+        }
+    }
+}
+
 impl MemFiles {
     /// These files, and the calls that are to fail.
     pub fn new(files: Vec<(Bytes, Bytes)>, fails: Vec<u64>) -> MemFiles {
@@ -49,17 +70,6 @@ impl Files for MemFiles {
             self.faults = self.faults.saturating_add(1);
             return Fetch::Failed;
         }
-        match find(&self.files, name.as_slice()) {
-            None => Fetch::NoFile,
-            Some(file) => {
-                if file.len() > most as usize {
-                    return Fetch::TooLong;
-                }
-                match Bytes::from_slice(alloc, file.as_slice()) {
-                    Ok(bytes) => Fetch::Got(bytes),
-                    Err(_) => Fetch::NoMemory,
-                }
-            }
-        }
+        fetch_from(&self.files, alloc, name, most)
     }
 }

@@ -1,8 +1,7 @@
 -- A run has no more steps than its budget.
-use Rattle.std.proofs.Common.{◌≡◌, ℕ, zero, suc, ◌+◌, ◌-◌, ◌<◌, ◌≤◌, Bool, true, false, not, ◌||◌, ◌==◌, nat_lt, ◌&&◌, if◌then◌else◌, List, [], ◌∷◌, Option, Some, None, ap, sym, ◌∙◌, refl, arith, subst, below_more}
+use Rattle.std.proofs.Common.{◌≡◌, ℕ, zero, suc, ◌+◌, ◌<◌, ◌≤◌, Bool, true, false, not, ◌||◌, ◌==◌, nat_lt, ◌&&◌, if◌then◌else◌, List, [], ◌∷◌, Option, Some, sym, ◌∙◌, refl, arith, subst, below_more}
 use Rattle.o2_world.specs.World.{World, Setting, Process}
-use Rattle.o2_conf.specs.Dispatch.{Dispatch, dispatched, started, live_script, lives, counted}
-use Rattle.o2_world.specs.Holders.{process_at}
+use Rattle.o2_conf.specs.Dispatch.{Dispatch, dispatched, started, live_script, lives}
 use Rattle.o2_world.specs.Run.{changed, acted, step, after, is_over, any_lives, live_flags, next_dispatch, IsLast}
 use Rattle.o2_world.proofs.Choice.{chosen_lives}
 use Rattle.o2_world.proofs.Flags.{live_process}
@@ -25,9 +24,9 @@ not_over : (b : Bool) (n : ℕ) → (not b || (n == 0)) ≡ false → (b ≡ tru
 not_over true n e = (refl, grind arith)
 not_over false n e = absurd (cc)
 
-acted_budget : (w : World) (d : Dispatch) (p : Process) → 0 < d.budget → (acted w d (Some p)).dispatch.budget + 1 ≡ d.budget
+acted_budget : (s : Setting) (w : World) (d : Dispatch) (p : Process) → 0 < d.budget → (acted s w d (Some p)).dispatch.budget + 1 ≡ d.budget
 unfolding changed
-acted_budget w d p h = omega arith
+acted_budget s w d p h = omega arith
 
 step_budget : (s : Setting) (w : World) → is_over w ≡ false → (step s w).dispatch.budget + 1 ≡ w.dispatch.budget
 unfolding step
@@ -37,8 +36,8 @@ step_budget s w e =
     let same : d.budget ≡ w.dispatch.budget = dispatched_budget s.quantum (live_flags w.processes) w.dispatch in
     let lives_here : lives (live_flags w.processes) d.current ≡ true = chosen_lives s.quantum (live_flags w.processes) w.dispatch runs.0 in
     let here = live_process w.processes (live_flags w.processes) d.current refl lives_here in
-    let P : Option Process → Type 0 = λ o. (acted w d o).dispatch.budget + 1 ≡ w.dispatch.budget in
-    subst P (sym here.1) (acted_budget w d here.0 (omega (arith, same, runs.1)) ∙ same)
+    let P : Option Process → Type 0 = λ o. (acted s w d o).dispatch.budget + 1 ≡ w.dispatch.budget in
+    subst P (sym here.1) (acted_budget s w d here.0 (omega (arith, same, runs.1)) ∙ same)
 
 pub budget_after : (s : Setting) (w : World) (k : ℕ) → ((j : ℕ) → j < k → is_over (after s w j) ≡ false) → (after s w k).dispatch.budget + k ≡ w.dispatch.budget
 budget_after s w zero runs = omega arith

@@ -1,5 +1,5 @@
 -- A step keeps a sound world sound, and changes no other process.
-use Rattle.std.proofs.Common.{◌≡◌, ◌≢◌, ℕ, zero, suc, ◌+◌, ◌-◌, ◌<◌, Bool, true, false, List, [], ◌∷◌, length, Option, Some, None, ap, sym, ◌∙◌, refl, arith, if◌then◌else◌, ◌||◌, ◌&&◌, ◌==◌, slice_set, subst}
+use Rattle.std.proofs.Common.{◌≡◌, ◌≢◌, ℕ, zero, suc, ◌-◌, Bool, true, false, List, [], ◌∷◌, Option, Some, None, ap, sym, ◌∙◌, refl, arith, if◌then◌else◌, ◌||◌, ◌==◌, slice_set, subst}
 use Rattle.std.specs.Prelude.{is_some, slice_get, option_map}
 use Rattle.o2_world.specs.Map.{Map, get}
 use Rattle.o2_world.specs.World.{World, Setting, Process, Segment, Held, is_live}
@@ -9,7 +9,7 @@ use Rattle.o2_world.specs.Views.{with_bytes}
 use Rattle.o2_world.specs.Calls.{Effect}
 use Rattle.o2_world.specs.Effect.{effect}
 use Rattle.o2_world.specs.Run.{process_after, names_after, before, changed, acted, step, next_dispatch}
-use Rattle.o2_world.specs.Sound.{IsSound, IsSoundFor, held_in, held_of}
+use Rattle.o2_world.specs.Sound.{IsSound, IsSoundFor, held_in}
 use Rattle.o2_world.proofs.MapLemmas.{get-filter, get-map, found_any}
 
 is_some-map : {X : Type 0} (f : X → X) (o : Option X) → is_some (option_map f o) ≡ is_some o
@@ -107,20 +107,20 @@ module _ (ps : List Process) (segments : Map Segment) (k : ℕ) (p : Process) (e
   sound_step true is = rw is (sound_live is)
   sound_step false is = rw is sound_end
 
-acted_sound : (w : World) (d : Dispatch) (o : Option Process) → process_at w.processes d.current ≡ o → IsSound w → IsSound (acted w d o)
+acted_sound : (s : Setting) (w : World) (d : Dispatch) (o : Option Process) → process_at w.processes d.current ≡ o → IsSound w → IsSound (acted s w d o)
 unfolding changed
-acted_sound w d None at sound = sound
-acted_sound w d (Some p) at sound = sound_step w.processes w.names (d.current - 1) p (effect (before w d.current p)) sound at _ refl
+acted_sound s w d None at sound = sound
+acted_sound s w d (Some p) at sound = sound_step w.processes w.names (d.current - 1) p (effect (before s w d.current p)) sound at _ refl
 
 pub step_sound : (s : Setting) (w : World) → IsSound w → IsSound (step s w)
 unfolding step
-step_sound s w sound = acted_sound w (next_dispatch s w) _ refl sound
+step_sound s w sound = acted_sound s w (next_dispatch s w) _ refl sound
 
-acted_other : (w : World) (d : Dispatch) (o : Option Process) (place : ℕ) → place ≢ d.current - 1 → slice_get (acted w d o).processes place ≡ slice_get w.processes place
+acted_other : (s : Setting) (w : World) (d : Dispatch) (o : Option Process) (place : ℕ) → place ≢ d.current - 1 → slice_get (acted s w d o).processes place ≡ slice_get w.processes place
 unfolding changed
-acted_other w d None place other = refl
-acted_other w d (Some p) place other = at_other w.processes (d.current - 1) place _ other
+acted_other s w d None place other = refl
+acted_other s w d (Some p) place other = at_other w.processes (d.current - 1) place _ other
 
 pub step_other : (s : Setting) (w : World) (place : ℕ) → place ≢ (next_dispatch s w).current - 1 → slice_get (step s w).processes place ≡ slice_get w.processes place
 unfolding step
-step_other s w place other = acted_other w (next_dispatch s w) _ place other
+step_other s w place other = acted_other s w (next_dispatch s w) _ place other

@@ -3,5 +3,4 @@ pub mod Choice
 pub mod Flags
 pub mod Keeps
 pub mod Holding
-pub mod Inputs
 pub mod Budget

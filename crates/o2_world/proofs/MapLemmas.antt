@@ -1,6 +1,6 @@
 -- Laws of maps that are lists of pairs.
-use Rattle.std.proofs.Common.{◌≡◌, ℕ, Bool, true, false, cond, List, [], ◌∷◌, Option, Some, None, if◌then◌else◌, ◌==◌, ◌||◌, ap, sym, ◌∙◌, refl, arith}
-use Rattle.std.specs.Prelude.{filter, is_some, map, option_map}
+use Rattle.std.proofs.Common.{◌≡◌, ℕ, Bool, true, false, cond, [], ◌∷◌, Option, Some, None, if◌then◌else◌, ◌==◌, ◌||◌, ap, sym, ◌∙◌, refl, arith}
+use Rattle.std.specs.Prelude.{filter, map, option_map}
 use Rattle.std.specs.List.{list_any}
 use Rattle.o2_world.specs.Map.{Map, get}
 

@@ -1,13 +1,13 @@
 -- The calls of DOSCALLS by the OS/2 1.3 Programmer's Reference: for each its pointers in order, its conditions in order, its
 -- error number, what it changes, and its line.
-use Rattle.std.specs.Prelude.{ℕ, zero, suc, ◌+◌, ◌*◌, ◌/◌, ◌%◌, Bool, true, false, List, [], ◌∷◌, ◌++◌, length, take, drop, if◌then◌else◌, ◌==◌, nat_le, ◌&&◌, ◌||◌, Option, Some, None, Result, is_ok, codes}
+use Rattle.std.specs.Prelude.{ℕ, zero, suc, ◌+◌, ◌*◌, ◌/◌, ◌%◌, Bool, true, false, List, [], ◌∷◌, ◌++◌, length, take, drop, not, if◌then◌else◌, ◌==◌, nat_le, ◌&&◌, ◌||◌, Option, Some, None, Result, is_ok, codes}
 use Rattle.std.specs.Result.{result_unwrap_or}
 use Rattle.o2_isa.specs.declared.cpu.Cpu.{Cpu}
 use Rattle.o2_isa.specs.declared.instr.Sreg.TheVariants.{Ss}
 use Rattle.o2_isa.specs.declared.instr.Width.TheVariants.{Word as WordWide}
 use Rattle.o2_isa.specs.Parts.{put_part}
 use Rattle.o2_isa.specs.View.{View, Hold, is_readable, is_writable, bound_in, read_of}
-use Rattle.o2_world.specs.declared.types.Argument.TheVariants.{Word, Far}
+use Rattle.o2_world.specs.declared.types.Argument.TheVariants.{Word, Long, Far}
 use Rattle.o2_world.specs.declared.types.State.{State}
 use Rattle.o2_world.specs.declared.types.State.TheVariants.{Live, Exited, Trapped}
 use Rattle.o2_world.specs.World.{Line, Calls, Exits, Ends, Traps}
@@ -22,12 +22,14 @@ pub record Effect : Type 0 where
   pub piece : List ℕ
   pub lines : List Line
 
--- what a step starts from: the number of its process, its registers, what it sees, and the input left
+-- what a step starts from: the number of its process, its registers, what it sees, the input left, and the number that the
+-- machine file gives as free memory
 pub record Before : Type 0 where
   pub number : ℕ
   pub cpu : Cpu
   pub view : View
   pub input : List ℕ
+  pub avail : ℕ
 
 -- a trap: nothing changes but that the process ends
 abbrev pub trapped : Before → ℕ → Effect
@@ -142,6 +144,113 @@ dos_exit b =
     }
     else trapped b 12
 
+-- a call that comes back with no error: the bytes after it, and its line
+abbrev pub back_with : Before → (next words : ℕ) → (ℕ → List ℕ) → Line → Effect
+back_with b next words bytes line = record {
+  cpu = returned b.cpu next words 0;
+  state = Live;
+  bytes = bytes;
+  input = b.input;
+  piece = [];
+  lines = line ∷ [];
+}
+
+-- DosGetPID(pinfo): three words are written, the process's number, its thread's number 1, and its parent's number, which is 0
+-- for a process of the machine file
+abbrev pub pid_bytes : ℕ → List ℕ
+pid_bytes number = word_bytes number ++ word_bytes 1 ++ word_bytes 0
+
+abbrev pub pid_line : ℕ → (selector offset : ℕ) → Line
+pid_line number selector offset = Calls number (codes "DosGetPID") (Far selector offset ∷ []) 0 (Word number ∷ Word 1 ∷ Word 0 ∷ [])
+
+abbrev pub told_pid : Before → ℕ → (selector offset : ℕ) → Effect
+told_pid b next selector offset =
+    if may_write b.view.held b.view.bytes selector offset 6
+    then back_with b next 2 (put_at_pointer b.view.held b.view.bytes selector offset (pid_bytes b.number)) (pid_line b.number selector offset)
+    else trapped b 13
+
+unfoldable pub dos_get_pid : Before → ℕ → Effect
+dos_get_pid b next =
+    let a : ℕ → ℕ = argument b.view b.cpu in
+    if has_arguments b.view b.cpu 2 then told_pid b next (a 1) (a 0) else trapped b 12
+
+-- DosMemAvail(psize): the number that the machine file gives is written as four bytes, and printed as eight digits
+abbrev pub avail_bytes : ℕ → List ℕ
+avail_bytes avail = word_bytes (avail % 65536) ++ word_bytes (avail / 65536)
+
+abbrev pub avail_line : ℕ → (selector offset avail : ℕ) → Line
+avail_line number selector offset avail = Calls number (codes "DosMemAvail") (Far selector offset ∷ []) 0 (Long (avail / 65536) (avail % 65536) ∷ [])
+
+abbrev pub told_avail : Before → ℕ → (selector offset : ℕ) → Effect
+told_avail b next selector offset =
+    if may_write b.view.held b.view.bytes selector offset 4
+    then back_with b next 2 (put_at_pointer b.view.held b.view.bytes selector offset (avail_bytes b.avail)) (avail_line b.number selector offset b.avail)
+    else trapped b 13
+
+unfoldable pub dos_mem_avail : Before → ℕ → Effect
+dos_mem_avail b next =
+    let a : ℕ → ℕ = argument b.view b.cpu in
+    if has_arguments b.view b.cpu 2 then told_avail b next (a 1) (a 0) else trapped b 12
+
+-- DosRead(handle, buffer, count, pdone): 6 unless the handle is 0. The next bytes of the input go to the buffer, fewer than
+-- count only where the input ends, and then their number is written to pdone.
+abbrev pub read_line : ℕ → (handle selector offset count done_selector done_offset error got : ℕ) → Line
+read_line number handle selector offset count done_selector done_offset error got =
+    Calls number (codes "DosRead") (Word handle ∷ Far selector offset ∷ Word count ∷ Far done_selector done_offset ∷ []) error (Word got ∷ [])
+
+-- the bytes after it: those of the input in the buffer, and then their number
+abbrev pub bytes_with : Before → (selector offset done_selector done_offset : ℕ) → List ℕ → ℕ → List ℕ
+bytes_with b selector offset done_selector done_offset got =
+    put_at_pointer b.view.held (put_at_pointer b.view.held b.view.bytes selector offset got) done_selector done_offset (word_bytes (length got))
+
+-- both pointers of a DosRead are good
+abbrev pub may_take : Before → (selector offset count done_selector done_offset : ℕ) → Bool
+may_take b selector offset count done_selector done_offset =
+    may_write b.view.held b.view.bytes selector offset count && may_write b.view.held b.view.bytes done_selector done_offset 2
+
+abbrev pub taken : Before → ℕ → (handle selector offset count done_selector done_offset : ℕ) → Effect
+taken b next handle selector offset count done_selector done_offset =
+    let line = read_line b.number handle selector offset count done_selector done_offset in
+    if may_take b selector offset count done_selector done_offset
+    then (if handle == 0
+    then record {
+      cpu = returned b.cpu next 6 0;
+      state = Live;
+      bytes = bytes_with b selector offset done_selector done_offset (take count b.input);
+      input = drop count b.input;
+      piece = [];
+      lines = line 0 (length (take count b.input)) ∷ [];
+    }
+    else record {
+      cpu = returned b.cpu next 6 6;
+      state = Live;
+      bytes = b.view.bytes;
+      input = b.input;
+      piece = [];
+      lines = line 6 0 ∷ [];
+    })
+    else trapped b 13
+
+unfoldable pub dos_read : Before → ℕ → Effect
+dos_read b next =
+    let a : ℕ → ℕ = argument b.view b.cpu in
+    if has_arguments b.view b.cpu 6 then taken b next (a 5) (a 4) (a 3) (a 2) (a 1) (a 0) else trapped b 12
+
+-- a DosRead goes to the input: its pointers are good, its handle is 0, and it wants at least one byte
+abbrev pub asks_input : Before → (handle selector offset count done_selector done_offset : ℕ) → Bool
+asks_input b handle selector offset count done_selector done_offset =
+    may_take b selector offset count done_selector done_offset && ((handle == 0) && not (count == 0))
+
+unfoldable pub asks : Before → Bool
+asks b =
+    let a : ℕ → ℕ = argument b.view b.cpu in
+    has_arguments b.view b.cpu 6 && asks_input b (a 5) (a 4) (a 3) (a 2) (a 1) (a 0)
+
 -- the call of a service that comes back to `next`
 abbrev pub serviced : Before → ℕ → ℕ → Effect
-serviced b service next = if service == 1 then dos_exit b else dos_write b next
+serviced b service next =
+    if service == 1 then dos_exit b
+    else (if service == 2 then dos_get_pid b next
+    else (if service == 3 then dos_read b next
+    else (if service == 19 then dos_mem_avail b next
+    else dos_write b next)))

@@ -1,14 +1,13 @@
 -- The atomic step of one process: an instruction, one repetition of a repeated string instruction, or a call of DOSCALLS with
--- its far CALL. It depends on the process's number, its registers, what it sees and the input alone.
-use Rattle.std.specs.Prelude.{ℕ, ◌/◌, ◌%◌, List, [], ◌∷◌, ◌++◌, if◌then◌else◌, ◌==◌, ◌&&◌, Bool, Result, Ok, Err}
-use Rattle.o2_isa.specs.declared.cpu.Cpu.{Cpu}
+-- its far CALL. It depends on what a step starts from alone.
+use Rattle.std.specs.Prelude.{◌≡◌, true, ℕ, ◌/◌, ◌%◌, [], ◌∷◌, ◌++◌, if◌then◌else◌, ◌==◌, ◌&&◌, Bool, Result, Ok, Err}
 use Rattle.o2_isa.specs.declared.cpu.Stop.{Stop}
 use Rattle.o2_isa.specs.declared.cpu.Stop.TheVariants as stop
 use Rattle.o2_isa.specs.Steps.{State as Machine, state}
 use Rattle.o2_isa.specs.Step.{stepped}
 use Rattle.o2_world.specs.declared.types.State.TheVariants.{Live, Trapped}
 use Rattle.o2_world.specs.World.{Traps, is_live}
-use Rattle.o2_world.specs.Calls.{Before, Effect, trapped, serviced}
+use Rattle.o2_world.specs.Calls.{Before, Effect, trapped, serviced, asks}
 
 -- the trap flag, bit 8
 abbrev pub has_trap_flag : ℕ → Bool
@@ -30,3 +29,9 @@ single_stepped b e =
 
 unfoldable pub effect : Before → Effect
 effect b = single_stepped b (answered b (stepped (state b.cpu b.view)))
+
+-- the next step is a DosRead that goes to the input
+pub record AsksInput (b : Before) : Type 0 where
+  pub next : ℕ
+  pub calls : stepped (state b.cpu b.view) ≡ Err (stop.Gate 3 next)
+  pub asks_it : asks b ≡ true

@@ -1,5 +1,5 @@
 -- Who holds a name, and the end of a process.
-use Rattle.std.specs.Prelude.{ℕ, ◌-◌, Bool, false, List, [], ◌==◌, Option, Some, None, filter, slice_get, slice_set}
+use Rattle.std.specs.Prelude.{ℕ, ◌-◌, Bool, false, List, ◌==◌, Option, Some, None, filter, slice_get, slice_set}
 use Rattle.std.specs.List.{list_any}
 use Rattle.o2_world.specs.Map.{Map, get}
 use Rattle.o2_world.specs.World.{Segment, Held, Process}

@@ -1,11 +1,10 @@
 -- How a program starts.
-use Rattle.std.specs.Prelude.{ℕ, ◌+◌, ◌-◌, ◌*◌, ◌%◌, ◌/◌, Bool, true, false, not, List, [], ◌∷◌, ◌++◌, length, map, replicate, flat_map, if◌then◌else◌, ◌==◌, ◌&&◌, codes, slice_index_or}
-use Rattle.std.specs.List.{enumerate_from}
+use Rattle.std.specs.Prelude.{ℕ, ◌+◌, ◌-◌, ◌*◌, ◌%◌, false, not, List, [], ◌∷◌, ◌++◌, length, map, replicate, flat_map, if◌then◌else◌, ◌==◌, ◌&&◌, codes, slice_index_or}
 use Rattle.o2_isa.specs.declared.cpu.Cpu.{Cpu}
 use Rattle.o2_isa.specs.View.{is_code, is_writable}
 use Rattle.o2_world.specs.declared.types.State.TheVariants.{Live}
 use Rattle.o2_world.specs.Map.{Map}
-use Rattle.o2_world.specs.World.{World, Process, Segment, Held, Line, Starts, HoldsBy, ByLoad}
+use Rattle.o2_world.specs.World.{World, Segment, Held, Line, Starts, HoldsBy, ByLoad}
 use Rattle.o2_conf.specs.Environments.{environment}
 
 -- a segment of a program module: its access byte, and its image, which is as long as the segment

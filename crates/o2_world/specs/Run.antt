@@ -3,12 +3,12 @@ use Rattle.std.specs.Prelude.{◌⊎◌, ◌≡◌, ℕ, zero, suc, ◌≤◌, �
 use Rattle.std.specs.List.{list_any}
 use Rattle.o2_outer.specs.Texts.{Gains, GainsSome, GainsBetween, IsPrefix}
 use Rattle.o2_world.specs.Map.{Map}
-use Rattle.o2_world.specs.World.{World, Setting, Process, Segment, Line, is_live}
+use Rattle.o2_world.specs.World.{World, Setting, Process, Segment, is_live}
 use Rattle.o2_conf.specs.Dispatch.{Dispatch, dispatched, counted}
 use Rattle.o2_world.specs.Holders.{process_at, with_process, kept}
 use Rattle.o2_world.specs.Views.{view_of, with_bytes}
 use Rattle.o2_world.specs.Calls.{Before, Effect}
-use Rattle.o2_world.specs.Effect.{effect}
+use Rattle.o2_world.specs.Effect.{effect, AsksInput}
 use Rattle.o2_world.specs.Text.{lines_text}
 
 abbrev pub live_flags : List Process → List Bool
@@ -39,13 +39,13 @@ changed w d p e =
     }
 
 -- what a step of process n starts from
-abbrev pub before : World → ℕ → Process → Before
-before w n p = record { number = n; cpu = p.cpu; view = view_of w.names p; input = w.input }
+abbrev pub before : Setting → World → ℕ → Process → Before
+before s w n p = record { number = n; cpu = p.cpu; view = view_of w.names p; input = w.input; avail = s.avail }
 
 -- the world after the step, where there is one
-abbrev pub acted : World → Dispatch → Option Process → World
-acted w d None = w
-acted w d (Some p) = changed w d p (effect (before w d.current p))
+abbrev pub acted : Setting → World → Dispatch → Option Process → World
+acted s w d None = w
+acted s w d (Some p) = changed w d p (effect (before s w d.current p))
 
 -- whose step is next
 abbrev pub next_dispatch : Setting → World → Dispatch
@@ -53,7 +53,13 @@ next_dispatch s w = dispatched s.quantum (live_flags w.processes) w.dispatch
 
 -- one step of the machine
 unfoldable pub step : Setting → World → World
-step s w = let d = next_dispatch s w in acted w d (process_at w.processes d.current)
+step s w = let d = next_dispatch s w in acted s w d (process_at w.processes d.current)
+
+-- the next step is a DosRead of at least one byte from handle 0, with good pointers
+pub record IsReadNext (s : Setting) (w : World) : Type 0 where
+  pub process : Process
+  pub there : process_at w.processes (next_dispatch s w).current ≡ Some process
+  pub reads : AsksInput (before s w (next_dispatch s w).current process)
 
 -- after k steps
 abbrev pub after : Setting → World → ℕ → World

@@ -1,0 +1,67 @@
+// A source in memory, which fails when told to.
+ghost use Rattle.std.specs.Prelude.{◌≡◌, ◌≤◌, ◌<◌, List, ℕ, Some, drop, take, length};
+
+use crate::{Source, Took};
+use o2_base::Bytes;
+
+/// Bytes in memory. The takes of `fails`, counted from 1, fail, and no other.
+#[derive(Drop)]
+pub struct MemSource {
+    bytes: Bytes,
+    at: usize,
+    fails: Vec<u64>,
+    calls: u64,
+    faults: u64,
+    ghost within: { at ≤ length bytes },
+}
+
+impl MemSource {
+    ghost use Rattle.o2_outer.specs.Sources.{mem_left, mem_faults};
+
+    /// A source of these bytes, and the takes that are to fail.
+    pub fn new(bytes: Bytes, fails: Vec<u64>) -> MemSource
+        ensures left { mem_left result ≡ bytes }
+        ensures faultless { mem_faults result ≡ 0 }
+    {
+        MemSource {
+            bytes,
+            at: 0,
+            fails,
+            calls: 0,
+            faults: 0,
+        }
+    }
+
+    /// The bytes left.
+    pub fn left(&self) -> &[u8]
+        ensures { result.now ≡ mem_left self.now }
+    {
+        &self.bytes.as_slice()[self.at..]
+    }
+
+    /// How often it has failed.
+    pub fn faults(&self) -> u64
+        ensures { result ≡ mem_faults self.now }
+    {
+        self.faults
+    }
+}
+
+impl Source for MemSource {
+    ghost left = { λ s. Some (drop s.at s.bytes) };
+
+    ghost faults = { λ s. s.faults };
+
+    fn take(&mut self, into: &mut [u8]) -> Took {
+        self.calls = self.calls.saturating_add(1);
+        if self.fails.contains(&self.calls) {
+            self.faults = self.faults.saturating_add(1);
+            return Took::Failed;
+        }
+        let rest = &self.bytes.as_slice()[self.at..];
+        let count = into.len().min(rest.len());
+        into[..count].copy_from_slice(&rest[..count]);
+        self.at += count;
+        Took::Done(count)
+    }
+}
