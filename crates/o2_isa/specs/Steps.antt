@@ -58,11 +58,22 @@ selector s = record { 0 = s }
 pub data Change : Type 0 where
   Bind : Sreg → ℕ → Change
   Write : Sreg → ℕ → Width → ℕ → Change
+  -- the word that then stands at the first offset goes to the second
+  Copy : Sreg → ℕ → ℕ → Change
+
+abbrev pub value_or_zero : Result ℕ (ℕ × ℕ) → ℕ
+value_or_zero (Ok x) = x
+value_or_zero (Err e) = 0
+
+-- the word at a place of the segment in a register; 0 where it can't be read
+unfoldable pub word_there : View → Sreg → ℕ → ℕ
+word_there v r k = value_or_zero (read_of v r k Word)
 
 abbrev pub changed : List Change → View → View
 changed [] v = v
 changed (Bind r s ∷ cs) v = changed cs (bind v r (selector s))
 changed (Write r k w x ∷ cs) v = changed cs (poke v r k w x)
+changed (Copy r a b ∷ cs) v = changed cs (poke v r b Word (word_there v r a))
 
 pub data Steps : Type 0 where
   -- a trap, or a service
