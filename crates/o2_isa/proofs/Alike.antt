@@ -6,6 +6,7 @@ use Rattle.std.proofs.lemmas.Bool.Decides.{nat_tests}
 use Rattle.o2_isa.proofs.Loads.{loadable_from_probe}
 use mathlib.Core.Path.{fun_ext}
 use Rattle.o2_isa.specs.declared.instr.Width.{Width}
+use Rattle.o2_isa.specs.declared.instr.Width.TheVariants.{Word}
 use Rattle.o2_isa.specs.declared.instr.Sreg.{Sreg}
 use Rattle.o2_isa.specs.declared.instr.Sreg.TheVariants.{Es, Cs, Ss, Ds}
 use Rattle.o2_isa.specs.Registers.{with_sreg}
@@ -19,7 +20,7 @@ use Rattle.o2_isa.specs.declared.cpu.Stop.{Stop}
 use Rattle.o2_isa.specs.declared.cpu.Stop.TheVariants as stop
 use Rattle.o2_isa.specs.View.{is_loadable, present_hold, View, Hold, Filling, whole, KeepsFrame, IsBound, present_or_none, put_at, value_at, width_len, outside, is_readable, is_writable, is_code, is_null, is_local, reached, read_name, read_of, room_of, probe_of, found, when, here, refused, size_at, rights_at, gate_at, bind, poke, poke_hold, in_register, trap_of, through_gate, called, Rest, Hidden, Registers, with_register, bound_in, bound_registers, Agrees}
 use Rattle.o2_isa.specs.Presence.{with_unseen, unseen_result, with_binds, SameSelectors, AsWhole, names_after, hold_name, loaded_names, is_in, IsMissed, IsRow, WritesFirst, OnlyBinds}
-use Rattle.o2_isa.specs.Steps.{State, state, Steps, Stops, Ends, Reads, Room, Loads, Sizes, Rights, Change, Bind, Write, changed, or_trap, passed, selector, run, ◌>>=◌}
+use Rattle.o2_isa.specs.Steps.{State, state, Steps, Stops, Ends, Reads, Room, Loads, Sizes, Rights, Change, Bind, Write, Copy, changed, word_there, value_or_zero, or_trap, passed, selector, run, ◌>>=◌}
 
 -- What doesn't look at presence.
 
@@ -54,6 +55,10 @@ pub room_whole : (h : Filling) (v : View) (r : Sreg) (k : ℕ) (w : Width) → I
 unfolding room_of
 room_whole h v r k w bound = sym (reached_whole h v (in_register v.registers r) is_writable r k w (bound r))
 
+pub word_whole : (h : Filling) (v : View) (r : Sreg) (k : ℕ) → IsBound v → word_there (whole h v) r k ≡ word_there v r k
+unfolding word_there
+word_whole h v r k bound = ap value_or_zero (sym (read_whole h v r k Word bound))
+
 pub size_whole : (h : Filling) (v : View) (s : ℕ) → size_at v s ≡ size_at (whole h v) s
 unfolding size_at
 size_whole h v s = refl
@@ -86,12 +91,17 @@ unfolding bind
 binds_whole h [] v o = refl
 binds_whole h (Bind r s ∷ cs) v o = binds_whole h cs (bind v r (selector s)) o
 binds_whole h (Write r k w x ∷ cs) v o = absurd o
+binds_whole h (Copy r a b ∷ cs) v o = absurd o
 
 changed_whole : (h : Filling) (cs : List Change) (v : View) → WritesFirst cs → IsBound v → changed cs (whole h v) ≡ whole h (changed cs v)
 unfolding bind poke
 changed_whole h [] v f b = refl
 changed_whole h (Bind r s ∷ cs) v f b = binds_whole h cs (bind v r (selector s)) f
 changed_whole h (Write r k w x ∷ cs) v f b = ap (changed cs) (poke_hold_whole h v (in_register v.registers r) k w x (b r)) ∙ changed_whole h cs (poke v r k w x) f (bound_poke v (in_register v.registers r) k w x b)
+changed_whole h (Copy r k m ∷ cs) v f b =
+    ap (λ (x : ℕ). changed cs (poke_hold (whole h v) (in_register v.registers r) m Word x)) (word_whole h v r k b)
+    ∙ (ap (changed cs) (poke_hold_whole h v (in_register v.registers r) m Word (word_there v r k) (b r))
+    ∙ changed_whole h cs (poke v r m Word (word_there v r k)) f (bound_poke v (in_register v.registers r) m Word (word_there v r k) b))
 
 -- What does.
 
@@ -231,6 +241,7 @@ unfolding bind poke
 frame_changed u [] v f = f
 frame_changed u (Bind r s ∷ cs) v f = frame_changed u cs (bind v r (selector s)) (record { held = f.held; gate = f.gate; size = f.size; present = f.present; discarded = f.discarded; rest = f.rest; hidden = f.hidden })
 frame_changed u (Write r k w x ∷ cs) v f = frame_changed u cs (poke v r k w x) (frame_poke u v (in_register v.registers r) k w x f)
+frame_changed u (Copy r a b ∷ cs) v f = frame_changed u cs (poke v r b Word (word_there v r a)) (frame_poke u v (in_register v.registers r) b Word (word_there v r a) f)
 
 frame_bind : (v : View) (r : Result ℕ Stop) (f : ℕ → Result State Stop) (t : State) → ((x : ℕ) → f x ≡ Ok t → KeepsFrame v t.view) → (r >>= f) ≡ Ok t → KeepsFrame v t.view
 frame_bind v (Ok x) f t h e = h x e
@@ -334,12 +345,6 @@ poke_unseen : (u : Rest) (h : Hidden) (v : View) (o : Option Hold) (k : ℕ) (w 
 poke_unseen u h v None k w x = refl
 poke_unseen u h v (Some y) k w x = refl
 
-changed_unseen : (u : Rest) (h : Hidden) (cs : List Change) (v : View) → changed cs (with_unseen u h v) ≡ with_unseen u h (changed cs v)
-unfolding bind poke
-changed_unseen u h [] v = refl
-changed_unseen u h (Bind r s ∷ cs) v = changed_unseen u h cs (bind v r (selector s))
-changed_unseen u h (Write r k w x ∷ cs) v = ap (changed cs) (poke_unseen u h v (in_register v.registers r) k w x) ∙ changed_unseen u h cs (poke v r k w x)
-
 reached_unseen : (u : Rest) (h : Hidden) (v : View) (o : Option Hold) (ok : ℕ → Bool) (r : Sreg) (k : ℕ) (w : Width) → reached o ok (with_unseen u h v) r k w ≡ reached o ok v r k w
 reached_unseen u h v None ok r k w = refl
 reached_unseen u h v (Some x) ok r k w = refl
@@ -351,6 +356,20 @@ name_unseen u h v k w (Err e) = refl
 read_unseen : (u : Rest) (h : Hidden) (v : View) (r : Sreg) (k : ℕ) (w : Width) → read_of (with_unseen u h v) r k w ≡ read_of v r k w
 unfolding read_of
 read_unseen u h v r k w = name_unseen u h v k w _ ∙ ap (read_name v k w) (reached_unseen u h v (in_register v.registers r) is_readable r k w)
+
+word_unseen : (u : Rest) (h : Hidden) (v : View) (r : Sreg) (k : ℕ) → word_there (with_unseen u h v) r k ≡ word_there v r k
+unfolding word_there
+word_unseen u h v r k = ap value_or_zero (read_unseen u h v r k Word)
+
+changed_unseen : (u : Rest) (h : Hidden) (cs : List Change) (v : View) → changed cs (with_unseen u h v) ≡ with_unseen u h (changed cs v)
+unfolding bind poke
+changed_unseen u h [] v = refl
+changed_unseen u h (Bind r s ∷ cs) v = changed_unseen u h cs (bind v r (selector s))
+changed_unseen u h (Write r k w x ∷ cs) v = ap (changed cs) (poke_unseen u h v (in_register v.registers r) k w x) ∙ changed_unseen u h cs (poke v r k w x)
+changed_unseen u h (Copy r a b ∷ cs) v =
+    ap (λ (x : ℕ). changed cs (poke_hold (with_unseen u h v) (in_register v.registers r) b Word x)) (word_unseen u h v r a)
+    ∙ (ap (changed cs) (poke_unseen u h v (in_register v.registers r) b Word (word_there v r a))
+    ∙ changed_unseen u h cs (poke v r b Word (word_there v r a)))
 
 room_unseen : (u : Rest) (h : Hidden) (v : View) (r : Sreg) (k : ℕ) (w : Width) → room_of (with_unseen u h v) r k w ≡ room_of v r k w
 unfolding room_of
@@ -420,6 +439,7 @@ unfolding bind poke
 agrees_changed c [] v a = a
 agrees_changed c (Bind r s ∷ cs) v a = agrees_changed (with_sreg c r s) cs (bind v r (selector s)) (ap (λ (z : Registers). with_register z r (bound_in v.held s)) a ∙ bound_load v.held c r s)
 agrees_changed c (Write r k w x ∷ cs) v a = agrees_changed c cs (poke v r k w x) (agrees_poke c v (in_register v.registers r) k w x a)
+agrees_changed c (Copy r k m ∷ cs) v a = agrees_changed c cs (poke v r m Word (word_there v r k)) (agrees_poke c v (in_register v.registers r) m Word (word_there v r k) a)
 
 agrees_bind : (r : Result ℕ Stop) (f : ℕ → Result State Stop) (t : State) → ((x : ℕ) → f x ≡ Ok t → Agrees t.cpu t.view) → (r >>= f) ≡ Ok t → Agrees t.cpu t.view
 agrees_bind (Ok x) f t h e = h x e

@@ -2,6 +2,9 @@ pub mod Loads
 pub mod Pokes
 pub mod Runs
 pub mod Alike
+pub mod RowParts
+pub mod FlowMnemonics
+pub mod StringMnemonics
 pub mod Mnemonics
 pub mod StepLaws
 pub mod Views

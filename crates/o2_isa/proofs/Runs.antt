@@ -2,14 +2,15 @@
 use Rattle.std.proofs.Common.{◌≡◌, refl, ℕ, Bool, true, false, cond}
 use Rattle.std.specs.Prelude.{Option, Some, None, Result, Ok, Err, nat_lt}
 use Rattle.o2_isa.specs.declared.instr.Width.{Width}
+use Rattle.o2_isa.specs.declared.instr.Width.TheVariants.{Word}
 use Rattle.o2_isa.specs.declared.instr.Arg.{Arg}
 use Rattle.o2_isa.specs.declared.instr.Arg.TheVariants as arg
 use Rattle.o2_isa.specs.declared.cpu.Cpu.{Cpu}
 use Rattle.o2_isa.specs.declared.cpu.Stop.{Stop}
 use Rattle.o2_isa.specs.declared.cpu.Stop.TheVariants as stop
-use Rattle.o2_isa.specs.View.{View, room_of, poke, size_at}
+use Rattle.o2_isa.specs.View.{View, read_of, room_of, poke, size_at}
 use Rattle.o2_isa.specs.Registers.{offset_of}
-use Rattle.o2_isa.specs.Steps.{State, Steps, Stops, in_size, run, state, at_ip, valued, storing, within, value_of, stored, target, or_trap, narrow, ◌>>=◌}
+use Rattle.o2_isa.specs.Steps.{State, Steps, Stops, above, in_size, run, state, at_ip, valued, pair_valued, storing, within, value_of, pair_of, stored, target, or_trap, narrow, ◌>>=◌}
 
 pub run_valued : (c : Cpu) (w : Width) (a : Arg) (f : ℕ → Steps) (v : View) → run (valued c w a f) v ≡ (value_of (state c v) w a >>= (λ x. run (f x) v))
 unfolding valued
@@ -20,6 +21,21 @@ run_valued c w (arg.M ea) f v = refl
 run_valued c w (arg.Imm n) f v = refl
 run_valued c w arg.No f v = refl
 run_valued c w (arg.Far o t) f v = refl
+
+two_reads : (p q : Result ℕ Stop) (f : ℕ → ℕ → Result State Stop) → (p >>= (λ x. q >>= (λ y. f x y))) ≡ ((p >>= (λ x. q >>= (λ y. Ok (x, y)))) >>= (λ (z : ℕ × ℕ). f z.0 z.1))
+two_reads (Ok x) (Ok y) f = refl
+two_reads (Ok x) (Err e) f = refl
+two_reads (Err e) q f = refl
+
+pub run_pair : (c : Cpu) (a : Arg) (f : ℕ → ℕ → Steps) (v : View) → run (pair_valued c a f) v ≡ (pair_of (state c v) a >>= (λ p. run (f p.0 p.1) v))
+unfolding pair_valued
+run_pair c (arg.R8 n) f v = refl
+run_pair c (arg.R16 n) f v = refl
+run_pair c (arg.S r) f v = refl
+run_pair c (arg.M ea) f v = two_reads (or_trap (read_of v ea.seg (offset_of c ea) Word)) (or_trap (read_of v ea.seg (above (offset_of c ea)) Word)) (λ x y. run (f x y) v)
+run_pair c (arg.Imm n) f v = refl
+run_pair c arg.No f v = refl
+run_pair c (arg.Far o t) f v = refl
 
 bound : (r : Result ℕ Stop) (t : State) (h : State → Result State Stop) → (r >>= (λ _. h t)) ≡ ((r >>= (λ (_ : ℕ). Ok t)) >>= h)
 bound (Ok x) t h = refl

@@ -7,7 +7,13 @@ pub mod View
 pub mod Registers
 pub mod Steps
 pub mod DataRows
+pub mod FlowJumps
+pub mod FlowCalls
+pub mod FlowFrames
+pub mod FlowInterrupts
+pub mod FlowProtection
 pub mod FlowRows
+pub mod StringRows
 pub mod Meaning
 pub mod Presence
 pub mod Step

@@ -11,6 +11,7 @@ use Rattle.o2_isa.specs.declared.cpu.Stop.TheVariants as stop
 use Rattle.o2_isa.specs.Steps.{State, Steps, Stops, run}
 use Rattle.o2_isa.specs.DataRows.{data_steps}
 use Rattle.o2_isa.specs.FlowRows.{flow_steps}
+use Rattle.o2_isa.specs.StringRows.{string_steps}
 
 unfoldable pub group_of : Op → Group
 group_of OpJo = Flow
@@ -80,10 +81,6 @@ group_of OpStos = Strings
 group_of OpLods = Strings
 group_of OpScas = Strings
 group_of _ = Data
-
--- no string instruction is built yet
-abbrev pub string_steps : Op → Cpu → Instr → ℕ → Steps
-string_steps op c i next = Stops (stop.Trap 6 0)
 
 abbrev pub group_steps : Group → Cpu → Instr → ℕ → Steps
 group_steps Data c i next = data_steps i.op c i next

@@ -8,7 +8,7 @@ use Rattle.o2_isa.specs.declared.cpu.Stop.{Stop}
 use Rattle.o2_isa.specs.declared.cpu.Stop.TheVariants as stop
 use Rattle.o2_isa.specs.View.{View, Hold, Rest, Hidden, Filling, whole, found, read_of, room_of, probe_of, size_at, rights_at}
 use Rattle.o2_isa.specs.Registers.{with_sreg}
-use Rattle.o2_isa.specs.Steps.{State, state, Steps, Stops, Ends, Reads, Room, Loads, Sizes, Rights, Change, Bind, Write, or_trap, passed, selector}
+use Rattle.o2_isa.specs.Steps.{State, state, Steps, Stops, Ends, Reads, Room, Loads, Sizes, Rights, Change, Bind, Write, Copy, or_trap, passed, selector}
 
 abbrev pub whole_state : Filling → State → State
 whole_state h s = state s.cpu (whole h s.view)
@@ -64,17 +64,20 @@ abbrev pub OnlyBinds : List Change → Type 0
 OnlyBinds [] = Unit {0}
 OnlyBinds (Bind r s ∷ cs) = OnlyBinds cs
 OnlyBinds (Write r k w x ∷ cs) = ⊥
+OnlyBinds (Copy r a b ∷ cs) = ⊥
 
 abbrev pub WritesFirst : List Change → Type 0
 WritesFirst [] = Unit {0}
 WritesFirst (Bind r s ∷ cs) = OnlyBinds cs
 WritesFirst (Write r k w x ∷ cs) = WritesFirst cs
+WritesFirst (Copy r a b ∷ cs) = WritesFirst cs
 
 -- the registers with the selectors that the changes bind
 abbrev pub with_binds : List Change → Cpu → Cpu
 with_binds [] c = c
 with_binds (Bind r s ∷ cs) c = with_binds cs (with_sreg c r s)
 with_binds (Write r k w x ∷ cs) c = with_binds cs c
+with_binds (Copy r a b ∷ cs) c = with_binds cs c
 
 pub record SameSelectors (c d : Cpu) : Type 0 where
   pub es : c.es ≡ d.es

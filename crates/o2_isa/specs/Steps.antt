@@ -58,11 +58,22 @@ selector s = record { 0 = s }
 pub data Change : Type 0 where
   Bind : Sreg → ℕ → Change
   Write : Sreg → ℕ → Width → ℕ → Change
+  -- the word that then stands at the first offset goes to the second
+  Copy : Sreg → ℕ → ℕ → Change
+
+abbrev pub value_or_zero : Result ℕ (ℕ × ℕ) → ℕ
+value_or_zero (Ok x) = x
+value_or_zero (Err e) = 0
+
+-- the word at a place of the segment in a register; 0 where it can't be read
+unfoldable pub word_there : View → Sreg → ℕ → ℕ
+word_there v r k = value_or_zero (read_of v r k Word)
 
 abbrev pub changed : List Change → View → View
 changed [] v = v
 changed (Bind r s ∷ cs) v = changed cs (bind v r (selector s))
 changed (Write r k w x ∷ cs) v = changed cs (poke v r k w x)
+changed (Copy r a b ∷ cs) v = changed cs (poke v r b Word (word_there v r a))
 
 pub data Steps : Type 0 where
   -- a trap, or a service
@@ -134,6 +145,10 @@ storing c w (arg.R16 n) x next = Ends (next_at (with_reg16 c n x) next) []
 storing c w (arg.M ea) x next = Room ea.seg (offset_of c ea) w (Ends (next_at c next) (Write ea.seg (offset_of c ea) w (narrow w x) ∷ []))
 storing c w _ x next = Ends (next_at c next) []
 
+-- The word before, modulo 65,536.
+abbrev pub one_less : ℕ → ℕ
+one_less x = (x + 65535) % 65536
+
 -- The stack.
 
 -- two below
@@ -143,6 +158,19 @@ below sp = (sp + 65534) % 65536
 -- two above
 abbrev pub above : ℕ → ℕ
 above sp = (sp + 2) % 65536
+
+-- Two words of an operand in memory, the lower first, each an access of its own; or a far address in the instruction: the
+-- offset, then the selector.
+
+abbrev pub pair_of : State → Arg → Result (ℕ × ℕ) Stop
+pair_of s (arg.M ea) = or_trap (read_of s.view ea.seg (offset_of s.cpu ea) Word) >>= (λ x. or_trap (read_of s.view ea.seg (above (offset_of s.cpu ea)) Word) >>= (λ y. Ok (x, y)))
+pair_of s (arg.Far o t) = Ok (o, t)
+pair_of s _ = Ok (0, 0)
+
+unfoldable pub pair_valued : Cpu → Arg → (ℕ → ℕ → Steps) → Steps
+pair_valued c (arg.M ea) f = Reads ea.seg (offset_of c ea) Word (λ x. Reads ea.seg (above (offset_of c ea)) Word (f x))
+pair_valued c (arg.Far o t) f = f o t
+pair_valued c _ f = f 0 0
 
 -- Targets.
 

@@ -1,0 +1,43 @@
+-- Each row of the string instructions loads nothing, and keeps the selectors.
+use Rattle.std.proofs.Common.{refl, ℕ, Bool, true, false, cond, []}
+use Rattle.o2_isa.specs.declared.instr.Width.{Width}
+use Rattle.o2_isa.specs.declared.instr.Width.TheVariants.{Byte, Word}
+use Rattle.o2_isa.specs.declared.instr.Rep.{Rep}
+use Rattle.o2_isa.specs.declared.instr.Rep.TheVariants.{No, Equal, NotEqual}
+use Rattle.o2_isa.specs.declared.instr.Op.{Op}
+use Rattle.o2_isa.specs.declared.instr.Op.TheVariants.{OpMovs, OpCmps, OpStos, OpLods, OpScas}
+use Rattle.o2_isa.specs.declared.instr.Instr.{Instr}
+use Rattle.o2_isa.specs.declared.cpu.Cpu.{Cpu}
+use Rattle.o2_isa.specs.Steps.{Ends, next_at}
+use Rattle.o2_isa.specs.StringRows.{repeated, with_accumulator, source_moved, target_moved, movs, stos, lods, cmps, scas, one_string, is_over, string_steps}
+use Rattle.o2_isa.specs.Presence.{IsRow, SameSelectors}
+use Rattle.o2_isa.proofs.RowParts.{kept, word_kept, byte_kept}
+
+repeated_kept : (r : Rep) (compares : Bool) (c d : Cpu) (next : ℕ) → SameSelectors c d → SameSelectors (repeated r compares c next) d
+unfolding repeated
+repeated_kept No compares c d next s = record { es = s.es; cs = s.cs; ss = s.ss; ds = s.ds }
+repeated_kept Equal compares c d next s = record { es = s.es; cs = s.cs; ss = s.ss; ds = s.ds }
+repeated_kept NotEqual compares c d next s = record { es = s.es; cs = s.cs; ss = s.ss; ds = s.ds }
+
+accumulator_kept : (w : Width) (c : Cpu) (x : ℕ) → SameSelectors (with_accumulator w c x) c
+accumulator_kept Byte c x = byte_kept c c 0 x (kept c)
+accumulator_kept Word c x = word_kept c c 0 x (kept c)
+
+source_kept : (w : Width) (c d : Cpu) → SameSelectors c d → SameSelectors (source_moved w c) d
+source_kept w c d s = record { es = s.es; cs = s.cs; ss = s.ss; ds = s.ds }
+
+string_one : (op : Op) (c : Cpu) (i : Instr) (next : ℕ) → IsRow c 1 (one_string op c i next)
+unfolding movs stos lods cmps scas
+string_one OpMovs c i next = λ x. (tt, repeated_kept i.rep false (target_moved i.width (source_moved i.width c)) c next (record { es = refl; cs = refl; ss = refl; ds = refl }))
+string_one OpCmps c i next = λ a b. (tt, repeated_kept i.rep true _ c next (record { es = refl; cs = refl; ss = refl; ds = refl }))
+string_one OpStos c i next = (tt, repeated_kept i.rep false (target_moved i.width c) c next (record { es = refl; cs = refl; ss = refl; ds = refl }))
+string_one OpLods c i next = λ x. (tt, repeated_kept i.rep false (source_moved i.width (with_accumulator i.width c x)) c next (source_kept i.width _ c (accumulator_kept i.width c x)))
+string_one OpScas c i next = λ b. (tt, repeated_kept i.rep true _ c next (record { es = refl; cs = refl; ss = refl; ds = refl }))
+string_one _ c i next = tt
+
+pub string_row : (op : Op) (c : Cpu) (i : Instr) (next : ℕ) → IsRow c 1 (string_steps op c i next)
+string_row op c i next = by_count (is_over i.rep c.cx)
+  where
+    by_count : (b : Bool) → IsRow c 1 (cond b (Ends (next_at c next) []) (one_string op c i next))
+    by_count true = (tt, record { es = refl; cs = refl; ss = refl; ds = refl })
+    by_count false = string_one op c i next
