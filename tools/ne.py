@@ -7,11 +7,13 @@ A listing is read line by line; what follows a `;` is a comment.
     stack BYTES, heap BYTES      of the automatic data segment; 0 where the line is missing
     start SEGMENT:OFFSET         where the program begins
     segment N KIND [WORD ..]     a segment, from 1 in order: code, data; words: readonly, shared, auto, size=BYTES
-    export NAME SEGMENT:OFFSET   an entry, with the next ordinal from 1
+    export NAME SEGMENT:OFFSET [nonresident]
+                                 an entry, with the next ordinal from 1
     OOOO  BB BB ..  TEXT [@OOOO KIND TARGET]
                                  bytes at an offset of the segment, which must be the next one, and behind two
                                  blanks what they mean; a relocation of the place OOOO:
-                                 far, selector or offset, to SEGMENT:OFFSET, SEGMENT, MODULE.ORDINAL or MODULE.NAME
+                                 far, selector, offset or byte, with `add-` before it where it is additive, to
+                                 SEGMENT:OFFSET, SEGMENT, ENTRY (as in `entry.2`), MODULE.ORDINAL or MODULE.NAME
 
 The file is laid out by the format: an MZ stub of 64 bytes, the NE header, the segment table, the resident names, the module
 references, the imported names, the entry table, and each segment with its records, at multiples of 16 bytes.
@@ -22,8 +24,8 @@ import re
 import struct
 import sys
 
-SOURCES = {"selector": 2, "far": 3, "offset": 5}
-LINE = re.compile(r"([0-9A-F]{4})  ((?:[0-9A-F]{2} )*[0-9A-F]{2})(?:  .*?)?(?:@([0-9A-F]{4}) (\w+) (\S+))?$")
+SOURCES = {"byte": 0, "selector": 2, "far": 3, "offset": 5}
+LINE = re.compile(r"([0-9A-F]{4})  ((?:[0-9A-F]{2} )*[0-9A-F]{2})(?:  .*?)?(?:@([0-9A-F]{4}) ([a-z-]+) (\S+))?$")
 
 
 def name(text):
@@ -71,7 +73,7 @@ class Listing:
         elif words[0] == "start":
             self.start = place(words[1])
         elif words[0] == "export":
-            self.exports.append((words[1], place(words[2])))
+            self.exports.append((words[1], place(words[2]), "nonresident" in words[3:]))
         elif words[0] == "segment":
             assert int(words[1]) == len(self.segments) + 1, "segments come in order"
             self.segments.append(Segment(words[2], words[3:]))
@@ -96,29 +98,39 @@ class Listing:
         return at
 
     def relocation(self, at, kind, target):
-        source = SOURCES[kind]
+        additive = 4 if kind.startswith("add-") else 0
+        source = SOURCES[kind.removeprefix("add-")]
         if ":" in target:
             segment, offset = place(target)
-            return struct.pack("<BBHBBH", source, 0, at, segment, 0, offset)
+            return struct.pack("<BBHBBH", source, additive, at, segment, 0, offset)
         if "." not in target:
-            return struct.pack("<BBHBBH", source, 0, at, int(target), 0, 0)
+            return struct.pack("<BBHBBH", source, additive, at, int(target), 0, 0)
         module, symbol = target.split(".")
+        if module == "entry":
+            return struct.pack("<BBHBBH", source, additive, at, 0xFF, 0, int(symbol))
         if module not in [m for m, _ in self.modules]:
             self.modules.append((module, self.string(module)))
         reference = [m for m, _ in self.modules].index(module) + 1
         if symbol.isdigit():
-            return struct.pack("<BBHHH", source, 1, at, reference, int(symbol))
-        return struct.pack("<BBHHH", source, 2, at, reference, self.string(symbol))
+            return struct.pack("<BBHHH", source, 1 | additive, at, reference, int(symbol))
+        return struct.pack("<BBHHH", source, 2 | additive, at, reference, self.string(symbol))
+
+    def names(self, nonresident):
+        """The exported names of one of the two tables, with their ordinals."""
+        exports = enumerate(self.exports, 1)
+        return b"".join(name(text) + struct.pack("<H", k) for k, (text, _, other) in exports if other == nonresident)
 
     def entries(self):
         """One bundle of a single entry for each export, and the end of the table."""
-        table = b"".join(struct.pack("<BBBH", 1, segment, 1, offset) for _, (segment, offset) in self.exports)
+        table = b"".join(struct.pack("<BBBH", 1, segment, 1, offset) for _, (segment, offset), _ in self.exports)
         return table + b"\0\0" if self.exports else b""
 
     def file(self):
         at, shift = 64, 4
         resident = name(self.name) + b"\0\0"
-        resident += b"".join(name(text) + struct.pack("<H", k) for k, (text, _) in enumerate(self.exports, 1)) + b"\0"
+        resident += self.names(False) + b"\0"
+        nonresident = self.names(True)
+        nonresident = name(self.name) + b"\0\0" + nonresident + b"\0" if nonresident else b""
         entries = self.entries()
         segments_at = 64
         resident_at = segments_at + 8 * len(self.segments)
@@ -126,7 +138,8 @@ class Listing:
         imported_at = references_at + 2 * len(self.modules)
         entries_at = imported_at + len(self.imported)
         table, body = b"", b""
-        body_at = -(-(at + entries_at + len(entries)) // 16) * 16
+        nonresident_at = at + entries_at + len(entries)
+        body_at = -(-(nonresident_at + len(nonresident)) // 16) * 16
         for segment in self.segments:
             relocations = struct.pack("<H", len(segment.relocations)) + b"".join(segment.relocations)
             flags = segment.flags | (0x100 if segment.relocations else 0)
@@ -146,15 +159,15 @@ class Listing:
             self.heap, self.stack,
             self.start[1], self.start[0],
             0, auto[0] if auto and not self.library else 0,
-            len(self.segments), len(self.modules), 0,
+            len(self.segments), len(self.modules), len(nonresident),
             segments_at, resident_at, resident_at, references_at, imported_at,
-            0, 0, shift, 0, 1, 0, bytes(8),
+            nonresident_at if nonresident else 0, 0, shift, 0, 1, 0, bytes(8),
         )
         stub = bytearray(64)
         stub[0:2] = b"MZ"
         struct.pack_into("<I", stub, 0x3C, at)
         references = b"".join(struct.pack("<H", offset) for _, offset in self.modules)
-        front = bytes(stub) + header + table + resident + references + self.imported + entries
+        front = bytes(stub) + header + table + resident + references + self.imported + entries + nonresident
         return front.ljust(body_at, b"\0") + body
 
 
