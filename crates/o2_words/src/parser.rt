@@ -1,0 +1,70 @@
+// The words of a command, taken apart by `clap`.
+ghost use Rattle.std.specs.Prelude.{◌≡◌, ℕ, List, IfErr, IfOk, false};
+ghost use Rattle.clap.specs.Words.{app_of, kind_of};
+ghost use Rattle.clap.specs.declared.builder.command.Command.TheViews.{out-Command};
+ghost use Rattle.clap.specs.declared.error.kind.ErrorKind.TheVariants.{OutOfMemory};
+ghost use Rattle.o2_words.specs.Words.{IsCommand, IsCommandFor};
+ghost use Rattle.o2_words.specs.Grammar.{HasFound, IsFound, bare_app, file_app, program_app};
+ghost use Rattle.o2_words.specs.declared.words.Verb.{Verb};
+
+use crate::words::{Command, Verb, verb_of};
+use clap::{Arg, ArgMatches, Error};
+use o2_base::NoMemory;
+use std::alloc::{AllocError, Global};
+
+// The subcommand of this name, with a file as its only argument.
+fn with_file<'a>(alloc: Global, name: &'a str) -> Result<clap::Command<'a>, AllocError>
+    ensures app { IfOk result (λ c. app_of c ≡ file_app name.entry.now) }
+    ensures local { IfOk result (λ c. (out-Command c).has_globals ≡ false) }
+{
+    clap::Command::new(alloc, name)
+        .disable_help_flag(true)
+        .disable_version_flag(true)
+        .arg(Arg::new(alloc, "FILE").required(true))
+}
+
+// The program, with a subcommand for each verb.
+fn program<'a>(alloc: Global) -> Result<clap::Command<'a>, AllocError>
+    ensures { IfOk result (λ c. app_of c ≡ program_app) }
+{
+    clap::Command::new(alloc, "os2run")
+        .no_binary_name(true)
+        .disable_help_flag(true)
+        .disable_help_subcommand(true)
+        .disable_version_flag(true)
+        .subcommand_required(true)
+        .subcommand(with_file(alloc, "exe")?)?
+        .subcommand(with_file(alloc, "run")?)
+}
+
+// What `clap` finds in the words of a command. Memory is the only thing that it can want.
+fn parse<'a>(alloc: Global, words: &'a [String]) -> Result<ArgMatches<'a>, Error>
+    requires { IsCommand words.now }
+    ensures ok { IfOk result (λ m. (verb : Verb) → (name : List ℕ) → IsCommandFor words.now verb name
+        → IsFound m verb name) }
+    ensures err { IfErr result (λ e. kind_of e ≡ OutOfMemory) }
+{
+    program(alloc)?.try_get_matches_from(words)
+}
+
+// The command in what `clap` found.
+fn read<'a>(matches: &ArgMatches<'a>) -> Command<'a>
+    requires { HasFound matches.now }
+    ensures { IsFound matches.now result.verb result.file.now }
+{
+    let (word, found) = matches.subcommand().unwrap();
+    let verb = verb_of(word.as_bytes()).unwrap();
+    let file = found.get_str("FILE").unwrap();
+    Command { verb, file }
+}
+
+/// The command that the words are. The words are taken apart by `clap`, which fails only for want of memory here.
+pub fn command<'a>(alloc: Global, words: &'a [String]) -> Result<Command<'a>, NoMemory>
+    requires { IsCommand words.now }
+    ensures { IfOk result (λ c. IsCommandFor words.now c.verb c.file.now) }
+{
+    let Ok(matches) = parse(alloc, words) else {
+        return Err(NoMemory);
+    };
+    Ok(read(&matches))
+}
