@@ -1,6 +1,7 @@
 // Checks and operands over any bus, each as the definitions of the instruction set have it.
 ghost use Rattle.std.specs.Prelude.{◌≡◌, ◌<◌, true, OnOk, IsOk};
 ghost use Rattle.o2_isa.specs.declared.instr.Width.TheVariants.{Byte};
+ghost use Rattle.o2_isa.specs.Widths.{IsOfWidth};
 ghost use Rattle.o2_isa.specs.View.{probe_of, read_of, room_of, size_at, is_loadable};
 ghost use Rattle.o2_isa.specs.Steps.{Gives, SameCheck, state, or_trap, passed, target, value_of, stored, selector, narrow};
 
@@ -62,8 +63,11 @@ pub fn check_target<B: Bus>(bus: &B, cs: u16, ip: u16) -> Result<(), Stop>
     }
 }
 
-fn narrowed(width: Width, x: u16) -> u16
+/// What of a value the width has room for.
+#[inline]
+pub(crate) fn narrowed(width: Width, x: u16) -> u16
     ensures value { result ≡ narrow width x }
+    ensures of_width { IsOfWidth width result }
     ensures fits { width ≡ Width.Byte → result < 256 }
 {
     match width {

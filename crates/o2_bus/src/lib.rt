@@ -3,6 +3,7 @@
 
 mod access;
 mod bus;
+mod operands;
 mod outcome;
 mod plain;
 mod plain_bus;
@@ -16,6 +17,7 @@ pub use access::{check_load, check_target, read, room, store, value};
 pub use bus::{Bus, Caches};
 pub use o2_base::{NoMemory, Selector};
 pub use o2_isa::{Cpu, Loaded, Outcome, Purpose, Stop};
+pub use operands::{finish, operand, place};
 pub use outcome::outcome_of;
 pub use plain::{Grant, Plain};
 pub use plain_bus::PlainBus;

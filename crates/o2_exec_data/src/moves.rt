@@ -1,22 +1,13 @@
-// MOV.
+// MOV, XCHG, XLAT, CBW and CWD.
 ghost use Rattle.std.specs.Prelude.{◌≡◌};
 ghost use Rattle.o2_isa.specs.Steps.{Gives, state, run};
-ghost use Rattle.o2_isa.specs.DataRows.{mov, mov_sreg, mov_into, purpose_of as load_purpose};
+ghost use Rattle.o2_isa.specs.DataMoves.{mov, mov_sreg, mov_into, exchanging, xchg, xlat, cbw, cwd};
 
-use o2_bus::{Bus, check_load, set_segment_register, store, value};
-use o2_isa::{Arg, Cpu, Instr, Purpose, Selector, Sreg, Stop, Width};
+use crate::pointers::load_selector;
+use o2_bus::{Bus, place, read, store, value};
+use o2_isa::{Arg, Cpu, Instr, Sreg, Stop, Width};
 
-/// What a segment register is loaded for.
-pub fn purpose_of(reg: Sreg) -> Purpose
-    ensures { result ≡ load_purpose reg }
-{
-    match reg {
-        Sreg::Ss => Purpose::StackReg,
-        _ => Purpose::DataReg,
-    }
-}
-
-#[tactic(auto, using(o2_isa::proofs::Runs::run_valued), unfolding(o2_isa::specs::DataRows::mov_sreg, o2_isa::specs::DataRows::loading))]
+#[tactic(auto, using(o2_isa::proofs::Runs::run_valued), unfolding(o2_isa::specs::DataMoves::mov_sreg))]
 fn execute_mov_sreg<B: Bus>(
     cpu: &mut Cpu,
     bus: &mut B,
@@ -27,14 +18,10 @@ fn execute_mov_sreg<B: Bus>(
     ensures { Gives result (state cpu.new (B.view bus.new)) (state cpu.old (B.view bus.old)) (run (mov_sreg cpu.old reg arg.now next) (B.view bus.old)) }
 {
     let x = value(cpu, bus, Width::Word, arg)?;
-    check_load(bus, purpose_of(reg), x, next)?;
-    bus.load(reg, Selector(x));
-    set_segment_register(cpu, reg, x);
-    cpu.ip = next;
-    Ok(())
+    load_selector(cpu, bus, reg, x, next)
 }
 
-#[tactic(auto, using(o2_isa::proofs::Runs::run_valued, o2_isa::proofs::Runs::run_storing), unfolding(o2_isa::specs::DataRows::mov_into))]
+#[tactic(auto, using(o2_isa::proofs::Runs::run_valued, o2_isa::proofs::Runs::run_storing), unfolding(o2_isa::specs::DataMoves::mov_into))]
 fn execute_mov_into<B: Bus>(cpu: &mut Cpu, bus: &mut B, i: &Instr, next: u16) -> Result<(), Stop>
     ensures { Gives result (state cpu.new (B.view bus.new)) (state cpu.old (B.view bus.old)) (run (mov_into cpu.old i.now next) (B.view bus.old)) }
 {
@@ -51,4 +38,61 @@ pub fn execute_mov<B: Bus>(cpu: &mut Cpu, bus: &mut B, i: &Instr, next: u16) -> 
         Arg::S(reg) => execute_mov_sreg(cpu, bus, reg, &i.right, next),
         _ => execute_mov_into(cpu, bus, i, next),
     }
+}
+
+/// The right operand of XCHG is a register; the left one is written first, so that its offset is that of the old registers.
+#[tactic(auto, using(o2_isa::proofs::FinishRuns::run_exchanging))]
+fn exchange<B: Bus>(
+    cpu: &mut Cpu,
+    bus: &mut B,
+    i: &Instr,
+    a: u16,
+    b: u16,
+    next: u16,
+) -> Result<(), Stop>
+    ensures { Gives result (state cpu.new (B.view bus.new)) (state cpu.old (B.view bus.old)) (run (exchanging cpu.old i.now.width i.now.left b i.now.right a next) (B.view bus.old)) }
+{
+    store(cpu, bus, i.width, &i.left, b)?;
+    place(cpu, &i.right, a);
+    cpu.ip = next;
+    Ok(())
+}
+
+#[tactic(auto, using(o2_isa::proofs::Runs::run_valued), unfolding(o2_isa::specs::DataMoves::xchg))]
+pub fn execute_xchg<B: Bus>(cpu: &mut Cpu, bus: &mut B, i: &Instr, next: u16) -> Result<(), Stop>
+    ensures { Gives result (state cpu.new (B.view bus.new)) (state cpu.old (B.view bus.old)) (run (xchg cpu.old i.now next) (B.view bus.old)) }
+{
+    let a = value(cpu, bus, i.width, &i.left)?;
+    let b = value(cpu, bus, i.width, &i.right)?;
+    exchange(cpu, bus, i, a, b, next)
+}
+
+#[tactic(auto, using(o2_isa::proofs::Runs::run_storing), unfolding(o2_isa::specs::DataMoves::xlat))]
+pub fn execute_xlat<B: Bus>(cpu: &mut Cpu, bus: &mut B, i: &Instr, next: u16) -> Result<(), Stop>
+    ensures { Gives result (state cpu.new (B.view bus.new)) (state cpu.old (B.view bus.old)) (run (xlat cpu.old i.now next) (B.view bus.old)) }
+{
+    let off = cpu.bx.wrapping_add(cpu.ax % 256);
+    let x = read(bus, i.seg, off, Width::Byte)?;
+    store(cpu, bus, Width::Byte, &Arg::R8(0), x)?;
+    cpu.ip = next;
+    Ok(())
+}
+
+#[tactic(auto, unfolding(o2_isa::specs::DataMoves::cbw))]
+pub fn execute_cbw<B: Bus>(cpu: &mut Cpu, bus: &mut B, next: u16) -> Result<(), Stop>
+    ensures { Gives result (state cpu.new (B.view bus.new)) (state cpu.old (B.view bus.old)) (run (cbw cpu.old next) (B.view bus.old)) }
+{
+    let al = cpu.ax % 256;
+    cpu.ax = if al < 128 { al } else { al + 0xFF00 };
+    cpu.ip = next;
+    Ok(())
+}
+
+#[tactic(auto, unfolding(o2_isa::specs::DataMoves::cwd))]
+pub fn execute_cwd<B: Bus>(cpu: &mut Cpu, bus: &mut B, next: u16) -> Result<(), Stop>
+    ensures { Gives result (state cpu.new (B.view bus.new)) (state cpu.old (B.view bus.old)) (run (cwd cpu.old next) (B.view bus.old)) }
+{
+    cpu.dx = if cpu.ax < 0x8000 { 0 } else { 0xFFFF };
+    cpu.ip = next;
+    Ok(())
 }

@@ -1,8 +1,10 @@
 pub mod Loads
 pub mod Pokes
 pub mod Runs
+pub mod FinishRuns
 pub mod Alike
 pub mod RowParts
+pub mod DataMnemonics
 pub mod FlowMnemonics
 pub mod StringMnemonics
 pub mod Mnemonics

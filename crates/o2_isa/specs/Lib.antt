@@ -6,6 +6,11 @@ pub mod Canonical
 pub mod View
 pub mod Registers
 pub mod Steps
+pub mod Finishing
+pub mod DataMoves
+pub mod DataStack
+pub mod DataArith
+pub mod DataFlags
 pub mod DataRows
 pub mod FlowJumps
 pub mod FlowCalls

@@ -1,0 +1,49 @@
+// ADD, OR, ADC, SBB, AND, SUB, XOR, CMP and TEST; INC, DEC, NEG and NOT.
+ghost use Rattle.std.specs.Prelude.{◌≡◌};
+ghost use Rattle.o2_isa.specs.Steps.{Gives, state, run};
+ghost use Rattle.o2_isa.specs.DataArith.{binary as binary_steps, unary as unary_steps, result_into};
+
+use o2_bus::{Bus, finish, operand};
+use o2_isa::{Arg, Cpu, Instr, Op, Stop};
+
+/// Where the result goes: CMP and TEST store none.
+#[inline]
+fn target(op: Op, arg: &Arg) -> Arg
+    ensures { result ≡ result_into op arg.now }
+{
+    match op {
+        Op::OpCmp | Op::OpTest => Arg::No,
+        _ => *arg,
+    }
+}
+
+#[tactic(auto, using(o2_isa::proofs::FinishRuns::run_taking), unfolding(o2_isa::specs::DataArith::binary))]
+pub fn execute_binary<B: Bus>(
+    cpu: &mut Cpu,
+    bus: &mut B,
+    op: Op,
+    i: &Instr,
+    next: u16,
+) -> Result<(), Stop>
+    ensures { Gives result (state cpu.new (B.view bus.new)) (state cpu.old (B.view bus.old)) (run (binary_steps op cpu.old i.now next) (B.view bus.old)) }
+{
+    let a = operand(cpu, bus, i.width, &i.left)?;
+    let b = operand(cpu, bus, i.width, &i.right)?;
+    let (r, f) = o2_alu::binary(op, i.width, a, b, cpu.flags);
+    finish(cpu, bus, i.width, &target(op, &i.left), r, f, next)
+}
+
+#[tactic(auto, using(o2_isa::proofs::FinishRuns::run_taking), unfolding(o2_isa::specs::DataArith::unary))]
+pub fn execute_unary<B: Bus>(
+    cpu: &mut Cpu,
+    bus: &mut B,
+    op: Op,
+    i: &Instr,
+    next: u16,
+) -> Result<(), Stop>
+    ensures { Gives result (state cpu.new (B.view bus.new)) (state cpu.old (B.view bus.old)) (run (unary_steps op cpu.old i.now next) (B.view bus.old)) }
+{
+    let a = operand(cpu, bus, i.width, &i.left)?;
+    let (r, f) = o2_alu::unary(op, i.width, a, cpu.flags);
+    finish(cpu, bus, i.width, &i.left, r, f, next)
+}
