@@ -8,3 +8,4 @@ pub mod Setting
 pub mod Limits
 pub mod Dispatch
 pub mod Environments
+pub mod Alone

@@ -18,6 +18,7 @@
 //! | `script` | at most 100,000 words `P:N`, process P from 1 to 65,535 and N steps from 1 to 4,000,000,000, in decimal without leading zeros; none where it is absent |
 #![tactic(auto)]
 
+mod alone;
 mod arrays;
 mod conf;
 mod keys;

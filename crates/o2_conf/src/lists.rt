@@ -30,6 +30,13 @@ impl Texts {
         Texts { items }
     }
 
+    /// The items.
+    pub fn as_slice(&self) -> &[Bytes]
+        ensures { result.now ≡ self.now }
+    {
+        self.items.as_slice()
+    }
+
     /// How many items there are.
     pub fn len(&self) -> usize
         ensures { result ≡ length self.now }
@@ -68,6 +75,13 @@ impl Processes {
         Processes { items }
     }
 
+    /// The items.
+    pub fn as_slice(&self) -> &[Process]
+        ensures { result.now ≡ self.now }
+    {
+        self.items.as_slice()
+    }
+
     /// How many items there are.
     pub fn len(&self) -> usize
         ensures { result ≡ length self.now }
@@ -103,6 +117,13 @@ impl Ordinals {
         ensures { result ≡ items.items }
     {
         Ordinals { items }
+    }
+
+    /// The items.
+    pub fn as_slice(&self) -> &[(u16, u16)]
+        ensures { result.now ≡ self.now }
+    {
+        self.items.as_slice()
     }
 
     /// How many items there are.

@@ -31,7 +31,7 @@ fn service_named(name: &[u8]) -> Option<u16>
 }
 
 /// The ordinals where the machine file gives none.
-fn default_ordinals(alloc: Global) -> Result<Vec<(u16, u16)>, NoMemory>
+pub fn default_ordinals(alloc: Global) -> Result<Vec<(u16, u16)>, NoMemory>
     ensures { IfOk result (λ v. v.items ≡ default_ordinals) }
 {
     let mut found = Vec::new(alloc);

@@ -11,3 +11,4 @@ pub mod FillSteps
 pub mod TotalSteps
 pub mod Shapes
 pub mod GateSteps
+pub mod Runnable

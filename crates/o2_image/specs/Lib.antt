@@ -4,8 +4,8 @@ pub mod References
 pub mod Targets
 pub mod Chains
 pub mod Records
-pub mod Whole
 pub mod Modules
+pub mod Whole
 pub mod Getters
 pub mod Images
 pub mod ImageList

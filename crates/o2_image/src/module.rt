@@ -9,13 +9,13 @@ ghost use Rattle.o2_ne_segs.specs.declared.segment.Segment.{Segment};
 ghost use Rattle.o2_ne_segs.specs.Records.{end_of};
 ghost use Rattle.o2_ne_segs.specs.SegmentTable.{nth_segment, segments_of};
 ghost use Rattle.o2_image.specs.Faults.{under_ne, under_seg};
-ghost use Rattle.o2_image.specs.Getters.{imported_name, is_library, nth, nth_reloc, reloc_total};
+ghost use Rattle.o2_image.specs.Getters.{imported_name, is_library, nth, nth_list, nth_reloc, reloc_total};
 ghost use Rattle.o2_image.specs.Modules.{auto_data_checks, is_code, is_writable, module_of};
 ghost use Rattle.o2_image.specs.References.{all_references};
-ghost use Rattle.o2_image.specs.Whole.{HasReference};
+ghost use Rattle.o2_image.specs.Whole.{HasAutoData, HasReference, IsRunnable};
 
 use crate::faults::{of_ne, of_seg};
-use crate::records::{Scope, check_segments, reloc_in, total_relocs};
+use crate::records::{Scope, check_segments, reloc_count, reloc_in, total_relocs};
 use crate::references::{check_references, has_string, imported_place, reference_at, string_at};
 use o2_base::{Bytes, Fail, ModuleFault, Which};
 use o2_ne::{Entries, Head, Names};
@@ -108,7 +108,8 @@ pub(crate) fn is_code(kind: Kind) -> bool
 
 // The automatic data segment, where there is one, is writable data, and fits with stack and heap.
 fn check_auto_data(head: &Head, segments: &SegTable) -> Result<(), ModuleFault>
-    ensures { result ≡ all_hold (auto_data_checks head.now (nth_segment head.now.auto_seg segments.now)) }
+    ensures exact { result ≡ all_hold (auto_data_checks head.now (nth_segment head.now.auto_seg segments.now)) }
+    ensures fits { OnOk result (HasAutoData head.now segments.now) }
 {
     let Some(segment) = segments.get(head.auto_seg) else {
         return Ok(());
@@ -121,6 +122,17 @@ fn check_auto_data(head: &Head, segments: &SegTable) -> Result<(), ModuleFault>
         return Err(ModuleFault::OutOfProfile(Which::AutoSize));
     }
     Ok(())
+}
+
+// The automatic data of a file.
+fn auto_data(head: &Head, segments: &SegTable) -> Result<(), Fail<ModuleFault>>
+    ensures exact { Gives (λ u. u) result (all_hold (auto_data_checks head.now (nth_segment head.now.auto_seg segments.now))) }
+    ensures fits { OnOk result (HasAutoData head.now segments.now) }
+{
+    match check_auto_data(head, segments) {
+        Ok(()) => Ok(()),
+        Err(fault) => Err(Fail::Bad(fault)),
+    }
 }
 
 /// A file that passed every check of the format and of what is run here.
@@ -156,7 +168,7 @@ impl Module {
         let bytes = file.as_slice();
         let head = head(bytes)?;
         let segments = segments(alloc, bytes, &head)?;
-        check_auto_data(&head, &segments).map_err(Fail::Bad)?;
+        auto_data(&head, &segments)?;
         let names = names(alloc, bytes, &head)?;
         references(bytes, &head)?;
         let entries = entries(alloc, bytes, &head)?;
@@ -175,7 +187,7 @@ impl Module {
         })
     }
 
-    /// The module's name.
+    /// The module's name, of 1 to 255 bytes without a line end.
     pub fn name(&self) -> &Bytes
         ensures { result.now ≡ self.now.names.own }
     {
@@ -196,7 +208,7 @@ impl Module {
         self.segments.as_slice().len() as u16
     }
 
-    /// A segment by its number from 1. None exactly where there is no such segment.
+    /// A segment by its number from 1, of 1 to 65,536 bytes. None exactly where there is no such segment.
     pub fn segment(&self, n: u16) -> Option<Segment>
         ensures { result ≡ nth_segment n self.now.segments }
     {
@@ -208,6 +220,14 @@ impl Module {
         ensures { result.now ≡ self.now.head }
     {
         &self.head
+    }
+
+    /// What a run goes by: the bounds of the name, of the segments and of the automatic data.
+    pub fn is_runnable(&self)
+        ensures { IsRunnable self.now }
+    {
+        let _ = self.names.module();
+        let _ = self.segments.as_slice();
     }
 
     /// The module's own name, and the names that it exports.
@@ -255,6 +275,16 @@ impl Module {
     {
         let segment = self.segments.get(seg)?;
         reloc_in(self.file.as_slice(), &segment, k)
+    }
+
+    /// How many records a segment has, 0 where there is no such segment.
+    pub fn segment_relocs(&self, seg: u16) -> u16
+        ensures { result ≡ length (nth_list self.now.relocs seg) }
+    {
+        match self.segments.get(seg) {
+            Some(segment) => reloc_count(self.file.as_slice(), &segment),
+            None => 0,
+        }
     }
 
     /// How many records all segments have together.

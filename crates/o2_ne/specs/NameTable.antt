@@ -1,6 +1,6 @@
 -- The name tables of a segmented executable: strings with a length byte before and an ordinal behind, ended by
 -- length 0.
-use Rattle.std.specs.Prelude.{ℕ, ◌+◌, ◌==◌, Bool, true, false, not, List, [], ◌∷◌, ◌++◌, length, map, find, Option, option_map, Result, Ok, if◌then◌else◌}
+use Rattle.std.specs.Prelude.{◌≡◌, ℕ, ◌+◌, ◌<◌, ◌≤◌, ◌==◌, Bool, true, false, not, List, [], ◌∷◌, ◌++◌, length, map, find, Option, option_map, Result, Ok, if◌then◌else◌}
 use Rattle.std.specs.Char.{to_ascii_lowercase}
 use Rattle.std.specs.Str.{bytes_eq}
 use Rattle.std.specs.List.{list_any}
@@ -56,6 +56,12 @@ abbrev pub own_name : List ℕ → ℕ → Result (List ℕ) NeFault
 own_name file p = do
   _ ← all_hold (in_file file p 1 ∷ [])
   own_text file p (byte_at file p)
+
+-- what holds of a module's name: it has 1 to 255 bytes, none of them a line end
+pub record IsOwnName (name : List ℕ) : Type 0 where
+  pub some : 0 < length name
+  pub short : length name ≤ 255
+  pub line : list_any (λ b. b == 10) name ≡ false
 
 -- the nonresident names
 abbrev pub nonresident : List ℕ → Head → Result (List Name) NeFault

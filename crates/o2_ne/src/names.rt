@@ -2,7 +2,7 @@
 ghost use Rattle.std.specs.Prelude.{◌≡◌, ◌==◌, ◌+◌, ◌≤◌, ◌<◌, [], IfOk, false, length};
 ghost use Rattle.std.specs.List.{list_any};
 ghost use Rattle.o2_ne.specs.Steps.{Gives, steps};
-ghost use Rattle.o2_ne.specs.NameTable.{name_step, named, names_at, exports_of, nonresident, ordinal_of, own_name, own_text, same_name};
+ghost use Rattle.o2_ne.specs.NameTable.{IsOwnName, name_step, named, names_at, exports_of, nonresident, ordinal_of, own_name, own_text, same_name};
 ghost use Rattle.o2_ne.specs.NamePlaces.{ExportsStand, NamesStand, StringStands};
 ghost use Rattle.o2_ne.specs.NameViews.{walk};
 ghost use Rattle.o2_ne.specs.Words.{byte_at};
@@ -118,6 +118,7 @@ fn own_text(alloc: Global, file: &[u8], at: u32, len: u8) -> Result<Bytes, Fail<
     requires len { len ≡ byte_at file.now at }
     ensures exact { Gives (λ b. b) result (own_text file.now at len) }
     ensures stands { IfOk result (λ b. StringStands file.now at b) }
+    ensures own { IfOk result IsOwnName }
 {
     if len == 0 {
         return Err(Fail::Bad(NeFault::BadTable(Which::Names)));
@@ -137,6 +138,7 @@ fn own_name(alloc: Global, file: &[u8], at: u32) -> Result<Bytes, Fail<NeFault>>
     requires { length file.now ≤ 4194304 }
     ensures exact { Gives (λ b. b) result (own_name file.now at) }
     ensures stands { IfOk result (λ b. StringStands file.now at b) }
+    ensures own { IfOk result IsOwnName }
 {
     need(file, at, 1).map_err(Fail::Bad)?;
     own_text(alloc, file, at, file[at as usize])
@@ -164,11 +166,13 @@ pub struct Names {
 }
 
 impl Model for Names {
-    ghost use Rattle.o2_ne.specs.NameTable.{Exports};
+    ghost use Rattle.o2_ne.specs.NameTable.{Exports, IsOwnName};
 
     ghost Value = { Exports };
 
     ghost view = { λ a. record { own = a.own; names = a.names.items } };
+
+    ghost invariant = { λ a. IsOwnName a.own };
 }
 
 impl Names {
@@ -188,9 +192,10 @@ impl Names {
         Ok(Names { own, names })
     }
 
-    /// The module's name.
+    /// The module's name, of 1 to 255 bytes without a line end.
     pub fn module(&self) -> &Bytes
-        ensures { result.now ≡ self.now.own }
+        ensures value { result.now ≡ self.now.own }
+        ensures own { IsOwnName self.now.own }
     {
         &self.own
     }

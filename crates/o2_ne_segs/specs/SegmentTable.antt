@@ -1,6 +1,6 @@
 -- The segment table of a segmented executable: rows of four words, which are position, length, flags and minimum
 -- allocation.
-use Rattle.std.specs.Prelude.{◌≡◌, ℕ, ◌+◌, ◌-◌, ◌*◌, ◌^◌, Option, None, slice_get, ◌==◌, ◌&&◌, Bool, not, List, [], ◌∷◌, ◌++◌, length, max, Result, Ok, Err, if◌then◌else◌}
+use Rattle.std.specs.Prelude.{◌≡◌, ℕ, ◌<◌, ◌≤◌, get_or, ◌+◌, ◌-◌, ◌*◌, ◌^◌, Option, None, slice_get, ◌==◌, ◌&&◌, Bool, not, List, [], ◌∷◌, ◌++◌, length, max, Result, Ok, Err, if◌then◌else◌}
 use Rattle.std.specs.Int.RustNames.{bit_and}
 use Rattle.o2_base.specs.declared.faults.SegFault.{SegFault}
 use Rattle.o2_base.specs.declared.faults.SegFault.TheVariants as fault
@@ -87,6 +87,13 @@ SegFails (fault.OutOfProfile p) read = read ≡ Err (fault.OutOfProfile p)
 abbrev pub SegGives : {X Y : Type 0} → (X → Y) → Result X SegFault → Result Y SegFault → Type 0
 SegGives view (Ok x) read = read ≡ Ok (view x)
 SegGives view (Err e) read = SegFails e read
+
+-- a segment has 1 to 65,536 bytes
+abbrev pub HasSize : Segment → Type 0
+HasSize s = (1 ≤ s.size) × (s.size ≤ 65536)
+
+abbrev pub AllSized : List Segment → Type 0
+AllSized ss = (k : ℕ) (d : Segment) → k < length ss → HasSize (get_or ss k d)
 
 -- a segment by its number from 1
 abbrev pub nth_segment : ℕ → List Segment → Option Segment

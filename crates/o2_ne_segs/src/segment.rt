@@ -1,10 +1,10 @@
 // The segment table.
-ghost use Rattle.std.specs.Prelude.{◌≡◌, ◌+◌, ◌*◌, ◌-◌, ◌≤◌, ◌<◌, ◌^◌, ℕ, [], ◌∷◌, get_or, length, vec_len, IfOk, OnOk};
+ghost use Rattle.std.specs.Prelude.{◌≡◌, ◌+◌, ◌*◌, ◌-◌, ◌≤◌, ◌<◌, ◌^◌, ℕ, [], ◌∷◌, get_or, length, vec_len, IfOk, IfSome, OnOk};
 ghost use Rattle.o2_ne_segs.specs.declared.segment.Segment.{Segment};
 ghost use Rattle.o2_ne_segs.specs.Records.{end_of};
 ghost use Rattle.o2_ne.specs.Checks.{all_hold};
 ghost use Rattle.o2_ne.specs.Steps.{steps};
-ghost use Rattle.o2_ne_segs.specs.SegmentTable.{SegGives, file_len_of, nth_segment, in_file, kind_of, profile_checks, row, row_step, segment_at, segment_of, segments_of, unit_of};
+ghost use Rattle.o2_ne_segs.specs.SegmentTable.{AllSized, HasSize, SegGives, file_len_of, nth_segment, in_file, kind_of, profile_checks, row, row_step, segment_at, segment_of, segments_of, unit_of};
 
 use o2_base::{Part, SegFault};
 use o2_ne::{first_missing, lies_in, u16_at};
@@ -95,7 +95,8 @@ fn unit_of(shift: u16) -> u32
 }
 
 fn file_len_of(position: u16, len: u16) -> u32
-    ensures { result ≡ file_len_of position len }
+    ensures value { result ≡ file_len_of position len }
+    ensures small { result ≤ 65536 }
 {
     if position == 0 {
         0
@@ -108,7 +109,8 @@ fn file_len_of(position: u16, len: u16) -> u32
 
 fn row(unit: u32, position: u16, len: u16, flags: u16, minimum: u16) -> Segment
     requires { unit ≤ 32768 }
-    ensures { result ≡ row unit position len flags minimum }
+    ensures value { result ≡ row unit position len flags minimum }
+    ensures size { HasSize result }
 {
     let file_len = file_len_of(position, len);
     let least = if minimum == 0 {
@@ -134,6 +136,7 @@ fn read_row(file: &[u8], shift: u16, at: u32) -> Result<Segment, SegFault>
     ensures exact { result ≡ segment_of file.now shift at }
     ensures inside { IfOk result (λ s. end_of s ≤ length file.now) }
     ensures row { IfOk result (λ s. s ≡ segment_at file.now shift at) }
+    ensures size { IfOk result HasSize }
 {
     need(file, at, 8)?;
     let p = at as usize;
@@ -161,7 +164,11 @@ impl Model for SegTable {
 
     ghost Value = { List Segment };
 
+    ghost use Rattle.o2_ne_segs.specs.SegmentTable.{AllSized};
+
     ghost view = { λ a. a.found.items };
+
+    ghost invariant = { λ a. AllSized a.found.items };
 }
 
 // The next row.
@@ -174,6 +181,7 @@ fn add_row(file: &[u8], at: u32, shift: u16, found: &mut Vec<Segment>) -> Result
     ensures before { OnOk result ((k : ℕ) (d : Segment) → k < length found.old.items → get_or found.new.items k d ≡ get_or found.old.items k d) }
     ensures inside { OnOk result ((d : Segment) → end_of (get_or found.new.items (length found.old.items) d) ≤ length file.now) }
     ensures row { OnOk result ((d : Segment) → get_or found.new.items (length found.old.items) d ≡ segment_at file.now shift (at + 8 * length found.old.items)) }
+    ensures size { OnOk result ((d : Segment) → HasSize (get_or found.new.items (length found.old.items) d)) }
 {
     let place = at + 8 * found.len() as u32;
     let segment = read_row(file, shift, place)?;
@@ -198,6 +206,7 @@ fn rows(
     ensures many { IfOk result (λ v. length v.items ≡ count) }
     ensures inside { IfOk result (λ v. (k : ℕ) (d : Segment) → k < length v.items → end_of (get_or v.items k d) ≤ length file.now) }
     ensures rows { IfOk result (λ v. (k : ℕ) (d : Segment) → k < length v.items → get_or v.items k d ≡ segment_at file.now shift (at + 8 * k)) }
+    ensures sizes { IfOk result (λ v. AllSized v.items) }
 {
     let mut found = Vec::new(alloc);
     for _ in 0..count {
@@ -231,7 +240,8 @@ impl SegTable {
 
     /// A segment by its number from 1. None exactly where there is no such segment.
     pub fn get(&self, n: u16) -> Option<Segment>
-        ensures { result ≡ nth_segment n self.now }
+        ensures value { result ≡ nth_segment n self.now }
+        ensures size { IfSome result HasSize }
     {
         if n == 0 {
             return None;
@@ -241,7 +251,8 @@ impl SegTable {
 
     /// The segments, in the order of the table.
     pub fn as_slice(&self) -> &[Segment]
-        ensures { result.now ≡ self.now }
+        ensures value { result.now ≡ self.now }
+        ensures sizes { AllSized self.now }
     {
         self.found.as_slice()
     }

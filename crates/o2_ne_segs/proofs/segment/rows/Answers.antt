@@ -5,7 +5,7 @@ use Rattle.o2_ne.proofs.Stepwise.{goes_on, is_done}
 use Rattle.o2_ne_segs.proofs.SegSteps.{fails_here}
 use Rattle.o2_ne_segs.specs.declared.segment.Segment.{Segment}
 use Rattle.o2_ne_segs.specs.Records.{end_of}
-use Rattle.o2_ne_segs.specs.SegmentTable.{segment_at}
+use Rattle.o2_ne_segs.specs.SegmentTable.{HasSize, segment_at}
 use Rattle.o2_ne_segs.proofs.segment.rows.Goals as goal
 
 pub returns-in_err-add_row-clause-exact : goal.returns-in_err-add_row-clause-exact
@@ -18,6 +18,7 @@ loop-preserved c = record {
   so_far = goes_on _ _ _ _ _ _ c.loop-test.true c.in_ok-add_row.ensures.step c.loop.invariant.so_far;
   many = search rules;
   inside = each_pushed (λ (s : Segment). end_of s ≤ length c.args.file.now) _ _ (search rules) c.in_ok-add_row.ensures.before c.in_ok-add_row.ensures.inside c.loop.invariant.inside;
+  sizes = each_pushed HasSize _ _ (search rules) c.in_ok-add_row.ensures.before c.in_ok-add_row.ensures.size c.loop.invariant.sizes;
   rows = each_pushed_at (λ (k : ℕ) (s : Segment). s ≡ segment_at c.args.file.now c.args.shift (c.args.at + 8 * k)) _ _ (search rules) c.in_ok-add_row.ensures.before c.in_ok-add_row.ensures.row c.loop.invariant.rows;
 }
 

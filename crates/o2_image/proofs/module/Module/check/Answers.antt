@@ -9,5 +9,6 @@ invariant_of-result c =
       inside = rw c.as_slice-bytes.ensures at c.in_ok-head.ensures.inside;
       references = rw c.as_slice-bytes.ensures at c.in_ok-references.ensures.lie;
       few = few;
-      segments = rw (c.as_slice-bytes.ensures, c.as_slice.ensures) at c.in_ok-check_segments.ensures.whole;
+      segments = rw (c.as_slice-bytes.ensures, c.as_slice.ensures.value) at c.in_ok-check_segments.ensures.whole;
+      auto = c.in_ok-auto_data.ensures.fits;
     }
