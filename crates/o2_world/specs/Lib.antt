@@ -7,5 +7,6 @@ pub mod Calls
 pub mod Effect
 pub mod Run
 pub mod Opening
+pub mod Starts
 pub mod Sound
 pub mod Hello

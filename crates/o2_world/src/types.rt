@@ -21,3 +21,14 @@ pub enum Argument {
     /// A far pointer: selector and offset.
     Far(u16, u16),
 }
+
+/// The name of a segment that all processes share: code, read-only data, or data that is one for all.
+#[derive(Clone, Copy, Debug, PartialEq, Eq)]
+pub struct Made {
+    /// The place of its module in the machine file, from 1.
+    pub place: u16,
+    /// Its number in the module, from 1.
+    pub number: u16,
+    /// The name.
+    pub name: u32,
+}
