@@ -8,3 +8,6 @@ mod words;
 pub use laws::one_command;
 pub use parser::command;
 pub use words::{Command, Verb, is_command};
+
+#[cfg(test)]
+mod tests;
