@@ -1,7 +1,7 @@
 // Commands over files, an input and sinks in memory.
 
 use o2_base::{Bytes, NoMemory};
-use o2_cli::{number, os2run};
+use o2_cli::{number, os2run, text};
 use o2_outer::{MemFiles, MemSink, SureSource, SureSwap};
 use std::alloc::Global;
 
@@ -9,6 +9,8 @@ use std::alloc::Global;
 #[derive(Drop)]
 pub struct Answer {
     pub status: u8,
+    /// The line of the status, as main prints it.
+    pub line: Bytes,
     pub console: MemSink,
     pub report: MemSink,
 }
@@ -38,7 +40,7 @@ pub fn command(
     let mut files = MemFiles::new(files, Vec::new(alloc));
     let mut input = SureSource::new(Bytes::from_slice(alloc, input)?);
     let mut console = MemSink::new(alloc, 4096, console_fails.to_vec(alloc)?)?;
-    let mut report = MemSink::new(alloc, 16384, report_fails.to_vec(alloc)?)?;
+    let mut report = MemSink::new(alloc, 65536, report_fails.to_vec(alloc)?)?;
     let mut swap = SureSwap::new(alloc, 1)?;
     let list = words_of(alloc, words)?;
     let status = os2run(
@@ -52,9 +54,24 @@ pub fn command(
     );
     Ok(Answer {
         status: number(&status),
+        line: text(alloc, &status)?,
         console,
         report,
     })
+}
+
+/// A file more.
+pub fn add_file(
+    alloc: Global,
+    files: &mut Vec<(Bytes, Bytes)>,
+    name: &[u8],
+    file: &[u8],
+) -> Result<(), NoMemory> {
+    files.push((
+        Bytes::from_slice(alloc, name)?,
+        Bytes::from_slice(alloc, file)?,
+    ))?;
+    Ok(())
 }
 
 /// One file.

@@ -7,3 +7,5 @@ mod command;
 mod hello;
 #[cfg(test)]
 mod instructions;
+#[cfg(test)]
+mod machine_files;

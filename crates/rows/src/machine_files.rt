@@ -1,0 +1,151 @@
+// Machine files: several processes, their turns and slices, budgets and faults.
+
+use crate::command::{Answer, add_file, command};
+use crate::hello::{HELLO, LINES, report_of};
+use o2_base::NoMemory;
+use std::alloc::Global;
+use std::test::Fail;
+
+const FRONT: &str = "memory = 1048576\nswap = 2048\nsegments = 1024\nmodules = [\"hello.exe\"]\n";
+
+const PROCESS: &str = "[[process]]\nmodule = \"HELLO\"\n";
+
+/// `run` over a machine file of these parts and `hello.exe`.
+fn run_parts(alloc: Global, parts: &[&str]) -> Result<Answer, NoMemory> {
+    let mut text = String::new(alloc);
+    for part in parts {
+        text.push_str(part)?;
+    }
+    let mut files = Vec::new(alloc);
+    add_file(alloc, &mut files, b"a.toml", text.as_bytes())?;
+    add_file(alloc, &mut files, b"hello.exe", &HELLO)?;
+    command(alloc, &["run", "a.toml"], files, &[], &[], &[])
+}
+
+/// The line of a budget.
+fn budget_line(alloc: Global, budget: u32) -> Result<String, NoMemory> {
+    let mut line = String::new(alloc);
+    line.push_str("quantum = 3\nbudget = ")?;
+    line.push_str(budget.to_string(alloc)?.as_str())?;
+    line.push_str("\n")?;
+    Ok(line)
+}
+
+#[test]
+fn budgets(rt: HostRuntime) -> Result<(), Fail> {
+    // the call of DosWrite is step 7, and that of DosExit step 10
+    for budget in 0..=11 {
+        let line = budget_line(rt.alloc(), budget)?;
+        let answer = run_parts(rt.alloc(), &[FRONT, line.as_str(), PROCESS])?;
+        let lines = if budget < 7 {
+            4
+        } else if budget < 10 {
+            5
+        } else {
+            8
+        };
+        let rest = if budget < 10 { "budget spent\n" } else { "" };
+        let wanted = report_of(rt.alloc(), lines, rest)?;
+        assert_eq!(rt; answer.report.taken(), wanted.as_bytes(), "with {budget}");
+        assert_eq!(rt; answer.status, 0, "with {budget}");
+    }
+    Ok(())
+}
+
+#[test]
+fn slices_of_processes_that_are_not_there_are_passed(rt: HostRuntime) -> Result<(), Fail> {
+    let script = "budget = 20\nquantum = 1\nscript = [\"9:5\", \"1:10\", \"1:3\"]\n";
+    let answer = run_parts(rt.alloc(), &[FRONT, script, PROCESS])?;
+    let wanted = report_of(rt.alloc(), LINES.len(), "")?;
+    assert_eq!(rt; answer.report.taken(), wanted.as_bytes());
+    assert_eq!(rt; answer.status, 0);
+    Ok(())
+}
+
+/// The report of two processes that take turns of one step each.
+static TURNS: &str =
+    "1 start HELLO\n1 hold 000F by load\n1 hold 0017 by load\n1 hold 001F by load\n2 start HELLO\n2 hold 000F by load\n2 hold 0017 by load\n2 hold 001F by load\n1 call DosWrite 0001 0017:0000 0005 0017:0006 = 0 0005\n2 call DosWrite 0001 0017:0000 0005 0017:0006 = 0 0005\n1 call DosExit 0001 0000\n1 end exit 0\n2 call DosExit 0001 0000\n2 end exit 0\nall ended\n";
+
+#[test]
+fn two_processes_take_turns(rt: HostRuntime) -> Result<(), Fail> {
+    let front = "budget = 1000\nquantum = 1\n";
+    let answer = run_parts(rt.alloc(), &[FRONT, front, PROCESS, PROCESS])?;
+    assert_eq!(rt; answer.console.taken(), b"hellohello".as_slice());
+    assert_eq!(rt; answer.report.taken(), TURNS.as_bytes());
+    assert_eq!(rt; answer.status, 0);
+    Ok(())
+}
+
+#[test]
+fn a_slice_comes_first_and_ends_with_its_process(rt: HostRuntime) -> Result<(), Fail> {
+    let front = "budget = 1000\nquantum = 1\nscript = [\"2:100\", \"2:1\"]\n";
+    let answer = run_parts(rt.alloc(), &[FRONT, front, PROCESS, PROCESS])?;
+    let report = answer.report.taken();
+    let second = b"2 end exit 0\n1 call DosWrite".as_slice();
+    assert!(rt; report.windows(second.len()).any(|part| part == second));
+    assert_eq!(rt; answer.status, 0);
+    Ok(())
+}
+
+#[test]
+fn sixty_four_processes(rt: HostRuntime) -> Result<(), Fail> {
+    let mut text = String::new(rt.alloc());
+    for _ in 0..64 {
+        text.push_str(PROCESS)?;
+    }
+    let front = "budget = 1000000\nquantum = 1\n";
+    let answer = run_parts(rt.alloc(), &[FRONT, front, text.as_str()])?;
+    assert_eq!(rt; answer.status, 0);
+    assert_eq!(rt; answer.console.taken().len(), 320);
+    let ended = answer
+        .report
+        .taken()
+        .windows(11)
+        .filter(|part| *part == b"end exit 0\n".as_slice())
+        .count();
+    assert_eq!(rt; ended, 64);
+    text.push_str(PROCESS)?;
+    let more = run_parts(rt.alloc(), &[FRONT, front, text.as_str()])?;
+    assert_eq!(rt;
+        more.line.as_slice(),
+        b"os2run: machine file: reason 4 process\n".as_slice()
+    );
+    Ok(())
+}
+
+/// What stands for the keys at the front, and the line of the refusal.
+static FAULTS: [(&str, &str); 8] = [
+    ("", "os2run: machine file: reason 2 memory\n"),
+    ("memory = 100\n", "os2run: machine file: reason 4 memory\n"),
+    (
+        "memory = \"x\"\n",
+        "os2run: machine file: reason 3 memory\n",
+    ),
+    (
+        "memory = 4096\nswap = 0\nsegments = 5\nquantum = 1\n",
+        "os2run: machine file: reason 2 budget\n",
+    ),
+    ("memory = ", "os2run: machine file: reason 1 \n"),
+    (
+        "memory = 4096\nswap = 0\nsegments = 2\nquantum = 1\nbudget = 1\nmodules = [\"hello.exe\"]\n[[process]]\nmodule = \"hello\"\n",
+        "os2run: module hello.exe: reason 17\n",
+    ),
+    (
+        "memory = 4096\nswap = 0\nsegments = 3\nquantum = 1\nbudget = 1\nmodules = [\"hello.exe\", \"hello.exe\"]\n[[process]]\nmodule = \"hello\"\n",
+        "os2run: module hello.exe: reason 13\n",
+    ),
+    (
+        "memory = 4096\nswap = 0\nsegments = 3\nquantum = 1\nbudget = 1\nmodules = [\"hello.exe\"]\n[[process]]\nmodule = \"other\"\n",
+        "os2run: module other: reason 10\n",
+    ),
+];
+
+#[test]
+fn faults(rt: HostRuntime) -> Result<(), Fail> {
+    for (text, line) in FAULTS.iter() {
+        let answer = run_parts(rt.alloc(), &[text])?;
+        assert_eq!(rt; answer.line.as_slice(), line.as_bytes(), "of {text}");
+        assert_eq!(rt; answer.report.taken().len(), 0, "of {text}");
+    }
+    Ok(())
+}
