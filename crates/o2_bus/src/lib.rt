@@ -20,7 +20,7 @@ pub use o2_isa::{Cpu, Loaded, Outcome, Purpose, Stop};
 pub use operands::{finish, operand, place};
 pub use outcome::outcome_of;
 pub use plain::{Grant, Plain};
-pub use plain_bus::PlainBus;
+pub use plain_bus::{PlainBus, is_readable_byte, is_writable_byte};
 pub use registers::{
     byte_register, offset, segment_register, set_byte_register, set_segment_register,
     set_word_register, word_register,

@@ -87,13 +87,15 @@ fn with_hold(holds: Holds, reg: Sreg, grant: Option<Grant>) -> Holds
 
 // Access bytes.
 
-fn is_readable_byte(access: u8) -> bool
+/// Whether a segment with this access byte may be read through.
+pub fn is_readable_byte(access: u8) -> bool
     ensures { result ≡ is_readable access }
 {
     access == 0xFA || access == 0xF0 || is_writable_byte(access)
 }
 
-fn is_writable_byte(access: u8) -> bool
+/// Whether a segment with this access byte may be written through.
+pub fn is_writable_byte(access: u8) -> bool
     ensures { result ≡ is_writable access }
 {
     access == 0xF2

@@ -1,2 +1,6 @@
 pub mod Arguments
+pub mod Inputs
 pub mod Puts
+pub mod Ranges
+pub mod Takes
+pub mod Writes

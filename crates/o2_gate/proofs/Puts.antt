@@ -1,5 +1,5 @@
 -- A piece for the console, and then a text for the report.
-use Rattle.std.proofs.Common.{◌≡◌, ℕ, List, Option, inr}
+use Rattle.std.proofs.Common.{ℕ, List, Option, inr}
 use Rattle.o2_outer.specs.declared.sink.Put.{Put}
 use Rattle.o2_outer.specs.declared.sink.Put.TheVariants.{Done, Failed}
 use Rattle.o2_outer.specs.Texts.{Gains}

@@ -5,5 +5,5 @@ use Rattle.o2_bus.specs.declared.plain.Plain.{Plain}
 use Rattle.o2_bus.specs.Plain.{plain_view}
 use Rattle.o2_world.specs.Calls.{Before}
 
-abbrev pub before_call : Plain → ℕ → Cpu → List ℕ → Before
-before_call plain pid cpu input = record { number = pid; cpu = cpu; view = plain_view plain pid cpu; input = input }
+abbrev pub before_call : Plain → ℕ → Cpu → List ℕ → ℕ → Before
+before_call plain pid cpu input avail = record { number = pid; cpu = cpu; view = plain_view plain pid cpu; input = input; avail = avail }

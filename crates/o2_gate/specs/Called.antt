@@ -1,31 +1,44 @@
 -- What a call did, by its answer and by the effect that its row gives.
-use Rattle.std.specs.Prelude.{◌≡◌, ◌⊎◌, ℕ, List, Option}
+use Rattle.std.specs.Prelude.{◌≡◌, ◌⊎◌, ℕ, true, false, ◌==◌, take, drop, List, Option, Some}
 use Rattle.o2_outer.specs.Texts.{Gains, GainsSome, IsPrefix}
 use Rattle.o2_outer.specs.declared.sink.Put.{Put}
 use Rattle.o2_outer.specs.declared.sink.Put.TheVariants as put
+use Rattle.o2_outer.specs.declared.source.Took.{Took}
+use Rattle.o2_outer.specs.declared.source.Took.TheVariants as took
 use Rattle.o2_isa.specs.declared.cpu.Cpu.{Cpu}
 use Rattle.o2_bus.specs.declared.plain.Plain.{Plain}
 use Rattle.o2_bus.specs.Plain.{bytes_in}
 use Rattle.o2_world.specs.declared.types.State.{State}
 use Rattle.o2_world.specs.declared.types.State.TheVariants as state
-use Rattle.o2_world.specs.Calls.{Before, Effect, trapped}
+use Rattle.o2_world.specs.Calls.{Before, Effect, trapped, asks}
 use Rattle.o2_world.specs.Text.{lines_text}
 use Rattle.o2_gate.specs.declared.called.Called.{Called}
-use Rattle.o2_gate.specs.declared.called.Called.TheVariants.{Back, Exited, Trap, SinkFault}
+use Rattle.o2_gate.specs.declared.called.Called.TheVariants.{Back, Exited, Trap, InputFault, SinkFault}
 
 -- the effect is made whole, and the process is then in this state
-pub record IsMade (e : Effect) (ends : State) (registers : Cpu) (after : Plain) (console_old console_new report_old report_new : Option (List ℕ)) : Type 0 where
+pub record IsMade (e : Effect) (ends : State) (registers : Cpu) (after : Plain) (left console_old console_new report_old report_new : Option (List ℕ)) : Type 0 where
   pub state : e.state ≡ ends
   pub cpu : registers ≡ e.cpu
   pub bytes : (n : ℕ) → bytes_in after n ≡ e.bytes n
+  pub input : left ≡ Some e.input
   pub to_console : Gains console_old console_new e.piece
   pub to_report : Gains report_old report_new (lines_text e.lines)
 
 -- the effect is a trap, and nothing is changed or put
-pub record IsTrap (b : Before) (e : Effect) (vector : ℕ) (registers : Cpu) (old new : Plain) (console_old console_new report_old report_new : Option (List ℕ)) : Type 0 where
+pub record IsTrap (b : Before) (e : Effect) (vector : ℕ) (registers : Cpu) (old new : Plain) (left_old left_new console_old console_new report_old report_new : Option (List ℕ)) : Type 0 where
   pub effect : e ≡ trapped b vector
   pub cpu : registers ≡ b.cpu
   pub plain : new ≡ old
+  pub input : left_new ≡ left_old
+  pub to_console : console_new ≡ console_old
+  pub to_report : report_new ≡ report_old
+
+-- the input failed, for which there is this reason: nothing is changed, taken or put
+pub record IsUnread (why : Type 0) (registers before : Cpu) (old new : Plain) (left_old left_new console_old console_new report_old report_new : Option (List ℕ)) : Type 0 where
+  pub cause : why
+  pub cpu : registers ≡ before
+  pub bytes : (n : ℕ) → bytes_in new n ≡ bytes_in old n
+  pub input : left_new ≡ left_old
   pub to_console : console_new ≡ console_old
   pub to_report : report_new ≡ report_old
 
@@ -37,17 +50,24 @@ pub record IsInPart (e : Effect) (registers before : Cpu) (old new : Plain) (con
   pub to_report : GainsSome report_old report_new (λ front. IsPrefix front (lines_text e.lines))
   pub in_order : (report_new ≡ report_old) ⊎ Gains console_old console_new e.piece
 
-abbrev pub Does : Before → Effect → Cpu → (old new : Plain) → (console_old console_new report_old report_new : Option (List ℕ)) → Called → Type 0
-Does b e cpu old new c d r q Back = IsMade e state.Live cpu new c d r q
-Does b e cpu old new c d r q (Exited code) = IsMade e (state.Exited code) cpu new c d r q
-Does b e cpu old new c d r q (Trap vector) = IsTrap b e vector cpu old new c d r q
-Does b e cpu old new c d r q SinkFault = IsInPart e cpu b.cpu old new c d r q
+-- by the answer, where `why` is the reason for which the input is gone to
+abbrev pub DoesFor : Type 0 → Before → Effect → Cpu → (old new : Plain) → (left_old left_new console_old console_new report_old report_new : Option (List ℕ)) → Called → Type 0
+DoesFor why b e cpu old new i j c d r q Back = IsMade e state.Live cpu new j c d r q
+DoesFor why b e cpu old new i j c d r q (Exited code) = IsMade e (state.Exited code) cpu new j c d r q
+DoesFor why b e cpu old new i j c d r q (Trap vector) = IsTrap b e vector cpu old new i j c d r q
+DoesFor why b e cpu old new i j c d r q InputFault = IsUnread why cpu b.cpu old new i j c d r q
+DoesFor why b e cpu old new i j c d r q SinkFault = IsInPart e cpu b.cpu old new c d r q
+
+abbrev pub Does : Before → Effect → Cpu → (old new : Plain) → (left_old left_new console_old console_new report_old report_new : Option (List ℕ)) → Called → Type 0
+Does b = DoesFor (asks b ≡ true) b
 
 abbrev pub OnSinkFault : Called → Type 0 → Type 0
-OnSinkFault Back P = Unit {0}
-OnSinkFault (Exited code) P = Unit {0}
-OnSinkFault (Trap vector) P = Unit {0}
 OnSinkFault SinkFault P = P
+OnSinkFault _ P = Unit {0}
+
+abbrev pub OnInputFault : Called → Type 0 → Type 0
+OnInputFault InputFault P = P
+OnInputFault _ P = Unit {0}
 
 -- a piece for the console and then a text for the report: both whole, or fronts, the report's only behind the whole piece
 pub record PutInPart (piece text : List ℕ) (console_old console_new report_old report_new : Option (List ℕ)) : Type 0 where
@@ -58,3 +78,8 @@ pub record PutInPart (piece text : List ℕ) (console_old console_new report_old
 abbrev pub PutsBoth : (piece text : List ℕ) → (console_old console_new report_old report_new : Option (List ℕ)) → Put → Type 0
 PutsBoth piece text c d r q put.Done = Gains c d piece × Gains r q text
 PutsBoth piece text c d r q put.Failed = PutInPart piece text c d r q
+
+-- the bytes of the input that a take of at most `count` gave stand at the front of the buffer
+abbrev pub Fills : ℕ → (left_old left_new : Option (List ℕ)) → List ℕ → Took → Type 0
+Fills count i j buffer (took.Done n) = (t : List ℕ) → i ≡ Some t → (take n buffer ≡ take count t) × (j ≡ Some (drop count t))
+Fills count i j buffer took.Failed = (j ≡ i) × ((count == 0) ≡ false)

@@ -9,6 +9,8 @@ pub enum Called {
     Exited(u16),
     /// A pointer or the arguments are bad: the process ends by this exception, and nothing is changed or put.
     Trap(u8),
+    /// The input failed: all is as before the call.
+    InputFault,
     /// A sink failed: registers and bytes are as before the call.
     SinkFault,
 }

@@ -1,12 +1,12 @@
 // DosExit.
-ghost use Rattle.std.specs.Prelude.{◌≡◌, ◌≤◌, ◌∷◌, [], ℕ, List, Option};
+ghost use Rattle.std.specs.Prelude.{◌≡◌, ◌≤◌, ◌∷◌, [], ℕ, List, Option, Some};
 ghost use Rattle.o2_outer.specs.Texts.{Rose};
 ghost use Rattle.o2_outer.specs.Answers.{Takes, OnFailed};
 ghost use Rattle.o2_world.specs.World.{Exits, Ends};
 ghost use Rattle.o2_world.specs.Text.{lines_text};
 ghost use Rattle.o2_world.specs.Calls.{dos_exit as dos_exit_row};
 ghost use Rattle.o2_gate.specs.Befores.{before_call};
-ghost use Rattle.o2_gate.specs.Called.{Does, OnSinkFault};
+ghost use Rattle.o2_gate.specs.Called.{Does, OnSinkFault, OnInputFault};
 
 use crate::Called;
 use crate::stack::{argument, fit};
@@ -40,10 +40,11 @@ pub fn dos_exit<R: Sink>(
     line: &mut LineBuffer,
     report: &mut R,
 ) -> Called
-    ensures does { (input : List ℕ) (c : Option (List ℕ)) → let b = before_call plain.now pid cpu.now input in
-        Does b (dos_exit_row b) cpu.now plain.now plain.now c c (R.taken report.old) (R.taken report.new) result }
+    ensures does { (input : List ℕ) (avail : ℕ) (i c : Option (List ℕ)) → i ≡ Some input → let b = before_call plain.now pid cpu.now input avail in
+        Does b (dos_exit_row b) cpu.now plain.now plain.now i i c c (R.taken report.old) (R.taken report.new) result }
     ensures count { R.faults report.old ≤ R.faults report.new }
     ensures cause { OnSinkFault result (Rose (R.faults report.old) (R.faults report.new)) }
+    ensures unread { OnInputFault result ⊥ }
 {
     if !fit(plain, pid, cpu, 2) {
         return Called::Trap(12);

@@ -1,41 +1,61 @@
 // The call of a service.
-ghost use Rattle.std.specs.Prelude.{◌≡◌, ◌≤◌, ◌⊎◌, ℕ, List, length};
+ghost use Rattle.std.specs.Prelude.{◌≡◌, ◌≤◌, ◌⊎◌, ℕ, List, Some, length};
 ghost use Rattle.o2_outer.specs.Texts.{Rose};
 ghost use Rattle.o2_bus.specs.Plain.{held_in, bytes_in, shown_in};
 ghost use Rattle.o2_world.specs.Calls.{serviced};
 ghost use Rattle.o2_gate.specs.Befores.{before_call};
-ghost use Rattle.o2_gate.specs.Called.{Does, OnSinkFault};
+ghost use Rattle.o2_gate.specs.Called.{Does, OnSinkFault, OnInputFault};
 
-use crate::Called;
 use crate::exit::dos_exit;
+use crate::mem_avail::dos_mem_avail;
+use crate::pid::dos_get_pid;
+use crate::read::dos_read;
 use crate::write::dos_write;
-use o2_bus::Plain;
+use crate::{Called, State};
 use o2_isa::Cpu;
-use o2_outer::Sink;
-use o2_report::LineBuffer;
+use o2_outer::{Sink, Source};
 
 /// The call of a service by process `pid`, which comes back to `next`. No call takes memory.
-pub fn call<C: Sink, R: Sink>(
+pub fn call<I: Source, C: Sink, R: Sink>(
     service: u16,
     next: u16,
     pid: u16,
     cpu: &mut Cpu,
-    plain: &mut Plain,
-    line: &mut LineBuffer,
+    state: &mut State,
+    input: &mut I,
     console: &mut C,
     report: &mut R,
 ) -> Called
-    ensures does { (input : List ℕ) → let b = before_call plain.old pid cpu.old input in
-        Does b (serviced b service next) cpu.new plain.old plain.new (C.taken console.old) (C.taken console.new) (R.taken report.old) (R.taken report.new) result }
-    ensures sizes { (n : ℕ) → length (bytes_in plain.new n) ≡ length (bytes_in plain.old n) }
-    ensures maps { held_in plain.new ≡ held_in plain.old }
-    ensures shown { (n : ℕ) → shown_in plain.new n ≡ shown_in plain.old n }
+    ensures does { (bytes : List ℕ) → I.left input.old ≡ Some bytes → let b = before_call state.old.plain pid cpu.old bytes state.old.avail in
+        Does b (serviced b service next) cpu.new state.old.plain state.new.plain (I.left input.old) (I.left input.new) (C.taken console.old) (C.taken console.new) (R.taken report.old) (R.taken report.new) result }
+    ensures sizes { (n : ℕ) → length (bytes_in state.new.plain n) ≡ length (bytes_in state.old.plain n) }
+    ensures maps { held_in state.new.plain ≡ held_in state.old.plain }
+    ensures shown { (n : ℕ) → shown_in state.new.plain n ≡ shown_in state.old.plain n }
+    ensures avail { state.new.avail ≡ state.old.avail }
+    ensures input_count { I.faults input.old ≤ I.faults input.new }
     ensures console_count { C.faults console.old ≤ C.faults console.new }
     ensures report_count { R.faults report.old ≤ R.faults report.new }
     ensures cause { OnSinkFault result (Rose (C.faults console.old) (C.faults console.new) ⊎ Rose (R.faults report.old) (R.faults report.new)) }
+    ensures input_cause { OnInputFault result (Rose (I.faults input.old) (I.faults input.new)) }
+    // The input fails in a DosRead alone.
+    ensures input_service { OnInputFault result (service ≡ 3) }
 {
+    let plain = &mut state.plain;
+    let line = &mut state.line;
     match service {
         1 => dos_exit(pid, cpu, plain, line, report),
+        2 => dos_get_pid(pid, next, cpu, plain, line, report),
+        3 => dos_read(
+            pid,
+            next,
+            cpu,
+            plain,
+            line,
+            &mut state.buffer,
+            input,
+            report,
+        ),
+        19 => dos_mem_avail(pid, next, state.avail, cpu, plain, line, report),
         _ => dos_write(pid, next, cpu, plain, line, console, report),
     }
 }

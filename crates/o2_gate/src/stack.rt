@@ -1,10 +1,10 @@
 // The arguments of a call, on the caller's stack.
 ghost use Rattle.std.specs.Prelude.{◌≡◌, ◌<◌, ◌≤◌, ◌+◌, ◌*◌, ◌%◌, is_ok, option_map};
-ghost use Rattle.o2_isa.specs.View.{bound_in, is_readable as readable_rights};
+ghost use Rattle.o2_isa.specs.View.{bound_in};
 ghost use Rattle.o2_bus.specs.Plain.{hold_of, held_in, plain_view};
-ghost use Rattle.o2_world.specs.Calls.{argument as argument_of, has_arguments, word_of};
+ghost use Rattle.o2_world.specs.Calls.{argument as argument_of, has_arguments, word_of, returned};
 
-use o2_bus::{Grant, Plain};
+use o2_bus::{Grant, Plain, is_readable_byte};
 use o2_isa::Cpu;
 
 /// What a selector names, as a pointer or in a segment register. A null selector names nothing.
@@ -16,13 +16,6 @@ pub fn bound(plain: &Plain, pid: u16, selector: u16) -> Option<Grant>
     } else {
         plain.found(pid, selector)
     }
-}
-
-/// Whether a segment with this access byte may be read through.
-pub fn is_readable(access: u8) -> bool
-    ensures { result ≡ readable_rights access }
-{
-    access == 0xFA || access == 0xF2 || access == 0xF0
 }
 
 /// The offset of the i-th word from the top of the stack.
@@ -41,7 +34,7 @@ fn has_word(plain: &Plain, pid: u16, cpu: &Cpu, i: u16) -> bool
 {
     match bound(plain, pid, cpu.ss) {
         Some(grant) => {
-            is_readable(grant.access)
+            is_readable_byte(grant.access)
                 && word_offset(cpu, i) as usize + 2 <= plain.bytes(grant.name).len()
         }
         None => false,
@@ -58,7 +51,7 @@ pub fn argument(plain: &Plain, pid: u16, cpu: &Cpu, i: u16) -> u16
         Some(grant) => {
             let bytes = plain.bytes(grant.name);
             let at = word_offset(cpu, i) as usize;
-            if is_readable(grant.access) && at + 2 <= bytes.len() {
+            if is_readable_byte(grant.access) && at + 2 <= bytes.len() {
                 bytes[at] as u16 + 256 * bytes[at + 1] as u16
             } else {
                 0
@@ -79,4 +72,14 @@ pub fn fit(plain: &Plain, pid: u16, cpu: &Cpu, words: u16) -> bool
         }
     }
     true
+}
+
+/// The registers as a call comes back to `next`, which takes its arguments away.
+pub fn give_back(cpu: &mut Cpu, next: u16, words: u16, error: u16)
+    requires { words ≤ 16 }
+    ensures { cpu.new ≡ returned cpu.old next words error }
+{
+    cpu.ax = error;
+    cpu.sp = cpu.sp.wrapping_add(2 * words);
+    cpu.ip = next;
 }

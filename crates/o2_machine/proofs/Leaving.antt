@@ -43,19 +43,20 @@ ended_stays b e dead = not_live (has_trap_flag b.cpu.flags) (is_live e.state) e 
 more_lines : (e : Effect) (l : Line) → lines_text (e.lines ++ l ∷ []) ≡ lines_text e.lines ++ lines_text (l ∷ [])
 more_lines e l = flat_map-append line_text e.lines (l ∷ [])
 
-module _ (b : Before) (e : Effect) (cpu : Cpu) (old new : Plain) (c d r s q : Option (List ℕ)) where
+module _ (b : Before) (e : Effect) (cpu : Cpu) (old new : Plain) (j c d r s q : Option (List ℕ)) where
   -- the exception behind a step, with its line whole or in part
-  pub made_with_trap : has_trap_flag b.cpu.flags ≡ true → IsMade e Live cpu new c d r s → Gains s q (lines_text (Traps b.number 1 b.cpu.cs b.cpu.ip ∷ [])) → IsMade (single_stepped b e) (Trapped 1) cpu new c d r q
+  pub made_with_trap : has_trap_flag b.cpu.flags ≡ true → IsMade e Live cpu new j c d r s → Gains s q (lines_text (Traps b.number 1 b.cpu.cs b.cpu.ip ∷ [])) → IsMade (single_stepped b e) (Trapped 1) cpu new j c d r q
   made_with_trap flag made took =
-      subst (λ (x : Effect). IsMade x (Trapped 1) cpu new c d r q) (sym (with_flag b e flag made.state)) (record {
+      subst (λ (x : Effect). IsMade x (Trapped 1) cpu new j c d r q) (sym (with_flag b e flag made.state)) (record {
         state = refl;
         cpu = made.cpu;
         bytes = made.bytes;
+        input = made.input;
         to_console = made.to_console;
         to_report = rw (more_lines e (Traps b.number 1 b.cpu.cs b.cpu.ip)) (puts_more _ _ r s q put.Done made.to_report took);
       })
 
-  pub late_with_trap : has_trap_flag b.cpu.flags ≡ true → IsMade e Live cpu new c d r s → GainsSome s q (λ front. IsPrefix front (lines_text (Traps b.number 1 b.cpu.cs b.cpu.ip ∷ []))) → IsMadeLate (single_stepped b e) (Trapped 1) cpu new c d r q
+  pub late_with_trap : has_trap_flag b.cpu.flags ≡ true → IsMade e Live cpu new j c d r s → GainsSome s q (λ front. IsPrefix front (lines_text (Traps b.number 1 b.cpu.cs b.cpu.ip ∷ []))) → IsMadeLate (single_stepped b e) (Trapped 1) cpu new c d r q
   late_with_trap flag made took =
       subst (λ (x : Effect). IsMadeLate x (Trapped 1) cpu new c d r q) (sym (with_flag b e flag made.state)) (record {
         state = refl;

@@ -1,5 +1,5 @@
 -- The start of a thin program.
-use Rattle.std.proofs.Common.{◌≡◌, ℕ, zero, suc, ◌+◌, ◌-◌, ◌*◌, ◌%◌, ◌<◌, ◌≤◌, Bool, true, false, List, [], ◌∷◌, ◌++◌, length, replicate, Option, Some, None, ap, sym, ◌∙◌, refl, arith, if◌then◌else◌, ◌==◌, ◌&&◌, ◌||◌, subst, append-nil, slice_index_or}
+use Rattle.std.proofs.Common.{◌≡◌, ℕ, zero, suc, ◌+◌, ◌-◌, ◌%◌, ◌<◌, Bool, true, false, List, [], ◌∷◌, ◌++◌, length, replicate, Option, Some, None, ap, sym, ◌∙◌, refl, arith, if◌then◌else◌, ◌==◌, ◌&&◌, ◌||◌, subst, append-nil}
 use Rattle.std.specs.Prelude.{slice_get, option_map}
 use Rattle.std.proofs.lemmas.Bool.{eqb-true}
 use Rattle.o2_isa.specs.declared.cpu.Cpu.{Cpu}
@@ -8,28 +8,27 @@ use Rattle.o2_bus.specs.declared.plain.Plain.{Plain}
 use Rattle.o2_bus.specs.declared.segment.Segment.{Segment as Stored}
 use Rattle.o2_bus.specs.Plain.{held_in, bytes_in, shown_in, count_in, segment_bytes as stored_bytes}
 use Rattle.o2_ne.specs.declared.head.Head.{Head}
-use Rattle.o2_ne.specs.Steps.{tabulate}
 use Rattle.o2_ne.proofs.Tabulated.{length-tabulate}
 use Rattle.o2_ne_segs.specs.declared.segment.Segment.{Segment}
 use Rattle.o2_ne_segs.specs.SegmentTable.{nth_segment}
 use Rattle.o2_image.specs.Parts.{Parts}
-use Rattle.o2_image.specs.Images.{Target, image, image_in, segment_image}
+use Rattle.o2_image.specs.Images.{Target, image_in, segment_image}
 use Rattle.o2_image.specs.Thin.{gate_targets, is_thin, is_thin_head, are_thin_segments}
 use Rattle.o2_world.specs.declared.types.State.TheVariants.{Live}
-use Rattle.o2_world.specs.Map.{Map, get}
 use Rattle.o2_world.specs.World.{World, Setting, Process, Held}
 use Rattle.o2_world.specs.Views.{hold_of, holds_in, segment_bytes, bytes_in as bytes_of}
-use Rattle.o2_world.specs.Opening.{Program, opening, held_by_load, start_cpu, static_size, stack_segment, ProgramSegment, segment_bytes_at, program_segment, data_segment, opening_held, opening_names, start_lines, selectors_in}
+use Rattle.o2_world.specs.Opening.{Program, opening, held_by_load, start_cpu, stack_segment, ProgramSegment, segment_bytes_at, program_segment, data_segment, opening_held, opening_names, start_lines, selectors_in}
 use Rattle.o2_conf.specs.Environments.{environment}
 use Rattle.o2_machine.specs.declared.space.Proc.{Proc}
 use Rattle.o2_world.proofs.Keeps.{some_is}
 use Rattle.o2_sched.specs.Schedule.{Schedule, opening_dispatch}
 use Rattle.o2_machine.specs.declared.space.Space.{Space}
 use Rattle.o2_machine.specs.declared.machine.Machine.{Machine}
+use Rattle.o2_machine.proofs.Spaces.{stands_by}
 use Rattle.o2_machine.specs.StandsFor.{StandsFor}
-use Rattle.o2_machine.specs.Stands.{IsProcess, IsAt, StandsIn}
+use Rattle.o2_machine.specs.Stands.{IsAt, StandsIn}
 use Rattle.o2_machine.specs.Programs.{exe_setting, rights_of, program_of, program_segments, program_segment_of}
-use Rattle.o2_machine.specs.Segments.{Adds, IsOpened, rights_at, bytes_at, room_of, thin_cpu}
+use Rattle.o2_machine.specs.Segments.{Adds, IsOpened, rights_at, bytes_at, thin_cpu}
 
 -- what is in a memory after three names
 put_after : (n k c : ℕ) (b x y : List ℕ) → k ≡ c → x ≡ y → (if n == k then b else x) ≡ (if n == c then b else y)
@@ -188,19 +187,19 @@ module _ (m : Parts) (a b : Segment) (thin : IsThinOf m a b) where
   second_bytes : bytes_at m (gate_targets m) 2 (nth_segment 2 m.segments) ≡ segment_bytes_at (program_of m) 2 (program_segment_of m 2 b)
   second_bytes = ap (bytes_at m (gate_targets m) 2) second_is ∙ with_room (2 == m.head.auto_seg) (segment_image m (gate_targets m) 2 b.size) (m.head.stack + m.head.heap)
 
-  module _ (space : Space) (q : Proc) (opened : IsOpened m space.plain) (cpu : q.cpu ≡ thin_cpu m.head b.size) (state : q.state ≡ Live) where
-    held_first : (j : ℕ) → holds_in (opening_held 0 (program_of m).segments) j ≡ held_in space.plain 1 j
+  module _ (space : Space) (q : Proc) (opened : IsOpened m space.state.plain) (cpu : q.cpu ≡ thin_cpu m.head b.size) (state : q.state ≡ Live) where
+    held_first : (j : ℕ) → holds_in (opening_held 0 (program_of m).segments) j ≡ held_in space.state.plain 1 j
     held_first j =
         ap (λ (ss : List ProgramSegment). holds_in (opening_held 0 ss) j) segments_are
         ∙ held_three j (rights_of a.kind) (rights_of b.kind)
         ∙ sym (holds_by j _ _ _ _ (ap rights_at second_is) (ap rights_at first_is))
         ∙ sym (opened.held 1 j)
 
-    each : (i : ℕ) → IsAt (slice_get (q ∷ []) i) (held_in space.plain (i + 1)) (slice_get (record { cpu = start_cpu (program_of m) 1; state = Live; held = opening_held 0 (program_of m).segments } ∷ []) i)
+    each : (i : ℕ) → IsAt (slice_get (q ∷ []) i) (held_in space.state.plain (i + 1)) (slice_get (record { cpu = start_cpu (program_of m) 1; state = Live; held = opening_held 0 (program_of m).segments } ∷ []) i)
     each zero = record { cpu = start_is ∙ sym cpu; state = sym state; held = held_first }
     each (suc i) = λ j. sym (opened.held (suc i + 1) j ∙ held_other (suc i + 1) j _ _ _ (omega arith))
 
-    bytes_are : (n : ℕ) → bytes_of (opening_names (program_of m) 0 (program_of m).segments (environment [] m.names.own [])) n ≡ bytes_in space.plain n
+    bytes_are : (n : ℕ) → bytes_of (opening_names (program_of m) 0 (program_of m).segments (environment [] m.names.own [])) n ≡ bytes_in space.state.plain n
     bytes_are n =
         ap (λ (ss : List ProgramSegment). bytes_of (opening_names (program_of m) 0 ss (environment [] m.names.own [])) n) segments_are
         ∙ bytes_three n (program_segment (program_of m) 1 (program_segment_of m 1 a)) (program_segment (program_of m) 2 (program_segment_of m 2 b)) (data_segment (environment [] m.names.own []))
@@ -210,7 +209,7 @@ module _ (m : Parts) (a b : Segment) (thin : IsThinOf m a b) where
     pub stands_opened : (budget : ℕ) (input : List ℕ) → space.procs.items ≡ q ∷ [] → StandsIn space (opening (program_of m) budget input).processes (opening (program_of m) budget input).names
     unfolding opening
     stands_opened budget input items = record {
-      processes = λ i. subst (λ (qs : List Proc). IsAt (slice_get qs i) (held_in space.plain (i + 1)) (slice_get (opening (program_of m) budget input).processes i)) (sym items) (each i);
+      processes = λ i. subst (λ (qs : List Proc). IsAt (slice_get qs i) (held_in space.state.plain (i + 1)) (slice_get (opening (program_of m) budget input).processes i)) (sym items) (each i);
       none = λ j. sym (opened.held 0 j);
       bytes = bytes_are;
       shown = opened.shown;
@@ -219,24 +218,26 @@ module _ (m : Parts) (a b : Segment) (thin : IsThinOf m a b) where
   pub second_segment : (s : Segment) (o : Option Segment) → o ≡ nth_segment 2 m.segments → o ≡ Some s → s ≡ b
   second_segment s o e f = some_is s b o f (e ∙ second_is)
 
-  pub stands_start : (machine : Machine) (q : Proc) (budget : ℕ) (input : List ℕ) → IsOpened m machine.space.plain → q.cpu ≡ thin_cpu m.head b.size → q.state ≡ Live
-      → machine.space.procs.items ≡ q ∷ [] → machine.sched ≡ record { dispatch = opening_dispatch [] budget; flags = true ∷ []; quantum = 1000 } → StandsFor machine exe_setting (opening (program_of m) budget input)
+  pub stands_start : (machine : Machine) (q : Proc) (budget : ℕ) (input : List ℕ) → IsOpened m machine.space.state.plain → q.cpu ≡ thin_cpu m.head b.size → q.state ≡ Live
+      → machine.space.procs.items ≡ q ∷ [] → machine.sched ≡ record { dispatch = opening_dispatch [] budget; flags = true ∷ []; quantum = 1000 } → machine.space.state.avail ≡ 524288 → StandsFor machine exe_setting (opening (program_of m) budget input)
   unfolding opening
-  stands_start machine q budget input opened cpu state items sched = record {
+  stands_start machine q budget input opened cpu state items sched avail = record {
     space = stands_opened machine.space q opened cpu state budget input items;
     flags = sym (ap (λ (z : Schedule). z.flags) sched);
     dispatch = sym (ap (λ (z : Schedule). z.dispatch) sched);
     quantum = sym (ap (λ (z : Schedule). z.quantum) sched);
+    avail = sym avail;
   }
 
   pub lines_are : (budget : ℕ) (input : List ℕ) → start_lines 1 m.names.own (15 ∷ 23 ∷ 31 ∷ []) ≡ (opening (program_of m) budget input).lines
   unfolding opening
   lines_are budget input = sym (ap (λ (ss : List ProgramSegment). start_lines 1 m.names.own (selectors_in (opening_held 0 ss))) segments_are)
 
-pub same_stands : (old new : Machine) (s : Setting) (w : World) → new.space ≡ old.space → new.sched ≡ old.sched → StandsFor old s w → StandsFor new s w
-same_stands old new s w space sched stands = record {
-  space = subst (λ (z : Space). StandsIn z w.processes w.names) (sym space) stands.space;
+pub same_stands : (old new : Machine) (s : Setting) (w : World) → new.space.procs ≡ old.space.procs → new.space.state.plain ≡ old.space.state.plain → new.space.state.avail ≡ old.space.state.avail → new.sched ≡ old.sched → StandsFor old s w → StandsFor new s w
+same_stands old new s w procs plain avail sched stands = record {
+  space = stands_by old.space new.space w.processes w.names procs plain stands.space;
   flags = stands.flags ∙ ap (λ (z : Schedule). z.flags) (sym sched);
   dispatch = stands.dispatch ∙ ap (λ (z : Schedule). z.dispatch) (sym sched);
   quantum = stands.quantum ∙ ap (λ (z : Schedule). z.quantum) (sym sched);
+  avail = stands.avail ∙ sym avail;
 }

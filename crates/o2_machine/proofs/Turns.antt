@@ -10,17 +10,18 @@ use Rattle.o2_conf.specs.Dispatch.{Dispatch, counted, lives}
 use Rattle.o2_world.specs.declared.types.State.TheVariants.{Live}
 use Rattle.o2_world.specs.Holders.{process_at, with_process}
 use Rattle.o2_world.specs.Calls.{Effect}
-use Rattle.o2_world.specs.Effect.{effect}
+use Rattle.o2_world.specs.Effect.{effect, AsksInput}
 use Rattle.o2_world.specs.Text.{lines_text, line_text}
 use Rattle.o2_world.specs.Run.{process_after, before, step, changed, is_over, any_lives, live_flags, console, last_line, next_dispatch}
 use Rattle.o2_world.proofs.Flags.{live_process, flags_after, flags_ended}
-use Rattle.o2_world.proofs.Inputs.{effect_input}
-use Rattle.o2_run.specs.Turn.{StepsOn, StepsInPart, Turns}
+use Rattle.o2_run.specs.Turn.{StepsOn, StepsInPart, IsStopped, Turns}
+use Rattle.o2_run.specs.Stops.{stop_line}
+use Rattle.o2_run.specs.declared.steps.Stop.TheVariants.{Input}
 use Rattle.o2_run.specs.declared.steps.Turn.{Turn}
 use Rattle.o2_run.specs.declared.steps.Turn.TheVariants as turn
 use Rattle.o2_sched.specs.Schedule.{Schedule, next_of, pick_of}
 use Rattle.o2_sched.specs.declared.sched.Pick.TheVariants.{Step, AllEnded, BudgetSpent}
-use Rattle.o2_machine.specs.Acts.{ActsAll, ActsInPart, ActsLate}
+use Rattle.o2_machine.specs.Acts.{ActsAll, ActsInPart, ActsLate, ActsUnread}
 use Rattle.o2_machine.specs.Closes.{ClosesWith}
 use Rattle.o2_machine.specs.StandsFor.{StandsFor}
 use Rattle.o2_machine.specs.declared.machine.Machine.{Machine}
@@ -58,7 +59,7 @@ any_is m s w b stands e = ap (λ (x : List Bool). list_any (λ (y : Bool). y) x)
 module _ (m : Machine) (s : Setting) (w : World) (p : Process) (c d r q : Option (List ℕ))
     (stands : StandsFor m s w) (any : any_of m.sched ≡ true) (some : (m.sched.dispatch.budget == 0) ≡ false) (at : process_at w.processes (next_of m.sched).current ≡ Some p) where
   abbrev pub made : Effect
-  made = effect (before w (next_of m.sched).current p)
+  made = effect (before s w (next_of m.sched).current p)
 
   next_is : next_dispatch s w ≡ next_of m.sched
   next_is = rw (stands.flags, stands.dispatch, stands.quantum) refl
@@ -74,9 +75,9 @@ module _ (m : Machine) (s : Setting) (w : World) (p : Process) (c d r q : Option
   unfolding changed
   console_of = ap console step_is
 
-  input_of : (step s w).input ≡ w.input
+  input_of : (step s w).input ≡ made.input
   unfolding changed
-  input_of = ap (λ (v : World). v.input) step_is ∙ effect_input (before w (next_of m.sched).current p)
+  input_of = ap (λ (v : World). v.input) step_is
 
   lines_of : lines_text (step s w).lines ≡ lines_text w.lines ++ lines_text made.lines
   unfolding changed
@@ -84,9 +85,9 @@ module _ (m : Machine) (s : Setting) (w : World) (p : Process) (c d r q : Option
 
   stands_next : (n : Machine) → Rattle.o2_machine.specs.Acts.StandsAfter (next_of m.sched).current w.processes w.names p made n.space
       → n.sched.dispatch ≡ counted (next_of m.sched) → n.sched.quantum ≡ m.sched.quantum → live_flags (with_process w.processes (next_of m.sched).current (process_after p made)) ≡ n.sched.flags
-      → StandsFor n s (step s w)
+      → n.space.state.avail ≡ m.space.state.avail → StandsFor n s (step s w)
   unfolding changed
-  stands_next n space dispatch quantum flags = rw step_is (record { space = space; flags = flags; dispatch = sym dispatch; quantum = stands.quantum ∙ sym quantum })
+  stands_next n space dispatch quantum flags avail = rw step_is (record { space = space; flags = flags; dispatch = sym dispatch; quantum = stands.quantum ∙ sym quantum; avail = stands.avail ∙ sym avail })
 
   pub steps_in_part : (n : Machine) → StandsFor n s w ⊎ StandsFor n s (step s w) → GainsSome c d (λ front. IsPrefix front made.piece) → GainsSome r q (λ front. IsPrefix front (lines_text made.lines))
       → (q ≡ r) ⊎ Gains c d made.piece → StepsInPart (StandsFor n s) s w c d r q
@@ -101,7 +102,7 @@ module _ (m : Machine) (s : Setting) (w : World) (p : Process) (c d r q : Option
     in_order_of (inl same) = inl same
     in_order_of (inr whole) = inr (rw console_of (continues_by made.piece (console w) c d whole))
 
-  pub steps_on : (i : Option (List ℕ)) (n : Machine) → i ≡ Some w.input → StandsFor n s (step s w) → Gains c d made.piece → Gains r q (lines_text made.lines) → StepsOn (StandsFor n s) s w i c d r q
+  pub steps_on : (i : Option (List ℕ)) (n : Machine) → i ≡ Some made.input → StandsFor n s (step s w) → Gains c d made.piece → Gains r q (lines_text made.lines) → StepsOn (StandsFor n s) s w i c d r q
   steps_on i n left now to_console to_report = record {
     runs = runs;
     input = left ∙ ap Some (sym input_of);
@@ -110,12 +111,13 @@ module _ (m : Machine) (s : Setting) (w : World) (p : Process) (c d r q : Option
     to_report = rw lines_of (continues_by (lines_text made.lines) (lines_text w.lines) r q to_report);
   }
 
-same_space : (n m : Machine) (s : Setting) (w : World) → StandsFor m s w → n.sched ≡ m.sched → Rattle.o2_machine.specs.Stands.StandsIn n.space w.processes w.names → StandsFor n s w
-same_space n m s w stands same space = record {
+same_space : (n m : Machine) (s : Setting) (w : World) → StandsFor m s w → n.sched ≡ m.sched → n.space.state.avail ≡ m.space.state.avail → Rattle.o2_machine.specs.Stands.StandsIn n.space w.processes w.names → StandsFor n s w
+same_space n m s w stands same avail space = record {
   space = space;
   flags = stands.flags ∙ ap (λ (z : Schedule). z.flags) (sym same);
   dispatch = stands.dispatch ∙ ap (λ (z : Schedule). z.dispatch) (sym same);
   quantum = stands.quantum ∙ ap (λ (z : Schedule). z.quantum) (sym same);
+  avail = stands.avail ∙ sym avail;
 }
 
 module _ (m : Machine) (s : Setting) (w : World) (number : ℕ) (c d r q : Option (List ℕ))
@@ -129,21 +131,21 @@ module _ (m : Machine) (s : Setting) (w : World) (number : ℕ) (c d r q : Optio
   here : (p : Process) × (process_at w.processes k ≡ Some p) × (p.state ≡ Live)
   here = live_process w.processes m.sched.flags k stands.flags (ap (lives m.sched.flags) is.number ∙ live)
 
-  pub faulted : (n : Machine) → n.sched ≡ m.sched → ((p : Process) → process_at w.processes number ≡ Some p → p.state ≡ Live → ActsInPart w.processes w.names (effect (before w number p)) n.space c d r q)
+  pub faulted : (n : Machine) → n.sched ≡ m.sched → n.space.state.avail ≡ m.space.state.avail → ((p : Process) → process_at w.processes number ≡ Some p → p.state ≡ Live → ActsInPart w.processes w.names (effect (before s w number p)) n.space c d r q)
       → StepsInPart (StandsFor n s) s w c d r q
-  faulted n same did =
-      let at_k = subst (λ (z : ℕ). (p : Process) → process_at w.processes z ≡ Some p → p.state ≡ Live → ActsInPart w.processes w.names (effect (before w z p)) n.space c d r q) (sym is.number) did in
+  faulted n same avail did =
+      let at_k = subst (λ (z : ℕ). (p : Process) → process_at w.processes z ≡ Some p → p.state ≡ Live → ActsInPart w.processes w.names (effect (before s w z p)) n.space c d r q) (sym is.number) did in
       let all = at_k here.0 here.1 here.2 in
-      steps_in_part m s w here.0 c d r q stands is.any is.some here.1 n (inl (same_space n m s w stands same all.stands)) all.to_console all.to_report all.in_order
+      steps_in_part m s w here.0 c d r q stands is.any is.some here.1 n (inl (same_space n m s w stands same avail all.stands)) all.to_console all.to_report all.in_order
 
-  pub went : (i : Option (List ℕ)) (n : Machine) → i ≡ Some w.input → ((p : Process) → process_at w.processes number ≡ Some p → p.state ≡ Live → ActsAll number w.processes w.names p (effect (before w number p)) n.space c d r q true)
+  pub went : (i : Option (List ℕ)) (n : Machine) → n.space.state.avail ≡ m.space.state.avail → ((p : Process) → process_at w.processes number ≡ Some p → p.state ≡ Live → ActsAll number w.processes w.names p (effect (before s w number p)) n.space i c d r q true)
       → n.sched ≡ record m.sched { dispatch = counted (next_of m.sched) } → StepsOn (StandsFor n s) s w i c d r q
-  went i n left did sched =
-      let at_k = subst (λ (z : ℕ). (p : Process) → process_at w.processes z ≡ Some p → p.state ≡ Live → ActsAll z w.processes w.names p (effect (before w z p)) n.space c d r q true) (sym is.number) did in
+  went i n avail did sched =
+      let at_k = subst (λ (z : ℕ). (p : Process) → process_at w.processes z ≡ Some p → p.state ≡ Live → ActsAll z w.processes w.names p (effect (before s w z p)) n.space i c d r q true) (sym is.number) did in
       let all = at_k here.0 here.1 here.2 in
-      let flags = flags_after w.processes m.sched.flags k here.0 (effect (before w k here.0)) stands.flags (ap (lives m.sched.flags) is.number ∙ live) all.lives in
-      steps_on m s w here.0 c d r q stands is.any is.some here.1 i n left
-      (stands_next m s w here.0 c d r q stands is.any is.some here.1 n all.stands (ap (λ (z : Schedule). z.dispatch) sched) (ap (λ (z : Schedule). z.quantum) sched) (flags ∙ sym (ap (λ (z : Schedule). z.flags) sched)))
+      let flags = flags_after w.processes m.sched.flags k here.0 (effect (before s w k here.0)) stands.flags (ap (lives m.sched.flags) is.number ∙ live) all.lives in
+      steps_on m s w here.0 c d r q stands is.any is.some here.1 i n all.input
+      (stands_next m s w here.0 c d r q stands is.any is.some here.1 n all.stands (ap (λ (z : Schedule). z.dispatch) sched) (ap (λ (z : Schedule). z.quantum) sched) (flags ∙ sym (ap (λ (z : Schedule). z.flags) sched)) avail)
       all.to_console all.to_report
 
   abbrev pub ended_sched : Schedule
@@ -152,25 +154,46 @@ module _ (m : Machine) (s : Setting) (w : World) (number : ℕ) (c d r q : Optio
   ended_flags : (e : Effect) (p : Process) → Rattle.o2_world.specs.World.is_live e.state ≡ false → live_flags (with_process w.processes k (process_after p e)) ≡ slice_set m.sched.flags (number - 1) false
   ended_flags e p ends = flags_ended w.processes m.sched.flags k p e stands.flags ends ∙ ap (λ (z : ℕ). slice_set m.sched.flags (z - 1) false) is.number
 
-  pub over : (i : Option (List ℕ)) (n : Machine) → i ≡ Some w.input → ((p : Process) → process_at w.processes number ≡ Some p → p.state ≡ Live → ActsAll number w.processes w.names p (effect (before w number p)) n.space c d r q false)
+  pub over : (i : Option (List ℕ)) (n : Machine) → n.space.state.avail ≡ m.space.state.avail → ((p : Process) → process_at w.processes number ≡ Some p → p.state ≡ Live → ActsAll number w.processes w.names p (effect (before s w number p)) n.space i c d r q false)
       → n.sched ≡ ended_sched → StepsOn (StandsFor n s) s w i c d r q
-  over i n left did sched =
-      let at_k = subst (λ (z : ℕ). (p : Process) → process_at w.processes z ≡ Some p → p.state ≡ Live → ActsAll z w.processes w.names p (effect (before w z p)) n.space c d r q false) (sym is.number) did in
+  over i n avail did sched =
+      let at_k = subst (λ (z : ℕ). (p : Process) → process_at w.processes z ≡ Some p → p.state ≡ Live → ActsAll z w.processes w.names p (effect (before s w z p)) n.space i c d r q false) (sym is.number) did in
       let all = at_k here.0 here.1 here.2 in
-      steps_on m s w here.0 c d r q stands is.any is.some here.1 i n left
+      steps_on m s w here.0 c d r q stands is.any is.some here.1 i n all.input
       (stands_next m s w here.0 c d r q stands is.any is.some here.1 n all.stands (ap (λ (z : Schedule). z.dispatch) sched) (ap (λ (z : Schedule). z.quantum) sched)
-      (ended_flags (effect (before w k here.0)) here.0 all.lives ∙ sym (ap (λ (z : Schedule). z.flags) sched)))
+      (ended_flags (effect (before s w k here.0)) here.0 all.lives ∙ sym (ap (λ (z : Schedule). z.flags) sched)) avail)
       all.to_console all.to_report
 
-  pub late : (n : Machine) → ((p : Process) → process_at w.processes number ≡ Some p → p.state ≡ Live → ActsLate number w.processes w.names p (effect (before w number p)) n.space c d r q)
+  pub late : (n : Machine) → n.space.state.avail ≡ m.space.state.avail → ((p : Process) → process_at w.processes number ≡ Some p → p.state ≡ Live → ActsLate number w.processes w.names p (effect (before s w number p)) n.space c d r q)
       → n.sched ≡ ended_sched → StepsInPart (StandsFor n s) s w c d r q
-  late n did sched =
-      let at_k = subst (λ (z : ℕ). (p : Process) → process_at w.processes z ≡ Some p → p.state ≡ Live → ActsLate z w.processes w.names p (effect (before w z p)) n.space c d r q) (sym is.number) did in
+  late n avail did sched =
+      let at_k = subst (λ (z : ℕ). (p : Process) → process_at w.processes z ≡ Some p → p.state ≡ Live → ActsLate z w.processes w.names p (effect (before s w z p)) n.space c d r q) (sym is.number) did in
       let all = at_k here.0 here.1 here.2 in
       steps_in_part m s w here.0 c d r q stands is.any is.some here.1 n
       (inr (stands_next m s w here.0 c d r q stands is.any is.some here.1 n all.stands (ap (λ (z : Schedule). z.dispatch) sched) (ap (λ (z : Schedule). z.quantum) sched)
-      (ended_flags (effect (before w k here.0)) here.0 all.lives ∙ sym (ap (λ (z : Schedule). z.flags) sched))))
+      (ended_flags (effect (before s w k here.0)) here.0 all.lives ∙ sym (ap (λ (z : Schedule). z.flags) sched)) avail))
       (gains_some _ c d all.to_console) all.to_report (inr all.to_console)
+
+  -- the input failed: the next step is a DosRead, and the machine stands for the world before it
+  pub stopped : (n : Machine) (i j s_of : Option (List ℕ)) → n.sched ≡ m.sched → n.space.state.avail ≡ m.space.state.avail → i ≡ Some w.input
+      → ((p : Process) → process_at w.processes number ≡ Some p → p.state ≡ Live → ActsUnread (AsksInput (before s w number p)) w.processes w.names n.space i j c d r s_of)
+      → GainsSome s_of q (λ front. IsPrefix front (stop_line Input)) → IsStopped (StandsFor n s) s w Input j c d r q
+  stopped n i j s_of same avail left did put =
+      let at_k = subst (λ (z : ℕ). (p : Process) → process_at w.processes z ≡ Some p → p.state ≡ Live → ActsUnread (AsksInput (before s w z p)) w.processes w.names n.space i j c d r s_of) (sym is.number) did in
+      let all = at_k here.0 here.1 here.2 in
+      let next = next_is m s w here.0 c d r q stands is.any is.some here.1 in
+      record {
+        runs = runs m s w here.0 c d r q stands is.any is.some here.1;
+        cause = record {
+          process = here.0;
+          there = ap (λ (z : Dispatch). process_at w.processes z.current) next ∙ here.1;
+          reads = subst (λ (z : Dispatch). AsksInput (before s w z.current here.0)) (sym next) all.cause;
+        };
+        stands = same_space n m s w stands same avail all.stands;
+        input = all.input ∙ left;
+        to_console = all.to_console;
+        to_report = continues_in_part (stop_line Input) (lines_text w.lines) r q (subst (λ (z : Option (List ℕ)). GainsSome z q (λ front. IsPrefix front (stop_line Input))) all.to_report put);
+      }
 
 -- the last line
 pub closes : (f : World → Type 0) (s : Setting) (w : World) (text : List ℕ) (i c r q : Option (List ℕ)) (answer : Turn) → i ≡ Some w.input → is_over w ≡ true → last_line w ≡ text → ClosesWith r q text answer → Turns f s w i c c r q answer

@@ -7,10 +7,11 @@ use Rattle.o2_bus.specs.Plain.{bytes_in}
 use Rattle.o2_world.specs.declared.types.State.{State}
 use Rattle.o2_world.specs.World.{is_live}
 use Rattle.o2_world.specs.Calls.{Before, Effect}
+use Rattle.o2_world.specs.Effect.{AsksInput}
 use Rattle.o2_world.specs.Text.{lines_text}
-use Rattle.o2_gate.specs.Called.{IsMade, IsInPart}
+use Rattle.o2_gate.specs.Called.{IsMade, IsInPart, IsUnread}
 use Rattle.o2_machine.specs.declared.one_step.Ran.{Ran}
-use Rattle.o2_machine.specs.declared.one_step.Ran.TheVariants.{Done, Fault, LateFault}
+use Rattle.o2_machine.specs.declared.one_step.Ran.TheVariants.{Done, Fault, InputFault, LateFault}
 
 -- all is made but the report, which has a front of the lines
 pub record IsMadeLate (e : Effect) (ends : State) (registers : Cpu) (after : Plain) (console_old console_new report_old report_new : Option (List ℕ)) : Type 0 where
@@ -21,12 +22,18 @@ pub record IsMadeLate (e : Effect) (ends : State) (registers : Cpu) (after : Pla
   pub to_console : Gains console_old console_new e.piece
   pub to_report : GainsSome report_old report_new (λ front. IsPrefix front (lines_text e.lines))
 
-abbrev pub Leaves : Before → Effect → Cpu → (old new : Plain) → (console_old console_new report_old report_new : Option (List ℕ)) → Ran → Type 0
-Leaves b e cpu old new c d r q (Done state) = IsMade e state cpu new c d r q
-Leaves b e cpu old new c d r q (LateFault state) = IsMadeLate e state cpu new c d r q
-Leaves b e cpu old new c d r q Fault = IsInPart e cpu b.cpu old new c d r q
+abbrev pub Leaves : Before → Effect → Cpu → (old new : Plain) → (left_old left_new console_old console_new report_old report_new : Option (List ℕ)) → Ran → Type 0
+Leaves b e cpu old new i j c d r q (Done state) = IsMade e state cpu new j c d r q
+Leaves b e cpu old new i j c d r q (LateFault state) = IsMadeLate e state cpu new c d r q
+Leaves b e cpu old new i j c d r q Fault = IsInPart e cpu b.cpu old new c d r q
+Leaves b e cpu old new i j c d r q InputFault = IsUnread (AsksInput b) cpu b.cpu old new i j c d r q
 
 abbrev pub OnFault : Ran → Type 0 → Type 0
 OnFault (Done state) P = Unit {0}
 OnFault (LateFault state) P = P
 OnFault Fault P = P
+OnFault InputFault P = Unit {0}
+
+abbrev pub OnInput : Ran → Type 0 → Type 0
+OnInput InputFault P = P
+OnInput _ P = Unit {0}

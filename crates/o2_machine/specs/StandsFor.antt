@@ -10,3 +10,4 @@ pub record StandsFor (m : Machine) (s : Setting) (w : World) : Type 0 where
   pub flags : live_flags w.processes ≡ m.sched.flags
   pub dispatch : w.dispatch ≡ m.sched.dispatch
   pub quantum : s.quantum ≡ m.sched.quantum
+  pub avail : s.avail ≡ m.space.state.avail

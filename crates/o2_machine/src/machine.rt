@@ -1,11 +1,10 @@
 // The machine: whose turn it is, and its step.
 ghost use Rattle.std.specs.Prelude.{◌≡◌, length};
 
-use crate::close::close;
+use crate::close::{close, put_stop};
 use crate::space::{Acted, Space};
 use o2_outer::{Sink, Source, SwapDevice};
-use o2_report::LineBuffer;
-use o2_run::{Steps, Turn};
+use o2_run::{Steps, Stop, Turn};
 use o2_sched::{Pick, Sched};
 
 /// Processes over segments, with the schedule of their steps.
@@ -13,7 +12,6 @@ use o2_sched::{Pick, Sched};
 pub struct Machine {
     pub space: Space,
     pub sched: Sched,
-    pub line: LineBuffer,
     ghost same: { length sched.flags ≡ length space.procs.items },
 }
 
@@ -34,8 +32,12 @@ impl Steps for Machine {
         match self.sched.next() {
             Pick::AllEnded => close(b"all ended\n", report),
             Pick::BudgetSpent => close(b"budget spent\n", report),
-            Pick::Step(pid) => match self.space.act(pid, &mut self.line, console, report) {
+            Pick::Step(pid) => match self.space.act(pid, input, console, report) {
                 Acted::Fault => Turn::StepFault,
+                Acted::InputFault => {
+                    put_stop(report);
+                    Turn::Stopped(Stop::Input)
+                }
                 Acted::Went => {
                     self.sched.stepped();
                     Turn::Ran

@@ -1,5 +1,5 @@
 // One step of a process, all but what an end takes from it.
-ghost use Rattle.std.specs.Prelude.{◌≡◌, ◌≤◌, ◌⊎◌, ◌∷◌, [], ℕ, List, Option, length};
+ghost use Rattle.std.specs.Prelude.{◌≡◌, ◌≤◌, ◌⊎◌, ◌∷◌, [], ℕ, List, Option, Some, length};
 ghost use Rattle.o2_outer.specs.Texts.{Rose};
 ghost use Rattle.o2_outer.specs.Answers.{Takes, OnFailed};
 ghost use Rattle.o2_bus.specs.Plain.{held_in, shown_in, bytes_in};
@@ -9,13 +9,13 @@ ghost use Rattle.o2_world.specs.Effect.{effect, single_stepped, has_trap_flag as
 ghost use Rattle.o2_world.specs.Calls.{Before, Effect, trapped};
 ghost use Rattle.o2_gate.specs.Befores.{before_call};
 ghost use Rattle.o2_gate.specs.Called.{IsMade};
-ghost use Rattle.o2_machine.specs.Ran.{Leaves, OnFault};
+ghost use Rattle.o2_machine.specs.Ran.{Leaves, OnFault, OnInput};
 
 use o2_bus::Plain;
 use o2_core::step_plain;
-use o2_gate::{Called, call};
+use o2_gate::{Called, State as Services, call};
 use o2_isa::{Cpu, Outcome};
-use o2_outer::{Put, Sink};
+use o2_outer::{Put, Sink, Source};
 use o2_report::{LineBuffer, set_traps};
 use o2_world::State;
 
@@ -26,6 +26,8 @@ pub enum Ran {
     Done(State),
     /// A sink failed, and registers and bytes are as before the step.
     Fault,
+    /// The input failed, and all is as before the step.
+    InputFault,
     /// A sink failed in the last line of the step, which is made all the same.
     LateFault(State),
 }
@@ -49,11 +51,12 @@ fn put_trap<R: Sink>(line: &mut LineBuffer, pid: u16, vector: u8, cpu: &Cpu, rep
 
 /// An exception: nothing changes but that the process ends.
 fn trap<R: Sink>(pid: u16, vector: u8, cpu: &Cpu, line: &mut LineBuffer, report: &mut R) -> Ran
-    ensures leaves { (b : Before) (registers : Cpu) (old new : Plain) (c : Option (List ℕ)) → b.number ≡ pid → b.cpu ≡ cpu.now → registers ≡ b.cpu
+    ensures leaves { (b : Before) (registers : Cpu) (old new : Plain) (i c : Option (List ℕ)) → b.number ≡ pid → b.cpu ≡ cpu.now → registers ≡ b.cpu → i ≡ Some b.input
         → ((n : ℕ) → bytes_in new n ≡ b.view.bytes n) → ((n : ℕ) → bytes_in new n ≡ bytes_in old n)
-        → Leaves b (single_stepped b (trapped b vector)) registers old new c c (R.taken report.old) (R.taken report.new) result }
+        → Leaves b (single_stepped b (trapped b vector)) registers old new i i c c (R.taken report.old) (R.taken report.new) result }
     ensures count { R.faults report.old ≤ R.faults report.new }
     ensures cause { OnFault result (Rose (R.faults report.old) (R.faults report.new)) }
+    ensures unread { OnInput result ⊥ }
 {
     match put_trap(line, pid, vector, cpu, report) {
         Put::Failed => Ran::Fault,
@@ -63,10 +66,11 @@ fn trap<R: Sink>(pid: u16, vector: u8, cpu: &Cpu, line: &mut LineBuffer, report:
 
 /// A step that the process outlives. Where the trap flag was set before it, exception 1 follows.
 fn outlived<R: Sink>(pid: u16, before: &Cpu, line: &mut LineBuffer, report: &mut R) -> Ran
-    ensures leaves { (b : Before) (e : Effect) (cpu : Cpu) (old new : Plain) (c d r : Option (List ℕ)) → b.number ≡ pid → b.cpu ≡ before.now → IsMade e State.Live cpu new c d r (R.taken report.old)
-        → Leaves b (single_stepped b e) cpu old new c d r (R.taken report.new) result }
+    ensures leaves { (b : Before) (e : Effect) (cpu : Cpu) (old new : Plain) (i j c d r : Option (List ℕ)) → b.number ≡ pid → b.cpu ≡ before.now → IsMade e State.Live cpu new j c d r (R.taken report.old)
+        → Leaves b (single_stepped b e) cpu old new i j c d r (R.taken report.new) result }
     ensures count { R.faults report.old ≤ R.faults report.new }
     ensures cause { OnFault result (Rose (R.faults report.old) (R.faults report.new)) }
+    ensures unread { OnInput result ⊥ }
 {
     if !has_trap_flag(before.flags) {
         return Ran::Done(State::Live);
@@ -79,33 +83,37 @@ fn outlived<R: Sink>(pid: u16, before: &Cpu, line: &mut LineBuffer, report: &mut
 
 /// One step of process `pid`, all but what an end takes from it.
 #[tactic(auto, unfolding(o2_world::specs::Effect::effect))]
-pub fn run_one<C: Sink, R: Sink>(
+pub fn run_one<I: Source, C: Sink, R: Sink>(
     pid: u16,
     cpu: &mut Cpu,
-    plain: &mut Plain,
-    line: &mut LineBuffer,
+    state: &mut Services,
+    input: &mut I,
     console: &mut C,
     report: &mut R,
 ) -> Ran
-    ensures leaves { (input : List ℕ) → let b = before_call plain.old pid cpu.old input in
-        Leaves b (effect b) cpu.new plain.old plain.new (C.taken console.old) (C.taken console.new) (R.taken report.old) (R.taken report.new) result }
-    ensures held { (p i : ℕ) → held_in plain.new p i ≡ held_in plain.old p i }
-    ensures shown { (n : ℕ) → shown_in plain.new n ≡ shown_in plain.old n }
-    ensures sizes { (n : ℕ) → length (bytes_in plain.new n) ≡ length (bytes_in plain.old n) }
+    ensures leaves { (bytes : List ℕ) → I.left input.old ≡ Some bytes → let b = before_call state.old.plain pid cpu.old bytes state.old.avail in
+        Leaves b (effect b) cpu.new state.old.plain state.new.plain (I.left input.old) (I.left input.new) (C.taken console.old) (C.taken console.new) (R.taken report.old) (R.taken report.new) result }
+    ensures held { (p i : ℕ) → held_in state.new.plain p i ≡ held_in state.old.plain p i }
+    ensures shown { (n : ℕ) → shown_in state.new.plain n ≡ shown_in state.old.plain n }
+    ensures sizes { (n : ℕ) → length (bytes_in state.new.plain n) ≡ length (bytes_in state.old.plain n) }
+    ensures avail { state.new.avail ≡ state.old.avail }
+    ensures input_count { I.faults input.old ≤ I.faults input.new }
     ensures console_count { C.faults console.old ≤ C.faults console.new }
     ensures report_count { R.faults report.old ≤ R.faults report.new }
     ensures cause { OnFault result (Rose (C.faults console.old) (C.faults console.new) ⊎ Rose (R.faults report.old) (R.faults report.new)) }
+    ensures input_cause { OnInput result (Rose (I.faults input.old) (I.faults input.new)) }
 {
     let before = *cpu;
-    match step_plain(plain, pid, cpu) {
-        Outcome::Done => outlived(pid, &before, line, report),
-        Outcome::Trap(vector, _) => trap(pid, vector, cpu, line, report),
-        Outcome::Miss(_) => trap(pid, 11, cpu, line, report),
+    match step_plain(&mut state.plain, pid, cpu) {
+        Outcome::Done => outlived(pid, &before, &mut state.line, report),
+        Outcome::Trap(vector, _) => trap(pid, vector, cpu, &mut state.line, report),
+        Outcome::Miss(_) => trap(pid, 11, cpu, &mut state.line, report),
         Outcome::Gate { service, next } => {
-            match call(service, next, pid, cpu, plain, line, console, report) {
-                Called::Back => outlived(pid, &before, line, report),
+            match call(service, next, pid, cpu, state, input, console, report) {
+                Called::Back => outlived(pid, &before, &mut state.line, report),
                 Called::Exited(code) => Ran::Done(State::Exited(code)),
-                Called::Trap(vector) => trap(pid, vector, cpu, line, report),
+                Called::Trap(vector) => trap(pid, vector, cpu, &mut state.line, report),
+                Called::InputFault => Ran::InputFault,
                 Called::SinkFault => Ran::Fault,
             }
         }

@@ -19,12 +19,13 @@ use crate::machine::Machine;
 use crate::space::{Proc, Space};
 use o2_base::NoMemory;
 use o2_bus::Plain;
+use o2_gate::State as Services;
 use o2_image::{Module, Resolved};
 use o2_isa::Cpu;
 use o2_ne::Head;
 use o2_ne_segs::Kind;
 use o2_outer::{Put, Sink};
-use o2_report::{LineBuffer, put_start};
+use o2_report::put_start;
 use o2_sched::Sched;
 use o2_world::State;
 use std::alloc::Global;
@@ -32,6 +33,8 @@ use std::alloc::Global;
 const MOST_BYTES: u64 = 65_536;
 
 const QUANTUM: u32 = 1000;
+
+const AVAIL: u32 = 524_288;
 
 /// The access byte of a segment: present, with privilege level 3.
 fn rights_of(kind: Kind) -> u8
@@ -191,11 +194,10 @@ impl Machine {
             state: State::Live,
         })?;
         let sched = Sched::new(alloc, 1, Vec::new(alloc), budget, QUANTUM)?;
-        let line = LineBuffer::new(alloc)?;
+        let state = Services::new(alloc, plain, 1, AVAIL)?;
         Ok(Machine {
-            space: Space { procs, plain },
+            space: Space { procs, state },
             sched,
-            line,
         })
     }
 
@@ -209,7 +211,7 @@ impl Machine {
         ensures cause { OnFailed result (Rose (R.faults report.old) (R.faults report.new)) }
     {
         put_start(
-            &mut self.line,
+            &mut self.space.state.line,
             1,
             program.name().as_slice(),
             &[15, 23, 31],

@@ -6,13 +6,12 @@ ghost use Rattle.o2_world.specs.World.{Process, Segment, is_live as lives};
 ghost use Rattle.o2_world.specs.Holders.{process_at};
 ghost use Rattle.o2_world.specs.Views.{view_of};
 ghost use Rattle.o2_world.specs.Calls.{Before, Effect};
-ghost use Rattle.o2_world.specs.Effect.{effect};
+ghost use Rattle.o2_world.specs.Effect.{effect, AsksInput};
 
 use crate::one_step::{Ran, run_one};
-use o2_bus::Plain;
+use o2_gate::State as Services;
 use o2_isa::Cpu;
-use o2_outer::Sink;
-use o2_report::LineBuffer;
+use o2_outer::{Sink, Source};
 use o2_world::State;
 
 /// A process: its registers, and how far it is.
@@ -22,11 +21,11 @@ pub struct Proc {
     pub state: State,
 }
 
-/// The processes, process n at place n - 1, and the segments with their maps.
+/// The processes, process n at place n - 1, and what the services work on: the segments with their maps.
 #[derive(Drop)]
 pub struct Space {
     pub procs: Vec<Proc>,
-    pub plain: Plain,
+    pub state: Services,
 }
 
 /// What a step came to.
@@ -40,6 +39,8 @@ pub enum Acted {
     Fault,
     /// A sink failed in the last line of the step, behind which the process has ended.
     LateFault,
+    /// The input failed, and all is as before the step.
+    InputFault,
 }
 
 /// Whether a process goes on.
@@ -52,7 +53,7 @@ pub fn is_live(state: State) -> bool
 impl Space {
     ghost use Rattle.o2_machine.specs.Stands.{StandsIn};
     ghost use Rattle.o2_machine.specs.Commit.{IsBetween};
-    ghost use Rattle.o2_machine.specs.Acts.{Acts, OnFault, StandsAfter};
+    ghost use Rattle.o2_machine.specs.Acts.{Acts, OnFault, OnInput, StandsAfter};
 
     /// Registers and state of a process after its step; where it has ended it holds nothing any more.
     fn commit(&mut self, pid: u16, cpu: &Cpu, state: State)
@@ -61,36 +62,41 @@ impl Space {
         ensures stands { (ps : List Process) (names : Map Segment) (p : Process) (e : Effect) → IsBetween self.old ps names e → process_at ps pid ≡ Some p → p.state ≡ State.Live
             → cpu.now ≡ e.cpu → e.state ≡ state → StandsAfter pid ps names p e self.new }
         ensures len { length self.new.procs.items ≡ length self.old.procs.items }
+        ensures avail { self.new.state.avail ≡ self.old.state.avail }
     {
         let process = &mut self.procs[pid as usize - 1];
         process.cpu = *cpu;
         if !is_live(state) {
             process.state = state;
-            self.plain.end(pid);
+            self.state.end(pid);
         }
     }
 
     /// One step of a process that lives.
-    pub fn act<C: Sink, R: Sink>(
+    pub fn act<I: Source, C: Sink, R: Sink>(
         &mut self,
         pid: u16,
-        line: &mut LineBuffer,
+        input: &mut I,
         console: &mut C,
         report: &mut R,
     ) -> Acted
         requires some { 0 < pid }
         requires there { pid ≤ length self.old.procs.items }
-        ensures acts { (ps : List Process) (names : Map Segment) (p : Process) (input : List ℕ) → StandsIn self.old ps names → process_at ps pid ≡ Some p → p.state ≡ State.Live
-            → Acts pid ps names p (effect (record { number = pid; cpu = p.cpu; view = view_of names p; input = input })) self.new
-            (C.taken console.old) (C.taken console.new) (R.taken report.old) (R.taken report.new) result }
+        ensures acts { (ps : List Process) (names : Map Segment) (p : Process) (bytes : List ℕ) (avail : ℕ) → StandsIn self.old ps names → process_at ps pid ≡ Some p → p.state ≡ State.Live → I.left input.old ≡ Some bytes → avail ≡ self.old.state.avail
+            → let b : Before = record { number = pid; cpu = p.cpu; view = view_of names p; input = bytes; avail = avail } in Acts (AsksInput b) pid ps names p (effect b) self.new
+            (I.left input.old) (I.left input.new) (C.taken console.old) (C.taken console.new) (R.taken report.old) (R.taken report.new) result }
+        ensures input_count { I.faults input.old ≤ I.faults input.new }
         ensures console_count { C.faults console.old ≤ C.faults console.new }
         ensures report_count { R.faults report.old ≤ R.faults report.new }
         ensures cause { OnFault result (Rose (C.faults console.old) (C.faults console.new) ⊎ Rose (R.faults report.old) (R.faults report.new)) }
+        ensures input_cause { OnInput result (Rose (I.faults input.old) (I.faults input.new)) }
         ensures len { length self.new.procs.items ≡ length self.old.procs.items }
+        ensures avail { self.new.state.avail ≡ self.old.state.avail }
     {
         let mut cpu = self.procs[pid as usize - 1].cpu;
-        match run_one(pid, &mut cpu, &mut self.plain, line, console, report) {
+        match run_one(pid, &mut cpu, &mut self.state, input, console, report) {
             Ran::Fault => Acted::Fault,
+            Ran::InputFault => Acted::InputFault,
             Ran::Done(state) => {
                 self.commit(pid, &cpu, state);
                 if is_live(state) {

@@ -7,6 +7,7 @@ use Rattle.o2_isa.specs.declared.instr.Sreg.TheVariants.{Ss}
 use Rattle.o2_isa.specs.declared.instr.Width.TheVariants.{Word as WordWide}
 use Rattle.o2_isa.specs.Parts.{put_part}
 use Rattle.o2_isa.specs.View.{View, Hold, is_readable, is_writable, bound_in, read_of}
+use Rattle.o2_world.specs.declared.types.Argument.{Argument}
 use Rattle.o2_world.specs.declared.types.Argument.TheVariants.{Word, Long, Far}
 use Rattle.o2_world.specs.declared.types.State.{State}
 use Rattle.o2_world.specs.declared.types.State.TheVariants.{Live, Exited, Trapped}
@@ -144,53 +145,40 @@ dos_exit b =
     }
     else trapped b 12
 
--- a call that comes back with no error: the bytes after it, and its line
-abbrev pub back_with : Before → (next words : ℕ) → (ℕ → List ℕ) → Line → Effect
-back_with b next words bytes line = record {
-  cpu = returned b.cpu next words 0;
-  state = Live;
-  bytes = bytes;
-  input = b.input;
-  piece = [];
-  lines = line ∷ [];
-}
+-- A call with one pointer, behind which bytes are written; its line has values that tell the same.
 
--- DosGetPID(pinfo): three words are written, the process's number, its thread's number 1, and its parent's number, which is 0
--- for a process of the machine file
+abbrev pub told_at : Before → ℕ → (name part : List ℕ) → List Argument → (selector offset : ℕ) → Effect
+told_at b next name part values selector offset =
+    if may_write b.view.held b.view.bytes selector offset (length part)
+    then record {
+      cpu = returned b.cpu next 2 0;
+      state = Live;
+      bytes = put_at_pointer b.view.held b.view.bytes selector offset part;
+      input = b.input;
+      piece = [];
+      lines = Calls b.number name (Far selector offset ∷ []) 0 values ∷ [];
+    }
+    else trapped b 13
+
+unfoldable pub told : Before → ℕ → (name part : List ℕ) → List Argument → Effect
+told b next name part values =
+    let a : ℕ → ℕ = argument b.view b.cpu in
+    if has_arguments b.view b.cpu 2 then told_at b next name part values (a 1) (a 0) else trapped b 12
+
+-- DosGetPID(pinfo): three words, the process's number, its thread's number 1, and its parent's number, which is 0 for a
+-- process of the machine file
 abbrev pub pid_bytes : ℕ → List ℕ
 pid_bytes number = word_bytes number ++ word_bytes 1 ++ word_bytes 0
 
-abbrev pub pid_line : ℕ → (selector offset : ℕ) → Line
-pid_line number selector offset = Calls number (codes "DosGetPID") (Far selector offset ∷ []) 0 (Word number ∷ Word 1 ∷ Word 0 ∷ [])
+abbrev pub dos_get_pid : Before → ℕ → Effect
+dos_get_pid b next = told b next (codes "DosGetPID") (pid_bytes b.number) (Word b.number ∷ Word 1 ∷ Word 0 ∷ [])
 
-abbrev pub told_pid : Before → ℕ → (selector offset : ℕ) → Effect
-told_pid b next selector offset =
-    if may_write b.view.held b.view.bytes selector offset 6
-    then back_with b next 2 (put_at_pointer b.view.held b.view.bytes selector offset (pid_bytes b.number)) (pid_line b.number selector offset)
-    else trapped b 13
+-- DosMemAvail(psize): the number that the machine file gives, as four bytes, and as one value of eight digits
+abbrev pub long_bytes : ℕ → List ℕ
+long_bytes n = word_bytes (n % 65536) ++ word_bytes (n / 65536)
 
-unfoldable pub dos_get_pid : Before → ℕ → Effect
-dos_get_pid b next =
-    let a : ℕ → ℕ = argument b.view b.cpu in
-    if has_arguments b.view b.cpu 2 then told_pid b next (a 1) (a 0) else trapped b 12
-
--- DosMemAvail(psize): the number that the machine file gives is written as four bytes, and printed as eight digits
-abbrev pub avail_bytes : ℕ → List ℕ
-avail_bytes avail = word_bytes (avail % 65536) ++ word_bytes (avail / 65536)
-
-abbrev pub avail_line : ℕ → (selector offset avail : ℕ) → Line
-avail_line number selector offset avail = Calls number (codes "DosMemAvail") (Far selector offset ∷ []) 0 (Long (avail / 65536) (avail % 65536) ∷ [])
-
-abbrev pub told_avail : Before → ℕ → (selector offset : ℕ) → Effect
-told_avail b next selector offset =
-    if may_write b.view.held b.view.bytes selector offset 4
-    then back_with b next 2 (put_at_pointer b.view.held b.view.bytes selector offset (avail_bytes b.avail)) (avail_line b.number selector offset b.avail)
-    else trapped b 13
-
-unfoldable pub dos_mem_avail : Before → ℕ → Effect
-dos_mem_avail b next =
-    let a : ℕ → ℕ = argument b.view b.cpu in
-    if has_arguments b.view b.cpu 2 then told_avail b next (a 1) (a 0) else trapped b 12
+abbrev pub dos_mem_avail : Before → ℕ → Effect
+dos_mem_avail b next = told b next (codes "DosMemAvail") (long_bytes b.avail) (Long (b.avail / 65536) (b.avail % 65536) ∷ [])
 
 -- DosRead(handle, buffer, count, pdone): 6 unless the handle is 0. The next bytes of the input go to the buffer, fewer than
 -- count only where the input ends, and then their number is written to pdone.
@@ -208,33 +196,36 @@ abbrev pub may_take : Before → (selector offset count done_selector done_offse
 may_take b selector offset count done_selector done_offset =
     may_write b.view.held b.view.bytes selector offset count && may_write b.view.held b.view.bytes done_selector done_offset 2
 
-abbrev pub taken : Before → ℕ → (handle selector offset count done_selector done_offset : ℕ) → Effect
-taken b next handle selector offset count done_selector done_offset =
-    let line = read_line b.number handle selector offset count done_selector done_offset in
+-- these bytes of the input came, and that is left of it
+abbrev pub read_with : Before → ℕ → (handle selector offset count done_selector done_offset : ℕ) → (got left : List ℕ) → Effect
+read_with b next handle selector offset count done_selector done_offset got left = record {
+  cpu = returned b.cpu next 6 0;
+  state = Live;
+  bytes = bytes_with b selector offset done_selector done_offset got;
+  input = left;
+  piece = [];
+  lines = read_line b.number handle selector offset count done_selector done_offset 0 (length got) ∷ [];
+}
+
+abbrev pub read_from : Before → ℕ → (handle selector offset count done_selector done_offset : ℕ) → Effect
+read_from b next handle selector offset count done_selector done_offset =
     if may_take b selector offset count done_selector done_offset
     then (if handle == 0
-    then record {
-      cpu = returned b.cpu next 6 0;
-      state = Live;
-      bytes = bytes_with b selector offset done_selector done_offset (take count b.input);
-      input = drop count b.input;
-      piece = [];
-      lines = line 0 (length (take count b.input)) ∷ [];
-    }
+    then read_with b next handle selector offset count done_selector done_offset (take count b.input) (drop count b.input)
     else record {
       cpu = returned b.cpu next 6 6;
       state = Live;
       bytes = b.view.bytes;
       input = b.input;
       piece = [];
-      lines = line 6 0 ∷ [];
+      lines = read_line b.number handle selector offset count done_selector done_offset 6 0 ∷ [];
     })
     else trapped b 13
 
 unfoldable pub dos_read : Before → ℕ → Effect
 dos_read b next =
     let a : ℕ → ℕ = argument b.view b.cpu in
-    if has_arguments b.view b.cpu 6 then taken b next (a 5) (a 4) (a 3) (a 2) (a 1) (a 0) else trapped b 12
+    if has_arguments b.view b.cpu 6 then read_from b next (a 5) (a 4) (a 3) (a 2) (a 1) (a 0) else trapped b 12
 
 -- a DosRead goes to the input: its pointers are good, its handle is 0, and it wants at least one byte
 abbrev pub asks_input : Before → (handle selector offset count done_selector done_offset : ℕ) → Bool

@@ -1,12 +1,12 @@
 // Runs a segmented executable (NE) of OS/2 1.x: `os2run exe FILE`.
 //
-// The program's console is the standard output. The report, and the line of a status other than 0, go to the standard
-// error; the status is the exit status.
+// The program's input is the standard input, and its console the standard output. The report, and the line of a status other
+// than 0, go to the standard error; the status is the exit status.
 #![tactic(auto)]
 
-use o2_base::{Bytes, NoMemory};
+use o2_base::NoMemory;
 use o2_cli::{Status, number, os2run, text};
-use o2_outer::{FolderFiles, Put, Sink, StderrSink, StdoutSink, SureSource, SureSwap};
+use o2_outer::{FolderFiles, Put, Sink, StderrSink, StdinSource, StdoutSink, SureSwap};
 use std::env;
 use std::process::ExitCode;
 
@@ -30,7 +30,7 @@ fn words(rt: &HostRuntime) -> Vec<String> {
 /// Runs the command over the folder's files and the standard streams.
 fn run(rt: &HostRuntime) -> Result<Status, NoMemory> {
     let mut files = FolderFiles::new(rt);
-    let mut input = SureSource::new(Bytes::from_slice(rt.alloc(), &[])?);
+    let mut input = StdinSource::new(rt.reader());
     let mut console = StdoutSink::new(rt.stdout());
     let mut report = StderrSink::new(rt.stderr());
     let mut swap = SureSwap::new(rt.alloc(), SWAP_BLOCKS)?;

@@ -5,6 +5,6 @@ use Rattle.o2_machine.proofs.Leaving.{late_with_trap}
 use Rattle.o2_machine.proofs.one_step.outlived.Goals as goal
 
 pub returns-in-Failed-clause-leaves : goal.returns-in-Failed-clause-leaves
-returns-in-Failed-clause-leaves g c = λ b e cpu old new x d r number registers made.
+returns-in-Failed-clause-leaves g c = λ b e cpu old new i j x d r number registers made.
     let flag : has_trap_flag b.cpu.flags ≡ true = ap (λ (z : Cpu). has_trap_flag z.flags) registers ∙ sym c.has_trap_flag.ensures ∙ c.if-not-has_trap_flag.false in
-    late_with_trap b e cpu old new x d r _ _ flag made (rw (number, registers) c.in-Failed.ensures.report)
+    late_with_trap b e cpu old new j x d r _ _ flag made (rw (number, registers) c.in-Failed.ensures.report)

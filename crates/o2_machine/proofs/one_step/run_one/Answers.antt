@@ -11,76 +11,83 @@ use Rattle.o2_world.specs.Effect.{answered, single_stepped}
 use Rattle.o2_gate.specs.Befores.{before_call}
 use Rattle.o2_machine.specs.Ran.{Leaves}
 use Rattle.o2_machine.proofs.Leaving.{effect_by, in_part}
-use Rattle.o2_machine.proofs.Gates.{same_bytes, same_cpu, made_before, trap_before, part_before}
+use Rattle.o2_machine.proofs.Gates.{same_bytes, same_cpu, made_before, trap_before, part_before, unread_before}
 use Rattle.o2_machine.proofs.one_step.run_one.Goals as goal
 
 pub returns-in-Done-clause-leaves : goal.returns-in-Done-clause-leaves
-returns-in-Done-clause-leaves g c = λ input.
-    let b = before_call c.args.plain.now c.args.pid c.args.cpu.now input in
+returns-in-Done-clause-leaves g c = λ input left.
+    let b = before_call c.args.state.now.plain c.args.pid c.args.cpu.now input c.args.state.now.avail in
     let cpu = c.step_plain.new.cpu in
     let new = c.step_plain.new.plain in
     let r : Result Machine stop.the_data = Ok (state cpu (plain_view new c.args.pid cpu)) in
-    subst (λ (e : Effect). Leaves b e cpu c.args.plain.now new (g.C.Sink.taken c.args.console.now) (g.C.Sink.taken c.args.console.now) (g.R.Sink.taken c.args.report.now) (g.R.Sink.taken c.outlived.new.report) c.outlived.result)
+    subst (λ (e : Effect). Leaves b e cpu c.args.state.now.plain new (g.I.Source.left c.args.input.now) (g.I.Source.left c.args.input.now) (g.C.Sink.taken c.args.console.now) (g.C.Sink.taken c.args.console.now) (g.R.Sink.taken c.args.report.now) (g.R.Sink.taken c.outlived.new.report) c.outlived.result)
     (sym (effect_by b r c.in-Done.ensures.step))
-    (c.outlived.ensures.leaves b (answered b r) cpu c.args.plain.now new _ _ _ refl refl (record { state = refl; cpu = refl; bytes = λ n. refl; to_console = gains_none _; to_report = gains_none _ }))
+    (c.outlived.ensures.leaves b (answered b r) cpu c.args.state.now.plain new (g.I.Source.left c.args.input.now) _ _ _ _ refl refl (record { state = refl; cpu = refl; bytes = λ n. refl; input = left; to_console = gains_none _; to_report = gains_none _ }))
 
 pub returns-in-Trap-clause-leaves : goal.returns-in-Trap-clause-leaves
-returns-in-Trap-clause-leaves g c = λ input.
-    let b = before_call c.args.plain.now c.args.pid c.args.cpu.now input in
+returns-in-Trap-clause-leaves g c = λ input left.
+    let b = before_call c.args.state.now.plain c.args.pid c.args.cpu.now input c.args.state.now.avail in
     let cpu = c.step_plain.new.cpu in
-    let old = c.args.plain.now in
+    let old = c.args.state.now.plain in
     let new = c.step_plain.new.plain in
     let step = c.in-Trap.ensures.step in
     let registers = same_cpu old new c.args.pid c.args.cpu.now cpu step.1 in
     let bytes = same_bytes old new c.args.pid c.args.cpu.now cpu step.1 in
-    subst (λ (e : Effect). Leaves b e cpu old new (g.C.Sink.taken c.args.console.now) (g.C.Sink.taken c.args.console.now) (g.R.Sink.taken c.args.report.now) (g.R.Sink.taken c.trap.new.report) c.trap.result)
+    subst (λ (e : Effect). Leaves b e cpu old new (g.I.Source.left c.args.input.now) (g.I.Source.left c.args.input.now) (g.C.Sink.taken c.args.console.now) (g.C.Sink.taken c.args.console.now) (g.R.Sink.taken c.args.report.now) (g.R.Sink.taken c.trap.new.report) c.trap.result)
     (sym (effect_by b (Err (stop.Trap c.in-Trap.vector c.in-Trap.field-1)) step.0))
-    (c.trap.ensures.leaves b cpu old new _ refl (sym registers) registers bytes bytes)
+    (c.trap.ensures.leaves b cpu old new _ _ refl (sym registers) registers left bytes bytes)
 
 pub returns-in-Miss-clause-leaves : goal.returns-in-Miss-clause-leaves
-returns-in-Miss-clause-leaves g c = λ input.
-    let b = before_call c.args.plain.now c.args.pid c.args.cpu.now input in
+returns-in-Miss-clause-leaves g c = λ input left.
+    let b = before_call c.args.state.now.plain c.args.pid c.args.cpu.now input c.args.state.now.avail in
     let cpu = c.step_plain.new.cpu in
-    let old = c.args.plain.now in
+    let old = c.args.state.now.plain in
     let new = c.step_plain.new.plain in
     let step = c.in-Miss.ensures.step in
     let registers = same_cpu old new c.args.pid c.args.cpu.now cpu step.1 in
     let bytes = same_bytes old new c.args.pid c.args.cpu.now cpu step.1 in
-    subst (λ (e : Effect). Leaves b e cpu old new (g.C.Sink.taken c.args.console.now) (g.C.Sink.taken c.args.console.now) (g.R.Sink.taken c.args.report.now) (g.R.Sink.taken c.trap-in-Miss.new.report) c.trap-in-Miss.result)
+    subst (λ (e : Effect). Leaves b e cpu old new (g.I.Source.left c.args.input.now) (g.I.Source.left c.args.input.now) (g.C.Sink.taken c.args.console.now) (g.C.Sink.taken c.args.console.now) (g.R.Sink.taken c.args.report.now) (g.R.Sink.taken c.trap-in-Miss.new.report) c.trap-in-Miss.result)
     (sym (effect_by b (Err (stop.Miss c.in-Miss.field-0)) step.0))
-    (c.trap-in-Miss.ensures.leaves b cpu old new _ refl (sym registers) registers bytes bytes)
+    (c.trap-in-Miss.ensures.leaves b cpu old new _ _ refl (sym registers) registers left bytes bytes)
 
 pub returns-in-Back-clause-leaves : goal.returns-in-Back-clause-leaves
-returns-in-Back-clause-leaves g c = λ input.
-    let b = before_call c.args.plain.now c.args.pid c.args.cpu.now input in
+returns-in-Back-clause-leaves g c = λ input left.
+    let b = before_call c.args.state.now.plain c.args.pid c.args.cpu.now input c.args.state.now.avail in
     let step = c.in-Gate.ensures.step in
-    let made = made_before c.args.plain.now c.step_plain.new.plain c.call.new.plain c.args.pid c.args.cpu.now c.step_plain.new.cpu c.call.new.cpu input c.in-Gate.service c.in-Gate.next _ _ _ _ step.1 _ (c.in-Back.ensures.does input) in
-    subst (λ (e : Effect). Leaves b e c.call.new.cpu c.args.plain.now c.call.new.plain (g.C.Sink.taken c.args.console.now) (g.C.Sink.taken c.call.new.console) (g.R.Sink.taken c.args.report.now) (g.R.Sink.taken c.outlived-in-Back.new.report) c.outlived-in-Back.result)
+    let made = made_before c.args.state.now.plain c.step_plain.new.plain c.call.new.state.plain c.args.pid c.args.cpu.now c.step_plain.new.cpu c.call.new.cpu input c.args.state.now.avail c.in-Gate.service c.in-Gate.next (g.I.Source.left c.args.input.now) _ _ _ _ _ step.1 _ (c.in-Back.ensures.does input left) in
+    subst (λ (e : Effect). Leaves b e c.call.new.cpu c.args.state.now.plain c.call.new.state.plain (g.I.Source.left c.args.input.now) (g.I.Source.left c.call.new.input) (g.C.Sink.taken c.args.console.now) (g.C.Sink.taken c.call.new.console) (g.R.Sink.taken c.args.report.now) (g.R.Sink.taken c.outlived-in-Back.new.report) c.outlived-in-Back.result)
     (sym (effect_by b (Err (stop.Gate c.in-Gate.service c.in-Gate.next)) step.0))
-    (c.outlived-in-Back.ensures.leaves b (serviced b c.in-Gate.service c.in-Gate.next) c.call.new.cpu c.args.plain.now c.call.new.plain _ _ _ refl refl made)
+    (c.outlived-in-Back.ensures.leaves b (serviced b c.in-Gate.service c.in-Gate.next) c.call.new.cpu c.args.state.now.plain c.call.new.state.plain (g.I.Source.left c.args.input.now) _ _ _ _ refl refl made)
 
 pub returns-in-Trap-call-clause-leaves : goal.returns-in-Trap-call-clause-leaves
-returns-in-Trap-call-clause-leaves g c = λ input.
-    let b = before_call c.args.plain.now c.args.pid c.args.cpu.now input in
+returns-in-Trap-call-clause-leaves g c = λ input left.
+    let b = before_call c.args.state.now.plain c.args.pid c.args.cpu.now input c.args.state.now.avail in
     let step = c.in-Gate.ensures.step in
-    let old = c.args.plain.now in
+    let old = c.args.state.now.plain in
     let mid = c.step_plain.new.plain in
-    let t = trap_before old mid c.call.new.plain c.args.pid c.args.cpu.now c.step_plain.new.cpu c.call.new.cpu input c.in-Gate.service c.in-Gate.next _ _ _ _ step.1 _ (c.in-Trap-call.ensures.does input) in
-    let new = c.call.new.plain in
+    let t = trap_before old mid c.call.new.state.plain c.args.pid c.args.cpu.now c.step_plain.new.cpu c.call.new.cpu input c.args.state.now.avail c.in-Gate.service c.in-Gate.next _ _ _ _ _ _ step.1 _ (c.in-Trap-call.ensures.does input left) in
+    let new = c.call.new.state.plain in
     let vector = c.in-Trap-call.vector in
     let bytes = λ (n : ℕ). ap (λ (p : Plain). bytes_in p n) t.plain ∙ same_bytes old mid c.args.pid c.args.cpu.now c.step_plain.new.cpu step.1 n in
-    let base = c.trap-in-Trap-call.ensures.leaves b c.call.new.cpu old new (g.C.Sink.taken c.args.console.now) refl (sym t.cpu) t.cpu bytes bytes in
-    let P : Effect → Option (List ℕ) → Option (List ℕ) → Type 0 = λ e d r. Leaves b e c.call.new.cpu old new (g.C.Sink.taken c.args.console.now) d r (g.R.Sink.taken c.trap-in-Trap-call.new.report) c.trap-in-Trap-call.result in
+    let base = c.trap-in-Trap-call.ensures.leaves b c.call.new.cpu old new (g.I.Source.left c.args.input.now) (g.C.Sink.taken c.args.console.now) refl (sym t.cpu) t.cpu left bytes bytes in
+    let P : Effect → Option (List ℕ) → Option (List ℕ) → Option (List ℕ) → Type 0 = λ e j d r. Leaves b e c.call.new.cpu old new (g.I.Source.left c.args.input.now) j (g.C.Sink.taken c.args.console.now) d r (g.R.Sink.taken c.trap-in-Trap-call.new.report) c.trap-in-Trap-call.result in
+    let one = single_stepped b (trapped b vector) in
     let eff = effect_by b (Err (stop.Gate c.in-Gate.service c.in-Gate.next)) step.0 ∙ ap (λ (e : Effect). single_stepped b e) t.effect in
-    subst (λ (e : Effect). P e (g.C.Sink.taken c.call.new.console) (g.R.Sink.taken c.args.report.now)) (sym eff)
-    (subst (λ (d : Option (List ℕ)). P (single_stepped b (trapped b vector)) d (g.R.Sink.taken c.args.report.now)) (sym t.to_console)
-    (subst (λ (r : Option (List ℕ)). P (single_stepped b (trapped b vector)) (g.C.Sink.taken c.args.console.now) r) t.to_report base))
+    subst (λ (e : Effect). P e (g.I.Source.left c.call.new.input) (g.C.Sink.taken c.call.new.console) (g.R.Sink.taken c.args.report.now)) (sym eff)
+    (subst (λ (j : Option (List ℕ)). P one j (g.C.Sink.taken c.call.new.console) (g.R.Sink.taken c.args.report.now)) (sym t.input)
+    (subst (λ (d : Option (List ℕ)). P one (g.I.Source.left c.args.input.now) d (g.R.Sink.taken c.args.report.now)) (sym t.to_console)
+    (subst (λ (r : Option (List ℕ)). P one (g.I.Source.left c.args.input.now) (g.C.Sink.taken c.args.console.now) r) t.to_report base)))
+
+pub returns-in-InputFault-clause-leaves : goal.returns-in-InputFault-clause-leaves
+returns-in-InputFault-clause-leaves g c = λ input left.
+    let step = c.in-Gate.ensures.step in
+    unread_before c.args.state.now.plain c.step_plain.new.plain c.call.new.state.plain c.args.pid c.args.cpu.now c.step_plain.new.cpu c.call.new.cpu input c.args.state.now.avail c.in-Gate.service c.in-Gate.next _ _ _ _ _ _ step.1 step.0 c.in-InputFault.ensures.input_service (c.in-InputFault.ensures.does input left)
 
 pub returns-in-SinkFault-clause-leaves : goal.returns-in-SinkFault-clause-leaves
-returns-in-SinkFault-clause-leaves g c = λ input.
-    let b = before_call c.args.plain.now c.args.pid c.args.cpu.now input in
+returns-in-SinkFault-clause-leaves g c = λ input left.
+    let b = before_call c.args.state.now.plain c.args.pid c.args.cpu.now input c.args.state.now.avail in
     let step = c.in-Gate.ensures.step in
-    let part = part_before c.args.plain.now c.step_plain.new.plain c.call.new.plain c.args.pid c.args.cpu.now c.step_plain.new.cpu c.call.new.cpu input c.in-Gate.service c.in-Gate.next _ _ _ _ step.1 (c.in-SinkFault.ensures.does input) in
-    subst (λ (e : Effect). IsInPart e c.call.new.cpu c.args.cpu.now c.args.plain.now c.call.new.plain (g.C.Sink.taken c.args.console.now) (g.C.Sink.taken c.call.new.console) (g.R.Sink.taken c.args.report.now) (g.R.Sink.taken c.call.new.report))
+    let part = part_before c.args.state.now.plain c.step_plain.new.plain c.call.new.state.plain c.args.pid c.args.cpu.now c.step_plain.new.cpu c.call.new.cpu input c.args.state.now.avail c.in-Gate.service c.in-Gate.next (g.I.Source.left c.args.input.now) (g.I.Source.left c.call.new.input) _ _ _ _ step.1 (c.in-SinkFault.ensures.does input left) in
+    subst (λ (e : Effect). IsInPart e c.call.new.cpu c.args.cpu.now c.args.state.now.plain c.call.new.state.plain (g.C.Sink.taken c.args.console.now) (g.C.Sink.taken c.call.new.console) (g.R.Sink.taken c.args.report.now) (g.R.Sink.taken c.call.new.report))
     (sym (effect_by b (Err (stop.Gate c.in-Gate.service c.in-Gate.next)) step.0))
-    (in_part b (serviced b c.in-Gate.service c.in-Gate.next) c.call.new.cpu c.args.cpu.now c.args.plain.now c.call.new.plain _ _ _ _ part)
+    (in_part b (serviced b c.in-Gate.service c.in-Gate.next) c.call.new.cpu c.args.cpu.now c.args.state.now.plain c.call.new.state.plain _ _ _ _ part)

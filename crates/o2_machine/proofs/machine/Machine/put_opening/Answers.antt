@@ -15,4 +15,4 @@ returns-clause-report g c = λ budget input.
     (subst (λ (own : List ℕ). Takes (g.R.Sink.taken c.args.report.now) (g.R.Sink.taken c.put_start.new.report) (lines_text (start_lines 1 own (15 ∷ 23 ∷ 31 ∷ []))) c.put_start.result) name c.put_start.ensures.report)
 
 pub returns-clause-stands : goal.returns-clause-stands
-returns-clause-stands g c = λ s w stands. same_stands c.args.self.now _ s w refl refl stands
+returns-clause-stands g c = λ s w stands. same_stands c.args.self.now _ s w refl refl refl refl stands

@@ -1,7 +1,7 @@
 use Rattle.std.proofs.Common.{◌-◌, false, slice_set, sym, ◌∙◌, ap}
 use Rattle.o2_conf.specs.Dispatch.{counted}
 use Rattle.o2_sched.specs.Schedule.{Schedule, next_of}
-use Rattle.o2_machine.proofs.Turns.{closes_ended, closes_spent, faulted, went, over, late}
+use Rattle.o2_machine.proofs.Turns.{closes_ended, closes_spent, faulted, went, over, late, stopped}
 use Rattle.o2_machine.proofs.machine.MachineSteps.turn.Goals as goal
 
 -- src/machine.rt:27:5
@@ -17,26 +17,32 @@ returns-in-BudgetSpent-clause-turns g c = λ s w stands left.
 -- src/machine.rt:27:5
 pub returns-in-Fault-clause-turns : goal.returns-in-Fault-clause-turns
 returns-in-Fault-clause-turns g c = λ s w stands left.
-    faulted c.args.self.now s w c.in-Step.pid _ _ _ _ stands (sym c.next.ensures.pick ∙ c.in-Step.is) c.in-Step.ensures.live _ c.next.ensures.same
-    (λ p at live. c.in-Fault.ensures.acts w.processes w.names p w.input stands.space at live)
+    faulted c.args.self.now s w c.in-Step.pid _ _ _ _ stands (sym c.next.ensures.pick ∙ c.in-Step.is) c.in-Step.ensures.live _ c.next.ensures.same c.act.ensures.avail
+    (λ p at live. c.in-Fault.ensures.acts w.processes w.names p w.input s.avail stands.space at live left stands.avail)
 
 -- src/machine.rt:27:5
 pub returns-in-Went-clause-turns : goal.returns-in-Went-clause-turns
 returns-in-Went-clause-turns g c = λ s w stands left.
-    went c.args.self.now s w c.in-Step.pid _ _ _ _ stands (sym c.next.ensures.pick ∙ c.in-Step.is) c.in-Step.ensures.live _ _ left
-    (λ p at live. c.in-Went.ensures.acts w.processes w.names p w.input stands.space at live)
+    went c.args.self.now s w c.in-Step.pid _ _ _ _ stands (sym c.next.ensures.pick ∙ c.in-Step.is) c.in-Step.ensures.live _ _ c.act.ensures.avail
+    (λ p at live. c.in-Went.ensures.acts w.processes w.names p w.input s.avail stands.space at live left stands.avail)
     (c.stepped.ensures ∙ ap (λ (z : Schedule). record z { dispatch = counted (next_of z) }) c.next.ensures.same)
 
 -- src/machine.rt:27:5
 pub returns-in-Ended-clause-turns : goal.returns-in-Ended-clause-turns
 returns-in-Ended-clause-turns g c = λ s w stands left.
-    over c.args.self.now s w c.in-Step.pid _ _ _ _ stands (sym c.next.ensures.pick ∙ c.in-Step.is) c.in-Step.ensures.live _ _ left
-    (λ p at live. c.in-Ended.ensures.acts w.processes w.names p w.input stands.space at live)
+    over c.args.self.now s w c.in-Step.pid _ _ _ _ stands (sym c.next.ensures.pick ∙ c.in-Step.is) c.in-Step.ensures.live _ _ c.act.ensures.avail
+    (λ p at live. c.in-Ended.ensures.acts w.processes w.names p w.input s.avail stands.space at live left stands.avail)
     (c.ended.ensures ∙ ap (λ (z : Schedule). record z { flags = slice_set z.flags (c.in-Step.pid - 1) false }) (c.stepped-in-Ended.ensures ∙ ap (λ (z : Schedule). record z { dispatch = counted (next_of z) }) c.next.ensures.same))
 
 -- src/machine.rt:27:5
 pub returns-in-LateFault-clause-turns : goal.returns-in-LateFault-clause-turns
 returns-in-LateFault-clause-turns g c = λ s w stands left.
-    late c.args.self.now s w c.in-Step.pid _ _ _ _ stands (sym c.next.ensures.pick ∙ c.in-Step.is) c.in-Step.ensures.live _
-    (λ p at live. c.in-LateFault.ensures.acts w.processes w.names p w.input stands.space at live)
+    late c.args.self.now s w c.in-Step.pid _ _ _ _ stands (sym c.next.ensures.pick ∙ c.in-Step.is) c.in-Step.ensures.live _ c.act.ensures.avail
+    (λ p at live. c.in-LateFault.ensures.acts w.processes w.names p w.input s.avail stands.space at live left stands.avail)
     (c.ended-in-LateFault.ensures ∙ ap (λ (z : Schedule). record z { flags = slice_set z.flags (c.in-Step.pid - 1) false }) (c.stepped-in-LateFault.ensures ∙ ap (λ (z : Schedule). record z { dispatch = counted (next_of z) }) c.next.ensures.same))
+
+pub returns-in-InputFault-clause-turns : goal.returns-in-InputFault-clause-turns
+returns-in-InputFault-clause-turns g c = λ s w stands left.
+    stopped c.args.self.now s w c.in-Step.pid _ _ _ _ stands (sym c.next.ensures.pick ∙ c.in-Step.is) c.in-Step.ensures.live _ _ _ _ c.next.ensures.same c.act.ensures.avail left
+    (λ p at live. c.in-InputFault.ensures.acts w.processes w.names p w.input s.avail stands.space at live left stands.avail)
+    c.put_stop.ensures.text

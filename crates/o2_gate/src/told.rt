@@ -1,0 +1,121 @@
+// A call with one pointer, behind which bytes are written.
+ghost use Rattle.std.specs.Prelude.{◌≡◌, ◌≤◌, ◌<◌, ◌∷◌, [], ℕ, List, Option, Some, IsTrue, length};
+ghost use Rattle.o2_outer.specs.Texts.{Rose};
+ghost use Rattle.o2_outer.specs.Answers.{Takes, OnFailed};
+ghost use Rattle.o2_bus.specs.Plain.{held_in, bytes_in, shown_in};
+ghost use Rattle.o2_world.specs.World.{Calls};
+ghost use Rattle.o2_world.specs.Text.{lines_text};
+ghost use Rattle.o2_world.specs.Calls.{told as told_row, told_at as told_at_row};
+ghost use Rattle.o2_gate.specs.Befores.{before_call};
+ghost use Rattle.o2_gate.specs.Called.{Does, OnSinkFault, OnInputFault};
+
+use crate::Called;
+use crate::pointer::{may_write, store};
+use crate::stack::{argument, fit, give_back};
+use o2_bus::Plain;
+use o2_isa::Cpu;
+use o2_outer::{Put, Sink};
+use o2_report::{LineBuffer, set_calls};
+use o2_world::Argument;
+
+/// What a call tells: its name, the bytes that it writes behind its pointer, and the values of its line.
+#[derive(Clone, Copy)]
+pub struct Telling<'a> {
+    pub name: &'a [u8],
+    pub part: &'a [u8],
+    pub values: &'a [Argument],
+}
+
+/// Puts the line of the call.
+fn put_told<R: Sink>(
+    line: &mut LineBuffer,
+    pid: u16,
+    telling: &Telling<'_>,
+    selector: u16,
+    offset: u16,
+    report: &mut R,
+) -> Put
+    requires name { length telling.now.name.now ≤ 20 }
+    requires values { length telling.now.values.now ≤ 4 }
+    ensures report { Takes (R.taken report.old) (R.taken report.new)
+        (lines_text (Calls pid telling.now.name.now (Argument.Far selector offset ∷ []) 0 telling.now.values.now ∷ [])) result }
+    ensures count { R.faults report.old ≤ R.faults report.new }
+    ensures cause { OnFailed result (Rose (R.faults report.old) (R.faults report.new)) }
+{
+    let arguments = [Argument::Far(selector, offset)];
+    set_calls(line, pid, telling.name, &arguments, 0, telling.values);
+    report.put(line.as_slice())
+}
+
+/// The call with its pointer.
+#[tactic(auto, using(o2_outer::proofs::TextLemmas::gains_none, o2_outer::proofs::TextLemmas::puts_none))]
+fn told_at<R: Sink>(
+    pid: u16,
+    next: u16,
+    cpu: &mut Cpu,
+    plain: &mut Plain,
+    telling: &Telling<'_>,
+    selector: u16,
+    offset: u16,
+    line: &mut LineBuffer,
+    report: &mut R,
+) -> Called
+    requires name { length telling.now.name.now ≤ 20 }
+    requires part { length telling.now.part.now < 65536 }
+    requires values { length telling.now.values.now ≤ 4 }
+    ensures does { (input : List ℕ) (avail : ℕ) (i c : Option (List ℕ)) → i ≡ Some input → let b = before_call plain.old pid cpu.old input avail in
+        Does b (told_at_row b next telling.now.name.now telling.now.part.now telling.now.values.now selector offset)
+        cpu.new plain.old plain.new i i c c (R.taken report.old) (R.taken report.new) result }
+    ensures sizes { (n : ℕ) → length (bytes_in plain.new n) ≡ length (bytes_in plain.old n) }
+    ensures maps { held_in plain.new ≡ held_in plain.old }
+    ensures shown { (n : ℕ) → shown_in plain.new n ≡ shown_in plain.old n }
+    ensures count { R.faults report.old ≤ R.faults report.new }
+    ensures cause { OnSinkFault result (Rose (R.faults report.old) (R.faults report.new)) }
+    ensures unread { OnInputFault result ⊥ }
+{
+    if !may_write(plain, pid, selector, offset, telling.part.len() as u16) {
+        return Called::Trap(13);
+    }
+    match put_told(line, pid, telling, selector, offset, report) {
+        Put::Failed => Called::SinkFault,
+        Put::Done => {
+            store(plain, pid, selector, offset, telling.part);
+            give_back(cpu, next, 2, 0);
+            Called::Back
+        }
+    }
+}
+
+/// A call that writes these bytes behind its one pointer.
+#[tactic(auto, unfolding(o2_world::specs::Calls::told), using(o2_outer::proofs::TextLemmas::gains_none, o2_outer::proofs::TextLemmas::puts_none))]
+pub fn told<R: Sink>(
+    pid: u16,
+    next: u16,
+    cpu: &mut Cpu,
+    plain: &mut Plain,
+    telling: &Telling<'_>,
+    line: &mut LineBuffer,
+    report: &mut R,
+) -> Called
+    requires name { length telling.now.name.now ≤ 20 }
+    requires part { length telling.now.part.now < 65536 }
+    requires values { length telling.now.values.now ≤ 4 }
+    ensures does { (input : List ℕ) (avail : ℕ) (i c : Option (List ℕ)) → i ≡ Some input → let b = before_call plain.old pid cpu.old input avail in
+        Does b (told_row b next telling.now.name.now telling.now.part.now telling.now.values.now)
+        cpu.new plain.old plain.new i i c c (R.taken report.old) (R.taken report.new) result }
+    ensures sizes { (n : ℕ) → length (bytes_in plain.new n) ≡ length (bytes_in plain.old n) }
+    ensures maps { held_in plain.new ≡ held_in plain.old }
+    ensures shown { (n : ℕ) → shown_in plain.new n ≡ shown_in plain.old n }
+    ensures count { R.faults report.old ≤ R.faults report.new }
+    ensures cause { OnSinkFault result (Rose (R.faults report.old) (R.faults report.new)) }
+    ensures unread { OnInputFault result ⊥ }
+{
+    if !fit(plain, pid, cpu, 2) {
+        return Called::Trap(12);
+    }
+    let selector = argument(plain, pid, cpu, 1);
+    let offset = argument(plain, pid, cpu, 0);
+    told_at(
+        pid, next, cpu, plain, telling, selector, offset, line, report,
+    )
+}
