@@ -36,10 +36,10 @@ pub fn execute_cmps<B: Bus>(cpu: &mut Cpu, bus: &B, i: &Instr, next: u16) -> Res
 pub fn execute_scas<B: Bus>(cpu: &mut Cpu, bus: &B, i: &Instr, next: u16) -> Result<(), Stop>
     ensures { Gives result (state cpu.new (B.view bus.now)) (state cpu.old (B.view bus.now)) (run (scas cpu.old i.now next) (B.view bus.now)) }
 {
-    let b = element(bus, Sreg::Es, cpu.di, i.width)?;
+    let x = element(bus, Sreg::Es, cpu.di, i.width)?;
     let a = accumulator(i.width, cpu);
     move_target(cpu, i.width);
-    compare(cpu, i.width, a, b);
+    compare(cpu, i.width, a, x);
     repeat(cpu, i.rep, true, next);
     Ok(())
 }
