@@ -19,6 +19,7 @@ pub use laws::{
 pub use products::{div, mul, mul_low};
 pub use shifts::shift;
 pub use sums::{add, binary, complement, decrement, increment, logic, negate, sub, unary};
+pub use widths::signed_value;
 
 #[cfg(test)]
 mod tests;

@@ -11,20 +11,13 @@ use o2_decode::decode;
 use o2_isa::{Decoded, Group, Instr, instruction_group};
 
 /// One instruction, by its group.
-#[tactic(auto, unfolding(o2_isa::specs::Meaning::meaning, o2_isa::specs::Meaning::steps_of))]
 fn execute<B: Bus>(cpu: &mut Cpu, bus: &mut B, i: &Instr, next: u16) -> Outcome
     ensures { Answers result (state cpu.new (B.view bus.new)) (state cpu.old (B.view bus.old)) (meaning (state cpu.old (B.view bus.old)) i.now next) }
 {
     match instruction_group(i.op) {
         Group::Data => o2_exec_data::execute(cpu, bus, i, next),
         Group::Flow => o2_exec_flow::execute(cpu, bus, i, next),
-        Group::Strings => {
-            if i.lock {
-                Outcome::Trap(13, 0)
-            } else {
-                Outcome::Trap(6, 0)
-            }
-        }
+        Group::Strings => o2_exec_string::execute(cpu, bus, i, next),
     }
 }
 

@@ -1,7 +1,14 @@
 //! The flow instructions over any bus.
 #![tactic(auto)]
 
+mod calls;
 mod flow;
-mod transfers;
+mod frames;
+mod interrupts;
+mod jumps;
+mod operands;
+mod privileged;
+mod protection;
+mod returns;
 
 pub use flow::execute;

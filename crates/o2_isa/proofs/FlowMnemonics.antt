@@ -76,7 +76,7 @@ iret_row c next = either c 1 (is_set c.flags Nested) _ _ tt (unnested_row c next
 interrupt_row : (c : Cpu) (n : ℕ) → IsRow c 1 (Stops (interrupt n))
 interrupt_row c n = go (n == 3) (n == 4)
   where
-    go : (a b : Bool) → IsRow c 1 (Stops (cond a (stop.Trap 3 0) (cond b (stop.Trap 4 0) (stop.Trap 13 (8 * n + 2)))))
+    go : (a b : Bool) → IsRow c 1 (Stops (cond a (stop.Trap 3 0) (cond b (stop.Trap 4 0) (stop.Trap 13 ((8 * n + 2) % 65536)))))
     go true b = tt
     go false true = tt
     go false false = tt

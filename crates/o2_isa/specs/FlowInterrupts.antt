@@ -1,5 +1,5 @@
 -- INT, INTO and BOUND.
-use Rattle.std.specs.Prelude.{ℕ, ◌+◌, ◌*◌, ◌==◌, ◌||◌, Bool, if◌then◌else◌, [], int_lt}
+use Rattle.std.specs.Prelude.{ℕ, ◌+◌, ◌*◌, ◌%◌, ◌==◌, ◌||◌, Bool, if◌then◌else◌, [], int_lt}
 use Rattle.o2_isa.specs.declared.instr.Width.TheVariants.{Word}
 use Rattle.o2_isa.specs.declared.instr.Instr.{Instr}
 use Rattle.o2_isa.specs.declared.flags.Flag.TheVariants.{Overflow}
@@ -12,7 +12,7 @@ use Rattle.o2_isa.specs.Steps.{Steps, Stops, Ends, next_at, valued, pair_valued}
 
 -- 3 and 4 are the breakpoint and the overflow trap; each other number has no gate in the interrupt table, which its code says
 abbrev pub interrupt : ℕ → Stop
-interrupt n = if n == 3 then stop.Trap 3 0 else if n == 4 then stop.Trap 4 0 else stop.Trap 13 (8 * n + 2)
+interrupt n = if n == 3 then stop.Trap 3 0 else if n == 4 then stop.Trap 4 0 else stop.Trap 13 ((8 * n + 2) % 65536)
 
 -- a trap where the test holds
 abbrev pub trap_if : Bool → ℕ → Cpu → ℕ → Steps

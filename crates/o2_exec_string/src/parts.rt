@@ -1,0 +1,120 @@
+// What the string instructions share: an element, the indexes, the accumulator, and the count.
+ghost use Rattle.std.specs.Prelude.{◌≡◌, ◌<◌, ◌&&◌, OnOk, IfOk};
+ghost use Rattle.o2_isa.specs.declared.instr.Width.TheVariants.{Byte};
+ghost use Rattle.o2_isa.specs.View.{read_of};
+ghost use Rattle.o2_isa.specs.Widths.{IsOfWidth};
+ghost use Rattle.o2_isa.specs.Steps.{or_trap};
+ghost use Rattle.o2_isa.specs.StringRows.{moved, accumulator as accumulator_of, with_accumulator, ends_by_zero, counted, repeated, source_moved, target_moved, is_over as is_over_of};
+
+use o2_alu::is_set;
+use o2_bus::{Bus, byte_register, set_byte_register, set_word_register, word_register};
+use o2_isa::{Cpu, Flag, Rep, Sreg, Stop, Width};
+
+/// An element through a segment register, or a trap.
+pub fn element<B: Bus>(bus: &B, reg: Sreg, off: u16, width: Width) -> Result<u16, Stop>
+    ensures value { result ≡ or_trap (read_of (B.view bus.now) reg off width) }
+    ensures fits { IfOk result (λ x. IsOfWidth width x) }
+{
+    match bus.read(reg, off, width) {
+        Ok(value) => Ok(value),
+        Err((vector, code)) => Err(Stop::Trap(vector, code)),
+    }
+}
+
+/// An index one element on: up, or down with DF.
+#[tactic(auto, unfolding(o2_isa::specs::StringRows::moved))]
+pub fn index_after(flags: u16, width: Width, index: u16) -> u16
+    ensures { result ≡ moved flags width index }
+{
+    let len = match width {
+        Width::Byte => 1,
+        Width::Word => 2,
+    };
+    if is_set(flags, Flag::Direction) {
+        index.wrapping_sub(len)
+    } else {
+        index.wrapping_add(len)
+    }
+}
+
+/// SI goes on by an element.
+pub fn move_source(cpu: &mut Cpu, width: Width)
+    ensures { cpu.new ≡ source_moved width cpu.old }
+{
+    cpu.si = index_after(cpu.flags, width, cpu.si);
+}
+
+/// DI goes on by an element.
+pub fn move_target(cpu: &mut Cpu, width: Width)
+    ensures { cpu.new ≡ target_moved width cpu.old }
+{
+    cpu.di = index_after(cpu.flags, width, cpu.di);
+}
+
+/// AL or AX.
+#[tactic(auto, unfolding(o2_isa::specs::Registers::reg8))]
+pub fn accumulator(width: Width, cpu: &Cpu) -> u16
+    ensures value { result ≡ accumulator_of width cpu.now }
+    ensures fits { IsOfWidth width result }
+{
+    match width {
+        Width::Byte => byte_register(cpu, 0),
+        Width::Word => word_register(cpu, 0),
+    }
+}
+
+/// Puts an element into AL or AX.
+pub fn set_accumulator(width: Width, cpu: &mut Cpu, value: u16)
+    requires { IsOfWidth width value }
+    ensures { cpu.new ≡ with_accumulator width cpu.old value }
+{
+    match width {
+        Width::Byte => set_byte_register(cpu, 0, value),
+        Width::Word => set_word_register(cpu, 0, value),
+    }
+}
+
+/// Whether a comparison with these flags ends the repetition.
+fn is_ended(rep: Rep, flags: u16) -> bool
+    ensures { result ≡ ends_by_zero rep flags }
+{
+    match rep {
+        Rep::No => true,
+        Rep::Equal => !is_set(flags, Flag::Zero),
+        Rep::NotEqual => is_set(flags, Flag::Zero),
+    }
+}
+
+fn count(cpu: &mut Cpu, ends: bool, next: u16)
+    ensures { cpu.new ≡ counted ends cpu.old next }
+{
+    cpu.cx = cpu.cx.wrapping_sub(1);
+    if ends || cpu.cx == 0 {
+        cpu.ip = next;
+    }
+}
+
+/// After one repetition: with a repeat prefix CX falls by 1, and IP moves on where CX is 0 or a comparison ends it; without
+/// one IP moves on.
+#[tactic(auto, unfolding(o2_isa::specs::StringRows::repeated))]
+pub fn repeat(cpu: &mut Cpu, rep: Rep, compares: bool, next: u16)
+    ensures { cpu.new ≡ repeated rep compares cpu.old next }
+{
+    match rep {
+        Rep::No => cpu.ip = next,
+        Rep::Equal | Rep::NotEqual => {
+            let ends = compares && is_ended(rep, cpu.flags);
+            count(cpu, ends, next);
+        }
+    }
+}
+
+/// Whether a repeat prefix has nothing left to do.
+pub fn is_over(rep: Rep, cx: u16) -> bool
+    ensures { result ≡ is_over_of rep cx }
+{
+    match rep {
+        Rep::No => false,
+        Rep::Equal | Rep::NotEqual => cx == 0,
+    }
+}

@@ -1,0 +1,60 @@
+// One string instruction.
+ghost use Rattle.std.specs.Prelude.{◌≡◌};
+ghost use Rattle.o2_isa.specs.declared.groups.Group.TheVariants.{Strings};
+ghost use Rattle.o2_isa.specs.Steps.{Gives, state, run};
+ghost use Rattle.o2_isa.specs.StringRows.{one_string, string_steps};
+ghost use Rattle.o2_isa.specs.Meaning.{meaning, group_of};
+ghost use Rattle.o2_isa.specs.Step.{Answers};
+
+use crate::comparisons::{execute_cmps, execute_scas};
+use crate::moves::{execute_lods, execute_movs, execute_stos};
+use crate::parts::is_over;
+use o2_bus::{Bus, outcome_of};
+use o2_isa::{Cpu, Instr, Op, Outcome, Stop};
+
+/// One repetition.
+fn execute_one<B: Bus>(cpu: &mut Cpu, bus: &mut B, i: &Instr, next: u16) -> Result<(), Stop>
+    ensures { Gives result (state cpu.new (B.view bus.new)) (state cpu.old (B.view bus.old)) (run (one_string i.now.op cpu.old i.now next) (B.view bus.old)) }
+{
+    match i.op {
+        Op::OpMovs => execute_movs(cpu, bus, i, next),
+        Op::OpCmps => execute_cmps(cpu, bus, i, next),
+        Op::OpStos => execute_stos(cpu, bus, i, next),
+        Op::OpLods => execute_lods(cpu, bus, i, next),
+        Op::OpScas => execute_scas(cpu, bus, i, next),
+        _ => Err(Stop::Trap(6, 0)),
+    }
+}
+
+fn execute_counted<B: Bus>(cpu: &mut Cpu, bus: &mut B, i: &Instr, next: u16) -> Result<(), Stop>
+    ensures { Gives result (state cpu.new (B.view bus.new)) (state cpu.old (B.view bus.old)) (run (string_steps i.now.op cpu.old i.now next) (B.view bus.old)) }
+{
+    if is_over(i.rep, cpu.cx) {
+        cpu.ip = next;
+        Ok(())
+    } else {
+        execute_one(cpu, bus, i, next)
+    }
+}
+
+#[tactic(auto, unfolding(o2_isa::specs::Meaning::meaning, o2_isa::specs::Meaning::steps_of))]
+fn execute_unlocked<B: Bus>(cpu: &mut Cpu, bus: &mut B, i: &Instr, next: u16) -> Result<(), Stop>
+    requires group { group_of i.now.op ≡ Strings }
+    ensures { Gives result (state cpu.new (B.view bus.new)) (state cpu.old (B.view bus.old)) (meaning (state cpu.old (B.view bus.old)) i.now next) }
+{
+    if i.lock {
+        Err(Stop::Trap(13, 0))
+    } else {
+        execute_counted(cpu, bus, i, next)
+    }
+}
+
+/// One repetition of a string instruction, with the IP behind it: what it means; a trap leaves registers and bytes as they
+/// were. IP stays where more repetitions follow.
+#[tactic(auto, using(o2_isa::proofs::StepLaws::answers_from))]
+pub fn execute<B: Bus>(cpu: &mut Cpu, bus: &mut B, i: &Instr, next: u16) -> Outcome
+    requires group { group_of i.now.op ≡ Strings }
+    ensures { Answers result (state cpu.new (B.view bus.new)) (state cpu.old (B.view bus.old)) (meaning (state cpu.old (B.view bus.old)) i.now next) }
+{
+    outcome_of(execute_unlocked(cpu, bus, i, next))
+}
