@@ -8,6 +8,9 @@ use o2_isa::{Loaded, Purpose, Sreg, Width};
 use std::alloc::Global;
 use std::test::Fail;
 
+mod data;
+mod data_cases;
+
 /// Access bytes of the indexes 1 to 8; the names behind 5 to 8 are hidden.
 static ACCESS: [u8; 8] = [0xFA, 0xF8, 0xF2, 0xF0, 0xFA, 0xF8, 0xF2, 0xF0];
 

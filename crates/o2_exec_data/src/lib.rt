@@ -5,6 +5,7 @@ mod arithmetic;
 mod data;
 mod decimal;
 mod flags;
+mod laws;
 mod moves;
 mod pointers;
 mod products;
@@ -12,3 +13,4 @@ mod shifts;
 mod stack;
 
 pub use data::execute;
+pub use laws::flags_are_taken;
