@@ -1,10 +1,10 @@
 // One step over any bus.
 ghost use Rattle.std.specs.Prelude.{◌≡◌, ◌≤◌, ℕ, true, false, length};
 ghost use Rattle.o2_isa.specs.View.{Filling, IsBound, KeepsFrame, Agrees};
-ghost use Rattle.o2_isa.specs.Steps.{state, State};
+ghost use Rattle.o2_isa.specs.Steps.{run, state, State};
 ghost use Rattle.o2_isa.specs.Meaning.{meaning};
 ghost use Rattle.o2_isa.specs.Presence.{whole_state, is_in};
-ghost use Rattle.o2_isa.specs.Step.{Answers, AsBoundless, stepped, step_names, is_miss};
+ghost use Rattle.o2_isa.specs.Step.{steps_at, Answers, AsBoundless, stepped, step_names, is_miss};
 
 use o2_bus::{Bus, Cpu, Outcome};
 use o2_decode::decode;
@@ -21,19 +21,31 @@ fn execute<B: Bus>(cpu: &mut Cpu, bus: &mut B, i: &Instr, next: u16) -> Outcome
     }
 }
 
+// What was decoded is executed where it stands: a copy would cost as much as the step.
+#[inline(always)]
+#[tactic(auto, unfolding(o2_isa::specs::Meaning::meaning))]
+fn finished<B: Bus>(cpu: &mut Cpu, bus: &mut B, decoded: &Decoded) -> Outcome
+    ensures { Answers result (state cpu.new (B.view bus.new)) (state cpu.old (B.view bus.old)) (run (steps_at cpu.old decoded.now) (B.view bus.old)) }
+{
+    match decoded {
+        Decoded::One(i, n) => {
+            let next = cpu.ip.wrapping_add(*n as u16);
+            execute(cpu, bus, i, next)
+        }
+        Decoded::Invalid => Outcome::Trap(6, 0),
+        _ => Outcome::Trap(13, 0),
+    }
+}
+
+#[inline(always)]
+#[tactic(auto, unfolding(o2_isa::specs::Step::stepped))]
 fn one_step<B: Bus>(cpu: &mut Cpu, bus: &mut B) -> Outcome
     ensures { Answers result (state cpu.new (B.view bus.new)) (state cpu.old (B.view bus.old)) (stepped (state cpu.old (B.view bus.old))) }
 {
     let mut bytes = [0u8; 10];
     let count = bus.fetch(cpu.ip, &mut bytes);
-    match decode(&bytes[..count]) {
-        Decoded::One(i, n) => {
-            let next = cpu.ip.wrapping_add(n as u16);
-            execute(cpu, bus, &i, next)
-        }
-        Decoded::Invalid => Outcome::Trap(6, 0),
-        _ => Outcome::Trap(13, 0),
-    }
+    let decoded = decode(&bytes[..count]);
+    finished(cpu, bus, &decoded)
 }
 
 /// One instruction, or one repetition of a string instruction.

@@ -28,6 +28,7 @@ static NO_ROW: Option<Row> = None;
 
 /// What the table has for an opcode.
 #[tactic(auto, unfolding(o2_isa::specs::Table::table))]
+#[inline(always)]
 fn entry(b: u8) -> &'static Entry
     ensures { result.now ≡ slice_index_or table b Unused }
 {
@@ -36,6 +37,7 @@ fn entry(b: u8) -> &'static Entry
 
 /// What the table has for the second byte of an opcode, behind 0F.
 #[tactic(auto, unfolding(o2_isa::specs::Table::table_0f))]
+#[inline(always)]
 fn second_entry(b: u8) -> &'static Entry
     ensures { result.now ≡ slice_index_or table_0f b Unused }
 {
@@ -48,6 +50,7 @@ fn second_entry(b: u8) -> &'static Entry
 
 /// The row of a group, by reg of the ModRM byte.
 #[tactic(auto, unfolding(o2_isa::specs::Table::groups))]
+#[inline(always)]
 fn group_row(group: u8, reg: u8) -> &'static Option<Row>
     requires { reg < 8 }
     ensures { result.now ≡ slice_index_or (slice_index_or groups group []) reg None }
@@ -59,6 +62,7 @@ fn group_row(group: u8, reg: u8) -> &'static Option<Row>
     }
 }
 
+#[inline(always)]
 fn takes(slot: Slot, modrm: u8) -> bool
     ensures { result ≡ slot_takes slot modrm }
 {
@@ -71,6 +75,7 @@ fn takes(slot: Slot, modrm: u8) -> bool
     }
 }
 
+#[inline(always)]
 fn takes_modrm(row: &Row, modrm: u8) -> bool
     ensures { result ≡ row_takes row.now modrm }
 {
@@ -78,6 +83,7 @@ fn takes_modrm(row: &Row, modrm: u8) -> bool
 }
 
 // the row, if it takes the ModRM byte, which is the last of `len` bytes
+#[inline(always)]
 fn checked_head(row: &'static Row, modrm: u8, len: usize) -> Head
     requires { len ≤ 3 }
     ensures { IsHead result (head_with (checked (Some row.now) modrm) modrm len) }
@@ -90,6 +96,7 @@ fn checked_head(row: &'static Row, modrm: u8, len: usize) -> Head
 }
 
 // the entry with its ModRM byte, which is the last of `len` bytes
+#[inline(always)]
 fn modrm_head(entry: &'static Entry, modrm: u8, len: usize) -> Head
     requires { len ≤ 3 }
     ensures { IsHead result (head_with (row_of entry.now modrm) modrm len) }
@@ -105,6 +112,7 @@ fn modrm_head(entry: &'static Entry, modrm: u8, len: usize) -> Head
 }
 
 // the entry, whose opcode has `len` bytes, with the bytes behind it
+#[inline(always)]
 fn entry_head(entry: &'static Entry, bytes: &[u8], len: usize) -> Head
     requires { len ≤ 2 }
     ensures { IsHead result (head_after entry.now bytes.now len) }
@@ -121,6 +129,7 @@ fn entry_head(entry: &'static Entry, bytes: &[u8], len: usize) -> Head
 
 /// The head at the front of bytes that begin with no prefix.
 #[tactic(auto, unfolding(o2_isa::specs::Reading::head_of))]
+#[inline(always)]
 pub fn head_at(bytes: &[u8]) -> Head
     ensures { IsHead result (head_of bytes.now) }
 {

@@ -5,12 +5,14 @@ ghost use Rattle.o2_isa.specs.Operands.{is_direct, disp_len, imm_len, tail_len, 
 
 use o2_isa::{Arg, Ea, Instr, Prefixes, Rep, Repeat, Row, Slot, Sreg, Width};
 
+#[inline(always)]
 fn is_direct_offset(modrm: u8) -> bool
     ensures { result ≡ is_direct modrm }
 {
     modrm / 64 == 0 && modrm % 8 == 6
 }
 
+#[inline(always)]
 pub fn displacement_len(modrm: u8) -> usize
     ensures { result ≡ disp_len modrm }
 {
@@ -24,6 +26,7 @@ pub fn displacement_len(modrm: u8) -> usize
     }
 }
 
+#[inline(always)]
 fn immediate_len(slot: Slot) -> usize
     ensures value { result ≡ imm_len slot }
     ensures small { result ≤ 4 }
@@ -37,6 +40,7 @@ fn immediate_len(slot: Slot) -> usize
 }
 
 /// How many bytes the displacement and the immediates of the row have.
+#[inline(always)]
 pub fn rest_len(row: &Row, modrm: u8) -> usize
     ensures value { result ≡ tail_len (record { row = row.now; modrm = modrm }) }
     ensures small { result ≤ 14 }
@@ -47,6 +51,7 @@ pub fn rest_len(row: &Row, modrm: u8) -> usize
         + immediate_len(row.third)
 }
 
+#[inline(always)]
 fn word(bytes: &[u8], at: usize) -> u16
     requires { at + 2 ≤ length bytes.now }
     ensures { result ≡ word_at bytes.now at }
@@ -54,12 +59,14 @@ fn word(bytes: &[u8], at: usize) -> u16
     bytes[at] as u16 + 256 * (bytes[at + 1] as u16)
 }
 
+#[inline(always)]
 fn extended(b: u8) -> u16
     ensures { result ≡ sign_extended b }
 {
     if b < 128 { b as u16 } else { b as u16 + 65280 }
 }
 
+#[inline(always)]
 fn segment_register(n: u8) -> Sreg
     ensures { result ≡ sreg_of n }
 {
@@ -71,6 +78,7 @@ fn segment_register(n: u8) -> Sreg
     }
 }
 
+#[inline(always)]
 fn base_segment(modrm: u8) -> Sreg
     ensures { result ≡ default_segment modrm }
 {
@@ -82,6 +90,7 @@ fn base_segment(modrm: u8) -> Sreg
     }
 }
 
+#[inline(always)]
 fn displacement(modrm: u8, tail: &[u8]) -> u16
     requires { disp_len modrm ≤ length tail.now }
     ensures { result ≡ disp_of modrm tail.now }
@@ -93,6 +102,7 @@ fn displacement(modrm: u8, tail: &[u8]) -> u16
     }
 }
 
+#[inline(always)]
 fn address(prefixes: &Prefixes, modrm: u8, tail: &[u8]) -> Ea
     requires { disp_len modrm ≤ length tail.now }
     ensures { result ≡ ea_of prefixes.now modrm tail.now }
@@ -108,6 +118,7 @@ fn address(prefixes: &Prefixes, modrm: u8, tail: &[u8]) -> Ea
     }
 }
 
+#[inline(always)]
 fn register_of(width: Width, n: u8) -> Arg
     ensures { result ≡ register width n }
 {
@@ -117,6 +128,7 @@ fn register_of(width: Width, n: u8) -> Arg
     }
 }
 
+#[inline(always)]
 fn operand(slot: Slot, width: Width, prefixes: &Prefixes, modrm: u8, tail: &[u8], at: usize) -> Arg
     requires disp { disp_len modrm ≤ length tail.now }
     requires room { at + imm_len slot ≤ length tail.now }
@@ -152,6 +164,7 @@ fn operand(slot: Slot, width: Width, prefixes: &Prefixes, modrm: u8, tail: &[u8]
     }
 }
 
+#[inline(always)]
 fn segment_of_source(prefixes: &Prefixes, row: &Row) -> Sreg
     ensures { result ≡ source_segment prefixes.now row.now }
 {
@@ -162,6 +175,7 @@ fn segment_of_source(prefixes: &Prefixes, row: &Row) -> Sreg
     }
 }
 
+#[inline(always)]
 fn repeat_of(repeat: Repeat, rep: Rep) -> Rep
     ensures { result ≡ rep_of repeat rep }
 {
@@ -176,6 +190,7 @@ fn repeat_of(repeat: Repeat, rep: Rep) -> Rep
 }
 
 /// The instruction of the prefixes, the row, its ModRM byte (0 where it takes none) and the bytes after that.
+#[inline(always)]
 pub fn instruction(prefixes: &Prefixes, row: &Row, modrm: u8, tail: &[u8]) -> Instr
     requires { length tail.now ≡ tail_len (record { row = row.now; modrm = modrm }) }
     ensures { result ≡ instr_of prefixes.now (record { row = row.now; modrm = modrm }) tail.now }

@@ -10,6 +10,7 @@ use crate::heads::{Head, head_at};
 use crate::operands::{instruction, rest_len};
 use o2_isa::{Decoded, Prefixes, Rep, Row, Sreg};
 
+#[inline(always)]
 fn is_prefix_byte(b: u8) -> bool
     ensures { result ≡ is_prefix b }
 {
@@ -17,6 +18,7 @@ fn is_prefix_byte(b: u8) -> bool
 }
 
 #[tactic(auto, unfolding(o2_isa::specs::Spelling::mark))]
+#[inline(always)]
 fn marked(prefixes: Prefixes, b: u8) -> Prefixes
     ensures { result ≡ mark prefixes b }
 {
@@ -35,6 +37,7 @@ fn marked(prefixes: Prefixes, b: u8) -> Prefixes
 }
 
 // `len` bytes are the head of the row
+#[inline(always)]
 fn read_row(
     row: &Row,
     modrm: u8,
@@ -60,6 +63,7 @@ fn read_row(
 }
 
 // the bytes behind `at` bytes of prefixes
+#[inline(always)]
 fn after_prefixes(prefixes: &Prefixes, at: usize, bytes: &[u8]) -> Decoded
     requires { at ≤ 10 }
     ensures { result ≡ read_tail (head_of bytes.now) prefixes.now at bytes.now }
@@ -71,6 +75,7 @@ fn after_prefixes(prefixes: &Prefixes, at: usize, bytes: &[u8]) -> Decoded
     }
 }
 
+#[inline(always)]
 fn read_bytes(bytes: &[u8]) -> Decoded
     requires { length bytes.now ≤ 10 }
     ensures { result ≡ read no_prefixes 0 bytes.now }
@@ -89,6 +94,7 @@ fn read_bytes(bytes: &[u8]) -> Decoded
     Decoded::Need
 }
 
+#[inline(always)]
 fn limited_bytes(bytes: &[u8]) -> Decoded
     requires { length bytes.now ≤ 10 }
     ensures { result ≡ limited (length bytes.now) (read no_prefixes 0 bytes.now) }

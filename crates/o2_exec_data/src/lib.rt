@@ -5,7 +5,6 @@ mod arithmetic;
 mod data;
 mod decimal;
 mod flags;
-mod laws;
 mod moves;
 mod pointers;
 mod products;
@@ -13,4 +12,3 @@ mod shifts;
 mod stack;
 
 pub use data::execute;
-pub use laws::flags_are_taken;
