@@ -15,3 +15,6 @@ mod services;
 pub use checks::link;
 pub use fault::LinkFault;
 pub use linked::Linked;
+
+#[cfg(test)]
+mod tests;
