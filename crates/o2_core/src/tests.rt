@@ -2,6 +2,9 @@
 ghost use Rattle.std.specs.Prelude.{◌<◌, ◌≤◌, length, IfOk};
 ghost use Rattle.o2_bus.specs.Plain.{count_in};
 
+mod flow;
+mod flow_cases;
+
 use crate::{Bus, Cpu, Outcome, Plain, step_one, step_plain};
 use o2_base::{NoMemory, Selector};
 use o2_isa::{Loaded, Purpose, Sreg, Width};
