@@ -3,7 +3,7 @@ use Rattle.std.specs.Prelude.{◌≡◌, ◌≢◌, true, ℕ, ◌<◌, All, Lis
 use Rattle.o2_bus.specs.Plain.{held_in, bytes_in, shown_in, count_in}
 use Rattle.o2_world.specs.declared.types.Made.{Made}
 use Rattle.o2_world.specs.Views.{holds_in, bytes_in as bytes_of}
-use Rattle.o2_world.specs.Starts.{Built, Holding, with_holding}
+use Rattle.o2_world.specs.Starts.{Built, Holding, with_holding, with_holdings}
 use Rattle.o2_load.specs.declared.build.Build.{Build}
 use Rattle.o2_load.specs.declared.build.Grip.{Grip}
 
@@ -31,3 +31,7 @@ OthersStay old new pid = (q i : ℕ) → q ≢ pid → held_in new.plain q i ≡
 -- one step more
 abbrev pub Adds : Build → Build → ℕ → Holding → Type 0
 Adds old new pid h = (b : Built) → IsHolding old pid b → IsHolding new pid (with_holding b h)
+
+-- many steps more
+abbrev pub AddsAll : Build → Build → ℕ → List Holding → Type 0
+AddsAll old new pid hs = (b : Built) → IsHolding old pid b → IsHolding new pid (with_holdings b hs)

@@ -124,3 +124,11 @@ size_in s = s.size
 
 abbrev pub parts_cpu : ImageList → ℕ → Parts → ℕ → Cpu
 parts_cpu images place m command = cpu_by (loaded_module images place m) (length m.segments) (option_map size_in (nth_segment m.head.auto_seg m.segments)) command
+
+-- all segments of a module as a process holds them
+abbrev pub all_holdings : Loaded → List Holding
+all_holdings m = module_holdings m 1 m.segments
+
+-- the environment of a process whose program has so many segments
+abbrev pub environment_of : ℕ → ℕ → List ℕ → Holding
+environment_of pid count bytes = record { index = count + 1; place = 0; number = pid; rights = 0xF2; common = false; bytes = bytes }

@@ -3,6 +3,9 @@
 
 mod build;
 mod first;
+mod holdings;
+mod process;
 mod segments;
 
 pub use build::Build;
+pub use process::start;
