@@ -1,7 +1,9 @@
 -- A program that writes `hello` and exits, as the definitions run it.
-use Rattle.std.specs.Prelude.{ℕ, List, [], ◌∷◌, ◌++◌, codes, replicate, flat_map}
+use Rattle.std.specs.Prelude.{ℕ, List, [], ◌∷◌, ◌++◌, codes, replicate, flat_map, Result, Ok, Err, false}
 use Rattle.o2_world.specs.World.{World, Setting}
-use Rattle.o2_world.specs.Opening.{Program, opening}
+use Rattle.o2_base.specs.declared.faults.ModuleFault.{ModuleFault}
+use Rattle.o2_conf.specs.Environments.{environment}
+use Rattle.o2_world.specs.Starts.{Loaded, Start, opening_of, world_of, nothing_built}
 
 -- push 1; push ds; push 0; push 5; push ds; push 6; call far DosWrite; push 1; push 0; call far DosExit
 abbrev pub hello_code : List ℕ
@@ -12,12 +14,14 @@ hello_code =
     ∷ 0x9A ∷ 0x00 ∷ 0x00 ∷ 0x8B ∷ 0x00
     ∷ []
 
-abbrev pub hello : Program
+abbrev pub hello : Loaded
 hello = record {
+  place = 1;
   name = codes "HELLO";
+  library = false;
   segments =
-      record { rights = 0xFA; image = hello_code }
-      ∷ record { rights = 0xF2; image = codes "hello" ++ replicate 11 0 }
+      record { index = 1; rights = 0xFA; common = false; image = hello_code }
+      ∷ record { index = 2; rights = 0xF2; common = false; image = codes "hello" ++ replicate 11 0 }
       ∷ [];
   auto_seg = 2;
   heap = 0;
@@ -26,14 +30,24 @@ hello = record {
   ip = 0;
   ss = 2;
   sp = 0;
-  place = 1;
 }
+
+-- without environment strings and arguments
+abbrev pub hello_process : Start
+hello_process = record { program = hello; libraries = []; environment = environment [] (codes "HELLO") []; command = 1 }
 
 abbrev pub hello_setting : Setting
 hello_setting = record { quantum = 1000; segments = 1024; avail = 524288 }
 
+abbrev pub hello_opening : ℕ → Result World (ℕ × ModuleFault)
+hello_opening budget = opening_of hello_setting [] budget [] (hello_process ∷ [])
+
+abbrev pub opened : Result World (ℕ × ModuleFault) → World
+opened (Ok w) = w
+opened (Err fault) = world_of [] 0 [] nothing_built
+
 abbrev pub hello_world : ℕ → World
-hello_world budget = opening hello budget []
+hello_world budget = opened (hello_opening budget)
 
 abbrev pub text_of : List (List ℕ) → List ℕ
 text_of lines = flat_map (λ (l : List ℕ). l ++ 10 ∷ []) lines

@@ -1,5 +1,5 @@
 -- How processes start over linked modules: what each holds, its registers, and the world before the first step.
-use Rattle.std.specs.Prelude.{ℕ, ◌+◌, ◌-◌, ◌%◌, Bool, true, false, not, List, [], ◌∷◌, ◌++◌, length, fold, flat_map, replicate, slice_get, nat_lt, Option, Some, None, Result, Ok, Err, if◌then◌else◌, ◌==◌, ◌&&◌, ◌||◌}
+use Rattle.std.specs.Prelude.{ℕ, ◌+◌, ◌-◌, ◌%◌, Bool, true, false, not, List, [], ◌∷◌, ◌++◌, length, fold, flat_map, replicate, slice_get, nat_lt, Option, Some, None, option_map, unwrap_or, Result, Ok, Err, if◌then◌else◌, ◌==◌, ◌&&◌, ◌||◌}
 use Rattle.o2_base.specs.declared.faults.ModuleFault.{ModuleFault}
 use Rattle.o2_base.specs.declared.faults.ModuleFault.TheVariants.{NoStack, NoEntry, NoSegment}
 use Rattle.o2_isa.specs.declared.cpu.Cpu.{Cpu}
@@ -103,39 +103,52 @@ holdings pid s = module_holdings s.program 1 s.program.segments ++ environment_h
 abbrev pub nth_loaded : ℕ → List LoadedSegment → Option LoadedSegment
 nth_loaded n ss = if n == 0 then None else slice_get ss (n - 1)
 
-abbrev pub size_of : Option LoadedSegment → ℕ
-size_of None = 0
-size_of (Some s) = length s.image
+-- the size of a segment's image
+abbrev pub image_size : LoadedSegment → ℕ
+image_size s = length s.image
 
--- the size of the automatic data's image, 0 where there is none
-abbrev pub automatic_size : Loaded → ℕ
-automatic_size m = size_of (nth_loaded m.auto_seg m.segments)
+-- the size of the automatic data's image, where there is automatic data
+abbrev pub automatic_size : Loaded → Option ℕ
+automatic_size m = option_map image_size (nth_loaded m.auto_seg m.segments)
 
 -- SS is the header's segment, or the automatic data
 abbrev pub stack_number : Loaded → ℕ
 stack_number m = if m.ss == 0 then m.auto_seg else m.ss
 
 -- where SS is the automatic data and the header's SP is 0, SP is the end of the stack
-abbrev pub first_sp : Loaded → ℕ
-first_sp m = if (stack_number m == m.auto_seg) && (m.sp == 0) then even (automatic_size m + m.stack) % 65536 else m.sp
+abbrev pub first_sp : Loaded → ℕ → ℕ
+first_sp m size = if (stack_number m == m.auto_seg) && (m.sp == 0) then even (size + m.stack) % 65536 else m.sp
 
-abbrev pub first_cpu : Start → Cpu
-first_cpu s = let m = s.program in record {
-  ax = selector_of (length m.segments + 1);
-  cx = if m.auto_seg == 0 then 0 else (automatic_size m + m.stack + m.heap) % 65536;
+-- static data, stack and heap together
+abbrev pub all_data : Loaded → Option ℕ → ℕ
+all_data m None = 0
+all_data m (Some size) = (size + m.stack + m.heap) % 65536
+
+abbrev pub data_selector : Loaded → Option ℕ → ℕ
+data_selector m None = 0
+data_selector m (Some size) = selector_of m.auto_seg
+
+-- by the number of segments and the size of the automatic data's image
+abbrev pub cpu_by : Loaded → ℕ → Option ℕ → ℕ → Cpu
+cpu_by m count size command = record {
+  ax = selector_of (count + 1);
+  cx = all_data m size;
   dx = m.stack;
-  bx = s.command;
-  sp = first_sp m;
+  bx = command;
+  sp = first_sp m (unwrap_or size 0);
   bp = 0;
   si = m.heap;
   di = m.place;
   ip = m.ip;
   flags = 0x0202;
   cs = selector_of m.cs;
-  ds = if m.auto_seg == 0 then 0 else selector_of m.auto_seg;
+  ds = data_selector m size;
   es = 0;
   ss = selector_of (stack_number m);
 }
+
+abbrev pub first_cpu : Start → Cpu
+first_cpu s = cpu_by s.program (length s.program.segments) (automatic_size s.program) s.command
 
 -- Refusals.
 
@@ -147,7 +160,7 @@ is_stack (Some s) = is_writable s.rights
 -- CS is code, and IP lies inside it
 abbrev pub is_entry : ℕ → Option LoadedSegment → Bool
 is_entry ip None = false
-is_entry ip (Some s) = is_code s.rights && nat_lt ip (length s.image)
+is_entry ip (Some s) = is_code s.rights && nat_lt ip (image_size s)
 
 -- a program has a stack and an entry point; a library has no entry point
 abbrev pub start_check : Loaded → Result (Unit {0}) ModuleFault

@@ -1,13 +1,14 @@
 // Laws of the boundless machine.
-ghost use Rattle.std.specs.Prelude.{◌≡◌, ◌≢◌, ◌-◌, ◌≤◌, ℕ, ◌++◌, [], ◌∷◌, codes, true, slice_get};
+ghost use Rattle.std.specs.Prelude.{◌≡◌, ◌≢◌, ◌-◌, ◌≤◌, ℕ, ◌++◌, [], ◌∷◌, codes, true, slice_get, Ok};
 ghost use Rattle.o2_world.specs.World.{World, Setting};
 ghost use Rattle.o2_world.specs.Sound.{IsSound};
 ghost use Rattle.o2_world.specs.Run.{after, step, next_dispatch, is_over, IsLast, console as console_text, report as report_text};
-ghost use Rattle.o2_world.specs.Hello.{hello_world, hello_setting, hello_report, hello_start, hello_write, text_of};
+ghost use Rattle.o2_world.specs.Hello.{hello_opening, hello_world, hello_setting, hello_report, hello_start, hello_write, text_of};
 
 /// A program that writes `hello` by DosWrite and ends by DosExit takes ten steps. Its console and its report are these,
 /// and with a budget of nine steps these fronts of them.
 pub fn hello_runs_in_ten_steps()
+    ensures opens { (budget : ℕ) → hello_opening budget ≡ Ok (hello_world budget) }
     ensures over { is_over (after hello_setting (hello_world 1000000) 10) ≡ true }
     ensures console { console_text (after hello_setting (hello_world 1000000) 10) ≡ codes "hello" }
     ensures report { report_text (after hello_setting (hello_world 1000000) 10) ≡ hello_report }

@@ -1,0 +1,5 @@
+pub mod Names
+pub mod Images
+pub mod Firsts
+pub mod Modules
+pub mod Wholes

@@ -1,0 +1,11 @@
+//! The start of processes: what each holds, its first registers, and why one is refused.
+#![tactic(auto)]
+
+mod build;
+mod first;
+mod holdings;
+mod process;
+mod segments;
+
+pub use build::Build;
+pub use process::start;
