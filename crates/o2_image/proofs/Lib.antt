@@ -4,11 +4,7 @@ pub mod CheckedChains
 pub mod ChainEnds
 pub mod Getting
 pub mod PlaceSteps
-pub mod ThinSteps
-pub mod ServiceSteps
-pub mod ForeignSteps
 pub mod FillSteps
 pub mod TotalSteps
 pub mod Shapes
-pub mod GateSteps
 pub mod Runnable

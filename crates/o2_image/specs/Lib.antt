@@ -9,5 +9,4 @@ pub mod Whole
 pub mod Getters
 pub mod Images
 pub mod ImageList
-pub mod Thin
 pub mod ChainViews

@@ -4,13 +4,11 @@
 mod chain;
 mod faults;
 mod fill;
-mod gates;
 mod images;
 mod module;
 mod records;
 mod references;
 mod targets;
-mod thin;
 
 pub use images::{Images, Resolved};
 pub use module::Module;

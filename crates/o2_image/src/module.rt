@@ -10,7 +10,7 @@ ghost use Rattle.o2_ne_segs.specs.Records.{end_of};
 ghost use Rattle.o2_ne_segs.specs.SegmentTable.{nth_segment, segments_of};
 ghost use Rattle.o2_image.specs.Faults.{under_ne, under_seg};
 ghost use Rattle.o2_image.specs.Getters.{imported_name, is_library, nth, nth_list, nth_reloc, reloc_total};
-ghost use Rattle.o2_image.specs.Modules.{auto_data_checks, is_code, is_writable, module_of};
+ghost use Rattle.o2_image.specs.Modules.{auto_data_checks, is_writable, module_of};
 ghost use Rattle.o2_image.specs.References.{all_references};
 ghost use Rattle.o2_image.specs.Whole.{HasAutoData, HasReference, IsRunnable};
 
@@ -97,13 +97,6 @@ pub(crate) fn is_writable(kind: Kind) -> bool
     ensures { result ≡ is_writable kind }
 {
     matches!(kind, Kind::Writable)
-}
-
-// Whether a segment is code.
-pub(crate) fn is_code(kind: Kind) -> bool
-    ensures { result ≡ is_code kind }
-{
-    matches!(kind, Kind::Code | Kind::CodeOnly)
 }
 
 // The automatic data segment, where there is one, is writable data, and fits with stack and heap.

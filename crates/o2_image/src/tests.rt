@@ -215,8 +215,6 @@ fn the_parts_of_a_program(rt: HostRuntime) -> Result<(), Fail> {
     assert_eq!(rt; module.segment(3), None);
     assert_eq!(rt; module.reloc(1, 1).map(|r| r.second), Some(5));
     assert_eq!(rt; module.reloc(1, 2), None);
-    assert!(rt; module.is_thin());
-    assert_eq!(rt; module.first_foreign(), None);
     Ok(())
 }
 
