@@ -4,3 +4,4 @@ pub mod Marking
 pub mod Gathered
 pub mod Indexes
 pub mod Consistent
+pub mod ServiceSteps

@@ -2,7 +2,7 @@ use Rattle.std.proofs.Common.{◌≡◌, ◌+◌, ℕ, Option, true, false, ap, 
 use Rattle.std.specs.Option.{option_map}
 use Rattle.o2_base.specs.Services.{ServiceRow, services}
 use Rattle.o2_ne.specs.NameTable.{same_name}
-use Rattle.o2_image.proofs.ServiceSteps.{found, goes_on, row_of}
+use Rattle.o2_dynlink.proofs.ServiceSteps.{found, goes_on, row_of}
 use Rattle.o2_dynlink.proofs.services.service_called.Goals as goal
 
 pub loop-k-init : goal.loop-k-init

@@ -1,0 +1,161 @@
+// The files that a command names: the machine file, and the modules.
+ghost use Rattle.std.specs.Prelude.{◌≡◌, ◌≤◌, ℕ, List, Option, Some, IfOk, IfErr, OnOk, length, [], ◌∷◌, ◌++◌};
+ghost use Rattle.o2_image.specs.Modules.{module_of};
+ghost use Rattle.o2_image.specs.Whole.{IsRunnable};
+ghost use Rattle.o2_conf.specs.Setting.{setting};
+ghost use Rattle.o2_open.specs.declared.status.Status.TheVariants as status;
+ghost use Rattle.o2_open.specs.Loads.{Contents, Loads, Tells, Refuses, under, module_in, as_program, program_in, programs_in, machine_in};
+ghost use Rattle.o2_conf.specs.Limits.{IsWithinLimits};
+
+use crate::Status;
+use o2_base::{Bytes, Fail, Key, MachineFault, ModuleFault, NoMemory, Which};
+use o2_conf::Conf;
+use o2_image::Module;
+use o2_outer::{Fetch, Files};
+use std::alloc::Global;
+
+/// The most bytes of an executable.
+const MODULE_BYTES: u32 = 4_194_304;
+
+/// The most bytes of a machine file.
+const MACHINE_BYTES: u32 = 1_048_576;
+
+/// There is no file of this name.
+fn no_file(alloc: Global, name: &Bytes) -> Status
+    ensures { Tells result (status.NoFile name.now) }
+{
+    match Bytes::from_slice(alloc, name.as_slice()) {
+        Ok(name) => Status::NoFile(name),
+        Err(NoMemory) => Status::NoMemory,
+    }
+}
+
+/// The module in this file is refused.
+pub fn bad_module(alloc: Global, name: &[u8], fault: ModuleFault) -> Status
+    ensures { Tells result (status.BadModule name.now fault) }
+{
+    match Bytes::from_slice(alloc, name) {
+        Ok(name) => Status::BadModule(name, fault),
+        Err(NoMemory) => Status::NoMemory,
+    }
+}
+
+/// The module of these bytes.
+fn checked(alloc: Global, name: &Bytes, file: Bytes) -> Result<Module, Status>
+    requires { length file ≤ 4194304 }
+    ensures exact { Loads (λ m. m) result (under (status.BadModule name.now) (module_of file)) }
+    ensures refuses { (faults : ℕ) → IfErr result (Refuses faults faults) }
+{
+    match Module::check(alloc, file) {
+        Ok(module) => Ok(module),
+        Err(Fail::NoMemory) => Err(Status::NoMemory),
+        Err(Fail::Bad(fault)) => Err(bad_module(alloc, name.as_slice(), fault)),
+    }
+}
+
+/// The module in a file.
+#[tactic(auto, unfolding(crate::specs::Loads::module_in))]
+pub fn module<F: Files>(alloc: Global, files: &mut F, name: &Bytes) -> Result<Module, Status>
+    ensures exact { (contents : Contents) → F.told files.old ≡ Some contents → Loads (λ m. m) result (module_in contents name.now) }
+    ensures refuses { IfErr result (Refuses (F.faults files.old) (F.faults files.new)) }
+    ensures told { F.told files.new ≡ F.told files.old }
+    ensures count { F.faults files.old ≤ F.faults files.new }
+{
+    match files.fetch(alloc, name, MODULE_BYTES) {
+        Fetch::NoFile => Err(no_file(alloc, name)),
+        Fetch::TooLong => Err(bad_module(
+            alloc,
+            name.as_slice(),
+            ModuleFault::OutOfProfile(Which::FileLength),
+        )),
+        Fetch::Failed => Err(Status::FileFault),
+        Fetch::NoMemory => Err(Status::NoMemory),
+        Fetch::Got(file) => checked(alloc, name, file),
+    }
+}
+
+/// The module, where it is a program.
+fn as_program(alloc: Global, name: &Bytes, program: Module) -> Result<Module, Status>
+    ensures exact { Loads (λ m. m) result (as_program name.now program) }
+    ensures refuses { (faults : ℕ) → IfErr result (Refuses faults faults) }
+{
+    if program.is_library() {
+        Err(bad_module(
+            alloc,
+            name.as_slice(),
+            ModuleFault::OutOfProfile(Which::NotYet),
+        ))
+    } else {
+        Ok(program)
+    }
+}
+
+/// The program in a file. Libraries aren't run yet.
+#[tactic(auto, unfolding(crate::specs::Loads::program_in))]
+fn program<F: Files>(alloc: Global, files: &mut F, name: &Bytes) -> Result<Module, Status>
+    ensures exact { (contents : Contents) → F.told files.old ≡ Some contents → Loads (λ m. m) result (program_in contents name.now) }
+    ensures refuses { IfErr result (Refuses (F.faults files.old) (F.faults files.new)) }
+    ensures told { F.told files.new ≡ F.told files.old }
+    ensures count { F.faults files.old ≤ F.faults files.new }
+{
+    let module = module(alloc, files, name)?;
+    as_program(alloc, name, module)
+}
+
+/// One more program.
+fn add(modules: &mut Vec<Module>, program: Module) -> Result<(), Status>
+    ensures added { OnOk result (modules.new.items ≡ modules.old.items ++ program ∷ []) }
+    ensures refuses { (faults : ℕ) → IfErr result (Refuses faults faults) }
+    ensures memory { IfErr result (λ s. s ≡ status.NoMemory) }
+{
+    match modules.push(program) {
+        Ok(()) => Ok(()),
+        Err(_) => Err(Status::NoMemory),
+    }
+}
+
+/// The programs in these files, one after the other.
+pub fn programs<F: Files>(alloc: Global, files: &mut F, names: &[Bytes]) -> Result<Vec<Module>, Status>
+    ensures exact { (contents : Contents) → F.told files.old ≡ Some contents → Loads (λ v. v.items) result (programs_in contents names.now []) }
+    ensures count_of { IfOk result (λ v. length v.items ≡ length names.now) }
+    ensures refuses { IfErr result (Refuses (F.faults files.old) (F.faults files.new)) }
+    ensures count { F.faults files.old ≤ F.faults files.new }
+{
+    let mut modules = Vec::new(alloc);
+    for name in names {
+        let program = program(alloc, files, name)?;
+        add(&mut modules, program)?;
+    }
+    Ok(modules)
+}
+
+/// The setting of these bytes.
+fn setting_of(alloc: Global, file: &Bytes) -> Result<Conf, Status>
+    ensures exact { Loads (λ c. c) result (under status.BadMachine (setting file.now)) }
+    ensures within { IfOk result IsWithinLimits }
+    ensures refuses { (faults : ℕ) → IfErr result (Refuses faults faults) }
+{
+    match Conf::read(alloc, file.as_slice()) {
+        Ok(conf) => Ok(conf),
+        Err(Fail::NoMemory) => Err(Status::NoMemory),
+        Err(Fail::Bad(fault)) => Err(Status::BadMachine(fault)),
+    }
+}
+
+/// The setting in a machine file.
+#[tactic(auto, unfolding(crate::specs::Loads::machine_in))]
+pub fn machine<F: Files>(alloc: Global, files: &mut F, name: &Bytes) -> Result<Conf, Status>
+    ensures exact { (contents : Contents) → F.told files.old ≡ Some contents → Loads (λ c. c) result (machine_in contents name.now) }
+    ensures within { IfOk result IsWithinLimits }
+    ensures refuses { IfErr result (Refuses (F.faults files.old) (F.faults files.new)) }
+    ensures told { F.told files.new ≡ F.told files.old }
+    ensures count { F.faults files.old ≤ F.faults files.new }
+{
+    match files.fetch(alloc, name, MACHINE_BYTES) {
+        Fetch::NoFile => Err(no_file(alloc, name)),
+        Fetch::TooLong => Err(Status::BadMachine(MachineFault::Limit(Key::File))),
+        Fetch::Failed => Err(Status::FileFault),
+        Fetch::NoMemory => Err(Status::NoMemory),
+        Fetch::Got(file) => setting_of(alloc, &file),
+    }
+}

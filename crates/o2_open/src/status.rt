@@ -1,0 +1,32 @@
+// What the top call answers.
+
+use o2_base::{Bytes, MachineFault, ModuleFault};
+
+/// What the top call answers.
+#[derive(Debug, Drop)]
+pub enum Status {
+    /// 0: the run is over, or the command is done.
+    Fine,
+    /// 1: the words are no command.
+    BadWords,
+    /// 2: there is no file of this name.
+    NoFile(Bytes),
+    /// 3: the machine file has no reading.
+    BadMachine(MachineFault),
+    /// 4: the module in this file is refused.
+    BadModule(Bytes, ModuleFault),
+    /// 5: the files failed.
+    FileFault,
+    /// 6: the input failed.
+    InputFault,
+    /// 7: a sink failed.
+    SinkFault,
+    /// 8: the next step needs more memory than there is.
+    NoRoom,
+    /// 9: there are too few swap blocks.
+    SwapFull,
+    /// 10: the swap device failed.
+    SwapFault,
+    /// 11: memory was wanted and not given.
+    NoMemory,
+}
