@@ -115,7 +115,11 @@ fn add(modules: &mut Vec<Module>, program: Module) -> Result<(), Status>
 }
 
 /// The programs in these files, one after the other.
-pub fn programs<F: Files>(alloc: Global, files: &mut F, names: &[Bytes]) -> Result<Vec<Module>, Status>
+pub fn programs<F: Files>(
+    alloc: Global,
+    files: &mut F,
+    names: &[Bytes],
+) -> Result<Vec<Module>, Status>
     ensures exact { (contents : Contents) → F.told files.old ≡ Some contents → Loads (λ v. v.items) result (programs_in contents names.now []) }
     ensures count_of { IfOk result (λ v. length v.items ≡ length names.now) }
     ensures refuses { IfErr result (Refuses (F.faults files.old) (F.faults files.new)) }

@@ -2,8 +2,10 @@
 #![tactic(auto)]
 
 mod files;
+mod opening;
 mod session;
 mod status;
 
-pub use session::{Session, open};
+pub use opening::open;
+pub use session::Session;
 pub use status::Status;
