@@ -1,23 +1,27 @@
 -- One process more.
-use Rattle.std.proofs.Common.{◌≡◌, ◌≢◌, ℕ, zero, suc, Bool, true, false, ◌≤◌, ◌<◌, ◌+◌, ◌-◌, List, [], ◌∷◌, ◌++◌, length, Option, Some, None, if◌then◌else◌, ◌==◌, ap, sym, ◌∙◌, refl, arith, subst, length-append}
-use Rattle.std.specs.Prelude.{slice_get, fold, Result, Ok, Err}
+use Rattle.std.proofs.Common.{◌≡◌, ◌≢◌, ℕ, zero, suc, Bool, true, false, ◌≤◌, ◌<◌, ◌+◌, ◌-◌, List, [], ◌∷◌, ◌++◌, length, Option, Some, None, if◌then◌else◌, ◌==◌, ap, sym, ◌∙◌, refl, arith, subst, length-append, append-nil, append_assoc}
+use Rattle.std.specs.Prelude.{slice_get, fold, map, Result, Ok, Err}
 use Rattle.o2_base.specs.declared.faults.ModuleFault.{ModuleFault}
 use Rattle.o2_isa.specs.declared.cpu.Cpu.{Cpu}
 use Rattle.o2_isa.specs.View.{Hold}
-use Rattle.o2_bus.specs.Plain.{held_in, bytes_in, shown_in, count_in}
+use Rattle.o2_bus.specs.Plain.{held_in, bytes_in, shown_in, count_in, segment_bytes as stored_bytes}
+use Rattle.o2_bus.specs.declared.plain.Plain.{Plain}
+use Rattle.o2_bus.specs.declared.segment.Segment.{Segment as Stored}
 use Rattle.o2_dynlink.specs.Outcome.{LinkedParts}
 use Rattle.o2_world.specs.declared.types.State.TheVariants.{Live}
-use Rattle.o2_world.specs.World.{Process}
+use Rattle.o2_world.specs.World.{Process, Line}
+use Rattle.o2_world.specs.Opening.{start_lines}
+use Rattle.std.proofs.lemmas.List.{length-map}
 use Rattle.o2_world.specs.Map.{Map}
 use Rattle.o2_world.specs.Views.{holds_in, bytes_in as bytes_of}
-use Rattle.o2_world.specs.Starts.{Built, Start, Holding, first_cpu, holdings, holds_as, name_in, with_holding, with_holdings, with_started, started_as, next_started}
+use Rattle.o2_world.specs.Starts.{Built, nothing_built, Start, Holding, first_cpu, holdings, holds_as, name_in, with_holding, with_holdings, with_started, started_as, next_started}
 use Rattle.o2_load.specs.declared.build.Build.{Build}
 use Rattle.o2_load.specs.declared.begun.Begun.{Begun}
 use Rattle.o2_load.specs.Holds.{IsHolding, OthersStay}
 use Rattle.o2_base.specs.declared.memory.Fail.{Fail}
 use Rattle.o2_base.specs.declared.memory.Fail.TheVariants.{NoMemory, Bad}
 use Rattle.o2_load.specs.Started.{HasStarted, StartsAs}
-use Rattle.o2_load.specs.Beginnings.{IsFirst, IsFirstAt, IsBegun, BeginsAs}
+use Rattle.o2_load.specs.Beginnings.{IsFirst, IsFirstAt, IsBegun, BeginsAs, lines_from, program_name}
 
 -- holding changes no process that has started
 same_as : (b : Built) (h : Holding) (o : Option ℕ) → (holds_as b h o).processes ≡ b.processes
@@ -27,6 +31,21 @@ same_as b h (Some name) = refl
 pub same_processes : (hs : List Holding) (b : Built) → (with_holdings b hs).processes ≡ b.processes
 same_processes [] b = refl
 same_processes (h ∷ hs) b = same_processes hs (with_holding b h) ∙ same_as b h (if h.common then name_in b.made h.place h.number else None)
+
+lines_as : (b : Built) (h : Holding) (o : Option ℕ) → (holds_as b h o).lines ≡ b.lines
+lines_as b h None = refl
+lines_as b h (Some name) = refl
+
+same_lines : (hs : List Holding) (b : Built) → (with_holdings b hs).lines ≡ b.lines
+same_lines [] b = refl
+same_lines (h ∷ hs) b = same_lines hs (with_holding b h) ∙ lines_as b h (if h.common then name_in b.made h.place h.number else None)
+
+-- the lines of one start more
+lines_more : (l : LinkedParts) (n k : ℕ) (xss : List (List ℕ)) (xs : List ℕ) → k ≡ n + length xss → lines_from l n (xss ++ xs ∷ []) ≡ lines_from l n xss ++ start_lines k (program_name l k) xs
+lines_more l n k [] xs e = append-nil (start_lines n (program_name l n) xs) ∙ ap (λ (i : ℕ). start_lines i (program_name l i) xs) (let same : n ≡ k = omega (arith, e) in same)
+lines_more l n k (ys ∷ xss) xs e =
+    ap (λ (z : List Line). start_lines n (program_name l n) ys ++ z) (lines_more l (n + 1) k xss xs (omega (arith, e)))
+    ∙ sym (append_assoc (start_lines n (program_name l n) ys) (lines_from l (n + 1) xss) (start_lines k (program_name l k) xs))
 
 past_end : (o : Option Cpu) (holds : ℕ → Option Hold) (u : Option Process) → o ≡ None → IsFirstAt o holds u → (j : ℕ) → None ≡ holds j
 past_end None holds None e is = is
@@ -68,7 +87,7 @@ placed (d ∷ cs) (q ∷ ps) c p old new same first stays each (suc i) =
 module _ (m new : Begun) (after : Build) (l : LinkedParts) (s : Start) (b : Built) (pid : ℕ) (c : Cpu) (e : pid ≡ length m.cpus.items + 1) (is : IsBegun m l b)
     (others : OthersStay m.build after pid) (holds : IsHolding after pid (with_holdings b (holdings pid s))) (first : c ≡ first_cpu s)
     (plain : new.build.plain ≡ after.plain) (made : new.build.made.items ≡ after.made.items) (fresh : new.build.selectors.items ≡ []) (cpus : new.cpus.items ≡ m.cpus.items ++ c ∷ [])
-    (rows : length new.starts.items ≡ length m.starts.items + 1) where
+    (rows : map (λ v. v.items) new.starts.items ≡ map (λ v. v.items) m.starts.items ++ after.selectors.items ∷ []) (name : s.program.name ≡ program_name l pid) where
   pub done : Built
   done = with_started pid s (with_holdings b (holdings pid s))
 
@@ -100,7 +119,21 @@ module _ (m new : Begun) (after : Build) (l : LinkedParts) (s : Start) (b : Buil
         let two = length-append m.cpus.items (c ∷ []) in
         let all = ap (λ (cs : List Cpu). length cs) cpus in
         omega (arith, old, one, two, all, is.same);
-    rows = let two = length-append m.cpus.items (c ∷ []) in let all = ap (λ (cs : List Cpu). length cs) cpus in omega (arith, rows, two, all, is.rows);
+    rows =
+        let two = length-append m.cpus.items (c ∷ []) in
+        let all = ap (λ (cs : List Cpu). length cs) cpus in
+        let three = length-append (map (λ v. v.items) m.starts.items) (after.selectors.items ∷ []) in
+        let four = ap (λ (xs : List (List ℕ)). length xs) rows in
+        let five = length-map new.starts.items (λ v. v.items) in
+        let six = length-map m.starts.items (λ v. v.items) in
+        omega (arith, two, all, three, four, five, six, is.rows);
+    lines =
+        let size = length-map m.starts.items (λ v. v.items) in
+        ap (λ (z : List Line). z ++ start_lines pid s.program.name (with_holdings b (holdings pid s)).selectors) (same_lines (holdings pid s) b ∙ is.lines)
+        ∙ ap (λ (z : List ℕ). lines_from l 1 (map (λ v. v.items) m.starts.items) ++ start_lines pid z (with_holdings b (holdings pid s)).selectors) name
+        ∙ ap (λ (z : List ℕ). lines_from l 1 (map (λ v. v.items) m.starts.items) ++ start_lines pid (program_name l pid) z) holds.selectors
+        ∙ sym (lines_more l 1 pid (map (λ v. v.items) m.starts.items) after.selectors.items (omega (arith, e, size, is.rows)))
+        ∙ ap (lines_from l 1) (sym rows);
   }
 
   pub next_is : (most : ℕ) → started_as most pid s b ≡ Ok (with_started pid s (with_holdings b (holdings pid s))) → next_started most (Ok b) s ≡ Ok done
@@ -116,3 +149,29 @@ pub refused_next : (m : Begun) (after : Build) (l : LinkedParts) (s : Start) (b 
     → StartsAs after most pid s b (Err r) → BeginsAs new l (next_started most (Ok b) s) pid (Err r)
 refused_next m after l s b pid most NoMemory e is new starts = tt
 refused_next m after l s b pid most (Bad fault) e is new starts = ap (λ (n : ℕ). started_as most n s b) (omega (arith, e, is.same)) ∙ starts
+
+nothing_stored : (ss : List Stored) (n : ℕ) → length ss ≡ 0 → stored_bytes (slice_get ss n) ≡ []
+nothing_stored [] n e = refl
+nothing_stored (s ∷ ss) n e = absurd (omega (arith, e))
+
+nothing_in : (p : Plain) (n : ℕ) → count_in p ≡ 0 → bytes_in p n ≡ []
+unfolding count_in bytes_in
+nothing_in p n e = nothing_stored p.segments.items n e
+
+-- no process has started
+pub nothing_begun : (m : Begun) (l : LinkedParts) → count_in m.build.plain ≡ 0 → ((q i : ℕ) → held_in m.build.plain q i ≡ None) → ((n : ℕ) → shown_in m.build.plain n ≡ true)
+    → m.build.made.items ≡ [] → m.build.selectors.items ≡ [] → m.cpus.items ≡ [] → m.starts.items ≡ [] → IsBegun m l nothing_built
+nothing_begun m l count held shown made selectors cpus starts = record {
+  count = count;
+  bytes = λ n. sym (nothing_in m.build.plain n count);
+  shown = shown;
+  made = sym made;
+  none = λ j. sym (held 0 j);
+  places = λ i. subst (λ (cs : List Cpu). IsFirstAt (slice_get cs i) (held_in m.build.plain (i + 1)) None) (sym cpus) (λ j. sym (held (i + 1) j));
+  idle = refl;
+  ready = refl;
+  fresh = selectors;
+  same = ap (λ (cs : List Cpu). length cs) (sym cpus);
+  rows = ap length starts ∙ ap (λ (cs : List Cpu). length cs) (sym cpus);
+  lines = ap (λ vs. lines_from l 1 (map (λ v. v.items) vs)) (sym starts);
+}

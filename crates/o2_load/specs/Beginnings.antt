@@ -1,5 +1,5 @@
 -- What a memory and the first registers stand for, once some processes have started.
-use Rattle.std.specs.Prelude.{◌≡◌, ℕ, ◌+◌, true, List, [], ◌∷◌, ◌++◌, length, Option, Some, None, Result, Ok, Err, slice_get}
+use Rattle.std.specs.Prelude.{◌≡◌, ℕ, ◌+◌, true, List, [], ◌∷◌, ◌++◌, length, Option, Some, None, Result, Ok, Err, map, slice_get}
 use Rattle.o2_base.specs.declared.memory.Fail.{Fail}
 use Rattle.o2_base.specs.declared.memory.Fail.TheVariants.{NoMemory, Bad}
 use Rattle.o2_base.specs.declared.faults.ModuleFault.{ModuleFault}
@@ -49,6 +49,7 @@ pub record IsBegun (m : Begun) (l : LinkedParts) (b : Built) : Type 0 where
   pub fresh : m.build.selectors.items ≡ []
   pub same : length b.processes ≡ length m.cpus.items
   pub rows : length m.starts.items ≡ length m.cpus.items
+  pub lines : b.lines ≡ lines_from l 1 (map (λ v. v.items) m.starts.items)
 
 -- one process more, or its refusal
 abbrev pub BeginsAs : Begun → LinkedParts → Result Built (ℕ × ModuleFault) → ℕ → Result (Unit {0}) (Fail ModuleFault) → Type 0

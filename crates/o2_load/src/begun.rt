@@ -3,9 +3,10 @@ ghost use Rattle.std.specs.Prelude.{◌≡◌, ◌≢◌, ◌≤◌, ◌<◌, �
 ghost use Rattle.o2_bus.specs.Plain.{count_in};
 ghost use Rattle.o2_conf.specs.declared.process.Process.{Process};
 ghost use Rattle.o2_conf.specs.Environments.{environment_bytes, command_place};
+ghost use Rattle.o2_dynlink.specs.Outcome.{LinkedParts};
 ghost use Rattle.o2_image.specs.Getters.{nth_list};
 ghost use Rattle.o2_image.specs.ImageList.{Exists};
-ghost use Rattle.o2_world.specs.Starts.{Built, next_started};
+ghost use Rattle.o2_world.specs.Starts.{Built, nothing_built, next_started};
 ghost use Rattle.o2_load.specs.Holds.{AreBelow};
 ghost use Rattle.o2_load.specs.Loads.{start_of};
 ghost use Rattle.o2_load.specs.Beginnings.{IsBegun, BeginsAs};
@@ -29,6 +30,7 @@ pub struct Begun {
 impl Begun {
     /// No process has started.
     pub fn new(alloc: Global) -> Result<Begun, NoMemory>
+        ensures begins { (l : LinkedParts) → IfOk result (λ m. IsBegun m l nothing_built) }
         ensures cpus { IfOk result (λ m. m.cpus.items ≡ []) }
         ensures below { IfOk result (λ m. AreBelow m.build.made.items (count_in m.build.plain)) }
     {

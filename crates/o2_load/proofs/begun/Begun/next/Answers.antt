@@ -1,5 +1,7 @@
 use Rattle.std.proofs.Common.{◌≡◌, ℕ, List, length, ◌++◌, ◌∷◌, [], sym, ◌∙◌, ap, refl, arith, length-append}
 use Rattle.o2_load.specs.declared.begun.Begun.{Begun}
+use Rattle.std.specs.Prelude.{map}
+use Rattle.std.proofs.lemmas.List.{map-append}
 use Rattle.o2_load.specs.Loads.{start_of}
 use Rattle.o2_load.proofs.Nexts.{ready_for, refused_next, begins}
 use Rattle.o2_load.proofs.begun.Begun.next.Goals as goal
@@ -17,5 +19,6 @@ returns-in_ok-push-in-Ok-2-clause-begins c = λ p b e f is.
     c.start.new.build c.args.linked.now (start_of c.args.linked.now c.args.pid p) b c.args.pid c.in-Ok.cpu c.requires.number is c.in-Ok.ensures.others started.holds started.cpu refl refl
     (ap (λ v. v.items) c.replace-selectors.ensures.after ∙ c.new.ensures.items)
     c.in_ok-push-in-Ok-2.ensures.items
-    (ap length c.in_ok-push-in-Ok.ensures.items ∙ length-append c.args.self.now.starts.items (c.replace-selectors.result ∷ []))
+    (ap (map (λ v. v.items)) c.in_ok-push-in-Ok.ensures.items ∙ map-append (λ v. v.items) c.args.self.now.starts.items (c.replace-selectors.result ∷ []) ∙ ap (λ z. map (λ v. v.items) c.args.self.now.starts.items ++ z ∷ []) (ap (λ v. v.items) c.replace-selectors.ensures.value))
+    refl
     c.args.most started.starts
