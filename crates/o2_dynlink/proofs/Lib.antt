@@ -1,0 +1,6 @@
+pub mod Items
+pub mod Rows
+pub mod Marking
+pub mod Gathered
+pub mod Indexes
+pub mod Consistent

@@ -1,2 +1,7 @@
+pub mod Listed
 pub mod Selectors
+pub mod Imports
+pub mod Reached
+pub mod Marks
 pub mod Outcome
+pub mod Linking

@@ -1,8 +1,20 @@
 //! Linking: which modules and services the imports of each module lead to.
 #![tactic(auto)]
 
+mod checks;
+mod environments;
 mod fault;
+mod imports;
 mod linked;
+mod listed;
+mod reached;
+mod refusals;
+mod selectors;
+mod services;
 
+pub use checks::link;
 pub use fault::LinkFault;
 pub use linked::Linked;
+
+#[cfg(test)]
+mod tests;

@@ -1,9 +1,11 @@
 // What linking gives.
-ghost use Rattle.std.specs.Prelude.{◌≡◌, ◌≤◌, IfSome};
+ghost use Rattle.std.specs.Prelude.{◌≡◌, ◌≤◌, map, IfSome};
 ghost use Rattle.o2_image.specs.Getters.{nth, nth_list};
 ghost use Rattle.o2_image.specs.ImageList.{Exists};
-ghost use Rattle.o2_dynlink.specs.Outcome.{IsConsistent};
+ghost use Rattle.o2_dynlink.specs.Outcome.{IsConsistent, modules_of};
+ghost use Rattle.o2_dynlink.specs.Selectors.{bases_of, index_of};
 
+use crate::selectors::base_at;
 use o2_image::Images;
 use std::marker::Model;
 
@@ -12,23 +14,44 @@ use std::marker::Model;
 #[derive(Drop)]
 pub struct Linked {
     images: Images,
+    bases: Vec<u16>,
     programs: Vec<u16>,
     libraries: Vec<Vec<u16>>,
 }
 
 impl Model for Linked {
-    ghost use Rattle.std.specs.Prelude.{map};
-    ghost use Rattle.o2_dynlink.specs.Outcome.{IsConsistent, LinkedParts};
+    ghost use Rattle.std.specs.Prelude.{◌≡◌, map};
+    ghost use Rattle.o2_dynlink.specs.Outcome.{IsConsistent, LinkedParts, modules_of};
+    ghost use Rattle.o2_dynlink.specs.Selectors.{bases_of};
 
     ghost Value = { LinkedParts };
 
     ghost view = { λ l. record { images = l.images; programs = l.programs.items; libraries = map (λ v. v.items) l.libraries.items } };
 
-    ghost invariant = { λ l. IsConsistent (record { images = l.images; programs = l.programs.items; libraries = map (λ v. v.items) l.libraries.items }) };
+    ghost invariant = { λ l. IsConsistent (record { images = l.images; programs = l.programs.items; libraries = map (λ v. v.items) l.libraries.items }) × (l.bases.items ≡ bases_of (modules_of l.images)) };
 }
 
 impl Linked {
-    /// The images of the run.
+    // The outcome of linking.
+    pub(crate) fn new(
+        images: Images,
+        bases: Vec<u16>,
+        programs: Vec<u16>,
+        libraries: Vec<Vec<u16>>,
+    ) -> Linked
+        requires consistent { IsConsistent (record { images = images; programs = programs.items; libraries = map (λ v. v.items) libraries.items }) }
+        requires bases { bases.items ≡ bases_of (modules_of images) }
+        ensures { result ≡ record { images = images; programs = programs.items; libraries = map (λ v. v.items) libraries.items } }
+    {
+        Linked {
+            images,
+            bases,
+            programs,
+            libraries,
+        }
+    }
+
+    /// The images of the run, and what holds of each outcome.
     pub fn images(&self) -> &Images
         ensures value { result.now ≡ self.now.images }
         ensures consistent { IsConsistent self.now }
@@ -51,8 +74,23 @@ impl Linked {
     /// once, by rising place.
     pub fn libraries(&self, pid: u16) -> &[u16]
         requires { Exists self.now.libraries pid }
-        ensures value { result.now ≡ nth_list self.now.libraries pid }
+        ensures { result.now ≡ nth_list self.now.libraries pid }
     {
         self.libraries[usize::from(pid) - 1].as_slice()
+    }
+
+    /// The index in the local descriptor table, 1 to 8191, of a segment of the module at a place. None exactly where there is
+    /// no such segment.
+    pub fn index(&self, module: u16, seg: u16) -> Option<u16>
+        ensures value { result ≡ index_of (modules_of self.now.images) «module» seg }
+        ensures within { IfSome result (λ i. i ≤ 8191) }
+    {
+        let Some(found) = self.images.module(module) else {
+            return None;
+        };
+        if seg < 1 || seg > found.segment_count() {
+            return None;
+        }
+        Some(base_at(self.bases.as_slice(), module) + seg)
     }
 }

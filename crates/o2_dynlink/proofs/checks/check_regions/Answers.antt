@@ -1,0 +1,25 @@
+use Rattle.std.proofs.Common.{◌≡◌, ℕ, Ok, Result, ap, ◌∙◌, arith, length}
+use Rattle.std.proofs.lemmas.Result.{err_from_is_err_and}
+use Rattle.o2_ne.proofs.Overwise.{is_done}
+use Rattle.o2_dynlink.proofs.Rows.{item_fails_here, item_goes_on}
+use Rattle.o2_dynlink.specs.declared.fault.LinkFault.{LinkFault}
+use Rattle.o2_dynlink.proofs.Indexes.{more_fit}
+use Rattle.o2_dynlink.proofs.checks.check_regions.Goals as goal
+
+pub returns-in_err-check_region-clause-steps : goal.returns-in_err-check_region-clause-steps
+returns-in_err-check_region-clause-steps c =
+    let p = err_from_is_err_and c.from_residual.result c.from_residual.ensures.1 in
+    rw (p.1, p.2) (item_fails_here c.in_err-check_region.field-0.0 _ _ _ _ _ _ c.loop-module-test.true c.module-item.is c.in_err-check_region.ensures.step c.loop-module.invariant.so_far)
+
+pub loop-module-preserved : goal.loop-module-preserved
+loop-module-preserved c = record {
+  so_far = item_goes_on _ _ _ _ _ _ _ c.loop-module-test.true c.module-item.is c.in_ok-check_region.ensures.step c.loop-module.invariant.so_far;
+  at = omega arith;
+  fit = more_fit _ _ _ _ _ c.loop-module-test.true c.module-item.is c.loop-module.invariant.at c.loop-module.invariant.fit c.in_ok-check_region.ensures.fits;
+}
+
+pub returns-clause-steps : goal.returns-clause-steps
+returns-clause-steps c =
+    let all : c.loop-module.i ≡ length c.args.modules.now = omega arith in
+    let ok : ℕ → Result ℕ LinkFault = λ n. Ok n in
+    is_done _ _ _ _ _ c.loop-module-test.false c.loop-module.invariant.so_far ∙ ap ok all

@@ -1,0 +1,274 @@
+// Where the records of a module lead: within it, to a service, or to what a library exports.
+ghost use Rattle.std.specs.Prelude.{◌≡◌, ◌≤◌, ◌<◌, ℕ, length, map, option_and_then, option_map, slice_get, Some};
+ghost use Rattle.o2_ne.specs.Steps.{Gives, over};
+ghost use Rattle.o2_ne.specs.EntryTable.{target_of};
+ghost use Rattle.o2_ne.specs.NameTable.{ordinal_of};
+ghost use Rattle.o2_image.specs.Getters.{imported_name, nth, nth_list};
+ghost use Rattle.o2_image.specs.ImageList.{Exists};
+ghost use Rattle.o2_image.specs.Images.{Target};
+ghost use Rattle.o2_dynlink.specs.Imports.{each, exported, exported_as, gather, import_name, import_ordinal, import_text, imported, internal, target_in, targets_of};
+ghost use Rattle.o2_dynlink.specs.Selectors.{base_at};
+
+use crate::listed::{is_doscalls, library_named};
+use crate::refusals::{no_module, no_name, no_ordinal};
+use crate::selectors::{base_at, point};
+use crate::services::{import_service, import_service_called};
+use o2_base::{Fail, ModuleFault};
+use o2_conf::Ordinals;
+use o2_image::Module;
+use o2_ne_segs::Reloc;
+use std::alloc::Global;
+
+// What imports are looked up in: the listed modules, what is added to the numbers of the segments of each, and the ordinals
+// of the services.
+#[derive(Drop)]
+pub(crate) struct Scope<'a> {
+    pub(crate) modules: &'a [Module],
+    pub(crate) bases: &'a [u16],
+    pub(crate) ordinals: &'a Ordinals,
+}
+
+// An entry of the library at a place, by its ordinal.
+fn exported(
+    alloc: Global,
+    scope: &Scope,
+    place: u16,
+    name: &[u8],
+    ordinal: u16,
+) -> Result<(u16, u16), Fail<ModuleFault>>
+    requires exists { Exists scope.now.modules.now place }
+    requires same { length scope.now.bases.now ≡ length scope.now.modules.now }
+    ensures { Gives (λ t. t) result (exported (base_at scope.now.bases.now place) name.now ordinal (nth scope.now.modules.now place)) }
+{
+    let module = &scope.modules[usize::from(place) - 1];
+    match module.entries().get(ordinal) {
+        Some(entry) => Ok(point(base_at(scope.bases, place), entry)),
+        None => no_ordinal(alloc, name, ordinal),
+    }
+}
+
+// Where a name of a library leads, by the ordinal that it has.
+fn entry_called(module: &Module, text: &[u8]) -> Option<(u8, u16)>
+    ensures { result ≡ option_and_then (λ n. target_of n «module».now.entries) (ordinal_of text.now «module».now.names.names) }
+{
+    match module.names().ordinal(text) {
+        Some(ordinal) => module.entries().get(ordinal),
+        None => None,
+    }
+}
+
+// An entry of the library at a place, by its name.
+fn exported_as(
+    alloc: Global,
+    scope: &Scope,
+    place: u16,
+    name: &[u8],
+    text: &[u8],
+) -> Result<(u16, u16), Fail<ModuleFault>>
+    requires exists { Exists scope.now.modules.now place }
+    requires same { length scope.now.bases.now ≡ length scope.now.modules.now }
+    ensures { Gives (λ t. t) result (exported_as (base_at scope.now.bases.now place) name.now text.now (nth scope.now.modules.now place)) }
+{
+    let module = &scope.modules[usize::from(place) - 1];
+    match entry_called(module, text) {
+        Some(entry) => Ok(point(base_at(scope.bases, place), entry)),
+        None => no_name(alloc, name, text),
+    }
+}
+
+// An import by ordinal of the module of a name.
+fn import_ordinal(
+    alloc: Global,
+    scope: &Scope,
+    name: &[u8],
+    ordinal: u16,
+) -> Result<(u16, u16), Fail<ModuleFault>>
+    requires few { length scope.now.modules.now ≤ 64 }
+    requires same { length scope.now.bases.now ≡ length scope.now.modules.now }
+    ensures { Gives (λ t. t) result (import_ordinal scope.now.modules.now scope.now.bases.now scope.now.ordinals.now name.now ordinal) }
+{
+    if is_doscalls(name) {
+        return import_service(alloc, scope.ordinals, ordinal);
+    }
+    match library_named(scope.modules, name) {
+        Some(place) => exported(alloc, scope, place, name, ordinal),
+        None => no_module(alloc, name),
+    }
+}
+
+// An import by name of the module of a name.
+fn import_name(
+    alloc: Global,
+    scope: &Scope,
+    name: &[u8],
+    text: &[u8],
+) -> Result<(u16, u16), Fail<ModuleFault>>
+    requires few { length scope.now.modules.now ≤ 64 }
+    requires same { length scope.now.bases.now ≡ length scope.now.modules.now }
+    ensures { Gives (λ t. t) result (import_name scope.now.modules.now scope.now.bases.now name.now text.now) }
+{
+    if is_doscalls(name) {
+        return import_service_called(alloc, text);
+    }
+    match library_named(scope.modules, name) {
+        Some(place) => exported_as(alloc, scope, place, name, text),
+        None => no_module(alloc, name),
+    }
+}
+
+// A segment of the module itself, or an entry of it.
+fn internal(base: u16, module: &Module, reloc: &Reloc) -> (u16, u16)
+    ensures { result ≡ internal base «module».now reloc.now }
+{
+    let segment = (reloc.first % 256) as u8;
+    if segment == 255 {
+        return match module.entries().get(reloc.second) {
+            Some(entry) => point(base, entry),
+            None => (0, 0),
+        };
+    }
+    point(base, (segment, reloc.second))
+}
+
+// An import by the name at an offset.
+fn import_text(
+    alloc: Global,
+    scope: &Scope,
+    module: &Module,
+    name: &[u8],
+    at: u16,
+) -> Result<(u16, u16), Fail<ModuleFault>>
+    requires few { length scope.now.modules.now ≤ 64 }
+    requires same { length scope.now.bases.now ≡ length scope.now.modules.now }
+    ensures { Gives (λ t. t) result (import_text scope.now.modules.now scope.now.bases.now name.now (imported_name «module».now at)) }
+{
+    match module.imported(at) {
+        Some(text) => import_name(alloc, scope, name, text),
+        None => Ok((0, 0)),
+    }
+}
+
+// An import of a reference.
+fn imported(
+    alloc: Global,
+    scope: &Scope,
+    module: &Module,
+    reloc: &Reloc,
+) -> Result<(u16, u16), Fail<ModuleFault>>
+    requires few { length scope.now.modules.now ≤ 64 }
+    requires same { length scope.now.bases.now ≡ length scope.now.modules.now }
+    ensures { Gives (λ t. t) result (imported scope.now.modules.now scope.now.bases.now scope.now.ordinals.now «module».now reloc.now (nth «module».now.references reloc.now.first)) }
+{
+    let Some(name) = module.reference(reloc.first) else {
+        return Ok((0, 0));
+    };
+    if reloc.flags & 3 == 1 {
+        return import_ordinal(alloc, scope, name, reloc.second);
+    }
+    import_text(alloc, scope, module, name, reloc.second)
+}
+
+// Where a record of a module with this base leads.
+fn target_in(
+    alloc: Global,
+    scope: &Scope,
+    base: u16,
+    module: &Module,
+    reloc: &Reloc,
+) -> Result<(u16, u16), Fail<ModuleFault>>
+    requires few { length scope.now.modules.now ≤ 64 }
+    requires same { length scope.now.bases.now ≡ length scope.now.modules.now }
+    ensures { Gives (λ t. t) result (target_in scope.now.modules.now scope.now.bases.now scope.now.ordinals.now base «module».now reloc.now) }
+{
+    match reloc.flags & 3 {
+        0 => Ok(internal(base, module, reloc)),
+        3 => Ok((0, 0)),
+        _ => imported(alloc, scope, module, reloc),
+    }
+}
+
+// One target more.
+fn add_target(
+    alloc: Global,
+    scope: &Scope,
+    base: u16,
+    module: &Module,
+    reloc: &Reloc,
+    found: &mut Vec<(u16, u16)>,
+) -> Result<(), Fail<ModuleFault>>
+    requires few { length scope.now.modules.now ≤ 64 }
+    requires same { length scope.now.bases.now ≡ length scope.now.modules.now }
+    ensures { Gives (λ _. found.new.items) result (gather (target_in scope.now.modules.now scope.now.bases.now scope.now.ordinals.now base «module».now) reloc.now found.old.items) }
+{
+    let target = target_in(alloc, scope, base, module, reloc)?;
+    found.push(target)?;
+    Ok(())
+}
+
+// A record of a segment by its number from 0.
+fn record_at(module: &Module, seg: u16, k: u16) -> Reloc
+    requires { k < length (nth_list «module».now.relocs seg) }
+    ensures { slice_get (nth_list «module».now.relocs seg) k ≡ Some result }
+{
+    match module.reloc(seg, k) {
+        Some(reloc) => reloc,
+        None => unreachable!(),
+    }
+}
+
+// Where the records of a segment lead.
+fn targets_in(
+    alloc: Global,
+    scope: &Scope,
+    base: u16,
+    module: &Module,
+    seg: u16,
+) -> Result<Vec<(u16, u16)>, Fail<ModuleFault>>
+    requires few { length scope.now.modules.now ≤ 64 }
+    requires same { length scope.now.bases.now ≡ length scope.now.modules.now }
+    ensures { Gives (λ v. v.items) result (each (target_in scope.now.modules.now scope.now.bases.now scope.now.ordinals.now base «module».now) (nth_list «module».now.relocs seg)) }
+{
+    let mut found = Vec::new(alloc);
+    for k in 0..module.segment_relocs(seg) {
+        let reloc = record_at(module, seg, k);
+        add_target(alloc, scope, base, module, &reloc, &mut found)?;
+    }
+    Ok(found)
+}
+
+// Those of one segment more.
+fn add_targets(
+    alloc: Global,
+    scope: &Scope,
+    base: u16,
+    module: &Module,
+    seg: u16,
+    found: &mut Vec<Vec<(u16, u16)>>,
+) -> Result<(), Fail<ModuleFault>>
+    requires few { length scope.now.modules.now ≤ 64 }
+    requires same { length scope.now.bases.now ≡ length scope.now.modules.now }
+    ensures { Gives (λ _. map (λ v. v.items) found.new.items) result (gather (each (target_in scope.now.modules.now scope.now.bases.now scope.now.ordinals.now base «module».now)) (nth_list «module».now.relocs seg) (map (λ v. v.items) found.old.items)) }
+{
+    let targets = targets_in(alloc, scope, base, module, seg)?;
+    found.push(targets)?;
+    Ok(())
+}
+
+/// Where all records of a module lead, by segment and record.
+pub(crate) fn targets_of(
+    alloc: Global,
+    scope: &Scope,
+    base: u16,
+    module: &Module,
+) -> Result<Vec<Vec<(u16, u16)>>, Fail<ModuleFault>>
+    requires few { length scope.now.modules.now ≤ 64 }
+    requires same { length scope.now.bases.now ≡ length scope.now.modules.now }
+    ensures { Gives (λ v. map (λ t. t.items) v.items) result (targets_of scope.now.modules.now scope.now.bases.now scope.now.ordinals.now base «module».now) }
+{
+    module.is_runnable();
+    let mut found = Vec::new(alloc);
+    for k in 0..module.segment_count() {
+        add_targets(alloc, scope, base, module, k + 1, &mut found)?;
+    }
+    Ok(found)
+}
