@@ -3,3 +3,4 @@ pub mod Images
 pub mod Firsts
 pub mod Modules
 pub mod Wholes
+pub mod Nexts

@@ -1,3 +1,4 @@
 pub mod Loads
 pub mod Holds
 pub mod Started
+pub mod Beginnings

@@ -1,11 +1,13 @@
 //! The start of processes: what each holds, its first registers, and why one is refused.
 #![tactic(auto)]
 
+mod begun;
 mod build;
 mod first;
 mod holdings;
 mod process;
 mod segments;
 
+pub use begun::Begun;
 pub use build::Build;
 pub use process::start;

@@ -19,7 +19,7 @@ returns-clause-adds c = λ p e.
     (segment_holdings c.args.linked.now.images c.args.place c.args.module.now)
     (environment_of c.args.pid (length c.args.module.now.segments) c.in-Some.bytes.now)
     (library_holdings (map (loaded c.args.linked.now.images) c.libraries.result.now)) _
-    (holdings_are c.args.linked.now c.args.pid c.args.place c.args.module.now p c.in-Some.bytes.now c.libraries.result.now c.requires.program c.requires.place bytes c.libraries.ensures.value)
+    (holdings_are c.args.linked.now c.args.pid c.args.place c.args.module.now p c.in-Some.bytes.now c.libraries.result.now c.requires.program c.requires.place bytes c.libraries.ensures)
     c.in_ok-hold_segments.ensures.adds
     (subst (λ (n : ℕ). Adds c.hold_segments.new.build c.hold_environment.new.build c.args.pid (environment_of c.args.pid n c.in-Some.bytes.now)) c.segment_count.ensures c.in_ok-hold_environment.ensures.adds))
     c.hold_libraries.ensures.adds

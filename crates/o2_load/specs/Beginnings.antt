@@ -1,0 +1,58 @@
+-- What a memory and the first registers stand for, once some processes have started.
+use Rattle.std.specs.Prelude.{◌≡◌, ℕ, ◌+◌, true, List, [], ◌∷◌, ◌++◌, length, Option, Some, None, Result, Ok, Err, map, slice_get}
+use Rattle.o2_base.specs.declared.memory.Fail.{Fail}
+use Rattle.o2_base.specs.declared.memory.Fail.TheVariants.{NoMemory, Bad}
+use Rattle.o2_base.specs.declared.faults.ModuleFault.{ModuleFault}
+use Rattle.o2_isa.specs.declared.cpu.Cpu.{Cpu}
+use Rattle.o2_isa.specs.View.{Hold}
+use Rattle.o2_bus.specs.Plain.{held_in, bytes_in, shown_in, count_in}
+use Rattle.o2_dynlink.specs.Outcome.{LinkedParts}
+use Rattle.o2_world.specs.declared.types.State.TheVariants.{Live}
+use Rattle.o2_world.specs.World.{Process, Line}
+use Rattle.o2_world.specs.Views.{holds_in, bytes_in as bytes_of}
+use Rattle.o2_world.specs.Opening.{start_lines}
+use Rattle.o2_world.specs.Starts.{Built}
+use Rattle.o2_load.specs.declared.build.Build.{Build}
+use Rattle.o2_load.specs.declared.begun.Begun.{Begun}
+use Rattle.o2_load.specs.Loads.{loaded, program_place}
+
+pub record IsFirst (c : Cpu) (holds : ℕ → Option Hold) (p : Process) : Type 0 where
+  pub cpu : p.cpu ≡ c
+  pub state : p.state ≡ Live
+  pub held : (j : ℕ) → holds_in p.held j ≡ holds j
+
+-- at one place: a process that has started, or none, which holds nothing
+abbrev pub IsFirstAt : Option Cpu → (ℕ → Option Hold) → Option Process → Type 0
+IsFirstAt (Some c) holds (Some p) = IsFirst c holds p
+IsFirstAt None holds None = (j : ℕ) → ◌≡◌ {A = Option Hold} None (holds j)
+IsFirstAt (Some c) holds None = ⊥
+IsFirstAt None holds (Some p) = ⊥
+
+-- the name of the program of a process
+abbrev pub program_name : LinkedParts → ℕ → List ℕ
+program_name l pid = (loaded l.images (program_place l pid)).name
+
+-- the lines of the starts from process `pid` on, by the selectors of each
+abbrev pub lines_from : LinkedParts → ℕ → List (List ℕ) → List Line
+lines_from l pid [] = []
+lines_from l pid (xs ∷ xss) = start_lines pid (program_name l pid) xs ++ lines_from l (pid + 1) xss
+
+pub record IsBegun (m : Begun) (l : LinkedParts) (b : Built) : Type 0 where
+  pub count : count_in m.build.plain ≡ b.next_name
+  pub bytes : (n : ℕ) → bytes_of b.names n ≡ bytes_in m.build.plain n
+  pub shown : (n : ℕ) → shown_in m.build.plain n ≡ true
+  pub made : b.made ≡ m.build.made.items
+  pub none : (j : ℕ) → ◌≡◌ {A = Option Hold} None (held_in m.build.plain 0 j)
+  pub places : (i : ℕ) → IsFirstAt (slice_get m.cpus.items i) (held_in m.build.plain (i + 1)) (slice_get b.processes i)
+  pub idle : b.held ≡ []
+  pub ready : b.selectors ≡ []
+  pub fresh : m.build.selectors.items ≡ []
+  pub same : length b.processes ≡ length m.cpus.items
+  pub rows : length m.starts.items ≡ length m.cpus.items
+  pub lines : b.lines ≡ lines_from l 1 (map (λ v. v.items) m.starts.items)
+
+-- one process more, or its refusal
+abbrev pub BeginsAs : Begun → LinkedParts → Result Built (ℕ × ModuleFault) → ℕ → Result (Unit {0}) (Fail ModuleFault) → Type 0
+BeginsAs new l next pid (Ok done) = (b : Built) × ((next ≡ Ok b) × IsBegun new l b)
+BeginsAs new l next pid (Err (Bad fault)) = next ≡ Err (pid, fault)
+BeginsAs new l next pid (Err NoMemory) = Unit {0}
