@@ -1,6 +1,6 @@
 // Times the calls that its arguments name, each by one line: the name, how many were done, and milliseconds.
 //
-// The names are `decode`, `loop`, `moves` and `sums`. Without arguments it prints nothing.
+// The names are `decode`, `loop`, `moves`, `sums`, `calls` and `strings`. Without arguments it prints nothing.
 #![tactic(auto)]
 
 mod decoding;
@@ -9,7 +9,7 @@ mod stepping;
 use decoding::decode_many;
 use std::time::Instant;
 use std::{env, io};
-use stepping::{LOOP, MOVES, SUMS, step_many};
+use stepping::{CALLS, LOOP, MOVES, STRINGS, SUMS, step_many};
 
 const STEPS: u64 = 3_000_000;
 
@@ -22,6 +22,8 @@ fn measure(rt: &HostRuntime, name: &str) -> u64 {
         "loop" => step_many(rt.alloc(), &LOOP, STEPS),
         "moves" => step_many(rt.alloc(), &MOVES, STEPS),
         "sums" => step_many(rt.alloc(), &SUMS, STEPS),
+        "calls" => step_many(rt.alloc(), &CALLS, STEPS),
+        "strings" => step_many(rt.alloc(), &STRINGS, STEPS),
         _ => return 0,
     };
     match done {

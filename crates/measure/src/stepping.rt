@@ -36,6 +36,26 @@ pub static SUMS: [u8; 39] = [
     0xEB, 0xD9, // JMP to the first
 ];
 
+/// Calls and returns, near and far, and a frame, and a jump to the first.
+pub static CALLS: [u8; 16] = [
+    0xE8, 0x0B, 0x00, // CALL the RET
+    0x0E, 0xE8, 0x08, 0x00, // PUSH CS, CALL the RETF
+    0xC8, 0x04, 0x00, 0x00, // ENTER 4, 0
+    0xC9, // LEAVE
+    0xEB, 0xF2, // JMP to the first
+    0xC3, // RET
+    0xCB, // RETF
+];
+
+/// REP MOVSW of 64 words, and a jump to the first; each repetition is a step.
+pub static STRINGS: [u8; 13] = [
+    0xBE, 0x00, 0x00, // MOV SI, 0
+    0xBF, 0x00, 0x04, // MOV DI, 1024
+    0xB9, 0x40, 0x00, // MOV CX, 64
+    0xF3, 0xA5, // REP MOVSW
+    0xEB, 0xF3, // JMP to the first
+];
+
 fn start() -> Cpu {
     Cpu {
         ax: 0,

@@ -187,6 +187,20 @@ fn setting(rt: &HostRuntime, name: &[u8]) -> Result<Conf, Fail> {
     Ok(Conf::exe(rt.alloc(), &file, &name)?)
 }
 
+// Why linking is refused, if it is. Want of memory is none of the expected reasons.
+fn refusal_of(rt: &HostRuntime, modules: Vec<Module>, conf: &Conf) -> Option<LinkFault>
+    requires { vec_len modules ≤ 64 }
+{
+    match link(rt.alloc(), modules, conf) {
+        Ok(_) => None,
+        Err(ReadFail::Bad(refusal)) => Some(refusal),
+        Err(ReadFail::NoMemory) => Some(LinkFault {
+            file: 0,
+            fault: ModuleFault::NoSegment,
+        }),
+    }
+}
+
 // The number of a reason, its first name, and its second name or its ordinal of one digit.
 fn told(fault: &ModuleFault) -> (u8, &[u8], &[u8]) {
     match fault {
@@ -206,10 +220,10 @@ fn the_first_refusal_is_told(rt: HostRuntime) -> Result<(), Fail> {
         let modules = modules(&rt, letters, changes)?;
         let conf = setting(&rt, process)?;
         assert!(rt; modules.len() <= 64);
-        match link(rt.alloc(), modules, &conf) {
-            Ok(_) => assert_eq!(rt; expected.1, 0),
-            Err(ReadFail::NoMemory) => assert!(rt; false),
-            Err(ReadFail::Bad(refusal)) => {
+        let refusal = refusal_of(&rt, modules, &conf);
+        match &refusal {
+            None => assert_eq!(rt; expected.1, 0),
+            Some(refusal) => {
                 let (number, first, second) = told(&refusal.fault);
                 assert_eq!(rt; refusal.file, expected.0);
                 assert_eq!(rt; number, expected.1);
@@ -218,5 +232,27 @@ fn the_first_refusal_is_told(rt: HostRuntime) -> Result<(), Fail> {
             }
         }
     }
+    Ok(())
+}
+
+#[test]
+fn a_program_with_a_library(rt: HostRuntime) -> Result<(), Fail> {
+    let modules = modules(&rt, b"CMT", &[])?;
+    let conf = setting(&rt, b"Caller")?;
+    assert!(rt; modules.len() <= 64);
+    let linked = link(rt.alloc(), modules, &conf)?;
+    assert_eq!(rt; linked.program(1), Some(1));
+    assert_eq!(rt; linked.program(2), None);
+    assert_eq!(rt; linked.index(1, 2), Some(2));
+    assert_eq!(rt; linked.index(1, 3), None);
+    assert_eq!(rt; linked.index(2, 1), Some(4096));
+    assert_eq!(rt; linked.index(2, 2), Some(4097));
+    assert_eq!(rt; linked.index(3, 1), Some(4098));
+    assert_eq!(rt; linked.index(3, 0), None);
+    assert_eq!(rt; linked.index(4, 1), None);
+    assert!(rt; linked.process_count() == 1);
+    assert_eq!(rt; linked.libraries(1), [2].as_slice());
+    let environment = linked.images().environment(1).ok_or("no environment")?;
+    assert_eq!(rt; environment, b"\0Caller\0\0\0".as_slice());
     Ok(())
 }
