@@ -1,5 +1,5 @@
 // What linking gives.
-ghost use Rattle.std.specs.Prelude.{◌≡◌, ◌≤◌, map, IfSome};
+ghost use Rattle.std.specs.Prelude.{◌≡◌, ◌≤◌, length, map, IfSome};
 ghost use Rattle.o2_image.specs.Getters.{nth, nth_list};
 ghost use Rattle.o2_image.specs.ImageList.{Exists};
 ghost use Rattle.o2_dynlink.specs.Outcome.{IsConsistent, modules_of};
@@ -57,6 +57,15 @@ impl Linked {
         ensures consistent { IsConsistent self.now }
     {
         &self.images
+    }
+
+    /// How many processes there are; each has an environment, a program, and a list of libraries.
+    pub fn process_count(&self) -> usize
+        ensures programs { result ≡ length self.now.programs }
+        ensures libraries { result ≡ length self.now.libraries }
+        ensures environments { result ≡ length self.now.images.environments }
+    {
+        self.programs.len()
     }
 
     /// The place of a process's program. None exactly where there is no such process.
