@@ -4,4 +4,5 @@ pub mod Spaces
 pub mod Commits
 pub mod Between
 pub mod Turns
-pub mod Openings
+pub mod StartLines
+pub mod FirstStands

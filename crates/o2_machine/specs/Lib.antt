@@ -4,5 +4,5 @@ pub mod Commit
 pub mod Acts
 pub mod Closes
 pub mod StandsFor
-pub mod Programs
-pub mod Segments
+pub mod Begins
+pub mod Readies

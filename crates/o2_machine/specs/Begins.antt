@@ -1,0 +1,54 @@
+-- How a machine begins.
+use Rattle.std.specs.Prelude.{◌≡◌, ℕ, List, Option, Result, Ok, Err, map}
+use Rattle.o2_base.specs.declared.faults.ModuleFault.{ModuleFault}
+use Rattle.o2_conf.specs.declared.conf.Conf.{Conf}
+use Rattle.o2_conf.specs.Script.{slice_of}
+use Rattle.o2_dynlink.specs.Outcome.{LinkedParts}
+use Rattle.o2_outer.specs.Texts.{Gains, GainsSome, IsPrefix}
+use Rattle.o2_world.specs.World.{World, Setting}
+use Rattle.o2_world.specs.Text.{lines_text}
+use Rattle.o2_world.specs.Starts.{Built, all_started, world_of, opening_of}
+use Rattle.o2_load.specs.Loads.{starts_of}
+use Rattle.o2_machine.specs.declared.fault.BeginFault.{BeginFault}
+use Rattle.o2_machine.specs.declared.fault.BeginFault.TheVariants as begin_fault
+use Rattle.o2_machine.specs.declared.machine.Machine.{Machine}
+use Rattle.o2_machine.specs.StandsFor.{StandsFor}
+
+-- what a run takes from the machine file
+abbrev pub setting_of : Conf → Setting
+setting_of c = record { quantum = c.quantum; segments = c.segments; avail = c.avail }
+
+-- the starts of a setting's processes
+abbrev pub starting : LinkedParts → Conf → Result Built (ℕ × ModuleFault)
+starting l c = all_started c.segments (starts_of l 1 c.process)
+
+-- the world that they open, with this input
+abbrev pub first_world : Conf → List ℕ → Built → World
+first_world c input b = world_of (map slice_of c.script) c.budget input b
+
+-- the world before the first step, or the process that is refused, and why
+abbrev pub opening : LinkedParts → Conf → List ℕ → Result World (ℕ × ModuleFault)
+opening l c input = opening_of (setting_of c) (map slice_of c.script) c.budget input (starts_of l 1 c.process)
+
+-- all processes have started, and the lines of their starts are put
+pub record HasBegun (m : Machine) (l : LinkedParts) (c : Conf) (report_old report_new : Option (List ℕ)) : Type 0 where
+  pub built : Built
+  pub starts : starting l c ≡ Ok built
+  pub stands : (input : List ℕ) → StandsFor m (setting_of c) (first_world c input built)
+  pub to_report : Gains report_old report_new (lines_text built.lines)
+
+-- a sink failed among those lines
+pub record HasBegunInPart (l : LinkedParts) (c : Conf) (report_old report_new : Option (List ℕ)) : Type 0 where
+  pub built : Built
+  pub starts : starting l c ≡ Ok built
+  pub to_report : GainsSome report_old report_new (λ front. IsPrefix front (lines_text built.lines))
+
+abbrev pub Begins : LinkedParts → Conf → (report_old report_new : Option (List ℕ)) → Result Machine BeginFault → Type 0
+Begins l c r q (Ok m) = HasBegun m l c r q
+Begins l c r q (Err (begin_fault.Start pid fault)) = (starting l c ≡ Err (pid, fault)) × (q ≡ r)
+Begins l c r q (Err begin_fault.SinkFault) = HasBegunInPart l c r q
+Begins l c r q (Err begin_fault.NoMemory) = q ≡ r
+
+abbrev pub OnSinkFault : Result Machine BeginFault → Type 0 → Type 0
+OnSinkFault (Err begin_fault.SinkFault) P = P
+OnSinkFault _ P = Unit {0}
