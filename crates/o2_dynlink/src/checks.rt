@@ -254,7 +254,8 @@ fn assemble(
 #[tactic(auto, unfolding(crate::specs::Linking::linked_of))]
 pub fn link(alloc: Global, modules: Vec<Module>, conf: &Conf) -> Result<Linked, Fail<LinkFault>>
     requires { length modules.items ≤ 64 }
-    ensures { Gives (λ l. l) result (linked_of modules.items conf.now) }
+    ensures exact { Gives (λ l. l) result (linked_of modules.items conf.now) }
+    ensures environments { IfOk result (λ l. l.images.environments ≡ map environment_bytes conf.now.process) }
 {
     check_names(alloc, modules.as_slice())?;
     let bases = bases_of(alloc, modules.as_slice())?;

@@ -4,3 +4,5 @@ pub mod Firsts
 pub mod Modules
 pub mod Wholes
 pub mod Nexts
+pub mod Sizes
+pub mod Alls

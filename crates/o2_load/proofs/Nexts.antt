@@ -1,6 +1,6 @@
 -- One process more.
-use Rattle.std.proofs.Common.{◌≡◌, ◌≢◌, ℕ, zero, suc, Bool, true, false, ◌≤◌, ◌<◌, ◌+◌, ◌-◌, List, [], ◌∷◌, ◌++◌, length, Option, Some, None, if◌then◌else◌, ◌==◌, ap, sym, ◌∙◌, refl, arith, subst, length-append, append-nil, append_assoc}
-use Rattle.std.specs.Prelude.{slice_get, fold, map, Result, Ok, Err}
+use Rattle.std.proofs.Common.{◌≡◌, ◌≢◌, ℕ, zero, suc, true, ◌≤◌, ◌+◌, List, [], ◌∷◌, ◌++◌, length, Option, Some, None, if◌then◌else◌, ap, sym, ◌∙◌, refl, arith, subst, length-append, append-nil, append_assoc}
+use Rattle.std.specs.Prelude.{slice_get, map, Ok, Err}
 use Rattle.o2_base.specs.declared.faults.ModuleFault.{ModuleFault}
 use Rattle.o2_isa.specs.declared.cpu.Cpu.{Cpu}
 use Rattle.o2_isa.specs.View.{Hold}
@@ -13,14 +13,14 @@ use Rattle.o2_world.specs.World.{Process, Line}
 use Rattle.o2_world.specs.Opening.{start_lines}
 use Rattle.std.proofs.lemmas.List.{length-map}
 use Rattle.o2_world.specs.Map.{Map}
-use Rattle.o2_world.specs.Views.{holds_in, bytes_in as bytes_of}
+use Rattle.o2_world.specs.Views.{holds_in}
 use Rattle.o2_world.specs.Starts.{Built, nothing_built, Start, Holding, first_cpu, holdings, holds_as, name_in, with_holding, with_holdings, with_started, started_as, next_started}
 use Rattle.o2_load.specs.declared.build.Build.{Build}
 use Rattle.o2_load.specs.declared.begun.Begun.{Begun}
 use Rattle.o2_load.specs.Holds.{IsHolding, OthersStay}
 use Rattle.o2_base.specs.declared.memory.Fail.{Fail}
 use Rattle.o2_base.specs.declared.memory.Fail.TheVariants.{NoMemory, Bad}
-use Rattle.o2_load.specs.Started.{HasStarted, StartsAs}
+use Rattle.o2_load.specs.Started.{StartsAs}
 use Rattle.o2_load.specs.Beginnings.{IsFirst, IsFirstAt, IsBegun, BeginsAs, lines_from, program_name}
 
 -- holding changes no process that has started

@@ -1,13 +1,12 @@
 -- All that a process holds, and the start that a linked module gives.
-use Rattle.std.proofs.Common.{◌≡◌, ℕ, zero, suc, Bool, true, false, not, ◌≤◌, ◌<◌, ◌+◌, ◌-◌, List, [], ◌∷◌, ◌++◌, length, Option, Some, None, if◌then◌else◌, ◌==◌, ◌&&◌, ap, sym, ◌∙◌, refl, arith, subst, nat_lt}
-use Rattle.std.specs.Prelude.{slice_get, fold, map, option_map, unwrap_or, Result, Ok, Err}
+use Rattle.std.proofs.Common.{◌≡◌, ℕ, zero, suc, Bool, true, false, not, ◌<◌, ◌+◌, ◌-◌, List, [], ◌∷◌, ◌++◌, length, Option, Some, None, if◌then◌else◌, ◌==◌, ◌&&◌, ap, sym, ◌∙◌, refl, arith, subst, nat_lt}
+use Rattle.std.specs.Prelude.{slice_get, map, option_map, Result, Ok, Err}
 use Rattle.std.proofs.lemmas.List.Sums.{fold-append}
 use Rattle.o2_base.specs.declared.faults.ModuleFault.{ModuleFault}
 use Rattle.o2_base.specs.declared.faults.ModuleFault.TheVariants.{NoStack, NoEntry, NoSegment}
-use Rattle.o2_isa.specs.declared.cpu.Cpu.{Cpu}
 use Rattle.o2_isa.specs.View.{is_code}
 use Rattle.o2_conf.specs.declared.process.Process.{Process}
-use Rattle.o2_conf.specs.Environments.{environment_bytes, command_place}
+use Rattle.o2_conf.specs.Environments.{environment_bytes}
 use Rattle.o2_ne.proofs.Tabulated.{length-tabulate}
 use Rattle.o2_ne_segs.specs.declared.segment.Segment.{Segment}
 use Rattle.o2_ne_segs.specs.SegmentTable.{nth_segment}

@@ -12,8 +12,8 @@ use Rattle.o2_world.specs.World.{Process, Line}
 use Rattle.o2_world.specs.Views.{holds_in, bytes_in as bytes_of}
 use Rattle.o2_world.specs.Opening.{start_lines}
 use Rattle.o2_world.specs.Starts.{Built}
-use Rattle.o2_load.specs.declared.build.Build.{Build}
 use Rattle.o2_load.specs.declared.begun.Begun.{Begun}
+use Rattle.o2_load.specs.declared.starting.StartFault.{StartFault}
 use Rattle.o2_load.specs.Loads.{loaded, program_place}
 
 pub record IsFirst (c : Cpu) (holds : ℕ → Option Hold) (p : Process) : Type 0 where
@@ -56,3 +56,15 @@ abbrev pub BeginsAs : Begun → LinkedParts → Result Built (ℕ × ModuleFault
 BeginsAs new l next pid (Ok done) = (b : Built) × ((next ≡ Ok b) × IsBegun new l b)
 BeginsAs new l next pid (Err (Bad fault)) = next ≡ Err (pid, fault)
 BeginsAs new l next pid (Err NoMemory) = Unit {0}
+
+-- one process more, or its refusal with its number
+abbrev pub BeginsOn : Begun → LinkedParts → Result Built (ℕ × ModuleFault) → Result (Unit {0}) (Fail StartFault) → Type 0
+BeginsOn new l next (Ok done) = (b : Built) × ((next ≡ Ok b) × IsBegun new l b)
+BeginsOn new l next (Err (Bad f)) = next ≡ Err (f.pid, f.fault)
+BeginsOn new l next (Err NoMemory) = Unit {0}
+
+-- all processes, or the refusal of the first that is refused
+abbrev pub BeginsAll : LinkedParts → Result Built (ℕ × ModuleFault) → Result Begun (Fail StartFault) → Type 0
+BeginsAll l all (Ok m) = (b : Built) × ((all ≡ Ok b) × IsBegun m l b)
+BeginsAll l all (Err (Bad f)) = all ≡ Err (f.pid, f.fault)
+BeginsAll l all (Err NoMemory) = Unit {0}

@@ -7,7 +7,9 @@ mod first;
 mod holdings;
 mod process;
 mod segments;
+mod starting;
 
 pub use begun::Begun;
 pub use build::Build;
 pub use process::start;
+pub use starting::{StartFault, begin};

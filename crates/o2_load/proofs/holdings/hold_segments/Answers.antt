@@ -1,4 +1,4 @@
-use Rattle.std.proofs.Common.{◌≡◌, ◌≤◌, ◌<◌, ◌∙◌, sym, arith, length, subst}
+use Rattle.std.proofs.Common.{◌≡◌, ◌∙◌, arith, subst}
 use Rattle.o2_ne_segs.specs.SegmentTable.{nth_segment}
 use Rattle.o2_image.specs.ImageList.{ImageList}
 use Rattle.o2_ne_segs.specs.declared.segment.Segment.{Segment}

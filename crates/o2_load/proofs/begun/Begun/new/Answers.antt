@@ -1,4 +1,3 @@
-use Rattle.o2_load.specs.declared.begun.Begun.{Begun}
 use Rattle.o2_load.proofs.Nexts.{nothing_begun}
 use Rattle.o2_load.proofs.begun.Begun.new.Goals as goal
 
