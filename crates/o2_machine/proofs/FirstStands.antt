@@ -1,5 +1,5 @@
 -- The machine of processes that have started stands for the world that they open.
-use Rattle.std.proofs.Common.{◌≡◌, ℕ, zero, suc, ◌+◌, Bool, true, List, [], ◌∷◌, length, replicate, map, Option, Some, None, ap, sym, ◌∙◌, refl, subst}
+use Rattle.std.proofs.Common.{◌≡◌, ℕ, zero, suc, ◌+◌, true, List, [], ◌∷◌, length, replicate, map, Option, Some, None, ap, sym, ◌∙◌, refl, subst}
 use Rattle.std.specs.Prelude.{slice_get, option_map}
 use Rattle.std.proofs.lemmas.Option.{slice_get-map}
 use Rattle.o2_isa.specs.declared.cpu.Cpu.{Cpu}
@@ -14,10 +14,10 @@ use Rattle.o2_world.specs.Run.{live_flags}
 use Rattle.o2_world.specs.Starts.{Built}
 use Rattle.o2_sched.specs.Schedule.{Schedule, opening_dispatch}
 use Rattle.o2_load.specs.declared.begun.Begun.{Begun}
-use Rattle.o2_load.specs.Beginnings.{IsBegun, IsFirst, IsFirstAt}
+use Rattle.o2_load.specs.Beginnings.{IsBegun, IsFirstAt}
 use Rattle.o2_machine.specs.declared.space.Proc.{Proc}
 use Rattle.o2_machine.specs.declared.machine.Machine.{Machine}
-use Rattle.o2_machine.specs.Stands.{IsAt, StandsIn}
+use Rattle.o2_machine.specs.Stands.{IsAt}
 use Rattle.o2_machine.specs.StandsFor.{StandsFor}
 use Rattle.o2_machine.specs.Begins.{setting_of, first_world}
 use Rattle.o2_machine.specs.Readies.{first_proc}

@@ -1,7 +1,6 @@
 -- The lines of the starts, as far as a loop has come.
-use Rattle.std.proofs.Common.{◌≡◌, ℕ, zero, suc, ◌+◌, List, [], ◌∷◌, ◌++◌, take, drop, map, Option, Some, arith, ap, sym, ◌∙◌, refl, append_assoc, append-nil, subst}
-use Rattle.std.specs.Prelude.{slice_get, option_map}
-use Rattle.std.proofs.lemmas.Option.{slice_get-map}
+use Rattle.std.proofs.Common.{◌≡◌, ℕ, zero, suc, ◌+◌, List, [], ◌∷◌, ◌++◌, take, drop, Option, Some, arith, ap, sym, ◌∙◌, refl, append_assoc, append-nil, subst}
+use Rattle.std.specs.Prelude.{slice_get}
 use Rattle.o2_world.specs.World.{Line}
 use Rattle.o2_world.specs.Text.{line_text, lines_text}
 use Rattle.o2_world.specs.Opening.{start_lines}

@@ -22,7 +22,7 @@ use o2_conf::Conf;
 use o2_dynlink::Linked;
 use o2_gate::State as Services;
 use o2_isa::Cpu;
-use o2_load::Begun;
+use o2_load::{Begun, begin};
 use o2_outer::{Put, Sink};
 use o2_report::{LineBuffer, put_start};
 use o2_sched::Sched;
@@ -130,5 +130,29 @@ fn finish<R: Sink>(
     match put_starts(&mut line, linked, &starts, report) {
         Put::Failed => Err(BeginFault::SinkFault),
         Put::Done => Ok(machine),
+    }
+}
+
+impl Machine {
+    /// The machine of a setting and its linked modules: all processes have started, and the lines of their starts are put. The
+    /// first start that is refused decides; every refusal of a start, and want of memory, come before the first line.
+    pub fn begin<R: Sink>(
+        alloc: Global,
+        conf: &Conf,
+        linked: &Linked,
+        report: &mut R,
+    ) -> Result<Machine, BeginFault>
+        requires within { IsWithinLimits conf.now }
+        requires environments { linked.now.images.environments ≡ map environment_bytes conf.now.process }
+        ensures begins { Begins linked.now conf.now (R.taken report.old) (R.taken report.new) result }
+        ensures count { R.faults report.old ≤ R.faults report.new }
+        ensures cause { OnSinkFault result (Rose (R.faults report.old) (R.faults report.new)) }
+    {
+        linked.process_count();
+        match begin(alloc, linked, conf) {
+            Ok(begun) => finish(alloc, conf, linked, begun, report),
+            Err(Fail::NoMemory) => Err(BeginFault::NoMemory),
+            Err(Fail::Bad(refusal)) => Err(BeginFault::Start(refusal.pid, refusal.fault)),
+        }
     }
 }

@@ -1,13 +1,12 @@
-use Rattle.std.proofs.Common.{◌≡◌, ◌+◌, suc, List, ℕ, Some, map, take, arith, ap, sym, ◌∙◌, refl, subst, add-one}
+use Rattle.std.proofs.Common.{◌≡◌, ◌+◌, List, ℕ, Some, map, take, arith, ap, sym, ◌∙◌, refl, subst, add-one}
 use Rattle.std.specs.Prelude.{slice_get, option_map}
 use Rattle.std.proofs.lemmas.Option.{slice_get_read, slice_get-map}
 use Rattle.o2_outer.specs.declared.sink.Put.TheVariants as put
-use Rattle.o2_outer.specs.Answers.{Takes}
 use Rattle.o2_outer.specs.Texts.{Gains, GainsSome, IsPrefix}
 use Rattle.o2_outer.proofs.TextLemmas.{puts_more, puts_second}
 use Rattle.o2_world.specs.Text.{lines_text}
 use Rattle.o2_world.specs.Opening.{start_lines}
-use Rattle.o2_load.specs.Beginnings.{lines_from, program_name}
+use Rattle.o2_load.specs.Beginnings.{lines_from}
 use Rattle.o2_machine.proofs.StartLines.{starts_split, starts_more}
 use Rattle.o2_machine.proofs.begin.put_starts.Goals as goal
 
