@@ -1,4 +1,3 @@
-pub mod Words
 pub mod StatusTexts
-pub mod Loads
 pub mod Top
+pub mod RunTexts

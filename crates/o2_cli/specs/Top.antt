@@ -1,36 +1,55 @@
 -- What each status says of the words, the files, the input and both texts.
-use Rattle.std.specs.Prelude.{◌≡◌, ℕ, List, Option, Some, None, String, Ok, Err}
+use Rattle.std.specs.Prelude.{◌≡◌, ℕ, List, Option, Some, None, String, Result, Ok, Err}
 use Rattle.std.specs.declared.alloc.Global.{Global}
 use Rattle.o2_base.specs.declared.faults.ModuleFault.{ModuleFault}
-use Rattle.o2_image.specs.Parts.{Parts}
+use Rattle.o2_words.specs.declared.words.Verb.{Verb}
+use Rattle.o2_words.specs.Words.{IsCommand, IsCommandFor}
 use Rattle.o2_world.specs.World.{World, Setting}
-use Rattle.o2_world.specs.Opening.{opening}
 use Rattle.o2_world.specs.Run.{HasPartTexts}
 use Rattle.o2_run.specs.Ended.{HasWholeRun, HasStoppedTexts}
 use Rattle.o2_run.specs.declared.steps.Stop.TheVariants.{Input}
-use Rattle.o2_machine.specs.Programs.{program_of, exe_setting}
-use Rattle.o2_cli.specs.Words.{IsCommand, IsCommandFor}
-use Rattle.o2_cli.specs.Loads.{read_of}
-use Rattle.o2_cli.specs.declared.status.Status.{Status}
-use Rattle.o2_cli.specs.declared.status.Status.TheVariants as status
+use Rattle.o2_open.specs.declared.session.Session.{Session}
+use Rattle.o2_open.specs.declared.status.Status.{Status}
+use Rattle.o2_open.specs.declared.status.Status.TheVariants as status
+use Rattle.o2_open.specs.Loads.{Contents, loaded, start_refusal, under, ◌>>=◌}
+use Rattle.o2_machine.specs.Begins.{setting_of, opening}
 
--- the steps of a program that is run alone, at most
-abbrev pub exe_budget : ℕ
-exe_budget = 1000000
+-- what a command runs from: its setting, and the world before the first step
+pub record Opened : Type 0 where
+  pub setting : Setting
+  pub world : World
+
+abbrev pub with_setting : Session → World → Result Opened Status
+with_setting s w = Ok (record { setting = setting_of s.conf; world = w })
+
+-- a start that is refused
+abbrev pub refusal : Session → ℕ × ModuleFault → Status
+refusal s f = start_refusal s f.0 f.1
+
+-- all processes of a session start, with this input
+unfoldable pub started : Session → List ℕ → Result Opened Status
+started s input = under (refusal s) (opening s.linked s.conf input) >>= with_setting s
+
+-- what the command runs, or its first refusal: of the machine file, of each module in its order, of linking, of each start
+abbrev pub opened : Verb → Contents → List ℕ → List ℕ → Result Opened Status
+opened verb contents name input = loaded verb contents name >>= (λ s. started s input)
 
 abbrev pub Told : Type 0
-Told = Option (List ℕ → Option (List ℕ))
+Told = Option Contents
 
--- what the files hold under the name is refused for this reason
-abbrev pub RefusesModule : Told → List ℕ → ModuleFault → Type 0
-RefusesModule told name fault = (files : List ℕ → Option (List ℕ)) → told ≡ Some files → (file : List ℕ) × (files name ≡ Some file) × (read_of file ≡ Err fault)
+-- the words are a command that is refused so
+pub record IsRefused (words : List (String Global)) (told : Told) (s : Status) : Type 0 where
+  pub verb : Verb
+  pub name : List ℕ
+  pub command : IsCommandFor words verb name
+  pub refused : (contents : Contents) (input : List ℕ) → told ≡ Some contents → opened verb contents name input ≡ Err s
 
 -- a refusal and its cause
 abbrev pub Refuses : List (String Global) → Told → Status → Type 0
 Refuses words told status.BadWords = IsCommand words → ⊥
-Refuses words told (status.NoFile name) = IsCommandFor words name × ((files : List ℕ → Option (List ℕ)) → told ≡ Some files → files name ≡ None)
-Refuses words told (status.BadModule name fault) = IsCommandFor words name × RefusesModule told name fault
-Refuses words told (status.BadMachine fault) = ⊥
+Refuses words told (status.NoFile name) = IsRefused words told (status.NoFile name)
+Refuses words told (status.BadMachine fault) = IsRefused words told (status.BadMachine fault)
+Refuses words told (status.BadModule name fault) = IsRefused words told (status.BadModule name fault)
 Refuses words told status.NoRoom = ⊥
 Refuses words told status.SwapFull = ⊥
 Refuses words told status.SwapFault = ⊥
@@ -40,18 +59,17 @@ Refuses words told status.InputFault = IsCommand words
 Refuses words told status.SinkFault = IsCommand words
 Refuses words told status.NoMemory = IsCommand words
 
--- where a program runs: what the files hold under the name is a module, and P holds of its opening world
-pub record Opens (words : List (String Global)) (files : List ℕ → Option (List ℕ)) (input : List ℕ) (P : World → Type 0) : Type 0 where
+-- where a program runs: the command opens, and P holds of the setting and of the world before the first step
+pub record Opens (words : List (String Global)) (contents : Contents) (input : List ℕ) (P : Opened → Type 0) : Type 0 where
+  pub verb : Verb
   pub name : List ℕ
-  pub command : IsCommandFor words name
-  pub file : List ℕ
-  pub found : files name ≡ Some file
-  pub parts : Parts
-  pub read : read_of file ≡ Ok parts
-  pub runs : P (opening (program_of parts) exe_budget input)
+  pub command : IsCommandFor words verb name
+  pub start : Opened
+  pub opens : opened verb contents name input ≡ Ok start
+  pub runs : P start
 
-abbrev pub Runs : List (String Global) → Told → Option (List ℕ) → (World → Type 0) → Type 0
-Runs words told left P = (files : List ℕ → Option (List ℕ)) (input : List ℕ) → told ≡ Some files → left ≡ Some input → Opens words files input P
+abbrev pub Runs : List (String Global) → Told → Option (List ℕ) → (Opened → Type 0) → Type 0
+Runs words told left P = (contents : Contents) (input : List ℕ) → told ≡ Some contents → left ≡ Some input → Opens words contents input P
 
 -- nothing was written, and the input is as before
 pub record IsUntouched (left_old left_new console_old console_new report_old report_new : Option (List ℕ)) : Type 0 where
@@ -61,9 +79,9 @@ pub record IsUntouched (left_old left_new console_old console_new report_old rep
 
 -- both texts and the input, by the status: those of the boundless machine, or fronts of them
 abbrev pub Shows : List (String Global) → Told → (left_old left_new console_old console_new report_old report_new : Option (List ℕ)) → Status → Type 0
-Shows words told i j c d r q status.Fine = Runs words told i (λ w. HasWholeRun exe_setting w j c d r q)
-Shows words told i j c d r q status.SinkFault = Runs words told i (λ w. HasPartTexts exe_setting w c d r q)
-Shows words told i j c d r q status.InputFault = Runs words told i (λ w. HasStoppedTexts exe_setting w Input j c d r q)
+Shows words told i j c d r q status.Fine = Runs words told i (λ o. HasWholeRun o.setting o.world j c d r q)
+Shows words told i j c d r q status.SinkFault = Runs words told i (λ o. HasPartTexts o.setting o.world c d r q)
+Shows words told i j c d r q status.InputFault = Runs words told i (λ o. HasStoppedTexts o.setting o.world Input j c d r q)
 Shows words told i j c d r q _ = IsUntouched i j c d r q
 
 abbrev pub OnFileFault : Status → Type 0 → Type 0
@@ -77,18 +95,3 @@ OnInputFault _ P = Unit {0}
 abbrev pub OnSinkFault : Status → Type 0 → Type 0
 OnSinkFault status.SinkFault P = P
 OnSinkFault _ P = Unit {0}
-
--- what the run of a world shows
-abbrev pub ShowsRun : World → (left_old left_new console_old console_new report_old report_new : Option (List ℕ)) → Status → Type 0
-ShowsRun w i j c d r q status.Fine = HasWholeRun exe_setting w j c d r q
-ShowsRun w i j c d r q status.SinkFault = HasPartTexts exe_setting w c d r q
-ShowsRun w i j c d r q status.InputFault = HasStoppedTexts exe_setting w Input j c d r q
-ShowsRun w i j c d r q _ = Unit {0}
-
--- a run ends so, or there was no memory for it
-abbrev pub IsOfRun : (left_old left_new console_old console_new report_old report_new : Option (List ℕ)) → Status → Type 0
-IsOfRun i j c d r q status.Fine = Unit {0}
-IsOfRun i j c d r q status.SinkFault = Unit {0}
-IsOfRun i j c d r q status.InputFault = Unit {0}
-IsOfRun i j c d r q status.NoMemory = IsUntouched i j c d r q
-IsOfRun i j c d r q _ = ⊥

@@ -1,14 +1,11 @@
 //! The top call: the words of a command, the files that it names, and the run.
 #![tactic(auto)]
 
-mod load;
 mod messages;
-mod status;
 mod top;
-mod words;
 
 pub use messages::{number, text};
-pub use status::Status;
+pub use o2_open::Status;
 pub use top::os2run;
 
 #[cfg(test)]

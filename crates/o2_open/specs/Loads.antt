@@ -1,5 +1,5 @@
 -- What a command opens, or its first refusal: the machine file, each module in its order, and linking.
-use Rattle.std.specs.Prelude.{ℕ, List, [], ◌∷◌, ◌++◌, ◌≡◌, length, nat_lt, if◌then◌else◌, ◌==◌, Option, Some, None, Result, Ok, Err}
+use Rattle.std.specs.Prelude.{ℕ, List, [], ◌∷◌, ◌++◌, ◌≡◌, length, map, nat_lt, unwrap_or, if◌then◌else◌, ◌==◌, Option, Some, None, Result, Ok, Err}
 use Rattle.o2_base.specs.declared.faults.Key.TheVariants as key
 use Rattle.o2_base.specs.declared.faults.MachineFault.TheVariants.{Limit}
 use Rattle.o2_base.specs.declared.faults.ModuleFault.{ModuleFault}
@@ -10,10 +10,11 @@ use Rattle.o2_words.specs.declared.words.Verb.{Verb}
 use Rattle.o2_words.specs.declared.words.Verb.TheVariants.{Exe, Run}
 use Rattle.o2_conf.specs.declared.conf.Conf.{Conf}
 use Rattle.o2_conf.specs.Setting.{setting}
+use Rattle.o2_conf.specs.Environments.{environment_bytes}
 use Rattle.o2_conf.specs.Alone.{exe_setting}
 use Rattle.o2_image.specs.Parts.{Parts}
 use Rattle.o2_image.specs.Modules.{module_of}
-use Rattle.o2_image.specs.Getters.{is_library, nth_list}
+use Rattle.o2_image.specs.Getters.{is_library, nth, nth_list}
 use Rattle.o2_dynlink.specs.declared.fault.LinkFault.{LinkFault}
 use Rattle.o2_dynlink.specs.Linking.{linked_of}
 use Rattle.o2_open.specs.declared.session.Session.{Session}
@@ -75,6 +76,14 @@ link_refusal c f = status.BadModule (if f.file == 0 then asked f.fault else nth_
 -- the modules of a setting, linked
 abbrev pub linked_in : Conf → List Parts → Result Session Status
 linked_in c ms = under (link_refusal c) (linked_of ms c) >>= (λ l. Ok (record { conf = c; linked = l }))
+
+-- the environments of a session's images are those of its setting
+abbrev pub HasEnvironments : Session → Type 0
+HasEnvironments s = s.linked.images.environments ≡ map environment_bytes s.conf.process
+
+-- a start that is refused: by the file of the program that the process runs
+abbrev pub start_refusal : Session → ℕ → ModuleFault → Status
+start_refusal s pid fault = status.BadModule (nth_list s.conf.modules (unwrap_or (nth s.linked.programs pid) 0)) fault
 
 -- what `exe` opens: the module in a file, as the only one
 abbrev pub exe_loaded : Contents → List ℕ → Result Session Status

@@ -6,6 +6,6 @@ mod opening;
 mod session;
 mod status;
 
-pub use opening::open;
+pub use opening::{open, refused_start};
 pub use session::Session;
 pub use status::Status;

@@ -1,10 +1,12 @@
 // Opening what a command runs.
-ghost use Rattle.std.specs.Prelude.{◌≡◌, ◌≤◌, ℕ, Some, IfOk, IfErr, length, [], ◌∷◌};
+ghost use Rattle.std.specs.Prelude.{◌≡◌, ◌≤◌, ℕ, Some, IfOk, IfErr, length, map, [], ◌∷◌};
 ghost use Rattle.o2_open.specs.declared.status.Status.TheVariants as status;
-ghost use Rattle.o2_open.specs.Loads.{Contents, Loads, Tells, Refuses, under, asked, link_refusal, linked_in, exe_loaded, run_loaded, loaded};
+ghost use Rattle.o2_open.specs.Loads.{Contents, Loads, Tells, Refuses, under, asked, link_refusal, linked_in, HasEnvironments, start_refusal, exe_loaded, run_loaded, loaded};
 ghost use Rattle.o2_dynlink.specs.Linking.{linked_of};
+ghost use Rattle.o2_image.specs.Getters.{nth_list};
 ghost use Rattle.o2_conf.specs.Alone.{exe_setting};
 ghost use Rattle.o2_conf.specs.Limits.{IsWithinLimits};
+ghost use Rattle.o2_conf.specs.Environments.{environment_bytes};
 
 use crate::files::{bad_module, machine, module, programs};
 use crate::{Session, Status};
@@ -30,17 +32,28 @@ fn asked_for(alloc: Global, fault: ModuleFault) -> Status
     }
 }
 
+/// The file of the module at a place from 1; no bytes for any other place.
+fn file_name(conf: &Conf, place: u16) -> &[u8]
+    ensures { result.now ≡ nth_list conf.now.modules place }
+{
+    if place == 0 {
+        return &[];
+    }
+    match conf.modules.get(place as usize - 1) {
+        Some(name) => name.as_slice(),
+        None => &[],
+    }
+}
+
 /// The status of a refusal of linking.
 fn link_refusal(alloc: Global, conf: &Conf, refusal: LinkFault) -> Status
     ensures { Tells result (link_refusal conf.now refusal) }
 {
     let LinkFault { file, fault } = refusal;
     if file == 0 {
-        return asked_for(alloc, fault);
-    }
-    match conf.modules.get(file as usize - 1) {
-        Some(name) => bad_module(alloc, name.as_slice(), fault),
-        None => bad_module(alloc, &[], fault),
+        asked_for(alloc, fault)
+    } else {
+        bad_module(alloc, file_name(conf, file), fault)
     }
 }
 
@@ -48,6 +61,7 @@ fn link_refusal(alloc: Global, conf: &Conf, refusal: LinkFault) -> Status
 fn link_all(alloc: Global, conf: &Conf, modules: Vec<Module>) -> Result<Linked, Status>
     requires few { length modules.items ≤ 64 }
     ensures exact { Loads (λ l. l) result (under (link_refusal conf.now) (linked_of modules.items conf.now)) }
+    ensures environments { IfOk result (λ l. l.images.environments ≡ map environment_bytes conf.now.process) }
     ensures refuses { (faults : ℕ) → IfErr result (Refuses faults faults) }
 {
     match link(alloc, modules, conf) {
@@ -63,10 +77,13 @@ fn linked(alloc: Global, conf: Conf, modules: Vec<Module>) -> Result<Session, St
     requires within { IsWithinLimits conf }
     ensures exact { Loads (λ s. s) result (linked_in conf modules.items) }
     ensures within { IfOk result (λ s. IsWithinLimits s.conf) }
+    ensures environments { IfOk result HasEnvironments }
     ensures refuses { (faults : ℕ) → IfErr result (Refuses faults faults) }
 {
-    let linked = link_all(alloc, &conf, modules)?;
-    Ok(Session { conf, linked })
+    match link_all(alloc, &conf, modules) {
+        Ok(linked) => Ok(Session { conf, linked }),
+        Err(status) => Err(status),
+    }
 }
 
 /// The setting of a program that is run alone.
@@ -98,6 +115,7 @@ fn only(alloc: Global, program: Module) -> Result<Vec<Module>, Status>
 fn open_exe<F: Files>(alloc: Global, files: &mut F, name: &Bytes) -> Result<Session, Status>
     ensures exact { (contents : Contents) → F.told files.old ≡ Some contents → Loads (λ s. s) result (exe_loaded contents name.now) }
     ensures within { IfOk result (λ s. IsWithinLimits s.conf) }
+    ensures environments { IfOk result HasEnvironments }
     ensures refuses { IfErr result (Refuses (F.faults files.old) (F.faults files.new)) }
     ensures count { F.faults files.old ≤ F.faults files.new }
 {
@@ -111,6 +129,7 @@ fn open_exe<F: Files>(alloc: Global, files: &mut F, name: &Bytes) -> Result<Sess
 fn open_run<F: Files>(alloc: Global, files: &mut F, name: &Bytes) -> Result<Session, Status>
     ensures exact { (contents : Contents) → F.told files.old ≡ Some contents → Loads (λ s. s) result (run_loaded contents name.now) }
     ensures within { IfOk result (λ s. IsWithinLimits s.conf) }
+    ensures environments { IfOk result HasEnvironments }
     ensures refuses { IfErr result (Refuses (F.faults files.old) (F.faults files.new)) }
     ensures count { F.faults files.old ≤ F.faults files.new }
 {
@@ -132,6 +151,7 @@ pub fn open<F: Files>(
     ensures exact { (contents : Contents) → F.told files.old ≡ Some contents → Loads (λ s. s) result (loaded verb contents name.now) }
     // the setting is within its limits
     ensures within { IfOk result (λ s. IsWithinLimits s.conf) }
+    ensures environments { IfOk result HasEnvironments }
     // a fault of the files is told only where their count rose
     ensures refuses { IfErr result (Refuses (F.faults files.old) (F.faults files.new)) }
     ensures count { F.faults files.old ≤ F.faults files.new }
@@ -140,4 +160,12 @@ pub fn open<F: Files>(
         Verb::Exe => open_exe(alloc, files, name),
         Verb::Run => open_run(alloc, files, name),
     }
+}
+
+/// The status of a start that is refused: that of process `pid`, for this reason.
+pub fn refused_start(alloc: Global, session: &Session, pid: u16, fault: ModuleFault) -> Status
+    ensures { Tells result (start_refusal session.now pid fault) }
+{
+    let place = session.linked.program(pid).unwrap_or(0);
+    bad_module(alloc, file_name(&session.conf, place), fault)
 }
