@@ -52,7 +52,7 @@ fn changed(
     }
     let mut files = Vec::new(alloc);
     add_file(alloc, &mut files, b"hello.exe", file.as_slice())?;
-    command(alloc, words, files, &[], console_fails, report_fails)
+    command(alloc, words, files, &[], &[], console_fails, report_fails)
 }
 
 /// Words, changed bytes, status, console, how many of the start's lines come, and what follows them.

@@ -19,7 +19,7 @@ fn run_parts(alloc: Global, parts: &[&str]) -> Result<Answer, NoMemory> {
     let mut files = Vec::new(alloc);
     add_file(alloc, &mut files, b"a.toml", text.as_bytes())?;
     add_file(alloc, &mut files, b"hello.exe", &HELLO)?;
-    command(alloc, &["run", "a.toml"], files, &[], &[], &[])
+    command(alloc, &["run", "a.toml"], files, &[], &[], &[], &[])
 }
 
 /// The line of a budget.
