@@ -1,22 +1,12 @@
 // What the calls of the services print, over an input that may fail.
 
 use crate::command::{Answer, Fails, add_file, command, one_file};
-use crate::hello::{HELLO, report_of};
-use o2_base::{Bytes, NoMemory};
+use crate::hello::{changed, report_of};
+use o2_base::NoMemory;
 use std::alloc::Global;
 use std::test::Fail;
 
-/// The program that writes `hello`, with some bytes changed: its first call's ordinal stands at D1h, and its arguments from
-/// B1h on.
-fn changed(alloc: Global, changes: &[(usize, u8)]) -> Result<Bytes, NoMemory> {
-    let mut file = HELLO.to_vec(alloc)?;
-    for (at, byte) in changes {
-        if let Some(place) = file.get_mut(*at) {
-            *place = *byte;
-        }
-    }
-    Ok(Bytes::new(file))
-}
+// The first call's ordinal stands at D1h of the program that writes `hello`, and its arguments from B1h on.
 
 /// The program with these changes over an input of three bytes. The takes and the puts of the report fail at these calls.
 fn run_over(
