@@ -92,7 +92,7 @@ fn shown(rt: &impl Abort, alloc: Global, rows: &str) -> Result<u32, Fail> {
     for row in rows.lines() {
         if let Some((name, code, bytes)) = parts(row) {
             let mut wanted = bytes_of(alloc, bytes)?;
-            while wanted.len() < 16 {
+            for _ in wanted.len()..16 {
                 wanted.push(0)?;
             }
             let answer = answer_of(alloc, code)?;
