@@ -1,10 +1,8 @@
-ghost use Rattle.std.specs.Prelude.{◌≤◌, vec_len};
-
 use super::*;
-use o2_base::{Bytes, Fail as ReadFail, ModuleFault};
-use o2_conf::{Conf, Ordinals};
+use o2_base::{Bytes, Fail as ReadFail, ModuleFault, NoMemory};
+use o2_conf::Conf;
 use o2_image::Module;
-use std::alloc::AllocError;
+use std::alloc::Global;
 use std::test::Fail;
 
 // A program that calls MSG.1 and ends by DosExit; `getmsg` and `dosexit` stand among its imported names at 14 and 21.
@@ -75,77 +73,30 @@ static DOSCALLS: [u8; 160] = [
     0x73, 0x00, 0x00, 0x00, 0x00, 0x00, 0x00, 0x00, 0x00, 0x00, 0x00, 0x00, 0x00, 0x00, 0x00, 0x00,
 ];
 
-// Files by their letters, changes of single bytes (the file among these, place, byte), the module of the process, and what
-// is answered: the refused file, the reason's number, and the names that it tells.
-static LINKED: [(&[u8], &[(usize, usize, u8)], &[u8], (u16, u8, &[u8], &[u8])); 19] = [
-    (b"CM", &[], b"caller", (0, 0, b"", b"")),
-    (b"MC", &[], b"CALLER", (0, 0, b"", b"")),
-    (b"C", &[], b"CALLER", (1, 10, b"MSG", b"")),
-    (b"CM", &[], b"nobody", (0, 10, b"nobody", b"")),
-    (
-        b"CM",
-        &[(0, 0xa0, 0x6d), (0, 0xa1, 0x73)],
-        b"CALLER",
-        (0, 0, b"", b""),
-    ),
-    (b"CM", &[(0, 0xd5, 2)], b"CALLER", (1, 11, b"MSG", b"2")),
-    (
-        b"CM",
-        &[(0, 0xd0, 2), (0, 0xd5, 14)],
-        b"CALLER",
-        (0, 0, b"", b""),
-    ),
-    (
-        b"CM",
-        &[(0, 0xd0, 2), (0, 0xd5, 21)],
-        b"CALLER",
-        (1, 12, b"MSG", b"dosexit"),
-    ),
-    (
-        b"CM",
-        &[
-            (0, 0xd0, 2),
-            (0, 0xd5, 14),
-            (0, 0xac, 4),
-            (0, 0xad, 0x4c),
-            (0, 0xae, 0x4f),
-            (0, 0xaf, 0x53),
-            (0, 0xb0, 0x54),
-        ],
-        b"CALLER",
-        (1, 12, b"MSG", b"LOST"),
-    ),
-    (
-        b"CM",
-        &[(0, 0xd8, 2), (0, 0xdd, 21)],
-        b"CALLER",
-        (0, 0, b"", b""),
-    ),
-    (
-        b"CM",
-        &[(0, 0xd8, 2), (0, 0xdd, 14)],
-        b"CALLER",
-        (1, 12, b"DOSCALLS", b"getmsg"),
-    ),
-    (
-        b"CM",
-        &[(0, 0xdd, 6)],
-        b"CALLER",
-        (1, 11, b"DOSCALLS", b"6"),
-    ),
-    (b"CMM", &[(2, 0x91, 0x6d)], b"CALLER", (3, 13, b"mSG", b"")),
-    (b"CTT", &[], b"CALLER", (3, 13, b"TWO", b"")),
-    (b"MDC", &[], b"CALLER", (2, 13, b"DosCalls", b"")),
-    (b"CM", &[(1, 0x4d, 0)], b"CALLER", (1, 10, b"MSG", b"")),
-    (
-        b"CM",
-        &[(0, 0xd5, 2), (0, 0xa4, 0x58)],
-        b"CALLER",
-        (1, 10, b"XOSCALLS", b""),
-    ),
-    (b"TMC", &[], b"TWO", (0, 0, b"", b"")),
-    (b"TC", &[], b"nobody", (1, 10, b"MSG", b"")),
-];
+// A line each: files by their letters; changes of single bytes, as file (from 0), place and byte; the module of the process;
+// and the refused file, the reason, and the name and what else it tells, or 0 and 0 where nothing is refused. Places, bytes
+// and reasons are hexadecimal.
+static LINKED: &str = "
+CM | | caller | 0 0
+MC | | CALLER | 0 0
+C | | CALLER | 1 A MSG
+CM | | nobody | 0 A nobody
+CM | 0.A0=6D 0.A1=73 | CALLER | 0 0
+CM | 0.D5=2 | CALLER | 1 B MSG 2
+CM | 0.D0=2 0.D5=E | CALLER | 0 0
+CM | 0.D0=2 0.D5=15 | CALLER | 1 C MSG dosexit
+CM | 0.D0=2 0.D5=E 0.AC=4 0.AD=4C 0.AE=4F 0.AF=53 0.B0=54 | CALLER | 1 C MSG LOST
+CM | 0.D8=2 0.DD=15 | CALLER | 0 0
+CM | 0.D8=2 0.DD=E | CALLER | 1 C DOSCALLS getmsg
+CM | 0.DD=6 | CALLER | 1 B DOSCALLS 6
+CMM | 2.91=6D | CALLER | 3 D mSG
+CTT | | CALLER | 3 D TWO
+MDC | | CALLER | 2 D DosCalls
+CM | 1.4D=0 | CALLER | 1 A MSG
+CM | 0.D5=2 0.A4=58 | CALLER | 1 A XOSCALLS
+TMC | | TWO | 0 0
+TC | | nobody | 1 A MSG
+";
 
 // A file by its letter.
 fn file_of(letter: u8) -> &'static [u8] {
@@ -157,52 +108,80 @@ fn file_of(letter: u8) -> &'static [u8] {
     }
 }
 
-// These files, with these changes, as modules.
-fn modules(
-    rt: &HostRuntime,
-    letters: &[u8],
-    changes: &[(usize, usize, u8)],
-) -> Result<Vec<Module>, Fail> {
-    let mut modules = Vec::new(rt.alloc());
-    for (i, letter) in letters.iter().enumerate() {
-        let mut file = file_of(*letter).to_vec(rt.alloc())?;
-        for (which, place, byte) in changes {
-            if *which == i {
-                if let Some(held) = file.get_mut(*place) {
-                    *held = *byte;
-                }
+fn number(text: &str) -> u16 {
+    match u16::from_str_radix(text, 16) {
+        Ok(value) => value,
+        Err(_) => 0xDEAD,
+    }
+}
+
+// The place and the byte of a change of this file.
+fn change_of(which: usize, change: &str) -> Option<(usize, u8)> {
+    let (file, rest) = change.split_once('.')?;
+    let (place, byte) = rest.split_once('=')?;
+    if number(file) as usize == which {
+        Some((number(place) as usize, (number(byte) % 256) as u8))
+    } else {
+        None
+    }
+}
+
+// A file with the changes that are its own.
+fn changed(alloc: Global, which: usize, letter: u8, changes: &str) -> Result<Vec<u8>, NoMemory> {
+    let mut file = file_of(letter).to_vec(alloc)?;
+    for change in changes.split_ascii_whitespace() {
+        if let Some((place, byte)) = change_of(which, change) {
+            if let Some(held) = file.get_mut(place) {
+                *held = byte;
             }
         }
-        if file.len() <= 240 {
-            modules.push(Module::check(rt.alloc(), Bytes::new(file))?)?;
-        }
+    }
+    Ok(file)
+}
+
+fn checked(alloc: Global, file: Vec<u8>) -> Result<Module, Fail> {
+    if file.len() > 240 {
+        return Err("too long".into());
+    }
+    Ok(Module::check(alloc, Bytes::new(file))?)
+}
+
+// These files, with these changes, as modules.
+fn modules(alloc: Global, letters: &str, changes: &str) -> Result<Vec<Module>, Fail> {
+    let mut modules = Vec::new(alloc);
+    for (i, letter) in letters.as_bytes().iter().enumerate() {
+        let file = changed(alloc, i, *letter, changes)?;
+        modules.push(checked(alloc, file)?)?;
     }
     Ok(modules)
 }
 
 // The setting of one process of this module.
-fn setting(rt: &HostRuntime, name: &[u8]) -> Result<Conf, Fail> {
-    let file = Bytes::from_slice(rt.alloc(), b"f")?;
-    let name = Bytes::from_slice(rt.alloc(), name)?;
-    Ok(Conf::exe(rt.alloc(), &file, &name)?)
+fn setting(alloc: Global, name: &str) -> Result<Conf, Fail> {
+    let file = Bytes::from_slice(alloc, b"f")?;
+    let name = Bytes::from_slice(alloc, name.as_bytes())?;
+    Ok(Conf::exe(alloc, &file, &name)?)
 }
 
-// Why linking is refused, if it is. Want of memory is none of the expected reasons.
-fn refusal_of(rt: &HostRuntime, modules: Vec<Module>, conf: &Conf) -> Option<LinkFault>
-    requires { vec_len modules ≤ 64 }
-{
-    match link(rt.alloc(), modules, conf) {
-        Ok(_) => None,
-        Err(ReadFail::Bad(refusal)) => Some(refusal),
-        Err(ReadFail::NoMemory) => Some(LinkFault {
-            file: 0,
-            fault: ModuleFault::NoSegment,
-        }),
+// These modules linked for a process of this module.
+fn linked(
+    alloc: Global,
+    modules: Vec<Module>,
+    process: &str,
+) -> Result<Result<Linked, LinkFault>, Fail> {
+    let conf = setting(alloc, process)?;
+    if modules.len() > 64 {
+        return Err("too many".into());
+    }
+    match link(alloc, modules, &conf) {
+        Ok(linked) => Ok(Ok(linked)),
+        Err(ReadFail::Bad(refusal)) => Ok(Err(refusal)),
+        Err(ReadFail::NoMemory) => Err("no memory".into()),
     }
 }
 
-// The number of a reason, its first name, and its second name or its ordinal of one digit.
-fn told(fault: &ModuleFault) -> (u8, &[u8], &[u8]) {
+// The number of a reason, its name, and what else it tells: a name, or an ordinal of one digit.
+fn told(fault: &ModuleFault) -> (u16, &[u8], &[u8]) {
     match fault {
         ModuleFault::NoModule(name) => (10, name.as_slice(), b""),
         ModuleFault::NoOrdinal(name, 2) => (11, name.as_slice(), b"2"),
@@ -214,42 +193,83 @@ fn told(fault: &ModuleFault) -> (u8, &[u8], &[u8]) {
     }
 }
 
+// Whether what linking answers is what a line tells.
+fn is_told(answer: &Result<Linked, LinkFault>, expected: &str) -> bool {
+    let mut words = expected.split_ascii_whitespace();
+    let file = number(words.next().unwrap_or(""));
+    let reason = number(words.next().unwrap_or(""));
+    let first = words.next().unwrap_or("");
+    let second = words.next().unwrap_or("");
+    match answer {
+        Ok(_) => reason == 0,
+        Err(refusal) => {
+            refusal.file == file
+                && told(&refusal.fault) == (reason, first.as_bytes(), second.as_bytes())
+        }
+    }
+}
+
+// The four parts of a line.
+fn parts(line: &str) -> Option<(&str, &str, &str, &str)> {
+    let (letters, rest) = line.split_once('|')?;
+    let (changes, rest) = rest.split_once('|')?;
+    let (process, expected) = rest.split_once('|')?;
+    Some((letters.trim(), changes, process.trim(), expected))
+}
+
 #[test]
 fn the_first_refusal_is_told(rt: HostRuntime) -> Result<(), Fail> {
-    for (letters, changes, process, expected) in LINKED.iter() {
-        let modules = modules(&rt, letters, changes)?;
-        let conf = setting(&rt, process)?;
-        assert!(rt; modules.len() <= 64);
-        let refusal = refusal_of(&rt, modules, &conf);
-        match &refusal {
-            None => assert_eq!(rt; expected.1, 0),
-            Some(refusal) => {
-                let (number, first, second) = told(&refusal.fault);
-                assert_eq!(rt; refusal.file, expected.0);
-                assert_eq!(rt; number, expected.1);
-                assert_eq!(rt; first, expected.2);
-                assert_eq!(rt; second, expected.3);
-            }
+    let mut count = 0u32;
+    for line in LINKED.lines() {
+        if let Some((letters, changes, process, expected)) = parts(line) {
+            let modules = modules(rt.alloc(), letters, changes)?;
+            let answer = linked(rt.alloc(), modules, process)?;
+            assert!(rt; is_told(&answer, expected), "of {line}");
+            count = count.saturating_add(1);
         }
+    }
+    assert_eq!(rt; count, 19);
+    Ok(())
+}
+
+// Modules with segments, and the indexes of these.
+static INDEXES: [(u16, u16, Option<u16>); 7] = [
+    (1, 2, Some(2)),
+    (1, 3, None),
+    (2, 1, Some(4096)),
+    (2, 2, Some(4097)),
+    (3, 1, Some(4098)),
+    (3, 0, None),
+    (4, 1, None),
+];
+
+// A program with two libraries, linked.
+fn program_with_libraries(alloc: Global) -> Result<Linked, Fail> {
+    let modules = modules(alloc, "CMT", "")?;
+    match linked(alloc, modules, "Caller")? {
+        Ok(linked) => Ok(linked),
+        Err(_) => Err("refused".into()),
+    }
+}
+
+#[test]
+fn indexes_of_segments(rt: HostRuntime) -> Result<(), Fail> {
+    let linked = program_with_libraries(rt.alloc())?;
+    for (module, segment, index) in INDEXES {
+        assert_eq!(rt;
+            linked.index(module, segment),
+            index,
+            "of {module} {segment}"
+        );
     }
     Ok(())
 }
 
 #[test]
 fn a_program_with_a_library(rt: HostRuntime) -> Result<(), Fail> {
-    let modules = modules(&rt, b"CMT", &[])?;
-    let conf = setting(&rt, b"Caller")?;
-    assert!(rt; modules.len() <= 64);
-    let linked = link(rt.alloc(), modules, &conf)?;
+    let linked = program_with_libraries(rt.alloc())?;
     assert_eq!(rt; linked.program(1), Some(1));
     assert_eq!(rt; linked.program(2), None);
-    assert_eq!(rt; linked.index(1, 2), Some(2));
-    assert_eq!(rt; linked.index(1, 3), None);
-    assert_eq!(rt; linked.index(2, 1), Some(4096));
-    assert_eq!(rt; linked.index(2, 2), Some(4097));
-    assert_eq!(rt; linked.index(3, 1), Some(4098));
-    assert_eq!(rt; linked.index(3, 0), None);
-    assert_eq!(rt; linked.index(4, 1), None);
     assert!(rt; linked.process_count() == 1);
     assert_eq!(rt; linked.libraries(1), [2].as_slice());
     let environment = linked.images().environment(1).ok_or("no environment")?;

@@ -2,7 +2,7 @@
 
 use o2_base::{Bytes, NoMemory};
 use o2_cli::{number, os2run, text};
-use o2_outer::{MemFiles, MemSink, SureSource, SureSwap};
+use o2_outer::{MemFiles, MemSink, MemSource, SureSwap};
 use std::alloc::Global;
 
 /// What a command came to.
@@ -28,17 +28,18 @@ fn words_of(alloc: Global, words: &[&str]) -> Result<Vec<String>, NoMemory> {
     Ok(list)
 }
 
-/// A command over these files and this input.
+/// A command over these files and this input, whose takes at `takes`, counted from 1, fail.
 pub fn command(
     alloc: Global,
     words: &[&str],
     files: Vec<(Bytes, Bytes)>,
     input: &[u8],
+    takes: &[u64],
     console_fails: Fails<'_>,
     report_fails: Fails<'_>,
 ) -> Result<Answer, NoMemory> {
     let mut files = MemFiles::new(files, Vec::new(alloc));
-    let mut input = SureSource::new(Bytes::from_slice(alloc, input)?);
+    let mut input = MemSource::new(Bytes::from_slice(alloc, input)?, takes.to_vec(alloc)?);
     let mut console = MemSink::new(alloc, 4096, console_fails.to_vec(alloc)?)?;
     let mut report = MemSink::new(alloc, 65536, report_fails.to_vec(alloc)?)?;
     let mut swap = SureSwap::new(alloc, 1)?;

@@ -1,6 +1,6 @@
 // A program that writes `hello`, and what may go wrong with it.
 
-use crate::command::{Answer, Fails, add_file, command};
+use crate::command::{Answer, Fails, command, one_file};
 use o2_base::{Bytes, NoMemory};
 use std::alloc::Global;
 use std::test::Fail;
@@ -36,23 +36,27 @@ pub static LINES: [&str; 8] = [
     "all ended\n",
 ];
 
-/// A command over one file, `hello.exe` with some bytes changed.
-fn changed(
-    alloc: Global,
-    words: &[&str],
-    changes: &[(usize, u8)],
-    console_fails: Fails<'_>,
-    report_fails: Fails<'_>,
-) -> Result<Answer, NoMemory> {
+/// The program with some bytes changed.
+pub fn changed(alloc: Global, changes: &[(usize, u8)]) -> Result<Bytes, NoMemory> {
     let mut file = HELLO.to_vec(alloc)?;
     for (at, byte) in changes {
         if let Some(place) = file.get_mut(*at) {
             *place = *byte;
         }
     }
-    let mut files = Vec::new(alloc);
-    add_file(alloc, &mut files, b"hello.exe", file.as_slice())?;
-    command(alloc, words, files, &[], console_fails, report_fails)
+    Ok(Bytes::new(file))
+}
+
+/// A command over one file, `hello.exe` with some bytes changed.
+fn run_changed(
+    alloc: Global,
+    words: &[&str],
+    changes: &[(usize, u8)],
+    console_fails: Fails<'_>,
+    report_fails: Fails<'_>,
+) -> Result<Answer, NoMemory> {
+    let files = one_file(alloc, b"hello.exe", changed(alloc, changes)?)?;
+    command(alloc, words, files, &[], &[], console_fails, report_fails)
 }
 
 /// Words, changed bytes, status, console, how many of the start's lines come, and what follows them.
@@ -128,7 +132,7 @@ pub fn report_of(alloc: Global, lines: usize, rest: &str) -> Result<String, NoMe
 #[test]
 fn rows(rt: HostRuntime) -> Result<(), Fail> {
     for (words, changes, status, console, lines, rest) in ROWS.iter() {
-        let answer = changed(rt.alloc(), words, changes, &[], &[])?;
+        let answer = run_changed(rt.alloc(), words, changes, &[], &[])?;
         let report = report_of(rt.alloc(), *lines, rest)?;
         assert_eq!(rt; answer.status, *status, "of {words:?} {changes:?}");
         assert_eq!(rt;
@@ -150,7 +154,7 @@ fn each_put_of_the_report_fails(rt: HostRuntime) -> Result<(), Fail> {
     for (k, line) in LINES.iter().enumerate() {
         for taken in 0..line.len() {
             let fails = [((k as u64).saturating_add(1), taken)];
-            let answer = changed(rt.alloc(), &["exe", "hello.exe"], &[], &[], &fails)?;
+            let answer = run_changed(rt.alloc(), &["exe", "hello.exe"], &[], &[], &fails)?;
             let mut report = report_of(rt.alloc(), k, "")?.into_bytes();
             report.extend_from_slice(&line.as_bytes()[..taken])?;
             assert_eq!(rt; answer.status, 7, "at put {k} after {taken}");
@@ -174,7 +178,7 @@ fn each_put_of_the_report_fails(rt: HostRuntime) -> Result<(), Fail> {
 fn the_put_of_the_console_fails(rt: HostRuntime) -> Result<(), Fail> {
     let whole = b"hello";
     for taken in 0..whole.len() {
-        let answer = changed(rt.alloc(), &["exe", "hello.exe"], &[], &[(1, taken)], &[])?;
+        let answer = run_changed(rt.alloc(), &["exe", "hello.exe"], &[], &[(1, taken)], &[])?;
         let report = report_of(rt.alloc(), 4, "")?;
         assert_eq!(rt; answer.status, 7);
         assert_eq!(rt; answer.console.taken(), &whole[..taken]);
@@ -221,7 +225,7 @@ static REFUSED: [(&[(usize, u8)], &str); 9] = [
 #[test]
 fn refusals(rt: HostRuntime) -> Result<(), Fail> {
     for (changes, line) in REFUSED.iter() {
-        let answer = changed(rt.alloc(), &["exe", "hello.exe"], changes, &[], &[])?;
+        let answer = run_changed(rt.alloc(), &["exe", "hello.exe"], changes, &[], &[])?;
         assert_eq!(rt; answer.status, 4, "of {changes:?}");
         assert_eq!(rt; answer.line.as_slice(), line.as_bytes(), "of {changes:?}");
         assert_eq!(rt; answer.report.taken().len(), 0, "of {changes:?}");

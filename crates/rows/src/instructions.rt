@@ -4,9 +4,10 @@
 mod data;
 mod flow;
 
-use crate::command::{command, one_file};
+use crate::command::{Answer, command, one_file};
 use o2_base::{Bytes, NoMemory};
 use std::alloc::Global;
+use std::process::Abort;
 use std::test::Fail;
 
 /// What stands before the code: header, segment table and names of a program of two segments, the second with 128 bytes and a
@@ -61,40 +62,76 @@ fn program(alloc: Global, code: &[u8]) -> Result<Bytes, NoMemory> {
 const START: &str =
     "1 start HELLO\n1 hold 000F by load\n1 hold 0017 by load\n1 hold 001F by load\n";
 
-/// Runs programs whose code leaves these words at DS:0010.
-fn shown(rt: &HostRuntime, cases: &[(&str, &[u8], [u8; 16])]) -> Result<(), Fail> {
-    for (name, code, wanted) in cases.iter() {
-        let files = one_file(rt.alloc(), b"a.exe", program(rt.alloc(), code)?)?;
-        let answer = command(rt.alloc(), &["exe", "a.exe"], files, &[], &[], &[])?;
-        assert_eq!(rt; answer.console.taken(), wanted.as_slice(), "of {name}");
-        assert_eq!(rt; answer.status, 0, "of {name}");
+/// The bytes of hexadecimal tokens.
+fn bytes_of(alloc: Global, text: &str) -> Result<Vec<u8>, Fail> {
+    let mut bytes = Vec::new(alloc);
+    for token in text.split_ascii_whitespace() {
+        let byte = u8::from_str_radix(token, 16).ok().ok_or("no byte")?;
+        bytes.push(byte)?;
     }
-    Ok(())
+    Ok(bytes)
 }
 
-/// Runs programs whose code ends the process with this line.
-fn ended(rt: &HostRuntime, cases: &[(&str, &[u8], &str)]) -> Result<(), Fail> {
-    for (name, code, line) in cases.iter() {
-        let files = one_file(rt.alloc(), b"a.exe", program(rt.alloc(), code)?)?;
-        let answer = command(rt.alloc(), &["exe", "a.exe"], files, &[], &[], &[])?;
-        let mut report = String::new(rt.alloc());
-        report.push_str(START)?;
-        report.push_str(line)?;
-        report.push_str("\nall ended\n")?;
-        assert_eq!(rt; answer.report.taken(), report.as_bytes(), "of {name}");
-        assert_eq!(rt; answer.status, 0, "of {name}");
+/// The three parts of a line.
+fn parts(line: &str) -> Option<(&str, &str, &str)> {
+    let (name, rest) = line.split_once(" | ")?;
+    let (code, wanted) = rest.split_once(" | ")?;
+    Some((name, code, wanted))
+}
+
+/// What the program of this code comes to.
+fn answer_of(alloc: Global, code: &str) -> Result<Answer, Fail> {
+    let code = bytes_of(alloc, code)?;
+    let files = one_file(alloc, b"a.exe", program(alloc, code.as_slice())?)?;
+    Ok(command(alloc, &["exe", "a.exe"], files, &[], &[], &[], &[])?)
+}
+
+/// Runs programs whose code leaves these bytes at DS:0010, with 0 behind them, and counts them.
+fn shown(rt: &impl Abort, alloc: Global, rows: &str) -> Result<u32, Fail> {
+    let mut count = 0u32;
+    for row in rows.lines() {
+        if let Some((name, code, bytes)) = parts(row) {
+            let mut wanted = bytes_of(alloc, bytes)?;
+            for _ in wanted.len()..16 {
+                wanted.push(0)?;
+            }
+            let answer = answer_of(alloc, code)?;
+            assert_eq!(rt; answer.console.taken(), wanted.as_slice(), "of {name}");
+            assert_eq!(rt; answer.status, 0, "of {name}");
+            count = count.saturating_add(1);
+        }
     }
-    Ok(())
+    Ok(count)
+}
+
+/// Runs programs whose code ends the process with this line, and counts them.
+fn ended(rt: &impl Abort, alloc: Global, rows: &str) -> Result<u32, Fail> {
+    let mut count = 0u32;
+    for row in rows.lines() {
+        if let Some((name, code, line)) = parts(row) {
+            let answer = answer_of(alloc, code)?;
+            let mut report = String::new(alloc);
+            report.push_str(START)?;
+            report.push_str(line)?;
+            report.push_str("\nall ended\n")?;
+            assert_eq!(rt; answer.report.taken(), report.as_bytes(), "of {name}");
+            assert_eq!(rt; answer.status, 0, "of {name}");
+            count = count.saturating_add(1);
+        }
+    }
+    Ok(count)
 }
 
 #[test]
 fn data_instructions(rt: HostRuntime) -> Result<(), Fail> {
-    shown(&rt, &data::SHOWN)?;
-    ended(&rt, &data::ENDED)
+    assert_eq!(rt; shown(&rt, rt.alloc(), data::SHOWN)?, 56);
+    assert_eq!(rt; ended(&rt, rt.alloc(), data::ENDED)?, 15);
+    Ok(())
 }
 
 #[test]
 fn flow_and_string_instructions(rt: HostRuntime) -> Result<(), Fail> {
-    shown(&rt, &flow::SHOWN)?;
-    ended(&rt, &flow::ENDED)
+    assert_eq!(rt; shown(&rt, rt.alloc(), flow::SHOWN)?, 54);
+    assert_eq!(rt; ended(&rt, rt.alloc(), flow::ENDED)?, 32);
+    Ok(())
 }

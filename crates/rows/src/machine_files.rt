@@ -19,7 +19,7 @@ fn run_parts(alloc: Global, parts: &[&str]) -> Result<Answer, NoMemory> {
     let mut files = Vec::new(alloc);
     add_file(alloc, &mut files, b"a.toml", text.as_bytes())?;
     add_file(alloc, &mut files, b"hello.exe", &HELLO)?;
-    command(alloc, &["run", "a.toml"], files, &[], &[], &[])
+    command(alloc, &["run", "a.toml"], files, &[], &[], &[], &[])
 }
 
 /// The line of a budget.
@@ -87,14 +87,19 @@ fn a_slice_comes_first_and_ends_with_its_process(rt: HostRuntime) -> Result<(), 
     Ok(())
 }
 
-#[test]
-fn sixty_four_processes(rt: HostRuntime) -> Result<(), Fail> {
-    let mut text = String::new(rt.alloc());
-    for _ in 0..64 {
+/// What so many processes come to that take turns of one step each.
+fn run_many(alloc: Global, count: u32) -> Result<Answer, NoMemory> {
+    let mut text = String::new(alloc);
+    text.push_str("budget = 1000000\nquantum = 1\n")?;
+    for _ in 0..count {
         text.push_str(PROCESS)?;
     }
-    let front = "budget = 1000000\nquantum = 1\n";
-    let answer = run_parts(rt.alloc(), &[FRONT, front, text.as_str()])?;
+    run_parts(alloc, &[FRONT, text.as_str()])
+}
+
+#[test]
+fn sixty_four_processes(rt: HostRuntime) -> Result<(), Fail> {
+    let answer = run_many(rt.alloc(), 64)?;
     assert_eq!(rt; answer.status, 0);
     assert_eq!(rt; answer.console.taken().len(), 320);
     let ended = answer
@@ -104,10 +109,14 @@ fn sixty_four_processes(rt: HostRuntime) -> Result<(), Fail> {
         .filter(|part| *part == b"end exit 0\n".as_slice())
         .count();
     assert_eq!(rt; ended, 64);
-    text.push_str(PROCESS)?;
-    let more = run_parts(rt.alloc(), &[FRONT, front, text.as_str()])?;
+    Ok(())
+}
+
+#[test]
+fn no_more_than_sixty_four_processes(rt: HostRuntime) -> Result<(), Fail> {
+    let answer = run_many(rt.alloc(), 65)?;
     assert_eq!(rt;
-        more.line.as_slice(),
+        answer.line.as_slice(),
         b"os2run: machine file: reason 4 process\n".as_slice()
     );
     Ok(())

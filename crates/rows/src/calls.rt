@@ -1,0 +1,155 @@
+// What the calls of the services print, over an input that may fail.
+
+use crate::command::{Answer, Fails, add_file, command, one_file};
+use crate::hello::{changed, report_of};
+use o2_base::NoMemory;
+use std::alloc::Global;
+use std::test::Fail;
+
+// The first call's ordinal stands at D1h of the program that writes `hello`, and its arguments from B1h on.
+
+/// The program with these changes over an input of three bytes. The takes and the puts of the report fail at these calls.
+fn run_over(
+    alloc: Global,
+    changes: &[(usize, u8)],
+    takes: &[u64],
+    puts: Fails<'_>,
+) -> Result<Answer, NoMemory> {
+    let files = one_file(alloc, b"a.exe", changed(alloc, changes)?)?;
+    command(alloc, &["exe", "a.exe"], files, b"abc", takes, &[], puts)
+}
+
+/// DosRead of 8 bytes from handle 0 to 0017:0000, and of their number to 0017:0008.
+static READ: [(usize, u8); 4] = [(0xD1, 137), (0xB1, 0), (0xB7, 8), (0xBA, 8)];
+
+/// What a program that goes on to DosExit ends with.
+static END: &str = "1 call DosExit 0001 0000\n1 end exit 0\nall ended\n";
+
+/// Changed bytes, the line of the first call, and whether DosExit follows.
+static ROWS: [(&[(usize, u8)], &str, bool); 7] = [
+    // DosRead of what is there
+    (
+        &[(0xD1, 137), (0xB1, 0), (0xB7, 8), (0xBA, 8)],
+        "1 call DosRead 0000 0017:0000 0008 0017:0008 = 0 0003\n",
+        true,
+    ),
+    // of less than that
+    (
+        &[(0xD1, 137), (0xB1, 0), (0xB7, 2), (0xBA, 8)],
+        "1 call DosRead 0000 0017:0000 0002 0017:0008 = 0 0002\n",
+        true,
+    ),
+    // of nothing
+    (
+        &[(0xD1, 137), (0xB1, 0), (0xB7, 0), (0xBA, 8)],
+        "1 call DosRead 0000 0017:0000 0000 0017:0008 = 0 0000\n",
+        true,
+    ),
+    // from handle 1
+    (
+        &[(0xD1, 137), (0xB1, 1), (0xB7, 8), (0xBA, 8)],
+        "1 call DosRead 0001 0017:0000 0008 0017:0008 = 6\n",
+        true,
+    ),
+    // past the end of the segment, which has 528 bytes
+    (
+        &[
+            (0xD1, 137),
+            (0xB1, 0),
+            (0xB4, 0x09),
+            (0xB5, 0x02),
+            (0xB7, 8),
+        ],
+        "1 end trap 13 at 000F:000B\nall ended\n",
+        false,
+    ),
+    // DosGetPID and DosMemAvail
+    (
+        &[(0xD1, 94)],
+        "1 call DosGetPID 0017:0006 = 0 0001 0001 0000\n",
+        true,
+    ),
+    (
+        &[(0xD1, 127)],
+        "1 call DosMemAvail 0017:0006 = 0 00080000\n",
+        true,
+    ),
+];
+
+#[test]
+fn calls(rt: HostRuntime) -> Result<(), Fail> {
+    for (changes, line, exits) in ROWS.iter() {
+        let answer = run_over(rt.alloc(), changes, &[], &[])?;
+        let mut wanted = report_of(rt.alloc(), 4, line)?;
+        if *exits {
+            wanted.push_str(END)?;
+        }
+        assert_eq!(rt; answer.status, 0, "of {changes:?}");
+        assert_eq!(rt; answer.report.taken(), wanted.as_bytes(), "of {changes:?}");
+    }
+    Ok(())
+}
+
+#[test]
+fn the_input_fails(rt: HostRuntime) -> Result<(), Fail> {
+    let stop = "stop input fault\n";
+    let answer = run_over(rt.alloc(), &READ, &[1], &[])?;
+    let wanted = report_of(rt.alloc(), 4, stop)?;
+    assert_eq!(rt; answer.status, 6);
+    assert_eq!(rt; answer.report.taken(), wanted.as_bytes());
+    // and so does the put of the stop line
+    for taken in 0..stop.len() {
+        let answer = run_over(rt.alloc(), &READ, &[1], &[(5, taken)])?;
+        let mut wanted = report_of(rt.alloc(), 4, "")?.into_bytes();
+        wanted.extend_from_slice(&stop.as_bytes()[..taken])?;
+        assert_eq!(rt; answer.status, 6, "after {taken}");
+        assert_eq!(rt; answer.report.taken(), wanted.as_slice(), "after {taken}");
+    }
+    // a program that doesn't read never goes to it
+    let answer = run_over(rt.alloc(), &[], &[1], &[])?;
+    assert_eq!(rt; answer.status, 0);
+    Ok(())
+}
+
+#[test]
+fn each_put_fails_beside_an_input(rt: HostRuntime) -> Result<(), Fail> {
+    let whole = run_over(rt.alloc(), &READ, &[], &[])?;
+    for k in 1..=8 {
+        let answer = run_over(rt.alloc(), &READ, &[], &[(k, 3)])?;
+        assert_eq!(rt; answer.status, 7, "at put {k}");
+        assert!(rt;
+            whole.report.taken().starts_with(answer.report.taken()),
+            "at put {k}"
+        );
+    }
+    Ok(())
+}
+
+/// A machine file of 15 steps.
+const FIFTEEN: &str =
+    "memory = 1048576\nswap = 2048\nsegments = 1024\nquantum = 1000\nbudget = 15\nmodules = [\"a.exe\"]\n[[process]]\nmodule = \"HELLO\"\n";
+
+/// The program that reads again and again.
+static READS: [(usize, u8); 6] = [
+    (0xD1, 137),
+    (0xB1, 0),
+    (0xB7, 8),
+    (0xBA, 8),
+    (0xC0, 0xEB),
+    (0xC1, 0xEE),
+];
+
+#[test]
+fn a_read_behind_the_end_gives_nothing(rt: HostRuntime) -> Result<(), Fail> {
+    let mut files = one_file(rt.alloc(), b"a.exe", changed(rt.alloc(), &READS)?)?;
+    add_file(rt.alloc(), &mut files, b"a.toml", FIFTEEN.as_bytes())?;
+    let words = &["run", "a.toml"];
+    let answer = command(rt.alloc(), words, files, b"abc", &[], &[], &[])?;
+    let wanted = report_of(
+        rt.alloc(),
+        4,
+        "1 call DosRead 0000 0017:0000 0008 0017:0008 = 0 0003\n1 call DosRead 0000 0017:0000 0008 0017:0008 = 0 0000\nbudget spent\n",
+    )?;
+    assert_eq!(rt; answer.report.taken(), wanted.as_bytes());
+    Ok(())
+}
