@@ -1,4 +1,4 @@
-// Runs a segmented executable (NE) of OS/2 1.x: `os2run exe FILE`.
+// Runs segmented executables (NE) of OS/2 1.x: `os2run exe FILE`, `os2run run FILE`.
 //
 // The program's input is the standard input, and its console the standard output. The report, and the line of a status other
 // than 0, go to the standard error; the status is the exit status.
