@@ -46,19 +46,19 @@ pub in_opening : (s : Session) (b : Built) (input : List ℕ) (c r q : Option (L
 in_opening s b input c r q g = InOpening (λ t e. e ∙ ap Some (sym (append-nil t))) g
 
 -- a refusal of a start, as it is told
-pub refused_texts : (s : Session) (i c r q : Option (List ℕ)) (pid : ℕ) (fault : ModuleFault) (answer : Status) → starting s.linked s.conf ≡ Err (pid, fault) → q ≡ r → Tells answer (start_refusal s pid fault) → ShowsRun s i i c c r q answer
-refused_texts s i c r q pid fault status.NoMemory e same t = record { input = refl; console = refl; report = same }
-refused_texts s i c r q pid fault (status.BadModule name f) e same t = (record { input = refl; console = refl; report = same }, λ input. is_refused s input (pid, fault) e ∙ ap Err (sym t))
-refused_texts s i c r q pid fault status.Fine e same t = absurd (cc)
-refused_texts s i c r q pid fault status.BadWords e same t = absurd (cc)
-refused_texts s i c r q pid fault (status.NoFile name) e same t = absurd (cc)
-refused_texts s i c r q pid fault (status.BadMachine f) e same t = absurd (cc)
-refused_texts s i c r q pid fault status.FileFault e same t = absurd (cc)
-refused_texts s i c r q pid fault status.InputFault e same t = absurd (cc)
-refused_texts s i c r q pid fault status.SinkFault e same t = absurd (cc)
-refused_texts s i c r q pid fault status.NoRoom e same t = absurd (cc)
-refused_texts s i c r q pid fault status.SwapFull e same t = absurd (cc)
-refused_texts s i c r q pid fault status.SwapFault e same t = absurd (cc)
+pub refused_texts : (s : Session) (i c r q : Option (List ℕ)) (z : Type 0) (pid : ℕ) (fault : ModuleFault) (answer : Status) → starting s.linked s.conf ≡ Err (pid, fault) → q ≡ r → Tells answer (start_refusal s pid fault) → ShowsRun s i i c c r q z answer
+refused_texts s i c r q z pid fault status.NoMemory e same t = record { input = refl; console = refl; report = same }
+refused_texts s i c r q z pid fault (status.BadModule name f) e same t = (record { input = refl; console = refl; report = same }, λ input. is_refused s input (pid, fault) e ∙ ap Err (sym t))
+refused_texts s i c r q z pid fault status.Fine e same t = absurd (cc)
+refused_texts s i c r q z pid fault status.BadWords e same t = absurd (cc)
+refused_texts s i c r q z pid fault (status.NoFile name) e same t = absurd (cc)
+refused_texts s i c r q z pid fault (status.BadMachine f) e same t = absurd (cc)
+refused_texts s i c r q z pid fault status.FileFault e same t = absurd (cc)
+refused_texts s i c r q z pid fault status.InputFault e same t = absurd (cc)
+refused_texts s i c r q z pid fault status.SinkFault e same t = absurd (cc)
+refused_texts s i c r q z pid fault status.NoRoom e same t = absurd (cc)
+refused_texts s i c r q z pid fault status.SwapFull e same t = absurd (cc)
+refused_texts s i c r q z pid fault status.SwapFault e same t = absurd (cc)
 
 -- a run stops for want of input alone
 pub only_input : (s : Stop) → s ≡ Input
@@ -67,13 +67,13 @@ only_input Input = refl
 abbrev load_started : List ℕ → Result Session Status → Result Opened Status
 load_started input r = r >>= (λ s. started s input)
 
-module _ (words : List (String Global)) (told : Told) (i j c d r q : Option (List ℕ)) (verb : Verb) (name : List ℕ) (s : Session) (command : IsCommandFor words verb name)
+module _ (words : List (String Global)) (told : Told) (i j c d r q : Option (List ℕ)) (e : Type 0) (verb : Verb) (name : List ℕ) (s : Session) (command : IsCommandFor words verb name)
     (loads : (contents : Contents) → told ≡ Some contents → loaded verb contents name ≡ Ok s) where
   opens : (contents : Contents) (input : List ℕ) (P : Opened → Type 0) → told ≡ Some contents → StartsWith s input P → Opens words contents input P
   opens contents input P is st = record { verb = verb; name = name; command = command; start = st.start; opens = ap (load_started input) (loads contents is) ∙ st.starts; runs = st.runs }
 
   -- what a session's run shows is what its command shows
-  pub shown : (answer : Status) → ShowsRun s i j c d r q answer → Shows words told i j c d r q answer
+  pub shown : (answer : Status) → ShowsRun s i j c d r q e answer → Shows words told i j c d r q e answer
   shown status.Fine t = λ contents input is left. opens contents input _ is (t input left)
   shown status.SinkFault t = λ contents input is left. opens contents input _ is (t input left)
   shown status.InputFault t = λ contents input is left. opens contents input _ is (t input left)
@@ -88,7 +88,7 @@ module _ (words : List (String Global)) (told : Told) (i j c d r q : Option (Lis
   shown status.SwapFault t = absurd t
 
   -- and what it refuses is what its command refuses
-  pub refused : (answer : Status) → ShowsRun s i j c d r q answer → TopRefuses words told answer
+  pub refused : (answer : Status) → ShowsRun s i j c d r q e answer → TopRefuses words told answer
   refused status.Fine t = (verb, name, command)
   refused status.SinkFault t = (verb, name, command)
   refused status.InputFault t = (verb, name, command)

@@ -15,10 +15,10 @@ pub record StartsWith (s : Session) (input : List ℕ) (P : Opened → Type 0) :
   pub runs : P start
 
 -- what its run shows, by the status
-abbrev pub ShowsRun : Session → (left_old left_new console_old console_new report_old report_new : Option (List ℕ)) → Status → Type 0
-ShowsRun s i j c d r q status.Fine = (input : List ℕ) → i ≡ Some input → StartsWith s input (λ o. HasWholeRun o.setting o.world j c d r q)
-ShowsRun s i j c d r q status.SinkFault = (input : List ℕ) → i ≡ Some input → StartsWith s input (λ o. HasPartTexts o.setting o.world c d r q)
-ShowsRun s i j c d r q status.InputFault = (input : List ℕ) → i ≡ Some input → StartsWith s input (λ o. HasStoppedTexts o.setting o.world Input j c d r q)
-ShowsRun s i j c d r q status.NoMemory = IsUntouched i j c d r q
-ShowsRun s i j c d r q (status.BadModule name fault) = IsUntouched i j c d r q × ((input : List ℕ) → started s input ≡ Err (status.BadModule name fault))
-ShowsRun s i j c d r q _ = ⊥
+abbrev pub ShowsRun : Session → (left_old left_new console_old console_new report_old report_new : Option (List ℕ)) → (fault : Type 0) → Status → Type 0
+ShowsRun s i j c d r q e status.Fine = (input : List ℕ) → i ≡ Some input → StartsWith s input (λ o. HasWholeRun o.setting o.world j c d r q)
+ShowsRun s i j c d r q e status.SinkFault = (input : List ℕ) → i ≡ Some input → StartsWith s input (λ o. HasPartTexts o.setting o.world c d r q)
+ShowsRun s i j c d r q e status.InputFault = (input : List ℕ) → i ≡ Some input → StartsWith s input (λ o. HasStoppedTexts o.setting o.world Input j c d r q e)
+ShowsRun s i j c d r q e status.NoMemory = IsUntouched i j c d r q
+ShowsRun s i j c d r q e (status.BadModule name fault) = IsUntouched i j c d r q × ((input : List ℕ) → started s input ≡ Err (status.BadModule name fault))
+ShowsRun s i j c d r q e _ = ⊥

@@ -77,12 +77,12 @@ pub record IsUntouched (left_old left_new console_old console_new report_old rep
   pub console : console_new ≡ console_old
   pub report : report_new ≡ report_old
 
--- both texts and the input, by the status: those of the boundless machine, or fronts of them
-abbrev pub Shows : List (String Global) → Told → (left_old left_new console_old console_new report_old report_new : Option (List ℕ)) → Status → Type 0
-Shows words told i j c d r q status.Fine = Runs words told i (λ o. HasWholeRun o.setting o.world j c d r q)
-Shows words told i j c d r q status.SinkFault = Runs words told i (λ o. HasPartTexts o.setting o.world c d r q)
-Shows words told i j c d r q status.InputFault = Runs words told i (λ o. HasStoppedTexts o.setting o.world Input j c d r q)
-Shows words told i j c d r q _ = IsUntouched i j c d r q
+-- both texts and the input, by the status: those of the boundless machine, or fronts of them; `fault` says that the report failed
+abbrev pub Shows : List (String Global) → Told → (left_old left_new console_old console_new report_old report_new : Option (List ℕ)) → (fault : Type 0) → Status → Type 0
+Shows words told i j c d r q e status.Fine = Runs words told i (λ o. HasWholeRun o.setting o.world j c d r q)
+Shows words told i j c d r q e status.SinkFault = Runs words told i (λ o. HasPartTexts o.setting o.world c d r q)
+Shows words told i j c d r q e status.InputFault = Runs words told i (λ o. HasStoppedTexts o.setting o.world Input j c d r q e)
+Shows words told i j c d r q e _ = IsUntouched i j c d r q
 
 abbrev pub OnFileFault : Status → Type 0 → Type 0
 OnFileFault status.FileFault P = P

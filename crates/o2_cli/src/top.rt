@@ -28,7 +28,7 @@ pub fn os2run<F: Files, I: Source, C: Sink, R: Sink, S: SwapDevice>(
     // Each refusal, with its cause.
     ensures refused { Refuses words.now (F.told files.old) result }
     // Both texts are those of the boundless machine, or fronts of them.
-    ensures texts { Shows words.now (F.told files.old) (I.left input.old) (I.left input.new) (C.taken console.old) (C.taken console.new) (R.taken report.old) (R.taken report.new) result }
+    ensures texts { Shows words.now (F.told files.old) (I.left input.old) (I.left input.new) (C.taken console.old) (C.taken console.new) (R.taken report.old) (R.taken report.new) (Rose (R.faults report.old) (R.faults report.new)) result }
     // A fault is told only where a count rose.
     ensures file_fault { OnFileFault result (Rose (F.faults files.old) (F.faults files.new)) }
     ensures input_fault { OnInputFault result (Rose (I.faults input.old) (I.faults input.new)) }
@@ -60,7 +60,7 @@ fn run_session<I: Source, C: Sink, R: Sink, S: SwapDevice>(
 ) -> Status
     requires within { IsWithinLimits session.now.conf }
     requires environments { HasEnvironments session.now }
-    ensures texts { ShowsRun session.now (I.left input.old) (I.left input.new) (C.taken console.old) (C.taken console.new) (R.taken report.old) (R.taken report.new) result }
+    ensures texts { ShowsRun session.now (I.left input.old) (I.left input.new) (C.taken console.old) (C.taken console.new) (R.taken report.old) (R.taken report.new) (Rose (R.faults report.old) (R.faults report.new)) result }
     ensures input_fault { OnInputFault result (Rose (I.faults input.old) (I.faults input.new)) }
     ensures sink_fault { OnSinkFault result (Rose (C.faults console.old) (C.faults console.new) ⊎ Rose (R.faults report.old) (R.faults report.new)) }
 {

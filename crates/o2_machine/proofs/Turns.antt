@@ -1,9 +1,9 @@
 -- What a turn does to the world that the machine stands for.
-use Rattle.std.proofs.Common.{◌≡◌, ℕ, ◌-◌, ◌⊎◌, Bool, true, false, not, List, [], ◌∷◌, ◌++◌, Option, Some, ap, sym, ◌∙◌, refl, inl, inr, ◌==◌, if◌then◌else◌, subst, slice_set}
+use Rattle.std.proofs.Common.{◌≡◌, ℕ, ◌-◌, ◌⊎◌, Bool, true, false, not, List, [], ◌∷◌, ◌++◌, Option, Some, ap, sym, ◌∙◌, refl, inl, inr, ◌==◌, if◌then◌else◌, subst, slice_set, ◌≤◌}
 use Rattle.std.specs.Prelude.{codes}
 use Rattle.std.specs.List.{list_any}
 use Rattle.std.proofs.lemmas.Grind.{flat_map-append}
-use Rattle.o2_outer.specs.Texts.{Gains, GainsSome, IsPrefix, Continues}
+use Rattle.o2_outer.specs.Texts.{Rose, Gains, GainsSome, IsPrefix, Continues}
 use Rattle.o2_outer.proofs.TextLemmas.{continues_by, continues_in_part, gains_some}
 use Rattle.o2_world.specs.World.{World, Setting, Process}
 use Rattle.o2_conf.specs.Dispatch.{Dispatch, counted, lives}
@@ -14,6 +14,7 @@ use Rattle.o2_world.specs.Effect.{effect, AsksInput}
 use Rattle.o2_world.specs.Text.{lines_text, line_text}
 use Rattle.o2_world.specs.Run.{process_after, before, step, changed, is_over, any_lives, live_flags, console, last_line, next_dispatch}
 use Rattle.o2_world.proofs.Flags.{live_process, flags_after, flags_ended}
+use Rattle.o2_run.proofs.Reached.{rose_since}
 use Rattle.o2_run.specs.Turn.{StepsOn, StepsInPart, IsStopped, Turns}
 use Rattle.o2_run.specs.Stops.{stop_line}
 use Rattle.o2_run.specs.declared.steps.Stop.TheVariants.{Input}
@@ -177,8 +178,8 @@ module _ (m : Machine) (s : Setting) (w : World) (number : ℕ) (c d r q : Optio
   -- the input failed: the next step is a DosRead, and the machine stands for the world before it
   pub stopped : (n : Machine) (i j s_of : Option (List ℕ)) → n.sched ≡ m.sched → n.space.state.avail ≡ m.space.state.avail → i ≡ Some w.input
       → ((p : Process) → process_at w.processes number ≡ Some p → p.state ≡ Live → ActsUnread (AsksInput (before s w number p)) w.processes w.names n.space i j c d r s_of)
-      → GainsSome s_of q (λ front. IsPrefix front (stop_line Input)) → IsStopped (StandsFor n s) s w Input j c d r q
-  stopped n i j s_of same avail left did put =
+      → GainsSome s_of q (λ front. IsPrefix front (stop_line Input)) → (fault : Type 0) → Gains s_of q (stop_line Input) ⊎ fault → IsStopped (StandsFor n s) s w Input j c d r q fault
+  stopped n i j s_of same avail left did put fault whole =
       let at_k = subst (λ (z : ℕ). (p : Process) → process_at w.processes z ≡ Some p → p.state ≡ Live → ActsUnread (AsksInput (before s w z p)) w.processes w.names n.space i j c d r s_of) (sym is.number) did in
       let all = at_k here.0 here.1 here.2 in
       let next = next_is m s w here.0 c d r q stands is.any is.some here.1 in
@@ -193,24 +194,33 @@ module _ (m : Machine) (s : Setting) (w : World) (number : ℕ) (c d r q : Optio
         input = all.input ∙ left;
         to_console = all.to_console;
         to_report = continues_in_part (stop_line Input) (lines_text w.lines) r q (subst (λ (z : Option (List ℕ)). GainsSome z q (λ front. IsPrefix front (stop_line Input))) all.to_report put);
+        whole = elim whole [
+          | inl gains ↦ inl (continues_by (stop_line Input) (lines_text w.lines) r q (subst (λ (z : Option (List ℕ)). Gains z q (stop_line Input)) all.to_report gains))
+          | inr f ↦ inr f
+        ];
       }
 
 -- the last line
-pub closes : (f : World → Type 0) (s : Setting) (w : World) (text : List ℕ) (i c r q : Option (List ℕ)) (answer : Turn) → i ≡ Some w.input → is_over w ≡ true → last_line w ≡ text → ClosesWith r q text answer → Turns f s w i c c r q answer
-closes f s w text i c r q turn.Closed left done last g = record { input = left; over = done; to_console = refl; to_report = rw last (continues_by text (lines_text w.lines) r q g) }
-closes f s w text i c r q turn.LastFault left done last g = record { over = done; to_console = refl; to_report = rw last (continues_in_part text (lines_text w.lines) r q g) }
-closes f s w text i c r q turn.Ran left done last g = absurd g
-closes f s w text i c r q turn.StepFault left done last g = absurd g
-closes f s w text i c r q (turn.Stopped why) left done last g = absurd g
+pub closes : (f : World → Type 0) (s : Setting) (w : World) (text : List ℕ) (i c r q : Option (List ℕ)) (e : Type 0) (answer : Turn) → i ≡ Some w.input → is_over w ≡ true → last_line w ≡ text → ClosesWith r q text answer → Turns f s w i c c r q e answer
+closes f s w text i c r q e turn.Closed left done last g = record { input = left; over = done; to_console = refl; to_report = rw last (continues_by text (lines_text w.lines) r q g) }
+closes f s w text i c r q e turn.LastFault left done last g = record { over = done; to_console = refl; to_report = rw last (continues_in_part text (lines_text w.lines) r q g) }
+closes f s w text i c r q e turn.Ran left done last g = absurd g
+closes f s w text i c r q e turn.StepFault left done last g = absurd g
+closes f s w text i c r q e (turn.Stopped why) left done last g = absurd g
 
-pub closes_ended : (f : World → Type 0) (s : Setting) (m : Machine) (w : World) (i c r q : Option (List ℕ)) (answer : Turn) → StandsFor m s w → i ≡ Some w.input → pick_of m.sched ≡ AllEnded
-    → ClosesWith r q (codes "all ended" ++ 10 ∷ []) answer → Turns f s w i c c r q answer
-closes_ended f s m w i c r q answer stands left pick g =
+pub closes_ended : (f : World → Type 0) (s : Setting) (m : Machine) (w : World) (i c r q : Option (List ℕ)) (e : Type 0) (answer : Turn) → StandsFor m s w → i ≡ Some w.input → pick_of m.sched ≡ AllEnded
+    → ClosesWith r q (codes "all ended" ++ 10 ∷ []) answer → Turns f s w i c c r q e answer
+closes_ended f s m w i c r q e answer stands left pick g =
     let none : any_of m.sched ≡ false = by_ended (any_of m.sched) (m.sched.dispatch.budget == 0) (next_of m.sched).current pick in
-    closes f s w _ i c r q answer left (rw (any_is m s w false stands none) refl) (rw (any_is m s w false stands none) refl) g
+    closes f s w _ i c r q e answer left (rw (any_is m s w false stands none) refl) (rw (any_is m s w false stands none) refl) g
 
-pub closes_spent : (f : World → Type 0) (s : Setting) (m : Machine) (w : World) (i c r q : Option (List ℕ)) (answer : Turn) → StandsFor m s w → i ≡ Some w.input → pick_of m.sched ≡ BudgetSpent
-    → ClosesWith r q (codes "budget spent" ++ 10 ∷ []) answer → Turns f s w i c c r q answer
-closes_spent f s m w i c r q answer stands left pick g =
+pub closes_spent : (f : World → Type 0) (s : Setting) (m : Machine) (w : World) (i c r q : Option (List ℕ)) (e : Type 0) (answer : Turn) → StandsFor m s w → i ≡ Some w.input → pick_of m.sched ≡ BudgetSpent
+    → ClosesWith r q (codes "budget spent" ++ 10 ∷ []) answer → Turns f s w i c c r q e answer
+closes_spent f s m w i c r q e answer stands left pick g =
     let both = by_spent (any_of m.sched) (m.sched.dispatch.budget == 0) (next_of m.sched).current pick in
-    closes f s w _ i c r q answer left (rw (any_is m s w true stands both.0, stands.dispatch, both.1) refl) (rw (any_is m s w true stands both.0, stands.dispatch, both.1) refl) g
+    closes f s w _ i c r q e answer left (rw (any_is m s w true stands both.0, stands.dispatch, both.1) refl) (rw (any_is m s w true stands both.0, stands.dispatch, both.1) refl) g
+
+-- the whole line, or a report that failed, counted from an earlier time
+pub whole_since : (P : Type 0) (before mid now : ℕ) → before ≤ mid → P ⊎ Rose mid now → P ⊎ Rose before now
+whole_since P before mid now later (inl p) = inl p
+whole_since P before mid now later (inr f) = inr (rose_since before mid now later f)

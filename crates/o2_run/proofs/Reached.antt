@@ -1,6 +1,6 @@
 -- How a run goes on, and how it ends.
 use Rattle.std.proofs.Common.{◌≡◌, ℕ, suc, ◌+◌, ◌<◌, ◌≤◌, Bool, true, false, not, List, [], ◌∷◌, ◌++◌, Option, Some, subst, inl, inr, ap, sym, ◌∙◌, refl, arith, ◌||◌, ◌==◌, if◌then◌else◌, below_more, append-nil, append_assoc}
-use Rattle.o2_outer.specs.Texts.{IsPrefix}
+use Rattle.o2_outer.specs.Texts.{IsPrefix, Rose}
 use Rattle.o2_world.specs.World.{World, Setting}
 use Rattle.o2_world.specs.Text.{lines_text}
 use Rattle.o2_world.specs.Run.{any_lives, after, is_over, last_line, report, HasWholeTexts, HasPartTexts, Between, AtLastLine, IsBelowLast}
@@ -44,14 +44,18 @@ module _ (before_it now : World → Type 0) (s : Setting) (w : World) (i l c d e
     input = end.input;
   }
 
-  pub stopped_before : (h : HasReached before_it s w i c d r q) (why : Stop) → IsStopped now s (after s w h.steps) why l d e q p → HasStoppedTexts s w why l c e r p
-  stopped_before h why stop = record {
+  pub stopped_before : (h : HasReached before_it s w i c d r q) (why : Stop) (fault since : Type 0) → (fault → since) → IsStopped now s (after s w h.steps) why l d e q p fault → HasStoppedTexts s w why l c e r p since
+  stopped_before h why fault since later stop = record {
     steps = h.steps;
     below = λ j le. runs_to h.steps h.runs stop.runs j (omega (arith, le));
     cause = stop.cause;
     input = stop.input;
     to_console = λ t x. stop.to_console ∙ h.to_console t x;
     to_report = λ t x. stop.to_report t (h.to_report t x);
+    whole = elim stop.whole [
+      | inl goes ↦ inl (λ t x. goes t (h.to_report t x))
+      | inr f ↦ inr (later f)
+    ];
   }
 
   pub stopped_between : (h : HasReached before_it s w i c d r q) → StepsInPart now s (after s w h.steps) d e q p → HasPartTexts s w c e r p
@@ -68,3 +72,22 @@ module _ (before_it now : World → Type 0) (s : Setting) (w : World) (i l c d e
   stopped_at_last h end = AtLastLine h.steps (record { over = end.over; first = h.runs })
       (λ t x. end.to_console ∙ h.to_console t x)
       (λ t x. end.to_report t (h.to_report t x))
+
+-- a count that rose since a later time rose since an earlier
+pub rose_since : (before mid now : ℕ) → before ≤ mid → Rose mid now → Rose before now
+rose_since before mid now later rose = grind arith
+
+-- the same, where the report's count is seen from an earlier time
+pub stopped_since : (s : Setting) (w : World) (why : Stop) (l c e r p : Option (List ℕ)) (fault since : Type 0) → (fault → since) → HasStoppedTexts s w why l c e r p fault → HasStoppedTexts s w why l c e r p since
+stopped_since s w why l c e r p fault since later t = record {
+  steps = t.steps;
+  below = t.below;
+  cause = t.cause;
+  input = t.input;
+  to_console = t.to_console;
+  to_report = t.to_report;
+  whole = elim t.whole [
+    | inl gains ↦ inl gains
+    | inr f ↦ inr (later f)
+  ];
+}

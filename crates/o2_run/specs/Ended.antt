@@ -1,5 +1,5 @@
 -- What the texts are at the end of a run.
-use Rattle.std.specs.Prelude.{◌≡◌, ◌<◌, ◌++◌, ℕ, false, List, Option, Some}
+use Rattle.std.specs.Prelude.{◌⊎◌, ◌≡◌, ◌<◌, ◌++◌, ℕ, false, List, Option, Some}
 use Rattle.o2_outer.specs.Texts.{Gains, GainsBetween}
 use Rattle.o2_world.specs.World.{World, Setting}
 use Rattle.o2_world.specs.Text.{lines_text}
@@ -9,24 +9,25 @@ use Rattle.o2_run.specs.declared.steps.Stop.{Stop}
 use Rattle.o2_run.specs.declared.whole.Ended.{Ended}
 use Rattle.o2_run.specs.declared.whole.Ended.TheVariants.{Fine, SinkFault, Stopped}
 
--- a run that stops before its step k: the lines so far, and the stop line or a front of it
-pub record HasStoppedTexts (s : Setting) (w : World) (why : Stop) (left console_old console_new report_old report_new : Option (List ℕ)) : Type 0 where
+-- a run that stops before its step k: the lines so far, and the stop line, or where the report failed a front of it
+pub record HasStoppedTexts (s : Setting) (w : World) (why : Stop) (left console_old console_new report_old report_new : Option (List ℕ)) (fault : Type 0) : Type 0 where
   pub steps : ℕ
   pub below : IsBelowLast s w steps
   pub cause : StopsFor s (after s w steps) why
   pub input : left ≡ Some (after s w steps).input
   pub to_console : Gains console_old console_new (console (after s w steps))
   pub to_report : GainsBetween report_old report_new (lines_text (after s w steps).lines) (lines_text (after s w steps).lines ++ stop_line why)
+  pub whole : Gains report_old report_new (lines_text (after s w steps).lines ++ stop_line why) ⊎ fault
 
 -- the whole texts, and the input that is left
 pub record HasWholeRun (s : Setting) (w : World) (left console_old console_new report_old report_new : Option (List ℕ)) : Type 0 where
   pub texts : HasWholeTexts s w console_old console_new report_old report_new
   pub input : left ≡ Some (after s w texts.last).input
 
-abbrev pub HasTexts : Setting → World → (left console_old console_new report_old report_new : Option (List ℕ)) → Ended → Type 0
-HasTexts s w i c d r q Fine = HasWholeRun s w i c d r q
-HasTexts s w i c d r q SinkFault = HasPartTexts s w c d r q
-HasTexts s w i c d r q (Stopped why) = HasStoppedTexts s w why i c d r q
+abbrev pub HasTexts : Setting → World → (left console_old console_new report_old report_new : Option (List ℕ)) → (fault : Type 0) → Ended → Type 0
+HasTexts s w i c d r q e Fine = HasWholeRun s w i c d r q
+HasTexts s w i c d r q e SinkFault = HasPartTexts s w c d r q
+HasTexts s w i c d r q e (Stopped why) = HasStoppedTexts s w why i c d r q e
 
 abbrev pub OnFault : Ended → Type 0 → Type 0
 OnFault Fine P = Unit {0}

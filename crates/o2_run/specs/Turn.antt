@@ -40,22 +40,23 @@ pub record IsClosedInPart (w : World) (console_old console_new report_old report
   pub to_console : console_new ≡ console_old
   pub to_report : ContinuesBetween report_old report_new (lines_text w.lines) (report w)
 
--- a stop before the step: the stop line is put, or a front of it
-pub record IsStopped (stands_now : World → Type 0) (s : Setting) (w : World) (why : Stop) (left : Option (List ℕ)) (console_old console_new report_old report_new : Option (List ℕ)) : Type 0 where
+-- a stop before the step: the stop line is put, or where the report failed a front of it
+pub record IsStopped (stands_now : World → Type 0) (s : Setting) (w : World) (why : Stop) (left : Option (List ℕ)) (console_old console_new report_old report_new : Option (List ℕ)) (fault : Type 0) : Type 0 where
   pub runs : is_over w ≡ false
   pub cause : StopsFor s w why
   pub stands : stands_now w
   pub input : left ≡ Some w.input
   pub to_console : console_new ≡ console_old
   pub to_report : ContinuesBetween report_old report_new (lines_text w.lines) (lines_text w.lines ++ stop_line why)
+  pub whole : Continues report_old report_new (lines_text w.lines) (lines_text w.lines ++ stop_line why) ⊎ fault
 
--- from a machine that stands for w
-abbrev pub Turns : (World → Type 0) → Setting → World → (left console_old console_new report_old report_new : Option (List ℕ)) → Turn → Type 0
-Turns f s w i c d r q turn.Ran = StepsOn f s w i c d r q
-Turns f s w i c d r q turn.StepFault = StepsInPart f s w c d r q
-Turns f s w i c d r q turn.Closed = IsClosed w i c d r q
-Turns f s w i c d r q turn.LastFault = IsClosedInPart w c d r q
-Turns f s w i c d r q (turn.Stopped why) = IsStopped f s w why i c d r q
+-- from a machine that stands for w, where `fault` says that the report failed
+abbrev pub Turns : (World → Type 0) → Setting → World → (left console_old console_new report_old report_new : Option (List ℕ)) → (fault : Type 0) → Turn → Type 0
+Turns f s w i c d r q e turn.Ran = StepsOn f s w i c d r q
+Turns f s w i c d r q e turn.StepFault = StepsInPart f s w c d r q
+Turns f s w i c d r q e turn.Closed = IsClosed w i c d r q
+Turns f s w i c d r q e turn.LastFault = IsClosedInPart w c d r q
+Turns f s w i c d r q e (turn.Stopped why) = IsStopped f s w why i c d r q e
 
 abbrev pub OnInputStop : Stop → Type 0 → Type 0
 OnInputStop stop.Input P = P

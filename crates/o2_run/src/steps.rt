@@ -45,7 +45,7 @@ pub trait Steps {
         swap: &mut S,
     ) -> Turn
         ensures turns { (s : Setting) (w : World) → stands self.old (S.told swap.old) (S.block swap.old) s w → I.left input.old ≡ Some w.input
-            → Turns (stands self.new (S.told swap.new) (S.block swap.new) s) s w (I.left input.new) (C.taken console.old) (C.taken console.new) (R.taken report.old) (R.taken report.new) result }
+            → Turns (stands self.new (S.told swap.new) (S.block swap.new) s) s w (I.left input.new) (C.taken console.old) (C.taken console.new) (R.taken report.old) (R.taken report.new) (Rose (R.faults report.old) (R.faults report.new)) result }
         ensures input_count { I.faults input.old ≤ I.faults input.new }
         ensures console_count { C.faults console.old ≤ C.faults console.new }
         ensures report_count { R.faults report.old ≤ R.faults report.new }

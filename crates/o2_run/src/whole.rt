@@ -31,7 +31,7 @@ pub fn run<M: Steps, I: Source, C: Sink, R: Sink, S: SwapDevice>(
     ensures texts { (s : Setting) (w : World) (c r : Option (List ℕ)) → M.stands machine.old (S.told swap.old) (S.block swap.old) s w
         → I.left input.old ≡ Some w.input
         → Gains c (C.taken console.old) (console_text w) → Gains r (R.taken report.old) (lines_text w.lines)
-        → HasTexts s w (I.left input.new) c (C.taken console.new) r (R.taken report.new) result }
+        → HasTexts s w (I.left input.new) c (C.taken console.new) r (R.taken report.new) (Rose (R.faults report.old) (R.faults report.new)) result }
     ensures input_count { I.faults input.old ≤ I.faults input.new }
     ensures console_count { C.faults console.old ≤ C.faults console.new }
     ensures report_count { R.faults report.old ≤ R.faults report.new }

@@ -1,5 +1,5 @@
 use Rattle.std.proofs.Common.{arith}
-use Rattle.o2_run.proofs.Reached.{one_more, closed, stopped_between, stopped_at_last, stopped_before}
+use Rattle.o2_run.proofs.Reached.{one_more, closed, stopped_between, stopped_at_last, stopped_before, rose_since}
 use Rattle.o2_run.proofs.whole.run.Goals as goal
 
 pub steps-preserved : goal.steps-preserved
@@ -30,4 +30,4 @@ returns-in-LastFault-clause-texts g c = λ s w a b stands input to_console to_re
 pub returns-in-Stopped-clause-texts : goal.returns-in-Stopped-clause-texts
 returns-in-Stopped-clause-texts g c = λ s w a b stands input to_console to_report.
     let h = c.steps.invariant.reached s w a b stands input to_console to_report in
-    stopped_before _ _ s w _ _ _ _ _ _ _ _ h _ (c.in-Stopped.ensures.turns s _ h.stands h.input)
+    stopped_before _ _ s w _ _ _ _ _ _ _ _ h _ _ _ (rose_since _ _ _ c.steps.invariant.report_count) (c.in-Stopped.ensures.turns s _ h.stands h.input)
