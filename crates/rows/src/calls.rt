@@ -2,6 +2,7 @@
 
 use crate::command::{Answer, Fails, add_file, command, one_file};
 use crate::hello::{changed, report_of};
+use crate::instructions::program;
 use o2_base::NoMemory;
 use std::alloc::Global;
 use std::test::Fail;
@@ -151,5 +152,20 @@ fn a_read_behind_the_end_gives_nothing(rt: HostRuntime) -> Result<(), Fail> {
         "1 call DosRead 0000 0017:0000 0008 0017:0008 = 0 0003\n1 call DosRead 0000 0017:0000 0008 0017:0008 = 0 0000\nbudget spent\n",
     )?;
     assert_eq!(rt; answer.report.taken(), wanted.as_bytes());
+    Ok(())
+}
+
+/// DosRead of 8 bytes to DS:0010, and of their number to DS:0011, through its gate.
+static OVERLAP: [u8; 17] = [
+    0x6A, 0x00, 0x1E, 0x68, 0x10, 0x00, 0x6A, 0x08, 0x1E, 0x68, 0x11, 0x00, 0x9A, 0x00, 0x00, 0x9B,
+    0x00,
+];
+
+#[test]
+fn the_count_is_written_over_the_buffer(rt: HostRuntime) -> Result<(), Fail> {
+    let files = one_file(rt.alloc(), b"a.exe", program(rt.alloc(), &OVERLAP)?)?;
+    let answer = command(rt.alloc(), &["exe", "a.exe"], files, b"abc", &[], &[], &[])?;
+    let wanted = [0x61u8, 3, 0, 0, 0, 0, 0, 0, 0, 0, 0, 0, 0, 0, 0, 0];
+    assert_eq!(rt; answer.console.taken(), wanted.as_slice());
     Ok(())
 }

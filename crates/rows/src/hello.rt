@@ -188,7 +188,21 @@ fn the_put_of_the_console_fails(rt: HostRuntime) -> Result<(), Fail> {
 }
 
 /// Changed bytes of `hello.exe`, and the line of the refusal.
-static REFUSED: [(&[(usize, u8)], &str); 9] = [
+static REFUSED: [(&[(usize, u8)], &str); 16] = [
+    // no NE
+    (&[(0x40, 0x4F)], "os2run: module hello.exe: reason 2\n"),
+    // a header behind the end
+    (&[(0x3D, 1)], "os2run: module hello.exe: reason 3\n"),
+    // linked with errors
+    (&[(0x4D, 0x20)], "os2run: module hello.exe: reason 5\n"),
+    // a shift of 16
+    (&[(0x72, 16)], "os2run: module hello.exe: reason 6\n"),
+    // an iterated segment
+    (&[(0x84, 8)], "os2run: module hello.exe: reason 7\n"),
+    // a relocation that leaves the segment
+    (&[(0xCD, 0x17)], "os2run: module hello.exe: reason 8\n"),
+    // a source type that is none
+    (&[(0xCB, 1)], "os2run: module hello.exe: reason 9\n"),
     // no MZ
     (&[(0, 0x4E)], "os2run: module hello.exe: reason 1\n"),
     // another system's

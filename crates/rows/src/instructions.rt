@@ -37,7 +37,7 @@ static END: [u8; 30] = [
 static IMPORTS: [(u16, u16); 2] = [(0x11, 138), (0x1A, 5)];
 
 /// A program of this code, of 60,000 bytes at most.
-fn program(alloc: Global, code: &[u8]) -> Result<Bytes, NoMemory> {
+pub fn program(alloc: Global, code: &[u8]) -> Result<Bytes, NoMemory> {
     let len = code.len().min(60000) as u16;
     let [low, high] = (len + 30).to_le_bytes();
     let mut file = FRONT.to_vec(alloc)?;

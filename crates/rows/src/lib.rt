@@ -6,6 +6,8 @@ mod calls;
 #[cfg(test)]
 mod command;
 #[cfg(test)]
+mod folder;
+#[cfg(test)]
 mod hello;
 #[cfg(test)]
 mod instructions;

@@ -158,3 +158,17 @@ fn faults(rt: HostRuntime) -> Result<(), Fail> {
     }
     Ok(())
 }
+
+#[test]
+fn a_machine_file_that_is_too_long(rt: HostRuntime) -> Result<(), Fail> {
+    let text = vec![in rt.alloc(); b'#'; 1_048_577]?;
+    let mut files = Vec::new(rt.alloc());
+    add_file(rt.alloc(), &mut files, b"a.toml", text.as_slice())?;
+    let answer = command(rt.alloc(), &["run", "a.toml"], files, &[], &[], &[], &[])?;
+    assert_eq!(rt; answer.status, 3);
+    assert_eq!(rt;
+        answer.line.as_slice(),
+        b"os2run: machine file: reason 4 file\n".as_slice()
+    );
+    Ok(())
+}
