@@ -8,7 +8,7 @@ use Rattle.o2_gate.specs.declared.called.Called.TheVariants.{Back, Exited, Trap,
 use Rattle.o2_gate.specs.Called.{DoesFor, OnInputFault}
 
 pub never : (P : Type 0) (c : Called) → OnInputFault c ⊥ → OnInputFault c P
-never P Back h = h
+never P (Back put) h = h
 never P (Exited code) h = h
 never P (Trap vector) h = h
 never P SinkFault h = h
@@ -16,7 +16,7 @@ never P InputFault h = absurd h
 
 -- where the input isn't gone to, the reason for it doesn't matter
 pub any_reason : (P Q : Type 0) (b : Before) (e : Effect) (cpu : Cpu) (old new : Plain) (i j c d r q : Option (List ℕ)) (answer : Called) → OnInputFault answer ⊥ → DoesFor P b e cpu old new i j c d r q answer → DoesFor Q b e cpu old new i j c d r q answer
-any_reason P Q b e cpu old new i j c d r q Back never does = does
+any_reason P Q b e cpu old new i j c d r q (Back put) never does = does
 any_reason P Q b e cpu old new i j c d r q (Exited code) never does = does
 any_reason P Q b e cpu old new i j c d r q (Trap vector) never does = does
 any_reason P Q b e cpu old new i j c d r q SinkFault never does = does

@@ -1,5 +1,5 @@
 -- What a call did, by its answer and by the effect that its row gives.
-use Rattle.std.specs.Prelude.{◌≡◌, ◌⊎◌, ℕ, true, false, ◌==◌, take, drop, List, Option, Some}
+use Rattle.std.specs.Prelude.{◌≡◌, ◌⊎◌, ℕ, true, false, ◌==◌, take, drop, length, List, Option, Some}
 use Rattle.o2_outer.specs.Texts.{Gains, GainsSome, IsPrefix}
 use Rattle.o2_outer.specs.declared.sink.Put.{Put}
 use Rattle.o2_outer.specs.declared.sink.Put.TheVariants as put
@@ -15,9 +15,11 @@ use Rattle.o2_world.specs.Text.{lines_text}
 use Rattle.o2_gate.specs.declared.called.Called.{Called}
 use Rattle.o2_gate.specs.declared.called.Called.TheVariants.{Back, Exited, Trap, InputFault, SinkFault}
 
--- the effect is made whole, and the process is then in this state
-pub record IsMade (e : Effect) (ends : State) (registers : Cpu) (after : Plain) (left console_old console_new report_old report_new : Option (List ℕ)) : Type 0 where
+-- the effect is made whole, with so many bytes for the console and so many lines, and the process is then in this state
+pub record IsMade (e : Effect) (ends : State) (piece_bytes line_count : ℕ) (registers : Cpu) (after : Plain) (left console_old console_new report_old report_new : Option (List ℕ)) : Type 0 where
   pub state : e.state ≡ ends
+  pub piece : length e.piece ≡ piece_bytes
+  pub lines : length e.lines ≡ line_count
   pub cpu : registers ≡ e.cpu
   pub bytes : (n : ℕ) → bytes_in after n ≡ e.bytes n
   pub input : left ≡ Some e.input
@@ -52,8 +54,8 @@ pub record IsInPart (e : Effect) (registers before : Cpu) (old new : Plain) (con
 
 -- by the answer, where `why` is the reason for which the input is gone to
 abbrev pub DoesFor : Type 0 → Before → Effect → Cpu → (old new : Plain) → (left_old left_new console_old console_new report_old report_new : Option (List ℕ)) → Called → Type 0
-DoesFor why b e cpu old new i j c d r q Back = IsMade e state.Live cpu new j c d r q
-DoesFor why b e cpu old new i j c d r q (Exited code) = IsMade e (state.Exited code) cpu new j c d r q
+DoesFor why b e cpu old new i j c d r q (Back put) = IsMade e state.Live put 1 cpu new j c d r q
+DoesFor why b e cpu old new i j c d r q (Exited code) = IsMade e (state.Exited code) 0 2 cpu new j c d r q
 DoesFor why b e cpu old new i j c d r q (Trap vector) = IsTrap b e vector cpu old new i j c d r q
 DoesFor why b e cpu old new i j c d r q InputFault = IsUnread why cpu b.cpu old new i j c d r q
 DoesFor why b e cpu old new i j c d r q SinkFault = IsInPart e cpu b.cpu old new c d r q

@@ -3,8 +3,8 @@
 /// What a call of a service came to.
 #[derive(Clone, Copy, Debug, PartialEq, Eq)]
 pub enum Called {
-    /// It came back to its caller.
-    Back,
+    /// It came back to its caller, and has put its line, and before it so many bytes to the console.
+    Back(u16),
     /// The process ends with this code; both of its lines are put.
     Exited(u16),
     /// A pointer or the arguments are bad: the process ends by this exception, and nothing is changed or put.

@@ -40,7 +40,8 @@ pub fn may_write(plain: &Plain, pid: u16, selector: u16, offset: u16, count: u16
 #[tactic(auto, unfolding(o2_world::specs::Calls::may_read, o2_world::specs::Calls::range_of))]
 pub fn range(plain: &Plain, pid: u16, selector: u16, offset: u16, count: u16) -> &[u8]
     requires { IsTrue (reads_at (held_in plain.now pid) (bytes_in plain.now) selector offset count) }
-    ensures { result.now ≡ range_of (held_in plain.now pid) (bytes_in plain.now) selector offset count }
+    ensures value { result.now ≡ range_of (held_in plain.now pid) (bytes_in plain.now) selector offset count }
+    ensures len { length result.now ≡ count }
 {
     if count == 0 {
         return &[];

@@ -90,7 +90,7 @@ fn deliver<R: Sink>(
         Put::Done => {
             store_both(plain, pid, read, got);
             give_back(cpu, next, 6, 0);
-            Called::Back
+            Called::Back(0)
         }
     }
 }
@@ -131,7 +131,7 @@ fn read_from<I: Source, R: Sink>(
             Put::Failed => Called::SinkFault,
             Put::Done => {
                 give_back(cpu, next, 6, 6);
-                Called::Back
+                Called::Back(0)
             }
         };
     }

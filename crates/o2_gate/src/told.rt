@@ -81,7 +81,7 @@ fn told_at<R: Sink>(
         Put::Done => {
             store(plain, pid, selector, offset, telling.part);
             give_back(cpu, next, 2, 0);
-            Called::Back
+            Called::Back(0)
         }
     }
 }

@@ -22,6 +22,7 @@ use o2_report::LineBuffer;
 fn put_range<C: Sink>(plain: &Plain, pid: u16, write: &Transfer, console: &mut C) -> Put
     requires { IsTrue (reads_at (held_in plain.now pid) (bytes_in plain.now) write.now.selector write.now.offset write.now.count) }
     ensures console { Takes (C.taken console.old) (C.taken console.new) (range_of (held_in plain.now pid) (bytes_in plain.now) write.now.selector write.now.offset write.now.count) result }
+    ensures len { length (range_of (held_in plain.now pid) (bytes_in plain.now) write.now.selector write.now.offset write.now.count) ≡ write.now.count }
     ensures count { C.faults console.old ≤ C.faults console.new }
     ensures cause { OnFailed result (Rose (C.faults console.old) (C.faults console.new)) }
 {
@@ -44,6 +45,7 @@ fn put_both<C: Sink, R: Sink>(
     ensures both { PutsBoth (range_of (held_in plain.now pid) (bytes_in plain.now) write.now.selector write.now.offset write.now.count)
         (lines_text (write_line pid write.now.handle write.now.selector write.now.offset write.now.count write.now.done_selector write.now.done_offset 0 ∷ []))
         (C.taken console.old) (C.taken console.new) (R.taken report.old) (R.taken report.new) result }
+    ensures len { length (range_of (held_in plain.now pid) (bytes_in plain.now) write.now.selector write.now.offset write.now.count) ≡ write.now.count }
     ensures console_count { C.faults console.old ≤ C.faults console.new }
     ensures report_count { R.faults report.old ≤ R.faults report.new }
     ensures cause { OnFailed result (Rose (C.faults console.old) (C.faults console.new) ⊎ Rose (R.faults report.old) (R.faults report.new)) }
@@ -94,7 +96,7 @@ fn written<C: Sink, R: Sink>(
             Put::Failed => Called::SinkFault,
             Put::Done => {
                 give_back(cpu, next, 6, 6);
-                Called::Back
+                Called::Back(0)
             }
         };
     }
@@ -103,7 +105,7 @@ fn written<C: Sink, R: Sink>(
         Put::Done => {
             store_count(plain, pid, write, write.count);
             give_back(cpu, next, 6, 0);
-            Called::Back
+            Called::Back(write.count)
         }
     }
 }

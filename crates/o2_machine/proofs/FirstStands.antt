@@ -1,6 +1,8 @@
 -- The machine of processes that have started stands for the world that they open.
-use Rattle.std.proofs.Common.{◌≡◌, ℕ, zero, suc, ◌+◌, true, List, [], ◌∷◌, length, replicate, map, Option, Some, None, ap, sym, ◌∙◌, refl, subst}
-use Rattle.std.specs.Prelude.{slice_get, option_map}
+use Rattle.std.proofs.Common.{◌≡◌, ℕ, zero, suc, ◌+◌, true, List, [], ◌∷◌, length, replicate, map, sum_by, Option, Some, None, ap, sym, ◌∙◌, refl, subst, add-one, length-append}
+use Rattle.std.specs.Prelude.{slice_get, option_map, codes}
+use Rattle.std.proofs.lemmas.List.{length-map}
+use Rattle.std.proofs.lemmas.List.Sums.{sum_by-cons}
 use Rattle.std.proofs.lemmas.Option.{slice_get-map}
 use Rattle.o2_isa.specs.declared.cpu.Cpu.{Cpu}
 use Rattle.o2_isa.specs.View.{Hold}
@@ -9,12 +11,13 @@ use Rattle.o2_bus.specs.Plain.{held_in, bytes_in, shown_in}
 use Rattle.o2_conf.specs.declared.conf.Conf.{Conf}
 use Rattle.o2_conf.specs.Script.{slice_of}
 use Rattle.o2_dynlink.specs.Outcome.{LinkedParts}
-use Rattle.o2_world.specs.World.{Process, is_live}
+use Rattle.o2_world.specs.World.{Process, HoldsBy, is_live}
+use Rattle.o2_world.specs.Opening.{start_lines}
 use Rattle.o2_world.specs.Run.{live_flags}
 use Rattle.o2_world.specs.Starts.{Built}
 use Rattle.o2_sched.specs.Schedule.{Schedule, opening_dispatch}
 use Rattle.o2_load.specs.declared.begun.Begun.{Begun}
-use Rattle.o2_load.specs.Beginnings.{IsBegun, IsFirstAt}
+use Rattle.o2_load.specs.Beginnings.{IsBegun, IsFirstAt, lines_from, program_name}
 use Rattle.o2_machine.specs.declared.space.Proc.{Proc}
 use Rattle.o2_machine.specs.declared.machine.Machine.{Machine}
 use Rattle.o2_machine.specs.Stands.{IsAt}
@@ -41,8 +44,8 @@ first_schedule c = record { dispatch = opening_dispatch (map slice_of c.script) 
 
 pub first_stands : (begun : Begun) (l : LinkedParts) (b : Built) (c : Conf) (m : Machine) (input : List ℕ) → IsBegun begun l b
     → m.space.procs.items ≡ map first_proc begun.cpus.items → m.space.state.plain ≡ begun.build.plain → m.space.state.avail ≡ c.avail
-    → m.sched ≡ first_schedule c → length begun.cpus.items ≡ length c.process → StandsFor m (setting_of c) (first_world c input b)
-first_stands begun l b c m input is procs plain avail sched count = record {
+    → m.sched ≡ first_schedule c → length begun.cpus.items ≡ length c.process → m.budget ≡ c.budget → m.console_bytes ≡ 0 → m.lines ≡ length b.lines → StandsFor m (setting_of c) (first_world c input b)
+first_stands begun l b c m input is procs plain avail sched count budget console lines = record {
   space = record {
     processes = λ i.
         subst (λ (x : Plain). IsAt (slice_get m.space.procs.items i) (held_in x (i + 1)) (slice_get b.processes i)) (sym plain)
@@ -57,4 +60,17 @@ first_stands begun l b c m input is procs plain avail sched count = record {
   dispatch = ap (λ (s : Schedule). s.dispatch) (sym sched);
   quantum = ap (λ (s : Schedule). s.quantum) (sym sched);
   avail = sym avail;
+  budget = sym budget;
+  console = sym console;
+  lines = sym lines;
 }
+
+-- as many lines as the starts have
+pub lines_counted : {X : Type 0} (row : X → List ℕ) (l : LinkedParts) (pid : ℕ) (xs : List X) → length (lines_from l pid (map row xs)) ≡ sum_by (λ x. length (row x) + 1) xs
+lines_counted row l pid [] = refl
+lines_counted row l pid (x ∷ xs) =
+    length-append (start_lines pid (program_name l pid) (row x)) (lines_from l (pid + 1) (map row xs))
+    ∙ ap (λ n. suc n + length (lines_from l (pid + 1) (map row xs))) (length-map (row x) (λ s. HoldsBy pid s (codes "load")))
+    ∙ ap (λ n. n + length (lines_from l (pid + 1) (map row xs))) (sym (add-one (length (row x))))
+    ∙ ap (λ n. length (row x) + 1 + n) (lines_counted row l (pid + 1) xs)
+    ∙ sym (sum_by-cons (λ x. length (row x) + 1) x xs)

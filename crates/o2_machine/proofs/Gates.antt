@@ -27,8 +27,8 @@ same_cpu old mid pid cpu_old cpu_mid same = ap (λ (s : Machine). s.cpu) same
 
 module _ (old mid new : Plain) (pid : ℕ) (cpu_old cpu_mid cpu_new : Cpu) (input : List ℕ) (avail service next : ℕ) (i j c d r q : Option (List ℕ))
     (same : state cpu_mid (plain_view mid pid cpu_mid) ≡ state cpu_old (plain_view old pid cpu_old)) where
-  pub made_before : (ends : State) → IsMade (serviced (before_call mid pid cpu_mid input avail) service next) ends cpu_new new j c d r q → IsMade (serviced (before_call old pid cpu_old input avail) service next) ends cpu_new new j c d r q
-  made_before ends made = subst (λ (b : Before). IsMade (serviced b service next) ends cpu_new new j c d r q) (same_before old mid pid cpu_old cpu_mid input avail same) made
+  pub made_before : (ends : State) (piece lines : ℕ) → IsMade (serviced (before_call mid pid cpu_mid input avail) service next) ends piece lines cpu_new new j c d r q → IsMade (serviced (before_call old pid cpu_old input avail) service next) ends piece lines cpu_new new j c d r q
+  made_before ends piece lines made = subst (λ (b : Before). IsMade (serviced b service next) ends piece lines cpu_new new j c d r q) (same_before old mid pid cpu_old cpu_mid input avail same) made
 
   pub trap_before : (vector : ℕ) → IsTrap (before_call mid pid cpu_mid input avail) (serviced (before_call mid pid cpu_mid input avail) service next) vector cpu_new mid new i j c d r q
       → IsTrap (before_call old pid cpu_old input avail) (serviced (before_call old pid cpu_old input avail) service next) vector cpu_new mid new i j c d r q

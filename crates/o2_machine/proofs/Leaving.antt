@@ -1,5 +1,5 @@
 -- What a step leaves, from what its instruction or its call did.
-use Rattle.std.proofs.Common.{◌≡◌, ℕ, List, [], ◌∷◌, ◌++◌, Option, Bool, true, false, ◌&&◌, ap, sym, refl, subst}
+use Rattle.std.proofs.Common.{◌≡◌, ℕ, ◌+◌, List, [], ◌∷◌, ◌++◌, length, Option, Bool, true, false, ◌&&◌, ap, sym, ◌∙◌, refl, subst, length-append}
 use Rattle.std.specs.Prelude.{Result, if◌then◌else◌}
 use Rattle.std.proofs.lemmas.Grind.{flat_map-append}
 use Rattle.o2_outer.specs.declared.sink.Put.TheVariants as put
@@ -16,6 +16,7 @@ use Rattle.o2_world.specs.Calls.{Before, Effect}
 use Rattle.o2_world.specs.Effect.{effect, answered, single_stepped, has_trap_flag}
 use Rattle.o2_world.specs.Text.{lines_text, line_text}
 use Rattle.o2_gate.specs.Called.{IsMade, IsInPart}
+use Rattle.o2_machine.specs.declared.tally.Tally.{Tally}
 use Rattle.o2_machine.specs.Ran.{IsMadeLate}
 
 -- the effect, by what the instruction came to
@@ -43,12 +44,17 @@ ended_stays b e dead = not_live (has_trap_flag b.cpu.flags) (is_live e.state) e 
 more_lines : (e : Effect) (l : Line) → lines_text (e.lines ++ l ∷ []) ≡ lines_text e.lines ++ lines_text (l ∷ [])
 more_lines e l = flat_map-append line_text e.lines (l ∷ [])
 
-module _ (b : Before) (e : Effect) (cpu : Cpu) (old new : Plain) (j c d r s q : Option (List ℕ)) where
+module _ (b : Before) (e : Effect) (tally more : Tally) (cpu : Cpu) (old new : Plain) (j c d r s q : Option (List ℕ)) (same : more.bytes ≡ tally.bytes) (one_more : more.lines ≡ tally.lines + 1) where
+  lines_more : length e.lines ≡ tally.lines → length (e.lines ++ Traps b.number 1 b.cpu.cs b.cpu.ip ∷ []) ≡ more.lines
+  lines_more has = length-append e.lines (Traps b.number 1 b.cpu.cs b.cpu.ip ∷ []) ∙ ap (λ (n : ℕ). n + 1) has ∙ sym one_more
+
   -- the exception behind a step, with its line whole or in part
-  pub made_with_trap : has_trap_flag b.cpu.flags ≡ true → IsMade e Live cpu new j c d r s → Gains s q (lines_text (Traps b.number 1 b.cpu.cs b.cpu.ip ∷ [])) → IsMade (single_stepped b e) (Trapped 1) cpu new j c d r q
+  pub made_with_trap : has_trap_flag b.cpu.flags ≡ true → IsMade e Live tally.bytes tally.lines cpu new j c d r s → Gains s q (lines_text (Traps b.number 1 b.cpu.cs b.cpu.ip ∷ [])) → IsMade (single_stepped b e) (Trapped 1) more.bytes more.lines cpu new j c d r q
   made_with_trap flag made took =
-      subst (λ (x : Effect). IsMade x (Trapped 1) cpu new j c d r q) (sym (with_flag b e flag made.state)) (record {
+      subst (λ (x : Effect). IsMade x (Trapped 1) more.bytes more.lines cpu new j c d r q) (sym (with_flag b e flag made.state)) (record {
         state = refl;
+        piece = made.piece ∙ sym same;
+        lines = lines_more made.lines;
         cpu = made.cpu;
         bytes = made.bytes;
         input = made.input;
@@ -56,11 +62,12 @@ module _ (b : Before) (e : Effect) (cpu : Cpu) (old new : Plain) (j c d r s q : 
         to_report = rw (more_lines e (Traps b.number 1 b.cpu.cs b.cpu.ip)) (puts_more _ _ r s q put.Done made.to_report took);
       })
 
-  pub late_with_trap : has_trap_flag b.cpu.flags ≡ true → IsMade e Live cpu new j c d r s → GainsSome s q (λ front. IsPrefix front (lines_text (Traps b.number 1 b.cpu.cs b.cpu.ip ∷ []))) → IsMadeLate (single_stepped b e) (Trapped 1) cpu new c d r q
+  pub late_with_trap : has_trap_flag b.cpu.flags ≡ true → IsMade e Live tally.bytes tally.lines cpu new j c d r s → GainsSome s q (λ front. IsPrefix front (lines_text (Traps b.number 1 b.cpu.cs b.cpu.ip ∷ []))) → IsMadeLate (single_stepped b e) (Trapped 1) more cpu new c d r q
   late_with_trap flag made took =
-      subst (λ (x : Effect). IsMadeLate x (Trapped 1) cpu new c d r q) (sym (with_flag b e flag made.state)) (record {
+      subst (λ (x : Effect). IsMadeLate x (Trapped 1) more cpu new c d r q) (sym (with_flag b e flag made.state)) (record {
         state = refl;
         late = refl;
+        puts = record { bytes = made.piece ∙ sym same; lines = lines_more made.lines };
         cpu = made.cpu;
         bytes = made.bytes;
         to_console = made.to_console;

@@ -1,9 +1,9 @@
 -- What a turn does to the world that the machine stands for.
-use Rattle.std.proofs.Common.{◌≡◌, ℕ, ◌-◌, ◌⊎◌, Bool, true, false, not, List, [], ◌∷◌, ◌++◌, Option, Some, ap, sym, ◌∙◌, refl, inl, inr, ◌==◌, if◌then◌else◌, subst, slice_set, ◌≤◌}
+use Rattle.std.proofs.Common.{◌≡◌, ℕ, ◌+◌, ◌-◌, ◌⊎◌, Bool, true, false, not, List, [], ◌∷◌, ◌++◌, Option, Some, ap, sym, ◌∙◌, refl, inl, inr, ◌==◌, if◌then◌else◌, subst, slice_set, length, length-append, arith}
 use Rattle.std.specs.Prelude.{codes}
 use Rattle.std.specs.List.{list_any}
 use Rattle.std.proofs.lemmas.Grind.{flat_map-append}
-use Rattle.o2_outer.specs.Texts.{Rose, Gains, GainsSome, IsPrefix, Continues}
+use Rattle.o2_outer.specs.Texts.{Gains, GainsSome, IsPrefix, Continues}
 use Rattle.o2_outer.proofs.TextLemmas.{continues_by, continues_in_part, gains_some}
 use Rattle.o2_world.specs.World.{World, Setting, Process}
 use Rattle.o2_conf.specs.Dispatch.{Dispatch, counted, lives}
@@ -14,21 +14,39 @@ use Rattle.o2_world.specs.Effect.{effect, AsksInput}
 use Rattle.o2_world.specs.Text.{lines_text, line_text}
 use Rattle.o2_world.specs.Run.{process_after, before, step, changed, is_over, any_lives, live_flags, console, last_line, next_dispatch}
 use Rattle.o2_world.proofs.Flags.{live_process, flags_after, flags_ended}
-use Rattle.o2_run.proofs.Reached.{rose_since}
-use Rattle.o2_run.specs.Turn.{StepsOn, StepsInPart, IsStopped, Turns}
+use Rattle.o2_run.specs.Turn.{StepsOn, StepsInPart, IsStopped, IsClosed, IsClosedInPart, Turns}
 use Rattle.o2_run.specs.Stops.{stop_line}
 use Rattle.o2_run.specs.declared.steps.Stop.TheVariants.{Input}
 use Rattle.o2_run.specs.declared.steps.Turn.{Turn}
 use Rattle.o2_run.specs.declared.steps.Turn.TheVariants as turn
 use Rattle.o2_sched.specs.Schedule.{Schedule, next_of, pick_of}
 use Rattle.o2_sched.specs.declared.sched.Pick.TheVariants.{Step, AllEnded, BudgetSpent}
-use Rattle.o2_machine.specs.Acts.{ActsAll, ActsInPart, ActsLate, ActsUnread}
-use Rattle.o2_machine.specs.Closes.{ClosesWith}
+use Rattle.o2_machine.specs.Acts.{ActsAll, ActsInPart, ActsLate, ActsUnread, StandsAfter}
+use Rattle.o2_machine.specs.Tallies.{IsTally}
+use Rattle.o2_machine.specs.Stands.{StandsIn}
 use Rattle.o2_machine.specs.StandsFor.{StandsFor}
+use Rattle.o2_machine.specs.declared.tally.Tally.{Tally}
+use Rattle.o2_machine.specs.declared.space.Space.{Space}
 use Rattle.o2_machine.specs.declared.machine.Machine.{Machine}
 
 abbrev pub any_of : Schedule → Bool
 any_of s = list_any (λ (x : Bool). x) s.flags
+
+-- what a machine has counted of a step that left this space and put so much
+pub record HasCounted (m n : Machine) (left : Space) (tally : Tally) : Type 0 where
+  pub space : n.space ≡ left
+  pub avail : left.state.avail ≡ m.space.state.avail
+  pub budget : n.budget ≡ m.budget
+  pub bytes : n.console_bytes ≡ m.console_bytes + tally.bytes
+  pub lines : n.lines ≡ m.lines + tally.lines
+
+-- nothing has changed but the space
+pub record IsSame (m n : Machine) : Type 0 where
+  pub sched : n.sched ≡ m.sched
+  pub avail : n.space.state.avail ≡ m.space.state.avail
+  pub budget : n.budget ≡ m.budget
+  pub bytes : n.console_bytes ≡ m.console_bytes
+  pub lines : n.lines ≡ m.lines
 
 -- what the schedule picks
 record IsPicked (s : Schedule) (n : ℕ) : Type 0 where
@@ -84,11 +102,20 @@ module _ (m : Machine) (s : Setting) (w : World) (p : Process) (c d r q : Option
   unfolding changed
   lines_of = ap (λ (v : World). lines_text v.lines) step_is ∙ flat_map-append line_text w.lines made.lines
 
-  stands_next : (n : Machine) → Rattle.o2_machine.specs.Acts.StandsAfter (next_of m.sched).current w.processes w.names p made n.space
+  stands_next : (n : Machine) (left : Space) (tally : Tally) → StandsAfter (next_of m.sched).current w.processes w.names p made left
       → n.sched.dispatch ≡ counted (next_of m.sched) → n.sched.quantum ≡ m.sched.quantum → live_flags (with_process w.processes (next_of m.sched).current (process_after p made)) ≡ n.sched.flags
-      → n.space.state.avail ≡ m.space.state.avail → StandsFor n s (step s w)
+      → IsTally made tally → HasCounted m n left tally → StandsFor n s (step s w)
   unfolding changed
-  stands_next n space dispatch quantum flags avail = rw step_is (record { space = space; flags = flags; dispatch = sym dispatch; quantum = stands.quantum ∙ sym quantum; avail = stands.avail ∙ sym avail })
+  stands_next n left tally space dispatch quantum flags puts counts = rw step_is (record {
+    space = subst (λ (z : Space). StandsAfter (next_of m.sched).current w.processes w.names p made z) (sym counts.space) space;
+    flags = flags;
+    dispatch = sym dispatch;
+    quantum = stands.quantum ∙ sym quantum;
+    avail = stands.avail ∙ sym (ap (λ (z : Space). z.state.avail) counts.space ∙ counts.avail);
+    budget = stands.budget ∙ sym counts.budget;
+    console = length-append w.console made.piece ∙ omega (arith, stands.console, puts.bytes, counts.bytes);
+    lines = length-append w.lines made.lines ∙ omega (arith, stands.lines, puts.lines, counts.lines);
+  })
 
   pub steps_in_part : (n : Machine) → StandsFor n s w ⊎ StandsFor n s (step s w) → GainsSome c d (λ front. IsPrefix front made.piece) → GainsSome r q (λ front. IsPrefix front (lines_text made.lines))
       → (q ≡ r) ⊎ Gains c d made.piece → StepsInPart (StandsFor n s) s w c d r q
@@ -112,13 +139,16 @@ module _ (m : Machine) (s : Setting) (w : World) (p : Process) (c d r q : Option
     to_report = rw lines_of (continues_by (lines_text made.lines) (lines_text w.lines) r q to_report);
   }
 
-same_space : (n m : Machine) (s : Setting) (w : World) → StandsFor m s w → n.sched ≡ m.sched → n.space.state.avail ≡ m.space.state.avail → Rattle.o2_machine.specs.Stands.StandsIn n.space w.processes w.names → StandsFor n s w
-same_space n m s w stands same avail space = record {
+pub same_space : (n m : Machine) (s : Setting) (w : World) → StandsFor m s w → IsSame m n → StandsIn n.space w.processes w.names → StandsFor n s w
+same_space n m s w stands same space = record {
   space = space;
-  flags = stands.flags ∙ ap (λ (z : Schedule). z.flags) (sym same);
-  dispatch = stands.dispatch ∙ ap (λ (z : Schedule). z.dispatch) (sym same);
-  quantum = stands.quantum ∙ ap (λ (z : Schedule). z.quantum) (sym same);
-  avail = stands.avail ∙ sym avail;
+  flags = stands.flags ∙ ap (λ (z : Schedule). z.flags) (sym same.sched);
+  dispatch = stands.dispatch ∙ ap (λ (z : Schedule). z.dispatch) (sym same.sched);
+  quantum = stands.quantum ∙ ap (λ (z : Schedule). z.quantum) (sym same.sched);
+  avail = stands.avail ∙ sym same.avail;
+  budget = stands.budget ∙ sym same.budget;
+  console = stands.console ∙ sym same.bytes;
+  lines = stands.lines ∙ sym same.lines;
 }
 
 module _ (m : Machine) (s : Setting) (w : World) (number : ℕ) (c d r q : Option (List ℕ))
@@ -132,21 +162,21 @@ module _ (m : Machine) (s : Setting) (w : World) (number : ℕ) (c d r q : Optio
   here : (p : Process) × (process_at w.processes k ≡ Some p) × (p.state ≡ Live)
   here = live_process w.processes m.sched.flags k stands.flags (ap (lives m.sched.flags) is.number ∙ live)
 
-  pub faulted : (n : Machine) → n.sched ≡ m.sched → n.space.state.avail ≡ m.space.state.avail → ((p : Process) → process_at w.processes number ≡ Some p → p.state ≡ Live → ActsInPart w.processes w.names (effect (before s w number p)) n.space c d r q)
+  pub faulted : (n : Machine) → IsSame m n → ((p : Process) → process_at w.processes number ≡ Some p → p.state ≡ Live → ActsInPart w.processes w.names (effect (before s w number p)) n.space c d r q)
       → StepsInPart (StandsFor n s) s w c d r q
-  faulted n same avail did =
+  faulted n same did =
       let at_k = subst (λ (z : ℕ). (p : Process) → process_at w.processes z ≡ Some p → p.state ≡ Live → ActsInPart w.processes w.names (effect (before s w z p)) n.space c d r q) (sym is.number) did in
       let all = at_k here.0 here.1 here.2 in
-      steps_in_part m s w here.0 c d r q stands is.any is.some here.1 n (inl (same_space n m s w stands same avail all.stands)) all.to_console all.to_report all.in_order
+      steps_in_part m s w here.0 c d r q stands is.any is.some here.1 n (inl (same_space n m s w stands same all.stands)) all.to_console all.to_report all.in_order
 
-  pub went : (i : Option (List ℕ)) (n : Machine) → n.space.state.avail ≡ m.space.state.avail → ((p : Process) → process_at w.processes number ≡ Some p → p.state ≡ Live → ActsAll number w.processes w.names p (effect (before s w number p)) n.space i c d r q true)
+  pub went : (i : Option (List ℕ)) (n : Machine) (left : Space) (tally : Tally) → HasCounted m n left tally → ((p : Process) → process_at w.processes number ≡ Some p → p.state ≡ Live → ActsAll number w.processes w.names p (effect (before s w number p)) tally left i c d r q true)
       → n.sched ≡ record m.sched { dispatch = counted (next_of m.sched) } → StepsOn (StandsFor n s) s w i c d r q
-  went i n avail did sched =
-      let at_k = subst (λ (z : ℕ). (p : Process) → process_at w.processes z ≡ Some p → p.state ≡ Live → ActsAll z w.processes w.names p (effect (before s w z p)) n.space i c d r q true) (sym is.number) did in
+  went i n left tally counts did sched =
+      let at_k = subst (λ (z : ℕ). (p : Process) → process_at w.processes z ≡ Some p → p.state ≡ Live → ActsAll z w.processes w.names p (effect (before s w z p)) tally left i c d r q true) (sym is.number) did in
       let all = at_k here.0 here.1 here.2 in
       let flags = flags_after w.processes m.sched.flags k here.0 (effect (before s w k here.0)) stands.flags (ap (lives m.sched.flags) is.number ∙ live) all.lives in
       steps_on m s w here.0 c d r q stands is.any is.some here.1 i n all.input
-      (stands_next m s w here.0 c d r q stands is.any is.some here.1 n all.stands (ap (λ (z : Schedule). z.dispatch) sched) (ap (λ (z : Schedule). z.quantum) sched) (flags ∙ sym (ap (λ (z : Schedule). z.flags) sched)) avail)
+      (stands_next m s w here.0 c d r q stands is.any is.some here.1 n left tally all.stands (ap (λ (z : Schedule). z.dispatch) sched) (ap (λ (z : Schedule). z.quantum) sched) (flags ∙ sym (ap (λ (z : Schedule). z.flags) sched)) all.puts counts)
       all.to_console all.to_report
 
   abbrev pub ended_sched : Schedule
@@ -155,31 +185,31 @@ module _ (m : Machine) (s : Setting) (w : World) (number : ℕ) (c d r q : Optio
   ended_flags : (e : Effect) (p : Process) → Rattle.o2_world.specs.World.is_live e.state ≡ false → live_flags (with_process w.processes k (process_after p e)) ≡ slice_set m.sched.flags (number - 1) false
   ended_flags e p ends = flags_ended w.processes m.sched.flags k p e stands.flags ends ∙ ap (λ (z : ℕ). slice_set m.sched.flags (z - 1) false) is.number
 
-  pub over : (i : Option (List ℕ)) (n : Machine) → n.space.state.avail ≡ m.space.state.avail → ((p : Process) → process_at w.processes number ≡ Some p → p.state ≡ Live → ActsAll number w.processes w.names p (effect (before s w number p)) n.space i c d r q false)
+  pub over : (i : Option (List ℕ)) (n : Machine) (left : Space) (tally : Tally) → HasCounted m n left tally → ((p : Process) → process_at w.processes number ≡ Some p → p.state ≡ Live → ActsAll number w.processes w.names p (effect (before s w number p)) tally left i c d r q false)
       → n.sched ≡ ended_sched → StepsOn (StandsFor n s) s w i c d r q
-  over i n avail did sched =
-      let at_k = subst (λ (z : ℕ). (p : Process) → process_at w.processes z ≡ Some p → p.state ≡ Live → ActsAll z w.processes w.names p (effect (before s w z p)) n.space i c d r q false) (sym is.number) did in
+  over i n left tally counts did sched =
+      let at_k = subst (λ (z : ℕ). (p : Process) → process_at w.processes z ≡ Some p → p.state ≡ Live → ActsAll z w.processes w.names p (effect (before s w z p)) tally left i c d r q false) (sym is.number) did in
       let all = at_k here.0 here.1 here.2 in
       steps_on m s w here.0 c d r q stands is.any is.some here.1 i n all.input
-      (stands_next m s w here.0 c d r q stands is.any is.some here.1 n all.stands (ap (λ (z : Schedule). z.dispatch) sched) (ap (λ (z : Schedule). z.quantum) sched)
-      (ended_flags (effect (before s w k here.0)) here.0 all.lives ∙ sym (ap (λ (z : Schedule). z.flags) sched)) avail)
+      (stands_next m s w here.0 c d r q stands is.any is.some here.1 n left tally all.stands (ap (λ (z : Schedule). z.dispatch) sched) (ap (λ (z : Schedule). z.quantum) sched)
+      (ended_flags (effect (before s w k here.0)) here.0 all.lives ∙ sym (ap (λ (z : Schedule). z.flags) sched)) all.puts counts)
       all.to_console all.to_report
 
-  pub late : (n : Machine) → n.space.state.avail ≡ m.space.state.avail → ((p : Process) → process_at w.processes number ≡ Some p → p.state ≡ Live → ActsLate number w.processes w.names p (effect (before s w number p)) n.space c d r q)
+  pub late : (n : Machine) (left : Space) (tally : Tally) → HasCounted m n left tally → ((p : Process) → process_at w.processes number ≡ Some p → p.state ≡ Live → ActsLate number w.processes w.names p (effect (before s w number p)) tally left c d r q)
       → n.sched ≡ ended_sched → StepsInPart (StandsFor n s) s w c d r q
-  late n avail did sched =
-      let at_k = subst (λ (z : ℕ). (p : Process) → process_at w.processes z ≡ Some p → p.state ≡ Live → ActsLate z w.processes w.names p (effect (before s w z p)) n.space c d r q) (sym is.number) did in
+  late n left tally counts did sched =
+      let at_k = subst (λ (z : ℕ). (p : Process) → process_at w.processes z ≡ Some p → p.state ≡ Live → ActsLate z w.processes w.names p (effect (before s w z p)) tally left c d r q) (sym is.number) did in
       let all = at_k here.0 here.1 here.2 in
       steps_in_part m s w here.0 c d r q stands is.any is.some here.1 n
-      (inr (stands_next m s w here.0 c d r q stands is.any is.some here.1 n all.stands (ap (λ (z : Schedule). z.dispatch) sched) (ap (λ (z : Schedule). z.quantum) sched)
-      (ended_flags (effect (before s w k here.0)) here.0 all.lives ∙ sym (ap (λ (z : Schedule). z.flags) sched)) avail))
+      (inr (stands_next m s w here.0 c d r q stands is.any is.some here.1 n left tally all.stands (ap (λ (z : Schedule). z.dispatch) sched) (ap (λ (z : Schedule). z.quantum) sched)
+      (ended_flags (effect (before s w k here.0)) here.0 all.lives ∙ sym (ap (λ (z : Schedule). z.flags) sched)) all.puts counts))
       (gains_some _ c d all.to_console) all.to_report (inr all.to_console)
 
   -- the input failed: the next step is a DosRead, and the machine stands for the world before it
-  pub stopped : (n : Machine) (i j s_of : Option (List ℕ)) → n.sched ≡ m.sched → n.space.state.avail ≡ m.space.state.avail → i ≡ Some w.input
+  pub stopped : (n : Machine) (put : Bool) (i j s_of : Option (List ℕ)) → IsSame m n → i ≡ Some w.input
       → ((p : Process) → process_at w.processes number ≡ Some p → p.state ≡ Live → ActsUnread (AsksInput (before s w number p)) w.processes w.names n.space i j c d r s_of)
-      → GainsSome s_of q (λ front. IsPrefix front (stop_line Input)) → (fault : Type 0) → Gains s_of q (stop_line Input) ⊎ fault → IsStopped (StandsFor n s) s w Input j c d r q fault
-  stopped n i j s_of same avail left did put fault whole =
+      → GainsSome s_of q (λ front. IsPrefix front (stop_line Input)) → (put ≡ true → Gains s_of q (stop_line Input)) → IsStopped (StandsFor n s) s w Input put j c d r q
+  stopped n put i j s_of same left did front whole =
       let at_k = subst (λ (z : ℕ). (p : Process) → process_at w.processes z ≡ Some p → p.state ≡ Live → ActsUnread (AsksInput (before s w z p)) w.processes w.names n.space i j c d r s_of) (sym is.number) did in
       let all = at_k here.0 here.1 here.2 in
       let next = next_is m s w here.0 c d r q stands is.any is.some here.1 in
@@ -190,37 +220,56 @@ module _ (m : Machine) (s : Setting) (w : World) (number : ℕ) (c d r q : Optio
           there = ap (λ (z : Dispatch). process_at w.processes z.current) next ∙ here.1;
           reads = subst (λ (z : Dispatch). AsksInput (before s w z.current here.0)) (sym next) all.cause;
         };
-        stands = same_space n m s w stands same avail all.stands;
+        stands = same_space n m s w stands same all.stands;
         input = all.input ∙ left;
         to_console = all.to_console;
-        to_report = continues_in_part (stop_line Input) (lines_text w.lines) r q (subst (λ (z : Option (List ℕ)). GainsSome z q (λ front. IsPrefix front (stop_line Input))) all.to_report put);
-        whole = elim whole [
-          | inl gains ↦ inl (continues_by (stop_line Input) (lines_text w.lines) r q (subst (λ (z : Option (List ℕ)). Gains z q (stop_line Input)) all.to_report gains))
-          | inr f ↦ inr f
-        ];
+        to_report = continues_in_part (stop_line Input) (lines_text w.lines) r q (subst (λ (z : Option (List ℕ)). GainsSome z q (λ front. IsPrefix front (stop_line Input))) all.to_report front);
+        whole = λ e. continues_by (stop_line Input) (lines_text w.lines) r q (subst (λ (z : Option (List ℕ)). Gains z q (stop_line Input)) all.to_report (whole e));
       }
 
--- the last line
-pub closes : (f : World → Type 0) (s : Setting) (w : World) (text : List ℕ) (i c r q : Option (List ℕ)) (e : Type 0) (answer : Turn) → i ≡ Some w.input → is_over w ≡ true → last_line w ≡ text → ClosesWith r q text answer → Turns f s w i c c r q e answer
-closes f s w text i c r q e turn.Closed left done last g = record { input = left; over = done; to_console = refl; to_report = rw last (continues_by text (lines_text w.lines) r q g) }
-closes f s w text i c r q e turn.LastFault left done last g = record { over = done; to_console = refl; to_report = rw last (continues_in_part text (lines_text w.lines) r q g) }
-closes f s w text i c r q e turn.Ran left done last g = absurd g
-closes f s w text i c r q e turn.StepFault left done last g = absurd g
-closes f s w text i c r q e (turn.Stopped why) left done last g = absurd g
+-- the last line, whole or in part
+module _ (m n : Machine) (s : Setting) (w : World) (i c r q : Option (List ℕ)) (stands : StandsFor m s w) (same : IsSame m n) (space : n.space ≡ m.space) (left : i ≡ Some w.input) where
+  stays : StandsFor n s w
+  stays = same_space n m s w stands same (subst (λ (z : Space). StandsIn z w.processes w.names) (sym space) stands.space)
 
-pub closes_ended : (f : World → Type 0) (s : Setting) (m : Machine) (w : World) (i c r q : Option (List ℕ)) (e : Type 0) (answer : Turn) → StandsFor m s w → i ≡ Some w.input → pick_of m.sched ≡ AllEnded
-    → ClosesWith r q (codes "all ended" ++ 10 ∷ []) answer → Turns f s w i c c r q e answer
-closes_ended f s m w i c r q e answer stands left pick g =
-    let none : any_of m.sched ≡ false = by_ended (any_of m.sched) (m.sched.dispatch.budget == 0) (next_of m.sched).current pick in
-    closes f s w _ i c r q e answer left (rw (any_is m s w false stands none) refl) (rw (any_is m s w false stands none) refl) g
+  closed : (lives : Bool) (text : List ℕ) → any_lives w.processes ≡ lives → is_over w ≡ true → last_line w ≡ text → Gains r q text → IsClosed (StandsFor n s) w lives i c c r q
+  closed lives text by over last g = record { over = over; by = by; stands = stays; input = left; to_console = refl; to_report = rw last (continues_by text (lines_text w.lines) r q g) }
 
-pub closes_spent : (f : World → Type 0) (s : Setting) (m : Machine) (w : World) (i c r q : Option (List ℕ)) (e : Type 0) (answer : Turn) → StandsFor m s w → i ≡ Some w.input → pick_of m.sched ≡ BudgetSpent
-    → ClosesWith r q (codes "budget spent" ++ 10 ∷ []) answer → Turns f s w i c c r q e answer
-closes_spent f s m w i c r q e answer stands left pick g =
-    let both = by_spent (any_of m.sched) (m.sched.dispatch.budget == 0) (next_of m.sched).current pick in
-    closes f s w _ i c r q e answer left (rw (any_is m s w true stands both.0, stands.dispatch, both.1) refl) (rw (any_is m s w true stands both.0, stands.dispatch, both.1) refl) g
+  closed_in_part : (text : List ℕ) → is_over w ≡ true → last_line w ≡ text → GainsSome r q (λ front. IsPrefix front text) → IsClosedInPart (StandsFor n s) w c c r q
+  closed_in_part text over last g = record { over = over; stands = stays; to_console = refl; to_report = rw last (continues_in_part text (lines_text w.lines) r q g) }
 
--- the whole line, or a report that failed, counted from an earlier time
-pub whole_since : (P : Type 0) (before mid now : ℕ) → before ≤ mid → P ⊎ Rose mid now → P ⊎ Rose before now
-whole_since P before mid now later (inl p) = inl p
-whole_since P before mid now later (inr f) = inr (rose_since before mid now later f)
+  none_lives : pick_of m.sched ≡ AllEnded → any_lives w.processes ≡ false
+  none_lives pick = any_is m s w false stands (by_ended (any_of m.sched) (m.sched.dispatch.budget == 0) (next_of m.sched).current pick)
+
+  pub closes_ended : pick_of m.sched ≡ AllEnded → Gains r q (codes "all ended" ++ 10 ∷ []) → IsClosed (StandsFor n s) w false i c c r q
+  closes_ended pick g = closed false _ (none_lives pick) (rw (none_lives pick) refl) (rw (none_lives pick) refl) g
+
+  pub ended_in_part : pick_of m.sched ≡ AllEnded → GainsSome r q (λ front. IsPrefix front (codes "all ended" ++ 10 ∷ [])) → IsClosedInPart (StandsFor n s) w c c r q
+  ended_in_part pick g = closed_in_part _ (rw (none_lives pick) refl) (rw (none_lives pick) refl) g
+
+  some_lives : pick_of m.sched ≡ BudgetSpent → (any_lives w.processes ≡ true) × ((w.dispatch.budget == 0) ≡ true)
+  some_lives pick =
+      let both = by_spent (any_of m.sched) (m.sched.dispatch.budget == 0) (next_of m.sched).current pick in
+      (any_is m s w true stands both.0, ap (λ (d : Dispatch). d.budget == 0) stands.dispatch ∙ both.1)
+
+  pub closes_spent : pick_of m.sched ≡ BudgetSpent → Gains r q (codes "budget spent" ++ 10 ∷ []) → IsClosed (StandsFor n s) w true i c c r q
+  closes_spent pick g = let both = some_lives pick in closed true _ both.0 (rw (both.0, both.1) refl) (rw (both.0, both.1) refl) g
+
+  pub spent_in_part : pick_of m.sched ≡ BudgetSpent → GainsSome r q (λ front. IsPrefix front (codes "budget spent" ++ 10 ∷ [])) → IsClosedInPart (StandsFor n s) w c c r q
+  spent_in_part pick g = let both = some_lives pick in closed_in_part _ (rw (both.0, both.1) refl) (rw (both.0, both.1) refl) g
+
+-- what a machine stands for doesn't depend on the answer that it keeps
+turns_move : (f g : World → Type 0) → ((w : World) → f w → g w) → (s : Setting) (w : World) (put : Bool) (i c d r q : Option (List ℕ)) (t : Turn) → Turns f s w put i c d r q t → Turns g s w put i c d r q t
+turns_move f g h s w put i c d r q turn.Ran x = record { runs = x.runs; input = x.input; stands = h (step s w) x.stands; to_console = x.to_console; to_report = x.to_report }
+turns_move f g h s w put i c d r q turn.AllEnded x = record { over = x.over; by = x.by; stands = h w x.stands; input = x.input; to_console = x.to_console; to_report = x.to_report }
+turns_move f g h s w put i c d r q turn.BudgetSpent x = record { over = x.over; by = x.by; stands = h w x.stands; input = x.input; to_console = x.to_console; to_report = x.to_report }
+turns_move f g h s w put i c d r q turn.InputFault x = record { runs = x.runs; cause = x.cause; stands = h w x.stands; input = x.input; to_console = x.to_console; to_report = x.to_report; whole = x.whole }
+turns_move f g h s w put i c d r q turn.SinkFault (inl x) = inl (record { runs = x.runs; stands = either x.stands; to_console = x.to_console; to_report = x.to_report; in_order = x.in_order }) where
+  either : f w ⊎ f (step s w) → g w ⊎ g (step s w)
+  either (inl y) = inl (h w y)
+  either (inr y) = inr (h (step s w) y)
+turns_move f g h s w put i c d r q turn.SinkFault (inr x) = inr (record { over = x.over; stands = h w x.stands; to_console = x.to_console; to_report = x.to_report })
+
+-- the same, for the answer as it is given
+pub turns_answered : (f g : World → Type 0) → ((w : World) → f w → g w) → (s : Setting) (w : World) (put : Bool) (i c d r q : Option (List ℕ)) (t u : Turn) → u ≡ t → Turns f s w put i c d r q t → Turns g s w put i c d r q u
+turns_answered f g h s w put i c d r q t u same x = subst (λ (z : Turn). Turns g s w put i c d r q z) (sym same) (turns_move f g h s w put i c d r q t x)

@@ -8,6 +8,8 @@ use Rattle.o2_world.specs.Holders.{with_process}
 use Rattle.o2_world.specs.Calls.{Effect}
 use Rattle.o2_world.specs.Run.{process_after, names_after}
 use Rattle.o2_machine.specs.Stands.{StandsIn}
+use Rattle.o2_machine.specs.Tallies.{IsTally}
+use Rattle.o2_machine.specs.declared.tally.Tally.{Tally}
 use Rattle.o2_machine.specs.declared.space.Space.{Space}
 use Rattle.o2_machine.specs.declared.space.Acted.{Acted}
 use Rattle.o2_machine.specs.declared.space.Acted.TheVariants.{Went, Ended, Fault, LateFault, InputFault}
@@ -16,8 +18,9 @@ use Rattle.o2_machine.specs.declared.space.Acted.TheVariants.{Went, Ended, Fault
 abbrev pub StandsAfter : ℕ → List Process → Map Segment → Process → Effect → Space → Type 0
 StandsAfter n ps names p e new = let qs = with_process ps n (process_after p e) in StandsIn new qs (names_after qs names e)
 
-pub record ActsAll (n : ℕ) (ps : List Process) (names : Map Segment) (p : Process) (e : Effect) (new : Space) (left console_old console_new report_old report_new : Option (List ℕ)) (live : Bool) : Type 0 where
+pub record ActsAll (n : ℕ) (ps : List Process) (names : Map Segment) (p : Process) (e : Effect) (tally : Tally) (new : Space) (left console_old console_new report_old report_new : Option (List ℕ)) (live : Bool) : Type 0 where
   pub lives : is_live e.state ≡ live
+  pub puts : IsTally e tally
   pub stands : StandsAfter n ps names p e new
   pub input : left ≡ Some e.input
   pub to_console : Gains console_old console_new e.piece
@@ -29,8 +32,9 @@ pub record ActsInPart (ps : List Process) (names : Map Segment) (e : Effect) (ne
   pub to_report : GainsSome report_old report_new (λ front. IsPrefix front (lines_text e.lines))
   pub in_order : (report_new ≡ report_old) ⊎ Gains console_old console_new e.piece
 
-pub record ActsLate (n : ℕ) (ps : List Process) (names : Map Segment) (p : Process) (e : Effect) (new : Space) (console_old console_new report_old report_new : Option (List ℕ)) : Type 0 where
+pub record ActsLate (n : ℕ) (ps : List Process) (names : Map Segment) (p : Process) (e : Effect) (tally : Tally) (new : Space) (console_old console_new report_old report_new : Option (List ℕ)) : Type 0 where
   pub lives : is_live e.state ≡ false
+  pub puts : IsTally e tally
   pub stands : StandsAfter n ps names p e new
   pub to_console : Gains console_old console_new e.piece
   pub to_report : GainsSome report_old report_new (λ front. IsPrefix front (lines_text e.lines))
@@ -44,17 +48,17 @@ pub record ActsUnread (why : Type 0) (ps : List Process) (names : Map Segment) (
   pub to_report : report_new ≡ report_old
 
 abbrev pub Acts : Type 0 → ℕ → List Process → Map Segment → Process → Effect → Space → (left_old left_new console_old console_new report_old report_new : Option (List ℕ)) → Acted → Type 0
-Acts why n ps names p e new i j c d r q Went = ActsAll n ps names p e new j c d r q true
-Acts why n ps names p e new i j c d r q Ended = ActsAll n ps names p e new j c d r q false
+Acts why n ps names p e new i j c d r q (Went tally) = ActsAll n ps names p e tally new j c d r q true
+Acts why n ps names p e new i j c d r q (Ended tally) = ActsAll n ps names p e tally new j c d r q false
 Acts why n ps names p e new i j c d r q Fault = ActsInPart ps names e new c d r q
-Acts why n ps names p e new i j c d r q LateFault = ActsLate n ps names p e new c d r q
+Acts why n ps names p e new i j c d r q (LateFault tally) = ActsLate n ps names p e tally new c d r q
 Acts why n ps names p e new i j c d r q InputFault = ActsUnread why ps names new i j c d r q
 
 abbrev pub OnFault : Acted → Type 0 → Type 0
-OnFault Went P = Unit {0}
-OnFault Ended P = Unit {0}
+OnFault (Went tally) P = Unit {0}
+OnFault (Ended tally) P = Unit {0}
 OnFault Fault P = P
-OnFault LateFault P = P
+OnFault (LateFault tally) P = P
 OnFault InputFault P = Unit {0}
 
 abbrev pub OnInput : Acted → Type 0 → Type 0

@@ -1,5 +1,5 @@
 -- How a machine begins.
-use Rattle.std.specs.Prelude.{◌≡◌, ℕ, List, Option, Result, Ok, Err, map}
+use Rattle.std.specs.Prelude.{◌≡◌, ℕ, List, Option, None, Result, Ok, Err, map}
 use Rattle.o2_base.specs.declared.faults.ModuleFault.{ModuleFault}
 use Rattle.o2_conf.specs.declared.conf.Conf.{Conf}
 use Rattle.o2_conf.specs.Script.{slice_of}
@@ -16,7 +16,7 @@ use Rattle.o2_machine.specs.StandsFor.{StandsFor}
 
 -- what a run takes from the machine file
 abbrev pub setting_of : Conf → Setting
-setting_of c = record { quantum = c.quantum; segments = c.segments; avail = c.avail }
+setting_of c = record { quantum = c.quantum; segments = c.segments; avail = c.avail; budget = c.budget }
 
 -- the starts of a setting's processes
 abbrev pub starting : LinkedParts → Conf → Result Built (ℕ × ModuleFault)
@@ -28,13 +28,14 @@ first_world c input b = world_of (map slice_of c.script) c.budget input b
 
 -- the world before the first step, or the process that is refused, and why
 abbrev pub opening : LinkedParts → Conf → List ℕ → Result World (ℕ × ModuleFault)
-opening l c input = opening_of (setting_of c) (map slice_of c.script) c.budget input (starts_of l 1 c.process)
+opening l c input = opening_of (setting_of c) (map slice_of c.script) input (starts_of l 1 c.process)
 
 -- all processes have started, and the lines of their starts are put
 pub record HasBegun (m : Machine) (l : LinkedParts) (c : Conf) (report_old report_new : Option (List ℕ)) : Type 0 where
   pub built : Built
   pub starts : starting l c ≡ Ok built
   pub stands : (input : List ℕ) → StandsFor m (setting_of c) (first_world c input built)
+  pub fresh : m.last ≡ None
   pub to_report : Gains report_old report_new (lines_text built.lines)
 
 -- a sink failed among those lines

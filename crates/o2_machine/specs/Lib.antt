@@ -1,8 +1,10 @@
+pub mod Tallies
 pub mod Ran
 pub mod Stands
 pub mod Commit
 pub mod Acts
-pub mod Closes
+pub mod Lasts
 pub mod StandsFor
 pub mod Begins
 pub mod Readies
+pub mod Shown

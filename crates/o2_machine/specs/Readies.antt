@@ -1,4 +1,4 @@
--- A process that has started, before its first step.
+-- Processes that have started, before their first steps.
 use Rattle.o2_isa.specs.declared.cpu.Cpu.{Cpu}
 use Rattle.o2_world.specs.declared.types.State.TheVariants.{Live}
 use Rattle.o2_machine.specs.declared.space.Proc.{Proc}

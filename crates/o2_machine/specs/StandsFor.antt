@@ -1,5 +1,5 @@
 -- The machine stands for a world, whatever its texts and its input are.
-use Rattle.std.specs.Prelude.{◌≡◌}
+use Rattle.std.specs.Prelude.{◌≡◌, length}
 use Rattle.o2_world.specs.World.{World, Setting}
 use Rattle.o2_world.specs.Run.{live_flags}
 use Rattle.o2_machine.specs.Stands.{StandsIn}
@@ -11,3 +11,7 @@ pub record StandsFor (m : Machine) (s : Setting) (w : World) : Type 0 where
   pub dispatch : w.dispatch ≡ m.sched.dispatch
   pub quantum : s.quantum ≡ m.sched.quantum
   pub avail : s.avail ≡ m.space.state.avail
+  pub budget : s.budget ≡ m.budget
+  -- as many bytes and lines are counted as both texts have, without the last line
+  pub console : length w.console ≡ m.console_bytes
+  pub lines : length w.lines ≡ m.lines

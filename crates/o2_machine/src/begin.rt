@@ -1,5 +1,5 @@
 // How a machine begins: its processes start, and the lines of their starts are put.
-ghost use Rattle.std.specs.Prelude.{◌≡◌, ◌≤◌, ◌+◌, ℕ, List, length, map, replicate, true, IfOk, Ok};
+ghost use Rattle.std.specs.Prelude.{◌≡◌, ◌≤◌, ◌+◌, ◌^◌, ℕ, List, length, map, sum_by, replicate, true, IfOk, Ok, None};
 ghost use Rattle.o2_conf.specs.Limits.{IsWithinLimits};
 ghost use Rattle.o2_conf.specs.Script.{slice_of};
 ghost use Rattle.o2_sched.specs.Schedule.{opening_dispatch};
@@ -43,14 +43,38 @@ fn first_procs(alloc: Global, cpus: &[Cpu]) -> Result<Vec<Proc>, NoMemory>
     Ok(procs)
 }
 
+/// How many lines the starts have: one, and one for each selector.
+fn line_count(starts: &[Vec<u16>]) -> u128
+    requires { length starts.now ≤ 64 }
+    ensures count { result ≡ sum_by (λ v. length v.items + 1) starts.now }
+    ensures few { result ≤ 2 ^ 96 }
+{
+    let mut count: u128 = 0;
+    for selectors in starts {
+        count += selectors.len() as u128 + 1;
+    }
+    count
+}
+
 /// The machine of processes that have started.
-fn assemble(alloc: Global, conf: &Conf, cpus: &[Cpu], plain: Plain) -> Result<Machine, NoMemory>
+fn assemble(
+    alloc: Global,
+    conf: &Conf,
+    cpus: &[Cpu],
+    plain: Plain,
+    lines: u128,
+) -> Result<Machine, NoMemory>
     requires count { length cpus.now ≡ length conf.now.process }
     requires few { length conf.now.process ≤ 64 }
+    requires lines { lines ≤ 2 ^ 96 }
     ensures procs { IfOk result (λ m. m.space.procs.items ≡ map first_proc cpus.now) }
     ensures plain { IfOk result (λ m. m.space.state.plain ≡ plain) }
     ensures avail { IfOk result (λ m. m.space.state.avail ≡ conf.now.avail) }
     ensures sched { IfOk result (λ m. m.sched ≡ record { dispatch = opening_dispatch (map slice_of conf.now.script) conf.now.budget; flags = replicate (length conf.now.process) true; quantum = conf.now.quantum }) }
+    ensures budget { IfOk result (λ m. m.budget ≡ conf.now.budget) }
+    ensures console { IfOk result (λ m. m.console_bytes ≡ 0) }
+    ensures lines { IfOk result (λ m. m.lines ≡ lines) }
+    ensures fresh { IfOk result (λ m. m.last ≡ None) }
 {
     let procs = first_procs(alloc, cpus)?;
     let sched = Sched::make(alloc, conf)?;
@@ -58,6 +82,10 @@ fn assemble(alloc: Global, conf: &Conf, cpus: &[Cpu], plain: Plain) -> Result<Ma
     Ok(Machine {
         space: Space { procs, state },
         sched,
+        budget: conf.budget,
+        console_bytes: 0,
+        lines,
+        last: None,
     })
 }
 
@@ -124,7 +152,8 @@ fn finish<R: Sink>(
     let Ok(mut line) = LineBuffer::new(alloc) else {
         return Err(BeginFault::NoMemory);
     };
-    let Ok(machine) = assemble(alloc, conf, &cpus, build.plain) else {
+    let lines = line_count(&starts);
+    let Ok(machine) = assemble(alloc, conf, &cpus, build.plain, lines) else {
         return Err(BeginFault::NoMemory);
     };
     match put_starts(&mut line, linked, &starts, report) {

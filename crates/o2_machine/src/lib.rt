@@ -3,12 +3,19 @@
 
 mod begin;
 mod close;
+mod counts;
 mod fault;
+mod last;
 mod machine;
 mod one_step;
 mod space;
+mod tally;
+mod turn;
 
 pub use fault::BeginFault;
+pub use last::{Last, answer};
 pub use machine::Machine;
+pub use o2_run::{Steps, Turn};
 pub use one_step::{Ran, run_one};
 pub use space::{Acted, Proc, Space};
+pub use tally::Tally;

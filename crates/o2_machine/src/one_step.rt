@@ -1,5 +1,5 @@
 // One step of a process, all but what an end takes from it.
-ghost use Rattle.std.specs.Prelude.{◌≡◌, ◌≤◌, ◌⊎◌, ◌∷◌, [], ℕ, List, Option, Some, length};
+ghost use Rattle.std.specs.Prelude.{◌≡◌, ◌<◌, ◌≤◌, ◌^◌, ◌⊎◌, ◌∷◌, [], ℕ, List, Option, Some, length};
 ghost use Rattle.o2_outer.specs.Texts.{Rose};
 ghost use Rattle.o2_outer.specs.Answers.{Takes, OnFailed};
 ghost use Rattle.o2_bus.specs.Plain.{held_in, shown_in, bytes_in};
@@ -11,6 +11,7 @@ ghost use Rattle.o2_gate.specs.Befores.{before_call};
 ghost use Rattle.o2_gate.specs.Called.{IsMade};
 ghost use Rattle.o2_machine.specs.Ran.{Leaves, OnFault, OnInput};
 
+use crate::tally::Tally;
 use o2_bus::Plain;
 use o2_core::step_plain;
 use o2_gate::{Called, State as Services, call};
@@ -22,14 +23,14 @@ use o2_world::State;
 /// What a step came to.
 #[derive(Clone, Copy, Debug, PartialEq, Eq)]
 pub enum Ran {
-    /// It is done, and the process is then in this state.
-    Done(State),
+    /// It is done, the process is then in this state, and so much is put.
+    Done(State, Tally),
     /// A sink failed, and registers and bytes are as before the step.
     Fault,
     /// The input failed, and all is as before the step.
     InputFault,
-    /// A sink failed in the last line of the step, which is made all the same.
-    LateFault(State),
+    /// A sink failed in the last line of the step, which is made all the same. The line counts as put.
+    LateFault(State, Tally),
 }
 
 /// Whether the trap flag is set.
@@ -60,24 +61,35 @@ fn trap<R: Sink>(pid: u16, vector: u8, cpu: &Cpu, line: &mut LineBuffer, report:
 {
     match put_trap(line, pid, vector, cpu, report) {
         Put::Failed => Ran::Fault,
-        Put::Done => Ran::Done(State::Trapped(vector)),
+        Put::Done => Ran::Done(State::Trapped(vector), Tally { bytes: 0, lines: 1 }),
     }
 }
 
-/// A step that the process outlives. Where the trap flag was set before it, exception 1 follows.
-fn outlived<R: Sink>(pid: u16, before: &Cpu, line: &mut LineBuffer, report: &mut R) -> Ran
-    ensures leaves { (b : Before) (e : Effect) (cpu : Cpu) (old new : Plain) (i j c d r : Option (List ℕ)) → b.number ≡ pid → b.cpu ≡ before.now → IsMade e State.Live cpu new j c d r (R.taken report.old)
+/// A step that the process outlives, and that has put so much. Where the trap flag was set before it, exception 1 follows.
+fn outlived<R: Sink>(
+    pid: u16,
+    before: &Cpu,
+    tally: Tally,
+    line: &mut LineBuffer,
+    report: &mut R,
+) -> Ran
+    requires few { tally.lines < 2 ^ 63 }
+    ensures leaves { (b : Before) (e : Effect) (cpu : Cpu) (old new : Plain) (i j c d r : Option (List ℕ)) → b.number ≡ pid → b.cpu ≡ before.now → IsMade e State.Live tally.bytes tally.lines cpu new j c d r (R.taken report.old)
         → Leaves b (single_stepped b e) cpu old new i j c d r (R.taken report.new) result }
     ensures count { R.faults report.old ≤ R.faults report.new }
     ensures cause { OnFault result (Rose (R.faults report.old) (R.faults report.new)) }
     ensures unread { OnInput result ⊥ }
 {
     if !has_trap_flag(before.flags) {
-        return Ran::Done(State::Live);
+        return Ran::Done(State::Live, tally);
     }
+    let both = Tally {
+        bytes: tally.bytes,
+        lines: tally.lines + 1,
+    };
     match put_trap(line, pid, 1, before, report) {
-        Put::Failed => Ran::LateFault(State::Trapped(1)),
-        Put::Done => Ran::Done(State::Trapped(1)),
+        Put::Failed => Ran::LateFault(State::Trapped(1), both),
+        Put::Done => Ran::Done(State::Trapped(1), both),
     }
 }
 
@@ -105,13 +117,21 @@ pub fn run_one<I: Source, C: Sink, R: Sink>(
 {
     let before = *cpu;
     match step_plain(&mut state.plain, pid, cpu) {
-        Outcome::Done => outlived(pid, &before, &mut state.line, report),
+        Outcome::Done => {
+            let tally = Tally { bytes: 0, lines: 0 };
+            outlived(pid, &before, tally, &mut state.line, report)
+        }
         Outcome::Trap(vector, _) => trap(pid, vector, cpu, &mut state.line, report),
         Outcome::Miss(_) => trap(pid, 11, cpu, &mut state.line, report),
         Outcome::Gate { service, next } => {
             match call(service, next, pid, cpu, state, input, console, report) {
-                Called::Back => outlived(pid, &before, &mut state.line, report),
-                Called::Exited(code) => Ran::Done(State::Exited(code)),
+                Called::Back(bytes) => {
+                    let tally = Tally { bytes, lines: 1 };
+                    outlived(pid, &before, tally, &mut state.line, report)
+                }
+                Called::Exited(code) => {
+                    Ran::Done(State::Exited(code), Tally { bytes: 0, lines: 2 })
+                }
                 Called::Trap(vector) => trap(pid, vector, cpu, &mut state.line, report),
                 Called::InputFault => Ran::InputFault,
                 Called::SinkFault => Ran::Fault,

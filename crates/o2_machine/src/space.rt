@@ -9,6 +9,7 @@ ghost use Rattle.o2_world.specs.Calls.{Before, Effect};
 ghost use Rattle.o2_world.specs.Effect.{effect, AsksInput};
 
 use crate::one_step::{Ran, run_one};
+use crate::tally::Tally;
 use o2_gate::State as Services;
 use o2_isa::Cpu;
 use o2_outer::{Sink, Source};
@@ -31,14 +32,14 @@ pub struct Space {
 /// What a step came to.
 #[derive(Clone, Copy, Debug, PartialEq, Eq)]
 pub enum Acted {
-    /// The process goes on.
-    Went,
-    /// The process has ended.
-    Ended,
+    /// The process goes on, and so much is put.
+    Went(Tally),
+    /// The process has ended, and so much is put.
+    Ended(Tally),
     /// A sink failed, and the machine is as before the step.
     Fault,
-    /// A sink failed in the last line of the step, behind which the process has ended.
-    LateFault,
+    /// A sink failed in the last line of the step, behind which the process has ended. The line counts as put.
+    LateFault(Tally),
     /// The input failed, and all is as before the step.
     InputFault,
 }
@@ -97,17 +98,17 @@ impl Space {
         match run_one(pid, &mut cpu, &mut self.state, input, console, report) {
             Ran::Fault => Acted::Fault,
             Ran::InputFault => Acted::InputFault,
-            Ran::Done(state) => {
+            Ran::Done(state, tally) => {
                 self.commit(pid, &cpu, state);
                 if is_live(state) {
-                    Acted::Went
+                    Acted::Went(tally)
                 } else {
-                    Acted::Ended
+                    Acted::Ended(tally)
                 }
             }
-            Ran::LateFault(state) => {
+            Ran::LateFault(state, tally) => {
                 self.commit(pid, &cpu, state);
-                Acted::LateFault
+                Acted::LateFault(tally)
             }
         }
     }

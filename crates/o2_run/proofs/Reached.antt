@@ -1,11 +1,12 @@
 -- How a run goes on, and how it ends.
-use Rattle.std.proofs.Common.{◌≡◌, ℕ, suc, ◌+◌, ◌<◌, ◌≤◌, Bool, true, false, not, List, [], ◌∷◌, ◌++◌, Option, Some, subst, inl, inr, ap, sym, ◌∙◌, refl, arith, ◌||◌, ◌==◌, if◌then◌else◌, below_more, append-nil, append_assoc}
-use Rattle.o2_outer.specs.Texts.{IsPrefix, Rose}
+use Rattle.std.proofs.Common.{◌≡◌, ℕ, suc, ◌+◌, ◌<◌, ◌≤◌, Bool, true, false, not, List, [], ◌∷◌, ◌++◌, Option, Some, None, ◌⊎◌, subst, inl, inr, ap, sym, ◌∙◌, refl, arith, ◌||◌, ◌==◌, if◌then◌else◌, below_more, append-nil, append_assoc}
+use Rattle.o2_outer.specs.Texts.{IsPrefix, Rose, Gains, Continues}
 use Rattle.o2_world.specs.World.{World, Setting}
 use Rattle.o2_world.specs.Text.{lines_text}
 use Rattle.o2_world.specs.Run.{any_lives, after, is_over, last_line, report, HasWholeTexts, HasPartTexts, Between, AtLastLine, IsBelowLast}
 use Rattle.o2_run.specs.Turn.{StepsOn, StepsInPart, IsClosed, IsClosedInPart, IsStopped}
-use Rattle.o2_run.specs.Ended.{HasReached, HasWholeRun, HasStoppedTexts}
+use Rattle.o2_run.specs.Stops.{stop_line}
+use Rattle.o2_run.specs.Ended.{HasReached, HasWholeRun, HasStoppedTexts, HasLast}
 use Rattle.o2_run.specs.declared.steps.Stop.{Stop}
 
 neither : (a b : Bool) (x y : List ℕ) → (a || b) ≡ false → (if a then x else (if b then y else [])) ≡ []
@@ -33,8 +34,8 @@ module _ (before_it now : World → Type 0) (s : Setting) (w : World) (i l c d e
     to_report = λ t x. on.to_report t (h.to_report t x);
   }
 
-  pub closed : (h : HasReached before_it s w i c d r q) → IsClosed (after s w h.steps) l d e q p → HasWholeRun s w l c e r p
-  closed h end = record {
+  pub closed : (h : HasReached before_it s w i c d r q) (lives : Bool) → IsClosed now (after s w h.steps) lives l d e q p → HasWholeRun s w l c e r p
+  closed h lives end = record {
     texts = record {
       last = h.steps;
       is_last = record { over = end.over; first = h.runs };
@@ -44,18 +45,25 @@ module _ (before_it now : World → Type 0) (s : Setting) (w : World) (i l c d e
     input = end.input;
   }
 
-  pub stopped_before : (h : HasReached before_it s w i c d r q) (why : Stop) (fault since : Type 0) → (fault → since) → IsStopped now s (after s w h.steps) why l d e q p fault → HasStoppedTexts s w why l c e r p since
-  stopped_before h why fault since later stop = record {
+  -- the machine stands for the world of the last step
+  pub last_stands : (h : HasReached before_it s w i c d r q) (lives : Bool) → IsClosed now (after s w h.steps) lives l d e q p → HasLast now s w
+  last_stands h lives end = record { last = h.steps; is_last = record { over = end.over; first = h.runs }; stands = end.stands }
+
+  -- the stop line is whole, or the report failed
+  line_or : (k : ℕ) (why : Stop) (put : Bool) (fault : Type 0) → (t : Bool) → t ≡ put → (put ≡ true → Continues q p (lines_text (after s w k).lines) (lines_text (after s w k).lines ++ stop_line why)) → (put ≡ false → fault)
+      → Gains r q (lines_text (after s w k).lines) → Gains r p (lines_text (after s w k).lines ++ stop_line why) ⊎ fault
+  line_or k why put fault true is whole failed gains = inl (λ t x. whole (sym is) t (gains t x))
+  line_or k why put fault false is whole failed gains = inr (failed (sym is))
+
+  pub stopped_before : (h : HasReached before_it s w i c d r q) (why : Stop) (put : Bool) (since : Type 0) → (put ≡ false → since) → IsStopped now s (after s w h.steps) why put l d e q p → HasStoppedTexts s w why l c e r p since
+  stopped_before h why put since failed stop = record {
     steps = h.steps;
     below = λ j le. runs_to h.steps h.runs stop.runs j (omega (arith, le));
     cause = stop.cause;
     input = stop.input;
     to_console = λ t x. stop.to_console ∙ h.to_console t x;
     to_report = λ t x. stop.to_report t (h.to_report t x);
-    whole = elim stop.whole [
-      | inl goes ↦ inl (λ t x. goes t (h.to_report t x))
-      | inr f ↦ inr (later f)
-    ];
+    whole = line_or h.steps why put since put refl stop.whole failed h.to_report;
   }
 
   pub stopped_between : (h : HasReached before_it s w i c d r q) → StepsInPart now s (after s w h.steps) d e q p → HasPartTexts s w c e r p
@@ -68,10 +76,19 @@ module _ (before_it now : World → Type 0) (s : Setting) (w : World) (i l c d e
         | inr goes ↦ inr (λ t x. goes t (h.to_console t x))
       ])
 
-  pub stopped_at_last : (h : HasReached before_it s w i c d r q) → IsClosedInPart (after s w h.steps) d e q p → HasPartTexts s w c e r p
+  pub stopped_at_last : (h : HasReached before_it s w i c d r q) → IsClosedInPart now (after s w h.steps) d e q p → HasPartTexts s w c e r p
   stopped_at_last h end = AtLastLine h.steps (record { over = end.over; first = h.runs })
       (λ t x. end.to_console ∙ h.to_console t x)
       (λ t x. end.to_report t (h.to_report t x))
+
+  -- a sink failed, in a step or in the last line
+  pub stopped_anyhow : (h : HasReached before_it s w i c d r q) → StepsInPart now s (after s w h.steps) d e q p ⊎ IsClosedInPart now (after s w h.steps) d e q p → HasPartTexts s w c e r p
+  stopped_anyhow h (inl part) = stopped_between h part
+  stopped_anyhow h (inr end) = stopped_at_last h end
+
+-- of a text that isn't told nothing is owed
+pub gains_untold : (c : Option (List ℕ)) (piece : List ℕ) → Gains None c piece
+gains_untold c piece = λ t e. absurd (cc)
 
 -- a count that rose since a later time rose since an earlier
 pub rose_since : (before mid now : ℕ) → before ≤ mid → Rose mid now → Rose before now

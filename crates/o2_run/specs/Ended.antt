@@ -3,9 +3,12 @@ use Rattle.std.specs.Prelude.{◌⊎◌, ◌≡◌, ◌<◌, ◌++◌, ℕ, fals
 use Rattle.o2_outer.specs.Texts.{Gains, GainsBetween}
 use Rattle.o2_world.specs.World.{World, Setting}
 use Rattle.o2_world.specs.Text.{lines_text}
-use Rattle.o2_world.specs.Run.{HasWholeTexts, HasPartTexts, after, is_over, console, IsBelowLast}
+use Rattle.o2_world.specs.Run.{HasWholeTexts, HasPartTexts, after, is_over, console, IsBelowLast, IsLast}
 use Rattle.o2_run.specs.Stops.{stop_line, StopsFor}
 use Rattle.o2_run.specs.declared.steps.Stop.{Stop}
+use Rattle.o2_run.specs.declared.steps.Stop.TheVariants as stop
+use Rattle.o2_run.specs.declared.steps.Turn.{Turn}
+use Rattle.o2_run.specs.declared.steps.Turn.TheVariants as turn
 use Rattle.o2_run.specs.declared.whole.Ended.{Ended}
 use Rattle.o2_run.specs.declared.whole.Ended.TheVariants.{Fine, SinkFault, Stopped}
 
@@ -38,6 +41,22 @@ abbrev pub OnStop : Ended → Type 0 → Type 0
 OnStop Fine P = Unit {0}
 OnStop SinkFault P = Unit {0}
 OnStop (Stopped why) P = P
+
+-- the machine stands for the world of the last step
+pub record HasLast (stands_now : World → Type 0) (s : Setting) (w : World) : Type 0 where
+  pub last : ℕ
+  pub is_last : IsLast s w last
+  pub stands : stands_now (after s w last)
+
+abbrev pub OnFine : Ended → Type 0 → Type 0
+OnFine Fine P = P
+OnFine _ P = Unit {0}
+
+-- the answer of the last turn, by how the run ended
+abbrev pub EndsAs : Option Turn → Ended → Type 0
+EndsAs t Fine = (t ≡ Some turn.AllEnded) ⊎ (t ≡ Some turn.BudgetSpent)
+EndsAs t SinkFault = t ≡ Some turn.SinkFault
+EndsAs t (Stopped stop.Input) = t ≡ Some turn.InputFault
 
 -- after k steps, none of which ended the run: the machine stands for that world, and both texts are its texts
 pub record HasReached (stands_now : World → Type 0) (s : Setting) (w : World) (left : Option (List ℕ)) (console_old console_now report_old report_now : Option (List ℕ)) : Type 0 where

@@ -1,9 +1,9 @@
 -- What a turn answers, and what it does to both texts.
-use Rattle.std.specs.Prelude.{◌⊎◌, ◌≡◌, true, false, ℕ, List, ◌++◌, Option, Some}
+use Rattle.std.specs.Prelude.{◌⊎◌, ◌≡◌, Bool, true, false, ℕ, List, ◌++◌, Option, Some, None}
 use Rattle.o2_outer.specs.Texts.{Continues, ContinuesBetween}
 use Rattle.o2_world.specs.World.{World, Setting}
 use Rattle.o2_world.specs.Text.{lines_text}
-use Rattle.o2_world.specs.Run.{step, is_over, console, report}
+use Rattle.o2_world.specs.Run.{step, any_lives, is_over, console, report}
 use Rattle.o2_run.specs.Stops.{stop_line, StopsFor}
 use Rattle.o2_run.specs.declared.steps.Stop.{Stop}
 use Rattle.o2_run.specs.declared.steps.Stop.TheVariants as stop
@@ -27,54 +27,58 @@ pub record StepsInPart (stands_now : World → Type 0) (s : Setting) (w : World)
   pub to_report : ContinuesBetween report_old report_new (lines_text w.lines) (lines_text (step s w).lines)
   pub in_order : (report_new ≡ report_old) ⊎ Continues console_old console_new (console w) (console (step s w))
 
--- where it is over, the last line is put
-pub record IsClosed (w : World) (left : Option (List ℕ)) (console_old console_new report_old report_new : Option (List ℕ)) : Type 0 where
-  pub input : left ≡ Some w.input
+-- where it is over, for the end of all processes or for the budget, the last line is put
+pub record IsClosed (stands_now : World → Type 0) (w : World) (lives : Bool) (left console_old console_new report_old report_new : Option (List ℕ)) : Type 0 where
   pub over : is_over w ≡ true
+  pub by : any_lives w.processes ≡ lives
+  pub stands : stands_now w
+  pub input : left ≡ Some w.input
   pub to_console : console_new ≡ console_old
   pub to_report : Continues report_old report_new (lines_text w.lines) (report w)
 
 -- or a front of it
-pub record IsClosedInPart (w : World) (console_old console_new report_old report_new : Option (List ℕ)) : Type 0 where
+pub record IsClosedInPart (stands_now : World → Type 0) (w : World) (console_old console_new report_old report_new : Option (List ℕ)) : Type 0 where
   pub over : is_over w ≡ true
+  pub stands : stands_now w
   pub to_console : console_new ≡ console_old
   pub to_report : ContinuesBetween report_old report_new (lines_text w.lines) (report w)
 
 -- a stop before the step: the stop line is put, or where the report failed a front of it
-pub record IsStopped (stands_now : World → Type 0) (s : Setting) (w : World) (why : Stop) (left : Option (List ℕ)) (console_old console_new report_old report_new : Option (List ℕ)) (fault : Type 0) : Type 0 where
+pub record IsStopped (stands_now : World → Type 0) (s : Setting) (w : World) (why : Stop) (put : Bool) (left console_old console_new report_old report_new : Option (List ℕ)) : Type 0 where
   pub runs : is_over w ≡ false
   pub cause : StopsFor s w why
   pub stands : stands_now w
   pub input : left ≡ Some w.input
   pub to_console : console_new ≡ console_old
   pub to_report : ContinuesBetween report_old report_new (lines_text w.lines) (lines_text w.lines ++ stop_line why)
-  pub whole : Continues report_old report_new (lines_text w.lines) (lines_text w.lines ++ stop_line why) ⊎ fault
+  pub whole : put ≡ true → Continues report_old report_new (lines_text w.lines) (lines_text w.lines ++ stop_line why)
 
--- from a machine that stands for w, where `fault` says that the report failed
-abbrev pub Turns : (World → Type 0) → Setting → World → (left console_old console_new report_old report_new : Option (List ℕ)) → (fault : Type 0) → Turn → Type 0
-Turns f s w i c d r q e turn.Ran = StepsOn f s w i c d r q
-Turns f s w i c d r q e turn.StepFault = StepsInPart f s w c d r q
-Turns f s w i c d r q e turn.Closed = IsClosed w i c d r q
-Turns f s w i c d r q e turn.LastFault = IsClosedInPart w c d r q
-Turns f s w i c d r q e (turn.Stopped why) = IsStopped f s w why i c d r q e
+-- from a machine that stands for w and hasn't stopped, where `put` says that a stop line was put whole
+abbrev pub Turns : (World → Type 0) → Setting → World → (put : Bool) → (left console_old console_new report_old report_new : Option (List ℕ)) → Turn → Type 0
+Turns f s w put i c d r q turn.Ran = StepsOn f s w i c d r q
+Turns f s w put i c d r q turn.AllEnded = IsClosed f w false i c d r q
+Turns f s w put i c d r q turn.BudgetSpent = IsClosed f w true i c d r q
+Turns f s w put i c d r q turn.InputFault = IsStopped f s w stop.Input put i c d r q
+Turns f s w put i c d r q turn.SinkFault = StepsInPart f s w c d r q ⊎ IsClosedInPart f w c d r q
 
-abbrev pub OnInputStop : Stop → Type 0 → Type 0
-OnInputStop stop.Input P = P
+-- the answer that is final
+abbrev pub stopped_by : Turn → Option Turn
+stopped_by turn.Ran = None
+stopped_by t = Some t
+
+-- the stop line is put whole unless the report failed; in other turns none is put
+abbrev pub LineIs : Bool → Type 0 → Turn → Type 0
+LineIs put fault turn.InputFault = put ≡ false → fault
+LineIs put fault _ = put ≡ false
 
 abbrev pub OnFault : Turn → Type 0 → Type 0
-OnFault turn.Ran P = Unit {0}
-OnFault turn.Closed P = Unit {0}
-OnFault turn.StepFault P = P
-OnFault turn.LastFault P = P
-OnFault (turn.Stopped why) P = Unit {0}
+OnFault turn.SinkFault P = P
+OnFault _ P = Unit {0}
 
 abbrev pub OnRan : Turn → Type 0 → Type 0
 OnRan turn.Ran P = P
-OnRan turn.Closed P = Unit {0}
-OnRan turn.StepFault P = Unit {0}
-OnRan turn.LastFault P = Unit {0}
-OnRan (turn.Stopped why) P = Unit {0}
+OnRan _ P = Unit {0}
 
 abbrev pub OnInput : Turn → Type 0 → Type 0
-OnInput (turn.Stopped why) P = OnInputStop why P
+OnInput turn.InputFault P = P
 OnInput _ P = Unit {0}

@@ -1,8 +1,9 @@
 // A machine that stands for a world, step by step.
-ghost use Rattle.std.specs.Prelude.{◌≡◌, ◌≤◌, ◌<◌, ◌⊎◌, ℕ, Bool, List, Option, Some};
+ghost use Rattle.std.specs.Prelude.{◌≡◌, ◌≤◌, ◌<◌, ◌⊎◌, ℕ, Bool, List, Option, Some, None};
 ghost use Rattle.o2_outer.specs.Texts.{Rose};
 ghost use Rattle.o2_world.specs.World.{World, Setting};
-ghost use Rattle.o2_run.specs.Turn.{Turns, OnFault, OnRan, OnInput};
+ghost use Rattle.o2_run.specs.declared.steps.Turn.{Turn};
+ghost use Rattle.o2_run.specs.Turn.{Turns, LineIs, OnFault, OnRan, OnInput, stopped_by};
 
 use o2_outer::{Sink, Source, SwapDevice};
 
@@ -13,19 +14,19 @@ pub enum Stop {
     Input,
 }
 
-/// What a turn came to.
+/// What a turn came to. All but `Ran` are final.
 #[derive(Clone, Copy, Debug, PartialEq, Eq)]
 pub enum Turn {
     /// One step.
     Ran,
-    /// The run was over, and its last line is put.
-    Closed,
-    /// A sink failed in a step.
-    StepFault,
-    /// A sink failed in the last line.
-    LastFault,
-    /// The run stopped before a step.
-    Stopped(Stop),
+    /// All processes have ended; the last line is put.
+    AllEnded,
+    /// The budget is spent while a process lives; the last line is put.
+    BudgetSpent,
+    /// The input failed, and the run stopped before the step that asks it.
+    InputFault,
+    /// A sink failed, in a step or in the last line.
+    SinkFault,
 }
 
 /// A machine that does the boundless machine's steps, one a turn.
@@ -36,7 +37,14 @@ pub trait Steps {
     /// How many steps are left at most.
     ghost left: { Self → ℕ };
 
-    /// One step, or the last line, or a stop line.
+    /// The answer of its first stop or end, and none before.
+    ghost stopped: { Self → Option Turn };
+
+    /// Whether its stop line was put whole.
+    ghost line_put: { Self → Bool };
+
+    /// One step, or the last line, or a stop line. After the first answer other than `Ran` each turn gives that answer and
+    /// touches nothing.
     fn turn<I: Source, C: Sink, R: Sink, S: SwapDevice>(
         &mut self,
         input: &mut I,
@@ -44,12 +52,22 @@ pub trait Steps {
         report: &mut R,
         swap: &mut S,
     ) -> Turn
-        ensures turns { (s : Setting) (w : World) → stands self.old (S.told swap.old) (S.block swap.old) s w → I.left input.old ≡ Some w.input
-            → Turns (stands self.new (S.told swap.new) (S.block swap.new) s) s w (I.left input.new) (C.taken console.old) (C.taken console.new) (R.taken report.old) (R.taken report.new) (Rose (R.faults report.old) (R.faults report.new)) result }
+        ensures turns { stopped self.old ≡ None → (s : Setting) (w : World) → stands self.old (S.told swap.old) (S.block swap.old) s w → I.left input.old ≡ Some w.input
+            → Turns (stands self.new (S.told swap.new) (S.block swap.new) s) s w (line_put self.new) (I.left input.new) (C.taken console.old) (C.taken console.new) (R.taken report.old) (R.taken report.new) result }
+        ensures stops { stopped self.new ≡ stopped_by result }
+        // A stop or an end is final.
+        ensures again { (t : Turn) → stopped self.old ≡ Some t → result ≡ t }
+        ensures same { (t : Turn) → stopped self.old ≡ Some t → self.new ≡ self.old }
+        ensures same_input { (t : Turn) → stopped self.old ≡ Some t → input.new ≡ input.old }
+        ensures same_console { (t : Turn) → stopped self.old ≡ Some t → console.new ≡ console.old }
+        ensures same_report { (t : Turn) → stopped self.old ≡ Some t → report.new ≡ report.old }
+        ensures same_swap { (t : Turn) → stopped self.old ≡ Some t → swap.new ≡ swap.old }
         ensures input_count { I.faults input.old ≤ I.faults input.new }
         ensures console_count { C.faults console.old ≤ C.faults console.new }
         ensures report_count { R.faults report.old ≤ R.faults report.new }
-        ensures cause { OnFault result (Rose (C.faults console.old) (C.faults console.new) ⊎ Rose (R.faults report.old) (R.faults report.new)) }
-        ensures input_cause { OnInput result (Rose (I.faults input.old) (I.faults input.new)) }
+        // A fault is told only where a count rose in the turn that first tells it.
+        ensures cause { stopped self.old ≡ None → OnFault result (Rose (C.faults console.old) (C.faults console.new) ⊎ Rose (R.faults report.old) (R.faults report.new)) }
+        ensures input_cause { stopped self.old ≡ None → OnInput result (Rose (I.faults input.old) (I.faults input.new)) }
+        ensures line { stopped self.old ≡ None → LineIs (line_put self.new) (Rose (R.faults report.old) (R.faults report.new)) result }
         ensures left { OnRan result (left self.new < left self.old) };
 }

@@ -1,10 +1,10 @@
 // The whole run.
-ghost use Rattle.std.specs.Prelude.{◌≡◌, ◌≤◌, ◌⊎◌, List, ℕ, Option, Some};
+ghost use Rattle.std.specs.Prelude.{◌≡◌, ◌≤◌, ◌⊎◌, List, ℕ, Option, Some, None};
 ghost use Rattle.o2_outer.specs.Texts.{Rose, Gains};
 ghost use Rattle.o2_world.specs.World.{World, Setting};
 ghost use Rattle.o2_world.specs.Text.{lines_text};
 ghost use Rattle.o2_world.specs.Run.{console as console_text};
-ghost use Rattle.o2_run.specs.Ended.{HasTexts, OnFault, OnStop};
+ghost use Rattle.o2_run.specs.Ended.{HasTexts, HasLast, EndsAs, OnFine, OnFault, OnStop};
 
 use crate::{Steps, Stop, Turn};
 use o2_outer::{Sink, Source, SwapDevice};
@@ -28,23 +28,26 @@ pub fn run<M: Steps, I: Source, C: Sink, R: Sink, S: SwapDevice>(
     report: &mut R,
     swap: &mut S,
 ) -> Ended
-    ensures texts { (s : Setting) (w : World) (c r : Option (List ℕ)) → M.stands machine.old (S.told swap.old) (S.block swap.old) s w
+    ensures texts { M.stopped machine.old ≡ None → (s : Setting) (w : World) (c r : Option (List ℕ)) → M.stands machine.old (S.told swap.old) (S.block swap.old) s w
         → I.left input.old ≡ Some w.input
         → Gains c (C.taken console.old) (console_text w) → Gains r (R.taken report.old) (lines_text w.lines)
         → HasTexts s w (I.left input.new) c (C.taken console.new) r (R.taken report.new) (Rose (R.faults report.old) (R.faults report.new)) result }
+    ensures stands { M.stopped machine.old ≡ None → (s : Setting) (w : World) → M.stands machine.old (S.told swap.old) (S.block swap.old) s w
+        → I.left input.old ≡ Some w.input → OnFine result (HasLast (M.stands machine.new (S.told swap.new) (S.block swap.new) s) s w) }
+    ensures stopped { EndsAs (M.stopped machine.new) result }
     ensures input_count { I.faults input.old ≤ I.faults input.new }
     ensures console_count { C.faults console.old ≤ C.faults console.new }
     ensures report_count { R.faults report.old ≤ R.faults report.new }
-    ensures cause { OnFault result (Rose (C.faults console.old) (C.faults console.new) ⊎ Rose (R.faults report.old) (R.faults report.new)) }
-    ensures input_cause { OnStop result (Rose (I.faults input.old) (I.faults input.new)) }
+    ensures cause { M.stopped machine.old ≡ None → OnFault result (Rose (C.faults console.old) (C.faults console.new) ⊎ Rose (R.faults report.old) (R.faults report.new)) }
+    ensures input_cause { M.stopped machine.old ≡ None → OnStop result (Rose (I.faults input.old) (I.faults input.new)) }
 {
     'steps: loop {
         match machine.turn(input, console, report, swap) {
             Turn::Ran => {}
-            Turn::Closed => return Ended::Fine,
-            Turn::StepFault => return Ended::SinkFault,
-            Turn::LastFault => return Ended::SinkFault,
-            Turn::Stopped(stop) => return Ended::Stopped(stop),
+            Turn::AllEnded => return Ended::Fine,
+            Turn::BudgetSpent => return Ended::Fine,
+            Turn::SinkFault => return Ended::SinkFault,
+            Turn::InputFault => return Ended::Stopped(Stop::Input),
         }
     }
 }

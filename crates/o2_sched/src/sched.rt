@@ -90,6 +90,13 @@ impl Sched {
         )
     }
 
+    /// The steps that are left of the whole run.
+    pub fn budget(&self) -> u32
+        ensures { result ≡ self.now.dispatch.budget }
+    {
+        self.budget
+    }
+
     /// What comes next. A step is one of a process that lives.
     pub fn next(&mut self) -> Pick
         ensures pick { result ≡ pick_of self.old }

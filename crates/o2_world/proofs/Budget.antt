@@ -2,7 +2,7 @@
 use Rattle.std.proofs.Common.{◌≡◌, ℕ, zero, suc, ◌+◌, ◌<◌, ◌≤◌, Bool, true, false, not, ◌||◌, ◌==◌, nat_lt, ◌&&◌, if◌then◌else◌, List, [], ◌∷◌, Option, Some, sym, ◌∙◌, refl, arith, subst, below_more}
 use Rattle.o2_world.specs.World.{World, Setting, Process}
 use Rattle.o2_conf.specs.Dispatch.{Dispatch, dispatched, started, live_script, lives}
-use Rattle.o2_world.specs.Run.{changed, acted, step, after, is_over, any_lives, live_flags, next_dispatch, IsLast}
+use Rattle.o2_world.specs.Run.{changed, acted, step, after, is_over, any_lives, live_flags, next_dispatch, steps_done, IsLast}
 use Rattle.o2_world.proofs.Choice.{chosen_lives}
 use Rattle.o2_world.proofs.Flags.{live_process}
 
@@ -45,6 +45,10 @@ budget_after s w (suc k) runs =
     let before = budget_after s w k (λ j h. runs j (omega (arith, h))) in
     let one = step_budget s (after s w k) (runs k (omega arith)) in
     omega (arith, before, one)
+
+-- the budget lost is the number of steps
+pub steps_counted : (s : Setting) (w : World) (k : ℕ) → w.dispatch.budget ≡ s.budget → ((j : ℕ) → j < k → is_over (after s w j) ≡ false) → steps_done s (after s w k) ≡ k
+steps_counted s w k whole runs = let h = budget_after s w k runs in omega (arith, h, whole)
 
 -- the last step is not past the budget
 pub last_within : (s : Setting) (w : World) (k : ℕ) → IsLast s w k → k ≤ w.dispatch.budget

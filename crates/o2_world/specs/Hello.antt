@@ -36,11 +36,11 @@ hello = record {
 abbrev pub hello_process : Start
 hello_process = record { program = hello; libraries = []; environment = environment [] (codes "HELLO") []; command = 1 }
 
-abbrev pub hello_setting : Setting
-hello_setting = record { quantum = 1000; segments = 1024; avail = 524288 }
+abbrev pub hello_setting : ℕ → Setting
+hello_setting budget = record { quantum = 1000; segments = 1024; avail = 524288; budget = budget }
 
 abbrev pub hello_opening : ℕ → Result World (ℕ × ModuleFault)
-hello_opening budget = opening_of hello_setting [] budget [] (hello_process ∷ [])
+hello_opening budget = opening_of (hello_setting budget) [] [] (hello_process ∷ [])
 
 abbrev pub opened : Result World (ℕ × ModuleFault) → World
 opened (Ok w) = w

@@ -1,5 +1,5 @@
 -- The run of the boundless machine, its texts, and what a stopped run shows of them.
-use Rattle.std.specs.Prelude.{◌⊎◌, ◌≡◌, ℕ, zero, suc, ◌≤◌, ◌<◌, Bool, true, false, not, List, [], ◌∷◌, ◌++◌, if◌then◌else◌, ◌==◌, ◌||◌, Option, Some, None, codes, map}
+use Rattle.std.specs.Prelude.{◌⊎◌, ◌≡◌, ℕ, zero, suc, ◌-◌, ◌≤◌, ◌<◌, Bool, true, false, not, List, [], ◌∷◌, ◌++◌, if◌then◌else◌, ◌==◌, ◌||◌, Option, Some, None, codes, map}
 use Rattle.std.specs.List.{list_any}
 use Rattle.o2_outer.specs.Texts.{Gains, GainsSome, GainsBetween, IsPrefix}
 use Rattle.o2_world.specs.Map.{Map}
@@ -65,6 +65,10 @@ pub record IsReadNext (s : Setting) (w : World) : Type 0 where
 abbrev pub after : Setting → World → ℕ → World
 after s w zero = w
 after s w (suc k) = step s (after s w k)
+
+-- how many steps are behind a world
+abbrev pub steps_done : Setting → World → ℕ
+steps_done s w = s.budget - w.dispatch.budget
 
 -- all have ended, or the budget is spent
 abbrev pub is_over : World → Bool

@@ -267,7 +267,7 @@ abbrev pub where_started : List (ℕ × ℕ) → ℕ → List ℕ → Result Bui
 where_started script budget input (Ok b) = Ok (world_of script budget input b)
 where_started script budget input (Err fault) = Err fault
 
--- the world before the first step, or the process that is refused, and why: a setting with its script and budget, the input,
--- and the starts in the order of the machine file
-abbrev pub opening_of : Setting → List (ℕ × ℕ) → ℕ → List ℕ → List Start → Result World (ℕ × ModuleFault)
-opening_of s script budget input starts = where_started script budget input (all_started s.segments starts)
+-- the world before the first step, or the process that is refused, and why: a setting with its script, the input, and the
+-- starts in the order of the machine file
+abbrev pub opening_of : Setting → List (ℕ × ℕ) → List ℕ → List Start → Result World (ℕ × ModuleFault)
+opening_of s script input starts = where_started script s.budget input (all_started s.segments starts)

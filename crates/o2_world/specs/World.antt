@@ -73,3 +73,4 @@ pub record Setting : Type 0 where
   pub quantum : ℕ
   pub segments : ℕ
   pub avail : ℕ
+  pub budget : ℕ

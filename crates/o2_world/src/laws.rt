@@ -1,19 +1,19 @@
 // Laws of the boundless machine.
-ghost use Rattle.std.specs.Prelude.{◌≡◌, ◌≢◌, ◌-◌, ◌≤◌, ℕ, ◌++◌, [], ◌∷◌, codes, true, slice_get, Ok};
+ghost use Rattle.std.specs.Prelude.{◌≡◌, ◌≢◌, ◌-◌, ◌<◌, ◌≤◌, ℕ, ◌++◌, [], ◌∷◌, codes, true, false, slice_get, Ok};
 ghost use Rattle.o2_world.specs.World.{World, Setting};
 ghost use Rattle.o2_world.specs.Sound.{IsSound};
-ghost use Rattle.o2_world.specs.Run.{after, step, next_dispatch, is_over, IsLast, console as console_text, report as report_text};
+ghost use Rattle.o2_world.specs.Run.{after, step, next_dispatch, is_over, steps_done, IsLast, console as console_text, report as report_text};
 ghost use Rattle.o2_world.specs.Hello.{hello_opening, hello_world, hello_setting, hello_report, hello_start, hello_write, text_of};
 
 /// A program that writes `hello` by DosWrite and ends by DosExit takes ten steps. Its console and its report are these,
 /// and with a budget of nine steps these fronts of them.
 pub fn hello_runs_in_ten_steps()
     ensures opens { (budget : ℕ) → hello_opening budget ≡ Ok (hello_world budget) }
-    ensures over { is_over (after hello_setting (hello_world 1000000) 10) ≡ true }
-    ensures console { console_text (after hello_setting (hello_world 1000000) 10) ≡ codes "hello" }
-    ensures report { report_text (after hello_setting (hello_world 1000000) 10) ≡ hello_report }
-    ensures short_console { console_text (after hello_setting (hello_world 9) 9) ≡ codes "hello" }
-    ensures short_report { report_text (after hello_setting (hello_world 9) 9) ≡ text_of (hello_start ++ hello_write ∷ codes "budget spent" ∷ []) }
+    ensures over { is_over (after (hello_setting 1000000) (hello_world 1000000) 10) ≡ true }
+    ensures console { console_text (after (hello_setting 1000000) (hello_world 1000000) 10) ≡ codes "hello" }
+    ensures report { report_text (after (hello_setting 1000000) (hello_world 1000000) 10) ≡ hello_report }
+    ensures short_console { console_text (after (hello_setting 9) (hello_world 9) 9) ≡ codes "hello" }
+    ensures short_report { report_text (after (hello_setting 9) (hello_world 9) 9) ≡ text_of (hello_start ++ hello_write ∷ codes "budget spent" ∷ []) }
 {}
 
 /// Each step keeps a sound world sound: what is held is a live segment and is held at least once, each live segment is held,
@@ -31,4 +31,9 @@ pub fn other_processes_stay()
 pub fn no_run_is_longer_than_its_budget()
     ensures ends { (s : Setting) (w : World) → (k : ℕ) × IsLast s w k }
     ensures within { (s : Setting) (w : World) (k : ℕ) → IsLast s w k → k ≤ w.dispatch.budget }
+{}
+
+/// As many steps are behind a world of a run as its budget has lost, up to the last.
+pub fn the_budget_counts_the_steps()
+    ensures { (s : Setting) (w : World) (k : ℕ) → w.dispatch.budget ≡ s.budget → ((j : ℕ) → j < k → is_over (after s w j) ≡ false) → steps_done s (after s w k) ≡ k }
 {}

@@ -13,3 +13,5 @@ mod hello;
 mod instructions;
 #[cfg(test)]
 mod machine_files;
+#[cfg(test)]
+mod turns;

@@ -1,10 +1,11 @@
-use Rattle.std.proofs.Common.{subst}
+use Rattle.std.proofs.Common.{ap, subst}
 use Rattle.std.specs.Prelude.{Err}
 use Rattle.o2_run.specs.declared.steps.Stop.{Stop}
 use Rattle.o2_run.specs.Ended.{HasStoppedTexts}
 use Rattle.o2_run.proofs.Reached.{stopped_since, rose_since}
 use Rattle.o2_outer.specs.Texts.{Rose}
 use Rattle.o2_machine.specs.declared.fault.BeginFault.{BeginFault}
+use Rattle.o2_machine.specs.Lasts.{stopped_of}
 use Rattle.o2_machine.specs.Begins.{Begins, setting_of, first_world}
 use Rattle.o2_cli.proofs.Runs.{start_of, has_started, nothing_yet, in_opening, refused_texts, only_input}
 use Rattle.o2_cli.proofs.top.run_session.Goals as goal
@@ -28,7 +29,7 @@ returns-in-Fine-clause-texts g c = λ input left.
     record {
       start = start_of s input begun.built;
       starts = has_started s input begun.built begun.starts;
-      runs = c.in-Fine.ensures.texts (setting_of s.conf) (first_world s.conf input begun.built) _ _ (begun.stands input) left (nothing_yet s begun.built input _) begun.to_report;
+      runs = c.in-Fine.ensures.texts (ap stopped_of begun.fresh) (setting_of s.conf) (first_world s.conf input begun.built) _ _ (begun.stands input) left (nothing_yet s begun.built input _) begun.to_report;
     }
 
 pub returns-in-SinkFault-clause-texts : goal.returns-in-SinkFault-clause-texts
@@ -38,7 +39,7 @@ returns-in-SinkFault-clause-texts g c = λ input left.
     record {
       start = start_of s input begun.built;
       starts = has_started s input begun.built begun.starts;
-      runs = c.in-SinkFault.ensures.texts (setting_of s.conf) (first_world s.conf input begun.built) _ _ (begun.stands input) left (nothing_yet s begun.built input _) begun.to_report;
+      runs = c.in-SinkFault.ensures.texts (ap stopped_of begun.fresh) (setting_of s.conf) (first_world s.conf input begun.built) _ _ (begun.stands input) left (nothing_yet s begun.built input _) begun.to_report;
     }
 
 pub returns-clause-texts : goal.returns-clause-texts
@@ -50,5 +51,5 @@ returns-clause-texts g c = λ input left.
       starts = has_started s input begun.built begun.starts;
       runs = subst (λ (why : Stop). HasStoppedTexts (setting_of s.conf) (first_world s.conf input begun.built) why (g.I.Source.left c.run.new.input) (g.C.Sink.taken c.args.console.now) (g.C.Sink.taken c.run.new.console) (g.R.Sink.taken c.args.report.now) (g.R.Sink.taken c.run.new.report) (Rose (g.R.Sink.faults c.args.report.now) (g.R.Sink.faults c.run.new.report))) (only_input c.in-Stopped-Input.field-0)
           (stopped_since _ _ _ _ _ _ _ _ _ _ (rose_since _ _ _ c.in-Ok.ensures.count)
-          (c.in-Stopped-Input.ensures.texts (setting_of s.conf) (first_world s.conf input begun.built) _ _ (begun.stands input) left (nothing_yet s begun.built input _) begun.to_report));
+          (c.in-Stopped-Input.ensures.texts (ap stopped_of begun.fresh) (setting_of s.conf) (first_world s.conf input begun.built) _ _ (begun.stands input) left (nothing_yet s begun.built input _) begun.to_report));
     }

@@ -5,6 +5,8 @@ use Rattle.o2_gate.proofs.read.deliver.Goals as goal
 pub returns-in-Done-clause-does : goal.returns-in-Done-clause-does
 returns-in-Done-clause-does g c = λ input rest avail i j x e. record {
   state = refl;
+  piece = refl;
+  lines = refl;
   cpu = c.give_back.ensures;
   bytes = λ n. c.store_both.ensures.bytes n c.args.cpu.now input avail;
   input = e;

@@ -22,5 +22,5 @@ returns-in-Done-clause-does g c = λ input avail i e.
     let w = c.args.write.now in
     let same = written_is b c.args.next w.handle w.selector w.offset w.count w.done_selector w.done_offset
     (sym c.may_read-readable.ensures ∙ c.if-not-readable.false) (sym c.may_write-writable.ensures ∙ c.if-not-writable.false) (sym c.is_console.ensures ∙ c.if-not-is_console.true) in
-    subst (λ (f : Effect). IsMade f Live c.give_back.new.cpu c.args.plain.now i (g.C.Sink.taken c.args.console.now) (g.C.Sink.taken c.args.console.now) (g.R.Sink.taken c.args.report.now) (g.R.Sink.taken c.put_line.new.report))
-    (sym same) (record { state = refl; cpu = c.give_back.ensures; bytes = λ n. refl; input = e; to_console = gains_none _; to_report = c.in-Done.ensures.report })
+    subst (λ (f : Effect). IsMade f Live 0 1 c.give_back.new.cpu c.args.plain.now i (g.C.Sink.taken c.args.console.now) (g.C.Sink.taken c.args.console.now) (g.R.Sink.taken c.args.report.now) (g.R.Sink.taken c.put_line.new.report))
+    (sym same) (record { state = refl; piece = refl; lines = refl; cpu = c.give_back.ensures; bytes = λ n. refl; input = e; to_console = gains_none _; to_report = c.in-Done.ensures.report })

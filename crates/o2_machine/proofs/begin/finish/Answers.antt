@@ -1,10 +1,10 @@
-use Rattle.std.proofs.Common.{List, map, ap, sym, ◌∙◌, subst}
+use Rattle.std.proofs.Common.{◌+◌, List, map, length, sum_by, ap, sym, ◌∙◌, subst}
 use Rattle.o2_outer.specs.Texts.{Gains}
 use Rattle.o2_world.specs.World.{Line}
 use Rattle.o2_world.specs.Text.{lines_text}
 use Rattle.o2_load.specs.Beginnings.{lines_from}
 use Rattle.o2_machine.specs.Readies.{first_proc}
-use Rattle.o2_machine.proofs.FirstStands.{first_stands}
+use Rattle.o2_machine.proofs.FirstStands.{first_stands, lines_counted}
 use Rattle.o2_machine.proofs.begin.finish.Goals as goal
 
 pub returns-clause-begins : goal.returns-clause-begins
@@ -13,7 +13,9 @@ returns-clause-begins g c = λ b e is. record {
   starts = e;
   stands = λ input.
       first_stands c.args.begun c.args.linked.now b c.args.conf.now c.in-Ok-assemble.machine input is
-      (c.in-Ok-assemble.ensures.procs ∙ ap (map first_proc) c.deref.ensures.value) c.in-Ok-assemble.ensures.plain c.in-Ok-assemble.ensures.avail c.in-Ok-assemble.ensures.sched c.requires.count;
+      (c.in-Ok-assemble.ensures.procs ∙ ap (map first_proc) c.deref-2.ensures.value) c.in-Ok-assemble.ensures.plain c.in-Ok-assemble.ensures.avail c.in-Ok-assemble.ensures.sched c.requires.count c.in-Ok-assemble.ensures.budget c.in-Ok-assemble.ensures.console
+      (c.in-Ok-assemble.ensures.lines ∙ c.line_count-lines.ensures.count ∙ ap (λ xs. sum_by (λ v. length v.items + 1) xs) c.deref.ensures.value ∙ sym (lines_counted (λ v. v.items) c.args.linked.now 1 _) ∙ ap length (sym is.lines));
+  fresh = c.in-Ok-assemble.ensures.fresh;
   to_report = subst (λ (z : List Line). Gains (g.R.Sink.taken c.args.report.now) (g.R.Sink.taken c.put_starts.new.report) (lines_text z))
-      (ap (λ xs. lines_from c.args.linked.now 1 (map (λ v. v.items) xs)) c.deref-2.ensures.value ∙ sym is.lines) c.in-Done.ensures.report;
+      (ap (λ xs. lines_from c.args.linked.now 1 (map (λ v. v.items) xs)) c.deref-3.ensures.value ∙ sym is.lines) c.in-Done.ensures.report;
 }

@@ -22,7 +22,7 @@ returns-in-Done-clause-leaves g c = λ input left.
     let r : Result Machine stop.the_data = Ok (state cpu (plain_view new c.args.pid cpu)) in
     subst (λ (e : Effect). Leaves b e cpu c.args.state.now.plain new (g.I.Source.left c.args.input.now) (g.I.Source.left c.args.input.now) (g.C.Sink.taken c.args.console.now) (g.C.Sink.taken c.args.console.now) (g.R.Sink.taken c.args.report.now) (g.R.Sink.taken c.outlived.new.report) c.outlived.result)
     (sym (effect_by b r c.in-Done.ensures.step))
-    (c.outlived.ensures.leaves b (answered b r) cpu c.args.state.now.plain new (g.I.Source.left c.args.input.now) _ _ _ _ refl refl (record { state = refl; cpu = refl; bytes = λ n. refl; input = left; to_console = gains_none _; to_report = gains_none _ }))
+    (c.outlived.ensures.leaves b (answered b r) cpu c.args.state.now.plain new (g.I.Source.left c.args.input.now) _ _ _ _ refl refl (record { state = refl; piece = refl; lines = refl; cpu = refl; bytes = λ n. refl; input = left; to_console = gains_none _; to_report = gains_none _ }))
 
 pub returns-in-Trap-clause-leaves : goal.returns-in-Trap-clause-leaves
 returns-in-Trap-clause-leaves g c = λ input left.
@@ -54,7 +54,7 @@ pub returns-in-Back-clause-leaves : goal.returns-in-Back-clause-leaves
 returns-in-Back-clause-leaves g c = λ input left.
     let b = before_call c.args.state.now.plain c.args.pid c.args.cpu.now input c.args.state.now.avail in
     let step = c.in-Gate.ensures.step in
-    let made = made_before c.args.state.now.plain c.step_plain.new.plain c.call.new.state.plain c.args.pid c.args.cpu.now c.step_plain.new.cpu c.call.new.cpu input c.args.state.now.avail c.in-Gate.service c.in-Gate.next (g.I.Source.left c.args.input.now) _ _ _ _ _ step.1 _ (c.in-Back.ensures.does input left) in
+    let made = made_before c.args.state.now.plain c.step_plain.new.plain c.call.new.state.plain c.args.pid c.args.cpu.now c.step_plain.new.cpu c.call.new.cpu input c.args.state.now.avail c.in-Gate.service c.in-Gate.next (g.I.Source.left c.args.input.now) _ _ _ _ _ step.1 _ _ _ (c.in-Back.ensures.does input left) in
     subst (λ (e : Effect). Leaves b e c.call.new.cpu c.args.state.now.plain c.call.new.state.plain (g.I.Source.left c.args.input.now) (g.I.Source.left c.call.new.input) (g.C.Sink.taken c.args.console.now) (g.C.Sink.taken c.call.new.console) (g.R.Sink.taken c.args.report.now) (g.R.Sink.taken c.outlived-in-Back.new.report) c.outlived-in-Back.result)
     (sym (effect_by b (Err (stop.Gate c.in-Gate.service c.in-Gate.next)) step.0))
     (c.outlived-in-Back.ensures.leaves b (serviced b c.in-Gate.service c.in-Gate.next) c.call.new.cpu c.args.state.now.plain c.call.new.state.plain (g.I.Source.left c.args.input.now) _ _ _ _ refl refl made)

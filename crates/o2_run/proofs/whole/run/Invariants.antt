@@ -1,4 +1,4 @@
-use Rattle.std.proofs.Common.{◌≡◌, ◌≤◌, ℕ, List, Option, Some}
+use Rattle.std.proofs.Common.{◌≡◌, ◌≤◌, ℕ, List, Option, Some, None}
 use Rattle.o2_outer.specs.Texts.{Gains}
 use Rattle.o2_world.specs.World.{World, Setting}
 use Rattle.o2_world.specs.Text.{lines_text}
@@ -8,7 +8,8 @@ use Rattle.o2_run.proofs.whole.run.Given as goal
 
 abbrev pub invariant-steps : goal.invariant-steps
 invariant-steps g l = record {
-  reached : (s : Setting) (w : World) (c r : Option (List ℕ)) → g.M.Steps.stands l.fn.machine (g.S.SwapDevice.told l.fn.swap) (g.S.SwapDevice.block l.fn.swap) s w
+  fresh : g.M.Steps.stopped l.fn.machine ≡ None → g.M.Steps.stopped l.machine ≡ None;
+  reached : g.M.Steps.stopped l.fn.machine ≡ None → (s : Setting) (w : World) (c r : Option (List ℕ)) → g.M.Steps.stands l.fn.machine (g.S.SwapDevice.told l.fn.swap) (g.S.SwapDevice.block l.fn.swap) s w
       → g.I.Source.left l.fn.input ≡ Some w.input
       → Gains c (g.C.Sink.taken l.fn.console) (console w) → Gains r (g.R.Sink.taken l.fn.report) (lines_text w.lines)
       → HasReached (g.M.Steps.stands l.machine (g.S.SwapDevice.told l.swap) (g.S.SwapDevice.block l.swap) s) s w (g.I.Source.left l.input) c (g.C.Sink.taken l.console) r (g.R.Sink.taken l.report);

@@ -1,0 +1,33 @@
+-- The answer that is final, and what it says.
+use Rattle.std.specs.Prelude.{ℕ, Bool, false, Option, Some, None}
+use Rattle.o2_run.specs.declared.steps.Turn.{Turn}
+use Rattle.o2_run.specs.declared.steps.Turn.TheVariants as turn
+use Rattle.o2_machine.specs.declared.last.Last.{Last}
+use Rattle.o2_machine.specs.declared.last.Last.TheVariants.{AllEnded, BudgetSpent, InputFault, SinkFault}
+
+abbrev pub turn_of : Last → Turn
+turn_of AllEnded = turn.AllEnded
+turn_of BudgetSpent = turn.BudgetSpent
+turn_of (InputFault put) = turn.InputFault
+turn_of SinkFault = turn.SinkFault
+
+-- the answer of a turn: a step where the machine goes on
+abbrev pub answer_of : Option Last → Turn
+answer_of None = turn.Ran
+answer_of (Some last) = turn_of last
+
+-- the answer that stays, and none where the machine goes on
+abbrev pub stopped_of : Option Last → Option Turn
+stopped_of None = None
+stopped_of (Some last) = Some (turn_of last)
+
+-- whether a stop line was put whole
+abbrev pub put_of : Option Last → Bool
+put_of (Some (InputFault put)) = put
+put_of _ = false
+
+-- the last line of a run that came to its end, which isn't among the lines of its world
+abbrev pub last_lines : Option Last → ℕ
+last_lines (Some AllEnded) = 1
+last_lines (Some BudgetSpent) = 1
+last_lines _ = 0

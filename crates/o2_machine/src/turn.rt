@@ -1,0 +1,138 @@
+// A turn of the machine: whose it is, and its step.
+ghost use Rattle.std.specs.Prelude.{◌≡◌, ◌<◌, ◌≤◌, ◌+◌, ◌-◌, ◌*◌, ◌^◌, ◌⊎◌, ◌++◌, ℕ, true, false, length, Some};
+ghost use Rattle.std.specs.List.{list_any};
+ghost use Rattle.o2_outer.specs.Texts.{Rose};
+ghost use Rattle.o2_conf.specs.Dispatch.{counted, lives};
+ghost use Rattle.o2_world.specs.World.{World, Setting};
+ghost use Rattle.o2_sched.specs.Schedule.{next_of, pick_of, is_step};
+ghost use Rattle.o2_run.specs.Turn.{Turns, LineIs, OnFault, OnInput, OnRan};
+ghost use Rattle.o2_machine.specs.Lasts.{answer_of, put_of};
+ghost use Rattle.o2_machine.specs.StandsFor.{StandsFor};
+
+use crate::close::put_stop;
+use crate::last::{Last, answer};
+use crate::machine::Machine;
+use crate::space::Acted;
+use crate::tally::Tally;
+use o2_outer::{Put, Sink, Source, SwapDevice};
+use o2_run::{Steps, Turn};
+use o2_sched::Pick;
+
+impl Machine {
+    /// A step is done, and has put so much.
+    fn stepped(&mut self, tally: Tally)
+        requires { is_step (pick_of self.old.sched) ≡ true }
+        ensures sched { self.new.sched ≡ record self.old.sched { dispatch = counted (next_of self.old.sched) } }
+        ensures bytes { self.new.console_bytes ≡ self.old.console_bytes + tally.bytes }
+        ensures lines { self.new.lines ≡ self.old.lines + tally.lines }
+        ensures space { self.new.space ≡ self.old.space }
+        ensures budget { self.new.budget ≡ self.old.budget }
+        ensures last { self.new.last ≡ self.old.last }
+    {
+        self.sched.stepped();
+        self.console_bytes += tally.bytes as u64;
+        self.lines += tally.lines as u128;
+    }
+
+    /// The step of this process, or a stop line.
+    fn step<I: Source, C: Sink, R: Sink>(
+        &mut self,
+        pid: u16,
+        input: &mut I,
+        console: &mut C,
+        report: &mut R,
+    ) -> Option<Last>
+        requires pick { pick_of self.old.sched ≡ Pick.Step pid }
+        requires live { lives self.old.sched.flags pid ≡ true }
+        ensures turns { (s : Setting) (w : World) → StandsFor self.old s w → I.left input.old ≡ Some w.input
+            → Turns (StandsFor self.new s) s w (put_of result) (I.left input.new) (C.taken console.old) (C.taken console.new) (R.taken report.old) (R.taken report.new) (answer_of result) }
+        ensures last { self.new.last ≡ self.old.last }
+        ensures input_count { I.faults input.old ≤ I.faults input.new }
+        ensures console_count { C.faults console.old ≤ C.faults console.new }
+        ensures report_count { R.faults report.old ≤ R.faults report.new }
+        ensures cause { OnFault (answer_of result) (Rose (C.faults console.old) (C.faults console.new) ⊎ Rose (R.faults report.old) (R.faults report.new)) }
+        ensures input_cause { OnInput (answer_of result) (Rose (I.faults input.old) (I.faults input.new)) }
+        ensures line { LineIs (put_of result) (Rose (R.faults report.old) (R.faults report.new)) (answer_of result) }
+        ensures left { OnRan (answer_of result) (self.new.sched.dispatch.budget < self.old.sched.dispatch.budget) }
+    {
+        match self.space.act(pid, input, console, report) {
+            Acted::Fault => Some(Last::SinkFault),
+            Acted::InputFault => Some(Last::InputFault(put_stop(report))),
+            Acted::Went(tally) => {
+                self.stepped(tally);
+                None
+            }
+            Acted::Ended(tally) => {
+                self.stepped(tally);
+                self.sched.ended(pid);
+                None
+            }
+            Acted::LateFault(tally) => {
+                self.stepped(tally);
+                self.sched.ended(pid);
+                Some(Last::SinkFault)
+            }
+        }
+    }
+
+    /// One step, or the last line, or a stop line.
+    fn advance<I: Source, C: Sink, R: Sink>(
+        &mut self,
+        input: &mut I,
+        console: &mut C,
+        report: &mut R,
+    ) -> Option<Last>
+        ensures turns { (s : Setting) (w : World) → StandsFor self.old s w → I.left input.old ≡ Some w.input
+            → Turns (StandsFor self.new s) s w (put_of result) (I.left input.new) (C.taken console.old) (C.taken console.new) (R.taken report.old) (R.taken report.new) (answer_of result) }
+        ensures last { self.new.last ≡ self.old.last }
+        ensures input_count { I.faults input.old ≤ I.faults input.new }
+        ensures console_count { C.faults console.old ≤ C.faults console.new }
+        ensures report_count { R.faults report.old ≤ R.faults report.new }
+        ensures cause { OnFault (answer_of result) (Rose (C.faults console.old) (C.faults console.new) ⊎ Rose (R.faults report.old) (R.faults report.new)) }
+        ensures input_cause { OnInput (answer_of result) (Rose (I.faults input.old) (I.faults input.new)) }
+        ensures line { LineIs (put_of result) (Rose (R.faults report.old) (R.faults report.new)) (answer_of result) }
+        ensures left { OnRan (answer_of result) (self.new.sched.dispatch.budget < self.old.sched.dispatch.budget) }
+    {
+        match self.sched.next() {
+            Pick::AllEnded => match report.put(b"all ended\n") {
+                Put::Done => Some(Last::AllEnded),
+                Put::Failed => Some(Last::SinkFault),
+            },
+            Pick::BudgetSpent => match report.put(b"budget spent\n") {
+                Put::Done => Some(Last::BudgetSpent),
+                Put::Failed => Some(Last::SinkFault),
+            },
+            Pick::Step(pid) => self.step(pid, input, console, report),
+        }
+    }
+}
+
+impl Steps for Machine {
+    ghost use Rattle.o2_machine.specs.Lasts.{stopped_of, put_of};
+    ghost use Rattle.o2_machine.specs.StandsFor.{StandsFor};
+
+    ghost stands = { λ m told block s w. StandsFor m s w };
+
+    ghost left = { λ m. m.sched.dispatch.budget };
+
+    ghost stopped = { λ m. stopped_of m.last };
+
+    ghost line_put = { λ m. put_of m.last };
+
+    fn turn<I: Source, C: Sink, R: Sink, S: SwapDevice>(
+        &mut self,
+        input: &mut I,
+        console: &mut C,
+        report: &mut R,
+        swap: &mut S,
+    ) -> Turn {
+        match self.last {
+            Some(_) => answer(self.last),
+            None => {
+                let last = self.advance(input, console, report);
+                self.last = last;
+                answer(last)
+            }
+        }
+    }
+}

@@ -1,0 +1,279 @@
+// Machines turn by turn: what they count, and that a stop or an end is final.
+
+use crate::command::{Fails, add_file};
+use crate::hello::changed;
+use o2_base::{Bytes, NoMemory};
+use o2_machine::{Machine, Steps, Turn};
+use o2_open::open;
+use o2_outer::{MemFiles, MemSink, MemSource, SureSwap};
+use o2_words::Verb;
+use std::alloc::Global;
+use std::test::Fail;
+
+const KEYS: &str =
+    "memory = 4096\nswap = 0\nsegments = 3\nquantum = 1000\nmodules = [\"a.exe\"]\nprocess = [{ module = \"HELLO\" }]\nbudget = ";
+
+/// What a machine goes to.
+#[derive(Drop)]
+struct Outside {
+    input: MemSource,
+    console: MemSink,
+    report: MemSink,
+    swap: SureSwap,
+}
+
+/// An input of three bytes and empty sinks, which fail at these calls.
+fn outside(
+    alloc: Global,
+    takes: &[u64],
+    console: Fails<'_>,
+    report: Fails<'_>,
+) -> Result<Outside, NoMemory> {
+    Ok(Outside {
+        input: MemSource::new(Bytes::from_slice(alloc, b"abc")?, takes.to_vec(alloc)?),
+        console: MemSink::new(alloc, 4096, console.to_vec(alloc)?)?,
+        report: MemSink::new(alloc, 4096, report.to_vec(alloc)?)?,
+        swap: SureSwap::new(alloc, 1)?,
+    })
+}
+
+/// The machine of one process with this budget, of the program that writes `hello` with some bytes changed.
+fn begun(
+    alloc: Global,
+    budget: &str,
+    changes: &[(usize, u8)],
+    report: &mut MemSink,
+) -> Result<Option<Machine>, NoMemory> {
+    let mut text = String::new(alloc);
+    text.push_str(KEYS)?;
+    text.push_str(budget)?;
+    let mut files = Vec::new(alloc);
+    add_file(alloc, &mut files, b"a.toml", text.as_bytes())?;
+    files.push((
+        Bytes::from_slice(alloc, b"a.exe")?,
+        changed(alloc, changes)?,
+    ))?;
+    let mut files = MemFiles::new(files, Vec::new(alloc));
+    let name = Bytes::from_slice(alloc, b"a.toml")?;
+    let Ok(session) = open(alloc, Verb::Run, &mut files, &name) else {
+        return Ok(None);
+    };
+    match Machine::begin(alloc, &session.conf, &session.linked, report) {
+        Ok(machine) => Ok(Some(machine)),
+        Err(_) => Ok(None),
+    }
+}
+
+/// One turn.
+fn turn(machine: &mut Machine, outside: &mut Outside) -> Turn {
+    machine.turn(
+        &mut outside.input,
+        &mut outside.console,
+        &mut outside.report,
+        &mut outside.swap,
+    )
+}
+
+/// Turns until one is no step, and the answer of that one.
+fn run_on(machine: &mut Machine, outside: &mut Outside) -> Turn {
+    for _ in 0..100 {
+        match turn(machine, outside) {
+            Turn::Ran => {}
+            last => return last,
+        }
+    }
+    Turn::Ran
+}
+
+/// A machine, and what it comes to.
+struct Row {
+    name: &'static str,
+    budget: &'static str,
+    changes: &'static [(usize, u8)],
+    takes: &'static [u64],
+    console: &'static [(u64, usize)],
+    report: &'static [(u64, usize)],
+    answer: Turn,
+    steps: u64,
+    console_bytes: u64,
+    report_lines: u128,
+    line_put: bool,
+    /// The state of the process, and its code.
+    state: (u16, u16),
+}
+
+/// DosRead of 8 bytes from handle 0 in place of DosWrite.
+const READ: &[(usize, u8)] = &[(0xD1, 137), (0xB1, 0), (0xB7, 8), (0xBA, 8)];
+
+/// PUSH 0302h, POPF, NOP: exception 1 follows the third instruction.
+const SINGLE_STEP: &[(usize, u8)] = &[
+    (0xB0, 0x68),
+    (0xB1, 0x02),
+    (0xB2, 0x03),
+    (0xB3, 0x9D),
+    (0xB4, 0x90),
+];
+
+static ROWS: [Row; 8] = [
+    Row {
+        name: "an end of all processes",
+        budget: "1000",
+        changes: &[],
+        takes: &[],
+        console: &[],
+        report: &[],
+        answer: Turn::AllEnded,
+        steps: 10,
+        console_bytes: 5,
+        report_lines: 8,
+        line_put: false,
+        state: (1, 0),
+    },
+    Row {
+        name: "a budget that is spent",
+        budget: "9",
+        changes: &[],
+        takes: &[],
+        console: &[],
+        report: &[],
+        answer: Turn::BudgetSpent,
+        steps: 9,
+        console_bytes: 5,
+        report_lines: 6,
+        line_put: false,
+        state: (0, 0),
+    },
+    Row {
+        name: "an input that fails",
+        budget: "1000",
+        changes: READ,
+        takes: &[1],
+        console: &[],
+        report: &[],
+        answer: Turn::InputFault,
+        steps: 6,
+        console_bytes: 0,
+        report_lines: 4,
+        line_put: true,
+        state: (0, 0),
+    },
+    Row {
+        name: "an input that fails, and the put of the stop line with it",
+        budget: "1000",
+        changes: READ,
+        takes: &[1],
+        console: &[],
+        report: &[(5, 3)],
+        answer: Turn::InputFault,
+        steps: 6,
+        console_bytes: 0,
+        report_lines: 4,
+        line_put: false,
+        state: (0, 0),
+    },
+    Row {
+        name: "a console that fails",
+        budget: "1000",
+        changes: &[],
+        takes: &[],
+        console: &[(1, 2)],
+        report: &[],
+        answer: Turn::SinkFault,
+        steps: 6,
+        console_bytes: 0,
+        report_lines: 4,
+        line_put: false,
+        state: (0, 0),
+    },
+    Row {
+        name: "a report that fails in the last line",
+        budget: "1000",
+        changes: &[],
+        takes: &[],
+        console: &[],
+        report: &[(8, 4)],
+        answer: Turn::SinkFault,
+        steps: 10,
+        console_bytes: 5,
+        report_lines: 7,
+        line_put: false,
+        state: (1, 0),
+    },
+    Row {
+        name: "exception 1 behind a step",
+        budget: "3",
+        changes: SINGLE_STEP,
+        takes: &[],
+        console: &[],
+        report: &[],
+        answer: Turn::AllEnded,
+        steps: 3,
+        console_bytes: 0,
+        report_lines: 6,
+        line_put: false,
+        state: (2, 1),
+    },
+    Row {
+        name: "a report that fails in the line of that exception",
+        budget: "3",
+        changes: SINGLE_STEP,
+        takes: &[],
+        console: &[],
+        report: &[(5, 1)],
+        answer: Turn::SinkFault,
+        steps: 3,
+        console_bytes: 0,
+        report_lines: 5,
+        line_put: false,
+        state: (2, 1),
+    },
+];
+
+/// Whether a machine tells what a row has.
+fn is_told(machine: &Machine, row: &Row) -> bool {
+    machine.stopped() == Some(row.answer)
+        && machine.steps() == row.steps
+        && machine.console_bytes() == row.console_bytes
+        && machine.report_lines() == row.report_lines
+        && machine.line_put() == row.line_put
+}
+
+/// The state of the only process, and its code.
+fn state_of(machine: &Machine) -> Option<(u16, u16)> {
+    match machine.process(1) {
+        Some((_, state, code)) => Some((state, code)),
+        None => None,
+    }
+}
+
+#[test]
+fn counts_and_a_turn_after_a_stop(rt: HostRuntime) -> Result<(), Fail> {
+    for row in ROWS.iter() {
+        let mut first = outside(rt.alloc(), row.takes, row.console, row.report)?;
+        let Some(mut machine) = begun(rt.alloc(), row.budget, row.changes, &mut first.report)?
+        else {
+            assert!(rt; false, "{} doesn't begin", row.name);
+            return Ok(());
+        };
+        assert!(rt; machine.stopped().is_none(), "{}", row.name);
+        assert_eq!(rt;
+            run_on(&mut machine, &mut first),
+            row.answer,
+            "{}",
+            row.name
+        );
+        assert!(rt; is_told(&machine, row), "{}", row.name);
+        assert_eq!(rt; state_of(&machine), Some(row.state), "{}", row.name);
+        assert!(rt; machine.process(0).is_none() && machine.process(2).is_none());
+        // a later turn answers the same, and touches nothing
+        let mut later = outside(rt.alloc(), &[], &[], &[])?;
+        for _ in 0..3 {
+            assert_eq!(rt; turn(&mut machine, &mut later), row.answer, "{}", row.name);
+        }
+        assert_eq!(rt; later.input.left().len(), 3, "{}", row.name);
+        assert_eq!(rt; later.console.taken().len(), 0, "{}", row.name);
+        assert_eq!(rt; later.report.taken().len(), 0, "{}", row.name);
+        assert!(rt; is_told(&machine, row), "{} later", row.name);
+    }
+    Ok(())
+}
