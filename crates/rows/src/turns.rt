@@ -23,7 +23,7 @@ struct Outside {
 }
 
 /// An input of three bytes and empty sinks, which fail at these calls.
-fn outside(
+fn made_outside(
     alloc: Global,
     takes: &[u64],
     console: Fails<'_>,
@@ -249,7 +249,7 @@ fn state_of(machine: &Machine) -> Option<(u16, u16)> {
 #[test]
 fn counts_and_a_turn_after_a_stop(rt: HostRuntime) -> Result<(), Fail> {
     for row in ROWS.iter() {
-        let mut first = outside(rt.alloc(), row.takes, row.console, row.report)?;
+        let mut first = made_outside(rt.alloc(), row.takes, row.console, row.report)?;
         let Some(mut machine) = begun(rt.alloc(), row.budget, row.changes, &mut first.report)?
         else {
             assert!(rt; false, "{} doesn't begin", row.name);
@@ -266,7 +266,7 @@ fn counts_and_a_turn_after_a_stop(rt: HostRuntime) -> Result<(), Fail> {
         assert_eq!(rt; state_of(&machine), Some(row.state), "{}", row.name);
         assert!(rt; machine.process(0).is_none() && machine.process(2).is_none());
         // a later turn answers the same, and touches nothing
-        let mut later = outside(rt.alloc(), &[], &[], &[])?;
+        let mut later = made_outside(rt.alloc(), &[], &[], &[])?;
         for _ in 0..3 {
             assert_eq!(rt; turn(&mut machine, &mut later), row.answer, "{}", row.name);
         }
