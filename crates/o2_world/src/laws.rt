@@ -17,7 +17,8 @@ pub fn hello_runs_in_ten_steps()
 {}
 
 /// Each step keeps a sound world sound: what is held is a live segment and is held at least once, each live segment is held,
-/// and a process that has ended holds nothing.
+/// and a process that has ended holds nothing. Of a process that lives, CS names held code and SS held writable data, both
+/// with privilege level 3, and DS and ES are null or name held data or readable code.
 pub fn each_step_keeps_a_sound_world_sound()
     ensures { (s : Setting) (w : World) → IsSound w → IsSound (step s w) }
 {}
