@@ -44,7 +44,7 @@ or_right false b e = e
 same_name : (n : ℕ) → (n == n) ≡ true
 same_name n = grind arith
 
-holds_found : (held : Map Held) (i : ℕ) (h : Held) → get held i ≡ Some h → holds_name held h.name ≡ true
+pub holds_found : (held : Map Held) (i : ℕ) (h : Held) → get held i ≡ Some h → holds_name held h.name ≡ true
 unfolding holds_name
 holds_found held i h e = found_any (λ j. names_it h.name (get held j)) held i h e (ap (names_it h.name) e ∙ same_name h.name)
 

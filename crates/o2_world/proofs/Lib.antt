@@ -3,5 +3,7 @@ pub mod Choice
 pub mod Flags
 pub mod GoodRegisters
 pub mod Keeps
+pub mod HoldingMaps
+pub mod OpeningSound
 pub mod Holding
 pub mod Budget
