@@ -10,3 +10,7 @@ pub mod StringMnemonics
 pub mod Mnemonics
 pub mod StepLaws
 pub mod Views
+pub mod Backing
+pub mod BackedData
+pub mod BackedFlow
+pub mod SpelledLoads

@@ -58,7 +58,7 @@ loadable_from_probe v Jump s e = guarded (is_null s.0) 13 0 _ _ (when_present v 
 loadable_from_probe v Call s e = guarded (is_null s.0) 13 0 _ _ (called_present v s.0 (found v s.0)) e
 loadable_from_probe v Return s e = guarded (is_null s.0) 13 0 _ _ (λ q. ringed (s.0 % 4 == 3) s.0 _ _ (when_present v 11 s.0 is_code (found v s.0)) q) e
 
-null_ring3 : (s : ℕ) → is_null (ring3 s) ≡ is_null s
+pub null_ring3 : (s : ℕ) → is_null (ring3 s) ≡ is_null s
 null_ring3 s = grind (arith, nat_tests)
 
 local_ring3 : (s : ℕ) → is_local (ring3 s) ≡ is_local s

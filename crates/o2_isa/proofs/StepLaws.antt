@@ -44,7 +44,7 @@ at_row c Invalid = tt
 at_row c TooLong = tt
 at_row c Need = tt
 
-row_of_step : (s : State) → IsRow s.cpu 1 (step_steps s)
+pub row_of_step : (s : State) → IsRow s.cpu 1 (step_steps s)
 row_of_step s = at_row s.cpu (decoded (seen s))
 
 -- what the whole view's step gives

@@ -22,6 +22,7 @@ pub mod StringRows
 pub mod Meaning
 pub mod Presence
 pub mod Step
+pub mod SegmentLoads
 pub mod Adjust
 pub mod Alu
 pub mod Flags

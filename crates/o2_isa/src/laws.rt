@@ -9,6 +9,7 @@ ghost use Rattle.o2_isa.specs.View.{Filling, Rest, Hidden, IsBound, Agrees, Keep
 ghost use Rattle.o2_isa.specs.Steps.{State};
 ghost use Rattle.o2_isa.specs.Meaning.{steps_of};
 ghost use Rattle.o2_isa.specs.Presence.{IsMissed, IsRow, whole_state, unseen, is_in};
+ghost use Rattle.o2_isa.specs.SegmentLoads.{LoadsByRules};
 ghost use Rattle.o2_isa.specs.Step.{Answers, AsBoundless, stepped, step_names, is_miss};
 
 /// Every mnemonic checks before it changes anything, writes before it binds, binds the selectors that it leaves, and has one
@@ -32,4 +33,11 @@ pub fn steps_keep()
     ensures frame { (o : Outcome) (new old : State) → Answers o new old (stepped old) → KeepsFrame old.view new.view }
     ensures agrees { (o : Outcome) (new old : State) → Answers o new old (stepped old) → Agrees old.cpu old.view → Agrees new.cpu new.view }
     ensures unseen { (r : Rest) (h : Hidden) (o : Outcome) (new old : State) → Answers o new old (stepped old) → Answers o (unseen r h new) (unseen r h old) (stepped (unseen r h old)) }
+{}
+
+/// A step puts a selector into a segment register only by the load rules of that register: DS and ES are as before, null, or
+/// name data or readable code; SS is as before or names writable data, and CS is as before or names code, both with privilege
+/// level 3.
+pub fn segment_registers_are_loaded_by_rules()
+    ensures { (o : Outcome) (new old : State) → Answers o new old (stepped old) → LoadsByRules old.view old.cpu new.cpu }
 {}

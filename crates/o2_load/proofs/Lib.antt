@@ -6,3 +6,5 @@ pub mod Wholes
 pub mod Nexts
 pub mod Sizes
 pub mod Alls
+pub mod Rising
+pub mod Fits

@@ -5,11 +5,13 @@ mod begun;
 mod build;
 mod first;
 mod holdings;
+mod laws;
 mod process;
 mod segments;
 mod starting;
 
 pub use begun::Begun;
 pub use build::Build;
+pub use laws::linked_modules_open_soundly;
 pub use process::start;
 pub use starting::{StartFault, begin};

@@ -6,7 +6,7 @@ use Rattle.o2_world.specs.World.{Process, Held}
 use Rattle.o2_world.specs.Holders.{names_it, holds_name, is_held}
 use Rattle.o2_world.specs.Sound.{held_in}
 
-record IsUnder (name : ℕ) (held : Map Held) (es : Map Held) : Type 0 where
+pub record IsUnder (name : ℕ) (held : Map Held) (es : Map Held) : Type 0 where
   pub index : ℕ
   pub hold : Held
   pub there : get held index ≡ Some hold
@@ -35,7 +35,7 @@ under_any : (name : ℕ) (held es : Map Held) → list_any (λ (x : ℕ × Held)
 under_any name held [] e = absurd (cc)
 under_any name held (x ∷ es) e = split_hold name held es x (names_it name (get held x.0)) refl e (under_any name held es)
 
-under : (name : ℕ) (held : Map Held) → holds_name held name ≡ true → IsUnder name held held
+pub under : (name : ℕ) (held : Map Held) → holds_name held name ≡ true → IsUnder name held held
 unfolding holds_name
 under name held e = under_any name held held e
 

@@ -1,6 +1,9 @@
 pub mod MapLemmas
 pub mod Choice
 pub mod Flags
+pub mod GoodRegisters
 pub mod Keeps
+pub mod HoldingMaps
+pub mod OpeningSound
 pub mod Holding
 pub mod Budget

@@ -8,5 +8,6 @@ pub mod Effect
 pub mod Run
 pub mod Opening
 pub mod Starts
+pub mod FitStarts
 pub mod Sound
 pub mod Hello

@@ -37,6 +37,8 @@ pub record IsSoundFor (ps : List Process) (segments : Map Segment) : Type 0 wher
   pub named : (q : ℕ) → is_some (get segments q) ≡ true → is_held ps q ≡ true
   -- by a process that lives
   pub ended : (place : ℕ) (p : Process) → slice_get ps place ≡ Some p → is_live p.state ≡ false → p.held ≡ []
+  -- whose registers name what it holds
+  pub registers : (place : ℕ) (p : Process) → slice_get ps place ≡ Some p → is_live p.state ≡ true → HasGoodRegisters p
 
 abbrev pub IsSound : World → Type 0
 IsSound w = IsSoundFor w.processes w.names

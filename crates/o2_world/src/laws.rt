@@ -1,6 +1,8 @@
 // Laws of the boundless machine.
-ghost use Rattle.std.specs.Prelude.{◌≡◌, ◌≢◌, ◌-◌, ◌<◌, ◌≤◌, ℕ, ◌++◌, [], ◌∷◌, codes, true, false, slice_get, Ok};
+ghost use Rattle.std.specs.Prelude.{◌≡◌, ◌≢◌, ◌-◌, ◌<◌, ◌≤◌, ℕ, ◌++◌, List, [], ◌∷◌, codes, true, false, slice_get, Ok};
 ghost use Rattle.o2_world.specs.World.{World, Setting};
+ghost use Rattle.o2_world.specs.Starts.{Start, opening_of};
+ghost use Rattle.o2_world.specs.FitStarts.{AreFit};
 ghost use Rattle.o2_world.specs.Sound.{IsSound};
 ghost use Rattle.o2_world.specs.Run.{after, step, next_dispatch, is_over, steps_done, IsLast, console as console_text, report as report_text};
 ghost use Rattle.o2_world.specs.Hello.{hello_opening, hello_world, hello_setting, hello_report, hello_start, hello_write, text_of};
@@ -16,8 +18,15 @@ pub fn hello_runs_in_ten_steps()
     ensures short_report { report_text (after (hello_setting 9) (hello_world 9) 9) ≡ text_of (hello_start ++ hello_write ∷ codes "budget spent" ∷ []) }
 {}
 
+/// The world before the first step is sound, where each start of a program has its segments under their numbers, no index for
+/// two segments, and automatic data that can be read.
+pub fn opening_worlds_are_sound()
+    ensures { (s : Setting) (script : List (ℕ × ℕ)) (input : List ℕ) (starts : List Start) (w : World) → AreFit starts → opening_of s script input starts ≡ Ok w → IsSound w }
+{}
+
 /// Each step keeps a sound world sound: what is held is a live segment and is held at least once, each live segment is held,
-/// and a process that has ended holds nothing.
+/// and a process that has ended holds nothing. Of a process that lives, CS names held code and SS held writable data, both
+/// with privilege level 3, and DS and ES are null or name held data or readable code.
 pub fn each_step_keeps_a_sound_world_sound()
     ensures { (s : Setting) (w : World) → IsSound w → IsSound (step s w) }
 {}

@@ -1,0 +1,204 @@
+-- A step leaves good registers to a process that outlives it.
+use Rattle.std.proofs.Common.{◌≡◌, ◌⊎◌, ℕ, ◌/◌, ◌%◌, Bool, true, false, cond, ◌==◌, ◌&&◌, List, [], Option, Some, None, ap, sym, ◌∙◌, refl, arith, subst, inl, inr, drop, take, length}
+use Rattle.std.proofs.Math.Seq.{drop-nil}
+use Rattle.std.specs.Prelude.{Result, Ok, Err, option_map}
+use Rattle.o2_isa.specs.declared.cpu.Cpu.{Cpu}
+use Rattle.o2_isa.specs.declared.cpu.Loaded.TheVariants as loaded
+use Rattle.o2_isa.specs.declared.cpu.Outcome.TheVariants as outcome
+use Rattle.o2_isa.specs.declared.cpu.Purpose.TheVariants.{DataReg, StackReg, Return}
+use Rattle.o2_isa.specs.declared.cpu.Stop.{Stop}
+use Rattle.o2_isa.specs.declared.cpu.Stop.TheVariants as stop
+use Rattle.o2_isa.specs.declared.instr.Sreg.TheVariants.{Es, Cs, Ss, Ds}
+use Rattle.o2_isa.specs.Reading.{decoded}
+use Rattle.o2_isa.specs.View.{View, Hold, is_null, is_local, is_code, is_readable, is_writable, found, when, here, refused, probe_of, fetched, hold_bytes}
+use Rattle.o2_isa.specs.Presence.{SameSelectors}
+use Rattle.o2_isa.specs.SegmentLoads.{Passes, LoadsByRules}
+use Rattle.o2_isa.specs.Steps.{State as Machine, state, run}
+use Rattle.o2_isa.specs.Step.{stepped, steps_at}
+use Rattle.o2_isa.proofs.SpelledLoads.{stepped_ruled}
+use Rattle.o2_world.specs.declared.types.Argument.{Argument}
+use Rattle.o2_world.specs.declared.types.State.{State}
+use Rattle.o2_world.specs.Map.{Map, get}
+use Rattle.o2_world.specs.World.{World, Setting, Process, Segment, Held, is_live}
+use Rattle.o2_world.specs.Views.{hold_of, holds_in, view_of}
+use Rattle.o2_world.specs.Calls.{Before, Effect, trapped, returned, argument, has_arguments, may_read, may_write, is_console, written, dos_write, dos_exit, told_at, told, may_take, read_from, dos_read, serviced}
+use Rattle.o2_world.specs.Effect.{has_trap_flag, answered, single_stepped, effect}
+use Rattle.o2_world.specs.Run.{before}
+use Rattle.o2_world.specs.Sound.{has_rights, NamesHeld, HasGoodRegisters}
+
+-- What passes the load rules names a held segment of its kind.
+
+when_held : (v : View) (a s : ℕ) (ok : ℕ → Bool) (o : Option Held) → when v a s ok (option_map hold_of o) ≡ loaded.Done → has_rights ok o ≡ true
+when_held v a s ok None e = cc
+when_held v a s ok (Some h) e = go (ok h.rights) e
+  where
+    go : (b : Bool) → cond b (here v a s (hold_of h)) (refused s) ≡ loaded.Done → b ≡ true
+    go true e = refl
+    go false e = cc
+
+when_named : (names : Map Segment) (p : Process) (a s : ℕ) (ok : ℕ → Bool) → (let v = view_of names p in when v a s ok (found v s) ≡ loaded.Done) → NamesHeld p ok s
+when_named names p a s ok e = go (is_local s) refl e
+  where
+    go : (b : Bool) → is_local s ≡ b → when (view_of names p) a s ok (cond b (holds_in p.held (s / 8)) None) ≡ loaded.Done → NamesHeld p ok s
+    go true is e = (is, when_held (view_of names p) a s ok (get p.held (s / 8)) e)
+    go false is e = cc
+
+data_named : (names : Map Segment) (p : Process) (s : ℕ) → Passes (view_of names p) DataReg s → (is_null s ≡ true) ⊎ NamesHeld p is_readable s
+unfolding probe_of
+data_named names p s e = go (is_null s) refl e
+  where
+    go : (b : Bool) → is_null s ≡ b → (let v = view_of names p in cond b loaded.Done (when v 11 s is_readable (found v s)) ≡ loaded.Done) → (is_null s ≡ true) ⊎ NamesHeld p is_readable s
+    go true is e = inl is
+    go false is e = inr (when_named names p 11 s is_readable e)
+
+ring_is : (n : ℕ) → (n == 3) ≡ true → n ≡ 3
+ring_is n e = grind arith
+
+-- not null, of privilege level 3, and of this kind
+ringed : (names : Map Segment) (p : Process) (a s : ℕ) (ok : ℕ → Bool)
+    → (let v = view_of names p in cond (is_null s) (loaded.Trap 13 0) (cond (s % 4 == 3) (when v a s ok (found v s)) (refused s)) ≡ loaded.Done) → NamesHeld p ok s × (s % 4 ≡ 3)
+ringed names p a s ok e = go (is_null s) (s % 4 == 3) refl e
+  where
+    go : (n b : Bool) → (s % 4 == 3) ≡ b → (let v = view_of names p in cond n (loaded.Trap 13 0) (cond b (when v a s ok (found v s)) (refused s)) ≡ loaded.Done) → NamesHeld p ok s × (s % 4 ≡ 3)
+    go true b is e = cc
+    go false true is e = (when_named names p a s ok e, ring_is (s % 4) is)
+    go false false is e = cc
+
+code_named : (names : Map Segment) (p : Process) (s : ℕ) → Passes (view_of names p) Return s → NamesHeld p is_code s × (s % 4 ≡ 3)
+unfolding probe_of
+code_named names p s e = ringed names p 11 s is_code e
+
+stack_named : (names : Map Segment) (p : Process) (s : ℕ) → Passes (view_of names p) StackReg s → NamesHeld p is_writable s × (s % 4 ≡ 3)
+unfolding probe_of
+stack_named names p s e = ringed names p 12 s is_writable e
+
+-- Registers that were good, each as before or loaded by its rules, are good.
+
+from : {P Q : ℕ → Type 0} (old new : ℕ) → P old → (new ≡ old) ⊎ Q new → ((s : ℕ) → Q s → P s) → P new
+from {P} old new h (inl e) f = subst P (sym e) h
+from old new h (inr q) f = f new q
+
+pub good_after : (names : Map Segment) (p : Process) (c : Cpu) (s : State) → HasGoodRegisters p → LoadsByRules (view_of names p) p.cpu c → HasGoodRegisters (record p { cpu = c; state = s })
+good_after names p c s good ruled =
+    let v : View = view_of names p in
+    let code = from {P = λ x. NamesHeld p is_code x × (x % 4 ≡ 3)} {Q = Passes v Return} p.cpu.cs c.cs (good.cs, good.cs_ring) (ruled Cs) (code_named names p) in
+    let stack = from {P = λ x. NamesHeld p is_writable x × (x % 4 ≡ 3)} {Q = Passes v StackReg} p.cpu.ss c.ss (good.ss, good.ss_ring) (ruled Ss) (stack_named names p) in
+    record {
+      cs = code.0;
+      cs_ring = code.1;
+      ss = stack.0;
+      ss_ring = stack.1;
+      ds = from {P = λ x. (is_null x ≡ true) ⊎ NamesHeld p is_readable x} {Q = Passes v DataReg} p.cpu.ds c.ds good.ds (ruled Ds) (data_named names p);
+      es = from {P = λ x. (is_null x ≡ true) ⊎ NamesHeld p is_readable x} {Q = Passes v DataReg} p.cpu.es c.es good.es (ruled Es) (data_named names p);
+    }
+
+-- Services and traps leave the segment registers as they are.
+
+record Keeps (c : Cpu) (e : Effect) : Type 0 where
+  pub selectors : SameSelectors e.cpu c
+
+at_same : (b : Before) (e : Effect) → e.cpu ≡ b.cpu → Keeps b.cpu e
+at_same b e same = record { selectors = subst (λ (c : Cpu). SameSelectors c b.cpu) (sym same) (record { es = refl; cs = refl; ss = refl; ds = refl }) }
+
+returns : (b : Before) (e : Effect) (next words error : ℕ) → e.cpu ≡ returned b.cpu next words error → Keeps b.cpu e
+returns b e next words error same = record { selectors = subst (λ (c : Cpu). SameSelectors c b.cpu) (sym same) (record { es = refl; cs = refl; ss = refl; ds = refl }) }
+
+either : (c : Cpu) (t : Bool) (e f : Effect) → Keeps c e → Keeps c f → Keeps c (cond t e f)
+either c true e f h k = h
+either c false e f h k = k
+
+traps : (b : Before) (vector : ℕ) → Keeps b.cpu (trapped b vector)
+traps b vector = at_same b (trapped b vector) refl
+
+written_keeps : (b : Before) (next handle selector offset count done_selector done_offset : ℕ) → Keeps b.cpu (written b next handle selector offset count done_selector done_offset)
+written_keeps b next handle selector offset count done_selector done_offset =
+    either b.cpu (may_read b.view.held b.view.bytes selector offset count && may_write b.view.held b.view.bytes done_selector done_offset 2) _ _
+    (either b.cpu (is_console handle) _ _ (returns b _ next 6 0 refl) (returns b _ next 6 6 refl))
+    (traps b 13)
+
+write_keeps : (b : Before) (next : ℕ) → Keeps b.cpu (dos_write b next)
+unfolding dos_write
+write_keeps b next = either b.cpu (has_arguments b.view b.cpu 6) _ _ (let a : ℕ → ℕ = argument b.view b.cpu in written_keeps b next (a 5) (a 4) (a 3) (a 2) (a 1) (a 0)) (traps b 12)
+
+read_from_keeps : (b : Before) (next handle selector offset count done_selector done_offset : ℕ) → Keeps b.cpu (read_from b next handle selector offset count done_selector done_offset)
+read_from_keeps b next handle selector offset count done_selector done_offset =
+    either b.cpu (may_take b selector offset count done_selector done_offset) _ _
+    (either b.cpu (handle == 0) _ _ (returns b _ next 6 0 refl) (returns b _ next 6 6 refl))
+    (traps b 13)
+
+read_keeps : (b : Before) (next : ℕ) → Keeps b.cpu (dos_read b next)
+unfolding dos_read
+read_keeps b next = either b.cpu (has_arguments b.view b.cpu 6) _ _ (let a : ℕ → ℕ = argument b.view b.cpu in read_from_keeps b next (a 5) (a 4) (a 3) (a 2) (a 1) (a 0)) (traps b 12)
+
+exit_keeps : (b : Before) → Keeps b.cpu (dos_exit b)
+unfolding dos_exit
+exit_keeps b = either b.cpu (has_arguments b.view b.cpu 2) _ _ (at_same b _ refl) (traps b 12)
+
+told_at_keeps : (b : Before) (next : ℕ) (name part : List ℕ) (values : List Argument) (selector offset : ℕ) → Keeps b.cpu (told_at b next name part values selector offset)
+told_at_keeps b next name part values selector offset = either b.cpu (may_write b.view.held b.view.bytes selector offset (length part)) _ _ (returns b _ next 2 0 refl) (traps b 13)
+
+told_keeps : (b : Before) (next : ℕ) (name part : List ℕ) (values : List Argument) → Keeps b.cpu (told b next name part values)
+unfolding told
+told_keeps b next name part values = either b.cpu (has_arguments b.view b.cpu 2) _ _ (told_at_keeps b next name part values _ _) (traps b 12)
+
+serviced_keeps : (b : Before) (service next : ℕ) → Keeps b.cpu (serviced b service next)
+serviced_keeps b service next =
+    either b.cpu (service == 1) _ _ (exit_keeps b)
+    (either b.cpu (service == 2) _ _ (told_keeps b next _ _ _)
+    (either b.cpu (service == 3) _ _ (read_keeps b next)
+    (either b.cpu (service == 19) _ _ (told_keeps b next _ _ _) (write_keeps b next))))
+
+kept_ruled : (v : View) (c : Cpu) (e : Effect) → Keeps c e → LoadsByRules v c e.cpu
+kept_ruled v c e k Es = inl k.selectors.es
+kept_ruled v c e k Cs = inl k.selectors.cs
+kept_ruled v c e k Ss = inl k.selectors.ss
+kept_ruled v c e k Ds = inl k.selectors.ds
+
+answered_ruled : (b : Before) (r : Result Machine Stop) → stepped (state b.cpu b.view) ≡ r → LoadsByRules b.view b.cpu (answered b r).cpu
+answered_ruled b (Ok s) e = stepped_ruled outcome.Done s (state b.cpu b.view) e
+answered_ruled b (Err (stop.Trap vector code)) e = kept_ruled b.view b.cpu _ (traps b vector)
+answered_ruled b (Err (stop.Gate service next)) e = kept_ruled b.view b.cpu _ (serviced_keeps b service next)
+answered_ruled b (Err (stop.Miss s)) e = kept_ruled b.view b.cpu _ (traps b 11)
+
+picked_ruled : (v : View) (c : Cpu) (t : Bool) (e f : Effect) → LoadsByRules v c e.cpu → LoadsByRules v c f.cpu → LoadsByRules v c (cond t e f).cpu
+picked_ruled v c true e f h k = h
+picked_ruled v c false e f h k = k
+
+single_ruled : (b : Before) (e : Effect) → LoadsByRules b.view b.cpu e.cpu → LoadsByRules b.view b.cpu (single_stepped b e).cpu
+single_ruled b e h = picked_ruled b.view b.cpu (has_trap_flag b.cpu.flags && is_live e.state) _ e h h
+
+-- a step's registers are as before or loaded by their rules
+pub effect_ruled : (b : Before) → LoadsByRules b.view b.cpu (effect b).cpu
+unfolding effect
+effect_ruled b = single_ruled b (answered b (stepped (state b.cpu b.view))) (answered_ruled b (stepped (state b.cpu b.view)) refl)
+
+-- A process that holds nothing has no code, and its step is a trap.
+
+nothing_bound : (n l : Bool) → ◌≡◌ {A = Option Hold} (cond n None (cond l None None)) None
+nothing_bound true l = refl
+nothing_bound false true = refl
+nothing_bound false false = refl
+
+no_bytes : (v : View) (c : Cpu) → v.registers.cs ≡ None → stepped (state c v) ≡ Err (stop.Trap 13 0)
+unfolding stepped fetched decoded
+no_bytes v c none =
+    let empty : take 10 (drop c.ip (hold_bytes v v.registers.cs)) ≡ [] = ap (λ (o : Option Hold). take 10 (drop c.ip (hold_bytes v o))) none ∙ ap (take 10) (drop-nil c.ip) in
+    ap (λ (bs : List ℕ). run (steps_at c (decoded bs)) v) empty
+
+not_stepped : (t l : Bool) (e f : Effect) → l ≡ false → is_live f.state ≡ false → is_live (cond (t && l) e f).state ≡ false
+not_stepped true true e f ends h = cc
+not_stepped true false e f ends h = h
+not_stepped false l e f ends h = h
+
+trap_ends : (b : Before) → is_live (single_stepped b (trapped b 13)).state ≡ false
+trap_ends b = not_stepped (has_trap_flag b.cpu.flags) false _ (trapped b 13) refl refl
+
+pub nothing_lives : (b : Before) → b.view.registers.cs ≡ None → is_live (effect b).state ≡ false
+unfolding effect
+nothing_lives b none = subst (λ (r : Result Machine Stop). is_live (single_stepped b (answered b r)).state ≡ false) (sym (no_bytes b.view b.cpu none)) (trap_ends b)
+
+pub ended_effect : (s : Setting) (w : World) (n : ℕ) (p : Process) → p.held ≡ [] → is_live (effect (before s w n p)).state ≡ false
+ended_effect s w n p none = nothing_lives (before s w n p) bound
+  where
+    bound : (view_of w.names p).registers.cs ≡ None
+    bound = subst (λ (m : Map Held). cond (is_null p.cpu.cs) None (cond (is_local p.cpu.cs) (holds_in m (p.cpu.cs / 8)) None) ≡ None) (sym none) (nothing_bound (is_null p.cpu.cs) (is_local p.cpu.cs))

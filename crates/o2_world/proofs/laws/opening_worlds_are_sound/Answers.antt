@@ -1,0 +1,5 @@
+use Rattle.o2_world.proofs.OpeningSound.{opening_sound}
+use Rattle.o2_world.proofs.laws.opening_worlds_are_sound.Goals as goal
+
+pub returns : goal.returns
+returns c = opening_sound

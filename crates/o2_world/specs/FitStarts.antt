@@ -1,0 +1,26 @@
+-- What a start is like for the opening world to be sound.
+use Rattle.std.specs.Prelude.{◌≡◌, ℕ, ◌+◌, ◌==◌, true, false, List, ◌∷◌, ◌++◌, length, map, flat_map, Some}
+use Rattle.std.specs.List.{All, IsDistinct}
+use Rattle.o2_isa.specs.View.{is_readable}
+use Rattle.o2_world.specs.Starts.{Loaded, LoadedSegment, Start, nth_loaded}
+
+abbrev pub module_indexes : Loaded → List ℕ
+module_indexes m = map (λ (x : LoadedSegment). x.index) m.segments
+
+-- the indexes of all that a process holds, in the order of its selectors: its program's segments, its environment behind them,
+-- and its libraries' segments
+abbrev pub held_indexes : Start → List ℕ
+held_indexes s = module_indexes s.program ++ (length s.program.segments + 1) ∷ flat_map module_indexes s.libraries
+
+-- the start of a program, as linking makes it
+pub record IsFit (s : Start) : Type 0 where
+  -- segment n of the program has index n
+  pub numbered : (n : ℕ) (x : LoadedSegment) → nth_loaded n s.program.segments ≡ Some x → x.index ≡ n
+  -- no index stands for two segments
+  pub distinct : IsDistinct (λ i j. i == j) (held_indexes s)
+  -- automatic data, where there is any, is data or readable code
+  pub automatic : (x : LoadedSegment) → nth_loaded s.program.auto_seg s.program.segments ≡ Some x → is_readable x.rights ≡ true
+
+-- each start of a program is fit; one of a library is refused
+abbrev pub AreFit : List Start → Type 0
+AreFit starts = All (λ (s : Start). s.program.library ≡ false → IsFit s) starts
