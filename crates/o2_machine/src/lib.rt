@@ -2,13 +2,13 @@
 #![tactic(auto)]
 
 mod begin;
-mod close;
 mod counts;
 mod fault;
 mod last;
 mod machine;
 mod one_step;
 mod space;
+mod stop;
 mod tally;
 mod turn;
 

@@ -1,6 +1,5 @@
 // A turn of the machine: whose it is, and its step.
-ghost use Rattle.std.specs.Prelude.{◌≡◌, ◌<◌, ◌≤◌, ◌+◌, ◌-◌, ◌*◌, ◌^◌, ◌⊎◌, ◌++◌, ℕ, true, false, length, Some};
-ghost use Rattle.std.specs.List.{list_any};
+ghost use Rattle.std.specs.Prelude.{◌≡◌, ◌<◌, ◌≤◌, ◌+◌, ◌⊎◌, ℕ, true, Some};
 ghost use Rattle.o2_outer.specs.Texts.{Rose};
 ghost use Rattle.o2_conf.specs.Dispatch.{counted, lives};
 ghost use Rattle.o2_world.specs.World.{World, Setting};
@@ -9,10 +8,10 @@ ghost use Rattle.o2_run.specs.Turn.{Turns, LineIs, OnFault, OnInput, OnRan};
 ghost use Rattle.o2_machine.specs.Lasts.{answer_of, put_of};
 ghost use Rattle.o2_machine.specs.StandsFor.{StandsFor};
 
-use crate::close::put_stop;
 use crate::last::{Last, answer};
 use crate::machine::Machine;
 use crate::space::Acted;
+use crate::stop::put_stop;
 use crate::tally::Tally;
 use o2_outer::{Put, Sink, Source, SwapDevice};
 use o2_run::{Steps, Turn};
