@@ -1,7 +1,7 @@
 // The place in the script and in the turns.
-ghost use Rattle.std.specs.Prelude.{◌≡◌, ◌≤◌, ◌<◌, ℕ, length, drop, position, IfSome};
+ghost use Rattle.std.specs.Prelude.{◌≡◌, ◌≤◌, ◌<◌, ◌+◌, ℕ, length, drop, position, IfSome};
 ghost use Rattle.o2_conf.specs.Dispatch.{lives, next_live, turn_after, live_script, dispatched};
-ghost use Rattle.o2_sched.specs.Places.{place_dispatch};
+ghost use Rattle.o2_sched.specs.Places.{place_dispatch, AreTurns};
 
 /// How many words of the script are behind, the process of the slice or turn with its steps left, and the process of the
 /// last turn (0 before the first).
@@ -53,6 +53,18 @@ fn next_turn(flags: &[bool], number: u16) -> u16
     }
 }
 
+/// Fills in the process whose turn comes behind each process's, and at place 0 the first: once for each that ends, so that
+/// no step looks for it.
+pub fn fill_turns(turns: &mut Vec<u16>, flags: &[bool])
+    requires few { length flags.now < 65 }
+    requires count { length turns.old.items ≡ length flags.now + 1 }
+    ensures { AreTurns turns.new.items flags.now }
+{
+    for number in 0..turns.len() {
+        turns[number] = next_turn(flags, number as u16);
+    }
+}
+
 /// How many words stand before the first whose process lives.
 fn passed(flags: &[bool], words: &[(u16, u32)]) -> usize
     ensures within { result ≤ length words.now }
@@ -66,10 +78,17 @@ fn passed(flags: &[bool], words: &[(u16, u32)]) -> usize
 }
 
 /// The place of the next step.
-pub fn advanced(place: Place, script: &[(u16, u32)], flags: &[bool], quantum: u32) -> Place
+pub fn advanced(
+    place: Place,
+    script: &[(u16, u32)],
+    flags: &[bool],
+    turns: &[u16],
+    quantum: u32,
+) -> Place
     requires within { place.at ≤ length script.now }
     requires few { length flags.now < 65 }
     requires inside { place.turn ≤ length flags.now }
+    requires turns { AreTurns turns.now flags.now }
     ensures dispatch { (budget : ℕ) → place_dispatch script.now result budget ≡ dispatched quantum flags.now (place_dispatch script.now place budget) }
     ensures within { result.at ≤ length script.now }
     ensures inside { result.turn ≤ length flags.now }
@@ -87,7 +106,7 @@ pub fn advanced(place: Place, script: &[(u16, u32)], flags: &[bool], quantum: u3
             turn: place.turn,
         }
     } else {
-        let number = next_turn(flags, place.turn);
+        let number = turns[place.turn as usize];
         Place {
             at,
             current: number,

@@ -4,7 +4,7 @@ ghost use Rattle.std.specs.List.{list_any};
 ghost use Rattle.o2_conf.specs.Script.{slice_of};
 ghost use Rattle.o2_conf.specs.Dispatch.{counted};
 
-use crate::place::{Place, advanced};
+use crate::place::{Place, advanced, fill_turns};
 use o2_base::NoMemory;
 use o2_conf::Conf;
 use std::alloc::Global;
@@ -29,6 +29,7 @@ pub struct Sched {
     budget: u32,
     quantum: u32,
     flags: Vec<bool>,
+    turns: Vec<u16>,
     any_lives: bool,
 }
 
@@ -41,7 +42,7 @@ impl Model for Sched {
 
     ghost view = { λ s. record { dispatch = place_dispatch s.script.items s.place s.budget; flags = s.flags.items; quantum = s.quantum } };
 
-    ghost invariant = { λ s. IsWithin (length s.script.items) s.place s.flags.items s.any_lives };
+    ghost invariant = { λ s. IsWithin (length s.script.items) s.place s.flags.items s.turns.items s.any_lives };
 }
 
 impl Sched {
@@ -60,6 +61,8 @@ impl Sched {
         ensures { IfOk result (λ s. s ≡ record { dispatch = opening_dispatch script.items budget; flags = replicate processes true; quantum = quantum }) }
     {
         let flags = vec![in alloc; true; processes as usize]?;
+        let mut turns = vec![in alloc; 0u16; processes as usize + 1]?;
+        fill_turns(&mut turns, &flags);
         Ok(Sched {
             script,
             place: Place {
@@ -72,6 +75,7 @@ impl Sched {
             quantum,
             any_lives: any(&flags),
             flags,
+            turns,
         })
     }
 
@@ -109,7 +113,13 @@ impl Sched {
         if self.budget == 0 {
             return Pick::BudgetSpent;
         }
-        let place = advanced(self.place, &self.script, &self.flags, self.quantum);
+        let place = advanced(
+            self.place,
+            &self.script,
+            &self.flags,
+            &self.turns,
+            self.quantum,
+        );
         Pick::Step(place.current)
     }
 
@@ -118,7 +128,13 @@ impl Sched {
         requires { is_step (pick_of self.old) ≡ true }
         ensures { self.new ≡ record self.old { dispatch = counted (next_of self.old) } }
     {
-        let place = advanced(self.place, &self.script, &self.flags, self.quantum);
+        let place = advanced(
+            self.place,
+            &self.script,
+            &self.flags,
+            &self.turns,
+            self.quantum,
+        );
         self.place = Place {
             left: place.left.saturating_sub(1),
             ..place
@@ -133,6 +149,7 @@ impl Sched {
         ensures { self.new ≡ record self.old { flags = slice_set self.old.flags (pid - 1) false } }
     {
         self.flags[pid as usize - 1] = false;
+        fill_turns(&mut self.turns, &self.flags);
         self.any_lives = any(&self.flags);
     }
 }
