@@ -1,13 +1,11 @@
 -- The run of a session, by what its machine began with.
-use Rattle.std.proofs.Common.{◌≡◌, ℕ, List, Option, Some, map, ap, sym, ◌∙◌, refl, append-nil, subst}
+use Rattle.std.proofs.Common.{◌≡◌, ℕ, List, Option, Some, map, ap, sym, ◌∙◌, refl, append-nil}
 use Rattle.std.specs.Prelude.{Result, Ok, Err, String}
 use Rattle.std.specs.declared.alloc.Global.{Global}
 use Rattle.o2_base.specs.declared.faults.ModuleFault.{ModuleFault}
-use Rattle.o2_conf.specs.declared.conf.Conf.{Conf}
 use Rattle.o2_conf.specs.Script.{slice_of}
 use Rattle.o2_words.specs.declared.words.Verb.{Verb}
 use Rattle.o2_words.specs.Words.{IsCommandFor}
-use Rattle.o2_world.specs.World.{World, Setting}
 use Rattle.o2_world.specs.Starts.{Built, where_started}
 use Rattle.o2_world.specs.Run.{HasPartTexts, InOpening, console}
 use Rattle.o2_world.specs.Text.{lines_text}
@@ -19,7 +17,7 @@ use Rattle.o2_open.specs.declared.session.Session.{Session}
 use Rattle.o2_open.specs.declared.status.Status.{Status}
 use Rattle.o2_open.specs.declared.status.Status.TheVariants as status
 use Rattle.o2_open.specs.Loads.{Contents, Tells, loaded, start_refusal, under, ◌>>=◌}
-use Rattle.o2_cli.specs.Top.{Refuses as TopRefuses, Opened, Told, Opens, IsRefused, IsUntouched, Shows, started, opened, with_setting, refusal}
+use Rattle.o2_cli.specs.Top.{Refuses as TopRefuses, Opened, Told, Opens, Shows, started, with_setting, refusal}
 use Rattle.o2_cli.specs.RunTexts.{StartsWith, ShowsRun}
 
 -- the whole opening, from what the starts come to

@@ -1,5 +1,5 @@
 -- The numbers and the lines of the statuses.
-use Rattle.std.specs.Prelude.{ℕ, List, [], ◌∷◌, ◌++◌, codes, decimal}
+use Rattle.std.specs.Prelude.{ℕ, List, [], ◌∷◌, ◌++◌, codes}
 use Rattle.o2_base.specs.declared.faults.Key.{Key}
 use Rattle.o2_base.specs.declared.faults.Key.TheVariants as key
 use Rattle.o2_base.specs.declared.faults.MachineFault.{MachineFault}

@@ -1,5 +1,5 @@
 -- What each status says of the words, the files, the input and both texts.
-use Rattle.std.specs.Prelude.{◌≡◌, ℕ, List, Option, Some, None, String, Result, Ok, Err}
+use Rattle.std.specs.Prelude.{◌≡◌, ℕ, List, Option, Some, String, Result, Ok, Err}
 use Rattle.std.specs.declared.alloc.Global.{Global}
 use Rattle.o2_base.specs.declared.faults.ModuleFault.{ModuleFault}
 use Rattle.o2_words.specs.declared.words.Verb.{Verb}

@@ -1,5 +1,5 @@
 -- A process as the machine shows it: its registers, the number of its state, and the code with which it ended.
-use Rattle.std.specs.Prelude.{ℕ, ◌-◌, ◌==◌, List, Option, None, option_map, slice_get, if◌then◌else◌}
+use Rattle.std.specs.Prelude.{ℕ, ◌-◌, ◌==◌, List, Option, None, slice_get, if◌then◌else◌}
 use Rattle.o2_isa.specs.declared.cpu.Cpu.{Cpu}
 use Rattle.o2_world.specs.declared.types.State.{State}
 use Rattle.o2_world.specs.declared.types.State.TheVariants.{Live, Exited, Trapped}

@@ -1,9 +1,9 @@
 -- How a run goes on, and how it ends.
-use Rattle.std.proofs.Common.{◌≡◌, ℕ, suc, ◌+◌, ◌<◌, ◌≤◌, Bool, true, false, not, List, [], ◌∷◌, ◌++◌, Option, Some, None, ◌⊎◌, subst, inl, inr, ap, sym, ◌∙◌, refl, arith, ◌||◌, ◌==◌, if◌then◌else◌, below_more, append-nil, append_assoc}
-use Rattle.o2_outer.specs.Texts.{IsPrefix, Rose, Gains, Continues}
+use Rattle.std.proofs.Common.{◌≡◌, ℕ, suc, ◌+◌, ◌<◌, ◌≤◌, Bool, true, false, not, List, [], ◌++◌, Option, None, ◌⊎◌, inl, inr, ap, sym, ◌∙◌, refl, arith, ◌||◌, ◌==◌, if◌then◌else◌, below_more, append-nil, append_assoc}
+use Rattle.o2_outer.specs.Texts.{Rose, Gains, Continues}
 use Rattle.o2_world.specs.World.{World, Setting}
 use Rattle.o2_world.specs.Text.{lines_text}
-use Rattle.o2_world.specs.Run.{any_lives, after, is_over, last_line, report, HasWholeTexts, HasPartTexts, Between, AtLastLine, IsBelowLast}
+use Rattle.o2_world.specs.Run.{any_lives, after, is_over, last_line, report, HasPartTexts, Between, AtLastLine}
 use Rattle.o2_run.specs.Turn.{StepsOn, StepsInPart, IsClosed, IsClosedInPart, IsStopped}
 use Rattle.o2_run.specs.Stops.{stop_line}
 use Rattle.o2_run.specs.Ended.{HasReached, HasWholeRun, HasStoppedTexts, HasLast}

@@ -1,5 +1,5 @@
 -- Why a run stops short of its end, and the line that it then ends with.
-use Rattle.std.specs.Prelude.{◌≡◌, ℕ, Bool, List, [], ◌++◌, ◌∷◌, codes}
+use Rattle.std.specs.Prelude.{ℕ, List, [], ◌++◌, ◌∷◌, codes}
 use Rattle.o2_world.specs.World.{World, Setting}
 use Rattle.o2_world.specs.Run.{IsReadNext}
 use Rattle.o2_run.specs.declared.steps.Stop.{Stop}

@@ -1,7 +1,6 @@
 use Rattle.std.proofs.Common.{◌-◌, false, slice_set, ◌∙◌, ap, refl, inl}
 use Rattle.o2_run.proofs.Reached.{rose_since}
 use Rattle.o2_sched.specs.Schedule.{Schedule}
-use Rattle.o2_machine.specs.declared.space.Space.{Space}
 use Rattle.o2_machine.proofs.Turns.{faulted, went, over, late, stopped}
 use Rattle.o2_machine.proofs.machine.Machine.step.Goals as goal
 
