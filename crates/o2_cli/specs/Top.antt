@@ -95,3 +95,13 @@ OnInputFault _ P = Unit {0}
 abbrev pub OnSinkFault : Status → Type 0 → Type 0
 OnSinkFault status.SinkFault P = P
 OnSinkFault _ P = Unit {0}
+
+-- where nothing has run, for a refusal, a fault of the files or want of memory
+abbrev pub OnUnrun : Status → Type 0 → Type 0
+OnUnrun status.BadWords P = P
+OnUnrun (status.NoFile name) P = P
+OnUnrun (status.BadMachine fault) P = P
+OnUnrun (status.BadModule name fault) P = P
+OnUnrun status.FileFault P = P
+OnUnrun status.NoMemory P = P
+OnUnrun _ P = Unit {0}

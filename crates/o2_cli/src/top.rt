@@ -3,7 +3,7 @@ ghost use Rattle.std.specs.Prelude.{◌≡◌, ◌≤◌, ◌⊎◌, ℕ, List, 
 ghost use Rattle.o2_conf.specs.Limits.{IsWithinLimits};
 ghost use Rattle.o2_open.specs.Loads.{HasEnvironments};
 ghost use Rattle.o2_outer.specs.Texts.{Rose};
-ghost use Rattle.o2_cli.specs.Top.{Refuses, Shows, OnFileFault, OnInputFault, OnSinkFault};
+ghost use Rattle.o2_cli.specs.Top.{Refuses, Shows, OnFileFault, OnInputFault, OnSinkFault, OnUnrun};
 ghost use Rattle.o2_cli.specs.RunTexts.{ShowsRun};
 
 use o2_base::{Bytes, NoMemory};
@@ -29,6 +29,10 @@ pub fn os2run<F: Files, I: Source, C: Sink, R: Sink, S: SwapDevice>(
     ensures refused { Refuses words.now (F.told files.old) result }
     // Both texts are those of the boundless machine, or fronts of them.
     ensures texts { Shows words.now (F.told files.old) (I.left input.old) (I.left input.new) (C.taken console.old) (C.taken console.new) (R.taken report.old) (R.taken report.new) (Rose (R.faults report.old) (R.faults report.new)) result }
+    // Where nothing ran, the input and both sinks are as they were, whatever they tell.
+    ensures same_input { OnUnrun result (input.new ≡ input.old) }
+    ensures same_console { OnUnrun result (console.new ≡ console.old) }
+    ensures same_report { OnUnrun result (report.new ≡ report.old) }
     // A fault is told only where a count rose.
     ensures file_fault { OnFileFault result (Rose (F.faults files.old) (F.faults files.new)) }
     ensures input_fault { OnInputFault result (Rose (I.faults input.old) (I.faults input.new)) }
@@ -60,6 +64,9 @@ fn run_session<I: Source, C: Sink, R: Sink, S: SwapDevice>(
 ) -> Status
     requires within { IsWithinLimits session.now.conf }
     requires environments { HasEnvironments session.now }
+    ensures same_input { OnUnrun result (input.new ≡ input.old) }
+    ensures same_console { OnUnrun result (console.new ≡ console.old) }
+    ensures same_report { OnUnrun result (report.new ≡ report.old) }
     ensures texts { ShowsRun session.now (I.left input.old) (I.left input.new) (C.taken console.old) (C.taken console.new) (R.taken report.old) (R.taken report.new) (Rose (R.faults report.old) (R.faults report.new)) result }
     ensures input_fault { OnInputFault result (Rose (I.faults input.old) (I.faults input.new)) }
     ensures sink_fault { OnSinkFault result (Rose (C.faults console.old) (C.faults console.new) ⊎ Rose (R.faults report.old) (R.faults report.new)) }

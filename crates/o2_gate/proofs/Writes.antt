@@ -8,6 +8,7 @@ not_written b next h s o n ds d = record {
   cpu = returned b.cpu next 6 6;
   state = Live;
   bytes = b.view.bytes;
+  changes = [];
   input = b.input;
   piece = [];
   lines = write_line b.number h s o n ds d 6 ∷ [];

@@ -2,6 +2,7 @@
 ghost use Rattle.std.specs.Prelude.{◌≡◌, ◌≤◌, ◌∷◌, [], ℕ, List, Option, Some};
 ghost use Rattle.o2_outer.specs.Texts.{Rose};
 ghost use Rattle.o2_outer.specs.Answers.{Takes, OnFailed};
+ghost use Rattle.o2_world.specs.Known.{Known};
 ghost use Rattle.o2_world.specs.World.{Exits, Ends};
 ghost use Rattle.o2_world.specs.Text.{lines_text};
 ghost use Rattle.o2_world.specs.Calls.{dos_exit as dos_exit_row};
@@ -40,7 +41,7 @@ pub fn dos_exit<R: Sink>(
     line: &mut LineBuffer,
     report: &mut R,
 ) -> Called
-    ensures does { (input : List ℕ) (avail : ℕ) (i c : Option (List ℕ)) → i ≡ Some input → let b = before_call plain.now pid cpu.now input avail in
+    ensures does { (input : List ℕ) (known : Known) (i c : Option (List ℕ)) → i ≡ Some input → let b = before_call plain.now pid cpu.now input known in
         Does b (dos_exit_row b) cpu.now plain.now plain.now i i c c (R.taken report.old) (R.taken report.new) result }
     ensures count { R.faults report.old ≤ R.faults report.new }
     ensures cause { OnSinkFault result (Rose (R.faults report.old) (R.faults report.new)) }

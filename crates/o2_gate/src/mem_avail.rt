@@ -2,6 +2,7 @@
 ghost use Rattle.std.specs.Prelude.{◌≡◌, ◌≤◌, ℕ, List, Option, Some, length};
 ghost use Rattle.o2_outer.specs.Texts.{Rose};
 ghost use Rattle.o2_bus.specs.Plain.{held_in, bytes_in, shown_in};
+ghost use Rattle.o2_world.specs.Known.{Known};
 ghost use Rattle.o2_world.specs.Calls.{dos_mem_avail as dos_mem_avail_row};
 ghost use Rattle.o2_gate.specs.Befores.{before_call};
 ghost use Rattle.o2_gate.specs.Called.{Does, OnSinkFault, OnInputFault};
@@ -24,7 +25,7 @@ pub fn dos_mem_avail<R: Sink>(
     line: &mut LineBuffer,
     report: &mut R,
 ) -> Called
-    ensures does { (input : List ℕ) (i c : Option (List ℕ)) → i ≡ Some input → let b = before_call plain.old pid cpu.old input avail in
+    ensures does { (input : List ℕ) (known : Known) (i c : Option (List ℕ)) → i ≡ Some input → known.avail ≡ avail → let b = before_call plain.old pid cpu.old input known in
         Does b (dos_mem_avail_row b next) cpu.new plain.old plain.new i i c c (R.taken report.old) (R.taken report.new) result }
     ensures sizes { (n : ℕ) → length (bytes_in plain.new n) ≡ length (bytes_in plain.old n) }
     ensures maps { held_in plain.new ≡ held_in plain.old }

@@ -3,6 +3,7 @@ ghost use Rattle.std.specs.Prelude.{◌≡◌, ◌≤◌, ◌<◌, ◌∷◌, []
 ghost use Rattle.o2_outer.specs.Texts.{Rose};
 ghost use Rattle.o2_outer.specs.Answers.{TookAtMost, TookHasCause};
 ghost use Rattle.o2_bus.specs.Plain.{held_in, bytes_in, shown_in};
+ghost use Rattle.o2_world.specs.Known.{Known};
 ghost use Rattle.o2_world.specs.Calls.{dos_read as dos_read_row, read_from as read_from_row, read_with, bytes_with, asks_input, may_write as writes_at};
 ghost use Rattle.o2_gate.specs.Befores.{before_call};
 ghost use Rattle.o2_gate.specs.Called.{Does, DoesFor, OnSinkFault, OnInputFault, Fills};
@@ -49,8 +50,8 @@ fn store_both(plain: &mut Plain, pid: u16, read: &Transfer, got: &[u8])
     requires small { length got.now < 65536 }
     requires buffer { IsTrue (writes_at (held_in plain.old pid) (bytes_in plain.old) read.now.selector read.now.offset read.now.count) }
     requires done { IsTrue (writes_at (held_in plain.old pid) (bytes_in plain.old) read.now.done_selector read.now.done_offset 2) }
-    ensures bytes { (n : ℕ) (cpu : Cpu) (input : List ℕ) (avail : ℕ) → bytes_in plain.new n
-        ≡ bytes_with (before_call plain.old pid cpu input avail) read.now.selector read.now.offset read.now.done_selector read.now.done_offset got.now n }
+    ensures bytes { (n : ℕ) (cpu : Cpu) (input : List ℕ) (known : Known) → bytes_in plain.new n
+        ≡ bytes_with (before_call plain.old pid cpu input known) read.now.selector read.now.offset read.now.done_selector read.now.done_offset got.now n }
     ensures sizes { (n : ℕ) → length (bytes_in plain.new n) ≡ length (bytes_in plain.old n) }
     ensures maps { held_in plain.new ≡ held_in plain.old }
     ensures shown { (n : ℕ) → shown_in plain.new n ≡ shown_in plain.old n }
@@ -75,7 +76,7 @@ fn deliver<R: Sink>(
     requires small { length got.now < 65536 }
     requires buffer { IsTrue (writes_at (held_in plain.old pid) (bytes_in plain.old) read.now.selector read.now.offset read.now.count) }
     requires done { IsTrue (writes_at (held_in plain.old pid) (bytes_in plain.old) read.now.done_selector read.now.done_offset 2) }
-    ensures does { (input rest : List ℕ) (avail : ℕ) (i j c : Option (List ℕ)) → j ≡ Some rest → let b = before_call plain.old pid cpu.old input avail in
+    ensures does { (input rest : List ℕ) (known : Known) (i j c : Option (List ℕ)) → j ≡ Some rest → let b = before_call plain.old pid cpu.old input known in
         Does b (read_with b next read.now.handle read.now.selector read.now.offset read.now.count read.now.done_selector read.now.done_offset got.now rest)
         cpu.new plain.old plain.new i j c c (R.taken report.old) (R.taken report.new) result }
     ensures sizes { (n : ℕ) → length (bytes_in plain.new n) ≡ length (bytes_in plain.old n) }
@@ -109,7 +110,7 @@ fn read_from<I: Source, R: Sink>(
     report: &mut R,
 ) -> Called
     requires { vec_len buffer.old ≡ 65536 }
-    ensures does { (bytes : List ℕ) (avail : ℕ) (c : Option (List ℕ)) → I.left input.old ≡ Some bytes → let b = before_call plain.old pid cpu.old bytes avail in
+    ensures does { (bytes : List ℕ) (known : Known) (c : Option (List ℕ)) → I.left input.old ≡ Some bytes → let b = before_call plain.old pid cpu.old bytes known in
         DoesFor (asks_input b read.now.handle read.now.selector read.now.offset read.now.count read.now.done_selector read.now.done_offset ≡ true) b (read_from_row b next read.now.handle read.now.selector read.now.offset read.now.count read.now.done_selector read.now.done_offset)
         cpu.new plain.old plain.new (I.left input.old) (I.left input.new) c c (R.taken report.old) (R.taken report.new) result }
     ensures sizes { (n : ℕ) → length (bytes_in plain.new n) ≡ length (bytes_in plain.old n) }
@@ -155,7 +156,7 @@ pub fn dos_read<I: Source, R: Sink>(
     report: &mut R,
 ) -> Called
     requires { vec_len buffer.old ≡ 65536 }
-    ensures does { (bytes : List ℕ) (avail : ℕ) (c : Option (List ℕ)) → I.left input.old ≡ Some bytes → let b = before_call plain.old pid cpu.old bytes avail in
+    ensures does { (bytes : List ℕ) (known : Known) (c : Option (List ℕ)) → I.left input.old ≡ Some bytes → let b = before_call plain.old pid cpu.old bytes known in
         Does b (dos_read_row b next) cpu.new plain.old plain.new (I.left input.old) (I.left input.new) c c (R.taken report.old) (R.taken report.new) result }
     ensures sizes { (n : ℕ) → length (bytes_in plain.new n) ≡ length (bytes_in plain.old n) }
     ensures maps { held_in plain.new ≡ held_in plain.old }

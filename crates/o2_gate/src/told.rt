@@ -3,6 +3,7 @@ ghost use Rattle.std.specs.Prelude.{◌≡◌, ◌≤◌, ◌<◌, ◌∷◌, []
 ghost use Rattle.o2_outer.specs.Texts.{Rose};
 ghost use Rattle.o2_outer.specs.Answers.{Takes, OnFailed};
 ghost use Rattle.o2_bus.specs.Plain.{held_in, bytes_in, shown_in};
+ghost use Rattle.o2_world.specs.Known.{Known};
 ghost use Rattle.o2_world.specs.World.{Calls};
 ghost use Rattle.o2_world.specs.Text.{lines_text};
 ghost use Rattle.o2_world.specs.Calls.{told as told_row, told_at as told_at_row};
@@ -63,7 +64,7 @@ fn told_at<R: Sink>(
     requires name { length telling.now.name.now ≤ 20 }
     requires part { length telling.now.part.now < 65536 }
     requires values { length telling.now.values.now ≤ 4 }
-    ensures does { (input : List ℕ) (avail : ℕ) (i c : Option (List ℕ)) → i ≡ Some input → let b = before_call plain.old pid cpu.old input avail in
+    ensures does { (input : List ℕ) (known : Known) (i c : Option (List ℕ)) → i ≡ Some input → let b = before_call plain.old pid cpu.old input known in
         Does b (told_at_row b next telling.now.name.now telling.now.part.now telling.now.values.now selector offset)
         cpu.new plain.old plain.new i i c c (R.taken report.old) (R.taken report.new) result }
     ensures sizes { (n : ℕ) → length (bytes_in plain.new n) ≡ length (bytes_in plain.old n) }
@@ -100,7 +101,7 @@ pub fn told<R: Sink>(
     requires name { length telling.now.name.now ≤ 20 }
     requires part { length telling.now.part.now < 65536 }
     requires values { length telling.now.values.now ≤ 4 }
-    ensures does { (input : List ℕ) (avail : ℕ) (i c : Option (List ℕ)) → i ≡ Some input → let b = before_call plain.old pid cpu.old input avail in
+    ensures does { (input : List ℕ) (known : Known) (i c : Option (List ℕ)) → i ≡ Some input → let b = before_call plain.old pid cpu.old input known in
         Does b (told_row b next telling.now.name.now telling.now.part.now telling.now.values.now)
         cpu.new plain.old plain.new i i c c (R.taken report.old) (R.taken report.new) result }
     ensures sizes { (n : ℕ) → length (bytes_in plain.new n) ≡ length (bytes_in plain.old n) }

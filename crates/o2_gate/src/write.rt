@@ -3,6 +3,7 @@ ghost use Rattle.std.specs.Prelude.{◌≡◌, ◌≤◌, ◌⊎◌, ◌∷◌, 
 ghost use Rattle.o2_outer.specs.Texts.{Rose};
 ghost use Rattle.o2_outer.specs.Answers.{Takes, OnFailed};
 ghost use Rattle.o2_bus.specs.Plain.{held_in, bytes_in, shown_in};
+ghost use Rattle.o2_world.specs.Known.{Known};
 ghost use Rattle.o2_world.specs.Text.{lines_text};
 ghost use Rattle.o2_world.specs.Calls.{dos_write as dos_write_row, written as written_row, write_line, is_console, may_read as reads_at, range_of};
 ghost use Rattle.o2_gate.specs.Befores.{before_call};
@@ -75,7 +76,7 @@ fn written<C: Sink, R: Sink>(
     console: &mut C,
     report: &mut R,
 ) -> Called
-    ensures does { (input : List ℕ) (avail : ℕ) (i : Option (List ℕ)) → i ≡ Some input → let b = before_call plain.old pid cpu.old input avail in
+    ensures does { (input : List ℕ) (known : Known) (i : Option (List ℕ)) → i ≡ Some input → let b = before_call plain.old pid cpu.old input known in
         Does b (written_row b next write.now.handle write.now.selector write.now.offset write.now.count write.now.done_selector write.now.done_offset)
         cpu.new plain.old plain.new i i (C.taken console.old) (C.taken console.new) (R.taken report.old) (R.taken report.new) result }
     ensures sizes { (n : ℕ) → length (bytes_in plain.new n) ≡ length (bytes_in plain.old n) }
@@ -122,7 +123,7 @@ pub fn dos_write<C: Sink, R: Sink>(
     console: &mut C,
     report: &mut R,
 ) -> Called
-    ensures does { (input : List ℕ) (avail : ℕ) (i : Option (List ℕ)) → i ≡ Some input → let b = before_call plain.old pid cpu.old input avail in
+    ensures does { (input : List ℕ) (known : Known) (i : Option (List ℕ)) → i ≡ Some input → let b = before_call plain.old pid cpu.old input known in
         Does b (dos_write_row b next) cpu.new plain.old plain.new i i (C.taken console.old) (C.taken console.new) (R.taken report.old) (R.taken report.new) result }
     ensures sizes { (n : ℕ) → length (bytes_in plain.new n) ≡ length (bytes_in plain.old n) }
     ensures maps { held_in plain.new ≡ held_in plain.old }

@@ -6,6 +6,7 @@ use Rattle.o2_isa.specs.Steps.{State as Machine, state}
 use Rattle.o2_bus.specs.declared.plain.Plain.{Plain}
 use Rattle.o2_bus.specs.Plain.{bytes_in, plain_view}
 use Rattle.o2_world.specs.declared.types.State.{State}
+use Rattle.o2_world.specs.Known.{Known}
 use Rattle.o2_world.specs.Calls.{Before, serviced, asks}
 use Rattle.o2_world.specs.Effect.{AsksInput}
 use Rattle.o2_isa.specs.declared.cpu.Stop.TheVariants as stop
@@ -14,10 +15,10 @@ use Rattle.o2_gate.specs.Befores.{before_call}
 use Rattle.o2_gate.specs.Called.{IsMade, IsInPart, IsTrap, IsUnread}
 
 -- what a call starts from depends on registers and view alone
-pub same_before : (old mid : Plain) (pid : ℕ) (cpu_old cpu_mid : Cpu) (input : List ℕ) (avail : ℕ) → state cpu_mid (plain_view mid pid cpu_mid) ≡ state cpu_old (plain_view old pid cpu_old)
-    → before_call mid pid cpu_mid input avail ≡ before_call old pid cpu_old input avail
-same_before old mid pid cpu_old cpu_mid input avail same =
-    let f : Machine → Before = λ s. record { number = pid; cpu = s.cpu; view = s.view; input = input; avail = avail } in ap f same
+pub same_before : (old mid : Plain) (pid : ℕ) (cpu_old cpu_mid : Cpu) (input : List ℕ) (known : Known) → state cpu_mid (plain_view mid pid cpu_mid) ≡ state cpu_old (plain_view old pid cpu_old)
+    → before_call mid pid cpu_mid input known ≡ before_call old pid cpu_old input known
+same_before old mid pid cpu_old cpu_mid input known same =
+    let f : Machine → Before = λ s. record { number = pid; cpu = s.cpu; view = s.view; known = known; input = input } in ap f same
 
 pub same_bytes : (old mid : Plain) (pid : ℕ) (cpu_old cpu_mid : Cpu) → state cpu_mid (plain_view mid pid cpu_mid) ≡ state cpu_old (plain_view old pid cpu_old) → (n : ℕ) → bytes_in mid n ≡ bytes_in old n
 same_bytes old mid pid cpu_old cpu_mid same n = ap (λ (s : Machine). s.view.bytes n) same
@@ -25,18 +26,18 @@ same_bytes old mid pid cpu_old cpu_mid same n = ap (λ (s : Machine). s.view.byt
 pub same_cpu : (old mid : Plain) (pid : ℕ) (cpu_old cpu_mid : Cpu) → state cpu_mid (plain_view mid pid cpu_mid) ≡ state cpu_old (plain_view old pid cpu_old) → cpu_mid ≡ cpu_old
 same_cpu old mid pid cpu_old cpu_mid same = ap (λ (s : Machine). s.cpu) same
 
-module _ (old mid new : Plain) (pid : ℕ) (cpu_old cpu_mid cpu_new : Cpu) (input : List ℕ) (avail service next : ℕ) (i j c d r q : Option (List ℕ))
+module _ (old mid new : Plain) (pid : ℕ) (cpu_old cpu_mid cpu_new : Cpu) (input : List ℕ) (known : Known) (service next : ℕ) (i j c d r q : Option (List ℕ))
     (same : state cpu_mid (plain_view mid pid cpu_mid) ≡ state cpu_old (plain_view old pid cpu_old)) where
-  pub made_before : (ends : State) (piece lines : ℕ) → IsMade (serviced (before_call mid pid cpu_mid input avail) service next) ends piece lines cpu_new new j c d r q → IsMade (serviced (before_call old pid cpu_old input avail) service next) ends piece lines cpu_new new j c d r q
-  made_before ends piece lines made = subst (λ (b : Before). IsMade (serviced b service next) ends piece lines cpu_new new j c d r q) (same_before old mid pid cpu_old cpu_mid input avail same) made
+  pub made_before : (ends : State) (piece lines : ℕ) → IsMade (serviced (before_call mid pid cpu_mid input known) service next) ends piece lines cpu_new new j c d r q → IsMade (serviced (before_call old pid cpu_old input known) service next) ends piece lines cpu_new new j c d r q
+  made_before ends piece lines made = subst (λ (b : Before). IsMade (serviced b service next) ends piece lines cpu_new new j c d r q) (same_before old mid pid cpu_old cpu_mid input known same) made
 
-  pub trap_before : (vector : ℕ) → IsTrap (before_call mid pid cpu_mid input avail) (serviced (before_call mid pid cpu_mid input avail) service next) vector cpu_new mid new i j c d r q
-      → IsTrap (before_call old pid cpu_old input avail) (serviced (before_call old pid cpu_old input avail) service next) vector cpu_new mid new i j c d r q
-  trap_before vector trap = subst (λ (b : Before). IsTrap b (serviced b service next) vector cpu_new mid new i j c d r q) (same_before old mid pid cpu_old cpu_mid input avail same) trap
+  pub trap_before : (vector : ℕ) → IsTrap (before_call mid pid cpu_mid input known) (serviced (before_call mid pid cpu_mid input known) service next) vector cpu_new mid new i j c d r q
+      → IsTrap (before_call old pid cpu_old input known) (serviced (before_call old pid cpu_old input known) service next) vector cpu_new mid new i j c d r q
+  trap_before vector trap = subst (λ (b : Before). IsTrap b (serviced b service next) vector cpu_new mid new i j c d r q) (same_before old mid pid cpu_old cpu_mid input known same) trap
 
-  pub part_before : IsInPart (serviced (before_call mid pid cpu_mid input avail) service next) cpu_new cpu_mid mid new c d r q → IsInPart (serviced (before_call old pid cpu_old input avail) service next) cpu_new cpu_old old new c d r q
+  pub part_before : IsInPart (serviced (before_call mid pid cpu_mid input known) service next) cpu_new cpu_mid mid new c d r q → IsInPart (serviced (before_call old pid cpu_old input known) service next) cpu_new cpu_old old new c d r q
   part_before part =
-      let moved = subst (λ (b : Before). IsInPart (serviced b service next) cpu_new cpu_mid mid new c d r q) (same_before old mid pid cpu_old cpu_mid input avail same) part in
+      let moved = subst (λ (b : Before). IsInPart (serviced b service next) cpu_new cpu_mid mid new c d r q) (same_before old mid pid cpu_old cpu_mid input known same) part in
       record {
         cpu = part.cpu ∙ same_cpu old mid pid cpu_old cpu_mid same;
         bytes = λ n. part.bytes n ∙ same_bytes old mid pid cpu_old cpu_mid same n;
@@ -47,13 +48,13 @@ module _ (old mid new : Plain) (pid : ℕ) (cpu_old cpu_mid cpu_new : Cpu) (inpu
 
   -- the input failed in a DosRead
   pub unread_before : stepped (state cpu_old (plain_view old pid cpu_old)) ≡ Err (stop.Gate service next) → service ≡ 3
-      → IsUnread (asks (before_call mid pid cpu_mid input avail) ≡ true) cpu_new cpu_mid mid new i j c d r q
-      → IsUnread (AsksInput (before_call old pid cpu_old input avail)) cpu_new cpu_old old new i j c d r q
+      → IsUnread (asks (before_call mid pid cpu_mid input known) ≡ true) cpu_new cpu_mid mid new i j c d r q
+      → IsUnread (AsksInput (before_call old pid cpu_old input known)) cpu_new cpu_old old new i j c d r q
   unread_before step read unread = record {
     cause = record {
       next = next;
       calls = step ∙ ap (λ (n : ℕ). Err (stop.Gate n next)) read;
-      asks_it = ap asks (sym (same_before old mid pid cpu_old cpu_mid input avail same)) ∙ unread.cause;
+      asks_it = ap asks (sym (same_before old mid pid cpu_old cpu_mid input known same)) ∙ unread.cause;
     };
     cpu = unread.cpu ∙ same_cpu old mid pid cpu_old cpu_mid same;
     bytes = λ n. unread.bytes n ∙ same_bytes old mid pid cpu_old cpu_mid same n;

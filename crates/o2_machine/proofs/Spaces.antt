@@ -9,6 +9,7 @@ use Rattle.o2_bus.specs.Plain.{held_in, bytes_in, shown_in, plain_view}
 use Rattle.o2_world.specs.Map.{Map}
 use Rattle.o2_world.specs.World.{Process, Segment}
 use Rattle.o2_world.specs.Views.{holds_in, bytes_in as bytes_of, view_of}
+use Rattle.o2_world.specs.Known.{Known}
 use Rattle.o2_world.specs.Calls.{Before}
 use Rattle.o2_gate.specs.Befores.{before_call}
 use Rattle.o2_machine.specs.declared.space.Proc.{Proc}
@@ -28,12 +29,11 @@ pub view_is : (m : Space) (ps : List Process) (names : Map Segment) (n : ℕ) (q
 view_is m ps names n q p stands is = same_view (holds_in p.held) (held_in m.state.plain n) (shown_in m.state.plain) (bytes_of names) (bytes_in m.state.plain) p.cpu q.cpu is.held stands.shown stands.bytes is.cpu
 
 -- what a step starts from is the same in both
-pub before_is : (m : Space) (ps : List Process) (names : Map Segment) (n : ℕ) (q : Proc) (p : Process) (input : List ℕ) (avail : ℕ) → StandsIn m ps names → IsProcess q (held_in m.state.plain n) p → avail ≡ m.state.avail
-    → ◌≡◌ {A = Before} (record { number = n; cpu = p.cpu; view = view_of names p; input = input; avail = avail }) (before_call m.state.plain n q.cpu input m.state.avail)
-before_is m ps names n q p input avail stands is same =
-    ap (λ (v : View). record { number = n; cpu = p.cpu; view = v; input = input; avail = avail }) (view_is m ps names n q p stands is)
-    ∙ ap (λ (c : Cpu). record { number = n; cpu = c; view = plain_view m.state.plain n q.cpu; input = input; avail = avail }) is.cpu
-    ∙ ap (λ (a : ℕ). before_call m.state.plain n q.cpu input a) same
+pub before_is : (m : Space) (ps : List Process) (names : Map Segment) (n : ℕ) (q : Proc) (p : Process) (input : List ℕ) (known : Known) → StandsIn m ps names → IsProcess q (held_in m.state.plain n) p
+    → ◌≡◌ {A = Before} (record { number = n; cpu = p.cpu; view = view_of names p; known = known; input = input }) (before_call m.state.plain n q.cpu input known)
+before_is m ps names n q p input known stands is =
+    ap (λ (v : View). record { number = n; cpu = p.cpu; view = v; known = known; input = input }) (view_is m ps names n q p stands is)
+    ∙ ap (λ (c : Cpu). record { number = n; cpu = c; view = plain_view m.state.plain n q.cpu; known = known; input = input }) is.cpu
 
 -- what the machine stands for depends on its processes and segments alone
 pub stands_by : (old new : Space) (ps : List Process) (names : Map Segment) → new.procs ≡ old.procs → new.state.plain ≡ old.state.plain → StandsIn old ps names → StandsIn new ps names

@@ -12,7 +12,8 @@ use Rattle.o2_world.specs.Holders.{process_at, with_process}
 use Rattle.o2_world.specs.Calls.{Effect}
 use Rattle.o2_world.specs.Effect.{effect, AsksInput}
 use Rattle.o2_world.specs.Text.{lines_text, line_text}
-use Rattle.o2_world.specs.Run.{process_after, before, step, changed, is_over, any_lives, live_flags, console, last_line, next_dispatch}
+use Rattle.o2_world.proofs.Quiet.{changed_plain, effect_quiet}
+use Rattle.o2_world.specs.Run.{process_after, before, step, plainly, is_over, any_lives, live_flags, console, last_line, next_dispatch}
 use Rattle.o2_world.proofs.Flags.{live_process, flags_after, flags_ended}
 use Rattle.o2_run.specs.Turn.{StepsOn, StepsInPart, IsStopped, IsClosed, IsClosedInPart, Turns}
 use Rattle.o2_run.specs.Stops.{stop_line}
@@ -83,29 +84,29 @@ module _ (m : Machine) (s : Setting) (w : World) (p : Process) (c d r q : Option
   next_is : next_dispatch s w ≡ next_of m.sched
   next_is = rw (stands.flags, stands.dispatch, stands.quantum) refl
 
-  step_is : step s w ≡ changed w (next_of m.sched) p made
+  step_is : step s w ≡ plainly w (next_of m.sched) p made
   unfolding step
-  step_is = rw (next_is, at) refl
+  step_is = rw (next_is, at) (changed_plain w (next_of m.sched) p made (effect_quiet (before s w (next_of m.sched).current p)))
 
   runs : is_over w ≡ false
   runs = rw (any_is m s w true stands any, stands.dispatch, some) refl
 
   console_of : console (step s w) ≡ console w ++ made.piece
-  unfolding changed
+  unfolding plainly
   console_of = ap console step_is
 
   input_of : (step s w).input ≡ made.input
-  unfolding changed
+  unfolding plainly
   input_of = ap (λ (v : World). v.input) step_is
 
   lines_of : lines_text (step s w).lines ≡ lines_text w.lines ++ lines_text made.lines
-  unfolding changed
+  unfolding plainly
   lines_of = ap (λ (v : World). lines_text v.lines) step_is ∙ flat_map-append line_text w.lines made.lines
 
   stands_next : (n : Machine) (left : Space) (tally : Tally) → StandsAfter (next_of m.sched).current w.processes w.names p made left
       → n.sched.dispatch ≡ counted (next_of m.sched) → n.sched.quantum ≡ m.sched.quantum → live_flags (with_process w.processes (next_of m.sched).current (process_after p made)) ≡ n.sched.flags
       → IsTally made tally → HasCounted m n left tally → StandsFor n s (step s w)
-  unfolding changed
+  unfolding plainly
   stands_next n left tally space dispatch quantum flags puts counts = rw step_is (record {
     space = subst (λ (z : Space). StandsAfter (next_of m.sched).current w.processes w.names p made z) (sym counts.space) space;
     flags = flags;

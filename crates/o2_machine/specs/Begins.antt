@@ -16,7 +16,7 @@ use Rattle.o2_machine.specs.StandsFor.{StandsFor}
 
 -- what a run takes from the machine file
 abbrev pub setting_of : Conf → Setting
-setting_of c = record { quantum = c.quantum; segments = c.segments; avail = c.avail; budget = c.budget }
+setting_of c = record { quantum = c.quantum; memory = c.memory; swap = c.swap; segments = c.segments; avail = c.avail; budget = c.budget }
 
 -- the starts of a setting's processes
 abbrev pub starting : LinkedParts → Conf → Result Built (ℕ × ModuleFault)
@@ -53,3 +53,9 @@ Begins l c r q (Err begin_fault.NoMemory) = q ≡ r
 abbrev pub OnSinkFault : Result Machine BeginFault → Type 0 → Type 0
 OnSinkFault (Err begin_fault.SinkFault) P = P
 OnSinkFault _ P = Unit {0}
+
+-- where nothing has begun, for a refusal or for want of memory
+abbrev pub OnUnbegun : Result Machine BeginFault → Type 0 → Type 0
+OnUnbegun (Err (begin_fault.Start pid fault)) P = P
+OnUnbegun (Err begin_fault.NoMemory) P = P
+OnUnbegun _ P = Unit {0}

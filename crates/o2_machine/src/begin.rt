@@ -10,7 +10,7 @@ ghost use Rattle.o2_outer.specs.Answers.{Takes, OnFailed};
 ghost use Rattle.o2_world.specs.Text.{lines_text};
 ghost use Rattle.o2_load.specs.Beginnings.{lines_from, program_name, IsBegun};
 ghost use Rattle.o2_world.specs.Starts.{Built};
-ghost use Rattle.o2_machine.specs.Begins.{Begins, OnSinkFault, starting};
+ghost use Rattle.o2_machine.specs.Begins.{Begins, OnSinkFault, OnUnbegun, starting};
 ghost use Rattle.o2_machine.specs.Readies.{first_proc};
 
 use crate::fault::BeginFault;
@@ -141,6 +141,7 @@ fn finish<R: Sink>(
     requires few { length conf.now.process ≤ 64 }
     requires there { length conf.now.process ≤ length linked.now.programs }
     ensures begins { (b : Built) → starting linked.now conf.now ≡ Ok b → IsBegun begun linked.now b → Begins linked.now conf.now (R.taken report.old) (R.taken report.new) result }
+    ensures untouched { OnUnbegun result (report.new ≡ report.old) }
     ensures count { R.faults report.old ≤ R.faults report.new }
     ensures cause { OnSinkFault result (Rose (R.faults report.old) (R.faults report.new)) }
 {
@@ -174,6 +175,7 @@ impl Machine {
         requires within { IsWithinLimits conf.now }
         requires environments { linked.now.images.environments ≡ map environment_bytes conf.now.process }
         ensures begins { Begins linked.now conf.now (R.taken report.old) (R.taken report.new) result }
+        ensures untouched { OnUnbegun result (report.new ≡ report.old) }
         ensures count { R.faults report.old ≤ R.faults report.new }
         ensures cause { OnSinkFault result (Rose (R.faults report.old) (R.faults report.new)) }
     {

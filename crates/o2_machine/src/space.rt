@@ -1,6 +1,7 @@
 // The processes and their segments.
 ghost use Rattle.std.specs.Prelude.{◌≡◌, ◌<◌, ◌≤◌, ◌+◌, ◌-◌, ◌⊎◌, ℕ, List, length, true, false, Some};
 ghost use Rattle.o2_outer.specs.Texts.{Rose};
+ghost use Rattle.o2_world.specs.Known.{Known};
 ghost use Rattle.o2_world.specs.Map.{Map};
 ghost use Rattle.o2_world.specs.World.{Process, Segment, is_live as lives};
 ghost use Rattle.o2_world.specs.Holders.{process_at};
@@ -83,8 +84,8 @@ impl Space {
     ) -> Acted
         requires some { 0 < pid }
         requires there { pid ≤ length self.old.procs.items }
-        ensures acts { (ps : List Process) (names : Map Segment) (p : Process) (bytes : List ℕ) (avail : ℕ) → StandsIn self.old ps names → process_at ps pid ≡ Some p → p.state ≡ State.Live → I.left input.old ≡ Some bytes → avail ≡ self.old.state.avail
-            → let b : Before = record { number = pid; cpu = p.cpu; view = view_of names p; input = bytes; avail = avail } in Acts (AsksInput b) pid ps names p (effect b) self.new
+        ensures acts { (ps : List Process) (names : Map Segment) (p : Process) (bytes : List ℕ) (known : Known) → StandsIn self.old ps names → process_at ps pid ≡ Some p → p.state ≡ State.Live → I.left input.old ≡ Some bytes → known.avail ≡ self.old.state.avail
+            → let b : Before = record { number = pid; cpu = p.cpu; view = view_of names p; known = known; input = bytes } in Acts (AsksInput b) pid ps names p (effect b) self.new
             (I.left input.old) (I.left input.new) (C.taken console.old) (C.taken console.new) (R.taken report.old) (R.taken report.new) result }
         ensures input_count { I.faults input.old ≤ I.faults input.new }
         ensures console_count { C.faults console.old ≤ C.faults console.new }

@@ -2,8 +2,10 @@
 use Rattle.std.proofs.Common.{◌≡◌, ℕ, zero, suc, ◌+◌, ◌<◌, ◌≤◌, Bool, true, false, not, ◌||◌, ◌==◌, nat_lt, ◌&&◌, if◌then◌else◌, List, [], ◌∷◌, Option, Some, sym, ◌∙◌, refl, arith, subst, below_more}
 use Rattle.o2_world.specs.World.{World, Setting, Process}
 use Rattle.o2_conf.specs.Dispatch.{Dispatch, dispatched, started, live_script, lives}
-use Rattle.o2_world.specs.Run.{changed, acted, step, after, is_over, any_lives, live_flags, next_dispatch, steps_done, IsLast}
+use Rattle.o2_world.specs.Effect.{effect}
+use Rattle.o2_world.specs.Run.{plainly, before, acted, step, after, is_over, any_lives, live_flags, next_dispatch, steps_done, IsLast}
 use Rattle.o2_world.proofs.Choice.{chosen_lives}
+use Rattle.o2_world.proofs.Quiet.{changed_plain, effect_quiet}
 use Rattle.o2_world.proofs.Flags.{live_process}
 
 started_budget : (quantum : ℕ) (flags : List Bool) (d : Dispatch) (words : List (ℕ × ℕ)) → (started quantum flags d words).budget ≡ d.budget
@@ -25,8 +27,8 @@ not_over true n e = (refl, grind arith)
 not_over false n e = absurd (cc)
 
 acted_budget : (s : Setting) (w : World) (d : Dispatch) (p : Process) → 0 < d.budget → (acted s w d (Some p)).dispatch.budget + 1 ≡ d.budget
-unfolding changed
-acted_budget s w d p h = omega arith
+unfolding plainly
+acted_budget s w d p h = rw (changed_plain w d p (effect (before s w d.current p)) (effect_quiet (before s w d.current p))) (omega arith)
 
 step_budget : (s : Setting) (w : World) → is_over w ≡ false → (step s w).dispatch.budget + 1 ≡ w.dispatch.budget
 unfolding step

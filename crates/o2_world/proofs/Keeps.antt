@@ -8,9 +8,10 @@ use Rattle.o2_world.specs.Holders.{names_it, holds_name, is_held, kept, process_
 use Rattle.o2_world.specs.Views.{with_bytes}
 use Rattle.o2_world.specs.Calls.{Effect}
 use Rattle.o2_world.specs.Effect.{effect}
-use Rattle.o2_world.specs.Run.{process_after, names_after, before, changed, acted, step, next_dispatch}
+use Rattle.o2_world.specs.Run.{process_after, names_after, before, changed, plainly, acted, step, next_dispatch}
 use Rattle.o2_world.specs.Sound.{IsSound, IsSoundFor, HasGoodRegisters, held_in}
 use Rattle.o2_world.proofs.MapLemmas.{get-filter, get-map, found_any}
+use Rattle.o2_world.proofs.Quiet.{changed_plain, effect_quiet}
 use Rattle.o2_world.proofs.GoodRegisters.{good_after, effect_ruled, ended_effect}
 
 is_some-map : {X : Type 0} (f : X → X) (o : Option X) → is_some (option_map f o) ≡ is_some o
@@ -18,7 +19,7 @@ is_some-map f None = refl
 is_some-map f (Some x) = refl
 
 -- other bytes change no name's being there
-bytes_there : (segments : Map Segment) (bytes : ℕ → List ℕ) (q : ℕ) → is_some (get (with_bytes segments bytes) q) ≡ is_some (get segments q)
+pub bytes_there : (segments : Map Segment) (bytes : ℕ → List ℕ) (q : ℕ) → is_some (get (with_bytes segments bytes) q) ≡ is_some (get segments q)
 bytes_there segments bytes q =
     ap is_some (get-map (λ (n : ℕ) (s : Segment). record s { bytes = bytes n }) segments q) ∙ is_some-map _ (get segments q)
 
@@ -62,13 +63,13 @@ held_after (a ∷ ps) zero p new at fewer (suc place) j h e = e
 held_after (a ∷ ps) (suc k) p new at fewer zero j h e = e
 held_after (a ∷ ps) (suc k) p new at fewer (suc place) j h e = held_after ps k p new at fewer place j h e
 
-held_same : (ps : List Process) (k : ℕ) (p new : Process) (q : ℕ) → slice_get ps k ≡ Some p → new.held ≡ p.held → is_held (slice_set ps k new) q ≡ is_held ps q
+pub held_same : (ps : List Process) (k : ℕ) (p new : Process) (q : ℕ) → slice_get ps k ≡ Some p → new.held ≡ p.held → is_held (slice_set ps k new) q ≡ is_held ps q
 held_same [] k p new q at same = refl
 held_same (a ∷ ps) zero p new q at same = ap (λ (x : Map Held). holds_name x q || is_held ps q) (same ∙ ap (λ (x : Process). x.held) (sym (some_is a p (Some a) refl at)))
 held_same (a ∷ ps) (suc k) p new q at same = ap (λ b. holds_name a.held q || b) (held_same ps k p new q at same)
 
 -- what holds of each process holds after a write of one of which it holds
-each_after : {P : Process → Type 0} (ps : List Process) (k : ℕ) (new : Process) → P new → ((place : ℕ) (x : Process) → slice_get ps place ≡ Some x → P x)
+pub each_after : {P : Process → Type 0} (ps : List Process) (k : ℕ) (new : Process) → P new → ((place : ℕ) (x : Process) → slice_get ps place ≡ Some x → P x)
     → (place : ℕ) (x : Process) → slice_get (slice_set ps k new) place ≡ Some x → P x
 each_after [] k new one old place x e = old place x e
 each_after {P} (a ∷ ps) zero new one old zero x e = subst P (some_is new x (Some new) refl e) one
@@ -122,18 +123,18 @@ good_step s w n k p sound at lives = go (is_live p.state) refl
     go false is = absurd (let x : true ≡ false = sym lives ∙ ended_effect s w n p (sound.ended k p at is) in cc)
 
 acted_sound : (s : Setting) (w : World) (d : Dispatch) (o : Option Process) → process_at w.processes d.current ≡ o → IsSound w → IsSound (acted s w d o)
-unfolding changed
+unfolding plainly
 acted_sound s w d None at sound = sound
-acted_sound s w d (Some p) at sound = sound_step w.processes w.names (d.current - 1) p (effect (before s w d.current p)) sound at (good_step s w d.current (d.current - 1) p sound at) _ refl
+acted_sound s w d (Some p) at sound = rw (changed_plain w d p (effect (before s w d.current p)) (effect_quiet (before s w d.current p))) (sound_step w.processes w.names (d.current - 1) p (effect (before s w d.current p)) sound at (good_step s w d.current (d.current - 1) p sound at) _ refl)
 
 pub step_sound : (s : Setting) (w : World) → IsSound w → IsSound (step s w)
 unfolding step
 step_sound s w sound = acted_sound s w (next_dispatch s w) _ refl sound
 
 acted_other : (s : Setting) (w : World) (d : Dispatch) (o : Option Process) (place : ℕ) → place ≢ d.current - 1 → slice_get (acted s w d o).processes place ≡ slice_get w.processes place
-unfolding changed
+unfolding plainly
 acted_other s w d None place other = refl
-acted_other s w d (Some p) place other = at_other w.processes (d.current - 1) place _ other
+acted_other s w d (Some p) place other = rw (changed_plain w d p (effect (before s w d.current p)) (effect_quiet (before s w d.current p))) (at_other w.processes (d.current - 1) place _ other)
 
 pub step_other : (s : Setting) (w : World) (place : ℕ) → place ≢ (next_dispatch s w).current - 1 → slice_get (step s w).processes place ≡ slice_get w.processes place
 unfolding step

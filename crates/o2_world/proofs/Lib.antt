@@ -1,6 +1,14 @@
 pub mod MapLemmas
 pub mod Choice
 pub mod Flags
+pub mod Quiet
+pub mod Reached
+pub mod StepReach
+pub mod RunReach
+pub mod TiedChanges
+pub mod TiedSteps
+pub mod TiedWorld
+pub mod FitRows
 pub mod GoodRegisters
 pub mod Keeps
 pub mod HoldingMaps

@@ -8,7 +8,7 @@ filtered : {X : Type 0} (p : ℕ → Bool) (k q : ℕ) (v : X) (es fs : Map X) �
     → get (cond (p k) ((k, v) ∷ fs) fs) q ≡ (if p q then (if k == q then Some v else get es q) else None)
 filtered p k q v es fs ih = grind arith
 
-none_there : {X : Type 0} (b : Bool) → ◌≡◌ {A = Option X} None (if b then None else None)
+pub none_there : {X : Type 0} (b : Bool) → ◌≡◌ {A = Option X} None (if b then None else None)
 none_there true = refl
 none_there false = refl
 

@@ -12,25 +12,27 @@ use Rattle.o2_world.specs.declared.types.Argument.TheVariants.{Word, Long, Far}
 use Rattle.o2_world.specs.declared.types.State.{State}
 use Rattle.o2_world.specs.declared.types.State.TheVariants.{Live, Exited, Trapped}
 use Rattle.o2_world.specs.World.{Line, Calls, Exits, Ends, Traps}
+use Rattle.o2_world.specs.Changes.{Change}
+use Rattle.o2_world.specs.Known.{Known}
 
--- what a step does: the registers and the state after it, the bytes of the names after it, the input left, the piece for the
--- console, and the lines
+-- what a step does: the registers and the state after it, the bytes after it of the names that lived before, what it changes
+-- beside them, in order, the input left, the piece for the console, and the lines
 pub record Effect : Type 0 where
   pub cpu : Cpu
   pub state : State
   pub bytes : ℕ → List ℕ
+  pub changes : List Change
   pub input : List ℕ
   pub piece : List ℕ
   pub lines : List Line
 
--- what a step starts from: the number of its process, its registers, what it sees, the input left, and the number that the
--- machine file gives as free memory
+-- what a step starts from: the number of its process, its registers, what it sees, what else is known, and the input left
 pub record Before : Type 0 where
   pub number : ℕ
   pub cpu : Cpu
   pub view : View
+  pub known : Known
   pub input : List ℕ
-  pub avail : ℕ
 
 -- a trap: nothing changes but that the process ends
 abbrev pub trapped : Before → ℕ → Effect
@@ -38,6 +40,7 @@ trapped b vector = record {
   cpu = b.cpu;
   state = Trapped vector;
   bytes = b.view.bytes;
+  changes = [];
   input = b.input;
   piece = [];
   lines = Traps b.number vector b.cpu.cs b.cpu.ip ∷ [];
@@ -111,6 +114,7 @@ written b next handle selector offset count done_selector done_offset =
       cpu = returned b.cpu next 6 0;
       state = Live;
       bytes = put_at_pointer b.view.held b.view.bytes done_selector done_offset (word_bytes count);
+      changes = [];
       input = b.input;
       piece = range_of b.view.held b.view.bytes selector offset count;
       lines = line 0 ∷ [];
@@ -119,6 +123,7 @@ written b next handle selector offset count done_selector done_offset =
       cpu = returned b.cpu next 6 6;
       state = Live;
       bytes = b.view.bytes;
+      changes = [];
       input = b.input;
       piece = [];
       lines = line 6 ∷ [];
@@ -139,6 +144,7 @@ dos_exit b =
       cpu = b.cpu;
       state = Exited code;
       bytes = b.view.bytes;
+      changes = [];
       input = b.input;
       piece = [];
       lines = Exits b.number (argument b.view b.cpu 1) code ∷ Ends b.number code ∷ [];
@@ -154,6 +160,7 @@ told_at b next name part values selector offset =
       cpu = returned b.cpu next 2 0;
       state = Live;
       bytes = put_at_pointer b.view.held b.view.bytes selector offset part;
+      changes = [];
       input = b.input;
       piece = [];
       lines = Calls b.number name (Far selector offset ∷ []) 0 values ∷ [];
@@ -178,7 +185,7 @@ abbrev pub long_bytes : ℕ → List ℕ
 long_bytes n = word_bytes (n % 65536) ++ word_bytes (n / 65536)
 
 abbrev pub dos_mem_avail : Before → ℕ → Effect
-dos_mem_avail b next = told b next (codes "DosMemAvail") (long_bytes b.avail) (Long (b.avail / 65536) (b.avail % 65536) ∷ [])
+dos_mem_avail b next = told b next (codes "DosMemAvail") (long_bytes b.known.avail) (Long (b.known.avail / 65536) (b.known.avail % 65536) ∷ [])
 
 -- DosRead(handle, buffer, count, pdone): 6 unless the handle is 0. The next bytes of the input go to the buffer, fewer than
 -- count only where the input ends, and then their number is written to pdone.
@@ -202,6 +209,7 @@ read_with b next handle selector offset count done_selector done_offset got left
   cpu = returned b.cpu next 6 0;
   state = Live;
   bytes = bytes_with b selector offset done_selector done_offset got;
+  changes = [];
   input = left;
   piece = [];
   lines = read_line b.number handle selector offset count done_selector done_offset 0 (length got) ∷ [];
@@ -216,6 +224,7 @@ read_from b next handle selector offset count done_selector done_offset =
       cpu = returned b.cpu next 6 6;
       state = Live;
       bytes = b.view.bytes;
+      changes = [];
       input = b.input;
       piece = [];
       lines = read_line b.number handle selector offset count done_selector done_offset 6 0 ∷ [];

@@ -15,7 +15,7 @@ has_trap_flag flags = flags / 256 % 2 == 1
 
 -- what an instruction came to; a miss can't come where all is present
 abbrev pub answered : Before → Result Machine Stop → Effect
-answered b (Ok s) = record { cpu = s.cpu; state = Live; bytes = s.view.bytes; input = b.input; piece = []; lines = [] }
+answered b (Ok s) = record { cpu = s.cpu; state = Live; bytes = s.view.bytes; changes = []; input = b.input; piece = []; lines = [] }
 answered b (Err (stop.Trap vector code)) = trapped b vector
 answered b (Err (stop.Gate service next)) = serviced b service next
 answered b (Err (stop.Miss s)) = trapped b 11

@@ -37,7 +37,7 @@ abbrev pub hello_process : Start
 hello_process = record { program = hello; libraries = []; environment = environment [] (codes "HELLO") []; command = 1 }
 
 abbrev pub hello_setting : ℕ → Setting
-hello_setting budget = record { quantum = 1000; segments = 1024; avail = 524288; budget = budget }
+hello_setting budget = record { quantum = 1000; memory = 1048576; swap = 2048; segments = 1024; avail = 524288; budget = budget }
 
 abbrev pub hello_opening : ℕ → Result World (ℕ × ModuleFault)
 hello_opening budget = opening_of (hello_setting budget) [] [] (hello_process ∷ [])

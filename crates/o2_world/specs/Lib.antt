@@ -3,11 +3,17 @@ pub mod World
 pub mod Text
 pub mod Holders
 pub mod Views
+pub mod Changes
+pub mod Known
 pub mod Calls
+pub mod SegmentCalls
 pub mod Effect
 pub mod Run
 pub mod Opening
 pub mod Starts
 pub mod FitStarts
 pub mod Sound
+pub mod Reach
+pub mod Tied
 pub mod Hello
+pub mod SegmentsWorked

@@ -7,6 +7,8 @@ use Rattle.o2_world.specs.World.{World, Setting, Process, Segment, is_live}
 use Rattle.o2_conf.specs.Dispatch.{Dispatch, dispatched, counted}
 use Rattle.o2_world.specs.Holders.{process_at, with_process, kept}
 use Rattle.o2_world.specs.Views.{view_of, with_bytes}
+use Rattle.o2_world.specs.Changes.{Change, Finishes, with_all, used, told_of}
+use Rattle.o2_world.specs.Known.{known_of}
 use Rattle.o2_world.specs.Calls.{Before, Effect}
 use Rattle.o2_world.specs.Effect.{effect, AsksInput}
 use Rattle.o2_world.specs.Text.{lines_text}
@@ -25,13 +27,38 @@ process_after p e = if is_live e.state then record p { cpu = e.cpu; state = e.st
 abbrev pub names_after : List Process → Map Segment → Effect → Map Segment
 names_after ps names e = if is_live e.state then with_bytes names e.bytes else kept ps (with_bytes names e.bytes)
 
+-- the process before the changes of its step, and before its end
+abbrev pub working : Process → Effect → Process
+working p e = record p { cpu = e.cpu; state = if is_live e.state then e.state else p.state }
+
+-- the world with all of an effect but its changes
+abbrev pub worked : World → Dispatch → Process → Effect → World
+worked w d p e = record w {
+  names = with_bytes w.names e.bytes;
+  processes = with_process w.processes d.current (working p e);
+  input = e.input;
+  dispatch = counted d;
+  console = w.console ++ e.piece;
+  lines = w.lines ++ e.lines;
+}
+
+-- all changes of a step: where it ended the process, that comes behind them
+abbrev pub all_changes : ℕ → Effect → List Change
+all_changes n e = if is_live e.state then e.changes else e.changes ++ Finishes n e.state ∷ []
+
 -- the world after this effect of a step of process d.current
 unfoldable pub changed : World → Dispatch → Process → Effect → World
-changed w d p e =
+changed w d p e = with_all (worked w d p e) (all_changes d.current e)
+
+-- the same where the effect changes nothing but bytes
+unfoldable pub plainly : World → Dispatch → Process → Effect → World
+plainly w d p e =
     let ps = with_process w.processes d.current (process_after p e) in
     record w {
       names = names_after ps w.names e;
       processes = ps;
+      reserved = if is_live e.state then w.reserved else used ps w.reserved;
+      texts = if is_live e.state then w.texts else told_of ps w.texts;
       input = e.input;
       dispatch = counted d;
       console = w.console ++ e.piece;
@@ -40,7 +67,7 @@ changed w d p e =
 
 -- what a step of process n starts from
 abbrev pub before : Setting → World → ℕ → Process → Before
-before s w n p = record { number = n; cpu = p.cpu; view = view_of w.names p; input = w.input; avail = s.avail }
+before s w n p = record { number = n; cpu = p.cpu; view = view_of w.names p; known = known_of s w; input = w.input }
 
 -- the world after the step, where there is one
 abbrev pub acted : Setting → World → Dispatch → Option Process → World

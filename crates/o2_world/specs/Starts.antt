@@ -191,7 +191,8 @@ segment_of h = record {
   code = is_code h.rights;
   flags = 0;
   lock = 0;
-  shared = false;
+  shared = h.common && not (is_code h.rights);
+  discarded = false;
 }
 
 -- the name of a common segment, where one is made

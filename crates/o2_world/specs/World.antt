@@ -16,6 +16,7 @@ pub record Segment : Type 0 where
   pub flags : ℕ
   pub lock : ℕ
   pub shared : Bool
+  pub discarded : Bool
 
 -- how a process came to a selector
 pub data Cause : Type 0 where
@@ -32,6 +33,14 @@ pub record Held : Type 0 where
   pub cause : Cause
   pub first : ℕ
   pub reserved : ℕ
+
+-- indexes that are reserved, held or not: so many from the first on, of a process's region or, with 0, of the shared one.
+-- A library's stay; those of a huge allocation go with the last hold of its run
+pub record Reserve : Type 0 where
+  pub region : ℕ
+  pub first : ℕ
+  pub count : ℕ
+  pub stays : Bool
 
 -- a process: its registers, how far it is, and what it holds by index in its local descriptor table
 pub record Process : Type 0 where
@@ -59,8 +68,7 @@ pub record World : Type 0 where
   pub names : Map Segment
   pub next_name : ℕ
   pub processes : List Process
-  -- the indexes that are reserved, each with its process or with 0 for the shared region
-  pub reserved : List (ℕ × ℕ)
+  pub reserved : List Reserve
   -- the texts of the shared segments that live, each with its name
   pub texts : List (List ℕ × ℕ)
   pub input : List ℕ
@@ -71,6 +79,8 @@ pub record World : Type 0 where
 -- what the machine file fixes for the whole run
 pub record Setting : Type 0 where
   pub quantum : ℕ
+  pub memory : ℕ
+  pub swap : ℕ
   pub segments : ℕ
   pub avail : ℕ
   pub budget : ℕ

@@ -1,10 +1,26 @@
 // Laws of the boundless machine.
-ghost use Rattle.std.specs.Prelude.{◌≡◌, ◌≢◌, ◌-◌, ◌<◌, ◌≤◌, ℕ, ◌++◌, List, [], ◌∷◌, codes, true, false, slice_get, Ok};
+ghost use Rattle.std.specs.Prelude.{◌≡◌, ◌≢◌, ◌-◌, ◌+◌, ◌==◌, ◌&&◌, not, ◌<◌, ◌≤◌, ℕ, ◌++◌, List, [], ◌∷◌, codes, true, false, slice_get, Ok, Some};
 ghost use Rattle.o2_world.specs.World.{World, Setting};
 ghost use Rattle.o2_world.specs.Starts.{Start, opening_of};
 ghost use Rattle.o2_world.specs.FitStarts.{AreFit};
 ghost use Rattle.o2_world.specs.Sound.{IsSound};
 ghost use Rattle.o2_world.specs.Run.{after, step, next_dispatch, is_over, steps_done, IsLast, console as console_text, report as report_text};
+ghost use Rattle.std.specs.Prelude.{length};
+ghost use Rattle.std.specs.List.{list_any};
+ghost use Rattle.o2_conf.specs.Dispatch.{Dispatch};
+ghost use Rattle.o2_world.specs.Map.{get};
+ghost use Rattle.o2_world.specs.World.{Process, Segment, is_live};
+ghost use Rattle.o2_world.specs.Holders.{process_at};
+ghost use Rattle.o2_world.specs.Changes.{takes, used, moved_lines, with_changes};
+ghost use Rattle.o2_world.specs.Calls.{Effect};
+ghost use Rattle.o2_world.specs.Opening.{selector_of};
+ghost use Rattle.o2_world.specs.Sound.{HasGoodRegisters};
+ghost use Rattle.o2_world.specs.Run.{changed, worked, working};
+ghost use Rattle.o2_world.specs.Reach.{CanTellAll, Tells, IsTold, reach, tells_end, holds_at, came, went};
+ghost use Rattle.o2_world.specs.Tied.{IsTied, IsNamed, AreFitChanges};
+ghost use Rattle.o2_world.specs.Text.{lines_text};
+ghost use Rattle.o2_world.specs.SegmentCalls.{allocated, freed, given};
+ghost use Rattle.o2_world.specs.SegmentsWorked.{some_moves, es_after, one_process, two_processes, told_after, after_calls};
 ghost use Rattle.o2_world.specs.Hello.{hello_opening, hello_world, hello_setting, hello_report, hello_start, hello_write, text_of};
 
 /// A program that writes `hello` by DosWrite and ends by DosExit takes ten steps. Its console and its report are these,
@@ -45,4 +61,42 @@ pub fn no_run_is_longer_than_its_budget()
 /// As many steps are behind a world of a run as its budget has lost, up to the last.
 pub fn the_budget_counts_the_steps()
     ensures { (s : Setting) (w : World) (k : ℕ) → w.dispatch.budget ≡ s.budget → ((j : ℕ) → j < k → is_over (after s w j) ≡ false) → steps_done s (after s w k) ≡ k }
+{}
+
+/// The lines of calls that make, free and give segments, from the opening of `hello`.
+pub fn segment_calls_tell_their_holds()
+    ensures makes { told_after 4 one_process ((λ b. allocated b 0 0 0x17 0 0) ∷ []) ≡ text_of (codes "1 call DosAllocSeg 0000 0017:0000 0000 = 0 0027" ∷ codes "1 hold 0027 by DosAllocSeg" ∷ []) }
+    ensures frees { told_after 4 one_process ((λ b. allocated b 0 0 0x17 0 0) ∷ (λ b. freed b 0 0x27) ∷ (λ b. freed b 0 0x27) ∷ []) ≡ text_of (codes "1 call DosAllocSeg 0000 0017:0000 0000 = 0 0027" ∷ codes "1 hold 0027 by DosAllocSeg" ∷ codes "1 call DosFreeSeg 0027 = 0" ∷ codes "1 drop 0027 by DosFreeSeg" ∷ codes "1 call DosFreeSeg 0027 = 5" ∷ []) }
+    ensures gives { told_after 8 two_processes ((λ b. allocated b 0 16 0x17 0 1) ∷ (λ b. given b 0 0x8007 2 0x17 0) ∷ (λ b. given b 0 0x8004 3 0x17 0) ∷ []) ≡ text_of (codes "1 call DosAllocSeg 0010 0017:0000 0001 = 0 8007" ∷ codes "1 hold 8007 by DosAllocSeg" ∷ codes "1 call DosGiveSeg 8007 0002 0017:0000 = 0 8007" ∷ codes "2 hold 8007 by DosGiveSeg" ∷ codes "1 call DosGiveSeg 8004 0003 0017:0000 = 303" ∷ []) }
+    ensures orders { lines_text (moved_lines (codes "DosX") some_moves) ≡ text_of (codes "1 hold 0027 by DosX" ∷ codes "1 hold 003F by DosX" ∷ codes "1 hold 003F by DosX" ∷ codes "2 hold 002F by DosX" ∷ codes "1 drop 004F by DosX" ∷ codes "2 drop 0027 by DosX" ∷ []) }
+    // By index, whatever the privilege level that the register has.
+    ensures clears { es_after 0x24 ≡ 0 }
+    ensures leaves { es_after 0x17 ≡ 0x17 }
+{}
+
+/// A step of a process that goes on gives and takes as many holds of each process and selector as its lines tell.
+pub fn what_is_held_is_told()
+    ensures { (w : World) (d : Dispatch) (p : Process) (e : Effect) → process_at w.processes d.current ≡ Some p → CanTellAll (worked w d p e) e.changes → Tells e → is_live e.state ≡ true
+        → (q i : ℕ) → 0 < q → holds_at (changed w d p e) q i + went e.lines q (selector_of i) ≡ holds_at w q i + came e.lines q (selector_of i) }
+{}
+
+/// Where what is held is what the lines so far tell, it is so behind a step whose lines tell its changes, which puts the line of
+/// an end where it ends its process, and which gives nothing to a process that has ended. Then it is the reach of the report.
+pub fn what_is_held_is_the_reach_of_the_report()
+    ensures step { (w : World) (d : Dispatch) (p : Process) (e : Effect) → process_at w.processes d.current ≡ Some p → CanTellAll (worked w d p e) e.changes → Tells e → 0 < d.current
+        → ((q : ℕ) → tells_end e.lines q ≡ (not (is_live e.state) && (q == d.current))) → ((q i : ℕ) → tells_end w.lines q ≡ true → came e.lines q (selector_of i) ≡ 0) → IsTold w → IsTold (changed w d p e) }
+    ensures reach { (w : World) → IsTold w → (q i : ℕ) → 0 < q → reach w.lines q (selector_of i) ≡ holds_at w q i }
+{}
+
+/// A step whose changes are fit keeps a world tied and each live name held.
+pub fn fit_changes_keep_a_world_tied()
+    ensures { (w : World) (d : Dispatch) (p : Process) (e : Effect) → process_at w.processes d.current ≡ Some p → is_live p.state ≡ true → HasGoodRegisters (working p e)
+        → ((q : ℕ) (s : Segment) → get w.names q ≡ Some s → length (e.bytes q) ≡ length s.bytes) → AreFitChanges (worked w d p e) e.changes
+        → (list_any takes e.changes ≡ false → IsNamed (with_changes (worked w d p e) e.changes)) → IsTied w → IsTied (changed w d p e) × IsNamed (changed w d p e) }
+{}
+
+/// Behind the end of a process no index is reserved for a run that nobody holds, and each live name is held.
+pub fn an_end_frees_what_nobody_holds()
+    ensures reserves { (w : World) (d : Dispatch) (p : Process) (e : Effect) → is_live e.state ≡ false → let v = changed w d p e in used v.processes v.reserved ≡ v.reserved }
+    ensures names { (w : World) (d : Dispatch) (p : Process) (e : Effect) → is_live e.state ≡ false → IsNamed (changed w d p e) }
 {}

@@ -5,7 +5,9 @@ mod laws;
 mod types;
 
 pub use laws::{
-    each_step_keeps_a_sound_world_sound, hello_runs_in_ten_steps, no_run_is_longer_than_its_budget,
-    opening_worlds_are_sound, other_processes_stay, the_budget_counts_the_steps,
+    an_end_frees_what_nobody_holds, each_step_keeps_a_sound_world_sound,
+    fit_changes_keep_a_world_tied, hello_runs_in_ten_steps, no_run_is_longer_than_its_budget,
+    opening_worlds_are_sound, other_processes_stay, segment_calls_tell_their_holds,
+    the_budget_counts_the_steps, what_is_held_is_the_reach_of_the_report, what_is_held_is_told,
 };
 pub use types::{Argument, Made, State};

@@ -6,8 +6,8 @@ use Rattle.o2_gate.proofs.Inputs.{any_reason, read_is, both}
 use Rattle.o2_gate.proofs.read.read_from.Goals as goal
 
 pub returns-in-Done-take_bytes-clause-does : goal.returns-in-Done-take_bytes-clause-does
-returns-in-Done-take_bytes-clause-does g c = λ bytes avail x e.
-    let b = before_call c.args.plain.now c.args.pid c.args.cpu.now bytes avail in
+returns-in-Done-take_bytes-clause-does g c = λ bytes known x e.
+    let b = before_call c.args.plain.now c.args.pid c.args.cpu.now bytes known in
     let r = c.args.read.now in
     let fill = c.in-Done-take_bytes.ensures.fills bytes e in
     let got = ap (take c.in-Done-take_bytes.got) c.deref.ensures.value ∙ fill.0 in
@@ -15,4 +15,4 @@ returns-in-Done-take_bytes-clause-does g c = λ bytes avail x e.
     let zero : (r.handle == 0) ≡ true = grind arith in
     let same = read_is b c.args.next r.handle r.selector r.offset r.count r.done_selector r.done_offset _ _ good zero got refl in
     subst (λ (f : Effect). DoesFor (asks_input b r.handle r.selector r.offset r.count r.done_selector r.done_offset ≡ true) b f c.deliver.new.cpu c.args.plain.now c.deliver.new.plain (g.I.Source.left c.args.input.now) (g.I.Source.left c.take_bytes.new.input) x x (g.R.Sink.taken c.args.report.now) (g.R.Sink.taken c.deliver.new.report) c.deliver.result)
-    (sym same) (any_reason _ _ b _ _ _ _ _ _ _ _ _ _ c.deliver.result c.deliver.ensures.unread (c.deliver.ensures.does bytes (drop r.count bytes) avail (g.I.Source.left c.args.input.now) _ x fill.1))
+    (sym same) (any_reason _ _ b _ _ _ _ _ _ _ _ _ _ c.deliver.result c.deliver.ensures.unread (c.deliver.ensures.does bytes (drop r.count bytes) known (g.I.Source.left c.args.input.now) _ x fill.1))

@@ -8,8 +8,8 @@ use Rattle.o2_gate.proofs.Writes.{written_is}
 use Rattle.o2_gate.proofs.write.written.Goals as goal
 
 pub returns-in-Failed-clause-does : goal.returns-in-Failed-clause-does
-returns-in-Failed-clause-does g c = λ input avail i e.
-    let b = before_call c.args.plain.now c.args.pid c.args.cpu.now input avail in
+returns-in-Failed-clause-does g c = λ input known i e.
+    let b = before_call c.args.plain.now c.args.pid c.args.cpu.now input known in
     let w = c.args.write.now in
     let same = written_is b c.args.next w.handle w.selector w.offset w.count w.done_selector w.done_offset
     (sym c.may_read-readable.ensures ∙ c.if-not-readable.false) (sym c.may_write-writable.ensures ∙ c.if-not-writable.false) (sym c.is_console.ensures ∙ c.if-not-is_console.true) in
@@ -17,8 +17,8 @@ returns-in-Failed-clause-does g c = λ input avail i e.
     (sym same) (record { cpu = refl; bytes = λ n. refl; to_console = puts_none _ _; to_report = c.in-Failed.ensures.report; in_order = inr (gains_none _) })
 
 pub returns-in-Done-clause-does : goal.returns-in-Done-clause-does
-returns-in-Done-clause-does g c = λ input avail i e.
-    let b = before_call c.args.plain.now c.args.pid c.args.cpu.now input avail in
+returns-in-Done-clause-does g c = λ input known i e.
+    let b = before_call c.args.plain.now c.args.pid c.args.cpu.now input known in
     let w = c.args.write.now in
     let same = written_is b c.args.next w.handle w.selector w.offset w.count w.done_selector w.done_offset
     (sym c.may_read-readable.ensures ∙ c.if-not-readable.false) (sym c.may_write-writable.ensures ∙ c.if-not-writable.false) (sym c.is_console.ensures ∙ c.if-not-is_console.true) in

@@ -1,0 +1,69 @@
+-- A step that changes nothing but bytes.
+use Rattle.std.proofs.Common.{◌≡◌, ℕ, zero, suc, ◌-◌, Bool, true, false, cond, ◌==◌, ◌&&◌, List, [], ◌∷◌, ◌++◌, Option, ap, sym, ◌∙◌, refl, length, slice_set}
+use Rattle.std.specs.Prelude.{Result, Ok, Err}
+use Rattle.o2_isa.specs.declared.cpu.Stop.{Stop}
+use Rattle.o2_isa.specs.declared.cpu.Stop.TheVariants as stop
+use Rattle.o2_isa.specs.Steps.{State as Machine, state}
+use Rattle.o2_isa.specs.Step.{stepped}
+use Rattle.o2_conf.specs.Dispatch.{Dispatch}
+use Rattle.o2_world.specs.declared.types.Argument.{Argument}
+use Rattle.o2_world.specs.Map.{Map}
+use Rattle.o2_world.specs.World.{World, Process, Held, is_live}
+use Rattle.o2_world.specs.Changes.{Change, Finishes, at_place, with_all, with_changes, swept}
+use Rattle.o2_world.specs.Calls.{Before, Effect, trapped, returned, argument, has_arguments, may_read, may_write, is_console, written, dos_write, dos_exit, told_at, told, may_take, read_from, dos_read, serviced}
+use Rattle.o2_world.specs.Effect.{has_trap_flag, answered, single_stepped, effect}
+use Rattle.o2_world.specs.Run.{changed, plainly, worked}
+
+set_then : {X : Type 0} (xs : List X) (i : ℕ) (x : X) (f : X → X) → at_place i f (slice_set xs i x) ≡ slice_set xs i (f x)
+set_then [] i x f = refl
+set_then (a ∷ xs) zero x f = refl
+set_then (a ∷ xs) (suc i) x f = ap (λ z. a ∷ z) (set_then xs i x f)
+
+pub changed_plain : (w : World) (d : Dispatch) (p : Process) (e : Effect) → e.changes ≡ [] → changed w d p e ≡ plainly w d p e
+unfolding changed plainly with_changes
+changed_plain w d p e quiet = go (is_live e.state) refl
+  where
+    f : Process → Process
+    f x = record x { state = e.state; held = [] }
+
+    go : (b : Bool) → is_live e.state ≡ b → changed w d p e ≡ plainly w d p e
+    go true is = rw (is, quiet) refl
+    go false is = rw (is, quiet) (ap (λ (ps : List Process). swept (record (worked w d p e) { processes = ps })) (set_then w.processes (d.current - 1) (record p { cpu = e.cpu }) f))
+
+either : (t : Bool) (e f : Effect) → e.changes ≡ [] → f.changes ≡ [] → (cond t e f).changes ≡ []
+either true e f h k = h
+either false e f h k = k
+
+write_quiet : (b : Before) (next : ℕ) → (dos_write b next).changes ≡ []
+unfolding dos_write
+write_quiet b next = either (has_arguments b.view b.cpu 6) _ _ (either (may_read b.view.held b.view.bytes (argument b.view b.cpu 4) (argument b.view b.cpu 3) (argument b.view b.cpu 2) && may_write b.view.held b.view.bytes (argument b.view b.cpu 1) (argument b.view b.cpu 0) 2) _ _ (either (is_console (argument b.view b.cpu 5)) _ _ refl refl) refl) refl
+
+read_quiet : (b : Before) (next : ℕ) → (dos_read b next).changes ≡ []
+unfolding dos_read
+read_quiet b next = either (has_arguments b.view b.cpu 6) _ _ (either (may_take b (argument b.view b.cpu 4) (argument b.view b.cpu 3) (argument b.view b.cpu 2) (argument b.view b.cpu 1) (argument b.view b.cpu 0)) _ _ (either (argument b.view b.cpu 5 == 0) _ _ refl refl) refl) refl
+
+exit_quiet : (b : Before) → (dos_exit b).changes ≡ []
+unfolding dos_exit
+exit_quiet b = either (has_arguments b.view b.cpu 2) _ _ refl refl
+
+told_quiet : (b : Before) (next : ℕ) (name part : List ℕ) (values : List Argument) → (told b next name part values).changes ≡ []
+unfolding told
+told_quiet b next name part values = either (has_arguments b.view b.cpu 2) _ _ (either (may_write b.view.held b.view.bytes (argument b.view b.cpu 1) (argument b.view b.cpu 0) (length part)) _ _ refl refl) refl
+
+serviced_quiet : (b : Before) (service next : ℕ) → (serviced b service next).changes ≡ []
+serviced_quiet b service next =
+    either (service == 1) _ _ (exit_quiet b)
+    (either (service == 2) _ _ (told_quiet b next _ _ _)
+    (either (service == 3) _ _ (read_quiet b next)
+    (either (service == 19) _ _ (told_quiet b next _ _ _) (write_quiet b next))))
+
+answered_quiet : (b : Before) (r : Result Machine Stop) → (answered b r).changes ≡ []
+answered_quiet b (Ok s) = refl
+answered_quiet b (Err (stop.Trap vector code)) = refl
+answered_quiet b (Err (stop.Gate service next)) = serviced_quiet b service next
+answered_quiet b (Err (stop.Miss s)) = refl
+
+-- no call that is built changes anything but bytes
+pub effect_quiet : (b : Before) → (effect b).changes ≡ []
+unfolding effect
+effect_quiet b = either (has_trap_flag b.cpu.flags && is_live (answered b (stepped (state b.cpu b.view))).state) _ _ (answered_quiet b (stepped (state b.cpu b.view))) (answered_quiet b (stepped (state b.cpu b.view)))
