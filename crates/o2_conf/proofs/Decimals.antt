@@ -52,5 +52,5 @@ too_large most ds e small none = go (nat_le 1 (digits_value 10 ds)) (nat_le (dig
         let n = numeral ds e in
         let fits : digits_value 10 ds ≤ most = leb-true _ _ le in
         absurd (none (rw n.1 (n.0, omega arith)))
-    go true false one le = rw (e, one, le) refl
-    go false b one le = rw (e, one) refl
+    go true false one le = rw (one, le) refl
+    go false b one le = rw one refl

@@ -16,11 +16,9 @@ use Rattle.o2_conf.specs.Values.{is_from}
 abbrev pub is_decimal : List ℕ → Bool
 is_decimal ds = nat_le 1 (length ds) && ((length ds == 1 || not (slice_index ds 0 == 48)) && list_all is_ascii_digit ds)
 
--- a number from 1 to most
+-- the number that decimal digits spell, from 1 to most
 abbrev pub number_of : ℕ → List ℕ → Result ℕ MachineFault
-number_of most ds = do
-  n ← within (is_decimal ds) (digits_value 10 ds) (BadValue key.Script)
-  within (is_from 1 most n) n (Limit key.Script)
+number_of most ds = within (is_from 1 most (digits_value 10 ds)) (digits_value 10 ds) (Limit key.Script)
 
 -- what stands before the first colon, and what after it
 abbrev pub cut_of : List ℕ → Option (List ℕ × List ℕ)
@@ -28,10 +26,16 @@ cut_of text =
     if nat_lt (position_or_len (λ b. b == 58) text) (length text)
     then Some (before_first (λ b. b == 58) text, after_first (λ b. b == 58) text) else None
 
--- a word `P:N`, which gives the process P a slice of N steps
+-- both halves of a word, where each is decimal
+abbrev pub halves_of : List ℕ → Result (List ℕ × List ℕ) MachineFault
+halves_of text = do
+  parts ← some_or (cut_of text) (BadValue key.Script)
+  within (is_decimal parts.0 && is_decimal parts.1) parts (BadValue key.Script)
+
+-- a word `P:N`, which gives the process P a slice of N steps: first its form, then its numbers' ranges
 abbrev pub word_of : List ℕ → Result Word MachineFault
 word_of text = do
-  parts ← some_or (cut_of text) (BadValue key.Script)
+  parts ← halves_of text
   p ← number_of 65535 parts.0
   n ← number_of 4000000000 parts.1
   Ok (Slice p n)

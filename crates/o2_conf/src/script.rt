@@ -1,5 +1,5 @@
 // The script: slices in their order.
-ghost use Rattle.std.specs.Prelude.{◌≡◌, ◌≤◌, [], length, IfOk, option_map};
+ghost use Rattle.std.specs.Prelude.{◌≡◌, ◌≤◌, [], length, true, IfOk, option_map};
 ghost use Rattle.std.specs.Char.{is_ascii_digit};
 ghost use Rattle.std.specs.List.{list_all};
 ghost use Rattle.toml.specs.View.{items_view, table_view, view};
@@ -32,14 +32,12 @@ fn is_decimal(text: &[u8]) -> bool
     !text.is_empty() && (text.len() == 1 || text[0] != b'0') && all_digits(text)
 }
 
-/// A number from 1 to `most`.
+/// The number from 1 to `most` that decimal digits spell.
 fn number_of(most: u64, text: &str) -> Result<u64, MachineFault>
+    requires { is_decimal text.now ≡ true }
     ensures exact { result ≡ number_of most text.now }
     ensures most { IfOk result (λ n. n ≤ most) }
 {
-    if !is_decimal(text.as_bytes()) {
-        return Err(MachineFault::BadValue(Key::Script));
-    }
     let Ok(number) = text.parse::<u64>() else {
         return Err(MachineFault::Limit(Key::Script));
     };
@@ -56,13 +54,16 @@ fn cut(text: &str) -> Option<(&str, &str)>
     text.split_once(':')
 }
 
-/// A word by its text.
+/// A word by its text: first the form of both halves, then their ranges.
 fn word_of(text: &str) -> Result<Word, MachineFault>
     ensures { result ≡ word_of text.now }
 {
     let Some((process, steps)) = cut(text) else {
         return Err(MachineFault::BadValue(Key::Script));
     };
+    if !is_decimal(process.as_bytes()) || !is_decimal(steps.as_bytes()) {
+        return Err(MachineFault::BadValue(Key::Script));
+    }
     let process = number_of(65535, process)?;
     let steps = number_of(4000000000, steps)?;
     Ok(Word::Slice(process as u16, steps as u32))

@@ -18,7 +18,7 @@ pub static USUAL: [(&str, &str); 10] = [
 ];
 
 /// A key, the line that stands in place of its usual one, and what the file is refused for.
-pub static CASES: [(&str, &str, Option<MachineFault>); 149] = [
+pub static CASES: [(&str, &str, Option<MachineFault>); 157] = [
     ("memory", "", Some(Missing(Key::Memory))),
     ("memory", "memory = 'x'", Some(BadValue(Key::Memory))),
     ("memory", "memory = 1.0", Some(BadValue(Key::Memory))),
@@ -330,6 +330,26 @@ pub static CASES: [(&str, &str, Option<MachineFault>); 149] = [
     (
         "script",
         "script = ['1:1', 1, '0:5']",
+        Some(BadValue(Key::Script)),
+    ),
+    ("script", "script = ['0:x']", Some(BadValue(Key::Script))),
+    ("script", "script = ['x:0']", Some(BadValue(Key::Script))),
+    ("script", "script = ['0:']", Some(BadValue(Key::Script))),
+    ("script", "script = [':0']", Some(BadValue(Key::Script))),
+    (
+        "script",
+        "script = ['70000:01']",
+        Some(BadValue(Key::Script)),
+    ),
+    (
+        "script",
+        "script = ['01:70000']",
+        Some(BadValue(Key::Script)),
+    ),
+    ("script", "script = ['0:0']", Some(Limit(Key::Script))),
+    (
+        "script",
+        "script = ['9999999999999999999999999:x']",
         Some(BadValue(Key::Script)),
     ),
 ];
