@@ -12,7 +12,6 @@ use Rattle.o2_isa.specs.declared.instr.Instr.{Instr}
 use Rattle.o2_isa.specs.declared.instr.Sreg.{Sreg}
 use Rattle.o2_isa.specs.declared.instr.Sreg.TheVariants.{Es, Cs, Ss, Ds}
 use Rattle.o2_isa.specs.declared.cpu.Cpu.{Cpu}
-use Rattle.o2_isa.specs.View.{View}
 use Rattle.o2_isa.specs.Steps.{Steps}
 use Rattle.o2_isa.specs.Finishing.{taking, placed, finishing}
 use Rattle.o2_isa.specs.DataMoves.{loading, mov_sreg, mov_into, mov, exchanging, xchg, lea, load_pointer, xlat, cbw, cwd}
@@ -20,7 +19,7 @@ use Rattle.o2_isa.specs.DataStack.{pushing, push, pushf, raised, pop_sreg, pop_i
 use Rattle.o2_isa.specs.DataArith.{binary, unary, shift, mul, imul_three, divided, div, adjusted, adjust}
 use Rattle.o2_isa.specs.DataFlags.{flagging, sahf, lahf, wait}
 use Rattle.o2_isa.specs.DataRows.{data_steps}
-use Rattle.o2_isa.proofs.Backing.{IsBacked, valued_backed, storing_backed}
+use Rattle.o2_isa.proofs.Backing.{Ground, IsBacked, valued_backed, storing_backed}
 
 -- the operand is CS
 abbrev pub names_cs : Arg → Bool
@@ -35,11 +34,11 @@ puts_selector _ = false
 
 -- The parts of rows.
 
-taking_backed : (v : View) (c : Cpu) (w : Width) (a : Arg) (f : ℕ → Steps) → ((x : ℕ) → IsBacked v (f x)) → IsBacked v (taking c w a f)
+taking_backed : (v : Ground) (c : Cpu) (w : Width) (a : Arg) (f : ℕ → Steps) → ((x : ℕ) → IsBacked v (f x)) → IsBacked v (taking c w a f)
 unfolding taking
 taking_backed v c w a f h = valued_backed v c w a _ (λ x. h _)
 
-finishing_backed : (v : View) (c : Cpu) (w : Width) (a : Arg) (x f next : ℕ) → IsBacked v (finishing c w a x f next)
+finishing_backed : (v : Ground) (c : Cpu) (w : Width) (a : Arg) (x f next : ℕ) → IsBacked v (finishing c w a x f next)
 unfolding finishing
 finishing_backed v c w (arg.R8 k) x f next = tt
 finishing_backed v c w (arg.R16 k) x f next = tt
@@ -49,7 +48,7 @@ finishing_backed v c w (arg.Imm k) x f next = tt
 finishing_backed v c w arg.No x f next = tt
 finishing_backed v c w (arg.Far o t) x f next = tt
 
-loading_backed : (v : View) (c : Cpu) (r : Sreg) (x next : ℕ) → names_cs (arg.S r) ≡ false → IsBacked v (loading c r x next)
+loading_backed : (v : Ground) (c : Cpu) (r : Sreg) (x next : ℕ) → names_cs (arg.S r) ≡ false → IsBacked v (loading c r x next)
 unfolding loading
 loading_backed v c Es x next e = λ p. (p, tt)
 loading_backed v c Cs x next e = cc
@@ -58,53 +57,53 @@ loading_backed v c Ds x next e = λ p. (p, tt)
 
 -- Arithmetic.
 
-binary_backed : (v : View) (op : Op) (c : Cpu) (i : Instr) (next : ℕ) → IsBacked v (binary op c i next)
+binary_backed : (v : Ground) (op : Op) (c : Cpu) (i : Instr) (next : ℕ) → IsBacked v (binary op c i next)
 unfolding binary
 binary_backed v op c i next = taking_backed v c i.width i.left _ (λ a. taking_backed v c i.width i.right _ (λ b. finishing_backed v c i.width _ _ _ next))
 
-unary_backed : (v : View) (op : Op) (c : Cpu) (i : Instr) (next : ℕ) → IsBacked v (unary op c i next)
+unary_backed : (v : Ground) (op : Op) (c : Cpu) (i : Instr) (next : ℕ) → IsBacked v (unary op c i next)
 unfolding unary
 unary_backed v op c i next = taking_backed v c i.width i.left _ (λ a. finishing_backed v c i.width i.left _ _ next)
 
-shift_backed : (v : View) (op : Op) (c : Cpu) (i : Instr) (next : ℕ) → IsBacked v (shift op c i next)
+shift_backed : (v : Ground) (op : Op) (c : Cpu) (i : Instr) (next : ℕ) → IsBacked v (shift op c i next)
 unfolding shift
 shift_backed v op c i next = taking_backed v c i.width i.left _ (λ a. taking_backed v c Byte i.right _ (λ n. finishing_backed v c i.width _ _ _ next))
 
-mul_backed : (v : View) (signed : Bool) (c : Cpu) (i : Instr) (next : ℕ) → IsBacked v (mul signed c i next)
+mul_backed : (v : Ground) (signed : Bool) (c : Cpu) (i : Instr) (next : ℕ) → IsBacked v (mul signed c i next)
 unfolding mul
 mul_backed v signed c i next = taking_backed v c i.width i.left _ (λ b. tt)
 
-imul_three_backed : (v : View) (c : Cpu) (i : Instr) (next : ℕ) → IsBacked v (imul_three c i next)
+imul_three_backed : (v : Ground) (c : Cpu) (i : Instr) (next : ℕ) → IsBacked v (imul_three c i next)
 unfolding imul_three
 imul_three_backed v c i next = taking_backed v c _ i.right _ (λ a. taking_backed v c _ i.third _ (λ b. finishing_backed v c _ i.left _ _ next))
 
-divided_backed : (v : View) (c : Cpu) (w : Width) (o : Option (ℕ × ℕ)) (next : ℕ) → IsBacked v (divided c w o next)
+divided_backed : (v : Ground) (c : Cpu) (w : Width) (o : Option (ℕ × ℕ)) (next : ℕ) → IsBacked v (divided c w o next)
 divided_backed v c w None next = tt
 divided_backed v c w (Some r) next = tt
 
-div_backed : (v : View) (signed : Bool) (c : Cpu) (i : Instr) (next : ℕ) → IsBacked v (div signed c i next)
+div_backed : (v : Ground) (signed : Bool) (c : Cpu) (i : Instr) (next : ℕ) → IsBacked v (div signed c i next)
 unfolding div
 div_backed v signed c i next = taking_backed v c i.width i.left _ (λ b. divided_backed v c i.width _ next)
 
-adjusted_backed : (v : View) (c : Cpu) (o : Option (ℕ × ℕ)) (next : ℕ) → IsBacked v (adjusted c o next)
+adjusted_backed : (v : Ground) (c : Cpu) (o : Option (ℕ × ℕ)) (next : ℕ) → IsBacked v (adjusted c o next)
 adjusted_backed v c None next = tt
 adjusted_backed v c (Some r) next = tt
 
-adjust_backed : (v : View) (op : Op) (c : Cpu) (i : Instr) (next : ℕ) → IsBacked v (adjust op c i next)
+adjust_backed : (v : Ground) (op : Op) (c : Cpu) (i : Instr) (next : ℕ) → IsBacked v (adjust op c i next)
 unfolding adjust
 adjust_backed v op c i next = taking_backed v c _ i.left _ (λ base. adjusted_backed v c _ next)
 
 -- Moves.
 
-mov_sreg_backed : (v : View) (c : Cpu) (r : Sreg) (a : Arg) (next : ℕ) → names_cs (arg.S r) ≡ false → IsBacked v (mov_sreg c r a next)
+mov_sreg_backed : (v : Ground) (c : Cpu) (r : Sreg) (a : Arg) (next : ℕ) → names_cs (arg.S r) ≡ false → IsBacked v (mov_sreg c r a next)
 unfolding mov_sreg
 mov_sreg_backed v c r a next e = valued_backed v c _ a _ (λ x. loading_backed v c r x next e)
 
-mov_into_backed : (v : View) (c : Cpu) (i : Instr) (next : ℕ) → IsBacked v (mov_into c i next)
+mov_into_backed : (v : Ground) (c : Cpu) (i : Instr) (next : ℕ) → IsBacked v (mov_into c i next)
 unfolding mov_into
 mov_into_backed v c i next = valued_backed v c i.width i.right _ (λ x. storing_backed v c i.width i.left x next)
 
-mov_backed : (v : View) (c : Cpu) (i : Instr) (a : Arg) (next : ℕ) → names_cs a ≡ false → IsBacked v (mov c i a next)
+mov_backed : (v : Ground) (c : Cpu) (i : Instr) (a : Arg) (next : ℕ) → names_cs a ≡ false → IsBacked v (mov c i a next)
 mov_backed v c i (arg.S r) next e = mov_sreg_backed v c r i.right next e
 mov_backed v c i (arg.R8 n) next e = mov_into_backed v c i next
 mov_backed v c i (arg.R16 n) next e = mov_into_backed v c i next
@@ -113,7 +112,7 @@ mov_backed v c i (arg.Imm n) next e = mov_into_backed v c i next
 mov_backed v c i arg.No next e = mov_into_backed v c i next
 mov_backed v c i (arg.Far o t) next e = mov_into_backed v c i next
 
-exchanging_backed : (v : View) (c : Cpu) (w : Width) (left : Arg) (b : ℕ) (right : Arg) (a next : ℕ) → IsBacked v (exchanging c w left b right a next)
+exchanging_backed : (v : Ground) (c : Cpu) (w : Width) (left : Arg) (b : ℕ) (right : Arg) (a next : ℕ) → IsBacked v (exchanging c w left b right a next)
 unfolding exchanging
 exchanging_backed v c w (arg.M ea) b right a next = tt
 exchanging_backed v c w (arg.R8 k) b right a next = tt
@@ -123,15 +122,15 @@ exchanging_backed v c w (arg.Imm k) b right a next = tt
 exchanging_backed v c w arg.No b right a next = tt
 exchanging_backed v c w (arg.Far o t) b right a next = tt
 
-xchg_backed : (v : View) (c : Cpu) (i : Instr) (next : ℕ) → IsBacked v (xchg c i next)
+xchg_backed : (v : Ground) (c : Cpu) (i : Instr) (next : ℕ) → IsBacked v (xchg c i next)
 unfolding xchg
 xchg_backed v c i next = valued_backed v c i.width i.left _ (λ a. valued_backed v c i.width i.right _ (λ b. exchanging_backed v c i.width i.left b i.right a next))
 
-lea_backed : (v : View) (c : Cpu) (i : Instr) (next : ℕ) → IsBacked v (lea c i next)
+lea_backed : (v : Ground) (c : Cpu) (i : Instr) (next : ℕ) → IsBacked v (lea c i next)
 unfolding lea
 lea_backed v c i next = storing_backed v c _ i.left _ next
 
-load_pointer_backed : (v : View) (c : Cpu) (r : Sreg) (left a : Arg) (next : ℕ) → names_cs (arg.S r) ≡ false → IsBacked v (load_pointer c r left a next)
+load_pointer_backed : (v : Ground) (c : Cpu) (r : Sreg) (left a : Arg) (next : ℕ) → names_cs (arg.S r) ≡ false → IsBacked v (load_pointer c r left a next)
 unfolding load_pointer
 load_pointer_backed v c r left (arg.M ea) next e = λ o s. loading_backed v (placed c left o) r s next e
 load_pointer_backed v c r left (arg.R8 k) next e = tt
@@ -141,29 +140,29 @@ load_pointer_backed v c r left (arg.Imm k) next e = tt
 load_pointer_backed v c r left arg.No next e = tt
 load_pointer_backed v c r left (arg.Far o t) next e = tt
 
-xlat_backed : (v : View) (c : Cpu) (i : Instr) (next : ℕ) → IsBacked v (xlat c i next)
+xlat_backed : (v : Ground) (c : Cpu) (i : Instr) (next : ℕ) → IsBacked v (xlat c i next)
 unfolding xlat
 xlat_backed v c i next = λ x. storing_backed v c _ (arg.R8 0) x next
 
 -- The stack.
 
-pushing_backed : (v : View) (c : Cpu) (x next : ℕ) → IsBacked v (pushing c x next)
+pushing_backed : (v : Ground) (c : Cpu) (x next : ℕ) → IsBacked v (pushing c x next)
 unfolding pushing
 pushing_backed v c x next = tt
 
-push_backed : (v : View) (c : Cpu) (a : Arg) (next : ℕ) → IsBacked v (push c a next)
+push_backed : (v : Ground) (c : Cpu) (a : Arg) (next : ℕ) → IsBacked v (push c a next)
 unfolding push
 push_backed v c a next = valued_backed v c _ a _ (λ x. pushing_backed v c x next)
 
-pop_sreg_backed : (v : View) (c : Cpu) (r : Sreg) (next : ℕ) → names_cs (arg.S r) ≡ false → IsBacked v (pop_sreg c r next)
+pop_sreg_backed : (v : Ground) (c : Cpu) (r : Sreg) (next : ℕ) → names_cs (arg.S r) ≡ false → IsBacked v (pop_sreg c r next)
 unfolding pop_sreg
 pop_sreg_backed v c r next e = λ x. loading_backed v (raised c) r x next e
 
-pop_into_backed : (v : View) (c : Cpu) (a : Arg) (next : ℕ) → IsBacked v (pop_into c a next)
+pop_into_backed : (v : Ground) (c : Cpu) (a : Arg) (next : ℕ) → IsBacked v (pop_into c a next)
 unfolding pop_into
 pop_into_backed v c a next = λ x. storing_backed v (raised c) _ a x next
 
-pop_backed : (v : View) (c : Cpu) (a : Arg) (next : ℕ) → names_cs a ≡ false → IsBacked v (pop c a next)
+pop_backed : (v : Ground) (c : Cpu) (a : Arg) (next : ℕ) → names_cs a ≡ false → IsBacked v (pop c a next)
 pop_backed v c (arg.S r) next e = pop_sreg_backed v c r next e
 pop_backed v c (arg.R8 n) next e = pop_into_backed v c (arg.R8 n) next
 pop_backed v c (arg.R16 n) next e = pop_into_backed v c (arg.R16 n) next
@@ -173,25 +172,25 @@ pop_backed v c arg.No next e = pop_into_backed v c arg.No next
 pop_backed v c (arg.Far o t) next e = pop_into_backed v c (arg.Far o t) next
 
 -- What neither stores nor loads, or stores on the stack alone.
-simple_backed : (v : View) (op : Op) (c : Cpu) (next : ℕ) → IsBacked v (cbw c next) × IsBacked v (cwd c next) × IsBacked v (flagging op c next) × IsBacked v (sahf c next) × IsBacked v (lahf c next) × IsBacked v (wait c next) × IsBacked v (pusha c next)
+simple_backed : (v : Ground) (op : Op) (c : Cpu) (next : ℕ) → IsBacked v (cbw c next) × IsBacked v (cwd c next) × IsBacked v (flagging op c next) × IsBacked v (sahf c next) × IsBacked v (lahf c next) × IsBacked v (wait c next) × IsBacked v (pusha c next)
 unfolding cbw cwd flagging sahf lahf wait pusha
 simple_backed v op c next = (tt, tt, tt, tt, tt, tt, tt)
 
-popf_backed : (v : View) (c : Cpu) (next : ℕ) → IsBacked v (popf c next)
+popf_backed : (v : Ground) (c : Cpu) (next : ℕ) → IsBacked v (popf c next)
 unfolding popf
 popf_backed v c next = λ x. tt
 
-popa_backed : (v : View) (c : Cpu) (next : ℕ) → IsBacked v (popa c next)
+popa_backed : (v : Ground) (c : Cpu) (next : ℕ) → IsBacked v (popa c next)
 unfolding popa
 popa_backed v c next = λ di si bp dropped bx dx cx ax. tt
 
-pushf_backed : (v : View) (c : Cpu) (next : ℕ) → IsBacked v (pushf c next)
+pushf_backed : (v : Ground) (c : Cpu) (next : ℕ) → IsBacked v (pushf c next)
 unfolding pushf
 pushf_backed v c next = pushing_backed v c _ next
 
 -- The table.
 
-pub data_backed : (v : View) (op : Op) (c : Cpu) (i : Instr) (next : ℕ) → (puts_selector op && names_cs i.left) ≡ false → IsBacked v (data_steps op c i next)
+pub data_backed : (v : Ground) (op : Op) (c : Cpu) (i : Instr) (next : ℕ) → (puts_selector op && names_cs i.left) ≡ false → IsBacked v (data_steps op c i next)
 data_backed v OpAdd c i next e = binary_backed v OpAdd c i next
 data_backed v OpOr c i next e = binary_backed v OpOr c i next
 data_backed v OpAdc c i next e = binary_backed v OpAdc c i next

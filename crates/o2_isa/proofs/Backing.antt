@@ -1,5 +1,5 @@
 -- What steps bind passed the load rules of its register: the predicate over steps, its parts, and what it says of a run.
-use Rattle.std.proofs.Common.{◌≡◌, ◌⊎◌, ◌∙◌, refl, sym, subst, ap, inl, inr, ℕ, zero, suc, ◌%◌, Bool, true, false, cond, ◌==◌, arith, List, [], ◌∷◌}
+use Rattle.std.proofs.Common.{◌++◌, ◌||◌, ◌≡◌, ◌⊎◌, ◌∙◌, refl, sym, subst, ap, inl, inr, ℕ, zero, suc, ◌%◌, Bool, true, false, cond, ◌==◌, arith, List, [], ◌∷◌}
 use Rattle.std.specs.Prelude.{Option, Some, None, Result, Ok, Err, nat_lt}
 use Rattle.o2_isa.specs.declared.instr.Width.{Width}
 use Rattle.o2_isa.specs.declared.instr.Arg.{Arg}
@@ -7,41 +7,54 @@ use Rattle.o2_isa.specs.declared.instr.Arg.TheVariants as arg
 use Rattle.o2_isa.specs.declared.instr.Sreg.{Sreg}
 use Rattle.o2_isa.specs.declared.instr.Sreg.TheVariants.{Es, Cs, Ss, Ds}
 use Rattle.o2_isa.specs.declared.cpu.Cpu.{Cpu}
+use Rattle.o2_isa.specs.declared.cpu.Purpose.{Purpose}
 use Rattle.o2_isa.specs.declared.cpu.Purpose.TheVariants.{Jump, Call, Return}
 use Rattle.o2_isa.specs.declared.cpu.Loaded.{Loaded}
 use Rattle.o2_isa.specs.declared.cpu.Loaded.TheVariants as loaded
 use Rattle.o2_isa.specs.declared.cpu.Stop.{Stop}
 use Rattle.o2_isa.specs.declared.cpu.Stop.TheVariants as stop
 use Rattle.o2_isa.specs.View.{View, Hold, is_null, ring3, is_code, found, when, here, called, through_gate, gate_at, refused, trap_of, read_of, room_of, probe_of, size_at, rights_at}
-use Rattle.o2_isa.specs.Registers.{with_sreg}
+use Rattle.o2_isa.specs.Registers.{sreg, with_sreg}
 use Rattle.o2_isa.specs.Steps.{State, state, Steps, Stops, Ends, Reads, Room, Loads, Sizes, Rights, Change, Bind, Write, Copy, changed, or_trap, passed, selector, run, valued, pair_valued, storing, within, in_size, ◌>>=◌}
-use Rattle.o2_isa.specs.Presence.{IsRow, SameSelectors, with_binds}
-use Rattle.o2_isa.specs.SegmentLoads.{Passes, rules_for, LoadsByRules}
+use Rattle.o2_isa.specs.Presence.{IsRow, SameSelectors, with_binds, loaded_names, names_after, hold_name, is_in}
+use Rattle.o2_isa.specs.SegmentLoads.{Passes, rules_for}
 use Rattle.o2_isa.proofs.Loads.{null_ring3, found_ring3}
 
-abbrev pub AreBacked : View → List Change → Type 0
+-- a view, and names that hold what passes
+pub record Ground : Type 0 where
+  pub view : View
+  pub names : List ℕ
+
+-- what the selector names is one of the names
+abbrev pub IsNamed : View → List ℕ → ℕ → Type 0
+IsNamed v names s = (n : ℕ) → is_in n (hold_name (found v s)) ≡ true → is_in n names ≡ true
+
+abbrev pub IsGranted : Ground → Purpose → ℕ → Type 0
+IsGranted g purpose s = Passes g.view purpose s × IsNamed g.view g.names s
+
+abbrev pub AreBacked : Ground → List Change → Type 0
 AreBacked v [] = Unit {0}
-AreBacked v (Bind r s ∷ cs) = Passes v (rules_for r) s × AreBacked v cs
+AreBacked v (Bind r s ∷ cs) = IsGranted v (rules_for r) s × AreBacked v cs
 AreBacked v (Write r k w x ∷ cs) = AreBacked v cs
 AreBacked v (Copy r a b ∷ cs) = AreBacked v cs
 
 -- each selector that the steps bind passed the load rules of its register
-abbrev pub IsBacked : View → Steps → Type 0
+abbrev pub IsBacked : Ground → Steps → Type 0
 IsBacked v (Stops e) = Unit {0}
 IsBacked v (Ends c cs) = AreBacked v cs
 IsBacked v (Reads r k w f) = (x : ℕ) → IsBacked v (f x)
 IsBacked v (Room r k w p) = IsBacked v p
-IsBacked v (Loads purpose s next p) = Passes v purpose s → IsBacked v p
+IsBacked v (Loads purpose s next p) = IsGranted v purpose s → IsBacked v p
 IsBacked v (Sizes s f) = (o : Option ℕ) → IsBacked v (f o)
 IsBacked v (Rights s f) = (o : Option ℕ) → IsBacked v (f o)
 
 -- The parts of rows.
 
-pub either_backed : (v : View) (b : Bool) (p q : Steps) → IsBacked v p → IsBacked v q → IsBacked v (cond b p q)
+pub either_backed : (v : Ground) (b : Bool) (p q : Steps) → IsBacked v p → IsBacked v q → IsBacked v (cond b p q)
 either_backed v true p q h k = h
 either_backed v false p q h k = k
 
-pub valued_backed : (v : View) (c : Cpu) (w : Width) (a : Arg) (f : ℕ → Steps) → ((x : ℕ) → IsBacked v (f x)) → IsBacked v (valued c w a f)
+pub valued_backed : (v : Ground) (c : Cpu) (w : Width) (a : Arg) (f : ℕ → Steps) → ((x : ℕ) → IsBacked v (f x)) → IsBacked v (valued c w a f)
 unfolding valued
 valued_backed v c w (arg.R8 k) f h = h _
 valued_backed v c w (arg.R16 k) f h = h _
@@ -51,7 +64,7 @@ valued_backed v c w (arg.Imm k) f h = h _
 valued_backed v c w arg.No f h = h _
 valued_backed v c w (arg.Far o t) f h = h _
 
-pub pair_backed : (v : View) (c : Cpu) (a : Arg) (f : ℕ → ℕ → Steps) → ((x y : ℕ) → IsBacked v (f x y)) → IsBacked v (pair_valued c a f)
+pub pair_backed : (v : Ground) (c : Cpu) (a : Arg) (f : ℕ → ℕ → Steps) → ((x y : ℕ) → IsBacked v (f x y)) → IsBacked v (pair_valued c a f)
 unfolding pair_valued
 pair_backed v c (arg.R8 k) f h = h 0 0
 pair_backed v c (arg.R16 k) f h = h 0 0
@@ -61,7 +74,7 @@ pair_backed v c (arg.Imm k) f h = h 0 0
 pair_backed v c arg.No f h = h 0 0
 pair_backed v c (arg.Far o t) f h = h o t
 
-pub storing_backed : (v : View) (c : Cpu) (w : Width) (a : Arg) (x next : ℕ) → IsBacked v (storing c w a x next)
+pub storing_backed : (v : Ground) (c : Cpu) (w : Width) (a : Arg) (x next : ℕ) → IsBacked v (storing c w a x next)
 unfolding storing
 storing_backed v c w (arg.R8 k) x next = tt
 storing_backed v c w (arg.R16 k) x next = tt
@@ -71,11 +84,11 @@ storing_backed v c w (arg.Imm k) x next = tt
 storing_backed v c w arg.No x next = tt
 storing_backed v c w (arg.Far o t) x next = tt
 
-in_size_backed : (v : View) (o : Option ℕ) (ip : ℕ) (p : Steps) → IsBacked v p → IsBacked v (in_size o ip p)
+in_size_backed : (v : Ground) (o : Option ℕ) (ip : ℕ) (p : Steps) → IsBacked v p → IsBacked v (in_size o ip p)
 in_size_backed v None ip p h = tt
 in_size_backed v (Some n) ip p h = either_backed v (nat_lt ip n) p (Stops (stop.Trap 13 0)) h tt
 
-pub within_backed : (v : View) (cs ip : ℕ) (p : Steps) → IsBacked v p → IsBacked v (within cs ip p)
+pub within_backed : (v : Ground) (cs ip : ℕ) (p : Steps) → IsBacked v p → IsBacked v (within cs ip p)
 unfolding within
 within_backed v cs ip p h = λ o. in_size_backed v o ip p h
 
@@ -106,9 +119,9 @@ code_returns v s false x is h e =
     let ring : (ring3 s % 4 == 3) ≡ true = grind arith in
     rw (null, ring, found_ring3 v s) (when_other v 11 s (ring3 s) is_code (found v s) (h e))
 
-pub jump_returns : (v : View) (s : ℕ) → Passes v Jump s → Passes v Return (ring3 s)
+jump_passes : (v : View) (s : ℕ) → Passes v Jump s → Passes v Return (ring3 s)
 unfolding probe_of
-jump_returns v s e = code_returns v s (is_null s) _ refl (λ h. h) e
+jump_passes v s e = code_returns v s (is_null s) _ refl (λ h. h) e
 
 called_when : (v : View) (s : ℕ) (o : Option Hold) → called v s o ≡ loaded.Done → when v 11 s is_code o ≡ loaded.Done
 called_when v s (Some h) e = e
@@ -118,13 +131,26 @@ called_when v s None e = gate_refuses (gate_at v s) e
     gate_refuses None e = e
     gate_refuses (Some k) e = cc
 
-pub call_returns : (v : View) (s : ℕ) → Passes v Call s → Passes v Return (ring3 s)
+call_passes : (v : View) (s : ℕ) → Passes v Call s → Passes v Return (ring3 s)
 unfolding probe_of
-call_returns v s e = code_returns v s (is_null s) _ refl (called_when v s (found v s)) e
+call_passes v s e = code_returns v s (is_null s) _ refl (called_when v s (found v s)) e
+
+named_ring3 : (v : View) (names : List ℕ) (s : ℕ) → IsNamed v names s → IsNamed v names (ring3 s)
+named_ring3 v names s h n = subst (λ (o : Option Hold). is_in n (hold_name o) ≡ true → is_in n names ≡ true) (sym (found_ring3 v s)) (h n)
+
+pub jump_returns : (g : Ground) (s : ℕ) → IsGranted g Jump s → IsGranted g Return (ring3 s)
+jump_returns g s e = (jump_passes g.view s e.0, named_ring3 g.view g.names s e.1)
+
+pub call_returns : (g : Ground) (s : ℕ) → IsGranted g Call s → IsGranted g Return (ring3 s)
+call_returns g s e = (call_passes g.view s e.0, named_ring3 g.view g.names s e.1)
 
 -- What a run of steps leaves in the segment registers.
 
-put_ruled : (v : View) (c e : Cpu) (r : Sreg) (s : ℕ) → LoadsByRules v c e → Passes v (rules_for r) s → LoadsByRules v c (with_sreg e r s)
+-- each segment register is as it was, or its selector passed and names one of these
+abbrev pub LoadsGranted : Ground → Cpu → Cpu → Type 0
+LoadsGranted g old new = (r : Sreg) → (sreg new r ≡ sreg old r) ⊎ IsGranted g (rules_for r) (sreg new r)
+
+put_ruled : (g : Ground) (c e : Cpu) (r : Sreg) (s : ℕ) → LoadsGranted g c e → IsGranted g (rules_for r) s → LoadsGranted g c (with_sreg e r s)
 put_ruled v c e Es s h p Es = inr p
 put_ruled v c e Cs s h p Cs = inr p
 put_ruled v c e Ss s h p Ss = inr p
@@ -134,17 +160,17 @@ put_ruled v c e Cs s h p q = h q
 put_ruled v c e Ss s h p q = h q
 put_ruled v c e Ds s h p q = h q
 
-binds_ruled : (v : View) (c e : Cpu) (cs : List Change) → LoadsByRules v c e → AreBacked v cs → LoadsByRules v c (with_binds cs e)
+binds_ruled : (v : Ground) (c e : Cpu) (cs : List Change) → LoadsGranted v c e → AreBacked v cs → LoadsGranted v c (with_binds cs e)
 binds_ruled v c e [] h b = h
 binds_ruled v c e (Bind r s ∷ cs) h b = binds_ruled v c (with_sreg e r s) cs (put_ruled v c e r s h b.0) b.1
 binds_ruled v c e (Write r k w x ∷ cs) h b = binds_ruled v c e cs h b
 binds_ruled v c e (Copy r k m ∷ cs) h b = binds_ruled v c e cs h b
 
-same_ruled : (v : View) (c d e : Cpu) → SameSelectors d e → LoadsByRules v c e → LoadsByRules v c d
-same_ruled v c d e s h Es = subst (λ (x : ℕ). (x ≡ c.es) ⊎ Passes v (rules_for Es) x) (sym s.es) (h Es)
-same_ruled v c d e s h Cs = subst (λ (x : ℕ). (x ≡ c.cs) ⊎ Passes v (rules_for Cs) x) (sym s.cs) (h Cs)
-same_ruled v c d e s h Ss = subst (λ (x : ℕ). (x ≡ c.ss) ⊎ Passes v (rules_for Ss) x) (sym s.ss) (h Ss)
-same_ruled v c d e s h Ds = subst (λ (x : ℕ). (x ≡ c.ds) ⊎ Passes v (rules_for Ds) x) (sym s.ds) (h Ds)
+same_ruled : (v : Ground) (c d e : Cpu) → SameSelectors d e → LoadsGranted v c e → LoadsGranted v c d
+same_ruled v c d e s h Es = subst (λ (x : ℕ). (x ≡ c.es) ⊎ IsGranted v (rules_for Es) x) (sym s.es) (h Es)
+same_ruled v c d e s h Cs = subst (λ (x : ℕ). (x ≡ c.cs) ⊎ IsGranted v (rules_for Cs) x) (sym s.cs) (h Cs)
+same_ruled v c d e s h Ss = subst (λ (x : ℕ). (x ≡ c.ss) ⊎ IsGranted v (rules_for Ss) x) (sym s.ss) (h Ss)
+same_ruled v c d e s h Ds = subst (λ (x : ℕ). (x ≡ c.ds) ⊎ IsGranted v (rules_for Ds) x) (sym s.ds) (h Ds)
 
 checked : (P : Type 0) (r : Result ℕ Stop) (f : ℕ → Result State Stop) (t : State) → ((x : ℕ) → f x ≡ Ok t → P) → (r >>= f) ≡ Ok t → P
 checked P (Ok x) f t h e = h x e
@@ -156,19 +182,49 @@ loads P next (loaded.Miss s) r t h e = cc
 loads P next (loaded.Trap vector code) r t h e = cc
 loads P next (loaded.Gate service) r t h e = cc
 
-pub run_ruled : (v : View) (c : Cpu) (n : ℕ) (p : Steps) (t : State) → IsRow c n p → IsBacked v p → run p v ≡ Ok t → LoadsByRules v c t.cpu
-run_ruled v c n (Stops d) t row backed e = cc
-run_ruled v c n (Ends d cs) t row backed e = subst (λ (z : State). LoadsByRules v c z.cpu) same (same_ruled v c d _ row.1 (binds_ruled v c c cs (λ r. inl refl) backed))
+-- the names loaded from here on are among them
+abbrev pub Among : List ℕ → List ℕ → Type 0
+Among xs names = (n : ℕ) → is_in n xs ≡ true → is_in n names ≡ true
+
+among_checked : (q : Result ℕ Stop) (f : ℕ → List ℕ) (x : ℕ) (names : List ℕ) → q ≡ Ok x → Among (names_after q f) names → Among (f x) names
+among_checked q f x names e h = subst (λ (z : Result ℕ Stop). Among (names_after z f) names) e h
+
+checked_value : (P : Type 0) (r : Result ℕ Stop) (f : ℕ → Result State Stop) (t : State) → ((x : ℕ) → r ≡ Ok x → f x ≡ Ok t → P) → (r >>= f) ≡ Ok t → P
+checked_value P (Ok x) f t h e = h x refl e
+checked_value P (Err d) f t h e = cc
+
+in_left : (xs ys : List ℕ) (n : ℕ) → is_in n xs ≡ true → is_in n (xs ++ ys) ≡ true
+in_left [] ys n e = cc
+in_left (x ∷ xs) ys n e = go (x == n) (in_left xs ys n) e
+  where
+    go : (b : Bool) → (is_in n xs ≡ true → is_in n (xs ++ ys) ≡ true) → (b || is_in n xs) ≡ true → (b || is_in n (xs ++ ys)) ≡ true
+    go true h q = refl
+    go false h q = h q
+
+in_right : (xs ys : List ℕ) (n : ℕ) → is_in n ys ≡ true → is_in n (xs ++ ys) ≡ true
+in_right [] ys n e = e
+in_right (x ∷ xs) ys n e = go (x == n) (in_right xs ys n e)
+  where
+    go : (b : Bool) → is_in n (xs ++ ys) ≡ true → (b || is_in n (xs ++ ys)) ≡ true
+    go true q = refl
+    go false q = q
+
+pub run_ruled : (g : Ground) (c : Cpu) (n : ℕ) (p : Steps) (t : State) → IsRow c n p → IsBacked g p → Among (loaded_names p g.view) g.names → run p g.view ≡ Ok t → LoadsGranted g c t.cpu
+run_ruled g c n (Stops d) t row backed among e = cc
+run_ruled g c n (Ends d cs) t row backed among e = subst (λ (z : State). LoadsGranted g c z.cpu) same (same_ruled g c d _ row.1 (binds_ruled g c c cs (λ r. inl refl) backed))
   where
     state_in : Result State Stop → State
     state_in (Ok s) = s
     state_in (Err d) = t
 
-    same : state d (changed cs v) ≡ t
+    same : state d (changed cs g.view) ≡ t
     same = ap state_in e
-run_ruled v c n (Reads r k w f) t row backed e = checked _ (or_trap (read_of v r k w)) (λ x. run (f x) v) t (λ x q. run_ruled v c n (f x) t (row x) (backed x) q) e
-run_ruled v c n (Room r k w p) t row backed e = checked _ (or_trap (room_of v r k w)) (λ x. run p v) t (λ x q. run_ruled v c n p t row backed q) e
-run_ruled v c zero (Loads purpose s next p) t row backed e = absurd row
-run_ruled v c (suc n) (Loads purpose s next p) t row backed e = loads _ next (probe_of v purpose (selector s)) (run p v) t (λ d q. run_ruled v c n p t row (backed d) q) e
-run_ruled v c n (Sizes s f) t row backed e = run_ruled v c n (f (size_at v s)) t (row (size_at v s)) (backed (size_at v s)) e
-run_ruled v c n (Rights s f) t row backed e = run_ruled v c n (f (rights_at v s)) t (row (rights_at v s)) (backed (rights_at v s)) e
+run_ruled g c n (Reads r k w f) t row backed among e = checked_value _ (or_trap (read_of g.view r k w)) (λ x. run (f x) g.view) t (λ x is q. run_ruled g c n (f x) t (row x) (backed x) (among_checked (or_trap (read_of g.view r k w)) (λ x. loaded_names (f x) g.view) x g.names is among) q) e
+run_ruled g c n (Room r k w p) t row backed among e = checked_value _ (or_trap (room_of g.view r k w)) (λ x. run p g.view) t (λ x is q. run_ruled g c n p t row backed (among_checked (or_trap (room_of g.view r k w)) (λ x. loaded_names p g.view) x g.names is among) q) e
+run_ruled g c zero (Loads purpose s next p) t row backed among e = absurd row
+run_ruled g c (suc n) (Loads purpose s next p) t row backed among e = loads _ next (probe_of g.view purpose (selector s)) (run p g.view) t (λ d q. run_ruled g c n p t row (backed (d, λ m i. all d m (in_left (hold_name (found g.view s)) (loaded_names p g.view) m i))) (λ m i. all d m (in_right (hold_name (found g.view s)) (loaded_names p g.view) m i)) q) e
+  where
+    all : probe_of g.view purpose (selector s) ≡ loaded.Done → Among (hold_name (found g.view s) ++ loaded_names p g.view) g.names
+    all d = among_checked (passed next (probe_of g.view purpose (selector s))) (λ _. hold_name (found g.view s) ++ loaded_names p g.view) 0 g.names (ap (passed next) d) among
+run_ruled g c n (Sizes s f) t row backed among e = run_ruled g c n (f (size_at g.view s)) t (row (size_at g.view s)) (backed (size_at g.view s)) among e
+run_ruled g c n (Rights s f) t row backed among e = run_ruled g c n (f (rights_at g.view s)) t (row (rights_at g.view s)) (backed (rights_at g.view s)) among e

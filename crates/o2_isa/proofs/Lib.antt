@@ -14,3 +14,4 @@ pub mod Backing
 pub mod BackedData
 pub mod BackedFlow
 pub mod SpelledLoads
+pub mod Sizes

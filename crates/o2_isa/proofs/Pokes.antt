@@ -13,7 +13,7 @@ pub length_put_at : (bs : List ℕ) (k : ℕ) (w : Width) (x : ℕ) → length (
 length_put_at bs k Byte x = length-set bs k x
 length_put_at bs k Word x = length-set (slice_set bs k (x % 256)) (k + 1) (x / 256) ∙ length-set bs k (x % 256)
 
-length_after : (v : View) (n m k : ℕ) (w : Width) (x : ℕ) → length (cond (m == n) (put_at (v.bytes n) k w x) (v.bytes m)) ≡ length (v.bytes m)
+pub length_after : (v : View) (n m k : ℕ) (w : Width) (x : ℕ) → length (cond (m == n) (put_at (v.bytes n) k w x) (v.bytes m)) ≡ length (v.bytes m)
 length_after v n m k w x = go (m == n) refl
   where
     go : (b : Bool) → (m == n) ≡ b → length (cond b (put_at (v.bytes n) k w x) (v.bytes m)) ≡ length (v.bytes m)

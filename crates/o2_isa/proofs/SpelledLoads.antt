@@ -1,5 +1,5 @@
 -- No bytes spell a MOV or a POP to CS, so each step leaves selectors that passed the load rules of their registers.
-use Rattle.std.proofs.Common.{◌≡◌, refl, sym, subst, inl, ℕ, zero, suc, ◌+◌, ◌%◌, Bool, true, false, cond, ◌==◌, ◌&&◌, List, [], ◌∷◌, length, take}
+use Rattle.std.proofs.Common.{◌≡◌, ◌⊎◌, refl, sym, subst, inl, inr, ℕ, zero, suc, ◌+◌, ◌%◌, Bool, true, false, cond, ◌==◌, ◌&&◌, List, [], ◌∷◌, length, take}
 use Rattle.std.specs.Prelude.{Option, Some, None, drop, nat_lt, not, slice_index_or}
 use Rattle.std.specs.List.{list_all}
 use Rattle.o2_isa.specs.declared.instr.Width.{Width}
@@ -28,9 +28,10 @@ use Rattle.o2_isa.specs.Reading.{Head, More, Bad, Whole, head_with, head_modrm, 
 use Rattle.o2_isa.specs.View.{View}
 use Rattle.o2_isa.specs.Steps.{State, Stops}
 use Rattle.o2_isa.specs.Meaning.{group_of, group_steps, steps_of}
-use Rattle.o2_isa.specs.Step.{Answers, seen, steps_at, step_steps, stepped}
-use Rattle.o2_isa.specs.SegmentLoads.{LoadsByRules}
-use Rattle.o2_isa.proofs.Backing.{IsBacked, run_ruled, either_backed}
+use Rattle.o2_isa.specs.Step.{Answers, seen, steps_at, step_steps, step_names, stepped}
+use Rattle.o2_isa.specs.declared.instr.Sreg.{Sreg}
+use Rattle.o2_isa.specs.SegmentLoads.{Passes, rules_for, LoadsByRules, BindsLoaded}
+use Rattle.o2_isa.proofs.Backing.{Ground, IsBacked, IsNamed, LoadsGranted, run_ruled, either_backed}
 use Rattle.o2_isa.proofs.BackedData.{names_cs, puts_selector, data_backed}
 use Rattle.o2_isa.proofs.BackedFlow.{flow_backed, string_backed}
 use Rattle.o2_isa.proofs.StepLaws.{row_of_step}
@@ -225,28 +226,45 @@ decoded_free bs = limited_free (length bs) (read no_prefixes 0 bs) (read_free no
 
 -- Steps.
 
-group_backed : (v : View) (g : Group) (c : Cpu) (i : Instr) (next : ℕ) → puts_cs i ≡ false → IsBacked v (group_steps g c i next)
+group_backed : (v : Ground) (g : Group) (c : Cpu) (i : Instr) (next : ℕ) → puts_cs i ≡ false → IsBacked v (group_steps g c i next)
 group_backed v Data c i next f = data_backed v i.op c i next f
 group_backed v Flow c i next f = flow_backed v i.op c i next
 group_backed v Strings c i next f = string_backed v i.op c i next
 
-steps_backed : (v : View) (c : Cpu) (i : Instr) (next : ℕ) → puts_cs i ≡ false → IsBacked v (steps_of c i next)
+steps_backed : (v : Ground) (c : Cpu) (i : Instr) (next : ℕ) → puts_cs i ≡ false → IsBacked v (steps_of c i next)
 unfolding steps_of
 steps_backed v c i next f = either_backed v i.lock (Stops (stop.Trap 13 0)) _ tt (group_backed v (group_of i.op) c i next f)
 
-at_backed : (v : View) (c : Cpu) (d : Decoded) → IsFreeOne d → IsBacked v (steps_at c d)
+at_backed : (v : Ground) (c : Cpu) (d : Decoded) → IsFreeOne d → IsBacked v (steps_at c d)
 at_backed v c (One i n) f = steps_backed v c i ((c.ip + n) % 65536) f
 at_backed v c Invalid f = tt
 at_backed v c TooLong f = tt
 at_backed v c Need f = tt
 
-same_ruled : (new old : State) → new ≡ old → LoadsByRules old.view old.cpu new.cpu
-same_ruled new old e = subst (λ (z : State). LoadsByRules old.view old.cpu z.cpu) (sym e) (λ r. inl refl)
+abbrev pub inside : State → Ground
+inside s = record { view = s.view; names = step_names s }
 
--- a step leaves in each segment register what was there, or a selector that passed its rules
+same_ruled : (new old : State) → new ≡ old → LoadsGranted (inside old) old.cpu new.cpu
+same_ruled new old e = subst (λ (z : State). LoadsGranted (inside old) old.cpu z.cpu) (sym e) (λ r. inl refl)
+
+-- a step leaves in each segment register what was there, or a selector that passed its rules and whose name the step loaded
+pub stepped_granted : (o : Outcome) (new old : State) → Answers o new old (stepped old) → LoadsGranted (inside old) old.cpu new.cpu
+unfolding stepped step_names
+stepped_granted outcome.Done new old a = run_ruled (inside old) old.cpu 1 (step_steps old) new (row_of_step old) (at_backed (inside old) old.cpu (decoded (seen old)) (decoded_free (seen old))) (λ n i. i) a
+stepped_granted (outcome.Miss s) new old a = same_ruled new old a.1
+stepped_granted (outcome.Trap n code) new old a = same_ruled new old a.1
+stepped_granted (outcome.Gate k next) new old a = same_ruled new old a.1
+
+rules_of : (v : View) (a b : ℕ) (r : Sreg) (names : List ℕ) → (a ≡ b) ⊎ (Passes v (rules_for r) a × IsNamed v names a) → (a ≡ b) ⊎ Passes v (rules_for r) a
+rules_of v a b r names (inl e) = inl e
+rules_of v a b r names (inr p) = inr p.0
+
+names_of : (v : View) (a b : ℕ) (r : Sreg) (names : List ℕ) → (a ≡ b) ⊎ (Passes v (rules_for r) a × IsNamed v names a) → (a ≡ b) ⊎ IsNamed v names a
+names_of v a b r names (inl e) = inl e
+names_of v a b r names (inr p) = inr p.1
+
 pub stepped_ruled : (o : Outcome) (new old : State) → Answers o new old (stepped old) → LoadsByRules old.view old.cpu new.cpu
-unfolding stepped
-stepped_ruled outcome.Done new old a = run_ruled old.view old.cpu 1 (step_steps old) new (row_of_step old) (at_backed old.view old.cpu (decoded (seen old)) (decoded_free (seen old))) a
-stepped_ruled (outcome.Miss s) new old a = same_ruled new old a.1
-stepped_ruled (outcome.Trap n code) new old a = same_ruled new old a.1
-stepped_ruled (outcome.Gate k next) new old a = same_ruled new old a.1
+stepped_ruled o new old a = λ r. rules_of old.view _ _ r _ (stepped_granted o new old a r)
+
+pub stepped_named : (o : Outcome) (new old : State) → Answers o new old (stepped old) → BindsLoaded old.view (step_names old) old.cpu new.cpu
+stepped_named o new old a = λ r. names_of old.view _ _ r _ (stepped_granted o new old a r)

@@ -31,3 +31,4 @@ pub mod Shifts
 pub mod Sums
 pub mod Widths
 pub mod Parts
+pub mod Sizes

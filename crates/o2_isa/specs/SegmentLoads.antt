@@ -1,12 +1,13 @@
 -- How an instruction that completes leaves the segment registers.
-use Rattle.std.specs.Prelude.{◌≡◌, ◌⊎◌, ℕ}
+use Rattle.std.specs.Prelude.{◌≡◌, ◌⊎◌, ℕ, true, List}
 use Rattle.o2_isa.specs.declared.instr.Sreg.{Sreg}
 use Rattle.o2_isa.specs.declared.instr.Sreg.TheVariants.{Es, Cs, Ss, Ds}
 use Rattle.o2_isa.specs.declared.cpu.Cpu.{Cpu}
 use Rattle.o2_isa.specs.declared.cpu.Purpose.{Purpose}
 use Rattle.o2_isa.specs.declared.cpu.Purpose.TheVariants.{DataReg, StackReg, Return}
 use Rattle.o2_isa.specs.declared.cpu.Loaded.TheVariants as loaded
-use Rattle.o2_isa.specs.View.{View, probe_of}
+use Rattle.o2_isa.specs.View.{View, found, probe_of}
+use Rattle.o2_isa.specs.Presence.{hold_name, is_in}
 use Rattle.o2_isa.specs.Registers.{sreg}
 use Rattle.o2_isa.specs.Steps.{selector}
 
@@ -25,3 +26,7 @@ rules_for Ds = DataReg
 -- each segment register is as it was, or holds a selector that passes its rules
 abbrev pub LoadsByRules : View → Cpu → Cpu → Type 0
 LoadsByRules v old new = (r : Sreg) → (sreg new r ≡ sreg old r) ⊎ Passes v (rules_for r) (sreg new r)
+
+-- each segment register is as it was, or holds a selector of which the name is one of these
+abbrev pub BindsLoaded : View → List ℕ → Cpu → Cpu → Type 0
+BindsLoaded v names old new = (r : Sreg) → (sreg new r ≡ sreg old r) ⊎ ((n : ℕ) → is_in n (hold_name (found v (sreg new r))) ≡ true → is_in n names ≡ true)

@@ -31,8 +31,16 @@ pub record Rest : Type 0 where
   pub lock : ℕ → ℕ
   pub flags : ℕ → ℕ
   pub clean : ℕ → Bool
+  pub code : ℕ → Bool
   pub shared : ℕ → Bool
   pub maps : ℕ → ℕ → Option Hold
+  -- of each process and index: how often it is held, how it came to be, and the run that it belongs to
+  pub holds : ℕ → ℕ → ℕ
+  pub cause : ℕ → ℕ → ℕ
+  pub first : ℕ → ℕ → ℕ
+  pub reserved_run : ℕ → ℕ → ℕ
+  -- the indexes that are reserved, by region
+  pub reserved : ℕ → ℕ → Bool
   pub memory : ℕ
   pub most : ℕ
 
@@ -60,7 +68,7 @@ pub record View : Type 0 where
   pub hidden : Hidden
 
 abbrev pub no_rest : Rest
-no_rest = record { lock = λ n. 0; flags = λ n. 0; clean = λ n. false; shared = λ n. false; maps = λ p i. None; memory = 0; most = 0 }
+no_rest = record { lock = λ n. 0; flags = λ n. 0; clean = λ n. false; code = λ n. false; shared = λ n. false; maps = λ p i. None; holds = λ p i. 0; cause = λ p i. 0; first = λ p i. 0; reserved_run = λ p i. 0; reserved = λ p i. false; memory = 0; most = 0 }
 
 abbrev pub no_hidden : Hidden
 no_hidden = record { came_in = λ n. 0; away = λ n b. []; store = None; tables = None }

@@ -9,7 +9,8 @@ ghost use Rattle.o2_isa.specs.View.{Filling, Rest, Hidden, IsBound, Agrees, Keep
 ghost use Rattle.o2_isa.specs.Steps.{State};
 ghost use Rattle.o2_isa.specs.Meaning.{steps_of};
 ghost use Rattle.o2_isa.specs.Presence.{IsMissed, IsRow, whole_state, unseen, is_in};
-ghost use Rattle.o2_isa.specs.SegmentLoads.{LoadsByRules};
+ghost use Rattle.o2_isa.specs.SegmentLoads.{LoadsByRules, BindsLoaded};
+ghost use Rattle.o2_isa.specs.Sizes.{KeepsLengths};
 ghost use Rattle.o2_isa.specs.Step.{Answers, AsBoundless, stepped, step_names, is_miss};
 
 /// Every mnemonic checks before it changes anything, writes before it binds, binds the selectors that it leaves, and has one
@@ -27,11 +28,12 @@ pub fn presence_is_invisible()
     ensures few { (s : State) → length (step_names s) ≤ 1 }
 {}
 
-/// What a step leaves as it is: the map, sizes, marks, and what no instruction sees, which doesn't matter either. The segment
-/// registers hold what their selectors name.
+/// What a step leaves as it is: the map, sizes, marks, and what no instruction sees, which doesn't matter either. Each name
+/// keeps as many bytes as it has, and the segment registers hold what their selectors name.
 pub fn steps_keep()
     ensures frame { (o : Outcome) (new old : State) → Answers o new old (stepped old) → KeepsFrame old.view new.view }
     ensures agrees { (o : Outcome) (new old : State) → Answers o new old (stepped old) → Agrees old.cpu old.view → Agrees new.cpu new.view }
+    ensures lengths { (o : Outcome) (new old : State) → Answers o new old (stepped old) → KeepsLengths old.view new.view }
     ensures unseen { (r : Rest) (h : Hidden) (o : Outcome) (new old : State) → Answers o new old (stepped old) → Answers o (unseen r h new) (unseen r h old) (stepped (unseen r h old)) }
 {}
 
@@ -40,4 +42,10 @@ pub fn steps_keep()
 /// level 3.
 pub fn segment_registers_are_loaded_by_rules()
     ensures { (o : Outcome) (new old : State) → Answers o new old (stepped old) → LoadsByRules old.view old.cpu new.cpu }
+{}
+
+/// What a step leaves in a segment register was there before, or is a name that the step loads: so a step needs the names in its
+/// registers before it and those that it loads, and no other.
+pub fn steps_bind_what_they_load()
+    ensures { (o : Outcome) (new old : State) → Answers o new old (stepped old) → BindsLoaded old.view (step_names old) old.cpu new.cpu }
 {}

@@ -13,7 +13,8 @@ pub use flags::Flag;
 pub use groups::{Group, instruction_group};
 pub use instr::{Arg, Ea, Instr, Op, Rep, Sreg, Width};
 pub use laws::{
-    presence_is_invisible, rows_are_rows, segment_registers_are_loaded_by_rules, steps_keep,
+    presence_is_invisible, rows_are_rows, segment_registers_are_loaded_by_rules,
+    steps_bind_what_they_load, steps_keep,
 };
 pub use o2_base::Selector;
 pub use rows::{Decoded, Entry, Prefixes, Repeat, Row, Slot};
