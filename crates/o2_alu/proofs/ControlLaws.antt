@@ -4,7 +4,7 @@ use Rattle.std.specs.Prelude.{Some, None, IfSome}
 use Rattle.o2_isa.specs.declared.instr.Width.{Width}
 use Rattle.o2_isa.specs.declared.instr.Width.TheVariants.{Byte}
 use Rattle.o2_isa.specs.declared.instr.Op.{Op}
-use Rattle.o2_isa.specs.declared.instr.Op.TheVariants.{OpAdd, OpAdc, OpSub, OpSbb, OpCmp, OpInc, OpDec, OpNeg, OpNot, OpDaa, OpDas, OpAaa, OpAas, OpAam, OpAad}
+use Rattle.o2_isa.specs.declared.instr.Op.TheVariants.{OpAdd, OpAdc, OpSub, OpSbb, OpCmp, OpAnd, OpTest, OpOr, OpXor, OpInc, OpDec, OpNeg, OpNot, OpDaa, OpDas, OpAaa, OpAas, OpAam, OpAad}
 use Rattle.o2_isa.specs.declared.flags.Flag.{Flag}
 use Rattle.o2_isa.specs.declared.flags.Flag.TheVariants.{Carry, Parity, Auxiliary, Zero, Sign, Overflow}
 use Rattle.o2_isa.specs.Flags.{put, is_set, is_status, with_szp, with_carries}
@@ -49,7 +49,11 @@ binary_control OpAdc w a b f j q = add_control w a b _ f j q
 binary_control OpSub w a b f j q = sub_control w a b false f j q
 binary_control OpCmp w a b f j q = sub_control w a b false f j q
 binary_control OpSbb w a b f j q = sub_control w a b _ f j q
-binary_control op w a b f j q = logic_control op w a b f j q
+binary_control OpAnd w a b f j q = logic_control OpAnd w a b f j q
+binary_control OpTest w a b f j q = logic_control OpTest w a b f j q
+binary_control OpOr w a b f j q = logic_control OpOr w a b f j q
+binary_control OpXor w a b f j q = logic_control OpXor w a b f j q
+binary_control _ w a b f j q = refl
 
 pub unary_control : (op : Op) (w : Width) (a f : ℕ) (j : Flag) → is_status j ≡ false → is_set ((unary_of op w a f).1) j ≡ is_set f j
 unfolding unary_of increment_of decrement_of negate_of

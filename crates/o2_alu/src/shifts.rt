@@ -231,7 +231,8 @@ fn overflow_of(op: Op, w: Width, a: u16, r: u16, c: bool) -> bool
         Op::OpShr => h <= a,
         Op::OpSar => false,
         Op::OpRor | Op::OpRcr => differ(top, next),
-        _ => differ(top, c),
+        Op::OpRol | Op::OpRcl | Op::OpShl => differ(top, c),
+        _ => false,
     }
 }
 
@@ -246,8 +247,8 @@ fn flags_after(op: Op, w: Width, n: u8, a: u16, r: u16, c: bool, f: u16) -> u16
         g
     };
     match op {
-        Op::OpShl | Op::OpShr | Op::OpSar => szp(w, r, h),
-        _ => h,
+        Op::OpRol | Op::OpRor | Op::OpRcl | Op::OpRcr => h,
+        _ => szp(w, r, h),
     }
 }
 

@@ -192,11 +192,12 @@ fn logic_result(op: Op, w: Width, a: u16, b: u16) -> u16
     match op {
         Op::OpAnd | Op::OpTest => a & b,
         Op::OpOr => a | b,
-        _ => a ^ b,
+        Op::OpXor => a ^ b,
+        _ => a,
     }
 }
 
-/// AND, TEST, OR, and for any other `op` XOR: the result and the flags word.
+/// AND, TEST, OR and XOR: the result and the flags word. For any other `op` the result is the first operand.
 #[tactic(auto, unfolding(o2_isa::specs::Sums::logic_of))]
 pub fn logic(op: Op, w: Width, a: u16, b: u16, f: u16) -> (u16, u16)
     requires left { IsOfWidth w a }
@@ -210,7 +211,7 @@ pub fn logic(op: Op, w: Width, a: u16, b: u16, f: u16) -> (u16, u16)
     (r, szp(w, r, f))
 }
 
-/// ADD, ADC, SUB, SBB, CMP, AND, TEST, OR and XOR: the result and the flags word.
+/// ADD, ADC, SUB, SBB, CMP, AND, TEST, OR and XOR: the result and the flags word. For any other `op` `a` and `f` stay.
 #[tactic(auto, unfolding(o2_isa::specs::Alu::binary_of))]
 pub fn binary(op: Op, w: Width, a: u16, b: u16, f: u16) -> (u16, u16)
     requires left { IsOfWidth w a }
@@ -223,11 +224,12 @@ pub fn binary(op: Op, w: Width, a: u16, b: u16, f: u16) -> (u16, u16)
         Op::OpAdc => add(w, a, b, is_set(f, Flag::Carry), f),
         Op::OpSub | Op::OpCmp => sub(w, a, b, false, f),
         Op::OpSbb => sub(w, a, b, is_set(f, Flag::Carry), f),
-        _ => logic(op, w, a, b, f),
+        Op::OpAnd | Op::OpTest | Op::OpOr | Op::OpXor => logic(op, w, a, b, f),
+        _ => (a, f),
     }
 }
 
-/// INC, DEC, NEG and NOT: the result and the flags word.
+/// INC, DEC, NEG and NOT: the result and the flags word. For any other `op` `a` and `f` stay.
 #[tactic(auto, unfolding(o2_isa::specs::Alu::unary_of))]
 pub fn unary(op: Op, w: Width, a: u16, f: u16) -> (u16, u16)
     requires { IsOfWidth w a }

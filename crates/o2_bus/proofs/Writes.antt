@@ -7,7 +7,7 @@ use mathlib.Core.Path.{fun_ext}
 use Rattle.o2_isa.specs.declared.instr.Width.{Width}
 use Rattle.o2_isa.specs.declared.instr.Width.TheVariants.{Byte, Word}
 use Rattle.o2_isa.specs.declared.instr.Sreg.{Sreg}
-use Rattle.o2_isa.specs.View.{View, Hold, in_register, is_writable, reached, room_of, poke, poke_hold, put_at, width_len, outside}
+use Rattle.o2_isa.specs.View.{View, Hold, in_register, is_writable, reached, room_of, poke, poke_hold, with_bytes, put_at, width_len, outside}
 use Rattle.o2_isa.proofs.Pokes.{length_put_at}
 use Rattle.o2_bus.specs.declared.plain.Plain.{Plain}
 use Rattle.o2_bus.specs.declared.plain.Grant.{Grant}
@@ -42,6 +42,12 @@ pub room_of_grant : (nm : GName) (p : Plain) (pid : ℕ) (h : Holds) (g : Grant)
 unfolding room_of bus_view bytes_in
 room_of_grant nm p pid h g r k w e room =
     room_reaches (bus_view nm p pid h) (hold_of g) r k w (subst (λ (o : Option Hold). IsOk (reached o is_writable (bus_view nm p pid h) r k w)) (sym e) room)
+
+-- what has room is data that can be written
+pub room_is_writable : (nm : GName) (p : Plain) (pid : ℕ) (h : Holds) (g : Grant) (r : Sreg) (k : ℕ) (w : Width) → Some (hold_of g) ≡ in_register (registers_of h) r → IsOk (room_of (bus_view nm p pid h) r k w) → is_writable g.access ≡ true
+unfolding room_of bus_view
+room_is_writable nm p pid h g r k w e room =
+    (chosen_ok (is_writable g.access) _ _ (subst (λ (o : Option Hold). IsOk (reached o is_writable (bus_view nm p pid h) r k w)) (sym e) room)).0
 
 pub name_within : (xs : List Segment) (n k : ℕ) → k + 1 ≤ length (segment_bytes (slice_get xs n)) → n < length xs
 name_within [] n k h = absurd (omega arith)
@@ -78,14 +84,15 @@ size_after xs ys n bs h e m = go (m == n) refl
     go true t = ap (λ (j : ℕ). length (segment_bytes (slice_get ys j))) (eqb-true m n t) ∙ (ap length h.put ∙ (e ∙ ap (λ (j : ℕ). length (segment_bytes (slice_get xs j))) (sym (eqb-true m n t))))
     go false t = ap (λ o. length (segment_bytes o)) (h.others m (λ q. false≢true (sym t ∙ eq-eqb m n q)))
 
-pub view_after : (nm : GName) (p q : Plain) (pid : ℕ) (h : Holds) (g : Grant) (r : Sreg) (k : ℕ) (w : Width) (x : ℕ) → Some (hold_of g) ≡ in_register (registers_of h) r → PutsBytes p.segments.items q.segments.items g.name (put_at (segment_bytes (slice_get p.segments.items g.name)) k w x) → bus_view nm (record p { segments = q.segments }) pid h ≡ poke (bus_view nm p pid h) r k w x
+pub view_after : (nm : GName) (p q : Plain) (pid : ℕ) (h : Holds) (g : Grant) (r : Sreg) (k : ℕ) (w : Width) (x : ℕ) → Some (hold_of g) ≡ in_register (registers_of h) r → is_writable g.access ≡ true → PutsBytes p.segments.items q.segments.items g.name (put_at (segment_bytes (slice_get p.segments.items g.name)) k w x) → bus_view nm (record p { segments = q.segments }) pid h ≡ poke (bus_view nm p pid h) r k w x
 unfolding bus_view held_in bytes_in shown_in count_in poke
-view_after nm p q pid h g r k w x e puts_it =
+view_after nm p q pid h g r k w x e writable puts_it =
     same_view (bus_view nm p pid h) _ _ _ _ _ _ _ _
     (size_after _ _ _ _ puts_it (length_put_at (segment_bytes (slice_get p.segments.items g.name)) k w x))
     puts_it.same_shown
     (bytes_after _ _ _ _ puts_it)
     puts_it.same_count
+    ∙ ap (λ (b : Bool). cond b (with_bytes (bus_view nm p pid h) g.name (put_at ((bus_view nm p pid h).bytes g.name) k w x)) (bus_view nm p pid h)) (sym writable)
     ∙ ap (λ (o : Option Hold). poke_hold (bus_view nm p pid h) o k w x) e
 
 -- what has room has a hold

@@ -1,8 +1,9 @@
 // Checks and operands over any bus, each as the definitions of the instruction set have it.
-ghost use Rattle.std.specs.Prelude.{◌≡◌, ◌<◌, true, OnOk, IsOk};
+ghost use Rattle.std.specs.Prelude.{◌≡◌, ◌<◌, true, OnOk, IsOk, IfOk};
 ghost use Rattle.o2_isa.specs.declared.instr.Width.TheVariants.{Byte};
 ghost use Rattle.o2_isa.specs.Widths.{IsOfWidth};
 ghost use Rattle.o2_isa.specs.View.{probe_of, read_of, room_of, size_at, is_loadable};
+ghost use Rattle.o2_isa.specs.Meaning.{unlocked};
 ghost use Rattle.o2_isa.specs.Steps.{Gives, SameCheck, state, or_trap, passed, target, value_of, stored, selector, narrow};
 
 use crate::Bus;
@@ -10,11 +11,24 @@ use crate::registers::{
     byte_register, offset, segment_register, set_byte_register, set_word_register, word_register,
 };
 use o2_base::Selector;
-use o2_isa::{Arg, Cpu, Loaded, Purpose, Sreg, Stop, Width};
+use o2_isa::{Arg, Cpu, Instr, Loaded, Purpose, Sreg, Stop, Width};
+
+/// Whether an instruction has no LOCK prefix, which is trap 13 before all else.
+#[inline]
+pub fn check_unlocked(i: &Instr) -> Result<(), Stop>
+    ensures { SameCheck result (unlocked i.now) }
+{
+    if i.lock {
+        Err(Stop::Trap(13, 0))
+    } else {
+        Ok(())
+    }
+}
 
 /// A byte or word through a segment register, or a trap.
 pub fn read<B: Bus>(bus: &B, reg: Sreg, off: u16, width: Width) -> Result<u16, Stop>
-    ensures { result ≡ or_trap (read_of (B.view bus.now) reg off width) }
+    ensures value { result ≡ or_trap (read_of (B.view bus.now) reg off width) }
+    ensures fits { IfOk result (λ x. IsOfWidth width x) }
 {
     match bus.read(reg, off, width) {
         Ok(value) => Ok(value),

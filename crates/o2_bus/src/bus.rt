@@ -1,6 +1,7 @@
 // What an instruction asks of the segments of its process.
 ghost use Rattle.std.specs.Prelude.{◌≡◌, ◌<◌, ◌≤◌, ℕ, true, length, take, drop, IsOk, IfOk};
 ghost use Rattle.o2_isa.specs.declared.instr.Width.TheVariants.{Byte};
+ghost use Rattle.o2_isa.specs.Sizes.{IsSized};
 ghost use Rattle.o2_isa.specs.View.{View, probe_of, is_loadable, bind, read_of, room_of, poke, size_at, rights_at, fetched, SameRoom};
 
 use o2_base::Selector;
@@ -17,7 +18,8 @@ pub struct Caches {
     pub access: [u8; 4],
 }
 
-/// The segments of one process, as its processor sees them. Contracts see a bus as its `view`.
+/// The segments of one process, as its processor sees them. Contracts see a bus as its `view`. By the law `sized` each name that
+/// is present has as many bytes as its size says, 65,536 at most.
 pub trait Bus {
     ghost view: { Self → View };
 
@@ -62,4 +64,6 @@ pub trait Bus {
     /// exactly where it names neither.
     fn rights_of(&self, sel: Selector) -> Option<u8>
         ensures { result ≡ rights_at (view self.now) sel.0 };
+
+    ghost sized: { (b : Self) → IsSized (view b) };
 }

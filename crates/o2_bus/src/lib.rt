@@ -13,7 +13,7 @@ mod plain_parts;
 mod registers;
 mod segment;
 
-pub use access::{check_load, check_target, read, room, store, value};
+pub use access::{check_load, check_target, check_unlocked, read, room, store, value};
 pub use bus::{Bus, Caches};
 pub use o2_base::{NoMemory, Selector};
 pub use o2_isa::{Cpu, Loaded, Outcome, Purpose, Stop};
@@ -22,6 +22,6 @@ pub use outcome::outcome_of;
 pub use plain::{Grant, Plain};
 pub use plain_bus::{PlainBus, is_readable_byte, is_writable_byte};
 pub use registers::{
-    byte_register, offset, segment_register, set_byte_register, set_segment_register,
-    set_word_register, word_register,
+    accumulator, byte_register, offset, segment_register, set_accumulator, set_byte_register,
+    set_segment_register, set_word_register, word_register,
 };

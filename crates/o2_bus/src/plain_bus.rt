@@ -1,13 +1,15 @@
 // A bus over a plain memory of segments.
 ghost use Rattle.std.specs.Prelude.{◌≡◌, ◌<◌, ◌≤◌, ◌+◌, ◌*◌, ◌/◌, ◌%◌, ℕ, length, take, drop, IsOk, IfOk, option_map, None, Some};
 ghost use Rattle.o2_isa.specs.declared.instr.Width.TheVariants.{Byte};
-ghost use Rattle.o2_isa.specs.View.{with_register, in_register, bound_in, bound_registers, is_null, is_code, is_readable, is_writable, refused, here, when, called, gate_at, load_rules, outside, width_len, value_at, put_at, reached, read_name, SameRoom};
+ghost use Rattle.o2_isa.specs.View.{with_register, in_register, bound_in, bound_registers, is_null, is_code, is_readable, is_writable, shown_rights, refused, here, when, called, gate_at, load_rules, outside, width_len, value_at, put_at, reached, read_name, SameRoom};
 ghost use Rattle.std.specs.Prelude.{slice_get};
+ghost use Rattle.o2_bus.specs.Sized.{plain_sized};
 ghost use Rattle.o2_bus.specs.Plain.{hold_of, held_in, bus_view, view_in, registers_of, passes_of, absent_of, segment_bytes, PutsBytes};
 
 use crate::segment::Segment;
 use crate::{Bus, Grant, Plain};
 use o2_base::{Selector, is_built};
+use o2_desc::Access;
 use o2_isa::{Cpu, Loaded, Purpose, Sreg, Width};
 
 /// What the four segment registers hold.
@@ -85,26 +87,33 @@ fn with_hold(holds: Holds, reg: Sreg, grant: Option<Grant>) -> Holds
     }
 }
 
-// Access bytes.
+// Access bytes, as `Access` says of them.
 
 /// Whether a segment with this access byte may be read through.
 pub fn is_readable_byte(access: u8) -> bool
     ensures { result ≡ is_readable access }
 {
-    access == 0xFA || access == 0xF0 || is_writable_byte(access)
+    Access(access).is_readable()
 }
 
 /// Whether a segment with this access byte may be written through.
 pub fn is_writable_byte(access: u8) -> bool
     ensures { result ≡ is_writable access }
 {
-    access == 0xF2
+    Access(access).is_writable()
 }
 
 fn is_code_byte(access: u8) -> bool
     ensures { result ≡ is_code access }
 {
-    access == 0xFA || access == 0xF8
+    Access(access).is_code()
+}
+
+/// An access byte with present and accessed read as 1.
+fn shown(access: u8) -> u8
+    ensures { result ≡ shown_rights access }
+{
+    Access(access).with_present(true).marked().0
 }
 
 fn passes(purpose: Purpose, access: u8) -> bool
@@ -327,6 +336,8 @@ fn put_segment(segments: &mut [Segment], name: usize, at: usize, width: Width, v
 impl Bus for PlainBus<'_> {
     ghost view = { λ b. view_in b };
 
+    ghost sized = { plain_sized };
+
     #[tactic(auto, unfolding(crate::specs::Plain::bus_view, o2_isa::specs::View::fetched))]
     fn fetch(&self, ip: u16, into: &mut [u8; 10]) -> usize {
         match self.holds.cs {
@@ -381,9 +392,9 @@ impl Bus for PlainBus<'_> {
     #[tactic(auto, unfolding(crate::specs::Plain::bus_view, o2_isa::specs::View::rights_at))]
     fn rights_of(&self, sel: Selector) -> Option<u8> {
         match self.plain.found(self.pid, sel.0) {
-            Some(grant) => Some(grant.access / 2 % 64 * 2 + 129),
+            Some(grant) => Some(shown(grant.access)),
             None => match self.gate(sel.0) {
-                Some(_) => Some(0xE4),
+                Some(_) => Some(Access::CALL_GATE.0),
                 None => None,
             },
         }

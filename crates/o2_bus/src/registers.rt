@@ -1,8 +1,9 @@
 // Registers by number, and the offset of a memory operand.
 ghost use Rattle.std.specs.Prelude.{◌≡◌, ◌<◌, ◌^◌};
-ghost use Rattle.o2_isa.specs.Registers.{reg16, with_reg16, reg8, with_reg8, sreg, with_sreg, offset_of};
+ghost use Rattle.o2_isa.specs.Registers.{reg16, with_reg16, reg8, with_reg8, sreg, with_sreg, offset_of, accumulator as accumulator_of, with_accumulator};
+ghost use Rattle.o2_isa.specs.Widths.{IsOfWidth};
 
-use o2_isa::{Cpu, Ea, Sreg};
+use o2_isa::{Cpu, Ea, Sreg, Width};
 
 #[tactic(auto, unfolding(o2_isa::specs::Registers::reg16))]
 pub fn word_register(cpu: &Cpu, n: u8) -> u16
@@ -58,6 +59,31 @@ pub fn set_byte_register(cpu: &mut Cpu, n: u8, value: u16)
     } else {
         let old = word_register(cpu, n % 4);
         set_word_register(cpu, n % 4, value * 256 + old % 256);
+    }
+}
+
+/// AL or AX.
+#[inline]
+#[tactic(auto, unfolding(o2_isa::specs::Registers::reg8))]
+pub fn accumulator(width: Width, cpu: &Cpu) -> u16
+    ensures value { result ≡ accumulator_of width cpu.now }
+    ensures fits { IsOfWidth width result }
+{
+    match width {
+        Width::Byte => byte_register(cpu, 0),
+        Width::Word => word_register(cpu, 0),
+    }
+}
+
+/// Puts an element into AL or AX.
+#[inline]
+pub fn set_accumulator(width: Width, cpu: &mut Cpu, value: u16)
+    requires { IsOfWidth width value }
+    ensures { cpu.new ≡ with_accumulator width cpu.old value }
+{
+    match width {
+        Width::Byte => set_byte_register(cpu, 0, value),
+        Width::Word => set_word_register(cpu, 0, value),
     }
 }
 

@@ -48,9 +48,32 @@ with_present access present = access % 128 + (if present then 128 else 0)
 abbrev pub rights_of : ℕ → ℕ
 rights_of access = access % 128 / 2 * 2 + 128
 
--- the rights of the four kinds of segment: code that can be read, code, data that can be written, data
+-- The access bytes of the kinds of segment, present and with privilege level 3: code that can be read, code that can only be
+-- run, data that can be written, data that can only be read.
+
+abbrev pub readable_code : ℕ
+readable_code = 0xFA
+
+abbrev pub run_only_code : ℕ
+run_only_code = 0xF8
+
+abbrev pub writable_data : ℕ
+writable_data = 0xF2
+
+abbrev pub read_only_data : ℕ
+read_only_data = 0xF0
+
+-- the rights of these kinds
 abbrev pub is_kind : ℕ → Bool
-is_kind rights = rights == 250 || rights == 248 || rights == 242 || rights == 240
+is_kind rights = rights == readable_code || rights == run_only_code || rights == writable_data || rights == read_only_data
+
+-- the access byte of a call gate, present and with privilege level 3
+abbrev pub call_gate : ℕ
+call_gate = 0xE4
+
+-- the places of the flags; bits 1, 3, 5 and 15 are none
+abbrev pub flag_places : List ℕ
+flag_places = 0 ∷ 2 ∷ 4 ∷ 6 ∷ 7 ∷ 8 ∷ 9 ∷ 10 ∷ 11 ∷ 12 ∷ 13 ∷ 14 ∷ []
 
 -- the places of CF, PF, AF, ZF, SF, TF, DF, OF and NT, the flags that POPF and IRET may change
 abbrev pub popped_places : List ℕ
@@ -68,6 +91,14 @@ mask_of (k ∷ ks) = 2 ^ k + mask_of ks
 -- old, with the bits at the places as they are in word
 abbrev pub with_places : List ℕ → ℕ → ℕ → ℕ
 with_places places old word = bit_or (bit_and old (65535 - mask_of places)) (bit_and word (mask_of places))
+
+-- the flags word with no flag set, as it is read: bit 1 is 1
+abbrev pub no_flags : ℕ
+no_flags = 2 ^ 1
+
+-- the flags word as it is read: each flag, bit 1 as 1, and bits 3, 5 and 15 as 0
+abbrev pub shown : ℕ → ℕ
+shown word = with_places flag_places no_flags word
 
 -- the flags word after POPF or IRET popped a word
 abbrev pub popped : ℕ → ℕ → ℕ

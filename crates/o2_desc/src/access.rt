@@ -1,6 +1,6 @@
 // The access byte.
 ghost use Rattle.std.specs.Prelude.{⊤, ◌≡◌, ◌==◌, ◌||◌, true, IsTrue, [], ◌∷◌, codes};
-ghost use Rattle.o2_desc.specs.Bits.{is_present, is_accessed, is_segment, is_code, is_readable, is_writable, privilege_of, marked, with_present, rights_of, is_kind};
+ghost use Rattle.o2_desc.specs.Bits.{is_present, is_accessed, is_segment, is_code, is_readable, is_writable, privilege_of, marked, with_present, rights_of, is_kind, readable_code, run_only_code, writable_data, read_only_data};
 
 use bitflags::{Flag, Flags, bitflag_items};
 
@@ -51,6 +51,21 @@ impl Flags for Access {
 
 #[tactic(auto, using(crate::proofs::BitTests::tests))]
 impl Access {
+    /// Code that can be read, present and with privilege level 3.
+    pub const READABLE_CODE: Access = Access(0xFA);
+
+    /// Code that can only be run, present and with privilege level 3.
+    pub const RUN_ONLY_CODE: Access = Access(0xF8);
+
+    /// Data that can be written, present and with privilege level 3.
+    pub const WRITABLE_DATA: Access = Access(0xF2);
+
+    /// Data that can only be read, present and with privilege level 3.
+    pub const READ_ONLY_DATA: Access = Access(0xF0);
+
+    /// A call gate, present and with privilege level 3.
+    pub const CALL_GATE: Access = Access(0xE4);
+
     /// Whether the segment's bytes are in memory.
     pub fn is_present(self) -> bool
         ensures { result ≡ is_present self.0 }
@@ -75,7 +90,7 @@ impl Access {
     /// Whether the segment can be run: CS may be loaded with it.
     pub fn is_code(self) -> bool
         ensures value { result ≡ is_code self.0 }
-        ensures kinds { IsTrue (is_kind (rights_of self.0)) → result ≡ (rights_of self.0 == 250 || rights_of self.0 == 248) }
+        ensures kinds { IsTrue (is_kind (rights_of self.0)) → result ≡ (rights_of self.0 == readable_code || rights_of self.0 == run_only_code) }
     {
         self.contains(Access::SEGMENT) && self.contains(Access::EXECUTABLE)
     }
@@ -83,7 +98,7 @@ impl Access {
     /// Whether the segment can be read: DS and ES may be loaded with it.
     pub fn is_readable(self) -> bool
         ensures value { result ≡ is_readable self.0 }
-        ensures kinds { IsTrue (is_kind (rights_of self.0)) → result ≡ (rights_of self.0 == 250 || rights_of self.0 == 242 || rights_of self.0 == 240) }
+        ensures kinds { IsTrue (is_kind (rights_of self.0)) → result ≡ (rights_of self.0 == readable_code || rights_of self.0 == writable_data || rights_of self.0 == read_only_data) }
     {
         self.contains(Access::SEGMENT)
             && (!self.contains(Access::EXECUTABLE) || self.contains(Access::READ_WRITE))
@@ -92,7 +107,7 @@ impl Access {
     /// Whether the segment can be written: SS may be loaded with it.
     pub fn is_writable(self) -> bool
         ensures value { result ≡ is_writable self.0 }
-        ensures kinds { IsTrue (is_kind (rights_of self.0)) → result ≡ (rights_of self.0 == 242) }
+        ensures kinds { IsTrue (is_kind (rights_of self.0)) → result ≡ (rights_of self.0 == writable_data) }
     {
         self.contains(Access::SEGMENT)
             && !self.contains(Access::EXECUTABLE)
@@ -127,8 +142,7 @@ impl Access {
         self
     }
 
-    /// What it allows: with the present bit set and the accessed bit cleared. FA is code that can be read, F8 code, F2
-    /// data that can be written, F0 data.
+    /// What it allows: with the present bit set and the accessed bit cleared.
     pub fn rights(self) -> Access
         ensures value { result.0 ≡ rights_of self.0 }
         ensures once { rights_of result.0 ≡ result.0 }

@@ -97,6 +97,9 @@ fn flags_that_programs_write(rt: HostRuntime) {
     assert_eq!(rt; FlagsWord(0xFFFF).popped(0x0000).0, 0xB22A);
     assert_eq!(rt; FlagsWord(0x0202).loaded(0xFF).0, 0x02D7);
     assert_eq!(rt; FlagsWord(0xFFFF).loaded(0x00).0, 0xFF2A);
+    assert_eq!(rt; FlagsWord(0x0000).shown().0, 0x0002);
+    assert_eq!(rt; FlagsWord(0xFFFF).shown().0, 0x7FD7);
+    assert_eq!(rt; FlagsWord(0x8246).shown().0, 0x0246);
 }
 
 #[test]

@@ -1,6 +1,6 @@
 // The flags word.
 ghost use Rattle.std.specs.Prelude.{⊤, ◌≡◌, [], ◌∷◌, codes};
-ghost use Rattle.o2_desc.specs.Bits.{has_bit, popped, loaded, popped_places, loaded_places, TakesPlaces};
+ghost use Rattle.o2_desc.specs.Bits.{shown, popped, loaded, flag_places, popped_places, loaded_places, no_flags, TakesPlaces};
 
 use bitflags::{Flag, Flags, bitflag_items};
 
@@ -65,6 +65,12 @@ impl FlagsWord {
     /// The flags that POPF and IRET may change at ring 3: CF, PF, AF, ZF, SF, TF, DF, OF and NT.
     pub const POPPED: FlagsWord = FlagsWord(19925);
 
+    /// All flags: every bit but 1, 3, 5 and 15.
+    pub const SHOWN: FlagsWord = FlagsWord(32725);
+
+    /// No flag, as the word is read: bit 1 is 1.
+    pub const BARE: FlagsWord = FlagsWord(2);
+
     /// The flags after POPF or IRET popped this word: CF, PF, AF, ZF, SF, TF, DF, OF and NT are the word's, all other
     /// bits stay.
     pub fn popped(self, word: u16) -> FlagsWord
@@ -84,38 +90,12 @@ impl FlagsWord {
         kept.union(FlagsWord(u16::from(ah)).intersection(FlagsWord::LOADED))
     }
 
-    /// CF.
-    pub fn is_carry(self) -> bool
-        ensures { result ≡ has_bit self.0 0 }
+    /// The flags word as it is read: each flag, bit 1 as 1, and bits 3, 5 and 15 as 0.
+    pub fn shown(self) -> FlagsWord
+        ensures value { result.0 ≡ shown self.0 }
+        ensures bits { TakesPlaces flag_places no_flags self.0 result.0 }
     {
-        self.contains(FlagsWord::CARRY)
-    }
-
-    /// ZF.
-    pub fn is_zero(self) -> bool
-        ensures { result ≡ has_bit self.0 6 }
-    {
-        self.contains(FlagsWord::ZERO)
-    }
-
-    /// TF: after the step comes trap 1.
-    pub fn is_trap(self) -> bool
-        ensures { result ≡ has_bit self.0 8 }
-    {
-        self.contains(FlagsWord::TRAP)
-    }
-
-    /// DF: string instructions go down.
-    pub fn is_direction(self) -> bool
-        ensures { result ≡ has_bit self.0 10 }
-    {
-        self.contains(FlagsWord::DIRECTION)
-    }
-
-    /// NT: an IRET would return to another task.
-    pub fn is_nested(self) -> bool
-        ensures { result ≡ has_bit self.0 14 }
-    {
-        self.contains(FlagsWord::NESTED)
+        let bare = FlagsWord::BARE.difference(FlagsWord::SHOWN);
+        bare.union(self.intersection(FlagsWord::SHOWN))
     }
 }

@@ -16,7 +16,7 @@ use crate::shifts::execute_shift;
 use crate::stack::{
     execute_pop, execute_popa, execute_popf, execute_push, execute_pusha, execute_pushf,
 };
-use o2_bus::{Bus, outcome_of};
+use o2_bus::{Bus, check_unlocked, outcome_of};
 use o2_isa::{Cpu, Instr, Op, Outcome, Sreg, Stop};
 
 fn execute_one<B: Bus>(cpu: &mut Cpu, bus: &mut B, i: &Instr, next: u16) -> Result<(), Stop>
@@ -72,11 +72,8 @@ fn execute_unlocked<B: Bus>(cpu: &mut Cpu, bus: &mut B, i: &Instr, next: u16) ->
     requires group { group_of i.now.op ≡ Data }
     ensures { Gives result (state cpu.new (B.view bus.new)) (state cpu.old (B.view bus.old)) (meaning (state cpu.old (B.view bus.old)) i.now next) }
 {
-    if i.lock {
-        Err(Stop::Trap(13, 0))
-    } else {
-        execute_one(cpu, bus, i, next)
-    }
+    check_unlocked(i)?;
+    execute_one(cpu, bus, i, next)
 }
 
 /// One data instruction, with the IP behind it: what it means, or a miss that leaves registers and bytes as they were.

@@ -1,6 +1,5 @@
 // CLC, STC, CMC, CLD, STD, SAHF and LAHF.
 ghost use Rattle.std.specs.Prelude.{◌≡◌};
-ghost use Rattle.o2_isa.specs.Finishing.{shown_flags};
 ghost use Rattle.o2_isa.specs.DataFlags.{flags_after};
 ghost use Rattle.o2_isa.specs.Steps.{Gives, state, run};
 ghost use Rattle.o2_isa.specs.DataFlags.{flagging, sahf, lahf, wait};
@@ -9,15 +8,6 @@ use o2_alu::{is_set, with_flag};
 use o2_bus::{Bus, set_byte_register};
 use o2_desc::FlagsWord;
 use o2_isa::{Cpu, Flag, Op, Stop};
-
-/// The flags word as it is read: bit 1 is 1, and bits 3, 5 and 15 are 0.
-#[inline]
-#[tactic(auto, unfolding(o2_isa::specs::Finishing::shown_flags))]
-pub fn shown(flags: u16) -> u16
-    ensures { result ≡ shown_flags flags }
-{
-    flags & 0x7FD5 | 2
-}
 
 #[inline]
 #[tactic(auto, unfolding(o2_isa::specs::DataFlags::flags_after))]
@@ -56,7 +46,7 @@ pub fn execute_sahf<B: Bus>(cpu: &mut Cpu, bus: &mut B, next: u16) -> Result<(),
 pub fn execute_lahf<B: Bus>(cpu: &mut Cpu, bus: &mut B, next: u16) -> Result<(), Stop>
     ensures { Gives result (state cpu.new (B.view bus.new)) (state cpu.old (B.view bus.old)) (run (lahf cpu.old next) (B.view bus.old)) }
 {
-    let low = shown(cpu.flags) % 256;
+    let low = FlagsWord(cpu.flags).shown().0 % 256;
     set_byte_register(cpu, 4, low);
     cpu.ip = next;
     Ok(())

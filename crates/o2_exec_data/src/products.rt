@@ -2,23 +2,10 @@
 ghost use Rattle.std.specs.Prelude.{◌≡◌, ◌<◌};
 ghost use Rattle.o2_isa.specs.Widths.{IsOfWidth, IsOfTwice};
 ghost use Rattle.o2_isa.specs.Steps.{Gives, state, run};
-ghost use Rattle.o2_isa.specs.DataArith.{accumulator as factor_of, wide, with_wide, with_quotient, mul as mul_steps, imul_three, div as div_steps};
+ghost use Rattle.o2_isa.specs.DataArith.{wide, with_wide, with_quotient, mul as mul_steps, imul_three, div as div_steps};
 
-use o2_bus::{Bus, finish, operand};
+use o2_bus::{Bus, accumulator, finish, operand};
 use o2_isa::{Cpu, Instr, Stop, Width};
-
-/// The factor in AL or AX.
-#[inline]
-fn accumulator(cpu: &Cpu, width: Width) -> u16
-    ensures value { result ≡ factor_of cpu.now width }
-    ensures fits { IsOfWidth width result }
-{
-    let ax = cpu.ax;
-    match width {
-        Width::Byte => ax % 256,
-        Width::Word => ax,
-    }
-}
 
 /// The dividend in AX or DX:AX.
 #[inline]
@@ -71,7 +58,7 @@ pub fn execute_mul<B: Bus>(
     ensures { Gives result (state cpu.new (B.view bus.new)) (state cpu.old (B.view bus.old)) (run (mul_steps signed cpu.old i.now next) (B.view bus.old)) }
 {
     let b = operand(cpu, bus, i.width, &i.left)?;
-    let (r, f) = o2_alu::mul(i.width, signed, accumulator(cpu, i.width), b, cpu.flags);
+    let (r, f) = o2_alu::mul(i.width, signed, accumulator(i.width, cpu), b, cpu.flags);
     set_product(cpu, i.width, r);
     cpu.flags = f;
     cpu.ip = next;

@@ -3,7 +3,6 @@ ghost use Rattle.std.specs.Prelude.{◌≡◌};
 ghost use Rattle.o2_isa.specs.Steps.{Gives, state, run};
 ghost use Rattle.o2_isa.specs.DataStack.{pushing, push, pushf, pop, pop_sreg, pop_into, popf, pusha, popa};
 
-use crate::flags::shown;
 use crate::pointers::load_selector;
 use o2_bus::{Bus, read, room, store, value};
 use o2_desc::FlagsWord;
@@ -34,7 +33,7 @@ pub fn execute_push<B: Bus>(cpu: &mut Cpu, bus: &mut B, arg: &Arg, next: u16) ->
 pub fn execute_pushf<B: Bus>(cpu: &mut Cpu, bus: &mut B, next: u16) -> Result<(), Stop>
     ensures { Gives result (state cpu.new (B.view bus.new)) (state cpu.old (B.view bus.old)) (run (pushf cpu.old next) (B.view bus.old)) }
 {
-    let x = shown(cpu.flags);
+    let x = FlagsWord(cpu.flags).shown().0;
     push_word(cpu, bus, x, next)
 }
 

@@ -17,7 +17,7 @@ use crate::privileged::always_stops;
 use crate::protection::{execute_arpl, execute_lar, execute_lsl, execute_verify};
 use crate::returns::{execute_iret, execute_ret, execute_retf};
 use o2_alu::is_set;
-use o2_bus::{Bus, outcome_of};
+use o2_bus::{Bus, check_unlocked, outcome_of};
 use o2_isa::{Cpu, Flag, Instr, Op, Outcome, Stop};
 
 /// A conditional jump.
@@ -90,11 +90,8 @@ fn execute_unlocked<B: Bus>(cpu: &mut Cpu, bus: &mut B, i: &Instr, next: u16) ->
     requires group { group_of i.now.op ≡ Flow }
     ensures { Gives result (state cpu.new (B.view bus.new)) (state cpu.old (B.view bus.old)) (meaning (state cpu.old (B.view bus.old)) i.now next) }
 {
-    if i.lock {
-        Err(Stop::Trap(13, 0))
-    } else {
-        execute_one(cpu, bus, i, next)
-    }
+    check_unlocked(i)?;
+    execute_one(cpu, bus, i, next)
 }
 
 /// One flow instruction, with the IP behind it: what it means, or a miss that leaves registers and bytes as they were.

@@ -24,6 +24,7 @@ pub fn always_stops(op: Op) -> Stop
         | Op::OpLidt
         | Op::OpLmsw
         | Op::OpClts => Stop::Trap(13, 0),
+        Op::OpSldt | Op::OpStr | Op::OpSgdt | Op::OpSidt | Op::OpSmsw => Stop::Trap(6, 0),
         _ => Stop::Trap(6, 0),
     }
 }

@@ -7,6 +7,7 @@ ghost use Rattle.o2_exec_flow.specs.Asked.{asked};
 
 use o2_alu::with_flag;
 use o2_bus::{Bus, store, value};
+use o2_desc::Access;
 use o2_isa::{Arg, Cpu, Flag, Instr, Selector, Stop, Width};
 
 fn set_zero(cpu: &mut Cpu, on: bool)
@@ -84,17 +85,17 @@ pub fn execute_lsl<B: Bus>(cpu: &mut Cpu, bus: &mut B, i: &Instr, next: u16) -> 
     tell(cpu, bus, i, next, said)
 }
 
-/// Whether an access byte, accessed, allows writes or else reads.
+/// Whether an access byte allows writes or else reads.
 fn has_rights(writes: bool, rights: Option<u8>) -> bool
     ensures { result ≡ has_rights_of (asked writes) rights }
 {
     match rights {
         Some(rights) => {
-            let held = rights.saturating_sub(1);
+            let allowed = Access(rights).rights();
             if writes {
-                held == 0xF2
+                allowed.is_writable()
             } else {
-                held == 0xFA || held == 0xF2 || held == 0xF0
+                allowed.is_readable()
             }
         }
         None => false,

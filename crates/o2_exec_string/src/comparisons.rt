@@ -4,9 +4,9 @@ ghost use Rattle.o2_isa.specs.Widths.{IsOfWidth};
 ghost use Rattle.o2_isa.specs.Steps.{Gives, state, run};
 ghost use Rattle.o2_isa.specs.StringRows.{compared, cmps, scas};
 
-use crate::parts::{accumulator, element, move_source, move_target, repeat};
+use crate::parts::{move_source, move_target, repeat};
 use o2_alu::sub;
-use o2_bus::Bus;
+use o2_bus::{Bus, accumulator, read};
 use o2_isa::{Cpu, Instr, Sreg, Stop, Width};
 
 /// The flags of a comparison.
@@ -23,8 +23,8 @@ fn compare(cpu: &mut Cpu, width: Width, a: u16, b: u16)
 pub fn execute_cmps<B: Bus>(cpu: &mut Cpu, bus: &B, i: &Instr, next: u16) -> Result<(), Stop>
     ensures { Gives result (state cpu.new (B.view bus.now)) (state cpu.old (B.view bus.now)) (run (cmps cpu.old i.now next) (B.view bus.now)) }
 {
-    let a = element(bus, i.seg, cpu.si, i.width)?;
-    let b = element(bus, Sreg::Es, cpu.di, i.width)?;
+    let a = read(bus, i.seg, cpu.si, i.width)?;
+    let b = read(bus, Sreg::Es, cpu.di, i.width)?;
     move_source(cpu, i.width);
     move_target(cpu, i.width);
     compare(cpu, i.width, a, b);
@@ -36,7 +36,7 @@ pub fn execute_cmps<B: Bus>(cpu: &mut Cpu, bus: &B, i: &Instr, next: u16) -> Res
 pub fn execute_scas<B: Bus>(cpu: &mut Cpu, bus: &B, i: &Instr, next: u16) -> Result<(), Stop>
     ensures { Gives result (state cpu.new (B.view bus.now)) (state cpu.old (B.view bus.now)) (run (scas cpu.old i.now next) (B.view bus.now)) }
 {
-    let x = element(bus, Sreg::Es, cpu.di, i.width)?;
+    let x = read(bus, Sreg::Es, cpu.di, i.width)?;
     let a = accumulator(i.width, cpu);
     move_target(cpu, i.width);
     compare(cpu, i.width, a, x);

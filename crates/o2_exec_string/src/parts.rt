@@ -1,25 +1,9 @@
-// What the string instructions share: an element, the indexes, the accumulator, and the count.
-ghost use Rattle.std.specs.Prelude.{◌≡◌, ◌<◌, ◌&&◌, OnOk, IfOk};
-ghost use Rattle.o2_isa.specs.declared.instr.Width.TheVariants.{Byte};
-ghost use Rattle.o2_isa.specs.View.{read_of};
-ghost use Rattle.o2_isa.specs.Widths.{IsOfWidth};
-ghost use Rattle.o2_isa.specs.Steps.{or_trap};
-ghost use Rattle.o2_isa.specs.StringRows.{moved, accumulator as accumulator_of, with_accumulator, ends_by_zero, counted, repeated, source_moved, target_moved, is_over as is_over_of};
+// What the string instructions share: the indexes and the count.
+ghost use Rattle.std.specs.Prelude.{◌≡◌, ◌&&◌};
+ghost use Rattle.o2_isa.specs.StringRows.{moved, ends_by_zero, counted, repeated, source_moved, target_moved, is_over as is_over_of};
 
 use o2_alu::is_set;
-use o2_bus::{Bus, byte_register, set_byte_register, set_word_register, word_register};
-use o2_isa::{Cpu, Flag, Rep, Sreg, Stop, Width};
-
-/// An element through a segment register, or a trap.
-pub fn element<B: Bus>(bus: &B, reg: Sreg, off: u16, width: Width) -> Result<u16, Stop>
-    ensures value { result ≡ or_trap (read_of (B.view bus.now) reg off width) }
-    ensures fits { IfOk result (λ x. IsOfWidth width x) }
-{
-    match bus.read(reg, off, width) {
-        Ok(value) => Ok(value),
-        Err((vector, code)) => Err(Stop::Trap(vector, code)),
-    }
-}
+use o2_isa::{Cpu, Flag, Rep, Width};
 
 /// An index one element on: up, or down with DF.
 #[tactic(auto, unfolding(o2_isa::specs::StringRows::moved))]
@@ -49,29 +33,6 @@ pub fn move_target(cpu: &mut Cpu, width: Width)
     ensures { cpu.new ≡ target_moved width cpu.old }
 {
     cpu.di = index_after(cpu.flags, width, cpu.di);
-}
-
-/// AL or AX.
-#[tactic(auto, unfolding(o2_isa::specs::Registers::reg8))]
-pub fn accumulator(width: Width, cpu: &Cpu) -> u16
-    ensures value { result ≡ accumulator_of width cpu.now }
-    ensures fits { IsOfWidth width result }
-{
-    match width {
-        Width::Byte => byte_register(cpu, 0),
-        Width::Word => word_register(cpu, 0),
-    }
-}
-
-/// Puts an element into AL or AX.
-pub fn set_accumulator(width: Width, cpu: &mut Cpu, value: u16)
-    requires { IsOfWidth width value }
-    ensures { cpu.new ≡ with_accumulator width cpu.old value }
-{
-    match width {
-        Width::Byte => set_byte_register(cpu, 0, value),
-        Width::Word => set_word_register(cpu, 0, value),
-    }
 }
 
 /// Whether a comparison with these flags ends the repetition.

@@ -9,7 +9,7 @@ ghost use Rattle.o2_isa.specs.Step.{Answers};
 use crate::comparisons::{execute_cmps, execute_scas};
 use crate::moves::{execute_lods, execute_movs, execute_stos};
 use crate::parts::is_over;
-use o2_bus::{Bus, outcome_of};
+use o2_bus::{Bus, check_unlocked, outcome_of};
 use o2_isa::{Cpu, Instr, Op, Outcome, Stop};
 
 /// One repetition.
@@ -42,11 +42,8 @@ fn execute_unlocked<B: Bus>(cpu: &mut Cpu, bus: &mut B, i: &Instr, next: u16) ->
     requires group { group_of i.now.op ≡ Strings }
     ensures { Gives result (state cpu.new (B.view bus.new)) (state cpu.old (B.view bus.old)) (meaning (state cpu.old (B.view bus.old)) i.now next) }
 {
-    if i.lock {
-        Err(Stop::Trap(13, 0))
-    } else {
-        execute_counted(cpu, bus, i, next)
-    }
+    check_unlocked(i)?;
+    execute_counted(cpu, bus, i, next)
 }
 
 /// One repetition of a string instruction, with the IP behind it: what it means; a trap leaves registers and bytes as they

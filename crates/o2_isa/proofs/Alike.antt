@@ -18,7 +18,8 @@ use Rattle.o2_isa.specs.declared.cpu.Loaded.{Loaded}
 use Rattle.o2_isa.specs.declared.cpu.Loaded.TheVariants as loaded
 use Rattle.o2_isa.specs.declared.cpu.Stop.{Stop}
 use Rattle.o2_isa.specs.declared.cpu.Stop.TheVariants as stop
-use Rattle.o2_isa.specs.View.{is_loadable, present_hold, View, Hold, Filling, whole, KeepsFrame, IsBound, present_or_none, put_at, value_at, width_len, outside, is_readable, is_writable, is_code, is_null, is_local, reached, read_name, read_of, room_of, probe_of, found, when, here, refused, size_at, rights_at, gate_at, bind, poke, poke_hold, in_register, trap_of, through_gate, called, Rest, Hidden, Registers, with_register, bound_in, bound_registers, Agrees}
+use Rattle.o2_isa.proofs.Pokes.{poke_cases}
+use Rattle.o2_isa.specs.View.{with_bytes, is_loadable, present_hold, View, Hold, Filling, whole, KeepsFrame, IsBound, present_or_none, put_at, value_at, width_len, outside, is_readable, is_writable, is_code, is_null, is_local, reached, read_name, read_of, room_of, probe_of, found, when, here, refused, size_at, rights_at, gate_at, bind, poke, poke_hold, in_register, trap_of, through_gate, called, Rest, Hidden, Registers, with_register, bound_in, bound_registers, Agrees}
 use Rattle.o2_isa.specs.Presence.{with_unseen, unseen_result, with_binds, SameSelectors, AsWhole, names_after, hold_name, loaded_names, is_in, IsMissed, IsRow, WritesFirst, OnlyBinds}
 use Rattle.o2_isa.specs.Steps.{State, state, Steps, Stops, Ends, Reads, Room, Loads, Sizes, Rights, Change, Bind, Write, Copy, changed, word_there, value_or_zero, or_trap, passed, selector, run, ◌>>=◌}
 
@@ -73,7 +74,7 @@ with_all v bs = record v { bytes = bs }
 
 poke_hold_whole : (h : Filling) (v : View) (o : Option Hold) (k : ℕ) (w : Width) (x : ℕ) → present_or_none v.present o ≡ true → poke_hold (whole h v) o k w x ≡ whole h (poke_hold v o k w x)
 poke_hold_whole h v None k w x e = refl
-poke_hold_whole h v (Some y) k w x e = ap (with_all (whole h v)) (fun_ext at_name)
+poke_hold_whole h v (Some y) k w x e = where_writable (is_writable y.rights)
   where
     at_name : (m : ℕ) → cond (m == y.name) (put_at ((whole h v).bytes y.name) k w x) ((whole h v).bytes m) ≡ cond (v.present m) (cond (m == y.name) (put_at (v.bytes y.name) k w x) (v.bytes m)) (v.hidden.away m h.blocks)
     at_name m = go (m == y.name) refl
@@ -82,9 +83,12 @@ poke_hold_whole h v (Some y) k w x e = ap (with_all (whole h v)) (fun_ext at_nam
         go true q = ap (λ bs. put_at bs k w x) (bytes_whole h v y e) ∙ sym (ap (λ (b : Bool). cond b (put_at (v.bytes y.name) k w x) (v.hidden.away m h.blocks)) (ap v.present (eqb-true m y.name q) ∙ e))
         go false q = refl
 
+    where_writable : (b : Bool) → cond b (with_bytes (whole h v) y.name (put_at ((whole h v).bytes y.name) k w x)) (whole h v) ≡ whole h (cond b (with_bytes v y.name (put_at (v.bytes y.name) k w x)) v)
+    where_writable true = ap (with_all (whole h v)) (fun_ext at_name)
+    where_writable false = refl
+
 bound_poke : (v : View) (o : Option Hold) (k : ℕ) (w : Width) (x : ℕ) → IsBound v → IsBound (poke_hold v o k w x)
-bound_poke v None k w x b = b
-bound_poke v (Some y) k w x b = b
+bound_poke v o k w x b = poke_cases IsBound v o k w x b (λ y e t. b)
 
 binds_whole : (h : Filling) (cs : List Change) (v : View) → OnlyBinds cs → changed cs (whole h v) ≡ whole h (changed cs v)
 unfolding bind
@@ -233,8 +237,9 @@ frame_refl : (v : View) → KeepsFrame v v
 frame_refl v = record { held = refl; gate = refl; size = refl; present = refl; discarded = refl; rest = refl; hidden = refl }
 
 frame_poke : (u v : View) (o : Option Hold) (k : ℕ) (w : Width) (x : ℕ) → KeepsFrame u v → KeepsFrame u (poke_hold v o k w x)
-frame_poke u v None k w x f = f
-frame_poke u v (Some y) k w x f = record { held = f.held; gate = f.gate; size = f.size; present = f.present; discarded = f.discarded; rest = f.rest; hidden = f.hidden }
+frame_poke u v o k w x f =
+    poke_cases (λ (z : View). KeepsFrame u z) v o k w x f
+    (λ y e t. record { held = f.held; gate = f.gate; size = f.size; present = f.present; discarded = f.discarded; rest = f.rest; hidden = f.hidden })
 
 frame_changed : (u : View) (cs : List Change) (v : View) → KeepsFrame u v → KeepsFrame u (changed cs v)
 unfolding bind poke
@@ -343,7 +348,11 @@ loaded_present h (Rights s f) v bound clear n i =
 
 poke_unseen : (u : Rest) (h : Hidden) (v : View) (o : Option Hold) (k : ℕ) (w : Width) (x : ℕ) → poke_hold (with_unseen u h v) o k w x ≡ with_unseen u h (poke_hold v o k w x)
 poke_unseen u h v None k w x = refl
-poke_unseen u h v (Some y) k w x = refl
+poke_unseen u h v (Some y) k w x = where_writable (is_writable y.rights)
+  where
+    where_writable : (b : Bool) → cond b (with_bytes (with_unseen u h v) y.name (put_at (v.bytes y.name) k w x)) (with_unseen u h v) ≡ with_unseen u h (cond b (with_bytes v y.name (put_at (v.bytes y.name) k w x)) v)
+    where_writable true = refl
+    where_writable false = refl
 
 reached_unseen : (u : Rest) (h : Hidden) (v : View) (o : Option Hold) (ok : ℕ → Bool) (r : Sreg) (k : ℕ) (w : Width) → reached o ok (with_unseen u h v) r k w ≡ reached o ok v r k w
 reached_unseen u h v None ok r k w = refl
@@ -431,8 +440,7 @@ bound_load held c Ss s = refl
 bound_load held c Ds s = refl
 
 agrees_poke : (c : Cpu) (v : View) (o : Option Hold) (k : ℕ) (w : Width) (x : ℕ) → Agrees c v → Agrees c (poke_hold v o k w x)
-agrees_poke c v None k w x a = a
-agrees_poke c v (Some y) k w x a = a
+agrees_poke c v o k w x a = poke_cases (λ (z : View). Agrees c z) v o k w x a (λ y e t. a)
 
 agrees_changed : (c : Cpu) (cs : List Change) (v : View) → Agrees c v → Agrees (with_binds cs c) (changed cs v)
 unfolding bind poke

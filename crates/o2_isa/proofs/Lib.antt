@@ -15,3 +15,4 @@ pub mod BackedData
 pub mod BackedFlow
 pub mod SpelledLoads
 pub mod Sizes
+pub mod Writes

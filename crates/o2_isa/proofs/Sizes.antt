@@ -1,6 +1,6 @@
 -- A step changes bytes and never how many there are.
 use Rattle.std.proofs.Common.{◌≡◌, ◌∙◌, refl, sym, ap, subst, ℕ, List, [], ◌∷◌}
-use Rattle.std.specs.Prelude.{Result, Ok, Err, Option, Some, None}
+use Rattle.std.specs.Prelude.{Result, Ok, Err, Option}
 use Rattle.o2_isa.specs.declared.instr.Width.{Width}
 use Rattle.o2_isa.specs.declared.instr.Width.TheVariants.{Word}
 use Rattle.o2_isa.specs.declared.cpu.Stop.{Stop}
@@ -10,14 +10,13 @@ use Rattle.o2_isa.specs.View.{View, Hold, in_register, bind, poke, poke_hold, re
 use Rattle.o2_isa.specs.Steps.{State, Steps, Stops, Ends, Reads, Room, Loads, Sizes, Rights, Change, Bind, Write, Copy, changed, word_there, or_trap, passed, selector, run, ◌>>=◌}
 use Rattle.o2_isa.specs.Step.{Answers, stepped, step_steps}
 use Rattle.o2_isa.specs.Sizes.{KeepsLengths}
-use Rattle.o2_isa.proofs.Pokes.{length_after}
+use Rattle.o2_isa.proofs.Pokes.{length_after, poke_cases}
 
 then_kept : (u v w : View) → KeepsLengths u v → KeepsLengths v w → KeepsLengths u w
 then_kept u v w a b = λ n. b n ∙ a n
 
 lengths_poke : (v : View) (o : Option Hold) (k : ℕ) (w : Width) (x : ℕ) → KeepsLengths v (poke_hold v o k w x)
-lengths_poke v None k w x = λ n. refl
-lengths_poke v (Some h) k w x = λ n. length_after v h.name n k w x
+lengths_poke v o k w x = poke_cases (λ (z : View). KeepsLengths v z) v o k w x (λ n. refl) (λ h e t n. length_after v h.name n k w x)
 
 lengths_changed : (cs : List Change) (v : View) → KeepsLengths v (changed cs v)
 unfolding bind poke

@@ -9,7 +9,8 @@ use Rattle.o2_isa.specs.declared.instr.Op.TheVariants.{OpMovs, OpCmps, OpStos, O
 use Rattle.o2_isa.specs.declared.instr.Instr.{Instr}
 use Rattle.o2_isa.specs.declared.cpu.Cpu.{Cpu}
 use Rattle.o2_isa.specs.Steps.{Ends, next_at}
-use Rattle.o2_isa.specs.StringRows.{repeated, with_accumulator, source_moved, target_moved, movs, stos, lods, cmps, scas, one_string, is_over, string_steps}
+use Rattle.o2_isa.specs.Registers.{with_accumulator}
+use Rattle.o2_isa.specs.StringRows.{repeated, source_moved, target_moved, movs, stos, lods, cmps, scas, one_string, is_over, string_steps}
 use Rattle.o2_isa.specs.Presence.{IsRow, SameSelectors}
 use Rattle.o2_isa.proofs.RowParts.{kept, word_kept, byte_kept}
 

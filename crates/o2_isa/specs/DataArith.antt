@@ -14,6 +14,7 @@ use Rattle.o2_isa.specs.Alu.{binary_of, unary_of}
 use Rattle.o2_isa.specs.Shifts.{shift_of}
 use Rattle.o2_isa.specs.Products.{mul_of, mul_low_of, div_of}
 use Rattle.o2_isa.specs.Adjust.{adjust_of}
+use Rattle.o2_isa.specs.Registers.{accumulator}
 use Rattle.o2_isa.specs.Steps.{Steps, Stops, Ends}
 use Rattle.o2_isa.specs.Finishing.{taking, finishing, ended}
 
@@ -50,11 +51,6 @@ shift op c i next =
     let r = shift_of op i.width a count c.flags in
     finishing c i.width (shifted_into count i.left) r.0 r.1 next))
 
--- the factor in AL or AX
-abbrev pub accumulator : Cpu → Width → ℕ
-accumulator c Byte = c.ax % 256
-accumulator c Word = c.ax
-
 -- the dividend in AX or DX:AX
 abbrev pub wide : Cpu → Width → ℕ
 wide c Byte = c.ax
@@ -65,11 +61,11 @@ abbrev pub with_wide : Cpu → Width → ℕ → Cpu
 with_wide c Byte x = record c { ax = x % 65536 }
 with_wide c Word x = record c { ax = x % 65536; dx = x / 65536 }
 
--- MUL, and IMUL where signed
+-- MUL, and IMUL where signed: the other factor is in AL or AX
 unfoldable pub mul : Bool → Cpu → Instr → ℕ → Steps
 mul signed c i next =
     taking c i.width i.left (λ b.
-    let r = mul_of i.width signed (accumulator c i.width) b c.flags in
+    let r = mul_of i.width signed (accumulator i.width c) b c.flags in
     Ends (ended (with_wide c i.width r.0) r.1 next) [])
 
 -- IMUL with three operands

@@ -7,8 +7,8 @@ use Rattle.o2_isa.specs.declared.cpu.Cpu.{Cpu}
 use Rattle.o2_isa.specs.Flags.{put, is_set}
 use Rattle.o2_isa.specs.Registers.{with_reg8}
 use Rattle.o2_isa.specs.Steps.{Steps, Ends, next_at}
-use Rattle.o2_desc.specs.Bits.{loaded}
-use Rattle.o2_isa.specs.Finishing.{ended, shown_flags}
+use Rattle.o2_desc.specs.Bits.{loaded, shown}
+use Rattle.o2_isa.specs.Finishing.{ended}
 
 unfoldable pub flags_after : Op → ℕ → ℕ
 flags_after OpClc f = put f Carry false
@@ -26,7 +26,7 @@ sahf c next = Ends (ended c (loaded c.flags (c.ax / 256)) next) []
 
 -- AH is the low byte of the flags word
 unfoldable pub lahf : Cpu → ℕ → Steps
-lahf c next = Ends (next_at (with_reg8 c 4 (shown_flags c.flags % 256)) next) []
+lahf c next = Ends (next_at (with_reg8 c 4 (shown c.flags % 256)) next) []
 
 unfoldable pub wait : Cpu → ℕ → Steps
 wait c next = Ends (next_at c next) []

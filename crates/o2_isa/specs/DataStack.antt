@@ -7,8 +7,7 @@ use Rattle.o2_isa.specs.declared.instr.Arg.{Arg}
 use Rattle.o2_isa.specs.declared.instr.Arg.TheVariants as arg
 use Rattle.o2_isa.specs.declared.cpu.Cpu.{Cpu}
 use Rattle.o2_isa.specs.Steps.{Steps, Ends, Reads, Room, Change, Write, valued, storing, below, above}
-use Rattle.o2_desc.specs.Bits.{popped}
-use Rattle.o2_isa.specs.Finishing.{shown_flags}
+use Rattle.o2_desc.specs.Bits.{popped, shown}
 use Rattle.o2_isa.specs.DataMoves.{loading}
 
 -- SP falls by 2, and the word is stored there
@@ -20,7 +19,7 @@ unfoldable pub push : Cpu → Arg → ℕ → Steps
 push c a next = valued c Word a (λ x. pushing c x next)
 
 unfoldable pub pushf : Cpu → ℕ → Steps
-pushf c next = pushing c (shown_flags c.flags) next
+pushf c next = pushing c (shown c.flags) next
 
 -- the word at SS:SP, and SP rises by 2; the destination is written last
 abbrev pub raised : Cpu → Cpu

@@ -1,6 +1,6 @@
 -- How most instructions begin and end: an operand taken as a number of the width, and a result put into an operand together
 -- with the flags word and IP.
-use Rattle.std.specs.Prelude.{ℕ, ◌%◌, [], ◌∷◌, Result, Ok, bit_and, bit_or}
+use Rattle.std.specs.Prelude.{ℕ, ◌%◌, [], ◌∷◌, Result, Ok}
 use Rattle.o2_isa.specs.declared.instr.Width.{Width}
 use Rattle.o2_isa.specs.declared.instr.Arg.{Arg}
 use Rattle.o2_isa.specs.declared.instr.Arg.TheVariants as arg
@@ -36,9 +36,3 @@ finishing c w (arg.M ea) x f next = Room ea.seg (offset_of c ea) w (Ends (ended 
 finishing c w (arg.R8 n) x f next = Ends (ended (with_reg8 c n (x % 256)) f next) []
 finishing c w (arg.R16 n) x f next = Ends (ended (with_reg16 c n x) f next) []
 finishing c w _ x f next = Ends (ended c f next) []
-
--- The flags word as a whole.
-
--- as it is read: bit 1 is 1, and bits 3, 5 and 15 are 0
-unfoldable pub shown_flags : ℕ → ℕ
-shown_flags f = bit_or (bit_and f 0x7FD5) 2

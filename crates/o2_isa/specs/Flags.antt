@@ -1,5 +1,5 @@
 -- The flags word of the 80286: the place of each flag, and one flag read or put.
-use Rattle.std.specs.Prelude.{ℕ, ◌+◌, ◌*◌, ◌/◌, ◌%◌, ◌^◌, Bool, true, false, ◌==◌, nat_le, if◌then◌else◌, count_ones}
+use Rattle.std.specs.Prelude.{ℕ, ◌+◌, ◌*◌, ◌/◌, ◌%◌, ◌^◌, Bool, true, false, ◌==◌, nat_le, if◌then◌else◌, count_ones, List, [], ◌∷◌}
 use Rattle.o2_isa.specs.declared.instr.Width.{Width}
 use Rattle.o2_isa.specs.declared.flags.Flag.{Flag}
 use Rattle.o2_isa.specs.declared.flags.Flag.TheVariants.{Carry, Parity, Auxiliary, Zero, Sign, Trap, Interrupt, Direction, Overflow, PrivilegeLow, PrivilegeHigh, Nested}
@@ -19,6 +19,18 @@ flag_number Overflow = 11
 flag_number PrivilegeLow = 12
 flag_number PrivilegeHigh = 13
 flag_number Nested = 14
+
+-- all flags
+abbrev pub every_flag : List Flag
+every_flag = Carry ∷ Parity ∷ Auxiliary ∷ Zero ∷ Sign ∷ Trap ∷ Interrupt ∷ Direction ∷ Overflow ∷ PrivilegeLow ∷ PrivilegeHigh ∷ Nested ∷ []
+
+-- those that POPF and IRET may change at privilege level 3
+abbrev pub popped_flags : List Flag
+popped_flags = Carry ∷ Parity ∷ Auxiliary ∷ Zero ∷ Sign ∷ Trap ∷ Direction ∷ Overflow ∷ Nested ∷ []
+
+-- those that SAHF changes
+abbrev pub loaded_flags : List Flag
+loaded_flags = Carry ∷ Parity ∷ Auxiliary ∷ Zero ∷ Sign ∷ []
 
 abbrev pub weight : Flag → ℕ
 weight k = 2 ^ flag_number k

@@ -51,6 +51,7 @@ condition OpJl f = is_less f
 condition OpJge f = not (is_less f)
 condition OpJle f = is_set f Zero || is_less f
 condition OpJg f = not (is_set f Zero || is_less f)
+-- no other mnemonic is one of these
 condition _ f = false
 
 -- CX falls by 1, and where it isn't 0 then and `more` holds, IP moves

@@ -1,5 +1,6 @@
 -- Instructions that ask about selectors.
-use Rattle.std.specs.Prelude.{ℕ, ◌+◌, ◌-◌, ◌*◌, ◌/◌, ◌%◌, Bool, true, false, nat_lt, if◌then◌else◌, Option, Some, None, []}
+use Rattle.std.specs.Prelude.{ℕ, ◌+◌, ◌*◌, ◌/◌, ◌%◌, Bool, true, false, nat_lt, if◌then◌else◌, Option, Some, None, []}
+use Rattle.o2_desc.specs.Bits.{rights_of}
 use Rattle.o2_isa.specs.declared.instr.Width.TheVariants.{Word}
 use Rattle.o2_isa.specs.declared.instr.Instr.{Instr}
 use Rattle.o2_isa.specs.declared.flags.Flag.TheVariants.{Zero}
@@ -32,9 +33,9 @@ lar c i next = valued c Word i.right (λ s. Rights s (λ r. told c i next (high_
 unfoldable pub lsl : Cpu → Instr → ℕ → Steps
 lsl c i next = valued c Word i.right (λ s. Sizes s (λ n. told c i next (limit_of n)))
 
--- ZF says whether the selector names a segment with such rights, by its access byte without the accessed bit, which is read as 1
+-- ZF says whether the selector names a segment with such rights
 abbrev pub has_rights : (ℕ → Bool) → Option ℕ → Bool
-has_rights ok (Some r) = ok (r - 1)
+has_rights ok (Some r) = ok (rights_of r)
 has_rights ok None = false
 
 unfoldable pub verify : (ℕ → Bool) → Cpu → Instr → ℕ → Steps

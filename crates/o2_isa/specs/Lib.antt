@@ -32,3 +32,4 @@ pub mod Sums
 pub mod Widths
 pub mod Parts
 pub mod Sizes
+pub mod Writes

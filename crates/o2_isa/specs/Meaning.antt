@@ -1,7 +1,7 @@
 -- What instructions mean: a row for each mnemonic, by group.
-use Rattle.std.specs.Prelude.{ℕ, if◌then◌else◌, Result}
+use Rattle.std.specs.Prelude.{ℕ, if◌then◌else◌, Result, Ok, Err}
 use Rattle.o2_isa.specs.declared.instr.Op.{Op}
-use Rattle.o2_isa.specs.declared.instr.Op.TheVariants.{OpJo, OpJno, OpJb, OpJae, OpJe, OpJne, OpJbe, OpJa, OpJs, OpJns, OpJp, OpJnp, OpJl, OpJge, OpJle, OpJg, OpLoop, OpLoope, OpLoopne, OpJcxz, OpJmp, OpJmpFar, OpJmpAt, OpJmpFarAt, OpCall, OpCallFar, OpCallAt, OpCallFarAt, OpRet, OpRetf, OpIret, OpInt, OpIntThree, OpInto, OpBound, OpEnter, OpLeave, OpLar, OpLsl, OpVerr, OpVerw, OpArpl, OpEsc, OpIn, OpOut, OpIns, OpOuts, OpCli, OpSti, OpHlt, OpSldt, OpStr, OpLldt, OpLtr, OpSgdt, OpSidt, OpLgdt, OpLidt, OpSmsw, OpLmsw, OpClts, OpMovs, OpCmps, OpStos, OpLods, OpScas}
+use Rattle.o2_isa.specs.declared.instr.Op.TheVariants.{OpJo, OpJno, OpJb, OpJae, OpJe, OpJne, OpJbe, OpJa, OpJs, OpJns, OpJp, OpJnp, OpJl, OpJge, OpJle, OpJg, OpLoop, OpLoope, OpLoopne, OpJcxz, OpJmp, OpJmpFar, OpJmpAt, OpJmpFarAt, OpCall, OpCallFar, OpCallAt, OpCallFarAt, OpRet, OpRetf, OpIret, OpInt, OpIntThree, OpInto, OpBound, OpEnter, OpLeave, OpLar, OpLsl, OpVerr, OpVerw, OpArpl, OpEsc, OpIn, OpOut, OpIns, OpOuts, OpCli, OpSti, OpHlt, OpSldt, OpStr, OpLldt, OpLtr, OpSgdt, OpSidt, OpLgdt, OpLidt, OpSmsw, OpLmsw, OpClts, OpMovs, OpCmps, OpStos, OpLods, OpScas, OpAdd, OpOr, OpAdc, OpSbb, OpAnd, OpSub, OpXor, OpCmp, OpPush, OpPop, OpDaa, OpDas, OpAaa, OpAas, OpInc, OpDec, OpPusha, OpPopa, OpImulThree, OpTest, OpXchg, OpMov, OpLea, OpCbw, OpCwd, OpWait, OpPushf, OpPopf, OpSahf, OpLahf, OpRol, OpRor, OpRcl, OpRcr, OpShl, OpShr, OpSar, OpLes, OpLds, OpAam, OpAad, OpXlat, OpCmc, OpClc, OpStc, OpCld, OpStd, OpNot, OpNeg, OpMul, OpImul, OpDiv, OpIdiv}
 use Rattle.o2_isa.specs.declared.instr.Instr.{Instr}
 use Rattle.o2_isa.specs.declared.groups.Group.{Group}
 use Rattle.o2_isa.specs.declared.groups.Group.TheVariants.{Data, Flow, Strings}
@@ -80,7 +80,59 @@ group_of OpCmps = Strings
 group_of OpStos = Strings
 group_of OpLods = Strings
 group_of OpScas = Strings
-group_of _ = Data
+group_of OpAdd = Data
+group_of OpOr = Data
+group_of OpAdc = Data
+group_of OpSbb = Data
+group_of OpAnd = Data
+group_of OpSub = Data
+group_of OpXor = Data
+group_of OpCmp = Data
+group_of OpPush = Data
+group_of OpPop = Data
+group_of OpDaa = Data
+group_of OpDas = Data
+group_of OpAaa = Data
+group_of OpAas = Data
+group_of OpInc = Data
+group_of OpDec = Data
+group_of OpPusha = Data
+group_of OpPopa = Data
+group_of OpImulThree = Data
+group_of OpTest = Data
+group_of OpXchg = Data
+group_of OpMov = Data
+group_of OpLea = Data
+group_of OpCbw = Data
+group_of OpCwd = Data
+group_of OpWait = Data
+group_of OpPushf = Data
+group_of OpPopf = Data
+group_of OpSahf = Data
+group_of OpLahf = Data
+group_of OpRol = Data
+group_of OpRor = Data
+group_of OpRcl = Data
+group_of OpRcr = Data
+group_of OpShl = Data
+group_of OpShr = Data
+group_of OpSar = Data
+group_of OpLes = Data
+group_of OpLds = Data
+group_of OpAam = Data
+group_of OpAad = Data
+group_of OpXlat = Data
+group_of OpCmc = Data
+group_of OpClc = Data
+group_of OpStc = Data
+group_of OpCld = Data
+group_of OpStd = Data
+group_of OpNot = Data
+group_of OpNeg = Data
+group_of OpMul = Data
+group_of OpImul = Data
+group_of OpDiv = Data
+group_of OpIdiv = Data
 
 abbrev pub group_steps : Group → Cpu → Instr → ℕ → Steps
 group_steps Data c i next = data_steps i.op c i next
@@ -88,6 +140,9 @@ group_steps Flow c i next = flow_steps i.op c i next
 group_steps Strings c i next = string_steps i.op c i next
 
 -- a LOCK prefix traps before all else
+abbrev pub unlocked : Instr → Result ℕ Stop
+unlocked i = if i.lock then Err (stop.Trap 13 0) else Ok 0
+
 unfoldable pub steps_of : Cpu → Instr → ℕ → Steps
 steps_of c i next = if i.lock then Stops (stop.Trap 13 0) else group_steps (group_of i.op) c i next
 

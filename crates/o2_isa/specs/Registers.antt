@@ -1,5 +1,7 @@
 -- Registers by number, and the offset of a memory operand.
 use Rattle.std.specs.Prelude.{ℕ, ◌+◌, ◌*◌, ◌/◌, ◌%◌, ◌==◌, nat_lt, if◌then◌else◌}
+use Rattle.o2_isa.specs.declared.instr.Width.{Width}
+use Rattle.o2_isa.specs.declared.instr.Width.TheVariants.{Byte, Word}
 use Rattle.o2_isa.specs.declared.instr.Ea.{Ea}
 use Rattle.o2_isa.specs.declared.instr.Sreg.{Sreg}
 use Rattle.o2_isa.specs.declared.instr.Sreg.TheVariants.{Es, Cs, Ss, Ds}
@@ -18,6 +20,15 @@ reg8 c n = if nat_lt n 4 then reg16 c n % 256 else reg16 c (n % 4) / 256
 
 unfoldable pub with_reg8 : Cpu → ℕ → ℕ → Cpu
 with_reg8 c n x = if nat_lt n 4 then with_reg16 c n (reg16 c n / 256 * 256 + x) else with_reg16 c (n % 4) (x * 256 + reg16 c (n % 4) % 256)
+
+-- AL or AX
+abbrev pub accumulator : Width → Cpu → ℕ
+accumulator Byte c = reg8 c 0
+accumulator Word c = reg16 c 0
+
+abbrev pub with_accumulator : Width → Cpu → ℕ → Cpu
+with_accumulator Byte c x = with_reg8 c 0 x
+with_accumulator Word c x = with_reg16 c 0 x
 
 abbrev pub sreg : Cpu → Sreg → ℕ
 sreg c Es = c.es

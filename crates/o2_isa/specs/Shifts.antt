@@ -25,6 +25,7 @@ once OpRcr w x = (x.0 / 2 + (if x.1 then half w else 0), low x.0)
 once OpShl w x = (x.0 * 2 % modulus w, top w x.0)
 once OpShr w x = (x.0 / 2, low x.0)
 once OpSar w x = (x.0 / 2 + (if top w x.0 then half w else 0), low x.0)
+-- no other mnemonic is a shift or rotation: value and CF stay
 once _ w x = x
 
 abbrev pub repeated : ℕ → Op → Width → ℕ × Bool → ℕ × Bool
@@ -40,14 +41,18 @@ shift_overflow OpShr w a r c = top w a
 shift_overflow OpSar w a r c = false
 shift_overflow OpRor w a r c = differs (top w r) (top w (r * 2 % modulus w))
 shift_overflow OpRcr w a r c = differs (top w r) (top w (r * 2 % modulus w))
-shift_overflow _ w a r c = differs (top w r) c
+shift_overflow OpRol w a r c = differs (top w r) c
+shift_overflow OpRcl w a r c = differs (top w r) c
+shift_overflow OpShl w a r c = differs (top w r) c
+shift_overflow _ w a r c = false
 
 -- a rotation leaves SF, ZF and PF
 abbrev pub is_rotation : Op → Bool
-is_rotation OpShl = false
-is_rotation OpShr = false
-is_rotation OpSar = false
-is_rotation _ = true
+is_rotation OpRol = true
+is_rotation OpRor = true
+is_rotation OpRcl = true
+is_rotation OpRcr = true
+is_rotation _ = false
 
 -- the flags after n bits, where n isn't 0
 unfoldable pub shift_flags : Op → Width → ℕ → ℕ → ℕ → Bool → ℕ → ℕ

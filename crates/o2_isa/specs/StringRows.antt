@@ -1,7 +1,6 @@
 -- The meanings of the string instructions: one repetition a step.
 use Rattle.std.specs.Prelude.{ℕ, ◌+◌, ◌-◌, ◌%◌, ◌==◌, ◌&&◌, ◌||◌, Bool, true, false, not, if◌then◌else◌, [], ◌∷◌}
 use Rattle.o2_isa.specs.declared.instr.Width.{Width}
-use Rattle.o2_isa.specs.declared.instr.Width.TheVariants.{Byte, Word}
 use Rattle.o2_isa.specs.declared.instr.Sreg.TheVariants.{Es}
 use Rattle.o2_isa.specs.declared.instr.Rep.{Rep}
 use Rattle.o2_isa.specs.declared.instr.Rep.TheVariants.{No, Equal, NotEqual}
@@ -14,21 +13,12 @@ use Rattle.o2_isa.specs.declared.cpu.Stop.TheVariants as stop
 use Rattle.o2_isa.specs.Flags.{is_set}
 use Rattle.o2_isa.specs.Sums.{sub_of}
 use Rattle.o2_isa.specs.View.{width_len}
-use Rattle.o2_isa.specs.Registers.{reg8, reg16, with_reg8, with_reg16}
+use Rattle.o2_isa.specs.Registers.{accumulator, with_accumulator}
 use Rattle.o2_isa.specs.Steps.{Steps, Stops, Ends, Reads, Room, Write, next_at, one_less}
 
 -- an index goes on by the width: up, or down with DF
 unfoldable pub moved : ℕ → Width → ℕ → ℕ
 moved f w x = if is_set f Direction then (x + 65536 - width_len w) % 65536 else (x + width_len w) % 65536
-
--- AL or AX
-abbrev pub accumulator : Width → Cpu → ℕ
-accumulator Byte c = reg8 c 0
-accumulator Word c = reg16 c 0
-
-abbrev pub with_accumulator : Width → Cpu → ℕ → Cpu
-with_accumulator Byte c x = with_reg8 c 0 x
-with_accumulator Word c x = with_reg16 c 0 x
 
 -- a comparison ends a repetition by its ZF
 abbrev pub ends_by_zero : Rep → ℕ → Bool

@@ -3,6 +3,8 @@
 use Rattle.std.specs.Prelude.{◌≡◌, ℕ, ◌+◌, ◌-◌, ◌*◌, ◌/◌, ◌%◌, Bool, true, false, ◌&&◌, ◌||◌, ◌==◌, nat_lt, nat_le, if◌then◌else◌, List, [], length, slice_index, slice_set, take, drop, Option, Some, None, option_map, Result, Ok, Err}
 use Rattle.std.specs.Borrow.{GName}
 use Rattle.o2_base.specs.Services.{is_built}
+use Rattle.o2_desc.specs.Bits.{marked, with_present, call_gate}
+pub use Rattle.o2_desc.specs.Bits.{is_code, is_readable, is_writable}
 use Rattle.o2_base.specs.declared.selector.Selector.{Selector}
 use Rattle.o2_isa.specs.declared.instr.Width.{Width}
 use Rattle.o2_isa.specs.declared.instr.Width.TheVariants.{Byte, Word}
@@ -155,16 +157,7 @@ simple_view held present bytes registers = record {
   hidden = no_hidden;
 }
 
--- Loads. Access bytes: FA readable code, F8 execute-only code, F2 writable data, F0 read-only data.
-
-abbrev pub is_code : ℕ → Bool
-is_code r = r == 250 || r == 248
-
-abbrev pub is_readable : ℕ → Bool
-is_readable r = r == 250 || r == 242 || r == 240
-
-abbrev pub is_writable : ℕ → Bool
-is_writable r = r == 242
+-- Loads. What an access byte allows is said by its bits: is_code, is_readable and is_writable.
 
 -- an exception with the selector's index and table as its code
 abbrev pub trap_of : ℕ → ℕ → Loaded
@@ -257,9 +250,9 @@ with_bytes v n bs = record v { bytes = λ m. if m == n then bs else v.bytes m }
 
 abbrev pub poke_hold : View → Option Hold → ℕ → Width → ℕ → View
 poke_hold v None k w x = v
-poke_hold v (Some h) k w x = with_bytes v h.name (put_at (v.bytes h.name) k w x)
+poke_hold v (Some h) k w x = if is_writable h.rights then with_bytes v h.name (put_at (v.bytes h.name) k w x) else v
 
--- the value put at a place of the segment in a register
+-- the value put at a place of the segment in a register, which has to be data that can be written
 unfoldable pub poke : View → Sreg → ℕ → Width → ℕ → View
 poke v r k w x = poke_hold v (in_register v.registers r) k w x
 
@@ -269,12 +262,11 @@ size_at v s = option_map (λ h. v.size h.name) (found v s)
 
 -- an access byte with present and accessed read as 1
 abbrev pub shown_rights : ℕ → ℕ
-shown_rights r = r / 2 % 64 * 2 + 129
+shown_rights r = marked (with_present r true)
 
--- a gate's access byte is E4
 abbrev pub rights_or_gate : Option Hold → Option ℕ → Option ℕ
 rights_or_gate (Some h) g = Some (shown_rights h.rights)
-rights_or_gate None (Some k) = Some 228
+rights_or_gate None (Some k) = Some call_gate
 rights_or_gate None None = None
 
 -- the access byte of the segment or the gate that a selector names

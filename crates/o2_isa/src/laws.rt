@@ -11,6 +11,7 @@ ghost use Rattle.o2_isa.specs.Meaning.{steps_of};
 ghost use Rattle.o2_isa.specs.Presence.{IsMissed, IsRow, whole_state, unseen, is_in};
 ghost use Rattle.o2_isa.specs.SegmentLoads.{LoadsByRules, BindsLoaded};
 ghost use Rattle.o2_isa.specs.Sizes.{KeepsLengths};
+ghost use Rattle.o2_isa.specs.Writes.{WritesData};
 ghost use Rattle.o2_isa.specs.Step.{Answers, AsBoundless, stepped, step_names, is_miss};
 
 /// Every mnemonic checks before it changes anything, writes before it binds, binds the selectors that it leaves, and has one
@@ -42,6 +43,12 @@ pub fn steps_keep()
 /// level 3.
 pub fn segment_registers_are_loaded_by_rules()
     ensures { (o : Outcome) (new old : State) → Answers o new old (stepped old) → LoadsByRules old.view old.cpu new.cpu }
+{}
+
+/// A step changes the bytes of a name only where a segment register held it as data that can be written: code and data that can
+/// only be read never change.
+pub fn steps_write_data_alone()
+    ensures { (o : Outcome) (new old : State) → Answers o new old (stepped old) → WritesData old.view new.view }
 {}
 
 /// What a step leaves in a segment register was there before, or is a name that the step loads: so a step needs the names in its

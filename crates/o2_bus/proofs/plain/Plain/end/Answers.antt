@@ -1,4 +1,3 @@
-use Rattle.std.proofs.Common.{◌∙◌, rules}
 use Rattle.o2_bus.specs.Plain.{held_in, bytes_in, shown_in, count_in}
 use Rattle.o2_bus.specs.Ends.{is_held_in}
 use Rattle.o2_bus.proofs.plain.Plain.end.Goals as goal

@@ -6,7 +6,7 @@ use Rattle.o2_isa.specs.View.{put_at}
 use Rattle.o2_bus.specs.declared.plain.Plain.{Plain}
 use Rattle.o2_bus.specs.declared.segment.Segment.{Segment}
 use Rattle.o2_bus.specs.Plain.{PutsBytes, segment_bytes}
-use Rattle.o2_bus.proofs.Writes.{room_of_grant, grant_within, view_after, no_room_without}
+use Rattle.o2_bus.proofs.Writes.{room_of_grant, room_is_writable, grant_within, view_after, no_room_without}
 use Rattle.o2_bus.proofs.plain_bus.PlainBusBus.write.Goals as goal
 
 pub put_segment-requires-clause-named : goal.put_segment-requires-clause-named
@@ -23,6 +23,7 @@ returns-in-Some c =
     let name = c.in-Some.grant.name in
     let over = subst (λ (xs : List Segment). PutsBytes xs ws name (put_at (segment_bytes (slice_get xs name)) c.args.off c.args.width c.args.value)) c.deref_mut.ensures.value c.put_segment.ensures in
     view_after c.args.self.now.plain.ghost_name c.args.self.now.plain.now new c.args.self.now.pid c.args.self.now.holds c.in-Some.grant c.args.reg c.args.off c.args.width c.args.value c.in-Some.ensures
+    (room_is_writable c.args.self.now.plain.ghost_name c.args.self.now.plain.now c.args.self.now.pid c.args.self.now.holds c.in-Some.grant c.args.reg c.args.off c.args.width c.in-Some.ensures c.requires.room)
     (subst (λ (ys : List Segment). PutsBytes s.items ys name (put_at (segment_bytes (slice_get s.items name)) c.args.off c.args.width c.args.value))
     (sym (with_items_is s ws (c.put_segment.auto.segments ∙ c.deref_mut.ensures.len))) over)
 
