@@ -5,3 +5,4 @@ pub mod SignLaws
 pub mod ShiftLaws
 pub mod RotateLaws
 pub mod ControlLaws
+pub mod DecimalLaws

@@ -1,12 +1,13 @@
 // What a reader expects of the definitions. Each law is a function with nothing to do: its clauses are the law.
 
-ghost use Rattle.std.specs.Prelude.{◌≡◌, ◌≢◌, ◌<◌, ◌+◌, ◌-◌, ◌*◌, ◌/◌, ◌%◌, ◌^◌, ◌==◌, ◌+ℤ◌, ◌*ℤ◌, false, true, nat_le, nat_lt, int_lt, unsigned_abs, IfSome};
+ghost use Rattle.std.specs.Prelude.{◌≡◌, ◌≢◌, ◌<◌, ◌+◌, ◌-◌, ◌*◌, ◌/◌, ◌%◌, ◌^◌, ◌==◌, ◌+ℤ◌, ◌*ℤ◌, false, true, nat_le, nat_lt, int_lt, unsigned_abs, IfSome, option_map, Some};
 ghost use Rattle.o2_isa.specs.declared.flags.Flag.{Flag};
 ghost use Rattle.o2_isa.specs.Widths.{modulus, IsOfWidth, signed, signed_of_twice};
 ghost use Rattle.o2_isa.specs.Flags.{put, is_set, is_status};
-ghost use Rattle.o2_isa.specs.Sums.{add_of, sub_of, increment_of, decrement_of, negate_of};
+ghost use Rattle.o2_isa.specs.Sums.{bit, add_of, sub_of, increment_of, decrement_of, negate_of};
 ghost use Rattle.o2_isa.specs.Shifts.{differs, shift_of, shift_times};
 ghost use Rattle.o2_alu.specs.AtOnce.{bits};
+ghost use Rattle.o2_alu.specs.Decimal.{packed};
 ghost use Rattle.o2_isa.specs.Products.{mul_value, mul_of, div_of};
 ghost use Rattle.o2_isa.specs.Adjust.{aam_value, aad_value, adjust_of};
 ghost use Rattle.o2_isa.specs.Alu.{binary_of, unary_of};
@@ -85,6 +86,27 @@ pub fn idiv_divides(w: Width, a: u32, b: u16)
 pub fn aad_undoes_aam(ax: u16, base: u8)
     requires { 0 < base }
     ensures { aad_value (aam_value ax base) base ≡ ax % 256 }
+{}
+
+/// DAA after ADD or ADC of two packed decimals: AL is their decimal sum, CF says that it needs a third digit, and AH stays.
+pub fn daa_adds(a: u8, b: u8, carry: bool, ah: u8, f: u16)
+    requires left { a < 100 }
+    requires right { b < 100 }
+    ensures { let sum = add_of Width.Byte (packed a) (packed b) carry f in
+        let r = adjust_of Op.OpDaa (256 * ah + sum.0) 0 sum.1 in
+        (option_map (λ x. x.0) r ≡ Some (256 * ah + packed ((a + b + bit carry) % 100)))
+        × (option_map (λ x. is_set x.1 Flag.Carry) r ≡ Some (nat_le 100 (a + b + bit carry))) }
+{}
+
+/// DAS after SUB or SBB of two packed decimals: AL is their decimal difference modulo 100, CF says that it is below 0, and AH
+/// stays.
+pub fn das_subtracts(a: u8, b: u8, borrow: bool, ah: u8, f: u16)
+    requires left { a < 100 }
+    requires right { b < 100 }
+    ensures { let difference = sub_of Width.Byte (packed a) (packed b) borrow f in
+        let r = adjust_of Op.OpDas (256 * ah + difference.0) 0 difference.1 in
+        (option_map (λ x. x.0) r ≡ Some (256 * ah + packed ((a + 100 - b - bit borrow) % 100)))
+        × (option_map (λ x. is_set x.1 Flag.Carry) r ≡ Some (nat_lt a (b + bit borrow))) }
 {}
 
 /// A shift or rotation by `n` gives the value and CF of `n` single ones.

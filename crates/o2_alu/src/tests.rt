@@ -3,7 +3,7 @@
 ghost use Rattle.std.specs.Prelude.{◌<◌, IsTrue};
 ghost use Rattle.o2_isa.specs.Widths.{IsOfWidth, IsOfTwice};
 
-use crate::{add, adjust, binary, div, mul, shift, unary};
+use crate::{add, adjust, binary, div, mul, shift, sub, unary};
 use o2_isa::{Op, Width};
 
 /// What a byte addition leaves in the flags word 0202h, by the bits of operands and sum.
@@ -27,6 +27,42 @@ fn all_byte_additions(rt: HostRuntime) {
         let (r, f) = add(Width::Byte, a, b, carry == 1, 0x202);
         assert_eq!(rt; r, sum & 0xFF, "{a} + {b}");
         assert_eq!(rt; f, flags_by_bits(a, b, sum), "{a} + {b}");
+    }
+}
+
+/// A number below 100 as two decimal digits in a byte.
+fn packed(n: u16) -> u16
+    requires { n < 100 }
+    ensures { result < 256 }
+{
+    n / 10 * 16 + n % 10
+}
+
+#[test]
+fn daa_of_all_packed_decimals(rt: HostRuntime) {
+    for n in 0..20_000u32 {
+        let a = (n % 100) as u16;
+        let b = (n / 100 % 100) as u16;
+        let carry = n / 10_000 == 1;
+        let total = a + b + (if carry { 1 } else { 0 });
+        let (sum, f) = add(Width::Byte, packed(a), packed(b), carry, 0x202);
+        let (ax, g) = adjust(Op::OpDaa, 0x1200 + sum, 0, f).unwrap_or((0, 0));
+        assert_eq!(rt; ax, 0x1200 + packed(total % 100), "{a} + {b}");
+        assert_eq!(rt; g % 2, total / 100, "{a} + {b}");
+    }
+}
+
+#[test]
+fn das_of_all_packed_decimals(rt: HostRuntime) {
+    for n in 0..20_000u32 {
+        let a = (n % 100) as u16;
+        let b = (n / 100 % 100) as u16;
+        let borrow = n / 10_000 == 1;
+        let taken = b + (if borrow { 1 } else { 0 });
+        let (difference, f) = sub(Width::Byte, packed(a), packed(b), borrow, 0x202);
+        let (ax, g) = adjust(Op::OpDas, 0x1200 + difference, 0, f).unwrap_or((0, 0));
+        assert_eq!(rt; ax, 0x1200 + packed((a + 100 - taken) % 100), "{a} - {b}");
+        assert_eq!(rt; g % 2, if a < taken { 1 } else { 0 }, "{a} - {b}");
     }
 }
 
