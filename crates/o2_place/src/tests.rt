@@ -66,7 +66,9 @@ fn unused_ids_go_first(rt: HostRuntime) -> Result<(), Fail> {
     clock.touch(1);
     clock.touch(3);
     clock.touch(5);
-    assert!(rt; matches!(clock.victim(&[1]), Some(3 | 5)));
+    assert_eq!(rt; clock.victim(&[1]), Some(3));
+    clock.touch(3);
+    assert_eq!(rt; clock.victim(&[1]), Some(5));
     clock.touch(5);
     assert_eq!(rt; clock.victim(&[1]), Some(3));
     clock.leave(3);
@@ -76,5 +78,21 @@ fn unused_ids_go_first(rt: HostRuntime) -> Result<(), Fail> {
     assert_eq!(rt; clock.victim(&[]), Some(1));
     clock.leave(1);
     assert_eq!(rt; clock.victim(&[]), None);
+    Ok(())
+}
+
+#[test]
+fn used_ids_go_in_turn(rt: HostRuntime) -> Result<(), Fail> {
+    let mut clock = Clock::new(rt.alloc(), 3)?;
+    clock.touch(0);
+    clock.touch(1);
+    clock.touch(2);
+    assert_eq!(rt; clock.victim(&[]), Some(0));
+    clock.touch(0);
+    clock.touch(1);
+    clock.touch(2);
+    assert_eq!(rt; clock.victim(&[]), Some(1));
+    clock.leave(1);
+    assert_eq!(rt; clock.victim(&[]), Some(2));
     Ok(())
 }
