@@ -1,6 +1,6 @@
 -- One block goes from the top of a pile to another.
 use Rattle.std.proofs.lemmas.Option.{slice_get-get_or, slice_get_cases}
-use Rattle.std.proofs.Common.{◌^◌, slice_get, Some, None, replicate, ◌≡◌, ◌≢◌, ℕ, zero, suc, ◌+◌, ◌-◌, ◌<◌, ◌≤◌, inl, inr, List, length, [], ◌∷◌, ◌++◌, get_or, set, refl, sym, ap, ◌∙◌, arith, sum_by, add-one}
+use Rattle.std.proofs.Common.{◌^◌, slice_get, Some, None, replicate, ◌≡◌, ◌≢◌, ℕ, zero, suc, ◌+◌, ◌-◌, ◌<◌, ◌≤◌, inl, inr, List, length, [], ◌∷◌, ◌++◌, get_or, set, refl, sym, subst, ap, ◌∙◌, arith, sum_by, add-one}
 use Rattle.std.proofs.lemmas.List.{places, get_or-set_other, get_or-set_same, length-set, get_or-map, get_or_past, get_or-replicate, length-replicate}
 use Rattle.std.proofs.lemmas.List.Sums.{sum_by-set, sum_by-cons, get_or-le-sum_by}
 use Rattle.std.proofs.lemmas.Bool.{cases_lt, cases_eq}
@@ -245,3 +245,7 @@ fresh_map bs ps most n size each e small few =
 
 pub names_below : (bs : List Block) (ps : List Pile) → ArePiles bs ps → (i k : ℕ) → k < length (get_or (lists_of bs ps) i []) → get_or (get_or (lists_of bs ps) i []) k 0 < sum_by (λ (xs : List ℕ). length xs) (lists_of bs ps)
 names_below bs ps h i k l = rw (all_is bs ps h) (none_names bs ps h i k l).0
+
+-- the pile of an owner names it
+pub pile_at : (bs : List Block) (ps : List Pile) (i : ℕ) (p : Pile) → p ≡ get_or ps i no_pile → i < length ps → ArePiles bs ps → IsPile bs i p.top p.count
+pile_at bs ps i p e l h = subst (λ (q : Pile). IsPile bs i q.top q.count) (sym e) (h.each i l)

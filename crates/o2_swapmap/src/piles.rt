@@ -64,6 +64,20 @@ pub(crate) fn walk(blocks: &[Block], owner: u32, top: u32, count: u32, k: u32) -
     at
 }
 
+/// Writes the blocks of a pile into the front of a list, each at its place from the bottom.
+pub(crate) fn list_out(blocks: &[Block], owner: u32, top: u32, count: u32, into: &mut [u32])
+    requires pile { IsPile blocks.now owner top count }
+    requires small { length blocks.now ≤ 65536 }
+    requires room { count ≤ length into.old }
+    ensures { (j : ℕ) → j < count → slice_index into.new j ≡ slice_index (pile blocks.now top count) j }
+{
+    let mut at = top;
+    for k in (0..count).rev() {
+        into[k as usize] = at;
+        at = blocks[at as usize].below;
+    }
+}
+
 /// The top block of one pile goes on top of another.
 pub(crate) fn move_one(blocks: &mut [Block], piles: &mut [Pile], from: usize, to: usize) -> u32
     requires few { length piles.old ≤ 2 ^ 32 }

@@ -3,7 +3,7 @@ ghost use Rattle.std.specs.Prelude.{◌≡◌, ◌≢◌, ℕ, ◌+◌, ◌-◌,
 ghost use Rattle.std.specs.Option.{IfNone, OnSome};
 ghost use Rattle.o2_swapmap.specs.Piles.{blocks_of, free, NoneTwice, OnlyOf, IsStep, all_of};
 
-use crate::piles::{Block, Pile, first_piles, free_blocks, move_one, walk};
+use crate::piles::{Block, Pile, first_piles, free_blocks, list_out, move_one, walk};
 use o2_base::NoMemory;
 use std::alloc::Global;
 use std::marker::Model;
@@ -124,6 +124,22 @@ impl SwapMap {
             Some(block) => block,
             None => 0,
         }
+    }
+
+    /// Writes the blocks of an owner, in order, into the front of a list that has room for them, in one walk. The answer is
+    /// how many they are.
+    pub fn list(&self, id: u32, into: &mut [u32]) -> usize
+        requires id { id < self.now.most }
+        requires room { length (blocks_of self.now id) ≤ length into.old }
+        ensures count { result ≡ length (blocks_of self.now id) }
+        ensures blocks { (k : ℕ) → k < length (blocks_of self.now id) → slice_index into.new k ≡ slice_index (blocks_of self.now id) k }
+        ensures below { (k : ℕ) → k < length (blocks_of self.now id) → slice_index into.new k < all_of self.now }
+        ensures length { length into.new ≡ length into.old }
+    {
+        self.none_twice();
+        let pile = self.piles[id as usize];
+        list_out(&self.blocks, id, pile.top, pile.count, into);
+        pile.count as usize
     }
 
     /// How many blocks have an owner.

@@ -14,6 +14,13 @@ fn blocks_come_and_go(rt: HostRuntime) -> Result<(), Fail> {
     assert!(rt; first.is_some());
     assert_ne!(rt; first, second);
     assert_eq!(rt; map.nth(0, 3), None);
+    let mut list = [9; 8];
+    if map.count(0) <= 8 {
+        assert_eq!(rt; map.list(0, &mut list), 3);
+        assert_eq!(rt; Some(list[0]), first);
+        assert_eq!(rt; Some(list[1]), second);
+        assert_eq!(rt; list[3], 9);
+    }
     map.give(0, 1);
     assert_eq!(rt; map.nth(0, 0), first);
     assert_eq!(rt; map.nth(0, 1), None);
