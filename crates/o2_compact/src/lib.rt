@@ -1,12 +1,12 @@
 //! Moves the ranges of a memory with their bytes, so that no gap lies between them, or so that one of them can grow.
 #![tactic(auto)]
 
-ghost use Rattle.std.specs.Prelude.{◌≡◌, ◌≢◌, ℕ, ◌+◌, ◌<◌, ◌≤◌, length, IsSome, take};
+ghost use Rattle.std.specs.Prelude.{◌≡◌, ◌≢◌, ℕ, ◌+◌, ◌<◌, ◌≤◌, ◌-◌, Some, None, length, IsSome, take};
 ghost use Rattle.o2_place.specs.Layout.{IsFree, IsPacked, find_in, used, end_before, start_of, range_at, reshaped};
-ghost use Rattle.o2_compact.specs.Parts.{KeepsParts, OpensGap, length_of};
+ghost use Rattle.o2_compact.specs.Parts.{KeepsParts, OpensGap, length_of, GrowsInPlace, MovesAlone, StayBut};
 
 use o2_phys::Phys;
-use o2_place::Places;
+use o2_place::{Places, Range};
 
 /// Moves the ranges down, in order, until they lie one behind the other from 0 on. Each id's bytes stay.
 pub fn close_up(phys: &mut Phys, places: &mut Places)
@@ -23,18 +23,63 @@ pub fn close_up(phys: &mut Phys, places: &mut Places)
     places.law();
 }
 
-/// Gives an id that has a range one of `len` bytes, whose first bytes are its old ones. The others keep their bytes. The
-/// growth is at most what is free.
+/// Gives an id that has a range one of `len` bytes, whose first bytes are its old ones. The others keep their bytes and
+/// their order. The range grows where it lies if there is room behind it, else it goes to the lowest gap that is long
+/// enough, and where none is, the gaps are closed first. The growth is at most what is free.
 pub fn open_gap(phys: &mut Phys, places: &mut Places, id: u32, len: u32)
     requires memory { places.old.size ≤ length phys.old }
     requires id { id < places.old.most }
     requires placed { IsSome (find_in places.old.ranges id) }
     requires longer { length_of places.old id ≤ len }
     requires room { used places.old.ranges + len ≤ places.old.size + length_of places.old id }
-    ensures { OpensGap phys.old places.old phys.new places.new id len }
+    ensures opens { OpensGap phys.old places.old phys.new places.new id len }
+    ensures in_place { GrowsInPlace places.old places.new id len }
+    ensures alone { MovesAlone places.old places.new id len }
 {
+    let Some(k) = places.rank(id) else {
+        return;
+    };
+    places.law();
+    let was = places.range_at(k);
+    if len <= gap_end(places, k) - was.at {
+        places.reshape(k, was.at, len);
+        return;
+    }
+    if let Some(to) = places.fit(len) {
+        move_away(phys, places, was, to, len);
+        return;
+    }
     close_up(phys, places);
     widen(phys, places, id, len);
+}
+
+// Where the gap behind the k-th range ends.
+fn gap_end(places: &Places, k: u32) -> u32
+    requires { k < length places.now.ranges }
+    ensures { result ≡ start_of places.now.size places.now.ranges (k + 1) }
+{
+    let next = places.count() - k;
+    if next > 1 {
+        places.range_at(k + 1).at
+    } else {
+        places.size()
+    }
+}
+
+// Gives an id the range of so many bytes from a free place on, and moves its bytes there.
+fn move_away(phys: &mut Phys, places: &mut Places, old: Range, to: u32, len: u32)
+    requires memory { places.old.size ≤ length phys.old }
+    requires id { old.id < places.old.most }
+    requires placed { find_in places.old.ranges old.id ≡ Some (old.at, old.len) }
+    requires longer { old.len ≤ len }
+    requires free { IsFree places.old.size places.old.ranges to len }
+    ensures opens { OpensGap phys.old places.old phys.new places.new old.id len }
+    ensures alone { StayBut places.old places.new old.id }
+{
+    places.law();
+    phys.slide(old.at, to, old.len);
+    places.take(old.id);
+    places.put(old.id, to, len);
 }
 
 // Moves the k-th range with its bytes to another place between its neighbours, and answers where it ends there.

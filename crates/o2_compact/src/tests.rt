@@ -37,6 +37,7 @@ fn grow(phys: &mut Phys, places: &mut Places, id: u32, len: u32) -> bool
     requires id { id < places.old.most }
     requires memory { places.old.size ≤ length phys.old }
     ensures most { places.new.most ≡ places.old.most }
+    ensures size { places.new.size ≡ places.old.size }
     ensures memory { length phys.new ≡ length phys.old }
 {
     if let Some((_, was)) = places.find(id) {
@@ -68,10 +69,16 @@ fn ranges_close_up_and_open(rt: HostRuntime) -> Result<(), Fail> {
     assert_eq!(rt; places.find(2), Some((5, 4)));
     assert_eq!(rt; phys.bytes(0, 9), b"abcdefghi".as_slice());
     assert!(rt; grow(&mut phys, &mut places, 1, 6));
+    assert_eq!(rt; places.find(1), Some((9, 6)));
+    assert!(rt; grow(&mut phys, &mut places, 1, 8));
     assert_eq!(rt; places.find(0), Some((0, 3)));
-    assert_eq!(rt; places.find(1), Some((3, 6)));
-    assert_eq!(rt; places.find(2), Some((9, 4)));
-    assert_eq!(rt; phys.bytes(0, 5), b"abcde".as_slice());
-    assert_eq!(rt; phys.bytes(9, 4), b"fghi".as_slice());
+    assert_eq!(rt; places.find(1), Some((9, 8)));
+    assert_eq!(rt; places.find(2), Some((5, 4)));
+    assert!(rt; grow(&mut phys, &mut places, 0, 19));
+    assert_eq!(rt; places.find(0), Some((0, 19)));
+    assert_eq!(rt; places.find(2), Some((19, 4)));
+    assert_eq!(rt; places.find(1), Some((23, 8)));
+    assert_eq!(rt; phys.bytes(0, 3), b"abc".as_slice());
+    assert_eq!(rt; phys.bytes(19, 6), b"fghide".as_slice());
     Ok(())
 }

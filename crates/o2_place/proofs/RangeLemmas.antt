@@ -7,7 +7,7 @@ use Rattle.std.proofs.lemmas.List.Sums.{sum_by-cons, sum_by_push, sum_by-set}
 use Rattle.std.proofs.lemmas.List.{take_more_set}
 use Rattle.std.proofs.lemmas.Grind.{common_steps}
 use Rattle.o2_place.specs.declared.ranges.Range.{Range}
-use Rattle.o2_place.specs.Layout.{Layout, find_in, AreLaid, AreApart, IsFree, IsLowestFrom, used, Changes, end_before, start_of, IsPacked, no_range}
+use Rattle.o2_place.specs.Layout.{Layout, find_in, AreLaid, AreApart, IsFree, IsLowestFrom, used, Changes, end_before, start_of, IsPacked, no_range, ids_of, without}
 
 -- an id without a range isn't the first one's
 pub not_first : (r : Range) (rs : List Range) (id : ℕ) → find_in (r ∷ rs) id ≡ None → (id ≢ r.id) × (find_in rs id ≡ None)
@@ -387,3 +387,49 @@ pub start_of-le : (rs : List Range) (k low size : ℕ) → AreLaid low size rs �
 start_of-le [] k low size a = omega arith
 start_of-le (s ∷ rs) zero low size a = let w = AreLaid-within rs (s.at + s.len) size a.2 in omega arith
 start_of-le (s ∷ rs) (suc k) low size a = start_of-le rs k (s.at + s.len) size a.2
+
+-- what is free stays so where a range goes
+pub IsFree-remove : (rs : List Range) (i size at len : ℕ) → i < length rs → IsFree size rs at len → IsFree size (remove rs i) at len
+IsFree-remove [] i size at len l h = absurd (omega arith)
+IsFree-remove (r ∷ rs) zero size at len l h = h.1
+IsFree-remove (r ∷ rs) (suc i) size at len l h = (h.0, IsFree-remove rs i size at len (omega arith) h.1)
+
+-- an id without a range doesn't stand among the ids
+pub without-fresh : (rs : List Range) (id : ℕ) → find_in rs id ≡ None → without id (ids_of rs) ≡ ids_of rs
+without-fresh [] id h = refl
+without-fresh (r ∷ rs) id h =
+    let n = not_first r rs id h in
+    let t : eqb id r.id ≡ false = (let d : id ≢ r.id = n.0 in grind (arith, nat_tests)) in
+    rw t (ap (λ (ks : List ℕ). r.id ∷ ks) (without-fresh rs id n.1))
+
+pub ids-insert : (rs : List Range) (i : ℕ) (r : Range) → find_in rs r.id ≡ None → without r.id (ids_of (insert rs i r)) ≡ ids_of rs
+ids-insert [] zero r h = let t : eqb r.id r.id ≡ true = grind (arith, nat_tests) in rw t refl
+ids-insert [] (suc i) r h = let t : eqb r.id r.id ≡ true = grind (arith, nat_tests) in rw t refl
+ids-insert (x ∷ rs) zero r h = let t : eqb r.id r.id ≡ true = grind (arith, nat_tests) in rw t (without-fresh (x ∷ rs) r.id h)
+ids-insert (x ∷ rs) (suc i) r h =
+    let n = not_first x rs r.id h in
+    let t : eqb r.id x.id ≡ false = (let d : r.id ≢ x.id = n.0 in grind (arith, nat_tests)) in
+    rw t (ap (λ (ks : List ℕ). x.id ∷ ks) (ids-insert rs i r n.1))
+
+pub ids-remove : (rs : List Range) (i id : ℕ) (d : Range) → i < length rs → AreApart rs → (get_or rs i d).id ≡ id → ids_of (remove rs i) ≡ without id (ids_of rs)
+ids-remove [] i id d l h e = absurd (omega arith)
+ids-remove (x ∷ rs) zero id d l h e = let t : eqb id x.id ≡ true = (let f : x.id ≡ id = e in grind (arith, nat_tests)) in rw t (sym (without-fresh rs id (subst (λ (k : ℕ). find_in rs k ≡ None) e h.0)))
+ids-remove (x ∷ rs) (suc i) id d l h e =
+    let w : i < length rs = omega arith in
+    let f = find_in-at rs i d w h.1 in
+    let t : eqb id x.id ≡ false = elim (cases_eq id x.id) [
+      | inl same ↦ (let g : find_in rs x.id ≡ Some ((get_or rs i d).at, (get_or rs i d).len) = subst (λ (k : ℕ). find_in rs k ≡ Some ((get_or rs i d).at, (get_or rs i d).len)) (e ∙ same) f in let k = h.0 in absurd cc)
+      | inr other ↦ grind (arith, nat_tests)
+    ] in
+    rw t (ap (λ (ks : List ℕ). x.id ∷ ks) (ids-remove rs i id d w h.1 e))
+
+pub ids-set : (rs : List Range) (k id at len : ℕ) (d : Range) → k < length rs → id ≡ (get_or rs k d).id → ids_of (set rs k (record { id = id; at = at; len = len })) ≡ ids_of rs
+ids-set [] k id at len d l e = absurd (omega arith)
+ids-set (r ∷ rs) zero id at len d l e = ap (λ (x : ℕ). x ∷ ids_of rs) e
+ids-set (r ∷ rs) (suc k) id at len d l e = ap (λ (ks : List ℕ). r.id ∷ ks) (ids-set rs k id at len d (omega arith) e)
+
+-- where a range that isn't the last is followed
+pub start_of-at : (rs : List Range) (k size : ℕ) (d : Range) → k < length rs → start_of size rs k ≡ (get_or rs k d).at
+start_of-at [] k size d l = absurd (omega arith)
+start_of-at (r ∷ rs) zero size d l = refl
+start_of-at (r ∷ rs) (suc k) size d l = start_of-at rs k size d (omega arith)

@@ -7,9 +7,9 @@ use Rattle.std.proofs.lemmas.Grind.{common_steps}
 use Rattle.std.proofs.lemmas.List.{length-set, get_or-set_same, get_or-set_other, get_or_read}
 use Rattle.o2_place.specs.declared.ranges.Range.{Range}
 use Rattle.o2_place.specs.declared.places.Spot.{Spot}
-use Rattle.o2_place.specs.Layout.{Layout, find_in, AreLaid, AreApart, IsFree, used, Changes, end_before, start_of, one_of, over, no_range, range_at, reshaped}
+use Rattle.o2_place.specs.Layout.{Layout, find_in, AreLaid, AreApart, IsFree, used, Changes, end_before, start_of, one_of, over, no_range, range_at, reshaped, ids_of, without}
 use Rattle.o2_place.specs.Spots.{no_spot, spot_of, spot_at, layout_of, IsPlaces}
-use Rattle.o2_place.proofs.RangeLemmas.{find_in-insert, find_in-remove, AreLaid-insert, AreLaid-remove, AreApart-insert, AreApart-remove, AreLaid-reshape, AreApart-reshape, find_in-reshape, find_in-at, used-reshape, len-le-used, found_at}
+use Rattle.o2_place.proofs.RangeLemmas.{find_in-insert, find_in-remove, AreLaid-insert, AreLaid-remove, AreApart-insert, AreApart-remove, AreLaid-reshape, AreApart-reshape, find_in-reshape, find_in-at, used-reshape, len-le-used, found_at, IsFree-remove, ids-remove}
 use Rattle.o2_place.proofs.Sums.{over-ranges, over-few, over-fewer, sum-ones}
 
 spot_some : (at len : ℕ) → 0 < len → spot_of (record { at = at; len = len }) ≡ Some (at, len)
@@ -151,6 +151,8 @@ pub record Taken (rs : List Range) (ss : List Spot) (size taken id i : ℕ) (spo
   pub places : (next : List Range) → next ≡ remove rs i → IsPlaces next (set ss id no_spot) size (taken - spot.len)
   pub changes : (next : List Range) → next ≡ remove rs i → Changes (layout_of rs ss size) (layout_of next (set ss id no_spot) size) id None
   pub fewer : (next : List Range) → next ≡ remove rs i → used next + spot.len ≡ used rs
+  pub free : (next : List Range) → next ≡ remove rs i → (at len : ℕ) → IsFree size rs at len → IsFree size next at len
+  pub order : (next : List Range) → next ≡ remove rs i → ids_of next ≡ without id (ids_of rs)
 
 spot_read : (rs : List Range) (ss : List Spot) (size taken id : ℕ) (spot : Spot) → IsPlaces rs ss size taken → id < length ss → spot ≡ get_or ss id spot → 0 < spot.len → find_in rs id ≡ Some (spot.at, spot.len)
 spot_read rs ss size taken id spot h l e p = sym (h.indexed id) ∙ ap spot_of (sym (get_or_read ss id spot l e no_spot)) ∙ spot_some spot.at spot.len p
@@ -170,6 +172,8 @@ taken_is rs ss size taken id i spot h l e n b a =
       places = λ next w. IsPlaces-take rs next ss size taken i id spot.len d h w l q.0 same long;
       changes = λ next w. Changes-take rs next ss size i id d h.layout.apart w q.0 same;
       fewer = λ next w. ap (λ (xs : List Range). used xs + spot.len) w ∙ omega (arith, u, long);
+      free = λ next w at len f. subst (λ (xs : List Range). IsFree size xs at len) (sym w) (IsFree-remove rs i size at len q.0 f);
+      order = λ next w. ap ids_of w ∙ ids-remove rs i id d q.0 h.layout.apart same;
     }
 
 -- the range of an id with a spot stands behind those that begin below it

@@ -1,5 +1,5 @@
 -- Disjoint ranges of a memory, by rising place.
-use Rattle.std.specs.Prelude.{◌≡◌, ℕ, ◌+◌, ◌<◌, ◌≤◌, ◌⊎◌, List, [], ◌∷◌, Option, Some, None, if◌then◌else◌, ◌==◌, sum_by, zero, suc, slice_set, slice_index_or, take}
+use Rattle.std.specs.Prelude.{◌≡◌, ℕ, ◌+◌, ◌<◌, ◌≤◌, ◌⊎◌, List, [], ◌∷◌, Option, Some, None, if◌then◌else◌, ◌==◌, sum_by, map, zero, suc, slice_set, slice_index_or, take}
 use Rattle.o2_place.specs.declared.ranges.Range.{Range}
 
 -- the ranges, the memory's size, and how many ids there may be
@@ -53,6 +53,15 @@ pub record Changes (old new : Layout) (id : ℕ) (now : Option (ℕ × ℕ)) : T
   pub at : (k : ℕ) → find_in new.ranges k ≡ (if k == id then now else find_in old.ranges k)
   pub size : new.size ≡ old.size
   pub most : new.most ≡ old.most
+
+-- whose the ranges are, by rising place
+abbrev pub ids_of : List Range → List ℕ
+ids_of rs = map (λ (r : Range). r.id) rs
+
+-- the list without an id
+abbrev pub without : ℕ → List ℕ → List ℕ
+without id [] = []
+without id (k ∷ ks) = if id == k then without id ks else k ∷ without id ks
 
 -- where the range before the k-th ends
 abbrev pub end_before : ℕ → List Range → ℕ → ℕ

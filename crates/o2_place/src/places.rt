@@ -1,7 +1,7 @@
 // The ranges of a memory, with an index by id.
 ghost use Rattle.std.specs.Prelude.{◌≡◌, ◌≢◌, ℕ, ◌+◌, ◌<◌, ◌≤◌, ◌^◌, [], length, IfOk, None, Some, IfSome, slice_get, option_map, ◌⊎◌, if◌then◌else◌};
 ghost use Rattle.std.specs.Option.{is_some, IfNone};
-ghost use Rattle.o2_place.specs.Layout.{find_in, IsLayout, IsFree, IsLowestFree, used, Changes, len_of, one_of, over, end_before, start_of, reshaped, range_at};
+ghost use Rattle.o2_place.specs.Layout.{find_in, IsLayout, IsFree, IsLowestFree, used, Changes, len_of, one_of, over, end_before, start_of, reshaped, range_at, ids_of, without};
 
 use crate::ranges::{Range, insert_at, lowest_free, slot_for};
 use o2_base::NoMemory;
@@ -72,6 +72,7 @@ impl Places {
         ensures put { Changes self.old self.new id (Some (at, len)) }
         ensures used { used self.new.ranges ≡ used self.old.ranges + len }
         ensures count { length self.new.ranges ≡ length self.old.ranges + 1 }
+        ensures order { without id (ids_of self.new.ranges) ≡ ids_of self.old.ranges }
     {
         let i = slot_for(&self.ranges, self.size, at);
         insert_at(&mut self.ranges, i, Range { id, at, len });
@@ -86,6 +87,8 @@ impl Places {
         ensures taken { Changes self.old self.new id None }
         ensures used { used self.new.ranges + len_of result ≡ used self.old.ranges }
         ensures count { length self.new.ranges + (if is_some result then 1 else 0) ≡ length self.old.ranges }
+        ensures order { ids_of self.new.ranges ≡ without id (ids_of self.old.ranges) }
+        ensures free { (at len : ℕ) → IsFree self.old.size self.old.ranges at len → IsFree self.new.size self.new.ranges at len }
     {
         let spot = self.spots[id as usize];
         if spot.len == 0 {

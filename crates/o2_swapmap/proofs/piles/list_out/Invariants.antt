@@ -1,4 +1,4 @@
-use Rattle.std.proofs.Common.{◌≡◌, ◌<◌, ◌≤◌, ℕ, length, slice_index}
+use Rattle.std.proofs.Common.{◌≡◌, ◌<◌, ◌≤◌, ℕ, slice_index}
 use Rattle.o2_swapmap.specs.Piles.{pile, IsPile}
 use Rattle.o2_swapmap.proofs.piles.list_out.Given as goal
 

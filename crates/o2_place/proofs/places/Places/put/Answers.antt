@@ -1,6 +1,7 @@
-use Rattle.std.proofs.Common.{◌<◌, ◌^◌, arith, rules}
+use Rattle.std.proofs.Common.{◌<◌, ◌^◌, arith, rules, ap, ◌∙◌}
 use Rattle.std.proofs.lemmas.List.{length-set}
-use Rattle.o2_place.proofs.RangeLemmas.{used-le}
+use Rattle.o2_place.proofs.RangeLemmas.{used-le, ids-insert}
+use Rattle.o2_place.specs.Layout.{ids_of, without}
 use Rattle.o2_place.proofs.SpotLemmas.{IsPlaces-put, Changes-put, fewer}
 use Rattle.o2_place.proofs.places.Places.put.Goals as goal
 
@@ -33,3 +34,8 @@ pub returns-clause-put : goal.returns-clause-put
 returns-clause-put c =
     let i = c.self.inside in
     rw (← c.self.view_is) (Changes-put i.ranges.items c.insert_at.new.ranges.items i.spots.items i.size c.slot_for-i.result c.args.id c.args.at c.args.len c.insert_at.ensures.items (rw (← c.self.view_is) at c.requires.fresh) c.requires.some)
+
+pub returns-clause-order : goal.returns-clause-order
+returns-clause-order c =
+    let i = c.self.inside in
+    rw (← c.self.view_is) (ap (λ (xs : _). without c.args.id (ids_of xs)) c.insert_at.ensures.items ∙ ids-insert i.ranges.items c.slot_for-i.result (record { id = c.args.id; at = c.args.at; len = c.args.len }) (rw (← c.self.view_is) at c.requires.fresh))

@@ -1,7 +1,8 @@
-use Rattle.std.proofs.Common.{arith, rules, ◌≡◌, length, vec_len}
+use Rattle.std.proofs.Common.{arith, rules, ◌≡◌, length, vec_len, sym}
 use Rattle.std.proofs.lemmas.List.{length-set}
 use Rattle.o2_place.specs.Spots.{no_spot}
-use Rattle.o2_place.proofs.SpotLemmas.{taken_is}
+use Rattle.o2_place.proofs.RangeLemmas.{without-fresh}
+use Rattle.o2_place.proofs.SpotLemmas.{taken_is, unranked}
 use Rattle.o2_place.proofs.places.Places.take.Goals as goal
 
 pub remove-requires : goal.remove-requires
@@ -35,3 +36,20 @@ returns-clause-used c =
     let i = c.self.inside in
     let t = taken_is i.ranges.items i.spots.items i.size i.taken c.args.id c.slot_for-i.result c.index-spot.result.now c.self.invariant.0 (rw (← c.self.view_is) at c.requires) c.index-spot.ensures c.if-spot-eq0.false (rw c.deref.ensures.value at c.slot_for-i.ensures.before) (rw c.deref.ensures.value at c.slot_for-i.ensures.after) in
     rw (← c.self.view_is) (t.fewer c.remove.new.self.items c.remove.ensures.items)
+
+pub returns-clause-order : goal.returns-clause-order
+returns-clause-order c =
+    let i = c.self.inside in
+    let t = taken_is i.ranges.items i.spots.items i.size i.taken c.args.id c.slot_for-i.result c.index-spot.result.now c.self.invariant.0 (rw (← c.self.view_is) at c.requires) c.index-spot.ensures c.if-spot-eq0.false (rw c.deref.ensures.value at c.slot_for-i.ensures.before) (rw c.deref.ensures.value at c.slot_for-i.ensures.after) in
+    rw (← c.self.view_is) (t.order c.remove.new.self.items c.remove.ensures.items)
+
+pub returns-clause-free : goal.returns-clause-free
+returns-clause-free c =
+    let i = c.self.inside in
+    let t = taken_is i.ranges.items i.spots.items i.size i.taken c.args.id c.slot_for-i.result c.index-spot.result.now c.self.invariant.0 (rw (← c.self.view_is) at c.requires) c.index-spot.ensures c.if-spot-eq0.false (rw c.deref.ensures.value at c.slot_for-i.ensures.before) (rw c.deref.ensures.value at c.slot_for-i.ensures.after) in
+    rw (← c.self.view_is) (t.free c.remove.new.self.items c.remove.ensures.items)
+
+pub returns-then-spot-eq0-clause-order : goal.returns-then-spot-eq0-clause-order
+returns-then-spot-eq0-clause-order c =
+    let i = c.self.inside in
+    rw (← c.self.view_is) (sym (without-fresh i.ranges.items c.args.id (unranked i.ranges.items i.spots.items i.size i.taken c.args.id c.index-spot.result.now c.self.invariant.0 (rw (← c.self.view_is) at c.requires) c.index-spot.ensures c.if-spot-eq0.true)))

@@ -1,7 +1,7 @@
-use Rattle.std.proofs.Common.{◌≡◌, ◌<◌, ◌≤◌, ◌∙◌, ℕ, length, sym, ap, rules, subst, arith, get_or}
+use Rattle.std.proofs.Common.{◌≡◌, ◌<◌, ◌∙◌, ℕ, length, sym, ap, rules, subst, arith, get_or}
 use Rattle.std.proofs.lemmas.List.{get_or_read}
 use Rattle.o2_swapmap.specs.declared.piles.Pile.{Pile}
-use Rattle.o2_swapmap.specs.Piles.{Blocks, blocks_of, no_pile, list_of, all_of, IsPile, pile}
+use Rattle.o2_swapmap.specs.Piles.{blocks_of, no_pile, list_of, all_of}
 use Rattle.o2_swapmap.proofs.Moves.{length-list, list_at, pile_at}
 use Rattle.o2_swapmap.proofs.swap_map.SwapMap.list.Goals as goal
 
