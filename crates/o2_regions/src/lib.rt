@@ -1,0 +1,10 @@
+//! Who holds which selector, how often, and what its descriptor says; and which processes live.
+#![tactic(auto)]
+
+mod answer;
+mod ends;
+mod held;
+
+pub use answer::{Answer, Roomed};
+pub use ends::{Ends, MOST_PROCESSES};
+pub use held::{Cause, Held, Region};
