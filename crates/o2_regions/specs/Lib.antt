@@ -1,1 +1,5 @@
 pub mod Lives
+pub mod Maps
+pub mod Kept
+pub mod Words
+pub mod Lending

@@ -2,9 +2,12 @@
 #![tactic(auto)]
 
 mod answer;
+mod bits;
 mod ends;
 mod held;
+mod regions;
 
 pub use answer::{Answer, Roomed};
 pub use ends::{Ends, MOST_PROCESSES};
 pub use held::{Cause, Held, Region};
+pub use regions::Regions;

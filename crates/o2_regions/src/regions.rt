@@ -1,0 +1,272 @@
+// Who holds which index, how often, and what its descriptor says.
+ghost use Rattle.std.specs.Prelude.{◌≡◌, ℕ, ◌+◌, ◌*◌, ◌<◌, ◌≤◌, ◌^◌, ◌∷◌, true, false, not, [], length, replicate, IfOk, IfSome, slice_index_or, slice_set};
+ghost use Rattle.std.specs.Borrow.{sem};
+ghost use Rattle.std.specs.Option.{is_some};
+ghost use Rattle.o2_desc.specs.Bytes.{empty};
+ghost use Rattle.o2_desc.specs.Choice.{IsRun, chosen};
+ghost use Rattle.o2_regions.specs.Lending.{LendsTable};
+ghost use Rattle.o2_regions.specs.Maps.{IsProcess, IsRegion, base_of, descriptor_of, dropped, end_of, first_of, granted, held_at, holds_of, is_held, is_reserved, is_taken, left_of, nothing, place, region_of, table_of, with_reserved};
+
+use crate::bits::Bits;
+use crate::{Held, Region};
+use o2_base::NoMemory;
+use o2_desc::{Descriptor, Table};
+use std::alloc::Global;
+use std::marker::Model;
+
+/// How many indexes a table has.
+const INDEXES: u16 = 8192;
+
+/// How many indexes a region has, those of the private ones from 0 on.
+const REGION: u16 = 4096;
+
+/// What each process holds at which index, which indexes are reserved, and the tables of descriptors. Contracts see it as
+/// finite maps. It takes all its memory when it is made.
+#[derive(Debug, Drop)]
+pub struct Regions {
+    processes: u16,
+    // by process and index; there is no process 0
+    held: Vec<Option<Held>>,
+    // by region and index
+    reserved: Bits,
+    // by process
+    tables: Vec<Table>,
+    // where something is held, by process and index
+    marks: Bits,
+}
+
+impl Model for Regions {
+    ghost use Rattle.o2_regions.specs.Maps.{Maps};
+    ghost use Rattle.o2_regions.specs.Kept.{AreKept, AreMarked};
+
+    ghost Value = { Maps };
+
+    ghost view = { λ r. record { processes = r.processes; held = r.held.items; reserved = r.reserved; tables = r.tables.items } };
+
+    ghost invariant = { λ r. AreKept (record { processes = r.processes; held = r.held.items; reserved = r.reserved; tables = r.tables.items })
+        × AreMarked r.held.items r.marks };
+}
+
+// Where a process's index stands.
+fn place_of(pid: u16, index: u16) -> usize
+    ensures { result ≡ place pid index }
+{
+    pid as usize * INDEXES as usize + index as usize
+}
+
+// Where the marks of a region begin.
+fn base(region: Region) -> usize
+    ensures { result ≡ base_of region }
+{
+    match region {
+        Region::Private(pid) => (pid as usize + 1) * REGION as usize,
+        Region::Shared => 0,
+    }
+}
+
+// The first index of a region.
+fn first_index(region: Region) -> u16
+    ensures { result ≡ first_of region }
+{
+    match region {
+        Region::Private(_) => 1,
+        Region::Shared => REGION,
+    }
+}
+
+// The index behind the last one of a region.
+fn end_index(region: Region) -> u16
+    ensures { result ≡ end_of region }
+{
+    match region {
+        Region::Private(_) => REGION,
+        Region::Shared => INDEXES,
+    }
+}
+
+// Writes the descriptor of an index where the process's table has one.
+fn set_entry(tables: &mut Vec<Table>, pid: u16, index: u16, d: Descriptor)
+    requires { pid < length tables.old.items }
+    ensures { tables.new.items ≡ slice_set tables.old.items pid (slice_set (slice_index_or tables.old.items pid []) index d) }
+{
+    let table = &mut tables[pid as usize];
+    if (index as usize) < table.len() {
+        table.set(index, d);
+    }
+}
+
+// The tables of so many processes, with an empty one before them.
+fn new_tables(alloc: Global, processes: u16) -> Result<Vec<Table>, NoMemory>
+    ensures { IfOk result (λ v. v.items ≡ [] ∷ replicate processes (replicate 8192 empty)) }
+{
+    let mut tables = Vec::new(alloc);
+    tables.push(Table::new(alloc, 0)?)?;
+    for _pid in 0..processes {
+        tables.push(Table::new(alloc, INDEXES)?)?;
+    }
+    Ok(tables)
+}
+
+impl Regions {
+    /// Nothing is held and nothing reserved, for the processes from 1 to `processes`, at most 64.
+    pub fn new(alloc: Global, processes: u16) -> Result<Regions, NoMemory>
+        requires some { 1 ≤ processes }
+        requires most { processes ≤ 64 }
+        ensures { IfOk result (λ r. r ≡ nothing processes) }
+    {
+        let rows = processes as usize + 1;
+        let held = Vec::from_elem(alloc, None, rows * INDEXES as usize)?;
+        let reserved = Bits::new(alloc, (rows + 1) * (REGION as usize / 64))?;
+        let tables = new_tables(alloc, processes)?;
+        let marks = Bits::new(alloc, rows * (INDEXES as usize / 64))?;
+        Ok(Regions {
+            processes,
+            held,
+            reserved,
+            tables,
+            marks,
+        })
+    }
+
+    /// The number of processes that there may be.
+    pub fn processes(&self) -> u16
+        ensures { result ≡ self.now.processes }
+    {
+        self.processes
+    }
+
+    /// The lowest index of a region from which `count` indexes are neither held nor reserved, and none exactly where there
+    /// is no such index. A shared index is held where any process holds it.
+    pub fn lowest(&self, region: Region, count: u16) -> Option<u16>
+        requires region { IsRegion self.now region }
+        requires some { 0 < count }
+        ensures { result ≡ chosen (is_taken self.now region) (first_of region) (end_of region) count }
+    {
+        self.reserved.lowest_clear(base(region), first_index(region), end_index(region), count)
+    }
+
+    /// Reserves `count` indexes of a region from `first` on, which are neither held nor reserved.
+    pub fn reserve(&mut self, region: Region, first: u16, count: u16)
+        requires region { IsRegion self.old region }
+        requires free { IsRun (is_taken self.old region) (first_of region) (end_of region) count first }
+        ensures { self.new ≡ with_reserved self.old region first count true }
+    {
+        self.reserved
+            .fill(base(region) + first as usize, count as usize, true);
+    }
+
+    /// `count` indexes of a region from `first` on, which are reserved and which nobody holds, are no longer reserved.
+    pub fn release(&mut self, region: Region, first: u16, count: u16)
+        requires region { IsRegion self.old region }
+        requires from { first_of region ≤ first }
+        requires to { first + count ≤ end_of region }
+        requires reserved { (i : ℕ) → first ≤ i → i < first + count → is_reserved self.old region i ≡ true }
+        requires unheld { (i : ℕ) → first ≤ i → i < first + count → is_held self.old region i ≡ false }
+        ensures { self.new ≡ with_reserved self.old region first count false }
+    {
+        self.reserved
+            .fill(base(region) + first as usize, count as usize, false);
+    }
+
+    /// A process holds a segment `held.holds` times more at an index, which is reserved. Where it holds nothing there, it
+    /// has what `held` says, and a descriptor with this access byte; otherwise cause, run and descriptor stay. No holds at
+    /// an index that isn't held change nothing.
+    pub fn grant(&mut self, pid: u16, index: u16, held: Held, access: u8)
+        requires process { IsProcess self.old pid }
+        requires index { index < 8192 }
+        requires reserved { is_reserved self.old (region_of pid index) index ≡ true }
+        requires same { IfSome (held_at self.old pid index) (λ h. h.id ≡ held.id) }
+        requires few { holds_of (held_at self.old pid index) + held.holds < 2 ^ 32 }
+        ensures { self.new ≡ granted self.old pid index held access }
+    {
+        let place = place_of(pid, index);
+        match self.held[place] {
+            Some(was) => {
+                self.held[place] = Some(Held {
+                    holds: was.holds + held.holds,
+                    ..was
+                });
+            }
+            None => {
+                if held.holds != 0 {
+                    self.held[place] = Some(held);
+                    self.marks.set(place, true);
+                    let entry = Descriptor {
+                        base: 0,
+                        limit: 0,
+                        access,
+                    };
+                    set_entry(&mut self.tables, pid, index, entry);
+                }
+            }
+        }
+    }
+
+    /// Takes one of a process's holds at an index, and answers how many are left; none exactly where it holds nothing
+    /// there. With the last one its descriptor is empty.
+    pub fn drop_one(&mut self, pid: u16, index: u16) -> Option<u32>
+        requires process { IsProcess self.old pid }
+        requires index { index < 8192 }
+        ensures left { result ≡ left_of (held_at self.old pid index) }
+        ensures dropped { self.new ≡ dropped self.old pid index }
+    {
+        let place = place_of(pid, index);
+        match self.held[place] {
+            Some(was) => {
+                let left = was.holds - 1;
+                if left == 0 {
+                    self.held[place] = None;
+                    self.marks.set(place, false);
+                    set_entry(&mut self.tables, pid, index, Descriptor::EMPTY);
+                } else {
+                    self.held[place] = Some(Held { holds: left, ..was });
+                }
+                Some(left)
+            }
+            None => None,
+        }
+    }
+
+    /// What a process holds at an index, and none exactly where it holds nothing there.
+    pub fn held(&self, pid: u16, index: u16) -> Option<Held>
+        requires process { IsProcess self.now pid }
+        requires index { index < 8192 }
+        ensures held { result ≡ held_at self.now pid index }
+        ensures counted { IfSome result (λ h. 0 < h.holds) }
+    {
+        self.held[place_of(pid, index)]
+    }
+
+    /// The descriptor of an index in a process's table, and none exactly where the process holds nothing there.
+    pub fn descriptor(&self, pid: u16, index: u16) -> Option<Descriptor>
+        requires process { IsProcess self.now pid }
+        requires index { index < 8192 }
+        ensures { result ≡ descriptor_of (held_at self.now pid index) (table_of self.now pid) index }
+    {
+        match self.held[place_of(pid, index)] {
+            Some(_) => match self.tables[pid as usize].get(index) {
+                Some(d) => Some(d),
+                None => Some(Descriptor::EMPTY),
+            },
+            None => None,
+        }
+    }
+
+    /// The lowest index from `from` on at which a process holds something, and none exactly where there is none.
+    pub fn next_held(&self, pid: u16, from: u16) -> Option<u16>
+        requires process { IsProcess self.now pid }
+        ensures { result ≡ chosen (λ i. not (is_some (held_at self.now pid i))) from 8192 1 }
+    {
+        self.marks
+            .lowest_marked(pid as usize * INDEXES as usize, from, INDEXES)
+    }
+
+    /// The table of a process's descriptors. What is written there is the caller's, and nothing else changes.
+    pub fn table(&mut self, pid: u16) -> &mut Table
+        requires process { IsProcess self.old pid }
+        ensures* lends { sem 𝓛 (LendsTable self.entry pid result) }
+        ensures value { result.now ≡ table_of self.old pid }
+    {
+        &mut self.tables[pid as usize]
+    }
+}
