@@ -15,6 +15,10 @@ A listing is read line by line; what follows a `;` is a comment.
                                  far, selector, offset or byte, with `add-` before it where it is additive, to
                                  SEGMENT:OFFSET, SEGMENT, ENTRY (as in `entry.2`), MODULE.ORDINAL or MODULE.NAME
 
+A listing of nasm (nasm -f bin -l LISTING) is read too. There the same lines stand in comments, `;@ module NAME` and so on, a segment's
+in front of its `section NAME vstart=0`; a relocation stands in a comment behind its line, `;@+N KIND TARGET`, where N counts from
+the first byte of the line.
+
 The file is laid out by the format: an MZ stub of 64 bytes, the NE header, the segment table, the resident names, the module
 references, the imported names, the entry table, and each segment with its records, at multiples of 16 bytes.
 
@@ -25,69 +29,93 @@ import struct
 import sys
 
 SOURCES = {"byte": 0, "selector": 2, "far": 3, "offset": 5}
+WIDTHS = {0: 1, 2: 2, 3: 4, 5: 2}
 LINE = re.compile(r"([0-9A-F]{4})  ((?:[0-9A-F]{2} )*[0-9A-F]{2})(?:  .*?)?(?:@([0-9A-F]{4}) ([a-z-]+) (\S+))?$")
+NASM = re.compile(r" *\d+ (?:([0-9A-F]{8}) ((?:[^\s<]|<[a-z]+ [0-9A-F]+h?>)+) *|\s*)(?:<\d+>)?(.*)$")
+PLACE = re.compile(r"(\d{1,3}):([0-9A-Fa-f]{4})$")
+
+
+class Refused(Exception):
+    """Why no executable is made, and the number of the line, where one is to blame."""
+
+    def __init__(self, why, line=None):
+        super().__init__(why)
+        self.line = line
+
+
+def must(holds, why):
+    if not holds:
+        raise Refused(why)
+
+
+def number(text, most, what):
+    must(re.fullmatch(r"[0-9]{1,6}", text) and int(text) <= most, f"{what} is a decimal number up to {most}, and not {text}")
+    return int(text)
 
 
 def name(text):
+    must(1 <= len(text) <= 255, "a name has 1 to 255 letters")
     return bytes([len(text)]) + text.encode("ascii")
 
 
 def place(text):
-    segment, offset = text.split(":")
-    return int(segment), int(offset, 16)
+    found = PLACE.match(text)
+    must(found, f"{text} is no SEGMENT:OFFSET, as 1:0000")
+    return int(found[1]), int(found[2], 16)
+
+
+def word(value, what):
+    must(0 <= value <= 65535, f"{what} doesn't fit the format: {value} is above 65535")
+    return value
 
 
 class Segment:
-    def __init__(self, kind, words):
-        self.flags = {"code": 0, "data": 1}[kind] | 0x0C00
-        self.auto = "auto" in words
-        self.flags |= 0x80 if "readonly" in words else 0
-        self.flags |= 0x20 if "shared" in words else 0
-        self.size = max([int(w[5:]) for w in words if w.startswith("size=")] or [0])
-        self.bytes = b""
+    def __init__(self, kind, words, line):
+        must(kind in ("code", "data"), f"a segment is code or data, and not {kind}")
+        self.is_code, self.line = kind == "code", line
+        self.flags = (0 if self.is_code else 1) | 0x0C00
+        self.auto, self.size = False, 0
+        for it in words:
+            if it.startswith("size="):
+                self.size = number(it[5:], 65536, "a size")
+            else:
+                must(it in ("readonly", "shared", "auto"), f"a segment has the words readonly, shared, auto and size=BYTES, and not {it}")
+                self.auto = self.auto or it == "auto"
+                self.flags |= {"readonly": 0x80, "shared": 0x20, "auto": 0}[it]
+        must(not self.auto or not (self.is_code or self.flags & 0x80), "the automatic data segment is data that may be written")
+        self.bytes, self.zeros = b"", 0
         self.relocations = []
 
+    def length(self):
+        return len(self.bytes) + self.zeros
 
-class Listing:
-    def __init__(self, path):
+    def add(self, more):
+        self.bytes += bytes(self.zeros) + more
+        self.zeros = 0
+        must(len(self.bytes) <= 65536, "a segment has at most 65,536 bytes")
+
+    def reserve(self, count):
+        self.zeros += count
+        must(self.length() <= 65536, "a segment has at most 65,536 bytes")
+
+    def whole(self):
+        return max(self.size, self.length())
+
+
+class Module:
+    """An executable to be: what its listing says, or what a linker puts together."""
+
+    def __init__(self):
         self.name, self.library = None, False
         self.stack = self.heap = 0
-        self.start = (0, 0)
+        self.start, self.start_line = None, None
         self.segments, self.exports, self.modules = [], [], []
         self.imported = b"\0"
-        with open(path, encoding="ascii") as lines:
-            for number, line in enumerate(lines, 1):
-                line = line.split(";")[0].rstrip()
-                if line:
-                    try:
-                        self.read(line)
-                    except (ValueError, KeyError, IndexError, AssertionError) as error:
-                        sys.exit(f"{path}:{number}: {error}: {line}")
+        self.at = None
 
-    def read(self, line):
-        words = line.split()
-        if words[0] == "module":
-            self.name, self.library = words[1], "library" in words[2:]
-        elif words[0] in ("stack", "heap"):
-            setattr(self, words[0], int(words[1]))
-        elif words[0] == "start":
-            self.start = place(words[1])
-        elif words[0] == "export":
-            self.exports.append((words[1], place(words[2]), "nonresident" in words[3:]))
-        elif words[0] == "segment":
-            assert int(words[1]) == len(self.segments) + 1, "segments come in order"
-            self.segments.append(Segment(words[2], words[3:]))
-        else:
-            self.read_bytes(line)
-
-    def read_bytes(self, line):
-        found = LINE.match(line)
-        assert found, "no line of a listing"
-        segment = self.segments[-1]
-        assert int(found[1], 16) == len(segment.bytes), "offset %04X comes next" % len(segment.bytes)
-        segment.bytes += bytes.fromhex(found[2])
-        if found[3]:
-            segment.relocations.append(self.relocation(int(found[3], 16), found[4], found[5]))
+    def segment(self):
+        must(self.segments, "bytes stand behind the line of their segment")
+        return self.segments[-1]
 
     def string(self, text):
         """The offset of a text in the table of imported names."""
@@ -95,34 +123,77 @@ class Listing:
         if at < 0:
             at = len(self.imported)
             self.imported += name(text)
-        return at
+        return word(at, "the table of imported names")
 
-    def relocation(self, at, kind, target):
-        additive = 4 if kind.startswith("add-") else 0
-        source = SOURCES[kind.removeprefix("add-")]
+    def relocate(self, at, kind, target, segment=None):
+        """Keeps a relocation of the last segment or of the one given; its place and target are looked at when all is read."""
+        base = kind.removeprefix("add-")
+        must(base in SOURCES, f"a relocation is far, selector, offset or byte, or add- and one of these, and not {kind}")
+        source, additive = SOURCES[base], 4 if kind.startswith("add-") else 0
+        (segment or self.segment()).relocations.append((self.at, source, at, self.target(source, additive, at, target)))
+
+    def target(self, source, additive, at, target):
         if ":" in target:
             segment, offset = place(target)
-            return struct.pack("<BBHBBH", source, additive, at, segment, 0, offset)
+            return struct.pack("<BBHBBH", source, additive, word(at, "a place"), segment % 256, 0, offset), ("segment", segment)
         if "." not in target:
-            return struct.pack("<BBHBBH", source, additive, at, int(target), 0, 0)
-        module, symbol = target.split(".")
+            segment = number(target, 255, "a relocation's segment")
+            return struct.pack("<BBHBBH", source, additive, word(at, "a place"), segment, 0, 0), ("segment", segment)
+        module, _, symbol = target.partition(".")
+        must(module and symbol, f"{target} is no MODULE.NAME")
         if module == "entry":
-            return struct.pack("<BBHBBH", source, additive, at, 0xFF, 0, int(symbol))
+            ordinal = number(symbol, 65535, "an entry")
+            return struct.pack("<BBHBBH", source, additive, word(at, "a place"), 0xFF, 0, ordinal), ("entry", ordinal)
         if module not in [m for m, _ in self.modules]:
+            must(len(self.modules) < 255, "there are at most 255 other modules")
             self.modules.append((module, self.string(module)))
         reference = [m for m, _ in self.modules].index(module) + 1
         if symbol.isdigit():
-            return struct.pack("<BBHHH", source, 1 | additive, at, reference, int(symbol))
-        return struct.pack("<BBHHH", source, 2 | additive, at, reference, self.string(symbol))
+            return struct.pack("<BBHHH", source, 1 | additive, word(at, "a place"), reference, number(symbol, 65535, "an ordinal")), None
+        return struct.pack("<BBHHH", source, 2 | additive, word(at, "a place"), reference, self.string(symbol)), None
+
+    def check(self):
+        """What can be told only once all lines are read."""
+        must(self.name is not None, "there is no line of module")
+        must(self.segments, "there is no segment")
+        autos = [segment for segment in self.segments if segment.auto]
+        if len(autos) > 1:
+            raise Refused("there are two automatic data segments", autos[1].line)
+        if autos:
+            total = autos[0].whole() + self.stack + self.heap
+            if total > 65536:
+                raise Refused(f"the automatic data segment, stack and heap have {total} bytes together, and at most 65,536", autos[0].line)
+        if self.start or not self.library:
+            must(self.start, "there is no line of start")
+            self.check_code(self.start, self.start_line)
+        for text, (segment, _), _, line in self.exports:
+            if not 1 <= segment <= len(self.segments):
+                raise Refused(f"{text} is in segment {segment}, and there are {len(self.segments)}", line)
+        for segment in self.segments:
+            for line, source, at, (_, inside) in segment.relocations:
+                if at + WIDTHS[source] > len(segment.bytes):
+                    raise Refused(f"the relocation's place {at:04X} lies outside the segment's bytes", line)
+                if inside and not 1 <= inside[1] <= len(self.segments if inside[0] == "segment" else self.exports):
+                    raise Refused(f"the relocation's {inside[0]} {inside[1]} isn't there", line)
+            must(len(segment.relocations) <= 65535, "a segment has at most 65,535 relocations")
+
+    def check_code(self, start, line):
+        segment, offset = start
+        if not 1 <= segment <= len(self.segments):
+            raise Refused(f"the start is in segment {segment}, and there are {len(self.segments)}", line)
+        if not self.segments[segment - 1].is_code:
+            raise Refused(f"the start is in segment {segment}, which is data", line)
+        if offset >= self.segments[segment - 1].whole():
+            raise Refused(f"the start {offset:04X} lies behind the end of segment {segment}", line)
 
     def names(self, nonresident):
         """The exported names of one of the two tables, with their ordinals."""
         exports = enumerate(self.exports, 1)
-        return b"".join(name(text) + struct.pack("<H", k) for k, (text, _, other) in exports if other == nonresident)
+        return b"".join(name(text) + struct.pack("<H", k) for k, (text, _, other, _) in exports if other == nonresident)
 
     def entries(self):
         """One bundle of a single entry for each export, and the end of the table."""
-        table = b"".join(struct.pack("<BBBH", 1, segment, 1, offset) for _, (segment, offset), _ in self.exports)
+        table = b"".join(struct.pack("<BBBH", 1, segment, 1, offset) for _, (segment, offset), _, _ in self.exports)
         return table + b"\0\0" if self.exports else b""
 
     def file(self):
@@ -136,31 +207,31 @@ class Listing:
         resident_at = segments_at + 8 * len(self.segments)
         references_at = resident_at + len(resident)
         imported_at = references_at + 2 * len(self.modules)
-        entries_at = imported_at + len(self.imported)
+        entries_at = word(imported_at + len(self.imported), "the tables of the header")
         table, body = b"", b""
         nonresident_at = at + entries_at + len(entries)
         body_at = -(-(nonresident_at + len(nonresident)) // 16) * 16
         for segment in self.segments:
-            relocations = struct.pack("<H", len(segment.relocations)) + b"".join(segment.relocations)
+            relocations = struct.pack("<H", len(segment.relocations)) + b"".join(it[3][0] for it in segment.relocations)
             flags = segment.flags | (0x100 if segment.relocations else 0)
-            size = max(segment.size, len(segment.bytes))
-            where = (body_at + len(body)) >> shift if segment.bytes else 0
-            table += struct.pack("<HHHH", where, len(segment.bytes) % 65536, flags, size % 65536)
+            where = word((body_at + len(body)) >> shift, "the file") if segment.bytes else 0
+            table += struct.pack("<HHHH", where, len(segment.bytes) % 65536, flags, segment.whole() % 65536)
             if segment.bytes:
                 body += segment.bytes + (relocations if segment.relocations else b"")
                 if segment is not self.segments[-1]:
                     body = body.ljust(-(-len(body) // 16) * 16, b"\0")
         auto = [n for n, segment in enumerate(self.segments, 1) if segment.auto]
+        start = self.start or (0, 0)
         header = struct.pack(
             "<2sBBHHI16HI3HBB8s",
-            b"NE", 5, 0, entries_at, len(entries), 0,
+            b"NE", 5, 0, entries_at, word(len(entries), "the entry table"), 0,
             (2 if auto else 0) | (0x8000 if self.library else 0),
             auto[0] if auto else 0,
             self.heap, self.stack,
-            self.start[1], self.start[0],
+            start[1], start[0],
             0, auto[0] if auto and not self.library else 0,
-            len(self.segments), len(self.modules), len(nonresident),
-            segments_at, resident_at, resident_at, references_at, imported_at,
+            len(self.segments), len(self.modules), word(len(nonresident), "the table of nonresident names"),
+            segments_at, word(resident_at, "a table"), word(resident_at, "a table"), word(references_at, "a table"), word(imported_at, "a table"),
             nonresident_at if nonresident else 0, 0, shift, 0, 1, 0, bytes(8),
         )
         stub = bytearray(64)
@@ -171,9 +242,133 @@ class Listing:
         return front.ljust(body_at, b"\0") + body
 
 
-if __name__ == "__main__":
-    if len(sys.argv) != 3:
+
+class Listing(Module):
+    """An executable as a listing has it."""
+
+    def __init__(self, text):
+        super().__init__()
+        self.in_macro = False
+        lines = text.replace("\r", "").split("\n")
+        is_nasm = any(re.match(r" *\d+ +;@ ", line) for line in lines)
+        for self.at, line in enumerate(lines, 1):
+            try:
+                self.read_nasm(line) if is_nasm else self.read(line.split(";")[0].rstrip())
+            except Refused as why:
+                raise Refused(f"{why}: {line.strip()}", self.at) from None
+        self.check()
+
+    def read(self, line):
+        words = line.split()
+        if not words:
+            return
+        counts = {"module": (2, 3), "stack": (2, 2), "heap": (2, 2), "start": (2, 2), "export": (3, 4), "segment": (3, 9)}
+        if words[0] in counts:
+            least, most = counts[words[0]]
+            must(least <= len(words) <= most, f"a line of {words[0]} has {least - 1} to {most - 1} words behind it")
+        if words[0] == "module":
+            must(self.name is None, "there is a line of module already")
+            must(words[2:] in ([], ["library"]), f"a module is a library or has no word behind its name, and not {words[-1]}")
+            self.name, self.library = words[1], "library" in words[2:]
+            name(self.name)
+        elif words[0] in ("stack", "heap"):
+            setattr(self, words[0], number(words[1], 65535, "a size"))
+        elif words[0] == "start":
+            self.start, self.start_line = place(words[1]), self.at
+        elif words[0] == "export":
+            must(words[3:] in ([], ["nonresident"]), f"an export is nonresident or has no word behind its place, and not {words[-1]}")
+            name(words[1])
+            self.exports.append((words[1], place(words[2]), "nonresident" in words[3:], self.at))
+        elif words[0] == "segment":
+            following = len(self.segments) + 1
+            must(number(words[1], 255, "a segment's number") == following, f"segments come in order, and {following} comes next")
+            must(following <= 254, "there are at most 254 segments")
+            self.segments.append(Segment(words[2], words[3:], self.at))
+        else:
+            self.read_bytes(line)
+
+    def add(self, offset, more):
+        segment = self.segment()
+        must(offset == segment.length(), f"the offset {segment.length():04X} comes next")
+        segment.add(more)
+
+    def read_bytes(self, line):
+        found = LINE.match(line)
+        must(found, "no line of a listing")
+        self.add(int(found[1], 16), bytes.fromhex(found[2]))
+        if found[3]:
+            self.relocate(int(found[3], 16), found[4], found[5])
+
+    def read_nasm(self, line):
+        if "****" in line[:40]:
+            must(" error:" not in line, "nasm found an error")
+            return
+        found = NASM.match(line)
+        if not found:
+            must(not line.strip(), "no line of a listing of nasm")
+            return
+        source = found[3]
+        if re.match(r"\s*%i?macro\b", source):
+            self.in_macro = True
+        if self.in_macro:
+            # (a macro's own lines; what a call of it makes comes with that call)
+            self.in_macro = not re.match(r"\s*%endm(acro)?\b", source)
+            return
+        note = re.search(r";@(\+(\d{1,5}))? ?(.*)$", source)
+        begins = self.segments[-1].length() if self.segments else 0
+        if found[1]:
+            self.nasm_bytes(int(found[1], 16), found[2])
+        if note and note[1]:
+            words = note[3].split()
+            must(len(words) >= 2, "a relocation is written ;@+N KIND TARGET")
+            self.relocate(begins + int(note[2]), words[0], words[1])
+        elif note:
+            self.read(note[3].split(";")[0].rstrip())
+
+    def nasm_bytes(self, offset, text):
+        found = re.fullmatch(r"([0-9A-F\[\]()?]*)(?:<(rep|res) ([0-9A-F]+)h?>)?-?", text)
+        must(found, "these bytes can't be read from a listing")
+        digits = re.sub(r"[\[\]()]", "", found[1])
+        must(len(digits) % 2 == 0, "these bytes can't be read from a listing")
+        count = int(found[3], 16) if found[3] else 1
+        must(count <= 65536, "a segment has at most 65,536 bytes")
+        segment = self.segment()
+        must(offset == segment.length(), f"the offset {segment.length():04X} comes next (has each section its line ;@ segment, and vstart=0?)")
+        if found[2] == "res" or (digits and set(digits) == {"?"}):
+            segment.reserve(count if found[2] == "res" else count * len(digits) // 2)
+        else:
+            segment.add(bytes.fromhex(digits.replace("?", "0")) * count)
+
+
+def text_of(path):
+    try:
+        with open(path, "rb") as file:
+            content = file.read()
+    except OSError as error:
+        raise Refused(error.strerror) from None
+    for number_, line in enumerate(content.split(b"\n"), 1):
+        if not line.isascii() or b"\0" in line:
+            raise Refused("a listing is text of ASCII characters", number_)
+    return content.decode("ascii")
+
+
+def write(path, content):
+    try:
+        with open(path, "wb") as out:
+            out.write(content)
+    except OSError as error:
+        sys.exit(f"{path}: {error.strerror}")
+
+
+def main(words):
+    if len(words) != 2:
         sys.exit(__doc__)
-    content = Listing(sys.argv[1]).file()
-    with open(sys.argv[2], "wb") as out:
-        out.write(content)
+    try:
+        content = Listing(text_of(words[0])).file()
+    except Refused as why:
+        sys.exit(f"{words[0]}:{why.line}: {why}" if why.line else f"{words[0]}: {why}")
+    write(words[1], content)
+
+
+if __name__ == "__main__":
+    main(sys.argv[1:])
