@@ -1,13 +1,14 @@
 // The standard streams as sinks.
-ghost use Rattle.std.specs.Prelude.{None, ◌≤◌, length};
+ghost use Rattle.std.specs.Prelude.{◌≤◌, length};
+ghost use Rattle.o2_outer.specs.Answers.{Takes};
 
 use crate::{Put, Sink};
-use std::io::{Print, Stderr, Stdout};
+use std::io::{Stderr, Stdout, Write};
 
 /// A stream of the system. It tells no content; each error of the system, and a write that takes nothing, is a fault.
 #[derive(Drop)]
-pub struct StreamSink<P: Print + Drop> {
-    stream: P,
+pub struct StreamSink<W: Write + Drop> {
+    stream: W,
     faults: u64,
 }
 
@@ -18,10 +19,12 @@ pub type StdoutSink = StreamSink<Stdout>;
 pub type StderrSink = StreamSink<Stderr>;
 
 /// Writes a piece, by as many writes as it takes.
-fn write_whole<P: Print>(stream: &P, piece: &[u8]) -> Put {
+fn write_whole<W: Write>(stream: &mut W, piece: &[u8]) -> Put
+    ensures takes { Takes (W.contents stream.old) (W.contents stream.new) piece.now result }
+{
     let mut written = 0;
     while written < piece.len() {
-        match stream.write_some(&piece[written..]) {
+        match stream.write(&piece[written..]) {
             Err(_) => return Put::Failed,
             Ok(0) => return Put::Failed,
             Ok(count) => written += count,
@@ -30,20 +33,20 @@ fn write_whole<P: Print>(stream: &P, piece: &[u8]) -> Put {
     Put::Done
 }
 
-impl<P: Print + Drop> StreamSink<P> {
+impl<W: Write + Drop> StreamSink<W> {
     /// A sink over this stream.
-    pub fn new(stream: P) -> StreamSink<P> {
+    pub fn new(stream: W) -> StreamSink<W> {
         StreamSink { stream, faults: 0 }
     }
 }
 
-impl<P: Print + Drop> Sink for StreamSink<P> {
-    ghost taken = { λ _. None };
+impl<W: Write + Drop> Sink for StreamSink<W> {
+    ghost taken = { λ s. W.contents s.stream };
 
     ghost faults = { λ s. s.faults };
 
     fn put(&mut self, piece: &[u8]) -> Put {
-        match write_whole(&self.stream, piece) {
+        match write_whole(&mut self.stream, piece) {
             Put::Done => Put::Done,
             Put::Failed => {
                 self.faults = self.faults.saturating_add(1);
