@@ -4,3 +4,5 @@ pub mod Contents
 pub mod Sinks
 pub mod Sources
 pub mod Devices
+pub mod Planned
+pub mod Plans

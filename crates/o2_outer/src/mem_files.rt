@@ -1,8 +1,11 @@
-// Files in memory, which fail when told to.
-ghost use Rattle.std.specs.Prelude.{◌≡◌, Some, drop, option_map, List, ℕ};
-ghost use Rattle.o2_outer.specs.Answers.{Answers, IsBounded};
+// Files in memory: some that fail when told to, and some that never fail.
+ghost use Rattle.std.specs.Prelude.{◌≡◌, ◌≤◌, Some, drop, option_map, List, ℕ, true, false};
+ghost use Rattle.o2_outer.specs.Answers.{Answers, IsBounded, FetchHasCause};
+ghost use Rattle.o2_outer.specs.Planned.{fails_next, next_call};
+ghost use Rattle.o2_outer.specs.Plans.{mem_files, mem_fetches, mem_fetches_to_fail, sure_files};
 ghost use Rattle.o2_outer.specs.Contents.{file_in};
 
+use crate::plan::fails_now;
 use crate::{Fetch, Files};
 use o2_base::Bytes;
 use std::alloc::Global;
@@ -49,7 +52,11 @@ pub fn fetch_from(files: &[(Bytes, Bytes)], alloc: Global, name: &Bytes, most: u
 
 impl MemFiles {
     /// These files, and the calls that are to fail.
-    pub fn new(files: Vec<(Bytes, Bytes)>, fails: Vec<u64>) -> MemFiles {
+    pub fn new(files: Vec<(Bytes, Bytes)>, fails: Vec<u64>) -> MemFiles
+        ensures files { mem_files result ≡ files.items }
+        ensures fails { mem_fetches_to_fail result ≡ fails.items }
+        ensures calls { mem_fetches result ≡ 0 }
+    {
         MemFiles {
             files,
             fails,
@@ -60,16 +67,58 @@ impl MemFiles {
 }
 
 impl Files for MemFiles {
-    ghost told = { λ f. Some (file_in f.files.items) };
+    ghost told = { λ f. Some (file_in (mem_files f)) };
 
     ghost faults = { λ f. f.faults };
 
-    fn fetch(&mut self, alloc: Global, name: &Bytes, most: u32) -> Fetch {
-        self.calls = self.calls.saturating_add(1);
-        if self.fails.contains(&self.calls) {
+    fn fetch(&mut self, alloc: Global, name: &Bytes, most: u32) -> Fetch
+        ensures answers { Answers (file_in (mem_files self.old)) name.now most result }
+        ensures bounded { IsBounded most result }
+        ensures files { mem_files self.new ≡ mem_files self.old }
+        ensures count { self.old.faults ≤ self.new.faults }
+        ensures cause { FetchHasCause self.old.faults self.new.faults result }
+
+        ensures fails { fails_next (mem_fetches self.old) (mem_fetches_to_fail self.old) ≡ true
+            → result ≡ Fetch.Failed }
+        ensures sure { fails_next (mem_fetches self.old) (mem_fetches_to_fail self.old) ≡ false
+            → result ≡ Fetch.Failed → ⊥ }
+        ensures calls { mem_fetches self.new ≡ next_call (mem_fetches self.old) }
+        ensures plan { mem_fetches_to_fail self.new ≡ mem_fetches_to_fail self.old }
+    {
+        if fails_now(&mut self.calls, &self.fails) {
             self.faults = self.faults.saturating_add(1);
             return Fetch::Failed;
         }
+        fetch_from(&self.files, alloc, name, most)
+    }
+}
+
+/// Files in memory that never fail, as pairs of a name and its bytes; of two of one name the first counts.
+#[derive(Drop)]
+pub struct SureFiles {
+    files: Vec<(Bytes, Bytes)>,
+}
+
+impl SureFiles {
+    /// These files.
+    pub fn new(files: Vec<(Bytes, Bytes)>) -> SureFiles
+        ensures { sure_files result ≡ files.items }
+    {
+        SureFiles { files }
+    }
+}
+
+impl Files for SureFiles {
+    ghost told = { λ f. Some (file_in (sure_files f)) };
+
+    ghost faults = { λ _. 0 };
+
+    fn fetch(&mut self, alloc: Global, name: &Bytes, most: u32) -> Fetch
+        ensures answers { Answers (file_in (sure_files self.old)) name.now most result }
+        ensures bounded { IsBounded most result }
+        ensures sure { result ≡ Fetch.Failed → ⊥ }
+        ensures files { sure_files self.new ≡ sure_files self.old }
+    {
         fetch_from(&self.files, alloc, name, most)
     }
 }

@@ -1,6 +1,7 @@
 // A sink in memory, with its room reserved.
 ghost use Rattle.std.specs.Prelude.{◌≡◌, ◌≤◌, ◌+◌, ◌<◌, ◌++◌, [], List, ℕ, Option, Some, length, vec_len, vec_capacity, IfOk};
 
+use crate::plan::planned;
 use crate::{Put, Sink};
 use o2_base::NoMemory;
 use std::alloc::Global;
@@ -29,23 +30,17 @@ fn append(bytes: &mut Vec<u8>, more: &[u8])
     let _ = bytes.extend_from_slice(more);
 }
 
-/// How many bytes a call takes before it fails, where it is to fail.
-fn planned(fails: &[(u64, usize)], call: u64) -> Option<usize> {
-    for (number, taken) in fails {
-        if *number == call {
-            return Some(*taken);
-        }
-    }
-    None
-}
-
 impl MemSink {
     ghost use Rattle.o2_outer.specs.Sinks.{sink_bytes, sink_faults};
+    ghost use Rattle.o2_outer.specs.Plans.{mem_room, mem_puts, mem_puts_to_fail};
 
     /// An empty sink.
     pub fn new(alloc: Global, room: usize, fails: Vec<(u64, usize)>) -> Result<MemSink, NoMemory>
         ensures empty { IfOk result (λ s. sink_bytes s ≡ []) }
         ensures faultless { IfOk result (λ s. sink_faults s ≡ 0) }
+        ensures room { IfOk result (λ s. mem_room s ≡ room) }
+        ensures fails { IfOk result (λ s. mem_puts_to_fail s ≡ fails.items) }
+        ensures calls { IfOk result (λ s. mem_puts s ≡ 0) }
     {
         let bytes = Vec::with_capacity(alloc, room)?;
         Ok(MemSink {
@@ -73,11 +68,27 @@ impl MemSink {
 }
 
 impl Sink for MemSink {
+    ghost use Rattle.o2_outer.specs.Texts.{Rose};
+    ghost use Rattle.o2_outer.specs.Answers.{Takes, OnFailed};
+    ghost use Rattle.o2_outer.specs.Sinks.{sink_bytes, sink_faults};
+    ghost use Rattle.o2_outer.specs.Planned.{next_call};
+    ghost use Rattle.o2_outer.specs.Plans.{mem_room, mem_puts, mem_puts_to_fail, put_answer, put_front};
+
     ghost taken = { λ s. Some s.bytes.items };
 
     ghost faults = { λ s. s.faults };
 
-    fn put(&mut self, piece: &[u8]) -> Put {
+    fn put(&mut self, piece: &[u8]) -> Put
+        ensures takes { Takes (Some (sink_bytes self.old)) (Some (sink_bytes self.new)) piece.now result }
+        ensures count { sink_faults self.old ≤ sink_faults self.new }
+        ensures cause { OnFailed result (Rose (sink_faults self.old) (sink_faults self.new)) }
+
+        ensures front { sink_bytes self.new ≡ sink_bytes self.old ++ put_front self.old piece.now }
+        ensures answer { result ≡ put_answer self.old piece.now }
+        ensures calls { mem_puts self.new ≡ next_call (mem_puts self.old) }
+        ensures plan { mem_puts_to_fail self.new ≡ mem_puts_to_fail self.old }
+        ensures room { mem_room self.new ≡ mem_room self.old }
+    {
         self.calls = self.calls.saturating_add(1);
         let plan = planned(&self.fails, self.calls);
         let left = self.room - self.bytes.len();

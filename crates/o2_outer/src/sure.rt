@@ -1,34 +1,10 @@
-// Files, a source and a device in memory that never fail.
+// A source and a device in memory that never fail.
 ghost use Rattle.std.specs.Prelude.{◌≡◌, ◌≤◌, ◌<◌, List, ℕ, Some, drop, take, length, true, IfOk, replicate};
-ghost use Rattle.o2_outer.specs.Contents.{file_in, block_of};
+ghost use Rattle.o2_outer.specs.Contents.{block_of};
 
-use crate::mem_files::fetch_from;
-use crate::{Dev, Fetch, Files, Source, SwapDevice, Took};
+use crate::{Dev, Source, SwapDevice, Took};
 use o2_base::{Bytes, NoMemory};
 use std::alloc::Global;
-
-/// Files in memory, as pairs of a name and its bytes; of two of one name the first counts.
-#[derive(Drop)]
-pub struct SureFiles {
-    files: Vec<(Bytes, Bytes)>,
-}
-
-impl SureFiles {
-    /// These files.
-    pub fn new(files: Vec<(Bytes, Bytes)>) -> SureFiles {
-        SureFiles { files }
-    }
-}
-
-impl Files for SureFiles {
-    ghost told = { λ f. Some (file_in f.files.items) };
-
-    ghost faults = { λ _. 0 };
-
-    fn fetch(&mut self, alloc: Global, name: &Bytes, most: u32) -> Fetch {
-        fetch_from(&self.files, alloc, name, most)
-    }
-}
 
 /// Bytes in memory.
 #[derive(Drop)]
