@@ -1,11 +1,13 @@
 //! What lies outside the machine: files, an input, sinks and a swap device, each with a count of its faults.
 #![tactic(auto)]
 
+mod blocks;
 mod files;
 mod folder;
 mod mem_files;
 mod mem_sink;
 mod mem_source;
+mod mem_swap;
 mod no_sink;
 mod plan;
 mod sink;
@@ -20,6 +22,7 @@ pub use folder::FolderFiles;
 pub use mem_files::{MemFiles, SureFiles};
 pub use mem_sink::MemSink;
 pub use mem_source::MemSource;
+pub use mem_swap::MemSwap;
 pub use no_sink::NoSink;
 pub use sink::{Put, Sink};
 pub use source::{Source, Took};

@@ -2,6 +2,7 @@
 ghost use Rattle.std.specs.Prelude.{◌≡◌, ◌≤◌, ◌<◌, List, ℕ, Some, drop, take, length, true, IfOk, replicate};
 ghost use Rattle.o2_outer.specs.Contents.{block_of};
 
+use crate::blocks::zero_blocks;
 use crate::{Dev, Source, SwapDevice, Took};
 use o2_base::{Bytes, NoMemory};
 use std::alloc::Global;
@@ -54,7 +55,7 @@ impl SureSwap {
         requires { blocks ≤ 65536 }
         ensures { IfOk result (λ s. swap_blocks s ≡ blocks) }
     {
-        let blocks = vec![in alloc; [0u8; 512]; blocks as usize]?;
+        let blocks = zero_blocks(alloc, blocks)?;
         Ok(SureSwap { blocks })
     }
 }
