@@ -2,6 +2,7 @@
 #![tactic(auto)]
 
 mod blocks;
+mod file_swap;
 mod files;
 mod folder;
 mod mem_files;
@@ -17,6 +18,7 @@ mod streams;
 mod sure;
 mod swap;
 
+pub use file_swap::FileSwap;
 pub use files::{Fetch, Files};
 pub use folder::FolderFiles;
 pub use mem_files::{MemFiles, SureFiles};

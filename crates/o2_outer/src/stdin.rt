@@ -16,7 +16,7 @@ pub struct StreamSource<R: Read + Drop> {
 pub type StdinSource = StreamSource<StdinLock<'static>>;
 
 /// Fills a slice, by as many reads as it takes, and stops before its end where a read gives nothing.
-fn read_front<R: Read>(reader: &mut R, into: &mut [u8]) -> Took
+pub fn read_front<R: Read>(reader: &mut R, into: &mut [u8]) -> Took
     ensures bounded { TookAtMost (length into.old) result }
 {
     let mut filled = 0;

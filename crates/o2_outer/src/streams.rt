@@ -19,7 +19,7 @@ pub type StdoutSink = StreamSink<Stdout>;
 pub type StderrSink = StreamSink<Stderr>;
 
 /// Writes a piece, by as many writes as it takes.
-fn write_whole<W: Write>(stream: &mut W, piece: &[u8]) -> Put
+pub fn write_whole<W: Write>(stream: &mut W, piece: &[u8]) -> Put
     ensures takes { Takes (W.contents stream.old) (W.contents stream.new) piece.now result }
 {
     let mut written = 0;
