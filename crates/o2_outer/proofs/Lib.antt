@@ -1,3 +1,4 @@
 pub mod TextLemmas
 pub mod Written
 pub mod Tests
+pub mod Readers

@@ -40,10 +40,10 @@ abbrev pub FetchHasCause : ℕ → ℕ → Fetch → Type 0
 FetchHasCause before now fetched.Failed = Rose before now
 FetchHasCause before now _ = Unit {0}
 
--- what a take gives of the bytes left: as many as fit, and a fault takes none
+-- what a take gives of the bytes left, where they are told: as many as fit, and a fault takes none
 abbrev pub Gives : Option (List ℕ) → Option (List ℕ) → List ℕ → Took → Type 0
 Gives old new into (took.Done n) = (t : List ℕ) → old ≡ Some t → (n ≡ min (length into) (length t)) × (take n into ≡ take n t) × (new ≡ Some (drop n t))
-Gives old new into took.Failed = new ≡ old
+Gives old new into took.Failed = (t : List ℕ) → old ≡ Some t → new ≡ old
 
 abbrev pub TookAtMost : ℕ → Took → Type 0
 TookAtMost most (took.Done n) = n ≤ most

@@ -4,5 +4,6 @@ pub mod Contents
 pub mod Sinks
 pub mod Sources
 pub mod Devices
+pub mod Reads
 pub mod Planned
 pub mod Plans

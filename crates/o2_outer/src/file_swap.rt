@@ -2,9 +2,9 @@
 ghost use Rattle.std.specs.Prelude.{◌≡◌, ◌≤◌, false, []};
 ghost use Rattle.o2_outer.specs.Texts.{Rose};
 
-use crate::stdin::read_front;
+use crate::reading::read_on;
 use crate::streams::write_whole;
-use crate::{Dev, Put, SwapDevice, Took};
+use crate::{Dev, Put, SwapDevice};
 use std::fs::OpenOptions;
 use std::io::{Seek, SeekFrom};
 use std::rt;
@@ -73,7 +73,7 @@ impl<R: rt::Files + Drop> FileSwap<R> {
             return false;
         };
         file.seek(SeekFrom::Start(i as u64 * BLOCK)).is_ok()
-            && read_front(file, into) == Took::Done(512)
+            && read_on(file, into, 0, 512) == (512, true)
     }
 
     /// Writes a block to the open file, and tells whether it was taken whole.

@@ -11,6 +11,7 @@ mod mem_source;
 mod mem_swap;
 mod no_sink;
 mod plan;
+mod reading;
 mod sink;
 mod source;
 mod stdin;
@@ -32,3 +33,6 @@ pub use stdin::{StdinSource, StreamSource};
 pub use streams::{StderrSink, StdoutSink, StreamSink};
 pub use sure::{SureSource, SureSwap};
 pub use swap::{Dev, SwapDevice};
+
+#[cfg(test)]
+mod tests;

@@ -6,10 +6,7 @@ ghost use Rattle.o2_outer.specs.Planned.{planned_bytes, next_call, fails_next};
 pub fn planned(fails: &[(u64, usize)], call: u64) -> Option<usize>
     ensures { result ≡ planned_bytes fails.now call }
 {
-    fails
-        .iter()
-        .find(|plan| plan.0 == call)
-        .map(|plan| plan.1)
+    fails.iter().find(|plan| plan.0 == call).map(|plan| plan.1)
 }
 
 /// Counts one call more, and tells whether it is one of those that are to fail.

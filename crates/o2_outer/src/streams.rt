@@ -1,11 +1,12 @@
 // The standard streams as sinks.
-ghost use Rattle.std.specs.Prelude.{◌≤◌, length};
+ghost use Rattle.std.specs.Prelude.{◌≡◌, ◌≤◌, length};
 ghost use Rattle.o2_outer.specs.Answers.{Takes};
 
 use crate::{Put, Sink};
 use std::io::{Stderr, Stdout, Write};
 
-/// A stream of the system. It tells no content; each error of the system, and a write that takes nothing, is a fault.
+/// A writer as a sink: it tells what the writer tells that it holds. Each error of the writer, and a write that takes nothing, is a
+/// fault.
 #[derive(Drop)]
 pub struct StreamSink<W: Write + Drop> {
     stream: W,
@@ -35,8 +36,18 @@ pub fn write_whole<W: Write>(stream: &mut W, piece: &[u8]) -> Put
 
 impl<W: Write + Drop> StreamSink<W> {
     /// A sink over this stream.
-    pub fn new(stream: W) -> StreamSink<W> {
+    pub fn new(stream: W) -> StreamSink<W>
+        ensures stream { result.stream ≡ stream }
+        ensures faultless { result.faults ≡ 0 }
+    {
         StreamSink { stream, faults: 0 }
+    }
+
+    /// The stream.
+    pub fn stream(&self) -> &W
+        ensures { result.now ≡ self.now.stream }
+    {
+        &self.stream
     }
 }
 

@@ -11,8 +11,10 @@ pub returns-in-Ok-eq0 : goal.returns-in-Ok-eq0
 returns-in-Ok-eq0 g c =
     let p = c.args.piece.now in
     let w = c.loop-written.written in
-    record { takes = written_in_part p w _ _ _ c.loop-written.invariant.gains
-      (subst (λ (n : ℕ). Gains (g.W.Write.contents c.loop-written.stream) (g.W.Write.contents c.write.new.self) (take n (take (length p - w) (drop w p)))) c.in-Ok-eq0.field-0-test (appends_gains _ _ _ c.in-Ok-eq0.ensures.bytes)) }
+    record {
+      takes = written_in_part p w _ _ _ c.loop-written.invariant.gains
+          (subst (λ (n : ℕ). Gains (g.W.Write.contents c.loop-written.stream) (g.W.Write.contents c.write.new.self) (take n (take (length p - w) (drop w p)))) c.in-Ok-eq0.field-0-test (appends_gains _ _ _ c.in-Ok-eq0.ensures.bytes));
+    }
 
 pub loop-written-preserved : goal.loop-written-preserved
 loop-written-preserved g c =

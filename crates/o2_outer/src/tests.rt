@@ -1,0 +1,108 @@
+// The forms in memory and the adapters over the standard library's readers and writers.
+
+use crate::{Dev, MemSwap, Put, Sink, Source, StreamSink, StreamSource, SwapDevice, Took};
+use std::io;
+use std::io::{Read, Write};
+use std::test::Fail;
+
+/// A writer that takes one byte at a time, and nothing at all once it holds so many.
+#[derive(Drop)]
+struct Narrow {
+    bytes: Vec<u8>,
+    most: usize,
+}
+
+impl Write for Narrow {
+    fn write(&mut self, buf: &[u8]) -> io::Result<usize> {
+        if buf.is_empty() || self.bytes.len() >= self.most {
+            return Ok(0);
+        }
+        self.bytes.push(buf[0])?;
+        Ok(1)
+    }
+
+    fn flush(&mut self) -> io::Result<()> {
+        Ok(())
+    }
+}
+
+#[test]
+fn a_piece_is_written_byte_by_byte_and_fails_where_nothing_is_taken(
+    rt: HostRuntime,
+) -> Result<(), Fail> {
+    let mut sink = StreamSink::new(Narrow {
+        bytes: Vec::new(rt.alloc()),
+        most: 5,
+    });
+    assert_eq!(rt; sink.put(b"abc"), Put::Done);
+    assert_eq!(rt; sink.put(b""), Put::Done);
+    assert_eq!(rt; sink.put(b"def"), Put::Failed);
+    assert_eq!(rt; sink.stream().bytes.as_slice(), b"abcde".as_slice());
+    Ok(())
+}
+
+#[test]
+fn a_device_fails_at_its_calls_and_at_one_write(rt: HostRuntime) -> Result<(), Fail> {
+    let mut swap = MemSwap::new(rt.alloc(), 2, vec![in rt.alloc(); 3]?)?;
+    swap.fail_write(3);
+    let mut block = [7u8; 512];
+    assert_eq!(rt; swap.write(1, &block), Dev::Done);
+    assert_eq!(rt; swap.read(0, &mut block), Dev::Done);
+    assert_eq!(rt; block[511], 0);
+    assert_eq!(rt; swap.read(1, &mut block), Dev::Failed);
+    assert_eq!(rt; swap.read(1, &mut block), Dev::Done);
+    assert_eq!(rt; block[0], 7);
+    assert_eq!(rt; swap.write(0, &block), Dev::Done);
+    assert_eq!(rt; swap.write(0, &block), Dev::Failed);
+    assert_eq!(rt; swap.write(0, &block), Dev::Done);
+    assert_eq!(rt; swap.writes(), 3);
+    assert_eq!(rt; swap.faults(), 2);
+    Ok(())
+}
+
+/// A reader that gives one byte at a time, and fails at one read.
+#[derive(Drop)]
+struct Halting {
+    bytes: Vec<u8>,
+    at: usize,
+    reads: usize,
+    fails: usize,
+}
+
+impl Read for Halting {
+    fn read(&mut self, buf: &mut [u8]) -> io::Result<usize> {
+        self.reads += 1;
+        if self.reads == self.fails {
+            return Err(io::Error::from(io::ErrorKind::BrokenPipe));
+        }
+        if buf.is_empty() || self.at == self.bytes.len() {
+            return Ok(0);
+        }
+        buf[0] = self.bytes[self.at];
+        self.at += 1;
+        Ok(1)
+    }
+}
+
+#[test]
+fn bytes_before_an_error_are_given_later(rt: HostRuntime) -> Result<(), Fail> {
+    let mut bytes = Vec::new(rt.alloc());
+    bytes.extend_from_slice(b"abcdefg")?;
+    let mut source = StreamSource::new(
+        rt.alloc(),
+        Halting {
+            bytes,
+            at: 0,
+            reads: 0,
+            fails: 4,
+        },
+    )?;
+    let mut into = [0u8; 5];
+    assert_eq!(rt; source.take(&mut into), Took::Failed);
+    assert_eq!(rt; source.take(&mut into[..2]), Took::Done(2));
+    assert_eq!(rt; &into[..2], b"ab".as_slice());
+    assert_eq!(rt; source.take(&mut into), Took::Done(5));
+    assert_eq!(rt; into.as_slice(), b"cdefg".as_slice());
+    assert_eq!(rt; source.take(&mut into), Took::Done(0));
+    Ok(())
+}
