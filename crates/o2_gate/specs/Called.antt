@@ -84,4 +84,4 @@ PutsBoth piece text c d r q put.Failed = PutInPart piece text c d r q
 -- the bytes of the input that a take of at most `count` gave stand at the front of the buffer
 abbrev pub Fills : ℕ → (left_old left_new : Option (List ℕ)) → List ℕ → Took → Type 0
 Fills count i j buffer (took.Done n) = (t : List ℕ) → i ≡ Some t → (take n buffer ≡ take count t) × (j ≡ Some (drop count t))
-Fills count i j buffer took.Failed = (j ≡ i) × ((count == 0) ≡ false)
+Fills count i j buffer took.Failed = ((t : List ℕ) → i ≡ Some t → j ≡ i) × ((count == 0) ≡ false)
