@@ -4,37 +4,53 @@
 // than 0, go to the standard error; the status is the exit status.
 #![tactic(auto)]
 
+ghost use Rattle.std.specs.Prelude.{◌≡◌, ◌≢◌, [], Err, IfOk, MatchResult};
+ghost use Rattle.std.specs.IoError.{error_kind};
+ghost use Rattle.std.specs.declared.io.kind.ErrorKind.TheVariants.{OutOfMemory};
+
 use o2_base::NoMemory;
 use o2_cli::{Status, number, os2run, text};
 use o2_outer::{FolderFiles, Put, Sink, StderrSink, StdinSource, StdoutSink, SureSwap};
+use std::alloc::Global;
 use std::env;
+use std::io;
 use std::process::ExitCode;
 
-/// The blocks of the swap device.
-const SWAP_BLOCKS: u32 = 2048;
+/// The blocks of the swap device: nothing is swapped.
+const SWAP_BLOCKS: u32 = 0;
 
-/// The words behind the program's name. Where they can't be told there are none, and that is no command.
-fn words(rt: &HostRuntime) -> Vec<String> {
-    let mut words = Vec::new(rt.alloc());
-    let Ok(args) = env::args(rt) else {
-        return words;
-    };
-    for word in args.skip(1) {
-        if words.push(word).is_err() {
-            return Vec::new(rt.alloc());
-        }
+/// The words that are there in place of those that can't be read: none, which is no command, unless memory was wanting.
+fn words_in_place(alloc: Global, error: &io::Error) -> Result<Vec<String>, NoMemory>
+    ensures memory { error_kind error.now ≡ OutOfMemory → result ≡ Err NoMemory }
+    ensures none { error_kind error.now ≢ OutOfMemory → result ≡ Ok [] }
+{
+    if error.kind() == io::ErrorKind::OutOfMemory {
+        return Err(NoMemory);
     }
-    words
+    Ok(Vec::new(alloc))
+}
+
+/// The words behind the program's name.
+fn words(rt: &HostRuntime) -> Result<Vec<String>, NoMemory> {
+    let args = match env::args(rt) {
+        Ok(args) => args,
+        Err(error) => return words_in_place(rt.alloc(), &error),
+    };
+    let mut words = Vec::new(rt.alloc());
+    for word in args.skip(1) {
+        words.push(word)?;
+    }
+    Ok(words)
 }
 
 /// Runs the command over the folder's files and the standard streams.
 fn run(rt: &HostRuntime) -> Result<Status, NoMemory> {
+    let words = words(rt)?;
     let mut files = FolderFiles::new(rt);
     let mut input = StdinSource::new(rt.reader());
     let mut console = StdoutSink::new(rt.stdout());
     let mut report = StderrSink::new(rt.stderr());
     let mut swap = SureSwap::new(rt.alloc(), SWAP_BLOCKS)?;
-    let words = words(rt);
     Ok(os2run(
         rt.alloc(),
         words.as_slice(),
