@@ -5,6 +5,7 @@ mod answer;
 mod bits;
 mod ends;
 mod held;
+mod links;
 mod regions;
 
 pub use answer::{Answer, Roomed};

@@ -1,16 +1,19 @@
 // Who holds which index, how often, and what its descriptor says.
-ghost use Rattle.std.specs.Prelude.{◌≡◌, ℕ, ◌+◌, ◌*◌, ◌<◌, ◌≤◌, ◌^◌, ◌∷◌, true, false, not, [], length, replicate, IfOk, IfSome, slice_index_or, slice_set};
+ghost use Rattle.std.specs.Prelude.{◌≡◌, ℕ, ◌+◌, ◌*◌, ◌<◌, ◌≤◌, ◌^◌, ◌∷◌, true, false, not, [], length, replicate, IfOk, IfSome, slice_get, slice_index_or, slice_set};
 ghost use Rattle.std.specs.Borrow.{sem};
 ghost use Rattle.std.specs.Option.{is_some};
 ghost use Rattle.o2_desc.specs.Bytes.{empty};
 ghost use Rattle.o2_desc.specs.Choice.{IsRun, chosen};
 ghost use Rattle.o2_regions.specs.Lending.{LendsTable};
+ghost use Rattle.o2_regions.specs.Links.{holders, pair_at};
 ghost use Rattle.o2_regions.specs.Maps.{IsProcess, IsRegion, base_of, descriptor_of, dropped, end_of, first_of, granted, held_at, holds_of, is_held, is_reserved, is_taken, left_of, nothing, place, region_of, table_of, with_reserved};
 
 use crate::bits::Bits;
+use crate::links::{kth_place, link, unlink, unlinked};
 use crate::{Held, Region};
 use o2_base::NoMemory;
 use o2_desc::{Descriptor, Table};
+use o2_place::SegId;
 use std::alloc::Global;
 use std::marker::Model;
 
@@ -33,18 +36,20 @@ pub struct Regions {
     tables: Vec<Table>,
     // where something is held, by process and index
     marks: Bits,
+    // the holders of each segment, in lists by its key
+    next: Vec<u32>,
+    prev: Vec<u32>,
 }
 
 impl Model for Regions {
     ghost use Rattle.o2_regions.specs.Maps.{Maps};
-    ghost use Rattle.o2_regions.specs.Kept.{AreKept, AreMarked};
+    ghost use Rattle.o2_regions.specs.Kept.{AreWhole};
 
     ghost Value = { Maps };
 
     ghost view = { λ r. record { processes = r.processes; held = r.held.items; reserved = r.reserved; tables = r.tables.items } };
 
-    ghost invariant = { λ r. AreKept (record { processes = r.processes; held = r.held.items; reserved = r.reserved; tables = r.tables.items })
-        × AreMarked r.held.items r.marks };
+    ghost invariant = { λ r. AreWhole (record { processes = r.processes; held = r.held.items; reserved = r.reserved; tables = r.tables.items }) r.marks r.next.items r.prev.items };
 }
 
 // Where a process's index stands.
@@ -52,6 +57,17 @@ fn place_of(pid: u16, index: u16) -> usize
     ensures { result ≡ place pid index }
 {
     pid as usize * INDEXES as usize + index as usize
+}
+
+// The process and the index of a place.
+fn pair_of(place: usize) -> (u16, u16)
+    requires { place < 2 ^ 29 }
+    ensures { result ≡ pair_at place }
+{
+    (
+        (place / INDEXES as usize) as u16,
+        (place % INDEXES as usize) as u16,
+    )
 }
 
 // Where the marks of a region begin.
@@ -119,12 +135,16 @@ impl Regions {
         let reserved = Bits::new(alloc, (rows + 1) * (REGION as usize / 64))?;
         let tables = new_tables(alloc, processes)?;
         let marks = Bits::new(alloc, rows * (INDEXES as usize / 64))?;
+        let next = unlinked(alloc, rows * INDEXES as usize)?;
+        let prev = unlinked(alloc, rows * INDEXES as usize)?;
         Ok(Regions {
             processes,
             held,
             reserved,
             tables,
             marks,
+            next,
+            prev,
         })
     }
 
@@ -189,6 +209,13 @@ impl Regions {
             }
             None => {
                 if held.holds != 0 {
+                    link(
+                        &self.held,
+                        &mut self.next,
+                        &mut self.prev,
+                        held.id.key,
+                        place,
+                    );
                     self.held[place] = Some(held);
                     self.marks.set(place, true);
                     let entry = Descriptor {
@@ -215,6 +242,7 @@ impl Regions {
             Some(was) => {
                 let left = was.holds - 1;
                 if left == 0 {
+                    unlink(&self.held, &mut self.next, &mut self.prev, place);
                     self.held[place] = None;
                     self.marks.set(place, false);
                     set_entry(&mut self.tables, pid, index, Descriptor::EMPTY);
@@ -235,6 +263,16 @@ impl Regions {
         ensures counted { IfSome result (λ h. 0 < h.holds) }
     {
         self.held[place_of(pid, index)]
+    }
+
+    /// The k-th process and index from 0 that hold a segment, by process, then by index, and none exactly past the last.
+    pub fn holder(&self, id: SegId, k: u32) -> Option<(u16, u16)>
+        ensures { result ≡ slice_get (holders self.now id) k }
+    {
+        match kth_place(&self.held, &self.next, id, k) {
+            Some(place) => Some(pair_of(place)),
+            None => None,
+        }
     }
 
     /// The descriptor of an index in a process's table, and none exactly where the process holds nothing there.
