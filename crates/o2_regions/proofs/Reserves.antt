@@ -1,14 +1,14 @@
 -- What is reserved, and what may be chosen.
 use Rattle.std.proofs.Common.{◌≡◌, ℕ, zero, suc, ◌+◌, ◌*◌, ◌<◌, ◌≤◌, ◌&&◌, ◌||◌, inl, inr, length, cond, ltb, nat_le, nat_lt, refl, sym, ap, ◌∙◌, arith, true, false, Bool, Option, Some, None, get_or, subst}
 use Rattle.std.specs.Option.{is_some}
-use Rattle.std.proofs.lemmas.Bool.{cases_eq, cases_lt, and_parts, cond-true, cond-false, lt-ltb, le-ltb, both_ways, or_cases, or_parts}
+use Rattle.std.proofs.lemmas.Bool.{cases_eq, eq-eqb, ne_eqb, cases_lt, and_parts, cond-true, cond-false, lt-ltb, le-ltb, both_ways, or_cases, or_parts}
 use Rattle.std.proofs.lemmas.Bool.Decides.{nat_tests}
 use Rattle.std.proofs.lemmas.List.{get_or_past}
 use Rattle.o2_desc.specs.Choice.{chosen}
 use Rattle.o2_regions.specs.declared.held.Held.{Held}
 use Rattle.o2_regions.specs.declared.held.Region.{Region}
 use Rattle.o2_regions.specs.declared.held.Region.TheVariants.{Private, Shared}
-use Rattle.o2_regions.specs.Maps.{Maps, IsProcess, IsRegion, base_of, end_of, fill, first_of, held_at, is_held, is_reserved, is_taken, place, region_of, some_holds, with_reserved}
+use Rattle.o2_regions.specs.Maps.{Maps, IsProcess, IsRegion, base_of, end_of, fill, first_of, held_at, is_held, is_reserved, is_taken, place, region_of, same_region, some_holds, with_reserved}
 use Rattle.o2_regions.specs.Kept.{AreKept}
 use Rattle.o2_regions.proofs.Keeps.{held_in, held_out}
 use Rattle.o2_regions.proofs.Scans.{chosen-same}
@@ -187,3 +187,43 @@ AreKept-release m g first count k p a h free =
           (get_or-fill m.reserved (base_of g + first) count false false w (base_of r + j)
           ∙ kept_out (nat_le (base_of g + first) (base_of r + j) && nat_lt (base_of r + j) (base_of g + first + count)) (get_or m.reserved (base_of r + j) false) (apart m g first count k p a h free q j x e) t.1));
     }
+
+-- the place of an index's mark lies among those of a run exactly where the index lies in the run
+mark_within : (m : Maps) (g h : Region) (first count i : ℕ) → IsRegion m g → IsRegion m h → first + count ≤ end_of g → i < end_of h
+    → (nat_le (base_of g + first) (base_of h + i) && nat_lt (base_of h + i) (base_of g + first + count)) ≡ (same_region h g && (nat_le first i && nat_lt i (first + count)))
+mark_within m (Private p) (Private q) first count i a b l s = elim (cases_eq q p) [
+  | inl same ↦ rw (eq-eqb q p same) (grind (arith, nat_tests))
+  | inr other ↦ rw (ne_eqb q p other) (far q p i first count other s l)
+]
+  where
+    far : (q p i first count : ℕ) → (q ≡ p → ⊥) → i < 4096 → first + count ≤ 4096 → (nat_le ((p + 1) * 4096 + first) ((q + 1) * 4096 + i) && nat_lt ((q + 1) * 4096 + i) ((p + 1) * 4096 + first + count)) ≡ false
+    far q p i first count n s b = grind (arith, nat_tests)
+mark_within m (Private p) Shared first count i a b l s = grind (arith, nat_tests)
+mark_within m Shared (Private q) first count i a b l s = grind (arith, nat_tests)
+mark_within m Shared Shared first count i a b l s = grind (arith, nat_tests)
+
+past_region : (g h : Region) (first count i : ℕ) → first + count ≤ end_of g → end_of h ≤ i → (same_region h g && (nat_le first i && nat_lt i (first + count))) ≡ false
+past_region (Private p) (Private q) first count i l s = grind (arith, nat_tests)
+past_region (Private p) Shared first count i l s = refl
+past_region Shared (Private q) first count i l s = refl
+past_region Shared Shared first count i l s = grind (arith, nat_tests)
+
+-- what is reserved after a run was, or no longer is
+pub is_reserved-with : (m : Maps) (g h : Region) (first count i : ℕ) (mark : Bool) → AreKept m → IsRegion m g → IsRegion m h → first + count ≤ end_of g
+    → is_reserved (with_reserved m g first count mark) h i ≡ cond (same_region h g && (nat_le first i && nat_lt i (first + count))) mark (is_reserved m h i)
+is_reserved-with m g h first count i mark k a b l =
+    let w : base_of g + first + count ≤ length m.reserved = omega (arith, region_in m g k a) in
+    let t = same_region h g && (nat_le first i && nat_lt i (first + count)) in
+    elim (cases_lt i (end_of h)) [
+      | inl small ↦
+          (let in_now = lt-ltb i (end_of h) small in
+          ap (λ (x : Bool). x && get_or (fill m.reserved (base_of g + first) count mark) (base_of h + i) false) in_now
+          ∙ get_or-fill m.reserved (base_of g + first) count mark false w (base_of h + i)
+          ∙ ap (λ (x : Bool). cond x mark (get_or m.reserved (base_of h + i) false)) (mark_within m g h first count i a b l small)
+          ∙ ap (λ (x : Bool). cond t mark (x && get_or m.reserved (base_of h + i) false)) (sym in_now))
+      | inr large ↦
+          (let out_now = le-ltb i (end_of h) large in
+          ap (λ (x : Bool). x && get_or (fill m.reserved (base_of g + first) count mark) (base_of h + i) false) out_now
+          ∙ ap (λ (x : Bool). x && get_or m.reserved (base_of h + i) false) (sym out_now)
+          ∙ ap (λ (x : Bool). cond x mark (is_reserved m h i)) (sym (past_region g h first count i l large)))
+    ]

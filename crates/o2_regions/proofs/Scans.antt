@@ -1,6 +1,7 @@
 -- A scan for numbers in a row that aren't taken.
 use Rattle.std.proofs.Common.{◌≡◌, ℕ, ◌+◌, ◌-◌, ◌<◌, ◌≤◌, inl, inr, Bool, true, false, Option, Some, None, arith, sym, ◌∙◌, subst}
 use Rattle.std.proofs.lemmas.Bool.{cases_lt, cases_eq, both_ways}
+use Rattle.std.specs.Option.{IfSome}
 use Rattle.o2_desc.specs.Choice.{IsRun, IsChosen, chosen}
 use Rattle.o2_desc.proofs.Choices.{chosen_law, one_choice}
 use Rattle.o2_regions.specs.Words.{IsScanned}
@@ -81,3 +82,11 @@ moved_choice f g low end n same (Some i) h = (moved f g low end n same i h.0, λ
 -- what is taken in the region alone decides
 pub chosen-same : (f g : ℕ → Bool) (low end n : ℕ) → ((k : ℕ) → low ≤ k → k < end → f k ≡ g k) → chosen f low end n ≡ chosen g low end n
 chosen-same f g low end n same = scanned g low end n (chosen f low end n) (moved_choice f g low end n same (chosen f low end n) (chosen_law f low end n))
+
+some_run : (taken : ℕ → Bool) (low end n : ℕ) (r : Option ℕ) → IsChosen taken low end n r → IfSome r (λ i. IsRun taken low end n i)
+some_run taken low end n None h = tt
+some_run taken low end n (Some i) h = h.0
+
+-- what is chosen is a run
+pub run_of : (taken : ℕ → Bool) (low end n : ℕ) (r : Option ℕ) → r ≡ chosen taken low end n → IfSome r (λ i. IsRun taken low end n i)
+run_of taken low end n r e = some_run taken low end n r (subst (λ (o : Option ℕ). IsChosen taken low end n o) (sym e) (chosen_law taken low end n))

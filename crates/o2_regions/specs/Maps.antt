@@ -1,6 +1,6 @@
 -- What processes hold, as finite maps: per process from index to what it holds there; per region which indexes are reserved;
 -- and per process its descriptors.
-use Rattle.std.specs.Prelude.{ℕ, zero, suc, ◌+◌, ◌-◌, ◌*◌, ◌≤◌, ◌&&◌, ◌||◌, ◌==◌, nat_lt, Bool, false, List, [], ◌∷◌, ◌++◌, Option, Some, None, if◌then◌else◌, take, drop, replicate, slice_index_or, slice_set}
+use Rattle.std.specs.Prelude.{ℕ, zero, suc, ◌+◌, ◌-◌, ◌*◌, ◌≤◌, ◌&&◌, ◌||◌, ◌==◌, nat_lt, Bool, true, false, List, [], ◌∷◌, ◌++◌, Option, Some, None, if◌then◌else◌, take, drop, replicate, slice_index_or, slice_set}
 use Rattle.std.specs.Option.{is_some}
 use Rattle.o2_desc.specs.declared.descriptor.Descriptor.{Descriptor}
 use Rattle.o2_desc.specs.Bytes.{empty}
@@ -144,3 +144,30 @@ descriptor_of (Some h) table i = Some (slice_index_or table i empty)
 abbrev pub is_of : SegId → Option Held → Bool
 is_of id None = false
 is_of id (Some h) = (h.id.key == id.key) && (h.id.age == id.age)
+
+-- what is held at an index with more holds there
+abbrev pub more_of : Option Held → Held → Option Held
+more_of None h = if h.holds == 0 then None else Some h
+more_of (Some was) h = Some (record was { holds = was.holds + h.holds })
+
+-- what is held at an index with one hold less there
+abbrev pub less_of : Option Held → Option Held
+less_of None = None
+less_of (Some was) = if was.holds - 1 == 0 then None else Some (record was { holds = was.holds - 1 })
+
+-- the descriptors with that of an index as a first grant leaves it
+abbrev pub entered : Option Held → Held → List Descriptor → ℕ → ℕ → List Descriptor
+entered None h table i access = if h.holds == 0 then table else slice_set table i (fresh access)
+entered (Some was) h table i access = table
+
+-- the descriptors with that of an index as a drop leaves it
+abbrev pub emptied : Option Held → List Descriptor → ℕ → List Descriptor
+emptied None table i = table
+emptied (Some was) table i = if was.holds - 1 == 0 then slice_set table i empty else table
+
+-- whether two regions are one
+abbrev pub same_region : Region → Region → Bool
+same_region (Private p) (Private q) = p == q
+same_region (Private p) Shared = false
+same_region Shared (Private q) = false
+same_region Shared Shared = true

@@ -5,10 +5,12 @@ mod answer;
 mod bits;
 mod ends;
 mod held;
+mod laws;
 mod links;
 mod regions;
 
 pub use answer::{Answer, Roomed};
 pub use ends::{Ends, MOST_PROCESSES};
 pub use held::{Cause, Held, Region};
+pub use laws::{drops_are_exact, grants_are_exact, reservations_are_exact};
 pub use regions::Regions;

@@ -4,6 +4,7 @@ ghost use Rattle.std.specs.Borrow.{sem};
 ghost use Rattle.std.specs.Option.{is_some};
 ghost use Rattle.o2_desc.specs.Bytes.{empty};
 ghost use Rattle.o2_desc.specs.Choice.{IsRun, chosen};
+ghost use Rattle.o2_regions.specs.Kept.{AreKept};
 ghost use Rattle.o2_regions.specs.Lending.{LendsTable};
 ghost use Rattle.o2_regions.specs.Links.{holders, pair_at};
 ghost use Rattle.o2_regions.specs.Maps.{IsProcess, IsRegion, base_of, descriptor_of, dropped, end_of, first_of, granted, held_at, holds_of, is_held, is_reserved, is_taken, left_of, nothing, place, region_of, table_of, with_reserved};
@@ -148,6 +149,13 @@ impl Regions {
         })
     }
 
+    /// What is true of every value: what is held is reserved, and held at least once by one of the processes.
+    pub fn law(&self)
+        ensures { AreKept self.now }
+    {
+        let _processes = &self.processes;
+    }
+
     /// The number of processes that there may be.
     pub fn processes(&self) -> u16
         ensures { result ≡ self.now.processes }
@@ -160,7 +168,8 @@ impl Regions {
     pub fn lowest(&self, region: Region, count: u16) -> Option<u16>
         requires region { IsRegion self.now region }
         requires some { 0 < count }
-        ensures { result ≡ chosen (is_taken self.now region) (first_of region) (end_of region) count }
+        ensures lowest { result ≡ chosen (is_taken self.now region) (first_of region) (end_of region) count }
+        ensures free { IfSome result (λ i. IsRun (is_taken self.now region) (first_of region) (end_of region) count i) }
     {
         self.reserved.lowest_clear(base(region), first_index(region), end_index(region), count)
     }
