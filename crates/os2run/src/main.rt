@@ -47,7 +47,7 @@ fn words(rt: &HostRuntime) -> Result<Vec<String>, NoMemory> {
 fn run(rt: &HostRuntime) -> Result<Status, NoMemory> {
     let words = words(rt)?;
     let mut files = FolderFiles::new(rt);
-    let mut input = StdinSource::new(rt.reader());
+    let mut input = StdinSource::new(rt.alloc(), rt.reader())?;
     let mut console = StdoutSink::new(rt.stdout());
     let mut report = StderrSink::new(rt.stderr());
     let mut swap = SureSwap::new(rt.alloc(), SWAP_BLOCKS)?;

@@ -1,7 +1,7 @@
 // Files of the folder that a command runs in.
 
 use o2_base::{Bytes, NoMemory};
-use o2_outer::{Fetch, Files, FolderFiles};
+use o2_outer::{Dev, Fetch, FileSwap, Files, FolderFiles, SwapDevice};
 use std::fs;
 use std::test::Fail;
 
@@ -31,5 +31,37 @@ fn a_file_of_the_folder(rt: HostRuntime) -> Result<(), Fail> {
     assert_eq!(rt; fetched(&rt, b"fetched.bin", 2)?, "too long");
     assert_eq!(rt; fetched(&rt, b"not_there.bin", 3)?, "no file");
     fs::remove_file(&rt, "fetched.bin")?;
+    Ok(())
+}
+
+/// The name of the swap device's file.
+const SWAP_FILE: &str = "os2run.swp";
+
+#[test]
+fn blocks_in_a_file_of_the_folder(rt: HostRuntime) -> Result<(), Fail> {
+    let mut swap = FileSwap::new(&rt);
+    let mut block = [0u8; 512];
+    assert_eq!(rt; swap.count(), 65_536);
+    assert_eq!(rt; swap.write(3, &[3u8; 512]), Dev::Done);
+    assert_eq!(rt; swap.write(1, &[1u8; 512]), Dev::Done);
+    assert_eq!(rt; swap.read(3, &mut block), Dev::Done);
+    assert_eq!(rt; block[511], 3);
+    assert_eq!(rt; swap.read(1, &mut block), Dev::Done);
+    assert_eq!(rt; block[0], 1);
+    assert_eq!(rt; fs::metadata(&rt, SWAP_FILE)?.len(), 2048);
+    // a file that was cut short has no block 3
+    fs::write(&rt, SWAP_FILE, "short")?;
+    assert_eq!(rt; swap.read(3, &mut block), Dev::Failed);
+    fs::remove_file(&rt, SWAP_FILE)?;
+    Ok(())
+}
+
+#[test]
+fn a_folder_of_the_swap_files_name(rt: HostRuntime) -> Result<(), Fail> {
+    fs::create_dir(&rt, SWAP_FILE)?;
+    let mut swap = FileSwap::new(&rt);
+    let result = swap.write(0, &[0u8; 512]);
+    fs::remove_dir(&rt, SWAP_FILE)?;
+    assert_eq!(rt; result, Dev::Failed);
     Ok(())
 }
