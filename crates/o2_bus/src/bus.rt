@@ -56,7 +56,7 @@ pub trait Bus {
         requires fits { width ≡ Width.Byte → value < 256 }
         ensures { view self.new ≡ poke (view self.old) reg off width value };
 
-    /// The size in bytes of the segment that a selector names, 1 to 65,536. None exactly where it names none.
+    /// The size in bytes of the segment that a selector names, 65,536 at most. None exactly where it names none.
     fn size_of(&self, sel: Selector) -> Option<u32>
         ensures { result ≡ size_at (view self.now) sel.0 };
 

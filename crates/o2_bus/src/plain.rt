@@ -1,6 +1,6 @@
 // Segments as byte vectors, with a map for each process.
 ghost use Rattle.std.specs.Prelude.{◌≡◌, ◌==◌, ◌<◌, ◌≤◌, ◌+◌, ◌/◌, ℕ, true, not, length, option_map, IfOk, if◌then◌else◌, None};
-ghost use Rattle.o2_isa.specs.View.{found_in};
+ghost use Rattle.o2_isa.specs.View.{bound_in, found_in};
 ghost use Rattle.o2_bus.specs.Plain.{hold_of, held_in, bytes_in, shown_in, count_in};
 
 use crate::segment::Segment;
@@ -84,5 +84,12 @@ impl Plain {
         } else {
             None
         }
+    }
+
+    /// What a segment register holds after the load of a selector: nothing where it is null.
+    pub fn bound(&self, pid: u16, sel: u16) -> Option<Grant>
+        ensures { option_map hold_of result ≡ bound_in (held_in self.now pid) sel }
+    {
+        if sel < 4 { None } else { self.found(pid, sel) }
     }
 }

@@ -1,7 +1,7 @@
 // A bus over a plain memory of segments.
 ghost use Rattle.std.specs.Prelude.{◌≡◌, ◌<◌, ◌≤◌, ◌+◌, ◌*◌, ◌/◌, ◌%◌, ℕ, length, take, drop, IsOk, IfOk, option_map, None, Some};
 ghost use Rattle.o2_isa.specs.declared.instr.Width.TheVariants.{Byte};
-ghost use Rattle.o2_isa.specs.View.{with_register, in_register, bound_in, bound_registers, is_null, is_code, is_readable, is_writable, shown_rights, refused, here, when, called, gate_at, load_rules, outside, width_len, value_at, put_at, reached, read_name, SameRoom};
+ghost use Rattle.o2_isa.specs.View.{with_register, in_register, bound_registers, is_null, is_code, is_readable, is_writable, shown_rights, refused, here, when, called, gate_at, load_rules, outside, width_len, value_at, put_at, reached, read_name, SameRoom};
 ghost use Rattle.std.specs.Prelude.{slice_get};
 ghost use Rattle.o2_bus.specs.Sized.{plain_sized};
 ghost use Rattle.o2_bus.specs.Plain.{hold_of, held_in, bus_view, view_in, registers_of, passes_of, absent_of, segment_bytes, PutsBytes};
@@ -29,21 +29,14 @@ pub struct PlainBus<'p> {
     pub holds: Holds,
 }
 
-/// What a segment register holds after the load of a selector.
-fn bound(plain: &Plain, pid: u16, sel: u16) -> Option<Grant>
-    ensures { option_map hold_of result ≡ bound_in (held_in plain.now pid) sel }
-{
-    if sel < 4 { None } else { plain.found(pid, sel) }
-}
-
 fn holds_of(plain: &Plain, pid: u16, cpu: &Cpu) -> Holds
     ensures { registers_of result ≡ bound_registers (held_in plain.now pid) cpu.now }
 {
     Holds {
-        es: bound(plain, pid, cpu.es),
-        cs: bound(plain, pid, cpu.cs),
-        ss: bound(plain, pid, cpu.ss),
-        ds: bound(plain, pid, cpu.ds),
+        es: plain.bound(pid, cpu.es),
+        cs: plain.bound(pid, cpu.cs),
+        ss: plain.bound(pid, cpu.ss),
+        ds: plain.bound(pid, cpu.ds),
     }
 }
 
@@ -354,7 +347,7 @@ impl Bus for PlainBus<'_> {
 
     #[tactic(auto, unfolding(crate::specs::Plain::bus_view, o2_isa::specs::View::bind))]
     fn load(&mut self, reg: Sreg, sel: Selector) {
-        let grant = bound(self.plain, self.pid, sel.0);
+        let grant = self.plain.bound(self.pid, sel.0);
         self.holds = with_hold(self.holds, reg, grant);
     }
 

@@ -4,6 +4,8 @@ ghost use Rattle.o2_isa.specs.View.{Filling, IsBound, KeepsFrame, Agrees};
 ghost use Rattle.o2_isa.specs.Steps.{run, state, State};
 ghost use Rattle.o2_isa.specs.Meaning.{meaning};
 ghost use Rattle.o2_isa.specs.Presence.{whole_state, is_in};
+ghost use Rattle.o2_isa.specs.Sizes.{KeepsLengths};
+ghost use Rattle.o2_isa.specs.Writes.{WritesData};
 ghost use Rattle.o2_isa.specs.Step.{steps_at, Answers, AsBoundless, stepped, step_names, is_miss};
 
 use o2_bus::{Bus, Cpu, Outcome};
@@ -56,6 +58,8 @@ pub fn step_one<B: Bus>(cpu: &mut Cpu, bus: &mut B) -> Outcome
     ensures step { Answers result (state cpu.new (B.view bus.new)) (state cpu.old (B.view bus.old)) (stepped (state cpu.old (B.view bus.old))) }
     ensures boundless { (f : Filling) → IsBound (B.view bus.old) → AsBoundless f result (state cpu.new (B.view bus.new)) (state cpu.old (B.view bus.old)) }
     ensures frame { KeepsFrame (B.view bus.old) (B.view bus.new) }
+    ensures lengths { KeepsLengths (B.view bus.old) (B.view bus.new) }
+    ensures writes { WritesData (B.view bus.old) (B.view bus.new) }
     ensures agrees { Agrees cpu.old (B.view bus.old) → Agrees cpu.new (B.view bus.new) }
     ensures present { (f : Filling) → IsBound (B.view bus.old) → is_miss result ≡ false → (n : ℕ) → is_in n (step_names (whole_state f (state cpu.old (B.view bus.old)))) ≡ true → (B.view bus.old).present n ≡ true }
 {

@@ -14,17 +14,15 @@ returns-clause-step c =
     let agrees = agrees_at c.args.bus.now.plain.ghost_name c.args.bus.now.plain.now c.args.bus.now.pid c.args.bus.now.holds c.args.cpu.now c.requires.agrees in
     plain_answers c.step_one.result c.args.bus.now.plain.ghost_name c.step_one.new.bus.plain.ghost_name c.args.bus.now.plain.now c.step_one.new.bus.plain.now c.args.bus.now.pid c.step_one.new.bus.pid c.args.bus.now.holds c.step_one.new.bus.holds c.args.cpu.now c.step_one.new.cpu (framed c.args.bus.now.plain.ghost_name c.step_one.new.bus.plain.ghost_name c.args.bus.now.plain.now c.step_one.new.bus.plain.now c.args.bus.now.pid c.step_one.new.bus.pid c.args.bus.now.holds c.step_one.new.bus.holds c.step_one.ensures.frame) agrees (c.step_one.ensures.agrees agrees) c.step_one.ensures.step
 
-pub returns-clause-held : goal.returns-clause-held
-returns-clause-held c = λ p i. ap (λ (m : ℕ → ℕ → Option Hold). m p i) (framed c.args.bus.now.plain.ghost_name c.step_one.new.bus.plain.ghost_name c.args.bus.now.plain.now c.step_one.new.bus.plain.now c.args.bus.now.pid c.step_one.new.bus.pid c.args.bus.now.holds c.step_one.new.bus.holds c.step_one.ensures.frame).maps
-
-pub returns-clause-shown : goal.returns-clause-shown
-returns-clause-shown c = λ n. ap (λ (m : ℕ → Bool). m n) (framed c.args.bus.now.plain.ghost_name c.step_one.new.bus.plain.ghost_name c.args.bus.now.plain.now c.step_one.new.bus.plain.now c.args.bus.now.pid c.step_one.new.bus.pid c.args.bus.now.holds c.step_one.new.bus.holds c.step_one.ensures.frame).shown
-
-pub returns-clause-sizes : goal.returns-clause-sizes
-returns-clause-sizes c = (framed c.args.bus.now.plain.ghost_name c.step_one.new.bus.plain.ghost_name c.args.bus.now.plain.now c.step_one.new.bus.plain.now c.args.bus.now.pid c.step_one.new.bus.pid c.args.bus.now.holds c.step_one.new.bus.holds c.step_one.ensures.frame).sizes
-
-pub returns-clause-count : goal.returns-clause-count
-returns-clause-count c = (framed c.args.bus.now.plain.ghost_name c.step_one.new.bus.plain.ghost_name c.args.bus.now.plain.now c.step_one.new.bus.plain.now c.args.bus.now.pid c.step_one.new.bus.pid c.args.bus.now.holds c.step_one.new.bus.holds c.step_one.ensures.frame).count
+pub returns-clause-frame : goal.returns-clause-frame
+returns-clause-frame c =
+    let same = framed c.args.bus.now.plain.ghost_name c.step_one.new.bus.plain.ghost_name c.args.bus.now.plain.now c.step_one.new.bus.plain.now c.args.bus.now.pid c.step_one.new.bus.pid c.args.bus.now.holds c.step_one.new.bus.holds c.step_one.ensures.frame in
+    record {
+      held = λ p i. ap (λ (m : ℕ → ℕ → Option Hold). m p i) same.maps;
+      shown = λ n. ap (λ (m : ℕ → Bool). m n) same.shown;
+      sizes = same.sizes;
+      count = same.count;
+    }
 
 pub returns-clause-never_missed : goal.returns-clause-never_missed
 returns-clause-never_missed c = λ all.

@@ -1,4 +1,6 @@
 use Rattle.o2_isa.proofs.StepLaws.{boundless, stepped_frame, stepped_agrees, stepped_present}
+use Rattle.o2_isa.proofs.Sizes.{stepped_lengths}
+use Rattle.o2_isa.proofs.Writes.{stepped_writes}
 use Rattle.o2_core.proofs.step.step_one.Goals as goal
 
 pub returns-clause-boundless : goal.returns-clause-boundless
@@ -6,6 +8,12 @@ returns-clause-boundless g c = λ f b. boundless f _ _ _ b c.one_step.ensures
 
 pub returns-clause-frame : goal.returns-clause-frame
 returns-clause-frame g c = stepped_frame _ _ _ c.one_step.ensures
+
+pub returns-clause-lengths : goal.returns-clause-lengths
+returns-clause-lengths g c = stepped_lengths _ _ _ c.one_step.ensures
+
+pub returns-clause-writes : goal.returns-clause-writes
+returns-clause-writes g c = stepped_writes _ _ _ c.one_step.ensures
 
 pub returns-clause-agrees : goal.returns-clause-agrees
 returns-clause-agrees g c = λ a. stepped_agrees _ _ _ c.one_step.ensures a
