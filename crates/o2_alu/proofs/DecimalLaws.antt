@@ -1,12 +1,11 @@
 -- DAA and DAS after a sum and a difference of packed decimals.
-use Rattle.std.proofs.Common.{◌≡◌, ℕ, ◌+◌, ◌-◌, ◌*◌, ◌/◌, ◌%◌, ◌<◌, ◌≤◌, Bool, true, false, cond, arith, refl, ◌∙◌, ap, ◌||◌, nat_lt, nat_le, inl, inr, Option, Some}
+use Rattle.std.proofs.Common.{◌≡◌, ℕ, ◌+◌, ◌-◌, ◌*◌, ◌/◌, ◌%◌, ◌<◌, ◌≤◌, Bool, true, false, arith, ◌∙◌, ap, ◌||◌, nat_lt, nat_le, Some}
 use Rattle.std.specs.Prelude.{option_map}
-use Rattle.std.proofs.lemmas.Bool.{cases_lt}
 use Rattle.std.proofs.lemmas.Bool.Decides.{nat_tests}
 use Rattle.o2_isa.specs.declared.instr.Width.TheVariants.{Byte}
 use Rattle.o2_isa.specs.declared.instr.Op.TheVariants.{OpDaa, OpDas}
 use Rattle.o2_isa.specs.declared.flags.Flag.TheVariants.{Carry, Auxiliary}
-use Rattle.o2_isa.specs.Flags.{put, is_set, with_szp}
+use Rattle.o2_isa.specs.Flags.{is_set}
 use Rattle.o2_isa.specs.Sums.{bit, sum_value, sum_carries, sum_adjusts, add_of, difference_value, difference_borrows, sub_of}
 use Rattle.o2_isa.specs.Adjust.{digit_adjusts, digits_adjust, n_where, daa_value, das_value, packed_flags, adjust_of}
 use Rattle.o2_alu.specs.Decimal.{packed}

@@ -233,7 +233,7 @@ run_missed h b m (Rights s f) v t row bound e =
 
 -- What clear step changes.
 
-frame_refl : (v : View) → KeepsFrame v v
+pub frame_refl : (v : View) → KeepsFrame v v
 frame_refl v = record { held = refl; gate = refl; size = refl; present = refl; discarded = refl; rest = refl; hidden = refl }
 
 frame_poke : (u v : View) (o : Option Hold) (k : ℕ) (w : Width) (x : ℕ) → KeepsFrame u v → KeepsFrame u (poke_hold v o k w x)
@@ -241,31 +241,12 @@ frame_poke u v o k w x f =
     poke_cases (λ (z : View). KeepsFrame u z) v o k w x f
     (λ y e t. record { held = f.held; gate = f.gate; size = f.size; present = f.present; discarded = f.discarded; rest = f.rest; hidden = f.hidden })
 
-frame_changed : (u : View) (cs : List Change) (v : View) → KeepsFrame u v → KeepsFrame u (changed cs v)
+pub frame_changed : (u : View) (cs : List Change) (v : View) → KeepsFrame u v → KeepsFrame u (changed cs v)
 unfolding bind poke
 frame_changed u [] v f = f
 frame_changed u (Bind r s ∷ cs) v f = frame_changed u cs (bind v r (selector s)) (record { held = f.held; gate = f.gate; size = f.size; present = f.present; discarded = f.discarded; rest = f.rest; hidden = f.hidden })
 frame_changed u (Write r k w x ∷ cs) v f = frame_changed u cs (poke v r k w x) (frame_poke u v (in_register v.registers r) k w x f)
 frame_changed u (Copy r a b ∷ cs) v f = frame_changed u cs (poke v r b Word (word_there v r a)) (frame_poke u v (in_register v.registers r) b Word (word_there v r a) f)
-
-frame_bind : (v : View) (r : Result ℕ Stop) (f : ℕ → Result State Stop) (t : State) → ((x : ℕ) → f x ≡ Ok t → KeepsFrame v t.view) → (r >>= f) ≡ Ok t → KeepsFrame v t.view
-frame_bind v (Ok x) f t h e = h x e
-frame_bind v (Err d) f t h e = cc
-
-pub run_frame : (p : Steps) (v : View) (t : State) → run p v ≡ Ok t → KeepsFrame v t.view
-run_frame (Stops d) v t e = cc
-run_frame (Ends c cs) v t e =
-    let same : changed cs v ≡ t.view = ap (λ (r : Result State Stop). view_in r) e in
-    subst (λ (z : View). KeepsFrame v z) same (frame_changed v cs v (frame_refl v))
-  where
-    view_in : Result State Stop → View
-    view_in (Ok s) = s.view
-    view_in (Err d) = v
-run_frame (Reads r k w f) v t e = frame_bind v (or_trap (read_of v r k w)) (λ x. run (f x) v) t (λ x q. run_frame (f x) v t q) e
-run_frame (Room r k w p) v t e = frame_bind v (or_trap (room_of v r k w)) (λ x. run p v) t (λ x q. run_frame p v t q) e
-run_frame (Loads purpose s next p) v t e = frame_bind v (passed next (probe_of v purpose (selector s))) (λ x. run p v) t (λ x q. run_frame p v t q) e
-run_frame (Sizes s f) v t e = run_frame (f (size_at v s)) v t e
-run_frame (Rights s f) v t e = run_frame (f (rights_at v s)) v t e
 
 -- How many names a row loads.
 
@@ -423,7 +404,7 @@ run_unseen u h (Rights s f) v = ap (λ (o : Option ℕ). run (f o) (with_unseen 
 
 -- The segment registers hold what the selectors of the processor name.
 
-bound_made : (held : ℕ → Option Hold) (c d : Cpu) → SameSelectors c d → bound_registers held c ≡ bound_registers held d
+pub bound_made : (held : ℕ → Option Hold) (c d : Cpu) → SameSelectors c d → bound_registers held c ≡ bound_registers held d
 bound_made held c d s =
     ap (λ (z : ℕ). made (bound_in held z) (bound_in held c.cs) (bound_in held c.ss) (bound_in held c.ds)) s.es
     ∙ (ap (λ (z : ℕ). made (bound_in held d.es) (bound_in held z) (bound_in held c.ss) (bound_in held c.ds)) s.cs
@@ -442,30 +423,9 @@ bound_load held c Ds s = refl
 agrees_poke : (c : Cpu) (v : View) (o : Option Hold) (k : ℕ) (w : Width) (x : ℕ) → Agrees c v → Agrees c (poke_hold v o k w x)
 agrees_poke c v o k w x a = poke_cases (λ (z : View). Agrees c z) v o k w x a (λ y e t. a)
 
-agrees_changed : (c : Cpu) (cs : List Change) (v : View) → Agrees c v → Agrees (with_binds cs c) (changed cs v)
+pub agrees_changed : (c : Cpu) (cs : List Change) (v : View) → Agrees c v → Agrees (with_binds cs c) (changed cs v)
 unfolding bind poke
 agrees_changed c [] v a = a
 agrees_changed c (Bind r s ∷ cs) v a = agrees_changed (with_sreg c r s) cs (bind v r (selector s)) (ap (λ (z : Registers). with_register z r (bound_in v.held s)) a ∙ bound_load v.held c r s)
 agrees_changed c (Write r k w x ∷ cs) v a = agrees_changed c cs (poke v r k w x) (agrees_poke c v (in_register v.registers r) k w x a)
 agrees_changed c (Copy r k m ∷ cs) v a = agrees_changed c cs (poke v r m Word (word_there v r k)) (agrees_poke c v (in_register v.registers r) m Word (word_there v r k) a)
-
-agrees_bind : (r : Result ℕ Stop) (f : ℕ → Result State Stop) (t : State) → ((x : ℕ) → f x ≡ Ok t → Agrees t.cpu t.view) → (r >>= f) ≡ Ok t → Agrees t.cpu t.view
-agrees_bind (Ok x) f t h e = h x e
-agrees_bind (Err d) f t h e = cc
-
-pub run_agrees : (c : Cpu) (n : ℕ) (p : Steps) (v : View) (t : State) → IsRow c n p → Agrees c v → run p v ≡ Ok t → Agrees t.cpu t.view
-run_agrees c n (Stops d) v t row a e = cc
-run_agrees c n (Ends d cs) v t row a e = subst (λ (z : State). Agrees z.cpu z.view) same (agrees_changed c cs v a ∙ sym (bound_made (changed cs v).held d (with_binds cs c) row.1))
-  where
-    state_in : Result State Stop → State
-    state_in (Ok s) = s
-    state_in (Err d) = t
-
-    same : state d (changed cs v) ≡ t
-    same = ap state_in e
-run_agrees c n (Reads r k w f) v t row a e = agrees_bind (or_trap (read_of v r k w)) (λ x. run (f x) v) t (λ x q. run_agrees c n (f x) v t (row x) a q) e
-run_agrees c n (Room r k w p) v t row a e = agrees_bind (or_trap (room_of v r k w)) (λ x. run p v) t (λ x q. run_agrees c n p v t row a q) e
-run_agrees c zero (Loads purpose s next p) v t row a e = absurd row
-run_agrees c (suc n) (Loads purpose s next p) v t row a e = agrees_bind (passed next (probe_of v purpose (selector s))) (λ x. run p v) t (λ x q. run_agrees c n p v t row a q) e
-run_agrees c n (Sizes s f) v t row a e = run_agrees c n (f (size_at v s)) v t (row (size_at v s)) a e
-run_agrees c n (Rights s f) v t row a e = run_agrees c n (f (rights_at v s)) v t (row (rights_at v s)) a e

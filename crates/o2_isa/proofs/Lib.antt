@@ -8,6 +8,7 @@ pub mod DataMnemonics
 pub mod FlowMnemonics
 pub mod StringMnemonics
 pub mod Mnemonics
+pub mod Endings
 pub mod StepLaws
 pub mod Views
 pub mod Backing

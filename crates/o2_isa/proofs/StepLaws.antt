@@ -1,5 +1,5 @@
 -- From what execute gives to what a step is, over the bus's view and the whole one.
-use Rattle.std.proofs.Common.{true, false, ◌≡◌, refl, sym, subst, ap, ◌∙◌, ℕ, ◌+◌, ◌%◌, ◌≤◌, List, length, take}
+use Rattle.std.proofs.Common.{true, false, ◌≡◌, ◌⊎◌, inl, inr, refl, sym, subst, ap, ◌∙◌, ℕ, ◌+◌, ◌%◌, ◌≤◌, List, length, take}
 use Rattle.std.specs.Prelude.{Result, Ok, Err, Option, Some, None, drop, Bool, cond}
 use Rattle.std.proofs.lemmas.Bool.{false≢true}
 use Rattle.o2_base.specs.declared.selector.Selector.{Selector}
@@ -13,12 +13,13 @@ use Rattle.o2_isa.specs.declared.cpu.Outcome.TheVariants as outcome
 use Rattle.o2_isa.specs.declared.cpu.Stop.{Stop}
 use Rattle.o2_isa.specs.declared.cpu.Stop.TheVariants as stop
 use Rattle.o2_isa.specs.Reading.{decoded}
-use Rattle.o2_isa.specs.View.{Hold, Rest, Hidden, Filling, whole, KeepsFrame, IsBound, Agrees, present_or_none, fetched, hold_bytes}
-use Rattle.o2_isa.specs.Steps.{State, Steps, Gives, run}
+use Rattle.o2_isa.specs.View.{View, Hold, Rest, Hidden, Filling, whole, KeepsFrame, IsBound, Agrees, present_or_none, fetched, hold_bytes}
+use Rattle.o2_isa.specs.Steps.{State, Steps, Gives, run, changed}
 use Rattle.o2_isa.specs.Meaning.{meaning}
-use Rattle.o2_isa.specs.Presence.{whole_state, unseen, unseen_result, with_unseen, loaded_names, AsWhole, IsMissed, IsRow, is_in}
+use Rattle.o2_isa.specs.Presence.{with_binds, whole_state, unseen, unseen_result, with_unseen, loaded_names, AsWhole, IsMissed, IsRow, is_in}
 use Rattle.o2_isa.specs.Step.{Answers, AsBoundless, seen, steps_at, step_steps, stepped, step_names, outcome_from, is_miss}
-use Rattle.o2_isa.proofs.Alike.{run_whole, run_missed, run_frame, run_unseen, run_agrees, few_loads, loaded_present}
+use Rattle.o2_isa.proofs.Alike.{run_whole, run_missed, frame_refl, frame_changed, run_unseen, bound_made, agrees_changed, few_loads, loaded_present}
+use Rattle.o2_isa.proofs.Endings.{EndsBy, run_ends}
 use Rattle.o2_isa.proofs.Mnemonics.{steps_are_rows}
 
 pub answers_from : {A : Type 0} (r : Result A Stop) (new old : State) (m : Result State Stop) → Gives r new old m → Answers (outcome_from r) new old m
@@ -93,25 +94,29 @@ pub step_loads_few : (s : State) → length (step_names s) ≤ 1
 unfolding step_names
 step_loads_few s = few_loads s.cpu 1 (step_steps s) s.view (row_of_step s)
 
-same_frame : (new old : State) → new ≡ old → KeepsFrame old.view new.view
-same_frame new old e = subst (λ (z : State). KeepsFrame old.view z.view) (sym e) (record { held = refl; gate = refl; size = refl; present = refl; discarded = refl; rest = refl; hidden = refl })
+-- a step changes nothing, or completes and ends by changes
+pub stepped_ends : (o : Outcome) (new old : State) → Answers o new old (stepped old) → (new ≡ old) ⊎ EndsBy old.cpu old.view new
+unfolding stepped
+stepped_ends outcome.Done new old a = inr (run_ends old.cpu 1 (step_steps old) old.view new (row_of_step old) a)
+stepped_ends (outcome.Miss s) new old a = inl a.1
+stepped_ends (outcome.Trap n code) new old a = inl a.1
+stepped_ends (outcome.Gate k next) new old a = inl a.1
 
 pub stepped_frame : (o : Outcome) (new old : State) → Answers o new old (stepped old) → KeepsFrame old.view new.view
-unfolding stepped
-stepped_frame outcome.Done new old a = run_frame (step_steps old) old.view new a
-stepped_frame (outcome.Miss s) new old a = same_frame new old a.1
-stepped_frame (outcome.Trap n code) new old a = same_frame new old a.1
-stepped_frame (outcome.Gate k next) new old a = same_frame new old a.1
-
-same_agreement : (new old : State) → new ≡ old → Agrees old.cpu old.view → Agrees new.cpu new.view
-same_agreement new old e a = subst (λ (z : State). Agrees z.cpu z.view) (sym e) a
+stepped_frame o new old a = framed (stepped_ends o new old a)
+  where
+    framed : (new ≡ old) ⊎ EndsBy old.cpu old.view new → KeepsFrame old.view new.view
+    framed (inl e) = subst (λ (z : State). KeepsFrame old.view z.view) (sym e) (frame_refl old.view)
+    framed (inr b) = subst (λ (z : View). KeepsFrame old.view z) b.left (frame_changed old.view b.changes old.view (frame_refl old.view))
 
 pub stepped_agrees : (o : Outcome) (new old : State) → Answers o new old (stepped old) → Agrees old.cpu old.view → Agrees new.cpu new.view
-unfolding stepped
-stepped_agrees outcome.Done new old a g = run_agrees old.cpu 1 (step_steps old) old.view new (row_of_step old) g a
-stepped_agrees (outcome.Miss s) new old a g = same_agreement new old a.1 g
-stepped_agrees (outcome.Trap n code) new old a g = same_agreement new old a.1 g
-stepped_agrees (outcome.Gate k next) new old a g = same_agreement new old a.1 g
+stepped_agrees o new old a g = agreed (stepped_ends o new old a)
+  where
+    agreed : (new ≡ old) ⊎ EndsBy old.cpu old.view new → Agrees new.cpu new.view
+    agreed (inl e) = subst (λ (z : State). Agrees z.cpu z.view) (sym e) g
+    agreed (inr b) =
+        subst (λ (z : View). Agrees new.cpu z) b.left
+        (agrees_changed old.cpu b.changes old.view g ∙ sym (bound_made (changed b.changes old.view).held new.cpu (with_binds b.changes old.cpu) b.binds))
 
 other_result : (r : Result State Stop) (e d : Stop) → r ≡ Err e → r ≡ Err d → e ≡ d
 other_result (Ok x) e d p q = cc
