@@ -38,7 +38,8 @@ gives_held held rest into None n t e count given left ends = absurd (cc)
 gives_held held rest into (Some ys) n t e count given left ends =
     let whole : held ++ ys ≡ t = ap (λ (o : Option (List ℕ)). unwrap_or o []) e in
     let fits : n ≤ length held = omega (arith, count) in
-    subst (λ (x : List ℕ). (n ≡ min (length into) (length x)) × (take n into ≡ take n x) × (Some (rest ++ ys) ≡ Some (drop n x))) whole
-      ( count ∙ min_grown (length into) (length held) (length ys) (λ less. ap (λ (z : List ℕ). length z) (ends less)) ∙ ap (λ (k : ℕ). min (length into) k) (sym (length-append held ys))
-      , given ∙ sym (take-append-le n held ys fits)
-      , ap Some (ap (λ (z : List ℕ). z ++ ys) left ∙ sym (drop-append-le n held ys fits)) )
+    subst (λ (x : List ℕ). (n ≡ min (length into) (length x)) × (take n into ≡ take n x) × (Some (rest ++ ys) ≡ Some (drop n x))) whole (
+      count ∙ min_grown (length into) (length held) (length ys) (λ less. ap (λ (z : List ℕ). length z) (ends less)) ∙ ap (λ (k : ℕ). min (length into) k) (sym (length-append held ys)),
+      given ∙ sym (take-append-le n held ys fits),
+      ap Some (ap (λ (z : List ℕ). z ++ ys) left ∙ sym (drop-append-le n held ys fits)),
+    )

@@ -3,7 +3,7 @@ ghost use Rattle.std.specs.Prelude.{◌≡◌, ◌≤◌, ◌<◌, ◌-◌, List
 ghost use Rattle.std.specs.Io.KnownBytes.{IsAtEnd};
 ghost use Rattle.o2_outer.specs.Reads.{bytes_left};
 
-use std::io::{Read};
+use std::io::Read;
 
 /// Reads on behind the first `held` bytes of a buffer, until it has `wanted` or the reader gives no more. Tells how many it has
 /// then, and whether no read failed.

@@ -12,9 +12,8 @@ use o2_base::NoMemory;
 use o2_cli::{Status, number, os2run, text};
 use o2_outer::{FolderFiles, Put, Sink, StderrSink, StdinSource, StdoutSink, SureSwap};
 use std::alloc::Global;
-use std::env;
-use std::io;
 use std::process::ExitCode;
+use std::{env, io};
 
 /// The blocks of the swap device: nothing is swapped.
 const SWAP_BLOCKS: u32 = 0;

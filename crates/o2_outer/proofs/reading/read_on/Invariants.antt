@@ -8,7 +8,7 @@ invariant-loop-filled g l = record {
   most : l.filled ≤ l.wanted;
   len : length l.buffer ≡ length l.fn.buffer;
   left : (t : List ℕ) → bytes_left (take l.held l.fn.buffer) (g.R.Read.remaining l.fn.reader) ≡ Some t
-    → bytes_left (take l.filled l.buffer) (g.R.Read.remaining l.reader) ≡ Some t;
+      → bytes_left (take l.filled l.buffer) (g.R.Read.remaining l.reader) ≡ Some t;
 }
 
 abbrev pub decreases-loop-filled : goal.decreases-loop-filled
