@@ -90,7 +90,8 @@ impl Access {
     /// Whether the segment can be run: CS may be loaded with it.
     pub fn is_code(self) -> bool
         ensures value { result ≡ is_code self.0 }
-        ensures kinds { IsTrue (is_kind (rights_of self.0)) → result ≡ (rights_of self.0 == readable_code || rights_of self.0 == run_only_code) }
+        ensures kinds { IsTrue (is_kind (rights_of self.0))
+            → result ≡ (rights_of self.0 == readable_code || rights_of self.0 == run_only_code) }
     {
         self.contains(Access::SEGMENT) && self.contains(Access::EXECUTABLE)
     }
@@ -98,7 +99,9 @@ impl Access {
     /// Whether the segment can be read: DS and ES may be loaded with it.
     pub fn is_readable(self) -> bool
         ensures value { result ≡ is_readable self.0 }
-        ensures kinds { IsTrue (is_kind (rights_of self.0)) → result ≡ (rights_of self.0 == readable_code || rights_of self.0 == writable_data || rights_of self.0 == read_only_data) }
+        ensures kinds { IsTrue (is_kind (rights_of self.0))
+            → result ≡ (rights_of self.0 == readable_code || rights_of self.0 == writable_data
+            || rights_of self.0 == read_only_data) }
     {
         self.contains(Access::SEGMENT)
             && (!self.contains(Access::EXECUTABLE) || self.contains(Access::READ_WRITE))

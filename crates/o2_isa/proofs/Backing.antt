@@ -17,17 +17,13 @@ use Rattle.o2_isa.specs.View.{View, Hold, is_null, ring3, is_code, found, when, 
 use Rattle.o2_isa.specs.Registers.{sreg, with_sreg}
 use Rattle.o2_isa.specs.Steps.{State, state, Steps, Stops, Ends, Reads, Room, Loads, Sizes, Rights, Change, Bind, Write, Copy, changed, or_trap, passed, selector, run, valued, pair_valued, storing, within, in_size, ◌>>=◌}
 use Rattle.o2_isa.specs.Presence.{IsRow, SameSelectors, with_binds, loaded_names, names_after, hold_name, is_in}
-use Rattle.o2_isa.specs.SegmentLoads.{Passes, rules_for}
+use Rattle.o2_isa.specs.SegmentLoads.{Passes, IsNamed, rules_for}
 use Rattle.o2_isa.proofs.Loads.{null_ring3, found_ring3}
 
 -- a view, and names that hold what passes
 pub record Ground : Type 0 where
   pub view : View
   pub names : List ℕ
-
--- what the selector names is one of the names
-abbrev pub IsNamed : View → List ℕ → ℕ → Type 0
-IsNamed v names s = (n : ℕ) → is_in n (hold_name (found v s)) ≡ true → is_in n names ≡ true
 
 abbrev pub IsGranted : Ground → Purpose → ℕ → Type 0
 IsGranted g purpose s = Passes g.view purpose s × IsNamed g.view g.names s

@@ -30,8 +30,8 @@ use Rattle.o2_isa.specs.Steps.{State, Stops}
 use Rattle.o2_isa.specs.Meaning.{group_of, group_steps, steps_of}
 use Rattle.o2_isa.specs.Step.{Answers, seen, steps_at, step_steps, step_names, stepped}
 use Rattle.o2_isa.specs.declared.instr.Sreg.{Sreg}
-use Rattle.o2_isa.specs.SegmentLoads.{Passes, rules_for, LoadsByRules, BindsLoaded}
-use Rattle.o2_isa.proofs.Backing.{Ground, IsBacked, IsNamed, LoadsGranted, run_ruled, either_backed}
+use Rattle.o2_isa.specs.SegmentLoads.{Passes, IsNamed, rules_for, LoadsByRules, BindsLoaded}
+use Rattle.o2_isa.proofs.Backing.{Ground, IsBacked, LoadsGranted, run_ruled, either_backed}
 use Rattle.o2_isa.proofs.BackedData.{names_cs, puts_selector, data_backed}
 use Rattle.o2_isa.proofs.BackedFlow.{flow_backed, string_backed}
 use Rattle.o2_isa.proofs.StepLaws.{row_of_step}

@@ -22,7 +22,9 @@ flag_number Nested = 14
 
 -- all flags
 abbrev pub every_flag : List Flag
-every_flag = Carry ∷ Parity ∷ Auxiliary ∷ Zero ∷ Sign ∷ Trap ∷ Interrupt ∷ Direction ∷ Overflow ∷ PrivilegeLow ∷ PrivilegeHigh ∷ Nested ∷ []
+every_flag =
+    Carry ∷ Parity ∷ Auxiliary ∷ Zero ∷ Sign ∷ Trap ∷ Interrupt ∷ Direction ∷ Overflow ∷
+    PrivilegeLow ∷ PrivilegeHigh ∷ Nested ∷ []
 
 -- those that POPF and IRET may change at privilege level 3
 abbrev pub popped_flags : List Flag

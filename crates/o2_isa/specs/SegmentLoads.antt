@@ -27,6 +27,10 @@ rules_for Ds = DataReg
 abbrev pub LoadsByRules : View → Cpu → Cpu → Type 0
 LoadsByRules v old new = (r : Sreg) → (sreg new r ≡ sreg old r) ⊎ Passes v (rules_for r) (sreg new r)
 
--- each segment register is as it was, or holds a selector of which the name is one of these
+-- what the selector names, if anything, is one of these names
+abbrev pub IsNamed : View → List ℕ → ℕ → Type 0
+IsNamed v names s = (n : ℕ) → is_in n (hold_name (found v s)) ≡ true → is_in n names ≡ true
+
+-- each segment register is as it was, or holds a selector of one of these names
 abbrev pub BindsLoaded : View → List ℕ → Cpu → Cpu → Type 0
-BindsLoaded v names old new = (r : Sreg) → (sreg new r ≡ sreg old r) ⊎ ((n : ℕ) → is_in n (hold_name (found v (sreg new r))) ≡ true → is_in n names ≡ true)
+BindsLoaded v names old new = (r : Sreg) → (sreg new r ≡ sreg old r) ⊎ IsNamed v names (sreg new r)

@@ -70,7 +70,21 @@ pub record View : Type 0 where
   pub hidden : Hidden
 
 abbrev pub no_rest : Rest
-no_rest = record { lock = λ n. 0; flags = λ n. 0; clean = λ n. false; code = λ n. false; shared = λ n. false; maps = λ p i. None; holds = λ p i. 0; cause = λ p i. 0; first = λ p i. 0; reserved_run = λ p i. 0; reserved = λ p i. false; memory = 0; most = 0 }
+no_rest = record {
+  lock = λ n. 0;
+  flags = λ n. 0;
+  clean = λ n. false;
+  code = λ n. false;
+  shared = λ n. false;
+  maps = λ p i. None;
+  holds = λ p i. 0;
+  cause = λ p i. 0;
+  first = λ p i. 0;
+  reserved_run = λ p i. 0;
+  reserved = λ p i. false;
+  memory = 0;
+  most = 0;
+}
 
 abbrev pub no_hidden : Hidden
 no_hidden = record { came_in = λ n. 0; away = λ n b. []; store = None; tables = None }
