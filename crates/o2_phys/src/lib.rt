@@ -37,6 +37,13 @@ impl Phys {
         Ok(Phys { mem })
     }
 
+    /// All bytes.
+    pub fn whole(&self) -> &[u8]
+        ensures { result.now ≡ self.now }
+    {
+        self.mem.as_slice()
+    }
+
     /// The `len` bytes from address `at` on, a range that lies inside.
     pub fn bytes(&self, at: u32, len: u32) -> &[u8]
         requires { at + len ≤ length self.now }

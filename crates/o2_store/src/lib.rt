@@ -1,0 +1,12 @@
+//! Segments under keys: in memory, out of memory and back. A store takes all its memory when it is made.
+#![tactic(auto)]
+
+mod adding;
+mod brought;
+mod showing;
+mod store;
+mod windows;
+
+pub use brought::{Brought, Place};
+pub use o2_entries::Attr;
+pub use store::Store;

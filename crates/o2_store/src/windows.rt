@@ -1,0 +1,49 @@
+// Segments in memory: their bytes, their place and their use.
+ghost use Rattle.std.specs.Prelude.{◌≡◌, ◌≢◌, ℕ, List, ◌+◌, ◌<◌, ◌≤◌, ◌↔◌, length, Some, None, IsSome, IsTrue, IfSome, slice_index, option_map, true, false};
+ghost use Rattle.std.specs.Option.{IfNone};
+ghost use Rattle.o2_store.specs.Shelf.{Shelf, Pictures, place_of, entry_of, entry, byte_at, base_of};
+
+use crate::store::Store;
+use o2_place::SegId;
+
+impl Store {
+    /// The address of a segment's first byte, and none exactly where it is stale or not in memory.
+    pub fn base(&self, id: SegId) -> Option<u32>
+        ensures { result ≡ base_of (entry_of self.now id) (place_of self.now id.key) }
+    {
+        self.find(id)?;
+        match self.range_of(id.key) {
+            Some((at, _)) => Some(at),
+            None => None,
+        }
+    }
+
+    /// The bytes of a segment in memory, and none exactly where it is stale or not in memory. Nothing moves as long as they
+    /// are lent.
+    pub fn window(&self, id: SegId) -> Option<&[u8]>
+        ensures none { IfNone result (base_of (entry_of self.now id) (place_of self.now id.key) ≡ None) }
+        ensures size { IfSome result (λ w. option_map (λ e. e.size) (entry_of self.now id) ≡ Some (length w.now)) }
+        ensures bytes { IfSome result (λ w. (pic : Pictures) (block : ℕ → List ℕ) (j : ℕ) → j < length w.now → slice_index w.now j ≡ byte_at self.now pic block id.key j) }
+    {
+        self.law();
+        let entry = self.find(id)?;
+        match self.range_of(id.key) {
+            Some((at, _)) => Some(self.phys.bytes(at, entry.size)),
+            None => None,
+        }
+    }
+
+    /// Tells the clock that a segment was used, where it is in memory and not locked. False exactly where it is stale.
+    pub fn touch(&mut self, id: SegId) -> bool
+        ensures live { IsTrue result ↔ IsSome (entry_of self.old id) }
+        ensures rest { self.new ≡ record self.old { turns = self.new.turns } }
+    {
+        let Some(entry) = self.find(id) else {
+            return false;
+        };
+        if entry.attr.lock == 0 && self.range_of(id.key).is_some() {
+            self.clock.touch(id.key);
+        }
+        true
+    }
+}
