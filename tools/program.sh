@@ -1,11 +1,10 @@
 # The program and whether it is of the present sources: functions for `os2run`, `.ci/run` and `tools/keep_program`, which set `root`.
 #
 # A program stands in build/SUM/os2run, where SUM is the sum of what it was built from: the lines of crates.txt and the files in src/,
-# specs/ and proofs/ of each crate that it stands on. Times of files don't count. The last four are kept. build/os2run is a link
-# to the one that was asked for last. build/seen has the sizes and times of the files at which the sum in it was found, so that a run
-# over files that nothing has touched reads none of them.
+# specs/ and proofs/ of each crate that it stands on. Times of files don't count. The last four are kept. build/seen has the sum of the
+# sources, and behind it the sizes and times of the files at which it was found, so that a run over files that nothing has touched
+# reads none of them. (No link names the one to run: rt takes none in a repository.)
 
-program=$root/build/os2run
 log=$root/build/log
 
 # The program's crates, each behind those that it stands on, which is the order in which rt proves them.
@@ -24,9 +23,16 @@ crates_below() {
     ' "$root/crates.txt"
 }
 
-# The sizes and times of all files that may count.
+# The sizes and times of the files that count.
 seen_now() {
-    (cd "$root" && find crates.txt crates/*/src crates/*/specs crates/*/proofs -printf '%p %y %s %T@ %C@ %i\n' 2>/dev/null)
+    (
+        cd "$root" || exit 1
+        set -- crates.txt
+        for name in $(crates_below | cut -d: -f1); do
+            set -- "$@" "crates/$name/src" "crates/$name/specs" "crates/$name/proofs"
+        done
+        find "$@" -printf '%p %y %s %T@ %C@ %i\n' 2>/dev/null
+    )
 }
 
 # The sum of what the program stands on.
@@ -44,36 +50,31 @@ content_sum() {
     )
 }
 
-# Whether there is a program of the present sources. It is then `program`, and `sum` is the sum of the sources in any case but
-# where nothing was touched since the last run.
+# Whether there is a program of the present sources. It is then `program`. `sum` is the sum of the sources.
 program_is_current() {
     seen=$(seen_now)
-    if [ -x "$program" ] && [ -f "$root/build/seen" ] && [ "$seen" = "$(tail -n +2 "$root/build/seen")" ] &&
-        [ "$(head -n 1 "$root/build/seen")/os2run" = "$(readlink "$program")" ]; then
-        return 0
+    sum=$(head -n 1 "$root/build/seen" 2>/dev/null)
+    if [ -z "$sum" ] || [ "$seen" != "$(tail -n +2 "$root/build/seen")" ]; then
+        sum=$(content_sum)
+        program_seen
     fi
-    sum=$(content_sum)
-    [ -x "$root/build/$sum/os2run" ] || return 1
-    program_is "$sum"
+    program=$root/build/$sum/os2run
+    [ -x "$program" ]
 }
 
-# Makes the program of a sum the one to run. A folder that can't be written, as another's checkout, costs only time.
-program_is() {
-    {
-        ln -s -- "$1/os2run" "$root/build/new.$$" && mv -f -T -- "$root/build/new.$$" "$root/build/os2run"
-        { echo "$1" && printf '%s\n' "$seen"; } >"$root/build/seen.$$" && mv -f -- "$root/build/seen.$$" "$root/build/seen"
-    } 2>/dev/null
-    program=$root/build/$1/os2run
+# Writes down the sum of the sources. A folder that can't be written, as another's checkout, costs only time.
+program_seen() {
+    [ ! -d "$root/build" ] ||
+        { { echo "$sum" && printf '%s\n' "$seen"; } >"$root/build/seen.$$" && mv -f -- "$root/build/seen.$$" "$root/build/seen"; } 2>/dev/null
 }
 
-# Keeps what rt built of the sources of a sum, and the three programs before it.
+# Keeps what rt built of the sources of a sum, and the three programs before it. Where they have another sum by now nothing is kept.
 program_keep() {
-    mkdir -p "$root/build/$1" &&
+    [ "$(content_sum)" = "$1" ] &&
+        mkdir -p "$root/build/$1" &&
         cp -- "$root/crates/os2run/out/os2run" "$root/build/$1/os2run.$$" &&
         mv -f -- "$root/build/$1/os2run.$$" "$root/build/$1/os2run" || return 1
     touch "$root/build/$1"
     (cd "$root/build" && ls -dt -- */ | tail -n +5 | while IFS= read -r old; do rm -rf -- "./$old"; done)
-    seen=$(seen_now)
-    [ "$(content_sum)" = "$1" ] || return 1
-    program_is "$1"
+    program_is_current && [ "$sum" = "$1" ]
 }
