@@ -127,7 +127,7 @@ class Module:
 
     def relocate(self, at, kind, target, segment=None):
         """Keeps a relocation of the last segment or of the one given; its place and target are looked at when all is read."""
-        base = kind.removeprefix("add-")
+        base = kind[4:] if kind.startswith("add-") else kind
         must(base in SOURCES, f"a relocation is far, selector, offset or byte, or add- and one of these, and not {kind}")
         source, additive = SOURCES[base], 4 if kind.startswith("add-") else 0
         (segment or self.segment()).relocations.append((self.at, source, at, self.target(source, additive, at, target)))
