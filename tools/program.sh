@@ -75,6 +75,6 @@ program_keep() {
         cp -- "$root/crates/os2run/out/os2run" "$root/build/$1/os2run.$$" &&
         mv -f -- "$root/build/$1/os2run.$$" "$root/build/$1/os2run" || return 1
     touch "$root/build/$1"
-    (cd "$root/build" && ls -dt -- */ | tail -n +5 | while IFS= read -r old; do rm -rf -- "./$old"; done)
+    (cd "$root/build" && ls -dt -- */ | grep -xE '[0-9a-f]{32}/' | tail -n +5 | while IFS= read -r old; do rm -rf -- "./$old"; done)
     program_is_current && [ "$sum" = "$1" ]
 }
