@@ -227,3 +227,12 @@ is_reserved-with m g h first count i mark k a b l =
           ∙ ap (λ (x : Bool). x && get_or m.reserved (base_of h + i) false) (sym out_now)
           ∙ ap (λ (x : Bool). cond x mark (is_reserved m h i)) (sym (past_region g h first count i l large)))
     ]
+
+own_run : (g : Region) (first count i : ℕ) → first ≤ i → i < first + count → (same_region g g && (nat_le first i && nat_lt i (first + count))) ≡ true
+own_run (Private p) first count i l h = rw (eq-eqb p p refl) (grind (arith, nat_tests))
+own_run Shared first count i l h = grind (arith, nat_tests)
+
+-- the run is reserved
+pub run_reserved : (m : Maps) (g : Region) (first count i : ℕ) → AreKept m → IsRegion m g → first + count ≤ end_of g → first ≤ i → i < first + count → is_reserved (with_reserved m g first count true) g i ≡ true
+run_reserved m g first count i k a l b d =
+    is_reserved-with m g g first count i true k a a l ∙ cond-true (same_region g g && (nat_le first i && nat_lt i (first + count))) true (is_reserved m g i) (own_run g first count i b d)

@@ -14,3 +14,6 @@ pub use ends::{Ends, MOST_PROCESSES};
 pub use held::{Cause, Held, Region};
 pub use laws::{drops_are_exact, grants_are_exact, reservations_are_exact};
 pub use regions::Regions;
+
+#[cfg(test)]
+mod tests;

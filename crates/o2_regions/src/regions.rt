@@ -178,7 +178,8 @@ impl Regions {
     pub fn reserve(&mut self, region: Region, first: u16, count: u16)
         requires region { IsRegion self.old region }
         requires free { IsRun (is_taken self.old region) (first_of region) (end_of region) count first }
-        ensures { self.new ≡ with_reserved self.old region first count true }
+        ensures exact { self.new ≡ with_reserved self.old region first count true }
+        ensures reserved { (i : ℕ) → first ≤ i → i < first + count → is_reserved self.new region i ≡ true }
     {
         self.reserved
             .fill(base(region) + first as usize, count as usize, true);
@@ -206,7 +207,9 @@ impl Regions {
         requires reserved { is_reserved self.old (region_of pid index) index ≡ true }
         requires same { IfSome (held_at self.old pid index) (λ h. h.id ≡ held.id) }
         requires few { holds_of (held_at self.old pid index) + held.holds < 2 ^ 32 }
-        ensures { self.new ≡ granted self.old pid index held access }
+        ensures granted { self.new ≡ granted self.old pid index held access }
+        ensures processes { self.new.processes ≡ self.old.processes }
+        ensures reserved { self.new.reserved ≡ self.old.reserved }
     {
         let place = place_of(pid, index);
         match self.held[place] {
@@ -245,6 +248,8 @@ impl Regions {
         requires index { index < 8192 }
         ensures left { result ≡ left_of (held_at self.old pid index) }
         ensures dropped { self.new ≡ dropped self.old pid index }
+        ensures processes { self.new.processes ≡ self.old.processes }
+        ensures reserved { self.new.reserved ≡ self.old.reserved }
     {
         let place = place_of(pid, index);
         match self.held[place] {
