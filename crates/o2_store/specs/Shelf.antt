@@ -106,6 +106,10 @@ abbrev pub AreClean : Shelf → Pictures → Type 0
 AreClean s pic = (k at len j : ℕ) → (entry s k).attr.clean ≡ true → place_of s k ≡ Some (at, len) → j < (entry s k).size
     → (block : ℕ → List ℕ) → slice_index_or s.memory (at + j) 0 ≡ out_byte s pic block k j
 
+-- a segment in memory has the bytes there that it would have out of it
+abbrev pub IsSaved : Bool → Pictures → Shelf → (ℕ → List ℕ) → ℕ → Type 0
+IsSaved told pic s block key = IsTrue told → (at len j : ℕ) → place_of s key ≡ Some (at, len) → j < (entry s key).size → out_byte s pic block key j ≡ slice_index_or s.memory (at + j) 0
+
 -- what holds of a number's entry, its place in memory, its mark in the clock and how many blocks it has
 pub record IsSegment (made : ℕ) (o : Option Entry) (place : Option (ℕ × ℕ)) (present : Bool) (blocks : ℕ) : Type 0 where
   -- a range is as long as the size, rounded up

@@ -2,7 +2,9 @@
 #![tactic(auto)]
 
 mod adding;
+mod blocks;
 mod brought;
+mod evicting;
 mod showing;
 mod store;
 mod windows;
