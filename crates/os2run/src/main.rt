@@ -4,26 +4,25 @@
 // than 0, go to the standard error; the status is the exit status.
 #![tactic(auto)]
 
-ghost use Rattle.std.specs.Prelude.{◌≡◌, ◌≢◌, [], Err, IfOk, MatchResult};
+ghost use Rattle.std.specs.Prelude.{◌≡◌, ◌≢◌, [], MatchResult};
 ghost use Rattle.std.specs.IoError.{error_kind};
-ghost use Rattle.std.specs.declared.io.kind.ErrorKind.TheVariants.{OutOfMemory};
 
 use o2_base::NoMemory;
 use o2_cli::{Status, number, os2run, text};
 use o2_outer::{FolderFiles, Put, Sink, StderrSink, StdinSource, StdoutSink, SureSwap};
 use std::alloc::Global;
+use std::env;
+use std::io::{Error, ErrorKind};
 use std::process::ExitCode;
-use std::{env, io};
 
 /// The blocks of the swap device: nothing is swapped.
 const SWAP_BLOCKS: u32 = 0;
 
 /// The words that are there in place of those that can't be read: none, which is no command, unless memory was wanting.
-fn words_in_place(alloc: Global, error: &io::Error) -> Result<Vec<String>, NoMemory>
-    ensures memory { error_kind error.now ≡ OutOfMemory → result ≡ Err NoMemory }
-    ensures none { error_kind error.now ≢ OutOfMemory → result ≡ Ok [] }
+fn words_in_place(alloc: Global, error: &Error) -> Result<Vec<String>, NoMemory>
+    ensures { MatchResult result (λ v. (error_kind error.now ≢ ErrorKind.OutOfMemory) × (v.items ≡ [])) (λ _. error_kind error.now ≡ ErrorKind.OutOfMemory) }
 {
-    if error.kind() == io::ErrorKind::OutOfMemory {
+    if error.kind() == ErrorKind::OutOfMemory {
         return Err(NoMemory);
     }
     Ok(Vec::new(alloc))
