@@ -5,9 +5,10 @@ use Rattle.o2_base.specs.declared.faults.ModuleFault.{ModuleFault}
 use Rattle.o2_words.specs.declared.words.Verb.{Verb}
 use Rattle.o2_words.specs.Words.{IsCommand, IsCommandFor}
 use Rattle.o2_world.specs.World.{World, Setting}
-use Rattle.o2_world.specs.Run.{HasPartTexts}
-use Rattle.o2_run.specs.Ended.{HasWholeRun, HasStoppedTexts}
-use Rattle.o2_run.specs.declared.steps.Stop.TheVariants.{Input}
+use Rattle.o2_run.specs.Ended.{HasWholeRun, HasStoppedTexts, HasPartRun}
+use Rattle.o2_run.specs.declared.steps.Stop.{Stop}
+use Rattle.o2_run.specs.declared.steps.Stop.TheVariants.{Input, NoRoom, SwapFull, SwapFault}
+use Rattle.o2_machine.specs.Lasts.{machine_swaps}
 use Rattle.o2_open.specs.declared.session.Session.{Session}
 use Rattle.o2_open.specs.declared.status.Status.{Status}
 use Rattle.o2_open.specs.declared.status.Status.TheVariants as status
@@ -77,12 +78,34 @@ pub record IsUntouched (left_old left_new console_old console_new report_old rep
   pub console : console_new ≡ console_old
   pub report : report_new ≡ report_old
 
--- both texts and the input, by the status: those of the boundless machine, or fronts of them; `fault` says that the report failed
-abbrev pub Shows : List (String Global) → Told → (left_old left_new console_old console_new report_old report_new : Option (List ℕ)) → (fault : Type 0) → Status → Type 0
-Shows words told i j c d r q e status.Fine = Runs words told i (λ o. HasWholeRun o.setting o.world j c d r q)
-Shows words told i j c d r q e status.SinkFault = Runs words told i (λ o. HasPartTexts o.setting o.world c d r q)
-Shows words told i j c d r q e status.InputFault = Runs words told i (λ o. HasStoppedTexts o.setting o.world Input j c d r q e)
-Shows words told i j c d r q e _ = IsUntouched i j c d r q
+-- the status of a stop
+abbrev pub status_of : Stop → Status
+status_of Input = status.InputFault
+status_of NoRoom = status.NoRoom
+status_of SwapFull = status.SwapFull
+status_of SwapFault = status.SwapFault
+
+-- the run is stopped so, before a step
+abbrev pub Stops : List (String Global) → Told → (blocks : ℕ) → (left_old left_new console_old console_new report_old report_new : Option (List ℕ)) → (fault : Type 0) → Stop → Type 0
+Stops words told blocks i j c d r q e why = Runs words told i (λ o. HasStoppedTexts machine_swaps blocks o.setting o.world why j c d r q e)
+
+-- both texts and the input, by the status: those of the boundless machine, or fronts of them; `fault` says that the report
+-- failed, and `blocks` how many blocks the device has
+abbrev pub Shows : List (String Global) → Told → (blocks : ℕ) → (left_old left_new console_old console_new report_old report_new : Option (List ℕ)) → (fault : Type 0) → Status → Type 0
+Shows words told blocks i j c d r q e status.Fine = Runs words told i (λ o. HasWholeRun machine_swaps o.setting o.world j c d r q)
+Shows words told blocks i j c d r q e status.SinkFault = Runs words told i (λ o. HasPartRun o.setting o.world j c d r q)
+Shows words told blocks i j c d r q e status.InputFault = Stops words told blocks i j c d r q e Input
+Shows words told blocks i j c d r q e status.NoRoom = Stops words told blocks i j c d r q e NoRoom
+Shows words told blocks i j c d r q e status.SwapFull = Stops words told blocks i j c d r q e SwapFull
+Shows words told blocks i j c d r q e status.SwapFault = Stops words told blocks i j c d r q e SwapFault
+Shows words told blocks i j c d r q e _ = IsUntouched i j c d r q
+
+-- a machine that doesn't swap is stopped neither for room nor for swap
+abbrev pub IsUnswapped : Status → Type 0
+IsUnswapped status.NoRoom = ⊥
+IsUnswapped status.SwapFull = ⊥
+IsUnswapped status.SwapFault = ⊥
+IsUnswapped _ = Unit {0}
 
 abbrev pub OnFileFault : Status → Type 0 → Type 0
 OnFileFault status.FileFault P = P
@@ -95,6 +118,10 @@ OnInputFault _ P = Unit {0}
 abbrev pub OnSinkFault : Status → Type 0 → Type 0
 OnSinkFault status.SinkFault P = P
 OnSinkFault _ P = Unit {0}
+
+abbrev pub OnSwapFault : Status → Type 0 → Type 0
+OnSwapFault status.SwapFault P = P
+OnSwapFault _ P = Unit {0}
 
 -- where nothing has run, for a refusal, a fault of the files or want of memory
 abbrev pub OnUnrun : Status → Type 0 → Type 0

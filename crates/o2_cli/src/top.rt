@@ -3,7 +3,7 @@ ghost use Rattle.std.specs.Prelude.{◌≡◌, ◌≤◌, ◌⊎◌, ℕ, List, 
 ghost use Rattle.o2_conf.specs.Limits.{IsWithinLimits};
 ghost use Rattle.o2_open.specs.Loads.{HasEnvironments};
 ghost use Rattle.o2_outer.specs.Texts.{Rose};
-ghost use Rattle.o2_cli.specs.Top.{Refuses, Shows, OnFileFault, OnInputFault, OnSinkFault, OnUnrun};
+ghost use Rattle.o2_cli.specs.Top.{Refuses, Shows, IsUnswapped, OnFileFault, OnInputFault, OnSinkFault, OnSwapFault, OnUnrun, status_of};
 ghost use Rattle.o2_cli.specs.RunTexts.{ShowsRun};
 
 use o2_base::{Bytes, NoMemory};
@@ -28,15 +28,19 @@ pub fn os2run<F: Files, I: Source, C: Sink, R: Sink, S: SwapDevice>(
     // Each refusal, with its cause.
     ensures refused { Refuses words.now (F.told files.old) result }
     // Both texts are those of the boundless machine, or fronts of them.
-    ensures texts { Shows words.now (F.told files.old) (I.left input.old) (I.left input.new) (C.taken console.old) (C.taken console.new) (R.taken report.old) (R.taken report.new) (Rose (R.faults report.old) (R.faults report.new)) result }
+    ensures texts { Shows words.now (F.told files.old) (S.blocks swap.old) (I.left input.old) (I.left input.new) (C.taken console.old) (C.taken console.new) (R.taken report.old) (R.taken report.new) (Rose (R.faults report.old) (R.faults report.new)) result }
     // Where nothing ran, the input and both sinks are as they were, whatever they tell.
     ensures same_input { OnUnrun result (input.new ≡ input.old) }
     ensures same_console { OnUnrun result (console.new ≡ console.old) }
     ensures same_report { OnUnrun result (report.new ≡ report.old) }
+    // Nothing is swapped: the device is as it was, and no run is stopped for room or swap.
+    ensures same_swap { swap.new ≡ swap.old }
+    ensures unswapped { IsUnswapped result }
     // A fault is told only where a count rose.
     ensures file_fault { OnFileFault result (Rose (F.faults files.old) (F.faults files.new)) }
     ensures input_fault { OnInputFault result (Rose (I.faults input.old) (I.faults input.new)) }
     ensures sink_fault { OnSinkFault result (Rose (C.faults console.old) (C.faults console.new) ⊎ Rose (R.faults report.old) (R.faults report.new)) }
+    ensures swap_fault { OnSwapFault result (Rose (S.faults swap.old) (S.faults swap.new)) }
 {
     if !is_command(words) {
         return Status::BadWords;
@@ -50,6 +54,18 @@ pub fn os2run<F: Files, I: Source, C: Sink, R: Sink, S: SwapDevice>(
     match open(alloc, command.verb, files, &name) {
         Err(status) => status,
         Ok(session) => run_session(alloc, &session, input, console, report, swap),
+    }
+}
+
+/// The status of a stop.
+fn stopped(why: Stop) -> Status
+    ensures { result ≡ status_of why }
+{
+    match why {
+        Stop::Input => Status::InputFault,
+        Stop::NoRoom => Status::NoRoom,
+        Stop::SwapFull => Status::SwapFull,
+        Stop::SwapFault => Status::SwapFault,
     }
 }
 
@@ -67,9 +83,12 @@ fn run_session<I: Source, C: Sink, R: Sink, S: SwapDevice>(
     ensures same_input { OnUnrun result (input.new ≡ input.old) }
     ensures same_console { OnUnrun result (console.new ≡ console.old) }
     ensures same_report { OnUnrun result (report.new ≡ report.old) }
-    ensures texts { ShowsRun session.now (I.left input.old) (I.left input.new) (C.taken console.old) (C.taken console.new) (R.taken report.old) (R.taken report.new) (Rose (R.faults report.old) (R.faults report.new)) result }
+    ensures same_swap { swap.new ≡ swap.old }
+    ensures unswapped { IsUnswapped result }
+    ensures texts { ShowsRun session.now (S.blocks swap.old) (I.left input.old) (I.left input.new) (C.taken console.old) (C.taken console.new) (R.taken report.old) (R.taken report.new) (Rose (R.faults report.old) (R.faults report.new)) result }
     ensures input_fault { OnInputFault result (Rose (I.faults input.old) (I.faults input.new)) }
     ensures sink_fault { OnSinkFault result (Rose (C.faults console.old) (C.faults console.new) ⊎ Rose (R.faults report.old) (R.faults report.new)) }
+    ensures swap_fault { OnSwapFault result (Rose (S.faults swap.old) (S.faults swap.new)) }
 {
     match Machine::begin(alloc, &session.conf, &session.linked, report) {
         Err(BeginFault::NoMemory) => Status::NoMemory,
@@ -78,7 +97,7 @@ fn run_session<I: Source, C: Sink, R: Sink, S: SwapDevice>(
         Ok(mut machine) => match run(&mut machine, input, console, report, swap) {
             Ended::Fine => Status::Fine,
             Ended::SinkFault => Status::SinkFault,
-            Ended::Stopped(Stop::Input) => Status::InputFault,
+            Ended::Stopped(why) => stopped(why),
         },
     }
 }

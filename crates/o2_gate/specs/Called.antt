@@ -44,10 +44,12 @@ pub record IsUnread (why : Type 0) (registers before : Cpu) (old new : Plain) (l
   pub to_console : console_new ≡ console_old
   pub to_report : report_new ≡ report_old
 
--- a sink failed: registers and bytes are as before, and both texts are fronts, the report's only behind the whole piece
-pub record IsInPart (e : Effect) (registers before : Cpu) (old new : Plain) (console_old console_new report_old report_new : Option (List ℕ)) : Type 0 where
+-- a sink failed: registers and bytes are as before, the input is as before or as the effect leaves it, and both texts are fronts,
+-- the report's only behind the whole piece
+pub record IsInPart (e : Effect) (registers before : Cpu) (old new : Plain) (left_old left_new console_old console_new report_old report_new : Option (List ℕ)) : Type 0 where
   pub cpu : registers ≡ before
   pub bytes : (n : ℕ) → bytes_in new n ≡ bytes_in old n
+  pub input : (left_new ≡ left_old) ⊎ (left_new ≡ Some e.input)
   pub to_console : GainsSome console_old console_new (λ front. IsPrefix front e.piece)
   pub to_report : GainsSome report_old report_new (λ front. IsPrefix front (lines_text e.lines))
   pub in_order : (report_new ≡ report_old) ⊎ Gains console_old console_new e.piece
@@ -58,7 +60,7 @@ DoesFor why b e cpu old new i j c d r q (Back put) = IsMade e state.Live put 1 c
 DoesFor why b e cpu old new i j c d r q (Exited code) = IsMade e (state.Exited code) 0 2 cpu new j c d r q
 DoesFor why b e cpu old new i j c d r q (Trap vector) = IsTrap b e vector cpu old new i j c d r q
 DoesFor why b e cpu old new i j c d r q InputFault = IsUnread why cpu b.cpu old new i j c d r q
-DoesFor why b e cpu old new i j c d r q SinkFault = IsInPart e cpu b.cpu old new c d r q
+DoesFor why b e cpu old new i j c d r q SinkFault = IsInPart e cpu b.cpu old new i j c d r q
 
 abbrev pub Does : Before → Effect → Cpu → (old new : Plain) → (left_old left_new console_old console_new report_old report_new : Option (List ℕ)) → Called → Type 0
 Does b = DoesFor (asks b ≡ true) b

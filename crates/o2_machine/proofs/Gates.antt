@@ -35,12 +35,13 @@ module _ (old mid new : Plain) (pid : ℕ) (cpu_old cpu_mid cpu_new : Cpu) (inpu
       → IsTrap (before_call old pid cpu_old input known) (serviced (before_call old pid cpu_old input known) service next) vector cpu_new mid new i j c d r q
   trap_before vector trap = subst (λ (b : Before). IsTrap b (serviced b service next) vector cpu_new mid new i j c d r q) (same_before old mid pid cpu_old cpu_mid input known same) trap
 
-  pub part_before : IsInPart (serviced (before_call mid pid cpu_mid input known) service next) cpu_new cpu_mid mid new c d r q → IsInPart (serviced (before_call old pid cpu_old input known) service next) cpu_new cpu_old old new c d r q
+  pub part_before : IsInPart (serviced (before_call mid pid cpu_mid input known) service next) cpu_new cpu_mid mid new i j c d r q → IsInPart (serviced (before_call old pid cpu_old input known) service next) cpu_new cpu_old old new i j c d r q
   part_before part =
-      let moved = subst (λ (b : Before). IsInPart (serviced b service next) cpu_new cpu_mid mid new c d r q) (same_before old mid pid cpu_old cpu_mid input known same) part in
+      let moved = subst (λ (b : Before). IsInPart (serviced b service next) cpu_new cpu_mid mid new i j c d r q) (same_before old mid pid cpu_old cpu_mid input known same) part in
       record {
         cpu = part.cpu ∙ same_cpu old mid pid cpu_old cpu_mid same;
         bytes = λ n. part.bytes n ∙ same_bytes old mid pid cpu_old cpu_mid same n;
+        input = moved.input;
         to_console = moved.to_console;
         to_report = moved.to_report;
         in_order = moved.in_order;

@@ -62,30 +62,32 @@ module _ (b : Before) (e : Effect) (tally more : Tally) (cpu : Cpu) (old new : P
         to_report = rw (more_lines e (Traps b.number 1 b.cpu.cs b.cpu.ip)) (puts_more _ _ r s q put.Done made.to_report took);
       })
 
-  pub late_with_trap : has_trap_flag b.cpu.flags ≡ true → IsMade e Live tally.bytes tally.lines cpu new j c d r s → GainsSome s q (λ front. IsPrefix front (lines_text (Traps b.number 1 b.cpu.cs b.cpu.ip ∷ []))) → IsMadeLate (single_stepped b e) (Trapped 1) more cpu new c d r q
+  pub late_with_trap : has_trap_flag b.cpu.flags ≡ true → IsMade e Live tally.bytes tally.lines cpu new j c d r s → GainsSome s q (λ front. IsPrefix front (lines_text (Traps b.number 1 b.cpu.cs b.cpu.ip ∷ []))) → IsMadeLate (single_stepped b e) (Trapped 1) more cpu new j c d r q
   late_with_trap flag made took =
-      subst (λ (x : Effect). IsMadeLate x (Trapped 1) more cpu new c d r q) (sym (with_flag b e flag made.state)) (record {
+      subst (λ (x : Effect). IsMadeLate x (Trapped 1) more cpu new j c d r q) (sym (with_flag b e flag made.state)) (record {
         state = refl;
         late = refl;
         puts = record { bytes = made.piece ∙ sym same; lines = lines_more made.lines };
         cpu = made.cpu;
         bytes = made.bytes;
+        input = made.input;
         to_console = made.to_console;
         to_report = rw (more_lines e (Traps b.number 1 b.cpu.cs b.cpu.ip)) (puts_more _ _ r s q put.Failed made.to_report took);
       })
 
 -- a fault in a call is a fault in the step, whatever line would follow
-in_part_more : (b : Before) (e : Effect) (flag live : Bool) (cpu before : Cpu) (old new : Plain) (c d r q : Option (List ℕ)) → IsInPart e cpu before old new c d r q
-    → IsInPart (if flag && live then record e { state = Trapped 1; lines = e.lines ++ Traps b.number 1 b.cpu.cs b.cpu.ip ∷ [] } else e) cpu before old new c d r q
-in_part_more b e true true cpu before old new c d r q part = record {
+in_part_more : (b : Before) (e : Effect) (flag live : Bool) (cpu before : Cpu) (old new : Plain) (i j c d r q : Option (List ℕ)) → IsInPart e cpu before old new i j c d r q
+    → IsInPart (if flag && live then record e { state = Trapped 1; lines = e.lines ++ Traps b.number 1 b.cpu.cs b.cpu.ip ∷ [] } else e) cpu before old new i j c d r q
+in_part_more b e true true cpu before old new i j c d r q part = record {
   cpu = part.cpu;
   bytes = part.bytes;
+  input = part.input;
   to_console = part.to_console;
   to_report = rw (more_lines e (Traps b.number 1 b.cpu.cs b.cpu.ip)) (puts_front _ _ r q part.to_report);
   in_order = part.in_order;
 }
-in_part_more b e true false cpu before old new c d r q part = part
-in_part_more b e false live cpu before old new c d r q part = part
+in_part_more b e true false cpu before old new i j c d r q part = part
+in_part_more b e false live cpu before old new i j c d r q part = part
 
-pub in_part : (b : Before) (e : Effect) (cpu before : Cpu) (old new : Plain) (c d r q : Option (List ℕ)) → IsInPart e cpu before old new c d r q → IsInPart (single_stepped b e) cpu before old new c d r q
-in_part b e cpu before old new c d r q part = in_part_more b e (has_trap_flag b.cpu.flags) (is_live e.state) cpu before old new c d r q part
+pub in_part : (b : Before) (e : Effect) (cpu before : Cpu) (old new : Plain) (i j c d r q : Option (List ℕ)) → IsInPart e cpu before old new i j c d r q → IsInPart (single_stepped b e) cpu before old new i j c d r q
+in_part b e cpu before old new i j c d r q part = in_part_more b e (has_trap_flag b.cpu.flags) (is_live e.state) cpu before old new i j c d r q part

@@ -15,9 +15,10 @@ use Rattle.o2_world.specs.Text.{lines_text, line_text}
 use Rattle.o2_world.proofs.Quiet.{changed_plain, effect_quiet}
 use Rattle.o2_world.specs.Run.{process_after, before, step, plainly, is_over, any_lives, live_flags, console, last_line, next_dispatch}
 use Rattle.o2_world.proofs.Flags.{live_process, flags_after, flags_ended}
-use Rattle.o2_run.specs.Turn.{StepsOn, StepsInPart, IsStopped, IsClosed, IsClosedInPart, Turns}
+use Rattle.o2_run.specs.Turn.{StepsOn, StepsInPart, IsStopped, IsClosed, IsClosedInPart, Turns, Caused}
 use Rattle.o2_run.specs.Stops.{stop_line}
-use Rattle.o2_run.specs.declared.steps.Stop.TheVariants.{Input}
+use Rattle.o2_run.specs.declared.steps.Stop.{Stop}
+use Rattle.o2_run.specs.declared.steps.Stop.TheVariants.{Input, NoRoom, SwapFull, SwapFault}
 use Rattle.o2_run.specs.declared.steps.Turn.{Turn}
 use Rattle.o2_run.specs.declared.steps.Turn.TheVariants as turn
 use Rattle.o2_sched.specs.Schedule.{Schedule, next_of, pick_of}
@@ -118,10 +119,12 @@ module _ (m : Machine) (s : Setting) (w : World) (p : Process) (c d r q : Option
     lines = length-append w.lines made.lines ∙ omega (arith, stands.lines, puts.lines, counts.lines);
   })
 
-  pub steps_in_part : (n : Machine) → StandsFor n s w ⊎ StandsFor n s (step s w) → GainsSome c d (λ front. IsPrefix front made.piece) → GainsSome r q (λ front. IsPrefix front (lines_text made.lines))
-      → (q ≡ r) ⊎ Gains c d made.piece → StepsInPart (StandsFor n s) s w c d r q
-  steps_in_part n now to_console to_report in_order = record {
+  pub steps_in_part : (j : Option (List ℕ)) (n : Machine) → (j ≡ Some w.input) ⊎ (j ≡ Some made.input) → StandsFor n s w ⊎ StandsFor n s (step s w) → GainsSome c d (λ front. IsPrefix front made.piece) → GainsSome r q (λ front. IsPrefix front (lines_text made.lines))
+      → (q ≡ r) ⊎ Gains c d made.piece → StepsInPart (StandsFor n s) false s w j c d r q
+  steps_in_part j n left now to_console to_report in_order = record {
     runs = runs;
+    room = λ e. absurd (cc);
+    input = elim left [ inl same ↦ inl same | inr took ↦ inr (took ∙ ap Some (sym input_of)) ];
     stands = now;
     to_console = rw console_of (continues_in_part made.piece (console w) c d to_console);
     to_report = rw lines_of (continues_in_part (lines_text made.lines) (lines_text w.lines) r q to_report);
@@ -131,9 +134,10 @@ module _ (m : Machine) (s : Setting) (w : World) (p : Process) (c d r q : Option
     in_order_of (inl same) = inl same
     in_order_of (inr whole) = inr (rw console_of (continues_by made.piece (console w) c d whole))
 
-  pub steps_on : (i : Option (List ℕ)) (n : Machine) → i ≡ Some made.input → StandsFor n s (step s w) → Gains c d made.piece → Gains r q (lines_text made.lines) → StepsOn (StandsFor n s) s w i c d r q
+  pub steps_on : (i : Option (List ℕ)) (n : Machine) → i ≡ Some made.input → StandsFor n s (step s w) → Gains c d made.piece → Gains r q (lines_text made.lines) → StepsOn (StandsFor n s) false s w i c d r q
   steps_on i n left now to_console to_report = record {
     runs = runs;
+    room = λ e. absurd (cc);
     input = left ∙ ap Some (sym input_of);
     stands = now;
     to_console = rw console_of (continues_by made.piece (console w) c d to_console);
@@ -163,15 +167,16 @@ module _ (m : Machine) (s : Setting) (w : World) (number : ℕ) (c d r q : Optio
   here : (p : Process) × (process_at w.processes k ≡ Some p) × (p.state ≡ Live)
   here = live_process w.processes m.sched.flags k stands.flags (ap (lives m.sched.flags) is.number ∙ live)
 
-  pub faulted : (n : Machine) → IsSame m n → ((p : Process) → process_at w.processes number ≡ Some p → p.state ≡ Live → ActsInPart w.processes w.names (effect (before s w number p)) n.space c d r q)
-      → StepsInPart (StandsFor n s) s w c d r q
-  faulted n same did =
-      let at_k = subst (λ (z : ℕ). (p : Process) → process_at w.processes z ≡ Some p → p.state ≡ Live → ActsInPart w.processes w.names (effect (before s w z p)) n.space c d r q) (sym is.number) did in
+  pub faulted : (i j : Option (List ℕ)) (n : Machine) → IsSame m n → i ≡ Some w.input
+      → ((p : Process) → process_at w.processes number ≡ Some p → p.state ≡ Live → ActsInPart w.processes w.names (effect (before s w number p)) n.space i j c d r q)
+      → StepsInPart (StandsFor n s) false s w j c d r q
+  faulted i j n same left did =
+      let at_k = subst (λ (z : ℕ). (p : Process) → process_at w.processes z ≡ Some p → p.state ≡ Live → ActsInPart w.processes w.names (effect (before s w z p)) n.space i j c d r q) (sym is.number) did in
       let all = at_k here.0 here.1 here.2 in
-      steps_in_part m s w here.0 c d r q stands is.any is.some here.1 n (inl (same_space n m s w stands same all.stands)) all.to_console all.to_report all.in_order
+      steps_in_part m s w here.0 c d r q stands is.any is.some here.1 j n (elim all.input [ inl same ↦ inl (same ∙ left) | inr took ↦ inr took ]) (inl (same_space n m s w stands same all.stands)) all.to_console all.to_report all.in_order
 
   pub went : (i : Option (List ℕ)) (n : Machine) (left : Space) (tally : Tally) → HasCounted m n left tally → ((p : Process) → process_at w.processes number ≡ Some p → p.state ≡ Live → ActsAll number w.processes w.names p (effect (before s w number p)) tally left i c d r q true)
-      → n.sched ≡ record m.sched { dispatch = counted (next_of m.sched) } → StepsOn (StandsFor n s) s w i c d r q
+      → n.sched ≡ record m.sched { dispatch = counted (next_of m.sched) } → StepsOn (StandsFor n s) false s w i c d r q
   went i n left tally counts did sched =
       let at_k = subst (λ (z : ℕ). (p : Process) → process_at w.processes z ≡ Some p → p.state ≡ Live → ActsAll z w.processes w.names p (effect (before s w z p)) tally left i c d r q true) (sym is.number) did in
       let all = at_k here.0 here.1 here.2 in
@@ -187,7 +192,7 @@ module _ (m : Machine) (s : Setting) (w : World) (number : ℕ) (c d r q : Optio
   ended_flags e p ends = flags_ended w.processes m.sched.flags k p e stands.flags ends ∙ ap (λ (z : ℕ). slice_set m.sched.flags (z - 1) false) is.number
 
   pub over : (i : Option (List ℕ)) (n : Machine) (left : Space) (tally : Tally) → HasCounted m n left tally → ((p : Process) → process_at w.processes number ≡ Some p → p.state ≡ Live → ActsAll number w.processes w.names p (effect (before s w number p)) tally left i c d r q false)
-      → n.sched ≡ ended_sched → StepsOn (StandsFor n s) s w i c d r q
+      → n.sched ≡ ended_sched → StepsOn (StandsFor n s) false s w i c d r q
   over i n left tally counts did sched =
       let at_k = subst (λ (z : ℕ). (p : Process) → process_at w.processes z ≡ Some p → p.state ≡ Live → ActsAll z w.processes w.names p (effect (before s w z p)) tally left i c d r q false) (sym is.number) did in
       let all = at_k here.0 here.1 here.2 in
@@ -196,21 +201,21 @@ module _ (m : Machine) (s : Setting) (w : World) (number : ℕ) (c d r q : Optio
       (ended_flags (effect (before s w k here.0)) here.0 all.lives ∙ sym (ap (λ (z : Schedule). z.flags) sched)) all.puts counts)
       all.to_console all.to_report
 
-  pub late : (n : Machine) (left : Space) (tally : Tally) → HasCounted m n left tally → ((p : Process) → process_at w.processes number ≡ Some p → p.state ≡ Live → ActsLate number w.processes w.names p (effect (before s w number p)) tally left c d r q)
-      → n.sched ≡ ended_sched → StepsInPart (StandsFor n s) s w c d r q
-  late n left tally counts did sched =
-      let at_k = subst (λ (z : ℕ). (p : Process) → process_at w.processes z ≡ Some p → p.state ≡ Live → ActsLate z w.processes w.names p (effect (before s w z p)) tally left c d r q) (sym is.number) did in
+  pub late : (j : Option (List ℕ)) (n : Machine) (left : Space) (tally : Tally) → HasCounted m n left tally → ((p : Process) → process_at w.processes number ≡ Some p → p.state ≡ Live → ActsLate number w.processes w.names p (effect (before s w number p)) tally left j c d r q)
+      → n.sched ≡ ended_sched → StepsInPart (StandsFor n s) false s w j c d r q
+  late j n left tally counts did sched =
+      let at_k = subst (λ (z : ℕ). (p : Process) → process_at w.processes z ≡ Some p → p.state ≡ Live → ActsLate z w.processes w.names p (effect (before s w z p)) tally left j c d r q) (sym is.number) did in
       let all = at_k here.0 here.1 here.2 in
-      steps_in_part m s w here.0 c d r q stands is.any is.some here.1 n
+      steps_in_part m s w here.0 c d r q stands is.any is.some here.1 j n (inr all.input)
       (inr (stands_next m s w here.0 c d r q stands is.any is.some here.1 n left tally all.stands (ap (λ (z : Schedule). z.dispatch) sched) (ap (λ (z : Schedule). z.quantum) sched)
       (ended_flags (effect (before s w k here.0)) here.0 all.lives ∙ sym (ap (λ (z : Schedule). z.flags) sched)) all.puts counts))
       (gains_some _ c d all.to_console) all.to_report (inr all.to_console)
 
   -- the input failed: the next step is a DosRead, and the machine stands for the world before it
-  pub stopped : (n : Machine) (put : Bool) (i j s_of : Option (List ℕ)) → IsSame m n → i ≡ Some w.input
+  pub stopped : (blocks : ℕ) (n : Machine) (put : Bool) (i j s_of : Option (List ℕ)) → IsSame m n → i ≡ Some w.input
       → ((p : Process) → process_at w.processes number ≡ Some p → p.state ≡ Live → ActsUnread (AsksInput (before s w number p)) w.processes w.names n.space i j c d r s_of)
-      → GainsSome s_of q (λ front. IsPrefix front (stop_line Input)) → (put ≡ true → Gains s_of q (stop_line Input)) → IsStopped (StandsFor n s) s w Input put j c d r q
-  stopped n put i j s_of same left did front whole =
+      → GainsSome s_of q (λ front. IsPrefix front (stop_line Input)) → (put ≡ true → Gains s_of q (stop_line Input)) → IsStopped (StandsFor n s) blocks s w Input put j c d r q
+  stopped blocks n put i j s_of same left did front whole =
       let at_k = subst (λ (z : ℕ). (p : Process) → process_at w.processes z ≡ Some p → p.state ≡ Live → ActsUnread (AsksInput (before s w z p)) w.processes w.names n.space i j c d r s_of) (sym is.number) did in
       let all = at_k here.0 here.1 here.2 in
       let next = next_is m s w here.0 c d r q stands is.any is.some here.1 in
@@ -236,8 +241,8 @@ module _ (m n : Machine) (s : Setting) (w : World) (i c r q : Option (List ℕ))
   closed : (lives : Bool) (text : List ℕ) → any_lives w.processes ≡ lives → is_over w ≡ true → last_line w ≡ text → Gains r q text → IsClosed (StandsFor n s) w lives i c c r q
   closed lives text by over last g = record { over = over; by = by; stands = stays; input = left; to_console = refl; to_report = rw last (continues_by text (lines_text w.lines) r q g) }
 
-  closed_in_part : (text : List ℕ) → is_over w ≡ true → last_line w ≡ text → GainsSome r q (λ front. IsPrefix front text) → IsClosedInPart (StandsFor n s) w c c r q
-  closed_in_part text over last g = record { over = over; stands = stays; to_console = refl; to_report = rw last (continues_in_part text (lines_text w.lines) r q g) }
+  closed_in_part : (text : List ℕ) → is_over w ≡ true → last_line w ≡ text → GainsSome r q (λ front. IsPrefix front text) → IsClosedInPart (StandsFor n s) w i c c r q
+  closed_in_part text over last g = record { over = over; stands = stays; input = left; to_console = refl; to_report = rw last (continues_in_part text (lines_text w.lines) r q g) }
 
   none_lives : pick_of m.sched ≡ AllEnded → any_lives w.processes ≡ false
   none_lives pick = any_is m s w false stands (by_ended (any_of m.sched) (m.sched.dispatch.budget == 0) (next_of m.sched).current pick)
@@ -245,7 +250,7 @@ module _ (m n : Machine) (s : Setting) (w : World) (i c r q : Option (List ℕ))
   pub closes_ended : pick_of m.sched ≡ AllEnded → Gains r q (codes "all ended" ++ 10 ∷ []) → IsClosed (StandsFor n s) w false i c c r q
   closes_ended pick g = closed false _ (none_lives pick) (rw (none_lives pick) refl) (rw (none_lives pick) refl) g
 
-  pub ended_in_part : pick_of m.sched ≡ AllEnded → GainsSome r q (λ front. IsPrefix front (codes "all ended" ++ 10 ∷ [])) → IsClosedInPart (StandsFor n s) w c c r q
+  pub ended_in_part : pick_of m.sched ≡ AllEnded → GainsSome r q (λ front. IsPrefix front (codes "all ended" ++ 10 ∷ [])) → IsClosedInPart (StandsFor n s) w i c c r q
   ended_in_part pick g = closed_in_part _ (rw (none_lives pick) refl) (rw (none_lives pick) refl) g
 
   some_lives : pick_of m.sched ≡ BudgetSpent → (any_lives w.processes ≡ true) × ((w.dispatch.budget == 0) ≡ true)
@@ -256,21 +261,41 @@ module _ (m n : Machine) (s : Setting) (w : World) (i c r q : Option (List ℕ))
   pub closes_spent : pick_of m.sched ≡ BudgetSpent → Gains r q (codes "budget spent" ++ 10 ∷ []) → IsClosed (StandsFor n s) w true i c c r q
   closes_spent pick g = let both = some_lives pick in closed true _ both.0 (rw (both.0, both.1) refl) (rw (both.0, both.1) refl) g
 
-  pub spent_in_part : pick_of m.sched ≡ BudgetSpent → GainsSome r q (λ front. IsPrefix front (codes "budget spent" ++ 10 ∷ [])) → IsClosedInPart (StandsFor n s) w c c r q
+  pub spent_in_part : pick_of m.sched ≡ BudgetSpent → GainsSome r q (λ front. IsPrefix front (codes "budget spent" ++ 10 ∷ [])) → IsClosedInPart (StandsFor n s) w i c c r q
   spent_in_part pick g = let both = some_lives pick in closed_in_part _ (rw (both.0, both.1) refl) (rw (both.0, both.1) refl) g
 
 -- what a machine stands for doesn't depend on the answer that it keeps
-turns_move : (f g : World → Type 0) → ((w : World) → f w → g w) → (s : Setting) (w : World) (put : Bool) (i c d r q : Option (List ℕ)) (t : Turn) → Turns f s w put i c d r q t → Turns g s w put i c d r q t
-turns_move f g h s w put i c d r q turn.Ran x = record { runs = x.runs; input = x.input; stands = h (step s w) x.stands; to_console = x.to_console; to_report = x.to_report }
-turns_move f g h s w put i c d r q turn.AllEnded x = record { over = x.over; by = x.by; stands = h w x.stands; input = x.input; to_console = x.to_console; to_report = x.to_report }
-turns_move f g h s w put i c d r q turn.BudgetSpent x = record { over = x.over; by = x.by; stands = h w x.stands; input = x.input; to_console = x.to_console; to_report = x.to_report }
-turns_move f g h s w put i c d r q turn.InputFault x = record { runs = x.runs; cause = x.cause; stands = h w x.stands; input = x.input; to_console = x.to_console; to_report = x.to_report; whole = x.whole }
-turns_move f g h s w put i c d r q turn.SinkFault (inl x) = inl (record { runs = x.runs; stands = either x.stands; to_console = x.to_console; to_report = x.to_report; in_order = x.in_order }) where
+stop_moves : (f g : World → Type 0) → ((w : World) → f w → g w) → (blocks : ℕ) (s : Setting) (w : World) (put : Bool) (i c d r q : Option (List ℕ)) (why : Stop) → IsStopped f blocks s w why put i c d r q → IsStopped g blocks s w why put i c d r q
+stop_moves f g h blocks s w put i c d r q why x = record { runs = x.runs; cause = x.cause; stands = h w x.stands; input = x.input; to_console = x.to_console; to_report = x.to_report; whole = x.whole }
+
+turns_move : (f g : World → Type 0) → ((w : World) → f w → g w) → (swaps : Bool) (blocks : ℕ) (s : Setting) (w : World) (put : Bool) (i c d r q : Option (List ℕ)) (t : Turn) → Turns f swaps blocks s w put i c d r q t → Turns g swaps blocks s w put i c d r q t
+turns_move f g h swaps blocks s w put i c d r q turn.Ran x = record { runs = x.runs; room = x.room; input = x.input; stands = h (step s w) x.stands; to_console = x.to_console; to_report = x.to_report }
+turns_move f g h swaps blocks s w put i c d r q turn.AllEnded x = record { over = x.over; by = x.by; stands = h w x.stands; input = x.input; to_console = x.to_console; to_report = x.to_report }
+turns_move f g h swaps blocks s w put i c d r q turn.BudgetSpent x = record { over = x.over; by = x.by; stands = h w x.stands; input = x.input; to_console = x.to_console; to_report = x.to_report }
+turns_move f g h swaps blocks s w put i c d r q turn.InputFault x = stop_moves f g h blocks s w put i c d r q Input x
+turns_move f g h swaps blocks s w put i c d r q turn.NoRoom x = stop_moves f g h blocks s w put i c d r q NoRoom x
+turns_move f g h swaps blocks s w put i c d r q turn.SwapFull x = stop_moves f g h blocks s w put i c d r q SwapFull x
+turns_move f g h swaps blocks s w put i c d r q turn.SwapFault x = stop_moves f g h blocks s w put i c d r q SwapFault x
+turns_move f g h swaps blocks s w put i c d r q turn.SinkFault (inl x) = inl (record { runs = x.runs; room = x.room; input = x.input; stands = either x.stands; to_console = x.to_console; to_report = x.to_report; in_order = x.in_order }) where
   either : f w ⊎ f (step s w) → g w ⊎ g (step s w)
   either (inl y) = inl (h w y)
   either (inr y) = inr (h (step s w) y)
-turns_move f g h s w put i c d r q turn.SinkFault (inr x) = inr (record { over = x.over; stands = h w x.stands; to_console = x.to_console; to_report = x.to_report })
+turns_move f g h swaps blocks s w put i c d r q turn.SinkFault (inr x) = inr (record { over = x.over; stands = h w x.stands; input = x.input; to_console = x.to_console; to_report = x.to_report })
 
 -- the same, for the answer as it is given
-pub turns_answered : (f g : World → Type 0) → ((w : World) → f w → g w) → (s : Setting) (w : World) (put : Bool) (i c d r q : Option (List ℕ)) (t u : Turn) → u ≡ t → Turns f s w put i c d r q t → Turns g s w put i c d r q u
-turns_answered f g h s w put i c d r q t u same x = subst (λ (z : Turn). Turns g s w put i c d r q z) (sym same) (turns_move f g h s w put i c d r q t x)
+pub turns_answered : (f g : World → Type 0) → ((w : World) → f w → g w) → (swaps : Bool) (blocks : ℕ) (s : Setting) (w : World) (put : Bool) (i c d r q : Option (List ℕ)) (t u : Turn) → u ≡ t → Turns f swaps blocks s w put i c d r q t → Turns g swaps blocks s w put i c d r q u
+turns_answered f g h swaps blocks s w put i c d r q t u same x = subst (λ (z : Turn). Turns g swaps blocks s w put i c d r q z) (sym same) (turns_move f g h swaps blocks s w put i c d r q t x)
+
+-- a machine that doesn't swap owes no cause for a fault of its device
+caused : (sink input device : Type 0) (t : Turn) → Caused sink input ⊥ t → Caused sink input device t
+caused sink input device turn.Ran h = h
+caused sink input device turn.AllEnded h = h
+caused sink input device turn.BudgetSpent h = h
+caused sink input device turn.InputFault h = h
+caused sink input device turn.SinkFault h = h
+caused sink input device turn.NoRoom h = h
+caused sink input device turn.SwapFull h = h
+caused sink input device turn.SwapFault h = absurd h
+
+pub caused_answered : (sink input device : Type 0) (t u : Turn) → u ≡ t → Caused sink input ⊥ t → Caused sink input device u
+caused_answered sink input device t u same h = subst (λ (z : Turn). Caused sink input device z) (sym same) (caused sink input device t h)

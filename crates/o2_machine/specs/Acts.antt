@@ -26,16 +26,18 @@ pub record ActsAll (n : ℕ) (ps : List Process) (names : Map Segment) (p : Proc
   pub to_console : Gains console_old console_new e.piece
   pub to_report : Gains report_old report_new (lines_text e.lines)
 
-pub record ActsInPart (ps : List Process) (names : Map Segment) (e : Effect) (new : Space) (console_old console_new report_old report_new : Option (List ℕ)) : Type 0 where
+pub record ActsInPart (ps : List Process) (names : Map Segment) (e : Effect) (new : Space) (left_old left_new console_old console_new report_old report_new : Option (List ℕ)) : Type 0 where
   pub stands : StandsIn new ps names
+  pub input : (left_new ≡ left_old) ⊎ (left_new ≡ Some e.input)
   pub to_console : GainsSome console_old console_new (λ front. IsPrefix front e.piece)
   pub to_report : GainsSome report_old report_new (λ front. IsPrefix front (lines_text e.lines))
   pub in_order : (report_new ≡ report_old) ⊎ Gains console_old console_new e.piece
 
-pub record ActsLate (n : ℕ) (ps : List Process) (names : Map Segment) (p : Process) (e : Effect) (tally : Tally) (new : Space) (console_old console_new report_old report_new : Option (List ℕ)) : Type 0 where
+pub record ActsLate (n : ℕ) (ps : List Process) (names : Map Segment) (p : Process) (e : Effect) (tally : Tally) (new : Space) (left console_old console_new report_old report_new : Option (List ℕ)) : Type 0 where
   pub lives : is_live e.state ≡ false
   pub puts : IsTally e tally
   pub stands : StandsAfter n ps names p e new
+  pub input : left ≡ Some e.input
   pub to_console : Gains console_old console_new e.piece
   pub to_report : GainsSome report_old report_new (λ front. IsPrefix front (lines_text e.lines))
 
@@ -50,8 +52,8 @@ pub record ActsUnread (why : Type 0) (ps : List Process) (names : Map Segment) (
 abbrev pub Acts : Type 0 → ℕ → List Process → Map Segment → Process → Effect → Space → (left_old left_new console_old console_new report_old report_new : Option (List ℕ)) → Acted → Type 0
 Acts why n ps names p e new i j c d r q (Went tally) = ActsAll n ps names p e tally new j c d r q true
 Acts why n ps names p e new i j c d r q (Ended tally) = ActsAll n ps names p e tally new j c d r q false
-Acts why n ps names p e new i j c d r q Fault = ActsInPart ps names e new c d r q
-Acts why n ps names p e new i j c d r q (LateFault tally) = ActsLate n ps names p e tally new c d r q
+Acts why n ps names p e new i j c d r q Fault = ActsInPart ps names e new i j c d r q
+Acts why n ps names p e new i j c d r q (LateFault tally) = ActsLate n ps names p e tally new j c d r q
 Acts why n ps names p e new i j c d r q InputFault = ActsUnread why ps names new i j c d r q
 
 abbrev pub OnFault : Acted → Type 0 → Type 0

@@ -31,3 +31,7 @@ abbrev pub last_lines : Option Last → ℕ
 last_lines (Some AllEnded) = 1
 last_lines (Some BudgetSpent) = 1
 last_lines _ = 0
+
+-- nothing is moved or swapped
+abbrev pub machine_swaps : Bool
+machine_swaps = false

@@ -8,7 +8,6 @@ mod last;
 mod machine;
 mod one_step;
 mod space;
-mod stop;
 mod tally;
 mod turn;
 

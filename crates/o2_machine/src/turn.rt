@@ -1,20 +1,19 @@
 // A turn of the machine: whose it is, and its step.
-ghost use Rattle.std.specs.Prelude.{◌≡◌, ◌<◌, ◌≤◌, ◌+◌, ◌⊎◌, ℕ, true, Some};
+ghost use Rattle.std.specs.Prelude.{◌≡◌, ◌<◌, ◌≤◌, ◌+◌, ◌⊎◌, ℕ, true, false, Some};
 ghost use Rattle.o2_outer.specs.Texts.{Rose};
 ghost use Rattle.o2_conf.specs.Dispatch.{counted, lives};
 ghost use Rattle.o2_world.specs.World.{World, Setting};
 ghost use Rattle.o2_sched.specs.Schedule.{next_of, pick_of, is_step};
-ghost use Rattle.o2_run.specs.Turn.{Turns, LineIs, OnFault, OnInput, OnRan};
+ghost use Rattle.o2_run.specs.Turn.{Turns, LineIs, Caused, OnRan, is_for_swap};
 ghost use Rattle.o2_machine.specs.Lasts.{answer_of, put_of};
 ghost use Rattle.o2_machine.specs.StandsFor.{StandsFor};
 
 use crate::last::{Last, answer};
 use crate::machine::Machine;
 use crate::space::Acted;
-use crate::stop::put_stop;
 use crate::tally::Tally;
 use o2_outer::{Put, Sink, Source, SwapDevice};
-use o2_run::{Steps, Turn};
+use o2_run::{Steps, Stop, Turn, put_stop};
 use o2_sched::Pick;
 
 impl Machine {
@@ -43,20 +42,20 @@ impl Machine {
     ) -> Option<Last>
         requires pick { pick_of self.old.sched ≡ Pick.Step pid }
         requires live { lives self.old.sched.flags pid ≡ true }
-        ensures turns { (s : Setting) (w : World) → StandsFor self.old s w → I.left input.old ≡ Some w.input
-            → Turns (StandsFor self.new s) s w (put_of result) (I.left input.new) (C.taken console.old) (C.taken console.new) (R.taken report.old) (R.taken report.new) (answer_of result) }
+        ensures turns { (s : Setting) (w : World) (blocks : ℕ) → StandsFor self.old s w → I.left input.old ≡ Some w.input
+            → Turns (StandsFor self.new s) false blocks s w (put_of result) (I.left input.new) (C.taken console.old) (C.taken console.new) (R.taken report.old) (R.taken report.new) (answer_of result) }
         ensures last { self.new.last ≡ self.old.last }
         ensures input_count { I.faults input.old ≤ I.faults input.new }
         ensures console_count { C.faults console.old ≤ C.faults console.new }
         ensures report_count { R.faults report.old ≤ R.faults report.new }
-        ensures cause { OnFault (answer_of result) (Rose (C.faults console.old) (C.faults console.new) ⊎ Rose (R.faults report.old) (R.faults report.new)) }
-        ensures input_cause { OnInput (answer_of result) (Rose (I.faults input.old) (I.faults input.new)) }
+        ensures cause { Caused (Rose (C.faults console.old) (C.faults console.new) ⊎ Rose (R.faults report.old) (R.faults report.new)) (Rose (I.faults input.old) (I.faults input.new)) ⊥ (answer_of result) }
+        ensures no_swap_stop { is_for_swap (answer_of result) ≡ false }
         ensures line { LineIs (put_of result) (Rose (R.faults report.old) (R.faults report.new)) (answer_of result) }
         ensures left { OnRan (answer_of result) (self.new.sched.dispatch.budget < self.old.sched.dispatch.budget) }
     {
         match self.space.act(pid, input, console, report) {
             Acted::Fault => Some(Last::SinkFault),
-            Acted::InputFault => Some(Last::InputFault(put_stop(report))),
+            Acted::InputFault => Some(Last::InputFault(put_stop(Stop::Input, report))),
             Acted::Went(tally) => {
                 self.stepped(tally);
                 None
@@ -81,14 +80,14 @@ impl Machine {
         console: &mut C,
         report: &mut R,
     ) -> Option<Last>
-        ensures turns { (s : Setting) (w : World) → StandsFor self.old s w → I.left input.old ≡ Some w.input
-            → Turns (StandsFor self.new s) s w (put_of result) (I.left input.new) (C.taken console.old) (C.taken console.new) (R.taken report.old) (R.taken report.new) (answer_of result) }
+        ensures turns { (s : Setting) (w : World) (blocks : ℕ) → StandsFor self.old s w → I.left input.old ≡ Some w.input
+            → Turns (StandsFor self.new s) false blocks s w (put_of result) (I.left input.new) (C.taken console.old) (C.taken console.new) (R.taken report.old) (R.taken report.new) (answer_of result) }
         ensures last { self.new.last ≡ self.old.last }
         ensures input_count { I.faults input.old ≤ I.faults input.new }
         ensures console_count { C.faults console.old ≤ C.faults console.new }
         ensures report_count { R.faults report.old ≤ R.faults report.new }
-        ensures cause { OnFault (answer_of result) (Rose (C.faults console.old) (C.faults console.new) ⊎ Rose (R.faults report.old) (R.faults report.new)) }
-        ensures input_cause { OnInput (answer_of result) (Rose (I.faults input.old) (I.faults input.new)) }
+        ensures cause { Caused (Rose (C.faults console.old) (C.faults console.new) ⊎ Rose (R.faults report.old) (R.faults report.new)) (Rose (I.faults input.old) (I.faults input.new)) ⊥ (answer_of result) }
+        ensures no_swap_stop { is_for_swap (answer_of result) ≡ false }
         ensures line { LineIs (put_of result) (Rose (R.faults report.old) (R.faults report.new)) (answer_of result) }
         ensures left { OnRan (answer_of result) (self.new.sched.dispatch.budget < self.old.sched.dispatch.budget) }
     {
@@ -107,10 +106,12 @@ impl Machine {
 }
 
 impl Steps for Machine {
-    ghost use Rattle.o2_machine.specs.Lasts.{stopped_of, put_of};
+    ghost use Rattle.o2_machine.specs.Lasts.{stopped_of, put_of, machine_swaps};
     ghost use Rattle.o2_machine.specs.StandsFor.{StandsFor};
 
     ghost stands = { λ m told block s w. StandsFor m s w };
+
+    ghost swaps = { machine_swaps };
 
     ghost left = { λ m. m.sched.dispatch.budget };
 

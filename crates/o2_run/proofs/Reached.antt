@@ -1,12 +1,14 @@
 -- How a run goes on, and how it ends.
-use Rattle.std.proofs.Common.{◌≡◌, ℕ, suc, ◌+◌, ◌<◌, ◌≤◌, Bool, true, false, not, List, [], ◌++◌, Option, None, ◌⊎◌, inl, inr, ap, sym, ◌∙◌, refl, arith, ◌||◌, ◌==◌, if◌then◌else◌, below_more, append-nil, append_assoc}
+use Rattle.std.proofs.Common.{◌≡◌, ℕ, suc, ◌+◌, ◌<◌, ◌≤◌, Bool, true, false, not, List, [], ◌++◌, Option, None, ◌⊎◌, inl, inr, ap, sym, ◌∙◌, refl, arith, ◌||◌, ◌==◌, if◌then◌else◌, below_more, append-nil, append_assoc, subst}
 use Rattle.o2_outer.specs.Texts.{Rose, Gains, Continues}
 use Rattle.o2_world.specs.World.{World, Setting}
 use Rattle.o2_world.specs.Text.{lines_text}
 use Rattle.o2_world.specs.Run.{any_lives, after, is_over, last_line, report, HasPartTexts, Between, AtLastLine}
+use Rattle.o2_run.specs.Room.{Fits}
 use Rattle.o2_run.specs.Turn.{StepsOn, StepsInPart, IsClosed, IsClosedInPart, IsStopped}
 use Rattle.o2_run.specs.Stops.{stop_line}
-use Rattle.o2_run.specs.Ended.{HasReached, HasWholeRun, HasStoppedTexts, HasLast}
+use Rattle.o2_run.specs.Ended.{FitsBelow, HasReached, HasWholeRun, HasStoppedTexts, HasPartRun, HasTexts, part_at}
+use Rattle.o2_run.specs.declared.whole.Ended.TheVariants.{Fine, SinkFault, Stopped}
 use Rattle.o2_run.specs.declared.steps.Stop.{Stop}
 
 neither : (a b : Bool) (x y : List ℕ) → (a || b) ≡ false → (if a then x else (if b then y else [])) ≡ []
@@ -20,34 +22,39 @@ no_last w e = neither (not (any_lives w.processes)) (w.dispatch.budget == 0) _ _
 report_so_far : (w : World) → is_over w ≡ false → report w ≡ lines_text w.lines
 report_so_far w e = ap (λ x. lines_text w.lines ++ x) (no_last w e) ∙ append-nil (lines_text w.lines)
 
-module _ (before_it now : World → Type 0) (s : Setting) (w : World) (i l c d e r q p : Option (List ℕ)) where
+module _ (before_it now : World → Type 0) (swaps : Bool) (blocks : ℕ) (s : Setting) (w : World) (i l c d e r q p : Option (List ℕ)) where
   runs_to : (k : ℕ) → ((j : ℕ) → j < k → is_over (after s w j) ≡ false) → is_over (after s w k) ≡ false → (j : ℕ) → j < k + 1 → is_over (after s w j) ≡ false
   runs_to k before now = let P : ℕ → Type 0 = λ j. is_over (after s w j) ≡ false in below_more P k before now
 
-  pub one_more : (h : HasReached before_it s w i c d r q) → StepsOn now s (after s w h.steps) l d e q p → HasReached now s w l c e r p
+  fits_to : (k : ℕ) → FitsBelow swaps s w k → Fits swaps s (after s w k) → (j : ℕ) → j < k + 1 → Fits swaps s (after s w j)
+  fits_to k before now = let P : ℕ → Type 0 = λ j. Fits swaps s (after s w j) in below_more P k before now
+
+  pub one_more : (h : HasReached before_it swaps s w i c d r q) → StepsOn now swaps s (after s w h.steps) l d e q p → HasReached now swaps s w l c e r p
   one_more h on = record {
     steps = suc h.steps;
     stands = on.stands;
     runs = λ j below. runs_to h.steps h.runs on.runs j (omega (arith, below));
+    room = λ j below. fits_to h.steps h.room on.room j (omega (arith, below));
     input = on.input;
     to_console = λ t x. on.to_console t (h.to_console t x);
     to_report = λ t x. on.to_report t (h.to_report t x);
   }
 
-  pub closed : (h : HasReached before_it s w i c d r q) (lives : Bool) → IsClosed now (after s w h.steps) lives l d e q p → HasWholeRun s w l c e r p
-  closed h lives end = record {
+  closed_texts : (h : HasReached before_it swaps s w i c d r q) (lives : Bool) → IsClosed now (after s w h.steps) lives l d e q p → HasWholeRun swaps s w l c e r p
+  closed_texts h lives end = record {
     texts = record {
       last = h.steps;
       is_last = record { over = end.over; first = h.runs };
       to_console = λ t x. end.to_console ∙ h.to_console t x;
       to_report = λ t x. end.to_report t (h.to_report t x);
     };
+    room = h.room;
     input = end.input;
   }
 
-  -- the machine stands for the world of the last step
-  pub last_stands : (h : HasReached before_it s w i c d r q) (lives : Bool) → IsClosed now (after s w h.steps) lives l d e q p → HasLast now s w
-  last_stands h lives end = record { last = h.steps; is_last = record { over = end.over; first = h.runs }; stands = end.stands }
+  pub closed : (h : HasReached before_it swaps s w i c d r q) (lives : Bool) → IsClosed now (after s w h.steps) lives l d e q p → HasTexts now swaps blocks s w l c e r p (Unit {0}) Fine
+  unfolding closed_texts
+  closed h lives end = (closed_texts h lives end, end.stands)
 
   -- the stop line is whole, or the report failed
   line_or : (k : ℕ) (why : Stop) (put : Bool) (fault : Type 0) → (t : Bool) → t ≡ put → (put ≡ true → Continues q p (lines_text (after s w k).lines) (lines_text (after s w k).lines ++ stop_line why)) → (put ≡ false → fault)
@@ -55,10 +62,11 @@ module _ (before_it now : World → Type 0) (s : Setting) (w : World) (i l c d e
   line_or k why put fault true is whole failed gains = inl (λ t x. whole (sym is) t (gains t x))
   line_or k why put fault false is whole failed gains = inr (failed (sym is))
 
-  pub stopped_before : (h : HasReached before_it s w i c d r q) (why : Stop) (put : Bool) (since : Type 0) → (put ≡ false → since) → IsStopped now s (after s w h.steps) why put l d e q p → HasStoppedTexts s w why l c e r p since
-  stopped_before h why put since failed stop = record {
+  stopped_texts : (h : HasReached before_it swaps s w i c d r q) (why : Stop) (put : Bool) (since : Type 0) → (put ≡ false → since) → IsStopped now blocks s (after s w h.steps) why put l d e q p → HasStoppedTexts swaps blocks s w why l c e r p since
+  stopped_texts h why put since failed stop = record {
     steps = h.steps;
     below = λ j le. runs_to h.steps h.runs stop.runs j (omega (arith, le));
+    room = h.room;
     cause = stop.cause;
     input = stop.input;
     to_console = λ t x. stop.to_console ∙ h.to_console t x;
@@ -66,8 +74,16 @@ module _ (before_it now : World → Type 0) (s : Setting) (w : World) (i l c d e
     whole = line_or h.steps why put since put refl stop.whole failed h.to_report;
   }
 
-  pub stopped_between : (h : HasReached before_it s w i c d r q) → StepsInPart now s (after s w h.steps) d e q p → HasPartTexts s w c e r p
-  stopped_between h part = Between h.steps (λ j le. runs_to h.steps h.runs part.runs j (omega (arith, le)))
+  pub stopped_before : (h : HasReached before_it swaps s w i c d r q) (why : Stop) (put : Bool) (since : Type 0) → (put ≡ false → since) → IsStopped now blocks s (after s w h.steps) why put l d e q p → HasTexts now swaps blocks s w l c e r p since (Stopped why)
+  unfolding stopped_texts
+  stopped_before h why put since failed stop = (stopped_texts h why put since failed stop, stop.stands)
+
+  -- the same, where the device's blocks are counted at an earlier time
+  pub stopped_with : (count : ℕ) → count ≡ blocks → (h : HasReached before_it swaps s w i c d r q) (why : Stop) (put : Bool) (since : Type 0) → (put ≡ false → since) → IsStopped now count s (after s w h.steps) why put l d e q p → HasTexts now swaps blocks s w l c e r p since (Stopped why)
+  stopped_with count same h why put since failed stop = stopped_before h why put since failed (subst (λ n. IsStopped now n s (after s w h.steps) why put l d e q p) same stop)
+
+  part_texts : (h : HasReached before_it swaps s w i c d r q) → StepsInPart now swaps s (after s w h.steps) l d e q p → HasPartTexts s w c e r p
+  part_texts h part = Between h.steps (λ j le. runs_to h.steps h.runs part.runs j (omega (arith, le)))
       (λ t x. part.to_console t (h.to_console t x))
       (λ t x. let y = part.to_report t (h.to_report t x) in
       (y.0, y.1, (rw (report_so_far (after s w h.steps) part.runs) y.2.0, (y.2.1.0 ++ last_line (after s w (suc h.steps)), ap (λ z. z ++ last_line (after s w (suc h.steps))) y.2.1.1 ∙ append_assoc y.0 y.2.1.0 (last_line (after s w (suc h.steps)))))))
@@ -76,15 +92,16 @@ module _ (before_it now : World → Type 0) (s : Setting) (w : World) (i l c d e
         | inr goes ↦ inr (λ t x. goes t (h.to_console t x))
       ])
 
-  pub stopped_at_last : (h : HasReached before_it s w i c d r q) → IsClosedInPart now (after s w h.steps) d e q p → HasPartTexts s w c e r p
-  stopped_at_last h end = AtLastLine h.steps (record { over = end.over; first = h.runs })
+  last_texts : (h : HasReached before_it swaps s w i c d r q) → IsClosedInPart now (after s w h.steps) l d e q p → HasPartTexts s w c e r p
+  last_texts h end = AtLastLine h.steps (record { over = end.over; first = h.runs })
       (λ t x. end.to_console ∙ h.to_console t x)
       (λ t x. end.to_report t (h.to_report t x))
 
   -- a sink failed, in a step or in the last line
-  pub stopped_anyhow : (h : HasReached before_it s w i c d r q) → StepsInPart now s (after s w h.steps) d e q p ⊎ IsClosedInPart now (after s w h.steps) d e q p → HasPartTexts s w c e r p
-  stopped_anyhow h (inl part) = stopped_between h part
-  stopped_anyhow h (inr end) = stopped_at_last h end
+  pub stopped_anyhow : (h : HasReached before_it swaps s w i c d r q) → StepsInPart now swaps s (after s w h.steps) l d e q p ⊎ IsClosedInPart now (after s w h.steps) l d e q p → HasTexts now swaps blocks s w l c e r p (Unit {0}) SinkFault
+  unfolding part_texts last_texts
+  stopped_anyhow h (inl part) = (record { texts = part_texts h part; input = part.input }, part.stands)
+  stopped_anyhow h (inr end) = (record { texts = last_texts h end; input = inl end.input }, inl end.stands)
 
 -- of a text that isn't told nothing is owed
 pub gains_untold : (c : Option (List ℕ)) (piece : List ℕ) → Gains None c piece
@@ -95,10 +112,11 @@ pub rose_since : (before mid now : ℕ) → before ≤ mid → Rose mid now → 
 rose_since before mid now later rose = grind arith
 
 -- the same, where the report's count is seen from an earlier time
-pub stopped_since : (s : Setting) (w : World) (why : Stop) (l c e r p : Option (List ℕ)) (fault since : Type 0) → (fault → since) → HasStoppedTexts s w why l c e r p fault → HasStoppedTexts s w why l c e r p since
-stopped_since s w why l c e r p fault since later t = record {
+pub stopped_since : (swaps : Bool) (blocks : ℕ) (s : Setting) (w : World) (why : Stop) (l c e r p : Option (List ℕ)) (fault since : Type 0) → (fault → since) → HasStoppedTexts swaps blocks s w why l c e r p fault → HasStoppedTexts swaps blocks s w why l c e r p since
+stopped_since swaps blocks s w why l c e r p fault since later t = record {
   steps = t.steps;
   below = t.below;
+  room = t.room;
   cause = t.cause;
   input = t.input;
   to_console = t.to_console;

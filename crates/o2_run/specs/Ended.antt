@@ -1,10 +1,12 @@
 -- What the texts are at the end of a run.
-use Rattle.std.specs.Prelude.{◌⊎◌, ◌≡◌, ◌<◌, ◌++◌, ℕ, false, List, Option, Some}
+use Rattle.std.specs.Prelude.{◌⊎◌, ◌≡◌, ◌<◌, ◌++◌, ℕ, suc, Bool, false, List, Option, Some}
 use Rattle.o2_outer.specs.Texts.{Gains, GainsBetween}
 use Rattle.o2_world.specs.World.{World, Setting}
 use Rattle.o2_world.specs.Text.{lines_text}
-use Rattle.o2_world.specs.Run.{HasWholeTexts, HasPartTexts, after, is_over, console, IsBelowLast, IsLast}
+use Rattle.o2_world.specs.Run.{HasWholeTexts, HasPartTexts, InOpening, Between, AtLastLine, after, is_over, console, IsBelowLast}
+use Rattle.o2_run.specs.Room.{Fits}
 use Rattle.o2_run.specs.Stops.{stop_line, StopsFor}
+use Rattle.o2_run.specs.Turn.{turn_of}
 use Rattle.o2_run.specs.declared.steps.Stop.{Stop}
 use Rattle.o2_run.specs.declared.steps.Stop.TheVariants as stop
 use Rattle.o2_run.specs.declared.steps.Turn.{Turn}
@@ -12,57 +14,69 @@ use Rattle.o2_run.specs.declared.steps.Turn.TheVariants as turn
 use Rattle.o2_run.specs.declared.whole.Ended.{Ended}
 use Rattle.o2_run.specs.declared.whole.Ended.TheVariants.{Fine, SinkFault, Stopped}
 
--- a run that stops before its step k: the lines so far, and the stop line, or where the report failed a front of it
-pub record HasStoppedTexts (s : Setting) (w : World) (why : Stop) (left console_old console_new report_old report_new : Option (List ℕ)) (fault : Type 0) : Type 0 where
+-- a machine that swaps had room for each of the first k steps
+abbrev pub FitsBelow : (swaps : Bool) → Setting → World → ℕ → Type 0
+FitsBelow swaps s w k = (j : ℕ) → j < k → Fits swaps s (after s w j)
+
+-- a run that stops before its step k, for which it had the first cause: the lines so far, and the stop line, or where the
+-- report failed a front of it
+pub record HasStoppedTexts (swaps : Bool) (blocks : ℕ) (s : Setting) (w : World) (why : Stop) (left console_old console_new report_old report_new : Option (List ℕ)) (fault : Type 0) : Type 0 where
   pub steps : ℕ
   pub below : IsBelowLast s w steps
-  pub cause : StopsFor s (after s w steps) why
+  pub room : FitsBelow swaps s w steps
+  pub cause : StopsFor blocks s (after s w steps) why
   pub input : left ≡ Some (after s w steps).input
   pub to_console : Gains console_old console_new (console (after s w steps))
   pub to_report : GainsBetween report_old report_new (lines_text (after s w steps).lines) (lines_text (after s w steps).lines ++ stop_line why)
   pub whole : Gains report_old report_new (lines_text (after s w steps).lines ++ stop_line why) ⊎ fault
 
 -- the whole texts, and the input that is left
-pub record HasWholeRun (s : Setting) (w : World) (left console_old console_new report_old report_new : Option (List ℕ)) : Type 0 where
+pub record HasWholeRun (swaps : Bool) (s : Setting) (w : World) (left console_old console_new report_old report_new : Option (List ℕ)) : Type 0 where
   pub texts : HasWholeTexts s w console_old console_new report_old report_new
+  pub room : FitsBelow swaps s w texts.last
   pub input : left ≡ Some (after s w texts.last).input
 
-abbrev pub HasTexts : Setting → World → (left console_old console_new report_old report_new : Option (List ℕ)) → (fault : Type 0) → Ended → Type 0
-HasTexts s w i c d r q e Fine = HasWholeRun s w i c d r q
-HasTexts s w i c d r q e SinkFault = HasPartTexts s w c d r q
-HasTexts s w i c d r q e (Stopped why) = HasStoppedTexts s w why i c d r q e
+-- the step of which the texts are those of a front: none in the opening
+abbrev pub part_at : {s : Setting} {w : World} {c d r q : Option (List ℕ)} → HasPartTexts s w c d r q → ℕ
+part_at (InOpening to_console to_report) = 0
+part_at (Between k below to_console to_report in_order) = k
+part_at (AtLastLine k last to_console to_report) = k
 
-abbrev pub OnFault : Ended → Type 0 → Type 0
-OnFault Fine P = Unit {0}
-OnFault SinkFault P = P
-OnFault (Stopped why) P = Unit {0}
+-- texts of a front, and an input that has left what the world before that step has left, or the one after it
+pub record HasPartRun (s : Setting) (w : World) (left console_old console_new report_old report_new : Option (List ℕ)) : Type 0 where
+  pub texts : HasPartTexts s w console_old console_new report_old report_new
+  pub input : (left ≡ Some (after s w (part_at texts)).input) ⊎ (left ≡ Some (after s w (suc (part_at texts))).input)
 
-abbrev pub OnStop : Ended → Type 0 → Type 0
-OnStop Fine P = Unit {0}
-OnStop SinkFault P = Unit {0}
-OnStop (Stopped why) P = P
+-- at each end the machine stands for the world of the same k as the texts
+abbrev pub HasTexts : (stands_now : World → Type 0) → (swaps : Bool) → (blocks : ℕ) → Setting → World → (left console_old console_new report_old report_new : Option (List ℕ)) → (fault : Type 0) → Ended → Type 0
+HasTexts f swaps blocks s w i c d r q e Fine = (t : HasWholeRun swaps s w i c d r q) × f (after s w t.texts.last)
+HasTexts f swaps blocks s w i c d r q e SinkFault = (t : HasPartRun s w i c d r q) × (f (after s w (part_at t.texts)) ⊎ f (after s w (suc (part_at t.texts))))
+HasTexts f swaps blocks s w i c d r q e (Stopped why) = (t : HasStoppedTexts swaps blocks s w why i c d r q e) × f (after s w t.steps)
 
--- the machine stands for the world of the last step
-pub record HasLast (stands_now : World → Type 0) (s : Setting) (w : World) : Type 0 where
-  pub last : ℕ
-  pub is_last : IsLast s w last
-  pub stands : stands_now (after s w last)
+-- how a run ends only where some count rose, each with its count: of a sink, of the input, of the device
+abbrev pub Caused : (sink input device : Type 0) → Ended → Type 0
+Caused sink input device SinkFault = sink
+Caused sink input device (Stopped stop.Input) = input
+Caused sink input device (Stopped stop.SwapFault) = device
+Caused sink input device _ = Unit {0}
 
-abbrev pub OnFine : Ended → Type 0 → Type 0
-OnFine Fine P = P
-OnFine _ P = Unit {0}
+-- only a machine that swaps stops for anything but its input
+abbrev pub StopsForInput : Ended → Type 0
+StopsForInput (Stopped why) = why ≡ stop.Input
+StopsForInput _ = Unit {0}
 
 -- the answer of the last turn, by how the run ended
 abbrev pub EndsAs : Option Turn → Ended → Type 0
 EndsAs t Fine = (t ≡ Some turn.AllEnded) ⊎ (t ≡ Some turn.BudgetSpent)
 EndsAs t SinkFault = t ≡ Some turn.SinkFault
-EndsAs t (Stopped stop.Input) = t ≡ Some turn.InputFault
+EndsAs t (Stopped why) = t ≡ Some (turn_of why)
 
 -- after k steps, none of which ended the run: the machine stands for that world, and both texts are its texts
-pub record HasReached (stands_now : World → Type 0) (s : Setting) (w : World) (left : Option (List ℕ)) (console_old console_now report_old report_now : Option (List ℕ)) : Type 0 where
+pub record HasReached (stands_now : World → Type 0) (swaps : Bool) (s : Setting) (w : World) (left : Option (List ℕ)) (console_old console_now report_old report_now : Option (List ℕ)) : Type 0 where
   pub steps : ℕ
   pub stands : stands_now (after s w steps)
   pub runs : (j : ℕ) → j < steps → is_over (after s w j) ≡ false
+  pub room : FitsBelow swaps s w steps
   pub input : left ≡ Some (after s w steps).input
   pub to_console : Gains console_old console_now (console (after s w steps))
   pub to_report : Gains report_old report_now (lines_text (after s w steps).lines)

@@ -4,24 +4,28 @@ use Rattle.o2_outer.specs.Texts.{Continues, ContinuesBetween}
 use Rattle.o2_world.specs.World.{World, Setting}
 use Rattle.o2_world.specs.Text.{lines_text}
 use Rattle.o2_world.specs.Run.{step, any_lives, is_over, console, report}
+use Rattle.o2_run.specs.Room.{Fits}
 use Rattle.o2_run.specs.Stops.{stop_line, StopsFor}
 use Rattle.o2_run.specs.declared.steps.Stop.{Stop}
 use Rattle.o2_run.specs.declared.steps.Stop.TheVariants as stop
 use Rattle.o2_run.specs.declared.steps.Turn.{Turn}
 use Rattle.o2_run.specs.declared.steps.Turn.TheVariants as turn
 
--- where the run isn't over, a turn is one step
-pub record StepsOn (stands_now : World → Type 0) (s : Setting) (w : World) (left : Option (List ℕ)) (console_old console_new report_old report_new : Option (List ℕ)) : Type 0 where
+-- where the run isn't over, a turn is one step, whose room a machine that swaps has
+pub record StepsOn (stands_now : World → Type 0) (swaps : Bool) (s : Setting) (w : World) (left : Option (List ℕ)) (console_old console_new report_old report_new : Option (List ℕ)) : Type 0 where
   pub runs : is_over w ≡ false
+  pub room : Fits swaps s w
   pub input : left ≡ Some (step s w).input
   pub stands : stands_now (step s w)
   pub to_console : Continues console_old console_new (console w) (console (step s w))
   pub to_report : Continues report_old report_new (lines_text w.lines) (lines_text (step s w).lines)
 
 -- a sink that failed in a step shows a front of it: the report nothing of its lines, or the console its whole piece; the
--- machine stands for the world before the step, or for the one after it
-pub record StepsInPart (stands_now : World → Type 0) (s : Setting) (w : World) (console_old console_new report_old report_new : Option (List ℕ)) : Type 0 where
+-- machine stands for the world before the step, or for the one after it, and the input has left what the one or the other has
+pub record StepsInPart (stands_now : World → Type 0) (swaps : Bool) (s : Setting) (w : World) (left : Option (List ℕ)) (console_old console_new report_old report_new : Option (List ℕ)) : Type 0 where
   pub runs : is_over w ≡ false
+  pub room : Fits swaps s w
+  pub input : (left ≡ Some w.input) ⊎ (left ≡ Some (step s w).input)
   pub stands : stands_now w ⊎ stands_now (step s w)
   pub to_console : ContinuesBetween console_old console_new (console w) (console (step s w))
   pub to_report : ContinuesBetween report_old report_new (lines_text w.lines) (lines_text (step s w).lines)
@@ -37,48 +41,76 @@ pub record IsClosed (stands_now : World → Type 0) (w : World) (lives : Bool) (
   pub to_report : Continues report_old report_new (lines_text w.lines) (report w)
 
 -- or a front of it
-pub record IsClosedInPart (stands_now : World → Type 0) (w : World) (console_old console_new report_old report_new : Option (List ℕ)) : Type 0 where
+pub record IsClosedInPart (stands_now : World → Type 0) (w : World) (left console_old console_new report_old report_new : Option (List ℕ)) : Type 0 where
   pub over : is_over w ≡ true
   pub stands : stands_now w
+  pub input : left ≡ Some w.input
   pub to_console : console_new ≡ console_old
   pub to_report : ContinuesBetween report_old report_new (lines_text w.lines) (report w)
 
 -- a stop before the step: the stop line is put, or where the report failed a front of it
-pub record IsStopped (stands_now : World → Type 0) (s : Setting) (w : World) (why : Stop) (put : Bool) (left console_old console_new report_old report_new : Option (List ℕ)) : Type 0 where
+pub record IsStopped (stands_now : World → Type 0) (blocks : ℕ) (s : Setting) (w : World) (why : Stop) (put : Bool) (left console_old console_new report_old report_new : Option (List ℕ)) : Type 0 where
   pub runs : is_over w ≡ false
-  pub cause : StopsFor s w why
+  pub cause : StopsFor blocks s w why
   pub stands : stands_now w
   pub input : left ≡ Some w.input
   pub to_console : console_new ≡ console_old
   pub to_report : ContinuesBetween report_old report_new (lines_text w.lines) (lines_text w.lines ++ stop_line why)
   pub whole : put ≡ true → Continues report_old report_new (lines_text w.lines) (lines_text w.lines ++ stop_line why)
 
--- from a machine that stands for w and hasn't stopped, where `put` says that a stop line was put whole
-abbrev pub Turns : (World → Type 0) → Setting → World → (put : Bool) → (left console_old console_new report_old report_new : Option (List ℕ)) → Turn → Type 0
-Turns f s w put i c d r q turn.Ran = StepsOn f s w i c d r q
-Turns f s w put i c d r q turn.AllEnded = IsClosed f w false i c d r q
-Turns f s w put i c d r q turn.BudgetSpent = IsClosed f w true i c d r q
-Turns f s w put i c d r q turn.InputFault = IsStopped f s w stop.Input put i c d r q
-Turns f s w put i c d r q turn.SinkFault = StepsInPart f s w c d r q ⊎ IsClosedInPart f w c d r q
+-- from a machine that stands for w and hasn't stopped, where `swaps` says whether it swaps, `blocks` how many blocks its device
+-- has, and `put` that a stop line was put whole
+abbrev pub Turns : (World → Type 0) → (swaps : Bool) → (blocks : ℕ) → Setting → World → (put : Bool) → (left console_old console_new report_old report_new : Option (List ℕ)) → Turn → Type 0
+Turns f swaps blocks s w put i c d r q turn.Ran = StepsOn f swaps s w i c d r q
+Turns f swaps blocks s w put i c d r q turn.AllEnded = IsClosed f w false i c d r q
+Turns f swaps blocks s w put i c d r q turn.BudgetSpent = IsClosed f w true i c d r q
+Turns f swaps blocks s w put i c d r q turn.InputFault = IsStopped f blocks s w stop.Input put i c d r q
+Turns f swaps blocks s w put i c d r q turn.SinkFault = StepsInPart f swaps s w i c d r q ⊎ IsClosedInPart f w i c d r q
+Turns f swaps blocks s w put i c d r q turn.NoRoom = IsStopped f blocks s w stop.NoRoom put i c d r q
+Turns f swaps blocks s w put i c d r q turn.SwapFull = IsStopped f blocks s w stop.SwapFull put i c d r q
+Turns f swaps blocks s w put i c d r q turn.SwapFault = IsStopped f blocks s w stop.SwapFault put i c d r q
 
 -- the answer that is final
 abbrev pub stopped_by : Turn → Option Turn
 stopped_by turn.Ran = None
 stopped_by t = Some t
 
--- the stop line is put whole unless the report failed; in other turns none is put
-abbrev pub LineIs : Bool → Type 0 → Turn → Type 0
-LineIs put fault turn.InputFault = put ≡ false → fault
-LineIs put fault _ = put ≡ false
+-- the stop of an answer, and the answer of a stop
+abbrev pub stop_of : Turn → Option Stop
+stop_of turn.InputFault = Some stop.Input
+stop_of turn.NoRoom = Some stop.NoRoom
+stop_of turn.SwapFull = Some stop.SwapFull
+stop_of turn.SwapFault = Some stop.SwapFault
+stop_of _ = None
 
-abbrev pub OnFault : Turn → Type 0 → Type 0
-OnFault turn.SinkFault P = P
-OnFault _ P = Unit {0}
+abbrev pub turn_of : Stop → Turn
+turn_of stop.Input = turn.InputFault
+turn_of stop.NoRoom = turn.NoRoom
+turn_of stop.SwapFull = turn.SwapFull
+turn_of stop.SwapFault = turn.SwapFault
+
+-- the stop line is put whole unless the report failed; in other turns none is put
+abbrev pub LineFor : Bool → Type 0 → Option Stop → Type 0
+LineFor put fault None = put ≡ false
+LineFor put fault (Some why) = put ≡ false → fault
+
+abbrev pub LineIs : Bool → Type 0 → Turn → Type 0
+LineIs put fault t = LineFor put fault (stop_of t)
+
+-- what a turn answers only where some count rose in it, each with its count: of a sink, of the input, of the device
+abbrev pub Caused : (sink input device : Type 0) → Turn → Type 0
+Caused sink input device turn.SinkFault = sink
+Caused sink input device turn.InputFault = input
+Caused sink input device turn.SwapFault = device
+Caused sink input device _ = Unit {0}
+
+-- only a machine that swaps stops for want of room or of swap, or for a fault of its device
+abbrev pub is_for_swap : Turn → Bool
+is_for_swap turn.NoRoom = true
+is_for_swap turn.SwapFull = true
+is_for_swap turn.SwapFault = true
+is_for_swap _ = false
 
 abbrev pub OnRan : Turn → Type 0 → Type 0
 OnRan turn.Ran P = P
 OnRan _ P = Unit {0}
-
-abbrev pub OnInput : Turn → Type 0 → Type 0
-OnInput turn.InputFault P = P
-OnInput _ P = Unit {0}

@@ -1,9 +1,9 @@
 // A machine that stands for a world, step by step.
-ghost use Rattle.std.specs.Prelude.{◌≡◌, ◌≤◌, ◌<◌, ◌⊎◌, ℕ, Bool, List, Option, Some, None};
+ghost use Rattle.std.specs.Prelude.{◌≡◌, ◌≤◌, ◌<◌, ◌⊎◌, ℕ, Bool, false, List, Option, Some, None};
 ghost use Rattle.o2_outer.specs.Texts.{Rose};
 ghost use Rattle.o2_world.specs.World.{World, Setting};
 ghost use Rattle.o2_run.specs.declared.steps.Turn.{Turn};
-ghost use Rattle.o2_run.specs.Turn.{Turns, LineIs, OnFault, OnRan, OnInput, stopped_by};
+ghost use Rattle.o2_run.specs.Turn.{Turns, LineIs, Caused, OnRan, stopped_by, is_for_swap};
 
 use o2_outer::{Sink, Source, SwapDevice};
 
@@ -12,6 +12,12 @@ use o2_outer::{Sink, Source, SwapDevice};
 pub enum Stop {
     /// The input failed.
     Input,
+    /// What the next step needs in memory together doesn't fit it.
+    NoRoom,
+    /// Neither memory nor the swap device has place for all that lives.
+    SwapFull,
+    /// The swap device failed.
+    SwapFault,
 }
 
 /// What a turn came to. All but `Ran` are final.
@@ -27,12 +33,21 @@ pub enum Turn {
     InputFault,
     /// A sink failed, in a step or in the last line.
     SinkFault,
+    /// The room of the next step exceeds the memory, and the run stopped before it.
+    NoRoom,
+    /// The swap load exceeds the blocks and the live load the memory, and the run stopped before the next step.
+    SwapFull,
+    /// The swap device failed, and the run stopped before the step that asked it.
+    SwapFault,
 }
 
 /// A machine that does the boundless machine's steps, one a turn.
 pub trait Steps {
     /// The settings and worlds that it stands for, with what the swap device holds.
     ghost stands: { Self → Bool → (ℕ → List ℕ) → Setting → World → Type 0 };
+
+    /// Whether it keeps its segments in the memory of its setting, and swaps them. One that doesn't leaves the device as it is.
+    ghost swaps: { Bool };
 
     /// How many steps are left at most.
     ghost left: { Self → ℕ };
@@ -53,8 +68,9 @@ pub trait Steps {
         swap: &mut S,
     ) -> Turn
         ensures turns { stopped self.old ≡ None → (s : Setting) (w : World) → stands self.old (S.told swap.old) (S.block swap.old) s w → I.left input.old ≡ Some w.input
-            → Turns (stands self.new (S.told swap.new) (S.block swap.new) s) s w (line_put self.new) (I.left input.new) (C.taken console.old) (C.taken console.new) (R.taken report.old) (R.taken report.new) result }
+            → Turns (stands self.new (S.told swap.new) (S.block swap.new) s) swaps (S.blocks swap.old) s w (line_put self.new) (I.left input.new) (C.taken console.old) (C.taken console.new) (R.taken report.old) (R.taken report.new) result }
         ensures stops { stopped self.new ≡ stopped_by result }
+
         // A stop or an end is final.
         ensures again { (t : Turn) → stopped self.old ≡ Some t → result ≡ t }
         ensures same { (t : Turn) → stopped self.old ≡ Some t → self.new ≡ self.old }
@@ -62,12 +78,19 @@ pub trait Steps {
         ensures same_console { (t : Turn) → stopped self.old ≡ Some t → console.new ≡ console.old }
         ensures same_report { (t : Turn) → stopped self.old ≡ Some t → report.new ≡ report.old }
         ensures same_swap { (t : Turn) → stopped self.old ≡ Some t → swap.new ≡ swap.old }
+
+        // A machine that doesn't swap leaves the device as it is, and stops for its input alone.
+        ensures unswapped { swaps ≡ false → swap.new ≡ swap.old }
+        ensures no_swap_stop { swaps ≡ false → stopped self.old ≡ None → is_for_swap result ≡ false }
+        ensures swap_blocks { S.blocks swap.new ≡ S.blocks swap.old }
+        ensures swap_told { S.told swap.new ≡ S.told swap.old }
+
+        // A fault is told only where a count rose in the turn that first tells it.
         ensures input_count { I.faults input.old ≤ I.faults input.new }
         ensures console_count { C.faults console.old ≤ C.faults console.new }
         ensures report_count { R.faults report.old ≤ R.faults report.new }
-        // A fault is told only where a count rose in the turn that first tells it.
-        ensures cause { stopped self.old ≡ None → OnFault result (Rose (C.faults console.old) (C.faults console.new) ⊎ Rose (R.faults report.old) (R.faults report.new)) }
-        ensures input_cause { stopped self.old ≡ None → OnInput result (Rose (I.faults input.old) (I.faults input.new)) }
+        ensures swap_count { S.faults swap.old ≤ S.faults swap.new }
+        ensures cause { stopped self.old ≡ None → Caused (Rose (C.faults console.old) (C.faults console.new) ⊎ Rose (R.faults report.old) (R.faults report.new)) (Rose (I.faults input.old) (I.faults input.new)) (Rose (S.faults swap.old) (S.faults swap.new)) result }
         ensures line { stopped self.old ≡ None → LineIs (line_put self.new) (Rose (R.faults report.old) (R.faults report.new)) result }
         ensures left { OnRan result (left self.new < left self.old) };
 }

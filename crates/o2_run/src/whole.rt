@@ -1,10 +1,10 @@
 // The whole run.
-ghost use Rattle.std.specs.Prelude.{◌≡◌, ◌≤◌, ◌⊎◌, List, ℕ, Option, Some, None};
+ghost use Rattle.std.specs.Prelude.{◌≡◌, ◌≤◌, ◌⊎◌, false, List, ℕ, Option, Some, None};
 ghost use Rattle.o2_outer.specs.Texts.{Rose, Gains};
 ghost use Rattle.o2_world.specs.World.{World, Setting};
 ghost use Rattle.o2_world.specs.Text.{lines_text};
 ghost use Rattle.o2_world.specs.Run.{console as console_text};
-ghost use Rattle.o2_run.specs.Ended.{HasTexts, HasLast, EndsAs, OnFine, OnFault, OnStop};
+ghost use Rattle.o2_run.specs.Ended.{HasTexts, EndsAs, Caused, StopsForInput};
 
 use crate::{Steps, Stop, Turn};
 use o2_outer::{Sink, Source, SwapDevice};
@@ -20,7 +20,8 @@ pub enum Ended {
     Stopped(Stop),
 }
 
-/// Runs a machine that stands for a world to its end. What both sinks took before the opening is `c` and `r`.
+/// Runs a machine that stands for a world to its end. What both sinks took before the opening is `c` and `r`. At each end the
+/// machine stands for the world whose texts they have taken.
 pub fn run<M: Steps, I: Source, C: Sink, R: Sink, S: SwapDevice>(
     machine: &mut M,
     input: &mut I,
@@ -31,15 +32,21 @@ pub fn run<M: Steps, I: Source, C: Sink, R: Sink, S: SwapDevice>(
     ensures texts { M.stopped machine.old ≡ None → (s : Setting) (w : World) (c r : Option (List ℕ)) → M.stands machine.old (S.told swap.old) (S.block swap.old) s w
         → I.left input.old ≡ Some w.input
         → Gains c (C.taken console.old) (console_text w) → Gains r (R.taken report.old) (lines_text w.lines)
-        → HasTexts s w (I.left input.new) c (C.taken console.new) r (R.taken report.new) (Rose (R.faults report.old) (R.faults report.new)) result }
-    ensures stands { M.stopped machine.old ≡ None → (s : Setting) (w : World) → M.stands machine.old (S.told swap.old) (S.block swap.old) s w
-        → I.left input.old ≡ Some w.input → OnFine result (HasLast (M.stands machine.new (S.told swap.new) (S.block swap.new) s) s w) }
+        → HasTexts (M.stands machine.new (S.told swap.new) (S.block swap.new) s) M.swaps (S.blocks swap.old) s w (I.left input.new) c (C.taken console.new) r (R.taken report.new) (Rose (R.faults report.old) (R.faults report.new)) result }
     ensures stopped { EndsAs (M.stopped machine.new) result }
+
+    // A machine that doesn't swap leaves the device as it is, and stops for its input alone.
+    ensures unswapped { M.swaps ≡ false → swap.new ≡ swap.old }
+    ensures no_swap_stop { M.swaps ≡ false → M.stopped machine.old ≡ None → StopsForInput result }
+    ensures swap_blocks { S.blocks swap.new ≡ S.blocks swap.old }
+    ensures swap_told { S.told swap.new ≡ S.told swap.old }
+
+    // A fault is told only where a count rose.
     ensures input_count { I.faults input.old ≤ I.faults input.new }
     ensures console_count { C.faults console.old ≤ C.faults console.new }
     ensures report_count { R.faults report.old ≤ R.faults report.new }
-    ensures cause { M.stopped machine.old ≡ None → OnFault result (Rose (C.faults console.old) (C.faults console.new) ⊎ Rose (R.faults report.old) (R.faults report.new)) }
-    ensures input_cause { M.stopped machine.old ≡ None → OnStop result (Rose (I.faults input.old) (I.faults input.new)) }
+    ensures swap_count { S.faults swap.old ≤ S.faults swap.new }
+    ensures cause { M.stopped machine.old ≡ None → Caused (Rose (C.faults console.old) (C.faults console.new) ⊎ Rose (R.faults report.old) (R.faults report.new)) (Rose (I.faults input.old) (I.faults input.new)) (Rose (S.faults swap.old) (S.faults swap.new)) result }
 {
     'steps: loop {
         match machine.turn(input, console, report, swap) {
@@ -48,6 +55,9 @@ pub fn run<M: Steps, I: Source, C: Sink, R: Sink, S: SwapDevice>(
             Turn::BudgetSpent => return Ended::Fine,
             Turn::SinkFault => return Ended::SinkFault,
             Turn::InputFault => return Ended::Stopped(Stop::Input),
+            Turn::NoRoom => return Ended::Stopped(Stop::NoRoom),
+            Turn::SwapFull => return Ended::Stopped(Stop::SwapFull),
+            Turn::SwapFault => return Ended::Stopped(Stop::SwapFault),
         }
     }
 }

@@ -7,20 +7,20 @@ use Rattle.o2_outer.specs.Texts.{Rose}
 use Rattle.o2_machine.specs.declared.fault.BeginFault.{BeginFault}
 use Rattle.o2_machine.specs.Lasts.{stopped_of}
 use Rattle.o2_machine.specs.Begins.{Begins, setting_of, first_world}
-use Rattle.o2_cli.proofs.Runs.{start_of, has_started, nothing_yet, in_opening, refused_texts, only_input}
+use Rattle.o2_cli.proofs.Runs.{start_of, has_started, nothing_yet, in_opening, refused_texts, stopped_shows}
 use Rattle.o2_cli.proofs.top.run_session.Goals as goal
 
 pub returns-in-Err-SinkFault-clause-texts : goal.returns-in-Err-SinkFault-clause-texts
 returns-in-Err-SinkFault-clause-texts g c = λ input left.
     let s = c.args.session.now in
     let part = subst (λ (f : BeginFault). Begins s.linked s.conf (g.R.Sink.taken c.args.report.now) (g.R.Sink.taken c.begin.new.report) (Err f)) c.in-Err-SinkFault.field-0-is c.in-Err-SinkFault.ensures.begins in
-    record { start = start_of s input part.built; starts = has_started s input part.built part.starts; runs = in_opening s part.built input _ _ _ part.to_report }
+    record { start = start_of s input part.built; starts = has_started s input part.built part.starts; runs = in_opening s part.built input _ _ _ _ left part.to_report }
 
 pub returns-in-Err-Start-clause-texts : goal.returns-in-Err-Start-clause-texts
 returns-in-Err-Start-clause-texts g c =
     let s = c.args.session.now in
     let why = subst (λ (f : BeginFault). Begins s.linked s.conf (g.R.Sink.taken c.args.report.now) (g.R.Sink.taken c.begin.new.report) (Err f)) c.in-Err-Start.field-0-is c.in-Err-Start.ensures.begins in
-    refused_texts s _ _ _ _ _ c.in-Err-Start.pid c.in-Err-Start.fault c.refused_start.result why.0 why.1 c.refused_start.ensures
+    refused_texts s _ _ _ _ _ _ c.in-Err-Start.pid c.in-Err-Start.fault c.refused_start.result why.0 why.1 c.refused_start.ensures
 
 pub returns-in-Fine-clause-texts : goal.returns-in-Fine-clause-texts
 returns-in-Fine-clause-texts g c = λ input left.
@@ -29,7 +29,7 @@ returns-in-Fine-clause-texts g c = λ input left.
     record {
       start = start_of s input begun.built;
       starts = has_started s input begun.built begun.starts;
-      runs = c.in-Fine.ensures.texts (ap stopped_of begun.fresh) (setting_of s.conf) (first_world s.conf input begun.built) _ _ (begun.stands input) left (nothing_yet s begun.built input _) begun.to_report;
+      runs = (c.in-Fine.ensures.texts (ap stopped_of begun.fresh) (setting_of s.conf) (first_world s.conf input begun.built) _ _ (begun.stands input) left (nothing_yet s begun.built input _) begun.to_report).0;
     }
 
 pub returns-in-SinkFault-clause-texts : goal.returns-in-SinkFault-clause-texts
@@ -39,17 +39,16 @@ returns-in-SinkFault-clause-texts g c = λ input left.
     record {
       start = start_of s input begun.built;
       starts = has_started s input begun.built begun.starts;
-      runs = c.in-SinkFault.ensures.texts (ap stopped_of begun.fresh) (setting_of s.conf) (first_world s.conf input begun.built) _ _ (begun.stands input) left (nothing_yet s begun.built input _) begun.to_report;
+      runs = (c.in-SinkFault.ensures.texts (ap stopped_of begun.fresh) (setting_of s.conf) (first_world s.conf input begun.built) _ _ (begun.stands input) left (nothing_yet s begun.built input _) begun.to_report).0;
     }
 
 pub returns-clause-texts : goal.returns-clause-texts
-returns-clause-texts g c = λ input left.
+returns-clause-texts g c = stopped_shows _ _ _ _ _ _ _ _ _ c.in-Stopped.why _ c.stopped.ensures (λ input left.
     let s = c.args.session.now in
     let begun = c.in-Ok.ensures.begins in
     record {
       start = start_of s input begun.built;
       starts = has_started s input begun.built begun.starts;
-      runs = subst (λ (why : Stop). HasStoppedTexts (setting_of s.conf) (first_world s.conf input begun.built) why (g.I.Source.left c.run.new.input) (g.C.Sink.taken c.args.console.now) (g.C.Sink.taken c.run.new.console) (g.R.Sink.taken c.args.report.now) (g.R.Sink.taken c.run.new.report) (Rose (g.R.Sink.faults c.args.report.now) (g.R.Sink.faults c.run.new.report))) (only_input c.in-Stopped-Input.field-0)
-          (stopped_since _ _ _ _ _ _ _ _ _ _ (rose_since _ _ _ c.in-Ok.ensures.count)
-          (c.in-Stopped-Input.ensures.texts (ap stopped_of begun.fresh) (setting_of s.conf) (first_world s.conf input begun.built) _ _ (begun.stands input) left (nothing_yet s begun.built input _) begun.to_report));
-    }
+      runs = stopped_since _ _ _ _ _ _ _ _ _ _ _ _ (rose_since _ _ _ c.in-Ok.ensures.count)
+          (c.in-Stopped.ensures.texts (ap stopped_of begun.fresh) (setting_of s.conf) (first_world s.conf input begun.built) _ _ (begun.stands input) left (nothing_yet s begun.built input _) begun.to_report).0;
+    })

@@ -88,6 +88,6 @@ returns-in-SinkFault-clause-leaves g c = λ input known left avail.
     let b = before_call c.args.state.now.plain c.args.pid c.args.cpu.now input known in
     let step = c.in-Gate.ensures.step in
     let part = part_before c.args.state.now.plain c.step_plain.new.plain c.call.new.state.plain c.args.pid c.args.cpu.now c.step_plain.new.cpu c.call.new.cpu input known c.in-Gate.service c.in-Gate.next (g.I.Source.left c.args.input.now) (g.I.Source.left c.call.new.input) _ _ _ _ step.1 (c.in-SinkFault.ensures.does input known left avail) in
-    subst (λ (e : Effect). IsInPart e c.call.new.cpu c.args.cpu.now c.args.state.now.plain c.call.new.state.plain (g.C.Sink.taken c.args.console.now) (g.C.Sink.taken c.call.new.console) (g.R.Sink.taken c.args.report.now) (g.R.Sink.taken c.call.new.report))
+    subst (λ (e : Effect). IsInPart e c.call.new.cpu c.args.cpu.now c.args.state.now.plain c.call.new.state.plain (g.I.Source.left c.args.input.now) (g.I.Source.left c.call.new.input) (g.C.Sink.taken c.args.console.now) (g.C.Sink.taken c.call.new.console) (g.R.Sink.taken c.args.report.now) (g.R.Sink.taken c.call.new.report))
     (sym (effect_by b (Err (stop.Gate c.in-Gate.service c.in-Gate.next)) step.0))
-    (in_part b (serviced b c.in-Gate.service c.in-Gate.next) c.call.new.cpu c.args.cpu.now c.args.state.now.plain c.call.new.state.plain _ _ _ _ part)
+    (in_part b (serviced b c.in-Gate.service c.in-Gate.next) c.call.new.cpu c.args.cpu.now c.args.state.now.plain c.call.new.state.plain _ _ _ _ _ _ part)

@@ -3,21 +3,21 @@ use Rattle.o2_machine.proofs.Turns.{same_space, closes_ended, ended_in_part, clo
 use Rattle.o2_machine.proofs.machine.Machine.advance.Goals as goal
 
 pub returns-in-Done-clause-turns : goal.returns-in-Done-clause-turns
-returns-in-Done-clause-turns g c = λ s w stands left.
+returns-in-Done-clause-turns g c = λ s w blocks stands left.
     closes_ended c.args.self.now _ s w _ _ _ _ stands (record { sched = c.next.ensures.same; avail = refl; budget = refl; bytes = refl; lines = refl }) refl left (sym c.next.ensures.pick ∙ c.in-AllEnded.is) c.in-Done.ensures.takes
 
 pub returns-in-Failed-clause-turns : goal.returns-in-Failed-clause-turns
-returns-in-Failed-clause-turns g c = λ s w stands left.
+returns-in-Failed-clause-turns g c = λ s w blocks stands left.
     inr (ended_in_part c.args.self.now _ s w _ _ _ _ stands (record { sched = c.next.ensures.same; avail = refl; budget = refl; bytes = refl; lines = refl }) refl left (sym c.next.ensures.pick ∙ c.in-AllEnded.is) c.in-Failed.ensures.takes)
 
 pub returns-in-Done-put-clause-turns : goal.returns-in-Done-put-clause-turns
-returns-in-Done-put-clause-turns g c = λ s w stands left.
+returns-in-Done-put-clause-turns g c = λ s w blocks stands left.
     closes_spent c.args.self.now _ s w _ _ _ _ stands (record { sched = c.next.ensures.same; avail = refl; budget = refl; bytes = refl; lines = refl }) refl left (sym c.next.ensures.pick ∙ c.in-BudgetSpent.is) c.in-Done-put.ensures.takes
 
 pub returns-in-Failed-put-clause-turns : goal.returns-in-Failed-put-clause-turns
-returns-in-Failed-put-clause-turns g c = λ s w stands left.
+returns-in-Failed-put-clause-turns g c = λ s w blocks stands left.
     inr (spent_in_part c.args.self.now _ s w _ _ _ _ stands (record { sched = c.next.ensures.same; avail = refl; budget = refl; bytes = refl; lines = refl }) refl left (sym c.next.ensures.pick ∙ c.in-BudgetSpent.is) c.in-Failed-put.ensures.takes)
 
 pub returns-in-Step-clause-turns : goal.returns-in-Step-clause-turns
-returns-in-Step-clause-turns g c = λ s w stands left.
-    c.step.ensures.turns s w (same_space _ c.args.self.now s w stands (record { sched = c.next.ensures.same; avail = refl; budget = refl; bytes = refl; lines = refl }) stands.space) left
+returns-in-Step-clause-turns g c = λ s w blocks stands left.
+    c.step.ensures.turns s w blocks (same_space _ c.args.self.now s w stands (record { sched = c.next.ensures.same; avail = refl; budget = refl; bytes = refl; lines = refl }) stands.space) left

@@ -18,7 +18,7 @@ returns-in-Fault-clause-acts g c = λ ps names p bytes known stands at live left
     let same = before_is c.args.self.now ps names c.args.pid q p bytes known stands is in
     let left = c.in-Fault.ensures.leaves bytes known left_is avail_is in
     subst (λ (b : Before). Acts (AsksInput b) c.args.pid ps names p (effect b) (record { procs = c.args.self.now.procs; state = c.run_one.new.state }) (g.I.Source.left c.args.input.now) (g.I.Source.left c.run_one.new.input) (g.C.Sink.taken c.args.console.now) (g.C.Sink.taken c.run_one.new.console) (g.R.Sink.taken c.args.report.now) (g.R.Sink.taken c.run_one.new.report) acted.Fault) (sym same)
-    (record { stands = stays c.args.self.now ps names c.run_one.new.state stands c.run_one.ensures.held c.run_one.ensures.shown left.bytes; to_console = left.to_console; to_report = left.to_report; in_order = left.in_order })
+    (record { stands = stays c.args.self.now ps names c.run_one.new.state stands c.run_one.ensures.held c.run_one.ensures.shown left.bytes; input = left.input; to_console = left.to_console; to_report = left.to_report; in_order = left.in_order })
 
 -- src/space.rt:74:5
 pub returns-then-is_live-clause-acts : goal.returns-then-is_live-clause-acts
@@ -54,7 +54,7 @@ returns-in-LateFault-clause-acts g c = λ ps names p bytes known stands at live 
     let e : Effect = effect (before_call c.args.self.now.state.plain c.args.pid q.cpu bytes known) in
     let done = c.commit-in-LateFault.ensures.stands ps names p e (between c.args.self.now ps names c.run_one.new.state stands c.run_one.ensures.held c.run_one.ensures.shown e left.bytes c.run_one.ensures.sizes) at live left.cpu left.state in
     subst (λ (b : Before). Acts (AsksInput b) c.args.pid ps names p (effect b) c.commit-in-LateFault.new.self (g.I.Source.left c.args.input.now) (g.I.Source.left c.run_one.new.input) (g.C.Sink.taken c.args.console.now) (g.C.Sink.taken c.run_one.new.console) (g.R.Sink.taken c.args.report.now) (g.R.Sink.taken c.run_one.new.report) (acted.LateFault c.in-LateFault.tally)) (sym same)
-    (record { lives = ap lives left.state ∙ left.late; puts = left.puts; stands = done; to_console = left.to_console; to_report = left.to_report })
+    (record { lives = ap lives left.state ∙ left.late; puts = left.puts; stands = done; input = left.input; to_console = left.to_console; to_report = left.to_report })
 
 pub returns-in-InputFault-clause-acts : goal.returns-in-InputFault-clause-acts
 returns-in-InputFault-clause-acts g c = λ ps names p bytes known stands at live left_is avail_is.

@@ -1,8 +1,11 @@
 use Rattle.o2_machine.specs.StandsFor.{StandsFor}
-use Rattle.o2_machine.proofs.Turns.{turns_answered}
+use Rattle.o2_machine.proofs.Turns.{turns_answered, caused_answered}
 use Rattle.o2_machine.proofs.turn.MachineSteps.turn.Goals as goal
 
 pub returns-in-None-clause-turns : goal.returns-in-None-clause-turns
 returns-in-None-clause-turns g c = λ fresh s w stands left.
     turns_answered (StandsFor c.advance-last.new.self s) _ (λ v x. record { space = x.space; flags = x.flags; dispatch = x.dispatch; quantum = x.quantum; avail = x.avail; budget = x.budget; console = x.console; lines = x.lines })
-    s w _ _ _ _ _ _ _ _ c.answer-in-None.ensures (c.advance-last.ensures.turns s w stands left)
+    _ _ s w _ _ _ _ _ _ _ _ c.answer-in-None.ensures (c.advance-last.ensures.turns s w _ stands left)
+
+pub returns-in-None-clause-cause : goal.returns-in-None-clause-cause
+returns-in-None-clause-cause g c = λ fresh. caused_answered _ _ _ _ _ c.answer-in-None.ensures c.advance-last.ensures.cause

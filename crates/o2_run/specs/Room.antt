@@ -1,0 +1,162 @@
+-- The room that a step needs in memory, and what swapping has to hold.
+use Rattle.std.specs.Prelude.{◌≡◌, ℕ, zero, ◌+◌, ◌*◌, ◌/◌, ◌≤◌, ◌==◌, ◌&&◌, ◌||◌, Bool, true, false, not, nat_le, nat_lt, if◌then◌else◌, max, List, [], ◌∷◌, ◌++◌, filter, length, map, sum, Option, Some, None, option_map}
+use Rattle.std.specs.List.{list_any}
+use Rattle.o2_isa.specs.View.{Hold, Registers, is_readable, is_writable, bound_in}
+use Rattle.o2_isa.specs.Steps.{state}
+use Rattle.o2_isa.specs.Step.{stepped, step_names}
+use Rattle.o2_isa.specs.declared.cpu.Stop.{Stop}
+use Rattle.o2_isa.specs.declared.cpu.Stop.TheVariants as stop
+use Rattle.o2_isa.specs.Steps.{State as Machine}
+use Rattle.std.specs.Prelude.{Result, Ok, Err}
+use Rattle.o2_conf.specs.Dispatch.{Dispatch}
+use Rattle.o2_world.specs.Map.{Map, get}
+use Rattle.o2_world.specs.World.{World, Setting, Process, Segment, is_live}
+use Rattle.o2_world.specs.Holders.{process_at}
+use Rattle.o2_world.specs.Views.{view_of}
+use Rattle.o2_world.specs.Calls.{Before, Effect, argument, has_arguments}
+use Rattle.o2_world.specs.Effect.{answered}
+use Rattle.o2_world.specs.Run.{before, changed, next_dispatch}
+
+-- a length in whole paragraphs of 16 bytes
+abbrev pub rounded : ℕ → ℕ
+rounded n = (n + 15) / 16 * 16
+
+-- the swap blocks of 512 bytes that a length takes
+abbrev pub blocks_of : ℕ → ℕ
+blocks_of n = (n + 511) / 512
+
+-- Need: the names in the segment registers before the step and after it, those that an instruction loads, and those whose
+-- selectors pass as pointers of a call.
+
+abbrev pub name_in : Option Hold → List ℕ
+name_in None = []
+name_in (Some h) = h.name ∷ []
+
+abbrev pub seated : Registers → List ℕ
+seated r = name_in r.es ++ name_in r.cs ++ name_in r.ss ++ name_in r.ds
+
+-- a pointer of a call: where it points, how many bytes it is for, and which access bytes are good
+pub record Pointer : Type 0 where
+  pub selector : ℕ
+  pub offset : ℕ
+  pub count : ℕ
+  pub good : ℕ → Bool
+
+-- the pointers of a service in the order in which they are checked; argument 0 was pushed last
+abbrev pub pointer : (ℕ → ℕ) → (place count : ℕ) → (ℕ → Bool) → Pointer
+pointer a place count good = record { selector = a (place + 1); offset = a place; count = count; good = good }
+
+abbrev pub pointers_by : (service : ℕ) → (ℕ → ℕ) → List Pointer
+pointers_by service a =
+    if service == 2 then pointer a 0 6 is_writable ∷ []
+    else (if service == 3 then pointer a 3 (a 2) is_writable ∷ pointer a 0 2 is_writable ∷ []
+    else (if service == 4 then pointer a 3 (a 2) is_readable ∷ pointer a 0 2 is_writable ∷ []
+    else (if service == 19 then pointer a 0 4 is_writable ∷ []
+    else [])))
+
+-- a selector that passes counts even where the range behind it is refused, and nothing behind a refused pointer does; a range
+-- of no bytes is not looked at
+abbrev pub passed : (bytes : ℕ → List ℕ) → (found : Option Hold) → Pointer → (rest : List ℕ) → List ℕ
+passed bytes None p rest = []
+passed bytes (Some h) p rest =
+    if p.good h.rights
+    then h.name ∷ (if nat_le (p.offset + p.count) (length (bytes h.name)) then rest else [])
+    else []
+
+abbrev pub pointed : (held : ℕ → Option Hold) → (bytes : ℕ → List ℕ) → List Pointer → List ℕ
+pointed held bytes [] = []
+pointed held bytes (p ∷ ps) =
+    if p.count == 0 then pointed held bytes ps
+    else passed bytes (bound_in held p.selector) p (pointed held bytes ps)
+
+-- the words of a service's arguments must lie in the stack before a pointer is looked at
+abbrev pub words_of : (service : ℕ) → ℕ
+words_of service = if service == 2 || service == 19 then 2 else 6
+
+abbrev pub call_names : Before → (service : ℕ) → List ℕ
+call_names b service =
+    if has_arguments b.view b.cpu (words_of service)
+    then pointed b.view.held b.view.bytes (pointers_by service (argument b.view b.cpu))
+    else []
+
+abbrev pub gate_names : Before → Result Machine Stop → List ℕ
+gate_names b (Err (stop.Gate service next)) = call_names b service
+gate_names b _ = []
+
+-- the names that a step loads, or passes as pointers
+abbrev pub touched : Before → List ℕ
+touched b = step_names (state b.cpu b.view) ++ gate_names b (stepped (state b.cpu b.view))
+
+-- The step before exception 1, where that follows in it.
+abbrev pub untrapped : Before → Effect
+untrapped b = answered b (stepped (state b.cpu b.view))
+
+abbrev pub seated_in : Map Segment → Option Process → List ℕ
+seated_in names None = []
+seated_in names (Some p) = if is_live p.state then seated (view_of names p).registers else []
+
+abbrev pub need : Before → (names : Map Segment) → (after : Option Process) → List ℕ
+need b names after = seated b.view.registers ++ touched b ++ seated_in names after
+
+-- Sums over the names that live before or after a step, each once.
+
+abbrev pub is_in : ℕ → List ℕ → Bool
+is_in n ns = list_any (λ m. m == n) ns
+
+abbrev pub numbers : Map Segment → List ℕ
+numbers names = map (λ (e : ℕ × Segment). e.0) names
+
+abbrev pub of_both : Map Segment → Map Segment → List ℕ
+of_both old new = numbers old ++ filter (λ n. not (is_in n (numbers old))) (numbers new)
+
+abbrev pub size_of : Option Segment → ℕ
+size_of None = 0
+size_of (Some s) = length s.bytes
+
+abbrev pub is_locked : Option Segment → Bool
+is_locked None = false
+is_locked (Some s) = nat_lt 0 s.lock
+
+-- the larger of a name's sizes, in whole paragraphs
+abbrev pub larger : Map Segment → Map Segment → ℕ → ℕ
+larger old new n = rounded (max (size_of (get old n)) (size_of (get new n)))
+
+-- Room: what is needed or locked, all in memory together
+abbrev pub room_between : Map Segment → Map Segment → (need : List ℕ) → ℕ
+room_between old new need =
+    let counts : ℕ → Bool = λ n. is_in n need || (is_locked (get old n) || is_locked (get new n)) in
+    sum (map (larger old new) (filter counts (of_both old new)))
+
+-- Live load: all that lives before or after the step, in memory together
+abbrev pub load_between : Map Segment → Map Segment → ℕ
+load_between old new = sum (map (larger old new) (of_both old new))
+
+-- Swap load: the blocks of all names that aren't clean
+abbrev pub swap_load : World → ℕ
+swap_load w = sum (map (λ (e : ℕ × Segment). if e.1.clean then 0 else blocks_of (length e.1.bytes)) w.names)
+
+-- the world behind the next step, without the exception 1 that follows in it
+abbrev pub behind : World → Dispatch → Process → Before → World
+behind w d p b = changed w d p (untrapped b)
+
+abbrev pub room_next : Setting → World → Dispatch → Option Process → ℕ
+room_next s w d None = 0
+room_next s w d (Some p) =
+    let b = before s w d.current p in
+    let next = behind w d p b in
+    room_between w.names next.names (need b next.names (process_at next.processes d.current))
+
+abbrev pub load_next : Setting → World → Dispatch → Option Process → ℕ
+load_next s w d None = load_between w.names w.names
+load_next s w d (Some p) = load_between w.names (behind w d p (before s w d.current p)).names
+
+-- of the next step, 0 where there is none
+unfoldable pub room : Setting → World → ℕ
+room s w = let d = next_dispatch s w in room_next s w d (process_at w.processes d.current)
+
+unfoldable pub live_load : Setting → World → ℕ
+live_load s w = let d = next_dispatch s w in load_next s w d (process_at w.processes d.current)
+
+-- A machine that swaps keeps its segments in the memory of its setting, and takes no step whose room that doesn't have.
+abbrev pub Fits : (swaps : Bool) → Setting → World → Type 0
+Fits swaps s w = swaps ≡ true → room s w ≤ s.memory

@@ -1,0 +1,168 @@
+// Runs of a machine of the tests, which is stopped by whatever it is told to be stopped by.
+ghost use Rattle.std.specs.Prelude.{◌≡◌, ◌≤◌};
+ghost use Rattle.o2_outer.specs.Texts.{Rose};
+ghost use Rattle.o2_run.specs.Turn.{Caused, turn_of};
+
+use crate::{Ended, Steps, Stop, Turn, put_stop, run};
+use o2_base::{Bytes, NoMemory};
+use o2_outer::{Dev, MemSink, MemSource, Sink, Source, SwapDevice, Took};
+use std::alloc::Global;
+use std::test::Fail;
+
+/// A device of one block that always fails.
+#[derive(Drop)]
+struct Broken {
+    faults: u64,
+}
+
+impl SwapDevice for Broken {
+    ghost use Rattle.std.specs.Prelude.{true, []};
+
+    ghost blocks = { λ _. 1 };
+
+    ghost told = { λ _. true };
+
+    ghost block = { λ _ _. [] };
+
+    ghost faults = { λ s. s.faults };
+
+    fn count(&self) -> u32 {
+        1
+    }
+
+    fn read(&mut self, _i: u32, _into: &mut [u8; 512]) -> Dev {
+        self.faults = self.faults.saturating_add(1);
+        Dev::Failed
+    }
+
+    fn write(&mut self, _i: u32, _from: &[u8; 512]) -> Dev {
+        self.faults = self.faults.saturating_add(1);
+        Dev::Failed
+    }
+}
+
+/// A machine that is stopped by this behind so many steps, in which it does nothing.
+#[derive(Drop)]
+struct Halting {
+    steps: u32,
+    why: Stop,
+    last: Option<(Stop, bool)>,
+}
+
+/// What a machine of the tests asks before it stops so: the input for a byte, the device for a block. Where these don't fail it
+/// is stopped for want of room.
+fn found<I: Source, S: SwapDevice>(why: Stop, input: &mut I, swap: &mut S) -> Stop
+    ensures blocks { S.blocks swap.new ≡ S.blocks swap.old }
+    ensures told { S.told swap.new ≡ S.told swap.old }
+    ensures input_count { I.faults input.old ≤ I.faults input.new }
+    ensures swap_count { S.faults swap.old ≤ S.faults swap.new }
+    ensures cause { Caused ⊥ (Rose (I.faults input.old) (I.faults input.new)) (Rose (S.faults swap.old) (S.faults swap.new)) (turn_of result) }
+{
+    let mut byte = [0u8];
+    let mut block = [0u8; 512];
+    match why {
+        Stop::Input => match input.take(&mut byte) {
+            Took::Failed => Stop::Input,
+            Took::Done(_) => Stop::NoRoom,
+        },
+        Stop::SwapFault => {
+            if swap.count() == 0 {
+                return Stop::NoRoom;
+            }
+            match swap.read(0, &mut block) {
+                Dev::Failed => Stop::SwapFault,
+                Dev::Done => Stop::NoRoom,
+            }
+        }
+        _ => why,
+    }
+}
+
+impl Steps for Halting {
+    ghost use Rattle.std.specs.Prelude.{true, false, option_map};
+    ghost use Rattle.std.specs.Option.{unwrap_or};
+    ghost use Rattle.o2_run.specs.Turn.{turn_of};
+
+    ghost stands = { λ m told block s w. ⊥ };
+
+    ghost swaps = { true };
+
+    ghost left = { λ m. m.steps };
+
+    ghost stopped = { λ m. option_map (λ p. turn_of p.0) m.last };
+
+    ghost line_put = { λ m. unwrap_or (option_map (λ p. p.1) m.last) false };
+
+    fn turn<I: Source, C: Sink, R: Sink, S: SwapDevice>(
+        &mut self,
+        input: &mut I,
+        _console: &mut C,
+        report: &mut R,
+        swap: &mut S,
+    ) -> Turn {
+        if let Some((why, _)) = self.last {
+            return why.answer();
+        }
+        if self.steps > 0 {
+            self.steps -= 1;
+            return Turn::Ran;
+        }
+        let why = found(self.why, input, swap);
+        let put = put_stop(why, report);
+        self.last = Some((why, put));
+        why.answer()
+    }
+}
+
+/// How a run ends that is stopped so behind three steps, what it has put, and the same of a second run of the same machine.
+fn halted(
+    alloc: Global,
+    why: Stop,
+    fails: &[(u64, usize)],
+) -> Result<(Ended, MemSink, bool), NoMemory> {
+    let mut machine = Halting {
+        steps: 3,
+        why,
+        last: None,
+    };
+    let mut input = MemSource::new(Bytes::from_slice(alloc, b"abc")?, [1].to_vec(alloc)?);
+    let mut console = MemSink::new(alloc, 64, Vec::new(alloc))?;
+    let mut report = MemSink::new(alloc, 64, fails.to_vec(alloc)?)?;
+    let mut swap = Broken { faults: 0 };
+    let ended = run(
+        &mut machine,
+        &mut input,
+        &mut console,
+        &mut report,
+        &mut swap,
+    );
+    let again = run(
+        &mut machine,
+        &mut input,
+        &mut console,
+        &mut report,
+        &mut swap,
+    );
+    Ok((ended, report, again == ended))
+}
+
+#[test]
+fn each_stop(rt: HostRuntime) -> Result<(), Fail> {
+    let stops: [(Stop, &str); 4] = [
+        (Stop::Input, "stop input fault\n"),
+        (Stop::NoRoom, "stop room\n"),
+        (Stop::SwapFull, "stop swap full\n"),
+        (Stop::SwapFault, "stop swap fault\n"),
+    ];
+    for (why, line) in &stops {
+        let (ended, report, again) = halted(rt.alloc(), *why, &[])?;
+        assert_eq!(rt; ended, Ended::Stopped(*why));
+        assert_eq!(rt; report.taken(), line.as_bytes());
+        assert!(rt; again);
+        let (ended, report, again) = halted(rt.alloc(), *why, &[(1, 4)])?;
+        assert_eq!(rt; ended, Ended::Stopped(*why), "where the line's put fails");
+        assert_eq!(rt; report.taken(), b"stop".as_slice());
+        assert!(rt; again);
+    }
+    Ok(())
+}
