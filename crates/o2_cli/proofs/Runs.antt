@@ -22,27 +22,27 @@ use Rattle.o2_open.specs.Loads.{Contents, Tells, loaded, start_refusal, under, �
 use Rattle.o2_cli.specs.Top.{Refuses as TopRefuses, IsUnswapped, OnInputFault, OnSwapFault, status_of, Opened, Told, Opens, Shows, started, with_setting, refusal}
 use Rattle.o2_cli.specs.RunTexts.{StartsWith, StopsRun, ShowsRun}
 
--- the whole opening, from what the starts come to
-abbrev pub opened_from : Session → List ℕ → Result Built (ℕ × ModuleFault) → Result Opened Status
-opened_from s input r = under (refusal s) (where_started (map slice_of s.conf.script) s.conf.budget input r) >>= with_setting s
+-- the whole opening, from what is reserved for the run and what the starts come to
+abbrev pub opened_from : Session → List (ℕ × ℕ) → List ℕ → Result Built (ℕ × ModuleFault) → Result Opened Status
+opened_from s reserved input r = under (refusal s) (where_started reserved (map slice_of s.conf.script) s.conf.budget input r) >>= with_setting s
 
 abbrev pub start_of : Session → List ℕ → Built → Opened
-start_of s input b = record { setting = setting_of s.conf; world = first_world s.conf input b }
+start_of s input b = record { setting = setting_of s.conf; world = first_world s.linked s.conf input b }
 
 pub has_started : (s : Session) (input : List ℕ) (b : Built) → starting s.linked s.conf ≡ Ok b → started s input ≡ Ok (start_of s input b)
 unfolding started
-has_started s input b e = ap (opened_from s input) e
+has_started s input b e = ap (opened_from s _ input) e
 
 pub is_refused : (s : Session) (input : List ℕ) (f : ℕ × ModuleFault) → starting s.linked s.conf ≡ Err f → started s input ≡ Err (start_refusal s f.0 f.1)
 unfolding started
-is_refused s input f e = ap (opened_from s input) e
+is_refused s input f e = ap (opened_from s _ input) e
 
 -- before the first step nothing is on the console
-pub nothing_yet : (s : Session) (b : Built) (input : List ℕ) (c : Option (List ℕ)) → Gains c c (console (first_world s.conf input b))
+pub nothing_yet : (s : Session) (b : Built) (input : List ℕ) (c : Option (List ℕ)) → Gains c c (console (first_world s.linked s.conf input b))
 nothing_yet s b input c = λ t e. e ∙ ap Some (sym (append-nil t))
 
 -- a sink failed in the opening
-pub in_opening : (s : Session) (b : Built) (input : List ℕ) (j c r q : Option (List ℕ)) → j ≡ Some input → GainsSome r q (λ front. IsPrefix front (lines_text b.lines)) → HasPartRun (setting_of s.conf) (first_world s.conf input b) j c c r q
+pub in_opening : (s : Session) (b : Built) (input : List ℕ) (j c r q : Option (List ℕ)) → j ≡ Some input → GainsSome r q (λ front. IsPrefix front (lines_text b.lines)) → HasPartRun (setting_of s.conf) (first_world s.linked s.conf input b) j c c r q
 in_opening s b input j c r q left g = record { texts = InOpening (λ t e. e ∙ ap Some (sym (append-nil t))) g; input = inl left }
 
 -- a refusal of a start, as it is told

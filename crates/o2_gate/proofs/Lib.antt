@@ -4,3 +4,4 @@ pub mod Puts
 pub mod Ranges
 pub mod Takes
 pub mod Writes
+pub mod Served

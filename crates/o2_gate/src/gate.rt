@@ -1,9 +1,9 @@
 // The call of a service.
-ghost use Rattle.std.specs.Prelude.{◌≡◌, ◌≤◌, ◌⊎◌, ℕ, List, Some, length};
+ghost use Rattle.std.specs.Prelude.{◌≡◌, ◌≢◌, ◌≤◌, ◌⊎◌, ℕ, List, Some, length};
 ghost use Rattle.o2_outer.specs.Texts.{Rose};
 ghost use Rattle.o2_bus.specs.Plain.{held_in, bytes_in, shown_in};
 ghost use Rattle.o2_world.specs.Known.{Known};
-ghost use Rattle.o2_world.specs.Calls.{serviced};
+ghost use Rattle.o2_world.specs.Calls.{serviced, row_of as number_row};
 ghost use Rattle.o2_gate.specs.Befores.{before_call};
 ghost use Rattle.o2_gate.specs.Called.{Does, OnSinkFault, OnInputFault};
 
@@ -15,6 +15,23 @@ use crate::write::dos_write;
 use crate::{Called, State};
 use o2_isa::Cpu;
 use o2_outer::{Sink, Source};
+use o2_world::Row;
+
+/// The row of a service, where it has one.
+fn row_of(service: u16) -> Option<Row>
+    ensures row { result ≡ number_row service }
+    ensures read { result ≡ Some Row.DosRead → service ≡ 3 }
+    ensures write { result ≡ Some Row.DosWrite → service ≡ 4 }
+{
+    match service {
+        1 => Some(Row::DosExit),
+        2 => Some(Row::DosGetPid),
+        3 => Some(Row::DosRead),
+        4 => Some(Row::DosWrite),
+        19 => Some(Row::DosMemAvail),
+        _ => None,
+    }
+}
 
 /// The call of a service by process `pid`, which comes back to `next`. No call takes memory.
 pub fn call<I: Source, C: Sink, R: Sink>(
@@ -33,6 +50,9 @@ pub fn call<I: Source, C: Sink, R: Sink>(
     ensures maps { held_in state.new.plain ≡ held_in state.old.plain }
     ensures shown { (n : ℕ) → shown_in state.new.plain n ≡ shown_in state.old.plain n }
     ensures avail { state.new.avail ≡ state.old.avail }
+    // The input is touched in a DosRead alone, and the console in a DosWrite alone.
+    ensures no_input { service ≢ 3 → input.new ≡ input.old }
+    ensures no_console { service ≢ 4 → console.new ≡ console.old }
     ensures input_count { I.faults input.old ≤ I.faults input.new }
     ensures console_count { C.faults console.old ≤ C.faults console.new }
     ensures report_count { R.faults report.old ≤ R.faults report.new }
@@ -43,10 +63,11 @@ pub fn call<I: Source, C: Sink, R: Sink>(
 {
     let plain = &mut state.plain;
     let line = &mut state.line;
-    match service {
-        1 => dos_exit(pid, cpu, plain, line, report),
-        2 => dos_get_pid(pid, next, cpu, plain, line, report),
-        3 => dos_read(
+    match row_of(service) {
+        None => Called::Trap(13),
+        Some(Row::DosExit) => dos_exit(pid, cpu, plain, line, report),
+        Some(Row::DosGetPid) => dos_get_pid(pid, next, cpu, plain, line, report),
+        Some(Row::DosRead) => dos_read(
             pid,
             next,
             cpu,
@@ -56,7 +77,9 @@ pub fn call<I: Source, C: Sink, R: Sink>(
             input,
             report,
         ),
-        19 => dos_mem_avail(pid, next, state.avail, cpu, plain, line, report),
-        _ => dos_write(pid, next, cpu, plain, line, console, report),
+        Some(Row::DosWrite) => dos_write(pid, next, cpu, plain, line, console, report),
+        Some(Row::DosMemAvail) => {
+            dos_mem_avail(pid, next, state.avail, cpu, plain, line, report)
+        }
     }
 }

@@ -1,10 +1,10 @@
 // DosRead.
-ghost use Rattle.std.specs.Prelude.{◌≡◌, ◌≤◌, ◌<◌, ◌∷◌, [], ℕ, List, Option, Some, IsTrue, true, length, vec_len};
+ghost use Rattle.std.specs.Prelude.{◌≡◌, ◌≢◌, ◌≤◌, ◌<◌, ◌∷◌, [], ℕ, List, Option, Some, IsTrue, true, length, vec_len};
 ghost use Rattle.o2_outer.specs.Texts.{Rose};
 ghost use Rattle.o2_outer.specs.Answers.{TookAtMost, TookHasCause};
-ghost use Rattle.o2_bus.specs.Plain.{held_in, bytes_in, shown_in};
+ghost use Rattle.o2_bus.specs.Plain.{held_in, bytes_in, shown_in, plain_view};
 ghost use Rattle.o2_world.specs.Known.{Known};
-ghost use Rattle.o2_world.specs.Calls.{dos_read as dos_read_row, read_from as read_from_row, read_with, bytes_with, asks_input, may_write as writes_at};
+ghost use Rattle.o2_world.specs.Calls.{dos_read as dos_read_row, read_from as read_from_row, read_with, bytes_with, asks_input, may_write as writes_at, argument as argument_of};
 ghost use Rattle.o2_gate.specs.Befores.{before_call};
 ghost use Rattle.o2_gate.specs.Called.{Does, DoesFor, OnSinkFault, OnInputFault, Fills};
 
@@ -35,6 +35,7 @@ fn take_bytes<I: Source>(buffer: &mut Vec<u8>, count: u16, input: &mut I) -> Too
     ensures fills { Fills count (I.left input.old) (I.left input.new) buffer.new.items result }
     ensures bounded { TookAtMost count result }
     ensures room { vec_len buffer.new ≡ 65536 }
+    ensures nothing { count ≡ 0 → input.new ≡ input.old }
     ensures count { I.faults input.old ≤ I.faults input.new }
     ensures cause { TookHasCause (I.faults input.old) (I.faults input.new) result }
 {
@@ -117,6 +118,9 @@ fn read_from<I: Source, R: Sink>(
     ensures maps { held_in plain.new ≡ held_in plain.old }
     ensures shown { (n : ℕ) → shown_in plain.new n ≡ shown_in plain.old n }
     ensures room { vec_len buffer.new ≡ 65536 }
+    // No bytes are not taken, nor any with error 6.
+    ensures nothing { read.now.count ≡ 0 → input.new ≡ input.old }
+    ensures refused { read.now.handle ≢ 0 → input.new ≡ input.old }
     ensures input_count { I.faults input.old ≤ I.faults input.new }
     ensures report_count { R.faults report.old ≤ R.faults report.new }
     ensures cause { OnSinkFault result (Rose (R.faults report.old) (R.faults report.new)) }
@@ -162,6 +166,9 @@ pub fn dos_read<I: Source, R: Sink>(
     ensures maps { held_in plain.new ≡ held_in plain.old }
     ensures shown { (n : ℕ) → shown_in plain.new n ≡ shown_in plain.old n }
     ensures room { vec_len buffer.new ≡ 65536 }
+    // No bytes are not taken, nor any with error 6.
+    ensures nothing { argument_of (plain_view plain.old pid cpu.old) cpu.old 2 ≡ 0 → input.new ≡ input.old }
+    ensures refused { argument_of (plain_view plain.old pid cpu.old) cpu.old 5 ≢ 0 → input.new ≡ input.old }
     ensures input_count { I.faults input.old ≤ I.faults input.new }
     ensures report_count { R.faults report.old ≤ R.faults report.new }
     ensures cause { OnSinkFault result (Rose (R.faults report.old) (R.faults report.new)) }

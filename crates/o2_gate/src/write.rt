@@ -1,11 +1,11 @@
 // DosWrite.
-ghost use Rattle.std.specs.Prelude.{◌≡◌, ◌≤◌, ◌⊎◌, ◌∷◌, [], ℕ, List, Option, Some, IsTrue, length};
+ghost use Rattle.std.specs.Prelude.{◌≡◌, ◌≤◌, ◌⊎◌, ◌∷◌, [], ℕ, List, Option, Some, IsTrue, false, length};
 ghost use Rattle.o2_outer.specs.Texts.{Rose};
 ghost use Rattle.o2_outer.specs.Answers.{Takes, OnFailed};
-ghost use Rattle.o2_bus.specs.Plain.{held_in, bytes_in, shown_in};
+ghost use Rattle.o2_bus.specs.Plain.{held_in, bytes_in, shown_in, plain_view};
 ghost use Rattle.o2_world.specs.Known.{Known};
 ghost use Rattle.o2_world.specs.Text.{lines_text};
-ghost use Rattle.o2_world.specs.Calls.{dos_write as dos_write_row, written as written_row, write_line, is_console, may_read as reads_at, range_of};
+ghost use Rattle.o2_world.specs.Calls.{dos_write as dos_write_row, written as written_row, write_line, is_console, may_read as reads_at, range_of, argument as argument_of};
 ghost use Rattle.o2_gate.specs.Befores.{before_call};
 ghost use Rattle.o2_gate.specs.Called.{Does, OnSinkFault, OnInputFault, PutsBoth};
 
@@ -24,6 +24,7 @@ fn put_range<C: Sink>(plain: &Plain, pid: u16, write: &Transfer, console: &mut C
     requires { IsTrue (reads_at (held_in plain.now pid) (bytes_in plain.now) write.now.selector write.now.offset write.now.count) }
     ensures console { Takes (C.taken console.old) (C.taken console.new) (range_of (held_in plain.now pid) (bytes_in plain.now) write.now.selector write.now.offset write.now.count) result }
     ensures len { length (range_of (held_in plain.now pid) (bytes_in plain.now) write.now.selector write.now.offset write.now.count) ≡ write.now.count }
+    ensures nothing { write.now.count ≡ 0 → console.new ≡ console.old }
     ensures count { C.faults console.old ≤ C.faults console.new }
     ensures cause { OnFailed result (Rose (C.faults console.old) (C.faults console.new)) }
 {
@@ -47,6 +48,7 @@ fn put_both<C: Sink, R: Sink>(
         (lines_text (write_line pid write.now.handle write.now.selector write.now.offset write.now.count write.now.done_selector write.now.done_offset 0 ∷ []))
         (C.taken console.old) (C.taken console.new) (R.taken report.old) (R.taken report.new) result }
     ensures len { length (range_of (held_in plain.now pid) (bytes_in plain.now) write.now.selector write.now.offset write.now.count) ≡ write.now.count }
+    ensures nothing { write.now.count ≡ 0 → console.new ≡ console.old }
     ensures console_count { C.faults console.old ≤ C.faults console.new }
     ensures report_count { R.faults report.old ≤ R.faults report.new }
     ensures cause { OnFailed result (Rose (C.faults console.old) (C.faults console.new) ⊎ Rose (R.faults report.old) (R.faults report.new)) }
@@ -82,6 +84,9 @@ fn written<C: Sink, R: Sink>(
     ensures sizes { (n : ℕ) → length (bytes_in plain.new n) ≡ length (bytes_in plain.old n) }
     ensures maps { held_in plain.new ≡ held_in plain.old }
     ensures shown { (n : ℕ) → shown_in plain.new n ≡ shown_in plain.old n }
+    // A piece of no bytes is not put, nor any piece with error 6.
+    ensures nothing { write.now.count ≡ 0 → console.new ≡ console.old }
+    ensures refused { is_console write.now.handle ≡ false → console.new ≡ console.old }
     ensures console_count { C.faults console.old ≤ C.faults console.new }
     ensures report_count { R.faults report.old ≤ R.faults report.new }
     ensures cause { OnSinkFault result (Rose (C.faults console.old) (C.faults console.new) ⊎ Rose (R.faults report.old) (R.faults report.new)) }
@@ -128,6 +133,9 @@ pub fn dos_write<C: Sink, R: Sink>(
     ensures sizes { (n : ℕ) → length (bytes_in plain.new n) ≡ length (bytes_in plain.old n) }
     ensures maps { held_in plain.new ≡ held_in plain.old }
     ensures shown { (n : ℕ) → shown_in plain.new n ≡ shown_in plain.old n }
+    // A piece of no bytes is not put, nor any piece with error 6.
+    ensures nothing { argument_of (plain_view plain.old pid cpu.old) cpu.old 2 ≡ 0 → console.new ≡ console.old }
+    ensures refused { is_console (argument_of (plain_view plain.old pid cpu.old) cpu.old 5) ≡ false → console.new ≡ console.old }
     ensures console_count { C.faults console.old ≤ C.faults console.new }
     ensures report_count { R.faults report.old ≤ R.faults report.new }
     ensures cause { OnSinkFault result (Rose (C.faults console.old) (C.faults console.new) ⊎ Rose (R.faults report.old) (R.faults report.new)) }

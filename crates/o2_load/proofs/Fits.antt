@@ -27,18 +27,15 @@ use Rattle.o2_dynlink.specs.Reached.{refers, reaches, marked, reached_by, librar
 use Rattle.o2_dynlink.specs.Selectors.{shared_after, base_after, bases_from, bases_of, base_at, index_of}
 use Rattle.o2_dynlink.proofs.Consistent.{fitting, fitting_modules}
 use Rattle.o2_dynlink.proofs.Indexes.{nth_some, index_is}
-use Rattle.o2_world.specs.World.{World, Setting}
-use Rattle.o2_world.specs.Starts.{Loaded, LoadedSegment, Start, nth_loaded, opening_of}
-use Rattle.o2_world.specs.Sound.{IsSound}
+use Rattle.o2_world.specs.Starts.{Loaded, LoadedSegment, Start, nth_loaded}
 use Rattle.o2_world.specs.FitStarts.{module_indexes, IsFit, AreFit}
 use Rattle.o2_world.proofs.Keeps.{some_is}
-use Rattle.o2_world.proofs.OpeningSound.{opening_sound}
 use Rattle.o2_load.specs.Loads.{rights_of, index_at, loaded_segment, loaded_segments, loaded_module, no_module, loaded_at, loaded, program_place, start_of, starts_of}
 use Rattle.o2_load.proofs.Rising.{Rises, numbers, rises_from, rises_behind, rising_distinct}
 
 -- The module at a place.
 
-abbrev loaded_of : ImageList → ℕ → Option Parts → Loaded
+abbrev pub loaded_of : ImageList → ℕ → Option Parts → Loaded
 loaded_of images place None = no_module
 loaded_of images place (Some m) = loaded_module images place m
 
@@ -176,12 +173,12 @@ libraries_rise images f only used place (m ∷ ms) tie =
 -- Starts over the images of these modules.
 
 module _ (images : ImageList) (ms : List Parts) (same : modules_of images ≡ ms) where
-  at_place : (place : ℕ) (o : Option Parts) → nth ms place ≡ o → loaded images place ≡ loaded_of images place o
+  pub at_place : (place : ℕ) (o : Option Parts) → nth ms place ≡ o → loaded images place ≡ loaded_of images place o
   at_place place o e =
       loaded_is images place (nth images.modules place)
       ∙ ap (loaded_of images place) (sym (nth-map (λ (r : Resolution). r.0) images.modules place) ∙ (ap (λ (ns : List Parts). nth ns place) same ∙ e))
 
-  index_there : (place n : ℕ) (m : Parts) → nth ms place ≡ Some m → 1 ≤ n → n ≤ length m.segments → index_at images place n ≡ base_at (bases_of ms) place + n
+  pub index_there : (place n : ℕ) (m : Parts) → nth ms place ≡ Some m → 1 ≤ n → n ≤ length m.segments → index_at images place n ≡ base_at (bases_of ms) place + n
   index_there place n m e low high =
       ap (λ (ns : List Parts). unwrap_or (index_of ns place n) 0) same
       ∙ ap (λ (o : Option ℕ). unwrap_or o 0) (sym (index_is ms place n (base_at (bases_of ms) place) m e refl low high))
@@ -272,7 +269,7 @@ module _ (images : ImageList) (ms : List Parts) (same : modules_of images ≡ ms
           let writable = (runnable m refl).auto y.segment (nth_from m.head.auto_seg m.segments y.segment at.0 y.there) in
           ap is_readable y.rights ∙ writable_reads y.segment.kind writable.0
 
-runnable_at : (ms : List Parts) (place : ℕ) → All IsRunnable ms → (m : Parts) → nth ms place ≡ Some m → IsRunnable m
+pub runnable_at : (ms : List Parts) (place : ℕ) → All IsRunnable ms → (m : Parts) → nth ms place ≡ Some m → IsRunnable m
 runnable_at ms place all m e =
     let at = nth_some ms place m e in
     let less : place - 1 < length ms = slice_get_within ms (place - 1) m at.1 in
@@ -317,16 +314,16 @@ with_targets ms c targets = each (program_of ms) c.process >>= with_programs ms 
 abbrev with_names : List Parts → Conf → Result LinkedParts LinkFault
 with_names ms c = over (module_step ms (bases_of ms) c.ordinals) ms [] >>= with_targets ms c
 
-pub linked_starts_fit : (ms : List Parts) (c : Conf) (l : LinkedParts) → All IsRunnable ms → linked_of ms c ≡ Ok l → AreFit (starts_of l 1 c.process)
+-- all that holds of each outcome holds of what linking gives
+pub of_linked : (P : LinkedParts → Type 0) (ms : List Parts) (c : Conf) (l : LinkedParts) → linked_of ms c ≡ Ok l
+    → ((targets : List Targets) (programs : List ℕ) → Fitting ms targets → P (outcome ms c targets programs)) → P l
 unfolding linked_of
-linked_starts_fit ms c l all e =
+of_linked P ms c l e each_outcome =
     let a = comes (over (name_step ms) ms 0) (λ _. with_names ms c) l e in
     let b = comes (over (module_step ms (bases_of ms) c.ordinals) ms []) (with_targets ms c) l a.gives in
     let d = comes (each (program_of ms) c.process) (with_programs ms c b.value) l b.gives in
     let f = comes (over (region_step (bases_of ms)) ms 0) (λ _. Ok (outcome ms c b.value d.value)) l d.gives in
-    let is : outcome ms c b.value d.value ≡ l = in_ok f.gives in
-    subst (λ (x : LinkedParts). AreFit (starts_of x 1 c.process)) is
-    (starts_fit ms c b.value d.value (fitting ms (bases_of ms) c.ordinals ms b.value b.is) all 1 c.process)
+    subst P (in_ok f.gives) (each_outcome b.value d.value (fitting ms (bases_of ms) c.ordinals ms b.value b.is))
   where
     linked_in : Result LinkedParts LinkFault → LinkedParts
     linked_in (Ok x) = x
@@ -335,6 +332,9 @@ linked_starts_fit ms c l all e =
     in_ok : {x : LinkedParts} → ◌≡◌ {A = Result LinkedParts LinkFault} (Ok x) (Ok l) → x ≡ l
     in_ok h = ap linked_in h
 
-pub linked_opening_sound : (s : Setting) (script : List (ℕ × ℕ)) (input : List ℕ) (ms : List Parts) (c : Conf) (l : LinkedParts) (w : World) → All IsRunnable ms → linked_of ms c ≡ Ok l
-    → opening_of s script input (starts_of l 1 c.process) ≡ Ok w → IsSound w
-linked_opening_sound s script input ms c l w all e o = opening_sound s script input (starts_of l 1 c.process) w (linked_starts_fit ms c l all e) o
+pub linked_starts_fit : (ms : List Parts) (c : Conf) (l : LinkedParts) → All IsRunnable ms → linked_of ms c ≡ Ok l → AreFit (starts_of l 1 c.process)
+linked_starts_fit ms c l all e = of_linked (λ (x : LinkedParts). AreFit (starts_of x 1 c.process)) ms c l e (λ targets programs shapes. starts_fit ms c targets programs shapes all 1 c.process)
+
+-- its modules are those that were linked
+pub linked_modules : (ms : List Parts) (c : Conf) (l : LinkedParts) → linked_of ms c ≡ Ok l → modules_of l.images ≡ ms
+linked_modules ms c l e = of_linked (λ (x : LinkedParts). modules_of x.images ≡ ms) ms c l e (λ targets programs shapes. fitting_modules ms targets shapes)

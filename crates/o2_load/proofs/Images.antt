@@ -10,7 +10,7 @@ use Rattle.o2_image.specs.Parts.{Parts}
 use Rattle.o2_world.specs.Starts.{loaded_bytes}
 use Rattle.o2_load.specs.Loads.{room_at, loaded_module, loaded_segment}
 
-in_list : {X : Type 0} (xs : List X) (i : ℕ) (x : X) → slice_get xs i ≡ Some x → i < length xs
+pub in_list : {X : Type 0} (xs : List X) (i : ℕ) (x : X) → slice_get xs i ≡ Some x → i < length xs
 in_list [] i x e = absurd (cc)
 in_list (y ∷ ys) zero x e = omega arith
 in_list (y ∷ ys) (suc i) x e = let h = in_list ys i x e in omega (arith, h)
@@ -43,7 +43,7 @@ with_room false bytes room = append-nil bytes
 pub first_bytes_are : (images : ImageList) (place n : ℕ) (m : Parts) (s : Segment) → image_front images place n s.size ++ replicate (room_at m n) 0 ≡ loaded_bytes (loaded_module images place m) n (loaded_segment images place m n s)
 first_bytes_are images place n m s = with_room (n == m.head.auto_seg) (image_front images place n s.size) (if is_library m then m.head.heap else m.head.stack + m.head.heap)
 
-get_in : {X : Type 0} (xs : List X) (i : ℕ) (x : X) → slice_get xs i ≡ Some x → get_or xs i x ≡ x
+pub get_in : {X : Type 0} (xs : List X) (i : ℕ) (x : X) → slice_get xs i ≡ Some x → get_or xs i x ≡ x
 get_in [] i x e = absurd (cc)
 get_in (y ∷ ys) zero x e = cc
 get_in (y ∷ ys) (suc i) x e = get_in ys i x e

@@ -8,3 +8,6 @@ pub mod Sizes
 pub mod Alls
 pub mod Rising
 pub mod Fits
+pub mod Reserved
+pub mod Overs
+pub mod Openings

@@ -14,7 +14,7 @@ use Rattle.o2_world.specs.Opening.{start_lines}
 use Rattle.std.proofs.lemmas.List.{length-map}
 use Rattle.o2_world.specs.Map.{Map}
 use Rattle.o2_world.specs.Views.{holds_in}
-use Rattle.o2_world.specs.Starts.{Built, nothing_built, Start, Holding, first_cpu, holdings, holds_as, name_in, with_holding, with_holdings, with_started, started_as, next_started}
+use Rattle.o2_world.specs.Starts.{Built, nothing_built, Start, Holding, first_cpu, first_process, holdings, holds_as, name_in, with_holding, with_holdings, with_started, started_as, next_started}
 use Rattle.o2_load.specs.declared.build.Build.{Build}
 use Rattle.o2_load.specs.declared.begun.Begun.{Begun}
 use Rattle.o2_load.specs.Holds.{IsHolding, OthersStay}
@@ -91,9 +91,9 @@ module _ (m new : Begun) (after : Build) (l : LinkedParts) (s : Start) (b : Buil
   pub done : Built
   done = with_started pid s (with_holdings b (holdings pid s))
 
-  place_is : (i : ℕ) → IsFirstAt (slice_get (m.cpus.items ++ c ∷ []) i) (held_in after.plain (i + 1)) (slice_get (b.processes ++ record { cpu = first_cpu s; state = Live; held = (with_holdings b (holdings pid s)).held } ∷ []) i)
+  place_is : (i : ℕ) → IsFirstAt (slice_get (m.cpus.items ++ c ∷ []) i) (held_in after.plain (i + 1)) (slice_get (b.processes ++ first_process s (with_holdings b (holdings pid s)).held ∷ []) i)
   place_is =
-      placed m.cpus.items b.processes c (record { cpu = first_cpu s; state = Live; held = (with_holdings b (holdings pid s)).held }) (λ n. held_in m.build.plain (n + 1)) (λ n. held_in after.plain (n + 1)) is.same
+      placed m.cpus.items b.processes c (first_process s (with_holdings b (holdings pid s)).held) (λ n. held_in m.build.plain (n + 1)) (λ n. held_in after.plain (n + 1)) is.same
       (record { cpu = sym first; state = refl; held = λ j. holds.held j ∙ ap (λ (n : ℕ). held_in after.plain n j) e })
       (λ n other j. others (n + 1) j (λ same. other (omega (arith, same, e)))) is.places
 
@@ -108,14 +108,14 @@ module _ (m new : Begun) (after : Build) (l : LinkedParts) (s : Start) (b : Buil
     places = λ i.
         subst (λ (cs : List Cpu). IsFirstAt (slice_get cs i) (held_in new.build.plain (i + 1)) (slice_get done.processes i)) (sym cpus)
         (subst (λ p. IsFirstAt (slice_get (m.cpus.items ++ c ∷ []) i) (held_in p (i + 1)) (slice_get done.processes i)) (sym plain)
-        (subst (λ (ps : List Process). IsFirstAt (slice_get (m.cpus.items ++ c ∷ []) i) (held_in after.plain (i + 1)) (slice_get (ps ++ record { cpu = first_cpu s; state = Live; held = (with_holdings b (holdings pid s)).held } ∷ []) i))
+        (subst (λ (ps : List Process). IsFirstAt (slice_get (m.cpus.items ++ c ∷ []) i) (held_in after.plain (i + 1)) (slice_get (ps ++ first_process s (with_holdings b (holdings pid s)).held ∷ []) i))
         (sym (same_processes (holdings pid s) b)) (place_is i)));
     idle = refl;
     ready = refl;
     fresh = fresh;
     same =
         let old = ap (λ (ps : List Process). length ps) (same_processes (holdings pid s) b) in
-        let one = length-append (with_holdings b (holdings pid s)).processes (record { cpu = first_cpu s; state = Live; held = (with_holdings b (holdings pid s)).held } ∷ []) in
+        let one = length-append (with_holdings b (holdings pid s)).processes (first_process s (with_holdings b (holdings pid s)).held ∷ []) in
         let two = length-append m.cpus.items (c ∷ []) in
         let all = ap (λ (cs : List Cpu). length cs) cpus in
         omega (arith, old, one, two, all, is.same);

@@ -1,5 +1,5 @@
 -- What starts take from linked modules and a setting.
-use Rattle.std.specs.Prelude.{ℕ, ◌+◌, ◌%◌, ◌==◌, ◌&&◌, ◌||◌, Bool, false, not, List, [], ◌∷◌, length, map, Option, Some, None, unwrap_or, option_map, nat_lt, Result, Ok, Err, if◌then◌else◌}
+use Rattle.std.specs.Prelude.{ℕ, ◌+◌, ◌%◌, ◌==◌, ◌&&◌, ◌||◌, Bool, true, false, not, List, [], ◌∷◌, ◌++◌, length, map, Option, Some, None, unwrap_or, option_map, nat_lt, Result, Ok, Err, if◌then◌else◌}
 use Rattle.std.specs.Int.RustNames.{bit_and}
 use Rattle.o2_base.specs.declared.faults.ModuleFault.{ModuleFault}
 use Rattle.o2_base.specs.declared.faults.ModuleFault.TheVariants.{NoStack, NoEntry}
@@ -89,6 +89,18 @@ start_of l pid p = record {
 abbrev pub starts_of : LinkedParts → ℕ → List Process → List Start
 starts_of l pid [] = []
 starts_of l pid (p ∷ ps) = start_of l pid p ∷ starts_of l (pid + 1) ps
+
+-- The indexes of the segments of all libraries, reached or not, are reserved for the whole run.
+
+abbrev pub library_range : ImageList → ℕ → Parts → List (ℕ × ℕ)
+library_range images place m = if is_library m then (index_at images place 1, length m.segments) ∷ [] else []
+
+abbrev pub ranges_from : ImageList → ℕ → List Resolution → List (ℕ × ℕ)
+ranges_from images place [] = []
+ranges_from images place (r ∷ rs) = library_range images place r.0 ++ ranges_from images (place + 1) rs
+
+abbrev pub library_ranges : LinkedParts → List (ℕ × ℕ)
+library_ranges l = ranges_from l.images 1 l.images.modules
 
 -- the room behind the image of segment n
 abbrev pub room_at : Parts → ℕ → ℕ

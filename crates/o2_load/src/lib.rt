@@ -12,6 +12,6 @@ mod starting;
 
 pub use begun::Begun;
 pub use build::Build;
-pub use laws::linked_modules_open_soundly;
+pub use laws::{libraries_are_reserved_for_the_run, linked_modules_open_soundly};
 pub use process::start;
 pub use starting::{StartFault, begin};

@@ -9,18 +9,20 @@ use Rattle.o2_bus.specs.Ends.{is_held_in}
 use Rattle.o2_bus.proofs.Holders.{held_is_held, is_held_at, IsHeldAt}
 use Rattle.o2_world.specs.Map.{Map, get}
 use Rattle.o2_world.specs.World.{Process, Segment, Held, is_live}
-use Rattle.o2_world.specs.Holders.{is_held, kept, with_process}
+use Rattle.o2_world.specs.Holders.{is_held, kept, process_at}
 use Rattle.o2_world.specs.Views.{hold_of, holds_in, segment_bytes, bytes_in as bytes_of, with_bytes}
 use Rattle.o2_world.specs.Calls.{Effect}
 use Rattle.o2_world.specs.Run.{process_after, names_after}
 use Rattle.o2_world.specs.Sound.{held_of}
 use Rattle.o2_world.proofs.MapLemmas.{get-filter, get-map}
 use Rattle.o2_world.proofs.Keeps.{held_found}
+use Rattle.o2_world.proofs.Numbers.{at_place_of, with_is}
 use Rattle.o2_world.proofs.Holding.{held_by, IsHeldBy}
 use Rattle.o2_machine.specs.declared.space.Proc.{Proc}
 use Rattle.o2_machine.specs.declared.space.Space.{Space}
 use Rattle.o2_machine.specs.Stands.{IsProcess, IsAt, StandsIn}
 use Rattle.o2_machine.specs.Commit.{IsBetween}
+use Rattle.o2_machine.specs.Acts.{StandsAfter}
 
 suc_differ : (i k : ℕ) → suc i ≢ suc k → i ≢ k
 suc_differ i k h e = h (ap suc e)
@@ -133,7 +135,10 @@ same_number : (n : ℕ) → (n == n) ≡ true
 same_number n = grind arith
 
 module _ (m new : Space) (ps : List Process) (names : Map Segment) (p : Process) (e : Effect) (n : ℕ) (q : Proc) (some : 0 < n) (there : n ≤ length m.procs.items)
-    (between : IsBetween m ps names e) (at : slice_get ps (n - 1) ≡ Some p) (put : new.procs.items ≡ slice_set m.procs.items (n - 1) q) (cpu : q.cpu ≡ e.cpu) (state : q.state ≡ e.state) where
+    (between : IsBetween m ps names e) (at_number : process_at ps n ≡ Some p) (put : new.procs.items ≡ slice_set m.procs.items (n - 1) q) (cpu : q.cpu ≡ e.cpu) (state : q.state ≡ e.state) where
+  at : slice_get ps (n - 1) ≡ Some p
+  at = at_place_of ps n p at_number
+
   held_before : (j : ℕ) → holds_in p.held j ≡ held_in m.state.plain n j
   held_before j =
       subst (λ (k : ℕ). holds_in p.held j ≡ held_in m.state.plain k j) (omega arith)
@@ -147,8 +152,8 @@ module _ (m new : Space) (ps : List Process) (names : Map Segment) (p : Process)
       (put_process m.procs.items ps (n - 1) q x (λ i. held_in m.state.plain (i + 1)) (λ i. held_in new.state.plain (i + 1)) (omega arith) between.processes (λ i other j. same (i + 1) j (past i n other)) here i)
 
   -- the process lives on
-  pub live_stands : is_live e.state ≡ true → new.state.plain ≡ m.state.plain → StandsIn new (with_process ps n (process_after p e)) (names_after (with_process ps n (process_after p e)) names e)
-  live_stands lives same =
+  live_set : is_live e.state ≡ true → new.state.plain ≡ m.state.plain → (let qs = slice_set ps (n - 1) (process_after p e) in StandsIn new qs (names_after qs names e))
+  live_set lives same =
       rw lives (record {
         processes = processes_put (record p { cpu = e.cpu; state = e.state }) (record { cpu = sym cpu; state = sym state; held = λ j. held_before j ∙ ap (λ (z : Plain). held_in z n j) (sym same) }) (λ i j other. ap (λ (z : Plain). held_in z i j) same);
         none = λ j. between.none j ∙ ap (λ (z : Plain). held_in z 0 j) (sym same);
@@ -156,13 +161,19 @@ module _ (m new : Space) (ps : List Process) (names : Map Segment) (p : Process)
         shown = λ k. ap (λ (z : Plain). shown_in z k) same ∙ between.shown k;
       })
 
+  by_number : (let qs = slice_set ps (n - 1) (process_after p e) in StandsIn new qs (names_after qs names e)) → StandsAfter n ps names p e new
+  by_number stands = subst (λ (qs : List Process). StandsIn new qs (names_after qs names e)) (sym (with_is ps n (process_after p e) some)) stands
+
+  pub live_stands : is_live e.state ≡ true → new.state.plain ≡ m.state.plain → StandsAfter n ps names p e new
+  live_stands lives same = by_number (live_set lives same)
+
   -- it has ended
-  pub end_stands : is_live e.state ≡ false
+  end_set : is_live e.state ≡ false
       → ((i j : ℕ) → held_in new.state.plain i j ≡ (if i == n then None else held_in m.state.plain i j))
       → ((k : ℕ) → bytes_in new.state.plain k ≡ (if is_held_in new.state.plain k then bytes_in m.state.plain k else []))
       → ((k : ℕ) → shown_in new.state.plain k ≡ shown_in m.state.plain k)
-      → StandsIn new (with_process ps n (process_after p e)) (names_after (with_process ps n (process_after p e)) names e)
-  end_stands ends held bytes shown =
+      → (let qs = slice_set ps (n - 1) (process_after p e) in StandsIn new qs (names_after qs names e))
+  end_set ends held bytes shown =
       let x : Process = record p { cpu = e.cpu; state = e.state; held = [] } in
       let is : IsProcess q (held_in new.state.plain n) x = record { cpu = sym cpu; state = sym state; held = λ j. sym (held n j ∙ ap (λ (b : Bool). if b then None else held_in m.state.plain n j) (same_number n)) } in
       let qs : List Process = slice_set ps (n - 1) x in
@@ -174,3 +185,10 @@ module _ (m new : Space) (ps : List Process) (names : Map Segment) (p : Process)
         bytes = λ k. bytes_kept names qs e.bytes k (bytes_in m.state.plain k) (is_held_in new.state.plain k) (held_same new.procs.items new.state.plain qs each none k) (between.bytes k) (between.absent k) ∙ sym (bytes k);
         shown = λ k. shown k ∙ between.shown k;
       })
+
+  pub end_stands : is_live e.state ≡ false
+      → ((i j : ℕ) → held_in new.state.plain i j ≡ (if i == n then None else held_in m.state.plain i j))
+      → ((k : ℕ) → bytes_in new.state.plain k ≡ (if is_held_in new.state.plain k then bytes_in m.state.plain k else []))
+      → ((k : ℕ) → shown_in new.state.plain k ≡ shown_in m.state.plain k)
+      → StandsAfter n ps names p e new
+  end_stands ends held bytes shown = by_number (end_set ends held bytes shown)

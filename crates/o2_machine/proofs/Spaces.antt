@@ -6,6 +6,8 @@ use Rattle.o2_isa.specs.declared.cpu.Cpu.{Cpu}
 use Rattle.o2_isa.specs.View.{View, Hold, simple_view, bound_registers}
 use Rattle.o2_bus.specs.declared.plain.Plain.{Plain}
 use Rattle.o2_bus.specs.Plain.{held_in, bytes_in, shown_in, plain_view}
+use Rattle.o2_world.specs.Holders.{process_at}
+use Rattle.o2_world.proofs.Numbers.{at_place_of}
 use Rattle.o2_world.specs.Map.{Map}
 use Rattle.o2_world.specs.World.{Process, Segment}
 use Rattle.o2_world.specs.Views.{holds_in, bytes_in as bytes_of, view_of}
@@ -61,7 +63,7 @@ number_back : (n : ℕ) → 0 < n → (n - 1) + 1 ≡ n
 number_back n h = omega arith
 
 pub process_is : (procs : List Proc) (plain : Plain) (ps : List Process) (n : ℕ) (q : Proc) (p : Process) → 0 < n → n - 1 < length procs → q ≡ slice_index_or procs (n - 1) q
-    → ((i : ℕ) → IsAt (slice_get procs i) (held_in plain (i + 1)) (slice_get ps i)) → slice_get ps (n - 1) ≡ Some p → IsProcess q (held_in plain n) p
+    → ((i : ℕ) → IsAt (slice_get procs i) (held_in plain (i + 1)) (slice_get ps i)) → process_at ps n ≡ Some p → IsProcess q (held_in plain n) p
 process_is procs plain ps n q p some below there each at =
-    let here = at_both _ _ _ q p (get_at procs (n - 1) q below ∙ ap Some (sym there)) at (each (n - 1)) in
+    let here = at_both _ _ _ q p (get_at procs (n - 1) q below ∙ ap Some (sym there)) (at_place_of ps n p at) (each (n - 1)) in
     subst (λ (k : ℕ). IsProcess q (held_in plain k) p) (number_back n some) here

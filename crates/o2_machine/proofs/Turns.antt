@@ -14,7 +14,8 @@ use Rattle.o2_world.specs.Effect.{effect, AsksInput}
 use Rattle.o2_world.specs.Text.{lines_text, line_text}
 use Rattle.o2_world.proofs.Quiet.{changed_plain, effect_quiet}
 use Rattle.o2_world.specs.Run.{process_after, before, step, plainly, is_over, any_lives, live_flags, console, last_line, next_dispatch}
-use Rattle.o2_world.proofs.Flags.{live_process, flags_after, flags_ended}
+use Rattle.o2_world.proofs.Budget.{step_runs}
+use Rattle.o2_world.proofs.Flags.{live_process, lives_some, flags_after, flags_ended}
 use Rattle.o2_run.specs.Turn.{StepsOn, StepsInPart, IsStopped, IsClosed, IsClosedInPart, Turns, Caused}
 use Rattle.o2_run.specs.Stops.{stop_line}
 use Rattle.o2_run.specs.declared.steps.Stop.{Stop}
@@ -85,12 +86,11 @@ module _ (m : Machine) (s : Setting) (w : World) (p : Process) (c d r q : Option
   next_is : next_dispatch s w ≡ next_of m.sched
   next_is = rw (stands.flags, stands.dispatch, stands.quantum) refl
 
-  step_is : step s w ≡ plainly w (next_of m.sched) p made
-  unfolding step
-  step_is = rw (next_is, at) (changed_plain w (next_of m.sched) p made (effect_quiet (before s w (next_of m.sched).current p)))
-
   runs : is_over w ≡ false
   runs = rw (any_is m s w true stands any, stands.dispatch, some) refl
+
+  step_is : step s w ≡ plainly w (next_of m.sched) p made
+  step_is = step_runs s w runs ∙ rw (next_is, at) (changed_plain w (next_of m.sched) p made (effect_quiet (before s w (next_of m.sched).current p)))
 
   console_of : console (step s w) ≡ console w ++ made.piece
   unfolding plainly
@@ -189,7 +189,7 @@ module _ (m : Machine) (s : Setting) (w : World) (number : ℕ) (c d r q : Optio
   ended_sched = record { dispatch = counted (next_of m.sched); flags = slice_set m.sched.flags (number - 1) false; quantum = m.sched.quantum }
 
   ended_flags : (e : Effect) (p : Process) → Rattle.o2_world.specs.World.is_live e.state ≡ false → live_flags (with_process w.processes k (process_after p e)) ≡ slice_set m.sched.flags (number - 1) false
-  ended_flags e p ends = flags_ended w.processes m.sched.flags k p e stands.flags ends ∙ ap (λ (z : ℕ). slice_set m.sched.flags (z - 1) false) is.number
+  ended_flags e p ends = flags_ended w.processes m.sched.flags k p e (lives_some m.sched.flags k (ap (lives m.sched.flags) is.number ∙ live)) stands.flags ends ∙ ap (λ (z : ℕ). slice_set m.sched.flags (z - 1) false) is.number
 
   pub over : (i : Option (List ℕ)) (n : Machine) (left : Space) (tally : Tally) → HasCounted m n left tally → ((p : Process) → process_at w.processes number ≡ Some p → p.state ≡ Live → ActsAll number w.processes w.names p (effect (before s w number p)) tally left i c d r q false)
       → n.sched ≡ ended_sched → StepsOn (StandsFor n s) false s w i c d r q

@@ -8,7 +8,7 @@ use Rattle.o2_outer.specs.Texts.{Gains, GainsSome, IsPrefix}
 use Rattle.o2_world.specs.World.{World, Setting}
 use Rattle.o2_world.specs.Text.{lines_text}
 use Rattle.o2_world.specs.Starts.{Built, all_started, world_of, opening_of}
-use Rattle.o2_load.specs.Loads.{starts_of}
+use Rattle.o2_load.specs.Loads.{starts_of, library_ranges}
 use Rattle.o2_machine.specs.declared.fault.BeginFault.{BeginFault}
 use Rattle.o2_machine.specs.declared.fault.BeginFault.TheVariants as begin_fault
 use Rattle.o2_machine.specs.declared.machine.Machine.{Machine}
@@ -23,18 +23,18 @@ abbrev pub starting : LinkedParts → Conf → Result Built (ℕ × ModuleFault)
 starting l c = all_started c.segments (starts_of l 1 c.process)
 
 -- the world that they open, with this input
-abbrev pub first_world : Conf → List ℕ → Built → World
-first_world c input b = world_of (map slice_of c.script) c.budget input b
+abbrev pub first_world : LinkedParts → Conf → List ℕ → Built → World
+first_world l c input b = world_of (library_ranges l) (map slice_of c.script) c.budget input b
 
 -- the world before the first step, or the process that is refused, and why
 abbrev pub opening : LinkedParts → Conf → List ℕ → Result World (ℕ × ModuleFault)
-opening l c input = opening_of (setting_of c) (map slice_of c.script) input (starts_of l 1 c.process)
+opening l c input = opening_of (setting_of c) (library_ranges l) (map slice_of c.script) input (starts_of l 1 c.process)
 
 -- all processes have started, and the lines of their starts are put
 pub record HasBegun (m : Machine) (l : LinkedParts) (c : Conf) (report_old report_new : Option (List ℕ)) : Type 0 where
   pub built : Built
   pub starts : starting l c ≡ Ok built
-  pub stands : (input : List ℕ) → StandsFor m (setting_of c) (first_world c input built)
+  pub stands : (input : List ℕ) → StandsFor m (setting_of c) (first_world l c input built)
   pub fresh : m.last ≡ None
   pub to_report : Gains report_old report_new (lines_text built.lines)
 

@@ -1,9 +1,10 @@
 -- A run has no more steps than its budget.
-use Rattle.std.proofs.Common.{◌≡◌, ℕ, zero, suc, ◌+◌, ◌<◌, ◌≤◌, Bool, true, false, not, ◌||◌, ◌==◌, nat_lt, ◌&&◌, if◌then◌else◌, List, [], ◌∷◌, Option, Some, sym, ◌∙◌, refl, arith, subst, below_more}
+use Rattle.std.proofs.Common.{◌≡◌, ℕ, zero, suc, ◌+◌, ◌<◌, ◌≤◌, Bool, true, false, not, ◌||◌, ◌==◌, nat_lt, ◌&&◌, if◌then◌else◌, List, [], ◌∷◌, Option, Some, ap, sym, ◌∙◌, refl, arith, subst, below_more}
 use Rattle.o2_world.specs.World.{World, Setting, Process}
 use Rattle.o2_conf.specs.Dispatch.{Dispatch, dispatched, started, live_script, lives}
 use Rattle.o2_world.specs.Effect.{effect}
-use Rattle.o2_world.specs.Run.{plainly, before, acted, step, after, is_over, any_lives, live_flags, next_dispatch, steps_done, IsLast}
+use Rattle.o2_world.specs.Run.{plainly, before, acted, step, chosen_step, after, is_over, any_lives, live_flags, next_dispatch, steps_done, IsLast}
+use Rattle.o2_world.proofs.MapLemmas.{if_no}
 use Rattle.o2_world.proofs.Choice.{chosen_lives}
 use Rattle.o2_world.proofs.Quiet.{changed_plain, effect_quiet}
 use Rattle.o2_world.proofs.Flags.{live_process}
@@ -22,7 +23,7 @@ dispatched_budget quantum flags d = either_budget (nat_lt 0 d.left && lives flag
 not_both : (b : Bool) → b ≡ true → b ≡ false → ⊥
 not_both b e f = cc
 
-not_over : (b : Bool) (n : ℕ) → (not b || (n == 0)) ≡ false → (b ≡ true) × (0 < n)
+pub not_over : (b : Bool) (n : ℕ) → (not b || (n == 0)) ≡ false → (b ≡ true) × (0 < n)
 not_over true n e = (refl, grind arith)
 not_over false n e = absurd (cc)
 
@@ -30,8 +31,11 @@ acted_budget : (s : Setting) (w : World) (d : Dispatch) (p : Process) → 0 < d.
 unfolding plainly
 acted_budget s w d p h = rw (changed_plain w d p (effect (before s w d.current p)) (effect_quiet (before s w d.current p))) (omega arith)
 
-step_budget : (s : Setting) (w : World) → is_over w ≡ false → (step s w).dispatch.budget + 1 ≡ w.dispatch.budget
+pub step_runs : (s : Setting) (w : World) → is_over w ≡ false → step s w ≡ chosen_step s w
 unfolding step
+step_runs s w runs = if_no (is_over w) w (chosen_step s w) runs
+
+step_budget : (s : Setting) (w : World) → is_over w ≡ false → (step s w).dispatch.budget + 1 ≡ w.dispatch.budget
 step_budget s w e =
     let runs = not_over (any_lives w.processes) w.dispatch.budget e in
     let d : Dispatch = next_dispatch s w in
@@ -39,7 +43,7 @@ step_budget s w e =
     let lives_here : lives (live_flags w.processes) d.current ≡ true = chosen_lives s.quantum (live_flags w.processes) w.dispatch runs.0 in
     let here = live_process w.processes (live_flags w.processes) d.current refl lives_here in
     let P : Option Process → Type 0 = λ o. (acted s w d o).dispatch.budget + 1 ≡ w.dispatch.budget in
-    subst P (sym here.1) (acted_budget s w d here.0 (omega (arith, same, runs.1)) ∙ same)
+    ap (λ (v : World). v.dispatch.budget + 1) (step_runs s w e) ∙ subst P (sym here.1) (acted_budget s w d here.0 (omega (arith, same, runs.1)) ∙ same)
 
 pub budget_after : (s : Setting) (w : World) (k : ℕ) → ((j : ℕ) → j < k → is_over (after s w j) ≡ false) → (after s w k).dispatch.budget + k ≡ w.dispatch.budget
 budget_after s w zero runs = omega arith

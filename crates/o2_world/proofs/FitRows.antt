@@ -17,8 +17,8 @@ use Rattle.o2_world.specs.Sound.{held_of, held_in, NamesHeld, HasGoodRegisters}
 use Rattle.o2_world.specs.Run.{worked, working}
 use Rattle.o2_world.specs.Tied.{HasSize, AreOne, IsTied, IsUnnamed, IsFitHold, IsFitDrop, AreFitChanges}
 use Rattle.o2_world.proofs.Keeps.{at_other}
-use Rattle.o2_world.proofs.Reached.{if_yes, if_no, set-place}
-use Rattle.o2_world.proofs.StepReach.{same_map}
+use Rattle.o2_world.proofs.MapLemmas.{if_yes, if_no}
+use Rattle.o2_world.proofs.StepReach.{same_at, own_at}
 use Rattle.o2_world.proofs.TiedChanges.{zeros_length}
 
 full_is : (size : ℕ) → size < 65536 → (0 < full_size size) × (full_size size ≤ 65536)
@@ -61,8 +61,8 @@ module _ (w : World) (d : Dispatch) (p : Process) (e : Effect) (size flags i : �
     lives = ap is_some (if_yes (w.next_name == w.next_name) (Some (made_segment size flags)) (get (with_bytes w.names e.bytes) w.next_name) (same w.next_name));
     some = omega arith;
     clean = λ s g c. absurd (not_clean s (sym (if_yes (w.next_name == w.next_name) (Some (made_segment size flags)) (get (with_bytes w.names e.bytes) w.next_name) (same w.next_name)) ∙ g) c);
-    goes_on = λ x there. live_here x (sym (set-place (d.current - 1) (d.current - 1) (working p e) w.processes p at ∙ if_yes (d.current - 1 == d.current - 1) (Some (working p e)) (slice_get w.processes (d.current - 1)) (same (d.current - 1))) ∙ there);
-    one = λ place k big there. absurd (nobody w.processes place i k (either_false (holds_index w.processes i) _ (free big)) (sym (same_map w.processes (d.current - 1) p (working p e) place i at refl) ∙ there));
+    goes_on = λ x there. live_here x (sym (own_at w.processes d.current p (working p e) at) ∙ there);
+    one = λ place k big there. absurd (nobody w.processes place i k (either_false (holds_index w.processes i) _ (free big)) (sym (same_at w.processes d.current p (working p e) place i at refl) ∙ there));
   }
     where
       not_clean : (s : Segment) → Some (made_segment size flags) ≡ Some s → s.clean ≡ true → ⊥
@@ -130,7 +130,7 @@ module _ (p : Process) (b : Before) (i next : ℕ) (cpu : b.cpu ≡ p.cpu) (good
     where
       here : x ≡ working p e
       here =
-          let a : Some (working p e) ≡ Some x = sym (set-place (d.current - 1) (d.current - 1) (working p e) w.processes p at ∙ if_yes (d.current - 1 == d.current - 1) (Some (working p e)) (slice_get w.processes (d.current - 1)) (same (d.current - 1))) ∙ there in
+          let a : Some (working p e) ≡ Some x = sym (own_at w.processes d.current p (working p e) at) ∙ there in
           cc
 
       go : ((h : Held) → get p.held i ≡ Some h → 1 < h.holds) ⊎ (is_last (get p.held i) ≡ true) → ((h : Held) → get x.held i ≡ Some h → 1 < h.holds) ⊎ IsUnnamed x.cpu i

@@ -17,11 +17,13 @@ use Rattle.o2_isa.specs.Steps.{State as Machine, state, run}
 use Rattle.o2_isa.specs.Step.{stepped, steps_at}
 use Rattle.o2_isa.proofs.SpelledLoads.{stepped_ruled}
 use Rattle.o2_world.specs.declared.types.Argument.{Argument}
+use Rattle.o2_world.specs.declared.types.Row.{Row}
+use Rattle.o2_world.specs.declared.types.Row.TheVariants.{DosExit, DosGetPid, DosRead, DosWrite, DosMemAvail}
 use Rattle.o2_world.specs.declared.types.State.{State}
 use Rattle.o2_world.specs.Map.{Map, get}
 use Rattle.o2_world.specs.World.{World, Setting, Process, Segment, Held, is_live}
 use Rattle.o2_world.specs.Views.{hold_of, holds_in, view_of}
-use Rattle.o2_world.specs.Calls.{Before, Effect, trapped, returned, argument, has_arguments, may_read, may_write, is_console, written, dos_write, dos_exit, told_at, told, may_take, read_from, dos_read, serviced}
+use Rattle.o2_world.specs.Calls.{Before, Effect, trapped, returned, argument, has_arguments, may_read, may_write, is_console, written, dos_write, dos_exit, told_at, told, may_take, read_from, dos_read, row_of, served_by}
 use Rattle.o2_world.specs.Effect.{has_trap_flag, answered, single_stepped, effect}
 use Rattle.o2_world.specs.Run.{before}
 use Rattle.o2_world.specs.Sound.{has_rights, NamesHeld, HasGoodRegisters}
@@ -141,12 +143,13 @@ told_keeps : (b : Before) (next : ℕ) (name part : List ℕ) (values : List Arg
 unfolding told
 told_keeps b next name part values = either b.cpu (has_arguments b.view b.cpu 2) _ _ (told_at_keeps b next name part values _ _) (traps b 12)
 
-serviced_keeps : (b : Before) (service next : ℕ) → Keeps b.cpu (serviced b service next)
-serviced_keeps b service next =
-    either b.cpu (service == 1) _ _ (exit_keeps b)
-    (either b.cpu (service == 2) _ _ (told_keeps b next _ _ _)
-    (either b.cpu (service == 3) _ _ (read_keeps b next)
-    (either b.cpu (service == 19) _ _ (told_keeps b next _ _ _) (write_keeps b next))))
+served_keeps : (row : Option Row) (b : Before) (next : ℕ) → Keeps b.cpu (served_by row b next)
+served_keeps None b next = traps b 13
+served_keeps (Some DosExit) b next = exit_keeps b
+served_keeps (Some DosGetPid) b next = told_keeps b next _ _ _
+served_keeps (Some DosRead) b next = read_keeps b next
+served_keeps (Some DosWrite) b next = write_keeps b next
+served_keeps (Some DosMemAvail) b next = told_keeps b next _ _ _
 
 kept_ruled : (v : View) (c : Cpu) (e : Effect) → Keeps c e → LoadsByRules v c e.cpu
 kept_ruled v c e k Es = inl k.selectors.es
@@ -157,7 +160,7 @@ kept_ruled v c e k Ds = inl k.selectors.ds
 answered_ruled : (b : Before) (r : Result Machine Stop) → stepped (state b.cpu b.view) ≡ r → LoadsByRules b.view b.cpu (answered b r).cpu
 answered_ruled b (Ok s) e = stepped_ruled outcome.Done s (state b.cpu b.view) e
 answered_ruled b (Err (stop.Trap vector code)) e = kept_ruled b.view b.cpu _ (traps b vector)
-answered_ruled b (Err (stop.Gate service next)) e = kept_ruled b.view b.cpu _ (serviced_keeps b service next)
+answered_ruled b (Err (stop.Gate service next)) e = kept_ruled b.view b.cpu _ (served_keeps (row_of service) b next)
 answered_ruled b (Err (stop.Miss s)) e = kept_ruled b.view b.cpu _ (traps b 11)
 
 picked_ruled : (v : View) (c : Cpu) (t : Bool) (e f : Effect) → LoadsByRules v c e.cpu → LoadsByRules v c f.cpu → LoadsByRules v c (cond t e f).cpu

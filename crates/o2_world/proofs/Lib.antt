@@ -1,4 +1,8 @@
 pub mod MapLemmas
+pub mod Numbers
+pub mod Staying
+pub mod Sizes
+pub mod Rows
 pub mod Choice
 pub mod Flags
 pub mod Quiet
@@ -13,5 +17,10 @@ pub mod GoodRegisters
 pub mod Keeps
 pub mod HoldingMaps
 pub mod OpeningSound
+pub mod OpeningTied
+pub mod OpeningTold
+pub mod Openings
+pub mod StepSound
+pub mod StepTold
 pub mod Holding
 pub mod Budget

@@ -4,6 +4,14 @@ use Rattle.std.specs.Prelude.{filter, map, option_map}
 use Rattle.std.specs.List.{list_any}
 use Rattle.o2_world.specs.Map.{Map, get}
 
+pub if_yes : {X : Type 0} (b : Bool) (x y : X) → b ≡ true → (if b then x else y) ≡ x
+if_yes true x y e = refl
+if_yes false x y e = absurd (cc)
+
+pub if_no : {X : Type 0} (b : Bool) (x y : X) → b ≡ false → (if b then x else y) ≡ y
+if_no true x y e = absurd (cc)
+if_no false x y e = refl
+
 filtered : {X : Type 0} (p : ℕ → Bool) (k q : ℕ) (v : X) (es fs : Map X) → get fs q ≡ (if p q then get es q else None)
     → get (cond (p k) ((k, v) ∷ fs) fs) q ≡ (if p q then (if k == q then Some v else get es q) else None)
 filtered p k q v es fs ih = grind arith

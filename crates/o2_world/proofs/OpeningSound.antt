@@ -1,6 +1,7 @@
 -- The world before the first step is sound.
 use Rattle.std.proofs.Common.{◌≡◌, ◌⊎◌, ℕ, zero, suc, ◌+◌, ◌*◌, ◌/◌, ◌%◌, ◌<◌, Bool, true, false, cond, ◌==◌, ◌||◌, ◌&&◌, List, [], ◌∷◌, ◌++◌, length, Option, Some, None, ap, sym, ◌∙◌, refl, arith, subst, inl, inr}
 use Rattle.std.specs.Prelude.{is_some, slice_get, option_map, not, nat_lt, fold, Result, Ok, Err}
+use Rattle.std.specs.List.{All}
 use Rattle.std.proofs.lemmas.List.Elements.{All-head, All-tail}
 use Rattle.std.proofs.lemmas.Map.Keys.{IsDistinct-head, IsDistinct-tail}
 use Rattle.o2_base.specs.declared.faults.ModuleFault.{ModuleFault}
@@ -9,12 +10,12 @@ use Rattle.o2_isa.specs.View.{is_code, is_readable, is_writable, is_null, is_loc
 use Rattle.o2_world.specs.declared.types.Made.{Made}
 use Rattle.o2_world.specs.declared.types.State.TheVariants.{Live}
 use Rattle.o2_world.specs.Map.{Map, get}
-use Rattle.o2_world.specs.World.{World, Setting, Process, Segment, Held, is_live}
+use Rattle.o2_world.specs.World.{World, Setting, Process, Segment, Held, Reserve, is_live}
 use Rattle.o2_world.specs.Holders.{holds_name, is_held}
 use Rattle.o2_world.specs.Opening.{selector_of, held_by_load}
-use Rattle.o2_world.specs.Starts.{Loaded, LoadedSegment, Start, Holding, Built, holdings, nth_loaded, image_size, stack_number, data_selector, first_cpu, is_stack, is_entry, start_check, nothing_built, segment_of, name_in, made_with, holds_as, with_holding, with_holdings, with_started, within_names, where_checked, next_started, all_started, where_started, opening_of}
-use Rattle.o2_world.specs.Sound.{IsSound, IsSoundFor, HasGoodRegisters, NamesHeld, has_rights, held_in}
-use Rattle.o2_world.specs.FitStarts.{IsFit, AreFit}
+use Rattle.o2_world.specs.Starts.{Loaded, LoadedSegment, Start, Holding, Built, holdings, nth_loaded, image_size, stack_number, data_selector, first_cpu, first_process, is_stack, is_entry, start_check, nothing_built, segment_of, name_in, made_with, holds_as, with_holding, with_holdings, with_started, within_names, where_checked, next_started, all_started, where_started, world_of}
+use Rattle.o2_world.specs.Sound.{HasGoodRegisters, NamesHeld, has_rights, held_in}
+use Rattle.o2_world.specs.FitStarts.{IsFit}
 use Rattle.o2_world.proofs.Holding.{under}
 use Rattle.o2_world.proofs.Keeps.{some_is, holds_found}
 use Rattle.o2_world.proofs.HoldingMaps.{rights_in, indexes_of, AreApart, Adds, adds, none_after, all_indexes, program_held}
@@ -49,16 +50,16 @@ or_more : (a b c : Bool) → (b ≡ true → c ≡ true) → (a || b) ≡ true �
 or_more true b c f e = refl
 or_more false b c f e = f e
 
-same_number : (n : ℕ) → (n == n) ≡ true
+pub same_number : (n : ℕ) → (n == n) ≡ true
 same_number n = grind arith
 
-equal : (i j : ℕ) → (i == j) ≡ true → i ≡ j
+pub equal : (i j : ℕ) → (i == j) ≡ true → i ≡ j
 equal i j e = grind arith
 
 -- One segment more.
 
 -- what is there under an index, once another index is put in front
-beside : {X : Type 0} (m : Map X) (i j : ℕ) (x h : X) → get m i ≡ None → get m j ≡ Some h → get ((i, x) ∷ m) j ≡ Some h
+pub beside : {X : Type 0} (m : Map X) (i j : ℕ) (x h : X) → get m i ≡ None → get m j ≡ Some h → get ((i, x) ∷ m) j ≡ Some h
 beside m i j x h fresh e = go (i == j) refl
   where
     go : (t : Bool) → (i == j) ≡ t → cond t (Some x) (get m j) ≡ Some h
@@ -97,7 +98,7 @@ hold_stands b names next made i x selectors s grows only there holds common fres
     by_name q (inl e) = or_more (is_held b.processes q) (holds_name b.held q) _ (still_held b.held i x q fresh) (s.named q e)
     by_name q (inr e) = or_second (is_held b.processes q) _ (subst (λ (n : ℕ). holds_name ((i, x) ∷ b.held) n ≡ true) e (now_held b.held i x))
 
-made_more : (ms : List Made) (m : Made) (place number name : ℕ) → name_in (ms ++ m ∷ []) place number ≡ Some name → (name_in ms place number ≡ Some name) ⊎ (m.name ≡ name)
+pub made_more : (ms : List Made) (m : Made) (place number name : ℕ) → name_in (ms ++ m ∷ []) place number ≡ Some name → (name_in ms place number ≡ Some name) ⊎ (m.name ≡ name)
 made_more [] m place number name e = go ((m.place == place) && (m.number == number)) e
   where
     go : (t : Bool) → cond t (Some m.name) None ≡ Some name → (◌≡◌ {A = Option ℕ} None (Some name)) ⊎ (m.name ≡ name)
@@ -161,13 +162,13 @@ holding_stands b h s fresh = holds_as_stands b h _ s fresh (λ name e. go name h
 -- All segments of a process.
 
 -- none of the indexes of these segments is taken
-abbrev AreFree : Map Held → List Holding → Type 0
+abbrev pub AreFree : Map Held → List Holding → Type 0
 AreFree held hs = (q : ℕ) → is_some (rights_in hs q) ≡ true → get held q ≡ None
 
-free_head : (b : Built) (h : Holding) (hs : List Holding) → AreFree b.held (h ∷ hs) → get b.held h.index ≡ None
+pub free_head : (b : Built) (h : Holding) (hs : List Holding) → AreFree b.held (h ∷ hs) → get b.held h.index ≡ None
 free_head b h hs free = free h.index (ap (λ (t : Bool). is_some (cond t (Some h.rights) (rights_in hs h.index))) (same_number h.index))
 
-free_tail : (b : Built) (h : Holding) (hs : List Holding) → AreApart (indexes_of (h ∷ hs)) → AreFree b.held (h ∷ hs) → AreFree (with_holding b h).held hs
+pub free_tail : (b : Built) (h : Holding) (hs : List Holding) → AreApart (indexes_of (h ∷ hs)) → AreFree b.held (h ∷ hs) → AreFree (with_holding b h).held hs
 free_tail b h hs d free q e = ap (λ (m : Map Held). get m q) x.held ∙ go (h.index == q) refl
   where
     x : Adds b h (with_holding b h)
@@ -243,7 +244,7 @@ selector_named b pid s p ok n fit same x =
 
 start_registers : (b : Built) (pid : ℕ) (s : Start) (p : Process) → IsFit s → PassesCheck s.program → p.cpu ≡ first_cpu s → p.held ≡ (with_holdings b (holdings pid s)).held → HasGoodRegisters p
 start_registers b pid s p fit c cpu held =
-    subst (λ (x : Process). HasGoodRegisters x) (sym (ap (λ z. record { cpu = z; state = p.state; held = p.held }) cpu))
+    subst (λ (x : Process). HasGoodRegisters x) (sym (ap (λ z. record p { cpu = z }) cpu))
     record {
       cs = named_by is_code s.program.cs (entry_is s.program.ip _ c.entry);
       cs_ring = ring_selector s.program.cs;
@@ -263,7 +264,7 @@ start_registers b pid s p fit c cpu held =
 
 -- A process has started.
 
-behind : (ps : List Process) (p : Process) (place i : ℕ) (h : Held) → held_in (ps ++ p ∷ []) place i ≡ Some h → (held_in ps place i ≡ Some h) ⊎ (get p.held i ≡ Some h)
+pub behind : (ps : List Process) (p : Process) (place i : ℕ) (h : Held) → held_in (ps ++ p ∷ []) place i ≡ Some h → (held_in ps place i ≡ Some h) ⊎ (get p.held i ≡ Some h)
 behind [] p zero i h e = inr e
 behind [] p (suc place) i h e = inl e
 behind (a ∷ ps) p zero i h e = inl e
@@ -283,11 +284,11 @@ held_behind (a ∷ ps) p q e = go (holds_name a.held q) e (held_behind ps p q)
     go true e below = refl
     go false e below = below e
 
-either_of : {A B : Type 0} {P : Type 0} → A ⊎ B → (A → P) → (B → P) → P
+pub either_of : {A B : Type 0} {P : Type 0} → A ⊎ B → (A → P) → (B → P) → P
 either_of (inl a) f g = f a
 either_of (inr b) f g = g b
 
-started_stands : (pid : ℕ) (s : Start) (b : Built) → Stands b → HasGoodRegisters (record { cpu = first_cpu s; state = Live; held = b.held }) → Stands (with_started pid s b)
+started_stands : (pid : ℕ) (s : Start) (b : Built) → Stands b → HasGoodRegisters (first_process s b.held) → Stands (with_started pid s b)
 started_stands pid s b stands good = record {
   held = λ place i h e. either_of (behind b.processes new place i h e) (stands.held place i h) (stands.so_far i h);
   so_far = λ i h e. nothing h e;
@@ -298,53 +299,83 @@ started_stands pid s b stands good = record {
 }
   where
     new : Process
-    new = record { cpu = first_cpu s; state = Live; held = b.held }
+    new = first_process s b.held
 
     nothing : (h : Held) → ◌≡◌ {A = Option Held} None (Some h) → (is_some (get b.names h.name) ≡ true) × (0 < h.holds)
     nothing h e = cc
 
 -- All processes start.
 
-record IsBetween (b : Built) : Type 0 where
+pub record IsBetween (b : Built) : Type 0 where
   pub stands : Stands b
   pub nothing : b.held ≡ []
 
-abbrev SoFar : Result Built (ℕ × ModuleFault) → Type 0
-SoFar (Ok b) = IsBetween b
-SoFar (Err fault) = Unit {0}
+-- What each start keeps holds once all have started.
 
-within_so_far : (most pid : ℕ) (s : Start) (b : Built) (t : Bool) → Stands b → HasGoodRegisters (record { cpu = first_cpu s; state = Live; held = b.held })
-    → SoFar (cond t (Err (pid, NoSegment)) (Ok (with_started pid s b)))
-within_so_far most pid s b true stands good = tt
-within_so_far most pid s b false stands good = record { stands = started_stands pid s b stands good; nothing = refl }
+abbrev pub SoFar : (Built → Type 0) → Result Built (ℕ × ModuleFault) → Type 0
+SoFar P (Ok b) = P b
+SoFar P (Err fault) = Unit {0}
 
-free_at_first : (held : Map Held) (hs : List Holding) → held ≡ [] → AreFree held hs
+-- a start that is not refused keeps it
+abbrev pub Keeps : (Built → Type 0) → (Start → Type 0) → Type 0
+Keeps P Q = (b : Built) (s : Start) (u : Unit {0}) → start_check s.program ≡ Ok u → Q s → P b → P (with_started (length b.processes + 1) s (with_holdings b (holdings (length b.processes + 1) s)))
+
+within_so_far : (P : Built → Type 0) (pid : ℕ) (s : Start) (b : Built) (t : Bool) → P (with_started pid s b) → SoFar P (cond t (Err (pid, NoSegment)) (Ok (with_started pid s b)))
+within_so_far P pid s b true h = tt
+within_so_far P pid s b false h = h
+
+checked_so_far : (P : Built → Type 0) (Q : Start → Type 0) (most : ℕ) (s : Start) (b : Built) (c : Result (Unit {0}) ModuleFault) → start_check s.program ≡ c → Keeps P Q → Q s → P b
+    → SoFar P (where_checked (length b.processes + 1) c (within_names most (length b.processes + 1) s (with_holdings b (holdings (length b.processes + 1) s))))
+checked_so_far P Q most s b (Err fault) is keeps q p = tt
+checked_so_far P Q most s b (Ok u) is keeps q p =
+    let c : Built = with_holdings b (holdings (length b.processes + 1) s) in
+    within_so_far P (length b.processes + 1) s c (nat_lt most c.next_name) (keeps b s u is q p)
+
+next_so_far : (P : Built → Type 0) (Q : Start → Type 0) (most : ℕ) (r : Result Built (ℕ × ModuleFault)) (s : Start) → Keeps P Q → Q s → SoFar P r → SoFar P (next_started most r s)
+next_so_far P Q most (Err fault) s keeps q so_far = tt
+next_so_far P Q most (Ok b) s keeps q so_far = checked_so_far P Q most s b (start_check s.program) refl keeps q so_far
+
+pub all_so_far : (P : Built → Type 0) (Q : Start → Type 0) (most : ℕ) (starts : List Start) (r : Result Built (ℕ × ModuleFault)) → Keeps P Q → All Q starts → SoFar P r → SoFar P (fold (next_started most) r starts)
+all_so_far P Q most [] r keeps all so_far = so_far
+all_so_far P Q most (s ∷ starts) r keeps all so_far =
+    all_so_far P Q most starts (next_started most r s) keeps (All-tail Q s starts all) (next_so_far P Q most r s keeps (All-head Q s starts all) so_far)
+
+-- what holds of the starts holds of the world that they open
+pub opened : (R : World → Type 0) (P : Built → Type 0) (reserved : List (ℕ × ℕ)) (script : List (ℕ × ℕ)) (budget : ℕ) (input : List ℕ) (r : Result Built (ℕ × ModuleFault)) (w : World)
+    → ((b : Built) → P b → R (world_of reserved script budget input b)) → SoFar P r → where_started reserved script budget input r ≡ Ok w → R w
+opened R P reserved script budget input (Err fault) w opens so_far e = absurd (cc)
+opened R P reserved script budget input (Ok b) w opens so_far e = subst R (ap world_in e) (opens b so_far)
+  where
+    world_in : Result World (ℕ × ModuleFault) → World
+    world_in (Ok x) = x
+    world_in (Err fault) = w
+
+-- Here: who holds what, and registers.
+
+pub free_at_first : (held : Map Held) (hs : List Holding) → held ≡ [] → AreFree held hs
 free_at_first held hs none q e = ap (λ (m : Map Held). get m q) none
 
-checked_so_far : (most pid : ℕ) (s : Start) (b : Built) (c : Result (Unit {0}) ModuleFault) → start_check s.program ≡ c → (s.program.library ≡ false → IsFit s) → IsBetween b
-    → SoFar (where_checked pid c (within_names most pid s (with_holdings b (holdings pid s))))
-checked_so_far most pid s b (Err fault) is fit between = tt
-checked_so_far most pid s b (Ok u) is fit between =
+abbrev pub IsFitProgram : Start → Type 0
+IsFitProgram s = s.program.library ≡ false → IsFit s
+
+-- no index of what a process that starts holds is taken, and none is twice
+pub apart : (pid : ℕ) (s : Start) (u : Unit {0}) → start_check s.program ≡ Ok u → IsFitProgram s → AreApart (indexes_of (holdings pid s))
+apart pid s u is fit = subst AreApart (sym (all_indexes pid s)) (fit (passes s.program u is).program).distinct
+
+pub between_kept : Keeps IsBetween IsFitProgram
+between_kept b s u is fit between =
+    let pid : ℕ = length b.processes + 1 in
     let c = passes s.program u is in
-    let f = fit c.program in
     let hs = holdings pid s in
-    let d : AreApart (indexes_of hs) = subst AreApart (sym (all_indexes pid s)) f.distinct in
-    let c_held = with_holdings b hs in
-    within_so_far most pid s c_held (nat_lt most c_held.next_name) (all_stand hs b d (free_at_first b.held hs between.nothing) between.stands)
-    (start_registers b pid s (record { cpu = first_cpu s; state = Live; held = c_held.held }) f c refl refl)
+    let held = with_holdings b hs in
+    record {
+      stands = started_stands pid s held (all_stand hs b (apart pid s u is fit) (free_at_first b.held hs between.nothing) between.stands)
+          (start_registers b pid s (first_process s held.held) (fit c.program) c refl refl);
+      nothing = refl;
+    }
 
-next_so_far : (most : ℕ) (r : Result Built (ℕ × ModuleFault)) (s : Start) → (s.program.library ≡ false → IsFit s) → SoFar r → SoFar (next_started most r s)
-next_so_far most (Err fault) s fit so_far = tt
-next_so_far most (Ok b) s fit so_far = checked_so_far most (length b.processes + 1) s b (start_check s.program) refl fit so_far
-
-all_so_far : (most : ℕ) (starts : List Start) (r : Result Built (ℕ × ModuleFault)) → AreFit starts → SoFar r → SoFar (fold (next_started most) r starts)
-all_so_far most [] r fit so_far = so_far
-all_so_far most (s ∷ starts) r fit so_far =
-    all_so_far most starts (next_started most r s) (All-tail (λ (x : Start). x.program.library ≡ false → IsFit x) s starts fit)
-    (next_so_far most r s (All-head (λ (x : Start). x.program.library ≡ false → IsFit x) s starts fit) so_far)
-
-at_first : IsBetween nothing_built
-at_first = record {
+pub between_first : IsBetween nothing_built
+between_first = record {
   stands = record {
     held = λ place i h e. absurd (cc);
     so_far = λ i h e. absurd (cc);
@@ -361,25 +392,6 @@ unfolding holds_name
 holds_nothing held true q none e = refl
 holds_nothing held false q none e = let no : false ≡ true = ap (λ (m : Map Held). holds_name m q) (sym none) ∙ e in cc
 
-sound_between : (b : Built) → IsBetween b → IsSoundFor b.processes b.names
-sound_between b between = record {
-  held = between.stands.held;
-  named = λ q e. holds_nothing b.held (is_held b.processes q) q between.nothing (between.stands.named q e);
-  ended = λ place p e ends. not_both (is_live p.state) (between.stands.live place p e) ends;
-  registers = λ place p e lives. between.stands.registers place p e;
-}
-
-opened : (script : List (ℕ × ℕ)) (budget : ℕ) (input : List ℕ) (r : Result Built (ℕ × ModuleFault)) (w : World) → SoFar r → where_started script budget input r ≡ Ok w → IsSound w
-opened script budget input (Err fault) w so_far e = cc
-opened script budget input (Ok b) w so_far e = subst (λ (x : World). IsSound x) (world_is (where_started script budget input (Ok b)) e) (sound_between b so_far)
-  where
-    world_in : Result World (ℕ × ModuleFault) → World
-    world_in (Ok x) = x
-    world_in (Err fault) = w
-
-    world_is : (r : Result World (ℕ × ModuleFault)) → r ≡ Ok w → world_in r ≡ w
-    world_is r e = ap world_in e
-
-pub opening_sound : (s : Setting) (script : List (ℕ × ℕ)) (input : List ℕ) (starts : List Start) (w : World) → AreFit starts → opening_of s script input starts ≡ Ok w → IsSound w
-unfolding all_started
-opening_sound s script input starts w fit e = opened script s.budget input (all_started s.segments starts) w (all_so_far s.segments starts (Ok nothing_built) fit at_first) e
+-- each live name is held
+pub named_between : (b : Built) → IsBetween b → (q : ℕ) → is_some (get b.names q) ≡ true → is_held b.processes q ≡ true
+named_between b between q e = holds_nothing b.held (is_held b.processes q) q between.nothing (between.stands.named q e)

@@ -1,5 +1,5 @@
 -- A step that changes nothing but bytes.
-use Rattle.std.proofs.Common.{◌≡◌, ℕ, zero, suc, ◌-◌, Bool, true, false, cond, ◌==◌, ◌&&◌, List, [], ◌∷◌, ◌++◌, Option, ap, sym, ◌∙◌, refl, length, slice_set}
+use Rattle.std.proofs.Common.{◌≡◌, ℕ, zero, suc, ◌-◌, Bool, true, false, cond, if◌then◌else◌, ◌==◌, ◌&&◌, List, [], ◌∷◌, ◌++◌, Option, Some, None, ap, sym, ◌∙◌, refl, length, slice_set}
 use Rattle.std.specs.Prelude.{Result, Ok, Err}
 use Rattle.o2_isa.specs.declared.cpu.Stop.{Stop}
 use Rattle.o2_isa.specs.declared.cpu.Stop.TheVariants as stop
@@ -7,10 +7,13 @@ use Rattle.o2_isa.specs.Steps.{State as Machine, state}
 use Rattle.o2_isa.specs.Step.{stepped}
 use Rattle.o2_conf.specs.Dispatch.{Dispatch}
 use Rattle.o2_world.specs.declared.types.Argument.{Argument}
+use Rattle.o2_world.specs.declared.types.Row.{Row}
+use Rattle.o2_world.specs.declared.types.Row.TheVariants.{DosExit, DosGetPid, DosRead, DosWrite, DosMemAvail}
 use Rattle.o2_world.specs.Map.{Map}
 use Rattle.o2_world.specs.World.{World, Process, Held, is_live}
-use Rattle.o2_world.specs.Changes.{Change, Finishes, at_place, with_all, with_changes, swept}
-use Rattle.o2_world.specs.Calls.{Before, Effect, trapped, returned, argument, has_arguments, may_read, may_write, is_console, written, dos_write, dos_exit, told_at, told, may_take, read_from, dos_read, serviced}
+use Rattle.o2_world.specs.Holders.{with_process}
+use Rattle.o2_world.specs.Changes.{Change, Finishes, at_place, at_number, with_all, with_changes, swept}
+use Rattle.o2_world.specs.Calls.{Before, Effect, trapped, returned, argument, has_arguments, may_read, may_write, is_console, written, dos_write, dos_exit, told_at, told, may_take, read_from, dos_read, row_of, served_by}
 use Rattle.o2_world.specs.Effect.{has_trap_flag, answered, single_stepped, effect}
 use Rattle.o2_world.specs.Run.{changed, plainly, worked}
 
@@ -18,6 +21,13 @@ set_then : {X : Type 0} (xs : List X) (i : ℕ) (x : X) (f : X → X) → at_pla
 set_then [] i x f = refl
 set_then (a ∷ xs) zero x f = refl
 set_then (a ∷ xs) (suc i) x f = ap (λ z. a ∷ z) (set_then xs i x f)
+
+then_at : (ps : List Process) (n : ℕ) (x : Process) (f : Process → Process) → at_number n f (with_process ps n x) ≡ with_process ps n (f x)
+then_at ps n x f = go (n == 0)
+  where
+    go : (b : Bool) → (if b then (if b then ps else slice_set ps (n - 1) x) else at_place (n - 1) f (if b then ps else slice_set ps (n - 1) x)) ≡ (if b then ps else slice_set ps (n - 1) (f x))
+    go true = refl
+    go false = set_then ps (n - 1) x f
 
 pub changed_plain : (w : World) (d : Dispatch) (p : Process) (e : Effect) → e.changes ≡ [] → changed w d p e ≡ plainly w d p e
 unfolding changed plainly with_changes
@@ -28,7 +38,7 @@ changed_plain w d p e quiet = go (is_live e.state) refl
 
     go : (b : Bool) → is_live e.state ≡ b → changed w d p e ≡ plainly w d p e
     go true is = rw (is, quiet) refl
-    go false is = rw (is, quiet) (ap (λ (ps : List Process). swept (record (worked w d p e) { processes = ps })) (set_then w.processes (d.current - 1) (record p { cpu = e.cpu }) f))
+    go false is = rw (is, quiet) (ap (λ (ps : List Process). swept (record (worked w d p e) { processes = ps })) (then_at w.processes d.current (record p { cpu = e.cpu }) f))
 
 either : (t : Bool) (e f : Effect) → e.changes ≡ [] → f.changes ≡ [] → (cond t e f).changes ≡ []
 either true e f h k = h
@@ -50,17 +60,18 @@ told_quiet : (b : Before) (next : ℕ) (name part : List ℕ) (values : List Arg
 unfolding told
 told_quiet b next name part values = either (has_arguments b.view b.cpu 2) _ _ (either (may_write b.view.held b.view.bytes (argument b.view b.cpu 1) (argument b.view b.cpu 0) (length part)) _ _ refl refl) refl
 
-serviced_quiet : (b : Before) (service next : ℕ) → (serviced b service next).changes ≡ []
-serviced_quiet b service next =
-    either (service == 1) _ _ (exit_quiet b)
-    (either (service == 2) _ _ (told_quiet b next _ _ _)
-    (either (service == 3) _ _ (read_quiet b next)
-    (either (service == 19) _ _ (told_quiet b next _ _ _) (write_quiet b next))))
+served_quiet : (row : Option Row) (b : Before) (next : ℕ) → (served_by row b next).changes ≡ []
+served_quiet None b next = refl
+served_quiet (Some DosExit) b next = exit_quiet b
+served_quiet (Some DosGetPid) b next = told_quiet b next _ _ _
+served_quiet (Some DosRead) b next = read_quiet b next
+served_quiet (Some DosWrite) b next = write_quiet b next
+served_quiet (Some DosMemAvail) b next = told_quiet b next _ _ _
 
 answered_quiet : (b : Before) (r : Result Machine Stop) → (answered b r).changes ≡ []
 answered_quiet b (Ok s) = refl
 answered_quiet b (Err (stop.Trap vector code)) = refl
-answered_quiet b (Err (stop.Gate service next)) = serviced_quiet b service next
+answered_quiet b (Err (stop.Gate service next)) = served_quiet (row_of service) b next
 answered_quiet b (Err (stop.Miss s)) = refl
 
 -- no call that is built changes anything but bytes

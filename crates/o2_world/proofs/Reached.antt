@@ -4,11 +4,12 @@ use Rattle.std.specs.Prelude.{slice_get, option_map, flat_map}
 use Rattle.std.specs.List.{list_any}
 use Rattle.o2_world.specs.Map.{Map, get, put}
 use Rattle.o2_world.specs.World.{World, Process, Segment, Held, Line, HoldsBy, DropsBy}
-use Rattle.o2_world.specs.Changes.{Change, Makes, Resizes, Locks, Marks, Holds, Drops, Finishes, Reserves, Frees, Names, more, fewer, fewer_of, at_place, with_change, with_changes, with_all, takes, key_of, among, in_order, hold_lines_of, drop_lines_of, moved_lines}
+use Rattle.o2_world.specs.Changes.{Change, Makes, Resizes, Locks, Marks, Holds, Drops, Finishes, Reserves, Frees, Names, more, fewer, fewer_of, at_place, at_number, with_change, with_changes, with_all, takes, key_of, among, in_order, hold_lines_of, drop_lines_of, moved_lines}
 use Rattle.o2_world.specs.Sound.{held_of, held_in}
 use Rattle.o2_world.specs.Opening.{selector_of}
 use Rattle.o2_world.specs.Reach.{is_pair, one_if, comes, goes, came, went, holds_of, holds_at, IsThere, CanTell, CanTellAll}
-use Rattle.o2_world.proofs.MapLemmas.{get-filter, none_there}
+use Rattle.o2_world.proofs.MapLemmas.{get-filter, none_there, if_yes, if_no}
+use Rattle.o2_world.proofs.Numbers.{not_zero, changed_is}
 
 -- Lines: a count is a sum over the lines, in any order.
 
@@ -190,22 +191,22 @@ put_then k i g o p e = rw e (get-put k i (g (get p.held k)) p.held)
 pub number_is : (p q : ℕ) → 0 < p → 0 < q → (p - 1 == q - 1) ≡ (p == q)
 number_is p q h k = grind arith
 
-selector_is : (i j : ℕ) → (selector_of i == selector_of j) ≡ (j == i)
+pub selector_is : (i j : ℕ) → (selector_of i == selector_of j) ≡ (j == i)
 selector_is i j = grind arith
 
-pub if_yes : {X : Type 0} (b : Bool) (x y : X) → b ≡ true → (if b then x else y) ≡ x
-if_yes true x y e = refl
-if_yes false x y e = absurd (cc)
+-- how often what is at a place holds
+abbrev pub place_holds : World → (p i : ℕ) → ℕ
+place_holds w p i = holds_of (held_in w.processes (p - 1) i)
 
-pub if_no : {X : Type 0} (b : Bool) (x y : X) → b ≡ false → (if b then x else y) ≡ y
-if_no true x y e = absurd (cc)
-if_no false x y e = refl
+pub number_holds : (w : World) (p i : ℕ) → 0 < p → holds_at w p i ≡ place_holds w p i
+number_holds w p i some = if_no (p == 0) 0 (place_holds w p i) (not_zero p some)
 
 -- how many are held, where a process is there
 put_holds : (w : World) (q j p i : ℕ) (g : Option Held → Option Held) → IsThere w q → 0 < p
-    → holds_of (held_in (at_place (q - 1) (λ (x : Process). record x { held = put j (g (get x.held j)) x.held }) w.processes) (p - 1) i)
-    ≡ (if p == q && j == i then holds_of (g (held_in w.processes (q - 1) j)) else holds_at w p i)
-put_holds w q j p i g there some = go (p - 1 == q - 1) refl
+    → holds_of (held_in (at_number q (λ (x : Process). record x { held = put j (g (get x.held j)) x.held }) w.processes) (p - 1) i)
+    ≡ (if p == q && j == i then holds_of (g (held_in w.processes (q - 1) j)) else place_holds w p i)
+put_holds w q j p i g there some =
+    ap (λ (ps : List Process). holds_of (held_in ps (p - 1) i)) (changed_is q (λ (x : Process). record x { held = f x.held }) w.processes there.0) ∙ go (p - 1 == q - 1) refl
   where
     f : Map Held → Map Held
     f m = put j (g (get m j)) m
@@ -216,11 +217,11 @@ put_holds w q j p i g there some = go (p - 1 == q - 1) refl
     at : held_in (at_place (q - 1) (λ (x : Process). record x { held = f x.held }) w.processes) (p - 1) i ≡ (if p - 1 == q - 1 then held_then f (slice_get w.processes (p - 1)) i else held_in w.processes (p - 1) i)
     at = held_at_place w.processes (q - 1) (p - 1) i f
 
-    one : (c : Bool) → holds_of (if c then g (held_in w.processes (q - 1) j) else held_in w.processes (q - 1) i) ≡ (if c then holds_of (g (held_in w.processes (q - 1) j)) else holds_at w q i)
+    one : (c : Bool) → holds_of (if c then g (held_in w.processes (q - 1) j) else held_in w.processes (q - 1) i) ≡ (if c then holds_of (g (held_in w.processes (q - 1) j)) else place_holds w q i)
     one true = refl
     one false = refl
 
-    go : (b : Bool) → (p - 1 == q - 1) ≡ b → holds_of (held_in (at_place (q - 1) (λ (x : Process). record x { held = f x.held }) w.processes) (p - 1) i) ≡ (if p == q && j == i then holds_of (g (held_in w.processes (q - 1) j)) else holds_at w p i)
+    go : (b : Bool) → (p - 1 == q - 1) ≡ b → holds_of (held_in (at_place (q - 1) (λ (x : Process). record x { held = f x.held }) w.processes) (p - 1) i) ≡ (if p == q && j == i then holds_of (g (held_in w.processes (q - 1) j)) else place_holds w p i)
     go true is =
         let same : p ≡ q = let a = there.0 in let b = number_is p q some a in grind (arith, is, b) in
         let yes : (p == q) ≡ true = sym (number_is p q some there.0) ∙ is in
@@ -240,19 +241,19 @@ went_balance : (b : Bool) (x new old lines n : ℕ) → x ≡ (if b then new els
 went_balance true x new old lines n e f g = let h = g refl in omega (arith, e, f, h)
 went_balance false x new old lines n e f g = omega (arith, e, f)
 
-same_holds : (w : World) (p q i j : ℕ) → (p ≡ q) × (j ≡ i) → holds_at w q j ≡ holds_at w p i
+same_holds : (w : World) (p q i j : ℕ) → (p ≡ q) × (j ≡ i) → place_holds w q j ≡ place_holds w p i
 same_holds w p q i j e = rw (e.0, e.1) refl
 
 one_told : (cause : List ℕ) (w : World) (c : Change) → CanTell w c → (p i : ℕ) → 0 < p
-    → holds_at (with_change w c) p i + went (drop_lines_of cause c) p (selector_of i) ≡ holds_at w p i + came (hold_lines_of cause c) p (selector_of i)
+    → place_holds (with_change w c) p i + went (drop_lines_of cause c) p (selector_of i) ≡ place_holds w p i + came (hold_lines_of cause c) p (selector_of i)
 one_told cause w (Holds q j h) there p i some =
-    came_balance ((p == q) && (j == i)) _ (holds_of (more h (held_in w.processes (q - 1) j))) (holds_at w p i) _ h.holds (put_holds w q j p i (more h) there some)
+    came_balance ((p == q) && (j == i)) _ (holds_of (more h (held_in w.processes (q - 1) j))) (place_holds w p i) _ h.holds (put_holds w q j p i (more h) there some)
     (came_times h.holds (HoldsBy q (selector_of j) cause) p (selector_of i) ((p == q) && (j == i)) (ap (λ (b : Bool). one_if ((p == q) && b)) (selector_is i j)))
     (λ e. more_holds h (held_in w.processes (q - 1) j) ∙ ap (λ n. n + h.holds) (same_holds w p q i j (both_same p q j i e)))
 one_told cause w (Drops q j count) can p i some =
-    went_balance ((p == q) && (j == i)) _ (holds_of (fewer count (held_in w.processes (q - 1) j))) (holds_at w p i) _ count (put_holds w q j p i (fewer count) can.0 some)
+    went_balance ((p == q) && (j == i)) _ (holds_of (fewer count (held_in w.processes (q - 1) j))) (place_holds w p i) _ count (put_holds w q j p i (fewer count) can.0 some)
     (went_times count (DropsBy q (selector_of j) cause) p (selector_of i) ((p == q) && (j == i)) (ap (λ (b : Bool). one_if ((p == q) && b)) (selector_is i j)))
-    (λ e. let x = fewer_holds count (held_in w.processes (q - 1) j) in let y = same_holds w p q i j (both_same p q j i e) in let z = can.1 in omega (arith, x, y, z))
+    (λ e. let x = fewer_holds count (held_in w.processes (q - 1) j) in let y = same_holds w p q i j (both_same p q j i e) in let z = can.1 in let u = number_holds w q j can.0.0 in omega (arith, x, y, z, u))
 one_told cause w (Finishes q state) never p i some = absurd never
 one_told cause w (Makes g) can p i some = refl
 one_told cause w (Resizes n size) can p i some = refl
@@ -265,7 +266,7 @@ one_told cause w (Names text n) can p i some = refl
 -- All changes of a step.
 
 pub all_told : (cause : List ℕ) (w : World) (cs : List Change) → CanTellAll w cs → (p i : ℕ) → 0 < p
-    → holds_at (with_changes w cs) p i + went (flat_map (drop_lines_of cause) cs) p (selector_of i) ≡ holds_at w p i + came (flat_map (hold_lines_of cause) cs) p (selector_of i)
+    → place_holds (with_changes w cs) p i + went (flat_map (drop_lines_of cause) cs) p (selector_of i) ≡ place_holds w p i + came (flat_map (hold_lines_of cause) cs) p (selector_of i)
 unfolding with_changes
 all_told cause w [] can p i some = refl
 all_told cause w (c ∷ cs) can p i some =
@@ -275,13 +276,13 @@ all_told cause w (c ∷ cs) can p i some =
     let b = went_append (drop_lines_of cause c) (flat_map (drop_lines_of cause) cs) p (selector_of i) in
     omega (arith, one, rest, a, b)
 
-pub swept_holds : (b : Bool) (w : World) (p i : ℕ) → holds_at (if b then Rattle.o2_world.specs.Changes.swept w else w) p i ≡ holds_at w p i
+pub swept_holds : (b : Bool) (w : World) (p i : ℕ) → place_holds (if b then Rattle.o2_world.specs.Changes.swept w else w) p i ≡ place_holds w p i
 swept_holds true w p i = refl
 swept_holds false w p i = refl
 
 -- what is held after a step's changes, and the lines that tell of them
 pub changes_told : (cause : List ℕ) (w : World) (cs : List Change) → CanTellAll w cs → (p i : ℕ) → 0 < p
-    → holds_at (with_all w cs) p i + went (moved_lines cause cs) p (selector_of i) ≡ holds_at w p i + came (moved_lines cause cs) p (selector_of i)
+    → place_holds (with_all w cs) p i + went (moved_lines cause cs) p (selector_of i) ≡ place_holds w p i + came (moved_lines cause cs) p (selector_of i)
 changes_told cause w cs can p i some =
     let h = all_told cause w cs can p i some in
     let a = moved_came cause cs p (selector_of i) in

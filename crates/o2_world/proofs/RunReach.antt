@@ -10,7 +10,8 @@ use Rattle.o2_world.specs.Calls.{Effect}
 use Rattle.o2_world.specs.Opening.{selector_of}
 use Rattle.o2_world.specs.Run.{changed, worked, all_changes}
 use Rattle.o2_world.specs.Reach.{came, went, reach, tells_end, holds_at, CanTellAll, Tells, IsTold}
-use Rattle.o2_world.proofs.Reached.{came_append, went_append, if_yes, if_no}
+use Rattle.o2_world.proofs.Reached.{came_append, went_append}
+use Rattle.o2_world.proofs.MapLemmas.{if_yes, if_no}
 use Rattle.o2_world.proofs.StepReach.{step_told, end_told}
 
 one_lines : (w : World) (c : Change) → (with_change w c).lines ≡ w.lines
@@ -43,7 +44,7 @@ or_step : (b x y : Bool) → (if b then true else (x || y)) ≡ ((if b then true
 or_step true x y = refl
 or_step false x y = refl
 
-end_append : (xs ys : List Line) (q : ℕ) → tells_end (xs ++ ys) q ≡ (tells_end xs q || tells_end ys q)
+pub end_append : (xs ys : List Line) (q : ℕ) → tells_end (xs ++ ys) q ≡ (tells_end xs q || tells_end ys q)
 end_append [] ys q = refl
 end_append (Starts p name ∷ xs) ys q = end_append xs ys q
 end_append (HoldsBy p s cause ∷ xs) ys q = end_append xs ys q

@@ -5,10 +5,11 @@ use Rattle.o2_isa.specs.View.{is_null, is_local, is_writable, is_readable, is_co
 use Rattle.o2_world.specs.declared.types.State.{State}
 use Rattle.o2_world.specs.Map.{Map, get, put}
 use Rattle.o2_world.specs.World.{World, Process, Segment, Held, Reserve, ByLoad, is_live}
-use Rattle.o2_world.specs.Changes.{Change, Makes, Resizes, Locks, Marks, Holds, Drops, Finishes, Reserves, Frees, Names, more, fewer, fewer_of, resized, at_place, with_segment, with_change}
+use Rattle.o2_world.specs.Changes.{Change, Makes, Resizes, Locks, Marks, Holds, Drops, Finishes, Reserves, Frees, Names, more, fewer, fewer_of, resized, at_place, at_number, with_segment, with_change}
 use Rattle.o2_world.specs.Sound.{held_of, held_in, has_rights, NamesHeld, HasGoodRegisters}
 use Rattle.o2_world.specs.Tied.{AreLive, lives_in, HasSize, AreOne, IsTied, IsUnnamed, IsFitHold, IsFitDrop, IsFitChange}
-use Rattle.o2_world.proofs.Reached.{get-put, get-place, held_at_place, held_then, if_yes, if_no}
+use Rattle.o2_world.proofs.Reached.{get-put, get-place, held_at_place, held_then}
+use Rattle.o2_world.proofs.MapLemmas.{if_yes, if_no}
 
 -- Look-ups after a change of one map, and of one name.
 
@@ -215,8 +216,8 @@ one_swap : (h k : Held) → AreOne h k → AreOne k h
 one_swap h k (inl e) = inl (sym e)
 one_swap h k (inr e) = inr (e.1, e.0)
 
-holds_tied : (w : World) (p j : ℕ) (n : Held) → IsFitHold w p j n → IsTied w → IsTied (with_change w (Holds p j n))
-holds_tied w p j n fit tied = record {
+holds_tied : (w : World) (p j : ℕ) (n : Held) → (p == 0) ≡ false → IsFitHold w p j n → IsTied w → IsTied (held_put w p j (more n))
+holds_tied w p j n some fit tied = record {
   held = λ place i h e. live_by place i h (held_from w.processes (p - 1) j (more n) place i h e);
   below = tied.below;
   sized = tied.sized;
@@ -224,7 +225,7 @@ holds_tied w p j n fit tied = record {
   one = λ place other i h k big e f. one_by place other i h k big (held_from w.processes (p - 1) j (more n) place i h e) (held_from w.processes (p - 1) j (more n) other i k f);
   texts = tied.texts;
   ended = each_from {P = λ x. is_live x.state ≡ false → x.held ≡ []} w.processes (p - 1) (put_held (more n) j) tied.ended
-      (λ x there ends. absurd (let a : true ≡ false = sym (fit.goes_on x there) ∙ ends in cc));
+      (λ x there ends. absurd (let a : true ≡ false = sym (fit.goes_on x (if_no (p == 0) None (slice_get w.processes (p - 1)) some ∙ there)) ∙ ends in cc));
   registers = each_from {P = λ x. is_live x.state ≡ true → HasGoodRegisters x} w.processes (p - 1) (put_held (more n) j) tied.registers
       (λ x there lives. registers_still x (more n) j (record { cs = λ _. more_keeps n is_code (get x.held j); ss = λ _. more_keeps n is_writable (get x.held j); ds = inr (λ _. more_keeps n is_readable (get x.held j)); es = inr (λ _. more_keeps n is_readable (get x.held j)) }) (tied.registers (p - 1) x there lives));
 }
@@ -314,8 +315,8 @@ drop_keeps x j count (inr un) = record { cs = λ e. absurd (un.cs e); ss = λ e.
 nothing_less : (m : Map Held) (j count : ℕ) → m ≡ [] → put j (fewer count (get m j)) m ≡ []
 nothing_less m j count e = rw e refl
 
-drops_tied : (w : World) (p j count : ℕ) → IsFitDrop w p j count → IsTied w → IsTied (with_change w (Drops p j count))
-drops_tied w p j count fit tied = record {
+drops_tied : (w : World) (p j count : ℕ) → (p == 0) ≡ false → IsFitDrop w p j count → IsTied w → IsTied (held_put w p j (fewer count))
+drops_tied w p j count positive fit tied = record {
   held = λ place i h e. let old = before place i h e in (ap (lives_in w) old.name ∙ (tied.held place i old.old old.at).0, old.some);
   below = tied.below;
   sized = tied.sized;
@@ -325,7 +326,7 @@ drops_tied w p j count fit tied = record {
   ended = each_from {P = λ x. is_live x.state ≡ false → x.held ≡ []} w.processes (p - 1) (put_held (fewer count) j) tied.ended
       (λ x there ends. nothing_less x.held j count (tied.ended (p - 1) x there ends));
   registers = each_from {P = λ x. is_live x.state ≡ true → HasGoodRegisters x} w.processes (p - 1) (put_held (fewer count) j) tied.registers
-      (λ x there lives. registers_still x (fewer count) j (drop_keeps x j count (fit x there lives)) (tied.registers (p - 1) x there lives));
+      (λ x there lives. registers_still x (fewer count) j (drop_keeps x j count (fit x (if_no (p == 0) None (slice_get w.processes (p - 1)) positive ∙ there) lives)) (tied.registers (p - 1) x there lives));
 }
   where
     -- each hold was there
@@ -342,7 +343,7 @@ drops_tied w p j count fit tied = record {
 
 -- An end.
 
-finishes_tied : (w : World) (p : ℕ) (state : State) → is_live state ≡ false → IsTied w → IsTied (with_change w (Finishes p state))
+finishes_tied : (w : World) (p : ℕ) (state : State) → is_live state ≡ false → IsTied w → IsTied (record w { processes = at_place (p - 1) (λ (x : Process). record x { state = state; held = [] }) w.processes })
 finishes_tied w p state ends tied = record {
   held = λ place i h e. tied.held place i h (before place i h e);
   below = tied.below;
@@ -392,15 +393,26 @@ resized_length size bytes =
     let c = taken_length size bytes in
     omega (arith, a, b, c)
 
+-- A change of a process by its number: number 0 is none.
+numbered : (w : World) (p : ℕ) (f : Process → Process) → ((p == 0) ≡ false → IsTied (record w { processes = at_place (p - 1) f w.processes })) → IsTied w → IsTied (record w { processes = at_number p f w.processes })
+numbered w p f there tied = go (p == 0) refl
+  where
+    P : List Process → Type 0
+    P ps = IsTied (record w { processes = ps })
+
+    go : (b : Bool) → (p == 0) ≡ b → P (at_number p f w.processes)
+    go true is = subst P (sym (if_yes (p == 0) w.processes (at_place (p - 1) f w.processes) is)) tied
+    go false is = subst P (sym (if_no (p == 0) w.processes (at_place (p - 1) f w.processes) is)) (there is)
+
 -- One change, by its kind.
 pub change_tied : (w : World) (c : Change) → IsFitChange w c → IsTied w → IsTied (with_change w c)
 change_tied w (Makes s) fit tied = makes_tied w s fit tied
 change_tied w (Resizes n size) fit tied = segment_tied w n (λ (s : Segment). record s { bytes = resized size s.bytes }) (λ s. refl) (λ s _. subst (λ k. (0 < k) × (k ≤ 65536)) (sym (resized_length size s.bytes)) fit) tied
 change_tied w (Locks n count) fit tied = segment_tied w n (λ (s : Segment). record s { lock = count }) (λ s. refl) (λ s h. h) tied
 change_tied w (Marks n d) fit tied = segment_tied w n (λ (s : Segment). record s { discarded = d }) (λ s. refl) (λ s h. h) tied
-change_tied w (Holds p i h) fit tied = holds_tied w p i h fit tied
-change_tied w (Drops p i count) fit tied = drops_tied w p i count fit tied
-change_tied w (Finishes p state) fit tied = finishes_tied w p state fit tied
+change_tied w (Holds p i h) fit tied = numbered w p (put_held (more h) i) (λ some. holds_tied w p i h some fit tied) tied
+change_tied w (Drops p i count) fit tied = numbered w p (put_held (fewer count) i) (λ some. drops_tied w p i count some fit tied) tied
+change_tied w (Finishes p state) fit tied = numbered w p (λ (x : Process). record x { state = state; held = [] }) (λ _. finishes_tied w p state fit tied) tied
 change_tied w (Reserves r) fit tied = reserved_tied w _ tied
 change_tied w (Frees region first) fit tied = reserved_tied w _ tied
 change_tied w (Names text name) fit tied = names_tied w text name fit tied

@@ -3,13 +3,12 @@ use Rattle.std.proofs.Common.{◌≡◌, ◌⊎◌, inl, inr, ℕ, zero, suc, �
 use Rattle.std.specs.Prelude.{slice_get, is_some}
 use Rattle.std.specs.List.{list_any}
 use Rattle.o2_world.specs.Map.{Map, get}
-use Rattle.o2_world.specs.World.{World, Process, Segment, Held}
+use Rattle.o2_world.specs.World.{World, Process, Segment, Held, Reserve}
 use Rattle.o2_world.specs.Holders.{is_held, kept}
-use Rattle.o2_world.specs.Changes.{Change, takes, told_of, swept, with_change, with_changes, with_all}
+use Rattle.o2_world.specs.Changes.{Change, takes, used, is_used, told_of, swept, with_change, with_changes, with_all}
 use Rattle.o2_world.specs.Sound.{held_in}
-use Rattle.o2_world.specs.Tied.{AreLive, lives_in, IsTied, IsNamed, IsFitChange, AreFitChanges}
-use Rattle.o2_world.proofs.MapLemmas.{get-filter}
-use Rattle.o2_world.proofs.Reached.{if_yes, if_no}
+use Rattle.o2_world.specs.Tied.{AreLive, lives_in, IsTied, IsSwept, AreUsed, IsFitChange, AreFitChanges}
+use Rattle.o2_world.proofs.MapLemmas.{get-filter, if_yes, if_no}
 use Rattle.o2_world.proofs.Keeps.{held_found}
 use Rattle.o2_world.proofs.TiedChanges.{change_tied}
 
@@ -58,13 +57,21 @@ swept_tied w tied = record {
   registers = tied.registers;
 }
 
-pub swept_named : (w : World) → IsNamed (swept w)
-swept_named w q e = (kept_live w.processes w.names q e).0
+used_by : (ps : List Process) (r : Reserve) (rs : List Reserve) (b : Bool) → is_used ps r ≡ b → AreUsed ps rs → AreUsed ps (cond b (r ∷ rs) rs)
+used_by ps r rs true is h = (is, h)
+used_by ps r rs false is h = h
 
--- All changes of a step; where none takes a hold, each name that lives behind them has to be held.
-pub all_tied : (w : World) (cs : List Change) → AreFitChanges w cs → (list_any takes cs ≡ false → IsNamed (with_changes w cs)) → IsTied w → IsTied (with_all w cs) × IsNamed (with_all w cs)
+used_all : (ps : List Process) (rs : List Reserve) → AreUsed ps (used ps rs)
+used_all ps [] = tt
+used_all ps (r ∷ rs) = used_by ps r (used ps rs) (is_used ps r) refl (used_all ps rs)
+
+pub swept_is : (w : World) → IsSwept (swept w)
+swept_is w = record { named = λ q e. (kept_live w.processes w.names q e).0; used = used_all w.processes w.reserved }
+
+-- All changes of a step; where none takes a hold, each name that lives behind them has to be held, and each run that is reserved.
+pub all_tied : (w : World) (cs : List Change) → AreFitChanges w cs → (list_any takes cs ≡ false → IsSwept (with_changes w cs)) → IsTied w → IsTied (with_all w cs) × IsSwept (with_all w cs)
 all_tied w cs fit named tied = go (list_any takes cs) refl
   where
-    go : (b : Bool) → list_any takes cs ≡ b → IsTied (with_all w cs) × IsNamed (with_all w cs)
-    go true is = rw is (swept_tied (with_changes w cs) (changes_tied w cs fit tied), swept_named (with_changes w cs))
+    go : (b : Bool) → list_any takes cs ≡ b → IsTied (with_all w cs) × IsSwept (with_all w cs)
+    go true is = rw is (swept_tied (with_changes w cs) (changes_tied w cs fit tied), swept_is (with_changes w cs))
     go false is = rw is (changes_tied w cs fit tied, named is)

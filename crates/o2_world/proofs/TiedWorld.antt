@@ -4,20 +4,22 @@ use Rattle.std.specs.Prelude.{slice_get, is_some, option_map}
 use Rattle.std.specs.List.{list_any}
 use Rattle.o2_conf.specs.Dispatch.{Dispatch}
 use Rattle.o2_world.specs.Map.{Map, get}
-use Rattle.o2_world.specs.World.{World, Process, Segment, Held, is_live}
-use Rattle.o2_world.specs.Holders.{process_at, is_held}
+use Rattle.o2_world.specs.World.{World, Process, Segment, Held, Reserve, is_live}
+use Rattle.o2_world.specs.Holders.{process_at, with_process, is_held}
 use Rattle.o2_world.specs.Views.{with_bytes}
-use Rattle.o2_world.specs.Changes.{Change, Finishes, takes, swept, used, is_used, with_change, with_changes, with_all}
+use Rattle.o2_world.specs.declared.types.State.{State}
+use Rattle.o2_world.specs.Changes.{Change, Finishes, takes, swept, used, is_used, told_of, run_held, own_run_held, holds_run, at_place, at_number, with_change, with_changes, with_all}
 use Rattle.o2_world.specs.Calls.{Effect}
 use Rattle.o2_world.specs.Sound.{held_of, held_in, HasGoodRegisters}
 use Rattle.o2_world.specs.Run.{changed, working, worked}
-use Rattle.o2_world.specs.Tied.{HasSize, AreLive, lives_in, IsTied, IsNamed, IsFitChange, AreFitChanges}
-use Rattle.o2_world.proofs.MapLemmas.{get-map}
-use Rattle.o2_world.proofs.Keeps.{bytes_there, held_same, each_after}
-use Rattle.o2_world.proofs.Reached.{if_yes}
-use Rattle.o2_world.proofs.StepReach.{same_map, live_changes, end_changes}
+use Rattle.o2_world.specs.Tied.{HasSize, AreLive, lives_in, IsTied, IsSwept, AreUsed, IsFitChange, AreFitChanges}
+use Rattle.o2_world.proofs.MapLemmas.{get-map, if_yes, if_no}
+use Rattle.o2_world.proofs.Keeps.{bytes_there, some_is, held_same_at, each_at}
+use Rattle.o2_world.proofs.Numbers.{not_zero, number_some, at_place_of, process_is, with_is, changed_is}
+use Rattle.o2_world.proofs.Reached.{get-place}
+use Rattle.o2_world.proofs.StepReach.{same_at, live_changes, end_changes}
 use Rattle.o2_world.proofs.TiedChanges.{texts_live}
-use Rattle.o2_world.proofs.TiedSteps.{all_tied, swept_named}
+use Rattle.o2_world.proofs.TiedSteps.{all_tied, swept_is}
 
 -- a segment behind other bytes
 record IsRewritten (names : Map Segment) (bytes : ℕ → List ℕ) (q : ℕ) (s : Segment) : Type 0 where
@@ -52,6 +54,37 @@ any_last (x ∷ xs) c e = go (takes x) (any_last xs c e)
     go true h = refl
     go false h = h
 
+-- Who holds a run, where a process's map stays.
+
+runs_same : (ps : List Process) (k : ℕ) (p new : Process) (first : ℕ) → slice_get ps k ≡ Some p → new.held ≡ p.held → run_held (slice_set ps k new) first ≡ run_held ps first
+runs_same [] k p new first at same = refl
+runs_same (a ∷ ps) zero p new first at same = ap (λ (x : Map Held). holds_run x first || run_held ps first) (same ∙ ap (λ (x : Process). x.held) (sym (some_is a p (Some a) refl at)))
+runs_same (a ∷ ps) (suc k) p new first at same = ap (λ b. holds_run a.held first || b) (runs_same ps k p new first at same)
+
+own_same : (ps : List Process) (k : ℕ) (p new : Process) (j first : ℕ) → slice_get ps k ≡ Some p → new.held ≡ p.held → own_run_held (slice_get (slice_set ps k new) j) first ≡ own_run_held (slice_get ps j) first
+own_same [] k p new j first at same = refl
+own_same (a ∷ ps) zero p new zero first at same = ap (λ (x : Map Held). holds_run x first) (same ∙ ap (λ (x : Process). x.held) (sym (some_is a p (Some a) refl at)))
+own_same (a ∷ ps) zero p new (suc j) first at same = refl
+own_same (a ∷ ps) (suc k) p new zero first at same = refl
+own_same (a ∷ ps) (suc k) p new (suc j) first at same = own_same ps k p new j first at same
+
+used_same : (ps : List Process) (n : ℕ) (p new : Process) (r : Reserve) → process_at ps n ≡ Some p → new.held ≡ p.held → is_used (with_process ps n new) r ≡ is_used ps r
+used_same ps n p new r at same =
+    ap (λ (qs : List Process). is_used qs r) (with_is ps n new (number_some ps n p at))
+    ∙ ap (λ (b : Bool). if r.region == 0 then r.stays || b else own_run_held (process_at (slice_set ps (n - 1) new) r.region) r.first) (runs_same ps (n - 1) p new r.first there same)
+    ∙ ap (λ (b : Bool). if r.region == 0 then r.stays || run_held ps r.first else b) (go (r.region == 0))
+  where
+    there : slice_get ps (n - 1) ≡ Some p
+    there = at_place_of ps n p at
+
+    go : (b : Bool) → own_run_held (if b then None else slice_get (slice_set ps (n - 1) new) (r.region - 1)) r.first ≡ own_run_held (if b then None else slice_get ps (r.region - 1)) r.first
+    go true = refl
+    go false = own_same ps (n - 1) p new (r.region - 1) r.first there same
+
+uses_same : (ps : List Process) (n : ℕ) (p new : Process) (rs : List Reserve) → process_at ps n ≡ Some p → new.held ≡ p.held → AreUsed ps rs → AreUsed (with_process ps n new) rs
+uses_same ps n p new [] at same h = h
+uses_same ps n p new (r ∷ rs) at same h = (used_same ps n p new r at same ∙ h.0, uses_same ps n p new rs at same h.1)
+
 module _ (w : World) (d : Dispatch) (p : Process) (e : Effect) (at : process_at w.processes d.current ≡ Some p) (lives : is_live p.state ≡ true)
     (good : HasGoodRegisters (working p e)) (sizes : (q : ℕ) (s : Segment) → get w.names q ≡ Some s → length (e.bytes q) ≡ length s.bytes) where
   still_live : is_live (working p e).state ≡ true
@@ -70,31 +103,49 @@ module _ (w : World) (d : Dispatch) (p : Process) (e : Effect) (at : process_at 
     clean = λ place i h s x g c. let r = rewritten w.names e.bytes h.name s g in tied.clean place i h r.old (before place i h x) r.there (ap (λ (y : Segment). y.clean) (sym r.is) ∙ c);
     one = λ place other i h k big x y. tied.one place other i h k big (before place i h x) (before other i k y);
     texts = texts_live w.names (with_bytes w.names e.bytes) w.texts (λ q x. bytes_there w.names e.bytes q ∙ x) tied.texts;
-    ended = each_after {P = λ x. is_live x.state ≡ false → x.held ≡ []} w.processes (d.current - 1) (working p e) (λ ends. absurd (dead_or_live (is_live (working p e).state) true still_live ends)) tied.ended;
-    registers = each_after {P = λ x. is_live x.state ≡ true → HasGoodRegisters x} w.processes (d.current - 1) (working p e) (λ _. good) tied.registers;
+    ended = each_at {P = λ x. is_live x.state ≡ false → x.held ≡ []} w.processes d.current (working p e) (λ ends. absurd (dead_or_live (is_live (working p e).state) true still_live ends)) tied.ended;
+    registers = each_at {P = λ x. is_live x.state ≡ true → HasGoodRegisters x} w.processes d.current (working p e) (λ _. good) tied.registers;
   }
     where
-      before : (place i : ℕ) (h : Held) → held_in (slice_set w.processes (d.current - 1) (working p e)) place i ≡ Some h → held_in w.processes place i ≡ Some h
-      before place i h x = sym (same_map w.processes (d.current - 1) p (working p e) place i at refl) ∙ x
+      before : (place i : ℕ) (h : Held) → held_in (with_process w.processes d.current (working p e)) place i ≡ Some h → held_in w.processes place i ≡ Some h
+      before place i h x = sym (same_at w.processes d.current p (working p e) place i at refl) ∙ x
 
-  -- bytes and registers take no holder from a name
-  pub worked_named : IsNamed w → IsNamed (worked w d p e)
-  worked_named named q x = held_same w.processes (d.current - 1) p (working p e) q at refl ∙ named q (sym (bytes_there w.names e.bytes q) ∙ x)
+  -- bytes and registers take no holder from a name or a run
+  pub worked_swept : IsSwept w → IsSwept (worked w d p e)
+  worked_swept s = record {
+    named = λ q x. held_same_at w.processes d.current p (working p e) q at refl ∙ s.named q (sym (bytes_there w.names e.bytes q) ∙ x);
+    used = uses_same w.processes d.current p (working p e) w.reserved at refl s.used;
+  }
 
-  pub changed_tied : AreFitChanges (worked w d p e) e.changes → (list_any takes e.changes ≡ false → IsNamed (with_changes (worked w d p e) e.changes)) → IsTied w → IsTied (changed w d p e) × IsNamed (changed w d p e)
+  pub changed_tied : AreFitChanges (worked w d p e) e.changes → (list_any takes e.changes ≡ false → IsSwept (with_changes (worked w d p e) e.changes)) → IsTied w → IsTied (changed w d p e) × IsSwept (changed w d p e)
   unfolding changed
   changed_tied fit named tied = go (is_live e.state) refl
     where
       P : List Change → Type 0
-      P cs = IsTied (with_all (worked w d p e) cs) × IsNamed (with_all (worked w d p e) cs)
+      P cs = IsTied (with_all (worked w d p e) cs) × IsSwept (with_all (worked w d p e) cs)
 
-      go : (b : Bool) → is_live e.state ≡ b → IsTied (changed w d p e) × IsNamed (changed w d p e)
+      go : (b : Bool) → is_live e.state ≡ b → IsTied (changed w d p e) × IsSwept (changed w d p e)
       go true is = subst P (sym (live_changes d.current e is)) (all_tied (worked w d p e) e.changes fit named (worked_tied tied))
       go false is =
           subst P (sym (end_changes d.current e is))
           (all_tied (worked w d p e) (e.changes ++ Finishes d.current e.state ∷ [])
           (fit_more (worked w d p e) e.changes (Finishes d.current e.state ∷ []) fit (is, tt))
           (λ none. absurd (dead_or_live _ true (any_last e.changes (Finishes d.current e.state) refl) none)) (worked_tied tied))
+
+region_is : (n m : ℕ) → (n == m) ≡ true → n ≡ m
+region_is n m e = grind arith
+
+same_place : (n : ℕ) → (n == n) ≡ true
+same_place n = grind arith
+
+with_more : (v : World) (xs ys : List Change) → with_changes v (xs ++ ys) ≡ with_changes (with_changes v xs) ys
+unfolding with_changes
+with_more v [] ys = refl
+with_more v (x ∷ xs) ys = with_more (with_change v x) xs ys
+
+one_more : (v : World) (c : Change) → with_changes v (c ∷ []) ≡ with_change v c
+unfolding with_changes
+one_more v c = refl
 
 filter_twice : {X : Type 0} (p : X → Bool) (xs : List X) → filter p (filter p xs) ≡ filter p xs
 filter_twice p [] = refl
@@ -116,5 +167,58 @@ end_used w d p e ends =
     let v : World = with_changes (worked w d p e) (e.changes ++ Finishes d.current e.state ∷ []) in
     subst (λ (x : World). used x.processes x.reserved ≡ x.reserved) (sym (ended_swept w d p e ends)) (filter_twice (is_used v.processes) v.reserved)
 
-pub end_named : (w : World) (d : Dispatch) (p : Process) (e : Effect) → is_live e.state ≡ false → IsNamed (changed w d p e)
-end_named w d p e ends = subst IsNamed (sym (ended_swept w d p e ends)) (swept_named (with_changes (worked w d p e) (e.changes ++ Finishes d.current e.state ∷ [])))
+pub end_texts : (w : World) (d : Dispatch) (p : Process) (e : Effect) → is_live e.state ≡ false → told_of (changed w d p e).processes (changed w d p e).texts ≡ (changed w d p e).texts
+end_texts w d p e ends =
+    let v : World = with_changes (worked w d p e) (e.changes ++ Finishes d.current e.state ∷ []) in
+    subst (λ (x : World). told_of x.processes x.texts ≡ x.texts) (sym (ended_swept w d p e ends)) (filter_twice (λ (t : List ℕ × ℕ). is_held v.processes t.1) v.texts)
+
+-- Of the region of a process that holds nothing, nothing stays reserved.
+
+own_unused : (ps : List Process) (n : ℕ) (r : Reserve) → (n == 0) ≡ false → own_run_held (process_at ps n) r.first ≡ false → (r.region == n) ≡ true → is_used ps r ≡ false
+own_unused ps n r some none here =
+    let same : r.region ≡ n = region_is r.region n here in
+    if_no (r.region == 0) _ _ (ap (λ (k : ℕ). k == 0) same ∙ some) ∙ ap (λ (k : ℕ). own_run_held (process_at ps k) r.first) same ∙ none
+
+other_region : (ps : List Process) (n : ℕ) (r : Reserve) → (n == 0) ≡ false → own_run_held (process_at ps n) r.first ≡ false → is_used ps r ≡ true → (r.region == n) ≡ false
+other_region ps n r some none is = go (r.region == n) refl
+  where
+    go : (b : Bool) → (r.region == n) ≡ b → (r.region == n) ≡ false
+    go true here = absurd (dead_or_live (is_used ps r) true is (own_unused ps n r some none here))
+    go false here = here
+
+none_there : (ps : List Process) (n : ℕ) (r : Reserve) (rest : List Reserve) → (n == 0) ≡ false → own_run_held (process_at ps n) r.first ≡ false → (b : Bool) → is_used ps r ≡ b
+    → list_any (λ (r : Reserve). r.region == n) rest ≡ false → list_any (λ (r : Reserve). r.region == n) (cond b (r ∷ rest) rest) ≡ false
+none_there ps n r rest some none true is below = ap (λ (b : Bool). b || list_any (λ (r : Reserve). r.region == n) rest) (other_region ps n r some none is) ∙ below
+none_there ps n r rest some none false is below = below
+
+none_used : (ps : List Process) (n : ℕ) (rs : List Reserve) → (n == 0) ≡ false → ((first : ℕ) → own_run_held (process_at ps n) first ≡ false) → list_any (λ (r : Reserve). r.region == n) (used ps rs) ≡ false
+none_used ps n [] some none = refl
+none_used ps n (r ∷ rs) some none = none_there ps n r (used ps rs) some (none r.first) (is_used ps r) refl (none_used ps n rs some none)
+
+-- what the process that has ended holds
+ended_holds : (u : World) (n : ℕ) (state : State) (first : ℕ) → 0 < n → own_run_held (process_at (with_change u (Finishes n state)).processes n) first ≡ false
+unfolding holds_run
+ended_holds u n state first some =
+    ap (λ (o : Option Process). own_run_held o first)
+    (process_is (at_number n empty u.processes) n some
+    ∙ ap (λ (qs : List Process). slice_get qs (n - 1)) (changed_is n empty u.processes some)
+    ∙ get-place (n - 1) (n - 1) empty u.processes
+    ∙ if_yes (n - 1 == n - 1) _ _ (same_place (n - 1)))
+    ∙ go (slice_get u.processes (n - 1))
+  where
+    empty : Process → Process
+    empty x = record x { state = state; held = [] }
+
+    go : (o : Option Process) → own_run_held (option_map empty o) first ≡ false
+    go None = refl
+    go (Some x) = refl
+
+pub end_own : (w : World) (d : Dispatch) (p : Process) (e : Effect) → process_at w.processes d.current ≡ Some p → is_live e.state ≡ false → list_any (λ (r : Reserve). r.region == d.current) (changed w d p e).reserved ≡ false
+end_own w d p e at ends =
+    let u : World = with_changes (worked w d p e) e.changes in
+    let some = number_some w.processes d.current p at in
+    subst (λ (x : World). list_any (λ (r : Reserve). r.region == d.current) x.reserved ≡ false) (sym (ended_swept w d p e ends ∙ ap swept (with_more (worked w d p e) e.changes (Finishes d.current e.state ∷ []) ∙ one_more u (Finishes d.current e.state))))
+    (none_used (with_change u (Finishes d.current e.state)).processes d.current (with_change u (Finishes d.current e.state)).reserved (not_zero d.current some) (λ first. ended_holds u d.current e.state first some))
+
+pub end_swept : (w : World) (d : Dispatch) (p : Process) (e : Effect) → is_live e.state ≡ false → IsSwept (changed w d p e)
+end_swept w d p e ends = subst IsSwept (sym (ended_swept w d p e ends)) (swept_is (with_changes (worked w d p e) (e.changes ++ Finishes d.current e.state ∷ [])))

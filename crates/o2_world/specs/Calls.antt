@@ -9,6 +9,9 @@ use Rattle.o2_isa.specs.Parts.{put_part}
 use Rattle.o2_isa.specs.View.{View, Hold, is_readable, is_writable, bound_in, read_of}
 use Rattle.o2_world.specs.declared.types.Argument.{Argument}
 use Rattle.o2_world.specs.declared.types.Argument.TheVariants.{Word, Long, Far}
+use Rattle.o2_world.specs.declared.types.Row.{Row}
+use Rattle.o2_world.specs.declared.types.Row.TheVariants.{DosExit, DosGetPid, DosRead, DosWrite, DosMemAvail}
+use Rattle.o2_world.specs.Map.{get}
 use Rattle.o2_world.specs.declared.types.State.{State}
 use Rattle.o2_world.specs.declared.types.State.TheVariants.{Live, Exited, Trapped}
 use Rattle.o2_world.specs.World.{Line, Calls, Exits, Ends, Traps}
@@ -246,11 +249,27 @@ asks b =
     let a : ℕ → ℕ = argument b.view b.cpu in
     has_arguments b.view b.cpu 6 && asks_input b (a 5) (a 4) (a 3) (a 2) (a 1) (a 0)
 
+-- The rows by the numbers of their services: each service that is built has one.
+
+abbrev pub rows : List (ℕ × Row)
+rows = (1, DosExit) ∷ (2, DosGetPid) ∷ (3, DosRead) ∷ (4, DosWrite) ∷ (19, DosMemAvail) ∷ []
+
+abbrev pub row_of : ℕ → Option Row
+row_of service = get rows service
+
+-- the call by a row, which comes back to `next`
+abbrev pub served : Row → Before → ℕ → Effect
+served DosExit b next = dos_exit b
+served DosGetPid b next = dos_get_pid b next
+served DosRead b next = dos_read b next
+served DosWrite b next = dos_write b next
+served DosMemAvail b next = dos_mem_avail b next
+
+-- a number without a row is that of no call: its gate names nothing
+abbrev pub served_by : Option Row → Before → ℕ → Effect
+served_by None b next = trapped b 13
+served_by (Some row) b next = served row b next
+
 -- the call of a service that comes back to `next`
 abbrev pub serviced : Before → ℕ → ℕ → Effect
-serviced b service next =
-    if service == 1 then dos_exit b
-    else (if service == 2 then dos_get_pid b next
-    else (if service == 3 then dos_read b next
-    else (if service == 19 then dos_mem_avail b next
-    else dos_write b next)))
+serviced b service next = served_by (row_of service) b next

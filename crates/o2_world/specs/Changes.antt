@@ -4,7 +4,7 @@ use Rattle.std.specs.List.{list_any}
 use Rattle.o2_world.specs.declared.types.State.{State}
 use Rattle.o2_world.specs.Map.{Map, get, put}
 use Rattle.o2_world.specs.World.{World, Process, Segment, Held, Reserve, Line, HoldsBy, DropsBy}
-use Rattle.o2_world.specs.Holders.{is_held, kept}
+use Rattle.o2_world.specs.Holders.{is_held, kept, process_at}
 use Rattle.o2_world.specs.Opening.{selector_of}
 
 pub data Change : Type 0 where
@@ -45,8 +45,12 @@ at_place i f [] = []
 at_place zero f (x ∷ xs) = f x ∷ xs
 at_place (suc i) f (x ∷ xs) = x ∷ at_place i f xs
 
+-- a list of processes with one changed, by its number
+abbrev pub at_number : ℕ → (Process → Process) → List Process → List Process
+at_number n f ps = if n == 0 then ps else at_place (n - 1) f ps
+
 abbrev pub with_held : World → ℕ → (Map Held → Map Held) → World
-with_held w n f = record w { processes = at_place (n - 1) (λ (p : Process). record p { held = f p.held }) w.processes }
+with_held w n f = record w { processes = at_number n (λ (p : Process). record p { held = f p.held }) w.processes }
 
 abbrev pub with_segment : World → ℕ → (Segment → Segment) → World
 with_segment w n f = record w { names = put n (option_map f (get w.names n)) w.names }
@@ -59,7 +63,7 @@ with_change w (Locks n count) = with_segment w n (λ (s : Segment). record s { l
 with_change w (Marks n discarded) = with_segment w n (λ (s : Segment). record s { discarded = discarded })
 with_change w (Holds p i h) = with_held w p (λ (m : Map Held). put i (more h (get m i)) m)
 with_change w (Drops p i count) = with_held w p (λ (m : Map Held). put i (fewer count (get m i)) m)
-with_change w (Finishes p state) = record w { processes = at_place (p - 1) (λ (x : Process). record x { state = state; held = [] }) w.processes }
+with_change w (Finishes p state) = record w { processes = at_number p (λ (x : Process). record x { state = state; held = [] }) w.processes }
 with_change w (Reserves r) = record w { reserved = r ∷ w.reserved }
 with_change w (Frees region first) = record w { reserved = filter (λ (r : Reserve). not ((r.region == region) && (r.first == first))) w.reserved }
 with_change w (Names text name) = record w { texts = (text, name) ∷ w.texts }
@@ -86,7 +90,7 @@ own_run_held None first = false
 own_run_held (Some p) first = holds_run p.held first
 
 abbrev pub is_used : List Process → Reserve → Bool
-is_used ps r = r.stays || (if r.region == 0 then run_held ps r.first else own_run_held (Rattle.o2_world.specs.Holders.process_at ps r.region) r.first)
+is_used ps r = if r.region == 0 then r.stays || run_held ps r.first else own_run_held (process_at ps r.region) r.first
 
 abbrev pub used : List Process → List Reserve → List Reserve
 used ps rs = filter (is_used ps) rs
@@ -94,7 +98,7 @@ used ps rs = filter (is_used ps) rs
 abbrev pub told_of : List Process → List (List ℕ × ℕ) → List (List ℕ × ℕ)
 told_of ps texts = filter (λ (t : List ℕ × ℕ). is_held ps t.1) texts
 
--- names that nobody holds go with their texts, and the reserved indexes of runs that nobody holds
+-- Names that nobody holds go with their texts, and the reserved indexes of runs that nobody holds
 abbrev pub swept : World → World
 swept w = record w { names = kept w.processes w.names; reserved = used w.processes w.reserved; texts = told_of w.processes w.texts }
 

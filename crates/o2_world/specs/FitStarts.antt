@@ -1,8 +1,8 @@
 -- What a start is like for the opening world to be sound.
-use Rattle.std.specs.Prelude.{◌≡◌, ℕ, ◌+◌, ◌==◌, true, false, List, ◌∷◌, ◌++◌, length, map, flat_map, Some}
-use Rattle.std.specs.List.{All, IsDistinct}
+use Rattle.std.specs.Prelude.{◌≡◌, ℕ, ◌+◌, ◌≤◌, ◌<◌, ◌==◌, true, false, List, ◌∷◌, ◌++◌, length, map, flat_map, Option, Some, None}
+use Rattle.std.specs.List.{All, AllByRecursion, IsDistinct}
 use Rattle.o2_isa.specs.View.{is_readable}
-use Rattle.o2_world.specs.Starts.{Loaded, LoadedSegment, Start, nth_loaded}
+use Rattle.o2_world.specs.Starts.{Loaded, LoadedSegment, Start, Holding, holdings, nth_loaded}
 
 abbrev pub module_indexes : Loaded → List ℕ
 module_indexes m = map (λ (x : LoadedSegment). x.index) m.segments
@@ -24,3 +24,24 @@ pub record IsFit (s : Start) : Type 0 where
 -- each start of a program is fit; one of a library is refused
 abbrev pub AreFit : List Start → Type 0
 AreFit starts = All (λ (s : Start). s.program.library ≡ false → IsFit s) starts
+
+abbrev pub rights_or_none : Option LoadedSegment → ℕ
+rights_or_none None = 0
+rights_or_none (Some x) = x.rights
+
+-- the access byte of a segment by the place of its module and its number there
+abbrev pub rights_at : (ℕ → Loaded) → ℕ → ℕ → ℕ
+rights_at modules place number = rights_or_none (nth_loaded number (modules place).segments)
+
+-- a segment that a process holds from its start on has 1 to 65,536 bytes, and where it is common it is one of these modules
+pub record IsWhole (modules : ℕ → Loaded) (h : Holding) : Type 0 where
+  pub some : 0 < length h.bytes
+  pub most : length h.bytes ≤ 65536
+  pub rights : h.common ≡ true → h.rights ≡ rights_at modules h.place h.number
+
+abbrev pub IsOf : (ℕ → Loaded) → Start → Type 0
+IsOf modules s = (pid : ℕ) → AllByRecursion (IsWhole modules) (holdings pid s)
+
+-- each start is one over these modules
+abbrev pub AreOf : (ℕ → Loaded) → List Start → Type 0
+AreOf modules starts = All (IsOf modules) starts

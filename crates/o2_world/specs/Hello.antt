@@ -40,11 +40,11 @@ abbrev pub hello_setting : ℕ → Setting
 hello_setting budget = record { quantum = 1000; memory = 1048576; swap = 2048; segments = 1024; avail = 524288; budget = budget }
 
 abbrev pub hello_opening : ℕ → Result World (ℕ × ModuleFault)
-hello_opening budget = opening_of (hello_setting budget) [] [] (hello_process ∷ [])
+hello_opening budget = opening_of (hello_setting budget) [] [] [] (hello_process ∷ [])
 
 abbrev pub opened : Result World (ℕ × ModuleFault) → World
 opened (Ok w) = w
-opened (Err fault) = world_of [] 0 [] nothing_built
+opened (Err fault) = world_of [] [] 0 [] nothing_built
 
 abbrev pub hello_world : ℕ → World
 hello_world budget = opened (hello_opening budget)

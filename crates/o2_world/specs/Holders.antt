@@ -1,5 +1,5 @@
 -- Who holds a name, and the end of a process.
-use Rattle.std.specs.Prelude.{ℕ, ◌-◌, Bool, false, List, ◌==◌, Option, Some, None, filter, slice_get, slice_set}
+use Rattle.std.specs.Prelude.{ℕ, ◌-◌, Bool, false, List, if◌then◌else◌, ◌==◌, Option, Some, None, filter, slice_get, slice_set}
 use Rattle.std.specs.List.{list_any}
 use Rattle.o2_world.specs.Map.{Map, get}
 use Rattle.o2_world.specs.World.{Segment, Held, Process}
@@ -19,9 +19,9 @@ is_held ps name = list_any (λ (p : Process). holds_name p.held name) ps
 abbrev pub kept : List Process → Map Segment → Map Segment
 kept ps names = filter (λ (e : ℕ × Segment). is_held ps e.0) names
 
--- the process of a number, from 1
+-- the process of a number: process n is at place n - 1, and number 0 is no process
 abbrev pub process_at : List Process → ℕ → Option Process
-process_at ps n = slice_get ps (n - 1)
+process_at ps n = if n == 0 then None else slice_get ps (n - 1)
 
 abbrev pub with_process : List Process → ℕ → Process → List Process
-with_process ps n p = slice_set ps (n - 1) p
+with_process ps n p = if n == 0 then ps else slice_set ps (n - 1) p

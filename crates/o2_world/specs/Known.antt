@@ -35,15 +35,18 @@ pub record Known : Type 0 where
 abbrev pub marks_of : Segment → Marks
 marks_of s = record { size = length s.bytes; clean = s.clean; code = s.code; flags = s.flags; lock = s.lock; shared = s.shared; discarded = s.discarded }
 
--- number 0 is no process
 abbrev pub held_at : List Process → ℕ → ℕ → Option Held
-held_at ps n i = if n == 0 then None else held_of (process_at ps n) i
+held_at ps n i = held_of (process_at ps n) i
 
 abbrev pub holds_index : List Process → ℕ → Bool
 holds_index ps i = list_any (λ (p : Process). is_some (get p.held i)) ps
 
 abbrev pub reserves : ℕ → ℕ → Reserve → Bool
 reserves region i r = (r.region == region) && (nat_le r.first i && nat_lt i (r.first + r.count))
+
+-- a shared index is reserved for the whole run
+abbrev pub is_for_the_run : ℕ → Reserve → Bool
+is_for_the_run i r = r.stays && reserves 0 i r
 
 abbrev pub taken_in : World → ℕ → ℕ → Bool
 taken_in w region i = (if region == 0 then holds_index w.processes i else is_some (held_at w.processes region i)) || list_any (reserves region i) w.reserved
@@ -73,7 +76,7 @@ known_of s w = record {
   segment = λ n. option_map marks_of (get w.names n);
   taken = taken_in w;
   text = text_name w.texts;
-  lives = λ n. if n == 0 then false else lives_at (process_at w.processes n);
+  lives = λ n. lives_at (process_at w.processes n);
   count = live_below w.names w.next_name;
   most = s.segments;
   next = w.next_name;

@@ -17,3 +17,4 @@ pub mod Reach
 pub mod Tied
 pub mod Hello
 pub mod SegmentsWorked
+pub mod SharedMarks

@@ -45,9 +45,9 @@ abbrev pub holds_of : Option Held → ℕ
 holds_of None = 0
 holds_of (Some h) = h.holds
 
--- how often process p, from 1, holds what is at an index
+-- how often process p holds what is at an index
 abbrev pub holds_at : World → (p i : ℕ) → ℕ
-holds_at w p i = holds_of (held_in w.processes (p - 1) i)
+holds_at w p i = if p == 0 then 0 else holds_of (held_in w.processes (p - 1) i)
 
 -- the process is there
 abbrev pub IsThere : World → ℕ → Type 0

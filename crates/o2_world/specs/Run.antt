@@ -78,9 +78,17 @@ acted s w d (Some p) = changed w d p (effect (before s w d.current p))
 abbrev pub next_dispatch : Setting → World → Dispatch
 next_dispatch s w = dispatched s.quantum (live_flags w.processes) w.dispatch
 
--- one step of the machine
+-- all have ended, or the budget is spent
+abbrev pub is_over : World → Bool
+is_over w = not (any_lives w.processes) || (w.dispatch.budget == 0)
+
+-- a step of the process that is chosen
+abbrev pub chosen_step : Setting → World → World
+chosen_step s w = let d = next_dispatch s w in acted s w d (process_at w.processes d.current)
+
+-- one step of the machine; a run that is over stays as it is
 unfoldable pub step : Setting → World → World
-step s w = let d = next_dispatch s w in acted s w d (process_at w.processes d.current)
+step s w = if is_over w then w else chosen_step s w
 
 -- the next step is a DosRead of at least one byte from handle 0, with good pointers
 pub record IsReadNext (s : Setting) (w : World) : Type 0 where
@@ -96,10 +104,6 @@ after s w (suc k) = step s (after s w k)
 -- how many steps are behind a world
 abbrev pub steps_done : Setting → World → ℕ
 steps_done s w = s.budget - w.dispatch.budget
-
--- all have ended, or the budget is spent
-abbrev pub is_over : World → Bool
-is_over w = not (any_lives w.processes) || (w.dispatch.budget == 0)
 
 -- the run is over after k steps, and not before
 pub record IsLast (s : Setting) (w : World) (k : ℕ) : Type 0 where

@@ -27,7 +27,7 @@ abbrev pub one_process : World
 one_process = hello_world 1000000
 
 abbrev pub two_processes : World
-two_processes = opened (opening_of (hello_setting 1000000) [] [] (hello_process ∷ hello_process ∷ []))
+two_processes = opened (opening_of (hello_setting 1000000) [] [] [] (hello_process ∷ hello_process ∷ []))
 
 -- the lines behind those of the starts
 abbrev pub told_after : ℕ → World → List (Before → Effect) → List ℕ

@@ -29,16 +29,3 @@ pub record HasGoodRegisters (p : Process) : Type 0 where
   pub ss_ring : p.cpu.ss % 4 ≡ 3
   pub ds : (is_null p.cpu.ds ≡ true) ⊎ NamesHeld p is_readable p.cpu.ds
   pub es : (is_null p.cpu.es ≡ true) ⊎ NamesHeld p is_readable p.cpu.es
-
-pub record IsSoundFor (ps : List Process) (segments : Map Segment) : Type 0 where
-  -- what is held is the name of a live segment, and held at least once
-  pub held : (place i : ℕ) (h : Held) → held_in ps place i ≡ Some h → (is_some (get segments h.name) ≡ true) × (0 < h.holds)
-  -- each live name is held
-  pub named : (q : ℕ) → is_some (get segments q) ≡ true → is_held ps q ≡ true
-  -- by a process that lives
-  pub ended : (place : ℕ) (p : Process) → slice_get ps place ≡ Some p → is_live p.state ≡ false → p.held ≡ []
-  -- whose registers name what it holds
-  pub registers : (place : ℕ) (p : Process) → slice_get ps place ≡ Some p → is_live p.state ≡ true → HasGoodRegisters p
-
-abbrev pub IsSound : World → Type 0
-IsSound w = IsSoundFor w.processes w.names

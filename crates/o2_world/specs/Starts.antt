@@ -1,5 +1,5 @@
 -- How processes start over linked modules: what each holds, its registers, and the world before the first step.
-use Rattle.std.specs.Prelude.{ℕ, ◌+◌, ◌-◌, ◌%◌, Bool, false, not, List, [], ◌∷◌, ◌++◌, length, fold, flat_map, replicate, slice_get, nat_lt, Option, Some, None, option_map, unwrap_or, Result, Ok, Err, if◌then◌else◌, ◌==◌, ◌&&◌, ◌||◌}
+use Rattle.std.specs.Prelude.{ℕ, ◌+◌, ◌-◌, ◌%◌, Bool, true, false, not, List, [], ◌∷◌, ◌++◌, length, fold, map, flat_map, replicate, slice_get, nat_lt, Option, Some, None, option_map, unwrap_or, Result, Ok, Err, if◌then◌else◌, ◌==◌, ◌&&◌, ◌||◌}
 use Rattle.o2_base.specs.declared.faults.ModuleFault.{ModuleFault}
 use Rattle.o2_base.specs.declared.faults.ModuleFault.TheVariants.{NoStack, NoEntry, NoSegment}
 use Rattle.o2_isa.specs.declared.cpu.Cpu.{Cpu}
@@ -7,7 +7,7 @@ use Rattle.o2_isa.specs.View.{is_code, is_writable}
 use Rattle.o2_world.specs.declared.types.Made.{Made}
 use Rattle.o2_world.specs.declared.types.State.TheVariants.{Live}
 use Rattle.o2_world.specs.Map.{Map}
-use Rattle.o2_world.specs.World.{World, Setting, Process, Segment, Held, Line}
+use Rattle.o2_world.specs.World.{World, Setting, Process, Segment, Held, Line, Reserve}
 use Rattle.o2_world.specs.Opening.{selector_of, held_by_load, start_lines, even}
 
 -- a segment of a module: its index in the local descriptor tables, its access byte, whether its data is one for all
@@ -150,6 +150,17 @@ cpu_by m count size command = record {
 abbrev pub first_cpu : Start → Cpu
 first_cpu s = cpu_by s.program (length s.program.segments) (automatic_size s.program) s.command
 
+-- the process as it starts: its environment has the index behind its program's segments, and no process started it
+abbrev pub first_process : Start → Map Held → Process
+first_process s held = record {
+  cpu = first_cpu s;
+  state = Live;
+  held = held;
+  place = s.program.place;
+  parent = 0;
+  environment = selector_of (length s.program.segments + 1);
+}
+
 -- Refusals.
 
 -- SS is writable data
@@ -227,7 +238,7 @@ abbrev pub with_started : ℕ → Start → Built → Built
 with_started pid s b = record b {
   held = [];
   selectors = [];
-  processes = b.processes ++ record { cpu = first_cpu s; state = Live; held = b.held } ∷ [];
+  processes = b.processes ++ first_process s b.held ∷ [];
   lines = b.lines ++ start_lines pid s.program.name b.selectors;
 }
 
@@ -251,12 +262,17 @@ next_started most (Err fault) s = Err fault
 unfoldable pub all_started : ℕ → List Start → Result Built (ℕ × ModuleFault)
 all_started most starts = fold (next_started most) (Ok nothing_built) starts
 
-abbrev pub world_of : List (ℕ × ℕ) → ℕ → List ℕ → Built → World
-world_of script budget input b = record {
+-- shared indexes that are reserved for the whole run: the first, and how many
+abbrev pub for_the_run : ℕ × ℕ → Reserve
+for_the_run r = record { region = 0; first = r.0; count = r.1; stays = true }
+
+-- the world of processes that have started
+abbrev pub world_of : List (ℕ × ℕ) → List (ℕ × ℕ) → ℕ → List ℕ → Built → World
+world_of reserved script budget input b = record {
   names = b.names;
   next_name = b.next_name;
   processes = b.processes;
-  reserved = [];
+  reserved = map for_the_run reserved;
   texts = [];
   input = input;
   dispatch = record { script = script; current = 0; left = 0; turn = 0; budget = budget };
@@ -264,11 +280,11 @@ world_of script budget input b = record {
   lines = b.lines;
 }
 
-abbrev pub where_started : List (ℕ × ℕ) → ℕ → List ℕ → Result Built (ℕ × ModuleFault) → Result World (ℕ × ModuleFault)
-where_started script budget input (Ok b) = Ok (world_of script budget input b)
-where_started script budget input (Err fault) = Err fault
+abbrev pub where_started : List (ℕ × ℕ) → List (ℕ × ℕ) → ℕ → List ℕ → Result Built (ℕ × ModuleFault) → Result World (ℕ × ModuleFault)
+where_started reserved script budget input (Ok b) = Ok (world_of reserved script budget input b)
+where_started reserved script budget input (Err fault) = Err fault
 
--- the world before the first step, or the process that is refused, and why: a setting with its script, the input, and the
--- starts in the order of the machine file
-abbrev pub opening_of : Setting → List (ℕ × ℕ) → List ℕ → List Start → Result World (ℕ × ModuleFault)
-opening_of s script input starts = where_started script s.budget input (all_started s.segments starts)
+-- the world before the first step, or the process that is refused, and why: a setting with its script, the indexes of all
+-- libraries of the machine file, reached or not, the input, and the starts in the order of the machine file
+abbrev pub opening_of : Setting → List (ℕ × ℕ) → List (ℕ × ℕ) → List ℕ → List Start → Result World (ℕ × ModuleFault)
+opening_of s reserved script input starts = where_started reserved script s.budget input (all_started s.segments starts)

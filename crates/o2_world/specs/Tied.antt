@@ -3,10 +3,10 @@ use Rattle.std.specs.Prelude.{◌⊎◌, ◌≡◌, ◌≢◌, ℕ, ◌-◌, ◌
 use Rattle.o2_isa.specs.declared.cpu.Cpu.{Cpu}
 use Rattle.o2_isa.specs.View.{is_null, is_writable}
 use Rattle.o2_world.specs.Map.{Map, get}
-use Rattle.o2_world.specs.World.{World, Process, Segment, Held, Cause, ByLoad, is_live}
-use Rattle.o2_world.specs.Holders.{is_held}
+use Rattle.o2_world.specs.World.{World, Process, Segment, Held, Reserve, Cause, ByLoad, is_live}
+use Rattle.o2_world.specs.Holders.{is_held, process_at}
 use Rattle.o2_world.specs.Sound.{held_in, HasGoodRegisters}
-use Rattle.o2_world.specs.Changes.{Change, Makes, Resizes, Locks, Marks, Holds, Drops, Finishes, Reserves, Frees, Names, with_change}
+use Rattle.o2_world.specs.Changes.{Change, Makes, Resizes, Locks, Marks, Holds, Drops, Finishes, Reserves, Frees, Names, is_used, with_change}
 
 abbrev pub lives_in : World → ℕ → Bool
 lives_in w q = is_some (get w.names q)
@@ -38,9 +38,19 @@ pub record IsTied (w : World) : Type 0 where
   pub ended : (place : ℕ) (p : Process) → slice_get w.processes place ≡ Some p → is_live p.state ≡ false → p.held ≡ []
   pub registers : (place : ℕ) (p : Process) → slice_get w.processes place ≡ Some p → is_live p.state ≡ true → HasGoodRegisters p
 
--- each live name is held
-abbrev pub IsNamed : World → Type 0
-IsNamed w = (q : ℕ) → lives_in w q ≡ true → is_held w.processes q ≡ true
+-- each run of indexes that is reserved is held by somebody, or stays
+abbrev pub AreUsed : List Process → List Reserve → Type 0
+AreUsed ps [] = Unit {0}
+AreUsed ps (r ∷ rs) = (is_used ps r ≡ true) × AreUsed ps rs
+
+-- What holds behind each step, where what nobody holds is gone: each live name is held, and each reserved run.
+pub record IsSwept (w : World) : Type 0 where
+  pub named : (q : ℕ) → lives_in w q ≡ true → is_held w.processes q ≡ true
+  pub used : AreUsed w.processes w.reserved
+
+pub record IsSound (w : World) : Type 0 where
+  pub tied : IsTied w
+  pub swept : IsSwept w
 
 -- no register names the index
 pub record IsUnnamed (c : Cpu) (i : ℕ) : Type 0 where
@@ -53,12 +63,12 @@ pub record IsFitHold (w : World) (p i : ℕ) (h : Held) : Type 0 where
   pub lives : lives_in w h.name ≡ true
   pub some : 0 < h.holds
   pub clean : (s : Segment) → get w.names h.name ≡ Some s → s.clean ≡ true → is_writable h.rights ≡ false
-  pub goes_on : (x : Process) → slice_get w.processes (p - 1) ≡ Some x → is_live x.state ≡ true
+  pub goes_on : (x : Process) → process_at w.processes p ≡ Some x → is_live x.state ≡ true
   pub one : (place : ℕ) (k : Held) → 4096 ≤ i → held_in w.processes place i ≡ Some k → AreOne h k
 
 -- some holds are left, or no register of the process, where it lives, names the index
 abbrev pub IsFitDrop : World → (p i count : ℕ) → Type 0
-IsFitDrop w p i count = (x : Process) → slice_get w.processes (p - 1) ≡ Some x → is_live x.state ≡ true → ((h : Held) → get x.held i ≡ Some h → count < h.holds) ⊎ IsUnnamed x.cpu i
+IsFitDrop w p i count = (x : Process) → process_at w.processes p ≡ Some x → is_live x.state ≡ true → ((h : Held) → get x.held i ≡ Some h → count < h.holds) ⊎ IsUnnamed x.cpu i
 
 -- the change keeps a world tied
 abbrev pub IsFitChange : World → Change → Type 0

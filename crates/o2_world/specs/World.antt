@@ -42,11 +42,16 @@ pub record Reserve : Type 0 where
   pub count : ℕ
   pub stays : Bool
 
--- a process: its registers, how far it is, and what it holds by index in its local descriptor table
+-- a process: its registers, how far it is, and what it holds by index in its local descriptor table; the place of its module
+-- in the machine file, the number of the process that started it (0 for one of the machine file), and the selector of its
+-- environment
 pub record Process : Type 0 where
   pub cpu : Cpu
   pub state : State
   pub held : Map Held
+  pub place : ℕ
+  pub parent : ℕ
+  pub environment : ℕ
 
 abbrev pub is_live : State → Bool
 is_live Live = true
@@ -76,7 +81,8 @@ pub record World : Type 0 where
   pub console : List ℕ
   pub lines : List Line
 
--- what the machine file fixes for the whole run
+-- what the machine file fixes for the whole run: the steps of a turn, the bytes of physical memory, the blocks of 512 bytes of
+-- the swap device that it may use, the most names that may live, the number that DosMemAvail gives, and the steps of the run
 pub record Setting : Type 0 where
   pub quantum : ℕ
   pub memory : ℕ

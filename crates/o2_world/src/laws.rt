@@ -1,9 +1,8 @@
 // Laws of the boundless machine.
 ghost use Rattle.std.specs.Prelude.{◌≡◌, ◌≢◌, ◌-◌, ◌+◌, ◌==◌, ◌&&◌, not, ◌<◌, ◌≤◌, ℕ, ◌++◌, List, [], ◌∷◌, codes, true, false, slice_get, Ok, Some};
-ghost use Rattle.o2_world.specs.World.{World, Setting};
-ghost use Rattle.o2_world.specs.Starts.{Start, opening_of};
-ghost use Rattle.o2_world.specs.FitStarts.{AreFit};
-ghost use Rattle.o2_world.specs.Sound.{IsSound};
+ghost use Rattle.o2_world.specs.World.{World, Setting, Reserve};
+ghost use Rattle.o2_world.specs.Starts.{Loaded, Start, opening_of};
+ghost use Rattle.o2_world.specs.FitStarts.{AreFit, AreOf};
 ghost use Rattle.o2_world.specs.Run.{after, step, next_dispatch, is_over, steps_done, IsLast, console as console_text, report as report_text};
 ghost use Rattle.std.specs.Prelude.{length};
 ghost use Rattle.std.specs.List.{list_any};
@@ -11,13 +10,18 @@ ghost use Rattle.o2_conf.specs.Dispatch.{Dispatch};
 ghost use Rattle.o2_world.specs.Map.{get};
 ghost use Rattle.o2_world.specs.World.{Process, Segment, is_live};
 ghost use Rattle.o2_world.specs.Holders.{process_at};
-ghost use Rattle.o2_world.specs.Changes.{takes, used, moved_lines, with_changes};
+ghost use Rattle.std.specs.Prelude.{is_some};
+ghost use Rattle.o2_base.specs.Services.{is_built};
+ghost use Rattle.o2_world.specs.Calls.{row_of};
+ghost use Rattle.o2_world.specs.Known.{is_for_the_run};
+ghost use Rattle.o2_world.specs.SharedMarks.{shared_marks, some_marks};
+ghost use Rattle.o2_world.specs.Changes.{takes, used, told_of, moved_lines, with_changes};
 ghost use Rattle.o2_world.specs.Calls.{Effect};
 ghost use Rattle.o2_world.specs.Opening.{selector_of};
 ghost use Rattle.o2_world.specs.Sound.{HasGoodRegisters};
 ghost use Rattle.o2_world.specs.Run.{changed, worked, working};
 ghost use Rattle.o2_world.specs.Reach.{CanTellAll, Tells, IsTold, reach, tells_end, holds_at, came, went};
-ghost use Rattle.o2_world.specs.Tied.{IsTied, IsNamed, AreFitChanges};
+ghost use Rattle.o2_world.specs.Tied.{IsTied, IsSwept, IsSound, AreFitChanges};
 ghost use Rattle.o2_world.specs.Text.{lines_text};
 ghost use Rattle.o2_world.specs.SegmentCalls.{allocated, freed, given};
 ghost use Rattle.o2_world.specs.SegmentsWorked.{some_moves, es_after, one_process, two_processes, told_after, after_calls};
@@ -35,21 +39,36 @@ pub fn hello_runs_in_ten_steps()
 {}
 
 /// The world before the first step is sound, where each start of a program has its segments under their numbers, no index for
-/// two segments, and automatic data that can be read.
+/// two segments, and automatic data that can be read, and where the starts are over the same modules, with segments of 1 to
+/// 65,536 bytes.
 pub fn opening_worlds_are_sound()
-    ensures { (s : Setting) (script : List (ℕ × ℕ)) (input : List ℕ) (starts : List Start) (w : World) → AreFit starts → opening_of s script input starts ≡ Ok w → IsSound w }
+    ensures { (modules : ℕ → Loaded) (s : Setting) (reserved script : List (ℕ × ℕ)) (input : List ℕ) (starts : List Start) (w : World) → AreFit starts → AreOf modules starts
+        → opening_of s reserved script input starts ≡ Ok w → IsSound w }
 {}
 
-/// Each step keeps a sound world sound: what is held is a live segment and is held at least once, each live segment is held,
-/// and a process that has ended holds nothing. Of a process that lives, CS names held code and SS held writable data, both
+/// What is held before the first step is what the lines of the starts tell.
+pub fn opening_worlds_are_told()
+    ensures { (s : Setting) (reserved script : List (ℕ × ℕ)) (input : List ℕ) (starts : List Start) (w : World) → AreFit starts
+        → opening_of s reserved script input starts ≡ Ok w → IsTold w }
+{}
+
+/// Each step keeps a sound world sound. What is held is a live segment of 1 to 65,536 bytes and is held at least once, and
+/// nobody may write what is clean. No name is at or above the next one. Under a shared index all hold one name, or hold by
+/// load. Each live segment is held, and each run of reserved indexes, but for those of the whole run. Texts are those of live
+/// names. A process that has ended holds nothing. Of a process that lives, CS names held code and SS held writable data, both
 /// with privilege level 3, and DS and ES are null or name held data or readable code.
 pub fn each_step_keeps_a_sound_world_sound()
     ensures { (s : Setting) (w : World) → IsSound w → IsSound (step s w) }
 {}
 
+/// A run that is over stays as it is.
+pub fn a_run_that_is_over_stays()
+    ensures { (s : Setting) (w : World) → is_over w ≡ true → step s w ≡ w }
+{}
+
 /// A step changes no process but the one that is chosen.
 pub fn other_processes_stay()
-    ensures { (s : Setting) (w : World) (place : ℕ) → place ≢ (next_dispatch s w).current - 1 → slice_get (step s w).processes place ≡ slice_get w.processes place }
+    ensures { (s : Setting) (w : World) (place : ℕ) → place + 1 ≢ (next_dispatch s w).current → slice_get (step s w).processes place ≡ slice_get w.processes place }
 {}
 
 /// Each run comes to its end, which is not past its budget.
@@ -88,15 +107,44 @@ pub fn what_is_held_is_the_reach_of_the_report()
     ensures reach { (w : World) → IsTold w → (q i : ℕ) → 0 < q → reach w.lines q (selector_of i) ≡ holds_at w q i }
 {}
 
+/// From the opening on, what each process holds under each selector is the reach of the report, step by step: the lines of
+/// holds that came less those that went, and nothing behind the line of its end.
+pub fn reach_holds_along_the_run()
+    ensures step { (s : Setting) (w : World) → IsTold w → IsTold (step s w) }
+    ensures run { (s : Setting) (reserved script : List (ℕ × ℕ)) (input : List ℕ) (starts : List Start) (w : World) → AreFit starts → opening_of s reserved script input starts ≡ Ok w
+        → (k q i : ℕ) → 0 < q → reach (after s w k).lines q (selector_of i) ≡ holds_at (after s w k) q i }
+{}
+
 /// A step whose changes are fit keeps a world tied and each live name held.
 pub fn fit_changes_keep_a_world_tied()
     ensures { (w : World) (d : Dispatch) (p : Process) (e : Effect) → process_at w.processes d.current ≡ Some p → is_live p.state ≡ true → HasGoodRegisters (working p e)
         → ((q : ℕ) (s : Segment) → get w.names q ≡ Some s → length (e.bytes q) ≡ length s.bytes) → AreFitChanges (worked w d p e) e.changes
-        → (list_any takes e.changes ≡ false → IsNamed (with_changes (worked w d p e) e.changes)) → IsTied w → IsTied (changed w d p e) × IsNamed (changed w d p e) }
+        → (list_any takes e.changes ≡ false → IsSwept (with_changes (worked w d p e) e.changes)) → IsTied w → IsTied (changed w d p e) × IsSwept (changed w d p e) }
 {}
 
-/// Behind the end of a process no index is reserved for a run that nobody holds, and each live name is held.
+/// Each service that is built has a row, and no other.
+pub fn each_service_that_is_built_has_a_row()
+    ensures { (service : ℕ) → is_some (row_of service) ≡ is_built service }
+{}
+
+/// Code is not marked as shared, read-only data and data that is one for all processes are, and what each process has for itself
+/// is not: the marks of the names that two processes of one program with code, read-only data, common data and data of their
+/// own open, by number.
+pub fn common_data_is_marked_as_shared()
+    ensures { shared_marks ≡ some_marks }
+{}
+
+/// A shared index that is reserved for the whole run, as those of the libraries, is so behind each step.
+pub fn what_is_reserved_for_the_run_stays()
+    ensures { (s : Setting) (w : World) (i : ℕ) → list_any (is_for_the_run i) w.reserved ≡ true → list_any (is_for_the_run i) (step s w).reserved ≡ true }
+{}
+
+/// Behind the end of a process no index is reserved for a run that nobody holds, none of the process's own region is reserved,
+/// each live name is held, and each text is that of a name that is held.
 pub fn an_end_frees_what_nobody_holds()
     ensures reserves { (w : World) (d : Dispatch) (p : Process) (e : Effect) → is_live e.state ≡ false → let v = changed w d p e in used v.processes v.reserved ≡ v.reserved }
-    ensures names { (w : World) (d : Dispatch) (p : Process) (e : Effect) → is_live e.state ≡ false → IsNamed (changed w d p e) }
+    ensures own { (w : World) (d : Dispatch) (p : Process) (e : Effect) → process_at w.processes d.current ≡ Some p → is_live e.state ≡ false
+        → list_any (λ (r : Reserve). r.region == d.current) (changed w d p e).reserved ≡ false }
+    ensures texts { (w : World) (d : Dispatch) (p : Process) (e : Effect) → is_live e.state ≡ false → let v = changed w d p e in told_of v.processes v.texts ≡ v.texts }
+    ensures swept { (w : World) (d : Dispatch) (p : Process) (e : Effect) → is_live e.state ≡ false → IsSwept (changed w d p e) }
 {}

@@ -11,6 +11,16 @@ pub enum State {
     Trapped(u8),
 }
 
+/// A row of the calls, each that of one service.
+#[derive(Clone, Copy, Debug, PartialEq, Eq)]
+pub enum Row {
+    DosExit,
+    DosGetPid,
+    DosRead,
+    DosWrite,
+    DosMemAvail,
+}
+
 /// An argument of a call, or a value that a call wrote, as the report prints it.
 #[derive(Clone, Copy, Debug, PartialEq, Eq)]
 pub enum Argument {

@@ -29,7 +29,7 @@ returns-in-Fine-clause-texts g c = λ input left.
     record {
       start = start_of s input begun.built;
       starts = has_started s input begun.built begun.starts;
-      runs = (c.in-Fine.ensures.texts (ap stopped_of begun.fresh) (setting_of s.conf) (first_world s.conf input begun.built) _ _ (begun.stands input) left (nothing_yet s begun.built input _) begun.to_report).0;
+      runs = (c.in-Fine.ensures.texts (ap stopped_of begun.fresh) (setting_of s.conf) (first_world s.linked s.conf input begun.built) _ _ (begun.stands input) left (nothing_yet s begun.built input _) begun.to_report).0;
     }
 
 pub returns-in-SinkFault-clause-texts : goal.returns-in-SinkFault-clause-texts
@@ -39,7 +39,7 @@ returns-in-SinkFault-clause-texts g c = λ input left.
     record {
       start = start_of s input begun.built;
       starts = has_started s input begun.built begun.starts;
-      runs = (c.in-SinkFault.ensures.texts (ap stopped_of begun.fresh) (setting_of s.conf) (first_world s.conf input begun.built) _ _ (begun.stands input) left (nothing_yet s begun.built input _) begun.to_report).0;
+      runs = (c.in-SinkFault.ensures.texts (ap stopped_of begun.fresh) (setting_of s.conf) (first_world s.linked s.conf input begun.built) _ _ (begun.stands input) left (nothing_yet s begun.built input _) begun.to_report).0;
     }
 
 pub returns-clause-texts : goal.returns-clause-texts
@@ -50,5 +50,5 @@ returns-clause-texts g c = stopped_shows _ _ _ _ _ _ _ _ _ c.in-Stopped.why _ c.
       start = start_of s input begun.built;
       starts = has_started s input begun.built begun.starts;
       runs = stopped_since _ _ _ _ _ _ _ _ _ _ _ _ (rose_since _ _ _ c.in-Ok.ensures.count)
-          (c.in-Stopped.ensures.texts (ap stopped_of begun.fresh) (setting_of s.conf) (first_world s.conf input begun.built) _ _ (begun.stands input) left (nothing_yet s begun.built input _) begun.to_report).0;
+          (c.in-Stopped.ensures.texts (ap stopped_of begun.fresh) (setting_of s.conf) (first_world s.linked s.conf input begun.built) _ _ (begun.stands input) left (nothing_yet s begun.built input _) begun.to_report).0;
     })

@@ -1,61 +1,38 @@
-use Rattle.std.proofs.Common.{◌≡◌, ◌==◌, true, false, arith}
-use Rattle.o2_gate.proofs.Inputs.{never}
+-- Each row is answered by its own service.
+use Rattle.std.proofs.Common.{ℕ}
+use Rattle.o2_world.specs.declared.types.Row.TheVariants.{DosExit, DosGetPid, DosRead, DosWrite, DosMemAvail}
+use Rattle.o2_world.specs.Calls.{Effect}
+use Rattle.o2_gate.specs.Befores.{before_call}
+use Rattle.o2_gate.specs.Called.{Does}
+use Rattle.o2_gate.proofs.Served.{by_row}
 use Rattle.o2_gate.proofs.gate.call.Goals as goal
 
-pub returns-in-1-clause-does : goal.returns-in-1-clause-does
-returns-in-1-clause-does g c = λ bytes known e same.
-    let is : (c.args.service == 1) ≡ true = grind arith in
-    rw is (c.dos_exit.ensures.does bytes known _ _ e)
+pub returns-in-Some-DosExit-clause-does : goal.returns-in-Some-DosExit-clause-does
+returns-in-Some-DosExit-clause-does g c = λ bytes known e same.
+    let b = before_call c.args.state.now.plain c.args.pid c.args.cpu.now bytes known in
+    by_row (λ (f : Effect). Does b f c.args.cpu.now c.args.state.now.plain c.args.state.now.plain (g.I.Source.left c.args.input.now) (g.I.Source.left c.args.input.now) (g.C.Sink.taken c.args.console.now) (g.C.Sink.taken c.args.console.now) (g.R.Sink.taken c.args.report.now) (g.R.Sink.taken c.dos_exit.new.report) c.dos_exit.result)
+    b c.args.service c.args.next c.row_of.result c.in-Some-DosExit.field-0 DosExit c.row_of.ensures.row c.in-Some-DosExit.is c.in-Some-DosExit.field-0-is (c.dos_exit.ensures.does bytes known _ _ e)
 
-pub returns-in-1-clause-input_cause : goal.returns-in-1-clause-input_cause
-returns-in-1-clause-input_cause g c = never _ _ c.dos_exit.ensures.unread
+pub returns-in-Some-DosGetPid-clause-does : goal.returns-in-Some-DosGetPid-clause-does
+returns-in-Some-DosGetPid-clause-does g c = λ bytes known e same.
+    let b = before_call c.args.state.now.plain c.args.pid c.args.cpu.now bytes known in
+    by_row (λ (f : Effect). Does b f c.dos_get_pid.new.cpu c.args.state.now.plain c.dos_get_pid.new.plain (g.I.Source.left c.args.input.now) (g.I.Source.left c.args.input.now) (g.C.Sink.taken c.args.console.now) (g.C.Sink.taken c.args.console.now) (g.R.Sink.taken c.args.report.now) (g.R.Sink.taken c.dos_get_pid.new.report) c.dos_get_pid.result)
+    b c.args.service c.args.next c.row_of.result c.in-Some-DosGetPid.field-0 DosGetPid c.row_of.ensures.row c.in-Some-DosGetPid.is c.in-Some-DosGetPid.field-0-is (c.dos_get_pid.ensures.does bytes known _ _ e)
 
-pub returns-in-1-clause-input_service : goal.returns-in-1-clause-input_service
-returns-in-1-clause-input_service g c = never _ _ c.dos_exit.ensures.unread
+pub returns-in-Some-DosRead-clause-does : goal.returns-in-Some-DosRead-clause-does
+returns-in-Some-DosRead-clause-does g c = λ bytes known e same.
+    let b = before_call c.args.state.now.plain c.args.pid c.args.cpu.now bytes known in
+    by_row (λ (f : Effect). Does b f c.dos_read.new.cpu c.args.state.now.plain c.dos_read.new.plain (g.I.Source.left c.args.input.now) (g.I.Source.left c.dos_read.new.input) (g.C.Sink.taken c.args.console.now) (g.C.Sink.taken c.args.console.now) (g.R.Sink.taken c.args.report.now) (g.R.Sink.taken c.dos_read.new.report) c.dos_read.result)
+    b c.args.service c.args.next c.row_of.result c.in-Some-DosRead.field-0 DosRead c.row_of.ensures.row c.in-Some-DosRead.is c.in-Some-DosRead.field-0-is (c.dos_read.ensures.does bytes known _ e)
 
-pub returns-in-2-clause-does : goal.returns-in-2-clause-does
-returns-in-2-clause-does g c = λ bytes known e same.
-    let one : (c.args.service == 1) ≡ false = grind arith in
-    let two : (c.args.service == 2) ≡ true = grind arith in
-    rw (one, two) (c.dos_get_pid.ensures.does bytes known _ _ e)
+pub returns-in-Some-DosWrite-clause-does : goal.returns-in-Some-DosWrite-clause-does
+returns-in-Some-DosWrite-clause-does g c = λ bytes known e same.
+    let b = before_call c.args.state.now.plain c.args.pid c.args.cpu.now bytes known in
+    by_row (λ (f : Effect). Does b f c.dos_write.new.cpu c.args.state.now.plain c.dos_write.new.plain (g.I.Source.left c.args.input.now) (g.I.Source.left c.args.input.now) (g.C.Sink.taken c.args.console.now) (g.C.Sink.taken c.dos_write.new.console) (g.R.Sink.taken c.args.report.now) (g.R.Sink.taken c.dos_write.new.report) c.dos_write.result)
+    b c.args.service c.args.next c.row_of.result c.in-Some-DosWrite.field-0 DosWrite c.row_of.ensures.row c.in-Some-DosWrite.is c.in-Some-DosWrite.field-0-is (c.dos_write.ensures.does bytes known _ e)
 
-pub returns-in-2-clause-input_cause : goal.returns-in-2-clause-input_cause
-returns-in-2-clause-input_cause g c = never _ _ c.dos_get_pid.ensures.unread
-
-pub returns-in-2-clause-input_service : goal.returns-in-2-clause-input_service
-returns-in-2-clause-input_service g c = never _ _ c.dos_get_pid.ensures.unread
-
-pub returns-in-3-clause-does : goal.returns-in-3-clause-does
-returns-in-3-clause-does g c = λ bytes known e same.
-    let one : (c.args.service == 1) ≡ false = grind arith in
-    let two : (c.args.service == 2) ≡ false = grind arith in
-    let three : (c.args.service == 3) ≡ true = grind arith in
-    rw (one, two, three) (c.dos_read.ensures.does bytes known _ e)
-
-pub returns-in-19-clause-does : goal.returns-in-19-clause-does
-returns-in-19-clause-does g c = λ bytes known e same.
-    let one : (c.args.service == 1) ≡ false = grind arith in
-    let two : (c.args.service == 2) ≡ false = grind arith in
-    let three : (c.args.service == 3) ≡ false = grind arith in
-    let avail : (c.args.service == 19) ≡ true = grind arith in
-    rw (one, two, three, avail) (c.dos_mem_avail.ensures.does bytes known _ _ e same)
-
-pub returns-in-19-clause-input_cause : goal.returns-in-19-clause-input_cause
-returns-in-19-clause-input_cause g c = never _ _ c.dos_mem_avail.ensures.unread
-
-pub returns-in-19-clause-input_service : goal.returns-in-19-clause-input_service
-returns-in-19-clause-input_service g c = never _ _ c.dos_mem_avail.ensures.unread
-
-pub returns-in_default-clause-does : goal.returns-in_default-clause-does
-returns-in_default-clause-does g c = λ bytes known e same.
-    let one : (c.args.service == 1) ≡ false = grind arith in
-    let two : (c.args.service == 2) ≡ false = grind arith in
-    let three : (c.args.service == 3) ≡ false = grind arith in
-    let avail : (c.args.service == 19) ≡ false = grind arith in
-    rw (one, two, three, avail) (c.dos_write.ensures.does bytes known _ e)
-
-pub returns-in_default-clause-input_cause : goal.returns-in_default-clause-input_cause
-returns-in_default-clause-input_cause g c = never _ _ c.dos_write.ensures.unread
-
-pub returns-in_default-clause-input_service : goal.returns-in_default-clause-input_service
-returns-in_default-clause-input_service g c = never _ _ c.dos_write.ensures.unread
+pub returns-in-Some-DosMemAvail-clause-does : goal.returns-in-Some-DosMemAvail-clause-does
+returns-in-Some-DosMemAvail-clause-does g c = λ bytes known e same.
+    let b = before_call c.args.state.now.plain c.args.pid c.args.cpu.now bytes known in
+    by_row (λ (f : Effect). Does b f c.dos_mem_avail.new.cpu c.args.state.now.plain c.dos_mem_avail.new.plain (g.I.Source.left c.args.input.now) (g.I.Source.left c.args.input.now) (g.C.Sink.taken c.args.console.now) (g.C.Sink.taken c.args.console.now) (g.R.Sink.taken c.args.report.now) (g.R.Sink.taken c.dos_mem_avail.new.report) c.dos_mem_avail.result)
+    b c.args.service c.args.next c.row_of.result c.in-Some-DosMemAvail.field-0 DosMemAvail c.row_of.ensures.row c.in-Some-DosMemAvail.is c.in-Some-DosMemAvail.field-0-is (c.dos_mem_avail.ensures.does bytes known _ _ e same)

@@ -1,5 +1,7 @@
-use Rattle.o2_load.proofs.Fits.{linked_starts_fit, linked_opening_sound}
+use Rattle.o2_load.proofs.Fits.{linked_starts_fit}
+use Rattle.o2_load.proofs.Overs.{linked_starts_over}
+use Rattle.o2_load.proofs.Openings.{linked_opening_sound, linked_opening_told}
 use Rattle.o2_load.proofs.laws.linked_modules_open_soundly.Goals as goal
 
 pub returns : goal.returns
-returns c = record { fit = linked_starts_fit; sound = linked_opening_sound }
+returns c = record { fit = linked_starts_fit; over = linked_starts_over; sound = linked_opening_sound; told = linked_opening_told }

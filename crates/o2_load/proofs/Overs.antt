@@ -1,0 +1,138 @@
+-- The starts of linked modules are over these modules, and each segment has 1 to 65,536 bytes.
+use Rattle.std.proofs.Common.{◌≡◌, ℕ, zero, suc, ◌+◌, ◌-◌, ◌≤◌, ◌<◌, ◌==◌, Bool, true, false, cond, List, [], ◌∷◌, ◌++◌, length, replicate, if◌then◌else◌, Option, Some, None, ap, sym, ◌∙◌, refl, arith, subst, length-append, get_or}
+use Rattle.std.specs.Prelude.{slice_get, option_map, map, flat_map, Result, Ok, Err}
+use Rattle.std.specs.List.{All, AllByRecursion}
+use Rattle.std.proofs.lemmas.List.Elements.{All-cons, All-nil, All-head, All-tail}
+use Rattle.o2_conf.specs.declared.conf.Conf.{Conf}
+use Rattle.o2_conf.specs.declared.process.Process.{Process}
+use Rattle.o2_conf.specs.Environments.{environment_bytes}
+use Rattle.o2_conf.specs.Limits.{HasEnvironment}
+use Rattle.o2_ne.proofs.Tabulated.{length-tabulate}
+use Rattle.o2_ne_segs.specs.declared.segment.Segment.{Segment}
+use Rattle.o2_ne_segs.specs.SegmentTable.{nth_segment, AllSized, HasSize}
+use Rattle.o2_image.specs.Getters.{nth, nth_list}
+use Rattle.o2_image.specs.Images.{Target, image, image_in, segment_image}
+use Rattle.o2_image.specs.ImageList.{ImageList, Resolution, image_front, module_front}
+use Rattle.o2_image.specs.Parts.{Parts}
+use Rattle.o2_image.specs.Whole.{IsRunnable}
+use Rattle.o2_dynlink.specs.Linking.{linked_of, outcome}
+use Rattle.o2_dynlink.specs.Outcome.{LinkedParts, modules_of}
+use Rattle.o2_dynlink.proofs.Indexes.{nth_some}
+use Rattle.o2_world.specs.Starts.{Loaded, LoadedSegment, Start, Holding, holding_of, module_holdings, environment_holding, library_holdings, holdings, loaded_bytes, nth_loaded}
+use Rattle.o2_world.specs.FitStarts.{rights_or_none, rights_at, IsWhole, IsOf, AreOf}
+use Rattle.o2_load.specs.Loads.{rights_of, room_at, loaded_segment, loaded_segments, loaded_module, no_module, loaded, program_place, start_of, starts_of}
+use Rattle.o2_load.proofs.Fits.{loaded_of, at_place, runnable_at, linked_modules}
+use Rattle.o2_load.proofs.Images.{first_bytes_are, room_behind_fits, in_list, get_in}
+use Rattle.o2_load.proofs.Sizes.{bytes_length, bytes_size}
+
+zeros : (n : ℕ) → length {A = ℕ} (replicate n 0) ≡ n
+zeros zero = refl
+zeros (suc n) = ap suc (zeros n)
+
+in_length : (m : Parts) (targets : List (List Target)) (seg n : ℕ) (o : Option Segment) → length (image_in m targets seg o n) ≡ n
+in_length m targets seg n None = length-tabulate _ 0 n
+in_length m targets seg n (Some s) = length-tabulate _ 0 n
+
+module_length : (o : Option Resolution) (seg n : ℕ) → length (module_front o seg n) ≡ n
+module_length None seg n = length-tabulate _ 0 n
+module_length (Some r) seg n = in_length r.0 r.1 seg n (nth_segment seg r.0.segments)
+
+front_length : (images : ImageList) (place seg n : ℕ) → length (image_front images place seg n) ≡ n
+front_length images place seg n = go (place == 0)
+  where
+    go : (b : Bool) → length (if b then image (nth_list images.environments seg) [] n else module_front (nth images.modules place) seg n) ≡ n
+    go true = length-tabulate _ 0 n
+    go false = module_length (nth images.modules place) seg n
+
+some_size : (b : Bool) (ss : List Segment) (n : ℕ) (s : Segment) → AllSized ss → (if b then None else slice_get ss (n - 1)) ≡ Some s → 1 ≤ s.size
+some_size true ss n s all e = absurd (cc)
+some_size false ss n s all e =
+    let h : HasSize (get_or ss (n - 1) s) = all (n - 1) s (in_list ss (n - 1) s e) in
+    (subst (λ (x : Segment). HasSize x) (get_in ss (n - 1) s e) h).0
+
+get_loaded : (images : ImageList) (place : ℕ) (m : Parts) (j : ℕ) (ss : List Segment) (k : ℕ) (s : Segment) → slice_get ss k ≡ Some s → slice_get (loaded_segments images place m j ss) k ≡ Some (loaded_segment images place m (j + k) s)
+get_loaded images place m j [] k s e = absurd (cc)
+get_loaded images place m j (x ∷ ss) zero s e =
+    let same : x ≡ s = cc in
+    let number : j ≡ j + 0 = omega arith in
+    ap (λ (y : Segment). Some (loaded_segment images place m j y)) same ∙ ap (λ (n : ℕ). Some (loaded_segment images place m n s)) number
+get_loaded images place m j (x ∷ ss) (suc k) s e =
+    let number : j + 1 + k ≡ j + suc k = omega arith in
+    get_loaded images place m (j + 1) ss k s e ∙ ap (λ (n : ℕ). Some (loaded_segment images place m n s)) number
+
+nth_there : (images : ImageList) (place : ℕ) (m : Parts) (n : ℕ) (s : Segment) → nth_segment n m.segments ≡ Some s → rights_or_none (nth_loaded n (loaded_segments images place m 1 m.segments)) ≡ rights_of s.kind
+nth_there images place m n s e = go (n == 0) refl e
+  where
+    some_number : (n == 0) ≡ false → 1 + (n - 1) ≡ n
+    some_number is = let some : 0 < n = grind arith in omega (arith, some)
+
+    go : (b : Bool) → (n == 0) ≡ b → cond b None (slice_get m.segments (n - 1)) ≡ Some s → rights_or_none (cond b None (slice_get (loaded_segments images place m 1 m.segments) (n - 1))) ≡ rights_of s.kind
+    go true is e = absurd (cc)
+    go false is e = ap rights_or_none (get_loaded images place m 1 m.segments (n - 1) s e)
+
+module _ (images : ImageList) (ms : List Parts) (same : modules_of images ≡ ms) (all : All IsRunnable ms) where
+  one_whole : (place n : ℕ) (m : Parts) (s : Segment) → nth ms place ≡ Some m → nth_segment n m.segments ≡ Some s → IsWhole (loaded images) (holding_of (loaded_module images place m) n (loaded_segment images place m n s))
+  one_whole place n m s at e =
+      let runs = runnable_at ms place all m at in
+      let size : length (loaded_bytes (loaded_module images place m) n (loaded_segment images place m n s)) ≡ s.size + room_at m n =
+      ap (λ (xs : List ℕ). length xs) (sym (first_bytes_are images place n m s)) ∙ length-append (image_front images place n s.size) (replicate (room_at m n) 0) ∙ two (front_length images place n s.size) (zeros (room_at m n)) in
+      let fits = room_behind_fits m n s runs e in
+      let some = some_size (n == 0) m.segments n s runs.sizes e in
+      record {
+        some = omega (arith, size, some);
+        most = omega (arith, size, fits);
+        rights = λ _. sym (ap (λ (l : Loaded). rights_or_none (nth_loaded n l.segments)) (at_place images ms same place (Some m) at) ∙ nth_there images place m n s e);
+      }
+    where
+      two : {a b c d : ℕ} → a ≡ c → b ≡ d → a + b ≡ c + d
+      two e f = omega (arith, e, f)
+
+  segments_whole : (place n : ℕ) (m : Parts) (ss : List Segment) → nth ms place ≡ Some m → ((k : ℕ) (s : Segment) → slice_get ss k ≡ Some s → nth_segment (n + k) m.segments ≡ Some s)
+      → AllByRecursion (IsWhole (loaded images)) (module_holdings (loaded_module images place m) n (loaded_segments images place m n ss))
+  segments_whole place n m [] at there = tt
+  segments_whole place n m (s ∷ ss) at there =
+      let number : n + 0 ≡ n = omega arith in (
+        one_whole place n m s at (ap (λ (k : ℕ). nth_segment k m.segments) (sym number) ∙ there 0 s refl),
+        segments_whole place (n + 1) m ss at (λ k x e. let next : n + 1 + k ≡ n + suc k = omega arith in ap (λ (j : ℕ). nth_segment j m.segments) next ∙ there (suc k) x e),
+      )
+
+  nth_next : (xs : List Segment) (k : ℕ) (s : Segment) → slice_get xs k ≡ Some s → nth_segment (1 + k) xs ≡ Some s
+  nth_next xs k s e = go (1 + k == 0) (differs k) (1 + k - 1) (omega arith)
+    where
+      differs : (k : ℕ) → (1 + k == 0) ≡ false
+      differs k = grind arith
+
+      go : (b : Bool) → b ≡ false → (j : ℕ) → j ≡ k → cond b None (slice_get xs j) ≡ Some s
+      go true f j same = absurd (cc)
+      go false f j same = ap (slice_get xs) same ∙ e
+
+  module_whole : (place : ℕ) (o : Option Parts) → nth ms place ≡ o → AllByRecursion (IsWhole (loaded images)) (module_holdings (loaded images place) 1 (loaded images place).segments)
+  module_whole place None at = subst (λ (l : Loaded). AllByRecursion (IsWhole (loaded images)) (module_holdings l 1 l.segments)) (sym (at_place images ms same place None at)) tt
+  module_whole place (Some m) at =
+      subst (λ (l : Loaded). AllByRecursion (IsWhole (loaded images)) (module_holdings l 1 l.segments)) (sym (at_place images ms same place (Some m) at))
+      (segments_whole place 1 m m.segments at (λ k s e. nth_next m.segments k s e))
+
+  both : (xs ys : List Holding) → AllByRecursion (IsWhole (loaded images)) xs → AllByRecursion (IsWhole (loaded images)) ys → AllByRecursion (IsWhole (loaded images)) (xs ++ ys)
+  both [] ys a b = b
+  both (x ∷ xs) ys a b = (a.0, both xs ys a.1 b)
+
+  libraries_whole : (places : List ℕ) → AllByRecursion (IsWhole (loaded images)) (library_holdings (map (loaded images) places))
+  libraries_whole [] = tt
+  libraries_whole (place ∷ places) = both (module_holdings (loaded images place) 1 (loaded images place).segments) _ (module_whole place (nth ms place) refl) (libraries_whole places)
+
+environment_some : (p : Process) → 0 < length (environment_bytes p)
+environment_some p = let h = bytes_length p in omega (arith, h)
+
+one_over : (l : LinkedParts) (ms : List Parts) → modules_of l.images ≡ ms → All IsRunnable ms → (pid : ℕ) (p : Process) → HasEnvironment p → IsOf (loaded l.images) (start_of l pid p)
+one_over l ms same all pid p fits number =
+    both l.images ms same all (module_holdings (loaded l.images (program_place l pid)) 1 (loaded l.images (program_place l pid)).segments) _
+    (module_whole l.images ms same all (program_place l pid) (nth ms (program_place l pid)) refl)
+    (record { some = environment_some p; most = bytes_size p fits; rights = λ common. absurd (let no : false ≡ true = common in cc) }, libraries_whole l.images ms same all (nth_list l.libraries pid))
+
+all_over : (l : LinkedParts) (ms : List Parts) → modules_of l.images ≡ ms → All IsRunnable ms → (pid : ℕ) (ps : List Process) → All HasEnvironment ps → AreOf (loaded l.images) (starts_of l pid ps)
+all_over l ms same all pid [] fits = All-nil (IsOf (loaded l.images))
+all_over l ms same all pid (p ∷ ps) fits =
+    All-cons (IsOf (loaded l.images)) (start_of l pid p) (starts_of l (pid + 1) ps) (one_over l ms same all pid p (All-head HasEnvironment p ps fits)) (all_over l ms same all (pid + 1) ps (All-tail HasEnvironment p ps fits))
+
+pub linked_starts_over : (ms : List Parts) (c : Conf) (l : LinkedParts) → All IsRunnable ms → All HasEnvironment c.process → linked_of ms c ≡ Ok l → AreOf (loaded l.images) (starts_of l 1 c.process)
+linked_starts_over ms c l all fits e = all_over l ms (linked_modules ms c l e) all 1 c.process fits

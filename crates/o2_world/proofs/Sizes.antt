@@ -1,0 +1,225 @@
+-- No step of today changes the size of a segment.
+use Rattle.std.proofs.Common.{◌≡◌, ℕ, zero, suc, ◌+◌, ◌-◌, ◌≤◌, ◌<◌, ◌/◌, ◌%◌, ◌==◌, ◌&&◌, ◌||◌, nat_le, Bool, true, false, cond, List, [], ◌∷◌, ◌++◌, length, take, drop, Option, Some, None, if◌then◌else◌, ap, sym, ◌∙◌, refl, arith, subst}
+use Rattle.std.specs.Prelude.{Result, Ok, Err}
+use Rattle.std.proofs.lemmas.Grind.{common_steps}
+use Rattle.o2_isa.specs.declared.instr.Width.{Width}
+use Rattle.o2_isa.specs.declared.instr.Width.TheVariants.{Word}
+use Rattle.o2_isa.specs.declared.cpu.Cpu.{Cpu}
+use Rattle.o2_isa.specs.declared.cpu.Loaded.{Loaded}
+use Rattle.o2_isa.specs.declared.cpu.Loaded.TheVariants as loaded
+use Rattle.o2_isa.specs.declared.cpu.Stop.{Stop}
+use Rattle.o2_isa.specs.declared.cpu.Stop.TheVariants as stop
+use Rattle.o2_isa.specs.Parts.{put_part}
+use Rattle.o2_isa.specs.View.{View, Hold, in_register, poke, poke_hold, bind, put_at, read_of, room_of, probe_of, size_at, rights_at, is_readable, is_writable, bound_in}
+use Rattle.o2_isa.specs.Steps.{State as Machine, state, Steps, Stops, Ends, Reads, Room, Loads, Sizes, Rights, Change, Bind, Write, Copy, changed, word_there, or_trap, passed, selector, run, ◌>>=◌}
+use Rattle.o2_isa.specs.Step.{stepped, step_steps}
+use Rattle.o2_isa.proofs.Pokes.{length_put_at}
+use Rattle.o2_world.specs.declared.types.Argument.{Argument}
+use Rattle.o2_world.specs.declared.types.Row.{Row}
+use Rattle.o2_world.specs.declared.types.Row.TheVariants.{DosExit, DosGetPid, DosRead, DosWrite, DosMemAvail}
+use Rattle.o2_world.specs.World.{is_live}
+use Rattle.o2_world.specs.Calls.{Before, Effect, trapped, argument, has_arguments, has_range, may_read, may_write, put_in, put_at_pointer, word_bytes, is_console, written, dos_write, dos_exit, told_at, told, bytes_with, may_take, read_with, read_from, dos_read, pid_bytes, long_bytes, row_of, served_by}
+use Rattle.o2_world.specs.Effect.{has_trap_flag, answered, single_stepped, effect}
+
+-- The view behind an instruction.
+
+-- each name has as many bytes as before
+pub record KeepsSizes (old new : ℕ → List ℕ) : Type 0 where
+  pub same : (q : ℕ) → length (new q) ≡ length (old q)
+
+stays : (f : ℕ → List ℕ) → KeepsSizes f f
+stays f = record { same = λ q. refl }
+
+behind : (f g h : ℕ → List ℕ) → KeepsSizes f g → KeepsSizes g h → KeepsSizes f h
+behind f g h a b = record { same = λ q. b.same q ∙ a.same q }
+
+same_name : (n m : ℕ) → (n == m) ≡ true → n ≡ m
+same_name n m e = grind arith
+
+poked : (v : View) (o : Option Hold) (k : ℕ) (w : Width) (x : ℕ) → KeepsSizes v.bytes (poke_hold v o k w x).bytes
+poked v None k w x = stays v.bytes
+poked v (Some h) k w x = record { same = λ q. go q (q == h.name) refl }
+  where
+    go : (q : ℕ) (b : Bool) → (q == h.name) ≡ b → length (if b then put_at (v.bytes h.name) k w x else v.bytes q) ≡ length (v.bytes q)
+    go q true e = length_put_at (v.bytes h.name) k w x ∙ ap (λ i. length (v.bytes i)) (sym (same_name q h.name e))
+    go q false e = refl
+
+changed_sizes : (cs : List Change) (v : View) → KeepsSizes v.bytes (changed cs v).bytes
+unfolding bind poke
+changed_sizes [] v = stays v.bytes
+changed_sizes (Bind r s ∷ cs) v = changed_sizes cs (bind v r (selector s))
+changed_sizes (Write r k w x ∷ cs) v = behind _ _ _ (poked v (in_register v.registers r) k w x) (changed_sizes cs (poke v r k w x))
+changed_sizes (Copy r a b ∷ cs) v = behind _ _ _ (poked v (in_register v.registers r) b Word (word_there v r a)) (changed_sizes cs (poke v r b Word (word_there v r a)))
+
+checked : (P : Type 0) (r : Result ℕ Stop) (f : ℕ → Result Machine Stop) (t : Machine) → ((x : ℕ) → f x ≡ Ok t → P) → (r >>= f) ≡ Ok t → P
+checked P (Ok x) f t h e = h x e
+checked P (Err d) f t h e = cc
+
+run_sizes : (v : View) (p : Steps) (t : Machine) → run p v ≡ Ok t → KeepsSizes v.bytes t.view.bytes
+run_sizes v (Stops d) t e = cc
+run_sizes v (Ends d cs) t e = subst (λ (z : Machine). KeepsSizes v.bytes z.view.bytes) (ap state_in e) (changed_sizes cs v)
+  where
+    state_in : Result Machine Stop → Machine
+    state_in (Ok s) = s
+    state_in (Err d) = t
+run_sizes v (Reads r k w f) t e = checked _ (or_trap (read_of v r k w)) (λ x. run (f x) v) t (λ x q. run_sizes v (f x) t q) e
+run_sizes v (Room r k w p) t e = checked _ (or_trap (room_of v r k w)) (λ _. run p v) t (λ _ q. run_sizes v p t q) e
+run_sizes v (Loads purpose s next p) t e = checked _ (passed next (probe_of v purpose (selector s))) (λ _. run p v) t (λ _ q. run_sizes v p t q) e
+run_sizes v (Sizes s f) t e = run_sizes v (f (size_at v s)) t e
+run_sizes v (Rights s f) t e = run_sizes v (f (rights_at v s)) t e
+
+stepped_sizes : (c : Cpu) (v : View) (t : Machine) → stepped (state c v) ≡ Ok t → KeepsSizes v.bytes t.view.bytes
+unfolding stepped
+stepped_sizes c v t e = run_sizes v (step_steps (state c v)) t e
+
+-- The bytes behind a pointer.
+
+put_length : (bytes : List ℕ) (at : ℕ) (part : List ℕ) → at + length part ≤ length bytes → length (put_part bytes at part) ≡ length bytes
+put_length bytes at part h = grind (arith, common_steps)
+
+in_range : (a b : Bool) (n m : ℕ) → (a && nat_le n m) ≡ true → n ≤ m
+in_range true b n m e = grind arith
+in_range false b n m e = absurd (cc)
+
+put_sizes : (f : ℕ → List ℕ) (offset : ℕ) (part : List ℕ) (o : Option Hold) → has_range f is_writable offset (length part) o ≡ true → KeepsSizes f (put_in f offset part o)
+put_sizes f offset part None e = absurd (cc)
+put_sizes f offset part (Some h) e = record { same = λ q. go q (q == h.name) refl }
+  where
+    within : offset + length part ≤ length (f h.name)
+    within = in_range (is_writable h.rights) true (offset + length part) (length (f h.name)) e
+
+    go : (q : ℕ) (b : Bool) → (q == h.name) ≡ b → length (if b then put_part (f q) offset part else f q) ≡ length (f q)
+    go q true is = let same = same_name q h.name is in put_length (f q) offset part (subst (λ (n : ℕ). offset + length part ≤ length (f n)) (sym same) within)
+    go q false is = refl
+
+nothing_put : (bytes : List ℕ) (at : ℕ) → length (put_part bytes at []) ≡ length bytes
+nothing_put bytes at = grind (arith, common_steps)
+
+no_sizes : (f : ℕ → List ℕ) (offset : ℕ) (part : List ℕ) (o : Option Hold) → part ≡ [] → KeepsSizes f (put_in f offset part o)
+no_sizes f offset part None e = stays f
+no_sizes f offset part (Some h) e = record { same = λ q. go q (q == h.name) }
+  where
+    go : (q : ℕ) (b : Bool) → length (if b then put_part (f q) offset part else f q) ≡ length (f q)
+    go q true = ap (λ (xs : List ℕ). length (put_part (f q) offset xs)) e ∙ nothing_put (f q) offset
+    go q false = refl
+
+none_in : (part : List ℕ) → (length part == 0) ≡ true → part ≡ []
+none_in [] e = refl
+none_in (x ∷ xs) e = absurd (let no : length (x ∷ xs) ≡ 0 = grind arith in omega (arith, no))
+
+or_cases : {P : Type 0} (a b : Bool) → (a || b) ≡ true → (a ≡ true → P) → (b ≡ true → P) → P
+or_cases true b e f g = f refl
+or_cases false b e f g = g e
+
+pointer_sizes : (held : ℕ → Option Hold) (f : ℕ → List ℕ) (s offset : ℕ) (part : List ℕ) → may_write held f s offset (length part) ≡ true → KeepsSizes f (put_at_pointer held f s offset part)
+unfolding may_write put_at_pointer
+pointer_sizes held f s offset part e =
+    or_cases (length part == 0) _ e (λ none. no_sizes f offset part (bound_in held s) (none_in part none)) (λ good. put_sizes f offset part (bound_in held s) good)
+
+-- a pointer that is good is good behind a write that keeps sizes
+still_range : (f g : ℕ → List ℕ) (ok : ℕ → Bool) (offset count : ℕ) (o : Option Hold) → KeepsSizes f g → has_range f ok offset count o ≡ true → has_range g ok offset count o ≡ true
+still_range f g ok offset count None k e = e
+still_range f g ok offset count (Some h) k e = ap (λ (n : ℕ). ok h.rights && nat_le (offset + count) n) (k.same h.name) ∙ e
+
+still_writable : (held : ℕ → Option Hold) (f g : ℕ → List ℕ) (s offset count : ℕ) → KeepsSizes f g → may_write held f s offset count ≡ true → may_write held g s offset count ≡ true
+unfolding may_write
+still_writable held f g s offset count k e = go (count == 0) e
+  where
+    go : (b : Bool) → (b || has_range f is_writable offset count (bound_in held s)) ≡ true → (b || has_range g is_writable offset count (bound_in held s)) ≡ true
+    go true e = refl
+    go false e = still_range f g is_writable offset count (bound_in held s) k e
+
+-- The rows.
+
+abbrev Keeps : Before → Effect → Type 0
+Keeps b e = KeepsSizes b.view.bytes e.bytes
+
+by_test : (b : Before) (t : Bool) (e f : Effect) → (t ≡ true → Keeps b e) → Keeps b f → Keeps b (cond t e f)
+by_test b true e f h k = h refl
+by_test b false e f h k = k
+
+both : (a b : Bool) → (a && b) ≡ true → (a ≡ true) × (b ≡ true)
+both true b e = (refl, e)
+both false b e = absurd (cc)
+
+told_at_sizes : (b : Before) (next : ℕ) (name part : List ℕ) (values : List Argument) (s offset : ℕ) → Keeps b (told_at b next name part values s offset)
+told_at_sizes b next name part values s offset =
+    by_test b (may_write b.view.held b.view.bytes s offset (length part)) _ _ (λ good. pointer_sizes b.view.held b.view.bytes s offset part good) (stays b.view.bytes)
+
+told_sizes : (b : Before) (next : ℕ) (name part : List ℕ) (values : List Argument) → Keeps b (told b next name part values)
+unfolding told
+told_sizes b next name part values = by_test b (has_arguments b.view b.cpu 2) _ _ (λ _. told_at_sizes b next name part values _ _) (stays b.view.bytes)
+
+written_sizes : (b : Before) (next handle s o count done_selector done_offset : ℕ) → Keeps b (written b next handle s o count done_selector done_offset)
+written_sizes b next handle s o count done_selector done_offset =
+    by_test b (may_read b.view.held b.view.bytes s o count && may_write b.view.held b.view.bytes done_selector done_offset 2) _ _
+    (λ good. by_test b (is_console handle) _ _ (λ _. pointer_sizes b.view.held b.view.bytes done_selector done_offset (word_bytes count) (both _ _ good).1) (stays b.view.bytes)) (stays b.view.bytes)
+
+write_sizes : (b : Before) (next : ℕ) → Keeps b (dos_write b next)
+unfolding dos_write
+write_sizes b next = by_test b (has_arguments b.view b.cpu 6) _ _ (λ _. let a : ℕ → ℕ = argument b.view b.cpu in written_sizes b next (a 5) (a 4) (a 3) (a 2) (a 1) (a 0)) (stays b.view.bytes)
+
+took : (n : ℕ) (xs : List ℕ) → length (take n xs) ≤ n
+took n xs = grind (arith, common_steps)
+
+-- fewer bytes than the pointer is good for
+fewer_range : (f : ℕ → List ℕ) (ok : ℕ → Bool) (offset n m : ℕ) (o : Option Hold) → n ≤ m → has_range f ok offset m o ≡ true → has_range f ok offset n o ≡ true
+fewer_range f ok offset n m None h e = e
+fewer_range f ok offset n m (Some x) h e = go (ok x.rights) e
+  where
+    go : (b : Bool) → (b && nat_le (offset + m) (length (f x.name))) ≡ true → (b && nat_le (offset + n) (length (f x.name))) ≡ true
+    go true e = grind arith
+    go false e = e
+
+fewer_writable : (held : ℕ → Option Hold) (f : ℕ → List ℕ) (s offset n m : ℕ) → n ≤ m → may_write held f s offset m ≡ true → may_write held f s offset n ≡ true
+unfolding may_write
+fewer_writable held f s offset n m h e = go (m == 0) (n == 0) (λ z. zero_by n m h z) e
+  where
+    zero_by : (n m : ℕ) → n ≤ m → (m == 0) ≡ true → (n == 0) ≡ true
+    zero_by n m h z = grind arith
+
+    go : (y x : Bool) → (y ≡ true → x ≡ true) → (y || has_range f is_writable offset m (bound_in held s)) ≡ true → (x || has_range f is_writable offset n (bound_in held s)) ≡ true
+    go true x z e = ap (λ (t : Bool). t || has_range f is_writable offset n (bound_in held s)) (z refl)
+    go false true z e = refl
+    go false false z e = fewer_range f is_writable offset n m (bound_in held s) h e
+
+read_sizes : (b : Before) (next handle s o count done_selector done_offset : ℕ) → Keeps b (read_from b next handle s o count done_selector done_offset)
+read_sizes b next handle s o count done_selector done_offset =
+    by_test b (may_take b s o count done_selector done_offset) _ _ (λ good. by_test b (handle == 0) _ _ (λ _. taken (both _ _ good)) (stays b.view.bytes)) (stays b.view.bytes)
+  where
+    taken : (may_write b.view.held b.view.bytes s o count ≡ true) × (may_write b.view.held b.view.bytes done_selector done_offset 2 ≡ true) → KeepsSizes b.view.bytes (bytes_with b s o done_selector done_offset (take count b.input))
+    taken good =
+        let first = pointer_sizes b.view.held b.view.bytes s o (take count b.input) (fewer_writable b.view.held b.view.bytes s o (length (take count b.input)) count (took count b.input) good.0) in
+        behind _ _ _ first (pointer_sizes b.view.held (put_at_pointer b.view.held b.view.bytes s o (take count b.input)) done_selector done_offset (word_bytes (length (take count b.input)))
+        (still_writable b.view.held b.view.bytes (put_at_pointer b.view.held b.view.bytes s o (take count b.input)) done_selector done_offset 2 first good.1))
+
+dos_read_sizes : (b : Before) (next : ℕ) → Keeps b (dos_read b next)
+unfolding dos_read
+dos_read_sizes b next = by_test b (has_arguments b.view b.cpu 6) _ _ (λ _. let a : ℕ → ℕ = argument b.view b.cpu in read_sizes b next (a 5) (a 4) (a 3) (a 2) (a 1) (a 0)) (stays b.view.bytes)
+
+exit_sizes : (b : Before) → Keeps b (dos_exit b)
+unfolding dos_exit
+exit_sizes b = by_test b (has_arguments b.view b.cpu 2) _ _ (λ _. stays b.view.bytes) (stays b.view.bytes)
+
+served_sizes : (row : Option Row) (b : Before) (next : ℕ) → Keeps b (served_by row b next)
+served_sizes None b next = stays b.view.bytes
+served_sizes (Some DosExit) b next = exit_sizes b
+served_sizes (Some DosGetPid) b next = told_sizes b next _ _ _
+served_sizes (Some DosRead) b next = dos_read_sizes b next
+served_sizes (Some DosWrite) b next = write_sizes b next
+served_sizes (Some DosMemAvail) b next = told_sizes b next _ _ _
+
+answered_sizes : (b : Before) (r : Result Machine Stop) → stepped (state b.cpu b.view) ≡ r → Keeps b (answered b r)
+answered_sizes b (Ok s) e = stepped_sizes b.cpu b.view s e
+answered_sizes b (Err (stop.Trap vector code)) e = stays b.view.bytes
+answered_sizes b (Err (stop.Gate service next)) e = served_sizes (row_of service) b next
+answered_sizes b (Err (stop.Miss s)) e = stays b.view.bytes
+
+-- a step keeps the size of each name
+pub effect_sizes : (b : Before) (q : ℕ) → length ((effect b).bytes q) ≡ length (b.view.bytes q)
+unfolding effect
+effect_sizes b q = (go (has_trap_flag b.cpu.flags && is_live (answered b (stepped (state b.cpu b.view))).state) (answered_sizes b (stepped (state b.cpu b.view)) refl)).same q
+  where
+    go : (t : Bool) → Keeps b (answered b (stepped (state b.cpu b.view))) → Keeps b (cond t (record (answered b (stepped (state b.cpu b.view))) { state = Rattle.o2_world.specs.declared.types.State.TheVariants.Trapped 1; lines = (answered b (stepped (state b.cpu b.view))).lines ++ Rattle.o2_world.specs.World.Traps b.number 1 b.cpu.cs b.cpu.ip ∷ [] }) (answered b (stepped (state b.cpu b.view))))
+    go true k = k
+    go false k = k

@@ -1,0 +1,68 @@
+-- A step keeps a sound world sound.
+use Rattle.std.proofs.Common.{◌≡◌, ℕ, ◌-◌, ◌==◌, ◌<◌, ◌||◌, not, nat_lt, Bool, true, false, List, [], ◌∷◌, length, Option, Some, None, if◌then◌else◌, ap, sym, ◌∙◌, refl, arith, subst}
+use Rattle.std.specs.Prelude.{slice_get, option_map}
+use Rattle.o2_conf.specs.Dispatch.{Dispatch, lives}
+use Rattle.o2_world.specs.declared.types.State.TheVariants.{Live}
+use Rattle.o2_world.specs.Map.{Map, get}
+use Rattle.o2_world.specs.World.{World, Setting, Process, Segment, is_live}
+use Rattle.o2_world.specs.Holders.{process_at}
+use Rattle.o2_world.specs.Sound.{HasGoodRegisters}
+use Rattle.o2_world.specs.Views.{bytes_in, segment_bytes}
+use Rattle.o2_world.specs.Changes.{Change, with_changes}
+use Rattle.o2_world.specs.Calls.{Effect}
+use Rattle.o2_world.specs.Effect.{effect}
+use Rattle.o2_world.specs.Run.{before, changed, worked, working, acted, step, chosen_step, is_over, any_lives, live_flags, next_dispatch}
+use Rattle.o2_world.specs.Tied.{IsSound, IsTied, IsSwept, AreFitChanges}
+use Rattle.o2_world.proofs.Budget.{step_runs, not_over}
+use Rattle.o2_world.proofs.Choice.{chosen_lives}
+use Rattle.o2_world.proofs.Flags.{live_process}
+use Rattle.o2_world.proofs.GoodRegisters.{good_after, effect_ruled}
+use Rattle.o2_world.proofs.Numbers.{at_place_of}
+use Rattle.o2_world.proofs.Quiet.{effect_quiet}
+use Rattle.o2_world.proofs.Sizes.{effect_sizes}
+use Rattle.o2_world.proofs.TiedWorld.{changed_tied, worked_swept}
+
+-- the process whose step is next, where the run goes on
+pub next_process : (s : Setting) (w : World) → is_over w ≡ false → (p : Process) × (process_at w.processes (next_dispatch s w).current ≡ Some p) × (p.state ≡ Live)
+next_process s w runs =
+    let some = not_over (any_lives w.processes) w.dispatch.budget runs in
+    live_process w.processes (live_flags w.processes) (next_dispatch s w).current refl (chosen_lives s.quantum (live_flags w.processes) w.dispatch some.0)
+
+module _ (s : Setting) (w : World) (p : Process) (at : process_at w.processes (next_dispatch s w).current ≡ Some p) (live : p.state ≡ Live) (sound : IsSound w) where
+  abbrev d : Dispatch
+  d = next_dispatch s w
+
+  abbrev e : Effect
+  e = effect (before s w d.current p)
+
+  lives_now : is_live p.state ≡ true
+  lives_now = ap is_live live
+
+  sizes : (q : ℕ) (x : Segment) → get w.names q ≡ Some x → length (e.bytes q) ≡ length x.bytes
+  sizes q x there = effect_sizes (before s w d.current p) q ∙ ap (λ (o : Option Segment). length (segment_bytes o)) there
+
+  quiet : e.changes ≡ []
+  quiet = effect_quiet (before s w d.current p)
+
+  good : HasGoodRegisters (working p e)
+  good = good_after w.names p e.cpu (working p e).state (sound.tied.registers (d.current - 1) p (at_place_of w.processes d.current p at) lives_now) (effect_ruled (before s w d.current p))
+
+  fit : AreFitChanges (worked w d p e) e.changes
+  fit = subst (AreFitChanges (worked w d p e)) (sym quiet) tt
+
+  swept_behind : IsSwept (with_changes (worked w d p e) e.changes)
+  unfolding with_changes
+  swept_behind = subst (λ (cs : List Change). IsSwept (with_changes (worked w d p e) cs)) (sym quiet) (worked_swept w d p e at lives_now good sizes sound.swept)
+
+  pub acted_sound : IsSound (changed w d p e)
+  acted_sound = let both = changed_tied w d p e at lives_now good sizes fit (λ _. swept_behind) sound.tied in record { tied = both.0; swept = both.1 }
+
+pub step_sound : (s : Setting) (w : World) → IsSound w → IsSound (step s w)
+unfolding step
+step_sound s w sound = go (is_over w) refl
+  where
+    go : (b : Bool) → is_over w ≡ b → IsSound (if b then w else chosen_step s w)
+    go true over = sound
+    go false runs =
+        let here = next_process s w runs in
+        subst (λ (o : Option Process). IsSound (acted s w (next_dispatch s w) o)) (sym here.1) (acted_sound s w here.0 here.1 here.2 sound)
