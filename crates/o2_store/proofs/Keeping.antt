@@ -1,18 +1,19 @@
 -- Changes at one number that keep all bytes.
-use Rattle.std.proofs.Common.{◌≡◌, ◌≢◌, inl, inr, ℕ, ◌+◌, ◌/◌, ◌%◌, ◌<◌, ◌≤◌, List, length, get_or, set, Option, Some, None, is_some, IsSome, Bool, true, false, ltb, IsTrue, refl, sym, ap, ◌∙◌, subst, arith, unwrap_or, if◌then◌else◌}
+use Rattle.std.proofs.Common.{◌≡◌, ◌≢◌, inl, inr, ℕ, ◌+◌, ◌/◌, ◌%◌, ◌<◌, ◌≤◌, List, length, get_or, set, Option, Some, None, is_some, IsSome, Bool, true, false, ltb, IsTrue, ◌&&◌, eqb, refl, sym, ap, ◌∙◌, subst, arith, unwrap_or, if◌then◌else◌}
 use Rattle.std.proofs.lemmas.Bool.{cases_lt, cases_eq}
 use Rattle.std.proofs.lemmas.Bool.Decides.{nat_tests}
-use Rattle.std.proofs.lemmas.List.{length-set}
+use Rattle.std.proofs.lemmas.List.{length-set, get_or_past}
 use Rattle.o2_entries.specs.declared.Entry.{Entry}
 use Rattle.o2_entries.specs.Tables.{slot_at}
+use Rattle.o2_place.specs.declared.clock.Mark.{Mark}
 use Rattle.o2_place.specs.Layout.{Layout, Changes}
-use Rattle.o2_place.specs.Marks.{Turns, mark_of, no_mark}
+use Rattle.o2_place.specs.Marks.{Turns, mark_of, no_mark, OnlyUnmarks}
 use Rattle.o2_swapmap.specs.Piles.{Blocks, blocks_of, OnlyOf, NoneTwice}
 use Rattle.o2_store.specs.Shelf.{Shelf, IsShelf, IsSegment, entry, entry_or, place_of, blocks_for, Pictures, byte_at, byte_in, out_byte, source_byte, stored_byte, KeepsAll, SameEntry, SameTables, AreClean, IsOther, IsSaved}
 use Rattle.o2_store.proofs.Tables.{Touches, IsShelf-touch, slot-past, slot-set_same, slot-set_other, place-same, place-other, marks_other, marks_same, marks_long, within_at, none_is_none}
 
 pub same_entry : (o : Option Entry) → SameEntry o o
-same_entry o = record { live = refl; age = refl; size = refl; attr = refl }
+same_entry o = record { live = refl; age = refl; size = refl; attr = refl; image = λ p e. e }
 
 pub same_tables : (s : Shelf) → SameTables s s
 same_tables s = record { same = λ k. same_entry (slot_at s.entries k); count = refl; made = refl; size = refl }
@@ -24,6 +25,7 @@ tables_trans s t u p q = record {
     age = (q.same k).age ∙ (p.same k).age;
     size = (q.same k).size ∙ (p.same k).size;
     attr = (q.same k).attr ∙ (p.same k).attr;
+    image = λ x e. (p.same k).image x ((q.same k).image x e);
   };
   count = q.count ∙ p.count;
   made = q.made ∙ p.made;
@@ -101,16 +103,18 @@ clean_source (Some p) pic m n a b k j i = refl
 -- clean segments stay as they are where another number changes
 pub clean_keeps : (s t : Shelf) (pic : Pictures) (key : ℕ) → IsShelf s → AreClean s pic → Touches s t key → t.memory ≡ s.memory
     → ((at len : ℕ) → (entry t key).attr.clean ≡ true → place_of t key ≡ Some (at, len) → ⊥) → AreClean t pic
-clean_keeps s t pic key h c v memory never k at len j clean place l block = elim (cases_eq k key) [
-  | inl e ↦ absurd (never at len (subst (λ (x : ℕ). (entry t x).attr.clean ≡ true) e clean) (subst (λ (x : ℕ). place_of t x ≡ Some (at, len)) e place))
-  | inr n ↦
-      (let q : place_of s k ≡ Some (at, len) = sym (v.place k n) ∙ place in
-      let w = h.numbered k at len q in
-      let slot = v.slot k n in
-      let y : (entry s k).attr.clean ≡ true = sym (ap (λ (o : Option Entry). (entry_or o).attr.clean) slot) ∙ clean in
-      let m : j < (entry s k).size = subst (λ (o : Option Entry). j < (entry_or o).size) slot l in
-      rw (memory, slot) (c k at len j y q m block ∙ ap (λ (x : ℕ). if ltb j (entry s k).kept then x else 0) (sym (clean_source (entry s k).image pic s.swap t.swap block block k j ((h.each k w).clean y)))))
-]
+clean_keeps s t pic key h c v memory never = record {
+  bytes = λ k at len j clean place l block. elim (cases_eq k key) [
+    | inl e ↦ absurd (never at len (subst (λ (x : ℕ). (entry t x).attr.clean ≡ true) e clean) (subst (λ (x : ℕ). place_of t x ≡ Some (at, len)) e place))
+    | inr n ↦
+        (let q : place_of s k ≡ Some (at, len) = sym (v.place k n) ∙ place in
+        let w = h.numbered k at len q in
+        let slot = v.slot k n in
+        let y : (entry s k).attr.clean ≡ true = sym (ap (λ (o : Option Entry). (entry_or o).attr.clean) slot) ∙ clean in
+        let m : j < (entry s k).size = subst (λ (o : Option Entry). j < (entry_or o).size) slot l in
+        rw (memory, slot) (c.bytes k at len j y q m block ∙ ap (λ (x : ℕ). if ltb j (entry s k).kept then x else 0) (sym (clean_source (entry s k).image pic s.swap t.swap block block k j ((h.each k w).clean y)))))
+  ];
+}
 
 -- a segment in memory gets blocks for its bytes, and no image
 pub reserved_touches : (s : Shelf) (m : Blocks) (key : ℕ) (e : Entry) → IsShelf s → OnlyOf key s.swap m → Touches s (record s { swap = m; entries = set s.entries key (Some e) }) key
@@ -206,7 +210,7 @@ keeps_reserve told pic s m key kept e block h slot only placed =
       made = refl;
       blocks = λ k n w. only.others k n (omega (arith, h.swap_most));
       contents = λ w k i n x y. refl;
-    }) (rw (slot, slot-set_same s.entries key (Some f) l) (record { live = refl; age = refl; size = refl; attr = refl })) (λ w j x. placed_byte s t pic block block key j refl refl placed)
+    }) (rw (slot, slot-set_same s.entries key (Some f) l) (record { live = refl; age = refl; size = refl; attr = refl; image = λ p e. absurd cc })) (λ w j x. placed_byte s t pic block block key j refl refl placed)
 
 pub clean_reserve : (pic : Pictures) (s : Shelf) (m : Blocks) (key kept : ℕ) (e : Entry) → IsShelf s → slot_at s.entries key ≡ Some e → OnlyOf key s.swap m → e.attr.clean ≡ false → AreClean s pic
     → AreClean (record s { swap = m; entries = set s.entries key (Some (record e { kept = kept; image = None })) }) pic
@@ -279,4 +283,53 @@ saved_there told pic s block key at n e saved w to len j q l =
 
 -- a clean segment is saved in its image
 pub saved_clean : (told : Bool) (pic : Pictures) (s : Shelf) (block : ℕ → List ℕ) (key : ℕ) → AreClean s pic → (entry s key).attr.clean ≡ true → IsSaved told pic s block key
-saved_clean told pic s block key c clean w at len j q l = sym (c key at len j clean q l block)
+saved_clean told pic s block key c clean w at len j q l = sym (c.bytes key at len j clean q l block)
+
+-- the clock alone changes, and presence stays
+pub IsShelf-unmarked : (s : Shelf) (u : Turns) → IsShelf s → OnlyUnmarks s.turns.marks u.marks → IsShelf (record s { turns = u })
+IsShelf-unmarked s u h o = record {
+  memory = h.memory;
+  small = h.small;
+  few = h.few;
+  places_most = h.places_most;
+  swap_most = h.swap_most;
+  turns_most = o.size ∙ h.turns_most;
+  numbered = h.numbered;
+  each = λ k l. rw (o.present k) (h.each k l);
+}
+
+pub keeps_unmarked : (told : Bool) (pic : Pictures) (s : Shelf) (u : Turns) (a : ℕ → List ℕ) → KeepsAll told pic s a (record s { turns = u }) a
+keeps_unmarked told pic s u a = record { bytes = λ w k j l. refl; tables = record { same = λ k. same_entry (slot_at s.entries k); count = refl; made = refl; size = refl } }
+
+-- who is present in the clock
+pub present_yes : (s : Shelf) (k : ℕ) → IsShelf s → (mark_of s.turns.marks k).present ≡ true → (k < length s.entries) × IsSome (place_of s k) × ((entry s k).attr.lock ≡ 0)
+present_yes s k h p = elim (cases_lt k (length s.entries)) [
+  | inl l ↦
+      (let b : (is_some (place_of s k) && eqb (entry s k).attr.lock 0) ≡ true = sym (h.each k l).clock ∙ p in
+      (l, first (is_some (place_of s k)) (eqb (entry s k).attr.lock 0) b, (let q = second (is_some (place_of s k)) (eqb (entry s k).attr.lock 0) b in grind (arith, nat_tests))))
+  | inr past ↦ absurd (let g : mark_of s.turns.marks k ≡ no_mark = get_or_past s.turns.marks k no_mark (omega (arith, h.turns_most, past)) in let f : false ≡ true = sym (ap (λ (x : Mark). x.present) g) ∙ p in cc)
+]
+  where
+    first : (a b : Bool) → (a && b) ≡ true → a ≡ true
+    first true b e = refl
+    first false b e = e
+
+    second : (a b : Bool) → (a && b) ≡ true → b ≡ true
+    second true b e = e
+    second false b e = absurd (let f : false ≡ true = e in cc)
+
+pub present_is : (s : Shelf) (k : ℕ) → IsShelf s → IsSome (place_of s k) → (entry s k).attr.lock ≡ 0 → (k < length s.entries) → (mark_of s.turns.marks k).present ≡ true
+present_is s k h i z l =
+    let t : eqb (entry s k).attr.lock 0 ≡ true = grind (arith, nat_tests) in
+    let j : is_some (place_of s k) ≡ true = i in
+    (h.each k l).clock ∙ rw (j, t) refl
+
+pub placed_below : (s : Shelf) (k : ℕ) → IsShelf s → IsSome (place_of s k) → k < length s.entries
+placed_below s k h i = go (place_of s k) refl i
+  where
+    go : (o : Option (ℕ × ℕ)) → place_of s k ≡ o → IsSome o → k < length s.entries
+    go None e i = absurd (let f : false ≡ true = i in cc)
+    go (Some r) e i = h.numbered k r.0 r.1 e
+
+pub clean_unmarked : (s : Shelf) (u : Turns) (pic : Pictures) → AreClean s pic → AreClean (record s { turns = u }) pic
+clean_unmarked s u pic c = record { bytes = c.bytes }

@@ -1,11 +1,12 @@
 -- Segments in a memory and out of it.
-use Rattle.std.specs.Prelude.{◌≡◌, ◌≢◌, ℕ, ◌+◌, ◌-◌, ◌*◌, ◌/◌, ◌%◌, ◌<◌, ◌≤◌, ◌^◌, List, length, Option, Some, None, is_some, IsSome, Bool, true, false, ◌&&◌, ◌==◌, if◌then◌else◌, nat_lt, slice_index_or, slice_set, IsTrue, slice_get, []}
+use Rattle.std.specs.Prelude.{◌≡◌, ◌≢◌, ◌⊎◌, ℕ, ◌+◌, ◌-◌, ◌*◌, ◌/◌, ◌%◌, ◌<◌, ◌≤◌, ◌^◌, List, length, Option, Some, None, is_some, IsSome, Bool, true, false, ◌&&◌, ◌||◌, ◌==◌, if◌then◌else◌, nat_lt, slice_index_or, slice_set, IsTrue, slice_get, []}
+use Rattle.std.specs.List.{list_any}
 use Rattle.o2_entries.specs.declared.Entry.{Entry}
 use Rattle.o2_entries.specs.Tables.{slot_at}
 use Rattle.o2_store.specs.declared.brought.Place.{Place}
 use Rattle.o2_store.specs.declared.brought.Place.TheVariants as shown
 use Rattle.o2_place.specs.declared.seg_id.SegId.{SegId}
-use Rattle.o2_place.specs.Layout.{Layout, find_in, over}
+use Rattle.o2_place.specs.Layout.{Layout, find_in, over, used}
 use Rattle.o2_place.specs.Marks.{Turns, mark_of}
 use Rattle.o2_swapmap.specs.Piles.{Blocks, blocks_of, free}
 
@@ -88,6 +89,8 @@ pub record SameEntry (old new : Option Entry) : Type 0 where
   pub age : (entry_or new).age ≡ (entry_or old).age
   pub size : (entry_or new).size ≡ (entry_or old).size
   pub attr : (entry_or new).attr ≡ (entry_or old).attr
+  -- none comes from an image that didn't
+  pub image : (p : ℕ × ℕ) → (entry_or new).image ≡ Some p → (entry_or old).image ≡ Some p
 
 -- the tables stay: each segment keeps its age, its size and its attributes, and the map its number of blocks
 pub record SameTables (old new : Shelf) : Type 0 where
@@ -102,9 +105,9 @@ pub record KeepsAll (told : Bool) (pic : Pictures) (old : Shelf) (before : ℕ �
   pub tables : SameTables old new
 
 -- a clean segment in memory has the bytes of its image
-abbrev pub AreClean : Shelf → Pictures → Type 0
-AreClean s pic = (k at len j : ℕ) → (entry s k).attr.clean ≡ true → place_of s k ≡ Some (at, len) → j < (entry s k).size
-    → (block : ℕ → List ℕ) → slice_index_or s.memory (at + j) 0 ≡ out_byte s pic block k j
+pub record AreClean (s : Shelf) (pic : Pictures) : Type 0 where
+  pub bytes : (k at len j : ℕ) → (entry s k).attr.clean ≡ true → place_of s k ≡ Some (at, len) → j < (entry s k).size
+      → (block : ℕ → List ℕ) → slice_index_or s.memory (at + j) 0 ≡ out_byte s pic block k j
 
 -- a segment in memory has the bytes there that it would have out of it
 abbrev pub IsSaved : Bool → Pictures → Shelf → (ℕ → List ℕ) → ℕ → Type 0
@@ -204,3 +207,32 @@ abbrev pub base_of : Option Entry → Option (ℕ × ℕ) → Option ℕ
 base_of None place = None
 base_of (Some e) None = None
 base_of (Some e) (Some r) = Some r.0
+
+-- the segments in memory may have moved, with their bytes, and nothing else changes
+pub record IsMoved (old new : Shelf) : Type 0 where
+  pub shelf : new ≡ record old { memory = new.memory; places = new.places }
+  pub none : (k : ℕ) → place_of old k ≡ None → place_of new k ≡ None
+  pub some : (k at len : ℕ) → place_of old k ≡ Some (at, len)
+      → (to : ℕ) × (place_of new k ≡ Some (to, len)) × ((j : ℕ) → j < len → slice_index_or new.memory (to + j) 0 ≡ slice_index_or old.memory (at + j) 0)
+  pub size : new.places.size ≡ old.places.size
+  pub load : used new.places.ranges ≡ used old.places.ranges
+
+-- a byte that a call learns: of an image, or of a device that tells
+abbrev pub Tells : Bool → Option (ℕ × ℕ) → Type 0
+Tells told image = IsSome image ⊎ IsTrue told
+
+-- there are images for all segments that come from one
+abbrev pub HasAll : (ℕ → ℕ → Type 0) → Shelf → Type 0
+HasAll has s = (k m seg : ℕ) → (entry s k).image ≡ Some (m, seg) → has m seg
+
+-- whether a segment must be in memory: it is locked, or among the numbers
+abbrev pub is_needed : List (Option Entry) → List ℕ → ℕ → Bool
+is_needed es keys k = nat_lt 0 (entry_or (slot_at es k)).attr.lock || list_any (λ x. x == k) keys
+
+-- what such segments take
+abbrev pub need_in : List (Option Entry) → List ℕ → ℕ → ℕ
+need_in es keys k = if is_needed es keys k then rounded (entry_or (slot_at es k)).size else 0
+
+-- the rounded sizes of all these, each once
+abbrev pub total_need : Shelf → List ℕ → ℕ
+total_need s keys = over (need_in s.entries keys) (length s.entries)

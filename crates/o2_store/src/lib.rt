@@ -3,8 +3,10 @@
 
 mod adding;
 mod blocks;
+mod bringing;
 mod brought;
 mod evicting;
+mod moving;
 mod showing;
 mod store;
 mod windows;

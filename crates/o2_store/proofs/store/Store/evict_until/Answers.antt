@@ -1,0 +1,48 @@
+use Rattle.std.proofs.Common.{◌≡◌, ◌∙◌, sym, subst, Bool, rules, arith}
+use Rattle.o2_store.specs.Shelf.{Shelf, KeepsAll, AreClean}
+use Rattle.o2_store.proofs.Keeping.{keeps_trans, tables_trans}
+use Rattle.o2_store.proofs.store.Store.evict_until.Goals as goal
+
+pub returns-then-not-matches-clause-keeps : goal.returns-then-not-matches-clause-keeps
+returns-then-not-matches-clause-keeps g c =
+    let S = g.S.SwapDevice in
+    let told = S.told c.args.swap.now in
+    let a = S.block c.args.swap.now in
+    let v = c.evict_next-answer in
+    let i = c.loop-self.invariant in
+    let b = S.block c.loop-self.swap in
+    let d = S.block v.new.swap in
+    let s = c.args.self.now in
+    let t = c.loop-self.self in
+    λ pic q. keeps_trans told pic s t v.new.self a b d (i.keeps pic q) (subst (λ (x : Bool). KeepsAll x pic t b v.new.self d) i.told (v.ensures.keeps pic (i.clean pic q)))
+
+pub returns-then-not-matches-clause-clean : goal.returns-then-not-matches-clause-clean
+returns-then-not-matches-clause-clean g c = λ pic q. c.evict_next-answer.ensures.clean pic (c.loop-self.invariant.clean pic q)
+
+pub returns-then-not-matches-clause-tables : goal.returns-then-not-matches-clause-tables
+returns-then-not-matches-clause-tables g c = tables_trans c.args.self.now c.loop-self.self c.evict_next-answer.new.self c.loop-self.invariant.tables c.evict_next-answer.ensures.tables
+
+pub loop-self-preserved : goal.loop-self-preserved
+loop-self-preserved g c =
+    let S = g.S.SwapDevice in
+    let told = S.told c.args.swap.now in
+    let a = S.block c.args.swap.now in
+    let v = c.evict_next-answer in
+    let i = c.loop-self.invariant in
+    let b = S.block c.loop-self.swap in
+    let d = S.block v.new.swap in
+    let s = c.args.self.now in
+    let t = c.loop-self.self in
+    record {
+      keeps = λ pic q. keeps_trans told pic s t v.new.self a b d (i.keeps pic q) (subst (λ (x : Bool). KeepsAll x pic t b v.new.self d) i.told (v.ensures.keeps pic (i.clean pic q)));
+      clean = λ pic q. v.ensures.clean pic (i.clean pic q);
+      tables = tables_trans s t v.new.self i.tables v.ensures.tables;
+      blocks_many = v.ensures.device.0 ∙ i.blocks_many;
+      told = v.ensures.device.1 ∙ i.told;
+      map = v.ensures.map ∙ i.map;
+      keys = v.ensures.keys ∙ i.keys;
+      kept = search rules;
+      locked = search rules;
+      none = search rules;
+      faults = omega (arith, i.faults, v.ensures.faults);
+    }

@@ -1,0 +1,73 @@
+use Rattle.std.proofs.Common.{◌≡◌, ◌<◌, ◌+◌, ℕ, inl, inr, length, sym, subst, ap, ◌∙◌, Some, None, is_some, IsSome, IsTrue, arith, get_or, true}
+use Rattle.o2_store.specs.Pictures.{picture}
+use Rattle.o2_store.specs.Shelf.{Shelf, KeepsAll, place_of, entry, entry_or, rounded, out_byte}
+use Rattle.o2_store.proofs.Keeping.{keeps_trans}
+use Rattle.o2_store.proofs.Shifts.{keeps_filled, clean_filled, others_in, others_moved, read_there, out_told, out_pictured}
+use Rattle.o2_store.proofs.store.Store.place_in.Goals as goal
+
+pub returns-in-Failed-clause-keeps : goal.returns-in-Failed-clause-keeps
+returns-in-Failed-clause-keeps g c =
+    let S = g.S.SwapDevice in
+    let told = S.told c.args.swap.now in
+    let a = S.block c.args.swap.now in
+    let b = S.block c.fill.new.swap in
+    let pic = picture c.args.images.now in
+    let s = c.args.self.now in
+    let t = c.make_fit-at.new.self in
+    let u = c.fill.new.self in
+    let key = c.args.key in
+    let at = c.make_fit-at.result in
+    keeps_filled told pic s t u key at c.args.len a b c.law.ensures.shelf c.law-2.ensures.shelf c.make_fit-at.ensures.moved c.requires.len c.fill.ensures.shelf c.fill.ensures.outside (λ k x y e. c.law-2.ensures.free at c.args.len k x y c.make_fit-at.ensures.free e) c.fill.ensures.same
+
+pub returns-in-Failed-clause-clean : goal.returns-in-Failed-clause-clean
+returns-in-Failed-clause-clean g c =
+    let S = g.S.SwapDevice in
+    let told = S.told c.args.swap.now in
+    let a = S.block c.args.swap.now in
+    let b = S.block c.fill.new.swap in
+    let pic = picture c.args.images.now in
+    let s = c.args.self.now in
+    let t = c.make_fit-at.new.self in
+    let u = c.fill.new.self in
+    let key = c.args.key in
+    let at = c.make_fit-at.result in
+    clean_filled pic s t u key at c.args.len c.law.ensures.shelf c.law-2.ensures.shelf c.make_fit-at.ensures.moved c.requires.len c.fill.ensures.shelf c.fill.ensures.outside (λ k x y e. c.law-2.ensures.free at c.args.len k x y c.make_fit-at.ensures.free e)
+
+pub returns-in-Failed-clause-others : goal.returns-in-Failed-clause-others
+returns-in-Failed-clause-others g c = others_moved c.args.self.now c.make_fit-at.new.self c.fill.new.self c.make_fit-at.ensures.moved c.fill.ensures.shelf
+
+pub returns-clause-keeps : goal.returns-clause-keeps
+returns-clause-keeps g c =
+    let S = g.S.SwapDevice in
+    let told = S.told c.args.swap.now in
+    let a = S.block c.args.swap.now in
+    let b = S.block c.fill.new.swap in
+    let pic = picture c.args.images.now in
+    let s = c.args.self.now in
+    let t = c.make_fit-at.new.self in
+    let u = c.fill.new.self in
+    let key = c.args.key in
+    let at = c.make_fit-at.result in
+    let first = keeps_filled told pic s t u key at c.args.len a b c.law.ensures.shelf c.law-2.ensures.shelf c.make_fit-at.ensures.moved c.requires.len c.fill.ensures.shelf c.fill.ensures.outside (λ k x y e. c.law-2.ensures.free at c.args.len k x y c.make_fit-at.ensures.free e) c.fill.ensures.same in
+    keeps_trans told pic s u c.settle.new.self a b b first (c.settle.ensures.keeps told pic b
+    (λ w. read_there pic t u key at a b c.fill.ensures.shelf (λ j l. c.fill.ensures.read (inr w) c.in_default.is j l) (λ j. out_told t pic a b key j (c.fill.ensures.same w))))
+
+pub returns-clause-clean : goal.returns-clause-clean
+returns-clause-clean g c =
+    let S = g.S.SwapDevice in
+    let told = S.told c.args.swap.now in
+    let a = S.block c.args.swap.now in
+    let b = S.block c.fill.new.swap in
+    let pic = picture c.args.images.now in
+    let s = c.args.self.now in
+    let t = c.make_fit-at.new.self in
+    let u = c.fill.new.self in
+    let key = c.args.key in
+    let at = c.make_fit-at.result in
+    λ q. c.settle.ensures.clean pic b
+    (λ i. (let j : IsSome (entry t key).image = ap (λ (x : Shelf). is_some (entry x key).image) (sym c.fill.ensures.shelf) ∙ i in
+    read_there pic t u key at a b c.fill.ensures.shelf (λ j' l. c.fill.ensures.read (inl j) c.in_default.is j' l) (λ j'. out_pictured t pic a b key j' j)))
+    (clean_filled pic s t u key at c.args.len c.law.ensures.shelf c.law-2.ensures.shelf c.make_fit-at.ensures.moved c.requires.len c.fill.ensures.shelf c.fill.ensures.outside (λ k x y e. c.law-2.ensures.free at c.args.len k x y c.make_fit-at.ensures.free e) q)
+
+pub returns-clause-others : goal.returns-clause-others
+returns-clause-others g c = others_in c.args.self.now c.make_fit-at.new.self c.fill.new.self c.settle.new.self c.args.key c.make_fit-at.result _ c.make_fit-at.ensures.moved c.fill.ensures.shelf c.settle.ensures.places
