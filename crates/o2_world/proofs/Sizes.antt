@@ -2,18 +2,15 @@
 use Rattle.std.proofs.Common.{◌≡◌, ℕ, zero, suc, ◌+◌, ◌-◌, ◌≤◌, ◌<◌, ◌/◌, ◌%◌, ◌==◌, ◌&&◌, ◌||◌, nat_le, Bool, true, false, cond, List, [], ◌∷◌, ◌++◌, length, take, drop, Option, Some, None, if◌then◌else◌, ap, sym, ◌∙◌, refl, arith, subst}
 use Rattle.std.specs.Prelude.{Result, Ok, Err}
 use Rattle.std.proofs.lemmas.Grind.{common_steps}
-use Rattle.o2_isa.specs.declared.instr.Width.{Width}
-use Rattle.o2_isa.specs.declared.instr.Width.TheVariants.{Word}
 use Rattle.o2_isa.specs.declared.cpu.Cpu.{Cpu}
-use Rattle.o2_isa.specs.declared.cpu.Loaded.{Loaded}
-use Rattle.o2_isa.specs.declared.cpu.Loaded.TheVariants as loaded
 use Rattle.o2_isa.specs.declared.cpu.Stop.{Stop}
 use Rattle.o2_isa.specs.declared.cpu.Stop.TheVariants as stop
 use Rattle.o2_isa.specs.Parts.{put_part}
-use Rattle.o2_isa.specs.View.{View, Hold, in_register, poke, poke_hold, bind, put_at, read_of, room_of, probe_of, size_at, rights_at, is_readable, is_writable, bound_in}
-use Rattle.o2_isa.specs.Steps.{State as Machine, state, Steps, Stops, Ends, Reads, Room, Loads, Sizes, Rights, Change, Bind, Write, Copy, changed, word_there, or_trap, passed, selector, run, ◌>>=◌}
-use Rattle.o2_isa.specs.Step.{stepped, step_steps}
-use Rattle.o2_isa.proofs.Pokes.{length_put_at}
+use Rattle.o2_isa.specs.View.{View, Hold, is_readable, is_writable, bound_in}
+use Rattle.o2_isa.specs.Steps.{State as Machine, state}
+use Rattle.o2_isa.specs.Step.{stepped}
+use Rattle.o2_isa.specs.declared.cpu.Outcome.TheVariants as outcome
+use Rattle.o2_isa.proofs.Sizes.{stepped_lengths}
 use Rattle.o2_world.specs.declared.types.Argument.{Argument}
 use Rattle.o2_world.specs.declared.types.Row.{Row}
 use Rattle.o2_world.specs.declared.types.Row.TheVariants.{DosExit, DosGetPid, DosRead, DosWrite, DosMemAvail}
@@ -36,41 +33,8 @@ behind f g h a b = record { same = λ q. b.same q ∙ a.same q }
 same_name : (n m : ℕ) → (n == m) ≡ true → n ≡ m
 same_name n m e = grind arith
 
-poked : (v : View) (o : Option Hold) (k : ℕ) (w : Width) (x : ℕ) → KeepsSizes v.bytes (poke_hold v o k w x).bytes
-poked v None k w x = stays v.bytes
-poked v (Some h) k w x = record { same = λ q. go q (q == h.name) refl }
-  where
-    go : (q : ℕ) (b : Bool) → (q == h.name) ≡ b → length (if b then put_at (v.bytes h.name) k w x else v.bytes q) ≡ length (v.bytes q)
-    go q true e = length_put_at (v.bytes h.name) k w x ∙ ap (λ i. length (v.bytes i)) (sym (same_name q h.name e))
-    go q false e = refl
-
-changed_sizes : (cs : List Change) (v : View) → KeepsSizes v.bytes (changed cs v).bytes
-unfolding bind poke
-changed_sizes [] v = stays v.bytes
-changed_sizes (Bind r s ∷ cs) v = changed_sizes cs (bind v r (selector s))
-changed_sizes (Write r k w x ∷ cs) v = behind _ _ _ (poked v (in_register v.registers r) k w x) (changed_sizes cs (poke v r k w x))
-changed_sizes (Copy r a b ∷ cs) v = behind _ _ _ (poked v (in_register v.registers r) b Word (word_there v r a)) (changed_sizes cs (poke v r b Word (word_there v r a)))
-
-checked : (P : Type 0) (r : Result ℕ Stop) (f : ℕ → Result Machine Stop) (t : Machine) → ((x : ℕ) → f x ≡ Ok t → P) → (r >>= f) ≡ Ok t → P
-checked P (Ok x) f t h e = h x e
-checked P (Err d) f t h e = cc
-
-run_sizes : (v : View) (p : Steps) (t : Machine) → run p v ≡ Ok t → KeepsSizes v.bytes t.view.bytes
-run_sizes v (Stops d) t e = cc
-run_sizes v (Ends d cs) t e = subst (λ (z : Machine). KeepsSizes v.bytes z.view.bytes) (ap state_in e) (changed_sizes cs v)
-  where
-    state_in : Result Machine Stop → Machine
-    state_in (Ok s) = s
-    state_in (Err d) = t
-run_sizes v (Reads r k w f) t e = checked _ (or_trap (read_of v r k w)) (λ x. run (f x) v) t (λ x q. run_sizes v (f x) t q) e
-run_sizes v (Room r k w p) t e = checked _ (or_trap (room_of v r k w)) (λ _. run p v) t (λ _ q. run_sizes v p t q) e
-run_sizes v (Loads purpose s next p) t e = checked _ (passed next (probe_of v purpose (selector s))) (λ _. run p v) t (λ _ q. run_sizes v p t q) e
-run_sizes v (Sizes s f) t e = run_sizes v (f (size_at v s)) t e
-run_sizes v (Rights s f) t e = run_sizes v (f (rights_at v s)) t e
-
 stepped_sizes : (c : Cpu) (v : View) (t : Machine) → stepped (state c v) ≡ Ok t → KeepsSizes v.bytes t.view.bytes
-unfolding stepped
-stepped_sizes c v t e = run_sizes v (step_steps (state c v)) t e
+stepped_sizes c v t e = record { same = stepped_lengths outcome.Done t (state c v) e }
 
 -- The bytes behind a pointer.
 
