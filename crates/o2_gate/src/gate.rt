@@ -4,7 +4,7 @@ ghost use Rattle.o2_outer.specs.Texts.{Rose};
 ghost use Rattle.o2_bus.specs.Plain.{held_in, bytes_in, shown_in};
 ghost use Rattle.o2_world.specs.Known.{Known};
 ghost use Rattle.o2_world.specs.Calls.{serviced, row_of as number_row};
-ghost use Rattle.o2_gate.specs.Befores.{before_call};
+ghost use Rattle.o2_gate.specs.Befores.{before_call, IsKnown};
 ghost use Rattle.o2_gate.specs.Called.{Does, OnSinkFault, OnInputFault};
 
 use crate::exit::dos_exit;
@@ -44,7 +44,7 @@ pub fn call<I: Source, C: Sink, R: Sink>(
     console: &mut C,
     report: &mut R,
 ) -> Called
-    ensures does { (bytes : List ℕ) (known : Known) → I.left input.old ≡ Some bytes → known.avail ≡ state.old.avail → let b = before_call state.old.plain pid cpu.old bytes known in
+    ensures does { (bytes : List ℕ) (known : Known) → I.left input.old ≡ Some bytes → IsKnown known state.old → let b = before_call state.old.plain pid cpu.old bytes known in
         Does b (serviced b service next) cpu.new state.old.plain state.new.plain (I.left input.old) (I.left input.new) (C.taken console.old) (C.taken console.new) (R.taken report.old) (R.taken report.new) result }
     ensures sizes { (n : ℕ) → length (bytes_in state.new.plain n) ≡ length (bytes_in state.old.plain n) }
     ensures maps { held_in state.new.plain ≡ held_in state.old.plain }

@@ -59,7 +59,7 @@ first_stands begun l b c m input is procs plain avail sched count budget console
   flags = all_live begun.cpus.items b.processes (λ i. held_in begun.build.plain (i + 1)) is.places ∙ ap (λ n. replicate n true) count ∙ ap (λ (s : Schedule). s.flags) (sym sched);
   dispatch = ap (λ (s : Schedule). s.dispatch) (sym sched);
   quantum = ap (λ (s : Schedule). s.quantum) (sym sched);
-  avail = sym avail;
+  known = record { avail = sym avail };
   budget = sym budget;
   console = sym console;
   lines = sym lines;

@@ -113,7 +113,7 @@ module _ (m : Machine) (s : Setting) (w : World) (p : Process) (c d r q : Option
     flags = flags;
     dispatch = sym dispatch;
     quantum = stands.quantum ∙ sym quantum;
-    avail = stands.avail ∙ sym (ap (λ (z : Space). z.state.avail) counts.space ∙ counts.avail);
+    known = record { avail = stands.known.avail ∙ sym (ap (λ (z : Space). z.state.avail) counts.space ∙ counts.avail) };
     budget = stands.budget ∙ sym counts.budget;
     console = length-append w.console made.piece ∙ omega (arith, stands.console, puts.bytes, counts.bytes);
     lines = length-append w.lines made.lines ∙ omega (arith, stands.lines, puts.lines, counts.lines);
@@ -150,7 +150,7 @@ same_space n m s w stands same space = record {
   flags = stands.flags ∙ ap (λ (z : Schedule). z.flags) (sym same.sched);
   dispatch = stands.dispatch ∙ ap (λ (z : Schedule). z.dispatch) (sym same.sched);
   quantum = stands.quantum ∙ ap (λ (z : Schedule). z.quantum) (sym same.sched);
-  avail = stands.avail ∙ sym same.avail;
+  known = record { avail = stands.known.avail ∙ sym same.avail };
   budget = stands.budget ∙ sym same.budget;
   console = stands.console ∙ sym same.bytes;
   lines = stands.lines ∙ sym same.lines;

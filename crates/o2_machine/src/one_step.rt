@@ -8,7 +8,7 @@ ghost use Rattle.o2_world.specs.World.{Traps};
 ghost use Rattle.o2_world.specs.Text.{lines_text};
 ghost use Rattle.o2_world.specs.Effect.{effect, single_stepped, has_trap_flag as trap_flag_of};
 ghost use Rattle.o2_world.specs.Calls.{Before, Effect, trapped};
-ghost use Rattle.o2_gate.specs.Befores.{before_call};
+ghost use Rattle.o2_gate.specs.Befores.{before_call, IsKnown};
 ghost use Rattle.o2_gate.specs.Called.{IsMade};
 ghost use Rattle.o2_machine.specs.Ran.{Leaves, OnFault, OnInput};
 
@@ -104,7 +104,7 @@ pub fn run_one<I: Source, C: Sink, R: Sink>(
     console: &mut C,
     report: &mut R,
 ) -> Ran
-    ensures leaves { (bytes : List ℕ) (known : Known) → I.left input.old ≡ Some bytes → known.avail ≡ state.old.avail → let b = before_call state.old.plain pid cpu.old bytes known in
+    ensures leaves { (bytes : List ℕ) (known : Known) → I.left input.old ≡ Some bytes → IsKnown known state.old → let b = before_call state.old.plain pid cpu.old bytes known in
         Leaves b (effect b) cpu.new state.old.plain state.new.plain (I.left input.old) (I.left input.new) (C.taken console.old) (C.taken console.new) (R.taken report.old) (R.taken report.new) result }
     ensures held { (p i : ℕ) → held_in state.new.plain p i ≡ held_in state.old.plain p i }
     ensures shown { (n : ℕ) → shown_in state.new.plain n ≡ shown_in state.old.plain n }

@@ -53,6 +53,7 @@ pub fn is_live(state: State) -> bool
 }
 
 impl Space {
+    ghost use Rattle.o2_gate.specs.Befores.{IsKnown};
     ghost use Rattle.o2_machine.specs.Stands.{StandsIn};
     ghost use Rattle.o2_machine.specs.Commit.{IsBetween};
     ghost use Rattle.o2_machine.specs.Acts.{Acts, OnFault, OnInput, StandsAfter};
@@ -84,7 +85,7 @@ impl Space {
     ) -> Acted
         requires some { 0 < pid }
         requires there { pid ≤ length self.old.procs.items }
-        ensures acts { (ps : List Process) (names : Map Segment) (p : Process) (bytes : List ℕ) (known : Known) → StandsIn self.old ps names → process_at ps pid ≡ Some p → p.state ≡ State.Live → I.left input.old ≡ Some bytes → known.avail ≡ self.old.state.avail
+        ensures acts { (ps : List Process) (names : Map Segment) (p : Process) (bytes : List ℕ) (known : Known) → StandsIn self.old ps names → process_at ps pid ≡ Some p → p.state ≡ State.Live → I.left input.old ≡ Some bytes → IsKnown known self.old.state
             → let b : Before = record { number = pid; cpu = p.cpu; view = view_of names p; known = known; input = bytes } in Acts (AsksInput b) pid ps names p (effect b) self.new
             (I.left input.old) (I.left input.new) (C.taken console.old) (C.taken console.new) (R.taken report.old) (R.taken report.new) result }
         ensures input_count { I.faults input.old ≤ I.faults input.new }

@@ -35,4 +35,4 @@ pub returns-in-Some-DosMemAvail-clause-does : goal.returns-in-Some-DosMemAvail-c
 returns-in-Some-DosMemAvail-clause-does g c = λ bytes known e same.
     let b = before_call c.args.state.now.plain c.args.pid c.args.cpu.now bytes known in
     by_row (λ (f : Effect). Does b f c.dos_mem_avail.new.cpu c.args.state.now.plain c.dos_mem_avail.new.plain (g.I.Source.left c.args.input.now) (g.I.Source.left c.args.input.now) (g.C.Sink.taken c.args.console.now) (g.C.Sink.taken c.args.console.now) (g.R.Sink.taken c.args.report.now) (g.R.Sink.taken c.dos_mem_avail.new.report) c.dos_mem_avail.result)
-    b c.args.service c.args.next c.row_of.result c.in-Some-DosMemAvail.field-0 DosMemAvail c.row_of.ensures.row c.in-Some-DosMemAvail.is c.in-Some-DosMemAvail.field-0-is (c.dos_mem_avail.ensures.does bytes known _ _ e same)
+    b c.args.service c.args.next c.row_of.result c.in-Some-DosMemAvail.field-0 DosMemAvail c.row_of.ensures.row c.in-Some-DosMemAvail.is c.in-Some-DosMemAvail.field-0-is (c.dos_mem_avail.ensures.does bytes known _ _ e same.avail)

@@ -15,7 +15,7 @@ use Rattle.o2_machine.proofs.Gates.{same_bytes, same_cpu, made_before, trap_befo
 use Rattle.o2_machine.proofs.one_step.run_one.Goals as goal
 
 pub returns-in-Done-clause-leaves : goal.returns-in-Done-clause-leaves
-returns-in-Done-clause-leaves g c = λ input known left avail.
+returns-in-Done-clause-leaves g c = λ input known left same.
     let b = before_call c.args.state.now.plain c.args.pid c.args.cpu.now input known in
     let cpu = c.step_plain.new.cpu in
     let new = c.step_plain.new.plain in
@@ -25,7 +25,7 @@ returns-in-Done-clause-leaves g c = λ input known left avail.
     (c.outlived.ensures.leaves b (answered b r) cpu c.args.state.now.plain new (g.I.Source.left c.args.input.now) _ _ _ _ refl refl (record { state = refl; piece = refl; lines = refl; cpu = refl; bytes = λ n. refl; input = left; to_console = gains_none _; to_report = gains_none _ }))
 
 pub returns-in-Trap-clause-leaves : goal.returns-in-Trap-clause-leaves
-returns-in-Trap-clause-leaves g c = λ input known left avail.
+returns-in-Trap-clause-leaves g c = λ input known left same.
     let b = before_call c.args.state.now.plain c.args.pid c.args.cpu.now input known in
     let cpu = c.step_plain.new.cpu in
     let old = c.args.state.now.plain in
@@ -38,7 +38,7 @@ returns-in-Trap-clause-leaves g c = λ input known left avail.
     (c.trap.ensures.leaves b cpu old new _ _ refl (sym registers) registers left bytes bytes)
 
 pub returns-in-Miss-clause-leaves : goal.returns-in-Miss-clause-leaves
-returns-in-Miss-clause-leaves g c = λ input known left avail.
+returns-in-Miss-clause-leaves g c = λ input known left same.
     let b = before_call c.args.state.now.plain c.args.pid c.args.cpu.now input known in
     let cpu = c.step_plain.new.cpu in
     let old = c.args.state.now.plain in
@@ -51,21 +51,21 @@ returns-in-Miss-clause-leaves g c = λ input known left avail.
     (c.trap-in-Miss.ensures.leaves b cpu old new _ _ refl (sym registers) registers left bytes bytes)
 
 pub returns-in-Back-clause-leaves : goal.returns-in-Back-clause-leaves
-returns-in-Back-clause-leaves g c = λ input known left avail.
+returns-in-Back-clause-leaves g c = λ input known left same.
     let b = before_call c.args.state.now.plain c.args.pid c.args.cpu.now input known in
     let step = c.in-Gate.ensures.step in
-    let made = made_before c.args.state.now.plain c.step_plain.new.plain c.call.new.state.plain c.args.pid c.args.cpu.now c.step_plain.new.cpu c.call.new.cpu input known c.in-Gate.service c.in-Gate.next (g.I.Source.left c.args.input.now) _ _ _ _ _ step.1 _ _ _ (c.in-Back.ensures.does input known left avail) in
+    let made = made_before c.args.state.now.plain c.step_plain.new.plain c.call.new.state.plain c.args.pid c.args.cpu.now c.step_plain.new.cpu c.call.new.cpu input known c.in-Gate.service c.in-Gate.next (g.I.Source.left c.args.input.now) _ _ _ _ _ step.1 _ _ _ (c.in-Back.ensures.does input known left (record { avail = same.avail })) in
     subst (λ (e : Effect). Leaves b e c.call.new.cpu c.args.state.now.plain c.call.new.state.plain (g.I.Source.left c.args.input.now) (g.I.Source.left c.call.new.input) (g.C.Sink.taken c.args.console.now) (g.C.Sink.taken c.call.new.console) (g.R.Sink.taken c.args.report.now) (g.R.Sink.taken c.outlived-in-Back.new.report) c.outlived-in-Back.result)
     (sym (effect_by b (Err (stop.Gate c.in-Gate.service c.in-Gate.next)) step.0))
     (c.outlived-in-Back.ensures.leaves b (serviced b c.in-Gate.service c.in-Gate.next) c.call.new.cpu c.args.state.now.plain c.call.new.state.plain (g.I.Source.left c.args.input.now) _ _ _ _ refl refl made)
 
 pub returns-in-Trap-call-clause-leaves : goal.returns-in-Trap-call-clause-leaves
-returns-in-Trap-call-clause-leaves g c = λ input known left avail.
+returns-in-Trap-call-clause-leaves g c = λ input known left same.
     let b = before_call c.args.state.now.plain c.args.pid c.args.cpu.now input known in
     let step = c.in-Gate.ensures.step in
     let old = c.args.state.now.plain in
     let mid = c.step_plain.new.plain in
-    let t = trap_before old mid c.call.new.state.plain c.args.pid c.args.cpu.now c.step_plain.new.cpu c.call.new.cpu input known c.in-Gate.service c.in-Gate.next _ _ _ _ _ _ step.1 _ (c.in-Trap-call.ensures.does input known left avail) in
+    let t = trap_before old mid c.call.new.state.plain c.args.pid c.args.cpu.now c.step_plain.new.cpu c.call.new.cpu input known c.in-Gate.service c.in-Gate.next _ _ _ _ _ _ step.1 _ (c.in-Trap-call.ensures.does input known left (record { avail = same.avail })) in
     let new = c.call.new.state.plain in
     let vector = c.in-Trap-call.vector in
     let bytes = λ (n : ℕ). ap (λ (p : Plain). bytes_in p n) t.plain ∙ same_bytes old mid c.args.pid c.args.cpu.now c.step_plain.new.cpu step.1 n in
@@ -79,15 +79,15 @@ returns-in-Trap-call-clause-leaves g c = λ input known left avail.
     (subst (λ (r : Option (List ℕ)). P one (g.I.Source.left c.args.input.now) (g.C.Sink.taken c.args.console.now) r) t.to_report base)))
 
 pub returns-in-InputFault-clause-leaves : goal.returns-in-InputFault-clause-leaves
-returns-in-InputFault-clause-leaves g c = λ input known left avail.
+returns-in-InputFault-clause-leaves g c = λ input known left same.
     let step = c.in-Gate.ensures.step in
-    unread_before c.args.state.now.plain c.step_plain.new.plain c.call.new.state.plain c.args.pid c.args.cpu.now c.step_plain.new.cpu c.call.new.cpu input known c.in-Gate.service c.in-Gate.next _ _ _ _ _ _ step.1 step.0 c.in-InputFault.ensures.input_service (c.in-InputFault.ensures.does input known left avail)
+    unread_before c.args.state.now.plain c.step_plain.new.plain c.call.new.state.plain c.args.pid c.args.cpu.now c.step_plain.new.cpu c.call.new.cpu input known c.in-Gate.service c.in-Gate.next _ _ _ _ _ _ step.1 step.0 c.in-InputFault.ensures.input_service (c.in-InputFault.ensures.does input known left (record { avail = same.avail }))
 
 pub returns-in-SinkFault-clause-leaves : goal.returns-in-SinkFault-clause-leaves
-returns-in-SinkFault-clause-leaves g c = λ input known left avail.
+returns-in-SinkFault-clause-leaves g c = λ input known left same.
     let b = before_call c.args.state.now.plain c.args.pid c.args.cpu.now input known in
     let step = c.in-Gate.ensures.step in
-    let part = part_before c.args.state.now.plain c.step_plain.new.plain c.call.new.state.plain c.args.pid c.args.cpu.now c.step_plain.new.cpu c.call.new.cpu input known c.in-Gate.service c.in-Gate.next (g.I.Source.left c.args.input.now) (g.I.Source.left c.call.new.input) _ _ _ _ step.1 (c.in-SinkFault.ensures.does input known left avail) in
+    let part = part_before c.args.state.now.plain c.step_plain.new.plain c.call.new.state.plain c.args.pid c.args.cpu.now c.step_plain.new.cpu c.call.new.cpu input known c.in-Gate.service c.in-Gate.next (g.I.Source.left c.args.input.now) (g.I.Source.left c.call.new.input) _ _ _ _ step.1 (c.in-SinkFault.ensures.does input known left (record { avail = same.avail })) in
     subst (λ (e : Effect). IsInPart e c.call.new.cpu c.args.cpu.now c.args.state.now.plain c.call.new.state.plain (g.I.Source.left c.args.input.now) (g.I.Source.left c.call.new.input) (g.C.Sink.taken c.args.console.now) (g.C.Sink.taken c.call.new.console) (g.R.Sink.taken c.args.report.now) (g.R.Sink.taken c.call.new.report))
     (sym (effect_by b (Err (stop.Gate c.in-Gate.service c.in-Gate.next)) step.0))
     (in_part b (serviced b c.in-Gate.service c.in-Gate.next) c.call.new.cpu c.args.cpu.now c.args.state.now.plain c.call.new.state.plain _ _ _ _ _ _ part)
