@@ -9,7 +9,8 @@ use Rattle.o2_desc.specs.declared.descriptor.Descriptor.{Descriptor}
 use Rattle.o2_desc.specs.Bytes.{empty}
 use Rattle.o2_desc.specs.Choice.{chosen}
 use Rattle.o2_regions.specs.declared.held.Held.{Held}
-use Rattle.o2_regions.specs.Maps.{Maps, IsProcess, descriptor_of, held_at, is_reserved, nothing, place, region_of, table_of, with_entry, with_held}
+use Rattle.o2_regions.specs.declared.held.Region.{Region}
+use Rattle.o2_regions.specs.Maps.{Maps, IsProcess, base_of, descriptor_of, end_of, held_at, is_reserved, place, region_of, table_of, with_entry, with_held}
 use Rattle.o2_regions.specs.Kept.{AreKept, AreMarked}
 use Rattle.o2_regions.proofs.Scans.{chosen-same}
 use Rattle.o2_regions.proofs.Writes.{get_or-set, get_or-same}
@@ -160,24 +161,36 @@ counted_some m pid i was k e = k.counted pid i was (sym e)
 pub no_entry : (o : Option Held) (h : Held) (table : List Descriptor) (i : ℕ) → o ≡ Some h → length table ≤ i → Some empty ≡ descriptor_of o table i
 no_entry o h table i e l = rw e (ap (λ (d : Descriptor). Some d) (sym (get_or_past table i empty l)))
 
+-- the maps at first
+abbrev pub made : ℕ → Maps
+made n = record {
+  processes = n;
+  held = replicate ((n + 1) * 8192) None;
+  reserved = replicate ((n + 2) * 4096) false;
+  tables = [] ∷ replicate n (replicate 8192 empty);
+}
+
+pub made_held : (n q j : ℕ) → held_at (made n) q j ≡ None
+made_held n q j = elim (cases_lt j 8192) [
+  | inl small ↦ held_in (made n) q j small ∙ get_or-same ((n + 1) * 8192) (place q j) None
+  | inr large ↦ held_out (made n) q j large
+]
+
+pub made_reserved : (n : ℕ) (g : Region) (i : ℕ) → is_reserved (made n) g i ≡ false
+made_reserved n g i = and_right (ltb i (end_of g)) (get_or (replicate ((n + 2) * 4096) false) (base_of g + i) false) (get_or-same ((n + 2) * 4096) (base_of g + i) false)
+
 -- nothing is held at first
-pub AreKept-nothing : (n : ℕ) → 1 ≤ n → n ≤ 64 → AreKept (nothing n)
+pub AreKept-nothing : (n : ℕ) → 1 ≤ n → n ≤ 64 → AreKept (made n)
 AreKept-nothing n l h = record {
   some = l;
   most = h;
   held_long = length-replicate ((n + 1) * 8192) None;
   reserved_long = length-replicate ((n + 2) * 4096) false;
   tables_long = let e : length (replicate n (replicate 8192 empty)) ≡ n = length-replicate n (replicate 8192 empty) in omega arith;
-  process = λ q j g e. none_some g (sym (nothing_held n q j) ∙ e);
-  counted = λ q j g e. none_some g (sym (nothing_held n q j) ∙ e);
-  covered = λ q j g e. none_some g (sym (nothing_held n q j) ∙ e);
+  process = λ q j g e. none_some g (sym (made_held n q j) ∙ e);
+  counted = λ q j g e. none_some g (sym (made_held n q j) ∙ e);
+  covered = λ q j g e. none_some g (sym (made_held n q j) ∙ e);
 }
-  where
-    nothing_held : (n q j : ℕ) → held_at (nothing n) q j ≡ None
-    nothing_held n q j = elim (cases_lt j 8192) [
-      | inl small ↦ held_in (nothing n) q j small ∙ get_or-same ((n + 1) * 8192) (place q j) None
-      | inr large ↦ held_out (nothing n) q j large
-    ]
 
 pub AreMarked-nothing : (held : List (Option Held)) (marks : List Bool) (a b : ℕ) → held ≡ replicate a None → marks ≡ replicate b false → a ≡ b → AreMarked held marks
 AreMarked-nothing held marks a b e f s = record {

@@ -6,9 +6,9 @@ use Rattle.o2_desc.specs.Bytes.{empty}
 use Rattle.o2_regions.specs.declared.held.Held.{Held}
 use Rattle.o2_regions.specs.Kept.{AreWhole}
 use Rattle.o2_regions.specs.Links.{AreNext, ArePrev}
-use Rattle.o2_regions.specs.Maps.{Maps, IsProcess, is_reserved, place, region_of, with_entry, with_held}
+use Rattle.o2_regions.specs.Maps.{Maps, IsProcess, is_reserved, nothing, place, region_of, with_entry, with_held}
 use Rattle.o2_regions.proofs.Beginnings.{AreNext-more, ArePrev-more, AreNext-sized, ArePrev-sized, AreNext-nothing, ArePrev-nothing}
-use Rattle.o2_regions.proofs.Keeps.{held_read, counted_some, AreKept-made, AreKept-more, AreKept-new, AreKept-none, AreMarked-more, AreMarked-nothing, AreMarked-set, place_in}
+use Rattle.o2_regions.proofs.Keeps.{held_read, counted_some, AreKept-made, AreKept-more, AreKept-new, AreKept-none, AreMarked-more, AreMarked-nothing, AreMarked-set, made, place_in}
 
 pub AreWhole-made : (n : ℕ) (held : List (Option Held)) (reserved : List Bool) (tables : List (List Descriptor)) (marks : List Bool) (next prev : List ℕ) → 1 ≤ n → n ≤ 64
     → held ≡ replicate ((n + 1) * 8192) None → reserved ≡ replicate ((n + 1 + 1) * 64 * 64) false → tables ≡ [] ∷ replicate n (replicate 8192 empty) → marks ≡ replicate ((n + 1) * 128 * 64) false
@@ -67,3 +67,15 @@ module _ (m : Maps) (marks : List Bool) (next prev : List ℕ) (pid i : ℕ) (x 
     AreNext-sized m.held (place pid i) None linked a,
     ArePrev-sized m.held (place pid i) None back b,
   )
+
+-- the maps at first, by what their lists are
+pub all_made : (n : ℕ) (held : List (Option Held)) (reserved : List Bool) (tables : List (List Descriptor))
+    → held ≡ replicate ((n + 1) * 8192) None → reserved ≡ replicate ((n + 1 + 1) * 64 * 64) false → tables ≡ [] ∷ replicate n (replicate 8192 empty)
+    → record { processes = n; held = held; reserved = reserved; tables = tables } ≡ made n
+all_made n held reserved tables e r t =
+    let s : (n + 1 + 1) * 64 * 64 ≡ (n + 2) * 4096 = omega arith in
+    rw (e, r, t, s) refl
+
+pub is_nothing : (n : ℕ) → made n ≡ nothing n
+unfolding nothing
+is_nothing n = refl

@@ -38,10 +38,12 @@ started_more live p h l s = (
 
 -- so many elements from a place on, all the same
 pub length-fill : {X : Type 0} (xs : List X) (at n : ℕ) (x : X) → at + n ≤ length xs → length (fill xs at n x) ≡ length xs
+unfolding fill
 length-fill xs at n x h =
     omega (arith, length-append (take at xs) (replicate n x ++ drop (at + n) xs), length-append (replicate n x) (drop (at + n) xs), length-take-le at xs (omega arith), length-replicate n x, length-drop (at + n) xs)
 
 pub get_or-fill : {X : Type 0} (xs : List X) (at n : ℕ) (x d : X) → at + n ≤ length xs → (k : ℕ) → get_or (fill xs at n x) k d ≡ cond (nat_le at k && nat_lt k (at + n)) x (get_or xs k d)
+unfolding fill
 get_or-fill xs at n x d h k =
     let rest = replicate n x ++ drop (at + n) xs in
     let front : length (take at xs) ≡ at = length-take-le at xs (omega arith) in
@@ -62,6 +64,7 @@ get_or-fill xs at n x d h k =
     ]
 
 pub fill-none : {X : Type 0} (xs : List X) (at : ℕ) (x : X) → xs ≡ fill xs at 0 x
+unfolding fill
 fill-none xs at x =
     let e : at + 0 ≡ at = omega arith in
     rw e (sym (take-append-drop at xs))

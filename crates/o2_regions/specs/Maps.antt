@@ -76,11 +76,11 @@ abbrev pub table_of : Maps → ℕ → List Descriptor
 table_of m pid = slice_index_or m.tables pid []
 
 -- so many elements from a place on are all the same
-abbrev pub fill : {X : Type 0} → List X → ℕ → ℕ → X → List X
+unfoldable pub fill : {X : Type 0} → List X → ℕ → ℕ → X → List X
 fill xs at n x = take at xs ++ (replicate n x ++ drop (at + n) xs)
 
 -- nothing is held and nothing reserved
-abbrev pub nothing : ℕ → Maps
+unfoldable pub nothing : ℕ → Maps
 nothing n = record {
   processes = n;
   held = replicate ((n + 1) * 8192) None;

@@ -1,9 +1,10 @@
 // Who holds which index, how often, and what its descriptor says.
-ghost use Rattle.std.specs.Prelude.{◌≡◌, ℕ, ◌+◌, ◌*◌, ◌<◌, ◌≤◌, ◌^◌, ◌∷◌, true, false, not, [], length, replicate, IfOk, IfSome, slice_get, slice_index_or, slice_set};
+ghost use Rattle.std.specs.Prelude.{None, ◌≡◌, ℕ, ◌+◌, ◌*◌, ◌<◌, ◌≤◌, ◌^◌, ◌∷◌, true, false, not, [], length, replicate, IfOk, IfSome, slice_get, slice_index_or, slice_set};
 ghost use Rattle.std.specs.Borrow.{sem};
 ghost use Rattle.std.specs.Option.{is_some};
 ghost use Rattle.o2_desc.specs.Bytes.{empty};
 ghost use Rattle.o2_desc.specs.Choice.{IsRun, chosen};
+ghost use Rattle.o2_regions.specs.declared.held.Region.{Region as RegionThere};
 ghost use Rattle.o2_regions.specs.Kept.{AreKept};
 ghost use Rattle.o2_regions.specs.Lending.{LendsTable};
 ghost use Rattle.o2_regions.specs.Links.{holders, pair_at};
@@ -129,7 +130,10 @@ impl Regions {
     pub fn new(alloc: Global, processes: u16) -> Result<Regions, NoMemory>
         requires some { 1 ≤ processes }
         requires most { processes ≤ 64 }
-        ensures { IfOk result (λ r. r ≡ nothing processes) }
+        ensures nothing { IfOk result (λ r. r ≡ nothing processes) }
+        ensures processes { IfOk result (λ r. r.processes ≡ processes) }
+        ensures unheld { IfOk result (λ r. (pid i : ℕ) → held_at r pid i ≡ None) }
+        ensures unreserved { IfOk result (λ r. (g : RegionThere) (i : ℕ) → is_reserved r g i ≡ false) }
     {
         let rows = processes as usize + 1;
         let held = Vec::from_elem(alloc, None, rows * INDEXES as usize)?;

@@ -1,5 +1,6 @@
-use Rattle.std.proofs.Common.{◌≡◌, ◌+◌, ◌-◌, length, arith, ap, Bool, List}
-use Rattle.o2_regions.proofs.Writes.{length-fill, fill_step}
+use Rattle.std.proofs.Common.{◌≡◌, ◌+◌, ◌-◌, length, arith, ap, Bool, List, ◌∙◌, ℕ}
+use Rattle.o2_regions.specs.Maps.{fill}
+use Rattle.o2_regions.proofs.Writes.{length-fill, fill_step, fill-none}
 use Rattle.o2_regions.proofs.bits.Bits.fill.Goals as goal
 
 pub set-requires : goal.set-requires
@@ -10,3 +11,8 @@ set-requires c =
 
 pub loop-i-preserved : goal.loop-i-preserved
 loop-i-preserved c = fill_step c.args.self.now _ _ c.args.from c.loop-i.i c.args.mark (omega arith) (omega arith) c.loop-i.invariant c.set.ensures
+
+pub loop-i-init : goal.loop-i-init
+loop-i-init c = λ n e.
+    let zero_long : 0 ≡ n = omega arith in
+    fill-none c.args.self.now c.args.from c.args.mark ∙ ap (λ (p : ℕ). fill c.args.self.now c.args.from p c.args.mark) zero_long
