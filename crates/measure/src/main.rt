@@ -1,12 +1,15 @@
 // Times the calls that its arguments name, each by one line: the name, how many were done, and milliseconds.
 //
-// The names are `decode`, `loop`, `moves`, `sums`, `calls` and `strings`. Without arguments it prints nothing.
+// The names are `decode`, `loop`, `moves`, `sums`, `calls` and `strings`; and `tables`, `lowest`, `runs`, `grants`, `walks` and
+// `holders` of who holds which index. Without arguments it prints nothing.
 #![tactic(auto)]
 
 mod decoding;
+mod regions;
 mod stepping;
 
 use decoding::decode_many;
+use regions::{grant_many, holder_many, lowest_many, make_many, walk_many};
 use std::time::Instant;
 use std::{env, io};
 use stepping::{CALLS, LOOP, MOVES, STRINGS, SUMS, step_many};
@@ -24,6 +27,23 @@ fn measure(rt: &HostRuntime, name: &str) -> u64 {
         "sums" => step_many(rt.alloc(), &SUMS, STEPS),
         "calls" => step_many(rt.alloc(), &CALLS, STEPS),
         "strings" => step_many(rt.alloc(), &STRINGS, STEPS),
+        _ => return measure_regions(rt, name),
+    };
+    match done {
+        Ok(done) => done,
+        Err(_) => 0,
+    }
+}
+
+/// The same for the names of calls on who holds which index.
+fn measure_regions(rt: &HostRuntime, name: &str) -> u64 {
+    let done = match name {
+        "tables" => make_many(rt.alloc(), 20),
+        "lowest" => lowest_many(rt.alloc(), STEPS, 1),
+        "runs" => lowest_many(rt.alloc(), STEPS, 500),
+        "grants" => grant_many(rt.alloc(), STEPS),
+        "walks" => walk_many(rt.alloc(), 10_000),
+        "holders" => holder_many(rt.alloc(), 10_000),
         _ => return 0,
     };
     match done {
