@@ -4,10 +4,10 @@ use Rattle.std.proofs.lemmas.Bool.{cases_eq, cases_lt, eq-eqb, ne_eqb}
 use Rattle.std.proofs.lemmas.List.{get_or_past, length-set, length-replicate, ext_get_or}
 use Rattle.std.proofs.lemmas.List.FromFn.{get_or-map-range_with_len, length-map-range_with_len}
 use Rattle.std.proofs.lemmas.Nat.{div_below, le-div, div-add-mod'}
-use Rattle.std.proofs.lemmas.Nat.Bits.{bit_at-zero, bit_at_ones, shr_and_one, bit_at-trailing_zeros, bit_at_above}
+use Rattle.std.proofs.lemmas.Nat.Bits.{bit_at-zero, bit_at_ones, shr_and_one, bit_at-trailing_zeros, bit_at-trailing_ones, bit_at_above}
 use Rattle.std.proofs.Math.Nat.{div-div-eq-div-mul, div-le_self}
 use lib.Pow.{pow-add}
-use Rattle.std.specs.Int.{bit_at, trailing_zeros}
+use Rattle.std.specs.Int.{bit_at, trailing_ones, trailing_zeros}
 use lib.Bits.{bit_and}
 use Rattle.o2_regions.specs.Words.{mark_at, marks_of}
 use Rattle.o2_regions.proofs.Writes.{get_or-set, get_or-same}
@@ -122,3 +122,28 @@ mark-test ws at word b e t = ap (λ (x : ℕ). eqb (bit_at x (at % 64)) 1) (sym 
 
 pub word_below : (ws : List ℕ) (base i end : ℕ) → base + end ≤ 64 * length ws → i < end → (base + i) / 64 < length ws
 word_below ws base i end h l = div_below (base + i) 64 (length ws) (omega arith) (omega arith)
+
+-- the places that are marked in a row from the first one of what is left of a word
+pub ones_rest : (ws : List ℕ) (at word n : ℕ) → word ≡ get_or ws (at / 64) 0 → word + 1 < 2 ^ 64 → n ≡ trailing_ones w64 (word / 2 ^ (at % 64)) → bit_and (word / 2 ^ (at % 64)) 1 ≡ 1
+    → (0 < n) × ((j : ℕ) → j < n → mark_at ws (at + j) ≡ true)
+ones_rest ws at word n e fits is one =
+    let rest = word / 2 ^ (at % 64) in
+    let small : rest ≤ word = div-le_self word (2 ^ (at % 64)) in
+    let t = bit_at-trailing_ones w64 rest (omega arith) in
+    let first : bit_at rest 0 ≡ 1 = sym (shr_and_one rest 0) ∙ ap (λ (x : ℕ). bit_and x 1) (no_shift rest) ∙ one in
+    let some : 0 < n = elim (cases_eq n 0) [
+      | inl none ↦ absurd (omega (arith, first, subst (λ (x : ℕ). bit_at rest x ≡ 0) (sym is ∙ none) t.1))
+      | inr more ↦ omega arith
+    ] in (
+      some,
+      λ j h.
+          (let b : bit_at word (at % 64 + j) ≡ 1 = sym (bit_behind word (at % 64) j) ∙ t.2 j (omega (arith, is)) in
+          let inside : at % 64 + j < 64 = elim (cases_lt (at % 64 + j) 64) [
+            | inl below ↦ below
+            | inr above ↦ (let z : bit_at word (at % 64 + j) ≡ 0 = bit_at_above word 64 (at % 64 + j) (omega arith) above in absurd (omega (arith, z, b)))
+          ] in
+          mark-behind ws at j word e inside ∙ ap (λ (x : ℕ). eqb x 1) b),
+    )
+  where
+    no_shift : (r : ℕ) → r / 2 ^ 0 ≡ r
+    no_shift r = omega (arith, div-add-mod' r 1)

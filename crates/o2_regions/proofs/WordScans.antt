@@ -1,11 +1,11 @@
 -- The steps of a scan over words.
 use Rattle.std.proofs.Common.{◌≡◌, ◌≢◌, ℕ, ◌+◌, ◌-◌, ◌/◌, ◌%◌, ◌^◌, ◌<◌, ◌≤◌, List, Bool, true, false, not, eqb, Some, None, arith, refl, sym, ap, subst, get_or, w64}
-use Rattle.std.specs.Int.{trailing_zeros}
+use Rattle.std.specs.Int.{trailing_ones, trailing_zeros}
 use lib.Bits.{bit_and}
 use Rattle.o2_desc.specs.Choice.{IsChosen, chosen}
 use Rattle.o2_regions.specs.Words.{mark_at, marks_of, IsScanned}
 use Rattle.o2_regions.proofs.Scans.{scan_clear, scan_found, scan_taken, scan_end, scan_skip, scanned, chosen-same}
-use Rattle.o2_regions.proofs.Bitwise.{full_word, empty_rest, first_rest, mark-test, get_or-marks}
+use Rattle.o2_regions.proofs.Bitwise.{full_word, empty_rest, first_rest, ones_rest, mark-test, get_or-marks}
 
 -- a mark behind a place, as one behind its number
 behind : (ws : List ℕ) (base i k : ℕ) (b : Bool) → i ≤ k → mark_at ws (base + i + (k - i)) ≡ b → mark_at ws (base + k) ≡ b
@@ -17,10 +17,11 @@ module _ (ws : List ℕ) (base low end n i run : ℕ) where
       scan_taken (λ k. mark_at ws (base + k)) low end n i run s (i + (64 - (base + i) % 64)) (omega arith) w
       (λ k a b d. behind ws base i k true a (full_word ws (base + i) (get_or ws ((base + i) / 64) 0) refl full (k - i) (omega arith)))
 
-  pub clear_one : IsScanned (λ k. mark_at ws (base + k)) low end n i run → i < end → eqb (bit_and (get_or ws ((base + i) / 64) 0 / 2 ^ ((base + i) % 64)) 1) 1 ≡ true → IsScanned (λ k. mark_at ws (base + k)) low end n (i + 1) 0
-  clear_one s w test =
-      scan_taken (λ k. mark_at ws (base + k)) low end n i run s (i + 1) (omega arith) w
-      (λ k a b d. subst (λ (p : ℕ). mark_at ws (base + p) ≡ true) (let e : i ≡ k = omega arith in e) (mark-test ws (base + i) (get_or ws ((base + i) / 64) 0) true refl test))
+  pub clear_one : IsScanned (λ k. mark_at ws (base + k)) low end n i run → i < end → (ones : ℕ) → get_or ws ((base + i) / 64) 0 + 1 < 2 ^ 64 → ones ≡ trailing_ones w64 (get_or ws ((base + i) / 64) 0 / 2 ^ ((base + i) % 64))
+      → bit_and (get_or ws ((base + i) / 64) 0 / 2 ^ ((base + i) % 64)) 1 ≡ 1 → IsScanned (λ k. mark_at ws (base + k)) low end n (i + ones) 0
+  clear_one s w ones fits is test =
+      let o = ones_rest ws (base + i) (get_or ws ((base + i) / 64) 0) ones refl fits is test in
+      scan_taken (λ k. mark_at ws (base + k)) low end n i run s (i + ones) (omega (arith, o.0)) w (λ k a b d. behind ws base i k true a (o.1 (k - i) (omega arith)))
 
   pub clear_more : IsScanned (λ k. mark_at ws (base + k)) low end n i run → eqb (bit_and (get_or ws ((base + i) / 64) 0 / 2 ^ ((base + i) % 64)) 1) 1 ≡ false → run + 1 ≢ n → IsScanned (λ k. mark_at ws (base + k)) low end n (i + 1) (run + 1)
   clear_more s test h =

@@ -36,8 +36,8 @@ fn with_bit(word: u64, bit: usize, mark: bool) -> u64
     }
 }
 
-// The lowest number from `low` on, and below `end`, from which `count` bits behind `base` are 0. Full words are passed
-// over at once.
+// The lowest number from `low` on, and below `end`, from which `count` bits behind `base` are 0. Bits of a word that are
+// 1 in a row are passed over at once.
 fn scan_clear(words: &[u64], base: usize, low: u16, end: u16, count: u16) -> Option<u16>
     requires within { base + end ≤ 64 * length words.now }
     requires few { length words.now < 2 ^ 32 }
@@ -51,12 +51,13 @@ fn scan_clear(words: &[u64], base: usize, low: u16, end: u16, count: u16) -> Opt
     while i < end as usize {
         let at = base + i;
         let word = words[at / 64];
+        let rest = word >> (at % 64);
         if word == u64::MAX {
             run = 0;
             i += 64 - at % 64;
-        } else if word >> (at % 64) & 1 == 1 {
+        } else if rest & 1 == 1 {
             run = 0;
-            i += 1;
+            i += rest.trailing_ones() as usize;
         } else {
             run += 1;
             i += 1;
