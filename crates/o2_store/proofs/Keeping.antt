@@ -4,13 +4,14 @@ use Rattle.std.proofs.lemmas.Bool.{cases_lt, cases_eq}
 use Rattle.std.proofs.lemmas.Bool.Decides.{nat_tests}
 use Rattle.std.proofs.lemmas.List.{length-set, get_or_past}
 use Rattle.o2_entries.specs.declared.Entry.{Entry}
+use Rattle.o2_entries.specs.declared.Attr.{Attr}
 use Rattle.o2_entries.specs.Tables.{slot_at}
 use Rattle.o2_place.specs.declared.clock.Mark.{Mark}
 use Rattle.o2_place.specs.Layout.{Layout, Changes}
 use Rattle.o2_place.specs.Marks.{Turns, mark_of, no_mark, OnlyUnmarks}
 use Rattle.o2_swapmap.specs.Piles.{Blocks, blocks_of, OnlyOf, NoneTwice}
 use Rattle.o2_store.specs.Shelf.{Shelf, IsShelf, IsSegment, entry, entry_or, place_of, blocks_for, Pictures, byte_at, byte_in, out_byte, source_byte, stored_byte, KeepsAll, SameEntry, SameTables, AreClean, IsOther, IsSaved}
-use Rattle.o2_store.proofs.Tables.{Touches, IsShelf-touch, slot-past, slot-set_same, slot-set_other, place-same, place-other, marks_other, marks_same, marks_long, within_at, none_is_none}
+use Rattle.o2_store.proofs.Tables.{Touches, IsShelf-touch, slot-past, slot-set_same, slot-set_other, place-same, place-other, marks_other, marks_same, marks_long, within_at, none_is_none, locked_at}
 
 pub same_entry : (o : Option Entry) → SameEntry o o
 same_entry o = record { live = refl; age = refl; size = refl; attr = refl; image = λ p e. e }
@@ -333,3 +334,20 @@ placed_below s k h i = go (place_of s k) refl i
 
 pub clean_unmarked : (s : Shelf) (u : Turns) (pic : Pictures) → AreClean s pic → AreClean (record s { turns = u }) pic
 clean_unmarked s u pic c = record { bytes = c.bytes }
+
+-- the numbers of a call are no part of what is kept
+pub keys_keep : (told : Bool) (pic : Pictures) (s t u : Shelf) (a b : ℕ → List ℕ) → t ≡ record s { keys = t.keys } → KeepsAll told pic t a u b → KeepsAll told pic s a u b
+keys_keep told pic s t u a b e q =
+    let r : KeepsAll told pic (record s { keys = t.keys }) a u b = subst (λ (x : Shelf). KeepsAll told pic x a u b) e q in
+    record { bytes = r.bytes; tables = record { same = r.tables.same; count = r.tables.count; made = r.tables.made; size = r.tables.size } }
+
+pub keys_clean : (pic : Pictures) (s t : Shelf) → t ≡ record s { keys = t.keys } → AreClean s pic → AreClean t pic
+keys_clean pic s t e c =
+    let r : AreClean (record s { keys = t.keys }) pic = record { bytes = c.bytes } in
+    subst (λ (x : Shelf). AreClean x pic) (sym e) r
+
+-- locked segments stay in memory
+pub locked_stay : (s t : Shelf) → IsShelf t → SameTables s t → (k : ℕ) → 0 < (entry s k).attr.lock → IsSome (place_of t k)
+locked_stay s t h q k l =
+    let e : (entry t k).attr.lock ≡ (entry s k).attr.lock = ap (λ (x : Attr). x.lock) (q.same k).attr in
+    locked_at t k h (omega (arith, e, l))

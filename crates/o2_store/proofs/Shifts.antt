@@ -13,7 +13,7 @@ use Rattle.o2_place.specs.Marks.{Turns, mark_of, no_mark, IsKept}
 use Rattle.o2_place.proofs.Sums.{over-same, over-le, over-add, over-only, only}
 use Rattle.o2_compact.specs.Parts.{KeepsParts, part_of}
 use Rattle.o2_swapmap.specs.Piles.{Blocks, blocks_of}
-use Rattle.o2_store.specs.Shelf.{Shelf, IsShelf, IsSegment, IsSegmentAt, entry, entry_or, place_of, rounded, blocks_for, Pictures, byte_at, byte_in, out_byte, source_byte, stored_byte, KeepsAll, SameEntry, SameTables, AreClean, IsMoved, Tells, need_in, total_need, is_needed}
+use Rattle.o2_store.specs.Shelf.{Shelf, IsShelf, IsSegment, IsSegmentAt, entry, entry_or, place_of, rounded, blocks_for, Pictures, byte_at, byte_in, out_byte, source_byte, stored_byte, KeepsAll, SameEntry, SameTables, AreClean, IsMoved, Tells}
 use Rattle.o2_store.proofs.Tables.{Touches, IsShelf-touch, slot-past, place-same, place-other, marks_other, marks_same, marks_long, placed_at, sized_at, none_is_none}
 use Rattle.o2_store.proofs.Keeping.{same_entry, same_tables, keeps_trans, keeps_key, Leaves, same_at}
 

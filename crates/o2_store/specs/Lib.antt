@@ -1,2 +1,3 @@
-pub mod Shelf
+pub mod Needs
 pub mod Pictures
+pub mod Shelf

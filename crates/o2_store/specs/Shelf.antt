@@ -224,15 +224,3 @@ Tells told image = IsSome image ⊎ IsTrue told
 -- there are images for all segments that come from one
 abbrev pub HasAll : (ℕ → ℕ → Type 0) → Shelf → Type 0
 HasAll has s = (k m seg : ℕ) → (entry s k).image ≡ Some (m, seg) → has m seg
-
--- whether a segment must be in memory: it is locked, or among the numbers
-abbrev pub is_needed : List (Option Entry) → List ℕ → ℕ → Bool
-is_needed es keys k = nat_lt 0 (entry_or (slot_at es k)).attr.lock || list_any (λ x. x == k) keys
-
--- what such segments take
-abbrev pub need_in : List (Option Entry) → List ℕ → ℕ → ℕ
-need_in es keys k = if is_needed es keys k then rounded (entry_or (slot_at es k)).size else 0
-
--- the rounded sizes of all these, each once
-abbrev pub total_need : Shelf → List ℕ → ℕ
-total_need s keys = over (need_in s.entries keys) (length s.entries)

@@ -1,16 +1,21 @@
 // Room is made in memory, and segments are brought in.
-ghost use Rattle.std.specs.Prelude.{◌≡◌, ◌≢◌, ℕ, List, ◌+◌, ◌<◌, ◌≤◌, ◌↔◌, length, Some, None, IsSome, IsTrue, IfSome, true, false};
+ghost use Rattle.std.specs.Prelude.{◌≡◌, ◌≢◌, ℕ, List, ◌+◌, ◌<◌, ◌≤◌, ◌↔◌, ◌||◌, ◌==◌, length, Some, None, IsSome, IsTrue, IfSome, true, false};
 ghost use Rattle.std.specs.Option.{IfNone};
 ghost use Rattle.o2_entries.specs.Tables.{slot_at};
 ghost use Rattle.o2_outer.specs.Texts.{Rose};
 ghost use Rattle.o2_place.specs.Layout.{used};
 ghost use Rattle.o2_place.specs.Marks.{IsKept, IsOutside};
 ghost use Rattle.o2_swapmap.specs.Piles.{all_of};
-ghost use Rattle.o2_store.specs.Shelf.{Shelf, Pictures, KeepsAll, AreClean, SameTables, place_of, entry, IsFull};
+ghost use Rattle.o2_store.specs.Shelf.{Shelf, Pictures, KeepsAll, AreClean, SameTables, place_of, entry, entry_of, rounded, HasAll, IsFull};
+ghost use Rattle.o2_store.specs.Needs.{has, all_need, named_in, all_wanted};
+ghost use Rattle.o2_store.specs.Pictures.{picture, HasPicture};
 
 use crate::brought::Brought;
+use crate::keys::collect;
 use crate::store::Store;
+use o2_image::Images;
 use o2_outer::SwapDevice;
+use o2_place::SegId;
 
 impl Store {
     // Whether so many bytes are more than those in no range.
@@ -82,5 +87,132 @@ impl Store {
             }
         }
         Brought::Here
+    }
+
+    // Lists the numbers of a segment and of the live ones of a list, and answers what they and the locked ones take of the
+    // memory together.
+    fn list_keys(&mut self, key: u32, keep: &[SegId]) -> u64
+        requires live { IsSome (slot_at self.old.entries key) }
+        ensures shelf { self.new ≡ record self.old { keys = self.new.keys } }
+        ensures need { result ≡ all_need self.old.entries self.new.keys }
+        ensures any { (k : ℕ) → has self.new.keys k ≡ (k == key || named_in self.old.entries keep.now k) }
+    {
+        self.law();
+        collect(&mut self.keys, &self.entries, self.locked, key, keep)
+    }
+
+    // Brings a segment in that is among the numbers, which fit the memory together with the locked ones.
+    fn bring_key<S: SwapDevice>(&mut self, key: u32, images: &Images, swap: &mut S) -> Brought
+        requires live { IsSome (slot_at self.old.entries key) }
+        requires among { has self.old.keys key ≡ true }
+        requires fits { all_need self.old.entries self.old.keys ≤ self.old.places.size }
+        requires pictures { HasAll (HasPicture images.now) self.old }
+        requires device { all_of self.old.swap ≤ S.blocks swap.old }
+        ensures keeps { AreClean self.old (picture images.now) → KeepsAll (S.told swap.old) (picture images.now) self.old (S.block swap.old) self.new (S.block swap.new) }
+        ensures clean { AreClean self.old (picture images.now) → AreClean self.new (picture images.now) }
+        ensures tables { SameTables self.old self.new }
+        ensures device { (S.blocks swap.new ≡ S.blocks swap.old) × (S.told swap.new ≡ S.told swap.old) }
+        ensures map { all_of self.new.swap ≡ all_of self.old.swap }
+        ensures here { result ≡ Brought.Here → IsSome (place_of self.new key) }
+        ensures kept { (k : ℕ) → has self.old.keys k ≡ true → IsSome (place_of self.old k) → IsSome (place_of self.new k) }
+        ensures full { result ≡ Brought.SwapFull → IsFull self.new × (self.new.places.size < used self.new.places.ranges + rounded (entry self.old key).size) }
+        ensures faults { S.faults swap.old ≤ S.faults swap.new }
+        ensures cause { result ≡ Brought.SwapFault → Rose (S.faults swap.old) (S.faults swap.new) }
+        ensures never { (result ≡ Brought.NoRoom → ⊥) × (result ≡ Brought.Stale → ⊥) }
+    {
+        self.law();
+        if self.range_of(key).is_some() {
+            return Brought::Here;
+        }
+        let len = self.rounded_size(key);
+        let answer = self.evict_until(len, swap);
+        self.law();
+        match answer {
+            Brought::Here => self.come_in(key, len, images, swap),
+            other => other,
+        }
+    }
+
+    // Brings a segment in where enough bytes are in no range, or the swap device fails.
+    fn come_in<S: SwapDevice>(
+        &mut self,
+        key: u32,
+        len: u32,
+        images: &Images,
+        swap: &mut S,
+    ) -> Brought
+        requires key { key < length self.old.entries }
+        requires live { IsSome (slot_at self.old.entries key) }
+        requires len { len ≡ rounded (entry self.old key).size }
+        requires out { place_of self.old key ≡ None }
+        requires room { used self.old.places.ranges + len ≤ self.old.places.size }
+        requires pictures { HasAll (HasPicture images.now) self.old }
+        requires device { all_of self.old.swap ≤ S.blocks swap.old }
+        ensures keeps { KeepsAll (S.told swap.old) (picture images.now) self.old (S.block swap.old) self.new (S.block swap.new) }
+        ensures clean { AreClean self.old (picture images.now) → AreClean self.new (picture images.now) }
+        ensures tables { SameTables self.old self.new }
+        ensures device { (S.blocks swap.new ≡ S.blocks swap.old) × (S.told swap.new ≡ S.told swap.old) }
+        ensures map { all_of self.new.swap ≡ all_of self.old.swap }
+        ensures here { result ≡ Brought.Here → IsSome (place_of self.new key) }
+        ensures others { (k : ℕ) → IsSome (place_of self.old k) → IsSome (place_of self.new k) }
+        ensures faults { S.faults swap.old ≤ S.faults swap.new }
+        ensures cause { result ≡ Brought.SwapFault → Rose (S.faults swap.old) (S.faults swap.new) }
+        ensures never { (result ≡ Brought.NoRoom → ⊥) × (result ≡ Brought.Stale → ⊥) × (result ≡ Brought.SwapFull → ⊥) }
+    {
+        if self.place_in(key, len, images, swap) {
+            return Brought::Here;
+        }
+        Brought::SwapFault
+    }
+
+    /// Brings a segment into memory together with those of `keep` and the locked ones. Gaps are closed before anything is
+    /// evicted. Whatever the answer, each segment keeps its bytes, and one of `keep` or a locked one that is in memory stays
+    /// there.
+    pub fn bring<S: SwapDevice>(
+        &mut self,
+        id: SegId,
+        keep: &[SegId],
+        images: &Images,
+        swap: &mut S,
+    ) -> Brought
+        requires pictures { HasAll (HasPicture images.now) self.old }
+        requires clean { AreClean self.old (picture images.now) }
+        requires device { all_of self.old.swap ≤ S.blocks swap.old }
+
+        ensures keeps { KeepsAll (S.told swap.old) (picture images.now) self.old (S.block swap.old) self.new (S.block swap.new) }
+        ensures clean { AreClean self.new (picture images.now) }
+        ensures tables { SameTables self.old self.new }
+        ensures device { (S.blocks swap.new ≡ S.blocks swap.old) × (S.told swap.new ≡ S.told swap.old) }
+        ensures map { all_of self.new.swap ≡ all_of self.old.swap }
+        ensures kept { (k : ℕ) → named_in self.old.entries keep.now k ≡ true → IsSome (place_of self.old k) → IsSome (place_of self.new k) }
+        ensures locked { (k : ℕ) → 0 < (entry self.old k).attr.lock → IsSome (place_of self.new k) }
+
+        ensures here { result ≡ Brought.Here → IsSome (place_of self.new id.key) }
+        ensures stale { result ≡ Brought.Stale → entry_of self.old id ≡ None }
+        ensures always_stale { entry_of self.old id ≡ None → result ≡ Brought.Stale }
+        ensures no_room { result ≡ Brought.NoRoom → self.old.places.size < all_wanted self.old id.key keep.now }
+        ensures always_no_room { IsSome (entry_of self.old id) → self.old.places.size < all_wanted self.old id.key keep.now → result ≡ Brought.NoRoom }
+        ensures full { result ≡ Brought.SwapFull → IsFull self.new × (self.new.places.size < used self.new.places.ranges + rounded (entry self.old id.key).size) }
+        ensures faults { S.faults swap.old ≤ S.faults swap.new }
+        ensures cause { result ≡ Brought.SwapFault → Rose (S.faults swap.old) (S.faults swap.new) }
+    {
+        self.law();
+        if self.find(id).is_none() {
+            return Brought::Stale;
+        }
+        let need = self.list_keys(id.key, keep);
+        if self.memory_size() < need {
+            return Brought::NoRoom;
+        }
+        let answer = self.bring_key(id.key, images, swap);
+        self.law();
+        answer
+    }
+
+    // How many bytes the memory has.
+    fn memory_size(&self) -> u64
+        ensures { result ≡ self.now.places.size }
+    {
+        u64::from(self.places.size())
     }
 }

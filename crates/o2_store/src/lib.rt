@@ -6,6 +6,7 @@ mod blocks;
 mod bringing;
 mod brought;
 mod evicting;
+mod keys;
 mod moving;
 mod showing;
 mod store;

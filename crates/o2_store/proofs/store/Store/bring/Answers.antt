@@ -1,0 +1,33 @@
+use Rattle.std.proofs.Common.{◌≡◌, ◌<◌, sym, subst, ap, ◌∙◌, arith, rules}
+use Rattle.o2_store.specs.Pictures.{picture}
+use Rattle.o2_store.specs.Shelf.{Shelf, SameTables}
+use Rattle.o2_store.proofs.Tables.{locked_at}
+use Rattle.o2_store.proofs.Keeping.{keys_keep, keys_clean, locked_stay}
+use Rattle.o2_store.proofs.Collecting.{need_wanted}
+use Rattle.o2_store.proofs.store.Store.bring.Goals as goal
+
+pub returns-then-is_none-clause-locked : goal.returns-then-is_none-clause-locked
+returns-then-is_none-clause-locked g c = λ k l. locked_at c.args.self.now k c.law.ensures.shelf l
+
+pub returns-clause-keeps : goal.returns-clause-keeps
+returns-clause-keeps g c =
+    let S = g.S.SwapDevice in
+    let s = c.args.self.now in
+    let t = c.list_keys-need.new.self in
+    let e = c.list_keys-need.ensures.shelf in
+    keys_keep (S.told c.args.swap.now) (picture c.args.images.now) s t c.bring_key-answer.new.self (S.block c.args.swap.now) (S.block c.bring_key-answer.new.swap) e
+    (c.bring_key-answer.ensures.keeps (keys_clean (picture c.args.images.now) s t e c.requires.clean))
+
+pub returns-clause-clean : goal.returns-clause-clean
+returns-clause-clean g c = c.bring_key-answer.ensures.clean (keys_clean (picture c.args.images.now) c.args.self.now c.list_keys-need.new.self c.list_keys-need.ensures.shelf c.requires.clean)
+
+pub returns-clause-locked : goal.returns-clause-locked
+returns-clause-locked g c =
+    let t : SameTables c.args.self.now c.bring_key-answer.new.self = search rules in
+    locked_stay c.args.self.now c.bring_key-answer.new.self c.law-2.ensures.shelf t
+
+pub returns-clause-always_no_room : goal.returns-clause-always_no_room
+returns-clause-always_no_room g c = λ i l.
+    absurd (let w = need_wanted c.args.self.now c.list_keys-need.new.self.keys c.args.id.key c.args.keep.now c.list_keys-need.ensures.any in
+    let z : c.list_keys-need.new.self.places.size ≡ c.args.self.now.places.size = ap (λ (x : Shelf). x.places.size) c.list_keys-need.ensures.shelf in
+    omega (arith, w, l, z, c.list_keys-need.ensures.need, c.memory_size.ensures, c.if-memory_size-need.false))

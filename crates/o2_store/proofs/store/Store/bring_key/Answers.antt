@@ -1,0 +1,57 @@
+use Rattle.std.proofs.Common.{◌≡◌, ◌<◌, ◌≤◌, ◌+◌, ℕ, length, sym, subst, ap, ◌∙◌, Some, None, is_some, IsSome, IsTrue, arith, rules, true}
+use Rattle.o2_place.specs.Layout.{used}
+use Rattle.o2_store.specs.Pictures.{picture}
+use Rattle.o2_store.specs.Needs.{has, all_need}
+use Rattle.o2_store.specs.Shelf.{Shelf, KeepsAll, place_of, entry, rounded}
+use Rattle.o2_store.specs.declared.brought.Brought.{Brought}
+use Rattle.o2_store.specs.declared.brought.Brought.TheVariants.{NoRoom, Here}
+use Rattle.o2_store.proofs.Tables.{within_at}
+use Rattle.o2_store.proofs.Collecting.{kept_has, need_exceeds, same_need}
+use Rattle.o2_store.proofs.store.Store.bring_key.Goals as goal
+
+pub returns-in-Here-clause-kept : goal.returns-in-Here-clause-kept
+returns-in-Here-clause-kept g c =
+    let S = g.S.SwapDevice in
+    let told = S.told c.args.swap.now in
+    let a = S.block c.args.swap.now in
+    let pic = picture c.args.images.now in
+    let s = c.args.self.now in
+    let key = c.args.key in
+    let v = c.evict_until-answer in
+    let t = v.new.self in
+    λ k h i. c.come_in.ensures.others k (ap is_some (v.ensures.kept k (kept_has s.keys k h)) ∙ i)
+
+pub returns-in_default : goal.returns-in_default
+returns-in_default g c =
+    let S = g.S.SwapDevice in
+    let told = S.told c.args.swap.now in
+    let a = S.block c.args.swap.now in
+    let pic = picture c.args.images.now in
+    let s = c.args.self.now in
+    let key = c.args.key in
+    let v = c.evict_until-answer in
+    let t = v.new.self in
+    record {
+      keeps = λ q. v.ensures.keeps pic q;
+      clean = λ q. v.ensures.clean pic q;
+      tables = v.ensures.tables;
+      device = v.ensures.device;
+      map = v.ensures.map;
+      here = search rules;
+      kept = λ k h i. ap is_some (v.ensures.kept k (kept_has s.keys k h)) ∙ i;
+      full = λ e. (v.ensures.full e, omega (arith, v.ensures.short c.in_default.not-Here, c.rounded_size-len.ensures.value));
+      faults = v.ensures.faults;
+      cause = v.ensures.cause;
+      never = (
+        λ e.
+            (let l : key < length t.entries = omega (arith, v.ensures.tables.count, within_at s.entries key c.requires.live) in
+            let out : place_of s key ≡ None = search rules in
+            let among : has t.keys key ≡ true = ap (λ (x : _). has x key) v.ensures.keys ∙ c.requires.among in
+            let n = need_exceeds t t.keys key c.law-2.ensures.shelf l among (v.ensures.none key out) (v.ensures.no_room e) c.law-2.ensures.sum in
+            let m = same_need s t t.keys v.ensures.tables in
+            let k : all_need s.entries t.keys ≡ all_need s.entries s.keys = ap (all_need s.entries) v.ensures.keys in
+            let z : rounded (entry t key).size ≡ rounded (entry s key).size = ap rounded (v.ensures.tables.same key).size in
+            omega (arith, n, m, k, z, v.ensures.short c.in_default.not-Here, v.ensures.tables.size, c.rounded_size-len.ensures.value, c.requires.fits)),
+        v.ensures.never,
+      );
+    }
