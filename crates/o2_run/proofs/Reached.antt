@@ -7,7 +7,7 @@ use Rattle.o2_world.specs.Run.{any_lives, after, is_over, last_line, report, Has
 use Rattle.o2_run.specs.Room.{Fits}
 use Rattle.o2_run.specs.Turn.{StepsOn, StepsInPart, IsClosed, IsClosedInPart, IsStopped}
 use Rattle.o2_run.specs.Stops.{stop_line}
-use Rattle.o2_run.specs.Ended.{FitsBelow, HasReached, HasWholeRun, HasStoppedTexts, HasPartRun, HasTexts, part_at}
+use Rattle.o2_run.specs.Ended.{FitsBelow, HasReached, HasWholeRun, HasStoppedTexts, HasTexts}
 use Rattle.o2_run.specs.declared.whole.Ended.TheVariants.{Fine, SinkFault, Stopped}
 use Rattle.o2_run.specs.declared.steps.Stop.{Stop}
 

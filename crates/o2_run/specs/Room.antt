@@ -1,19 +1,19 @@
 -- The room that a step needs in memory, and what swapping has to hold.
-use Rattle.std.specs.Prelude.{◌≡◌, ℕ, zero, ◌+◌, ◌*◌, ◌/◌, ◌≤◌, ◌==◌, ◌&&◌, ◌||◌, Bool, true, false, not, nat_le, nat_lt, if◌then◌else◌, max, List, [], ◌∷◌, ◌++◌, filter, length, map, sum, Option, Some, None, option_map}
+use Rattle.std.specs.Prelude.{◌≡◌, ℕ, ◌+◌, ◌*◌, ◌/◌, ◌≤◌, ◌==◌, ◌||◌, Bool, true, false, not, nat_le, nat_lt, if◌then◌else◌, max, List, [], ◌∷◌, ◌++◌, filter, length, map, sum, Option, Some, None, Result, Err}
 use Rattle.std.specs.List.{list_any}
 use Rattle.o2_isa.specs.View.{Hold, Registers, is_readable, is_writable, bound_in}
-use Rattle.o2_isa.specs.Steps.{state}
+use Rattle.o2_isa.specs.Steps.{State as Machine, state}
 use Rattle.o2_isa.specs.Step.{stepped, step_names}
 use Rattle.o2_isa.specs.declared.cpu.Stop.{Stop}
 use Rattle.o2_isa.specs.declared.cpu.Stop.TheVariants as stop
-use Rattle.o2_isa.specs.Steps.{State as Machine}
-use Rattle.std.specs.Prelude.{Result, Ok, Err}
 use Rattle.o2_conf.specs.Dispatch.{Dispatch}
+use Rattle.o2_world.specs.declared.types.Row.{Row}
+use Rattle.o2_world.specs.declared.types.Row.TheVariants.{DosExit, DosGetPid, DosRead, DosWrite, DosMemAvail}
 use Rattle.o2_world.specs.Map.{Map, get}
 use Rattle.o2_world.specs.World.{World, Setting, Process, Segment, is_live}
 use Rattle.o2_world.specs.Holders.{process_at}
 use Rattle.o2_world.specs.Views.{view_of}
-use Rattle.o2_world.specs.Calls.{Before, Effect, argument, has_arguments}
+use Rattle.o2_world.specs.Calls.{Before, Effect, argument, has_arguments, row_of}
 use Rattle.o2_world.specs.Effect.{answered}
 use Rattle.o2_world.specs.Run.{before, changed, next_dispatch}
 
@@ -42,17 +42,16 @@ pub record Pointer : Type 0 where
   pub count : ℕ
   pub good : ℕ → Bool
 
--- the pointers of a service in the order in which they are checked; argument 0 was pushed last
-abbrev pub pointer : (ℕ → ℕ) → (place count : ℕ) → (ℕ → Bool) → Pointer
-pointer a place count good = record { selector = a (place + 1); offset = a place; count = count; good = good }
+-- the pointers of a call in the order in which they are checked; argument 0 was pushed last
+abbrev pub pointer_at : (ℕ → ℕ) → (place count : ℕ) → (ℕ → Bool) → Pointer
+pointer_at a place count good = record { selector = a (place + 1); offset = a place; count = count; good = good }
 
-abbrev pub pointers_by : (service : ℕ) → (ℕ → ℕ) → List Pointer
-pointers_by service a =
-    if service == 2 then pointer a 0 6 is_writable ∷ []
-    else (if service == 3 then pointer a 3 (a 2) is_writable ∷ pointer a 0 2 is_writable ∷ []
-    else (if service == 4 then pointer a 3 (a 2) is_readable ∷ pointer a 0 2 is_writable ∷ []
-    else (if service == 19 then pointer a 0 4 is_writable ∷ []
-    else [])))
+abbrev pub pointers_of : Row → (ℕ → ℕ) → List Pointer
+pointers_of DosExit a = []
+pointers_of DosGetPid a = pointer_at a 0 6 is_writable ∷ []
+pointers_of DosRead a = pointer_at a 3 (a 2) is_writable ∷ pointer_at a 0 2 is_writable ∷ []
+pointers_of DosWrite a = pointer_at a 3 (a 2) is_readable ∷ pointer_at a 0 2 is_writable ∷ []
+pointers_of DosMemAvail a = pointer_at a 0 4 is_writable ∷ []
 
 -- a selector that passes counts even where the range behind it is refused, and nothing behind a refused pointer does; a range
 -- of no bytes is not looked at
@@ -69,18 +68,23 @@ pointed held bytes (p ∷ ps) =
     if p.count == 0 then pointed held bytes ps
     else passed bytes (bound_in held p.selector) p (pointed held bytes ps)
 
--- the words of a service's arguments must lie in the stack before a pointer is looked at
-abbrev pub words_of : (service : ℕ) → ℕ
-words_of service = if service == 2 || service == 19 then 2 else 6
+-- the words of a call's arguments must lie in the stack before a pointer is looked at
+abbrev pub words_of : Row → ℕ
+words_of DosRead = 6
+words_of DosWrite = 6
+words_of DosExit = 2
+words_of DosGetPid = 2
+words_of DosMemAvail = 2
 
-abbrev pub call_names : Before → (service : ℕ) → List ℕ
-call_names b service =
-    if has_arguments b.view b.cpu (words_of service)
-    then pointed b.view.held b.view.bytes (pointers_by service (argument b.view b.cpu))
+abbrev pub call_names : Before → Option Row → List ℕ
+call_names b None = []
+call_names b (Some row) =
+    if has_arguments b.view b.cpu (words_of row)
+    then pointed b.view.held b.view.bytes (pointers_of row (argument b.view b.cpu))
     else []
 
 abbrev pub gate_names : Before → Result Machine Stop → List ℕ
-gate_names b (Err (stop.Gate service next)) = call_names b service
+gate_names b (Err (stop.Gate service next)) = call_names b (row_of service)
 gate_names b _ = []
 
 -- the names that a step loads, or passes as pointers
