@@ -1,4 +1,4 @@
 pub mod TextLemmas
 pub mod Written
-pub mod Tests
+pub mod Booleans
 pub mod Readers

@@ -1,6 +1,6 @@
 use Rattle.std.proofs.Common.{◌∙◌, ap}
 use Rattle.o2_outer.specs.Planned.{fails_next}
-use Rattle.o2_outer.proofs.Tests.{two_answers}
+use Rattle.o2_outer.proofs.Booleans.{two_answers}
 use Rattle.o2_outer.proofs.mem_source.MemSourceSource.take.Goals as goal
 
 pub returns-clause-fails : goal.returns-clause-fails
