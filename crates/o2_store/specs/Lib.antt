@@ -1,3 +1,4 @@
+pub mod Lending
 pub mod Needs
 pub mod Pictures
 pub mod Shelf

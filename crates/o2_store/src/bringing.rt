@@ -72,6 +72,7 @@ impl Store {
         ensures kept { (k : ℕ) → IsKept self.old.keys k → place_of self.new k ≡ place_of self.old k }
         ensures locked { (k : ℕ) → 0 < (entry self.old k).attr.lock → place_of self.new k ≡ place_of self.old k }
         ensures none { (k : ℕ) → place_of self.old k ≡ None → place_of self.new k ≡ None }
+        ensures enough { used self.old.places.ranges + len ≤ self.old.places.size → self.new ≡ self.old }
         ensures room { result ≡ Brought.Here → used self.new.places.ranges + len ≤ self.new.places.size }
         ensures short { (result ≡ Brought.Here → ⊥) → self.new.places.size < used self.new.places.ranges + len }
         ensures no_room { result ≡ Brought.NoRoom → (k : ℕ) → IsSome (place_of self.new k) → (entry self.new k).attr.lock ≡ 0 → IsKept self.new.keys k }
@@ -115,6 +116,7 @@ impl Store {
         ensures map { all_of self.new.swap ≡ all_of self.old.swap }
         ensures here { result ≡ Brought.Here → IsSome (place_of self.new key) }
         ensures kept { (k : ℕ) → has self.old.keys k ≡ true → IsSome (place_of self.old k) → IsSome (place_of self.new k) }
+        ensures still { used self.old.places.ranges + rounded (entry self.old key).size ≤ self.old.places.size → (k : ℕ) → IsSome (place_of self.old k) → IsSome (place_of self.new k) }
         ensures full { result ≡ Brought.SwapFull → IsFull self.new × (self.new.places.size < used self.new.places.ranges + rounded (entry self.old key).size) }
         ensures faults { S.faults swap.old ≤ S.faults swap.new }
         ensures cause { result ≡ Brought.SwapFault → Rose (S.faults swap.old) (S.faults swap.new) }
@@ -166,7 +168,7 @@ impl Store {
     }
 
     /// Brings a segment into memory together with those of `keep` and the locked ones. Gaps are closed before anything is
-    /// evicted. Whatever the answer, each segment keeps its bytes, and one of `keep` or a locked one that is in memory stays
+    /// evicted: where enough bytes are in no range, nothing leaves the memory. Whatever the answer, each segment keeps its bytes, and one of `keep` or a locked one that is in memory stays
     /// there.
     pub fn bring<S: SwapDevice>(
         &mut self,
@@ -186,6 +188,7 @@ impl Store {
         ensures map { all_of self.new.swap ≡ all_of self.old.swap }
         ensures kept { (k : ℕ) → named_in self.old.entries keep.now k ≡ true → IsSome (place_of self.old k) → IsSome (place_of self.new k) }
         ensures locked { (k : ℕ) → 0 < (entry self.old k).attr.lock → IsSome (place_of self.new k) }
+        ensures still { used self.old.places.ranges + rounded (entry self.old id.key).size ≤ self.old.places.size → (k : ℕ) → IsSome (place_of self.old k) → IsSome (place_of self.new k) }
 
         ensures here { result ≡ Brought.Here → IsSome (place_of self.new id.key) }
         ensures stale { result ≡ Brought.Stale → entry_of self.old id ≡ None }

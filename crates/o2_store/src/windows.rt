@@ -1,6 +1,9 @@
 // Segments in memory: their bytes, their place and their use.
 ghost use Rattle.std.specs.Prelude.{◌≡◌, ◌≢◌, ℕ, List, ◌+◌, ◌<◌, ◌≤◌, ◌↔◌, length, Some, None, IsSome, IsTrue, IfSome, slice_index, option_map, true, false};
 ghost use Rattle.std.specs.Option.{IfNone};
+ghost use Rattle.std.specs.Borrow.{sem};
+ghost use Rattle.o2_phys.specs.Bytes.{part};
+ghost use Rattle.o2_store.specs.Lending.{LendsMemory};
 ghost use Rattle.o2_store.specs.Shelf.{Shelf, Pictures, place_of, entry_of, entry, byte_at, base_of};
 
 use crate::store::Store;
@@ -31,6 +34,15 @@ impl Store {
             Some((at, _)) => Some(self.phys.bytes(at, entry.size)),
             None => None,
         }
+    }
+
+    /// The bytes of a range of the memory, to be written. Nothing moves as long as they are lent.
+    pub fn lend(&mut self, at: u32, len: u32) -> &mut [u8]
+        requires { at + len ≤ length self.old.memory }
+        ensures* writes_back { sem 𝓛 (LendsMemory self.entry at result) }
+        ensures value { result.now ≡ part self.old.memory at len }
+    {
+        self.phys.bytes_mut(at, len)
     }
 
     /// Tells the clock that a segment was used, where it is in memory and not locked. False exactly where it is stale.

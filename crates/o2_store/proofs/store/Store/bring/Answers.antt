@@ -1,6 +1,7 @@
-use Rattle.std.proofs.Common.{◌≡◌, ◌<◌, sym, subst, ap, ◌∙◌, arith, rules}
+use Rattle.std.proofs.Common.{◌≡◌, ◌<◌, sym, subst, ap, ◌∙◌, arith, rules, ◌+◌, ◌≤◌, IsSome}
+use Rattle.o2_place.specs.Layout.{used}
 use Rattle.o2_store.specs.Pictures.{picture}
-use Rattle.o2_store.specs.Shelf.{Shelf, SameTables}
+use Rattle.o2_store.specs.Shelf.{Shelf, SameTables, place_of, entry, rounded}
 use Rattle.o2_store.proofs.Tables.{locked_at}
 use Rattle.o2_store.proofs.Keeping.{keys_keep, keys_clean, locked_stay}
 use Rattle.o2_store.proofs.Collecting.{need_wanted}
@@ -31,3 +32,8 @@ returns-clause-always_no_room g c = λ i l.
     absurd (let w = need_wanted c.args.self.now c.list_keys-need.new.self.keys c.args.id.key c.args.keep.now c.list_keys-need.ensures.any in
     let z : c.list_keys-need.new.self.places.size ≡ c.args.self.now.places.size = ap (λ (x : Shelf). x.places.size) c.list_keys-need.ensures.shelf in
     omega (arith, w, l, z, c.list_keys-need.ensures.need, c.memory_size.ensures, c.if-memory_size-need.false))
+
+pub returns-clause-still : goal.returns-clause-still
+returns-clause-still g c =
+    let e = c.list_keys-need.ensures.shelf in
+    λ q k i. c.bring_key-answer.ensures.still (subst (λ (x : Shelf). used x.places.ranges + rounded (entry x c.args.id.key).size ≤ x.places.size) (sym e) q) k (subst (λ (x : Shelf). IsSome (place_of x k)) (sym e) i)

@@ -39,6 +39,12 @@ returns-in_default g c =
       map = v.ensures.map;
       here = search rules;
       kept = λ k h i. ap is_some (v.ensures.kept k (kept_has s.keys k h)) ∙ i;
+      still = λ q k i. absurd
+          (let l : used s.places.ranges + c.rounded_size-len.result ≤ s.places.size = omega (arith, q, c.rounded_size-len.ensures.value) in
+          let e = v.ensures.enough l in
+          let f : used t.places.ranges ≡ used s.places.ranges = ap (λ (x : Shelf). used x.places.ranges) e in
+          let z : t.places.size ≡ s.places.size = ap (λ (x : Shelf). x.places.size) e in
+          omega (arith, l, f, z, v.ensures.short c.in_default.not-Here));
       full = λ e. (v.ensures.full e, omega (arith, v.ensures.short c.in_default.not-Here, c.rounded_size-len.ensures.value));
       faults = v.ensures.faults;
       cause = v.ensures.cause;

@@ -1,4 +1,5 @@
-use Rattle.std.proofs.Common.{◌≡◌, ◌∙◌, sym, subst, Bool, rules, arith}
+use Rattle.std.proofs.Common.{◌≡◌, ◌∙◌, sym, subst, Bool, rules, arith, ap}
+use Rattle.o2_place.specs.Layout.{used}
 use Rattle.o2_store.specs.Shelf.{Shelf, KeepsAll, AreClean}
 use Rattle.o2_store.proofs.Keeping.{keeps_trans, tables_trans}
 use Rattle.o2_store.proofs.store.Store.evict_until.Goals as goal
@@ -44,5 +45,6 @@ loop-self-preserved g c =
       kept = search rules;
       locked = search rules;
       none = search rules;
+      enough = λ q. absurd (let e = ap (λ (x : Shelf). used x.places.ranges) (i.enough q) in let f = ap (λ (x : Shelf). x.places.size) (i.enough q) in omega (arith, e, f, q, c.is_short.ensures));
       faults = omega (arith, i.faults, v.ensures.faults);
     }
