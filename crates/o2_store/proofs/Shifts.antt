@@ -13,7 +13,7 @@ use Rattle.o2_place.specs.Marks.{Turns, mark_of, no_mark, IsKept}
 use Rattle.o2_place.proofs.Sums.{over-same, over-le, over-add, over-only, only}
 use Rattle.o2_compact.specs.Parts.{KeepsParts, part_of}
 use Rattle.o2_swapmap.specs.Piles.{Blocks, blocks_of}
-use Rattle.o2_store.specs.Shelf.{Shelf, IsShelf, IsSegment, IsSegmentAt, entry, entry_or, place_of, rounded, blocks_for, Pictures, byte_at, byte_in, out_byte, source_byte, stored_byte, KeepsAll, SameEntry, SameTables, AreClean, IsMoved, Tells}
+use Rattle.o2_store.specs.Shelf.{Shelf, IsShelf, IsSegment, IsSegmentAt, entry, entry_or, place_of, rounded, blocks_for, Pictures, byte_at, byte_in, out_byte, source_byte, stored_byte, KeepsAll, SameEntry, SameTables, AreClean, IsMoved, base_of, Tells}
 use Rattle.o2_store.proofs.Tables.{Touches, IsShelf-touch, slot-past, place-same, place-other, marks_other, marks_same, marks_long, placed_at, sized_at, none_is_none}
 use Rattle.o2_store.proofs.Keeping.{same_entry, same_tables, keeps_trans, keeps_key, Leaves, same_at}
 
@@ -262,3 +262,18 @@ read_there pic t u key at a b shelf read same j l =
 
 pub out_pictured : (t : Shelf) (pic : Pictures) (a b : ℕ → List ℕ) (k j : ℕ) → IsSome (entry t k).image → out_byte t pic b k j ≡ out_byte t pic a k j
 out_pictured t pic a b k j i = ap (λ (z : ℕ). if ltb j (entry t k).kept then z else 0) (clean_any (entry t k).image pic t.swap a b k j i)
+
+-- where a segment in memory begins
+base_is : (o : Option Entry) (p : Option (ℕ × ℕ)) (at : ℕ) → base_of o p ≡ Some at → (len : ℕ) × (p ≡ Some (at, len))
+base_is None p at e = absurd cc
+base_is (Some o) None at e = absurd cc
+base_is (Some o) (Some r) at e = (r.1, ap (λ (x : ℕ). Some (x, r.1)) (ap (λ (y : Option ℕ). unwrap_or y 0) e))
+
+-- a part of a segment in memory lies in the memory
+pub put_fits : (s : Shelf) (o : Option Entry) (key at offset n : ℕ) → IsShelf s → ((k at len : ℕ) → place_of s k ≡ Some (at, len) → at + len ≤ s.places.size) → base_of o (place_of s key) ≡ Some at
+    → offset + n ≤ (entry s key).size → at + offset + n ≤ length s.memory
+put_fits s o key at offset n h w e l =
+    let b = base_is o (place_of s key) at e in
+    let f = w key at b.0 b.1 in
+    let p = (placed_at s key at b.0 h b.1).1 in
+    omega (arith, f, p, l, h.memory)

@@ -2,7 +2,7 @@
 ghost use Rattle.std.specs.Prelude.{◌≡◌, ◌≢◌, ℕ, List, ◌+◌, ◌<◌, ◌≤◌, ◌↔◌, length, Some, None, IsSome, IsTrue, IfSome, slice_index, option_map, true, false};
 ghost use Rattle.std.specs.Option.{IfNone};
 ghost use Rattle.std.specs.Borrow.{sem};
-ghost use Rattle.o2_phys.specs.Bytes.{part};
+ghost use Rattle.o2_phys.specs.Bytes.{part, with_part};
 ghost use Rattle.o2_store.specs.Lending.{LendsMemory};
 ghost use Rattle.o2_store.specs.Shelf.{Shelf, Pictures, place_of, entry_of, entry, byte_at, base_of};
 
@@ -43,6 +43,32 @@ impl Store {
         ensures value { result.now ≡ part self.old.memory at len }
     {
         self.phys.bytes_mut(at, len)
+    }
+
+    /// The bytes of a segment in memory, to be written, and none exactly where it is stale or not in memory. What is written
+    /// through them is told by `lend` alone.
+    pub fn window_mut(&mut self, id: SegId) -> Option<&mut [u8]>
+        ensures none { IfNone result (base_of (entry_of self.old id) (place_of self.old id.key) ≡ None) }
+        ensures size { IfSome result (λ w. option_map (λ e. e.size) (entry_of self.old id) ≡ Some (length w.now)) }
+    {
+        self.law();
+        let entry = self.find(id)?;
+        match self.range_of(id.key) {
+            Some((at, _)) => Some(self.phys.bytes_mut(at, entry.size)),
+            None => None,
+        }
+    }
+
+    /// Writes bytes into a segment in memory, from an offset on.
+    pub fn put(&mut self, id: SegId, offset: u32, bytes: &[u8])
+        requires present { IsSome (base_of (entry_of self.old id) (place_of self.old id.key)) }
+        requires within { offset + length bytes.now ≤ (entry self.old id.key).size }
+        ensures { (at : ℕ) → base_of (entry_of self.old id) (place_of self.old id.key) ≡ Some at → self.new ≡ record self.old { memory = with_part self.old.memory (at + offset) bytes.now } }
+    {
+        self.law();
+        if let Some(at) = self.base(id) {
+            self.phys.write(at + offset, bytes);
+        }
     }
 
     /// Tells the clock that a segment was used, where it is in memory and not locked. False exactly where it is stale.
