@@ -10,7 +10,7 @@ use Rattle.o2_ne.specs.EntryTable.{target_of}
 
 module _ {X : Type 0} where
   -- where the items before i fail, and that at i passes
-  find_at : (p : X → Bool) (xs : List X) (i : ℕ) (x : X) → ((k : ℕ) (d : X) → k < i → p (get_or xs k d) ≡ false)
+  pub find_at : (p : X → Bool) (xs : List X) (i : ℕ) (x : X) → ((k : ℕ) (d : X) → k < i → p (get_or xs k d) ≡ false)
       → slice_get xs i ≡ Some x → p x ≡ true → find p xs ≡ Some x
   find_at p [] i x fails h passes = absurd cc
   find_at p (y ∷ ys) zero x fails h passes = let same : y ≡ x = cc in rw (same, passes) refl
@@ -19,7 +19,7 @@ module _ {X : Type 0} where
       rw no (find_at p ys i x (λ k d lt. fails (suc k) d (omega arith)) h passes)
 
   -- where each item fails
-  find_nowhere : (p : X → Bool) (xs : List X) → ((k : ℕ) (d : X) → k < length xs → p (get_or xs k d) ≡ false) → find p xs ≡ None
+  pub find_nowhere : (p : X → Bool) (xs : List X) → ((k : ℕ) (d : X) → k < length xs → p (get_or xs k d) ≡ false) → find p xs ≡ None
   find_nowhere p [] fails = refl
   find_nowhere p (y ∷ ys) fails =
       let no : p y ≡ false = fails 0 y (omega arith) in

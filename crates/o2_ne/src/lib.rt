@@ -3,8 +3,11 @@
 
 mod bytes;
 mod entries;
+mod folded;
 mod head;
 mod names;
+mod rows;
+mod walking;
 
 pub use bytes::{first_missing, lies_in, u16_at, u32_at};
 pub use entries::{Entries, Entry};

@@ -1,15 +1,18 @@
 // The names of a module.
-ghost use Rattle.std.specs.Prelude.{◌≡◌, ◌==◌, ◌+◌, ◌≤◌, ◌<◌, [], IfOk, false, length};
+ghost use Rattle.std.specs.Prelude.{◌≡◌, ◌==◌, ◌+◌, ◌≤◌, ◌<◌, ◌++◌, ◌∷◌, [], IfOk, OnOk, false, length};
 ghost use Rattle.std.specs.List.{list_any};
 ghost use Rattle.o2_ne.specs.Steps.{Gives, steps};
 ghost use Rattle.o2_ne.specs.NameTable.{IsOwnName, name_step, named, names_at, exports_of, nonresident, ordinal_of, own_name, own_text, same_name};
 ghost use Rattle.o2_ne.specs.NamePlaces.{ExportsStand, NamesStand, StringStands};
+ghost use Rattle.o2_ne.specs.NameRows.{name_of};
 ghost use Rattle.o2_ne.specs.NameViews.{walk};
 ghost use Rattle.o2_ne.specs.Words.{byte_at};
 
 use crate::bytes::u16_at;
 use crate::head::{Head, need};
-use o2_base::{Bytes, Fail, NeFault, Which};
+use crate::rows::{Row, index_of, ordinal_in};
+use crate::walking::Walking;
+use o2_base::{Bytes, Fail, NeFault, NoMemory, Which};
 use std::alloc::Global;
 use std::marker::Model;
 
@@ -22,17 +25,28 @@ pub struct Name {
     pub ordinal: u16,
 }
 
-// The reading of a name table so far.
-#[derive(Drop)]
-struct Walking {
-    found: Vec<Name>,
-    place: u32,
-    ended: bool,
-}
-
 impl Walking {
+    // One name more, and the place behind it.
+    fn keep(&mut self, text: &[u8], ordinal: u16, next: u32) -> Result<(), NoMemory>
+        requires short { length text.now ≤ 255 }
+        requires next { self.old.place + length text.now < next }
+        requires goes_on { self.old.ended ≡ false }
+        ensures { OnOk result (walk self.new ≡ record { found = (walk self.old).found ++ name_of text.now ordinal ∷ []; place = next; ended = false }) }
+    {
+        let start = self.text.len() as u32;
+        let row = Row {
+            start,
+            len: text.len() as u8,
+            ordinal,
+        };
+        self.text.extend_from_slice(text)?;
+        self.place = next;
+        self.rows.push(row)?;
+        Ok(())
+    }
+
     // A name of this many bytes.
-    fn name(&mut self, alloc: Global, file: &[u8], len: u8) -> Result<(), Fail<NeFault>>
+    fn name(&mut self, file: &[u8], len: u8) -> Result<(), Fail<NeFault>>
         requires small { length file.now ≤ 4194304 }
         requires place { self.old.place < length file.now }
         requires goes_on { self.old.ended ≡ false }
@@ -47,22 +61,20 @@ impl Walking {
         let (_, rest) = file.split_at(start as usize);
         let (text, _) = rest.split_at(usize::from(len));
         let ordinal = u16_at(file, start as usize + usize::from(len));
-        let text = Bytes::from_slice(alloc, text)?;
-        self.found.push(Name { text, ordinal })?;
-        self.place = start + u32::from(len) + 2;
+        self.keep(text, ordinal, start + u32::from(len) + 2)?;
         Ok(())
     }
 
     // The next name, where the table has not ended.
     #[tactic(auto, unfolding(crate::specs::NameTable::name_step))]
-    fn step(&mut self, alloc: Global, file: &[u8]) -> Result<(), Fail<NeFault>>
+    fn step(&mut self, file: &[u8]) -> Result<(), Fail<NeFault>>
         requires small { length file.now ≤ 4194304 }
         requires goes_on { self.old.ended ≡ false }
         ensures { Gives (λ _. walk self.new) result (name_step file.now (walk self.old)) }
     {
         need(file, self.place, 1).map_err(Fail::Bad)?;
         let len = file[self.place as usize];
-        self.name(alloc, file, len)
+        self.name(file, len)
     }
 }
 
@@ -72,7 +84,8 @@ fn walk_on(alloc: Global, file: &[u8], at: u32) -> Result<Walking, Fail<NeFault>
     ensures { Gives walk result (steps (name_step file.now) (length file.now) (record { found = []; place = at; ended = false })) }
 {
     let mut walking = Walking {
-        found: Vec::new(alloc),
+        text: Vec::new(alloc),
+        rows: Vec::new(alloc),
         place: at,
         ended: false,
     };
@@ -80,22 +93,81 @@ fn walk_on(alloc: Global, file: &[u8], at: u32) -> Result<Walking, Fail<NeFault>
         if walking.ended {
             return Ok(walking);
         }
-        walking.step(alloc, file)?;
+        walking.step(file)?;
     }
     Ok(walking)
 }
 
-// The names of the table from a place on.
-#[tactic(auto, unfolding(crate::specs::NameTable::names_at))]
-fn names_at(alloc: Global, file: &[u8], at: u32) -> Result<Vec<Name>, Fail<NeFault>>
-    requires small { length file.now ≤ 4194304 }
-    requires some { 0 < length file.now }
-    ensures exact { Gives (λ v. v.items) result (names_at file.now at) }
-    ensures stand { IfOk result (λ v. NamesStand file.now at v.items) }
-{
-    let walking = walk_on(alloc, file, at)?;
-    let Walking { found, .. } = walking;
-    Ok(found)
+// The names of one table, in its order, and the places of its rows in the order of the folded names.
+#[derive(Drop)]
+struct Table {
+    text: Vec<u8>,
+    rows: Vec<Row>,
+    order: Vec<u32>,
+}
+
+impl Model for Table {
+    ghost use Rattle.std.specs.Prelude.{List};
+    ghost use Rattle.o2_ne.specs.declared.names.Name.{Name};
+    ghost use Rattle.o2_ne.specs.NameRows.{IsIndex, names_in};
+
+    ghost Value = { List Name };
+
+    ghost view = { λ t. names_in t.text.items t.rows.items };
+
+    ghost invariant = { λ t. IsIndex t.text.items t.rows.items t.order.items };
+}
+
+impl Table {
+    // The names that a walk found.
+    fn of(alloc: Global, walking: Walking) -> Result<Table, NoMemory>
+        ensures { IfOk result (λ t. t ≡ (walk walking).found) }
+    {
+        let Walking {
+            mut text,
+            mut rows,
+            ..
+        } = walking;
+        text.shrink_to_fit();
+        rows.shrink_to_fit();
+        let order = index_of(alloc, text.as_slice(), rows.as_slice())?;
+        Ok(Table { text, rows, order })
+    }
+
+    // The names of the table from a place on.
+    #[tactic(auto, unfolding(crate::specs::NameTable::names_at))]
+    fn read(alloc: Global, file: &[u8], at: u32) -> Result<Table, Fail<NeFault>>
+        requires small { length file.now ≤ 4194304 }
+        requires some { 0 < length file.now }
+        ensures exact { Gives (λ t. t) result (names_at file.now at) }
+        ensures stand { IfOk result (λ t. NamesStand file.now at t) }
+    {
+        let walking = walk_on(alloc, file, at)?;
+        Ok(Table::of(alloc, walking)?)
+    }
+
+    // No name.
+    fn empty(alloc: Global) -> Table
+        ensures { result ≡ [] }
+    {
+        Table {
+            text: Vec::new(alloc),
+            rows: Vec::new(alloc),
+            order: Vec::new(alloc),
+        }
+    }
+
+    // The ordinal of a name; the first match counts.
+    fn ordinal(&self, name: &[u8]) -> Option<u16>
+        ensures { result ≡ ordinal_of name.now self.now }
+    {
+        ordinal_in(
+            self.text.as_slice(),
+            self.rows.as_slice(),
+            self.order.as_slice(),
+            name,
+        )
+    }
 }
 
 /// Whether two names are the same, with ASCII letters folded.
@@ -145,32 +217,34 @@ fn own_name(alloc: Global, file: &[u8], at: u32) -> Result<Bytes, Fail<NeFault>>
 }
 
 // The nonresident names.
-fn nonresident(alloc: Global, file: &[u8], head: &Head) -> Result<Vec<Name>, Fail<NeFault>>
+fn nonresident(alloc: Global, file: &[u8], head: &Head) -> Result<Table, Fail<NeFault>>
     requires small { length file.now ≤ 4194304 }
     requires some { 0 < length file.now }
-    ensures exact { Gives (λ v. v.items) result (nonresident file.now head.now) }
-    ensures none { head.now.nonresident_len ≡ 0 → IfOk result (λ v. v.items ≡ []) }
-    ensures stand { 0 < head.now.nonresident_len → IfOk result (λ v. NamesStand file.now head.now.nonresident_at v.items) }
+    ensures exact { Gives (λ t. t) result (nonresident file.now head.now) }
+    ensures none { head.now.nonresident_len ≡ 0 → IfOk result (λ t. t ≡ []) }
+    ensures stand { 0 < head.now.nonresident_len → IfOk result (λ t. NamesStand file.now head.now.nonresident_at t) }
 {
     if head.nonresident_len == 0 {
-        return Ok(Vec::new(alloc));
+        return Ok(Table::empty(alloc));
     }
-    names_at(alloc, file, head.nonresident_at)
+    Table::read(alloc, file, head.nonresident_at)
 }
 
 /// A module's own name, and the names that it exports: the resident ones behind its own, then the nonresident ones.
 #[derive(Drop)]
 pub struct Names {
     own: Bytes,
-    names: Vec<Name>,
+    resident: Table,
+    others: Table,
 }
 
 impl Model for Names {
+    ghost use Rattle.std.specs.Prelude.{◌++◌};
     ghost use Rattle.o2_ne.specs.NameTable.{Exports, IsOwnName};
 
     ghost Value = { Exports };
 
-    ghost view = { λ a. record { own = a.own; names = a.names.items } };
+    ghost view = { λ a. record { own = a.own; names = a.resident ++ a.others } };
 
     ghost invariant = { λ a. IsOwnName a.own };
 }
@@ -186,10 +260,13 @@ impl Names {
     {
         let at = head.at + u32::from(head.resident_at);
         let own = own_name(alloc, file, at)?;
-        let mut names = names_at(alloc, file, at + own.len() as u32 + 3)?;
-        let mut others = nonresident(alloc, file, head)?;
-        names.append(&mut others)?;
-        Ok(Names { own, names })
+        let resident = Table::read(alloc, file, at + own.len() as u32 + 3)?;
+        let others = nonresident(alloc, file, head)?;
+        Ok(Names {
+            own,
+            resident,
+            others,
+        })
     }
 
     /// The module's name, of 1 to 255 bytes without a line end.
@@ -204,13 +281,9 @@ impl Names {
     pub fn ordinal(&self, name: &[u8]) -> Option<u16>
         ensures { result ≡ ordinal_of name.now self.now.names }
     {
-        match self
-            .names
-            .iter()
-            .find(|n| is_same_name(n.text.as_slice(), name))
-        {
-            Some(n) => Some(n.ordinal),
-            None => None,
+        match self.resident.ordinal(name) {
+            Some(ordinal) => Some(ordinal),
+            None => self.others.ordinal(name),
         }
     }
 }

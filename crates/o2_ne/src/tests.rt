@@ -61,3 +61,26 @@ fn names_are_folded_and_the_first_counts(rt: HostRuntime) -> Result<(), TestFail
     assert_eq!(rt; names.ordinal(b"HELL"), None);
     Ok(())
 }
+
+// A table of resident names at place 128, with names that differ only in case, or by 20h in what isn't a letter.
+static ALIKE: [u8; 46] =
+    *b"\x03FOO\x00\x00\x02ab\x05\x00\x02{z\x06\x00\x02AB\x07\x00\x02[Z\x08\x00\x01b\x09\x00\x02aB\x0A\x00\x03abc\x0B\x00\x01B\x0C\x00\x00";
+
+#[test]
+fn the_first_of_like_names_counts(rt: HostRuntime) -> Result<(), TestFail> {
+    let mut file = with_table(&rt)?;
+    assert_eq!(rt; file.len(), 139);
+    file[102] = 75;
+    file.extend_from_slice(&ALIKE)?;
+    assert_eq!(rt; file.len(), 185);
+    let head = Head::read(file.as_slice())?;
+    let names = Names::read(rt.alloc(), file.as_slice(), &head)?;
+    assert_eq!(rt; names.ordinal(b"Ab"), Some(5));
+    assert_eq!(rt; names.ordinal(b"{Z"), Some(6));
+    assert_eq!(rt; names.ordinal(b"[z"), Some(8));
+    assert_eq!(rt; names.ordinal(b"B"), Some(9));
+    assert_eq!(rt; names.ordinal(b"ABC"), Some(11));
+    assert_eq!(rt; names.ordinal(b"A"), None);
+    assert_eq!(rt; names.ordinal(b""), None);
+    Ok(())
+}
