@@ -59,6 +59,15 @@ impl Linked {
         &self.images
     }
 
+    /// The images of the run, given up. It takes no memory.
+    pub fn into_images(self) -> Images
+        ensures value { result ≡ self.images }
+        ensures consistent { IsConsistent self }
+    {
+        let Linked { images, .. } = self;
+        images
+    }
+
     /// How many processes there are; each has an environment, a program, and a list of libraries.
     pub fn process_count(&self) -> usize
         ensures programs { result ≡ length self.now.programs }
