@@ -71,16 +71,21 @@ struct Halting {
 
 impl Read for Halting {
     fn read(&mut self, buf: &mut [u8]) -> io::Result<usize> {
-        self.reads += 1;
+        self.reads = self.reads.saturating_add(1);
         if self.reads == self.fails {
             return Err(io::Error::from(io::ErrorKind::BrokenPipe));
         }
-        if buf.is_empty() || self.at == self.bytes.len() {
+        if buf.is_empty() {
             return Ok(0);
         }
-        buf[0] = self.bytes[self.at];
-        self.at += 1;
-        Ok(1)
+        match self.bytes.get(self.at) {
+            None => Ok(0),
+            Some(byte) => {
+                buf[0] = *byte;
+                self.at = self.at.saturating_add(1);
+                Ok(1)
+            }
+        }
     }
 }
 
