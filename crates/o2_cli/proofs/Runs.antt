@@ -16,14 +16,17 @@ use Rattle.o2_run.specs.declared.whole.Ended.TheVariants.{Stopped}
 use Rattle.o2_run.specs.Ended.{HasPartRun, Caused}
 use Rattle.o2_machine.specs.Begins.{setting_of, starting, first_world}
 use Rattle.o2_open.specs.declared.session.Session.{Session}
-use Rattle.o2_open.specs.declared.status.Status.{Status}
-use Rattle.o2_open.specs.declared.status.Status.TheVariants as status
+use Rattle.o2_cli.specs.declared.status.Status.{Status}
+use Rattle.o2_cli.specs.declared.status.Status.TheVariants as status
+use Rattle.o2_open.specs.declared.fault.OpenFault.{OpenFault}
+use Rattle.o2_open.specs.declared.fault.OpenFault.TheVariants as open_fault
 use Rattle.o2_open.specs.Loads.{Contents, Tells, loaded, start_refusal, under, ◌>>=◌}
-use Rattle.o2_cli.specs.Top.{Refuses as TopRefuses, IsUnswapped, OnInputFault, OnSwapFault, status_of, Opened, Told, Opens, Shows, started, with_setting, refusal}
+use Rattle.o2_cli.specs.Top.{Refuses as TopRefuses, IsUnswapped, OnInputFault, OnSwapFault, Opened, Told, Opens, Shows, started, with_setting, refusal}
+use Rattle.o2_cli.specs.Statuses.{status_by, status_of}
 use Rattle.o2_cli.specs.RunTexts.{StartsWith, StopsRun, ShowsRun}
 
 -- the whole opening, from what is reserved for the run and what the starts come to
-abbrev pub opened_from : Session → List (ℕ × ℕ) → List ℕ → Result Built (ℕ × ModuleFault) → Result Opened Status
+abbrev pub opened_from : Session → List (ℕ × ℕ) → List ℕ → Result Built (ℕ × ModuleFault) → Result Opened OpenFault
 opened_from s reserved input r = under (refusal s) (where_started reserved (map slice_of s.conf.script) s.conf.budget input r) >>= with_setting s
 
 abbrev pub start_of : Session → List ℕ → Built → Opened
@@ -46,19 +49,27 @@ pub in_opening : (s : Session) (b : Built) (input : List ℕ) (j c r q : Option 
 in_opening s b input j c r q left g = record { texts = InOpening (λ t e. e ∙ ap Some (sym (append-nil t))) g; input = inl left }
 
 -- a refusal of a start, as it is told
-pub refused_texts : (s : Session) (blocks : ℕ) (i c r q : Option (List ℕ)) (z : Type 0) (pid : ℕ) (fault : ModuleFault) (answer : Status) → starting s.linked s.conf ≡ Err (pid, fault) → q ≡ r → Tells answer (start_refusal s pid fault) → ShowsRun s blocks i i c c r q z answer
-refused_texts s blocks i c r q z pid fault status.NoMemory e same t = record { input = refl; console = refl; report = same }
-refused_texts s blocks i c r q z pid fault (status.BadModule name f) e same t = (record { input = refl; console = refl; report = same }, λ input. is_refused s input (pid, fault) e ∙ ap Err (sym t))
-refused_texts s blocks i c r q z pid fault status.Fine e same t = absurd (cc)
-refused_texts s blocks i c r q z pid fault status.BadWords e same t = absurd (cc)
-refused_texts s blocks i c r q z pid fault (status.NoFile name) e same t = absurd (cc)
-refused_texts s blocks i c r q z pid fault (status.BadMachine f) e same t = absurd (cc)
-refused_texts s blocks i c r q z pid fault status.FileFault e same t = absurd (cc)
-refused_texts s blocks i c r q z pid fault status.InputFault e same t = absurd (cc)
-refused_texts s blocks i c r q z pid fault status.SinkFault e same t = absurd (cc)
-refused_texts s blocks i c r q z pid fault status.NoRoom e same t = absurd (cc)
-refused_texts s blocks i c r q z pid fault status.SwapFull e same t = absurd (cc)
-refused_texts s blocks i c r q z pid fault status.SwapFault e same t = absurd (cc)
+refused_by : (s : Session) (blocks : ℕ) (i c r q : Option (List ℕ)) (z : Type 0) (pid : ℕ) (fault : ModuleFault) (answer : OpenFault) → starting s.linked s.conf ≡ Err (pid, fault) → q ≡ r → Tells answer (start_refusal s pid fault) → ShowsRun s blocks i i c c r q z (status_by answer)
+refused_by s blocks i c r q z pid fault open_fault.NoMemory e same t = record { input = refl; console = refl; report = same }
+refused_by s blocks i c r q z pid fault (open_fault.BadModule name f) e same t = (record { input = refl; console = refl; report = same }, λ input. is_refused s input (pid, fault) e ∙ ap Err (sym t))
+refused_by s blocks i c r q z pid fault (open_fault.NoFile name) e same t = absurd (cc)
+refused_by s blocks i c r q z pid fault (open_fault.BadMachine f) e same t = absurd (cc)
+refused_by s blocks i c r q z pid fault open_fault.FileFault e same t = absurd (cc)
+
+pub refused_texts : (s : Session) (blocks : ℕ) (i c r q : Option (List ℕ)) (z : Type 0) (pid : ℕ) (fault : ModuleFault) (answer : OpenFault) (told : Status) → told ≡ status_by answer
+    → starting s.linked s.conf ≡ Err (pid, fault) → q ≡ r → Tells answer (start_refusal s pid fault) → ShowsRun s blocks i i c c r q z told
+refused_texts s blocks i c r q z pid fault answer told is e same t = subst (λ (a : Status). ShowsRun s blocks i i c c r q z a) (sym is) (refused_by s blocks i c r q z pid fault answer e same t)
+
+-- where nothing opens, nothing is taken or put
+untouched_by : (words : List (String Global)) (told : Told) (blocks : ℕ) (i c r : Option (List ℕ)) (z : Type 0) (fault : OpenFault) → Shows words told blocks i i c c r r z (status_by fault)
+untouched_by words told blocks i c r z (open_fault.NoFile name) = record { input = refl; console = refl; report = refl }
+untouched_by words told blocks i c r z (open_fault.BadMachine f) = record { input = refl; console = refl; report = refl }
+untouched_by words told blocks i c r z (open_fault.BadModule name f) = record { input = refl; console = refl; report = refl }
+untouched_by words told blocks i c r z open_fault.FileFault = record { input = refl; console = refl; report = refl }
+untouched_by words told blocks i c r z open_fault.NoMemory = record { input = refl; console = refl; report = refl }
+
+pub untouched : (words : List (String Global)) (told : Told) (blocks : ℕ) (i c r : Option (List ℕ)) (z : Type 0) (fault : OpenFault) (answer : Status) → answer ≡ status_by fault → Shows words told blocks i i c c r r z answer
+untouched words told blocks i c r z fault answer is = subst (λ (a : Status). Shows words told blocks i i c c r r z a) (sym is) (untouched_by words told blocks i c r z fault)
 
 -- what a stopped run shows, and the causes of its status
 module _ (s : Session) (blocks : ℕ) (i j c d r q : Option (List ℕ)) (e : Type 0) where
@@ -82,7 +93,7 @@ swap_status NoRoom sink input device h = tt
 swap_status SwapFull sink input device h = tt
 swap_status SwapFault sink input device h = h
 
-abbrev load_started : List ℕ → Result Session Status → Result Opened Status
+abbrev load_started : List ℕ → Result Session OpenFault → Result Opened OpenFault
 load_started input r = r >>= (λ s. started s input)
 
 module _ (words : List (String Global)) (told : Told) (blocks : ℕ) (i j c d r q : Option (List ℕ)) (e : Type 0) (verb : Verb) (name : List ℕ) (s : Session) (command : IsCommandFor words verb name)

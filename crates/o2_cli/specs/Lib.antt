@@ -1,3 +1,4 @@
+pub mod Statuses
 pub mod StatusTexts
 pub mod Top
 pub mod RunTexts

@@ -5,8 +5,9 @@ use Rattle.o2_run.specs.declared.steps.Stop.{Stop}
 use Rattle.o2_run.specs.declared.steps.Stop.TheVariants.{Input, NoRoom, SwapFull, SwapFault}
 use Rattle.o2_machine.specs.Lasts.{machine_swaps}
 use Rattle.o2_open.specs.declared.session.Session.{Session}
-use Rattle.o2_open.specs.declared.status.Status.{Status}
-use Rattle.o2_open.specs.declared.status.Status.TheVariants as status
+use Rattle.o2_cli.specs.declared.status.Status.{Status}
+use Rattle.o2_cli.specs.declared.status.Status.TheVariants as status
+use Rattle.o2_open.specs.declared.fault.OpenFault.TheVariants.{BadModule}
 use Rattle.o2_cli.specs.Top.{Opened, started, IsUntouched}
 
 -- its processes start, and P holds of its setting and of the world before the first step
@@ -28,5 +29,5 @@ ShowsRun s blocks i j c d r q e status.NoRoom = StopsRun s blocks i j c d r q e 
 ShowsRun s blocks i j c d r q e status.SwapFull = StopsRun s blocks i j c d r q e SwapFull
 ShowsRun s blocks i j c d r q e status.SwapFault = StopsRun s blocks i j c d r q e SwapFault
 ShowsRun s blocks i j c d r q e status.NoMemory = IsUntouched i j c d r q
-ShowsRun s blocks i j c d r q e (status.BadModule name fault) = IsUntouched i j c d r q × ((input : List ℕ) → started s input ≡ Err (status.BadModule name fault))
+ShowsRun s blocks i j c d r q e (status.BadModule name fault) = IsUntouched i j c d r q × ((input : List ℕ) → started s input ≡ Err (BadModule name fault))
 ShowsRun s blocks i j c d r q e _ = ⊥

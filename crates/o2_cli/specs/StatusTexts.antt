@@ -6,8 +6,8 @@ use Rattle.o2_base.specs.declared.faults.MachineFault.{MachineFault}
 use Rattle.o2_base.specs.declared.faults.MachineFault.TheVariants as machine
 use Rattle.o2_base.specs.declared.faults.ModuleFault.{ModuleFault}
 use Rattle.o2_base.specs.declared.faults.ModuleFault.TheVariants as module_fault
-use Rattle.o2_open.specs.declared.status.Status.{Status}
-use Rattle.o2_open.specs.declared.status.Status.TheVariants as status
+use Rattle.o2_cli.specs.declared.status.Status.{Status}
+use Rattle.o2_cli.specs.declared.status.Status.TheVariants as status
 
 abbrev pub status_number : Status → ℕ
 status_number status.Fine = 0

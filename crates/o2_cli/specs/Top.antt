@@ -10,8 +10,10 @@ use Rattle.o2_run.specs.declared.steps.Stop.{Stop}
 use Rattle.o2_run.specs.declared.steps.Stop.TheVariants.{Input, NoRoom, SwapFull, SwapFault}
 use Rattle.o2_machine.specs.Lasts.{machine_swaps}
 use Rattle.o2_open.specs.declared.session.Session.{Session}
-use Rattle.o2_open.specs.declared.status.Status.{Status}
-use Rattle.o2_open.specs.declared.status.Status.TheVariants as status
+use Rattle.o2_cli.specs.declared.status.Status.{Status}
+use Rattle.o2_cli.specs.declared.status.Status.TheVariants as status
+use Rattle.o2_open.specs.declared.fault.OpenFault.{OpenFault}
+use Rattle.o2_open.specs.declared.fault.OpenFault.TheVariants as open_fault
 use Rattle.o2_open.specs.Loads.{Contents, loaded, start_refusal, under, ◌>>=◌}
 use Rattle.o2_machine.specs.Begins.{setting_of, opening}
 
@@ -20,37 +22,37 @@ pub record Opened : Type 0 where
   pub setting : Setting
   pub world : World
 
-abbrev pub with_setting : Session → World → Result Opened Status
+abbrev pub with_setting : Session → World → Result Opened OpenFault
 with_setting s w = Ok (record { setting = setting_of s.conf; world = w })
 
 -- a start that is refused
-abbrev pub refusal : Session → ℕ × ModuleFault → Status
+abbrev pub refusal : Session → ℕ × ModuleFault → OpenFault
 refusal s f = start_refusal s f.0 f.1
 
 -- all processes of a session start, with this input
-unfoldable pub started : Session → List ℕ → Result Opened Status
+unfoldable pub started : Session → List ℕ → Result Opened OpenFault
 started s input = under (refusal s) (opening s.linked s.conf input) >>= with_setting s
 
 -- what the command runs, or its first refusal: of the machine file, of each module in its order, of linking, of each start
-abbrev pub opened : Verb → Contents → List ℕ → List ℕ → Result Opened Status
+abbrev pub opened : Verb → Contents → List ℕ → List ℕ → Result Opened OpenFault
 opened verb contents name input = loaded verb contents name >>= (λ s. started s input)
 
 abbrev pub Told : Type 0
 Told = Option Contents
 
 -- the words are a command that is refused so
-pub record IsRefused (words : List (String Global)) (told : Told) (s : Status) : Type 0 where
+pub record IsRefused (words : List (String Global)) (told : Told) (f : OpenFault) : Type 0 where
   pub verb : Verb
   pub name : List ℕ
   pub command : IsCommandFor words verb name
-  pub refused : (contents : Contents) (input : List ℕ) → told ≡ Some contents → opened verb contents name input ≡ Err s
+  pub refused : (contents : Contents) (input : List ℕ) → told ≡ Some contents → opened verb contents name input ≡ Err f
 
 -- a refusal and its cause
 abbrev pub Refuses : List (String Global) → Told → Status → Type 0
 Refuses words told status.BadWords = IsCommand words → ⊥
-Refuses words told (status.NoFile name) = IsRefused words told (status.NoFile name)
-Refuses words told (status.BadMachine fault) = IsRefused words told (status.BadMachine fault)
-Refuses words told (status.BadModule name fault) = IsRefused words told (status.BadModule name fault)
+Refuses words told (status.NoFile name) = IsRefused words told (open_fault.NoFile name)
+Refuses words told (status.BadMachine fault) = IsRefused words told (open_fault.BadMachine fault)
+Refuses words told (status.BadModule name fault) = IsRefused words told (open_fault.BadModule name fault)
 Refuses words told status.NoRoom = ⊥
 Refuses words told status.SwapFull = ⊥
 Refuses words told status.SwapFault = ⊥
@@ -77,13 +79,6 @@ pub record IsUntouched (left_old left_new console_old console_new report_old rep
   pub input : left_new ≡ left_old
   pub console : console_new ≡ console_old
   pub report : report_new ≡ report_old
-
--- the status of a stop
-abbrev pub status_of : Stop → Status
-status_of Input = status.InputFault
-status_of NoRoom = status.NoRoom
-status_of SwapFull = status.SwapFull
-status_of SwapFault = status.SwapFault
 
 -- the run is stopped so, before a step
 abbrev pub Stops : List (String Global) → Told → (blocks : ℕ) → (left_old left_new console_old console_new report_old report_new : Option (List ℕ)) → (fault : Type 0) → Stop → Type 0

@@ -2,10 +2,11 @@
 #![tactic(auto)]
 
 mod messages;
+mod status;
 mod top;
 
 pub use messages::{number, text};
-pub use o2_open::Status;
+pub use status::Status;
 pub use top::os2run;
 
 #[cfg(test)]

@@ -3,12 +3,14 @@ ghost use Rattle.std.specs.Prelude.{◌≡◌, ◌≤◌, ◌⊎◌, ℕ, List, 
 ghost use Rattle.o2_conf.specs.Limits.{IsWithinLimits};
 ghost use Rattle.o2_open.specs.Loads.{HasEnvironments};
 ghost use Rattle.o2_outer.specs.Texts.{Rose};
-ghost use Rattle.o2_cli.specs.Top.{Refuses, Shows, IsUnswapped, OnFileFault, OnInputFault, OnSinkFault, OnSwapFault, OnUnrun, status_of};
+ghost use Rattle.o2_cli.specs.Top.{Refuses, Shows, IsUnswapped, OnFileFault, OnInputFault, OnSinkFault, OnSwapFault, OnUnrun};
+ghost use Rattle.o2_cli.specs.Statuses.{status_of};
 ghost use Rattle.o2_cli.specs.RunTexts.{ShowsRun};
 
+use crate::Status;
 use o2_base::{Bytes, NoMemory};
 use o2_machine::{BeginFault, Machine};
-use o2_open::{Session, Status, open, refused_start};
+use o2_open::{Session, open, refused_start};
 use o2_outer::{Files, Sink, Source, SwapDevice};
 use o2_run::{Ended, Stop, run};
 use o2_words::{command, is_command};
@@ -52,7 +54,7 @@ pub fn os2run<F: Files, I: Source, C: Sink, R: Sink, S: SwapDevice>(
         return Status::NoMemory;
     };
     match open(alloc, command.verb, files, &name) {
-        Err(status) => status,
+        Err(fault) => Status::from(fault),
         Ok(session) => run_session(alloc, &session, input, console, report, swap),
     }
 }
@@ -93,7 +95,9 @@ fn run_session<I: Source, C: Sink, R: Sink, S: SwapDevice>(
     match Machine::begin(alloc, &session.conf, &session.linked, report) {
         Err(BeginFault::NoMemory) => Status::NoMemory,
         Err(BeginFault::SinkFault) => Status::SinkFault,
-        Err(BeginFault::Start(pid, fault)) => refused_start(alloc, session, pid, fault),
+        Err(BeginFault::Start(pid, fault)) => Status::from(refused_start(
+            alloc, session, pid, fault,
+        )),
         Ok(mut machine) => match run(&mut machine, input, console, report, swap) {
             Ended::Fine => Status::Fine,
             Ended::SinkFault => Status::SinkFault,

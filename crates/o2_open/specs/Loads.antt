@@ -18,51 +18,51 @@ use Rattle.o2_image.specs.Getters.{is_library, nth, nth_list}
 use Rattle.o2_dynlink.specs.declared.fault.LinkFault.{LinkFault}
 use Rattle.o2_dynlink.specs.Linking.{linked_of}
 use Rattle.o2_open.specs.declared.session.Session.{Session}
-use Rattle.o2_open.specs.declared.status.Status.{Status}
-use Rattle.o2_open.specs.declared.status.Status.TheVariants as status
+use Rattle.o2_open.specs.declared.fault.OpenFault.{OpenFault}
+use Rattle.o2_open.specs.declared.fault.OpenFault.TheVariants as open_fault
 
 -- what the files hold under each name
 abbrev pub Contents : Type 0
 Contents = List ℕ → Option (List ℕ)
 
 infixl 10 ◌>>=◌
-abbrev pub ◌>>=◌ : {X Y : Type 0} → Result X Status → (X → Result Y Status) → Result Y Status
+abbrev pub ◌>>=◌ : {X Y : Type 0} → Result X OpenFault → (X → Result Y OpenFault) → Result Y OpenFault
 (Ok x) >>= f = f x
 (Err e) >>= f = Err e
 
--- a reading of a part, whose fault is the status of a command
-abbrev pub under : {X F : Type 0} → (F → Status) → Result X F → Result X Status
+-- a reading of a part, by whose fault a command opens nothing
+abbrev pub under : {X F : Type 0} → (F → OpenFault) → Result X F → Result X OpenFault
 under refusal (Ok x) = Ok x
 under refusal (Err fault) = Err (refusal fault)
 
 -- the bytes of a file, `most` at most
-abbrev pub found : List ℕ → ℕ → Status → Option (List ℕ) → Result (List ℕ) Status
-found name most too_long None = Err (status.NoFile name)
+abbrev pub found : List ℕ → ℕ → OpenFault → Option (List ℕ) → Result (List ℕ) OpenFault
+found name most too_long None = Err (open_fault.NoFile name)
 found name most too_long (Some file) = if nat_lt most (length file) then Err too_long else Ok file
 
 -- a module, in a file of at most 4,194,304 bytes
-unfoldable pub module_in : Contents → List ℕ → Result Parts Status
+unfoldable pub module_in : Contents → List ℕ → Result Parts OpenFault
 module_in contents name = do
-  file ← found name 4194304 (status.BadModule name (OutOfProfile FileLength)) (contents name)
-  under (status.BadModule name) (module_of file)
+  file ← found name 4194304 (open_fault.BadModule name (OutOfProfile FileLength)) (contents name)
+  under (open_fault.BadModule name) (module_of file)
 
 -- libraries aren't run yet
-abbrev pub as_program : List ℕ → Parts → Result Parts Status
-as_program name m = if is_library m then Err (status.BadModule name (OutOfProfile NotYet)) else Ok m
+abbrev pub as_program : List ℕ → Parts → Result Parts OpenFault
+as_program name m = if is_library m then Err (open_fault.BadModule name (OutOfProfile NotYet)) else Ok m
 
-unfoldable pub program_in : Contents → List ℕ → Result Parts Status
+unfoldable pub program_in : Contents → List ℕ → Result Parts OpenFault
 program_in contents name = module_in contents name >>= as_program name
 
 -- the programs in these files, one after the other
-abbrev pub programs_in : Contents → List (List ℕ) → List Parts → Result (List Parts) Status
+abbrev pub programs_in : Contents → List (List ℕ) → List Parts → Result (List Parts) OpenFault
 programs_in contents [] so_far = Ok so_far
 programs_in contents (name ∷ names) so_far = program_in contents name >>= (λ m. programs_in contents names (so_far ++ m ∷ []))
 
 -- a machine file, of at most 1,048,576 bytes
-unfoldable pub machine_in : Contents → List ℕ → Result Conf Status
+unfoldable pub machine_in : Contents → List ℕ → Result Conf OpenFault
 machine_in contents name = do
-  file ← found name 1048576 (status.BadMachine (Limit key.File)) (contents name)
-  under status.BadMachine (setting file)
+  file ← found name 1048576 (open_fault.BadMachine (Limit key.File)) (contents name)
+  under open_fault.BadMachine (setting file)
 
 -- the name of the module that a process asks for
 abbrev pub asked : ModuleFault → List ℕ
@@ -70,11 +70,11 @@ asked (NoModule name) = name
 asked _ = []
 
 -- the file that a refusal of linking is about, or the module that a process asks for
-abbrev pub link_refusal : Conf → LinkFault → Status
-link_refusal c f = status.BadModule (if f.file == 0 then asked f.fault else nth_list c.modules f.file) f.fault
+abbrev pub link_refusal : Conf → LinkFault → OpenFault
+link_refusal c f = open_fault.BadModule (if f.file == 0 then asked f.fault else nth_list c.modules f.file) f.fault
 
 -- the modules of a setting, linked
-abbrev pub linked_in : Conf → List Parts → Result Session Status
+abbrev pub linked_in : Conf → List Parts → Result Session OpenFault
 linked_in c ms = under (link_refusal c) (linked_of ms c) >>= (λ l. Ok (record { conf = c; linked = l }))
 
 -- the environments of a session's images are those of its setting
@@ -82,42 +82,41 @@ abbrev pub HasEnvironments : Session → Type 0
 HasEnvironments s = s.linked.images.environments ≡ map environment_bytes s.conf.process
 
 -- a start that is refused: by the file of the program that the process runs
-abbrev pub start_refusal : Session → ℕ → ModuleFault → Status
-start_refusal s pid fault = status.BadModule (nth_list s.conf.modules (unwrap_or (nth s.linked.programs pid) 0)) fault
+abbrev pub start_refusal : Session → ℕ → ModuleFault → OpenFault
+start_refusal s pid fault = open_fault.BadModule (nth_list s.conf.modules (unwrap_or (nth s.linked.programs pid) 0)) fault
 
 -- what `exe` opens: the module in a file, as the only one
-abbrev pub exe_loaded : Contents → List ℕ → Result Session Status
+abbrev pub exe_loaded : Contents → List ℕ → Result Session OpenFault
 exe_loaded contents name = module_in contents name >>= (λ m. linked_in (exe_setting name m.names.own) (m ∷ []))
 
 -- what `run` opens: a machine file, and the programs that it names
-abbrev pub run_loaded : Contents → List ℕ → Result Session Status
+abbrev pub run_loaded : Contents → List ℕ → Result Session OpenFault
 run_loaded contents name = machine_in contents name >>= (λ c. programs_in contents c.modules [] >>= linked_in c)
 
 -- what a command opens, or its first refusal
-unfoldable pub loaded : Verb → Contents → List ℕ → Result Session Status
+unfoldable pub loaded : Verb → Contents → List ℕ → Result Session OpenFault
 loaded Exe contents name = exe_loaded contents name
 loaded Run contents name = run_loaded contents name
 
 -- What a function that loads gives, seen by view: what is loaded, or its refusal, or there was no memory, or the files failed.
-abbrev pub Fails : {Y : Type 0} → Status → Result Y Status → Type 0
-Fails status.NoMemory read = Unit {0}
-Fails status.FileFault read = Unit {0}
+abbrev pub Fails : {Y : Type 0} → OpenFault → Result Y OpenFault → Type 0
+Fails open_fault.NoMemory read = Unit {0}
+Fails open_fault.FileFault read = Unit {0}
 Fails s read = read ≡ Err s
 
-abbrev pub Loads : {X Y : Type 0} → (X → Y) → Result X Status → Result Y Status → Type 0
+abbrev pub Loads : {X Y : Type 0} → (X → Y) → Result X OpenFault → Result Y OpenFault → Type 0
 Loads view (Ok x) read = read ≡ Ok (view x)
 Loads view (Err s) read = Fails s read
 
--- the status, unless there was no memory for it
-abbrev pub Tells : Status → Status → Type 0
-Tells status.NoMemory wanted = Unit {0}
+-- the refusal, unless there was no memory for it
+abbrev pub Tells : OpenFault → OpenFault → Type 0
+Tells open_fault.NoMemory wanted = Unit {0}
 Tells s wanted = s ≡ wanted
 
 -- what may keep a command from its run, with the counts of the files' faults before and after
-abbrev pub Refuses : ℕ → ℕ → Status → Type 0
-Refuses before now status.NoMemory = Unit {0}
-Refuses before now status.FileFault = Rose before now
-Refuses before now (status.NoFile name) = Unit {0}
-Refuses before now (status.BadMachine fault) = Unit {0}
-Refuses before now (status.BadModule name fault) = Unit {0}
-Refuses before now _ = ⊥
+abbrev pub Refuses : ℕ → ℕ → OpenFault → Type 0
+Refuses before now open_fault.NoMemory = Unit {0}
+Refuses before now open_fault.FileFault = Rose before now
+Refuses before now (open_fault.NoFile name) = Unit {0}
+Refuses before now (open_fault.BadMachine fault) = Unit {0}
+Refuses before now (open_fault.BadModule name fault) = Unit {0}

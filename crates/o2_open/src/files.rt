@@ -3,11 +3,11 @@ ghost use Rattle.std.specs.Prelude.{◌≡◌, ◌≤◌, ℕ, List, Option, Som
 ghost use Rattle.o2_image.specs.Modules.{module_of};
 ghost use Rattle.o2_image.specs.Whole.{IsRunnable};
 ghost use Rattle.o2_conf.specs.Setting.{setting};
-ghost use Rattle.o2_open.specs.declared.status.Status.TheVariants as status;
+ghost use Rattle.o2_open.specs.declared.fault.OpenFault.TheVariants as open_fault;
 ghost use Rattle.o2_open.specs.Loads.{Contents, Loads, Tells, Refuses, under, module_in, as_program, program_in, programs_in, machine_in};
 ghost use Rattle.o2_conf.specs.Limits.{IsWithinLimits};
 
-use crate::Status;
+use crate::OpenFault;
 use o2_base::{Bytes, Fail, Key, MachineFault, ModuleFault, NoMemory, Which};
 use o2_conf::Conf;
 use o2_image::Module;
@@ -21,41 +21,41 @@ const MODULE_BYTES: u32 = 4_194_304;
 const MACHINE_BYTES: u32 = 1_048_576;
 
 /// There is no file of this name.
-fn no_file(alloc: Global, name: &Bytes) -> Status
-    ensures { Tells result (status.NoFile name.now) }
+fn no_file(alloc: Global, name: &Bytes) -> OpenFault
+    ensures { Tells result (open_fault.NoFile name.now) }
 {
     match Bytes::from_slice(alloc, name.as_slice()) {
-        Ok(name) => Status::NoFile(name),
-        Err(NoMemory) => Status::NoMemory,
+        Ok(name) => OpenFault::NoFile(name),
+        Err(NoMemory) => OpenFault::NoMemory,
     }
 }
 
 /// The module in this file is refused.
-pub fn bad_module(alloc: Global, name: &[u8], fault: ModuleFault) -> Status
-    ensures { Tells result (status.BadModule name.now fault) }
+pub fn bad_module(alloc: Global, name: &[u8], fault: ModuleFault) -> OpenFault
+    ensures { Tells result (open_fault.BadModule name.now fault) }
 {
     match Bytes::from_slice(alloc, name) {
-        Ok(name) => Status::BadModule(name, fault),
-        Err(NoMemory) => Status::NoMemory,
+        Ok(name) => OpenFault::BadModule(name, fault),
+        Err(NoMemory) => OpenFault::NoMemory,
     }
 }
 
 /// The module of these bytes.
-fn checked(alloc: Global, name: &Bytes, file: Bytes) -> Result<Module, Status>
+fn checked(alloc: Global, name: &Bytes, file: Bytes) -> Result<Module, OpenFault>
     requires { length file ≤ 4194304 }
-    ensures exact { Loads (λ m. m) result (under (status.BadModule name.now) (module_of file)) }
+    ensures exact { Loads (λ m. m) result (under (open_fault.BadModule name.now) (module_of file)) }
     ensures refuses { (faults : ℕ) → IfErr result (Refuses faults faults) }
 {
     match Module::check(alloc, file) {
         Ok(module) => Ok(module),
-        Err(Fail::NoMemory) => Err(Status::NoMemory),
+        Err(Fail::NoMemory) => Err(OpenFault::NoMemory),
         Err(Fail::Bad(fault)) => Err(bad_module(alloc, name.as_slice(), fault)),
     }
 }
 
 /// The module in a file.
 #[tactic(auto, unfolding(crate::specs::Loads::module_in))]
-pub fn module<F: Files>(alloc: Global, files: &mut F, name: &Bytes) -> Result<Module, Status>
+pub fn module<F: Files>(alloc: Global, files: &mut F, name: &Bytes) -> Result<Module, OpenFault>
     ensures exact { (contents : Contents) → F.told files.old ≡ Some contents → Loads (λ m. m) result (module_in contents name.now) }
     ensures refuses { IfErr result (Refuses (F.faults files.old) (F.faults files.new)) }
     ensures told { F.told files.new ≡ F.told files.old }
@@ -68,14 +68,14 @@ pub fn module<F: Files>(alloc: Global, files: &mut F, name: &Bytes) -> Result<Mo
             name.as_slice(),
             ModuleFault::OutOfProfile(Which::FileLength),
         )),
-        Fetch::Failed => Err(Status::FileFault),
-        Fetch::NoMemory => Err(Status::NoMemory),
+        Fetch::Failed => Err(OpenFault::FileFault),
+        Fetch::NoMemory => Err(OpenFault::NoMemory),
         Fetch::Got(file) => checked(alloc, name, file),
     }
 }
 
 /// The module, where it is a program.
-fn as_program(alloc: Global, name: &Bytes, program: Module) -> Result<Module, Status>
+fn as_program(alloc: Global, name: &Bytes, program: Module) -> Result<Module, OpenFault>
     ensures exact { Loads (λ m. m) result (as_program name.now program) }
     ensures refuses { (faults : ℕ) → IfErr result (Refuses faults faults) }
 {
@@ -92,7 +92,7 @@ fn as_program(alloc: Global, name: &Bytes, program: Module) -> Result<Module, St
 
 /// The program in a file. Libraries aren't run yet.
 #[tactic(auto, unfolding(crate::specs::Loads::program_in))]
-fn program<F: Files>(alloc: Global, files: &mut F, name: &Bytes) -> Result<Module, Status>
+fn program<F: Files>(alloc: Global, files: &mut F, name: &Bytes) -> Result<Module, OpenFault>
     ensures exact { (contents : Contents) → F.told files.old ≡ Some contents → Loads (λ m. m) result (program_in contents name.now) }
     ensures refuses { IfErr result (Refuses (F.faults files.old) (F.faults files.new)) }
     ensures told { F.told files.new ≡ F.told files.old }
@@ -103,14 +103,14 @@ fn program<F: Files>(alloc: Global, files: &mut F, name: &Bytes) -> Result<Modul
 }
 
 /// One more program.
-fn add(modules: &mut Vec<Module>, program: Module) -> Result<(), Status>
+fn add(modules: &mut Vec<Module>, program: Module) -> Result<(), OpenFault>
     ensures added { OnOk result (modules.new.items ≡ modules.old.items ++ program ∷ []) }
     ensures refuses { (faults : ℕ) → IfErr result (Refuses faults faults) }
-    ensures memory { IfErr result (λ s. s ≡ status.NoMemory) }
+    ensures memory { IfErr result (λ s. s ≡ open_fault.NoMemory) }
 {
     match modules.push(program) {
         Ok(()) => Ok(()),
-        Err(_) => Err(Status::NoMemory),
+        Err(_) => Err(OpenFault::NoMemory),
     }
 }
 
@@ -119,7 +119,7 @@ pub fn programs<F: Files>(
     alloc: Global,
     files: &mut F,
     names: &[Bytes],
-) -> Result<Vec<Module>, Status>
+) -> Result<Vec<Module>, OpenFault>
     ensures exact { (contents : Contents) → F.told files.old ≡ Some contents → Loads (λ v. v.items) result (programs_in contents names.now []) }
     ensures count_of { IfOk result (λ v. length v.items ≡ length names.now) }
     ensures refuses { IfErr result (Refuses (F.faults files.old) (F.faults files.new)) }
@@ -134,21 +134,21 @@ pub fn programs<F: Files>(
 }
 
 /// The setting of these bytes.
-fn setting_of(alloc: Global, file: &Bytes) -> Result<Conf, Status>
-    ensures exact { Loads (λ c. c) result (under status.BadMachine (setting file.now)) }
+fn setting_of(alloc: Global, file: &Bytes) -> Result<Conf, OpenFault>
+    ensures exact { Loads (λ c. c) result (under open_fault.BadMachine (setting file.now)) }
     ensures within { IfOk result IsWithinLimits }
     ensures refuses { (faults : ℕ) → IfErr result (Refuses faults faults) }
 {
     match Conf::read(alloc, file.as_slice()) {
         Ok(conf) => Ok(conf),
-        Err(Fail::NoMemory) => Err(Status::NoMemory),
-        Err(Fail::Bad(fault)) => Err(Status::BadMachine(fault)),
+        Err(Fail::NoMemory) => Err(OpenFault::NoMemory),
+        Err(Fail::Bad(fault)) => Err(OpenFault::BadMachine(fault)),
     }
 }
 
 /// The setting in a machine file.
 #[tactic(auto, unfolding(crate::specs::Loads::machine_in))]
-pub fn machine<F: Files>(alloc: Global, files: &mut F, name: &Bytes) -> Result<Conf, Status>
+pub fn machine<F: Files>(alloc: Global, files: &mut F, name: &Bytes) -> Result<Conf, OpenFault>
     ensures exact { (contents : Contents) → F.told files.old ≡ Some contents → Loads (λ c. c) result (machine_in contents name.now) }
     ensures within { IfOk result IsWithinLimits }
     ensures refuses { IfErr result (Refuses (F.faults files.old) (F.faults files.new)) }
@@ -157,9 +157,9 @@ pub fn machine<F: Files>(alloc: Global, files: &mut F, name: &Bytes) -> Result<C
 {
     match files.fetch(alloc, name, MACHINE_BYTES) {
         Fetch::NoFile => Err(no_file(alloc, name)),
-        Fetch::TooLong => Err(Status::BadMachine(MachineFault::Limit(Key::File))),
-        Fetch::Failed => Err(Status::FileFault),
-        Fetch::NoMemory => Err(Status::NoMemory),
+        Fetch::TooLong => Err(OpenFault::BadMachine(MachineFault::Limit(Key::File))),
+        Fetch::Failed => Err(OpenFault::FileFault),
+        Fetch::NoMemory => Err(OpenFault::NoMemory),
         Fetch::Got(file) => setting_of(alloc, &file),
     }
 }

@@ -1,11 +1,11 @@
-//! What a command opens: the machine file, the modules that it names, and what links them; or the status that refuses it.
+//! What a command opens: the machine file, the modules that it names, and what links them; or why it opens nothing.
 #![tactic(auto)]
 
+mod fault;
 mod files;
 mod opening;
 mod session;
-mod status;
 
+pub use fault::OpenFault;
 pub use opening::{open, refused_start};
 pub use session::Session;
-pub use status::Status;

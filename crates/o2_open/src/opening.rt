@@ -1,6 +1,6 @@
 // Opening what a command runs.
 ghost use Rattle.std.specs.Prelude.{◌≡◌, ◌≤◌, ℕ, Some, IfOk, IfErr, length, map, [], ◌∷◌};
-ghost use Rattle.o2_open.specs.declared.status.Status.TheVariants as status;
+ghost use Rattle.o2_open.specs.declared.fault.OpenFault.TheVariants as open_fault;
 ghost use Rattle.o2_open.specs.Loads.{Contents, Loads, Tells, Refuses, under, asked, link_refusal, linked_in, HasEnvironments, start_refusal, exe_loaded, run_loaded, loaded};
 ghost use Rattle.o2_dynlink.specs.Linking.{linked_of};
 ghost use Rattle.o2_image.specs.Getters.{nth_list};
@@ -9,7 +9,7 @@ ghost use Rattle.o2_conf.specs.Limits.{IsWithinLimits};
 ghost use Rattle.o2_conf.specs.Environments.{environment_bytes};
 
 use crate::files::{bad_module, machine, module, programs};
-use crate::{Session, Status};
+use crate::{OpenFault, Session};
 use o2_base::{Bytes, Fail, ModuleFault, NoMemory};
 use o2_conf::Conf;
 use o2_dynlink::{LinkFault, Linked, link};
@@ -19,16 +19,16 @@ use o2_words::Verb;
 use std::alloc::Global;
 
 /// A process asks for a module that isn't listed.
-fn asked_for(alloc: Global, fault: ModuleFault) -> Status
-    ensures { Tells result (status.BadModule (asked fault) fault) }
+fn asked_for(alloc: Global, fault: ModuleFault) -> OpenFault
+    ensures { Tells result (open_fault.BadModule (asked fault) fault) }
 {
     let name = match &fault {
         ModuleFault::NoModule(name) => Bytes::from_slice(alloc, name.as_slice()),
         _ => Bytes::from_slice(alloc, &[]),
     };
     match name {
-        Ok(name) => Status::BadModule(name, fault),
-        Err(NoMemory) => Status::NoMemory,
+        Ok(name) => OpenFault::BadModule(name, fault),
+        Err(NoMemory) => OpenFault::NoMemory,
     }
 }
 
@@ -45,8 +45,8 @@ fn file_name(conf: &Conf, place: u16) -> &[u8]
     }
 }
 
-/// The status of a refusal of linking.
-fn link_refusal(alloc: Global, conf: &Conf, refusal: LinkFault) -> Status
+/// Why linking is refused.
+fn link_refusal(alloc: Global, conf: &Conf, refusal: LinkFault) -> OpenFault
     ensures { Tells result (link_refusal conf.now refusal) }
 {
     let LinkFault { file, fault } = refusal;
@@ -57,8 +57,8 @@ fn link_refusal(alloc: Global, conf: &Conf, refusal: LinkFault) -> Status
     }
 }
 
-/// What links the modules, or the status that refuses them.
-fn link_all(alloc: Global, conf: &Conf, modules: Vec<Module>) -> Result<Linked, Status>
+/// What links the modules, or why they are refused.
+fn link_all(alloc: Global, conf: &Conf, modules: Vec<Module>) -> Result<Linked, OpenFault>
     requires few { length modules.items ≤ 64 }
     ensures exact { Loads (λ l. l) result (under (link_refusal conf.now) (linked_of modules.items conf.now)) }
     ensures environments { IfOk result (λ l. l.images.environments ≡ map environment_bytes conf.now.process) }
@@ -66,13 +66,13 @@ fn link_all(alloc: Global, conf: &Conf, modules: Vec<Module>) -> Result<Linked, 
 {
     match link(alloc, modules, conf) {
         Ok(linked) => Ok(linked),
-        Err(Fail::NoMemory) => Err(Status::NoMemory),
+        Err(Fail::NoMemory) => Err(OpenFault::NoMemory),
         Err(Fail::Bad(fault)) => Err(link_refusal(alloc, conf, fault)),
     }
 }
 
 /// The modules of a setting, linked.
-fn linked(alloc: Global, conf: Conf, modules: Vec<Module>) -> Result<Session, Status>
+fn linked(alloc: Global, conf: Conf, modules: Vec<Module>) -> Result<Session, OpenFault>
     requires few { length modules.items ≤ 64 }
     requires within { IsWithinLimits conf }
     ensures exact { Loads (λ s. s) result (linked_in conf modules.items) }
@@ -82,37 +82,37 @@ fn linked(alloc: Global, conf: Conf, modules: Vec<Module>) -> Result<Session, St
 {
     match link_all(alloc, &conf, modules) {
         Ok(linked) => Ok(Session { conf, linked }),
-        Err(status) => Err(status),
+        Err(fault) => Err(fault),
     }
 }
 
 /// The setting of a program that is run alone.
-fn alone(alloc: Global, file: &Bytes, program: &Module) -> Result<Conf, Status>
+fn alone(alloc: Global, file: &Bytes, program: &Module) -> Result<Conf, OpenFault>
     ensures exact { IfOk result (λ c. c ≡ exe_setting file.now program.now.names.own) }
     ensures within { IfOk result IsWithinLimits }
-    ensures memory { IfErr result (λ s. s ≡ status.NoMemory) }
+    ensures memory { IfErr result (λ s. s ≡ open_fault.NoMemory) }
 {
     program.is_runnable();
     match Conf::exe(alloc, file, program.name()) {
         Ok(conf) => Ok(conf),
-        Err(NoMemory) => Err(Status::NoMemory),
+        Err(NoMemory) => Err(OpenFault::NoMemory),
     }
 }
 
 /// The list of one module.
-fn only(alloc: Global, program: Module) -> Result<Vec<Module>, Status>
+fn only(alloc: Global, program: Module) -> Result<Vec<Module>, OpenFault>
     ensures one { IfOk result (λ v. v.items ≡ program ∷ []) }
-    ensures memory { IfErr result (λ s. s ≡ status.NoMemory) }
+    ensures memory { IfErr result (λ s. s ≡ open_fault.NoMemory) }
 {
     let mut modules = Vec::new(alloc);
     match modules.push(program) {
         Ok(()) => Ok(modules),
-        Err(_) => Err(Status::NoMemory),
+        Err(_) => Err(OpenFault::NoMemory),
     }
 }
 
 /// What `exe` opens: the module in a file, as the only one.
-fn open_exe<F: Files>(alloc: Global, files: &mut F, name: &Bytes) -> Result<Session, Status>
+fn open_exe<F: Files>(alloc: Global, files: &mut F, name: &Bytes) -> Result<Session, OpenFault>
     ensures exact { (contents : Contents) → F.told files.old ≡ Some contents → Loads (λ s. s) result (exe_loaded contents name.now) }
     ensures within { IfOk result (λ s. IsWithinLimits s.conf) }
     ensures environments { IfOk result HasEnvironments }
@@ -126,7 +126,7 @@ fn open_exe<F: Files>(alloc: Global, files: &mut F, name: &Bytes) -> Result<Sess
 }
 
 /// What `run` opens: a machine file, and the programs that it names.
-fn open_run<F: Files>(alloc: Global, files: &mut F, name: &Bytes) -> Result<Session, Status>
+fn open_run<F: Files>(alloc: Global, files: &mut F, name: &Bytes) -> Result<Session, OpenFault>
     ensures exact { (contents : Contents) → F.told files.old ≡ Some contents → Loads (λ s. s) result (run_loaded contents name.now) }
     ensures within { IfOk result (λ s. IsWithinLimits s.conf) }
     ensures environments { IfOk result HasEnvironments }
@@ -146,7 +146,7 @@ pub fn open<F: Files>(
     verb: Verb,
     files: &mut F,
     name: &Bytes,
-) -> Result<Session, Status>
+) -> Result<Session, OpenFault>
     // exactly what the definition says, where the files tell what they hold
     ensures exact { (contents : Contents) → F.told files.old ≡ Some contents → Loads (λ s. s) result (loaded verb contents name.now) }
     // the setting is within its limits
@@ -162,8 +162,8 @@ pub fn open<F: Files>(
     }
 }
 
-/// The status of a start that is refused: that of process `pid`, for this reason.
-pub fn refused_start(alloc: Global, session: &Session, pid: u16, fault: ModuleFault) -> Status
+/// Why a start is refused: that of process `pid`, for this reason.
+pub fn refused_start(alloc: Global, session: &Session, pid: u16, fault: ModuleFault) -> OpenFault
     ensures { Tells result (start_refusal session.now pid fault) }
 {
     let place = session.linked.program(pid).unwrap_or(0);

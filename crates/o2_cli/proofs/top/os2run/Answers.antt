@@ -1,6 +1,6 @@
 use Rattle.std.proofs.Common.{◌∙◌, subst, sym}
 use Rattle.o2_words.specs.Words.{IsCommandFor}
-use Rattle.o2_cli.proofs.Runs.{shown}
+use Rattle.o2_cli.proofs.Runs.{shown, untouched}
 use Rattle.o2_cli.proofs.top.os2run.Goals as goal
 
 pub returns-clause-texts : goal.returns-clause-texts
@@ -8,3 +8,6 @@ returns-clause-texts g c =
     shown c.args.words.now (g.F.Files.told c.args.files.now) _ _ _ _ _ _ _ _ c.in-Ok.command.verb c.in-Ok-from_slice.name c.in-Ok-open.session
     (subst (λ name. IsCommandFor c.args.words.now c.in-Ok.command.verb name) (sym (c.in-Ok-from_slice.ensures ∙ c.as_bytes.ensures.value)) c.in-Ok.ensures)
     (λ contents is. c.in-Ok-open.ensures.exact contents is) c.run_session.result c.run_session.ensures.texts
+
+pub returns-in-Err-clause-texts : goal.returns-in-Err-clause-texts
+returns-in-Err-clause-texts g c = untouched _ _ _ _ _ _ _ _ c.from.result c.from.ensures

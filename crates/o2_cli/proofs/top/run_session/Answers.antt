@@ -1,9 +1,6 @@
 use Rattle.std.proofs.Common.{ap, subst}
 use Rattle.std.specs.Prelude.{Err}
-use Rattle.o2_run.specs.declared.steps.Stop.{Stop}
-use Rattle.o2_run.specs.Ended.{HasStoppedTexts}
 use Rattle.o2_run.proofs.Reached.{stopped_since, rose_since}
-use Rattle.o2_outer.specs.Texts.{Rose}
 use Rattle.o2_machine.specs.declared.fault.BeginFault.{BeginFault}
 use Rattle.o2_machine.specs.Lasts.{stopped_of}
 use Rattle.o2_machine.specs.Begins.{Begins, setting_of, first_world}
@@ -20,7 +17,7 @@ pub returns-in-Err-Start-clause-texts : goal.returns-in-Err-Start-clause-texts
 returns-in-Err-Start-clause-texts g c =
     let s = c.args.session.now in
     let why = subst (λ (f : BeginFault). Begins s.linked s.conf (g.R.Sink.taken c.args.report.now) (g.R.Sink.taken c.begin.new.report) (Err f)) c.in-Err-Start.field-0-is c.in-Err-Start.ensures.begins in
-    refused_texts s _ _ _ _ _ _ c.in-Err-Start.pid c.in-Err-Start.fault c.refused_start.result why.0 why.1 c.refused_start.ensures
+    refused_texts s _ _ _ _ _ _ c.in-Err-Start.pid c.in-Err-Start.fault c.refused_start.result _ c.from.ensures why.0 why.1 c.refused_start.ensures
 
 pub returns-in-Fine-clause-texts : goal.returns-in-Fine-clause-texts
 returns-in-Fine-clause-texts g c = λ input left.

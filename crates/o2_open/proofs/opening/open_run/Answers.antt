@@ -1,7 +1,7 @@
 use Rattle.std.proofs.Common.{◌≡◌, ◌≤◌, ◌∙◌, List, ℕ, [], arith, sym, subst}
 use Rattle.std.specs.Prelude.{Result, Ok}
 use Rattle.o2_open.specs.declared.session.Session.{Session}
-use Rattle.o2_open.specs.declared.status.Status.{Status}
+use Rattle.o2_open.specs.declared.fault.OpenFault.{OpenFault}
 use Rattle.o2_open.specs.Loads.{Loads, programs_in}
 use Rattle.o2_open.proofs.Telling.{since_err}
 use Rattle.o2_open.proofs.Stepping.{run_is}
@@ -9,7 +9,7 @@ use Rattle.o2_open.proofs.opening.open_run.Goals as goal
 
 pub returns-clause-exact : goal.returns-clause-exact
 returns-clause-exact g c = λ contents e.
-    subst (λ (r : Result Session Status). Loads (λ s. s) c.linked.result r)
+    subst (λ (r : Result Session OpenFault). Loads (λ s. s) c.linked.result r)
     (sym (run_is contents c.args.name.now c.in_ok-conf.conf c.in_ok-modules.modules.items (c.in_ok-conf.ensures.exact contents e)
     (subst (λ (z : List (List ℕ)). programs_in contents z [] ≡ Ok c.in_ok-modules.modules.items) c.as_slice.ensures (c.in_ok-modules.ensures.exact contents (c.in_ok-conf.ensures.told ∙ e)))))
     c.linked.ensures.exact

@@ -1,6 +1,8 @@
 // What the top call answers.
+ghost use Rattle.std.specs.Prelude.{◌≡◌};
 
 use o2_base::{Bytes, MachineFault, ModuleFault};
+use o2_open::OpenFault;
 
 /// What the top call answers.
 #[derive(Debug, Drop)]
@@ -29,4 +31,20 @@ pub enum Status {
     SwapFault,
     /// 11: memory was wanted and not given.
     NoMemory,
+}
+
+impl From<OpenFault> for Status {
+    ghost use Rattle.o2_cli.specs.Statuses.{status_by};
+
+    ghost from_gives = { λ fault status. status ≡ status_by fault };
+
+    fn from(fault: OpenFault) -> Status {
+        match fault {
+            OpenFault::NoFile(name) => Status::NoFile(name),
+            OpenFault::BadMachine(fault) => Status::BadMachine(fault),
+            OpenFault::BadModule(name, fault) => Status::BadModule(name, fault),
+            OpenFault::FileFault => Status::FileFault,
+            OpenFault::NoMemory => Status::NoMemory,
+        }
+    }
 }

@@ -1,0 +1,22 @@
+-- The status of each answer below the top call.
+use Rattle.o2_open.specs.declared.fault.OpenFault.{OpenFault}
+use Rattle.o2_open.specs.declared.fault.OpenFault.TheVariants as open_fault
+use Rattle.o2_run.specs.declared.steps.Stop.{Stop}
+use Rattle.o2_run.specs.declared.steps.Stop.TheVariants.{Input, NoRoom, SwapFull, SwapFault}
+use Rattle.o2_cli.specs.declared.status.Status.{Status}
+use Rattle.o2_cli.specs.declared.status.Status.TheVariants as status
+
+-- where nothing opens
+abbrev pub status_by : OpenFault → Status
+status_by (open_fault.NoFile name) = status.NoFile name
+status_by (open_fault.BadMachine fault) = status.BadMachine fault
+status_by (open_fault.BadModule name fault) = status.BadModule name fault
+status_by open_fault.FileFault = status.FileFault
+status_by open_fault.NoMemory = status.NoMemory
+
+-- where a run stops
+abbrev pub status_of : Stop → Status
+status_of Input = status.InputFault
+status_of NoRoom = status.NoRoom
+status_of SwapFull = status.SwapFull
+status_of SwapFault = status.SwapFault
