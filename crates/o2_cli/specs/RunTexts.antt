@@ -17,11 +17,14 @@ pub record StartsWith (s : Session) (input : List ℕ) (P : Opened → Type 0) :
   pub runs : P start
 
 -- its run is stopped so, before a step
-abbrev pub StopsRun : Session → (blocks : ℕ) → (left_old left_new console_old console_new report_old report_new : Option (List ℕ)) → (fault : Type 0) → Stop → Type 0
-StopsRun s blocks i j c d r q e why = (input : List ℕ) → i ≡ Some input → StartsWith s input (λ o. HasStoppedTexts machine_swaps blocks o.setting o.world why j c d r q e)
+abbrev pub StopsRun : Session → (blocks : ℕ)
+    → (left_old left_new console_old console_new report_old report_new : Option (List ℕ)) → (fault : Type 0) → Stop → Type 0
+StopsRun s blocks i j c d r q e why = (input : List ℕ) → i ≡ Some input
+    → StartsWith s input (λ o. HasStoppedTexts machine_swaps blocks o.setting o.world why j c d r q e)
 
 -- what its run shows, by the status, where the device has so many blocks
-abbrev pub ShowsRun : Session → (blocks : ℕ) → (left_old left_new console_old console_new report_old report_new : Option (List ℕ)) → (fault : Type 0) → Status → Type 0
+abbrev pub ShowsRun : Session → (blocks : ℕ)
+    → (left_old left_new console_old console_new report_old report_new : Option (List ℕ)) → (fault : Type 0) → Status → Type 0
 ShowsRun s blocks i j c d r q e status.Fine = (input : List ℕ) → i ≡ Some input → StartsWith s input (λ o. HasWholeRun machine_swaps o.setting o.world j c d r q)
 ShowsRun s blocks i j c d r q e status.SinkFault = (input : List ℕ) → i ≡ Some input → StartsWith s input (λ o. HasPartRun o.setting o.world j c d r q)
 ShowsRun s blocks i j c d r q e status.InputFault = StopsRun s blocks i j c d r q e Input

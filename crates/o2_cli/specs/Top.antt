@@ -81,12 +81,14 @@ pub record IsUntouched (left_old left_new console_old console_new report_old rep
   pub report : report_new ≡ report_old
 
 -- the run is stopped so, before a step
-abbrev pub Stops : List (String Global) → Told → (blocks : ℕ) → (left_old left_new console_old console_new report_old report_new : Option (List ℕ)) → (fault : Type 0) → Stop → Type 0
+abbrev pub Stops : List (String Global) → Told → (blocks : ℕ)
+    → (left_old left_new console_old console_new report_old report_new : Option (List ℕ)) → (fault : Type 0) → Stop → Type 0
 Stops words told blocks i j c d r q e why = Runs words told i (λ o. HasStoppedTexts machine_swaps blocks o.setting o.world why j c d r q e)
 
 -- both texts and the input, by the status: those of the boundless machine, or fronts of them; `fault` says that the report
 -- failed, and `blocks` how many blocks the device has
-abbrev pub Shows : List (String Global) → Told → (blocks : ℕ) → (left_old left_new console_old console_new report_old report_new : Option (List ℕ)) → (fault : Type 0) → Status → Type 0
+abbrev pub Shows : List (String Global) → Told → (blocks : ℕ)
+    → (left_old left_new console_old console_new report_old report_new : Option (List ℕ)) → (fault : Type 0) → Status → Type 0
 Shows words told blocks i j c d r q e status.Fine = Runs words told i (λ o. HasWholeRun machine_swaps o.setting o.world j c d r q)
 Shows words told blocks i j c d r q e status.SinkFault = Runs words told i (λ o. HasPartRun o.setting o.world j c d r q)
 Shows words told blocks i j c d r q e status.InputFault = Stops words told blocks i j c d r q e Input

@@ -30,7 +30,9 @@ pub fn os2run<F: Files, I: Source, C: Sink, R: Sink, S: SwapDevice>(
     // Each refusal, with its cause.
     ensures refused { Refuses words.now (F.told files.old) result }
     // Both texts are those of the boundless machine, or fronts of them.
-    ensures texts { Shows words.now (F.told files.old) (S.blocks swap.old) (I.left input.old) (I.left input.new) (C.taken console.old) (C.taken console.new) (R.taken report.old) (R.taken report.new) (Rose (R.faults report.old) (R.faults report.new)) result }
+    ensures texts { Shows words.now (F.told files.old) (S.blocks swap.old)
+        (I.left input.old) (I.left input.new) (C.taken console.old) (C.taken console.new)
+        (R.taken report.old) (R.taken report.new) (Rose (R.faults report.old) (R.faults report.new)) result }
     // Where nothing ran, the input and both sinks are as they were, whatever they tell.
     ensures same_input { OnUnrun result (input.new ≡ input.old) }
     ensures same_console { OnUnrun result (console.new ≡ console.old) }
@@ -87,7 +89,9 @@ fn run_session<I: Source, C: Sink, R: Sink, S: SwapDevice>(
     ensures same_report { OnUnrun result (report.new ≡ report.old) }
     ensures same_swap { swap.new ≡ swap.old }
     ensures unswapped { IsUnswapped result }
-    ensures texts { ShowsRun session.now (S.blocks swap.old) (I.left input.old) (I.left input.new) (C.taken console.old) (C.taken console.new) (R.taken report.old) (R.taken report.new) (Rose (R.faults report.old) (R.faults report.new)) result }
+    ensures texts { ShowsRun session.now (S.blocks swap.old)
+        (I.left input.old) (I.left input.new) (C.taken console.old) (C.taken console.new)
+        (R.taken report.old) (R.taken report.new) (Rose (R.faults report.old) (R.faults report.new)) result }
     ensures input_fault { OnInputFault result (Rose (I.faults input.old) (I.faults input.new)) }
     ensures sink_fault { OnSinkFault result (Rose (C.faults console.old) (C.faults console.new) ⊎ Rose (R.faults report.old) (R.faults report.new)) }
     ensures swap_fault { OnSwapFault result (Rose (S.faults swap.old) (S.faults swap.new)) }

@@ -20,14 +20,16 @@ FitsBelow swaps s w k = (j : ℕ) → j < k → Fits swaps s (after s w j)
 
 -- a run that stops before its step k, for which it had the first cause: the lines so far, and the stop line, or where the
 -- report failed a front of it
-pub record HasStoppedTexts (swaps : Bool) (blocks : ℕ) (s : Setting) (w : World) (why : Stop) (left console_old console_new report_old report_new : Option (List ℕ)) (fault : Type 0) : Type 0 where
+pub record HasStoppedTexts (swaps : Bool) (blocks : ℕ) (s : Setting) (w : World) (why : Stop)
+    (left console_old console_new report_old report_new : Option (List ℕ)) (fault : Type 0) : Type 0 where
   pub steps : ℕ
   pub below : IsBelowLast s w steps
   pub room : FitsBelow swaps s w steps
   pub cause : StopsFor blocks s (after s w steps) why
   pub input : left ≡ Some (after s w steps).input
   pub to_console : Gains console_old console_new (console (after s w steps))
-  pub to_report : GainsBetween report_old report_new (lines_text (after s w steps).lines) (lines_text (after s w steps).lines ++ stop_line why)
+  pub to_report : GainsBetween report_old report_new (lines_text (after s w steps).lines)
+      (lines_text (after s w steps).lines ++ stop_line why)
   pub whole : Gains report_old report_new (lines_text (after s w steps).lines ++ stop_line why) ⊎ fault
 
 -- the whole texts, and the input that is left
@@ -48,9 +50,11 @@ pub record HasPartRun (s : Setting) (w : World) (left console_old console_new re
   pub input : (left ≡ Some (after s w (part_at texts)).input) ⊎ (left ≡ Some (after s w (suc (part_at texts))).input)
 
 -- at each end the machine stands for the world of the same k as the texts
-abbrev pub HasTexts : (stands_now : World → Type 0) → (swaps : Bool) → (blocks : ℕ) → Setting → World → (left console_old console_new report_old report_new : Option (List ℕ)) → (fault : Type 0) → Ended → Type 0
+abbrev pub HasTexts : (stands_now : World → Type 0) → (swaps : Bool) → (blocks : ℕ) → Setting → World
+    → (left console_old console_new report_old report_new : Option (List ℕ)) → (fault : Type 0) → Ended → Type 0
 HasTexts f swaps blocks s w i c d r q e Fine = (t : HasWholeRun swaps s w i c d r q) × f (after s w t.texts.last)
-HasTexts f swaps blocks s w i c d r q e SinkFault = (t : HasPartRun s w i c d r q) × (f (after s w (part_at t.texts)) ⊎ f (after s w (suc (part_at t.texts))))
+HasTexts f swaps blocks s w i c d r q e SinkFault =
+    (t : HasPartRun s w i c d r q) × (f (after s w (part_at t.texts)) ⊎ f (after s w (suc (part_at t.texts))))
 HasTexts f swaps blocks s w i c d r q e (Stopped why) = (t : HasStoppedTexts swaps blocks s w why i c d r q e) × f (after s w t.steps)
 
 -- how a run ends only where some count rose, each with its count: of a sink, of the input, of the device
@@ -72,7 +76,8 @@ EndsAs t SinkFault = t ≡ Some turn.SinkFault
 EndsAs t (Stopped why) = t ≡ Some (turn_of why)
 
 -- after k steps, none of which ended the run: the machine stands for that world, and both texts are its texts
-pub record HasReached (stands_now : World → Type 0) (swaps : Bool) (s : Setting) (w : World) (left : Option (List ℕ)) (console_old console_now report_old report_now : Option (List ℕ)) : Type 0 where
+pub record HasReached (stands_now : World → Type 0) (swaps : Bool) (s : Setting) (w : World)
+    (left : Option (List ℕ)) (console_old console_now report_old report_now : Option (List ℕ)) : Type 0 where
   pub steps : ℕ
   pub stands : stands_now (after s w steps)
   pub runs : (j : ℕ) → j < steps → is_over (after s w j) ≡ false

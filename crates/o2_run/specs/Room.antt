@@ -1,5 +1,6 @@
 -- The room that a step needs in memory, and what swapping has to hold.
-use Rattle.std.specs.Prelude.{◌≡◌, ℕ, ◌+◌, ◌*◌, ◌/◌, ◌≤◌, ◌==◌, ◌||◌, Bool, true, false, not, nat_le, nat_lt, if◌then◌else◌, max, List, [], ◌∷◌, ◌++◌, filter, length, map, sum, Option, Some, None, Result, Err}
+use Rattle.std.specs.Prelude.{◌≡◌, ℕ, ◌+◌, ◌*◌, ◌/◌, ◌≤◌, ◌==◌, ◌||◌, Bool, true, false, not, nat_le, nat_lt, if◌then◌else◌, max}
+use Rattle.std.specs.Prelude.{List, [], ◌∷◌, ◌++◌, filter, length, map, sum, Option, Some, None, Result, Err}
 use Rattle.std.specs.List.{list_any}
 use Rattle.o2_isa.specs.View.{Hold, Registers, is_readable, is_writable, bound_in}
 use Rattle.o2_isa.specs.Steps.{State as Machine, state}

@@ -12,7 +12,8 @@ use Rattle.o2_run.specs.declared.steps.Turn.{Turn}
 use Rattle.o2_run.specs.declared.steps.Turn.TheVariants as turn
 
 -- where the run isn't over, a turn is one step, whose room a machine that swaps has
-pub record StepsOn (stands_now : World → Type 0) (swaps : Bool) (s : Setting) (w : World) (left : Option (List ℕ)) (console_old console_new report_old report_new : Option (List ℕ)) : Type 0 where
+pub record StepsOn (stands_now : World → Type 0) (swaps : Bool) (s : Setting) (w : World)
+    (left : Option (List ℕ)) (console_old console_new report_old report_new : Option (List ℕ)) : Type 0 where
   pub runs : is_over w ≡ false
   pub room : Fits swaps s w
   pub input : left ≡ Some (step s w).input
@@ -22,7 +23,8 @@ pub record StepsOn (stands_now : World → Type 0) (swaps : Bool) (s : Setting) 
 
 -- a sink that failed in a step shows a front of it: the report nothing of its lines, or the console its whole piece; the
 -- machine stands for the world before the step, or for the one after it, and the input has left what the one or the other has
-pub record StepsInPart (stands_now : World → Type 0) (swaps : Bool) (s : Setting) (w : World) (left : Option (List ℕ)) (console_old console_new report_old report_new : Option (List ℕ)) : Type 0 where
+pub record StepsInPart (stands_now : World → Type 0) (swaps : Bool) (s : Setting) (w : World)
+    (left : Option (List ℕ)) (console_old console_new report_old report_new : Option (List ℕ)) : Type 0 where
   pub runs : is_over w ≡ false
   pub room : Fits swaps s w
   pub input : (left ≡ Some w.input) ⊎ (left ≡ Some (step s w).input)
@@ -32,7 +34,8 @@ pub record StepsInPart (stands_now : World → Type 0) (swaps : Bool) (s : Setti
   pub in_order : (report_new ≡ report_old) ⊎ Continues console_old console_new (console w) (console (step s w))
 
 -- where it is over, for the end of all processes or for the budget, the last line is put
-pub record IsClosed (stands_now : World → Type 0) (w : World) (lives : Bool) (left console_old console_new report_old report_new : Option (List ℕ)) : Type 0 where
+pub record IsClosed (stands_now : World → Type 0) (w : World) (lives : Bool)
+    (left console_old console_new report_old report_new : Option (List ℕ)) : Type 0 where
   pub over : is_over w ≡ true
   pub by : any_lives w.processes ≡ lives
   pub stands : stands_now w
@@ -49,7 +52,8 @@ pub record IsClosedInPart (stands_now : World → Type 0) (w : World) (left cons
   pub to_report : ContinuesBetween report_old report_new (lines_text w.lines) (report w)
 
 -- a stop before the step: the stop line is put, or where the report failed a front of it
-pub record IsStopped (stands_now : World → Type 0) (blocks : ℕ) (s : Setting) (w : World) (why : Stop) (put : Bool) (left console_old console_new report_old report_new : Option (List ℕ)) : Type 0 where
+pub record IsStopped (stands_now : World → Type 0) (blocks : ℕ) (s : Setting) (w : World) (why : Stop) (put : Bool)
+    (left console_old console_new report_old report_new : Option (List ℕ)) : Type 0 where
   pub runs : is_over w ≡ false
   pub cause : StopsFor blocks s w why
   pub stands : stands_now w
@@ -60,7 +64,8 @@ pub record IsStopped (stands_now : World → Type 0) (blocks : ℕ) (s : Setting
 
 -- from a machine that stands for w and hasn't stopped, where `swaps` says whether it swaps, `blocks` how many blocks its device
 -- has, and `put` that a stop line was put whole
-abbrev pub Turns : (World → Type 0) → (swaps : Bool) → (blocks : ℕ) → Setting → World → (put : Bool) → (left console_old console_new report_old report_new : Option (List ℕ)) → Turn → Type 0
+abbrev pub Turns : (World → Type 0) → (swaps : Bool) → (blocks : ℕ) → Setting → World → (put : Bool)
+    → (left console_old console_new report_old report_new : Option (List ℕ)) → Turn → Type 0
 Turns f swaps blocks s w put i c d r q turn.Ran = StepsOn f swaps s w i c d r q
 Turns f swaps blocks s w put i c d r q turn.AllEnded = IsClosed f w false i c d r q
 Turns f swaps blocks s w put i c d r q turn.BudgetSpent = IsClosed f w true i c d r q

@@ -67,8 +67,10 @@ pub trait Steps {
         report: &mut R,
         swap: &mut S,
     ) -> Turn
-        ensures turns { stopped self.old ≡ None → (s : Setting) (w : World) → stands self.old (S.told swap.old) (S.block swap.old) s w → I.left input.old ≡ Some w.input
-            → Turns (stands self.new (S.told swap.new) (S.block swap.new) s) swaps (S.blocks swap.old) s w (line_put self.new) (I.left input.new) (C.taken console.old) (C.taken console.new) (R.taken report.old) (R.taken report.new) result }
+        ensures turns { stopped self.old ≡ None → (s : Setting) (w : World) → stands self.old (S.told swap.old) (S.block swap.old) s w
+            → I.left input.old ≡ Some w.input
+            → Turns (stands self.new (S.told swap.new) (S.block swap.new) s) swaps (S.blocks swap.old) s w (line_put self.new)
+            (I.left input.new) (C.taken console.old) (C.taken console.new) (R.taken report.old) (R.taken report.new) result }
         ensures stops { stopped self.new ≡ stopped_by result }
 
         // A stop or an end is final.
@@ -90,7 +92,9 @@ pub trait Steps {
         ensures console_count { C.faults console.old ≤ C.faults console.new }
         ensures report_count { R.faults report.old ≤ R.faults report.new }
         ensures swap_count { S.faults swap.old ≤ S.faults swap.new }
-        ensures cause { stopped self.old ≡ None → Caused (Rose (C.faults console.old) (C.faults console.new) ⊎ Rose (R.faults report.old) (R.faults report.new)) (Rose (I.faults input.old) (I.faults input.new)) (Rose (S.faults swap.old) (S.faults swap.new)) result }
+        ensures cause { stopped self.old ≡ None
+            → Caused (Rose (C.faults console.old) (C.faults console.new) ⊎ Rose (R.faults report.old) (R.faults report.new))
+            (Rose (I.faults input.old) (I.faults input.new)) (Rose (S.faults swap.old) (S.faults swap.new)) result }
         ensures line { stopped self.old ≡ None → LineIs (line_put self.new) (Rose (R.faults report.old) (R.faults report.new)) result }
         ensures left { OnRan result (left self.new < left self.old) };
 }

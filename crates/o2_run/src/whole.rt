@@ -29,10 +29,12 @@ pub fn run<M: Steps, I: Source, C: Sink, R: Sink, S: SwapDevice>(
     report: &mut R,
     swap: &mut S,
 ) -> Ended
-    ensures texts { M.stopped machine.old ≡ None → (s : Setting) (w : World) (c r : Option (List ℕ)) → M.stands machine.old (S.told swap.old) (S.block swap.old) s w
+    ensures texts { M.stopped machine.old ≡ None → (s : Setting) (w : World) (c r : Option (List ℕ))
+        → M.stands machine.old (S.told swap.old) (S.block swap.old) s w
         → I.left input.old ≡ Some w.input
         → Gains c (C.taken console.old) (console_text w) → Gains r (R.taken report.old) (lines_text w.lines)
-        → HasTexts (M.stands machine.new (S.told swap.new) (S.block swap.new) s) M.swaps (S.blocks swap.old) s w (I.left input.new) c (C.taken console.new) r (R.taken report.new) (Rose (R.faults report.old) (R.faults report.new)) result }
+        → HasTexts (M.stands machine.new (S.told swap.new) (S.block swap.new) s) M.swaps (S.blocks swap.old) s w
+        (I.left input.new) c (C.taken console.new) r (R.taken report.new) (Rose (R.faults report.old) (R.faults report.new)) result }
     ensures stopped { EndsAs (M.stopped machine.new) result }
 
     // A machine that doesn't swap leaves the device as it is, and stops for its input alone.
@@ -46,7 +48,9 @@ pub fn run<M: Steps, I: Source, C: Sink, R: Sink, S: SwapDevice>(
     ensures console_count { C.faults console.old ≤ C.faults console.new }
     ensures report_count { R.faults report.old ≤ R.faults report.new }
     ensures swap_count { S.faults swap.old ≤ S.faults swap.new }
-    ensures cause { M.stopped machine.old ≡ None → Caused (Rose (C.faults console.old) (C.faults console.new) ⊎ Rose (R.faults report.old) (R.faults report.new)) (Rose (I.faults input.old) (I.faults input.new)) (Rose (S.faults swap.old) (S.faults swap.new)) result }
+    ensures cause { M.stopped machine.old ≡ None
+        → Caused (Rose (C.faults console.old) (C.faults console.new) ⊎ Rose (R.faults report.old) (R.faults report.new))
+        (Rose (I.faults input.old) (I.faults input.new)) (Rose (S.faults swap.old) (S.faults swap.new)) result }
 {
     'steps: loop {
         match machine.turn(input, console, report, swap) {
