@@ -38,7 +38,29 @@ pub fn command(
     console_fails: Fails<'_>,
     report_fails: Fails<'_>,
 ) -> Result<Answer, NoMemory> {
-    let mut files = MemFiles::new(files, Vec::new(alloc));
+    let files = MemFiles::new(files, Vec::new(alloc));
+    command_over(
+        alloc,
+        words,
+        files,
+        input,
+        takes,
+        console_fails,
+        report_fails,
+    )
+}
+
+/// The same over files that may fail.
+pub fn command_over(
+    alloc: Global,
+    words: &[&str],
+    files: MemFiles,
+    input: &[u8],
+    takes: &[u64],
+    console_fails: Fails<'_>,
+    report_fails: Fails<'_>,
+) -> Result<Answer, NoMemory> {
+    let mut files = files;
     let mut input = MemSource::new(Bytes::from_slice(alloc, input)?, takes.to_vec(alloc)?);
     let mut console = MemSink::new(alloc, 4096, console_fails.to_vec(alloc)?)?;
     let mut report = MemSink::new(alloc, 65536, report_fails.to_vec(alloc)?)?;

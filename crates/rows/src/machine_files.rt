@@ -1,8 +1,9 @@
 // Machine files: several processes, their turns and slices, budgets and faults.
 
-use crate::command::{Answer, add_file, command};
+use crate::command::{Answer, add_file, command, command_over};
 use crate::hello::{HELLO, LINES, report_of};
 use o2_base::NoMemory;
+use o2_outer::MemFiles;
 use std::alloc::Global;
 use std::test::Fail;
 
@@ -20,6 +21,33 @@ fn run_parts(alloc: Global, parts: &[&str]) -> Result<Answer, NoMemory> {
     add_file(alloc, &mut files, b"a.toml", text.as_bytes())?;
     add_file(alloc, &mut files, b"hello.exe", &HELLO)?;
     command(alloc, &["run", "a.toml"], files, &[], &[], &[], &[])
+}
+
+/// `run` over a machine file and `hello.exe`, where this fetch, counted from 1, fails.
+fn run_without(alloc: Global, fetch: u64) -> Result<Answer, NoMemory> {
+    let mut text = String::new(alloc);
+    text.push_str(FRONT)?;
+    text.push_str("budget = 20\nquantum = 1\n")?;
+    text.push_str(PROCESS)?;
+    let mut files = Vec::new(alloc);
+    add_file(alloc, &mut files, b"a.toml", text.as_bytes())?;
+    add_file(alloc, &mut files, b"hello.exe", &HELLO)?;
+    let files = MemFiles::new(files, [fetch].to_vec(alloc)?);
+    command_over(alloc, &["run", "a.toml"], files, &[], &[], &[], &[])
+}
+
+#[test]
+fn a_fetch_fails(rt: HostRuntime) -> Result<(), Fail> {
+    // the machine file, and then the module
+    for fetch in 1..=2u64 {
+        let answer = run_without(rt.alloc(), fetch)?;
+        assert_eq!(rt; answer.status, 5, "without {fetch}");
+        assert_eq!(rt; answer.line.as_slice(), b"os2run: file fault\n".as_slice());
+        assert_eq!(rt; answer.report.taken(), b"".as_slice());
+        assert_eq!(rt; answer.console.taken(), b"".as_slice());
+    }
+    assert_eq!(rt; run_without(rt.alloc(), 3)?.status, 0);
+    Ok(())
 }
 
 /// The line of a budget.
