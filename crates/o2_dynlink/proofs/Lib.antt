@@ -5,3 +5,4 @@ pub mod Gathered
 pub mod Indexes
 pub mod Consistent
 pub mod ServiceSteps
+pub mod Leading

@@ -1,4 +1,5 @@
 pub mod Listed
+pub mod Leads
 pub mod Selectors
 pub mod Imports
 pub mod Reached

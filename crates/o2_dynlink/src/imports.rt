@@ -7,9 +7,10 @@ ghost use Rattle.o2_image.specs.Getters.{imported_name, nth, nth_list};
 ghost use Rattle.o2_image.specs.ImageList.{Exists};
 ghost use Rattle.o2_image.specs.Images.{Target};
 ghost use Rattle.o2_dynlink.specs.Imports.{each, exported, exported_as, gather, import_name, import_ordinal, import_text, imported, internal, target_in, targets_of};
+ghost use Rattle.o2_dynlink.specs.Leads.{lead_of};
 ghost use Rattle.o2_dynlink.specs.Selectors.{base_at};
 
-use crate::listed::{is_doscalls, library_named};
+use crate::leads::{Lead, lead_at, leads_of};
 use crate::refusals::{no_module, no_name, no_ordinal};
 use crate::selectors::{base_at, point};
 use crate::services::{import_service, import_service_called};
@@ -77,42 +78,44 @@ fn exported_as(
 }
 
 // An import by ordinal of the module of a name.
+#[tactic(auto, using(crate::proofs::Leading::library_exists))]
 fn import_ordinal(
     alloc: Global,
     scope: &Scope,
+    lead: Lead,
     name: &[u8],
     ordinal: u16,
 ) -> Result<(u16, u16), Fail<ModuleFault>>
+    requires lead { lead ≡ lead_of scope.now.modules.now name.now }
     requires few { length scope.now.modules.now ≤ 64 }
     requires same { length scope.now.bases.now ≡ length scope.now.modules.now }
     ensures { Gives (λ t. t) result (import_ordinal scope.now.modules.now scope.now.bases.now scope.now.ordinals.now name.now ordinal) }
 {
-    if is_doscalls(name) {
-        return import_service(alloc, scope.ordinals, ordinal);
-    }
-    match library_named(scope.modules, name) {
-        Some(place) => exported(alloc, scope, place, name, ordinal),
-        None => no_module(alloc, name),
+    match lead {
+        Lead::Services => import_service(alloc, scope.ordinals, ordinal),
+        Lead::Library(place) => exported(alloc, scope, place, name, ordinal),
+        Lead::Nowhere => no_module(alloc, name),
     }
 }
 
 // An import by name of the module of a name.
+#[tactic(auto, using(crate::proofs::Leading::library_exists))]
 fn import_name(
     alloc: Global,
     scope: &Scope,
+    lead: Lead,
     name: &[u8],
     text: &[u8],
 ) -> Result<(u16, u16), Fail<ModuleFault>>
+    requires lead { lead ≡ lead_of scope.now.modules.now name.now }
     requires few { length scope.now.modules.now ≤ 64 }
     requires same { length scope.now.bases.now ≡ length scope.now.modules.now }
     ensures { Gives (λ t. t) result (import_name scope.now.modules.now scope.now.bases.now name.now text.now) }
 {
-    if is_doscalls(name) {
-        return import_service_called(alloc, text);
-    }
-    match library_named(scope.modules, name) {
-        Some(place) => exported_as(alloc, scope, place, name, text),
-        None => no_module(alloc, name),
+    match lead {
+        Lead::Services => import_service_called(alloc, text),
+        Lead::Library(place) => exported_as(alloc, scope, place, name, text),
+        Lead::Nowhere => no_module(alloc, name),
     }
 }
 
@@ -135,15 +138,17 @@ fn import_text(
     alloc: Global,
     scope: &Scope,
     module: &Module,
+    lead: Lead,
     name: &[u8],
     at: u16,
 ) -> Result<(u16, u16), Fail<ModuleFault>>
+    requires lead { lead ≡ lead_of scope.now.modules.now name.now }
     requires few { length scope.now.modules.now ≤ 64 }
     requires same { length scope.now.bases.now ≡ length scope.now.modules.now }
     ensures { Gives (λ t. t) result (import_text scope.now.modules.now scope.now.bases.now name.now (imported_name «module».now at)) }
 {
     match module.imported(at) {
-        Some(text) => import_name(alloc, scope, name, text),
+        Some(text) => import_name(alloc, scope, lead, name, text),
         None => Ok((0, 0)),
     }
 }
@@ -153,8 +158,10 @@ fn imported(
     alloc: Global,
     scope: &Scope,
     module: &Module,
+    leads: &[Lead],
     reloc: &Reloc,
 ) -> Result<(u16, u16), Fail<ModuleFault>>
+    requires leads { leads.now ≡ map (lead_of scope.now.modules.now) «module».now.references }
     requires few { length scope.now.modules.now ≤ 64 }
     requires same { length scope.now.bases.now ≡ length scope.now.modules.now }
     ensures { Gives (λ t. t) result (imported scope.now.modules.now scope.now.bases.now scope.now.ordinals.now «module».now reloc.now (nth «module».now.references reloc.now.first)) }
@@ -162,10 +169,13 @@ fn imported(
     let Some(name) = module.reference(reloc.first) else {
         return Ok((0, 0));
     };
+    let Some(lead) = lead_at(leads, reloc.first) else {
+        return Ok((0, 0));
+    };
     if reloc.flags & 3 == 1 {
-        return import_ordinal(alloc, scope, name, reloc.second);
+        return import_ordinal(alloc, scope, lead, name, reloc.second);
     }
-    import_text(alloc, scope, module, name, reloc.second)
+    import_text(alloc, scope, module, lead, name, reloc.second)
 }
 
 // Where a record of a module with this base leads.
@@ -174,8 +184,10 @@ fn target_in(
     scope: &Scope,
     base: u16,
     module: &Module,
+    leads: &[Lead],
     reloc: &Reloc,
 ) -> Result<(u16, u16), Fail<ModuleFault>>
+    requires leads { leads.now ≡ map (lead_of scope.now.modules.now) «module».now.references }
     requires few { length scope.now.modules.now ≤ 64 }
     requires same { length scope.now.bases.now ≡ length scope.now.modules.now }
     ensures { Gives (λ t. t) result (target_in scope.now.modules.now scope.now.bases.now scope.now.ordinals.now base «module».now reloc.now) }
@@ -183,7 +195,7 @@ fn target_in(
     match reloc.flags & 3 {
         0 => Ok(internal(base, module, reloc)),
         3 => Ok((0, 0)),
-        _ => imported(alloc, scope, module, reloc),
+        _ => imported(alloc, scope, module, leads, reloc),
     }
 }
 
@@ -193,14 +205,16 @@ fn add_target(
     scope: &Scope,
     base: u16,
     module: &Module,
+    leads: &[Lead],
     reloc: &Reloc,
     found: &mut Vec<(u16, u16)>,
 ) -> Result<(), Fail<ModuleFault>>
+    requires leads { leads.now ≡ map (lead_of scope.now.modules.now) «module».now.references }
     requires few { length scope.now.modules.now ≤ 64 }
     requires same { length scope.now.bases.now ≡ length scope.now.modules.now }
     ensures { Gives (λ _. found.new.items) result (gather (target_in scope.now.modules.now scope.now.bases.now scope.now.ordinals.now base «module».now) reloc.now found.old.items) }
 {
-    let target = target_in(alloc, scope, base, module, reloc)?;
+    let target = target_in(alloc, scope, base, module, leads, reloc)?;
     found.push(target)?;
     Ok(())
 }
@@ -222,8 +236,10 @@ fn targets_in(
     scope: &Scope,
     base: u16,
     module: &Module,
+    leads: &[Lead],
     seg: u16,
 ) -> Result<Vec<(u16, u16)>, Fail<ModuleFault>>
+    requires leads { leads.now ≡ map (lead_of scope.now.modules.now) «module».now.references }
     requires few { length scope.now.modules.now ≤ 64 }
     requires same { length scope.now.bases.now ≡ length scope.now.modules.now }
     ensures { Gives (λ v. v.items) result (each (target_in scope.now.modules.now scope.now.bases.now scope.now.ordinals.now base «module».now) (nth_list «module».now.relocs seg)) }
@@ -231,7 +247,7 @@ fn targets_in(
     let mut found = Vec::new(alloc);
     for k in 0..module.segment_relocs(seg) {
         let reloc = record_at(module, seg, k);
-        add_target(alloc, scope, base, module, &reloc, &mut found)?;
+        add_target(alloc, scope, base, module, leads, &reloc, &mut found)?;
     }
     Ok(found)
 }
@@ -242,14 +258,16 @@ fn add_targets(
     scope: &Scope,
     base: u16,
     module: &Module,
+    leads: &[Lead],
     seg: u16,
     found: &mut Vec<Vec<(u16, u16)>>,
 ) -> Result<(), Fail<ModuleFault>>
+    requires leads { leads.now ≡ map (lead_of scope.now.modules.now) «module».now.references }
     requires few { length scope.now.modules.now ≤ 64 }
     requires same { length scope.now.bases.now ≡ length scope.now.modules.now }
     ensures { Gives (λ _. map (λ v. v.items) found.new.items) result (gather (each (target_in scope.now.modules.now scope.now.bases.now scope.now.ordinals.now base «module».now)) (nth_list «module».now.relocs seg) (map (λ v. v.items) found.old.items)) }
 {
-    let targets = targets_in(alloc, scope, base, module, seg)?;
+    let targets = targets_in(alloc, scope, base, module, leads, seg)?;
     found.push(targets)?;
     Ok(())
 }
@@ -265,10 +283,19 @@ pub(crate) fn targets_of(
     requires same { length scope.now.bases.now ≡ length scope.now.modules.now }
     ensures { Gives (λ v. map (λ t. t.items) v.items) result (targets_of scope.now.modules.now scope.now.bases.now scope.now.ordinals.now base «module».now) }
 {
+    let leads = leads_of(alloc, scope.modules, module)?;
     module.is_runnable();
     let mut found = Vec::new(alloc);
     for k in 0..module.segment_count() {
-        add_targets(alloc, scope, base, module, k + 1, &mut found)?;
+        add_targets(
+            alloc,
+            scope,
+            base,
+            module,
+            leads.as_slice(),
+            k + 1,
+            &mut found,
+        )?;
     }
     Ok(found)
 }

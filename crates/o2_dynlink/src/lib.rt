@@ -5,6 +5,7 @@ mod checks;
 mod environments;
 mod fault;
 mod imports;
+mod leads;
 mod linked;
 mod listed;
 mod reached;
