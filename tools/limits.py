@@ -1,0 +1,122 @@
+#!/usr/bin/env python3
+"""Writes segmented executables at the limits of the format, each with the parts that cost a reader most.
+
+usage: tools/limits.py KIND FILE [SIZE] [NUMBER]
+
+KIND is one of
+  names      a library with SIZE exported names of three bytes, which refers to itself by 65,535 imports by name
+  twice      SIZE names of one byte, as the resident and as the nonresident table at once
+  ordinals   SIZE segments that share the records of 65,535 imports by ordinal, of a module with a name of 255 bytes
+  shared     SIZE segments that share the records of 65,535 imports by name, over 8,000 names
+NUMBER makes the module's name another one, so that up to 64 of them can be listed together.
+"""
+import random
+import struct
+import sys
+
+MOST = 4_194_304
+NE = 64
+BYTES = [b for b in range(1, 256) if not 65 <= b <= 90 and b not in (10, 13)]
+
+
+def three(n):
+    """The n-th name of three bytes, none of which an ASCII fold changes."""
+    base = len(BYTES)
+    return bytes([BYTES[n % base], BYTES[n // base % base], BYTES[n // base // base]])
+
+
+def counted(text):
+    return bytes([len(text)]) + text
+
+
+def table(own, names):
+    """A name table: the module's name with ordinal 0, and the others, each with ordinal 1."""
+    rows = [counted(own) + b"\0\0"] + [counted(text) + b"\1\0" for text in names]
+    return b"".join(rows) + b"\0"
+
+
+def build(own, names, imported, records, segments, twice=False):
+    """A library: one entry at ordinal 1, `segments` segments over the same bytes and the same records, and a reference to
+    the first imported name."""
+    at = 64
+    parts = b""
+    places = {}
+    for name, content in (
+        ("segments", b""),
+        ("references", struct.pack("<H", 0)),
+        ("entries", bytes([1, 1, 1, 0, 0, 0])),
+    ):
+        places[name] = at + len(parts)
+        parts += b"\0" * (8 * segments) if name == "segments" else content
+    places["imported"] = at + len(parts)
+    texts = b"".join(counted(text) for text in imported)
+    resident = table(own, names)
+    places["resident"] = places["imported"] + len(texts)
+    parts += texts + resident
+    end = NE + at + len(parts)
+    shift = 9
+    start = (NE + at + len(parts) + 511) >> shift
+    row = struct.pack("<HHHH", start, 0, 0x101, 0)
+    parts = row * segments + parts[8 * segments:]
+    header = bytearray(64)
+    header[0:2] = b"NE"
+    words = {
+        4: places["entries"], 6: 6, 12: 0x8000, 28: segments, 30: 1, 34: places["segments"], 38: places["resident"],
+        40: places["references"], 42: places["imported"], 50: shift,
+    }
+    for offset, word in words.items():
+        struct.pack_into("<H", header, offset, word)
+    header[54] = 1
+    if twice:
+        struct.pack_into("<H", header, 32, 1)
+        struct.pack_into("<I", header, 44, NE + places["resident"] + len(own) + 3)
+    mz = bytearray(64)
+    mz[0:2] = b"MZ"
+    struct.pack_into("<I", mz, 60, NE)
+    file = bytes(mz) + bytes(header) + parts
+    file += b"\0" * ((start << shift) - end)
+    return file + b"\x90" * 65536 + struct.pack("<H", len(records)) + b"".join(records)
+
+
+def record(kind, place, second):
+    """An import of the first reference that patches one byte."""
+    return struct.pack("<BBHHH", 0, kind, place, 1, second)
+
+
+def make(kind, size, number):
+    own = b"LIB%02d" % number
+    if kind == "names":
+        names = [three(n) for n in range(size)]
+        random.Random(24).shuffle(names)
+        asked = names[-8000:]
+        starts = [1 + len(own) + 4 * k for k in range(len(asked))]
+        records = [record(2, place, starts[place % len(starts)]) for place in range(65535)]
+        return build(own, names, [own] + asked, records, 1)
+    if kind == "twice":
+        return build(own, [bytes([BYTES[n % len(BYTES)]]) for n in range(size)], [own], [], 1, twice=True)
+    if kind == "ordinals":
+        own = b"%02d" % number + b"L" * 253
+        return build(own, [], [own], [record(1, place, 1) for place in range(65535)], size)
+    names = [three(n) for n in range(8000)]
+    random.Random(24).shuffle(names)
+    starts = [1 + len(own) + 4 * k for k in range(len(names))]
+    records = [record(2, place, starts[place % len(starts)]) for place in range(65535)]
+    return build(own, names, [own] + names, records, size)
+
+
+DEFAULT = {"names": 590_000, "twice": 1_000_000, "ordinals": 254, "shared": 254}
+
+
+def main():
+    if len(sys.argv) < 3 or sys.argv[1] not in DEFAULT:
+        sys.exit(__doc__)
+    size = int(sys.argv[3]) if len(sys.argv) > 3 else DEFAULT[sys.argv[1]]
+    file = make(sys.argv[1], size, int(sys.argv[4]) if len(sys.argv) > 4 else 0)
+    if len(file) > MOST:
+        sys.exit(f"{len(file)} bytes are more than {MOST}")
+    with open(sys.argv[2], "wb") as out:
+        out.write(file)
+
+
+if __name__ == "__main__":
+    main()
