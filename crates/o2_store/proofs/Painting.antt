@@ -1,16 +1,16 @@
 -- The front of an image, byte by byte.
-use Rattle.std.proofs.Common.{◌≡◌, ℕ, zero, suc, ◌+◌, ◌<◌, ◌≤◌, ◌⊎◌, inl, inr, Bool, true, false, List, [], ◌∷◌, length, take, get_or, Option, Some, None, eqb, refl, sym, ap, ◌∙◌, subst, arith, if◌then◌else◌}
+use Rattle.std.proofs.Common.{◌≡◌, ℕ, zero, suc, ◌+◌, ◌<◌, ◌≤◌, Bool, true, false, List, [], length, take, get_or, Option, Some, None, eqb, sym, ap, ◌∙◌, arith, if◌then◌else◌}
 use Rattle.std.proofs.lemmas.List.{get_or-take}
 use Rattle.o2_ne.specs.Steps.{tabulate}
 use Rattle.o2_ne_segs.specs.declared.segment.Segment.{Segment}
 use Rattle.o2_ne_segs.specs.SegmentTable.{nth_segment}
 use Rattle.o2_image.specs.Getters.{nth, nth_list}
-use Rattle.o2_image.specs.Images.{Target, Patch, image, image_byte, image_in, segment_image, all_patches}
+use Rattle.o2_image.specs.Images.{Target, Patch, image, image_byte, image_in, all_patches}
 use Rattle.o2_image.specs.Records.{bytes_of}
 use Rattle.o2_image.specs.ImageList.{ImageList, Resolution, module_front, image_front}
 use Rattle.o2_image.specs.Parts.{Parts}
-use Rattle.o2_phys.specs.Bytes.{part, with_part}
-use Rattle.o2_phys.proofs.Parts.{get-with_part, get-with_part-before, get-with_part-after, length-with_part}
+use Rattle.o2_phys.specs.Bytes.{with_part}
+use Rattle.o2_phys.proofs.Parts.{get-with_part}
 use Rattle.o2_store.specs.Pictures.{picture}
 
 get-tabulate : (f : ℕ → ℕ) (i n j : ℕ) → j < n → get_or (tabulate f i n) j 0 ≡ f (i + j)

@@ -1,21 +1,19 @@
 -- Segments that move, and those that come in.
-use Rattle.std.proofs.Common.{◌≡◌, ◌≢◌, ◌⊎◌, inl, inr, ℕ, zero, suc, ◌+◌, ◌-◌, ◌*◌, ◌/◌, ◌%◌, ◌<◌, ◌≤◌, ◌^◌, List, [], ◌∷◌, length, get_or, set, Option, Some, None, is_some, IsSome, option_map, Bool, true, false, eqb, ltb, ◌&&◌, ◌||◌, IsTrue, refl, sym, ap, ◌∙◌, subst, arith, unwrap_or, if◌then◌else◌}
+use Rattle.std.proofs.Common.{◌≡◌, ◌≢◌, ◌⊎◌, inl, inr, ℕ, ◌+◌, ◌/◌, ◌%◌, ◌<◌, ◌≤◌, List, [], length, get_or, set, Option, Some, None, is_some, IsSome, option_map, Bool, true, false, eqb, ltb, ◌&&◌, IsTrue, refl, sym, ap, ◌∙◌, subst, arith, unwrap_or, if◌then◌else◌}
 use Rattle.std.proofs.lemmas.Bool.{cases_lt, cases_eq}
 use Rattle.std.proofs.lemmas.Bool.Decides.{nat_tests}
-use Rattle.std.specs.List.{list_any}
 use Rattle.o2_entries.specs.declared.Entry.{Entry}
 use Rattle.o2_entries.specs.Tables.{slot_at}
 use Rattle.o2_phys.specs.Bytes.{part}
 use Rattle.o2_phys.proofs.Parts.{length-part, get-part}
 use Rattle.o2_place.specs.declared.clock.Mark.{Mark}
-use Rattle.o2_place.specs.Layout.{Layout, find_in, Changes, over, used, len_of}
-use Rattle.o2_place.specs.Marks.{Turns, mark_of, no_mark, IsKept}
-use Rattle.o2_place.proofs.Sums.{over-same, over-le, over-add, over-only, only}
-use Rattle.o2_compact.specs.Parts.{KeepsParts, part_of}
+use Rattle.o2_place.specs.Layout.{Layout, find_in, Changes}
+use Rattle.o2_place.specs.Marks.{Turns, mark_of}
+use Rattle.o2_compact.specs.Parts.{KeepsParts}
 use Rattle.o2_swapmap.specs.Piles.{Blocks, blocks_of}
-use Rattle.o2_store.specs.Shelf.{Shelf, IsShelf, IsSegment, IsSegmentAt, entry, entry_or, place_of, rounded, blocks_for, Pictures, byte_at, byte_in, out_byte, source_byte, stored_byte, KeepsAll, SameEntry, SameTables, AreClean, IsMoved, base_of, Tells}
-use Rattle.o2_store.proofs.Tables.{Touches, IsShelf-touch, slot-past, place-same, place-other, marks_other, marks_same, marks_long, placed_at, sized_at, none_is_none}
-use Rattle.o2_store.proofs.Keeping.{same_entry, same_tables, keeps_trans, keeps_key, Leaves, same_at}
+use Rattle.o2_store.specs.Shelf.{Shelf, IsShelf, entry, place_of, rounded, Pictures, byte_in, out_byte, source_byte, KeepsAll, AreClean, IsMoved, base_of}
+use Rattle.o2_store.proofs.Tables.{Touches, IsShelf-touch, place-same, place-other, marks_other, marks_same, marks_long, placed_at, none_is_none}
+use Rattle.o2_store.proofs.Keeping.{same_entry, keeps_trans, same_at}
 
 -- a range that has moved
 moved_part : (old new : List ℕ) (a l : ℕ) (o : Option (ℕ × ℕ)) → option_map (λ (r : ℕ × ℕ). part new r.0 r.1) o ≡ Some (part old a l) → ((x y : ℕ) → o ≡ Some (x, y) → x + y ≤ length new) → a + l ≤ length old

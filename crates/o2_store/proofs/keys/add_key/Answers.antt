@@ -1,6 +1,6 @@
-use Rattle.std.proofs.Common.{◌≡◌, ◌<◌, arith, rules, length, true, false, nat_eq, sym, ◌∙◌, is_some, ap}
+use Rattle.std.proofs.Common.{◌≡◌, arith, length, true, false, nat_eq, sym, ◌∙◌}
 use Rattle.std.specs.List.{list_any}
-use Rattle.o2_store.specs.Needs.{has, all_need}
+use Rattle.o2_store.specs.Needs.{has}
 use Rattle.o2_store.proofs.Tables.{within_at}
 use Rattle.o2_store.proofs.Collecting.{pushed, has_room, flip, has-push, has-same, need-push}
 use Rattle.o2_store.proofs.keys.add_key.Goals as goal

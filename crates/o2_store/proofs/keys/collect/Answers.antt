@@ -1,5 +1,5 @@
-use Rattle.std.proofs.Common.{◌≡◌, ◌+◌, ◌||◌, ℕ, [], length, arith, rules, ap, ◌∙◌, sym, nat_eq, false, take}
-use Rattle.o2_store.specs.Needs.{AreKeys, all_need, has}
+use Rattle.std.proofs.Common.{◌≡◌, length, arith, rules, ap, ◌∙◌, sym}
+use Rattle.o2_store.specs.Needs.{all_need}
 use Rattle.o2_store.proofs.Collecting.{empty_keys, need-none, need_bound, any-more}
 use Rattle.o2_store.proofs.keys.collect.Goals as goal
 

@@ -1,6 +1,5 @@
-use Rattle.std.proofs.Common.{◌≡◌, ◌||◌, ℕ, length, nat_eq, take, IsSome}
+use Rattle.std.proofs.Common.{◌≡◌, ◌||◌, ℕ, length, nat_eq, take}
 use Rattle.std.specs.Vec.{vec_capacity}
-use Rattle.o2_entries.specs.Tables.{slot_at}
 use Rattle.o2_store.specs.Needs.{AreKeys, all_need, has, named_in}
 use Rattle.o2_store.proofs.keys.collect.Given as goal
 

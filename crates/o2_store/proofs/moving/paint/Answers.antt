@@ -1,7 +1,7 @@
-use Rattle.std.proofs.Common.{◌≡◌, ℕ, ◌<◌, length, ap, ◌∙◌, sym, get_or}
+use Rattle.std.proofs.Common.{◌≡◌, length, ap, ◌∙◌, get_or}
 use Rattle.o2_phys.proofs.Parts.{length-part}
 use Rattle.o2_image.specs.ImageList.{image_front}
-use Rattle.o2_store.specs.Pictures.{HasPicture, picture}
+use Rattle.o2_store.specs.Pictures.{HasPicture}
 use Rattle.o2_store.proofs.Painting.{front_at, painted_at}
 use Rattle.o2_store.proofs.moving.paint.Goals as goal
 

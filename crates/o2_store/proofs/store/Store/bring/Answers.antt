@@ -1,4 +1,4 @@
-use Rattle.std.proofs.Common.{◌≡◌, ◌<◌, sym, subst, ap, ◌∙◌, arith, rules, ◌+◌, ◌≤◌, IsSome}
+use Rattle.std.proofs.Common.{◌≡◌, sym, subst, ap, arith, rules, ◌+◌, ◌≤◌, IsSome}
 use Rattle.o2_place.specs.Layout.{used}
 use Rattle.o2_store.specs.Pictures.{picture}
 use Rattle.o2_store.specs.Shelf.{Shelf, SameTables, place_of, entry, rounded}

@@ -1,10 +1,8 @@
-use Rattle.std.proofs.Common.{◌≡◌, ◌<◌, ◌≤◌, ◌+◌, ℕ, length, sym, subst, ap, ◌∙◌, Some, None, is_some, IsSome, IsTrue, arith, rules, true}
+use Rattle.std.proofs.Common.{◌≡◌, ◌<◌, ◌≤◌, ◌+◌, length, ap, ◌∙◌, None, is_some, arith, rules, true}
 use Rattle.o2_place.specs.Layout.{used}
 use Rattle.o2_store.specs.Pictures.{picture}
 use Rattle.o2_store.specs.Needs.{has, all_need}
-use Rattle.o2_store.specs.Shelf.{Shelf, KeepsAll, place_of, entry, rounded}
-use Rattle.o2_store.specs.declared.brought.Brought.{Brought}
-use Rattle.o2_store.specs.declared.brought.Brought.TheVariants.{NoRoom, Here}
+use Rattle.o2_store.specs.Shelf.{Shelf, place_of, entry, rounded}
 use Rattle.o2_store.proofs.Tables.{within_at}
 use Rattle.o2_store.proofs.Collecting.{kept_has, need_exceeds, same_need}
 use Rattle.o2_store.proofs.store.Store.bring_key.Goals as goal

@@ -1,6 +1,6 @@
-use Rattle.std.proofs.Common.{◌≡◌, ◌∙◌, sym, subst, Bool, rules, arith, ap}
+use Rattle.std.proofs.Common.{◌∙◌, subst, Bool, rules, arith, ap}
 use Rattle.o2_place.specs.Layout.{used}
-use Rattle.o2_store.specs.Shelf.{Shelf, KeepsAll, AreClean}
+use Rattle.o2_store.specs.Shelf.{Shelf, KeepsAll}
 use Rattle.o2_store.proofs.Keeping.{keeps_trans, tables_trans}
 use Rattle.o2_store.proofs.store.Store.evict_until.Goals as goal
 

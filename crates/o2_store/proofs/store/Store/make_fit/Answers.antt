@@ -1,5 +1,4 @@
-use Rattle.std.proofs.Common.{◌≡◌, ap, ◌∙◌, sym, arith}
-use Rattle.o2_store.specs.Shelf.{Shelf, IsMoved, IsShelf}
+use Rattle.o2_store.specs.Shelf.{Shelf}
 use Rattle.o2_store.proofs.Shifts.{moved_is, IsShelf-moved}
 use Rattle.o2_store.proofs.store.Store.make_fit.Goals as goal
 

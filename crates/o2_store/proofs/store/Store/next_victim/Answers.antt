@@ -1,5 +1,3 @@
-use Rattle.std.proofs.Common.{◌≡◌, ◌<◌, ℕ, length, ap, Option, Some, None}
-use Rattle.std.specs.Option.{IfSome, IfNone}
 use Rattle.o2_place.proofs.MarkLemmas.{some_weaker, none_weaker}
 use Rattle.o2_store.specs.Shelf.{Shelf}
 use Rattle.o2_store.proofs.Keeping.{present_yes, present_is, placed_below}

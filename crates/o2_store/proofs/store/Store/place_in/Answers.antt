@@ -1,6 +1,6 @@
-use Rattle.std.proofs.Common.{◌≡◌, ◌<◌, ◌+◌, ℕ, inl, inr, length, sym, subst, ap, ◌∙◌, Some, None, is_some, IsSome, IsTrue, arith, get_or, true}
+use Rattle.std.proofs.Common.{inl, inr, sym, ap, ◌∙◌, is_some, IsSome}
 use Rattle.o2_store.specs.Pictures.{picture}
-use Rattle.o2_store.specs.Shelf.{Shelf, KeepsAll, place_of, entry, entry_or, rounded, out_byte}
+use Rattle.o2_store.specs.Shelf.{Shelf, entry}
 use Rattle.o2_store.proofs.Keeping.{keeps_trans}
 use Rattle.o2_store.proofs.Shifts.{keeps_filled, clean_filled, others_in, others_moved, read_there, out_told, out_pictured}
 use Rattle.o2_store.proofs.store.Store.place_in.Goals as goal

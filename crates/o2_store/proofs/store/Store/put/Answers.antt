@@ -1,5 +1,5 @@
-use Rattle.std.proofs.Common.{◌≡◌, ◌+◌, ◌≤◌, length, sym, Some}
-use Rattle.o2_store.specs.Shelf.{Shelf, IsShelf, place_of, entry_of, base_of}
+use Rattle.std.proofs.Common.{length, sym}
+use Rattle.o2_store.specs.Shelf.{Shelf, entry_of}
 use Rattle.o2_store.proofs.Shifts.{put_fits}
 use Rattle.o2_store.proofs.store.Store.put.Goals as goal
 

@@ -1,7 +1,7 @@
-use Rattle.std.proofs.Common.{◌≡◌, ◌+◌, ◌≤◌, length, sym, ap, ◌∙◌, Some, option_map, arith, rules}
+use Rattle.std.proofs.Common.{◌≡◌, ◌+◌, ◌≤◌, length, sym, ap, ◌∙◌, Some, option_map, rules}
 use Rattle.o2_entries.specs.declared.Entry.{Entry}
 use Rattle.o2_phys.proofs.Parts.{length-part}
-use Rattle.o2_store.specs.Shelf.{Shelf, entry_of}
+use Rattle.o2_store.specs.Shelf.{entry_of}
 use Rattle.o2_store.proofs.store.Store.window_mut.Goals as goal
 
 pub returns-in-Some-clause-size : goal.returns-in-Some-clause-size
