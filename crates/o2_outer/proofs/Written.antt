@@ -1,5 +1,5 @@
 -- What a writer of the standard library does, as a sink sees it.
-use Rattle.std.proofs.Common.{List, ℕ, [], ◌+◌, ◌++◌, ◌≡◌, Option, Some, None, ap, sym, ◌∙◌, append-nil, take, drop, take-add, take_all, subst, unwrap_or, take-append-drop, length}
+use Rattle.std.proofs.Common.{List, ℕ, [], ◌+◌, ◌++◌, ◌≡◌, Option, Some, None, ap, sym, ◌∙◌, append-nil, take, drop, take-add, subst, unwrap_or, take-append-drop}
 use Rattle.std.specs.Io.KnownBytes.{Appends, Keeps}
 use Rattle.o2_outer.specs.declared.sink.Put.TheVariants as put
 use Rattle.o2_outer.specs.Texts.{Gains, GainsSome, IsPrefix}

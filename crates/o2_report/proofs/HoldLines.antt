@@ -1,10 +1,9 @@
 -- The lines of a row of holds, as far as a loop has come.
-use Rattle.std.proofs.Common.{◌≡◌, ℕ, ◌+◌, ◌<◌, List, [], ◌∷◌, ◌++◌, length, take, drop, get_or, arith, ap, sym, ◌∙◌, append_assoc}
+use Rattle.std.proofs.Common.{◌≡◌, ℕ, ◌+◌, ◌<◌, List, ◌++◌, length, take, drop, get_or, arith, ap, sym, ◌∙◌, append_assoc}
 use Rattle.std.proofs.lemmas.Grind.{common_steps}
 use Rattle.std.proofs.lemmas.List.{take-append-drop}
-use Rattle.std.specs.Prelude.{codes, map}
-use Rattle.std.proofs.lemmas.Grind.{flat_map-append}
-use Rattle.o2_world.specs.World.{Line, HoldsBy}
+use Rattle.std.specs.Prelude.{codes}
+use Rattle.o2_world.specs.World.{HoldsBy}
 use Rattle.o2_world.specs.Text.{line_text, lines_text}
 use Rattle.o2_world.specs.Opening.{hold_lines}
 

@@ -1,23 +1,21 @@
 -- The changes of a call that makes a segment are fit.
-use Rattle.std.proofs.Common.{◌≡◌, ◌≢◌, ◌⊎◌, inl, inr, ℕ, zero, suc, ◌+◌, ◌-◌, ◌<◌, ◌≤◌, ◌==◌, ◌/◌, ◌%◌, not, nat_le, ◌&&◌, ◌||◌, Bool, true, false, List, [], ◌∷◌, length, replicate, Option, Some, None, if◌then◌else◌, ap, sym, ◌∙◌, refl, arith, subst, slice_set}
-use Rattle.std.specs.Prelude.{slice_get, is_some}
-use Rattle.std.specs.List.{list_any}
+use Rattle.std.proofs.Common.{◌≡◌, ◌≢◌, ◌⊎◌, inl, inr, ℕ, zero, suc, ◌<◌, ◌≤◌, ◌==◌, ◌/◌, nat_le, ◌&&◌, ◌||◌, Bool, true, false, List, [], ◌∷◌, Option, Some, None, if◌then◌else◌, ap, sym, ◌∙◌, refl, arith, subst}
+use Rattle.std.specs.Prelude.{is_some}
 use Rattle.o2_isa.specs.declared.cpu.Cpu.{Cpu}
-use Rattle.o2_isa.specs.View.{is_null, is_local, is_code, is_readable, is_writable}
+use Rattle.o2_isa.specs.View.{is_null, is_local, is_readable}
 use Rattle.o2_conf.specs.Dispatch.{Dispatch}
-use Rattle.o2_world.specs.Map.{Map, get, put}
-use Rattle.o2_world.specs.World.{World, Setting, Process, Segment, Held, is_live}
+use Rattle.o2_world.specs.Map.{get}
+use Rattle.o2_world.specs.World.{World, Process, Segment, Held, is_live}
 use Rattle.o2_world.specs.Holders.{process_at}
 use Rattle.o2_world.specs.Views.{with_bytes}
-use Rattle.o2_world.specs.Changes.{Change, Makes, Holds, Drops, takes, with_change, with_changes}
-use Rattle.o2_world.specs.Known.{Known, taken_in, holds_index}
+use Rattle.o2_world.specs.Changes.{Makes, Holds, with_change}
+use Rattle.o2_world.specs.Known.{taken_in, holds_index}
 use Rattle.o2_world.specs.Calls.{Before, Effect, returned}
 use Rattle.o2_world.specs.SegmentCalls.{full_size, made_segment, held_by_call, is_index, in_use, is_last, is_gone, freed_cpu}
-use Rattle.o2_world.specs.Sound.{held_of, held_in, NamesHeld, HasGoodRegisters}
+use Rattle.o2_world.specs.Sound.{held_in, NamesHeld, HasGoodRegisters}
 use Rattle.o2_world.specs.Run.{worked, working}
-use Rattle.o2_world.specs.Tied.{HasSize, AreOne, IsTied, IsUnnamed, IsFitHold, IsFitDrop, AreFitChanges}
-use Rattle.o2_world.proofs.Keeps.{at_other}
-use Rattle.o2_world.proofs.MapLemmas.{if_yes, if_no}
+use Rattle.o2_world.specs.Tied.{HasSize, IsUnnamed, IsFitHold, IsFitDrop, AreFitChanges}
+use Rattle.o2_world.proofs.MapLemmas.{if_yes}
 use Rattle.o2_world.proofs.StepReach.{same_at, own_at}
 use Rattle.o2_world.proofs.TiedChanges.{zeros_length}
 

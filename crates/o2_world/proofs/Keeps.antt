@@ -2,18 +2,16 @@
 use Rattle.std.proofs.Common.{◌≡◌, ◌≢◌, ℕ, zero, suc, ◌+◌, ◌-◌, ◌<◌, Bool, true, false, List, [], ◌∷◌, Option, Some, None, ap, sym, ◌∙◌, refl, arith, if◌then◌else◌, ◌||◌, ◌==◌, slice_set, subst}
 use Rattle.std.specs.Prelude.{is_some, slice_get, option_map}
 use Rattle.o2_world.specs.Map.{Map, get}
-use Rattle.o2_world.specs.World.{World, Setting, Process, Segment, Held, is_live}
+use Rattle.o2_world.specs.World.{World, Setting, Process, Segment, Held}
 use Rattle.o2_conf.specs.Dispatch.{Dispatch}
-use Rattle.o2_world.specs.Holders.{names_it, holds_name, is_held, kept, process_at, with_process}
+use Rattle.o2_world.specs.Holders.{names_it, holds_name, is_held, process_at, with_process}
 use Rattle.o2_world.specs.Views.{with_bytes}
-use Rattle.o2_world.specs.Calls.{Effect}
 use Rattle.o2_world.specs.Effect.{effect}
-use Rattle.o2_world.specs.Run.{process_after, names_after, before, changed, plainly, acted, step, chosen_step, is_over, next_dispatch}
-use Rattle.o2_world.specs.Sound.{HasGoodRegisters, held_in}
-use Rattle.o2_world.proofs.MapLemmas.{get-filter, get-map, found_any, if_yes}
+use Rattle.o2_world.specs.Run.{before, plainly, acted, step, chosen_step, is_over, next_dispatch}
+use Rattle.o2_world.specs.Sound.{held_in}
+use Rattle.o2_world.proofs.MapLemmas.{get-map, found_any, if_yes}
 use Rattle.o2_world.proofs.Numbers.{number_some, at_place_of, with_is}
 use Rattle.o2_world.proofs.Quiet.{changed_plain, effect_quiet}
-use Rattle.o2_world.proofs.GoodRegisters.{good_after, effect_ruled, ended_effect}
 
 is_some-map : {X : Type 0} (f : X → X) (o : Option X) → is_some (option_map f o) ≡ is_some o
 is_some-map f None = refl

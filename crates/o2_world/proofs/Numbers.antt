@@ -1,10 +1,10 @@
 -- Processes by their numbers, against their places.
-use Rattle.std.proofs.Common.{◌≡◌, ◌≢◌, ℕ, zero, suc, ◌+◌, ◌-◌, ◌<◌, ◌==◌, Bool, true, false, List, [], ◌∷◌, Option, Some, None, if◌then◌else◌, ap, sym, ◌∙◌, refl, arith, subst, slice_set}
+use Rattle.std.proofs.Common.{◌≡◌, ℕ, ◌-◌, ◌<◌, ◌==◌, Bool, true, false, List, Some, None, if◌then◌else◌, refl, arith, slice_set}
 use Rattle.std.specs.Prelude.{slice_get}
 use Rattle.o2_world.specs.World.{Process}
 use Rattle.o2_world.specs.Holders.{process_at, with_process}
 use Rattle.o2_world.specs.Changes.{at_place, at_number}
-use Rattle.o2_world.proofs.MapLemmas.{if_yes, if_no}
+use Rattle.o2_world.proofs.MapLemmas.{if_no}
 
 above_zero : (n : ℕ) → (n == 0) ≡ false → 0 < n
 above_zero n e = grind arith

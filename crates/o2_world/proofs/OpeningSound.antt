@@ -8,12 +8,11 @@ use Rattle.o2_base.specs.declared.faults.ModuleFault.{ModuleFault}
 use Rattle.o2_base.specs.declared.faults.ModuleFault.TheVariants.{NoStack, NoEntry, NoSegment}
 use Rattle.o2_isa.specs.View.{is_code, is_readable, is_writable, is_null, is_local}
 use Rattle.o2_world.specs.declared.types.Made.{Made}
-use Rattle.o2_world.specs.declared.types.State.TheVariants.{Live}
 use Rattle.o2_world.specs.Map.{Map, get}
-use Rattle.o2_world.specs.World.{World, Setting, Process, Segment, Held, Reserve, is_live}
+use Rattle.o2_world.specs.World.{World, Process, Segment, Held, is_live}
 use Rattle.o2_world.specs.Holders.{holds_name, is_held}
 use Rattle.o2_world.specs.Opening.{selector_of, held_by_load}
-use Rattle.o2_world.specs.Starts.{Loaded, LoadedSegment, Start, Holding, Built, holdings, nth_loaded, image_size, stack_number, data_selector, first_cpu, first_process, is_stack, is_entry, start_check, nothing_built, segment_of, name_in, made_with, holds_as, with_holding, with_holdings, with_started, within_names, where_checked, next_started, all_started, where_started, world_of}
+use Rattle.o2_world.specs.Starts.{Loaded, LoadedSegment, Start, Holding, Built, holdings, nth_loaded, image_size, stack_number, data_selector, first_cpu, first_process, is_stack, is_entry, start_check, nothing_built, segment_of, name_in, made_with, holds_as, with_holding, with_holdings, with_started, within_names, where_checked, next_started, where_started, world_of}
 use Rattle.o2_world.specs.Sound.{HasGoodRegisters, NamesHeld, has_rights, held_in}
 use Rattle.o2_world.specs.FitStarts.{IsFit}
 use Rattle.o2_world.proofs.Holding.{under}

@@ -1,19 +1,18 @@
 -- The names of an opening: their sizes, their marks, and who may write them.
-use Rattle.std.proofs.Common.{◌≡◌, ◌⊎◌, ℕ, zero, suc, ◌+◌, ◌<◌, ◌≤◌, Bool, true, false, cond, not, ◌==◌, ◌&&◌, List, [], ◌∷◌, ◌++◌, length, Option, Some, None, ap, sym, ◌∙◌, refl, arith, subst, inl, inr}
-use Rattle.std.specs.Prelude.{is_some, slice_get, Result, Ok, Err}
+use Rattle.std.proofs.Common.{◌≡◌, ◌⊎◌, ℕ, ◌+◌, ◌<◌, Bool, true, false, cond, not, ◌==◌, ◌&&◌, List, [], ◌∷◌, ◌++◌, length, Option, Some, None, ap, sym, ◌∙◌, refl, arith, subst, inl, inr}
+use Rattle.std.specs.Prelude.{is_some}
 use Rattle.std.specs.List.{AllByRecursion}
-use Rattle.o2_base.specs.declared.faults.ModuleFault.{ModuleFault}
 use Rattle.o2_isa.specs.View.{is_writable}
 use Rattle.o2_world.specs.declared.types.Made.{Made}
 use Rattle.o2_world.specs.Map.{Map, get}
-use Rattle.o2_world.specs.World.{World, Process, Segment, Held, ByLoad}
+use Rattle.o2_world.specs.World.{Segment, Held, ByLoad}
 use Rattle.o2_world.specs.Opening.{held_by_load}
-use Rattle.o2_world.specs.Starts.{Loaded, Start, Holding, Built, holdings, first_cpu, start_check, nothing_built, segment_of, name_in, made_with, named, holds, holds_as, with_holding, with_holdings, with_started}
+use Rattle.o2_world.specs.Starts.{Loaded, Start, Holding, Built, holdings, nothing_built, segment_of, name_in, made_with, named, holds, holds_as, with_holding, with_holdings, with_started}
 use Rattle.o2_world.specs.Sound.{held_in}
 use Rattle.o2_world.specs.Tied.{HasSize}
 use Rattle.o2_world.specs.FitStarts.{rights_at, IsWhole, IsOf}
 use Rattle.o2_world.proofs.Keeps.{some_is}
-use Rattle.o2_world.proofs.OpeningSound.{equal, made_more, behind, either_of, Keeps}
+use Rattle.o2_world.proofs.OpeningSound.{equal, behind, either_of, Keeps}
 
 -- under a live name that it may write only where the name isn't clean
 pub record IsGood (names : Map Segment) (h : Held) : Type 0 where

@@ -1,17 +1,14 @@
 -- The lines of the starts tell what is held before the first step.
-use Rattle.std.proofs.Common.{◌≡◌, ◌⊎◌, ℕ, zero, suc, ◌+◌, ◌*◌, ◌-◌, ◌<◌, ◌≤◌, Bool, true, false, cond, ◌==◌, ◌&&◌, ◌||◌, List, [], ◌∷◌, ◌++◌, length, map, if◌then◌else◌, Option, Some, None, ap, sym, ◌∙◌, refl, arith, subst, inl, inr, length-append}
-use Rattle.std.specs.Prelude.{is_some, slice_get, codes, Result, Ok, Err}
+use Rattle.std.proofs.Common.{◌≡◌, ℕ, zero, suc, ◌+◌, ◌-◌, ◌<◌, Bool, true, false, cond, ◌==◌, ◌&&◌, ◌||◌, List, [], ◌∷◌, ◌++◌, length, if◌then◌else◌, Option, Some, None, ap, sym, ◌∙◌, refl, arith}
 use Rattle.std.proofs.lemmas.Map.Keys.{IsDistinct-tail}
-use Rattle.o2_base.specs.declared.faults.ModuleFault.{ModuleFault}
-use Rattle.o2_world.specs.declared.types.State.TheVariants.{Live}
 use Rattle.o2_world.specs.Map.{Map, get}
-use Rattle.o2_world.specs.World.{World, Process, Held, Line, Starts, HoldsBy}
+use Rattle.o2_world.specs.World.{Process, Held, Line}
 use Rattle.o2_world.specs.Opening.{selector_of, held_by_load, hold_lines, start_lines}
-use Rattle.o2_world.specs.Starts.{Loaded, Start, Holding, Built, holdings, first_cpu, first_process, start_check, nothing_built, name_in, holds_as, with_holding, with_holdings, with_started}
-use Rattle.o2_world.specs.Sound.{held_of, held_in}
+use Rattle.o2_world.specs.Starts.{Start, Holding, Built, holdings, first_process, nothing_built, name_in, holds_as, with_holding, with_holdings, with_started}
+use Rattle.o2_world.specs.Sound.{held_in}
 use Rattle.o2_world.specs.Reach.{is_pair, one_if, came, went, tells_end, holds_of}
 use Rattle.o2_world.proofs.HoldingMaps.{indexes_of, AreApart}
-use Rattle.o2_world.proofs.OpeningSound.{AreFree, free_head, free_tail, free_at_first, apart, IsBetween, IsFitProgram, Keeps}
+use Rattle.o2_world.proofs.OpeningSound.{AreFree, free_head, free_tail, free_at_first, apart, IsFitProgram, Keeps}
 use Rattle.o2_world.proofs.Reached.{came_append, went_append, selector_is}
 use Rattle.o2_world.proofs.RunReach.{end_append}
 

@@ -1,13 +1,13 @@
 -- The world before the first step is sound, and told by its lines.
-use Rattle.std.proofs.Common.{◌≡◌, ◌⊎◌, ℕ, ◌-◌, ◌<◌, Bool, true, false, List, [], ◌∷◌, map, Option, Some, None, if◌then◌else◌, ap, sym, ◌∙◌, refl, inr, arith}
-use Rattle.std.specs.Prelude.{slice_get, Result, Ok, Err}
+use Rattle.std.proofs.Common.{◌≡◌, ℕ, Bool, true, false, List, [], ◌∷◌, map, refl, inr, arith}
+use Rattle.std.specs.Prelude.{Result, Ok, Err}
 use Rattle.o2_base.specs.declared.faults.ModuleFault.{ModuleFault}
 use Rattle.o2_world.specs.World.{World, Setting, Process, is_live}
 use Rattle.o2_world.specs.Opening.{selector_of}
 use Rattle.o2_world.specs.Starts.{Loaded, Start, Built, nothing_built, all_started, for_the_run, world_of, opening_of}
 use Rattle.o2_world.specs.FitStarts.{AreFit, AreOf}
 use Rattle.o2_world.specs.Tied.{IsSound, AreUsed}
-use Rattle.o2_world.specs.Reach.{IsTold, came, went, holds_at}
+use Rattle.o2_world.specs.Reach.{IsTold}
 use Rattle.o2_world.proofs.Reached.{number_holds}
 use Rattle.o2_world.proofs.OpeningSound.{IsBetween, between_first, between_kept, named_between, IsFitProgram, SoFar, all_so_far, opened}
 use Rattle.o2_world.proofs.OpeningTied.{Ties, ties_first, ties_kept}

@@ -1,5 +1,5 @@
 -- A step that changes nothing but bytes.
-use Rattle.std.proofs.Common.{◌≡◌, ℕ, zero, suc, ◌-◌, Bool, true, false, cond, if◌then◌else◌, ◌==◌, ◌&&◌, List, [], ◌∷◌, ◌++◌, Option, Some, None, ap, sym, ◌∙◌, refl, length, slice_set}
+use Rattle.std.proofs.Common.{◌≡◌, ℕ, zero, suc, ◌-◌, Bool, true, false, cond, if◌then◌else◌, ◌==◌, ◌&&◌, List, [], ◌∷◌, Option, Some, None, ap, refl, length, slice_set}
 use Rattle.std.specs.Prelude.{Result, Ok, Err}
 use Rattle.o2_isa.specs.declared.cpu.Stop.{Stop}
 use Rattle.o2_isa.specs.declared.cpu.Stop.TheVariants as stop
@@ -9,12 +9,11 @@ use Rattle.o2_conf.specs.Dispatch.{Dispatch}
 use Rattle.o2_world.specs.declared.types.Argument.{Argument}
 use Rattle.o2_world.specs.declared.types.Row.{Row}
 use Rattle.o2_world.specs.declared.types.Row.TheVariants.{DosExit, DosGetPid, DosRead, DosWrite, DosMemAvail}
-use Rattle.o2_world.specs.Map.{Map}
-use Rattle.o2_world.specs.World.{World, Process, Held, is_live}
+use Rattle.o2_world.specs.World.{World, Process, is_live}
 use Rattle.o2_world.specs.Holders.{with_process}
-use Rattle.o2_world.specs.Changes.{Change, Finishes, at_place, at_number, with_all, with_changes, swept}
-use Rattle.o2_world.specs.Calls.{Before, Effect, trapped, returned, argument, has_arguments, may_read, may_write, is_console, written, dos_write, dos_exit, told_at, told, may_take, read_from, dos_read, row_of, served_by}
-use Rattle.o2_world.specs.Effect.{has_trap_flag, answered, single_stepped, effect}
+use Rattle.o2_world.specs.Changes.{at_place, at_number, with_changes, swept}
+use Rattle.o2_world.specs.Calls.{Before, Effect, argument, has_arguments, may_read, may_write, is_console, dos_write, dos_exit, told, may_take, dos_read, row_of, served_by}
+use Rattle.o2_world.specs.Effect.{has_trap_flag, answered, effect}
 use Rattle.o2_world.specs.Run.{changed, plainly, worked}
 
 set_then : {X : Type 0} (xs : List X) (i : ℕ) (x : X) (f : X → X) → at_place i f (slice_set xs i x) ≡ slice_set xs i (f x)

@@ -1,13 +1,13 @@
 -- The lines of a step's changes tell its holds.
-use Rattle.std.proofs.Common.{◌≡◌, ℕ, zero, suc, ◌+◌, ◌-◌, ◌*◌, ◌<◌, ◌≤◌, Bool, true, false, not, ◌==◌, ◌&&◌, nat_le, nat_lt, List, [], ◌∷◌, ◌++◌, length, Option, Some, None, if◌then◌else◌, ap, sym, ◌∙◌, refl, arith, subst, replicate, slice_set}
+use Rattle.std.proofs.Common.{◌≡◌, ℕ, zero, suc, ◌+◌, ◌-◌, ◌<◌, Bool, true, false, not, ◌==◌, ◌&&◌, nat_le, nat_lt, List, [], ◌∷◌, ◌++◌, length, Option, Some, None, if◌then◌else◌, ap, sym, ◌∙◌, refl, arith, replicate, slice_set}
 use Rattle.std.specs.Prelude.{slice_get, option_map, flat_map}
 use Rattle.std.specs.List.{list_any}
 use Rattle.o2_world.specs.Map.{Map, get, put}
-use Rattle.o2_world.specs.World.{World, Process, Segment, Held, Line, HoldsBy, DropsBy}
+use Rattle.o2_world.specs.World.{World, Process, Held, Line, HoldsBy, DropsBy}
 use Rattle.o2_world.specs.Changes.{Change, Makes, Resizes, Locks, Marks, Holds, Drops, Finishes, Reserves, Frees, Names, more, fewer, fewer_of, at_place, at_number, with_change, with_changes, with_all, takes, key_of, among, in_order, hold_lines_of, drop_lines_of, moved_lines}
 use Rattle.o2_world.specs.Sound.{held_of, held_in}
 use Rattle.o2_world.specs.Opening.{selector_of}
-use Rattle.o2_world.specs.Reach.{is_pair, one_if, comes, goes, came, went, holds_of, holds_at, IsThere, CanTell, CanTellAll}
+use Rattle.o2_world.specs.Reach.{one_if, comes, goes, came, went, holds_of, holds_at, IsThere, CanTell, CanTellAll}
 use Rattle.o2_world.proofs.MapLemmas.{get-filter, none_there, if_yes, if_no}
 use Rattle.o2_world.proofs.Numbers.{not_zero, changed_is}
 

@@ -1,12 +1,12 @@
 -- No step of today changes the size of a segment.
-use Rattle.std.proofs.Common.{◌≡◌, ℕ, zero, suc, ◌+◌, ◌-◌, ◌≤◌, ◌<◌, ◌/◌, ◌%◌, ◌==◌, ◌&&◌, ◌||◌, nat_le, Bool, true, false, cond, List, [], ◌∷◌, ◌++◌, length, take, drop, Option, Some, None, if◌then◌else◌, ap, sym, ◌∙◌, refl, arith, subst}
+use Rattle.std.proofs.Common.{◌≡◌, ℕ, ◌+◌, ◌≤◌, ◌==◌, ◌&&◌, ◌||◌, nat_le, Bool, true, false, cond, List, [], ◌∷◌, ◌++◌, length, take, Option, Some, None, if◌then◌else◌, ap, sym, ◌∙◌, refl, arith, subst}
 use Rattle.std.specs.Prelude.{Result, Ok, Err}
 use Rattle.std.proofs.lemmas.Grind.{common_steps}
 use Rattle.o2_isa.specs.declared.cpu.Cpu.{Cpu}
 use Rattle.o2_isa.specs.declared.cpu.Stop.{Stop}
 use Rattle.o2_isa.specs.declared.cpu.Stop.TheVariants as stop
 use Rattle.o2_isa.specs.Parts.{put_part}
-use Rattle.o2_isa.specs.View.{View, Hold, is_readable, is_writable, bound_in}
+use Rattle.o2_isa.specs.View.{View, Hold, is_writable, bound_in}
 use Rattle.o2_isa.specs.Steps.{State as Machine, state}
 use Rattle.o2_isa.specs.Step.{stepped}
 use Rattle.o2_isa.specs.declared.cpu.Outcome.TheVariants as outcome
@@ -15,8 +15,8 @@ use Rattle.o2_world.specs.declared.types.Argument.{Argument}
 use Rattle.o2_world.specs.declared.types.Row.{Row}
 use Rattle.o2_world.specs.declared.types.Row.TheVariants.{DosExit, DosGetPid, DosRead, DosWrite, DosMemAvail}
 use Rattle.o2_world.specs.World.{is_live}
-use Rattle.o2_world.specs.Calls.{Before, Effect, trapped, argument, has_arguments, has_range, may_read, may_write, put_in, put_at_pointer, word_bytes, is_console, written, dos_write, dos_exit, told_at, told, bytes_with, may_take, read_with, read_from, dos_read, pid_bytes, long_bytes, row_of, served_by}
-use Rattle.o2_world.specs.Effect.{has_trap_flag, answered, single_stepped, effect}
+use Rattle.o2_world.specs.Calls.{Before, Effect, argument, has_arguments, has_range, may_read, may_write, put_in, put_at_pointer, word_bytes, is_console, written, dos_write, dos_exit, told_at, told, bytes_with, may_take, read_from, dos_read, row_of, served_by}
+use Rattle.o2_world.specs.Effect.{has_trap_flag, answered, effect}
 
 -- The view behind an instruction.
 

@@ -1,11 +1,11 @@
 -- A step of a process that goes on changes what is held by as much as its lines tell; one that ends it leaves it nothing.
-use Rattle.std.proofs.Common.{◌≡◌, ◌≢◌, ℕ, zero, suc, ◌+◌, ◌-◌, ◌<◌, ◌==◌, Bool, true, false, List, [], ◌∷◌, ◌++◌, Option, Some, None, if◌then◌else◌, ap, sym, ◌∙◌, refl, arith, slice_set}
+use Rattle.std.proofs.Common.{◌≡◌, ℕ, zero, suc, ◌+◌, ◌-◌, ◌<◌, ◌==◌, Bool, true, false, List, [], ◌∷◌, ◌++◌, Option, Some, None, if◌then◌else◌, ap, sym, ◌∙◌, refl, arith, slice_set}
 use Rattle.std.specs.Prelude.{slice_get, option_map}
 use Rattle.std.specs.List.{list_any}
 use Rattle.o2_conf.specs.Dispatch.{Dispatch}
 use Rattle.o2_world.specs.Map.{Map}
-use Rattle.o2_world.specs.World.{World, Process, Held, Line, is_live}
-use Rattle.o2_world.specs.Changes.{Change, Finishes, with_change, with_changes, with_all, takes, swept, at_place, at_number, moved_lines}
+use Rattle.o2_world.specs.World.{World, Process, Held, is_live}
+use Rattle.o2_world.specs.Changes.{Change, Finishes, with_change, with_changes, with_all, takes}
 use Rattle.o2_world.specs.Calls.{Effect}
 use Rattle.o2_world.specs.Holders.{process_at, with_process}
 use Rattle.o2_world.specs.Sound.{held_of, held_in}

@@ -1,19 +1,18 @@
 -- A step keeps a sound world sound.
-use Rattle.std.proofs.Common.{◌≡◌, ℕ, ◌-◌, ◌==◌, ◌<◌, ◌||◌, not, nat_lt, Bool, true, false, List, [], ◌∷◌, length, Option, Some, None, if◌then◌else◌, ap, sym, ◌∙◌, refl, arith, subst}
-use Rattle.std.specs.Prelude.{slice_get, option_map}
-use Rattle.o2_conf.specs.Dispatch.{Dispatch, lives}
+use Rattle.std.proofs.Common.{◌≡◌, ℕ, ◌-◌, Bool, true, false, List, [], length, Option, Some, if◌then◌else◌, ap, sym, ◌∙◌, refl, subst}
+use Rattle.o2_conf.specs.Dispatch.{Dispatch}
 use Rattle.o2_world.specs.declared.types.State.TheVariants.{Live}
-use Rattle.o2_world.specs.Map.{Map, get}
+use Rattle.o2_world.specs.Map.{get}
 use Rattle.o2_world.specs.World.{World, Setting, Process, Segment, is_live}
 use Rattle.o2_world.specs.Holders.{process_at}
 use Rattle.o2_world.specs.Sound.{HasGoodRegisters}
-use Rattle.o2_world.specs.Views.{bytes_in, segment_bytes}
+use Rattle.o2_world.specs.Views.{segment_bytes}
 use Rattle.o2_world.specs.Changes.{Change, with_changes}
 use Rattle.o2_world.specs.Calls.{Effect}
 use Rattle.o2_world.specs.Effect.{effect}
 use Rattle.o2_world.specs.Run.{before, changed, worked, working, acted, step, chosen_step, is_over, any_lives, live_flags, next_dispatch}
-use Rattle.o2_world.specs.Tied.{IsSound, IsTied, IsSwept, AreFitChanges}
-use Rattle.o2_world.proofs.Budget.{step_runs, not_over}
+use Rattle.o2_world.specs.Tied.{IsSound, IsSwept, AreFitChanges}
+use Rattle.o2_world.proofs.Budget.{not_over}
 use Rattle.o2_world.proofs.Choice.{chosen_lives}
 use Rattle.o2_world.proofs.Flags.{live_process}
 use Rattle.o2_world.proofs.GoodRegisters.{good_after, effect_ruled}

@@ -1,23 +1,23 @@
 -- The lines of a step tell what it changes of holds, and whom it ends.
-use Rattle.std.proofs.Common.{◌≡◌, ℕ, zero, suc, ◌+◌, ◌-◌, ◌<◌, ◌==◌, ◌&&◌, ◌||◌, not, Bool, true, false, cond, List, [], ◌∷◌, ◌++◌, Option, Some, None, if◌then◌else◌, ap, sym, ◌∙◌, refl, arith, subst}
-use Rattle.std.specs.Prelude.{length, slice_get, Result, Ok, Err}
+use Rattle.std.proofs.Common.{◌≡◌, ℕ, zero, suc, ◌+◌, ◌==◌, ◌&&◌, ◌||◌, not, Bool, true, false, cond, List, [], ◌∷◌, ◌++◌, Option, Some, None, if◌then◌else◌, ap, sym, ◌∙◌, refl, subst}
+use Rattle.std.specs.Prelude.{length, Result, Ok, Err}
 use Rattle.o2_isa.specs.declared.cpu.Stop.{Stop}
 use Rattle.o2_isa.specs.declared.cpu.Stop.TheVariants as stop
 use Rattle.o2_isa.specs.Steps.{State as Machine, state}
 use Rattle.o2_isa.specs.Step.{stepped}
 use Rattle.o2_conf.specs.Dispatch.{Dispatch}
 use Rattle.o2_world.specs.declared.types.Argument.{Argument}
-use Rattle.o2_world.specs.declared.types.State.TheVariants.{Live, Trapped}
+use Rattle.o2_world.specs.declared.types.State.TheVariants.{Trapped}
 use Rattle.o2_world.specs.declared.types.Row.{Row}
 use Rattle.o2_world.specs.declared.types.Row.TheVariants.{DosExit, DosGetPid, DosRead, DosWrite, DosMemAvail}
-use Rattle.o2_world.specs.World.{World, Setting, Process, Line, Traps, is_live}
+use Rattle.o2_world.specs.World.{World, Setting, Process, Traps, is_live}
 use Rattle.o2_world.specs.Holders.{process_at}
 use Rattle.o2_world.specs.Opening.{selector_of}
 use Rattle.o2_world.specs.Changes.{Change, moved_lines}
 use Rattle.o2_world.specs.Calls.{Before, Effect, trapped, argument, has_arguments, may_read, may_write, is_console, written, dos_write, dos_exit, told_at, told, may_take, read_from, dos_read, row_of, served_by}
 use Rattle.o2_world.specs.Effect.{has_trap_flag, answered, single_stepped, effect}
-use Rattle.o2_world.specs.Run.{before, changed, worked, acted, after, step, chosen_step, is_over, next_dispatch}
-use Rattle.o2_world.specs.Reach.{came, went, tells_end, CanTellAll, Tells, IsTold}
+use Rattle.o2_world.specs.Run.{before, worked, acted, after, step, chosen_step, is_over, next_dispatch}
+use Rattle.o2_world.specs.Reach.{came, went, tells_end, CanTellAll, IsTold}
 use Rattle.o2_world.proofs.Numbers.{number_some}
 use Rattle.o2_world.proofs.Quiet.{effect_quiet}
 use Rattle.o2_world.proofs.Reached.{came_append, went_append}

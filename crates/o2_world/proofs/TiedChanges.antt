@@ -1,11 +1,11 @@
 -- Each change that is fit keeps a world tied.
-use Rattle.std.proofs.Common.{◌≡◌, ◌≢◌, ◌⊎◌, inl, inr, ℕ, zero, suc, ◌+◌, ◌-◌, ◌<◌, ◌≤◌, ◌/◌, ◌==◌, nat_lt, Bool, true, false, List, [], ◌∷◌, ◌++◌, length, take, replicate, Option, Some, None, if◌then◌else◌, ap, sym, ◌∙◌, refl, arith, subst, length-append}
+use Rattle.std.proofs.Common.{◌≡◌, ◌≢◌, ◌⊎◌, inl, inr, ℕ, zero, suc, ◌+◌, ◌-◌, ◌<◌, ◌≤◌, ◌/◌, ◌==◌, nat_lt, Bool, true, false, List, [], ◌∷◌, length, take, replicate, Option, Some, None, if◌then◌else◌, ap, sym, ◌∙◌, refl, arith, subst, length-append}
 use Rattle.std.specs.Prelude.{slice_get, option_map, is_some}
-use Rattle.o2_isa.specs.View.{is_null, is_local, is_writable, is_readable, is_code}
+use Rattle.o2_isa.specs.View.{is_null, is_writable, is_readable, is_code}
 use Rattle.o2_world.specs.declared.types.State.{State}
 use Rattle.o2_world.specs.Map.{Map, get, put}
-use Rattle.o2_world.specs.World.{World, Process, Segment, Held, Reserve, ByLoad, is_live}
-use Rattle.o2_world.specs.Changes.{Change, Makes, Resizes, Locks, Marks, Holds, Drops, Finishes, Reserves, Frees, Names, more, fewer, fewer_of, resized, at_place, at_number, with_segment, with_change}
+use Rattle.o2_world.specs.World.{World, Process, Segment, Held, Reserve, is_live}
+use Rattle.o2_world.specs.Changes.{Change, Makes, Resizes, Locks, Marks, Holds, Drops, Finishes, Reserves, Frees, Names, more, fewer, resized, at_place, at_number, with_segment, with_change}
 use Rattle.o2_world.specs.Sound.{held_of, held_in, has_rights, NamesHeld, HasGoodRegisters}
 use Rattle.o2_world.specs.Tied.{AreLive, lives_in, HasSize, AreOne, IsTied, IsUnnamed, IsFitHold, IsFitDrop, IsFitChange}
 use Rattle.o2_world.proofs.Reached.{get-put, get-place, held_at_place, held_then}

@@ -1,13 +1,12 @@
 -- The changes of a step, and what nobody holds behind them, keep a world tied, and each live name held.
-use Rattle.std.proofs.Common.{◌≡◌, ◌⊎◌, inl, inr, ℕ, zero, suc, ◌+◌, ◌-◌, ◌<◌, ◌≤◌, ◌==◌, Bool, true, false, cond, List, [], ◌∷◌, ◌++◌, length, Option, Some, None, if◌then◌else◌, ap, sym, ◌∙◌, refl, arith, subst, filter}
-use Rattle.std.specs.Prelude.{slice_get, is_some}
+use Rattle.std.proofs.Common.{◌≡◌, ℕ, Bool, true, false, cond, List, [], ◌∷◌, Some, None, if◌then◌else◌, ap, sym, ◌∙◌, refl}
+use Rattle.std.specs.Prelude.{is_some}
 use Rattle.std.specs.List.{list_any}
 use Rattle.o2_world.specs.Map.{Map, get}
-use Rattle.o2_world.specs.World.{World, Process, Segment, Held, Reserve}
+use Rattle.o2_world.specs.World.{World, Process, Segment, Reserve}
 use Rattle.o2_world.specs.Holders.{is_held, kept}
 use Rattle.o2_world.specs.Changes.{Change, takes, used, is_used, told_of, swept, with_change, with_changes, with_all}
-use Rattle.o2_world.specs.Sound.{held_in}
-use Rattle.o2_world.specs.Tied.{AreLive, lives_in, IsTied, IsSwept, AreUsed, IsFitChange, AreFitChanges}
+use Rattle.o2_world.specs.Tied.{AreLive, IsTied, IsSwept, AreUsed, AreFitChanges}
 use Rattle.o2_world.proofs.MapLemmas.{get-filter, if_yes, if_no}
 use Rattle.o2_world.proofs.Keeps.{held_found}
 use Rattle.o2_world.proofs.TiedChanges.{change_tied}

@@ -1,6 +1,6 @@
 -- A step whose changes are fit keeps a world tied, and each live name held.
-use Rattle.std.proofs.Common.{◌≡◌, ℕ, zero, suc, ◌+◌, ◌-◌, ◌<◌, ◌≤◌, ◌==◌, ◌||◌, Bool, true, false, List, [], ◌∷◌, ◌++◌, length, Option, Some, None, if◌then◌else◌, ap, sym, ◌∙◌, refl, arith, subst, slice_set, filter, cond}
-use Rattle.std.specs.Prelude.{slice_get, is_some, option_map}
+use Rattle.std.proofs.Common.{◌≡◌, ℕ, zero, suc, ◌-◌, ◌<◌, ◌≤◌, ◌==◌, ◌||◌, Bool, true, false, List, [], ◌∷◌, ◌++◌, length, Option, Some, None, if◌then◌else◌, ap, sym, ◌∙◌, refl, arith, subst, slice_set, filter, cond}
+use Rattle.std.specs.Prelude.{slice_get, option_map}
 use Rattle.std.specs.List.{list_any}
 use Rattle.o2_conf.specs.Dispatch.{Dispatch}
 use Rattle.o2_world.specs.Map.{Map, get}
@@ -8,11 +8,11 @@ use Rattle.o2_world.specs.World.{World, Process, Segment, Held, Reserve, is_live
 use Rattle.o2_world.specs.Holders.{process_at, with_process, is_held}
 use Rattle.o2_world.specs.Views.{with_bytes}
 use Rattle.o2_world.specs.declared.types.State.{State}
-use Rattle.o2_world.specs.Changes.{Change, Finishes, takes, swept, used, is_used, told_of, run_held, own_run_held, holds_run, at_place, at_number, with_change, with_changes, with_all}
+use Rattle.o2_world.specs.Changes.{Change, Finishes, takes, swept, used, is_used, told_of, run_held, own_run_held, holds_run, at_number, with_change, with_changes, with_all}
 use Rattle.o2_world.specs.Calls.{Effect}
-use Rattle.o2_world.specs.Sound.{held_of, held_in, HasGoodRegisters}
+use Rattle.o2_world.specs.Sound.{held_in, HasGoodRegisters}
 use Rattle.o2_world.specs.Run.{changed, working, worked}
-use Rattle.o2_world.specs.Tied.{HasSize, AreLive, lives_in, IsTied, IsSwept, AreUsed, IsFitChange, AreFitChanges}
+use Rattle.o2_world.specs.Tied.{HasSize, IsTied, IsSwept, AreUsed, AreFitChanges}
 use Rattle.o2_world.proofs.MapLemmas.{get-map, if_yes, if_no}
 use Rattle.o2_world.proofs.Keeps.{bytes_there, some_is, held_same_at, each_at}
 use Rattle.o2_world.proofs.Numbers.{not_zero, number_some, at_place_of, process_is, with_is, changed_is}

@@ -1,6 +1,6 @@
 -- What the rows of the calls read of the machine beside what the process sees: look-ups alone, so that a world and a machine
 -- answer them alike.
-use Rattle.std.specs.Prelude.{ℕ, zero, suc, ◌+◌, ◌-◌, Bool, true, false, List, [], ◌∷◌, length, if◌then◌else◌, ◌==◌, ◌&&◌, ◌||◌, nat_le, nat_lt, Option, Some, None, option_map, is_some}
+use Rattle.std.specs.Prelude.{ℕ, zero, suc, ◌+◌, Bool, true, false, List, [], ◌∷◌, length, if◌then◌else◌, ◌==◌, ◌&&◌, ◌||◌, nat_le, nat_lt, Option, Some, None, option_map, is_some}
 use Rattle.std.specs.List.{list_any}
 use Rattle.o2_world.specs.Map.{Map, get}
 use Rattle.o2_world.specs.World.{World, Setting, Process, Segment, Held, Reserve, is_live}

@@ -1,7 +1,6 @@
 -- What the report tells of holds: the lines that came less those that went.
 use Rattle.std.specs.Prelude.{◌≡◌, ℕ, ◌+◌, ◌-◌, ◌<◌, ◌≤◌, Bool, true, false, List, [], ◌∷◌, if◌then◌else◌, ◌==◌, ◌&&◌, Option, Some, None, length}
-use Rattle.o2_world.specs.Map.{get}
-use Rattle.o2_world.specs.World.{World, Process, Held, Line, HoldsBy, DropsBy, Ends, Traps}
+use Rattle.o2_world.specs.World.{World, Held, Line, HoldsBy, DropsBy, Ends, Traps}
 use Rattle.o2_world.specs.Changes.{Change, Holds, Drops, Finishes, with_change, moved_lines}
 use Rattle.o2_world.specs.Calls.{Effect}
 use Rattle.o2_world.specs.Sound.{held_in}

@@ -1,5 +1,5 @@
 -- The calls of DOSCALLS that make, free and give segments.
-use Rattle.std.specs.Prelude.{ℕ, zero, suc, ◌+◌, ◌-◌, ◌*◌, ◌/◌, ◌%◌, ◌^◌, Bool, true, false, not, List, [], ◌∷◌, ◌++◌, map, filter, replicate, if◌then◌else◌, ◌==◌, nat_le, nat_lt, ◌&&◌, ◌||◌, Option, Some, None, is_some, codes}
+use Rattle.std.specs.Prelude.{ℕ, zero, suc, ◌+◌, ◌/◌, ◌%◌, Bool, true, false, not, List, [], ◌∷◌, ◌++◌, map, filter, replicate, if◌then◌else◌, ◌==◌, nat_le, nat_lt, ◌&&◌, ◌||◌, Option, Some, None, is_some, codes}
 use Rattle.std.specs.List.{list_any}
 use Rattle.o2_desc.specs.Bits.{has_bit}
 use Rattle.o2_desc.specs.Choice.{chosen}
@@ -8,7 +8,7 @@ use Rattle.o2_isa.specs.View.{is_null, is_local}
 use Rattle.o2_world.specs.declared.types.Argument.{Argument}
 use Rattle.o2_world.specs.declared.types.Argument.TheVariants.{Word, Far}
 use Rattle.o2_world.specs.declared.types.State.TheVariants.{Live}
-use Rattle.o2_world.specs.World.{Segment, Held, Line, Calls, Cause, ByLoad, ByCall, ByAlias}
+use Rattle.o2_world.specs.World.{Segment, Held, Calls, Cause, ByLoad, ByCall, ByAlias}
 use Rattle.o2_world.specs.Changes.{Change, Makes, Holds, Drops, moved_lines}
 use Rattle.o2_world.specs.Known.{Known, Marks}
 use Rattle.o2_world.specs.Opening.{selector_of}

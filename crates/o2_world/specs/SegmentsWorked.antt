@@ -1,5 +1,5 @@
 -- Rows of the calls that make, free and give segments, as the definitions compute them from the opening of `hello`.
-use Rattle.std.specs.Prelude.{ℕ, List, [], ◌∷◌, ◌++◌, drop, codes, Option, Some, None}
+use Rattle.std.specs.Prelude.{ℕ, List, [], ◌∷◌, drop, Option, Some, None}
 use Rattle.o2_conf.specs.Dispatch.{Dispatch}
 use Rattle.o2_world.specs.World.{World, Setting, Process, Held, ByCall}
 use Rattle.o2_world.specs.Holders.{process_at}

@@ -1,5 +1,5 @@
 -- Which names of an opening are shared, as the definitions compute it.
-use Rattle.std.specs.Prelude.{ℕ, Bool, true, false, List, [], ◌∷◌, codes, map, replicate, Option, Some, None, option_map}
+use Rattle.std.specs.Prelude.{ℕ, Bool, true, false, List, [], ◌∷◌, map, replicate, Option, Some, None, option_map}
 use Rattle.o2_world.specs.Map.{get}
 use Rattle.o2_world.specs.World.{World, Segment}
 use Rattle.o2_world.specs.Starts.{Loaded, Start, opening_of}

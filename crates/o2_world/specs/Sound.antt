@@ -1,9 +1,8 @@
 -- What holds of every world of a run.
-use Rattle.std.specs.Prelude.{◌⊎◌, ◌≡◌, ℕ, ◌<◌, ◌%◌, ◌/◌, Bool, true, false, List, [], Option, Some, None, is_some, slice_get}
+use Rattle.std.specs.Prelude.{◌⊎◌, ◌≡◌, ℕ, ◌%◌, ◌/◌, Bool, true, false, List, Option, Some, None, slice_get}
 use Rattle.o2_isa.specs.View.{is_code, is_readable, is_writable, is_null, is_local}
-use Rattle.o2_world.specs.Map.{Map, get}
-use Rattle.o2_world.specs.World.{World, Process, Segment, Held, is_live}
-use Rattle.o2_world.specs.Holders.{is_held}
+use Rattle.o2_world.specs.Map.{get}
+use Rattle.o2_world.specs.World.{Process, Held}
 
 abbrev pub held_of : Option Process → ℕ → Option Held
 held_of None i = None

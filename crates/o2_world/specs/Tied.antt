@@ -1,9 +1,9 @@
 -- What holds of every world of a run, between the changes of a step too; and of each change, when it keeps that.
-use Rattle.std.specs.Prelude.{◌⊎◌, ◌≡◌, ◌≢◌, ℕ, ◌-◌, ◌<◌, ◌≤◌, ◌/◌, Bool, true, false, List, [], ◌∷◌, length, Option, Some, None, is_some, slice_get, nat_lt}
+use Rattle.std.specs.Prelude.{◌⊎◌, ◌≡◌, ◌≢◌, ℕ, ◌<◌, ◌≤◌, ◌/◌, Bool, true, false, List, [], ◌∷◌, length, Some, is_some, slice_get}
 use Rattle.o2_isa.specs.declared.cpu.Cpu.{Cpu}
 use Rattle.o2_isa.specs.View.{is_null, is_writable}
 use Rattle.o2_world.specs.Map.{Map, get}
-use Rattle.o2_world.specs.World.{World, Process, Segment, Held, Reserve, Cause, ByLoad, is_live}
+use Rattle.o2_world.specs.World.{World, Process, Segment, Held, Reserve, ByLoad, is_live}
 use Rattle.o2_world.specs.Holders.{is_held, process_at}
 use Rattle.o2_world.specs.Sound.{held_in, HasGoodRegisters}
 use Rattle.o2_world.specs.Changes.{Change, Makes, Resizes, Locks, Marks, Holds, Drops, Finishes, Reserves, Frees, Names, is_used, with_change}

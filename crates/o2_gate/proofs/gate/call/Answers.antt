@@ -1,5 +1,4 @@
 -- Each row is answered by its own service.
-use Rattle.std.proofs.Common.{ℕ}
 use Rattle.o2_world.specs.declared.types.Row.TheVariants.{DosExit, DosGetPid, DosRead, DosWrite, DosMemAvail}
 use Rattle.o2_world.specs.Calls.{Effect}
 use Rattle.o2_gate.specs.Befores.{before_call}

@@ -1,4 +1,4 @@
-use Rattle.std.proofs.Common.{◌≡◌, ℕ, List, replicate, ◌++◌, ◌∷◌, [], ◌∙◌, ap, arith, ◌+◌, ◌≤◌}
+use Rattle.std.proofs.Common.{ℕ, List, replicate, ◌++◌, ◌∷◌, [], ◌∙◌, ap, arith}
 use Rattle.std.proofs.lemmas.List.{replicate-append-replicate}
 use Rattle.o2_outer.proofs.blocks.zero_blocks.Goals as goal
 

@@ -1,8 +1,8 @@
-use Rattle.std.proofs.Common.{◌≡◌, ◌+◌, ◌-◌, ◌≤◌, ℕ, List, Some, length, take, drop, arith, length-drop, ap, sym, subst, ◌∙◌}
+use Rattle.std.proofs.Common.{◌≡◌, ◌-◌, ◌≤◌, ℕ, List, Some, length, take, drop, arith, length-drop, sym, subst, ◌∙◌}
 use Rattle.std.proofs.lemmas.List.{length-take-le}
 use borrow.Rule.Slice.PartMut.{same_len_mid}
 use Rattle.o2_outer.specs.Reads.{bytes_left}
-use Rattle.o2_outer.proofs.Readers.{held_more, held_same, take_behind}
+use Rattle.o2_outer.proofs.Readers.{held_more, take_behind}
 use Rattle.o2_outer.proofs.reading.read_on.Goals as goal
 
 pub loop-filled-preserved : goal.loop-filled-preserved

@@ -1,4 +1,4 @@
-use Rattle.std.proofs.Common.{◌≡◌, ◌+◌, ◌-◌, ◌≤◌, ℕ, List, [], length, take, drop, subst, ap, sym, ◌∙◌, arith, take_all, length-drop}
+use Rattle.std.proofs.Common.{◌≡◌, ◌-◌, ◌≤◌, ℕ, List, length, take, drop, subst, ap, sym, ◌∙◌, arith, take_all, length-drop}
 use Rattle.std.specs.Io.KnownBytes.{Appends}
 use Rattle.o2_outer.specs.Texts.{Gains}
 use Rattle.o2_outer.proofs.Written.{appends_gains, keeps_gains, written_more, written_in_part}

@@ -1,4 +1,4 @@
-use Rattle.std.proofs.Common.{◌≡◌, ◌<◌, ◌≤◌, min, length, take, arith, ap, sym, subst, ◌∙◌, ℕ, List}
+use Rattle.std.proofs.Common.{◌≡◌, ◌≤◌, min, length, take, arith, ap, sym, subst, ◌∙◌, ℕ}
 use Rattle.std.proofs.lemmas.List.{length-take-le}
 use Rattle.o2_outer.proofs.Readers.{gives_held}
 use Rattle.o2_outer.proofs.stdin.StreamSourceSource.take.Goals as goal

@@ -1,5 +1,5 @@
 -- Each number has one digit more than its tenth.
-use Rattle.std.proofs.Common.{◌≡◌, ◌++◌, ◌∷◌, [], ◌+◌, ◌/◌, ◌%◌, arith, length, decimal, ap, sym, ◌∙◌, length-append, append_assoc}
+use Rattle.std.proofs.Common.{◌∷◌, [], ◌+◌, ◌/◌, ◌%◌, arith, length, decimal, ap, ◌∙◌, length-append, append_assoc}
 use Rattle.o2_report.proofs.Decimal.{decimal_more, length_more}
 use Rattle.o2_report.proofs.line.LineBuffer.+push_decimal.Goals as goal
 
