@@ -2,3 +2,4 @@ pub mod Lending
 pub mod Needs
 pub mod Pictures
 pub mod Shelf
+pub mod Trials

@@ -15,3 +15,6 @@ mod windows;
 pub use brought::{Brought, Place};
 pub use o2_entries::Attr;
 pub use store::Store;
+
+#[cfg(test)]
+mod tests;
