@@ -3,7 +3,7 @@ use Rattle.std.proofs.Common.{◌≡◌, ℕ, ◌+◌, ◌-◌, ◌*◌, ◌/◌
 use Rattle.std.specs.Prelude.{option_map}
 use Rattle.std.proofs.lemmas.Bool.Decides.{nat_tests}
 use Rattle.o2_isa.specs.declared.instr.Width.TheVariants.{Byte}
-use Rattle.o2_isa.specs.declared.instr.Op.TheVariants.{OpDaa, OpDas}
+use Rattle.o2_isa.specs.declared.families.AdjustOp.TheVariants.{Daa, Das}
 use Rattle.o2_isa.specs.declared.flags.Flag.TheVariants.{Carry, Auxiliary}
 use Rattle.o2_isa.specs.Flags.{is_set}
 use Rattle.o2_isa.specs.Sums.{bit, sum_value, sum_carries, sum_adjusts, add_of, difference_value, difference_borrows, sub_of}
@@ -69,7 +69,7 @@ byte_half a b c f = add_auxiliary (packed a) (packed b) c f ∙ ap (λ (n : ℕ)
 
 pub daa_after_sum : (a b : ℕ) (c : Bool) (ah f : ℕ) → a < 100 → b < 100 →
     let sum = add_of Byte (packed a) (packed b) c f in
-    let r = adjust_of OpDaa (256 * ah + sum.0) 0 sum.1 in
+    let r = adjust_of Daa (256 * ah + sum.0) 0 sum.1 in
     (option_map (λ x. x.0) r ≡ Some (256 * ah + packed ((a + b + bit c) % 100)))
     × (option_map (λ x. is_set x.1 Carry) r ≡ Some (nat_le 100 (a + b + bit c)))
 unfolding add_of adjust_of
@@ -147,7 +147,7 @@ byte_half_borrow a b c f =
 
 pub das_after_difference : (a b : ℕ) (c : Bool) (ah f : ℕ) → a < 100 → b < 100 →
     let difference = sub_of Byte (packed a) (packed b) c f in
-    let r = adjust_of OpDas (256 * ah + difference.0) 0 difference.1 in
+    let r = adjust_of Das (256 * ah + difference.0) 0 difference.1 in
     (option_map (λ x. x.0) r ≡ Some (256 * ah + packed ((a + 100 - b - bit c) % 100)))
     × (option_map (λ x. is_set x.1 Carry) r ≡ Some (nat_lt a (b + bit c)))
 unfolding sub_of adjust_of

@@ -5,7 +5,7 @@ use Rattle.std.proofs.lemmas.Nat.{mul-mod_first, mul-le}
 use Rattle.std.proofs.lemmas.Bool.{cases_lt}
 use Rattle.o2_isa.specs.declared.instr.Width.{Width}
 use Rattle.o2_isa.specs.declared.instr.Width.TheVariants.{Byte, Word}
-use Rattle.o2_isa.specs.declared.instr.Op.TheVariants.{OpRol, OpRor, OpShl, OpShr, OpSar}
+use Rattle.o2_isa.specs.declared.families.ShiftOp.TheVariants.{Rol, Ror, Shl, Shr, Sar}
 use Rattle.o2_isa.specs.Widths.{modulus, half, IsOfWidth}
 use Rattle.o2_isa.specs.Sums.{bit}
 use Rattle.o2_alu.specs.AtOnce.{bits, rolled, unrolled, lowered}
@@ -121,12 +121,12 @@ after_unroll w n a h = elim (next_count w n) [
   | inr e ↦ rw (e.0, e.1) (full_unroll w a h)
 ]
 
-pub rol_value : (w : Width) (n a : ℕ) (c : Bool) → IsOfWidth w a → (repeated n OpRol w (a, c)).0 ≡ rolled w (n % bits w) a
+pub rol_value : (w : Width) (n a : ℕ) (c : Bool) → IsOfWidth w a → (repeated n Rol w (a, c)).0 ≡ rolled w (n % bits w) a
 rol_value w zero a c h = no_roll w a h
 rol_value w (suc n) a c h =
     ap (λ v. v * 2 % modulus w + bit (top w v)) (rol_value w n a c h) ∙ roll w (n % bits w) a (below_bits w n) h ∙ after_roll w n a h
 
-pub ror_value : (w : Width) (n a : ℕ) (c : Bool) → IsOfWidth w a → (repeated n OpRor w (a, c)).0 ≡ unrolled w (n % bits w) a
+pub ror_value : (w : Width) (n a : ℕ) (c : Bool) → IsOfWidth w a → (repeated n Ror w (a, c)).0 ≡ unrolled w (n % bits w) a
 ror_value w zero a c h = no_unroll w a h
 ror_value w (suc n) a c h =
     ap (λ v. v / 2 + (if low v then half w else 0)) (ror_value w n a c h) ∙ unroll w (n % bits w) a (below_bits w n) h ∙ after_unroll w n a h
@@ -140,12 +140,12 @@ no_shift Word a h = omega arith
 one_more : (a n : ℕ) → a * 2 ^ n * 2 ≡ a * 2 ^ suc n
 one_more a n = mul_assoc a (2 ^ n) 2 ∙ ap (λ v. a * v) (sym (pow-suc 2 n))
 
-pub shl_value : (w : Width) (n a : ℕ) (c : Bool) → IsOfWidth w a → (repeated n OpShl w (a, c)).0 ≡ a * 2 ^ n % modulus w
+pub shl_value : (w : Width) (n a : ℕ) (c : Bool) → IsOfWidth w a → (repeated n Shl w (a, c)).0 ≡ a * 2 ^ n % modulus w
 shl_value w zero a c h = no_shift w a h
 shl_value w (suc n) a c h =
     ap (λ v. v * 2 % modulus w) (shl_value w n a c h) ∙ mul-mod_first (a * 2 ^ n) 2 (modulus w) ∙ ap (λ v. v % modulus w) (one_more a n)
 
-pub shr_value : (w : Width) (n a : ℕ) (c : Bool) → (repeated n OpShr w (a, c)).0 ≡ a / 2 ^ n
+pub shr_value : (w : Width) (n a : ℕ) (c : Bool) → (repeated n Shr w (a, c)).0 ≡ a / 2 ^ n
 shr_value w zero a c = omega arith
 shr_value w (suc n) a c =
     ap (λ v. v / 2) (shr_value w n a c) ∙ div-div-eq-div-mul a (2 ^ n) 2 ∙ ap (λ v. a / v) (sym (pow-suc 2 n))
@@ -161,13 +161,13 @@ negative_step Word u h = grind arith
 halved_again : (a n : ℕ) → a / 2 ^ n / 2 ≡ a / 2 ^ suc n
 halved_again a n = div-div-eq-div-mul a (2 ^ n) 2 ∙ ap (λ v. a / v) (sym (pow-suc 2 n))
 
-sar_positive : (w : Width) (n a : ℕ) (c : Bool) → a < half w → (repeated n OpSar w (a, c)).0 ≡ a / 2 ^ n
+sar_positive : (w : Width) (n a : ℕ) (c : Bool) → a < half w → (repeated n Sar w (a, c)).0 ≡ a / 2 ^ n
 sar_positive w zero a c h = omega arith
 sar_positive w (suc n) a c h =
     ap (λ v. v / 2 + (if top w v then half w else 0)) (sar_positive w n a c h)
     ∙ positive_step w (a / 2 ^ n) (omega (arith, div-le_self a (2 ^ n))) ∙ halved_again a n
 
-sar_negative : (w : Width) (n b : ℕ) (c : Bool) → b < half w → (repeated n OpSar w (modulus w - 1 - b, c)).0 ≡ modulus w - 1 - b / 2 ^ n
+sar_negative : (w : Width) (n b : ℕ) (c : Bool) → b < half w → (repeated n Sar w (modulus w - 1 - b, c)).0 ≡ modulus w - 1 - b / 2 ^ n
 sar_negative w zero b c h = omega arith
 sar_negative w (suc n) b c h =
     ap (λ v. v / 2 + (if top w v then half w else 0)) (sar_negative w n b c h)
@@ -187,11 +187,11 @@ top_low w a h = grind arith
 top_high : (w : Width) (a : ℕ) → half w ≤ a → top w a ≡ true
 top_high w a h = grind arith
 
-pub sar_value : (w : Width) (n a : ℕ) (c : Bool) → IsOfWidth w a → (repeated n OpSar w (a, c)).0 ≡ lowered w n a
+pub sar_value : (w : Width) (n a : ℕ) (c : Bool) → IsOfWidth w a → (repeated n Sar w (a, c)).0 ≡ lowered w n a
 sar_value w n a c h = elim (cases_lt a (half w)) [
   | inl l ↦ rw (top_low w a l) (sar_positive w n a c l)
   | inr l ↦ rw (top_high w a l)
-      (ap (λ v. (repeated n OpSar w (v, c)).0) (sym (complement_twice w a h)) ∙ sar_negative w n (modulus w - 1 - a) c (complement_small w a l))
+      (ap (λ v. (repeated n Sar w (v, c)).0) (sym (complement_twice w a h)) ∙ sar_negative w n (modulus w - 1 - a) c (complement_small w a l))
 ]
 
 rolled_byte : (k a : ℕ) → k < 8 → a < 256 → rolled Byte k a < 256

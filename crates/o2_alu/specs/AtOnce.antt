@@ -2,8 +2,8 @@
 use Rattle.std.specs.Prelude.{ℕ, ◌+◌, ◌-◌, ◌*◌, ◌/◌, ◌%◌, ◌^◌, Bool, true, false, if◌then◌else◌, IsTrue}
 use Rattle.o2_isa.specs.declared.instr.Width.{Width}
 use Rattle.o2_isa.specs.declared.instr.Width.TheVariants.{Byte, Word}
-use Rattle.o2_isa.specs.declared.instr.Op.{Op}
-use Rattle.o2_isa.specs.declared.instr.Op.TheVariants.{OpRol, OpRor, OpShl, OpShr, OpSar}
+use Rattle.o2_isa.specs.declared.families.ShiftOp.{ShiftOp}
+use Rattle.o2_isa.specs.declared.families.ShiftOp.TheVariants.{Rol, Ror, Rcl, Rcr, Shl, Shr, Sar}
 use Rattle.o2_isa.specs.Widths.{modulus}
 use Rattle.o2_isa.specs.Shifts.{top}
 
@@ -24,13 +24,14 @@ abbrev pub lowered : Width → ℕ → ℕ → ℕ
 lowered w n a = if top w a then modulus w - 1 - (modulus w - 1 - a) / 2 ^ n else a / 2 ^ n
 
 -- the shifts and rotations whose result doesn't depend on CF
-abbrev pub is_at_once : Op → Bool
-is_at_once OpRol = true
-is_at_once OpRor = true
-is_at_once OpShl = true
-is_at_once OpShr = true
-is_at_once OpSar = true
-is_at_once _ = false
+abbrev pub is_at_once : ShiftOp → Bool
+is_at_once Rol = true
+is_at_once Ror = true
+is_at_once Shl = true
+is_at_once Shr = true
+is_at_once Sar = true
+is_at_once Rcl = false
+is_at_once Rcr = false
 
-abbrev pub IsAtOnce : Op → Type 0
+abbrev pub IsAtOnce : ShiftOp → Type 0
 IsAtOnce op = IsTrue (is_at_once op)

@@ -4,7 +4,7 @@ ghost use Rattle.std.specs.Prelude.{◌≡◌, ◌<◌, ◌≤◌, ◌↔◌, Is
 ghost use Rattle.o2_isa.specs.Adjust.{digit_adjusts, digits_adjust, n_where, aaa_value, aas_value, unpacked_flags, daa_value, das_value, packed_flags, aam_value, aad_value, adjust_of};
 
 use crate::flags::{is_set, szp, with_flag};
-use o2_isa::{Flag, Op, Width};
+use o2_isa::{AdjustOp, Flag, Width};
 
 /// The low four bits of AL are no decimal digit, or AF says so.
 #[tactic(auto, unfolding(o2_isa::specs::Adjust::digit_adjusts))]
@@ -92,34 +92,33 @@ fn aad(ax: u16, base: u8) -> u16
 }
 
 /// DAA, DAS, AAA, AAS, and with `base` AAM and AAD: AX and the flags word.
-/// None for AAM with base 0, a divide error. For any other `op` both stay.
+/// None for AAM with base 0, a divide error.
 #[tactic(auto, unfolding(o2_isa::specs::Adjust::adjust_of))]
-pub fn adjust(op: Op, ax: u16, base: u8, f: u16) -> Option<(u16, u16)>
+pub fn adjust(op: AdjustOp, ax: u16, base: u8, f: u16) -> Option<(u16, u16)>
     ensures value { result ≡ adjust_of op ax base f }
-    ensures refused { IsNone result ↔ ((op ≡ Op.OpAam) × (base ≡ 0)) }
+    ensures refused { IsNone result ↔ ((op ≡ AdjustOp.Aam) × (base ≡ 0)) }
 {
     let units = units_adjust(ax % 256, f);
     let tens = tens_adjust(ax % 256, f);
     match op {
-        Op::OpAaa => Some((aaa(ax, units), flags_unpacked(units, f))),
-        Op::OpAas => Some((aas(ax, units), flags_unpacked(units, f))),
-        Op::OpDaa => {
+        AdjustOp::Aaa => Some((aaa(ax, units), flags_unpacked(units, f))),
+        AdjustOp::Aas => Some((aas(ax, units), flags_unpacked(units, f))),
+        AdjustOp::Daa => {
             let al = daa(ax, units, tens);
             Some((ax / 256 * 256 + al, flags_packed(al, units, tens, f)))
         }
-        Op::OpDas => {
+        AdjustOp::Das => {
             let al = das(ax, units, tens);
             Some((ax / 256 * 256 + al, flags_packed(al, units, tens, f)))
         }
-        Op::OpAam if base == 0 => None,
-        Op::OpAam => {
+        AdjustOp::Aam if base == 0 => None,
+        AdjustOp::Aam => {
             let al = ax % 256 % base as u16;
             Some((aam(ax, base), szp(Width::Byte, al, f)))
         }
-        Op::OpAad => {
+        AdjustOp::Aad => {
             let al = aad(ax, base);
             Some((al, szp(Width::Byte, al, f)))
         }
-        _ => Some((ax, f)),
     }
 }

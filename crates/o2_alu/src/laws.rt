@@ -12,7 +12,7 @@ ghost use Rattle.o2_isa.specs.Products.{mul_value, mul_of, div_of};
 ghost use Rattle.o2_isa.specs.Adjust.{aam_value, aad_value, adjust_of};
 ghost use Rattle.o2_isa.specs.Alu.{binary_of, unary_of};
 
-use o2_isa::{Flag, Op, Width};
+use o2_isa::{AdjustOp, BinaryOp, Flag, ShiftOp, UnaryOp, Width};
 
 /// A flag that is put has that value, and every other flag is as it was.
 #[tactic(auto, using(crate::proofs::FlagLaws::put_same, crate::proofs::FlagLaws::put_other))]
@@ -93,7 +93,7 @@ pub fn daa_adds(a: u8, b: u8, carry: bool, ah: u8, f: u16)
     requires left { a < 100 }
     requires right { b < 100 }
     ensures { let sum = add_of Width.Byte (packed a) (packed b) carry f in
-        let r = adjust_of Op.OpDaa (256 * ah + sum.0) 0 sum.1 in
+        let r = adjust_of AdjustOp.Daa (256 * ah + sum.0) 0 sum.1 in
         (option_map (λ x. x.0) r ≡ Some (256 * ah + packed ((a + b + bit carry) % 100)))
         × (option_map (λ x. is_set x.1 Flag.Carry) r ≡ Some (nat_le 100 (a + b + bit carry))) }
 {}
@@ -104,14 +104,14 @@ pub fn das_subtracts(a: u8, b: u8, borrow: bool, ah: u8, f: u16)
     requires left { a < 100 }
     requires right { b < 100 }
     ensures { let difference = sub_of Width.Byte (packed a) (packed b) borrow f in
-        let r = adjust_of Op.OpDas (256 * ah + difference.0) 0 difference.1 in
+        let r = adjust_of AdjustOp.Das (256 * ah + difference.0) 0 difference.1 in
         (option_map (λ x. x.0) r ≡ Some (256 * ah + packed ((a + 100 - b - bit borrow) % 100)))
         × (option_map (λ x. is_set x.1 Flag.Carry) r ≡ Some (nat_lt a (b + bit borrow))) }
 {}
 
 /// A shift or rotation by `n` gives the value and CF of `n` single ones.
 #[tactic(auto, using(crate::proofs::ShiftLaws::counted_shift))]
-pub fn shift_repeats(op: Op, w: Width, a: u16, n: u8, f: u16)
+pub fn shift_repeats(op: ShiftOp, w: Width, a: u16, n: u8, f: u16)
     requires { n < 32 }
     ensures value { (shift_of op w a n f).0 ≡ (shift_times n op w (a, f)).0 }
     ensures carry { is_set (shift_of op w a n f).1 Flag.Carry ≡ is_set (shift_times n op w (a, f)).1 Flag.Carry }
@@ -122,26 +122,26 @@ pub fn shift_repeats(op: Op, w: Width, a: u16, n: u8, f: u16)
 pub fn shl_multiplies(w: Width, a: u16, n: u8, f: u16)
     requires width { IsOfWidth w a }
     requires count { n < 32 }
-    ensures left { (shift_of Op.OpShl w a n f).0 ≡ a * 2 ^ n % modulus w }
-    ensures right { (shift_of Op.OpShr w a n f).0 ≡ a / 2 ^ n }
+    ensures left { (shift_of ShiftOp.Shl w a n f).0 ≡ a * 2 ^ n % modulus w }
+    ensures right { (shift_of ShiftOp.Shr w a n f).0 ≡ a / 2 ^ n }
 {}
 
 /// A rotation by as many bits as the value has gives the value.
 #[tactic(auto, using(crate::proofs::ShiftLaws::rol_returns, crate::proofs::ShiftLaws::ror_returns))]
 pub fn rotation_returns(w: Width, a: u16, f: u16)
     requires { IsOfWidth w a }
-    ensures left { (shift_of Op.OpRol w a (bits w) f).0 ≡ a }
-    ensures right { (shift_of Op.OpRor w a (bits w) f).0 ≡ a }
+    ensures left { (shift_of ShiftOp.Rol w a (bits w) f).0 ≡ a }
+    ensures right { (shift_of ShiftOp.Ror w a (bits w) f).0 ≡ a }
 {}
 
 /// Arithmetic leaves every flag but CF, PF, AF, ZF, SF and OF as it is.
 #[tactic(auto, using(crate::proofs::ControlLaws::binary_control, crate::proofs::ControlLaws::unary_control, crate::proofs::ControlLaws::shift_control, crate::proofs::ControlLaws::mul_control, crate::proofs::ControlLaws::adjust_control))]
-pub fn control_flags_stay(op: Op, w: Width, a: u16, b: u16, n: u8, signed: bool, f: u16)
-    ensures binary { (j : Flag) → is_status j ≡ false → is_set (binary_of op w a b f).1 j ≡ is_set f j }
-    ensures unary { (j : Flag) → is_status j ≡ false → is_set (unary_of op w a f).1 j ≡ is_set f j }
-    ensures shift { (j : Flag) → is_status j ≡ false → is_set (shift_of op w a n f).1 j ≡ is_set f j }
+pub fn control_flags_stay(w: Width, a: u16, b: u16, n: u8, signed: bool, f: u16)
+    ensures binary { (op : BinaryOp) (j : Flag) → is_status j ≡ false → is_set (binary_of op w a b f).1 j ≡ is_set f j }
+    ensures unary { (op : UnaryOp) (j : Flag) → is_status j ≡ false → is_set (unary_of op w a f).1 j ≡ is_set f j }
+    ensures shift { (op : ShiftOp) (j : Flag) → is_status j ≡ false → is_set (shift_of op w a n f).1 j ≡ is_set f j }
     ensures mul { (j : Flag) → is_status j ≡ false → is_set (mul_of w signed a b f).1 j ≡ is_set f j }
-    ensures adjust { (j : Flag) → is_status j ≡ false → IfSome (adjust_of op a n f) (λ r. is_set r.1 j ≡ is_set f j) }
+    ensures adjust { (op : AdjustOp) (j : Flag) → is_status j ≡ false → IfSome (adjust_of op a n f) (λ r. is_set r.1 j ≡ is_set f j) }
 {}
 
 /// INC and DEC leave CF as it is.

@@ -7,7 +7,7 @@ ghost use Rattle.o2_isa.specs.Shifts.{once, repeated, differs, shift_overflow, s
 
 use crate::flags::{is_set, szp, with_flag};
 use crate::widths::{half_size, size};
-use o2_isa::{Flag, Op, Width};
+use o2_isa::{Flag, ShiftOp, Width};
 
 /// Whether the two differ.
 #[inline]
@@ -19,7 +19,7 @@ pub fn differ(a: bool, b: bool) -> bool
 
 /// One bit of a shift or rotation.
 #[tactic(auto, unfolding(o2_isa::specs::Sums::bit))]
-fn one_bit(op: Op, w: Width, a: u16, carry: bool) -> (u16, bool)
+fn one_bit(op: ShiftOp, w: Width, a: u16, carry: bool) -> (u16, bool)
     requires { IsOfWidth w a }
     ensures value { result ≡ once op w (a, carry) }
     ensures fits { IsOfWidth w result.0 }
@@ -30,14 +30,13 @@ fn one_bit(op: Op, w: Width, a: u16, carry: bool) -> (u16, bool)
     let low = a % 2 == 1;
     let doubled = (a as u32 * 2 % m) as u16;
     match op {
-        Op::OpRol => (doubled + (if top { 1 } else { 0 }), top),
-        Op::OpRor => (a / 2 + (if low { h } else { 0 }), low),
-        Op::OpRcl => (doubled + (if carry { 1 } else { 0 }), top),
-        Op::OpRcr => (a / 2 + (if carry { h } else { 0 }), low),
-        Op::OpShl => (doubled, top),
-        Op::OpShr => (a / 2, low),
-        Op::OpSar => (a / 2 + (if top { h } else { 0 }), low),
-        _ => (a, carry),
+        ShiftOp::Rol => (doubled + (if top { 1 } else { 0 }), top),
+        ShiftOp::Ror => (a / 2 + (if low { h } else { 0 }), low),
+        ShiftOp::Rcl => (doubled + (if carry { 1 } else { 0 }), top),
+        ShiftOp::Rcr => (a / 2 + (if carry { h } else { 0 }), low),
+        ShiftOp::Shl => (doubled, top),
+        ShiftOp::Shr => (a / 2, low),
+        ShiftOp::Sar => (a / 2 + (if top { h } else { 0 }), low),
     }
 }
 
@@ -149,7 +148,7 @@ fn lowered_by(w: Width, a: u16, n: u8) -> u16
 /// The value after `n` bits of ROL, ROR, SHL, SHR or SAR.
 #[inline]
 #[tactic(auto, using(crate::proofs::RotateLaws::rol_value, crate::proofs::RotateLaws::ror_value, crate::proofs::RotateLaws::shl_value, crate::proofs::RotateLaws::shr_value, crate::proofs::RotateLaws::sar_value))]
-fn value_after(op: Op, w: Width, a: u16, carry: bool, n: u8) -> u16
+fn value_after(op: ShiftOp, w: Width, a: u16, carry: bool, n: u8) -> u16
     requires width { IsOfWidth w a }
     requires count { n < 32 }
     requires group { IsAtOnce op }
@@ -157,29 +156,29 @@ fn value_after(op: Op, w: Width, a: u16, carry: bool, n: u8) -> u16
     ensures fits { IsOfWidth w result }
 {
     match op {
-        Op::OpRol => rolled_left(w, a, n % bit_count(w)),
-        Op::OpRor => rolled_right(w, a, n % bit_count(w)),
-        Op::OpShl => shifted_left(w, a, n),
-        Op::OpShr => shifted_right(w, a, n),
+        ShiftOp::Rol => rolled_left(w, a, n % bit_count(w)),
+        ShiftOp::Ror => rolled_right(w, a, n % bit_count(w)),
+        ShiftOp::Shl => shifted_left(w, a, n),
+        ShiftOp::Shr => shifted_right(w, a, n),
         _ => lowered_by(w, a, n),
     }
 }
 
 /// Whether the result of the shift or rotation doesn't depend on CF.
 #[inline]
-fn goes_at_once(op: Op) -> bool
+fn goes_at_once(op: ShiftOp) -> bool
     ensures { result ≡ is_at_once op }
 {
     matches!(
         op,
-        Op::OpRol | Op::OpRor | Op::OpShl | Op::OpShr | Op::OpSar
+        ShiftOp::Rol | ShiftOp::Ror | ShiftOp::Shl | ShiftOp::Shr | ShiftOp::Sar
     )
 }
 
 /// The value and CF after `n` bits of ROL, ROR, SHL, SHR or SAR: all but the last at once, and the last.
 #[inline]
 #[tactic(auto, using(crate::proofs::ShiftLaws::once_more))]
-fn bits_at_once(op: Op, w: Width, a: u16, carry: bool, n: u8) -> (u16, bool)
+fn bits_at_once(op: ShiftOp, w: Width, a: u16, carry: bool, n: u8) -> (u16, bool)
     requires width { IsOfWidth w a }
     requires some { 0 < n }
     requires count { n < 32 }
@@ -191,7 +190,7 @@ fn bits_at_once(op: Op, w: Width, a: u16, carry: bool, n: u8) -> (u16, bool)
 }
 
 /// The value and CF after `n` bits, one by one.
-fn bits_one_by_one(op: Op, w: Width, a: u16, carry: bool, n: u8) -> (u16, bool)
+fn bits_one_by_one(op: ShiftOp, w: Width, a: u16, carry: bool, n: u8) -> (u16, bool)
     requires { IsOfWidth w a }
     ensures value { result ≡ repeated n op w (a, carry) }
     ensures fits { IsOfWidth w result.0 }
@@ -206,7 +205,7 @@ fn bits_one_by_one(op: Op, w: Width, a: u16, carry: bool, n: u8) -> (u16, bool)
 
 /// The value and CF after `n` bits.
 #[inline]
-fn many_bits(op: Op, w: Width, a: u16, carry: bool, n: u8) -> (u16, bool)
+fn many_bits(op: ShiftOp, w: Width, a: u16, carry: bool, n: u8) -> (u16, bool)
     requires width { IsOfWidth w a }
     requires some { 0 < n }
     requires count { n < 32 }
@@ -221,23 +220,22 @@ fn many_bits(op: Op, w: Width, a: u16, carry: bool, n: u8) -> (u16, bool)
 }
 
 /// OF at count 1.
-fn overflow_of(op: Op, w: Width, a: u16, r: u16, c: bool) -> bool
+fn overflow_of(op: ShiftOp, w: Width, a: u16, r: u16, c: bool) -> bool
     ensures { result ≡ shift_overflow op w a r c }
 {
     let h = half_size(w) as u16;
     let top = h <= r;
     let next = h as u32 <= r as u32 * 2 % size(w);
     match op {
-        Op::OpShr => h <= a,
-        Op::OpSar => false,
-        Op::OpRor | Op::OpRcr => differ(top, next),
-        Op::OpRol | Op::OpRcl | Op::OpShl => differ(top, c),
-        _ => false,
+        ShiftOp::Shr => h <= a,
+        ShiftOp::Sar => false,
+        ShiftOp::Ror | ShiftOp::Rcr => differ(top, next),
+        ShiftOp::Rol | ShiftOp::Rcl | ShiftOp::Shl => differ(top, c),
     }
 }
 
 #[tactic(auto, unfolding(o2_isa::specs::Shifts::shift_flags))]
-fn flags_after(op: Op, w: Width, n: u8, a: u16, r: u16, c: bool, f: u16) -> u16
+fn flags_after(op: ShiftOp, w: Width, n: u8, a: u16, r: u16, c: bool, f: u16) -> u16
     ensures { result ≡ shift_flags op w n a r c f }
 {
     let g = with_flag(f, Flag::Carry, c);
@@ -247,15 +245,14 @@ fn flags_after(op: Op, w: Width, n: u8, a: u16, r: u16, c: bool, f: u16) -> u16
         g
     };
     match op {
-        Op::OpRol | Op::OpRor | Op::OpRcl | Op::OpRcr => h,
-        _ => szp(w, r, h),
+        ShiftOp::Rol | ShiftOp::Ror | ShiftOp::Rcl | ShiftOp::Rcr => h,
+        ShiftOp::Shl | ShiftOp::Shr | ShiftOp::Sar => szp(w, r, h),
     }
 }
 
 /// ROL, ROR, RCL, RCR, SHL, SHR and SAR by `count` modulo 32: the result and the flags word.
-/// For any other `op` the value stays.
 #[tactic(auto, unfolding(o2_isa::specs::Shifts::shift_of))]
-pub fn shift(op: Op, w: Width, a: u16, count: u8, f: u16) -> (u16, u16)
+pub fn shift(op: ShiftOp, w: Width, a: u16, count: u8, f: u16) -> (u16, u16)
     requires { IsOfWidth w a }
     ensures value { result ≡ shift_of op w a count f }
     ensures fits { IsOfWidth w result.0 }

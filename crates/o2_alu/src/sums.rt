@@ -7,7 +7,7 @@ ghost use Rattle.o2_isa.specs.Alu.{binary_of, unary_of};
 
 use crate::flags::{carries, is_set, szp, with_flag};
 use crate::widths::{half_size, is_outside, signed_value, size};
-use o2_isa::{Flag, Op, Width};
+use o2_isa::{BinaryOp, Flag, LogicOp, UnaryOp, Width};
 
 /// A carry as a number.
 #[inline]
@@ -183,23 +183,22 @@ pub fn complement(w: Width, a: u16) -> u16
 
 #[inline]
 #[tactic(auto, using(crate::proofs::Bounds::or_fits, crate::proofs::Bounds::xor_fits))]
-fn logic_result(op: Op, w: Width, a: u16, b: u16) -> u16
+fn logic_result(op: LogicOp, w: Width, a: u16, b: u16) -> u16
     requires left { IsOfWidth w a }
     requires right { IsOfWidth w b }
     ensures value { result ≡ logic_value op a b }
     ensures fits { IsOfWidth w result }
 {
     match op {
-        Op::OpAnd | Op::OpTest => a & b,
-        Op::OpOr => a | b,
-        Op::OpXor => a ^ b,
-        _ => a,
+        LogicOp::And => a & b,
+        LogicOp::Or => a | b,
+        LogicOp::Xor => a ^ b,
     }
 }
 
-/// AND, TEST, OR and XOR: the result and the flags word. For any other `op` the result is the first operand.
+/// AND, OR and XOR: the result and the flags word. TEST gives the flags word of AND.
 #[tactic(auto, unfolding(o2_isa::specs::Sums::logic_of))]
-pub fn logic(op: Op, w: Width, a: u16, b: u16, f: u16) -> (u16, u16)
+pub fn logic(op: LogicOp, w: Width, a: u16, b: u16, f: u16) -> (u16, u16)
     requires left { IsOfWidth w a }
     requires right { IsOfWidth w b }
     ensures value { result ≡ logic_of op w a b f }
@@ -211,36 +210,36 @@ pub fn logic(op: Op, w: Width, a: u16, b: u16, f: u16) -> (u16, u16)
     (r, szp(w, r, f))
 }
 
-/// ADD, ADC, SUB, SBB, CMP, AND, TEST, OR and XOR: the result and the flags word. For any other `op` `a` and `f` stay.
+/// ADD, ADC, SUB, SBB, CMP, AND, TEST, OR and XOR: the result and the flags word.
 #[tactic(auto, unfolding(o2_isa::specs::Alu::binary_of))]
-pub fn binary(op: Op, w: Width, a: u16, b: u16, f: u16) -> (u16, u16)
+pub fn binary(op: BinaryOp, w: Width, a: u16, b: u16, f: u16) -> (u16, u16)
     requires left { IsOfWidth w a }
     requires right { IsOfWidth w b }
     ensures value { result ≡ binary_of op w a b f }
     ensures fits { IsOfWidth w result.0 }
 {
     match op {
-        Op::OpAdd => add(w, a, b, false, f),
-        Op::OpAdc => add(w, a, b, is_set(f, Flag::Carry), f),
-        Op::OpSub | Op::OpCmp => sub(w, a, b, false, f),
-        Op::OpSbb => sub(w, a, b, is_set(f, Flag::Carry), f),
-        Op::OpAnd | Op::OpTest | Op::OpOr | Op::OpXor => logic(op, w, a, b, f),
-        _ => (a, f),
+        BinaryOp::Add => add(w, a, b, false, f),
+        BinaryOp::Adc => add(w, a, b, is_set(f, Flag::Carry), f),
+        BinaryOp::Sub | BinaryOp::Cmp => sub(w, a, b, false, f),
+        BinaryOp::Sbb => sub(w, a, b, is_set(f, Flag::Carry), f),
+        BinaryOp::And | BinaryOp::Test => logic(LogicOp::And, w, a, b, f),
+        BinaryOp::Or => logic(LogicOp::Or, w, a, b, f),
+        BinaryOp::Xor => logic(LogicOp::Xor, w, a, b, f),
     }
 }
 
-/// INC, DEC, NEG and NOT: the result and the flags word. For any other `op` `a` and `f` stay.
+/// INC, DEC, NEG and NOT: the result and the flags word.
 #[tactic(auto, unfolding(o2_isa::specs::Alu::unary_of))]
-pub fn unary(op: Op, w: Width, a: u16, f: u16) -> (u16, u16)
+pub fn unary(op: UnaryOp, w: Width, a: u16, f: u16) -> (u16, u16)
     requires { IsOfWidth w a }
     ensures value { result ≡ unary_of op w a f }
     ensures fits { IsOfWidth w result.0 }
 {
     match op {
-        Op::OpInc => increment(w, a, f),
-        Op::OpDec => decrement(w, a, f),
-        Op::OpNeg => negate(w, a, f),
-        Op::OpNot => (complement(w, a), f),
-        _ => (a, f),
+        UnaryOp::Inc => increment(w, a, f),
+        UnaryOp::Dec => decrement(w, a, f),
+        UnaryOp::Neg => negate(w, a, f),
+        UnaryOp::Not => (complement(w, a), f),
     }
 }

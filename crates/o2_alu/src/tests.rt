@@ -4,7 +4,7 @@ ghost use Rattle.std.specs.Prelude.{◌<◌, IsTrue};
 ghost use Rattle.o2_isa.specs.Widths.{IsOfWidth, IsOfTwice};
 
 use crate::{add, adjust, binary, div, mul, shift, sub, unary};
-use o2_isa::{Op, Width};
+use o2_isa::{AdjustOp, BinaryOp, ShiftOp, UnaryOp, Width};
 
 /// What a byte addition leaves in the flags word 0202h, by the bits of operands and sum.
 fn flags_by_bits(a: u16, b: u16, sum: u16) -> u16 {
@@ -46,7 +46,7 @@ fn daa_of_all_packed_decimals(rt: HostRuntime) {
         let carry = n / 10_000 == 1;
         let total = a + b + (if carry { 1 } else { 0 });
         let (sum, f) = add(Width::Byte, packed(a), packed(b), carry, 0x202);
-        let (ax, g) = adjust(Op::OpDaa, 0x1200 + sum, 0, f).unwrap_or((0, 0));
+        let (ax, g) = adjust(AdjustOp::Daa, 0x1200 + sum, 0, f).unwrap_or((0, 0));
         assert_eq!(rt; ax, 0x1200 + packed(total % 100), "{a} + {b}");
         assert_eq!(rt; g % 2, total / 100, "{a} + {b}");
     }
@@ -60,18 +60,18 @@ fn das_of_all_packed_decimals(rt: HostRuntime) {
         let borrow = n / 10_000 == 1;
         let taken = b + (if borrow { 1 } else { 0 });
         let (difference, f) = sub(Width::Byte, packed(a), packed(b), borrow, 0x202);
-        let (ax, g) = adjust(Op::OpDas, 0x1200 + difference, 0, f).unwrap_or((0, 0));
+        let (ax, g) = adjust(AdjustOp::Das, 0x1200 + difference, 0, f).unwrap_or((0, 0));
         assert_eq!(rt; ax, 0x1200 + packed((a + 100 - taken) % 100), "{a} - {b}");
         assert_eq!(rt; g % 2, if a < taken { 1 } else { 0 }, "{a} - {b}");
     }
 }
 
 /// A mnemonic with two operands, the flags word before, and the result and the flags word after.
-static SUMS: [(Op, Width, u16, u16, u16, u16, u16); 12] = [
+static SUMS: [(BinaryOp, Width, u16, u16, u16, u16, u16); 12] = [
     // MOV AL, 7Fh; ADD AL, 1
-    (Op::OpAdd, Width::Byte, 0x7F, 0x01, 0x0202, 0x80, 0x0A92),
+    (BinaryOp::Add, Width::Byte, 0x7F, 0x01, 0x0202, 0x80, 0x0A92),
     (
-        Op::OpAdd,
+        BinaryOp::Add,
         Width::Word,
         0xFFFF,
         0x0001,
@@ -79,12 +79,12 @@ static SUMS: [(Op, Width, u16, u16, u16, u16, u16); 12] = [
         0x0000,
         0x0257,
     ),
-    (Op::OpAdc, Width::Byte, 0xFF, 0x00, 0x0203, 0x00, 0x0257),
-    (Op::OpAdc, Width::Byte, 0x80, 0x80, 0x0202, 0x00, 0x0A47),
+    (BinaryOp::Adc, Width::Byte, 0xFF, 0x00, 0x0203, 0x00, 0x0257),
+    (BinaryOp::Adc, Width::Byte, 0x80, 0x80, 0x0202, 0x00, 0x0A47),
     // The pair of the manual's DAS: 35h - 47h.
-    (Op::OpSub, Width::Byte, 0x35, 0x47, 0x0202, 0xEE, 0x0297),
+    (BinaryOp::Sub, Width::Byte, 0x35, 0x47, 0x0202, 0xEE, 0x0297),
     (
-        Op::OpSub,
+        BinaryOp::Sub,
         Width::Word,
         0x8000,
         0x0001,
@@ -93,7 +93,7 @@ static SUMS: [(Op, Width, u16, u16, u16, u16, u16); 12] = [
         0x0A16,
     ),
     (
-        Op::OpSbb,
+        BinaryOp::Sbb,
         Width::Word,
         0x0000,
         0xFFFF,
@@ -101,9 +101,9 @@ static SUMS: [(Op, Width, u16, u16, u16, u16, u16); 12] = [
         0x0000,
         0x0257,
     ),
-    (Op::OpCmp, Width::Byte, 0x05, 0x05, 0x0ED7, 0x00, 0x0646),
+    (BinaryOp::Cmp, Width::Byte, 0x05, 0x05, 0x0ED7, 0x00, 0x0646),
     (
-        Op::OpAnd,
+        BinaryOp::And,
         Width::Word,
         0xF0F0,
         0x8FF0,
@@ -111,9 +111,17 @@ static SUMS: [(Op, Width, u16, u16, u16, u16, u16); 12] = [
         0x80F0,
         0x0296,
     ),
-    (Op::OpOr, Width::Byte, 0x00, 0x00, 0x0203, 0x00, 0x0246),
-    (Op::OpXor, Width::Byte, 0xAA, 0x55, 0x0202, 0xFF, 0x0286),
-    (Op::OpTest, Width::Byte, 0x81, 0x01, 0x0202, 0x01, 0x0202),
+    (BinaryOp::Or, Width::Byte, 0x00, 0x00, 0x0203, 0x00, 0x0246),
+    (BinaryOp::Xor, Width::Byte, 0xAA, 0x55, 0x0202, 0xFF, 0x0286),
+    (
+        BinaryOp::Test,
+        Width::Byte,
+        0x81,
+        0x01,
+        0x0202,
+        0x01,
+        0x0202,
+    ),
 ];
 
 #[test]
@@ -135,15 +143,15 @@ fn fits(w: Width, x: u16) -> bool
     }
 }
 
-static ONES: [(Op, Width, u16, u16, u16, u16); 7] = [
+static ONES: [(UnaryOp, Width, u16, u16, u16, u16); 7] = [
     // INC and DEC leave CF.
-    (Op::OpInc, Width::Byte, 0x7F, 0x0203, 0x80, 0x0A93),
-    (Op::OpInc, Width::Word, 0xFFFF, 0x0202, 0x0000, 0x0256),
-    (Op::OpDec, Width::Byte, 0x80, 0x0202, 0x7F, 0x0A12),
-    (Op::OpDec, Width::Word, 0x0000, 0x0203, 0xFFFF, 0x0297),
-    (Op::OpNeg, Width::Byte, 0x80, 0x0202, 0x80, 0x0A83),
-    (Op::OpNeg, Width::Word, 0x0000, 0x0203, 0x0000, 0x0246),
-    (Op::OpNot, Width::Byte, 0x0F, 0x0ED7, 0xF0, 0x0ED7),
+    (UnaryOp::Inc, Width::Byte, 0x7F, 0x0203, 0x80, 0x0A93),
+    (UnaryOp::Inc, Width::Word, 0xFFFF, 0x0202, 0x0000, 0x0256),
+    (UnaryOp::Dec, Width::Byte, 0x80, 0x0202, 0x7F, 0x0A12),
+    (UnaryOp::Dec, Width::Word, 0x0000, 0x0203, 0xFFFF, 0x0297),
+    (UnaryOp::Neg, Width::Byte, 0x80, 0x0202, 0x80, 0x0A83),
+    (UnaryOp::Neg, Width::Word, 0x0000, 0x0203, 0x0000, 0x0246),
+    (UnaryOp::Not, Width::Byte, 0x0F, 0x0ED7, 0xF0, 0x0ED7),
 ];
 
 #[test]
@@ -156,24 +164,56 @@ fn one_operand(rt: HostRuntime) {
 }
 
 /// A shift of a value by a count, the flags word before, and the result and the flags word after.
-static SHIFTS: [(Op, Width, u16, u8, u16, u16, u16); 16] = [
-    (Op::OpShl, Width::Byte, 0x81, 1, 0x0202, 0x02, 0x0A03),
-    (Op::OpShl, Width::Byte, 0x81, 2, 0x0202, 0x04, 0x0202),
-    (Op::OpShl, Width::Word, 0x0001, 16, 0x0202, 0x0000, 0x0247),
-    (Op::OpShl, Width::Word, 0x0001, 31, 0x0203, 0x0000, 0x0246),
-    (Op::OpShr, Width::Byte, 0x81, 1, 0x0202, 0x40, 0x0A03),
-    (Op::OpSar, Width::Byte, 0x81, 1, 0x0A02, 0xC0, 0x0287),
-    (Op::OpSar, Width::Word, 0x8000, 31, 0x0202, 0xFFFF, 0x0287),
-    (Op::OpRol, Width::Byte, 0x81, 1, 0x0202, 0x03, 0x0A03),
-    (Op::OpRol, Width::Byte, 0x81, 8, 0x0202, 0x81, 0x0203),
-    (Op::OpRol, Width::Word, 0x1234, 4, 0x0202, 0x2341, 0x0203),
-    (Op::OpRor, Width::Word, 0x1234, 4, 0x0202, 0x4123, 0x0202),
-    (Op::OpRor, Width::Byte, 0x01, 1, 0x0202, 0x80, 0x0A03),
-    (Op::OpRcl, Width::Byte, 0x80, 1, 0x0203, 0x01, 0x0A03),
-    (Op::OpRcl, Width::Byte, 0xA5, 9, 0x0203, 0xA5, 0x0203),
-    (Op::OpRcr, Width::Word, 0x0001, 17, 0x0202, 0x0001, 0x0202),
+static SHIFTS: [(ShiftOp, Width, u16, u8, u16, u16, u16); 16] = [
+    (ShiftOp::Shl, Width::Byte, 0x81, 1, 0x0202, 0x02, 0x0A03),
+    (ShiftOp::Shl, Width::Byte, 0x81, 2, 0x0202, 0x04, 0x0202),
+    (
+        ShiftOp::Shl,
+        Width::Word,
+        0x0001,
+        16,
+        0x0202,
+        0x0000,
+        0x0247,
+    ),
+    (
+        ShiftOp::Shl,
+        Width::Word,
+        0x0001,
+        31,
+        0x0203,
+        0x0000,
+        0x0246,
+    ),
+    (ShiftOp::Shr, Width::Byte, 0x81, 1, 0x0202, 0x40, 0x0A03),
+    (ShiftOp::Sar, Width::Byte, 0x81, 1, 0x0A02, 0xC0, 0x0287),
+    (
+        ShiftOp::Sar,
+        Width::Word,
+        0x8000,
+        31,
+        0x0202,
+        0xFFFF,
+        0x0287,
+    ),
+    (ShiftOp::Rol, Width::Byte, 0x81, 1, 0x0202, 0x03, 0x0A03),
+    (ShiftOp::Rol, Width::Byte, 0x81, 8, 0x0202, 0x81, 0x0203),
+    (ShiftOp::Rol, Width::Word, 0x1234, 4, 0x0202, 0x2341, 0x0203),
+    (ShiftOp::Ror, Width::Word, 0x1234, 4, 0x0202, 0x4123, 0x0202),
+    (ShiftOp::Ror, Width::Byte, 0x01, 1, 0x0202, 0x80, 0x0A03),
+    (ShiftOp::Rcl, Width::Byte, 0x80, 1, 0x0203, 0x01, 0x0A03),
+    (ShiftOp::Rcl, Width::Byte, 0xA5, 9, 0x0203, 0xA5, 0x0203),
+    (
+        ShiftOp::Rcr,
+        Width::Word,
+        0x0001,
+        17,
+        0x0202,
+        0x0001,
+        0x0202,
+    ),
     // A count of 32 is a count of 0, which changes nothing.
-    (Op::OpRcr, Width::Byte, 0xA5, 32, 0x0AD7, 0xA5, 0x0AD7),
+    (ShiftOp::Rcr, Width::Byte, 0xA5, 32, 0x0AD7, 0xA5, 0x0AD7),
 ];
 
 #[test]
@@ -266,21 +306,21 @@ fn all_byte_quotients_of_some_divisors(rt: HostRuntime) {
 }
 
 /// AX, the base and the flags word, and both after.
-static DECIMALS: [(Op, u16, u8, u16, Option<(u16, u16)>); 12] = [
+static DECIMALS: [(AdjustOp, u16, u8, u16, Option<(u16, u16)>); 12] = [
     // 79h + 35h = AEh, in decimal 79 + 35 = 114: the manual's example.
-    (Op::OpDaa, 0x00AE, 10, 0x0A82, Some((0x0014, 0x0A17))),
+    (AdjustOp::Daa, 0x00AE, 10, 0x0A82, Some((0x0014, 0x0A17))),
     // 35h - 47h = EEh, in decimal 35 - 47 = 88 with a borrow: the manual's example.
-    (Op::OpDas, 0x00EE, 10, 0x0297, Some((0x0088, 0x0297))),
-    (Op::OpDaa, 0x1200, 10, 0x0203, Some((0x1260, 0x0207))),
-    (Op::OpDaa, 0x009A, 10, 0x0202, Some((0x0000, 0x0257))),
-    (Op::OpAaa, 0x000E, 10, 0x0202, Some((0x0104, 0x0213))),
-    (Op::OpAaa, 0x0005, 10, 0x0203, Some((0x0005, 0x0202))),
-    (Op::OpAas, 0x02FF, 10, 0x0212, Some((0x0109, 0x0213))),
-    (Op::OpAam, 0x003F, 10, 0x0202, Some((0x0603, 0x0206))),
-    (Op::OpAam, 0x003F, 0, 0x0202, None),
-    (Op::OpAam, 0x00FF, 16, 0x0202, Some((0x0F0F, 0x0206))),
-    (Op::OpAad, 0x0207, 10, 0x0202, Some((0x001B, 0x0206))),
-    (Op::OpAad, 0xFFFF, 0xFF, 0x0202, Some((0x0000, 0x0246))),
+    (AdjustOp::Das, 0x00EE, 10, 0x0297, Some((0x0088, 0x0297))),
+    (AdjustOp::Daa, 0x1200, 10, 0x0203, Some((0x1260, 0x0207))),
+    (AdjustOp::Daa, 0x009A, 10, 0x0202, Some((0x0000, 0x0257))),
+    (AdjustOp::Aaa, 0x000E, 10, 0x0202, Some((0x0104, 0x0213))),
+    (AdjustOp::Aaa, 0x0005, 10, 0x0203, Some((0x0005, 0x0202))),
+    (AdjustOp::Aas, 0x02FF, 10, 0x0212, Some((0x0109, 0x0213))),
+    (AdjustOp::Aam, 0x003F, 10, 0x0202, Some((0x0603, 0x0206))),
+    (AdjustOp::Aam, 0x003F, 0, 0x0202, None),
+    (AdjustOp::Aam, 0x00FF, 16, 0x0202, Some((0x0F0F, 0x0206))),
+    (AdjustOp::Aad, 0x0207, 10, 0x0202, Some((0x001B, 0x0206))),
+    (AdjustOp::Aad, 0xFFFF, 0xFF, 0x0202, Some((0x0000, 0x0246))),
 ];
 
 #[test]

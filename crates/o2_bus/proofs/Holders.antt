@@ -26,7 +26,7 @@ grant_found (Some g ∷ gs) zero h e = let same : hold_of g ≡ h = cc in rw (�
 grant_found (None ∷ gs) (suc j) h e = grant_found gs j h e
 grant_found (Some g ∷ gs) (suc j) h e = let ih = grant_found gs j h e in grind arith
 
-map_found : (ms : List Map) (pid j : ℕ) (h : Hold) → in_map (slice_get ms pid) j ≡ Some h → maps_name ms h.name ≡ true
+pub map_found : (ms : List Map) (pid j : ℕ) (h : Hold) → in_map (slice_get ms pid) j ≡ Some h → maps_name ms h.name ≡ true
 map_found [] pid j h e = absurd (cc)
 map_found (m ∷ ms) zero j h e = let here = grant_found m.grants.items j h e in grind arith
 map_found (m ∷ ms) (suc pid) j h e = let ih = map_found ms pid j h e in grind arith

@@ -13,7 +13,10 @@ use Rattle.o2_bus.specs.declared.plain.Plain.{Plain}
 use Rattle.o2_bus.specs.declared.plain.Grant.{Grant}
 use Rattle.o2_bus.specs.declared.segment.Segment.{Segment}
 use Rattle.o2_bus.specs.declared.plain_bus.Holds.{Holds}
-use Rattle.o2_bus.specs.Plain.{hold_of, held_in, bytes_in, shown_in, count_in, segment_bytes, registers_of, bus_view, PutsBytes}
+use Rattle.o2_isa.specs.View.{simple_view, no_rest, no_hidden}
+use Rattle.o2_isa.specs.Presence.{with_unseen}
+use Rattle.o2_bus.specs.declared.plain.Map.{Map}
+use Rattle.o2_bus.specs.Plain.{in_map, is_shown, hold_of, held_in, bytes_in, shown_in, count_in, segment_bytes, registers_of, bus_view, PutsBytes}
 
 get_set_same : (xs : List Segment) (i : ℕ) (x : Segment) → i < length xs → slice_get (set xs i x) i ≡ Some x
 get_set_same [] i x h = absurd (omega arith)
@@ -84,10 +87,17 @@ size_after xs ys n bs h e m = go (m == n) refl
     go true t = ap (λ (j : ℕ). length (segment_bytes (slice_get ys j))) (eqb-true m n t) ∙ (ap length h.put ∙ (e ∙ ap (λ (j : ℕ). length (segment_bytes (slice_get xs j))) (sym (eqb-true m n t))))
     go false t = ap (λ o. length (segment_bytes o)) (h.others m (λ q. false≢true (sym t ∙ eq-eqb m n q)))
 
-pub view_after : (nm : GName) (p q : Plain) (pid : ℕ) (h : Holds) (g : Grant) (r : Sreg) (k : ℕ) (w : Width) (x : ℕ) → Some (hold_of g) ≡ in_register (registers_of h) r → is_writable g.access ≡ true → PutsBytes p.segments.items q.segments.items g.name (put_at (segment_bytes (slice_get p.segments.items g.name)) k w x) → bus_view nm (record p { segments = q.segments }) pid h ≡ poke (bus_view nm p pid h) r k w x
+-- what a bus shows of these maps and segments
+abbrev list_view : GName → List Map → List Segment → ℕ → Holds → View
+list_view nm ms xs pid h = with_unseen (record no_rest { maps = λ q i. in_map (slice_get ms q) i; most = length xs }) (record no_hidden { store = Some nm })
+    (simple_view (λ i. in_map (slice_get ms pid) i) (λ n. is_shown (slice_get xs n)) (λ n. segment_bytes (slice_get xs n)) (registers_of h))
+
+pub view_after : (nm : GName) (p q : Plain) (pid : ℕ) (h : Holds) (g : Grant) (r : Sreg) (k : ℕ) (w : Width) (x : ℕ) → Some (hold_of g) ≡ in_register (registers_of h) r → is_writable g.access ≡ true → q.maps.items ≡ p.maps.items
+    → PutsBytes p.segments.items q.segments.items g.name (put_at (segment_bytes (slice_get p.segments.items g.name)) k w x) → bus_view nm q pid h ≡ poke (bus_view nm p pid h) r k w x
 unfolding bus_view held_in bytes_in shown_in count_in poke
-view_after nm p q pid h g r k w x e writable puts_it =
-    same_view (bus_view nm p pid h) _ _ _ _ _ _ _ _
+view_after nm p q pid h g r k w x e writable maps puts_it =
+    ap (λ (ms : List Map). list_view nm ms q.segments.items pid h) maps
+    ∙ same_view (bus_view nm p pid h) _ _ _ _ _ _ _ _
     (size_after _ _ _ _ puts_it (length_put_at (segment_bytes (slice_get p.segments.items g.name)) k w x))
     puts_it.same_shown
     (bytes_after _ _ _ _ puts_it)

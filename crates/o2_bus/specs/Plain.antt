@@ -7,30 +7,14 @@ use Rattle.o2_isa.specs.declared.cpu.Purpose.TheVariants.{DataReg, StackReg}
 use Rattle.o2_isa.specs.View.{View, Hold, Registers, is_readable, is_writable, is_code, bound_registers, simple_view, no_rest, no_hidden}
 use Rattle.o2_isa.specs.Presence.{with_unseen}
 use Rattle.o2_bus.specs.declared.plain.Plain.{Plain}
-use Rattle.o2_bus.specs.declared.plain.Grant.{Grant}
 use Rattle.o2_bus.specs.declared.segment.Segment.{Segment}
-use Rattle.o2_bus.specs.declared.plain.Map.{Map}
+pub use Rattle.o2_bus.specs.Maps.{hold_of, granted, in_map, segment_bytes}
 use Rattle.o2_bus.specs.declared.plain_bus.Holds.{Holds}
 use Rattle.o2_bus.specs.declared.plain_bus.PlainBus.{PlainBus}
-
-abbrev pub hold_of : Grant → Hold
-hold_of g = record { name = g.name; rights = g.access }
-
-abbrev pub granted : Option (Option Grant) → Option Hold
-granted None = None
-granted (Some g) = option_map hold_of g
-
-abbrev pub in_map : Option Map → ℕ → Option Hold
-in_map None i = None
-in_map (Some m) i = granted (slice_get m.grants.items i)
 
 -- what an index of a process's map holds
 unfoldable pub held_in : Plain → ℕ → ℕ → Option Hold
 held_in p pid i = in_map (slice_get p.maps.items pid) i
-
-abbrev pub segment_bytes : Option Segment → List ℕ
-segment_bytes None = []
-segment_bytes (Some s) = s.bytes.items
 
 abbrev pub is_shown : Option Segment → Bool
 is_shown None = true

@@ -1,11 +1,7 @@
 // Segments as byte vectors, with a map for each process.
-ghost use Rattle.std.specs.Prelude.{◌≡◌, ◌==◌, ◌<◌, ◌≤◌, ◌+◌, ◌/◌, ℕ, true, not, length, option_map, IfOk, if◌then◌else◌, None};
-ghost use Rattle.o2_isa.specs.View.{bound_in, found_in};
-ghost use Rattle.o2_bus.specs.Plain.{hold_of, held_in, bytes_in, shown_in, count_in};
+ghost use Rattle.o2_bus.specs.Maps.{AreFilled};
 
 use crate::segment::Segment;
-use o2_base::NoMemory;
-use std::alloc::Global;
 
 /// What an index of a map holds.
 #[derive(Clone, Copy, Debug, PartialEq, Eq)]
@@ -22,14 +18,19 @@ pub struct Map {
     pub grants: Vec<Option<Grant>>,
 }
 
-/// Segments as byte vectors by name, with one map for each process.
+/// Segments as byte vectors by name, with one map for each process. What is held has at least one byte.
 #[derive(Drop)]
 pub struct Plain {
     pub segments: Vec<Segment>,
     pub maps: Vec<Map>,
+    ghost filled: { AreFilled segments.items maps.items },
 }
 
 impl Plain {
+    ghost use Rattle.std.specs.Prelude.{◌≡◌, ◌≤◌, length, option_map};
+    ghost use Rattle.o2_isa.specs.View.{bound_in, found_in};
+    ghost use Rattle.o2_bus.specs.Plain.{hold_of, held_in, bytes_in, shown_in, count_in};
+
     /// How many names were added: they are numbered from 0.
     #[tactic(auto, unfolding(crate::specs::Plain::count_in))]
     pub fn count(&self) -> usize

@@ -316,14 +316,27 @@ impl PlainBus<'_> {
     }
 }
 
-fn put_segment(segments: &mut [Segment], name: usize, at: usize, width: Width, value: u16)
-    requires named { name < length segments.old }
-    requires room { at + width_len width ≤ length (segment_bytes (slice_get segments.old name)) }
+fn put_segment(segments: &mut Vec<Segment>, name: usize, at: usize, width: Width, value: u16)
+    requires named { name < length segments.old.items }
+    requires room { at + width_len width ≤ length (segment_bytes (slice_get segments.old.items name)) }
     requires fits { width ≡ Width.Byte → value < 256 }
-    ensures { PutsBytes segments.old segments.new name (put_at (segment_bytes (slice_get segments.old name)) at width value) }
+    ensures { PutsBytes segments.old.items segments.new.items name (put_at (segment_bytes (slice_get segments.old.items name)) at width value) }
 {
     let segment = &mut segments[name];
     put(&mut segment.bytes, at, width, value);
+}
+
+impl Plain {
+    /// A byte or word put into a name.
+    fn put_value(&mut self, name: u32, at: u16, width: Width, value: u16)
+        requires named { name < length self.old.segments.items }
+        requires room { at + width_len width ≤ length (segment_bytes (slice_get self.old.segments.items name)) }
+        requires fits { width ≡ Width.Byte → value < 256 }
+        ensures bytes { PutsBytes self.old.segments.items self.new.segments.items name (put_at (segment_bytes (slice_get self.old.segments.items name)) at width value) }
+        ensures maps { self.new.maps.items ≡ self.old.maps.items }
+    {
+        put_segment(&mut self.segments, name as usize, at as usize, width, value);
+    }
 }
 
 impl Bus for PlainBus<'_> {
@@ -363,13 +376,7 @@ impl Bus for PlainBus<'_> {
 
     fn write(&mut self, reg: Sreg, off: u16, width: Width, value: u16) {
         match hold_in(&self.holds, reg) {
-            Some(grant) => put_segment(
-                &mut self.plain.segments,
-                grant.name as usize,
-                off as usize,
-                width,
-                value,
-            ),
+            Some(grant) => self.plain.put_value(grant.name, off, width, value),
             None => {}
         }
     }

@@ -1,5 +1,6 @@
 // What is added to a plain memory of segments, and changed in it.
 ghost use Rattle.std.specs.Prelude.{◌≡◌, ◌≢◌, ◌==◌, ◌&&◌, ◌<◌, ◌≤◌, ◌+◌, ◌++◌, ℕ, Bool, true, false, length, take, drop, slice_get, IfOk, OnOk, OnErr, IsOk, is_ok, if◌then◌else◌, Some, None, not};
+ghost use Rattle.o2_bus.specs.Frames.{IsSeenAs, memory, no_memory};
 ghost use Rattle.o2_bus.specs.Plain.{hold_of, held_in, bytes_in, shown_in, count_in, granted, in_map, segment_bytes, is_shown};
 
 use crate::plain::Map;
@@ -72,13 +73,26 @@ fn show_segment(segments: &mut Vec<Segment>, name: usize, present: bool)
     segment.hidden = !present;
 }
 
+/// One segment more, present.
+fn push_segment(segments: &mut Vec<Segment>, bytes: Vec<u8>) -> Result<(), NoMemory>
+    requires { length bytes.items ≤ 65536 }
+    ensures bytes { (n : ℕ) → segment_bytes (slice_get segments.new.items n) ≡ (if is_ok result && n == length segments.old.items then bytes.items else segment_bytes (slice_get segments.old.items n)) }
+    ensures kept { (n : ℕ) → n < length segments.old.items → segment_bytes (slice_get segments.new.items n) ≡ segment_bytes (slice_get segments.old.items n) }
+    ensures shown { (n : ℕ) → is_shown (slice_get segments.new.items n) ≡ is_shown (slice_get segments.old.items n) }
+    ensures count { length segments.new.items ≡ (if is_ok result then length segments.old.items + 1 else length segments.old.items) }
+{
+    segments.push(Segment {
+        bytes,
+        hidden: false,
+    })?;
+    Ok(())
+}
+
 impl Plain {
     /// A memory without names, whose processes hold nothing.
     #[tactic(auto, unfolding(crate::specs::Plain::held_in, crate::specs::Plain::bytes_in, crate::specs::Plain::shown_in, crate::specs::Plain::count_in))]
     pub fn new(alloc: Global) -> Result<Plain, NoMemory>
-        ensures count { IfOk result (λ p. count_in p ≡ 0) }
-        ensures held { IfOk result (λ p. (pid i : ℕ) → held_in p pid i ≡ None) }
-        ensures shown { IfOk result (λ p. (n : ℕ) → shown_in p n ≡ true) }
+        ensures { IfOk result (λ p. IsSeenAs p no_memory) }
     {
         Ok(Plain {
             segments: Vec::new(alloc),
@@ -88,27 +102,23 @@ impl Plain {
 
     /// One more name, with these bytes, present; the answer is its number. The first is 0.
     #[tactic(auto, unfolding(crate::specs::Plain::held_in, crate::specs::Plain::bytes_in, crate::specs::Plain::shown_in, crate::specs::Plain::count_in))]
-    pub fn add(&mut self, alloc: Global, bytes: &[u8]) -> Result<u32, NoMemory>
-        requires { length bytes.now ≤ 65536 }
+    pub fn add(&mut self, bytes: Vec<u8>) -> Result<u32, NoMemory>
+        requires { length bytes.items ≤ 65536 }
         ensures name { IfOk result (λ n. n ≡ count_in self.old) }
-        ensures count { count_in self.new ≡ (if is_ok result then count_in self.old + 1 else count_in self.old) }
-        ensures bytes { (n : ℕ) → bytes_in self.new n ≡ (if is_ok result && n == count_in self.old then bytes.now else bytes_in self.old n) }
-        ensures shown { (n : ℕ) → shown_in self.new n ≡ shown_in self.old n }
-        ensures held { (p i : ℕ) → held_in self.new p i ≡ held_in self.old p i }
+        ensures becomes { IsSeenAs self.new (record (memory self.old) {
+          bytes = λ n. if is_ok result && n == count_in self.old then bytes.items else bytes_in self.old n;
+          count = if is_ok result then count_in self.old + 1 else count_in self.old;
+        }) }
     {
         let name = self.segments.len();
         if name >= u32::MAX as usize {
             return Err(NoMemory);
         }
-        let copy = bytes.to_vec(alloc)?;
-        self.segments.push(Segment {
-            bytes: copy,
-            hidden: false,
-        })?;
+        push_segment(&mut self.segments, bytes)?;
         Ok(name as u32)
     }
 
-    /// An index of a process's map holds a name, with this access byte.
+    /// An index of a process's map holds a name of at least one byte, with this access byte.
     #[tactic(auto, unfolding(crate::specs::Plain::held_in, crate::specs::Plain::bytes_in, crate::specs::Plain::shown_in, crate::specs::Plain::count_in))]
     pub fn hold(
         &mut self,
@@ -118,11 +128,11 @@ impl Plain {
         name: u32,
         access: u8,
     ) -> Result<(), NoMemory>
-        requires { name < count_in self.old }
-        ensures held { (p i : ℕ) → held_in self.new p i ≡ (if is_ok result && p == pid && i == index then Some (record { name = name; rights = access }) else held_in self.old p i) }
-        ensures bytes { (n : ℕ) → bytes_in self.new n ≡ bytes_in self.old n }
-        ensures shown { (n : ℕ) → shown_in self.new n ≡ shown_in self.old n }
-        ensures count { count_in self.new ≡ count_in self.old }
+        requires some { 0 < length (bytes_in self.old name) }
+        ensures { IsSeenAs self.new (record (memory self.old) {
+          held = λ p i. if is_ok result && p == pid && i == index
+              then Some (record { name = name; rights = access }) else held_in self.old p i;
+        }) }
     {
         reach_process(alloc, &mut self.maps, pid as usize)?;
         grant_at(
@@ -137,10 +147,9 @@ impl Plain {
     #[tactic(auto, unfolding(crate::specs::Plain::held_in, crate::specs::Plain::bytes_in, crate::specs::Plain::shown_in, crate::specs::Plain::count_in))]
     pub fn show(&mut self, name: u32, present: bool)
         requires { name < count_in self.old }
-        ensures shown { (n : ℕ) → shown_in self.new n ≡ (if n == name then present else shown_in self.old n) }
-        ensures bytes { (n : ℕ) → bytes_in self.new n ≡ bytes_in self.old n }
-        ensures held { (p i : ℕ) → held_in self.new p i ≡ held_in self.old p i }
-        ensures count { count_in self.new ≡ count_in self.old }
+        ensures { IsSeenAs self.new (record (memory self.old) {
+          shown = λ n. if n == name then present else shown_in self.old n;
+        }) }
     {
         show_segment(&mut self.segments, name as usize, present);
     }

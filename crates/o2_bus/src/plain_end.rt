@@ -1,7 +1,8 @@
 // The end of a process, and the names that nobody holds.
 ghost use Rattle.std.specs.Prelude.{◌≡◌, ◌<◌, ◌==◌, ℕ, List, [], length, slice_get, None, if◌then◌else◌};
 ghost use Rattle.std.specs.List.{list_any};
-ghost use Rattle.o2_bus.specs.Plain.{held_in, bytes_in, shown_in, count_in, segment_bytes, is_shown, in_map, PutsBytes};
+ghost use Rattle.o2_bus.specs.Plain.{held_in, bytes_in, segment_bytes, is_shown, in_map, PutsBytes};
+ghost use Rattle.o2_bus.specs.Frames.{IsSeenAs, memory};
 ghost use Rattle.o2_bus.specs.Ends.{grants_name, map_names, maps_name, is_held_in};
 
 use crate::plain::Map;
@@ -67,10 +68,10 @@ fn clear(maps: &mut Vec<Map>, pid: usize)
 impl Plain {
     /// A process ends: it holds nothing any more, and a name that nobody holds has no bytes any more.
     pub fn end(&mut self, pid: u16)
-        ensures held { (p i : ℕ) → held_in self.new p i ≡ (if p == pid then None else held_in self.old p i) }
-        ensures bytes { (n : ℕ) → bytes_in self.new n ≡ (if is_held_in self.new n then bytes_in self.old n else []) }
-        ensures shown { (n : ℕ) → shown_in self.new n ≡ shown_in self.old n }
-        ensures count { count_in self.new ≡ count_in self.old }
+        ensures { IsSeenAs self.new (record (memory self.old) {
+          held = λ p i. if p == pid then None else held_in self.old p i;
+          bytes = λ n. if is_held_in self.new n then bytes_in self.old n else [];
+        }) }
     {
         clear(&mut self.maps, pid as usize);
         drop_unheld(&mut self.segments, &self.maps);

@@ -1,7 +1,8 @@
 // Bytes written into a name.
 ghost use Rattle.std.specs.Prelude.{◌≡◌, ◌+◌, ◌≤◌, ◌<◌, ◌==◌, ℕ, length, slice_get, if◌then◌else◌};
 ghost use Rattle.o2_isa.specs.Parts.{put_part};
-ghost use Rattle.o2_bus.specs.Plain.{held_in, bytes_in, shown_in, count_in, segment_bytes, PutsBytes};
+ghost use Rattle.o2_bus.specs.Plain.{bytes_in, segment_bytes, PutsBytes};
+ghost use Rattle.o2_bus.specs.Frames.{KeepsSegments};
 
 use crate::Plain;
 use crate::segment::Segment;
@@ -28,11 +29,9 @@ impl Plain {
     pub fn put(&mut self, name: u32, at: u16, part: &[u8])
         requires some { 0 < length part.now }
         requires there { at + length part.now ≤ length (bytes_in self.old name) }
-        ensures bytes { (n : ℕ) → bytes_in self.new n ≡ (if n == name then put_part (bytes_in self.old name) at part.now else bytes_in self.old n) }
-        ensures sizes { (n : ℕ) → length (bytes_in self.new n) ≡ length (bytes_in self.old n) }
-        ensures maps { held_in self.new ≡ held_in self.old }
-        ensures shown { (n : ℕ) → shown_in self.new n ≡ shown_in self.old n }
-        ensures count { count_in self.new ≡ count_in self.old }
+        ensures bytes { (n : ℕ) → bytes_in self.new n
+            ≡ (if n == name then put_part (bytes_in self.old name) at part.now else bytes_in self.old n) }
+        ensures frame { KeepsSegments self.old self.new }
     {
         put_in_segment(&mut self.segments, name as usize, at as usize, part);
     }

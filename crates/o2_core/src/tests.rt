@@ -24,7 +24,10 @@ fn one(plain: &mut Plain, alloc: Global, index: u16, bytes: &[u8]) -> Result<(),
         Some(access) => *access,
         None => 0,
     };
-    let name = plain.add(alloc, bytes)?;
+    if bytes.len() == 0 {
+        return Err(NoMemory);
+    }
+    let name = plain.add(bytes.to_vec(alloc)?)?;
     if index >= 5 {
         plain.show(name, false);
     }

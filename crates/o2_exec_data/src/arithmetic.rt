@@ -4,16 +4,22 @@ ghost use Rattle.o2_isa.specs.Steps.{Gives, state, run};
 ghost use Rattle.o2_isa.specs.DataArith.{binary as binary_steps, unary as unary_steps, result_into};
 
 use o2_bus::{Bus, finish, operand};
-use o2_isa::{Arg, Cpu, Instr, Op, Stop};
+use o2_isa::{Arg, BinaryOp, Cpu, Instr, Stop, UnaryOp};
 
 /// Where the result goes: CMP and TEST store none.
 #[inline]
-fn target(op: Op, arg: &Arg) -> Arg
+fn target(op: BinaryOp, arg: &Arg) -> Arg
     ensures { result ≡ result_into op arg.now }
 {
     match op {
-        Op::OpCmp | Op::OpTest => Arg::No,
-        _ => *arg,
+        BinaryOp::Cmp | BinaryOp::Test => Arg::No,
+        BinaryOp::Add
+        | BinaryOp::Or
+        | BinaryOp::Adc
+        | BinaryOp::Sbb
+        | BinaryOp::And
+        | BinaryOp::Sub
+        | BinaryOp::Xor => *arg,
     }
 }
 
@@ -21,7 +27,7 @@ fn target(op: Op, arg: &Arg) -> Arg
 pub fn execute_binary<B: Bus>(
     cpu: &mut Cpu,
     bus: &mut B,
-    op: Op,
+    op: BinaryOp,
     i: &Instr,
     next: u16,
 ) -> Result<(), Stop>
@@ -37,7 +43,7 @@ pub fn execute_binary<B: Bus>(
 pub fn execute_unary<B: Bus>(
     cpu: &mut Cpu,
     bus: &mut B,
-    op: Op,
+    op: UnaryOp,
     i: &Instr,
     next: u16,
 ) -> Result<(), Stop>

@@ -4,13 +4,13 @@ ghost use Rattle.o2_isa.specs.Steps.{Gives, state, run};
 ghost use Rattle.o2_isa.specs.DataArith.{adjust as adjust_steps};
 
 use o2_bus::{Bus, operand};
-use o2_isa::{Cpu, Instr, Op, Stop, Width};
+use o2_isa::{AdjustOp, Cpu, Instr, Stop, Width};
 
 #[tactic(auto, using(o2_isa::proofs::FinishRuns::run_taking), unfolding(o2_isa::specs::DataArith::adjust))]
 pub fn execute_adjust<B: Bus>(
     cpu: &mut Cpu,
     bus: &mut B,
-    op: Op,
+    op: AdjustOp,
     i: &Instr,
     next: u16,
 ) -> Result<(), Stop>

@@ -1,34 +1,24 @@
 // CLC, STC, CMC, CLD, STD, SAHF and LAHF.
-ghost use Rattle.std.specs.Prelude.{◌≡◌};
-ghost use Rattle.o2_isa.specs.DataFlags.{flags_after};
 ghost use Rattle.o2_isa.specs.Steps.{Gives, state, run};
 ghost use Rattle.o2_isa.specs.DataFlags.{flagging, sahf, lahf, wait};
 
-use o2_alu::{is_set, with_flag};
+use o2_alu::with_flag;
 use o2_bus::{Bus, set_byte_register};
 use o2_desc::FlagsWord;
-use o2_isa::{Cpu, Flag, Op, Stop};
+use o2_isa::{Cpu, Flag, Stop};
 
-#[inline]
-#[tactic(auto, unfolding(o2_isa::specs::DataFlags::flags_after))]
-fn put_flag(op: Op, f: u16) -> u16
-    ensures { result ≡ flags_after op f }
-{
-    match op {
-        Op::OpClc => with_flag(f, Flag::Carry, false),
-        Op::OpStc => with_flag(f, Flag::Carry, true),
-        Op::OpCmc => with_flag(f, Flag::Carry, !is_set(f, Flag::Carry)),
-        Op::OpCld => with_flag(f, Flag::Direction, false),
-        Op::OpStd => with_flag(f, Flag::Direction, true),
-        _ => f,
-    }
-}
-
+/// CLC, STC, CMC, CLD and STD: one flag is put.
 #[tactic(auto, unfolding(o2_isa::specs::DataFlags::flagging))]
-pub fn execute_flag<B: Bus>(cpu: &mut Cpu, bus: &mut B, op: Op, next: u16) -> Result<(), Stop>
-    ensures { Gives result (state cpu.new (B.view bus.new)) (state cpu.old (B.view bus.old)) (run (flagging op cpu.old next) (B.view bus.old)) }
+pub fn execute_flag<B: Bus>(
+    cpu: &mut Cpu,
+    bus: &mut B,
+    flag: Flag,
+    on: bool,
+    next: u16,
+) -> Result<(), Stop>
+    ensures { Gives result (state cpu.new (B.view bus.new)) (state cpu.old (B.view bus.old)) (run (flagging flag on cpu.old next) (B.view bus.old)) }
 {
-    cpu.flags = put_flag(op, cpu.flags);
+    cpu.flags = with_flag(cpu.flags, flag, on);
     cpu.ip = next;
     Ok(())
 }

@@ -4,7 +4,7 @@ ghost use Rattle.o2_isa.specs.Steps.{Gives, state, run};
 ghost use Rattle.o2_isa.specs.DataArith.{shift as shift_steps, shifted_into};
 
 use o2_bus::{Bus, finish, operand};
-use o2_isa::{Arg, Cpu, Instr, Op, Stop, Width};
+use o2_isa::{Arg, Cpu, Instr, ShiftOp, Stop, Width};
 
 /// Where the result goes: a count of 0 modulo 32 stores none.
 #[inline]
@@ -18,7 +18,7 @@ fn target(count: u16, arg: &Arg) -> Arg
 pub fn execute_shift<B: Bus>(
     cpu: &mut Cpu,
     bus: &mut B,
-    op: Op,
+    op: ShiftOp,
     i: &Instr,
     next: u16,
 ) -> Result<(), Stop>

@@ -2,46 +2,21 @@
 ghost use Rattle.std.specs.Prelude.{◌≡◌, ◌&&◌, ◌==◌, not};
 ghost use Rattle.o2_isa.specs.declared.instr.Width.TheVariants.{Word};
 ghost use Rattle.o2_isa.specs.Steps.{Gives, state, run, valued, pair_valued};
-ghost use Rattle.o2_isa.specs.FlowJumps.{is_less as is_less_of, condition as condition_of, jmp, jmp_if, loop_if, jmp_far};
+ghost use Rattle.o2_isa.specs.FlowJumps.{is_less as is_less_of, jmp, jmp_if, loop_if, jmp_far};
 
 use crate::operands::pair;
 use o2_alu::is_set;
 use o2_bus::{Bus, check_load, check_target, value};
-use o2_isa::{Arg, Cpu, Flag, Op, Purpose, Selector, Sreg, Stop, Width};
+use o2_isa::{Arg, Cpu, Flag, Purpose, Selector, Sreg, Stop, Width};
 
 /// Whether the signed comparison that set these flags said less.
-fn is_less(flags: u16) -> bool
+pub fn is_less(flags: u16) -> bool
     ensures { result ≡ is_less_of flags }
 {
     if is_set(flags, Flag::Sign) {
         !is_set(flags, Flag::Overflow)
     } else {
         is_set(flags, Flag::Overflow)
-    }
-}
-
-/// What a conditional jump asks of the flags.
-pub fn condition(op: Op, flags: u16) -> bool
-    ensures { result ≡ condition_of op flags }
-{
-    match op {
-        Op::OpJo => is_set(flags, Flag::Overflow),
-        Op::OpJno => !is_set(flags, Flag::Overflow),
-        Op::OpJb => is_set(flags, Flag::Carry),
-        Op::OpJae => !is_set(flags, Flag::Carry),
-        Op::OpJe => is_set(flags, Flag::Zero),
-        Op::OpJne => !is_set(flags, Flag::Zero),
-        Op::OpJbe => is_set(flags, Flag::Carry) || is_set(flags, Flag::Zero),
-        Op::OpJa => !(is_set(flags, Flag::Carry) || is_set(flags, Flag::Zero)),
-        Op::OpJs => is_set(flags, Flag::Sign),
-        Op::OpJns => !is_set(flags, Flag::Sign),
-        Op::OpJp => is_set(flags, Flag::Parity),
-        Op::OpJnp => !is_set(flags, Flag::Parity),
-        Op::OpJl => is_less(flags),
-        Op::OpJge => !is_less(flags),
-        Op::OpJle => is_set(flags, Flag::Zero) || is_less(flags),
-        Op::OpJg => !(is_set(flags, Flag::Zero) || is_less(flags)),
-        _ => false,
     }
 }
 

@@ -7,7 +7,6 @@ mod frames;
 mod interrupts;
 mod jumps;
 mod operands;
-mod privileged;
 mod protection;
 mod returns;
 

@@ -2,7 +2,7 @@
 ghost use Rattle.std.specs.Prelude.{◌≡◌};
 ghost use Rattle.o2_isa.specs.declared.groups.Group.TheVariants.{Strings};
 ghost use Rattle.o2_isa.specs.Steps.{Gives, state, run};
-ghost use Rattle.o2_isa.specs.StringRows.{one_string, string_steps};
+ghost use Rattle.o2_isa.specs.OpRows.{op_steps};
 ghost use Rattle.o2_isa.specs.Meaning.{meaning, group_of};
 ghost use Rattle.o2_isa.specs.Step.{Answers};
 
@@ -12,28 +12,24 @@ use crate::parts::is_over;
 use o2_bus::{Bus, check_unlocked, outcome_of};
 use o2_isa::{Cpu, Instr, Op, Outcome, Stop};
 
-/// One repetition.
-fn execute_one<B: Bus>(cpu: &mut Cpu, bus: &mut B, i: &Instr, next: u16) -> Result<(), Stop>
-    ensures { Gives result (state cpu.new (B.view bus.new)) (state cpu.old (B.view bus.old)) (run (one_string i.now.op cpu.old i.now next) (B.view bus.old)) }
+/// One repetition, or none where CX is 0 behind a repeat prefix.
+#[tactic(auto, unfolding(o2_isa::specs::Meaning::group_of))]
+fn execute_counted<B: Bus>(cpu: &mut Cpu, bus: &mut B, i: &Instr, next: u16) -> Result<(), Stop>
+    requires group { group_of i.now.op ≡ Strings }
+    ensures { Gives result (state cpu.new (B.view bus.new)) (state cpu.old (B.view bus.old)) (run (op_steps i.now.op cpu.old i.now next) (B.view bus.old)) }
 {
+    let over = is_over(i.rep, cpu.cx);
     match i.op {
+        Op::OpMovs | Op::OpCmps | Op::OpStos | Op::OpLods | Op::OpScas if over => {
+            cpu.ip = next;
+            Ok(())
+        }
         Op::OpMovs => execute_movs(cpu, bus, i, next),
         Op::OpCmps => execute_cmps(cpu, bus, i, next),
         Op::OpStos => execute_stos(cpu, bus, i, next),
         Op::OpLods => execute_lods(cpu, bus, i, next),
         Op::OpScas => execute_scas(cpu, bus, i, next),
-        _ => Err(Stop::Trap(6, 0)),
-    }
-}
-
-fn execute_counted<B: Bus>(cpu: &mut Cpu, bus: &mut B, i: &Instr, next: u16) -> Result<(), Stop>
-    ensures { Gives result (state cpu.new (B.view bus.new)) (state cpu.old (B.view bus.old)) (run (string_steps i.now.op cpu.old i.now next) (B.view bus.old)) }
-{
-    if is_over(i.rep, cpu.cx) {
-        cpu.ip = next;
-        Ok(())
-    } else {
-        execute_one(cpu, bus, i, next)
+        _ => unreachable!(),
     }
 }
 

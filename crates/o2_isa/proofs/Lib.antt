@@ -14,6 +14,7 @@ pub mod Views
 pub mod Backing
 pub mod BackedData
 pub mod BackedFlow
+pub mod BackedRows
 pub mod SpelledLoads
 pub mod Sizes
 pub mod Writes

@@ -7,8 +7,6 @@ use Rattle.o2_isa.specs.declared.instr.Width.TheVariants.{Byte, Word}
 use Rattle.o2_isa.specs.declared.instr.Instr.{Instr}
 use Rattle.o2_isa.specs.declared.instr.Arg.TheVariants as arg
 use Rattle.o2_isa.specs.declared.instr.Sreg.TheVariants.{Es, Cs, Ss, Ds}
-use Rattle.o2_isa.specs.declared.groups.Group.{Group}
-use Rattle.o2_isa.specs.declared.groups.Group.TheVariants.{Data, Flow, Strings}
 use Rattle.o2_isa.specs.declared.rows.Row.{Row}
 use Rattle.o2_isa.specs.declared.rows.Prefixes.{Prefixes}
 use Rattle.o2_isa.specs.declared.rows.Slot.{Slot}
@@ -27,13 +25,13 @@ use Rattle.o2_isa.specs.Spelling.{is_prefix, no_prefixes, mark, checked}
 use Rattle.o2_isa.specs.Reading.{Head, More, Bad, Whole, head_with, head_modrm, head_after, head_two, head_of, read_tail, read, limited, decoded}
 use Rattle.o2_isa.specs.View.{View}
 use Rattle.o2_isa.specs.Steps.{State, Stops}
-use Rattle.o2_isa.specs.Meaning.{group_of, group_steps, steps_of}
+use Rattle.o2_isa.specs.Meaning.{steps_of}
 use Rattle.o2_isa.specs.Step.{Answers, seen, steps_at, step_steps, step_names, stepped}
 use Rattle.o2_isa.specs.declared.instr.Sreg.{Sreg}
 use Rattle.o2_isa.specs.SegmentLoads.{Passes, IsNamed, rules_for, LoadsByRules, BindsLoaded}
 use Rattle.o2_isa.proofs.Backing.{Ground, IsBacked, LoadsGranted, run_ruled, either_backed}
-use Rattle.o2_isa.proofs.BackedData.{names_cs, puts_selector, data_backed}
-use Rattle.o2_isa.proofs.BackedFlow.{flow_backed, string_backed}
+use Rattle.o2_isa.proofs.BackedData.{names_cs, puts_selector}
+use Rattle.o2_isa.proofs.BackedRows.{op_backed}
 use Rattle.o2_isa.proofs.StepLaws.{row_of_step}
 
 -- a MOV or a POP to CS
@@ -226,14 +224,9 @@ decoded_free bs = limited_free (length bs) (read no_prefixes 0 bs) (read_free no
 
 -- Steps.
 
-group_backed : (v : Ground) (g : Group) (c : Cpu) (i : Instr) (next : ℕ) → puts_cs i ≡ false → IsBacked v (group_steps g c i next)
-group_backed v Data c i next f = data_backed v i.op c i next f
-group_backed v Flow c i next f = flow_backed v i.op c i next
-group_backed v Strings c i next f = string_backed v i.op c i next
-
 steps_backed : (v : Ground) (c : Cpu) (i : Instr) (next : ℕ) → puts_cs i ≡ false → IsBacked v (steps_of c i next)
 unfolding steps_of
-steps_backed v c i next f = either_backed v i.lock (Stops (stop.Trap 13 0)) _ tt (group_backed v (group_of i.op) c i next f)
+steps_backed v c i next f = either_backed v i.lock (Stops (stop.Trap 13 0)) _ tt (op_backed v i.op c i next f)
 
 at_backed : (v : Ground) (c : Cpu) (d : Decoded) → IsFreeOne d → IsBacked v (steps_at c d)
 at_backed v c (One i n) f = steps_backed v c i ((c.ip + n) % 65536) f

@@ -1,8 +1,8 @@
 -- Decimal adjustment. AX is 256 times AH plus AL.
 use Rattle.std.specs.Prelude.{ℕ, ◌+◌, ◌-◌, ◌*◌, ◌/◌, ◌%◌, Bool, ◌||◌, ◌==◌, nat_lt, if◌then◌else◌, Option, Some, None}
 use Rattle.o2_isa.specs.declared.instr.Width.TheVariants.{Byte}
-use Rattle.o2_isa.specs.declared.instr.Op.{Op}
-use Rattle.o2_isa.specs.declared.instr.Op.TheVariants.{OpDaa, OpDas, OpAaa, OpAas, OpAam, OpAad}
+use Rattle.o2_isa.specs.declared.families.AdjustOp.{AdjustOp}
+use Rattle.o2_isa.specs.declared.families.AdjustOp.TheVariants.{Daa, Das, Aaa, Aas, Aam, Aad}
 use Rattle.o2_isa.specs.declared.flags.Flag.TheVariants.{Carry, Auxiliary}
 use Rattle.o2_isa.specs.Flags.{put, is_set, with_szp}
 
@@ -51,11 +51,10 @@ unfoldable pub aad_value : ℕ → ℕ → ℕ
 aad_value ax base = (ax % 256 + ax / 256 * base) % 256
 
 -- AX and the flags word; None for AAM with base 0, which is a divide error
-unfoldable pub adjust_of : Op → ℕ → ℕ → ℕ → Option (ℕ × ℕ)
-adjust_of OpAaa ax base f = let on = digit_adjusts (ax % 256) f in Some (aaa_value ax on, unpacked_flags on f)
-adjust_of OpAas ax base f = let on = digit_adjusts (ax % 256) f in Some (aas_value ax on, unpacked_flags on f)
-adjust_of OpDaa ax base f = let units = digit_adjusts (ax % 256) f in let tens = digits_adjust (ax % 256) f in let al = daa_value ax units tens in Some (ax / 256 * 256 + al, packed_flags al units tens f)
-adjust_of OpDas ax base f = let units = digit_adjusts (ax % 256) f in let tens = digits_adjust (ax % 256) f in let al = das_value ax units tens in Some (ax / 256 * 256 + al, packed_flags al units tens f)
-adjust_of OpAam ax base f = if base == 0 then None else Some (aam_value ax base, with_szp Byte (ax % 256 % base) f)
-adjust_of OpAad ax base f = Some (aad_value ax base, with_szp Byte (aad_value ax base) f)
-adjust_of _ ax base f = Some (ax, f)
+unfoldable pub adjust_of : AdjustOp → ℕ → ℕ → ℕ → Option (ℕ × ℕ)
+adjust_of Aaa ax base f = let on = digit_adjusts (ax % 256) f in Some (aaa_value ax on, unpacked_flags on f)
+adjust_of Aas ax base f = let on = digit_adjusts (ax % 256) f in Some (aas_value ax on, unpacked_flags on f)
+adjust_of Daa ax base f = let units = digit_adjusts (ax % 256) f in let tens = digits_adjust (ax % 256) f in let al = daa_value ax units tens in Some (ax / 256 * 256 + al, packed_flags al units tens f)
+adjust_of Das ax base f = let units = digit_adjusts (ax % 256) f in let tens = digits_adjust (ax % 256) f in let al = das_value ax units tens in Some (ax / 256 * 256 + al, packed_flags al units tens f)
+adjust_of Aam ax base f = if base == 0 then None else Some (aam_value ax base, with_szp Byte (ax % 256 % base) f)
+adjust_of Aad ax base f = Some (aad_value ax base, with_szp Byte (aad_value ax base) f)

@@ -5,8 +5,11 @@ use Rattle.o2_isa.specs.declared.instr.Width.{Width}
 use Rattle.o2_isa.specs.declared.instr.Width.TheVariants.{Byte, Word}
 use Rattle.o2_isa.specs.declared.instr.Arg.{Arg}
 use Rattle.o2_isa.specs.declared.instr.Arg.TheVariants as arg
-use Rattle.o2_isa.specs.declared.instr.Op.{Op}
-use Rattle.o2_isa.specs.declared.instr.Op.TheVariants.{OpCmp, OpTest}
+use Rattle.o2_isa.specs.declared.families.BinaryOp.{BinaryOp}
+use Rattle.o2_isa.specs.declared.families.BinaryOp.TheVariants.{Add, Or, Adc, Sbb, And, Sub, Xor, Cmp, Test}
+use Rattle.o2_isa.specs.declared.families.UnaryOp.{UnaryOp}
+use Rattle.o2_isa.specs.declared.families.ShiftOp.{ShiftOp}
+use Rattle.o2_isa.specs.declared.families.AdjustOp.{AdjustOp}
 use Rattle.o2_isa.specs.declared.instr.Instr.{Instr}
 use Rattle.o2_isa.specs.declared.cpu.Cpu.{Cpu}
 use Rattle.o2_isa.specs.declared.cpu.Stop.TheVariants as stop
@@ -19,13 +22,19 @@ use Rattle.o2_isa.specs.Steps.{Steps, Stops, Ends}
 use Rattle.o2_isa.specs.Finishing.{taking, finishing, ended}
 
 -- CMP and TEST store nothing
-abbrev pub result_into : Op → Arg → Arg
-result_into OpCmp a = arg.No
-result_into OpTest a = arg.No
-result_into _ a = a
+abbrev pub result_into : BinaryOp → Arg → Arg
+result_into Cmp a = arg.No
+result_into Test a = arg.No
+result_into Add a = a
+result_into Or a = a
+result_into Adc a = a
+result_into Sbb a = a
+result_into And a = a
+result_into Sub a = a
+result_into Xor a = a
 
 -- ADD, OR, ADC, SBB, AND, SUB, XOR, CMP and TEST
-unfoldable pub binary : Op → Cpu → Instr → ℕ → Steps
+unfoldable pub binary : BinaryOp → Cpu → Instr → ℕ → Steps
 binary op c i next =
     taking c i.width i.left (λ a.
     taking c i.width i.right (λ b.
@@ -33,7 +42,7 @@ binary op c i next =
     finishing c i.width (result_into op i.left) r.0 r.1 next))
 
 -- INC, DEC, NEG and NOT
-unfoldable pub unary : Op → Cpu → Instr → ℕ → Steps
+unfoldable pub unary : UnaryOp → Cpu → Instr → ℕ → Steps
 unary op c i next =
     taking c i.width i.left (λ a.
     let r = unary_of op i.width a c.flags in
@@ -44,7 +53,7 @@ abbrev pub shifted_into : ℕ → Arg → Arg
 shifted_into count a = if count % 32 == 0 then arg.No else a
 
 -- ROL, ROR, RCL, RCR, SHL, SHR and SAR
-unfoldable pub shift : Op → Cpu → Instr → ℕ → Steps
+unfoldable pub shift : ShiftOp → Cpu → Instr → ℕ → Steps
 shift op c i next =
     taking c i.width i.left (λ a.
     taking c Byte i.right (λ count.
@@ -95,5 +104,5 @@ adjusted c None next = Stops (stop.Trap 0 0)
 adjusted c (Some r) next = Ends (ended (record c { ax = r.0 }) r.1 next) []
 
 -- DAA, DAS, AAA and AAS; AAM and AAD have the base as their operand
-unfoldable pub adjust : Op → Cpu → Instr → ℕ → Steps
+unfoldable pub adjust : AdjustOp → Cpu → Instr → ℕ → Steps
 adjust op c i next = taking c Byte i.left (λ base. adjusted c (adjust_of op c.ax base c.flags) next)

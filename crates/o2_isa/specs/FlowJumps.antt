@@ -1,11 +1,10 @@
 -- Jumps: near ones within CS, and far ones.
-use Rattle.std.specs.Prelude.{ℕ, ◌+◌, ◌%◌, ◌==◌, ◌&&◌, ◌||◌, Bool, false, not, if◌then◌else◌, [], ◌∷◌}
+use Rattle.std.specs.Prelude.{ℕ, ◌+◌, ◌%◌, ◌==◌, ◌&&◌, Bool, not, if◌then◌else◌, [], ◌∷◌}
 use Rattle.o2_isa.specs.declared.instr.Sreg.TheVariants.{Cs}
 use Rattle.o2_isa.specs.declared.instr.Arg.{Arg}
 use Rattle.o2_isa.specs.declared.instr.Arg.TheVariants as arg
-use Rattle.o2_isa.specs.declared.instr.Op.{Op}
-use Rattle.o2_isa.specs.declared.instr.Op.TheVariants.{OpJo, OpJno, OpJb, OpJae, OpJe, OpJne, OpJbe, OpJa, OpJs, OpJns, OpJp, OpJnp, OpJl, OpJge, OpJle, OpJg}
-use Rattle.o2_isa.specs.declared.flags.Flag.TheVariants.{Carry, Parity, Zero, Sign, Overflow}
+use Rattle.o2_isa.specs.declared.instr.Instr.{Instr}
+use Rattle.o2_isa.specs.declared.flags.Flag.TheVariants.{Sign, Overflow}
 use Rattle.o2_isa.specs.declared.cpu.Cpu.{Cpu}
 use Rattle.o2_isa.specs.declared.cpu.Purpose.TheVariants.{Jump}
 use Rattle.o2_isa.specs.Flags.{is_set}
@@ -33,26 +32,9 @@ jmp_if taken c ip next = if taken then jmp c ip else Ends (next_at c next) []
 abbrev pub is_less : ℕ → Bool
 is_less f = if is_set f Sign then not (is_set f Overflow) else is_set f Overflow
 
--- what the sixteen conditional jumps ask of the flags
-abbrev pub condition : Op → ℕ → Bool
-condition OpJo f = is_set f Overflow
-condition OpJno f = not (is_set f Overflow)
-condition OpJb f = is_set f Carry
-condition OpJae f = not (is_set f Carry)
-condition OpJe f = is_set f Zero
-condition OpJne f = not (is_set f Zero)
-condition OpJbe f = is_set f Carry || is_set f Zero
-condition OpJa f = not (is_set f Carry || is_set f Zero)
-condition OpJs f = is_set f Sign
-condition OpJns f = not (is_set f Sign)
-condition OpJp f = is_set f Parity
-condition OpJnp f = not (is_set f Parity)
-condition OpJl f = is_less f
-condition OpJge f = not (is_less f)
-condition OpJle f = is_set f Zero || is_less f
-condition OpJg f = not (is_set f Zero || is_less f)
--- no other mnemonic is one of these
-condition _ f = false
+-- a conditional jump
+abbrev pub jcc : Bool → Cpu → Instr → ℕ → Steps
+jcc taken c i next = jmp_if taken c (relative i.left next) next
 
 -- CX falls by 1, and where it isn't 0 then and `more` holds, IP moves
 unfoldable pub loop_if : Bool → Cpu → ℕ → ℕ → Steps

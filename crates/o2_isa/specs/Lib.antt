@@ -11,14 +11,13 @@ pub mod DataMoves
 pub mod DataStack
 pub mod DataArith
 pub mod DataFlags
-pub mod DataRows
 pub mod FlowJumps
 pub mod FlowCalls
 pub mod FlowFrames
 pub mod FlowInterrupts
 pub mod FlowProtection
-pub mod FlowRows
 pub mod StringRows
+pub mod OpRows
 pub mod Meaning
 pub mod Presence
 pub mod Step

@@ -1,4 +1,4 @@
--- What instructions mean: a row for each mnemonic, by group.
+-- What instructions mean, and which crate executes which.
 use Rattle.std.specs.Prelude.{ℕ, if◌then◌else◌, Result, Ok, Err}
 use Rattle.o2_isa.specs.declared.instr.Op.{Op}
 use Rattle.o2_isa.specs.declared.instr.Op.TheVariants.{OpJo, OpJno, OpJb, OpJae, OpJe, OpJne, OpJbe, OpJa, OpJs, OpJns, OpJp, OpJnp, OpJl, OpJge, OpJle, OpJg, OpLoop, OpLoope, OpLoopne, OpJcxz, OpJmp, OpJmpFar, OpJmpAt, OpJmpFarAt, OpCall, OpCallFar, OpCallAt, OpCallFarAt, OpRet, OpRetf, OpIret, OpInt, OpIntThree, OpInto, OpBound, OpEnter, OpLeave, OpLar, OpLsl, OpVerr, OpVerw, OpArpl, OpEsc, OpIn, OpOut, OpIns, OpOuts, OpCli, OpSti, OpHlt, OpSldt, OpStr, OpLldt, OpLtr, OpSgdt, OpSidt, OpLgdt, OpLidt, OpSmsw, OpLmsw, OpClts, OpMovs, OpCmps, OpStos, OpLods, OpScas, OpAdd, OpOr, OpAdc, OpSbb, OpAnd, OpSub, OpXor, OpCmp, OpPush, OpPop, OpDaa, OpDas, OpAaa, OpAas, OpInc, OpDec, OpPusha, OpPopa, OpImulThree, OpTest, OpXchg, OpMov, OpLea, OpCbw, OpCwd, OpWait, OpPushf, OpPopf, OpSahf, OpLahf, OpRol, OpRor, OpRcl, OpRcr, OpShl, OpShr, OpSar, OpLes, OpLds, OpAam, OpAad, OpXlat, OpCmc, OpClc, OpStc, OpCld, OpStd, OpNot, OpNeg, OpMul, OpImul, OpDiv, OpIdiv}
@@ -9,9 +9,7 @@ use Rattle.o2_isa.specs.declared.cpu.Cpu.{Cpu}
 use Rattle.o2_isa.specs.declared.cpu.Stop.{Stop}
 use Rattle.o2_isa.specs.declared.cpu.Stop.TheVariants as stop
 use Rattle.o2_isa.specs.Steps.{State, Steps, Stops, run}
-use Rattle.o2_isa.specs.DataRows.{data_steps}
-use Rattle.o2_isa.specs.FlowRows.{flow_steps}
-use Rattle.o2_isa.specs.StringRows.{string_steps}
+use Rattle.o2_isa.specs.OpRows.{op_steps}
 
 unfoldable pub group_of : Op → Group
 group_of OpJo = Flow
@@ -134,17 +132,12 @@ group_of OpImul = Data
 group_of OpDiv = Data
 group_of OpIdiv = Data
 
-abbrev pub group_steps : Group → Cpu → Instr → ℕ → Steps
-group_steps Data c i next = data_steps i.op c i next
-group_steps Flow c i next = flow_steps i.op c i next
-group_steps Strings c i next = string_steps i.op c i next
-
 -- a LOCK prefix traps before all else
 abbrev pub unlocked : Instr → Result ℕ Stop
 unlocked i = if i.lock then Err (stop.Trap 13 0) else Ok 0
 
 unfoldable pub steps_of : Cpu → Instr → ℕ → Steps
-steps_of c i next = if i.lock then Stops (stop.Trap 13 0) else group_steps (group_of i.op) c i next
+steps_of c i next = if i.lock then Stops (stop.Trap 13 0) else op_steps i.op c i next
 
 -- one instruction, with the IP behind it
 unfoldable pub meaning : State → Instr → ℕ → Result State Stop

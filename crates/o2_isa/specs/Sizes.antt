@@ -1,10 +1,12 @@
 -- How many bytes each name has.
-use Rattle.std.specs.Prelude.{◌≡◌, ◌≤◌, ℕ, true, length}
-use Rattle.o2_isa.specs.View.{View}
+use Rattle.std.specs.Prelude.{◌≡◌, ◌≤◌, ℕ, true, length, Some}
+use Rattle.o2_isa.specs.View.{View, Hold}
 
--- each present name has as many bytes as its size says, 65,536 at most
-abbrev pub IsSized : View → Type 0
-IsSized v = (n : ℕ) → v.present n ≡ true → (length (v.bytes n) ≡ v.size n) × (v.size n ≤ 65536)
+-- each present name has as many bytes as its size says, 65,536 at most, and one that the process holds has at least one
+pub record IsSized (v : View) : Type 0 where
+  pub bytes : (n : ℕ) → v.present n ≡ true → length (v.bytes n) ≡ v.size n
+  pub most : (n : ℕ) → v.present n ≡ true → v.size n ≤ 65536
+  pub least : (i : ℕ) (h : Hold) → v.held i ≡ Some h → v.present h.name ≡ true → 1 ≤ v.size h.name
 
 -- each name has as many bytes as before
 abbrev pub KeepsLengths : View → View → Type 0

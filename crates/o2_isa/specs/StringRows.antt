@@ -1,20 +1,17 @@
--- The meanings of the string instructions: one repetition a step.
+-- The string instructions: one repetition a step.
 use Rattle.std.specs.Prelude.{ℕ, ◌+◌, ◌-◌, ◌%◌, ◌==◌, ◌&&◌, ◌||◌, Bool, true, false, not, if◌then◌else◌, [], ◌∷◌}
 use Rattle.o2_isa.specs.declared.instr.Width.{Width}
 use Rattle.o2_isa.specs.declared.instr.Sreg.TheVariants.{Es}
 use Rattle.o2_isa.specs.declared.instr.Rep.{Rep}
 use Rattle.o2_isa.specs.declared.instr.Rep.TheVariants.{No, Equal, NotEqual}
-use Rattle.o2_isa.specs.declared.instr.Op.{Op}
-use Rattle.o2_isa.specs.declared.instr.Op.TheVariants.{OpMovs, OpCmps, OpStos, OpLods, OpScas}
 use Rattle.o2_isa.specs.declared.instr.Instr.{Instr}
 use Rattle.o2_isa.specs.declared.flags.Flag.TheVariants.{Zero, Direction}
 use Rattle.o2_isa.specs.declared.cpu.Cpu.{Cpu}
-use Rattle.o2_isa.specs.declared.cpu.Stop.TheVariants as stop
 use Rattle.o2_isa.specs.Flags.{is_set}
 use Rattle.o2_isa.specs.Sums.{sub_of}
 use Rattle.o2_isa.specs.View.{width_len}
 use Rattle.o2_isa.specs.Registers.{accumulator, with_accumulator}
-use Rattle.o2_isa.specs.Steps.{Steps, Stops, Ends, Reads, Room, Write, next_at, one_less}
+use Rattle.o2_isa.specs.Steps.{Steps, Ends, Reads, Room, Write, next_at, one_less}
 
 -- an index goes on by the width: up, or down with DF
 unfoldable pub moved : ℕ → Width → ℕ → ℕ
@@ -74,19 +71,11 @@ scas c i next =
     Reads Es c.di i.width (λ b.
     Ends (repeated i.rep true (compared i.width (accumulator i.width c) b (target_moved i.width c)) next) [])
 
-abbrev pub one_string : Op → Cpu → Instr → ℕ → Steps
-one_string OpMovs c i next = movs c i next
-one_string OpCmps c i next = cmps c i next
-one_string OpStos c i next = stos c i next
-one_string OpLods c i next = lods c i next
-one_string OpScas c i next = scas c i next
-one_string _ c i next = Stops (stop.Trap 6 0)
-
 -- with a repeat prefix and CX 0 nothing is done
 abbrev pub is_over : Rep → ℕ → Bool
 is_over No cx = false
 is_over Equal cx = cx == 0
 is_over NotEqual cx = cx == 0
 
-abbrev pub string_steps : Op → Cpu → Instr → ℕ → Steps
-string_steps op c i next = if is_over i.rep c.cx then Ends (next_at c next) [] else one_string op c i next
+abbrev pub repeating : Cpu → Instr → ℕ → Steps → Steps
+repeating c i next one = if is_over i.rep c.cx then Ends (next_at c next) [] else one

@@ -1,8 +1,8 @@
 -- Sums, differences and bitwise results, with their flags.
 use Rattle.std.specs.Prelude.{ℕ, ◌+◌, ◌-◌, ◌%◌, Bool, false, not, ◌==◌, nat_lt, nat_le, if◌then◌else◌, pos, ◌+ℤ◌, ◌-ℤ◌, bit_and, bit_or, bit_xor}
 use Rattle.o2_isa.specs.declared.instr.Width.{Width}
-use Rattle.o2_isa.specs.declared.instr.Op.{Op}
-use Rattle.o2_isa.specs.declared.instr.Op.TheVariants.{OpAnd, OpOr, OpXor, OpTest}
+use Rattle.o2_isa.specs.declared.families.LogicOp.{LogicOp}
+use Rattle.o2_isa.specs.declared.families.LogicOp.TheVariants as logic
 use Rattle.o2_isa.specs.declared.flags.Flag.TheVariants.{Carry, Auxiliary, Overflow}
 use Rattle.o2_isa.specs.Widths.{modulus, half, signed, overflows}
 use Rattle.o2_isa.specs.Flags.{put, with_szp, with_carries}
@@ -70,14 +70,11 @@ complement_of w a = modulus w - 1 - a
 
 -- ---- AND, TEST, OR and XOR
 
--- no other mnemonic is one of these: its first operand stays
-abbrev pub logic_value : Op → ℕ → ℕ → ℕ
-logic_value OpAnd a b = bit_and a b
-logic_value OpTest a b = bit_and a b
-logic_value OpOr a b = bit_or a b
-logic_value OpXor a b = bit_xor a b
-logic_value _ a b = a
+abbrev pub logic_value : LogicOp → ℕ → ℕ → ℕ
+logic_value logic.And a b = bit_and a b
+logic_value logic.Or a b = bit_or a b
+logic_value logic.Xor a b = bit_xor a b
 
 -- the result and the flags word: CF and OF are 0
-unfoldable pub logic_of : Op → Width → ℕ → ℕ → ℕ → ℕ × ℕ
+unfoldable pub logic_of : LogicOp → Width → ℕ → ℕ → ℕ → ℕ × ℕ
 logic_of op w a b f = let r = logic_value op a b in (r, with_szp w r (put (put f Carry false) Overflow false))

@@ -2,6 +2,7 @@
 #![tactic(auto)]
 
 mod cpu;
+mod families;
 mod flags;
 mod groups;
 mod instr;
@@ -10,6 +11,7 @@ mod places;
 mod rows;
 
 pub use cpu::{Cpu, Loaded, Outcome, Purpose, Stop};
+pub use families::{AdjustOp, BinaryOp, LogicOp, ShiftOp, UnaryOp};
 pub use flags::Flag;
 pub use groups::{Group, instruction_group};
 pub use instr::{Arg, Ea, Instr, Op, Rep, Sreg, Width};

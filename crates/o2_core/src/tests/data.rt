@@ -119,7 +119,10 @@ fn add_segment(plain: &mut Plain, alloc: Global, index: u16, bytes: &[u8]) -> Re
         Some(access) => *access,
         None => 0,
     };
-    let name = plain.add(alloc, bytes)?;
+    if bytes.len() == 0 {
+        return Err(NoMemory);
+    }
+    let name = plain.add(bytes.to_vec(alloc)?)?;
     if index == 4 {
         plain.show(name, false);
     }

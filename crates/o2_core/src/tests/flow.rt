@@ -113,7 +113,10 @@ fn add_segment(
 ) -> Result<(), NoMemory>
     requires { length bytes.now ≤ 65536 }
 {
-    let name = plain.add(alloc, bytes)?;
+    if bytes.len() == 0 {
+        return Err(NoMemory);
+    }
+    let name = plain.add(bytes.to_vec(alloc)?)?;
     if index >= 6 {
         plain.show(name, false);
     }

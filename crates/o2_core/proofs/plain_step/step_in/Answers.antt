@@ -18,7 +18,7 @@ pub returns-clause-frame : goal.returns-clause-frame
 returns-clause-frame c =
     let same = framed c.args.bus.now.plain.ghost_name c.step_one.new.bus.plain.ghost_name c.args.bus.now.plain.now c.step_one.new.bus.plain.now c.args.bus.now.pid c.step_one.new.bus.pid c.args.bus.now.holds c.step_one.new.bus.holds c.step_one.ensures.frame in
     record {
-      held = λ p i. ap (λ (m : ℕ → ℕ → Option Hold). m p i) same.maps;
+      held = same.maps;
       shown = λ n. ap (λ (m : ℕ → Bool). m n) same.shown;
       sizes = same.sizes;
       count = same.count;

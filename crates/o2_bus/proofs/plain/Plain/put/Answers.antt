@@ -17,18 +17,11 @@ pub returns-clause-bytes : goal.returns-clause-bytes
 unfolding bytes_in
 returns-clause-bytes c = bytes_after _ _ _ _ c.put_in_segment.ensures
 
-pub returns-clause-sizes : goal.returns-clause-sizes
-unfolding bytes_in
-returns-clause-sizes c = size_after _ _ _ _ c.put_in_segment.ensures (length_put_part _ c.args.at c.args.part.now c.requires.there)
-
-pub returns-clause-maps : goal.returns-clause-maps
-unfolding held_in
-returns-clause-maps c = refl
-
-pub returns-clause-shown : goal.returns-clause-shown
-unfolding shown_in
-returns-clause-shown c = c.put_in_segment.ensures.same_shown
-
-pub returns-clause-count : goal.returns-clause-count
-unfolding count_in
-returns-clause-count c = c.put_in_segment.ensures.same_count
+pub returns-clause-frame : goal.returns-clause-frame
+unfolding held_in bytes_in shown_in count_in
+returns-clause-frame c = record {
+  held = refl;
+  shown = c.put_in_segment.ensures.same_shown;
+  sizes = size_after _ _ _ _ c.put_in_segment.ensures (length_put_part _ c.args.at c.args.part.now c.requires.there);
+  count = c.put_in_segment.ensures.same_count;
+}
