@@ -54,6 +54,12 @@ sized false ss n s all e =
     let h : HasSize (get_or ss (n - 1) s) = all (n - 1) s (in_list ss (n - 1) s e) in
     (subst (λ (x : Segment). HasSize x) (get_in ss (n - 1) s e) h).1
 
+least : (b : Bool) (ss : List Segment) (n : ℕ) (s : Segment) → AllSized ss → (if b then None else slice_get ss (n - 1)) ≡ Some s → 1 ≤ s.size
+least true ss n s all e = absurd (cc)
+least false ss n s all e =
+    let h : HasSize (get_or ss (n - 1) s) = all (n - 1) s (in_list ss (n - 1) s e) in
+    (subst (λ (x : Segment). HasSize x) (get_in ss (n - 1) s e) h).0
+
 room_fits : (library : Bool) (size stack heap : ℕ) → size + stack + heap ≤ 65536 → size + (if library then heap else stack + heap) ≤ 65536
 room_fits true size stack heap h = omega (arith, h)
 room_fits false size stack heap h = omega (arith, h)
@@ -71,3 +77,7 @@ fits_by false m n s is runs e = let h = sized (n == 0) m.segments n s runs.sizes
 pub room_behind_fits : (m : Parts) (n : ℕ) (s : Segment) → IsRunnable m → nth_segment n m.segments ≡ Some s
     → s.size + room_at m n ≤ 65536
 room_behind_fits m n s runs e = fits_by (n == m.head.auto_seg) m n s refl runs e
+
+-- and has at least one byte
+pub size_is_some : (m : Parts) (n : ℕ) (s : Segment) → IsRunnable m → nth_segment n m.segments ≡ Some s → 1 ≤ s.size
+size_is_some m n s runs e = least (n == 0) m.segments n s runs.sizes e

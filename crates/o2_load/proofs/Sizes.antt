@@ -1,5 +1,5 @@
 -- The sizes of environments.
-use Rattle.std.proofs.Common.{◌≡◌, ℕ, ◌≤◌, ◌+◌, List, [], ◌∷◌, ◌++◌, length, refl, sym, ◌∙◌, ap, arith, length-append, subst}
+use Rattle.std.proofs.Common.{◌≡◌, ℕ, ◌<◌, ◌≤◌, ◌+◌, List, [], ◌∷◌, ◌++◌, length, refl, sym, ◌∙◌, ap, arith, length-append, subst}
 use Rattle.std.specs.Prelude.{flat_map}
 use Rattle.std.proofs.lemmas.List.Sums.{sum-map, sum_by-cons}
 use Rattle.o2_conf.specs.declared.process.Process.{Process}
@@ -38,3 +38,7 @@ bytes_length p = parts_length p.«module» p.arguments (environment_front p.envi
 
 pub bytes_size : (p : Process) → HasEnvironment p → length (environment_bytes p) ≤ 65536
 bytes_size p fits = subst (λ (n : ℕ). n ≤ 65536) (sym (bytes_length p)) fits
+
+-- an environment ends with two zero bytes
+pub bytes_some : (p : Process) → 0 < length (environment_bytes p)
+bytes_some p = omega (arith, bytes_length p)

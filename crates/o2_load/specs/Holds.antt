@@ -1,5 +1,6 @@
 -- What a memory and the lists beside it hold of a start.
-use Rattle.std.specs.Prelude.{◌≡◌, ◌≢◌, true, ℕ, ◌<◌, All, List}
+use Rattle.std.specs.Prelude.{◌≡◌, ◌≢◌, true, ℕ, ◌<◌, All, List, length}
+use Rattle.o2_bus.specs.declared.plain.Plain.{Plain}
 use Rattle.o2_bus.specs.Plain.{held_in, bytes_in, shown_in, count_in}
 use Rattle.o2_world.specs.declared.types.Made.{Made}
 use Rattle.o2_world.specs.Views.{holds_in, bytes_in as bytes_of}
@@ -20,9 +21,9 @@ pub record IsHolding (m : Build) (pid : ℕ) (b : Built) : Type 0 where
   pub selectors : b.selectors ≡ m.selectors.items
   pub held : (i : ℕ) → holds_in b.held i ≡ held_in m.plain pid i
 
--- the common names are names
-abbrev pub AreBelow : List Made → ℕ → Type 0
-AreBelow made n = All (λ (m : Made). m.name < n) made
+-- the common names have bytes
+abbrev pub HaveBytes : List Made → Plain → Type 0
+HaveBytes made p = All (λ (m : Made). 0 < length (bytes_in p m.name)) made
 
 -- what the other processes hold stays
 abbrev pub OthersStay : Build → Build → ℕ → Type 0

@@ -3,6 +3,7 @@ use Rattle.std.specs.Prelude.{ℕ, ◌+◌, ◌%◌, ◌==◌, ◌&&◌, ◌||�
 use Rattle.std.specs.Int.RustNames.{bit_and}
 use Rattle.o2_base.specs.declared.faults.ModuleFault.{ModuleFault}
 use Rattle.o2_base.specs.declared.faults.ModuleFault.TheVariants.{NoStack, NoEntry}
+use Rattle.o2_desc.specs.Bits.{readable_code, run_only_code, writable_data, read_only_data}
 use Rattle.o2_isa.specs.declared.cpu.Cpu.{Cpu}
 use Rattle.o2_isa.specs.View.{is_code, is_writable}
 use Rattle.o2_conf.specs.declared.process.Process.{Process}
@@ -20,10 +21,10 @@ use Rattle.o2_world.specs.Starts.{Loaded, LoadedSegment, Holding, Start, holding
 
 -- the access byte of a segment: present, with privilege level 3
 abbrev pub rights_of : Kind → ℕ
-rights_of Code = 0xFA
-rights_of CodeOnly = 0xF8
-rights_of Writable = 0xF2
-rights_of ReadOnly = 0xF0
+rights_of Code = readable_code
+rights_of CodeOnly = run_only_code
+rights_of Writable = writable_data
+rights_of ReadOnly = read_only_data
 
 -- whether data is one for all processes: by the segment's flag 0020, or in a library by the header's data mode single
 abbrev pub is_shared : Parts → Segment → Bool
@@ -143,4 +144,4 @@ all_holdings m = module_holdings m 1 m.segments
 
 -- the environment of a process whose program has so many segments
 abbrev pub environment_of : ℕ → ℕ → List ℕ → Holding
-environment_of pid count bytes = record { index = count + 1; place = 0; number = pid; rights = 0xF2; common = false; bytes = bytes }
+environment_of pid count bytes = record { index = count + 1; place = 0; number = pid; rights = writable_data; common = false; bytes = bytes }

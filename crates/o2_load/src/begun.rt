@@ -7,7 +7,7 @@ ghost use Rattle.o2_dynlink.specs.Outcome.{LinkedParts};
 ghost use Rattle.o2_image.specs.Getters.{nth_list};
 ghost use Rattle.o2_image.specs.ImageList.{Exists};
 ghost use Rattle.o2_world.specs.Starts.{Built, nothing_built, next_started};
-ghost use Rattle.o2_load.specs.Holds.{AreBelow};
+ghost use Rattle.o2_load.specs.Holds.{HaveBytes};
 ghost use Rattle.o2_load.specs.Loads.{start_of};
 ghost use Rattle.o2_load.specs.Beginnings.{IsBegun, BeginsAs};
 
@@ -32,7 +32,7 @@ impl Begun {
     pub fn new(alloc: Global) -> Result<Begun, NoMemory>
         ensures begins { (l : LinkedParts) → IfOk result (λ m. IsBegun m l nothing_built) }
         ensures cpus { IfOk result (λ m. m.cpus.items ≡ []) }
-        ensures below { IfOk result (λ m. AreBelow m.build.made.items (count_in m.build.plain)) }
+        ensures named { IfOk result (λ m. HaveBytes m.build.made.items m.build.plain) }
     {
         let plain = Plain::new(alloc)?;
         Ok(Begun {
@@ -58,11 +58,12 @@ impl Begun {
     ) -> Result<(), Fail<ModuleFault>>
         requires number { pid ≡ length self.old.cpus.items + 1 }
         requires there { Exists linked.now.programs pid }
+        requires some { 0 < length (nth_list linked.now.images.environments pid) }
         requires small { length (nth_list linked.now.images.environments pid) ≤ 65536 }
-        requires below { AreBelow self.old.build.made.items (count_in self.old.build.plain) }
+        requires named { HaveBytes self.old.build.made.items self.old.build.plain }
         ensures begins { (p : Process) (b : Built) → environment_bytes p ≡ nth_list linked.now.images.environments pid → command_place p ≡ command → IsBegun self.old linked.now b
             → BeginsAs self.new linked.now (next_started most (Ok b) (start_of linked.now pid p)) pid result }
-        ensures below { OnOk result (AreBelow self.new.build.made.items (count_in self.new.build.plain)) }
+        ensures named { OnOk result (HaveBytes self.new.build.made.items self.new.build.plain) }
         ensures count { OnOk result (length self.new.cpus.items ≡ length self.old.cpus.items + 1) }
     {
         match start(alloc, &mut self.build, linked, pid, command, most) {

@@ -1,9 +1,10 @@
 // Names and holds, as processes start one after the other.
 ghost use Rattle.std.specs.Prelude.{◌≡◌, ◌≢◌, ◌≤◌, ◌<◌, ◌+◌, ◌*◌, ◌++◌, ◌∷◌, [], ℕ, List, length, Some, None, IfOk, IfSome, OnOk, if◌then◌else◌};
-ghost use Rattle.o2_bus.specs.Plain.{held_in, count_in};
+ghost use Rattle.o2_bus.specs.declared.plain.Plain.{Plain};
+ghost use Rattle.o2_bus.specs.Plain.{held_in, bytes_in, count_in};
 ghost use Rattle.o2_world.specs.Opening.{selector_of};
 ghost use Rattle.o2_world.specs.Starts.{name_in, made_with, named, holds, holds_as, with_holding, Built};
-ghost use Rattle.o2_load.specs.Holds.{IsHolding, AreBelow, OthersStay, Adds, gripped};
+ghost use Rattle.o2_load.specs.Holds.{IsHolding, HaveBytes, OthersStay, Adds, gripped};
 
 use o2_base::NoMemory;
 use o2_bus::Plain;
@@ -46,10 +47,10 @@ fn made_name(made: &[Made], place: u16, number: u16) -> Option<u32>
 }
 
 /// The name of a segment, where it is common and one is made.
-#[tactic(auto, using(crate::proofs::Names::name_below))]
+#[tactic(auto, using(crate::proofs::Names::name_has_bytes))]
 pub(crate) fn found(made: &[Made], grip: &Grip) -> Option<u32>
     ensures value { result ≡ (if grip.now.common then name_in made.now grip.now.place grip.now.number else None) }
-    ensures below { (n : ℕ) → AreBelow made.now n → IfSome result (λ name. name < n) }
+    ensures some { (p : Plain) → HaveBytes made.now p → IfSome result (λ name. 0 < length (bytes_in p name)) }
 {
     if grip.common {
         made_name(made, grip.place, grip.number)
@@ -72,14 +73,15 @@ fn note_made(made: &mut Vec<Made>, grip: &Grip, name: u32) -> Result<(), NoMemor
     Ok(())
 }
 
-/// The selector of an index.
-fn selector_of(index: u16) -> u16
+/// The selector of an index in the local descriptor table.
+pub(crate) fn selector_of(index: u16) -> u16
     requires { index < 8192 }
     ensures { result ≡ selector_of index }
 {
     8 * index + 7
 }
 
+#[tactic(auto, using(crate::proofs::Names::have_kept, crate::proofs::Names::have_named, crate::proofs::Names::have_made))]
 impl Build {
     /// The process holds a name under an index.
     pub(crate) fn hold(
@@ -89,11 +91,11 @@ impl Build {
         grip: &Grip,
         name: u32,
     ) -> Result<(), NoMemory>
-        requires name { name < count_in self.old.plain }
+        requires some { 0 < length (bytes_in self.old.plain name) }
         requires index { grip.now.index < 8192 }
         ensures adds { OnOk result ((b : Built) (bytes : List ℕ) → IsHolding self.old pid b → IsHolding self.new pid (holds b (gripped grip.now bytes) name)) }
         ensures others { OthersStay self.old self.new pid }
-        ensures count { count_in self.new.plain ≡ count_in self.old.plain }
+        ensures bytes { (n : ℕ) → bytes_in self.new.plain n ≡ bytes_in self.old.plain n }
         ensures made { self.new.made.items ≡ self.old.made.items }
     {
         self.plain.hold(alloc, pid, grip.index, name, grip.rights)?;
@@ -102,15 +104,16 @@ impl Build {
     }
 
     /// One name more, with these bytes.
-    fn name(&mut self, alloc: Global, pid: u16, grip: &Grip, bytes: &[u8]) -> Result<u32, NoMemory>
-        requires small { length bytes.now ≤ 65536 }
-        ensures adds { OnOk result ((b : Built) → IsHolding self.old pid b → IsHolding self.new pid (named b (gripped grip.now bytes.now))) }
+    fn name(&mut self, pid: u16, grip: &Grip, bytes: Vec<u8>) -> Result<u32, NoMemory>
+        requires some { 0 < length bytes.items }
+        requires small { length bytes.items ≤ 65536 }
+        ensures adds { OnOk result ((b : Built) → IsHolding self.old pid b → IsHolding self.new pid (named b (gripped grip.now bytes.items))) }
         ensures held { (q i : ℕ) → held_in self.new.plain q i ≡ held_in self.old.plain q i }
         ensures name { IfOk result (λ n. n ≡ count_in self.old.plain) }
-        ensures count { OnOk result (count_in self.new.plain ≡ count_in self.old.plain + 1) }
-        ensures below { AreBelow self.old.made.items (count_in self.old.plain) → OnOk result (AreBelow self.new.made.items (count_in self.new.plain)) }
+        ensures bytes { IfOk result (λ n. bytes_in self.new.plain n ≡ bytes.items) }
+        ensures named { HaveBytes self.old.made.items self.old.plain → OnOk result (HaveBytes self.new.made.items self.new.plain) }
     {
-        let name = self.plain.add(alloc, bytes)?;
+        let name = self.plain.add(bytes)?;
         note_made(&mut self.made, grip, name)?;
         Ok(name)
     }
@@ -121,15 +124,16 @@ impl Build {
         alloc: Global,
         pid: u16,
         grip: &Grip,
-        bytes: &[u8],
+        bytes: Vec<u8>,
     ) -> Result<(), NoMemory>
-        requires small { length bytes.now ≤ 65536 }
+        requires some { 0 < length bytes.items }
+        requires small { length bytes.items ≤ 65536 }
         requires index { grip.now.index < 8192 }
-        ensures adds { OnOk result ((b : Built) → IsHolding self.old pid b → IsHolding self.new pid (holds_as b (gripped grip.now bytes.now) None)) }
+        ensures adds { OnOk result ((b : Built) → IsHolding self.old pid b → IsHolding self.new pid (holds_as b (gripped grip.now bytes.items) None)) }
         ensures others { OthersStay self.old self.new pid }
-        ensures below { AreBelow self.old.made.items (count_in self.old.plain) → OnOk result (AreBelow self.new.made.items (count_in self.new.plain)) }
+        ensures named { HaveBytes self.old.made.items self.old.plain → OnOk result (HaveBytes self.new.made.items self.new.plain) }
     {
-        let name = self.name(alloc, pid, grip, bytes)?;
+        let name = self.name(pid, grip, bytes)?;
         self.hold(alloc, pid, grip, name)
     }
 }

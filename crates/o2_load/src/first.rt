@@ -3,9 +3,11 @@ ghost use Rattle.std.specs.Prelude.{◌≡◌, ◌≤◌, ◌<◌, ◌+◌, ◌-
 ghost use Rattle.o2_isa.specs.View.{is_code, is_writable};
 ghost use Rattle.o2_ne_segs.specs.SegmentTable.{nth_segment};
 ghost use Rattle.o2_image.specs.ImageList.{ImageList};
-ghost use Rattle.o2_world.specs.Opening.{selector_of, even};
+ghost use Rattle.o2_world.specs.Opening.{even};
 ghost use Rattle.o2_load.specs.Loads.{rights_of, is_stack_segment, is_entry_segment, stack_of, parts_check, parts_cpu, size_in};
 
+use crate::build::selector_of;
+use crate::segments::rights_of;
 use o2_base::ModuleFault;
 use o2_image::Module;
 use o2_isa::Cpu;
@@ -14,23 +16,13 @@ use o2_ne_segs::{Kind, Segment};
 fn is_writable(kind: Kind) -> bool
     ensures { result ≡ is_writable (rights_of kind) }
 {
-    match kind {
-        Kind::Writable => true,
-        Kind::Code => false,
-        Kind::CodeOnly => false,
-        Kind::ReadOnly => false,
-    }
+    rights_of(kind).is_writable()
 }
 
 fn is_code(kind: Kind) -> bool
     ensures { result ≡ is_code (rights_of kind) }
 {
-    match kind {
-        Kind::Code => true,
-        Kind::CodeOnly => true,
-        Kind::Writable => false,
-        Kind::ReadOnly => false,
-    }
+    rights_of(kind).is_code()
 }
 
 /// Whether a segment can be a stack.
@@ -74,14 +66,6 @@ pub(crate) fn check(module: &Module) -> Result<(), ModuleFault>
     } else {
         Err(ModuleFault::NoEntry)
     }
-}
-
-/// The selector of a segment of a program.
-fn selector_of(n: u16) -> u16
-    requires { n < 8192 }
-    ensures { result ≡ selector_of n }
-{
-    8 * n + 7
 }
 
 /// The end of the stack in automatic data of this size.

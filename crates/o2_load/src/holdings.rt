@@ -4,12 +4,13 @@ ghost use Rattle.o2_bus.specs.Plain.{count_in};
 ghost use Rattle.o2_image.specs.Getters.{nth, nth_list};
 ghost use Rattle.o2_image.specs.ImageList.{Exists};
 ghost use Rattle.o2_world.specs.Starts.{Built, Start, Loaded, holds_as, with_holding, with_holdings, module_holdings, library_holdings, environment_holding, holdings};
-ghost use Rattle.o2_load.specs.Holds.{IsHolding, AreBelow, OthersStay, Adds, AddsAll, gripped};
+ghost use Rattle.o2_load.specs.Holds.{IsHolding, HaveBytes, OthersStay, Adds, AddsAll, gripped};
 ghost use Rattle.o2_load.specs.Loads.{index_at, loaded, loaded_module, segment_holding, segment_holdings, all_holdings, environment_of};
 
 use crate::build::{Build, Grip};
 use crate::segments::hold_segment;
 use o2_base::NoMemory;
+use o2_desc::Access;
 use o2_dynlink::Linked;
 use o2_image::Module;
 use std::alloc::Global;
@@ -35,10 +36,10 @@ pub(crate) fn hold_segments(
     place: u16,
 ) -> Result<(), NoMemory>
     requires place { option_map (λ p. p.0) (nth linked.now.images.modules place) ≡ Some «module».now }
-    requires below { AreBelow build.old.made.items (count_in build.old.plain) }
+    requires named { HaveBytes build.old.made.items build.old.plain }
     ensures adds { OnOk result (AddsAll build.old build.new pid (segment_holdings linked.now.images place «module».now)) }
     ensures others { OthersStay build.old build.new pid }
-    ensures below { OnOk result (AreBelow build.new.made.items (count_in build.new.plain)) }
+    ensures named { OnOk result (HaveBytes build.new.made.items build.new.plain) }
 {
     for k in 0..module.segment_count() {
         let index = index_at(linked, place, k + 1);
@@ -65,10 +66,10 @@ fn hold_module(
     place: u16,
 ) -> Result<(), NoMemory>
     requires there { Exists linked.now.images.modules place }
-    requires below { AreBelow build.old.made.items (count_in build.old.plain) }
+    requires named { HaveBytes build.old.made.items build.old.plain }
     ensures adds { OnOk result (AddsAll build.old build.new pid (all_holdings (loaded linked.now.images place))) }
     ensures others { OthersStay build.old build.new pid }
-    ensures below { OnOk result (AreBelow build.new.made.items (count_in build.new.plain)) }
+    ensures named { OnOk result (HaveBytes build.new.made.items build.new.plain) }
 {
     let Some(module) = linked.images().module(place) else {
         unreachable!()
@@ -84,21 +85,22 @@ pub(crate) fn hold_environment(
     count: u16,
     bytes: &[u8],
 ) -> Result<(), NoMemory>
+    requires some { 0 < length bytes.now }
     requires small { length bytes.now ≤ 65536 }
     requires few { count ≤ 254 }
-    requires below { AreBelow build.old.made.items (count_in build.old.plain) }
+    requires named { HaveBytes build.old.made.items build.old.plain }
     ensures adds { OnOk result (Adds build.old build.new pid (environment_of pid count bytes.now)) }
     ensures others { OthersStay build.old build.new pid }
-    ensures below { OnOk result (AreBelow build.new.made.items (count_in build.new.plain)) }
+    ensures named { OnOk result (HaveBytes build.new.made.items build.new.plain) }
 {
     let grip = Grip {
         index: count + 1,
         place: 0,
         number: pid,
-        rights: 0xF2,
+        rights: Access::WRITABLE_DATA.0,
         common: false,
     };
-    build.add(alloc, pid, &grip, bytes)
+    build.add(alloc, pid, &grip, bytes.to_vec(alloc)?)
 }
 
 /// A process holds all segments of some libraries.
@@ -110,10 +112,10 @@ pub(crate) fn hold_libraries(
     places: &[u16],
 ) -> Result<(), NoMemory>
     requires there { All (Exists linked.now.images.modules) places.now }
-    requires below { AreBelow build.old.made.items (count_in build.old.plain) }
+    requires named { HaveBytes build.old.made.items build.old.plain }
     ensures adds { OnOk result (AddsAll build.old build.new pid (library_holdings (map (loaded linked.now.images) places.now))) }
     ensures others { OthersStay build.old build.new pid }
-    ensures below { OnOk result (AreBelow build.new.made.items (count_in build.new.plain)) }
+    ensures named { OnOk result (HaveBytes build.new.made.items build.new.plain) }
 {
     for place in places {
         hold_module(alloc, build, linked, pid, *place)?;

@@ -6,7 +6,7 @@ ghost use Rattle.o2_image.specs.ImageList.{Exists};
 ghost use Rattle.o2_conf.specs.declared.process.Process.{Process};
 ghost use Rattle.o2_conf.specs.Environments.{environment_bytes, command_place};
 ghost use Rattle.o2_world.specs.Starts.{Built, holdings};
-ghost use Rattle.o2_load.specs.Holds.{IsHolding, AreBelow, OthersStay, AddsAll};
+ghost use Rattle.o2_load.specs.Holds.{IsHolding, HaveBytes, OthersStay, AddsAll};
 ghost use Rattle.o2_load.specs.Loads.{loaded, loaded_module, start_of, program_place, parts_check};
 ghost use Rattle.o2_load.specs.Started.{StartsAs};
 
@@ -31,11 +31,12 @@ fn hold_all(
     requires there { Exists linked.now.programs pid }
     requires place { option_map (λ p. p.0) (nth linked.now.images.modules place) ≡ Some «module».now }
     requires program { place ≡ program_place linked.now pid }
+    requires some { 0 < length (nth_list linked.now.images.environments pid) }
     requires small { length (nth_list linked.now.images.environments pid) ≤ 65536 }
-    requires below { AreBelow build.old.made.items (count_in build.old.plain) }
+    requires named { HaveBytes build.old.made.items build.old.plain }
     ensures adds { (p : Process) → environment_bytes p ≡ nth_list linked.now.images.environments pid → OnOk result (AddsAll build.old build.new pid (holdings pid (start_of linked.now pid p))) }
     ensures others { OthersStay build.old build.new pid }
-    ensures below { OnOk result (AreBelow build.new.made.items (count_in build.new.plain)) }
+    ensures named { OnOk result (HaveBytes build.new.made.items build.new.plain) }
 {
     let Some(bytes) = linked.images().environment(pid) else {
         unreachable!()
@@ -64,12 +65,13 @@ pub fn start(
     most: u32,
 ) -> Result<Cpu, Fail<ModuleFault>>
     requires there { Exists linked.now.programs pid }
+    requires some { 0 < length (nth_list linked.now.images.environments pid) }
     requires small { length (nth_list linked.now.images.environments pid) ≤ 65536 }
-    requires below { AreBelow build.old.made.items (count_in build.old.plain) }
+    requires named { HaveBytes build.old.made.items build.old.plain }
     ensures starts { (p : Process) → environment_bytes p ≡ nth_list linked.now.images.environments pid → command_place p ≡ command
         → (b : Built) → IsHolding build.old pid b → StartsAs build.new most pid (start_of linked.now pid p) b result }
     ensures others { OthersStay build.old build.new pid }
-    ensures below { IfOk result (λ _. AreBelow build.new.made.items (count_in build.new.plain)) }
+    ensures named { IfOk result (λ _. HaveBytes build.new.made.items build.new.plain) }
 {
     let Some(place) = linked.program(pid) else {
         unreachable!()

@@ -7,24 +7,25 @@ ghost use Rattle.o2_image.specs.Getters.{nth};
 ghost use Rattle.o2_image.specs.ImageList.{ImageList, Exists, HasImage, image_front};
 ghost use Rattle.o2_image.specs.Parts.{Parts};
 ghost use Rattle.o2_world.specs.Starts.{Built, room, loaded_bytes, is_common, with_holding};
-ghost use Rattle.o2_load.specs.Holds.{IsHolding, AreBelow, OthersStay, Adds, gripped};
+ghost use Rattle.o2_load.specs.Holds.{IsHolding, HaveBytes, OthersStay, Adds, gripped};
 ghost use Rattle.o2_load.specs.Loads.{rights_of, room_at, is_shared, index_at, loaded_segment, loaded_module, segment_holding};
 
 use crate::build::{Build, Grip, found};
 use o2_base::NoMemory;
+use o2_desc::Access;
 use o2_image::{Images, Module};
 use o2_ne_segs::{Kind, Segment};
 use std::alloc::Global;
 
 /// The access byte of a segment: present, with privilege level 3.
-fn rights_of(kind: Kind) -> u8
-    ensures { result ≡ rights_of kind }
+pub(crate) fn rights_of(kind: Kind) -> Access
+    ensures { result.0 ≡ rights_of kind }
 {
     match kind {
-        Kind::Code => 0xFA,
-        Kind::CodeOnly => 0xF8,
-        Kind::Writable => 0xF2,
-        Kind::ReadOnly => 0xF0,
+        Kind::Code => Access::READABLE_CODE,
+        Kind::CodeOnly => Access::RUN_ONLY_CODE,
+        Kind::Writable => Access::WRITABLE_DATA,
+        Kind::ReadOnly => Access::READ_ONLY_DATA,
     }
 }
 
@@ -84,7 +85,7 @@ fn image(
 }
 
 /// The bytes of a segment before the first step: its image, and behind automatic data zeros.
-#[tactic(auto, using(crate::proofs::Images::has_image, crate::proofs::Images::first_bytes_are, crate::proofs::Images::room_behind_fits))]
+#[tactic(auto, using(crate::proofs::Images::has_image, crate::proofs::Images::first_bytes_are, crate::proofs::Images::room_behind_fits, crate::proofs::Images::size_is_some))]
 fn first_bytes(
     alloc: Global,
     images: &Images,
@@ -96,6 +97,7 @@ fn first_bytes(
     requires place { option_map (λ p. p.0) (nth images.now.modules place) ≡ Some «module».now }
     requires segment { nth_segment n «module».now.segments ≡ Some segment.now }
     ensures value { IfOk result (λ v. v.items ≡ loaded_bytes (loaded_module images.now place «module».now) n (loaded_segment images.now place «module».now n segment.now)) }
+    ensures some { IfOk result (λ v. 0 < length v.items) }
     ensures small { IfOk result (λ v. length v.items ≤ 65536) }
 {
     module.is_runnable();
@@ -119,7 +121,7 @@ fn grip(module: &Module, place: u16, n: u16, segment: &Segment, index: u16) -> G
         index,
         place,
         number: n,
-        rights: rights_of(segment.kind),
+        rights: rights_of(segment.kind).0,
         common: is_common(module, segment),
     }
 }
@@ -139,10 +141,10 @@ pub(crate) fn hold_segment(
     requires there { Exists «module».now.segments n }
     requires index { index ≡ index_at images.now place n }
     requires small { index < 8192 }
-    requires below { AreBelow build.old.made.items (count_in build.old.plain) }
+    requires named { HaveBytes build.old.made.items build.old.plain }
     ensures adds { (s : Segment) → nth_segment n «module».now.segments ≡ Some s → OnOk result (Adds build.old build.new pid (segment_holding images.now place «module».now n s)) }
     ensures others { OthersStay build.old build.new pid }
-    ensures below { OnOk result (AreBelow build.new.made.items (count_in build.new.plain)) }
+    ensures named { OnOk result (HaveBytes build.new.made.items build.new.plain) }
 {
     let Some(segment) = module.segment(n) else {
         unreachable!()
@@ -152,7 +154,7 @@ pub(crate) fn hold_segment(
         Some(name) => build.hold(alloc, pid, &grip, name),
         None => {
             let bytes = first_bytes(alloc, images, module, place, n, &segment)?;
-            build.add(alloc, pid, &grip, &bytes)
+            build.add(alloc, pid, &grip, bytes)
         }
     }
 }

@@ -7,7 +7,7 @@ ghost use Rattle.o2_conf.specs.Processes.{strings_size};
 ghost use Rattle.o2_image.specs.Getters.{nth_list};
 ghost use Rattle.o2_image.specs.ImageList.{Exists};
 ghost use Rattle.o2_world.specs.Starts.{Built, next_started, all_started};
-ghost use Rattle.o2_load.specs.Holds.{AreBelow};
+ghost use Rattle.o2_load.specs.Holds.{HaveBytes};
 ghost use Rattle.o2_load.specs.Loads.{start_of, starts_of};
 ghost use Rattle.o2_load.specs.Beginnings.{IsBegun, BeginsOn, BeginsAll};
 
@@ -48,7 +48,7 @@ fn command_place(process: &Process) -> u16
 }
 
 /// One process more starts, the next one.
-#[tactic(auto, using(crate::proofs::Sizes::bytes_size))]
+#[tactic(auto, using(crate::proofs::Sizes::bytes_size, crate::proofs::Sizes::bytes_some))]
 fn begin_next(
     alloc: Global,
     begun: &mut Begun,
@@ -61,9 +61,9 @@ fn begin_next(
     requires there { Exists linked.now.programs pid }
     requires environment { environment_bytes process.now ≡ nth_list linked.now.images.environments pid }
     requires fits { HasEnvironment process.now }
-    requires below { AreBelow begun.old.build.made.items (count_in begun.old.build.plain) }
+    requires named { HaveBytes begun.old.build.made.items begun.old.build.plain }
     ensures begins { (b : Built) → IsBegun begun.old linked.now b → BeginsOn begun.new linked.now (next_started most (Ok b) (start_of linked.now pid process.now)) result }
-    ensures below { OnOk result (AreBelow begun.new.build.made.items (count_in begun.new.build.plain)) }
+    ensures named { OnOk result (HaveBytes begun.new.build.made.items begun.new.build.plain) }
     ensures count { OnOk result (length begun.new.cpus.items ≡ length begun.old.cpus.items + 1) }
 {
     match begun.next(alloc, linked, pid, command_place(process), most) {

@@ -1,8 +1,10 @@
 -- The atomic step of one process: an instruction, one repetition of a repeated string instruction, or a call of DOSCALLS with
 -- its far CALL. It depends on what a step starts from alone.
-use Rattle.std.specs.Prelude.{◌≡◌, true, ℕ, ◌/◌, ◌%◌, [], ◌∷◌, ◌++◌, if◌then◌else◌, ◌==◌, ◌&&◌, Bool, Result, Ok, Err}
+use Rattle.std.specs.Prelude.{◌≡◌, true, ℕ, [], ◌∷◌, ◌++◌, if◌then◌else◌, ◌&&◌, Bool, Result, Ok, Err}
 use Rattle.o2_isa.specs.declared.cpu.Stop.{Stop}
 use Rattle.o2_isa.specs.declared.cpu.Stop.TheVariants as stop
+use Rattle.o2_isa.specs.declared.flags.Flag.TheVariants.{Trap}
+use Rattle.o2_isa.specs.Flags.{is_set}
 use Rattle.o2_isa.specs.Steps.{State as Machine, state}
 use Rattle.o2_isa.specs.Step.{stepped}
 use Rattle.o2_world.specs.declared.types.State.TheVariants.{Live, Trapped}
@@ -11,7 +13,7 @@ use Rattle.o2_world.specs.Calls.{Before, Effect, trapped, serviced, asks}
 
 -- the trap flag, bit 8
 abbrev pub has_trap_flag : ℕ → Bool
-has_trap_flag flags = flags / 256 % 2 == 1
+has_trap_flag flags = is_set flags Trap
 
 -- what an instruction came to; a miss can't come where all is present
 abbrev pub answered : Before → Result Machine Stop → Effect

@@ -1,5 +1,6 @@
 -- A program that writes `hello` and exits, as the definitions run it.
 use Rattle.std.specs.Prelude.{ℕ, List, [], ◌∷◌, ◌++◌, codes, replicate, flat_map, Result, Ok, Err, false}
+use Rattle.o2_desc.specs.Bits.{readable_code, writable_data}
 use Rattle.o2_world.specs.World.{World, Setting}
 use Rattle.o2_base.specs.declared.faults.ModuleFault.{ModuleFault}
 use Rattle.o2_conf.specs.Environments.{environment}
@@ -20,8 +21,8 @@ hello = record {
   name = codes "HELLO";
   library = false;
   segments =
-      record { index = 1; rights = 0xFA; common = false; image = hello_code }
-      ∷ record { index = 2; rights = 0xF2; common = false; image = codes "hello" ++ replicate 11 0 }
+      record { index = 1; rights = readable_code; common = false; image = hello_code }
+      ∷ record { index = 2; rights = writable_data; common = false; image = codes "hello" ++ replicate 11 0 }
       ∷ [];
   auto_seg = 2;
   heap = 0;

@@ -3,6 +3,7 @@ use Rattle.std.specs.Prelude.{ℕ, zero, suc, ◌+◌, ◌/◌, ◌%◌, Bool, t
 use Rattle.std.specs.List.{list_any}
 use Rattle.o2_desc.specs.Bits.{has_bit}
 use Rattle.o2_desc.specs.Choice.{chosen}
+use Rattle.o2_desc.specs.Bits.{writable_data}
 use Rattle.o2_isa.specs.declared.cpu.Cpu.{Cpu}
 use Rattle.o2_isa.specs.View.{is_null, is_local}
 use Rattle.o2_world.specs.declared.types.Argument.{Argument}
@@ -53,7 +54,7 @@ made_segment size flags = record {
 }
 
 abbrev pub held_by_call : ℕ → Held
-held_by_call name = record { name = name; rights = 242; holds = 1; cause = ByCall; first = 0; reserved = 0 }
+held_by_call name = record { name = name; rights = writable_data; holds = 1; cause = ByCall; first = 0; reserved = 0 }
 
 abbrev pub alloc_args : (size selector offset flags : ℕ) → List Argument
 alloc_args size selector offset flags = Word size ∷ Far selector offset ∷ Word flags ∷ []

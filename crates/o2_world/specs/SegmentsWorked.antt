@@ -1,6 +1,7 @@
 -- Rows of the calls that make, free and give segments, as the definitions compute them from the opening of `hello`.
 use Rattle.std.specs.Prelude.{ℕ, List, [], ◌∷◌, drop, Option, Some, None}
 use Rattle.o2_conf.specs.Dispatch.{Dispatch}
+use Rattle.o2_desc.specs.Bits.{writable_data}
 use Rattle.o2_world.specs.World.{World, Setting, Process, Held, ByCall}
 use Rattle.o2_world.specs.Holders.{process_at}
 use Rattle.o2_world.specs.Calls.{Before, Effect}
@@ -35,7 +36,7 @@ told_after starts w rows = lines_text (drop starts (after_calls w rows).lines)
 
 -- the lines of holds that came and went in another order than theirs
 abbrev pub some_held : ℕ → Held
-some_held holds = record { name = 1; rights = 242; holds = holds; cause = ByCall; first = 0; reserved = 0 }
+some_held holds = record { name = 1; rights = writable_data; holds = holds; cause = ByCall; first = 0; reserved = 0 }
 
 abbrev pub some_moves : List Change
 some_moves = Drops 2 4 1 ∷ Holds 2 5 (some_held 1) ∷ Holds 1 7 (some_held 2) ∷ Drops 1 9 1 ∷ Holds 1 4 (some_held 1) ∷ []

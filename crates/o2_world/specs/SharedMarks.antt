@@ -1,5 +1,6 @@
 -- Which names of an opening are shared, as the definitions compute it.
 use Rattle.std.specs.Prelude.{ℕ, Bool, true, false, List, [], ◌∷◌, map, replicate, Option, Some, None, option_map}
+use Rattle.o2_desc.specs.Bits.{read_only_data, readable_code, writable_data}
 use Rattle.o2_world.specs.Map.{get}
 use Rattle.o2_world.specs.World.{World, Segment}
 use Rattle.o2_world.specs.Starts.{Loaded, Start, opening_of}
@@ -9,10 +10,10 @@ use Rattle.o2_world.specs.Hello.{hello, hello_setting, hello_process, opened}
 abbrev pub sharing : Loaded
 sharing = record hello {
   segments =
-      record { index = 1; rights = 0xFA; common = false; image = replicate 16 0 }
-      ∷ record { index = 2; rights = 0xF2; common = false; image = replicate 16 0 }
-      ∷ record { index = 3; rights = 0xF2; common = true; image = replicate 16 0 }
-      ∷ record { index = 4; rights = 0xF0; common = false; image = replicate 16 0 }
+      record { index = 1; rights = readable_code; common = false; image = replicate 16 0 }
+      ∷ record { index = 2; rights = writable_data; common = false; image = replicate 16 0 }
+      ∷ record { index = 3; rights = writable_data; common = true; image = replicate 16 0 }
+      ∷ record { index = 4; rights = read_only_data; common = false; image = replicate 16 0 }
       ∷ [];
 }
 

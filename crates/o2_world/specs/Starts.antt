@@ -2,6 +2,7 @@
 use Rattle.std.specs.Prelude.{ℕ, ◌+◌, ◌-◌, ◌%◌, Bool, true, false, not, List, [], ◌∷◌, ◌++◌, length, fold, map, flat_map, replicate, slice_get, nat_lt, Option, Some, None, option_map, unwrap_or, Result, Ok, Err, if◌then◌else◌, ◌==◌, ◌&&◌, ◌||◌}
 use Rattle.o2_base.specs.declared.faults.ModuleFault.{ModuleFault}
 use Rattle.o2_base.specs.declared.faults.ModuleFault.TheVariants.{NoStack, NoEntry, NoSegment}
+use Rattle.o2_desc.specs.Bits.{writable_data}
 use Rattle.o2_isa.specs.declared.cpu.Cpu.{Cpu}
 use Rattle.o2_isa.specs.View.{is_code, is_writable}
 use Rattle.o2_world.specs.declared.types.Made.{Made}
@@ -85,7 +86,7 @@ environment_holding pid s = record {
   index = length s.program.segments + 1;
   place = 0;
   number = pid;
-  rights = 0xF2;
+  rights = writable_data;
   common = false;
   bytes = s.environment;
 }

@@ -1,8 +1,7 @@
 use Rattle.std.proofs.Common.{take}
 use Rattle.std.specs.Prelude.{map}
-use Rattle.o2_bus.specs.Plain.{count_in}
 use Rattle.o2_world.specs.Starts.{library_holdings}
-use Rattle.o2_load.specs.Holds.{AreBelow, OthersStay, AddsAll}
+use Rattle.o2_load.specs.Holds.{HaveBytes, OthersStay, AddsAll}
 use Rattle.o2_load.specs.Loads.{loaded}
 use Rattle.o2_load.proofs.holdings.hold_libraries.Given as goal
 
@@ -10,5 +9,5 @@ abbrev pub invariant-loop-place : goal.invariant-loop-place
 invariant-loop-place l = record {
   adds : AddsAll l.fn.build l.build l.pid (library_holdings (map (loaded l.linked.images) (take l.place-index l.places)));
   others : OthersStay l.fn.build l.build l.pid;
-  below : AreBelow l.build.made.items (count_in l.build.plain);
+  named : HaveBytes l.build.made.items l.build.plain;
 }

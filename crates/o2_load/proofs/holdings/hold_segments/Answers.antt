@@ -17,7 +17,7 @@ loop-k-preserved c =
           (subst (λ (z : ImageList). (s : Segment) → nth_segment (c.loop-k.k + 1) c.args.module.now.segments ≡ Some s → Adds c.loop-k.build c.hold_segment.new.build c.args.pid (segment_holding z c.args.place c.args.module.now (c.loop-k.k + 1) s))
           c.images.ensures.value c.in_ok-hold_segment.ensures.adds);
       others = λ q i other. c.hold_segment.ensures.others q i other ∙ c.loop-k.invariant.others q i other;
-      below = c.in_ok-hold_segment.ensures.below;
+      named = c.in_ok-hold_segment.ensures.named;
     }
 
 pub returns-clause-adds : goal.returns-clause-adds

@@ -20,4 +20,4 @@ returns-in_ok-bytes-in-None-clause-adds c = λ s e.
     subst (λ (x : Segment). OnOk c.add.result (Adds c.args.build.now c.add.new.self c.args.pid (segment_holding c.args.images.now c.args.place c.args.module.now c.args.n x)))
     (some_is c.in-Some.segment s _ (sym c.in-Some.ensures) e)
     (adds_new c.add.result c.args.build.now c.add.new.self c.args.pid c.grip-grip.result h (c.grip-grip.ensures.grip c.args.images.now h.bytes c.requires.index)
-    c.deref-in-None.result.now (c.deref-in-None.ensures.value ∙ c.in_ok-bytes-in-None.ensures.value) (rw c.deref.ensures.value at c.in-None.ensures.value) c.add.ensures.adds)
+    c.in_ok-bytes-in-None.bytes.items c.in_ok-bytes-in-None.ensures.value (rw c.deref.ensures.value at c.in-None.ensures.value) c.add.ensures.adds)

@@ -7,7 +7,7 @@ pub loop-process-init : goal.loop-process-init
 loop-process-init c = record {
   number = refl;
   count = ap length c.in_ok-begun.ensures.cpus;
-  below = c.in_ok-begun.ensures.below;
+  named = c.in_ok-begun.ensures.named;
   begun = so_far_first c.in_ok-begun.begun c.args.linked.now c.args.most c.args.processes.now (c.in_ok-begun.ensures.begins c.args.linked.now);
 }
 
@@ -34,7 +34,7 @@ loop-process-preserved c =
     record {
       number = ap (λ (n : ℕ). n + 1) c.loop-process.invariant.number;
       count = c.in_ok-begin_next.ensures.count ∙ ap (λ (n : ℕ). n + 1) c.loop-process.invariant.count;
-      below = c.in_ok-begin_next.ensures.below;
+      named = c.in_ok-begin_next.ensures.named;
       begun = so_far_next c.loop-process.begun c.begin_next.new.begun c.args.linked.now c.args.most (k + 1) c.loop-process.pid c.process-item.result (drop (k + 1) ps) ps c.loop-process.invariant.number so c.in_ok-begin_next.ensures.begins;
     }
 
