@@ -3,7 +3,6 @@ ghost use Rattle.std.specs.Prelude.{◌≡◌, ◌+◌, ◌≤◌, ◌==◌, ℕ
 ghost use Rattle.o2_bus.specs.Plain.{held_in, bytes_in, shown_in};
 ghost use Rattle.o2_world.specs.Calls.{may_read as reads_at, may_write as writes_at, range_of, put_at_pointer};
 
-use crate::stack::bound;
 use o2_bus::{Plain, is_readable_byte, is_writable_byte};
 
 /// Whether the range may be read. One of no bytes is not looked at.
@@ -12,7 +11,7 @@ pub fn may_read(plain: &Plain, pid: u16, selector: u16, offset: u16, count: u16)
     ensures { result ≡ reads_at (held_in plain.now pid) (bytes_in plain.now) selector offset count }
 {
     count == 0
-        || match bound(plain, pid, selector) {
+        || match plain.bound(pid, selector) {
             Some(grant) => {
                 is_readable_byte(grant.access)
                     && offset as usize + count as usize <= plain.bytes(grant.name).len()
@@ -27,7 +26,7 @@ pub fn may_write(plain: &Plain, pid: u16, selector: u16, offset: u16, count: u16
     ensures { result ≡ writes_at (held_in plain.now pid) (bytes_in plain.now) selector offset count }
 {
     count == 0
-        || match bound(plain, pid, selector) {
+        || match plain.bound(pid, selector) {
             Some(grant) => {
                 is_writable_byte(grant.access)
                     && offset as usize + count as usize <= plain.bytes(grant.name).len()
@@ -46,7 +45,7 @@ pub fn range(plain: &Plain, pid: u16, selector: u16, offset: u16, count: u16) ->
     if count == 0 {
         return &[];
     }
-    match bound(plain, pid, selector) {
+    match plain.bound(pid, selector) {
         Some(grant) => {
             let from = offset as usize;
             &plain.bytes(grant.name)[from..from + count as usize]
@@ -67,7 +66,7 @@ pub fn store(plain: &mut Plain, pid: u16, selector: u16, offset: u16, part: &[u8
     if part.len() == 0 {
         return;
     }
-    if let Some(grant) = bound(plain, pid, selector) {
+    if let Some(grant) = plain.bound(pid, selector) {
         plain.put(grant.name, offset, part);
     }
 }

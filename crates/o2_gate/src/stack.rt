@@ -1,22 +1,10 @@
 // The arguments of a call, on the caller's stack.
-ghost use Rattle.std.specs.Prelude.{◌≡◌, ◌<◌, ◌≤◌, ◌+◌, ◌*◌, ◌%◌, is_ok, option_map};
-ghost use Rattle.o2_isa.specs.View.{bound_in};
-ghost use Rattle.o2_bus.specs.Plain.{hold_of, held_in, plain_view};
+ghost use Rattle.std.specs.Prelude.{◌≡◌, ◌<◌, ◌≤◌, ◌+◌, ◌*◌, ◌%◌, is_ok};
+ghost use Rattle.o2_bus.specs.Plain.{plain_view};
 ghost use Rattle.o2_world.specs.Calls.{argument as argument_of, has_arguments, word_of, returned};
 
-use o2_bus::{Grant, Plain, is_readable_byte};
+use o2_bus::{Plain, is_readable_byte};
 use o2_isa::Cpu;
-
-/// What a selector names, as a pointer or in a segment register. A null selector names nothing.
-pub fn bound(plain: &Plain, pid: u16, selector: u16) -> Option<Grant>
-    ensures { option_map hold_of result ≡ bound_in (held_in plain.now pid) selector }
-{
-    if selector < 4 {
-        None
-    } else {
-        plain.found(pid, selector)
-    }
-}
 
 /// The offset of the i-th word from the top of the stack.
 fn word_offset(cpu: &Cpu, i: u16) -> u16
@@ -32,7 +20,7 @@ fn has_word(plain: &Plain, pid: u16, cpu: &Cpu, i: u16) -> bool
     requires { i < 16 }
     ensures { result ≡ is_ok (word_of (plain_view plain.now pid cpu.now) cpu.now i) }
 {
-    match bound(plain, pid, cpu.ss) {
+    match plain.bound(pid, cpu.ss) {
         Some(grant) => {
             is_readable_byte(grant.access)
                 && word_offset(cpu, i) as usize + 2 <= plain.bytes(grant.name).len()
@@ -47,7 +35,7 @@ pub fn argument(plain: &Plain, pid: u16, cpu: &Cpu, i: u16) -> u16
     requires { i < 16 }
     ensures { result ≡ argument_of (plain_view plain.now pid cpu.now) cpu.now i }
 {
-    match bound(plain, pid, cpu.ss) {
+    match plain.bound(pid, cpu.ss) {
         Some(grant) => {
             let bytes = plain.bytes(grant.name);
             let at = word_offset(cpu, i) as usize;
