@@ -13,10 +13,11 @@ ghost use Rattle.o2_gate.specs.Called.{IsMade};
 ghost use Rattle.o2_machine.specs.Ran.{Leaves, OnFault, OnInput};
 
 use crate::tally::Tally;
+use o2_alu::is_set;
 use o2_bus::Plain;
 use o2_core::step_plain;
 use o2_gate::{Called, State as Services, call};
-use o2_isa::{Cpu, Outcome};
+use o2_isa::{Cpu, Flag, Outcome};
 use o2_outer::{Put, Sink, Source};
 use o2_report::{LineBuffer, set_traps};
 use o2_world::State;
@@ -38,7 +39,7 @@ pub enum Ran {
 fn has_trap_flag(flags: u16) -> bool
     ensures { result ≡ trap_flag_of flags }
 {
-    flags / 256 % 2 == 1
+    is_set(flags, Flag::Trap)
 }
 
 /// Puts the line of an exception at the instruction of these registers.
