@@ -1,5 +1,5 @@
 -- What each answer of the outside says of what it holds.
-use Rattle.std.specs.Prelude.{◌≡◌, ℕ, ◌≤◌, ◌<◌, min, take, drop, List, length, Option, Some, None}
+use Rattle.std.specs.Prelude.{◌≡◌, ℕ, ◌+◌, ◌≤◌, ◌<◌, min, take, drop, List, length, Option, Some, None}
 use Rattle.o2_outer.specs.declared.sink.Put.{Put}
 use Rattle.o2_outer.specs.declared.sink.Put.TheVariants.{Done, Failed}
 use Rattle.o2_outer.specs.declared.source.Took.{Took}
@@ -14,6 +14,11 @@ use Rattle.o2_outer.specs.Texts.{Rose, Gains, GainsSome, IsPrefix}
 abbrev pub Takes : Option (List ℕ) → Option (List ℕ) → List ℕ → Put → Type 0
 Takes old new piece Done = Gains old new piece
 Takes old new piece Failed = GainsSome old new (λ front. IsPrefix front piece)
+
+-- so many puts where all were done, and no more where one failed
+abbrev pub Puts : ℕ → ℕ → ℕ → Put → Type 0
+Puts old new n Done = new ≡ old + n
+Puts old new n Failed = (old ≤ new) × (new ≤ old + n)
 
 -- a fact for one answer
 abbrev pub OnFailed : Put → Type 0 → Type 0

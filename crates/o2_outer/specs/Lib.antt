@@ -7,3 +7,4 @@ pub mod Devices
 pub mod Reads
 pub mod Planned
 pub mod Plans
+pub mod Streams

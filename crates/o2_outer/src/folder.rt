@@ -1,5 +1,5 @@
 // Files of the folder that the program runs in.
-ghost use Rattle.std.specs.Prelude.{None, ◌≡◌, ◌≤◌, IfOk, vec_len};
+ghost use Rattle.std.specs.Prelude.{None, Some, ◌≡◌, ◌≤◌, ◌<◌, List, ℕ, IfOk, MatchResult, length, vec_len};
 ghost use Rattle.o2_outer.specs.Texts.{Rose};
 
 use crate::{Fetch, Files};
@@ -25,9 +25,11 @@ enum Unread {
 /// How many bytes are read at a time.
 const PIECE: usize = 4096;
 
-/// The bytes of a reader, `most` at most.
+/// The bytes of a reader, to the last one that it tells, and `most` at most.
 fn read_whole<F: Read>(alloc: Global, file: &mut F, most: u32) -> Result<Vec<u8>, Unread>
-    ensures { IfOk result (λ bytes. vec_len bytes ≤ most) }
+    ensures bounded { IfOk result (λ bytes. vec_len bytes ≤ most) }
+    ensures whole { (t : List ℕ) → F.remaining file.old ≡ Some t
+        → MatchResult result (λ bytes. bytes.items ≡ t) (λ why. why ≡ Unread.TooLong → most < length t) }
 {
     let mut bytes = Vec::new(alloc);
     let mut piece = [0u8; PIECE];

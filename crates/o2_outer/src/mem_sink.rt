@@ -1,6 +1,7 @@
 // A sink in memory, with its room reserved.
-ghost use Rattle.std.specs.Prelude.{◌≡◌, ◌≤◌, ◌+◌, ◌<◌, ◌++◌, [], List, ℕ, Option, Some, length, vec_len, vec_capacity, IfOk};
+ghost use Rattle.std.specs.Prelude.{◌≡◌, ◌≤◌, ◌+◌, ◌<◌, ◌++◌, [], List, ℕ, Option, Some, length, vec_len, vec_capacity, IfOk, refl};
 
+use crate::log::Log;
 use crate::plan::planned;
 use crate::{Put, Sink};
 use o2_base::NoMemory;
@@ -12,6 +13,7 @@ use std::alloc::Global;
 #[derive(Drop)]
 pub struct MemSink {
     bytes: Vec<u8>,
+    log: Log,
     room: usize,
     calls: u64,
     fails: Vec<(u64, usize)>,
@@ -31,12 +33,13 @@ fn append(bytes: &mut Vec<u8>, more: &[u8])
 }
 
 impl MemSink {
-    ghost use Rattle.o2_outer.specs.Sinks.{sink_bytes, sink_faults};
+    ghost use Rattle.o2_outer.specs.Sinks.{sink_bytes, sink_puts, sink_faults};
     ghost use Rattle.o2_outer.specs.Plans.{mem_room, mem_puts, mem_puts_to_fail};
 
     /// An empty sink.
     pub fn new(alloc: Global, room: usize, fails: Vec<(u64, usize)>) -> Result<MemSink, NoMemory>
         ensures empty { IfOk result (λ s. sink_bytes s ≡ []) }
+        ensures puts { IfOk result (λ s. sink_puts s ≡ 0) }
         ensures faultless { IfOk result (λ s. sink_faults s ≡ 0) }
         ensures room { IfOk result (λ s. mem_room s ≡ room) }
         ensures fails { IfOk result (λ s. mem_puts_to_fail s ≡ fails.items) }
@@ -45,6 +48,7 @@ impl MemSink {
         let bytes = Vec::with_capacity(alloc, room)?;
         Ok(MemSink {
             bytes,
+            log: Log::new(),
             room,
             calls: 0,
             fails,
@@ -70,16 +74,21 @@ impl MemSink {
 impl Sink for MemSink {
     ghost use Rattle.o2_outer.specs.Texts.{Rose};
     ghost use Rattle.o2_outer.specs.Answers.{Takes, OnFailed};
-    ghost use Rattle.o2_outer.specs.Sinks.{sink_bytes, sink_faults};
+    ghost use Rattle.o2_outer.specs.Sinks.{sink_bytes, sink_puts, sink_faults};
     ghost use Rattle.o2_outer.specs.Planned.{next_call};
     ghost use Rattle.o2_outer.specs.Plans.{mem_room, mem_puts, mem_puts_to_fail, put_answer, put_front};
 
     ghost taken = { λ s. Some s.bytes.items };
 
+    ghost puts = { λ s. s.log.puts };
+
     ghost faults = { λ s. s.faults };
+
+    ghost tells = { λ s. (s.bytes.items, refl) };
 
     fn put(&mut self, piece: &[u8]) -> Put
         ensures takes { Takes (Some (sink_bytes self.old)) (Some (sink_bytes self.new)) piece.now result }
+        ensures puts { sink_puts self.new ≡ sink_puts self.old + 1 }
         ensures count { sink_faults self.old ≤ sink_faults self.new }
         ensures cause { OnFailed result (Rose (sink_faults self.old) (sink_faults self.new)) }
 
@@ -98,6 +107,7 @@ impl Sink for MemSink {
         };
         let taken = left.min(wanted);
         append(&mut self.bytes, &piece[..taken]);
+        self.log.note(&piece[..taken]);
         if plan.is_none() && taken == piece.len() {
             Put::Done
         } else {

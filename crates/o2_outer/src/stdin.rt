@@ -27,13 +27,15 @@ pub struct StreamSource<R: Read + Drop> {
 pub type StdinSource = StreamSource<StdinLock<'static>>;
 
 impl<R: Read + Drop> StreamSource<R> {
+    ghost use Rattle.std.specs.Prelude.{[]};
     ghost use Rattle.o2_outer.specs.Reads.{bytes_left};
+    ghost use Rattle.o2_outer.specs.Streams.{source_reader, source_held, source_faults};
 
     /// A source over this reader.
     pub fn new(alloc: Global, reader: R) -> Result<StreamSource<R>, NoMemory>
-        ensures reader { IfOk result (λ s. s.reader ≡ reader) }
-        ensures held { IfOk result (λ s. s.held ≡ 0) }
-        ensures faultless { IfOk result (λ s. s.faults ≡ 0) }
+        ensures reader { IfOk result (λ s. source_reader s ≡ reader) }
+        ensures held { IfOk result (λ s. source_held s ≡ []) }
+        ensures faultless { IfOk result (λ s. source_faults s ≡ 0) }
     {
         let buffer = Vec::from_elem(alloc, 0, ROOM)?;
         Ok(StreamSource {
@@ -69,10 +71,11 @@ impl<R: Read + Drop> StreamSource<R> {
 
 impl<R: Read + Drop> Source for StreamSource<R> {
     ghost use Rattle.o2_outer.specs.Reads.{bytes_left};
+    ghost use Rattle.o2_outer.specs.Streams.{source_reader, source_held, source_faults};
 
-    ghost left = { λ s. bytes_left (take s.held s.buffer.items) (R.remaining s.reader) };
+    ghost left = { λ s. bytes_left (source_held s) (R.remaining (source_reader s)) };
 
-    ghost faults = { λ s. s.faults };
+    ghost faults = { λ s. source_faults s };
 
     fn take(&mut self, into: &mut [u8]) -> Took {
         if into.len() > ROOM || !self.hold(into.len()) {

@@ -1,19 +1,27 @@
 // The forms in memory and the adapters over the standard library's readers and writers.
 
 use crate::{Dev, MemSwap, Put, Sink, Source, StreamSink, StreamSource, SwapDevice, Took};
+use o2_base::NoMemory;
+use std::alloc::Global;
 use std::io;
 use std::io::{Read, Write};
 use std::test::Fail;
 
-/// A writer that takes one byte at a time, and nothing at all once it holds so many.
+/// A writer that takes one byte at a time, fails at one write, and takes nothing at all once it holds so many.
 #[derive(Drop)]
 struct Narrow {
     bytes: Vec<u8>,
     most: usize,
+    writes: usize,
+    fails: usize,
 }
 
 impl Write for Narrow {
     fn write(&mut self, buf: &[u8]) -> io::Result<usize> {
+        self.writes = self.writes.saturating_add(1);
+        if self.writes == self.fails {
+            return Err(io::Error::from(io::ErrorKind::BrokenPipe));
+        }
         if buf.is_empty() || self.bytes.len() >= self.most {
             return Ok(0);
         }
@@ -26,18 +34,37 @@ impl Write for Narrow {
     }
 }
 
+/// A sink over such a writer.
+fn sink_over(alloc: Global, most: usize, fails: usize) -> StreamSink<Narrow> {
+    StreamSink::new(Narrow {
+        bytes: Vec::new(alloc),
+        most,
+        writes: 0,
+        fails,
+    })
+}
+
 #[test]
 fn a_piece_is_written_byte_by_byte_and_fails_where_nothing_is_taken(
     rt: HostRuntime,
 ) -> Result<(), Fail> {
-    let mut sink = StreamSink::new(Narrow {
-        bytes: Vec::new(rt.alloc()),
-        most: 5,
-    });
+    let mut sink = sink_over(rt.alloc(), 5, 0);
     assert_eq!(rt; sink.put(b"abc"), Put::Done);
     assert_eq!(rt; sink.put(b""), Put::Done);
     assert_eq!(rt; sink.put(b"def"), Put::Failed);
     assert_eq!(rt; sink.stream().bytes.as_slice(), b"abcde".as_slice());
+    Ok(())
+}
+
+#[test]
+fn a_piece_holds_what_was_taken_before_an_error(rt: HostRuntime) -> Result<(), Fail> {
+    for fails in 1..4usize {
+        let mut sink = sink_over(rt.alloc(), 5, fails);
+        assert_eq!(rt; sink.put(b"abc"), Put::Failed);
+        assert_eq!(rt; sink.stream().bytes.as_slice(), &b"abc"[..fails - 1]);
+        assert_eq!(rt; sink.put(b"de"), Put::Done);
+        assert_eq!(rt; sink.stream().bytes.len(), fails + 1);
+    }
     Ok(())
 }
 
@@ -89,25 +116,40 @@ impl Read for Halting {
     }
 }
 
+/// A source over such a reader, which has seven bytes.
+fn source_over(alloc: Global, fails: usize) -> Result<StreamSource<Halting>, NoMemory> {
+    let mut bytes = Vec::new(alloc);
+    bytes.extend_from_slice(b"abcdefg")?;
+    let reader = Halting {
+        bytes,
+        at: 0,
+        reads: 0,
+        fails,
+    };
+    StreamSource::new(alloc, reader)
+}
+
 #[test]
 fn bytes_before_an_error_are_given_later(rt: HostRuntime) -> Result<(), Fail> {
-    let mut bytes = Vec::new(rt.alloc());
-    bytes.extend_from_slice(b"abcdefg")?;
-    let mut source = StreamSource::new(
-        rt.alloc(),
-        Halting {
-            bytes,
-            at: 0,
-            reads: 0,
-            fails: 4,
-        },
-    )?;
-    let mut into = [0u8; 5];
-    assert_eq!(rt; source.take(&mut into), Took::Failed);
-    assert_eq!(rt; source.take(&mut into[..2]), Took::Done(2));
-    assert_eq!(rt; &into[..2], b"ab".as_slice());
-    assert_eq!(rt; source.take(&mut into), Took::Done(5));
-    assert_eq!(rt; into.as_slice(), b"cdefg".as_slice());
+    for fails in 1..6usize {
+        let mut source = source_over(rt.alloc(), fails)?;
+        let mut into = [0u8; 5];
+        assert_eq!(rt; source.take(&mut into), Took::Failed);
+        assert_eq!(rt; source.take(&mut into[..2]), Took::Done(2));
+        assert_eq!(rt; &into[..2], b"ab".as_slice());
+        assert_eq!(rt; source.take(&mut into), Took::Done(5));
+        assert_eq!(rt; into.as_slice(), b"cdefg".as_slice());
+        assert_eq!(rt; source.take(&mut into), Took::Done(0));
+    }
+    Ok(())
+}
+
+#[test]
+fn a_take_ends_early_at_the_end_alone(rt: HostRuntime) -> Result<(), Fail> {
+    let mut source = source_over(rt.alloc(), 0)?;
+    let mut into = [0u8; 9];
+    assert_eq!(rt; source.take(&mut into), Took::Done(7));
+    assert_eq!(rt; &into[..7], b"abcdefg".as_slice());
     assert_eq!(rt; source.take(&mut into), Took::Done(0));
     Ok(())
 }

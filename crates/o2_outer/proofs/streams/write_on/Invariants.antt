@@ -1,6 +1,6 @@
 use Rattle.std.proofs.Common.{◌-◌, ◌≤◌, length, take}
 use Rattle.o2_outer.specs.Texts.{Gains}
-use Rattle.o2_outer.proofs.streams.write_whole.Given as goal
+use Rattle.o2_outer.proofs.streams.write_on.Given as goal
 
 abbrev pub invariant-loop-written : goal.invariant-loop-written
 invariant-loop-written g l = record {

@@ -1,0 +1,38 @@
+-- What a sink over a writer and a source over a reader show.
+use Rattle.std.specs.Prelude.{◌≡◌, ℕ, List, ◌++◌, Option, take}
+use Rattle.o2_outer.specs.declared.streams.StreamSink.{StreamSink}
+use Rattle.o2_outer.specs.declared.stdin.StreamSource.{StreamSource}
+use Rattle.o2_outer.specs.declared.sink.Put.{Put}
+use Rattle.o2_outer.specs.declared.sink.Put.TheVariants as put
+use Rattle.o2_outer.specs.Texts.{IsPrefix, Gains}
+
+abbrev pub sink_stream : {W : Type 0} → StreamSink W → W
+sink_stream s = s.stream
+
+-- the bytes that its writes took, whatever the stream tells
+abbrev pub stream_taken : {W : Type 0} → StreamSink W → List ℕ
+stream_taken s = s.log.bytes
+
+abbrev pub stream_puts : {W : Type 0} → StreamSink W → ℕ
+stream_puts s = s.log.puts
+
+abbrev pub stream_faults : {W : Type 0} → StreamSink W → ℕ
+stream_faults s = s.faults
+
+-- a put took a front of the piece, all of it where it is done, and what the stream tells that it holds grew by just this front
+pub record Sends (old new : List ℕ) (told_old told_new : Option (List ℕ)) (piece : List ℕ) (result : Put) : Type 0 where
+  pub front : List ℕ
+  pub is_front : IsPrefix front piece
+  pub whole : result ≡ put.Done → front ≡ piece
+  pub taken : new ≡ old ++ front
+  pub stream : Gains told_old told_new front
+
+abbrev pub source_reader : {R : Type 0} {g : _} → StreamSource R g → R
+source_reader s = s.reader
+
+-- the bytes that were read and not given yet
+abbrev pub source_held : {R : Type 0} {g : _} → StreamSource R g → List ℕ
+source_held s = take s.held s.buffer.items
+
+abbrev pub source_faults : {R : Type 0} {g : _} → StreamSource R g → ℕ
+source_faults s = s.faults
