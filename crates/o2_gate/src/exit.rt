@@ -1,7 +1,7 @@
 // DosExit.
 ghost use Rattle.std.specs.Prelude.{◌≡◌, ◌≤◌, ◌∷◌, [], ℕ, List, Option, Some};
 ghost use Rattle.o2_outer.specs.Texts.{Rose};
-ghost use Rattle.o2_outer.specs.Answers.{Takes, OnFailed};
+ghost use Rattle.o2_outer.specs.Answers.{Takes, Puts, OnFailed};
 ghost use Rattle.o2_world.specs.Known.{Known};
 ghost use Rattle.o2_world.specs.World.{Exits, Ends};
 ghost use Rattle.o2_world.specs.Text.{lines_text};
@@ -16,9 +16,10 @@ use o2_isa::Cpu;
 use o2_outer::{Put, Sink};
 use o2_report::{LineBuffer, set_ends, set_exits};
 
-/// Puts the two lines of an exit.
+/// Puts the two lines of an exit, each by a put of its own.
 fn put_exit<R: Sink>(line: &mut LineBuffer, pid: u16, action: u16, code: u16, report: &mut R) -> Put
     ensures report { Takes (R.taken report.old) (R.taken report.new) (lines_text (Exits pid action code ∷ Ends pid code ∷ [])) result }
+    ensures puts { Puts (R.puts report.old) (R.puts report.new) 2 result }
     ensures count { R.faults report.old ≤ R.faults report.new }
     ensures cause { OnFailed result (Rose (R.faults report.old) (R.faults report.new)) }
 {

@@ -1,5 +1,5 @@
 // A call with one pointer, behind which bytes are written.
-ghost use Rattle.std.specs.Prelude.{◌≡◌, ◌≤◌, ◌<◌, ◌∷◌, [], ℕ, List, Option, Some, IsTrue, length};
+ghost use Rattle.std.specs.Prelude.{◌≡◌, ◌≤◌, ◌<◌, ◌+◌, ◌∷◌, [], ℕ, List, Option, Some, IsTrue, length};
 ghost use Rattle.o2_outer.specs.Texts.{Rose};
 ghost use Rattle.o2_outer.specs.Answers.{Takes, OnFailed};
 ghost use Rattle.o2_bus.specs.Plain.{held_in, bytes_in, shown_in};
@@ -27,7 +27,7 @@ pub struct Telling<'a> {
     pub values: &'a [Argument],
 }
 
-/// Puts the line of the call.
+/// Puts the line of the call, by one put.
 fn put_told<R: Sink>(
     line: &mut LineBuffer,
     pid: u16,
@@ -40,6 +40,7 @@ fn put_told<R: Sink>(
     requires values { length telling.now.values.now ≤ 4 }
     ensures report { Takes (R.taken report.old) (R.taken report.new)
         (lines_text (Calls pid telling.now.name.now (Argument.Far selector offset ∷ []) 0 telling.now.values.now ∷ [])) result }
+    ensures puts { R.puts report.new ≡ R.puts report.old + 1 }
     ensures count { R.faults report.old ≤ R.faults report.new }
     ensures cause { OnFailed result (Rose (R.faults report.old) (R.faults report.new)) }
 {

@@ -1,5 +1,5 @@
 // What DosRead and DosWrite have in common: their arguments, their line, and the count behind the second pointer.
-ghost use Rattle.std.specs.Prelude.{◌≡◌, ◌≤◌, ◌∷◌, [], ℕ, IsTrue, length};
+ghost use Rattle.std.specs.Prelude.{◌≡◌, ◌+◌, ◌≤◌, ◌∷◌, [], ℕ, IsTrue, length};
 ghost use Rattle.o2_outer.specs.Texts.{Rose};
 ghost use Rattle.o2_outer.specs.Answers.{Takes, OnFailed};
 ghost use Rattle.o2_bus.specs.Plain.{held_in, bytes_in, shown_in, plain_view};
@@ -45,7 +45,7 @@ pub fn arguments_of(plain: &Plain, pid: u16, cpu: &Cpu) -> Transfer
     }
 }
 
-/// Puts the line of the call, with the count that it wrote.
+/// Puts the line of the call, with the count that it wrote, by one put.
 pub fn put_line<R: Sink>(
     line: &mut LineBuffer,
     pid: u16,
@@ -58,6 +58,7 @@ pub fn put_line<R: Sink>(
     requires { length name.now ≤ 20 }
     ensures report { Takes (R.taken report.old) (R.taken report.new)
         (lines_text (Calls pid name.now (Argument.Word transfer.now.handle ∷ Argument.Far transfer.now.selector transfer.now.offset ∷ Argument.Word transfer.now.count ∷ Argument.Far transfer.now.done_selector transfer.now.done_offset ∷ []) error (Argument.Word done ∷ []) ∷ [])) result }
+    ensures puts { R.puts report.new ≡ R.puts report.old + 1 }
     ensures count { R.faults report.old ≤ R.faults report.new }
     ensures cause { OnFailed result (Rose (R.faults report.old) (R.faults report.new)) }
 {

@@ -1,5 +1,5 @@
 // DosWrite.
-ghost use Rattle.std.specs.Prelude.{◌≡◌, ◌≤◌, ◌⊎◌, ◌∷◌, [], ℕ, List, Option, Some, IsTrue, false, length};
+ghost use Rattle.std.specs.Prelude.{◌≡◌, ◌≢◌, ◌≤◌, ◌+◌, ◌⊎◌, ◌∷◌, [], ℕ, List, Option, Some, IsTrue, false, length};
 ghost use Rattle.o2_outer.specs.Texts.{Rose};
 ghost use Rattle.o2_outer.specs.Answers.{Takes, OnFailed};
 ghost use Rattle.o2_bus.specs.Plain.{held_in, bytes_in, shown_in, plain_view};
@@ -18,13 +18,14 @@ use o2_isa::Cpu;
 use o2_outer::{Put, Sink};
 use o2_report::LineBuffer;
 
-/// Puts the bytes of the buffer; none are no put.
+/// Puts the bytes of the buffer, by one put; none are no put.
 #[tactic(auto, unfolding(o2_world::specs::Calls::range_of), using(o2_outer::proofs::TextLemmas::gains_none))]
 fn put_range<C: Sink>(plain: &Plain, pid: u16, write: &Transfer, console: &mut C) -> Put
     requires { IsTrue (reads_at (held_in plain.now pid) (bytes_in plain.now) write.now.selector write.now.offset write.now.count) }
     ensures console { Takes (C.taken console.old) (C.taken console.new) (range_of (held_in plain.now pid) (bytes_in plain.now) write.now.selector write.now.offset write.now.count) result }
     ensures len { length (range_of (held_in plain.now pid) (bytes_in plain.now) write.now.selector write.now.offset write.now.count) ≡ write.now.count }
     ensures nothing { write.now.count ≡ 0 → console.new ≡ console.old }
+    ensures puts { write.now.count ≢ 0 → C.puts console.new ≡ C.puts console.old + 1 }
     ensures count { C.faults console.old ≤ C.faults console.new }
     ensures cause { OnFailed result (Rose (C.faults console.old) (C.faults console.new)) }
 {

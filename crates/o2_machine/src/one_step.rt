@@ -1,5 +1,5 @@
 // One step of a process, all but what an end takes from it.
-ghost use Rattle.std.specs.Prelude.{◌≡◌, ◌<◌, ◌≤◌, ◌^◌, ◌⊎◌, ◌∷◌, [], ℕ, List, Option, Some, length};
+ghost use Rattle.std.specs.Prelude.{◌≡◌, ◌<◌, ◌≤◌, ◌+◌, ◌^◌, ◌⊎◌, ◌∷◌, [], ℕ, List, Option, Some, length};
 ghost use Rattle.o2_outer.specs.Texts.{Rose};
 ghost use Rattle.o2_outer.specs.Answers.{Takes, OnFailed};
 ghost use Rattle.o2_bus.specs.Plain.{held_in, shown_in, bytes_in};
@@ -42,9 +42,10 @@ fn has_trap_flag(flags: u16) -> bool
     is_set(flags, Flag::Trap)
 }
 
-/// Puts the line of an exception at the instruction of these registers.
+/// Puts the line of an exception at the instruction of these registers, by one put.
 fn put_trap<R: Sink>(line: &mut LineBuffer, pid: u16, vector: u8, cpu: &Cpu, report: &mut R) -> Put
     ensures report { Takes (R.taken report.old) (R.taken report.new) (lines_text (Traps pid vector cpu.now.cs cpu.now.ip ∷ [])) result }
+    ensures puts { R.puts report.new ≡ R.puts report.old + 1 }
     ensures count { R.faults report.old ≤ R.faults report.new }
     ensures cause { OnFailed result (Rose (R.faults report.old) (R.faults report.new)) }
 {

@@ -1,7 +1,7 @@
 // The lines of the report.
 ghost use Rattle.std.specs.Prelude.{◌≡◌, ◌≤◌, ◌<◌, ◌+◌, ◌*◌, ◌++◌, [], ◌∷◌, List, ℕ, length, codes, flat_map};
 ghost use Rattle.o2_outer.specs.Texts.{Rose};
-ghost use Rattle.o2_outer.specs.Answers.{Takes, OnFailed};
+ghost use Rattle.o2_outer.specs.Answers.{Takes, Puts, OnFailed};
 ghost use Rattle.o2_world.specs.Text.{argument_text, values_text, line_text, lines_text};
 ghost use Rattle.o2_world.specs.Opening.{hold_lines, start_lines};
 ghost use Rattle.o2_world.specs.World.{Starts, HoldsBy, DropsBy, Calls, Exits, Ends, Traps};
@@ -135,7 +135,7 @@ pub fn set_traps(line: &mut LineBuffer, process: u16, vector: u8, selector: u16,
     line.push_byte(b'\n');
 }
 
-/// Puts the lines of the holds of a process by load.
+/// Puts the lines of the holds of a process by load, each by a put of its own.
 pub fn put_holds<R: Sink>(
     line: &mut LineBuffer,
     process: u16,
@@ -143,6 +143,7 @@ pub fn put_holds<R: Sink>(
     report: &mut R,
 ) -> Put
     ensures report { Takes (R.taken report.old) (R.taken report.new) (lines_text (hold_lines process selectors.now)) result }
+    ensures puts { Puts (R.puts report.old) (R.puts report.new) (length selectors.now) result }
     ensures count { R.faults report.old ≤ R.faults report.new }
     ensures cause { OnFailed result (Rose (R.faults report.old) (R.faults report.new)) }
 {
@@ -156,7 +157,7 @@ pub fn put_holds<R: Sink>(
     Put::Done
 }
 
-/// Puts the lines of the start of a process.
+/// Puts the lines of the start of a process, each by a put of its own.
 pub fn put_start<R: Sink>(
     line: &mut LineBuffer,
     process: u16,
@@ -166,6 +167,7 @@ pub fn put_start<R: Sink>(
 ) -> Put
     requires { length name.now ≤ 255 }
     ensures report { Takes (R.taken report.old) (R.taken report.new) (lines_text (start_lines process name.now selectors.now)) result }
+    ensures puts { Puts (R.puts report.old) (R.puts report.new) (length selectors.now + 1) result }
     ensures count { R.faults report.old ≤ R.faults report.new }
     ensures cause { OnFailed result (Rose (R.faults report.old) (R.faults report.new)) }
 {

@@ -1,5 +1,5 @@
 // The stop line of a run.
-ghost use Rattle.std.specs.Prelude.{◌≡◌, ◌≤◌, true, false};
+ghost use Rattle.std.specs.Prelude.{◌≡◌, ◌≤◌, ◌+◌, true, false};
 ghost use Rattle.o2_outer.specs.Texts.{Rose, Gains, GainsSome, IsPrefix};
 ghost use Rattle.o2_run.specs.Stops.{stop_line};
 ghost use Rattle.o2_run.specs.Turn.{turn_of};
@@ -33,10 +33,11 @@ impl Stop {
     }
 }
 
-/// Puts the line of a stop, and tells whether it was put whole. Where that fails the run is stopped all the same.
+/// Puts the line of a stop, by one put, and tells whether it was put whole. Where that fails the run is stopped all the same.
 pub fn put_stop<R: Sink>(why: Stop, report: &mut R) -> bool
     ensures text { GainsSome (R.taken report.old) (R.taken report.new) (λ front. IsPrefix front (stop_line why)) }
     ensures whole { result ≡ true → Gains (R.taken report.old) (R.taken report.new) (stop_line why) }
+    ensures puts { R.puts report.new ≡ R.puts report.old + 1 }
     ensures report_count { R.faults report.old ≤ R.faults report.new }
     ensures cause { result ≡ false → Rose (R.faults report.old) (R.faults report.new) }
 {

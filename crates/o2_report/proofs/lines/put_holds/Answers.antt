@@ -13,5 +13,6 @@ pub loop-selector-preserved : goal.loop-selector-preserved
 loop-selector-preserved g c = record {
   so_far = rw (holds_more c.args.process c.args.selectors.now c.loop-selector.selector-index c.loop-selector-test.true)
       (puts_more _ _ _ _ _ put.Done c.loop-selector.invariant.so_far (rw (c.as_slice.ensures, c.set_holds.ensures) at c.in-Done.ensures.takes));
+  puts = omega (arith, c.loop-selector.invariant.puts, c.in-Done.ensures.puts);
   count = omega (arith, c.loop-selector.invariant.count, c.in-Done.ensures.count);
 }
