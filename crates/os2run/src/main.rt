@@ -60,11 +60,14 @@ fn run(rt: &HostRuntime) -> Result<Status, NoMemory> {
     ))
 }
 
-/// Puts the line of a status. A failure there has nobody left to tell.
+/// Puts the line of a status, where it has one. A failure there has nobody left to tell.
 fn tell(rt: &HostRuntime, status: &Status) {
     let Ok(line) = text(rt.alloc(), status) else {
         return;
     };
+    if line.len() == 0 {
+        return;
+    }
     let mut stream = StderrSink::new(rt.stderr());
     match stream.put(line.as_slice()) {
         Put::Done => {}
