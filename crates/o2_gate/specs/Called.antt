@@ -1,5 +1,5 @@
 -- What a call did, by its answer and by the effect that its row gives.
-use Rattle.std.specs.Prelude.{◌≡◌, ◌⊎◌, ℕ, true, false, ◌==◌, take, drop, length, List, Option, Some}
+use Rattle.std.specs.Prelude.{◌≡◌, ◌⊎◌, ℕ, true, false, ◌==◌, take, drop, length, List, Option, Some, Result, Ok, Err}
 use Rattle.o2_outer.specs.Texts.{Gains, GainsSome, IsPrefix}
 use Rattle.o2_outer.specs.declared.sink.Put.{Put}
 use Rattle.o2_outer.specs.declared.sink.Put.TheVariants as put
@@ -13,7 +13,10 @@ use Rattle.o2_world.specs.declared.types.State.TheVariants as state
 use Rattle.o2_world.specs.Calls.{Before, Effect, trapped, asks}
 use Rattle.o2_world.specs.Text.{lines_text}
 use Rattle.o2_gate.specs.declared.called.Called.{Called}
-use Rattle.o2_gate.specs.declared.called.Called.TheVariants.{Back, Exited, Trap, InputFault, SinkFault}
+use Rattle.o2_gate.specs.declared.called.Called.TheVariants.{Back, Exited, Trap}
+use Rattle.o2_run.specs.declared.steps.Stop.TheVariants as stop
+use Rattle.o2_run.specs.declared.fault.Fault.{Fault}
+use Rattle.o2_run.specs.declared.fault.Fault.TheVariants as fault
 
 -- the effect is made whole, with so many bytes for the console and so many lines, and the process is then in this state
 pub record IsMade (e : Effect) (ends : State) (piece_bytes line_count : ℕ) (registers : Cpu) (after : Plain) (left console_old console_new report_old report_new : Option (List ℕ)) : Type 0 where
@@ -54,24 +57,27 @@ pub record IsInPart (e : Effect) (registers before : Cpu) (old new : Plain) (lef
   pub to_report : GainsSome report_old report_new (λ front. IsPrefix front (lines_text e.lines))
   pub in_order : (report_new ≡ report_old) ⊎ Gains console_old console_new e.piece
 
--- by the answer, where `why` is the reason for which the input is gone to
-abbrev pub DoesFor : Type 0 → Before → Effect → Cpu → (old new : Plain) → (left_old left_new console_old console_new report_old report_new : Option (List ℕ)) → Called → Type 0
-DoesFor why b e cpu old new i j c d r q (Back put) = IsMade e state.Live put 1 cpu new j c d r q
-DoesFor why b e cpu old new i j c d r q (Exited code) = IsMade e (state.Exited code) 0 2 cpu new j c d r q
-DoesFor why b e cpu old new i j c d r q (Trap vector) = IsTrap b e vector cpu old new i j c d r q
-DoesFor why b e cpu old new i j c d r q InputFault = IsUnread why cpu b.cpu old new i j c d r q
-DoesFor why b e cpu old new i j c d r q SinkFault = IsInPart e cpu b.cpu old new i j c d r q
+-- a fault, where `why` is the reason for which the input is gone to; a call stops for its input alone
+abbrev pub FaultsFor : Type 0 → Before → Effect → Cpu → (old new : Plain) → (left_old left_new console_old console_new report_old report_new : Option (List ℕ)) → Fault → Type 0
+FaultsFor why b e cpu old new i j c d r q fault.Sink = IsInPart e cpu b.cpu old new i j c d r q
+FaultsFor why b e cpu old new i j c d r q (fault.Stopped stop.Input) = IsUnread why cpu b.cpu old new i j c d r q
+FaultsFor why b e cpu old new i j c d r q (fault.Stopped stop.NoRoom) = ⊥
+FaultsFor why b e cpu old new i j c d r q (fault.Stopped stop.SwapFull) = ⊥
+FaultsFor why b e cpu old new i j c d r q (fault.Stopped stop.SwapFault) = ⊥
 
-abbrev pub Does : Before → Effect → Cpu → (old new : Plain) → (left_old left_new console_old console_new report_old report_new : Option (List ℕ)) → Called → Type 0
+-- by the answer
+abbrev pub DoesFor : Type 0 → Before → Effect → Cpu → (old new : Plain) → (left_old left_new console_old console_new report_old report_new : Option (List ℕ)) → Result Called Fault → Type 0
+DoesFor why b e cpu old new i j c d r q (Ok (Back put)) = IsMade e state.Live put 1 cpu new j c d r q
+DoesFor why b e cpu old new i j c d r q (Ok (Exited code)) = IsMade e (state.Exited code) 0 2 cpu new j c d r q
+DoesFor why b e cpu old new i j c d r q (Ok (Trap vector code)) = IsTrap b e vector cpu old new i j c d r q
+DoesFor why b e cpu old new i j c d r q (Err f) = FaultsFor why b e cpu old new i j c d r q f
+
+abbrev pub Does : Before → Effect → Cpu → (old new : Plain) → (left_old left_new console_old console_new report_old report_new : Option (List ℕ)) → Result Called Fault → Type 0
 Does b = DoesFor (asks b ≡ true) b
 
-abbrev pub OnSinkFault : Called → Type 0 → Type 0
-OnSinkFault SinkFault P = P
-OnSinkFault _ P = Unit {0}
-
-abbrev pub OnInputFault : Called → Type 0 → Type 0
-OnInputFault InputFault P = P
-OnInputFault _ P = Unit {0}
+-- what holds for some input, whatever the input tells: these bytes before a call, and what the call leaves of them
+abbrev pub ForSome : (List ℕ → (left_old left_new : Option (List ℕ)) → Type 0) → Type 0
+ForSome P = (bytes : List ℕ) × ((left : Option (List ℕ)) × P bytes (Some bytes) left)
 
 -- a piece for the console and then a text for the report: both whole, or fronts, the report's only behind the whole piece
 pub record PutInPart (piece text : List ℕ) (console_old console_new report_old report_new : Option (List ℕ)) : Type 0 where

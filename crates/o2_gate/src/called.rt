@@ -1,16 +1,13 @@
 // What a call came to.
 
-/// What a call of a service came to.
+/// What a call of a service came to, where neither the input nor a sink fails.
 #[derive(Clone, Copy, Debug, PartialEq, Eq)]
 pub enum Called {
     /// It came back to its caller, and has put its line, and before it so many bytes to the console.
     Back(u16),
     /// The process ends with this code; both of its lines are put.
     Exited(u16),
-    /// A pointer or the arguments are bad: the process ends by this exception, and nothing is changed or put.
-    Trap(u8),
-    /// The input failed: all is as before the call.
-    InputFault,
-    /// A sink failed: registers and bytes are as before the call.
-    SinkFault,
+    /// A pointer or the arguments are bad: the process ends by this exception, with its error code, and nothing is changed or
+    /// put.
+    Trap(u8, u16),
 }

@@ -7,7 +7,8 @@ ghost use Rattle.o2_world.specs.World.{Exits, Ends};
 ghost use Rattle.o2_world.specs.Text.{lines_text};
 ghost use Rattle.o2_world.specs.Calls.{dos_exit as dos_exit_row};
 ghost use Rattle.o2_gate.specs.Befores.{before_call};
-ghost use Rattle.o2_gate.specs.Called.{Does, OnSinkFault, OnInputFault};
+ghost use Rattle.o2_gate.specs.Called.{Does};
+ghost use Rattle.o2_run.specs.Faults.{Caused};
 
 use crate::Called;
 use crate::stack::{argument, fit};
@@ -15,6 +16,7 @@ use o2_bus::Plain;
 use o2_isa::Cpu;
 use o2_outer::{Put, Sink};
 use o2_report::{LineBuffer, set_ends, set_exits};
+use o2_run::Fault;
 
 /// Puts the two lines of an exit, each by a put of its own.
 fn put_exit<R: Sink>(line: &mut LineBuffer, pid: u16, action: u16, code: u16, report: &mut R) -> Put
@@ -41,20 +43,19 @@ pub fn dos_exit<R: Sink>(
     plain: &Plain,
     line: &mut LineBuffer,
     report: &mut R,
-) -> Called
+) -> Result<Called, Fault>
     ensures does { (input : List ℕ) (known : Known) (i c : Option (List ℕ)) → i ≡ Some input → let b = before_call plain.now pid cpu.now input known in
         Does b (dos_exit_row b) cpu.now plain.now plain.now i i c c (R.taken report.old) (R.taken report.new) result }
     ensures count { R.faults report.old ≤ R.faults report.new }
-    ensures cause { OnSinkFault result (Rose (R.faults report.old) (R.faults report.new)) }
-    ensures unread { OnInputFault result ⊥ }
+    ensures cause { Caused (Rose (R.faults report.old) (R.faults report.new)) ⊥ ⊥ ⊥ result }
 {
     if !fit(plain, pid, cpu, 2) {
-        return Called::Trap(12);
+        return Ok(Called::Trap(12, 0));
     }
     let action = argument(plain, pid, cpu, 1);
     let code = argument(plain, pid, cpu, 0);
     match put_exit(line, pid, action, code, report) {
-        Put::Failed => Called::SinkFault,
-        Put::Done => Called::Exited(code),
+        Put::Failed => Err(Fault::Sink),
+        Put::Done => Ok(Called::Exited(code)),
     }
 }

@@ -5,7 +5,8 @@ ghost use Rattle.o2_bus.specs.Plain.{held_in, bytes_in, shown_in};
 ghost use Rattle.o2_world.specs.Known.{Known};
 ghost use Rattle.o2_world.specs.Calls.{dos_mem_avail as dos_mem_avail_row};
 ghost use Rattle.o2_gate.specs.Befores.{before_call};
-ghost use Rattle.o2_gate.specs.Called.{Does, OnSinkFault, OnInputFault};
+ghost use Rattle.o2_gate.specs.Called.{Does};
+ghost use Rattle.o2_run.specs.Faults.{Caused};
 
 use crate::Called;
 use crate::told::{Telling, told};
@@ -13,6 +14,7 @@ use o2_bus::Plain;
 use o2_isa::Cpu;
 use o2_outer::Sink;
 use o2_report::LineBuffer;
+use o2_run::Fault;
 use o2_world::Argument;
 
 /// DosMemAvail(psize): the machine file's number, the low word first in memory.
@@ -24,15 +26,14 @@ pub fn dos_mem_avail<R: Sink>(
     plain: &mut Plain,
     line: &mut LineBuffer,
     report: &mut R,
-) -> Called
+) -> Result<Called, Fault>
     ensures does { (input : List ℕ) (known : Known) (i c : Option (List ℕ)) → i ≡ Some input → known.avail ≡ avail → let b = before_call plain.old pid cpu.old input known in
         Does b (dos_mem_avail_row b next) cpu.new plain.old plain.new i i c c (R.taken report.old) (R.taken report.new) result }
     ensures sizes { (n : ℕ) → length (bytes_in plain.new n) ≡ length (bytes_in plain.old n) }
     ensures maps { held_in plain.new ≡ held_in plain.old }
     ensures shown { (n : ℕ) → shown_in plain.new n ≡ shown_in plain.old n }
     ensures count { R.faults report.old ≤ R.faults report.new }
-    ensures cause { OnSinkFault result (Rose (R.faults report.old) (R.faults report.new)) }
-    ensures unread { OnInputFault result ⊥ }
+    ensures cause { Caused (Rose (R.faults report.old) (R.faults report.new)) ⊥ ⊥ ⊥ result }
 {
     let low = (avail % 65536) as u16;
     let high = (avail / 65536) as u16;

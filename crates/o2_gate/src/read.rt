@@ -6,7 +6,8 @@ ghost use Rattle.o2_bus.specs.Plain.{held_in, bytes_in, shown_in, plain_view};
 ghost use Rattle.o2_world.specs.Known.{Known};
 ghost use Rattle.o2_world.specs.Calls.{dos_read as dos_read_row, read_from as read_from_row, read_with, bytes_with, asks_input, may_write as writes_at, argument as argument_of};
 ghost use Rattle.o2_gate.specs.Befores.{before_call};
-ghost use Rattle.o2_gate.specs.Called.{Does, DoesFor, OnSinkFault, OnInputFault, Fills};
+ghost use Rattle.o2_gate.specs.Called.{Does, DoesFor, Fills, ForSome};
+ghost use Rattle.o2_run.specs.Faults.{Caused};
 
 use crate::Called;
 use crate::pointer::{may_write, store};
@@ -16,6 +17,7 @@ use o2_bus::Plain;
 use o2_isa::Cpu;
 use o2_outer::{Put, Sink, Source, Took};
 use o2_report::LineBuffer;
+use o2_run::{Fault, Stop};
 
 /// Takes bytes of the input into the front of a slice.
 fn take_front<I: Source>(bytes: &mut [u8], count: u16, input: &mut I) -> Took
@@ -72,7 +74,7 @@ fn deliver<R: Sink>(
     got: &[u8],
     line: &mut LineBuffer,
     report: &mut R,
-) -> Called
+) -> Result<Called, Fault>
     requires short { length got.now ≤ read.now.count }
     requires small { length got.now < 65536 }
     requires buffer { IsTrue (writes_at (held_in plain.old pid) (bytes_in plain.old) read.now.selector read.now.offset read.now.count) }
@@ -84,15 +86,14 @@ fn deliver<R: Sink>(
     ensures maps { held_in plain.new ≡ held_in plain.old }
     ensures shown { (n : ℕ) → shown_in plain.new n ≡ shown_in plain.old n }
     ensures count { R.faults report.old ≤ R.faults report.new }
-    ensures cause { OnSinkFault result (Rose (R.faults report.old) (R.faults report.new)) }
-    ensures unread { OnInputFault result ⊥ }
+    ensures cause { Caused (Rose (R.faults report.old) (R.faults report.new)) ⊥ ⊥ ⊥ result }
 {
     match put_line(line, pid, b"DosRead", read, 0, got.len() as u16, report) {
-        Put::Failed => Called::SinkFault,
+        Put::Failed => Err(Fault::Sink),
         Put::Done => {
             store_both(plain, pid, read, got);
             give_back(cpu, next, 6, 0);
-            Called::Back(0)
+            Ok(Called::Back(0))
         }
     }
 }
@@ -109,11 +110,15 @@ fn read_from<I: Source, R: Sink>(
     buffer: &mut Vec<u8>,
     input: &mut I,
     report: &mut R,
-) -> Called
+) -> Result<Called, Fault>
     requires { vec_len buffer.old ≡ 65536 }
     ensures does { (bytes : List ℕ) (known : Known) (c : Option (List ℕ)) → I.left input.old ≡ Some bytes → let b = before_call plain.old pid cpu.old bytes known in
         DoesFor (asks_input b read.now.handle read.now.selector read.now.offset read.now.count read.now.done_selector read.now.done_offset ≡ true) b (read_from_row b next read.now.handle read.now.selector read.now.offset read.now.count read.now.done_selector read.now.done_offset)
         cpu.new plain.old plain.new (I.left input.old) (I.left input.new) c c (R.taken report.old) (R.taken report.new) result }
+    // The same for some input, where it tells nothing.
+    ensures some { (known : Known) (c : Option (List ℕ)) → ForSome (λ bytes i j. let b = before_call plain.old pid cpu.old bytes known in
+        DoesFor (asks_input b read.now.handle read.now.selector read.now.offset read.now.count read.now.done_selector read.now.done_offset ≡ true) b (read_from_row b next read.now.handle read.now.selector read.now.offset read.now.count read.now.done_selector read.now.done_offset)
+        cpu.new plain.old plain.new i j c c (R.taken report.old) (R.taken report.new) result) }
     ensures sizes { (n : ℕ) → length (bytes_in plain.new n) ≡ length (bytes_in plain.old n) }
     ensures maps { held_in plain.new ≡ held_in plain.old }
     ensures shown { (n : ℕ) → shown_in plain.new n ≡ shown_in plain.old n }
@@ -123,25 +128,24 @@ fn read_from<I: Source, R: Sink>(
     ensures refused { read.now.handle ≢ 0 → input.new ≡ input.old }
     ensures input_count { I.faults input.old ≤ I.faults input.new }
     ensures report_count { R.faults report.old ≤ R.faults report.new }
-    ensures cause { OnSinkFault result (Rose (R.faults report.old) (R.faults report.new)) }
-    ensures input_cause { OnInputFault result (Rose (I.faults input.old) (I.faults input.new)) }
+    ensures cause { Caused (Rose (R.faults report.old) (R.faults report.new)) (Rose (I.faults input.old) (I.faults input.new)) ⊥ ⊥ result }
 {
     let writable = may_write(plain, pid, read.selector, read.offset, read.count);
     let countable = may_write(plain, pid, read.done_selector, read.done_offset, 2);
     if !writable || !countable {
-        return Called::Trap(13);
+        return Ok(Called::Trap(13, 0));
     }
     if read.handle != 0 {
         return match put_line(line, pid, b"DosRead", read, 6, 0, report) {
-            Put::Failed => Called::SinkFault,
+            Put::Failed => Err(Fault::Sink),
             Put::Done => {
                 give_back(cpu, next, 6, 6);
-                Called::Back(0)
+                Ok(Called::Back(0))
             }
         };
     }
     match take_bytes(buffer, read.count, input) {
-        Took::Failed => Called::InputFault,
+        Took::Failed => Err(Fault::Stopped(Stop::Input)),
         Took::Done(got) => deliver(pid, next, cpu, plain, read, &buffer[..got], line, report),
     }
 }
@@ -158,10 +162,13 @@ pub fn dos_read<I: Source, R: Sink>(
     buffer: &mut Vec<u8>,
     input: &mut I,
     report: &mut R,
-) -> Called
+) -> Result<Called, Fault>
     requires { vec_len buffer.old ≡ 65536 }
     ensures does { (bytes : List ℕ) (known : Known) (c : Option (List ℕ)) → I.left input.old ≡ Some bytes → let b = before_call plain.old pid cpu.old bytes known in
         Does b (dos_read_row b next) cpu.new plain.old plain.new (I.left input.old) (I.left input.new) c c (R.taken report.old) (R.taken report.new) result }
+    // The same for some input, where it tells nothing.
+    ensures some { (known : Known) (c : Option (List ℕ)) → ForSome (λ bytes i j. let b = before_call plain.old pid cpu.old bytes known in
+        Does b (dos_read_row b next) cpu.new plain.old plain.new i j c c (R.taken report.old) (R.taken report.new) result) }
     ensures sizes { (n : ℕ) → length (bytes_in plain.new n) ≡ length (bytes_in plain.old n) }
     ensures maps { held_in plain.new ≡ held_in plain.old }
     ensures shown { (n : ℕ) → shown_in plain.new n ≡ shown_in plain.old n }
@@ -171,11 +178,10 @@ pub fn dos_read<I: Source, R: Sink>(
     ensures refused { argument_of (plain_view plain.old pid cpu.old) cpu.old 5 ≢ 0 → input.new ≡ input.old }
     ensures input_count { I.faults input.old ≤ I.faults input.new }
     ensures report_count { R.faults report.old ≤ R.faults report.new }
-    ensures cause { OnSinkFault result (Rose (R.faults report.old) (R.faults report.new)) }
-    ensures input_cause { OnInputFault result (Rose (I.faults input.old) (I.faults input.new)) }
+    ensures cause { Caused (Rose (R.faults report.old) (R.faults report.new)) (Rose (I.faults input.old) (I.faults input.new)) ⊥ ⊥ result }
 {
     if !fit(plain, pid, cpu, 6) {
-        return Called::Trap(12);
+        return Ok(Called::Trap(12, 0));
     }
     let read = arguments_of(plain, pid, cpu);
     read_from(pid, next, cpu, plain, &read, line, buffer, input, report)

@@ -8,7 +8,8 @@ ghost use Rattle.o2_world.specs.World.{Calls};
 ghost use Rattle.o2_world.specs.Text.{lines_text};
 ghost use Rattle.o2_world.specs.Calls.{told as told_row, told_at as told_at_row};
 ghost use Rattle.o2_gate.specs.Befores.{before_call};
-ghost use Rattle.o2_gate.specs.Called.{Does, OnSinkFault, OnInputFault};
+ghost use Rattle.o2_gate.specs.Called.{Does};
+ghost use Rattle.o2_run.specs.Faults.{Caused};
 
 use crate::Called;
 use crate::pointer::{may_write, store};
@@ -17,6 +18,7 @@ use o2_bus::Plain;
 use o2_isa::Cpu;
 use o2_outer::{Put, Sink};
 use o2_report::{LineBuffer, set_calls};
+use o2_run::Fault;
 use o2_world::Argument;
 
 /// What a call tells: its name, the bytes that it writes behind its pointer, and the values of its line.
@@ -61,7 +63,7 @@ fn told_at<R: Sink>(
     offset: u16,
     line: &mut LineBuffer,
     report: &mut R,
-) -> Called
+) -> Result<Called, Fault>
     requires name { length telling.now.name.now ≤ 20 }
     requires part { length telling.now.part.now < 65536 }
     requires values { length telling.now.values.now ≤ 4 }
@@ -72,18 +74,17 @@ fn told_at<R: Sink>(
     ensures maps { held_in plain.new ≡ held_in plain.old }
     ensures shown { (n : ℕ) → shown_in plain.new n ≡ shown_in plain.old n }
     ensures count { R.faults report.old ≤ R.faults report.new }
-    ensures cause { OnSinkFault result (Rose (R.faults report.old) (R.faults report.new)) }
-    ensures unread { OnInputFault result ⊥ }
+    ensures cause { Caused (Rose (R.faults report.old) (R.faults report.new)) ⊥ ⊥ ⊥ result }
 {
     if !may_write(plain, pid, selector, offset, telling.part.len() as u16) {
-        return Called::Trap(13);
+        return Ok(Called::Trap(13, 0));
     }
     match put_told(line, pid, telling, selector, offset, report) {
-        Put::Failed => Called::SinkFault,
+        Put::Failed => Err(Fault::Sink),
         Put::Done => {
             store(plain, pid, selector, offset, telling.part);
             give_back(cpu, next, 2, 0);
-            Called::Back(0)
+            Ok(Called::Back(0))
         }
     }
 }
@@ -98,7 +99,7 @@ pub fn told<R: Sink>(
     telling: &Telling<'_>,
     line: &mut LineBuffer,
     report: &mut R,
-) -> Called
+) -> Result<Called, Fault>
     requires name { length telling.now.name.now ≤ 20 }
     requires part { length telling.now.part.now < 65536 }
     requires values { length telling.now.values.now ≤ 4 }
@@ -109,11 +110,10 @@ pub fn told<R: Sink>(
     ensures maps { held_in plain.new ≡ held_in plain.old }
     ensures shown { (n : ℕ) → shown_in plain.new n ≡ shown_in plain.old n }
     ensures count { R.faults report.old ≤ R.faults report.new }
-    ensures cause { OnSinkFault result (Rose (R.faults report.old) (R.faults report.new)) }
-    ensures unread { OnInputFault result ⊥ }
+    ensures cause { Caused (Rose (R.faults report.old) (R.faults report.new)) ⊥ ⊥ ⊥ result }
 {
     if !fit(plain, pid, cpu, 2) {
-        return Called::Trap(12);
+        return Ok(Called::Trap(12, 0));
     }
     let selector = argument(plain, pid, cpu, 1);
     let offset = argument(plain, pid, cpu, 0);

@@ -7,7 +7,8 @@ ghost use Rattle.o2_world.specs.Known.{Known};
 ghost use Rattle.o2_world.specs.Text.{lines_text};
 ghost use Rattle.o2_world.specs.Calls.{dos_write as dos_write_row, written as written_row, write_line, is_console, may_read as reads_at, range_of, argument as argument_of};
 ghost use Rattle.o2_gate.specs.Befores.{before_call};
-ghost use Rattle.o2_gate.specs.Called.{Does, OnSinkFault, OnInputFault, PutsBoth};
+ghost use Rattle.o2_gate.specs.Called.{Does, PutsBoth};
+ghost use Rattle.o2_run.specs.Faults.{Caused};
 
 use crate::Called;
 use crate::pointer::{may_read, may_write, range};
@@ -17,6 +18,7 @@ use o2_bus::Plain;
 use o2_isa::Cpu;
 use o2_outer::{Put, Sink};
 use o2_report::LineBuffer;
+use o2_run::Fault;
 
 /// Puts the bytes of the buffer, by one put; none are no put.
 #[tactic(auto, unfolding(o2_world::specs::Calls::range_of), using(o2_outer::proofs::TextLemmas::gains_none))]
@@ -78,7 +80,7 @@ fn written<C: Sink, R: Sink>(
     line: &mut LineBuffer,
     console: &mut C,
     report: &mut R,
-) -> Called
+) -> Result<Called, Fault>
     ensures does { (input : List ℕ) (known : Known) (i : Option (List ℕ)) → i ≡ Some input → let b = before_call plain.old pid cpu.old input known in
         Does b (written_row b next write.now.handle write.now.selector write.now.offset write.now.count write.now.done_selector write.now.done_offset)
         cpu.new plain.old plain.new i i (C.taken console.old) (C.taken console.new) (R.taken report.old) (R.taken report.new) result }
@@ -90,29 +92,28 @@ fn written<C: Sink, R: Sink>(
     ensures refused { is_console write.now.handle ≡ false → console.new ≡ console.old }
     ensures console_count { C.faults console.old ≤ C.faults console.new }
     ensures report_count { R.faults report.old ≤ R.faults report.new }
-    ensures cause { OnSinkFault result (Rose (C.faults console.old) (C.faults console.new) ⊎ Rose (R.faults report.old) (R.faults report.new)) }
-    ensures unread { OnInputFault result ⊥ }
+    ensures cause { Caused (Rose (C.faults console.old) (C.faults console.new) ⊎ Rose (R.faults report.old) (R.faults report.new)) ⊥ ⊥ ⊥ result }
 {
     let readable = may_read(plain, pid, write.selector, write.offset, write.count);
     let writable = may_write(plain, pid, write.done_selector, write.done_offset, 2);
     if !readable || !writable {
-        return Called::Trap(13);
+        return Ok(Called::Trap(13, 0));
     }
     if !is_console(write.handle) {
         return match put_line(line, pid, b"DosWrite", write, 6, write.count, report) {
-            Put::Failed => Called::SinkFault,
+            Put::Failed => Err(Fault::Sink),
             Put::Done => {
                 give_back(cpu, next, 6, 6);
-                Called::Back(0)
+                Ok(Called::Back(0))
             }
         };
     }
     match put_both(plain, pid, write, line, console, report) {
-        Put::Failed => Called::SinkFault,
+        Put::Failed => Err(Fault::Sink),
         Put::Done => {
             store_count(plain, pid, write, write.count);
             give_back(cpu, next, 6, 0);
-            Called::Back(write.count)
+            Ok(Called::Back(write.count))
         }
     }
 }
@@ -128,7 +129,7 @@ pub fn dos_write<C: Sink, R: Sink>(
     line: &mut LineBuffer,
     console: &mut C,
     report: &mut R,
-) -> Called
+) -> Result<Called, Fault>
     ensures does { (input : List ℕ) (known : Known) (i : Option (List ℕ)) → i ≡ Some input → let b = before_call plain.old pid cpu.old input known in
         Does b (dos_write_row b next) cpu.new plain.old plain.new i i (C.taken console.old) (C.taken console.new) (R.taken report.old) (R.taken report.new) result }
     ensures sizes { (n : ℕ) → length (bytes_in plain.new n) ≡ length (bytes_in plain.old n) }
@@ -139,11 +140,10 @@ pub fn dos_write<C: Sink, R: Sink>(
     ensures refused { is_console (argument_of (plain_view plain.old pid cpu.old) cpu.old 5) ≡ false → console.new ≡ console.old }
     ensures console_count { C.faults console.old ≤ C.faults console.new }
     ensures report_count { R.faults report.old ≤ R.faults report.new }
-    ensures cause { OnSinkFault result (Rose (C.faults console.old) (C.faults console.new) ⊎ Rose (R.faults report.old) (R.faults report.new)) }
-    ensures unread { OnInputFault result ⊥ }
+    ensures cause { Caused (Rose (C.faults console.old) (C.faults console.new) ⊎ Rose (R.faults report.old) (R.faults report.new)) ⊥ ⊥ ⊥ result }
 {
     if !fit(plain, pid, cpu, 6) {
-        return Called::Trap(12);
+        return Ok(Called::Trap(12, 0));
     }
     let write = arguments_of(plain, pid, cpu);
     written(pid, next, cpu, plain, &write, line, console, report)

@@ -11,6 +11,15 @@ use Rattle.o2_machine.specs.declared.space.Space.{Space}
 use Rattle.o2_machine.specs.Stands.{StandsIn}
 use Rattle.o2_machine.specs.Commit.{IsBetween}
 use Rattle.o2_machine.proofs.Commits.{same_holds}
+use Rattle.std.specs.Prelude.{Option}
+use Rattle.o2_isa.specs.declared.cpu.Cpu.{Cpu}
+use Rattle.o2_world.specs.Calls.{Before}
+use Rattle.o2_world.specs.Effect.{AsksInput}
+use Rattle.o2_run.specs.declared.steps.Stop.TheVariants as halt
+use Rattle.o2_run.specs.declared.fault.Fault.{Fault}
+use Rattle.o2_run.specs.declared.fault.Fault.TheVariants as fault
+use Rattle.o2_gate.specs.Called.{FaultsFor}
+use Rattle.o2_machine.specs.Acts.{ActsFault}
 
 empty_by : (bs cs : List ℕ) → length bs ≡ length cs → cs ≡ [] → bs ≡ []
 empty_by [] cs same none = refl
@@ -37,3 +46,12 @@ module _ (m : Space) (ps : List Process) (names : Map Segment) (new : Services) 
     bytes = λ k. stands.bytes k ∙ sym (bytes k);
     shown = λ k. shown k ∙ stands.shown k;
   }
+
+  -- a fault, behind which the machine stands as before
+  pub faults : (b : Before) (e : Effect) (cpu : Cpu) (i j c d r q : Option (List ℕ)) (f : Fault) → FaultsFor (AsksInput b) b e cpu m.state.plain new.plain i j c d r q f
+      → ActsFault (AsksInput b) ps names e (record { procs = m.procs; state = new }) i j c d r q f
+  faults b e cpu i j c d r q fault.Sink part = record { stands = stays part.bytes; input = part.input; to_console = part.to_console; to_report = part.to_report; in_order = part.in_order }
+  faults b e cpu i j c d r q (fault.Stopped halt.Input) unread = record { cause = unread.cause; stands = stays unread.bytes; input = unread.input; to_console = unread.to_console; to_report = unread.to_report }
+  faults b e cpu i j c d r q (fault.Stopped halt.NoRoom) never = absurd never
+  faults b e cpu i j c d r q (fault.Stopped halt.SwapFull) never = absurd never
+  faults b e cpu i j c d r q (fault.Stopped halt.SwapFault) never = absurd never

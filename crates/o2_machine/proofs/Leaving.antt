@@ -17,7 +17,21 @@ use Rattle.o2_world.specs.Effect.{effect, answered, single_stepped, has_trap_fla
 use Rattle.o2_world.specs.Text.{lines_text, line_text}
 use Rattle.o2_gate.specs.Called.{IsMade, IsInPart}
 use Rattle.o2_machine.specs.declared.tally.Tally.{Tally}
-use Rattle.o2_machine.specs.Ran.{IsMadeLate}
+use Rattle.o2_machine.specs.Ran.{IsDone}
+use Rattle.o2_world.specs.declared.types.State.{State}
+
+-- what a call has made, as a step that is done
+pub done_by : (e : Effect) (ends : State) (tally : Tally) (cpu : Cpu) (new : Plain) (j c d r q : Option (List ℕ)) → IsMade e ends tally.bytes tally.lines cpu new j c d r q → IsDone e (record { state = ends; tally = tally; whole = true }) cpu new j c d r q
+done_by e ends tally cpu new j c d r q made = record {
+  state = made.state;
+  ends = λ late. absurd (cc);
+  puts = record { bytes = made.piece; lines = made.lines };
+  cpu = made.cpu;
+  bytes = made.bytes;
+  input = made.input;
+  to_console = made.to_console;
+  to_report = made.to_report;
+}
 
 -- the effect, by what the instruction came to
 pub effect_by : (b : Before) (r : Result Machine Stop) → stepped (state b.cpu b.view) ≡ r → effect b ≡ single_stepped b (answered b r)
@@ -49,12 +63,12 @@ module _ (b : Before) (e : Effect) (tally more : Tally) (cpu : Cpu) (old new : P
   lines_more has = length-append e.lines (Traps b.number 1 b.cpu.cs b.cpu.ip ∷ []) ∙ ap (λ (n : ℕ). n + 1) has ∙ sym one_more
 
   -- the exception behind a step, with its line whole or in part
-  pub made_with_trap : has_trap_flag b.cpu.flags ≡ true → IsMade e Live tally.bytes tally.lines cpu new j c d r s → Gains s q (lines_text (Traps b.number 1 b.cpu.cs b.cpu.ip ∷ [])) → IsMade (single_stepped b e) (Trapped 1) more.bytes more.lines cpu new j c d r q
+  pub made_with_trap : has_trap_flag b.cpu.flags ≡ true → IsMade e Live tally.bytes tally.lines cpu new j c d r s → Gains s q (lines_text (Traps b.number 1 b.cpu.cs b.cpu.ip ∷ [])) → IsDone (single_stepped b e) (record { state = Trapped 1; tally = more; whole = true }) cpu new j c d r q
   made_with_trap flag made took =
-      subst (λ (x : Effect). IsMade x (Trapped 1) more.bytes more.lines cpu new j c d r q) (sym (with_flag b e flag made.state)) (record {
+      subst (λ (x : Effect). IsDone x (record { state = Trapped 1; tally = more; whole = true }) cpu new j c d r q) (sym (with_flag b e flag made.state)) (record {
         state = refl;
-        piece = made.piece ∙ sym same;
-        lines = lines_more made.lines;
+        ends = λ late. absurd (cc);
+        puts = record { bytes = made.piece ∙ sym same; lines = lines_more made.lines };
         cpu = made.cpu;
         bytes = made.bytes;
         input = made.input;
@@ -62,11 +76,11 @@ module _ (b : Before) (e : Effect) (tally more : Tally) (cpu : Cpu) (old new : P
         to_report = rw (more_lines e (Traps b.number 1 b.cpu.cs b.cpu.ip)) (puts_more _ _ r s q put.Done made.to_report took);
       })
 
-  pub late_with_trap : has_trap_flag b.cpu.flags ≡ true → IsMade e Live tally.bytes tally.lines cpu new j c d r s → GainsSome s q (λ front. IsPrefix front (lines_text (Traps b.number 1 b.cpu.cs b.cpu.ip ∷ []))) → IsMadeLate (single_stepped b e) (Trapped 1) more cpu new j c d r q
+  pub late_with_trap : has_trap_flag b.cpu.flags ≡ true → IsMade e Live tally.bytes tally.lines cpu new j c d r s → GainsSome s q (λ front. IsPrefix front (lines_text (Traps b.number 1 b.cpu.cs b.cpu.ip ∷ []))) → IsDone (single_stepped b e) (record { state = Trapped 1; tally = more; whole = false }) cpu new j c d r q
   late_with_trap flag made took =
-      subst (λ (x : Effect). IsMadeLate x (Trapped 1) more cpu new j c d r q) (sym (with_flag b e flag made.state)) (record {
+      subst (λ (x : Effect). IsDone x (record { state = Trapped 1; tally = more; whole = false }) cpu new j c d r q) (sym (with_flag b e flag made.state)) (record {
         state = refl;
-        late = refl;
+        ends = λ late. refl;
         puts = record { bytes = made.piece ∙ sym same; lines = lines_more made.lines };
         cpu = made.cpu;
         bytes = made.bytes;

@@ -16,7 +16,7 @@ use Rattle.o2_world.proofs.Quiet.{changed_plain, effect_quiet}
 use Rattle.o2_world.specs.Run.{process_after, before, step, plainly, is_over, any_lives, live_flags, console, last_line, next_dispatch}
 use Rattle.o2_world.proofs.Budget.{step_runs}
 use Rattle.o2_world.proofs.Flags.{live_process, lives_some, flags_after, flags_ended}
-use Rattle.o2_run.specs.Turn.{StepsOn, StepsInPart, IsStopped, IsClosed, IsClosedInPart, Turns, Caused}
+use Rattle.o2_run.specs.Turn.{StepsOn, StepsInPart, IsStopped, IsClosed, IsClosedInPart, Turns, Caused, is_for_swap, LineIs, OnRan}
 use Rattle.o2_run.specs.Stops.{stop_line}
 use Rattle.o2_run.specs.declared.steps.Stop.{Stop}
 use Rattle.o2_run.specs.declared.steps.Stop.TheVariants.{Input, NoRoom, SwapFull, SwapFault}
@@ -24,7 +24,13 @@ use Rattle.o2_run.specs.declared.steps.Turn.{Turn}
 use Rattle.o2_run.specs.declared.steps.Turn.TheVariants as turn
 use Rattle.o2_sched.specs.Schedule.{Schedule, next_of, pick_of}
 use Rattle.o2_sched.specs.declared.sched.Pick.TheVariants.{Step, AllEnded, BudgetSpent}
-use Rattle.o2_machine.specs.Acts.{ActsAll, ActsInPart, ActsLate, ActsUnread, StandsAfter}
+use Rattle.o2_machine.specs.Acts.{ActsAll, ActsInPart, ActsUnread, ActsFault, StandsAfter}
+use Rattle.o2_machine.specs.Ran.{TakesText}
+use Rattle.o2_machine.specs.Steppeds.{stepped_sched}
+use Rattle.o2_machine.specs.declared.one_step.Ran.{Ran}
+use Rattle.o2_run.specs.declared.fault.Fault.{Fault}
+use Rattle.o2_run.specs.declared.fault.Fault.TheVariants.{Stopped}
+use Rattle.o2_run.specs.Faults.{CauseOf, turn_of}
 use Rattle.o2_machine.specs.Tallies.{IsTally}
 use Rattle.o2_machine.specs.Stands.{StandsIn}
 use Rattle.o2_machine.specs.StandsFor.{StandsFor}
@@ -175,41 +181,31 @@ module _ (m : Machine) (s : Setting) (w : World) (number : ℕ) (c d r q : Optio
       let all = at_k here.0 here.1 here.2 in
       steps_in_part m s w here.0 c d r q stands is.any is.some here.1 j n (elim all.input [ inl same ↦ inl (same ∙ left) | inr took ↦ inr took ]) (inl (same_space n m s w stands same all.stands)) all.to_console all.to_report all.in_order
 
-  pub went : (i : Option (List ℕ)) (n : Machine) (left : Space) (tally : Tally) → HasCounted m n left tally → ((p : Process) → process_at w.processes number ≡ Some p → p.state ≡ Live → ActsAll number w.processes w.names p (effect (before s w number p)) tally left i c d r q true)
-      → n.sched ≡ record m.sched { dispatch = counted (next_of m.sched) } → StepsOn (StandsFor n s) false s w i c d r q
-  went i n left tally counts did sched =
-      let at_k = subst (λ (z : ℕ). (p : Process) → process_at w.processes z ≡ Some p → p.state ≡ Live → ActsAll z w.processes w.names p (effect (before s w z p)) tally left i c d r q true) (sym is.number) did in
-      let all = at_k here.0 here.1 here.2 in
-      let flags = flags_after w.processes m.sched.flags k here.0 (effect (before s w k here.0)) stands.flags (ap (lives m.sched.flags) is.number ∙ live) all.lives in
-      steps_on m s w here.0 c d r q stands is.any is.some here.1 i n all.input
-      (stands_next m s w here.0 c d r q stands is.any is.some here.1 n left tally all.stands (ap (λ (z : Schedule). z.dispatch) sched) (ap (λ (z : Schedule). z.quantum) sched) (flags ∙ sym (ap (λ (z : Schedule). z.flags) sched)) all.puts counts)
-      all.to_console all.to_report
-
-  abbrev pub ended_sched : Schedule
-  ended_sched = record { dispatch = counted (next_of m.sched); flags = slice_set m.sched.flags (number - 1) false; quantum = m.sched.quantum }
-
   ended_flags : (e : Effect) (p : Process) → Rattle.o2_world.specs.World.is_live e.state ≡ false → live_flags (with_process w.processes k (process_after p e)) ≡ slice_set m.sched.flags (number - 1) false
   ended_flags e p ends = flags_ended w.processes m.sched.flags k p e (lives_some m.sched.flags k (ap (lives m.sched.flags) is.number ∙ live)) stands.flags ends ∙ ap (λ (z : ℕ). slice_set m.sched.flags (z - 1) false) is.number
 
-  pub over : (i : Option (List ℕ)) (n : Machine) (left : Space) (tally : Tally) → HasCounted m n left tally → ((p : Process) → process_at w.processes number ≡ Some p → p.state ≡ Live → ActsAll number w.processes w.names p (effect (before s w number p)) tally left i c d r q false)
-      → n.sched ≡ ended_sched → StepsOn (StandsFor n s) false s w i c d r q
-  over i n left tally counts did sched =
-      let at_k = subst (λ (z : ℕ). (p : Process) → process_at w.processes z ≡ Some p → p.state ≡ Live → ActsAll z w.processes w.names p (effect (before s w z p)) tally left i c d r q false) (sym is.number) did in
-      let all = at_k here.0 here.1 here.2 in
-      steps_on m s w here.0 c d r q stands is.any is.some here.1 i n all.input
-      (stands_next m s w here.0 c d r q stands is.any is.some here.1 n left tally all.stands (ap (λ (z : Schedule). z.dispatch) sched) (ap (λ (z : Schedule). z.quantum) sched)
-      (ended_flags (effect (before s w k here.0)) here.0 all.lives ∙ sym (ap (λ (z : Schedule). z.flags) sched)) all.puts counts)
-      all.to_console all.to_report
+  flags_next : (e : Effect) (p : Process) (goes_on : Bool) → Rattle.o2_world.specs.World.is_live e.state ≡ goes_on → live_flags (with_process w.processes k (process_after p e)) ≡ (stepped_sched m.sched number goes_on).flags
+  flags_next e p true goes = flags_after w.processes m.sched.flags k p e stands.flags (ap (lives m.sched.flags) is.number ∙ live) goes
+  flags_next e p false ends = ended_flags e p ends
 
-  pub late : (j : Option (List ℕ)) (n : Machine) (left : Space) (tally : Tally) → HasCounted m n left tally → ((p : Process) → process_at w.processes number ≡ Some p → p.state ≡ Live → ActsLate number w.processes w.names p (effect (before s w number p)) tally left j c d r q)
-      → n.sched ≡ ended_sched → StepsInPart (StandsFor n s) false s w j c d r q
-  late j n left tally counts did sched =
-      let at_k = subst (λ (z : ℕ). (p : Process) → process_at w.processes z ≡ Some p → p.state ≡ Live → ActsLate z w.processes w.names p (effect (before s w z p)) tally left j c d r q) (sym is.number) did in
-      let all = at_k here.0 here.1 here.2 in
-      steps_in_part m s w here.0 c d r q stands is.any is.some here.1 j n (inr all.input)
-      (inr (stands_next m s w here.0 c d r q stands is.any is.some here.1 n left tally all.stands (ap (λ (z : Schedule). z.dispatch) sched) (ap (λ (z : Schedule). z.quantum) sched)
-      (ended_flags (effect (before s w k here.0)) here.0 all.lives ∙ sym (ap (λ (z : Schedule). z.flags) sched)) all.puts counts))
-      (gains_some _ c d all.to_console) all.to_report (inr all.to_console)
+  module _ (i : Option (List ℕ)) (n : Machine) (left : Space) (ran : Ran) (counts : HasCounted m n left ran.tally)
+      (did : (p : Process) → process_at w.processes number ≡ Some p → p.state ≡ Live → ActsAll number w.processes w.names p (effect (before s w number p)) ran left i c d r q)
+      (sched : n.sched ≡ stepped_sched m.sched number (Rattle.o2_world.specs.World.is_live ran.state)) where
+    all : ActsAll k w.processes w.names here.0 (effect (before s w k here.0)) ran left i c d r q
+    all = subst (λ (z : ℕ). (p : Process) → process_at w.processes z ≡ Some p → p.state ≡ Live → ActsAll z w.processes w.names p (effect (before s w z p)) ran left i c d r q) (sym is.number) did here.0 here.1 here.2
+
+    -- the machine stands for the world after the step
+    now : StandsFor n s (step s w)
+    now = stands_next m s w here.0 c d r q stands is.any is.some here.1 n left ran.tally all.stands (ap (λ (z : Schedule). z.dispatch) sched) (ap (λ (z : Schedule). z.quantum) sched)
+        (flags_next (effect (before s w k here.0)) here.0 _ all.lives ∙ sym (ap (λ (z : Schedule). z.flags) sched)) all.puts counts
+
+    pub went : ran.whole ≡ true → StepsOn (StandsFor n s) false s w i c d r q
+    went whole = steps_on m s w here.0 c d r q stands is.any is.some here.1 i n all.input now all.to_console
+        (subst (λ (z : Bool). TakesText z r q (lines_text (effect (before s w k here.0)).lines)) whole all.to_report)
+
+    pub late : ran.whole ≡ false → StepsInPart (StandsFor n s) false s w i c d r q
+    late part = steps_in_part m s w here.0 c d r q stands is.any is.some here.1 i n (inr all.input) (inr now) (gains_some _ c d all.to_console)
+        (subst (λ (z : Bool). TakesText z r q (lines_text (effect (before s w k here.0)).lines)) part all.to_report) (inr all.to_console)
 
   -- the input failed: the next step is a DosRead, and the machine stands for the world before it
   pub stopped : (blocks : ℕ) (n : Machine) (put : Bool) (i j s_of : Option (List ℕ)) → IsSame m n → i ≡ Some w.input
@@ -232,6 +228,49 @@ module _ (m : Machine) (s : Setting) (w : World) (number : ℕ) (c d r q : Optio
         to_report = continues_in_part (stop_line Input) (lines_text w.lines) r q (subst (λ (z : Option (List ℕ)). GainsSome z q (λ front. IsPrefix front (stop_line Input))) all.to_report front);
         whole = λ e. continues_by (stop_line Input) (lines_text w.lines) r q (subst (λ (z : Option (List ℕ)). Gains z q (stop_line Input)) all.to_report (whole e));
       }
+
+  did_here : ((p : Process) → process_at w.processes number ≡ Some p → p.state ≡ Live → ⊥) → ⊥
+  did_here did = subst (λ (z : ℕ). (p : Process) → process_at w.processes z ≡ Some p → p.state ≡ Live → ⊥) (sym is.number) did here.0 here.1 here.2
+
+  -- whatever stop a step answers
+  pub stopped_by : (why : Stop) (blocks : ℕ) (n : Machine) (put : Bool) (i j s_of : Option (List ℕ)) → IsSame m n → i ≡ Some w.input
+      → ((p : Process) → process_at w.processes number ≡ Some p → p.state ≡ Live → ActsFault (AsksInput (before s w number p)) w.processes w.names (effect (before s w number p)) n.space i j c d r s_of (Stopped why))
+      → GainsSome s_of q (λ front. IsPrefix front (stop_line why)) → (put ≡ true → Gains s_of q (stop_line why)) → Turns (StandsFor n s) false blocks s w put j c d r q (turn_of why)
+  stopped_by Input blocks n put i j s_of same left did front whole = stopped blocks n put i j s_of same left did front whole
+  stopped_by NoRoom blocks n put i j s_of same left did front whole = absurd (did_here did)
+  stopped_by SwapFull blocks n put i j s_of same left did front whole = absurd (did_here did)
+  stopped_by SwapFault blocks n put i j s_of same left did front whole = absurd (did_here did)
+
+-- a step that stops does so for its input alone
+pub caused_stop : (sink other input : Type 0) (f : Fault) (why : Stop) → f ≡ Stopped why → CauseOf sink input ⊥ ⊥ f → Caused other input ⊥ (turn_of why)
+caused_stop sink other input f why is h = by_stop why (subst (λ (z : Fault). CauseOf sink input ⊥ ⊥ z) is h)
+  where
+    by_stop : (why : Stop) → CauseOf sink input ⊥ ⊥ (Stopped why) → Caused other input ⊥ (turn_of why)
+    by_stop Input h = h
+    by_stop NoRoom h = absurd h
+    by_stop SwapFull h = absurd h
+    by_stop SwapFault h = absurd h
+
+pub not_for_swap : (sink input : Type 0) (f : Fault) (why : Stop) → f ≡ Stopped why → CauseOf sink input ⊥ ⊥ f → is_for_swap (turn_of why) ≡ false
+not_for_swap sink input f why is h = by_stop why (subst (λ (z : Fault). CauseOf sink input ⊥ ⊥ z) is h)
+  where
+    by_stop : (why : Stop) → CauseOf sink input ⊥ ⊥ (Stopped why) → is_for_swap (turn_of why) ≡ false
+    by_stop Input h = refl
+    by_stop NoRoom h = absurd h
+    by_stop SwapFull h = absurd h
+    by_stop SwapFault h = absurd h
+
+pub line_of_stop : (put : Bool) (fault : Type 0) (why : Stop) → (put ≡ false → fault) → LineIs put fault (turn_of why)
+line_of_stop put fault Input h = h
+line_of_stop put fault NoRoom h = h
+line_of_stop put fault SwapFull h = h
+line_of_stop put fault SwapFault h = h
+
+pub left_at_stop : (P : Type 0) (why : Stop) → OnRan (turn_of why) P
+left_at_stop P Input = tt
+left_at_stop P NoRoom = tt
+left_at_stop P SwapFull = tt
+left_at_stop P SwapFault = tt
 
 -- the last line, whole or in part
 module _ (m n : Machine) (s : Setting) (w : World) (i c r q : Option (List ℕ)) (stands : StandsFor m s w) (same : IsSame m n) (space : n.space ≡ m.space) (left : i ≡ Some w.input) where

@@ -3,13 +3,14 @@ use Rattle.std.specs.Prelude.{ℕ, Bool, false, Option, Some, None}
 use Rattle.o2_run.specs.declared.steps.Turn.{Turn}
 use Rattle.o2_run.specs.declared.steps.Turn.TheVariants as turn
 use Rattle.o2_machine.specs.declared.last.Last.{Last}
-use Rattle.o2_machine.specs.declared.last.Last.TheVariants.{AllEnded, BudgetSpent, InputFault, SinkFault}
+use Rattle.o2_run.specs.Faults.{turn_of as stop_turn}
+use Rattle.o2_machine.specs.declared.last.Last.TheVariants.{AllEnded, BudgetSpent, SinkFault, Stopped}
 
 abbrev pub turn_of : Last → Turn
 turn_of AllEnded = turn.AllEnded
 turn_of BudgetSpent = turn.BudgetSpent
-turn_of (InputFault put) = turn.InputFault
 turn_of SinkFault = turn.SinkFault
+turn_of (Stopped why put) = stop_turn why
 
 -- the answer of a turn: a step where the machine goes on
 abbrev pub answer_of : Option Last → Turn
@@ -23,7 +24,7 @@ stopped_of (Some last) = Some (turn_of last)
 
 -- whether a stop line was put whole
 abbrev pub put_of : Option Last → Bool
-put_of (Some (InputFault put)) = put
+put_of (Some (Stopped why put)) = put
 put_of _ = false
 
 -- the last line of a run that came to its end, which isn't among the lines of its world

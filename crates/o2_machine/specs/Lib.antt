@@ -4,6 +4,7 @@ pub mod Stands
 pub mod Commit
 pub mod Acts
 pub mod Lasts
+pub mod Steppeds
 pub mod StandsFor
 pub mod Begins
 pub mod Readies

@@ -97,7 +97,7 @@ impl Machine {
         ensures { result ≡ put_of self.now.last }
     {
         match self.last {
-            Some(Last::InputFault(put)) => put,
+            Some(Last::Stopped(_, put)) => put,
             _ => false,
         }
     }

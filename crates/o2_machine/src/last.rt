@@ -2,7 +2,7 @@
 ghost use Rattle.std.specs.Prelude.{◌≡◌};
 ghost use Rattle.o2_machine.specs.Lasts.{answer_of};
 
-use o2_run::Turn;
+use o2_run::{Stop, Turn};
 
 /// The answer of a machine from its end or its stop on.
 #[derive(Clone, Copy, Debug, PartialEq, Eq)]
@@ -11,10 +11,10 @@ pub enum Last {
     AllEnded,
     /// The budget is spent.
     BudgetSpent,
-    /// The input failed, and whether the stop line was put whole.
-    InputFault(bool),
     /// A sink failed.
     SinkFault,
+    /// The run stopped before a step, and whether the stop line was put whole.
+    Stopped(Stop, bool),
 }
 
 /// The answer of a turn: a step where the machine goes on.
@@ -25,7 +25,7 @@ pub fn answer(last: Option<Last>) -> Turn
         None => Turn::Ran,
         Some(Last::AllEnded) => Turn::AllEnded,
         Some(Last::BudgetSpent) => Turn::BudgetSpent,
-        Some(Last::InputFault(_)) => Turn::InputFault,
         Some(Last::SinkFault) => Turn::SinkFault,
+        Some(Last::Stopped(why, _)) => why.answer(),
     }
 }

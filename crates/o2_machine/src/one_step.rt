@@ -10,7 +10,7 @@ ghost use Rattle.o2_world.specs.Effect.{effect, single_stepped, has_trap_flag as
 ghost use Rattle.o2_world.specs.Calls.{Before, Effect, trapped};
 ghost use Rattle.o2_gate.specs.Befores.{before_call, IsKnown};
 ghost use Rattle.o2_gate.specs.Called.{IsMade};
-ghost use Rattle.o2_machine.specs.Ran.{Leaves, OnFault, OnInput};
+ghost use Rattle.o2_machine.specs.Ran.{Leaves, RanFor};
 
 use crate::tally::Tally;
 use o2_alu::is_set;
@@ -20,19 +20,19 @@ use o2_gate::{Called, State as Services, call};
 use o2_isa::{Cpu, Flag, Outcome};
 use o2_outer::{Put, Sink, Source};
 use o2_report::{LineBuffer, set_traps};
+use o2_run::Fault;
 use o2_world::State;
 
-/// What a step came to.
+/// A step that is done.
 #[derive(Clone, Copy, Debug, PartialEq, Eq)]
-pub enum Ran {
-    /// It is done, the process is then in this state, and so much is put.
-    Done(State, Tally),
-    /// A sink failed, and registers and bytes are as before the step.
-    Fault,
-    /// The input failed, and all is as before the step.
-    InputFault,
-    /// A sink failed in the last line of the step, which is made all the same. The line counts as put.
-    LateFault(State, Tally),
+pub struct Ran {
+    /// The state of its process behind it.
+    pub state: State,
+    /// How much it puts.
+    pub tally: Tally,
+    /// Whether its last line was put whole. Where a sink failed in the line of exception 1, the step is done all the same, and the
+    /// line counts as put.
+    pub whole: bool,
 }
 
 /// Whether the trap flag is set.
@@ -54,17 +54,26 @@ fn put_trap<R: Sink>(line: &mut LineBuffer, pid: u16, vector: u8, cpu: &Cpu, rep
 }
 
 /// An exception: nothing changes but that the process ends.
-fn trap<R: Sink>(pid: u16, vector: u8, cpu: &Cpu, line: &mut LineBuffer, report: &mut R) -> Ran
+fn trap<R: Sink>(
+    pid: u16,
+    vector: u8,
+    cpu: &Cpu,
+    line: &mut LineBuffer,
+    report: &mut R,
+) -> Result<Ran, Fault>
     ensures leaves { (b : Before) (registers : Cpu) (old new : Plain) (i c : Option (List ℕ)) → b.number ≡ pid → b.cpu ≡ cpu.now → registers ≡ b.cpu → i ≡ Some b.input
         → ((n : ℕ) → bytes_in new n ≡ b.view.bytes n) → ((n : ℕ) → bytes_in new n ≡ bytes_in old n)
         → Leaves b (single_stepped b (trapped b vector)) registers old new i i c c (R.taken report.old) (R.taken report.new) result }
     ensures count { R.faults report.old ≤ R.faults report.new }
-    ensures cause { OnFault result (Rose (R.faults report.old) (R.faults report.new)) }
-    ensures unread { OnInput result ⊥ }
+    ensures cause { RanFor (Rose (R.faults report.old) (R.faults report.new)) ⊥ result }
 {
     match put_trap(line, pid, vector, cpu, report) {
-        Put::Failed => Ran::Fault,
-        Put::Done => Ran::Done(State::Trapped(vector), Tally { bytes: 0, lines: 1 }),
+        Put::Failed => Err(Fault::Sink),
+        Put::Done => Ok(Ran {
+            state: State::Trapped(vector),
+            tally: Tally { bytes: 0, lines: 1 },
+            whole: true,
+        }),
     }
 }
 
@@ -75,24 +84,35 @@ fn outlived<R: Sink>(
     tally: Tally,
     line: &mut LineBuffer,
     report: &mut R,
-) -> Ran
+) -> Result<Ran, Fault>
     requires few { tally.lines < 2 ^ 63 }
     ensures leaves { (b : Before) (e : Effect) (cpu : Cpu) (old new : Plain) (i j c d r : Option (List ℕ)) → b.number ≡ pid → b.cpu ≡ before.now → IsMade e State.Live tally.bytes tally.lines cpu new j c d r (R.taken report.old)
         → Leaves b (single_stepped b e) cpu old new i j c d r (R.taken report.new) result }
     ensures count { R.faults report.old ≤ R.faults report.new }
-    ensures cause { OnFault result (Rose (R.faults report.old) (R.faults report.new)) }
-    ensures unread { OnInput result ⊥ }
+    ensures cause { RanFor (Rose (R.faults report.old) (R.faults report.new)) ⊥ result }
 {
     if !has_trap_flag(before.flags) {
-        return Ran::Done(State::Live, tally);
+        return Ok(Ran {
+            state: State::Live,
+            tally,
+            whole: true,
+        });
     }
     let both = Tally {
         bytes: tally.bytes,
         lines: tally.lines + 1,
     };
     match put_trap(line, pid, 1, before, report) {
-        Put::Failed => Ran::LateFault(State::Trapped(1), both),
-        Put::Done => Ran::Done(State::Trapped(1), both),
+        Put::Failed => Ok(Ran {
+            state: State::Trapped(1),
+            tally: both,
+            whole: false,
+        }),
+        Put::Done => Ok(Ran {
+            state: State::Trapped(1),
+            tally: both,
+            whole: true,
+        }),
     }
 }
 
@@ -105,7 +125,7 @@ pub fn run_one<I: Source, C: Sink, R: Sink>(
     input: &mut I,
     console: &mut C,
     report: &mut R,
-) -> Ran
+) -> Result<Ran, Fault>
     ensures leaves { (bytes : List ℕ) (known : Known) → I.left input.old ≡ Some bytes → IsKnown known state.old → let b = before_call state.old.plain pid cpu.old bytes known in
         Leaves b (effect b) cpu.new state.old.plain state.new.plain (I.left input.old) (I.left input.new) (C.taken console.old) (C.taken console.new) (R.taken report.old) (R.taken report.new) result }
     ensures held { (p i : ℕ) → held_in state.new.plain p i ≡ held_in state.old.plain p i }
@@ -115,8 +135,8 @@ pub fn run_one<I: Source, C: Sink, R: Sink>(
     ensures input_count { I.faults input.old ≤ I.faults input.new }
     ensures console_count { C.faults console.old ≤ C.faults console.new }
     ensures report_count { R.faults report.old ≤ R.faults report.new }
-    ensures cause { OnFault result (Rose (C.faults console.old) (C.faults console.new) ⊎ Rose (R.faults report.old) (R.faults report.new)) }
-    ensures input_cause { OnInput result (Rose (I.faults input.old) (I.faults input.new)) }
+    ensures cause { RanFor (Rose (C.faults console.old) (C.faults console.new) ⊎ Rose (R.faults report.old) (R.faults report.new))
+        (Rose (I.faults input.old) (I.faults input.new)) result }
 {
     let before = *cpu;
     match step_plain(&mut state.plain, pid, cpu) {
@@ -128,16 +148,19 @@ pub fn run_one<I: Source, C: Sink, R: Sink>(
         Outcome::Miss(_) => trap(pid, 11, cpu, &mut state.line, report),
         Outcome::Gate { service, next } => {
             match call(service, next, pid, cpu, state, input, console, report) {
-                Called::Back(bytes) => {
+                Err(fault) => Err(fault),
+                Ok(Called::Back(bytes)) => {
                     let tally = Tally { bytes, lines: 1 };
                     outlived(pid, &before, tally, &mut state.line, report)
                 }
-                Called::Exited(code) => {
-                    Ran::Done(State::Exited(code), Tally { bytes: 0, lines: 2 })
+                Ok(Called::Exited(code)) => {
+                    Ok(Ran {
+                        state: State::Exited(code),
+                        tally: Tally { bytes: 0, lines: 2 },
+                        whole: true,
+                    })
                 }
-                Called::Trap(vector) => trap(pid, vector, cpu, &mut state.line, report),
-                Called::InputFault => Ran::InputFault,
-                Called::SinkFault => Ran::Fault,
+                Ok(Called::Trap(vector, _)) => trap(pid, vector, cpu, &mut state.line, report),
             }
         }
     }

@@ -10,10 +10,10 @@ ghost use Rattle.o2_world.specs.Calls.{Before, Effect};
 ghost use Rattle.o2_world.specs.Effect.{effect, AsksInput};
 
 use crate::one_step::{Ran, run_one};
-use crate::tally::Tally;
 use o2_gate::State as Services;
 use o2_isa::Cpu;
 use o2_outer::{Sink, Source};
+use o2_run::Fault;
 use o2_world::State;
 
 /// A process: its registers, and how far it is.
@@ -30,21 +30,6 @@ pub struct Space {
     pub state: Services,
 }
 
-/// What a step came to.
-#[derive(Clone, Copy, Debug, PartialEq, Eq)]
-pub enum Acted {
-    /// The process goes on, and so much is put.
-    Went(Tally),
-    /// The process has ended, and so much is put.
-    Ended(Tally),
-    /// A sink failed, and the machine is as before the step.
-    Fault,
-    /// A sink failed in the last line of the step, behind which the process has ended. The line counts as put.
-    LateFault(Tally),
-    /// The input failed, and all is as before the step.
-    InputFault,
-}
-
 /// Whether a process goes on.
 pub fn is_live(state: State) -> bool
     ensures { result ≡ lives state }
@@ -56,7 +41,8 @@ impl Space {
     ghost use Rattle.o2_gate.specs.Befores.{IsKnown};
     ghost use Rattle.o2_machine.specs.Stands.{StandsIn};
     ghost use Rattle.o2_machine.specs.Commit.{IsBetween};
-    ghost use Rattle.o2_machine.specs.Acts.{Acts, OnFault, OnInput, StandsAfter};
+    ghost use Rattle.o2_machine.specs.Acts.{Acts, StandsAfter};
+    ghost use Rattle.o2_machine.specs.Ran.{RanFor};
 
     /// Registers and state of a process after its step; where it has ended it holds nothing any more.
     fn commit(&mut self, pid: u16, cpu: &Cpu, state: State)
@@ -82,7 +68,7 @@ impl Space {
         input: &mut I,
         console: &mut C,
         report: &mut R,
-    ) -> Acted
+    ) -> Result<Ran, Fault>
         requires some { 0 < pid }
         requires there { pid ≤ length self.old.procs.items }
         ensures acts { (ps : List Process) (names : Map Segment) (p : Process) (bytes : List ℕ) (known : Known) → StandsIn self.old ps names → process_at ps pid ≡ Some p → p.state ≡ State.Live → I.left input.old ≡ Some bytes → IsKnown known self.old.state
@@ -91,26 +77,17 @@ impl Space {
         ensures input_count { I.faults input.old ≤ I.faults input.new }
         ensures console_count { C.faults console.old ≤ C.faults console.new }
         ensures report_count { R.faults report.old ≤ R.faults report.new }
-        ensures cause { OnFault result (Rose (C.faults console.old) (C.faults console.new) ⊎ Rose (R.faults report.old) (R.faults report.new)) }
-        ensures input_cause { OnInput result (Rose (I.faults input.old) (I.faults input.new)) }
+        ensures cause { RanFor (Rose (C.faults console.old) (C.faults console.new) ⊎ Rose (R.faults report.old) (R.faults report.new))
+            (Rose (I.faults input.old) (I.faults input.new)) result }
         ensures len { length self.new.procs.items ≡ length self.old.procs.items }
         ensures avail { self.new.state.avail ≡ self.old.state.avail }
     {
         let mut cpu = self.procs[pid as usize - 1].cpu;
         match run_one(pid, &mut cpu, &mut self.state, input, console, report) {
-            Ran::Fault => Acted::Fault,
-            Ran::InputFault => Acted::InputFault,
-            Ran::Done(state, tally) => {
-                self.commit(pid, &cpu, state);
-                if is_live(state) {
-                    Acted::Went(tally)
-                } else {
-                    Acted::Ended(tally)
-                }
-            }
-            Ran::LateFault(state, tally) => {
-                self.commit(pid, &cpu, state);
-                Acted::LateFault(tally)
+            Err(fault) => Err(fault),
+            Ok(ran) => {
+                self.commit(pid, &cpu, ran.state);
+                Ok(ran)
             }
         }
     }

@@ -6,30 +6,36 @@ ghost use Rattle.o2_world.specs.World.{World, Setting};
 ghost use Rattle.o2_sched.specs.Schedule.{next_of, pick_of, is_step};
 ghost use Rattle.o2_run.specs.Turn.{Turns, LineIs, Caused, OnRan, is_for_swap};
 ghost use Rattle.o2_machine.specs.Lasts.{answer_of, put_of};
+ghost use Rattle.o2_machine.specs.Steppeds.{stepped_sched};
+ghost use Rattle.o2_world.specs.World.{is_live as lives_on};
 ghost use Rattle.o2_machine.specs.StandsFor.{StandsFor};
 
 use crate::last::{Last, answer};
 use crate::machine::Machine;
-use crate::space::Acted;
-use crate::tally::Tally;
+use crate::one_step::Ran;
+use crate::space::is_live;
 use o2_outer::{Put, Sink, Source, SwapDevice};
-use o2_run::{Steps, Stop, Turn, put_stop};
+use o2_run::{Fault, Steps, Turn, put_stop};
 use o2_sched::Pick;
 
 impl Machine {
-    /// A step is done, and has put so much.
-    fn stepped(&mut self, tally: Tally)
-        requires { is_step (pick_of self.old.sched) ≡ true }
-        ensures sched { self.new.sched ≡ record self.old.sched { dispatch = counted (next_of self.old.sched) } }
-        ensures bytes { self.new.console_bytes ≡ self.old.console_bytes + tally.bytes }
-        ensures lines { self.new.lines ≡ self.old.lines + tally.lines }
+    /// A step of this process is done, and counted.
+    fn stepped(&mut self, pid: u16, ran: &Ran)
+        requires pick { is_step (pick_of self.old.sched) ≡ true }
+        requires live { lives self.old.sched.flags pid ≡ true }
+        ensures sched { self.new.sched ≡ stepped_sched self.old.sched pid (lives_on ran.now.state) }
+        ensures bytes { self.new.console_bytes ≡ self.old.console_bytes + ran.now.tally.bytes }
+        ensures lines { self.new.lines ≡ self.old.lines + ran.now.tally.lines }
         ensures space { self.new.space ≡ self.old.space }
         ensures budget { self.new.budget ≡ self.old.budget }
         ensures last { self.new.last ≡ self.old.last }
     {
         self.sched.stepped();
-        self.console_bytes += tally.bytes as u64;
-        self.lines += tally.lines as u128;
+        self.console_bytes += ran.tally.bytes as u64;
+        self.lines += ran.tally.lines as u128;
+        if !is_live(ran.state) {
+            self.sched.ended(pid);
+        }
     }
 
     /// The step of this process, or a stop line.
@@ -54,21 +60,15 @@ impl Machine {
         ensures left { OnRan (answer_of result) (self.new.sched.dispatch.budget < self.old.sched.dispatch.budget) }
     {
         match self.space.act(pid, input, console, report) {
-            Acted::Fault => Some(Last::SinkFault),
-            Acted::InputFault => Some(Last::InputFault(put_stop(Stop::Input, report))),
-            Acted::Went(tally) => {
-                self.stepped(tally);
-                None
-            }
-            Acted::Ended(tally) => {
-                self.stepped(tally);
-                self.sched.ended(pid);
-                None
-            }
-            Acted::LateFault(tally) => {
-                self.stepped(tally);
-                self.sched.ended(pid);
-                Some(Last::SinkFault)
+            Err(Fault::Sink) => Some(Last::SinkFault),
+            Err(Fault::Stopped(why)) => Some(Last::Stopped(why, put_stop(why, report))),
+            Ok(ran) => {
+                self.stepped(pid, &ran);
+                if ran.whole {
+                    None
+                } else {
+                    Some(Last::SinkFault)
+                }
             }
         }
     }

@@ -1,12 +1,14 @@
 -- What the texts are at the end of a run.
-use Rattle.std.specs.Prelude.{◌⊎◌, ◌≡◌, ◌<◌, ◌++◌, ℕ, suc, Bool, false, List, Option, Some}
+use Rattle.std.specs.Prelude.{◌⊎◌, ◌≡◌, ◌<◌, ◌++◌, ℕ, suc, Bool, false, List, Option, Some, None}
 use Rattle.o2_outer.specs.Texts.{Gains, GainsBetween}
 use Rattle.o2_world.specs.World.{World, Setting}
 use Rattle.o2_world.specs.Text.{lines_text}
 use Rattle.o2_world.specs.Run.{HasWholeTexts, HasPartTexts, InOpening, Between, AtLastLine, after, is_over, console, IsBelowLast}
 use Rattle.o2_run.specs.Room.{Fits}
 use Rattle.o2_run.specs.Stops.{stop_line, StopsFor}
-use Rattle.o2_run.specs.Turn.{turn_of}
+use Rattle.o2_run.specs.Faults.{CauseOf, OnFault, turn_of}
+use Rattle.o2_run.specs.declared.fault.Fault.{Fault}
+use Rattle.o2_run.specs.declared.fault.Fault.TheVariants as fault
 use Rattle.o2_run.specs.declared.steps.Stop.{Stop}
 use Rattle.o2_run.specs.declared.steps.Stop.TheVariants as stop
 use Rattle.o2_run.specs.declared.steps.Turn.{Turn}
@@ -57,12 +59,15 @@ HasTexts f swaps blocks s w i c d r q e SinkFault =
     (t : HasPartRun s w i c d r q) × (f (after s w (part_at t.texts)) ⊎ f (after s w (suc (part_at t.texts))))
 HasTexts f swaps blocks s w i c d r q e (Stopped why) = (t : HasStoppedTexts swaps blocks s w why i c d r q e) × f (after s w t.steps)
 
+-- the fault with which a run ends
+abbrev pub ended_by : Ended → Option Fault
+ended_by Fine = None
+ended_by SinkFault = Some fault.Sink
+ended_by (Stopped why) = Some (fault.Stopped why)
+
 -- how a run ends only where some count rose, each with its count: of a sink, of the input, of the device
 abbrev pub Caused : (sink input device : Type 0) → Ended → Type 0
-Caused sink input device SinkFault = sink
-Caused sink input device (Stopped stop.Input) = input
-Caused sink input device (Stopped stop.SwapFault) = device
-Caused sink input device _ = Unit {0}
+Caused sink input device e = OnFault (CauseOf sink input (Unit {0}) device) (ended_by e)
 
 -- only a machine that swaps stops for anything but its input
 abbrev pub StopsForInput : Ended → Type 0

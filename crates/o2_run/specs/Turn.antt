@@ -6,6 +6,7 @@ use Rattle.o2_world.specs.Text.{lines_text}
 use Rattle.o2_world.specs.Run.{step, any_lives, is_over, console, report}
 use Rattle.o2_run.specs.Room.{Fits}
 use Rattle.o2_run.specs.Stops.{stop_line, StopsFor}
+use Rattle.o2_run.specs.Faults.{CauseOf, OnFault, fault_of, stop_of}
 use Rattle.o2_run.specs.declared.steps.Stop.{Stop}
 use Rattle.o2_run.specs.declared.steps.Stop.TheVariants as stop
 use Rattle.o2_run.specs.declared.steps.Turn.{Turn}
@@ -80,20 +81,6 @@ abbrev pub stopped_by : Turn → Option Turn
 stopped_by turn.Ran = None
 stopped_by t = Some t
 
--- the stop of an answer, and the answer of a stop
-abbrev pub stop_of : Turn → Option Stop
-stop_of turn.InputFault = Some stop.Input
-stop_of turn.NoRoom = Some stop.NoRoom
-stop_of turn.SwapFull = Some stop.SwapFull
-stop_of turn.SwapFault = Some stop.SwapFault
-stop_of _ = None
-
-abbrev pub turn_of : Stop → Turn
-turn_of stop.Input = turn.InputFault
-turn_of stop.NoRoom = turn.NoRoom
-turn_of stop.SwapFull = turn.SwapFull
-turn_of stop.SwapFault = turn.SwapFault
-
 -- the stop line is put whole unless the report failed; in other turns none is put
 abbrev pub LineFor : Bool → Type 0 → Option Stop → Type 0
 LineFor put fault None = put ≡ false
@@ -104,10 +91,7 @@ LineIs put fault t = LineFor put fault (stop_of t)
 
 -- what a turn answers only where some count rose in it, each with its count: of a sink, of the input, of the device
 abbrev pub Caused : (sink input device : Type 0) → Turn → Type 0
-Caused sink input device turn.SinkFault = sink
-Caused sink input device turn.InputFault = input
-Caused sink input device turn.SwapFault = device
-Caused sink input device _ = Unit {0}
+Caused sink input device t = OnFault (CauseOf sink input (Unit {0}) device) (fault_of t)
 
 -- only a machine that swaps stops for want of room or of swap, or for a fault of its device
 abbrev pub is_for_swap : Turn → Bool

@@ -2,7 +2,7 @@
 ghost use Rattle.std.specs.Prelude.{◌≡◌, ◌≤◌, ◌+◌, true, false};
 ghost use Rattle.o2_outer.specs.Texts.{Rose, Gains, GainsSome, IsPrefix};
 ghost use Rattle.o2_run.specs.Stops.{stop_line};
-ghost use Rattle.o2_run.specs.Turn.{turn_of};
+ghost use Rattle.o2_run.specs.Faults.{turn_of};
 
 use crate::{Stop, Turn};
 use o2_outer::{Put, Sink};

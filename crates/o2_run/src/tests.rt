@@ -1,7 +1,8 @@
 // Runs of a machine of the tests, which is stopped by whatever it is told to be stopped by.
 ghost use Rattle.std.specs.Prelude.{◌≡◌, ◌≤◌};
 ghost use Rattle.o2_outer.specs.Texts.{Rose};
-ghost use Rattle.o2_run.specs.Turn.{Caused, turn_of};
+ghost use Rattle.o2_run.specs.Turn.{Caused};
+ghost use Rattle.o2_run.specs.Faults.{turn_of};
 
 use crate::{Ended, Steps, Stop, Turn, put_stop, run};
 use o2_base::{Bytes, NoMemory};
@@ -81,7 +82,7 @@ fn found<I: Source, S: SwapDevice>(why: Stop, input: &mut I, swap: &mut S) -> St
 impl Steps for Halting {
     ghost use Rattle.std.specs.Prelude.{true, false, option_map};
     ghost use Rattle.std.specs.Option.{unwrap_or};
-    ghost use Rattle.o2_run.specs.Turn.{turn_of};
+    ghost use Rattle.o2_run.specs.Faults.{turn_of};
 
     ghost stands = { λ m told block s w. ⊥ };
 
