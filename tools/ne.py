@@ -3,7 +3,8 @@
 
 A listing is read line by line; what follows a `;` is a comment.
 
-    module NAME [library]        the module's name
+    module NAME [library] [single]
+                                 the module's name; in a library with single data that data is one for all processes
     stack BYTES, heap BYTES      of the automatic data segment; 0 where the line is missing
     start SEGMENT:OFFSET         where the program begins
     segment N KIND [WORD ..]     a segment, from 1 in order: code, data; words: readonly, shared, auto, size=BYTES
@@ -106,7 +107,7 @@ class Module:
     """An executable to be: what its listing says, or what a linker puts together."""
 
     def __init__(self):
-        self.name, self.library = None, False
+        self.name, self.library, self.single = None, False, False
         self.stack = self.heap = 0
         self.start, self.start_line = None, None
         self.segments, self.exports, self.modules = [], [], []
@@ -157,6 +158,7 @@ class Module:
         must(self.name is not None, "there is no line of module")
         must(self.segments, "there is no segment")
         autos = [segment for segment in self.segments if segment.auto]
+        must(autos or not self.single, "single data is an automatic data segment, and there is none")
         if len(autos) > 1:
             raise Refused("there are two automatic data segments", autos[1].line)
         if autos:
@@ -225,7 +227,7 @@ class Module:
         header = struct.pack(
             "<2sBBHHI16HI3HBB8s",
             b"NE", 5, 0, entries_at, word(len(entries), "the entry table"), 0,
-            (2 if auto else 0) | (0x8000 if self.library else 0),
+            ((1 if self.single else 2) if auto else 0) | (0x8000 if self.library else 0),
             auto[0] if auto else 0,
             self.heap, self.stack,
             start[1], start[0],
@@ -262,14 +264,14 @@ class Listing(Module):
         words = line.split()
         if not words:
             return
-        counts = {"module": (2, 3), "stack": (2, 2), "heap": (2, 2), "start": (2, 2), "export": (3, 4), "segment": (3, 9)}
+        counts = {"module": (2, 4), "stack": (2, 2), "heap": (2, 2), "start": (2, 2), "export": (3, 4), "segment": (3, 9)}
         if words[0] in counts:
             least, most = counts[words[0]]
             must(least <= len(words) <= most, f"a line of {words[0]} has {least - 1} to {most - 1} words behind it")
         if words[0] == "module":
             must(self.name is None, "there is a line of module already")
-            must(words[2:] in ([], ["library"]), f"a module is a library or has no word behind its name, and not {words[-1]}")
-            self.name, self.library = words[1], "library" in words[2:]
+            must(words[2:] in ([], ["library"], ["library", "single"]), f"a module has the words library and single behind its name, and not {words[-1]}")
+            self.name, self.library, self.single = words[1], "library" in words[2:], "single" in words[2:]
             name(self.name)
         elif words[0] in ("stack", "heap"):
             setattr(self, words[0], number(words[1], 65535, "a size"))

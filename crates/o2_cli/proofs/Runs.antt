@@ -5,6 +5,7 @@ use Rattle.std.specs.declared.alloc.Global.{Global}
 use Rattle.o2_base.specs.declared.faults.ModuleFault.{ModuleFault}
 use Rattle.o2_conf.specs.Script.{slice_of}
 use Rattle.o2_words.specs.declared.words.Verb.{Verb}
+use Rattle.o2_words.specs.declared.words.Verb.TheVariants.{Exe, Run, Check}
 use Rattle.o2_words.specs.Words.{IsCommandFor}
 use Rattle.o2_world.specs.Starts.{Built, where_started}
 use Rattle.o2_world.specs.Run.{InOpening, console}
@@ -21,7 +22,7 @@ use Rattle.o2_cli.specs.declared.status.Status.TheVariants as status
 use Rattle.o2_open.specs.declared.fault.OpenFault.{OpenFault}
 use Rattle.o2_open.specs.declared.fault.OpenFault.TheVariants as open_fault
 use Rattle.o2_open.specs.Loads.{Contents, Tells, loaded, start_refusal, under, ◌>>=◌}
-use Rattle.o2_cli.specs.Top.{Refuses as TopRefuses, IsUnswapped, OnInputFault, OnSwapFault, Opened, Told, Opens, Shows, started, with_setting, refusal}
+use Rattle.o2_cli.specs.Top.{Refuses as TopRefuses, IsUnswapped, OnInputFault, OnSwapFault, Opened, Told, IsFirst, Opens, Shows, opened, started, with_setting, refusal}
 use Rattle.o2_cli.specs.Statuses.{status_by, status_of}
 use Rattle.o2_cli.specs.RunTexts.{StartsWith, StopsRun, ShowsRun}
 
@@ -93,8 +94,14 @@ swap_status NoRoom sink input device h = tt
 swap_status SwapFull sink input device h = tt
 swap_status SwapFault sink input device h = h
 
-abbrev load_started : List ℕ → Result Session OpenFault → Result Opened OpenFault
+abbrev pub load_started : List ℕ → Result Session OpenFault → Result Opened OpenFault
 load_started input r = r >>= (λ s. started s input)
+
+-- a refusal of a command that starts
+first_of : (verb : Verb) (contents : Contents) (name input : List ℕ) (f : OpenFault) → ((verb ≡ Check) → ⊥) → opened verb contents name input ≡ Err f → IsFirst verb contents name input f
+first_of Exe contents name input f starts e = e
+first_of Run contents name input f starts e = e
+first_of Check contents name input f starts e = absurd (starts refl)
 
 module _ (words : List (String Global)) (told : Told) (blocks : ℕ) (i j c d r q : Option (List ℕ)) (e : Type 0) (verb : Verb) (name : List ℕ) (s : Session) (command : IsCommandFor words verb name)
     (loads : (contents : Contents) → told ≡ Some contents → loaded verb contents name ≡ Ok s) where
@@ -103,30 +110,30 @@ module _ (words : List (String Global)) (told : Told) (blocks : ℕ) (i j c d r 
 
   -- what a session's run shows is what its command shows
   pub shown : (answer : Status) → ShowsRun s blocks i j c d r q e answer → Shows words told blocks i j c d r q e answer
-  shown status.Fine t = λ contents input is left. opens contents input _ is (t input left)
-  shown status.SinkFault t = λ contents input is left. opens contents input _ is (t input left)
-  shown status.InputFault t = λ contents input is left. opens contents input _ is (t input left)
+  shown status.Fine t = λ runs contents input is left. opens contents input _ is (t input left)
+  shown status.SinkFault t = λ runs contents input is left. opens contents input _ is (t input left)
+  shown status.InputFault t = λ runs contents input is left. opens contents input _ is (t input left)
   shown status.NoMemory t = t
   shown (status.BadModule n f) t = t.0
   shown status.BadWords t = absurd t
   shown (status.NoFile n) t = absurd t
   shown (status.BadMachine f) t = absurd t
   shown status.FileFault t = absurd t
-  shown status.NoRoom t = λ contents input is left. opens contents input _ is (t input left)
-  shown status.SwapFull t = λ contents input is left. opens contents input _ is (t input left)
-  shown status.SwapFault t = λ contents input is left. opens contents input _ is (t input left)
+  shown status.NoRoom t = λ runs contents input is left. opens contents input _ is (t input left)
+  shown status.SwapFull t = λ runs contents input is left. opens contents input _ is (t input left)
+  shown status.SwapFault t = λ runs contents input is left. opens contents input _ is (t input left)
 
-  -- and what it refuses is what its command refuses
-  pub refused : (answer : Status) → ShowsRun s blocks i j c d r q e answer → IsUnswapped answer → TopRefuses words told answer
-  refused status.Fine t never = (verb, name, command)
-  refused status.SinkFault t never = (verb, name, command)
-  refused status.InputFault t never = (verb, name, command)
-  refused status.NoMemory t never = (verb, name, command)
-  refused (status.BadModule n f) t never = record { verb = verb; name = name; command = command; refused = λ contents input is. ap (load_started input) (loads contents is) ∙ t.1 input }
-  refused status.BadWords t never = absurd t
-  refused (status.NoFile n) t never = absurd t
-  refused (status.BadMachine f) t never = absurd t
-  refused status.FileFault t never = absurd t
-  refused status.NoRoom t never = absurd never
-  refused status.SwapFull t never = absurd never
-  refused status.SwapFault t never = absurd never
+  -- and what it refuses is what its command refuses, but for `check`
+  pub refused : (starts : (verb ≡ Check) → ⊥) (answer : Status) → ShowsRun s blocks i j c d r q e answer → IsUnswapped answer → TopRefuses words told answer
+  refused starts status.Fine t never = (verb, name, command)
+  refused starts status.SinkFault t never = (verb, name, command)
+  refused starts status.InputFault t never = (verb, name, command)
+  refused starts status.NoMemory t never = (verb, name, command)
+  refused starts (status.BadModule n f) t never = record { verb = verb; name = name; command = command; refused = λ contents input is. first_of verb contents name input _ starts (ap (load_started input) (loads contents is) ∙ t.1 input) }
+  refused starts status.BadWords t never = absurd t
+  refused starts (status.NoFile n) t never = absurd t
+  refused starts (status.BadMachine f) t never = absurd t
+  refused starts status.FileFault t never = absurd t
+  refused starts status.NoRoom t never = absurd never
+  refused starts status.SwapFull t never = absurd never
+  refused starts status.SwapFault t never = absurd never

@@ -1,4 +1,5 @@
 pub mod Statuses
 pub mod StatusTexts
 pub mod Top
+pub mod Checks
 pub mod RunTexts

@@ -3,6 +3,7 @@ use Rattle.std.specs.Prelude.{◌≡◌, ℕ, List, Option, Some, String, Result
 use Rattle.std.specs.declared.alloc.Global.{Global}
 use Rattle.o2_base.specs.declared.faults.ModuleFault.{ModuleFault}
 use Rattle.o2_words.specs.declared.words.Verb.{Verb}
+use Rattle.o2_words.specs.declared.words.Verb.TheVariants.{Exe, Run, Check}
 use Rattle.o2_words.specs.Words.{IsCommand, IsCommandFor}
 use Rattle.o2_world.specs.World.{World, Setting}
 use Rattle.o2_run.specs.Ended.{HasWholeRun, HasStoppedTexts, HasPartRun}
@@ -40,12 +41,22 @@ opened verb contents name input = loaded verb contents name >>= (λ s. started s
 abbrev pub Told : Type 0
 Told = Option Contents
 
+-- the words ask for a check, which starts nothing
+abbrev pub IsCheck : List (String Global) → Type 0
+IsCheck words = (name : List ℕ) × IsCommandFor words Check name
+
+-- the first refusal of a command; that of `check` is of the machine file, of a module or of linking, and never of a start
+abbrev pub IsFirst : Verb → Contents → List ℕ → List ℕ → OpenFault → Type 0
+IsFirst Exe contents name input f = opened Exe contents name input ≡ Err f
+IsFirst Run contents name input f = opened Run contents name input ≡ Err f
+IsFirst Check contents name input f = loaded Check contents name ≡ Err f
+
 -- the words are a command that is refused so
 pub record IsRefused (words : List (String Global)) (told : Told) (f : OpenFault) : Type 0 where
   pub verb : Verb
   pub name : List ℕ
   pub command : IsCommandFor words verb name
-  pub refused : (contents : Contents) (input : List ℕ) → told ≡ Some contents → opened verb contents name input ≡ Err f
+  pub refused : (contents : Contents) (input : List ℕ) → told ≡ Some contents → IsFirst verb contents name input f
 
 -- a refusal and its cause
 abbrev pub Refuses : List (String Global) → Told → Status → Type 0
@@ -71,8 +82,9 @@ pub record Opens (words : List (String Global)) (contents : Contents) (input : L
   pub opens : opened verb contents name input ≡ Ok start
   pub runs : P start
 
+-- whatever the files and the input tell, but for `check`
 abbrev pub Runs : List (String Global) → Told → Option (List ℕ) → (Opened → Type 0) → Type 0
-Runs words told left P = (contents : Contents) (input : List ℕ) → told ≡ Some contents → left ≡ Some input → Opens words contents input P
+Runs words told left P = (IsCheck words → ⊥) → (contents : Contents) (input : List ℕ) → told ≡ Some contents → left ≡ Some input → Opens words contents input P
 
 -- nothing was written, and the input is as before
 pub record IsUntouched (left_old left_new console_old console_new report_old report_new : Option (List ℕ)) : Type 0 where

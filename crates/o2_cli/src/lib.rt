@@ -1,6 +1,7 @@
 //! The top call: the words of a command, the files that it names, and the run.
 #![tactic(auto)]
 
+mod lines;
 mod messages;
 mod status;
 mod top;

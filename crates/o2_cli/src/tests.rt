@@ -19,7 +19,7 @@ fn statuses(rt: HostRuntime) -> Result<(), Fail> {
     assert!(rt; is_told(&rt, Status::NoFile(name), 2, "os2run: no file a.exe\n")?);
     let machine = Status::BadMachine(MachineFault::Limit(Key::Budget));
     assert!(rt; is_told(&rt, machine, 3, "os2run: machine file: reason 4 budget\n")?);
-    let refused = Status::BadModule(other, ModuleFault::OutOfProfile(Which::NotYet));
+    let refused = Status::BadModule(other, ModuleFault::OutOfProfile(Which::Wide));
     assert!(rt; is_told(&rt, refused, 4, "os2run: module a.exe: reason 7\n")?);
     assert!(rt; is_told(&rt, Status::FileFault, 5, "os2run: file fault\n")?);
     assert!(rt; is_told(&rt, Status::InputFault, 6, "os2run: input fault\n")?);

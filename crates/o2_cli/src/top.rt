@@ -3,21 +3,23 @@ ghost use Rattle.std.specs.Prelude.{◌≡◌, ◌≤◌, ◌⊎◌, ℕ, List, 
 ghost use Rattle.o2_conf.specs.Limits.{IsWithinLimits};
 ghost use Rattle.o2_open.specs.Loads.{HasEnvironments};
 ghost use Rattle.o2_outer.specs.Texts.{Rose};
-ghost use Rattle.o2_cli.specs.Top.{Refuses, Shows, IsUnswapped, OnFileFault, OnInputFault, OnSinkFault, OnSwapFault, OnUnrun};
+ghost use Rattle.o2_cli.specs.Top.{IsCheck, Refuses, Shows, IsUnswapped, OnFileFault, OnInputFault, OnSinkFault, OnSwapFault, OnUnrun};
 ghost use Rattle.o2_cli.specs.Statuses.{status_of};
 ghost use Rattle.o2_cli.specs.RunTexts.{ShowsRun};
+ghost use Rattle.o2_cli.specs.Checks.{Checks, ShowsLines};
 
 use crate::Status;
+use crate::lines::lines;
 use o2_base::{Bytes, NoMemory};
 use o2_machine::{BeginFault, Machine};
 use o2_open::{Session, open, refused_start};
-use o2_outer::{Files, Sink, Source, SwapDevice};
+use o2_outer::{Files, Put, Sink, Source, SwapDevice};
 use o2_run::{Ended, Stop, run};
-use o2_words::{command, is_command};
+use o2_words::{Verb, command, is_command};
 use std::alloc::Global;
 
 /// Runs a command. What it writes is what the boundless machine's run shows, or where a sink or the input fails a front
-/// of it; where a command is refused, nothing is written.
+/// of it; `check` starts nothing, and writes a line for each module. Where a command is refused, nothing is written.
 pub fn os2run<F: Files, I: Source, C: Sink, R: Sink, S: SwapDevice>(
     alloc: Global,
     words: &[String],
@@ -33,6 +35,10 @@ pub fn os2run<F: Files, I: Source, C: Sink, R: Sink, S: SwapDevice>(
     ensures texts { Shows words.now (F.told files.old) (S.blocks swap.old)
         (I.left input.old) (I.left input.new) (C.taken console.old) (C.taken console.new)
         (R.taken report.old) (R.taken report.new) (Rose (R.faults report.old) (R.faults report.new)) result }
+    // Of `check` the console gains the line of each linked module, or a front of the lines, and nothing else is touched.
+    ensures lines { Checks words.now (F.told files.old) (C.taken console.old) (C.taken console.new) result }
+    ensures checks_quietly { IsCheck words.now → report.new ≡ report.old }
+    ensures checks_unread { IsCheck words.now → input.new ≡ input.old }
     // Where nothing ran, the input and both sinks are as they were, whatever they tell.
     ensures same_input { OnUnrun result (input.new ≡ input.old) }
     ensures same_console { OnUnrun result (console.new ≡ console.old) }
@@ -57,7 +63,25 @@ pub fn os2run<F: Files, I: Source, C: Sink, R: Sink, S: SwapDevice>(
     };
     match open(alloc, command.verb, files, &name) {
         Err(fault) => Status::from(fault),
-        Ok(session) => run_session(alloc, &session, input, console, report, swap),
+        Ok(session) => match command.verb {
+            Verb::Check => check_session(alloc, &session, console),
+            Verb::Exe | Verb::Run => run_session(alloc, &session, input, console, report, swap),
+        },
+    }
+}
+
+/// Writes what `check` says of what it opened.
+fn check_session<C: Sink>(alloc: Global, session: &Session, console: &mut C) -> Status
+    ensures lines { ShowsLines session.now (C.taken console.old) (C.taken console.new) result }
+    ensures same_console { OnUnrun result (console.new ≡ console.old) }
+    ensures sink_fault { OnSinkFault result (Rose (C.faults console.old) (C.faults console.new)) }
+{
+    let Ok(text) = lines(alloc, &session.linked) else {
+        return Status::NoMemory;
+    };
+    match console.put(text.as_slice()) {
+        Put::Done => Status::Fine,
+        Put::Failed => Status::SinkFault,
     }
 }
 

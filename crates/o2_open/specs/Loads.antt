@@ -4,17 +4,17 @@ use Rattle.o2_base.specs.declared.faults.Key.TheVariants as key
 use Rattle.o2_base.specs.declared.faults.MachineFault.TheVariants.{Limit}
 use Rattle.o2_base.specs.declared.faults.ModuleFault.{ModuleFault}
 use Rattle.o2_base.specs.declared.faults.ModuleFault.TheVariants.{NoModule, OutOfProfile}
-use Rattle.o2_base.specs.declared.faults.Which.TheVariants.{FileLength, NotYet}
+use Rattle.o2_base.specs.declared.faults.Which.TheVariants.{FileLength}
 use Rattle.o2_outer.specs.Texts.{Rose}
 use Rattle.o2_words.specs.declared.words.Verb.{Verb}
-use Rattle.o2_words.specs.declared.words.Verb.TheVariants.{Exe, Run}
+use Rattle.o2_words.specs.declared.words.Verb.TheVariants.{Exe, Run, Check}
 use Rattle.o2_conf.specs.declared.conf.Conf.{Conf}
 use Rattle.o2_conf.specs.Setting.{setting}
 use Rattle.o2_conf.specs.Environments.{environment_bytes}
 use Rattle.o2_conf.specs.Alone.{exe_setting}
 use Rattle.o2_image.specs.Parts.{Parts}
 use Rattle.o2_image.specs.Modules.{module_of}
-use Rattle.o2_image.specs.Getters.{is_library, nth, nth_list}
+use Rattle.o2_image.specs.Getters.{nth, nth_list}
 use Rattle.o2_dynlink.specs.declared.fault.LinkFault.{LinkFault}
 use Rattle.o2_dynlink.specs.Linking.{linked_of}
 use Rattle.o2_open.specs.declared.session.Session.{Session}
@@ -46,17 +46,10 @@ module_in contents name = do
   file ← found name 4194304 (open_fault.BadModule name (OutOfProfile FileLength)) (contents name)
   under (open_fault.BadModule name) (module_of file)
 
--- libraries aren't run yet
-abbrev pub as_program : List ℕ → Parts → Result Parts OpenFault
-as_program name m = if is_library m then Err (open_fault.BadModule name (OutOfProfile NotYet)) else Ok m
-
-unfoldable pub program_in : Contents → List ℕ → Result Parts OpenFault
-program_in contents name = module_in contents name >>= as_program name
-
--- the programs in these files, one after the other
-abbrev pub programs_in : Contents → List (List ℕ) → List Parts → Result (List Parts) OpenFault
-programs_in contents [] so_far = Ok so_far
-programs_in contents (name ∷ names) so_far = program_in contents name >>= (λ m. programs_in contents names (so_far ++ m ∷ []))
+-- the modules in these files, one after the other
+abbrev pub modules_in : Contents → List (List ℕ) → List Parts → Result (List Parts) OpenFault
+modules_in contents [] so_far = Ok so_far
+modules_in contents (name ∷ names) so_far = module_in contents name >>= (λ m. modules_in contents names (so_far ++ m ∷ []))
 
 -- a machine file, of at most 1,048,576 bytes
 unfoldable pub machine_in : Contents → List ℕ → Result Conf OpenFault
@@ -89,14 +82,15 @@ start_refusal s pid fault = open_fault.BadModule (nth_list s.conf.modules (unwra
 abbrev pub exe_loaded : Contents → List ℕ → Result Session OpenFault
 exe_loaded contents name = module_in contents name >>= (λ m. linked_in (exe_setting name m.names.own) (m ∷ []))
 
--- what `run` opens: a machine file, and the programs that it names
+-- what `run` and `check` open: a machine file, and the modules that it names
 abbrev pub run_loaded : Contents → List ℕ → Result Session OpenFault
-run_loaded contents name = machine_in contents name >>= (λ c. programs_in contents c.modules [] >>= linked_in c)
+run_loaded contents name = machine_in contents name >>= (λ c. modules_in contents c.modules [] >>= linked_in c)
 
 -- what a command opens, or its first refusal
 unfoldable pub loaded : Verb → Contents → List ℕ → Result Session OpenFault
 loaded Exe contents name = exe_loaded contents name
 loaded Run contents name = run_loaded contents name
+loaded Check contents name = run_loaded contents name
 
 -- What a function that loads gives, seen by view: what is loaded, or its refusal, or there was no memory, or the files failed.
 abbrev pub Fails : {Y : Type 0} → OpenFault → Result Y OpenFault → Type 0

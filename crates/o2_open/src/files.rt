@@ -4,7 +4,7 @@ ghost use Rattle.o2_image.specs.Modules.{module_of};
 ghost use Rattle.o2_image.specs.Whole.{IsRunnable};
 ghost use Rattle.o2_conf.specs.Setting.{setting};
 ghost use Rattle.o2_open.specs.declared.fault.OpenFault.TheVariants as open_fault;
-ghost use Rattle.o2_open.specs.Loads.{Contents, Loads, Tells, Refuses, under, module_in, as_program, program_in, programs_in, machine_in};
+ghost use Rattle.o2_open.specs.Loads.{Contents, Loads, Tells, Refuses, under, module_in, modules_in, machine_in};
 ghost use Rattle.o2_conf.specs.Limits.{IsWithinLimits};
 
 use crate::OpenFault;
@@ -74,61 +74,33 @@ pub fn module<F: Files>(alloc: Global, files: &mut F, name: &Bytes) -> Result<Mo
     }
 }
 
-/// The module, where it is a program.
-fn as_program(alloc: Global, name: &Bytes, program: Module) -> Result<Module, OpenFault>
-    ensures exact { Loads (λ m. m) result (as_program name.now program) }
-    ensures refuses { (faults : ℕ) → IfErr result (Refuses faults faults) }
-{
-    if program.is_library() {
-        Err(bad_module(
-            alloc,
-            name.as_slice(),
-            ModuleFault::OutOfProfile(Which::NotYet),
-        ))
-    } else {
-        Ok(program)
-    }
-}
-
-/// The program in a file. Libraries aren't run yet.
-#[tactic(auto, unfolding(crate::specs::Loads::program_in))]
-fn program<F: Files>(alloc: Global, files: &mut F, name: &Bytes) -> Result<Module, OpenFault>
-    ensures exact { (contents : Contents) → F.told files.old ≡ Some contents → Loads (λ m. m) result (program_in contents name.now) }
-    ensures refuses { IfErr result (Refuses (F.faults files.old) (F.faults files.new)) }
-    ensures told { F.told files.new ≡ F.told files.old }
-    ensures count { F.faults files.old ≤ F.faults files.new }
-{
-    let module = module(alloc, files, name)?;
-    as_program(alloc, name, module)
-}
-
-/// One more program.
-fn add(modules: &mut Vec<Module>, program: Module) -> Result<(), OpenFault>
-    ensures added { OnOk result (modules.new.items ≡ modules.old.items ++ program ∷ []) }
+/// One more module.
+fn add(modules: &mut Vec<Module>, one: Module) -> Result<(), OpenFault>
+    ensures added { OnOk result (modules.new.items ≡ modules.old.items ++ one ∷ []) }
     ensures refuses { (faults : ℕ) → IfErr result (Refuses faults faults) }
     ensures memory { IfErr result (λ s. s ≡ open_fault.NoMemory) }
 {
-    match modules.push(program) {
+    match modules.push(one) {
         Ok(()) => Ok(()),
         Err(_) => Err(OpenFault::NoMemory),
     }
 }
 
-/// The programs in these files, one after the other.
-pub fn programs<F: Files>(
+/// The modules in these files, one after the other.
+pub fn modules<F: Files>(
     alloc: Global,
     files: &mut F,
     names: &[Bytes],
 ) -> Result<Vec<Module>, OpenFault>
-    ensures exact { (contents : Contents) → F.told files.old ≡ Some contents → Loads (λ v. v.items) result (programs_in contents names.now []) }
+    ensures exact { (contents : Contents) → F.told files.old ≡ Some contents → Loads (λ v. v.items) result (modules_in contents names.now []) }
     ensures count_of { IfOk result (λ v. length v.items ≡ length names.now) }
     ensures refuses { IfErr result (Refuses (F.faults files.old) (F.faults files.new)) }
     ensures count { F.faults files.old ≤ F.faults files.new }
 {
     let mut modules = Vec::new(alloc);
     for name in names {
-        let program = program(alloc, files, name)?;
-        add(&mut modules, program)?;
+        let one = module(alloc, files, name)?;
+        add(&mut modules, one)?;
     }
     Ok(modules)
 }

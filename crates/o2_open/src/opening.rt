@@ -8,7 +8,7 @@ ghost use Rattle.o2_conf.specs.Alone.{exe_setting};
 ghost use Rattle.o2_conf.specs.Limits.{IsWithinLimits};
 ghost use Rattle.o2_conf.specs.Environments.{environment_bytes};
 
-use crate::files::{bad_module, machine, module, programs};
+use crate::files::{bad_module, machine, module, modules};
 use crate::{OpenFault, Session};
 use o2_base::{Bytes, Fail, ModuleFault, NoMemory};
 use o2_conf::Conf;
@@ -125,7 +125,7 @@ fn open_exe<F: Files>(alloc: Global, files: &mut F, name: &Bytes) -> Result<Sess
     linked(alloc, conf, modules)
 }
 
-/// What `run` opens: a machine file, and the programs that it names.
+/// What `run` and `check` open: a machine file, and the modules that it names.
 fn open_run<F: Files>(alloc: Global, files: &mut F, name: &Bytes) -> Result<Session, OpenFault>
     ensures exact { (contents : Contents) → F.told files.old ≡ Some contents → Loads (λ s. s) result (run_loaded contents name.now) }
     ensures within { IfOk result (λ s. IsWithinLimits s.conf) }
@@ -134,7 +134,7 @@ fn open_run<F: Files>(alloc: Global, files: &mut F, name: &Bytes) -> Result<Sess
     ensures count { F.faults files.old ≤ F.faults files.new }
 {
     let conf = machine(alloc, files, name)?;
-    let modules = programs(alloc, files, conf.modules.as_slice())?;
+    let modules = modules(alloc, files, conf.modules.as_slice())?;
     linked(alloc, conf, modules)
 }
 
@@ -159,6 +159,7 @@ pub fn open<F: Files>(
     match verb {
         Verb::Exe => open_exe(alloc, files, name),
         Verb::Run => open_run(alloc, files, name),
+        Verb::Check => open_run(alloc, files, name),
     }
 }
 

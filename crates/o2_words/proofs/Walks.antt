@@ -9,7 +9,7 @@ use Rattle.clap.proofs.OnLiterals.{clap_on_literals}
 use Rattle.o2_words.specs.Grammar.{file_in, program_app}
 use Rattle.o2_words.specs.Words.{IsName, verb_text}
 use Rattle.o2_words.specs.declared.words.Verb.{Verb}
-use Rattle.o2_words.specs.declared.words.Verb.TheVariants.{Exe, Run}
+use Rattle.o2_words.specs.declared.words.Verb.TheVariants.{Exe, Run, Check}
 
 pub simple : is_simple program_app ≡ true
 unfolding clap_on_literals
@@ -32,8 +32,10 @@ pub taken : (verb : Verb) (name : Text) → IsPlain name → takes program_app (
 unfolding clap_on_literals
 taken Exe name p = rw (p.dashes, p.long, p.short) refl
 taken Run name p = rw (p.dashes, p.long, p.short) refl
+taken Check name p = rw (p.dashes, p.long, p.short) refl
 
 pub file_met : (verb : Verb) (name : Text) → IsPlain name → file_in (subcommand_of program_app (verb_text verb ∷ name ∷ [])) ≡ Some (verb_text verb, Some name)
 unfolding clap_on_literals
 file_met Exe name p = rw (p.dashes, p.long, p.short) refl
 file_met Run name p = rw (p.dashes, p.long, p.short) refl
+file_met Check name p = rw (p.dashes, p.long, p.short) refl

@@ -34,10 +34,14 @@ bare_app = record {
   subs = [];
 }
 
+-- the same with a subcommand for each verb that starts processes
+abbrev pub starting_app : App
+starting_app =
+    with_subcommand (with_subcommand bare_app (file_app (codes "exe")).top) (file_app (codes "run")).top
+
 -- the same with a subcommand for each verb
 abbrev pub program_app : App
-program_app =
-    with_subcommand (with_subcommand bare_app (file_app (codes "exe")).top) (file_app (codes "run")).top
+program_app = with_subcommand starting_app (file_app (codes "check")).top
 
 -- the subcommand with its file, where there is one
 abbrev pub file_in : Option (Text × List Row) → Option (Text × Option Text)

@@ -2,12 +2,13 @@
 use Rattle.std.specs.Prelude.{◌≡◌, ◌≢◌, ℕ, List, [], ◌∷◌, String, string_bytes, codes, map}
 use Rattle.std.specs.declared.alloc.Global.{Global}
 use Rattle.o2_words.specs.declared.words.Verb.{Verb}
-use Rattle.o2_words.specs.declared.words.Verb.TheVariants.{Exe, Run}
+use Rattle.o2_words.specs.declared.words.Verb.TheVariants.{Exe, Run, Check}
 
 -- the word that stands for what is done
 abbrev pub verb_text : Verb → List ℕ
 verb_text Exe = codes "exe"
 verb_text Run = codes "run"
+verb_text Check = codes "check"
 
 -- it isn't empty and doesn't begin with a dash (45)
 abbrev pub IsName : List ℕ → Type 0

@@ -4,7 +4,7 @@ ghost use Rattle.clap.specs.Words.{app_of, kind_of};
 ghost use Rattle.clap.specs.declared.builder.command.Command.TheViews.{out-Command};
 ghost use Rattle.clap.specs.declared.error.kind.ErrorKind.TheVariants.{OutOfMemory};
 ghost use Rattle.o2_words.specs.Words.{IsCommand, IsCommandFor};
-ghost use Rattle.o2_words.specs.Grammar.{HasFound, IsFound, bare_app, file_app, program_app};
+ghost use Rattle.o2_words.specs.Grammar.{HasFound, IsFound, bare_app, file_app, program_app, starting_app};
 ghost use Rattle.o2_words.specs.declared.words.Verb.{Verb};
 
 use crate::words::{Command, Verb, verb_of};
@@ -23,9 +23,9 @@ fn with_file<'a>(alloc: Global, name: &'a str) -> Result<clap::Command<'a>, Allo
         .arg(Arg::new(alloc, "FILE").required(true))
 }
 
-// The program, with a subcommand for each verb.
-fn program<'a>(alloc: Global) -> Result<clap::Command<'a>, AllocError>
-    ensures { IfOk result (λ c. app_of c ≡ program_app) }
+// The program, with a subcommand for each verb that starts processes.
+fn starting<'a>(alloc: Global) -> Result<clap::Command<'a>, AllocError>
+    ensures { IfOk result (λ c. app_of c ≡ starting_app) }
 {
     clap::Command::new(alloc, "os2run")
         .no_binary_name(true)
@@ -35,6 +35,13 @@ fn program<'a>(alloc: Global) -> Result<clap::Command<'a>, AllocError>
         .subcommand_required(true)
         .subcommand(with_file(alloc, "exe")?)?
         .subcommand(with_file(alloc, "run")?)
+}
+
+// The program, with a subcommand for each verb.
+fn program<'a>(alloc: Global) -> Result<clap::Command<'a>, AllocError>
+    ensures { IfOk result (λ c. app_of c ≡ program_app) }
+{
+    starting(alloc)?.subcommand(with_file(alloc, "check")?)
 }
 
 // What `clap` finds in the words of a command. Memory is the only thing that it can want.

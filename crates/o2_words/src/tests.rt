@@ -5,7 +5,7 @@ use std::alloc::Global;
 use std::test::Fail;
 
 /// Words that are a command, with its verb and its file.
-const COMMANDS: [(&[&str], Verb, &str); 14] = [
+const COMMANDS: [(&[&str], Verb, &str); 17] = [
     (&["exe", "x"], Verb::Exe, "x"),
     (&["run", "x"], Verb::Run, "x"),
     (&["exe", "exe"], Verb::Exe, "exe"),
@@ -20,10 +20,13 @@ const COMMANDS: [(&[&str], Verb, &str); 14] = [
     (&["run", "機械.toml"], Verb::Run, "機械.toml"),
     (&["exe", "\u{2212}x"], Verb::Exe, "\u{2212}x"),
     (&["exe", "a,b\n@c"], Verb::Exe, "a,b\n@c"),
+    (&["check", "x"], Verb::Check, "x"),
+    (&["check", "check"], Verb::Check, "check"),
+    (&["run", "check"], Verb::Run, "check"),
 ];
 
 /// Words that are none.
-const OTHERS: [&[&str]; 27] = [
+const OTHERS: [&[&str]; 31] = [
     &[],
     &["exe"],
     &["run"],
@@ -43,7 +46,11 @@ const OTHERS: [&[&str]; 27] = [
     &["Run", "x"],
     &["exe ", "x"],
     &["ex", "x"],
-    &["check", "x"],
+    &["check"],
+    &["check", ""],
+    &["check", "-x"],
+    &["check", "x", "y"],
+    &["chec", "x"],
     &["bench", "1"],
     &["dump", "x"],
     &["exe", "--help"],

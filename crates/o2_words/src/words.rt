@@ -10,6 +10,8 @@ pub enum Verb {
     Exe,
     /// `run FILE` runs what a machine file says.
     Run,
+    /// `check FILE` reads and links what a machine file names, and runs nothing.
+    Check,
 }
 
 /// A command: what it does, and with which file.
@@ -39,13 +41,15 @@ pub(crate) fn verb_of(word: &[u8]) -> Option<Verb>
         Some(Verb::Exe)
     } else if word == b"run".as_slice() {
         Some(Verb::Run)
+    } else if word == b"check".as_slice() {
+        Some(Verb::Check)
     } else {
         None
     }
 }
 
-/// Whether the words after the program's name are a command: two of them, of which the first is `exe` or `run`,
-/// and the second isn't empty and doesn't begin with `-`. It takes no memory.
+/// Whether the words after the program's name are a command: two of them, of which the first is `exe`, `run` or
+/// `check`, and the second isn't empty and doesn't begin with `-`. It takes no memory.
 pub fn is_command(words: &[String]) -> bool
     ensures { IsTrue result ↔ IsCommand words.now }
 {

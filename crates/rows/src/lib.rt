@@ -12,6 +12,10 @@ mod hello;
 #[cfg(test)]
 mod instructions;
 #[cfg(test)]
+mod libraries;
+#[cfg(test)]
+mod library_files;
+#[cfg(test)]
 mod machine_files;
 #[cfg(test)]
 mod turns;

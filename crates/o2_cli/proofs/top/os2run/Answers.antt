@@ -1,5 +1,7 @@
 use Rattle.std.proofs.Common.{◌∙◌, subst, sym}
+use Rattle.o2_words.specs.declared.words.Verb.{Verb}
 use Rattle.o2_words.specs.Words.{IsCommandFor}
+use Rattle.o2_cli.proofs.Checked.{texts_of_check}
 use Rattle.o2_cli.proofs.Runs.{shown, untouched}
 use Rattle.o2_cli.proofs.top.os2run.Goals as goal
 
@@ -11,3 +13,10 @@ returns-clause-texts g c =
 
 pub returns-in-Err-clause-texts : goal.returns-in-Err-clause-texts
 returns-in-Err-clause-texts g c = untouched _ _ _ _ _ _ _ _ c.from.result c.from.ensures
+
+pub returns-in-Check-clause-texts : goal.returns-in-Check-clause-texts
+returns-in-Check-clause-texts g c =
+    texts_of_check c.args.words.now (g.F.Files.told c.args.files.now) c.in-Ok-from_slice.name
+    (subst (λ (v : Verb). IsCommandFor c.args.words.now v c.in-Ok-from_slice.name) c.in-Check.is
+    (subst (λ name. IsCommandFor c.args.words.now c.in-Ok.command.verb name) (sym (c.in-Ok-from_slice.ensures ∙ c.as_bytes.ensures.value)) c.in-Ok.ensures))
+    c.in-Ok-open.session _ _ _ _ _ _ c.check_session.result c.check_session.ensures.lines

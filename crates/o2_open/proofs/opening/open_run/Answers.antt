@@ -2,7 +2,7 @@ use Rattle.std.proofs.Common.{◌≡◌, ◌≤◌, ◌∙◌, List, ℕ, [], ar
 use Rattle.std.specs.Prelude.{Result, Ok}
 use Rattle.o2_open.specs.declared.session.Session.{Session}
 use Rattle.o2_open.specs.declared.fault.OpenFault.{OpenFault}
-use Rattle.o2_open.specs.Loads.{Loads, programs_in}
+use Rattle.o2_open.specs.Loads.{Loads, modules_in}
 use Rattle.o2_open.proofs.Telling.{since_err}
 use Rattle.o2_open.proofs.Stepping.{run_is}
 use Rattle.o2_open.proofs.opening.open_run.Goals as goal
@@ -11,10 +11,10 @@ pub returns-clause-exact : goal.returns-clause-exact
 returns-clause-exact g c = λ contents e.
     subst (λ (r : Result Session OpenFault). Loads (λ s. s) c.linked.result r)
     (sym (run_is contents c.args.name.now c.in_ok-conf.conf c.in_ok-modules.modules.items (c.in_ok-conf.ensures.exact contents e)
-    (subst (λ (z : List (List ℕ)). programs_in contents z [] ≡ Ok c.in_ok-modules.modules.items) c.as_slice.ensures (c.in_ok-modules.ensures.exact contents (c.in_ok-conf.ensures.told ∙ e)))))
+    (subst (λ (z : List (List ℕ)). modules_in contents z [] ≡ Ok c.in_ok-modules.modules.items) c.as_slice.ensures (c.in_ok-modules.ensures.exact contents (c.in_ok-conf.ensures.told ∙ e)))))
     c.linked.ensures.exact
 
 pub returns-clause-refuses : goal.returns-clause-refuses
 returns-clause-refuses g c =
-    let later : g.F.Files.faults c.args.files.now ≤ g.F.Files.faults c.programs.new.files = omega (arith, c.in_ok-conf.ensures.count, c.in_ok-modules.ensures.count) in
+    let later : g.F.Files.faults c.args.files.now ≤ g.F.Files.faults c.modules.new.files = omega (arith, c.in_ok-conf.ensures.count, c.in_ok-modules.ensures.count) in
     since_err _ _ _ c.linked.result later (c.linked.ensures.refuses _)

@@ -1,0 +1,147 @@
+-- The lines of linked modules, one after the other, and what `check` shows and refuses by what it opened.
+use Rattle.std.proofs.Common.{◌≡◌, ℕ, zero, suc, ◌+◌, List, [], ◌∷◌, ◌++◌, take, map, length, Option, Some, None, option_map, ap, sym, ◌∙◌, refl, subst, arith, append-nil, add-one}
+use Rattle.std.proofs.lemmas.List.{append_assoc}
+use Rattle.std.specs.Prelude.{Err, Ok, String, slice_get}
+use Rattle.std.specs.declared.alloc.Global.{Global}
+use Rattle.o2_words.specs.declared.words.Verb.{Verb}
+use Rattle.o2_words.specs.declared.words.Verb.TheVariants.{Exe, Run, Check}
+use Rattle.o2_words.specs.Words.{IsCommandFor, verb_text}
+use Rattle.o2_image.specs.Getters.{nth}
+use Rattle.o2_image.specs.ImageList.{ImageList, Resolution}
+use Rattle.o2_image.specs.Parts.{Parts}
+use Rattle.o2_dynlink.specs.Outcome.{modules_of}
+use Rattle.o2_open.specs.declared.session.Session.{Session}
+use Rattle.o2_open.specs.declared.fault.OpenFault.{OpenFault}
+use Rattle.o2_open.specs.declared.fault.OpenFault.TheVariants as open_fault
+use Rattle.o2_open.specs.Loads.{Contents, Fails, loaded}
+use Rattle.o2_cli.specs.declared.status.Status.{Status}
+use Rattle.o2_cli.specs.declared.status.Status.TheVariants as status
+use Rattle.o2_cli.specs.Top.{Told, IsCheck, IsFirst, IsUntouched, Refuses, Shows}
+use Rattle.o2_cli.specs.Statuses.{status_by}
+use Rattle.o2_cli.specs.Checks.{module_line, with_line, module_lines, ShowsLines, Checks, ChecksFile}
+use Rattle.o2_cli.proofs.Runs.{load_started}
+
+with_line_behind : (front text : List ℕ) (o : Option Parts) → with_line (front ++ text) o ≡ front ++ with_line text o
+with_line_behind front text None = refl
+with_line_behind front text (Some m) = append_assoc front text (module_line m)
+
+line_more : (ms : List Resolution) (k : ℕ) → module_lines (take (suc k) (map (λ (m : Resolution). m.0) ms)) ≡ with_line (module_lines (take k (map (λ (m : Resolution). m.0) ms))) (option_map (λ (m : Resolution). m.0) (slice_get ms k))
+line_more [] zero = refl
+line_more [] (suc k) = refl
+line_more (x ∷ ms) zero = append-nil (module_line x.0)
+line_more (x ∷ ms) (suc k) =
+    ap (λ (t : List ℕ). module_line x.0 ++ t) (line_more ms k)
+    ∙ sym (with_line_behind (module_line x.0) (module_lines (take k (map (λ (m : Resolution). m.0) ms))) (option_map (λ (m : Resolution). m.0) (slice_get ms k)))
+
+nth_next : (ms : List Resolution) (k : ℕ) → nth ms (k + 1) ≡ slice_get ms k
+nth_next ms k = grind arith
+
+-- one place more
+pub lines_next : (images : ImageList) (k : ℕ) (text new : List ℕ) → text ≡ module_lines (take k (modules_of images)) → new ≡ with_line text (option_map (λ (m : Resolution). m.0) (nth images.modules (k + 1)))
+    → new ≡ module_lines (take (k + 1) (modules_of images))
+lines_next images k text new before is =
+    is
+    ∙ ap (λ (t : List ℕ). with_line t (option_map (λ (m : Resolution). m.0) (nth images.modules (k + 1)))) before
+    ∙ ap (λ (o : Option Resolution). with_line (module_lines (take k (modules_of images))) (option_map (λ (m : Resolution). m.0) o)) (nth_next images.modules k)
+    ∙ sym (line_more images.modules k)
+    ∙ ap (λ (j : ℕ). module_lines (take j (modules_of images))) (sym (add-one k))
+
+-- Words are one command.
+
+abbrev first_word : List (List ℕ) → List ℕ
+first_word [] = []
+first_word (w ∷ ws) = w
+
+abbrev second_word : List (List ℕ) → List ℕ
+second_word [] = []
+second_word (w ∷ ws) = first_word ws
+
+-- the other verbs have three letters
+is_check : (v : Verb) → verb_text v ≡ verb_text Check → v ≡ Check
+is_check Exe e = let size : 3 ≡ 5 = ap length e in absurd (omega (arith, size))
+is_check Run e = let size : 3 ≡ 5 = ap length e in absurd (omega (arith, size))
+is_check Check e = refl
+
+module _ (words : List (String Global)) (v w : Verb) (name other : List ℕ) (one : IsCommandFor words v name) (two : IsCommandFor words w other) where
+  pub name_is : name ≡ other
+  name_is = ap second_word (sym one.two ∙ two.two)
+
+-- a command of another verb is no check
+pub no_check : (words : List (String Global)) (v : Verb) (name : List ℕ) → IsCommandFor words v name → ((v ≡ Check) → ⊥) → IsCheck words → ⊥
+no_check words v name command starts check = starts (is_check v (ap first_word (sym command.two ∙ check.1.two)))
+
+-- what keeps a command from opening anything is its first refusal
+first_fault : (verb : Verb) (contents : Contents) (name input : List ℕ) (f : OpenFault) → loaded verb contents name ≡ Err f → IsFirst verb contents name input f
+first_fault Exe contents name input f e = ap (load_started input) e
+first_fault Run contents name input f e = ap (load_started input) e
+first_fault Check contents name input f e = e
+
+module _ (words : List (String Global)) (told : Told) (verb : Verb) (name : List ℕ) (command : IsCommandFor words verb name) where
+  refused_by : (f : OpenFault) → ((contents : Contents) → told ≡ Some contents → Fails f (loaded verb contents name)) → Refuses words told (status_by f)
+  refused_by (open_fault.NoFile n) h = record { verb = verb; name = name; command = command; refused = λ contents input is. first_fault verb contents name input _ (h contents is) }
+  refused_by (open_fault.BadMachine f) h = record { verb = verb; name = name; command = command; refused = λ contents input is. first_fault verb contents name input _ (h contents is) }
+  refused_by (open_fault.BadModule n f) h = record { verb = verb; name = name; command = command; refused = λ contents input is. first_fault verb contents name input _ (h contents is) }
+  refused_by open_fault.FileFault h = (verb, name, command)
+  refused_by open_fault.NoMemory h = (verb, name, command)
+
+  pub refused_open : (f : OpenFault) (answer : Status) → answer ≡ status_by f → ((contents : Contents) → told ≡ Some contents → Fails f (loaded verb contents name)) → Refuses words told answer
+  refused_open f answer is h = subst (λ (a : Status). Refuses words told a) (sym is) (refused_by f h)
+
+  -- a check refuses nothing of what it opened
+  pub refused_lines : (s : Session) (c d : Option (List ℕ)) (answer : Status) → ShowsLines s c d answer → Refuses words told answer
+  refused_lines s c d status.Fine t = (verb, name, command)
+  refused_lines s c d status.SinkFault t = (verb, name, command)
+  refused_lines s c d status.NoMemory t = (verb, name, command)
+  refused_lines s c d status.BadWords t = absurd t
+  refused_lines s c d (status.NoFile n) t = absurd t
+  refused_lines s c d (status.BadMachine f) t = absurd t
+  refused_lines s c d (status.BadModule n f) t = absurd t
+  refused_lines s c d status.FileFault t = absurd t
+  refused_lines s c d status.InputFault t = absurd t
+  refused_lines s c d status.NoRoom t = absurd t
+  refused_lines s c d status.SwapFull t = absurd t
+  refused_lines s c d status.SwapFault t = absurd t
+
+-- where nothing opens, the console is as it was
+quiet_by : (name : List ℕ) (told : Told) (c : Option (List ℕ)) (f : OpenFault) → ChecksFile name told c c (status_by f)
+quiet_by name told c (open_fault.NoFile n) = refl
+quiet_by name told c (open_fault.BadMachine f) = refl
+quiet_by name told c (open_fault.BadModule n f) = refl
+quiet_by name told c open_fault.FileFault = refl
+quiet_by name told c open_fault.NoMemory = refl
+
+pub quiet : (words : List (String Global)) (told : Told) (c : Option (List ℕ)) (f : OpenFault) (answer : Status) → answer ≡ status_by f → Checks words told c c answer
+quiet words told c f answer is = λ name command. subst (λ (a : Status). ChecksFile name told c c a) (sym is) (quiet_by name told c f)
+
+-- what a check shows of a session
+module _ (words : List (String Global)) (told : Told) (name : List ℕ) (command : IsCommandFor words Check name) (s : Session) (c d : Option (List ℕ)) where
+  pub texts_of_check : (blocks : ℕ) (i r : Option (List ℕ)) (e : Type 0) (answer : Status) → ShowsLines s c d answer → Shows words told blocks i i c d r r e answer
+  texts_of_check blocks i r e status.Fine t = λ runs. absurd (runs (name, command))
+  texts_of_check blocks i r e status.SinkFault t = λ runs. absurd (runs (name, command))
+  texts_of_check blocks i r e status.NoMemory t = record { input = refl; console = t; report = refl }
+  texts_of_check blocks i r e status.BadWords t = absurd t
+  texts_of_check blocks i r e (status.NoFile n) t = absurd t
+  texts_of_check blocks i r e (status.BadMachine f) t = absurd t
+  texts_of_check blocks i r e (status.BadModule n f) t = absurd t
+  texts_of_check blocks i r e status.FileFault t = absurd t
+  texts_of_check blocks i r e status.InputFault t = absurd t
+  texts_of_check blocks i r e status.NoRoom t = absurd t
+  texts_of_check blocks i r e status.SwapFull t = absurd t
+  texts_of_check blocks i r e status.SwapFault t = absurd t
+
+  file_shown : (loads : (contents : Contents) → told ≡ Some contents → loaded Check contents name ≡ Ok s) (answer : Status) → ShowsLines s c d answer → ChecksFile name told c d answer
+  file_shown loads status.Fine t = λ contents is. record { session = s; links = loads contents is; shows = t }
+  file_shown loads status.SinkFault t = λ contents is. record { session = s; links = loads contents is; shows = t }
+  file_shown loads status.NoMemory t = t
+  file_shown loads status.BadWords t = absurd t
+  file_shown loads (status.NoFile n) t = absurd t
+  file_shown loads (status.BadMachine f) t = absurd t
+  file_shown loads (status.BadModule n f) t = absurd t
+  file_shown loads status.FileFault t = absurd t
+  file_shown loads status.InputFault t = absurd t
+  file_shown loads status.NoRoom t = absurd t
+  file_shown loads status.SwapFull t = absurd t
+  file_shown loads status.SwapFault t = absurd t
+
+  pub lines_of_check : (loads : (contents : Contents) → told ≡ Some contents → loaded Check contents name ≡ Ok s) (answer : Status) → ShowsLines s c d answer → Checks words told c d answer
+  lines_of_check loads answer t = λ other too. subst (λ (n : List ℕ). ChecksFile n told c d answer) (name_is words Check Check name other command too) (file_shown loads answer t)
