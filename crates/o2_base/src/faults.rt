@@ -33,8 +33,6 @@ pub enum Which {
     AutoSize,
     /// The entry table has a bundle of constants.
     Constant,
-    /// A module of a kind that isn't run yet.
-    NotYet,
 }
 
 /// Why the header or a table of a segmented executable is refused.
