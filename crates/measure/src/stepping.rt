@@ -1,7 +1,9 @@
 // Steps over a plain memory.
+ghost use Rattle.std.specs.Prelude.{◌<◌, ◌≤◌, length};
 
 use o2_bus::{Cpu, NoMemory, Outcome, Plain};
 use o2_core::step_one;
+use o2_desc::Access;
 use std::alloc::Global;
 
 /// A jump to itself.
@@ -75,22 +77,33 @@ fn start() -> Cpu {
     }
 }
 
+/// Process 1 holds these bytes under an index.
+fn hold(
+    plain: &mut Plain,
+    alloc: Global,
+    index: u16,
+    bytes: Vec<u8>,
+    access: Access,
+) -> Result<(), NoMemory>
+    requires some { 0 < length bytes.items }
+    requires small { length bytes.items ≤ 65536 }
+{
+    let name = plain.add(bytes)?;
+    plain.hold(alloc, 1, index, name, access.0)
+}
+
 /// A memory with this code, data and stack, all of which process 1 holds.
 fn memory(alloc: Global, code: &[u8]) -> Result<Plain, NoMemory> {
-    let zeros = [0u8; 4096];
     let mut plain = Plain::new(alloc)?;
-    if code.len() > 4096 {
+    if code.len() == 0 || code.len() > 4096 {
         return Err(NoMemory);
     }
-    plain.add(alloc, code)?;
-    plain.add(alloc, &zeros)?;
-    plain.add(alloc, &zeros)?;
-    if plain.count() != 3 {
-        return Err(NoMemory);
+    let code = code.to_vec(alloc)?;
+    hold(&mut plain, alloc, 1, code, Access::READABLE_CODE)?;
+    for index in 2u16..4 {
+        let zeros = vec![in alloc; 0u8; 4096]?;
+        hold(&mut plain, alloc, index, zeros, Access::WRITABLE_DATA)?;
     }
-    plain.hold(alloc, 1, 1, 0, 0xFA)?;
-    plain.hold(alloc, 1, 2, 1, 0xF2)?;
-    plain.hold(alloc, 1, 3, 2, 0xF2)?;
     Ok(plain)
 }
 
