@@ -3,3 +3,4 @@ pub mod Document
 pub mod EachMember
 pub mod Decimals
 pub mod ByName
+pub mod Choice

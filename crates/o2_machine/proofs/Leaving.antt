@@ -76,7 +76,8 @@ module _ (b : Before) (e : Effect) (tally more : Tally) (cpu : Cpu) (old new : P
         to_report = rw (more_lines e (Traps b.number 1 b.cpu.cs b.cpu.ip)) (puts_more _ _ r s q put.Done made.to_report took);
       })
 
-  pub late_with_trap : has_trap_flag b.cpu.flags ≡ true → IsMade e Live tally.bytes tally.lines cpu new j c d r s → GainsSome s q (λ front. IsPrefix front (lines_text (Traps b.number 1 b.cpu.cs b.cpu.ip ∷ []))) → IsDone (single_stepped b e) (record { state = Trapped 1; tally = more; whole = false }) cpu new j c d r q
+  pub late_with_trap : has_trap_flag b.cpu.flags ≡ true → IsMade e Live tally.bytes tally.lines cpu new j c d r s → GainsSome s q (λ front. IsPrefix front (lines_text (Traps b.number 1 b.cpu.cs b.cpu.ip ∷ [])))
+      → IsDone (single_stepped b e) (record { state = Trapped 1; tally = more; whole = false }) cpu new j c d r q
   late_with_trap flag made took =
       subst (λ (x : Effect). IsDone x (record { state = Trapped 1; tally = more; whole = false }) cpu new j c d r q) (sym (with_flag b e flag made.state)) (record {
         state = refl;

@@ -86,7 +86,7 @@ fn sched_of(alloc: Global, rest: &str) -> Result<Sched, NoMemory> {
 }
 
 /// The next step, after which its process ends where it has no steps left.
-#[tactic(auto, using(o2_world::proofs::Choice::lives_within))]
+#[tactic(auto, using(o2_conf::proofs::Choice::lives_within))]
 fn step(sched: &mut Sched, left: &mut [u32]) -> Pick {
     let pick = sched.next();
     if let Pick::Step(pid) = pick {

@@ -5,7 +5,7 @@ use Rattle.o2_conf.specs.Dispatch.{Dispatch, dispatched, started, live_script, l
 use Rattle.o2_world.specs.Effect.{effect}
 use Rattle.o2_world.specs.Run.{plainly, before, acted, step, chosen_step, after, is_over, any_lives, live_flags, next_dispatch, steps_done, IsLast}
 use Rattle.o2_world.proofs.MapLemmas.{if_no}
-use Rattle.o2_world.proofs.Choice.{chosen_lives}
+use Rattle.o2_conf.proofs.Choice.{chosen_lives}
 use Rattle.o2_world.proofs.Quiet.{changed_plain, effect_quiet}
 use Rattle.o2_world.proofs.Flags.{live_process}
 

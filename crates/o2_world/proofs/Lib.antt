@@ -3,7 +3,6 @@ pub mod Numbers
 pub mod Staying
 pub mod Sizes
 pub mod Rows
-pub mod Choice
 pub mod Flags
 pub mod Quiet
 pub mod Reached

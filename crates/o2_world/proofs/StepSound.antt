@@ -13,7 +13,7 @@ use Rattle.o2_world.specs.Effect.{effect}
 use Rattle.o2_world.specs.Run.{before, changed, worked, working, acted, step, chosen_step, is_over, any_lives, live_flags, next_dispatch}
 use Rattle.o2_world.specs.Tied.{IsSound, IsSwept, AreFitChanges}
 use Rattle.o2_world.proofs.Budget.{not_over}
-use Rattle.o2_world.proofs.Choice.{chosen_lives}
+use Rattle.o2_conf.proofs.Choice.{chosen_lives}
 use Rattle.o2_world.proofs.Flags.{live_process}
 use Rattle.o2_world.proofs.GoodRegisters.{good_after, effect_ruled}
 use Rattle.o2_world.proofs.Numbers.{at_place_of}

@@ -10,38 +10,54 @@ use Rattle.o2_gate.proofs.gate.call.Goals as goal
 pub returns-in-Some-DosExit-clause-does : goal.returns-in-Some-DosExit-clause-does
 returns-in-Some-DosExit-clause-does g c = λ bytes known e same.
     let b = before_call c.args.state.now.plain c.args.pid c.args.cpu.now bytes known in
-    by_row (λ (f : Effect). Does b f c.args.cpu.now c.args.state.now.plain c.args.state.now.plain (g.I.Source.left c.args.input.now) (g.I.Source.left c.args.input.now) (g.C.Sink.taken c.args.console.now) (g.C.Sink.taken c.args.console.now) (g.R.Sink.taken c.args.report.now) (g.R.Sink.taken c.dos_exit.new.report) c.dos_exit.result)
+    by_row (λ (f : Effect). Does b f c.args.cpu.now c.args.state.now.plain c.args.state.now.plain (g.I.Source.left c.args.input.now)
+    (g.I.Source.left c.args.input.now) (g.C.Sink.taken c.args.console.now) (g.C.Sink.taken c.args.console.now)
+    (g.R.Sink.taken c.args.report.now) (g.R.Sink.taken c.dos_exit.new.report) c.dos_exit.result)
     b c.args.service c.args.next c.row_of.result c.in-Some-DosExit.field-0 DosExit c.row_of.ensures.row c.in-Some-DosExit.is c.in-Some-DosExit.field-0-is (c.dos_exit.ensures.does bytes known _ _ e)
 
 pub returns-in-Some-DosGetPid-clause-does : goal.returns-in-Some-DosGetPid-clause-does
 returns-in-Some-DosGetPid-clause-does g c = λ bytes known e same.
     let b = before_call c.args.state.now.plain c.args.pid c.args.cpu.now bytes known in
-    by_row (λ (f : Effect). Does b f c.dos_get_pid.new.cpu c.args.state.now.plain c.dos_get_pid.new.plain (g.I.Source.left c.args.input.now) (g.I.Source.left c.args.input.now) (g.C.Sink.taken c.args.console.now) (g.C.Sink.taken c.args.console.now) (g.R.Sink.taken c.args.report.now) (g.R.Sink.taken c.dos_get_pid.new.report) c.dos_get_pid.result)
-    b c.args.service c.args.next c.row_of.result c.in-Some-DosGetPid.field-0 DosGetPid c.row_of.ensures.row c.in-Some-DosGetPid.is c.in-Some-DosGetPid.field-0-is (c.dos_get_pid.ensures.does bytes known _ _ e)
+    by_row (λ (f : Effect). Does b f c.dos_get_pid.new.cpu c.args.state.now.plain c.dos_get_pid.new.plain
+    (g.I.Source.left c.args.input.now) (g.I.Source.left c.args.input.now) (g.C.Sink.taken c.args.console.now)
+    (g.C.Sink.taken c.args.console.now) (g.R.Sink.taken c.args.report.now) (g.R.Sink.taken c.dos_get_pid.new.report) c.dos_get_pid.result)
+    b c.args.service c.args.next c.row_of.result c.in-Some-DosGetPid.field-0 DosGetPid c.row_of.ensures.row c.in-Some-DosGetPid.is
+    c.in-Some-DosGetPid.field-0-is (c.dos_get_pid.ensures.does bytes known _ _ e)
 
 pub returns-in-Some-DosRead-clause-does : goal.returns-in-Some-DosRead-clause-does
 returns-in-Some-DosRead-clause-does g c = λ bytes known e same.
     let b = before_call c.args.state.now.plain c.args.pid c.args.cpu.now bytes known in
-    by_row (λ (f : Effect). Does b f c.dos_read.new.cpu c.args.state.now.plain c.dos_read.new.plain (g.I.Source.left c.args.input.now) (g.I.Source.left c.dos_read.new.input) (g.C.Sink.taken c.args.console.now) (g.C.Sink.taken c.args.console.now) (g.R.Sink.taken c.args.report.now) (g.R.Sink.taken c.dos_read.new.report) c.dos_read.result)
+    by_row (λ (f : Effect). Does b f c.dos_read.new.cpu c.args.state.now.plain c.dos_read.new.plain (g.I.Source.left c.args.input.now)
+    (g.I.Source.left c.dos_read.new.input) (g.C.Sink.taken c.args.console.now) (g.C.Sink.taken c.args.console.now)
+    (g.R.Sink.taken c.args.report.now) (g.R.Sink.taken c.dos_read.new.report) c.dos_read.result)
     b c.args.service c.args.next c.row_of.result c.in-Some-DosRead.field-0 DosRead c.row_of.ensures.row c.in-Some-DosRead.is c.in-Some-DosRead.field-0-is (c.dos_read.ensures.does bytes known _ e)
 
 pub returns-in-Some-DosWrite-clause-does : goal.returns-in-Some-DosWrite-clause-does
 returns-in-Some-DosWrite-clause-does g c = λ bytes known e same.
     let b = before_call c.args.state.now.plain c.args.pid c.args.cpu.now bytes known in
-    by_row (λ (f : Effect). Does b f c.dos_write.new.cpu c.args.state.now.plain c.dos_write.new.plain (g.I.Source.left c.args.input.now) (g.I.Source.left c.args.input.now) (g.C.Sink.taken c.args.console.now) (g.C.Sink.taken c.dos_write.new.console) (g.R.Sink.taken c.args.report.now) (g.R.Sink.taken c.dos_write.new.report) c.dos_write.result)
-    b c.args.service c.args.next c.row_of.result c.in-Some-DosWrite.field-0 DosWrite c.row_of.ensures.row c.in-Some-DosWrite.is c.in-Some-DosWrite.field-0-is (c.dos_write.ensures.does bytes known _ e)
+    by_row (λ (f : Effect). Does b f c.dos_write.new.cpu c.args.state.now.plain c.dos_write.new.plain (g.I.Source.left c.args.input.now)
+    (g.I.Source.left c.args.input.now) (g.C.Sink.taken c.args.console.now) (g.C.Sink.taken c.dos_write.new.console)
+    (g.R.Sink.taken c.args.report.now) (g.R.Sink.taken c.dos_write.new.report) c.dos_write.result)
+    b c.args.service c.args.next c.row_of.result c.in-Some-DosWrite.field-0 DosWrite c.row_of.ensures.row c.in-Some-DosWrite.is
+    c.in-Some-DosWrite.field-0-is (c.dos_write.ensures.does bytes known _ e)
 
 pub returns-in-Some-DosMemAvail-clause-does : goal.returns-in-Some-DosMemAvail-clause-does
 returns-in-Some-DosMemAvail-clause-does g c = λ bytes known e same.
     let b = before_call c.args.state.now.plain c.args.pid c.args.cpu.now bytes known in
-    by_row (λ (f : Effect). Does b f c.dos_mem_avail.new.cpu c.args.state.now.plain c.dos_mem_avail.new.plain (g.I.Source.left c.args.input.now) (g.I.Source.left c.args.input.now) (g.C.Sink.taken c.args.console.now) (g.C.Sink.taken c.args.console.now) (g.R.Sink.taken c.args.report.now) (g.R.Sink.taken c.dos_mem_avail.new.report) c.dos_mem_avail.result)
-    b c.args.service c.args.next c.row_of.result c.in-Some-DosMemAvail.field-0 DosMemAvail c.row_of.ensures.row c.in-Some-DosMemAvail.is c.in-Some-DosMemAvail.field-0-is (c.dos_mem_avail.ensures.does bytes known _ _ e same.avail)
+    by_row (λ (f : Effect). Does b f c.dos_mem_avail.new.cpu c.args.state.now.plain c.dos_mem_avail.new.plain
+    (g.I.Source.left c.args.input.now) (g.I.Source.left c.args.input.now) (g.C.Sink.taken c.args.console.now)
+    (g.C.Sink.taken c.args.console.now) (g.R.Sink.taken c.args.report.now) (g.R.Sink.taken c.dos_mem_avail.new.report) c.dos_mem_avail.result)
+    b c.args.service c.args.next c.row_of.result c.in-Some-DosMemAvail.field-0 DosMemAvail c.row_of.ensures.row c.in-Some-DosMemAvail.is
+    c.in-Some-DosMemAvail.field-0-is (c.dos_mem_avail.ensures.does bytes known _ _ e same.avail)
 
 pub returns-in-Some-DosExit-clause-every : goal.returns-in-Some-DosExit-clause-every
 returns-in-Some-DosExit-clause-every g c = λ other bytes known same.
     let b = before_call c.args.state.now.plain c.args.pid c.args.cpu.now bytes known in
-    by_row (λ (f : Effect). Does b f c.args.cpu.now c.args.state.now.plain c.args.state.now.plain (Some bytes) (Some bytes) (g.C.Sink.taken c.args.console.now) (g.C.Sink.taken c.args.console.now) (g.R.Sink.taken c.args.report.now) (g.R.Sink.taken c.dos_exit.new.report) c.dos_exit.result)
-    b c.args.service c.args.next c.row_of.result c.in-Some-DosExit.field-0 DosExit c.row_of.ensures.row c.in-Some-DosExit.is c.in-Some-DosExit.field-0-is (c.dos_exit.ensures.does bytes known _ _ refl)
+    by_row (λ (f : Effect). Does b f c.args.cpu.now c.args.state.now.plain c.args.state.now.plain (Some bytes) (Some bytes)
+    (g.C.Sink.taken c.args.console.now) (g.C.Sink.taken c.args.console.now) (g.R.Sink.taken c.args.report.now)
+    (g.R.Sink.taken c.dos_exit.new.report) c.dos_exit.result)
+    b c.args.service c.args.next c.row_of.result c.in-Some-DosExit.field-0 DosExit c.row_of.ensures.row c.in-Some-DosExit.is
+    c.in-Some-DosExit.field-0-is (c.dos_exit.ensures.does bytes known _ _ refl)
 
 pub returns-in-Some-DosExit-clause-some : goal.returns-in-Some-DosExit-clause-some
 returns-in-Some-DosExit-clause-some g c = λ known same.
@@ -50,16 +66,22 @@ returns-in-Some-DosExit-clause-some g c = λ known same.
       bytes,
       (
         Some bytes,
-        by_row (λ (f : Effect). Does b f c.args.cpu.now c.args.state.now.plain c.args.state.now.plain (Some bytes) (Some bytes) (g.C.Sink.taken c.args.console.now) (g.C.Sink.taken c.args.console.now) (g.R.Sink.taken c.args.report.now) (g.R.Sink.taken c.dos_exit.new.report) c.dos_exit.result)
-            b c.args.service c.args.next c.row_of.result c.in-Some-DosExit.field-0 DosExit c.row_of.ensures.row c.in-Some-DosExit.is c.in-Some-DosExit.field-0-is (c.dos_exit.ensures.does bytes known _ _ refl),
+        by_row (λ (f : Effect). Does b f c.args.cpu.now c.args.state.now.plain c.args.state.now.plain (Some bytes) (Some bytes)
+            (g.C.Sink.taken c.args.console.now) (g.C.Sink.taken c.args.console.now) (g.R.Sink.taken c.args.report.now)
+            (g.R.Sink.taken c.dos_exit.new.report) c.dos_exit.result)
+            b c.args.service c.args.next c.row_of.result c.in-Some-DosExit.field-0 DosExit c.row_of.ensures.row c.in-Some-DosExit.is
+            c.in-Some-DosExit.field-0-is (c.dos_exit.ensures.does bytes known _ _ refl),
       ),
     )
 
 pub returns-in-Some-DosGetPid-clause-every : goal.returns-in-Some-DosGetPid-clause-every
 returns-in-Some-DosGetPid-clause-every g c = λ other bytes known same.
     let b = before_call c.args.state.now.plain c.args.pid c.args.cpu.now bytes known in
-    by_row (λ (f : Effect). Does b f c.dos_get_pid.new.cpu c.args.state.now.plain c.dos_get_pid.new.plain (Some bytes) (Some bytes) (g.C.Sink.taken c.args.console.now) (g.C.Sink.taken c.args.console.now) (g.R.Sink.taken c.args.report.now) (g.R.Sink.taken c.dos_get_pid.new.report) c.dos_get_pid.result)
-    b c.args.service c.args.next c.row_of.result c.in-Some-DosGetPid.field-0 DosGetPid c.row_of.ensures.row c.in-Some-DosGetPid.is c.in-Some-DosGetPid.field-0-is (c.dos_get_pid.ensures.does bytes known _ _ refl)
+    by_row (λ (f : Effect). Does b f c.dos_get_pid.new.cpu c.args.state.now.plain c.dos_get_pid.new.plain (Some bytes) (Some bytes)
+    (g.C.Sink.taken c.args.console.now) (g.C.Sink.taken c.args.console.now) (g.R.Sink.taken c.args.report.now)
+    (g.R.Sink.taken c.dos_get_pid.new.report) c.dos_get_pid.result)
+    b c.args.service c.args.next c.row_of.result c.in-Some-DosGetPid.field-0 DosGetPid c.row_of.ensures.row c.in-Some-DosGetPid.is
+    c.in-Some-DosGetPid.field-0-is (c.dos_get_pid.ensures.does bytes known _ _ refl)
 
 pub returns-in-Some-DosGetPid-clause-some : goal.returns-in-Some-DosGetPid-clause-some
 returns-in-Some-DosGetPid-clause-some g c = λ known same.
@@ -68,16 +90,22 @@ returns-in-Some-DosGetPid-clause-some g c = λ known same.
       bytes,
       (
         Some bytes,
-        by_row (λ (f : Effect). Does b f c.dos_get_pid.new.cpu c.args.state.now.plain c.dos_get_pid.new.plain (Some bytes) (Some bytes) (g.C.Sink.taken c.args.console.now) (g.C.Sink.taken c.args.console.now) (g.R.Sink.taken c.args.report.now) (g.R.Sink.taken c.dos_get_pid.new.report) c.dos_get_pid.result)
-            b c.args.service c.args.next c.row_of.result c.in-Some-DosGetPid.field-0 DosGetPid c.row_of.ensures.row c.in-Some-DosGetPid.is c.in-Some-DosGetPid.field-0-is (c.dos_get_pid.ensures.does bytes known _ _ refl),
+        by_row (λ (f : Effect). Does b f c.dos_get_pid.new.cpu c.args.state.now.plain c.dos_get_pid.new.plain (Some bytes) (Some bytes)
+            (g.C.Sink.taken c.args.console.now) (g.C.Sink.taken c.args.console.now) (g.R.Sink.taken c.args.report.now)
+            (g.R.Sink.taken c.dos_get_pid.new.report) c.dos_get_pid.result)
+            b c.args.service c.args.next c.row_of.result c.in-Some-DosGetPid.field-0 DosGetPid c.row_of.ensures.row
+            c.in-Some-DosGetPid.is c.in-Some-DosGetPid.field-0-is (c.dos_get_pid.ensures.does bytes known _ _ refl),
       ),
     )
 
 pub returns-in-Some-DosWrite-clause-every : goal.returns-in-Some-DosWrite-clause-every
 returns-in-Some-DosWrite-clause-every g c = λ other bytes known same.
     let b = before_call c.args.state.now.plain c.args.pid c.args.cpu.now bytes known in
-    by_row (λ (f : Effect). Does b f c.dos_write.new.cpu c.args.state.now.plain c.dos_write.new.plain (Some bytes) (Some bytes) (g.C.Sink.taken c.args.console.now) (g.C.Sink.taken c.dos_write.new.console) (g.R.Sink.taken c.args.report.now) (g.R.Sink.taken c.dos_write.new.report) c.dos_write.result)
-    b c.args.service c.args.next c.row_of.result c.in-Some-DosWrite.field-0 DosWrite c.row_of.ensures.row c.in-Some-DosWrite.is c.in-Some-DosWrite.field-0-is (c.dos_write.ensures.does bytes known _ refl)
+    by_row (λ (f : Effect). Does b f c.dos_write.new.cpu c.args.state.now.plain c.dos_write.new.plain (Some bytes) (Some bytes)
+    (g.C.Sink.taken c.args.console.now) (g.C.Sink.taken c.dos_write.new.console) (g.R.Sink.taken c.args.report.now)
+    (g.R.Sink.taken c.dos_write.new.report) c.dos_write.result)
+    b c.args.service c.args.next c.row_of.result c.in-Some-DosWrite.field-0 DosWrite c.row_of.ensures.row c.in-Some-DosWrite.is
+    c.in-Some-DosWrite.field-0-is (c.dos_write.ensures.does bytes known _ refl)
 
 pub returns-in-Some-DosWrite-clause-some : goal.returns-in-Some-DosWrite-clause-some
 returns-in-Some-DosWrite-clause-some g c = λ known same.
@@ -86,16 +114,22 @@ returns-in-Some-DosWrite-clause-some g c = λ known same.
       bytes,
       (
         Some bytes,
-        by_row (λ (f : Effect). Does b f c.dos_write.new.cpu c.args.state.now.plain c.dos_write.new.plain (Some bytes) (Some bytes) (g.C.Sink.taken c.args.console.now) (g.C.Sink.taken c.dos_write.new.console) (g.R.Sink.taken c.args.report.now) (g.R.Sink.taken c.dos_write.new.report) c.dos_write.result)
-            b c.args.service c.args.next c.row_of.result c.in-Some-DosWrite.field-0 DosWrite c.row_of.ensures.row c.in-Some-DosWrite.is c.in-Some-DosWrite.field-0-is (c.dos_write.ensures.does bytes known _ refl),
+        by_row (λ (f : Effect). Does b f c.dos_write.new.cpu c.args.state.now.plain c.dos_write.new.plain (Some bytes) (Some bytes)
+            (g.C.Sink.taken c.args.console.now) (g.C.Sink.taken c.dos_write.new.console) (g.R.Sink.taken c.args.report.now)
+            (g.R.Sink.taken c.dos_write.new.report) c.dos_write.result)
+            b c.args.service c.args.next c.row_of.result c.in-Some-DosWrite.field-0 DosWrite c.row_of.ensures.row c.in-Some-DosWrite.is
+            c.in-Some-DosWrite.field-0-is (c.dos_write.ensures.does bytes known _ refl),
       ),
     )
 
 pub returns-in-Some-DosMemAvail-clause-every : goal.returns-in-Some-DosMemAvail-clause-every
 returns-in-Some-DosMemAvail-clause-every g c = λ other bytes known same.
     let b = before_call c.args.state.now.plain c.args.pid c.args.cpu.now bytes known in
-    by_row (λ (f : Effect). Does b f c.dos_mem_avail.new.cpu c.args.state.now.plain c.dos_mem_avail.new.plain (Some bytes) (Some bytes) (g.C.Sink.taken c.args.console.now) (g.C.Sink.taken c.args.console.now) (g.R.Sink.taken c.args.report.now) (g.R.Sink.taken c.dos_mem_avail.new.report) c.dos_mem_avail.result)
-    b c.args.service c.args.next c.row_of.result c.in-Some-DosMemAvail.field-0 DosMemAvail c.row_of.ensures.row c.in-Some-DosMemAvail.is c.in-Some-DosMemAvail.field-0-is (c.dos_mem_avail.ensures.does bytes known _ _ refl same.avail)
+    by_row (λ (f : Effect). Does b f c.dos_mem_avail.new.cpu c.args.state.now.plain c.dos_mem_avail.new.plain (Some bytes) (Some bytes)
+    (g.C.Sink.taken c.args.console.now) (g.C.Sink.taken c.args.console.now) (g.R.Sink.taken c.args.report.now)
+    (g.R.Sink.taken c.dos_mem_avail.new.report) c.dos_mem_avail.result)
+    b c.args.service c.args.next c.row_of.result c.in-Some-DosMemAvail.field-0 DosMemAvail c.row_of.ensures.row c.in-Some-DosMemAvail.is
+    c.in-Some-DosMemAvail.field-0-is (c.dos_mem_avail.ensures.does bytes known _ _ refl same.avail)
 
 pub returns-in-Some-DosMemAvail-clause-some : goal.returns-in-Some-DosMemAvail-clause-some
 returns-in-Some-DosMemAvail-clause-some g c = λ known same.
@@ -104,8 +138,11 @@ returns-in-Some-DosMemAvail-clause-some g c = λ known same.
       bytes,
       (
         Some bytes,
-        by_row (λ (f : Effect). Does b f c.dos_mem_avail.new.cpu c.args.state.now.plain c.dos_mem_avail.new.plain (Some bytes) (Some bytes) (g.C.Sink.taken c.args.console.now) (g.C.Sink.taken c.args.console.now) (g.R.Sink.taken c.args.report.now) (g.R.Sink.taken c.dos_mem_avail.new.report) c.dos_mem_avail.result)
-            b c.args.service c.args.next c.row_of.result c.in-Some-DosMemAvail.field-0 DosMemAvail c.row_of.ensures.row c.in-Some-DosMemAvail.is c.in-Some-DosMemAvail.field-0-is (c.dos_mem_avail.ensures.does bytes known _ _ refl same.avail),
+        by_row (λ (f : Effect). Does b f c.dos_mem_avail.new.cpu c.args.state.now.plain
+            c.dos_mem_avail.new.plain (Some bytes) (Some bytes) (g.C.Sink.taken c.args.console.now) (g.C.Sink.taken c.args.console.now)
+            (g.R.Sink.taken c.args.report.now) (g.R.Sink.taken c.dos_mem_avail.new.report) c.dos_mem_avail.result)
+            b c.args.service c.args.next c.row_of.result c.in-Some-DosMemAvail.field-0 DosMemAvail c.row_of.ensures.row
+            c.in-Some-DosMemAvail.is c.in-Some-DosMemAvail.field-0-is (c.dos_mem_avail.ensures.does bytes known _ _ refl same.avail),
       ),
     )
 
@@ -116,7 +153,9 @@ returns-in-Some-DosRead-clause-some g c = λ known same.
       did.0,
       (
         did.1.0,
-        by_row (λ (f : Effect). Does b f c.dos_read.new.cpu c.args.state.now.plain c.dos_read.new.plain (Some did.0) did.1.0 (g.C.Sink.taken c.args.console.now) (g.C.Sink.taken c.args.console.now) (g.R.Sink.taken c.args.report.now) (g.R.Sink.taken c.dos_read.new.report) c.dos_read.result)
+        by_row (λ (f : Effect). Does b f c.dos_read.new.cpu c.args.state.now.plain c.dos_read.new.plain (Some did.0) did.1.0
+            (g.C.Sink.taken c.args.console.now) (g.C.Sink.taken c.args.console.now) (g.R.Sink.taken c.args.report.now)
+            (g.R.Sink.taken c.dos_read.new.report) c.dos_read.result)
             b c.args.service c.args.next c.row_of.result c.in-Some-DosRead.field-0 DosRead c.row_of.ensures.row c.in-Some-DosRead.is c.in-Some-DosRead.field-0-is did.1.1,
       ),
     )

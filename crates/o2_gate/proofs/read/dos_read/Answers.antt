@@ -13,8 +13,11 @@ returns-clause-does g c = λ bytes known x e.
     let t = c.arguments_of-read.result in
     let same = read_with_arguments b c.args.next t.handle t.selector t.offset t.count t.done_selector t.done_offset fits a.handle a.selector a.offset a.count a.done_selector a.done_offset in
     let asked = asks_with_arguments b c.args.next t.handle t.selector t.offset t.count t.done_selector t.done_offset fits a.handle a.selector a.offset a.count a.done_selector a.done_offset in
-    let P : Bool → Effect → Type 0 = λ q f. DoesFor (q ≡ true) b f c.read_from.new.cpu c.args.plain.now c.read_from.new.plain (g.I.Source.left c.args.input.now) (g.I.Source.left c.read_from.new.input) x x (g.R.Sink.taken c.args.report.now) (g.R.Sink.taken c.read_from.new.report) c.read_from.result in
-    subst (λ (f : Effect). P (asks b) f) (sym same) (subst (λ (q : Bool). P q (read_row b c.args.next t.handle t.selector t.offset t.count t.done_selector t.done_offset)) (sym asked) (c.read_from.ensures.does bytes known x e))
+    let P : Bool → Effect → Type 0 = λ q f. DoesFor (q ≡ true) b f c.read_from.new.cpu c.args.plain.now c.read_from.new.plain
+    (g.I.Source.left c.args.input.now) (g.I.Source.left c.read_from.new.input) x x (g.R.Sink.taken c.args.report.now)
+    (g.R.Sink.taken c.read_from.new.report) c.read_from.result in
+    subst (λ (f : Effect). P (asks b) f) (sym same) (subst (λ (q : Bool). P q (read_row b
+    c.args.next t.handle t.selector t.offset t.count t.done_selector t.done_offset)) (sym asked) (c.read_from.ensures.does bytes known x e))
 
 pub returns-clause-some : goal.returns-clause-some
 returns-clause-some g c = λ known x.
@@ -25,5 +28,12 @@ returns-clause-some g c = λ known x.
     let t = c.arguments_of-read.result in
     let same = read_with_arguments b c.args.next t.handle t.selector t.offset t.count t.done_selector t.done_offset fits a.handle a.selector a.offset a.count a.done_selector a.done_offset in
     let asked = asks_with_arguments b c.args.next t.handle t.selector t.offset t.count t.done_selector t.done_offset fits a.handle a.selector a.offset a.count a.done_selector a.done_offset in
-    let P : Bool → Effect → Type 0 = λ q f. DoesFor (q ≡ true) b f c.read_from.new.cpu c.args.plain.now c.read_from.new.plain (Some did.0) did.1.0 x x (g.R.Sink.taken c.args.report.now) (g.R.Sink.taken c.read_from.new.report) c.read_from.result in
-    (did.0, (did.1.0, subst (λ (f : Effect). P (asks b) f) (sym same) (subst (λ (q : Bool). P q (read_row b c.args.next t.handle t.selector t.offset t.count t.done_selector t.done_offset)) (sym asked) did.1.1)))
+    let P : Bool → Effect → Type 0 = λ q f. DoesFor (q ≡ true) b f c.read_from.new.cpu c.args.plain.now
+    c.read_from.new.plain (Some did.0) did.1.0 x x (g.R.Sink.taken c.args.report.now) (g.R.Sink.taken c.read_from.new.report) c.read_from.result in (
+      did.0,
+      (
+        did.1.0,
+        subst (λ (f : Effect). P (asks b) f) (sym same) (subst
+            (λ (q : Bool). P q (read_row b c.args.next t.handle t.selector t.offset t.count t.done_selector t.done_offset)) (sym asked) did.1.1),
+      ),
+    )

@@ -12,23 +12,29 @@ returns-in-Done-take_bytes-clause-does g c = λ bytes known x e.
     let r = c.args.read.now in
     let fill = c.in-Done-take_bytes.ensures.fills bytes e in
     let got = ap (take c.in-Done-take_bytes.got) c.deref.ensures.value ∙ fill.0 in
-    let good : may_take b r.selector r.offset r.count r.done_selector r.done_offset ≡ true = both _ _ (sym c.may_write-writable.ensures ∙ c.if-not-writable.false) (sym c.may_write-countable.ensures ∙ c.if-not-countable.false) in
+    let good : may_take b r.selector r.offset r.count r.done_selector r.done_offset ≡ true = both _ _ (sym c.may_write-writable.ensures ∙
+    c.if-not-writable.false) (sym c.may_write-countable.ensures ∙ c.if-not-countable.false) in
     let zero : (r.handle == 0) ≡ true = grind arith in
     let same = read_is b c.args.next r.handle r.selector r.offset r.count r.done_selector r.done_offset _ _ good zero got refl in
-    subst (λ (f : Effect). DoesFor (asks_input b r.handle r.selector r.offset r.count r.done_selector r.done_offset ≡ true) b f c.deliver.new.cpu c.args.plain.now c.deliver.new.plain (g.I.Source.left c.args.input.now) (g.I.Source.left c.take_bytes.new.input) x x (g.R.Sink.taken c.args.report.now) (g.R.Sink.taken c.deliver.new.report) c.deliver.result)
-    (sym same) (any_reason _ _ _ b _ _ _ _ _ _ _ _ _ _ c.deliver.result c.deliver.ensures.cause (c.deliver.ensures.does bytes (drop r.count bytes) known (g.I.Source.left c.args.input.now) _ x fill.1))
+    subst (λ (f : Effect). DoesFor (asks_input b r.handle r.selector r.offset r.count r.done_selector r.done_offset ≡ true) b f
+    c.deliver.new.cpu c.args.plain.now c.deliver.new.plain (g.I.Source.left c.args.input.now)
+    (g.I.Source.left c.take_bytes.new.input) x x (g.R.Sink.taken c.args.report.now) (g.R.Sink.taken c.deliver.new.report) c.deliver.result)
+    (sym same) (any_reason _ _ _ b _ _ _ _ _ _ _ _ _ _ c.deliver.result c.deliver.ensures.cause
+    (c.deliver.ensures.does bytes (drop r.count bytes) known (g.I.Source.left c.args.input.now) _ x fill.1))
 
 pub returns-in-Failed-clause-some : goal.returns-in-Failed-clause-some
 returns-in-Failed-clause-some g c = λ known x.
     let b = before_call c.args.plain.now c.args.pid c.args.cpu.now [] known in
     let r = c.args.read.now in
-    let good : may_take b r.selector r.offset r.count r.done_selector r.done_offset ≡ true = both _ _ (sym c.may_write-writable.ensures ∙ c.if-not-writable.false) (sym c.may_write-countable.ensures ∙ c.if-not-countable.false) in
+    let good : may_take b r.selector r.offset r.count r.done_selector r.done_offset ≡ true = both _ _ (sym c.may_write-writable.ensures ∙
+    c.if-not-writable.false) (sym c.may_write-countable.ensures ∙ c.if-not-countable.false) in
     let other : (r.handle == 0) ≡ false = grind arith in
     let same = refused_is b c.args.next r.handle r.selector r.offset r.count r.done_selector r.done_offset good other in (
       [],
       (
         Some [],
-        subst (λ (f : Effect). IsInPart f c.args.cpu.now b.cpu c.args.plain.now c.args.plain.now (Some []) (Some []) x x (g.R.Sink.taken c.args.report.now) (g.R.Sink.taken c.put_line.new.report)) (sym same)
+        subst (λ (f : Effect). IsInPart f c.args.cpu.now b.cpu c.args.plain.now c.args.plain.now (Some []) (Some []) x x
+            (g.R.Sink.taken c.args.report.now) (g.R.Sink.taken c.put_line.new.report)) (sym same)
             (record { cpu = refl; bytes = λ n. refl; input = inl refl; to_console = puts_none _ _; to_report = c.in-Failed.ensures.report; in_order = inr (gains_none _) }),
       ),
     )
@@ -38,14 +44,17 @@ returns-in-Done-take_bytes-clause-some g c = λ known x.
     let t : List ℕ = take c.in-Done-take_bytes.got c.deref.result.now in
     let b = before_call c.args.plain.now c.args.pid c.args.cpu.now t known in
     let r = c.args.read.now in
-    let good : may_take b r.selector r.offset r.count r.done_selector r.done_offset ≡ true = both _ _ (sym c.may_write-writable.ensures ∙ c.if-not-writable.false) (sym c.may_write-countable.ensures ∙ c.if-not-countable.false) in
+    let good : may_take b r.selector r.offset r.count r.done_selector r.done_offset ≡ true = both _ _ (sym c.may_write-writable.ensures ∙
+    c.if-not-writable.false) (sym c.may_write-countable.ensures ∙ c.if-not-countable.false) in
     let zero : (r.handle == 0) ≡ true = grind arith in
     let few : length t ≤ r.count = short_take c.in-Done-take_bytes.got r.count c.deref.result.now c.in-Done-take_bytes.ensures.bounded in
     let same = read_is b c.args.next r.handle r.selector r.offset r.count r.done_selector r.done_offset t [] good zero (take_whole r.count t few) (drop_whole r.count t few) in (
       t,
       (
         Some [],
-        subst (λ (f : Effect). DoesFor (asks_input b r.handle r.selector r.offset r.count r.done_selector r.done_offset ≡ true) b f c.deliver.new.cpu c.args.plain.now c.deliver.new.plain (Some t) (Some []) x x (g.R.Sink.taken c.args.report.now) (g.R.Sink.taken c.deliver.new.report) c.deliver.result)
+        subst (λ (f : Effect). DoesFor (asks_input b r.handle r.selector r.offset r.count r.done_selector r.done_offset ≡ true) b f
+            c.deliver.new.cpu c.args.plain.now c.deliver.new.plain (Some t) (Some []) x x (g.R.Sink.taken c.args.report.now)
+            (g.R.Sink.taken c.deliver.new.report) c.deliver.result)
             (sym same) (any_reason _ _ _ b _ _ _ _ _ _ _ _ _ _ c.deliver.result c.deliver.ensures.cause (c.deliver.ensures.does t [] known (Some t) _ x refl)),
       ),
     )

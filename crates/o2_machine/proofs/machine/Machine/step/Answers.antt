@@ -10,14 +10,28 @@ use Rattle.o2_machine.proofs.machine.Machine.step.Goals as goal
 
 pub returns-in-Err-Sink-clause-turns : goal.returns-in-Err-Sink-clause-turns
 returns-in-Err-Sink-clause-turns g c = λ s w blocks stands left.
-    inl (faulted c.args.self.now s w c.args.pid _ _ _ _ stands c.requires.pick c.requires.live _ _ _ (record { sched = refl; avail = c.act.ensures.avail; budget = refl; bytes = refl; lines = refl }) left
-    (λ p at live. subst (λ (f : Fault). ActsFault (AsksInput (before s w c.args.pid p)) w.processes w.names (effect (before s w c.args.pid p)) c.act.new.self (g.I.Source.left c.args.input.now) (g.I.Source.left c.act.new.input) (g.C.Sink.taken c.args.console.now) (g.C.Sink.taken c.act.new.console) (g.R.Sink.taken c.args.report.now) (g.R.Sink.taken c.act.new.report) f) c.in-Err-Sink.field-0-is
+    inl (faulted c.args.self.now s w c.args.pid _ _ _ _ stands c.requires.pick c.requires.live _ _ _ (record {
+      sched = refl;
+      avail =
+          c.act.ensures.avail;
+      budget = refl;
+      bytes = refl;
+      lines = refl;
+    }) left
+    (λ p at live. subst (λ (f : Fault). ActsFault (AsksInput (before s w c.args.pid p)) w.processes w.names (effect (before s w
+    c.args.pid p)) c.act.new.self (g.I.Source.left c.args.input.now) (g.I.Source.left c.act.new.input)
+    (g.C.Sink.taken c.args.console.now) (g.C.Sink.taken c.act.new.console) (g.R.Sink.taken c.args.report.now)
+    (g.R.Sink.taken c.act.new.report) f) c.in-Err-Sink.field-0-is
     (c.in-Err-Sink.ensures.acts w.processes w.names p w.input (known_of s w) stands.space at live left stands.known)))
 
 pub returns-in-Err-Stopped-clause-turns : goal.returns-in-Err-Stopped-clause-turns
 returns-in-Err-Stopped-clause-turns g c = λ s w blocks stands left.
-    stopped_by c.args.self.now s w c.args.pid _ _ _ _ stands c.requires.pick c.requires.live c.in-Err-Stopped.why blocks _ c.put_stop.result _ _ _ (record { sched = refl; avail = c.act.ensures.avail; budget = refl; bytes = refl; lines = refl }) left
-    (λ p at live. subst (λ (f : Fault). ActsFault (AsksInput (before s w c.args.pid p)) w.processes w.names (effect (before s w c.args.pid p)) c.act.new.self (g.I.Source.left c.args.input.now) (g.I.Source.left c.act.new.input) (g.C.Sink.taken c.args.console.now) (g.C.Sink.taken c.act.new.console) (g.R.Sink.taken c.args.report.now) (g.R.Sink.taken c.act.new.report) f) c.in-Err-Stopped.field-0-is
+    stopped_by c.args.self.now s w c.args.pid _ _ _ _ stands c.requires.pick c.requires.live c.in-Err-Stopped.why blocks _
+    c.put_stop.result _ _ _ (record { sched = refl; avail = c.act.ensures.avail; budget = refl; bytes = refl; lines = refl }) left
+    (λ p at live. subst (λ (f : Fault). ActsFault (AsksInput (before s w c.args.pid p)) w.processes w.names (effect (before s w
+    c.args.pid p)) c.act.new.self (g.I.Source.left c.args.input.now) (g.I.Source.left c.act.new.input)
+    (g.C.Sink.taken c.args.console.now) (g.C.Sink.taken c.act.new.console) (g.R.Sink.taken c.args.report.now)
+    (g.R.Sink.taken c.act.new.report) f) c.in-Err-Stopped.field-0-is
     (c.in-Err-Stopped.ensures.acts w.processes w.names p w.input (known_of s w) stands.space at live left stands.known))
     c.put_stop.ensures.text c.put_stop.ensures.whole
 

@@ -2,7 +2,7 @@ use Rattle.std.proofs.Common.{arith, ◌≡◌, Bool, true, ap, ◌∙◌}
 use Rattle.std.specs.List.{list_any}
 use Rattle.o2_conf.specs.Dispatch.{Dispatch, lives}
 use Rattle.o2_sched.specs.Places.{place_dispatch}
-use Rattle.o2_world.proofs.Choice.{chosen_lives}
+use Rattle.o2_conf.proofs.Choice.{chosen_lives}
 use Rattle.o2_sched.proofs.sched.Sched.next.Goals as goal
 
 pub returns-clause-live : goal.returns-clause-live
