@@ -16,6 +16,7 @@ use Rattle.o2_place.specs.Layout.{over, used, len_of}
 use Rattle.o2_place.specs.Marks.{IsKept}
 use Rattle.o2_place.proofs.Sums.{over-same, over-le, over-add, over-only, only}
 use Rattle.o2_store.specs.Shelf.{Shelf, IsShelf, SameTables, entry, place_of, entry_or, rounded, all_locked, locked_need}
+use Rattle.o2_store.specs.Sizes.{wanted_at, all_wanted_at}
 use Rattle.o2_store.specs.Needs.{AreKeys, has, need_in, all_need, named_in, is_named, wanted, all_wanted}
 use Rattle.o2_store.proofs.Tables.{over-change, over_small, rounded_small, none_is_none, placed_at}
 
@@ -181,3 +182,37 @@ same_need s t keys q =
 pub need_wanted : (s : Shelf) (keys : List ℕ) (key : ℕ) (keep : List SegId) → ((k : ℕ) → has keys k ≡ (nat_eq k key || named_in s.entries keep k)) → all_need s.entries keys ≡ all_wanted s key keep
 need_wanted s keys key keep any = over-same (need_in s.entries keys) (wanted s key keep) (length s.entries)
     (λ k l. ap (λ (b : Bool). if ltb 0 (entry_or (slot_at s.entries k)).attr.lock || b then rounded (entry_or (slot_at s.entries k)).size else 0) (any k))
+
+need_over : (s : Shelf) (keys : List ℕ) (k : ℕ) → IsShelf s → ((k : ℕ) → IsSome (place_of s k) → (entry s k).attr.lock ≡ 0 → IsKept keys k) → (o : Option (ℕ × ℕ)) → place_of s k ≡ o → len_of o ≤ need_in s.entries keys k
+need_over s keys k h kept None e = omega arith
+need_over s keys k h kept (Some r) e =
+    let p = (placed_at s k r.0 r.1 h e).1 in
+    elim (cases_lt 0 (entry s k).attr.lock) [
+      | inl w ↦ (let u : ltb 0 (entry s k).attr.lock ≡ true = grind (arith, nat_tests) in rw u (omega (arith, p)))
+      | inr w ↦
+          (let here : IsSome (place_of s k) = ap is_some e in
+          let y = kept k here (omega arith) in
+          let u : ltb 0 (entry s k).attr.lock ≡ false = grind (arith, nat_tests) in
+          let v : has keys k ≡ true = has_kept keys k y.0 y.1 y.2 in
+          rw (u, v) (omega (arith, p)))
+    ]
+
+-- where all in memory must be there, what they take is part of the need
+pub need_holds : (s : Shelf) (keys : List ℕ) → IsShelf s → ((k : ℕ) → IsSome (place_of s k) → (entry s k).attr.lock ≡ 0 → IsKept keys k)
+    → over (λ k. len_of (place_of s k)) (length s.entries) ≡ used s.places.ranges → used s.places.ranges ≤ all_need s.entries keys
+need_holds s keys h kept sum =
+    let c = over-le (λ k. len_of (place_of s k)) (need_in s.entries keys) (length s.entries) (λ k w. need_over s keys k h kept (place_of s k) refl) in
+    omega (arith, c, sum)
+
+-- the need with one segment at another size
+pub wanted_change : (s : Shelf) (key : ℕ) (keep : List SegId) (size : ℕ) → key < length s.entries → all_wanted_at s key keep size + rounded (entry s key).size ≡ all_wanted s key keep + rounded size
+wanted_change s key keep size l =
+    let a = over-change (wanted s key keep) (wanted_at s key keep size) key (length s.entries) (λ k d. (let t : nat_eq k key ≡ false = grind (arith, nat_tests) in rw t refl)) l in
+    let t : nat_eq key key ≡ true = grind (arith, nat_tests) in
+    let b : wanted_at s key keep size key ≡ rounded size = rw t refl in
+    let c : wanted s key keep key ≡ rounded (entry s key).size = all_of_it (ltb 0 (entry_or (slot_at s.entries key)).attr.lock) (nat_eq key key) t in
+    omega (arith, a, b, c)
+  where
+    all_of_it : (x y : Bool) → y ≡ true → (if x || (y || named_in s.entries keep key) then rounded (entry_or (slot_at s.entries key)).size else 0) ≡ rounded (entry_or (slot_at s.entries key)).size
+    all_of_it true y e = refl
+    all_of_it false y e = rw e refl

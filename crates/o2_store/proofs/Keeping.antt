@@ -48,7 +48,7 @@ kept_source : (o : Option (ℕ × ℕ)) (pic : Pictures) (m n : Blocks) (a b : �
 kept_source None pic m n a b k j e l same = ap (λ (xs : List ℕ). get_or (b (get_or xs (j / 512) 0)) (j % 512) 0) e ∙ ap (λ (xs : List ℕ). get_or xs (j % 512) 0) (same (j / 512) (l refl))
 kept_source (Some p) pic m n a b k j e l same = refl
 
-out_kept : (e : Entry) (pic : Pictures) (m n : Blocks) (a b : ℕ → List ℕ) (k j : ℕ) → blocks_of n k ≡ blocks_of m k → (e.image ≡ None → length (blocks_of m k) ≡ blocks_for e.kept)
+pub out_kept : (e : Entry) (pic : Pictures) (m n : Blocks) (a b : ℕ → List ℕ) (k j : ℕ) → blocks_of n k ≡ blocks_of m k → (e.image ≡ None → length (blocks_of m k) ≡ blocks_for e.kept)
     → ((i : ℕ) → i < length (blocks_of m k) → b (get_or (blocks_of m k) i 0) ≡ a (get_or (blocks_of m k) i 0))
     → (if ltb j e.kept then source_byte e.image pic n b k j else 0) ≡ (if ltb j e.kept then source_byte e.image pic m a k j else 0)
 out_kept e pic m n a b k j same stored contents = elim (cases_lt j e.kept) [
@@ -97,7 +97,7 @@ keeps_key told pic s t a b key h v same here = record {
 }
 
 -- a clean segment's source is its image
-clean_source : (o : Option (ℕ × ℕ)) (pic : Pictures) (m n : Blocks) (a b : ℕ → List ℕ) (k j : ℕ) → IsSome o → source_byte o pic n b k j ≡ source_byte o pic m a k j
+pub clean_source : (o : Option (ℕ × ℕ)) (pic : Pictures) (m n : Blocks) (a b : ℕ → List ℕ) (k j : ℕ) → IsSome o → source_byte o pic n b k j ≡ source_byte o pic m a k j
 clean_source None pic m n a b k j i = absurd (let f : false ≡ true = i in cc)
 clean_source (Some p) pic m n a b k j i = refl
 

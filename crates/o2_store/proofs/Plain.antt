@@ -1,5 +1,5 @@
 -- What tests keep of a store.
-use Rattle.std.proofs.Common.{inl, inr, ◌≡◌, ◌≤◌, ◌+◌, ◌<◌, ℕ, length, get_or, set, Option, Some, None, is_some, IsSome, false, true, refl, sym, ap, ◌∙◌, subst, arith, option_map, unwrap_or, eqb, List}
+use Rattle.std.proofs.Common.{inl, inr, ◌≡◌, ◌≤◌, ◌+◌, ℕ, set, Option, Some, None, false, true, refl, sym, ap, ◌∙◌, subst, arith, option_map, unwrap_or, eqb, List}
 use Rattle.std.proofs.lemmas.Bool.{cases_eq}
 use Rattle.std.proofs.lemmas.Bool.Decides.{nat_tests}
 use Rattle.o2_entries.specs.declared.Entry.{Entry}
@@ -10,7 +10,7 @@ use Rattle.o2_outer.specs.Devices.{swap_blocks}
 use Rattle.o2_swapmap.specs.Piles.{all_of}
 use Rattle.o2_place.specs.declared.seg_id.SegId.{SegId}
 use Rattle.std.specs.Option.{IfSome, IfNone}
-use Rattle.o2_store.specs.Shelf.{Shelf, SameTables, AreClean, Pictures, HasAll, Adds, entry, entry_or, aged, place_of}
+use Rattle.o2_store.specs.Shelf.{Shelf, SameTables, AreClean, Pictures, HasAll, Adds, entry, entry_or, aged}
 use Rattle.o2_store.specs.Trials.{IsPlain}
 use Rattle.o2_store.proofs.Tables.{slot-set_same, slot-set_other}
 

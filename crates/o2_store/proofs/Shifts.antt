@@ -16,7 +16,7 @@ use Rattle.o2_store.proofs.Tables.{Touches, IsShelf-touch, place-same, place-oth
 use Rattle.o2_store.proofs.Keeping.{same_entry, keeps_trans, same_at}
 
 -- a range that has moved
-moved_part : (old new : List ℕ) (a l : ℕ) (o : Option (ℕ × ℕ)) → option_map (λ (r : ℕ × ℕ). part new r.0 r.1) o ≡ Some (part old a l) → ((x y : ℕ) → o ≡ Some (x, y) → x + y ≤ length new) → a + l ≤ length old
+pub moved_part : (old new : List ℕ) (a l : ℕ) (o : Option (ℕ × ℕ)) → option_map (λ (r : ℕ × ℕ). part new r.0 r.1) o ≡ Some (part old a l) → ((x y : ℕ) → o ≡ Some (x, y) → x + y ≤ length new) → a + l ≤ length old
     → (to : ℕ) × (o ≡ Some (to, l)) × ((j : ℕ) → j < l → get_or new (to + j) 0 ≡ get_or old (a + j) 0)
 moved_part old new a l None e w b = cc
 moved_part old new a l (Some r) e w b =
@@ -26,7 +26,7 @@ moved_part old new a l (Some r) e w b =
     let same : r.1 ≡ l = sym lr ∙ ap length parts ∙ lo in
     (r.0, ap (λ (n : ℕ). Some (r.0, n)) same, λ j q. sym (get-part new r.0 r.1 j (omega arith)) ∙ ap (λ (xs : List ℕ). get_or xs j 0) parts ∙ get-part old a l j q)
 
-moved_none : (old new : List ℕ) (o : Option (ℕ × ℕ)) → option_map (λ (r : ℕ × ℕ). part new r.0 r.1) o ≡ None → o ≡ None
+pub moved_none : (old new : List ℕ) (o : Option (ℕ × ℕ)) → option_map (λ (r : ℕ × ℕ). part new r.0 r.1) o ≡ None → o ≡ None
 moved_none old new None e = refl
 moved_none old new (Some r) e = cc
 

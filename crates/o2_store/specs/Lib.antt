@@ -2,4 +2,5 @@ pub mod Lending
 pub mod Needs
 pub mod Pictures
 pub mod Shelf
+pub mod Sizes
 pub mod Trials

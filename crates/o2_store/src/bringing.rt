@@ -19,7 +19,7 @@ use o2_place::SegId;
 
 impl Store {
     // Whether so many bytes are more than those in no range.
-    fn is_short(&self, len: u32) -> bool
+    pub(crate) fn is_short(&self, len: u32) -> bool
         ensures { IsTrue result ↔ (self.now.places.size < used self.now.places.ranges + len) }
     {
         self.places.free_bytes() < len
@@ -61,7 +61,7 @@ impl Store {
     }
 
     // Takes segments out of memory until so many bytes are in no range.
-    fn evict_until<S: SwapDevice>(&mut self, len: u32, swap: &mut S) -> Brought
+    pub(crate) fn evict_until<S: SwapDevice>(&mut self, len: u32, swap: &mut S) -> Brought
         requires device { all_of self.old.swap ≤ S.blocks swap.old }
         ensures keeps { (pic : Pictures) → AreClean self.old pic → KeepsAll (S.told swap.old) pic self.old (S.block swap.old) self.new (S.block swap.new) }
         ensures clean { (pic : Pictures) → AreClean self.old pic → AreClean self.new pic }
@@ -92,7 +92,7 @@ impl Store {
 
     // Lists the numbers of a segment and of the live ones of a list, and answers what they and the locked ones take of the
     // memory together.
-    fn list_keys(&mut self, key: u32, keep: &[SegId]) -> u64
+    pub(crate) fn list_keys(&mut self, key: u32, keep: &[SegId]) -> u64
         requires live { IsSome (slot_at self.old.entries key) }
         ensures shelf { self.new ≡ record self.old { keys = self.new.keys } }
         ensures need { result ≡ all_need self.old.entries self.new.keys }
@@ -213,7 +213,7 @@ impl Store {
     }
 
     // How many bytes the memory has.
-    fn memory_size(&self) -> u64
+    pub(crate) fn memory_size(&self) -> u64
         ensures { result ≡ self.now.places.size }
     {
         u64::from(self.places.size())

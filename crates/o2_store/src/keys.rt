@@ -53,6 +53,25 @@ fn is_live(entries: &Entries, id: SegId) -> bool
     }
 }
 
+/// Whether a number's segment is among the live ones of a list.
+pub(crate) fn names(keep: &[SegId], entries: &Entries, key: u32) -> bool
+    ensures { result ≡ named_in entries.now keep.now key }
+{
+    for id in keep {
+        if is_name_of(entries, *id, key) {
+            return true;
+        }
+    }
+    false
+}
+
+// Whether a name is that of a number's live segment.
+fn is_name_of(entries: &Entries, id: SegId, key: u32) -> bool
+    ensures { result ≡ (is_named entries.now id && key == id.key) }
+{
+    is_live(entries, id) && id.key == key
+}
+
 // Adds the number of a named segment, if it is live.
 fn add_named(keys: &mut Vec<u32>, entries: &Entries, id: SegId) -> u64
     requires room { length entries.now ≤ vec_capacity keys.old }

@@ -6,9 +6,11 @@ mod blocks;
 mod bringing;
 mod brought;
 mod evicting;
+mod fitting;
 mod keys;
 mod moving;
 mod showing;
+mod sizing;
 mod store;
 mod windows;
 

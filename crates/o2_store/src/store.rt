@@ -81,6 +81,7 @@ impl Store {
         ensures positive { (k at len : ℕ) → place_of self.now k ≡ Some (at, len) → 0 < len }
         ensures apart { (i j a l b m : ℕ) → i ≢ j → place_of self.now i ≡ Some (a, l) → place_of self.now j ≡ Some (b, m) → (a + l ≤ b) ⊎ (b + m ≤ a) }
         ensures free { (at len k b m : ℕ) → IsFree self.now.places.size self.now.places.ranges at len → place_of self.now k ≡ Some (b, m) → (at + len ≤ b) ⊎ (b + m ≤ at) }
+        ensures room { used self.now.places.ranges ≤ self.now.places.size }
         ensures sum { over (λ k. len_of (place_of self.now k)) (length self.now.entries) ≡ used self.now.places.ranges }
     {
         self.swap.none_twice();

@@ -1,0 +1,53 @@
+use Rattle.std.proofs.Common.{◌≡◌, ◌+◌, ◌≤◌, ap, ◌∙◌, is_some, arith}
+use Rattle.o2_place.specs.Layout.{used}
+use Rattle.o2_store.specs.Needs.{all_need}
+use Rattle.o2_store.specs.Shelf.{Shelf}
+use Rattle.o2_store.proofs.Collecting.{kept_has, need_holds, same_need}
+use Rattle.o2_store.proofs.Grown.{resizes_after}
+use Rattle.o2_store.proofs.store.Store.resize_among.Goals as goal
+
+pub returns-in-Here-clause-resized : goal.returns-in-Here-clause-resized
+returns-in-Here-clause-resized g c =
+    let S = g.S.SwapDevice in
+    let told = S.told c.args.swap.now in
+    let v = c.evict_until-answer in
+    let b = S.block v.new.swap in
+    λ pic a e. resizes_after told pic c.args.self.now v.new.self c.set_size.new.self (S.block c.args.swap.now) b b c.args.key c.args.size (v.ensures.keeps pic a) (c.set_size.ensures.resizes told pic b)
+
+pub returns-in-Here-clause-kept : goal.returns-in-Here-clause-kept
+returns-in-Here-clause-kept g c = λ k h i. c.set_size.ensures.presence k ∙ ap is_some (c.evict_until-answer.ensures.kept k (kept_has c.args.self.now.keys k h)) ∙ i
+
+pub returns-in_default : goal.returns-in_default
+returns-in_default g c =
+    let s = c.args.self.now in
+    let v = c.evict_until-answer in
+    let t = v.new.self in
+    let grow = c.saturating_sub-growth.ensures in
+    let was = c.rounded_size.ensures.value in
+    record {
+      resized = λ pic a e. absurd (c.in_default.not-Here e);
+      keeps = λ pic a n. v.ensures.keeps pic a;
+      clean = λ pic a. v.ensures.clean pic a;
+      device = v.ensures.device;
+      map = v.ensures.map;
+      out = λ k e. ap is_some (v.ensures.none k e);
+      kept = λ k h i. ap is_some (v.ensures.kept k (kept_has s.keys k h)) ∙ i;
+      locked = λ k l i. ap is_some (v.ensures.locked k l) ∙ i;
+      still = λ q k i. absurd
+          (let l : used s.places.ranges + c.saturating_sub-growth.result ≤ s.places.size = omega (arith, q, grow, was, c.law.ensures.room) in
+          let e = v.ensures.enough l in
+          let f : used t.places.ranges ≡ used s.places.ranges = ap (λ (x : Shelf). used x.places.ranges) e in
+          let z : t.places.size ≡ s.places.size = ap (λ (x : Shelf). x.places.size) e in
+          omega (arith, l, f, z, v.ensures.short c.in_default.not-Here));
+      full = λ e. (v.ensures.full e, omega (arith, v.ensures.short c.in_default.not-Here, grow, was, c.law-2.ensures.room));
+      faults = v.ensures.faults;
+      cause = v.ensures.cause;
+      never = (
+        λ e.
+            (let n = need_holds t t.keys c.law-2.ensures.shelf (v.ensures.no_room e) c.law-2.ensures.sum in
+            let m = same_need s t t.keys v.ensures.tables in
+            let k : all_need s.entries t.keys ≡ all_need s.entries s.keys = ap (all_need s.entries) v.ensures.keys in
+            omega (arith, n, m, k, grow, was, v.ensures.short c.in_default.not-Here, v.ensures.tables.size, c.law-2.ensures.room, c.requires.fits)),
+        v.ensures.never,
+      );
+    }
