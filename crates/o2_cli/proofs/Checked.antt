@@ -16,7 +16,7 @@ use Rattle.o2_open.specs.declared.fault.OpenFault.TheVariants as open_fault
 use Rattle.o2_open.specs.Loads.{Contents, Fails, loaded}
 use Rattle.o2_cli.specs.declared.status.Status.{Status}
 use Rattle.o2_cli.specs.declared.status.Status.TheVariants as status
-use Rattle.o2_cli.specs.Top.{Told, IsCheck, IsFirst, IsUntouched, Refuses, Shows}
+use Rattle.o2_cli.specs.Top.{Told, IsCheck, IsFirst, Refuses, Shows}
 use Rattle.o2_cli.specs.Statuses.{status_by}
 use Rattle.o2_cli.specs.Checks.{module_line, with_line, module_lines, ShowsLines, Checks, ChecksFile}
 use Rattle.o2_cli.proofs.Runs.{load_started}
