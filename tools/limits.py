@@ -6,8 +6,12 @@ usage: tools/limits.py KIND FILE [SIZE] [NUMBER]
 KIND is one of
   names      a library with SIZE exported names of three bytes, which refers to itself by 65,535 imports by name
   twice      SIZE names of one byte, as the resident and as the nonresident table at once
+  twin       the same in a program, of one segment
   ordinals   SIZE segments that share the records of 65,535 imports by ordinal, of a module with a name of 255 bytes
   shared     SIZE segments that share the records of 65,535 imports by name, over 8,000 names
+  astride    SIZE segments, the bytes and the records of each 16 bytes behind those of the one before it in the file, so that
+             they meet and no two have the same: some 59,000 imports by name each
+  program    a program of SIZE segments that share 65,535 records, each to the program itself
 NUMBER makes the module's name another one, so that up to 64 of them can be listed together.
 """
 import random
@@ -35,35 +39,34 @@ def table(own, names):
     return b"".join(rows) + b"\0"
 
 
-def build(own, names, imported, records, segments, twice=False):
-    """A library: one entry at ordinal 1, `segments` segments over the same bytes and the same records, and a reference to
-    the first imported name."""
+def build(own, names, imported, records, segments, twice=False, program=False, step=0):
+    """A library, or a program whose last segment is its stack: one entry at ordinal 1, `segments` segments with the same records,
+    or each with those `step` units of 16 bytes behind the one before it, and a reference to the first imported name."""
     at = 64
     parts = b""
     places = {}
     for name, content in (
-        ("segments", b""),
+        ("segments", b"\0" * (8 * segments)),
         ("references", struct.pack("<H", 0)),
         ("entries", bytes([1, 1, 1, 0, 0, 0])),
+        ("imported", b"".join(counted(text) for text in imported)),
+        ("resident", table(own, names)),
     ):
         places[name] = at + len(parts)
-        parts += b"\0" * (8 * segments) if name == "segments" else content
-    places["imported"] = at + len(parts)
-    texts = b"".join(counted(text) for text in imported)
-    resident = table(own, names)
-    places["resident"] = places["imported"] + len(texts)
-    parts += texts + resident
+        parts += content
     end = NE + at + len(parts)
-    shift = 9
-    start = (NE + at + len(parts) + 511) >> shift
-    row = struct.pack("<HHHH", start, 0, 0x101, 0)
-    parts = row * segments + parts[8 * segments:]
+    shift = 4 if step else 9
+    start = (end + (1 << shift) - 1) >> shift
+    data = 0x100 if program else 0x101
+    rows = [struct.pack("<HHHH", start + step * k, 0, 0x101 if k == segments - 1 else data, 0) for k in range(segments)]
     header = bytearray(64)
     header[0:2] = b"NE"
     words = {
-        4: places["entries"], 6: 6, 12: 0x8000, 28: segments, 30: 1, 34: places["segments"], 38: places["resident"],
-        40: places["references"], 42: places["imported"], 50: shift,
+        4: places["entries"], 6: 6, 12: 0 if program else 0x8000, 28: segments, 30: 1, 34: places["segments"],
+        38: places["resident"], 40: places["references"], 42: places["imported"], 50: shift,
     }
+    if program:
+        words.update({22: 1, 26: segments, 30: 0})
     for offset, word in words.items():
         struct.pack_into("<H", header, offset, word)
     header[54] = 1
@@ -73,9 +76,15 @@ def build(own, names, imported, records, segments, twice=False):
     mz = bytearray(64)
     mz[0:2] = b"MZ"
     struct.pack_into("<I", mz, 60, NE)
-    file = bytes(mz) + bytes(header) + parts
-    file += b"\0" * ((start << shift) - end)
-    return file + b"\x90" * 65536 + struct.pack("<H", len(records)) + b"".join(records)
+    file = bytearray(bytes(mz) + bytes(header) + b"".join(rows) + parts[8 * segments:])
+    file += b"\0" * ((start << shift) - end) + b"\x90" * 65536
+    count = struct.pack("<H", len(records) - 2 * step * (segments - 1))
+    file += count + b"".join(records)
+    # where segments meet, the count of each lies in a record of those before it, as the name that it imports
+    for k in range(1, segments if step else 0):
+        at = (start << shift) + 16 * step * k + 65536
+        file[at:at + 2] = count
+    return bytes(file)
 
 
 def record(kind, place, second):
@@ -92,19 +101,26 @@ def make(kind, size, number):
         starts = [1 + len(own) + 4 * k for k in range(len(asked))]
         records = [record(2, place, starts[place % len(starts)]) for place in range(65535)]
         return build(own, names, [own] + asked, records, 1)
-    if kind == "twice":
-        return build(own, [bytes([BYTES[n % len(BYTES)]]) for n in range(size)], [own], [], 1, twice=True)
+    if kind in ("twice", "twin"):
+        names = [bytes([BYTES[n % len(BYTES)]]) for n in range(size)]
+        return build(own, names, [own], [], 1, twice=True, program=kind == "twin")
+    if kind == "program":
+        return build(own, [], [own], [struct.pack("<BBHHH", 0, 0, place, 1, 0) for place in range(65535)], size, program=True)
     if kind == "ordinals":
         own = b"%02d" % number + b"L" * 253
         return build(own, [], [own], [record(1, place, 1) for place in range(65535)], size)
-    names = [three(n) for n in range(8000)]
+    names = [three(n) for n in range(14_800 if kind == "astride" else 8000)]
     random.Random(24).shuffle(names)
     starts = [1 + len(own) + 4 * k for k in range(len(names))]
+    if kind == "astride":
+        count = starts[-1]
+        records = [record(2, n % 65536, starts[n % len(starts)]) for n in range(count + 2 * (size - 1))]
+        return build(own, names, [own] + names, records, size, step=1)
     records = [record(2, place, starts[place % len(starts)]) for place in range(65535)]
     return build(own, names, [own] + names, records, size)
 
 
-DEFAULT = {"names": 590_000, "twice": 1_000_000, "ordinals": 254, "shared": 254}
+DEFAULT = {"names": 590_000, "twice": 1_000_000, "twin": 1_000_000, "ordinals": 254, "shared": 254, "astride": 254, "program": 254}
 
 
 def main():
