@@ -6,3 +6,5 @@ pub mod Indexes
 pub mod Consistent
 pub mod ServiceSteps
 pub mod Leading
+pub mod Known
+pub mod Sharing

@@ -6,3 +6,4 @@ pub mod Reached
 pub mod Marks
 pub mod Outcome
 pub mod Linking
+pub mod Memo

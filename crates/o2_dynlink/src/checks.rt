@@ -63,10 +63,10 @@ fn module_targets(
     scope: &Scope,
     base: u16,
     module: &Module,
-) -> Result<Vec<Vec<(u16, u16)>>, Fail<ModuleFault>>
+) -> Result<Resolved, Fail<ModuleFault>>
     requires few { length scope.now.modules.now ≤ 64 }
     requires same { length scope.now.bases.now ≡ length scope.now.modules.now }
-    ensures { Gives (λ v. map (λ t. t.items) v.items) result (module_targets scope.now.modules.now scope.now.bases.now scope.now.ordinals.now base «module».now) }
+    ensures { Gives (λ r. r) result (module_targets scope.now.modules.now scope.now.bases.now scope.now.ordinals.now base «module».now) }
 {
     if let Some(name) = lost_reference(scope.modules, module) {
         return no_reference(alloc, name);
@@ -80,11 +80,11 @@ fn targets_at(
     scope: &Scope,
     place: u16,
     module: &Module,
-) -> Result<Vec<Vec<(u16, u16)>>, Fail<LinkFault>>
+) -> Result<Resolved, Fail<LinkFault>>
     requires few { length scope.now.modules.now ≤ 64 }
     requires same { length scope.now.bases.now ≡ length scope.now.modules.now }
     requires exists { Exists scope.now.modules.now place }
-    ensures { Gives (λ v. map (λ t. t.items) v.items) result (at_place place (module_targets scope.now.modules.now scope.now.bases.now scope.now.ordinals.now (base_at scope.now.bases.now place) «module».now)) }
+    ensures { Gives (λ r. r) result (at_place place (module_targets scope.now.modules.now scope.now.bases.now scope.now.ordinals.now (base_at scope.now.bases.now place) «module».now)) }
 {
     match module_targets(alloc, scope, base_at(scope.bases, place), module) {
         Ok(targets) => Ok(targets),
@@ -109,7 +109,7 @@ fn add_module(
 {
     let place = found.len() as u16 + 1;
     let targets = targets_at(alloc, scope, place, module)?;
-    found.push(Resolved::new(targets))?;
+    found.push(targets)?;
     Ok(())
 }
 

@@ -1,5 +1,5 @@
 // Where the records of a module lead: within it, to a service, or to what a library exports.
-ghost use Rattle.std.specs.Prelude.{◌≡◌, ◌≤◌, ◌<◌, ℕ, length, map, option_and_then, option_map, slice_get, Some};
+ghost use Rattle.std.specs.Prelude.{◌≡◌, ◌+◌, ◌≤◌, ◌<◌, ℕ, length, map, option_and_then, option_map, slice_get, IfSome, Some};
 ghost use Rattle.o2_ne.specs.Steps.{Gives, over};
 ghost use Rattle.o2_ne.specs.EntryTable.{target_of};
 ghost use Rattle.o2_ne.specs.NameTable.{ordinal_of};
@@ -8,15 +8,17 @@ ghost use Rattle.o2_image.specs.ImageList.{Exists};
 ghost use Rattle.o2_image.specs.Images.{Target};
 ghost use Rattle.o2_dynlink.specs.Imports.{each, exported, exported_as, gather, import_name, import_ordinal, import_text, imported, internal, target_in, targets_of};
 ghost use Rattle.o2_dynlink.specs.Leads.{lead_of};
+ghost use Rattle.o2_dynlink.specs.Memo.{AreFound, IsMemo};
 ghost use Rattle.o2_dynlink.specs.Selectors.{base_at};
 
 use crate::leads::{Lead, lead_at, leads_of};
+use crate::memo::{known, memo_for, note};
 use crate::refusals::{no_module, no_name, no_ordinal};
 use crate::selectors::{base_at, point};
 use crate::services::{import_service, import_service_called};
 use o2_base::{Fail, ModuleFault};
 use o2_conf::Ordinals;
-use o2_image::Module;
+use o2_image::{Module, Resolved, SharedTargets};
 use o2_ne_segs::Reloc;
 use std::alloc::Global;
 
@@ -153,6 +155,35 @@ fn import_text(
     }
 }
 
+// The same, where each name of a library is looked up once.
+#[tactic(auto, using(crate::proofs::Known::noted))]
+fn import_known(
+    alloc: Global,
+    scope: &Scope,
+    module: &Module,
+    lead: Lead,
+    name: &[u8],
+    at: u16,
+    memo: &mut Vec<Option<(u16, u16)>>,
+) -> Result<(u16, u16), Fail<ModuleFault>>
+    requires lead { lead ≡ lead_of scope.now.modules.now name.now }
+    requires few { length scope.now.modules.now ≤ 64 }
+    requires same { length scope.now.bases.now ≡ length scope.now.modules.now }
+    requires memo { IsMemo scope.now.modules.now scope.now.bases.now «module».now memo.old.items }
+    ensures exact { Gives (λ t. t) result (import_text scope.now.modules.now scope.now.bases.now name.now (imported_name «module».now at)) }
+    ensures memo { IsMemo scope.now.modules.now scope.now.bases.now «module».now memo.new.items }
+{
+    let Lead::Library(place) = lead else {
+        return import_text(alloc, scope, module, lead, name, at);
+    };
+    if let Some(target) = known(memo.as_slice(), place, at) {
+        return Ok(target);
+    }
+    let target = import_text(alloc, scope, module, lead, name, at)?;
+    note(memo, place, at, target);
+    Ok(target)
+}
+
 // An import of a reference.
 fn imported(
     alloc: Global,
@@ -160,11 +191,14 @@ fn imported(
     module: &Module,
     leads: &[Lead],
     reloc: &Reloc,
+    memo: &mut Vec<Option<(u16, u16)>>,
 ) -> Result<(u16, u16), Fail<ModuleFault>>
     requires leads { leads.now ≡ map (lead_of scope.now.modules.now) «module».now.references }
     requires few { length scope.now.modules.now ≤ 64 }
     requires same { length scope.now.bases.now ≡ length scope.now.modules.now }
-    ensures { Gives (λ t. t) result (imported scope.now.modules.now scope.now.bases.now scope.now.ordinals.now «module».now reloc.now (nth «module».now.references reloc.now.first)) }
+    requires memo { IsMemo scope.now.modules.now scope.now.bases.now «module».now memo.old.items }
+    ensures exact { Gives (λ t. t) result (imported scope.now.modules.now scope.now.bases.now scope.now.ordinals.now «module».now reloc.now (nth «module».now.references reloc.now.first)) }
+    ensures memo { IsMemo scope.now.modules.now scope.now.bases.now «module».now memo.new.items }
 {
     let Some(name) = module.reference(reloc.first) else {
         return Ok((0, 0));
@@ -175,7 +209,7 @@ fn imported(
     if reloc.flags & 3 == 1 {
         return import_ordinal(alloc, scope, lead, name, reloc.second);
     }
-    import_text(alloc, scope, module, lead, name, reloc.second)
+    import_known(alloc, scope, module, lead, name, reloc.second, memo)
 }
 
 // Where a record of a module with this base leads.
@@ -186,16 +220,19 @@ fn target_in(
     module: &Module,
     leads: &[Lead],
     reloc: &Reloc,
+    memo: &mut Vec<Option<(u16, u16)>>,
 ) -> Result<(u16, u16), Fail<ModuleFault>>
     requires leads { leads.now ≡ map (lead_of scope.now.modules.now) «module».now.references }
     requires few { length scope.now.modules.now ≤ 64 }
     requires same { length scope.now.bases.now ≡ length scope.now.modules.now }
-    ensures { Gives (λ t. t) result (target_in scope.now.modules.now scope.now.bases.now scope.now.ordinals.now base «module».now reloc.now) }
+    requires memo { IsMemo scope.now.modules.now scope.now.bases.now «module».now memo.old.items }
+    ensures exact { Gives (λ t. t) result (target_in scope.now.modules.now scope.now.bases.now scope.now.ordinals.now base «module».now reloc.now) }
+    ensures memo { IsMemo scope.now.modules.now scope.now.bases.now «module».now memo.new.items }
 {
     match reloc.flags & 3 {
         0 => Ok(internal(base, module, reloc)),
         3 => Ok((0, 0)),
-        _ => imported(alloc, scope, module, leads, reloc),
+        _ => imported(alloc, scope, module, leads, reloc, memo),
     }
 }
 
@@ -207,14 +244,17 @@ fn add_target(
     module: &Module,
     leads: &[Lead],
     reloc: &Reloc,
+    memo: &mut Vec<Option<(u16, u16)>>,
     found: &mut Vec<(u16, u16)>,
 ) -> Result<(), Fail<ModuleFault>>
     requires leads { leads.now ≡ map (lead_of scope.now.modules.now) «module».now.references }
     requires few { length scope.now.modules.now ≤ 64 }
     requires same { length scope.now.bases.now ≡ length scope.now.modules.now }
-    ensures { Gives (λ _. found.new.items) result (gather (target_in scope.now.modules.now scope.now.bases.now scope.now.ordinals.now base «module».now) reloc.now found.old.items) }
+    requires memo { IsMemo scope.now.modules.now scope.now.bases.now «module».now memo.old.items }
+    ensures exact { Gives (λ _. found.new.items) result (gather (target_in scope.now.modules.now scope.now.bases.now scope.now.ordinals.now base «module».now) reloc.now found.old.items) }
+    ensures memo { IsMemo scope.now.modules.now scope.now.bases.now «module».now memo.new.items }
 {
-    let target = target_in(alloc, scope, base, module, leads, reloc)?;
+    let target = target_in(alloc, scope, base, module, leads, reloc, memo)?;
     found.push(target)?;
     Ok(())
 }
@@ -238,21 +278,38 @@ fn targets_in(
     module: &Module,
     leads: &[Lead],
     seg: u16,
+    memo: &mut Vec<Option<(u16, u16)>>,
 ) -> Result<Vec<(u16, u16)>, Fail<ModuleFault>>
     requires leads { leads.now ≡ map (lead_of scope.now.modules.now) «module».now.references }
     requires few { length scope.now.modules.now ≤ 64 }
     requires same { length scope.now.bases.now ≡ length scope.now.modules.now }
-    ensures { Gives (λ v. v.items) result (each (target_in scope.now.modules.now scope.now.bases.now scope.now.ordinals.now base «module».now) (nth_list «module».now.relocs seg)) }
+    requires memo { IsMemo scope.now.modules.now scope.now.bases.now «module».now memo.old.items }
+    ensures exact { Gives (λ v. v.items) result (each (target_in scope.now.modules.now scope.now.bases.now scope.now.ordinals.now base «module».now) (nth_list «module».now.relocs seg)) }
+    ensures memo { IsMemo scope.now.modules.now scope.now.bases.now «module».now memo.new.items }
 {
     let mut found = Vec::new(alloc);
     for k in 0..module.segment_relocs(seg) {
         let reloc = record_at(module, seg, k);
-        add_target(alloc, scope, base, module, leads, &reloc, &mut found)?;
+        add_target(alloc, scope, base, module, leads, &reloc, memo, &mut found)?;
     }
     Ok(found)
 }
 
-// Those of one segment more.
+// The first segment before one, by its number from 0, that shares its records.
+fn earlier_with(module: &Module, seg: u16) -> Option<u16>
+    ensures within { IfSome result (λ j. j + 1 < seg) }
+    ensures same { IfSome result (λ j. nth_list «module».now.relocs (j + 1) ≡ nth_list «module».now.relocs seg) }
+{
+    for j in 1..seg {
+        if module.share_records(j, seg) {
+            return Some(j - 1);
+        }
+    }
+    None
+}
+
+// Those of one segment more, which are looked up once where segments share their records.
+#[tactic(auto, using(crate::proofs::Sharing::shared))]
 fn add_targets(
     alloc: Global,
     scope: &Scope,
@@ -260,15 +317,24 @@ fn add_targets(
     module: &Module,
     leads: &[Lead],
     seg: u16,
-    found: &mut Vec<Vec<(u16, u16)>>,
+    memo: &mut Vec<Option<(u16, u16)>>,
+    found: &mut SharedTargets,
 ) -> Result<(), Fail<ModuleFault>>
     requires leads { leads.now ≡ map (lead_of scope.now.modules.now) «module».now.references }
     requires few { length scope.now.modules.now ≤ 64 }
     requires same { length scope.now.bases.now ≡ length scope.now.modules.now }
-    ensures { Gives (λ _. map (λ v. v.items) found.new.items) result (gather (each (target_in scope.now.modules.now scope.now.bases.now scope.now.ordinals.now base «module».now)) (nth_list «module».now.relocs seg) (map (λ v. v.items) found.old.items)) }
+    requires memo { IsMemo scope.now.modules.now scope.now.bases.now «module».now memo.old.items }
+    requires at { seg ≡ length found.old + 1 }
+    requires are { AreFound (each (target_in scope.now.modules.now scope.now.bases.now scope.now.ordinals.now base «module».now)) «module».now.relocs found.old }
+    ensures exact { Gives (λ _. found.new) result (gather (each (target_in scope.now.modules.now scope.now.bases.now scope.now.ordinals.now base «module».now)) (nth_list «module».now.relocs seg) found.old) }
+    ensures memo { IsMemo scope.now.modules.now scope.now.bases.now «module».now memo.new.items }
 {
-    let targets = targets_in(alloc, scope, base, module, leads, seg)?;
-    found.push(targets)?;
+    if let Some(earlier) = earlier_with(module, seg) {
+        found.add_same(earlier)?;
+        return Ok(());
+    }
+    let targets = targets_in(alloc, scope, base, module, leads, seg, memo)?;
+    found.add(targets)?;
     Ok(())
 }
 
@@ -278,14 +344,15 @@ pub(crate) fn targets_of(
     scope: &Scope,
     base: u16,
     module: &Module,
-) -> Result<Vec<Vec<(u16, u16)>>, Fail<ModuleFault>>
+) -> Result<Resolved, Fail<ModuleFault>>
     requires few { length scope.now.modules.now ≤ 64 }
     requires same { length scope.now.bases.now ≡ length scope.now.modules.now }
-    ensures { Gives (λ v. map (λ t. t.items) v.items) result (targets_of scope.now.modules.now scope.now.bases.now scope.now.ordinals.now base «module».now) }
+    ensures { Gives (λ r. r) result (targets_of scope.now.modules.now scope.now.bases.now scope.now.ordinals.now base «module».now) }
 {
     let leads = leads_of(alloc, scope.modules, module)?;
+    let mut memo = memo_for(alloc, scope.modules, module)?;
     module.is_runnable();
-    let mut found = Vec::new(alloc);
+    let mut found = SharedTargets::new(alloc);
     for k in 0..module.segment_count() {
         add_targets(
             alloc,
@@ -294,8 +361,9 @@ pub(crate) fn targets_of(
             module,
             leads.as_slice(),
             k + 1,
+            &mut memo,
             &mut found,
         )?;
     }
-    Ok(found)
+    Ok(found.finish())
 }

@@ -8,6 +8,7 @@ mod imports;
 mod leads;
 mod linked;
 mod listed;
+mod memo;
 mod reached;
 mod refusals;
 mod selectors;

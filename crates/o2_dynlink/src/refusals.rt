@@ -7,6 +7,7 @@ ghost use Rattle.o2_dynlink.specs.Linking.{refusal};
 
 use crate::fault::LinkFault;
 use o2_base::{Bytes, Fail, ModuleFault};
+use o2_image::Resolved;
 use std::alloc::Global;
 
 // The module has no entry of this ordinal.
@@ -43,11 +44,8 @@ pub(crate) fn no_module(alloc: Global, name: &[u8]) -> Result<(u16, u16), Fail<M
 }
 
 // A reference is to no listed module.
-pub(crate) fn no_reference(
-    alloc: Global,
-    name: &[u8],
-) -> Result<Vec<Vec<(u16, u16)>>, Fail<ModuleFault>>
-    ensures { Gives {Y = List (List Target)} (λ v. map (λ t. t.items) v.items) result (Err (fault.NoModule name.now)) }
+pub(crate) fn no_reference(alloc: Global, name: &[u8]) -> Result<Resolved, Fail<ModuleFault>>
+    ensures { Gives {Y = List (List Target)} (λ r. r) result (Err (fault.NoModule name.now)) }
 {
     let name = Bytes::from_slice(alloc, name)?;
     Err(Fail::Bad(ModuleFault::NoModule(name)))

@@ -1,5 +1,5 @@
 -- Items by their numbers from 1.
-use Rattle.std.proofs.Common.{◌≡◌, ◌≢◌, ℕ, zero, suc, ◌-◌, ◌<◌, ◌≤◌, ◌==◌, List, [], ◌∷◌, Option, Some, None, Bool, true, false, length, map, refl, sym, ap, ◌∙◌, arith}
+use Rattle.std.proofs.Common.{◌≡◌, ◌≢◌, ℕ, zero, suc, ◌-◌, ◌<◌, ◌≤◌, ◌==◌, List, [], ◌∷◌, Option, Some, None, Bool, true, false, get_or, length, map, refl, sym, ap, ◌∙◌, arith}
 use Rattle.std.specs.Prelude.{option_map, unwrap_or}
 use Rattle.std.specs.List.{slice_get}
 use Rattle.std.proofs.lemmas.Bool.{ne_eqb}
@@ -40,6 +40,18 @@ module _ {X : Type 0} where
       go : (b : Bool) → (n == 0) ≡ b → length (nth_list xss n) ≡ unwrap_or (nth (map length xss) n) 0
       go true e = rw e refl
       go false e = rw (e, slice_get-map length xss (n - 1)) (length_of (slice_get xss (n - 1)))
+
+-- a list by its number from 1
+module _ {X : Type 0} where
+  list_or_get : (xss : List (List X)) (k : ℕ) → list_or_none (slice_get xss k) ≡ get_or xss k []
+  list_or_get [] k = refl
+  list_or_get (xs ∷ xss) zero = refl
+  list_or_get (xs ∷ xss) (suc k) = list_or_get xss k
+
+  pub at_number : (xss : List (List X)) (n : ℕ) → n ≢ 0 → nth_list xss n ≡ get_or xss (n - 1) []
+  at_number xss n some =
+      let e : (n == 0) ≡ false = ne_eqb n 0 some in
+      rw e (list_or_get xss (n - 1))
 
 -- lists of the same lengths have lists of the same length at each number
 pub same_lengths : {A B : Type 0} (xss : List (List A)) (yss : List (List B)) (n : ℕ) → map length xss ≡ map length yss → length (nth_list xss n) ≡ length (nth_list yss n)

@@ -8,3 +8,5 @@ pub mod FillSteps
 pub mod TotalSteps
 pub mod Shapes
 pub mod Runnable
+pub mod Uniform
+pub mod PickedLists

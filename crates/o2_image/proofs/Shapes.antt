@@ -37,40 +37,39 @@ falls : (b c : Bool) → c ≡ false → b && c ≡ false
 falls true c h = h
 falls false c h = refl
 
-module _ {P Q A B : Type 0} where
-  pub other_lengths : (f : P → List A) (g : Q → List B) (xs : List P) (ys : List Q) → length xs ≢ length ys → same_shape (map f xs) (map g ys) ≡ false
-  other_lengths f g [] [] ne = absurd (ne refl)
-  other_lengths f g [] (y ∷ ys) ne = refl
-  other_lengths f g (x ∷ xs) [] ne = refl
-  other_lengths f g (x ∷ xs) (y ∷ ys) ne =
-      falls (length (f x) == length (g y)) (same_shape (map f xs) (map g ys)) (other_lengths f g xs ys (λ e. ne (omega arith)))
+module _ {Q A B : Type 0} where
+  pub other_lengths : (g : Q → List B) (xss : List (List A)) (ys : List Q) → length xss ≢ length ys → same_shape xss (map g ys) ≡ false
+  other_lengths g [] [] ne = absurd (ne refl)
+  other_lengths g [] (y ∷ ys) ne = refl
+  other_lengths g (xs ∷ xss) [] ne = refl
+  other_lengths g (xs ∷ xss) (y ∷ ys) ne = falls (length xs == length (g y)) (same_shape xss (map g ys)) (other_lengths g xss ys (λ e. ne (omega arith)))
 
-  next : (f : P → List A) (g : Q → List B) (xs : List P) (ys : List Q) (i : ℕ) (x : P) (y : Q) → i < length xs → i < length ys
-      → same_shape (map f (drop i xs)) (map g (drop i ys))
-      ≡ ((length (f (get_or xs i x)) == length (g (get_or ys i y))) && same_shape (map f (drop (i + 1) xs)) (map g (drop (i + 1) ys)))
-  next f g xs ys i x y in_xs in_ys = rw (drop-cons xs i x in_xs, drop-cons ys i y in_ys, add-one) refl
+  next : (g : Q → List B) (xss : List (List A)) (ys : List Q) (i : ℕ) (y : Q) → i < length xss → i < length ys
+      → same_shape (drop i xss) (map g (drop i ys))
+      ≡ ((length (get_or xss i []) == length (g (get_or ys i y))) && same_shape (drop (i + 1) xss) (map g (drop (i + 1) ys)))
+  next g xss ys i y in_xs in_ys = rw (drop-cons xss i [] in_xs, drop-cons ys i y in_ys, add-one) refl
 
-  pub goes_on : (f : P → List A) (g : Q → List B) (xs : List P) (ys : List Q) (i : ℕ) (x : P) (y : Q) (total : Bool) → i < length xs → i < length ys
-      → length (f (get_or xs i x)) ≡ length (g (get_or ys i y))
-      → same_shape (map f (drop i xs)) (map g (drop i ys)) ≡ total → same_shape (map f (drop (i + 1) xs)) (map g (drop (i + 1) ys)) ≡ total
-  goes_on f g xs ys i x y total in_xs in_ys same h =
-      let one = next f g xs ys i x y in_xs in_ys in
-      let is : (length (f (get_or xs i x)) == length (g (get_or ys i y))) ≡ true = eq-eqb _ _ same in
+  pub goes_on : (g : Q → List B) (xss : List (List A)) (ys : List Q) (i : ℕ) (y : Q) (total : Bool) → i < length xss → i < length ys
+      → length (get_or xss i []) ≡ length (g (get_or ys i y))
+      → same_shape (drop i xss) (map g (drop i ys)) ≡ total → same_shape (drop (i + 1) xss) (map g (drop (i + 1) ys)) ≡ total
+  goes_on g xss ys i y total in_xs in_ys same h =
+      let one = next g xss ys i y in_xs in_ys in
+      let is : (length (get_or xss i []) == length (g (get_or ys i y))) ≡ true = eq-eqb _ _ same in
       let two = rw is at one in
       sym two ∙ h
 
-  pub fails : (f : P → List A) (g : Q → List B) (xs : List P) (ys : List Q) (i : ℕ) (x : P) (y : Q) (total : Bool) → i < length xs → i < length ys
-      → length (f (get_or xs i x)) ≢ length (g (get_or ys i y))
-      → same_shape (map f (drop i xs)) (map g (drop i ys)) ≡ total → false ≡ total
-  fails f g xs ys i x y total in_xs in_ys other h =
-      let one = next f g xs ys i x y in_xs in_ys in
-      let is : (length (f (get_or xs i x)) == length (g (get_or ys i y))) ≡ false = ne_eqb _ _ other in
+  pub fails : (g : Q → List B) (xss : List (List A)) (ys : List Q) (i : ℕ) (y : Q) (total : Bool) → i < length xss → i < length ys
+      → length (get_or xss i []) ≢ length (g (get_or ys i y))
+      → same_shape (drop i xss) (map g (drop i ys)) ≡ total → false ≡ total
+  fails g xss ys i y total in_xs in_ys other h =
+      let one = next g xss ys i y in_xs in_ys in
+      let is : (length (get_or xss i []) == length (g (get_or ys i y))) ≡ false = ne_eqb _ _ other in
       let two = rw is at one in
       sym two ∙ h
 
-  pub is_done : (f : P → List A) (g : Q → List B) (xs : List P) (ys : List Q) (i : ℕ) (total : Bool) → length xs ≤ i → length ys ≤ i
-      → same_shape (map f (drop i xs)) (map g (drop i ys)) ≡ total → true ≡ total
-  is_done f g xs ys i total past_xs past_ys h = rw (drop_all i xs past_xs, drop_all i ys past_ys) at h
+  pub is_done : (g : Q → List B) (xss : List (List A)) (ys : List Q) (i : ℕ) (total : Bool) → length xss ≤ i → length ys ≤ i
+      → same_shape (drop i xss) (map g (drop i ys)) ≡ total → true ≡ total
+  is_done g xss ys i total past_xs past_ys h = rw (drop_all i xss past_xs, drop_all i ys past_ys) at h
 
 pub relocs_length : (file : List ℕ) (s : Segment) → length (relocs_in file s) ≡ reloc_count file s
 relocs_length file s = length-tabulate (λ k. reloc_at file (end_of s + 2 + 8 * k)) 0 (reloc_count file s)

@@ -10,3 +10,4 @@ pub mod Getters
 pub mod Images
 pub mod ImageList
 pub mod ChainViews
+pub mod Alike

@@ -1,7 +1,8 @@
 // The targets of records, and the images of a run.
-ghost use Rattle.std.specs.Prelude.{◌≡◌, ◌≤◌, ◌<◌, ◌↔◌, ℕ, get_or, length, map, option_map, slice_get, IsTrue, Some};
+ghost use Rattle.std.specs.Prelude.{[], ◌≡◌, ◌≤◌, ◌<◌, ◌↔◌, ℕ, get_or, length, map, option_map, slice_get, IsTrue, Some};
 ghost use Rattle.o2_ne_segs.specs.declared.segment.Segment.{Segment};
 ghost use Rattle.o2_ne_segs.specs.Records.{relocs_in};
+ghost use Rattle.o2_image.specs.Alike.{lists_at};
 ghost use Rattle.o2_image.specs.Getters.{nth, nth_list};
 ghost use Rattle.o2_image.specs.ImageList.{AllBelong, Belongs, Exists, HasImage, image_front, same_shape};
 ghost use Rattle.o2_image.specs.Images.{segment_image};
@@ -17,15 +18,38 @@ use std::marker::Model;
 /// Where each record of a module leads: a selector and an offset, by segment from 1 and number from 0.
 #[derive(Drop)]
 pub struct Resolved {
-    targets: Vec<Vec<(u16, u16)>>,
+    lists: Vec<Vec<(u16, u16)>>,
+    // which of the lists is that of a segment, where segments share them
+    which: Option<Vec<usize>>,
 }
 
 impl Model for Resolved {
-    ghost use Rattle.std.specs.Prelude.{List, ℕ, map};
+    ghost use Rattle.std.specs.Prelude.{List, ℕ, map, option_map};
+    ghost use Rattle.o2_image.specs.Alike.{picked};
 
     ghost Value = { List (List (ℕ × ℕ)) };
 
-    ghost view = { λ r. map (λ v. v.items) r.targets.items };
+    ghost view = { λ r. picked (map (λ v. v.items) r.lists.items) (option_map (λ v. v.items) r.which) };
+}
+
+// The list at an index, of which there is none past the last.
+fn list_at(lists: &[Vec<(u16, u16)>], i: usize) -> &[(u16, u16)]
+    ensures { result.now ≡ get_or (map (λ v. v.items) lists.now) i [] }
+{
+    match lists.get(i) {
+        Some(list) => list.as_slice(),
+        None => &[],
+    }
+}
+
+// The list at an index of those that are picked.
+fn picked_at<'a>(lists: &'a [Vec<(u16, u16)>], which: &[usize], i: usize) -> &'a [(u16, u16)]
+    ensures { result.now ≡ get_or (lists_at (map (λ v. v.items) lists.now) which.now) i [] }
+{
+    match which.get(i) {
+        Some(index) => list_at(lists, *index),
+        None => &[],
+    }
 }
 
 impl Resolved {
@@ -33,7 +57,40 @@ impl Resolved {
     pub fn new(targets: Vec<Vec<(u16, u16)>>) -> Resolved
         ensures { result ≡ map (λ v. v.items) targets.items }
     {
-        Resolved { targets }
+        Resolved {
+            lists: targets,
+            which: None,
+        }
+    }
+
+    // Those of the lists that the segments have.
+    pub(crate) fn picked(lists: Vec<Vec<(u16, u16)>>, which: Vec<usize>) -> Resolved
+        ensures { result ≡ lists_at (map (λ v. v.items) lists.items) which.items }
+    {
+        Resolved {
+            lists,
+            which: Some(which),
+        }
+    }
+
+    // How many segments have a list.
+    fn len(&self) -> usize
+        ensures { result ≡ length self.now }
+    {
+        match &self.which {
+            Some(which) => which.len(),
+            None => self.lists.len(),
+        }
+    }
+
+    // The list of a segment by its number from 0.
+    fn at(&self, i: usize) -> &[(u16, u16)]
+        ensures { result.now ≡ get_or self.now i [] }
+    {
+        match &self.which {
+            Some(which) => picked_at(self.lists.as_slice(), which.as_slice(), i),
+            None => list_at(self.lists.as_slice(), i),
+        }
     }
 
     // The targets of a segment, of which there are none where there is no such segment.
@@ -43,10 +100,7 @@ impl Resolved {
         if seg == 0 {
             return &[];
         }
-        match self.targets.get(usize::from(seg) - 1) {
-            Some(targets) => targets.as_slice(),
-            None => &[],
-        }
+        self.at(usize::from(seg) - 1)
     }
 
     /// The target of a record. None exactly where there is none of this segment and number.
@@ -58,16 +112,16 @@ impl Resolved {
 }
 
 // Whether each segment from one on has as many targets as records, and there is no other list.
-fn are_targets(file: &[u8], segments: &[Segment], targets: &[Vec<(u16, u16)>]) -> bool
+fn are_targets(file: &[u8], segments: &[Segment], targets: &Resolved) -> bool
     requires { (k : ℕ) (d : Segment) → k < length segments.now → HasSegment file.now (get_or segments.now k d) }
-    ensures { result ≡ same_shape (map (λ v. v.items) targets.now) (map (relocs_in file.now) segments.now) }
+    ensures { result ≡ same_shape targets.now (map (relocs_in file.now) segments.now) }
 {
     if segments.len() != targets.len() {
         return false;
     }
     for (i, segment) in segments.iter().enumerate() {
         let count = usize::from(reloc_count(file, segment));
-        if targets[i].len() != count {
+        if targets.at(i).len() != count {
             return false;
         }
     }
@@ -79,11 +133,7 @@ impl Module {
     pub fn is_resolved_by(&self, r: &Resolved) -> bool
         ensures { IsTrue result ↔ Belongs self.now r.now }
     {
-        are_targets(
-            self.file.as_slice(),
-            self.segments.as_slice(),
-            r.targets.as_slice(),
-        )
+        are_targets(self.file.as_slice(), self.segments.as_slice(), r)
     }
 
     /// Writes the first bytes of a segment's image into a slice, as many as it has, with zeros behind the image's end.

@@ -8,11 +8,14 @@ mod images;
 mod module;
 mod records;
 mod references;
+mod same_bytes;
+mod sharing;
 mod targets;
 
 pub use images::{Images, Resolved};
 pub use module::Module;
 pub use o2_base::ModuleFault;
+pub use sharing::SharedTargets;
 
 #[cfg(test)]
 mod tests;

@@ -3,12 +3,14 @@ ghost use Rattle.std.specs.Prelude.{◌≡◌, ◌+◌, ◌*◌, ◌≤◌, ◌<
 ghost use Rattle.o2_ne.specs.Steps.{Gives, over};
 ghost use Rattle.o2_ne_segs.specs.declared.segment.Segment.{Segment};
 ghost use Rattle.o2_ne_segs.specs.Records.{counted, end_of, reloc_at, reloc_count, relocs_at, relocs_in};
+ghost use Rattle.o2_image.specs.Alike.{Passes};
 ghost use Rattle.o2_image.specs.Faults.{StepsTo, under_seg};
 ghost use Rattle.o2_image.specs.Records.{bytes_of, marks_after, record_step, segment_step};
 ghost use Rattle.o2_image.specs.Whole.{HasPlaces, HasSegment};
 
 use crate::chain::{follow, place};
 use crate::faults::of_seg;
+use crate::same_bytes::is_any_alike;
 use crate::targets::{has_target, is_additive, is_fixup, is_source, width_of};
 use o2_base::{Fail, ModuleFault, SegFault};
 use o2_ne::{Entries, Head, u16_at};
@@ -131,7 +133,30 @@ fn check_segment(
     check_records(scope, seg, bytes, at, count, marks.as_mut_slice()).map_err(Fail::Bad)
 }
 
-// The records of all segments.
+// The records of segment `seg`, where those of an earlier one that is alike passed.
+fn check_once(
+    alloc: Global,
+    scope: &Scope,
+    earlier: &[Segment],
+    segment: &Segment,
+    seg: u16,
+) -> Result<(), Fail<ModuleFault>>
+    requires small { length scope.now.file.now ≤ 4194304 }
+    requires inside { scope.now.head.now.at + 64 ≤ length scope.now.file.now }
+    requires bytes { end_of segment.now ≤ length scope.now.file.now }
+    requires passed { (k : ℕ) (d : Segment) → k < length earlier.now → Passes scope.now.file.now scope.now.head.now scope.now.entries.now (get_or earlier.now k d) }
+    requires has { (k : ℕ) (d : Segment) → k < length earlier.now → HasSegment scope.now.file.now (get_or earlier.now k d) }
+    ensures exact { Gives (λ _. seg + 1) result (segment_step scope.now.file.now scope.now.head.now scope.now.entries.now segment.now seg) }
+    ensures passes { OnOk result (Passes scope.now.file.now scope.now.head.now scope.now.entries.now segment.now) }
+    ensures whole { OnOk result (HasSegment scope.now.file.now segment.now) }
+{
+    if is_any_alike(earlier, segment) {
+        return Ok(());
+    }
+    check_segment(alloc, scope, segment, seg)
+}
+
+// The records of all segments. Those of segments over the same bytes are checked once.
 pub(crate) fn check_segments(
     alloc: Global,
     scope: &Scope,
@@ -145,8 +170,8 @@ pub(crate) fn check_segments(
     ensures whole { OnOk result ((k : ℕ) (d : Segment) → k < length segments.now → HasSegment scope.now.file.now (get_or segments.now k d)) }
 {
     let mut number = 1u16;
-    for segment in segments {
-        check_segment(alloc, scope, segment, number)?;
+    for (i, segment) in segments.iter().enumerate() {
+        check_once(alloc, scope, &segments[..i], segment, number)?;
         number += 1;
     }
     Ok(())

@@ -5,5 +5,5 @@ use Rattle.o2_image.proofs.images.are_targets.Given as goal
 
 abbrev pub invariant-loop-i : goal.invariant-loop-i
 invariant-loop-i l =
-    same_shape (map (λ v. v.items) (drop l.i l.targets)) (map (relocs_in l.file) (drop l.i l.segments))
-    ≡ same_shape (map (λ v. v.items) l.targets) (map (relocs_in l.file) l.segments)
+    same_shape (drop l.i l.targets) (map (relocs_in l.file) (drop l.i l.segments))
+    ≡ same_shape l.targets (map (relocs_in l.file) l.segments)
