@@ -262,7 +262,7 @@ pub out_pictured : (t : Shelf) (pic : Pictures) (a b : ℕ → List ℕ) (k j : 
 out_pictured t pic a b k j i = ap (λ (z : ℕ). if ltb j (entry t k).kept then z else 0) (clean_any (entry t k).image pic t.swap a b k j i)
 
 -- where a segment in memory begins
-base_is : (o : Option Entry) (p : Option (ℕ × ℕ)) (at : ℕ) → base_of o p ≡ Some at → (len : ℕ) × (p ≡ Some (at, len))
+pub base_is : (o : Option Entry) (p : Option (ℕ × ℕ)) (at : ℕ) → base_of o p ≡ Some at → (len : ℕ) × (p ≡ Some (at, len))
 base_is None p at e = absurd cc
 base_is (Some o) None at e = absurd cc
 base_is (Some o) (Some r) at e = (r.1, ap (λ (x : ℕ). Some (x, r.1)) (ap (λ (y : Option ℕ). unwrap_or y 0) e))

@@ -1,12 +1,12 @@
 -- Stores as tests have them.
-use Rattle.std.specs.Prelude.{◌≡◌, ◌≤◌, ℕ, None, false}
-use Rattle.o2_outer.specs.declared.sure.SureSwap.{SureSwap}
-use Rattle.o2_outer.specs.Devices.{swap_blocks}
+use Rattle.std.specs.Prelude.{◌≤◌, ℕ}
+use Rattle.o2_image.specs.ImageList.{ImageList}
 use Rattle.o2_swapmap.specs.Piles.{all_of}
-use Rattle.o2_store.specs.Shelf.{Shelf, entry}
+use Rattle.o2_store.specs.Pictures.{picture, HasPicture}
+use Rattle.o2_store.specs.Shelf.{Shelf, HasAll, AreClean}
 
--- no segment comes from an image or is clean, and the device has the map's blocks
-pub record IsPlain (s : Shelf) (d : SureSwap) : Type 0 where
-  pub image : (k : ℕ) → (entry s k).image ≡ None
-  pub written : (k : ℕ) → (entry s k).attr.clean ≡ false
-  pub device : all_of s.swap ≤ swap_blocks d
+-- the images are there, clean segments in memory have their bytes, and a device of so many blocks has the map's
+pub record IsReady (s : Shelf) (images : ImageList) (blocks : ℕ) : Type 0 where
+  pub pictured : HasAll (HasPicture images) s
+  pub clean : AreClean s (picture images)
+  pub device : all_of s.swap ≤ blocks
