@@ -1,0 +1,9 @@
+//! The text of an instruction of the 80286, as the Intel manual and the assembler nasm write it.
+#![tactic(auto)]
+
+mod names;
+mod operands;
+mod text;
+
+pub use names::mnemonic;
+pub use text::line;
