@@ -1,7 +1,7 @@
 -- The text of an instruction, as the manual and assemblers write it: prefixes, mnemonic, operands.
 use Rattle.std.specs.Prelude.{ℕ, ◌+◌, ◌-◌, ◌/◌, ◌%◌, Bool, true, false, ◌==◌, nat_lt, if◌then◌else◌, List, [], ◌∷◌, ◌++◌, codes}
 use Rattle.o2_isa.specs.declared.instr.Op.{Op}
-use Rattle.o2_isa.specs.declared.instr.Op.TheVariants.{OpBound, OpLea, OpLes, OpLds, OpSgdt, OpSidt, OpLgdt, OpLidt, OpCallFarAt, OpJmpFarAt, OpRet, OpRetf, OpIns, OpOuts, OpMovs, OpCmps, OpStos, OpLods, OpScas, OpJo, OpJno, OpJb, OpJae, OpJe, OpJne, OpJbe, OpJa, OpJs, OpJns, OpJp, OpJnp, OpJl, OpJge, OpJle, OpJg, OpLoop, OpLoope, OpLoopne, OpJcxz, OpCall, OpJmp}
+use Rattle.o2_isa.specs.declared.instr.Op.TheVariants.{OpBound, OpLea, OpLes, OpLds, OpSgdt, OpSidt, OpLgdt, OpLidt, OpCallFarAt, OpJmpFarAt, OpRet, OpRetf, OpJo, OpJno, OpJb, OpJae, OpJe, OpJne, OpJbe, OpJa, OpJs, OpJns, OpJp, OpJnp, OpJl, OpJge, OpJle, OpJg, OpLoop, OpLoope, OpLoopne, OpJcxz, OpCall, OpJmp}
 use Rattle.o2_isa.specs.declared.instr.Width.{Width}
 use Rattle.o2_isa.specs.declared.instr.Width.TheVariants.{Byte, Word}
 use Rattle.o2_isa.specs.declared.instr.Rep.{Rep}
@@ -34,10 +34,26 @@ unfoldable pub address : ℕ → List ℕ
 address n = 48 ∷ 120 ∷ hex4 n
 
 abbrev pub byte_register : ℕ → List ℕ
-byte_register n = if n == 0 then codes "al" else if n == 1 then codes "cl" else if n == 2 then codes "dl" else if n == 3 then codes "bl" else if n == 4 then codes "ah" else if n == 5 then codes "ch" else if n == 6 then codes "dh" else codes "bh"
+byte_register n =
+    if n == 0 then codes "al"
+    else if n == 1 then codes "cl"
+    else if n == 2 then codes "dl"
+    else if n == 3 then codes "bl"
+    else if n == 4 then codes "ah"
+    else if n == 5 then codes "ch"
+    else if n == 6 then codes "dh"
+    else codes "bh"
 
 abbrev pub word_register : ℕ → List ℕ
-word_register n = if n == 0 then codes "ax" else if n == 1 then codes "cx" else if n == 2 then codes "dx" else if n == 3 then codes "bx" else if n == 4 then codes "sp" else if n == 5 then codes "bp" else if n == 6 then codes "si" else codes "di"
+word_register n =
+    if n == 0 then codes "ax"
+    else if n == 1 then codes "cx"
+    else if n == 2 then codes "dx"
+    else if n == 3 then codes "bx"
+    else if n == 4 then codes "sp"
+    else if n == 5 then codes "bp"
+    else if n == 6 then codes "si"
+    else codes "di"
 
 abbrev pub segment_register : Sreg → List ℕ
 segment_register Es = codes "es"
@@ -57,7 +73,16 @@ override_text stack Ss = if stack then [] else codes "ss:"
 override_text stack Ds = if stack then codes "ds:" else []
 
 abbrev pub base_text : ℕ → List ℕ
-base_text base = if base == 0 then codes "bx+si" else if base == 1 then codes "bx+di" else if base == 2 then codes "bp+si" else if base == 3 then codes "bp+di" else if base == 4 then codes "si" else if base == 5 then codes "di" else if base == 6 then codes "bp" else if base == 7 then codes "bx" else []
+base_text base =
+    if base == 0 then codes "bx+si"
+    else if base == 1 then codes "bx+di"
+    else if base == 2 then codes "bp+si"
+    else if base == 3 then codes "bp+di"
+    else if base == 4 then codes "si"
+    else if base == 5 then codes "di"
+    else if base == 6 then codes "bp"
+    else if base == 7 then codes "bx"
+    else []
 
 -- what is added to a base: nothing, or a number of either sign
 abbrev pub displacement_text : ℕ → List ℕ

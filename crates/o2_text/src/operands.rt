@@ -223,7 +223,8 @@ fn put_operand(
     next: u16,
     operand: &Arg,
 ) -> Result<(), NoMemory>
-    ensures { OnOk result (out.new.items ≡ out.old.items ++ operand_text relative size.now next operand.now) }
+    ensures { OnOk result (out.new.items
+        ≡ out.old.items ++ operand_text relative size.now next operand.now) }
 {
     match operand {
         Arg::No => Ok(()),
@@ -253,7 +254,8 @@ pub fn put_behind(
     next: u16,
     operand: &Arg,
 ) -> Result<(), NoMemory>
-    ensures { OnOk result (out.new.items ≡ out.old.items ++ behind byte relative size.now next operand.now) }
+    ensures { OnOk result (out.new.items
+        ≡ out.old.items ++ behind byte relative size.now next operand.now) }
 {
     match operand {
         Arg::No => Ok(()),

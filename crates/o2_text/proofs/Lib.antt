@@ -1,0 +1,11 @@
+pub mod Digits
+pub mod Splits
+pub mod Facts
+pub mod Places
+pub mod Arguments
+pub mod Heads
+pub mod Commas
+pub mod Law
+pub mod Singles
+pub mod Rows
+pub mod Shapes
