@@ -1,0 +1,40 @@
+// The words of a program, and what clap says of them.
+ghost use Rattle.std.specs.Prelude.{◌≡◌, IfOk};
+
+use crate::end::MISUSED;
+use o2_base::{Bytes, NoMemory};
+use std::alloc::{AllocError, Global};
+use std::process::ExitCode;
+use std::{env, io};
+
+/// The program's words, its own name first.
+pub fn words(rt: &HostRuntime) -> io::Result<Vec<String>> {
+    let mut words = Vec::new(rt.alloc());
+    for word in env::args(rt)? {
+        if words.push(word).is_err() {
+            return Err(io::Error::from(io::ErrorKind::OutOfMemory));
+        }
+    }
+    Ok(words)
+}
+
+/// What a program ends with where its words are no command, or ask for help or the version: the text goes to the standard error or to
+/// the standard output, and the status is 2 or 0.
+pub fn answered(rt: &HostRuntime, error: &clap::Error) -> io::Result<ExitCode> {
+    error.print(rt)?;
+    if error.use_stderr() {
+        Ok(ExitCode::from(MISUSED))
+    } else {
+        Ok(ExitCode::SUCCESS)
+    }
+}
+
+/// A word as the name of a file.
+pub fn file_name(alloc: Global, word: &str) -> Result<Bytes, AllocError>
+    ensures { IfOk result (λ b. b ≡ word.now) }
+{
+    match Bytes::from_slice(alloc, word.as_bytes()) {
+        Ok(name) => Ok(name),
+        Err(NoMemory) => Err(AllocError),
+    }
+}
