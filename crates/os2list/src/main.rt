@@ -46,7 +46,7 @@ fn list_file(rt: &HostRuntime, word: &str) -> anyhow::Result<ExitCode> {
         Err(Fail::NoMemory) => anyhow::bail!("there is no memory"),
         Err(Fail::Bad(_)) => {
             println!(rt;
-                "{} is refused: `os2why exe` says why",
+                "{} is refused: `os2run exe` says by which reason",
                 Shown(word.as_bytes())
             )?;
             Ok(ExitCode::from(REFUSED))
