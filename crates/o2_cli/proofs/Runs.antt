@@ -3,7 +3,6 @@ use Rattle.std.proofs.Common.{◌≡◌, ℕ, List, Option, Some, map, ap, sym, 
 use Rattle.std.specs.Prelude.{Result, Ok, Err, String}
 use Rattle.std.specs.declared.alloc.Global.{Global}
 use Rattle.o2_base.specs.declared.faults.ModuleFault.{ModuleFault}
-use Rattle.o2_conf.specs.Script.{slice_of}
 use Rattle.o2_words.specs.declared.words.Verb.{Verb}
 use Rattle.o2_words.specs.declared.words.Verb.TheVariants.{Exe, Run, Check}
 use Rattle.o2_words.specs.Words.{IsCommandFor}
@@ -28,7 +27,7 @@ use Rattle.o2_cli.specs.RunTexts.{StartsWith, StopsRun, ShowsRun}
 
 -- the whole opening, from what is reserved for the run and what the starts come to
 abbrev pub opened_from : Session → List (ℕ × ℕ) → List ℕ → Result Built (ℕ × ModuleFault) → Result Opened OpenFault
-opened_from s reserved input r = under (refusal s) (where_started reserved (map slice_of s.conf.script) s.conf.budget input r) >>= with_setting s
+opened_from s reserved input r = under (refusal s) (where_started reserved s.conf.script s.conf.budget input r) >>= with_setting s
 
 abbrev pub start_of : Session → List ℕ → Built → Opened
 start_of s input b = record { setting = setting_of s.conf; world = first_world s.linked s.conf input b }

@@ -54,7 +54,3 @@ script_or (Some d) = do
   items ← some_or (as_array d) (BadValue key.Script)
   words ← each word_step items []
   within (nat_le (length words) 100000) words (Limit key.Script)
-
--- a word as the dispatch takes it: the process and its steps
-abbrev pub slice_of : Word → ℕ × ℕ
-slice_of (Slice process count) = (process, count)

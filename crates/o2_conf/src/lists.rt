@@ -1,6 +1,5 @@
 // The lists of a setting. Contracts see each as its list.
-ghost use Rattle.std.specs.Prelude.{◌≡◌, length, map, slice_get, option_map, IfOk};
-ghost use Rattle.o2_conf.specs.Script.{slice_of};
+ghost use Rattle.std.specs.Prelude.{◌≡◌, length, slice_get, option_map, IfOk};
 
 use crate::process::Process;
 use crate::script::Word;
@@ -177,28 +176,21 @@ impl Script {
     {
         self.items.get(k)
     }
-    /// The words as the dispatch takes them: each a process with its steps.
-    pub fn slices(&self, alloc: Global) -> Result<Vec<(u16, u32)>, NoMemory>
-        ensures { IfOk result (λ v. v.items ≡ map slice_of self.now) }
+
+    /// A copy of the words.
+    pub fn to_vec(&self, alloc: Global) -> Result<Vec<Word>, NoMemory>
+        ensures { IfOk result (λ v. v.items ≡ self.now) }
     {
-        slices_of(alloc, self.items.as_slice())
+        copied(alloc, self.items.as_slice())
     }
 }
 
-/// A word as the dispatch takes it.
-fn slice_of(word: Word) -> (u16, u32)
-    ensures { result ≡ slice_of word }
+fn copied(alloc: Global, words: &[Word]) -> Result<Vec<Word>, NoMemory>
+    ensures { IfOk result (λ v. v.items ≡ words.now) }
 {
-    let Word::Slice(process, steps) = word;
-    (process, steps)
-}
-
-fn slices_of(alloc: Global, words: &[Word]) -> Result<Vec<(u16, u32)>, NoMemory>
-    ensures { IfOk result (λ v. v.items ≡ map slice_of words.now) }
-{
-    let mut slices = Vec::new(alloc);
+    let mut copy = Vec::new(alloc);
     for word in words {
-        slices.push(slice_of(*word))?;
+        copy.push(*word)?;
     }
-    Ok(slices)
+    Ok(copy)
 }

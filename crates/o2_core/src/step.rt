@@ -58,7 +58,7 @@ pub fn step_one<B: Bus>(cpu: &mut Cpu, bus: &mut B) -> Outcome
     ensures step { Answers result (state cpu.new (B.view bus.new)) (state cpu.old (B.view bus.old)) (stepped (state cpu.old (B.view bus.old))) }
     ensures boundless { (f : Filling) → IsBound (B.view bus.old) → AsBoundless f result (state cpu.new (B.view bus.new)) (state cpu.old (B.view bus.old)) }
     ensures frame { KeepsFrame (B.view bus.old) (B.view bus.new) }
-    ensures lengths { KeepsLengths (B.view bus.old) (B.view bus.new) }
+    ensures lengths { KeepsLengths (B.view bus.old).bytes (B.view bus.new).bytes }
     ensures writes { WritesData (B.view bus.old) (B.view bus.new) }
     ensures agrees { Agrees cpu.old (B.view bus.old) → Agrees cpu.new (B.view bus.new) }
     ensures present { (f : Filling) → IsBound (B.view bus.old) → is_miss result ≡ false → (n : ℕ) → is_in n (step_names (whole_state f (state cpu.old (B.view bus.old)))) ≡ true → (B.view bus.old).present n ≡ true }

@@ -71,6 +71,9 @@ impl FlagsWord {
     /// No flag, as the word is read: bit 1 is 1.
     pub const BARE: FlagsWord = FlagsWord(2);
 
+    /// The flags with which a process starts: IF alone.
+    pub const FIRST: FlagsWord = FlagsWord(0x0202);
+
     /// The flags after POPF or IRET popped this word: CF, PF, AF, ZF, SF, TF, DF, OF and NT are the word's, all other
     /// bits stay.
     pub fn popped(self, word: u16) -> FlagsWord

@@ -1,5 +1,6 @@
 -- Which index of the local descriptor table each segment of a module has, and its selector.
-use Rattle.std.specs.Prelude.{ℕ, ◌+◌, ◌-◌, ◌*◌, ◌%◌, ◌&&◌, List, [], ◌∷◌, Option, Some, None, get_or, length, nat_le, if◌then◌else◌}
+use Rattle.std.specs.Prelude.{ℕ, ◌+◌, ◌-◌, ◌%◌, ◌&&◌, List, [], ◌∷◌, Option, Some, None, get_or, length, nat_le, if◌then◌else◌}
+use Rattle.o2_base.specs.Selectors.{selector_of}
 use Rattle.o2_image.specs.Getters.{is_library, nth}
 use Rattle.o2_image.specs.Images.{Target}
 use Rattle.o2_image.specs.Parts.{Parts}
@@ -35,10 +36,6 @@ index_in base seg (Some m) = if nat_le 1 seg && nat_le seg (length m.segments) t
 abbrev pub index_of : List Parts → ℕ → ℕ → Option ℕ
 index_of ms place seg = index_in (base_at (bases_of ms) place) seg (nth ms place)
 
--- the selector of an index of the local descriptor table, with privilege level 3; it has 16 bits
-abbrev pub selector_of : ℕ → ℕ
-selector_of index = (8 * index + 7) % 65536
-
--- an offset in a segment of the module with this base
+-- an offset in a segment of the module with this base; a selector has 16 bits
 abbrev pub point : ℕ → ℕ × ℕ → Target
-point base e = (selector_of (base + e.0), e.1)
+point base e = (selector_of (base + e.0) % 65536, e.1)

@@ -3,7 +3,7 @@ ghost use Rattle.std.specs.Prelude.{◌≡◌, ◌+◌, ◌*◌, ◌≤◌, leng
 ghost use Rattle.o2_image.specs.ImageList.{Exists};
 ghost use Rattle.o2_dynlink.specs.Selectors.{base_after, base_at, bases_of, point, shared_after};
 
-use o2_base::NoMemory;
+use o2_base::{NoMemory, Selector};
 use o2_image::Module;
 use std::alloc::Global;
 
@@ -57,5 +57,5 @@ pub(crate) fn point(base: u16, entry: (u8, u16)) -> (u16, u16)
     ensures { result ≡ point base entry }
 {
     let index = u32::from(base) + u32::from(entry.0);
-    (((8 * index + 7) % 65536) as u16, entry.1)
+    (Selector::local(index).0, entry.1)
 }

@@ -1,7 +1,7 @@
 -- Each row of meanings misses only by its loads, of which it has one at most, writes before it binds, and binds the selectors
 -- that it leaves.
 use Rattle.std.proofs.Common.{ℕ, Bool, true, false, cond, ◌==◌}
-use Rattle.std.specs.Prelude.{not, ◌||◌}
+use Rattle.std.specs.Prelude.{not, ◌||◌, Ok, Err}
 use Rattle.o2_isa.specs.declared.instr.Width.TheVariants.{Word}
 use Rattle.o2_isa.specs.declared.instr.Sreg.TheVariants.{Es, Ds}
 use Rattle.o2_isa.specs.declared.instr.Op.{Op}
@@ -19,7 +19,7 @@ use Rattle.o2_isa.specs.View.{is_readable, is_writable}
 use Rattle.o2_isa.specs.Steps.{Stops}
 use Rattle.o2_isa.specs.FlowJumps.{immediate, is_less}
 use Rattle.o2_isa.specs.OpRows.{op_steps}
-use Rattle.o2_isa.specs.Meaning.{steps_of}
+use Rattle.o2_isa.specs.Meaning.{behind, steps_of}
 use Rattle.o2_isa.specs.Presence.{IsRow}
 use Rattle.o2_isa.proofs.RowParts.{kept, valued_row, pair_row}
 use Rattle.o2_isa.proofs.DataMnemonics.{binary_row, unary_row, shift_row, mul_row, imul_three_row, div_row, adjust_row, mov_row, xchg_row, lea_row, load_pointer_row, xlat_row, cbw_row, cwd_row, push_row, pushf_row, pop_row, popf_row, pusha_row, popa_row, flagging_row, sahf_row, lahf_row, wait_row}
@@ -151,6 +151,6 @@ pub steps_are_rows : (c : Cpu) (i : Instr) (next : ℕ) → IsRow c 1 (steps_of 
 unfolding steps_of
 steps_are_rows c i next = by_lock i.lock
   where
-    by_lock : (b : Bool) → IsRow c 1 (cond b (Stops (stop.Trap 13 0)) (op_steps i.op c i next))
+    by_lock : (b : Bool) → IsRow c 1 (behind (cond b (Err (stop.Trap 13 0)) (Ok 0)) (op_steps i.op c i next))
     by_lock true = tt
     by_lock false = op_row i.op c i next

@@ -1,6 +1,6 @@
 -- No bytes spell a MOV or a POP to CS, so each step leaves selectors that passed the load rules of their registers.
 use Rattle.std.proofs.Common.{◌≡◌, ◌⊎◌, refl, sym, subst, inl, inr, ℕ, zero, suc, ◌+◌, ◌%◌, Bool, true, false, cond, ◌==◌, ◌&&◌, List, [], ◌∷◌, length, take}
-use Rattle.std.specs.Prelude.{Option, Some, None, drop, nat_lt, not, slice_index_or}
+use Rattle.std.specs.Prelude.{Option, Some, None, Ok, Err, drop, nat_lt, not, slice_index_or}
 use Rattle.std.specs.List.{list_all}
 use Rattle.o2_isa.specs.declared.instr.Width.{Width}
 use Rattle.o2_isa.specs.declared.instr.Width.TheVariants.{Byte, Word}
@@ -25,7 +25,8 @@ use Rattle.o2_isa.specs.Spelling.{is_prefix, no_prefixes, mark, checked}
 use Rattle.o2_isa.specs.Reading.{Head, More, Bad, Whole, head_with, head_modrm, head_after, head_two, head_of, read_tail, read, limited, decoded}
 use Rattle.o2_isa.specs.View.{View}
 use Rattle.o2_isa.specs.Steps.{State, Stops}
-use Rattle.o2_isa.specs.Meaning.{steps_of}
+use Rattle.o2_isa.specs.Meaning.{behind, steps_of}
+use Rattle.o2_isa.specs.OpRows.{op_steps}
 use Rattle.o2_isa.specs.Step.{Answers, seen, steps_at, step_steps, step_names, stepped}
 use Rattle.o2_isa.specs.declared.instr.Sreg.{Sreg}
 use Rattle.o2_isa.specs.SegmentLoads.{Passes, IsNamed, rules_for, LoadsByRules, BindsLoaded}
@@ -226,7 +227,11 @@ decoded_free bs = limited_free (length bs) (read no_prefixes 0 bs) (read_free no
 
 steps_backed : (v : Ground) (c : Cpu) (i : Instr) (next : ℕ) → puts_cs i ≡ false → IsBacked v (steps_of c i next)
 unfolding steps_of
-steps_backed v c i next f = either_backed v i.lock (Stops (stop.Trap 13 0)) _ tt (op_backed v i.op c i next f)
+steps_backed v c i next f = by_lock i.lock
+  where
+    by_lock : (b : Bool) → IsBacked v (behind (cond b (Err (stop.Trap 13 0)) (Ok 0)) (op_steps i.op c i next))
+    by_lock true = tt
+    by_lock false = op_backed v i.op c i next f
 
 at_backed : (v : Ground) (c : Cpu) (d : Decoded) → IsFreeOne d → IsBacked v (steps_at c d)
 at_backed v c (One i n) f = steps_backed v c i ((c.ip + n) % 65536) f

@@ -136,8 +136,13 @@ group_of OpIdiv = Data
 abbrev pub unlocked : Instr → Result ℕ Stop
 unlocked i = if i.lock then Err (stop.Trap 13 0) else Ok 0
 
+-- what comes behind a test that may stop
+abbrev pub behind : Result ℕ Stop → Steps → Steps
+behind (Ok x) p = p
+behind (Err e) p = Stops e
+
 unfoldable pub steps_of : Cpu → Instr → ℕ → Steps
-steps_of c i next = if i.lock then Stops (stop.Trap 13 0) else op_steps i.op c i next
+steps_of c i next = behind (unlocked i) (op_steps i.op c i next)
 
 -- one instruction, with the IP behind it
 unfoldable pub meaning : State → Instr → ℕ → Result State Stop

@@ -1,5 +1,5 @@
 -- How many bytes each name has.
-use Rattle.std.specs.Prelude.{◌≡◌, ◌≤◌, ℕ, true, length, Some}
+use Rattle.std.specs.Prelude.{◌≡◌, ◌≤◌, ℕ, true, List, length, Some}
 use Rattle.o2_isa.specs.View.{View, Hold}
 
 -- each present name has as many bytes as its size says, 65,536 at most, and one that the process holds has at least one
@@ -9,5 +9,5 @@ pub record IsSized (v : View) : Type 0 where
   pub least : (i : ℕ) (h : Hold) → v.held i ≡ Some h → v.present h.name ≡ true → 1 ≤ v.size h.name
 
 -- each name has as many bytes as before
-abbrev pub KeepsLengths : View → View → Type 0
-KeepsLengths old new = (n : ℕ) → length (new.bytes n) ≡ length (old.bytes n)
+pub record KeepsLengths (old new : ℕ → List ℕ) : Type 0 where
+  pub same : (n : ℕ) → length (new n) ≡ length (old n)

@@ -34,7 +34,7 @@ pub fn presence_is_invisible()
 pub fn steps_keep()
     ensures frame { (o : Outcome) (new old : State) → Answers o new old (stepped old) → KeepsFrame old.view new.view }
     ensures agrees { (o : Outcome) (new old : State) → Answers o new old (stepped old) → Agrees old.cpu old.view → Agrees new.cpu new.view }
-    ensures lengths { (o : Outcome) (new old : State) → Answers o new old (stepped old) → KeepsLengths old.view new.view }
+    ensures lengths { (o : Outcome) (new old : State) → Answers o new old (stepped old) → KeepsLengths old.view.bytes new.view.bytes }
     ensures unseen { (r : Rest) (h : Hidden) (o : Outcome) (new old : State) → Answers o new old (stepped old) → Answers o (unseen r h new) (unseen r h old) (stepped (unseen r h old)) }
 {}
 

@@ -65,18 +65,18 @@ zero_is n e = grind arith
 
 -- The indexes of its segments.
 
-loaded_length : (images : ImageList) (place : ℕ) (m : Parts) (n : ℕ) (ss : List Segment) → length (loaded_segments images place m n ss) ≡ length ss
+pub loaded_length : (images : ImageList) (place : ℕ) (m : Parts) (n : ℕ) (ss : List Segment) → length (loaded_segments images place m n ss) ≡ length ss
 loaded_length images place m n [] = refl
 loaded_length images place m n (s ∷ ss) = ap suc (loaded_length images place m (n + 1) ss)
 
 -- segment n + k of a module, where the segments from n on are given
-record IsLoaded (images : ImageList) (place : ℕ) (ss : List Segment) (n k : ℕ) (x : LoadedSegment) : Type 0 where
+pub record IsLoaded (images : ImageList) (place : ℕ) (ss : List Segment) (n k : ℕ) (x : LoadedSegment) : Type 0 where
   pub segment : Segment
   pub there : slice_get ss k ≡ Some segment
   pub index : x.index ≡ index_at images place (n + k)
   pub rights : x.rights ≡ rights_of segment.kind
 
-is_loaded : (images : ImageList) (place : ℕ) (m : Parts) (n : ℕ) (ss : List Segment) (k : ℕ) (x : LoadedSegment) → slice_get (loaded_segments images place m n ss) k ≡ Some x → IsLoaded images place ss n k x
+pub is_loaded : (images : ImageList) (place : ℕ) (m : Parts) (n : ℕ) (ss : List Segment) (k : ℕ) (x : LoadedSegment) → slice_get (loaded_segments images place m n ss) k ≡ Some x → IsLoaded images place ss n k x
 is_loaded images place m n [] k x e = absurd (cc)
 is_loaded images place m n (s ∷ ss) zero x e =
     let same = some_is (loaded_segment images place m n s) x (Some (loaded_segment images place m n s)) refl e in
@@ -99,7 +99,7 @@ nth_from n ss s some e = go (n == 0) refl
     go true is = absurd (some (zero_is n is))
     go false is = e
 
-none_there : (n : ℕ) (x : LoadedSegment) → nth_loaded n [] ≡ Some x → ⊥
+pub none_there : (n : ℕ) (x : LoadedSegment) → nth_loaded n [] ≡ Some x → ⊥
 none_there n x h = go (n == 0) h
   where
     go : (t : Bool) → cond t None (slice_get [] (n - 1)) ≡ Some x → ⊥
@@ -112,7 +112,7 @@ writable_reads CodeOnly e = cc
 writable_reads Writable e = refl
 writable_reads ReadOnly e = cc
 
-program_base : (used : ℕ) (ms : List Parts) (k : ℕ) (m : Parts) → slice_get ms k ≡ Some m → is_library m ≡ false → get_or (bases_from used ms) k 0 ≡ 0
+pub program_base : (used : ℕ) (ms : List Parts) (k : ℕ) (m : Parts) → slice_get ms k ≡ Some m → is_library m ≡ false → get_or (bases_from used ms) k 0 ≡ 0
 program_base used [] k m e is = refl
 program_base used (a ∷ ms) zero m e is =
     ap (λ (t : Bool). cond t (4095 + used) 0) (ap is_library (some_is a m (Some a) refl e) ∙ is)

@@ -6,6 +6,7 @@ pub mod Wholes
 pub mod Nexts
 pub mod Sizes
 pub mod Alls
+pub mod Apart
 pub mod Rising
 pub mod Fits
 pub mod Reserved

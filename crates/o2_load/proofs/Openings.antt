@@ -3,6 +3,7 @@ use Rattle.std.proofs.Common.{◌≡◌, ℕ, List}
 use Rattle.std.specs.Prelude.{Ok}
 use Rattle.std.specs.List.{All}
 use Rattle.o2_conf.specs.declared.conf.Conf.{Conf}
+use Rattle.o2_conf.specs.declared.script.Word.{Word}
 use Rattle.o2_conf.specs.Limits.{HasEnvironment}
 use Rattle.o2_image.specs.Parts.{Parts}
 use Rattle.o2_image.specs.Whole.{IsRunnable}
@@ -15,13 +16,14 @@ use Rattle.o2_world.specs.Reach.{IsTold}
 use Rattle.o2_world.proofs.Openings.{opening_sound, opening_told}
 use Rattle.o2_load.specs.Loads.{loaded, starts_of}
 use Rattle.o2_load.proofs.Fits.{linked_starts_fit}
+use Rattle.o2_load.proofs.Apart.{linked_apart}
 use Rattle.o2_load.proofs.Overs.{linked_starts_over}
 
-pub linked_opening_sound : (s : Setting) (reserved script : List (ℕ × ℕ)) (input : List ℕ) (ms : List Parts) (c : Conf) (l : LinkedParts) (w : World) → All IsRunnable ms → All HasEnvironment c.process → linked_of ms c ≡ Ok l
+pub linked_opening_sound : (s : Setting) (reserved : List (ℕ × ℕ)) (script : List Word) (input : List ℕ) (ms : List Parts) (c : Conf) (l : LinkedParts) (w : World) → All IsRunnable ms → All HasEnvironment c.process → linked_of ms c ≡ Ok l
     → opening_of s reserved script input (starts_of l 1 c.process) ≡ Ok w → IsSound w
 linked_opening_sound s reserved script input ms c l w all fits e o =
-    opening_sound (loaded l.images) s reserved script input (starts_of l 1 c.process) w (linked_starts_fit ms c l all e) (linked_starts_over ms c l all fits e) o
+    opening_sound (loaded l.images) s reserved script input (starts_of l 1 c.process) w (linked_apart ms c l all e) (linked_starts_fit ms c l all e) (linked_starts_over ms c l all fits e) o
 
-pub linked_opening_told : (s : Setting) (reserved script : List (ℕ × ℕ)) (input : List ℕ) (ms : List Parts) (c : Conf) (l : LinkedParts) (w : World) → All IsRunnable ms → linked_of ms c ≡ Ok l
+pub linked_opening_told : (s : Setting) (reserved : List (ℕ × ℕ)) (script : List Word) (input : List ℕ) (ms : List Parts) (c : Conf) (l : LinkedParts) (w : World) → All IsRunnable ms → linked_of ms c ≡ Ok l
     → opening_of s reserved script input (starts_of l 1 c.process) ≡ Ok w → IsTold w
 linked_opening_told s reserved script input ms c l w all e o = opening_told s reserved script input (starts_of l 1 c.process) w (linked_starts_fit ms c l all e) o

@@ -1,12 +1,13 @@
 -- The starts of linked modules are over these modules, and each segment has 1 to 65,536 bytes.
 use Rattle.std.proofs.Common.{◌≡◌, ℕ, zero, suc, ◌+◌, ◌-◌, ◌≤◌, ◌<◌, ◌==◌, Bool, true, false, cond, List, [], ◌∷◌, ◌++◌, length, replicate, if◌then◌else◌, Option, Some, None, ap, sym, ◌∙◌, refl, arith, subst, length-append, get_or}
-use Rattle.std.specs.Prelude.{slice_get, option_map, map, flat_map, Result, Ok, Err}
+use Rattle.std.specs.Prelude.{slice_get, option_map, map, flat_map, not, ◌||◌, Result, Ok, Err}
 use Rattle.std.specs.List.{All, AllByRecursion}
 use Rattle.std.proofs.lemmas.List.Elements.{All-cons, All-nil, All-head, All-tail}
 use Rattle.o2_conf.specs.declared.conf.Conf.{Conf}
 use Rattle.o2_conf.specs.declared.process.Process.{Process}
 use Rattle.o2_conf.specs.Environments.{environment_bytes}
 use Rattle.o2_conf.specs.Limits.{HasEnvironment}
+use Rattle.o2_isa.specs.View.{is_writable}
 use Rattle.o2_ne.proofs.Tabulated.{length-tabulate}
 use Rattle.o2_ne_segs.specs.declared.segment.Segment.{Segment}
 use Rattle.o2_ne_segs.specs.SegmentTable.{nth_segment, AllSized, HasSize}
@@ -19,9 +20,9 @@ use Rattle.o2_dynlink.specs.Linking.{linked_of, outcome}
 use Rattle.o2_dynlink.specs.Outcome.{LinkedParts, modules_of}
 use Rattle.o2_dynlink.proofs.Indexes.{nth_some}
 use Rattle.o2_world.specs.Starts.{Loaded, LoadedSegment, Start, Holding, holding_of, module_holdings, environment_holding, library_holdings, holdings, loaded_bytes, nth_loaded}
-use Rattle.o2_world.specs.FitStarts.{rights_or_none, rights_at, IsWhole, IsOf, AreOf}
-use Rattle.o2_load.specs.Loads.{rights_of, room_at, loaded_segment, loaded_segments, loaded_module, no_module, loaded, program_place, start_of, starts_of}
-use Rattle.o2_load.proofs.Fits.{loaded_of, at_place, runnable_at, linked_modules}
+use Rattle.o2_world.specs.FitStarts.{segment_at, rights_or_none, rights_at, index_or_none, common_or_none, IsWhole, IsOf, AreOf}
+use Rattle.o2_load.specs.Loads.{rights_of, is_shared, room_at, loaded_segment, loaded_segments, loaded_module, no_module, loaded, program_place, start_of, starts_of}
+use Rattle.o2_load.proofs.Fits.{loaded_of, at_place, loaded_length, runnable_at, linked_modules}
 use Rattle.o2_load.proofs.Images.{first_bytes_are, room_behind_fits, in_list, get_in}
 use Rattle.o2_load.proofs.Sizes.{bytes_length, bytes_size}
 
@@ -60,15 +61,24 @@ get_loaded images place m j (x ∷ ss) (suc k) s e =
     let number : j + 1 + k ≡ j + suc k = omega arith in
     get_loaded images place m (j + 1) ss k s e ∙ ap (λ (n : ℕ). Some (loaded_segment images place m n s)) number
 
-nth_there : (images : ImageList) (place : ℕ) (m : Parts) (n : ℕ) (s : Segment) → nth_segment n m.segments ≡ Some s → rights_or_none (nth_loaded n (loaded_segments images place m 1 m.segments)) ≡ rights_of s.kind
+nth_there : (images : ImageList) (place : ℕ) (m : Parts) (n : ℕ) (s : Segment) → nth_segment n m.segments ≡ Some s
+    → nth_loaded n (loaded_segments images place m 1 m.segments) ≡ Some (loaded_segment images place m n s)
 nth_there images place m n s e = go (n == 0) refl e
   where
     some_number : (n == 0) ≡ false → 1 + (n - 1) ≡ n
     some_number is = let some : 0 < n = grind arith in omega (arith, some)
 
-    go : (b : Bool) → (n == 0) ≡ b → cond b None (slice_get m.segments (n - 1)) ≡ Some s → rights_or_none (cond b None (slice_get (loaded_segments images place m 1 m.segments) (n - 1))) ≡ rights_of s.kind
+    go : (b : Bool) → (n == 0) ≡ b → cond b None (slice_get m.segments (n - 1)) ≡ Some s
+        → cond b None (slice_get (loaded_segments images place m 1 m.segments) (n - 1)) ≡ Some (loaded_segment images place m n s)
     go true is e = absurd (cc)
-    go false is e = ap rights_or_none (get_loaded images place m 1 m.segments (n - 1) s e)
+    go false is e =
+        get_loaded images place m 1 m.segments (n - 1) s e
+        ∙ ap (λ (k : ℕ). Some (loaded_segment images place m k s)) (some_number is)
+
+-- what isn't common can be written
+own_writes : (writes common : Bool) → (not writes || common) ≡ false → writes ≡ true
+own_writes true common e = refl
+own_writes false common e = absurd (cc)
 
 module _ (images : ImageList) (ms : List Parts) (same : modules_of images ≡ ms) (all : All IsRunnable ms) where
   one_whole : (place n : ℕ) (m : Parts) (s : Segment) → nth ms place ≡ Some m → nth_segment n m.segments ≡ Some s → IsWhole (loaded images) (holding_of (loaded_module images place m) n (loaded_segment images place m n s))
@@ -78,10 +88,14 @@ module _ (images : ImageList) (ms : List Parts) (same : modules_of images ≡ ms
       ap (λ (xs : List ℕ). length xs) (sym (first_bytes_are images place n m s)) ∙ length-append (image_front images place n s.size) (replicate (room_at m n) 0) ∙ two (front_length images place n s.size) (zeros (room_at m n)) in
       let fits = room_behind_fits m n s runs e in
       let some = some_size (n == 0) m.segments n s runs.sizes e in
+      let there : segment_at (loaded images) place n ≡ Some (loaded_segment images place m n s) =
+      ap (λ (l : Loaded). nth_loaded n l.segments) (at_place images ms same place (Some m) at) ∙ nth_there images place m n s e in
       record {
         some = omega (arith, size, some);
         most = omega (arith, size, fits);
-        rights = λ _. sym (ap (λ (l : Loaded). rights_or_none (nth_loaded n l.segments)) (at_place images ms same place (Some m) at) ∙ nth_there images place m n s e);
+        rights = λ _. sym (ap rights_or_none there);
+        shared = λ _. record { index = ap index_or_none there; common = ap common_or_none there };
+        own = own_writes (is_writable (rights_of s.kind)) (is_shared m s);
       }
     where
       two : {a b c d : ℕ} → a ≡ c → b ≡ d → a + b ≡ c + d
@@ -120,14 +134,32 @@ module _ (images : ImageList) (ms : List Parts) (same : modules_of images ≡ ms
   libraries_whole [] = tt
   libraries_whole (place ∷ places) = both (module_holdings (loaded images place) 1 (loaded images place).segments) _ (module_whole place (nth ms place) refl) (libraries_whole places)
 
+-- an environment has an index of its process's own region
+few_there : (images : ImageList) (place : ℕ) (o : Option Parts) → ((m : Parts) → o ≡ Some m → IsRunnable m) → length (loaded_of images place o).segments ≤ 254
+few_there images place None runnable = omega arith
+few_there images place (Some m) runnable = let few = (runnable m refl).few in let size = loaded_length images place m 1 m.segments in omega (arith, few, size)
+
+few_segments : (images : ImageList) (ms : List Parts) (same : modules_of images ≡ ms) (all : All IsRunnable ms) (place : ℕ) → length (loaded images place).segments ≤ 254
+few_segments images ms same all place =
+    subst (λ (l : Loaded). length l.segments ≤ 254) (sym (at_place images ms same place (nth ms place) refl))
+    (few_there images place (nth ms place) (λ m e. runnable_at ms place all m e))
+
 environment_some : (p : Process) → 0 < length (environment_bytes p)
 environment_some p = let h = bytes_length p in omega (arith, h)
 
 one_over : (l : LinkedParts) (ms : List Parts) → modules_of l.images ≡ ms → All IsRunnable ms → (pid : ℕ) (p : Process) → HasEnvironment p → IsOf (loaded l.images) (start_of l pid p)
 one_over l ms same all pid p fits number =
     both l.images ms same all (module_holdings (loaded l.images (program_place l pid)) 1 (loaded l.images (program_place l pid)).segments) _
-    (module_whole l.images ms same all (program_place l pid) (nth ms (program_place l pid)) refl)
-    (record { some = environment_some p; most = bytes_size p fits; rights = λ common. absurd (let no : false ≡ true = common in cc) }, libraries_whole l.images ms same all (nth_list l.libraries pid))
+    (module_whole l.images ms same all (program_place l pid) (nth ms (program_place l pid)) refl) (
+      record {
+        some = environment_some p;
+        most = bytes_size p fits;
+        rights = λ common. absurd (let no : false ≡ true = common in cc);
+        shared = λ big. absurd (let few = few_segments l.images ms same all (program_place l pid) in omega (arith, big, few));
+        own = λ _. refl;
+      },
+      libraries_whole l.images ms same all (nth_list l.libraries pid),
+    )
 
 all_over : (l : LinkedParts) (ms : List Parts) → modules_of l.images ≡ ms → All IsRunnable ms → (pid : ℕ) (ps : List Process) → All HasEnvironment ps → AreOf (loaded l.images) (starts_of l pid ps)
 all_over l ms same all pid [] fits = All-nil (IsOf (loaded l.images))

@@ -2,11 +2,11 @@
 ghost use Rattle.std.specs.Prelude.{◌≡◌, ◌≢◌, ◌≤◌, ◌<◌, ◌+◌, ◌*◌, ◌++◌, ◌∷◌, [], ℕ, List, length, Some, None, IfOk, IfSome, OnOk, if◌then◌else◌};
 ghost use Rattle.o2_bus.specs.declared.plain.Plain.{Plain};
 ghost use Rattle.o2_bus.specs.Plain.{held_in, bytes_in, count_in};
-ghost use Rattle.o2_world.specs.Opening.{selector_of};
+ghost use Rattle.o2_base.specs.Selectors.{selector_of};
 ghost use Rattle.o2_world.specs.Starts.{name_in, made_with, named, holds, holds_as, with_holding, Built};
 ghost use Rattle.o2_load.specs.Holds.{IsHolding, HaveBytes, OthersStay, Adds, gripped};
 
-use o2_base::NoMemory;
+use o2_base::{NoMemory, Selector};
 use o2_bus::Plain;
 use o2_world::Made;
 use std::alloc::Global;
@@ -78,7 +78,7 @@ pub(crate) fn selector_of(index: u16) -> u16
     requires { index < 8192 }
     ensures { result ≡ selector_of index }
 {
-    8 * index + 7
+    Selector::local(u32::from(index)).0
 }
 
 #[tactic(auto, using(crate::proofs::Names::have_kept, crate::proofs::Names::have_named, crate::proofs::Names::have_made))]

@@ -9,6 +9,7 @@ ghost use Rattle.o2_load.specs.Loads.{rights_of, is_stack_segment, is_entry_segm
 use crate::build::selector_of;
 use crate::segments::rights_of;
 use o2_base::ModuleFault;
+use o2_desc::FlagsWord;
 use o2_image::Module;
 use o2_isa::Cpu;
 use o2_ne_segs::{Kind, Segment};
@@ -117,7 +118,7 @@ pub(crate) fn first_cpu(module: &Module, place: u16, command: u16) -> Cpu
         si: head.heap,
         di: place,
         ip: head.ip,
-        flags: 0x0202,
+        flags: FlagsWord::FIRST.0,
         cs: selector_of(head.cs),
         ds: match data {
             Some(_) => selector_of(head.auto_seg),

@@ -9,7 +9,6 @@ use Rattle.o2_isa.specs.View.{Hold}
 use Rattle.o2_bus.specs.declared.plain.Plain.{Plain}
 use Rattle.o2_bus.specs.Plain.{held_in, bytes_in, shown_in}
 use Rattle.o2_conf.specs.declared.conf.Conf.{Conf}
-use Rattle.o2_conf.specs.Script.{slice_of}
 use Rattle.o2_dynlink.specs.Outcome.{LinkedParts}
 use Rattle.o2_world.specs.World.{Process, HoldsBy, is_live}
 use Rattle.o2_world.specs.Opening.{start_lines}
@@ -40,7 +39,7 @@ all_live (c ∷ cs) (p ∷ ps) holds h =
     ∙ ap (λ bs. true ∷ bs) (all_live cs ps (λ i. holds (suc i)) (λ i. h (suc i)))
 
 abbrev first_schedule : Conf → Schedule
-first_schedule c = record { dispatch = opening_dispatch (map slice_of c.script) c.budget; flags = replicate (length c.process) true; quantum = c.quantum }
+first_schedule c = record { dispatch = opening_dispatch c.script c.budget; flags = replicate (length c.process) true; quantum = c.quantum }
 
 pub first_stands : (begun : Begun) (l : LinkedParts) (b : Built) (c : Conf) (m : Machine) (input : List ℕ) → IsBegun begun l b
     → m.space.procs.items ≡ map first_proc begun.cpus.items → m.space.state.plain ≡ begun.build.plain → m.space.state.avail ≡ c.avail

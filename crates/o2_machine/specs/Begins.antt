@@ -2,7 +2,6 @@
 use Rattle.std.specs.Prelude.{◌≡◌, ℕ, List, Option, None, Result, Ok, Err, map}
 use Rattle.o2_base.specs.declared.faults.ModuleFault.{ModuleFault}
 use Rattle.o2_conf.specs.declared.conf.Conf.{Conf}
-use Rattle.o2_conf.specs.Script.{slice_of}
 use Rattle.o2_dynlink.specs.Outcome.{LinkedParts}
 use Rattle.o2_outer.specs.Texts.{Gains, GainsSome, IsPrefix}
 use Rattle.o2_world.specs.World.{World, Setting}
@@ -24,11 +23,11 @@ starting l c = all_started c.segments (starts_of l 1 c.process)
 
 -- the world that they open, with this input
 abbrev pub first_world : LinkedParts → Conf → List ℕ → Built → World
-first_world l c input b = world_of (library_ranges l) (map slice_of c.script) c.budget input b
+first_world l c input b = world_of (library_ranges l) c.script c.budget input b
 
 -- the world before the first step, or the process that is refused, and why
 abbrev pub opening : LinkedParts → Conf → List ℕ → Result World (ℕ × ModuleFault)
-opening l c input = opening_of (setting_of c) (library_ranges l) (map slice_of c.script) input (starts_of l 1 c.process)
+opening l c input = opening_of (setting_of c) (library_ranges l) c.script input (starts_of l 1 c.process)
 
 -- all processes have started, and the lines of their starts are put
 pub record HasBegun (m : Machine) (l : LinkedParts) (c : Conf) (report_old report_new : Option (List ℕ)) : Type 0 where

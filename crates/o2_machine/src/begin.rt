@@ -1,7 +1,6 @@
 // How a machine begins: its processes start, and the lines of their starts are put.
 ghost use Rattle.std.specs.Prelude.{◌≡◌, ◌≤◌, ◌+◌, ◌^◌, ℕ, List, length, map, sum_by, replicate, true, IfOk, Ok, None};
 ghost use Rattle.o2_conf.specs.Limits.{IsWithinLimits};
-ghost use Rattle.o2_conf.specs.Script.{slice_of};
 ghost use Rattle.o2_sched.specs.Schedule.{opening_dispatch};
 ghost use Rattle.o2_conf.specs.Environments.{environment_bytes};
 ghost use Rattle.o2_image.specs.ImageList.{Exists};
@@ -70,7 +69,7 @@ fn assemble(
     ensures procs { IfOk result (λ m. m.space.procs.items ≡ map first_proc cpus.now) }
     ensures plain { IfOk result (λ m. m.space.state.plain ≡ plain) }
     ensures avail { IfOk result (λ m. m.space.state.avail ≡ conf.now.avail) }
-    ensures sched { IfOk result (λ m. m.sched ≡ record { dispatch = opening_dispatch (map slice_of conf.now.script) conf.now.budget; flags = replicate (length conf.now.process) true; quantum = conf.now.quantum }) }
+    ensures sched { IfOk result (λ m. m.sched ≡ record { dispatch = opening_dispatch conf.now.script conf.now.budget; flags = replicate (length conf.now.process) true; quantum = conf.now.quantum }) }
     ensures budget { IfOk result (λ m. m.budget ≡ conf.now.budget) }
     ensures console { IfOk result (λ m. m.console_bytes ≡ 0) }
     ensures lines { IfOk result (λ m. m.lines ≡ lines) }

@@ -1,10 +1,11 @@
 -- What a place in the script and in the turns stands for.
 use Rattle.std.specs.Prelude.{◌≡◌, ◌≤◌, ◌<◌, ℕ, ◌+◌, Bool, List, drop, length, slice_index_or}
 use Rattle.std.specs.List.{list_any}
+use Rattle.o2_conf.specs.declared.script.Word.{Word}
 use Rattle.o2_conf.specs.Dispatch.{Dispatch, turn_after}
 use Rattle.o2_sched.specs.declared.place.Place.{Place}
 
-abbrev pub place_dispatch : List (ℕ × ℕ) → Place → ℕ → Dispatch
+abbrev pub place_dispatch : List Word → Place → ℕ → Dispatch
 place_dispatch script p budget = record { script = drop p.at script; current = p.current; left = p.left; turn = p.turn; budget = budget }
 
 -- the process whose turn comes behind each process's, and at 0 the first

@@ -1,6 +1,7 @@
 -- The schedule of a run.
 use Rattle.std.specs.Prelude.{◌≡◌, ℕ, Bool, true, false, not, List, if◌then◌else◌, ◌==◌}
 use Rattle.std.specs.List.{list_any}
+use Rattle.o2_conf.specs.declared.script.Word.{Word}
 use Rattle.o2_conf.specs.Dispatch.{Dispatch, lives, dispatched}
 use Rattle.o2_sched.specs.declared.sched.Pick.{Pick}
 use Rattle.o2_sched.specs.declared.sched.Pick.TheVariants.{Step, AllEnded, BudgetSpent}
@@ -31,5 +32,5 @@ PicksLive flags AllEnded = Unit {0}
 PicksLive flags BudgetSpent = Unit {0}
 
 -- before the first step all live
-abbrev pub opening_dispatch : List (ℕ × ℕ) → ℕ → Dispatch
+abbrev pub opening_dispatch : List Word → ℕ → Dispatch
 opening_dispatch script budget = record { script = script; current = 0; left = 0; turn = 0; budget = budget }

@@ -1,7 +1,9 @@
 // The place in the script and in the turns.
 ghost use Rattle.std.specs.Prelude.{◌≡◌, ◌≤◌, ◌<◌, ◌+◌, ℕ, length, drop, position, IfSome};
-ghost use Rattle.o2_conf.specs.Dispatch.{lives, next_live, turn_after, live_script, dispatched};
+ghost use Rattle.o2_conf.specs.Dispatch.{lives, next_live, turn_after, is_due, live_script, dispatched};
 ghost use Rattle.o2_sched.specs.Places.{place_dispatch, AreTurns};
+
+use o2_conf::Word;
 
 /// How many words of the script are behind, the process of the slice or turn with its steps left, and the process of the
 /// last turn (0 before the first).
@@ -65,26 +67,29 @@ pub fn fill_turns(turns: &mut Vec<u16>, flags: &[bool])
     }
 }
 
-/// How many words stand before the first whose process lives.
-fn passed(flags: &[bool], words: &[(u16, u32)]) -> usize
+/// Whether a word has something to do: a slice, where its process lives.
+fn is_due(flags: &[bool], word: &Word) -> bool
+    ensures { result ≡ is_due flags.now word.now }
+{
+    match *word {
+        Word::Slice(process, _) => is_live(flags, process),
+    }
+}
+
+/// How many words stand before the first that has something to do.
+fn passed(flags: &[bool], words: &[Word]) -> usize
     ensures within { result ≤ length words.now }
     ensures script { drop result words.now ≡ live_script flags.now words.now }
 {
     let mut count = 0;
-    while count < words.len() && !is_live(flags, words[count].0) {
+    while count < words.len() && !is_due(flags, &words[count]) {
         count += 1;
     }
     count
 }
 
 /// The place of the next step.
-pub fn advanced(
-    place: Place,
-    script: &[(u16, u32)],
-    flags: &[bool],
-    turns: &[u16],
-    quantum: u32,
-) -> Place
+pub fn advanced(place: Place, script: &[Word], flags: &[bool], turns: &[u16], quantum: u32) -> Place
     requires within { place.at ≤ length script.now }
     requires few { length flags.now < 65 }
     requires inside { place.turn ≤ length flags.now }
@@ -98,7 +103,7 @@ pub fn advanced(
     }
     let at = place.at + passed(flags, &script[place.at..]);
     if at < script.len() {
-        let (current, left) = script[at];
+        let Word::Slice(current, left) = script[at];
         Place {
             at: at + 1,
             current,

@@ -1,12 +1,11 @@
 // The schedule of a run.
 ghost use Rattle.std.specs.Prelude.{◌≡◌, ◌≤◌, ◌<◌, ◌-◌, true, false, length, map, slice_set, replicate, IfOk};
 ghost use Rattle.std.specs.List.{list_any};
-ghost use Rattle.o2_conf.specs.Script.{slice_of};
 ghost use Rattle.o2_conf.specs.Dispatch.{counted};
 
 use crate::place::{Place, advanced, fill_turns};
 use o2_base::NoMemory;
-use o2_conf::Conf;
+use o2_conf::{Conf, Word};
 use std::alloc::Global;
 use std::marker::Model;
 
@@ -24,7 +23,7 @@ pub enum Pick {
 /// The schedule of a run of 1 to 64 processes. After `new` no call takes memory.
 #[derive(Drop)]
 pub struct Sched {
-    script: Vec<(u16, u32)>,
+    script: Vec<Word>,
     place: Place,
     budget: u32,
     quantum: u32,
@@ -48,12 +47,12 @@ impl Model for Sched {
 impl Sched {
     ghost use Rattle.o2_sched.specs.Schedule.{Schedule, next_of, pick_of, is_step, PicksLive, opening_dispatch};
 
-    /// The schedule of so many processes, before their first step. The script is a list of slices, each a process with its
-    /// steps; the budget is the steps of the whole run, and the quantum those of a turn.
+    /// The schedule of so many processes, before their first step. The budget is the steps of the whole run, and the quantum
+    /// those of a turn.
     pub fn new(
         alloc: Global,
         processes: u16,
-        script: Vec<(u16, u32)>,
+        script: Vec<Word>,
         budget: u32,
         quantum: u32,
     ) -> Result<Sched, NoMemory>
@@ -82,9 +81,9 @@ impl Sched {
     /// The schedule of a setting, before the first step.
     pub fn make(alloc: Global, conf: &Conf) -> Result<Sched, NoMemory>
         requires { length conf.now.process ≤ 64 }
-        ensures { IfOk result (λ s. s ≡ record { dispatch = opening_dispatch (map slice_of conf.now.script) conf.now.budget; flags = replicate (length conf.now.process) true; quantum = conf.now.quantum }) }
+        ensures { IfOk result (λ s. s ≡ record { dispatch = opening_dispatch conf.now.script conf.now.budget; flags = replicate (length conf.now.process) true; quantum = conf.now.quantum }) }
     {
-        let script = conf.script.slices(alloc)?;
+        let script = conf.script.to_vec(alloc)?;
         Sched::new(
             alloc,
             conf.process.len() as u16,

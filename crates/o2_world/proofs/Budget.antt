@@ -1,5 +1,7 @@
 -- A run has no more steps than its budget.
 use Rattle.std.proofs.Common.{◌≡◌, ℕ, zero, suc, ◌+◌, ◌<◌, ◌≤◌, Bool, true, false, not, ◌||◌, ◌==◌, nat_lt, ◌&&◌, if◌then◌else◌, List, [], ◌∷◌, Option, Some, ap, sym, ◌∙◌, refl, arith, subst, below_more}
+use Rattle.o2_conf.specs.declared.script.Word.{Word}
+use Rattle.o2_conf.specs.declared.script.Word.TheVariants.{Slice}
 use Rattle.o2_world.specs.World.{World, Setting, Process}
 use Rattle.o2_conf.specs.Dispatch.{Dispatch, dispatched, started, live_script, lives}
 use Rattle.o2_world.specs.Effect.{effect}
@@ -9,9 +11,9 @@ use Rattle.o2_conf.proofs.Choice.{chosen_lives}
 use Rattle.o2_world.proofs.Quiet.{changed_plain, effect_quiet}
 use Rattle.o2_world.proofs.Flags.{live_process}
 
-started_budget : (quantum : ℕ) (flags : List Bool) (d : Dispatch) (words : List (ℕ × ℕ)) → (started quantum flags d words).budget ≡ d.budget
+started_budget : (quantum : ℕ) (flags : List Bool) (d : Dispatch) (words : List Word) → (started quantum flags d words).budget ≡ d.budget
 started_budget quantum flags d [] = refl
-started_budget quantum flags d (word ∷ words) = refl
+started_budget quantum flags d (Slice process count ∷ words) = refl
 
 either_budget : (b : Bool) (d e : Dispatch) → e.budget ≡ d.budget → (if b then d else e).budget ≡ d.budget
 either_budget true d e h = refl

@@ -4,6 +4,7 @@ use Rattle.std.specs.Prelude.{is_some, slice_get, option_map, not, nat_lt, fold,
 use Rattle.std.specs.List.{All}
 use Rattle.std.proofs.lemmas.List.Elements.{All-head, All-tail}
 use Rattle.std.proofs.lemmas.Map.Keys.{IsDistinct-head, IsDistinct-tail}
+use Rattle.o2_conf.specs.declared.script.Word.{Word}
 use Rattle.o2_base.specs.declared.faults.ModuleFault.{ModuleFault}
 use Rattle.o2_base.specs.declared.faults.ModuleFault.TheVariants.{NoStack, NoEntry, NoSegment}
 use Rattle.o2_isa.specs.View.{is_code, is_readable, is_writable, is_null, is_local}
@@ -11,7 +12,8 @@ use Rattle.o2_world.specs.declared.types.Made.{Made}
 use Rattle.o2_world.specs.Map.{Map, get}
 use Rattle.o2_world.specs.World.{World, Process, Segment, Held, is_live}
 use Rattle.o2_world.specs.Holders.{holds_name, is_held}
-use Rattle.o2_world.specs.Opening.{selector_of, held_by_load}
+use Rattle.o2_base.specs.Selectors.{selector_of}
+use Rattle.o2_world.specs.Opening.{held_by_load}
 use Rattle.o2_world.specs.Starts.{Loaded, LoadedSegment, Start, Holding, Built, holdings, nth_loaded, image_size, stack_number, data_selector, first_cpu, first_process, is_stack, is_entry, start_check, nothing_built, segment_of, name_in, made_with, holds_as, with_holding, with_holdings, with_started, within_names, where_checked, next_started, where_started, world_of}
 use Rattle.o2_world.specs.Sound.{HasGoodRegisters, NamesHeld, has_rights, held_in}
 use Rattle.o2_world.specs.FitStarts.{IsFit}
@@ -340,7 +342,7 @@ all_so_far P Q most (s ∷ starts) r keeps all so_far =
     all_so_far P Q most starts (next_started most r s) keeps (All-tail Q s starts all) (next_so_far P Q most r s keeps (All-head Q s starts all) so_far)
 
 -- what holds of the starts holds of the world that they open
-pub opened : (R : World → Type 0) (P : Built → Type 0) (reserved : List (ℕ × ℕ)) (script : List (ℕ × ℕ)) (budget : ℕ) (input : List ℕ) (r : Result Built (ℕ × ModuleFault)) (w : World)
+pub opened : (R : World → Type 0) (P : Built → Type 0) (reserved : List (ℕ × ℕ)) (script : List Word) (budget : ℕ) (input : List ℕ) (r : Result Built (ℕ × ModuleFault)) (w : World)
     → ((b : Built) → P b → R (world_of reserved script budget input b)) → SoFar P r → where_started reserved script budget input r ≡ Ok w → R w
 opened R P reserved script budget input (Err fault) w opens so_far e = absurd (cc)
 opened R P reserved script budget input (Ok b) w opens so_far e = subst R (ap world_in e) (opens b so_far)

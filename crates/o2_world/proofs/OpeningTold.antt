@@ -3,7 +3,8 @@ use Rattle.std.proofs.Common.{◌≡◌, ℕ, zero, suc, ◌+◌, ◌-◌, ◌<�
 use Rattle.std.proofs.lemmas.Map.Keys.{IsDistinct-tail}
 use Rattle.o2_world.specs.Map.{Map, get}
 use Rattle.o2_world.specs.World.{Process, Held, Line}
-use Rattle.o2_world.specs.Opening.{selector_of, held_by_load, hold_lines, start_lines}
+use Rattle.o2_base.specs.Selectors.{selector_of}
+use Rattle.o2_world.specs.Opening.{held_by_load, hold_lines, start_lines}
 use Rattle.o2_world.specs.Starts.{Start, Holding, Built, holdings, first_process, nothing_built, name_in, holds_as, with_holding, with_holdings, with_started}
 use Rattle.o2_world.specs.Sound.{held_in}
 use Rattle.o2_world.specs.Reach.{is_pair, one_if, came, went, tells_end, holds_of}

@@ -1,16 +1,17 @@
 -- The world before the first step is sound, and told by its lines.
-use Rattle.std.proofs.Common.{◌≡◌, ℕ, Bool, true, false, List, [], ◌∷◌, map, refl, inr, arith}
+use Rattle.std.proofs.Common.{◌≡◌, ℕ, Bool, true, false, List, [], ◌∷◌, map, refl, arith}
 use Rattle.std.specs.Prelude.{Result, Ok, Err}
+use Rattle.o2_conf.specs.declared.script.Word.{Word}
 use Rattle.o2_base.specs.declared.faults.ModuleFault.{ModuleFault}
 use Rattle.o2_world.specs.World.{World, Setting, Process, is_live}
-use Rattle.o2_world.specs.Opening.{selector_of}
+use Rattle.o2_base.specs.Selectors.{selector_of}
 use Rattle.o2_world.specs.Starts.{Loaded, Start, Built, nothing_built, all_started, for_the_run, world_of, opening_of}
-use Rattle.o2_world.specs.FitStarts.{AreFit, AreOf}
+use Rattle.o2_world.specs.FitStarts.{AreApart, AreFit, AreOf}
 use Rattle.o2_world.specs.Tied.{IsSound, AreUsed}
 use Rattle.o2_world.specs.Reach.{IsTold}
 use Rattle.o2_world.proofs.Reached.{number_holds}
 use Rattle.o2_world.proofs.OpeningSound.{IsBetween, between_first, between_kept, named_between, IsFitProgram, SoFar, all_so_far, opened}
-use Rattle.o2_world.proofs.OpeningTied.{Ties, ties_first, ties_kept}
+use Rattle.o2_world.proofs.OpeningTied.{Ties, one_name, ties_first, ties_kept}
 use Rattle.o2_world.proofs.OpeningTold.{ToldBetween, told_first, told_kept}
 
 all_stay : (ps : List Process) (rs : List (ℕ × ℕ)) → AreUsed ps (map for_the_run rs)
@@ -20,14 +21,15 @@ all_stay ps (r ∷ rs) = (refl, all_stay ps rs)
 not_both : (b : Bool) → b ≡ true → b ≡ false → ⊥
 not_both b e f = cc
 
-sound_between : (modules : ℕ → Loaded) (reserved script : List (ℕ × ℕ)) (budget : ℕ) (input : List ℕ) (b : Built) → IsBetween b → Ties modules b → IsSound (world_of reserved script budget input b)
-sound_between modules reserved script budget input b between ties = record {
+sound_between : (modules : ℕ → Loaded) (reserved : List (ℕ × ℕ)) (script : List Word) (budget : ℕ) (input : List ℕ) (b : Built)
+    → AreApart modules → IsBetween b → Ties modules b → IsSound (world_of reserved script budget input b)
+sound_between modules reserved script budget input b apart between ties = record {
   tied = record {
     held = between.stands.held;
     below = ties.below;
     sized = ties.sized;
     clean = λ place i h s e. (ties.held place i h e).clean s;
-    one = λ place other i h k big e f. inr ((ties.held place i h e).cause, (ties.held other i k f).cause);
+    one = λ place other i h k big e f. one_name modules b.names b.made i h k apart big (ties.at place i h big e) (ties.at other i k big f);
     texts = tt;
     ended = λ place p e ends. absurd (not_both (is_live p.state) (between.stands.live place p e) ends);
     registers = λ place p e lives. between.stands.registers place p e;
@@ -35,20 +37,20 @@ sound_between modules reserved script budget input b between ties = record {
   swept = record { named = named_between b between; used = all_stay b.processes reserved };
 }
 
-pub opening_sound : (modules : ℕ → Loaded) (s : Setting) (reserved script : List (ℕ × ℕ)) (input : List ℕ) (starts : List Start) (w : World) → AreFit starts → AreOf modules starts
-    → opening_of s reserved script input starts ≡ Ok w → IsSound w
+pub opening_sound : (modules : ℕ → Loaded) (s : Setting) (reserved : List (ℕ × ℕ)) (script : List Word) (input : List ℕ) (starts : List Start) (w : World)
+    → AreApart modules → AreFit starts → AreOf modules starts → opening_of s reserved script input starts ≡ Ok w → IsSound w
 unfolding all_started
-opening_sound modules s reserved script input starts w fit of e =
+opening_sound modules s reserved script input starts w apart fit of e =
     let ties : SoFar (Ties modules) (all_started s.segments starts) = all_so_far (Ties modules) _ s.segments starts (Ok nothing_built) (ties_kept modules) of (ties_first modules) in
     let between : SoFar IsBetween (all_started s.segments starts) = all_so_far IsBetween IsFitProgram s.segments starts (Ok nothing_built) between_kept fit between_first in
     opened IsSound (λ (b : Built). IsBetween b × Ties modules b) reserved script s.budget input (all_started s.segments starts) w
-    (λ b both. sound_between modules reserved script s.budget input b both.0 both.1) (two (all_started s.segments starts) between ties) e
+    (λ b both. sound_between modules reserved script s.budget input b apart both.0 both.1) (two (all_started s.segments starts) between ties) e
   where
     two : (r : Result Built (ℕ × ModuleFault)) → SoFar IsBetween r → SoFar (Ties modules) r → SoFar (λ (b : Built). IsBetween b × Ties modules b) r
     two (Ok b) x y = (x, y)
     two (Err fault) x y = tt
 
-told_world : (reserved script : List (ℕ × ℕ)) (budget : ℕ) (input : List ℕ) (b : Built) → ToldBetween b → IsTold (world_of reserved script budget input b)
+told_world : (reserved : List (ℕ × ℕ)) (script : List Word) (budget : ℕ) (input : List ℕ) (b : Built) → ToldBetween b → IsTold (world_of reserved script budget input b)
 told_world reserved script budget input b told = record {
   live = λ q i some none.
       let a = number_holds (world_of reserved script budget input b) q i some in
@@ -58,7 +60,7 @@ told_world reserved script budget input b told = record {
   ended = λ q i some it. absurd (not_both _ it (told.none_ended q));
 }
 
-pub opening_told : (s : Setting) (reserved script : List (ℕ × ℕ)) (input : List ℕ) (starts : List Start) (w : World) → AreFit starts → opening_of s reserved script input starts ≡ Ok w → IsTold w
+pub opening_told : (s : Setting) (reserved : List (ℕ × ℕ)) (script : List Word) (input : List ℕ) (starts : List Start) (w : World) → AreFit starts → opening_of s reserved script input starts ≡ Ok w → IsTold w
 unfolding all_started
 opening_told s reserved script input starts w fit e =
     opened IsTold ToldBetween reserved script s.budget input (all_started s.segments starts) w (told_world reserved script s.budget input)

@@ -6,7 +6,7 @@ use Rattle.o2_world.specs.Map.{Map, get, put}
 use Rattle.o2_world.specs.World.{World, Process, Held, Line, HoldsBy, DropsBy}
 use Rattle.o2_world.specs.Changes.{Change, Makes, Resizes, Locks, Marks, Holds, Drops, Finishes, Reserves, Frees, Names, more, fewer, fewer_of, at_place, at_number, with_change, with_changes, with_all, takes, key_of, among, in_order, hold_lines_of, drop_lines_of, moved_lines}
 use Rattle.o2_world.specs.Sound.{held_of, held_in}
-use Rattle.o2_world.specs.Opening.{selector_of}
+use Rattle.o2_base.specs.Selectors.{selector_of}
 use Rattle.o2_world.specs.Reach.{one_if, comes, goes, came, went, holds_of, holds_at, IsThere, CanTell, CanTellAll}
 use Rattle.o2_world.proofs.MapLemmas.{get-filter, none_there, if_yes, if_no}
 use Rattle.o2_world.proofs.Numbers.{not_zero, changed_is}

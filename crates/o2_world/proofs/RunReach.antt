@@ -7,7 +7,7 @@ use Rattle.o2_world.specs.World.{World, Process, Line, Starts, HoldsBy, DropsBy,
 use Rattle.o2_world.specs.Holders.{process_at}
 use Rattle.o2_world.specs.Changes.{Change, Makes, Resizes, Locks, Marks, Holds, Drops, Finishes, Reserves, Frees, Names, takes, swept, with_change, with_changes}
 use Rattle.o2_world.specs.Calls.{Effect}
-use Rattle.o2_world.specs.Opening.{selector_of}
+use Rattle.o2_base.specs.Selectors.{selector_of}
 use Rattle.o2_world.specs.Run.{changed, worked, all_changes}
 use Rattle.o2_world.specs.Reach.{came, went, reach, tells_end, holds_at, CanTellAll, Tells, IsTold}
 use Rattle.o2_world.proofs.Reached.{came_append, went_append}

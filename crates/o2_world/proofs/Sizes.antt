@@ -10,7 +10,8 @@ use Rattle.o2_isa.specs.View.{View, Hold, is_writable, bound_in}
 use Rattle.o2_isa.specs.Steps.{State as Machine, state}
 use Rattle.o2_isa.specs.Step.{stepped}
 use Rattle.o2_isa.specs.declared.cpu.Outcome.TheVariants as outcome
-use Rattle.o2_isa.proofs.Sizes.{stepped_lengths}
+use Rattle.o2_isa.specs.Sizes.{KeepsLengths}
+use Rattle.o2_isa.proofs.Sizes.{stays, behind, stepped_lengths}
 use Rattle.o2_world.specs.declared.types.Argument.{Argument}
 use Rattle.o2_world.specs.declared.types.Row.{Row}
 use Rattle.o2_world.specs.declared.types.Row.TheVariants.{DosExit, DosGetPid, DosRead, DosWrite, DosMemAvail}
@@ -18,23 +19,8 @@ use Rattle.o2_world.specs.World.{is_live}
 use Rattle.o2_world.specs.Calls.{Before, Effect, argument, has_arguments, has_range, may_read, may_write, put_in, put_at_pointer, word_bytes, is_console, written, dos_write, dos_exit, told_at, told, bytes_with, may_take, read_from, dos_read, row_of, served_by}
 use Rattle.o2_world.specs.Effect.{has_trap_flag, answered, effect}
 
--- The view behind an instruction.
-
--- each name has as many bytes as before
-pub record KeepsSizes (old new : ℕ → List ℕ) : Type 0 where
-  pub same : (q : ℕ) → length (new q) ≡ length (old q)
-
-stays : (f : ℕ → List ℕ) → KeepsSizes f f
-stays f = record { same = λ q. refl }
-
-behind : (f g h : ℕ → List ℕ) → KeepsSizes f g → KeepsSizes g h → KeepsSizes f h
-behind f g h a b = record { same = λ q. b.same q ∙ a.same q }
-
 same_name : (n m : ℕ) → (n == m) ≡ true → n ≡ m
 same_name n m e = grind arith
-
-stepped_sizes : (c : Cpu) (v : View) (t : Machine) → stepped (state c v) ≡ Ok t → KeepsSizes v.bytes t.view.bytes
-stepped_sizes c v t e = record { same = stepped_lengths outcome.Done t (state c v) e }
 
 -- The bytes behind a pointer.
 
@@ -45,7 +31,7 @@ in_range : (a b : Bool) (n m : ℕ) → (a && nat_le n m) ≡ true → n ≤ m
 in_range true b n m e = grind arith
 in_range false b n m e = absurd (cc)
 
-put_sizes : (f : ℕ → List ℕ) (offset : ℕ) (part : List ℕ) (o : Option Hold) → has_range f is_writable offset (length part) o ≡ true → KeepsSizes f (put_in f offset part o)
+put_sizes : (f : ℕ → List ℕ) (offset : ℕ) (part : List ℕ) (o : Option Hold) → has_range f is_writable offset (length part) o ≡ true → KeepsLengths f (put_in f offset part o)
 put_sizes f offset part None e = absurd (cc)
 put_sizes f offset part (Some h) e = record { same = λ q. go q (q == h.name) refl }
   where
@@ -59,7 +45,7 @@ put_sizes f offset part (Some h) e = record { same = λ q. go q (q == h.name) re
 nothing_put : (bytes : List ℕ) (at : ℕ) → length (put_part bytes at []) ≡ length bytes
 nothing_put bytes at = grind (arith, common_steps)
 
-no_sizes : (f : ℕ → List ℕ) (offset : ℕ) (part : List ℕ) (o : Option Hold) → part ≡ [] → KeepsSizes f (put_in f offset part o)
+no_sizes : (f : ℕ → List ℕ) (offset : ℕ) (part : List ℕ) (o : Option Hold) → part ≡ [] → KeepsLengths f (put_in f offset part o)
 no_sizes f offset part None e = stays f
 no_sizes f offset part (Some h) e = record { same = λ q. go q (q == h.name) }
   where
@@ -75,17 +61,17 @@ or_cases : {P : Type 0} (a b : Bool) → (a || b) ≡ true → (a ≡ true → P
 or_cases true b e f g = f refl
 or_cases false b e f g = g e
 
-pointer_sizes : (held : ℕ → Option Hold) (f : ℕ → List ℕ) (s offset : ℕ) (part : List ℕ) → may_write held f s offset (length part) ≡ true → KeepsSizes f (put_at_pointer held f s offset part)
+pointer_sizes : (held : ℕ → Option Hold) (f : ℕ → List ℕ) (s offset : ℕ) (part : List ℕ) → may_write held f s offset (length part) ≡ true → KeepsLengths f (put_at_pointer held f s offset part)
 unfolding may_write put_at_pointer
 pointer_sizes held f s offset part e =
     or_cases (length part == 0) _ e (λ none. no_sizes f offset part (bound_in held s) (none_in part none)) (λ good. put_sizes f offset part (bound_in held s) good)
 
 -- a pointer that is good is good behind a write that keeps sizes
-still_range : (f g : ℕ → List ℕ) (ok : ℕ → Bool) (offset count : ℕ) (o : Option Hold) → KeepsSizes f g → has_range f ok offset count o ≡ true → has_range g ok offset count o ≡ true
+still_range : (f g : ℕ → List ℕ) (ok : ℕ → Bool) (offset count : ℕ) (o : Option Hold) → KeepsLengths f g → has_range f ok offset count o ≡ true → has_range g ok offset count o ≡ true
 still_range f g ok offset count None k e = e
 still_range f g ok offset count (Some h) k e = ap (λ (n : ℕ). ok h.rights && nat_le (offset + count) n) (k.same h.name) ∙ e
 
-still_writable : (held : ℕ → Option Hold) (f g : ℕ → List ℕ) (s offset count : ℕ) → KeepsSizes f g → may_write held f s offset count ≡ true → may_write held g s offset count ≡ true
+still_writable : (held : ℕ → Option Hold) (f g : ℕ → List ℕ) (s offset count : ℕ) → KeepsLengths f g → may_write held f s offset count ≡ true → may_write held g s offset count ≡ true
 unfolding may_write
 still_writable held f g s offset count k e = go (count == 0) e
   where
@@ -96,7 +82,7 @@ still_writable held f g s offset count k e = go (count == 0) e
 -- The rows.
 
 abbrev Keeps : Before → Effect → Type 0
-Keeps b e = KeepsSizes b.view.bytes e.bytes
+Keeps b e = KeepsLengths b.view.bytes e.bytes
 
 by_test : (b : Before) (t : Bool) (e f : Effect) → (t ≡ true → Keeps b e) → Keeps b f → Keeps b (cond t e f)
 by_test b true e f h k = h refl
@@ -151,7 +137,7 @@ read_sizes : (b : Before) (next handle s o count done_selector done_offset : ℕ
 read_sizes b next handle s o count done_selector done_offset =
     by_test b (may_take b s o count done_selector done_offset) _ _ (λ good. by_test b (handle == 0) _ _ (λ _. taken (both _ _ good)) (stays b.view.bytes)) (stays b.view.bytes)
   where
-    taken : (may_write b.view.held b.view.bytes s o count ≡ true) × (may_write b.view.held b.view.bytes done_selector done_offset 2 ≡ true) → KeepsSizes b.view.bytes (bytes_with b s o done_selector done_offset (take count b.input))
+    taken : (may_write b.view.held b.view.bytes s o count ≡ true) × (may_write b.view.held b.view.bytes done_selector done_offset 2 ≡ true) → KeepsLengths b.view.bytes (bytes_with b s o done_selector done_offset (take count b.input))
     taken good =
         let first = pointer_sizes b.view.held b.view.bytes s o (take count b.input) (fewer_writable b.view.held b.view.bytes s o (length (take count b.input)) count (took count b.input) good.0) in
         behind _ _ _ first (pointer_sizes b.view.held (put_at_pointer b.view.held b.view.bytes s o (take count b.input)) done_selector done_offset (word_bytes (length (take count b.input)))
@@ -174,7 +160,7 @@ served_sizes (Some DosWrite) b next = write_sizes b next
 served_sizes (Some DosMemAvail) b next = told_sizes b next _ _ _
 
 answered_sizes : (b : Before) (r : Result Machine Stop) → stepped (state b.cpu b.view) ≡ r → Keeps b (answered b r)
-answered_sizes b (Ok s) e = stepped_sizes b.cpu b.view s e
+answered_sizes b (Ok s) e = stepped_lengths outcome.Done s (state b.cpu b.view) e
 answered_sizes b (Err (stop.Trap vector code)) e = stays b.view.bytes
 answered_sizes b (Err (stop.Gate service next)) e = served_sizes (row_of service) b next
 answered_sizes b (Err (stop.Miss s)) e = stays b.view.bytes

@@ -9,7 +9,7 @@ use Rattle.o2_world.specs.Changes.{Change, Finishes, with_change, with_changes, 
 use Rattle.o2_world.specs.Calls.{Effect}
 use Rattle.o2_world.specs.Holders.{process_at, with_process}
 use Rattle.o2_world.specs.Sound.{held_of, held_in}
-use Rattle.o2_world.specs.Opening.{selector_of}
+use Rattle.o2_base.specs.Selectors.{selector_of}
 use Rattle.o2_world.specs.Run.{changed, working, worked, all_changes}
 use Rattle.o2_world.specs.Reach.{came, went, holds_of, holds_at, CanTellAll, Tells}
 use Rattle.o2_world.proofs.Numbers.{number_some, at_place_of, process_is, with_is, changed_is}

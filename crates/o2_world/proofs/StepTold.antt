@@ -12,7 +12,7 @@ use Rattle.o2_world.specs.declared.types.Row.{Row}
 use Rattle.o2_world.specs.declared.types.Row.TheVariants.{DosExit, DosGetPid, DosRead, DosWrite, DosMemAvail}
 use Rattle.o2_world.specs.World.{World, Setting, Process, Traps, is_live}
 use Rattle.o2_world.specs.Holders.{process_at}
-use Rattle.o2_world.specs.Opening.{selector_of}
+use Rattle.o2_base.specs.Selectors.{selector_of}
 use Rattle.o2_world.specs.Changes.{Change, moved_lines}
 use Rattle.o2_world.specs.Calls.{Before, Effect, trapped, argument, has_arguments, may_read, may_write, is_console, written, dos_write, dos_exit, told_at, told, may_take, read_from, dos_read, row_of, served_by}
 use Rattle.o2_world.specs.Effect.{has_trap_flag, answered, single_stepped, effect}

@@ -7,7 +7,7 @@ use Rattle.o2_world.specs.Map.{Map, get, put}
 use Rattle.o2_world.specs.World.{World, Process, Segment, Held, Reserve, is_live}
 use Rattle.o2_world.specs.Changes.{Change, Makes, Resizes, Locks, Marks, Holds, Drops, Finishes, Reserves, Frees, Names, more, fewer, resized, at_place, at_number, with_segment, with_change}
 use Rattle.o2_world.specs.Sound.{held_of, held_in, has_rights, NamesHeld, HasGoodRegisters}
-use Rattle.o2_world.specs.Tied.{AreLive, lives_in, HasSize, AreOne, IsTied, IsUnnamed, IsFitHold, IsFitDrop, IsFitChange}
+use Rattle.o2_world.specs.Tied.{AreLive, lives_in, HasSize, IsOwnData, AreOne, IsTied, IsUnnamed, IsFitHold, IsFitDrop, IsFitChange}
 use Rattle.o2_world.proofs.Reached.{get-put, get-place, held_at_place, held_then}
 use Rattle.o2_world.proofs.MapLemmas.{if_yes, if_no}
 
@@ -90,14 +90,37 @@ pub texts_live : (old new : Map Segment) (ts : List (List ℕ × ℕ)) → ((q :
 texts_live old new [] f h = h
 texts_live old new (t ∷ ts) f h = (f t.1 h.0, texts_live old new ts f h.1)
 
--- A change of a segment that leaves its mark clean, and has a size.
-segment_tied : (w : World) (n : ℕ) (f : Segment → Segment) → ((s : Segment) → (f s).clean ≡ s.clean) → ((s : Segment) → HasSize s → HasSize (f s)) → IsTied w → IsTied (with_segment w n f)
-segment_tied w n f clean sized tied = record {
+-- a segment that was there before, with its marks clean and shared
+pub record KeepsMarks (names : Map Segment) (n : ℕ) (s : Segment) : Type 0 where
+  pub old : Segment
+  pub there : get names n ≡ Some old
+  pub clean : s.clean ≡ old.clean
+  pub shared : s.shared ≡ old.shared
+
+-- what is held under a shared index, over other names: each segment that is there has the marks of the one before
+pub still_one : (old new : Map Segment) (h k : Held) → ((s : Segment) → get new h.name ≡ Some s → KeepsMarks old h.name s)
+    → ((s : Segment) → get new k.name ≡ Some s → KeepsMarks old k.name s) → AreOne old h k → AreOne new h k
+still_one old new h k f g (inl same) = inl same
+still_one old new h k f g (inr both) = inr (still h f both.0, still k g both.1)
+  where
+    still : (x : Held) → ((s : Segment) → get new x.name ≡ Some s → KeepsMarks old x.name s) → IsOwnData old x → IsOwnData new x
+    still x keeps own = record {
+      cause = own.cause;
+      own = λ s e. let before = keeps s e in let marks = own.own before.old before.there in (before.clean ∙ marks.0, before.shared ∙ marks.1);
+    }
+
+pub same_marks : (names : Map Segment) (n : ℕ) (s : Segment) → get names n ≡ Some s → KeepsMarks names n s
+same_marks names n s e = record { old = s; there = e; clean = refl; shared = refl }
+
+-- A change of a segment that leaves its marks clean and shared, and has a size.
+segment_tied : (w : World) (n : ℕ) (f : Segment → Segment) → ((s : Segment) → (f s).clean ≡ s.clean) → ((s : Segment) → (f s).shared ≡ s.shared)
+    → ((s : Segment) → HasSize s → HasSize (f s)) → IsTied w → IsTied (with_segment w n f)
+segment_tied w n f clean shared sized tied = record {
   held = λ place i h e. let old = tied.held place i h e in (lives_same w.names n h.name f ∙ old.0, old.1);
   below = λ q e. tied.below q (sym (lives_same w.names n q f) ∙ e);
   sized = λ q s e. let from = named_from w.names n q f s e in size_by s from.old from.is (tied.sized q from.old from.there);
   clean = λ place i h s e g c. let from = named_from w.names n h.name f s g in tied.clean place i h from.old e from.there (sym (clean_by s from.old from.is) ∙ c);
-  one = tied.one;
+  one = λ place other i h k big e g. still_one w.names (put n (option_map f (get w.names n)) w.names) h k (marks h.name) (marks k.name) (tied.one place other i h k big e g);
   texts = texts_live w.names (put n (option_map f (get w.names n)) w.names) w.texts (λ q e. lives_same w.names n q f ∙ e) tied.texts;
   ended = tied.ended;
   registers = tied.registers;
@@ -111,6 +134,15 @@ segment_tied w n f clean sized tied = record {
     clean_by s old (inl same) = ap (λ (x : Segment). x.clean) same
     clean_by s old (inr same) = ap (λ (x : Segment). x.clean) same ∙ clean old
 
+    shared_by : (s old : Segment) → (s ≡ old) ⊎ (s ≡ f old) → s.shared ≡ old.shared
+    shared_by s old (inl same) = ap (λ (x : Segment). x.shared) same
+    shared_by s old (inr same) = ap (λ (x : Segment). x.shared) same ∙ shared old
+
+    marks : (q : ℕ) (s : Segment) → get (put n (option_map f (get w.names n)) w.names) q ≡ Some s → KeepsMarks w.names q s
+    marks q s e =
+        let from = named_from w.names n q f s e in
+        record { old = from.old; there = from.there; clean = clean_by s from.old from.is; shared = shared_by s from.old from.is }
+
 -- A segment with the next name.
 makes_tied : (w : World) (s : Segment) → HasSize s → IsTied w → IsTied (with_change w (Makes s))
 makes_tied w s sized tied = record {
@@ -118,7 +150,7 @@ makes_tied w s sized tied = record {
   below = λ q e. below q (w.next_name == q) refl e;
   sized = λ q t e. size q t (w.next_name == q) refl e;
   clean = λ place i h t e g c. tied.clean place i h t e (sym (if_no (w.next_name == h.name) _ _ (other h.name (tied.held place i h e).0)) ∙ g) c;
-  one = tied.one;
+  one = λ place other i h k big e f. still_one w.names new h k (marks h.name (tied.held place i h e).0) (marks k.name (tied.held other i k f).0) (tied.one place other i h k big e f);
   texts = texts_live w.names (put w.next_name (Some s) w.names) w.texts more_live tied.texts;
   ended = tied.ended;
   registers = tied.registers;
@@ -135,6 +167,9 @@ makes_tied w s sized tied = record {
 
     more_live : (q : ℕ) → lives_in w q ≡ true → is_some (get new q) ≡ true
     more_live q e = ap is_some (if_no (w.next_name == q) (Some s) (get w.names q) (other q e)) ∙ e
+
+    marks : (q : ℕ) → lives_in w q ≡ true → (t : Segment) → get new q ≡ Some t → KeepsMarks w.names q t
+    marks q lives t e = same_marks w.names q t (sym (if_no (w.next_name == q) (Some s) (get w.names q) (other q lives)) ∙ e)
 
     below : (q : ℕ) (b : Bool) → (w.next_name == q) ≡ b → is_some (get new q) ≡ true → q < w.next_name + 1
     below q true is e = let same = same_number w.next_name q true is refl in omega (arith, same)
@@ -212,9 +247,13 @@ each_from {P} ps k f old new place x e = let from = place_from ps k place f x e 
     go y there (inl same) = subst P (sym same) (old place y there)
     go y there (inr same) = subst P (sym same.1) (new y (ap (slice_get ps) (sym same.0) ∙ there))
 
-one_swap : (h k : Held) → AreOne h k → AreOne k h
-one_swap h k (inl e) = inl (sym e)
-one_swap h k (inr e) = inr (e.1, e.0)
+one_swap : (names : Map Segment) (h k : Held) → AreOne names h k → AreOne names k h
+one_swap names h k (inl e) = inl (sym e)
+one_swap names h k (inr e) = inr (e.1, e.0)
+
+-- by name and cause alone
+own_by : (names : Map Segment) (x old : Held) → x.name ≡ old.name → x.cause ≡ old.cause → IsOwnData names old → IsOwnData names x
+own_by names x old name cause own = record { cause = cause ∙ own.cause; own = λ s e. own.own s (ap (get names) (sym name) ∙ e) }
 
 holds_tied : (w : World) (p j : ℕ) (n : Held) → (p == 0) ≡ false → IsFitHold w p j n → IsTied w → IsTied (held_put w p j (more n))
 holds_tied w p j n some fit tied = record {
@@ -250,24 +289,24 @@ holds_tied w p j n some fit tied = record {
     clean_by place i h s (inr new) g c = clean_more place h s (more_is n (held_in w.processes place j) h fit.some new.is) g c
 
     -- what came agrees with all that was there under the index
-    with_old : (place other : ℕ) (h k : Held) → 4096 ≤ j → IsMore n (held_in w.processes place j) h → held_in w.processes other j ≡ Some k → AreOne h k
+    with_old : (place other : ℕ) (h k : Held) → 4096 ≤ j → IsMore n (held_in w.processes place j) h → held_in w.processes other j ≡ Some k → AreOne w.names h k
     with_old place other h k big (Old old at name rights cause some is) f = same (tied.one place other j old k big at f)
       where
-        same : AreOne old k → AreOne h k
+        same : AreOne w.names old k → AreOne w.names h k
         same (inl e) = inl (name ∙ e)
-        same (inr e) = inr (cause ∙ e.0, e.1)
-    with_old place other h k big (New none is) f = subst (λ (x : Held). AreOne x k) (sym is) (fit.one other k big f)
+        same (inr e) = inr (own_by w.names h old name cause e.0, e.1)
+    with_old place other h k big (New none is) f = subst (λ (x : Held). AreOne w.names x k) (sym is) (fit.one other k big f)
 
-    same_place : (place other : ℕ) (h k : Held) → place ≡ p - 1 → other ≡ p - 1 → more n (held_in w.processes place j) ≡ Some h → more n (held_in w.processes other j) ≡ Some k → AreOne h k
+    same_place : (place other : ℕ) (h k : Held) → place ≡ p - 1 → other ≡ p - 1 → more n (held_in w.processes place j) ≡ Some h → more n (held_in w.processes other j) ≡ Some k → AreOne w.names h k
     same_place place other h k a b e f =
         let same : Some h ≡ Some k = sym e ∙ ap (λ q. more n (held_in w.processes q j)) (a ∙ sym b) ∙ f in
         inl (ap (λ (x : Held). x.name) (let z : h ≡ k = cc in z))
 
     one_by : (place other i : ℕ) (h k : Held) → 4096 ≤ i → (held_in w.processes place i ≡ Some h) ⊎ IsNew place (p - 1) i j (more n (held_in w.processes place j)) h
-        → (held_in w.processes other i ≡ Some k) ⊎ IsNew other (p - 1) i j (more n (held_in w.processes other j)) k → AreOne h k
+        → (held_in w.processes other i ≡ Some k) ⊎ IsNew other (p - 1) i j (more n (held_in w.processes other j)) k → AreOne w.names h k
     one_by place other i h k big (inl e) (inl f) = tied.one place other i h k big e f
     one_by place other i h k big (inr new) (inl f) = with_old place other h k (subst (λ x. 4096 ≤ x) new.index big) (more_is n (held_in w.processes place j) h fit.some new.is) (subst (λ x. held_in w.processes other x ≡ Some k) new.index f)
-    one_by place other i h k big (inl e) (inr new) = one_swap k h (with_old other place k h (subst (λ x. 4096 ≤ x) new.index big) (more_is n (held_in w.processes other j) k fit.some new.is) (subst (λ x. held_in w.processes place x ≡ Some h) new.index e))
+    one_by place other i h k big (inl e) (inr new) = one_swap w.names k h (with_old other place k h (subst (λ x. 4096 ≤ x) new.index big) (more_is n (held_in w.processes other j) k fit.some new.is) (subst (λ x. held_in w.processes place x ≡ Some h) new.index e))
     one_by place other i h k big (inr new) (inr newer) = same_place place other h k new.at newer.at new.is newer.is
 
 -- Holds less.
@@ -337,9 +376,9 @@ drops_tied w p j count positive fit tied = record {
         go (inl old) = record { old = h; at = old; name = refl; rights = refl; cause = refl; some = (tied.held place i h old).1 }
         go (inr new) = subst (λ x. IsFewer count (held_in w.processes place x) h) (sym new.index) (fewer_is count (held_in w.processes place j) h new.is)
 
-    one_by : (h k a b : Held) → h.name ≡ a.name → k.name ≡ b.name → h.cause ≡ a.cause → k.cause ≡ b.cause → AreOne a b → AreOne h k
+    one_by : (h k a b : Held) → h.name ≡ a.name → k.name ≡ b.name → h.cause ≡ a.cause → k.cause ≡ b.cause → AreOne w.names a b → AreOne w.names h k
     one_by h k a b e f c d (inl x) = inl (e ∙ x ∙ sym f)
-    one_by h k a b e f c d (inr x) = inr (c ∙ x.0, d ∙ x.1)
+    one_by h k a b e f c d (inr x) = inr (own_by w.names h a e c x.0, own_by w.names k b f d x.1)
 
 -- An end.
 
@@ -407,9 +446,9 @@ numbered w p f there tied = go (p == 0) refl
 -- One change, by its kind.
 pub change_tied : (w : World) (c : Change) → IsFitChange w c → IsTied w → IsTied (with_change w c)
 change_tied w (Makes s) fit tied = makes_tied w s fit tied
-change_tied w (Resizes n size) fit tied = segment_tied w n (λ (s : Segment). record s { bytes = resized size s.bytes }) (λ s. refl) (λ s _. subst (λ k. (0 < k) × (k ≤ 65536)) (sym (resized_length size s.bytes)) fit) tied
-change_tied w (Locks n count) fit tied = segment_tied w n (λ (s : Segment). record s { lock = count }) (λ s. refl) (λ s h. h) tied
-change_tied w (Marks n d) fit tied = segment_tied w n (λ (s : Segment). record s { discarded = d }) (λ s. refl) (λ s h. h) tied
+change_tied w (Resizes n size) fit tied = segment_tied w n (λ (s : Segment). record s { bytes = resized size s.bytes }) (λ s. refl) (λ s. refl) (λ s _. subst (λ k. (0 < k) × (k ≤ 65536)) (sym (resized_length size s.bytes)) fit) tied
+change_tied w (Locks n count) fit tied = segment_tied w n (λ (s : Segment). record s { lock = count }) (λ s. refl) (λ s. refl) (λ s h. h) tied
+change_tied w (Marks n d) fit tied = segment_tied w n (λ (s : Segment). record s { discarded = d }) (λ s. refl) (λ s. refl) (λ s h. h) tied
 change_tied w (Holds p i h) fit tied = numbered w p (put_held (more h) i) (λ some. holds_tied w p i h some fit tied) tied
 change_tied w (Drops p i count) fit tied = numbered w p (put_held (fewer count) i) (λ some. drops_tied w p i count some fit tied) tied
 change_tied w (Finishes p state) fit tied = numbered w p (λ (x : Process). record x { state = state; held = [] }) (λ _. finishes_tied w p state fit tied) tied

@@ -9,7 +9,7 @@ use Rattle.o2_world.specs.Changes.{Change, takes, used, is_used, told_of, swept,
 use Rattle.o2_world.specs.Tied.{AreLive, IsTied, IsSwept, AreUsed, AreFitChanges}
 use Rattle.o2_world.proofs.MapLemmas.{get-filter, if_yes, if_no}
 use Rattle.o2_world.proofs.Keeps.{held_found}
-use Rattle.o2_world.proofs.TiedChanges.{change_tied}
+use Rattle.o2_world.proofs.TiedChanges.{KeepsMarks, still_one, same_marks, change_tied}
 
 pub changes_tied : (w : World) (cs : List Change) → AreFitChanges w cs → IsTied w → IsTied (with_changes w cs)
 unfolding with_changes
@@ -50,11 +50,14 @@ swept_tied w tied = record {
   below = λ q e. tied.below q (kept_live w.processes w.names q e).1;
   sized = λ q s e. tied.sized q s (kept_was w.processes w.names q s e);
   clean = λ place i h s e g c. tied.clean place i h s e (kept_was w.processes w.names h.name s g) c;
-  one = tied.one;
+  one = λ place other i h k big e f. still_one w.names (kept w.processes w.names) h k (marks h.name) (marks k.name) (tied.one place other i h k big e f);
   texts = told_live w.processes w.names w.texts tied.texts;
   ended = tied.ended;
   registers = tied.registers;
 }
+  where
+    marks : (q : ℕ) (s : Segment) → get (kept w.processes w.names) q ≡ Some s → KeepsMarks w.names q s
+    marks q s e = same_marks w.names q s (kept_was w.processes w.names q s e)
 
 used_by : (ps : List Process) (r : Reserve) (rs : List Reserve) (b : Bool) → is_used ps r ≡ b → AreUsed ps rs → AreUsed ps (cond b (r ∷ rs) rs)
 used_by ps r rs true is h = (is, h)

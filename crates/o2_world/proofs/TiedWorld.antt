@@ -18,7 +18,7 @@ use Rattle.o2_world.proofs.Keeps.{bytes_there, some_is, held_same_at, each_at}
 use Rattle.o2_world.proofs.Numbers.{not_zero, number_some, at_place_of, process_is, with_is, changed_is}
 use Rattle.o2_world.proofs.Reached.{get-place}
 use Rattle.o2_world.proofs.StepReach.{same_at, live_changes, end_changes}
-use Rattle.o2_world.proofs.TiedChanges.{texts_live}
+use Rattle.o2_world.proofs.TiedChanges.{KeepsMarks, still_one, texts_live}
 use Rattle.o2_world.proofs.TiedSteps.{all_tied, swept_is}
 
 -- a segment behind other bytes
@@ -101,7 +101,7 @@ module _ (w : World) (d : Dispatch) (p : Process) (e : Effect) (at : process_at 
     sized = λ q s x. let r = rewritten w.names e.bytes q s x in
         subst HasSize (sym r.is) (subst (λ n. (0 < n) × (n ≤ 65536)) (sym (sizes q r.old r.there)) (tied.sized q r.old r.there));
     clean = λ place i h s x g c. let r = rewritten w.names e.bytes h.name s g in tied.clean place i h r.old (before place i h x) r.there (ap (λ (y : Segment). y.clean) (sym r.is) ∙ c);
-    one = λ place other i h k big x y. tied.one place other i h k big (before place i h x) (before other i k y);
+    one = λ place other i h k big x y. still_one w.names (with_bytes w.names e.bytes) h k (marks h.name) (marks k.name) (tied.one place other i h k big (before place i h x) (before other i k y));
     texts = texts_live w.names (with_bytes w.names e.bytes) w.texts (λ q x. bytes_there w.names e.bytes q ∙ x) tied.texts;
     ended = each_at {P = λ x. is_live x.state ≡ false → x.held ≡ []} w.processes d.current (working p e) (λ ends. absurd (dead_or_live (is_live (working p e).state) true still_live ends)) tied.ended;
     registers = each_at {P = λ x. is_live x.state ≡ true → HasGoodRegisters x} w.processes d.current (working p e) (λ _. good) tied.registers;
@@ -109,6 +109,11 @@ module _ (w : World) (d : Dispatch) (p : Process) (e : Effect) (at : process_at 
     where
       before : (place i : ℕ) (h : Held) → held_in (with_process w.processes d.current (working p e)) place i ≡ Some h → held_in w.processes place i ≡ Some h
       before place i h x = sym (same_at w.processes d.current p (working p e) place i at refl) ∙ x
+
+      marks : (q : ℕ) (s : Segment) → get (with_bytes w.names e.bytes) q ≡ Some s → KeepsMarks w.names q s
+      marks q s x =
+          let r = rewritten w.names e.bytes q s x in
+          record { old = r.old; there = r.there; clean = ap (λ (y : Segment). y.clean) r.is; shared = ap (λ (y : Segment). y.shared) r.is }
 
   -- bytes and registers take no holder from a name or a run
   pub worked_swept : IsSwept w → IsSwept (worked w d p e)

@@ -3,9 +3,9 @@ use Rattle.std.specs.Prelude.{ℕ, zero, suc, ◌+◌, ◌-◌, ◌*◌, Bool, t
 use Rattle.std.specs.List.{list_any}
 use Rattle.o2_world.specs.declared.types.State.{State}
 use Rattle.o2_world.specs.Map.{Map, get, put}
-use Rattle.o2_world.specs.World.{World, Process, Segment, Held, Reserve, Line, HoldsBy, DropsBy}
+use Rattle.o2_world.specs.World.{World, Process, Segment, Held, Reserve, Line, Starts, HoldsBy, DropsBy, Calls, Exits, Ends, Traps}
 use Rattle.o2_world.specs.Holders.{is_held, kept, process_at}
-use Rattle.o2_world.specs.Opening.{selector_of}
+use Rattle.o2_base.specs.Selectors.{selector_of}
 
 pub data Change : Type 0 where
   -- a segment with the next name
@@ -104,9 +104,16 @@ swept w = record w { names = kept w.processes w.names; reserved = used w.process
 
 -- a change that takes holds
 abbrev pub takes : Change → Bool
+takes (Makes s) = false
+takes (Resizes n size) = false
+takes (Locks n count) = false
+takes (Marks n discarded) = false
+takes (Holds p i h) = false
 takes (Drops p i count) = true
 takes (Finishes p state) = true
-takes _ = false
+takes (Reserves r) = false
+takes (Frees region first) = false
+takes (Names text name) = false
 
 -- the world with all changes of a step
 abbrev pub with_all : World → List Change → World
@@ -116,9 +123,13 @@ with_all w cs = if list_any takes cs then swept (with_changes w cs) else with_ch
 
 -- a line among lines in order; those of one process and selector are the same
 abbrev pub key_of : Line → ℕ
-key_of (HoldsBy p s cause) = 65536 * p + s
-key_of (DropsBy p s cause) = 65536 * p + s
-key_of _ = 0
+key_of (Starts q name) = 0
+key_of (HoldsBy q t cause) = 65536 * q + t
+key_of (DropsBy q t cause) = 65536 * q + t
+key_of (Calls q name args error values) = 0
+key_of (Exits q action code) = 0
+key_of (Ends q code) = 0
+key_of (Traps q vector t offset) = 0
 
 abbrev pub among : Line → List Line → List Line
 among l [] = l ∷ []
@@ -129,12 +140,28 @@ in_order [] = []
 in_order (l ∷ ls) = among l (in_order ls)
 
 abbrev pub hold_lines_of : List ℕ → Change → List Line
+hold_lines_of cause (Makes s) = []
+hold_lines_of cause (Resizes n size) = []
+hold_lines_of cause (Locks n count) = []
+hold_lines_of cause (Marks n discarded) = []
 hold_lines_of cause (Holds p i h) = replicate h.holds (HoldsBy p (selector_of i) cause)
-hold_lines_of cause _ = []
+hold_lines_of cause (Drops p i count) = []
+hold_lines_of cause (Finishes p state) = []
+hold_lines_of cause (Reserves r) = []
+hold_lines_of cause (Frees region first) = []
+hold_lines_of cause (Names text name) = []
 
 abbrev pub drop_lines_of : List ℕ → Change → List Line
+drop_lines_of cause (Makes s) = []
+drop_lines_of cause (Resizes n size) = []
+drop_lines_of cause (Locks n count) = []
+drop_lines_of cause (Marks n discarded) = []
+drop_lines_of cause (Holds p i h) = []
 drop_lines_of cause (Drops p i count) = replicate count (DropsBy p (selector_of i) cause)
-drop_lines_of cause _ = []
+drop_lines_of cause (Finishes p state) = []
+drop_lines_of cause (Reserves r) = []
+drop_lines_of cause (Frees region first) = []
+drop_lines_of cause (Names text name) = []
 
 -- first those that came
 unfoldable pub moved_lines : List ℕ → List Change → List Line

@@ -1,8 +1,8 @@
 -- What a start is like for the opening world to be sound.
-use Rattle.std.specs.Prelude.{◌≡◌, ℕ, ◌+◌, ◌≤◌, ◌<◌, ◌==◌, true, false, List, ◌∷◌, ◌++◌, length, map, flat_map, Option, Some, None}
+use Rattle.std.specs.Prelude.{◌≡◌, ℕ, ◌+◌, ◌≤◌, ◌<◌, ◌==◌, Bool, true, false, List, ◌∷◌, ◌++◌, length, map, flat_map, Option, Some, None}
 use Rattle.std.specs.List.{All, AllByRecursion, IsDistinct}
-use Rattle.o2_isa.specs.View.{is_readable}
-use Rattle.o2_world.specs.Starts.{Loaded, LoadedSegment, Start, Holding, holdings, nth_loaded}
+use Rattle.o2_isa.specs.View.{is_readable, is_writable}
+use Rattle.o2_world.specs.Starts.{Loaded, LoadedSegment, Start, Holding, holdings, nth_loaded, is_common}
 
 abbrev pub module_indexes : Loaded → List ℕ
 module_indexes m = map (λ (x : LoadedSegment). x.index) m.segments
@@ -25,19 +25,50 @@ pub record IsFit (s : Start) : Type 0 where
 abbrev pub AreFit : List Start → Type 0
 AreFit starts = All (λ (s : Start). s.program.library ≡ false → IsFit s) starts
 
+-- a segment by the place of its module and its number there: its access byte, its index, and whether one name serves all
+
+abbrev pub segment_at : (ℕ → Loaded) → ℕ → ℕ → Option LoadedSegment
+segment_at modules place number = nth_loaded number (modules place).segments
+
 abbrev pub rights_or_none : Option LoadedSegment → ℕ
 rights_or_none None = 0
 rights_or_none (Some x) = x.rights
 
--- the access byte of a segment by the place of its module and its number there
 abbrev pub rights_at : (ℕ → Loaded) → ℕ → ℕ → ℕ
-rights_at modules place number = rights_or_none (nth_loaded number (modules place).segments)
+rights_at modules place number = rights_or_none (segment_at modules place number)
 
--- a segment that a process holds from its start on has 1 to 65,536 bytes, and where it is common it is one of these modules
+abbrev pub index_or_none : Option LoadedSegment → ℕ
+index_or_none None = 0
+index_or_none (Some x) = x.index
+
+abbrev pub segment_index : (ℕ → Loaded) → ℕ → ℕ → ℕ
+segment_index modules place number = index_or_none (segment_at modules place number)
+
+abbrev pub common_or_none : Option LoadedSegment → Bool
+common_or_none None = false
+common_or_none (Some x) = is_common x
+
+abbrev pub is_common_at : (ℕ → Loaded) → ℕ → ℕ → Bool
+is_common_at modules place number = common_or_none (segment_at modules place number)
+
+-- no shared index stands for two segments of these modules
+abbrev pub AreApart : (ℕ → Loaded) → Type 0
+AreApart modules = (p n q m : ℕ) → 4096 ≤ segment_index modules p n → segment_index modules p n ≡ segment_index modules q m
+    → (p ≡ q) × (n ≡ m)
+
+-- What a process holds under an index is the segment of these modules that has this index.
+pub record IsOfModule (modules : ℕ → Loaded) (h : Holding) : Type 0 where
+  pub index : segment_index modules h.place h.number ≡ h.index
+  pub common : is_common_at modules h.place h.number ≡ h.common
+
+-- A segment that a process holds from its start on has 1 to 65,536 bytes. Where it is common it is one of these modules, and so
+-- it is under a shared index; what isn't common can be written.
 pub record IsWhole (modules : ℕ → Loaded) (h : Holding) : Type 0 where
   pub some : 0 < length h.bytes
   pub most : length h.bytes ≤ 65536
   pub rights : h.common ≡ true → h.rights ≡ rights_at modules h.place h.number
+  pub shared : 4096 ≤ h.index → IsOfModule modules h
+  pub own : h.common ≡ false → is_writable h.rights ≡ true
 
 abbrev pub IsOf : (ℕ → Loaded) → Start → Type 0
 IsOf modules s = (pid : ℕ) → AllByRecursion (IsWhole modules) (holdings pid s)

@@ -1,10 +1,6 @@
 -- What a start gives a process: selectors held by load, and the lines that tell of them.
-use Rattle.std.specs.Prelude.{ℕ, ◌+◌, ◌-◌, ◌*◌, ◌%◌, List, ◌∷◌, map, codes}
+use Rattle.std.specs.Prelude.{ℕ, ◌-◌, ◌%◌, List, ◌∷◌, map, codes}
 use Rattle.o2_world.specs.World.{Held, Line, Starts, HoldsBy, ByLoad}
-
--- the selector of an index in the local descriptor table
-abbrev pub selector_of : ℕ → ℕ
-selector_of index = 8 * index + 7
 
 abbrev pub held_by_load : ℕ → ℕ → Held
 held_by_load name rights = record { name = name; rights = rights; holds = 1; cause = ByLoad; first = 0; reserved = 0 }

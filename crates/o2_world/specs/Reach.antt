@@ -1,10 +1,10 @@
 -- What the report tells of holds: the lines that came less those that went.
 use Rattle.std.specs.Prelude.{◌≡◌, ℕ, ◌+◌, ◌-◌, ◌<◌, ◌≤◌, Bool, true, false, List, [], ◌∷◌, if◌then◌else◌, ◌==◌, ◌&&◌, Option, Some, None, length}
-use Rattle.o2_world.specs.World.{World, Held, Line, HoldsBy, DropsBy, Ends, Traps}
-use Rattle.o2_world.specs.Changes.{Change, Holds, Drops, Finishes, with_change, moved_lines}
+use Rattle.o2_world.specs.World.{World, Held, Line, Starts, HoldsBy, DropsBy, Calls, Exits, Ends, Traps}
+use Rattle.o2_world.specs.Changes.{Change, Makes, Resizes, Locks, Marks, Holds, Drops, Finishes, Reserves, Frees, Names, with_change, moved_lines}
 use Rattle.o2_world.specs.Calls.{Effect}
 use Rattle.o2_world.specs.Sound.{held_in}
-use Rattle.o2_world.specs.Opening.{selector_of}
+use Rattle.o2_base.specs.Selectors.{selector_of}
 
 abbrev pub is_pair : (p s q t : ℕ) → Bool
 is_pair p s q t = (p == q) && (s == t)
@@ -15,12 +15,22 @@ one_if false = 0
 
 -- how many lines `p hold s by ..` and `p drop s by ..`
 abbrev pub comes : Line → (p s : ℕ) → ℕ
+comes (Starts q name) p s = 0
 comes (HoldsBy q t cause) p s = one_if (is_pair p s q t)
-comes _ p s = 0
+comes (DropsBy q t cause) p s = 0
+comes (Calls q name args error values) p s = 0
+comes (Exits q action code) p s = 0
+comes (Ends q code) p s = 0
+comes (Traps q vector t offset) p s = 0
 
 abbrev pub goes : Line → (p s : ℕ) → ℕ
+goes (Starts q name) p s = 0
+goes (HoldsBy q t cause) p s = 0
 goes (DropsBy q t cause) p s = one_if (is_pair p s q t)
-goes _ p s = 0
+goes (Calls q name args error values) p s = 0
+goes (Exits q action code) p s = 0
+goes (Ends q code) p s = 0
+goes (Traps q vector t offset) p s = 0
 
 abbrev pub came : List Line → (p s : ℕ) → ℕ
 came [] p s = 0
@@ -32,9 +42,13 @@ went (l ∷ ls) p s = goes l p s + went ls p s
 
 abbrev pub tells_end : List Line → (p : ℕ) → Bool
 tells_end [] p = false
+tells_end (Starts q name ∷ ls) p = tells_end ls p
+tells_end (HoldsBy q t cause ∷ ls) p = tells_end ls p
+tells_end (DropsBy q t cause ∷ ls) p = tells_end ls p
+tells_end (Calls q name args error values ∷ ls) p = tells_end ls p
+tells_end (Exits q action code ∷ ls) p = tells_end ls p
 tells_end (Ends q code ∷ ls) p = if p == q then true else tells_end ls p
-tells_end (Traps q v s o ∷ ls) p = if p == q then true else tells_end ls p
-tells_end (_ ∷ ls) p = tells_end ls p
+tells_end (Traps q vector t offset ∷ ls) p = if p == q then true else tells_end ls p
 
 -- by the report alone
 abbrev pub reach : List Line → (p s : ℕ) → ℕ
@@ -54,10 +68,16 @@ IsThere w p = (0 < p) × (p ≤ length w.processes)
 
 -- a change that the lines can tell: its process is there, and no more is taken than is held
 abbrev pub CanTell : World → Change → Type 0
+CanTell w (Makes s) = Unit {0}
+CanTell w (Resizes n size) = Unit {0}
+CanTell w (Locks n count) = Unit {0}
+CanTell w (Marks n discarded) = Unit {0}
 CanTell w (Holds p i h) = IsThere w p
 CanTell w (Drops p i count) = IsThere w p × (count ≤ holds_at w p i)
 CanTell w (Finishes p state) = ⊥
-CanTell w _ = Unit {0}
+CanTell w (Reserves r) = Unit {0}
+CanTell w (Frees region first) = Unit {0}
+CanTell w (Names text name) = Unit {0}
 
 abbrev pub CanTellAll : World → List Change → Type 0
 CanTellAll w [] = Unit {0}

@@ -12,7 +12,7 @@ use Rattle.o2_world.specs.declared.types.State.TheVariants.{Live}
 use Rattle.o2_world.specs.World.{Segment, Held, Calls, Cause, ByLoad, ByCall, ByAlias}
 use Rattle.o2_world.specs.Changes.{Change, Makes, Holds, Drops, moved_lines}
 use Rattle.o2_world.specs.Known.{Known, Marks}
-use Rattle.o2_world.specs.Opening.{selector_of}
+use Rattle.o2_base.specs.Selectors.{selector_of}
 use Rattle.o2_world.specs.Calls.{Before, Effect, trapped, returned, argument, has_arguments, may_write, put_at_pointer, word_bytes}
 
 -- a call that comes back: error number, values, changes, and the bytes behind its pointers

@@ -1,15 +1,19 @@
 -- How processes start over linked modules: what each holds, its registers, and the world before the first step.
 use Rattle.std.specs.Prelude.{ℕ, ◌+◌, ◌-◌, ◌%◌, Bool, true, false, not, List, [], ◌∷◌, ◌++◌, length, fold, map, flat_map, replicate, slice_get, nat_lt, Option, Some, None, option_map, unwrap_or, Result, Ok, Err, if◌then◌else◌, ◌==◌, ◌&&◌, ◌||◌}
+use Rattle.o2_conf.specs.declared.script.Word.{Word}
 use Rattle.o2_base.specs.declared.faults.ModuleFault.{ModuleFault}
 use Rattle.o2_base.specs.declared.faults.ModuleFault.TheVariants.{NoStack, NoEntry, NoSegment}
-use Rattle.o2_desc.specs.Bits.{writable_data}
+use Rattle.o2_desc.specs.Bits.{writable_data, no_flags}
 use Rattle.o2_isa.specs.declared.cpu.Cpu.{Cpu}
+use Rattle.o2_isa.specs.declared.flags.Flag.TheVariants.{Interrupt}
+use Rattle.o2_isa.specs.Flags.{put}
 use Rattle.o2_isa.specs.View.{is_code, is_writable}
 use Rattle.o2_world.specs.declared.types.Made.{Made}
 use Rattle.o2_world.specs.declared.types.State.TheVariants.{Live}
 use Rattle.o2_world.specs.Map.{Map}
 use Rattle.o2_world.specs.World.{World, Setting, Process, Segment, Held, Line, Reserve}
-use Rattle.o2_world.specs.Opening.{selector_of, held_by_load, start_lines, even}
+use Rattle.o2_base.specs.Selectors.{selector_of}
+use Rattle.o2_world.specs.Opening.{held_by_load, start_lines, even}
 
 -- a segment of a module: its index in the local descriptor tables, its access byte, whether its data is one for all
 -- processes, and its image, which is as long as the segment
@@ -129,6 +133,10 @@ abbrev pub data_selector : Loaded → Option ℕ → ℕ
 data_selector m None = 0
 data_selector m (Some size) = selector_of m.auto_seg
 
+-- of the flags only IF is set
+abbrev pub first_flags : ℕ
+first_flags = put no_flags Interrupt true
+
 -- by the number of segments and the size of the automatic data's image
 abbrev pub cpu_by : Loaded → ℕ → Option ℕ → ℕ → Cpu
 cpu_by m count size command = record {
@@ -141,7 +149,7 @@ cpu_by m count size command = record {
   si = m.heap;
   di = m.place;
   ip = m.ip;
-  flags = 0x0202;
+  flags = first_flags;
   cs = selector_of m.cs;
   ds = data_selector m size;
   es = 0;
@@ -268,7 +276,7 @@ abbrev pub for_the_run : ℕ × ℕ → Reserve
 for_the_run r = record { region = 0; first = r.0; count = r.1; stays = true }
 
 -- the world of processes that have started
-abbrev pub world_of : List (ℕ × ℕ) → List (ℕ × ℕ) → ℕ → List ℕ → Built → World
+abbrev pub world_of : List (ℕ × ℕ) → List Word → ℕ → List ℕ → Built → World
 world_of reserved script budget input b = record {
   names = b.names;
   next_name = b.next_name;
@@ -281,11 +289,11 @@ world_of reserved script budget input b = record {
   lines = b.lines;
 }
 
-abbrev pub where_started : List (ℕ × ℕ) → List (ℕ × ℕ) → ℕ → List ℕ → Result Built (ℕ × ModuleFault) → Result World (ℕ × ModuleFault)
+abbrev pub where_started : List (ℕ × ℕ) → List Word → ℕ → List ℕ → Result Built (ℕ × ModuleFault) → Result World (ℕ × ModuleFault)
 where_started reserved script budget input (Ok b) = Ok (world_of reserved script budget input b)
 where_started reserved script budget input (Err fault) = Err fault
 
 -- the world before the first step, or the process that is refused, and why: a setting with its script, the indexes of all
 -- libraries of the machine file, reached or not, the input, and the starts in the order of the machine file
-abbrev pub opening_of : Setting → List (ℕ × ℕ) → List (ℕ × ℕ) → List ℕ → List Start → Result World (ℕ × ModuleFault)
+abbrev pub opening_of : Setting → List (ℕ × ℕ) → List Word → List ℕ → List Start → Result World (ℕ × ModuleFault)
 opening_of s reserved script input starts = where_started reserved script s.budget input (all_started s.segments starts)

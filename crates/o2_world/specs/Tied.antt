@@ -14,9 +14,14 @@ lives_in w q = is_some (get w.names q)
 abbrev pub HasSize : Segment → Type 0
 HasSize s = (0 < length s.bytes) × (length s.bytes ≤ 65536)
 
+-- a library's data that each process has for itself: held by load, not clean and not shared
+pub record IsOwnData (names : Map Segment) (h : Held) : Type 0 where
+  pub cause : h.cause ≡ ByLoad
+  pub own : (s : Segment) → get names h.name ≡ Some s → (s.clean ≡ false) × (s.shared ≡ false)
+
 -- what is held under a shared index is one name, but for a library's data that each process has for itself
-abbrev pub AreOne : Held → Held → Type 0
-AreOne h k = (h.name ≡ k.name) ⊎ ((h.cause ≡ ByLoad) × (k.cause ≡ ByLoad))
+abbrev pub AreOne : Map Segment → Held → Held → Type 0
+AreOne names h k = (h.name ≡ k.name) ⊎ (IsOwnData names h × IsOwnData names k)
 
 -- each text is that of a live name, those that lie behind others too
 abbrev pub AreLive : Map Segment → List (List ℕ × ℕ) → Type 0
@@ -30,8 +35,10 @@ pub record IsTied (w : World) : Type 0 where
   pub below : (q : ℕ) → lives_in w q ≡ true → q < w.next_name
   pub sized : (q : ℕ) (s : Segment) → get w.names q ≡ Some s → HasSize s
   -- nobody may write what is clean
-  pub clean : (place i : ℕ) (h : Held) (s : Segment) → held_in w.processes place i ≡ Some h → get w.names h.name ≡ Some s → s.clean ≡ true → is_writable h.rights ≡ false
-  pub one : (place other i : ℕ) (h k : Held) → 4096 ≤ i → held_in w.processes place i ≡ Some h → held_in w.processes other i ≡ Some k → AreOne h k
+  pub clean : (place i : ℕ) (h : Held) (s : Segment) → held_in w.processes place i ≡ Some h → get w.names h.name ≡ Some s
+      → s.clean ≡ true → is_writable h.rights ≡ false
+  pub one : (place other i : ℕ) (h k : Held) → 4096 ≤ i → held_in w.processes place i ≡ Some h
+      → held_in w.processes other i ≡ Some k → AreOne w.names h k
   -- texts are those of live names
   pub texts : AreLive w.names w.texts
   -- a process that has ended holds nothing, and the registers of one that lives name what it holds
@@ -64,7 +71,7 @@ pub record IsFitHold (w : World) (p i : ℕ) (h : Held) : Type 0 where
   pub some : 0 < h.holds
   pub clean : (s : Segment) → get w.names h.name ≡ Some s → s.clean ≡ true → is_writable h.rights ≡ false
   pub goes_on : (x : Process) → process_at w.processes p ≡ Some x → is_live x.state ≡ true
-  pub one : (place : ℕ) (k : Held) → 4096 ≤ i → held_in w.processes place i ≡ Some k → AreOne h k
+  pub one : (place : ℕ) (k : Held) → 4096 ≤ i → held_in w.processes place i ≡ Some k → AreOne w.names h k
 
 -- some holds are left, or no register of the process, where it lives, names the index
 abbrev pub IsFitDrop : World → (p i count : ℕ) → Type 0

@@ -1,8 +1,9 @@
 // Laws of the boundless machine.
 ghost use Rattle.std.specs.Prelude.{◌≡◌, ◌≢◌, ◌-◌, ◌+◌, ◌==◌, ◌&&◌, not, ◌<◌, ◌≤◌, ℕ, ◌++◌, List, [], ◌∷◌, codes, true, false, slice_get, Ok, Some};
+ghost use Rattle.o2_conf.specs.declared.script.Word.{Word};
 ghost use Rattle.o2_world.specs.World.{World, Setting, Reserve};
 ghost use Rattle.o2_world.specs.Starts.{Loaded, Start, opening_of};
-ghost use Rattle.o2_world.specs.FitStarts.{AreFit, AreOf};
+ghost use Rattle.o2_world.specs.FitStarts.{AreApart, AreFit, AreOf};
 ghost use Rattle.o2_world.specs.Run.{after, step, next_dispatch, is_over, steps_done, IsLast, console as console_text, report as report_text};
 ghost use Rattle.std.specs.Prelude.{length};
 ghost use Rattle.std.specs.List.{list_any};
@@ -17,7 +18,7 @@ ghost use Rattle.o2_world.specs.Known.{is_for_the_run};
 ghost use Rattle.o2_world.specs.SharedMarks.{shared_marks, some_marks};
 ghost use Rattle.o2_world.specs.Changes.{takes, used, told_of, moved_lines, with_changes};
 ghost use Rattle.o2_world.specs.Calls.{Effect};
-ghost use Rattle.o2_world.specs.Opening.{selector_of};
+ghost use Rattle.o2_base.specs.Selectors.{selector_of};
 ghost use Rattle.o2_world.specs.Sound.{HasGoodRegisters};
 ghost use Rattle.o2_world.specs.Run.{changed, worked, working};
 ghost use Rattle.o2_world.specs.Reach.{CanTellAll, Tells, IsTold, reach, tells_end, holds_at, came, went};
@@ -40,21 +41,21 @@ pub fn hello_runs_in_ten_steps()
 
 /// The world before the first step is sound, where each start of a program has its segments under their numbers, no index for
 /// two segments, and automatic data that can be read, and where the starts are over the same modules, with segments of 1 to
-/// 65,536 bytes.
+/// 65,536 bytes, of which no two have one shared index.
 pub fn opening_worlds_are_sound()
-    ensures { (modules : ℕ → Loaded) (s : Setting) (reserved script : List (ℕ × ℕ)) (input : List ℕ) (starts : List Start) (w : World) → AreFit starts → AreOf modules starts
+    ensures { (modules : ℕ → Loaded) (s : Setting) (reserved : List (ℕ × ℕ)) (script : List Word) (input : List ℕ) (starts : List Start) (w : World) → AreApart modules → AreFit starts → AreOf modules starts
         → opening_of s reserved script input starts ≡ Ok w → IsSound w }
 {}
 
 /// What is held before the first step is what the lines of the starts tell.
 pub fn opening_worlds_are_told()
-    ensures { (s : Setting) (reserved script : List (ℕ × ℕ)) (input : List ℕ) (starts : List Start) (w : World) → AreFit starts
+    ensures { (s : Setting) (reserved : List (ℕ × ℕ)) (script : List Word) (input : List ℕ) (starts : List Start) (w : World) → AreFit starts
         → opening_of s reserved script input starts ≡ Ok w → IsTold w }
 {}
 
 /// Each step keeps a sound world sound. What is held is a live segment of 1 to 65,536 bytes and is held at least once, and
-/// nobody may write what is clean. No name is at or above the next one. Under a shared index all hold one name, or hold by
-/// load. Each live segment is held, and each run of reserved indexes, but for those of the whole run. Texts are those of live
+/// nobody may write what is clean. No name is at or above the next one. Under a shared index all hold one name, but for a
+/// library's data that each process has for itself. Each live segment is held, and each run of reserved indexes, but for those of the whole run. Texts are those of live
 /// names. A process that has ended holds nothing. Of a process that lives, CS names held code and SS held writable data, both
 /// with privilege level 3, and DS and ES are null or name held data or readable code.
 pub fn each_step_keeps_a_sound_world_sound()
@@ -111,7 +112,7 @@ pub fn what_is_held_is_the_reach_of_the_report()
 /// holds that came less those that went, and nothing behind the line of its end.
 pub fn reach_holds_along_the_run()
     ensures step { (s : Setting) (w : World) → IsTold w → IsTold (step s w) }
-    ensures run { (s : Setting) (reserved script : List (ℕ × ℕ)) (input : List ℕ) (starts : List Start) (w : World) → AreFit starts → opening_of s reserved script input starts ≡ Ok w
+    ensures run { (s : Setting) (reserved : List (ℕ × ℕ)) (script : List Word) (input : List ℕ) (starts : List Start) (w : World) → AreFit starts → opening_of s reserved script input starts ≡ Ok w
         → (k q i : ℕ) → 0 < q → reach (after s w k).lines q (selector_of i) ≡ holds_at (after s w k) q i }
 {}
 
