@@ -14,7 +14,7 @@ use Rattle.o2_dynlink.specs.Outcome.{LinkedParts, modules_of}
 use Rattle.o2_dynlink.specs.Selectors.{shared_after, base_after, bases_from, bases_of, base_at}
 use Rattle.o2_dynlink.proofs.Indexes.{nth_some}
 use Rattle.o2_world.specs.Starts.{Loaded, LoadedSegment, nth_loaded}
-use Rattle.o2_world.specs.FitStarts.{index_or_none, segment_index, AreApart}
+use Rattle.o2_world.specs.FitStarts.{index_or_none, segment_index, ShareNoIndex}
 use Rattle.o2_world.proofs.Keeps.{some_is}
 use Rattle.o2_load.specs.Loads.{index_at, loaded_segments, no_module, loaded}
 use Rattle.o2_load.proofs.Fits.{loaded_of, IsLoaded, is_loaded, program_base, none_there, at_place, index_there, runnable_at, linked_modules}
@@ -119,7 +119,7 @@ module _ (images : ImageList) (ms : List Parts) (same : modules_of images ≡ ms
       subst (λ (l : Loaded). IsShared ms place n (index_or_none (nth_loaded n l.segments))) (sym is)
       (shared_in place n (nth ms place) refl (subst (λ (l : Loaded). 4096 ≤ index_or_none (nth_loaded n l.segments)) is big))
 
-  modules_apart : AreApart (loaded images)
+  modules_apart : ShareNoIndex (loaded images)
   modules_apart p n q m big e =
       let a = is_shared p n big in
       let b = is_shared q m (subst (λ (k : ℕ). 4096 ≤ k) e big) in
@@ -151,5 +151,5 @@ module _ (images : ImageList) (ms : List Parts) (same : modules_of images ≡ ms
           let first = b.first in
           omega (arith, rise, x, y, last, first, e)
 
-pub linked_apart : (ms : List Parts) (c : Conf) (l : LinkedParts) → All IsRunnable ms → linked_of ms c ≡ Ok l → AreApart (loaded l.images)
+pub linked_apart : (ms : List Parts) (c : Conf) (l : LinkedParts) → All IsRunnable ms → linked_of ms c ≡ Ok l → ShareNoIndex (loaded l.images)
 linked_apart ms c l all e = modules_apart l.images ms (linked_modules ms c l e) all

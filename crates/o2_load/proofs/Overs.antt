@@ -21,29 +21,12 @@ use Rattle.o2_dynlink.specs.Outcome.{LinkedParts, modules_of}
 use Rattle.o2_dynlink.proofs.Indexes.{nth_some}
 use Rattle.o2_world.specs.Starts.{Loaded, LoadedSegment, Start, Holding, holding_of, module_holdings, environment_holding, library_holdings, holdings, loaded_bytes, nth_loaded}
 use Rattle.o2_world.specs.FitStarts.{segment_at, rights_or_none, rights_at, index_or_none, common_or_none, IsWhole, IsOf, AreOf}
+use Rattle.o2_world.proofs.TiedChanges.{zeros_length}
 use Rattle.o2_load.specs.Loads.{rights_of, is_shared, room_at, loaded_segment, loaded_segments, loaded_module, no_module, loaded, program_place, start_of, starts_of}
 use Rattle.o2_load.proofs.Fits.{loaded_of, at_place, loaded_length, runnable_at, linked_modules}
 use Rattle.o2_load.proofs.Images.{first_bytes_are, room_behind_fits, in_list, get_in}
 use Rattle.o2_load.proofs.Sizes.{bytes_length, bytes_size}
-
-zeros : (n : ℕ) → length {A = ℕ} (replicate n 0) ≡ n
-zeros zero = refl
-zeros (suc n) = ap suc (zeros n)
-
-in_length : (m : Parts) (targets : List (List Target)) (seg n : ℕ) (o : Option Segment) → length (image_in m targets seg o n) ≡ n
-in_length m targets seg n None = length-tabulate _ 0 n
-in_length m targets seg n (Some s) = length-tabulate _ 0 n
-
-module_length : (o : Option Resolution) (seg n : ℕ) → length (module_front o seg n) ≡ n
-module_length None seg n = length-tabulate _ 0 n
-module_length (Some r) seg n = in_length r.0 r.1 seg n (nth_segment seg r.0.segments)
-
-front_length : (images : ImageList) (place seg n : ℕ) → length (image_front images place seg n) ≡ n
-front_length images place seg n = go (place == 0)
-  where
-    go : (b : Bool) → length (if b then image (nth_list images.environments seg) [] n else module_front (nth images.modules place) seg n) ≡ n
-    go true = length-tabulate _ 0 n
-    go false = module_length (nth images.modules place) seg n
+use Rattle.o2_load.proofs.Wholes.{nth_is, front_length}
 
 some_size : (b : Bool) (ss : List Segment) (n : ℕ) (s : Segment) → AllSized ss → (if b then None else slice_get ss (n - 1)) ≡ Some s → 1 ≤ s.size
 some_size true ss n s all e = absurd (cc)
@@ -51,29 +34,9 @@ some_size false ss n s all e =
     let h : HasSize (get_or ss (n - 1) s) = all (n - 1) s (in_list ss (n - 1) s e) in
     (subst (λ (x : Segment). HasSize x) (get_in ss (n - 1) s e) h).0
 
-get_loaded : (images : ImageList) (place : ℕ) (m : Parts) (j : ℕ) (ss : List Segment) (k : ℕ) (s : Segment) → slice_get ss k ≡ Some s → slice_get (loaded_segments images place m j ss) k ≡ Some (loaded_segment images place m (j + k) s)
-get_loaded images place m j [] k s e = absurd (cc)
-get_loaded images place m j (x ∷ ss) zero s e =
-    let same : x ≡ s = cc in
-    let number : j ≡ j + 0 = omega arith in
-    ap (λ (y : Segment). Some (loaded_segment images place m j y)) same ∙ ap (λ (n : ℕ). Some (loaded_segment images place m n s)) number
-get_loaded images place m j (x ∷ ss) (suc k) s e =
-    let number : j + 1 + k ≡ j + suc k = omega arith in
-    get_loaded images place m (j + 1) ss k s e ∙ ap (λ (n : ℕ). Some (loaded_segment images place m n s)) number
-
 nth_there : (images : ImageList) (place : ℕ) (m : Parts) (n : ℕ) (s : Segment) → nth_segment n m.segments ≡ Some s
     → nth_loaded n (loaded_segments images place m 1 m.segments) ≡ Some (loaded_segment images place m n s)
-nth_there images place m n s e = go (n == 0) refl e
-  where
-    some_number : (n == 0) ≡ false → 1 + (n - 1) ≡ n
-    some_number is = let some : 0 < n = grind arith in omega (arith, some)
-
-    go : (b : Bool) → (n == 0) ≡ b → cond b None (slice_get m.segments (n - 1)) ≡ Some s
-        → cond b None (slice_get (loaded_segments images place m 1 m.segments) (n - 1)) ≡ Some (loaded_segment images place m n s)
-    go true is e = absurd (cc)
-    go false is e =
-        get_loaded images place m 1 m.segments (n - 1) s e
-        ∙ ap (λ (k : ℕ). Some (loaded_segment images place m k s)) (some_number is)
+nth_there images place m n s e = nth_is images place m n m.segments ∙ ap (option_map (loaded_segment images place m n)) e
 
 -- what isn't common can be written
 own_writes : (writes common : Bool) → (not writes || common) ≡ false → writes ≡ true
@@ -85,7 +48,7 @@ module _ (images : ImageList) (ms : List Parts) (same : modules_of images ≡ ms
   one_whole place n m s at e =
       let runs = runnable_at ms place all m at in
       let size : length (loaded_bytes (loaded_module images place m) n (loaded_segment images place m n s)) ≡ s.size + room_at m n =
-      ap (λ (xs : List ℕ). length xs) (sym (first_bytes_are images place n m s)) ∙ length-append (image_front images place n s.size) (replicate (room_at m n) 0) ∙ two (front_length images place n s.size) (zeros (room_at m n)) in
+      ap (λ (xs : List ℕ). length xs) (sym (first_bytes_are images place n m s)) ∙ length-append (image_front images place n s.size) (replicate (room_at m n) 0) ∙ two (front_length images place n s.size) (zeros_length (room_at m n)) in
       let fits = room_behind_fits m n s runs e in
       let some = some_size (n == 0) m.segments n s runs.sizes e in
       let there : segment_at (loaded images) place n ≡ Some (loaded_segment images place m n s) =

@@ -65,7 +65,7 @@ nth_by : (b : Bool) (images : ImageList) (place : ℕ) (m : Parts) (n : ℕ) (ss
 nth_by true images place m n ss e = refl
 nth_by false images place m n ss e = let some : 0 < n = grind arith in at_place images place m 1 ss (n - 1) n (omega (arith, some))
 
-nth_is : (images : ImageList) (place : ℕ) (m : Parts) (n : ℕ) (ss : List Segment) → nth_loaded n (loaded_segments images place m 1 ss) ≡ option_map (loaded_segment images place m n) (nth_segment n ss)
+pub nth_is : (images : ImageList) (place : ℕ) (m : Parts) (n : ℕ) (ss : List Segment) → nth_loaded n (loaded_segments images place m 1 ss) ≡ option_map (loaded_segment images place m n) (nth_segment n ss)
 nth_is images place m n ss = nth_by (n == 0) images place m n ss refl
 
 stack_same : (images : ImageList) (place : ℕ) (m : Parts) (n : ℕ) (o : Option Segment) → is_stack (option_map (loaded_segment images place m n) o) ≡ is_stack_segment o
@@ -84,7 +84,7 @@ either_length : (b : Bool) (xs ys : List ℕ) (size : ℕ) → length xs ≡ siz
 either_length true xs ys size e f = e
 either_length false xs ys size e f = f
 
-front_length : (images : ImageList) (place n size : ℕ) → length (image_front images place n size) ≡ size
+pub front_length : (images : ImageList) (place n size : ℕ) → length (image_front images place n size) ≡ size
 front_length images place n size = either_length (place == 0) _ _ size (length-tabulate _ 0 size) (module_length (nth images.modules place) n size)
 
 entry_same : (images : ImageList) (place : ℕ) (m : Parts) (n ip : ℕ) (o : Option Segment) → is_entry ip (option_map (loaded_segment images place m n) o) ≡ is_entry_segment ip o

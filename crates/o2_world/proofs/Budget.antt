@@ -47,7 +47,8 @@ step_budget s w e =
     let P : Option Process → Type 0 = λ o. (acted s w d o).dispatch.budget + 1 ≡ w.dispatch.budget in
     ap (λ (v : World). v.dispatch.budget + 1) (step_runs s w e) ∙ subst P (sym here.1) (acted_budget s w d here.0 (omega (arith, same, runs.1)) ∙ same)
 
-pub budget_after : (s : Setting) (w : World) (k : ℕ) → ((j : ℕ) → j < k → is_over (after s w j) ≡ false) → (after s w k).dispatch.budget + k ≡ w.dispatch.budget
+pub budget_after : (s : Setting) (w : World) (k : ℕ) → ((j : ℕ) → j < k → is_over (after s w j) ≡ false)
+    → (after s w k).dispatch.budget + k ≡ w.dispatch.budget
 budget_after s w zero runs = omega arith
 budget_after s w (suc k) runs =
     let before = budget_after s w k (λ j h. runs j (omega (arith, h))) in
@@ -55,7 +56,8 @@ budget_after s w (suc k) runs =
     omega (arith, before, one)
 
 -- the budget lost is the number of steps
-pub steps_counted : (s : Setting) (w : World) (k : ℕ) → w.dispatch.budget ≡ s.budget → ((j : ℕ) → j < k → is_over (after s w j) ≡ false) → steps_done s (after s w k) ≡ k
+pub steps_counted : (s : Setting) (w : World) (k : ℕ) → w.dispatch.budget ≡ s.budget → ((j : ℕ) → j < k → is_over (after s w j) ≡ false)
+    → steps_done s (after s w k) ≡ k
 steps_counted s w k whole runs = let h = budget_after s w k runs in omega (arith, h, whole)
 
 -- the last step is not past the budget
@@ -67,7 +69,8 @@ no_budget true n e = grind arith
 no_budget false n e = refl
 
 -- from step j on, with at most n steps of budget left
-search_last : (s : Setting) (w : World) (n j : ℕ) (b : Bool) → is_over (after s w j) ≡ b → ((i : ℕ) → i < j → is_over (after s w i) ≡ false) → (after s w j).dispatch.budget ≤ n → (k : ℕ) × IsLast s w k
+search_last : (s : Setting) (w : World) (n j : ℕ) (b : Bool) → is_over (after s w j) ≡ b → ((i : ℕ) → i < j → is_over (after s w i) ≡ false)
+    → (after s w j).dispatch.budget ≤ n → (k : ℕ) × IsLast s w k
 search_last s w n j true is before small = (j, record { over = is; first = before })
 search_last s w zero j false is before small =
     absurd (let all : is_over (after s w j) ≡ true = no_budget (any_lives (after s w j).processes) (after s w j).dispatch.budget (omega (arith, small)) in not_both _ all is)

@@ -123,7 +123,8 @@ module _ (p : Process) (b : Before) (i next : ℕ) (cpu : b.cpu ≡ p.cpu) (good
       above : (n : ℕ) → nat_le n 1 ≡ false → 1 < n
       above n e = grind arith
 
-  pub free_fit : (w : World) (d : Dispatch) (e : Effect) → process_at w.processes d.current ≡ Some p → e.cpu ≡ freed_cpu b (i ∷ []) (returned b.cpu next 1 0) → IsFitDrop (worked w d p e) d.current i 1
+  pub free_fit : (w : World) (d : Dispatch) (e : Effect) → process_at w.processes d.current ≡ Some p
+      → e.cpu ≡ freed_cpu b (i ∷ []) (returned b.cpu next 1 0) → IsFitDrop (worked w d p e) d.current i 1
   free_fit w d e at is x there lives = go (left_or_last (get p.held i) (is_last (get p.held i)) refl)
     where
       here : x ≡ working p e
@@ -131,6 +132,7 @@ module _ (p : Process) (b : Before) (i next : ℕ) (cpu : b.cpu ≡ p.cpu) (good
           let a : Some (working p e) ≡ Some x = sym (own_at w.processes d.current p (working p e) at) ∙ there in
           cc
 
-      go : ((h : Held) → get p.held i ≡ Some h → 1 < h.holds) ⊎ (is_last (get p.held i) ≡ true) → ((h : Held) → get x.held i ≡ Some h → 1 < h.holds) ⊎ IsUnnamed x.cpu i
+      go : ((h : Held) → get p.held i ≡ Some h → 1 < h.holds) ⊎ (is_last (get p.held i) ≡ true)
+          → ((h : Held) → get x.held i ≡ Some h → 1 < h.holds) ⊎ IsUnnamed x.cpu i
       go (inl left) = inl (subst (λ (y : Process). (h : Held) → get y.held i ≡ Some h → 1 < h.holds) (sym here) left)
       go (inr last) = inr (subst (λ (y : Process). IsUnnamed y.cpu i) (sym here) (subst (λ (c : Cpu). IsUnnamed c i) (sym is) (unnamed_after last)))

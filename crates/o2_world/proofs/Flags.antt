@@ -18,7 +18,8 @@ live_is (Trapped vector) e = absurd (cc)
 not_both : (b : Bool) → b ≡ true → b ≡ false → ⊥
 not_both b e f = cc
 
-live_place : (ps : List Process) (i : ℕ) → slice_index_or (live_flags ps) i false ≡ true → (p : Process) × (slice_get ps i ≡ Some p) × (p.state ≡ Live)
+live_place : (ps : List Process) (i : ℕ) → slice_index_or (live_flags ps) i false ≡ true
+    → (p : Process) × (slice_get ps i ≡ Some p) × (p.state ≡ Live)
 live_place [] i e = absurd (not_both _ e refl)
 live_place (p ∷ ps) zero e = (p, refl, live_is p.state e)
 live_place (p ∷ ps) (suc i) e = live_place ps i e
@@ -27,7 +28,8 @@ pub lives_some : (flags : List Bool) (n : ℕ) → lives flags n ≡ true → 0 
 lives_some flags n e = grind arith
 
 -- a number whose flag is set is that of a process that lives
-pub live_process : (ps : List Process) (flags : List Bool) (n : ℕ) → live_flags ps ≡ flags → lives flags n ≡ true → (p : Process) × (process_at ps n ≡ Some p) × (p.state ≡ Live)
+pub live_process : (ps : List Process) (flags : List Bool) (n : ℕ) → live_flags ps ≡ flags → lives flags n ≡ true
+    → (p : Process) × (process_at ps n ≡ Some p) × (p.state ≡ Live)
 live_process ps flags n same e =
     let there : slice_index_or flags (n - 1) false ≡ true = grind arith in
     let here = live_place ps (n - 1) (rw same there) in
@@ -48,12 +50,14 @@ state_after p e true is = rw is is
 state_after p e false is = rw is is
 
 -- the flags after a step of a process that goes on, and of one that ends
-pub flags_after : (ps : List Process) (flags : List Bool) (n : ℕ) (p : Process) (e : Effect) → live_flags ps ≡ flags → lives flags n ≡ true → is_live e.state ≡ true
+pub flags_after : (ps : List Process) (flags : List Bool) (n : ℕ) (p : Process) (e : Effect) → live_flags ps ≡ flags → lives flags n ≡ true
+    → is_live e.state ≡ true
     → live_flags (with_process ps n (process_after p e)) ≡ flags
 flags_after ps flags n p e same there is =
     let here : slice_index_or flags (n - 1) false ≡ true = grind arith in
     ap live_flags (with_is ps n (process_after p e) (lives_some flags n there)) ∙ rw (flags_set ps (n - 1) (process_after p e), state_after p e true is, same) (set_same flags (n - 1) here)
 
-pub flags_ended : (ps : List Process) (flags : List Bool) (n : ℕ) (p : Process) (e : Effect) → 0 < n → live_flags ps ≡ flags → is_live e.state ≡ false
+pub flags_ended : (ps : List Process) (flags : List Bool) (n : ℕ) (p : Process) (e : Effect) → 0 < n → live_flags ps ≡ flags
+    → is_live e.state ≡ false
     → live_flags (with_process ps n (process_after p e)) ≡ slice_set flags (n - 1) false
 flags_ended ps flags n p e some same is = ap live_flags (with_is ps n (process_after p e) some) ∙ rw (flags_set ps (n - 1) (process_after p e), state_after p e false is, same) refl

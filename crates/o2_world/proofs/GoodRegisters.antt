@@ -30,7 +30,8 @@ use Rattle.o2_world.specs.Sound.{has_rights, NamesHeld, HasGoodRegisters}
 
 -- What passes the load rules names a held segment of its kind.
 
-when_held : (v : View) (a s : ℕ) (ok : ℕ → Bool) (o : Option Held) → when v a s ok (option_map hold_of o) ≡ loaded.Done → has_rights ok o ≡ true
+when_held : (v : View) (a s : ℕ) (ok : ℕ → Bool) (o : Option Held) → when v a s ok (option_map hold_of o) ≡ loaded.Done
+    → has_rights ok o ≡ true
 when_held v a s ok None e = cc
 when_held v a s ok (Some h) e = go (ok h.rights) e
   where
@@ -41,11 +42,13 @@ when_held v a s ok (Some h) e = go (ok h.rights) e
 when_named : (names : Map Segment) (p : Process) (a s : ℕ) (ok : ℕ → Bool) → (let v = view_of names p in when v a s ok (found v s) ≡ loaded.Done) → NamesHeld p ok s
 when_named names p a s ok e = go (is_local s) refl e
   where
-    go : (b : Bool) → is_local s ≡ b → when (view_of names p) a s ok (cond b (holds_in p.held (s / 8)) None) ≡ loaded.Done → NamesHeld p ok s
+    go : (b : Bool) → is_local s ≡ b → when (view_of names p) a s ok (cond b (holds_in p.held (s / 8)) None) ≡ loaded.Done
+        → NamesHeld p ok s
     go true is e = (is, when_held (view_of names p) a s ok (get p.held (s / 8)) e)
     go false is e = cc
 
-data_named : (names : Map Segment) (p : Process) (s : ℕ) → Passes (view_of names p) DataReg s → (is_null s ≡ true) ⊎ NamesHeld p is_readable s
+data_named : (names : Map Segment) (p : Process) (s : ℕ) → Passes (view_of names p) DataReg s
+    → (is_null s ≡ true) ⊎ NamesHeld p is_readable s
 unfolding probe_of
 data_named names p s e = go (is_null s) refl e
   where
@@ -112,7 +115,8 @@ either c false e f h k = k
 traps : (b : Before) (vector : ℕ) → Keeps b.cpu (trapped b vector)
 traps b vector = at_same b (trapped b vector) refl
 
-written_keeps : (b : Before) (next handle selector offset count done_selector done_offset : ℕ) → Keeps b.cpu (written b next handle selector offset count done_selector done_offset)
+written_keeps : (b : Before) (next handle selector offset count done_selector done_offset : ℕ)
+    → Keeps b.cpu (written b next handle selector offset count done_selector done_offset)
 written_keeps b next handle selector offset count done_selector done_offset =
     either b.cpu (may_read b.view.held b.view.bytes selector offset count && may_write b.view.held b.view.bytes done_selector done_offset 2) _ _
     (either b.cpu (is_console handle) _ _ (returns b _ next 6 0 refl) (returns b _ next 6 6 refl))
@@ -122,7 +126,8 @@ write_keeps : (b : Before) (next : ℕ) → Keeps b.cpu (dos_write b next)
 unfolding dos_write
 write_keeps b next = either b.cpu (has_arguments b.view b.cpu 6) _ _ (let a : ℕ → ℕ = argument b.view b.cpu in written_keeps b next (a 5) (a 4) (a 3) (a 2) (a 1) (a 0)) (traps b 12)
 
-read_from_keeps : (b : Before) (next handle selector offset count done_selector done_offset : ℕ) → Keeps b.cpu (read_from b next handle selector offset count done_selector done_offset)
+read_from_keeps : (b : Before) (next handle selector offset count done_selector done_offset : ℕ)
+    → Keeps b.cpu (read_from b next handle selector offset count done_selector done_offset)
 read_from_keeps b next handle selector offset count done_selector done_offset =
     either b.cpu (may_take b selector offset count done_selector done_offset) _ _
     (either b.cpu (handle == 0) _ _ (returns b _ next 6 0 refl) (returns b _ next 6 6 refl))
@@ -136,7 +141,8 @@ exit_keeps : (b : Before) → Keeps b.cpu (dos_exit b)
 unfolding dos_exit
 exit_keeps b = either b.cpu (has_arguments b.view b.cpu 2) _ _ (at_same b _ refl) (traps b 12)
 
-told_at_keeps : (b : Before) (next : ℕ) (name part : List ℕ) (values : List Argument) (selector offset : ℕ) → Keeps b.cpu (told_at b next name part values selector offset)
+told_at_keeps : (b : Before) (next : ℕ) (name part : List ℕ) (values : List Argument) (selector offset : ℕ)
+    → Keeps b.cpu (told_at b next name part values selector offset)
 told_at_keeps b next name part values selector offset = either b.cpu (may_write b.view.held b.view.bytes selector offset (length part)) _ _ (returns b _ next 2 0 refl) (traps b 13)
 
 told_keeps : (b : Before) (next : ℕ) (name part : List ℕ) (values : List Argument) → Keeps b.cpu (told b next name part values)
@@ -163,7 +169,8 @@ answered_ruled b (Err (stop.Trap vector code)) e = kept_ruled b.view b.cpu _ (tr
 answered_ruled b (Err (stop.Gate service next)) e = kept_ruled b.view b.cpu _ (served_keeps (row_of service) b next)
 answered_ruled b (Err (stop.Miss s)) e = kept_ruled b.view b.cpu _ (traps b 11)
 
-picked_ruled : (v : View) (c : Cpu) (t : Bool) (e f : Effect) → LoadsByRules v c e.cpu → LoadsByRules v c f.cpu → LoadsByRules v c (cond t e f).cpu
+picked_ruled : (v : View) (c : Cpu) (t : Bool) (e f : Effect) → LoadsByRules v c e.cpu → LoadsByRules v c f.cpu
+    → LoadsByRules v c (cond t e f).cpu
 picked_ruled v c true e f h k = h
 picked_ruled v c false e f h k = k
 

@@ -26,7 +26,8 @@ at_hold name i held es (Some h) at e = record { index = i; hold = h; there = at;
 past_hold : (name : ℕ) (held es : Map Held) (e : ℕ × Held) → IsUnder name held es → IsUnder name held (e ∷ es)
 past_hold name held es e x = record { index = x.index; hold = x.hold; there = x.there; named = x.named }
 
-split_hold : (name : ℕ) (held es : Map Held) (e : ℕ × Held) (b : Bool) → names_it name (get held e.0) ≡ b → (b || list_any (λ (x : ℕ × Held). names_it name (get held x.0)) es) ≡ true
+split_hold : (name : ℕ) (held es : Map Held) (e : ℕ × Held) (b : Bool) → names_it name (get held e.0) ≡ b
+    → (b || list_any (λ (x : ℕ × Held). names_it name (get held x.0)) es) ≡ true
     → (list_any (λ (x : ℕ × Held). names_it name (get held x.0)) es ≡ true → IsUnder name held es) → IsUnder name held (e ∷ es)
 split_hold name held es e true is any rest = at_hold name e.0 held (e ∷ es) (get held e.0) refl is
 split_hold name held es e false is any rest = past_hold name held es e (rest any)
@@ -45,7 +46,8 @@ at_process name p ps x = record { place = 0; index = x.index; hold = x.hold; the
 past_process : (name : ℕ) (p : Process) (ps : List Process) → IsHeldBy name ps → IsHeldBy name (p ∷ ps)
 past_process name p ps x = record { place = suc x.place; index = x.index; hold = x.hold; there = x.there; named = x.named }
 
-split_process : (name : ℕ) (p : Process) (ps : List Process) (b : Bool) → holds_name p.held name ≡ b → (b || is_held ps name) ≡ true → (is_held ps name ≡ true → IsHeldBy name ps) → IsHeldBy name (p ∷ ps)
+split_process : (name : ℕ) (p : Process) (ps : List Process) (b : Bool) → holds_name p.held name ≡ b → (b || is_held ps name) ≡ true
+    → (is_held ps name ≡ true → IsHeldBy name ps) → IsHeldBy name (p ∷ ps)
 split_process name p ps true is any rest = at_process name p ps (under name p.held is)
 split_process name p ps false is any rest = past_process name p ps (rest any)
 

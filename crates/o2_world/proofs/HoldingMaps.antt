@@ -37,11 +37,13 @@ holds_adds b h None = record { name = b.next_name; held = refl }
 pub adds : (b : Built) (h : Holding) → Adds b h (with_holding b h)
 adds b h = holds_adds b h (cond h.common (name_in b.made h.place h.number) None)
 
-rights_put : (t : Bool) (x : Held) (o : Option Held) → option_map (λ (h : Held). h.rights) (cond t (Some x) o) ≡ cond t (Some x.rights) (option_map (λ (h : Held). h.rights) o)
+rights_put : (t : Bool) (x : Held) (o : Option Held)
+    → option_map (λ (h : Held). h.rights) (cond t (Some x) o) ≡ cond t (Some x.rights) (option_map (λ (h : Held). h.rights) o)
 rights_put true x o = refl
 rights_put false x o = refl
 
-step_rights : (b : Built) (h : Holding) (q : ℕ) (t : Bool) → (h.index == q) ≡ t → rights_of (with_holding b h).held q ≡ cond t (Some h.rights) (rights_of b.held q)
+step_rights : (b : Built) (h : Holding) (q : ℕ) (t : Bool) → (h.index == q) ≡ t
+    → rights_of (with_holding b h).held q ≡ cond t (Some h.rights) (rights_of b.held q)
 step_rights b h q t is =
     let x = adds b h in
     ap (λ (m : Map Held). rights_of m q) x.held
@@ -51,13 +53,15 @@ step_rights b h q t is =
 apart : (i j q : ℕ) → (i == j) ≡ false → (i == q) ≡ true → (j == q) ≡ false
 apart i j q e f = grind arith
 
-pub none_after : (hs : List Holding) (i q : ℕ) → AllByRecursion (λ j. (i == j) ≡ false) (indexes_of hs) → (i == q) ≡ true → rights_in hs q ≡ None
+pub none_after : (hs : List Holding) (i q : ℕ) → AllByRecursion (λ j. (i == j) ≡ false) (indexes_of hs) → (i == q) ≡ true
+    → rights_in hs q ≡ None
 none_after [] i q all e = refl
 none_after (h ∷ hs) i q all e = ap (λ (t : Bool). cond t (Some h.rights) (rights_in hs q)) (apart i h.index q all.0 e) ∙ none_after hs i q all.1 e
 
 -- All segments of a process.
 
-past_one : (b : Built) (h : Holding) (q : ℕ) (o p : Option ℕ) (t : Bool) → (h.index == q) ≡ t → cond t (Some h.rights) o ≡ None → (o ≡ None → p ≡ rights_of (with_holding b h).held q) → p ≡ rights_of b.held q
+past_one : (b : Built) (h : Holding) (q : ℕ) (o p : Option ℕ) (t : Bool) → (h.index == q) ≡ t → cond t (Some h.rights) o ≡ None
+    → (o ≡ None → p ≡ rights_of (with_holding b h).held q) → p ≡ rights_of b.held q
 past_one b h q o p true is e below = cc
 past_one b h q o p false is e below = below e ∙ step_rights b h q false is
 
@@ -70,7 +74,8 @@ found_one : (b : Built) (h : Holding) (q r : ℕ) (o p : Option ℕ) (t : Bool) 
 found_one b h q r o p true is e same below = same is ∙ (step_rights b h q true is ∙ e)
 found_one b h q r o p false is e same below = below e
 
-found : (hs : List Holding) (b : Built) (q r : ℕ) → AreApart (indexes_of hs) → rights_in hs q ≡ Some r → rights_of (with_holdings b hs).held q ≡ Some r
+found : (hs : List Holding) (b : Built) (q r : ℕ) → AreApart (indexes_of hs) → rights_in hs q ≡ Some r
+    → rights_of (with_holdings b hs).held q ≡ Some r
 found [] b q r d e = cc
 found (h ∷ hs) b q r d e =
     found_one b h q r (rights_in hs q) _ (h.index == q) refl e
@@ -85,7 +90,8 @@ at_all P (g ∷ hs) (suc k) h all e = at_all P hs k h all.1 e
 same_index : (n : ℕ) → (n == n) ≡ true
 same_index n = grind arith
 
-at_place : (hs : List Holding) (k : ℕ) (h : Holding) → AreApart (indexes_of hs) → slice_get hs k ≡ Some h → rights_in hs h.index ≡ Some h.rights
+at_place : (hs : List Holding) (k : ℕ) (h : Holding) → AreApart (indexes_of hs) → slice_get hs k ≡ Some h
+    → rights_in hs h.index ≡ Some h.rights
 at_place [] k h d e = absurd (cc)
 at_place (g ∷ hs) zero h d e =
     subst (λ (x : Holding). cond (g.index == x.index) (Some g.rights) (rights_in hs x.index) ≡ Some x.rights) (some_is g h (Some g) refl e)
@@ -117,7 +123,8 @@ record IsAt (x : LoadedSegment) (hs : List Holding) (k : ℕ) : Type 0 where
   pub index : holding.index ≡ x.index
   pub rights : holding.rights ≡ x.rights
 
-in_program : (m : Loaded) (n : ℕ) (ss : List LoadedSegment) (hs : List Holding) (k : ℕ) (x : LoadedSegment) → slice_get ss k ≡ Some x → IsAt x (module_holdings m n ss ++ hs) k
+in_program : (m : Loaded) (n : ℕ) (ss : List LoadedSegment) (hs : List Holding) (k : ℕ) (x : LoadedSegment) → slice_get ss k ≡ Some x
+    → IsAt x (module_holdings m n ss ++ hs) k
 in_program m n [] hs k x e = absurd (cc)
 in_program m n (s ∷ ss) hs zero x e =
     let same = some_is s x (Some s) refl e in

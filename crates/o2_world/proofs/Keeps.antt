@@ -18,7 +18,8 @@ is_some-map f None = refl
 is_some-map f (Some x) = refl
 
 -- other bytes change no name's being there
-pub bytes_there : (segments : Map Segment) (bytes : ℕ → List ℕ) (q : ℕ) → is_some (get (with_bytes segments bytes) q) ≡ is_some (get segments q)
+pub bytes_there : (segments : Map Segment) (bytes : ℕ → List ℕ) (q : ℕ)
+    → is_some (get (with_bytes segments bytes) q) ≡ is_some (get segments q)
 bytes_there segments bytes q =
     ap is_some (get-map (λ (n : ℕ) (s : Segment). record s { bytes = bytes n }) segments q) ∙ is_some-map _ (get segments q)
 
@@ -53,13 +54,15 @@ held_found [] place i h e = absurd (cc)
 held_found (p ∷ ps) zero i h e = or_left _ _ (holds_found p.held i h e)
 held_found (p ∷ ps) (suc place) i h e = or_right _ _ (held_found ps place i h e)
 
-pub held_same : (ps : List Process) (k : ℕ) (p new : Process) (q : ℕ) → slice_get ps k ≡ Some p → new.held ≡ p.held → is_held (slice_set ps k new) q ≡ is_held ps q
+pub held_same : (ps : List Process) (k : ℕ) (p new : Process) (q : ℕ) → slice_get ps k ≡ Some p → new.held ≡ p.held
+    → is_held (slice_set ps k new) q ≡ is_held ps q
 held_same [] k p new q at same = refl
 held_same (a ∷ ps) zero p new q at same = ap (λ (x : Map Held). holds_name x q || is_held ps q) (same ∙ ap (λ (x : Process). x.held) (sym (some_is a p (Some a) refl at)))
 held_same (a ∷ ps) (suc k) p new q at same = ap (λ b. holds_name a.held q || b) (held_same ps k p new q at same)
 
 -- what holds of each process holds after a write of one of which it holds
-pub each_after : {P : Process → Type 0} (ps : List Process) (k : ℕ) (new : Process) → P new → ((place : ℕ) (x : Process) → slice_get ps place ≡ Some x → P x)
+pub each_after : {P : Process → Type 0} (ps : List Process) (k : ℕ) (new : Process) → P new
+    → ((place : ℕ) (x : Process) → slice_get ps place ≡ Some x → P x)
     → (place : ℕ) (x : Process) → slice_get (slice_set ps k new) place ≡ Some x → P x
 each_after [] k new one old place x e = old place x e
 each_after {P} (a ∷ ps) zero new one old zero x e = subst P (some_is new x (Some new) refl e) one
@@ -68,11 +71,13 @@ each_after (a ∷ ps) (suc k) new one old zero x e = old zero x e
 each_after {P} (a ∷ ps) (suc k) new one old (suc place) x e = each_after {P = P} ps k new one (λ i. old (suc i)) place x e
 
 -- the same by numbers
-pub held_same_at : (ps : List Process) (n : ℕ) (p new : Process) (q : ℕ) → process_at ps n ≡ Some p → new.held ≡ p.held → is_held (with_process ps n new) q ≡ is_held ps q
+pub held_same_at : (ps : List Process) (n : ℕ) (p new : Process) (q : ℕ) → process_at ps n ≡ Some p → new.held ≡ p.held
+    → is_held (with_process ps n new) q ≡ is_held ps q
 held_same_at ps n p new q at same =
     ap (λ (qs : List Process). is_held qs q) (with_is ps n new (number_some ps n p at)) ∙ held_same ps (n - 1) p new q (at_place_of ps n p at) same
 
-pub each_at : {P : Process → Type 0} (ps : List Process) (n : ℕ) (new : Process) → P new → ((place : ℕ) (x : Process) → slice_get ps place ≡ Some x → P x)
+pub each_at : {P : Process → Type 0} (ps : List Process) (n : ℕ) (new : Process) → P new
+    → ((place : ℕ) (x : Process) → slice_get ps place ≡ Some x → P x)
     → (place : ℕ) (x : Process) → slice_get (with_process ps n new) place ≡ Some x → P x
 each_at {P} ps n new one old place x = go (n == 0)
   where
@@ -80,7 +85,8 @@ each_at {P} ps n new one old place x = go (n == 0)
     go true e = old place x e
     go false e = each_after {P = P} ps (n - 1) new one old place x e
 
-other_number : (ps : List Process) (n : ℕ) (x : Process) (place : ℕ) → place + 1 ≢ n → slice_get (with_process ps n x) place ≡ slice_get ps place
+other_number : (ps : List Process) (n : ℕ) (x : Process) (place : ℕ) → place + 1 ≢ n
+    → slice_get (with_process ps n x) place ≡ slice_get ps place
 other_number ps n x place other = go (n == 0) refl
   where
     past : (n == 0) ≡ false → place ≢ n - 1
@@ -90,12 +96,14 @@ other_number ps n x place other = go (n == 0) refl
     go true is = refl
     go false is = at_other ps (n - 1) place x (past is)
 
-acted_other : (s : Setting) (w : World) (d : Dispatch) (o : Option Process) (place : ℕ) → place + 1 ≢ d.current → slice_get (acted s w d o).processes place ≡ slice_get w.processes place
+acted_other : (s : Setting) (w : World) (d : Dispatch) (o : Option Process) (place : ℕ) → place + 1 ≢ d.current
+    → slice_get (acted s w d o).processes place ≡ slice_get w.processes place
 unfolding plainly
 acted_other s w d None place other = refl
 acted_other s w d (Some p) place other = rw (changed_plain w d p (effect (before s w d.current p)) (effect_quiet (before s w d.current p))) (other_number w.processes d.current _ place other)
 
-pub step_other : (s : Setting) (w : World) (place : ℕ) → place + 1 ≢ (next_dispatch s w).current → slice_get (step s w).processes place ≡ slice_get w.processes place
+pub step_other : (s : Setting) (w : World) (place : ℕ) → place + 1 ≢ (next_dispatch s w).current
+    → slice_get (step s w).processes place ≡ slice_get w.processes place
 unfolding step
 step_other s w place other = go (is_over w)
   where

@@ -33,16 +33,19 @@ mapped false x u f o p e h = h
 key_is : (k q : ℕ) (b : Bool) → (k == q) ≡ b → b ≡ true → k ≡ q
 key_is k q b e h = grind arith
 
-picked : {X : Type 0} (b : Bool) (x y : X) (o p : Option X) → (b ≡ true → x ≡ y) → o ≡ p → (if b then Some x else o) ≡ (if b then Some y else p)
+picked : {X : Type 0} (b : Bool) (x y : X) (o p : Option X) → (b ≡ true → x ≡ y) → o ≡ p
+    → (if b then Some x else o) ≡ (if b then Some y else p)
 picked true x y o p f e = ap Some (f refl)
 picked false x y o p f e = e
 
-pull : {X Y : Type 0} (f : X → Y) (b : Bool) (x : X) (o : Option X) → option_map f (if b then Some x else o) ≡ (if b then Some (f x) else option_map f o)
+pull : {X Y : Type 0} (f : X → Y) (b : Bool) (x : X) (o : Option X)
+    → option_map f (if b then Some x else o) ≡ (if b then Some (f x) else option_map f o)
 pull f true x o = refl
 pull f false x o = refl
 
 -- what is there after each value is changed by its key
-pub get-map : {X : Type 0} (f : ℕ → X → X) (m : Map X) (q : ℕ) → get (map (λ (e : ℕ × X). (e.0, f e.0 e.1)) m) q ≡ option_map (f q) (get m q)
+pub get-map : {X : Type 0} (f : ℕ → X → X) (m : Map X) (q : ℕ)
+    → get (map (λ (e : ℕ × X). (e.0, f e.0 e.1)) m) q ≡ option_map (f q) (get m q)
 get-map f [] q = refl
 get-map f (e ∷ es) q =
     picked (e.0 == q) (f e.0 e.1) (f q e.1) _ _ (λ same. ap (λ (k : ℕ). f k e.1) (key_is e.0 q _ refl same)) (get-map f es q)
@@ -53,6 +56,7 @@ found_step : {X : Type 0} (g : ℕ → Bool) (k i : ℕ) (u v : X) (rest : Optio
 found_step g k i u v rest below h found here = grind arith
 
 -- a key that has a value is the key of a pair
-pub found_any : {X : Type 0} (g : ℕ → Bool) (es : Map X) (i : ℕ) (v : X) → get es i ≡ Some v → g i ≡ true → list_any (λ (e : ℕ × X). g e.0) es ≡ true
+pub found_any : {X : Type 0} (g : ℕ → Bool) (es : Map X) (i : ℕ) (v : X) → get es i ≡ Some v → g i ≡ true
+    → list_any (λ (e : ℕ × X). g e.0) es ≡ true
 found_any g [] i v found here = cc
 found_any {X} g (e ∷ es) i v found here = found_step g e.0 i e.1 v (get es i) (list_any (λ (e : ℕ × X). g e.0) es) (λ f. found_any g es i v f here) found here

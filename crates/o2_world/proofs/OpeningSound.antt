@@ -99,7 +99,8 @@ hold_stands b names next made i x selectors s grows only there holds common fres
     by_name q (inl e) = or_more (is_held b.processes q) (holds_name b.held q) _ (still_held b.held i x q fresh) (s.named q e)
     by_name q (inr e) = or_second (is_held b.processes q) _ (subst (λ (n : ℕ). holds_name ((i, x) ∷ b.held) n ≡ true) e (now_held b.held i x))
 
-pub made_more : (ms : List Made) (m : Made) (place number name : ℕ) → name_in (ms ++ m ∷ []) place number ≡ Some name → (name_in ms place number ≡ Some name) ⊎ (m.name ≡ name)
+pub made_more : (ms : List Made) (m : Made) (place number name : ℕ) → name_in (ms ++ m ∷ []) place number ≡ Some name
+    → (name_in ms place number ≡ Some name) ⊎ (m.name ≡ name)
 made_more [] m place number name e = go ((m.place == place) && (m.number == number)) e
   where
     go : (t : Bool) → cond t (Some m.name) None ≡ Some name → (◌≡◌ {A = Option ℕ} None (Some name)) ⊎ (m.name ≡ name)
@@ -107,7 +108,8 @@ made_more [] m place number name e = go ((m.place == place) && (m.number == numb
     go false e = cc
 made_more (a ∷ ms) m place number name e = go ((a.place == place) && (a.number == number)) e (made_more ms m place number name)
   where
-    go : (t : Bool) → cond t (Some a.name) (name_in (ms ++ m ∷ []) place number) ≡ Some name → (name_in (ms ++ m ∷ []) place number ≡ Some name → (name_in ms place number ≡ Some name) ⊎ (m.name ≡ name))
+    go : (t : Bool) → cond t (Some a.name) (name_in (ms ++ m ∷ []) place number) ≡ Some name
+        → (name_in (ms ++ m ∷ []) place number ≡ Some name → (name_in ms place number ≡ Some name) ⊎ (m.name ≡ name))
         → (cond t (Some a.name) (name_in ms place number) ≡ Some name) ⊎ (m.name ≡ name)
     go true e below = inl e
     go false e below = below e
@@ -122,21 +124,24 @@ more_names names n g q e = go (n == q)
     go true = refl
     go false = e
 
-no_other_name : (names : Map Segment) (n : ℕ) (g : Segment) (q : ℕ) → is_some (get ((n, g) ∷ names) q) ≡ true → (is_some (get names q) ≡ true) ⊎ (n ≡ q)
+no_other_name : (names : Map Segment) (n : ℕ) (g : Segment) (q : ℕ) → is_some (get ((n, g) ∷ names) q) ≡ true
+    → (is_some (get names q) ≡ true) ⊎ (n ≡ q)
 no_other_name names n g q e = go (n == q) refl e
   where
     go : (t : Bool) → (n == q) ≡ t → is_some (cond t (Some g) (get names q)) ≡ true → (is_some (get names q) ≡ true) ⊎ (n ≡ q)
     go true is e = inr (equal n q is)
     go false is e = inl e
 
-named_made : (b : Built) (h : Holding) → Stands b → (place number name : ℕ) → name_in (made_with b.made h b.next_name) place number ≡ Some name
+named_made : (b : Built) (h : Holding) → Stands b → (place number name : ℕ)
+    → name_in (made_with b.made h b.next_name) place number ≡ Some name
     → is_some (get ((b.next_name, segment_of h) ∷ b.names) name) ≡ true
 named_made b h s place number name e = go h.common e
   where
     old : name_in b.made place number ≡ Some name → is_some (get ((b.next_name, segment_of h) ∷ b.names) name) ≡ true
     old e = more_names b.names b.next_name (segment_of h) name (s.made place number name e)
 
-    either : (name_in b.made place number ≡ Some name) ⊎ (b.next_name ≡ name) → is_some (get ((b.next_name, segment_of h) ∷ b.names) name) ≡ true
+    either : (name_in b.made place number ≡ Some name) ⊎ (b.next_name ≡ name)
+        → is_some (get ((b.next_name, segment_of h) ∷ b.names) name) ≡ true
     either (inl e) = old e
     either (inr e) = subst (λ (n : ℕ). is_some (get ((b.next_name, segment_of h) ∷ b.names) n) ≡ true) e (new_name b.names b.next_name (segment_of h))
 
@@ -145,7 +150,8 @@ named_made b h s place number name e = go h.common e
     go true e = either (made_more b.made (record { place = h.place; number = h.number; name = b.next_name }) place number name e)
     go false e = old e
 
-holds_as_stands : (b : Built) (h : Holding) (o : Option ℕ) → Stands b → get b.held h.index ≡ None → ((name : ℕ) → o ≡ Some name → is_some (get b.names name) ≡ true) → Stands (holds_as b h o)
+holds_as_stands : (b : Built) (h : Holding) (o : Option ℕ) → Stands b → get b.held h.index ≡ None
+    → ((name : ℕ) → o ≡ Some name → is_some (get b.names name) ≡ true) → Stands (holds_as b h o)
 holds_as_stands b h (Some name) s fresh there =
     hold_stands b b.names b.next_name b.made h.index (held_by_load name h.rights) _ s (λ q e. e) (λ q e. inl e) (there name refl) (omega arith) s.made fresh
 holds_as_stands b h None s fresh there =
@@ -169,7 +175,8 @@ AreFree held hs = (q : ℕ) → is_some (rights_in hs q) ≡ true → get held q
 pub free_head : (b : Built) (h : Holding) (hs : List Holding) → AreFree b.held (h ∷ hs) → get b.held h.index ≡ None
 free_head b h hs free = free h.index (ap (λ (t : Bool). is_some (cond t (Some h.rights) (rights_in hs h.index))) (same_number h.index))
 
-pub free_tail : (b : Built) (h : Holding) (hs : List Holding) → AreApart (indexes_of (h ∷ hs)) → AreFree b.held (h ∷ hs) → AreFree (with_holding b h).held hs
+pub free_tail : (b : Built) (h : Holding) (hs : List Holding) → AreApart (indexes_of (h ∷ hs)) → AreFree b.held (h ∷ hs)
+    → AreFree (with_holding b h).held hs
 free_tail b h hs d free q e = ap (λ (m : Map Held). get m q) x.held ∙ go (h.index == q) refl
   where
     x : Adds b h (with_holding b h)
@@ -232,18 +239,21 @@ index_selector n = omega arith
 ring_selector : (n : ℕ) → selector_of n % 4 ≡ 3
 ring_selector n = omega arith
 
-rights_fit : (ok : ℕ → Bool) (r : ℕ) (o : Option Held) → option_map (λ (h : Held). h.rights) o ≡ Some r → ok r ≡ true → has_rights ok o ≡ true
+rights_fit : (ok : ℕ → Bool) (r : ℕ) (o : Option Held) → option_map (λ (h : Held). h.rights) o ≡ Some r → ok r ≡ true
+    → has_rights ok o ≡ true
 rights_fit ok r None e f = cc
 rights_fit ok r (Some h) e f = ap ok (some_is h.rights r (Some h.rights) refl e) ∙ f
 
 -- segment n of the program is named by the selector of index n
-selector_named : (b : Built) (pid : ℕ) (s : Start) (p : Process) (ok : ℕ → Bool) (n : ℕ) → IsFit s → p.held ≡ (with_holdings b (holdings pid s)).held
+selector_named : (b : Built) (pid : ℕ) (s : Start) (p : Process) (ok : ℕ → Bool) (n : ℕ) → IsFit s
+    → p.held ≡ (with_holdings b (holdings pid s)).held
     → IsSegment (nth_loaded n s.program.segments) ok → NamesHeld p ok (selector_of n)
 selector_named b pid s p ok n fit same x =
     let there = rights_fit ok x.segment.rights _ (program_held b pid s fit n x.segment x.there) x.fits in
     (local_selector n, subst (λ (i : ℕ). has_rights ok (get p.held i) ≡ true) (sym (index_selector n)) (subst (λ (m : Map Held). has_rights ok (get m n) ≡ true) (sym same) there))
 
-start_registers : (b : Built) (pid : ℕ) (s : Start) (p : Process) → IsFit s → PassesCheck s.program → p.cpu ≡ first_cpu s → p.held ≡ (with_holdings b (holdings pid s)).held → HasGoodRegisters p
+start_registers : (b : Built) (pid : ℕ) (s : Start) (p : Process) → IsFit s → PassesCheck s.program → p.cpu ≡ first_cpu s
+    → p.held ≡ (with_holdings b (holdings pid s)).held → HasGoodRegisters p
 start_registers b pid s p fit c cpu held =
     subst (λ (x : Process). HasGoodRegisters x) (sym (ap (λ z. record p { cpu = z }) cpu))
     record {
@@ -265,13 +275,15 @@ start_registers b pid s p fit c cpu held =
 
 -- A process has started.
 
-pub behind : (ps : List Process) (p : Process) (place i : ℕ) (h : Held) → held_in (ps ++ p ∷ []) place i ≡ Some h → (held_in ps place i ≡ Some h) ⊎ (get p.held i ≡ Some h)
+pub behind : (ps : List Process) (p : Process) (place i : ℕ) (h : Held) → held_in (ps ++ p ∷ []) place i ≡ Some h
+    → (held_in ps place i ≡ Some h) ⊎ (get p.held i ≡ Some h)
 behind [] p zero i h e = inr e
 behind [] p (suc place) i h e = inl e
 behind (a ∷ ps) p zero i h e = inl e
 behind (a ∷ ps) p (suc place) i h e = behind ps p place i h e
 
-process_behind : (ps : List Process) (p : Process) (place : ℕ) (x : Process) → slice_get (ps ++ p ∷ []) place ≡ Some x → (slice_get ps place ≡ Some x) ⊎ (p ≡ x)
+process_behind : (ps : List Process) (p : Process) (place : ℕ) (x : Process) → slice_get (ps ++ p ∷ []) place ≡ Some x
+    → (slice_get ps place ≡ Some x) ⊎ (p ≡ x)
 process_behind [] p zero x e = inr (some_is p x (Some p) refl e)
 process_behind [] p (suc place) x e = inl e
 process_behind (a ∷ ps) p zero x e = inl e
@@ -281,7 +293,8 @@ held_behind : (ps : List Process) (p : Process) (q : ℕ) → (is_held ps q || h
 held_behind [] p q e = or_first (holds_name p.held q) false e
 held_behind (a ∷ ps) p q e = go (holds_name a.held q) e (held_behind ps p q)
   where
-    go : (t : Bool) → ((t || is_held ps q) || holds_name p.held q) ≡ true → ((is_held ps q || holds_name p.held q) ≡ true → is_held (ps ++ p ∷ []) q ≡ true) → (t || is_held (ps ++ p ∷ []) q) ≡ true
+    go : (t : Bool) → ((t || is_held ps q) || holds_name p.held q) ≡ true
+        → ((is_held ps q || holds_name p.held q) ≡ true → is_held (ps ++ p ∷ []) q ≡ true) → (t || is_held (ps ++ p ∷ []) q) ≡ true
     go true e below = refl
     go false e below = below e
 
@@ -321,22 +334,26 @@ SoFar P (Err fault) = Unit {0}
 abbrev pub Keeps : (Built → Type 0) → (Start → Type 0) → Type 0
 Keeps P Q = (b : Built) (s : Start) (u : Unit {0}) → start_check s.program ≡ Ok u → Q s → P b → P (with_started (length b.processes + 1) s (with_holdings b (holdings (length b.processes + 1) s)))
 
-within_so_far : (P : Built → Type 0) (pid : ℕ) (s : Start) (b : Built) (t : Bool) → P (with_started pid s b) → SoFar P (cond t (Err (pid, NoSegment)) (Ok (with_started pid s b)))
+within_so_far : (P : Built → Type 0) (pid : ℕ) (s : Start) (b : Built) (t : Bool) → P (with_started pid s b)
+    → SoFar P (cond t (Err (pid, NoSegment)) (Ok (with_started pid s b)))
 within_so_far P pid s b true h = tt
 within_so_far P pid s b false h = h
 
-checked_so_far : (P : Built → Type 0) (Q : Start → Type 0) (most : ℕ) (s : Start) (b : Built) (c : Result (Unit {0}) ModuleFault) → start_check s.program ≡ c → Keeps P Q → Q s → P b
+checked_so_far : (P : Built → Type 0) (Q : Start → Type 0) (most : ℕ) (s : Start) (b : Built) (c : Result (Unit {0}) ModuleFault)
+    → start_check s.program ≡ c → Keeps P Q → Q s → P b
     → SoFar P (where_checked (length b.processes + 1) c (within_names most (length b.processes + 1) s (with_holdings b (holdings (length b.processes + 1) s))))
 checked_so_far P Q most s b (Err fault) is keeps q p = tt
 checked_so_far P Q most s b (Ok u) is keeps q p =
     let c : Built = with_holdings b (holdings (length b.processes + 1) s) in
     within_so_far P (length b.processes + 1) s c (nat_lt most c.next_name) (keeps b s u is q p)
 
-next_so_far : (P : Built → Type 0) (Q : Start → Type 0) (most : ℕ) (r : Result Built (ℕ × ModuleFault)) (s : Start) → Keeps P Q → Q s → SoFar P r → SoFar P (next_started most r s)
+next_so_far : (P : Built → Type 0) (Q : Start → Type 0) (most : ℕ) (r : Result Built (ℕ × ModuleFault)) (s : Start) → Keeps P Q → Q s
+    → SoFar P r → SoFar P (next_started most r s)
 next_so_far P Q most (Err fault) s keeps q so_far = tt
 next_so_far P Q most (Ok b) s keeps q so_far = checked_so_far P Q most s b (start_check s.program) refl keeps q so_far
 
-pub all_so_far : (P : Built → Type 0) (Q : Start → Type 0) (most : ℕ) (starts : List Start) (r : Result Built (ℕ × ModuleFault)) → Keeps P Q → All Q starts → SoFar P r → SoFar P (fold (next_started most) r starts)
+pub all_so_far : (P : Built → Type 0) (Q : Start → Type 0) (most : ℕ) (starts : List Start) (r : Result Built (ℕ × ModuleFault)) → Keeps P Q
+    → All Q starts → SoFar P r → SoFar P (fold (next_started most) r starts)
 all_so_far P Q most [] r keeps all so_far = so_far
 all_so_far P Q most (s ∷ starts) r keeps all so_far =
     all_so_far P Q most starts (next_started most r s) keeps (All-tail Q s starts all) (next_so_far P Q most r s keeps (All-head Q s starts all) so_far)

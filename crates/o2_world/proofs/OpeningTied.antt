@@ -10,7 +10,7 @@ use Rattle.o2_world.specs.Opening.{held_by_load}
 use Rattle.o2_world.specs.Starts.{Loaded, Start, Holding, Built, holdings, nothing_built, segment_of, name_in, made_with, named, holds, holds_as, with_holding, with_holdings, with_started}
 use Rattle.o2_world.specs.Sound.{held_in}
 use Rattle.o2_world.specs.Tied.{HasSize, IsOwnData, AreOne}
-use Rattle.o2_world.specs.FitStarts.{rights_at, segment_index, is_common_at, AreApart, IsOfModule, IsWhole, IsOf}
+use Rattle.o2_world.specs.FitStarts.{rights_at, segment_index, is_common_at, ShareNoIndex, IsOfModule, IsWhole, IsOf}
 use Rattle.o2_world.proofs.Keeps.{some_is}
 use Rattle.o2_world.proofs.OpeningSound.{equal, behind, either_of, Keeps}
 
@@ -38,7 +38,7 @@ pub record IsAt (modules : ℕ → Loaded) (names : Map Segment) (made : List Ma
   pub under : IsUnder modules names made h place number (is_common_at modules place number)
 
 -- so it is one name, but for own data
-pub one_name : (modules : ℕ → Loaded) (names : Map Segment) (made : List Made) (i : ℕ) (h k : Held) → AreApart modules → 4096 ≤ i
+pub one_name : (modules : ℕ → Loaded) (names : Map Segment) (made : List Made) (i : ℕ) (h k : Held) → ShareNoIndex modules → 4096 ≤ i
     → IsAt modules names made i h → IsAt modules names made i k → AreOne names h k
 one_name modules names made i h k apart big a b = go (is_common_at modules a.place a.number) a.under there
   where
@@ -110,14 +110,16 @@ module _ (names : Map Segment) (n : ℕ) (g : Segment) (below : (q : ℕ) → is
 
 -- One segment more.
 
-held_more : (names : Map Segment) (m : Map Held) (i : ℕ) (x : Held) → IsGood names x → ((j : ℕ) (h : Held) → get m j ≡ Some h → IsGood names h) → (j : ℕ) (h : Held) → get ((i, x) ∷ m) j ≡ Some h → IsGood names h
+held_more : (names : Map Segment) (m : Map Held) (i : ℕ) (x : Held) → IsGood names x
+    → ((j : ℕ) (h : Held) → get m j ≡ Some h → IsGood names h) → (j : ℕ) (h : Held) → get ((i, x) ∷ m) j ≡ Some h → IsGood names h
 held_more names m i x good old j h e = go (i == j) e
   where
     go : (t : Bool) → cond t (Some x) (get m j) ≡ Some h → IsGood names h
     go true e = subst (IsGood names) (some_is x h (Some x) refl e) good
     go false e = old j h e
 
-at_more : (modules : ℕ → Loaded) (names : Map Segment) (made : List Made) (m : Map Held) (i : ℕ) (x : Held) → (4096 ≤ i → IsAt modules names made i x)
+at_more : (modules : ℕ → Loaded) (names : Map Segment) (made : List Made) (m : Map Held) (i : ℕ) (x : Held)
+    → (4096 ≤ i → IsAt modules names made i x)
     → ((j : ℕ) (h : Held) → 4096 ≤ j → get m j ≡ Some h → IsAt modules names made j h)
     → (j : ℕ) (h : Held) → 4096 ≤ j → get ((i, x) ∷ m) j ≡ Some h → IsAt modules names made j h
 at_more modules names made m i x new old j h big e = go (i == j) refl e
@@ -130,11 +132,13 @@ at_more modules names made m i x new old j h big e = go (i == j) refl e
     go false is e = old j h big e
 
 -- the names of common segments, with one more behind them
-name_stays : (ms : List Made) (m : Made) (place number name : ℕ) → name_in ms place number ≡ Some name → name_in (ms ++ m ∷ []) place number ≡ Some name
+name_stays : (ms : List Made) (m : Made) (place number name : ℕ) → name_in ms place number ≡ Some name
+    → name_in (ms ++ m ∷ []) place number ≡ Some name
 name_stays [] m place number name e = absurd (cc)
 name_stays (a ∷ ms) m place number name e = go ((a.place == place) && (a.number == number)) e (name_stays ms m place number name)
   where
-    go : (t : Bool) → cond t (Some a.name) (name_in ms place number) ≡ Some name → (name_in ms place number ≡ Some name → name_in (ms ++ m ∷ []) place number ≡ Some name)
+    go : (t : Bool) → cond t (Some a.name) (name_in ms place number) ≡ Some name
+        → (name_in ms place number ≡ Some name → name_in (ms ++ m ∷ []) place number ≡ Some name)
         → cond t (Some a.name) (name_in (ms ++ m ∷ []) place number) ≡ Some name
     go true e below = e
     go false e below = below e
@@ -146,7 +150,8 @@ name_comes : (ms : List Made) (m : Made) → name_in ms m.place m.number ≡ Non
 name_comes [] m e = ap (λ (t : Bool). cond t (Some m.name) None) (same_pair m.place m.number)
 name_comes (a ∷ ms) m e = go ((a.place == m.place) && (a.number == m.number)) e (name_comes ms m)
   where
-    go : (t : Bool) → cond t (Some a.name) (name_in ms m.place m.number) ≡ None → (name_in ms m.place m.number ≡ None → name_in (ms ++ m ∷ []) m.place m.number ≡ Some m.name)
+    go : (t : Bool) → cond t (Some a.name) (name_in ms m.place m.number) ≡ None
+        → (name_in ms m.place m.number ≡ None → name_in (ms ++ m ∷ []) m.place m.number ≡ Some m.name)
         → cond t (Some a.name) (name_in (ms ++ m ∷ []) m.place m.number) ≡ Some m.name
     go true e below = absurd (cc)
     go false e below = below e
@@ -174,14 +179,16 @@ module _ (modules : ℕ → Loaded) (b : Built) (h : Holding) (whole : IsWhole m
   }
 
   -- it is made where it is common
-  made_new : (m : Made) → (place number name : ℕ) → h.common ≡ true → m.place ≡ h.place → m.number ≡ h.number → m.name ≡ b.next_name → name_in (m ∷ []) place number ≡ Some name → IsMade names (rights_at modules place number) name
+  made_new : (m : Made) → (place number name : ℕ) → h.common ≡ true → m.place ≡ h.place → m.number ≡ h.number → m.name ≡ b.next_name
+      → name_in (m ∷ []) place number ≡ Some name → IsMade names (rights_at modules place number) name
   made_new m place number name common p n x e = go ((m.place == place) && (m.number == number)) refl e
     where
       both : (a c : Bool) → (a && c) ≡ true → (a ≡ true) × (c ≡ true)
       both true c e = (refl, e)
       both false c e = absurd (cc)
 
-      go : (t : Bool) → ((m.place == place) && (m.number == number)) ≡ t → cond t (Some m.name) None ≡ Some name → IsMade names (rights_at modules place number) name
+      go : (t : Bool) → ((m.place == place) && (m.number == number)) ≡ t → cond t (Some m.name) None ≡ Some name
+          → IsMade names (rights_at modules place number) name
       go true is e =
           let two = both _ _ is in
           let at_place : h.place ≡ place = sym p ∙ equal m.place place two.0 in
@@ -193,7 +200,8 @@ module _ (modules : ℕ → Loaded) (b : Built) (h : Holding) (whole : IsWhole m
           (record { lives = ap is_some (new_is b.names b.next_name g ties.below); clean = λ s f c. new_clean h s (sym (new_is b.names b.next_name g ties.below) ∙ f) c }))
       go false is e = absurd (cc)
 
-  made_after : (place number name : ℕ) → name_in (made_with b.made h b.next_name) place number ≡ Some name → IsMade names (rights_at modules place number) name
+  made_after : (place number name : ℕ) → name_in (made_with b.made h b.next_name) place number ≡ Some name
+      → IsMade names (rights_at modules place number) name
   made_after place number name e = go h.common refl e
     where
       new : Made
@@ -202,7 +210,8 @@ module _ (modules : ℕ → Loaded) (b : Built) (h : Holding) (whole : IsWhole m
       old : name_in b.made place number ≡ Some name → IsMade names (rights_at modules place number) name
       old e = still_made b.names b.next_name g ties.below _ name (ties.made place number name e)
 
-      last : (ms : List Made) → h.common ≡ true → name_in (ms ++ new ∷ []) place number ≡ Some name → (name_in ms place number ≡ Some name) ⊎ (name_in (new ∷ []) place number ≡ Some name)
+      last : (ms : List Made) → h.common ≡ true → name_in (ms ++ new ∷ []) place number ≡ Some name
+          → (name_in ms place number ≡ Some name) ⊎ (name_in (new ∷ []) place number ≡ Some name)
       last [] common e = inr e
       last (a ∷ ms) common e = pick ((a.place == place) && (a.number == number)) e (last ms common)
         where
@@ -212,7 +221,8 @@ module _ (modules : ℕ → Loaded) (b : Built) (h : Holding) (whole : IsWhole m
           pick true e below = inl e
           pick false e below = below e
 
-      go : (t : Bool) → h.common ≡ t → name_in (cond t (b.made ++ new ∷ []) b.made) place number ≡ Some name → IsMade names (rights_at modules place number) name
+      go : (t : Bool) → h.common ≡ t → name_in (cond t (b.made ++ new ∷ []) b.made) place number ≡ Some name
+          → IsMade names (rights_at modules place number) name
       go true common e = either_of (last b.made common e) old (made_new new place number name common refl refl refl)
       go false common e = old e
 
@@ -233,7 +243,8 @@ module _ (modules : ℕ → Loaded) (b : Built) (h : Holding) (whole : IsWhole m
       go true e = made_stays a.place a.number x.name e
       go false own = still_own b.names b.next_name g ties.below x lives own
 
-  new_at : (h.common ≡ true → name_in b.made h.place h.number ≡ None) → 4096 ≤ h.index → IsAt modules names new_made h.index (held_by_load b.next_name h.rights)
+  new_at : (h.common ≡ true → name_in b.made h.place h.number ≡ None) → 4096 ≤ h.index
+      → IsAt modules names new_made h.index (held_by_load b.next_name h.rights)
   new_at none big = record {
     place = h.place;
     number = h.number;
@@ -298,11 +309,13 @@ module _ (modules : ℕ → Loaded) (b : Built) (h : Holding) (whole : IsWhole m
   pub holding_ties : Ties modules (with_holding b h)
   holding_ties = holds_as_ties _ (λ name e. go name h.common refl e) (λ e common. ap (λ (t : Bool). cond t (name_in b.made h.place h.number) None) (sym common) ∙ e)
     where
-      go : (name : ℕ) (t : Bool) → h.common ≡ t → cond t (name_in b.made h.place h.number) None ≡ Some name → (h.common ≡ true) × (name_in b.made h.place h.number ≡ Some name)
+      go : (name : ℕ) (t : Bool) → h.common ≡ t → cond t (name_in b.made h.place h.number) None ≡ Some name
+          → (h.common ≡ true) × (name_in b.made h.place h.number ≡ Some name)
       go name true is e = (is, e)
       go name false is e = absurd (cc)
 
-all_tie : (modules : ℕ → Loaded) (hs : List Holding) (b : Built) → AllByRecursion (IsWhole modules) hs → Ties modules b → Ties modules (with_holdings b hs)
+all_tie : (modules : ℕ → Loaded) (hs : List Holding) (b : Built) → AllByRecursion (IsWhole modules) hs → Ties modules b
+    → Ties modules (with_holdings b hs)
 all_tie modules [] b whole ties = ties
 all_tie modules (h ∷ hs) b whole ties = all_tie modules hs (with_holding b h) whole.1 (holding_ties modules b h whole.0 ties)
 

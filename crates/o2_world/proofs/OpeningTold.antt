@@ -15,7 +15,8 @@ use Rattle.o2_world.proofs.RunReach.{end_append}
 
 -- Lines of holds alone.
 
-holds_come : (p q : ℕ) (xs ys : List ℕ) (s : ℕ) → came (hold_lines p (xs ++ ys)) q s ≡ came (hold_lines p xs) q s + came (hold_lines p ys) q s
+holds_come : (p q : ℕ) (xs ys : List ℕ) (s : ℕ)
+    → came (hold_lines p (xs ++ ys)) q s ≡ came (hold_lines p xs) q s + came (hold_lines p ys) q s
 holds_come p q [] ys s = omega arith
 holds_come p q (x ∷ xs) ys s = let ih = holds_come p q xs ys s in omega (arith, ih)
 
@@ -64,7 +65,8 @@ one_pair p s t b e = ap (λ (x : Bool). one_if (x && (s == t))) (same p) ∙ ap 
     same : (p : ℕ) → (p == p) ≡ true
     same p = grind arith
 
-one_more : (m : Map Held) (j i : ℕ) (x : Held) (b : Bool) → (j == i) ≡ b → x.holds ≡ 1 → get m j ≡ None → holds_of (cond b (Some x) (get m i)) ≡ holds_of (get m i) + one_if b
+one_more : (m : Map Held) (j i : ℕ) (x : Held) (b : Bool) → (j == i) ≡ b → x.holds ≡ 1 → get m j ≡ None
+    → holds_of (cond b (Some x) (get m i)) ≡ holds_of (get m i) + one_if b
 one_more m j i x true is once free =
     let none : holds_of (get m i) ≡ 0 = ap (λ (k : ℕ). holds_of (get m k)) (sym (same_index i j is)) ∙ ap holds_of free in
     omega (arith, once, none)
@@ -84,7 +86,8 @@ holding_tells b p h free tells = record { told = told }
         let t = tells.told i in
         omega (arith, a, c, d, t)
 
-all_tell : (hs : List Holding) (b : Built) (p : ℕ) → AreApart (indexes_of hs) → AreFree b.held hs → TellsSoFar b p → TellsSoFar (with_holdings b hs) p
+all_tell : (hs : List Holding) (b : Built) (p : ℕ) → AreApart (indexes_of hs) → AreFree b.held hs → TellsSoFar b p
+    → TellsSoFar (with_holdings b hs) p
 all_tell [] b p d free tells = tells
 all_tell (h ∷ hs) b p d free tells =
     all_tell hs (with_holding b h) p (IsDistinct-tail (λ i j. i == j) h.index (indexes_of hs) d) (free_tail b h hs d free) (holding_tells b p h (free_head b h hs free) tells)
@@ -107,7 +110,8 @@ pub record ToldBetween (b : Built) : Type 0 where
   pub nothing : b.held ≡ []
   pub ready : b.selectors ≡ []
 
-held_behind : (ps : List Process) (p : Process) (j i : ℕ) → held_in (ps ++ p ∷ []) j i ≡ (if j == length ps then get p.held i else held_in ps j i)
+held_behind : (ps : List Process) (p : Process) (j i : ℕ)
+    → held_in (ps ++ p ∷ []) j i ≡ (if j == length ps then get p.held i else held_in ps j i)
 held_behind [] p zero i = refl
 held_behind [] p (suc j) i = rw (suc_zero j) refl
   where
@@ -133,7 +137,8 @@ module _ (b c : Built) (s : Start) (told : ToldBetween b) (so_far : TellsSoFar c
   abbrev pid : ℕ
   pid = length b.processes + 1
 
-  started_told : (q i : ℕ) → 0 < q → holds_of (held_in (with_started pid s c).processes (q - 1) i) ≡ came (with_started pid s c).lines q (selector_of i)
+  started_told : (q i : ℕ) → 0 < q
+      → holds_of (held_in (with_started pid s c).processes (q - 1) i) ≡ came (with_started pid s c).lines q (selector_of i)
   started_told q i some = go (q == pid) refl
     where
       new : Process
@@ -145,7 +150,8 @@ module _ (b c : Built) (s : Start) (told : ToldBetween b) (so_far : TellsSoFar c
           ∙ ap holds_of (held_behind b.processes new (q - 1) i)
           ∙ pick (q - 1 == length b.processes) (q == pid) (by_number q (length b.processes) some)
         where
-          pick : (a t : Bool) → a ≡ t → holds_of (if a then get c.held i else held_in b.processes (q - 1) i) ≡ (if t then holds_of (get c.held i) else holds_of (held_in b.processes (q - 1) i))
+          pick : (a t : Bool) → a ≡ t
+              → holds_of (if a then get c.held i else held_in b.processes (q - 1) i) ≡ (if t then holds_of (get c.held i) else holds_of (held_in b.processes (q - 1) i))
           pick true true e = refl
           pick true false e = absurd (cc)
           pick false true e = absurd (cc)
@@ -157,7 +163,8 @@ module _ (b c : Built) (s : Start) (told : ToldBetween b) (so_far : TellsSoFar c
           let n = ap (λ (ls : List Line). came ls q (selector_of i)) lines in
           omega (arith, a, n)
 
-      go : (t : Bool) → (q == pid) ≡ t → holds_of (held_in (with_started pid s c).processes (q - 1) i) ≡ came (with_started pid s c).lines q (selector_of i)
+      go : (t : Bool) → (q == pid) ≡ t
+          → holds_of (held_in (with_started pid s c).processes (q - 1) i) ≡ came (with_started pid s c).lines q (selector_of i)
       go true is =
           let same : q ≡ pid = same_index pid q is in
           let a = here ∙ ap (λ (t : Bool). if t then holds_of (get c.held i) else holds_of (held_in b.processes (q - 1) i)) is in

@@ -1,12 +1,12 @@
 -- The world before the first step is sound, and told by its lines.
-use Rattle.std.proofs.Common.{◌≡◌, ℕ, Bool, true, false, List, [], ◌∷◌, map, refl, arith}
+use Rattle.std.proofs.Common.{◌≡◌, ℕ, Bool, true, false, List, [], ◌∷◌, map, refl, ap, sym, arith}
 use Rattle.std.specs.Prelude.{Result, Ok, Err}
 use Rattle.o2_conf.specs.declared.script.Word.{Word}
 use Rattle.o2_base.specs.declared.faults.ModuleFault.{ModuleFault}
 use Rattle.o2_world.specs.World.{World, Setting, Process, is_live}
 use Rattle.o2_base.specs.Selectors.{selector_of}
-use Rattle.o2_world.specs.Starts.{Loaded, Start, Built, nothing_built, all_started, for_the_run, world_of, opening_of}
-use Rattle.o2_world.specs.FitStarts.{AreApart, AreFit, AreOf}
+use Rattle.o2_world.specs.Starts.{Loaded, Start, Built, nothing_built, all_started, for_the_run, world_of, where_started, opening_of}
+use Rattle.o2_world.specs.FitStarts.{ShareNoIndex, AreFit, AreOf}
 use Rattle.o2_world.specs.Tied.{IsSound, AreUsed}
 use Rattle.o2_world.specs.Reach.{IsTold}
 use Rattle.o2_world.proofs.Reached.{number_holds}
@@ -22,7 +22,7 @@ not_both : (b : Bool) → b ≡ true → b ≡ false → ⊥
 not_both b e f = cc
 
 sound_between : (modules : ℕ → Loaded) (reserved : List (ℕ × ℕ)) (script : List Word) (budget : ℕ) (input : List ℕ) (b : Built)
-    → AreApart modules → IsBetween b → Ties modules b → IsSound (world_of reserved script budget input b)
+    → ShareNoIndex modules → IsBetween b → Ties modules b → IsSound (world_of reserved script budget input b)
 sound_between modules reserved script budget input b apart between ties = record {
   tied = record {
     held = between.stands.held;
@@ -38,7 +38,7 @@ sound_between modules reserved script budget input b apart between ties = record
 }
 
 pub opening_sound : (modules : ℕ → Loaded) (s : Setting) (reserved : List (ℕ × ℕ)) (script : List Word) (input : List ℕ) (starts : List Start) (w : World)
-    → AreApart modules → AreFit starts → AreOf modules starts → opening_of s reserved script input starts ≡ Ok w → IsSound w
+    → ShareNoIndex modules → AreFit starts → AreOf modules starts → opening_of s reserved script input starts ≡ Ok w → IsSound w
 unfolding all_started
 opening_sound modules s reserved script input starts w apart fit of e =
     let ties : SoFar (Ties modules) (all_started s.segments starts) = all_so_far (Ties modules) _ s.segments starts (Ok nothing_built) (ties_kept modules) of (ties_first modules) in
@@ -46,11 +46,26 @@ opening_sound modules s reserved script input starts w apart fit of e =
     opened IsSound (λ (b : Built). IsBetween b × Ties modules b) reserved script s.budget input (all_started s.segments starts) w
     (λ b both. sound_between modules reserved script s.budget input b apart both.0 both.1) (two (all_started s.segments starts) between ties) e
   where
-    two : (r : Result Built (ℕ × ModuleFault)) → SoFar IsBetween r → SoFar (Ties modules) r → SoFar (λ (b : Built). IsBetween b × Ties modules b) r
+    two : (r : Result Built (ℕ × ModuleFault)) → SoFar IsBetween r → SoFar (Ties modules) r
+        → SoFar (λ (b : Built). IsBetween b × Ties modules b) r
     two (Ok b) x y = (x, y)
     two (Err fault) x y = tt
 
-told_world : (reserved : List (ℕ × ℕ)) (script : List Word) (budget : ℕ) (input : List ℕ) (b : Built) → ToldBetween b → IsTold (world_of reserved script budget input b)
+-- the world has the indexes reserved that the opening names
+pub opening_reserves : (s : Setting) (reserved : List (ℕ × ℕ)) (script : List Word) (input : List ℕ) (starts : List Start) (w : World)
+    → opening_of s reserved script input starts ≡ Ok w → w.reserved ≡ map for_the_run reserved
+opening_reserves s reserved script input starts w e = go (all_started s.segments starts) e
+  where
+    world_in : Result World (ℕ × ModuleFault) → World
+    world_in (Ok x) = x
+    world_in (Err fault) = w
+
+    go : (r : Result Built (ℕ × ModuleFault)) → where_started reserved script s.budget input r ≡ Ok w → w.reserved ≡ map for_the_run reserved
+    go (Ok b) e = ap (λ (x : Result World (ℕ × ModuleFault)). (world_in x).reserved) (sym e)
+    go (Err fault) e = absurd (cc)
+
+told_world : (reserved : List (ℕ × ℕ)) (script : List Word) (budget : ℕ) (input : List ℕ) (b : Built) → ToldBetween b
+    → IsTold (world_of reserved script budget input b)
 told_world reserved script budget input b told = record {
   live = λ q i some none.
       let a = number_holds (world_of reserved script budget input b) q i some in
@@ -60,7 +75,8 @@ told_world reserved script budget input b told = record {
   ended = λ q i some it. absurd (not_both _ it (told.none_ended q));
 }
 
-pub opening_told : (s : Setting) (reserved : List (ℕ × ℕ)) (script : List Word) (input : List ℕ) (starts : List Start) (w : World) → AreFit starts → opening_of s reserved script input starts ≡ Ok w → IsTold w
+pub opening_told : (s : Setting) (reserved : List (ℕ × ℕ)) (script : List Word) (input : List ℕ) (starts : List Start) (w : World)
+    → AreFit starts → opening_of s reserved script input starts ≡ Ok w → IsTold w
 unfolding all_started
 opening_told s reserved script input starts w fit e =
     opened IsTold ToldBetween reserved script s.budget input (all_started s.segments starts) w (told_world reserved script s.budget input)

@@ -24,7 +24,8 @@ set_then (a ∷ xs) (suc i) x f = ap (λ z. a ∷ z) (set_then xs i x f)
 then_at : (ps : List Process) (n : ℕ) (x : Process) (f : Process → Process) → at_number n f (with_process ps n x) ≡ with_process ps n (f x)
 then_at ps n x f = go (n == 0)
   where
-    go : (b : Bool) → (if b then (if b then ps else slice_set ps (n - 1) x) else at_place (n - 1) f (if b then ps else slice_set ps (n - 1) x)) ≡ (if b then ps else slice_set ps (n - 1) (f x))
+    go : (b : Bool)
+        → (if b then (if b then ps else slice_set ps (n - 1) x) else at_place (n - 1) f (if b then ps else slice_set ps (n - 1) x)) ≡ (if b then ps else slice_set ps (n - 1) (f x))
     go true = refl
     go false = set_then ps (n - 1) x f
 

@@ -21,7 +21,8 @@ pub went_append : (xs ys : List Line) (p s : ℕ) → went (xs ++ ys) p s ≡ we
 went_append [] ys p s = omega arith
 went_append (x ∷ xs) ys p s = let ih = went_append xs ys p s in omega (arith, ih)
 
-came_split : (b : Bool) (l x : Line) (xs rest : List Line) (p s : ℕ) → came rest p s ≡ comes l p s + came xs p s → came (if b then l ∷ x ∷ xs else x ∷ rest) p s ≡ comes l p s + (comes x p s + came xs p s)
+came_split : (b : Bool) (l x : Line) (xs rest : List Line) (p s : ℕ) → came rest p s ≡ comes l p s + came xs p s
+    → came (if b then l ∷ x ∷ xs else x ∷ rest) p s ≡ comes l p s + (comes x p s + came xs p s)
 came_split true l x xs rest p s ih = refl
 came_split false l x xs rest p s ih = omega (arith, ih)
 
@@ -33,7 +34,8 @@ came_in_order : (xs : List Line) (p s : ℕ) → came (in_order xs) p s ≡ came
 came_in_order [] p s = refl
 came_in_order (x ∷ xs) p s = came_among x (in_order xs) p s ∙ ap (λ n. comes x p s + n) (came_in_order xs p s)
 
-went_split : (b : Bool) (l x : Line) (xs rest : List Line) (p s : ℕ) → went rest p s ≡ goes l p s + went xs p s → went (if b then l ∷ x ∷ xs else x ∷ rest) p s ≡ goes l p s + (goes x p s + went xs p s)
+went_split : (b : Bool) (l x : Line) (xs rest : List Line) (p s : ℕ) → went rest p s ≡ goes l p s + went xs p s
+    → went (if b then l ∷ x ∷ xs else x ∷ rest) p s ≡ goes l p s + (goes x p s + went xs p s)
 went_split true l x xs rest p s ih = refl
 went_split false l x xs rest p s ih = omega (arith, ih)
 
@@ -90,7 +92,8 @@ all_drops_alone : (cause : List ℕ) (cs : List Change) (p s : ℕ) → came (fl
 all_drops_alone cause [] p s = refl
 all_drops_alone cause (c ∷ cs) p s = let h = drops_alone cause c p s in let ih = all_drops_alone cause cs p s in let a = came_append (drop_lines_of cause c) (flat_map (drop_lines_of cause) cs) p s in omega (arith, h, ih, a)
 
-pub moved_came : (cause : List ℕ) (cs : List Change) (p s : ℕ) → came (moved_lines cause cs) p s ≡ came (flat_map (hold_lines_of cause) cs) p s
+pub moved_came : (cause : List ℕ) (cs : List Change) (p s : ℕ)
+    → came (moved_lines cause cs) p s ≡ came (flat_map (hold_lines_of cause) cs) p s
 unfolding moved_lines
 moved_came cause cs p s =
     let hs = flat_map (hold_lines_of cause) cs in
@@ -101,7 +104,8 @@ moved_came cause cs p s =
     let d = all_drops_alone cause cs p s in
     omega (arith, a, b, c, d)
 
-pub moved_went : (cause : List ℕ) (cs : List Change) (p s : ℕ) → went (moved_lines cause cs) p s ≡ went (flat_map (drop_lines_of cause) cs) p s
+pub moved_went : (cause : List ℕ) (cs : List Change) (p s : ℕ)
+    → went (moved_lines cause cs) p s ≡ went (flat_map (drop_lines_of cause) cs) p s
 unfolding moved_lines
 moved_went cause cs p s =
     let hs = flat_map (hold_lines_of cause) cs in
@@ -134,14 +138,16 @@ zero_suc k = grind arith
 suc_suc : (j k : ℕ) → (suc j == suc k) ≡ (j == k)
 suc_suc j k = grind arith
 
-pub get-place : {X : Type 0} (k j : ℕ) (f : X → X) (xs : List X) → slice_get (at_place k f xs) j ≡ (if j == k then option_map f (slice_get xs j) else slice_get xs j)
+pub get-place : {X : Type 0} (k j : ℕ) (f : X → X) (xs : List X)
+    → slice_get (at_place k f xs) j ≡ (if j == k then option_map f (slice_get xs j) else slice_get xs j)
 get-place {X} k j f [] = none_there {X = X} (j == k)
 get-place zero zero f (x ∷ xs) = refl
 get-place zero (suc j) f (x ∷ xs) = rw (suc_zero j) refl
 get-place (suc k) zero f (x ∷ xs) = rw (zero_suc k) refl
 get-place (suc k) (suc j) f (x ∷ xs) = rw (suc_suc j k) (get-place k j f xs)
 
-pub set-place : {X : Type 0} (k j : ℕ) (x : X) (xs : List X) (y : X) → slice_get xs k ≡ Some y → slice_get (slice_set xs k x) j ≡ (if j == k then Some x else slice_get xs j)
+pub set-place : {X : Type 0} (k j : ℕ) (x : X) (xs : List X) (y : X) → slice_get xs k ≡ Some y
+    → slice_get (slice_set xs k x) j ≡ (if j == k then Some x else slice_get xs j)
 set-place k j x [] y e = absurd (cc)
 set-place zero zero x (a ∷ xs) y e = refl
 set-place zero (suc j) x (a ∷ xs) y e = rw (suc_zero j) refl
@@ -185,7 +191,8 @@ pub held_at_place : (ps : List Process) (k j i : ℕ) (f : Map Held → Map Held
 held_at_place ps k j i f = ap (λ (o : Option Process). held_of o i) (get-place k j (λ (p : Process). record p { held = f p.held }) ps) ∙ held_if (j == k) f (slice_get ps j) i
 
 -- a put into the map of a process that is there
-put_then : (k i : ℕ) (g : Option Held → Option Held) (o : Option Process) (p : Process) → o ≡ Some p → held_then (λ (m : Map Held). put k (g (get m k)) m) o i ≡ (if k == i then g (held_of o k) else held_of o i)
+put_then : (k i : ℕ) (g : Option Held → Option Held) (o : Option Process) (p : Process) → o ≡ Some p
+    → held_then (λ (m : Map Held). put k (g (get m k)) m) o i ≡ (if k == i then g (held_of o k) else held_of o i)
 put_then k i g o p e = rw e (get-put k i (g (get p.held k)) p.held)
 
 pub number_is : (p q : ℕ) → 0 < p → 0 < q → (p - 1 == q - 1) ≡ (p == q)
@@ -217,7 +224,8 @@ put_holds w q j p i g there some =
     at : held_in (at_place (q - 1) (λ (x : Process). record x { held = f x.held }) w.processes) (p - 1) i ≡ (if p - 1 == q - 1 then held_then f (slice_get w.processes (p - 1)) i else held_in w.processes (p - 1) i)
     at = held_at_place w.processes (q - 1) (p - 1) i f
 
-    one : (c : Bool) → holds_of (if c then g (held_in w.processes (q - 1) j) else held_in w.processes (q - 1) i) ≡ (if c then holds_of (g (held_in w.processes (q - 1) j)) else place_holds w q i)
+    one : (c : Bool)
+        → holds_of (if c then g (held_in w.processes (q - 1) j) else held_in w.processes (q - 1) i) ≡ (if c then holds_of (g (held_in w.processes (q - 1) j)) else place_holds w q i)
     one true = refl
     one false = refl
 
@@ -233,11 +241,13 @@ put_holds w q j p i g there some =
 both_same : (p q j i : ℕ) → ((p == q) && (j == i)) ≡ true → (p ≡ q) × (j ≡ i)
 both_same p q j i e = (grind (arith, e), grind (arith, e))
 
-came_balance : (b : Bool) (x new old lines n : ℕ) → x ≡ (if b then new else old) → lines ≡ (if b then n else 0) → (b ≡ true → new ≡ old + n) → x + 0 ≡ old + lines
+came_balance : (b : Bool) (x new old lines n : ℕ) → x ≡ (if b then new else old) → lines ≡ (if b then n else 0) → (b ≡ true → new ≡ old + n)
+    → x + 0 ≡ old + lines
 came_balance true x new old lines n e f g = let h = g refl in omega (arith, e, f, h)
 came_balance false x new old lines n e f g = omega (arith, e, f)
 
-went_balance : (b : Bool) (x new old lines n : ℕ) → x ≡ (if b then new else old) → lines ≡ (if b then n else 0) → (b ≡ true → new + n ≡ old) → x + lines ≡ old + 0
+went_balance : (b : Bool) (x new old lines n : ℕ) → x ≡ (if b then new else old) → lines ≡ (if b then n else 0) → (b ≡ true → new + n ≡ old)
+    → x + lines ≡ old + 0
 went_balance true x new old lines n e f g = let h = g refl in omega (arith, e, f, h)
 went_balance false x new old lines n e f g = omega (arith, e, f)
 
@@ -276,7 +286,8 @@ all_told cause w (c ∷ cs) can p i some =
     let b = went_append (drop_lines_of cause c) (flat_map (drop_lines_of cause) cs) p (selector_of i) in
     omega (arith, one, rest, a, b)
 
-pub swept_holds : (b : Bool) (w : World) (p i : ℕ) → place_holds (if b then Rattle.o2_world.specs.Changes.swept w else w) p i ≡ place_holds w p i
+pub swept_holds : (b : Bool) (w : World) (p i : ℕ)
+    → place_holds (if b then Rattle.o2_world.specs.Changes.swept w else w) p i ≡ place_holds w p i
 swept_holds true w p i = refl
 swept_holds false w p i = refl
 

@@ -5,7 +5,8 @@ use Rattle.o2_base.specs.Services.{is_built}
 use Rattle.o2_world.specs.declared.types.Row.TheVariants.{DosExit, DosGetPid, DosRead, DosWrite, DosMemAvail}
 use Rattle.o2_world.specs.Calls.{row_of}
 
-one_of : (a b c d e : Bool) → is_some (if a then Some DosExit else (if b then Some DosGetPid else (if c then Some DosRead else (if d then Some DosWrite else (if e then Some DosMemAvail else None))))) ≡ (a || (b || (c || (d || (e || false)))))
+one_of : (a b c d e : Bool)
+    → is_some (if a then Some DosExit else (if b then Some DosGetPid else (if c then Some DosRead else (if d then Some DosWrite else (if e then Some DosMemAvail else None))))) ≡ (a || (b || (c || (d || (e || false)))))
 one_of true b c d e = refl
 one_of false true c d e = refl
 one_of false false true d e = refl

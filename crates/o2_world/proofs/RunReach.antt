@@ -57,10 +57,12 @@ end_append (Traps p v s o ∷ xs) ys q = ap (λ (t : Bool). if q == p then true 
 module _ (w : World) (d : Dispatch) (p : Process) (e : Effect) (at : process_at w.processes d.current ≡ Some p) (can : CanTellAll (worked w d p e) e.changes) (tells : Tells e) (some : 0 < d.current)
     (ends : (q : ℕ) → tells_end e.lines q ≡ (not (is_live e.state) && (q == d.current))) (dead : (q i : ℕ) → tells_end w.lines q ≡ true → came e.lines q (selector_of i) ≡ 0) (told : IsTold w) where
   -- of a process that this step doesn't end
-  other : (q i : ℕ) → 0 < q → tells_end e.lines q ≡ false → holds_at (changed w d p e) q i + went e.lines q (selector_of i) ≡ holds_at w q i + came e.lines q (selector_of i)
+  other : (q i : ℕ) → 0 < q → tells_end e.lines q ≡ false
+      → holds_at (changed w d p e) q i + went e.lines q (selector_of i) ≡ holds_at w q i + came e.lines q (selector_of i)
   other q i here none = go (is_live e.state) refl
     where
-      go : (b : Bool) → is_live e.state ≡ b → holds_at (changed w d p e) q i + went e.lines q (selector_of i) ≡ holds_at w q i + came e.lines q (selector_of i)
+      go : (b : Bool) → is_live e.state ≡ b
+          → holds_at (changed w d p e) q i + went e.lines q (selector_of i) ≡ holds_at w q i + came e.lines q (selector_of i)
       go true is = step_told w d p e at can tells is q i here
       go false is =
           let no : (q == d.current) ≡ false = sym (ap (λ (t : Bool). not t && (q == d.current)) is) ∙ sym (ends q) ∙ none in
@@ -89,7 +91,8 @@ module _ (w : World) (d : Dispatch) (p : Process) (e : Effect) (at : process_at 
     ended = λ q i here it. gone q i here (tells_end e.lines q) refl (sym (end_append w.lines e.lines q) ∙ ap (λ (ls : List Line). tells_end ls q) (sym (lines_are w d p e)) ∙ it);
   }
     where
-      live : (q i : ℕ) → 0 < q → (tells_end w.lines q || tells_end e.lines q) ≡ false → holds_at (changed w d p e) q i + went (w.lines ++ e.lines) q (selector_of i) ≡ came (w.lines ++ e.lines) q (selector_of i)
+      live : (q i : ℕ) → 0 < q → (tells_end w.lines q || tells_end e.lines q) ≡ false
+          → holds_at (changed w d p e) q i + went (w.lines ++ e.lines) q (selector_of i) ≡ came (w.lines ++ e.lines) q (selector_of i)
       live q i here none =
           let both = neither (tells_end w.lines q) (tells_end e.lines q) none in
           let a = other q i here both.1 in
@@ -102,7 +105,8 @@ module _ (w : World) (d : Dispatch) (p : Process) (e : Effect) (at : process_at 
       right true b x y = refl
       right false b x y = absurd (let z : true ≡ false = sym y ∙ x in cc)
 
-      gone : (q i : ℕ) → 0 < q → (b : Bool) → tells_end e.lines q ≡ b → (tells_end w.lines q || tells_end e.lines q) ≡ true → holds_at (changed w d p e) q i ≡ 0
+      gone : (q i : ℕ) → 0 < q → (b : Bool) → tells_end e.lines q ≡ b → (tells_end w.lines q || tells_end e.lines q) ≡ true
+          → holds_at (changed w d p e) q i ≡ 0
       gone q i here true is it = own q i here is
       gone q i here false is it =
           let before = right (tells_end w.lines q) (tells_end e.lines q) is it in
@@ -115,6 +119,7 @@ module _ (w : World) (d : Dispatch) (p : Process) (e : Effect) (at : process_at 
 pub reach_is : (w : World) → IsTold w → (q i : ℕ) → 0 < q → reach w.lines q (selector_of i) ≡ holds_at w q i
 reach_is w told q i here = go (tells_end w.lines q) refl
   where
-    go : (b : Bool) → tells_end w.lines q ≡ b → (if b then 0 else came w.lines q (selector_of i) - went w.lines q (selector_of i)) ≡ holds_at w q i
+    go : (b : Bool) → tells_end w.lines q ≡ b
+        → (if b then 0 else came w.lines q (selector_of i) - went w.lines q (selector_of i)) ≡ holds_at w q i
     go true is = sym (told.ended q i here is)
     go false is = let a = told.live q i here is in omega (arith, a)

@@ -31,7 +31,8 @@ in_range : (a b : Bool) (n m : ℕ) → (a && nat_le n m) ≡ true → n ≤ m
 in_range true b n m e = grind arith
 in_range false b n m e = absurd (cc)
 
-put_sizes : (f : ℕ → List ℕ) (offset : ℕ) (part : List ℕ) (o : Option Hold) → has_range f is_writable offset (length part) o ≡ true → KeepsLengths f (put_in f offset part o)
+put_sizes : (f : ℕ → List ℕ) (offset : ℕ) (part : List ℕ) (o : Option Hold) → has_range f is_writable offset (length part) o ≡ true
+    → KeepsLengths f (put_in f offset part o)
 put_sizes f offset part None e = absurd (cc)
 put_sizes f offset part (Some h) e = record { same = λ q. go q (q == h.name) refl }
   where
@@ -61,21 +62,25 @@ or_cases : {P : Type 0} (a b : Bool) → (a || b) ≡ true → (a ≡ true → P
 or_cases true b e f g = f refl
 or_cases false b e f g = g e
 
-pointer_sizes : (held : ℕ → Option Hold) (f : ℕ → List ℕ) (s offset : ℕ) (part : List ℕ) → may_write held f s offset (length part) ≡ true → KeepsLengths f (put_at_pointer held f s offset part)
+pointer_sizes : (held : ℕ → Option Hold) (f : ℕ → List ℕ) (s offset : ℕ) (part : List ℕ) → may_write held f s offset (length part) ≡ true
+    → KeepsLengths f (put_at_pointer held f s offset part)
 unfolding may_write put_at_pointer
 pointer_sizes held f s offset part e =
     or_cases (length part == 0) _ e (λ none. no_sizes f offset part (bound_in held s) (none_in part none)) (λ good. put_sizes f offset part (bound_in held s) good)
 
 -- a pointer that is good is good behind a write that keeps sizes
-still_range : (f g : ℕ → List ℕ) (ok : ℕ → Bool) (offset count : ℕ) (o : Option Hold) → KeepsLengths f g → has_range f ok offset count o ≡ true → has_range g ok offset count o ≡ true
+still_range : (f g : ℕ → List ℕ) (ok : ℕ → Bool) (offset count : ℕ) (o : Option Hold) → KeepsLengths f g
+    → has_range f ok offset count o ≡ true → has_range g ok offset count o ≡ true
 still_range f g ok offset count None k e = e
 still_range f g ok offset count (Some h) k e = ap (λ (n : ℕ). ok h.rights && nat_le (offset + count) n) (k.same h.name) ∙ e
 
-still_writable : (held : ℕ → Option Hold) (f g : ℕ → List ℕ) (s offset count : ℕ) → KeepsLengths f g → may_write held f s offset count ≡ true → may_write held g s offset count ≡ true
+still_writable : (held : ℕ → Option Hold) (f g : ℕ → List ℕ) (s offset count : ℕ) → KeepsLengths f g
+    → may_write held f s offset count ≡ true → may_write held g s offset count ≡ true
 unfolding may_write
 still_writable held f g s offset count k e = go (count == 0) e
   where
-    go : (b : Bool) → (b || has_range f is_writable offset count (bound_in held s)) ≡ true → (b || has_range g is_writable offset count (bound_in held s)) ≡ true
+    go : (b : Bool) → (b || has_range f is_writable offset count (bound_in held s)) ≡ true
+        → (b || has_range g is_writable offset count (bound_in held s)) ≡ true
     go true e = refl
     go false e = still_range f g is_writable offset count (bound_in held s) k e
 
@@ -92,7 +97,8 @@ both : (a b : Bool) → (a && b) ≡ true → (a ≡ true) × (b ≡ true)
 both true b e = (refl, e)
 both false b e = absurd (cc)
 
-told_at_sizes : (b : Before) (next : ℕ) (name part : List ℕ) (values : List Argument) (s offset : ℕ) → Keeps b (told_at b next name part values s offset)
+told_at_sizes : (b : Before) (next : ℕ) (name part : List ℕ) (values : List Argument) (s offset : ℕ)
+    → Keeps b (told_at b next name part values s offset)
 told_at_sizes b next name part values s offset =
     by_test b (may_write b.view.held b.view.bytes s offset (length part)) _ _ (λ good. pointer_sizes b.view.held b.view.bytes s offset part good) (stays b.view.bytes)
 
@@ -100,7 +106,8 @@ told_sizes : (b : Before) (next : ℕ) (name part : List ℕ) (values : List Arg
 unfolding told
 told_sizes b next name part values = by_test b (has_arguments b.view b.cpu 2) _ _ (λ _. told_at_sizes b next name part values _ _) (stays b.view.bytes)
 
-written_sizes : (b : Before) (next handle s o count done_selector done_offset : ℕ) → Keeps b (written b next handle s o count done_selector done_offset)
+written_sizes : (b : Before) (next handle s o count done_selector done_offset : ℕ)
+    → Keeps b (written b next handle s o count done_selector done_offset)
 written_sizes b next handle s o count done_selector done_offset =
     by_test b (may_read b.view.held b.view.bytes s o count && may_write b.view.held b.view.bytes done_selector done_offset 2) _ _
     (λ good. by_test b (is_console handle) _ _ (λ _. pointer_sizes b.view.held b.view.bytes done_selector done_offset (word_bytes count) (both _ _ good).1) (stays b.view.bytes)) (stays b.view.bytes)
@@ -113,7 +120,8 @@ took : (n : ℕ) (xs : List ℕ) → length (take n xs) ≤ n
 took n xs = grind (arith, common_steps)
 
 -- fewer bytes than the pointer is good for
-fewer_range : (f : ℕ → List ℕ) (ok : ℕ → Bool) (offset n m : ℕ) (o : Option Hold) → n ≤ m → has_range f ok offset m o ≡ true → has_range f ok offset n o ≡ true
+fewer_range : (f : ℕ → List ℕ) (ok : ℕ → Bool) (offset n m : ℕ) (o : Option Hold) → n ≤ m → has_range f ok offset m o ≡ true
+    → has_range f ok offset n o ≡ true
 fewer_range f ok offset n m None h e = e
 fewer_range f ok offset n m (Some x) h e = go (ok x.rights) e
   where
@@ -121,23 +129,27 @@ fewer_range f ok offset n m (Some x) h e = go (ok x.rights) e
     go true e = grind arith
     go false e = e
 
-fewer_writable : (held : ℕ → Option Hold) (f : ℕ → List ℕ) (s offset n m : ℕ) → n ≤ m → may_write held f s offset m ≡ true → may_write held f s offset n ≡ true
+fewer_writable : (held : ℕ → Option Hold) (f : ℕ → List ℕ) (s offset n m : ℕ) → n ≤ m → may_write held f s offset m ≡ true
+    → may_write held f s offset n ≡ true
 unfolding may_write
 fewer_writable held f s offset n m h e = go (m == 0) (n == 0) (λ z. zero_by n m h z) e
   where
     zero_by : (n m : ℕ) → n ≤ m → (m == 0) ≡ true → (n == 0) ≡ true
     zero_by n m h z = grind arith
 
-    go : (y x : Bool) → (y ≡ true → x ≡ true) → (y || has_range f is_writable offset m (bound_in held s)) ≡ true → (x || has_range f is_writable offset n (bound_in held s)) ≡ true
+    go : (y x : Bool) → (y ≡ true → x ≡ true) → (y || has_range f is_writable offset m (bound_in held s)) ≡ true
+        → (x || has_range f is_writable offset n (bound_in held s)) ≡ true
     go true x z e = ap (λ (t : Bool). t || has_range f is_writable offset n (bound_in held s)) (z refl)
     go false true z e = refl
     go false false z e = fewer_range f is_writable offset n m (bound_in held s) h e
 
-read_sizes : (b : Before) (next handle s o count done_selector done_offset : ℕ) → Keeps b (read_from b next handle s o count done_selector done_offset)
+read_sizes : (b : Before) (next handle s o count done_selector done_offset : ℕ)
+    → Keeps b (read_from b next handle s o count done_selector done_offset)
 read_sizes b next handle s o count done_selector done_offset =
     by_test b (may_take b s o count done_selector done_offset) _ _ (λ good. by_test b (handle == 0) _ _ (λ _. taken (both _ _ good)) (stays b.view.bytes)) (stays b.view.bytes)
   where
-    taken : (may_write b.view.held b.view.bytes s o count ≡ true) × (may_write b.view.held b.view.bytes done_selector done_offset 2 ≡ true) → KeepsLengths b.view.bytes (bytes_with b s o done_selector done_offset (take count b.input))
+    taken : (may_write b.view.held b.view.bytes s o count ≡ true) × (may_write b.view.held b.view.bytes done_selector done_offset 2 ≡ true)
+        → KeepsLengths b.view.bytes (bytes_with b s o done_selector done_offset (take count b.input))
     taken good =
         let first = pointer_sizes b.view.held b.view.bytes s o (take count b.input) (fewer_writable b.view.held b.view.bytes s o (length (take count b.input)) count (took count b.input) good.0) in
         behind _ _ _ first (pointer_sizes b.view.held (put_at_pointer b.view.held b.view.bytes s o (take count b.input)) done_selector done_offset (word_bytes (length (take count b.input)))

@@ -17,7 +17,8 @@ use Rattle.o2_world.proofs.Reached.{place_holds, number_holds, set-place, change
 use Rattle.o2_world.proofs.MapLemmas.{if_yes, if_no}
 
 -- registers and state change nothing that is held
-pub same_map : (ps : List Process) (k : ℕ) (p new : Process) (j i : ℕ) → slice_get ps k ≡ Some p → new.held ≡ p.held → held_in (slice_set ps k new) j i ≡ held_in ps j i
+pub same_map : (ps : List Process) (k : ℕ) (p new : Process) (j i : ℕ) → slice_get ps k ≡ Some p → new.held ≡ p.held
+    → held_in (slice_set ps k new) j i ≡ held_in ps j i
 same_map [] k p new j i at same = refl
 same_map (a ∷ ps) zero p new zero i at same = ap (λ (m : Map Held). Rattle.o2_world.specs.Map.get m i) (same ∙ sym (the_held a p at))
   where
@@ -27,7 +28,8 @@ same_map (a ∷ ps) zero p new (suc j) i at same = refl
 same_map (a ∷ ps) (suc k) p new zero i at same = refl
 same_map (a ∷ ps) (suc k) p new (suc j) i at same = same_map ps k p new j i at same
 
-pub same_at : (ps : List Process) (n : ℕ) (p new : Process) (j i : ℕ) → process_at ps n ≡ Some p → new.held ≡ p.held → held_in (with_process ps n new) j i ≡ held_in ps j i
+pub same_at : (ps : List Process) (n : ℕ) (p new : Process) (j i : ℕ) → process_at ps n ≡ Some p → new.held ≡ p.held
+    → held_in (with_process ps n new) j i ≡ held_in ps j i
 same_at ps n p new j i at same =
     ap (λ (qs : List Process). held_in qs j i) (with_is ps n new (number_some ps n p at)) ∙ same_map ps (n - 1) p new j i (at_place_of ps n p at) same
 
@@ -69,7 +71,8 @@ module _ (w : World) (d : Dispatch) (p : Process) (e : Effect) (at : process_at 
   with_more v (x ∷ xs) ys = with_more (with_change v x) xs ys
 
   -- what the process that ended holds, and others
-  finished : (v : World) (n q i : ℕ) → 0 < q → 0 < n → place_holds (with_changes v (Finishes n e.state ∷ [])) q i ≡ (if q == n then 0 else place_holds v q i)
+  finished : (v : World) (n q i : ℕ) → 0 < q → 0 < n
+      → place_holds (with_changes v (Finishes n e.state ∷ [])) q i ≡ (if q == n then 0 else place_holds v q i)
   unfolding with_changes
   finished v n q i some is =
       ap (λ (ps : List Process). holds_of (held_in ps (q - 1) i)) (changed_is n f v.processes is)
@@ -78,7 +81,8 @@ module _ (w : World) (d : Dispatch) (p : Process) (e : Effect) (at : process_at 
       f : Process → Process
       f x = record x { state = e.state; held = [] }
 
-      go : (b c : Bool) → b ≡ c → (o : Option Process) → holds_of (held_of (if b then option_map f o else o) i) ≡ (if c then 0 else holds_of (held_of o i))
+      go : (b c : Bool) → b ≡ c → (o : Option Process)
+          → holds_of (held_of (if b then option_map f o else o) i) ≡ (if c then 0 else holds_of (held_of o i))
       go true true e None = refl
       go true true e (Some x) = refl
       go true false e o = absurd (cc)
@@ -103,6 +107,7 @@ module _ (w : World) (d : Dispatch) (p : Process) (e : Effect) (at : process_at 
       let l = number_holds w q i some in
       by (q == d.current) (holds_at (changed w d p e) q i) (place_holds (with_changes v e.changes) q i) (holds_at w q i) (came e.lines q (selector_of i)) (went e.lines q (selector_of i)) (k ∙ u ∙ x ∙ y ∙ z) (omega (arith, h, a, b, c, l))
     where
-      by : (t : Bool) (after mid old more less : ℕ) → after ≡ (if t then 0 else mid) → mid + less ≡ old + more → (if t then after else after + less) ≡ (if t then 0 else old + more)
+      by : (t : Bool) (after mid old more less : ℕ) → after ≡ (if t then 0 else mid) → mid + less ≡ old + more
+          → (if t then after else after + less) ≡ (if t then 0 else old + more)
       by true after mid old more less e f = e
       by false after mid old more less e f = omega (arith, e, f)

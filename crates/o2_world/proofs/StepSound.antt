@@ -22,7 +22,8 @@ use Rattle.o2_world.proofs.Sizes.{effect_sizes}
 use Rattle.o2_world.proofs.TiedWorld.{changed_tied, worked_swept}
 
 -- the process whose step is next, where the run goes on
-pub next_process : (s : Setting) (w : World) → is_over w ≡ false → (p : Process) × (process_at w.processes (next_dispatch s w).current ≡ Some p) × (p.state ≡ Live)
+pub next_process : (s : Setting) (w : World) → is_over w ≡ false
+    → (p : Process) × (process_at w.processes (next_dispatch s w).current ≡ Some p) × (p.state ≡ Live)
 next_process s w runs =
     let some = not_over (any_lives w.processes) w.dispatch.budget runs in
     live_process w.processes (live_flags w.processes) (next_dispatch s w).current refl (chosen_lives s.quantum (live_flags w.processes) w.dispatch some.0)

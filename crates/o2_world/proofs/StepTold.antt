@@ -41,7 +41,8 @@ one_end false = refl
 traps : (b : Before) (vector : ℕ) → IsPlain b.number (trapped b vector)
 traps b vector = record { comes = λ q s. refl; goes = λ q s. refl; ends = λ q. one_end (q == b.number) }
 
-written_plain : (b : Before) (next handle selector offset count done_selector done_offset : ℕ) → IsPlain b.number (written b next handle selector offset count done_selector done_offset)
+written_plain : (b : Before) (next handle selector offset count done_selector done_offset : ℕ)
+    → IsPlain b.number (written b next handle selector offset count done_selector done_offset)
 written_plain b next handle selector offset count done_selector done_offset =
     either b.number (may_read b.view.held b.view.bytes selector offset count && may_write b.view.held b.view.bytes done_selector done_offset 2) _ _
     (either b.number (is_console handle) _ _ (record { comes = λ q s. refl; goes = λ q s. refl; ends = λ q. refl }) (record { comes = λ q s. refl; goes = λ q s. refl; ends = λ q. refl })) (traps b 13)
@@ -50,7 +51,8 @@ write_plain : (b : Before) (next : ℕ) → IsPlain b.number (dos_write b next)
 unfolding dos_write
 write_plain b next = either b.number (has_arguments b.view b.cpu 6) _ _ (let a : ℕ → ℕ = argument b.view b.cpu in written_plain b next (a 5) (a 4) (a 3) (a 2) (a 1) (a 0)) (traps b 12)
 
-read_from_plain : (b : Before) (next handle selector offset count done_selector done_offset : ℕ) → IsPlain b.number (read_from b next handle selector offset count done_selector done_offset)
+read_from_plain : (b : Before) (next handle selector offset count done_selector done_offset : ℕ)
+    → IsPlain b.number (read_from b next handle selector offset count done_selector done_offset)
 read_from_plain b next handle selector offset count done_selector done_offset =
     either b.number (may_take b selector offset count done_selector done_offset) _ _
     (either b.number (handle == 0) _ _ (record { comes = λ q s. refl; goes = λ q s. refl; ends = λ q. refl }) (record { comes = λ q s. refl; goes = λ q s. refl; ends = λ q. refl })) (traps b 13)
@@ -63,7 +65,8 @@ exit_plain : (b : Before) → IsPlain b.number (dos_exit b)
 unfolding dos_exit
 exit_plain b = either b.number (has_arguments b.view b.cpu 2) _ _ (record { comes = λ q s. refl; goes = λ q s. refl; ends = λ q. one_end (q == b.number) }) (traps b 12)
 
-told_at_plain : (b : Before) (next : ℕ) (name part : List ℕ) (values : List Argument) (selector offset : ℕ) → IsPlain b.number (told_at b next name part values selector offset)
+told_at_plain : (b : Before) (next : ℕ) (name part : List ℕ) (values : List Argument) (selector offset : ℕ)
+    → IsPlain b.number (told_at b next name part values selector offset)
 told_at_plain b next name part values selector offset =
     either b.number (may_write b.view.held b.view.bytes selector offset (length part)) _ _ (record { comes = λ q s. refl; goes = λ q s. refl; ends = λ q. refl }) (traps b 13)
 
@@ -115,7 +118,8 @@ nothing_goes q t = refl
 
 -- A step keeps a world told.
 
-acted_told : (s : Setting) (w : World) (d : Dispatch) (p : Process) → process_at w.processes d.current ≡ Some p → IsTold w → IsTold (acted s w d (Some p))
+acted_told : (s : Setting) (w : World) (d : Dispatch) (p : Process) → process_at w.processes d.current ≡ Some p → IsTold w
+    → IsTold (acted s w d (Some p))
 acted_told s w d p at told =
     let b : Before = before s w d.current p in
     let plain = effect_plain b in

@@ -21,12 +21,14 @@ record IsNew (place k i j : ℕ) (o : Option Held) (h : Held) : Type 0 where
 same_number : (n m : ℕ) (b : Bool) → (n == m) ≡ b → b ≡ true → n ≡ m
 same_number n m b e h = grind arith
 
-put_from : (place k i j : ℕ) (g : Option Held → Option Held) (o : Option Process) (h : Held) → place ≡ k → held_then (λ (m : Map Held). put j (g (get m j)) m) o i ≡ Some h
+put_from : (place k i j : ℕ) (g : Option Held → Option Held) (o : Option Process) (h : Held) → place ≡ k
+    → held_then (λ (m : Map Held). put j (g (get m j)) m) o i ≡ Some h
     → (held_of o i ≡ Some h) ⊎ IsNew place k i j (g (held_of o j)) h
 put_from place k i j g None h at e = absurd (cc)
 put_from place k i j g (Some x) h at e = go (j == i) refl (sym (get-put j i (g (get x.held j)) x.held) ∙ e)
   where
-    go : (b : Bool) → (j == i) ≡ b → (if j == i then g (get x.held j) else get x.held i) ≡ Some h → (get x.held i ≡ Some h) ⊎ IsNew place k i j (g (get x.held j)) h
+    go : (b : Bool) → (j == i) ≡ b → (if j == i then g (get x.held j) else get x.held i) ≡ Some h
+        → (get x.held i ≡ Some h) ⊎ IsNew place k i j (g (get x.held j)) h
     go true is f = inr (record { at = at; index = sym (same_number j i true is refl); is = sym (if_yes (j == i) _ _ is) ∙ f })
     go false is f = inl (sym (if_no (j == i) _ _ is) ∙ f)
 
@@ -36,7 +38,8 @@ held_from : (ps : List Process) (k j : ℕ) (g : Option Held → Option Held) (p
     → (held_in ps place i ≡ Some h) ⊎ IsNew place k i j (g (held_in ps place j)) h
 held_from ps k j g place i h e = go (place == k) refl (sym (held_at_place ps k place i (λ (m : Map Held). put j (g (get m j)) m)) ∙ e)
   where
-    go : (b : Bool) → (place == k) ≡ b → (if place == k then held_then (λ (m : Map Held). put j (g (get m j)) m) (slice_get ps place) i else held_in ps place i) ≡ Some h
+    go : (b : Bool) → (place == k) ≡ b
+        → (if place == k then held_then (λ (m : Map Held). put j (g (get m j)) m) (slice_get ps place) i else held_in ps place i) ≡ Some h
         → (held_in ps place i ≡ Some h) ⊎ IsNew place k i j (g (held_in ps place j)) h
     go true is f = put_from place k i j g (slice_get ps place) h (same_number place k true is refl) (sym (if_yes (place == k) _ _ is) ∙ f)
     go false is f = inl (sym (if_no (place == k) _ _ is) ∙ f)
@@ -47,10 +50,12 @@ record IsFrom (ps : List Process) (k place : ℕ) (f : Process → Process) (x :
   pub there : slice_get ps place ≡ Some old
   pub is : (x ≡ old) ⊎ ((place ≡ k) × (x ≡ f old))
 
-place_from : (ps : List Process) (k place : ℕ) (f : Process → Process) (x : Process) → slice_get (at_place k f ps) place ≡ Some x → IsFrom ps k place f x
+place_from : (ps : List Process) (k place : ℕ) (f : Process → Process) (x : Process) → slice_get (at_place k f ps) place ≡ Some x
+    → IsFrom ps k place f x
 place_from ps k place f x e = go (place == k) refl (slice_get ps place) refl (sym (get-place k place f ps) ∙ e)
   where
-    go : (b : Bool) → (place == k) ≡ b → (o : Option Process) → slice_get ps place ≡ o → (if place == k then option_map f (slice_get ps place) else slice_get ps place) ≡ Some x → IsFrom ps k place f x
+    go : (b : Bool) → (place == k) ≡ b → (o : Option Process) → slice_get ps place ≡ o
+        → (if place == k then option_map f (slice_get ps place) else slice_get ps place) ≡ Some x → IsFrom ps k place f x
     go true is None at e = absurd (let z : option_map f (slice_get ps place) ≡ Some x = sym (if_yes (place == k) _ _ is) ∙ e in cc)
     go true is (Some y) at e =
         let z : option_map f (slice_get ps place) ≡ Some x = sym (if_yes (place == k) _ _ is) ∙ e in
@@ -75,10 +80,12 @@ record IsNamedFrom (m : Map Segment) (q : ℕ) (f : Segment → Segment) (s : Se
   pub there : get m q ≡ Some old
   pub is : (s ≡ old) ⊎ (s ≡ f old)
 
-named_from : (m : Map Segment) (n q : ℕ) (f : Segment → Segment) (s : Segment) → get (put n (option_map f (get m n)) m) q ≡ Some s → IsNamedFrom m q f s
+named_from : (m : Map Segment) (n q : ℕ) (f : Segment → Segment) (s : Segment) → get (put n (option_map f (get m n)) m) q ≡ Some s
+    → IsNamedFrom m q f s
 named_from m n q f s e = go (n == q) refl (get m n) refl (sym (get-put n q (option_map f (get m n)) m) ∙ e)
   where
-    go : (b : Bool) → (n == q) ≡ b → (o : Option Segment) → get m n ≡ o → (if n == q then option_map f (get m n) else get m q) ≡ Some s → IsNamedFrom m q f s
+    go : (b : Bool) → (n == q) ≡ b → (o : Option Segment) → get m n ≡ o → (if n == q then option_map f (get m n) else get m q) ≡ Some s
+        → IsNamedFrom m q f s
     go true is None at e = absurd (let z : option_map f (get m n) ≡ Some s = sym (if_yes (n == q) _ _ is) ∙ e in cc)
     go true is (Some y) at e =
         let z : option_map f (get m n) ≡ Some s = sym (if_yes (n == q) _ _ is) ∙ e in
@@ -86,7 +93,8 @@ named_from m n q f s e = go (n == q) refl (get m n) refl (sym (get-put n q (opti
         record { old = y; there = ap (get m) (sym (same_number n q true is refl)) ∙ at; is = inr cc }
     go false is o at e = record { old = s; there = sym (if_no (n == q) _ _ is) ∙ e; is = inl refl }
 
-pub texts_live : (old new : Map Segment) (ts : List (List ℕ × ℕ)) → ((q : ℕ) → is_some (get old q) ≡ true → is_some (get new q) ≡ true) → AreLive old ts → AreLive new ts
+pub texts_live : (old new : Map Segment) (ts : List (List ℕ × ℕ)) → ((q : ℕ) → is_some (get old q) ≡ true → is_some (get new q) ≡ true)
+    → AreLive old ts → AreLive new ts
 texts_live old new [] f h = h
 texts_live old new (t ∷ ts) f h = (f t.1 h.0, texts_live old new ts f h.1)
 
@@ -113,7 +121,8 @@ pub same_marks : (names : Map Segment) (n : ℕ) (s : Segment) → get names n �
 same_marks names n s e = record { old = s; there = e; clean = refl; shared = refl }
 
 -- A change of a segment that leaves its marks clean and shared, and has a size.
-segment_tied : (w : World) (n : ℕ) (f : Segment → Segment) → ((s : Segment) → (f s).clean ≡ s.clean) → ((s : Segment) → (f s).shared ≡ s.shared)
+segment_tied : (w : World) (n : ℕ) (f : Segment → Segment) → ((s : Segment) → (f s).clean ≡ s.clean)
+    → ((s : Segment) → (f s).shared ≡ s.shared)
     → ((s : Segment) → HasSize s → HasSize (f s)) → IsTied w → IsTied (with_segment w n f)
 segment_tied w n f clean shared sized tied = record {
   held = λ place i h e. let old = tied.held place i h e in (lives_same w.names n h.name f ∙ old.0, old.1);
@@ -187,7 +196,8 @@ KeepsRights ok old new = has_rights ok old ≡ true → has_rights ok new ≡ tr
 abbrev pub put_held : (Option Held → Option Held) → ℕ → Process → Process
 put_held g j p = record p { held = put j (g (get p.held j)) p.held }
 
-named_still : (p : Process) (g : Option Held → Option Held) (j s : ℕ) (ok : ℕ → Bool) → (s / 8 ≡ j → KeepsRights ok (get p.held j) (g (get p.held j))) → NamesHeld p ok s → NamesHeld (put_held g j p) ok s
+named_still : (p : Process) (g : Option Held → Option Held) (j s : ℕ) (ok : ℕ → Bool)
+    → (s / 8 ≡ j → KeepsRights ok (get p.held j) (g (get p.held j))) → NamesHeld p ok s → NamesHeld (put_held g j p) ok s
 named_still p g j s ok keeps named = (named.0, ap (has_rights ok) (get-put j (s / 8) (g (get p.held j)) p.held) ∙ go (j == s / 8) refl)
   where
     go : (b : Bool) → (j == s / 8) ≡ b → has_rights ok (if j == s / 8 then g (get p.held j) else get p.held (s / 8)) ≡ true
@@ -196,7 +206,8 @@ named_still p g j s ok keeps named = (named.0, ap (has_rights ok) (get-put j (s 
         ap (has_rights ok) (if_yes (j == s / 8) _ _ is) ∙ keeps (sym same) (ap (λ k. has_rights ok (get p.held k)) same ∙ named.1)
     go false is = ap (has_rights ok) (if_no (j == s / 8) _ _ is) ∙ named.1
 
-data_still : (p : Process) (g : Option Held → Option Held) (j s : ℕ) (ok : ℕ → Bool) → ((is_null s ≡ true) ⊎ (s / 8 ≡ j → KeepsRights ok (get p.held j) (g (get p.held j)))) → (is_null s ≡ true) ⊎ NamesHeld p ok s
+data_still : (p : Process) (g : Option Held → Option Held) (j s : ℕ) (ok : ℕ → Bool)
+    → ((is_null s ≡ true) ⊎ (s / 8 ≡ j → KeepsRights ok (get p.held j) (g (get p.held j)))) → (is_null s ≡ true) ⊎ NamesHeld p ok s
     → (is_null s ≡ true) ⊎ NamesHeld (put_held g j p) ok s
 data_still p g j s ok keeps (inl null) = inl null
 data_still p g j s ok (inl null) (inr named) = inl null
@@ -208,7 +219,8 @@ record KeepsNamed (p : Process) (g : Option Held → Option Held) (j : ℕ) : Ty
   ds : (is_null p.cpu.ds ≡ true) ⊎ (p.cpu.ds / 8 ≡ j → KeepsRights is_readable (get p.held j) (g (get p.held j)))
   es : (is_null p.cpu.es ≡ true) ⊎ (p.cpu.es / 8 ≡ j → KeepsRights is_readable (get p.held j) (g (get p.held j)))
 
-registers_still : (p : Process) (g : Option Held → Option Held) (j : ℕ) → KeepsNamed p g j → HasGoodRegisters p → HasGoodRegisters (put_held g j p)
+registers_still : (p : Process) (g : Option Held → Option Held) (j : ℕ) → KeepsNamed p g j → HasGoodRegisters p
+    → HasGoodRegisters (put_held g j p)
 registers_still p g j k good = record {
   cs = named_still p g j p.cpu.cs is_code k.cs good.cs;
   cs_ring = good.cs_ring;
@@ -239,7 +251,8 @@ abbrev pub held_put : World → ℕ → ℕ → (Option Held → Option Held) �
 held_put w p i g = record w { processes = at_place (p - 1) (put_held g i) w.processes }
 
 -- what holds of each process that is there
-each_from : {P : Process → Type 0} (ps : List Process) (k : ℕ) (f : Process → Process) → ((place : ℕ) (x : Process) → slice_get ps place ≡ Some x → P x) → ((x : Process) → slice_get ps k ≡ Some x → P (f x))
+each_from : {P : Process → Type 0} (ps : List Process) (k : ℕ) (f : Process → Process)
+    → ((place : ℕ) (x : Process) → slice_get ps place ≡ Some x → P x) → ((x : Process) → slice_get ps k ≡ Some x → P (f x))
     → (place : ℕ) (x : Process) → slice_get (at_place k f ps) place ≡ Some x → P x
 each_from {P} ps k f old new place x e = let from = place_from ps k place f x e in go from.old from.there from.is
   where
@@ -276,20 +289,26 @@ holds_tied w p j n some fit tied = record {
     live_more place h (Old old at name rights cause some is) = (ap (lives_in w) name ∙ (tied.held place j old at).0, omega (arith, some, is))
     live_more place h (New none is) = (ap (λ (x : Held). lives_in w x.name) is ∙ fit.lives, let z = fit.some in let y = ap (λ (x : Held). x.holds) is in omega (arith, z, y))
 
-    live_by : (place i : ℕ) (h : Held) → (held_in w.processes place i ≡ Some h) ⊎ IsNew place (p - 1) i j (more n (held_in w.processes place j)) h → (lives_in w h.name ≡ true) × (0 < h.holds)
+    live_by : (place i : ℕ) (h : Held)
+        → (held_in w.processes place i ≡ Some h) ⊎ IsNew place (p - 1) i j (more n (held_in w.processes place j)) h
+        → (lives_in w h.name ≡ true) × (0 < h.holds)
     live_by place i h (inl old) = tied.held place i h old
     live_by place i h (inr new) = live_more place h (more_is n (held_in w.processes place j) h fit.some new.is)
 
-    clean_more : (place : ℕ) (h : Held) (s : Segment) → IsMore n (held_in w.processes place j) h → get w.names h.name ≡ Some s → s.clean ≡ true → is_writable h.rights ≡ false
+    clean_more : (place : ℕ) (h : Held) (s : Segment) → IsMore n (held_in w.processes place j) h → get w.names h.name ≡ Some s
+        → s.clean ≡ true → is_writable h.rights ≡ false
     clean_more place h s (Old old at name rights cause some is) g c = ap is_writable rights ∙ tied.clean place j old s at (ap (get w.names) (sym name) ∙ g) c
     clean_more place h s (New none is) g c = ap (λ (x : Held). is_writable x.rights) is ∙ fit.clean s (ap (λ (x : Held). get w.names x.name) (sym is) ∙ g) c
 
-    clean_by : (place i : ℕ) (h : Held) (s : Segment) → (held_in w.processes place i ≡ Some h) ⊎ IsNew place (p - 1) i j (more n (held_in w.processes place j)) h → get w.names h.name ≡ Some s → s.clean ≡ true → is_writable h.rights ≡ false
+    clean_by : (place i : ℕ) (h : Held) (s : Segment)
+        → (held_in w.processes place i ≡ Some h) ⊎ IsNew place (p - 1) i j (more n (held_in w.processes place j)) h
+        → get w.names h.name ≡ Some s → s.clean ≡ true → is_writable h.rights ≡ false
     clean_by place i h s (inl old) g c = tied.clean place i h s old g c
     clean_by place i h s (inr new) g c = clean_more place h s (more_is n (held_in w.processes place j) h fit.some new.is) g c
 
     -- what came agrees with all that was there under the index
-    with_old : (place other : ℕ) (h k : Held) → 4096 ≤ j → IsMore n (held_in w.processes place j) h → held_in w.processes other j ≡ Some k → AreOne w.names h k
+    with_old : (place other : ℕ) (h k : Held) → 4096 ≤ j → IsMore n (held_in w.processes place j) h → held_in w.processes other j ≡ Some k
+        → AreOne w.names h k
     with_old place other h k big (Old old at name rights cause some is) f = same (tied.one place other j old k big at f)
       where
         same : AreOne w.names old k → AreOne w.names h k
@@ -297,12 +316,14 @@ holds_tied w p j n some fit tied = record {
         same (inr e) = inr (own_by w.names h old name cause e.0, e.1)
     with_old place other h k big (New none is) f = subst (λ (x : Held). AreOne w.names x k) (sym is) (fit.one other k big f)
 
-    same_place : (place other : ℕ) (h k : Held) → place ≡ p - 1 → other ≡ p - 1 → more n (held_in w.processes place j) ≡ Some h → more n (held_in w.processes other j) ≡ Some k → AreOne w.names h k
+    same_place : (place other : ℕ) (h k : Held) → place ≡ p - 1 → other ≡ p - 1 → more n (held_in w.processes place j) ≡ Some h
+        → more n (held_in w.processes other j) ≡ Some k → AreOne w.names h k
     same_place place other h k a b e f =
         let same : Some h ≡ Some k = sym e ∙ ap (λ q. more n (held_in w.processes q j)) (a ∙ sym b) ∙ f in
         inl (ap (λ (x : Held). x.name) (let z : h ≡ k = cc in z))
 
-    one_by : (place other i : ℕ) (h k : Held) → 4096 ≤ i → (held_in w.processes place i ≡ Some h) ⊎ IsNew place (p - 1) i j (more n (held_in w.processes place j)) h
+    one_by : (place other i : ℕ) (h k : Held) → 4096 ≤ i
+        → (held_in w.processes place i ≡ Some h) ⊎ IsNew place (p - 1) i j (more n (held_in w.processes place j)) h
         → (held_in w.processes other i ≡ Some k) ⊎ IsNew other (p - 1) i j (more n (held_in w.processes other j)) k → AreOne w.names h k
     one_by place other i h k big (inl e) (inl f) = tied.one place other i h k big e f
     one_by place other i h k big (inr new) (inl f) = with_old place other h k (subst (λ x. 4096 ≤ x) new.index big) (more_is n (held_in w.processes place j) h fit.some new.is) (subst (λ x. held_in w.processes other x ≡ Some k) new.index f)
@@ -338,7 +359,8 @@ fewer_keeps : (count : ℕ) (ok : ℕ → Bool) (o : Option Held) → ((h : Held
 fewer_keeps count ok None left e = absurd (cc)
 fewer_keeps count ok (Some old) left e = ap (has_rights ok) (if_yes (nat_lt count old.holds) (Some (record old { holds = old.holds - count })) None (below_is count old.holds (left old refl))) ∙ e
 
-drop_keeps : (x : Process) (j count : ℕ) → ((h : Held) → get x.held j ≡ Some h → count < h.holds) ⊎ IsUnnamed x.cpu j → KeepsNamed x (fewer count) j
+drop_keeps : (x : Process) (j count : ℕ) → ((h : Held) → get x.held j ≡ Some h → count < h.holds) ⊎ IsUnnamed x.cpu j
+    → KeepsNamed x (fewer count) j
 drop_keeps x j count (inl left) = record {
   cs = λ _. fewer_keeps count is_code (get x.held j) left;
   ss = λ _. fewer_keeps count is_writable (get x.held j) left;
@@ -347,7 +369,8 @@ drop_keeps x j count (inl left) = record {
 }
 drop_keeps x j count (inr un) = record { cs = λ e. absurd (un.cs e); ss = λ e. absurd (un.ss e); ds = data_unnamed x.cpu.ds un.ds; es = data_unnamed x.cpu.es un.es }
   where
-    data_unnamed : (s : ℕ) → (is_null s ≡ true) ⊎ (s / 8 ≢ j) → (is_null s ≡ true) ⊎ (s / 8 ≡ j → KeepsRights is_readable (get x.held j) (fewer count (get x.held j)))
+    data_unnamed : (s : ℕ) → (is_null s ≡ true) ⊎ (s / 8 ≢ j)
+        → (is_null s ≡ true) ⊎ (s / 8 ≡ j → KeepsRights is_readable (get x.held j) (fewer count (get x.held j)))
     data_unnamed s (inl null) = inl null
     data_unnamed s (inr other) = inr (λ e. absurd (other e))
 
@@ -369,14 +392,17 @@ drops_tied w p j count positive fit tied = record {
 }
   where
     -- each hold was there
-    before : (place i : ℕ) (h : Held) → held_in (at_place (p - 1) (put_held (fewer count) j) w.processes) place i ≡ Some h → IsFewer count (held_in w.processes place i) h
+    before : (place i : ℕ) (h : Held) → held_in (at_place (p - 1) (put_held (fewer count) j) w.processes) place i ≡ Some h
+        → IsFewer count (held_in w.processes place i) h
     before place i h e = go (held_from w.processes (p - 1) j (fewer count) place i h e)
       where
-        go : (held_in w.processes place i ≡ Some h) ⊎ IsNew place (p - 1) i j (fewer count (held_in w.processes place j)) h → IsFewer count (held_in w.processes place i) h
+        go : (held_in w.processes place i ≡ Some h) ⊎ IsNew place (p - 1) i j (fewer count (held_in w.processes place j)) h
+            → IsFewer count (held_in w.processes place i) h
         go (inl old) = record { old = h; at = old; name = refl; rights = refl; cause = refl; some = (tied.held place i h old).1 }
         go (inr new) = subst (λ x. IsFewer count (held_in w.processes place x) h) (sym new.index) (fewer_is count (held_in w.processes place j) h new.is)
 
-    one_by : (h k a b : Held) → h.name ≡ a.name → k.name ≡ b.name → h.cause ≡ a.cause → k.cause ≡ b.cause → AreOne w.names a b → AreOne w.names h k
+    one_by : (h k a b : Held) → h.name ≡ a.name → k.name ≡ b.name → h.cause ≡ a.cause → k.cause ≡ b.cause → AreOne w.names a b
+        → AreOne w.names h k
     one_by h k a b e f c d (inl x) = inl (e ∙ x ∙ sym f)
     one_by h k a b e f c d (inr x) = inr (own_by w.names h a e c x.0, own_by w.names k b f d x.1)
 
@@ -404,7 +430,9 @@ finishes_tied w p state ends tied = record {
     before : (place i : ℕ) (h : Held) → held_in (at_place (p - 1) empty w.processes) place i ≡ Some h → held_in w.processes place i ≡ Some h
     before place i h e = go (place == p - 1) refl (sym (ap (λ (o : Option Process). held_of o i) (get-place (p - 1) place empty w.processes)) ∙ e)
       where
-        go : (b : Bool) → (place == p - 1) ≡ b → held_of (if place == p - 1 then option_map empty (slice_get w.processes place) else slice_get w.processes place) i ≡ Some h → held_in w.processes place i ≡ Some h
+        go : (b : Bool) → (place == p - 1) ≡ b
+            → held_of (if place == p - 1 then option_map empty (slice_get w.processes place) else slice_get w.processes place) i ≡ Some h
+            → held_in w.processes place i ≡ Some h
         go true is f = absurd (let a : None ≡ Some h = sym (none_then (slice_get w.processes place) i) ∙ sym (ap (λ (o : Option Process). held_of o i) (if_yes (place == p - 1) _ _ is)) ∙ f in cc)
         go false is f = sym (ap (λ (o : Option Process). held_of o i) (if_no (place == p - 1) _ _ is)) ∙ f
 

@@ -26,17 +26,21 @@ kept_was ps names q s e = go (is_held ps q) (sym (get-filter (is_held ps) names 
 no_false : false ≡ true → ⊥
 no_false e = cc
 
-kept_live : (ps : List Process) (names : Map Segment) (q : ℕ) → is_some (get (kept ps names) q) ≡ true → (is_held ps q ≡ true) × (is_some (get names q) ≡ true)
+kept_live : (ps : List Process) (names : Map Segment) (q : ℕ) → is_some (get (kept ps names) q) ≡ true
+    → (is_held ps q ≡ true) × (is_some (get names q) ≡ true)
 kept_live ps names q e = go (is_held ps q) refl (sym (ap is_some (get-filter (is_held ps) names q)) ∙ e)
   where
-    go : (b : Bool) → is_held ps q ≡ b → is_some (if is_held ps q then get names q else None) ≡ true → (is_held ps q ≡ true) × (is_some (get names q) ≡ true)
+    go : (b : Bool) → is_held ps q ≡ b → is_some (if is_held ps q then get names q else None) ≡ true
+        → (is_held ps q ≡ true) × (is_some (get names q) ≡ true)
     go true is e = (is, sym (ap is_some (if_yes (is_held ps q) (get names q) None is)) ∙ e)
     go false is e = absurd (no_false (sym (ap is_some (if_no (is_held ps q) (get names q) None is)) ∙ e))
 
-live_kept : (ps : List Process) (names : Map Segment) (q : ℕ) → is_held ps q ≡ true → is_some (get names q) ≡ true → is_some (get (kept ps names) q) ≡ true
+live_kept : (ps : List Process) (names : Map Segment) (q : ℕ) → is_held ps q ≡ true → is_some (get names q) ≡ true
+    → is_some (get (kept ps names) q) ≡ true
 live_kept ps names q held lives = ap is_some (get-filter (is_held ps) names q ∙ if_yes (is_held ps q) (get names q) None held) ∙ lives
 
-told_by : (ps : List Process) (names : Map Segment) (t : List ℕ × ℕ) (ts : List (List ℕ × ℕ)) (b : Bool) → is_held ps t.1 ≡ b → is_some (get names t.1) ≡ true → AreLive (kept ps names) ts → AreLive (kept ps names) (cond b (t ∷ ts) ts)
+told_by : (ps : List Process) (names : Map Segment) (t : List ℕ × ℕ) (ts : List (List ℕ × ℕ)) (b : Bool) → is_held ps t.1 ≡ b
+    → is_some (get names t.1) ≡ true → AreLive (kept ps names) ts → AreLive (kept ps names) (cond b (t ∷ ts) ts)
 told_by ps names t ts true is lives h = (live_kept ps names t.1 is lives, h)
 told_by ps names t ts false is lives h = h
 
@@ -59,7 +63,8 @@ swept_tied w tied = record {
     marks : (q : ℕ) (s : Segment) → get (kept w.processes w.names) q ≡ Some s → KeepsMarks w.names q s
     marks q s e = same_marks w.names q s (kept_was w.processes w.names q s e)
 
-used_by : (ps : List Process) (r : Reserve) (rs : List Reserve) (b : Bool) → is_used ps r ≡ b → AreUsed ps rs → AreUsed ps (cond b (r ∷ rs) rs)
+used_by : (ps : List Process) (r : Reserve) (rs : List Reserve) (b : Bool) → is_used ps r ≡ b → AreUsed ps rs
+    → AreUsed ps (cond b (r ∷ rs) rs)
 used_by ps r rs true is h = (is, h)
 used_by ps r rs false is h = h
 
@@ -71,7 +76,8 @@ pub swept_is : (w : World) → IsSwept (swept w)
 swept_is w = record { named = λ q e. (kept_live w.processes w.names q e).0; used = used_all w.processes w.reserved }
 
 -- All changes of a step; where none takes a hold, each name that lives behind them has to be held, and each run that is reserved.
-pub all_tied : (w : World) (cs : List Change) → AreFitChanges w cs → (list_any takes cs ≡ false → IsSwept (with_changes w cs)) → IsTied w → IsTied (with_all w cs) × IsSwept (with_all w cs)
+pub all_tied : (w : World) (cs : List Change) → AreFitChanges w cs → (list_any takes cs ≡ false → IsSwept (with_changes w cs)) → IsTied w
+    → IsTied (with_all w cs) × IsSwept (with_all w cs)
 all_tied w cs fit named tied = go (list_any takes cs) refl
   where
     go : (b : Bool) → list_any takes cs ≡ b → IsTied (with_all w cs) × IsSwept (with_all w cs)

@@ -27,7 +27,8 @@ record IsRewritten (names : Map Segment) (bytes : ℕ → List ℕ) (q : ℕ) (s
   there : get names q ≡ Some old
   is : s ≡ record old { bytes = bytes q }
 
-rewritten : (names : Map Segment) (bytes : ℕ → List ℕ) (q : ℕ) (s : Segment) → get (with_bytes names bytes) q ≡ Some s → IsRewritten names bytes q s
+rewritten : (names : Map Segment) (bytes : ℕ → List ℕ) (q : ℕ) (s : Segment) → get (with_bytes names bytes) q ≡ Some s
+    → IsRewritten names bytes q s
 rewritten names bytes q s e = go (get names q) refl (sym (get-map (λ (n : ℕ) (x : Segment). record x { bytes = bytes n }) names q) ∙ e)
   where
     go : (o : Option Segment) → get names q ≡ o → option_map (λ (x : Segment). record x { bytes = bytes q }) (get names q) ≡ Some s → IsRewritten names bytes q s
@@ -56,19 +57,22 @@ any_last (x ∷ xs) c e = go (takes x) (any_last xs c e)
 
 -- Who holds a run, where a process's map stays.
 
-runs_same : (ps : List Process) (k : ℕ) (p new : Process) (first : ℕ) → slice_get ps k ≡ Some p → new.held ≡ p.held → run_held (slice_set ps k new) first ≡ run_held ps first
+runs_same : (ps : List Process) (k : ℕ) (p new : Process) (first : ℕ) → slice_get ps k ≡ Some p → new.held ≡ p.held
+    → run_held (slice_set ps k new) first ≡ run_held ps first
 runs_same [] k p new first at same = refl
 runs_same (a ∷ ps) zero p new first at same = ap (λ (x : Map Held). holds_run x first || run_held ps first) (same ∙ ap (λ (x : Process). x.held) (sym (some_is a p (Some a) refl at)))
 runs_same (a ∷ ps) (suc k) p new first at same = ap (λ b. holds_run a.held first || b) (runs_same ps k p new first at same)
 
-own_same : (ps : List Process) (k : ℕ) (p new : Process) (j first : ℕ) → slice_get ps k ≡ Some p → new.held ≡ p.held → own_run_held (slice_get (slice_set ps k new) j) first ≡ own_run_held (slice_get ps j) first
+own_same : (ps : List Process) (k : ℕ) (p new : Process) (j first : ℕ) → slice_get ps k ≡ Some p → new.held ≡ p.held
+    → own_run_held (slice_get (slice_set ps k new) j) first ≡ own_run_held (slice_get ps j) first
 own_same [] k p new j first at same = refl
 own_same (a ∷ ps) zero p new zero first at same = ap (λ (x : Map Held). holds_run x first) (same ∙ ap (λ (x : Process). x.held) (sym (some_is a p (Some a) refl at)))
 own_same (a ∷ ps) zero p new (suc j) first at same = refl
 own_same (a ∷ ps) (suc k) p new zero first at same = refl
 own_same (a ∷ ps) (suc k) p new (suc j) first at same = own_same ps k p new j first at same
 
-used_same : (ps : List Process) (n : ℕ) (p new : Process) (r : Reserve) → process_at ps n ≡ Some p → new.held ≡ p.held → is_used (with_process ps n new) r ≡ is_used ps r
+used_same : (ps : List Process) (n : ℕ) (p new : Process) (r : Reserve) → process_at ps n ≡ Some p → new.held ≡ p.held
+    → is_used (with_process ps n new) r ≡ is_used ps r
 used_same ps n p new r at same =
     ap (λ (qs : List Process). is_used qs r) (with_is ps n new (number_some ps n p at))
     ∙ ap (λ (b : Bool). if r.region == 0 then r.stays || b else own_run_held (process_at (slice_set ps (n - 1) new) r.region) r.first) (runs_same ps (n - 1) p new r.first there same)
@@ -77,11 +81,13 @@ used_same ps n p new r at same =
     there : slice_get ps (n - 1) ≡ Some p
     there = at_place_of ps n p at
 
-    go : (b : Bool) → own_run_held (if b then None else slice_get (slice_set ps (n - 1) new) (r.region - 1)) r.first ≡ own_run_held (if b then None else slice_get ps (r.region - 1)) r.first
+    go : (b : Bool)
+        → own_run_held (if b then None else slice_get (slice_set ps (n - 1) new) (r.region - 1)) r.first ≡ own_run_held (if b then None else slice_get ps (r.region - 1)) r.first
     go true = refl
     go false = own_same ps (n - 1) p new (r.region - 1) r.first there same
 
-uses_same : (ps : List Process) (n : ℕ) (p new : Process) (rs : List Reserve) → process_at ps n ≡ Some p → new.held ≡ p.held → AreUsed ps rs → AreUsed (with_process ps n new) rs
+uses_same : (ps : List Process) (n : ℕ) (p new : Process) (rs : List Reserve) → process_at ps n ≡ Some p → new.held ≡ p.held → AreUsed ps rs
+    → AreUsed (with_process ps n new) rs
 uses_same ps n p new [] at same h = h
 uses_same ps n p new (r ∷ rs) at same h = (used_same ps n p new r at same ∙ h.0, uses_same ps n p new rs at same h.1)
 
@@ -107,7 +113,8 @@ module _ (w : World) (d : Dispatch) (p : Process) (e : Effect) (at : process_at 
     registers = each_at {P = λ x. is_live x.state ≡ true → HasGoodRegisters x} w.processes d.current (working p e) (λ _. good) tied.registers;
   }
     where
-      before : (place i : ℕ) (h : Held) → held_in (with_process w.processes d.current (working p e)) place i ≡ Some h → held_in w.processes place i ≡ Some h
+      before : (place i : ℕ) (h : Held) → held_in (with_process w.processes d.current (working p e)) place i ≡ Some h
+          → held_in w.processes place i ≡ Some h
       before place i h x = sym (same_at w.processes d.current p (working p e) place i at refl) ∙ x
 
       marks : (q : ℕ) (s : Segment) → get (with_bytes w.names e.bytes) q ≡ Some s → KeepsMarks w.names q s
@@ -122,7 +129,9 @@ module _ (w : World) (d : Dispatch) (p : Process) (e : Effect) (at : process_at 
     used = uses_same w.processes d.current p (working p e) w.reserved at refl s.used;
   }
 
-  pub changed_tied : AreFitChanges (worked w d p e) e.changes → (list_any takes e.changes ≡ false → IsSwept (with_changes (worked w d p e) e.changes)) → IsTied w → IsTied (changed w d p e) × IsSwept (changed w d p e)
+  pub changed_tied : AreFitChanges (worked w d p e) e.changes
+      → (list_any takes e.changes ≡ false → IsSwept (with_changes (worked w d p e) e.changes)) → IsTied w
+      → IsTied (changed w d p e) × IsSwept (changed w d p e)
   unfolding changed
   changed_tied fit named tied = go (is_live e.state) refl
     where
@@ -156,52 +165,61 @@ filter_twice : {X : Type 0} (p : X → Bool) (xs : List X) → filter p (filter 
 filter_twice p [] = refl
 filter_twice p (x ∷ xs) = filtered_by p x (filter p xs) (p x) refl (filter_twice p xs)
   where
-    filtered_by : {X : Type 0} (p : X → Bool) (x : X) (ys : List X) (b : Bool) → p x ≡ b → filter p ys ≡ ys → filter p (cond b (x ∷ ys) ys) ≡ cond b (x ∷ ys) ys
+    filtered_by : {X : Type 0} (p : X → Bool) (x : X) (ys : List X) (b : Bool) → p x ≡ b → filter p ys ≡ ys
+        → filter p (cond b (x ∷ ys) ys) ≡ cond b (x ∷ ys) ys
     filtered_by p x ys true is h = rw is (ap (λ zs. x ∷ zs) h)
     filtered_by p x ys false is h = h
 
 -- an end's world is swept
-pub ended_swept : (w : World) (d : Dispatch) (p : Process) (e : Effect) → is_live e.state ≡ false → changed w d p e ≡ swept (with_changes (worked w d p e) (e.changes ++ Finishes d.current e.state ∷ []))
+pub ended_swept : (w : World) (d : Dispatch) (p : Process) (e : Effect) → is_live e.state ≡ false
+    → changed w d p e ≡ swept (with_changes (worked w d p e) (e.changes ++ Finishes d.current e.state ∷ []))
 unfolding changed
 ended_swept w d p e ends =
     ap (with_all (worked w d p e)) (end_changes d.current e ends)
     ∙ if_yes (list_any takes (e.changes ++ Finishes d.current e.state ∷ [])) _ _ (any_last e.changes (Finishes d.current e.state) refl)
 
-pub end_used : (w : World) (d : Dispatch) (p : Process) (e : Effect) → is_live e.state ≡ false → used (changed w d p e).processes (changed w d p e).reserved ≡ (changed w d p e).reserved
+pub end_used : (w : World) (d : Dispatch) (p : Process) (e : Effect) → is_live e.state ≡ false
+    → used (changed w d p e).processes (changed w d p e).reserved ≡ (changed w d p e).reserved
 end_used w d p e ends =
     let v : World = with_changes (worked w d p e) (e.changes ++ Finishes d.current e.state ∷ []) in
     subst (λ (x : World). used x.processes x.reserved ≡ x.reserved) (sym (ended_swept w d p e ends)) (filter_twice (is_used v.processes) v.reserved)
 
-pub end_texts : (w : World) (d : Dispatch) (p : Process) (e : Effect) → is_live e.state ≡ false → told_of (changed w d p e).processes (changed w d p e).texts ≡ (changed w d p e).texts
+pub end_texts : (w : World) (d : Dispatch) (p : Process) (e : Effect) → is_live e.state ≡ false
+    → told_of (changed w d p e).processes (changed w d p e).texts ≡ (changed w d p e).texts
 end_texts w d p e ends =
     let v : World = with_changes (worked w d p e) (e.changes ++ Finishes d.current e.state ∷ []) in
     subst (λ (x : World). told_of x.processes x.texts ≡ x.texts) (sym (ended_swept w d p e ends)) (filter_twice (λ (t : List ℕ × ℕ). is_held v.processes t.1) v.texts)
 
 -- Of the region of a process that holds nothing, nothing stays reserved.
 
-own_unused : (ps : List Process) (n : ℕ) (r : Reserve) → (n == 0) ≡ false → own_run_held (process_at ps n) r.first ≡ false → (r.region == n) ≡ true → is_used ps r ≡ false
+own_unused : (ps : List Process) (n : ℕ) (r : Reserve) → (n == 0) ≡ false → own_run_held (process_at ps n) r.first ≡ false
+    → (r.region == n) ≡ true → is_used ps r ≡ false
 own_unused ps n r some none here =
     let same : r.region ≡ n = region_is r.region n here in
     if_no (r.region == 0) _ _ (ap (λ (k : ℕ). k == 0) same ∙ some) ∙ ap (λ (k : ℕ). own_run_held (process_at ps k) r.first) same ∙ none
 
-other_region : (ps : List Process) (n : ℕ) (r : Reserve) → (n == 0) ≡ false → own_run_held (process_at ps n) r.first ≡ false → is_used ps r ≡ true → (r.region == n) ≡ false
+other_region : (ps : List Process) (n : ℕ) (r : Reserve) → (n == 0) ≡ false → own_run_held (process_at ps n) r.first ≡ false
+    → is_used ps r ≡ true → (r.region == n) ≡ false
 other_region ps n r some none is = go (r.region == n) refl
   where
     go : (b : Bool) → (r.region == n) ≡ b → (r.region == n) ≡ false
     go true here = absurd (dead_or_live (is_used ps r) true is (own_unused ps n r some none here))
     go false here = here
 
-none_there : (ps : List Process) (n : ℕ) (r : Reserve) (rest : List Reserve) → (n == 0) ≡ false → own_run_held (process_at ps n) r.first ≡ false → (b : Bool) → is_used ps r ≡ b
+none_there : (ps : List Process) (n : ℕ) (r : Reserve) (rest : List Reserve) → (n == 0) ≡ false
+    → own_run_held (process_at ps n) r.first ≡ false → (b : Bool) → is_used ps r ≡ b
     → list_any (λ (r : Reserve). r.region == n) rest ≡ false → list_any (λ (r : Reserve). r.region == n) (cond b (r ∷ rest) rest) ≡ false
 none_there ps n r rest some none true is below = ap (λ (b : Bool). b || list_any (λ (r : Reserve). r.region == n) rest) (other_region ps n r some none is) ∙ below
 none_there ps n r rest some none false is below = below
 
-none_used : (ps : List Process) (n : ℕ) (rs : List Reserve) → (n == 0) ≡ false → ((first : ℕ) → own_run_held (process_at ps n) first ≡ false) → list_any (λ (r : Reserve). r.region == n) (used ps rs) ≡ false
+none_used : (ps : List Process) (n : ℕ) (rs : List Reserve) → (n == 0) ≡ false
+    → ((first : ℕ) → own_run_held (process_at ps n) first ≡ false) → list_any (λ (r : Reserve). r.region == n) (used ps rs) ≡ false
 none_used ps n [] some none = refl
 none_used ps n (r ∷ rs) some none = none_there ps n r (used ps rs) some (none r.first) (is_used ps r) refl (none_used ps n rs some none)
 
 -- what the process that has ended holds
-ended_holds : (u : World) (n : ℕ) (state : State) (first : ℕ) → 0 < n → own_run_held (process_at (with_change u (Finishes n state)).processes n) first ≡ false
+ended_holds : (u : World) (n : ℕ) (state : State) (first : ℕ) → 0 < n
+    → own_run_held (process_at (with_change u (Finishes n state)).processes n) first ≡ false
 unfolding holds_run
 ended_holds u n state first some =
     ap (λ (o : Option Process). own_run_held o first)
@@ -218,7 +236,8 @@ ended_holds u n state first some =
     go None = refl
     go (Some x) = refl
 
-pub end_own : (w : World) (d : Dispatch) (p : Process) (e : Effect) → process_at w.processes d.current ≡ Some p → is_live e.state ≡ false → list_any (λ (r : Reserve). r.region == d.current) (changed w d p e).reserved ≡ false
+pub end_own : (w : World) (d : Dispatch) (p : Process) (e : Effect) → process_at w.processes d.current ≡ Some p → is_live e.state ≡ false
+    → list_any (λ (r : Reserve). r.region == d.current) (changed w d p e).reserved ≡ false
 end_own w d p e at ends =
     let u : World = with_changes (worked w d p e) e.changes in
     let some = number_some w.processes d.current p at in

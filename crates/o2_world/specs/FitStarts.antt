@@ -52,8 +52,8 @@ abbrev pub is_common_at : (ℕ → Loaded) → ℕ → ℕ → Bool
 is_common_at modules place number = common_or_none (segment_at modules place number)
 
 -- no shared index stands for two segments of these modules
-abbrev pub AreApart : (ℕ → Loaded) → Type 0
-AreApart modules = (p n q m : ℕ) → 4096 ≤ segment_index modules p n → segment_index modules p n ≡ segment_index modules q m
+abbrev pub ShareNoIndex : (ℕ → Loaded) → Type 0
+ShareNoIndex modules = (p n q m : ℕ) → 4096 ≤ segment_index modules p n → segment_index modules p n ≡ segment_index modules q m
     → (p ≡ q) × (n ≡ m)
 
 -- What a process holds under an index is the segment of these modules that has this index.

@@ -3,7 +3,7 @@ ghost use Rattle.std.specs.Prelude.{◌≡◌, ◌≢◌, ◌-◌, ◌+◌, ◌=
 ghost use Rattle.o2_conf.specs.declared.script.Word.{Word};
 ghost use Rattle.o2_world.specs.World.{World, Setting, Reserve};
 ghost use Rattle.o2_world.specs.Starts.{Loaded, Start, opening_of};
-ghost use Rattle.o2_world.specs.FitStarts.{AreApart, AreFit, AreOf};
+ghost use Rattle.o2_world.specs.FitStarts.{ShareNoIndex, AreFit, AreOf};
 ghost use Rattle.o2_world.specs.Run.{after, step, next_dispatch, is_over, steps_done, IsLast, console as console_text, report as report_text};
 ghost use Rattle.std.specs.Prelude.{length};
 ghost use Rattle.std.specs.List.{list_any};
@@ -43,21 +43,23 @@ pub fn hello_runs_in_ten_steps()
 /// two segments, and automatic data that can be read, and where the starts are over the same modules, with segments of 1 to
 /// 65,536 bytes, of which no two have one shared index.
 pub fn opening_worlds_are_sound()
-    ensures { (modules : ℕ → Loaded) (s : Setting) (reserved : List (ℕ × ℕ)) (script : List Word) (input : List ℕ) (starts : List Start) (w : World) → AreApart modules → AreFit starts → AreOf modules starts
+    ensures { (modules : ℕ → Loaded) (s : Setting) (reserved : List (ℕ × ℕ)) (script : List Word) (input : List ℕ) (starts : List Start) (w : World)
+        → ShareNoIndex modules → AreFit starts → AreOf modules starts
         → opening_of s reserved script input starts ≡ Ok w → IsSound w }
 {}
 
 /// What is held before the first step is what the lines of the starts tell.
 pub fn opening_worlds_are_told()
-    ensures { (s : Setting) (reserved : List (ℕ × ℕ)) (script : List Word) (input : List ℕ) (starts : List Start) (w : World) → AreFit starts
+    ensures { (s : Setting) (reserved : List (ℕ × ℕ)) (script : List Word) (input : List ℕ) (starts : List Start) (w : World)
+        → AreFit starts
         → opening_of s reserved script input starts ≡ Ok w → IsTold w }
 {}
 
 /// Each step keeps a sound world sound. What is held is a live segment of 1 to 65,536 bytes and is held at least once, and
 /// nobody may write what is clean. No name is at or above the next one. Under a shared index all hold one name, but for a
-/// library's data that each process has for itself. Each live segment is held, and each run of reserved indexes, but for those of the whole run. Texts are those of live
-/// names. A process that has ended holds nothing. Of a process that lives, CS names held code and SS held writable data, both
-/// with privilege level 3, and DS and ES are null or name held data or readable code.
+/// library's data that each process has for itself. Each live segment is held, and each run of reserved indexes, but for those
+/// of the whole run. Texts are those of live names. A process that has ended holds nothing. Of a process that lives, CS names
+/// held code and SS held writable data, both with privilege level 3, and DS and ES are null or name held data or readable code.
 pub fn each_step_keeps_a_sound_world_sound()
     ensures { (s : Setting) (w : World) → IsSound w → IsSound (step s w) }
 {}
@@ -69,7 +71,8 @@ pub fn a_run_that_is_over_stays()
 
 /// A step changes no process but the one that is chosen.
 pub fn other_processes_stay()
-    ensures { (s : Setting) (w : World) (place : ℕ) → place + 1 ≢ (next_dispatch s w).current → slice_get (step s w).processes place ≡ slice_get w.processes place }
+    ensures { (s : Setting) (w : World) (place : ℕ) → place + 1 ≢ (next_dispatch s w).current
+        → slice_get (step s w).processes place ≡ slice_get w.processes place }
 {}
 
 /// Each run comes to its end, which is not past its budget.
@@ -80,7 +83,8 @@ pub fn no_run_is_longer_than_its_budget()
 
 /// As many steps are behind a world of a run as its budget has lost, up to the last.
 pub fn the_budget_counts_the_steps()
-    ensures { (s : Setting) (w : World) (k : ℕ) → w.dispatch.budget ≡ s.budget → ((j : ℕ) → j < k → is_over (after s w j) ≡ false) → steps_done s (after s w k) ≡ k }
+    ensures { (s : Setting) (w : World) (k : ℕ) → w.dispatch.budget ≡ s.budget
+        → ((j : ℕ) → j < k → is_over (after s w j) ≡ false) → steps_done s (after s w k) ≡ k }
 {}
 
 /// The lines of calls that make, free and give segments, from the opening of `hello`.
@@ -96,31 +100,45 @@ pub fn segment_calls_tell_their_holds()
 
 /// A step of a process that goes on gives and takes as many holds of each process and selector as its lines tell.
 pub fn what_is_held_is_told()
-    ensures { (w : World) (d : Dispatch) (p : Process) (e : Effect) → process_at w.processes d.current ≡ Some p → CanTellAll (worked w d p e) e.changes → Tells e → is_live e.state ≡ true
-        → (q i : ℕ) → 0 < q → holds_at (changed w d p e) q i + went e.lines q (selector_of i) ≡ holds_at w q i + came e.lines q (selector_of i) }
+    ensures { (w : World) (d : Dispatch) (p : Process) (e : Effect)
+        → process_at w.processes d.current ≡ Some p → CanTellAll (worked w d p e) e.changes → Tells e
+        → is_live e.state ≡ true
+        → (q i : ℕ) → 0 < q
+        → holds_at (changed w d p e) q i + went e.lines q (selector_of i) ≡ holds_at w q i + came e.lines q (selector_of i) }
 {}
 
 /// Where what is held is what the lines so far tell, it is so behind a step whose lines tell its changes, which puts the line of
 /// an end where it ends its process, and which gives nothing to a process that has ended. Then it is the reach of the report.
 pub fn what_is_held_is_the_reach_of_the_report()
-    ensures step { (w : World) (d : Dispatch) (p : Process) (e : Effect) → process_at w.processes d.current ≡ Some p → CanTellAll (worked w d p e) e.changes → Tells e → 0 < d.current
-        → ((q : ℕ) → tells_end e.lines q ≡ (not (is_live e.state) && (q == d.current))) → ((q i : ℕ) → tells_end w.lines q ≡ true → came e.lines q (selector_of i) ≡ 0) → IsTold w → IsTold (changed w d p e) }
-    ensures reach { (w : World) → IsTold w → (q i : ℕ) → 0 < q → reach w.lines q (selector_of i) ≡ holds_at w q i }
+    ensures step { (w : World) (d : Dispatch) (p : Process) (e : Effect)
+        → process_at w.processes d.current ≡ Some p → CanTellAll (worked w d p e) e.changes → Tells e
+        → 0 < d.current
+        → ((q : ℕ) → tells_end e.lines q ≡ (not (is_live e.state) && (q == d.current)))
+        → ((q i : ℕ) → tells_end w.lines q ≡ true → came e.lines q (selector_of i) ≡ 0) → IsTold w
+        → IsTold (changed w d p e) }
+    ensures reach { (w : World) → IsTold w → (q i : ℕ) → 0 < q
+        → reach w.lines q (selector_of i) ≡ holds_at w q i }
 {}
 
 /// From the opening on, what each process holds under each selector is the reach of the report, step by step: the lines of
 /// holds that came less those that went, and nothing behind the line of its end.
 pub fn reach_holds_along_the_run()
     ensures step { (s : Setting) (w : World) → IsTold w → IsTold (step s w) }
-    ensures run { (s : Setting) (reserved : List (ℕ × ℕ)) (script : List Word) (input : List ℕ) (starts : List Start) (w : World) → AreFit starts → opening_of s reserved script input starts ≡ Ok w
-        → (k q i : ℕ) → 0 < q → reach (after s w k).lines q (selector_of i) ≡ holds_at (after s w k) q i }
+    ensures run { (s : Setting) (reserved : List (ℕ × ℕ)) (script : List Word) (input : List ℕ) (starts : List Start) (w : World)
+        → AreFit starts → opening_of s reserved script input starts ≡ Ok w
+        → (k q i : ℕ) → 0 < q
+        → reach (after s w k).lines q (selector_of i) ≡ holds_at (after s w k) q i }
 {}
 
 /// A step whose changes are fit keeps a world tied and each live name held.
 pub fn fit_changes_keep_a_world_tied()
-    ensures { (w : World) (d : Dispatch) (p : Process) (e : Effect) → process_at w.processes d.current ≡ Some p → is_live p.state ≡ true → HasGoodRegisters (working p e)
-        → ((q : ℕ) (s : Segment) → get w.names q ≡ Some s → length (e.bytes q) ≡ length s.bytes) → AreFitChanges (worked w d p e) e.changes
-        → (list_any takes e.changes ≡ false → IsSwept (with_changes (worked w d p e) e.changes)) → IsTied w → IsTied (changed w d p e) × IsSwept (changed w d p e) }
+    ensures { (w : World) (d : Dispatch) (p : Process) (e : Effect)
+        → process_at w.processes d.current ≡ Some p → is_live p.state ≡ true
+        → HasGoodRegisters (working p e)
+        → ((q : ℕ) (s : Segment) → get w.names q ≡ Some s → length (e.bytes q) ≡ length s.bytes)
+        → AreFitChanges (worked w d p e) e.changes
+        → (list_any takes e.changes ≡ false → IsSwept (with_changes (worked w d p e) e.changes))
+        → IsTied w → IsTied (changed w d p e) × IsSwept (changed w d p e) }
 {}
 
 /// Each service that is built has a row, and no other.
@@ -137,15 +155,20 @@ pub fn common_data_is_marked_as_shared()
 
 /// A shared index that is reserved for the whole run, as those of the libraries, is so behind each step.
 pub fn what_is_reserved_for_the_run_stays()
-    ensures { (s : Setting) (w : World) (i : ℕ) → list_any (is_for_the_run i) w.reserved ≡ true → list_any (is_for_the_run i) (step s w).reserved ≡ true }
+    ensures { (s : Setting) (w : World) (i : ℕ) → list_any (is_for_the_run i) w.reserved ≡ true
+        → list_any (is_for_the_run i) (step s w).reserved ≡ true }
 {}
 
 /// Behind the end of a process no index is reserved for a run that nobody holds, none of the process's own region is reserved,
 /// each live name is held, and each text is that of a name that is held.
 pub fn an_end_frees_what_nobody_holds()
-    ensures reserves { (w : World) (d : Dispatch) (p : Process) (e : Effect) → is_live e.state ≡ false → let v = changed w d p e in used v.processes v.reserved ≡ v.reserved }
-    ensures own { (w : World) (d : Dispatch) (p : Process) (e : Effect) → process_at w.processes d.current ≡ Some p → is_live e.state ≡ false
+    ensures reserves { (w : World) (d : Dispatch) (p : Process) (e : Effect) → is_live e.state ≡ false
+        → let v = changed w d p e in used v.processes v.reserved ≡ v.reserved }
+    ensures own { (w : World) (d : Dispatch) (p : Process) (e : Effect)
+        → process_at w.processes d.current ≡ Some p → is_live e.state ≡ false
         → list_any (λ (r : Reserve). r.region == d.current) (changed w d p e).reserved ≡ false }
-    ensures texts { (w : World) (d : Dispatch) (p : Process) (e : Effect) → is_live e.state ≡ false → let v = changed w d p e in told_of v.processes v.texts ≡ v.texts }
-    ensures swept { (w : World) (d : Dispatch) (p : Process) (e : Effect) → is_live e.state ≡ false → IsSwept (changed w d p e) }
+    ensures texts { (w : World) (d : Dispatch) (p : Process) (e : Effect) → is_live e.state ≡ false
+        → let v = changed w d p e in told_of v.processes v.texts ≡ v.texts }
+    ensures swept { (w : World) (d : Dispatch) (p : Process) (e : Effect) → is_live e.state ≡ false
+        → IsSwept (changed w d p e) }
 {}
