@@ -150,8 +150,13 @@ fn a_setting(rt: HostRuntime) -> Result<(), test::Fail> {
         Some(Word::Slice(65535, 4000000000))
     );
     assert_eq!(rt;
-        conf.script.slices(rt.alloc())?.as_slice(),
-        [(9, 5), (1, 10), (65535, 4000000000)].as_slice()
+        conf.script.to_vec(rt.alloc())?.as_slice(),
+        [
+            Word::Slice(9, 5),
+            Word::Slice(1, 10),
+            Word::Slice(65535, 4000000000)
+        ]
+        .as_slice()
     );
     Ok(())
 }

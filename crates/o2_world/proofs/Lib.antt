@@ -23,3 +23,4 @@ pub mod StepSound
 pub mod StepTold
 pub mod Holding
 pub mod Budget
+pub mod UsesNames

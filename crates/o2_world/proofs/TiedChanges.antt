@@ -68,7 +68,7 @@ is_some-map : {X : Type 0} (f : X → X) (o : Option X) → is_some (option_map 
 is_some-map f None = refl
 is_some-map f (Some x) = refl
 
-lives_same : (m : Map Segment) (n q : ℕ) (f : Segment → Segment) → is_some (get (put n (option_map f (get m n)) m) q) ≡ is_some (get m q)
+pub lives_same : (m : Map Segment) (n q : ℕ) (f : Segment → Segment) → is_some (get (put n (option_map f (get m n)) m) q) ≡ is_some (get m q)
 lives_same m n q f = ap is_some (get-put n q (option_map f (get m n)) m) ∙ go (n == q) refl
   where
     go : (b : Bool) → (n == q) ≡ b → is_some (if n == q then option_map f (get m n) else get m q) ≡ is_some (get m q)

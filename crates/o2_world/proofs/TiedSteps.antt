@@ -26,7 +26,7 @@ kept_was ps names q s e = go (is_held ps q) (sym (get-filter (is_held ps) names 
 no_false : false ≡ true → ⊥
 no_false e = cc
 
-kept_live : (ps : List Process) (names : Map Segment) (q : ℕ) → is_some (get (kept ps names) q) ≡ true
+pub kept_live : (ps : List Process) (names : Map Segment) (q : ℕ) → is_some (get (kept ps names) q) ≡ true
     → (is_held ps q ≡ true) × (is_some (get names q) ≡ true)
 kept_live ps names q e = go (is_held ps q) refl (sym (ap is_some (get-filter (is_held ps) names q)) ∙ e)
   where

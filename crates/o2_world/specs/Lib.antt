@@ -15,6 +15,7 @@ pub mod FitStarts
 pub mod Sound
 pub mod Reach
 pub mod Tied
+pub mod NewNames
 pub mod Hello
 pub mod SegmentsWorked
 pub mod SharedMarks

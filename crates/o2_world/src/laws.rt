@@ -23,6 +23,7 @@ ghost use Rattle.o2_world.specs.Sound.{HasGoodRegisters};
 ghost use Rattle.o2_world.specs.Run.{changed, worked, working};
 ghost use Rattle.o2_world.specs.Reach.{CanTellAll, Tells, IsTold, reach, tells_end, holds_at, came, went};
 ghost use Rattle.o2_world.specs.Tied.{IsTied, IsSwept, IsSound, AreFitChanges};
+ghost use Rattle.o2_world.specs.NewNames.{UsesNewNames};
 ghost use Rattle.o2_world.specs.Text.{lines_text};
 ghost use Rattle.o2_world.specs.SegmentCalls.{allocated, freed, given};
 ghost use Rattle.o2_world.specs.SegmentsWorked.{some_moves, es_after, one_process, two_processes, told_after, after_calls};
@@ -62,6 +63,12 @@ pub fn opening_worlds_are_told()
 /// held code and SS held writable data, both with privilege level 3, and DS and ES are null or name held data or readable code.
 pub fn each_step_keeps_a_sound_world_sound()
     ensures { (s : Setting) (w : World) → IsSound w → IsSound (step s w) }
+{}
+
+/// No name is used twice: one that a step's changes make is the next name or above it, and the next name never falls.
+pub fn no_name_is_used_twice()
+    ensures step { (s : Setting) (w : World) → UsesNewNames w (step s w) }
+    ensures changes { (w : World) (d : Dispatch) (p : Process) (e : Effect) → UsesNewNames w (changed w d p e) }
 {}
 
 /// A run that is over stays as it is.
