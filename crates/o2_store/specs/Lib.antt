@@ -1,4 +1,6 @@
+pub mod Leaving
 pub mod Lending
+pub mod Loads
 pub mod Needs
 pub mod Pictures
 pub mod Shelf

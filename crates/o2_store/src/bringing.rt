@@ -1,5 +1,5 @@
 // Room is made in memory, and segments are brought in.
-ghost use Rattle.std.specs.Prelude.{◌≡◌, ◌≢◌, ℕ, List, ◌+◌, ◌<◌, ◌≤◌, ◌↔◌, ◌||◌, ◌==◌, length, Some, None, IsSome, IsTrue, IfSome, true, false};
+ghost use Rattle.std.specs.Prelude.{◌≡◌, ◌≢◌, ℕ, List, ◌+◌, ◌<◌, ◌≤◌, ◌↔◌, ◌||◌, ◌==◌, ◌⊎◌, length, Some, None, IsSome, IsTrue, IfSome, true, false};
 ghost use Rattle.std.specs.Option.{IfNone};
 ghost use Rattle.o2_entries.specs.Tables.{slot_at};
 ghost use Rattle.o2_outer.specs.Texts.{Rose};
@@ -7,6 +7,8 @@ ghost use Rattle.o2_place.specs.Layout.{used};
 ghost use Rattle.o2_place.specs.Marks.{IsKept, IsOutside};
 ghost use Rattle.o2_swapmap.specs.Piles.{all_of};
 ghost use Rattle.o2_store.specs.Shelf.{Shelf, Pictures, KeepsAll, AreClean, SameTables, place_of, entry, entry_of, rounded, HasAll, IsFull};
+ghost use Rattle.o2_store.specs.Leaving.{WritesOut, Evicts};
+ghost use Rattle.o2_store.specs.Loads.{swap_load, live_load};
 ghost use Rattle.o2_store.specs.Needs.{has, all_need, named_in, all_wanted};
 ghost use Rattle.o2_store.specs.Pictures.{picture, HasPicture};
 
@@ -46,6 +48,7 @@ impl Store {
         ensures kept { (k : ℕ) → IsKept self.old.keys k → place_of self.new k ≡ place_of self.old k }
         ensures locked { (k : ℕ) → 0 < (entry self.old k).attr.lock → place_of self.new k ≡ place_of self.old k }
         ensures none { (k : ℕ) → place_of self.old k ≡ None → place_of self.new k ≡ None }
+        ensures evicts { Evicts self.old self.new }
         ensures fewer { result ≡ Brought.Here → length self.new.places.ranges < length self.old.places.ranges }
         ensures stays { (result ≡ Brought.Here → ⊥) → self.new.places ≡ self.old.places }
         ensures no_room { result ≡ Brought.NoRoom → (k : ℕ) → IsSome (place_of self.new k) → (entry self.new k).attr.lock ≡ 0 → IsKept self.new.keys k }
@@ -72,6 +75,7 @@ impl Store {
         ensures kept { (k : ℕ) → IsKept self.old.keys k → place_of self.new k ≡ place_of self.old k }
         ensures locked { (k : ℕ) → 0 < (entry self.old k).attr.lock → place_of self.new k ≡ place_of self.old k }
         ensures none { (k : ℕ) → place_of self.old k ≡ None → place_of self.new k ≡ None }
+        ensures evicts { Evicts self.old self.new }
         ensures enough { used self.old.places.ranges + len ≤ self.old.places.size → self.new ≡ self.old }
         ensures room { result ≡ Brought.Here → used self.new.places.ranges + len ≤ self.new.places.size }
         ensures short { (result ≡ Brought.Here → ⊥) → self.new.places.size < used self.new.places.ranges + len }
@@ -115,6 +119,10 @@ impl Store {
         ensures device { (S.blocks swap.new ≡ S.blocks swap.old) × (S.told swap.new ≡ S.told swap.old) }
         ensures map { all_of self.new.swap ≡ all_of self.old.swap }
         ensures here { result ≡ Brought.Here → IsSome (place_of self.new key) }
+        ensures same { IsSome (place_of self.old key) → (result ≡ Brought.Here) × (self.new ≡ self.old) × (swap.new ≡ swap.old) }
+        ensures out { (result ≡ Brought.Here → ⊥) → place_of self.new key ≡ None }
+        ensures none { (k : ℕ) → k ≢ key → place_of self.old k ≡ None → place_of self.new k ≡ None }
+        ensures written { WritesOut self.old self.new }
         ensures kept { (k : ℕ) → has self.old.keys k ≡ true → IsSome (place_of self.old k) → IsSome (place_of self.new k) }
         ensures still { used self.old.places.ranges + rounded (entry self.old key).size ≤ self.old.places.size → (k : ℕ) → IsSome (place_of self.old k) → IsSome (place_of self.new k) }
         ensures full { result ≡ Brought.SwapFull → IsFull self.new × (self.new.places.size < used self.new.places.ranges + rounded (entry self.old key).size) }
@@ -156,6 +164,9 @@ impl Store {
         ensures device { (S.blocks swap.new ≡ S.blocks swap.old) × (S.told swap.new ≡ S.told swap.old) }
         ensures map { all_of self.new.swap ≡ all_of self.old.swap }
         ensures here { result ≡ Brought.Here → IsSome (place_of self.new key) }
+        ensures out { (result ≡ Brought.Here → ⊥) → place_of self.new key ≡ None }
+        ensures none { (k : ℕ) → k ≢ key → place_of self.old k ≡ None → place_of self.new k ≡ None }
+        ensures entries { self.new.entries ≡ self.old.entries }
         ensures others { (k : ℕ) → IsSome (place_of self.old k) → IsSome (place_of self.new k) }
         ensures faults { S.faults swap.old ≤ S.faults swap.new }
         ensures cause { result ≡ Brought.SwapFault → Rose (S.faults swap.old) (S.faults swap.new) }
@@ -168,8 +179,9 @@ impl Store {
     }
 
     /// Brings a segment into memory together with those of `keep` and the locked ones. Gaps are closed before anything is
-    /// evicted: where enough bytes are in no range, nothing leaves the memory. Whatever the answer, each segment keeps its bytes, and one of `keep` or a locked one that is in memory stays
-    /// there.
+    /// evicted: where enough bytes are in no range, nothing leaves the memory. Whatever the answer, each segment keeps its
+    /// bytes, and one of `keep` or a locked one that is in memory stays there. No other segment comes in, and where this one
+    /// is in memory already, nothing changes.
     pub fn bring<S: SwapDevice>(
         &mut self,
         id: SegId,
@@ -190,12 +202,22 @@ impl Store {
         ensures locked { (k : ℕ) → 0 < (entry self.old k).attr.lock → IsSome (place_of self.new k) }
         ensures still { used self.old.places.ranges + rounded (entry self.old id.key).size ≤ self.old.places.size → (k : ℕ) → IsSome (place_of self.old k) → IsSome (place_of self.new k) }
 
+        ensures same { IsSome (place_of self.old id.key)
+            → (self.new ≡ record self.old { keys = self.new.keys }) × (swap.new ≡ swap.old) }
+        ensures refused { (result ≡ Brought.NoRoom) ⊎ (result ≡ Brought.Stale)
+            → (self.new ≡ record self.old { keys = self.new.keys }) × (swap.new ≡ swap.old) }
+        ensures out { (result ≡ Brought.Here → ⊥) → place_of self.old id.key ≡ None → place_of self.new id.key ≡ None }
+        ensures none { (k : ℕ) → k ≢ id.key → place_of self.old k ≡ None → place_of self.new k ≡ None }
+        ensures written { WritesOut self.old self.new }
+
         ensures here { result ≡ Brought.Here → IsSome (place_of self.new id.key) }
         ensures stale { result ≡ Brought.Stale → entry_of self.old id ≡ None }
         ensures always_stale { entry_of self.old id ≡ None → result ≡ Brought.Stale }
         ensures no_room { result ≡ Brought.NoRoom → self.old.places.size < all_wanted self.old id.key keep.now }
         ensures always_no_room { IsSome (entry_of self.old id) → self.old.places.size < all_wanted self.old id.key keep.now → result ≡ Brought.NoRoom }
         ensures full { result ≡ Brought.SwapFull → IsFull self.new × (self.new.places.size < used self.new.places.ranges + rounded (entry self.old id.key).size) }
+        ensures loads { result ≡ Brought.SwapFull
+            → (all_of self.old.swap < swap_load self.old) × (self.old.places.size < live_load self.old) }
         ensures faults { S.faults swap.old ≤ S.faults swap.new }
         ensures cause { result ≡ Brought.SwapFault → Rose (S.faults swap.old) (S.faults swap.new) }
     {

@@ -5,6 +5,8 @@ ghost use Rattle.o2_outer.specs.Answers.{HasCause};
 ghost use Rattle.o2_outer.specs.Texts.{Rose};
 ghost use Rattle.o2_place.specs.Layout.{Changes, used, len_of};
 ghost use Rattle.o2_swapmap.specs.Piles.{blocks_of, all_of, free, OnlyOf};
+ghost use Rattle.o2_store.specs.Leaving.{IsWrittenOut, WritesOut, Evicts};
+ghost use Rattle.o2_store.specs.Loads.{swap_load};
 ghost use Rattle.o2_store.specs.Shelf.{Shelf, Pictures, KeepsAll, AreClean, place_of, entry_of, entry, rounded, blocks_for, byte_at, stored_byte, out_byte, IsOther, IsFull, IsSaved, SameTables};
 
 use crate::blocks::{trimmed, write_out};
@@ -22,6 +24,7 @@ impl Store {
         requires live { IsSome (slot_at self.now.entries key) }
         ensures within { result ≤ (entry self.now key).size }
         ensures zeros { (j : ℕ) → result ≤ j → j < (entry self.now key).size → slice_index self.now.memory (at + j) ≡ 0 }
+        ensures last { 0 < result → slice_index self.now.memory (at + (result - 1)) ≢ 0 }
     {
         self.law();
         match self.entries.get(key) {
@@ -42,6 +45,7 @@ impl Store {
         ensures done { result ≡ true → self.new.entries ≡ slice_set self.old.entries key (Some (record (entry self.old key) { kept = kept; image = None })) }
         ensures map { all_of self.new.swap ≡ all_of self.old.swap }
         ensures enough { result ≡ true → length (blocks_of self.new.swap key) ≡ blocks_for kept }
+        ensures others { (k : ℕ) → k ≢ key → slot_at self.new.entries k ≡ slot_at self.old.entries k }
         ensures full { result ≡ false → (length (free self.old.swap) < blocks_for kept - length (blocks_of self.old.swap key)) × (self.new ≡ self.old) }
     {
         let Some(old) = self.entries.get(key) else {
@@ -91,7 +95,11 @@ impl Store {
         ensures tables { SameTables self.old self.new }
         ensures device { (S.blocks swap.new ≡ S.blocks swap.old) × (S.told swap.new ≡ S.told swap.old) }
         ensures saved { IsTrue (S.told swap.old) → result ≡ Brought.Here → (pic : Pictures) (j : ℕ) → j < (entry self.old key).size → out_byte self.new pic (S.block swap.new) key j ≡ slice_index self.new.memory (at + j) }
+        ensures others { (k : ℕ) → k ≢ key → slot_at self.new.entries k ≡ slot_at self.old.entries k }
+        ensures written { result ≡ Brought.Here → IsWrittenOut self.old self.new key }
         ensures full { result ≡ Brought.SwapFull → IsFull self.new }
+        ensures lacks { result ≡ Brought.SwapFull → (self.new ≡ self.old) × (swap.new ≡ swap.old)
+            × (length (free self.old.swap) < blocks_for (entry self.old key).size - length (blocks_of self.old.swap key)) }
         ensures faults { S.faults swap.old ≤ S.faults swap.new }
         ensures cause { result ≡ Brought.SwapFault → Rose (S.faults swap.old) (S.faults swap.new) }
         ensures never { (result ≡ Brought.NoRoom → ⊥) × (result ≡ Brought.Stale → ⊥) }
@@ -150,7 +158,12 @@ impl Store {
         ensures fewer { result ≡ Brought.Here → length self.new.places.ranges + 1 ≡ length self.old.places.ranges }
         ensures keys { (self.new.keys ≡ self.old.keys) × (self.new.places.size ≡ self.old.places.size) }
         ensures stays { (result ≡ Brought.Here → ⊥) → self.new.places ≡ self.old.places }
+        ensures evicts { Evicts self.old self.new }
+        ensures dropped { (entry self.old key).attr.clean ≡ true → (result ≡ Brought.Here) × (swap.new ≡ swap.old)
+            × (self.new ≡ record self.old { places = self.new.places; turns = self.new.turns }) }
         ensures full { result ≡ Brought.SwapFull → IsFull self.new }
+        ensures lacks { result ≡ Brought.SwapFull → (self.new ≡ self.old) × (swap.new ≡ swap.old)
+            × (length (free self.old.swap) < blocks_for (entry self.old key).size - length (blocks_of self.old.swap key)) }
         ensures faults { S.faults swap.old ≤ S.faults swap.new }
         ensures cause { result ≡ Brought.SwapFault → Rose (S.faults swap.old) (S.faults swap.new) }
         ensures never { (result ≡ Brought.NoRoom → ⊥) × (result ≡ Brought.Stale → ⊥) }
@@ -185,10 +198,20 @@ impl Store {
         ensures map { all_of self.new.swap ≡ all_of self.old.swap }
         ensures others { (k : ℕ) → k ≢ id.key → place_of self.new k ≡ place_of self.old k }
 
+        ensures evicts { Evicts self.old self.new }
+        ensures stays { (result ≡ Brought.Here → ⊥) → self.new.places ≡ self.old.places }
+        ensures dropped { IsSome (entry_of self.old id) → (entry self.old id.key).attr.clean ≡ true
+            → (result ≡ Brought.Here) × (swap.new ≡ swap.old)
+            × (self.new ≡ record self.old { places = self.new.places; turns = self.new.turns }) }
+        ensures already { place_of self.old id.key ≡ None → (self.new ≡ self.old) × (swap.new ≡ swap.old) }
+
         ensures out { result ≡ Brought.Here → place_of self.new id.key ≡ None }
         ensures stale { result ≡ Brought.Stale → entry_of self.old id ≡ None }
         ensures always { entry_of self.old id ≡ None → (result ≡ Brought.Stale) × (self.new ≡ self.old) }
         ensures full { result ≡ Brought.SwapFull → IsFull self.new }
+        ensures lacks { result ≡ Brought.SwapFull → (self.new ≡ self.old) × (swap.new ≡ swap.old)
+            × (length (free self.old.swap) < blocks_for (entry self.old id.key).size - length (blocks_of self.old.swap id.key)) }
+        ensures loads { result ≡ Brought.SwapFull → all_of self.old.swap < swap_load self.old }
         ensures faults { S.faults swap.old ≤ S.faults swap.new }
         ensures cause { result ≡ Brought.SwapFault → Rose (S.faults swap.old) (S.faults swap.new) }
         ensures never { result ≡ Brought.NoRoom → ⊥ }
@@ -199,6 +222,7 @@ impl Store {
         if self.range_of(id.key).is_none() {
             return Brought::Here;
         }
+        self.law();
         self.evict_one(id.key, swap)
     }
 }

@@ -112,6 +112,9 @@ impl Store {
         ensures device { (S.blocks swap.new ≡ S.blocks swap.old) × (S.told swap.new ≡ S.told swap.old) }
         ensures map { all_of self.new.swap ≡ all_of self.old.swap }
         ensures here { result ≡ true → IsSome (place_of self.new key) }
+        ensures out { result ≡ false → place_of self.new key ≡ None }
+        ensures none { (k : ℕ) → k ≢ key → place_of self.old k ≡ None → place_of self.new k ≡ None }
+        ensures entries { self.new.entries ≡ self.old.entries }
         ensures others { (k : ℕ) → IsSome (place_of self.old k) → IsSome (place_of self.new k) }
         ensures faults { S.faults swap.old ≤ S.faults swap.new }
         ensures cause { result ≡ false → Rose (S.faults swap.old) (S.faults swap.new) }

@@ -7,6 +7,8 @@ ghost use Rattle.o2_place.specs.Layout.{used};
 ghost use Rattle.o2_place.specs.Marks.{IsKept};
 ghost use Rattle.o2_swapmap.specs.Piles.{all_of};
 ghost use Rattle.o2_store.specs.Shelf.{Shelf, Pictures, KeepsAll, AreClean, place_of, entry, entry_of, rounded, IsFull};
+ghost use Rattle.o2_store.specs.Leaving.{IsWrittenOut};
+ghost use Rattle.o2_store.specs.Loads.{swap_load, live_load_at};
 ghost use Rattle.o2_store.specs.Needs.{has, all_need, named_in};
 ghost use Rattle.o2_store.specs.Pictures.{picture};
 ghost use Rattle.o2_store.specs.Sizes.{Resizes, stays, all_wanted_at};
@@ -30,6 +32,7 @@ impl Store {
         ensures clean { (pic : Pictures) → AreClean self.old pic → AreClean self.new pic }
         ensures map { all_of self.new.swap ≡ all_of self.old.swap }
         ensures presence { (k : ℕ) → is_some (place_of self.new k) ≡ is_some (place_of self.old k) }
+        ensures others { (k : ℕ) → k ≢ key → slot_at self.new.entries k ≡ slot_at self.old.entries k }
     {
         self.law();
         let Some(old) = self.entries.get(key) else {
@@ -56,7 +59,12 @@ impl Store {
         ensures map { all_of self.new.swap ≡ all_of self.old.swap }
         ensures others { (k : ℕ) → k ≢ key → is_some (place_of self.new k) ≡ is_some (place_of self.old k) }
         ensures still { used self.old.places.ranges + rounded size ≤ self.old.places.size + rounded (entry self.old key).size → IsSome (place_of self.new key) }
+        ensures held { (result ≡ Brought.Here → ⊥) → IsSome (place_of self.new key) }
+        ensures written { (k : ℕ) → k ≢ key → IsSome (place_of self.old k) → place_of self.new k ≡ None
+            → (entry self.old k).attr.clean ≡ false → IsWrittenOut self.old self.new k }
         ensures full { result ≡ Brought.SwapFull → IsFull self.new × (self.new.places.size + rounded (entry self.old key).size < used self.new.places.ranges + rounded size) }
+        ensures loads { result ≡ Brought.SwapFull → (all_of self.old.swap < swap_load self.old)
+            × (self.old.places.size < live_load_at self.old key size) }
         ensures faults { S.faults swap.old ≤ S.faults swap.new }
         ensures cause { result ≡ Brought.SwapFault → Rose (S.faults swap.old) (S.faults swap.new) }
         ensures never { (result ≡ Brought.NoRoom → ⊥) × (result ≡ Brought.Stale → ⊥) }
@@ -101,8 +109,14 @@ impl Store {
         ensures no_room { result ≡ Brought.NoRoom → self.old.places.size < all_wanted_at self.old key keep.now size }
         ensures always_no_room { self.old.places.size < all_wanted_at self.old key keep.now size → result ≡ Brought.NoRoom }
         ensures full { result ≡ Brought.SwapFull → IsFull self.new × (self.new.places.size + rounded (entry self.old key).size < used self.new.places.ranges + rounded size) }
+        ensures loads { result ≡ Brought.SwapFull → (all_of self.old.swap < swap_load self.old)
+            × (self.old.places.size < live_load_at self.old key size) }
         ensures faults { S.faults swap.old ≤ S.faults swap.new }
         ensures cause { result ≡ Brought.SwapFault → Rose (S.faults swap.old) (S.faults swap.new) }
+        ensures refused { result ≡ Brought.NoRoom
+            → (self.new ≡ record self.old { keys = self.new.keys }) × (swap.new ≡ swap.old) }
+        ensures written { (k : ℕ) → k ≢ key → IsSome (place_of self.old k) → place_of self.new k ≡ None
+            → (entry self.old k).attr.clean ≡ false → IsWrittenOut self.old self.new k }
         ensures never { result ≡ Brought.Stale → ⊥ }
     {
         self.law();
@@ -140,12 +154,24 @@ impl Store {
         ensures locked { (k : ℕ) → 0 < (entry self.old k).attr.lock → IsSome (place_of self.new k) }
         ensures still { used self.old.places.ranges + rounded size ≤ self.old.places.size + rounded (entry self.old id.key).size → (k : ℕ) → IsSome (place_of self.old k) → IsSome (place_of self.new k) }
 
+        ensures alone { stays self.old id.key keep.now ≡ false
+            → (k : ℕ) → k ≢ id.key → is_some (place_of self.new k) ≡ is_some (place_of self.old k) }
+        ensures held { (result ≡ Brought.Here → ⊥) → IsSome (place_of self.old id.key) → IsSome (place_of self.new id.key) }
+        ensures written { (k : ℕ) → k ≢ id.key → IsSome (place_of self.old k) → place_of self.new k ≡ None
+            → (entry self.old k).attr.clean ≡ false → IsWrittenOut self.old self.new k }
+
         ensures outside { IsSome (entry_of self.old id) → place_of self.old id.key ≡ None → result ≡ Brought.Here }
+        ensures rests { place_of self.old id.key ≡ None
+            → (swap.new ≡ swap.old) × ((k : ℕ) → is_some (place_of self.new k) ≡ is_some (place_of self.old k)) }
+        ensures refused { result ≡ Brought.NoRoom
+            → (self.new ≡ record self.old { keys = self.new.keys }) × (swap.new ≡ swap.old) }
         ensures stale { result ≡ Brought.Stale → entry_of self.old id ≡ None }
         ensures always_stale { entry_of self.old id ≡ None → (result ≡ Brought.Stale) × (self.new ≡ self.old) }
         ensures no_room { result ≡ Brought.NoRoom → IsSome (place_of self.old id.key) × (stays self.old id.key keep.now ≡ true) × (self.old.places.size < all_wanted_at self.old id.key keep.now size) }
         ensures always_no_room { IsSome (entry_of self.old id) → IsSome (place_of self.old id.key) → stays self.old id.key keep.now ≡ true → self.old.places.size < all_wanted_at self.old id.key keep.now size → result ≡ Brought.NoRoom }
         ensures full { result ≡ Brought.SwapFull → IsFull self.new × (self.new.places.size + rounded (entry self.old id.key).size < used self.new.places.ranges + rounded size) }
+        ensures loads { result ≡ Brought.SwapFull → (all_of self.old.swap < swap_load self.old)
+            × (self.old.places.size < live_load_at self.old id.key size) }
         ensures faults { S.faults swap.old ≤ S.faults swap.new }
         ensures cause { result ≡ Brought.SwapFault → Rose (S.faults swap.old) (S.faults swap.new) }
     {
@@ -198,8 +224,12 @@ impl Store {
         ensures locked { (k : ℕ) → 0 < (entry self.old k).attr.lock → IsSome (place_of self.old k) → IsSome (place_of self.new k) }
         ensures still { used self.old.places.ranges + rounded size ≤ self.old.places.size + rounded (entry self.old key).size → (k : ℕ) → IsSome (place_of self.old k) → IsSome (place_of self.new k) }
         ensures full { result ≡ Brought.SwapFull → IsFull self.new × (self.new.places.size + rounded (entry self.old key).size < used self.new.places.ranges + rounded size) }
+        ensures loads { result ≡ Brought.SwapFull → (all_of self.old.swap < swap_load self.old)
+            × (self.old.places.size < live_load_at self.old key size) }
         ensures faults { S.faults swap.old ≤ S.faults swap.new }
         ensures cause { result ≡ Brought.SwapFault → Rose (S.faults swap.old) (S.faults swap.new) }
+        ensures written { (k : ℕ) → k ≢ key → IsSome (place_of self.old k) → place_of self.new k ≡ None
+            → (entry self.old k).attr.clean ≡ false → IsWrittenOut self.old self.new k }
         ensures never { (result ≡ Brought.NoRoom → ⊥) × (result ≡ Brought.Stale → ⊥) }
     {
         self.law();

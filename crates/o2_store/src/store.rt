@@ -1,8 +1,8 @@
 // The store: its tables, its memory and its swap blocks.
-ghost use Rattle.std.specs.Prelude.{◌≡◌, ◌≢◌, ℕ, ◌+◌, ◌-◌, ◌<◌, ◌≤◌, ◌^◌, ◌⊎◌, length, Some, None, IsSome, IfOk, slice_set, nat_lt, if◌then◌else◌};
+ghost use Rattle.std.specs.Prelude.{◌≡◌, ◌≢◌, ℕ, ◌+◌, ◌-◌, ◌<◌, ◌≤◌, ◌^◌, ◌⊎◌, length, Some, None, IsSome, IfOk, slice_index, slice_set, nat_lt, if◌then◌else◌};
 ghost use Rattle.o2_entries.specs.Tables.{slot_at};
 ghost use Rattle.o2_place.specs.Layout.{IsFree, used, len_of, over};
-ghost use Rattle.o2_swapmap.specs.Piles.{NoneTwice, all_of};
+ghost use Rattle.o2_swapmap.specs.Piles.{NoneTwice, all_of, blocks_of, free};
 ghost use Rattle.o2_store.specs.Shelf.{Shelf, IsShelf, place_of, entry_of, all_locked, locked_need, entry_or, rounded};
 
 use o2_base::NoMemory;
@@ -77,6 +77,10 @@ impl Store {
     pub fn law(&self)
         ensures shelf { IsShelf self.now }
         ensures once { NoneTwice self.now.swap }
+        ensures below { (i k : ℕ) → k < length (blocks_of self.now.swap i)
+            → slice_index (blocks_of self.now.swap i) k < all_of self.now.swap }
+        ensures blocks { over (λ k. length (blocks_of self.now.swap k)) (length self.now.entries)
+            + length (free self.now.swap) ≡ all_of self.now.swap }
         ensures within { (k at len : ℕ) → place_of self.now k ≡ Some (at, len) → at + len ≤ self.now.places.size }
         ensures positive { (k at len : ℕ) → place_of self.now k ≡ Some (at, len) → 0 < len }
         ensures apart { (i j a l b m : ℕ) → i ≢ j → place_of self.now i ≡ Some (a, l) → place_of self.now j ≡ Some (b, m) → (a + l ≤ b) ⊎ (b + m ≤ a) }

@@ -1,5 +1,5 @@
 // Segments in memory: their bytes, their place and their use.
-ghost use Rattle.std.specs.Prelude.{◌≡◌, ◌≢◌, ℕ, List, ◌+◌, ◌<◌, ◌≤◌, ◌↔◌, length, Some, None, IsSome, IsTrue, IfSome, slice_index, option_map, true, false};
+ghost use Rattle.std.specs.Prelude.{◌≡◌, ◌≢◌, ℕ, List, ◌+◌, ◌<◌, ◌≤◌, ◌↔◌, length, Some, None, IsSome, IsTrue, IfSome, slice_index, option_map, slice_set, true, false};
 ghost use Rattle.std.specs.Option.{IfNone};
 ghost use Rattle.std.specs.Borrow.{sem};
 ghost use Rattle.o2_phys.specs.Bytes.{part, with_part};
@@ -25,6 +25,7 @@ impl Store {
     /// are lent.
     pub fn window(&self, id: SegId) -> Option<&[u8]>
         ensures none { IfNone result (base_of (entry_of self.now id) (place_of self.now id.key) ≡ None) }
+        ensures some { IfSome result (λ w. IsSome (base_of (entry_of self.now id) (place_of self.now id.key))) }
         ensures size { IfSome result (λ w. option_map (λ e. e.size) (entry_of self.now id) ≡ Some (length w.now)) }
         ensures bytes { IfSome result (λ w. (pic : Pictures) (block : ℕ → List ℕ) (j : ℕ) → j < length w.now → slice_index w.now j ≡ byte_at self.now pic block id.key j) }
     {
@@ -49,7 +50,10 @@ impl Store {
     /// through them is told by `lend` alone.
     pub fn window_mut(&mut self, id: SegId) -> Option<&mut [u8]>
         ensures none { IfNone result (base_of (entry_of self.old id) (place_of self.old id.key) ≡ None) }
+        ensures some { IfSome result (λ w. IsSome (base_of (entry_of self.old id) (place_of self.old id.key))) }
         ensures size { IfSome result (λ w. option_map (λ e. e.size) (entry_of self.old id) ≡ Some (length w.now)) }
+        ensures value { IfSome result (λ w. (at : ℕ) → base_of (entry_of self.old id) (place_of self.old id.key) ≡ Some at
+            → w.now ≡ part self.old.memory at (entry self.old id.key).size) }
     {
         self.law();
         let entry = self.find(id)?;
@@ -75,6 +79,11 @@ impl Store {
     pub fn touch(&mut self, id: SegId) -> bool
         ensures live { IsTrue result ↔ IsSome (entry_of self.old id) }
         ensures rest { self.new ≡ record self.old { turns = self.new.turns } }
+        ensures used { IsSome (base_of (entry_of self.old id) (place_of self.old id.key))
+            → (entry self.old id.key).attr.lock ≡ 0
+            → self.new.turns.marks ≡ slice_set self.old.turns.marks id.key (record { present = true; used = true }) }
+        ensures out { base_of (entry_of self.old id) (place_of self.old id.key) ≡ None → self.new ≡ self.old }
+        ensures locked { 0 < (entry self.old id.key).attr.lock → self.new ≡ self.old }
     {
         let Some(entry) = self.find(id) else {
             return false;

@@ -150,11 +150,12 @@ impl SwapMap {
         self.blocks.len() as u32 - self.count(spare)
     }
 
-    /// What holds of the map at any time: no block stands twice, with one owner or with two, and each is below the number of
-    /// blocks.
+    /// What holds of the map at any time: no block stands twice, with one owner or with two, each is below the number of
+    /// blocks, and there is a list for each owner and one for the free blocks.
     pub fn none_twice(&self)
         ensures twice { NoneTwice self.now }
         ensures below { (i k : ℕ) → k < length (blocks_of self.now i) → slice_index (blocks_of self.now i) k < all_of self.now }
+        ensures long { length self.now.lists ≡ self.now.most + 1 }
     {
         let _ = &self.blocks;
     }

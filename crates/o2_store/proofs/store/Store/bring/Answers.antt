@@ -1,10 +1,13 @@
-use Rattle.std.proofs.Common.{◌≡◌, sym, subst, ap, arith, rules, ◌+◌, ◌≤◌, IsSome}
+use Rattle.std.proofs.Common.{◌≡◌, sym, subst, ap, ◌∙◌, arith, rules, ◌+◌, ◌≤◌, IsSome}
 use Rattle.o2_place.specs.Layout.{used}
+use Rattle.o2_swapmap.specs.Piles.{all_of}
 use Rattle.o2_store.specs.Pictures.{picture}
 use Rattle.o2_store.specs.Shelf.{Shelf, SameTables, place_of, entry, rounded}
 use Rattle.o2_store.proofs.Tables.{locked_at}
 use Rattle.o2_store.proofs.Keeping.{keys_keep, keys_clean, locked_stay}
 use Rattle.o2_store.proofs.Collecting.{need_wanted}
+use Rattle.o2_store.proofs.Leaving.{keys_written}
+use Rattle.o2_store.proofs.Loads.{full_load, out_load, same_swap_load, same_live_load}
 use Rattle.o2_store.proofs.store.Store.bring.Goals as goal
 
 pub returns-then-is_none-clause-locked : goal.returns-then-is_none-clause-locked
@@ -37,3 +40,21 @@ pub returns-clause-still : goal.returns-clause-still
 returns-clause-still g c =
     let e = c.list_keys-need.ensures.shelf in
     λ q k i. c.bring_key-answer.ensures.still (subst (λ (x : Shelf). used x.places.ranges + rounded (entry x c.args.id.key).size ≤ x.places.size) (sym e) q) k (subst (λ (x : Shelf). IsSome (place_of x k)) (sym e) i)
+
+pub returns-clause-written : goal.returns-clause-written
+returns-clause-written g c = keys_written c.args.self.now c.list_keys-need.new.self c.bring_key-answer.new.self c.list_keys-need.ensures.shelf c.bring_key-answer.ensures.written
+
+pub returns-clause-loads : goal.returns-clause-loads
+returns-clause-loads g c = λ e.
+    (let s = c.args.self.now in
+    let r = c.bring_key-answer in
+    let u = r.new.self in
+    let k = c.list_keys-need.ensures.shelf in
+    let h = c.law-2.ensures.shelf in
+    let q : SameTables s u = search rules in
+    let f = r.ensures.full e in
+    let a = full_load u h c.law-2.ensures.blocks f.0 in
+    let b = out_load u c.args.id.key h c.law-2.ensures.sum (r.ensures.out (λ i. absurd (let z = sym e ∙ i in cc))) in
+    let m : all_of u.swap ≡ all_of s.swap = r.ensures.map ∙ ap (λ (x : Shelf). all_of x.swap) k in
+    let n : rounded (entry u c.args.id.key).size ≡ rounded (entry c.list_keys-need.new.self c.args.id.key).size = ap rounded (r.ensures.tables.same c.args.id.key).size in
+    (omega (arith, a, m, same_swap_load s u q), omega (arith, b, f.1, n, q.size, same_live_load s u q)))

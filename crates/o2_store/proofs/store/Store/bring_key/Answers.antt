@@ -5,6 +5,7 @@ use Rattle.o2_store.specs.Needs.{has, all_need}
 use Rattle.o2_store.specs.Shelf.{Shelf, place_of, entry, rounded}
 use Rattle.o2_store.proofs.Tables.{within_at}
 use Rattle.o2_store.proofs.Collecting.{kept_has, need_exceeds, same_need}
+use Rattle.o2_store.proofs.Leaving.{some_not_none, written_in}
 use Rattle.o2_store.proofs.store.Store.bring_key.Goals as goal
 
 pub returns-in-Here-clause-kept : goal.returns-in-Here-clause-kept
@@ -18,6 +19,14 @@ returns-in-Here-clause-kept g c =
     let v = c.evict_until-answer in
     let t = v.new.self in
     λ k h i. c.come_in.ensures.others k (ap is_some (v.ensures.kept k (kept_has s.keys k h)) ∙ i)
+
+pub returns-in-Here-clause-same : goal.returns-in-Here-clause-same
+returns-in-Here-clause-same g c = λ i. absurd (let out : place_of c.args.self.now c.args.key ≡ None = search rules in some_not_none (place_of c.args.self.now c.args.key) i out)
+
+pub returns-in-Here-clause-written : goal.returns-in-Here-clause-written
+returns-in-Here-clause-written g c =
+    let v = c.evict_until-answer in
+    written_in c.args.self.now v.new.self c.come_in.new.self v.ensures.evicts.written c.come_in.ensures.entries c.come_in.ensures.others
 
 pub returns-in_default : goal.returns-in_default
 returns-in_default g c =
@@ -36,6 +45,10 @@ returns-in_default g c =
       device = v.ensures.device;
       map = v.ensures.map;
       here = search rules;
+      same = λ i. absurd (let out : place_of s key ≡ None = search rules in some_not_none (place_of s key) i out);
+      out = λ n. (let out : place_of s key ≡ None = search rules in v.ensures.none key out);
+      none = λ k d e. v.ensures.none k e;
+      written = v.ensures.evicts.written;
       kept = λ k h i. ap is_some (v.ensures.kept k (kept_has s.keys k h)) ∙ i;
       still = λ q k i. absurd
           (let l : used s.places.ranges + c.rounded_size-len.result ≤ s.places.size = omega (arith, q, c.rounded_size-len.ensures.value) in

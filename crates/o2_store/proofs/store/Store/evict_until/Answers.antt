@@ -2,6 +2,7 @@ use Rattle.std.proofs.Common.{◌∙◌, subst, Bool, rules, arith, ap}
 use Rattle.o2_place.specs.Layout.{used}
 use Rattle.o2_store.specs.Shelf.{Shelf, KeepsAll}
 use Rattle.o2_store.proofs.Keeping.{keeps_trans, tables_trans}
+use Rattle.o2_store.proofs.Leaving.{evicts_trans}
 use Rattle.o2_store.proofs.store.Store.evict_until.Goals as goal
 
 pub returns-then-not-matches-clause-keeps : goal.returns-then-not-matches-clause-keeps
@@ -22,6 +23,11 @@ returns-then-not-matches-clause-clean g c = λ pic q. c.evict_next-answer.ensure
 
 pub returns-then-not-matches-clause-tables : goal.returns-then-not-matches-clause-tables
 returns-then-not-matches-clause-tables g c = tables_trans c.args.self.now c.loop-self.self c.evict_next-answer.new.self c.loop-self.invariant.tables c.evict_next-answer.ensures.tables
+
+pub returns-then-not-matches-clause-evicts : goal.returns-then-not-matches-clause-evicts
+returns-then-not-matches-clause-evicts g c =
+    let i = c.loop-self.invariant in
+    evicts_trans c.args.self.now c.loop-self.self c.evict_next-answer.new.self i.tables i.evicts c.evict_next-answer.ensures.evicts
 
 pub loop-self-preserved : goal.loop-self-preserved
 loop-self-preserved g c =
@@ -45,6 +51,7 @@ loop-self-preserved g c =
       kept = search rules;
       locked = search rules;
       none = search rules;
+      evicts = evicts_trans s t v.new.self i.tables i.evicts v.ensures.evicts;
       enough = λ q. absurd (let e = ap (λ (x : Shelf). used x.places.ranges) (i.enough q) in let f = ap (λ (x : Shelf). x.places.size) (i.enough q) in omega (arith, e, f, q, c.is_short.ensures));
       faults = omega (arith, i.faults, v.ensures.faults);
     }

@@ -3,6 +3,7 @@ use Rattle.o2_swapmap.specs.Piles.{all_of}
 use Rattle.o2_place.specs.Layout.{used}
 use Rattle.o2_place.specs.Marks.{IsKept}
 use Rattle.o2_store.specs.Shelf.{KeepsAll, AreClean, SameTables, Pictures, place_of, entry}
+use Rattle.o2_store.specs.Leaving.{Evicts}
 use Rattle.o2_store.proofs.store.Store.evict_until.Given as goal
 
 abbrev pub invariant-loop-self : goal.invariant-loop-self
@@ -17,6 +18,7 @@ invariant-loop-self g l = let S = g.S.SwapDevice in record {
   kept : (k : ℕ) → IsKept l.initial.self.keys k → place_of l.self k ≡ place_of l.initial.self k;
   locked : (k : ℕ) → 0 < (entry l.initial.self k).attr.lock → place_of l.self k ≡ place_of l.initial.self k;
   none : (k : ℕ) → place_of l.initial.self k ≡ None → place_of l.self k ≡ None;
+  evicts : Evicts l.initial.self l.self;
   enough : used l.initial.self.places.ranges + l.len ≤ l.initial.self.places.size → l.self ≡ l.initial.self;
   faults : S.faults l.initial.swap ≤ S.faults l.swap;
 }

@@ -1,7 +1,10 @@
-use Rattle.std.proofs.Common.{◌≡◌, ◌+◌, ◌≤◌, ap, ◌∙◌, is_some, arith}
+use Rattle.std.proofs.Common.{◌≡◌, ◌+◌, ◌<◌, ◌≤◌, length, ap, ◌∙◌, is_some, arith}
 use Rattle.o2_place.specs.Layout.{used}
 use Rattle.o2_store.specs.Needs.{all_need}
-use Rattle.o2_store.specs.Shelf.{Shelf}
+use Rattle.o2_store.specs.Shelf.{Shelf, entry, rounded}
+use Rattle.o2_store.proofs.Leaving.{written_after}
+use Rattle.o2_store.proofs.Loads.{full_load, sized_load, same_swap_load, same_load_at}
+use Rattle.o2_store.proofs.Tables.{within_at}
 use Rattle.o2_store.proofs.Collecting.{kept_has, need_holds, same_need}
 use Rattle.o2_store.proofs.Grown.{resizes_after}
 use Rattle.o2_store.proofs.store.Store.resize_among.Goals as goal
@@ -17,9 +20,13 @@ returns-in-Here-clause-resized g c =
 pub returns-in-Here-clause-kept : goal.returns-in-Here-clause-kept
 returns-in-Here-clause-kept g c = λ k h i. c.set_size.ensures.presence k ∙ ap is_some (c.evict_until-answer.ensures.kept k (kept_has c.args.self.now.keys k h)) ∙ i
 
+pub returns-in-Here-clause-written : goal.returns-in-Here-clause-written
+returns-in-Here-clause-written g c = written_after c.args.self.now c.evict_until-answer.new.self c.set_size.new.self c.args.key c.evict_until-answer.ensures.evicts c.set_size.ensures.presence c.set_size.ensures.others
+
 pub returns-in_default : goal.returns-in_default
 returns-in_default g c =
     let s = c.args.self.now in
+    let key = c.args.key in
     let v = c.evict_until-answer in
     let t = v.new.self in
     let grow = c.saturating_sub-growth.ensures in
@@ -40,8 +47,19 @@ returns-in_default g c =
           let z : t.places.size ≡ s.places.size = ap (λ (x : Shelf). x.places.size) e in
           omega (arith, l, f, z, v.ensures.short c.in_default.not-Here));
       full = λ e. (v.ensures.full e, omega (arith, v.ensures.short c.in_default.not-Here, grow, was, c.law-2.ensures.room));
+      loads = λ e.
+          (let h = c.law-2.ensures.shelf in
+          let l : key < length t.entries = omega (arith, v.ensures.tables.count, within_at s.entries key c.requires.live) in
+          let a = full_load t h c.law-2.ensures.blocks (v.ensures.full e) in
+          let b = sized_load t key c.args.size h c.law-2.ensures.sum l in
+          let n : rounded (entry t key).size ≡ rounded (entry s key).size = ap rounded (v.ensures.tables.same key).size in
+          (
+            omega (arith, a, v.ensures.map, same_swap_load s t v.ensures.tables),
+            omega (arith, b, n, v.ensures.tables.size, same_load_at s t key c.args.size v.ensures.tables, v.ensures.short c.in_default.not-Here, grow, was, c.law-2.ensures.room),
+          ));
       faults = v.ensures.faults;
       cause = v.ensures.cause;
+      written = λ k d i n q. v.ensures.evicts.written k i n q;
       never = (
         λ e.
             (let n = need_holds t t.keys c.law-2.ensures.shelf (v.ensures.no_room e) c.law-2.ensures.sum in

@@ -1,3 +1,7 @@
+use Rattle.std.proofs.Common.{subst, arith}
+use Rattle.o2_store.specs.Shelf.{Shelf, IsFull}
+use Rattle.o2_store.proofs.Loads.{full_load, sized_load}
+use Rattle.o2_store.proofs.Tables.{within_at}
 use Rattle.o2_store.proofs.Grown.{resizes_after}
 use Rattle.o2_store.proofs.store.Store.resize_free.Goals as goal
 
@@ -10,3 +14,12 @@ returns-in-Here-clause-resized g c =
     let told = S.told c.args.swap.now in
     let b = S.block c.evict_one.new.swap in
     λ pic a e. resizes_after told pic c.args.self.now c.evict_one.new.self c.set_size-in-Here.new.self (S.block c.args.swap.now) b b c.args.key c.args.size (c.evict_one.ensures.keeps pic a) (c.set_size-in-Here.ensures.resizes told pic b)
+
+pub returns-in_default-clause-loads : goal.returns-in_default-clause-loads
+returns-in_default-clause-loads g c = λ e.
+    (let s = c.args.self.now in
+    let h = c.law.ensures.shelf in
+    let v = c.evict_one in
+    let f : IsFull s = subst (λ (x : Shelf). IsFull x) (v.ensures.lacks e).0 (v.ensures.full e) in
+    let b = sized_load s c.args.key c.args.size h c.law.ensures.sum (within_at s.entries c.args.key c.requires.live) in
+    (full_load s h c.law.ensures.blocks f, omega (arith, b, c.is_short.ensures, c.if-not-is_short.false, c.saturating_sub-growth.ensures, c.rounded_size.ensures.value, c.law.ensures.room)))

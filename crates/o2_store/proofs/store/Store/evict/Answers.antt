@@ -1,0 +1,7 @@
+use Rattle.std.proofs.Common.{subst}
+use Rattle.o2_store.specs.Shelf.{Shelf, IsFull}
+use Rattle.o2_store.proofs.Loads.{full_load}
+use Rattle.o2_store.proofs.store.Store.evict.Goals as goal
+
+pub returns-clause-loads : goal.returns-clause-loads
+returns-clause-loads g c = λ e. full_load c.args.self.now c.law.ensures.shelf c.law.ensures.blocks (subst (λ (x : Shelf). IsFull x) (c.evict_one.ensures.lacks e).0 (c.evict_one.ensures.full e))

@@ -1,0 +1,20 @@
+-- What is left of segments that leave the memory.
+use Rattle.std.specs.Prelude.{◌≡◌, ◌≢◌, ℕ, ◌+◌, ◌-◌, ◌<◌, Some, None, IsSome, false, slice_index_or}
+use Rattle.o2_entries.specs.Tables.{slot_at}
+use Rattle.o2_store.specs.Shelf.{Shelf, entry, place_of}
+
+-- the segment has no image any more, and the last byte that its blocks keep isn't zero
+pub record IsWrittenOut (old new : Shelf) (k : ℕ) : Type 0 where
+  pub image : (entry new k).image ≡ None
+  pub last : (at len : ℕ) → place_of old k ≡ Some (at, len) → 0 < (entry new k).kept → slice_index_or old.memory (at + ((entry new k).kept - 1)) 0 ≢ 0
+
+-- each segment that isn't clean and has left the memory went to its blocks
+abbrev pub WritesOut : Shelf → Shelf → Type 0
+WritesOut old new = (k : ℕ) → IsSome (place_of old k) → place_of new k ≡ None → (entry old k).attr.clean ≡ false → IsWrittenOut old new k
+
+-- segments left the memory, which else stays as it is
+pub record Evicts (old new : Shelf) : Type 0 where
+  pub memory : new.memory ≡ old.memory
+  pub places : (k : ℕ) → IsSome (place_of new k) → place_of new k ≡ place_of old k
+  pub entries : (k : ℕ) → place_of old k ≡ None → slot_at new.entries k ≡ slot_at old.entries k
+  pub written : WritesOut old new
