@@ -1,5 +1,5 @@
 -- What is left of segments that leave the memory.
-use Rattle.std.proofs.Common.{◌≡◌, ◌≢◌, ◌⊎◌, inl, inr, ℕ, ◌+◌, ◌-◌, ◌<◌, List, length, get_or, set, Option, Some, None, is_some, IsSome, Bool, true, false, refl, sym, ap, ◌∙◌, subst, arith}
+use Rattle.std.proofs.Common.{◌≡◌, ◌≢◌, ◌⊎◌, inl, inr, ℕ, ◌+◌, ◌-◌, ◌<◌, List, length, get_or, set, Option, Some, None, is_some, IsSome, true, false, refl, sym, ap, ◌∙◌, subst, arith}
 use Rattle.std.proofs.lemmas.Bool.{cases_eq}
 use Rattle.o2_entries.specs.declared.Entry.{Entry}
 use Rattle.o2_entries.specs.declared.Attr.{Attr}
@@ -7,7 +7,7 @@ use Rattle.o2_entries.specs.Tables.{slot_at}
 use Rattle.o2_place.specs.Layout.{Changes}
 use Rattle.o2_store.specs.Shelf.{Shelf, SameTables, entry, entry_or, place_of}
 use Rattle.o2_store.specs.Leaving.{IsWrittenOut, WritesOut, Evicts}
-use Rattle.o2_store.proofs.Tables.{none_is_none, place-same, place-other, slot-set_same}
+use Rattle.o2_store.proofs.Tables.{place-same, place-other, slot-set_same}
 use Rattle.o2_store.proofs.Keeping.{same_at}
 
 pub some_not_none : (o : Option (ℕ × ℕ)) → IsSome o → o ≡ None → ⊥

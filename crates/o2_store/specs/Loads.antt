@@ -1,5 +1,5 @@
 -- What the segments take together.
-use Rattle.std.specs.Prelude.{ℕ, length, Bool, true, false, ◌==◌, if◌then◌else◌}
+use Rattle.std.specs.Prelude.{ℕ, length, ◌==◌, if◌then◌else◌}
 use Rattle.o2_place.specs.Layout.{over}
 use Rattle.o2_store.specs.Shelf.{Shelf, entry, rounded, blocks_for}
 

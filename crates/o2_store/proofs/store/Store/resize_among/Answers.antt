@@ -52,8 +52,7 @@ returns-in_default g c =
           let l : key < length t.entries = omega (arith, v.ensures.tables.count, within_at s.entries key c.requires.live) in
           let a = full_load t h c.law-2.ensures.blocks (v.ensures.full e) in
           let b = sized_load t key c.args.size h c.law-2.ensures.sum l in
-          let n : rounded (entry t key).size ≡ rounded (entry s key).size = ap rounded (v.ensures.tables.same key).size in
-          (
+          let n : rounded (entry t key).size ≡ rounded (entry s key).size = ap rounded (v.ensures.tables.same key).size in (
             omega (arith, a, v.ensures.map, same_swap_load s t v.ensures.tables),
             omega (arith, b, n, v.ensures.tables.size, same_load_at s t key c.args.size v.ensures.tables, v.ensures.short c.in_default.not-Here, grow, was, c.law-2.ensures.room),
           ));
