@@ -1,18 +1,20 @@
 // Times the calls that its arguments name, each by one line: the name, how many were done, and milliseconds.
 //
-// The names are `decode`, `loop`, `moves`, `sums`, `calls` and `strings`; and `tables`, `lowest`, `runs`, `grants`, `walks` and
-// `holders` of who holds which index. Without arguments it prints nothing.
+// The names are `decode`, `loop`, `moves`, `sums`, `calls` and `strings`; `tables`, `lowest`, `runs`, `grants`, `walks` and
+// `holders` of who holds which index; and `swaps`, `halves` and `copies` of segments that leave the memory. Without arguments it prints nothing.
 #![tactic(auto)]
 
 mod decoding;
 mod regions;
 mod stepping;
+mod store;
 
 use decoding::decode_many;
 use regions::{grant_many, holder_many, lowest_many, make_many, walk_many};
 use std::time::Instant;
 use std::{env, io};
 use stepping::{CALLS, LOOP, MOVES, STRINGS, SUMS, step_many};
+use store::{copy_many, swap_many};
 
 const STEPS: u64 = 3_000_000;
 
@@ -44,6 +46,20 @@ fn measure_regions(rt: &HostRuntime, name: &str) -> u64 {
         "grants" => grant_many(rt.alloc(), STEPS),
         "walks" => walk_many(rt.alloc(), 10_000),
         "holders" => holder_many(rt.alloc(), 10_000),
+        _ => return measure_store(rt, name),
+    };
+    match done {
+        Ok(done) => done,
+        Err(_) => 0,
+    }
+}
+
+/// The same for the names of segments that leave the memory.
+fn measure_store(rt: &HostRuntime, name: &str) -> u64 {
+    let done = match name {
+        "swaps" => swap_many(rt.alloc(), 500, 65_536, 100_000),
+        "halves" => swap_many(rt.alloc(), 1000, 32_768, 100_000),
+        "copies" => copy_many(rt.alloc(), 67_108_864, 65_536, 200_000),
         _ => return 0,
     };
     match done {

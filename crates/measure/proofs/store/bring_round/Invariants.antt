@@ -1,0 +1,6 @@
+use Rattle.o2_outer.specs.Devices.{swap_blocks}
+use Rattle.o2_store.specs.Trials.{IsReady}
+use Rattle.measure.proofs.store.bring_round.Given as goal
+
+abbrev pub invariant-loop-round : goal.invariant-loop-round
+invariant-loop-round l = IsReady l.store l.images (swap_blocks l.swap)
