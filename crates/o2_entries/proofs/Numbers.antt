@@ -156,3 +156,13 @@ gap_by es n (Some x) e before after =
 
 pub gap_is_vacant : (es : List (Option Entry)) (n : ℕ) → ((k : ℕ) → k < n → get_or (live_numbers 0 es) k 0 ≡ k) → ((k : ℕ) → n ≤ k → k < length (live_numbers 0 es) → k < get_or (live_numbers 0 es) k 0) → slot_at es n ≡ None
 gap_is_vacant es n before after = gap_by es n (slot_at es n) refl before after
+
+-- what the list names has a segment
+pub listed_lives : (first : ℕ) (es : List (Option Entry)) (i n : ℕ) → i < length (live_numbers first es) → get_or (live_numbers first es) i 0 ≡ first + n → IsSome (slot_at es n)
+listed_lives first [] i n l e = absurd (omega (arith, l))
+listed_lives first (None ∷ es) i zero l e = absurd (let a = above (first + 1) es i l in omega (arith, a, e))
+listed_lives first (None ∷ es) i (suc n) l e = listed_lives (first + 1) es i n l (omega (arith, e))
+listed_lives first (Some x ∷ es) zero zero l e = refl
+listed_lives first (Some x ∷ es) zero (suc n) l e = absurd (omega (arith, e))
+listed_lives first (Some x ∷ es) (suc i) zero l e = absurd (let a = above (first + 1) es i (omega (arith, l)) in omega (arith, a, e))
+listed_lives first (Some x ∷ es) (suc i) (suc n) l e = listed_lives (first + 1) es i n (omega (arith, l)) (omega (arith, e))

@@ -7,7 +7,7 @@ use Rattle.o2_phys.proofs.Parts.{get-part, get-with_part, get-with_part-before, 
 use Rattle.o2_place.specs.Layout.{Layout, find_in, len_of}
 use Rattle.o2_compact.specs.Parts.{OpensGap, StayBut}
 use Rattle.o2_store.specs.Shelf.{rounded}
-use Rattle.o2_store.specs.Sizes.{Relengths, Refits}
+use Rattle.o2_store.specs.Sizes.{Relengths, Refits, KeepsStarts}
 use Rattle.o2_store.proofs.Tables.{none_is_none}
 use Rattle.o2_store.proofs.Shifts.{moved_part, moved_none}
 
@@ -109,3 +109,21 @@ unfitted m p key old new none = record {
   size = refl;
   most = refl;
 }
+
+-- a range that has the length already
+pub same_length : (m : List ℕ) (p : Layout) (key len : ℕ) → ((at : ℕ) × (find_in p.ranges key ≡ Some (at, len))) → Relengths m p m p key len
+same_length m p key len h = record {
+  none = λ k e. e;
+  others = λ k a l ne e. (a, e, λ j x. refl);
+  here = λ a l e. (h.0, h.1, λ j x y. ap (λ (z : ℕ). get_or m (z + j) 0) (pair_at h.0 len a l (sym h.1 ∙ e)).0);
+  whole = refl;
+  size = refl;
+  most = refl;
+}
+
+-- a range that loses its end
+pub shorter_starts : (p q : Layout) (key at was len : ℕ) → find_in p.ranges key ≡ Some (at, was) → find_in q.ranges key ≡ Some (at, len) → StayBut p q key → KeepsStarts p q
+shorter_starts p q key at was len e f others k = elim (cases_eq k key) [
+  | inl same ↦ rw (same, e, f) refl
+  | inr other ↦ ap (option_map (λ (r : ℕ × ℕ). r.0)) (others k other)
+]

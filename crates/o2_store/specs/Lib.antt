@@ -6,3 +6,4 @@ pub mod Pictures
 pub mod Shelf
 pub mod Sizes
 pub mod Trials
+pub mod Writing

@@ -1,5 +1,5 @@
 -- A segment gets another size.
-use Rattle.std.specs.Prelude.{◌≡◌, ◌≢◌, ℕ, ◌+◌, ◌<◌, ◌≤◌, List, length, Option, Some, None, is_some, Bool, ◌||◌, ◌==◌, if◌then◌else◌, nat_lt, slice_index_or, IsTrue}
+use Rattle.std.specs.Prelude.{◌≡◌, ◌≢◌, ℕ, ◌+◌, ◌<◌, ◌≤◌, List, length, Option, Some, None, is_some, option_map, Bool, ◌||◌, ◌==◌, if◌then◌else◌, nat_lt, slice_index_or, IsTrue}
 use Rattle.o2_entries.specs.declared.Entry.{Entry}
 use Rattle.o2_entries.specs.Tables.{slot_at}
 use Rattle.o2_place.specs.declared.seg_id.SegId.{SegId}
@@ -25,6 +25,14 @@ pub record Resizes (told : Bool) (pic : Pictures) (old : Shelf) (before : ℕ �
   pub count : length new.entries ≡ length old.entries
   pub made : new.made ≡ old.made
   pub whole : new.places.size ≡ old.places.size
+
+-- where an id's range begins
+abbrev pub start_in : Layout → ℕ → Option ℕ
+start_in p k = option_map (λ r. r.0) (find_in p.ranges k)
+
+-- each range begins where it did
+abbrev pub KeepsStarts : Layout → Layout → Type 0
+KeepsStarts p q = (k : ℕ) → start_in q k ≡ start_in p k
 
 -- a range goes to another place with its bytes
 abbrev pub Goes : List ℕ → ℕ → ℕ → List ℕ → ℕ → Type 0

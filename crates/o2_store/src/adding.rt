@@ -21,7 +21,12 @@ impl Store {
         requires made { self.old.made < 2 ^ 64 - 1 }
         ensures none { IfNone result ((length (live_numbers 0 self.old.entries) ≡ length self.old.entries) × (self.new ≡ self.old)) }
         ensures added { IfSome result (λ id. Adds self.old self.new id (record { age = self.old.made; size = size; kept = 0; image = None; attr = attr })) }
+        ensures zeros { IfSome result (λ id. (pic : Pictures) (block : ℕ → List ℕ) (j : ℕ)
+            → byte_at self.new pic block id.key j ≡ 0) }
+        ensures others { IfSome result (λ id. (pic : Pictures) (block : ℕ → List ℕ) (k j : ℕ)
+            → k ≢ id.key → byte_at self.new pic block k j ≡ byte_at self.old pic block k j) }
     {
+        self.law();
         self.add(size, 0, None, attr)
     }
 
@@ -33,7 +38,12 @@ impl Store {
         requires made { self.old.made < 2 ^ 64 - 1 }
         ensures none { IfNone result ((length (live_numbers 0 self.old.entries) ≡ length self.old.entries) × (self.new ≡ self.old)) }
         ensures added { IfSome result (λ id. Adds self.old self.new id (record { age = self.old.made; size = size; kept = size; image = Some («module», seg); attr = attr })) }
+        ensures bytes { IfSome result (λ id. (pic : Pictures) (block : ℕ → List ℕ) (j : ℕ)
+            → j < size → byte_at self.new pic block id.key j ≡ pic «module» seg j) }
+        ensures others { IfSome result (λ id. (pic : Pictures) (block : ℕ → List ℕ) (k j : ℕ)
+            → k ≢ id.key → byte_at self.new pic block k j ≡ byte_at self.old pic block k j) }
     {
+        self.law();
         self.add(size, size, Some((module, seg)), attr)
     }
 

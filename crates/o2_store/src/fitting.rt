@@ -3,7 +3,7 @@ ghost use Rattle.std.specs.Prelude.{◌≡◌, ◌⊎◌, ℕ, ◌+◌, ◌<◌,
 ghost use Rattle.o2_place.specs.Layout.{find_in, used};
 ghost use Rattle.o2_compact.specs.Parts.{StayBut};
 ghost use Rattle.o2_store.specs.Shelf.{rounded};
-ghost use Rattle.o2_store.specs.Sizes.{Refits, Relengths};
+ghost use Rattle.o2_store.specs.Sizes.{Refits, Relengths, KeepsStarts};
 
 use o2_compact::open_gap;
 use o2_phys::Phys;
@@ -17,7 +17,8 @@ pub(crate) fn refit(phys: &mut Phys, places: &mut Places, key: u32, old: u32, ne
     requires sizes { (old ≤ 65536) × (0 < new) × (new ≤ 65536) }
     requires long { (at len : ℕ) → find_in places.old.ranges key ≡ Some (at, len) → len ≡ rounded old }
     requires room { IsSome (find_in places.old.ranges key) → used places.old.ranges + rounded new ≤ places.old.size + rounded old }
-    ensures { Refits phys.old places.old phys.new places.new key old new }
+    ensures refits { Refits phys.old places.old phys.new places.new key old new }
+    ensures in_place { rounded new ≤ rounded old → KeepsStarts places.old places.new }
 {
     let Some((_, was)) = places.find(key) else {
         return;
@@ -34,9 +35,13 @@ fn relength(phys: &mut Phys, places: &mut Places, key: u32, was: u32, len: u32)
     requires placed { (at : ℕ) × (find_in places.old.ranges key ≡ Some (at, was)) }
     requires some { 0 < len }
     requires room { used places.old.ranges + len ≤ places.old.size + was }
-    ensures { Relengths phys.old places.old phys.new places.new key len }
+    ensures relengths { Relengths phys.old places.old phys.new places.new key len }
+    ensures in_place { len ≤ was → KeepsStarts places.old places.new }
 {
     places.law();
+    if len == was {
+        return;
+    }
     if len < was {
         shorten(places, key, len);
         return;

@@ -11,7 +11,7 @@ ghost use Rattle.o2_store.specs.Leaving.{IsWrittenOut};
 ghost use Rattle.o2_store.specs.Loads.{swap_load, live_load_at};
 ghost use Rattle.o2_store.specs.Needs.{has, all_need, named_in};
 ghost use Rattle.o2_store.specs.Pictures.{picture};
-ghost use Rattle.o2_store.specs.Sizes.{Resizes, stays, all_wanted_at};
+ghost use Rattle.o2_store.specs.Sizes.{Resizes, KeepsStarts, stays, all_wanted_at};
 
 use crate::brought::Brought;
 use crate::fitting::refit;
@@ -33,6 +33,7 @@ impl Store {
         ensures map { all_of self.new.swap ≡ all_of self.old.swap }
         ensures presence { (k : ℕ) → is_some (place_of self.new k) ≡ is_some (place_of self.old k) }
         ensures others { (k : ℕ) → k ≢ key → slot_at self.new.entries k ≡ slot_at self.old.entries k }
+        ensures in_place { rounded size ≤ rounded (entry self.old key).size → KeepsStarts self.old.places self.new.places }
     {
         self.law();
         let Some(old) = self.entries.get(key) else {
@@ -60,6 +61,7 @@ impl Store {
         ensures others { (k : ℕ) → k ≢ key → is_some (place_of self.new k) ≡ is_some (place_of self.old k) }
         ensures still { used self.old.places.ranges + rounded size ≤ self.old.places.size + rounded (entry self.old key).size → IsSome (place_of self.new key) }
         ensures held { (result ≡ Brought.Here → ⊥) → IsSome (place_of self.new key) }
+        ensures in_place { rounded size ≤ rounded (entry self.old key).size → KeepsStarts self.old.places self.new.places }
         ensures written { (k : ℕ) → k ≢ key → IsSome (place_of self.old k) → place_of self.new k ≡ None
             → (entry self.old k).attr.clean ≡ false → IsWrittenOut self.old self.new k }
         ensures full { result ≡ Brought.SwapFull → IsFull self.new × (self.new.places.size + rounded (entry self.old key).size < used self.new.places.ranges + rounded size) }
@@ -117,6 +119,7 @@ impl Store {
             → (self.new ≡ record self.old { keys = self.new.keys }) × (swap.new ≡ swap.old) }
         ensures written { (k : ℕ) → k ≢ key → IsSome (place_of self.old k) → place_of self.new k ≡ None
             → (entry self.old k).attr.clean ≡ false → IsWrittenOut self.old self.new k }
+        ensures in_place { rounded size ≤ rounded (entry self.old key).size → KeepsStarts self.old.places self.new.places }
         ensures never { result ≡ Brought.Stale → ⊥ }
     {
         self.law();
@@ -159,6 +162,8 @@ impl Store {
         ensures held { (result ≡ Brought.Here → ⊥) → IsSome (place_of self.old id.key) → IsSome (place_of self.new id.key) }
         ensures written { (k : ℕ) → k ≢ id.key → IsSome (place_of self.old k) → place_of self.new k ≡ None
             → (entry self.old k).attr.clean ≡ false → IsWrittenOut self.old self.new k }
+
+        ensures in_place { rounded size ≤ rounded (entry self.old id.key).size → KeepsStarts self.old.places self.new.places }
 
         ensures outside { IsSome (entry_of self.old id) → place_of self.old id.key ≡ None → result ≡ Brought.Here }
         ensures rests { place_of self.old id.key ≡ None
@@ -230,6 +235,7 @@ impl Store {
         ensures cause { result ≡ Brought.SwapFault → Rose (S.faults swap.old) (S.faults swap.new) }
         ensures written { (k : ℕ) → k ≢ key → IsSome (place_of self.old k) → place_of self.new k ≡ None
             → (entry self.old k).attr.clean ≡ false → IsWrittenOut self.old self.new k }
+        ensures in_place { rounded size ≤ rounded (entry self.old key).size → KeepsStarts self.old.places self.new.places }
         ensures never { (result ≡ Brought.NoRoom → ⊥) × (result ≡ Brought.Stale → ⊥) }
     {
         self.law();

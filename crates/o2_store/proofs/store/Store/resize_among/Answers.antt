@@ -1,7 +1,8 @@
-use Rattle.std.proofs.Common.{◌≡◌, ◌+◌, ◌<◌, ◌≤◌, length, ap, ◌∙◌, is_some, arith}
+use Rattle.std.proofs.Common.{◌≡◌, ◌+◌, ◌<◌, ◌≤◌, length, ap, sym, subst, ◌∙◌, is_some, arith}
 use Rattle.o2_place.specs.Layout.{used}
 use Rattle.o2_store.specs.Needs.{all_need}
 use Rattle.o2_store.specs.Shelf.{Shelf, entry, rounded}
+use Rattle.o2_store.specs.Sizes.{start_in}
 use Rattle.o2_store.proofs.Leaving.{written_after}
 use Rattle.o2_store.proofs.Loads.{full_load, sized_load, same_swap_load, same_load_at}
 use Rattle.o2_store.proofs.Tables.{within_at}
@@ -22,6 +23,13 @@ returns-in-Here-clause-kept g c = λ k h i. c.set_size.ensures.presence k ∙ ap
 
 pub returns-in-Here-clause-written : goal.returns-in-Here-clause-written
 returns-in-Here-clause-written g c = written_after c.args.self.now c.evict_until-answer.new.self c.set_size.new.self c.args.key c.evict_until-answer.ensures.evicts c.set_size.ensures.presence c.set_size.ensures.others
+
+pub returns-in-Here-clause-in_place : goal.returns-in-Here-clause-in_place
+returns-in-Here-clause-in_place g c = λ q.
+    (let s = c.args.self.now in
+    let l : used s.places.ranges + c.saturating_sub-growth.result ≤ s.places.size = omega (arith, q, c.saturating_sub-growth.ensures, c.rounded_size.ensures.value, c.law.ensures.room) in
+    let e = c.evict_until-answer.ensures.enough l in
+    λ k. c.set_size.ensures.in_place (subst (λ (x : Shelf). rounded c.args.size ≤ rounded (entry x c.args.key).size) (sym e) q) k ∙ ap (λ (x : Shelf). start_in x.places k) e)
 
 pub returns-in_default : goal.returns-in_default
 returns-in_default g c =
@@ -59,6 +67,12 @@ returns-in_default g c =
       faults = v.ensures.faults;
       cause = v.ensures.cause;
       written = λ k d i n q. v.ensures.evicts.written k i n q;
+      in_place = λ q. absurd
+          (let l : used s.places.ranges + c.saturating_sub-growth.result ≤ s.places.size = omega (arith, q, grow, was, c.law.ensures.room) in
+          let e = v.ensures.enough l in
+          let f : used t.places.ranges ≡ used s.places.ranges = ap (λ (x : Shelf). used x.places.ranges) e in
+          let z : t.places.size ≡ s.places.size = ap (λ (x : Shelf). x.places.size) e in
+          omega (arith, l, f, z, v.ensures.short c.in_default.not-Here));
       never = (
         λ e.
             (let n = need_holds t t.keys c.law-2.ensures.shelf (v.ensures.no_room e) c.law-2.ensures.sum in

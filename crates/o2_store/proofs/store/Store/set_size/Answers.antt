@@ -42,7 +42,7 @@ invariant_of-self c =
       slot = slot;
       pos = c.requires.sizes.0;
       small = c.requires.sizes.1;
-      fits = c.refit.ensures;
+      fits = c.refit.ensures.refits;
       only = c.give.ensures.only;
       blocks = c.give.ensures.kept ∙ ap (λ (x : Entry). take (blocks_for x.kept) (blocks_of i.swap key)) q;
     } in
@@ -64,7 +64,7 @@ returns-clause-resizes c =
       slot = slot;
       pos = c.requires.sizes.0;
       small = c.requires.sizes.1;
-      fits = c.refit.ensures;
+      fits = c.refit.ensures.refits;
       only = c.give.ensures.only;
       blocks = c.give.ensures.kept ∙ ap (λ (x : Entry). take (blocks_for x.kept) (blocks_of i.swap key)) q;
     } in
@@ -83,7 +83,7 @@ returns-clause-clean c =
       slot = slot;
       pos = c.requires.sizes.0;
       small = c.requires.sizes.1;
-      fits = c.refit.ensures;
+      fits = c.refit.ensures.refits;
       only = c.give.ensures.only;
       blocks = c.give.ensures.kept ∙ ap (λ (x : Entry). take (blocks_for x.kept) (blocks_of i.swap key)) q;
     } in
@@ -92,4 +92,4 @@ returns-clause-clean c =
 pub returns-clause-presence : goal.returns-clause-presence
 returns-clause-presence c =
     let i = c.self.inside in
-    rw (← c.self.view_is) (λ k. fit_presence i.phys i.places c.refit.new.phys c.refit.new.places c.args.key c.in-Some.old.size c.args.size k c.refit.ensures)
+    rw (← c.self.view_is) (λ k. fit_presence i.phys i.places c.refit.new.phys c.refit.new.places c.args.key c.in-Some.old.size c.args.size k c.refit.ensures.refits)
