@@ -1,5 +1,5 @@
 -- What the descriptors of processes say of the segments that they hold.
-use Rattle.std.specs.Prelude.{◌≡◌, ℕ, ◌-◌, ◌*◌, ◌/◌, Option, Some, None, is_some, slice_index_or}
+use Rattle.std.specs.Prelude.{◌≡◌, ℕ, ◌+◌, ◌*◌, ◌/◌, Option, Some, None, is_some, slice_index_or}
 use Rattle.o2_desc.specs.declared.descriptor.Descriptor.{Descriptor}
 use Rattle.o2_desc.specs.Bits.{with_present, rights_of}
 use Rattle.o2_desc.specs.Bytes.{empty}
@@ -20,7 +20,7 @@ unmarked access = access / 2 * 2
 -- with any accessed bit; the base is the address of its first byte, 0 where it has none, and the limit its size less 1
 pub record Describes (place : Option (ℕ × ℕ)) (size rights : ℕ) (d : Descriptor) : Type 0 where
   pub base : d.base ≡ start_of place
-  pub limit : d.limit ≡ size - 1
+  pub limit : d.limit + 1 ≡ size
   pub access : unmarked d.access ≡ with_present rights (is_some place)
 
 -- the descriptor of a process's index
