@@ -1,2 +1,12 @@
 pub mod Settled
+pub mod Registers
+pub mod Words
 pub mod Seen
+pub mod Kept
+pub mod Bus
+pub mod Props
+pub mod Opening
+pub mod Marking
+pub mod Sized
+pub mod Guards
+pub mod Frames

@@ -1,2 +1,15 @@
 //! The processor's bus over a store of segments and the descriptor tables of the processes that hold them.
 #![tactic(auto)]
+
+mod access;
+mod bus;
+mod marking;
+mod opening;
+mod registers;
+mod rules;
+mod seg_bus;
+mod step;
+
+pub use registers::{SegmentRegister, SegmentRegisters};
+pub use seg_bus::SegBus;
+pub use step::attempt;

@@ -1,0 +1,10 @@
+pub mod Parts
+pub mod Bits
+pub mod Holds
+pub mod Readings
+pub mod Rulings
+pub mod Marked
+pub mod Writings
+pub mod Told
+pub mod Attempts
+pub mod Cleans

@@ -1,0 +1,69 @@
+// How a bus is made.
+ghost use Rattle.std.specs.Prelude.{◌≡◌};
+ghost use Rattle.o2_isa.specs.View.{IsBound};
+ghost use Rattle.o2_regions.specs.Maps.{IsProcess};
+ghost use Rattle.o2_segbus.specs.Settled.{IsSettled};
+ghost use Rattle.o2_segbus.specs.Seen.{AreNamed, seen};
+ghost use Rattle.o2_segbus.specs.Opening.{opened_registers};
+
+use crate::rules::loaded;
+use crate::{SegBus, SegmentRegister, SegmentRegisters};
+use o2_isa::Cpu;
+use o2_regions::Regions;
+use o2_store::Store;
+
+/// The segment registers of a processor, with the descriptors that their selectors name.
+fn registers_for(regions: &Regions, pid: u16, cpu: &Cpu) -> SegmentRegisters
+    requires { IsProcess regions.now pid }
+    ensures { result ≡ opened_registers regions.now pid cpu.now }
+{
+    SegmentRegisters {
+        es: SegmentRegister {
+            selector: cpu.es,
+            descriptor: loaded(regions, pid, cpu.es),
+        },
+        cs: SegmentRegister {
+            selector: cpu.cs,
+            descriptor: loaded(regions, pid, cpu.cs),
+        },
+        ss: SegmentRegister {
+            selector: cpu.ss,
+            descriptor: loaded(regions, pid, cpu.ss),
+        },
+        ds: SegmentRegister {
+            selector: cpu.ds,
+            descriptor: loaded(regions, pid, cpu.ds),
+        },
+    }
+}
+
+impl<'s, 'r> SegBus<'s, 'r> {
+    /// The bus of a process whose processor has these registers. The descriptors agree with the store, each held segment is
+    /// live, and what the segment registers name is in memory.
+    pub fn new(
+        store: &'s mut Store,
+        regions: &'r mut Regions,
+        pid: u16,
+        cpu: &Cpu,
+    ) -> SegBus<'s, 'r>
+        requires process { IsProcess regions.old pid }
+        requires named { AreNamed store.old regions.old }
+        requires settled { IsSettled store.old regions.old }
+        requires bound { IsBound (seen store.old regions.old pid cpu.now) }
+        ensures same_store { result.store.ghost_name ≡ store.entry.ghost_name }
+        ensures same_regions { result.regions.ghost_name ≡ regions.entry.ghost_name }
+        ensures store { result.store.now ≡ store.old }
+        ensures regions { result.regions.now ≡ regions.old }
+        ensures pid { result.pid ≡ pid }
+        ensures registers { result.registers ≡ opened_registers regions.old pid cpu.now }
+    {
+        store.law();
+        let registers = registers_for(regions, pid, cpu);
+        SegBus {
+            store,
+            regions,
+            pid,
+            registers,
+        }
+    }
+}
