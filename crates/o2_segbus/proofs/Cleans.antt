@@ -21,6 +21,7 @@ use Rattle.o2_segbus.specs.Seen.{AreNamed, key_of, hold_in, hold_of, bytes_in, b
 use Rattle.o2_segbus.specs.Bus.{held_under}
 use Rattle.o2_segbus.specs.Frames.{KeepsStore}
 use Rattle.o2_segbus.specs.Guards.{AreAged, AreGuarded}
+use Rattle.o2_segbus.proofs.Ages.{aged_key}
 use Rattle.o2_segbus.proofs.Holds.{bound_is, under_at}
 
 -- what a register of a processor holds as data that can be written is held by the process, with these rights
@@ -94,7 +95,7 @@ clean_memory s memory m m' pid c c' pic w n g a h = record { bytes = λ k at len
   where
     at_byte : (k at len j : ℕ) → (entry s k).attr.clean ≡ true → place_of s k ≡ Some (at, len) → j < (entry s k).size → get_or memory (at + j) 0 ≡ get_or s.memory (at + j) 0
     at_byte k at len j clean p l =
-        let own : key_of s (entry s k).age ≡ Some k = a k (clean_some (slot_at s.entries k) clean) in
+        let own : key_of s (entry s k).age ≡ Some k = aged_key s k a (clean_some (slot_at s.entries k) clean) in
         elim (w (entry s k).age) [
           | inl e ↦ same_byte s memory k at len j own p l e
           | inr q ↦ absurd (false≢true (sym (not_clean s m pid k n g own (held_writable s m pid (entry s k).age c q)) ∙ clean))

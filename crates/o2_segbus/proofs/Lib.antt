@@ -7,4 +7,5 @@ pub mod Marked
 pub mod Writings
 pub mod Told
 pub mod Attempts
+pub mod Ages
 pub mod Cleans

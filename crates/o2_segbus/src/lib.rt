@@ -3,6 +3,7 @@
 
 mod access;
 mod bus;
+mod laws;
 mod marking;
 mod opening;
 mod registers;
@@ -10,6 +11,7 @@ mod rules;
 mod seg_bus;
 mod step;
 
+pub use laws::ages_are_names;
 pub use registers::{SegmentRegister, SegmentRegisters};
 pub use seg_bus::SegBus;
 pub use step::attempt;
