@@ -1,5 +1,5 @@
 -- A segment is found by its age.
-use Rattle.std.proofs.Common.{◌≡◌, ◌≢◌, ◌⊎◌, inl, inr, ◌<◌, ◌≤◌, ◌+◌, ◌*◌, ◌/◌, refl, sym, ◌∙◌, ap, subst, ℕ, zero, suc, Bool, true, false, cond, ◌==◌, List, [], ◌∷◌, length, get_or, set, arith, IsSome}
+use Rattle.std.proofs.Common.{◌≡◌, ◌≢◌, inl, inr, ◌<◌, ◌≤◌, ◌+◌, refl, sym, ◌∙◌, ap, subst, ℕ, zero, suc, Bool, true, false, cond, ◌==◌, List, [], ◌∷◌, length, set, arith, IsSome}
 use Rattle.std.specs.Prelude.{Option, Some, None, is_some}
 use Rattle.std.proofs.lemmas.Bool.{false≢true, eqb-true, eq-eqb, cases_lt, cases_eq}
 use Rattle.std.proofs.lemmas.List.{get_or_past, get_or-set_other, get_or-set_same, length-set}
@@ -9,7 +9,7 @@ use Rattle.o2_place.specs.declared.seg_id.SegId.{SegId}
 use Rattle.o2_regions.specs.declared.held.Held.{Held}
 use Rattle.o2_regions.specs.Maps.{Maps, held_at}
 use Rattle.o2_store.specs.Needs.{has_age}
-use Rattle.o2_store.specs.Shelf.{Shelf, IsShelf, SameEntry, SameTables, Adds, Removes, entry, entry_of, entry_or, aged}
+use Rattle.o2_store.specs.Shelf.{Shelf, IsShelf, SameEntry, SameTables, Adds, Removes, entry, entry_or, aged}
 use Rattle.o2_segbus.specs.Seen.{key_of, number_from, AreNamed}
 use Rattle.o2_segbus.specs.Guards.{AreAged, AreLive}
 

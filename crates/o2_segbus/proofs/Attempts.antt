@@ -1,10 +1,9 @@
 -- From the view of a bus to what its store and its tables hold.
-use Rattle.std.proofs.Common.{◌≡◌, ◌⊎◌, inl, inr, refl, sym, ◌∙◌, ap, subst, ℕ, ◌+◌, ◌*◌, ◌/◌, ◌≤◌, Bool, true, false, List, [], length, get_or, arith}
+use Rattle.std.proofs.Common.{◌≡◌, ◌⊎◌, inl, inr, refl, sym, ◌∙◌, ap, subst, ℕ, true, false, List, [], length, arith}
 use Rattle.std.specs.Prelude.{Option, Some, None, is_some, option_map}
 use Rattle.std.specs.Borrow.{GName}
 use Rattle.o2_desc.specs.declared.descriptor.Descriptor.{Descriptor}
 use Rattle.o2_desc.specs.Bits.{rights_of, with_present}
-use Rattle.o2_desc.specs.Bytes.{empty}
 use Rattle.o2_isa.specs.declared.cpu.Cpu.{Cpu}
 use Rattle.o2_isa.specs.declared.cpu.Outcome.{Outcome}
 use Rattle.o2_isa.specs.declared.instr.Sreg.{Sreg}
@@ -17,14 +16,13 @@ use Rattle.o2_regions.specs.declared.held.Held.{Held}
 use Rattle.o2_regions.specs.Maps.{Maps, held_at, IsProcess}
 use Rattle.o2_store.specs.Shelf.{Shelf, entry, place_of}
 use Rattle.o2_segbus.specs.declared.registers.SegmentRegisters.{SegmentRegisters}
-use Rattle.o2_segbus.specs.Settled.{Describes, IsSettled, IsSettledAt, descriptor_at, unmarked, start_of}
+use Rattle.o2_segbus.specs.Settled.{IsSettled, IsSettledAt, descriptor_at, unmarked, start_of}
 use Rattle.o2_segbus.specs.Seen.{AreNamed, hold_in, hold_of, size_in, present_in, bytes_in, seen_with, seen, seen_state}
 use Rattle.o2_segbus.specs.Bus.{AreLoaded, AreInside, registers_of, bus_view}
-use Rattle.o2_segbus.specs.Kept.{planes}
 use Rattle.o2_segbus.specs.Registers.{register_in}
 use Rattle.o2_segbus.specs.Frames.{KeepsStore, KeepsMaps}
 use Rattle.o2_segbus.proofs.Told.{SameTold, told}
-use Rattle.o2_segbus.proofs.Holds.{IsPart, HasPart, part_at, part_present}
+use Rattle.o2_segbus.proofs.Holds.{IsPart, part_at, part_present}
 
 -- what the frame says of store and tables, and that the bus holds the same references
 pub record Framed (g g' t t' : GName) (s s' : Shelf) (m m' : Maps) (pid pid' : ℕ) : Type 0 where

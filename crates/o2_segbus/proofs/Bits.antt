@@ -1,5 +1,5 @@
 -- What an access byte allows doesn't depend on its accessed and present bits.
-use Rattle.std.proofs.Common.{◌≡◌, refl, sym, ap, ◌∙◌, ℕ, ◌+◌, ◌*◌, ◌/◌, ◌%◌, Bool, true, false, arith}
+use Rattle.std.proofs.Common.{◌≡◌, refl, ap, ℕ, ◌/◌, ◌%◌, Bool, true, false, arith}
 use Rattle.std.specs.Prelude.{◌==◌}
 use Rattle.o2_desc.specs.Bits.{has_bit, marked, with_present, rights_of, is_present, is_code, is_readable, is_writable}
 use Rattle.o2_isa.specs.View.{shown_rights}

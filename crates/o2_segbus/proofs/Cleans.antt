@@ -1,6 +1,6 @@
 -- A step leaves clean segments as they are.
-use Rattle.std.proofs.Common.{◌≡◌, ◌⊎◌, inl, inr, ◌<◌, ◌≤◌, ◌+◌, ◌*◌, ◌/◌, refl, sym, ◌∙◌, ap, subst, ℕ, Bool, true, false, cond, List, length, get_or, arith, IsSome}
-use Rattle.std.specs.Prelude.{Option, Some, None, option_map, is_some}
+use Rattle.std.proofs.Common.{◌≡◌, inl, inr, ◌<◌, ◌+◌, ◌/◌, refl, sym, ◌∙◌, ap, subst, ℕ, true, false, List, get_or, IsSome}
+use Rattle.std.specs.Prelude.{Option, Some, None, option_map}
 use Rattle.std.proofs.lemmas.Bool.{false≢true}
 use Rattle.o2_desc.specs.Bits.{is_writable, rights_of}
 use Rattle.o2_entries.specs.declared.Entry.{Entry}
@@ -10,12 +10,12 @@ use Rattle.o2_phys.proofs.Parts.{get-part}
 use Rattle.o2_isa.specs.declared.cpu.Cpu.{Cpu}
 use Rattle.o2_isa.specs.declared.instr.Sreg.{Sreg}
 use Rattle.o2_isa.specs.declared.instr.Sreg.TheVariants.{Es, Cs, Ss, Ds}
-use Rattle.o2_isa.specs.View.{View, Hold, bound_in, in_register, bound_registers}
+use Rattle.o2_isa.specs.View.{Hold, bound_in, in_register, bound_registers}
 use Rattle.o2_isa.specs.Registers.{sreg}
 use Rattle.o2_isa.specs.Writes.{HoldsAsWritable, WritesData}
 use Rattle.o2_regions.specs.declared.held.Held.{Held}
 use Rattle.o2_regions.specs.Maps.{Maps, held_at}
-use Rattle.o2_store.specs.Shelf.{Shelf, AreClean, Pictures, entry, entry_or, place_of, out_byte}
+use Rattle.o2_store.specs.Shelf.{Shelf, AreClean, Pictures, entry, entry_or, place_of}
 use Rattle.o2_segbus.specs.Settled.{descriptor_at}
 use Rattle.o2_segbus.specs.Seen.{AreNamed, key_of, hold_in, hold_of, bytes_in, bytes_under, bytes_from, seen_with, seen}
 use Rattle.o2_segbus.specs.Bus.{held_under}

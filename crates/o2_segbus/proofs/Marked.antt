@@ -1,5 +1,5 @@
 -- An accessed bit changes nothing that the bus shows.
-use Rattle.std.proofs.Common.{◌≡◌, ◌≢◌, ◌⊎◌, inl, inr, ◌≤◌, ◌<◌, ◌+◌, ◌/◌, refl, sym, ap, subst, ◌∙◌, ℕ, Bool, true, false, cond, ◌==◌, List, [], length, get_or, set, arith, IsSome}
+use Rattle.std.proofs.Common.{◌≡◌, ◌⊎◌, inl, inr, ◌/◌, refl, sym, ap, subst, ◌∙◌, ℕ, Bool, true, false, cond, List, [], length, get_or, set, arith, IsSome}
 use Rattle.std.specs.Prelude.{Option, Some, None, option_map, is_some}
 use Rattle.std.specs.Borrow.{GName}
 use Rattle.std.proofs.lemmas.Bool.{cases_lt, cases_eq, false≢true}
@@ -10,19 +10,17 @@ use Rattle.o2_desc.specs.Bits.{marked, rights_of, with_present}
 use Rattle.o2_desc.specs.Bytes.{empty, mark_at}
 use Rattle.o2_isa.specs.declared.instr.Sreg.{Sreg}
 use Rattle.o2_isa.specs.declared.instr.Sreg.TheVariants.{Es, Cs, Ss, Ds}
-use Rattle.o2_isa.specs.View.{View, Hold, Registers, bound_in, with_register, bind, is_null, is_local, built_gates, no_rest, no_hidden, found_in, is_loadable}
-use Rattle.o2_isa.specs.Steps.{selector}
+use Rattle.o2_isa.specs.View.{View, Hold, Registers, bound_in, with_register, bind, is_null, is_local, built_gates, no_rest, found_in, is_loadable}
 use Rattle.o2_base.specs.declared.selector.Selector.{Selector}
 use Rattle.o2_regions.specs.declared.held.Held.{Held}
-use Rattle.o2_regions.specs.Lending.{with_table}
 use Rattle.o2_regions.specs.Maps.{Maps, held_at, table_of, IsProcess}
-use Rattle.o2_store.specs.Shelf.{Shelf, entry, place_of}
+use Rattle.o2_store.specs.Shelf.{Shelf, place_of}
 use Rattle.o2_segbus.specs.declared.registers.SegmentRegister.{SegmentRegister}
 use Rattle.o2_segbus.specs.declared.registers.SegmentRegisters.{SegmentRegisters}
 use Rattle.o2_segbus.specs.Registers.{with_register_in}
-use Rattle.o2_segbus.specs.Settled.{Describes, IsSettled, IsSettledAt, descriptor_at}
+use Rattle.o2_segbus.specs.Settled.{IsSettled, IsSettledAt, descriptor_at}
 use Rattle.o2_segbus.specs.Seen.{hold_in, hold_of, seen_with, size_in, present_in, bytes_in, AreNamed}
-use Rattle.o2_segbus.specs.Bus.{held_under, IsLoadedAs, IsLoaded, AreLoaded, registers_of, bus_rest, bus_hidden, bus_view}
+use Rattle.o2_segbus.specs.Bus.{held_under, IsLoadedAs, IsLoaded, AreLoaded, registers_of, bus_hidden, bus_view}
 use Rattle.o2_segbus.specs.Marking.{with_mark, with_mark_of}
 use Rattle.o2_segbus.proofs.Bits.{unmarked_marked, rights_marked}
 use Rattle.o2_segbus.specs.Words.{loaded_descriptor}

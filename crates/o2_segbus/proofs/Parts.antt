@@ -1,10 +1,10 @@
 -- Bytes of a part of the memory, read and written.
-use Rattle.std.proofs.Common.{◌≡◌, ◌⊎◌, inl, inr, refl, sym, ap, subst, ◌∙◌, ℕ, zero, suc, ◌+◌, ◌-◌, ◌*◌, ◌<◌, ◌≤◌, ◌%◌, ◌/◌, List, [], ◌∷◌, ◌++◌, length, set, get_or, take, drop, arith}
+use Rattle.std.proofs.Common.{◌≡◌, ◌⊎◌, inl, inr, refl, sym, ap, ◌∙◌, ℕ, zero, suc, ◌+◌, ◌-◌, ◌*◌, ◌<◌, ◌≤◌, ◌%◌, ◌/◌, List, [], ◌∷◌, ◌++◌, length, set, get_or, take, drop, arith}
 use Rattle.std.proofs.Math.Seq.{take-set-lt}
-use Rattle.std.proofs.lemmas.List.{length-set, take-set-le, drop-set-lt, drop-set-add, take_all, take-append-drop}
+use Rattle.std.proofs.lemmas.List.{take-set-le, drop-set-lt, drop-set-add}
 use Rattle.std.proofs.Math.Seq.{take-length}
 use Rattle.o2_phys.specs.Bytes.{part, with_part}
-use Rattle.o2_phys.proofs.Parts.{length-part, get-part}
+use Rattle.o2_phys.proofs.Parts.{get-part}
 use Rattle.o2_isa.specs.declared.instr.Width.{Width}
 use Rattle.o2_isa.specs.declared.instr.Width.TheVariants.{Byte, Word}
 use Rattle.o2_isa.specs.View.{width_len, value_at, put_at}

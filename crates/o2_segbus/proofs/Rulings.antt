@@ -1,5 +1,5 @@
 -- The load rules over descriptors are those of the view.
-use Rattle.std.proofs.Common.{◌≡◌, ◌+◌, ◌/◌, ◌%◌, refl, sym, ap, subst, ◌∙◌, ℕ, Bool, true, false, cond, ◌==◌, ◌||◌}
+use Rattle.std.proofs.Common.{◌≡◌, ◌+◌, ◌%◌, refl, sym, ap, ◌∙◌, ℕ, Bool, true, false, cond, ◌==◌, ◌||◌}
 use Rattle.std.specs.Prelude.{Option, Some, None, option_map}
 use Rattle.std.specs.Borrow.{GName}
 use Rattle.std.proofs.lemmas.Bool.{false≢true}
@@ -10,7 +10,7 @@ use Rattle.o2_isa.specs.declared.cpu.Purpose.{Purpose}
 use Rattle.o2_isa.specs.declared.cpu.Purpose.TheVariants.{DataReg, StackReg, Jump, Call, Return}
 use Rattle.o2_isa.specs.declared.cpu.Loaded.{Loaded}
 use Rattle.o2_isa.specs.declared.cpu.Loaded.TheVariants as loaded
-use Rattle.o2_isa.specs.View.{View, Hold, is_code, is_readable, is_writable, is_null, is_local, refused, trap_of, here, when, called, through_gate, gate_at, load_rules, probe_of, found, found_in, bound_in, size_at, rights_at, rights_or_gate, shown_rights, present_hold, present_or_none, is_loadable}
+use Rattle.o2_isa.specs.View.{View, Hold, is_code, is_readable, is_writable, is_null, refused, trap_of, when, called, through_gate, gate_at, load_rules, probe_of, found_in, size_at, rights_at, rights_or_gate, present_hold, present_or_none, is_loadable}
 use Rattle.o2_regions.specs.Maps.{Maps}
 use Rattle.o2_store.specs.Shelf.{Shelf}
 use Rattle.o2_segbus.specs.declared.registers.SegmentRegisters.{SegmentRegisters}

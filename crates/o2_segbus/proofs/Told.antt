@@ -1,12 +1,10 @@
 -- The lists of numbers tell the tables of a store and of the maps of processes.
-use Rattle.std.proofs.Common.{◌≡◌, ◌+◌, ◌<◌, refl, sym, ap, ◌∙◌, ℕ, Bool, true, false, List, [], ◌∷◌, length, get_or, map, arith}
+use Rattle.std.proofs.Common.{◌≡◌, refl, sym, ap, ◌∙◌, ℕ, Bool, true, false, List, [], ◌∷◌, length, get_or, map, arith}
 use Rattle.std.specs.Prelude.{Option, Some, None}
 use Rattle.std.proofs.lemmas.List.{ext_get_or}
 use Rattle.o2_entries.specs.declared.Entry.{Entry}
-use Rattle.o2_entries.specs.declared.Attr.{Attr}
 use Rattle.o2_place.specs.declared.ranges.Range.{Range}
 use Rattle.o2_place.specs.declared.clock.Mark.{Mark}
-use Rattle.o2_place.specs.declared.seg_id.SegId.{SegId}
 use Rattle.o2_place.specs.Layout.{Layout}
 use Rattle.o2_place.specs.Marks.{Turns}
 use Rattle.o2_swapmap.specs.Piles.{Blocks}

@@ -1,5 +1,5 @@
 -- A write through the hidden part of a register is one of the view.
-use Rattle.std.proofs.Common.{◌≡◌, ◌≢◌, ◌⊎◌, inl, inr, ◌≤◌, ◌<◌, ◌+◌, ◌*◌, ◌/◌, refl, sym, ap, subst, ◌∙◌, ℕ, Bool, true, false, cond, ◌==◌, List, [], ◌∷◌, length, arith}
+use Rattle.std.proofs.Common.{◌≡◌, ◌≢◌, ◌⊎◌, inl, inr, ◌≤◌, ◌+◌, refl, sym, ap, subst, ◌∙◌, ℕ, Bool, true, false, cond, ◌==◌, List, [], ◌∷◌, length, arith}
 use Rattle.std.specs.Prelude.{Option, Some, None, Result, Ok, Err, IsOk, nat_le}
 use Rattle.std.specs.Borrow.{GName}
 use Rattle.std.proofs.lemmas.Bool.{false≢true, eqb-true, eq-eqb, leb-true}
@@ -10,16 +10,16 @@ use Rattle.o2_phys.specs.Bytes.{part}
 use Rattle.o2_isa.specs.declared.instr.Width.{Width}
 use Rattle.o2_isa.specs.declared.instr.Width.TheVariants.{Byte, Word}
 use Rattle.o2_isa.specs.declared.instr.Sreg.{Sreg}
-use Rattle.o2_isa.specs.View.{View, Hold, Rest, is_writable, in_register, reached, room_of, poke, poke_hold, with_bytes, put_at, width_len, outside, no_rest}
+use Rattle.o2_isa.specs.View.{View, Hold, is_writable, in_register, reached, room_of, poke, poke_hold, with_bytes, put_at, width_len, outside}
 use Rattle.o2_isa.proofs.Pokes.{length_put_at}
 use Rattle.o2_regions.specs.Maps.{Maps}
 use Rattle.o2_store.specs.Needs.{has_age}
-use Rattle.o2_store.specs.Shelf.{Shelf, IsShelf, entry, place_of, rounded}
+use Rattle.o2_store.specs.Shelf.{Shelf, IsShelf, entry, place_of}
 use Rattle.o2_store.proofs.Tables.{placed_at, sized_at}
 use Rattle.o2_segbus.specs.declared.registers.SegmentRegisters.{SegmentRegisters}
 use Rattle.o2_segbus.specs.Registers.{register_in}
 use Rattle.o2_segbus.specs.Seen.{key_of, number_from, bytes_in, bytes_under, bytes_from, seen_with, AreNamed}
-use Rattle.o2_segbus.specs.Bus.{AreLoaded, AreInside, registers_of, bus_rest, bus_view}
+use Rattle.o2_segbus.specs.Bus.{AreLoaded, AreInside, registers_of, bus_view}
 use Rattle.o2_segbus.proofs.Parts.{put_part, put_other}
 use Rattle.o2_segbus.proofs.Holds.{IsPart, HasPart, part_at, part_bytes}
 use Rattle.o2_phys.proofs.Parts.{length-part}

@@ -1,10 +1,9 @@
 -- What a bus over a store and over the tables of processes shows, and what always holds of it.
-use Rattle.std.specs.Prelude.{◌≡◌, ℕ, ◌+◌, ◌≤◌, ◌/◌, ◌^◌, Bool, true, false, List, [], length, Option, Some, None, is_some, slice_index_or, if◌then◌else◌}
+use Rattle.std.specs.Prelude.{◌≡◌, ℕ, ◌+◌, ◌≤◌, ◌/◌, ◌^◌, true, [], length, Option, Some, None, is_some, slice_index_or, if◌then◌else◌}
 use Rattle.std.specs.Borrow.{GName}
 use Rattle.o2_desc.specs.declared.descriptor.Descriptor.{Descriptor}
 use Rattle.o2_desc.specs.Bits.{rights_of}
-use Rattle.o2_isa.specs.declared.cpu.Cpu.{Cpu}
-use Rattle.o2_isa.specs.View.{View, Hold, Registers, Rest, Hidden, bound_in, is_null, is_local, no_rest, no_hidden}
+use Rattle.o2_isa.specs.View.{View, Registers, Rest, Hidden, bound_in, is_null, is_local, no_rest, no_hidden}
 use Rattle.o2_isa.specs.Presence.{with_unseen}
 use Rattle.o2_regions.specs.declared.held.Held.{Held}
 use Rattle.o2_regions.specs.Maps.{Maps, held_at}

@@ -1,5 +1,5 @@
 -- The tables of a store and of the maps of processes, without the memory and the descriptors, as lists of numbers.
-use Rattle.std.specs.Prelude.{◌≡◌, ℕ, ◌+◌, Bool, true, false, List, [], ◌∷◌, length, map, Option, Some, None}
+use Rattle.std.specs.Prelude.{ℕ, Bool, true, false, List, [], ◌∷◌, length, map, Option, Some, None}
 use Rattle.o2_entries.specs.declared.Entry.{Entry}
 use Rattle.o2_place.specs.declared.ranges.Range.{Range}
 use Rattle.o2_place.specs.declared.clock.Mark.{Mark}

@@ -1,12 +1,12 @@
 -- What a bus always keeps has one proof at most.
-use Rattle.std.specs.Prelude.{◌≡◌, ℕ, Option, Some, None}
+use Rattle.std.specs.Prelude.{ℕ, Option, Some, None}
 use Rattle.std.proofs.Props.{props}
 use Rattle.o2_desc.specs.declared.descriptor.Descriptor.{Descriptor}
 use Rattle.o2_regions.specs.declared.held.Held.{Held}
-use Rattle.o2_regions.specs.Maps.{Maps, held_at}
+use Rattle.o2_regions.specs.Maps.{Maps}
 use Rattle.o2_store.specs.Shelf.{Shelf}
 use Rattle.o2_segbus.specs.declared.registers.SegmentRegisters.{SegmentRegisters}
-use Rattle.o2_segbus.specs.Settled.{IsSettledAt, IsSettled, descriptor_at}
+use Rattle.o2_segbus.specs.Settled.{IsSettledAt, IsSettled}
 use Rattle.o2_segbus.specs.Seen.{AreNamed}
 use Rattle.o2_segbus.specs.Bus.{IsLoadedAs, AreLoaded, AreInside}
 

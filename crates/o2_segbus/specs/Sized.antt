@@ -1,5 +1,5 @@
 -- The sizes of the segments of a bus.
-use Rattle.std.proofs.Common.{◌≡◌, ◌≤◌, ◌+◌, refl, sym, ap, subst, ◌∙◌, ℕ, Bool, true, false, List, [], length, arith}
+use Rattle.std.proofs.Common.{◌≡◌, ◌≤◌, refl, ap, subst, ℕ, true, length, arith}
 use Rattle.std.specs.Prelude.{Option, Some, None, is_some, option_map}
 use Rattle.std.proofs.lemmas.Bool.{false≢true}
 use Rattle.o2_isa.specs.View.{Hold}

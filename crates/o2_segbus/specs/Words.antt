@@ -1,6 +1,5 @@
 -- Loads and accesses, by descriptors alone.
-use Rattle.std.specs.Prelude.{◌≡◌, ℕ, ◌+◌, ◌%◌, ◌/◌, ◌==◌, Bool, true, nat_le, length, ◌≤◌, List, [], take, drop, Option, Some, None, Result, Ok, Err, if◌then◌else◌}
-use Rattle.o2_base.specs.declared.selector.Selector.{Selector}
+use Rattle.std.specs.Prelude.{◌≡◌, ℕ, ◌+◌, ◌%◌, ◌/◌, ◌==◌, Bool, true, nat_le, length, ◌≤◌, List, [], Option, Some, None, Result, Ok, Err, if◌then◌else◌}
 use Rattle.o2_desc.specs.declared.descriptor.Descriptor.{Descriptor}
 use Rattle.o2_desc.specs.Bits.{is_present, call_gate}
 use Rattle.o2_desc.specs.Bytes.{empty}

@@ -1,6 +1,5 @@
-use Rattle.std.proofs.Common.{◌≡◌, ap, ◌∙◌, List, ℕ, length, arith}
+use Rattle.std.proofs.Common.{ap, ◌∙◌, List, ℕ, length, arith}
 use Rattle.o2_phys.proofs.Parts.{length-part}
-use Rattle.o2_store.specs.Shelf.{Shelf}
 use Rattle.o2_segbus.proofs.Parts.{written}
 use Rattle.o2_segbus.proofs.access.write.Goals as goal
 

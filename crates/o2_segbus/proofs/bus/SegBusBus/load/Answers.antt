@@ -1,4 +1,4 @@
-use Rattle.std.proofs.Common.{◌≡◌, ap, sym, subst, ◌∙◌}
+use Rattle.std.proofs.Common.{ap, sym, subst, ◌∙◌}
 use Rattle.o2_desc.specs.declared.descriptor.Descriptor.{Descriptor}
 use Rattle.o2_regions.specs.Maps.{Maps}
 use Rattle.o2_segbus.specs.declared.registers.SegmentRegisters.{SegmentRegisters}

@@ -1,4 +1,4 @@
-use Rattle.std.proofs.Common.{ap, ◌∙◌, ℕ}
+use Rattle.std.proofs.Common.{ap, ◌∙◌}
 use Rattle.std.specs.Prelude.{Option, Some, None}
 use Rattle.o2_desc.specs.declared.descriptor.Descriptor.{Descriptor}
 use Rattle.o2_segbus.specs.Words.{rights_by, service_at}

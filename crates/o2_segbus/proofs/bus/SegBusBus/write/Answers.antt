@@ -1,4 +1,4 @@
-use Rattle.std.proofs.Common.{◌≡◌, ap, sym, subst, ◌∙◌, ◌+◌, arith, ℕ}
+use Rattle.std.proofs.Common.{ap, sym, subst, ◌∙◌, ◌+◌, arith}
 use Rattle.o2_desc.specs.declared.descriptor.Descriptor.{Descriptor}
 use Rattle.o2_isa.specs.View.{in_register, put_at}
 use Rattle.o2_store.specs.Shelf.{Shelf}
