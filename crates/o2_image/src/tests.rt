@@ -1,272 +1,298 @@
-ghost use Rattle.std.specs.Prelude.{◌≤◌, vec_len};
-
 use super::*;
-use o2_base::{Bytes, Fail as ReadFail};
-use std::alloc::AllocError;
+use o2_base::{Bytes, Fail as ReadFail, NoMemory};
+use std::alloc::{AllocError, Global};
 use std::test::Fail;
 
-// A program that writes `hello` by DosWrite and ends by DosExit: code of 25 bytes at B0h with two records behind it, and
-// data of 5 bytes at E0h.
-static HELLO: [u8; 229] = [
-    0x4d, 0x5a, 0x00, 0x00, 0x00, 0x00, 0x00, 0x00, 0x00, 0x00, 0x00, 0x00, 0x00, 0x00, 0x00, 0x00,
-    0x00, 0x00, 0x00, 0x00, 0x00, 0x00, 0x00, 0x00, 0x00, 0x00, 0x00, 0x00, 0x00, 0x00, 0x00, 0x00,
-    0x00, 0x00, 0x00, 0x00, 0x00, 0x00, 0x00, 0x00, 0x00, 0x00, 0x00, 0x00, 0x00, 0x00, 0x00, 0x00,
-    0x00, 0x00, 0x00, 0x00, 0x00, 0x00, 0x00, 0x00, 0x00, 0x00, 0x00, 0x00, 0x40, 0x00, 0x00, 0x00,
-    0x4e, 0x45, 0x00, 0x00, 0x5b, 0x00, 0x00, 0x00, 0x00, 0x00, 0x00, 0x00, 0x02, 0x00, 0x02, 0x00,
-    0x00, 0x00, 0x00, 0x02, 0x00, 0x00, 0x01, 0x00, 0x00, 0x00, 0x02, 0x00, 0x02, 0x00, 0x01, 0x00,
-    0x00, 0x00, 0x40, 0x00, 0x00, 0x00, 0x50, 0x00, 0x59, 0x00, 0x5b, 0x00, 0x00, 0x00, 0x00, 0x00,
-    0x00, 0x00, 0x04, 0x00, 0x00, 0x00, 0x01, 0x00, 0x00, 0x00, 0x00, 0x00, 0x00, 0x00, 0x00, 0x00,
-    0x0b, 0x00, 0x19, 0x00, 0x00, 0x01, 0x19, 0x00, 0x0e, 0x00, 0x05, 0x00, 0x01, 0x00, 0x10, 0x00,
-    0x05, 0x48, 0x45, 0x4c, 0x4c, 0x4f, 0x00, 0x00, 0x00, 0x01, 0x00, 0x00, 0x08, 0x44, 0x4f, 0x53,
-    0x43, 0x41, 0x4c, 0x4c, 0x53, 0x00, 0x00, 0x00, 0x00, 0x00, 0x00, 0x00, 0x00, 0x00, 0x00, 0x00,
-    0x6a, 0x01, 0x1e, 0x68, 0x00, 0x00, 0x6a, 0x05, 0x1e, 0x6a, 0x06, 0x9a, 0xff, 0xff, 0x00, 0x00,
-    0x6a, 0x01, 0x6a, 0x00, 0x9a, 0xff, 0xff, 0x00, 0x00, 0x02, 0x00, 0x03, 0x01, 0x0c, 0x00, 0x01,
-    0x00, 0x8a, 0x00, 0x03, 0x01, 0x15, 0x00, 0x01, 0x00, 0x05, 0x00, 0x00, 0x00, 0x00, 0x00, 0x00,
-    0x68, 0x65, 0x6c, 0x6c, 0x6f,
-];
+// The files and their changes are texts. All numbers in them are hexadecimal, and `00*3A` is so many bytes in a row.
+
+// A program that writes `hello` by DosWrite and ends by DosExit: headers, the tables, code of 25 bytes at B0h with two records
+// behind it, and data of 5 bytes at E0h.
+static HELLO: &str = "
+4D 5A 00*3A 40 00 00 00
+4E 45 00 00 5B 00*7 02 00 02 00*4 02 00 00 01 00 00 00 02 00 02 00 01 00 00 00 40 00 00 00 50 00 59 00 5B 00*7
+04 00 00 00 01 00*9
+0B 00 19 00 00 01 19 00 0E 00 05 00 01 00 10 00 05 48 45 4C 4C 4F 00 00
+00 01 00 00 08 44 4F 53 43 41 4C 4C 53 00*B
+6A 01 1E 68 00 00 6A 05 1E 6A 06 9A FF FF 00 00 6A 01 6A 00 9A FF FF 00 00
+02 00 03 01 0C 00 01 00 8A 00 03 01 15 00 01 00 05 00*6 68 65 6C 6C 6F
+";
+
+// Its code with the gates that it imports.
+static GATES: &str = "6A 01 1E 68 00 00 6A 05 1E 6A 06 9A 00 00 A3 00 6A 01 6A 00 9A 00 00 8B 00";
 
 // A program whose code segment of 64 bytes at B0h has a record of each kind.
-static MIXED: [u8; 324] = [
-    0x4d, 0x5a, 0x00, 0x00, 0x00, 0x00, 0x00, 0x00, 0x00, 0x00, 0x00, 0x00, 0x00, 0x00, 0x00, 0x00,
-    0x00, 0x00, 0x00, 0x00, 0x00, 0x00, 0x00, 0x00, 0x00, 0x00, 0x00, 0x00, 0x00, 0x00, 0x00, 0x00,
-    0x00, 0x00, 0x00, 0x00, 0x00, 0x00, 0x00, 0x00, 0x00, 0x00, 0x00, 0x00, 0x00, 0x00, 0x00, 0x00,
-    0x00, 0x00, 0x00, 0x00, 0x00, 0x00, 0x00, 0x00, 0x00, 0x00, 0x00, 0x00, 0x40, 0x00, 0x00, 0x00,
-    0x4e, 0x45, 0x00, 0x00, 0x5b, 0x00, 0x00, 0x00, 0x00, 0x00, 0x00, 0x00, 0x02, 0x00, 0x02, 0x00,
-    0x00, 0x00, 0x00, 0x02, 0x00, 0x00, 0x01, 0x00, 0x00, 0x00, 0x02, 0x00, 0x02, 0x00, 0x01, 0x00,
-    0x00, 0x00, 0x40, 0x00, 0x00, 0x00, 0x50, 0x00, 0x59, 0x00, 0x5b, 0x00, 0x00, 0x00, 0x00, 0x00,
-    0x00, 0x00, 0x04, 0x00, 0x00, 0x00, 0x01, 0x00, 0x00, 0x00, 0x00, 0x00, 0x00, 0x00, 0x00, 0x00,
-    0x0b, 0x00, 0x40, 0x00, 0x00, 0x01, 0x40, 0x00, 0x14, 0x00, 0x04, 0x00, 0x01, 0x00, 0x10, 0x00,
-    0x05, 0x4d, 0x49, 0x58, 0x45, 0x44, 0x00, 0x00, 0x00, 0x01, 0x00, 0x00, 0x08, 0x44, 0x4f, 0x53,
-    0x43, 0x41, 0x4c, 0x4c, 0x53, 0x00, 0x00, 0x00, 0x00, 0x00, 0x00, 0x00, 0x00, 0x00, 0x00, 0x00,
-    0xff, 0xff, 0x82, 0x83, 0xf0, 0xff, 0xf0, 0x87, 0x88, 0x89, 0xff, 0xff, 0x8c, 0x8d, 0x8e, 0x8f,
-    0x20, 0x00, 0x92, 0x93, 0x94, 0x95, 0x96, 0x97, 0x98, 0x99, 0x9a, 0x9b, 0x9c, 0x9d, 0x9e, 0x9f,
-    0x30, 0x00, 0xa2, 0xa3, 0xa4, 0xa5, 0xa6, 0xa7, 0xa8, 0xa9, 0xaa, 0xab, 0xac, 0xad, 0xae, 0xaf,
-    0xff, 0xff, 0xb2, 0xb3, 0xb4, 0xb5, 0xb6, 0xb7, 0xb8, 0xb9, 0xba, 0xbb, 0xbc, 0xbd, 0xff, 0xff,
-    0x09, 0x00, 0x02, 0x00, 0x10, 0x00, 0x01, 0x00, 0x00, 0x00, 0x03, 0x00, 0x00, 0x00, 0x02, 0x00,
-    0x04, 0x00, 0x05, 0x04, 0x04, 0x00, 0x01, 0x00, 0x00, 0x00, 0x00, 0x04, 0x06, 0x00, 0x01, 0x00,
-    0x00, 0x00, 0x00, 0x00, 0x07, 0x00, 0x01, 0x00, 0x00, 0x00, 0x02, 0x04, 0x08, 0x00, 0x02, 0x00,
-    0x00, 0x00, 0x03, 0x04, 0x0a, 0x00, 0x01, 0x00, 0x00, 0x00, 0x05, 0x03, 0xff, 0xff, 0x00, 0x00,
-    0x00, 0x00, 0x05, 0x00, 0x3e, 0x00, 0x01, 0x00, 0x00, 0x00, 0x00, 0x00, 0x00, 0x00, 0x00, 0x00,
-    0x64, 0x61, 0x74, 0x61,
-];
+static MIXED: &str = "
+4D 5A 00*3A 40 00 00 00
+4E 45 00 00 5B 00*7 02 00 02 00*4 02 00 00 01 00 00 00 02 00 02 00 01 00 00 00 40 00 00 00 50 00 59 00 5B 00*7
+04 00 00 00 01 00*9
+0B 00 40 00 00 01 40 00 14 00 04 00 01 00 10 00 05 4D 49 58 45 44 00 00
+00 01 00 00 08 44 4F 53 43 41 4C 4C 53 00*B
+FF FF 82 83 F0 FF F0 87 88 89 FF FF 8C 8D 8E 8F 20 00 92 93 94 95 96 97 98 99 9A 9B 9C 9D 9E 9F
+30 00 A2 A3 A4 A5 A6 A7 A8 A9 AA AB AC AD AE AF FF FF B2 B3 B4 B5 B6 B7 B8 B9 BA BB BC BD FF FF
+09 00 02 00 10 00 01 00 00 00 03 00 00 00 02 00 04 00 05 04 04 00 01 00*4 04 06 00 01 00*5 07 00 01 00 00 00
+02 04 08 00 02 00 00 00 03 04 0A 00 01 00 00 00 05 03 FF FF 00*4 05 00 3E 00 01 00*9 64 61 74 61
+";
 
-// Where the records of MIXED lead.
-static TARGETS: [(u16, u16); 9] = [
-    (0x000f, 0x0000),
-    (0x0017, 0x1234),
-    (0x0000, 0x0025),
-    (0x0000, 0x1220),
-    (0x0000, 0x12ab),
-    (0x0017, 0x0009),
-    (0x001f, 0x0002),
-    (0xeeee, 0xeeee),
-    (0x0003, 0x5678),
-];
+// Where the records of MIXED lead: selector and offset.
+static TARGETS: &str =
+    "000F:0000 0017:1234 0000:0025 0000:1220 0000:12AB 0017:0009 001F:0002 EEEE:EEEE 0003:5678";
 
 // The image of its code segment with these targets, and zeros behind it.
-static IMAGE: [u8; 80] = [
-    0x34, 0x12, 0x17, 0x00, 0x15, 0x00, 0x10, 0xab, 0x17, 0x00, 0x01, 0x00, 0x1f, 0x00, 0x8e, 0x8f,
-    0x0f, 0x00, 0x92, 0x93, 0x94, 0x95, 0x96, 0x97, 0x98, 0x99, 0x9a, 0x9b, 0x9c, 0x9d, 0x9e, 0x9f,
-    0x0f, 0x00, 0xa2, 0xa3, 0xa4, 0xa5, 0xa6, 0xa7, 0xa8, 0xa9, 0xaa, 0xab, 0xac, 0xad, 0xae, 0xaf,
-    0x0f, 0x00, 0xb2, 0xb3, 0xb4, 0xb5, 0xb6, 0xb7, 0xb8, 0xb9, 0xba, 0xbb, 0xbc, 0xbd, 0x78, 0x56,
-    0x00, 0x00, 0x00, 0x00, 0x00, 0x00, 0x00, 0x00, 0x00, 0x00, 0x00, 0x00, 0x00, 0x00, 0x00, 0x00,
-];
+static IMAGE: &str = "
+34 12 17 00 15 00 10 AB 17 00 01 00 1F 00 8E 8F 0F 00 92 93 94 95 96 97 98 99 9A 9B 9C 9D 9E 9F
+0F 00 A2 A3 A4 A5 A6 A7 A8 A9 AA AB AC AD AE AF 0F 00 B2 B3 B4 B5 B6 B7 B8 B9 BA BB BC BD 78 56
+00*10
+";
 
-// HELLO cut to a length and with some bytes changed, and how it is judged.
-static JUDGED: [(usize, &[(usize, u8)], &str); 50] = [
-    (0, &[], "NotMz"),
-    (1, &[], "NotMz"),
-    (2, &[], "Truncated(2)"),
-    (63, &[], "Truncated(63)"),
-    (64, &[], "Truncated(64)"),
-    (127, &[], "Truncated(127)"),
-    (229, &[(0x01, 0x58)], "NotMz"),
-    (229, &[(0x3d, 0x01)], "Truncated(320)"),
-    (229, &[(0x41, 0x58)], "NotNe"),
-    (229, &[(0x76, 0x02)], "NotOs2"),
-    (229, &[(0x4d, 0x20)], "LinkErrors"),
-    (229, &[(0x4c, 0x03)], "BadTable(DataMode)"),
-    (229, &[(0x72, 0x10)], "BadTable(Shift)"),
-    (229, &[(0x5c, 0xff)], "OutOfProfile(Segments)"),
-    (229, &[(0x5f, 0x01)], "OutOfProfile(References)"),
-    (229, &[(0x4e, 0x03)], "BadTable(AutoData)"),
-    (229, &[(0x4e, 0x03), (0x76, 0x02)], "NotOs2"),
-    (135, &[], "Truncated(135)"),
-    (200, &[], "Truncated(200)"),
-    (228, &[], "Truncated(228)"),
-    (229, &[(0x84, 0x08)], "OutOfProfile(Iterated)"),
-    (229, &[(0x85, 0x03)], "OutOfProfile(Conforming)"),
-    (229, &[(0x85, 0x05)], "OutOfProfile(Ring)"),
-    (229, &[(0x85, 0x09)], "OutOfProfile(Ring)"),
-    (229, &[(0x85, 0x0d)], "Ok"),
-    (229, &[(0x85, 0x21)], "OutOfProfile(Wide)"),
-    (229, &[(0x84, 0x08), (0x85, 0x21)], "OutOfProfile(Iterated)"),
-    (229, &[(0x4e, 0x01)], "BadTable(AutoData)"),
-    (229, &[(0x52, 0xf1), (0x53, 0xff)], "OutOfProfile(AutoSize)"),
-    (229, &[(0x52, 0xf0), (0x53, 0xff)], "Ok"),
-    (229, &[(0x90, 0x00)], "BadTable(Names)"),
-    (229, &[(0x91, 0x0a)], "BadTable(Names)"),
-    (229, &[(0x67, 0x50), (0x66, 0x00)], "Truncated(20544)"),
-    (229, &[(0x99, 0xff), (0x9a, 0xff)], "Truncated(65690)"),
-    (229, &[(0x99, 0x49), (0x9a, 0x00)], "Truncated(229)"),
-    (
-        229,
-        &[(0x44, 0x65), (0x46, 0x02), (0xa5, 0x01), (0xa6, 0xfe)],
-        "OutOfProfile(Constant)",
-    ),
-    (
-        229,
-        &[(0x44, 0x65), (0x46, 0x02), (0xa5, 0x01), (0xa6, 0x03)],
-        "BadTable(Entries)",
-    ),
-    (
-        229,
-        &[
-            (0x44, 0x65),
-            (0x46, 0x08),
-            (0xa5, 0x01),
-            (0xa6, 0xff),
-            (0xaa, 0x03),
-        ],
-        "BadTable(Entries)",
-    ),
-    (
-        229,
-        &[
-            (0x44, 0x65),
-            (0x46, 0x08),
-            (0xa5, 0x01),
-            (0xa6, 0xff),
-            (0xa9, 0x03),
-        ],
-        "BadTable(Entries)",
-    ),
-    (229, &[(0xc9, 0xff), (0xca, 0xff)], "Truncated(229)"),
-    (229, &[(0xcb, 0x01)], "BadTarget(1, 0)"),
-    (229, &[(0xd3, 0x01)], "BadTarget(1, 1)"),
-    (229, &[(0xcf, 0x02)], "BadTarget(1, 0)"),
-    (229, &[(0xcc, 0x00), (0xcf, 0x03)], "BadTarget(1, 0)"),
-    (229, &[(0xcc, 0x02), (0xd1, 0x80)], "BadTarget(1, 0)"),
-    (229, &[(0xbc, 0x10), (0xbd, 0x00)], "BadChain(1, 362)"),
-    (229, &[(0xd5, 0x0e)], "BadChain(1, 14)"),
-    (229, &[(0xd5, 0x16)], "BadChain(1, 22)"),
-    (229, &[(0xcc, 0x03), (0xcd, 0xff)], "Ok"),
-    (229, &[], "Ok"),
-];
+// A line each: HELLO cut to a length, where one is given, and with some bytes changed, and how it is judged.
+static JUDGED: &str = "
+0: NotMz
+1: NotMz
+2: Truncated(2)
+3F: Truncated(63)
+40: Truncated(64)
+7F: Truncated(127)
+1=58: NotMz
+3D=01: Truncated(320)
+41=58: NotNe
+76=02: NotOs2
+4D=20: LinkErrors
+4C=03: BadTable(DataMode)
+72=10: BadTable(Shift)
+5C=FF: OutOfProfile(Segments)
+5F=01: OutOfProfile(References)
+4E=03: BadTable(AutoData)
+4E=03 76=02: NotOs2
+87: Truncated(135)
+C8: Truncated(200)
+E4: Truncated(228)
+84=08: OutOfProfile(Iterated)
+85=03: OutOfProfile(Conforming)
+85=05: OutOfProfile(Ring)
+85=09: OutOfProfile(Ring)
+85=0D: Ok
+85=21: OutOfProfile(Wide)
+84=08 85=21: OutOfProfile(Iterated)
+4E=01: BadTable(AutoData)
+52=F1 53=FF: OutOfProfile(AutoSize)
+52=F0 53=FF: Ok
+90=00: BadTable(Names)
+91=0A: BadTable(Names)
+67=50 66=00: Truncated(20544)
+99=FF 9A=FF: Truncated(65690)
+99=49 9A=00: Truncated(229)
+44=65 46=02 A5=01 A6=FE: OutOfProfile(Constant)
+44=65 46=02 A5=01 A6=03: BadTable(Entries)
+44=65 46=08 A5=01 A6=FF AA=03: BadTable(Entries)
+44=65 46=08 A5=01 A6=FF A9=03: BadTable(Entries)
+C9=FF CA=FF: Truncated(229)
+CB=01: BadTarget(1, 0)
+D3=01: BadTarget(1, 1)
+CF=02: BadTarget(1, 0)
+CC=00 CF=03: BadTarget(1, 0)
+CC=02 D1=80: BadTarget(1, 0)
+BC=10 BD=00: BadChain(1, 362)
+D5=0E: BadChain(1, 14)
+D5=16: BadChain(1, 22)
+CC=03 CD=FF: Ok
+: Ok
+";
 
-// HELLO cut to a length, with some bytes changed.
-fn changed(rt: &HostRuntime, cut: usize, changes: &[(usize, u8)]) -> Result<Vec<u8>, AllocError> {
-    let mut file = HELLO.to_vec(rt.alloc())?;
-    for (place, byte) in changes {
-        if let Some(held) = file.get_mut(*place) {
-            *held = *byte;
+fn number(text: &str) -> usize {
+    match usize::from_str_radix(text, 16) {
+        Ok(value) => value,
+        Err(_) => 0xDEAD,
+    }
+}
+
+fn byte(text: &str) -> u8 {
+    (number(text) % 256) as u8
+}
+
+fn word(text: &str) -> u16 {
+    (number(text) % 65536) as u16
+}
+
+// The bytes of a text.
+fn bytes_in(alloc: Global, text: &str) -> Result<Vec<u8>, NoMemory> {
+    let mut bytes = Vec::new(alloc);
+    for token in text.split_ascii_whitespace() {
+        match token.split_once('*') {
+            Some((one, times)) => {
+                for _ in 0..number(times) {
+                    bytes.push(byte(one))?;
+                }
+            }
+            None => bytes.push(byte(token))?,
         }
     }
-    file.truncate(cut);
+    Ok(bytes)
+}
+
+// A file with these changes.
+fn changed(alloc: Global, text: &str, changes: &str) -> Result<Vec<u8>, NoMemory> {
+    let mut file = bytes_in(alloc, text)?;
+    for change in changes.split_ascii_whitespace() {
+        match change.split_once('=') {
+            Some((place, other)) => {
+                if let Some(held) = file.get_mut(number(place)) {
+                    *held = byte(other);
+                }
+            }
+            None => file.truncate(number(change)),
+        }
+    }
     Ok(file)
 }
 
 // How a file is judged.
-fn judged(rt: &HostRuntime, file: Vec<u8>) -> Result<String, AllocError>
-    requires { vec_len file ≤ 4194304 }
-{
-    match Module::check(rt.alloc(), Bytes::new(file)) {
-        Ok(_) => String::from_str(rt.alloc(), "Ok"),
-        Err(ReadFail::NoMemory) => String::from_str(rt.alloc(), "NoMemory"),
-        Err(ReadFail::Bad(fault)) => format!(in rt.alloc(); "{fault:?}"),
+fn judged(alloc: Global, file: Vec<u8>) -> Result<String, AllocError> {
+    if file.len() > 4_194_304 {
+        return String::from_str(alloc, "too long");
+    }
+    match Module::check(alloc, Bytes::new(file)) {
+        Ok(_) => String::from_str(alloc, "Ok"),
+        Err(ReadFail::NoMemory) => String::from_str(alloc, "NoMemory"),
+        Err(ReadFail::Bad(fault)) => format!(in alloc; "{fault:?}"),
     }
 }
 
 #[test]
 fn the_first_fault_is_told(rt: HostRuntime) -> Result<(), Fail> {
-    for (cut, changes, expected) in JUDGED.iter() {
-        let file = changed(&rt, *cut, changes)?;
-        assert!(rt; file.len() <= 229);
-        let answer = judged(&rt, file)?;
-        assert_eq!(rt;
-            answer.as_str(),
-            *expected,
-            "cut to {cut}, changed {changes:?}"
+    let mut count = 0u32;
+    for line in JUDGED.lines() {
+        if let Some((changes, expected)) = line.split_once(": ") {
+            let answer = judged(rt.alloc(), changed(rt.alloc(), HELLO, changes)?)?;
+            assert_eq!(rt; answer.as_str(), expected, "{line}");
+            count = count.saturating_add(1);
+        }
+    }
+    assert!(rt; count == 50);
+    Ok(())
+}
+
+// The module in a file that passes its checks.
+fn module_of(alloc: Global, text: &str) -> Option<Module> {
+    let Ok(file) = bytes_in(alloc, text) else {
+        return None;
+    };
+    if file.len() > 4_194_304 {
+        return None;
+    }
+    match Module::check(alloc, Bytes::new(file)) {
+        Ok(module) => Some(module),
+        Err(_) => None,
+    }
+}
+
+// Whether there is this text.
+fn is_text(found: Option<&[u8]>, text: &[u8]) -> bool {
+    match found {
+        Some(bytes) => bytes == text,
+        None => false,
+    }
+}
+
+fn are_sizes_of_hello(module: &Module) -> bool {
+    !module.is_library()
+        && module.segment_count() == 2
+        && module.reloc_count() == 2
+        && module.entry_count() == 0
+        && module.head().stack == 512
+}
+
+fn are_parts_of_hello(module: &Module) -> bool {
+    let (Some(segment), Some(reloc)) = (module.segment(2), module.reloc(1, 1)) else {
+        return false;
+    };
+    segment.size == 16
+        && reloc.second == 5
+        && module.segment(3).is_none()
+        && module.reloc(1, 2).is_none()
+        && module.entries().get(1).is_none()
+}
+
+fn are_names_of_hello(module: &Module) -> bool {
+    module.name().as_slice() == b"HELLO".as_slice()
+        && module.names().ordinal(b"HELLO").is_none()
+        && is_text(module.reference(1), b"DOSCALLS")
+        && module.reference(2).is_none()
+        && is_text(module.imported(1), b"DOSCALLS")
+        && module.imported(600).is_none()
+}
+
+#[test]
+fn the_parts_of_a_program(rt: HostRuntime) {
+    let Some(module) = module_of(rt.alloc(), HELLO) else {
+        panic!(rt; "refused");
+    };
+    assert!(rt; are_sizes_of_hello(&module));
+    assert!(rt; are_parts_of_hello(&module));
+    assert!(rt; are_names_of_hello(&module));
+}
+
+// Targets for the records of a first segment, and none for the second.
+fn resolved(alloc: Global, text: &str) -> Result<Resolved, NoMemory> {
+    let mut targets = Vec::new(alloc);
+    for target in text.split_ascii_whitespace() {
+        if let Some((selector, offset)) = target.split_once(':') {
+            targets.push((word(selector), word(offset)))?;
+        }
+    }
+    let mut lists = Vec::new(alloc);
+    lists.push(targets)?;
+    lists.push(Vec::new(alloc))?;
+    Ok(Resolved::new(lists))
+}
+
+// The first bytes of the image of the first segment of a program, and EEh behind them.
+fn front_of(
+    alloc: Global,
+    module: &Module,
+    targets: &Resolved,
+    count: usize,
+) -> Result<Vec<u8>, NoMemory> {
+    let mut into = vec![in alloc; 0xEEu8; 96]?;
+    if count <= 96 && module.segment_count() == 2 && module.is_resolved_by(targets) {
+        module.fill(1, targets, &mut into[..count]);
+    }
+    Ok(into)
+}
+
+// Whether the first bytes of a program's image are these, and no byte behind them is written.
+fn fills(alloc: Global, text: &str, to: &str, image: &str, count: usize) -> Result<bool, NoMemory> {
+    let Some(module) = module_of(alloc, text) else {
+        return Ok(false);
+    };
+    let targets = resolved(alloc, to)?;
+    let mut expected = bytes_in(alloc, image)?;
+    expected.truncate(count);
+    expected.resize(96, 0xEE)?;
+    let found = front_of(alloc, &module, &targets, count)?;
+    Ok(found.as_slice() == expected.as_slice())
+}
+
+#[test]
+fn imports_become_gates(rt: HostRuntime) -> Result<(), Fail> {
+    assert!(rt; fills(rt.alloc(), HELLO, "A3:0 8B:0", GATES, 25)?);
+    Ok(())
+}
+
+#[test]
+fn each_front_of_an_image(rt: HostRuntime) -> Result<(), Fail> {
+    for count in 0..81usize {
+        assert!(rt;
+            fills(rt.alloc(), MIXED, TARGETS, IMAGE, count)?,
+            "the first {count}"
         );
     }
     Ok(())
 }
 
 #[test]
-fn the_parts_of_a_program(rt: HostRuntime) -> Result<(), Fail> {
-    let file = HELLO.to_vec(rt.alloc())?;
-    assert_eq!(rt; file.len(), 229);
-    let module = Module::check(rt.alloc(), Bytes::new(file))?;
-    assert_eq!(rt; module.name().as_slice(), b"HELLO".as_slice());
-    assert!(rt; !module.is_library());
-    assert_eq!(rt; module.segment_count(), 2);
-    assert_eq!(rt; module.reloc_count(), 2);
-    assert_eq!(rt; module.entry_count(), 0);
-    assert_eq!(rt; module.head().stack, 512);
-    assert_eq!(rt; module.names().ordinal(b"HELLO"), None);
-    assert_eq!(rt; module.entries().get(1), None);
-    let reference = module.reference(1).ok_or("no reference 1")?;
-    assert_eq!(rt; reference, b"DOSCALLS".as_slice());
-    assert!(rt; module.reference(2).is_none());
-    let imported = module.imported(1).ok_or("no name at 1")?;
-    assert_eq!(rt; imported, b"DOSCALLS".as_slice());
-    assert!(rt; module.imported(600).is_none());
-    assert_eq!(rt; module.segment(2).map(|s| s.size), Some(16));
-    assert_eq!(rt; module.segment(3), None);
-    assert_eq!(rt; module.reloc(1, 1).map(|r| r.second), Some(5));
-    assert_eq!(rt; module.reloc(1, 2), None);
-    Ok(())
-}
-
-// Targets for the records of a first segment, and none for the second.
-fn resolved(rt: &HostRuntime, targets: &[(u16, u16)]) -> Result<Resolved, AllocError> {
-    let mut lists = Vec::new(rt.alloc());
-    lists.push(targets.to_vec(rt.alloc())?)?;
-    lists.push(Vec::new(rt.alloc()))?;
-    Ok(Resolved::new(lists))
-}
-
-#[test]
-fn imports_become_gates(rt: HostRuntime) -> Result<(), Fail> {
-    let file = HELLO.to_vec(rt.alloc())?;
-    assert_eq!(rt; file.len(), 229);
-    let module = Module::check(rt.alloc(), Bytes::new(file))?;
-    let targets = resolved(&rt, &[(0xA3, 0), (0x8B, 0)])?;
-    assert!(rt; module.segment_count() == 2);
-    assert!(rt; module.is_resolved_by(&targets));
-    let mut into = [0u8; 25];
-    module.fill(1, &targets, &mut into);
-    assert_eq!(rt; &into[12..16], [0, 0, 0xA3, 0].as_slice());
-    assert_eq!(rt; &into[21..25], [0, 0, 0x8B, 0].as_slice());
-    Ok(())
-}
-
-#[test]
-fn each_front_of_an_image(rt: HostRuntime) -> Result<(), Fail> {
-    let file = MIXED.to_vec(rt.alloc())?;
-    assert_eq!(rt; file.len(), 324);
-    let module = Module::check(rt.alloc(), Bytes::new(file))?;
-    let targets = resolved(&rt, &TARGETS)?;
-    assert!(rt; module.segment_count() == 2);
-    assert!(rt; module.is_resolved_by(&targets));
-    for n in 0..81usize {
-        let mut into = [0xEE; 80];
-        module.fill(1, &targets, &mut into[..n]);
-        for (k, byte) in into.iter().enumerate() {
-            let expected = if k < n { IMAGE[k] } else { 0xEE };
-            assert_eq!(rt; *byte, expected, "byte {k} of {n}");
-        }
-    }
-    Ok(())
-}
-
-#[test]
 fn a_chain_meets_itself(rt: HostRuntime) -> Result<(), Fail> {
-    let mut file = MIXED.to_vec(rt.alloc())?;
-    assert_eq!(rt; file.len(), 324);
-    file[0xB0 + 0x30] = 0x10;
-    file[0xB0 + 0x31] = 0;
-    let answer = judged(&rt, file)?;
+    let file = changed(rt.alloc(), MIXED, "E0=10 E1=00")?;
+    let answer = judged(rt.alloc(), file)?;
     assert_eq!(rt; answer.as_str(), "BadChain(1, 16)");
     Ok(())
 }
