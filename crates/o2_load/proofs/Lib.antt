@@ -1,3 +1,4 @@
+pub mod Indexed
 pub mod Names
 pub mod Images
 pub mod Firsts

@@ -60,22 +60,22 @@ same_holding i j place n r t b c bytes e f g = cc
 
 module _ {X E : Type 0} (r : Result X E) (old new : Build) (pid : ℕ) (g : Grip) (h : Holding) (is_h : gripped g h.bytes ≡ h) where
   -- the process holds a name that is made
-  pub adds_made : (name : ℕ) → Some name ≡ (if g.common then name_in old.made.items g.place g.number else None)
+  pub adds_made : (name : ℕ) → Some name ≡ (if g.common then name_in old.made g.place g.number else None)
       → OnOk r ((b : Built) (bytes : List ℕ) → IsHolding old pid b → IsHolding new pid (holds b (gripped g bytes) name)) → OnOk r (Adds old new pid h)
   adds_made name found adds =
       on_ok r _ _
       (λ step b is.
       subst (λ (k : Holding). IsHolding new pid (with_holding b k)) is_h
-      (subst (λ (x : Built). IsHolding new pid x) (as_found b old.made.items (gripped g h.bytes) (Some name) is.made found) (step b h.bytes is)))
+      (subst (λ (x : Built). IsHolding new pid x) (as_found b old.made (gripped g h.bytes) (Some name) is.made found) (step b h.bytes is)))
       adds
 
   -- or a new one
-  pub adds_new : (bytes : List ℕ) → bytes ≡ h.bytes → None ≡ (if g.common then name_in old.made.items g.place g.number else None)
+  pub adds_new : (bytes : List ℕ) → bytes ≡ h.bytes → None ≡ (if g.common then name_in old.made g.place g.number else None)
       → OnOk r ((b : Built) → IsHolding old pid b → IsHolding new pid (holds_as b (gripped g bytes) None)) → OnOk r (Adds old new pid h)
   adds_new bytes same found adds =
       on_ok r _ _
       (λ step b is.
       subst (λ (k : Holding). IsHolding new pid (with_holding b k)) is_h
-      (subst (λ (x : Built). IsHolding new pid x) (as_found b old.made.items (gripped g h.bytes) None is.made found)
+      (subst (λ (x : Built). IsHolding new pid x) (as_found b old.made (gripped g h.bytes) None is.made found)
       (subst (λ (z : List ℕ). IsHolding new pid (holds_as b (gripped g z) None)) same (step b is))))
       adds

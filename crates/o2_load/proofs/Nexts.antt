@@ -8,7 +8,6 @@ use Rattle.o2_bus.specs.Plain.{held_in, bytes_in, shown_in, count_in, segment_by
 use Rattle.o2_bus.specs.declared.plain.Plain.{Plain}
 use Rattle.o2_bus.specs.declared.segment.Segment.{Segment as Stored}
 use Rattle.o2_dynlink.specs.Outcome.{LinkedParts}
-use Rattle.o2_world.specs.declared.types.State.TheVariants.{Live}
 use Rattle.o2_world.specs.World.{Process, Line}
 use Rattle.o2_world.specs.Opening.{start_lines}
 use Rattle.std.proofs.lemmas.List.{length-map}
@@ -86,7 +85,7 @@ placed (d ∷ cs) (q ∷ ps) c p old new same first stays each (suc i) =
 
 module _ (m new : Begun) (after : Build) (l : LinkedParts) (s : Start) (b : Built) (pid : ℕ) (c : Cpu) (e : pid ≡ length m.cpus.items + 1) (is : IsBegun m l b)
     (others : OthersStay m.build after pid) (holds : IsHolding after pid (with_holdings b (holdings pid s))) (first : c ≡ first_cpu s)
-    (plain : new.build.plain ≡ after.plain) (made : new.build.made.items ≡ after.made.items) (fresh : new.build.selectors.items ≡ []) (cpus : new.cpus.items ≡ m.cpus.items ++ c ∷ [])
+    (plain : new.build.plain ≡ after.plain) (made : new.build.made ≡ after.made) (fresh : new.build.selectors.items ≡ []) (cpus : new.cpus.items ≡ m.cpus.items ++ c ∷ [])
     (rows : map (λ v. v.items) new.starts.items ≡ map (λ v. v.items) m.starts.items ++ after.selectors.items ∷ []) (name : s.program.name ≡ program_name l pid) where
   pub done : Built
   done = with_started pid s (with_holdings b (holdings pid s))
@@ -160,7 +159,7 @@ nothing_in p n e = nothing_stored p.segments.items n e
 
 -- no process has started
 pub nothing_begun : (m : Begun) (l : LinkedParts) → count_in m.build.plain ≡ 0 → ((q i : ℕ) → held_in m.build.plain q i ≡ None) → ((n : ℕ) → shown_in m.build.plain n ≡ true)
-    → m.build.made.items ≡ [] → m.build.selectors.items ≡ [] → m.cpus.items ≡ [] → m.starts.items ≡ [] → IsBegun m l nothing_built
+    → m.build.made ≡ [] → m.build.selectors.items ≡ [] → m.cpus.items ≡ [] → m.starts.items ≡ [] → IsBegun m l nothing_built
 nothing_begun m l count held shown made selectors cpus starts = record {
   count = count;
   bytes = λ n. sym (nothing_in m.build.plain n count);

@@ -41,7 +41,7 @@ pub record IsBegun (m : Begun) (l : LinkedParts) (b : Built) : Type 0 where
   pub count : count_in m.build.plain ≡ b.next_name
   pub bytes : (n : ℕ) → bytes_of b.names n ≡ bytes_in m.build.plain n
   pub shown : (n : ℕ) → shown_in m.build.plain n ≡ true
-  pub made : b.made ≡ m.build.made.items
+  pub made : b.made ≡ m.build.made
   pub none : (j : ℕ) → ◌≡◌ {A = Option Hold} None (held_in m.build.plain 0 j)
   pub places : (i : ℕ) → IsFirstAt (slice_get m.cpus.items i) (held_in m.build.plain (i + 1)) (slice_get b.processes i)
   pub idle : b.held ≡ []

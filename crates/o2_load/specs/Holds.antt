@@ -17,7 +17,7 @@ pub record IsHolding (m : Build) (pid : ℕ) (b : Built) : Type 0 where
   pub count : count_in m.plain ≡ b.next_name
   pub bytes : (n : ℕ) → bytes_of b.names n ≡ bytes_in m.plain n
   pub shown : (n : ℕ) → shown_in m.plain n ≡ true
-  pub made : b.made ≡ m.made.items
+  pub made : b.made ≡ m.made
   pub selectors : b.selectors ≡ m.selectors.items
   pub held : (i : ℕ) → holds_in b.held i ≡ held_in m.plain pid i
 

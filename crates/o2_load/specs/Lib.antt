@@ -2,3 +2,4 @@ pub mod Loads
 pub mod Holds
 pub mod Started
 pub mod Beginnings
+pub mod MadeIndex

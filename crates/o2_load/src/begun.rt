@@ -12,6 +12,7 @@ ghost use Rattle.o2_load.specs.Loads.{start_of};
 ghost use Rattle.o2_load.specs.Beginnings.{IsBegun, BeginsAs};
 
 use crate::build::Build;
+use crate::made_names::MadeNames;
 use crate::process::start;
 use o2_base::{Fail, ModuleFault, NoMemory};
 use o2_bus::Plain;
@@ -32,13 +33,13 @@ impl Begun {
     pub fn new(alloc: Global) -> Result<Begun, NoMemory>
         ensures begins { (l : LinkedParts) → IfOk result (λ m. IsBegun m l nothing_built) }
         ensures cpus { IfOk result (λ m. m.cpus.items ≡ []) }
-        ensures named { IfOk result (λ m. HaveBytes m.build.made.items m.build.plain) }
+        ensures named { IfOk result (λ m. HaveBytes m.build.made m.build.plain) }
     {
         let plain = Plain::new(alloc)?;
         Ok(Begun {
             build: Build {
                 plain,
-                made: Vec::new(alloc),
+                made: MadeNames::new(alloc),
                 selectors: Vec::new(alloc),
             },
             cpus: Vec::new(alloc),
@@ -60,10 +61,10 @@ impl Begun {
         requires there { Exists linked.now.programs pid }
         requires some { 0 < length (nth_list linked.now.images.environments pid) }
         requires small { length (nth_list linked.now.images.environments pid) ≤ 65536 }
-        requires named { HaveBytes self.old.build.made.items self.old.build.plain }
+        requires named { HaveBytes self.old.build.made self.old.build.plain }
         ensures begins { (p : Process) (b : Built) → environment_bytes p ≡ nth_list linked.now.images.environments pid → command_place p ≡ command → IsBegun self.old linked.now b
             → BeginsAs self.new linked.now (next_started most (Ok b) (start_of linked.now pid p)) pid result }
-        ensures named { OnOk result (HaveBytes self.new.build.made.items self.new.build.plain) }
+        ensures named { OnOk result (HaveBytes self.new.build.made self.new.build.plain) }
         ensures count { OnOk result (length self.new.cpus.items ≡ length self.old.cpus.items + 1) }
     {
         match start(alloc, &mut self.build, linked, pid, command, most) {

@@ -1,11 +1,12 @@
 // Names and holds, as processes start one after the other.
-ghost use Rattle.std.specs.Prelude.{◌≡◌, ◌≢◌, ◌≤◌, ◌<◌, ◌+◌, ◌*◌, ◌++◌, ◌∷◌, [], ℕ, List, length, Some, None, IfOk, IfSome, OnOk, if◌then◌else◌};
+ghost use Rattle.std.specs.Prelude.{◌≡◌, ◌≢◌, ◌≤◌, ◌<◌, ◌+◌, ◌*◌, ◌++◌, ◌∷◌, [], ℕ, List, length, Some, None, true, IfOk, IfSome, OnOk, if◌then◌else◌};
 ghost use Rattle.o2_bus.specs.declared.plain.Plain.{Plain};
 ghost use Rattle.o2_bus.specs.Plain.{held_in, bytes_in, count_in};
 ghost use Rattle.o2_base.specs.Selectors.{selector_of};
 ghost use Rattle.o2_world.specs.Starts.{name_in, made_with, named, holds, holds_as, with_holding, Built};
 ghost use Rattle.o2_load.specs.Holds.{IsHolding, HaveBytes, OthersStay, Adds, gripped};
 
+use crate::made_names::MadeNames;
 use o2_base::{NoMemory, Selector};
 use o2_bus::Plain;
 use o2_world::Made;
@@ -30,38 +31,28 @@ pub struct Grip {
 #[derive(Drop)]
 pub struct Build {
     pub plain: Plain,
-    pub made: Vec<Made>,
+    pub made: MadeNames,
     pub selectors: Vec<u16>,
-}
-
-/// The name of a common segment, where one is made.
-fn made_name(made: &[Made], place: u16, number: u16) -> Option<u32>
-    ensures { result ≡ name_in made.now place number }
-{
-    for m in made {
-        if m.place == place && m.number == number {
-            return Some(m.name);
-        }
-    }
-    None
 }
 
 /// The name of a segment, where it is common and one is made.
 #[tactic(auto, using(crate::proofs::Names::name_has_bytes))]
-pub(crate) fn found(made: &[Made], grip: &Grip) -> Option<u32>
+pub(crate) fn found(made: &MadeNames, grip: &Grip) -> Option<u32>
+    requires { grip.now.number < 256 }
     ensures value { result ≡ (if grip.now.common then name_in made.now grip.now.place grip.now.number else None) }
     ensures some { (p : Plain) → HaveBytes made.now p → IfSome result (λ name. 0 < length (bytes_in p name)) }
 {
     if grip.common {
-        made_name(made, grip.place, grip.number)
+        made.name(grip.place, grip.number)
     } else {
         None
     }
 }
 
 /// One common name more, where the segment is common.
-fn note_made(made: &mut Vec<Made>, grip: &Grip, name: u32) -> Result<(), NoMemory>
-    ensures { OnOk result (made.new.items ≡ made_with made.old.items (gripped grip.now []) name) }
+fn note_made(made: &mut MadeNames, grip: &Grip, name: u32) -> Result<(), NoMemory>
+    requires { grip.now.common ≡ true → grip.now.number < 256 }
+    ensures { OnOk result (made.new ≡ made_with made.old (gripped grip.now []) name) }
 {
     if grip.common {
         made.push(Made {
@@ -96,7 +87,7 @@ impl Build {
         ensures adds { OnOk result ((b : Built) (bytes : List ℕ) → IsHolding self.old pid b → IsHolding self.new pid (holds b (gripped grip.now bytes) name)) }
         ensures others { OthersStay self.old self.new pid }
         ensures bytes { (n : ℕ) → bytes_in self.new.plain n ≡ bytes_in self.old.plain n }
-        ensures made { self.new.made.items ≡ self.old.made.items }
+        ensures made { self.new.made ≡ self.old.made }
     {
         self.plain.hold(alloc, pid, grip.index, name, grip.rights)?;
         self.selectors.push(selector_of(grip.index))?;
@@ -107,11 +98,12 @@ impl Build {
     fn name(&mut self, pid: u16, grip: &Grip, bytes: Vec<u8>) -> Result<u32, NoMemory>
         requires some { 0 < length bytes.items }
         requires small { length bytes.items ≤ 65536 }
+        requires number { grip.now.common ≡ true → grip.now.number < 256 }
         ensures adds { OnOk result ((b : Built) → IsHolding self.old pid b → IsHolding self.new pid (named b (gripped grip.now bytes.items))) }
         ensures held { (q i : ℕ) → held_in self.new.plain q i ≡ held_in self.old.plain q i }
         ensures name { IfOk result (λ n. n ≡ count_in self.old.plain) }
         ensures bytes { IfOk result (λ n. bytes_in self.new.plain n ≡ bytes.items) }
-        ensures named { HaveBytes self.old.made.items self.old.plain → OnOk result (HaveBytes self.new.made.items self.new.plain) }
+        ensures named { HaveBytes self.old.made self.old.plain → OnOk result (HaveBytes self.new.made self.new.plain) }
     {
         let name = self.plain.add(bytes)?;
         note_made(&mut self.made, grip, name)?;
@@ -128,10 +120,11 @@ impl Build {
     ) -> Result<(), NoMemory>
         requires some { 0 < length bytes.items }
         requires small { length bytes.items ≤ 65536 }
+        requires number { grip.now.common ≡ true → grip.now.number < 256 }
         requires index { grip.now.index < 8192 }
         ensures adds { OnOk result ((b : Built) → IsHolding self.old pid b → IsHolding self.new pid (holds_as b (gripped grip.now bytes.items) None)) }
         ensures others { OthersStay self.old self.new pid }
-        ensures named { HaveBytes self.old.made.items self.old.plain → OnOk result (HaveBytes self.new.made.items self.new.plain) }
+        ensures named { HaveBytes self.old.made self.old.plain → OnOk result (HaveBytes self.new.made self.new.plain) }
     {
         let name = self.name(pid, grip, bytes)?;
         self.hold(alloc, pid, grip, name)

@@ -36,10 +36,10 @@ pub(crate) fn hold_segments(
     place: u16,
 ) -> Result<(), NoMemory>
     requires place { option_map (λ p. p.0) (nth linked.now.images.modules place) ≡ Some «module».now }
-    requires named { HaveBytes build.old.made.items build.old.plain }
+    requires named { HaveBytes build.old.made build.old.plain }
     ensures adds { OnOk result (AddsAll build.old build.new pid (segment_holdings linked.now.images place «module».now)) }
     ensures others { OthersStay build.old build.new pid }
-    ensures named { OnOk result (HaveBytes build.new.made.items build.new.plain) }
+    ensures named { OnOk result (HaveBytes build.new.made build.new.plain) }
 {
     for k in 0..module.segment_count() {
         let index = index_at(linked, place, k + 1);
@@ -66,10 +66,10 @@ fn hold_module(
     place: u16,
 ) -> Result<(), NoMemory>
     requires there { Exists linked.now.images.modules place }
-    requires named { HaveBytes build.old.made.items build.old.plain }
+    requires named { HaveBytes build.old.made build.old.plain }
     ensures adds { OnOk result (AddsAll build.old build.new pid (all_holdings (loaded linked.now.images place))) }
     ensures others { OthersStay build.old build.new pid }
-    ensures named { OnOk result (HaveBytes build.new.made.items build.new.plain) }
+    ensures named { OnOk result (HaveBytes build.new.made build.new.plain) }
 {
     let Some(module) = linked.images().module(place) else {
         unreachable!()
@@ -88,10 +88,10 @@ pub(crate) fn hold_environment(
     requires some { 0 < length bytes.now }
     requires small { length bytes.now ≤ 65536 }
     requires few { count ≤ 254 }
-    requires named { HaveBytes build.old.made.items build.old.plain }
+    requires named { HaveBytes build.old.made build.old.plain }
     ensures adds { OnOk result (Adds build.old build.new pid (environment_of pid count bytes.now)) }
     ensures others { OthersStay build.old build.new pid }
-    ensures named { OnOk result (HaveBytes build.new.made.items build.new.plain) }
+    ensures named { OnOk result (HaveBytes build.new.made build.new.plain) }
 {
     let grip = Grip {
         index: count + 1,
@@ -112,10 +112,10 @@ pub(crate) fn hold_libraries(
     places: &[u16],
 ) -> Result<(), NoMemory>
     requires there { All (Exists linked.now.images.modules) places.now }
-    requires named { HaveBytes build.old.made.items build.old.plain }
+    requires named { HaveBytes build.old.made build.old.plain }
     ensures adds { OnOk result (AddsAll build.old build.new pid (library_holdings (map (loaded linked.now.images) places.now))) }
     ensures others { OthersStay build.old build.new pid }
-    ensures named { OnOk result (HaveBytes build.new.made.items build.new.plain) }
+    ensures named { OnOk result (HaveBytes build.new.made build.new.plain) }
 {
     for place in places {
         hold_module(alloc, build, linked, pid, *place)?;

@@ -33,10 +33,10 @@ fn hold_all(
     requires program { place ≡ program_place linked.now pid }
     requires some { 0 < length (nth_list linked.now.images.environments pid) }
     requires small { length (nth_list linked.now.images.environments pid) ≤ 65536 }
-    requires named { HaveBytes build.old.made.items build.old.plain }
+    requires named { HaveBytes build.old.made build.old.plain }
     ensures adds { (p : Process) → environment_bytes p ≡ nth_list linked.now.images.environments pid → OnOk result (AddsAll build.old build.new pid (holdings pid (start_of linked.now pid p))) }
     ensures others { OthersStay build.old build.new pid }
-    ensures named { OnOk result (HaveBytes build.new.made.items build.new.plain) }
+    ensures named { OnOk result (HaveBytes build.new.made build.new.plain) }
 {
     let Some(bytes) = linked.images().environment(pid) else {
         unreachable!()
@@ -67,11 +67,11 @@ pub fn start(
     requires there { Exists linked.now.programs pid }
     requires some { 0 < length (nth_list linked.now.images.environments pid) }
     requires small { length (nth_list linked.now.images.environments pid) ≤ 65536 }
-    requires named { HaveBytes build.old.made.items build.old.plain }
+    requires named { HaveBytes build.old.made build.old.plain }
     ensures starts { (p : Process) → environment_bytes p ≡ nth_list linked.now.images.environments pid → command_place p ≡ command
         → (b : Built) → IsHolding build.old pid b → StartsAs build.new most pid (start_of linked.now pid p) b result }
     ensures others { OthersStay build.old build.new pid }
-    ensures named { IfOk result (λ _. HaveBytes build.new.made.items build.new.plain) }
+    ensures named { IfOk result (λ _. HaveBytes build.new.made build.new.plain) }
 {
     let Some(place) = linked.program(pid) else {
         unreachable!()

@@ -116,6 +116,7 @@ fn grip(module: &Module, place: u16, n: u16, segment: &Segment, index: u16) -> G
     ensures grip { (images : ImageList) (bytes : List ℕ) → index ≡ index_at images place n
         → gripped result bytes ≡ record (segment_holding images place «module».now n segment.now) { bytes = bytes } }
     ensures index { result.index ≡ index }
+    ensures number { result.number ≡ n }
 {
     Grip {
         index,
@@ -141,14 +142,15 @@ pub(crate) fn hold_segment(
     requires there { Exists «module».now.segments n }
     requires index { index ≡ index_at images.now place n }
     requires small { index < 8192 }
-    requires named { HaveBytes build.old.made.items build.old.plain }
+    requires named { HaveBytes build.old.made build.old.plain }
     ensures adds { (s : Segment) → nth_segment n «module».now.segments ≡ Some s → OnOk result (Adds build.old build.new pid (segment_holding images.now place «module».now n s)) }
     ensures others { OthersStay build.old build.new pid }
-    ensures named { OnOk result (HaveBytes build.new.made.items build.new.plain) }
+    ensures named { OnOk result (HaveBytes build.new.made build.new.plain) }
 {
     let Some(segment) = module.segment(n) else {
         unreachable!()
     };
+    module.is_runnable();
     let grip = grip(module, place, n, &segment, index);
     match found(&build.made, &grip) {
         Some(name) => build.hold(alloc, pid, &grip, name),

@@ -61,9 +61,9 @@ fn begin_next(
     requires there { Exists linked.now.programs pid }
     requires environment { environment_bytes process.now ≡ nth_list linked.now.images.environments pid }
     requires fits { HasEnvironment process.now }
-    requires named { HaveBytes begun.old.build.made.items begun.old.build.plain }
+    requires named { HaveBytes begun.old.build.made begun.old.build.plain }
     ensures begins { (b : Built) → IsBegun begun.old linked.now b → BeginsOn begun.new linked.now (next_started most (Ok b) (start_of linked.now pid process.now)) result }
-    ensures named { OnOk result (HaveBytes begun.new.build.made.items begun.new.build.plain) }
+    ensures named { OnOk result (HaveBytes begun.new.build.made begun.new.build.plain) }
     ensures count { OnOk result (length begun.new.cpus.items ≡ length begun.old.cpus.items + 1) }
 {
     match begun.next(alloc, linked, pid, command_place(process), most) {

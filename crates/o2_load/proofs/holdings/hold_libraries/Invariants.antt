@@ -9,5 +9,5 @@ abbrev pub invariant-loop-place : goal.invariant-loop-place
 invariant-loop-place l = record {
   adds : AddsAll l.fn.build l.build l.pid (library_holdings (map (loaded l.linked.images) (take l.place-index l.places)));
   others : OthersStay l.fn.build l.build l.pid;
-  named : HaveBytes l.build.made.items l.build.plain;
+  named : HaveBytes l.build.made l.build.plain;
 }

@@ -7,5 +7,5 @@ abbrev pub invariant-loop-k : goal.invariant-loop-k
 invariant-loop-k l = record {
   adds : AddsAll l.fn.build l.build l.pid (take l.k (segment_holdings l.linked.images l.place l.«module»));
   others : OthersStay l.fn.build l.build l.pid;
-  named : HaveBytes l.build.made.items l.build.plain;
+  named : HaveBytes l.build.made l.build.plain;
 }
