@@ -1,5 +1,5 @@
 -- What a search in the order of the folded names finds: the first name that is the same.
-use Rattle.std.proofs.Common.{◌≡◌, ℕ, zero, suc, ◌+◌, ◌<◌, ◌≤◌, ◌==◌, Bool, true, false, List, [], ◌∷◌, ◌++◌, Option, Some, None, length, get_or, refl, sym, ap, ◌∙◌, arith, subst, eqb-true, inl, inr}
+use Rattle.std.proofs.Common.{◌≡◌, ℕ, zero, suc, ◌+◌, ◌<◌, ◌≤◌, ◌==◌, ◌||◌, Bool, true, false, List, [], ◌∷◌, ◌++◌, Option, Some, None, length, get_or, refl, sym, ap, ◌∙◌, arith, subst, eqb-true, inl, inr}
 use Rattle.std.specs.Prelude.{nat_lt, nat_le, option_map, ◌||◌}
 use Rattle.std.specs.Str.{bytes_eq}
 use Rattle.std.specs.List.{list_any, slice_get}
@@ -19,7 +19,7 @@ use Rattle.std.proofs.lemmas.Option.{get_or_from_slice_get, slice_get_within, sl
 use Rattle.std.proofs.lemmas.List.{length-map}
 use Rattle.o2_ne.specs.declared.names.Name.{Name}
 use Rattle.o2_ne.specs.declared.rows.Row.{Row}
-use Rattle.o2_ne.specs.NameRows.{Each, IsIndex, by_name, folded, folded_at, is_before, name_in, names_in, text_at, text_of, text_or_none}
+use Rattle.o2_ne.specs.NameRows.{Each, places_of, IsIndex, by_name, folded, folded_at, is_before, name_in, names_in, text_at, text_of, text_or_none}
 use Rattle.o2_ne.specs.NameTable.{ordinal_of, same_name}
 use Rattle.o2_ne.proofs.FoldedLaws.{nat_cmp_less}
 use Rattle.o2_ne.proofs.Lookup.{find_at, find_nowhere}
@@ -29,6 +29,17 @@ pub each_sorted : (n : ℕ) (xs ys : List ℕ) → IsPermutation xs ys → Each 
 each_sorted n xs ys moved each = record {
   there = λ k lt. sym (list_any-IsPermutation (λ (y : ℕ). y == k) xs ys moved) ∙ each.there k lt;
   below = sym (list_any-IsPermutation (λ (y : ℕ). nat_le n y) xs ys moved) ∙ each.below;
+}
+
+any_place : (p : ℕ → Bool) (keys : List (ℕ × ℕ × ℕ)) → list_any p (places_of keys) ≡ list_any (λ (key : ℕ × ℕ × ℕ). p key.2) keys
+any_place p [] = refl
+any_place p (key ∷ keys) = ap (λ (b : Bool). p key.2 || b) (any_place p keys)
+
+-- and so does one of places that stand behind the first bytes of their texts
+pub each_keyed : (n : ℕ) (xs ys : List (ℕ × ℕ × ℕ)) → IsPermutation xs ys → Each n (places_of xs) → Each n (places_of ys)
+each_keyed n xs ys moved each = record {
+  there = λ k lt. any_place (λ (y : ℕ). y == k) ys ∙ sym (list_any-IsPermutation (λ (key : ℕ × ℕ × ℕ). key.2 == k) xs ys moved) ∙ sym (any_place (λ (y : ℕ). y == k) xs) ∙ each.there k lt;
+  below = any_place (λ (y : ℕ). nat_le n y) ys ∙ sym (list_any-IsPermutation (λ (key : ℕ × ℕ × ℕ). nat_le n key.2) xs ys moved) ∙ sym (any_place (λ (y : ℕ). nat_le n y) xs) ∙ each.below;
 }
 
 lower : (n : ℕ) (ys : List ℕ) → list_any (λ (y : ℕ). nat_le n y) ys ≡ false → list_any (λ (y : ℕ). nat_le (n + 1) y) ys ≡ false

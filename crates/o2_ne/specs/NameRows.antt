@@ -54,6 +54,10 @@ pub record Each (n : ℕ) (places : List ℕ) : Type 0 where
   pub there : (k : ℕ) → k < n → list_any (λ y. y == k) places ≡ true
   pub below : list_any (λ y. nat_le n y) places ≡ false
 
+-- the places that stand behind the first bytes of their texts
+abbrev pub places_of : List (ℕ × ℕ × ℕ) → List ℕ
+places_of keys = map (λ key. key.2) keys
+
 -- the places of the rows in the order of their folded texts
 pub record IsIndex (text : List ℕ) (rows : List Row) (order : List ℕ) : Type 0 where
   pub each : Each (length rows) order

@@ -3,7 +3,7 @@ ghost use Rattle.std.specs.Prelude.{◌≡◌, ◌+◌, ◌≤◌, ◌<◌, ◌^
 ghost use Rattle.std.specs.Ordering.{is_lt, nat_cmp};
 ghost use Rattle.std.specs.Cmp.Lexicographic.{slice_cmp};
 ghost use Rattle.std.specs.List.Sorted.{IsPartitionPoint};
-ghost use Rattle.o2_ne.specs.NameRows.{Each, IsIndex, by_name, folded, is_before, names_in, text_at, text_of};
+ghost use Rattle.o2_ne.specs.NameRows.{Each, places_of, IsIndex, by_name, folded, is_before, names_in, text_at, text_of};
 ghost use Rattle.o2_ne.specs.NameTable.{ordinal_of};
 ghost use Rattle.o2_ne.specs.Words.{string_at};
 
@@ -65,23 +65,64 @@ fn is_before(text: &[u8], rows: &[Row], at: u32, name: &[u8]) -> bool
     compare_folded(text_at(text, rows, at), name).is_lt()
 }
 
-// The places below a count.
-fn places(alloc: Global, count: u32) -> Result<Vec<u32>, NoMemory>
-    ensures { IfOk result (λ v. Each count v.items) }
+// The eight bytes of a text from a place on, with ASCII letters folded and zeros behind its end, as a number: in most
+// cases it is in the order of the texts.
+fn part_of(text: &[u8], from: usize) -> u64
+    requires { from ≤ 8 }
 {
-    let mut found = Vec::with_capacity(alloc, count as usize)?;
-    for k in 0..count {
-        found.push(k)?;
+    let mut bytes = [0u8; 8];
+    for i in 0..8usize {
+        if from + i < text.len() {
+            bytes[i] = text[from + i].to_ascii_lowercase();
+        }
     }
+    u64::from_be_bytes(bytes)
+}
+
+// A place with the first bytes of its text.
+type Key = (u64, u64, u32);
+
+// The places of all rows, each with the first bytes of its text.
+fn keys_of(alloc: Global, text: &[u8], rows: &[Row]) -> Result<Vec<Key>, NoMemory>
+    requires { length rows.now < 2 ^ 32 }
+    ensures { IfOk result (λ v. Each (length rows.now) (places_of v.items)) }
+{
+    let mut keys = Vec::with_capacity(alloc, rows.len())?;
+    for k in 0..rows.len() as u32 {
+        let name = text_at(text, rows, k);
+        let first = part_of(name, 0);
+        let second = part_of(name, 8);
+        keys.push((first, second, k))?;
+    }
+    Ok(keys)
+}
+
+// The places alone.
+fn places_of(alloc: Global, keys: &[Key]) -> Result<Vec<u32>, NoMemory>
+    ensures { IfOk result (λ v. v.items ≡ places_of keys.now) }
+{
+    let found = keys.iter().map(|key| key.2).collect(alloc)?;
     Ok(found)
 }
 
-/// The places of the rows in the order of their folded texts.
+// The places of the rows, most of them in the order of their texts.
+fn places(alloc: Global, text: &[u8], rows: &[Row]) -> Result<Vec<u32>, NoMemory>
+    requires { length rows.now < 2 ^ 32 }
+    ensures { IfOk result (λ v. Each (length rows.now) v.items) }
+{
+    let mut keys = keys_of(alloc, text, rows)?;
+    keys.sort_unstable();
+    let found = places_of(alloc, &keys)?;
+    Ok(found)
+}
+
+/// The places of the rows in the order of their folded texts. They are first put in the order of the first bytes, which is
+/// fast, so that the sort by whole texts finds most of its work done.
 pub(crate) fn index_of(alloc: Global, text: &[u8], rows: &[Row]) -> Result<Vec<u32>, NoMemory>
     requires { length rows.now < 2 ^ 32 }
     ensures { IfOk result (λ v. IsIndex text.now rows.now v.items) }
 {
-    let mut order = places(alloc, rows.len() as u32)?;
+    let mut order = places(alloc, text, rows)?;
     order.sort_unstable_by(|a, b| by_name(text, rows, *a, *b));
     Ok(order)
 }
