@@ -1,15 +1,21 @@
 // Times the calls that its arguments name, each by one line: the name, how many were done, and milliseconds.
 //
 // The names are `decode`, `loop`, `moves`, `sums`, `calls` and `strings`; `tables`, `lowest`, `runs`, `grants`, `walks` and
-// `holders` of who holds which index; and `swaps`, `halves` and `copies` of segments that leave the memory. Without arguments it prints nothing.
+// `holders` of who holds which index; and `swaps`, `halves` and `copies` of segments that leave the memory. Those of the
+// readers, `check`, `fill` and `names`, and of the parts of a memory, `fit`, `victim`, `slide` and `blocks`, have a size of at
+// most 65,535, as in `fit=65535`; it is 1,000 where it is missing. Without arguments it prints nothing.
 #![tactic(auto)]
 
 mod decoding;
+mod memory;
+mod readers;
 mod regions;
 mod stepping;
 mod store;
 
 use decoding::decode_many;
+use memory::{fit_many, list_many, slide_many, victim_many};
+use readers::{check_many, fill_many, name_many};
 use regions::{grant_many, holder_many, lowest_many, make_many, walk_many};
 use std::time::Instant;
 use std::{env, io};
@@ -60,6 +66,33 @@ fn measure_store(rt: &HostRuntime, name: &str) -> u64 {
         "swaps" => swap_many(rt.alloc(), 500, 65_536, 100_000),
         "halves" => swap_many(rt.alloc(), 1000, 32_768, 100_000),
         "copies" => copy_many(rt.alloc(), 67_108_864, 65_536, 200_000),
+        _ => return measure_sized(rt, name),
+    };
+    match done {
+        Ok(done) => done,
+        Err(_) => 0,
+    }
+}
+
+/// A name and the size behind it.
+fn parts(name: &str) -> (&str, u16) {
+    match name.split_once('=') {
+        Some((first, size)) => (first, size.parse().unwrap_or(0)),
+        None => (name, 1000),
+    }
+}
+
+/// The same for the names that have a size.
+fn measure_sized(rt: &HostRuntime, name: &str) -> u64 {
+    let (first, size) = parts(name);
+    let done = match first {
+        "check" => check_many(rt.alloc(), size),
+        "fill" => fill_many(rt.alloc(), size),
+        "names" => name_many(rt.alloc(), size),
+        "fit" => fit_many(rt.alloc(), size),
+        "victim" => victim_many(rt.alloc(), size),
+        "slide" => slide_many(rt.alloc(), size),
+        "blocks" => list_many(rt.alloc(), size),
         _ => return 0,
     };
     match done {
