@@ -31,15 +31,15 @@ each_sorted n xs ys moved each = record {
   below = sym (list_any-IsPermutation (λ (y : ℕ). nat_le n y) xs ys moved) ∙ each.below;
 }
 
-any_place : (p : ℕ → Bool) (keys : List (ℕ × ℕ × ℕ)) → list_any p (places_of keys) ≡ list_any (λ (key : ℕ × ℕ × ℕ). p key.2) keys
+any_place : (p : ℕ → Bool) (keys : List (ℕ × ℕ)) → list_any p (places_of keys) ≡ list_any (λ (key : ℕ × ℕ). p key.1) keys
 any_place p [] = refl
-any_place p (key ∷ keys) = ap (λ (b : Bool). p key.2 || b) (any_place p keys)
+any_place p (key ∷ keys) = ap (λ (b : Bool). p key.1 || b) (any_place p keys)
 
 -- and so does one of places that stand behind the first bytes of their texts
-pub each_keyed : (n : ℕ) (xs ys : List (ℕ × ℕ × ℕ)) → IsPermutation xs ys → Each n (places_of xs) → Each n (places_of ys)
+pub each_keyed : (n : ℕ) (xs ys : List (ℕ × ℕ)) → IsPermutation xs ys → Each n (places_of xs) → Each n (places_of ys)
 each_keyed n xs ys moved each = record {
-  there = λ k lt. any_place (λ (y : ℕ). y == k) ys ∙ sym (list_any-IsPermutation (λ (key : ℕ × ℕ × ℕ). key.2 == k) xs ys moved) ∙ sym (any_place (λ (y : ℕ). y == k) xs) ∙ each.there k lt;
-  below = any_place (λ (y : ℕ). nat_le n y) ys ∙ sym (list_any-IsPermutation (λ (key : ℕ × ℕ × ℕ). nat_le n key.2) xs ys moved) ∙ sym (any_place (λ (y : ℕ). nat_le n y) xs) ∙ each.below;
+  there = λ k lt. any_place (λ (y : ℕ). y == k) ys ∙ sym (list_any-IsPermutation (λ (key : ℕ × ℕ). key.1 == k) xs ys moved) ∙ sym (any_place (λ (y : ℕ). y == k) xs) ∙ each.there k lt;
+  below = any_place (λ (y : ℕ). nat_le n y) ys ∙ sym (list_any-IsPermutation (λ (key : ℕ × ℕ). nat_le n key.1) xs ys moved) ∙ sym (any_place (λ (y : ℕ). nat_le n y) xs) ∙ each.below;
 }
 
 lower : (n : ℕ) (ys : List ℕ) → list_any (λ (y : ℕ). nat_le n y) ys ≡ false → list_any (λ (y : ℕ). nat_le (n + 1) y) ys ≡ false

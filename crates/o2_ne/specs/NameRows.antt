@@ -55,8 +55,8 @@ pub record Each (n : ℕ) (places : List ℕ) : Type 0 where
   pub below : list_any (λ y. nat_le n y) places ≡ false
 
 -- the places that stand behind the first bytes of their texts
-abbrev pub places_of : List (ℕ × ℕ × ℕ) → List ℕ
-places_of keys = map (λ key. key.2) keys
+abbrev pub places_of : List (ℕ × ℕ) → List ℕ
+places_of keys = map (λ key. key.1) keys
 
 -- the places of the rows in the order of their folded texts
 pub record IsIndex (text : List ℕ) (rows : List Row) (order : List ℕ) : Type 0 where

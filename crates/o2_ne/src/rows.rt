@@ -65,22 +65,18 @@ fn is_before(text: &[u8], rows: &[Row], at: u32, name: &[u8]) -> bool
     compare_folded(text_at(text, rows, at), name).is_lt()
 }
 
-// The eight bytes of a text from a place on, with ASCII letters folded and zeros behind its end, as a number: in most
-// cases it is in the order of the texts.
-fn part_of(text: &[u8], from: usize) -> u64
-    requires { from ≤ 8 }
-{
+// The first eight bytes of a text, with ASCII letters folded and zeros behind its end, as a number: numbers that differ are in
+// the order of the texts.
+fn front_of(text: &[u8]) -> u64 {
     let mut bytes = [0u8; 8];
-    for i in 0..8usize {
-        if from + i < text.len() {
-            bytes[i] = text[from + i].to_ascii_lowercase();
-        }
+    for i in 0..text.len().min(8) {
+        bytes[i] = text[i].to_ascii_lowercase();
     }
     u64::from_be_bytes(bytes)
 }
 
 // A place with the first bytes of its text.
-type Key = (u64, u64, u32);
+type Key = (u64, u32);
 
 // The places of all rows, each with the first bytes of its text.
 fn keys_of(alloc: Global, text: &[u8], rows: &[Row]) -> Result<Vec<Key>, NoMemory>
@@ -89,10 +85,8 @@ fn keys_of(alloc: Global, text: &[u8], rows: &[Row]) -> Result<Vec<Key>, NoMemor
 {
     let mut keys = Vec::with_capacity(alloc, rows.len())?;
     for k in 0..rows.len() as u32 {
-        let name = text_at(text, rows, k);
-        let first = part_of(name, 0);
-        let second = part_of(name, 8);
-        keys.push((first, second, k))?;
+        let front = front_of(text_at(text, rows, k));
+        keys.push((front, k))?;
     }
     Ok(keys)
 }
@@ -101,7 +95,7 @@ fn keys_of(alloc: Global, text: &[u8], rows: &[Row]) -> Result<Vec<Key>, NoMemor
 fn places_of(alloc: Global, keys: &[Key]) -> Result<Vec<u32>, NoMemory>
     ensures { IfOk result (λ v. v.items ≡ places_of keys.now) }
 {
-    let found = keys.iter().map(|key| key.2).collect(alloc)?;
+    let found = keys.iter().map(|key| key.1).collect(alloc)?;
     Ok(found)
 }
 

@@ -7,7 +7,7 @@ use std::test::Fail;
 // The bytes of names: letters in both cases, and bytes that differ by 20h and are no letters.
 static LETTERS: &str = "aAbB{[zZ";
 
-// What names begin with: the order of names goes by eight bytes first, then by eight more, and then by all.
+// What names begin with: they are put in order by eight bytes first, and then by all.
 static FRONTS: &str = "|exports_|Exports_ByName16|exports_byname16_and_behind_it_";
 
 // The next number of a generator.
