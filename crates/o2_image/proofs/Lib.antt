@@ -9,4 +9,5 @@ pub mod TotalSteps
 pub mod Shapes
 pub mod Runnable
 pub mod Uniform
-pub mod PickedLists
+pub mod PartLists
+pub mod Overlaps

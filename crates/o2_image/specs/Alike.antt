@@ -1,9 +1,12 @@
 -- Segments over the same bytes of the file, which have the same records, and lists that stand for several segments.
-use Rattle.std.specs.Prelude.{◌≡◌, ℕ, ◌+◌, ◌==◌, ◌&&◌, Bool, false, List, [], Option, Some, None, get_or, map, Ok}
+use Rattle.std.specs.Prelude.{◌≡◌, ℕ, ◌+◌, ◌-◌, ◌<◌, ◌≤◌, ◌==◌, ◌&&◌, ◌++◌, Bool, false, List, Option, Some, None, drop, get_or, length, map, take, Ok}
 use Rattle.o2_ne.specs.declared.head.Head.{Head}
 use Rattle.o2_ne.specs.declared.entries.Entry.{Entry}
 use Rattle.o2_ne_segs.specs.declared.segment.Segment.{Segment}
 use Rattle.o2_ne_segs.specs.SegmentTable.{nth_segment}
+use Rattle.o2_image.specs.declared.images.Kept.{Kept}
+use Rattle.o2_image.specs.declared.images.Kept.TheVariants.{Lists, Parts as Parted}
+use Rattle.o2_image.specs.declared.sharing.Part.{Part}
 use Rattle.o2_image.specs.Parts.{Parts}
 use Rattle.o2_image.specs.Records.{segment_step}
 
@@ -24,11 +27,28 @@ share_records m a b = are_alike (nth_segment a m.segments) (nth_segment b m.segm
 abbrev pub Passes : List ℕ → Head → List Entry → Segment → Type 0
 Passes file h es s = (n : ℕ) → segment_step file h es s n ≡ Ok (n + 1)
 
--- the lists at these indexes
-abbrev pub lists_at : {X : Type 0} → List (List X) → List ℕ → List (List X)
-lists_at lists which = map (λ k. get_or lists k []) which
+-- but for its first n items the one list is the front of the other
+pub record Precedes {X : Type 0} (n : ℕ) (xs ys : List X) : Type 0 where
+  pub some : n ≤ length xs
+  pub within : length xs ≤ n + length ys
+  pub same : drop n xs ≡ take (length xs - n) ys
 
--- these lists, or those of them at the indexes
-abbrev pub picked : {X : Type 0} → List (List X) → Option (List ℕ) → List (List X)
-picked lists None = lists
-picked lists (Some which) = lists_at lists which
+-- one list behind another, but for its first items
+abbrev pub behind : {X : Type 0} → List X → ℕ → List X → List X
+behind xs n ys = drop n xs ++ ys
+
+-- a part of a list, and several
+abbrev pub part_of : {X : Type 0} → List X → Part → List X
+part_of xs p = take p.count (drop p.from xs)
+
+abbrev pub parts_of : {X : Type 0} → List X → List Part → List (List X)
+parts_of xs ps = map (part_of xs) ps
+
+-- each part lies in a list of this length
+abbrev pub AreWithin : ℕ → List Part → Type 0
+AreWithin n ps = (k : ℕ) (d : Part) → k < length ps → (get_or ps k d).from + (get_or ps k d).count ≤ n
+
+-- the lists that are kept one by one, or as parts
+abbrev pub lists_of : Kept → List (List (ℕ × ℕ))
+lists_of (Lists lists) = map (λ v. v.items) lists.items
+lists_of (Parted targets parts) = parts_of targets.items parts.items

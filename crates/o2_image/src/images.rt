@@ -2,7 +2,7 @@
 ghost use Rattle.std.specs.Prelude.{[], ◌≡◌, ◌≤◌, ◌<◌, ◌↔◌, ℕ, get_or, length, map, option_map, slice_get, IsTrue, Some};
 ghost use Rattle.o2_ne_segs.specs.declared.segment.Segment.{Segment};
 ghost use Rattle.o2_ne_segs.specs.Records.{relocs_in};
-ghost use Rattle.o2_image.specs.Alike.{lists_at};
+ghost use Rattle.o2_image.specs.Alike.{part_of, parts_of};
 ghost use Rattle.o2_image.specs.Getters.{nth, nth_list};
 ghost use Rattle.o2_image.specs.ImageList.{AllBelong, Belongs, Exists, HasImage, image_front, same_shape};
 ghost use Rattle.o2_image.specs.Images.{segment_image};
@@ -11,25 +11,31 @@ ghost use Rattle.o2_image.specs.Whole.{HasSegment};
 use crate::fill::{fill_bytes, fill_segment};
 use crate::module::Module;
 use crate::records::reloc_count;
+use crate::sharing::Part;
 use o2_base::Bytes;
 use o2_ne_segs::Segment;
 use std::marker::Model;
 
+// Targets by segment: the list of each, or all of them and which are those of a segment.
+#[derive(Drop)]
+pub(crate) enum Kept {
+    Lists(Vec<Vec<(u16, u16)>>),
+    Parts(Vec<(u16, u16)>, Vec<Part>),
+}
+
 /// Where each record of a module leads: a selector and an offset, by segment from 1 and number from 0.
 #[derive(Drop)]
 pub struct Resolved {
-    lists: Vec<Vec<(u16, u16)>>,
-    // which of the lists is that of a segment, where segments share them
-    which: Option<Vec<usize>>,
+    kept: Kept,
 }
 
 impl Model for Resolved {
-    ghost use Rattle.std.specs.Prelude.{List, ℕ, map, option_map};
-    ghost use Rattle.o2_image.specs.Alike.{picked};
+    ghost use Rattle.std.specs.Prelude.{List, ℕ};
+    ghost use Rattle.o2_image.specs.Alike.{lists_of};
 
     ghost Value = { List (List (ℕ × ℕ)) };
 
-    ghost view = { λ r. picked (map (λ v. v.items) r.lists.items) (option_map (λ v. v.items) r.which) };
+    ghost view = { λ r. lists_of r.kept };
 }
 
 // The list at an index, of which there is none past the last.
@@ -42,12 +48,21 @@ fn list_at(lists: &[Vec<(u16, u16)>], i: usize) -> &[(u16, u16)]
     }
 }
 
-// The list at an index of those that are picked.
-fn picked_at<'a>(lists: &'a [Vec<(u16, u16)>], which: &[usize], i: usize) -> &'a [(u16, u16)]
-    ensures { result.now ≡ get_or (lists_at (map (λ v. v.items) lists.now) which.now) i [] }
+// A part of the targets.
+fn part_of<'a>(targets: &'a [(u16, u16)], part: &Part) -> &'a [(u16, u16)]
+    ensures { result.now ≡ part_of targets.now part.now }
 {
-    match which.get(i) {
-        Some(index) => list_at(lists, *index),
+    let (_, rest) = targets.split_at(part.from.min(targets.len()));
+    let (list, _) = rest.split_at(part.count.min(rest.len()));
+    list
+}
+
+// The part at an index, of which there is none past the last.
+fn part_at<'a>(targets: &'a [(u16, u16)], parts: &[Part], i: usize) -> &'a [(u16, u16)]
+    ensures { result.now ≡ get_or (parts_of targets.now parts.now) i [] }
+{
+    match parts.get(i) {
+        Some(part) => part_of(targets, part),
         None => &[],
     }
 }
@@ -58,18 +73,16 @@ impl Resolved {
         ensures { result ≡ map (λ v. v.items) targets.items }
     {
         Resolved {
-            lists: targets,
-            which: None,
+            kept: Kept::Lists(targets),
         }
     }
 
-    // Those of the lists that the segments have.
-    pub(crate) fn picked(lists: Vec<Vec<(u16, u16)>>, which: Vec<usize>) -> Resolved
-        ensures { result ≡ lists_at (map (λ v. v.items) lists.items) which.items }
+    // The targets of which each segment has a part.
+    pub(crate) fn of_parts(targets: Vec<(u16, u16)>, parts: Vec<Part>) -> Resolved
+        ensures { result ≡ parts_of targets.items parts.items }
     {
         Resolved {
-            lists,
-            which: Some(which),
+            kept: Kept::Parts(targets, parts),
         }
     }
 
@@ -77,9 +90,9 @@ impl Resolved {
     fn len(&self) -> usize
         ensures { result ≡ length self.now }
     {
-        match &self.which {
-            Some(which) => which.len(),
-            None => self.lists.len(),
+        match &self.kept {
+            Kept::Lists(lists) => lists.len(),
+            Kept::Parts(_, parts) => parts.len(),
         }
     }
 
@@ -87,9 +100,9 @@ impl Resolved {
     fn at(&self, i: usize) -> &[(u16, u16)]
         ensures { result.now ≡ get_or self.now i [] }
     {
-        match &self.which {
-            Some(which) => picked_at(self.lists.as_slice(), which.as_slice(), i),
-            None => list_at(self.lists.as_slice(), i),
+        match &self.kept {
+            Kept::Lists(lists) => list_at(lists.as_slice(), i),
+            Kept::Parts(targets, parts) => part_at(targets.as_slice(), parts.as_slice(), i),
         }
     }
 

@@ -1,5 +1,5 @@
 // A module: a file that passed every check.
-ghost use Rattle.std.specs.Prelude.{◌≡◌, ◌+◌, ◌≤◌, ◌<◌, ◌∷◌, [], ℕ, get_or, length, option_map, IfOk, IsTrue, OnOk};
+ghost use Rattle.std.specs.Prelude.{◌≡◌, ◌+◌, ◌≤◌, ◌<◌, ◌∷◌, [], ℕ, get_or, length, option_map, IfOk, IfSome, IsTrue, OnOk};
 ghost use Rattle.o2_ne.specs.Checks.{all_hold};
 ghost use Rattle.o2_ne.specs.EntryTable.{entries_of};
 ghost use Rattle.o2_ne.specs.Header.{head_of};
@@ -8,7 +8,7 @@ ghost use Rattle.o2_ne.specs.Steps.{Gives};
 ghost use Rattle.o2_ne_segs.specs.declared.segment.Segment.{Segment};
 ghost use Rattle.o2_ne_segs.specs.Records.{end_of};
 ghost use Rattle.o2_ne_segs.specs.SegmentTable.{nth_segment, segments_of};
-ghost use Rattle.o2_image.specs.Alike.{share_records};
+ghost use Rattle.o2_image.specs.Alike.{share_records, Precedes};
 ghost use Rattle.o2_image.specs.Faults.{under_ne, under_seg};
 ghost use Rattle.o2_image.specs.Getters.{imported_name, is_library, nth, nth_list, nth_reloc, reloc_total};
 ghost use Rattle.o2_image.specs.Modules.{auto_data_checks, is_writable, module_of};
@@ -18,7 +18,7 @@ ghost use Rattle.o2_image.specs.Whole.{HasAutoData, HasReference, IsRunnable};
 use crate::faults::{of_ne, of_seg};
 use crate::records::{Scope, check_segments, reloc_count, reloc_in, total_relocs};
 use crate::references::{check_references, has_string, imported_place, reference_at, string_at};
-use crate::same_bytes::is_alike;
+use crate::same_bytes::{is_alike, records_before};
 use o2_base::{Bytes, Fail, ModuleFault, Which};
 use o2_ne::{Entries, Head, Names};
 use o2_ne_segs::{Kind, Reloc, SegTable, Segment};
@@ -295,6 +295,20 @@ impl Module {
             return false;
         };
         is_alike(&first, &second)
+    }
+
+    /// How many records of a segment stand before those of another, where the last ones of the one are the first ones of the
+    /// other, since the file has both at the same place.
+    pub fn records_before(&self, a: u16, b: u16) -> Option<u16>
+        ensures { IfSome result (λ n. Precedes n (nth_list self.now.relocs a) (nth_list self.now.relocs b)) }
+    {
+        let Some(first) = self.segments.get(a) else {
+            return None;
+        };
+        let Some(second) = self.segments.get(b) else {
+            return None;
+        };
+        records_before(self.file.as_slice(), &first, &second)
     }
 
     /// How many records all segments have together.

@@ -1,8 +1,11 @@
 // Segments over the same bytes of the file, which have the same records.
-ghost use Rattle.std.specs.Prelude.{◌≡◌};
+ghost use Rattle.std.specs.Prelude.{◌≡◌, ◌+◌, ◌*◌, ◌<◌, ◌≤◌, length, IfSome};
 ghost use Rattle.std.specs.List.{list_any};
-ghost use Rattle.o2_image.specs.Alike.{is_alike};
+ghost use Rattle.o2_ne_segs.specs.Records.{relocs_in};
+ghost use Rattle.o2_image.specs.Alike.{is_alike, Precedes};
+ghost use Rattle.o2_image.specs.Whole.{HasSegment};
 
+use crate::records::reloc_count;
 use o2_ne_segs::Segment;
 
 // Whether both have records, and the same bytes before them.
@@ -17,4 +20,22 @@ pub(crate) fn is_any_alike(segments: &[Segment], segment: &Segment) -> bool
     ensures { result ≡ list_any (λ s. is_alike s segment.now) segments.now }
 {
     segments.iter().any(|s| is_alike(s, segment))
+}
+
+// How many records of a segment stand in the file before those of another, where the last ones of the one are the first ones
+// of the other.
+pub(crate) fn records_before(file: &[u8], a: &Segment, b: &Segment) -> Option<u16>
+    requires first { HasSegment file.now a.now }
+    requires second { HasSegment file.now b.now }
+    ensures { IfSome result (λ n. Precedes n (relocs_in file.now a.now) (relocs_in file.now b.now)) }
+{
+    let first = a.file_at as usize + a.file_len as usize;
+    let second = b.file_at as usize + b.file_len as usize;
+    let many = usize::from(reloc_count(file, a));
+    let more = usize::from(reloc_count(file, b));
+    let skip = second.saturating_sub(first) / 8;
+    if skip >= many || skip + more < many || first + 8 * skip != second {
+        return None;
+    }
+    Some(skip as u16)
 }

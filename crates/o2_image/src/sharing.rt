@@ -1,38 +1,46 @@
-// Targets gathered segment by segment, where segments with the same records share one list.
-ghost use Rattle.std.specs.Prelude.{◌≡◌, ◌<◌, ◌++◌, ◌∷◌, [], get_or, length, map, OnOk};
-ghost use Rattle.o2_image.specs.Alike.{lists_at};
+// Targets gathered segment by segment, where segments share records of the file.
+ghost use Rattle.std.specs.Prelude.{◌≡◌, ◌≤◌, ◌<◌, ◌+◌, ◌++◌, ◌∷◌, [], ℕ, drop, get_or, length, OnOk, IfOk, if◌then◌else◌};
+ghost use Rattle.o2_image.specs.Alike.{behind};
 
 use crate::images::Resolved;
 use o2_base::NoMemory;
 use std::alloc::Global;
 use std::marker::Model;
 
-/// The targets of a module's records so far, by segment and number from 0. Segments may share a list, which is held once.
+/// Which of the targets of a module are those of a segment.
+#[derive(Clone, Copy, Debug)]
+pub(crate) struct Part {
+    pub(crate) from: usize,
+    pub(crate) count: usize,
+}
+
+/// The targets of a module's records so far, by segment and number from 0. Those that segments share are held once.
 #[derive(Drop)]
 pub struct SharedTargets {
-    lists: Vec<Vec<(u16, u16)>>,
-    which: Vec<usize>,
+    targets: Vec<(u16, u16)>,
+    parts: Vec<Part>,
 }
 
 impl Model for SharedTargets {
-    ghost use Rattle.std.specs.Prelude.{◌<◌, ℕ, List, length, get_or, map};
-    ghost use Rattle.o2_image.specs.Alike.{lists_at};
+    ghost use Rattle.std.specs.Prelude.{ℕ, List, length};
+    ghost use Rattle.o2_image.specs.Alike.{parts_of, AreWithin};
 
     ghost Value = { List (List (ℕ × ℕ)) };
 
-    ghost view = { λ s. lists_at (map (λ v. v.items) s.lists.items) s.which.items };
+    ghost view = { λ s. parts_of s.targets.items s.parts.items };
 
-    ghost invariant = { λ s. (k : ℕ) (d : ℕ) → k < length s.which.items → get_or s.which.items k d < length s.lists.items };
+    ghost invariant = { λ s. AreWithin (length s.targets.items) s.parts.items };
 }
 
+#[tactic(auto, using(crate::proofs::PartLists::part_length))]
 impl SharedTargets {
     /// No list.
     pub fn new(alloc: Global) -> SharedTargets
         ensures { result ≡ [] }
     {
         SharedTargets {
-            lists: Vec::new(alloc),
-            which: Vec::new(alloc),
+            targets: Vec::new(alloc),
+            parts: Vec::new(alloc),
         }
     }
 
@@ -40,9 +48,13 @@ impl SharedTargets {
     pub fn add(&mut self, targets: Vec<(u16, u16)>) -> Result<(), NoMemory>
         ensures { OnOk result (self.new ≡ self.old ++ targets.items ∷ []) }
     {
-        let index = self.lists.len();
-        self.lists.push(targets)?;
-        self.which.push(index)?;
+        let mut more = targets;
+        let part = Part {
+            from: self.targets.len(),
+            count: more.len(),
+        };
+        self.targets.append(&mut more)?;
+        self.parts.push(part)?;
         Ok(())
     }
 
@@ -51,16 +63,44 @@ impl SharedTargets {
         requires { earlier < length self.old }
         ensures { OnOk result (self.new ≡ self.old ++ get_or self.old earlier [] ∷ []) }
     {
-        let index = self.which[usize::from(earlier)];
-        self.which.push(index)?;
+        let same = self.parts[usize::from(earlier)];
+        self.parts.push(same)?;
         Ok(())
+    }
+
+    /// The next segment has those of an earlier one, by its number from 0, but for the first so many, and these behind them.
+    /// It is told whether they could be held behind the others; if not, nothing is changed.
+    pub fn add_behind(
+        &mut self,
+        earlier: u16,
+        skip: u16,
+        targets: Vec<(u16, u16)>,
+    ) -> Result<bool, NoMemory>
+        requires earlier { earlier < length self.old }
+        requires skip { skip ≤ length (get_or self.old earlier []) }
+        ensures { IfOk result (λ held. self.new ≡ (if held then self.old ++ behind (get_or self.old earlier []) skip targets.items ∷ [] else self.old)) }
+    {
+        let mut more = targets;
+        let part = self.parts[usize::from(earlier)];
+        let skip = usize::from(skip);
+        if part.from + part.count != self.targets.len() || part.count < skip {
+            return Ok(false);
+        }
+        let next = Part {
+            from: part.from + skip,
+            count: part.count - skip + more.len(),
+        };
+        self.targets.append(&mut more)?;
+        self.parts.push(next)?;
+        Ok(true)
     }
 
     /// All of them.
     pub fn finish(self) -> Resolved
         ensures { result ≡ self }
     {
-        let SharedTargets { lists, which } = self;
-        Resolved::picked(lists, which)
+        let SharedTargets { mut targets, parts } = self;
+        targets.shrink_to_fit();
+        Resolved::of_parts(targets, parts)
     }
 }

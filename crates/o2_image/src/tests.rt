@@ -98,6 +98,19 @@ CC=03 CD=FF: Ok
 : Ok
 ";
 
+// A library of two code segments, at B0h and C0h, of which the second has the last two of the first one's four records and one
+// more: the second word of the first one's second record is the number of its own.
+static MEETS: &str = "
+4D 5A 00*3A 40 00 00 00
+4E 45 00 00 5B 00*8 80 00*E 02 00 01 00 00 00 40 00 00 00 50 00 59 00 5B 00*7 04 00 00 00 01 00*9
+0B 00 10 00 00 01 10 00 0C 00 10 00 00 01 10 00
+05 4D 45 45 54 53 00 00 00 01 00
+00 08 44 4F 53 43 41 4C 4C 53 00*B
+80 81 82 83 84 85 86 87 88 89 8A 8B 8C 8D 8E 8F
+04 00*5 01 00 20 00 00 00 01 00 01 00 03 00
+00 00 02 00 01 00 22 00 00 00 03 00 01 00 23 00 00 00 04 00 01 00 24 00
+";
+
 fn number(text: &str) -> usize {
     match usize::from_str_radix(text, 16) {
         Ok(value) => value,
@@ -294,5 +307,54 @@ fn a_chain_meets_itself(rt: HostRuntime) -> Result<(), Fail> {
     let file = changed(rt.alloc(), MIXED, "E0=10 E1=00")?;
     let answer = judged(rt.alloc(), file)?;
     assert_eq!(rt; answer.as_str(), "BadChain(1, 16)");
+    Ok(())
+}
+
+#[test]
+fn segments_may_share_records(rt: HostRuntime) {
+    let Some(module) = module_of(rt.alloc(), MEETS) else {
+        panic!(rt; "refused");
+    };
+    assert!(rt; module.segment_relocs(1) == 4 && module.segment_relocs(2) == 3);
+    assert!(rt; matches!(module.records_before(1, 2), Some(2)));
+    assert!(rt; module.records_before(2, 1).is_none());
+    assert!(rt; module.records_before(1, 3).is_none());
+}
+
+// Three targets of a segment, the last of which are the first of the next; those of a third can't follow the first one's.
+fn shared(alloc: Global) -> Result<Option<Resolved>, NoMemory> {
+    let mut found = SharedTargets::new(alloc);
+    found.add(vec![in alloc; (7, 1), (7, 2), (7, 3)]?)?;
+    found.add_same(0)?;
+    if !found.add_behind(1, 1, vec![in alloc; (7, 4)]?)? {
+        return Ok(None);
+    }
+    if found.add_behind(0, 1, vec![in alloc; (7, 5)]?)? {
+        return Ok(None);
+    }
+    Ok(Some(found.finish()))
+}
+
+fn is_target(found: Option<(u16, u16)>, offset: u16) -> bool {
+    match found {
+        Some(target) => target.1 == offset,
+        None => false,
+    }
+}
+
+#[test]
+fn targets_are_held_once(rt: HostRuntime) -> Result<(), Fail> {
+    let Some(targets) = shared(rt.alloc())? else {
+        panic!(rt; "not shared");
+    };
+    for (segment, first, count) in [(1u16, 1u16, 3u16), (2, 1, 3), (3, 2, 3), (4, 0, 0)] {
+        for k in 0..count {
+            assert!(rt;
+                is_target(targets.get(segment, k), first + k),
+                "{segment} {k}"
+            );
+        }
+        assert!(rt; targets.get(segment, count).is_none());
+    }
     Ok(())
 }
