@@ -8,3 +8,4 @@ pub mod ServiceSteps
 pub mod Leading
 pub mod Known
 pub mod Sharing
+pub mod Behind

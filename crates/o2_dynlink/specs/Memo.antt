@@ -1,5 +1,7 @@
 -- What is known of a module while its imports are looked up.
-use Rattle.std.specs.Prelude.{◌≡◌, ℕ, ◌+◌, ◌*◌, ◌<◌, List, [], Option, Some, None, get_or, length, Result, Ok}
+use Rattle.std.specs.Prelude.{◌≡◌, Bool, true, false, Err, ℕ, ◌+◌, ◌*◌, ◌<◌, List, [], Option, Some, None, get_or, length, Result, Ok}
+use Rattle.o2_base.specs.declared.memory.Fail.{Fail}
+use Rattle.o2_ne.specs.Steps.{Fails}
 use Rattle.o2_image.specs.Getters.{imported_name, nth_list}
 use Rattle.o2_image.specs.Images.{Target}
 use Rattle.o2_image.specs.Parts.{Parts}
@@ -20,3 +22,9 @@ IsMemo ms bases m memo =
 -- each list so far is what f gives of the records of its segment
 abbrev pub AreFound : {X F : Type 0} → (List X → Result (List Target) F) → List (List X) → List (List Target) → Type 0
 AreFound f records found = (j : ℕ) → j < length found → f (nth_list records (j + 1)) ≡ Ok (get_or found j [])
+
+-- the lists are those so far and one more, or they are as they were; where there is none, its fault is told
+abbrev pub AddsBehind : {F : Type 0} → Result (List (List Target)) F → List (List Target) → List (List Target) → Result Bool (Fail F) → Type 0
+AddsBehind all old new (Ok true) = all ≡ Ok new
+AddsBehind all old new (Ok false) = new ≡ old
+AddsBehind all old new (Err e) = Fails e all

@@ -1,14 +1,15 @@
 // Where the records of a module lead: within it, to a service, or to what a library exports.
-ghost use Rattle.std.specs.Prelude.{◌≡◌, ◌+◌, ◌≤◌, ◌<◌, ℕ, length, map, option_and_then, option_map, slice_get, IfSome, Some};
+ghost use Rattle.std.specs.Prelude.{◌≡◌, ◌+◌, ◌-◌, ◌≤◌, ◌<◌, ℕ, drop, length, map, option_and_then, option_map, slice_get, IfSome, Some};
 ghost use Rattle.o2_ne.specs.Steps.{Gives, over};
 ghost use Rattle.o2_ne.specs.EntryTable.{target_of};
 ghost use Rattle.o2_ne.specs.NameTable.{ordinal_of};
 ghost use Rattle.o2_image.specs.Getters.{imported_name, nth, nth_list};
 ghost use Rattle.o2_image.specs.ImageList.{Exists};
+ghost use Rattle.o2_image.specs.Alike.{Precedes};
 ghost use Rattle.o2_image.specs.Images.{Target};
 ghost use Rattle.o2_dynlink.specs.Imports.{each, exported, exported_as, gather, import_name, import_ordinal, import_text, imported, internal, target_in, targets_of};
 ghost use Rattle.o2_dynlink.specs.Leads.{lead_of};
-ghost use Rattle.o2_dynlink.specs.Memo.{AreFound, IsMemo};
+ghost use Rattle.o2_dynlink.specs.Memo.{AddsBehind, AreFound, IsMemo};
 ghost use Rattle.o2_dynlink.specs.Selectors.{base_at};
 
 use crate::leads::{Lead, lead_at, leads_of};
@@ -270,7 +271,7 @@ fn record_at(module: &Module, seg: u16, k: u16) -> Reloc
     }
 }
 
-// Where the records of a segment lead.
+// Where the records of a segment lead, from one on.
 fn targets_in(
     alloc: Global,
     scope: &Scope,
@@ -278,17 +279,19 @@ fn targets_in(
     module: &Module,
     leads: &[Lead],
     seg: u16,
+    from: u16,
     memo: &mut Vec<Option<(u16, u16)>>,
 ) -> Result<Vec<(u16, u16)>, Fail<ModuleFault>>
     requires leads { leads.now ≡ map (lead_of scope.now.modules.now) «module».now.references }
     requires few { length scope.now.modules.now ≤ 64 }
     requires same { length scope.now.bases.now ≡ length scope.now.modules.now }
     requires memo { IsMemo scope.now.modules.now scope.now.bases.now «module».now memo.old.items }
-    ensures exact { Gives (λ v. v.items) result (each (target_in scope.now.modules.now scope.now.bases.now scope.now.ordinals.now base «module».now) (nth_list «module».now.relocs seg)) }
+    requires from { from ≤ length (nth_list «module».now.relocs seg) }
+    ensures exact { Gives (λ v. v.items) result (each (target_in scope.now.modules.now scope.now.bases.now scope.now.ordinals.now base «module».now) (drop from (nth_list «module».now.relocs seg))) }
     ensures memo { IsMemo scope.now.modules.now scope.now.bases.now «module».now memo.new.items }
 {
     let mut found = Vec::new(alloc);
-    for k in 0..module.segment_relocs(seg) {
+    for k in from..module.segment_relocs(seg) {
         let reloc = record_at(module, seg, k);
         add_target(alloc, scope, base, module, leads, &reloc, memo, &mut found)?;
     }
@@ -306,6 +309,71 @@ fn earlier_with(module: &Module, seg: u16) -> Option<u16>
         }
     }
     None
+}
+
+// Those of one segment more, the first of which are the last ones of the segment before it.
+fn add_behind(
+    alloc: Global,
+    scope: &Scope,
+    base: u16,
+    module: &Module,
+    leads: &[Lead],
+    seg: u16,
+    skip: u16,
+    memo: &mut Vec<Option<(u16, u16)>>,
+    found: &mut SharedTargets,
+) -> Result<bool, Fail<ModuleFault>>
+    requires leads { leads.now ≡ map (lead_of scope.now.modules.now) «module».now.references }
+    requires few { length scope.now.modules.now ≤ 64 }
+    requires same { length scope.now.bases.now ≡ length scope.now.modules.now }
+    requires memo { IsMemo scope.now.modules.now scope.now.bases.now «module».now memo.old.items }
+    requires at { seg ≡ length found.old + 1 }
+    requires some { 2 ≤ seg }
+    requires precedes { Precedes skip (nth_list «module».now.relocs (seg - 1)) (nth_list «module».now.relocs seg) }
+    requires are { AreFound (each (target_in scope.now.modules.now scope.now.bases.now scope.now.ordinals.now base «module».now)) «module».now.relocs found.old }
+    ensures exact { AddsBehind (gather (each (target_in scope.now.modules.now scope.now.bases.now scope.now.ordinals.now base «module».now)) (nth_list «module».now.relocs seg) found.old) found.old found.new result }
+    ensures memo { IsMemo scope.now.modules.now scope.now.bases.now «module».now memo.new.items }
+{
+    let shared = module.segment_relocs(seg - 1) - skip;
+    let targets = targets_in(alloc, scope, base, module, leads, seg, shared, memo)?;
+    let held = found.add_behind(seg - 2, skip, targets)?;
+    Ok(held)
+}
+
+// How many records of the segment before one stand before its own, where it shares the others.
+fn before(module: &Module, seg: u16) -> Option<u16>
+    ensures { IfSome result (λ n. (2 ≤ seg) × Precedes n (nth_list «module».now.relocs (seg - 1)) (nth_list «module».now.relocs seg)) }
+{
+    if seg < 2 {
+        return None;
+    }
+    module.records_before(seg - 1, seg)
+}
+
+// The same, where it shares any with the segment before it.
+fn add_onwards(
+    alloc: Global,
+    scope: &Scope,
+    base: u16,
+    module: &Module,
+    leads: &[Lead],
+    seg: u16,
+    memo: &mut Vec<Option<(u16, u16)>>,
+    found: &mut SharedTargets,
+) -> Result<bool, Fail<ModuleFault>>
+    requires leads { leads.now ≡ map (lead_of scope.now.modules.now) «module».now.references }
+    requires few { length scope.now.modules.now ≤ 64 }
+    requires same { length scope.now.bases.now ≡ length scope.now.modules.now }
+    requires memo { IsMemo scope.now.modules.now scope.now.bases.now «module».now memo.old.items }
+    requires at { seg ≡ length found.old + 1 }
+    requires are { AreFound (each (target_in scope.now.modules.now scope.now.bases.now scope.now.ordinals.now base «module».now)) «module».now.relocs found.old }
+    ensures exact { AddsBehind (gather (each (target_in scope.now.modules.now scope.now.bases.now scope.now.ordinals.now base «module».now)) (nth_list «module».now.relocs seg) found.old) found.old found.new result }
+    ensures memo { IsMemo scope.now.modules.now scope.now.bases.now «module».now memo.new.items }
+{
+    match before(module, seg) {
+        Some(skip) => add_behind(alloc, scope, base, module, leads, seg, skip, memo, found),
+        None => Ok(false),
+    }
 }
 
 // Those of one segment more, which are looked up once where segments share their records.
@@ -333,7 +401,10 @@ fn add_targets(
         found.add_same(earlier)?;
         return Ok(());
     }
-    let targets = targets_in(alloc, scope, base, module, leads, seg, memo)?;
+    if add_onwards(alloc, scope, base, module, leads, seg, memo, found)? {
+        return Ok(());
+    }
+    let targets = targets_in(alloc, scope, base, module, leads, seg, 0, memo)?;
     found.add(targets)?;
     Ok(())
 }
