@@ -13,12 +13,12 @@ use Rattle.o2_dynlink.specs.Outcome.{modules_of}
 use Rattle.o2_open.specs.declared.session.Session.{Session}
 use Rattle.o2_open.specs.declared.fault.OpenFault.{OpenFault}
 use Rattle.o2_open.specs.declared.fault.OpenFault.TheVariants as open_fault
-use Rattle.o2_open.specs.Loads.{Contents, Fails, loaded}
+use Rattle.o2_open.specs.Loads.{Contents, Fails, Refuses as OpenRefuses, loaded}
 use Rattle.o2_cli.specs.declared.status.Status.{Status}
 use Rattle.o2_cli.specs.declared.status.Status.TheVariants as status
 use Rattle.o2_cli.specs.Top.{Told, IsCheck, IsFirst, Refuses, Shows}
 use Rattle.o2_cli.specs.Statuses.{status_by}
-use Rattle.o2_cli.specs.Checks.{module_line, with_line, module_lines, ShowsLines, Checks, ChecksFile}
+use Rattle.o2_cli.specs.Checks.{module_line, with_line, module_lines, IsUnstarted, ShowsLines, Checks, ChecksFile}
 use Rattle.o2_cli.proofs.Runs.{load_started}
 
 with_line_behind : (front text : List ℕ) (o : Option Parts) → with_line (front ++ text) o ≡ front ++ with_line text o
@@ -145,3 +145,14 @@ module _ (words : List (String Global)) (told : Told) (name : List ℕ) (command
 
   pub lines_of_check : (loads : (contents : Contents) → told ≡ Some contents → loaded Check contents name ≡ Ok s) (answer : Status) → ShowsLines s c d answer → Checks words told c d answer
   lines_of_check loads answer t = λ other too. subst (λ (n : List ℕ). ChecksFile n told c d answer) (name_is words Check Check name other command too) (file_shown loads answer t)
+
+-- what keeps a command from opening is no refusal of a start
+unstarted_by : (before now : ℕ) (f : OpenFault) → OpenRefuses before now f → IsUnstarted (status_by f)
+unstarted_by before now (open_fault.NoFile n) h = tt
+unstarted_by before now (open_fault.BadMachine f) h = tt
+unstarted_by before now (open_fault.BadModule n f) h = h
+unstarted_by before now open_fault.FileFault h = tt
+unstarted_by before now open_fault.NoMemory h = tt
+
+pub unstarted : (before now : ℕ) (f : OpenFault) (answer : Status) → answer ≡ status_by f → OpenRefuses before now f → IsUnstarted answer
+unstarted before now f answer is h = subst IsUnstarted (sym is) (unstarted_by before now f h)

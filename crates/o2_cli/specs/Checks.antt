@@ -8,7 +8,7 @@ use Rattle.o2_image.specs.Parts.{Parts}
 use Rattle.o2_dynlink.specs.Outcome.{modules_of}
 use Rattle.o2_outer.specs.Texts.{Gains, GainsSome, IsPrefix}
 use Rattle.o2_open.specs.declared.session.Session.{Session}
-use Rattle.o2_open.specs.Loads.{Contents, loaded}
+use Rattle.o2_open.specs.Loads.{Contents, IsOfStart, loaded}
 use Rattle.o2_cli.specs.declared.status.Status.{Status}
 use Rattle.o2_cli.specs.declared.status.Status.TheVariants as status
 use Rattle.o2_cli.specs.Top.{Told}
@@ -62,3 +62,8 @@ ChecksFile name told c d _ = d ≡ c
 -- where the words are `check` and the name of a file
 abbrev pub Checks : List (String Global) → Told → (console_old console_new : Option (List ℕ)) → Status → Type 0
 Checks words told c d s = (name : List ℕ) → IsCommandFor words Check name → ChecksFile name told c d s
+
+-- no refusal of a start
+abbrev pub IsUnstarted : Status → Type 0
+IsUnstarted (status.BadModule name fault) = IsOfStart fault → ⊥
+IsUnstarted _ = Unit {0}

@@ -6,7 +6,7 @@ ghost use Rattle.o2_outer.specs.Texts.{Rose};
 ghost use Rattle.o2_cli.specs.Top.{IsCheck, Refuses, Shows, IsUnswapped, OnFileFault, OnInputFault, OnSinkFault, OnSwapFault, OnUnrun};
 ghost use Rattle.o2_cli.specs.Statuses.{status_of};
 ghost use Rattle.o2_cli.specs.RunTexts.{ShowsRun};
-ghost use Rattle.o2_cli.specs.Checks.{Checks, ShowsLines};
+ghost use Rattle.o2_cli.specs.Checks.{Checks, IsUnstarted, ShowsLines};
 
 use crate::Status;
 use crate::lines::lines;
@@ -35,8 +35,10 @@ pub fn os2run<F: Files, I: Source, C: Sink, R: Sink, S: SwapDevice>(
     ensures texts { Shows words.now (F.told files.old) (S.blocks swap.old)
         (I.left input.old) (I.left input.new) (C.taken console.old) (C.taken console.new)
         (R.taken report.old) (R.taken report.new) (Rose (R.faults report.old) (R.faults report.new)) result }
-    // Of `check` the console gains the line of each linked module, or a front of the lines, and nothing else is touched.
+    // Of `check` the console gains the line of each linked module, or a front of the lines, and nothing else is touched; no
+    // module is refused for a stack, an entry point or the number of segments.
     ensures lines { Checks words.now (F.told files.old) (C.taken console.old) (C.taken console.new) result }
+    ensures checks_unstarted { IsCheck words.now → IsUnstarted result }
     ensures checks_quietly { IsCheck words.now → report.new ≡ report.old }
     ensures checks_unread { IsCheck words.now → input.new ≡ input.old }
     // Where nothing ran, the input and both sinks are as they were, whatever they tell.
@@ -73,6 +75,7 @@ pub fn os2run<F: Files, I: Source, C: Sink, R: Sink, S: SwapDevice>(
 /// Writes what `check` says of what it opened.
 fn check_session<C: Sink>(alloc: Global, session: &Session, console: &mut C) -> Status
     ensures lines { ShowsLines session.now (C.taken console.old) (C.taken console.new) result }
+    ensures unstarted { IsUnstarted result }
     ensures same_console { OnUnrun result (console.new ≡ console.old) }
     ensures sink_fault { OnSinkFault result (Rose (C.faults console.old) (C.faults console.new)) }
 {

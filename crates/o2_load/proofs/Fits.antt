@@ -2,7 +2,7 @@
 -- and the libraries' segments follow one another from index 4096 on.
 use Rattle.std.proofs.Common.{◌≡◌, ◌≢◌, ℕ, zero, suc, ◌+◌, ◌-◌, ◌≤◌, ◌<◌, ◌==◌, ◌&&◌, ◌||◌, Bool, true, false, cond, List, [], ◌∷◌, ◌++◌, length, get_or, Option, Some, None, ap, sym, ◌∙◌, refl, arith, subst, Result, Ok, Err}
 use Rattle.std.specs.Prelude.{slice_get, option_map, unwrap_or, map, flat_map, IsTrue}
-use Rattle.std.specs.List.{All, list_any, IsDistinct}
+use Rattle.std.specs.List.{All, list_any}
 use Rattle.std.proofs.lemmas.List.Elements.{All-cons, All-nil, All-get_or}
 use Rattle.std.proofs.lemmas.Option.{get_or_from_slice_get, slice_get-map, slice_get_within}
 use Rattle.o2_isa.specs.View.{is_readable}
@@ -28,10 +28,11 @@ use Rattle.o2_dynlink.specs.Selectors.{shared_after, base_after, bases_from, bas
 use Rattle.o2_dynlink.proofs.Consistent.{fitting, fitting_modules}
 use Rattle.o2_dynlink.proofs.Indexes.{nth_some, index_is}
 use Rattle.o2_world.specs.Starts.{Loaded, LoadedSegment, Start, nth_loaded}
-use Rattle.o2_world.specs.FitStarts.{module_indexes, IsFit, AreFit}
+use Rattle.o2_world.specs.FitStarts.{module_indexes, held_indexes, IsFit, AreFit}
 use Rattle.o2_world.proofs.Keeps.{some_is}
 use Rattle.o2_load.specs.Loads.{rights_of, index_at, loaded_segment, loaded_segments, loaded_module, no_module, loaded_at, loaded, program_place, start_of, starts_of}
-use Rattle.o2_load.proofs.Rising.{Rises, numbers, rises_from, rises_behind, rising_distinct}
+use Rattle.o2_load.specs.Rises.{AreRising, Rises}
+use Rattle.o2_load.proofs.Rising.{numbers, rises_from, rises_behind, rising_distinct}
 
 -- The module at a place.
 
@@ -214,19 +215,11 @@ module _ (images : ImageList) (ms : List Parts) (same : modules_of images ≡ ms
       go None = tt
       go (Some place) = reached_rises (nth ms place)
 
-  fit_program : (place : ℕ) (o : Option Parts) → nth ms place ≡ o → ((m : Parts) → o ≡ Some m → IsRunnable m) → (libraries : List Loaded) (environment : List ℕ) (command : ℕ)
-      → Rises 4096 (flat_map module_indexes libraries) → (loaded_of images place o).library ≡ false
-      → IsFit (record { program = loaded_of images place o; libraries = libraries; environment = environment; command = command })
-  fit_program place None e runnable libraries environment command rises program = record {
-    numbered = λ n x h. absurd (none_there n x h);
-    distinct = rising_distinct 1 (1 ∷ flat_map module_indexes libraries) (omega arith, rises_from 2 4096 (flat_map module_indexes libraries) (omega arith) rises);
-    automatic = λ x h. absurd (none_there 0 x h);
-  }
-  fit_program place (Some m) e runnable libraries environment command rises program = record {
-    numbered = numbered;
-    distinct = subst (λ (is : List ℕ). IsDistinct (λ i j. i == j) is) (sym indexes) (rising_distinct 1 _ rising);
-    automatic = automatic;
-  }
+  -- the program's segments, its environment, and the libraries' segments
+  program_rises : (place : ℕ) (o : Option Parts) → nth ms place ≡ o → ((m : Parts) → o ≡ Some m → IsRunnable m) → (rest : List ℕ) → Rises 4096 rest → (loaded_of images place o).library ≡ false
+      → Rises 1 (module_indexes (loaded_of images place o) ++ (length (loaded_of images place o).segments + 1) ∷ rest)
+  program_rises place None e runnable rest rises program = (omega arith, rises_from 2 4096 rest (omega arith) rises)
+  program_rises place (Some m) e runnable rest rises program = subst (λ (is : List ℕ). Rises 1 is) (sym indexes) rising
     where
       there : (place ≢ 0) × (slice_get ms (place - 1) ≡ Some m)
       there = nth_some ms place m e
@@ -236,9 +229,6 @@ module _ (images : ImageList) (ms : List Parts) (same : modules_of images ≡ ms
 
       few : length m.segments ≤ 254
       few = (runnable m refl).few
-
-      rest : List ℕ
-      rest = flat_map module_indexes libraries
 
       indexes : map (λ (x : LoadedSegment). x.index) (loaded_segments images place m 1 m.segments) ++ (length (loaded_segments images place m 1 m.segments) + 1) ∷ rest
           ≡ numbers 1 (length m.segments) ++ (length m.segments + 1) ∷ rest
@@ -251,6 +241,26 @@ module _ (images : ImageList) (ms : List Parts) (same : modules_of images ≡ ms
       rising =
           rises_behind 1 1 (length m.segments) ((length m.segments + 1) ∷ rest) (omega arith)
           (omega arith, rises_from (length m.segments + 1 + 1) 4096 rest (omega (arith, few)) rises)
+
+  fit_program : (place : ℕ) (o : Option Parts) → nth ms place ≡ o → ((m : Parts) → o ≡ Some m → IsRunnable m) → (libraries : List Loaded) (environment : List ℕ) (command : ℕ)
+      → Rises 4096 (flat_map module_indexes libraries) → (loaded_of images place o).library ≡ false
+      → IsFit (record { program = loaded_of images place o; libraries = libraries; environment = environment; command = command })
+  fit_program place None e runnable libraries environment command rises program = record {
+    numbered = λ n x h. absurd (none_there n x h);
+    distinct = rising_distinct 1 _ (program_rises place None e runnable (flat_map module_indexes libraries) rises program);
+    automatic = λ x h. absurd (none_there 0 x h);
+  }
+  fit_program place (Some m) e runnable libraries environment command rises program = record {
+    numbered = numbered;
+    distinct = rising_distinct 1 _ (program_rises place (Some m) e runnable (flat_map module_indexes libraries) rises program);
+    automatic = automatic;
+  }
+    where
+      there : (place ≢ 0) × (slice_get ms (place - 1) ≡ Some m)
+      there = nth_some ms place m e
+
+      base : base_at (bases_of ms) place ≡ 0
+      base = program_base 0 ms (place - 1) m there.1 program
 
       numbered : (n : ℕ) (x : LoadedSegment) → nth_loaded n (loaded_segments images place m 1 m.segments) ≡ Some x → x.index ≡ n
       numbered n x h =
@@ -294,6 +304,23 @@ module _ (ms : List Parts) (c : Conf) (targets : List Targets) (programs : List 
       All-cons (λ (s : Start). s.program.library ≡ false → IsFit s) (start_of (outcome ms c targets programs) pid p) (starts_of (outcome ms c targets programs) (pid + 1) ps)
       (start_fit pid p) (starts_fit (pid + 1) ps)
 
+-- what each start of an outcome of linking holds rises
+module _ (ms : List Parts) (c : Conf) (targets : List Targets) (programs : List ℕ) (shapes : Fitting ms targets) (all : All IsRunnable ms) where
+  start_rises : (pid : ℕ) (p : Process) → (start_of (outcome ms c targets programs) pid p).program.library ≡ false → Rises 1 (held_indexes (start_of (outcome ms c targets programs) pid p))
+  start_rises pid p program =
+      let l : LinkedParts = outcome ms c targets programs in
+      let place : ℕ = program_place l pid in
+      let same : modules_of l.images ≡ ms = fitting_modules ms targets shapes in
+      let is : (start_of l pid p).program ≡ loaded_of l.images place (nth ms place) = at_place l.images ms same place (nth ms place) refl in
+      subst (λ (x : Loaded). Rises 1 (held_indexes (record (start_of l pid p) { program = x }))) (sym is)
+      (program_rises l.images ms same place (nth ms place) refl (λ m e. runnable_at ms place all m e) _ (lists_rise l.images ms same programs pid) (ap (λ (x : Loaded). x.library) (sym is) ∙ program))
+
+  starts_rise : (pid : ℕ) (ps : List Process) → AreRising (starts_of (outcome ms c targets programs) pid ps)
+  starts_rise pid [] = All-nil (λ (s : Start). s.program.library ≡ false → Rises 1 (held_indexes s))
+  starts_rise pid (p ∷ ps) =
+      All-cons (λ (s : Start). s.program.library ≡ false → Rises 1 (held_indexes s)) (start_of (outcome ms c targets programs) pid p) (starts_of (outcome ms c targets programs) (pid + 1) ps)
+      (start_rises pid p) (starts_rise (pid + 1) ps)
+
 -- What linking gives is such an outcome.
 
 record Comes {X F Y : Type 0} (r : Result X F) (f : X → Result Y F) (y : Y) : Type 0 where
@@ -334,6 +361,9 @@ of_linked P ms c l e each_outcome =
 
 pub linked_starts_fit : (ms : List Parts) (c : Conf) (l : LinkedParts) → All IsRunnable ms → linked_of ms c ≡ Ok l → AreFit (starts_of l 1 c.process)
 linked_starts_fit ms c l all e = of_linked (λ (x : LinkedParts). AreFit (starts_of x 1 c.process)) ms c l e (λ targets programs shapes. starts_fit ms c targets programs shapes all 1 c.process)
+
+pub linked_starts_rise : (ms : List Parts) (c : Conf) (l : LinkedParts) → All IsRunnable ms → linked_of ms c ≡ Ok l → AreRising (starts_of l 1 c.process)
+linked_starts_rise ms c l all e = of_linked (λ (x : LinkedParts). AreRising (starts_of x 1 c.process)) ms c l e (λ targets programs shapes. starts_rise ms c targets programs shapes all 1 c.process)
 
 -- its modules are those that were linked
 pub linked_modules : (ms : List Parts) (c : Conf) (l : LinkedParts) → linked_of ms c ≡ Ok l → modules_of l.images ≡ ms

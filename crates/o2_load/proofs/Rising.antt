@@ -2,11 +2,7 @@
 use Rattle.std.proofs.Common.{◌≡◌, ℕ, zero, suc, ◌+◌, ◌≤◌, ◌<◌, ◌==◌, false, List, [], ◌∷◌, ◌++◌, arith}
 use Rattle.std.specs.List.{IsDistinct, AllByRecursion}
 use Rattle.std.proofs.lemmas.Map.Keys.{IsDistinct-cons}
-
--- each number is at least the bound, and above the one before it
-abbrev pub Rises : ℕ → List ℕ → Type 0
-Rises low [] = Unit {0}
-Rises low (n ∷ ns) = (low ≤ n) × Rises (n + 1) ns
+use Rattle.o2_load.specs.Rises.{Rises}
 
 -- so many numbers from this one on
 abbrev pub numbers : ℕ → ℕ → List ℕ

@@ -3,3 +3,4 @@ pub mod Holds
 pub mod Started
 pub mod Beginnings
 pub mod MadeIndex
+pub mod Rises

@@ -16,6 +16,7 @@ ghost use Rattle.o2_world.specs.Tied.{IsSound};
 ghost use Rattle.o2_image.specs.Getters.{is_library, nth};
 ghost use Rattle.o2_world.specs.Known.{is_for_the_run};
 ghost use Rattle.o2_load.specs.Loads.{loaded, starts_of, library_ranges, index_at};
+ghost use Rattle.o2_load.specs.Rises.{AreRising};
 
 /// Over modules that passed their checks, each start that linking gives is fit and is over these modules, of which no two
 /// segments have one shared index. So the world before the first step is sound, and what is held then is what the lines of the
@@ -46,4 +47,11 @@ pub fn libraries_are_reserved_for_the_run()
         → (place n : ℕ) (m : Parts) → nth ms place ≡ Some m → is_library m ≡ true → 1 ≤ n
         → n ≤ length m.segments
         → list_any (is_for_the_run (index_at l.images place n)) w.reserved ≡ true }
+{}
+
+/// What a process holds from its start on has rising indexes, so its lines tell rising selectors: its program's segments, its
+/// environment, and the segments of the libraries that it reaches.
+pub fn holds_by_load_rise()
+    ensures { (ms : List Parts) (c : Conf) (l : LinkedParts) → All IsRunnable ms → linked_of ms c ≡ Ok l
+        → AreRising (starts_of l 1 c.process) }
 {}

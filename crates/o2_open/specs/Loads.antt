@@ -3,7 +3,7 @@ use Rattle.std.specs.Prelude.{ℕ, List, [], ◌∷◌, ◌++◌, ◌≡◌, len
 use Rattle.o2_base.specs.declared.faults.Key.TheVariants as key
 use Rattle.o2_base.specs.declared.faults.MachineFault.TheVariants.{Limit}
 use Rattle.o2_base.specs.declared.faults.ModuleFault.{ModuleFault}
-use Rattle.o2_base.specs.declared.faults.ModuleFault.TheVariants.{NoModule, OutOfProfile}
+use Rattle.o2_base.specs.declared.faults.ModuleFault.TheVariants.{NoModule, OutOfProfile, NoStack, NoEntry, NoSegment}
 use Rattle.o2_base.specs.declared.faults.Which.TheVariants.{FileLength}
 use Rattle.o2_outer.specs.Texts.{Rose}
 use Rattle.o2_words.specs.declared.words.Verb.{Verb}
@@ -107,10 +107,17 @@ abbrev pub Tells : OpenFault → OpenFault → Type 0
 Tells open_fault.NoMemory wanted = Unit {0}
 Tells s wanted = s ≡ wanted
 
--- what may keep a command from its run, with the counts of the files' faults before and after
+-- a reason that a start alone has: no stack, no entry point, too many segments
+abbrev pub IsOfStart : ModuleFault → Type 0
+IsOfStart NoStack = Unit {0}
+IsOfStart NoEntry = Unit {0}
+IsOfStart NoSegment = Unit {0}
+IsOfStart _ = ⊥
+
+-- what may keep a command from opening, with the counts of the files' faults before and after: never what a start asks for
 abbrev pub Refuses : ℕ → ℕ → OpenFault → Type 0
 Refuses before now open_fault.NoMemory = Unit {0}
 Refuses before now open_fault.FileFault = Rose before now
 Refuses before now (open_fault.NoFile name) = Unit {0}
 Refuses before now (open_fault.BadMachine fault) = Unit {0}
-Refuses before now (open_fault.BadModule name fault) = Unit {0}
+Refuses before now (open_fault.BadModule name fault) = IsOfStart fault → ⊥
