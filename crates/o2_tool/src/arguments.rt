@@ -1,7 +1,10 @@
 // The words of a program, and what clap says of them.
-ghost use Rattle.std.specs.Prelude.{◌≡◌, IfOk};
+ghost use Rattle.std.specs.Prelude.{◌≡◌, ◌≢◌, IfOk};
+ghost use Rattle.std.specs.Process.{exit_status};
+ghost use Rattle.clap.specs.Words.{kind_of};
 
 use crate::end::MISUSED;
+use clap::error::ErrorKind;
 use o2_base::{Bytes, NoMemory};
 use std::alloc::{AllocError, Global};
 use std::process::ExitCode;
@@ -20,7 +23,12 @@ pub fn words(rt: &HostRuntime) -> io::Result<Vec<String>> {
 
 /// What a program ends with where its words are no command, or ask for help or the version: the text goes to the standard error or to
 /// the standard output, and the status is 2 or 0.
-pub fn answered(rt: &HostRuntime, error: &clap::Error) -> io::Result<ExitCode> {
+pub fn answered(rt: &HostRuntime, error: &clap::Error) -> io::Result<ExitCode>
+    ensures help { IfOk result (λ c. kind_of error.now ≡ ErrorKind.DisplayHelp → exit_status c ≡ 0) }
+    ensures version { IfOk result (λ c. kind_of error.now ≡ ErrorKind.DisplayVersion → exit_status c ≡ 0) }
+    ensures misused { IfOk result (λ c. kind_of error.now ≢ ErrorKind.DisplayHelp
+        → kind_of error.now ≢ ErrorKind.DisplayVersion → exit_status c ≡ MISUSED) }
+{
     error.print(rt)?;
     if error.use_stderr() {
         Ok(ExitCode::from(MISUSED))

@@ -1,4 +1,6 @@
 // How a program ends.
+ghost use Rattle.std.specs.Prelude.{◌≡◌, MatchResult};
+ghost use Rattle.std.specs.Process.{exit_status};
 
 use std::process::ExitCode;
 
@@ -12,7 +14,9 @@ pub const MISUSED: u8 = 2;
 pub const FAILED: u8 = 3;
 
 /// The end of a program: its status, or 3 with a line on the standard error.
-pub fn ended(rt: &HostRuntime, name: &str, done: anyhow::Result<ExitCode>) -> ExitCode {
+pub fn ended(rt: &HostRuntime, name: &str, done: anyhow::Result<ExitCode>) -> ExitCode
+    ensures { MatchResult done (λ code. result ≡ code) (λ _. exit_status result ≡ FAILED) }
+{
     match done {
         Ok(code) => code,
         Err(error) => {

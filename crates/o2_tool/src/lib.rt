@@ -6,5 +6,5 @@ mod end;
 mod shown;
 
 pub use arguments::{answered, file_name, words};
-pub use end::{FAILED, REFUSED, ended};
+pub use end::{FAILED, MISUSED, REFUSED, ended};
 pub use shown::Shown;

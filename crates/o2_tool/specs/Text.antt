@@ -1,0 +1,11 @@
+-- Bytes as a text that any terminal shows.
+use Rattle.std.specs.Prelude.{ℕ, ◌/◌, ◌%◌, true, ◌&&◌, nat_le, nat_lt, if◌then◌else◌, List, [], ◌∷◌, ◌++◌}
+use Rattle.std.specs.Fmt.{digit_glyph}
+
+-- printable ASCII is written as it is, any other byte as \x and two hexadecimal digits
+abbrev pub byte_text : ℕ → List ℕ
+byte_text b = if nat_le 32 b && nat_lt b 127 then b ∷ [] else 92 ∷ (120 ∷ (digit_glyph true (b / 16) ∷ (digit_glyph true (b % 16) ∷ [])))
+
+abbrev pub shown_text : List ℕ → List ℕ
+shown_text [] = []
+shown_text (b ∷ bs) = byte_text b ++ shown_text bs

@@ -1,0 +1,60 @@
+/* Takes single steps by libx86emu, for tools/check_programs. Each line of the input has decimal numbers: ax bx cx dx cs ss ds es sp bp si di
+   ip flags, the bases of cs ss ds es, how many bytes of memory follow, and each one's address and value. A line of the output has the
+   fourteen registers behind the step, and the values of these bytes. */
+#include <stdio.h>
+#include <stdlib.h>
+#include <x86emu.h>
+
+static unsigned next(void)
+{
+    unsigned value;
+    if (scanf("%u", &value) != 1)
+        exit(1);
+    return value;
+}
+
+int main(void)
+{
+    static unsigned address[4096];
+    unsigned first;
+    while (scanf("%u", &first) == 1) {
+        x86emu_t *emu = x86emu_new(X86EMU_PERM_RWX | X86EMU_PERM_VALID, 0);
+        x86emu_regs_t *r = &emu->x86;
+        int order[4] = { R_CS_INDEX, R_SS_INDEX, R_DS_INDEX, R_ES_INDEX };
+        unsigned k, count;
+        r->R_EAX = first;
+        r->R_EBX = next();
+        r->R_ECX = next();
+        r->R_EDX = next();
+        for (k = 0; k < 4; k++)
+            r->seg[order[k]].sel = next();
+        r->R_ESP = next();
+        r->R_EBP = next();
+        r->R_ESI = next();
+        r->R_EDI = next();
+        r->R_EIP = next();
+        r->R_EFLG = next();
+        for (k = 0; k < 4; k++) {
+            r->seg[order[k]].base = next();
+            r->seg[order[k]].limit = 0xffff;
+        }
+        count = next();
+        if (count > 4096)
+            return 1;
+        for (k = 0; k < count; k++) {
+            address[k] = next();
+            x86emu_write_byte(emu, address[k], next());
+        }
+        emu->max_instr = 1;
+        x86emu_run(emu, X86EMU_RUN_MAX_INSTR);
+        printf("%u %u %u %u", r->R_AX, r->R_BX, r->R_CX, r->R_DX);
+        for (k = 0; k < 4; k++)
+            printf(" %u", r->seg[order[k]].sel);
+        printf(" %u %u %u %u %u %u", r->R_SP, r->R_BP, r->R_SI, r->R_DI, r->R_IP, (unsigned)(r->R_FLG & 0xffff));
+        for (k = 0; k < count; k++)
+            printf(" %u", x86emu_read_byte(emu, address[k]));
+        printf("\n");
+        x86emu_done(emu);
+    }
+    return 0;
+}
