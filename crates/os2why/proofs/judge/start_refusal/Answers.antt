@@ -1,0 +1,20 @@
+use Rattle.std.proofs.Common.{subst}
+use Rattle.std.specs.Prelude.{Err}
+use Rattle.o2_machine.specs.declared.fault.BeginFault.{BeginFault}
+use Rattle.o2_machine.specs.Begins.{Begins}
+use Rattle.o2_cli.proofs.Runs.{start_of, has_started, is_refused}
+use Rattle.os2why.proofs.Judging.{told}
+use Rattle.os2why.proofs.judge.start_refusal.Goals as goal
+
+pub returns-in-Ok : goal.returns-in-Ok
+returns-in-Ok c = λ input.
+    let s = c.args.session.now in
+    let begun = c.in-Ok.ensures.2 in
+    (start_of s input begun.built, has_started s input begun.built begun.starts)
+
+pub returns : goal.returns
+returns c = λ input.
+    let s = c.args.session.now in
+    let begun = c.in-Err-Start.ensures in
+    let why = subst (λ (f : BeginFault). Begins s.linked s.conf begun.0 begun.1 (Err f)) c.in-Err-Start.field-0-is begun.2 in
+    told c.refused_start.result _ _ c.refused_start.ensures (is_refused s input (c.in-Err-Start.pid, c.in-Err-Start.fault) why.0)

@@ -1,0 +1,201 @@
+// An inventory of what executables import.
+ghost use Rattle.std.specs.Prelude.{◌≤◌};
+
+use crate::judge::refusal;
+use crate::sentences::{service_named, service_of};
+use clap::ArgMatches;
+use o2_base::{Fail, SERVICE_COUNT, is_built, service_at};
+use o2_image::Module;
+use o2_ne_segs::Reloc;
+use o2_outer::{Fetch, Files, FolderFiles};
+use o2_tool::{Shown, file_name};
+use o2_words::Verb;
+use std::alloc::{AllocError, Global};
+use std::collections::BTreeMap;
+use std::process::ExitCode;
+
+/// How many files import each call: those that are built, and those that are missing.
+#[derive(Drop)]
+struct Tally {
+    built: BTreeMap<String, u64>,
+    missing: BTreeMap<String, u64>,
+}
+
+impl Tally {
+    fn new(alloc: Global) -> Tally {
+        Tally {
+            built: BTreeMap::new(alloc),
+            missing: BTreeMap::new(alloc),
+        }
+    }
+
+    /// The map of the calls that are built, or of those that aren't.
+    fn part(&mut self, is_built: bool) -> &mut BTreeMap<String, u64> {
+        if is_built {
+            &mut self.built
+        } else {
+            &mut self.missing
+        }
+    }
+}
+
+/// An import, as MODULE.NAME, and whether it is built.
+#[derive(Drop)]
+struct Import {
+    text: String,
+    is_built: bool,
+}
+
+/// The import of a service.
+fn service_import(alloc: Global, number: u16) -> Result<Import, AllocError>
+    requires low { 1 ≤ number }
+    requires high { number ≤ SERVICE_COUNT }
+{
+    let name = Shown(service_at(number).name);
+    Ok(Import {
+        text: format!(in alloc; "DOSCALLS.{name}")?,
+        is_built: is_built(number),
+    })
+}
+
+/// An import by an ordinal.
+fn by_ordinal(alloc: Global, module: &[u8], ordinal: u16) -> Result<Import, AllocError> {
+    if module.eq_ignore_ascii_case(b"DOSCALLS") {
+        if let Some(number) = service_of(ordinal) {
+            return service_import(alloc, number);
+        }
+    }
+    Ok(Import {
+        text: format!(in alloc; "{}.{ordinal}", Shown(module))?,
+        is_built: false,
+    })
+}
+
+/// An import by a name.
+fn by_name(alloc: Global, module: &[u8], name: &[u8]) -> Result<Import, AllocError> {
+    if module.eq_ignore_ascii_case(b"DOSCALLS") {
+        if let Some(number) = service_named(name) {
+            return service_import(alloc, number);
+        }
+    }
+    Ok(Import {
+        text: format!(in alloc; "{}.{}", Shown(module), Shown(name))?,
+        is_built: false,
+    })
+}
+
+/// What a relocation imports; none where it doesn't.
+fn import_of(alloc: Global, module: &Module, reloc: &Reloc) -> Result<Option<Import>, AllocError> {
+    let Some(name) = module.reference(reloc.first) else {
+        return Ok(None);
+    };
+    match reloc.flags & 3 {
+        1 => Ok(Some(by_ordinal(alloc, name, reloc.second)?)),
+        2 => match module.imported(reloc.second) {
+            Some(symbol) => Ok(Some(by_name(alloc, name, symbol)?)),
+            None => Ok(None),
+        },
+        _ => Ok(None),
+    }
+}
+
+/// Adds the imports of a module, each once.
+fn gather(alloc: Global, module: &Module, found: &mut Tally) -> Result<(), AllocError> {
+    for segment in 1..=module.segment_count() {
+        for number in 0..module.segment_relocs(segment) {
+            let Some(reloc) = module.reloc(segment, number) else {
+                continue;
+            };
+            if let Some(Import { text, is_built }) = import_of(alloc, module, &reloc)? {
+                found.part(is_built).insert(text, 1)?;
+            }
+        }
+    }
+    Ok(())
+}
+
+/// One file more for each of these imports.
+fn count_in(
+    all: &mut BTreeMap<String, u64>,
+    one: &BTreeMap<String, u64>,
+) -> Result<(), AllocError> {
+    for (text, _) in one.iter() {
+        let before = all.get(text.as_str()).copied().unwrap_or(0);
+        all.insert(text.clone()?, before.saturating_add(1))?;
+    }
+    Ok(())
+}
+
+/// What a file imports; none where it isn't read, or is refused.
+fn imports_of(rt: &HostRuntime, file: &str) -> anyhow::Result<Option<Tally>> {
+    let alloc = rt.alloc();
+    let name = file_name(alloc, file)?;
+    let mut files = FolderFiles::new(rt);
+    let Fetch::Got(bytes) = files.fetch(alloc, &name, 4_194_304) else {
+        return Ok(None);
+    };
+    match Module::check(alloc, bytes) {
+        Err(Fail::NoMemory) => anyhow::bail!("there is no memory"),
+        Err(Fail::Bad(_)) => Ok(None),
+        Ok(module) => {
+            let mut found = Tally::new(alloc);
+            gather(alloc, &module, &mut found)?;
+            Ok(Some(found))
+        }
+    }
+}
+
+/// Says what a file imports, and counts it.
+fn take(rt: &HostRuntime, file: &str, all: &mut Tally) -> anyhow::Result<()> {
+    let shown = Shown(file.as_bytes());
+    let Some(found) = imports_of(rt, file)? else {
+        println!(rt; "{shown}: no module that is read here; `os2why exe` says why")?;
+        return Ok(());
+    };
+    let built = found.built.len() as u64;
+    let missing = found.missing.len() as u64;
+    println!(rt; "{shown}: {built} of its imports are built, {missing} are missing")?;
+    count_in(&mut all.built, &found.built)?;
+    count_in(&mut all.missing, &found.missing)?;
+    Ok(())
+}
+
+/// Lists calls with how many files import them, the most wanted first.
+fn list(rt: &HostRuntime, counts: &BTreeMap<String, u64>, state: &str) -> anyhow::Result<()> {
+    let mut rows = Vec::new(rt.alloc());
+    for (text, count) in counts.iter() {
+        rows.push((u64::MAX - *count, text.clone()?))?;
+    }
+    rows.sort()?;
+    for (rest, text) in &rows {
+        println!(rt; "{:>6} {text} {state}", u64::MAX - *rest)?;
+    }
+    Ok(())
+}
+
+/// Whether a file opens as a program of its own.
+fn opens(rt: &HostRuntime, file: &str) -> anyhow::Result<bool> {
+    let name = file_name(rt.alloc(), file)?;
+    let mut files = FolderFiles::new(rt);
+    Ok(refusal(rt.alloc(), Verb::Exe, &mut files, &name).is_none())
+}
+
+/// Lists what the files import, what of it is missing most, and how many of them open.
+pub fn inventory(rt: &HostRuntime, found: &ArgMatches<'_>) -> anyhow::Result<ExitCode> {
+    let mut all = Tally::new(rt.alloc());
+    let mut count = 0u64;
+    let mut open = 0u64;
+    if let Some(files) = found.get_raw("FILE") {
+        for file in files {
+            take(rt, file, &mut all)?;
+            count = count.saturating_add(1);
+            if opens(rt, file)? {
+                open = open.saturating_add(1);
+            }
+        }
+    }
+    println!(rt; "{open} of {count} files open")?;
+    list(rt, &all.missing, "is missing")?;
+    list(rt, &all.built, "is built")?;
+    Ok(ExitCode::SUCCESS)
+}

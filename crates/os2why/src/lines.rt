@@ -1,0 +1,83 @@
+// Where a key stands in a machine file, as the reader of TOML itself sees it.
+ghost use Rattle.std.specs.Prelude.{◌≤◌};
+
+use std::alloc::{AllocError, Global};
+use toml::Table;
+
+/// A key: of the file, or of one of its processes, from 0.
+#[derive(Clone, Copy)]
+pub enum Spot<'a> {
+    /// A key of the file.
+    Top(&'a str),
+    /// A key of this process.
+    Within(usize, &'a str),
+    /// This process itself.
+    Process(usize),
+}
+
+/// The lines of a key's value, from 1.
+#[derive(Clone, Copy)]
+pub struct Lines {
+    pub first: usize,
+    pub last: usize,
+}
+
+/// The most lines of a file in which a key is looked for.
+const MOST_LINES: usize = 5_000;
+
+/// The tables of the processes.
+pub fn process_of(table: &Table, number: usize) -> Option<&Table> {
+    let Some(found) = table.get("process") else {
+        return None;
+    };
+    let Some(items) = found.as_array() else {
+        return None;
+    };
+    let Some(item) = items.get(number) else {
+        return None;
+    };
+    item.as_table()
+}
+
+/// Whether the document has this key.
+fn has(table: &Table, spot: Spot<'_>) -> bool {
+    match spot {
+        Spot::Top(name) => table.get(name).is_some(),
+        Spot::Process(number) => process_of(table, number).is_some(),
+        Spot::Within(number, name) => match process_of(table, number) {
+            Some(process) => process.get(name).is_some(),
+            None => false,
+        },
+    }
+}
+
+/// The lines that give a key its value: the first front of the file, in whole lines, that reads as a document with this key ends with
+/// them, and the longest shorter front that reads as one ends before them. None where no front has it, and in a file of very
+/// many lines.
+pub fn lines_of(alloc: Global, text: &[u8], spot: Spot<'_>) -> Result<Option<Lines>, AllocError> {
+    let mut line = 0usize;
+    let mut first = 1usize;
+    for (at, byte) in text.iter().enumerate() {
+        if *byte != b'\n' && at + 1 < text.len() {
+            continue;
+        }
+        if line >= MOST_LINES {
+            return Ok(None);
+        }
+        line += 1;
+        match toml::table_from_slice(alloc, &text[..at + 1]) {
+            Ok(table) => {
+                if has(&table, spot) {
+                    return Ok(Some(Lines { first, last: line }));
+                }
+                first = line + 1;
+            }
+            Err(error) => {
+                if error.is_memory() {
+                    return Err(AllocError);
+                }
+            }
+        }
+    }
+    Ok(None)
+}

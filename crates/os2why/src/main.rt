@@ -1,0 +1,63 @@
+// Says why a program isn't run: `os2why exe FILE`, `os2why run FILE`, `os2why imports FILE..`. It runs nothing.
+#![tactic(auto)]
+
+mod command;
+mod imports;
+mod judge;
+mod lines;
+mod machine;
+mod sentences;
+
+use clap::ArgMatches;
+use o2_outer::FolderFiles;
+use o2_tool::{REFUSED, answered, ended, file_name, words};
+use o2_words::Verb;
+use std::process::ExitCode;
+
+/// Says what the command in this file comes to.
+fn say(rt: &HostRuntime, verb: Verb, file: &str) -> anyhow::Result<ExitCode> {
+    let name = file_name(rt.alloc(), file)?;
+    let mut files = FolderFiles::new(rt);
+    let refusal = judge::refusal(rt.alloc(), verb, &mut files, &name);
+    println!(rt;
+        "{}",
+        sentences::verdict(rt.alloc(), verb, refusal.as_ref())?
+    )?;
+    if verb == Verb::Run {
+        machine::tell(rt, &name, refusal.as_ref())?;
+    }
+    if refusal.is_none() {
+        Ok(ExitCode::SUCCESS)
+    } else {
+        Ok(ExitCode::from(REFUSED))
+    }
+}
+
+/// What the matched words ask for.
+fn obey(rt: &HostRuntime, matches: &ArgMatches<'_>) -> anyhow::Result<ExitCode> {
+    let Some((verb, found)) = matches.subcommand() else {
+        return Ok(ExitCode::SUCCESS);
+    };
+    if verb == "imports" {
+        return imports::inventory(rt, found);
+    }
+    let file = found.get_str("FILE").unwrap_or("");
+    if verb == "run" {
+        say(rt, Verb::Run, file)
+    } else {
+        say(rt, Verb::Exe, file)
+    }
+}
+
+fn run(rt: &HostRuntime) -> anyhow::Result<ExitCode> {
+    let words = words(rt)?;
+    match command::program(rt.alloc())?.try_get_matches_from(words.as_slice()) {
+        Ok(matches) => obey(rt, &matches),
+        Err(error) => Ok(answered(rt, &error)?),
+    }
+}
+
+fn main(rt: HostRuntime) -> ExitCode {
+    let done = run(&rt);
+    ended(&rt, "os2why", done)
+}

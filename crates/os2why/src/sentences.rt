@@ -1,0 +1,341 @@
+// Refusals in sentences.
+ghost use Rattle.std.specs.Prelude.{◌≡◌, ◌≤◌, ◌<◌, ◌++◌, ℕ, List, length, codes, string_bytes, None, IfOk, IfSome, IsSome};
+
+use o2_base::{Bytes, Key, MachineFault, ModuleFault, SERVICE_COUNT, Which, is_built, service_at};
+use o2_open::OpenFault;
+use o2_tool::Shown;
+use o2_words::Verb;
+use std::alloc::{AllocError, Global};
+
+/// What a table or a limit is about.
+fn which_text(which: Which) -> &'static str
+    ensures { 0 < length result.now }
+{
+    match which {
+        Which::DataMode => "its header's data mode (bits 0 and 1 of the flags) is 3, which is none",
+        Which::Shift => "its alignment shift is above 15",
+        Which::AutoData => {
+            "its automatic data segment isn't in the segment table, or isn't writable data"
+        }
+        Which::Names => "it has no module name, or one with a line end in it",
+        Which::Entries => "an entry's segment isn't in the segment table",
+        Which::FileLength => "the file has more than 4,194,304 bytes",
+        Which::Segments => "it has more than 254 segments",
+        Which::References => "it has more than 255 module references",
+        Which::Iterated => {
+            "a segment is iterated (LINK /EXEPACK): link the program again without packing"
+        }
+        Which::Conforming => "a segment is conforming code or expand-down data",
+        Which::Ring => "a segment has privilege level 1 or 2 (IOPL)",
+        Which::Wide => "a segment is one of 32 bits",
+        Which::AutoSize => {
+            "automatic data, stack and heap together have more than 65,536 bytes: link it with less stack or heap"
+        }
+        Which::Constant => "its entry table has constants",
+    }
+}
+
+/// The service that DOSCALLS has under an ordinal, where the machine file gives no list of its own.
+pub fn service_of(ordinal: u16) -> Option<u16>
+    ensures { IfSome result (λ n. (1 ≤ n) × (n ≤ SERVICE_COUNT)) }
+{
+    for number in 1..=SERVICE_COUNT {
+        if service_at(number).ordinal == ordinal {
+            return Some(number);
+        }
+    }
+    None
+}
+
+/// The service of a name.
+pub fn service_named(name: &[u8]) -> Option<u16>
+    ensures { IfSome result (λ n. (1 ≤ n) × (n ≤ SERVICE_COUNT)) }
+{
+    for number in 1..=SERVICE_COUNT {
+        if service_at(number).name == name {
+            return Some(number);
+        }
+    }
+    None
+}
+
+/// Whether a module is the system's own.
+fn is_system(module: &Bytes) -> bool {
+    module.as_slice().eq_ignore_ascii_case(b"DOSCALLS")
+}
+
+/// Why an import by an ordinal isn't there.
+fn ordinal_sentence(alloc: Global, module: &Bytes, ordinal: u16) -> Result<String, AllocError>
+    ensures { IfOk result (λ s. 0 < length (string_bytes s)) }
+{
+    let name = Shown(module.as_slice());
+    if !is_system(module) {
+        return format!(in alloc;
+            "it imports {name}.{ordinal}, and {name} has no entry of that ordinal"
+        );
+    }
+    match service_of(ordinal) {
+        Some(number) => {
+            let call = Shown(service_at(number).name);
+            if is_built(number) {
+                format!(in alloc;
+                    "it imports {name}.{ordinal} ({call}), which the table [ordinals] of the machine file leaves out"
+                )
+            } else {
+                format!(in alloc; "it imports {name}.{ordinal} ({call}), which isn't built yet")
+            }
+        }
+        None => {
+            format!(in alloc;
+                "it imports {name}.{ordinal}, and this machine has no call of that ordinal"
+            )
+        }
+    }
+}
+
+/// Why an import by a name isn't there.
+fn name_sentence(alloc: Global, module: &Bytes, symbol: &Bytes) -> Result<String, AllocError>
+    ensures { IfOk result (λ s. 0 < length (string_bytes s)) }
+{
+    let name = Shown(module.as_slice());
+    let call = Shown(symbol.as_slice());
+    if !is_system(module) {
+        return format!(in alloc; "it imports {name}.{call}, and {name} exports no such name");
+    }
+    if service_named(symbol.as_slice()).is_some() {
+        format!(in alloc; "it imports {name}.{call}, which isn't built yet")
+    } else {
+        format!(in alloc; "it imports {name}.{call}, and this machine has no call of that name")
+    }
+}
+
+/// Why a name is none of a module that is there. `asked` says that a process asks for it, and else another module does.
+fn module_sentence(alloc: Global, name: &Bytes, asked: bool) -> Result<String, AllocError>
+    ensures { IfOk result (λ s. 0 < length (string_bytes s)) }
+{
+    let name = Shown(name.as_slice());
+    if asked {
+        format!(in alloc;
+            "a process runs the module {name}, which no file of `modules` is. `module` is the name in the executable, and not the file's"
+        )
+    } else {
+        format!(in alloc;
+            "it refers to the module {name}, which is neither DOSCALLS nor the module of a file that is named"
+        )
+    }
+}
+
+/// Why a module is refused, with every field of the refusal. `asked` says that a process asks for it, and no file has it.
+pub fn sentence(alloc: Global, fault: &ModuleFault, asked: bool) -> Result<String, AllocError>
+    ensures { IfOk result (λ s. 0 < length (string_bytes s)) }
+{
+    match fault {
+        ModuleFault::NotMz => { format!(in alloc; "it doesn't begin with MZ: it is no executable") }
+        ModuleFault::NotNe => {
+            format!(in alloc;
+                "there is no NE where the four bytes at 3Ch say: it is a program of DOS, or one of 32 bits"
+            )
+        }
+        ModuleFault::Truncated(place) => {
+            format!(in alloc;
+                "it ends early: byte {place} ({place:X}h), from 0, isn't there. It is cut off, or was copied as text"
+            )
+        }
+        ModuleFault::NotOs2 => {
+            format!(in alloc;
+                "it is for another system, as Windows: byte 36h of its NE header is neither 0 nor 1"
+            )
+        }
+        ModuleFault::LinkErrors => {
+            format!(in alloc; "its linker marked it as having errors (flag 2000h): link it again")
+        }
+        ModuleFault::BadTable(which) => format!(in alloc; "{}", which_text(*which)),
+        ModuleFault::OutOfProfile(which) => format!(in alloc; "{}", which_text(*which)),
+        ModuleFault::BadChain(segment, place) => {
+            format!(in alloc;
+                "segment {segment}: at offset {place:04X}h a relocation's chain leaves the segment's bytes, or meets a byte that is patched already"
+            )
+        }
+        ModuleFault::BadTarget(segment, number) => {
+            format!(in alloc;
+                "segment {segment}: its relocation {number}, from 0, is of an unknown kind, or what it leads to isn't there"
+            )
+        }
+        ModuleFault::NoModule(name) => module_sentence(alloc, name, asked),
+        ModuleFault::NoOrdinal(module, ordinal) => ordinal_sentence(alloc, module, *ordinal),
+        ModuleFault::NoName(module, name) => name_sentence(alloc, module, name),
+        ModuleFault::TwoModules(name) => {
+            format!(in alloc;
+                "another module has its name, {}, or it is named DOSCALLS",
+                Shown(name.as_slice())
+            )
+        }
+        ModuleFault::NoSelector(name) => {
+            format!(in alloc;
+                "no selectors are left for the segments of the library {}",
+                Shown(name.as_slice())
+            )
+        }
+        ModuleFault::NoStack => {
+            format!(in alloc;
+                "it has no stack: SS names no writable data, or there is neither a stack segment nor automatic data"
+            )
+        }
+        ModuleFault::NoEntry => {
+            format!(in alloc;
+                "it has no entry point: CS:IP lies in no code of it, or past its end, or it is a library"
+            )
+        }
+        ModuleFault::NoSegment => {
+            format!(in alloc;
+                "its processes want more segments than the key `segments` allows: raise it"
+            )
+        }
+    }
+}
+
+/// A key as the machine file spells it, with its table.
+pub fn key_text(key: Key) -> &'static str {
+    match key {
+        Key::File => "file",
+        Key::Memory => "memory",
+        Key::Swap => "swap",
+        Key::Segments => "segments",
+        Key::Budget => "budget",
+        Key::Quantum => "quantum",
+        Key::Avail => "avail",
+        Key::Modules => "modules",
+        Key::Process => "process",
+        Key::ProcessModule => "process.module",
+        Key::ProcessArguments => "process.arguments",
+        Key::ProcessEnvironment => "process.environment",
+        Key::Ordinals => "ordinals",
+        Key::Script => "script",
+    }
+}
+
+/// What a key has to be.
+fn form(key: Key) -> &'static str {
+    match key {
+        Key::File => "a TOML document",
+        Key::Memory | Key::Swap | Key::Segments | Key::Budget | Key::Quantum | Key::Avail => {
+            "a number, without quotes and without a point"
+        }
+        Key::Modules => "an array of texts without zero bytes, as [\"hello.exe\"]",
+        Key::Process => "an array of tables, each below a line [[process]]",
+        Key::ProcessModule | Key::ProcessArguments => "one text without a zero byte",
+        Key::ProcessEnvironment => "an array of texts without zero bytes",
+        Key::Ordinals => {
+            "a table with the names of calls, in exactly their letters, each with an ordinal of its own"
+        }
+        Key::Script => "an array of texts P:N, without blanks, signs or leading zeros",
+    }
+}
+
+/// The limits of a key.
+fn limits(key: Key) -> &'static str {
+    match key {
+        Key::File => "the file has at most 1,048,576 bytes",
+        Key::Memory => "it is a multiple of 16 from 4,096 to 16,777,216",
+        Key::Swap => "it is 0 to 65,536",
+        Key::Segments => "it is 1 to 65,535",
+        Key::Budget => "it is 0 to 4,000,000,000",
+        Key::Quantum => "it is 1 to 1,000,000",
+        Key::Avail => "it is 0 to 4,294,967,295",
+        Key::Modules => "there are 1 to 64, each of 1 to 255 bytes",
+        Key::Process => "there are 1 to 64",
+        Key::ProcessModule => "it has 1 to 255 bytes",
+        Key::ProcessArguments => "it has no zero byte",
+        Key::ProcessEnvironment => {
+            "with the module's name and the arguments it makes a segment of at most 65,536 bytes"
+        }
+        Key::Ordinals => "an ordinal is 1 to 65,535",
+        Key::Script => {
+            "there are at most 100,000 words, of a process 1 to 64 with 1 to 1,000,000 steps"
+        }
+    }
+}
+
+/// Why a machine file is refused.
+pub fn machine_sentence(alloc: Global, fault: MachineFault) -> Result<String, AllocError>
+    ensures { IfOk result (λ s. 0 < length (string_bytes s)) }
+{
+    match fault {
+        MachineFault::BadToml => format!(in alloc; "it is no TOML document"),
+        MachineFault::Missing(key) => {
+            format!(in alloc; "the key `{}` is missing", key_text(key))
+        }
+        MachineFault::BadValue(key) => {
+            format!(in alloc;
+                "the key `{}` has another type or form: it is {}",
+                key_text(key),
+                form(key)
+            )
+        }
+        MachineFault::Limit(key) => {
+            format!(in alloc;
+                "the key `{}` is outside its limits: {}",
+                key_text(key),
+                limits(key)
+            )
+        }
+    }
+}
+
+/// Whether a refusal is of the module that a process asks for, and not of one in a file.
+fn is_asked(verb: Verb, name: &Bytes, fault: &ModuleFault) -> bool {
+    match fault {
+        ModuleFault::NoModule(wanted) => {
+            verb == Verb::Run && wanted.as_slice() == name.as_slice()
+        }
+        _ => false,
+    }
+}
+
+/// Why a module doesn't open, with the file that it is in.
+fn module_text(
+    alloc: Global,
+    verb: Verb,
+    name: &Bytes,
+    fault: &ModuleFault,
+) -> Result<String, AllocError> {
+    let asked = is_asked(verb, name, fault);
+    let why = sentence(alloc, fault, asked)?;
+    let file = Shown(name.as_slice());
+    if asked {
+        format!(in alloc; "a process has no module\n  {why}")
+    } else {
+        format!(in alloc; "the module in {file} is refused\n  {why}")
+    }
+}
+
+/// Why a command isn't opened.
+fn cause(alloc: Global, verb: Verb, fault: &OpenFault) -> Result<String, AllocError> {
+    match fault {
+        OpenFault::NoFile(name) => format!(in alloc; "there is no file {}", Shown(name.as_slice())),
+        OpenFault::BadMachine(fault) => {
+            let why = machine_sentence(alloc, *fault)?;
+            format!(in alloc; "the machine file is refused\n  {why}")
+        }
+        OpenFault::BadModule(name, fault) => module_text(alloc, verb, name, fault),
+        OpenFault::FileFault => format!(in alloc; "a file can't be read"),
+        OpenFault::NoMemory => format!(in alloc; "there is no memory for it"),
+    }
+}
+
+/// What a command comes to: that it opens, or why not.
+pub fn verdict(alloc: Global, verb: Verb, refusal: Option<&OpenFault>) -> Result<String, AllocError>
+    // "it opens" exactly where there is no refusal
+    ensures opens { IfOk result (λ s. refusal.entry ≡ None → string_bytes s ≡ codes "it opens") }
+    ensures refused { IfOk result (λ s. IsSome refusal.entry
+        → (why : List ℕ) × (string_bytes s ≡ codes "it isn't opened: " ++ why)) }
+{
+    match refusal {
+        None => format!(in alloc; "it opens"),
+        Some(fault) => {
+            let why = cause(alloc, verb, fault)?;
+            let text = format!(in alloc; "it isn't opened: {why}")?;
+            Ok(text)
+        }
+    }
+}
