@@ -1,0 +1,166 @@
+// The lines of a trace.
+ghost use Rattle.std.specs.Prelude.{◌<◌, IfSome};
+
+use o2_base::NoMemory;
+use o2_decode::decode;
+use o2_isa::{Arg, Cpu, Decoded, Instr, Sreg};
+use o2_text::line;
+use o2_tool::Shown;
+use std::alloc::{AllocError, Global};
+use std::io;
+
+/// A step before it is taken: its process, the registers, and the bytes at CS:IP.
+#[derive(Clone, Copy)]
+pub struct Before {
+    pub process: u16,
+    pub cpu: Cpu,
+    pub bytes: [u8; 10],
+    pub count: usize,
+}
+
+/// The instruction of a step, and how many bytes it has.
+fn instruction(before: &Before) -> Option<(Instr, usize)>
+    ensures { IfSome result (λ p. p.1 < 256) }
+{
+    let count = if before.count < 10 { before.count } else { 10 };
+    match decode(&before.bytes[..count]) {
+        Decoded::One(instr, len) => Some((instr, len as usize)),
+        _ => None,
+    }
+}
+
+/// Adds a register that has changed.
+fn add_change(
+    out: &mut String,
+    alloc: Global,
+    name: &str,
+    old: u16,
+    new: u16,
+) -> Result<(), AllocError> {
+    if old != new {
+        let text = format!(in alloc; " {name}={new:04X}")?;
+        out.push_str(text.as_str())?;
+    }
+    Ok(())
+}
+
+/// The registers that have changed. IP is told where it isn't that of the next instruction.
+fn changes(alloc: Global, old: &Cpu, new: &Cpu, next: u16) -> Result<String, AllocError> {
+    let mut out = String::new(alloc);
+    for (name, old, new) in [
+        ("AX", old.ax, new.ax),
+        ("BX", old.bx, new.bx),
+        ("CX", old.cx, new.cx),
+        ("DX", old.dx, new.dx),
+        ("SI", old.si, new.si),
+        ("DI", old.di, new.di),
+        ("BP", old.bp, new.bp),
+        ("SP", old.sp, new.sp),
+        ("CS", old.cs, new.cs),
+        ("DS", old.ds, new.ds),
+        ("ES", old.es, new.es),
+        ("SS", old.ss, new.ss),
+        ("IP", next, new.ip),
+        ("F", old.flags, new.flags),
+    ] {
+        add_change(&mut out, alloc, name, old, new)?;
+    }
+    Ok(out)
+}
+
+/// The instruction's bytes, in room for ten.
+fn show_bytes(rt: &HostRuntime, before: &Before, count: usize) -> io::Result<()> {
+    for (k, byte) in before.bytes.iter().enumerate() {
+        if k < count && k < before.count {
+            print!(rt; "{byte:02X}")?;
+        } else {
+            print!(rt; "  ")?;
+        }
+    }
+    Ok(())
+}
+
+/// The text of an instruction with this IP behind it.
+fn text_of(alloc: Global, instr: &Instr, next: u16) -> Result<String, AllocError> {
+    match line(alloc, instr, next) {
+        Ok(text) => format!(in alloc; "{}", Shown(text.as_slice())),
+        Err(NoMemory) => Err(AllocError),
+    }
+}
+
+/// A step that was taken: process, CS:IP, bytes, text, and the registers that it changed; of one that ended its process, none.
+pub fn show_step(rt: &HostRuntime, before: &Before, after: Option<&Cpu>) -> anyhow::Result<()> {
+    let alloc = rt.alloc();
+    let old = &before.cpu;
+    let (text, count, next) = match instruction(before) {
+        None => (String::from_str(alloc, "no instruction")?, 10, old.ip),
+        Some((instr, count)) => {
+            let next = ((old.ip as usize + count) % 65536) as u16;
+            (text_of(alloc, &instr, next)?, count, next)
+        }
+    };
+    let changed = match after {
+        None => String::new(alloc),
+        Some(new) => changes(alloc, old, new, next)?,
+    };
+    print!(rt; "{} {:04X}:{:04X} ", before.process, old.cs, old.ip)?;
+    show_bytes(rt, before, count)?;
+    if changed.is_empty() {
+        println!(rt; " {text}")?;
+    } else {
+        println!(rt; " {text:<32}{changed}")?;
+    }
+    Ok(())
+}
+
+/// A segment register's name, and what it holds.
+fn segment_of(cpu: &Cpu, reg: Sreg) -> (&'static str, u16) {
+    match reg {
+        Sreg::Es => ("ES", cpu.es),
+        Sreg::Cs => ("CS", cpu.cs),
+        Sreg::Ss => ("SS", cpu.ss),
+        Sreg::Ds => ("DS", cpu.ds),
+    }
+}
+
+/// The segment register by which an instruction ended in an exception: that of the stack, or of the operand in memory.
+fn segment_by(vector: u8, instr: &Instr) -> Option<Sreg> {
+    if vector == 12 {
+        return Some(Sreg::Ss);
+    }
+    match (&instr.left, &instr.right) {
+        (Arg::M(ea), _) => Some(ea.seg),
+        (_, Arg::M(ea)) => Some(ea.seg),
+        _ => None,
+    }
+}
+
+/// An exception: its error code, and the segment register by which it came, where there is one.
+pub fn show_trap(rt: &HostRuntime, before: &Before, vector: u8, code: u16) -> io::Result<()> {
+    print!(rt; "! exception {vector}, error code {code:04X}")?;
+    if let Some((instr, _)) = instruction(before) {
+        if let Some(reg) = segment_by(vector, &instr) {
+            let (name, selector) = segment_of(&before.cpu, reg);
+            print!(rt; ", segment {name}={selector:04X}")?;
+        }
+    }
+    println!(rt; "")
+}
+
+/// Pieces, line by line, each behind a mark.
+pub fn show_pieces(rt: &HostRuntime, mark: &str, bytes: &[u8]) -> io::Result<()> {
+    if bytes.is_empty() {
+        return Ok(());
+    }
+    let mut start = 0usize;
+    for (at, byte) in bytes.iter().enumerate() {
+        if *byte == b'\n' && start <= at {
+            println!(rt; "{mark} {}", Shown(&bytes[start..at]))?;
+            start = at + 1;
+        }
+    }
+    if start < bytes.len() {
+        println!(rt; "{mark} {}", Shown(&bytes[start..]))?;
+    }
+    Ok(())
+}
