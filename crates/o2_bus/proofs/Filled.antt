@@ -1,5 +1,5 @@
 -- What is held keeps at least one byte.
-use Rattle.std.proofs.Common.{◌≡◌, ℕ, ◌<◌, ◌≤◌, ◌++◌, List, [], ◌∷◌, length, sym, subst, zero, suc, arith, cond, true, false, Bool, ◌==◌, ◌∙◌, ap}
+use Rattle.std.proofs.Common.{◌≡◌, ℕ, ◌<◌, List, [], length, sym, subst, arith, true, false, Bool}
 use Rattle.std.specs.Prelude.{Option, Some, None, slice_get, if◌then◌else◌}
 use Rattle.o2_isa.specs.View.{Hold}
 use Rattle.o2_bus.specs.declared.plain.Map.{Map}

@@ -1,5 +1,5 @@
 -- What a plain memory of segments holds, by look-ups, and how a processor sees it.
-use Rattle.std.specs.Prelude.{◌≡◌, ◌≢◌, ℕ, Bool, true, not, List, [], slice_get, length, Option, Some, None, option_map}
+use Rattle.std.specs.Prelude.{◌≡◌, ◌≢◌, ℕ, Bool, true, not, List, slice_get, length, Option, Some, None, option_map}
 use Rattle.std.specs.Borrow.{GName}
 use Rattle.o2_isa.specs.declared.cpu.Cpu.{Cpu}
 use Rattle.o2_isa.specs.declared.cpu.Purpose.{Purpose}

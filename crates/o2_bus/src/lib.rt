@@ -10,6 +10,8 @@ mod plain_bus;
 mod plain_edit;
 mod plain_end;
 mod plain_parts;
+mod plain_ranges;
+mod ranges;
 mod registers;
 mod segment;
 
@@ -21,6 +23,7 @@ pub use operands::{finish, operand, place};
 pub use outcome::outcome_of;
 pub use plain::{Grant, Plain};
 pub use plain_bus::{PlainBus, is_readable_byte, is_writable_byte};
+pub use ranges::Ranges;
 pub use registers::{
     accumulator, byte_register, offset, segment_register, set_accumulator, set_byte_register,
     set_segment_register, set_word_register, word_register,

@@ -1,7 +1,10 @@
-pub mod Arguments
+pub mod Words
+pub mod Access
+pub mod Checks
+pub mod Tests
+pub mod Stores
+pub mod Rows
 pub mod Inputs
 pub mod Puts
-pub mod Ranges
 pub mod Takes
-pub mod Writes
 pub mod Served

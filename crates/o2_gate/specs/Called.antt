@@ -6,74 +6,92 @@ use Rattle.o2_outer.specs.declared.sink.Put.TheVariants as put
 use Rattle.o2_outer.specs.declared.source.Took.{Took}
 use Rattle.o2_outer.specs.declared.source.Took.TheVariants as took
 use Rattle.o2_isa.specs.declared.cpu.Cpu.{Cpu}
-use Rattle.o2_bus.specs.declared.plain.Plain.{Plain}
-use Rattle.o2_bus.specs.Plain.{bytes_in}
+use Rattle.o2_isa.specs.View.{View, Filling, whole}
+use Rattle.o2_base.specs.declared.selector.Selector.{Selector}
 use Rattle.o2_world.specs.declared.types.State.{State}
 use Rattle.o2_world.specs.declared.types.State.TheVariants as state
-use Rattle.o2_world.specs.Calls.{Before, Effect, trapped, asks}
+use Rattle.o2_world.specs.Calls.{Before, Effect, trapped, trap_code, asks}
 use Rattle.o2_world.specs.Text.{lines_text}
 use Rattle.o2_gate.specs.declared.called.Called.{Called}
-use Rattle.o2_gate.specs.declared.called.Called.TheVariants.{Back, Exited, Trap}
+use Rattle.o2_gate.specs.declared.called.Called.TheVariants.{Back, Exited, Trap, Missed}
 use Rattle.o2_run.specs.declared.steps.Stop.TheVariants as stop
 use Rattle.o2_run.specs.declared.fault.Fault.{Fault}
 use Rattle.o2_run.specs.declared.fault.Fault.TheVariants as fault
 
 -- the effect is made whole, with so many bytes for the console and so many lines, and the process is then in this state
-pub record IsMade (e : Effect) (ends : State) (piece_bytes line_count : ℕ) (registers : Cpu) (after : Plain) (left console_old console_new report_old report_new : Option (List ℕ)) : Type 0 where
+pub record IsMade (f : Filling) (e : Effect) (ends : State) (piece_bytes line_count : ℕ) (registers : Cpu) (after : View)
+    (left console_old console_new report_old report_new : Option (List ℕ)) : Type 0 where
   pub state : e.state ≡ ends
   pub piece : length e.piece ≡ piece_bytes
   pub lines : length e.lines ≡ line_count
   pub cpu : registers ≡ e.cpu
-  pub bytes : (n : ℕ) → bytes_in after n ≡ e.bytes n
+  pub bytes : (n : ℕ) → (whole f after).bytes n ≡ e.bytes n
   pub input : left ≡ Some e.input
   pub to_console : Gains console_old console_new e.piece
   pub to_report : Gains report_old report_new (lines_text e.lines)
 
--- the effect is a trap, and nothing is changed or put
-pub record IsTrap (b : Before) (e : Effect) (vector : ℕ) (registers : Cpu) (old new : Plain) (left_old left_new console_old console_new report_old report_new : Option (List ℕ)) : Type 0 where
-  pub effect : e ≡ trapped b vector
-  pub cpu : registers ≡ b.cpu
-  pub plain : new ≡ old
+-- nothing is changed, taken or put
+pub record IsUntouched (registers before : Cpu) (old new : View)
+    (left_old left_new console_old console_new report_old report_new : Option (List ℕ)) : Type 0 where
+  pub cpu : registers ≡ before
+  pub view : new ≡ old
   pub input : left_new ≡ left_old
   pub to_console : console_new ≡ console_old
   pub to_report : report_new ≡ report_old
 
--- the input failed, for which there is this reason: nothing is changed, taken or put
-pub record IsUnread (why : Type 0) (registers before : Cpu) (old new : Plain) (left_old left_new console_old console_new report_old report_new : Option (List ℕ)) : Type 0 where
+-- the effect is a trap with this error code, and nothing is changed or put
+pub record IsTrap (b : Before) (e : Effect) (vector error_code : ℕ) (registers : Cpu) (old new : View)
+    (left_old left_new console_old console_new report_old report_new : Option (List ℕ)) : Type 0 where
+  pub effect : e ≡ trapped b vector
+  pub code : error_code ≡ trap_code
+  pub untouched : IsUntouched registers b.cpu old new left_old left_new console_old console_new report_old report_new
+
+-- the input failed, for which there is this reason
+pub record IsUnread (why : Type 0) (registers before : Cpu) (old new : View)
+    (left_old left_new console_old console_new report_old report_new : Option (List ℕ)) : Type 0 where
   pub cause : why
-  pub cpu : registers ≡ before
-  pub bytes : (n : ℕ) → bytes_in new n ≡ bytes_in old n
-  pub input : left_new ≡ left_old
-  pub to_console : console_new ≡ console_old
-  pub to_report : report_new ≡ report_old
+  pub untouched : IsUntouched registers before old new left_old left_new console_old console_new report_old report_new
 
 -- a sink failed: registers and bytes are as before, the input is as before or as the effect leaves it, and both texts are fronts,
 -- the report's only behind the whole piece
-pub record IsInPart (e : Effect) (registers before : Cpu) (old new : Plain) (left_old left_new console_old console_new report_old report_new : Option (List ℕ)) : Type 0 where
+pub record IsInPart (e : Effect) (registers before : Cpu) (old new : View)
+    (left_old left_new console_old console_new report_old report_new : Option (List ℕ)) : Type 0 where
   pub cpu : registers ≡ before
-  pub bytes : (n : ℕ) → bytes_in new n ≡ bytes_in old n
+  pub view : new ≡ old
   pub input : (left_new ≡ left_old) ⊎ (left_new ≡ Some e.input)
   pub to_console : GainsSome console_old console_new (λ front. IsPrefix front e.piece)
   pub to_report : GainsSome report_old report_new (λ front. IsPrefix front (lines_text e.lines))
   pub in_order : (report_new ≡ report_old) ⊎ Gains console_old console_new e.piece
 
 -- a fault, where `why` is the reason for which the input is gone to; a call stops for its input alone
-abbrev pub FaultsFor : Type 0 → Before → Effect → Cpu → (old new : Plain) → (left_old left_new console_old console_new report_old report_new : Option (List ℕ)) → Fault → Type 0
+abbrev pub FaultsFor : Type 0 → Before → Effect → Cpu → (old new : View)
+    → (left_old left_new console_old console_new report_old report_new : Option (List ℕ)) → Fault → Type 0
 FaultsFor why b e cpu old new i j c d r q fault.Sink = IsInPart e cpu b.cpu old new i j c d r q
 FaultsFor why b e cpu old new i j c d r q (fault.Stopped stop.Input) = IsUnread why cpu b.cpu old new i j c d r q
 FaultsFor why b e cpu old new i j c d r q (fault.Stopped stop.NoRoom) = ⊥
 FaultsFor why b e cpu old new i j c d r q (fault.Stopped stop.SwapFull) = ⊥
 FaultsFor why b e cpu old new i j c d r q (fault.Stopped stop.SwapFault) = ⊥
 
--- by the answer
-abbrev pub DoesFor : Type 0 → Before → Effect → Cpu → (old new : Plain) → (left_old left_new console_old console_new report_old report_new : Option (List ℕ)) → Result Called Fault → Type 0
-DoesFor why b e cpu old new i j c d r q (Ok (Back put)) = IsMade e state.Live put 1 cpu new j c d r q
-DoesFor why b e cpu old new i j c d r q (Ok (Exited code)) = IsMade e (state.Exited code) 0 2 cpu new j c d r q
-DoesFor why b e cpu old new i j c d r q (Ok (Trap vector code)) = IsTrap b e vector cpu old new i j c d r q
-DoesFor why b e cpu old new i j c d r q (Err f) = FaultsFor why b e cpu old new i j c d r q f
+-- by the answer; what is absent is as `f` says
+abbrev pub DoesFor : Type 0 → Filling → Before → Effect → Cpu → (old new : View)
+    → (left_old left_new console_old console_new report_old report_new : Option (List ℕ)) → Result Called Fault → Type 0
+DoesFor why f b e cpu old new i j c d r q (Ok (Back put)) = IsMade f e state.Live put 1 cpu new j c d r q
+DoesFor why f b e cpu old new i j c d r q (Ok (Exited code)) = IsMade f e (state.Exited code) 0 2 cpu new j c d r q
+DoesFor why f b e cpu old new i j c d r q (Ok (Trap vector code)) = IsTrap b e vector code cpu old new i j c d r q
+DoesFor why f b e cpu old new i j c d r q (Ok (Missed s)) = IsUntouched cpu b.cpu old new i j c d r q
+DoesFor why f b e cpu old new i j c d r q (Err x) = FaultsFor why b e cpu old new i j c d r q x
 
-abbrev pub Does : Before → Effect → Cpu → (old new : Plain) → (left_old left_new console_old console_new report_old report_new : Option (List ℕ)) → Result Called Fault → Type 0
-Does b = DoesFor (asks b ≡ true) b
+abbrev pub Does : Filling → Before → Effect → Cpu → (old new : View)
+    → (left_old left_new console_old console_new report_old report_new : Option (List ℕ)) → Result Called Fault → Type 0
+Does f b = DoesFor (asks b ≡ true) f b
+
+-- where a call is missed
+abbrev pub OnMissed : Result Called Fault → (Selector → Type 0) → Type 0
+OnMissed (Ok (Missed s)) P = P s
+OnMissed (Ok (Back put)) P = Unit {0}
+OnMissed (Ok (Exited code)) P = Unit {0}
+OnMissed (Ok (Trap vector code)) P = Unit {0}
+OnMissed (Err x) P = Unit {0}
 
 -- what holds for some input, whatever the input tells: these bytes before a call, and what the call leaves of them
 abbrev pub ForSome : (List ℕ → (left_old left_new : Option (List ℕ)) → Type 0) → Type 0

@@ -1,5 +1,7 @@
 // What a call came to.
 
+use o2_base::Selector;
+
 /// What a call of a service came to, where neither the input nor a sink fails.
 #[derive(Clone, Copy, Debug, PartialEq, Eq)]
 pub enum Called {
@@ -10,4 +12,6 @@ pub enum Called {
     /// A pointer or the arguments are bad: the process ends by this exception, with its error code, and nothing is changed or
     /// put.
     Trap(u8, u16),
+    /// The segment behind this selector, a pointer of the call that passed, isn't present; nothing is changed, taken or put.
+    Missed(Selector),
 }

@@ -2,17 +2,19 @@
 ghost use Rattle.std.specs.Prelude.{◌≡◌, ◌≤◌, ◌∷◌, [], ℕ, List, Option, Some};
 ghost use Rattle.o2_outer.specs.Texts.{Rose};
 ghost use Rattle.o2_outer.specs.Answers.{Takes, Puts, OnFailed};
+ghost use Rattle.o2_isa.specs.View.{Filling, IsBound};
 ghost use Rattle.o2_world.specs.Known.{Known};
 ghost use Rattle.o2_world.specs.World.{Exits, Ends};
 ghost use Rattle.o2_world.specs.Text.{lines_text};
 ghost use Rattle.o2_world.specs.Calls.{dos_exit as dos_exit_row};
-ghost use Rattle.o2_gate.specs.Befores.{before_call};
-ghost use Rattle.o2_gate.specs.Called.{Does};
+ghost use Rattle.o2_gate.specs.Befores.{boundless, before_call};
+ghost use Rattle.o2_gate.specs.Called.{Does, OnMissed};
+ghost use Rattle.o2_gate.specs.Pointed.{IsAway};
 ghost use Rattle.o2_run.specs.Faults.{Caused};
 
 use crate::Called;
-use crate::stack::{argument, fit};
-use o2_bus::Plain;
+use crate::stack::two_arguments;
+use o2_bus::Bus;
 use o2_isa::Cpu;
 use o2_outer::{Put, Sink};
 use o2_report::{LineBuffer, set_ends, set_exits};
@@ -37,23 +39,24 @@ fn put_exit<R: Sink>(line: &mut LineBuffer, pid: u16, action: u16, code: u16, re
 
 /// DosExit(action, code): the process ends with the code, whatever the action is.
 #[tactic(auto, unfolding(o2_world::specs::Calls::dos_exit), using(o2_outer::proofs::TextLemmas::gains_none, o2_outer::proofs::TextLemmas::puts_none))]
-pub fn dos_exit<R: Sink>(
+pub fn dos_exit<B: Bus, R: Sink>(
     pid: u16,
     cpu: &Cpu,
-    plain: &Plain,
+    bus: &B,
     line: &mut LineBuffer,
     report: &mut R,
 ) -> Result<Called, Fault>
-    ensures does { (input : List ℕ) (known : Known) (i c : Option (List ℕ)) → i ≡ Some input → let b = before_call plain.now pid cpu.now input known in
-        Does b (dos_exit_row b) cpu.now plain.now plain.now i i c c (R.taken report.old) (R.taken report.new) result }
+    ensures does { (f : Filling) (input : List ℕ) (known : Known) (i c : Option (List ℕ)) → IsBound (B.view bus.now) → i ≡ Some input
+        → let b = before_call (boundless f (B.view bus.now)) pid cpu.now input known in
+        Does f b (dos_exit_row b) cpu.now (B.view bus.now) (B.view bus.now) i i c c (R.taken report.old) (R.taken report.new) result }
+    // A segment that is missed is one that isn't present.
+    ensures away { OnMissed result (λ s. IsAway (B.view bus.now) s) }
     ensures count { R.faults report.old ≤ R.faults report.new }
     ensures cause { Caused (Rose (R.faults report.old) (R.faults report.new)) ⊥ ⊥ ⊥ result }
 {
-    if !fit(plain, pid, cpu, 2) {
+    let Some((action, code)) = two_arguments(bus, cpu) else {
         return Ok(Called::Trap(12, 0));
-    }
-    let action = argument(plain, pid, cpu, 1);
-    let code = argument(plain, pid, cpu, 0);
+    };
     match put_exit(line, pid, action, code, report) {
         Put::Failed => Err(Fault::Sink),
         Put::Done => Ok(Called::Exited(code)),

@@ -1,16 +1,18 @@
 // DosMemAvail.
-ghost use Rattle.std.specs.Prelude.{◌≡◌, ◌≤◌, ℕ, List, Option, Some, length};
+ghost use Rattle.std.specs.Prelude.{◌≡◌, ◌≤◌, ℕ, List, Option, Some};
 ghost use Rattle.o2_outer.specs.Texts.{Rose};
-ghost use Rattle.o2_bus.specs.Plain.{held_in, bytes_in, shown_in};
+ghost use Rattle.o2_isa.specs.View.{Filling, IsBound};
+ghost use Rattle.o2_isa.specs.Pointers.{KeepsAllButBytes};
 ghost use Rattle.o2_world.specs.Known.{Known};
 ghost use Rattle.o2_world.specs.Calls.{dos_mem_avail as dos_mem_avail_row};
-ghost use Rattle.o2_gate.specs.Befores.{before_call};
-ghost use Rattle.o2_gate.specs.Called.{Does};
+ghost use Rattle.o2_gate.specs.Befores.{boundless, before_call};
+ghost use Rattle.o2_gate.specs.Called.{Does, OnMissed};
+ghost use Rattle.o2_gate.specs.Pointed.{IsAway};
 ghost use Rattle.o2_run.specs.Faults.{Caused};
 
 use crate::Called;
 use crate::told::{Telling, told};
-use o2_bus::Plain;
+use o2_bus::Ranges;
 use o2_isa::Cpu;
 use o2_outer::Sink;
 use o2_report::LineBuffer;
@@ -18,20 +20,21 @@ use o2_run::Fault;
 use o2_world::Argument;
 
 /// DosMemAvail(psize): the machine file's number, the low word first in memory.
-pub fn dos_mem_avail<R: Sink>(
+pub fn dos_mem_avail<B: Ranges, R: Sink>(
     pid: u16,
     next: u16,
     avail: u32,
     cpu: &mut Cpu,
-    plain: &mut Plain,
+    bus: &mut B,
     line: &mut LineBuffer,
     report: &mut R,
 ) -> Result<Called, Fault>
-    ensures does { (input : List ℕ) (known : Known) (i c : Option (List ℕ)) → i ≡ Some input → known.avail ≡ avail → let b = before_call plain.old pid cpu.old input known in
-        Does b (dos_mem_avail_row b next) cpu.new plain.old plain.new i i c c (R.taken report.old) (R.taken report.new) result }
-    ensures sizes { (n : ℕ) → length (bytes_in plain.new n) ≡ length (bytes_in plain.old n) }
-    ensures maps { held_in plain.new ≡ held_in plain.old }
-    ensures shown { (n : ℕ) → shown_in plain.new n ≡ shown_in plain.old n }
+    ensures does { (f : Filling) (input : List ℕ) (known : Known) (i c : Option (List ℕ)) → IsBound (B.view bus.old) → i ≡ Some input
+        → known.avail ≡ avail → let b = before_call (boundless f (B.view bus.old)) pid cpu.old input known in
+        Does f b (dos_mem_avail_row b next) cpu.new (B.view bus.old) (B.view bus.new) i i c c (R.taken report.old) (R.taken report.new) result }
+    ensures frame { KeepsAllButBytes (B.view bus.old) (B.view bus.new) }
+    // A segment that is missed is one that isn't present.
+    ensures away { OnMissed result (λ s. IsAway (B.view bus.old) s) }
     ensures count { R.faults report.old ≤ R.faults report.new }
     ensures cause { Caused (Rose (R.faults report.old) (R.faults report.new)) ⊥ ⊥ ⊥ result }
 {
@@ -49,5 +52,5 @@ pub fn dos_mem_avail<R: Sink>(
         part: &part,
         values: &values,
     };
-    told(pid, next, cpu, plain, &telling, line, report)
+    told(pid, next, cpu, bus, &telling, line, report)
 }

@@ -1,72 +1,101 @@
 // Ranges behind the pointers that a call is given.
-ghost use Rattle.std.specs.Prelude.{◌≡◌, ◌+◌, ◌≤◌, ◌==◌, ℕ, IsTrue, length};
-ghost use Rattle.o2_bus.specs.Plain.{held_in, bytes_in, shown_in};
-ghost use Rattle.o2_world.specs.Calls.{may_read as reads_at, may_write as writes_at, range_of, put_at_pointer};
+ghost use Rattle.std.specs.Prelude.{◌≡◌, ◌+◌, ◌==◌, ◌∷◌, [], ℕ, Bool, true, false, length};
+ghost use Rattle.o2_isa.specs.View.{Filling, is_readable, is_writable, whole, found};
+ghost use Rattle.o2_isa.specs.Pointers.{is_ready, range_of, put_at_pointer, KeepsAllButBytes};
+ghost use Rattle.o2_gate.specs.Pointed.{Tells, pointer, writes_to, lies_within, refuses};
 
-use o2_bus::{Plain, is_readable_byte, is_writable_byte};
+use o2_base::Selector;
+use o2_bus::{Bus, Ranges, is_writable_byte};
+use o2_isa::{Loaded, Purpose};
 
-/// Whether the range may be read. One of no bytes is not looked at.
-#[tactic(auto, unfolding(o2_world::specs::Calls::may_read))]
-pub fn may_read(plain: &Plain, pid: u16, selector: u16, offset: u16, count: u16) -> bool
-    ensures { result ≡ reads_at (held_in plain.now pid) (bytes_in plain.now) selector offset count }
-{
-    count == 0
-        || match plain.bound(pid, selector) {
-            Some(grant) => {
-                is_readable_byte(grant.access)
-                    && offset as usize + count as usize <= plain.bytes(grant.name).len()
-            }
-            None => false,
-        }
+/// What a test of pointers came to.
+#[derive(Clone, Copy, Debug, PartialEq, Eq)]
+pub enum Pointed {
+    /// They are good.
+    Good,
+    /// One is bad.
+    Bad,
+    /// The segment behind this selector, which passes, isn't present.
+    Missed(Selector),
 }
 
-/// Whether the range may be written. One of no bytes is not looked at.
-#[tactic(auto, unfolding(o2_world::specs::Calls::may_write))]
-pub fn may_write(plain: &Plain, pid: u16, selector: u16, offset: u16, count: u16) -> bool
-    ensures { result ≡ writes_at (held_in plain.now pid) (bytes_in plain.now) selector offset count }
+/// Whether a selector names data that can be written.
+#[tactic(auto, unfolding(o2_isa::specs::View::rights_at), using(crate::proofs::Access::rights_tell, crate::proofs::Access::no_rights))]
+fn names_writable<B: Bus>(bus: &B, sel: Selector) -> bool
+    ensures { result ≡ writes_to (found (B.view bus.now) sel.0) }
 {
-    count == 0
-        || match plain.bound(pid, selector) {
-            Some(grant) => {
-                is_writable_byte(grant.access)
-                    && offset as usize + count as usize <= plain.bytes(grant.name).len()
-            }
-            None => false,
-        }
+    match bus.rights_of(sel) {
+        Some(access) => is_writable_byte(access),
+        None => false,
+    }
 }
 
-/// The bytes of a range that may be read.
-#[tactic(auto, unfolding(o2_world::specs::Calls::may_read, o2_world::specs::Calls::range_of))]
-pub fn range(plain: &Plain, pid: u16, selector: u16, offset: u16, count: u16) -> &[u8]
-    requires { IsTrue (reads_at (held_in plain.now pid) (bytes_in plain.now) selector offset count) }
-    ensures value { result.now ≡ range_of (held_in plain.now pid) (bytes_in plain.now) selector offset count }
+/// Whether a range lies in the segment that a selector names, by its size.
+#[tactic(auto, unfolding(o2_isa::specs::View::size_at), using(crate::proofs::Access::size_tells, crate::proofs::Access::no_size))]
+fn is_within<B: Bus>(bus: &B, sel: Selector, offset: u16, count: u16) -> bool
+    ensures { result ≡ lies_within (B.view bus.now) offset count (found (B.view bus.now) sel.0) }
+{
+    match bus.size_of(sel) {
+        Some(size) => offset as u32 + count as u32 <= size,
+        None => false,
+    }
+}
+
+/// Whether a selector is null, or bytes are to be written and it names nothing that can be written.
+fn refuses<B: Bus>(bus: &B, writes: bool, sel: Selector) -> bool
+    ensures { result ≡ refuses writes (B.view bus.now) sel.0 }
+{
+    sel.0 < 4 || (writes && !names_writable(bus, sel))
+}
+
+/// Tests a pointer to bytes that are read, or written: its selector by the rules for loading ES, which a null one doesn't pass,
+/// and then its range. One of no bytes is not looked at.
+pub fn test<B: Bus>(bus: &mut B, writes: bool, selector: u16, offset: u16, count: u16) -> Pointed
+    ensures tells { Tells (B.view bus.old) (pointer writes selector offset count ∷ []) result }
+    ensures same { B.view bus.new ≡ B.view bus.old }
+{
+    if count == 0 {
+        return Pointed::Good;
+    }
+    let sel = Selector(selector);
+    if refuses(bus, writes, sel) {
+        return Pointed::Bad;
+    }
+    match bus.probe(Purpose::DataReg, sel) {
+        Loaded::Done => {
+            if is_within(bus, sel, offset, count) {
+                Pointed::Good
+            } else {
+                Pointed::Bad
+            }
+        }
+        Loaded::Miss(sel) => Pointed::Missed(sel),
+        Loaded::Trap(_, _) => Pointed::Bad,
+        Loaded::Gate(_) => Pointed::Bad,
+    }
+}
+
+/// The bytes of a range that was found good.
+pub fn range<B: Ranges>(bus: &B, selector: u16, offset: u16, count: u16) -> &[u8]
+    requires { is_ready is_readable (B.view bus.now) selector offset count ≡ true }
+    ensures value { (f : Filling) → result.now ≡ range_of (B.view bus.now).held (whole f (B.view bus.now)).bytes selector offset count }
     ensures len { length result.now ≡ count }
 {
     if count == 0 {
         return &[];
     }
-    match plain.bound(pid, selector) {
-        Some(grant) => {
-            let from = offset as usize;
-            &plain.bytes(grant.name)[from..from + count as usize]
-        }
-        None => &[],
-    }
+    bus.range(Selector(selector), offset, count)
 }
 
-/// Writes bytes behind a pointer.
-#[tactic(auto, unfolding(o2_world::specs::Calls::may_write, o2_world::specs::Calls::put_at_pointer))]
-pub fn store(plain: &mut Plain, pid: u16, selector: u16, offset: u16, part: &[u8])
-    requires { IsTrue (writes_at (held_in plain.old pid) (bytes_in plain.old) selector offset (length part.now)) }
-    ensures bytes { (n : ℕ) → bytes_in plain.new n ≡ put_at_pointer (held_in plain.old pid) (bytes_in plain.old) selector offset part.now n }
-    ensures sizes { (n : ℕ) → length (bytes_in plain.new n) ≡ length (bytes_in plain.old n) }
-    ensures maps { held_in plain.new ≡ held_in plain.old }
-    ensures shown { (n : ℕ) → shown_in plain.new n ≡ shown_in plain.old n }
+/// Writes bytes behind a pointer that was found good.
+pub fn store<B: Ranges>(bus: &mut B, selector: u16, offset: u16, part: &[u8])
+    requires { is_ready is_writable (B.view bus.old) selector offset (length part.now) ≡ true }
+    ensures bytes { (f : Filling) (n : ℕ) → (whole f (B.view bus.new)).bytes n
+        ≡ put_at_pointer (B.view bus.old).held (whole f (B.view bus.old)).bytes selector offset part.now n }
+    ensures frame { KeepsAllButBytes (B.view bus.old) (B.view bus.new) }
+    ensures ready { (ok : ℕ → Bool) (s o n : ℕ) → is_ready ok (B.view bus.new) s o n ≡ is_ready ok (B.view bus.old) s o n }
 {
-    if part.len() == 0 {
-        return;
-    }
-    if let Some(grant) = plain.bound(pid, selector) {
-        plain.put(grant.name, offset, part);
+    if part.len() > 0 {
+        bus.put(Selector(selector), offset, part);
     }
 }

@@ -1,65 +1,53 @@
 // The arguments of a call, on the caller's stack.
-ghost use Rattle.std.specs.Prelude.{◌≡◌, ◌<◌, ◌≤◌, ◌+◌, ◌*◌, ◌%◌, is_ok};
-ghost use Rattle.o2_bus.specs.Plain.{plain_view};
-ghost use Rattle.o2_world.specs.Calls.{argument as argument_of, has_arguments, word_of, returned};
+ghost use Rattle.std.specs.Prelude.{◌≡◌, ◌<◌, ◌≤◌, ◌+◌, ◌*◌, ◌%◌, Some, None, if◌then◌else◌};
+ghost use Rattle.o2_isa.specs.View.{Filling, IsBound};
+ghost use Rattle.o2_world.specs.Calls.{argument, has_arguments, transfer_of, word_of, returned};
+ghost use Rattle.o2_gate.specs.Befores.{boundless, given};
 
-use o2_bus::{Plain, is_readable_byte};
-use o2_isa::Cpu;
+use o2_bus::Bus;
+use o2_isa::{Cpu, Sreg, Width};
+use o2_world::Transfer;
 
-/// The offset of the i-th word from the top of the stack.
-fn word_offset(cpu: &Cpu, i: u16) -> u16
+/// The i-th word from the top of the stack, where it lies in SS.
+fn word<B: Bus>(bus: &B, cpu: &Cpu, i: u16) -> Option<u16>
     requires { i < 16 }
-    ensures { result ≡ (cpu.now.sp + 2 * i) % 65536 }
+    ensures { (f : Filling) → IsBound (B.view bus.now) → result ≡ given (word_of (boundless f (B.view bus.now)) cpu.now i) }
 {
-    cpu.sp.wrapping_add(2 * i)
-}
-
-/// Whether the i-th word from the top of the stack lies in SS.
-#[tactic(auto, unfolding(o2_isa::specs::View::read_of))]
-fn has_word(plain: &Plain, pid: u16, cpu: &Cpu, i: u16) -> bool
-    requires { i < 16 }
-    ensures { result ≡ is_ok (word_of (plain_view plain.now pid cpu.now) cpu.now i) }
-{
-    match plain.bound(pid, cpu.ss) {
-        Some(grant) => {
-            is_readable_byte(grant.access)
-                && word_offset(cpu, i) as usize + 2 <= plain.bytes(grant.name).len()
-        }
-        None => false,
+    match bus.read(Sreg::Ss, cpu.sp.wrapping_add(2 * i), Width::Word) {
+        Ok(word) => Some(word),
+        Err(_) => None,
     }
 }
 
-/// The i-th word from the top of the stack, 0 where it doesn't lie in SS.
-#[tactic(auto, unfolding(o2_isa::specs::View::read_of, o2_world::specs::Calls::argument))]
-pub fn argument(plain: &Plain, pid: u16, cpu: &Cpu, i: u16) -> u16
-    requires { i < 16 }
-    ensures { result ≡ argument_of (plain_view plain.now pid cpu.now) cpu.now i }
+/// Two arguments, the one that was pushed first before the other. None exactly where they don't lie in SS.
+pub fn two_arguments<B: Bus>(bus: &B, cpu: &Cpu) -> Option<(u16, u16)>
+    ensures { (f : Filling) → IsBound (B.view bus.now) → let v = boundless f (B.view bus.now) in
+        result ≡ (if has_arguments v cpu.now 2 then Some (argument v cpu.now 1, argument v cpu.now 0) else None) }
 {
-    match plain.bound(pid, cpu.ss) {
-        Some(grant) => {
-            let bytes = plain.bytes(grant.name);
-            let at = word_offset(cpu, i) as usize;
-            if is_readable_byte(grant.access) && at + 2 <= bytes.len() {
-                bytes[at] as u16 + 256 * bytes[at + 1] as u16
-            } else {
-                0
-            }
-        }
-        None => 0,
-    }
+    let last = word(bus, cpu, 0)?;
+    let first = word(bus, cpu, 1)?;
+    Some((first, last))
 }
 
-/// Whether the first words from the top of the stack lie in SS.
-pub fn fit(plain: &Plain, pid: u16, cpu: &Cpu, words: u16) -> bool
-    requires { words ≤ 16 }
-    ensures { result ≡ has_arguments (plain_view plain.now pid cpu.now) cpu.now words }
+/// The arguments of a transfer. None exactly where they don't lie in SS.
+pub fn transfer<B: Bus>(bus: &B, cpu: &Cpu) -> Option<Transfer>
+    ensures { (f : Filling) → IsBound (B.view bus.now) → let v = boundless f (B.view bus.now) in
+        result ≡ (if has_arguments v cpu.now 6 then Some (transfer_of (argument v cpu.now)) else None) }
 {
-    for i in 0..words {
-        if !has_word(plain, pid, cpu, i) {
-            return false;
-        }
-    }
-    true
+    let done_offset = word(bus, cpu, 0)?;
+    let done_selector = word(bus, cpu, 1)?;
+    let count = word(bus, cpu, 2)?;
+    let offset = word(bus, cpu, 3)?;
+    let selector = word(bus, cpu, 4)?;
+    let handle = word(bus, cpu, 5)?;
+    Some(Transfer {
+        handle,
+        selector,
+        offset,
+        count,
+        done_selector,
+        done_offset,
+    })
 }
 
 /// The registers as a call comes back to `next`, which takes its arguments away.

@@ -1,20 +1,22 @@
 // A call with one pointer, behind which bytes are written.
-ghost use Rattle.std.specs.Prelude.{◌≡◌, ◌≤◌, ◌<◌, ◌+◌, ◌∷◌, [], ℕ, List, Option, Some, IsTrue, length};
+ghost use Rattle.std.specs.Prelude.{◌≡◌, ◌≤◌, ◌<◌, ◌+◌, ◌∷◌, [], ℕ, List, Option, Some, true, length};
 ghost use Rattle.o2_outer.specs.Texts.{Rose};
 ghost use Rattle.o2_outer.specs.Answers.{Takes, OnFailed};
-ghost use Rattle.o2_bus.specs.Plain.{held_in, bytes_in, shown_in};
+ghost use Rattle.o2_isa.specs.View.{Filling, IsBound};
+ghost use Rattle.o2_isa.specs.Pointers.{KeepsAllButBytes};
 ghost use Rattle.o2_world.specs.Known.{Known};
 ghost use Rattle.o2_world.specs.World.{Calls};
 ghost use Rattle.o2_world.specs.Text.{lines_text};
 ghost use Rattle.o2_world.specs.Calls.{told as told_row, told_at as told_at_row};
-ghost use Rattle.o2_gate.specs.Befores.{before_call};
-ghost use Rattle.o2_gate.specs.Called.{Does};
+ghost use Rattle.o2_gate.specs.Befores.{boundless, before_call};
+ghost use Rattle.o2_gate.specs.Called.{Does, OnMissed};
+ghost use Rattle.o2_gate.specs.Pointed.{IsAway};
 ghost use Rattle.o2_run.specs.Faults.{Caused};
 
 use crate::Called;
-use crate::pointer::{may_write, store};
-use crate::stack::{argument, fit, give_back};
-use o2_bus::Plain;
+use crate::pointer::{Pointed, store, test};
+use crate::stack::{give_back, two_arguments};
+use o2_bus::Ranges;
 use o2_isa::Cpu;
 use o2_outer::{Put, Sink};
 use o2_report::{LineBuffer, set_calls};
@@ -53,11 +55,11 @@ fn put_told<R: Sink>(
 
 /// The call with its pointer.
 #[tactic(auto, using(o2_outer::proofs::TextLemmas::gains_none, o2_outer::proofs::TextLemmas::puts_none))]
-fn told_at<R: Sink>(
+fn told_at<B: Ranges, R: Sink>(
     pid: u16,
     next: u16,
     cpu: &mut Cpu,
-    plain: &mut Plain,
+    bus: &mut B,
     telling: &Telling<'_>,
     selector: u16,
     offset: u16,
@@ -67,22 +69,25 @@ fn told_at<R: Sink>(
     requires name { length telling.now.name.now ≤ 20 }
     requires part { length telling.now.part.now < 65536 }
     requires values { length telling.now.values.now ≤ 4 }
-    ensures does { (input : List ℕ) (known : Known) (i c : Option (List ℕ)) → i ≡ Some input → let b = before_call plain.old pid cpu.old input known in
-        Does b (told_at_row b next telling.now.name.now telling.now.part.now telling.now.values.now selector offset)
-        cpu.new plain.old plain.new i i c c (R.taken report.old) (R.taken report.new) result }
-    ensures sizes { (n : ℕ) → length (bytes_in plain.new n) ≡ length (bytes_in plain.old n) }
-    ensures maps { held_in plain.new ≡ held_in plain.old }
-    ensures shown { (n : ℕ) → shown_in plain.new n ≡ shown_in plain.old n }
+    ensures does { (f : Filling) (input : List ℕ) (known : Known) (i c : Option (List ℕ)) → i ≡ Some input
+        → let b = before_call (boundless f (B.view bus.old)) pid cpu.old input known in
+        Does f b (told_at_row b next telling.now.name.now telling.now.part.now telling.now.values.now selector offset)
+        cpu.new (B.view bus.old) (B.view bus.new) i i c c (R.taken report.old) (R.taken report.new) result }
+    ensures frame { KeepsAllButBytes (B.view bus.old) (B.view bus.new) }
+    // A segment that is missed is one that isn't present.
+    ensures away { OnMissed result (λ s. IsAway (B.view bus.old) s) }
     ensures count { R.faults report.old ≤ R.faults report.new }
     ensures cause { Caused (Rose (R.faults report.old) (R.faults report.new)) ⊥ ⊥ ⊥ result }
 {
-    if !may_write(plain, pid, selector, offset, telling.part.len() as u16) {
-        return Ok(Called::Trap(13, 0));
+    match test(bus, true, selector, offset, telling.part.len() as u16) {
+        Pointed::Missed(sel) => return Ok(Called::Missed(sel)),
+        Pointed::Bad => return Ok(Called::Trap(13, 0)),
+        Pointed::Good => {}
     }
     match put_told(line, pid, telling, selector, offset, report) {
         Put::Failed => Err(Fault::Sink),
         Put::Done => {
-            store(plain, pid, selector, offset, telling.part);
+            store(bus, selector, offset, telling.part);
             give_back(cpu, next, 2, 0);
             Ok(Called::Back(0))
         }
@@ -91,11 +96,11 @@ fn told_at<R: Sink>(
 
 /// A call that writes these bytes behind its one pointer.
 #[tactic(auto, unfolding(o2_world::specs::Calls::told), using(o2_outer::proofs::TextLemmas::gains_none, o2_outer::proofs::TextLemmas::puts_none))]
-pub fn told<R: Sink>(
+pub fn told<B: Ranges, R: Sink>(
     pid: u16,
     next: u16,
     cpu: &mut Cpu,
-    plain: &mut Plain,
+    bus: &mut B,
     telling: &Telling<'_>,
     line: &mut LineBuffer,
     report: &mut R,
@@ -103,21 +108,18 @@ pub fn told<R: Sink>(
     requires name { length telling.now.name.now ≤ 20 }
     requires part { length telling.now.part.now < 65536 }
     requires values { length telling.now.values.now ≤ 4 }
-    ensures does { (input : List ℕ) (known : Known) (i c : Option (List ℕ)) → i ≡ Some input → let b = before_call plain.old pid cpu.old input known in
-        Does b (told_row b next telling.now.name.now telling.now.part.now telling.now.values.now)
-        cpu.new plain.old plain.new i i c c (R.taken report.old) (R.taken report.new) result }
-    ensures sizes { (n : ℕ) → length (bytes_in plain.new n) ≡ length (bytes_in plain.old n) }
-    ensures maps { held_in plain.new ≡ held_in plain.old }
-    ensures shown { (n : ℕ) → shown_in plain.new n ≡ shown_in plain.old n }
+    ensures does { (f : Filling) (input : List ℕ) (known : Known) (i c : Option (List ℕ)) → IsBound (B.view bus.old) → i ≡ Some input
+        → let b = before_call (boundless f (B.view bus.old)) pid cpu.old input known in
+        Does f b (told_row b next telling.now.name.now telling.now.part.now telling.now.values.now)
+        cpu.new (B.view bus.old) (B.view bus.new) i i c c (R.taken report.old) (R.taken report.new) result }
+    ensures frame { KeepsAllButBytes (B.view bus.old) (B.view bus.new) }
+    // A segment that is missed is one that isn't present.
+    ensures away { OnMissed result (λ s. IsAway (B.view bus.old) s) }
     ensures count { R.faults report.old ≤ R.faults report.new }
     ensures cause { Caused (Rose (R.faults report.old) (R.faults report.new)) ⊥ ⊥ ⊥ result }
 {
-    if !fit(plain, pid, cpu, 2) {
+    let Some((selector, offset)) = two_arguments(bus, cpu) else {
         return Ok(Called::Trap(12, 0));
-    }
-    let selector = argument(plain, pid, cpu, 1);
-    let offset = argument(plain, pid, cpu, 0);
-    told_at(
-        pid, next, cpu, plain, telling, selector, offset, line, report,
-    )
+    };
+    told_at(pid, next, cpu, bus, telling, selector, offset, line, report)
 }

@@ -1,51 +1,38 @@
-// What DosRead and DosWrite have in common: their arguments, their line, and the count behind the second pointer.
-ghost use Rattle.std.specs.Prelude.{◌≡◌, ◌+◌, ◌≤◌, ◌∷◌, [], ℕ, IsTrue, length};
+// What DosRead and DosWrite have in common: the test of their pointers, their line, and the number behind the second pointer.
+ghost use Rattle.std.specs.Prelude.{◌≡◌, ◌+◌, ◌≤◌, ◌∷◌, [], ℕ, Bool, true, length};
 ghost use Rattle.o2_outer.specs.Texts.{Rose};
 ghost use Rattle.o2_outer.specs.Answers.{Takes, OnFailed};
-ghost use Rattle.o2_bus.specs.Plain.{held_in, bytes_in, shown_in, plain_view};
-ghost use Rattle.o2_world.specs.World.{Calls};
+ghost use Rattle.o2_isa.specs.View.{Filling, is_writable, whole};
+ghost use Rattle.o2_isa.specs.Pointers.{is_ready, put_at_pointer, KeepsAllButBytes};
 ghost use Rattle.o2_world.specs.Text.{lines_text};
-ghost use Rattle.o2_world.specs.Calls.{argument as argument_of, may_write as writes_at, put_at_pointer, word_bytes};
+ghost use Rattle.o2_world.specs.Calls.{transfer_line, word_bytes};
+ghost use Rattle.o2_gate.specs.Pointed.{Tells, transfer_pointers};
 
-use crate::pointer::store;
-use crate::stack::argument;
-use o2_bus::Plain;
-use o2_isa::Cpu;
+use crate::pointer::{Pointed, store, test};
+use o2_bus::{Bus, Ranges};
 use o2_outer::{Put, Sink};
 use o2_report::{LineBuffer, set_calls};
-use o2_world::Argument;
+use o2_world::{Argument, Transfer};
 
-/// The arguments of DosRead and of DosWrite.
-#[derive(Clone, Copy)]
-pub struct Transfer {
-    pub handle: u16,
-    pub selector: u16,
-    pub offset: u16,
-    pub count: u16,
-    pub done_selector: u16,
-    pub done_offset: u16,
-}
-
-/// The arguments as they stand on the stack.
-pub fn arguments_of(plain: &Plain, pid: u16, cpu: &Cpu) -> Transfer
-    ensures handle { result.handle ≡ argument_of (plain_view plain.now pid cpu.now) cpu.now 5 }
-    ensures selector { result.selector ≡ argument_of (plain_view plain.now pid cpu.now) cpu.now 4 }
-    ensures offset { result.offset ≡ argument_of (plain_view plain.now pid cpu.now) cpu.now 3 }
-    ensures count { result.count ≡ argument_of (plain_view plain.now pid cpu.now) cpu.now 2 }
-    ensures done_selector { result.done_selector ≡ argument_of (plain_view plain.now pid cpu.now) cpu.now 1 }
-    ensures done_offset { result.done_offset ≡ argument_of (plain_view plain.now pid cpu.now) cpu.now 0 }
+/// Tests both pointers, the first one to bytes that are read, or written.
+pub fn test_both<B: Bus>(bus: &mut B, writes: bool, transfer: &Transfer) -> Pointed
+    ensures tells { Tells (B.view bus.old) (transfer_pointers writes transfer.now) result }
+    ensures same { B.view bus.new ≡ B.view bus.old }
 {
-    Transfer {
-        handle: argument(plain, pid, cpu, 5),
-        selector: argument(plain, pid, cpu, 4),
-        offset: argument(plain, pid, cpu, 3),
-        count: argument(plain, pid, cpu, 2),
-        done_selector: argument(plain, pid, cpu, 1),
-        done_offset: argument(plain, pid, cpu, 0),
+    match test(
+        bus,
+        writes,
+        transfer.selector,
+        transfer.offset,
+        transfer.count,
+    ) {
+        Pointed::Good => test(bus, true, transfer.done_selector, transfer.done_offset, 2),
+        Pointed::Bad => Pointed::Bad,
+        Pointed::Missed(sel) => Pointed::Missed(sel),
     }
 }
 
-/// Puts the line of the call, with the count that it wrote, by one put.
+/// Puts the line of the call, with the number of bytes that went, by one put.
 pub fn put_line<R: Sink>(
     line: &mut LineBuffer,
     pid: u16,
@@ -56,8 +43,7 @@ pub fn put_line<R: Sink>(
     report: &mut R,
 ) -> Put
     requires { length name.now ≤ 20 }
-    ensures report { Takes (R.taken report.old) (R.taken report.new)
-        (lines_text (Calls pid name.now (Argument.Word transfer.now.handle ∷ Argument.Far transfer.now.selector transfer.now.offset ∷ Argument.Word transfer.now.count ∷ Argument.Far transfer.now.done_selector transfer.now.done_offset ∷ []) error (Argument.Word done ∷ []) ∷ [])) result }
+    ensures report { Takes (R.taken report.old) (R.taken report.new) (lines_text (transfer_line name.now pid transfer.now error done ∷ [])) result }
     ensures puts { R.puts report.new ≡ R.puts report.old + 1 }
     ensures count { R.faults report.old ≤ R.faults report.new }
     ensures cause { OnFailed result (Rose (R.faults report.old) (R.faults report.new)) }
@@ -73,20 +59,13 @@ pub fn put_line<R: Sink>(
     report.put(line.as_slice())
 }
 
-/// Writes a count behind the second pointer.
-pub fn store_count(plain: &mut Plain, pid: u16, transfer: &Transfer, count: u16)
-    requires { IsTrue (writes_at (held_in plain.old pid) (bytes_in plain.old) transfer.now.done_selector transfer.now.done_offset 2) }
-    ensures bytes { (n : ℕ) → bytes_in plain.new n ≡ put_at_pointer (held_in plain.old pid) (bytes_in plain.old) transfer.now.done_selector transfer.now.done_offset (word_bytes count) n }
-    ensures sizes { (n : ℕ) → length (bytes_in plain.new n) ≡ length (bytes_in plain.old n) }
-    ensures maps { held_in plain.new ≡ held_in plain.old }
-    ensures shown { (n : ℕ) → shown_in plain.new n ≡ shown_in plain.old n }
+/// Writes a number behind the second pointer.
+pub fn store_done<B: Ranges>(bus: &mut B, transfer: &Transfer, done: u16)
+    requires { is_ready is_writable (B.view bus.old) transfer.now.done_selector transfer.now.done_offset 2 ≡ true }
+    ensures bytes { (f : Filling) (n : ℕ) → (whole f (B.view bus.new)).bytes n
+        ≡ put_at_pointer (B.view bus.old).held (whole f (B.view bus.old)).bytes transfer.now.done_selector transfer.now.done_offset (word_bytes done) n }
+    ensures frame { KeepsAllButBytes (B.view bus.old) (B.view bus.new) }
 {
-    let word = [(count % 256) as u8, (count / 256) as u8];
-    store(
-        plain,
-        pid,
-        transfer.done_selector,
-        transfer.done_offset,
-        &word,
-    );
+    let word = [(done % 256) as u8, (done / 256) as u8];
+    store(bus, transfer.done_selector, transfer.done_offset, &word);
 }

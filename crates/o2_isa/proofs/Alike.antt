@@ -343,7 +343,7 @@ name_unseen : (u : Rest) (h : Hidden) (v : View) (k : ℕ) (w : Width) (q : Resu
 name_unseen u h v k w (Ok n) = refl
 name_unseen u h v k w (Err e) = refl
 
-read_unseen : (u : Rest) (h : Hidden) (v : View) (r : Sreg) (k : ℕ) (w : Width) → read_of (with_unseen u h v) r k w ≡ read_of v r k w
+pub read_unseen : (u : Rest) (h : Hidden) (v : View) (r : Sreg) (k : ℕ) (w : Width) → read_of (with_unseen u h v) r k w ≡ read_of v r k w
 unfolding read_of
 read_unseen u h v r k w = name_unseen u h v k w _ ∙ ap (read_name v k w) (reached_unseen u h v (in_register v.registers r) is_readable r k w)
 

@@ -18,3 +18,4 @@ pub mod BackedRows
 pub mod SpelledLoads
 pub mod Sizes
 pub mod Writes
+pub mod Rights

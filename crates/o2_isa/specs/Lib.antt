@@ -32,3 +32,4 @@ pub mod Widths
 pub mod Parts
 pub mod Sizes
 pub mod Writes
+pub mod Pointers

@@ -139,56 +139,56 @@ module _ (m new : Space) (ps : List Process) (names : Map Segment) (p : Process)
   at : slice_get ps (n - 1) ≡ Some p
   at = at_place_of ps n p at_number
 
-  held_before : (j : ℕ) → holds_in p.held j ≡ held_in m.state.plain n j
+  held_before : (j : ℕ) → holds_in p.held j ≡ held_in m.plain n j
   held_before j =
-      subst (λ (k : ℕ). holds_in p.held j ≡ held_in m.state.plain k j) (omega arith)
-      (holds_at (slice_get m.procs.items (n - 1)) (slice_get ps (n - 1)) (held_in m.state.plain (n - 1 + 1)) p at (between.processes (n - 1)) j)
+      subst (λ (k : ℕ). holds_in p.held j ≡ held_in m.plain k j) (omega arith)
+      (holds_at (slice_get m.procs.items (n - 1)) (slice_get ps (n - 1)) (held_in m.plain (n - 1 + 1)) p at (between.processes (n - 1)) j)
 
-  processes_put : (x : Process) → IsProcess q (held_in new.state.plain n) x → ((i j : ℕ) → i ≢ n → held_in new.state.plain i j ≡ held_in m.state.plain i j)
-      → (i : ℕ) → IsAt (slice_get new.procs.items i) (held_in new.state.plain (i + 1)) (slice_get (slice_set ps (n - 1) x) i)
+  processes_put : (x : Process) → IsProcess q (held_in new.plain n) x → ((i j : ℕ) → i ≢ n → held_in new.plain i j ≡ held_in m.plain i j)
+      → (i : ℕ) → IsAt (slice_get new.procs.items i) (held_in new.plain (i + 1)) (slice_get (slice_set ps (n - 1) x) i)
   processes_put x is same i =
-      let here : IsProcess q (held_in new.state.plain (n - 1 + 1)) x = subst (λ (k : ℕ). IsProcess q (held_in new.state.plain k) x) (omega arith) is in
-      subst (λ (qs : List Proc). IsAt (slice_get qs i) (held_in new.state.plain (i + 1)) (slice_get (slice_set ps (n - 1) x) i)) (sym put)
-      (put_process m.procs.items ps (n - 1) q x (λ i. held_in m.state.plain (i + 1)) (λ i. held_in new.state.plain (i + 1)) (omega arith) between.processes (λ i other j. same (i + 1) j (past i n other)) here i)
+      let here : IsProcess q (held_in new.plain (n - 1 + 1)) x = subst (λ (k : ℕ). IsProcess q (held_in new.plain k) x) (omega arith) is in
+      subst (λ (qs : List Proc). IsAt (slice_get qs i) (held_in new.plain (i + 1)) (slice_get (slice_set ps (n - 1) x) i)) (sym put)
+      (put_process m.procs.items ps (n - 1) q x (λ i. held_in m.plain (i + 1)) (λ i. held_in new.plain (i + 1)) (omega arith) between.processes (λ i other j. same (i + 1) j (past i n other)) here i)
 
   -- the process lives on
-  live_set : is_live e.state ≡ true → new.state.plain ≡ m.state.plain → (let qs = slice_set ps (n - 1) (process_after p e) in StandsIn new qs (names_after qs names e))
+  live_set : is_live e.state ≡ true → new.plain ≡ m.plain → (let qs = slice_set ps (n - 1) (process_after p e) in StandsIn new qs (names_after qs names e))
   live_set lives same =
       rw lives (record {
         processes = processes_put (record p { cpu = e.cpu; state = e.state }) (record { cpu = sym cpu; state = sym state; held = λ j. held_before j ∙ ap (λ (z : Plain). held_in z n j) (sym same) }) (λ i j other. ap (λ (z : Plain). held_in z i j) same);
         none = λ j. between.none j ∙ ap (λ (z : Plain). held_in z 0 j) (sym same);
-        bytes = λ k. bytes_live names e.bytes k (bytes_in new.state.plain k) (ap (λ (z : Plain). bytes_in z k) same ∙ between.bytes k) (between.absent k);
+        bytes = λ k. bytes_live names e.bytes k (bytes_in new.plain k) (ap (λ (z : Plain). bytes_in z k) same ∙ between.bytes k) (between.absent k);
         shown = λ k. ap (λ (z : Plain). shown_in z k) same ∙ between.shown k;
       })
 
   by_number : (let qs = slice_set ps (n - 1) (process_after p e) in StandsIn new qs (names_after qs names e)) → StandsAfter n ps names p e new
   by_number stands = subst (λ (qs : List Process). StandsIn new qs (names_after qs names e)) (sym (with_is ps n (process_after p e) some)) stands
 
-  pub live_stands : is_live e.state ≡ true → new.state.plain ≡ m.state.plain → StandsAfter n ps names p e new
+  pub live_stands : is_live e.state ≡ true → new.plain ≡ m.plain → StandsAfter n ps names p e new
   live_stands lives same = by_number (live_set lives same)
 
   -- it has ended
   end_set : is_live e.state ≡ false
-      → ((i j : ℕ) → held_in new.state.plain i j ≡ (if i == n then None else held_in m.state.plain i j))
-      → ((k : ℕ) → bytes_in new.state.plain k ≡ (if is_held_in new.state.plain k then bytes_in m.state.plain k else []))
-      → ((k : ℕ) → shown_in new.state.plain k ≡ shown_in m.state.plain k)
+      → ((i j : ℕ) → held_in new.plain i j ≡ (if i == n then None else held_in m.plain i j))
+      → ((k : ℕ) → bytes_in new.plain k ≡ (if is_held_in new.plain k then bytes_in m.plain k else []))
+      → ((k : ℕ) → shown_in new.plain k ≡ shown_in m.plain k)
       → (let qs = slice_set ps (n - 1) (process_after p e) in StandsIn new qs (names_after qs names e))
   end_set ends held bytes shown =
       let x : Process = record p { cpu = e.cpu; state = e.state; held = [] } in
-      let is : IsProcess q (held_in new.state.plain n) x = record { cpu = sym cpu; state = sym state; held = λ j. sym (held n j ∙ ap (λ (b : Bool). if b then None else held_in m.state.plain n j) (same_number n)) } in
+      let is : IsProcess q (held_in new.plain n) x = record { cpu = sym cpu; state = sym state; held = λ j. sym (held n j ∙ ap (λ (b : Bool). if b then None else held_in m.plain n j) (same_number n)) } in
       let qs : List Process = slice_set ps (n - 1) x in
-      let each = processes_put x is (λ i j other. held i j ∙ pick_other (i == n) (held_in m.state.plain i j) (differs i n other)) in
-      let none : (j : ℕ) → ◌≡◌ {A = Option Hold} None (held_in new.state.plain 0 j) = λ j. none_at (0 == n) (held_in m.state.plain 0 j) (between.none j) ∙ sym (held 0 j) in
+      let each = processes_put x is (λ i j other. held i j ∙ pick_other (i == n) (held_in m.plain i j) (differs i n other)) in
+      let none : (j : ℕ) → ◌≡◌ {A = Option Hold} None (held_in new.plain 0 j) = λ j. none_at (0 == n) (held_in m.plain 0 j) (between.none j) ∙ sym (held 0 j) in
       rw ends (record {
         processes = each;
         none = none;
-        bytes = λ k. bytes_kept names qs e.bytes k (bytes_in m.state.plain k) (is_held_in new.state.plain k) (held_same new.procs.items new.state.plain qs each none k) (between.bytes k) (between.absent k) ∙ sym (bytes k);
+        bytes = λ k. bytes_kept names qs e.bytes k (bytes_in m.plain k) (is_held_in new.plain k) (held_same new.procs.items new.plain qs each none k) (between.bytes k) (between.absent k) ∙ sym (bytes k);
         shown = λ k. shown k ∙ between.shown k;
       })
 
   pub end_stands : is_live e.state ≡ false
-      → ((i j : ℕ) → held_in new.state.plain i j ≡ (if i == n then None else held_in m.state.plain i j))
-      → ((k : ℕ) → bytes_in new.state.plain k ≡ (if is_held_in new.state.plain k then bytes_in m.state.plain k else []))
-      → ((k : ℕ) → shown_in new.state.plain k ≡ shown_in m.state.plain k)
+      → ((i j : ℕ) → held_in new.plain i j ≡ (if i == n then None else held_in m.plain i j))
+      → ((k : ℕ) → bytes_in new.plain k ≡ (if is_held_in new.plain k then bytes_in m.plain k else []))
+      → ((k : ℕ) → shown_in new.plain k ≡ shown_in m.plain k)
       → StandsAfter n ps names p e new
   end_stands ends held bytes shown = by_number (end_set ends held bytes shown)

@@ -42,7 +42,7 @@ abbrev first_schedule : Conf → Schedule
 first_schedule c = record { dispatch = opening_dispatch c.script c.budget; flags = replicate (length c.process) true; quantum = c.quantum }
 
 pub first_stands : (begun : Begun) (l : LinkedParts) (b : Built) (c : Conf) (m : Machine) (input : List ℕ) → IsBegun begun l b
-    → m.space.procs.items ≡ map first_proc begun.cpus.items → m.space.state.plain ≡ begun.build.plain → m.space.state.avail ≡ c.avail
+    → m.space.procs.items ≡ map first_proc begun.cpus.items → m.space.plain ≡ begun.build.plain → m.space.state.avail ≡ c.avail
     → m.sched ≡ first_schedule c → length begun.cpus.items ≡ length c.process → m.budget ≡ c.budget → m.console_bytes ≡ 0 → m.lines ≡ length b.lines → StandsFor m (setting_of c) (first_world l c input b)
 first_stands begun l b c m input is procs plain avail sched count budget console lines = record {
   space = record {

@@ -1,103 +1,128 @@
--- A step that calls a service.
-use Rattle.std.proofs.Common.{◌≡◌, ℕ, List, Option, true, ap, sym, ◌∙◌, subst}
-use Rattle.std.specs.Prelude.{Ok, Err}
-use Rattle.o2_world.specs.Calls.{Effect}
+-- An attempt at a step over a bus, as the step of the boundless machine.
+use Rattle.std.proofs.Common.{◌≡◌, ℕ, List, Option, true, ap, sym, ◌∙◌, subst, refl}
+use Rattle.std.specs.Prelude.{Result, Ok, Err}
+use Rattle.o2_base.specs.declared.selector.Selector.{Selector}
 use Rattle.o2_isa.specs.declared.cpu.Cpu.{Cpu}
+use Rattle.o2_isa.specs.declared.cpu.Outcome.TheVariants as outcome
+use Rattle.o2_isa.specs.declared.cpu.Stop.TheVariants as stop
+use Rattle.o2_isa.specs.View.{View, Filling, IsBound, KeepsFrame, whole, no_rest, no_hidden}
+use Rattle.o2_isa.specs.Pointers.{KeepsAllButBytes}
 use Rattle.o2_isa.specs.Steps.{State as Machine, state}
-use Rattle.o2_bus.specs.declared.plain.Plain.{Plain}
-use Rattle.o2_bus.specs.Plain.{bytes_in, plain_view}
+use Rattle.o2_isa.specs.Presence.{whole_state, IsMissed}
+use Rattle.o2_isa.specs.Step.{stepped, AsBoundless}
+use Rattle.o2_isa.proofs.StepLaws.{answers_unseen}
 use Rattle.o2_world.specs.declared.types.State.{State}
 use Rattle.o2_world.specs.declared.types.State.TheVariants.{Live, Exited as Gone}
 use Rattle.o2_world.specs.Known.{Known}
-use Rattle.o2_world.specs.Calls.{Before, serviced, asks}
-use Rattle.o2_world.specs.Effect.{AsksInput}
-use Rattle.o2_isa.specs.declared.cpu.Stop.TheVariants as stop
-use Rattle.o2_isa.specs.Step.{stepped}
-use Rattle.o2_gate.specs.Befores.{before_call}
-use Rattle.o2_gate.specs.Called.{IsMade, IsInPart, IsTrap, IsUnread, FaultsFor, DoesFor}
+use Rattle.o2_world.specs.Calls.{Before, Effect, serviced, asks}
+use Rattle.o2_world.specs.Effect.{effect, AsksInput}
+use Rattle.o2_gate.specs.Befores.{boundless, before_call}
+use Rattle.o2_gate.specs.Pointed.{IsAway}
+use Rattle.o2_gate.specs.Called.{IsMade, IsTrap, IsUntouched, FaultsFor, DoesFor, OnMissed}
 use Rattle.o2_gate.specs.declared.called.Called.{Called}
-use Rattle.o2_gate.specs.declared.called.Called.TheVariants.{Back, Exited, Trap}
-use Rattle.o2_world.specs.Effect.{effect}
+use Rattle.o2_gate.specs.declared.called.Called.TheVariants.{Back, Exited, Trap, Missed}
 use Rattle.o2_run.specs.declared.steps.Stop.TheVariants as halt
 use Rattle.o2_run.specs.declared.fault.Fault.{Fault}
 use Rattle.o2_run.specs.declared.fault.Fault.TheVariants as fault
 use Rattle.o2_run.specs.Faults.{CauseOf}
+use Rattle.o2_machine.specs.Ran.{IsStill, IsInPart, LeavesFault, AttemptFor, OnMissed as OnStepMissed}
+use Rattle.o2_machine.specs.declared.one_step.Attempt.{Attempt}
+use Rattle.o2_machine.specs.declared.one_step.Attempt.TheVariants as attempt
 use Rattle.o2_machine.proofs.Leaving.{effect_by, in_part}
 
--- what a call starts from depends on registers and view alone
-pub same_before : (old mid : Plain) (pid : ℕ) (cpu_old cpu_mid : Cpu) (input : List ℕ) (known : Known) → state cpu_mid (plain_view mid pid cpu_mid) ≡ state cpu_old (plain_view old pid cpu_old)
-    → before_call mid pid cpu_mid input known ≡ before_call old pid cpu_old input known
-same_before old mid pid cpu_old cpu_mid input known same =
-    let f : Machine → Before = λ s. record { number = pid; cpu = s.cpu; view = s.view; known = known; input = input } in ap f same
+-- The instruction.
 
-pub same_bytes : (old mid : Plain) (pid : ℕ) (cpu_old cpu_mid : Cpu) → state cpu_mid (plain_view mid pid cpu_mid) ≡ state cpu_old (plain_view old pid cpu_old) → (n : ℕ) → bytes_in mid n ≡ bytes_in old n
-same_bytes old mid pid cpu_old cpu_mid same n = ap (λ (s : Machine). s.view.bytes n) same
+module _ (f : Filling) (v w : View) (c d : Cpu) where
+  pub done_boundless : AsBoundless f outcome.Done (state d w) (state c v) → stepped (state c (boundless f v)) ≡ Ok (state d (boundless f w))
+  done_boundless a = answers_unseen no_rest no_hidden outcome.Done (whole_state f (state d w)) (whole_state f (state c v)) a
 
-pub same_cpu : (old mid : Plain) (pid : ℕ) (cpu_old cpu_mid : Cpu) → state cpu_mid (plain_view mid pid cpu_mid) ≡ state cpu_old (plain_view old pid cpu_old) → cpu_mid ≡ cpu_old
-same_cpu old mid pid cpu_old cpu_mid same = ap (λ (s : Machine). s.cpu) same
+  pub trap_boundless : (vector code : ℕ) → AsBoundless f (outcome.Trap vector code) (state d w) (state c v) → stepped (state c (boundless f v)) ≡ Err (stop.Trap vector code)
+  trap_boundless vector code a = (answers_unseen no_rest no_hidden (outcome.Trap vector code) (whole_state f (state d w)) (whole_state f (state c v)) a).0
 
-module _ (b : Before) (e : Effect) (cpu : Cpu) (old new : Plain) (i j c d r q : Option (List ℕ)) (x : Called) (does : DoesFor (asks b ≡ true) b e cpu old new i j c d r q (Ok x)) where
-  by_answer : (y : Called) → x ≡ y → DoesFor (asks b ≡ true) b e cpu old new i j c d r q (Ok y)
-  by_answer y is = subst (λ (z : Called). DoesFor (asks b ≡ true) b e cpu old new i j c d r q (Ok z)) is does
+  pub gate_boundless : (service next : ℕ) → AsBoundless f (outcome.Gate service next) (state d w) (state c v) → stepped (state c (boundless f v)) ≡ Err (stop.Gate service next)
+  gate_boundless service next a = (answers_unseen no_rest no_hidden (outcome.Gate service next) (whole_state f (state d w)) (whole_state f (state c v)) a).0
 
-  -- by what the call came to
-  pub back_by : (put : ℕ) → x ≡ Back put → IsMade e Live put 1 cpu new j c d r q
-  back_by put is = by_answer (Back put) is
+pub away_by : (v : View) (s : Selector) (names : List ℕ) → IsMissed v s names → IsAway v s
+away_by v s names m = record { hold = m.hold; found_it = m.found_it; absent = m.absent }
 
-  pub exited_by : (code : ℕ) → x ≡ Exited code → IsMade e (Gone code) 0 2 cpu new j c d r q
-  exited_by code is = by_answer (Exited code) is
+pub whole_same : (f : Filling) (v w : View) → w ≡ v → (n : ℕ) → (whole f w).bytes n ≡ (whole f v).bytes n
+whole_same f v w e n = ap (λ (x : View). (whole f x).bytes n) e
 
-  pub trap_by : (vector code : ℕ) → x ≡ Trap vector code → IsTrap b e vector cpu old new i j c d r q
-  trap_by vector code is = by_answer (Trap vector code) is
+-- The frame.
 
-module _ (old mid new : Plain) (pid : ℕ) (cpu_old cpu_mid cpu_new : Cpu) (input : List ℕ) (known : Known) (service next : ℕ) (i j c d r q : Option (List ℕ))
-    (same : state cpu_mid (plain_view mid pid cpu_mid) ≡ state cpu_old (plain_view old pid cpu_old)) where
-  pub made_before : (ends : State) (piece lines : ℕ) → IsMade (serviced (before_call mid pid cpu_mid input known) service next) ends piece lines cpu_new new j c d r q → IsMade (serviced (before_call old pid cpu_old input known) service next) ends piece lines cpu_new new j c d r q
-  made_before ends piece lines made = subst (λ (b : Before). IsMade (serviced b service next) ends piece lines cpu_new new j c d r q) (same_before old mid pid cpu_old cpu_mid input known same) made
+pub frame_by : (v w : View) → KeepsAllButBytes v w → KeepsFrame v w
+frame_by v w e = record {
+  held = ap (λ (x : View). x.held) e;
+  gate = ap (λ (x : View). x.gate) e;
+  size = ap (λ (x : View). x.size) e;
+  present = ap (λ (x : View). x.present) e;
+  discarded = ap (λ (x : View). x.discarded) e;
+  rest = ap (λ (x : View). x.rest) e;
+  hidden = ap (λ (x : View). x.hidden) e;
+}
 
-  pub trap_before : (vector : ℕ) → IsTrap (before_call mid pid cpu_mid input known) (serviced (before_call mid pid cpu_mid input known) service next) vector cpu_new mid new i j c d r q
-      → IsTrap (before_call old pid cpu_old input known) (serviced (before_call old pid cpu_old input known) service next) vector cpu_new mid new i j c d r q
-  trap_before vector trap = subst (λ (b : Before). IsTrap b (serviced b service next) vector cpu_new mid new i j c d r q) (same_before old mid pid cpu_old cpu_mid input known same) trap
+pub frame_then : (u v w : View) → KeepsFrame u v → KeepsFrame v w → KeepsFrame u w
+frame_then u v w a b = record {
+  held = b.held ∙ a.held;
+  gate = b.gate ∙ a.gate;
+  size = b.size ∙ a.size;
+  present = b.present ∙ a.present;
+  discarded = b.discarded ∙ a.discarded;
+  rest = b.rest ∙ a.rest;
+  hidden = b.hidden ∙ a.hidden;
+}
 
-  pub part_before : IsInPart (serviced (before_call mid pid cpu_mid input known) service next) cpu_new cpu_mid mid new i j c d r q → IsInPart (serviced (before_call old pid cpu_old input known) service next) cpu_new cpu_old old new i j c d r q
-  part_before part =
-      let moved = subst (λ (b : Before). IsInPart (serviced b service next) cpu_new cpu_mid mid new i j c d r q) (same_before old mid pid cpu_old cpu_mid input known same) part in
-      record {
-        cpu = part.cpu ∙ same_cpu old mid pid cpu_old cpu_mid same;
-        bytes = λ n. part.bytes n ∙ same_bytes old mid pid cpu_old cpu_mid same n;
-        input = moved.input;
-        to_console = moved.to_console;
-        to_report = moved.to_report;
-        in_order = moved.in_order;
-      }
+pub still_of : (f : Filling) (cpu old : Cpu) (v new : View) (i j c d r q : Option (List ℕ)) → IsUntouched cpu old v new i j c d r q → IsStill cpu old (whole f v).bytes (whole f new).bytes i j c d r q
+still_of f cpu old v new i j c d r q u = record { cpu = u.cpu; bytes = whole_same f v new u.view; input = u.input; to_console = u.to_console; to_report = u.to_report }
 
-  -- the input failed in a DosRead
-  pub unread_before : stepped (state cpu_old (plain_view old pid cpu_old)) ≡ Err (stop.Gate service next) → service ≡ 3
-      → IsUnread (asks (before_call mid pid cpu_mid input known) ≡ true) cpu_new cpu_mid mid new i j c d r q
-      → IsUnread (AsksInput (before_call old pid cpu_old input known)) cpu_new cpu_old old new i j c d r q
-  unread_before step read unread = record {
-    cause = record {
-      next = next;
-      calls = step ∙ ap (λ (n : ℕ). Err (stop.Gate n next)) read;
-      asks_it = ap asks (sym (same_before old mid pid cpu_old cpu_mid input known same)) ∙ unread.cause;
-    };
-    cpu = unread.cpu ∙ same_cpu old mid pid cpu_old cpu_mid same;
-    bytes = λ n. unread.bytes n ∙ same_bytes old mid pid cpu_old cpu_mid same n;
-    input = unread.input;
-    to_console = unread.to_console;
-    to_report = unread.to_report;
-  }
+-- The call, from the machine before the far CALL, which changes nothing.
+
+module _ (f : Filling) (number : ℕ) (input : List ℕ) (known : Known) (service next : ℕ) (cpu : Cpu) (new : View) (i j c d r q : Option (List ℕ)) where
+  abbrev pub does_at : Result Called Fault → Machine → Type 0
+  does_at answer s =
+      let b = before_call (boundless f s.view) number s.cpu input known in
+      DoesFor (asks b ≡ true) f b (serviced b service next) cpu s.view new i j c d r q answer
+
+  pub moved : (answer : Result Called Fault) (s t : Machine) → s ≡ t → does_at answer s → does_at answer t
+  moved answer s t same = subst (does_at answer) same
+
+  module _ (v : View) (old : Cpu) (x y : Called) (is : x ≡ y) (does : does_at (Ok x) (state old v)) where
+    pub by_answer : does_at (Ok y) (state old v)
+    by_answer = subst (λ (z : Called). does_at (Ok z) (state old v)) is does
 
   -- a fault of the call is one of the step
-  pub fault_before : (f : Fault) → stepped (state cpu_old (plain_view old pid cpu_old)) ≡ Err (stop.Gate service next)
-      → CauseOf (Unit {0}) (service ≡ 3) ⊥ ⊥ f
-      → FaultsFor (asks (before_call mid pid cpu_mid input known) ≡ true) (before_call mid pid cpu_mid input known) (serviced (before_call mid pid cpu_mid input known) service next) cpu_new mid new i j c d r q f
-      → FaultsFor (AsksInput (before_call old pid cpu_old input known)) (before_call old pid cpu_old input known) (effect (before_call old pid cpu_old input known)) cpu_new old new i j c d r q f
-  fault_before fault.Sink step read part =
-      let b = before_call old pid cpu_old input known in
-      subst (λ (e : Effect). IsInPart e cpu_new cpu_old old new i j c d r q) (sym (effect_by b (Err (stop.Gate service next)) step))
-      (in_part b (serviced b service next) cpu_new cpu_old old new i j c d r q (part_before part))
-  fault_before (fault.Stopped halt.Input) step read unread = unread_before step read unread
-  fault_before (fault.Stopped halt.NoRoom) step read never = absurd never
-  fault_before (fault.Stopped halt.SwapFull) step read never = absurd never
-  fault_before (fault.Stopped halt.SwapFault) step read never = absurd never
+  pub fault_by : (v : View) (old : Cpu) (x : Fault) → let b = before_call (boundless f v) number old input known in
+      stepped (state old (boundless f v)) ≡ Err (stop.Gate service next) → CauseOf (Unit {0}) (service ≡ 3) ⊥ ⊥ x
+      → FaultsFor (asks b ≡ true) b (serviced b service next) cpu v new i j c d r q x
+      → LeavesFault b (effect b) cpu (whole f v).bytes (whole f new).bytes i j c d r q x
+  fault_by v old fault.Sink step read part =
+      let b = before_call (boundless f v) number old input known in
+      subst (λ (e : Effect). IsInPart e cpu old (whole f v).bytes (whole f new).bytes i j c d r q) (sym (effect_by b (Err (stop.Gate service next)) step))
+      (in_part b (serviced b service next) cpu old (whole f v).bytes (whole f new).bytes i j c d r q
+      (record { cpu = part.cpu; bytes = whole_same f v new part.view; input = part.input; to_console = part.to_console; to_report = part.to_report; in_order = part.in_order }))
+  fault_by v old (fault.Stopped halt.Input) step read unread = record {
+    cause = record { next = next; calls = step ∙ ap (λ (n : ℕ). Err (stop.Gate n next)) read; asks_it = unread.cause };
+    still = still_of f cpu old v new i j c d r q unread.untouched;
+  }
+  fault_by v old (fault.Stopped halt.NoRoom) step read never = absurd never
+  fault_by v old (fault.Stopped halt.SwapFull) step read never = absurd never
+  fault_by v old (fault.Stopped halt.SwapFault) step read never = absurd never
+
+pub missed_by : (v : View) (x : Called) (s : Selector) → x ≡ Missed s → OnMissed (Ok x) (λ t. IsAway v t) → IsAway v s
+missed_by v x s is away = subst (λ (y : Called). OnMissed (Ok y) (λ t. IsAway v t)) is away
+
+-- Attempts.
+
+pub none_missed : (r : Result Attempt Fault) (P : Selector → Type 0) → OnStepMissed r (λ s. ⊥) → OnStepMissed r P
+none_missed (Ok (attempt.Ran ran)) P e = tt
+none_missed (Ok (attempt.Missed s)) P e = absurd e
+none_missed (Err x) P e = tt
+
+pub wider_cause : (A B E F : Type 0) (r : Result Attempt Fault) → (A → E) → (B → F) → AttemptFor A B r → AttemptFor E F r
+wider_cause A B E F (Ok (attempt.Ran ran)) s i c = λ late. s (c late)
+wider_cause A B E F (Ok (attempt.Missed t)) s i c = tt
+wider_cause A B E F (Err fault.Sink) s i c = s c
+wider_cause A B E F (Err (fault.Stopped halt.Input)) s i c = i c
+wider_cause A B E F (Err (fault.Stopped halt.NoRoom)) s i c = c
+wider_cause A B E F (Err (fault.Stopped halt.SwapFull)) s i c = c
+wider_cause A B E F (Err (fault.Stopped halt.SwapFault)) s i c = c

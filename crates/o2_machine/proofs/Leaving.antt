@@ -9,20 +9,21 @@ use Rattle.o2_isa.specs.declared.cpu.Cpu.{Cpu}
 use Rattle.o2_isa.specs.declared.cpu.Stop.{Stop}
 use Rattle.o2_isa.specs.Steps.{State as Machine, state}
 use Rattle.o2_isa.specs.Step.{stepped}
-use Rattle.o2_bus.specs.declared.plain.Plain.{Plain}
+use Rattle.o2_isa.specs.View.{View, Filling, whole}
 use Rattle.o2_world.specs.declared.types.State.TheVariants.{Live, Trapped}
 use Rattle.o2_world.specs.World.{Line, Traps, is_live}
 use Rattle.o2_world.specs.Calls.{Before, Effect}
 use Rattle.o2_world.specs.Effect.{effect, answered, single_stepped, has_trap_flag}
 use Rattle.o2_world.specs.Text.{lines_text, line_text}
-use Rattle.o2_gate.specs.Called.{IsMade, IsInPart}
+use Rattle.o2_gate.specs.Called.{IsMade}
 use Rattle.o2_machine.specs.declared.tally.Tally.{Tally}
-use Rattle.o2_machine.specs.Ran.{IsDone}
+use Rattle.o2_machine.specs.Ran.{IsDone, IsInPart}
 use Rattle.o2_world.specs.declared.types.State.{State}
 
 -- what a call has made, as a step that is done
-pub done_by : (e : Effect) (ends : State) (tally : Tally) (cpu : Cpu) (new : Plain) (j c d r q : Option (List ℕ)) → IsMade e ends tally.bytes tally.lines cpu new j c d r q → IsDone e (record { state = ends; tally = tally; whole = true }) cpu new j c d r q
-done_by e ends tally cpu new j c d r q made = record {
+pub done_by : (f : Filling) (e : Effect) (ends : State) (tally : Tally) (cpu : Cpu) (new : View) (j c d r q : Option (List ℕ))
+    → IsMade f e ends tally.bytes tally.lines cpu new j c d r q → IsDone e (record { state = ends; tally = tally; whole = true }) cpu (whole f new).bytes j c d r q
+done_by f e ends tally cpu new j c d r q made = record {
   state = made.state;
   ends = λ late. absurd (cc);
   puts = record { bytes = made.piece; lines = made.lines };
@@ -58,14 +59,14 @@ ended_stays b e dead = not_live (has_trap_flag b.cpu.flags) (is_live e.state) e 
 more_lines : (e : Effect) (l : Line) → lines_text (e.lines ++ l ∷ []) ≡ lines_text e.lines ++ lines_text (l ∷ [])
 more_lines e l = flat_map-append line_text e.lines (l ∷ [])
 
-module _ (b : Before) (e : Effect) (tally more : Tally) (cpu : Cpu) (old new : Plain) (j c d r s q : Option (List ℕ)) (same : more.bytes ≡ tally.bytes) (one_more : more.lines ≡ tally.lines + 1) where
+module _ (f : Filling) (b : Before) (e : Effect) (tally more : Tally) (cpu : Cpu) (new : View) (j c d r s q : Option (List ℕ)) (same : more.bytes ≡ tally.bytes) (one_more : more.lines ≡ tally.lines + 1) where
   lines_more : length e.lines ≡ tally.lines → length (e.lines ++ Traps b.number 1 b.cpu.cs b.cpu.ip ∷ []) ≡ more.lines
   lines_more has = length-append e.lines (Traps b.number 1 b.cpu.cs b.cpu.ip ∷ []) ∙ ap (λ (n : ℕ). n + 1) has ∙ sym one_more
 
   -- the exception behind a step, with its line whole or in part
-  pub made_with_trap : has_trap_flag b.cpu.flags ≡ true → IsMade e Live tally.bytes tally.lines cpu new j c d r s → Gains s q (lines_text (Traps b.number 1 b.cpu.cs b.cpu.ip ∷ [])) → IsDone (single_stepped b e) (record { state = Trapped 1; tally = more; whole = true }) cpu new j c d r q
+  pub made_with_trap : has_trap_flag b.cpu.flags ≡ true → IsMade f e Live tally.bytes tally.lines cpu new j c d r s → Gains s q (lines_text (Traps b.number 1 b.cpu.cs b.cpu.ip ∷ [])) → IsDone (single_stepped b e) (record { state = Trapped 1; tally = more; whole = true }) cpu (whole f new).bytes j c d r q
   made_with_trap flag made took =
-      subst (λ (x : Effect). IsDone x (record { state = Trapped 1; tally = more; whole = true }) cpu new j c d r q) (sym (with_flag b e flag made.state)) (record {
+      subst (λ (x : Effect). IsDone x (record { state = Trapped 1; tally = more; whole = true }) cpu (whole f new).bytes j c d r q) (sym (with_flag b e flag made.state)) (record {
         state = refl;
         ends = λ late. absurd (cc);
         puts = record { bytes = made.piece ∙ sym same; lines = lines_more made.lines };
@@ -76,10 +77,10 @@ module _ (b : Before) (e : Effect) (tally more : Tally) (cpu : Cpu) (old new : P
         to_report = rw (more_lines e (Traps b.number 1 b.cpu.cs b.cpu.ip)) (puts_more _ _ r s q put.Done made.to_report took);
       })
 
-  pub late_with_trap : has_trap_flag b.cpu.flags ≡ true → IsMade e Live tally.bytes tally.lines cpu new j c d r s → GainsSome s q (λ front. IsPrefix front (lines_text (Traps b.number 1 b.cpu.cs b.cpu.ip ∷ [])))
-      → IsDone (single_stepped b e) (record { state = Trapped 1; tally = more; whole = false }) cpu new j c d r q
+  pub late_with_trap : has_trap_flag b.cpu.flags ≡ true → IsMade f e Live tally.bytes tally.lines cpu new j c d r s → GainsSome s q (λ front. IsPrefix front (lines_text (Traps b.number 1 b.cpu.cs b.cpu.ip ∷ [])))
+      → IsDone (single_stepped b e) (record { state = Trapped 1; tally = more; whole = false }) cpu (whole f new).bytes j c d r q
   late_with_trap flag made took =
-      subst (λ (x : Effect). IsDone x (record { state = Trapped 1; tally = more; whole = false }) cpu new j c d r q) (sym (with_flag b e flag made.state)) (record {
+      subst (λ (x : Effect). IsDone x (record { state = Trapped 1; tally = more; whole = false }) cpu (whole f new).bytes j c d r q) (sym (with_flag b e flag made.state)) (record {
         state = refl;
         ends = λ late. refl;
         puts = record { bytes = made.piece ∙ sym same; lines = lines_more made.lines };
@@ -91,7 +92,7 @@ module _ (b : Before) (e : Effect) (tally more : Tally) (cpu : Cpu) (old new : P
       })
 
 -- a fault in a call is a fault in the step, whatever line would follow
-in_part_more : (b : Before) (e : Effect) (flag live : Bool) (cpu before : Cpu) (old new : Plain) (i j c d r q : Option (List ℕ)) → IsInPart e cpu before old new i j c d r q
+in_part_more : (b : Before) (e : Effect) (flag live : Bool) (cpu before : Cpu) (old new : ℕ → List ℕ) (i j c d r q : Option (List ℕ)) → IsInPart e cpu before old new i j c d r q
     → IsInPart (if flag && live then record e { state = Trapped 1; lines = e.lines ++ Traps b.number 1 b.cpu.cs b.cpu.ip ∷ [] } else e) cpu before old new i j c d r q
 in_part_more b e true true cpu before old new i j c d r q part = record {
   cpu = part.cpu;
@@ -104,5 +105,5 @@ in_part_more b e true true cpu before old new i j c d r q part = record {
 in_part_more b e true false cpu before old new i j c d r q part = part
 in_part_more b e false live cpu before old new i j c d r q part = part
 
-pub in_part : (b : Before) (e : Effect) (cpu before : Cpu) (old new : Plain) (i j c d r q : Option (List ℕ)) → IsInPart e cpu before old new i j c d r q → IsInPart (single_stepped b e) cpu before old new i j c d r q
+pub in_part : (b : Before) (e : Effect) (cpu before : Cpu) (old new : ℕ → List ℕ) (i j c d r q : Option (List ℕ)) → IsInPart e cpu before old new i j c d r q → IsInPart (single_stepped b e) cpu before old new i j c d r q
 in_part b e cpu before old new i j c d r q part = in_part_more b e (has_trap_flag b.cpu.flags) (is_live e.state) cpu before old new i j c d r q part

@@ -1,5 +1,6 @@
 pub mod Leaving
 pub mod Gates
+pub mod Plains
 pub mod Spaces
 pub mod Commits
 pub mod Between

@@ -27,22 +27,22 @@ same_view held holds shown bytes data_bytes c d e f g h =
     ∙ ap (λ (z : ℕ → List ℕ). simple_view holds shown z (bound_registers holds c)) (fun_ext g)
     ∙ ap (λ (z : Cpu). simple_view holds shown data_bytes (bound_registers holds z)) h
 
-pub view_is : (m : Space) (ps : List Process) (names : Map Segment) (n : ℕ) (q : Proc) (p : Process) → StandsIn m ps names → IsProcess q (held_in m.state.plain n) p → view_of names p ≡ plain_view m.state.plain n q.cpu
-view_is m ps names n q p stands is = same_view (holds_in p.held) (held_in m.state.plain n) (shown_in m.state.plain) (bytes_of names) (bytes_in m.state.plain) p.cpu q.cpu is.held stands.shown stands.bytes is.cpu
+pub view_is : (m : Space) (ps : List Process) (names : Map Segment) (n : ℕ) (q : Proc) (p : Process) → StandsIn m ps names → IsProcess q (held_in m.plain n) p → view_of names p ≡ plain_view m.plain n q.cpu
+view_is m ps names n q p stands is = same_view (holds_in p.held) (held_in m.plain n) (shown_in m.plain) (bytes_of names) (bytes_in m.plain) p.cpu q.cpu is.held stands.shown stands.bytes is.cpu
 
 -- what a step starts from is the same in both
-pub before_is : (m : Space) (ps : List Process) (names : Map Segment) (n : ℕ) (q : Proc) (p : Process) (input : List ℕ) (known : Known) → StandsIn m ps names → IsProcess q (held_in m.state.plain n) p
-    → ◌≡◌ {A = Before} (record { number = n; cpu = p.cpu; view = view_of names p; known = known; input = input }) (before_call m.state.plain n q.cpu input known)
+pub before_is : (m : Space) (ps : List Process) (names : Map Segment) (n : ℕ) (q : Proc) (p : Process) (input : List ℕ) (known : Known) → StandsIn m ps names → IsProcess q (held_in m.plain n) p
+    → ◌≡◌ {A = Before} (record { number = n; cpu = p.cpu; view = view_of names p; known = known; input = input }) (before_call (plain_view m.plain n q.cpu) n q.cpu input known)
 before_is m ps names n q p input known stands is =
     ap (λ (v : View). record { number = n; cpu = p.cpu; view = v; known = known; input = input }) (view_is m ps names n q p stands is)
-    ∙ ap (λ (c : Cpu). record { number = n; cpu = c; view = plain_view m.state.plain n q.cpu; known = known; input = input }) is.cpu
+    ∙ ap (λ (c : Cpu). record { number = n; cpu = c; view = plain_view m.plain n q.cpu; known = known; input = input }) is.cpu
 
 -- what the machine stands for depends on its processes and segments alone
-pub stands_by : (old new : Space) (ps : List Process) (names : Map Segment) → new.procs ≡ old.procs → new.state.plain ≡ old.state.plain → StandsIn old ps names → StandsIn new ps names
+pub stands_by : (old new : Space) (ps : List Process) (names : Map Segment) → new.procs ≡ old.procs → new.plain ≡ old.plain → StandsIn old ps names → StandsIn new ps names
 stands_by old new ps names procs plain stands = record {
   processes = λ i.
       subst (λ (x : Plain). IsAt (slice_get new.procs.items i) (held_in x (i + 1)) (slice_get ps i)) (sym plain)
-      (subst (λ x. IsAt (slice_get x.items i) (held_in old.state.plain (i + 1)) (slice_get ps i)) (sym procs) (stands.processes i));
+      (subst (λ x. IsAt (slice_get x.items i) (held_in old.plain (i + 1)) (slice_get ps i)) (sym procs) (stands.processes i));
   none = λ j. stands.none j ∙ ap (λ (x : Plain). held_in x 0 j) (sym plain);
   bytes = λ n. stands.bytes n ∙ ap (λ (x : Plain). bytes_in x n) (sym plain);
   shown = λ n. ap (λ (x : Plain). shown_in x n) plain ∙ stands.shown n;

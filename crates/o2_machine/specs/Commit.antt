@@ -9,8 +9,8 @@ use Rattle.o2_machine.specs.Stands.{IsAt}
 use Rattle.o2_machine.specs.declared.space.Space.{Space}
 
 pub record IsBetween (m : Space) (ps : List Process) (names : Map Segment) (e : Effect) : Type 0 where
-  pub processes : (i : ℕ) → IsAt (slice_get m.procs.items i) (held_in m.state.plain (i + 1)) (slice_get ps i)
-  pub none : (j : ℕ) → ◌≡◌ {A = Option Hold} None (held_in m.state.plain 0 j)
-  pub bytes : (n : ℕ) → bytes_in m.state.plain n ≡ e.bytes n
+  pub processes : (i : ℕ) → IsAt (slice_get m.procs.items i) (held_in m.plain (i + 1)) (slice_get ps i)
+  pub none : (j : ℕ) → ◌≡◌ {A = Option Hold} None (held_in m.plain 0 j)
+  pub bytes : (n : ℕ) → bytes_in m.plain n ≡ e.bytes n
   pub absent : (n : ℕ) → get names n ≡ None → e.bytes n ≡ []
-  pub shown : (n : ℕ) → shown_in m.state.plain n ≡ true
+  pub shown : (n : ℕ) → shown_in m.plain n ≡ true

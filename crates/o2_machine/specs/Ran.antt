@@ -1,18 +1,20 @@
 -- What one step of a process did to its registers, the bytes and both sinks.
-use Rattle.std.specs.Prelude.{◌≡◌, ℕ, Bool, true, false, List, Option, Some, Result, Ok, Err}
+use Rattle.std.specs.Prelude.{◌⊎◌, ◌≡◌, ℕ, Bool, true, false, List, Option, Some, Result, Ok, Err}
+use Rattle.o2_base.specs.declared.selector.Selector.{Selector}
 use Rattle.o2_outer.specs.Texts.{Gains, GainsSome, IsPrefix}
 use Rattle.o2_isa.specs.declared.cpu.Cpu.{Cpu}
-use Rattle.o2_bus.specs.declared.plain.Plain.{Plain}
-use Rattle.o2_bus.specs.Plain.{bytes_in}
 use Rattle.o2_world.specs.World.{is_live}
 use Rattle.o2_world.specs.Calls.{Before, Effect}
 use Rattle.o2_world.specs.Effect.{AsksInput}
 use Rattle.o2_world.specs.Text.{lines_text}
+use Rattle.o2_run.specs.declared.steps.Stop.TheVariants as stop
 use Rattle.o2_run.specs.declared.fault.Fault.{Fault}
+use Rattle.o2_run.specs.declared.fault.Fault.TheVariants as fault
 use Rattle.o2_run.specs.Faults.{CauseOf}
-use Rattle.o2_gate.specs.Called.{FaultsFor}
 use Rattle.o2_machine.specs.Tallies.{IsTally}
 use Rattle.o2_machine.specs.declared.one_step.Ran.{Ran}
+use Rattle.o2_machine.specs.declared.one_step.Attempt.{Attempt}
+use Rattle.o2_machine.specs.declared.one_step.Attempt.TheVariants as attempt
 
 -- the report took a text whole, or a front of it
 abbrev pub TakesText : (whole : Bool) → (report_old report_new : Option (List ℕ)) → List ℕ → Type 0
@@ -20,21 +22,77 @@ TakesText true r q text = Gains r q text
 TakesText false r q text = GainsSome r q (λ front. IsPrefix front text)
 
 -- the effect is made; where a sink failed in its last line, which ends the process, the report has a front of its lines
-pub record IsDone (e : Effect) (ran : Ran) (registers : Cpu) (after : Plain) (left console_old console_new report_old report_new : Option (List ℕ)) : Type 0 where
+pub record IsDone (e : Effect) (ran : Ran) (registers : Cpu) (after : ℕ → List ℕ)
+    (left console_old console_new report_old report_new : Option (List ℕ)) : Type 0 where
   pub state : e.state ≡ ran.state
   pub ends : ran.whole ≡ false → is_live ran.state ≡ false
   pub puts : IsTally e ran.tally
   pub cpu : registers ≡ e.cpu
-  pub bytes : (n : ℕ) → bytes_in after n ≡ e.bytes n
+  pub bytes : (n : ℕ) → after n ≡ e.bytes n
   pub input : left ≡ Some e.input
   pub to_console : Gains console_old console_new e.piece
   pub to_report : TakesText ran.whole report_old report_new (lines_text e.lines)
 
-abbrev pub Leaves : Before → Effect → Cpu → (old new : Plain) → (left_old left_new console_old console_new report_old report_new : Option (List ℕ)) → Result Ran Fault → Type 0
-Leaves b e cpu old new i j c d r q (Ok ran) = IsDone e ran cpu new j c d r q
-Leaves b e cpu old new i j c d r q (Err f) = FaultsFor (AsksInput b) b e cpu old new i j c d r q f
+-- nothing is changed, taken or put
+pub record IsStill (registers before : Cpu) (old new : ℕ → List ℕ)
+    (left_old left_new console_old console_new report_old report_new : Option (List ℕ)) : Type 0 where
+  pub cpu : registers ≡ before
+  pub bytes : (n : ℕ) → new n ≡ old n
+  pub input : left_new ≡ left_old
+  pub to_console : console_new ≡ console_old
+  pub to_report : report_new ≡ report_old
+
+-- the input failed in a step that asks it
+pub record IsUnread (b : Before) (registers : Cpu) (old new : ℕ → List ℕ)
+    (left_old left_new console_old console_new report_old report_new : Option (List ℕ)) : Type 0 where
+  pub cause : AsksInput b
+  pub still : IsStill registers b.cpu old new left_old left_new console_old console_new report_old report_new
+
+-- a sink failed: registers and bytes are as before, the input is as before or as the effect leaves it, and both texts are fronts,
+-- the report's only behind the whole piece
+pub record IsInPart (e : Effect) (registers before : Cpu) (old new : ℕ → List ℕ)
+    (left_old left_new console_old console_new report_old report_new : Option (List ℕ)) : Type 0 where
+  pub cpu : registers ≡ before
+  pub bytes : (n : ℕ) → new n ≡ old n
+  pub input : (left_new ≡ left_old) ⊎ (left_new ≡ Some e.input)
+  pub to_console : GainsSome console_old console_new (λ front. IsPrefix front e.piece)
+  pub to_report : GainsSome report_old report_new (λ front. IsPrefix front (lines_text e.lines))
+  pub in_order : (report_new ≡ report_old) ⊎ Gains console_old console_new e.piece
+
+-- a fault; a step stops for its input alone
+abbrev pub LeavesFault : Before → Effect → Cpu → (old new : ℕ → List ℕ)
+    → (left_old left_new console_old console_new report_old report_new : Option (List ℕ)) → Fault → Type 0
+LeavesFault b e cpu old new i j c d r q fault.Sink = IsInPart e cpu b.cpu old new i j c d r q
+LeavesFault b e cpu old new i j c d r q (fault.Stopped stop.Input) = IsUnread b cpu old new i j c d r q
+LeavesFault b e cpu old new i j c d r q (fault.Stopped stop.NoRoom) = ⊥
+LeavesFault b e cpu old new i j c d r q (fault.Stopped stop.SwapFull) = ⊥
+LeavesFault b e cpu old new i j c d r q (fault.Stopped stop.SwapFault) = ⊥
+
+-- by the answer, where nothing can be missed
+abbrev pub LeavesRan : Before → Effect → Cpu → (old new : ℕ → List ℕ)
+    → (left_old left_new console_old console_new report_old report_new : Option (List ℕ)) → Result Ran Fault → Type 0
+LeavesRan b e cpu old new i j c d r q (Ok ran) = IsDone e ran cpu new j c d r q
+LeavesRan b e cpu old new i j c d r q (Err f) = LeavesFault b e cpu old new i j c d r q f
+
+-- by the answer
+abbrev pub Leaves : Before → Effect → Cpu → (old new : ℕ → List ℕ)
+    → (left_old left_new console_old console_new report_old report_new : Option (List ℕ)) → Result Attempt Fault → Type 0
+Leaves b e cpu old new i j c d r q (Ok (attempt.Ran ran)) = IsDone e ran cpu new j c d r q
+Leaves b e cpu old new i j c d r q (Ok (attempt.Missed s)) = IsStill cpu b.cpu old new i j c d r q
+Leaves b e cpu old new i j c d r q (Err f) = LeavesFault b e cpu old new i j c d r q f
+
+-- where a step is missed
+abbrev pub OnMissed : Result Attempt Fault → (Selector → Type 0) → Type 0
+OnMissed (Ok (attempt.Missed s)) P = P s
+OnMissed (Ok (attempt.Ran ran)) P = Unit {0}
+OnMissed (Err f) P = Unit {0}
 
 -- the causes of a fault, and of a last line that isn't put whole; a step stops for its input alone
 abbrev pub RanFor : (sink input : Type 0) → Result Ran Fault → Type 0
 RanFor sink input (Ok ran) = ran.whole ≡ false → sink
 RanFor sink input (Err f) = CauseOf sink input ⊥ ⊥ f
+
+abbrev pub AttemptFor : (sink input : Type 0) → Result Attempt Fault → Type 0
+AttemptFor sink input (Ok (attempt.Ran ran)) = ran.whole ≡ false → sink
+AttemptFor sink input (Ok (attempt.Missed s)) = Unit {0}
+AttemptFor sink input (Err f) = CauseOf sink input ⊥ ⊥ f

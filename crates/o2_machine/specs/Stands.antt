@@ -22,7 +22,7 @@ IsAt None holds (Some p) = ⊥
 
 -- process n is at place n - 1, and number 0 is no process
 pub record StandsIn (m : Space) (ps : List Process) (names : Map Segment) : Type 0 where
-  pub processes : (i : ℕ) → IsAt (slice_get m.procs.items i) (held_in m.state.plain (i + 1)) (slice_get ps i)
-  pub none : (j : ℕ) → ◌≡◌ {A = Option Hold} None (held_in m.state.plain 0 j)
-  pub bytes : (n : ℕ) → bytes_of names n ≡ bytes_in m.state.plain n
-  pub shown : (n : ℕ) → shown_in m.state.plain n ≡ true
+  pub processes : (i : ℕ) → IsAt (slice_get m.procs.items i) (held_in m.plain (i + 1)) (slice_get ps i)
+  pub none : (j : ℕ) → ◌≡◌ {A = Option Hold} None (held_in m.plain 0 j)
+  pub bytes : (n : ℕ) → bytes_of names n ≡ bytes_in m.plain n
+  pub shown : (n : ℕ) → shown_in m.plain n ≡ true

@@ -67,7 +67,7 @@ fn assemble(
     requires few { length conf.now.process ≤ 64 }
     requires lines { lines ≤ 2 ^ 96 }
     ensures procs { IfOk result (λ m. m.space.procs.items ≡ map first_proc cpus.now) }
-    ensures plain { IfOk result (λ m. m.space.state.plain ≡ plain) }
+    ensures plain { IfOk result (λ m. m.space.plain ≡ plain) }
     ensures avail { IfOk result (λ m. m.space.state.avail ≡ conf.now.avail) }
     ensures sched { IfOk result (λ m. m.sched ≡ record { dispatch = opening_dispatch conf.now.script conf.now.budget; flags = replicate (length conf.now.process) true; quantum = conf.now.quantum }) }
     ensures budget { IfOk result (λ m. m.budget ≡ conf.now.budget) }
@@ -77,9 +77,13 @@ fn assemble(
 {
     let procs = first_procs(alloc, cpus)?;
     let sched = Sched::make(alloc, conf)?;
-    let state = Services::new(alloc, plain, conf.process.len() as u16, conf.avail)?;
+    let state = Services::new(alloc, conf.avail)?;
     Ok(Machine {
-        space: Space { procs, state },
+        space: Space {
+            procs,
+            plain,
+            state,
+        },
         sched,
         budget: conf.budget,
         console_bytes: 0,

@@ -1,21 +1,23 @@
 // One step of a process, all but what an end takes from it.
-ghost use Rattle.std.specs.Prelude.{◌≡◌, ◌<◌, ◌≤◌, ◌+◌, ◌^◌, ◌⊎◌, ◌∷◌, [], ℕ, List, Option, Some, length};
+ghost use Rattle.std.specs.Prelude.{◌≡◌, ◌<◌, ◌≤◌, ◌+◌, ◌^◌, ◌⊎◌, ◌∷◌, [], ℕ, List, Option, Some};
 ghost use Rattle.o2_outer.specs.Texts.{Rose};
 ghost use Rattle.o2_outer.specs.Answers.{Takes, OnFailed};
-ghost use Rattle.o2_bus.specs.Plain.{held_in, shown_in, bytes_in};
+ghost use Rattle.o2_isa.specs.View.{View, Filling, IsBound, KeepsFrame, whole};
 ghost use Rattle.o2_world.specs.Known.{Known};
 ghost use Rattle.o2_world.specs.World.{Traps};
 ghost use Rattle.o2_world.specs.Text.{lines_text};
 ghost use Rattle.o2_world.specs.Effect.{effect, single_stepped, has_trap_flag as trap_flag_of};
 ghost use Rattle.o2_world.specs.Calls.{Before, Effect, trapped};
-ghost use Rattle.o2_gate.specs.Befores.{before_call, IsKnown};
+ghost use Rattle.o2_gate.specs.Befores.{boundless, before_call, IsKnown};
+ghost use Rattle.o2_gate.specs.Pointed.{IsAway};
 ghost use Rattle.o2_gate.specs.Called.{IsMade};
-ghost use Rattle.o2_machine.specs.Ran.{Leaves, RanFor};
+ghost use Rattle.o2_machine.specs.Ran.{Leaves, AttemptFor, RanFor, OnMissed};
 
 use crate::tally::Tally;
 use o2_alu::is_set;
-use o2_bus::Plain;
-use o2_core::step_plain;
+use o2_base::Selector;
+use o2_bus::Ranges;
+use o2_core::step_one;
 use o2_gate::{Called, State as Services, call};
 use o2_isa::{Cpu, Flag, Outcome};
 use o2_outer::{Put, Sink, Source};
@@ -33,6 +35,15 @@ pub struct Ran {
     /// Whether its last line was put whole. Where a sink failed in the line of exception 1, the step is done all the same, and the
     /// line counts as put.
     pub whole: bool,
+}
+
+/// What an attempt at a step came to.
+#[derive(Clone, Copy, Debug, PartialEq, Eq)]
+pub enum Attempt {
+    /// The step is done.
+    Ran(Ran),
+    /// The segment behind this selector isn't present; nothing is changed, taken or put.
+    Missed(Selector),
 }
 
 /// Whether the trap flag is set.
@@ -60,20 +71,21 @@ fn trap<R: Sink>(
     cpu: &Cpu,
     line: &mut LineBuffer,
     report: &mut R,
-) -> Result<Ran, Fault>
-    ensures leaves { (b : Before) (registers : Cpu) (old new : Plain) (i c : Option (List ℕ)) → b.number ≡ pid → b.cpu ≡ cpu.now → registers ≡ b.cpu → i ≡ Some b.input
-        → ((n : ℕ) → bytes_in new n ≡ b.view.bytes n) → ((n : ℕ) → bytes_in new n ≡ bytes_in old n)
+) -> Result<Attempt, Fault>
+    ensures leaves { (b : Before) (registers : Cpu) (old new : ℕ → List ℕ) (i c : Option (List ℕ)) → b.number ≡ pid → b.cpu ≡ cpu.now → registers ≡ b.cpu → i ≡ Some b.input
+        → ((n : ℕ) → new n ≡ b.view.bytes n) → ((n : ℕ) → new n ≡ old n)
         → Leaves b (single_stepped b (trapped b vector)) registers old new i i c c (R.taken report.old) (R.taken report.new) result }
+    ensures done { OnMissed result (λ s. ⊥) }
     ensures count { R.faults report.old ≤ R.faults report.new }
-    ensures cause { RanFor (Rose (R.faults report.old) (R.faults report.new)) ⊥ result }
+    ensures cause { AttemptFor (Rose (R.faults report.old) (R.faults report.new)) ⊥ result }
 {
     match put_trap(line, pid, vector, cpu, report) {
         Put::Failed => Err(Fault::Sink),
-        Put::Done => Ok(Ran {
+        Put::Done => Ok(Attempt::Ran(Ran {
             state: State::Trapped(vector),
             tally: Tally { bytes: 0, lines: 1 },
             whole: true,
-        }),
+        })),
     }
 }
 
@@ -84,83 +96,110 @@ fn outlived<R: Sink>(
     tally: Tally,
     line: &mut LineBuffer,
     report: &mut R,
-) -> Result<Ran, Fault>
+) -> Result<Attempt, Fault>
     requires few { tally.lines < 2 ^ 63 }
-    ensures leaves { (b : Before) (e : Effect) (cpu : Cpu) (old new : Plain) (i j c d r : Option (List ℕ)) → b.number ≡ pid → b.cpu ≡ before.now → IsMade e State.Live tally.bytes tally.lines cpu new j c d r (R.taken report.old)
-        → Leaves b (single_stepped b e) cpu old new i j c d r (R.taken report.new) result }
+    ensures leaves { (f : Filling) (b : Before) (e : Effect) (cpu : Cpu) (old : ℕ → List ℕ) (new : View) (i j c d r : Option (List ℕ)) → b.number ≡ pid → b.cpu ≡ before.now
+        → IsMade f e State.Live tally.bytes tally.lines cpu new j c d r (R.taken report.old)
+        → Leaves b (single_stepped b e) cpu old (whole f new).bytes i j c d r (R.taken report.new) result }
+    ensures done { OnMissed result (λ s. ⊥) }
     ensures count { R.faults report.old ≤ R.faults report.new }
-    ensures cause { RanFor (Rose (R.faults report.old) (R.faults report.new)) ⊥ result }
+    ensures cause { AttemptFor (Rose (R.faults report.old) (R.faults report.new)) ⊥ result }
 {
     if !has_trap_flag(before.flags) {
-        return Ok(Ran {
+        return Ok(Attempt::Ran(Ran {
             state: State::Live,
             tally,
             whole: true,
-        });
+        }));
     }
     let both = Tally {
         bytes: tally.bytes,
         lines: tally.lines + 1,
     };
     match put_trap(line, pid, 1, before, report) {
-        Put::Failed => Ok(Ran {
+        Put::Failed => Ok(Attempt::Ran(Ran {
             state: State::Trapped(1),
             tally: both,
             whole: false,
-        }),
-        Put::Done => Ok(Ran {
+        })),
+        Put::Done => Ok(Attempt::Ran(Ran {
             state: State::Trapped(1),
             tally: both,
+            whole: true,
+        })),
+    }
+}
+
+/// A miss in a machine that brings no segment into memory: exception 11.
+pub fn absent<R: Sink>(
+    pid: u16,
+    cpu: &Cpu,
+    services: &mut Services,
+    report: &mut R,
+) -> Result<Ran, Fault>
+    ensures avail { services.new.avail ≡ services.old.avail }
+    ensures count { R.faults report.old ≤ R.faults report.new }
+    ensures cause { RanFor (Rose (R.faults report.old) (R.faults report.new)) ⊥ result }
+{
+    match put_trap(&mut services.line, pid, 11, cpu, report) {
+        Put::Failed => Err(Fault::Sink),
+        Put::Done => Ok(Ran {
+            state: State::Trapped(11),
+            tally: Tally { bytes: 0, lines: 1 },
             whole: true,
         }),
     }
 }
 
-/// One step of process `pid`, all but what an end takes from it.
-#[tactic(auto, unfolding(o2_world::specs::Effect::effect))]
-pub fn run_one<I: Source, C: Sink, R: Sink>(
+/// One step of process `pid`, all but what an end takes from it, over a bus whose registers are those of `cpu`. Where a segment
+/// is missed, nothing is changed, and the step may be tried again.
+pub fn run_one<B: Ranges, I: Source, C: Sink, R: Sink>(
     pid: u16,
     cpu: &mut Cpu,
-    state: &mut Services,
+    bus: &mut B,
+    services: &mut Services,
     input: &mut I,
     console: &mut C,
     report: &mut R,
-) -> Result<Ran, Fault>
-    ensures leaves { (bytes : List ℕ) (known : Known) → I.left input.old ≡ Some bytes → IsKnown known state.old → let b = before_call state.old.plain pid cpu.old bytes known in
-        Leaves b (effect b) cpu.new state.old.plain state.new.plain (I.left input.old) (I.left input.new) (C.taken console.old) (C.taken console.new) (R.taken report.old) (R.taken report.new) result }
-    ensures held { (p i : ℕ) → held_in state.new.plain p i ≡ held_in state.old.plain p i }
-    ensures shown { (n : ℕ) → shown_in state.new.plain n ≡ shown_in state.old.plain n }
-    ensures sizes { (n : ℕ) → length (bytes_in state.new.plain n) ≡ length (bytes_in state.old.plain n) }
-    ensures avail { state.new.avail ≡ state.old.avail }
+) -> Result<Attempt, Fault>
+    // The step of the boundless machine, whatever is absent.
+    ensures leaves { (f : Filling) (bytes : List ℕ) (known : Known) → IsBound (B.view bus.old) → I.left input.old ≡ Some bytes → IsKnown known services.old
+        → let b = before_call (boundless f (B.view bus.old)) pid cpu.old bytes known in
+        Leaves b (effect b) cpu.new (whole f (B.view bus.old)).bytes (whole f (B.view bus.new)).bytes
+        (I.left input.old) (I.left input.new) (C.taken console.old) (C.taken console.new) (R.taken report.old) (R.taken report.new) result }
+    ensures away { IsBound (B.view bus.old) → OnMissed result (λ s. IsAway (B.view bus.old) s) }
+    ensures frame { KeepsFrame (B.view bus.old) (B.view bus.new) }
+    ensures avail { services.new.avail ≡ services.old.avail }
     ensures input_count { I.faults input.old ≤ I.faults input.new }
     ensures console_count { C.faults console.old ≤ C.faults console.new }
     ensures report_count { R.faults report.old ≤ R.faults report.new }
-    ensures cause { RanFor (Rose (C.faults console.old) (C.faults console.new) ⊎ Rose (R.faults report.old) (R.faults report.new))
+    ensures cause { AttemptFor (Rose (C.faults console.old) (C.faults console.new) ⊎ Rose (R.faults report.old) (R.faults report.new))
         (Rose (I.faults input.old) (I.faults input.new)) result }
 {
     let before = *cpu;
-    match step_plain(&mut state.plain, pid, cpu) {
+    match step_one(cpu, bus) {
         Outcome::Done => {
             let tally = Tally { bytes: 0, lines: 0 };
-            outlived(pid, &before, tally, &mut state.line, report)
+            outlived(pid, &before, tally, &mut services.line, report)
         }
-        Outcome::Trap(vector, _) => trap(pid, vector, cpu, &mut state.line, report),
-        Outcome::Miss(_) => trap(pid, 11, cpu, &mut state.line, report),
+        Outcome::Trap(vector, _) => trap(pid, vector, cpu, &mut services.line, report),
+        Outcome::Miss(sel) => Ok(Attempt::Missed(sel)),
         Outcome::Gate { service, next } => {
-            match call(service, next, pid, cpu, state, input, console, report) {
+            match call(
+                service, next, pid, cpu, bus, services, input, console, report,
+            ) {
                 Err(fault) => Err(fault),
                 Ok(Called::Back(bytes)) => {
                     let tally = Tally { bytes, lines: 1 };
-                    outlived(pid, &before, tally, &mut state.line, report)
+                    outlived(pid, &before, tally, &mut services.line, report)
                 }
-                Ok(Called::Exited(code)) => {
-                    Ok(Ran {
-                        state: State::Exited(code),
-                        tally: Tally { bytes: 0, lines: 2 },
-                        whole: true,
-                    })
-                }
-                Ok(Called::Trap(vector, _)) => trap(pid, vector, cpu, &mut state.line, report),
+                Ok(Called::Exited(code)) => Ok(Attempt::Ran(Ran {
+                    state: State::Exited(code),
+                    tally: Tally { bytes: 0, lines: 2 },
+                    whole: true,
+                })),
+                Ok(Called::Trap(vector, _)) => trap(pid, vector, cpu, &mut services.line, report),
+                Ok(Called::Missed(sel)) => Ok(Attempt::Missed(sel)),
             }
         }
     }

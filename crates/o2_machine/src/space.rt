@@ -9,7 +9,9 @@ ghost use Rattle.o2_world.specs.Views.{view_of};
 ghost use Rattle.o2_world.specs.Calls.{Before, Effect};
 ghost use Rattle.o2_world.specs.Effect.{effect, AsksInput};
 
-use crate::one_step::{Ran, run_one};
+use crate::one_step::Ran;
+use crate::plain_step::run_plain;
+use o2_bus::Plain;
 use o2_gate::State as Services;
 use o2_isa::Cpu;
 use o2_outer::{Sink, Source};
@@ -23,10 +25,11 @@ pub struct Proc {
     pub state: State,
 }
 
-/// The processes, process n at place n - 1, and what the services work on: the segments with their maps.
+/// The processes, process n at place n - 1, the segments with their maps, and what the services work on beside them.
 #[derive(Drop)]
 pub struct Space {
     pub procs: Vec<Proc>,
+    pub plain: Plain,
     pub state: Services,
 }
 
@@ -57,7 +60,7 @@ impl Space {
         process.cpu = *cpu;
         if !is_live(state) {
             process.state = state;
-            self.state.end(pid);
+            self.plain.end(pid);
         }
     }
 
@@ -83,7 +86,15 @@ impl Space {
         ensures avail { self.new.state.avail ≡ self.old.state.avail }
     {
         let mut cpu = self.procs[pid as usize - 1].cpu;
-        match run_one(pid, &mut cpu, &mut self.state, input, console, report) {
+        match run_plain(
+            pid,
+            &mut cpu,
+            &mut self.plain,
+            &mut self.state,
+            input,
+            console,
+            report,
+        ) {
             Err(fault) => Err(fault),
             Ok(ran) => {
                 self.commit(pid, &cpu, ran.state);

@@ -1,8 +1,9 @@
 -- The room that a step needs in memory, and what swapping has to hold.
-use Rattle.std.specs.Prelude.{◌≡◌, ℕ, ◌+◌, ◌*◌, ◌/◌, ◌≤◌, ◌==◌, ◌||◌, Bool, true, false, not, nat_le, nat_lt, if◌then◌else◌, max}
+use Rattle.std.specs.Prelude.{◌≡◌, ℕ, ◌+◌, ◌*◌, ◌/◌, ◌≤◌, ◌==◌, ◌&&◌, ◌||◌, Bool, true, false, not, nat_le, nat_lt, if◌then◌else◌, max}
 use Rattle.std.specs.Prelude.{List, [], ◌∷◌, ◌++◌, filter, length, map, sum, Option, Some, None, Result, Err}
 use Rattle.std.specs.List.{list_any}
-use Rattle.o2_isa.specs.View.{Hold, Registers, is_readable, is_writable, bound_in}
+use Rattle.o2_isa.specs.View.{View, Hold, Registers, is_readable, is_writable, bound_in}
+use Rattle.o2_isa.specs.Pointers.{is_for_es}
 use Rattle.o2_isa.specs.Steps.{State as Machine, state}
 use Rattle.o2_isa.specs.Step.{stepped, step_names}
 use Rattle.o2_isa.specs.declared.cpu.Stop.{Stop}
@@ -56,18 +57,17 @@ pointers_of DosMemAvail a = pointer_at a 0 4 is_writable ∷ []
 
 -- a selector that passes counts even where the range behind it is refused, and nothing behind a refused pointer does; a range
 -- of no bytes is not looked at
-abbrev pub passed : (bytes : ℕ → List ℕ) → (found : Option Hold) → Pointer → (rest : List ℕ) → List ℕ
-passed bytes None p rest = []
-passed bytes (Some h) p rest =
-    if p.good h.rights
-    then h.name ∷ (if nat_le (p.offset + p.count) (length (bytes h.name)) then rest else [])
+abbrev pub passed : View → Option Hold → Pointer → (rest : List ℕ) → List ℕ
+passed v None p rest = []
+passed v (Some h) p rest =
+    if is_for_es v p.selector && p.good h.rights
+    then h.name ∷ (if nat_le (p.offset + p.count) (length (v.bytes h.name)) then rest else [])
     else []
 
-abbrev pub pointed : (held : ℕ → Option Hold) → (bytes : ℕ → List ℕ) → List Pointer → List ℕ
-pointed held bytes [] = []
-pointed held bytes (p ∷ ps) =
-    if p.count == 0 then pointed held bytes ps
-    else passed bytes (bound_in held p.selector) p (pointed held bytes ps)
+abbrev pub pointed : View → List Pointer → List ℕ
+pointed v [] = []
+pointed v (p ∷ ps) =
+    if p.count == 0 then pointed v ps else passed v (bound_in v.held p.selector) p (pointed v ps)
 
 -- the words of a call's arguments must lie in the stack before a pointer is looked at
 abbrev pub words_of : Row → ℕ
@@ -81,7 +81,7 @@ abbrev pub call_names : Before → Option Row → List ℕ
 call_names b None = []
 call_names b (Some row) =
     if has_arguments b.view b.cpu (words_of row)
-    then pointed b.view.held b.view.bytes (pointers_of row (argument b.view b.cpu))
+    then pointed b.view (pointers_of row (argument b.view b.cpu))
     else []
 
 abbrev pub gate_names : Before → Result Machine Stop → List ℕ

@@ -18,12 +18,13 @@ use Rattle.o2_isa.specs.Step.{stepped, steps_at}
 use Rattle.o2_isa.proofs.SpelledLoads.{stepped_ruled}
 use Rattle.o2_world.specs.declared.types.Argument.{Argument}
 use Rattle.o2_world.specs.declared.types.Row.{Row}
+use Rattle.o2_world.specs.declared.types.Transfer.{Transfer}
 use Rattle.o2_world.specs.declared.types.Row.TheVariants.{DosExit, DosGetPid, DosRead, DosWrite, DosMemAvail}
 use Rattle.o2_world.specs.declared.types.State.{State}
 use Rattle.o2_world.specs.Map.{Map, get}
 use Rattle.o2_world.specs.World.{World, Setting, Process, Segment, Held, is_live}
 use Rattle.o2_world.specs.Views.{hold_of, holds_in, view_of}
-use Rattle.o2_world.specs.Calls.{Before, Effect, trapped, returned, argument, has_arguments, may_read, may_write, is_console, written, dos_write, dos_exit, told_at, told, may_take, read_from, dos_read, row_of, served_by}
+use Rattle.o2_world.specs.Calls.{Before, Effect, trapped, returned, argument, has_arguments, transfer_of, may_write, may_give, is_console, written, dos_write, dos_exit, told_at, told, may_take, read_from, dos_read, row_of, served_by}
 use Rattle.o2_world.specs.Effect.{has_trap_flag, answered, single_stepped, effect}
 use Rattle.o2_world.specs.Run.{before}
 use Rattle.o2_world.specs.Sound.{has_rights, NamesHeld, HasGoodRegisters}
@@ -115,27 +116,25 @@ either c false e f h k = k
 traps : (b : Before) (vector : ℕ) → Keeps b.cpu (trapped b vector)
 traps b vector = at_same b (trapped b vector) refl
 
-written_keeps : (b : Before) (next handle selector offset count done_selector done_offset : ℕ)
-    → Keeps b.cpu (written b next handle selector offset count done_selector done_offset)
-written_keeps b next handle selector offset count done_selector done_offset =
-    either b.cpu (may_read b.view.held b.view.bytes selector offset count && may_write b.view.held b.view.bytes done_selector done_offset 2) _ _
-    (either b.cpu (is_console handle) _ _ (returns b _ next 6 0 refl) (returns b _ next 6 6 refl))
+written_keeps : (b : Before) (next : ℕ) (t : Transfer) → Keeps b.cpu (written b next t)
+written_keeps b next t =
+    either b.cpu (may_give b t) _ _
+    (either b.cpu (is_console t.handle) _ _ (returns b _ next 6 0 refl) (returns b _ next 6 6 refl))
     (traps b 13)
 
 write_keeps : (b : Before) (next : ℕ) → Keeps b.cpu (dos_write b next)
 unfolding dos_write
-write_keeps b next = either b.cpu (has_arguments b.view b.cpu 6) _ _ (let a : ℕ → ℕ = argument b.view b.cpu in written_keeps b next (a 5) (a 4) (a 3) (a 2) (a 1) (a 0)) (traps b 12)
+write_keeps b next = either b.cpu (has_arguments b.view b.cpu 6) _ _ (written_keeps b next (transfer_of (argument b.view b.cpu))) (traps b 12)
 
-read_from_keeps : (b : Before) (next handle selector offset count done_selector done_offset : ℕ)
-    → Keeps b.cpu (read_from b next handle selector offset count done_selector done_offset)
-read_from_keeps b next handle selector offset count done_selector done_offset =
-    either b.cpu (may_take b selector offset count done_selector done_offset) _ _
-    (either b.cpu (handle == 0) _ _ (returns b _ next 6 0 refl) (returns b _ next 6 6 refl))
+read_from_keeps : (b : Before) (next : ℕ) (t : Transfer) → Keeps b.cpu (read_from b next t)
+read_from_keeps b next t =
+    either b.cpu (may_take b t) _ _
+    (either b.cpu (t.handle == 0) _ _ (returns b _ next 6 0 refl) (returns b _ next 6 6 refl))
     (traps b 13)
 
 read_keeps : (b : Before) (next : ℕ) → Keeps b.cpu (dos_read b next)
 unfolding dos_read
-read_keeps b next = either b.cpu (has_arguments b.view b.cpu 6) _ _ (let a : ℕ → ℕ = argument b.view b.cpu in read_from_keeps b next (a 5) (a 4) (a 3) (a 2) (a 1) (a 0)) (traps b 12)
+read_keeps b next = either b.cpu (has_arguments b.view b.cpu 6) _ _ (read_from_keeps b next (transfer_of (argument b.view b.cpu))) (traps b 12)
 
 exit_keeps : (b : Before) → Keeps b.cpu (dos_exit b)
 unfolding dos_exit
@@ -143,7 +142,7 @@ exit_keeps b = either b.cpu (has_arguments b.view b.cpu 2) _ _ (at_same b _ refl
 
 told_at_keeps : (b : Before) (next : ℕ) (name part : List ℕ) (values : List Argument) (selector offset : ℕ)
     → Keeps b.cpu (told_at b next name part values selector offset)
-told_at_keeps b next name part values selector offset = either b.cpu (may_write b.view.held b.view.bytes selector offset (length part)) _ _ (returns b _ next 2 0 refl) (traps b 13)
+told_at_keeps b next name part values selector offset = either b.cpu (may_write b.view selector offset (length part)) _ _ (returns b _ next 2 0 refl) (traps b 13)
 
 told_keeps : (b : Before) (next : ℕ) (name part : List ℕ) (values : List Argument) → Keeps b.cpu (told b next name part values)
 unfolding told

@@ -12,7 +12,7 @@ use Rattle.o2_world.specs.declared.types.Row.TheVariants.{DosExit, DosGetPid, Do
 use Rattle.o2_world.specs.World.{World, Process, is_live}
 use Rattle.o2_world.specs.Holders.{with_process}
 use Rattle.o2_world.specs.Changes.{at_place, at_number, with_changes, swept}
-use Rattle.o2_world.specs.Calls.{Before, Effect, argument, has_arguments, may_read, may_write, is_console, dos_write, dos_exit, told, may_take, dos_read, row_of, served_by}
+use Rattle.o2_world.specs.Calls.{Before, Effect, argument, has_arguments, transfer_of, may_write, may_give, is_console, dos_write, dos_exit, told, may_take, dos_read, row_of, served_by}
 use Rattle.o2_world.specs.Effect.{has_trap_flag, answered, effect}
 use Rattle.o2_world.specs.Run.{changed, plainly, worked}
 
@@ -46,11 +46,15 @@ either false e f h k = k
 
 write_quiet : (b : Before) (next : ℕ) → (dos_write b next).changes ≡ []
 unfolding dos_write
-write_quiet b next = either (has_arguments b.view b.cpu 6) _ _ (either (may_read b.view.held b.view.bytes (argument b.view b.cpu 4) (argument b.view b.cpu 3) (argument b.view b.cpu 2) && may_write b.view.held b.view.bytes (argument b.view b.cpu 1) (argument b.view b.cpu 0) 2) _ _ (either (is_console (argument b.view b.cpu 5)) _ _ refl refl) refl) refl
+write_quiet b next =
+    let t = transfer_of (argument b.view b.cpu) in
+    either (has_arguments b.view b.cpu 6) _ _ (either (may_give b t) _ _ (either (is_console t.handle) _ _ refl refl) refl) refl
 
 read_quiet : (b : Before) (next : ℕ) → (dos_read b next).changes ≡ []
 unfolding dos_read
-read_quiet b next = either (has_arguments b.view b.cpu 6) _ _ (either (may_take b (argument b.view b.cpu 4) (argument b.view b.cpu 3) (argument b.view b.cpu 2) (argument b.view b.cpu 1) (argument b.view b.cpu 0)) _ _ (either (argument b.view b.cpu 5 == 0) _ _ refl refl) refl) refl
+read_quiet b next =
+    let t = transfer_of (argument b.view b.cpu) in
+    either (has_arguments b.view b.cpu 6) _ _ (either (may_take b t) _ _ (either (t.handle == 0) _ _ refl refl) refl) refl
 
 exit_quiet : (b : Before) → (dos_exit b).changes ≡ []
 unfolding dos_exit
@@ -58,7 +62,7 @@ exit_quiet b = either (has_arguments b.view b.cpu 2) _ _ refl refl
 
 told_quiet : (b : Before) (next : ℕ) (name part : List ℕ) (values : List Argument) → (told b next name part values).changes ≡ []
 unfolding told
-told_quiet b next name part values = either (has_arguments b.view b.cpu 2) _ _ (either (may_write b.view.held b.view.bytes (argument b.view b.cpu 1) (argument b.view b.cpu 0) (length part)) _ _ refl refl) refl
+told_quiet b next name part values = either (has_arguments b.view b.cpu 2) _ _ (either (may_write b.view (argument b.view b.cpu 1) (argument b.view b.cpu 0) (length part)) _ _ refl refl) refl
 
 served_quiet : (row : Option Row) (b : Before) (next : ℕ) → (served_by row b next).changes ≡ []
 served_quiet None b next = refl

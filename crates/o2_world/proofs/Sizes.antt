@@ -7,6 +7,7 @@ use Rattle.o2_isa.specs.declared.cpu.Stop.{Stop}
 use Rattle.o2_isa.specs.declared.cpu.Stop.TheVariants as stop
 use Rattle.o2_isa.specs.Parts.{put_part}
 use Rattle.o2_isa.specs.View.{View, Hold, is_writable, bound_in}
+use Rattle.o2_isa.specs.Pointers.{is_for_es, has_range, is_good, put_in}
 use Rattle.o2_isa.specs.Steps.{State as Machine, state}
 use Rattle.o2_isa.specs.Step.{stepped}
 use Rattle.o2_isa.specs.declared.cpu.Outcome.TheVariants as outcome
@@ -14,9 +15,10 @@ use Rattle.o2_isa.specs.Sizes.{KeepsLengths}
 use Rattle.o2_isa.proofs.Sizes.{stays, behind, stepped_lengths}
 use Rattle.o2_world.specs.declared.types.Argument.{Argument}
 use Rattle.o2_world.specs.declared.types.Row.{Row}
+use Rattle.o2_world.specs.declared.types.Transfer.{Transfer}
 use Rattle.o2_world.specs.declared.types.Row.TheVariants.{DosExit, DosGetPid, DosRead, DosWrite, DosMemAvail}
 use Rattle.o2_world.specs.World.{is_live}
-use Rattle.o2_world.specs.Calls.{Before, Effect, argument, has_arguments, has_range, may_read, may_write, put_in, put_at_pointer, word_bytes, is_console, written, dos_write, dos_exit, told_at, told, bytes_with, may_take, read_from, dos_read, row_of, served_by}
+use Rattle.o2_world.specs.Calls.{Before, Effect, argument, has_arguments, transfer_of, may_write, may_give, put_at_pointer, word_bytes, is_console, written, dos_write, dos_exit, told_at, told, bytes_with, may_take, read_from, dos_read, row_of, served_by}
 use Rattle.o2_world.specs.Effect.{has_trap_flag, answered, effect}
 
 same_name : (n m : ℕ) → (n == m) ≡ true → n ≡ m
@@ -62,9 +64,20 @@ or_cases : {P : Type 0} (a b : Bool) → (a || b) ≡ true → (a ≡ true → P
 or_cases true b e f g = f refl
 or_cases false b e f g = g e
 
-pointer_sizes : (held : ℕ → Option Hold) (f : ℕ → List ℕ) (s offset : ℕ) (part : List ℕ) → may_write held f s offset (length part) ≡ true
+-- where a pointer is good its range can be written
+abbrev fits : (ℕ → Option Hold) → (ℕ → List ℕ) → (s offset count : ℕ) → Bool
+fits held f s offset count = (count == 0) || has_range f is_writable offset count (bound_in held s)
+
+fits_by : (n p h : Bool) → (n || (p && h)) ≡ true → (n || h) ≡ true
+fits_by n p h e = grind arith
+
+good_fits : (v : View) (s offset count : ℕ) → may_write v s offset count ≡ true → fits v.held v.bytes s offset count ≡ true
+unfolding is_good
+good_fits v s offset count e = fits_by (count == 0) (is_for_es v s) _ e
+
+pointer_sizes : (held : ℕ → Option Hold) (f : ℕ → List ℕ) (s offset : ℕ) (part : List ℕ) → fits held f s offset (length part) ≡ true
     → KeepsLengths f (put_at_pointer held f s offset part)
-unfolding may_write put_at_pointer
+unfolding put_at_pointer
 pointer_sizes held f s offset part e =
     or_cases (length part == 0) _ e (λ none. no_sizes f offset part (bound_in held s) (none_in part none)) (λ good. put_sizes f offset part (bound_in held s) good)
 
@@ -75,8 +88,7 @@ still_range f g ok offset count None k e = e
 still_range f g ok offset count (Some h) k e = ap (λ (n : ℕ). ok h.rights && nat_le (offset + count) n) (k.same h.name) ∙ e
 
 still_writable : (held : ℕ → Option Hold) (f g : ℕ → List ℕ) (s offset count : ℕ) → KeepsLengths f g
-    → may_write held f s offset count ≡ true → may_write held g s offset count ≡ true
-unfolding may_write
+    → fits held f s offset count ≡ true → fits held g s offset count ≡ true
 still_writable held f g s offset count k e = go (count == 0) e
   where
     go : (b : Bool) → (b || has_range f is_writable offset count (bound_in held s)) ≡ true
@@ -100,21 +112,22 @@ both false b e = absurd (cc)
 told_at_sizes : (b : Before) (next : ℕ) (name part : List ℕ) (values : List Argument) (s offset : ℕ)
     → Keeps b (told_at b next name part values s offset)
 told_at_sizes b next name part values s offset =
-    by_test b (may_write b.view.held b.view.bytes s offset (length part)) _ _ (λ good. pointer_sizes b.view.held b.view.bytes s offset part good) (stays b.view.bytes)
+    by_test b (may_write b.view s offset (length part)) _ _ (λ good. pointer_sizes b.view.held b.view.bytes s offset part (good_fits b.view s offset (length part) good)) (stays b.view.bytes)
 
 told_sizes : (b : Before) (next : ℕ) (name part : List ℕ) (values : List Argument) → Keeps b (told b next name part values)
 unfolding told
 told_sizes b next name part values = by_test b (has_arguments b.view b.cpu 2) _ _ (λ _. told_at_sizes b next name part values _ _) (stays b.view.bytes)
 
-written_sizes : (b : Before) (next handle s o count done_selector done_offset : ℕ)
-    → Keeps b (written b next handle s o count done_selector done_offset)
-written_sizes b next handle s o count done_selector done_offset =
-    by_test b (may_read b.view.held b.view.bytes s o count && may_write b.view.held b.view.bytes done_selector done_offset 2) _ _
-    (λ good. by_test b (is_console handle) _ _ (λ _. pointer_sizes b.view.held b.view.bytes done_selector done_offset (word_bytes count) (both _ _ good).1) (stays b.view.bytes)) (stays b.view.bytes)
+written_sizes : (b : Before) (next : ℕ) (t : Transfer) → Keeps b (written b next t)
+written_sizes b next t =
+    by_test b (may_give b t) _ _
+    (λ good. by_test b (is_console t.handle) _ _
+    (λ _. pointer_sizes b.view.held b.view.bytes t.done_selector t.done_offset (word_bytes t.count) (good_fits b.view t.done_selector t.done_offset 2 (both _ _ good).1))
+    (stays b.view.bytes)) (stays b.view.bytes)
 
 write_sizes : (b : Before) (next : ℕ) → Keeps b (dos_write b next)
 unfolding dos_write
-write_sizes b next = by_test b (has_arguments b.view b.cpu 6) _ _ (λ _. let a : ℕ → ℕ = argument b.view b.cpu in written_sizes b next (a 5) (a 4) (a 3) (a 2) (a 1) (a 0)) (stays b.view.bytes)
+write_sizes b next = by_test b (has_arguments b.view b.cpu 6) _ _ (λ _. written_sizes b next (transfer_of (argument b.view b.cpu))) (stays b.view.bytes)
 
 took : (n : ℕ) (xs : List ℕ) → length (take n xs) ≤ n
 took n xs = grind (arith, common_steps)
@@ -129,9 +142,8 @@ fewer_range f ok offset n m (Some x) h e = go (ok x.rights) e
     go true e = grind arith
     go false e = e
 
-fewer_writable : (held : ℕ → Option Hold) (f : ℕ → List ℕ) (s offset n m : ℕ) → n ≤ m → may_write held f s offset m ≡ true
-    → may_write held f s offset n ≡ true
-unfolding may_write
+fewer_writable : (held : ℕ → Option Hold) (f : ℕ → List ℕ) (s offset n m : ℕ) → n ≤ m → fits held f s offset m ≡ true
+    → fits held f s offset n ≡ true
 fewer_writable held f s offset n m h e = go (m == 0) (n == 0) (λ z. zero_by n m h z) e
   where
     zero_by : (n m : ℕ) → n ≤ m → (m == 0) ≡ true → (n == 0) ≡ true
@@ -143,21 +155,29 @@ fewer_writable held f s offset n m h e = go (m == 0) (n == 0) (λ z. zero_by n m
     go false true z e = refl
     go false false z e = fewer_range f is_writable offset n m (bound_in held s) h e
 
-read_sizes : (b : Before) (next handle s o count done_selector done_offset : ℕ)
-    → Keeps b (read_from b next handle s o count done_selector done_offset)
-read_sizes b next handle s o count done_selector done_offset =
-    by_test b (may_take b s o count done_selector done_offset) _ _ (λ good. by_test b (handle == 0) _ _ (λ _. taken (both _ _ good)) (stays b.view.bytes)) (stays b.view.bytes)
+read_sizes : (b : Before) (next : ℕ) (t : Transfer) → Keeps b (read_from b next t)
+read_sizes b next t =
+    by_test b (may_take b t) _ _ (λ good. by_test b (t.handle == 0) _ _ (λ _. taken (both _ _ good)) (stays b.view.bytes)) (stays b.view.bytes)
   where
-    taken : (may_write b.view.held b.view.bytes s o count ≡ true) × (may_write b.view.held b.view.bytes done_selector done_offset 2 ≡ true)
-        → KeepsLengths b.view.bytes (bytes_with b s o done_selector done_offset (take count b.input))
+    held : ℕ → Option Hold
+    held = b.view.held
+
+    got : List ℕ
+    got = take t.count b.input
+
+    taken : (may_write b.view t.selector t.offset t.count ≡ true) × (may_write b.view t.done_selector t.done_offset 2 ≡ true)
+        → KeepsLengths b.view.bytes (bytes_with b t got)
     taken good =
-        let first = pointer_sizes b.view.held b.view.bytes s o (take count b.input) (fewer_writable b.view.held b.view.bytes s o (length (take count b.input)) count (took count b.input) good.0) in
-        behind _ _ _ first (pointer_sizes b.view.held (put_at_pointer b.view.held b.view.bytes s o (take count b.input)) done_selector done_offset (word_bytes (length (take count b.input)))
-        (still_writable b.view.held b.view.bytes (put_at_pointer b.view.held b.view.bytes s o (take count b.input)) done_selector done_offset 2 first good.1))
+        let fits_buffer = good_fits b.view t.selector t.offset t.count good.0 in
+        let fits_done = good_fits b.view t.done_selector t.done_offset 2 good.1 in
+        let first = pointer_sizes held b.view.bytes t.selector t.offset got (fewer_writable held b.view.bytes t.selector t.offset (length got) t.count (took t.count b.input) fits_buffer) in
+        let second = put_at_pointer held b.view.bytes t.selector t.offset got in
+        behind _ _ _ first (pointer_sizes held second t.done_selector t.done_offset (word_bytes (length got))
+        (still_writable held b.view.bytes second t.done_selector t.done_offset 2 first fits_done))
 
 dos_read_sizes : (b : Before) (next : ℕ) → Keeps b (dos_read b next)
 unfolding dos_read
-dos_read_sizes b next = by_test b (has_arguments b.view b.cpu 6) _ _ (λ _. let a : ℕ → ℕ = argument b.view b.cpu in read_sizes b next (a 5) (a 4) (a 3) (a 2) (a 1) (a 0)) (stays b.view.bytes)
+dos_read_sizes b next = by_test b (has_arguments b.view b.cpu 6) _ _ (λ _. read_sizes b next (transfer_of (argument b.view b.cpu))) (stays b.view.bytes)
 
 exit_sizes : (b : Before) → Keeps b (dos_exit b)
 unfolding dos_exit

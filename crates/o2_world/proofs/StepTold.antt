@@ -9,12 +9,13 @@ use Rattle.o2_conf.specs.Dispatch.{Dispatch}
 use Rattle.o2_world.specs.declared.types.Argument.{Argument}
 use Rattle.o2_world.specs.declared.types.State.TheVariants.{Trapped}
 use Rattle.o2_world.specs.declared.types.Row.{Row}
+use Rattle.o2_world.specs.declared.types.Transfer.{Transfer}
 use Rattle.o2_world.specs.declared.types.Row.TheVariants.{DosExit, DosGetPid, DosRead, DosWrite, DosMemAvail}
 use Rattle.o2_world.specs.World.{World, Setting, Process, Traps, is_live}
 use Rattle.o2_world.specs.Holders.{process_at}
 use Rattle.o2_base.specs.Selectors.{selector_of}
 use Rattle.o2_world.specs.Changes.{Change, moved_lines}
-use Rattle.o2_world.specs.Calls.{Before, Effect, trapped, argument, has_arguments, may_read, may_write, is_console, written, dos_write, dos_exit, told_at, told, may_take, read_from, dos_read, row_of, served_by}
+use Rattle.o2_world.specs.Calls.{Before, Effect, trapped, argument, has_arguments, transfer_of, may_write, may_give, is_console, written, dos_write, dos_exit, told_at, told, may_take, read_from, dos_read, row_of, served_by}
 use Rattle.o2_world.specs.Effect.{has_trap_flag, answered, single_stepped, effect}
 use Rattle.o2_world.specs.Run.{before, worked, acted, after, step, chosen_step, is_over, next_dispatch}
 use Rattle.o2_world.specs.Reach.{came, went, tells_end, CanTellAll, IsTold}
@@ -41,25 +42,23 @@ one_end false = refl
 traps : (b : Before) (vector : ℕ) → IsPlain b.number (trapped b vector)
 traps b vector = record { comes = λ q s. refl; goes = λ q s. refl; ends = λ q. one_end (q == b.number) }
 
-written_plain : (b : Before) (next handle selector offset count done_selector done_offset : ℕ)
-    → IsPlain b.number (written b next handle selector offset count done_selector done_offset)
-written_plain b next handle selector offset count done_selector done_offset =
-    either b.number (may_read b.view.held b.view.bytes selector offset count && may_write b.view.held b.view.bytes done_selector done_offset 2) _ _
-    (either b.number (is_console handle) _ _ (record { comes = λ q s. refl; goes = λ q s. refl; ends = λ q. refl }) (record { comes = λ q s. refl; goes = λ q s. refl; ends = λ q. refl })) (traps b 13)
+written_plain : (b : Before) (next : ℕ) (t : Transfer) → IsPlain b.number (written b next t)
+written_plain b next t =
+    either b.number (may_give b t) _ _
+    (either b.number (is_console t.handle) _ _ (record { comes = λ q s. refl; goes = λ q s. refl; ends = λ q. refl }) (record { comes = λ q s. refl; goes = λ q s. refl; ends = λ q. refl })) (traps b 13)
 
 write_plain : (b : Before) (next : ℕ) → IsPlain b.number (dos_write b next)
 unfolding dos_write
-write_plain b next = either b.number (has_arguments b.view b.cpu 6) _ _ (let a : ℕ → ℕ = argument b.view b.cpu in written_plain b next (a 5) (a 4) (a 3) (a 2) (a 1) (a 0)) (traps b 12)
+write_plain b next = either b.number (has_arguments b.view b.cpu 6) _ _ (written_plain b next (transfer_of (argument b.view b.cpu))) (traps b 12)
 
-read_from_plain : (b : Before) (next handle selector offset count done_selector done_offset : ℕ)
-    → IsPlain b.number (read_from b next handle selector offset count done_selector done_offset)
-read_from_plain b next handle selector offset count done_selector done_offset =
-    either b.number (may_take b selector offset count done_selector done_offset) _ _
-    (either b.number (handle == 0) _ _ (record { comes = λ q s. refl; goes = λ q s. refl; ends = λ q. refl }) (record { comes = λ q s. refl; goes = λ q s. refl; ends = λ q. refl })) (traps b 13)
+read_from_plain : (b : Before) (next : ℕ) (t : Transfer) → IsPlain b.number (read_from b next t)
+read_from_plain b next t =
+    either b.number (may_take b t) _ _
+    (either b.number (t.handle == 0) _ _ (record { comes = λ q s. refl; goes = λ q s. refl; ends = λ q. refl }) (record { comes = λ q s. refl; goes = λ q s. refl; ends = λ q. refl })) (traps b 13)
 
 read_plain : (b : Before) (next : ℕ) → IsPlain b.number (dos_read b next)
 unfolding dos_read
-read_plain b next = either b.number (has_arguments b.view b.cpu 6) _ _ (let a : ℕ → ℕ = argument b.view b.cpu in read_from_plain b next (a 5) (a 4) (a 3) (a 2) (a 1) (a 0)) (traps b 12)
+read_plain b next = either b.number (has_arguments b.view b.cpu 6) _ _ (read_from_plain b next (transfer_of (argument b.view b.cpu))) (traps b 12)
 
 exit_plain : (b : Before) → IsPlain b.number (dos_exit b)
 unfolding dos_exit
@@ -68,7 +67,7 @@ exit_plain b = either b.number (has_arguments b.view b.cpu 2) _ _ (record { come
 told_at_plain : (b : Before) (next : ℕ) (name part : List ℕ) (values : List Argument) (selector offset : ℕ)
     → IsPlain b.number (told_at b next name part values selector offset)
 told_at_plain b next name part values selector offset =
-    either b.number (may_write b.view.held b.view.bytes selector offset (length part)) _ _ (record { comes = λ q s. refl; goes = λ q s. refl; ends = λ q. refl }) (traps b 13)
+    either b.number (may_write b.view selector offset (length part)) _ _ (record { comes = λ q s. refl; goes = λ q s. refl; ends = λ q. refl }) (traps b 13)
 
 told_plain : (b : Before) (next : ℕ) (name part : List ℕ) (values : List Argument) → IsPlain b.number (told b next name part values)
 unfolding told

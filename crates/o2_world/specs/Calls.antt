@@ -1,14 +1,16 @@
 -- The calls of DOSCALLS by the OS/2 1.3 Programmer's Reference: for each its pointers in order, its conditions in order, its
 -- error number, what it changes, and its line.
-use Rattle.std.specs.Prelude.{ℕ, zero, suc, ◌+◌, ◌*◌, ◌/◌, ◌%◌, Bool, true, false, List, [], ◌∷◌, ◌++◌, length, take, drop, not, if◌then◌else◌, ◌==◌, nat_le, ◌&&◌, ◌||◌, Option, Some, None, Result, is_ok, codes}
+use Rattle.std.specs.Prelude.{ℕ, zero, suc, ◌+◌, ◌*◌, ◌/◌, ◌%◌, Bool, true, List, [], ◌∷◌, ◌++◌, length, take, drop, not, if◌then◌else◌, ◌==◌, ◌&&◌, ◌||◌, Option, Some, None, Result, is_ok, codes}
 use Rattle.std.specs.Result.{result_unwrap_or}
 use Rattle.o2_isa.specs.declared.cpu.Cpu.{Cpu}
 use Rattle.o2_isa.specs.declared.instr.Sreg.TheVariants.{Ss}
 use Rattle.o2_isa.specs.declared.instr.Width.TheVariants.{Word as WordWide}
-use Rattle.o2_isa.specs.Parts.{put_part}
-use Rattle.o2_isa.specs.View.{View, Hold, is_readable, is_writable, bound_in, read_of}
+use Rattle.o2_isa.specs.View.{View, read_of}
+pub use Rattle.o2_isa.specs.Pointers.{may_read, may_write}
+unfoldable pub use Rattle.o2_isa.specs.Pointers.{is_good, range_of, put_at_pointer}
 use Rattle.o2_world.specs.declared.types.Argument.{Argument}
 use Rattle.o2_world.specs.declared.types.Argument.TheVariants.{Word, Long, Far}
+use Rattle.o2_world.specs.declared.types.Transfer.{Transfer}
 use Rattle.o2_world.specs.declared.types.Row.{Row}
 use Rattle.o2_world.specs.declared.types.Row.TheVariants.{DosExit, DosGetPid, DosRead, DosWrite, DosMemAvail}
 use Rattle.o2_world.specs.Map.{get}
@@ -49,6 +51,10 @@ trapped b vector = record {
   lines = Traps b.number vector b.cpu.cs b.cpu.ip ∷ [];
 }
 
+-- the error code of each exception by which a call ends its process
+abbrev pub trap_code : ℕ
+trap_code = 0
+
 -- Arguments. They are pushed from left to right as words, each of which must lie in SS.
 
 -- the i-th word from the top of the stack
@@ -63,35 +69,6 @@ abbrev pub has_arguments : View → Cpu → ℕ → Bool
 has_arguments v c zero = true
 has_arguments v c (suc n) = has_arguments v c n && is_ok (word_of v c n)
 
--- Pointers. A selector must pass the rules for loading ES and not be null, and the range must lie in the segment.
-
-abbrev pub has_range : (ℕ → List ℕ) → (ℕ → Bool) → ℕ → ℕ → Option Hold → Bool
-has_range bytes ok offset count None = false
-has_range bytes ok offset count (Some h) = ok h.rights && nat_le (offset + count) (length (bytes h.name))
-
--- the range may be read, or written, by what a process holds and the bytes of the names; a range of no bytes is not looked at
-unfoldable pub may_read : (ℕ → Option Hold) → (ℕ → List ℕ) → ℕ → ℕ → ℕ → Bool
-may_read held bytes selector offset count = (count == 0) || has_range bytes is_readable offset count (bound_in held selector)
-
-unfoldable pub may_write : (ℕ → Option Hold) → (ℕ → List ℕ) → ℕ → ℕ → ℕ → Bool
-may_write held bytes selector offset count = (count == 0) || has_range bytes is_writable offset count (bound_in held selector)
-
-abbrev pub range_in : (ℕ → List ℕ) → ℕ → ℕ → Option Hold → List ℕ
-range_in bytes offset count None = []
-range_in bytes offset count (Some h) = take count (drop offset (bytes h.name))
-
--- the bytes behind a pointer
-unfoldable pub range_of : (ℕ → Option Hold) → (ℕ → List ℕ) → ℕ → ℕ → ℕ → List ℕ
-range_of held bytes selector offset count = if count == 0 then [] else range_in bytes offset count (bound_in held selector)
-
-abbrev pub put_in : (ℕ → List ℕ) → ℕ → List ℕ → Option Hold → ℕ → List ℕ
-put_in bytes offset part None n = bytes n
-put_in bytes offset part (Some h) n = if n == h.name then put_part (bytes n) offset part else bytes n
-
--- the bytes of all names after a write behind a pointer
-unfoldable pub put_at_pointer : (ℕ → Option Hold) → (ℕ → List ℕ) → ℕ → ℕ → List ℕ → ℕ → List ℕ
-put_at_pointer held bytes selector offset part = put_in bytes offset part (bound_in held selector)
-
 abbrev pub word_bytes : ℕ → List ℕ
 word_bytes n = n % 256 ∷ n / 256 ∷ []
 
@@ -99,44 +76,73 @@ word_bytes n = n % 256 ∷ n / 256 ∷ []
 abbrev pub returned : Cpu → ℕ → ℕ → ℕ → Cpu
 returned c next words error = record c { ax = error; sp = (c.sp + 2 * words) % 65536; ip = next }
 
+-- A transfer: what DosRead and DosWrite are given.
+abbrev pub transfer_of : (argument : ℕ → ℕ) → Transfer
+transfer_of a = record {
+  handle = a 5;
+  selector = a 4;
+  offset = a 3;
+  count = a 2;
+  done_selector = a 1;
+  done_offset = a 0;
+}
+
+-- its line, with how many bytes went
+abbrev pub transfer_line : (name : List ℕ) → ℕ → Transfer → (error done : ℕ) → Line
+transfer_line name number t error done =
+    Calls number name
+    (Word t.handle ∷ Far t.selector t.offset ∷ Word t.count ∷ Far t.done_selector t.done_offset ∷ []) error
+    (Word done ∷ [])
+
+-- it is refused: nothing changes but AX and the stack
+abbrev pub not_transferred : (name : List ℕ) → Before → ℕ → Transfer → (done : ℕ) → Effect
+not_transferred name b next t done = record {
+  cpu = returned b.cpu next 6 6;
+  state = Live;
+  bytes = b.view.bytes;
+  changes = [];
+  input = b.input;
+  piece = [];
+  lines = transfer_line name b.number t 6 done ∷ [];
+}
+
+-- the bytes of all names after the number of those that went is written
+abbrev pub with_done : Before → Transfer → (ℕ → List ℕ) → (done : ℕ) → ℕ → List ℕ
+with_done b t bytes done = put_at_pointer b.view.held bytes t.done_selector t.done_offset (word_bytes done)
+
 -- DosWrite(handle, buffer, count, pdone): 6 unless the handle is 1 or 2. The bytes go to the console, and their number is
 -- written to pdone.
-abbrev pub write_line : ℕ → (handle selector offset count done_selector done_offset error : ℕ) → Line
-write_line number handle selector offset count done_selector done_offset error =
-    Calls number (codes "DosWrite") (Word handle ∷ Far selector offset ∷ Word count ∷ Far done_selector done_offset ∷ []) error (Word count ∷ [])
+abbrev pub write_line : ℕ → Transfer → (error : ℕ) → Line
+write_line number t error = transfer_line (codes "DosWrite") number t error t.count
 
 abbrev pub is_console : ℕ → Bool
 is_console handle = (handle == 1) || (handle == 2)
 
-abbrev pub written : Before → ℕ → (handle selector offset count done_selector done_offset : ℕ) → Effect
-written b next handle selector offset count done_selector done_offset =
-    let line = write_line b.number handle selector offset count done_selector done_offset in
-    if may_read b.view.held b.view.bytes selector offset count && may_write b.view.held b.view.bytes done_selector done_offset 2
-    then (if is_console handle
-    then record {
-      cpu = returned b.cpu next 6 0;
-      state = Live;
-      bytes = put_at_pointer b.view.held b.view.bytes done_selector done_offset (word_bytes count);
-      changes = [];
-      input = b.input;
-      piece = range_of b.view.held b.view.bytes selector offset count;
-      lines = line 0 ∷ [];
-    }
-    else record {
-      cpu = returned b.cpu next 6 6;
-      state = Live;
-      bytes = b.view.bytes;
-      changes = [];
-      input = b.input;
-      piece = [];
-      lines = line 6 ∷ [];
-    })
+-- both pointers of a DosWrite are good
+abbrev pub may_give : Before → Transfer → Bool
+may_give b t =
+    may_read b.view t.selector t.offset t.count && may_write b.view t.done_selector t.done_offset 2
+
+abbrev pub gives : Before → ℕ → Transfer → Effect
+gives b next t = record {
+  cpu = returned b.cpu next 6 0;
+  state = Live;
+  bytes = with_done b t b.view.bytes t.count;
+  changes = [];
+  input = b.input;
+  piece = range_of b.view.held b.view.bytes t.selector t.offset t.count;
+  lines = write_line b.number t 0 ∷ [];
+}
+
+abbrev pub written : Before → ℕ → Transfer → Effect
+written b next t =
+    if may_give b t
+    then (if is_console t.handle then gives b next t else not_transferred (codes "DosWrite") b next t t.count)
     else trapped b 13
 
 unfoldable pub dos_write : Before → ℕ → Effect
 dos_write b next =
-    let a : ℕ → ℕ = argument b.view b.cpu in
-    if has_arguments b.view b.cpu 6 then written b next (a 5) (a 4) (a 3) (a 2) (a 1) (a 0) else trapped b 12
+    if has_arguments b.view b.cpu 6 then written b next (transfer_of (argument b.view b.cpu)) else trapped b 12
 
 -- DosExit(action, code): the process ends with the code, whatever the action is
 unfoldable pub dos_exit : Before → Effect
@@ -158,7 +164,7 @@ dos_exit b =
 
 abbrev pub told_at : Before → ℕ → (name part : List ℕ) → List Argument → (selector offset : ℕ) → Effect
 told_at b next name part values selector offset =
-    if may_write b.view.held b.view.bytes selector offset (length part)
+    if may_write b.view selector offset (length part)
     then record {
       cpu = returned b.cpu next 2 0;
       state = Live;
@@ -192,62 +198,49 @@ dos_mem_avail b next = told b next (codes "DosMemAvail") (long_bytes b.known.ava
 
 -- DosRead(handle, buffer, count, pdone): 6 unless the handle is 0. The next bytes of the input go to the buffer, fewer than
 -- count only where the input ends, and then their number is written to pdone.
-abbrev pub read_line : ℕ → (handle selector offset count done_selector done_offset error got : ℕ) → Line
-read_line number handle selector offset count done_selector done_offset error got =
-    Calls number (codes "DosRead") (Word handle ∷ Far selector offset ∷ Word count ∷ Far done_selector done_offset ∷ []) error (Word got ∷ [])
+abbrev pub read_line : ℕ → Transfer → (error got : ℕ) → Line
+read_line number t error got = transfer_line (codes "DosRead") number t error got
 
 -- the bytes after it: those of the input in the buffer, and then their number
-abbrev pub bytes_with : Before → (selector offset done_selector done_offset : ℕ) → List ℕ → ℕ → List ℕ
-bytes_with b selector offset done_selector done_offset got =
-    put_at_pointer b.view.held (put_at_pointer b.view.held b.view.bytes selector offset got) done_selector done_offset (word_bytes (length got))
+abbrev pub bytes_with : Before → Transfer → (got : List ℕ) → ℕ → List ℕ
+bytes_with b t got =
+    with_done b t (put_at_pointer b.view.held b.view.bytes t.selector t.offset got) (length got)
 
 -- both pointers of a DosRead are good
-abbrev pub may_take : Before → (selector offset count done_selector done_offset : ℕ) → Bool
-may_take b selector offset count done_selector done_offset =
-    may_write b.view.held b.view.bytes selector offset count && may_write b.view.held b.view.bytes done_selector done_offset 2
+abbrev pub may_take : Before → Transfer → Bool
+may_take b t =
+    may_write b.view t.selector t.offset t.count && may_write b.view t.done_selector t.done_offset 2
 
 -- these bytes of the input came, and that is left of it
-abbrev pub read_with : Before → ℕ → (handle selector offset count done_selector done_offset : ℕ) → (got left : List ℕ) → Effect
-read_with b next handle selector offset count done_selector done_offset got left = record {
+abbrev pub read_with : Before → ℕ → Transfer → (got left : List ℕ) → Effect
+read_with b next t got left = record {
   cpu = returned b.cpu next 6 0;
   state = Live;
-  bytes = bytes_with b selector offset done_selector done_offset got;
+  bytes = bytes_with b t got;
   changes = [];
   input = left;
   piece = [];
-  lines = read_line b.number handle selector offset count done_selector done_offset 0 (length got) ∷ [];
+  lines = read_line b.number t 0 (length got) ∷ [];
 }
 
-abbrev pub read_from : Before → ℕ → (handle selector offset count done_selector done_offset : ℕ) → Effect
-read_from b next handle selector offset count done_selector done_offset =
-    if may_take b selector offset count done_selector done_offset
-    then (if handle == 0
-    then read_with b next handle selector offset count done_selector done_offset (take count b.input) (drop count b.input)
-    else record {
-      cpu = returned b.cpu next 6 6;
-      state = Live;
-      bytes = b.view.bytes;
-      changes = [];
-      input = b.input;
-      piece = [];
-      lines = read_line b.number handle selector offset count done_selector done_offset 6 0 ∷ [];
-    })
+abbrev pub read_from : Before → ℕ → Transfer → Effect
+read_from b next t =
+    if may_take b t
+    then (if t.handle == 0
+    then read_with b next t (take t.count b.input) (drop t.count b.input)
+    else not_transferred (codes "DosRead") b next t 0)
     else trapped b 13
 
 unfoldable pub dos_read : Before → ℕ → Effect
 dos_read b next =
-    let a : ℕ → ℕ = argument b.view b.cpu in
-    if has_arguments b.view b.cpu 6 then read_from b next (a 5) (a 4) (a 3) (a 2) (a 1) (a 0) else trapped b 12
+    if has_arguments b.view b.cpu 6 then read_from b next (transfer_of (argument b.view b.cpu)) else trapped b 12
 
 -- a DosRead goes to the input: its pointers are good, its handle is 0, and it wants at least one byte
-abbrev pub asks_input : Before → (handle selector offset count done_selector done_offset : ℕ) → Bool
-asks_input b handle selector offset count done_selector done_offset =
-    may_take b selector offset count done_selector done_offset && ((handle == 0) && not (count == 0))
+abbrev pub asks_input : Before → Transfer → Bool
+asks_input b t = may_take b t && ((t.handle == 0) && not (t.count == 0))
 
 unfoldable pub asks : Before → Bool
-asks b =
-    let a : ℕ → ℕ = argument b.view b.cpu in
-    has_arguments b.view b.cpu 6 && asks_input b (a 5) (a 4) (a 3) (a 2) (a 1) (a 0)
+asks b = has_arguments b.view b.cpu 6 && asks_input b (transfer_of (argument b.view b.cpu))
 
 -- The rows by the numbers of their services: each service that is built has one.
 

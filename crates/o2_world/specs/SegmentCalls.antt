@@ -68,7 +68,7 @@ allocated_at b next size selector offset flags (Some i) =
 
 abbrev pub allocated : Before → ℕ → (size selector offset flags : ℕ) → Effect
 allocated b next size selector offset flags =
-    if may_write b.view.held b.view.bytes selector offset 2
+    if may_write b.view selector offset 2
     then (if nat_lt 15 flags then refused b next 4 (codes "DosAllocSeg") (alloc_args size selector offset flags) 87
     else (if nat_le b.known.most b.known.count then allocated_at b next size selector offset flags None
     else allocated_at b next size selector offset flags (free_index b.known (if flags % 4 == 0 then b.number else 0))))
@@ -168,7 +168,7 @@ given_of b next selector pid s o (Some h) =
 
 abbrev pub given : Before → ℕ → (selector pid s o : ℕ) → Effect
 given b next selector pid s o =
-    if may_write b.view.held b.view.bytes s o 2 then given_of b next selector pid s o (held_by b selector) else trapped b 13
+    if may_write b.view s o 2 then given_of b next selector pid s o (held_by b selector) else trapped b 13
 
 unfoldable pub dos_give_seg : Before → ℕ → Effect
 dos_give_seg b next =

@@ -13,4 +13,4 @@ pub use laws::{
     the_budget_counts_the_steps, what_is_held_is_the_reach_of_the_report, what_is_held_is_told,
     what_is_reserved_for_the_run_stays,
 };
-pub use types::{Argument, Made, Row, State};
+pub use types::{Argument, Made, Row, State, Transfer};

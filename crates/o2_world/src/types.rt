@@ -32,6 +32,21 @@ pub enum Argument {
     Far(u16, u16),
 }
 
+/// What DosRead and DosWrite are given: a handle, a buffer with the most bytes that go through it, and where the number of those
+/// that did is written.
+#[derive(Clone, Copy, Debug, PartialEq, Eq)]
+pub struct Transfer {
+    pub handle: u16,
+    /// The buffer.
+    pub selector: u16,
+    pub offset: u16,
+    /// Its bytes.
+    pub count: u16,
+    /// Where the number goes, as a word.
+    pub done_selector: u16,
+    pub done_offset: u16,
+}
+
 /// The name of a segment that all processes share: code, read-only data, or data that is one for all.
 #[derive(Clone, Copy, Debug, PartialEq, Eq)]
 pub struct Made {

@@ -72,7 +72,7 @@ impl Runner {
             bytes: [0u8; 10],
             count: 0,
         };
-        let plain = &self.machine.space.state.plain;
+        let plain = &self.machine.space.plain;
         if let Some(grant) = plain.bound(process, cpu.cs) {
             if let Some((_, code)) = plain.bytes(grant.name).split_at_checked(cpu.ip as usize) {
                 let count = code.len().min(10);
@@ -160,7 +160,7 @@ fn show(rt: &HostRuntime, ahead: &Runner, behind: &Runner, before: &Before) -> a
     if state == 2 {
         if let Some((vector, code)) = trap_of(
             rt.alloc(),
-            &behind.machine.space.state.plain,
+            &behind.machine.space.plain,
             before,
         )? {
             show_trap(rt, before, vector, code)?;

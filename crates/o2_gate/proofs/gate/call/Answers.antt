@@ -1,161 +1,164 @@
 -- Each row is answered by its own service.
-use Rattle.std.proofs.Common.{ℕ, List, [], Some, refl}
+use Rattle.std.proofs.Common.{List, ℕ, [], Some, refl}
+use Rattle.o2_isa.specs.View.{View}
 use Rattle.o2_world.specs.declared.types.Row.TheVariants.{DosExit, DosGetPid, DosRead, DosWrite, DosMemAvail}
 use Rattle.o2_world.specs.Calls.{Effect}
-use Rattle.o2_gate.specs.Befores.{before_call}
+use Rattle.o2_gate.specs.Befores.{boundless, before_call}
 use Rattle.o2_gate.specs.Called.{Does}
 use Rattle.o2_gate.proofs.Served.{by_row}
 use Rattle.o2_gate.proofs.gate.call.Goals as goal
 
 pub returns-in-Some-DosExit-clause-does : goal.returns-in-Some-DosExit-clause-does
-returns-in-Some-DosExit-clause-does g c = λ bytes known e same.
-    let b = before_call c.args.state.now.plain c.args.pid c.args.cpu.now bytes known in
-    by_row (λ (f : Effect). Does b f c.args.cpu.now c.args.state.now.plain c.args.state.now.plain (g.I.Source.left c.args.input.now)
-    (g.I.Source.left c.args.input.now) (g.C.Sink.taken c.args.console.now) (g.C.Sink.taken c.args.console.now)
-    (g.R.Sink.taken c.args.report.now) (g.R.Sink.taken c.dos_exit.new.report) c.dos_exit.result)
-    b c.args.service c.args.next c.row_of.result c.in-Some-DosExit.field-0 DosExit c.row_of.ensures.row c.in-Some-DosExit.is c.in-Some-DosExit.field-0-is (c.dos_exit.ensures.does bytes known _ _ e)
-
-pub returns-in-Some-DosGetPid-clause-does : goal.returns-in-Some-DosGetPid-clause-does
-returns-in-Some-DosGetPid-clause-does g c = λ bytes known e same.
-    let b = before_call c.args.state.now.plain c.args.pid c.args.cpu.now bytes known in
-    by_row (λ (f : Effect). Does b f c.dos_get_pid.new.cpu c.args.state.now.plain c.dos_get_pid.new.plain
-    (g.I.Source.left c.args.input.now) (g.I.Source.left c.args.input.now) (g.C.Sink.taken c.args.console.now)
-    (g.C.Sink.taken c.args.console.now) (g.R.Sink.taken c.args.report.now) (g.R.Sink.taken c.dos_get_pid.new.report) c.dos_get_pid.result)
-    b c.args.service c.args.next c.row_of.result c.in-Some-DosGetPid.field-0 DosGetPid c.row_of.ensures.row c.in-Some-DosGetPid.is
-    c.in-Some-DosGetPid.field-0-is (c.dos_get_pid.ensures.does bytes known _ _ e)
-
-pub returns-in-Some-DosRead-clause-does : goal.returns-in-Some-DosRead-clause-does
-returns-in-Some-DosRead-clause-does g c = λ bytes known e same.
-    let b = before_call c.args.state.now.plain c.args.pid c.args.cpu.now bytes known in
-    by_row (λ (f : Effect). Does b f c.dos_read.new.cpu c.args.state.now.plain c.dos_read.new.plain (g.I.Source.left c.args.input.now)
-    (g.I.Source.left c.dos_read.new.input) (g.C.Sink.taken c.args.console.now) (g.C.Sink.taken c.args.console.now)
-    (g.R.Sink.taken c.args.report.now) (g.R.Sink.taken c.dos_read.new.report) c.dos_read.result)
-    b c.args.service c.args.next c.row_of.result c.in-Some-DosRead.field-0 DosRead c.row_of.ensures.row c.in-Some-DosRead.is c.in-Some-DosRead.field-0-is (c.dos_read.ensures.does bytes known _ e)
-
-pub returns-in-Some-DosWrite-clause-does : goal.returns-in-Some-DosWrite-clause-does
-returns-in-Some-DosWrite-clause-does g c = λ bytes known e same.
-    let b = before_call c.args.state.now.plain c.args.pid c.args.cpu.now bytes known in
-    by_row (λ (f : Effect). Does b f c.dos_write.new.cpu c.args.state.now.plain c.dos_write.new.plain (g.I.Source.left c.args.input.now)
-    (g.I.Source.left c.args.input.now) (g.C.Sink.taken c.args.console.now) (g.C.Sink.taken c.dos_write.new.console)
-    (g.R.Sink.taken c.args.report.now) (g.R.Sink.taken c.dos_write.new.report) c.dos_write.result)
-    b c.args.service c.args.next c.row_of.result c.in-Some-DosWrite.field-0 DosWrite c.row_of.ensures.row c.in-Some-DosWrite.is
-    c.in-Some-DosWrite.field-0-is (c.dos_write.ensures.does bytes known _ e)
-
-pub returns-in-Some-DosMemAvail-clause-does : goal.returns-in-Some-DosMemAvail-clause-does
-returns-in-Some-DosMemAvail-clause-does g c = λ bytes known e same.
-    let b = before_call c.args.state.now.plain c.args.pid c.args.cpu.now bytes known in
-    by_row (λ (f : Effect). Does b f c.dos_mem_avail.new.cpu c.args.state.now.plain c.dos_mem_avail.new.plain
-    (g.I.Source.left c.args.input.now) (g.I.Source.left c.args.input.now) (g.C.Sink.taken c.args.console.now)
-    (g.C.Sink.taken c.args.console.now) (g.R.Sink.taken c.args.report.now) (g.R.Sink.taken c.dos_mem_avail.new.report) c.dos_mem_avail.result)
-    b c.args.service c.args.next c.row_of.result c.in-Some-DosMemAvail.field-0 DosMemAvail c.row_of.ensures.row c.in-Some-DosMemAvail.is
-    c.in-Some-DosMemAvail.field-0-is (c.dos_mem_avail.ensures.does bytes known _ _ e same.avail)
+returns-in-Some-DosExit-clause-does g c = λ f bytes known bound e same.
+    let old : View = g.B.Bus.view c.args.bus.now in
+    let b = before_call (boundless f old) c.args.pid c.args.cpu.now bytes known in
+    by_row (λ (y : Effect). Does f b y c.args.cpu.now old old (g.I.Source.left c.args.input.now) (g.I.Source.left c.args.input.now)
+    (g.C.Sink.taken c.args.console.now) (g.C.Sink.taken c.args.console.now) (g.R.Sink.taken c.args.report.now) (g.R.Sink.taken c.dos_exit.new.report) c.dos_exit.result)
+    b c.args.service c.args.next c.row_of.result c.in-Some-DosExit.field-0 DosExit c.row_of.ensures.row c.in-Some-DosExit.is c.in-Some-DosExit.field-0-is
+    (c.dos_exit.ensures.does f bytes known _ _ bound e)
 
 pub returns-in-Some-DosExit-clause-every : goal.returns-in-Some-DosExit-clause-every
-returns-in-Some-DosExit-clause-every g c = λ other bytes known same.
-    let b = before_call c.args.state.now.plain c.args.pid c.args.cpu.now bytes known in
-    by_row (λ (f : Effect). Does b f c.args.cpu.now c.args.state.now.plain c.args.state.now.plain (Some bytes) (Some bytes)
-    (g.C.Sink.taken c.args.console.now) (g.C.Sink.taken c.args.console.now) (g.R.Sink.taken c.args.report.now)
-    (g.R.Sink.taken c.dos_exit.new.report) c.dos_exit.result)
-    b c.args.service c.args.next c.row_of.result c.in-Some-DosExit.field-0 DosExit c.row_of.ensures.row c.in-Some-DosExit.is
-    c.in-Some-DosExit.field-0-is (c.dos_exit.ensures.does bytes known _ _ refl)
+returns-in-Some-DosExit-clause-every g c = λ other f bytes known bound same.
+    let old : View = g.B.Bus.view c.args.bus.now in
+    let b = before_call (boundless f old) c.args.pid c.args.cpu.now bytes known in
+    by_row (λ (y : Effect). Does f b y c.args.cpu.now old old (Some bytes) (Some bytes)
+    (g.C.Sink.taken c.args.console.now) (g.C.Sink.taken c.args.console.now) (g.R.Sink.taken c.args.report.now) (g.R.Sink.taken c.dos_exit.new.report) c.dos_exit.result)
+    b c.args.service c.args.next c.row_of.result c.in-Some-DosExit.field-0 DosExit c.row_of.ensures.row c.in-Some-DosExit.is c.in-Some-DosExit.field-0-is
+    (c.dos_exit.ensures.does f bytes known _ _ bound refl)
 
 pub returns-in-Some-DosExit-clause-some : goal.returns-in-Some-DosExit-clause-some
-returns-in-Some-DosExit-clause-some g c = λ known same.
+returns-in-Some-DosExit-clause-some g c = λ f known bound same.
     let bytes : List ℕ = [] in
-    let b = before_call c.args.state.now.plain c.args.pid c.args.cpu.now bytes known in (
+    let old : View = g.B.Bus.view c.args.bus.now in
+    let b = before_call (boundless f old) c.args.pid c.args.cpu.now bytes known in (
       bytes,
       (
         Some bytes,
-        by_row (λ (f : Effect). Does b f c.args.cpu.now c.args.state.now.plain c.args.state.now.plain (Some bytes) (Some bytes)
-            (g.C.Sink.taken c.args.console.now) (g.C.Sink.taken c.args.console.now) (g.R.Sink.taken c.args.report.now)
-            (g.R.Sink.taken c.dos_exit.new.report) c.dos_exit.result)
-            b c.args.service c.args.next c.row_of.result c.in-Some-DosExit.field-0 DosExit c.row_of.ensures.row c.in-Some-DosExit.is
-            c.in-Some-DosExit.field-0-is (c.dos_exit.ensures.does bytes known _ _ refl),
+        by_row (λ (y : Effect). Does f b y c.args.cpu.now old old (Some bytes) (Some bytes)
+            (g.C.Sink.taken c.args.console.now) (g.C.Sink.taken c.args.console.now) (g.R.Sink.taken c.args.report.now) (g.R.Sink.taken c.dos_exit.new.report) c.dos_exit.result)
+            b c.args.service c.args.next c.row_of.result c.in-Some-DosExit.field-0 DosExit c.row_of.ensures.row c.in-Some-DosExit.is c.in-Some-DosExit.field-0-is
+            (c.dos_exit.ensures.does f bytes known _ _ bound refl),
       ),
     )
+
+pub returns-in-Some-DosGetPid-clause-does : goal.returns-in-Some-DosGetPid-clause-does
+returns-in-Some-DosGetPid-clause-does g c = λ f bytes known bound e same.
+    let old : View = g.B.Bus.view c.args.bus.now in
+    let b = before_call (boundless f old) c.args.pid c.args.cpu.now bytes known in
+    by_row (λ (y : Effect). Does f b y c.dos_get_pid.new.cpu old (g.B.Bus.view c.dos_get_pid.new.bus) (g.I.Source.left c.args.input.now) (g.I.Source.left c.args.input.now)
+    (g.C.Sink.taken c.args.console.now) (g.C.Sink.taken c.args.console.now) (g.R.Sink.taken c.args.report.now) (g.R.Sink.taken c.dos_get_pid.new.report) c.dos_get_pid.result)
+    b c.args.service c.args.next c.row_of.result c.in-Some-DosGetPid.field-0 DosGetPid c.row_of.ensures.row c.in-Some-DosGetPid.is c.in-Some-DosGetPid.field-0-is
+    (c.dos_get_pid.ensures.does f bytes known _ _ bound e)
 
 pub returns-in-Some-DosGetPid-clause-every : goal.returns-in-Some-DosGetPid-clause-every
-returns-in-Some-DosGetPid-clause-every g c = λ other bytes known same.
-    let b = before_call c.args.state.now.plain c.args.pid c.args.cpu.now bytes known in
-    by_row (λ (f : Effect). Does b f c.dos_get_pid.new.cpu c.args.state.now.plain c.dos_get_pid.new.plain (Some bytes) (Some bytes)
-    (g.C.Sink.taken c.args.console.now) (g.C.Sink.taken c.args.console.now) (g.R.Sink.taken c.args.report.now)
-    (g.R.Sink.taken c.dos_get_pid.new.report) c.dos_get_pid.result)
-    b c.args.service c.args.next c.row_of.result c.in-Some-DosGetPid.field-0 DosGetPid c.row_of.ensures.row c.in-Some-DosGetPid.is
-    c.in-Some-DosGetPid.field-0-is (c.dos_get_pid.ensures.does bytes known _ _ refl)
+returns-in-Some-DosGetPid-clause-every g c = λ other f bytes known bound same.
+    let old : View = g.B.Bus.view c.args.bus.now in
+    let b = before_call (boundless f old) c.args.pid c.args.cpu.now bytes known in
+    by_row (λ (y : Effect). Does f b y c.dos_get_pid.new.cpu old (g.B.Bus.view c.dos_get_pid.new.bus) (Some bytes) (Some bytes)
+    (g.C.Sink.taken c.args.console.now) (g.C.Sink.taken c.args.console.now) (g.R.Sink.taken c.args.report.now) (g.R.Sink.taken c.dos_get_pid.new.report) c.dos_get_pid.result)
+    b c.args.service c.args.next c.row_of.result c.in-Some-DosGetPid.field-0 DosGetPid c.row_of.ensures.row c.in-Some-DosGetPid.is c.in-Some-DosGetPid.field-0-is
+    (c.dos_get_pid.ensures.does f bytes known _ _ bound refl)
 
 pub returns-in-Some-DosGetPid-clause-some : goal.returns-in-Some-DosGetPid-clause-some
-returns-in-Some-DosGetPid-clause-some g c = λ known same.
+returns-in-Some-DosGetPid-clause-some g c = λ f known bound same.
     let bytes : List ℕ = [] in
-    let b = before_call c.args.state.now.plain c.args.pid c.args.cpu.now bytes known in (
+    let old : View = g.B.Bus.view c.args.bus.now in
+    let b = before_call (boundless f old) c.args.pid c.args.cpu.now bytes known in (
       bytes,
       (
         Some bytes,
-        by_row (λ (f : Effect). Does b f c.dos_get_pid.new.cpu c.args.state.now.plain c.dos_get_pid.new.plain (Some bytes) (Some bytes)
-            (g.C.Sink.taken c.args.console.now) (g.C.Sink.taken c.args.console.now) (g.R.Sink.taken c.args.report.now)
-            (g.R.Sink.taken c.dos_get_pid.new.report) c.dos_get_pid.result)
-            b c.args.service c.args.next c.row_of.result c.in-Some-DosGetPid.field-0 DosGetPid c.row_of.ensures.row
-            c.in-Some-DosGetPid.is c.in-Some-DosGetPid.field-0-is (c.dos_get_pid.ensures.does bytes known _ _ refl),
+        by_row (λ (y : Effect). Does f b y c.dos_get_pid.new.cpu old (g.B.Bus.view c.dos_get_pid.new.bus) (Some bytes) (Some bytes)
+            (g.C.Sink.taken c.args.console.now) (g.C.Sink.taken c.args.console.now) (g.R.Sink.taken c.args.report.now) (g.R.Sink.taken c.dos_get_pid.new.report) c.dos_get_pid.result)
+            b c.args.service c.args.next c.row_of.result c.in-Some-DosGetPid.field-0 DosGetPid c.row_of.ensures.row c.in-Some-DosGetPid.is c.in-Some-DosGetPid.field-0-is
+            (c.dos_get_pid.ensures.does f bytes known _ _ bound refl),
       ),
     )
 
-pub returns-in-Some-DosWrite-clause-every : goal.returns-in-Some-DosWrite-clause-every
-returns-in-Some-DosWrite-clause-every g c = λ other bytes known same.
-    let b = before_call c.args.state.now.plain c.args.pid c.args.cpu.now bytes known in
-    by_row (λ (f : Effect). Does b f c.dos_write.new.cpu c.args.state.now.plain c.dos_write.new.plain (Some bytes) (Some bytes)
-    (g.C.Sink.taken c.args.console.now) (g.C.Sink.taken c.dos_write.new.console) (g.R.Sink.taken c.args.report.now)
-    (g.R.Sink.taken c.dos_write.new.report) c.dos_write.result)
-    b c.args.service c.args.next c.row_of.result c.in-Some-DosWrite.field-0 DosWrite c.row_of.ensures.row c.in-Some-DosWrite.is
-    c.in-Some-DosWrite.field-0-is (c.dos_write.ensures.does bytes known _ refl)
-
-pub returns-in-Some-DosWrite-clause-some : goal.returns-in-Some-DosWrite-clause-some
-returns-in-Some-DosWrite-clause-some g c = λ known same.
-    let bytes : List ℕ = [] in
-    let b = before_call c.args.state.now.plain c.args.pid c.args.cpu.now bytes known in (
-      bytes,
-      (
-        Some bytes,
-        by_row (λ (f : Effect). Does b f c.dos_write.new.cpu c.args.state.now.plain c.dos_write.new.plain (Some bytes) (Some bytes)
-            (g.C.Sink.taken c.args.console.now) (g.C.Sink.taken c.dos_write.new.console) (g.R.Sink.taken c.args.report.now)
-            (g.R.Sink.taken c.dos_write.new.report) c.dos_write.result)
-            b c.args.service c.args.next c.row_of.result c.in-Some-DosWrite.field-0 DosWrite c.row_of.ensures.row c.in-Some-DosWrite.is
-            c.in-Some-DosWrite.field-0-is (c.dos_write.ensures.does bytes known _ refl),
-      ),
-    )
-
-pub returns-in-Some-DosMemAvail-clause-every : goal.returns-in-Some-DosMemAvail-clause-every
-returns-in-Some-DosMemAvail-clause-every g c = λ other bytes known same.
-    let b = before_call c.args.state.now.plain c.args.pid c.args.cpu.now bytes known in
-    by_row (λ (f : Effect). Does b f c.dos_mem_avail.new.cpu c.args.state.now.plain c.dos_mem_avail.new.plain (Some bytes) (Some bytes)
-    (g.C.Sink.taken c.args.console.now) (g.C.Sink.taken c.args.console.now) (g.R.Sink.taken c.args.report.now)
-    (g.R.Sink.taken c.dos_mem_avail.new.report) c.dos_mem_avail.result)
-    b c.args.service c.args.next c.row_of.result c.in-Some-DosMemAvail.field-0 DosMemAvail c.row_of.ensures.row c.in-Some-DosMemAvail.is
-    c.in-Some-DosMemAvail.field-0-is (c.dos_mem_avail.ensures.does bytes known _ _ refl same.avail)
-
-pub returns-in-Some-DosMemAvail-clause-some : goal.returns-in-Some-DosMemAvail-clause-some
-returns-in-Some-DosMemAvail-clause-some g c = λ known same.
-    let bytes : List ℕ = [] in
-    let b = before_call c.args.state.now.plain c.args.pid c.args.cpu.now bytes known in (
-      bytes,
-      (
-        Some bytes,
-        by_row (λ (f : Effect). Does b f c.dos_mem_avail.new.cpu c.args.state.now.plain
-            c.dos_mem_avail.new.plain (Some bytes) (Some bytes) (g.C.Sink.taken c.args.console.now) (g.C.Sink.taken c.args.console.now)
-            (g.R.Sink.taken c.args.report.now) (g.R.Sink.taken c.dos_mem_avail.new.report) c.dos_mem_avail.result)
-            b c.args.service c.args.next c.row_of.result c.in-Some-DosMemAvail.field-0 DosMemAvail c.row_of.ensures.row
-            c.in-Some-DosMemAvail.is c.in-Some-DosMemAvail.field-0-is (c.dos_mem_avail.ensures.does bytes known _ _ refl same.avail),
-      ),
-    )
+pub returns-in-Some-DosRead-clause-does : goal.returns-in-Some-DosRead-clause-does
+returns-in-Some-DosRead-clause-does g c = λ f bytes known bound e same.
+    let old : View = g.B.Bus.view c.args.bus.now in
+    let b = before_call (boundless f old) c.args.pid c.args.cpu.now bytes known in
+    by_row (λ (y : Effect). Does f b y c.dos_read.new.cpu old (g.B.Bus.view c.dos_read.new.bus) (g.I.Source.left c.args.input.now) (g.I.Source.left c.dos_read.new.input)
+    (g.C.Sink.taken c.args.console.now) (g.C.Sink.taken c.args.console.now) (g.R.Sink.taken c.args.report.now) (g.R.Sink.taken c.dos_read.new.report) c.dos_read.result)
+    b c.args.service c.args.next c.row_of.result c.in-Some-DosRead.field-0 DosRead c.row_of.ensures.row c.in-Some-DosRead.is c.in-Some-DosRead.field-0-is
+    (c.dos_read.ensures.does f bytes known _ bound e)
 
 pub returns-in-Some-DosRead-clause-some : goal.returns-in-Some-DosRead-clause-some
-returns-in-Some-DosRead-clause-some g c = λ known same.
-    let did = c.dos_read.ensures.some known (g.C.Sink.taken c.args.console.now) in
-    let b = before_call c.args.state.now.plain c.args.pid c.args.cpu.now did.0 known in (
+returns-in-Some-DosRead-clause-some g c = λ f known bound same.
+    let did = c.dos_read.ensures.some f known (g.C.Sink.taken c.args.console.now) bound in
+    let old : View = g.B.Bus.view c.args.bus.now in
+    let b = before_call (boundless f old) c.args.pid c.args.cpu.now did.0 known in (
       did.0,
       (
         did.1.0,
-        by_row (λ (f : Effect). Does b f c.dos_read.new.cpu c.args.state.now.plain c.dos_read.new.plain (Some did.0) did.1.0
-            (g.C.Sink.taken c.args.console.now) (g.C.Sink.taken c.args.console.now) (g.R.Sink.taken c.args.report.now)
-            (g.R.Sink.taken c.dos_read.new.report) c.dos_read.result)
+        by_row (λ (y : Effect). Does f b y c.dos_read.new.cpu old (g.B.Bus.view c.dos_read.new.bus) (Some did.0) did.1.0
+            (g.C.Sink.taken c.args.console.now) (g.C.Sink.taken c.args.console.now) (g.R.Sink.taken c.args.report.now) (g.R.Sink.taken c.dos_read.new.report) c.dos_read.result)
             b c.args.service c.args.next c.row_of.result c.in-Some-DosRead.field-0 DosRead c.row_of.ensures.row c.in-Some-DosRead.is c.in-Some-DosRead.field-0-is did.1.1,
+      ),
+    )
+
+pub returns-in-Some-DosWrite-clause-does : goal.returns-in-Some-DosWrite-clause-does
+returns-in-Some-DosWrite-clause-does g c = λ f bytes known bound e same.
+    let old : View = g.B.Bus.view c.args.bus.now in
+    let b = before_call (boundless f old) c.args.pid c.args.cpu.now bytes known in
+    by_row (λ (y : Effect). Does f b y c.dos_write.new.cpu old (g.B.Bus.view c.dos_write.new.bus) (g.I.Source.left c.args.input.now) (g.I.Source.left c.args.input.now)
+    (g.C.Sink.taken c.args.console.now) (g.C.Sink.taken c.dos_write.new.console) (g.R.Sink.taken c.args.report.now) (g.R.Sink.taken c.dos_write.new.report) c.dos_write.result)
+    b c.args.service c.args.next c.row_of.result c.in-Some-DosWrite.field-0 DosWrite c.row_of.ensures.row c.in-Some-DosWrite.is c.in-Some-DosWrite.field-0-is
+    (c.dos_write.ensures.does f bytes known _ bound e)
+
+pub returns-in-Some-DosWrite-clause-every : goal.returns-in-Some-DosWrite-clause-every
+returns-in-Some-DosWrite-clause-every g c = λ other f bytes known bound same.
+    let old : View = g.B.Bus.view c.args.bus.now in
+    let b = before_call (boundless f old) c.args.pid c.args.cpu.now bytes known in
+    by_row (λ (y : Effect). Does f b y c.dos_write.new.cpu old (g.B.Bus.view c.dos_write.new.bus) (Some bytes) (Some bytes)
+    (g.C.Sink.taken c.args.console.now) (g.C.Sink.taken c.dos_write.new.console) (g.R.Sink.taken c.args.report.now) (g.R.Sink.taken c.dos_write.new.report) c.dos_write.result)
+    b c.args.service c.args.next c.row_of.result c.in-Some-DosWrite.field-0 DosWrite c.row_of.ensures.row c.in-Some-DosWrite.is c.in-Some-DosWrite.field-0-is
+    (c.dos_write.ensures.does f bytes known _ bound refl)
+
+pub returns-in-Some-DosWrite-clause-some : goal.returns-in-Some-DosWrite-clause-some
+returns-in-Some-DosWrite-clause-some g c = λ f known bound same.
+    let bytes : List ℕ = [] in
+    let old : View = g.B.Bus.view c.args.bus.now in
+    let b = before_call (boundless f old) c.args.pid c.args.cpu.now bytes known in (
+      bytes,
+      (
+        Some bytes,
+        by_row (λ (y : Effect). Does f b y c.dos_write.new.cpu old (g.B.Bus.view c.dos_write.new.bus) (Some bytes) (Some bytes)
+            (g.C.Sink.taken c.args.console.now) (g.C.Sink.taken c.dos_write.new.console) (g.R.Sink.taken c.args.report.now) (g.R.Sink.taken c.dos_write.new.report) c.dos_write.result)
+            b c.args.service c.args.next c.row_of.result c.in-Some-DosWrite.field-0 DosWrite c.row_of.ensures.row c.in-Some-DosWrite.is c.in-Some-DosWrite.field-0-is
+            (c.dos_write.ensures.does f bytes known _ bound refl),
+      ),
+    )
+
+pub returns-in-Some-DosMemAvail-clause-does : goal.returns-in-Some-DosMemAvail-clause-does
+returns-in-Some-DosMemAvail-clause-does g c = λ f bytes known bound e same.
+    let old : View = g.B.Bus.view c.args.bus.now in
+    let b = before_call (boundless f old) c.args.pid c.args.cpu.now bytes known in
+    by_row (λ (y : Effect). Does f b y c.dos_mem_avail.new.cpu old (g.B.Bus.view c.dos_mem_avail.new.bus) (g.I.Source.left c.args.input.now) (g.I.Source.left c.args.input.now)
+    (g.C.Sink.taken c.args.console.now) (g.C.Sink.taken c.args.console.now) (g.R.Sink.taken c.args.report.now) (g.R.Sink.taken c.dos_mem_avail.new.report) c.dos_mem_avail.result)
+    b c.args.service c.args.next c.row_of.result c.in-Some-DosMemAvail.field-0 DosMemAvail c.row_of.ensures.row c.in-Some-DosMemAvail.is c.in-Some-DosMemAvail.field-0-is
+    (c.dos_mem_avail.ensures.does f bytes known _ _ bound e same.avail)
+
+pub returns-in-Some-DosMemAvail-clause-every : goal.returns-in-Some-DosMemAvail-clause-every
+returns-in-Some-DosMemAvail-clause-every g c = λ other f bytes known bound same.
+    let old : View = g.B.Bus.view c.args.bus.now in
+    let b = before_call (boundless f old) c.args.pid c.args.cpu.now bytes known in
+    by_row (λ (y : Effect). Does f b y c.dos_mem_avail.new.cpu old (g.B.Bus.view c.dos_mem_avail.new.bus) (Some bytes) (Some bytes)
+    (g.C.Sink.taken c.args.console.now) (g.C.Sink.taken c.args.console.now) (g.R.Sink.taken c.args.report.now) (g.R.Sink.taken c.dos_mem_avail.new.report) c.dos_mem_avail.result)
+    b c.args.service c.args.next c.row_of.result c.in-Some-DosMemAvail.field-0 DosMemAvail c.row_of.ensures.row c.in-Some-DosMemAvail.is c.in-Some-DosMemAvail.field-0-is
+    (c.dos_mem_avail.ensures.does f bytes known _ _ bound refl same.avail)
+
+pub returns-in-Some-DosMemAvail-clause-some : goal.returns-in-Some-DosMemAvail-clause-some
+returns-in-Some-DosMemAvail-clause-some g c = λ f known bound same.
+    let bytes : List ℕ = [] in
+    let old : View = g.B.Bus.view c.args.bus.now in
+    let b = before_call (boundless f old) c.args.pid c.args.cpu.now bytes known in (
+      bytes,
+      (
+        Some bytes,
+        by_row (λ (y : Effect). Does f b y c.dos_mem_avail.new.cpu old (g.B.Bus.view c.dos_mem_avail.new.bus) (Some bytes) (Some bytes)
+            (g.C.Sink.taken c.args.console.now) (g.C.Sink.taken c.args.console.now) (g.R.Sink.taken c.args.report.now) (g.R.Sink.taken c.dos_mem_avail.new.report) c.dos_mem_avail.result)
+            b c.args.service c.args.next c.row_of.result c.in-Some-DosMemAvail.field-0 DosMemAvail c.row_of.ensures.row c.in-Some-DosMemAvail.is c.in-Some-DosMemAvail.field-0-is
+            (c.dos_mem_avail.ensures.does f bytes known _ _ bound refl same.avail),
       ),
     )

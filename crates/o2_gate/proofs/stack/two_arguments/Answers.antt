@@ -1,0 +1,12 @@
+use Rattle.std.proofs.Common.{refl}
+use Rattle.o2_isa.specs.View.{View}
+use Rattle.o2_gate.specs.Befores.{boundless}
+use Rattle.o2_gate.proofs.Words.{word_there}
+use Rattle.o2_gate.proofs.stack.two_arguments.Goals as goal
+
+pub returns : goal.returns
+returns g c = λ f bound.
+    let v : View = boundless f (g.B.Bus.view c.args.bus.now) in
+    let a = word_there v c.args.cpu.now 0 _ _ (c.in_ok-last.ensures f bound) refl in
+    let b = word_there v c.args.cpu.now 1 _ _ (c.in_ok-first.ensures f bound) refl in
+    rw (a.there, b.there, a.value, b.value) refl

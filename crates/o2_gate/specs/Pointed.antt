@@ -1,0 +1,71 @@
+-- What a test of pointers tells.
+use Rattle.std.specs.Prelude.{◌≡◌, ℕ, ◌+◌, nat_le, Bool, true, false, not, ◌&&◌, ◌||◌, Option, Some, None, List, [], ◌∷◌, if◌then◌else◌}
+use Rattle.o2_base.specs.declared.selector.Selector.{Selector}
+use Rattle.o2_isa.specs.View.{View, Hold, Filling, is_readable, is_writable, is_null, found}
+use Rattle.o2_isa.specs.Presence.{IsMissed, is_in}
+use Rattle.o2_isa.specs.Pointers.{is_good, is_ready}
+use Rattle.o2_world.specs.declared.types.Transfer.{Transfer}
+use Rattle.o2_run.specs.Room.{Pointer, pointed}
+use Rattle.o2_gate.specs.declared.pointer.Pointed.{Pointed}
+use Rattle.o2_gate.specs.declared.pointer.Pointed.TheVariants.{Good, Bad, Missed}
+use Rattle.o2_gate.specs.Befores.{boundless}
+
+-- a pointer to bytes that are read, or to bytes that are written
+abbrev pub pointer : (writes : Bool) → (selector offset count : ℕ) → Pointer
+pointer writes s o n = record { selector = s; offset = o; count = n; good = if writes then is_writable else is_readable }
+
+-- what a selector names can be written
+abbrev pub writes_to : Option Hold → Bool
+writes_to None = false
+writes_to (Some h) = is_writable h.rights
+
+-- the selector is null, or it names nothing that can be written where bytes are to be written
+abbrev pub refuses : (writes : Bool) → View → (s : ℕ) → Bool
+refuses writes v s = is_null s || (writes && not (writes_to (found v s)))
+
+-- a range lies in what a selector names, by its size
+abbrev pub lies_within : View → (offset count : ℕ) → Option Hold → Bool
+lies_within v offset count None = false
+lies_within v offset count (Some h) = nat_le (offset + count) (v.size h.name)
+
+abbrev pub are_good : View → List Pointer → Bool
+are_good v [] = true
+are_good v (p ∷ ps) = is_good p.good v p.selector p.offset p.count && are_good v ps
+
+abbrev pub are_ready : View → List Pointer → Bool
+are_ready v [] = true
+are_ready v (p ∷ ps) = is_ready p.good v p.selector p.offset p.count && are_ready v ps
+
+-- each of the names is present
+abbrev pub ArePresent : View → List ℕ → Type 0
+ArePresent v names = (n : ℕ) → is_in n names ≡ true → v.present n ≡ true
+
+pub record IsGoodTest (v : View) (ps : List Pointer) : Type 0 where
+  pub good : (f : Filling) → are_good (boundless f v) ps ≡ true
+  pub ready : are_ready v ps ≡ true
+  pub names : (f : Filling) → ArePresent v (pointed (boundless f v) ps)
+
+pub record IsBadTest (v : View) (ps : List Pointer) : Type 0 where
+  pub good : (f : Filling) → are_good (boundless f v) ps ≡ false
+  pub names : (f : Filling) → ArePresent v (pointed (boundless f v) ps)
+
+-- the selector names a segment that isn't present
+pub record IsAway (v : View) (s : Selector) : Type 0 where
+  pub hold : Hold
+  pub found_it : found v s.0 ≡ Some hold
+  pub absent : v.present hold.name ≡ false
+
+pub record IsMissedTest (v : View) (s : Selector) (ps : List Pointer) : Type 0 where
+  pub away : IsAway v s
+  pub missed : (f : Filling) → IsMissed v s (pointed (boundless f v) ps)
+
+-- the boundless machine's pointers, tested in order over a bus with this view: all are good, one is bad, or a name is missed
+-- that has passed
+abbrev pub Tells : View → List Pointer → Pointed → Type 0
+Tells v ps Good = IsGoodTest v ps
+Tells v ps Bad = IsBadTest v ps
+Tells v ps (Missed s) = IsMissedTest v s ps
+
+-- both pointers of a transfer: to the buffer, from which bytes are read or to which they are written, and to their number
+abbrev pub transfer_pointers : (writes : Bool) → Transfer → List Pointer
+transfer_pointers writes t = pointer writes t.selector t.offset t.count ∷ pointer true t.done_selector t.done_offset 2 ∷ []
