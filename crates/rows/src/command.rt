@@ -15,6 +15,20 @@ pub struct Answer {
     pub report: MemSink,
 }
 
+impl Answer {
+    /// Whether it came to this status, with this console and report.
+    pub fn is(&self, status: u8, console: &[u8], report: &[u8]) -> bool {
+        self.status == status && self.console.taken() == console && self.report.taken() == report
+    }
+
+    /// Whether it came to this line of its status, with this console and no report.
+    pub fn says(&self, console: &[u8], line: &str) -> bool {
+        self.line.as_slice() == line.as_bytes()
+            && self.console.taken() == console
+            && self.report.taken().is_empty()
+    }
+}
+
 /// The calls of a sink that fail, counted from 1, each with the number of bytes that it takes before.
 pub type Fails<'a> = &'a [(u64, usize)];
 

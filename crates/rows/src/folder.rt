@@ -41,14 +41,11 @@ const SWAP_FILE: &str = "os2run.swp";
 fn blocks_in_a_file_of_the_folder(rt: HostRuntime) -> Result<(), Fail> {
     let mut swap = FileSwap::new(&rt);
     let mut block = [0u8; 512];
-    assert_eq!(rt; swap.count(), 65_536);
-    assert_eq!(rt; swap.write(3, &[3u8; 512]), Dev::Done);
-    assert_eq!(rt; swap.write(1, &[1u8; 512]), Dev::Done);
-    assert_eq!(rt; swap.read(3, &mut block), Dev::Done);
-    assert_eq!(rt; block[511], 3);
-    assert_eq!(rt; swap.read(1, &mut block), Dev::Done);
-    assert_eq!(rt; block[0], 1);
-    assert_eq!(rt; fs::metadata(&rt, SWAP_FILE)?.len(), 2048);
+    let written = [swap.write(3, &[3u8; 512]), swap.write(1, &[1u8; 512])];
+    assert!(rt; swap.count() == 65_536 && written == [Dev::Done, Dev::Done]);
+    let third = swap.read(3, &mut block) == Dev::Done && block[511] == 3;
+    let first = swap.read(1, &mut block) == Dev::Done && block[0] == 1;
+    assert!(rt; third && first && fs::metadata(&rt, SWAP_FILE)?.len() == 2048);
     // a file that was cut short has no block 3
     fs::write(&rt, SWAP_FILE, "short")?;
     assert_eq!(rt; swap.read(3, &mut block), Dev::Failed);

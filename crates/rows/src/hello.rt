@@ -134,15 +134,8 @@ fn rows(rt: HostRuntime) -> Result<(), Fail> {
     for (words, changes, status, console, lines, rest) in ROWS.iter() {
         let answer = run_changed(rt.alloc(), words, changes, &[], &[])?;
         let report = report_of(rt.alloc(), *lines, rest)?;
-        assert_eq!(rt; answer.status, *status, "of {words:?} {changes:?}");
-        assert_eq!(rt;
-            answer.console.taken(),
-            console.as_bytes(),
-            "of {words:?} {changes:?}"
-        );
-        assert_eq!(rt;
-            answer.report.taken(),
-            report.as_bytes(),
+        assert!(rt;
+            answer.is(*status, console.as_bytes(), report.as_bytes()),
             "of {words:?} {changes:?}"
         );
     }
@@ -157,16 +150,9 @@ fn each_put_of_the_report_fails(rt: HostRuntime) -> Result<(), Fail> {
             let answer = run_changed(rt.alloc(), &["exe", "hello.exe"], &[], &[], &fails)?;
             let mut report = report_of(rt.alloc(), k, "")?.into_bytes();
             report.extend_from_slice(&line.as_bytes()[..taken])?;
-            assert_eq!(rt; answer.status, 7, "at put {k} after {taken}");
-            assert_eq!(rt;
-                answer.report.taken(),
-                report.as_slice(),
-                "at put {k} after {taken}"
-            );
             let console = if k < 4 { "" } else { "hello" };
-            assert_eq!(rt;
-                answer.console.taken(),
-                console.as_bytes(),
+            assert!(rt;
+                answer.is(7, console.as_bytes(), report.as_slice()),
                 "at put {k} after {taken}"
             );
         }
@@ -180,9 +166,10 @@ fn the_put_of_the_console_fails(rt: HostRuntime) -> Result<(), Fail> {
     for taken in 0..whole.len() {
         let answer = run_changed(rt.alloc(), &["exe", "hello.exe"], &[], &[(1, taken)], &[])?;
         let report = report_of(rt.alloc(), 4, "")?;
-        assert_eq!(rt; answer.status, 7);
-        assert_eq!(rt; answer.console.taken(), &whole[..taken]);
-        assert_eq!(rt; answer.report.taken(), report.as_bytes());
+        assert!(rt;
+            answer.is(7, &whole[..taken], report.as_bytes()),
+            "after {taken}"
+        );
     }
     Ok(())
 }
@@ -240,9 +227,10 @@ static REFUSED: [(&[(usize, u8)], &str); 16] = [
 fn refusals(rt: HostRuntime) -> Result<(), Fail> {
     for (changes, line) in REFUSED.iter() {
         let answer = run_changed(rt.alloc(), &["exe", "hello.exe"], changes, &[], &[])?;
-        assert_eq!(rt; answer.status, 4, "of {changes:?}");
-        assert_eq!(rt; answer.line.as_slice(), line.as_bytes(), "of {changes:?}");
-        assert_eq!(rt; answer.report.taken().len(), 0, "of {changes:?}");
+        assert!(rt;
+            answer.status == 4 && answer.says(&[], line),
+            "of {changes:?}"
+        );
     }
     Ok(())
 }

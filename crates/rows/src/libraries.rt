@@ -113,9 +113,7 @@ fn a_program_reaches_its_libraries(rt: HostRuntime) -> Result<(), Fail> {
     for (modules, name, report) in REPORTS.iter() {
         let text = machine(rt.alloc(), modules, "64", &[name])?;
         let answer = over(rt.alloc(), "run", text.as_str(), None, &[])?;
-        assert_eq!(rt; answer.report.taken(), report.as_bytes(), "of {modules}");
-        assert_eq!(rt; answer.console.taken().len(), 0, "of {modules}");
-        assert_eq!(rt; answer.status, 0, "of {modules}");
+        assert!(rt; answer.is(0, &[], report.as_bytes()), "of {modules}");
     }
     Ok(())
 }
@@ -137,8 +135,10 @@ fn data_of_a_library_is_of_each_process_or_of_all(rt: HostRuntime) -> Result<(),
     let text = machine(rt.alloc(), modules, "64", &["USER", "USER"])?;
     for (change, console) in COUNTS.iter() {
         let answer = over(rt.alloc(), "run", text.as_str(), *change, &[])?;
-        assert_eq!(rt; answer.console.taken(), console.as_bytes());
-        assert_eq!(rt; answer.status, 0);
+        assert!(rt;
+            answer.status == 0 && answer.console.taken() == console.as_bytes(),
+            "of {change:?}"
+        );
     }
     Ok(())
 }
@@ -209,9 +209,10 @@ fn lines_of_check(rt: HostRuntime) -> Result<(), Fail> {
         // one segment wouldn't do for a start
         let text = machine(rt.alloc(), modules, "1", &[name])?;
         let answer = over(rt.alloc(), "check", text.as_str(), None, &[])?;
-        assert_eq!(rt; answer.console.taken(), console.as_bytes(), "of {modules}");
-        assert_eq!(rt; answer.line.as_slice(), line.as_bytes(), "of {modules}");
-        assert_eq!(rt; answer.report.taken().len(), 0, "of {modules}");
+        assert!(rt;
+            answer.says(console.as_bytes(), line),
+            "of {modules} {name}"
+        );
     }
     Ok(())
 }
@@ -220,17 +221,12 @@ fn lines_of_check(rt: HostRuntime) -> Result<(), Fail> {
 fn a_library_is_not_started(rt: HostRuntime) -> Result<(), Fail> {
     let text = machine(rt.alloc(), "\"msg.dll\"", "64", &["MSG"])?;
     let answer = over(rt.alloc(), "run", text.as_str(), None, &[])?;
-    assert_eq!(rt;
-        answer.line.as_slice(),
-        b"os2run: module msg.dll: reason 16\n".as_slice()
-    );
+    let line = "os2run: module msg.dll: reason 16\n";
+    assert!(rt; answer.says(&[], line), "by run");
     let mut files = Vec::new(rt.alloc());
     add_file(rt.alloc(), &mut files, b"msg.dll", &MSG)?;
     let answer = command(rt.alloc(), &["exe", "msg.dll"], files, &[], &[], &[], &[])?;
-    assert_eq!(rt;
-        answer.line.as_slice(),
-        b"os2run: module msg.dll: reason 16\n".as_slice()
-    );
+    assert!(rt; answer.says(&[], line), "by exe");
     Ok(())
 }
 
@@ -238,9 +234,7 @@ fn a_library_is_not_started(rt: HostRuntime) -> Result<(), Fail> {
 fn check_over_a_console_that_fails(rt: HostRuntime) -> Result<(), Fail> {
     let text = machine(rt.alloc(), "\"hello.exe\"", "64", &["HELLO"])?;
     let answer = over(rt.alloc(), "check", text.as_str(), None, &[(1, 7)])?;
-    assert_eq!(rt; answer.status, 7);
-    assert_eq!(rt; answer.console.taken(), b"HELLO p".as_slice());
-    assert_eq!(rt; answer.report.taken().len(), 0);
+    assert!(rt; answer.is(7, b"HELLO p".as_slice(), &[]));
     Ok(())
 }
 
@@ -287,18 +281,17 @@ static LAST_ONE: &str =
 #[test]
 fn sixty_four_modules(rt: HostRuntime) -> Result<(), Fail> {
     let answer = over_all(rt.alloc(), "run")?;
-    assert_eq!(rt; answer.report.taken(), LAST_ONE.as_bytes());
-    assert_eq!(rt; answer.status, 0);
+    assert!(rt; answer.is(0, &[], LAST_ONE.as_bytes()));
+    Ok(())
+}
+
+#[test]
+fn a_check_of_sixty_four_modules(rt: HostRuntime) -> Result<(), Fail> {
     let answer = over_all(rt.alloc(), "check")?;
+    let console = answer.console.taken();
     let last = b"\nL62 library, 1 segments, 0 relocations, 1 entries\n".as_slice();
-    assert!(rt; answer.console.taken().ends_with(last));
-    let lines = answer
-        .console
-        .taken()
-        .iter()
-        .filter(|byte| **byte == b'\n')
-        .count();
+    assert!(rt; answer.status == 0 && console.ends_with(last));
+    let lines = console.iter().filter(|byte| **byte == b'\n').count();
     assert_eq!(rt; lines, 64);
-    assert_eq!(rt; answer.status, 0);
     Ok(())
 }

@@ -41,10 +41,10 @@ fn a_fetch_fails(rt: HostRuntime) -> Result<(), Fail> {
     // the machine file, and then the module
     for fetch in 1..=2u64 {
         let answer = run_without(rt.alloc(), fetch)?;
-        assert_eq!(rt; answer.status, 5, "without {fetch}");
-        assert_eq!(rt; answer.line.as_slice(), b"os2run: file fault\n".as_slice());
-        assert_eq!(rt; answer.report.taken(), b"".as_slice());
-        assert_eq!(rt; answer.console.taken(), b"".as_slice());
+        assert!(rt;
+            answer.status == 5 && answer.says(&[], "os2run: file fault\n"),
+            "without {fetch}"
+        );
     }
     assert_eq!(rt; run_without(rt.alloc(), 3)?.status, 0);
     Ok(())
@@ -74,8 +74,11 @@ fn budgets(rt: HostRuntime) -> Result<(), Fail> {
         };
         let rest = if budget < 10 { "budget spent\n" } else { "" };
         let wanted = report_of(rt.alloc(), lines, rest)?;
-        assert_eq!(rt; answer.report.taken(), wanted.as_bytes(), "with {budget}");
-        assert_eq!(rt; answer.status, 0, "with {budget}");
+        let console = if budget < 7 { "" } else { "hello" };
+        assert!(rt;
+            answer.is(0, console.as_bytes(), wanted.as_bytes()),
+            "with {budget}"
+        );
     }
     Ok(())
 }
@@ -85,8 +88,7 @@ fn slices_of_processes_that_are_not_there_are_passed(rt: HostRuntime) -> Result<
     let script = "budget = 20\nquantum = 1\nscript = [\"9:5\", \"1:10\", \"1:3\"]\n";
     let answer = run_parts(rt.alloc(), &[FRONT, script, PROCESS])?;
     let wanted = report_of(rt.alloc(), LINES.len(), "")?;
-    assert_eq!(rt; answer.report.taken(), wanted.as_bytes());
-    assert_eq!(rt; answer.status, 0);
+    assert!(rt; answer.is(0, b"hello".as_slice(), wanted.as_bytes()));
     Ok(())
 }
 
@@ -98,9 +100,7 @@ static TURNS: &str =
 fn two_processes_take_turns(rt: HostRuntime) -> Result<(), Fail> {
     let front = "budget = 1000\nquantum = 1\n";
     let answer = run_parts(rt.alloc(), &[FRONT, front, PROCESS, PROCESS])?;
-    assert_eq!(rt; answer.console.taken(), b"hellohello".as_slice());
-    assert_eq!(rt; answer.report.taken(), TURNS.as_bytes());
-    assert_eq!(rt; answer.status, 0);
+    assert!(rt; answer.is(0, b"hellohello".as_slice(), TURNS.as_bytes()));
     Ok(())
 }
 
@@ -128,8 +128,7 @@ fn run_many(alloc: Global, count: u32) -> Result<Answer, NoMemory> {
 #[test]
 fn sixty_four_processes(rt: HostRuntime) -> Result<(), Fail> {
     let answer = run_many(rt.alloc(), 64)?;
-    assert_eq!(rt; answer.status, 0);
-    assert_eq!(rt; answer.console.taken().len(), 320);
+    assert!(rt; answer.status == 0 && answer.console.taken().len() == 320);
     let ended = answer
         .report
         .taken()
@@ -143,10 +142,7 @@ fn sixty_four_processes(rt: HostRuntime) -> Result<(), Fail> {
 #[test]
 fn no_more_than_sixty_four_processes(rt: HostRuntime) -> Result<(), Fail> {
     let answer = run_many(rt.alloc(), 65)?;
-    assert_eq!(rt;
-        answer.line.as_slice(),
-        b"os2run: machine file: reason 4 process\n".as_slice()
-    );
+    assert!(rt; answer.says(&[], "os2run: machine file: reason 4 process\n"));
     Ok(())
 }
 
@@ -181,8 +177,7 @@ static FAULTS: [(&str, &str); 8] = [
 fn faults(rt: HostRuntime) -> Result<(), Fail> {
     for (text, line) in FAULTS.iter() {
         let answer = run_parts(rt.alloc(), &[text])?;
-        assert_eq!(rt; answer.line.as_slice(), line.as_bytes(), "of {text}");
-        assert_eq!(rt; answer.report.taken().len(), 0, "of {text}");
+        assert!(rt; answer.says(&[], line), "of {text}");
     }
     Ok(())
 }
@@ -193,10 +188,7 @@ fn a_machine_file_that_is_too_long(rt: HostRuntime) -> Result<(), Fail> {
     let mut files = Vec::new(rt.alloc());
     add_file(rt.alloc(), &mut files, b"a.toml", text.as_slice())?;
     let answer = command(rt.alloc(), &["run", "a.toml"], files, &[], &[], &[], &[])?;
-    assert_eq!(rt; answer.status, 3);
-    assert_eq!(rt;
-        answer.line.as_slice(),
-        b"os2run: machine file: reason 4 file\n".as_slice()
-    );
+    let line = "os2run: machine file: reason 4 file\n";
+    assert!(rt; answer.status == 3 && answer.says(&[], line));
     Ok(())
 }

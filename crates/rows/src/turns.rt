@@ -246,34 +246,52 @@ fn state_of(machine: &Machine) -> Option<(u16, u16)> {
     }
 }
 
+/// Whether nothing of it was taken or written.
+fn is_untouched(outside: &Outside) -> bool {
+    outside.input.left().len() == 3
+        && outside.console.taken().is_empty()
+        && outside.report.taken().is_empty()
+}
+
+/// Whether a machine that has come to a row's answer gives it again at later turns, which touch nothing.
+fn is_final(alloc: Global, machine: &mut Machine, row: &Row) -> Result<bool, NoMemory> {
+    let mut later = made_outside(alloc, &[], &[], &[])?;
+    for _ in 0..3 {
+        if turn(machine, &mut later) != row.answer {
+            return Ok(false);
+        }
+    }
+    Ok(is_untouched(&later) && is_told(machine, row))
+}
+
+/// What is wrong with a row, or no text.
+fn wrong(alloc: Global, row: &Row) -> Result<&'static str, NoMemory> {
+    let mut first = made_outside(alloc, row.takes, row.console, row.report)?;
+    let Some(mut machine) = begun(alloc, row.budget, row.changes, &mut first.report)? else {
+        return Ok("it doesn't begin");
+    };
+    if machine.stopped().is_some() {
+        return Ok("it has stopped before its first turn");
+    }
+    if run_on(&mut machine, &mut first) != row.answer || !is_told(&machine, row) {
+        return Ok("another answer, or other counts");
+    }
+    if state_of(&machine) != Some(row.state) {
+        return Ok("another state");
+    }
+    if machine.process(0).is_some() || machine.process(2).is_some() {
+        return Ok("a process that isn't there");
+    }
+    if !is_final(alloc, &mut machine, row)? {
+        return Ok("a later turn isn't the same");
+    }
+    Ok("")
+}
+
 #[test]
 fn counts_and_a_turn_after_a_stop(rt: HostRuntime) -> Result<(), Fail> {
     for row in ROWS.iter() {
-        let mut first = made_outside(rt.alloc(), row.takes, row.console, row.report)?;
-        let Some(mut machine) = begun(rt.alloc(), row.budget, row.changes, &mut first.report)?
-        else {
-            assert!(rt; false, "{} doesn't begin", row.name);
-            return Ok(());
-        };
-        assert!(rt; machine.stopped().is_none(), "{}", row.name);
-        assert_eq!(rt;
-            run_on(&mut machine, &mut first),
-            row.answer,
-            "{}",
-            row.name
-        );
-        assert!(rt; is_told(&machine, row), "{}", row.name);
-        assert_eq!(rt; state_of(&machine), Some(row.state), "{}", row.name);
-        assert!(rt; machine.process(0).is_none() && machine.process(2).is_none());
-        // a later turn answers the same, and touches nothing
-        let mut later = made_outside(rt.alloc(), &[], &[], &[])?;
-        for _ in 0..3 {
-            assert_eq!(rt; turn(&mut machine, &mut later), row.answer, "{}", row.name);
-        }
-        assert_eq!(rt; later.input.left().len(), 3, "{}", row.name);
-        assert_eq!(rt; later.console.taken().len(), 0, "{}", row.name);
-        assert_eq!(rt; later.report.taken().len(), 0, "{}", row.name);
-        assert!(rt; is_told(&machine, row), "{} later", row.name);
+        assert_eq!(rt; wrong(rt.alloc(), row)?, "", "{}", row.name);
     }
     Ok(())
 }
