@@ -24,8 +24,10 @@ pub fn words(rt: &HostRuntime) -> io::Result<Vec<String>> {
 /// What a program ends with where its words are no command, or ask for help or the version: the text goes to the standard error or to
 /// the standard output, and the status is 2 or 0.
 pub fn answered(rt: &HostRuntime, error: &clap::Error) -> io::Result<ExitCode>
-    ensures help { IfOk result (λ c. kind_of error.now ≡ ErrorKind.DisplayHelp → exit_status c ≡ 0) }
-    ensures version { IfOk result (λ c. kind_of error.now ≡ ErrorKind.DisplayVersion → exit_status c ≡ 0) }
+    ensures help { IfOk result
+        (λ c. kind_of error.now ≡ ErrorKind.DisplayHelp → exit_status c ≡ 0) }
+    ensures version { IfOk result
+        (λ c. kind_of error.now ≡ ErrorKind.DisplayVersion → exit_status c ≡ 0) }
     ensures misused { IfOk result (λ c. kind_of error.now ≢ ErrorKind.DisplayHelp
         → kind_of error.now ≢ ErrorKind.DisplayVersion → exit_status c ≡ MISUSED) }
 {

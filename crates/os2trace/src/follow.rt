@@ -143,7 +143,8 @@ fn front(alloc: Global, session: &Session, input: &[u8], report: &mut MemSink) -
 
 /// Whether a step is shown, by its number from 1, its process and the selector in CS.
 fn is_chosen(choice: Choice, number: u64, process: u16, cs: u16) -> bool
-    ensures { result ≡ (nat_le choice.from number && (choice.process == 0 || choice.process == process)
+    ensures { result ≡ (nat_le choice.from number
+        && (choice.process == 0 || choice.process == process)
         && (choice.selector == 0 || choice.selector == cs)) }
 {
     number >= choice.from

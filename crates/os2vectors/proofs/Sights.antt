@@ -1,9 +1,8 @@
 -- A memory with the four segments is seen as their state.
-use Rattle.std.proofs.Common.{◌≡◌, ◌∙◌, ap, sym, subst, refl, ℕ, zero, suc, Bool, true, List, [], ◌∷◌, length, arith}
+use Rattle.std.proofs.Common.{◌≡◌, ◌∙◌, ap, sym, subst, ℕ, zero, suc, true, List, [], ◌∷◌, length}
 use Rattle.std.proofs.lemmas.List.{nil_from_length}
-use Rattle.o2_isa.specs.declared.cpu.Cpu.{Cpu}
 use Rattle.o2_isa.specs.declared.cpu.Outcome.{Outcome}
-use Rattle.o2_isa.specs.View.{View, bound_registers, simple_view}
+use Rattle.o2_isa.specs.View.{View}
 use Rattle.o2_isa.specs.Steps.{State, state}
 use Rattle.o2_isa.specs.Step.{Answers, stepped}
 use Rattle.o2_isa.proofs.Views.{same_simple}

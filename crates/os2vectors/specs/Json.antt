@@ -1,5 +1,5 @@
 -- A vector as data of JSON.
-use Rattle.std.specs.Prelude.{ℕ, ◌+◌, ◌==◌, List, [], ◌∷◌, ◌++◌, codes, true, if◌then◌else◌, map}
+use Rattle.std.specs.Prelude.{ℕ, ◌+◌, ◌==◌, List, [], ◌∷◌, ◌++◌, codes, true, if◌then◌else◌}
 use Rattle.serde_json.specs.Data.{Data, number, unsigned, string, boolean, array, object, no_items, item, no_members, member}
 use Rattle.serde_json.specs.View.{items_of}
 use Rattle.o2_isa.specs.declared.cpu.Cpu.{Cpu}

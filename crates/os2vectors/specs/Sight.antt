@@ -1,6 +1,5 @@
 -- What a processor sees of a state, and what a step makes of it.
-use Rattle.std.specs.Prelude.{◌≡◌, ℕ, Bool, true, List, [], ◌∷◌, slice_index_or, ◌==◌, ◌+◌, take, drop, codes, Option, Some, None, if◌then◌else◌}
-use Rattle.o2_isa.specs.declared.cpu.Cpu.{Cpu}
+use Rattle.std.specs.Prelude.{◌≡◌, ℕ, true, List, [], ◌∷◌, slice_index_or, ◌==◌, ◌+◌, take, drop, codes, Option, Some, None, if◌then◌else◌}
 use Rattle.o2_isa.specs.declared.cpu.Outcome.{Outcome}
 use Rattle.o2_isa.specs.View.{Hold, bound_registers, simple_view}
 use Rattle.o2_isa.specs.Steps.{State, state}

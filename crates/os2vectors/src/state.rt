@@ -85,7 +85,8 @@ fn block(random: &mut Pcg32) -> [u8; 64] {
 fn over(bytes: &mut [u8], at: usize, part: &[u8])
     requires { at + length part.now ≤ length bytes.old }
     ensures part { take (length part.now) (drop at bytes.new) ≡ part.now }
-    ensures behind { (k : ℕ) → at + length part.now ≤ k → slice_index bytes.new k ≡ slice_index bytes.old k }
+    ensures behind { (k : ℕ) → at + length part.now ≤ k
+        → slice_index bytes.new k ≡ slice_index bytes.old k }
 {
     bytes[at..at + part.len()].copy_from_slice(part);
 }
@@ -101,7 +102,8 @@ fn with_reg(byte: u8, reg: u8) -> u8
 /// A state whose instruction begins as wanted.
 pub fn opening(random: &mut Pcg32, wanted: &Wanted) -> Snapshot
     ensures within { result.cpu.ip < 32 }
-    ensures begins { take (length wanted.now.opcode.items) (drop result.cpu.ip result.code) ≡ wanted.now.opcode.items }
+    ensures begins { take (length wanted.now.opcode.items) (drop result.cpu.ip result.code)
+        ≡ wanted.now.opcode.items }
     ensures reg { (r : ℕ) → wanted.now.reg ≡ Some r
         → slice_index result.code (result.cpu.ip + length wanted.now.opcode.items) / 8 % 8 ≡ r % 8 }
     ensures cs { result.cpu.cs ≡ 0x000F }

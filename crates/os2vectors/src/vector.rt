@@ -37,7 +37,8 @@ fn add_bytes(
     bytes: &[u8; 64],
 ) -> Result<(), AllocError>
     requires { base < 65536 }
-    ensures { OnOk result (map view out.new.items ≡ map view out.old.items ++ cells base bytes.now) }
+    ensures { OnOk result
+        (map view out.new.items ≡ map view out.old.items ++ cells base bytes.now) }
 {
     for (at, byte) in bytes.iter().enumerate() {
         out.push(byte_at(alloc, base + at as u32, *byte)?)?;
@@ -54,7 +55,8 @@ fn add_changes(
     new: &[u8; 64],
 ) -> Result<(), AllocError>
     requires { base < 65536 }
-    ensures { OnOk result (map view out.new.items ≡ map view out.old.items ++ changes base old.now new.now) }
+    ensures { OnOk result
+        (map view out.new.items ≡ map view out.old.items ++ changes base old.now new.now) }
 {
     for (at, byte) in new.iter().enumerate() {
         if *byte != old[at] {
