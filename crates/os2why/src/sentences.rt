@@ -1,5 +1,6 @@
 // Refusals in sentences.
 ghost use Rattle.std.specs.Prelude.{◌≡◌, ◌≤◌, ◌<◌, ◌++◌, ℕ, List, length, codes, string_bytes, None, IfOk, IfSome, IsSome};
+ghost use Rattle.o2_cli.specs.StatusTexts.{module_reason, machine_text, key_text as text_of_key};
 
 use o2_base::{Bytes, Key, MachineFault, ModuleFault, SERVICE_COUNT, Which, is_built, service_at};
 use o2_open::OpenFault;
@@ -125,8 +126,45 @@ fn module_sentence(alloc: Global, name: &Bytes, asked: bool) -> Result<String, A
     }
 }
 
-/// Why a module is refused, with every field of the refusal. `asked` says that a process asks for it, and no file has it.
+/// The number of a reason, as `os2run` tells it.
+fn reason(fault: &ModuleFault) -> &'static str
+    ensures { result.now ≡ module_reason fault.now }
+{
+    match fault {
+        ModuleFault::NotMz => "1",
+        ModuleFault::NotNe => "2",
+        ModuleFault::Truncated(_) => "3",
+        ModuleFault::NotOs2 => "4",
+        ModuleFault::LinkErrors => "5",
+        ModuleFault::BadTable(_) => "6",
+        ModuleFault::OutOfProfile(_) => "7",
+        ModuleFault::BadChain(_, _) => "8",
+        ModuleFault::BadTarget(_, _) => "9",
+        ModuleFault::NoModule(_) => "10",
+        ModuleFault::NoOrdinal(_, _) => "11",
+        ModuleFault::NoName(_, _) => "12",
+        ModuleFault::TwoModules(_) => "13",
+        ModuleFault::NoSelector(_) => "14",
+        ModuleFault::NoStack => "15",
+        ModuleFault::NoEntry => "16",
+        ModuleFault::NoSegment => "17",
+    }
+}
+
+/// Why a module is refused: the reason's number, and a sentence with every field of the refusal.
+#[tactic(auto, using(std::proofs::Common::append_assoc))]
 pub fn sentence(alloc: Global, fault: &ModuleFault, asked: bool) -> Result<String, AllocError>
+    ensures { IfOk result (λ s. (why : List ℕ) × (0 < length why)
+        × (string_bytes s ≡ codes "reason " ++ (module_reason fault.now ++ (codes ": " ++ why)))) }
+{
+    let number = reason(fault);
+    let why = words(alloc, fault, asked)?;
+    let text = format!(in alloc; "reason {number}: {why}")?;
+    Ok(text)
+}
+
+/// Why a module is refused, with every field of the refusal. `asked` says that a process asks for it, and no file has it.
+fn words(alloc: Global, fault: &ModuleFault, asked: bool) -> Result<String, AllocError>
     ensures { IfOk result (λ s. 0 < length (string_bytes s)) }
 {
     match fault {
@@ -195,7 +233,9 @@ pub fn sentence(alloc: Global, fault: &ModuleFault, asked: bool) -> Result<Strin
 }
 
 /// A key as the machine file spells it, with its table.
-pub fn key_text(key: Key) -> &'static str {
+pub fn key_text(key: Key) -> &'static str
+    ensures { result.now ≡ text_of_key key }
+{
     match key {
         Key::File => "file",
         Key::Memory => "memory",
@@ -256,8 +296,32 @@ fn limits(key: Key) -> &'static str {
     }
 }
 
-/// Why a machine file is refused.
+/// The number of a reason, with its key.
+fn machine_reason(alloc: Global, fault: MachineFault) -> Result<String, AllocError>
+    ensures { IfOk result (λ s. string_bytes s ≡ machine_text fault) }
+{
+    match fault {
+        MachineFault::BadToml => String::from_str(alloc, "1 "),
+        MachineFault::Missing(key) => format!(in alloc; "2 {}", key_text(key)),
+        MachineFault::BadValue(key) => format!(in alloc; "3 {}", key_text(key)),
+        MachineFault::Limit(key) => format!(in alloc; "4 {}", key_text(key)),
+    }
+}
+
+/// Why a machine file is refused: the reason's number with the key, and a sentence.
+#[tactic(auto, using(std::proofs::Common::append_assoc))]
 pub fn machine_sentence(alloc: Global, fault: MachineFault) -> Result<String, AllocError>
+    ensures { IfOk result (λ s. (why : List ℕ) × (0 < length why)
+        × (string_bytes s ≡ codes "reason " ++ (machine_text fault ++ (codes ": " ++ why)))) }
+{
+    let number = machine_reason(alloc, fault)?;
+    let why = machine_words(alloc, fault)?;
+    let text = format!(in alloc; "reason {number}: {why}")?;
+    Ok(text)
+}
+
+/// Why a machine file is refused.
+fn machine_words(alloc: Global, fault: MachineFault) -> Result<String, AllocError>
     ensures { IfOk result (λ s. 0 < length (string_bytes s)) }
 {
     match fault {
