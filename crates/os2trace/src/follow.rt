@@ -159,11 +159,7 @@ fn show(rt: &HostRuntime, ahead: &Runner, behind: &Runner, before: &Before) -> a
     };
     show_step(rt, before, if state == 0 { Some(&after) } else { None })?;
     if state == 2 {
-        if let Some((vector, code)) = trap_of(
-            rt.alloc(),
-            &behind.machine.space.plain,
-            before,
-        )? {
+        if let Some((vector, code)) = trap_of(rt.alloc(), &behind.machine.space.plain, before)? {
             show_trap(rt, before, vector, code)?;
         }
     }
