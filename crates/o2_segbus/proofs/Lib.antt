@@ -9,3 +9,4 @@ pub mod Told
 pub mod Attempts
 pub mod Ages
 pub mod Cleans
+pub mod Keeping

@@ -24,7 +24,8 @@ pub record KeepsMaps (old new : Maps) : Type 0 where
 
 -- clean segments go on to have the bytes of their images, where no two segments have one age and no clean one may be written
 pub record KeepsClean (old : Shelf) (m : Maps) (new : Shelf) : Type 0 where
-  pub clean : (pic : Pictures) → AreAged old → AreGuarded old m → AreClean old pic → AreClean new pic
+  pub clean : (pic : Pictures) → AreAged old → AreGuarded old m
+      → AreClean old pic → AreClean new pic
 
 -- a process may take a step: it is one, each held segment is live, the descriptors agree with the store, and what the segment
 -- registers name is in memory

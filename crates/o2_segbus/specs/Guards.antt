@@ -9,7 +9,8 @@ use Rattle.o2_segbus.specs.Settled.{descriptor_at}
 
 -- no two live segments have one age
 abbrev pub AreAged : Shelf → Type 0
-AreAged s = (j k : ℕ) → IsSome (slot_at s.entries j) → IsSome (slot_at s.entries k) → (entry s j).age ≡ (entry s k).age → j ≡ k
+AreAged s = (j k : ℕ) → IsSome (slot_at s.entries j) → IsSome (slot_at s.entries k)
+    → (entry s j).age ≡ (entry s k).age → j ≡ k
 
 -- each held segment is live
 abbrev pub AreLive : Shelf → Maps → Type 0
@@ -17,4 +18,5 @@ AreLive s m = (pid i : ℕ) (h : Held) → held_at m pid i ≡ Some h → IsSome
 
 -- what is held as data that can be written isn't clean
 abbrev pub AreGuarded : Shelf → Maps → Type 0
-AreGuarded s m = (pid i : ℕ) (h : Held) → held_at m pid i ≡ Some h → is_writable (rights_of (descriptor_at m pid i).access) ≡ true → (entry s h.id.key).attr.clean ≡ false
+AreGuarded s m = (pid i : ℕ) (h : Held) → held_at m pid i ≡ Some h
+    → is_writable (rights_of (descriptor_at m pid i).access) ≡ true → (entry s h.id.key).attr.clean ≡ false

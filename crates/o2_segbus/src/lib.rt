@@ -11,7 +11,7 @@ mod rules;
 mod seg_bus;
 mod step;
 
-pub use laws::ages_are_names;
+pub use laws::{ages_are_names, frames_keep};
 pub use registers::{SegmentRegister, SegmentRegisters};
 pub use seg_bus::SegBus;
 pub use step::attempt;
