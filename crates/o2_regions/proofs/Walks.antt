@@ -70,7 +70,7 @@ down_end held b place at none d low = record {
 }
 
 -- a segment's holders stand in the list of its key
-of_in : (id : SegId) (o : Option Held) → is_in (list_of id.key) o ≡ false → is_of id o ≡ false
+pub of_in : (id : SegId) (o : Option Held) → is_in (list_of id.key) o ≡ false → is_of id o ≡ false
 of_in id None e = refl
 of_in id (Some h) e = false_from_ne_true (is_of id (Some h)) (λ t.
     (let k = eqb-true h.id.key id.key (and_parts (eqb h.id.key id.key) (eqb h.id.age id.age) t).0 in

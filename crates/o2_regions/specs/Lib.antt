@@ -4,3 +4,4 @@ pub mod Kept
 pub mod Words
 pub mod Links
 pub mod Lending
+pub mod Described

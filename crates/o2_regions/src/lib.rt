@@ -3,6 +3,7 @@
 
 mod answer;
 mod bits;
+mod describing;
 mod ends;
 mod held;
 mod laws;

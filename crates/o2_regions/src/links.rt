@@ -15,8 +15,8 @@ use std::alloc::{AllocError, Global};
 /// How many lists there are.
 pub(crate) const LISTS: u32 = 65536;
 
-// The head of a key's list.
-fn head_of(places: usize, key: u32) -> usize
+/// The head of a key's list.
+pub(crate) fn head_of(places: usize, key: u32) -> usize
     requires { places < 2 ^ 31 }
     ensures { result ≡ places + list_of key }
 {
@@ -113,8 +113,8 @@ pub(crate) fn kth_place(held: &[Option<Held>], next: &[u32], id: SegId, k: u32) 
     None
 }
 
-// Whether what is held is that segment.
-fn is_held_as(held: Option<Held>, id: SegId) -> bool
+/// Whether what is held is that segment.
+pub(crate) fn is_held_as(held: Option<Held>, id: SegId) -> bool
     ensures { result ≡ is_of id held }
 {
     match held {

@@ -5,12 +5,14 @@ ghost use Rattle.std.specs.Option.{is_some};
 ghost use Rattle.o2_desc.specs.Bytes.{empty};
 ghost use Rattle.o2_desc.specs.Choice.{IsRun, chosen};
 ghost use Rattle.o2_regions.specs.declared.held.Region.{Region as RegionThere};
+ghost use Rattle.o2_regions.specs.Described.{Describes};
 ghost use Rattle.o2_regions.specs.Kept.{AreKept};
 ghost use Rattle.o2_regions.specs.Lending.{LendsTable};
 ghost use Rattle.o2_regions.specs.Links.{holders, pair_at};
 ghost use Rattle.o2_regions.specs.Maps.{IsProcess, IsRegion, base_of, descriptor_of, dropped, end_of, first_of, granted, held_at, holds_of, is_held, is_reserved, is_taken, left_of, nothing, place, region_of, table_of, with_reserved};
 
 use crate::bits::Bits;
+use crate::describing::describe;
 use crate::links::{kth_place, link, unlink, unlinked};
 use crate::{Held, Region};
 use o2_base::NoMemory;
@@ -61,8 +63,8 @@ fn place_of(pid: u16, index: u16) -> usize
     pid as usize * INDEXES as usize + index as usize
 }
 
-// The process and the index of a place.
-fn pair_of(place: usize) -> (u16, u16)
+/// The process and the index of a place.
+pub(crate) fn pair_of(place: usize) -> (u16, u16)
     requires { place < 2 ^ 29 }
     ensures { result ≡ pair_at place }
 {
@@ -102,8 +104,8 @@ fn end_index(region: Region) -> u16
     }
 }
 
-// Writes the descriptor of an index where the process's table has one.
-fn set_entry(tables: &mut Vec<Table>, pid: u16, index: u16, d: Descriptor)
+/// Writes the descriptor of an index where the process's table has one.
+pub(crate) fn set_entry(tables: &mut Vec<Table>, pid: u16, index: u16, d: Descriptor)
     requires { pid < length tables.old.items }
     ensures { tables.new.items ≡ slice_set tables.old.items pid (slice_set (slice_index_or tables.old.items pid []) index d) }
 {
@@ -315,6 +317,15 @@ impl Regions {
     {
         self.marks
             .lowest_marked(pid as usize * INDEXES as usize, from, INDEXES)
+    }
+
+    /// Says in each descriptor under which a segment is held that it has this limit and is in memory from this base on, or
+    /// that it isn't in memory. The rights to it, and whether it was accessed, stay; so do all other descriptors. The work
+    /// is that of going over those who hold the segment.
+    pub fn describe(&mut self, id: SegId, base: Option<u32>, limit: u16)
+        ensures { Describes self.old self.new id base limit }
+    {
+        describe(&self.held, &self.next, &mut self.tables, id, base, limit);
     }
 
     /// The table of a process's descriptors. What is written there is the caller's, and nothing else changes.

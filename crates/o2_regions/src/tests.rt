@@ -253,6 +253,49 @@ fn runs_in_a_fragmented_region(rt: HostRuntime) -> Result<(), Fail> {
     Ok(())
 }
 
+// The entry of a process's table where it holds something.
+fn entry_at(regions: &Regions, pid: u16, index: u16) -> Option<Descriptor> {
+    if !is_process(regions, pid) || index >= 8192 {
+        return None;
+    }
+    regions.descriptor(pid, index)
+}
+
+#[test]
+fn all_who_hold_a_segment_are_told(rt: HostRuntime) -> Result<(), Fail> {
+    let mut regions = Regions::new(rt.alloc(), 3)?;
+    share_all(&mut regions, 5);
+    assert_eq!(rt; hold(&mut regions, 2, 5, 1), Some(1));
+    assert_eq!(rt; hold(&mut regions, 2, 65541, 1), Some(2));
+    assert_eq!(rt; hold(&mut regions, 3, 6, 1), Some(1));
+    let id = SegId { key: 5, age: 7 };
+    for (base, access) in [(Some(0x1230), 0x80), (None, 0), (Some(0x40), 0x80)] {
+        regions.describe(id, base, 0x0FFF);
+        for (pid, index, rights) in [
+            (1, 4096, 0x7A),
+            (2, 1, 0x72),
+            (2, 4096, 0x7A),
+            (3, 4096, 0x7A),
+        ] {
+            let told = Descriptor {
+                base: base.unwrap_or(0),
+                limit: 0x0FFF,
+                access: rights + access,
+            };
+            assert_eq!(rt; entry_at(&regions, pid, index), Some(told));
+        }
+        for (pid, index) in [(2, 2), (3, 1)] {
+            let untold = Descriptor {
+                base: 0,
+                limit: 0,
+                access: 0xF2,
+            };
+            assert_eq!(rt; entry_at(&regions, pid, index), Some(untold));
+        }
+    }
+    Ok(())
+}
+
 #[test]
 fn ended_processes_stay_ended(rt: HostRuntime) -> Result<(), Fail> {
     let mut ends = Ends::new(rt.alloc(), 3)?;
