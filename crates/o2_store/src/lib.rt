@@ -9,6 +9,7 @@ mod evicting;
 mod fitting;
 mod keys;
 mod moving;
+mod present;
 mod showing;
 mod sizing;
 mod store;

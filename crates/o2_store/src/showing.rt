@@ -65,7 +65,7 @@ impl Store {
     }
 
     // The age of a number's segment, and 0 where it has none.
-    fn age_of(&self, key: u32) -> u64
+    pub(crate) fn age_of(&self, key: u32) -> u64
         ensures { result ≡ (entry self.now key).age }
     {
         match self.entries.get(key) {
