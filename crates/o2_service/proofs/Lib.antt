@@ -1,0 +1,4 @@
+pub mod Amounts
+pub mod Among
+pub mod Fitting
+pub mod Placing

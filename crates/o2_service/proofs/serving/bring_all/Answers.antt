@@ -1,0 +1,76 @@
+use Rattle.std.proofs.Common.{◌<◌, ◌∙◌, ℕ, Bool, arith, rules, length, get_or, subst, ap}
+use Rattle.std.proofs.lemmas.Option.{slice_get-get_or}
+use Rattle.o2_place.specs.declared.seg_id.SegId.{SegId}
+use Rattle.o2_store.specs.Pictures.{picture}
+use Rattle.o2_store.specs.Shelf.{KeepsAll}
+use Rattle.o2_store.proofs.Keeping.{keeps_trans, tables_trans, locked_stay}
+use Rattle.o2_service.specs.Needs.{all_needed}
+use Rattle.o2_service.proofs.Among.{all_live_same, loads_after, needs_at, only_trans, present_more, same_needed, stays_trans}
+use Rattle.o2_service.proofs.serving.bring_all.Goals as goal
+
+pub bring_one-requires-clause-among : goal.bring_one-requires-clause-among
+bring_one-requires-clause-among g c =
+    let need = c.args.need.now in
+    let k = c.loop-k.k in
+    let d : SegId × ℕ = (record { key = 0; age = 0 }, 0) in
+    let l : k < length need = rw c.pairs-pairs.ensures.pairs at c.loop-k-test.true in
+    rw c.pairs-pairs.ensures.pairs (needs_at need k (get_or need k d) (slice_get-get_or need k d l))
+
+pub returns-in_default : goal.returns-in_default
+returns-in_default g c =
+    let S = g.S.SwapDevice in
+    let pic = picture c.args.images.now in
+    let need = c.args.need.now in
+    let s = c.args.store.now in
+    let t = c.loop-k.store in
+    let u = c.bring_one.new.store in
+    let i = c.loop-k.invariant in
+    let e = c.bring_one.ensures in
+    record {
+      keeps = keeps_trans (S.told c.args.swap.now) pic s t u (S.block c.args.swap.now) (S.block c.loop-k.swap) (S.block c.bring_one.new.swap) i.keeps
+          (subst (λ (x : Bool). KeepsAll x pic t (S.block c.loop-k.swap) u (S.block c.bring_one.new.swap)) i.told e.keeps);
+      clean = e.clean;
+      device = (e.device.0 ∙ i.blocks, e.device.1 ∙ i.told);
+      map = e.map ∙ i.map;
+      stays = stays_trans need s t u i.stays e.stays;
+      only = only_trans need s t u i.only e.only;
+      locked = locked_stay s u c.law-in_default.ensures.shelf (tables_trans s t u i.keeps.tables e.keeps.tables);
+      here = λ q. absurd (c.in_default.not-Here q);
+      no_room = λ q. absurd (e.never q);
+      always_no_room = λ l. absurd (let a = ap (all_needed s) c.pairs-pairs.ensures.pairs in omega (arith, a, l, c.amount.ensures, c.memory_size.ensures, c.if-memory_size-amount.false));
+      refused = λ q. absurd (e.never q);
+      loads = λ q. loads_after s t i.keeps.tables i.map (e.loads q);
+      faults = omega (arith, i.faults, e.faults);
+      cause = search rules;
+    }
+
+pub loop-k-preserved : goal.loop-k-preserved
+loop-k-preserved g c =
+    let S = g.S.SwapDevice in
+    let pic = picture c.args.images.now in
+    let need = c.args.need.now in
+    let s = c.args.store.now in
+    let t = c.loop-k.store in
+    let u = c.bring_one.new.store in
+    let i = c.loop-k.invariant in
+    let e = c.bring_one.ensures in
+    let k = c.loop-k.k in
+    let d : SegId × ℕ = (record { key = 0; age = 0 }, 0) in
+    let l : k < length need = rw c.pairs-pairs.ensures.pairs at c.loop-k-test.true in
+    let q = e.keeps.tables in
+    let n = same_needed t u need q in
+    record {
+      keeps = keeps_trans (S.told c.args.swap.now) pic s t u (S.block c.args.swap.now) (S.block c.loop-k.swap) (S.block c.bring_one.new.swap) i.keeps
+          (subst (λ (x : Bool). KeepsAll x pic t (S.block c.loop-k.swap) u (S.block c.bring_one.new.swap)) i.told e.keeps);
+      clean = e.clean;
+      blocks = e.device.0 ∙ i.blocks;
+      told = e.device.1 ∙ i.told;
+      map = e.map ∙ i.map;
+      live = all_live_same t u need q i.live;
+      pictured = λ j m seg x. i.pictured j m seg ((q.same j).image (m, seg) x);
+      stays = stays_trans need s t u i.stays e.stays;
+      only = only_trans need s t u i.only e.only;
+      here = present_more t u need k (get_or need k d) i.here e.stays (slice_get-get_or need k d l) (rw c.pairs-pairs.ensures.pairs at (e.here c.in-Here.is));
+      fits = omega (arith, n, q.size, i.fits);
+      faults = omega (arith, i.faults, e.faults);
+    }

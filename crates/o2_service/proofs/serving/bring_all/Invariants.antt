@@ -1,0 +1,24 @@
+use Rattle.std.proofs.Common.{◌≡◌, ◌≤◌}
+use Rattle.o2_swapmap.specs.Piles.{all_of}
+use Rattle.o2_store.specs.Pictures.{picture, HasPicture}
+use Rattle.o2_store.specs.Shelf.{AreClean, HasAll, KeepsAll}
+use Rattle.o2_service.specs.Needs.{AreLive, ArePresent, OnlyNeededComes, Stays, all_needed}
+use Rattle.o2_service.proofs.serving.bring_all.Given as goal
+
+abbrev pub invariant-loop-k : goal.invariant-loop-k
+invariant-loop-k g l =
+    let S = g.S.SwapDevice in
+    record {
+      keeps : KeepsAll (S.told l.initial.swap) (picture l.images) l.initial.store (S.block l.initial.swap) l.store (S.block l.swap);
+      clean : AreClean l.store (picture l.images);
+      blocks : S.blocks l.swap ≡ S.blocks l.initial.swap;
+      told : S.told l.swap ≡ S.told l.initial.swap;
+      map : all_of l.store.swap ≡ all_of l.initial.store.swap;
+      live : AreLive l.store l.need;
+      pictured : HasAll (HasPicture l.images) l.store;
+      stays : Stays l.need l.initial.store l.store;
+      only : OnlyNeededComes l.need l.initial.store l.store;
+      here : ArePresent l.store l.need l.k;
+      fits : all_needed l.store l.need ≤ l.store.places.size;
+      faults : S.faults l.initial.swap ≤ S.faults l.swap;
+    }

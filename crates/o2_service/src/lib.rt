@@ -1,0 +1,15 @@
+//! What a step of a process needs in memory, how it comes there, and the descriptors that say so.
+#![tactic(auto)]
+
+mod amount;
+mod need;
+mod serving;
+mod settling;
+
+pub use need::Need;
+pub use o2_segbus::SegBus;
+pub use serving::{Served, serve};
+pub use settling::{settle, settle_one};
+
+#[cfg(test)]
+mod tests;

@@ -1,0 +1,193 @@
+// What is needed comes into memory, and the descriptors say so.
+ghost use Rattle.std.specs.Prelude.{◌≡◌, ℕ, ◌+◌, ◌<◌, ◌≤◌, length, true, IsSome};
+ghost use Rattle.o2_outer.specs.Texts.{Rose};
+ghost use Rattle.o2_segbus.specs.Settled.{IsSettled};
+ghost use Rattle.o2_swapmap.specs.Piles.{all_of};
+ghost use Rattle.o2_store.specs.Loads.{live_load, swap_load};
+ghost use Rattle.o2_store.specs.Pictures.{picture, HasPicture};
+ghost use Rattle.o2_store.specs.Shelf.{AreClean, HasAll, KeepsAll, entry, entry_of, place_of};
+ghost use Rattle.o2_service.specs.Needs.{AreLive, ArePresent, OnlyNeededComes, Stays, all_needed, needs};
+ghost use Rattle.o2_service.specs.Told.{IsHeldWell, OnlyTables};
+
+use crate::amount::{amount, are_here};
+use crate::need::Need;
+use crate::settling::{settle_present, withdraw};
+use o2_image::Images;
+use o2_outer::SwapDevice;
+use o2_place::SegId;
+use o2_regions::Regions;
+use o2_store::{Brought, Store};
+
+/// What a call that brings in all that is needed came to.
+#[derive(Clone, Copy, Debug, PartialEq, Eq)]
+pub enum Served {
+    /// All that is needed is in memory.
+    Here,
+    /// What is needed and what is locked is more than the memory.
+    NoRoom,
+    /// A segment that would have to leave the memory lacks more swap blocks than are free.
+    SwapFull,
+    /// The swap device failed.
+    SwapFault,
+}
+
+/// Brings what is needed into memory together, and says in all descriptors where segments are now. What is needed or locked
+/// and was in memory stays there, and nothing else comes in; so each that is needed comes in once at most. Whatever the
+/// answer, each segment keeps its bytes, its size and its attributes, and all descriptors agree with the store.
+///
+/// Where nothing is missing, nothing changes, and the work is that of looking each needed segment up. Otherwise it is that
+/// of going over those who hold a segment that was or is in memory, beside the copies.
+pub fn serve<S: SwapDevice>(
+    need: &Need,
+    store: &mut Store,
+    regions: &mut Regions,
+    images: &Images,
+    swap: &mut S,
+) -> Served
+    requires live { AreLive store.old need.now }
+    requires held { IsHeldWell store.old regions.old }
+    requires settled { IsSettled store.old regions.old }
+    requires pictures { HasAll (HasPicture images.now) store.old }
+    requires clean { AreClean store.old (picture images.now) }
+    requires device { all_of store.old.swap ≤ S.blocks swap.old }
+
+    ensures keeps { KeepsAll (S.told swap.old) (picture images.now)
+        store.old (S.block swap.old) store.new (S.block swap.new) }
+    ensures clean { AreClean store.new (picture images.now) }
+    ensures device { (S.blocks swap.new ≡ S.blocks swap.old)
+        × (S.told swap.new ≡ S.told swap.old) }
+    ensures map { all_of store.new.swap ≡ all_of store.old.swap }
+    ensures maps { OnlyTables regions.old regions.new }
+    ensures settled { IsSettled store.new regions.new }
+    ensures held { IsHeldWell store.new regions.new }
+    ensures stays { Stays need.now store.old store.new }
+    ensures only { OnlyNeededComes need.now store.old store.new }
+    ensures locked { (k : ℕ) → 0 < (entry store.old k).attr.lock → IsSome (place_of store.new k) }
+
+    ensures here { result ≡ Served.Here → ArePresent store.new need.now (length need.now) }
+    ensures no_room { result ≡ Served.NoRoom
+        → store.old.places.size < all_needed store.old need.now }
+    ensures always_no_room { store.old.places.size < all_needed store.old need.now
+        → result ≡ Served.NoRoom }
+    ensures refused { result ≡ Served.NoRoom → (store.new ≡ store.old) × (swap.new ≡ swap.old) }
+    ensures loads { result ≡ Served.SwapFull
+        → (all_of store.old.swap < swap_load store.old)
+        × (store.old.places.size < live_load store.old) }
+    ensures faults { S.faults swap.old ≤ S.faults swap.new }
+    ensures cause { result ≡ Served.SwapFault → Rose (S.faults swap.old) (S.faults swap.new) }
+{
+    store.law();
+    if are_here(need.pairs(), store) {
+        return Served::Here;
+    }
+    withdraw(store, regions);
+    let served = bring_all(need, store, images, swap);
+    settle_present(store, regions);
+    served
+}
+
+// Brings what is needed into memory together, where it isn't there yet.
+pub(crate) fn bring_all<S: SwapDevice>(
+    need: &Need,
+    store: &mut Store,
+    images: &Images,
+    swap: &mut S,
+) -> Served
+    requires live { AreLive store.old need.now }
+    requires pictures { HasAll (HasPicture images.now) store.old }
+    requires clean { AreClean store.old (picture images.now) }
+    requires device { all_of store.old.swap ≤ S.blocks swap.old }
+
+    ensures keeps { KeepsAll (S.told swap.old) (picture images.now)
+        store.old (S.block swap.old) store.new (S.block swap.new) }
+    ensures clean { AreClean store.new (picture images.now) }
+    ensures device { (S.blocks swap.new ≡ S.blocks swap.old)
+        × (S.told swap.new ≡ S.told swap.old) }
+    ensures map { all_of store.new.swap ≡ all_of store.old.swap }
+    ensures stays { Stays need.now store.old store.new }
+    ensures only { OnlyNeededComes need.now store.old store.new }
+    ensures locked { (k : ℕ) → 0 < (entry store.old k).attr.lock → IsSome (place_of store.new k) }
+
+    ensures here { result ≡ Served.Here → ArePresent store.new need.now (length need.now) }
+    ensures no_room { result ≡ Served.NoRoom
+        → store.old.places.size < all_needed store.old need.now }
+    ensures always_no_room { store.old.places.size < all_needed store.old need.now
+        → result ≡ Served.NoRoom }
+    ensures refused { result ≡ Served.NoRoom → (store.new ≡ store.old) × (swap.new ≡ swap.old) }
+    ensures loads { result ≡ Served.SwapFull
+        → (all_of store.old.swap < swap_load store.old)
+        × (store.old.places.size < live_load store.old) }
+    ensures faults { S.faults swap.old ≤ S.faults swap.new }
+    ensures cause { result ≡ Served.SwapFault → Rose (S.faults swap.old) (S.faults swap.new) }
+{
+    store.law();
+    let pairs = need.pairs();
+    if memory_size(store) < amount(pairs, store) {
+        return Served::NoRoom;
+    }
+    for k in 0..pairs.len() {
+        let (id, _) = pairs[k];
+        match bring_one(id, need, store, images, swap) {
+            Served::Here => {}
+            answer => {
+                store.law();
+                return answer;
+            }
+        }
+    }
+    store.law();
+    Served::Here
+}
+
+// How many bytes the memory has.
+fn memory_size(store: &Store) -> u64
+    ensures { result ≡ store.now.places.size }
+{
+    store.law();
+    store.memory().len() as u64
+}
+
+// Brings in a segment that is needed, where it isn't in memory yet.
+fn bring_one<S: SwapDevice>(
+    id: SegId,
+    need: &Need,
+    store: &mut Store,
+    images: &Images,
+    swap: &mut S,
+) -> Served
+    requires live { IsSome (entry_of store.old id) }
+    requires all { AreLive store.old need.now }
+    requires among { needs need.now id.key ≡ true }
+    requires fits { all_needed store.old need.now ≤ store.old.places.size }
+    requires pictures { HasAll (HasPicture images.now) store.old }
+    requires clean { AreClean store.old (picture images.now) }
+    requires device { all_of store.old.swap ≤ S.blocks swap.old }
+
+    ensures keeps { KeepsAll (S.told swap.old) (picture images.now)
+        store.old (S.block swap.old) store.new (S.block swap.new) }
+    ensures clean { AreClean store.new (picture images.now) }
+    ensures device { (S.blocks swap.new ≡ S.blocks swap.old)
+        × (S.told swap.new ≡ S.told swap.old) }
+    ensures map { all_of store.new.swap ≡ all_of store.old.swap }
+    ensures stays { Stays need.now store.old store.new }
+    ensures only { OnlyNeededComes need.now store.old store.new }
+
+    ensures here { result ≡ Served.Here → IsSome (place_of store.new id.key) }
+    ensures never { result ≡ Served.NoRoom → ⊥ }
+    ensures loads { result ≡ Served.SwapFull
+        → (all_of store.old.swap < swap_load store.old)
+        × (store.old.places.size < live_load store.old) }
+    ensures faults { S.faults swap.old ≤ S.faults swap.new }
+    ensures cause { result ≡ Served.SwapFault → Rose (S.faults swap.old) (S.faults swap.new) }
+{
+    if store.base(id).is_some() {
+        return Served::Here;
+    }
+    match store.bring(id, need.ids(), images, swap) {
+        Brought::Here => Served::Here,
+        Brought::SwapFull => Served::SwapFull,
+        Brought::SwapFault => Served::SwapFault,
+        Brought::NoRoom => Served::NoRoom,
+        Brought::Stale => Served::NoRoom,
+    }
+}
