@@ -1,6 +1,7 @@
 -- What is left of segments that leave the memory.
 use Rattle.std.specs.Prelude.{◌≡◌, ◌≢◌, ℕ, ◌+◌, ◌-◌, ◌<◌, Some, None, IsSome, false, slice_index_or}
 use Rattle.o2_entries.specs.Tables.{slot_at}
+use Rattle.o2_place.specs.Marks.{IsVictim}
 use Rattle.o2_store.specs.Shelf.{Shelf, entry, place_of}
 
 -- the segment has no image any more, and the last byte that its blocks keep isn't zero
@@ -18,3 +19,11 @@ pub record Evicts (old new : Shelf) : Type 0 where
   pub places : (k : ℕ) → IsSome (place_of new k) → place_of new k ≡ place_of old k
   pub entries : (k : ℕ) → place_of old k ≡ None → slot_at new.entries k ≡ slot_at old.entries k
   pub written : WritesOut old new
+
+-- one segment left the memory: what the clock gives of those that aren't locked and not among the numbers
+pub record TakesVictim (old new : Shelf) : Type 0 where
+  pub number : ℕ
+  pub victim : IsVictim old.turns.marks old.keys number
+  pub was : IsSome (place_of old number)
+  pub out : place_of new number ≡ None
+  pub others : (k : ℕ) → k ≢ number → place_of new k ≡ place_of old k

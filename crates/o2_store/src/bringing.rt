@@ -4,10 +4,10 @@ ghost use Rattle.std.specs.Option.{IfNone};
 ghost use Rattle.o2_entries.specs.Tables.{slot_at};
 ghost use Rattle.o2_outer.specs.Texts.{Rose};
 ghost use Rattle.o2_place.specs.Layout.{used};
-ghost use Rattle.o2_place.specs.Marks.{IsKept, IsOutside};
+ghost use Rattle.o2_place.specs.Marks.{IsKept, IsOutside, IsVictim, place_in};
 ghost use Rattle.o2_swapmap.specs.Piles.{all_of};
 ghost use Rattle.o2_store.specs.Shelf.{Shelf, Pictures, KeepsAll, AreClean, SameTables, place_of, entry, entry_of, rounded, HasAll, IsFull};
-ghost use Rattle.o2_store.specs.Leaving.{WritesOut, Evicts};
+ghost use Rattle.o2_store.specs.Leaving.{WritesOut, Evicts, TakesVictim};
 ghost use Rattle.o2_store.specs.Loads.{swap_load, live_load};
 ghost use Rattle.o2_store.specs.Needs.{has, all_need, named_in, all_wanted};
 ghost use Rattle.o2_store.specs.Pictures.{picture, HasPicture};
@@ -32,6 +32,8 @@ impl Store {
         ensures shelf { self.new ≡ record self.old { turns = self.new.turns } }
         ensures some { IfSome result (λ v. (v < length self.old.entries) × IsSome (place_of self.old v) × ((entry self.old v).attr.lock ≡ 0) × IsOutside self.old.keys v) }
         ensures none { IfNone result ((k : ℕ) → IsSome (place_of self.old k) → (entry self.old k).attr.lock ≡ 0 → IsKept self.old.keys k) }
+        ensures victim { IfSome result (λ v. IsVictim self.old.turns.marks self.old.keys v) }
+        ensures hand { IfSome result (λ v. self.new.turns.hand ≡ place_in self.old.turns v + 1) }
     {
         self.clock.victim(&self.keys)
     }
@@ -49,6 +51,7 @@ impl Store {
         ensures locked { (k : ℕ) → 0 < (entry self.old k).attr.lock → place_of self.new k ≡ place_of self.old k }
         ensures none { (k : ℕ) → place_of self.old k ≡ None → place_of self.new k ≡ None }
         ensures evicts { Evicts self.old self.new }
+        ensures victim { result ≡ Brought.Here → TakesVictim self.old self.new }
         ensures fewer { result ≡ Brought.Here → length self.new.places.ranges < length self.old.places.ranges }
         ensures stays { (result ≡ Brought.Here → ⊥) → self.new.places ≡ self.old.places }
         ensures no_room { result ≡ Brought.NoRoom → (k : ℕ) → IsSome (place_of self.new k) → (entry self.new k).attr.lock ≡ 0 → IsKept self.new.keys k }

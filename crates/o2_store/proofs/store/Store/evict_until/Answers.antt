@@ -1,5 +1,6 @@
-use Rattle.std.proofs.Common.{◌∙◌, subst, Bool, rules, arith, ap}
+use Rattle.std.proofs.Common.{List, ℕ, ◌∙◌, sym, subst, Bool, rules, arith, ap}
 use Rattle.o2_place.specs.Layout.{used}
+use Rattle.o2_place.specs.Marks.{IsKept}
 use Rattle.o2_store.specs.Shelf.{Shelf, KeepsAll}
 use Rattle.o2_store.proofs.Keeping.{keeps_trans, tables_trans}
 use Rattle.o2_store.proofs.Leaving.{evicts_trans}
@@ -48,7 +49,7 @@ loop-self-preserved g c =
       told = v.ensures.device.1 ∙ i.told;
       map = v.ensures.map ∙ i.map;
       keys = v.ensures.keys ∙ i.keys;
-      kept = search rules;
+      kept = λ k q. v.ensures.kept k (subst (λ (x : List ℕ). IsKept x k) (sym i.keys) q) ∙ i.kept k q;
       locked = search rules;
       none = search rules;
       evicts = evicts_trans s t v.new.self i.tables i.evicts v.ensures.evicts;
