@@ -138,8 +138,12 @@ loaded_is s m pid sel n t p =
     go (is_null sel) (is_local sel) (held_at m pid (sel / 8)) refl (subst (λ (o : Option Hold). present_or_none (present_in s) o ≡ true) (bound_is m pid sel) p)
   where
     go : (a b : Bool) (o : Option Held) → held_at m pid (sel / 8) ≡ o → present_or_none (present_in s) (option_map (hold_of m pid (sel / 8)) (cond a None (cond b o None))) ≡ true
-        → IsLoadedAs s (rights_of (descriptor_at m pid (sel / 8)).access) (cond a None (cond b o None)) (cond a (record { base = 0; limit =
-            0; access = 0 }) (or_empty (cond b (descriptor_of o (table_of m pid) (sel / 8)) None)))
+        → IsLoadedAs s (rights_of (descriptor_at m pid (sel / 8)).access) (cond a None (cond b o None)) (cond a (record {
+          base = 0;
+          limit =
+              0;
+          access = 0;
+        }) (or_empty (cond b (descriptor_of o (table_of m pid) (sel / 8)) None)))
     go true b o e q = refl
     go false false o e q = refl
     go false true None e q = refl

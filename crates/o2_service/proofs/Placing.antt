@@ -242,12 +242,14 @@ withdraw_more s m n k id limit a w t live l key once size =
     let rs = s.places.ranges in
     let r = range_at rs k in
     told_more (λ j. find_in (drop k rs) j) (λ j. find_in (drop (k + 1) rs) j) s m n id None limit a w t live (λ j ne. drop_same rs k r j l
-        refl (λ e. ne (e ∙ sym key))) (sym (ap (option_map (λ (x : ℕ × ℕ). x.0)) once)) size
+    refl (λ e. ne (e ∙ sym key))) (sym (ap (option_map (λ (x : ℕ × ℕ). x.0)) once)) size
 
 -- a segment in memory is told where it is
 pub settle_more : (s : Shelf) (m n : Maps) (k : ℕ) (id : SegId) (base : Option ℕ) (limit : ℕ) → AreTold (λ j. find_in (drop (k + 1) s.places.ranges) j) s m → IsHeldWell s m → Tells m n id base limit → IsSome (entry_of s id)
-    → k < length s.places.ranges → id.key ≡ (range_at s.places.ranges k).id → place_of s id.key ≡ Some ((range_at s.places.ranges k).at,
-        (range_at s.places.ranges k).len) → base ≡ base_of (entry_of s id) (place_of s id.key)
+    → k < length s.places.ranges → id.key ≡ (range_at s.places.ranges k).id → place_of s id.key ≡ Some (
+      (range_at s.places.ranges k).at,
+      (range_at s.places.ranges k).len,
+    ) → base ≡ base_of (entry_of s id) (place_of s id.key)
     → limit + 1 ≡ (entry s id.key).size → AreTold (λ j. find_in (drop k s.places.ranges) j) s n
 settle_more s m n k id base limit a w t live l key place there size =
     let rs = s.places.ranges in
@@ -255,7 +257,7 @@ settle_more s m n k id base limit a w t live l key place there size =
     let b : base ≡ option_map (λ (x : ℕ × ℕ). x.0) (place_of s id.key) = there ∙ base_there (entry_of s id) (place_of s id.key) live in
     let q : find_in (drop k rs) id.key ≡ place_of s id.key = ap (find_in (drop k rs)) key ∙ drop_here rs k r l refl ∙ sym place in
     told_more (λ j. find_in (drop (k + 1) rs) j) (λ j. find_in (drop k rs) j) s m n id base limit a w t live (λ j ne. sym (drop_same rs k r
-        j l refl (λ e. ne (e ∙ sym key)))) (b ∙ ap (option_map (λ (x : ℕ × ℕ). x.0)) (sym q)) size
+    j l refl (λ e. ne (e ∙ sym key)))) (b ∙ ap (option_map (λ (x : ℕ × ℕ). x.0)) (sym q)) size
 
 -- at the first range and behind the last
 pub told_first : (s : Shelf) (m : Maps) (k : ℕ) → k ≡ 0 → IsSettled s m → AreTold (λ j. find_in (drop k s.places.ranges) j) s m

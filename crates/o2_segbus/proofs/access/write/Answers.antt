@@ -7,5 +7,8 @@ pub returns : goal.returns
 returns c =
     ap (λ (z : List ℕ). record c.args.store.now { memory = z })
     (written c.args.width c.args.store.now.memory c.lend-bytes.result.now c.put.new.bytes c.args.at c.args.value c.requires.room (ap length
-        c.lend-bytes.ensures.value ∙ (length-part c.args.store.now.memory c.args.at c.len_of.result (omega (arith, c.requires.room,
-        c.len_of.ensures.value)) ∙ c.len_of.ensures.value)) c.put.ensures)
+    c.lend-bytes.ensures.value ∙ (length-part c.args.store.now.memory c.args.at c.len_of.result (omega (
+      arith,
+      c.requires.room,
+      c.len_of.ensures.value,
+    )) ∙ c.len_of.ensures.value)) c.put.ensures)

@@ -33,26 +33,26 @@ pub returns-clause-clean : goal.returns-clause-clean
 returns-clause-clean c = record {
   clean = λ pic aged guarded clean.
       keeps_clean c.args.bus.now.store.now c.step_one.new.bus.store.now c.args.bus.now.regions.now c.step_one.new.bus.regions.now
-          c.args.bus.now.pid c.args.cpu.now c.step_one.new.cpu pic (keeps_store c.args.bus.now.store.ghost_name
-          c.step_one.new.bus.store.ghost_name c.args.bus.now.regions.ghost_name c.step_one.new.bus.regions.ghost_name
-          c.args.bus.now.store.now c.step_one.new.bus.store.now c.args.bus.now.regions.now c.step_one.new.bus.regions.now
-          c.args.bus.now.pid c.step_one.new.bus.pid (framed c.args.bus.now.store.ghost_name c.step_one.new.bus.store.ghost_name
-          c.args.bus.now.regions.ghost_name c.step_one.new.bus.regions.ghost_name c.args.bus.now.store.now c.step_one.new.bus.store.now
-          c.args.bus.now.regions.now c.step_one.new.bus.regions.now c.args.bus.now.pid c.step_one.new.bus.pid c.args.bus.now.registers
-          c.step_one.new.bus.registers c.step_one.ensures.frame)) (stepped_writes c.step_one.result (seen_state
-          c.step_one.new.bus.store.now c.step_one.new.bus.regions.now c.args.bus.now.pid c.step_one.new.cpu) (seen_state
-          c.args.bus.now.store.now c.args.bus.now.regions.now c.args.bus.now.pid c.args.cpu.now) (seen_answers c.step_one.result
-          c.args.bus.now.store.ghost_name c.step_one.new.bus.store.ghost_name c.args.bus.now.regions.ghost_name
-          c.step_one.new.bus.regions.ghost_name c.args.bus.now.store.now c.step_one.new.bus.store.now c.args.bus.now.regions.now
-          c.step_one.new.bus.regions.now c.args.bus.now.pid c.step_one.new.bus.pid c.args.bus.now.registers c.step_one.new.bus.registers
-          c.args.cpu.now c.step_one.new.cpu (framed c.args.bus.now.store.ghost_name c.step_one.new.bus.store.ghost_name
-          c.args.bus.now.regions.ghost_name c.step_one.new.bus.regions.ghost_name c.args.bus.now.store.now c.step_one.new.bus.store.now
-          c.args.bus.now.regions.now c.step_one.new.bus.regions.now c.args.bus.now.pid c.step_one.new.bus.pid c.args.bus.now.registers
-          c.step_one.new.bus.registers c.step_one.ensures.frame) (agrees_at c.args.bus.now.store.ghost_name
-          c.args.bus.now.regions.ghost_name c.args.bus.now.store.now c.args.bus.now.regions.now c.args.bus.now.pid c.args.bus.now.registers
-          c.args.cpu.now c.requires.agrees) (c.step_one.ensures.agrees (agrees_at c.args.bus.now.store.ghost_name
-          c.args.bus.now.regions.ghost_name c.args.bus.now.store.now c.args.bus.now.regions.now c.args.bus.now.pid c.args.bus.now.registers
-          c.args.cpu.now c.requires.agrees)) c.step_one.ensures.step)) c.args.bus.now.named guarded aged clean;
+      c.args.bus.now.pid c.args.cpu.now c.step_one.new.cpu pic (keeps_store c.args.bus.now.store.ghost_name
+      c.step_one.new.bus.store.ghost_name c.args.bus.now.regions.ghost_name c.step_one.new.bus.regions.ghost_name
+      c.args.bus.now.store.now c.step_one.new.bus.store.now c.args.bus.now.regions.now c.step_one.new.bus.regions.now
+      c.args.bus.now.pid c.step_one.new.bus.pid (framed c.args.bus.now.store.ghost_name c.step_one.new.bus.store.ghost_name
+      c.args.bus.now.regions.ghost_name c.step_one.new.bus.regions.ghost_name c.args.bus.now.store.now c.step_one.new.bus.store.now
+      c.args.bus.now.regions.now c.step_one.new.bus.regions.now c.args.bus.now.pid c.step_one.new.bus.pid c.args.bus.now.registers
+      c.step_one.new.bus.registers c.step_one.ensures.frame)) (stepped_writes c.step_one.result (seen_state
+      c.step_one.new.bus.store.now c.step_one.new.bus.regions.now c.args.bus.now.pid c.step_one.new.cpu) (seen_state
+      c.args.bus.now.store.now c.args.bus.now.regions.now c.args.bus.now.pid c.args.cpu.now) (seen_answers c.step_one.result
+      c.args.bus.now.store.ghost_name c.step_one.new.bus.store.ghost_name c.args.bus.now.regions.ghost_name
+      c.step_one.new.bus.regions.ghost_name c.args.bus.now.store.now c.step_one.new.bus.store.now c.args.bus.now.regions.now
+      c.step_one.new.bus.regions.now c.args.bus.now.pid c.step_one.new.bus.pid c.args.bus.now.registers c.step_one.new.bus.registers
+      c.args.cpu.now c.step_one.new.cpu (framed c.args.bus.now.store.ghost_name c.step_one.new.bus.store.ghost_name
+      c.args.bus.now.regions.ghost_name c.step_one.new.bus.regions.ghost_name c.args.bus.now.store.now c.step_one.new.bus.store.now
+      c.args.bus.now.regions.now c.step_one.new.bus.regions.now c.args.bus.now.pid c.step_one.new.bus.pid c.args.bus.now.registers
+      c.step_one.new.bus.registers c.step_one.ensures.frame) (agrees_at c.args.bus.now.store.ghost_name
+      c.args.bus.now.regions.ghost_name c.args.bus.now.store.now c.args.bus.now.regions.now c.args.bus.now.pid c.args.bus.now.registers
+      c.args.cpu.now c.requires.agrees) (c.step_one.ensures.agrees (agrees_at c.args.bus.now.store.ghost_name
+      c.args.bus.now.regions.ghost_name c.args.bus.now.store.now c.args.bus.now.regions.now c.args.bus.now.pid c.args.bus.now.registers
+      c.args.cpu.now c.requires.agrees)) c.step_one.ensures.step)) c.args.bus.now.named guarded aged clean;
 }
 
 pub returns-clause-store : goal.returns-clause-store

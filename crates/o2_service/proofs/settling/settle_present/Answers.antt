@@ -27,7 +27,7 @@ loop-k-preserved c =
     record {
       told = subst (λ (x : ℕ). AreTold (λ j. find_in (drop x s.places.ranges) j) s n) (sym after)
           (settle_more s m n at id c.base.result _ (subst (λ (x : ℕ). AreTold (λ j. find_in (drop x s.places.ranges) j) s m) before i.told)
-              w c.tell.ensures e.live (omega arith) (ap (λ (x : SegId). x.key) e.id) e.place c.base.ensures (omega (arith, size)));
+          w c.tell.ensures e.live (omega arith) (ap (λ (x : SegId). x.key) e.id) e.place c.base.ensures (omega (arith, size)));
       maps = only_told c.args.regions.now m n id _ _ i.maps c.tell.ensures;
     }
 

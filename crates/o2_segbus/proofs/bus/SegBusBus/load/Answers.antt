@@ -14,8 +14,8 @@ invariant_of-self c =
     let k = subst (λ (m : Maps). IsKept c.args.self.now.store.now m c.args.self.now.pid c.with_register-self.result) (sym c.mark_named.ensures)
     (subst (λ (x : SegmentRegisters). IsKept c.args.self.now.store.now (with_mark_of c.args.self.now.regions.now c.args.self.now.pid c.args.sel.0) c.args.self.now.pid x) (sym (c.with_register-self.ensures ∙ ap (λ (d : Descriptor). with_register_in c.args.self.now.registers c.args.reg (record { selector = c.args.sel.0; descriptor = d })) c.loaded-descriptor.ensures))
     (load_keeps c.args.self.now.store.ghost_name c.args.self.now.regions.ghost_name c.args.self.now.store.now c.args.self.now.regions.now
-        c.args.self.now.pid c.args.self.now.registers c.args.reg c.args.sel c.args.self.now.process c.args.self.now.named
-        c.args.self.now.settled c.args.self.now.loaded c.requires)) in
+    c.args.self.now.pid c.args.self.now.registers c.args.reg c.args.sel c.args.self.now.process c.args.self.now.named
+    c.args.self.now.settled c.args.self.now.loaded c.requires)) in
     record { process = k.process; inside = c.args.self.now.inside; named = k.named; settled = k.settled; loaded = k.loaded }
 
 pub returns : goal.returns
@@ -23,8 +23,8 @@ returns c =
     ap (λ (m : Maps). bus_view c.args.self.now.store.ghost_name c.args.self.now.regions.ghost_name c.args.self.now.store.now m c.args.self.now.pid c.with_register-self.result) c.mark_named.ensures
     ∙ (view_named c.args.self.now.store.ghost_name c.args.self.now.regions.ghost_name c.args.self.now.store.now c.args.self.now.regions.now c.args.self.now.pid c.args.sel.0 c.with_register-self.result
     ∙ (ap (bus_view c.args.self.now.store.ghost_name c.args.self.now.regions.ghost_name c.args.self.now.store.now
-        c.args.self.now.regions.now c.args.self.now.pid) (c.with_register-self.ensures ∙ ap (λ (d : Descriptor). with_register_in
-        c.args.self.now.registers c.args.reg (record { selector = c.args.sel.0; descriptor = d })) c.loaded-descriptor.ensures)
+    c.args.self.now.regions.now c.args.self.now.pid) (c.with_register-self.ensures ∙ ap (λ (d : Descriptor). with_register_in
+    c.args.self.now.registers c.args.reg (record { selector = c.args.sel.0; descriptor = d })) c.loaded-descriptor.ensures)
     ∙ view_with c.args.self.now.store.ghost_name c.args.self.now.regions.ghost_name c.args.self.now.store.now c.args.self.now.regions.now
-        c.args.self.now.pid c.args.self.now.registers c.args.reg (loaded_descriptor c.args.self.now.regions.now c.args.self.now.pid
-        c.args.sel.0) c.args.sel))
+    c.args.self.now.pid c.args.self.now.registers c.args.reg (loaded_descriptor c.args.self.now.regions.now c.args.self.now.pid
+    c.args.sel.0) c.args.sel))

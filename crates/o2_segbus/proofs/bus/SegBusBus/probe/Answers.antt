@@ -8,4 +8,4 @@ returns-clause-value c =
     c.rules.ensures
     ∙ (ap (rules c.args.purpose c.args.sel.0) c.named-descriptor.ensures
     ∙ probe_view c.args.self.now.store.ghost_name c.args.self.now.regions.ghost_name c.args.self.now.store.now c.args.self.now.regions.now
-        c.args.self.now.pid c.args.self.now.registers c.args.purpose c.args.sel c.args.self.now.named c.args.self.now.settled)
+    c.args.self.now.pid c.args.self.now.registers c.args.purpose c.args.sel c.args.self.now.named c.args.self.now.settled)

@@ -12,8 +12,8 @@ pub overflow_add-descriptor : goal.overflow_add-descriptor
 overflow_add-descriptor c =
     let w = (subst (λ (d : Descriptor). CanWrite c.args.self.now.store.now d (in_register (registers_of c.args.self.now.regions.now c.args.self.now.pid c.args.self.now.registers) c.args.reg) c.args.off c.args.width) (sym c.descriptor_in-descriptor.ensures)
     (room_says c.args.self.now.store.ghost_name c.args.self.now.regions.ghost_name c.args.self.now.store.now c.args.self.now.regions.now
-        c.args.self.now.pid c.args.self.now.registers c.args.reg c.args.off c.args.width c.args.self.now.inside c.args.self.now.named
-        c.args.self.now.loaded c.requires.room)) in
+    c.args.self.now.pid c.args.self.now.registers c.args.reg c.args.off c.args.width c.args.self.now.inside c.args.self.now.named
+    c.args.self.now.loaded c.requires.room)) in
     omega (arith, w.part.inside, c.args.self.now.inside.small, c.ranges.off.fits)
 
 pub write-requires-clause-room : goal.write-requires-clause-room
@@ -21,8 +21,8 @@ write-requires-clause-room c =
     write_inside c.args.self.now.store.now c.descriptor_in-descriptor.result _ c.args.off c.args.width
     (subst (λ (d : Descriptor). CanWrite c.args.self.now.store.now d (in_register (registers_of c.args.self.now.regions.now c.args.self.now.pid c.args.self.now.registers) c.args.reg) c.args.off c.args.width) (sym c.descriptor_in-descriptor.ensures)
     (room_says c.args.self.now.store.ghost_name c.args.self.now.regions.ghost_name c.args.self.now.store.now c.args.self.now.regions.now
-        c.args.self.now.pid c.args.self.now.registers c.args.reg c.args.off c.args.width c.args.self.now.inside c.args.self.now.named
-        c.args.self.now.loaded c.requires.room))
+    c.args.self.now.pid c.args.self.now.registers c.args.reg c.args.off c.args.width c.args.self.now.inside c.args.self.now.named
+    c.args.self.now.loaded c.requires.room))
 
 pub invariant_of-self : goal.invariant_of-self
 invariant_of-self c =
@@ -39,7 +39,7 @@ returns c =
     ap (λ (s : Shelf). bus_view c.args.self.now.store.ghost_name c.args.self.now.regions.ghost_name s c.args.self.now.regions.now c.args.self.now.pid c.args.self.now.registers) c.write.ensures
     ∙ (ap (λ (d : Descriptor). bus_view c.args.self.now.store.ghost_name c.args.self.now.regions.ghost_name (with_memory c.args.self.now.store.now (put_at c.args.self.now.store.now.memory (d.base + c.args.off) c.args.width c.args.value)) c.args.self.now.regions.now c.args.self.now.pid c.args.self.now.registers) c.descriptor_in-descriptor.ensures
     ∙ write_view c.args.self.now.store.ghost_name c.args.self.now.regions.ghost_name c.args.self.now.store.now c.args.self.now.regions.now
-        c.args.self.now.pid c.args.self.now.registers c.args.reg c.args.off c.args.width c.args.value c.law.ensures.shelf
-        c.law.ensures.apart (room_says c.args.self.now.store.ghost_name c.args.self.now.regions.ghost_name c.args.self.now.store.now
-        c.args.self.now.regions.now c.args.self.now.pid c.args.self.now.registers c.args.reg c.args.off c.args.width c.args.self.now.inside
-        c.args.self.now.named c.args.self.now.loaded c.requires.room))
+    c.args.self.now.pid c.args.self.now.registers c.args.reg c.args.off c.args.width c.args.value c.law.ensures.shelf
+    c.law.ensures.apart (room_says c.args.self.now.store.ghost_name c.args.self.now.regions.ghost_name c.args.self.now.store.now
+    c.args.self.now.regions.now c.args.self.now.pid c.args.self.now.registers c.args.reg c.args.off c.args.width c.args.self.now.inside
+    c.args.self.now.named c.args.self.now.loaded c.requires.room))
