@@ -12,11 +12,6 @@ use Rattle.o2_base.specs.declared.faults.ModuleFault.{ModuleFault}
 use Rattle.o2_base.specs.declared.faults.ModuleFault.TheVariants as module_fault
 use Rattle.o2_base.specs.declared.memory.Fail.{Fail}
 use Rattle.o2_base.specs.declared.memory.Fail.TheVariants.{Bad, NoMemory}
-use Rattle.o2_ne.specs.Words.{first_missing, lies_in}
-use Rattle.o2_ne.specs.Checks.{Check, or_fault}
-
-abbrev pub in_file : List ℕ → ℕ → ℕ → Check ModuleFault
-in_file file p n = or_fault (lies_in file p n) (module_fault.Truncated (first_missing file p))
 
 abbrev pub of_ne : NeFault → ModuleFault
 of_ne ne.NotMz = module_fault.NotMz

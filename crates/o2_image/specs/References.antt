@@ -1,11 +1,11 @@
 -- The module references: words, each the offset of a name among the imported names.
 use Rattle.std.specs.Prelude.{ℕ, ◌+◌, ◌*◌, ◌&&◌, Bool, List, [], ◌∷◌, Result, Ok}
 use Rattle.o2_base.specs.declared.faults.ModuleFault.{ModuleFault}
+use Rattle.o2_base.specs.declared.faults.ModuleFault.TheVariants.{Truncated}
 use Rattle.o2_ne.specs.declared.head.Head.{Head}
 use Rattle.o2_ne.specs.Words.{byte_at, lies_in, string_at, word_at}
-use Rattle.o2_ne.specs.Checks.{Check, all_hold, ◌>>=◌}
+use Rattle.o2_ne.specs.Checks.{Check, all_hold, bytes_in, ◌>>=◌}
 use Rattle.o2_ne.specs.Steps.{steps, tabulate}
-use Rattle.o2_image.specs.Faults.{in_file}
 
 -- the place of the imported name at an offset
 abbrev pub imported_place : Head → ℕ → ℕ
@@ -32,11 +32,11 @@ reference_at file h k = counted_string file (reference_place file h k)
 
 -- the word and the name lie in the file
 abbrev pub string_checks : List ℕ → ℕ → List (Check ModuleFault)
-string_checks file p = in_file file p 1 ∷ in_file file (p + 1) (byte_at file p) ∷ []
+string_checks file p = bytes_in Truncated file p 1 ∷ bytes_in Truncated file (p + 1) (byte_at file p) ∷ []
 
 abbrev pub reference_step : List ℕ → Head → ℕ → Result ℕ ModuleFault
 reference_step file h k = do
-  _ ← all_hold (in_file file (reference_word h k) 2 ∷ [])
+  _ ← all_hold (bytes_in Truncated file (reference_word h k) 2 ∷ [])
   _ ← all_hold (string_checks file (reference_place file h k))
   Ok (k + 1)
 

@@ -1,10 +1,8 @@
 // Faults of the parts, as faults of a module.
-ghost use Rattle.std.specs.Prelude.{◌≡◌, ◌≤◌, [], ◌∷◌, length};
-ghost use Rattle.o2_ne.specs.Checks.{all_hold};
-ghost use Rattle.o2_image.specs.Faults.{SegFailsAs, in_file, of_ne, of_part};
+ghost use Rattle.std.specs.Prelude.{◌≡◌};
+ghost use Rattle.o2_image.specs.Faults.{SegFailsAs, of_ne, of_part};
 
 use o2_base::{Fail, ModuleFault, NeFault, Part, SegFault, Which};
-use o2_ne::{first_missing, lies_in};
 
 // A fault of the header or of a table, as one of the module.
 pub(crate) fn of_ne(fault: NeFault) -> ModuleFault
@@ -31,17 +29,6 @@ pub(crate) fn of_part(part: Part) -> Which
         Part::Ring => Which::Ring,
         Part::Wide => Which::Wide,
     }
-}
-
-// The file has these bytes; else the first of them that it lacks.
-pub(crate) fn need(file: &[u8], at: u32, len: u32) -> Result<(), ModuleFault>
-    requires { length file.now ≤ 4194304 }
-    ensures { result ≡ all_hold (in_file file.now at len ∷ []) }
-{
-    if lies_in(file, at, len) {
-        return Ok(());
-    }
-    Err(ModuleFault::Truncated(first_missing(file, at)))
 }
 
 // A fault of a segment's reading, as one of the module, or want of memory.

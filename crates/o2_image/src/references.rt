@@ -6,9 +6,8 @@ ghost use Rattle.o2_image.specs.Faults.{StepsTo};
 ghost use Rattle.o2_image.specs.References.{all_references, counted_string, has_string, imported_place, reference_at, reference_place, reference_step, reference_word, string_checks};
 ghost use Rattle.o2_image.specs.Whole.{HasReference, HasString};
 
-use crate::faults::need;
 use o2_base::ModuleFault;
-use o2_ne::{Head, lies_in, u16_at};
+use o2_ne::{Head, lies_in, need, u16_at};
 
 // Whether a string lies in the file: its length byte, and its bytes.
 pub(crate) fn has_string(file: &[u8], at: u32) -> bool
@@ -26,7 +25,8 @@ fn need_string(file: &[u8], at: u32) -> Result<(), ModuleFault>
     ensures lies { OnOk result (HasString file.now at) }
 {
     need(file, at, 1)?;
-    need(file, at + 1, u32::from(file[at as usize]))
+    need(file, at + 1, u32::from(file[at as usize]))?;
+    Ok(())
 }
 
 // The string at a place.

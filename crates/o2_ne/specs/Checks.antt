@@ -20,9 +20,13 @@ checked (c ∷ cs) x = if c.holds then checked cs x else Err c.fault
 abbrev pub all_hold : {F : Type 0} → List (Check F) → Result (Unit {0}) F
 all_hold cs = checked cs tt
 
--- the file has the n bytes from place p; else the first of them that it lacks
+-- the file has the n bytes from place p; else this fault of the first of them that it lacks
+abbrev pub bytes_in : {F : Type 0} → (ℕ → F) → List ℕ → ℕ → ℕ → Check F
+bytes_in truncated file p n = or_fault (lies_in file p n) (truncated (first_missing file p))
+
+-- the same, as the header and its tables are refused
 abbrev pub in_file : List ℕ → ℕ → ℕ → Check NeFault
-in_file file p n = or_fault (lies_in file p n) (fault.Truncated (first_missing file p))
+in_file file p n = bytes_in fault.Truncated file p n
 
 -- what follows on a value, where there is one
 infixl 10 ◌>>=◌

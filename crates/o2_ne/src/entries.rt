@@ -5,8 +5,8 @@ ghost use Rattle.o2_ne.specs.EntryPlaces.{BundlesStand};
 ghost use Rattle.o2_ne.specs.EntryTable.{Table, bundle, entry_step, entries_of, is_segment, table_step, target_of};
 ghost use Rattle.std.specs.List.Sorted.{IsNonDecreasingBy, IsPartitionPoint};
 
-use crate::bytes::u16_at;
-use crate::head::{Head, need};
+use crate::bytes::{need, u16_at};
+use crate::head::Head;
 use o2_base::{Fail, NeFault, Which};
 use std::alloc::Global;
 use std::marker::Model;
@@ -49,7 +49,7 @@ impl Reading {
     {
         let place = self.place as usize;
         if kind == 255 {
-            need(file, self.place, 6).map_err(Fail::Bad)?;
+            need(file, self.place, 6)?;
             let segment = file[place + 3];
             if !is_segment(segments, segment) {
                 return Err(Fail::Bad(NeFault::BadTable(Which::Entries)));
@@ -62,7 +62,7 @@ impl Reading {
             })?;
             self.place += 6;
         } else {
-            need(file, self.place, 3).map_err(Fail::Bad)?;
+            need(file, self.place, 3)?;
             let offset = u16_at(file, place + 1);
             self.found.push(Entry {
                 ordinal: self.ordinal,
@@ -137,13 +137,13 @@ impl Reading {
         if self.ended || self.place >= end {
             return Ok(());
         }
-        need(file, self.place, 1).map_err(Fail::Bad)?;
+        need(file, self.place, 1)?;
         let count = file[self.place as usize];
         if count == 0 {
             self.ended = true;
             return Ok(());
         }
-        need(file, self.place + 1, 1).map_err(Fail::Bad)?;
+        need(file, self.place + 1, 1)?;
         let kind = file[self.place as usize + 1];
         self.place += 2;
         self.bundle(file, segments, count, kind)

@@ -1,10 +1,10 @@
 // The header of a segmented executable.
 ghost use Rattle.std.specs.Prelude.{◌≡◌, ◌+◌, ◌≤◌, [], ◌∷◌, length, IfOk, OnOk};
-ghost use Rattle.o2_ne.specs.Checks.{all_hold, checked, in_file};
+ghost use Rattle.o2_ne.specs.Checks.{all_hold, checked};
 ghost use Rattle.o2_ne.specs.Words.{long_at};
 ghost use Rattle.o2_ne.specs.Header.{head_at, place_checks, place_of_header, profile_checks, head_of};
 
-use crate::bytes::{first_missing, lies_in, u16_at, u32_at};
+use crate::bytes::{need, u16_at, u32_at};
 use o2_base::{NeFault, Which};
 
 /// The fields of the header of a segmented executable. Offsets of tables count from its place `at`.
@@ -72,17 +72,6 @@ impl Head {
         profile(&head)?;
         Ok(head)
     }
-}
-
-// The file has these bytes; else the first of them that it lacks.
-pub(crate) fn need(file: &[u8], at: u32, len: u32) -> Result<(), NeFault>
-    requires { length file.now ≤ 4194304 }
-    ensures { result ≡ all_hold (in_file file.now at len ∷ []) }
-{
-    if lies_in(file, at, len) {
-        return Ok(());
-    }
-    Err(NeFault::Truncated(first_missing(file, at)))
 }
 
 // Where the header begins.

@@ -9,7 +9,7 @@ mod names;
 mod rows;
 mod walking;
 
-pub use bytes::{first_missing, lies_in, u16_at, u32_at};
+pub use bytes::{Missing, lies_in, need, u16_at, u32_at};
 pub use entries::{Entries, Entry};
 pub use head::Head;
 pub use names::{Name, Names, is_same_name};

@@ -8,8 +8,8 @@ ghost use Rattle.o2_ne.specs.NameRows.{name_of};
 ghost use Rattle.o2_ne.specs.NameViews.{walk};
 ghost use Rattle.o2_ne.specs.Words.{byte_at};
 
-use crate::bytes::u16_at;
-use crate::head::{Head, need};
+use crate::bytes::{need, u16_at};
+use crate::head::Head;
 use crate::rows::{Row, index_of, ordinal_in};
 use crate::walking::Walking;
 use o2_base::{Bytes, Fail, NeFault, NoMemory, Which};
@@ -57,7 +57,7 @@ impl Walking {
             return Ok(());
         }
         let start = self.place + 1;
-        need(file, start, u32::from(len) + 2).map_err(Fail::Bad)?;
+        need(file, start, u32::from(len) + 2)?;
         let (_, rest) = file.split_at(start as usize);
         let (text, _) = rest.split_at(usize::from(len));
         let ordinal = u16_at(file, start as usize + usize::from(len));
@@ -72,7 +72,7 @@ impl Walking {
         requires goes_on { self.old.ended ≡ false }
         ensures { Gives (λ _. walk self.new) result (name_step file.now (walk self.old)) }
     {
-        need(file, self.place, 1).map_err(Fail::Bad)?;
+        need(file, self.place, 1)?;
         let len = file[self.place as usize];
         self.name(file, len)
     }
@@ -196,7 +196,7 @@ fn own_text(alloc: Global, file: &[u8], at: u32, len: u8) -> Result<Bytes, Fail<
         return Err(Fail::Bad(NeFault::BadTable(Which::Names)));
     }
     let start = at + 1;
-    need(file, start, u32::from(len) + 2).map_err(Fail::Bad)?;
+    need(file, start, u32::from(len) + 2)?;
     let (_, rest) = file.split_at(start as usize);
     let (text, _) = rest.split_at(usize::from(len));
     if has_line_end(text) {
@@ -212,7 +212,7 @@ fn own_name(alloc: Global, file: &[u8], at: u32) -> Result<Bytes, Fail<NeFault>>
     ensures stands { IfOk result (λ b. StringStands file.now at b) }
     ensures own { IfOk result IsOwnName }
 {
-    need(file, at, 1).map_err(Fail::Bad)?;
+    need(file, at, 1)?;
     own_text(alloc, file, at, file[at as usize])
 }
 

@@ -1,12 +1,12 @@
 -- The relocation records of a segment: behind its bytes in the file a count word, then rows of eight bytes.
 use Rattle.std.specs.Prelude.{ℕ, ◌+◌, ◌*◌, List, [], ◌∷◌, Result, Ok, if◌then◌else◌}
 use Rattle.o2_base.specs.declared.faults.SegFault.{SegFault}
+use Rattle.o2_base.specs.declared.faults.SegFault.TheVariants.{Truncated}
 use Rattle.o2_ne.specs.Words.{byte_at, word_at}
-use Rattle.o2_ne.specs.Checks.{Check, all_hold, ◌>>=◌}
+use Rattle.o2_ne.specs.Checks.{Check, all_hold, bytes_in, ◌>>=◌}
 use Rattle.o2_ne.specs.Steps.{tabulate}
 use Rattle.o2_ne_segs.specs.declared.reloc.Reloc.{Reloc}
 use Rattle.o2_ne_segs.specs.declared.segment.Segment.{Segment}
-use Rattle.o2_ne_segs.specs.SegmentTable.{in_file}
 
 -- the record whose row stands at place p: source type, flags, place, two target words
 abbrev pub reloc_at : List ℕ → ℕ → Reloc
@@ -36,7 +36,10 @@ relocs_in file s = relocs_at file (end_of s + 2) (reloc_count file s)
 -- the file has the count word, then all rows
 abbrev pub reloc_checks : List ℕ → Segment → List (Check SegFault)
 reloc_checks file s =
-    if s.relocs then in_file file (end_of s) 2 ∷ in_file file (end_of s + 2) (8 * word_at file (end_of s)) ∷ [] else []
+    if s.relocs then (
+    bytes_in Truncated file (end_of s) 2
+    ∷ bytes_in Truncated file (end_of s + 2) (8 * word_at file (end_of s))
+    ∷ []) else []
 
 -- how many records a segment has, or the fault of the first check that fails
 abbrev pub counted : List ℕ → Segment → Result ℕ SegFault

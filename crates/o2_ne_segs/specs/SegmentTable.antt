@@ -5,15 +5,12 @@ use Rattle.std.specs.Int.RustNames.{bit_and}
 use Rattle.o2_base.specs.declared.faults.SegFault.{SegFault}
 use Rattle.o2_base.specs.declared.faults.SegFault.TheVariants as fault
 use Rattle.o2_base.specs.declared.faults.Part.TheVariants.{Iterated, Conforming, Ring, Wide}
-use Rattle.o2_ne.specs.Words.{first_missing, lies_in, word_at}
-use Rattle.o2_ne.specs.Checks.{Check, all_hold, or_fault, ◌>>=◌}
+use Rattle.o2_ne.specs.Words.{word_at}
+use Rattle.o2_ne.specs.Checks.{Check, all_hold, bytes_in, or_fault, ◌>>=◌}
 use Rattle.o2_ne.specs.Steps.{steps}
 use Rattle.o2_ne_segs.specs.declared.segment.Segment.{Segment}
 use Rattle.o2_ne_segs.specs.declared.segment.Kind.{Kind}
 use Rattle.o2_ne_segs.specs.declared.segment.Kind.TheVariants as kind
-
-abbrev pub in_file : List ℕ → ℕ → ℕ → Check SegFault
-in_file file p n = or_fault (lies_in file p n) (fault.Truncated (first_missing file p))
 
 -- 0 stands for 65,536
 abbrev pub or_64k : ℕ → ℕ
@@ -62,9 +59,9 @@ profile_checks flags =
 -- the segment whose row stands at place p, or the fault of the first check that fails
 unfoldable pub segment_of : List ℕ → ℕ → ℕ → Result Segment SegFault
 segment_of file shift p = do
-  _ ← all_hold (in_file file p 8 ∷ [])
+  _ ← all_hold (bytes_in fault.Truncated file p 8 ∷ [])
   _ ← all_hold (profile_checks (segment_at file shift p).flags)
-  _ ← all_hold (in_file file (segment_at file shift p).file_at (segment_at file shift p).file_len ∷ [])
+  _ ← all_hold (bytes_in fault.Truncated file (segment_at file shift p).file_at (segment_at file shift p).file_len ∷ [])
   Ok (segment_at file shift p)
 
 -- the next row

@@ -5,9 +5,9 @@ ghost use Rattle.o2_ne_segs.specs.declared.reloc.Reloc.{Reloc};
 ghost use Rattle.o2_ne_segs.specs.SegmentTable.{SegGives};
 ghost use Rattle.o2_ne_segs.specs.Records.{counted, end_of, reloc_at, reloc_count, relocs_at, relocs_of};
 
-use crate::segment::{Segment, need};
+use crate::segment::Segment;
 use o2_base::SegFault;
-use o2_ne::u16_at;
+use o2_ne::{need, u16_at};
 use std::alloc::{AllocError, Global};
 use std::marker::Model;
 

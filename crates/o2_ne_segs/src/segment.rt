@@ -4,10 +4,10 @@ ghost use Rattle.o2_ne_segs.specs.declared.segment.Segment.{Segment};
 ghost use Rattle.o2_ne_segs.specs.Records.{end_of};
 ghost use Rattle.o2_ne.specs.Checks.{all_hold};
 ghost use Rattle.o2_ne.specs.Steps.{steps};
-ghost use Rattle.o2_ne_segs.specs.SegmentTable.{AllSized, HasSize, SegGives, file_len_of, nth_segment, in_file, kind_of, profile_checks, row, row_step, segment_at, segment_of, segments_of, unit_of};
+ghost use Rattle.o2_ne_segs.specs.SegmentTable.{AllSized, HasSize, SegGives, file_len_of, nth_segment, kind_of, profile_checks, row, row_step, segment_at, segment_of, segments_of, unit_of};
 
 use o2_base::{Part, SegFault};
-use o2_ne::{first_missing, lies_in, u16_at};
+use o2_ne::{need, u16_at};
 use std::alloc::Global;
 use std::marker::Model;
 
@@ -39,17 +39,6 @@ pub struct Segment {
     pub relocs: bool,
     /// The flags word of its row.
     pub flags: u16,
-}
-
-// The file has these bytes; else the first of them that it lacks.
-pub(crate) fn need(file: &[u8], at: u32, len: u32) -> Result<(), SegFault>
-    requires { length file.now ≤ 4194304 }
-    ensures { result ≡ all_hold (in_file file.now at len ∷ []) }
-{
-    if lies_in(file, at, len) {
-        return Ok(());
-    }
-    Err(SegFault::Truncated(first_missing(file, at)))
 }
 
 fn kind_of(flags: u16) -> Kind
