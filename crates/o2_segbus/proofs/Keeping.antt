@@ -1,6 +1,6 @@
 -- What the frames of a step tell.
-use Rattle.std.proofs.Common.{◌≡◌, refl, sym, ◌∙◌, ap, subst, ℕ, ◌+◌, ◌*◌, ◌/◌, ◌%◌, Bool, true, false, List, arith}
-use Rattle.std.specs.Prelude.{Option, Some, None, option_map}
+use Rattle.std.proofs.Common.{◌≡◌, sym, ◌∙◌, ap, subst, ℕ, true, List, arith}
+use Rattle.std.specs.Prelude.{Option, option_map}
 use Rattle.o2_desc.specs.Bits.{is_writable, rights_of}
 use Rattle.o2_regions.specs.declared.held.Held.{Held}
 use Rattle.o2_regions.specs.Maps.{Maps, held_at}

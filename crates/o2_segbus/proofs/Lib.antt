@@ -5,8 +5,10 @@ pub mod Readings
 pub mod Rulings
 pub mod Marked
 pub mod Writings
+pub mod Ranging
 pub mod Told
 pub mod Attempts
 pub mod Ages
 pub mod Cleans
+pub mod Called
 pub mod Keeping

@@ -70,7 +70,7 @@ has_is : (o : Option Entry) (a b : ℕ) → has_age o a ≡ true → has_age o b
 has_is None a b p q = absurd (false≢true p)
 has_is (Some e) a b p q = sym (eqb-true e.age a p) ∙ eqb-true e.age b q
 
-one_age : (a b : ℕ) (es : List (Option Entry)) (k r : ℕ) → number_from a es k ≡ Some r → number_from b es k ≡ Some r → a ≡ b
+pub one_age : (a b : ℕ) (es : List (Option Entry)) (k r : ℕ) → number_from a es k ≡ Some r → number_from b es k ≡ Some r → a ≡ b
 one_age a b [] k r e f = absurd (none_some e)
   where
     none_some : None ≡ Some r → ⊥

@@ -10,3 +10,4 @@ pub mod Marking
 pub mod Sized
 pub mod Guards
 pub mod Frames
+pub mod Calls

@@ -1,7 +1,8 @@
 // Accesses to memory through the descriptor in a register.
-ghost use Rattle.std.specs.Prelude.{◌≡◌, ◌+◌, ◌≤◌, ◌<◌, ℕ, length, take, drop, IfOk, true};
+ghost use Rattle.std.specs.Prelude.{◌≡◌, ◌+◌, ◌≤◌, ◌<◌, ◌^◌, ℕ, length, take, drop, IfOk, true};
 ghost use Rattle.o2_isa.specs.declared.instr.Width.TheVariants.{Byte};
 ghost use Rattle.o2_isa.specs.View.{is_readable, outside, width_len, value_at, put_at, SameRoom};
+ghost use Rattle.o2_phys.specs.Bytes.{part, with_part};
 ghost use Rattle.o2_segbus.specs.Words.{read_by, room_by, bytes_by, IsInside};
 
 use o2_desc::{Access, Descriptor};
@@ -126,4 +127,23 @@ pub(crate) fn write(store: &mut Store, at: u32, width: Width, value: u16)
 {
     let bytes = store.lend(at, len_of(width));
     put(bytes, width, value);
+}
+
+/// Some bytes of the segment of a descriptor, from an offset on.
+pub(crate) fn range<'m>(memory: &'m [u8], d: &Descriptor, offset: u16, count: u16) -> &'m [u8]
+    requires inside { d.now.base + offset + count ≤ length memory.now }
+    ensures { result.now ≡ part memory.now (d.now.base + offset) count }
+{
+    let from = d.base as usize + offset as usize;
+    &memory[from..from + count as usize]
+}
+
+/// Writes some bytes to an address of the memory.
+pub(crate) fn write_bytes(store: &mut Store, at: u32, bytes: &[u8])
+    requires room { at + length bytes.now ≤ length store.old.memory }
+    requires small { length store.old.memory ≤ 2 ^ 24 }
+    ensures { store.new ≡ record store.old { memory = with_part store.old.memory at bytes.now } }
+{
+    let into = store.lend(at, bytes.len() as u32);
+    into.copy_from_slice(bytes);
 }

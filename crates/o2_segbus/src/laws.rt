@@ -5,6 +5,9 @@ ghost use Rattle.o2_entries.specs.Tables.{slot_at};
 ghost use Rattle.o2_place.specs.declared.seg_id.SegId.{SegId as SegIdThere};
 ghost use Rattle.o2_regions.specs.Maps.{Maps};
 ghost use Rattle.o2_store.specs.Shelf.{Shelf, IsShelf, SameTables, Adds, Removes};
+ghost use Rattle.o2_isa.specs.View.{IsBound, KeepsFrame};
+ghost use Rattle.o2_segbus.specs.declared.seg_bus.SegBus.{SegBus as SegBusThere};
+ghost use Rattle.o2_segbus.specs.Calls.{LeavesBus, view_of};
 ghost use Rattle.o2_segbus.specs.Seen.{AreNamed, hold_in, present_in, size_in};
 ghost use Rattle.o2_segbus.specs.Guards.{AreAged, AreGuarded, AreLive};
 ghost use Rattle.o2_segbus.specs.Frames.{KeepsMaps, KeepsStore};
@@ -32,4 +35,11 @@ pub fn frames_keep()
     ensures ages { (s t : Shelf) → KeepsStore s t → AreAged s → AreAged t }
     ensures guards { (s t : Shelf) (m n : Maps) → KeepsStore s t → KeepsMaps m n
         → AreGuarded s m → AreGuarded t n }
+{}
+
+/// What a call leaves that was handed a bus and kept the frame of its view, whatever the call is: the store changed in bytes of
+/// the memory alone, and the tables in accessed bits; and what the segment registers hold is in memory, before it and behind it.
+pub fn calls_keep()
+    ensures leaves { (a b : SegBusThere) → KeepsFrame (view_of a) (view_of b) → LeavesBus a b }
+    ensures bound { (b : SegBusThere) → IsBound (view_of b) }
 {}

@@ -6,12 +6,13 @@ mod bus;
 mod laws;
 mod marking;
 mod opening;
+mod ranges;
 mod registers;
 mod rules;
 mod seg_bus;
 mod step;
 
-pub use laws::{ages_are_names, frames_keep};
+pub use laws::{ages_are_names, calls_keep, frames_keep};
 pub use registers::{SegmentRegister, SegmentRegisters};
 pub use seg_bus::SegBus;
 pub use step::attempt;
