@@ -1,7 +1,8 @@
 -- From the view of a bus to what its store and its tables hold.
-use Rattle.std.proofs.Common.{◌≡◌, ◌⊎◌, inl, inr, refl, sym, ◌∙◌, ap, subst, ℕ, true, false, List, [], length, arith}
+use Rattle.std.proofs.Common.{◌≡◌, ◌⊎◌, inl, inr, refl, sym, ◌∙◌, ap, subst, ℕ, true, false, List, [], length, get_or, arith}
 use Rattle.std.specs.Prelude.{Option, Some, None, is_some, option_map}
 use Rattle.std.specs.Borrow.{GName}
+use Rattle.std.proofs.lemmas.List.{ext_get_or}
 use Rattle.o2_desc.specs.declared.descriptor.Descriptor.{Descriptor}
 use Rattle.o2_desc.specs.Bits.{rights_of, with_present}
 use Rattle.o2_isa.specs.declared.cpu.Cpu.{Cpu}
@@ -19,6 +20,7 @@ use Rattle.o2_segbus.specs.declared.registers.SegmentRegisters.{SegmentRegisters
 use Rattle.o2_segbus.specs.Settled.{IsSettled, IsSettledAt, descriptor_at, unmarked, start_of}
 use Rattle.o2_segbus.specs.Seen.{AreNamed, hold_in, hold_of, size_in, present_in, bytes_in, seen_with, seen, seen_state}
 use Rattle.o2_segbus.specs.Bus.{AreLoaded, AreInside, registers_of, bus_view}
+use Rattle.o2_segbus.specs.Kept.{planes}
 use Rattle.o2_segbus.specs.Registers.{register_in}
 use Rattle.o2_segbus.specs.Frames.{KeepsStore, KeepsMaps}
 use Rattle.o2_segbus.proofs.Told.{SameTold, told}
@@ -42,12 +44,17 @@ framed g g' t t' s s' m m' pid pid' x x' f =
       tables = name_is t' t (ap (λ (h : Hidden). h.tables) f.hidden);
       index = f.held ∙ sym (ap (λ (h : ℕ → ℕ → Option Hold). h pid) holds);
       holds = holds;
-      told = told s s' m m' (λ k. ap (λ (h : Hidden). h.away k (λ n. [])) f.hidden);
+      told = told s s' m m' (λ k. same_plane k);
       size = ap (λ (r : Rest). r.memory) f.rest;
     }
   where
     name_is : (a b : GName) → Some a ≡ Some b → a ≡ b
     name_is a b e = cc
+
+    same_plane : (k : ℕ) → get_or (planes s' m') k [] ≡ get_or (planes s m) k []
+    same_plane k =
+        ext_get_or 0 (get_or (planes s' m') k []) (get_or (planes s m) k []) (ap (λ (r : Rest). r.reserved_run k 0) f.rest)
+        (λ j l. ap (λ (r : Rest). r.first k j) f.rest)
 
 -- the state of a bus is what is seen of its store and tables, without what no instruction sees
 abbrev seen_by : Shelf → (ℕ → Option Hold) → Registers → View
@@ -126,6 +133,7 @@ keeps_maps g g' t t' s s' m m' pid pid' f p q = record {
   base = λ a i. (same a i).base;
   limit = λ a i. (same a i).limit;
   access = λ a i. (same a i).access;
+  lengths = f.told.lengths;
 }
   where
     same : (a i : ℕ) → SameBut (descriptor_at m a i) (descriptor_at m' a i)

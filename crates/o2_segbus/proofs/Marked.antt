@@ -1,5 +1,5 @@
 -- An accessed bit changes nothing that the bus shows.
-use Rattle.std.proofs.Common.{◌≡◌, ◌⊎◌, inl, inr, ◌/◌, refl, sym, ap, subst, ◌∙◌, ℕ, Bool, true, false, cond, List, [], length, get_or, set, arith, IsSome}
+use Rattle.std.proofs.Common.{◌≡◌, ◌⊎◌, inl, inr, ◌/◌, refl, sym, ap, subst, ◌∙◌, ℕ, zero, suc, Bool, true, false, cond, List, [], ◌∷◌, length, map, get_or, set, arith, IsSome}
 use Rattle.std.specs.Prelude.{Option, Some, None, option_map, is_some}
 use Rattle.std.specs.Borrow.{GName}
 use Rattle.std.proofs.lemmas.Bool.{cases_lt, cases_eq, false≢true}
@@ -21,6 +21,7 @@ use Rattle.o2_segbus.specs.Registers.{with_register_in}
 use Rattle.o2_segbus.specs.Settled.{IsSettled, IsSettledAt, descriptor_at}
 use Rattle.o2_segbus.specs.Seen.{hold_in, hold_of, seen_with, size_in, present_in, bytes_in, AreNamed}
 use Rattle.o2_segbus.specs.Bus.{held_under, IsLoadedAs, IsLoaded, AreLoaded, registers_of, bus_hidden, bus_view}
+use Rattle.o2_segbus.specs.Kept.{bit, entries_told, held_told, lengths_of, marks_told, numbers_told, ranges_told}
 use Rattle.o2_segbus.specs.Marking.{with_mark, with_mark_of}
 use Rattle.o2_segbus.proofs.Bits.{unmarked_marked, rights_marked}
 use Rattle.o2_segbus.specs.Words.{loaded_descriptor}
@@ -105,9 +106,24 @@ loads_marked s m pid i x l = record {
   ds = loaded_marked s m pid i x.ds l.ds;
 }
 
--- a bus by what its maps hold
-abbrev shown_by : GName → GName → Shelf → Maps → (ℕ → ℕ → Option Hold) → ℕ → SegmentRegisters → View
-shown_by g t s m held pid x = record {
+-- the tables stay as long as they are
+set_lengths : (ts : List (List Descriptor)) (k : ℕ) (t : List Descriptor) → length t ≡ length (get_or ts k []) → lengths_of (set ts k t) ≡ lengths_of ts
+set_lengths [] k t e = refl
+set_lengths (u ∷ us) zero t e = ap (λ (n : ℕ). n ∷ lengths_of us) e
+set_lengths (u ∷ us) (suc k) t e = ap (λ (ns : List ℕ). length u ∷ ns) (set_lengths us k t e)
+
+marked_lengths : (m : Maps) (pid i : ℕ) → lengths_of (with_mark m pid i).tables ≡ lengths_of m.tables
+marked_lengths m pid i = set_lengths m.tables pid (mark_at (table_of m pid) i) (length-set (table_of m pid) i (touched (get_or (table_of m pid) i empty)))
+
+-- the tables as lists of numbers, by how long those of descriptors are
+abbrev planes_by : Shelf → Maps → List ℕ → List (List ℕ)
+planes_by s m lengths =
+    numbers_told s m ∷ ranges_told s.places.ranges ∷ marks_told s.turns.marks ∷ s.turns.places ∷ entries_told s.entries ∷ s.keys ∷ held_told m.held ∷ map bit m.reserved ∷
+    lengths ∷ s.swap.lists
+
+-- a bus by what its maps hold, and by how long its tables are
+abbrev shown_by : GName → GName → Shelf → Maps → (ℕ → ℕ → Option Hold) → List ℕ → ℕ → SegmentRegisters → View
+shown_by g t s m held lengths pid x = record {
   held = held pid;
   gate = built_gates;
   size = size_in s;
@@ -115,13 +131,20 @@ shown_by g t s m held pid x = record {
   discarded = λ name. false;
   bytes = bytes_in s;
   registers = record { es = bound_in (held pid) x.es.selector; cs = bound_in (held pid) x.cs.selector; ss = bound_in (held pid) x.ss.selector; ds = bound_in (held pid) x.ds.selector };
-  rest = record no_rest { maps = held; memory = length s.memory };
-  hidden = bus_hidden g t s m;
+  rest = record no_rest {
+    maps = held;
+    memory = length s.memory;
+    first = λ k j. get_or (get_or (planes_by s m lengths) k []) j 0;
+    reserved_run = λ k j. length (get_or (planes_by s m lengths) k []);
+  };
+  hidden = bus_hidden g t;
 }
 
 view_marked : (g t : GName) (s : Shelf) (m : Maps) (pid i : ℕ) (x : SegmentRegisters) → bus_view g t s (with_mark m pid i) pid x ≡ bus_view g t s m pid x
 unfolding bus_view seen_with
-view_marked g t s m pid i x = ap (λ (held : ℕ → ℕ → Option Hold). shown_by g t s m held pid x) (same_holds m pid i)
+view_marked g t s m pid i x =
+    ap (λ (held : ℕ → ℕ → Option Hold). shown_by g t s m held (lengths_of (with_mark m pid i).tables) pid x) (same_holds m pid i)
+    ∙ ap (λ (lengths : List ℕ). shown_by g t s m (hold_in m) lengths pid x) (marked_lengths m pid i)
 
 -- the mark of a selector, which may be null
 pub view_named : (g t : GName) (s : Shelf) (m : Maps) (pid sel : ℕ) (x : SegmentRegisters) → bus_view g t s (with_mark_of m pid sel) pid x ≡ bus_view g t s m pid x

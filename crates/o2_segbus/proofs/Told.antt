@@ -1,7 +1,8 @@
 -- The lists of numbers tell the tables of a store and of the maps of processes.
-use Rattle.std.proofs.Common.{◌≡◌, refl, sym, ap, ◌∙◌, ℕ, Bool, true, false, List, [], ◌∷◌, length, get_or, map, arith}
+use Rattle.std.proofs.Common.{◌≡◌, refl, sym, ap, ◌∙◌, ℕ, zero, suc, Bool, true, false, List, [], ◌∷◌, length, get_or, map, arith}
 use Rattle.std.specs.Prelude.{Option, Some, None}
 use Rattle.std.proofs.lemmas.List.{ext_get_or}
+use Rattle.o2_desc.specs.declared.descriptor.Descriptor.{Descriptor}
 use Rattle.o2_entries.specs.declared.Entry.{Entry}
 use Rattle.o2_place.specs.declared.ranges.Range.{Range}
 use Rattle.o2_place.specs.declared.clock.Mark.{Mark}
@@ -11,9 +12,9 @@ use Rattle.o2_swapmap.specs.Piles.{Blocks}
 use Rattle.o2_regions.specs.declared.held.Held.{Held}
 use Rattle.o2_regions.specs.declared.held.Cause.{Cause}
 use Rattle.o2_regions.specs.declared.held.Cause.TheVariants.{Loaded, Called, Alias}
-use Rattle.o2_regions.specs.Maps.{Maps}
+use Rattle.o2_regions.specs.Maps.{Maps, table_of}
 use Rattle.o2_store.specs.Shelf.{Shelf}
-use Rattle.o2_segbus.specs.Kept.{bit, cause_number, ranges_told, marks_told, image_told, entries_told, held_told, numbers_told, planes}
+use Rattle.o2_segbus.specs.Kept.{bit, cause_number, ranges_told, marks_told, image_told, entries_told, held_told, lengths_of, numbers_told, planes}
 
 abbrev at : ℕ → List ℕ → ℕ
 at k ns = get_or ns k 0
@@ -136,12 +137,20 @@ pub record SameTold (s t : Shelf) (m n : Maps) : Type 0 where
   pub processes : n.processes ≡ m.processes
   pub held : n.held ≡ m.held
   pub reserved : n.reserved ≡ m.reserved
+  pub lengths : (pid : ℕ) → length (table_of n pid) ≡ length (table_of m pid)
+
+lengths_same : (ts us : List (List Descriptor)) → lengths_of ts ≡ lengths_of us → (k : ℕ) → length (get_or ts k []) ≡ length (get_or us k [])
+lengths_same [] [] e k = refl
+lengths_same [] (u ∷ us) e k = absurd (nil_cons e)
+lengths_same (t ∷ ts) [] e k = absurd (nil_cons (sym e))
+lengths_same (t ∷ ts) (u ∷ us) e zero = ap (at 0) e
+lengths_same (t ∷ ts) (u ∷ us) e (suc k) = lengths_same ts us (ap tail e) k
 
 abbrev plane : ℕ → List (List ℕ) → List ℕ
 plane k ps = get_or ps k []
 
 abbrev lists_behind : List (List ℕ) → List (List ℕ)
-lists_behind l = tail (tail (tail (tail (tail (tail (tail (tail l)))))))
+lists_behind l = tail (tail (tail (tail (tail (tail (tail (tail (tail l))))))))
 
 abbrev store_by : List ℕ → Layout → Turns → Blocks → List (Option Entry) → ℕ → List ℕ → Shelf
 store_by memory places turns swap entries made keys = record { memory = memory; places = places; turns = turns; swap = swap; entries = entries; made = made; keys = keys }
@@ -182,6 +191,7 @@ from_planes s t m n e =
       processes = ap (at 5) k;
       held = holds_same n.held m.held (ap (plane 6) e);
       reserved = bits_same n.reserved m.reserved (ap (plane 7) e);
+      lengths = lengths_same n.tables m.tables (ap (plane 8) e);
     }
 
 -- planes that are the same number by number are the same

@@ -49,13 +49,19 @@ registers_of m pid x = record {
 }
 
 -- What no instruction sees stays in every step. So it has the references that the bus holds, and all that the bus keeps as it
--- is: what each process holds, and the tables of the store and of the maps.
+-- is: what each process holds, and the tables of the store and of the maps, number by number, with how many there are in each.
+-- The bytes of a name that is out of memory are those that a filling has under it.
 abbrev pub bus_rest : Shelf → Maps → Rest
-bus_rest s m = record no_rest { maps = hold_in m; memory = length s.memory }
+bus_rest s m = record no_rest {
+  maps = hold_in m;
+  memory = length s.memory;
+  first = λ k j. slice_index_or (slice_index_or (planes s m) k []) j 0;
+  reserved_run = λ k j. length (slice_index_or (planes s m) k []);
+}
 
-abbrev pub bus_hidden : GName → GName → Shelf → Maps → Hidden
-bus_hidden g t s m = record no_hidden { away = λ n blocks. slice_index_or (planes s m) n []; store = Some g; tables = Some t }
+abbrev pub bus_hidden : GName → GName → Hidden
+bus_hidden g t = record no_hidden { away = λ n blocks. blocks n; store = Some g; tables = Some t }
 
 -- what a bus shows that holds these references
 unfoldable pub bus_view : GName → GName → Shelf → Maps → ℕ → SegmentRegisters → View
-bus_view g t s m pid x = with_unseen (bus_rest s m) (bus_hidden g t s m) (seen_with s m pid (registers_of m pid x))
+bus_view g t s m pid x = with_unseen (bus_rest s m) (bus_hidden g t) (seen_with s m pid (registers_of m pid x))

@@ -1,6 +1,6 @@
 -- What a step leaves of a store and of the tables of processes.
 use Rattle.std.specs.Prelude.{◌≡◌, ℕ, length}
-use Rattle.o2_regions.specs.Maps.{Maps, IsProcess}
+use Rattle.o2_regions.specs.Maps.{Maps, IsProcess, table_of}
 use Rattle.o2_isa.specs.declared.cpu.Cpu.{Cpu}
 use Rattle.o2_isa.specs.View.{IsBound}
 use Rattle.o2_store.specs.Shelf.{Shelf, AreClean, Pictures}
@@ -20,6 +20,7 @@ pub record KeepsMaps (old new : Maps) : Type 0 where
   pub reserved : new.reserved ≡ old.reserved
   pub base : (pid i : ℕ) → (descriptor_at new pid i).base ≡ (descriptor_at old pid i).base
   pub limit : (pid i : ℕ) → (descriptor_at new pid i).limit ≡ (descriptor_at old pid i).limit
+  pub lengths : (pid : ℕ) → length (table_of new pid) ≡ length (table_of old pid)
   pub access : (pid i : ℕ) → unmarked (descriptor_at new pid i).access ≡ unmarked (descriptor_at old pid i).access
 
 -- clean segments go on to have the bytes of their images, where no two segments have one age and no clean one may be written

@@ -1,5 +1,6 @@
 -- The tables of a store and of the maps of processes, without the memory and the descriptors, as lists of numbers.
 use Rattle.std.specs.Prelude.{ℕ, Bool, true, false, List, [], ◌∷◌, length, map, Option, Some, None}
+use Rattle.o2_desc.specs.declared.descriptor.Descriptor.{Descriptor}
 use Rattle.o2_entries.specs.declared.Entry.{Entry}
 use Rattle.o2_place.specs.declared.ranges.Range.{Range}
 use Rattle.o2_place.specs.declared.clock.Mark.{Mark}
@@ -43,8 +44,13 @@ held_told (Some h ∷ hs) = 1 ∷ h.id.key ∷ h.id.age ∷ h.holds ∷ cause_nu
 abbrev pub numbers_told : Shelf → Maps → List ℕ
 numbers_told s m = s.places.size ∷ s.places.most ∷ s.turns.hand ∷ s.swap.most ∷ s.made ∷ m.processes ∷ length s.swap.lists ∷ []
 
--- the numbers, the ranges, the clock, the segments, the numbers of a call, the maps, what is reserved, and each owner's blocks
+-- how many descriptors each process has
+abbrev pub lengths_of : List (List Descriptor) → List ℕ
+lengths_of tables = map (λ (t : List Descriptor). length t) tables
+
+-- the numbers, the ranges, the clock, the segments, the numbers of a call, the maps, what is reserved, how long the tables are,
+-- and each owner's blocks
 abbrev pub planes : Shelf → Maps → List (List ℕ)
 planes s m =
     numbers_told s m ∷ ranges_told s.places.ranges ∷ marks_told s.turns.marks ∷ s.turns.places ∷ entries_told s.entries ∷ s.keys ∷ held_told m.held ∷ map bit m.reserved ∷
-    s.swap.lists
+    lengths_of m.tables ∷ s.swap.lists

@@ -1,5 +1,5 @@
 -- Descriptors as they are told where segments are.
-use Rattle.std.proofs.Common.{◌≡◌, ◌≢◌, ℕ, ◌+◌, ◌<◌, ◌≤◌, inl, inr, List, ◌∷◌, length, drop, Option, Some, None, is_some, IsSome, Bool, true, false, eqb, refl, sym, ap, ◌∙◌, subst, arith, option_map}
+use Rattle.std.proofs.Common.{◌≡◌, ◌≢◌, ℕ, ◌+◌, ◌<◌, ◌≤◌, inl, inr, List, ◌∷◌, length, drop, Option, Some, None, is_some, IsSome, Bool, true, false, cond, eqb, refl, sym, ap, ◌∙◌, subst, arith, option_map}
 use Rattle.std.specs.Option.{unwrap_or}
 use Rattle.std.proofs.lemmas.Bool.{cases_eq, cases_lt, cond-true, cond-false}
 use Rattle.std.proofs.lemmas.Bool.Decides.{nat_tests}
@@ -127,18 +127,37 @@ settled_told s m a = record { each = λ pid i. at_settled s (held_at m pid i) (d
 
 -- what only changes descriptors, and what is held well then
 pub only_refl : (m : Maps) → OnlyTables m m
-only_refl m = record { rest = refl; lengths = λ pid. refl }
+only_refl m = record { rest = refl; lengths = λ pid. refl; rights = λ pid i. refl }
+
+present_rights : (a : ℕ) (b : Bool) → rights_of (with_present a b) ≡ rights_of a
+present_rights a true = omega arith
+present_rights a false = omega arith
+
+-- a telling leaves all rights
+told_rights : (m n : Maps) (id : SegId) (base : Option ℕ) (limit : ℕ) → Tells m n id base limit → (pid i : ℕ) → rights_of (descriptor_at n pid i).access ≡ rights_of (descriptor_at m pid i).access
+told_rights m n id base limit t pid i = elim (cases_lt i (length (table_of m pid))) [
+  | inl within ↦ ap (λ (d : Descriptor). rights_of d.access) (t.entries pid i within) ∙ go (is_of id (held_at m pid i))
+  | inr past ↦
+      (let l = t.lengths pid in
+      ap (λ (d : Descriptor). rights_of d.access) (get_or_past (table_of n pid) i empty (omega (arith, l, past)) ∙ sym (get_or_past (table_of m pid) i empty past)))
+]
+  where
+    go : (b : Bool) → rights_of (cond b (placed base limit (entry_at m pid i)) (entry_at m pid i)).access ≡ rights_of (entry_at m pid i).access
+    go true = present_rights (entry_at m pid i).access (is_some base)
+    go false = refl
 
 pub only_told : (l m n : Maps) (id : SegId) (base : Option ℕ) (limit : ℕ) → OnlyTables l m → Tells m n id base limit → OnlyTables l n
 only_told l m n id base limit o t = record {
   rest = t.rest ∙ ap (λ (x : Maps). record x { tables = n.tables }) o.rest;
   lengths = λ pid. t.lengths pid ∙ o.lengths pid;
+  rights = λ pid i. told_rights m n id base limit t pid i ∙ o.rights pid i;
 }
 
 pub only_trans : (l m n : Maps) → OnlyTables l m → OnlyTables m n → OnlyTables l n
 only_trans l m n o t = record {
   rest = t.rest ∙ ap (λ (x : Maps). record x { tables = n.tables }) o.rest;
   lengths = λ pid. t.lengths pid ∙ o.lengths pid;
+  rights = λ pid i. t.rights pid i ∙ o.rights pid i;
 }
 
 only_held : (m n : Maps) → OnlyTables m n → (pid i : ℕ) → held_at n pid i ≡ held_at m pid i

@@ -26,10 +26,11 @@ pub record IsHeldWell (s : Shelf) (m : Maps) : Type 0 where
   pub live : (pid i : ℕ) (h : Held) → held_at m pid i ≡ Some h → IsSome (entry_of s h.id)
   pub inside : (pid i : ℕ) (h : Held) → held_at m pid i ≡ Some h → i < length (table_of m pid)
 
--- descriptors may change, and nothing else
+-- descriptors may change, but for the rights in them, and nothing else
 pub record OnlyTables (old new : Maps) : Type 0 where
   pub rest : new ≡ record old { tables = new.tables }
   pub lengths : (pid : ℕ) → length (table_of new pid) ≡ length (table_of old pid)
+  pub rights : (pid i : ℕ) → rights_of (descriptor_at new pid i).access ≡ rights_of (descriptor_at old pid i).access
 
 -- a descriptor agrees with the store where its segment's number is below n; and is empty where nothing is held
 abbrev pub IsToldBelow : ℕ → Shelf → Option Held → Descriptor → Type 0

@@ -1,0 +1,8 @@
+use Rattle.o2_stands.proofs.Moves.{step_ready, step_stands}
+use Rattle.o2_stands.proofs.laws.steps_are_seen.Goals as goal
+
+pub returns-clause-stands : goal.returns-clause-stands
+returns-clause-stands c = λ p t m bytes ps names next reserved f g i r s w. step_stands p t m ps names next reserved bytes f g i r s w
+
+pub returns-clause-ready : goal.returns-clause-ready
+returns-clause-ready c = step_ready

@@ -1,0 +1,6 @@
+pub mod Parts
+pub mod Stands
+pub mod Knows
+pub mod Views
+pub mod Moves
+pub mod Sums

@@ -1,0 +1,117 @@
+-- A machine over a store stands for a world: look-up by look-up, index by index and name by name. Its texts are left to the world.
+use Rattle.std.specs.Prelude.{◌≡◌, ℕ, ◌<◌, ◌≤◌, ◌&&◌, ◌||◌, ◌==◌, Bool, true, false, List, [], ◌∷◌, length, if◌then◌else◌, min, Option, Some, None, is_some, IsSome, option_map, slice_index_or}
+use Rattle.std.specs.List.{list_any}
+use Rattle.o2_entries.specs.Tables.{slot_at}
+use Rattle.o2_regions.specs.declared.held.Region.{Region}
+use Rattle.o2_regions.specs.declared.held.Region.TheVariants.{Private, Shared}
+use Rattle.o2_regions.specs.Kept.{AreKept}
+use Rattle.o2_regions.specs.Lives.{lives}
+use Rattle.o2_regions.specs.Maps.{Maps, IsRegion, end_of, first_of, is_taken}
+use Rattle.o2_swapmap.specs.Piles.{all_of}
+use Rattle.o2_store.specs.Pictures.{picture, HasPicture}
+use Rattle.o2_store.specs.Shelf.{Shelf, IsShelf, AreClean, HasAll, entry}
+use Rattle.o2_segbus.specs.Bus.{AreInside}
+use Rattle.o2_segbus.specs.Guards.{AreAged, AreGuarded}
+use Rattle.o2_segbus.specs.Seen.{AreNamed, key_of}
+use Rattle.o2_segbus.specs.Settled.{IsSettled}
+use Rattle.o2_service.specs.Told.{IsHeldWell}
+use Rattle.o2_world.specs.Map.{Map, get}
+use Rattle.o2_world.specs.World.{Process, Reserve, Segment, Setting, World}
+use Rattle.o2_world.specs.Holders.{is_held, process_at}
+use Rattle.o2_world.specs.Known.{held_at, holds_index, is_for_the_run, lives_at, reserves}
+use Rattle.o2_stands.specs.Parts.{Parts, Running, byte_in, goes_on, held_in, running_of}
+
+-- what is true of every store and of all maps
+pub record AreLawful (s : Shelf) (m : Maps) : Type 0 where
+  pub shelf : IsShelf s
+  pub inside : AreInside s
+  pub maps : AreKept m
+
+-- What the calls of the store, of the service and of the bus ask for, beside one process's own.
+pub record IsReady (p : Parts) : Type 0 where
+  -- no two live segments have one age, and what is held is live, found by its age, and has an entry in its process's table
+  pub aged : AreAged p.shelf
+  pub named : AreNamed p.shelf p.maps
+  pub held : IsHeldWell p.shelf p.maps
+  -- the descriptors agree with the store
+  pub settled : IsSettled p.shelf p.maps
+  -- what is held as data that can be written isn't clean, and clean segments have the bytes of their images, which are there
+  pub guarded : AreGuarded p.shelf p.maps
+  pub clean : AreClean p.shelf (picture p.images)
+  pub pictures : HasAll (HasPicture p.images) p.shelf
+  pub device : all_of p.shelf.swap ≤ p.device
+
+-- a number's segment is that of a world: its size, its bytes wherever they lie, and its attributes
+pub record IsSegment (p : Parts) (k : ℕ) (s : Segment) : Type 0 where
+  pub size : length s.bytes ≡ (entry p.shelf k).size
+  pub bytes : (j : ℕ) → j < (entry p.shelf k).size → slice_index_or s.bytes j 0 ≡ byte_in p k j
+  pub clean : s.clean ≡ (entry p.shelf k).attr.clean
+  pub flags : s.flags ≡ (entry p.shelf k).attr.flags
+  pub lock : s.lock ≡ (entry p.shelf k).attr.lock
+  pub shared : s.shared ≡ (entry p.shelf k).attr.shared
+
+-- under one name: a segment of the world and one of the store, or neither
+abbrev pub IsNamed : Parts → Option ℕ → Option Segment → Type 0
+IsNamed p (Some k) (Some s) = IsSegment p k s
+IsNamed p None None = Unit {0}
+IsNamed p (Some k) None = ⊥
+IsNamed p None (Some s) = ⊥
+
+-- the number of a region's process, and 0 for the shared one
+abbrev pub number_of : Region → ℕ
+number_of (Private pid) = pid
+number_of Shared = 0
+
+-- an index of a region, whose process the maps have
+pub record IsIndex (m : Maps) (g : Region) (i : ℕ) : Type 0 where
+  pub region : IsRegion m g
+  pub from : first_of g ≤ i
+  pub to : i < end_of g
+
+-- an index of a process's region, or with 0 of the shared one, is held or reserved
+abbrev pub taken_by : List Process → List Reserve → ℕ → ℕ → Bool
+taken_by ps reserved region i = (if region == 0 then holds_index ps i else is_some (held_at ps region i)) || list_any (reserves region i) reserved
+
+-- no two pairs have one name
+abbrev pub AreOnce : Map Segment → Type 0
+AreOnce [] = Unit {0}
+AreOnce (e ∷ es) = (get es e.0 ≡ None) × AreOnce es
+
+-- each is of shared indexes, and stays for the whole run
+abbrev pub AllStay : List Reserve → Type 0
+AllStay [] = Unit {0}
+AllStay (r ∷ rs) = (((r.region == 0) && r.stays) ≡ true) × AllStay rs
+
+-- What the machine goes by that isn't its own: each name stands once and is held by somebody, who has ended holds nothing, and
+-- what is reserved and not held is reserved for the whole run, with each shared index that is held.
+pub record IsTidy (ps : List Process) (names : Map Segment) (reserved : List Reserve) : Type 0 where
+  pub once : AreOnce names
+  pub used : (n : ℕ) → is_some (get names n) ≡ true → is_held ps n ≡ true
+  pub ended : (n i : ℕ) → lives_at (process_at ps n) ≡ false → held_at ps n i ≡ None
+  pub stay : AllStay reserved
+  pub shared : (n i : ℕ) → 4096 ≤ i → is_some (held_at ps n i) ≡ true → list_any (is_for_the_run i) reserved ≡ true
+
+-- The machine stands for the processes, names, next name and reserved indexes of a world.
+pub record StandsIn (p : Parts) (ps : List Process) (names : Map Segment) (next : ℕ) (reserved : List Reserve) : Type 0 where
+  pub ready : IsReady p
+  -- a name is the age of its segment
+  pub segments : (n : ℕ) → IsNamed p (key_of p.shelf n) (get names n)
+  pub made : next ≡ p.shelf.made
+  pub processes : (n : ℕ) → option_map running_of (process_at ps n) ≡ p.running n
+  pub held : (n i : ℕ) → held_at ps n i ≡ held_in p.maps n i
+  pub taken : (g : Region) (i : ℕ) → IsIndex p.maps g i → taken_by ps reserved (number_of g) i ≡ is_taken p.maps g i
+  pub tidy : IsTidy ps names reserved
+
+-- The machine stands for a world, whatever its texts and its input are.
+abbrev pub Stands : Parts → World → Type 0
+Stands p w = StandsIn p w.processes w.names w.next_name w.reserved
+
+-- memory, names and blocks are as many as the setting says, where the device has so many blocks
+pub record IsSetTo (p : Parts) (s : Setting) : Type 0 where
+  pub memory : p.shelf.places.size ≡ s.memory
+  pub segments : length p.shelf.entries ≡ s.segments
+  pub blocks : all_of p.shelf.swap ≡ min s.swap p.device
+
+-- the numbers that are marked live are those of the processes that go on
+abbrev pub AreMarked : List Bool → Parts → Type 0
+AreMarked marks p = (n : ℕ) → lives marks n ≡ goes_on (p.running n)

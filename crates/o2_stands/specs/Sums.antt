@@ -1,0 +1,27 @@
+-- What a step needs of the memory, by names and by numbers of segments.
+use Rattle.std.specs.Prelude.{◌≡◌, ◌≤◌, ℕ, List, Bool, true, ◌||◌, nat_lt, max, Some, None}
+use Rattle.o2_place.specs.declared.seg_id.SegId.{SegId}
+use Rattle.o2_store.specs.Shelf.{Shelf, entry}
+use Rattle.o2_segbus.specs.Seen.{key_of}
+use Rattle.o2_service.specs.Needs.{AreLive, needs, size_in}
+use Rattle.o2_world.specs.Map.{Map, get}
+use Rattle.o2_world.specs.World.{Segment}
+use Rattle.o2_run.specs.Room.{is_in, is_locked, size_of}
+
+-- the names behind a step are those before it, some of which may have gone
+pub record IsWithin (old new : Map Segment) : Type 0 where
+  pub none : (n : ℕ) → get old n ≡ None → get new n ≡ None
+
+-- A list of live segments with the sizes that they get says what a list of names does, of the names before a step and behind
+-- it: the same are needed, a lock that is new is that of one that is needed, and the larger of both sizes is the same.
+pub record SaysNeed (s : Shelf) (old new : Map Segment) (names : List ℕ) (need : List (SegId × ℕ)) : Type 0 where
+  pub live : AreLive s need
+  pub within : IsWithin old new
+  pub needed : (n k : ℕ) → key_of s n ≡ Some k → is_in n names ≡ needs need k
+  pub locks : (n k : ℕ) → key_of s n ≡ Some k → is_locked (get new n) ≡ true → (nat_lt 0 (entry s k).attr.lock || needs need k) ≡ true
+  pub sizes : (n k : ℕ) → key_of s n ≡ Some k → max (entry s k).size (size_of (get new n)) ≡ max (entry s k).size (size_in need k)
+
+-- no name is larger behind a step than before
+pub record NoneGrows (s : Shelf) (old new : Map Segment) : Type 0 where
+  pub within : IsWithin old new
+  pub sizes : (n k : ℕ) → key_of s n ≡ Some k → size_of (get new n) ≤ (entry s k).size

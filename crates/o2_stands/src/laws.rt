@@ -1,0 +1,82 @@
+// What follows where a machine over a store stands for a world, and what keeps that.
+ghost use Rattle.std.specs.Prelude.{◌≡◌, ℕ, Bool, List, Some, IsTrue};
+ghost use Rattle.o2_isa.specs.declared.cpu.Cpu.{Cpu as CpuThere};
+ghost use Rattle.o2_isa.specs.View.{Filling, Hidden, Rest};
+ghost use Rattle.o2_place.specs.declared.seg_id.SegId.{SegId as SegIdThere};
+ghost use Rattle.o2_regions.specs.Maps.{Maps};
+ghost use Rattle.o2_run.specs.Room.{load_between, room_between, swap_load as world_load};
+ghost use Rattle.o2_segbus.specs.Bus.{AreInside};
+ghost use Rattle.o2_segbus.specs.Frames.{CanStep, KeepsClean, KeepsMaps, KeepsStore};
+ghost use Rattle.o2_segbus.specs.Settled.{IsSettled};
+ghost use Rattle.o2_service.specs.Needs.{all_needed};
+ghost use Rattle.o2_service.specs.Told.{IsHeldWell, OnlyTables};
+ghost use Rattle.o2_store.specs.Loads.{live_load, swap_load};
+ghost use Rattle.o2_store.specs.Pictures.{picture};
+ghost use Rattle.o2_store.specs.Shelf.{AreClean, KeepsAll, SameTables, Shelf};
+ghost use Rattle.o2_swapmap.specs.Piles.{all_of};
+ghost use Rattle.o2_world.specs.Map.{Map};
+ghost use Rattle.o2_world.specs.World.{Process, Reserve, Segment, Setting, World};
+ghost use Rattle.o2_world.specs.Holders.{process_at};
+ghost use Rattle.o2_world.specs.Known.{known_of};
+ghost use Rattle.o2_world.specs.Views.{view_of, with_bytes};
+ghost use Rattle.o2_stands.specs.Parts.{Parts};
+ghost use Rattle.o2_stands.specs.Stands.{AreLawful, IsReady, IsSetTo, Stands, StandsIn};
+ghost use Rattle.o2_stands.specs.Moves.{AreWritten, moved, stepped_to};
+ghost use Rattle.o2_stands.specs.Views.{Fills, filled};
+ghost use Rattle.o2_stands.specs.Knows.{KnowsAs, known_in, others_of};
+ghost use Rattle.o2_stands.specs.Sums.{NoneGrows, SaysNeed};
+
+/// What the boundless machine sees of a process is what a bus shows of it, with all segments present, where a filling gives
+/// the bytes of those that are out of memory.
+pub fn views_are_filled()
+    ensures { (p : Parts) (ps : List Process) (names : Map Segment) (next : ℕ) (reserved : List Reserve)
+        (pid : ℕ) (q : Process) (r : Rest) (h : Hidden) (f : Filling) → AreLawful p.shelf p.maps
+        → StandsIn p ps names next reserved → process_at ps pid ≡ Some q → Fills p h f
+        → view_of names q ≡ filled p r h f pid q.cpu }
+{}
+
+/// What is known of a world beside what a process sees is known of the machine.
+pub fn worlds_are_known()
+    ensures { (p : Parts) (s : Setting) (w : World) → AreLawful p.shelf p.maps → IsSetTo p s
+        → Stands p w → KnowsAs p.maps (known_of s w) (known_in p (others_of s w)) }
+{}
+
+/// Nobody sees that segments come into memory, go out of it or move in it.
+pub fn moves_are_unseen()
+    ensures stands { (p : Parts) (t : Shelf) (m : Maps) (after : ℕ → List ℕ) (told : Bool)
+        (ps : List Process) (names : Map Segment) (next : ℕ) (reserved : List Reserve)
+        → IsTrue told → KeepsAll told (picture p.images) p.shelf p.block t after → OnlyTables p.maps m
+        → IsReady (moved p t m after)
+        → StandsIn p ps names next reserved → StandsIn (moved p t m after) ps names next reserved }
+    ensures ready { (p : Parts) (t : Shelf) (m : Maps) (after : ℕ → List ℕ) → IsReady p
+        → SameTables p.shelf t → OnlyTables p.maps m
+        → AreClean t (picture p.images) → IsSettled t m → IsHeldWell t m
+        → all_of t.swap ≡ all_of p.shelf.swap → IsReady (moved p t m after) }
+{}
+
+/// What a step writes is written in the world: what is in memory has the bytes that it has there, and what is out of it those
+/// that it had.
+pub fn steps_are_seen()
+    ensures stands { (p : Parts) (t : Shelf) (m : Maps) (bytes : ℕ → List ℕ)
+        (ps : List Process) (names : Map Segment) (next : ℕ) (reserved : List Reserve)
+        → KeepsStore p.shelf t → KeepsMaps p.maps m → AreInside t → IsReady (stepped_to p t m)
+        → StandsIn p ps names next reserved → AreWritten names t bytes
+        → StandsIn (stepped_to p t m) ps (with_bytes names bytes) next reserved }
+    ensures ready { (p : Parts) (t : Shelf) (m : Maps) (pid : ℕ) (c : CpuThere) → IsReady p
+        → KeepsStore p.shelf t → KeepsMaps p.maps m → KeepsClean p.shelf p.maps t
+        → CanStep t m pid c → IsReady (stepped_to p t m) }
+{}
+
+/// Names and the numbers of live segments are one to one, so what is needed, what lives and what may go to the device are as
+/// much by names as by numbers.
+pub fn names_are_segments()
+    ensures room { (p : Parts) (ps : List Process) (names behind : Map Segment) (next : ℕ) (reserved : List Reserve)
+        (list : List ℕ) (need : List (SegIdThere × ℕ)) → AreLawful p.shelf p.maps
+        → StandsIn p ps names next reserved → SaysNeed p.shelf names behind list need
+        → room_between names behind list ≡ all_needed p.shelf need }
+    ensures live { (p : Parts) (ps : List Process) (names behind : Map Segment) (next : ℕ) (reserved : List Reserve)
+        → AreLawful p.shelf p.maps → StandsIn p ps names next reserved → NoneGrows p.shelf names behind
+        → load_between names behind ≡ live_load p.shelf }
+    ensures swap { (p : Parts) (w : World) → AreLawful p.shelf p.maps → Stands p w
+        → world_load w ≡ swap_load p.shelf }
+{}

@@ -1,0 +1,10 @@
+//! When a machine whose segments lie in a store stands for a world of the boundless machine, and what keeps that.
+#![tactic(auto)]
+
+mod always;
+mod laws;
+
+pub use always::lawful;
+pub use laws::{
+    moves_are_unseen, names_are_segments, steps_are_seen, views_are_filled, worlds_are_known,
+};
