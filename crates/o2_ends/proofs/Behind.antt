@@ -1,0 +1,385 @@
+-- What the machine goes by, and what it stands for, behind the end of a process.
+use Rattle.std.proofs.Common.{◌≡◌, ◌≢◌, ℕ, zero, suc, ◌+◌, ◌<◌, ◌≤◌, inl, inr, Bool, true, false, cond, ◌&&◌, ◌||◌, List, [], length, get_or, Option, Some, None, is_some, IsSome, refl, sym, ap, ◌∙◌, subst, arith, if◌then◌else◌, option_map}
+use Rattle.std.specs.Prelude.{nat_lt, ◌==◌}
+use Rattle.std.specs.List.{list_any}
+use Rattle.std.proofs.lemmas.Bool.{cases_eq, cases_lt, false≢true, eq-eqb, ne_eqb}
+use Rattle.std.proofs.lemmas.List.{get_or_past}
+use Rattle.o2_desc.specs.declared.descriptor.Descriptor.{Descriptor}
+use Rattle.o2_desc.specs.Bits.{is_writable, rights_of}
+use Rattle.o2_desc.specs.Bytes.{empty}
+use Rattle.o2_entries.specs.declared.Entry.{Entry}
+use Rattle.o2_entries.specs.Tables.{slot_at}
+use Rattle.o2_place.specs.declared.seg_id.SegId.{SegId}
+use Rattle.o2_regions.specs.declared.held.Held.{Held}
+use Rattle.o2_regions.specs.declared.held.Region.{Region}
+use Rattle.o2_regions.specs.declared.held.Region.TheVariants.{Private, Shared}
+use Rattle.o2_regions.specs.Kept.{AreKept}
+use Rattle.o2_regions.specs.Maps.{Maps, held_at, is_held as is_held_in, is_reserved, is_taken}
+use Rattle.o2_regions.proofs.Reserves.{held_reserved}
+use Rattle.o2_segbus.specs.Guards.{AreAged}
+use Rattle.o2_segbus.specs.Seen.{AreNamed, key_of}
+use Rattle.o2_segbus.specs.Settled.{Describes, IsSettled, IsSettledAt, descriptor_at}
+use Rattle.o2_segbus.proofs.Ages.{aged_key, named_by_age}
+use Rattle.o2_service.specs.Told.{IsHeldWell}
+use Rattle.o2_store.specs.Pictures.{picture}
+use Rattle.o2_store.specs.Shelf.{AreClean, IsShelf, Pictures, Shelf, entry, entry_of, entry_or, numbered, out_byte, place_of, source_byte}
+use Rattle.o2_swapmap.specs.Piles.{Blocks, all_of}
+use Rattle.o2_world.specs.Holders.{is_held, kept, process_at, with_process}
+use Rattle.o2_world.specs.Changes.{used}
+use Rattle.o2_world.specs.Known.{held_at as world_held, reserves}
+use Rattle.o2_world.specs.Map.{Map, get}
+use Rattle.o2_world.specs.World.{Held as WorldHeld, Process, Reserve, Segment, is_live}
+use Rattle.o2_stands.specs.Parts.{Parts, Running, held_in, held_of, running_of}
+use Rattle.o2_stands.specs.Stands.{IsIndex, IsNamed, IsReady, IsSegment, IsTidy, StandsIn, number_of, taken_by}
+use Rattle.o2_stands.specs.Moves.{stepped_to, with_running}
+use Rattle.o2_stands.proofs.Moves.{index_same}
+use Rattle.o2_stands.proofs.Rooms.{found_at}
+use Rattle.o2_ends.specs.Ended.{StandsBehind}
+use Rattle.o2_ends.specs.LetsGo.{KeepsSegment, LetsGo, Sheds, is_own, some_has}
+use Rattle.o2_ends.proofs.Holders.{has_there, holder_of, id_same, some_is}
+use Rattle.o2_ends.proofs.Letting.{held_before, held_behind, live_id}
+use Rattle.o2_ends.proofs.Worlds.{Holds, absorbed, held_here, held_other, holds_of, kept_is, name_held, private_taken, put_here, put_other, shared_taken, tidy_behind, used_all}
+
+none_some : {X : Type 0} (x : X) → None ≡ Some x → ⊥
+none_some x e = cc
+
+same_entry : (s t : Shelf) (k : ℕ) → KeepsSegment s t k → entry t k ≡ entry s k
+same_entry s t k x = ap (λ (o : Option Entry). entry_or o) x.entry
+
+-- no segment is there that doesn't show in its entry
+shows : (t : Shelf) (k : ℕ) (P : Entry → Type 0) → P (entry t k) → ((o : Option Entry) → o ≡ None → P (entry_or o) → ⊥) → IsSome (slot_at t.entries k)
+shows t k P p f = go (slot_at t.entries k) refl
+  where
+    go : (o : Option Entry) → slot_at t.entries k ≡ o → is_some o ≡ true
+    go (Some e) q = refl
+    go None q = absurd (f (slot_at t.entries k) q p)
+
+below : (s : Shelf) (k : ℕ) → IsSome (slot_at s.entries k) → k < length s.entries
+below s k x = elim (cases_lt k (length s.entries)) [
+  | inl l ↦ l
+  | inr l ↦ absurd (false≢true (ap is_some (sym (get_or_past s.entries k None l)) ∙ x))
+]
+
+module _ (p : Parts) (s : Shelf) (m : Maps) (t : Shelf) (n : Maps) (pid : ℕ) (shelf : IsShelf s) (w : LetsGo m n pid (λ i. true)) (d : Sheds s m t n) where
+  before : (q i : ℕ) (h : Held) → held_at n q i ≡ Some h → held_at m q i ≡ Some h
+  before q i h e = (held_before m n pid (λ i. true) w q i h e).0
+
+  entry_before : (q i : ℕ) (h : Held) → held_at n q i ≡ Some h → descriptor_at n q i ≡ descriptor_at m q i
+  entry_before q i h e =
+      w.described q i ∙ ap (λ (b : Bool). if b then empty else descriptor_at m q i) (held_before m n pid (λ i. true) w q i h e).1
+
+  -- what is held is still there
+  stays : IsHeldWell s m → (q i : ℕ) (h : Held) → held_at n q i ≡ Some h → KeepsSegment s t h.id.key
+  stays held q i h e =
+      let a = live_id s h.id (held.live q i h (before q i h e)) in
+      d.same h.id.key (d.left h.id.key a.0 (subst (λ (id : SegId). some_has n id ≡ true) (sym a.1) (has_there n q i h e)))
+
+  aged_behind : AreAged s → AreAged t
+  aged_behind a j k x y e =
+      let u = d.same j x in
+      let v = d.same k y in
+      a j k (ap is_some (sym u.entry) ∙ x) (ap is_some (sym v.entry) ∙ y)
+      (ap (λ (z : Entry). z.age) (sym (same_entry s t j u)) ∙ (e ∙ ap (λ (z : Entry). z.age) (same_entry s t k v)))
+
+  settled_behind : IsHeldWell s m → IsSettled s m → IsSettled t n
+  settled_behind held settled q i = go (held_at n q i) refl
+    where
+      go : (o : Option Held) → held_at n q i ≡ o → IsSettledAt t o (descriptor_at n q i)
+      go (Some h) e =
+          (let x = stays held q i h e in
+          let a : IsSettledAt s (Some h) (descriptor_at m q i) = subst (λ (o : Option Held). IsSettledAt s o (descriptor_at m q i)) (before q i h e) (settled q i) in
+          let b : Describes (place_of t h.id.key) (entry t h.id.key).size (rights_of (descriptor_at m q i).access) (descriptor_at m q i) =
+              subst (λ (z : Option (ℕ × ℕ)). Describes z (entry t h.id.key).size (rights_of (descriptor_at m q i).access) (descriptor_at m q i)) (sym x.place)
+              (subst (λ (z : Entry). Describes (place_of s h.id.key) z.size (rights_of (descriptor_at m q i).access) (descriptor_at m q i)) (sym (same_entry s t h.id.key x)) a) in
+          subst (λ (y : Descriptor). Describes (place_of t h.id.key) (entry t h.id.key).size (rights_of y.access) y) (sym (entry_before q i h e)) b)
+      go None e = bare ((q == pid) && true) (sym (w.held q i) ∙ e) (w.described q i)
+        where
+          bare : (b : Bool) → cond b None (held_at m q i) ≡ None → descriptor_at n q i ≡ cond b empty (descriptor_at m q i) → descriptor_at n q i ≡ empty
+          bare true f g = g
+          bare false f g = g ∙ subst (λ (o : Option Held). IsSettledAt s o (descriptor_at m q i)) f (settled q i)
+
+  -- a clean segment has the bytes of its image, whatever its blocks are
+  pure_byte : (o : Option (ℕ × ℕ)) (pic : Pictures) (a b : Blocks) (block : ℕ → List ℕ) (k j : ℕ) → IsSome o → source_byte o pic a block k j ≡ source_byte o pic b block k j
+  pure_byte None pic a b block k j x = absurd (false≢true x)
+  pure_byte (Some r) pic a b block k j x = refl
+
+  clean_behind : (pic : Pictures) → AreClean s pic → AreClean t pic
+  clean_behind pic clean = record { bytes = λ k at len j c e l block. byte k at len j c e l block }
+    where
+      byte : (k at len j : ℕ) → (entry t k).attr.clean ≡ true → place_of t k ≡ Some (at, len) → j < (entry t k).size → (block : ℕ → List ℕ)
+          → get_or t.memory (at + j) 0 ≡ out_byte t pic block k j
+      byte k at len j c e l block =
+          (let live = shows t k (λ (z : Entry). z.attr.clean ≡ true) c (λ o q x. false≢true (ap (λ (o : Option Entry). (entry_or o).attr.clean) (sym q) ∙ x)) in
+          let x = d.same k live in
+          let same = same_entry s t k x in
+          let c2 : (entry s k).attr.clean ≡ true = ap (λ (z : Entry). z.attr.clean) (sym same) ∙ c in
+          let old : IsSome (slot_at s.entries k) = ap is_some (sym x.entry) ∙ live in
+          let image : IsSome (entry s k).image = (shelf.each k (below s k old)).clean c2 in
+          let size : j < (entry s k).size = subst (λ (z : Entry). j < z.size) same l in
+          ap (λ (ys : List ℕ). get_or ys (at + j) 0) d.memory
+          ∙ (clean.bytes k at len j c2 (sym x.place ∙ e) size block
+          ∙ (ap (λ (z : ℕ). if nat_lt j (entry s k).kept then z else 0) (pure_byte (entry s k).image pic s.swap t.swap block k j image)
+          ∙ ap (λ (z : Entry). if nat_lt j z.kept then source_byte z.image pic t.swap block k j else 0) (sym same))))
+
+  pub ready_behind : IsReady (stepped_to p s m) → IsReady (stepped_to p t n)
+  ready_behind r =
+      let held = held_behind s t m n pid (λ i. true) r.held w d in
+      let aged = aged_behind r.aged in
+      record {
+        aged = aged;
+        named = named_by_age t n aged held.live;
+        held = held;
+        settled = settled_behind r.held r.settled;
+        guarded = λ q i h e u.
+            ap (λ (z : Entry). z.attr.clean) (same_entry s t h.id.key (stays r.held q i h e))
+            ∙ r.guarded q i h (before q i h e) (subst (λ (y : Descriptor). is_writable (rights_of y.access) ≡ true) (entry_before q i h e) u);
+        clean = clean_behind (picture p.images) r.clean;
+        pictures = λ k a seg e.
+            (let live = shows t k (λ (z : Entry). z.image ≡ Some (a, seg)) e (λ o q x. none_some (a, seg) (ap (λ (o : Option Entry). (entry_or o).image) (sym q) ∙ x)) in
+            r.pictures k a seg (ap (λ (z : Entry). z.image) (sym (same_entry s t k (d.same k live))) ∙ e));
+        device = (let a = r.device in let b = d.map in omega (arith, a, b));
+      }
+
+-- registers and state of a process change nothing of that
+running_ready : (p : Parts) (pid : ℕ) (r : Running) → IsReady p → IsReady (with_running p pid r)
+running_ready p pid r w = record {
+  aged = w.aged;
+  named = w.named;
+  held = w.held;
+  settled = w.settled;
+  guarded = w.guarded;
+  clean = w.clean;
+  pictures = w.pictures;
+  device = w.device;
+}
+
+-- What is held, index by index.
+
+in_as : (m n : Maps) (q i : ℕ) → held_at n q i ≡ held_at m q i → descriptor_at n q i ≡ descriptor_at m q i → held_in n q i ≡ held_in m q i
+unfolding held_in
+in_as m n q i e f =
+    ap (option_map (held_of n q i)) e
+    ∙ ap (λ (y : Descriptor). option_map (λ (h : Held). record (held_of m q i h) { rights = rights_of y.access }) (held_at m q i)) f
+
+in_none : (n : Maps) (q i : ℕ) → held_at n q i ≡ None → held_in n q i ≡ None
+unfolding held_in
+in_none n q i e = ap (option_map (held_of n q i)) e
+
+in_some : (n : Maps) (q i : ℕ) (h : Held) → held_at n q i ≡ Some h → held_in n q i ≡ Some (held_of n q i h)
+unfolding held_in
+in_some n q i h e = ap (option_map (held_of n q i)) e
+
+some_in : (n : Maps) (q i : ℕ) → is_some (held_in n q i) ≡ is_some (held_at n q i)
+unfolding held_in
+some_in n q i = go (held_at n q i)
+  where
+    go : (o : Option Held) → is_some (option_map (held_of n q i) o) ≡ is_some o
+    go None = refl
+    go (Some h) = refl
+
+record IsIn (n : Maps) (q i : ℕ) (x : WorldHeld) : Type 0 where
+  hold : Held
+  there : held_at n q i ≡ Some hold
+  name : hold.id.age ≡ x.name
+
+in_back : (n : Maps) (q i : ℕ) (x : WorldHeld) → held_in n q i ≡ Some x → IsIn n q i x
+unfolding held_in
+in_back n q i x e = go (held_at n q i) refl e
+  where
+    go : (o : Option Held) → held_at n q i ≡ o → option_map (held_of n q i) o ≡ Some x → IsIn n q i x
+    go None f g = absurd (none_some x g)
+    go (Some h) f g = record { hold = h; there = f; name = ap (λ (y : WorldHeld). y.name) (some_is (held_of n q i h) x g) }
+
+taken_is : (m : Maps) (g : Region) (i : ℕ) → AreKept m → IsIndex m g i → is_taken m g i ≡ is_reserved m g i
+taken_is m g i kept x = absorbed (is_held_in m g i) (is_reserved m g i) (λ e. held_reserved m g i kept x.from x.to e)
+
+module _ (p : Parts) (s : Shelf) (m : Maps) (t : Shelf) (n : Maps) (pid : ℕ) (shelf : IsShelf s) (old : AreKept m) (new : AreKept n) (w : LetsGo m n pid (λ i. true)) (d : Sheds s m t n)
+    (ps : List Process) (names : Map Segment) (next : ℕ) (reserved : List Reserve) (x q : Process) (stands : StandsIn (stepped_to p s m) ps names next reserved)
+    (there : process_at ps pid ≡ Some x) (none : q.held ≡ []) where
+  abbrev qs : List Process
+  qs = with_process ps pid q
+
+  ready : IsReady (stepped_to p t n)
+  ready = ready_behind p s m t n pid shelf w d stands.ready
+
+  nothing : (i : ℕ) → held_at n pid i ≡ None
+  nothing i = w.held pid i ∙ ap (λ (b : Bool). if b && true then None else held_at m pid i) (eq-eqb pid pid refl)
+
+  other_held : (a i : ℕ) → a ≢ pid → held_at n a i ≡ held_at m a i
+  other_held a i apart = w.held a i ∙ ap (λ (b : Bool). if b && true then None else held_at m a i) (ne_eqb a pid apart)
+
+  other_entry : (a i : ℕ) → a ≢ pid → descriptor_at n a i ≡ descriptor_at m a i
+  other_entry a i apart = w.described a i ∙ ap (λ (b : Bool). if b && true then empty else descriptor_at m a i) (ne_eqb a pid apart)
+
+  holds : (a i : ℕ) → world_held qs a i ≡ held_in n a i
+  holds a i = elim (cases_eq a pid) [
+    | inl same ↦
+        ap (λ (b : ℕ). world_held qs b i) same
+        ∙ (held_here ps pid x q there none i ∙ sym (ap (λ (b : ℕ). held_in n b i) same ∙ in_none n pid i (nothing i)))
+    | inr apart ↦ held_other ps pid x q there a i apart ∙ (stands.held a i ∙ sym (in_as m n a i (other_held a i apart) (other_entry a i apart)))
+  ]
+
+  -- Names.
+
+  abbrev Before : ℕ → ℕ → Type 0
+  Before name k = some_has m (numbered s k) ≡ true
+
+  -- the segment of a name that is held
+  named_id : (a i name k : ℕ) (h : Held) → held_at m a i ≡ Some h → h.id.age ≡ name → key_of s name ≡ Some k → h.id ≡ numbered s k
+  named_id a i name k h e f key =
+      let g : Some h.id.key ≡ Some k = sym (stands.ready.named a i h e) ∙ (ap (key_of s) f ∙ key) in
+      let age = (found_at s name k key).1 in
+      id_same h.id (numbered s k) (some_is h.id.key k g) (f ∙ sym age)
+
+  -- a name that somebody holds behind, before
+  held_behind_is : (name k : ℕ) → key_of s name ≡ Some k → is_held qs name ≡ true → some_has n (numbered s k) ≡ true
+  held_behind_is name k key e =
+      let y = holds_of qs name e in
+      let z = in_back n y.number y.index y.hold (sym (holds y.number y.index) ∙ y.there) in
+      let i = named_id y.number y.index name k z.hold (held_before m n pid (λ i. true) w y.number y.index z.hold z.there).0 (z.name ∙ y.named) key in
+      subst (λ (id : SegId). some_has n id ≡ true) i (has_there n y.number y.index z.hold z.there)
+
+  held_before_is : (name k : ℕ) → key_of s name ≡ Some k → is_held ps name ≡ true → some_has m (numbered s k) ≡ true
+  held_before_is name k key e =
+      let y = holds_of ps name e in
+      let z = in_back m y.number y.index y.hold (sym (stands.held y.number y.index) ∙ y.there) in
+      let i = named_id y.number y.index name k z.hold z.there (z.name ∙ y.named) key in
+      subst (λ (id : SegId). some_has m id ≡ true) i (has_there m y.number y.index z.hold z.there)
+
+  unheld_is : (name k : ℕ) → key_of s name ≡ Some k → is_held qs name ≡ false → some_has n (numbered s k) ≡ false
+  unheld_is name k key e = go (some_has n (numbered s k)) refl
+    where
+      go : (b : Bool) → some_has n (numbered s k) ≡ b → b ≡ false
+      go false f = refl
+      go true f =
+          (let y = holder_of n (numbered s k) f in
+          let there : world_held qs y.pid y.index ≡ Some (held_of n y.pid y.index y.hold) = holds y.pid y.index ∙ in_some n y.pid y.index y.hold y.there in
+          let age : y.hold.id.age ≡ name = ap (λ (id : SegId). id.age) y.named ∙ (found_at s name k key).1 in
+          absurd (false≢true (sym e ∙ subst (λ (z : ℕ). is_held qs z ≡ true) age (name_held qs y.pid y.index (held_of n y.pid y.index y.hold) there))))
+
+  -- the number of a name behind is the one before
+  key_before : (name k : ℕ) → key_of t name ≡ Some k → key_of s name ≡ Some k
+  key_before name k e =
+      let a = found_at t name k e in
+      let y = d.same k a.0 in
+      let live : IsSome (slot_at s.entries k) = ap is_some (sym y.entry) ∙ a.0 in
+      let age : (entry s k).age ≡ name = ap (λ (z : Entry). z.age) (sym (same_entry s t k y)) ∙ a.1 in
+      subst (λ (z : ℕ). key_of s z ≡ Some k) age (aged_key s k stands.ready.aged live)
+
+  key_behind : (name k : ℕ) → key_of s name ≡ Some k → IsSome (slot_at t.entries k) → key_of t name ≡ Some k
+  key_behind name k e live =
+      let a = found_at s name k e in
+      let age : (entry t k).age ≡ name = ap (λ (z : Entry). z.age) (same_entry s t k (d.same k live)) ∙ a.1 in
+      subst (λ (z : ℕ). key_of t z ≡ Some k) age (aged_key t k ready.aged live)
+
+  no_key : (name k : ℕ) → key_of s name ≡ Some k → slot_at t.entries k ≡ None → key_of t name ≡ None
+  no_key name k e gone = go (key_of t name) refl
+    where
+      go : (o : Option ℕ) → key_of t name ≡ o → o ≡ None
+      go None f = refl
+      go (Some j) f =
+          (let same : j ≡ k = some_is j k (sym (key_before name j f) ∙ e) in
+          let live = (found_at t name j f).0 in
+          absurd (false≢true (ap is_some (sym (ap (slot_at t.entries) same ∙ gone)) ∙ live)))
+
+  no_name : (name : ℕ) → key_of s name ≡ None → key_of t name ≡ None
+  no_name name e = go (key_of t name) refl
+    where
+      go : (o : Option ℕ) → key_of t name ≡ o → o ≡ None
+      go None f = refl
+      go (Some j) f = absurd (none_some j (sym e ∙ key_before name j f))
+
+  segment_behind : (k : ℕ) (y : Segment) → IsSegment (stepped_to p s m) k y → KeepsSegment s t k → IsSegment (with_running (stepped_to p t n) pid (running_of q)) k y
+  segment_behind k y is z =
+      let same = same_entry s t k z in
+      record {
+        size = is.size ∙ ap (λ (e : Entry). e.size) (sym same);
+        bytes = λ j l. is.bytes j (subst (λ (e : Entry). j < e.size) same l) ∙ sym (z.bytes (picture p.images) p.block j);
+        clean = is.clean ∙ ap (λ (e : Entry). e.attr.clean) (sym same);
+        flags = is.flags ∙ ap (λ (e : Entry). e.attr.flags) (sym same);
+        lock = is.lock ∙ ap (λ (e : Entry). e.attr.lock) (sym same);
+        shared = is.shared ∙ ap (λ (e : Entry). e.attr.shared) (sym same);
+      }
+
+  abbrev behind : Parts
+  behind = with_running (stepped_to p t n) pid (running_of q)
+
+  segments : (name : ℕ) → IsNamed behind (key_of t name) (get (kept qs names) name)
+  segments name = subst (λ (v : Option Segment). IsNamed behind (key_of t name) v) (sym (kept_is qs names name)) (at (key_of s name) (get names name) refl refl (stands.segments name) (is_held qs name) refl)
+    where
+      both : (o : Option ℕ) (v : Option Segment) → key_of t name ≡ o → IsNamed behind o v → IsNamed behind (key_of t name) v
+      both o v e is = subst (λ (z : Option ℕ). IsNamed behind z v) (sym e) is
+
+      at : (o : Option ℕ) (v : Option Segment) → key_of s name ≡ o → get names name ≡ v → IsNamed (stepped_to p s m) o v → (b : Bool) → is_held qs name ≡ b
+          → IsNamed behind (key_of t name) (cond b v None)
+      at None None e f is true h = both None None (no_name name e) is
+      at None None e f is false h = both None None (no_name name e) is
+      at (Some k) None e f is b h = absurd is
+      at None (Some y) e f is b h = absurd is
+      at (Some k) (Some y) e f is true h =
+          (let live = d.left k (found_at s name k e).0 (held_behind_is name k e h) in
+          both (Some k) (Some y) (key_behind name k e live) (segment_behind k y is (d.same k live)))
+      at (Some k) (Some y) e f is false h =
+          (let was = held_before_is name k e (stands.tidy.used name (ap is_some f)) in
+          both None None (no_key name k e (d.gone k was (unheld_is name k e h))) tt)
+
+  -- Indexes.
+
+  taken : (g : Region) (i : ℕ) → IsIndex n g i → taken_by qs (used qs reserved) (number_of g) i ≡ is_taken n g i
+  taken g i y =
+      ap (λ (rs : List Reserve). taken_by qs rs (number_of g) i) (used_all qs reserved stands.tidy.stay)
+      ∙ (by_region g (index_same m n g i w.processes y)
+      ∙ (sym (w.reserved g i (index_same m n g i w.processes y))
+      ∙ sym (taken_is n g i new y)))
+    where
+      before : (g : Region) → IsIndex m g i → taken_by ps reserved (number_of g) i ≡ is_reserved m g i
+      before g z = stands.taken g i z ∙ taken_is m g i old z
+
+      by_region : (g : Region) → IsIndex m g i → taken_by qs reserved (number_of g) i ≡ (if is_own pid g && (true && is_some (held_at m pid i)) then false else is_reserved m g i)
+      by_region Shared z =
+          shared_taken qs (kept qs names) reserved i z.from (tidy_behind ps names reserved pid x q there none stands.tidy)
+          ∙ (sym (shared_taken ps names reserved i z.from stands.tidy) ∙ before Shared z)
+      by_region (Private a) z =
+          private_taken qs reserved a i z.region.0 stands.tidy.stay
+          ∙ (ap is_some (holds a i) ∙ (some_in n a i ∙ elim (cases_eq a pid) [
+            | inl same ↦
+                ap is_some (ap (λ (b : ℕ). held_at n b i) same ∙ nothing i)
+                ∙ (sym (ends (is_some (held_at m pid i)) (is_reserved m (Private a) i) (was same)) ∙ ap (λ (b : Bool). if b && (true && is_some (held_at m pid i)) then false else is_reserved m (Private a) i) (sym (eq-eqb a pid same)))
+            | inr apart ↦
+                ap is_some (other_held a i apart)
+                ∙ (sym (some_in m a i) ∙ (ap is_some (sym (stands.held a i)) ∙ (sym (private_taken ps reserved a i z.region.0 stands.tidy.stay) ∙ (before (Private a) z
+                ∙ ap (λ (b : Bool). if b && (true && is_some (held_at m pid i)) then false else is_reserved m (Private a) i) (sym (ne_eqb a pid apart))))))
+          ]))
+        where
+          was : a ≡ pid → is_reserved m (Private a) i ≡ is_some (held_at m pid i)
+          was same =
+              sym (before (Private a) z)
+              ∙ (private_taken ps reserved a i z.region.0 stands.tidy.stay ∙ (ap is_some (stands.held a i) ∙ (some_in m a i ∙ ap (λ (b : ℕ). is_some (held_at m b i)) same)))
+
+          ends : (b r : Bool) → r ≡ b → (if true && (true && b) then false else r) ≡ false
+          ends true r e = refl
+          ends false r e = e
+
+  pub stands_behind : StandsIn behind qs (kept qs names) next (used qs reserved)
+  stands_behind = record {
+    ready = running_ready (stepped_to p t n) pid (running_of q) ready;
+    segments = segments;
+    made = stands.made ∙ sym d.made;
+    processes = λ a. elim (cases_eq a pid) [
+      | inl same ↦
+          ap (λ (b : ℕ). option_map running_of (process_at qs b)) same
+          ∙ (ap (option_map running_of) (put_here ps pid x q there) ∙ ap (λ (b : Bool). if b then Some (running_of q) else p.running a) (sym (eq-eqb a pid same)))
+      | inr apart ↦
+          ap (option_map running_of) (put_other ps pid x q there a apart)
+          ∙ (stands.processes a ∙ ap (λ (b : Bool). if b then Some (running_of q) else p.running a) (sym (ne_eqb a pid apart)))
+    ];
+    held = holds;
+    taken = taken;
+    tidy = subst (λ (rs : List Reserve). IsTidy qs (kept qs names) rs) (sym (used_all qs reserved stands.tidy.stay)) (tidy_behind ps names reserved pid x q there none stands.tidy);
+  }
+
+pub behind_all : (s : Shelf) (m : Maps) (t : Shelf) (n : Maps) (pid : ℕ) → IsShelf s → AreKept m → AreKept n → LetsGo m n pid (λ i. true) → Sheds s m t n → StandsBehind pid s m t n
+behind_all s m t n pid shelf old new w d = record {
+  ready = λ p r. ready_behind p s m t n pid shelf w d r;
+  stands = λ p ps names next reserved x q stands there none dead. stands_behind p s m t n pid shelf old new w d ps names next reserved x q stands there none;
+}

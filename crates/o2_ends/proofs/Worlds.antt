@@ -1,0 +1,193 @@
+-- A world behind the end of a process, by look-ups.
+use Rattle.std.proofs.Common.{◌≡◌, ◌≢◌, ℕ, zero, suc, ◌+◌, ◌-◌, ◌<◌, ◌≤◌, inl, inr, Bool, true, false, cond, ◌&&◌, ◌||◌, List, [], ◌∷◌, Option, Some, None, is_some, refl, sym, ap, ◌∙◌, subst, arith, if◌then◌else◌}
+use Rattle.std.specs.Prelude.{filter, nat_le, nat_lt, ◌==◌, slice_get, slice_set}
+use Rattle.std.specs.List.{list_any}
+use Rattle.std.proofs.lemmas.Bool.{cases_eq, false≢true, eq-eqb, ne_eqb}
+use Rattle.o2_world.specs.Changes.{is_used, used}
+use Rattle.o2_world.specs.Holders.{is_held, kept, process_at, with_process}
+use Rattle.o2_world.specs.Known.{held_at, holds_index, is_for_the_run, lives_at, reserves}
+use Rattle.o2_world.specs.Map.{Map, get}
+use Rattle.o2_world.specs.Sound.{held_in, held_of}
+use Rattle.o2_world.specs.World.{Held, Process, Reserve, Segment, is_live}
+use Rattle.o2_world.proofs.Holding.{IsHeldBy, held_by}
+use Rattle.o2_world.proofs.Keeps.{at_other, held_found}
+use Rattle.o2_world.proofs.MapLemmas.{get-filter}
+use Rattle.o2_world.proofs.Numbers.{at_place_of, number_some, process_is, with_is}
+use Rattle.o2_stands.specs.Stands.{AllStay, AreOnce, IsTidy, taken_by}
+
+none_some : {X : Type 0} (x : X) → None ≡ Some x → ⊥
+none_some x e = cc
+
+-- Numbers and places.
+
+number_is : (ps : List Process) (place : ℕ) → process_at ps (place + 1) ≡ slice_get ps place
+number_is ps place = process_is ps (place + 1) (omega arith) ∙ ap (slice_get ps) (omega arith)
+
+to_place : (ps : List Process) (n i : ℕ) (h : Held) → held_at ps n i ≡ Some h → held_in ps (n - 1) i ≡ Some h
+to_place ps n i h e = go (n == 0) e
+  where
+    go : (b : Bool) → held_of (cond b None (slice_get ps (n - 1))) i ≡ Some h → held_of (slice_get ps (n - 1)) i ≡ Some h
+    go true q = absurd (none_some h q)
+    go false q = q
+
+-- who holds a name
+pub name_held : (ps : List Process) (n i : ℕ) (h : Held) → held_at ps n i ≡ Some h → is_held ps h.name ≡ true
+name_held ps n i h e = held_found ps (n - 1) i h (to_place ps n i h e)
+
+pub record Holds (ps : List Process) (name : ℕ) : Type 0 where
+  pub number : ℕ
+  pub index : ℕ
+  pub hold : Held
+  pub there : held_at ps number index ≡ Some hold
+  pub named : hold.name ≡ name
+
+pub holds_of : (ps : List Process) (name : ℕ) → is_held ps name ≡ true → Holds ps name
+holds_of ps name e =
+    let x = held_by name ps e in
+    record { number = x.place + 1; index = x.index; hold = x.hold; there = ap (λ (o : Option Process). held_of o x.index) (number_is ps x.place) ∙ x.there; named = x.named }
+
+-- The process that has ended.
+
+at_same : {X : Type 0} (xs : List X) (i : ℕ) (x y : X) → slice_get xs i ≡ Some x → slice_get (slice_set xs i y) i ≡ Some y
+at_same [] i x y e = absurd (none_some x e)
+at_same (a ∷ xs) zero x y e = refl
+at_same (a ∷ xs) (suc i) x y e = at_same xs i x y e
+
+module _ (ps : List Process) (pid : ℕ) (x q : Process) (there : process_at ps pid ≡ Some x) where
+  some : 0 < pid
+  some = number_some ps pid x there
+
+  pub put_here : process_at (with_process ps pid q) pid ≡ Some q
+  put_here =
+      process_is (with_process ps pid q) pid some
+      ∙ (ap (λ (qs : List Process). slice_get qs (pid - 1)) (with_is ps pid q some)
+      ∙ at_same ps (pid - 1) x q (at_place_of ps pid x there))
+
+  pub put_other : (n : ℕ) → n ≢ pid → process_at (with_process ps pid q) n ≡ process_at ps n
+  put_other n other = go (n == 0) refl
+    where
+      go : (b : Bool) → (n == 0) ≡ b → cond b None (slice_get (with_process ps pid q) (n - 1)) ≡ cond b None (slice_get ps (n - 1))
+      go true e = refl
+      go false e =
+          ap (λ (qs : List Process). slice_get qs (n - 1)) (with_is ps pid q some)
+          ∙ at_other ps (pid - 1) (n - 1) q (λ z. (let w : n ≢ 0 = above e in other (omega (arith, z, some, w))))
+        where
+          above : (n == 0) ≡ false → n ≢ 0
+          above e z = false≢true (sym e ∙ eq-eqb n 0 z)
+
+  pub held_here : q.held ≡ [] → (i : ℕ) → held_at (with_process ps pid q) pid i ≡ None
+  held_here none i = ap (λ (o : Option Process). held_of o i) put_here ∙ ap (λ (m : Map Held). get m i) none
+
+  pub held_other : (n i : ℕ) → n ≢ pid → held_at (with_process ps pid q) n i ≡ held_at ps n i
+  held_other n i other = ap (λ (o : Option Process). held_of o i) (put_other n other)
+
+-- Names.
+
+pub kept_is : (ps : List Process) (names : Map Segment) (n : ℕ) → get (kept ps names) n ≡ (if is_held ps n then get names n else None)
+kept_is ps names n = get-filter (is_held ps) names n
+
+once_kept : (p : ℕ → Bool) (m : Map Segment) → AreOnce m → AreOnce (filter (λ (e : ℕ × Segment). p e.0) m)
+once_kept p [] once = once
+once_kept p (e ∷ es) once = go (p e.0) (once_kept p es once.1)
+  where
+    none : (b : Bool) (o : Option Segment) → o ≡ None → cond b o None ≡ None
+    none true o z = z
+    none false o z = refl
+
+    go : (b : Bool) → AreOnce (filter (λ (e : ℕ × Segment). p e.0) es) → AreOnce (cond b (e ∷ filter (λ (e : ℕ × Segment). p e.0) es) (filter (λ (e : ℕ × Segment). p e.0) es))
+    go true rest = (get-filter p es e.0 ∙ none (p e.0) (get es e.0) once.0, rest)
+    go false rest = rest
+
+-- Reserved indexes.
+
+and_parts : (a b : Bool) → (a && b) ≡ true → (a ≡ true) × (b ≡ true)
+and_parts true b e = (refl, e)
+and_parts false b e = absurd (false≢true e)
+
+is_zero : (n : ℕ) → (n == 0) ≡ true → n ≡ 0
+is_zero n e = grind arith
+
+pub used_all : (ps : List Process) (rs : List Reserve) → AllStay rs → used ps rs ≡ rs
+used_all ps [] all = refl
+used_all ps (r ∷ rs) all =
+    let x = and_parts (r.region == 0) r.stays all.0 in
+    let t : is_used ps r ≡ true = rw (x.0, x.1) refl in
+    ap (λ (b : Bool). cond b (r ∷ filter (is_used ps) rs) (filter (is_used ps) rs)) t ∙ ap (λ (z : List Reserve). r ∷ z) (used_all ps rs all.1)
+
+pub no_own : (rs : List Reserve) (a i : ℕ) → 1 ≤ a → AllStay rs → list_any (reserves a i) rs ≡ false
+no_own [] a i some all = refl
+no_own (r ∷ rs) a i some all =
+    let x = is_zero r.region (and_parts (r.region == 0) r.stays all.0).0 in
+    let t : (r.region == a) ≡ false = ne_eqb r.region a (λ z. absurd (omega (arith, x, z, some))) in
+    ap (λ (b : Bool). (b && (nat_le r.first i && nat_lt i (r.first + r.count))) || list_any (reserves a i) rs) t ∙ no_own rs a i some all.1
+
+or_right : (a b : Bool) → b ≡ true → (a || b) ≡ true
+or_right true b e = refl
+or_right false b e = e
+
+run_reserves : (rs : List Reserve) (i : ℕ) → list_any (is_for_the_run i) rs ≡ true → list_any (reserves 0 i) rs ≡ true
+run_reserves [] i e = absurd (false≢true e)
+run_reserves (r ∷ rs) i e = go r.stays (reserves 0 i r) e (run_reserves rs i)
+  where
+    go : (a b : Bool) → ((a && b) || list_any (is_for_the_run i) rs) ≡ true → (list_any (is_for_the_run i) rs ≡ true → list_any (reserves 0 i) rs ≡ true) → (b || list_any (reserves 0 i) rs) ≡ true
+    go true true q rest = refl
+    go true false q rest = rest q
+    go false b q rest = or_right b (list_any (reserves 0 i) rs) (rest q)
+
+pub absorbed : (a b : Bool) → (a ≡ true → b ≡ true) → (a || b) ≡ b
+absorbed true b f = sym (f refl)
+absorbed false b f = refl
+
+record HoldsIndex (ps : List Process) (i : ℕ) : Type 0 where
+  place : ℕ
+  there : is_some (held_in ps place i) ≡ true
+
+index_held : (ps : List Process) (i : ℕ) → holds_index ps i ≡ true → HoldsIndex ps i
+index_held [] i e = absurd (false≢true e)
+index_held (p ∷ ps) i e = go (is_some (get p.held i)) refl e (index_held ps i)
+  where
+    go : (b : Bool) → is_some (get p.held i) ≡ b → (b || holds_index ps i) ≡ true → (holds_index ps i ≡ true → HoldsIndex ps i) → HoldsIndex (p ∷ ps) i
+    go true t q rest = record { place = 0; there = t }
+    go false t q rest = (let x = rest q in record { place = suc x.place; there = x.there })
+
+pub private_taken : (ps : List Process) (rs : List Reserve) (a i : ℕ) → 1 ≤ a → AllStay rs → taken_by ps rs a i ≡ is_some (held_at ps a i)
+private_taken ps rs a i some all =
+    ap (λ (b : Bool). cond b (holds_index ps i) (is_some (held_at ps a i)) || list_any (reserves a i) rs) (ne_eqb a 0 (λ z. absurd (omega (arith, z, some))))
+    ∙ (ap (λ (b : Bool). is_some (held_at ps a i) || b) (no_own rs a i some all) ∙ or_false (is_some (held_at ps a i)))
+  where
+    or_false : (b : Bool) → (b || false) ≡ b
+    or_false true = refl
+    or_false false = refl
+
+pub shared_taken : (ps : List Process) (names : Map Segment) (rs : List Reserve) (i : ℕ) → 4096 ≤ i → IsTidy ps names rs → taken_by ps rs 0 i ≡ list_any (reserves 0 i) rs
+shared_taken ps names rs i high tidy = absorbed (holds_index ps i) (list_any (reserves 0 i) rs) (λ e. held (index_held ps i e))
+  where
+    held : HoldsIndex ps i → list_any (reserves 0 i) rs ≡ true
+    held x = run_reserves rs i (tidy.shared (x.place + 1) i high (ap (λ (o : Option Process). is_some (held_of o i)) (number_is ps x.place) ∙ x.there))
+
+-- The world is tidy.
+pub tidy_behind : (ps : List Process) (names : Map Segment) (rs : List Reserve) (pid : ℕ) (x q : Process) → process_at ps pid ≡ Some x → q.held ≡ [] → IsTidy ps names rs
+    → IsTidy (with_process ps pid q) (kept (with_process ps pid q) names) rs
+tidy_behind ps names rs pid x q there none tidy = record {
+  once = once_kept (is_held qs) names tidy.once;
+  used = λ n s. used n s;
+  ended = λ n i e. elim (cases_eq n pid) [
+    | inl same ↦ ap (λ (a : ℕ). held_at qs a i) same ∙ held_here ps pid x q there none i
+    | inr other ↦ held_other ps pid x q there n i other ∙ tidy.ended n i (ap lives_at (sym (put_other ps pid x q there n other)) ∙ e)
+  ];
+  stay = tidy.stay;
+  shared = λ n i high e. elim (cases_eq n pid) [
+    | inl same ↦ absurd (false≢true (ap is_some (sym (ap (λ (a : ℕ). held_at qs a i) same ∙ held_here ps pid x q there none i)) ∙ e))
+    | inr other ↦ tidy.shared n i high (ap is_some (sym (held_other ps pid x q there n i other)) ∙ e)
+  ];
+}
+  where
+    qs : List Process
+    qs = with_process ps pid q
+
+    used : (n : ℕ) → is_some (get (kept qs names) n) ≡ true → is_held qs n ≡ true
+    used n s = go (is_held qs n) (ap is_some (sym (kept_is qs names n)) ∙ s)
+      where
+        go : (b : Bool) → is_some (cond b (get names n) None) ≡ true → b ≡ true
+        go true e = refl
+        go false e = absurd (false≢true e)

@@ -1,0 +1,32 @@
+use Rattle.std.proofs.Common.{◌≡◌, ◌==◌, ℕ, length, List, ap, sym, subst, ◌∙◌}
+use Rattle.o2_regions.specs.Maps.{Maps}
+use Rattle.o2_store.specs.Shelf.{Shelf}
+use Rattle.o2_ends.specs.LetsGo.{LetsGo, Sheds}
+use Rattle.o2_ends.proofs.Holders.{nobody_by, somebody_by}
+use Rattle.o2_ends.proofs.Letting.{lets_one, sheds_none, sheds_one}
+use Rattle.o2_ends.proofs.ending.let_go_at.Goals as goal
+use Rattle.o2_ends.proofs.ending.let_go_at.Goals.{else-is_none, then-is_none}
+
+pub returns-clause-store : goal.returns-clause-store
+returns-clause-store c =
+    let s = c.args.store.now in
+    let m = c.args.regions.now in
+    let n = c.release_own.new.regions in
+    let h = c.in-Some.held in
+    let pid = c.args.pid in
+    let i = c.args.index in
+    let at = sym c.in-Some.ensures.held in
+    let w : LetsGo m n pid (λ j. j == i) = lets_one m c.drop_all.new.regions n pid i c.requires.some c.drop_all.ensures c.release_own.ensures in
+    elim c.if-is_none.branch [
+      | then-is_none x ↦
+          (let live = c.requires.held.live pid i h at in
+          let r = x.remove.ensures.removed (x.remove.ensures.live.1 live) in
+          let now = subst (λ (t : Shelf). t.places.size ≡ length t.memory) x.store-is c.law-4.ensures.shelf.memory in
+          let size = now ∙ (ap (λ (t : Shelf). length t.memory) r.shelf ∙ sym c.law.ensures.shelf.memory) in
+          subst (λ (t : Shelf). Sheds s m t n) (sym x.store-is)
+          (sheds_one s m n pid i h at w x.remove.new.self live r x.remove.ensures.map size
+          (nobody_by n h.id c.holder.result c.is_none.result c.holder.ensures c.is_none.ensures x.if-is_none.true)))
+      | else-is_none x ↦
+          subst (λ (t : Shelf). Sheds s m t n) (sym x.store-is)
+          (sheds_none s m n pid i h at w (somebody_by n h.id c.holder.result c.is_none.result c.holder.ensures c.is_none.ensures x.if-is_none.false))
+    ]
