@@ -38,7 +38,9 @@ use Rattle.o2_ends.specs.Ended.{StandsBehind}
 use Rattle.o2_ends.specs.LetsGo.{KeepsSegment, LetsGo, Sheds, is_own, some_has}
 use Rattle.o2_ends.proofs.Holders.{has_there, holder_of, id_same, some_is}
 use Rattle.o2_ends.proofs.Letting.{held_before, held_behind, live_id}
-use Rattle.o2_ends.proofs.Worlds.{Holds, absorbed, held_here, held_other, holds_of, kept_is, name_held, private_taken, put_here, put_other, shared_taken, tidy_behind, used_all}
+use Rattle.o2_stands.proofs.Running.{running_put, running_ready}
+use Rattle.o2_stands.proofs.Worlds.{holds_of, name_held, put_here, put_other}
+use Rattle.o2_ends.proofs.Worlds.{absorbed, held_here, held_other, kept_is, private_taken, shared_taken, tidy_behind, used_all}
 
 none_some : {X : Type 0} (x : X) → None ≡ Some x → ⊥
 none_some x e = cc
@@ -139,19 +141,6 @@ module _ (p : Parts) (s : Shelf) (m : Maps) (t : Shelf) (n : Maps) (pid : ℕ) (
             r.pictures k a seg (ap (λ (z : Entry). z.image) (sym (same_entry s t k (d.same k live))) ∙ e));
         device = (let a = r.device in let b = d.map in omega (arith, a, b));
       }
-
--- registers and state of a process change nothing of that
-running_ready : (p : Parts) (pid : ℕ) (r : Running) → IsReady p → IsReady (with_running p pid r)
-running_ready p pid r w = record {
-  aged = w.aged;
-  named = w.named;
-  held = w.held;
-  settled = w.settled;
-  guarded = w.guarded;
-  clean = w.clean;
-  pictures = w.pictures;
-  device = w.device;
-}
 
 -- What is held, index by index.
 
@@ -365,14 +354,7 @@ module _ (p : Parts) (s : Shelf) (m : Maps) (t : Shelf) (n : Maps) (pid : ℕ) (
     ready = running_ready (stepped_to p t n) pid (running_of q) ready;
     segments = segments;
     made = stands.made ∙ sym d.made;
-    processes = λ a. elim (cases_eq a pid) [
-      | inl same ↦
-          ap (λ (b : ℕ). option_map running_of (process_at qs b)) same
-          ∙ (ap (option_map running_of) (put_here ps pid x q there) ∙ ap (λ (b : Bool). if b then Some (running_of q) else p.running a) (sym (eq-eqb a pid same)))
-      | inr apart ↦
-          ap (option_map running_of) (put_other ps pid x q there a apart)
-          ∙ (stands.processes a ∙ ap (λ (b : Bool). if b then Some (running_of q) else p.running a) (sym (ne_eqb a pid apart)))
-    ];
+    processes = running_put (stepped_to p t n) ps pid x q there stands.processes;
     held = holds;
     taken = taken;
     tidy = subst (λ (rs : List Reserve). IsTidy qs (kept qs names) rs) (sym (used_all qs reserved stands.tidy.stay)) (tidy_behind ps names reserved pid x q there none stands.tidy);

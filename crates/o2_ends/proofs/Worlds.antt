@@ -14,72 +14,16 @@ use Rattle.o2_world.proofs.Keeps.{at_other, held_found}
 use Rattle.o2_world.proofs.MapLemmas.{get-filter}
 use Rattle.o2_world.proofs.Numbers.{at_place_of, number_some, process_is, with_is}
 use Rattle.o2_stands.specs.Stands.{AllStay, AreOnce, IsTidy, taken_by}
-
-none_some : {X : Type 0} (x : X) → None ≡ Some x → ⊥
-none_some x e = cc
-
--- Numbers and places.
-
-number_is : (ps : List Process) (place : ℕ) → process_at ps (place + 1) ≡ slice_get ps place
-number_is ps place = process_is ps (place + 1) (omega arith) ∙ ap (slice_get ps) (omega arith)
-
-to_place : (ps : List Process) (n i : ℕ) (h : Held) → held_at ps n i ≡ Some h → held_in ps (n - 1) i ≡ Some h
-to_place ps n i h e = go (n == 0) e
-  where
-    go : (b : Bool) → held_of (cond b None (slice_get ps (n - 1))) i ≡ Some h → held_of (slice_get ps (n - 1)) i ≡ Some h
-    go true q = absurd (none_some h q)
-    go false q = q
-
--- who holds a name
-pub name_held : (ps : List Process) (n i : ℕ) (h : Held) → held_at ps n i ≡ Some h → is_held ps h.name ≡ true
-name_held ps n i h e = held_found ps (n - 1) i h (to_place ps n i h e)
-
-pub record Holds (ps : List Process) (name : ℕ) : Type 0 where
-  pub number : ℕ
-  pub index : ℕ
-  pub hold : Held
-  pub there : held_at ps number index ≡ Some hold
-  pub named : hold.name ≡ name
-
-pub holds_of : (ps : List Process) (name : ℕ) → is_held ps name ≡ true → Holds ps name
-holds_of ps name e =
-    let x = held_by name ps e in
-    record { number = x.place + 1; index = x.index; hold = x.hold; there = ap (λ (o : Option Process). held_of o x.index) (number_is ps x.place) ∙ x.there; named = x.named }
+use Rattle.o2_stands.proofs.Worlds.{HoldsIndex, index_held, number_is, put_here, put_other}
 
 -- The process that has ended.
 
-at_same : {X : Type 0} (xs : List X) (i : ℕ) (x y : X) → slice_get xs i ≡ Some x → slice_get (slice_set xs i y) i ≡ Some y
-at_same [] i x y e = absurd (none_some x e)
-at_same (a ∷ xs) zero x y e = refl
-at_same (a ∷ xs) (suc i) x y e = at_same xs i x y e
-
 module _ (ps : List Process) (pid : ℕ) (x q : Process) (there : process_at ps pid ≡ Some x) where
-  some : 0 < pid
-  some = number_some ps pid x there
-
-  pub put_here : process_at (with_process ps pid q) pid ≡ Some q
-  put_here =
-      process_is (with_process ps pid q) pid some
-      ∙ (ap (λ (qs : List Process). slice_get qs (pid - 1)) (with_is ps pid q some)
-      ∙ at_same ps (pid - 1) x q (at_place_of ps pid x there))
-
-  pub put_other : (n : ℕ) → n ≢ pid → process_at (with_process ps pid q) n ≡ process_at ps n
-  put_other n other = go (n == 0) refl
-    where
-      go : (b : Bool) → (n == 0) ≡ b → cond b None (slice_get (with_process ps pid q) (n - 1)) ≡ cond b None (slice_get ps (n - 1))
-      go true e = refl
-      go false e =
-          ap (λ (qs : List Process). slice_get qs (n - 1)) (with_is ps pid q some)
-          ∙ at_other ps (pid - 1) (n - 1) q (λ z. (let w : n ≢ 0 = above e in other (omega (arith, z, some, w))))
-        where
-          above : (n == 0) ≡ false → n ≢ 0
-          above e z = false≢true (sym e ∙ eq-eqb n 0 z)
-
   pub held_here : q.held ≡ [] → (i : ℕ) → held_at (with_process ps pid q) pid i ≡ None
-  held_here none i = ap (λ (o : Option Process). held_of o i) put_here ∙ ap (λ (m : Map Held). get m i) none
+  held_here none i = ap (λ (o : Option Process). held_of o i) (put_here ps pid x q there) ∙ ap (λ (m : Map Held). get m i) none
 
   pub held_other : (n i : ℕ) → n ≢ pid → held_at (with_process ps pid q) n i ≡ held_at ps n i
-  held_other n i other = ap (λ (o : Option Process). held_of o i) (put_other n other)
+  held_other n i other = ap (λ (o : Option Process). held_of o i) (put_other ps pid x q there n other)
 
 -- Names.
 
@@ -137,18 +81,6 @@ run_reserves (r ∷ rs) i e = go r.stays (reserves 0 i r) e (run_reserves rs i)
 pub absorbed : (a b : Bool) → (a ≡ true → b ≡ true) → (a || b) ≡ b
 absorbed true b f = sym (f refl)
 absorbed false b f = refl
-
-record HoldsIndex (ps : List Process) (i : ℕ) : Type 0 where
-  place : ℕ
-  there : is_some (held_in ps place i) ≡ true
-
-index_held : (ps : List Process) (i : ℕ) → holds_index ps i ≡ true → HoldsIndex ps i
-index_held [] i e = absurd (false≢true e)
-index_held (p ∷ ps) i e = go (is_some (get p.held i)) refl e (index_held ps i)
-  where
-    go : (b : Bool) → is_some (get p.held i) ≡ b → (b || holds_index ps i) ≡ true → (holds_index ps i ≡ true → HoldsIndex ps i) → HoldsIndex (p ∷ ps) i
-    go true t q rest = record { place = 0; there = t }
-    go false t q rest = (let x = rest q in record { place = suc x.place; there = x.there })
 
 pub private_taken : (ps : List Process) (rs : List Reserve) (a i : ℕ) → 1 ≤ a → AllStay rs → taken_by ps rs a i ≡ is_some (held_at ps a i)
 private_taken ps rs a i some all =

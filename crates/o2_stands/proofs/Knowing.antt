@@ -1,17 +1,15 @@
 -- What is known of a world is known of the machine.
-use Rattle.std.proofs.Common.{◌≡◌, ℕ, zero, suc, ◌<◌, ◌≤◌, Bool, List, length, Option, Some, None, refl, sym, ap, ◌∙◌, subst, arith, option_map}
-use Rattle.o2_entries.specs.declared.Attr.{Attr}
+use Rattle.std.proofs.Common.{◌≡◌, ℕ, zero, suc, Bool, Option, Some, None, refl, sym, ap, ◌∙◌, arith, option_map}
 use Rattle.o2_regions.specs.declared.held.Region.{Region}
 use Rattle.o2_regions.specs.declared.held.Region.TheVariants.{Private, Shared}
 use Rattle.o2_regions.specs.Maps.{Maps, is_taken}
-use Rattle.o2_store.specs.Shelf.{entry}
 use Rattle.o2_segbus.specs.Seen.{key_of}
 use Rattle.o2_world.specs.Map.{get}
-use Rattle.o2_world.specs.World.{Process, Segment, Setting, World, is_live}
+use Rattle.o2_world.specs.World.{Process, Segment, Setting, World}
 use Rattle.o2_world.specs.Holders.{process_at}
 use Rattle.o2_world.specs.Known.{Marks, known_of, lives_at, marks_of}
-use Rattle.o2_stands.specs.Parts.{Parts, Running, goes_on, running_of}
-use Rattle.o2_stands.specs.Stands.{AreLawful, IsIndex, IsNamed, IsSegment, IsSetTo, Stands, number_of}
+use Rattle.o2_stands.specs.Parts.{Parts, goes_on, running_of}
+use Rattle.o2_stands.specs.Stands.{AreLawful, IsIndex, IsNamed, IsSetTo, Stands, number_of}
 use Rattle.o2_stands.specs.Knows.{KnowsAs, Others, code_of, discarded_of, known_in, marks_under, others_of, region_by}
 use Rattle.o2_stands.proofs.Rooms.{count_is}
 

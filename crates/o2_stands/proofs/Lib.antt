@@ -1,3 +1,5 @@
+pub mod Worlds
+pub mod Running
 pub mod Views
 pub mod Moves
 pub mod Sums

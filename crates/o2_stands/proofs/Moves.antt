@@ -1,19 +1,18 @@
 -- What moves segments about, and what a step writes, keeps what a machine stands for.
-use Rattle.std.proofs.Common.{◌≡◌, ℕ, zero, suc, ◌+◌, ◌*◌, ◌/◌, ◌<◌, ◌≤◌, Bool, true, false, ◌||◌, ◌&&◌, List, [], ◌∷◌, length, get_or, Option, Some, None, is_some, IsSome, refl, sym, ap, ◌∙◌, subst, arith, if◌then◌else◌, option_map}
+use Rattle.std.proofs.Common.{◌≡◌, ℕ, zero, suc, ◌+◌, ◌<◌, ◌≤◌, Bool, true, false, ◌||◌, ◌&&◌, List, [], ◌∷◌, length, get_or, Option, Some, None, is_some, IsSome, refl, sym, ap, ◌∙◌, subst, arith, if◌then◌else◌, option_map}
 use Rattle.std.specs.Prelude.{IsTrue, nat_lt}
 use Rattle.o2_entries.specs.declared.Attr.{Attr}
 use Rattle.o2_entries.specs.declared.Entry.{Entry}
 use Rattle.o2_entries.specs.Tables.{slot_at}
 use Rattle.o2_desc.specs.Bits.{is_writable, rights_of}
-use Rattle.o2_image.specs.ImageList.{ImageList}
 use Rattle.o2_isa.specs.declared.cpu.Cpu.{Cpu}
 use Rattle.o2_phys.specs.Bytes.{part}
 use Rattle.o2_phys.proofs.Parts.{length-part, get-part}
 use Rattle.o2_regions.specs.declared.held.Held.{Held as HeldThere}
 use Rattle.o2_regions.specs.declared.held.Region.{Region}
 use Rattle.o2_regions.specs.declared.held.Region.TheVariants.{Private, Shared}
-use Rattle.o2_regions.specs.Maps.{Maps, base_of, end_of, held_at as held_there, is_reserved, is_taken, some_holds, table_of}
-use Rattle.o2_swapmap.specs.Piles.{Blocks, all_of}
+use Rattle.o2_regions.specs.Maps.{Maps, base_of, end_of, held_at as held_there, is_reserved, is_taken, some_holds}
+use Rattle.o2_swapmap.specs.Piles.{all_of}
 use Rattle.o2_store.specs.Needs.{has_age}
 use Rattle.o2_store.specs.Pictures.{picture, HasPicture}
 use Rattle.o2_store.specs.Shelf.{Shelf, AreClean, HasAll, KeepsAll, SameEntry, SameTables, byte_in as byte_by, entry, entry_of, out_byte, place_of}
@@ -26,10 +25,9 @@ use Rattle.o2_segbus.proofs.Keeping.{ages_kept, guards_stay}
 use Rattle.o2_service.specs.Told.{IsHeldWell, OnlyTables}
 use Rattle.o2_world.specs.Map.{Map, get}
 use Rattle.o2_world.specs.World.{Process, Reserve, Segment}
-use Rattle.o2_world.specs.Holders.{is_held}
-use Rattle.o2_world.specs.Views.{bytes_in, segment_bytes, with_bytes}
+use Rattle.o2_world.specs.Views.{segment_bytes, with_bytes}
 use Rattle.o2_world.proofs.MapLemmas.{get-map}
-use Rattle.o2_stands.specs.Parts.{Parts, Running, byte_in, cause_of, held_in, held_of}
+use Rattle.o2_stands.specs.Parts.{Parts, byte_in, cause_of, held_in, held_of}
 use Rattle.o2_stands.specs.Stands.{AreOnce, IsIndex, IsNamed, IsReady, IsSegment, IsTidy, StandsIn}
 use Rattle.o2_stands.specs.Moves.{AreWritten, moved, stepped_to}
 

@@ -1,28 +1,29 @@
 -- What a step needs and what all segments take are the same by names and by numbers.
-use Rattle.std.proofs.Common.{◌≡◌, ℕ, zero, suc, ◌+◌, ◌-◌, ◌*◌, ◌/◌, ◌<◌, ◌≤◌, Bool, true, false, cond, not, ◌&&◌, ◌||◌, List, [], ◌∷◌, ◌++◌, length, map, Option, Some, None, is_some, IsSome, inl, inr, refl, sym, ap, ◌∙◌, subst, arith, if◌then◌else◌}
+use Rattle.std.proofs.Common.{◌≡◌, ℕ, zero, suc, ◌+◌, ◌-◌, ◌<◌, ◌≤◌, Bool, true, false, cond, not, ◌||◌, List, [], ◌∷◌, ◌++◌, length, map, Option, Some, None, is_some, IsSome, inl, inr, refl, sym, ap, ◌∙◌, subst, arith, if◌then◌else◌}
 use Rattle.std.specs.Prelude.{filter, sum, ◌==◌, nat_lt, max, slice_get}
 use Rattle.std.proofs.lemmas.Bool.{cases_lt, false≢true}
 use Rattle.std.proofs.lemmas.List.{append-nil, get_or_past}
-use Rattle.o2_entries.specs.declared.Attr.{Attr}
+use Rattle.std.proofs.lemmas.List.Sums.{sum_by-cons}
 use Rattle.o2_entries.specs.declared.Entry.{Entry}
 use Rattle.o2_entries.specs.Tables.{live_numbers, slot_at}
 use Rattle.o2_place.specs.declared.seg_id.SegId.{SegId}
-use Rattle.o2_place.specs.Layout.{over}
-use Rattle.o2_place.proofs.Sums.{over-same}
+use Rattle.o2_place.specs.Layout.{len_of, over}
+use Rattle.o2_place.proofs.Sums.{over-le, over-same}
 use Rattle.o2_store.specs.Loads.{block_load, live_load, memory_load, swap_load}
 use Rattle.o2_store.specs.Needs.{has_age}
-use Rattle.o2_store.specs.Shelf.{Shelf, IsShelf, aged, blocks_for, entry, entry_of, entry_or, rounded}
+use Rattle.o2_store.specs.Shelf.{Shelf, IsSegmentAt, IsShelf, aged as with_age, blocks_for, entry, entry_of, entry_or, place_of, rounded}
 use Rattle.o2_segbus.specs.Guards.{AreAged}
 use Rattle.o2_segbus.specs.Seen.{key_of, number_from}
+use Rattle.o2_segbus.proofs.Ages.{aged_key}
 use Rattle.o2_service.specs.Needs.{AreLive, all_needed, needed, needs, size_in}
 use Rattle.o2_world.specs.Map.{Map, get}
-use Rattle.o2_world.specs.World.{Process, Reserve, Segment, World}
+use Rattle.o2_world.specs.World.{Process, Reserve, Segment}
 use Rattle.o2_world.specs.Known.{live_below}
-use Rattle.o2_run.specs.Room.{is_in, is_locked, larger, load_between, numbers, of_both, room_between, size_of, blocks_of, rounded as whole, swap_load as world_load}
+use Rattle.o2_run.specs.Room.{is_in, is_locked, larger, load_between, numbers, of_both, room_between, size_of, blocks_of, rounded as whole}
 use Rattle.o2_stands.specs.Parts.{Parts}
-use Rattle.o2_stands.specs.Stands.{AreLawful, AreOnce, IsNamed, IsSegment, Stands, StandsIn}
-use Rattle.o2_stands.specs.Sums.{IsWithin, NoneGrows, SaysNeed}
-use Rattle.o2_stands.proofs.Sums.{AreAges, ages_are, all_sum, at_key, in_slot, is_number, live_sum, none_beside, numbers_sum, pairs_sum, picked_sum, val}
+use Rattle.o2_stands.specs.Stands.{AreLawful, IsNamed, IsSegment, StandsIn}
+use Rattle.o2_stands.specs.Sums.{AreAllHere, IsAmong, IsWithin, NoneGrows, SaysNeed}
+use Rattle.o2_stands.proofs.Sums.{ages_are, all_sum, at_key, in_slot, is_number, live_sum, none_beside, numbers_sum, pairs_sum, picked_sum, val}
 
 same_whole : (n : ℕ) → whole n ≡ rounded n
 same_whole n = omega arith
@@ -89,8 +90,8 @@ key_lives p (Some k) (Some x) is = refl
 
 -- A number that isn't live is not needed.
 
-dead_age : (age : ℕ) (o : Option Entry) → o ≡ None → IsSome (aged age o) → ⊥
-dead_age age o e i = false≢true (ap (λ (x : Option Entry). is_some (aged age x)) (sym e) ∙ i)
+dead_age : (age : ℕ) (o : Option Entry) → o ≡ None → IsSome (with_age age o) → ⊥
+dead_age age o e i = false≢true (ap (λ (x : Option Entry). is_some (with_age age x)) (sym e) ∙ i)
 
 not_needed : (s : Shelf) (k : ℕ) (need : List (SegId × ℕ)) → slot_at s.entries k ≡ None → ((i : ℕ) (p : SegId × ℕ) → slice_get need i ≡ Some p → IsSome (entry_of s p.0)) → needs need k ≡ false
 not_needed s k [] none live = refl
@@ -122,6 +123,59 @@ weigh lock false is true size other size2 other2 h l m = ap whole m ∙ same_who
 weigh lock true is false size other size2 other2 h l m = ap (λ (b : Bool). if b || is then whole (max size other) else 0) l ∙ (ap whole m ∙ same_whole (max size2 other2))
 weigh lock false true false size other size2 other2 h l m = absurd (false≢true (h refl))
 weigh lock false false false size other size2 other2 h l m = ap (λ (b : Bool). if b || false then whole (max size other) else 0) l
+
+-- A front of a list weighs no more than the list.
+front_le : (g : ℕ → ℕ) (c : ℕ → Bool) (xs ys : List ℕ) → sum (map g (filter c xs)) ≤ sum (map g (filter c (xs ++ ys)))
+front_le g c [] ys = omega arith
+front_le g c (x ∷ xs) ys = go (c x) (front_le g c xs ys)
+  where
+    go : (b : Bool) → sum (map g (filter c xs)) ≤ sum (map g (filter c (xs ++ ys)))
+        → sum (map g (cond b (x ∷ filter c xs) (filter c xs))) ≤ sum (map g (cond b (x ∷ filter c (xs ++ ys)) (filter c (xs ++ ys))))
+    go false rest = rest
+    go true rest =
+        (let a = sum_by-cons (λ (n : ℕ). n) (g x) (map g (filter c xs)) in
+        let b = sum_by-cons (λ (n : ℕ). n) (g x) (map g (filter c (xs ++ ys))) in
+        omega (arith, a, b, rest))
+
+all_front_le : (g : ℕ → ℕ) (xs ys : List ℕ) → sum (map g xs) ≤ sum (map g (xs ++ ys))
+all_front_le g [] ys = omega arith
+all_front_le g (x ∷ xs) ys =
+    let rest = all_front_le g xs ys in
+    let a = sum_by-cons (λ (n : ℕ). n) (g x) (map g xs) in
+    let b = sum_by-cons (λ (n : ℕ). n) (g x) (map g (xs ++ ys)) in
+    omega (arith, a, b, rest)
+
+-- a segment that isn't needed gets no size
+no_size : (need : List (SegId × ℕ)) (k : ℕ) → needs need k ≡ false → size_in need k ≡ 0
+no_size [] k e = refl
+no_size (p ∷ ps) k e = go (k == p.0.key) refl e (no_size ps k)
+  where
+    go : (b : Bool) → (k == p.0.key) ≡ b → (b || needs ps k) ≡ false → (needs ps k ≡ false → size_in ps k ≡ 0) → max (if k == p.0.key then p.1 else 0) (size_in ps k) ≡ 0
+    go true q f rest = absurd (false≢true (sym f))
+    go false q f rest = (let r = rest f in let z : (if k == p.0.key then p.1 else 0) ≡ 0 = rw q refl in omega (arith, r, z))
+
+-- what is counted weighs at least what is needed, and at most what it has in memory
+least : (lock was is named : Bool) (size other size2 other2 : ℕ) → (was ≡ true → lock ≡ true) → (named ≡ true → is ≡ true) → size ≡ size2 → other2 ≤ max size2 other
+    → (if was || named then rounded (max size2 other2) else 0) ≤ (if is || lock then whole (max size other) else 0)
+least lock true is named size other size2 other2 f g e l = go (is || lock) (or_true is lock (f refl))
+  where
+    or_true : (a b : Bool) → b ≡ true → (a || b) ≡ true
+    or_true true b q = refl
+    or_true false b q = q
+
+    go : (b : Bool) → b ≡ true → rounded (max size2 other2) ≤ (if b then whole (max size other) else 0)
+    go true q = omega (arith, e, l)
+    go false q = absurd (false≢true q)
+least lock false is true size other size2 other2 f g e l = go (is || lock) (ap (λ (b : Bool). b || lock) (g refl))
+  where
+    go : (b : Bool) → b ≡ true → rounded (max size2 other2) ≤ (if b then whole (max size other) else 0)
+    go true q = omega (arith, e, l)
+    go false q = absurd (false≢true q)
+least lock false is false size other size2 other2 f g e l = omega arith
+
+placed_len : (o : Option (ℕ × ℕ)) (n : ℕ) → IsSome o → ((at len : ℕ) → o ≡ Some (at, len) → len ≡ n) → len_of o ≡ n
+placed_len None n i f = absurd (false≢true i)
+placed_len (Some r) n i f = f r.0 r.1 refl
 
 module _ (p : Parts) (ps : List Process) (names : Map Segment) (next : ℕ) (reserved : List Reserve) (lawful : AreLawful p.shelf p.maps) (stands : StandsIn p ps names next reserved) where
   abbrev s : Shelf
@@ -254,3 +308,116 @@ module _ (p : Parts) (ps : List Process) (names : Map Segment) (next : ℕ) (res
       at (Some k) None is = absurd is
       at None (Some x) is = absurd is
       at (Some k) (Some x) is = refl
+
+  -- A name's weight by the number of its segment.
+
+  aged : (h : ℕ → ℕ) → sum (map (λ (e : ℕ × Segment). h e.0) names) ≡ over (λ k. in_slot (λ j. h (entry s j).age) k (slot_at s.entries k)) (length s.entries)
+  aged h =
+      names_sum (λ n x. h n) (λ k. h (entry s k).age) (λ k. in_slot (λ j. h (entry s j).age) k (slot_at s.entries k))
+      (λ n k x e is. ap h (sym (found_at s n k e).1)) (λ k. refl)
+
+  named_by_key : (k : ℕ) → IsSome (slot_at s.entries k) → IsNamed p (Some k) (get names (entry s k).age)
+  named_by_key k live = subst (λ (o : Option ℕ). IsNamed p o (get names (entry s k).age)) (aged_key s k stands.ready.aged live) (stands.segments (entry s k).age)
+
+  least_slot : (new : Map Segment) (list : List ℕ) (need : List (SegId × ℕ)) → IsAmong s new list need → (k : ℕ) → needed s need k ≤ in_slot (λ j. if counted new list (entry s j).age then larger names new (entry s j).age else 0) k (slot_at s.entries k)
+  least_slot new list need w k = go (slot_at s.entries k) refl
+    where
+      go : (o : Option Entry) → slot_at s.entries k ≡ o → needed s need k ≤ in_slot (λ j. if counted new list (entry s j).age then larger names new (entry s j).age else 0) k o
+      go None q = (let z : needed s need k ≡ 0 = sym (ap (λ (o : Option Entry). in_slot (needed s need) k o) (sym q) ∙ room_slot need w.live k) in omega (arith, z))
+      go (Some e) q =
+          (let n = (entry s k).age in
+          let live : IsSome (slot_at s.entries k) = ap is_some q in
+          let here = named_by_key k live in
+          let key = aged_key s k stands.ready.aged live in
+          let new_size = size_of (get new n) in
+          least (is_locked (get names n) || is_locked (get new n)) (nat_lt 0 (entry s k).attr.lock) (is_in n list) (needs need k) (size_of (get names n)) new_size (entry s k).size (size_in need k)
+          (λ l. or_left (is_locked (get names n)) (is_locked (get new n)) (locked_is k (get names n) here ∙ l)) (w.named n k key) (name_size n k (get names n) here)
+          (sized (needs need k) refl (w.sizes n k key)))
+        where
+          or_left : (a b : Bool) → a ≡ true → (a || b) ≡ true
+          or_left true b q = refl
+          or_left false b q = absurd (false≢true q)
+
+          locked_is : (k : ℕ) (v : Option Segment) → IsNamed p (Some k) v → is_locked v ≡ nat_lt 0 (entry s k).attr.lock
+          locked_is k None named = absurd named
+          locked_is k (Some y) named = ap (λ (c : ℕ). nat_lt 0 c) named.lock
+
+          sized : (b : Bool) → needs need k ≡ b → (needs need k ≡ true → size_in need k ≤ max (entry s k).size (size_of (get new (entry s k).age))) → size_in need k ≤ max (entry s k).size (size_of (get new (entry s k).age))
+          sized true e f = f e
+          sized false e f = (let z = no_size need k e in omega (arith, z))
+
+  -- what is needed is part of the room
+  pub room_least : (new : Map Segment) (list : List ℕ) (need : List (SegId × ℕ)) → IsAmong s new list need → all_needed s need ≤ room_between names new list
+  room_least new list need w =
+      let weight : ℕ → ℕ = λ n. if counted new list n then larger names new n else 0 in
+      let a = front_le (larger names new) (counted new list) (numbers names) (filter (λ n. not (is_in n (numbers names))) (numbers new)) in
+      let b = picked_sum (larger names new) (counted new list) names in
+      let c = aged weight in
+      let d = over-le (needed s need) (λ k. in_slot (λ j. weight (entry s j).age) k (slot_at s.entries k)) (length s.entries) (λ k l. least_slot new list need w k) in
+      omega (arith, a, b, c, d)
+
+  most_slot : (new : Map Segment) (list : List ℕ) → AreAllHere s names new list → (k : ℕ) → in_slot (λ j. if counted new list (entry s j).age then larger names new (entry s j).age else 0) k (slot_at s.entries k) ≤ len_of (place_of s k)
+  most_slot new list w k = go (slot_at s.entries k) refl
+    where
+      go : (o : Option Entry) → slot_at s.entries k ≡ o → in_slot (λ j. if counted new list (entry s j).age then larger names new (entry s j).age else 0) k o ≤ len_of (place_of s k)
+      go None q = omega arith
+      go (Some e) q = at (is_in n list) refl (is_locked (get names n)) refl (is_locked (get new n)) refl
+        where
+          n : ℕ
+          n = (entry s k).age
+
+          live : IsSome (slot_at s.entries k)
+          live = ap is_some q
+
+          key : key_of s n ≡ Some k
+          key = aged_key s k stands.ready.aged live
+
+          segment : IsSegmentAt s k
+          segment = lawful.shelf.each k (below_all s k live)
+
+          whole_len : IsSome (place_of s k) → larger names new n ≤ len_of (place_of s k)
+          whole_len i =
+              (let l = placed_len (place_of s k) (rounded (entry s k).size) i segment.placed in
+              let a = name_size n k (get names n) (named_by_key k live) in
+              let b = w.grows.sizes n k key in
+              omega (arith, l, a, b))
+
+          lock_is : (v : Option Segment) → IsNamed p (Some k) v → is_locked v ≡ nat_lt 0 (entry s k).attr.lock
+          lock_is None named = absurd named
+          lock_is (Some y) named = ap (λ (c : ℕ). nat_lt 0 c) named.lock
+
+          positive : (c : ℕ) → nat_lt 0 c ≡ true → 0 < c
+          positive c f = grind arith
+
+          at : (a : Bool) → is_in n list ≡ a → (b : Bool) → is_locked (get names n) ≡ b → (d : Bool) → is_locked (get new n) ≡ d → (if a || (b || d) then larger names new n else 0) ≤ len_of (place_of s k)
+          at true f b g d h = whole_len (w.here n k key (ap (λ (z : Bool). z || is_locked (get new n)) f))
+          at false f true g d h = whole_len (segment.locked (positive (entry s k).attr.lock (sym (lock_is (get names n) (named_by_key k live)) ∙ g)))
+          at false f false g true h = whole_len (w.here n k key (ap (λ (z : Bool). z || is_locked (get new n)) f ∙ h))
+          at false f false g false h = omega arith
+
+  -- where all is in memory the room is no more than that
+  pub room_most : (new : Map Segment) (list : List ℕ) → AreAllHere s names new list → room_between names new list ≤ s.places.size
+  room_most new list w =
+      let weight : ℕ → ℕ = λ n. if counted new list n then larger names new n else 0 in
+      let a = ap (λ (ns : List ℕ). sum (map (larger names new) (filter (counted new list) ns))) (both_old names new w.grows.within) in
+      let b = picked_sum (larger names new) (counted new list) names in
+      let c = aged weight in
+      let d = over-le (λ k. in_slot (λ j. weight (entry s j).age) k (slot_at s.entries k)) (λ k. len_of (place_of s k)) (length s.entries) (λ k l. most_slot new list w k) in
+      let e = lawful.room in
+      omega (arith, a, b, c, d, e)
+
+  load_least_slot : (new : Map Segment) (k : ℕ) → memory_load s k ≤ in_slot (λ j. larger names new (entry s j).age) k (slot_at s.entries k)
+  load_least_slot new k = go (slot_at s.entries k) refl
+    where
+      go : (o : Option Entry) → slot_at s.entries k ≡ o → memory_load s k ≤ in_slot (λ j. larger names new (entry s j).age) k o
+      go None q = (let z : (entry s k).size ≡ 0 = ap (λ (o : Option Entry). (entry_or o).size) q in omega (arith, z))
+      go (Some e) q = (let a = name_size (entry s k).age k (get names (entry s k).age) (named_by_key k (ap is_some q)) in omega (arith, a))
+
+  -- all that lives before a step is part of what lives before it or behind it
+  pub load_least : (new : Map Segment) → live_load s ≤ load_between names new
+  load_least new =
+      let a = all_front_le (larger names new) (numbers names) (filter (λ n. not (is_in n (numbers names))) (numbers new)) in
+      let b = all_sum (larger names new) names in
+      let c = aged (larger names new) in
+      let d = over-le (memory_load s) (λ k. in_slot (λ j. larger names new (entry s j).age) k (slot_at s.entries k)) (length s.entries) (λ k l. load_least_slot new k) in
+      omega (arith, a, b, c, d)

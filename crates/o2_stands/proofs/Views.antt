@@ -1,5 +1,5 @@
 -- What a process sees of the world is what the bus shows of the machine, with all segments present.
-use Rattle.std.proofs.Common.{◌≡◌, ℕ, ◌+◌, ◌<◌, ◌≤◌, Bool, true, false, List, [], length, map, get_or, Option, Some, None, is_some, refl, sym, ap, ◌∙◌, subst, arith, if◌then◌else◌, option_map}
+use Rattle.std.proofs.Common.{◌≡◌, ℕ, ◌<◌, Bool, true, false, List, length, map, Option, Some, None, is_some, refl, sym, ap, ◌∙◌, arith, if◌then◌else◌, option_map}
 use mathlib.Core.Path.{fun_ext}
 use Rattle.std.specs.List.{range_with_len}
 use Rattle.std.proofs.lemmas.List.{ext_get_or}
@@ -7,7 +7,7 @@ use Rattle.std.proofs.lemmas.List.FromFn.{get_or-map-range_with_len, length-map-
 use Rattle.o2_phys.specs.Bytes.{part}
 use Rattle.o2_phys.proofs.Parts.{length-part, get-part}
 use Rattle.o2_isa.specs.declared.cpu.Cpu.{Cpu}
-use Rattle.o2_isa.specs.View.{View, Hold, Filling, Hidden, Rest, Registers, bound_registers, built_gates, no_rest, no_hidden}
+use Rattle.o2_isa.specs.View.{View, Hold, Filling, Hidden, Rest, bound_registers, built_gates, no_rest, no_hidden}
 use Rattle.o2_regions.specs.declared.held.Held.{Held as HeldThere}
 use Rattle.o2_regions.specs.Maps.{Maps, held_at as held_there}
 use Rattle.o2_store.specs.Pictures.{picture}
@@ -18,7 +18,7 @@ use Rattle.o2_world.specs.World.{Process, Reserve, Segment}
 use Rattle.o2_world.specs.Holders.{process_at}
 use Rattle.o2_world.specs.Sound.{held_of as held_by}
 use Rattle.o2_world.specs.Views.{bytes_in, hold_of, holds_in, segment_bytes, view_of}
-use Rattle.o2_stands.specs.Parts.{Parts, away_in, away_under, byte_in, held_in, held_of}
+use Rattle.o2_stands.specs.Parts.{Parts, away_in, away_under, held_in, held_of}
 use Rattle.o2_stands.specs.Stands.{AreLawful, IsNamed, IsSegment, StandsIn}
 use Rattle.o2_stands.specs.Views.{Fills, filled}
 

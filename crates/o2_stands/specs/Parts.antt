@@ -1,5 +1,5 @@
 -- What a machine has whose segments lie in a store, as contracts see it, and what a process of a world is there.
-use Rattle.std.specs.Prelude.{ℕ, Bool, false, List, [], length, map, Option, Some, None, option_map, is_some, if◌then◌else◌}
+use Rattle.std.specs.Prelude.{ℕ, Bool, false, List, [], map, Option, Some, None, option_map}
 use Rattle.std.specs.List.{range_with_len}
 use Rattle.o2_isa.specs.declared.cpu.Cpu.{Cpu}
 use Rattle.o2_image.specs.ImageList.{ImageList}

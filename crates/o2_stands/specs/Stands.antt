@@ -1,7 +1,7 @@
 -- A machine over a store stands for a world: look-up by look-up, index by index and name by name. Its texts are left to the world.
-use Rattle.std.specs.Prelude.{◌≡◌, ℕ, ◌<◌, ◌≤◌, ◌&&◌, ◌||◌, ◌==◌, Bool, true, false, List, [], ◌∷◌, length, if◌then◌else◌, min, Option, Some, None, is_some, IsSome, option_map, slice_index_or}
+use Rattle.std.specs.Prelude.{◌≡◌, ℕ, ◌<◌, ◌≤◌, ◌&&◌, ◌||◌, ◌==◌, Bool, true, false, List, [], ◌∷◌, length, if◌then◌else◌, min, Option, Some, None, is_some, option_map, slice_index_or}
 use Rattle.std.specs.List.{list_any}
-use Rattle.o2_entries.specs.Tables.{slot_at}
+use Rattle.o2_place.specs.Layout.{len_of, over}
 use Rattle.o2_regions.specs.declared.held.Region.{Region}
 use Rattle.o2_regions.specs.declared.held.Region.TheVariants.{Private, Shared}
 use Rattle.o2_regions.specs.Kept.{AreKept}
@@ -9,7 +9,7 @@ use Rattle.o2_regions.specs.Lives.{lives}
 use Rattle.o2_regions.specs.Maps.{Maps, IsRegion, end_of, first_of, is_taken}
 use Rattle.o2_swapmap.specs.Piles.{all_of}
 use Rattle.o2_store.specs.Pictures.{picture, HasPicture}
-use Rattle.o2_store.specs.Shelf.{Shelf, IsShelf, AreClean, HasAll, entry}
+use Rattle.o2_store.specs.Shelf.{Shelf, IsShelf, AreClean, HasAll, entry, place_of}
 use Rattle.o2_segbus.specs.Bus.{AreInside}
 use Rattle.o2_segbus.specs.Guards.{AreAged, AreGuarded}
 use Rattle.o2_segbus.specs.Seen.{AreNamed, key_of}
@@ -19,12 +19,14 @@ use Rattle.o2_world.specs.Map.{Map, get}
 use Rattle.o2_world.specs.World.{Process, Reserve, Segment, Setting, World}
 use Rattle.o2_world.specs.Holders.{is_held, process_at}
 use Rattle.o2_world.specs.Known.{held_at, holds_index, is_for_the_run, lives_at, reserves}
-use Rattle.o2_stands.specs.Parts.{Parts, Running, byte_in, goes_on, held_in, running_of}
+use Rattle.o2_stands.specs.Parts.{Parts, byte_in, goes_on, held_in, running_of}
 
 -- what is true of every store and of all maps
 pub record AreLawful (s : Shelf) (m : Maps) : Type 0 where
   pub shelf : IsShelf s
   pub inside : AreInside s
+  -- what is in memory takes no more than there is
+  pub room : over (λ k. len_of (place_of s k)) (length s.entries) ≤ s.places.size
   pub maps : AreKept m
 
 -- What the calls of the store, of the service and of the bus ask for, beside one process's own.

@@ -1,7 +1,7 @@
 -- What a step needs of the memory, by names and by numbers of segments.
-use Rattle.std.specs.Prelude.{◌≡◌, ◌≤◌, ℕ, List, Bool, true, ◌||◌, nat_lt, max, Some, None}
+use Rattle.std.specs.Prelude.{◌≡◌, ◌≤◌, ℕ, List, true, ◌||◌, nat_lt, max, Some, None, IsSome}
 use Rattle.o2_place.specs.declared.seg_id.SegId.{SegId}
-use Rattle.o2_store.specs.Shelf.{Shelf, entry}
+use Rattle.o2_store.specs.Shelf.{Shelf, entry, place_of}
 use Rattle.o2_segbus.specs.Seen.{key_of}
 use Rattle.o2_service.specs.Needs.{AreLive, needs, size_in}
 use Rattle.o2_world.specs.Map.{Map, get}
@@ -25,3 +25,15 @@ pub record SaysNeed (s : Shelf) (old new : Map Segment) (names : List ℕ) (need
 pub record NoneGrows (s : Shelf) (old new : Map Segment) : Type 0 where
   pub within : IsWithin old new
   pub sizes : (n k : ℕ) → key_of s n ≡ Some k → size_of (get new n) ≤ (entry s k).size
+
+-- Each segment of a list is live, and is that of a name in a list of names, with a size that is at most the larger of the name's
+-- before a step and behind it.
+pub record IsAmong (s : Shelf) (new : Map Segment) (names : List ℕ) (need : List (SegId × ℕ)) : Type 0 where
+  pub live : AreLive s need
+  pub named : (n k : ℕ) → key_of s n ≡ Some k → needs need k ≡ true → is_in n names ≡ true
+  pub sizes : (n k : ℕ) → key_of s n ≡ Some k → needs need k ≡ true → size_in need k ≤ max (entry s k).size (size_of (get new n))
+
+-- Each name of a list, and each that is locked behind a step, is in memory; none is larger behind the step than before.
+pub record AreAllHere (s : Shelf) (old new : Map Segment) (names : List ℕ) : Type 0 where
+  pub grows : NoneGrows s old new
+  pub here : (n k : ℕ) → key_of s n ≡ Some k → (is_in n names || is_locked (get new n)) ≡ true → IsSome (place_of s k)

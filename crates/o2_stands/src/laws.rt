@@ -1,5 +1,5 @@
 // What follows where a machine over a store stands for a world, and what keeps that.
-ghost use Rattle.std.specs.Prelude.{◌≡◌, ℕ, Bool, List, Some, IsTrue};
+ghost use Rattle.std.specs.Prelude.{◌≡◌, ◌≤◌, ℕ, Bool, List, Some, IsTrue};
 ghost use Rattle.o2_isa.specs.declared.cpu.Cpu.{Cpu as CpuThere};
 ghost use Rattle.o2_isa.specs.View.{Filling, Hidden, Rest};
 ghost use Rattle.o2_place.specs.declared.seg_id.SegId.{SegId as SegIdThere};
@@ -15,16 +15,16 @@ ghost use Rattle.o2_store.specs.Pictures.{picture};
 ghost use Rattle.o2_store.specs.Shelf.{AreClean, KeepsAll, SameTables, Shelf};
 ghost use Rattle.o2_swapmap.specs.Piles.{all_of};
 ghost use Rattle.o2_world.specs.Map.{Map};
-ghost use Rattle.o2_world.specs.World.{Process, Reserve, Segment, Setting, World};
-ghost use Rattle.o2_world.specs.Holders.{process_at};
+ghost use Rattle.o2_world.specs.World.{Process, Reserve, Segment, Setting, World, is_live};
+ghost use Rattle.o2_world.specs.Holders.{process_at, with_process};
 ghost use Rattle.o2_world.specs.Known.{known_of};
 ghost use Rattle.o2_world.specs.Views.{view_of, with_bytes};
-ghost use Rattle.o2_stands.specs.Parts.{Parts};
+ghost use Rattle.o2_stands.specs.Parts.{Parts, running_of};
 ghost use Rattle.o2_stands.specs.Stands.{AreLawful, IsReady, IsSetTo, Stands, StandsIn};
-ghost use Rattle.o2_stands.specs.Moves.{AreWritten, moved, stepped_to};
+ghost use Rattle.o2_stands.specs.Moves.{AreWritten, moved, stepped_to, with_running};
 ghost use Rattle.o2_stands.specs.Views.{Fills, filled};
 ghost use Rattle.o2_stands.specs.Knows.{KnowsAs, known_in, others_of};
-ghost use Rattle.o2_stands.specs.Sums.{NoneGrows, SaysNeed};
+ghost use Rattle.o2_stands.specs.Sums.{AreAllHere, IsAmong, NoneGrows, SaysNeed};
 
 /// What the boundless machine sees of a process is what a bus shows of it, with all segments present, where a filling gives
 /// the bytes of those that are out of memory.
@@ -67,6 +67,14 @@ pub fn steps_are_seen()
         → CanStep t m pid c → IsReady (stepped_to p t m) }
 {}
 
+/// A process goes on with other registers.
+pub fn processes_go_on()
+    ensures { (p : Parts) (ps : List Process) (names : Map Segment) (next : ℕ) (reserved : List Reserve)
+        (pid : ℕ) (x q : Process) → process_at ps pid ≡ Some x → q.held ≡ x.held
+        → is_live q.state ≡ is_live x.state → StandsIn p ps names next reserved
+        → StandsIn (with_running p pid (running_of q)) (with_process ps pid q) names next reserved }
+{}
+
 /// Names and the numbers of live segments are one to one, so what is needed, what lives and what may go to the device are as
 /// much by names as by numbers.
 pub fn names_are_segments()
@@ -74,6 +82,16 @@ pub fn names_are_segments()
         (list : List ℕ) (need : List (SegIdThere × ℕ)) → AreLawful p.shelf p.maps
         → StandsIn p ps names next reserved → SaysNeed p.shelf names behind list need
         → room_between names behind list ≡ all_needed p.shelf need }
+    ensures room_at_least { (p : Parts) (ps : List Process) (names behind : Map Segment) (next : ℕ) (reserved : List Reserve)
+        (list : List ℕ) (need : List (SegIdThere × ℕ)) → AreLawful p.shelf p.maps
+        → StandsIn p ps names next reserved → IsAmong p.shelf behind list need
+        → all_needed p.shelf need ≤ room_between names behind list }
+    ensures room_at_most { (p : Parts) (ps : List Process) (names behind : Map Segment) (next : ℕ) (reserved : List Reserve)
+        (list : List ℕ) → AreLawful p.shelf p.maps → StandsIn p ps names next reserved
+        → AreAllHere p.shelf names behind list → room_between names behind list ≤ p.shelf.places.size }
+    ensures live_at_least { (p : Parts) (ps : List Process) (names behind : Map Segment) (next : ℕ) (reserved : List Reserve)
+        → AreLawful p.shelf p.maps → StandsIn p ps names next reserved
+        → live_load p.shelf ≤ load_between names behind }
     ensures live { (p : Parts) (ps : List Process) (names behind : Map Segment) (next : ℕ) (reserved : List Reserve)
         → AreLawful p.shelf p.maps → StandsIn p ps names next reserved → NoneGrows p.shelf names behind
         → load_between names behind ≡ live_load p.shelf }

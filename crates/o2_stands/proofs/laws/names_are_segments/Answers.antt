@@ -1,4 +1,4 @@
-use Rattle.o2_stands.proofs.Rooms.{load_is, room_is, swap_is}
+use Rattle.o2_stands.proofs.Rooms.{load_is, load_least, room_is, room_least, room_most, swap_is}
 use Rattle.o2_stands.proofs.laws.names_are_segments.Goals as goal
 
 pub returns-clause-room : goal.returns-clause-room
@@ -9,3 +9,12 @@ returns-clause-live c = λ p ps names behind next reserved lawful stands none. l
 
 pub returns-clause-swap : goal.returns-clause-swap
 returns-clause-swap c = λ p w lawful stands. swap_is p w.processes w.names w.next_name w.reserved lawful stands
+
+pub returns-clause-room_at_least : goal.returns-clause-room_at_least
+returns-clause-room_at_least c = λ p ps names behind next reserved list need lawful stands among. room_least p ps names next reserved lawful stands behind list need among
+
+pub returns-clause-room_at_most : goal.returns-clause-room_at_most
+returns-clause-room_at_most c = λ p ps names behind next reserved list lawful stands here. room_most p ps names next reserved lawful stands behind list here
+
+pub returns-clause-live_at_least : goal.returns-clause-live_at_least
+returns-clause-live_at_least c = λ p ps names behind next reserved lawful stands. load_least p ps names next reserved lawful stands behind
