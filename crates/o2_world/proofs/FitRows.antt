@@ -11,7 +11,7 @@ use Rattle.o2_world.specs.Views.{with_bytes}
 use Rattle.o2_world.specs.Changes.{Makes, Holds, with_change}
 use Rattle.o2_world.specs.Known.{taken_in, holds_index}
 use Rattle.o2_world.specs.Calls.{Before, Effect, returned}
-use Rattle.o2_world.specs.SegmentCalls.{full_size, made_segment, held_by_call, is_index, in_use, is_last, is_gone, freed_cpu}
+use Rattle.o2_world.specs.Rulings.{full_size, made_segment, held_by_call, is_index, in_use, is_last, is_gone, freed_cpu}
 use Rattle.o2_world.specs.Sound.{held_in, NamesHeld, HasGoodRegisters}
 use Rattle.o2_world.specs.Run.{worked, working}
 use Rattle.o2_world.specs.Tied.{HasSize, IsUnnamed, IsFitHold, IsFitDrop, AreFitChanges}
@@ -101,7 +101,7 @@ not_used false true e = absurd (cc)
 not_used false false e = (refl, refl)
 
 module _ (p : Process) (b : Before) (i next : ℕ) (cpu : b.cpu ≡ p.cpu) (good : HasGoodRegisters p) (held : b.known.held b.number i ≡ get p.held i) (free : in_use b.cpu (i ∷ []) ≡ false) where
-  pub unnamed_after : is_last (get p.held i) ≡ true → IsUnnamed (freed_cpu b (i ∷ []) (returned b.cpu next 1 0)) i
+  pub unnamed_after : is_last (get p.held i) ≡ true → IsUnnamed (freed_cpu b.known b.number (i ∷ []) (returned b.cpu next 1 0)) i
   unnamed_after last = record {
     cs = other_index b.cpu.cs i (subst (λ (c : Cpu). is_local c.cs ≡ true) (sym cpu) good.cs.0) none.0;
     ss = other_index b.cpu.ss i (subst (λ (c : Cpu). is_local c.ss ≡ true) (sym cpu) good.ss.0) none.1;
@@ -124,7 +124,7 @@ module _ (p : Process) (b : Before) (i next : ℕ) (cpu : b.cpu ≡ p.cpu) (good
       above n e = grind arith
 
   pub free_fit : (w : World) (d : Dispatch) (e : Effect) → process_at w.processes d.current ≡ Some p
-      → e.cpu ≡ freed_cpu b (i ∷ []) (returned b.cpu next 1 0) → IsFitDrop (worked w d p e) d.current i 1
+      → e.cpu ≡ freed_cpu b.known b.number (i ∷ []) (returned b.cpu next 1 0) → IsFitDrop (worked w d p e) d.current i 1
   free_fit w d e at is x there lives = go (left_or_last (get p.held i) (is_last (get p.held i)) refl)
     where
       here : x ≡ working p e

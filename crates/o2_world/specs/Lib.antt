@@ -6,6 +6,7 @@ pub mod Views
 pub mod Changes
 pub mod Known
 pub mod Calls
+pub mod Rulings
 pub mod SegmentCalls
 pub mod Effect
 pub mod Run

@@ -1,19 +1,16 @@
--- The calls of DOSCALLS that make, free and give segments.
-use Rattle.std.specs.Prelude.{ℕ, zero, suc, ◌+◌, ◌/◌, ◌%◌, Bool, true, false, not, List, [], ◌∷◌, ◌++◌, map, filter, replicate, if◌then◌else◌, ◌==◌, nat_le, nat_lt, ◌&&◌, ◌||◌, Option, Some, None, is_some, codes}
-use Rattle.std.specs.List.{list_any}
+-- The calls of DOSCALLS that make, size, lock, alias, free and give segments.
+use Rattle.std.specs.Prelude.{ℕ, ◌/◌, ◌%◌, not, List, [], ◌∷◌, ◌++◌, if◌then◌else◌, ◌==◌, ◌||◌, Bool, false, Option, Some, None, codes}
 use Rattle.o2_desc.specs.Bits.{has_bit}
-use Rattle.o2_desc.specs.Choice.{chosen}
-use Rattle.o2_desc.specs.Bits.{writable_data}
 use Rattle.o2_isa.specs.declared.cpu.Cpu.{Cpu}
-use Rattle.o2_isa.specs.View.{is_null, is_local}
 use Rattle.o2_world.specs.declared.types.Argument.{Argument}
-use Rattle.o2_world.specs.declared.types.Argument.TheVariants.{Word, Far}
+use Rattle.o2_world.specs.declared.types.Argument.TheVariants.{Word, Long, Far}
 use Rattle.o2_world.specs.declared.types.State.TheVariants.{Live}
-use Rattle.o2_world.specs.World.{Segment, Held, Calls, Cause, ByLoad, ByCall, ByAlias}
-use Rattle.o2_world.specs.Changes.{Change, Makes, Holds, Drops, moved_lines}
-use Rattle.o2_world.specs.Known.{Known, Marks}
+use Rattle.o2_world.specs.World.{Held, Calls, ByCall}
+use Rattle.o2_world.specs.Changes.{Change, Holds, moved_lines}
+use Rattle.o2_world.specs.Known.{Marks}
 use Rattle.o2_base.specs.Selectors.{selector_of}
-use Rattle.o2_world.specs.Calls.{Before, Effect, trapped, returned, argument, has_arguments, may_write, put_at_pointer, word_bytes}
+use Rattle.o2_world.specs.Calls.{Before, Effect, trapped, returned, argument, has_arguments, may_write, put_at_pointer, word_bytes, long_bytes}
+use Rattle.o2_world.specs.Rulings.{Ruling, aliasing, allocation, freeing, freeing_cpu, held_under, is_later, locking, members, reallocation, sizing, unlocking}
 
 -- a call that comes back: error number, values, changes, and the bytes behind its pointers
 abbrev pub back : Before → Cpu → (ℕ → List ℕ) → (name : List ℕ) → List Argument → ℕ → List Argument → List Change → Effect
@@ -31,112 +28,102 @@ back b cpu bytes name args error values changes = record {
 abbrev pub refused : Before → ℕ → ℕ → (name : List ℕ) → List Argument → ℕ → Effect
 refused b next words name args error = back b (returned b.cpu next words error) b.view.bytes name args error [] []
 
--- The regions of indexes: a process has 1 to 4095 for itself, and all share 4096 to 8191.
+-- a call without a pointer, by its ruling
+abbrev pub ruled : Before → ℕ → (words : ℕ) → (name : List ℕ) → List Argument → Ruling → Effect
+ruled b next words name args r = back b (returned b.cpu next words r.error) b.view.bytes name args r.error [] r.changes
 
-abbrev pub free_index : Known → (region : ℕ) → Option ℕ
-free_index k region = if region == 0 then chosen (k.taken 0) 4096 8192 1 else chosen (k.taken region) 1 4096 1
+-- a pointer behind which a call writes its value: where it points, the bytes, and the value as the line has it
+pub record Written : Type 0 where
+  pub selector : ℕ
+  pub offset : ℕ
+  pub part : List ℕ
+  pub shown : Argument
 
--- DosAllocSeg(size, psel, flags): 87 where the flags exceed 000Fh; 8 where no index of the region is free, or no more names
--- may live. A segment of zeros, shared where the flags have 1 (giveable) or 2 (gettable); with flag 4 it is locked once.
+abbrev pub written_word : (selector offset : ℕ) → ℕ → Written
+written_word s o n = record { selector = s; offset = o; part = word_bytes n; shown = Word n }
 
-abbrev pub full_size : ℕ → ℕ
-full_size size = if size == 0 then 65536 else size
+abbrev pub written_long : (selector offset : ℕ) → ℕ → Written
+written_long s o n = record { selector = s; offset = o; part = long_bytes n; shown = Long (n / 65536) (n % 65536) }
 
-abbrev pub made_segment : (size flags : ℕ) → Segment
-made_segment size flags = record {
-  bytes = replicate (full_size size) 0;
-  clean = false;
-  code = false;
-  flags = flags;
-  lock = if has_bit flags 2 then 1 else 0;
-  shared = has_bit flags 0 || has_bit flags 1;
-  discarded = false;
-}
+-- a call with a good pointer, by its ruling: at an error nothing is written
+abbrev pub ruled_at : Before → ℕ → (words : ℕ) → (name : List ℕ) → List Argument → Written → Ruling → Effect
+ruled_at b next words name args t r =
+    if r.error == 0
+    then back b (returned b.cpu next words 0) (put_at_pointer b.view.held b.view.bytes t.selector t.offset t.part) name args 0 (t.shown ∷ []) r.changes
+    else refused b next words name args r.error
 
-abbrev pub held_by_call : ℕ → Held
-held_by_call name = record { name = name; rights = writable_data; holds = 1; cause = ByCall; first = 0; reserved = 0 }
+-- DosAllocSeg(size, psel, flags)
 
 abbrev pub alloc_args : (size selector offset flags : ℕ) → List Argument
 alloc_args size selector offset flags = Word size ∷ Far selector offset ∷ Word flags ∷ []
 
-abbrev pub allocated_at : Before → ℕ → (size selector offset flags : ℕ) → Option ℕ → Effect
-allocated_at b next size selector offset flags None = refused b next 4 (codes "DosAllocSeg") (alloc_args size selector offset flags) 8
-allocated_at b next size selector offset flags (Some i) =
-    back b (returned b.cpu next 4 0) (put_at_pointer b.view.held b.view.bytes selector offset (word_bytes (selector_of i)))
-    (codes "DosAllocSeg") (alloc_args size selector offset flags) 0 (Word (selector_of i) ∷ [])
-    (Makes (made_segment size flags) ∷ Holds b.number i (held_by_call b.known.next) ∷ [])
-
 abbrev pub allocated : Before → ℕ → (size selector offset flags : ℕ) → Effect
-allocated b next size selector offset flags =
-    if may_write b.view selector offset 2
-    then (if nat_lt 15 flags then refused b next 4 (codes "DosAllocSeg") (alloc_args size selector offset flags) 87
-    else (if nat_le b.known.most b.known.count then allocated_at b next size selector offset flags None
-    else allocated_at b next size selector offset flags (free_index b.known (if flags % 4 == 0 then b.number else 0))))
-    else trapped b 13
+allocated b next size s o flags =
+    let r = allocation b.known b.number size flags in
+    if may_write b.view s o 2 then ruled_at b next 4 (codes "DosAllocSeg") (alloc_args size s o flags) (written_word s o r.value) r else trapped b 13
 
 unfoldable pub dos_alloc_seg : Before → ℕ → Effect
 dos_alloc_seg b next =
     let a : ℕ → ℕ = argument b.view b.cpu in
     if has_arguments b.view b.cpu 4 then allocated b next (a 3) (a 2) (a 1) (a 0) else trapped b 12
 
--- Selectors as arguments: the two low bits don't count, and only the local table is named.
+-- DosReallocSeg(size, sel)
 
-abbrev pub held_by : Before → ℕ → Option Held
-held_by b selector = if is_local selector then b.known.held b.number (selector / 8) else None
+abbrev pub reallocated : Before → ℕ → (size selector : ℕ) → Effect
+reallocated b next size selector = ruled b next 2 (codes "DosReallocSeg") (Word size ∷ Word selector ∷ []) (reallocation b.known b.number size selector)
 
--- the indexes of a run, or of a segment alone
-abbrev pub indexes : ℕ → ℕ → List ℕ
-indexes first zero = []
-indexes first (suc n) = first ∷ indexes (first + 1) n
+unfoldable pub dos_realloc_seg : Before → ℕ → Effect
+dos_realloc_seg b next =
+    let a : ℕ → ℕ = argument b.view b.cpu in
+    if has_arguments b.view b.cpu 2 then reallocated b next (a 1) (a 0) else trapped b 12
 
-abbrev pub members : Known → (process index : ℕ) → Held → List ℕ
-members k process index h = if h.reserved == 0 then index ∷ [] else filter (λ (i : ℕ). is_some (k.held process i)) (indexes h.first h.reserved)
-
--- in a run, but not its first
-abbrev pub is_later : ℕ → Held → Bool
-is_later index h = not (h.reserved == 0) && not (h.first == index)
-
-abbrev pub is_index : ℕ → ℕ → Bool
-is_index selector i = not (is_null selector) && (is_local selector && (selector / 8 == i))
-
-abbrev pub in_use : Cpu → List ℕ → Bool
-in_use c is = list_any (λ (i : ℕ). is_index c.cs i || is_index c.ss i) is
-
-abbrev pub by_load : Cause → Bool
-by_load ByLoad = true
-by_load ByCall = false
-by_load ByAlias = false
-
--- DosFreeSeg(sel): 5 where sel isn't held, is held by load, is in a run but not its first, or it or a member of its run is in
--- CS or SS. One hold goes, of each member of a run; where none is left, DS and ES that named it become 0.
-
-abbrev pub is_last : Option Held → Bool
-is_last None = false
-is_last (Some h) = nat_le h.holds 1
-
-abbrev pub is_gone : Known → (process : ℕ) → List ℕ → ℕ → Bool
-is_gone k process is selector = list_any (λ (i : ℕ). is_index selector i && is_last (k.held process i)) is
-
-abbrev pub freed_cpu : Before → List ℕ → Cpu → Cpu
-freed_cpu b is c = record c { ds = if is_gone b.known b.number is c.ds then 0 else c.ds; es = if is_gone b.known b.number is c.es then 0 else c.es }
-
-abbrev pub freed_with : Before → ℕ → ℕ → List ℕ → Effect
-freed_with b next selector is =
-    if in_use b.cpu is then refused b next 1 (codes "DosFreeSeg") (Word selector ∷ []) 5
-    else back b (freed_cpu b is (returned b.cpu next 1 0)) b.view.bytes (codes "DosFreeSeg") (Word selector ∷ []) 0 []
-    (map (λ (i : ℕ). Drops b.number i 1) is)
-
-abbrev pub freed_of : Before → ℕ → ℕ → Option Held → Effect
-freed_of b next selector None = refused b next 1 (codes "DosFreeSeg") (Word selector ∷ []) 5
-freed_of b next selector (Some h) =
-    if by_load h.cause || is_later (selector / 8) h then refused b next 1 (codes "DosFreeSeg") (Word selector ∷ []) 5
-    else freed_with b next selector (members b.known b.number (selector / 8) h)
+-- DosFreeSeg(sel)
 
 abbrev pub freed : Before → ℕ → ℕ → Effect
-freed b next selector = freed_of b next selector (held_by b selector)
+freed b next selector =
+    let r = freeing b.known b.number selector b.cpu in
+    back b (freeing_cpu b.known b.number selector (returned b.cpu next 1 r.error)) b.view.bytes (codes "DosFreeSeg") (Word selector ∷ []) r.error [] r.changes
 
 unfoldable pub dos_free_seg : Before → ℕ → Effect
 dos_free_seg b next = if has_arguments b.view b.cpu 1 then freed b next (argument b.view b.cpu 0) else trapped b 12
+
+-- DosSizeSeg(sel, psize): the size as four bytes, and as one value of eight digits
+
+abbrev pub sized : Before → ℕ → (selector size_selector size_offset : ℕ) → Effect
+sized b next selector s o =
+    let r = sizing b.known b.number selector in
+    if may_write b.view s o 4 then ruled_at b next 3 (codes "DosSizeSeg") (Word selector ∷ Far s o ∷ []) (written_long s o r.value) r else trapped b 13
+
+unfoldable pub dos_size_seg : Before → ℕ → Effect
+dos_size_seg b next =
+    let a : ℕ → ℕ = argument b.view b.cpu in
+    if has_arguments b.view b.cpu 3 then sized b next (a 2) (a 1) (a 0) else trapped b 12
+
+-- DosLockSeg(sel), DosUnlockSeg(sel)
+
+abbrev pub locked : Before → ℕ → (selector : ℕ) → Effect
+locked b next selector = ruled b next 1 (codes "DosLockSeg") (Word selector ∷ []) (locking b.known b.number selector)
+
+unfoldable pub dos_lock_seg : Before → ℕ → Effect
+dos_lock_seg b next = if has_arguments b.view b.cpu 1 then locked b next (argument b.view b.cpu 0) else trapped b 12
+
+abbrev pub unlocked : Before → ℕ → (selector : ℕ) → Effect
+unlocked b next selector = ruled b next 1 (codes "DosUnlockSeg") (Word selector ∷ []) (unlocking b.known b.number selector)
+
+unfoldable pub dos_unlock_seg : Before → ℕ → Effect
+dos_unlock_seg b next = if has_arguments b.view b.cpu 1 then unlocked b next (argument b.view b.cpu 0) else trapped b 12
+
+-- DosCreateCSAlias(sel, psel)
+
+abbrev pub aliased : Before → ℕ → (selector to_selector to_offset : ℕ) → Effect
+aliased b next selector s o =
+    let r = aliasing b.known b.number selector in
+    if may_write b.view s o 2 then ruled_at b next 3 (codes "DosCreateCSAlias") (Word selector ∷ Far s o ∷ []) (written_word s o r.value) r else trapped b 13
+
+unfoldable pub dos_create_cs_alias : Before → ℕ → Effect
+dos_create_cs_alias b next =
+    let a : ℕ → ℕ = argument b.view b.cpu in
+    if has_arguments b.view b.cpu 3 then aliased b next (a 2) (a 1) (a 0) else trapped b 12
 
 -- DosGiveSeg(sel, pid, psel): 5 where sel isn't held, has no flag 1, or is in a run but not its first; 303 where pid isn't a
 -- process that lives. A hold more of pid, for each member of a run; the selector is written.
@@ -168,7 +155,7 @@ given_of b next selector pid s o (Some h) =
 
 abbrev pub given : Before → ℕ → (selector pid s o : ℕ) → Effect
 given b next selector pid s o =
-    if may_write b.view s o 2 then given_of b next selector pid s o (held_by b selector) else trapped b 13
+    if may_write b.view s o 2 then given_of b next selector pid s o (held_under b.known b.number selector) else trapped b 13
 
 unfoldable pub dos_give_seg : Before → ℕ → Effect
 dos_give_seg b next =

@@ -1,13 +1,16 @@
 -- Rows of the calls that make, free and give segments, as the definitions compute them from the opening of `hello`.
-use Rattle.std.specs.Prelude.{ℕ, List, [], ◌∷◌, drop, Option, Some, None}
+use Rattle.std.specs.Prelude.{ℕ, false, List, [], ◌∷◌, drop, length, Option, Some, None}
 use Rattle.o2_conf.specs.Dispatch.{Dispatch}
 use Rattle.o2_desc.specs.Bits.{writable_data}
+use Rattle.o2_isa.specs.declared.cpu.Cpu.{Cpu}
 use Rattle.o2_world.specs.World.{World, Setting, Process, Held, ByCall}
 use Rattle.o2_world.specs.Holders.{process_at}
+use Rattle.o2_world.specs.Known.{Marks}
 use Rattle.o2_world.specs.Calls.{Before, Effect}
 use Rattle.o2_world.specs.Changes.{Change, Holds, Drops}
-use Rattle.o2_world.specs.SegmentCalls.{allocated, freed}
+use Rattle.o2_world.specs.SegmentCalls.{aliased, allocated, freed, locked, reallocated, sized, unlocked}
 use Rattle.o2_world.specs.Run.{changed, before, next_dispatch}
+use Rattle.o2_world.specs.Views.{bytes_in}
 use Rattle.o2_world.specs.Text.{lines_text}
 use Rattle.o2_world.specs.Starts.{opening_of}
 use Rattle.o2_world.specs.Hello.{hello_setting, hello_world, hello_process, opened}
@@ -34,6 +37,46 @@ two_processes = opened (opening_of (hello_setting 1000000) [] [] [] (hello_proce
 abbrev pub told_after : ℕ → World → List (Before → Effect) → List ℕ
 told_after starts w rows = lines_text (drop starts (after_calls w rows).lines)
 
+-- the calls by their arguments, with pointers into the data of `hello`
+abbrev pub allocs : (size flags : ℕ) → Before → Effect
+allocs size flags b = allocated b 0 size 0x17 0 flags
+
+abbrev pub reallocs : (size selector : ℕ) → Before → Effect
+reallocs size selector b = reallocated b 0 size selector
+
+abbrev pub frees : (selector : ℕ) → Before → Effect
+frees selector b = freed b 0 selector
+
+abbrev pub sizes : (selector : ℕ) → Before → Effect
+sizes selector b = sized b 0 selector 0x17 4
+
+abbrev pub locks : (selector : ℕ) → Before → Effect
+locks selector b = locked b 0 selector
+
+abbrev pub unlocks : (selector : ℕ) → Before → Effect
+unlocks selector b = unlocked b 0 selector
+
+abbrev pub aliases : (selector : ℕ) → Before → Effect
+aliases selector b = aliased b 0 selector 0x17 0
+
+abbrev pub told_by_one : List (Before → Effect) → List ℕ
+told_by_one rows = told_after 4 one_process rows
+
+-- the bytes of its data, the segment of name 1
+abbrev pub data_after : List (Before → Effect) → List ℕ
+data_after rows = bytes_in (after_calls one_process rows).names 1
+
+-- how many names live
+abbrev pub names_with : List (Before → Effect) → ℕ
+names_with rows = length (after_calls one_process rows).names
+
+-- the lines of two calls where so many segments may live
+abbrev pub called_among : ℕ → World → (Before → Effect) → World
+called_among most w row = called_by (record (hello_setting 1000000) { segments = most }) w row
+
+abbrev pub allocs_of : ℕ → List ℕ
+allocs_of most = lines_text (drop 4 (called_among most (called_among most one_process (allocs 16 0)) (allocs 16 0)).lines)
+
 -- the lines of holds that came and went in another order than theirs
 abbrev pub some_held : ℕ → Held
 some_held holds = record { name = 1; rights = writable_data; holds = holds; cause = ByCall; first = 0; reserved = 0 }
@@ -41,10 +84,28 @@ some_held holds = record { name = 1; rights = writable_data; holds = holds; caus
 abbrev pub some_moves : List Change
 some_moves = Drops 2 4 1 ∷ Holds 2 5 (some_held 1) ∷ Holds 1 7 (some_held 2) ∷ Drops 1 9 1 ∷ Holds 1 4 (some_held 1) ∷ []
 
--- what ES is after the first process freed 0027 with this in ES
-abbrev pub es_of : ℕ → Option Process → ℕ
-es_of es None = es
-es_of es (Some p) = (freed (before (hello_setting 1000000) (after_calls one_process ((λ b. allocated b 0 0 0x17 0 0) ∷ [])) 1 (record p { cpu = record p.cpu { es = es } })) 0 0x27).cpu.es
+-- the registers after the first process freed 0027 with this in DS and ES
+abbrev pub cpu_of : ℕ → Option Process → Option Cpu
+cpu_of s None = None
+cpu_of s (Some p) = Some (freed (before (hello_setting 1000000) (after_calls one_process (allocs 0 0 ∷ [])) 1 (record p { cpu = record p.cpu { ds = s; es = s } })) 0 0x27).cpu
+
+abbrev pub cpu_after : ℕ → Option Cpu
+cpu_after s = cpu_of s (process_at (after_calls one_process (allocs 0 0 ∷ [])).processes 1)
+
+abbrev pub es_of : Option Cpu → ℕ
+es_of None = 65536
+es_of (Some c) = c.es
+
+abbrev pub ds_of : Option Cpu → ℕ
+ds_of None = 65536
+ds_of (Some c) = c.ds
 
 abbrev pub es_after : ℕ → ℕ
-es_after es = es_of es (process_at (after_calls one_process ((λ b. allocated b 0 0 0x17 0 0) ∷ [])).processes 1)
+es_after s = es_of (cpu_after s)
+
+abbrev pub ds_after : ℕ → ℕ
+ds_after s = ds_of (cpu_after s)
+
+-- a discardable segment with this lock count
+abbrev pub locked_marks : ℕ → Option Marks
+locked_marks lock = Some (record { size = 16; clean = false; code = false; flags = 4; lock = lock; shared = false; discarded = false })

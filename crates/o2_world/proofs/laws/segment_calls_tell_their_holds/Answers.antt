@@ -35,3 +35,11 @@ returns-clause-clears c = refl
 pub returns-clause-leaves : goal.returns-clause-leaves
 unfolding is_open first_open hex4 line_text holds_name holds_run probe_of argument is_good range_of put_at_pointer live_below moved_lines with_changes changed all_started digits
 returns-clause-leaves c = refl
+
+pub returns-clause-clears_ds : goal.returns-clause-clears_ds
+unfolding is_open first_open hex4 line_text holds_name holds_run probe_of argument is_good range_of put_at_pointer live_below moved_lines with_changes changed all_started digits
+returns-clause-clears_ds c = refl
+
+pub returns-clause-leaves_ds : goal.returns-clause-leaves_ds
+unfolding is_open first_open hex4 line_text holds_name holds_run probe_of argument is_good range_of put_at_pointer live_below moved_lines with_changes changed all_started digits
+returns-clause-leaves_ds c = refl
