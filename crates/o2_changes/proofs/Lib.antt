@@ -1,0 +1,15 @@
+pub mod Settling
+pub mod Granting
+pub mod Drops
+pub mod Freeing
+pub mod Segmenting
+pub mod Worlds
+pub mod Taken
+pub mod Keys
+pub mod HoldsStand
+pub mod DropsStand
+pub mod LocksStand
+pub mod Matching
+pub mod MakesStand
+pub mod MovesMatch
+pub mod Named

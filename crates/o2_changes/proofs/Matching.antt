@@ -1,0 +1,107 @@
+-- What changes of store and tables leave of the worlds that they match.
+use Rattle.std.specs.Prelude.{IsTrue}
+use Rattle.std.proofs.Common.{◌≡◌, ◌≢◌, ℕ, ◌<◌, ◌&&◌, ◌||◌, List, [], ◌∷◌, Option, Some, None, is_some, IsSome, IfSome, Bool, true, false, cond, eqb, refl, sym, ap, ◌∙◌, subst}
+use Rattle.o2_desc.specs.Bits.{is_writable, rights_of}
+use Rattle.o2_entries.specs.declared.Attr.{Attr}
+use Rattle.o2_entries.specs.declared.Entry.{Entry}
+use Rattle.o2_entries.specs.Tables.{slot_at}
+use Rattle.o2_image.specs.ImageList.{ImageList}
+use Rattle.o2_place.specs.declared.seg_id.SegId.{SegId}
+use Rattle.o2_regions.specs.declared.held.Held.{Held as HeldThere}
+use Rattle.o2_regions.specs.Kept.{AreKept}
+use Rattle.o2_regions.specs.Maps.{Maps, IsProcess, held_at as held_there, is_held, is_reserved, is_taken, less_of, region_of, same_region}
+use Rattle.o2_regions.proofs.Writes.{get_or-same}
+use Rattle.o2_service.specs.Told.{OnlyTables}
+use Rattle.o2_store.specs.Pictures.{picture}
+use Rattle.o2_store.specs.Shelf.{Shelf, Adds, AreClean, IsShelf, KeepsAll, Pictures, byte_at, entry, entry_of, entry_or}
+use Rattle.o2_store.proofs.Tables.{slot-set_same}
+use Rattle.o2_swapmap.specs.Piles.{all_of}
+use Rattle.o2_world.specs.World.{Process, World}
+use Rattle.o2_world.specs.Holders.{process_at}
+use Rattle.o2_world.specs.Changes.{Drops, Holds, Locks, Makes, with_all, with_change, with_changes}
+use Rattle.o2_world.proofs.TiedChanges.{zeros_length}
+use Rattle.o2_stands.specs.Moves.{moved}
+use Rattle.o2_stands.specs.Parts.{Parts}
+use Rattle.o2_stands.specs.Stands.{IsSegment}
+use Rattle.o2_changes.specs.Holding.{FreesIndex, Grants, Sweeps, Takes, TakesIndex}
+use Rattle.o2_changes.specs.Order.{IsInOrder}
+use Rattle.o2_changes.specs.Segments.{SetsLock}
+use Rattle.o2_changes.specs.Worlds.{LosesOne, Matches, MatchesMake, held_as, new_segment}
+use Rattle.o2_changes.proofs.DropsStand.{drops_stand}
+use Rattle.o2_changes.proofs.HoldsStand.{holds_stand, region_same}
+use Rattle.o2_changes.proofs.LocksStand.{locks_match}
+use Rattle.o2_changes.proofs.MakesStand.{makes_match}
+use Rattle.o2_changes.proofs.MovesMatch.{moves_match}
+use Rattle.o2_changes.proofs.Taken.{held_apart}
+
+pub holds_match : (s : Shelf) (m n : Maps) (pid i access : ℕ) (h : HeldThere) → Grants m n pid i h access → 0 < h.holds → IfSome (held_there m pid i) (λ y. y.id ≡ h.id) → AreKept m → AreKept n → IsProcess m pid → TakesIndex m n pid i → IsInOrder s n
+    → (p : Parts) (w : World) (x : Process) → p.shelf ≡ s → p.maps ≡ m → process_at w.processes pid ≡ Some x
+    → (is_writable (rights_of access) ≡ true → (entry s h.id.key).attr.clean ≡ false) → Matches p w → Matches (record p { maps = n }) (with_change w (Holds pid i (held_as h access)))
+holds_match s m n pid i access h g some same k kn there takes order p w x es em at guard q =
+    holds_stand p w n pid i access h x (subst (λ (y : Maps). Grants y n pid i h access) (sym em) g) some (subst (λ (y : Maps). IfSome (held_there y pid i) (λ z. z.id ≡ h.id)) (sym em) same) at q
+    (subst AreKept (sym em) k) kn (subst (λ (y : Maps). IsProcess y pid) (sym em) there) (subst (λ (y : Maps). TakesIndex y n pid i) (sym em) takes) (subst (λ (y : Shelf). IsInOrder y n) (sym es) order)
+    (subst (λ (y : Shelf). is_writable (rights_of access) ≡ true → (entry y h.id.key).attr.clean ≡ false) (sym es) guard)
+
+pub lock_matches : (s t : Shelf) (m : Maps) (id : SegId) (lock : ℕ) → IsSome (entry_of s id) → SetsLock s t id lock → IsInOrder t m
+    → (p : Parts) (w : World) → p.shelf ≡ s → p.maps ≡ m → Matches p w → Matches (record p { shelf = t }) (with_change w (Locks id.age lock))
+lock_matches s t m id lock live l order p w es em q =
+    locks_match p w t id lock (subst (λ (y : Shelf). IsSome (entry_of y id)) (sym es) live) (subst (λ (y : Shelf). SetsLock y t id lock) (sym es) l) q (subst (IsInOrder t) (sym em) order)
+
+-- one hold less, and then the index free
+frees_behind : (m a n : Maps) (pid i : ℕ) → Takes m a pid i → a.reserved ≡ m.reserved → FreesIndex a n pid i → FreesIndex m n pid i
+frees_behind m a n pid i t reserved f g j r from to =
+    f g j (region_same a m g (sym t.processes) r) from to ∙ go (same_region g (region_of pid i) && eqb j i) refl
+  where
+    go : (hit : Bool) → (same_region g (region_of pid i) && eqb j i) ≡ hit → cond hit (is_held n g j) (is_taken a g j) ≡ cond hit (is_held n g j) (is_taken m g j)
+    go true e = refl
+    go false e =
+        ap (λ (b : Bool). b || is_reserved a g j) (held_apart m a pid i t.processes (λ q k u. ap is_some (t.held q k ∙ ap (λ (b : Bool). cond b (less_of (held_there m pid i)) (held_there m q k)) u)) g j from to e)
+        ∙ ap (λ (xs : List Bool). is_held m g j || is_reserved (record m { reserved = xs }) g j) reserved
+
+takes_behind : (m a n : Maps) (pid i : ℕ) → Takes m a pid i → n ≡ record a { reserved = n.reserved } → Takes m n pid i
+takes_behind m a n pid i t is = subst (λ (x : Maps). Takes m x pid i) (sym is) (record { processes = t.processes; held = t.held; rights = t.rights })
+
+pub let_go_matches : (s t : Shelf) (m a n : Maps) (pid i : ℕ) (h : HeldThere) → held_there m pid i ≡ Some h → IsShelf s → AreKept m → AreKept n → Takes m a pid i → a.reserved ≡ m.reserved → FreesIndex a n pid i
+    → n ≡ record a { reserved = n.reserved } → IsInOrder s n → IsInOrder t n → all_of t.swap ≡ all_of s.swap → Sweeps s t n h.id
+    → (p : Parts) (w : World) (x : Process) → p.shelf ≡ s → p.maps ≡ m → process_at w.processes pid ≡ Some x → LosesOne w pid i → Matches p w → Matches (record p { shelf = t; maps = n }) (with_all w (Drops pid i 1 ∷ []))
+unfolding with_changes
+let_go_matches s t m a n pid i h there shelf k kn takes reserved frees is before order map sweeps p w x es em at loses q =
+    drops_stand p w t n pid i h x (subst (λ (y : Maps). Takes y n pid i) (sym em) (takes_behind m a n pid i takes is)) (ap (λ (y : Maps). held_there y pid i) em ∙ there) at q loses
+    (subst IsShelf (sym es) shelf) (subst AreKept (sym em) k) kn (subst (λ (y : Maps). FreesIndex y n pid i) (sym em) (frees_behind m a n pid i takes reserved frees)) (subst (λ (y : Shelf). IsInOrder y n) (sym es) before) order
+    (map ∙ ap (λ (y : Shelf). all_of y.swap) (sym es)) (subst (λ (y : Shelf). Sweeps y t n h.id) (sym es) sweeps)
+
+pub move_matches : (s t : Shelf) (m n : Maps) (images : ImageList) (told : Bool) (before after : ℕ → List ℕ) → KeepsAll told (picture images) s before t after → OnlyTables m n → AreClean t (picture images) → IsInOrder t n → all_of t.swap ≡ all_of s.swap
+    → (p : Parts) (w : World) → p.shelf ≡ s → p.maps ≡ m → p.images ≡ images → p.block ≡ before → IsTrue told → Matches p w → Matches (moved p t n after) w
+move_matches s t m n images told before after keeps only clean order all p w es em ei eb tells q =
+    moves_match p w t n after told tells
+    (subst (λ (i : ImageList). KeepsAll told (picture i) p.shelf p.block t after) (sym ei) (subst (λ (x : Shelf). KeepsAll told (picture images) x p.block t after) (sym es) (subst (λ (b : ℕ → List ℕ). KeepsAll told (picture images) s b t after) (sym eb) keeps)))
+    (subst (λ (x : Maps). OnlyTables x n) (sym em) only) q (subst (λ (i : ImageList). AreClean t (picture i)) (sym ei) clean) order (all ∙ ap (λ (x : Shelf). all_of x.swap) (sym es))
+
+made_is : (p : Parts) (t : Shelf) (key : ℕ) (e : Entry) (size flags : ℕ) (shared : Bool) → slot_at t.entries key ≡ Some e → e.size ≡ size → e.attr ≡ record { flags = flags; lock = 0; clean = false; shared = shared }
+    → ((j : ℕ) → byte_at t (picture p.images) p.block key j ≡ 0) → IsSegment (record p { shelf = t }) key (new_segment size flags shared)
+made_is p t key e size flags shared slot sized attr zeros =
+    let same : entry t key ≡ e = ap entry_or slot in
+    record {
+      size = zeros_length size ∙ sym (ap (λ (x : Entry). x.size) same ∙ sized);
+      bytes = λ j low. get_or-same size j 0 ∙ sym (zeros j);
+      clean = sym (ap (λ (x : Entry). x.attr.clean) same ∙ ap (λ (a : Attr). a.clean) attr);
+      flags = sym (ap (λ (x : Entry). x.attr.flags) same ∙ ap (λ (a : Attr). a.flags) attr);
+      lock = sym (ap (λ (x : Entry). x.attr.lock) same ∙ ap (λ (a : Attr). a.lock) attr);
+      shared = sym (ap (λ (x : Entry). x.attr.shared) same ∙ ap (λ (a : Attr). a.shared) attr);
+    }
+
+make_matches : (s t : Shelf) (m : Maps) (id : SegId) (size flags : ℕ) (shared : Bool) → IsShelf s → Adds s t id (record { age = s.made; size = size; kept = 0; image = None; attr = record { flags = flags; lock = 0; clean = false; shared = shared } }) → IsInOrder t m
+    → ((pic : Pictures) (block : ℕ → List ℕ) (j : ℕ) → byte_at t pic block id.key j ≡ 0) → ((pic : Pictures) (block : ℕ → List ℕ) (k j : ℕ) → k ≢ id.key → byte_at t pic block k j ≡ byte_at s pic block k j)
+    → (p : Parts) (w : World) → p.shelf ≡ s → p.maps ≡ m → Matches p w → Matches (record p { shelf = t }) (with_change w (Makes (new_segment size flags shared)))
+make_matches s t m id size flags shared shelf adds order zeros others p w es em q =
+    let e : Entry = record { age = s.made; size = size; kept = 0; image = None; attr = record { flags = flags; lock = 0; clean = false; shared = shared } } in
+    makes_match p w t id e (new_segment size flags shared) (subst IsShelf (sym es) shelf) (subst (λ (x : Shelf). Adds x t id e) (sym es) adds) (ap (λ (x : Shelf). x.made) (sym es)) q
+    (λ block k j n. others (picture p.images) block k j n ∙ ap (λ (x : Shelf). byte_at x (picture p.images) block k j) (sym es)) refl (subst (IsInOrder t) (sym em) order)
+    (made_is p t id.key e size flags shared (ap (λ (x : Shelf). slot_at x.entries id.key) adds.shelf ∙ slot-set_same s.entries id.key (Some e) adds.within) refl refl (zeros (picture p.images) p.block))
+
+pub some_made : (s t : Shelf) (m : Maps) (o : Option SegId) (size flags : ℕ) (shared : Bool) → IsShelf s → IfSome o (λ id. Adds s t id (record { age = s.made; size = size; kept = 0; image = None; attr = record { flags = flags; lock = 0; clean = false; shared = shared } }))
+    → IsInOrder t m → IfSome o (λ id. (pic : Pictures) (block : ℕ → List ℕ) (j : ℕ) → byte_at t pic block id.key j ≡ 0)
+    → IfSome o (λ id. (pic : Pictures) (block : ℕ → List ℕ) (k j : ℕ) → k ≢ id.key → byte_at t pic block k j ≡ byte_at s pic block k j)
+    → IfSome o (λ id. MatchesMake s t m (new_segment size flags shared))
+some_made s t m None size flags shared shelf adds order zeros others = tt
+some_made s t m (Some id) size flags shared shelf adds order zeros others = record { world = make_matches s t m id size flags shared shelf adds order zeros others }

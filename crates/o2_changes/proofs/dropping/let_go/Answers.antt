@@ -1,0 +1,8 @@
+use Rattle.o2_changes.proofs.Matching.{let_go_matches}
+use Rattle.o2_changes.proofs.dropping.let_go.Goals as goal
+
+pub returns-clause-matches : goal.returns-clause-matches
+returns-clause-matches c = record {
+  world = let_go_matches c.args.store.now c.sweep.new.store c.args.regions.now c.drop_hold-left.new.regions c.free_index.new.regions c.args.pid c.args.index c.args.held c.requires.held c.law.ensures.shelf
+      c.law-2.ensures c.law-3.ensures c.drop_hold-left.ensures.takes c.drop_hold-left.ensures.reserved c.free_index.ensures.frees c.free_index.ensures.tables c.free_index.ensures.order c.sweep.ensures.order c.sweep.ensures.map c.sweep.ensures.sweeps;
+}

@@ -1,0 +1,20 @@
+use Rattle.std.proofs.Common.{ap, refl, sym}
+use Rattle.o2_entries.specs.declared.Attr.{Attr}
+use Rattle.o2_entries.specs.Tables.{slot_at}
+use Rattle.o2_store.specs.Shelf.{entry_of}
+use Rattle.o2_changes.specs.Order.{IsInOrder}
+use Rattle.o2_changes.specs.Segments.{SetsLock}
+use Rattle.o2_changes.proofs.Matching.{lock_matches}
+use Rattle.o2_changes.proofs.Segmenting.{attr_there, locked_order, sets_lock}
+use Rattle.o2_changes.proofs.segments.set_lock.Goals as goal
+
+pub returns-in-Some : goal.returns-in-Some
+returns-in-Some c =
+    let s = c.args.store.now in
+    let id = c.args.id in
+    let attr = c.in-Some.attr in
+    let t = c.set_attr.new.self in
+    let l : SetsLock s t id c.args.lock = sets_lock s c.set_attr.new.self id (record attr { lock = c.args.lock }) c.requires.live (c.set_attr.ensures.set (c.set_attr.ensures.live.1 c.requires.live)) c.set_attr.ensures.bytes c.args.lock
+    (ap (λ (a : Attr). record a { lock = c.args.lock }) (attr_there (entry_of s id) attr (sym c.in-Some.ensures) id.age (slot_at s.entries id.key) refl)) in
+    let o : IsInOrder t c.args.regions.now = locked_order s t c.args.regions.now id c.args.lock l c.requires.order in
+    record { sets = l; order = o; matches = record { world = lock_matches s t c.args.regions.now id c.args.lock c.requires.live l o } }

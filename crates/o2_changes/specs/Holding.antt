@@ -1,0 +1,45 @@
+-- A process holds a segment more often, or less.
+use Rattle.std.specs.Prelude.{◌≡◌, ℕ, ◌<◌, ◌≤◌, ◌&&◌, ◌||◌, ◌==◌, true, false, None, IsSome, if◌then◌else◌}
+use Rattle.o2_desc.specs.Bits.{rights_of}
+use Rattle.o2_place.specs.declared.seg_id.SegId.{SegId}
+use Rattle.o2_regions.specs.declared.held.Held.{Held}
+use Rattle.o2_regions.specs.declared.held.Region.{Region}
+use Rattle.o2_regions.specs.Maps.{Maps, IsRegion, end_of, first_of, held_at, is_held, is_of, is_taken, less_of, more_of, region_of, same_region}
+use Rattle.o2_segbus.specs.Settled.{descriptor_at}
+use Rattle.o2_store.specs.Shelf.{Shelf, Removes}
+
+-- the rights to what a process holds at an index
+abbrev pub rights_at : Maps → ℕ → ℕ → ℕ
+rights_at m pid i = rights_of (descriptor_at m pid i).access
+
+-- a process holds more at an index, with these rights where it held nothing there; all else that is held stays
+pub record Grants (old new : Maps) (pid i : ℕ) (h : Held) (access : ℕ) : Type 0 where
+  pub processes : new.processes ≡ old.processes
+  pub held : (q j : ℕ) → held_at new q j ≡ (if (q == pid) && (j == i) then more_of (held_at old pid i) h else held_at old q j)
+  pub here : held_at old pid i ≡ None → rights_at new pid i ≡ rights_of access
+  pub rights : (q j : ℕ) → IsSome (held_at old q j) → rights_at new q j ≡ rights_at old q j
+
+-- an index of its region may no longer be chosen, and of all others the same may
+abbrev pub TakesIndex : Maps → Maps → ℕ → ℕ → Type 0
+TakesIndex old new pid i = (g : Region) (j : ℕ) → IsRegion old g → first_of g ≤ j → j < end_of g
+    → is_taken new g j ≡ ((same_region g (region_of pid i) && (j == i)) || is_taken old g j)
+
+-- nobody holds the segment
+abbrev pub IsUnheld : Maps → SegId → Type 0
+IsUnheld m id = (pid i : ℕ) → is_of id (held_at m pid i) ≡ false
+
+-- a process holds less at an index; all else that is held stays
+pub record Takes (old new : Maps) (pid i : ℕ) : Type 0 where
+  pub processes : new.processes ≡ old.processes
+  pub held : (q j : ℕ) → held_at new q j ≡ (if (q == pid) && (j == i) then less_of (held_at old pid i) else held_at old q j)
+  pub rights : (q j : ℕ) → IsSome (held_at new q j) → rights_at new q j ≡ rights_at old q j
+
+-- an index may be chosen again where nobody of its region holds it any more, and of all others the same may
+abbrev pub FreesIndex : Maps → Maps → ℕ → ℕ → Type 0
+FreesIndex old new pid i = (g : Region) (j : ℕ) → IsRegion old g → first_of g ≤ j → j < end_of g
+    → is_taken new g j ≡ (if same_region g (region_of pid i) && (j == i) then is_held new g j else is_taken old g j)
+
+-- a segment that nobody holds is gone, and else all segments stay
+pub data Sweeps (old new : Shelf) (m : Maps) (id : SegId) : Type 0 where
+  Goes : IsUnheld m id → Removes old new id.key → Sweeps old new m id
+  Remains : (pid i : ℕ) → is_of id (held_at m pid i) ≡ true → new ≡ old → Sweeps old new m id

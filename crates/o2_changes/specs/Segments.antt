@@ -1,0 +1,14 @@
+-- A segment's lock count.
+use Rattle.std.specs.Prelude.{◌≡◌, ◌≢◌, ℕ, List, length}
+use Rattle.o2_entries.specs.Tables.{slot_at}
+use Rattle.o2_place.specs.declared.seg_id.SegId.{SegId}
+use Rattle.o2_store.specs.Shelf.{Shelf, Pictures, byte_at, entry}
+use Rattle.std.specs.Prelude.{Some}
+
+-- a segment is locked so often, and all else stays
+pub record SetsLock (old new : Shelf) (id : SegId) (lock : ℕ) : Type 0 where
+  pub shelf : new ≡ record old { turns = new.turns; entries = new.entries }
+  pub count : length new.entries ≡ length old.entries
+  pub here : slot_at new.entries id.key ≡ Some (record (entry old id.key) { attr = record (entry old id.key).attr { lock = lock } })
+  pub others : (k : ℕ) → k ≢ id.key → slot_at new.entries k ≡ slot_at old.entries k
+  pub bytes : (pic : Pictures) (block : ℕ → List ℕ) (k j : ℕ) → byte_at new pic block k j ≡ byte_at old pic block k j

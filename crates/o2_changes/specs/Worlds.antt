@@ -1,0 +1,68 @@
+-- When a machine over a store matches a world by look-ups: all of what it stands for, but for what is true of the world alone.
+use Rattle.std.specs.Prelude.{◌≡◌, ℕ, Bool, true, false, IsTrue, List, [], ◌∷◌, Some, is_some, option_map, replicate}
+use Rattle.std.specs.List.{list_any}
+use Rattle.o2_desc.specs.Bits.{is_writable, rights_of}
+use Rattle.o2_image.specs.ImageList.{ImageList}
+use Rattle.o2_place.specs.declared.seg_id.SegId.{SegId}
+use Rattle.o2_regions.specs.declared.held.Held.{Held as HeldThere}
+use Rattle.o2_regions.specs.declared.held.Region.{Region}
+use Rattle.o2_regions.specs.Maps.{Maps, is_taken, region_of}
+use Rattle.o2_segbus.specs.Seen.{key_of}
+use Rattle.o2_store.specs.Shelf.{Shelf, entry}
+use Rattle.o2_world.specs.Map.{get}
+use Rattle.o2_world.specs.World.{Held, Process, Segment, World}
+use Rattle.o2_world.specs.Holders.{is_held, process_at}
+use Rattle.o2_world.specs.Known.{held_at, reserves}
+use Rattle.o2_world.specs.Changes.{Drops, Holds, Locks, Makes, used, with_all, with_change}
+use Rattle.o2_stands.specs.Moves.{moved}
+use Rattle.o2_stands.specs.Parts.{Parts, cause_of, held_in, running_of}
+use Rattle.o2_stands.specs.Stands.{IsIndex, IsNamed, IsReady, number_of, taken_by}
+
+pub record Matches (p : Parts) (w : World) : Type 0 where
+  pub ready : IsReady p
+  -- a name is the age of its segment
+  pub segments : (n : ℕ) → IsNamed p (key_of p.shelf n) (get w.names n)
+  pub next : w.next_name ≡ p.shelf.made
+  pub processes : (n : ℕ) → option_map running_of (process_at w.processes n) ≡ p.running n
+  pub held : (n i : ℕ) → held_at w.processes n i ≡ held_in p.maps n i
+  pub taken : (g : Region) (i : ℕ) → IsIndex p.maps g i → taken_by w.processes w.reserved (number_of g) i ≡ is_taken p.maps g i
+
+-- what a process holds by a machine, as a world has it, with the rights of an access byte
+abbrev pub held_as : HeldThere → ℕ → Held
+held_as h access = record { name = h.id.age; rights = rights_of access; holds = h.holds; cause = cause_of h.cause; first = h.first; reserved = h.reserved }
+
+-- A hold of a segment alone may go from a world: each of its names is held, the index isn't reserved beside being held, and no
+-- run goes with the hold.
+pub record LosesOne (w : World) (pid i : ℕ) : Type 0 where
+  pub named : (q : ℕ) → is_some (get w.names q) ≡ true → is_held w.processes q ≡ true
+  pub free : list_any (reserves (number_of (region_of pid i)) i) w.reserved ≡ false
+  pub reserved : used (with_change w (Drops pid i 1)).processes w.reserved ≡ w.reserved
+
+-- The tables match a world with a hold more, where they matched it.
+pub record MatchesHold (s : Shelf) (old new : Maps) (pid i : ℕ) (h : HeldThere) (access : ℕ) : Type 0 where
+  pub world : (p : Parts) (w : World) (x : Process) → p.shelf ≡ s → p.maps ≡ old → process_at w.processes pid ≡ Some x
+      → (is_writable (rights_of access) ≡ true → (entry s h.id.key).attr.clean ≡ false)
+      → Matches p w → Matches (record p { maps = new }) (with_change w (Holds pid i (held_as h access)))
+
+-- store and tables match a world with a hold of a segment alone less, and without the segment where that was the last one
+pub record MatchesDrop (s t : Shelf) (old new : Maps) (pid i : ℕ) : Type 0 where
+  pub world : (p : Parts) (w : World) (x : Process) → p.shelf ≡ s → p.maps ≡ old → process_at w.processes pid ≡ Some x
+      → LosesOne w pid i → Matches p w → Matches (record p { shelf = t; maps = new }) (with_all w (Drops pid i 1 ∷ []))
+
+-- the store matches a world in which a segment is locked so often
+pub record MatchesLock (s t : Shelf) (m : Maps) (id : SegId) (lock : ℕ) : Type 0 where
+  pub world : (p : Parts) (w : World) → p.shelf ≡ s → p.maps ≡ m → Matches p w
+      → Matches (record p { shelf = t }) (with_change w (Locks id.age lock))
+
+-- store and tables match a world where segments come, go and move, where the device tells
+pub record MatchesMove (s t : Shelf) (old new : Maps) (images : ImageList) (told : Bool) (before after : ℕ → List ℕ) : Type 0 where
+  pub world : (p : Parts) (w : World) → p.shelf ≡ s → p.maps ≡ old → p.images ≡ images → p.block ≡ before → IsTrue told
+      → Matches p w → Matches (moved p t new after) w
+
+-- a segment of zeros that isn't locked
+abbrev pub new_segment : (size flags : ℕ) → (shared : Bool) → Segment
+new_segment size flags shared = record { bytes = replicate size 0; clean = false; code = false; flags = flags; lock = 0; shared = shared; discarded = false }
+
+-- the store matches a world with one segment more
+pub record MatchesMake (s t : Shelf) (m : Maps) (segment : Segment) : Type 0 where
+  pub world : (p : Parts) (w : World) → p.shelf ≡ s → p.maps ≡ m → Matches p w → Matches (record p { shelf = t }) (with_change w (Makes segment))

@@ -1,0 +1,10 @@
+//! Single changes of what processes hold and of segments, over the descriptor tables and a store that agree.
+#![tactic(auto)]
+
+mod dropping;
+mod holding;
+mod segments;
+
+pub use dropping::{drop_hold, free_index, is_unheld, let_go, sweep};
+pub use holding::{hold_more, hold_new, region_of};
+pub use segments::{bring_in, make, resize, set_lock};

@@ -1,0 +1,161 @@
+// Segments are made, locked, sized and brought into memory, and descriptors say where they are.
+ghost use Rattle.std.specs.Prelude.{◌≡◌, ◌⊎◌, ℕ, List, ◌+◌, ◌-◌, ◌<◌, ◌≤◌, ◌^◌, length, IsSome, IfSome, None, true, false, nat_lt};
+ghost use Rattle.std.specs.Option.{IfNone};
+ghost use Rattle.o2_entries.specs.Tables.{live_numbers};
+ghost use Rattle.o2_outer.specs.Texts.{Rose};
+ghost use Rattle.o2_service.specs.Told.{OnlyTables};
+ghost use Rattle.o2_store.specs.Loads.{live_load, live_load_at, swap_load};
+ghost use Rattle.o2_store.specs.Needs.{all_wanted, named_in};
+ghost use Rattle.o2_store.specs.Pictures.{picture, HasPicture};
+ghost use Rattle.o2_store.specs.Shelf.{AreClean, Adds, HasAll, KeepsAll, Pictures, byte_at, entry, entry_of, place_of};
+ghost use Rattle.o2_store.specs.Sizes.{Resizes, all_wanted_at, stays};
+ghost use Rattle.o2_swapmap.specs.Piles.{all_of};
+ghost use Rattle.o2_changes.specs.Order.{IsInOrder};
+ghost use Rattle.o2_changes.specs.Segments.{SetsLock};
+ghost use Rattle.o2_changes.specs.Worlds.{MatchesLock, MatchesMake, MatchesMove, new_segment};
+
+use o2_image::Images;
+use o2_outer::SwapDevice;
+use o2_place::SegId;
+use o2_regions::Regions;
+use o2_service::settle;
+use o2_store::{Attr, Brought, Store};
+
+/// A new segment of zeros, out of memory, of 1 to 65,536 bytes, with the flags of the call that makes it. It isn't locked, and
+/// nobody holds it yet. None exactly where no more may live.
+pub fn make(
+    store: &mut Store,
+    regions: &Regions,
+    size: u32,
+    flags: u8,
+    shared: bool,
+) -> Option<SegId>
+    requires size { (0 < size) × (size ≤ 65536) }
+    requires made { store.old.made < 2 ^ 64 - 1 }
+    requires order { IsInOrder store.old regions.now }
+
+    ensures none { IfNone result ((length (live_numbers 0 store.old.entries) ≡ length store.old.entries) × (store.new ≡ store.old)) }
+    ensures added { IfSome result (λ id. Adds store.old store.new id (record { age = store.old.made; size = size; kept = 0; image = None; attr = record { flags = flags; lock = 0; clean = false; shared = shared } })) }
+    ensures zeros { IfSome result (λ id. (pic : Pictures) (block : ℕ → List ℕ) (j : ℕ)
+        → byte_at store.new pic block id.key j ≡ 0) }
+    ensures order { IsInOrder store.new regions.now }
+    ensures matches { IfSome result (λ id. MatchesMake store.old store.new regions.now (new_segment size flags shared)) }
+{
+    store.law();
+    store.add_zero(
+        size,
+        Attr {
+            flags,
+            lock: 0,
+            clean: false,
+            shared,
+        },
+    )
+}
+
+/// Sets how often a live segment is locked. One that gets a lock is in memory.
+pub fn set_lock(store: &mut Store, regions: &Regions, id: SegId, lock: u8)
+    requires live { IsSome (entry_of store.old id) }
+    requires present { 0 < lock → IsSome (place_of store.old id.key) }
+    requires order { IsInOrder store.old regions.now }
+
+    ensures sets { SetsLock store.old store.new id lock }
+    ensures order { IsInOrder store.new regions.now }
+    ensures matches { MatchesLock store.old store.new regions.now id lock }
+{
+    if let Some(attr) = store.attr(id) {
+        store.set_attr(id, Attr { lock, ..attr });
+    }
+}
+
+/// Brings a live segment into memory together with those of `keep` and the locked ones, and says in all descriptors where
+/// segments are. Whatever the answer, each segment keeps its bytes, its size and its attributes, and those of `keep` that are
+/// in memory stay there.
+pub fn bring_in<S: SwapDevice>(
+    store: &mut Store,
+    regions: &mut Regions,
+    id: SegId,
+    keep: &[SegId],
+    images: &Images,
+    swap: &mut S,
+) -> Brought
+    requires live { IsSome (entry_of store.old id) }
+    requires order { IsInOrder store.old regions.old }
+    requires pictures { HasAll (HasPicture images.now) store.old }
+    requires clean { AreClean store.old (picture images.now) }
+    requires device { all_of store.old.swap ≤ S.blocks swap.old }
+
+    ensures keeps { KeepsAll (S.told swap.old) (picture images.now)
+        store.old (S.block swap.old) store.new (S.block swap.new) }
+    ensures clean { AreClean store.new (picture images.now) }
+    ensures device { (S.blocks swap.new ≡ S.blocks swap.old)
+        × (S.told swap.new ≡ S.told swap.old) }
+    ensures map { all_of store.new.swap ≡ all_of store.old.swap }
+    ensures maps { OnlyTables regions.old regions.new }
+    ensures order { IsInOrder store.new regions.new }
+    ensures matches { MatchesMove store.old store.new regions.old regions.new images.now
+        (S.told swap.old) (S.block swap.old) (S.block swap.new) }
+    ensures kept { (k : ℕ) → named_in store.old.entries keep.now k ≡ true
+        → IsSome (place_of store.old k) → IsSome (place_of store.new k) }
+
+    ensures here { result ≡ Brought.Here → IsSome (place_of store.new id.key) }
+    ensures no_room { result ≡ Brought.NoRoom
+        → store.old.places.size < all_wanted store.old id.key keep.now }
+    ensures loads { result ≡ Brought.SwapFull
+        → (all_of store.old.swap < swap_load store.old)
+        × (store.old.places.size < live_load store.old) }
+    ensures faults { S.faults swap.old ≤ S.faults swap.new }
+    ensures cause { result ≡ Brought.SwapFault → Rose (S.faults swap.old) (S.faults swap.new) }
+    ensures never { result ≡ Brought.Stale → ⊥ }
+{
+    store.law();
+    let answer = store.bring(id, keep, images, swap);
+    settle(store, regions);
+    answer
+}
+
+/// Gives a live segment another size of 1 to 65,536 bytes, and says in all descriptors where segments are. Its bytes below both
+/// sizes stay, and grown ones are zero. Where the answer isn't `Here`, all segments stay as they are.
+pub fn resize<S: SwapDevice>(
+    store: &mut Store,
+    regions: &mut Regions,
+    id: SegId,
+    size: u32,
+    keep: &[SegId],
+    images: &Images,
+    swap: &mut S,
+) -> Brought
+    requires live { IsSome (entry_of store.old id) }
+    requires sizes { (0 < size) × (size ≤ 65536) }
+    requires order { IsInOrder store.old regions.old }
+    requires clean { AreClean store.old (picture images.now) }
+    requires device { all_of store.old.swap ≤ S.blocks swap.old }
+
+    ensures resized { result ≡ Brought.Here → Resizes (S.told swap.old) (picture images.now)
+        store.old (S.block swap.old) store.new (S.block swap.new) id.key size }
+    ensures keeps { (result ≡ Brought.Here → ⊥) → KeepsAll (S.told swap.old) (picture images.now)
+        store.old (S.block swap.old) store.new (S.block swap.new) }
+    ensures clean { AreClean store.new (picture images.now) }
+    ensures device { (S.blocks swap.new ≡ S.blocks swap.old)
+        × (S.told swap.new ≡ S.told swap.old) }
+    ensures map { all_of store.new.swap ≡ all_of store.old.swap }
+    ensures maps { OnlyTables regions.old regions.new }
+    ensures order { IsInOrder store.new regions.new }
+    ensures kept { (k : ℕ) → named_in store.old.entries keep.now k ≡ true
+        → IsSome (place_of store.old k) → IsSome (place_of store.new k) }
+
+    ensures outside { place_of store.old id.key ≡ None → result ≡ Brought.Here }
+    ensures no_room { result ≡ Brought.NoRoom → IsSome (place_of store.old id.key)
+        × (stays store.old id.key keep.now ≡ true)
+        × (store.old.places.size < all_wanted_at store.old id.key keep.now size) }
+    ensures loads { result ≡ Brought.SwapFull → (all_of store.old.swap < swap_load store.old)
+        × (store.old.places.size < live_load_at store.old id.key size) }
+    ensures faults { S.faults swap.old ≤ S.faults swap.new }
+    ensures cause { result ≡ Brought.SwapFault → Rose (S.faults swap.old) (S.faults swap.new) }
+    ensures never { result ≡ Brought.Stale → ⊥ }
+{
+    store.law();
+    let answer = store.resize(id, size, keep, images, swap);
+    settle(store, regions);
+    answer
+}
