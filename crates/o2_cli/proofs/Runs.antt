@@ -6,24 +6,29 @@ use Rattle.o2_base.specs.declared.faults.ModuleFault.{ModuleFault}
 use Rattle.o2_words.specs.declared.words.Verb.{Verb}
 use Rattle.o2_words.specs.declared.words.Verb.TheVariants.{Exe, Run, Check}
 use Rattle.o2_words.specs.Words.{IsCommandFor}
+use Rattle.o2_world.specs.World.{World, Setting}
 use Rattle.o2_world.specs.Starts.{Built, where_started}
 use Rattle.o2_world.specs.Run.{InOpening, console}
 use Rattle.o2_world.specs.Text.{lines_text}
 use Rattle.o2_outer.specs.Texts.{Gains, GainsSome, IsPrefix}
 use Rattle.o2_run.specs.declared.steps.Stop.{Stop}
 use Rattle.o2_run.specs.declared.steps.Stop.TheVariants.{Input, NoRoom, SwapFull, SwapFault}
-use Rattle.o2_run.specs.declared.whole.Ended.TheVariants.{Stopped}
-use Rattle.o2_run.specs.Ended.{HasPartRun, Caused}
+use Rattle.o2_run.specs.declared.fault.Fault.{Fault}
+use Rattle.o2_run.specs.declared.fault.Fault.TheVariants.{Sink, Stopped}
+use Rattle.o2_run.specs.Faults.{CauseOf}
+use Rattle.o2_run.specs.Ended.{HasPartRun, HasTexts}
+use Rattle.o2_run.proofs.Reached.{stopped_since}
 use Rattle.o2_machine.specs.Begins.{setting_of, starting, first_world}
+use Rattle.o2_machine.specs.Lasts.{machine_swaps}
 use Rattle.o2_open.specs.declared.session.Session.{Session}
 use Rattle.o2_cli.specs.declared.status.Status.{Status}
 use Rattle.o2_cli.specs.declared.status.Status.TheVariants as status
 use Rattle.o2_open.specs.declared.fault.OpenFault.{OpenFault}
 use Rattle.o2_open.specs.declared.fault.OpenFault.TheVariants as open_fault
 use Rattle.o2_open.specs.Loads.{Contents, Tells, loaded, start_refusal, under, ◌>>=◌}
-use Rattle.o2_cli.specs.Top.{Refuses as TopRefuses, IsUnswapped, OnInputFault, OnSwapFault, Opened, Told, IsFirst, Opens, Shows, opened, started, with_setting, refusal}
+use Rattle.o2_cli.specs.Top.{Refuses as TopRefuses, IsUnswapped, OnInputFault, OnSinkFault, OnSwapFault, Opened, Told, IsFirst, Opens, Shows, opened, started, with_setting, refusal}
 use Rattle.o2_cli.specs.Statuses.{status_by, status_of}
-use Rattle.o2_cli.specs.RunTexts.{StartsWith, StopsRun, ShowsRun}
+use Rattle.o2_cli.specs.RunTexts.{StartsWith, FaultsRun, ShowsRun}
 
 -- the whole opening, from what is reserved for the run and what the starts come to
 abbrev pub opened_from : Session → List (ℕ × ℕ) → List ℕ → Result Built (ℕ × ModuleFault) → Result Opened OpenFault
@@ -71,27 +76,46 @@ untouched_by words told blocks i c r z open_fault.NoMemory = record { input = re
 pub untouched : (words : List (String Global)) (told : Told) (blocks : ℕ) (i c r : Option (List ℕ)) (z : Type 0) (fault : OpenFault) (answer : Status) → answer ≡ status_by fault → Shows words told blocks i i c c r r z answer
 untouched words told blocks i c r z fault answer is = subst (λ (a : Status). Shows words told blocks i i c c r r z a) (sym is) (untouched_by words told blocks i c r z fault)
 
--- what a stopped run shows, and the causes of its status
+-- what a run with a fault shows, and the causes of its status
 module _ (s : Session) (blocks : ℕ) (i j c d r q : Option (List ℕ)) (e : Type 0) where
-  pub stopped_shows : (why : Stop) (answer : Status) → answer ≡ status_of why → StopsRun s blocks i j c d r q e why → ShowsRun s blocks i j c d r q e answer
-  stopped_shows why answer is t = subst (λ (a : Status). ShowsRun s blocks i j c d r q e a) (sym is) (by_stop why t) where
-    by_stop : (why : Stop) → StopsRun s blocks i j c d r q e why → ShowsRun s blocks i j c d r q e (status_of why)
-    by_stop Input t = t
-    by_stop NoRoom t = t
-    by_stop SwapFull t = t
-    by_stop SwapFault t = t
+  pub faulted_shows : (f : Fault) (answer : Status) → answer ≡ status_of f → FaultsRun s blocks i j c d r q e f → ShowsRun s blocks i j c d r q e answer
+  faulted_shows f answer is t = subst (λ (a : Status). ShowsRun s blocks i j c d r q e a) (sym is) (by_fault f t) where
+    by_fault : (f : Fault) → FaultsRun s blocks i j c d r q e f → ShowsRun s blocks i j c d r q e (status_of f)
+    by_fault Sink t = t
+    by_fault (Stopped Input) t = t
+    by_fault (Stopped NoRoom) t = t
+    by_fault (Stopped SwapFull) t = t
+    by_fault (Stopped SwapFault) t = t
 
-pub input_status : (why : Stop) (sink input device : Type 0) → Caused sink input device (Stopped why) → OnInputFault (status_of why) input
-input_status Input sink input device h = h
-input_status NoRoom sink input device h = tt
-input_status SwapFull sink input device h = tt
-input_status SwapFault sink input device h = tt
+  -- from its start on, where the report's count rose behind that
+  pub faulted_run : (stands : Setting → World → Type 0) (since : Type 0) → (since → e) → (f : Fault)
+      → ((input : List ℕ) → i ≡ Some input → StartsWith s input (λ o. HasTexts (stands o.setting) machine_swaps blocks o.setting o.world j c d r q since (Err f)))
+      → FaultsRun s blocks i j c d r q e f
+  faulted_run stands since later Sink ran = λ input left. let x = ran input left in record { start = x.start; starts = x.starts; runs = x.runs.0 }
+  faulted_run stands since later (Stopped why) ran = λ input left.
+      let x = ran input left in
+      record { start = x.start; starts = x.starts; runs = stopped_since machine_swaps blocks x.start.setting x.start.world why j c d r q since e later x.runs.0 }
 
-pub swap_status : (why : Stop) (sink input device : Type 0) → Caused sink input device (Stopped why) → OnSwapFault (status_of why) device
-swap_status Input sink input device h = tt
-swap_status NoRoom sink input device h = tt
-swap_status SwapFull sink input device h = tt
-swap_status SwapFault sink input device h = h
+pub input_status : (f : Fault) (sink input device : Type 0) → CauseOf sink input (Unit {0}) device f → OnInputFault (status_of f) input
+input_status Sink sink input device h = tt
+input_status (Stopped Input) sink input device h = h
+input_status (Stopped NoRoom) sink input device h = tt
+input_status (Stopped SwapFull) sink input device h = tt
+input_status (Stopped SwapFault) sink input device h = tt
+
+pub sink_status : (f : Fault) (sink input device : Type 0) → CauseOf sink input (Unit {0}) device f → OnSinkFault (status_of f) sink
+sink_status Sink sink input device h = h
+sink_status (Stopped Input) sink input device h = tt
+sink_status (Stopped NoRoom) sink input device h = tt
+sink_status (Stopped SwapFull) sink input device h = tt
+sink_status (Stopped SwapFault) sink input device h = tt
+
+pub swap_status : (f : Fault) (sink input device : Type 0) → CauseOf sink input (Unit {0}) device f → OnSwapFault (status_of f) device
+swap_status Sink sink input device h = tt
+swap_status (Stopped Input) sink input device h = tt
+swap_status (Stopped NoRoom) sink input device h = tt
+swap_status (Stopped SwapFull) sink input device h = tt
+swap_status (Stopped SwapFault) sink input device h = h
 
 abbrev pub load_started : List ℕ → Result Session OpenFault → Result Opened OpenFault
 load_started input r = r >>= (λ s. started s input)

@@ -1,6 +1,8 @@
 -- What the run of a session comes to.
 use Rattle.std.specs.Prelude.{◌≡◌, ℕ, List, Option, Some, Ok, Err}
 use Rattle.o2_run.specs.Ended.{HasWholeRun, HasStoppedTexts, HasPartRun}
+use Rattle.o2_run.specs.declared.fault.Fault.{Fault}
+use Rattle.o2_run.specs.declared.fault.Fault.TheVariants.{Sink, Stopped}
 use Rattle.o2_run.specs.declared.steps.Stop.{Stop}
 use Rattle.o2_run.specs.declared.steps.Stop.TheVariants.{Input, NoRoom, SwapFull, SwapFault}
 use Rattle.o2_machine.specs.Lasts.{machine_swaps}
@@ -21,6 +23,12 @@ abbrev pub StopsRun : Session → (blocks : ℕ)
     → (left_old left_new console_old console_new report_old report_new : Option (List ℕ)) → (fault : Type 0) → Stop → Type 0
 StopsRun s blocks i j c d r q e why = (input : List ℕ) → i ≡ Some input
     → StartsWith s input (λ o. HasStoppedTexts machine_swaps blocks o.setting o.world why j c d r q e)
+
+-- its run has this fault
+abbrev pub FaultsRun : Session → (blocks : ℕ)
+    → (left_old left_new console_old console_new report_old report_new : Option (List ℕ)) → (fault : Type 0) → Fault → Type 0
+FaultsRun s blocks i j c d r q e Sink = (input : List ℕ) → i ≡ Some input → StartsWith s input (λ o. HasPartRun o.setting o.world j c d r q)
+FaultsRun s blocks i j c d r q e (Stopped why) = StopsRun s blocks i j c d r q e why
 
 -- what its run shows, by the status, where the device has so many blocks
 abbrev pub ShowsRun : Session → (blocks : ℕ)

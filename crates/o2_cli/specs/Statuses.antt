@@ -1,7 +1,8 @@
 -- The status of each answer below the top call.
 use Rattle.o2_open.specs.declared.fault.OpenFault.{OpenFault}
 use Rattle.o2_open.specs.declared.fault.OpenFault.TheVariants as open_fault
-use Rattle.o2_run.specs.declared.steps.Stop.{Stop}
+use Rattle.o2_run.specs.declared.fault.Fault.{Fault}
+use Rattle.o2_run.specs.declared.fault.Fault.TheVariants.{Sink, Stopped}
 use Rattle.o2_run.specs.declared.steps.Stop.TheVariants.{Input, NoRoom, SwapFull, SwapFault}
 use Rattle.o2_cli.specs.declared.status.Status.{Status}
 use Rattle.o2_cli.specs.declared.status.Status.TheVariants as status
@@ -14,9 +15,10 @@ status_by (open_fault.BadModule name fault) = status.BadModule name fault
 status_by open_fault.FileFault = status.FileFault
 status_by open_fault.NoMemory = status.NoMemory
 
--- where a run stops
-abbrev pub status_of : Stop → Status
-status_of Input = status.InputFault
-status_of NoRoom = status.NoRoom
-status_of SwapFull = status.SwapFull
-status_of SwapFault = status.SwapFault
+-- where a run isn't done
+abbrev pub status_of : Fault → Status
+status_of Sink = status.SinkFault
+status_of (Stopped Input) = status.InputFault
+status_of (Stopped NoRoom) = status.NoRoom
+status_of (Stopped SwapFull) = status.SwapFull
+status_of (Stopped SwapFault) = status.SwapFault

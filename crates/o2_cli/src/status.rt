@@ -3,6 +3,7 @@ ghost use Rattle.std.specs.Prelude.{◌≡◌};
 
 use o2_base::{Bytes, MachineFault, ModuleFault};
 use o2_open::OpenFault;
+use o2_run::{Fault, Stop};
 
 /// What the top call answers.
 #[derive(Debug, Drop)]
@@ -45,6 +46,22 @@ impl From<OpenFault> for Status {
             OpenFault::BadModule(name, fault) => Status::BadModule(name, fault),
             OpenFault::FileFault => Status::FileFault,
             OpenFault::NoMemory => Status::NoMemory,
+        }
+    }
+}
+
+impl From<Fault> for Status {
+    ghost use Rattle.o2_cli.specs.Statuses.{status_of};
+
+    ghost from_gives = { λ fault status. status ≡ status_of fault };
+
+    fn from(fault: Fault) -> Status {
+        match fault {
+            Fault::Sink => Status::SinkFault,
+            Fault::Stopped(Stop::Input) => Status::InputFault,
+            Fault::Stopped(Stop::NoRoom) => Status::NoRoom,
+            Fault::Stopped(Stop::SwapFull) => Status::SwapFull,
+            Fault::Stopped(Stop::SwapFault) => Status::SwapFault,
         }
     }
 }

@@ -4,7 +4,6 @@ ghost use Rattle.o2_conf.specs.Limits.{IsWithinLimits};
 ghost use Rattle.o2_open.specs.Loads.{HasEnvironments};
 ghost use Rattle.o2_outer.specs.Texts.{Rose};
 ghost use Rattle.o2_cli.specs.Top.{IsCheck, Refuses, Shows, IsUnswapped, OnFileFault, OnInputFault, OnSinkFault, OnSwapFault, OnUnrun};
-ghost use Rattle.o2_cli.specs.Statuses.{status_of};
 ghost use Rattle.o2_cli.specs.RunTexts.{ShowsRun};
 ghost use Rattle.o2_cli.specs.Checks.{Checks, IsUnstarted, ShowsLines};
 
@@ -14,7 +13,7 @@ use o2_base::{Bytes, NoMemory};
 use o2_machine::{BeginFault, Machine};
 use o2_open::{Session, open, refused_start};
 use o2_outer::{Files, Put, Sink, Source, SwapDevice};
-use o2_run::{Ended, Stop, run};
+use o2_run::run;
 use o2_words::{Verb, command, is_command};
 use std::alloc::Global;
 
@@ -88,18 +87,6 @@ fn check_session<C: Sink>(alloc: Global, session: &Session, console: &mut C) -> 
     }
 }
 
-/// The status of a stop.
-fn stopped(why: Stop) -> Status
-    ensures { result ≡ status_of why }
-{
-    match why {
-        Stop::Input => Status::InputFault,
-        Stop::NoRoom => Status::NoRoom,
-        Stop::SwapFull => Status::SwapFull,
-        Stop::SwapFault => Status::SwapFault,
-    }
-}
-
 /// Runs what a command opened.
 fn run_session<I: Source, C: Sink, R: Sink, S: SwapDevice>(
     alloc: Global,
@@ -130,9 +117,8 @@ fn run_session<I: Source, C: Sink, R: Sink, S: SwapDevice>(
             alloc, session, pid, fault,
         )),
         Ok(mut machine) => match run(&mut machine, input, console, report, swap) {
-            Ended::Fine => Status::Fine,
-            Ended::SinkFault => Status::SinkFault,
-            Ended::Stopped(why) => stopped(why),
+            Ok(()) => Status::Fine,
+            Err(why) => Status::from(why),
         },
     }
 }

@@ -1,15 +1,20 @@
 -- How a run goes on, and how it ends.
-use Rattle.std.proofs.Common.{◌≡◌, ℕ, suc, ◌+◌, ◌<◌, ◌≤◌, Bool, true, false, not, List, [], ◌++◌, Option, None, ◌⊎◌, inl, inr, ap, sym, ◌∙◌, refl, arith, ◌||◌, ◌==◌, if◌then◌else◌, below_more, append-nil, append_assoc, subst}
+use Rattle.std.proofs.Common.{◌≡◌, ℕ, suc, ◌+◌, ◌<◌, ◌≤◌, Bool, true, false, not, List, [], ◌++◌, Option, None, ◌⊎◌, inl, inr, Result, Ok, Err, ap, sym, ◌∙◌, refl, arith, ◌||◌, ◌==◌, if◌then◌else◌, below_more, append-nil, append_assoc, subst}
 use Rattle.o2_outer.specs.Texts.{Rose, Gains, Continues}
 use Rattle.o2_world.specs.World.{World, Setting}
 use Rattle.o2_world.specs.Text.{lines_text}
 use Rattle.o2_world.specs.Run.{any_lives, after, is_over, last_line, report, HasPartTexts, Between, AtLastLine}
 use Rattle.o2_run.specs.Room.{Fits}
-use Rattle.o2_run.specs.Turn.{StepsOn, StepsInPart, IsClosed, IsClosedInPart, IsStopped}
+use Rattle.o2_run.specs.Turn.{StepsOn, StepsInPart, IsClosed, IsClosedInPart, IsStopped, Turns, LineIs}
+use Rattle.o2_run.specs.Faults.{fault_turn}
 use Rattle.o2_run.specs.Stops.{stop_line}
 use Rattle.o2_run.specs.Ended.{FitsBelow, HasReached, HasWholeRun, HasStoppedTexts, HasTexts}
-use Rattle.o2_run.specs.declared.whole.Ended.TheVariants.{Fine, SinkFault, Stopped}
+use Rattle.o2_run.specs.declared.fault.Fault.TheVariants.{Sink, Stopped}
+use Rattle.o2_run.specs.declared.fault.Fault.{Fault}
+use Rattle.o2_run.specs.declared.steps.Turn.{Turn}
+use Rattle.o2_run.specs.declared.steps.Turn.TheVariants.{Ran, AllEnded, BudgetSpent}
 use Rattle.o2_run.specs.declared.steps.Stop.{Stop}
+use Rattle.o2_run.specs.declared.steps.Stop.TheVariants.{Input, NoRoom, SwapFull, SwapFault}
 
 neither : (a b : Bool) (x y : List ℕ) → (a || b) ≡ false → (if a then x else (if b then y else [])) ≡ []
 neither true b x y e = cc
@@ -52,7 +57,7 @@ module _ (before_it now : World → Type 0) (swaps : Bool) (blocks : ℕ) (s : S
     input = end.input;
   }
 
-  pub closed : (h : HasReached before_it swaps s w i c d r q) (lives : Bool) → IsClosed now (after s w h.steps) lives l d e q p → HasTexts now swaps blocks s w l c e r p (Unit {0}) Fine
+  pub closed : (h : HasReached before_it swaps s w i c d r q) (lives : Bool) → IsClosed now (after s w h.steps) lives l d e q p → HasTexts now swaps blocks s w l c e r p (Unit {0}) (Ok tt)
   unfolding closed_texts
   closed h lives end = (closed_texts h lives end, end.stands)
 
@@ -74,12 +79,12 @@ module _ (before_it now : World → Type 0) (swaps : Bool) (blocks : ℕ) (s : S
     whole = line_or h.steps why put since put refl stop.whole failed h.to_report;
   }
 
-  pub stopped_before : (h : HasReached before_it swaps s w i c d r q) (why : Stop) (put : Bool) (since : Type 0) → (put ≡ false → since) → IsStopped now blocks s (after s w h.steps) why put l d e q p → HasTexts now swaps blocks s w l c e r p since (Stopped why)
+  pub stopped_before : (h : HasReached before_it swaps s w i c d r q) (why : Stop) (put : Bool) (since : Type 0) → (put ≡ false → since) → IsStopped now blocks s (after s w h.steps) why put l d e q p → HasTexts now swaps blocks s w l c e r p since (Err (Stopped why))
   unfolding stopped_texts
   stopped_before h why put since failed stop = (stopped_texts h why put since failed stop, stop.stands)
 
   -- the same, where the device's blocks are counted at an earlier time
-  pub stopped_with : (count : ℕ) → count ≡ blocks → (h : HasReached before_it swaps s w i c d r q) (why : Stop) (put : Bool) (since : Type 0) → (put ≡ false → since) → IsStopped now count s (after s w h.steps) why put l d e q p → HasTexts now swaps blocks s w l c e r p since (Stopped why)
+  pub stopped_with : (count : ℕ) → count ≡ blocks → (h : HasReached before_it swaps s w i c d r q) (why : Stop) (put : Bool) (since : Type 0) → (put ≡ false → since) → IsStopped now count s (after s w h.steps) why put l d e q p → HasTexts now swaps blocks s w l c e r p since (Err (Stopped why))
   stopped_with count same h why put since failed stop = stopped_before h why put since failed (subst (λ n. IsStopped now n s (after s w h.steps) why put l d e q p) same stop)
 
   part_texts : (h : HasReached before_it swaps s w i c d r q) → StepsInPart now swaps s (after s w h.steps) l d e q p → HasPartTexts s w c e r p
@@ -98,10 +103,35 @@ module _ (before_it now : World → Type 0) (swaps : Bool) (blocks : ℕ) (s : S
       (λ t x. end.to_report t (h.to_report t x))
 
   -- a sink failed, in a step or in the last line
-  pub stopped_anyhow : (h : HasReached before_it swaps s w i c d r q) → StepsInPart now swaps s (after s w h.steps) l d e q p ⊎ IsClosedInPart now (after s w h.steps) l d e q p → HasTexts now swaps blocks s w l c e r p (Unit {0}) SinkFault
+  pub stopped_anyhow : (h : HasReached before_it swaps s w i c d r q) → StepsInPart now swaps s (after s w h.steps) l d e q p ⊎ IsClosedInPart now (after s w h.steps) l d e q p → HasTexts now swaps blocks s w l c e r p (Unit {0}) (Err Sink)
   unfolding part_texts last_texts
   stopped_anyhow h (inl part) = (record { texts = part_texts h part; input = part.input }, part.stands)
   stopped_anyhow h (inr end) = (record { texts = last_texts h end; input = inl end.input }, inl end.stands)
+
+  -- by the fault with which the run ends
+  pub faulted : (f : Fault) (count : ℕ) → count ≡ blocks → (h : HasReached before_it swaps s w i c d r q) (put : Bool) (fault since : Type 0) → (fault → since) → LineIs put fault (fault_turn f)
+      → Turns now swaps count s (after s w h.steps) put l d e q p (fault_turn f) → HasTexts now swaps blocks s w l c e r p since (Err f)
+  faulted Sink count same h put fault since later line turns = stopped_anyhow h turns
+  faulted (Stopped Input) count same h put fault since later line turns = stopped_with count same h Input put since (λ e. later (line e)) turns
+  faulted (Stopped NoRoom) count same h put fault since later line turns = stopped_with count same h NoRoom put since (λ e. later (line e)) turns
+  faulted (Stopped SwapFull) count same h put fault since later line turns = stopped_with count same h SwapFull put since (λ e. later (line e)) turns
+  faulted (Stopped SwapFault) count same h put fault since later line turns = stopped_with count same h SwapFault put since (λ e. later (line e)) turns
+
+  -- by the answer of the last turn
+  pub faulted_by : (t : Turn) (f : Fault) → t ≡ fault_turn f → (count : ℕ) → count ≡ blocks → (h : HasReached before_it swaps s w i c d r q) (put : Bool) (fault since : Type 0) → (fault → since) → LineIs put fault t
+      → Turns now swaps count s (after s w h.steps) put l d e q p t → HasTexts now swaps blocks s w l c e r p since (Err f)
+  faulted_by t f is count same h put fault since later line turns =
+      faulted f count same h put fault since later (subst (λ (a : Turn). LineIs put fault a) is line)
+      (subst (λ (a : Turn). Turns now swaps count s (after s w h.steps) put l d e q p a) is turns)
+
+  pub closed_by : (t : Turn) → (t ≡ AllEnded) ⊎ (t ≡ BudgetSpent) → (count : ℕ) (h : HasReached before_it swaps s w i c d r q) (put : Bool) (since : Type 0) → Turns now swaps count s (after s w h.steps) put l d e q p t
+      → HasTexts now swaps blocks s w l c e r p since (Ok tt)
+  closed_by t (inl is) count h put since turns = closed h false (subst (λ (a : Turn). Turns now swaps count s (after s w h.steps) put l d e q p a) is turns)
+  closed_by t (inr is) count h put since turns = closed h true (subst (λ (a : Turn). Turns now swaps count s (after s w h.steps) put l d e q p a) is turns)
+
+  pub ran_by : (t : Turn) → t ≡ Ran → (count : ℕ) (h : HasReached before_it swaps s w i c d r q) (put : Bool) → Turns now swaps count s (after s w h.steps) put l d e q p t
+      → HasReached now swaps s w l c e r p
+  ran_by t is count h put turns = one_more h (subst (λ (a : Turn). Turns now swaps count s (after s w h.steps) put l d e q p a) is turns)
 
 -- of a text that isn't told nothing is owed
 pub gains_untold : (c : Option (List ℕ)) (piece : List ℕ) → Gains None c piece

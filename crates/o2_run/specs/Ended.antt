@@ -1,20 +1,18 @@
 -- What the texts are at the end of a run.
-use Rattle.std.specs.Prelude.{◌⊎◌, ◌≡◌, ◌<◌, ◌++◌, ℕ, suc, Bool, false, List, Option, Some, None}
+use Rattle.std.specs.Prelude.{◌⊎◌, ◌≡◌, ◌<◌, ◌++◌, ℕ, suc, Bool, false, List, Option, Some, Result, Ok, Err}
 use Rattle.o2_outer.specs.Texts.{Gains, GainsBetween}
 use Rattle.o2_world.specs.World.{World, Setting}
 use Rattle.o2_world.specs.Text.{lines_text}
 use Rattle.o2_world.specs.Run.{HasWholeTexts, HasPartTexts, InOpening, Between, AtLastLine, after, is_over, console, IsBelowLast}
 use Rattle.o2_run.specs.Room.{Fits}
 use Rattle.o2_run.specs.Stops.{stop_line, StopsFor}
-use Rattle.o2_run.specs.Faults.{CauseOf, OnFault, turn_of}
+use Rattle.o2_run.specs.Faults.{fault_turn}
 use Rattle.o2_run.specs.declared.fault.Fault.{Fault}
 use Rattle.o2_run.specs.declared.fault.Fault.TheVariants as fault
 use Rattle.o2_run.specs.declared.steps.Stop.{Stop}
 use Rattle.o2_run.specs.declared.steps.Stop.TheVariants as stop
 use Rattle.o2_run.specs.declared.steps.Turn.{Turn}
 use Rattle.o2_run.specs.declared.steps.Turn.TheVariants as turn
-use Rattle.o2_run.specs.declared.whole.Ended.{Ended}
-use Rattle.o2_run.specs.declared.whole.Ended.TheVariants.{Fine, SinkFault, Stopped}
 
 -- a machine that swaps had room for each of the first k steps
 abbrev pub FitsBelow : (swaps : Bool) → Setting → World → ℕ → Type 0
@@ -53,32 +51,23 @@ pub record HasPartRun (s : Setting) (w : World) (left console_old console_new re
 
 -- at each end the machine stands for the world of the same k as the texts
 abbrev pub HasTexts : (stands_now : World → Type 0) → (swaps : Bool) → (blocks : ℕ) → Setting → World
-    → (left console_old console_new report_old report_new : Option (List ℕ)) → (fault : Type 0) → Ended → Type 0
-HasTexts f swaps blocks s w i c d r q e Fine = (t : HasWholeRun swaps s w i c d r q) × f (after s w t.texts.last)
-HasTexts f swaps blocks s w i c d r q e SinkFault =
+    → (left console_old console_new report_old report_new : Option (List ℕ)) → (fault : Type 0) → Result (Unit {0}) Fault → Type 0
+HasTexts f swaps blocks s w i c d r q e (Ok x) = (t : HasWholeRun swaps s w i c d r q) × f (after s w t.texts.last)
+HasTexts f swaps blocks s w i c d r q e (Err fault.Sink) =
     (t : HasPartRun s w i c d r q) × (f (after s w (part_at t.texts)) ⊎ f (after s w (suc (part_at t.texts))))
-HasTexts f swaps blocks s w i c d r q e (Stopped why) = (t : HasStoppedTexts swaps blocks s w why i c d r q e) × f (after s w t.steps)
-
--- the fault with which a run ends
-abbrev pub ended_by : Ended → Option Fault
-ended_by Fine = None
-ended_by SinkFault = Some fault.Sink
-ended_by (Stopped why) = Some (fault.Stopped why)
-
--- how a run ends only where some count rose, each with its count: of a sink, of the input, of the device
-abbrev pub Caused : (sink input device : Type 0) → Ended → Type 0
-Caused sink input device e = OnFault (CauseOf sink input (Unit {0}) device) (ended_by e)
+HasTexts f swaps blocks s w i c d r q e (Err (fault.Stopped why)) =
+    (t : HasStoppedTexts swaps blocks s w why i c d r q e) × f (after s w t.steps)
 
 -- only a machine that swaps stops for anything but its input
-abbrev pub StopsForInput : Ended → Type 0
-StopsForInput (Stopped why) = why ≡ stop.Input
-StopsForInput _ = Unit {0}
+abbrev pub StopsForInput : Result (Unit {0}) Fault → Type 0
+StopsForInput (Err (fault.Stopped why)) = why ≡ stop.Input
+StopsForInput (Err fault.Sink) = Unit {0}
+StopsForInput (Ok x) = Unit {0}
 
 -- the answer of the last turn, by how the run ended
-abbrev pub EndsAs : Option Turn → Ended → Type 0
-EndsAs t Fine = (t ≡ Some turn.AllEnded) ⊎ (t ≡ Some turn.BudgetSpent)
-EndsAs t SinkFault = t ≡ Some turn.SinkFault
-EndsAs t (Stopped why) = t ≡ Some (turn_of why)
+abbrev pub EndsAs : Option Turn → Result (Unit {0}) Fault → Type 0
+EndsAs t (Ok x) = (t ≡ Some turn.AllEnded) ⊎ (t ≡ Some turn.BudgetSpent)
+EndsAs t (Err f) = t ≡ Some (fault_turn f)
 
 -- after k steps, none of which ended the run: the machine stands for that world, and both texts are its texts
 pub record HasReached (stands_now : World → Type 0) (swaps : Bool) (s : Setting) (w : World)

@@ -1,5 +1,5 @@
 -- The one error from the services up to the run, and the one definition of its causes.
-use Rattle.std.specs.Prelude.{Option, Some, None, Result, Ok, Err}
+use Rattle.std.specs.Prelude.{Bool, true, false, Option, Some, None, Result, Ok, Err}
 use Rattle.o2_run.specs.declared.steps.Stop.{Stop}
 use Rattle.o2_run.specs.declared.steps.Stop.TheVariants as stop
 use Rattle.o2_run.specs.declared.steps.Turn.{Turn}
@@ -51,3 +51,14 @@ fault_of _ = None
 abbrev pub fault_turn : Fault → Turn
 fault_turn fault.Sink = turn.SinkFault
 fault_turn (fault.Stopped why) = turn_of why
+
+-- what a run makes of an answer: it goes on, it is over, or it has this fault
+abbrev pub went_on : Turn → Result Bool Fault
+went_on turn.Ran = Ok true
+went_on turn.AllEnded = Ok false
+went_on turn.BudgetSpent = Ok false
+went_on turn.SinkFault = Err fault.Sink
+went_on turn.InputFault = Err (fault.Stopped stop.Input)
+went_on turn.NoRoom = Err (fault.Stopped stop.NoRoom)
+went_on turn.SwapFull = Err (fault.Stopped stop.SwapFull)
+went_on turn.SwapFault = Err (fault.Stopped stop.SwapFault)

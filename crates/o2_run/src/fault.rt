@@ -1,6 +1,6 @@
 // Why a step isn't done.
 ghost use Rattle.std.specs.Prelude.{◌≡◌};
-ghost use Rattle.o2_run.specs.Faults.{fault_turn};
+ghost use Rattle.o2_run.specs.Faults.{fault_turn, went_on};
 
 use crate::{Stop, Turn};
 
@@ -31,6 +31,23 @@ impl Fault {
         match self {
             Fault::Sink => Turn::SinkFault,
             Fault::Stopped(why) => why.answer(),
+        }
+    }
+}
+
+impl Turn {
+    /// Whether the run goes on behind this answer: it doesn't behind its end.
+    pub fn goes_on(self) -> Result<bool, Fault>
+        ensures { result ≡ went_on self }
+    {
+        match self {
+            Turn::Ran => Ok(true),
+            Turn::AllEnded | Turn::BudgetSpent => Ok(false),
+            Turn::SinkFault => Err(Fault::Sink),
+            Turn::InputFault => Err(Fault::from(Stop::Input)),
+            Turn::NoRoom => Err(Fault::from(Stop::NoRoom)),
+            Turn::SwapFull => Err(Fault::from(Stop::SwapFull)),
+            Turn::SwapFault => Err(Fault::from(Stop::SwapFault)),
         }
     }
 }

@@ -4,7 +4,7 @@ ghost use Rattle.o2_outer.specs.Texts.{Rose};
 ghost use Rattle.o2_run.specs.Turn.{Caused};
 ghost use Rattle.o2_run.specs.Faults.{turn_of};
 
-use crate::{Ended, Steps, Stop, Turn, put_stop, run};
+use crate::{Fault, Steps, Stop, Turn, put_stop, run};
 use o2_base::{Bytes, NoMemory};
 use o2_outer::{Dev, MemSink, MemSource, Sink, Source, SwapDevice, Took};
 use std::alloc::Global;
@@ -120,7 +120,7 @@ fn halted(
     alloc: Global,
     why: Stop,
     fails: &[(u64, usize)],
-) -> Result<(Ended, MemSink, bool), NoMemory> {
+) -> Result<(Result<(), Fault>, MemSink, bool), NoMemory> {
     let mut machine = Halting {
         steps: 3,
         why,
@@ -157,11 +157,15 @@ fn each_stop(rt: HostRuntime) -> Result<(), Fail> {
     ];
     for (why, line) in &stops {
         let (ended, report, again) = halted(rt.alloc(), *why, &[])?;
-        assert_eq!(rt; ended, Ended::Stopped(*why));
+        assert_eq!(rt; ended, Err(Fault::Stopped(*why)));
         assert_eq!(rt; report.taken(), line.as_bytes());
         assert!(rt; again);
         let (ended, report, again) = halted(rt.alloc(), *why, &[(1, 4)])?;
-        assert_eq!(rt; ended, Ended::Stopped(*why), "where the line's put fails");
+        assert_eq!(rt;
+            ended,
+            Err(Fault::Stopped(*why)),
+            "where the line's put fails"
+        );
         assert_eq!(rt; report.taken(), b"stop".as_slice());
         assert!(rt; again);
     }

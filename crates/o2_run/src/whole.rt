@@ -4,31 +4,21 @@ ghost use Rattle.o2_outer.specs.Texts.{Rose, Gains};
 ghost use Rattle.o2_world.specs.World.{World, Setting};
 ghost use Rattle.o2_world.specs.Text.{lines_text};
 ghost use Rattle.o2_world.specs.Run.{console as console_text};
-ghost use Rattle.o2_run.specs.Ended.{HasTexts, EndsAs, Caused, StopsForInput};
+ghost use Rattle.o2_run.specs.Faults.{Caused};
+ghost use Rattle.o2_run.specs.Ended.{HasTexts, EndsAs, StopsForInput};
 
-use crate::{Steps, Stop, Turn};
+use crate::{Fault, Steps};
 use o2_outer::{Sink, Source, SwapDevice};
 
-/// How a run ends.
-#[derive(Clone, Copy, Debug, PartialEq, Eq)]
-pub enum Ended {
-    /// It came to its end, and its last line is put.
-    Fine,
-    /// A sink failed.
-    SinkFault,
-    /// It stopped before a step.
-    Stopped(Stop),
-}
-
-/// Runs a machine that stands for a world to its end. What both sinks took before the opening is `c` and `r`. At each end the
-/// machine stands for the world whose texts they have taken.
+/// Runs a machine that stands for a world to its end: it is Ok where the last line is put. What both sinks took before the opening
+/// is `c` and `r`. At each end, and at each fault, the machine stands for the world whose texts they have taken.
 pub fn run<M: Steps, I: Source, C: Sink, R: Sink, S: SwapDevice>(
     machine: &mut M,
     input: &mut I,
     console: &mut C,
     report: &mut R,
     swap: &mut S,
-) -> Ended
+) -> Result<(), Fault>
     ensures texts { M.stopped machine.old ≡ None → (s : Setting) (w : World) (c r : Option (List ℕ))
         → M.stands machine.old (S.told swap.old) (S.block swap.old) s w
         → I.left input.old ≡ Some w.input
@@ -50,18 +40,12 @@ pub fn run<M: Steps, I: Source, C: Sink, R: Sink, S: SwapDevice>(
     ensures swap_count { S.faults swap.old ≤ S.faults swap.new }
     ensures cause { M.stopped machine.old ≡ None
         → Caused (Rose (C.faults console.old) (C.faults console.new) ⊎ Rose (R.faults report.old) (R.faults report.new))
-        (Rose (I.faults input.old) (I.faults input.new)) (Rose (S.faults swap.old) (S.faults swap.new)) result }
+        (Rose (I.faults input.old) (I.faults input.new)) (Unit {0}) (Rose (S.faults swap.old) (S.faults swap.new)) result }
 {
     'steps: loop {
-        match machine.turn(input, console, report, swap) {
-            Turn::Ran => {}
-            Turn::AllEnded => return Ended::Fine,
-            Turn::BudgetSpent => return Ended::Fine,
-            Turn::SinkFault => return Ended::SinkFault,
-            Turn::InputFault => return Ended::Stopped(Stop::Input),
-            Turn::NoRoom => return Ended::Stopped(Stop::NoRoom),
-            Turn::SwapFull => return Ended::Stopped(Stop::SwapFull),
-            Turn::SwapFault => return Ended::Stopped(Stop::SwapFault),
+        let more = machine.turn(input, console, report, swap).goes_on()?;
+        if !more {
+            return Ok(());
         }
     }
 }

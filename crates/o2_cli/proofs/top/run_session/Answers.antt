@@ -1,10 +1,12 @@
 use Rattle.std.proofs.Common.{ap, subst}
 use Rattle.std.specs.Prelude.{Err}
-use Rattle.o2_run.proofs.Reached.{stopped_since, rose_since}
+use Rattle.o2_run.proofs.Reached.{rose_since}
+use Rattle.o2_world.specs.World.{World, Setting}
 use Rattle.o2_machine.specs.declared.fault.BeginFault.{BeginFault}
 use Rattle.o2_machine.specs.Lasts.{stopped_of}
+use Rattle.o2_machine.specs.StandsFor.{StandsFor}
 use Rattle.o2_machine.specs.Begins.{Begins, setting_of, first_world}
-use Rattle.o2_cli.proofs.Runs.{start_of, has_started, nothing_yet, in_opening, refused_texts, stopped_shows}
+use Rattle.o2_cli.proofs.Runs.{start_of, has_started, nothing_yet, in_opening, refused_texts, faulted_shows, faulted_run}
 use Rattle.o2_cli.proofs.top.run_session.Goals as goal
 
 pub returns-in-Err-SinkFault-clause-texts : goal.returns-in-Err-SinkFault-clause-texts
@@ -19,33 +21,24 @@ returns-in-Err-Start-clause-texts g c =
     let why = subst (λ (f : BeginFault). Begins s.linked s.conf (g.R.Sink.taken c.args.report.now) (g.R.Sink.taken c.begin.new.report) (Err f)) c.in-Err-Start.field-0-is c.in-Err-Start.ensures.begins in
     refused_texts s _ _ _ _ _ _ c.in-Err-Start.pid c.in-Err-Start.fault c.refused_start.result _ c.from.ensures why.0 why.1 c.refused_start.ensures
 
-pub returns-in-Fine-clause-texts : goal.returns-in-Fine-clause-texts
-returns-in-Fine-clause-texts g c = λ input left.
+pub returns-in-Ok-run-clause-texts : goal.returns-in-Ok-run-clause-texts
+returns-in-Ok-run-clause-texts g c = λ input left.
     let s = c.args.session.now in
     let begun = c.in-Ok.ensures.begins in
     record {
       start = start_of s input begun.built;
       starts = has_started s input begun.built begun.starts;
-      runs = (c.in-Fine.ensures.texts (ap stopped_of begun.fresh) (setting_of s.conf) (first_world s.linked s.conf input begun.built) _ _ (begun.stands input) left (nothing_yet s begun.built input _) begun.to_report).0;
-    }
-
-pub returns-in-SinkFault-clause-texts : goal.returns-in-SinkFault-clause-texts
-returns-in-SinkFault-clause-texts g c = λ input left.
-    let s = c.args.session.now in
-    let begun = c.in-Ok.ensures.begins in
-    record {
-      start = start_of s input begun.built;
-      starts = has_started s input begun.built begun.starts;
-      runs = (c.in-SinkFault.ensures.texts (ap stopped_of begun.fresh) (setting_of s.conf) (first_world s.linked s.conf input begun.built) _ _ (begun.stands input) left (nothing_yet s begun.built input _) begun.to_report).0;
+      runs = (c.in-Ok-run.ensures.texts (ap stopped_of begun.fresh) (setting_of s.conf) (first_world s.linked s.conf input begun.built) _ _ (begun.stands input) left (nothing_yet s begun.built input _) begun.to_report).0;
     }
 
 pub returns-clause-texts : goal.returns-clause-texts
-returns-clause-texts g c = stopped_shows _ _ _ _ _ _ _ _ _ c.in-Stopped.why _ c.stopped.ensures (λ input left.
+returns-clause-texts g c =
+    faulted_shows _ _ _ _ _ _ _ _ _ c.in-Err.why _ c.from-in-Err.ensures
+    (faulted_run _ _ _ _ _ _ _ _ _ (λ (s : Setting). StandsFor c.run.new.machine s) _ (rose_since _ _ _ c.in-Ok.ensures.count) c.in-Err.why (λ input left.
     let s = c.args.session.now in
     let begun = c.in-Ok.ensures.begins in
     record {
       start = start_of s input begun.built;
       starts = has_started s input begun.built begun.starts;
-      runs = stopped_since _ _ _ _ _ _ _ _ _ _ _ _ (rose_since _ _ _ c.in-Ok.ensures.count)
-          (c.in-Stopped.ensures.texts (ap stopped_of begun.fresh) (setting_of s.conf) (first_world s.linked s.conf input begun.built) _ _ (begun.stands input) left (nothing_yet s begun.built input _) begun.to_report).0;
-    })
+      runs = c.in-Err.ensures.texts (ap stopped_of begun.fresh) (setting_of s.conf) (first_world s.linked s.conf input begun.built) _ _ (begun.stands input) left (nothing_yet s begun.built input _) begun.to_report;
+    }))

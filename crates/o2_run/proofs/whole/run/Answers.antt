@@ -1,57 +1,56 @@
-use Rattle.std.proofs.Common.{arith, ◌∙◌}
-use Rattle.o2_run.proofs.Reached.{one_more, closed, stopped_anyhow, stopped_with, rose_since}
+use Rattle.std.proofs.Common.{arith, ap, ◌∙◌, sym}
+use Rattle.std.proofs.lemmas.Result.{err_from_is_err_and}
+use Rattle.o2_run.specs.Turn.{stopped_by}
+use Rattle.o2_run.proofs.Reached.{ran_by, closed_by, faulted_by, rose_since}
+use Rattle.o2_run.proofs.Answered.{gives, ran_is, end_is, fault_is, ends_with, ends_at, cause_of, either_rose, for_input}
 use Rattle.o2_run.proofs.whole.run.Goals as goal
 
 pub steps-preserved : goal.steps-preserved
-steps-preserved g c = record {
-  fresh = λ n. c.in-Ran.ensures.stops;
-  reached = λ n s w a b stands input to_console to_report.
-      let h = c.steps.invariant.reached n s w a b stands input to_console to_report in
-      one_more _ _ _ (g.S.SwapDevice.blocks c.steps.swap) s w _ _ _ _ _ _ _ _ h (c.in-Ran.ensures.turns (c.steps.invariant.fresh n) s _ h.stands h.input);
-  input_count = omega (arith, c.steps.invariant.input_count, c.turn.ensures.input_count);
-  console_count = omega (arith, c.steps.invariant.console_count, c.turn.ensures.console_count);
-  report_count = omega (arith, c.steps.invariant.report_count, c.turn.ensures.report_count);
-  swap_count = omega (arith, c.steps.invariant.swap_count, c.turn.ensures.swap_count);
-  swap_blocks = c.turn.ensures.swap_blocks ∙ c.steps.invariant.swap_blocks;
-  swap_told = c.turn.ensures.swap_told ∙ c.steps.invariant.swap_told;
-  unswapped = λ e. c.turn.ensures.unswapped e ∙ c.steps.invariant.unswapped e;
-}
+steps-preserved g c =
+    let is = ran_is c.turn.result (gives _ _ _ c.in_ok-more.ensures c.if-not-more.false) in
+    record {
+      fresh = λ n. c.turn.ensures.stops ∙ ap stopped_by is;
+      reached = λ n s w a b stands input to_console to_report.
+          let h = c.steps.invariant.reached n s w a b stands input to_console to_report in
+          ran_by _ _ _ (g.S.SwapDevice.blocks c.steps.swap) s w _ _ _ _ _ _ _ _ c.turn.result is _ h _ (c.turn.ensures.turns (c.steps.invariant.fresh n) s _ h.stands h.input);
+      input_count = omega (arith, c.steps.invariant.input_count, c.turn.ensures.input_count);
+      console_count = omega (arith, c.steps.invariant.console_count, c.turn.ensures.console_count);
+      report_count = omega (arith, c.steps.invariant.report_count, c.turn.ensures.report_count);
+      swap_count = omega (arith, c.steps.invariant.swap_count, c.turn.ensures.swap_count);
+      swap_blocks = c.turn.ensures.swap_blocks ∙ c.steps.invariant.swap_blocks;
+      swap_told = c.turn.ensures.swap_told ∙ c.steps.invariant.swap_told;
+      unswapped = λ e. c.turn.ensures.unswapped e ∙ c.steps.invariant.unswapped e;
+    }
 
-pub returns-in-AllEnded-clause-texts : goal.returns-in-AllEnded-clause-texts
-returns-in-AllEnded-clause-texts g c = λ n s w a b stands input to_console to_report.
+pub returns-then-not-more-clause-texts : goal.returns-then-not-more-clause-texts
+returns-then-not-more-clause-texts g c = λ n s w a b stands input to_console to_report.
     let h = c.steps.invariant.reached n s w a b stands input to_console to_report in
-    closed _ _ _ (g.S.SwapDevice.blocks c.args.swap.now) s w _ _ _ _ _ _ _ _ h _ (c.in-AllEnded.ensures.turns (c.steps.invariant.fresh n) s _ h.stands h.input)
+    closed_by _ _ _ (g.S.SwapDevice.blocks c.args.swap.now) s w _ _ _ _ _ _ _ _ c.turn.result (end_is c.turn.result (gives _ _ _ c.in_ok-more.ensures c.if-not-more.true)) _ h _ (Unit {0})
+    (c.turn.ensures.turns (c.steps.invariant.fresh n) s _ h.stands h.input)
 
-pub returns-in-BudgetSpent-clause-texts : goal.returns-in-BudgetSpent-clause-texts
-returns-in-BudgetSpent-clause-texts g c = λ n s w a b stands input to_console to_report.
-    let h = c.steps.invariant.reached n s w a b stands input to_console to_report in
-    closed _ _ _ (g.S.SwapDevice.blocks c.args.swap.now) s w _ _ _ _ _ _ _ _ h _ (c.in-BudgetSpent.ensures.turns (c.steps.invariant.fresh n) s _ h.stands h.input)
+pub returns-then-not-more-clause-stopped : goal.returns-then-not-more-clause-stopped
+returns-then-not-more-clause-stopped g c = ends_at _ c.turn.result (gives _ _ _ c.in_ok-more.ensures c.if-not-more.true) c.turn.ensures.stops
 
-pub returns-in-SinkFault-clause-texts : goal.returns-in-SinkFault-clause-texts
-returns-in-SinkFault-clause-texts g c = λ n s w a b stands input to_console to_report.
-    let h = c.steps.invariant.reached n s w a b stands input to_console to_report in
-    stopped_anyhow _ _ _ (g.S.SwapDevice.blocks c.args.swap.now) s w _ _ _ _ _ _ _ _ h (c.in-SinkFault.ensures.turns (c.steps.invariant.fresh n) s _ h.stands h.input)
-
-pub returns-in-InputFault-clause-texts : goal.returns-in-InputFault-clause-texts
-returns-in-InputFault-clause-texts g c = λ n s w a b stands input to_console to_report.
-    let h = c.steps.invariant.reached n s w a b stands input to_console to_report in
+pub returns-in_err-more-clause-texts : goal.returns-in_err-more-clause-texts
+returns-in_err-more-clause-texts g c = λ n s w a b stands input to_console to_report.
+    let p = err_from_is_err_and c.from_residual.result c.from_residual.ensures.1 in
     let fresh = c.steps.invariant.fresh n in
-    stopped_with _ _ _ _ s w _ _ _ _ _ _ _ _ _ c.steps.invariant.swap_blocks h _ _ _ (λ e. rose_since _ _ _ c.steps.invariant.report_count (c.in-InputFault.ensures.line fresh e)) (c.in-InputFault.ensures.turns fresh s _ h.stands h.input)
-
-pub returns-in-NoRoom-clause-texts : goal.returns-in-NoRoom-clause-texts
-returns-in-NoRoom-clause-texts g c = λ n s w a b stands input to_console to_report.
     let h = c.steps.invariant.reached n s w a b stands input to_console to_report in
-    let fresh = c.steps.invariant.fresh n in
-    stopped_with _ _ _ _ s w _ _ _ _ _ _ _ _ _ c.steps.invariant.swap_blocks h _ _ _ (λ e. rose_since _ _ _ c.steps.invariant.report_count (c.in-NoRoom.ensures.line fresh e)) (c.in-NoRoom.ensures.turns fresh s _ h.stands h.input)
+    rw (p.1, p.2) (faulted_by _ _ _ (g.S.SwapDevice.blocks c.args.swap.now) s w _ _ _ _ _ _ _ _ c.turn.result _ (fault_is c.turn.result _ (sym c.in_err-more.ensures)) _ c.steps.invariant.swap_blocks h _ _ _
+    (rose_since _ _ _ c.steps.invariant.report_count) (c.turn.ensures.line fresh) (c.turn.ensures.turns fresh s _ h.stands h.input))
 
-pub returns-in-SwapFull-clause-texts : goal.returns-in-SwapFull-clause-texts
-returns-in-SwapFull-clause-texts g c = λ n s w a b stands input to_console to_report.
-    let h = c.steps.invariant.reached n s w a b stands input to_console to_report in
-    let fresh = c.steps.invariant.fresh n in
-    stopped_with _ _ _ _ s w _ _ _ _ _ _ _ _ _ c.steps.invariant.swap_blocks h _ _ _ (λ e. rose_since _ _ _ c.steps.invariant.report_count (c.in-SwapFull.ensures.line fresh e)) (c.in-SwapFull.ensures.turns fresh s _ h.stands h.input)
+pub returns-in_err-more-clause-stopped : goal.returns-in_err-more-clause-stopped
+returns-in_err-more-clause-stopped g c =
+    let p = err_from_is_err_and c.from_residual.result c.from_residual.ensures.1 in
+    rw (p.1, p.2) (ends_with _ c.turn.result _ (sym c.in_err-more.ensures) c.turn.ensures.stops)
 
-pub returns-in-SwapFault-clause-texts : goal.returns-in-SwapFault-clause-texts
-returns-in-SwapFault-clause-texts g c = λ n s w a b stands input to_console to_report.
-    let h = c.steps.invariant.reached n s w a b stands input to_console to_report in
-    let fresh = c.steps.invariant.fresh n in
-    stopped_with _ _ _ _ s w _ _ _ _ _ _ _ _ _ c.steps.invariant.swap_blocks h _ _ _ (λ e. rose_since _ _ _ c.steps.invariant.report_count (c.in-SwapFault.ensures.line fresh e)) (c.in-SwapFault.ensures.turns fresh s _ h.stands h.input)
+pub returns-in_err-more-clause-no_swap_stop : goal.returns-in_err-more-clause-no_swap_stop
+returns-in_err-more-clause-no_swap_stop g c = λ off n.
+    let p = err_from_is_err_and c.from_residual.result c.from_residual.ensures.1 in
+    rw (p.1, p.2) (for_input c.turn.result _ (sym c.in_err-more.ensures) (c.turn.ensures.no_swap_stop off (c.steps.invariant.fresh n)))
+
+pub returns-in_err-more-clause-cause : goal.returns-in_err-more-clause-cause
+returns-in_err-more-clause-cause g c = λ n.
+    let p = err_from_is_err_and c.from_residual.result c.from_residual.ensures.1 in
+    rw (p.1, p.2) (cause_of _ _ _ _ _ _ (either_rose _ _ _ _ _ _ c.steps.invariant.console_count c.steps.invariant.report_count) (rose_since _ _ _ c.steps.invariant.input_count) (rose_since _ _ _ c.steps.invariant.swap_count)
+    c.turn.result _ (sym c.in_err-more.ensures) (c.turn.ensures.cause (c.steps.invariant.fresh n)))
