@@ -1,17 +1,17 @@
 -- A process goes on with other registers.
-use Rattle.std.proofs.Common.{◌≡◌, ◌≢◌, ℕ, ◌+◌, ◌-◌, inl, inr, Bool, true, false, cond, ◌||◌, List, [], Option, Some, None, is_some, refl, sym, ap, ◌∙◌, subst, arith, if◌then◌else◌, option_map}
+use Rattle.std.proofs.Common.{◌≡◌, ℕ, ◌+◌, inl, inr, Bool, true, false, ◌||◌, List, Option, Some, None, is_some, refl, sym, ap, ◌∙◌, subst, if◌then◌else◌, option_map}
 use Rattle.std.specs.Prelude.{◌==◌}
 use Rattle.std.specs.List.{list_any}
-use Rattle.std.proofs.lemmas.Bool.{cases_eq, false≢true, eq-eqb, ne_eqb}
+use Rattle.std.proofs.lemmas.Bool.{cases_eq, eq-eqb, ne_eqb}
 use Rattle.o2_world.specs.Holders.{is_held, process_at, with_process}
 use Rattle.o2_world.specs.Known.{held_at, holds_index, lives_at, reserves}
 use Rattle.o2_world.specs.Map.{Map, get}
-use Rattle.o2_world.specs.Sound.{held_in, held_of}
+use Rattle.o2_world.specs.Sound.{held_of}
 use Rattle.o2_world.specs.World.{Held, Process, Reserve, Segment, is_live}
 use Rattle.o2_stands.specs.Parts.{Parts, Running, running_of}
 use Rattle.o2_stands.specs.Stands.{IsNamed, IsReady, IsTidy, StandsIn, number_of, taken_by}
 use Rattle.o2_stands.specs.Moves.{with_running}
-use Rattle.o2_stands.proofs.Worlds.{HoldsIndex, holds_of, index_back, index_held, name_held, number_is, put_here, put_other, to_place}
+use Rattle.o2_stands.proofs.Worlds.{holds_of, index_back, index_held, name_held, number_is, put_here, put_other}
 
 -- registers and state of a process are nothing that the calls go by
 pub running_ready : (p : Parts) (pid : ℕ) (r : Running) → IsReady p → IsReady (with_running p pid r)

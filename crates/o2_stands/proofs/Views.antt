@@ -1,17 +1,22 @@
 -- What a process sees of the world is what the bus shows of the machine, with all segments present.
 use Rattle.std.proofs.Common.{◌≡◌, ℕ, ◌<◌, Bool, true, false, List, length, map, Option, Some, None, is_some, refl, sym, ap, ◌∙◌, arith, if◌then◌else◌, option_map}
 use mathlib.Core.Path.{fun_ext}
+use Rattle.std.specs.Borrow.{GName}
 use Rattle.std.specs.List.{range_with_len}
 use Rattle.std.proofs.lemmas.List.{ext_get_or}
 use Rattle.std.proofs.lemmas.List.FromFn.{get_or-map-range_with_len, length-map-range_with_len}
 use Rattle.o2_phys.specs.Bytes.{part}
 use Rattle.o2_phys.proofs.Parts.{length-part, get-part}
 use Rattle.o2_isa.specs.declared.cpu.Cpu.{Cpu}
-use Rattle.o2_isa.specs.View.{View, Hold, Filling, Hidden, Rest, bound_registers, built_gates, no_rest, no_hidden}
+use Rattle.o2_isa.specs.View.{View, Hold, Filling, Hidden, Registers, Rest, bound_registers, built_gates, no_rest, no_hidden}
 use Rattle.o2_regions.specs.declared.held.Held.{Held as HeldThere}
 use Rattle.o2_regions.specs.Maps.{Maps, held_at as held_there}
 use Rattle.o2_store.specs.Pictures.{picture}
-use Rattle.o2_store.specs.Shelf.{byte_in as byte_by, entry, out_byte, place_of}
+use Rattle.o2_store.specs.Shelf.{Shelf, byte_in as byte_by, entry, out_byte, place_of}
+use Rattle.o2_segbus.specs.declared.registers.SegmentRegisters.{SegmentRegisters}
+use Rattle.o2_segbus.specs.Bus.{bus_hidden, bus_rest, bus_view, registers_of}
+use Rattle.o2_segbus.specs.Frames.{KeepsStore}
+use Rattle.o2_segbus.proofs.Keeping.{presence_stays}
 use Rattle.o2_segbus.specs.Seen.{bytes_from, bytes_in as bytes_there, bytes_under, hold_in, hold_of as hold_there, key_of, present_in, present_under, seen_with, size_in, size_under}
 use Rattle.o2_world.specs.Map.{Map, get}
 use Rattle.o2_world.specs.World.{Process, Reserve, Segment}
@@ -20,7 +25,8 @@ use Rattle.o2_world.specs.Sound.{held_of as held_by}
 use Rattle.o2_world.specs.Views.{bytes_in, hold_of, holds_in, segment_bytes, view_of}
 use Rattle.o2_stands.specs.Parts.{Parts, away_in, away_under, held_in, held_of}
 use Rattle.o2_stands.specs.Stands.{AreLawful, IsNamed, IsSegment, StandsIn}
-use Rattle.o2_stands.specs.Views.{Fills, filled}
+use Rattle.o2_stands.specs.Moves.{AreWritten}
+use Rattle.o2_stands.specs.Views.{Fills, boundless_view, filled, filling_of}
 
 -- name and rights of what is held
 hold_by : (m : Maps) (pid i : ℕ) (o : Option HeldThere) → option_map hold_of (option_map (held_of m pid i) o) ≡ option_map (hold_there m pid i) o
@@ -96,3 +102,22 @@ module _ (p : Parts) (ps : List Process) (names : Map Segment) (next : ℕ) (res
       ∙ (ap (λ (size : ℕ → ℕ). made q.cpu (hold_in p.maps pid) size (bytes_in names)) (fun_ext name_size)
       ∙ ap (λ (bytes : ℕ → List ℕ). made q.cpu (hold_in p.maps pid) (size_in p.shelf) bytes)
       (fun_ext (λ n. name_bytes n ∙ away_same (present_in p.shelf n) (bytes_there p.shelf n) (h.away n f.blocks) (away_in p n) (fills.away n))))
+
+  -- a bus shows that, with what no instruction sees
+  pub bus_is : (g t : GName) (pid : ℕ) (q : Process) (x : SegmentRegisters) (h : Hidden) → process_at ps pid ≡ Some q → registers_of p.maps pid x ≡ bound_registers (hold_in p.maps pid) q.cpu
+      → view_of names q ≡ boundless_view p h (bus_view g t p.shelf p.maps pid x)
+  unfolding bus_view seen_with
+  bus_is g t pid q x h at agrees =
+      view_is pid q (bus_rest p.shelf p.maps) (bus_hidden g t) (filling_of p h) at (record { away = λ n out. refl })
+      ∙ ap (λ (r : Registers). record (filled p (bus_rest p.shelf p.maps) (bus_hidden g t) (filling_of p h) pid q.cpu) { registers = r }) (sym agrees)
+
+  -- and behind a step the bytes that are there, and of the rest those that were
+  pub bus_writes : (g h : GName) (t : Shelf) (m : Maps) (pid : ℕ) (x : SegmentRegisters) (hidden : Hidden) → KeepsStore p.shelf t
+      → AreWritten names t (boundless_view p hidden (bus_view g h t m pid x)).bytes
+  unfolding bus_view seen_with
+  bus_writes g h t m pid x hidden f = record { each = λ n s. same (present_in t n) n refl }
+    where
+      same : (b : Bool) (n : ℕ) → present_in t n ≡ b → (if b then bytes_there t n else away_in p n) ≡ (if b then bytes_there t n else bytes_in names n)
+      same true n e = refl
+      same false n e =
+          sym (name_bytes n ∙ ap (λ (b : Bool). if b then bytes_there p.shelf n else away_in p n) (sym (presence_stays p.shelf t f n) ∙ e))

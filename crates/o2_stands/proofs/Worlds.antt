@@ -1,5 +1,5 @@
 -- Processes by number, and who holds a name or an index.
-use Rattle.std.proofs.Common.{◌≡◌, ◌≢◌, ℕ, zero, suc, ◌+◌, ◌-◌, ◌<◌, ◌≤◌, Bool, true, false, cond, ◌||◌, List, [], ◌∷◌, Option, Some, None, is_some, refl, sym, ap, ◌∙◌, arith}
+use Rattle.std.proofs.Common.{◌≡◌, ◌≢◌, ℕ, zero, suc, ◌+◌, ◌-◌, ◌<◌, Bool, true, false, cond, ◌||◌, List, [], ◌∷◌, Option, Some, None, is_some, refl, sym, ap, ◌∙◌, arith}
 use Rattle.std.specs.Prelude.{◌==◌, slice_get, slice_set}
 use Rattle.std.proofs.lemmas.Bool.{false≢true, eq-eqb}
 use Rattle.o2_world.specs.Holders.{is_held, process_at, with_process}
@@ -7,7 +7,7 @@ use Rattle.o2_world.specs.Known.{held_at, holds_index}
 use Rattle.o2_world.specs.Map.{get}
 use Rattle.o2_world.specs.Sound.{held_in, held_of}
 use Rattle.o2_world.specs.World.{Held, Process}
-use Rattle.o2_world.proofs.Holding.{IsHeldBy, held_by}
+use Rattle.o2_world.proofs.Holding.{held_by}
 use Rattle.o2_world.proofs.Keeps.{at_other, held_found}
 use Rattle.o2_world.proofs.Numbers.{at_place_of, number_some, process_is, with_is}
 

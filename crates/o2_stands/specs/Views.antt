@@ -13,3 +13,11 @@ pub record Fills (p : Parts) (h : Hidden) (f : Filling) : Type 0 where
 -- what a bus shows of a process, whatever no row of meanings reads, with all segments present
 abbrev pub filled : Parts → Rest → Hidden → Filling → ℕ → Cpu → View
 filled p r h f pid c = with_unseen no_rest no_hidden (whole f (with_unseen r h (seen p.shelf p.maps pid c)))
+
+-- the filling by images and blocks, with anything in place of what is hidden
+abbrev pub filling_of : Parts → Hidden → Filling
+filling_of p h = record { blocks = away_in p; hidden = h }
+
+-- what the boundless machine sees where a bus shows this of the machine
+abbrev pub boundless_view : Parts → Hidden → View → View
+boundless_view p h v = with_unseen no_rest no_hidden (whole (filling_of p h) v)

@@ -1,12 +1,15 @@
 // What follows where a machine over a store stands for a world, and what keeps that.
 ghost use Rattle.std.specs.Prelude.{◌≡◌, ◌≤◌, ℕ, Bool, List, Some, IsTrue};
+ghost use Rattle.std.specs.Borrow.{GName};
 ghost use Rattle.o2_isa.specs.declared.cpu.Cpu.{Cpu as CpuThere};
-ghost use Rattle.o2_isa.specs.View.{Filling, Hidden, Rest};
+ghost use Rattle.o2_isa.specs.View.{Filling, Hidden, Rest, bound_registers};
 ghost use Rattle.o2_place.specs.declared.seg_id.SegId.{SegId as SegIdThere};
 ghost use Rattle.o2_regions.specs.Maps.{Maps};
 ghost use Rattle.o2_run.specs.Room.{load_between, room_between, swap_load as world_load};
-ghost use Rattle.o2_segbus.specs.Bus.{AreInside};
+ghost use Rattle.o2_segbus.specs.declared.registers.SegmentRegisters.{SegmentRegisters as SegmentRegistersThere};
+ghost use Rattle.o2_segbus.specs.Bus.{AreInside, bus_view, registers_of};
 ghost use Rattle.o2_segbus.specs.Frames.{CanStep, KeepsClean, KeepsMaps, KeepsStore};
+ghost use Rattle.o2_segbus.specs.Seen.{hold_in};
 ghost use Rattle.o2_segbus.specs.Settled.{IsSettled};
 ghost use Rattle.o2_service.specs.Needs.{all_needed};
 ghost use Rattle.o2_service.specs.Told.{IsHeldWell, OnlyTables};
@@ -22,17 +25,22 @@ ghost use Rattle.o2_world.specs.Views.{view_of, with_bytes};
 ghost use Rattle.o2_stands.specs.Parts.{Parts, running_of};
 ghost use Rattle.o2_stands.specs.Stands.{AreLawful, IsReady, IsSetTo, Stands, StandsIn};
 ghost use Rattle.o2_stands.specs.Moves.{AreWritten, moved, stepped_to, with_running};
-ghost use Rattle.o2_stands.specs.Views.{Fills, filled};
+ghost use Rattle.o2_stands.specs.Views.{Fills, boundless_view, filled};
 ghost use Rattle.o2_stands.specs.Knows.{KnowsAs, known_in, others_of};
 ghost use Rattle.o2_stands.specs.Sums.{AreAllHere, IsAmong, NoneGrows, SaysNeed};
 
 /// What the boundless machine sees of a process is what a bus shows of it, with all segments present, where a filling gives
 /// the bytes of those that are out of memory.
 pub fn views_are_filled()
-    ensures { (p : Parts) (ps : List Process) (names : Map Segment) (next : ℕ) (reserved : List Reserve)
+    ensures view { (p : Parts) (ps : List Process) (names : Map Segment) (next : ℕ) (reserved : List Reserve)
         (pid : ℕ) (q : Process) (r : Rest) (h : Hidden) (f : Filling) → AreLawful p.shelf p.maps
         → StandsIn p ps names next reserved → process_at ps pid ≡ Some q → Fills p h f
         → view_of names q ≡ filled p r h f pid q.cpu }
+    ensures bus { (p : Parts) (ps : List Process) (names : Map Segment) (next : ℕ) (reserved : List Reserve)
+        (pid : ℕ) (q : Process) (g t : GName) (x : SegmentRegistersThere) (h : Hidden) → AreLawful p.shelf p.maps
+        → StandsIn p ps names next reserved → process_at ps pid ≡ Some q
+        → registers_of p.maps pid x ≡ bound_registers (hold_in p.maps pid) q.cpu
+        → view_of names q ≡ boundless_view p h (bus_view g t p.shelf p.maps pid x) }
 {}
 
 /// What is known of a world beside what a process sees is known of the machine.
@@ -55,13 +63,17 @@ pub fn moves_are_unseen()
 {}
 
 /// What a step writes is written in the world: what is in memory has the bytes that it has there, and what is out of it those
-/// that it had.
+/// that it had. That is what the boundless machine sees behind it.
 pub fn steps_are_seen()
     ensures stands { (p : Parts) (t : Shelf) (m : Maps) (bytes : ℕ → List ℕ)
         (ps : List Process) (names : Map Segment) (next : ℕ) (reserved : List Reserve)
         → KeepsStore p.shelf t → KeepsMaps p.maps m → AreInside t → IsReady (stepped_to p t m)
         → StandsIn p ps names next reserved → AreWritten names t bytes
         → StandsIn (stepped_to p t m) ps (with_bytes names bytes) next reserved }
+    ensures written { (p : Parts) (t : Shelf) (m : Maps) (g k : GName) (pid : ℕ) (x : SegmentRegistersThere) (h : Hidden)
+        (ps : List Process) (names : Map Segment) (next : ℕ) (reserved : List Reserve)
+        → AreLawful p.shelf p.maps → StandsIn p ps names next reserved → KeepsStore p.shelf t
+        → AreWritten names t (boundless_view p h (bus_view g k t m pid x)).bytes }
     ensures ready { (p : Parts) (t : Shelf) (m : Maps) (pid : ℕ) (c : CpuThere) → IsReady p
         → KeepsStore p.shelf t → KeepsMaps p.maps m → KeepsClean p.shelf p.maps t
         → CanStep t m pid c → IsReady (stepped_to p t m) }
