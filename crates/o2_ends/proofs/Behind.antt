@@ -1,7 +1,6 @@
 -- What the machine goes by, and what it stands for, behind the end of a process.
-use Rattle.std.proofs.Common.{◌≡◌, ◌≢◌, ℕ, zero, suc, ◌+◌, ◌<◌, ◌≤◌, inl, inr, Bool, true, false, cond, ◌&&◌, ◌||◌, List, [], length, get_or, Option, Some, None, is_some, IsSome, refl, sym, ap, ◌∙◌, subst, arith, if◌then◌else◌, option_map}
+use Rattle.std.proofs.Common.{◌≡◌, ◌≢◌, ℕ, ◌+◌, ◌<◌, inl, inr, Bool, true, false, cond, ◌&&◌, List, [], length, get_or, Option, Some, None, is_some, IsSome, refl, sym, ap, ◌∙◌, subst, arith, if◌then◌else◌, option_map}
 use Rattle.std.specs.Prelude.{nat_lt, ◌==◌}
-use Rattle.std.specs.List.{list_any}
 use Rattle.std.proofs.lemmas.Bool.{cases_eq, cases_lt, false≢true, eq-eqb, ne_eqb}
 use Rattle.std.proofs.lemmas.List.{get_or_past}
 use Rattle.o2_desc.specs.declared.descriptor.Descriptor.{Descriptor}
@@ -14,23 +13,24 @@ use Rattle.o2_regions.specs.declared.held.Held.{Held}
 use Rattle.o2_regions.specs.declared.held.Region.{Region}
 use Rattle.o2_regions.specs.declared.held.Region.TheVariants.{Private, Shared}
 use Rattle.o2_regions.specs.Kept.{AreKept}
+use Rattle.o2_regions.specs.Lives.{lives}
 use Rattle.o2_regions.specs.Maps.{Maps, held_at, is_held as is_held_in, is_reserved, is_taken}
 use Rattle.o2_regions.proofs.Reserves.{held_reserved}
 use Rattle.o2_segbus.specs.Guards.{AreAged}
-use Rattle.o2_segbus.specs.Seen.{AreNamed, key_of}
+use Rattle.o2_segbus.specs.Seen.{key_of}
 use Rattle.o2_segbus.specs.Settled.{Describes, IsSettled, IsSettledAt, descriptor_at}
 use Rattle.o2_segbus.proofs.Ages.{aged_key, named_by_age}
 use Rattle.o2_service.specs.Told.{IsHeldWell}
 use Rattle.o2_store.specs.Pictures.{picture}
-use Rattle.o2_store.specs.Shelf.{AreClean, IsShelf, Pictures, Shelf, entry, entry_of, entry_or, numbered, out_byte, place_of, source_byte}
-use Rattle.o2_swapmap.specs.Piles.{Blocks, all_of}
+use Rattle.o2_store.specs.Shelf.{AreClean, IsShelf, Pictures, Shelf, entry, entry_or, numbered, out_byte, place_of, source_byte}
+use Rattle.o2_swapmap.specs.Piles.{Blocks}
 use Rattle.o2_world.specs.Holders.{is_held, kept, process_at, with_process}
 use Rattle.o2_world.specs.Changes.{used}
-use Rattle.o2_world.specs.Known.{held_at as world_held, reserves}
+use Rattle.o2_world.specs.Known.{held_at as world_held}
 use Rattle.o2_world.specs.Map.{Map, get}
 use Rattle.o2_world.specs.World.{Held as WorldHeld, Process, Reserve, Segment, is_live}
-use Rattle.o2_stands.specs.Parts.{Parts, Running, held_in, held_of, running_of}
-use Rattle.o2_stands.specs.Stands.{IsIndex, IsNamed, IsReady, IsSegment, IsTidy, StandsIn, number_of, taken_by}
+use Rattle.o2_stands.specs.Parts.{Parts, Running, goes_on, held_in, held_of, running_of}
+use Rattle.o2_stands.specs.Stands.{AreMarked, IsIndex, IsNamed, IsReady, IsSegment, IsTidy, StandsIn, number_of, taken_by}
 use Rattle.o2_stands.specs.Moves.{stepped_to, with_running}
 use Rattle.o2_stands.proofs.Moves.{index_same}
 use Rattle.o2_stands.proofs.Rooms.{found_at}
@@ -39,7 +39,7 @@ use Rattle.o2_ends.specs.LetsGo.{KeepsSegment, LetsGo, Sheds, is_own, some_has}
 use Rattle.o2_ends.proofs.Holders.{has_there, holder_of, id_same, some_is}
 use Rattle.o2_ends.proofs.Letting.{held_before, held_behind, live_id}
 use Rattle.o2_stands.proofs.Running.{running_put, running_ready}
-use Rattle.o2_stands.proofs.Worlds.{holds_of, name_held, put_here, put_other}
+use Rattle.o2_stands.proofs.Worlds.{holds_of, name_held}
 use Rattle.o2_ends.proofs.Worlds.{absorbed, held_here, held_other, kept_is, private_taken, shared_taken, tidy_behind, used_all}
 
 none_some : {X : Type 0} (x : X) → None ≡ Some x → ⊥
@@ -91,8 +91,8 @@ module _ (p : Parts) (s : Shelf) (m : Maps) (t : Shelf) (n : Maps) (pid : ℕ) (
           (let x = stays held q i h e in
           let a : IsSettledAt s (Some h) (descriptor_at m q i) = subst (λ (o : Option Held). IsSettledAt s o (descriptor_at m q i)) (before q i h e) (settled q i) in
           let b : Describes (place_of t h.id.key) (entry t h.id.key).size (rights_of (descriptor_at m q i).access) (descriptor_at m q i) =
-              subst (λ (z : Option (ℕ × ℕ)). Describes z (entry t h.id.key).size (rights_of (descriptor_at m q i).access) (descriptor_at m q i)) (sym x.place)
-              (subst (λ (z : Entry). Describes (place_of s h.id.key) z.size (rights_of (descriptor_at m q i).access) (descriptor_at m q i)) (sym (same_entry s t h.id.key x)) a) in
+          subst (λ (z : Option (ℕ × ℕ)). Describes z (entry t h.id.key).size (rights_of (descriptor_at m q i).access) (descriptor_at m q i)) (sym x.place)
+          (subst (λ (z : Entry). Describes (place_of s h.id.key) z.size (rights_of (descriptor_at m q i).access) (descriptor_at m q i)) (sym (same_entry s t h.id.key x)) a) in
           subst (λ (y : Descriptor). Describes (place_of t h.id.key) (entry t h.id.key).size (rights_of y.access) y) (sym (entry_before q i h e)) b)
       go None e = bare ((q == pid) && true) (sym (w.held q i) ∙ e) (w.described q i)
         where
@@ -365,3 +365,15 @@ behind_all s m t n pid shelf old new w d = record {
   ready = λ p r. ready_behind p s m t n pid shelf w d r;
   stands = λ p ps names next reserved x q stands there none dead. stands_behind p s m t n pid shelf old new w d ps names next reserved x q stands there none;
 }
+
+-- the marks of who lives
+pub marked_behind : (old now : List Bool) (p : Parts) (pid : ℕ) (r : Running) → ((a : ℕ) → lives now a ≡ (if a == pid then false else lives old a)) → is_live r.state ≡ false
+    → AreMarked old p → AreMarked now (with_running p pid r)
+marked_behind old now p pid r e dead marked a = elim (cases_eq a pid) [
+  | inl same ↦
+      e a ∙ (ap (λ (b : Bool). if b then false else lives old a) (eq-eqb a pid same)
+      ∙ (sym dead ∙ ap (λ (b : Bool). goes_on (if b then Some r else p.running a)) (sym (eq-eqb a pid same))))
+  | inr apart ↦
+      e a ∙ (ap (λ (b : Bool). if b then false else lives old a) (ne_eqb a pid apart)
+      ∙ (marked a ∙ ap (λ (b : Bool). goes_on (if b then Some r else p.running a)) (sym (ne_eqb a pid apart))))
+]

@@ -1,7 +1,7 @@
 -- Drops at one index, and the end of its reservation.
-use Rattle.std.proofs.Common.{◌≡◌, ◌≢◌, ℕ, zero, suc, ◌+◌, ◌-◌, ◌<◌, ◌≤◌, inl, inr, Bool, true, false, cond, eqb, ◌&&◌, ◌||◌, List, [], length, set, get_or, Option, Some, None, is_some, IsSome, refl, sym, ap, ◌∙◌, subst, arith}
+use Rattle.std.proofs.Common.{◌≡◌, ◌≢◌, ℕ, ◌+◌, ◌-◌, ◌<◌, inl, inr, Bool, true, false, cond, ◌&&◌, List, length, set, get_or, Option, Some, None, refl, sym, ap, ◌∙◌, subst, arith}
 use Rattle.std.specs.Prelude.{nat_lt, nat_le, ◌==◌, if◌then◌else◌, IfSome}
-use Rattle.std.proofs.lemmas.Bool.{cases_eq, cases_lt, false≢true, eq-eqb, ne_eqb}
+use Rattle.std.proofs.lemmas.Bool.{cases_eq, cases_lt, eq-eqb, ne_eqb}
 use Rattle.std.proofs.lemmas.List.{get_or_past, get_or-set_other, get_or-set_same, length-set}
 use Rattle.o2_desc.specs.declared.descriptor.Descriptor.{Descriptor}
 use Rattle.o2_desc.specs.Bytes.{empty}
@@ -161,7 +161,7 @@ released m pid i kept process low high = record {
   reserved = λ g j x.
       is_reserved-with m (Private pid) g i 1 j false kept process x.region (omega (arith, high))
       ∙ ap (λ (b : Bool). if b then false else is_reserved m g j)
-        (ap (λ (b : Bool). b && (nat_le i j && nat_lt j (i + 1))) (own_is pid g) ∙ ap (λ (b : Bool). is_own pid g && b) (one_index i j));
+      (ap (λ (b : Bool). b && (nat_le i j && nat_lt j (i + 1))) (own_is pid g) ∙ ap (λ (b : Bool). is_own pid g && b) (one_index i j));
 }
 
 pub unreleased : (m : Maps) (pid i : ℕ) → (0 < i → i < 4096 → ⊥) → Releases m m pid i

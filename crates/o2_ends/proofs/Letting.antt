@@ -1,23 +1,19 @@
 -- What a process lets go of, index by index, comes to all that it held.
-use Rattle.std.proofs.Common.{◌≡◌, ◌≢◌, ℕ, ◌+◌, ◌<◌, ◌≤◌, inl, inr, Bool, true, false, cond, ◌&&◌, ◌||◌, List, [], length, set, get_or, Option, Some, None, is_some, IsSome, refl, sym, ap, ◌∙◌, subst, arith}
+use Rattle.std.proofs.Common.{◌≡◌, ◌≢◌, ℕ, ◌+◌, ◌<◌, ◌≤◌, inl, inr, Bool, true, false, cond, ◌&&◌, ◌||◌, List, length, set, Option, Some, None, is_some, IsSome, refl, sym, ap, ◌∙◌, subst, arith}
 use Rattle.std.specs.Prelude.{nat_lt, ◌==◌, if◌then◌else◌}
 use Rattle.std.proofs.lemmas.Bool.{cases_eq, cases_lt, false≢true, eq-eqb, ne_eqb}
 use Rattle.std.proofs.lemmas.List.{get_or_past, get_or-set_same, length-set}
-use Rattle.o2_desc.specs.declared.descriptor.Descriptor.{Descriptor}
 use Rattle.o2_desc.specs.Bytes.{empty}
 use Rattle.o2_entries.specs.declared.Entry.{Entry}
 use Rattle.o2_entries.specs.Tables.{slot_at}
 use Rattle.o2_place.specs.declared.seg_id.SegId.{SegId}
 use Rattle.o2_regions.specs.declared.held.Held.{Held}
-use Rattle.o2_regions.specs.declared.held.Region.{Region}
-use Rattle.o2_regions.specs.declared.held.Region.TheVariants.{Private, Shared}
 use Rattle.o2_regions.specs.Maps.{Maps, held_at, is_reserved, table_of}
 use Rattle.o2_segbus.specs.Settled.{IsSettled, IsSettledAt, descriptor_at}
 use Rattle.o2_service.specs.Told.{IsHeldWell}
-use Rattle.o2_store.specs.Shelf.{Pictures, Removes, Shelf, aged, entry, entry_of, entry_or, numbered, place_of}
+use Rattle.o2_store.specs.Shelf.{Removes, Shelf, aged, entry_of, entry_or, numbered}
 use Rattle.o2_swapmap.specs.Piles.{all_of}
-use Rattle.o2_stands.specs.Stands.{IsIndex}
-use Rattle.o2_stands.proofs.Moves.{held_same, index_same}
+use Rattle.o2_stands.proofs.Moves.{index_same}
 use Rattle.o2_ends.specs.Drops.{Empties}
 use Rattle.o2_ends.specs.LetsGo.{KeepsSegment, LetsGo, Releases, Sheds, is_own, some_has}
 use Rattle.o2_ends.proofs.Holders.{IsHolder, has_there, holder_of, some_is}

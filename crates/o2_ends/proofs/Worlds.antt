@@ -1,18 +1,15 @@
 -- A world behind the end of a process, by look-ups.
-use Rattle.std.proofs.Common.{◌≡◌, ◌≢◌, ℕ, zero, suc, ◌+◌, ◌-◌, ◌<◌, ◌≤◌, inl, inr, Bool, true, false, cond, ◌&&◌, ◌||◌, List, [], ◌∷◌, Option, Some, None, is_some, refl, sym, ap, ◌∙◌, subst, arith, if◌then◌else◌}
-use Rattle.std.specs.Prelude.{filter, nat_le, nat_lt, ◌==◌, slice_get, slice_set}
+use Rattle.std.proofs.Common.{◌≡◌, ◌≢◌, ℕ, ◌+◌, ◌≤◌, inl, inr, Bool, true, false, cond, ◌&&◌, ◌||◌, List, [], ◌∷◌, Option, Some, None, is_some, refl, sym, ap, ◌∙◌, arith, if◌then◌else◌}
+use Rattle.std.specs.Prelude.{filter, nat_le, nat_lt, ◌==◌}
 use Rattle.std.specs.List.{list_any}
-use Rattle.std.proofs.lemmas.Bool.{cases_eq, false≢true, eq-eqb, ne_eqb}
+use Rattle.std.proofs.lemmas.Bool.{cases_eq, false≢true, ne_eqb}
 use Rattle.o2_world.specs.Changes.{is_used, used}
 use Rattle.o2_world.specs.Holders.{is_held, kept, process_at, with_process}
 use Rattle.o2_world.specs.Known.{held_at, holds_index, is_for_the_run, lives_at, reserves}
 use Rattle.o2_world.specs.Map.{Map, get}
-use Rattle.o2_world.specs.Sound.{held_in, held_of}
-use Rattle.o2_world.specs.World.{Held, Process, Reserve, Segment, is_live}
-use Rattle.o2_world.proofs.Holding.{IsHeldBy, held_by}
-use Rattle.o2_world.proofs.Keeps.{at_other, held_found}
+use Rattle.o2_world.specs.Sound.{held_of}
+use Rattle.o2_world.specs.World.{Held, Process, Reserve, Segment}
 use Rattle.o2_world.proofs.MapLemmas.{get-filter}
-use Rattle.o2_world.proofs.Numbers.{at_place_of, number_some, process_is, with_is}
 use Rattle.o2_stands.specs.Stands.{AllStay, AreOnce, IsTidy, taken_by}
 use Rattle.o2_stands.proofs.Worlds.{HoldsIndex, index_held, number_is, put_here, put_other}
 

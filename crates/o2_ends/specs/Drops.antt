@@ -1,5 +1,5 @@
 -- A process holds nothing at one of its indexes any more.
-use Rattle.std.specs.Prelude.{◌≡◌, ℕ, ◌-◌, ◌&&◌, ◌==◌, List, length, if◌then◌else◌, Option, Some, None}
+use Rattle.std.specs.Prelude.{◌≡◌, ℕ, ◌-◌, ◌&&◌, ◌==◌, length, if◌then◌else◌, Option, Some, None}
 use Rattle.o2_desc.specs.Bytes.{empty}
 use Rattle.o2_regions.specs.declared.held.Held.{Held}
 use Rattle.o2_regions.specs.Maps.{Maps, held_at, table_of}

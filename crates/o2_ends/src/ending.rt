@@ -4,6 +4,10 @@ ghost use Rattle.o2_regions.specs.Lives.{lives};
 ghost use Rattle.o2_regions.specs.Maps.{IsProcess, held_at};
 ghost use Rattle.o2_segbus.specs.Settled.{IsSettled};
 ghost use Rattle.o2_service.specs.Told.{IsHeldWell};
+ghost use Rattle.o2_world.specs.World.{is_live};
+ghost use Rattle.o2_stands.specs.Moves.{with_running};
+ghost use Rattle.o2_stands.specs.Parts.{Parts, Running};
+ghost use Rattle.o2_stands.specs.Stands.{AreMarked};
 ghost use Rattle.o2_ends.specs.Ended.{StandsBehind};
 ghost use Rattle.o2_ends.specs.LetsGo.{LetsGo, Sheds};
 
@@ -62,6 +66,8 @@ pub fn end(pid: u16, store: &mut Store, regions: &mut Regions, ends: &mut Ends)
     requires held { IsHeldWell store.old regions.old }
     requires settled { IsSettled store.old regions.old }
     ensures marks { (n : ℕ) → lives ends.new n ≡ (if n == pid then false else lives ends.old n) }
+    ensures marked { (p : Parts) (r : Running) → is_live r.state ≡ false → AreMarked ends.old p
+        → AreMarked ends.new (with_running p pid r) }
     ensures maps { LetsGo regions.old regions.new pid (λ i. true) }
     ensures store { Sheds store.old regions.old store.new regions.new }
     ensures behind { StandsBehind pid store.old regions.old store.new regions.new }

@@ -1,6 +1,4 @@
-use Rattle.std.proofs.Common.{◌≡◌, ◌+◌, ◌<◌, ◌≤◌, ℕ, arith, subst, sym}
-use Rattle.std.specs.Prelude.{IfSome, Option, Some}
-use Rattle.o2_regions.specs.declared.held.Held.{Held}
+use Rattle.std.proofs.Common.{◌≡◌, ◌+◌, arith, subst, sym}
 use Rattle.o2_regions.specs.Maps.{Maps}
 use Rattle.o2_ends.specs.Drops.{Drops}
 use Rattle.o2_ends.proofs.Dropping.{all_of_it, drops_more}

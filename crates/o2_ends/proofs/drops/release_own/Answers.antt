@@ -1,4 +1,4 @@
-use Rattle.std.proofs.Common.{subst, sym, arith}
+use Rattle.std.proofs.Common.{subst, sym}
 use Rattle.o2_regions.specs.Maps.{Maps}
 use Rattle.o2_ends.specs.LetsGo.{Releases}
 use Rattle.o2_ends.proofs.Dropping.{released}

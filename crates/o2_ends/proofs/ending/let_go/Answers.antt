@@ -1,7 +1,5 @@
-use Rattle.std.proofs.Common.{◌≡◌, ◌+◌, ◌≤◌, arith, ℕ}
+use Rattle.std.proofs.Common.{arith}
 use Rattle.std.specs.Prelude.{nat_lt}
-use Rattle.o2_regions.specs.Maps.{Maps}
-use Rattle.o2_ends.specs.LetsGo.{LetsGo}
 use Rattle.o2_ends.proofs.Behind.{behind_all}
 use Rattle.o2_ends.proofs.Letting.{empty_behind, gone_not, has_before, held_behind, lets_all, lets_more, sheds_more}
 use Rattle.o2_ends.proofs.Next.{next_is, next_none}

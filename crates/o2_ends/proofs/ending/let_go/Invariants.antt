@@ -1,4 +1,4 @@
-use Rattle.std.proofs.Common.{◌≡◌, ◌≤◌, ◌-◌, ℕ}
+use Rattle.std.proofs.Common.{◌≤◌, ◌-◌}
 use Rattle.std.specs.Prelude.{nat_lt}
 use Rattle.o2_regions.specs.Maps.{IsProcess}
 use Rattle.o2_service.specs.Told.{IsHeldWell}

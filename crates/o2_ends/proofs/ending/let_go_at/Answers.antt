@@ -1,5 +1,4 @@
-use Rattle.std.proofs.Common.{◌≡◌, ◌==◌, ℕ, length, List, ap, sym, subst, ◌∙◌}
-use Rattle.o2_regions.specs.Maps.{Maps}
+use Rattle.std.proofs.Common.{◌≡◌, ◌==◌, length, ap, sym, subst, ◌∙◌}
 use Rattle.o2_store.specs.Shelf.{Shelf}
 use Rattle.o2_ends.specs.LetsGo.{LetsGo, Sheds}
 use Rattle.o2_ends.proofs.Holders.{nobody_by, somebody_by}
