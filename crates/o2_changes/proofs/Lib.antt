@@ -13,3 +13,4 @@ pub mod Matching
 pub mod MakesStand
 pub mod MovesMatch
 pub mod Named
+pub mod SizesMatch

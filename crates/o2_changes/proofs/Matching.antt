@@ -32,6 +32,9 @@ use Rattle.o2_changes.proofs.HoldsStand.{holds_stand, region_same}
 use Rattle.o2_changes.proofs.LocksStand.{locks_match}
 use Rattle.o2_changes.proofs.MakesStand.{makes_match}
 use Rattle.o2_changes.proofs.MovesMatch.{moves_match}
+use Rattle.o2_changes.proofs.SizesMatch.{sizes_match}
+use Rattle.o2_store.specs.Sizes.{Resizes}
+use Rattle.o2_world.specs.Changes.{Resizes as ResizesChange}
 use Rattle.o2_changes.proofs.Taken.{held_apart}
 
 pub holds_match : (s : Shelf) (m n : Maps) (pid i access : ℕ) (h : HeldThere) → Grants m n pid i h access → 0 < h.holds → IfSome (held_there m pid i) (λ y. y.id ≡ h.id) → AreKept m → AreKept n → IsProcess m pid → TakesIndex m n pid i → IsInOrder s n
@@ -105,3 +108,11 @@ pub some_made : (s t : Shelf) (m : Maps) (o : Option SegId) (size flags : ℕ) (
     → IfSome o (λ id. MatchesMake s t m (new_segment size flags shared))
 some_made s t m None size flags shared shelf adds order zeros others = tt
 some_made s t m (Some id) size flags shared shelf adds order zeros others = record { world = make_matches s t m id size flags shared shelf adds order zeros others }
+
+pub size_matches : (s t : Shelf) (m n : Maps) (images : ImageList) (told : Bool) (before after : ℕ → List ℕ) (id : SegId) (size : ℕ) → IsSome (entry_of s id) → Resizes told (picture images) s before t after id.key size → OnlyTables m n → AreClean t (picture images)
+    → IsInOrder t n → all_of t.swap ≡ all_of s.swap
+    → (p : Parts) (w : World) → p.shelf ≡ s → p.maps ≡ m → p.images ≡ images → p.block ≡ before → IsTrue told → Matches p w → Matches (moved p t n after) (with_change w (ResizesChange id.age size))
+size_matches s t m n images told before after id size live r only clean order all p w es em ei eb tells q =
+    sizes_match p w t n after told id size tells
+    (subst (λ (i : ImageList). Resizes told (picture i) p.shelf p.block t after id.key size) (sym ei) (subst (λ (x : Shelf). Resizes told (picture images) x p.block t after id.key size) (sym es) (subst (λ (b : ℕ → List ℕ). Resizes told (picture images) s b t after id.key size) (sym eb) r)))
+    (subst (λ (x : Maps). OnlyTables x n) (sym em) only) (subst (λ (x : Shelf). IsSome (entry_of x id)) (sym es) live) q (subst (λ (i : ImageList). AreClean t (picture i)) (sym ei) clean) order (all ∙ ap (λ (x : Shelf). all_of x.swap) (sym es))

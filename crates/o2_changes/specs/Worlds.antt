@@ -13,7 +13,7 @@ use Rattle.o2_world.specs.Map.{get}
 use Rattle.o2_world.specs.World.{Held, Process, Segment, World}
 use Rattle.o2_world.specs.Holders.{is_held, process_at}
 use Rattle.o2_world.specs.Known.{held_at, reserves}
-use Rattle.o2_world.specs.Changes.{Drops, Holds, Locks, Makes, used, with_all, with_change}
+use Rattle.o2_world.specs.Changes.{Drops, Holds, Locks, Makes, Resizes, used, with_all, with_change}
 use Rattle.o2_stands.specs.Moves.{moved}
 use Rattle.o2_stands.specs.Parts.{Parts, cause_of, held_in, running_of}
 use Rattle.o2_stands.specs.Stands.{IsIndex, IsNamed, IsReady, number_of, taken_by}
@@ -66,3 +66,8 @@ new_segment size flags shared = record { bytes = replicate size 0; clean = false
 -- the store matches a world with one segment more
 pub record MatchesMake (s t : Shelf) (m : Maps) (segment : Segment) : Type 0 where
   pub world : (p : Parts) (w : World) → p.shelf ≡ s → p.maps ≡ m → Matches p w → Matches (record p { shelf = t }) (with_change w (Makes segment))
+
+-- store and tables match a world in which a segment has another size, where the device tells
+pub record MatchesSize (s t : Shelf) (old new : Maps) (images : ImageList) (told : Bool) (before after : ℕ → List ℕ) (id : SegId) (size : ℕ) : Type 0 where
+  pub world : (p : Parts) (w : World) → p.shelf ≡ s → p.maps ≡ old → p.images ≡ images → p.block ≡ before → IsTrue told
+      → Matches p w → Matches (moved p t new after) (with_change w (Resizes id.age size))

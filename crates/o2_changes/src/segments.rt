@@ -12,7 +12,7 @@ ghost use Rattle.o2_store.specs.Sizes.{Resizes, all_wanted_at, stays};
 ghost use Rattle.o2_swapmap.specs.Piles.{all_of};
 ghost use Rattle.o2_changes.specs.Order.{IsInOrder};
 ghost use Rattle.o2_changes.specs.Segments.{SetsLock};
-ghost use Rattle.o2_changes.specs.Worlds.{MatchesLock, MatchesMake, MatchesMove, new_segment};
+ghost use Rattle.o2_changes.specs.Worlds.{MatchesLock, MatchesMake, MatchesMove, MatchesSize, new_segment};
 
 use o2_image::Images;
 use o2_outer::SwapDevice;
@@ -141,6 +141,10 @@ pub fn resize<S: SwapDevice>(
     ensures map { all_of store.new.swap ≡ all_of store.old.swap }
     ensures maps { OnlyTables regions.old regions.new }
     ensures order { IsInOrder store.new regions.new }
+    ensures matches { result ≡ Brought.Here → MatchesSize store.old store.new regions.old regions.new images.now
+        (S.told swap.old) (S.block swap.old) (S.block swap.new) id size }
+    ensures stays { (result ≡ Brought.Here → ⊥) → MatchesMove store.old store.new regions.old regions.new images.now
+        (S.told swap.old) (S.block swap.old) (S.block swap.new) }
     ensures kept { (k : ℕ) → named_in store.old.entries keep.now k ≡ true
         → IsSome (place_of store.old k) → IsSome (place_of store.new k) }
 

@@ -1,3 +1,4 @@
+use Rattle.o2_changes.proofs.Matching.{move_matches, size_matches}
 use Rattle.o2_changes.proofs.Segmenting.{resized_held, told_order}
 use Rattle.o2_changes.proofs.segments.resize.Goals as goal
 
@@ -10,3 +11,19 @@ returns-clause-order g c =
     told_order c.resize-answer.new.self c.args.regions.now c.settle.new.regions
     (resized_held c.args.store.now c.resize-answer.new.self c.args.regions.now _ _ _ _ _ _ c.resize-answer.result c.resize-answer.ensures.resized c.resize-answer.ensures.keeps c.requires.order.held)
     c.requires.order.tables c.settle.ensures.settled c.settle.ensures.maps
+
+pub returns-clause-matches : goal.returns-clause-matches
+returns-clause-matches g c = λ here. record {
+  world = size_matches c.args.store.now c.resize-answer.new.self c.args.regions.now c.settle.new.regions c.args.images.now _ _ _ c.args.id c.args.size c.requires.live (c.resize-answer.ensures.resized here) c.settle.ensures.maps c.resize-answer.ensures.clean
+      (told_order c.resize-answer.new.self c.args.regions.now c.settle.new.regions
+      (resized_held c.args.store.now c.resize-answer.new.self c.args.regions.now _ _ _ _ _ _ c.resize-answer.result c.resize-answer.ensures.resized c.resize-answer.ensures.keeps c.requires.order.held)
+      c.requires.order.tables c.settle.ensures.settled c.settle.ensures.maps) c.resize-answer.ensures.map;
+}
+
+pub returns-clause-stays : goal.returns-clause-stays
+returns-clause-stays g c = λ other. record {
+  world = move_matches c.args.store.now c.resize-answer.new.self c.args.regions.now c.settle.new.regions c.args.images.now _ _ _ (c.resize-answer.ensures.keeps other) c.settle.ensures.maps c.resize-answer.ensures.clean
+      (told_order c.resize-answer.new.self c.args.regions.now c.settle.new.regions
+      (resized_held c.args.store.now c.resize-answer.new.self c.args.regions.now _ _ _ _ _ _ c.resize-answer.result c.resize-answer.ensures.resized c.resize-answer.ensures.keeps c.requires.order.held)
+      c.requires.order.tables c.settle.ensures.settled c.settle.ensures.maps) c.resize-answer.ensures.map;
+}
