@@ -8,3 +8,5 @@ pub mod Inputs
 pub mod Puts
 pub mod Takes
 pub mod Served
+pub mod Named
+pub mod Writing

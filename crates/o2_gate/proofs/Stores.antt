@@ -56,7 +56,7 @@ same_name : (n m : ℕ) → (n == m) ≡ true → n ≡ m
 same_name n m e = grind arith
 
 module _ (f : Filling) (v : View) (s o : ℕ) (part : List ℕ) (some : (length part == 0) ≡ false) (ready : is_ready is_writable v s o (length part) ≡ true) where
-  held_range : has_present_range is_writable v o (length part) (bound_in v.held s) ≡ true
+  pub held_range : has_present_range is_writable v o (length part) (bound_in v.held s) ≡ true
   unfolding is_ready
   held_range = behind (length part == 0) _ some ready
     where

@@ -1,3 +1,5 @@
 pub mod Befores
 pub mod Pointed
 pub mod Called
+pub mod Names
+pub mod Writes

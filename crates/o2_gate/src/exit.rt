@@ -10,6 +10,9 @@ ghost use Rattle.o2_world.specs.Calls.{dos_exit as dos_exit_row};
 ghost use Rattle.o2_gate.specs.Befores.{boundless, before_call};
 ghost use Rattle.o2_gate.specs.Called.{Does, OnMissed};
 ghost use Rattle.o2_gate.specs.Pointed.{IsAway};
+ghost use Rattle.o2_gate.specs.Names.{TellsNames};
+ghost use Rattle.o2_world.specs.declared.types.Row.TheVariants.{DosExit};
+ghost use Rattle.o2_run.specs.Room.{call_names};
 ghost use Rattle.o2_run.specs.Faults.{Caused};
 
 use crate::Called;
@@ -51,6 +54,10 @@ pub fn dos_exit<B: Bus, R: Sink>(
         Does f b (dos_exit_row b) cpu.now (B.view bus.now) (B.view bus.now) i i c c (R.taken report.old) (R.taken report.new) result }
     // A segment that is missed is one that isn't present.
     ensures away { OnMissed result (λ s. IsAway (B.view bus.now) s) }
+    // It is behind one of the call's pointers; at every other answer what these name is present.
+    ensures names { (input : List ℕ) (known : Known) → IsBound (B.view bus.now)
+        → TellsNames (B.view bus.now) (λ f. call_names (before_call (boundless f (B.view bus.now)) pid cpu.now input known) (Some DosExit)) result }
+    ensures never { OnMissed result (λ s. ⊥) }
     ensures count { R.faults report.old ≤ R.faults report.new }
     ensures cause { Caused (Rose (R.faults report.old) (R.faults report.new)) ⊥ ⊥ ⊥ result }
 {

@@ -3,11 +3,15 @@ ghost use Rattle.std.specs.Prelude.{◌≡◌, ◌≢◌, ◌≤◌, ◌⊎◌, 
 ghost use Rattle.o2_outer.specs.Texts.{Rose};
 ghost use Rattle.o2_isa.specs.View.{Filling, IsBound};
 ghost use Rattle.o2_isa.specs.Pointers.{KeepsAllButBytes};
+ghost use Rattle.o2_isa.specs.Presence.{SameSelectors};
+ghost use Rattle.o2_gate.specs.Writes.{WritesHeld};
 ghost use Rattle.o2_world.specs.Known.{Known};
 ghost use Rattle.o2_world.specs.Calls.{serviced, row_of as number_row};
 ghost use Rattle.o2_gate.specs.Befores.{boundless, before_call, IsKnown};
 ghost use Rattle.o2_gate.specs.Called.{Does, ForSome, OnMissed};
 ghost use Rattle.o2_gate.specs.Pointed.{IsAway};
+ghost use Rattle.o2_gate.specs.Names.{TellsNames};
+ghost use Rattle.o2_run.specs.Room.{call_names};
 ghost use Rattle.o2_run.specs.Faults.{Caused};
 
 use crate::exit::dos_exit;
@@ -66,8 +70,16 @@ pub fn call<B: Ranges, I: Source, C: Sink, R: Sink>(
         Does f b (serviced b service next) cpu.new (B.view bus.old) (B.view bus.new)
         (Some bytes) (Some bytes) (C.taken console.old) (C.taken console.new) (R.taken report.old) (R.taken report.new) result }
     ensures frame { KeepsAllButBytes (B.view bus.old) (B.view bus.new) }
+    ensures writes { WritesHeld (B.view bus.old) (B.view bus.new) }
+    ensures selectors { SameSelectors cpu.old cpu.new }
     // A segment that is missed is one that isn't present.
     ensures away { OnMissed result (λ s. IsAway (B.view bus.old) s) }
+    // It is behind one of the service's pointers that pass; at every other answer what these name is present.
+    ensures names { (input : List ℕ) (known : Known) → IsBound (B.view bus.old)
+        → TellsNames (B.view bus.old)
+        (λ f. call_names (before_call (boundless f (B.view bus.old)) pid cpu.old input known) (number_row service)) result }
+    // Where one is missed, nothing is changed, taken or put.
+    ensures still { OnMissed result (λ s. (cpu.new ≡ cpu.old) × (B.view bus.new ≡ B.view bus.old) × (input.new ≡ input.old) × (console.new ≡ console.old) × (report.new ≡ report.old)) }
     ensures avail { state.new.avail ≡ state.old.avail }
     // The input is touched in a DosRead alone, and the console in a DosWrite alone.
     ensures no_input { service ≢ 3 → input.new ≡ input.old }

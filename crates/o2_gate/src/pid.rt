@@ -3,11 +3,16 @@ ghost use Rattle.std.specs.Prelude.{◌≡◌, ◌≤◌, ℕ, List, Option, Som
 ghost use Rattle.o2_outer.specs.Texts.{Rose};
 ghost use Rattle.o2_isa.specs.View.{Filling, IsBound};
 ghost use Rattle.o2_isa.specs.Pointers.{KeepsAllButBytes};
+ghost use Rattle.o2_isa.specs.Presence.{SameSelectors};
+ghost use Rattle.o2_gate.specs.Writes.{WritesHeld};
 ghost use Rattle.o2_world.specs.Known.{Known};
 ghost use Rattle.o2_world.specs.Calls.{dos_get_pid as dos_get_pid_row};
 ghost use Rattle.o2_gate.specs.Befores.{boundless, before_call};
 ghost use Rattle.o2_gate.specs.Called.{Does, OnMissed};
 ghost use Rattle.o2_gate.specs.Pointed.{IsAway};
+ghost use Rattle.o2_gate.specs.Names.{TellsNames};
+ghost use Rattle.o2_world.specs.declared.types.Row.TheVariants.{DosGetPid};
+ghost use Rattle.o2_run.specs.Room.{call_names};
 ghost use Rattle.o2_run.specs.Faults.{Caused};
 
 use crate::Called;
@@ -35,8 +40,15 @@ pub fn dos_get_pid<B: Ranges, R: Sink>(
         → let b = before_call (boundless f (B.view bus.old)) pid cpu.old input known in
         Does f b (dos_get_pid_row b next) cpu.new (B.view bus.old) (B.view bus.new) i i c c (R.taken report.old) (R.taken report.new) result }
     ensures frame { KeepsAllButBytes (B.view bus.old) (B.view bus.new) }
+    ensures writes { WritesHeld (B.view bus.old) (B.view bus.new) }
+    ensures selectors { SameSelectors cpu.old cpu.new }
     // A segment that is missed is one that isn't present.
     ensures away { OnMissed result (λ s. IsAway (B.view bus.old) s) }
+    // It is behind one of the call's pointers; at every other answer what these name is present.
+    ensures names { (input : List ℕ) (known : Known) → IsBound (B.view bus.old)
+        → TellsNames (B.view bus.old) (λ f. call_names (before_call (boundless f (B.view bus.old)) pid cpu.old input known) (Some DosGetPid)) result }
+    // Where one is missed, nothing is changed, taken or put.
+    ensures still { OnMissed result (λ s. (cpu.new ≡ cpu.old) × (B.view bus.new ≡ B.view bus.old) × (report.new ≡ report.old)) }
     ensures count { R.faults report.old ≤ R.faults report.new }
     ensures cause { Caused (Rose (R.faults report.old) (R.faults report.new)) ⊥ ⊥ ⊥ result }
 {

@@ -2,6 +2,7 @@
 ghost use Rattle.std.specs.Prelude.{◌≡◌, ◌+◌, ◌==◌, ◌∷◌, [], ℕ, Bool, true, false, length};
 ghost use Rattle.o2_isa.specs.View.{Filling, is_readable, is_writable, whole, found};
 ghost use Rattle.o2_isa.specs.Pointers.{is_ready, range_of, put_at_pointer, KeepsAllButBytes};
+ghost use Rattle.o2_gate.specs.Writes.{WritesHeld};
 ghost use Rattle.o2_gate.specs.Pointed.{Tells, pointer, writes_to, lies_within, refuses};
 
 use o2_base::Selector;
@@ -93,6 +94,7 @@ pub fn store<B: Ranges>(bus: &mut B, selector: u16, offset: u16, part: &[u8])
     ensures bytes { (f : Filling) (n : ℕ) → (whole f (B.view bus.new)).bytes n
         ≡ put_at_pointer (B.view bus.old).held (whole f (B.view bus.old)).bytes selector offset part.now n }
     ensures frame { KeepsAllButBytes (B.view bus.old) (B.view bus.new) }
+    ensures writes { WritesHeld (B.view bus.old) (B.view bus.new) }
     ensures ready { (ok : ℕ → Bool) (s o n : ℕ) → is_ready ok (B.view bus.new) s o n ≡ is_ready ok (B.view bus.old) s o n }
 {
     if part.len() > 0 {

@@ -4,11 +4,16 @@ ghost use Rattle.o2_outer.specs.Texts.{Rose};
 ghost use Rattle.o2_outer.specs.Answers.{TookAtMost, TookHasCause};
 ghost use Rattle.o2_isa.specs.View.{Filling, IsBound, is_writable, whole};
 ghost use Rattle.o2_isa.specs.Pointers.{is_ready, KeepsAllButBytes};
+ghost use Rattle.o2_isa.specs.Presence.{SameSelectors};
+ghost use Rattle.o2_gate.specs.Writes.{WritesHeld};
 ghost use Rattle.o2_world.specs.Known.{Known};
 ghost use Rattle.o2_world.specs.Calls.{dos_read as dos_read_row, read_from as read_from_row, read_with, bytes_with, asks_input, argument};
 ghost use Rattle.o2_gate.specs.Befores.{boundless, before_call};
 ghost use Rattle.o2_gate.specs.Called.{Does, DoesFor, Fills, ForSome, OnMissed};
-ghost use Rattle.o2_gate.specs.Pointed.{IsAway};
+ghost use Rattle.o2_gate.specs.Pointed.{IsAway, transfer_pointers};
+ghost use Rattle.o2_gate.specs.Names.{TellsNames};
+ghost use Rattle.o2_world.specs.declared.types.Row.TheVariants.{DosRead};
+ghost use Rattle.o2_run.specs.Room.{call_names, pointed};
 ghost use Rattle.o2_run.specs.Faults.{Caused};
 
 use crate::Called;
@@ -59,6 +64,7 @@ fn store_both<B: Ranges>(bus: &mut B, read: &Transfer, got: &[u8])
     ensures bytes { (f : Filling) (n pid : ℕ) (cpu : Cpu) (input : List ℕ) (known : Known) → (whole f (B.view bus.new)).bytes n
         ≡ bytes_with (before_call (boundless f (B.view bus.old)) pid cpu input known) read.now got.now n }
     ensures frame { KeepsAllButBytes (B.view bus.old) (B.view bus.new) }
+    ensures writes { WritesHeld (B.view bus.old) (B.view bus.new) }
 {
     store(bus, read.selector, read.offset, got);
     store_done(bus, read, got.len() as u16);
@@ -85,7 +91,10 @@ fn deliver<B: Ranges, R: Sink>(
         Does f b (read_with b next read.now got.now rest) cpu.new (B.view bus.old) (B.view bus.new)
         i j c c (R.taken report.old) (R.taken report.new) result }
     ensures frame { KeepsAllButBytes (B.view bus.old) (B.view bus.new) }
+    ensures writes { WritesHeld (B.view bus.old) (B.view bus.new) }
+    ensures selectors { SameSelectors cpu.old cpu.new }
     ensures away { OnMissed result (λ s. IsAway (B.view bus.old) s) }
+    ensures never { OnMissed result (λ s. ⊥) }
     ensures count { R.faults report.old ≤ R.faults report.new }
     ensures cause { Caused (Rose (R.faults report.old) (R.faults report.new)) ⊥ ⊥ ⊥ result }
 {
@@ -123,8 +132,13 @@ fn read_from<B: Ranges, I: Source, R: Sink>(
         DoesFor (asks_input b read.now ≡ true) f b (read_from_row b next read.now) cpu.new (B.view bus.old) (B.view bus.new)
         i j c c (R.taken report.old) (R.taken report.new) result) }
     ensures frame { KeepsAllButBytes (B.view bus.old) (B.view bus.new) }
+    ensures writes { WritesHeld (B.view bus.old) (B.view bus.new) }
+    ensures selectors { SameSelectors cpu.old cpu.new }
     // A segment that is missed is one that isn't present.
     ensures away { OnMissed result (λ s. IsAway (B.view bus.old) s) }
+    ensures names { TellsNames (B.view bus.old) (λ f. pointed (boundless f (B.view bus.old)) (transfer_pointers true read.now)) result }
+    // Where one is missed, nothing is changed, taken or put.
+    ensures still { OnMissed result (λ s. (cpu.new ≡ cpu.old) × (B.view bus.new ≡ B.view bus.old) × (input.new ≡ input.old) × (report.new ≡ report.old)) }
     ensures room { vec_len buffer.new ≡ 65536 }
     // No bytes are not taken, nor any with error 6.
     ensures nothing { read.now.count ≡ 0 → input.new ≡ input.old }
@@ -177,8 +191,15 @@ pub fn dos_read<B: Ranges, I: Source, R: Sink>(
         Does f b (dos_read_row b next) cpu.new (B.view bus.old) (B.view bus.new)
         i j c c (R.taken report.old) (R.taken report.new) result) }
     ensures frame { KeepsAllButBytes (B.view bus.old) (B.view bus.new) }
+    ensures writes { WritesHeld (B.view bus.old) (B.view bus.new) }
+    ensures selectors { SameSelectors cpu.old cpu.new }
     // A segment that is missed is one that isn't present.
     ensures away { OnMissed result (λ s. IsAway (B.view bus.old) s) }
+    // It is behind one of the call's pointers; at every other answer what these name is present.
+    ensures names { (input : List ℕ) (known : Known) → IsBound (B.view bus.old)
+        → TellsNames (B.view bus.old) (λ f. call_names (before_call (boundless f (B.view bus.old)) pid cpu.old input known) (Some DosRead)) result }
+    // Where one is missed, nothing is changed, taken or put.
+    ensures still { OnMissed result (λ s. (cpu.new ≡ cpu.old) × (B.view bus.new ≡ B.view bus.old) × (input.new ≡ input.old) × (report.new ≡ report.old)) }
     ensures room { vec_len buffer.new ≡ 65536 }
     // No bytes are not taken, nor any with error 6.
     ensures nothing { (f : Filling) → IsBound (B.view bus.old) → argument (boundless f (B.view bus.old)) cpu.old 2 ≡ 0 → input.new ≡ input.old }

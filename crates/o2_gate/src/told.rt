@@ -4,13 +4,17 @@ ghost use Rattle.o2_outer.specs.Texts.{Rose};
 ghost use Rattle.o2_outer.specs.Answers.{Takes, OnFailed};
 ghost use Rattle.o2_isa.specs.View.{Filling, IsBound};
 ghost use Rattle.o2_isa.specs.Pointers.{KeepsAllButBytes};
+ghost use Rattle.o2_isa.specs.Presence.{SameSelectors};
+ghost use Rattle.o2_gate.specs.Writes.{WritesHeld};
 ghost use Rattle.o2_world.specs.Known.{Known};
 ghost use Rattle.o2_world.specs.World.{Calls};
 ghost use Rattle.o2_world.specs.Text.{lines_text};
 ghost use Rattle.o2_world.specs.Calls.{told as told_row, told_at as told_at_row};
 ghost use Rattle.o2_gate.specs.Befores.{boundless, before_call};
 ghost use Rattle.o2_gate.specs.Called.{Does, OnMissed};
-ghost use Rattle.o2_gate.specs.Pointed.{IsAway};
+ghost use Rattle.o2_gate.specs.Pointed.{IsAway, pointer};
+ghost use Rattle.o2_gate.specs.Names.{TellsNames, told_names};
+ghost use Rattle.o2_run.specs.Room.{pointed};
 ghost use Rattle.o2_run.specs.Faults.{Caused};
 
 use crate::Called;
@@ -74,8 +78,14 @@ fn told_at<B: Ranges, R: Sink>(
         Does f b (told_at_row b next telling.now.name.now telling.now.part.now telling.now.values.now selector offset)
         cpu.new (B.view bus.old) (B.view bus.new) i i c c (R.taken report.old) (R.taken report.new) result }
     ensures frame { KeepsAllButBytes (B.view bus.old) (B.view bus.new) }
+    ensures writes { WritesHeld (B.view bus.old) (B.view bus.new) }
+    ensures selectors { SameSelectors cpu.old cpu.new }
     // A segment that is missed is one that isn't present.
     ensures away { OnMissed result (λ s. IsAway (B.view bus.old) s) }
+    ensures names { TellsNames (B.view bus.old)
+        (λ f. pointed (boundless f (B.view bus.old)) (pointer true selector offset (length telling.now.part.now) ∷ [])) result }
+    // Where one is missed, nothing is changed, taken or put.
+    ensures still { OnMissed result (λ s. (cpu.new ≡ cpu.old) × (B.view bus.new ≡ B.view bus.old) × (report.new ≡ report.old)) }
     ensures count { R.faults report.old ≤ R.faults report.new }
     ensures cause { Caused (Rose (R.faults report.old) (R.faults report.new)) ⊥ ⊥ ⊥ result }
 {
@@ -113,8 +123,15 @@ pub fn told<B: Ranges, R: Sink>(
         Does f b (told_row b next telling.now.name.now telling.now.part.now telling.now.values.now)
         cpu.new (B.view bus.old) (B.view bus.new) i i c c (R.taken report.old) (R.taken report.new) result }
     ensures frame { KeepsAllButBytes (B.view bus.old) (B.view bus.new) }
+    ensures writes { WritesHeld (B.view bus.old) (B.view bus.new) }
+    ensures selectors { SameSelectors cpu.old cpu.new }
     // A segment that is missed is one that isn't present.
     ensures away { OnMissed result (λ s. IsAway (B.view bus.old) s) }
+    // It is behind the call's pointer; at every other answer what that names is present.
+    ensures names { IsBound (B.view bus.old)
+        → TellsNames (B.view bus.old) (λ f. told_names (boundless f (B.view bus.old)) cpu.old (length telling.now.part.now)) result }
+    // Where one is missed, nothing is changed, taken or put.
+    ensures still { OnMissed result (λ s. (cpu.new ≡ cpu.old) × (B.view bus.new ≡ B.view bus.old) × (report.new ≡ report.old)) }
     ensures count { R.faults report.old ≤ R.faults report.new }
     ensures cause { Caused (Rose (R.faults report.old) (R.faults report.new)) ⊥ ⊥ ⊥ result }
 {

@@ -4,6 +4,7 @@ ghost use Rattle.o2_outer.specs.Texts.{Rose};
 ghost use Rattle.o2_outer.specs.Answers.{Takes, OnFailed};
 ghost use Rattle.o2_isa.specs.View.{Filling, is_writable, whole};
 ghost use Rattle.o2_isa.specs.Pointers.{is_ready, put_at_pointer, KeepsAllButBytes};
+ghost use Rattle.o2_gate.specs.Writes.{WritesHeld};
 ghost use Rattle.o2_world.specs.Text.{lines_text};
 ghost use Rattle.o2_world.specs.Calls.{transfer_line, word_bytes};
 ghost use Rattle.o2_gate.specs.Pointed.{Tells, transfer_pointers};
@@ -65,6 +66,7 @@ pub fn store_done<B: Ranges>(bus: &mut B, transfer: &Transfer, done: u16)
     ensures bytes { (f : Filling) (n : ℕ) → (whole f (B.view bus.new)).bytes n
         ≡ put_at_pointer (B.view bus.old).held (whole f (B.view bus.old)).bytes transfer.now.done_selector transfer.now.done_offset (word_bytes done) n }
     ensures frame { KeepsAllButBytes (B.view bus.old) (B.view bus.new) }
+    ensures writes { WritesHeld (B.view bus.old) (B.view bus.new) }
 {
     let word = [(done % 256) as u8, (done / 256) as u8];
     store(bus, transfer.done_selector, transfer.done_offset, &word);

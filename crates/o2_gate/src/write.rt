@@ -4,12 +4,17 @@ ghost use Rattle.o2_outer.specs.Texts.{Rose};
 ghost use Rattle.o2_outer.specs.Answers.{Takes, OnFailed};
 ghost use Rattle.o2_isa.specs.View.{Filling, IsBound, is_readable, whole};
 ghost use Rattle.o2_isa.specs.Pointers.{is_ready, range_of, KeepsAllButBytes};
+ghost use Rattle.o2_isa.specs.Presence.{SameSelectors};
+ghost use Rattle.o2_gate.specs.Writes.{WritesHeld};
 ghost use Rattle.o2_world.specs.Known.{Known};
 ghost use Rattle.o2_world.specs.Text.{lines_text};
 ghost use Rattle.o2_world.specs.Calls.{dos_write as dos_write_row, written as written_row, write_line, is_console, argument};
 ghost use Rattle.o2_gate.specs.Befores.{boundless, before_call};
 ghost use Rattle.o2_gate.specs.Called.{Does, PutsBoth, OnMissed};
-ghost use Rattle.o2_gate.specs.Pointed.{IsAway};
+ghost use Rattle.o2_gate.specs.Pointed.{IsAway, transfer_pointers};
+ghost use Rattle.o2_gate.specs.Names.{TellsNames};
+ghost use Rattle.o2_world.specs.declared.types.Row.TheVariants.{DosWrite};
+ghost use Rattle.o2_run.specs.Room.{call_names, pointed};
 ghost use Rattle.o2_run.specs.Faults.{Caused};
 
 use crate::Called;
@@ -90,8 +95,13 @@ fn written<B: Ranges, C: Sink, R: Sink>(
         Does f b (written_row b next write.now) cpu.new (B.view bus.old) (B.view bus.new)
         i i (C.taken console.old) (C.taken console.new) (R.taken report.old) (R.taken report.new) result }
     ensures frame { KeepsAllButBytes (B.view bus.old) (B.view bus.new) }
+    ensures writes { WritesHeld (B.view bus.old) (B.view bus.new) }
+    ensures selectors { SameSelectors cpu.old cpu.new }
     // A segment that is missed is one that isn't present.
     ensures away { OnMissed result (λ s. IsAway (B.view bus.old) s) }
+    ensures names { TellsNames (B.view bus.old) (λ f. pointed (boundless f (B.view bus.old)) (transfer_pointers false write.now)) result }
+    // Where one is missed, nothing is changed, taken or put.
+    ensures still { OnMissed result (λ s. (cpu.new ≡ cpu.old) × (B.view bus.new ≡ B.view bus.old) × (console.new ≡ console.old) × (report.new ≡ report.old)) }
     // A piece of no bytes is not put, nor any piece with error 6.
     ensures nothing { write.now.count ≡ 0 → console.new ≡ console.old }
     ensures refused { is_console write.now.handle ≡ false → console.new ≡ console.old }
@@ -140,8 +150,15 @@ pub fn dos_write<B: Ranges, C: Sink, R: Sink>(
         Does f b (dos_write_row b next) cpu.new (B.view bus.old) (B.view bus.new)
         i i (C.taken console.old) (C.taken console.new) (R.taken report.old) (R.taken report.new) result }
     ensures frame { KeepsAllButBytes (B.view bus.old) (B.view bus.new) }
+    ensures writes { WritesHeld (B.view bus.old) (B.view bus.new) }
+    ensures selectors { SameSelectors cpu.old cpu.new }
     // A segment that is missed is one that isn't present.
     ensures away { OnMissed result (λ s. IsAway (B.view bus.old) s) }
+    // It is behind one of the call's pointers; at every other answer what these name is present.
+    ensures names { (input : List ℕ) (known : Known) → IsBound (B.view bus.old)
+        → TellsNames (B.view bus.old) (λ f. call_names (before_call (boundless f (B.view bus.old)) pid cpu.old input known) (Some DosWrite)) result }
+    // Where one is missed, nothing is changed, taken or put.
+    ensures still { OnMissed result (λ s. (cpu.new ≡ cpu.old) × (B.view bus.new ≡ B.view bus.old) × (console.new ≡ console.old) × (report.new ≡ report.old)) }
     // A piece of no bytes is not put, nor any piece with error 6.
     ensures nothing { (f : Filling) → IsBound (B.view bus.old) → argument (boundless f (B.view bus.old)) cpu.old 2 ≡ 0 → console.new ≡ console.old }
     ensures refused { (f : Filling) → IsBound (B.view bus.old) → is_console (argument (boundless f (B.view bus.old)) cpu.old 5) ≡ false → console.new ≡ console.old }

@@ -19,7 +19,7 @@ use Rattle.o2_world.specs.Effect.{AsksInput}
 use Rattle.o2_run.specs.declared.steps.Stop.TheVariants as halt
 use Rattle.o2_run.specs.declared.fault.Fault.{Fault}
 use Rattle.o2_run.specs.declared.fault.Fault.TheVariants as fault
-use Rattle.o2_machine.specs.Ran.{LeavesFault}
+use Rattle.o2_stepping.specs.Ran.{LeavesFault}
 use Rattle.o2_machine.specs.Acts.{ActsFault}
 
 empty_by : (bs cs : List ℕ) → length bs ≡ length cs → cs ≡ [] → bs ≡ []

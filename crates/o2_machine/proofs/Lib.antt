@@ -1,5 +1,3 @@
-pub mod Leaving
-pub mod Gates
 pub mod Plains
 pub mod Spaces
 pub mod Commits

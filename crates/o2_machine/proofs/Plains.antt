@@ -16,10 +16,10 @@ use Rattle.o2_world.specs.Calls.{Before, Effect}
 use Rattle.o2_gate.specs.Befores.{boundless}
 use Rattle.o2_gate.specs.Pointed.{IsAway}
 use Rattle.o2_run.specs.declared.fault.Fault.{Fault}
-use Rattle.o2_machine.specs.Ran.{Leaves, LeavesRan, OnMissed}
-use Rattle.o2_machine.specs.declared.one_step.Ran.{Ran}
-use Rattle.o2_machine.specs.declared.one_step.Attempt.{Attempt}
-use Rattle.o2_machine.specs.declared.one_step.Attempt.TheVariants as attempt
+use Rattle.o2_stepping.specs.Ran.{Leaves, LeavesRan, OnMissed}
+use Rattle.o2_stepping.specs.declared.one_step.Ran.{Ran}
+use Rattle.o2_stepping.specs.declared.one_step.Attempt.{Attempt}
+use Rattle.o2_stepping.specs.declared.one_step.Attempt.TheVariants as attempt
 
 -- what is absent, where nothing is
 pub nothing : Filling

@@ -25,16 +25,16 @@ use Rattle.o2_run.specs.declared.steps.Turn.TheVariants as turn
 use Rattle.o2_sched.specs.Schedule.{Schedule, next_of, pick_of}
 use Rattle.o2_sched.specs.declared.sched.Pick.TheVariants.{Step, AllEnded, BudgetSpent}
 use Rattle.o2_machine.specs.Acts.{ActsAll, ActsInPart, ActsUnread, ActsFault, StandsAfter}
-use Rattle.o2_machine.specs.Ran.{TakesText}
+use Rattle.o2_stepping.specs.Ran.{TakesText}
 use Rattle.o2_machine.specs.Steppeds.{stepped_sched}
-use Rattle.o2_machine.specs.declared.one_step.Ran.{Ran}
+use Rattle.o2_stepping.specs.declared.one_step.Ran.{Ran}
 use Rattle.o2_run.specs.declared.fault.Fault.{Fault}
 use Rattle.o2_run.specs.declared.fault.Fault.TheVariants.{Stopped}
 use Rattle.o2_run.specs.Faults.{CauseOf, turn_of}
-use Rattle.o2_machine.specs.Tallies.{IsTally}
+use Rattle.o2_stepping.specs.Tallies.{IsTally}
 use Rattle.o2_machine.specs.Stands.{StandsIn}
 use Rattle.o2_machine.specs.StandsFor.{StandsFor}
-use Rattle.o2_machine.specs.declared.tally.Tally.{Tally}
+use Rattle.o2_stepping.specs.declared.tally.Tally.{Tally}
 use Rattle.o2_machine.specs.declared.space.Space.{Space}
 use Rattle.o2_machine.specs.declared.machine.Machine.{Machine}
 

@@ -8,9 +8,9 @@ use Rattle.o2_world.specs.Holders.{with_process}
 use Rattle.o2_world.specs.Calls.{Effect}
 use Rattle.o2_world.specs.Run.{process_after, names_after}
 use Rattle.o2_machine.specs.Stands.{StandsIn}
-use Rattle.o2_machine.specs.Tallies.{IsTally}
-use Rattle.o2_machine.specs.Ran.{TakesText}
-use Rattle.o2_machine.specs.declared.one_step.Ran.{Ran}
+use Rattle.o2_stepping.specs.Tallies.{IsTally}
+use Rattle.o2_stepping.specs.Ran.{TakesText}
+use Rattle.o2_stepping.specs.declared.one_step.Ran.{Ran}
 use Rattle.o2_machine.specs.declared.space.Space.{Space}
 use Rattle.o2_run.specs.declared.steps.Stop.TheVariants as stop
 use Rattle.o2_run.specs.declared.fault.Fault.{Fault}

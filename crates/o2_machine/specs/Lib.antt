@@ -1,5 +1,3 @@
-pub mod Tallies
-pub mod Ran
 pub mod RunsOver
 pub mod Stands
 pub mod Commit

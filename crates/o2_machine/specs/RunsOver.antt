@@ -8,8 +8,8 @@ use Rattle.o2_world.specs.Effect.{effect}
 use Rattle.o2_gate.specs.declared.state.State.{State as Services}
 use Rattle.o2_gate.specs.Befores.{before_call, IsKnown}
 use Rattle.o2_run.specs.declared.fault.Fault.{Fault}
-use Rattle.o2_machine.specs.Ran.{LeavesRan}
-use Rattle.o2_machine.specs.declared.one_step.Ran.{Ran}
+use Rattle.o2_stepping.specs.Ran.{LeavesRan}
+use Rattle.o2_stepping.specs.declared.one_step.Ran.{Ran}
 
 -- where all names are present, the step of the boundless machine, by the map of process `seat`
 pub record RunsOver (old new : Plain) (seat number : ℕ) (before after : Cpu) (services : Services)

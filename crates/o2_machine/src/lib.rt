@@ -6,17 +6,14 @@ mod counts;
 mod fault;
 mod last;
 mod machine;
-mod one_step;
 mod plain_step;
 mod space;
-mod tally;
 mod turn;
 
 pub use fault::BeginFault;
 pub use last::{Last, answer};
 pub use machine::Machine;
 pub use o2_run::{Fault, Steps, Stop, Turn};
-pub use one_step::{Attempt, Ran, run_one};
+pub use o2_stepping::{Attempt, Ran, Tally, run_one};
 pub use plain_step::run_plain;
 pub use space::{Proc, Space};
-pub use tally::Tally;

@@ -4,15 +4,15 @@ ghost use Rattle.o2_outer.specs.Texts.{Rose};
 ghost use Rattle.o2_isa.specs.View.{bound_registers};
 ghost use Rattle.o2_bus.specs.Plain.{held_in, registers_of};
 ghost use Rattle.o2_bus.specs.Frames.{KeepsSegments};
-ghost use Rattle.o2_machine.specs.Ran.{RanFor};
+ghost use Rattle.o2_stepping.specs.Ran.{RanFor};
 ghost use Rattle.o2_machine.specs.RunsOver.{RunsOver};
 
-use crate::one_step::{Attempt, Ran, absent, run_one};
 use o2_bus::{Plain, PlainBus};
 use o2_gate::State as Services;
 use o2_isa::Cpu;
 use o2_outer::{Sink, Source};
 use o2_run::Fault;
+use o2_stepping::{Attempt, Ran, absent, run_one};
 
 /// A step over the bus, said of the memory.
 fn run_in<I: Source, C: Sink, R: Sink>(

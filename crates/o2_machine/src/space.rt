@@ -9,13 +9,13 @@ ghost use Rattle.o2_world.specs.Views.{view_of};
 ghost use Rattle.o2_world.specs.Calls.{Before, Effect};
 ghost use Rattle.o2_world.specs.Effect.{effect, AsksInput};
 
-use crate::one_step::Ran;
 use crate::plain_step::run_plain;
 use o2_bus::Plain;
 use o2_gate::State as Services;
 use o2_isa::Cpu;
 use o2_outer::{Sink, Source};
 use o2_run::Fault;
+use o2_stepping::Ran;
 use o2_world::State;
 
 /// A process: its registers, and how far it is.
@@ -45,7 +45,7 @@ impl Space {
     ghost use Rattle.o2_machine.specs.Stands.{StandsIn};
     ghost use Rattle.o2_machine.specs.Commit.{IsBetween};
     ghost use Rattle.o2_machine.specs.Acts.{Acts, StandsAfter};
-    ghost use Rattle.o2_machine.specs.Ran.{RanFor};
+    ghost use Rattle.o2_stepping.specs.Ran.{RanFor};
 
     /// Registers and state of a process after its step; where it has ended it holds nothing any more.
     fn commit(&mut self, pid: u16, cpu: &Cpu, state: State)

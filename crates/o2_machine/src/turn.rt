@@ -12,11 +12,11 @@ ghost use Rattle.o2_machine.specs.StandsFor.{StandsFor};
 
 use crate::last::{Last, answer};
 use crate::machine::Machine;
-use crate::one_step::Ran;
 use crate::space::is_live;
 use o2_outer::{Put, Sink, Source, SwapDevice};
 use o2_run::{Fault, Steps, Turn, put_stop};
 use o2_sched::Pick;
+use o2_stepping::Ran;
 
 impl Machine {
     /// A step of this process is done, and counted.

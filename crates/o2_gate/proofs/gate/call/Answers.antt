@@ -1,11 +1,14 @@
 -- Each row is answered by its own service.
-use Rattle.std.proofs.Common.{List, ℕ, [], Some, refl}
-use Rattle.o2_isa.specs.View.{View}
+use Rattle.std.proofs.Common.{List, ℕ, [], Option, Some, refl}
+use Rattle.o2_isa.specs.View.{View, Filling}
+use Rattle.o2_run.specs.Room.{call_names}
+use Rattle.o2_world.specs.declared.types.Row.{Row}
 use Rattle.o2_world.specs.declared.types.Row.TheVariants.{DosExit, DosGetPid, DosRead, DosWrite, DosMemAvail}
 use Rattle.o2_world.specs.Calls.{Effect}
 use Rattle.o2_gate.specs.Befores.{boundless, before_call}
 use Rattle.o2_gate.specs.Called.{Does}
 use Rattle.o2_gate.proofs.Served.{by_row}
+use Rattle.o2_gate.proofs.Named.{names_by_row}
 use Rattle.o2_gate.proofs.gate.call.Goals as goal
 
 pub returns-in-Some-DosExit-clause-does : goal.returns-in-Some-DosExit-clause-does
@@ -162,3 +165,33 @@ returns-in-Some-DosMemAvail-clause-some g c = λ f known bound same.
             (c.dos_mem_avail.ensures.does f bytes known _ _ bound refl same.avail),
       ),
     )
+
+pub returns-in-Some-DosExit-clause-names : goal.returns-in-Some-DosExit-clause-names
+returns-in-Some-DosExit-clause-names g c = λ input known bound.
+    let old : View = g.B.Bus.view c.args.bus.now in
+    names_by_row old (λ (f : Filling) (x : Option Row). call_names (before_call (boundless f old) c.args.pid c.args.cpu.now input known) x) c.dos_exit.result c.args.service
+    c.row_of.result c.in-Some-DosExit.field-0 DosExit c.row_of.ensures.row c.in-Some-DosExit.is c.in-Some-DosExit.field-0-is (c.dos_exit.ensures.names input known bound)
+
+pub returns-in-Some-DosGetPid-clause-names : goal.returns-in-Some-DosGetPid-clause-names
+returns-in-Some-DosGetPid-clause-names g c = λ input known bound.
+    let old : View = g.B.Bus.view c.args.bus.now in
+    names_by_row old (λ (f : Filling) (x : Option Row). call_names (before_call (boundless f old) c.args.pid c.args.cpu.now input known) x) c.dos_get_pid.result c.args.service
+    c.row_of.result c.in-Some-DosGetPid.field-0 DosGetPid c.row_of.ensures.row c.in-Some-DosGetPid.is c.in-Some-DosGetPid.field-0-is (c.dos_get_pid.ensures.names input known bound)
+
+pub returns-in-Some-DosRead-clause-names : goal.returns-in-Some-DosRead-clause-names
+returns-in-Some-DosRead-clause-names g c = λ input known bound.
+    let old : View = g.B.Bus.view c.args.bus.now in
+    names_by_row old (λ (f : Filling) (x : Option Row). call_names (before_call (boundless f old) c.args.pid c.args.cpu.now input known) x) c.dos_read.result c.args.service
+    c.row_of.result c.in-Some-DosRead.field-0 DosRead c.row_of.ensures.row c.in-Some-DosRead.is c.in-Some-DosRead.field-0-is (c.dos_read.ensures.names input known bound)
+
+pub returns-in-Some-DosWrite-clause-names : goal.returns-in-Some-DosWrite-clause-names
+returns-in-Some-DosWrite-clause-names g c = λ input known bound.
+    let old : View = g.B.Bus.view c.args.bus.now in
+    names_by_row old (λ (f : Filling) (x : Option Row). call_names (before_call (boundless f old) c.args.pid c.args.cpu.now input known) x) c.dos_write.result c.args.service
+    c.row_of.result c.in-Some-DosWrite.field-0 DosWrite c.row_of.ensures.row c.in-Some-DosWrite.is c.in-Some-DosWrite.field-0-is (c.dos_write.ensures.names input known bound)
+
+pub returns-in-Some-DosMemAvail-clause-names : goal.returns-in-Some-DosMemAvail-clause-names
+returns-in-Some-DosMemAvail-clause-names g c = λ input known bound.
+    let old : View = g.B.Bus.view c.args.bus.now in
+    names_by_row old (λ (f : Filling) (x : Option Row). call_names (before_call (boundless f old) c.args.pid c.args.cpu.now input known) x) c.dos_mem_avail.result c.args.service
+    c.row_of.result c.in-Some-DosMemAvail.field-0 DosMemAvail c.row_of.ensures.row c.in-Some-DosMemAvail.is c.in-Some-DosMemAvail.field-0-is (c.dos_mem_avail.ensures.names input known bound)

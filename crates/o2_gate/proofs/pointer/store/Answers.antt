@@ -1,6 +1,8 @@
-use Rattle.std.proofs.Common.{◌≡◌, ◌==◌, true, false, length, arith, ◌∙◌, ap}
+use Rattle.std.proofs.Common.{◌≡◌, ◌==◌, true, false, length, arith, ◌∙◌, ap, sym, subst}
 use Rattle.o2_isa.specs.View.{View, whole}
 use Rattle.o2_isa.specs.Pointers.{is_ready}
+use Rattle.o2_gate.specs.Writes.{WritesHeld}
+use Rattle.o2_gate.proofs.Writing.{put_writes}
 use Rattle.o2_gate.proofs.Stores.{put_whole, put_nothing, ready_behind}
 use Rattle.o2_gate.proofs.pointer.store.Goals as goal
 
@@ -21,3 +23,9 @@ returns-else-part-gt0-clause-bytes g c = λ f n.
     let v : View = g.B.Bus.view c.args.bus.now in
     let none : (length c.args.part.now == 0) ≡ true = grind (arith, c.if-part-gt0.false) in
     put_nothing v.held (whole f v).bytes c.args.selector c.args.offset c.args.part.now n none
+
+pub returns-then-part-gt0-clause-writes : goal.returns-then-part-gt0-clause-writes
+returns-then-part-gt0-clause-writes g c =
+    let v : View = g.B.Bus.view c.args.bus.now in
+    let some : (length c.args.part.now == 0) ≡ false = grind (arith, c.if-part-gt0.true) in
+    subst (λ (w : View). WritesHeld v w) (sym c.put.ensures) (put_writes v c.args.selector c.args.offset c.args.part.now some c.requires)

@@ -6,9 +6,9 @@ use Rattle.o2_core.proofs.Plains.{framed}
 use Rattle.o2_world.specs.Effect.{effect}
 use Rattle.o2_run.specs.declared.fault.Fault.{Fault}
 use Rattle.o2_gate.specs.Befores.{boundless, before_call}
-use Rattle.o2_machine.specs.Ran.{Leaves}
-use Rattle.o2_machine.specs.declared.one_step.Attempt.{Attempt}
-use Rattle.o2_machine.specs.declared.one_step.Attempt.TheVariants as attempt
+use Rattle.o2_stepping.specs.Ran.{Leaves}
+use Rattle.o2_stepping.specs.declared.one_step.Attempt.{Attempt}
+use Rattle.o2_stepping.specs.declared.one_step.Attempt.TheVariants as attempt
 use Rattle.o2_machine.proofs.Plains.{nothing, all_bound, bytes_are, view_is, ran_by, never_away, away_by, segments_by}
 use Rattle.o2_machine.proofs.plain_step.run_in.Goals as goal
 

@@ -1,7 +1,7 @@
 -- How much an effect puts.
 use Rattle.std.specs.Prelude.{◌≡◌, length}
 use Rattle.o2_world.specs.Calls.{Effect}
-use Rattle.o2_machine.specs.declared.tally.Tally.{Tally}
+use Rattle.o2_stepping.specs.declared.tally.Tally.{Tally}
 
 pub record IsTally (e : Effect) (t : Tally) : Type 0 where
   pub bytes : length e.piece ≡ t.bytes

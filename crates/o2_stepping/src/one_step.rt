@@ -1,17 +1,20 @@
 // One step of a process, all but what an end takes from it.
-ghost use Rattle.std.specs.Prelude.{◌≡◌, ◌<◌, ◌≤◌, ◌+◌, ◌^◌, ◌⊎◌, ◌∷◌, [], ℕ, List, Option, Some};
+ghost use Rattle.std.specs.Prelude.{◌≡◌, ◌<◌, ◌≤◌, ◌+◌, ◌^◌, ◌⊎◌, ◌∷◌, [], ℕ, List, Option, Some, false};
 ghost use Rattle.o2_outer.specs.Texts.{Rose};
 ghost use Rattle.o2_outer.specs.Answers.{Takes, OnFailed};
-ghost use Rattle.o2_isa.specs.View.{View, Filling, IsBound, KeepsFrame, whole};
+ghost use Rattle.o2_isa.specs.View.{View, Filling, IsBound, KeepsFrame, Agrees, whole};
+ghost use Rattle.o2_isa.specs.Presence.{IsMissed};
 ghost use Rattle.o2_world.specs.Known.{Known};
 ghost use Rattle.o2_world.specs.World.{Traps};
 ghost use Rattle.o2_world.specs.Text.{lines_text};
 ghost use Rattle.o2_world.specs.Effect.{effect, single_stepped, has_trap_flag as trap_flag_of};
 ghost use Rattle.o2_world.specs.Calls.{Before, Effect, trapped};
 ghost use Rattle.o2_gate.specs.Befores.{boundless, before_call, IsKnown};
-ghost use Rattle.o2_gate.specs.Pointed.{IsAway};
+ghost use Rattle.o2_gate.specs.Pointed.{IsAway, ArePresent};
+ghost use Rattle.o2_run.specs.Room.{touched};
 ghost use Rattle.o2_gate.specs.Called.{IsMade};
-ghost use Rattle.o2_machine.specs.Ran.{Leaves, AttemptFor, RanFor, OnMissed};
+ghost use Rattle.o2_gate.specs.Writes.{WritesHeld};
+ghost use Rattle.o2_stepping.specs.Ran.{Leaves, AttemptFor, RanFor, OnMissed, is_missed};
 
 use crate::tally::Tally;
 use o2_alu::is_set;
@@ -168,7 +171,20 @@ pub fn run_one<B: Ranges, I: Source, C: Sink, R: Sink>(
         Leaves b (effect b) cpu.new (whole f (B.view bus.old)).bytes (whole f (B.view bus.new)).bytes
         (I.left input.old) (I.left input.new) (C.taken console.old) (C.taken console.new) (R.taken report.old) (R.taken report.new) result }
     ensures away { IsBound (B.view bus.old) → OnMissed result (λ s. IsAway (B.view bus.old) s) }
+    // What is missed is one of the names that the step touches in the boundless machine; at every other answer all of them are
+    // present.
+    ensures missed { (f : Filling) (bytes : List ℕ) (known : Known) → IsBound (B.view bus.old)
+        → let b = before_call (boundless f (B.view bus.old)) pid cpu.old bytes known in
+        OnMissed result (λ s. IsMissed (B.view bus.old) s (touched b)) }
+    ensures present { (f : Filling) (bytes : List ℕ) (known : Known) → IsBound (B.view bus.old) → is_missed result ≡ false
+        → let b = before_call (boundless f (B.view bus.old)) pid cpu.old bytes known in
+        ArePresent (B.view bus.old) (touched b) }
+    // Where one is missed, nothing is changed, taken or put.
+    ensures still { OnMissed result (λ s. (cpu.new ≡ cpu.old) × (B.view bus.new ≡ B.view bus.old)
+        × (input.new ≡ input.old) × (console.new ≡ console.old) × (report.new ≡ report.old)) }
     ensures frame { KeepsFrame (B.view bus.old) (B.view bus.new) }
+    ensures writes { Agrees cpu.old (B.view bus.old) → WritesHeld (B.view bus.old) (B.view bus.new) }
+    ensures agrees { Agrees cpu.old (B.view bus.old) → Agrees cpu.new (B.view bus.new) }
     ensures avail { services.new.avail ≡ services.old.avail }
     ensures input_count { I.faults input.old ≤ I.faults input.new }
     ensures console_count { C.faults console.old ≤ C.faults console.new }

@@ -25,10 +25,10 @@ use Rattle.o2_run.specs.declared.steps.Stop.TheVariants as halt
 use Rattle.o2_run.specs.declared.fault.Fault.{Fault}
 use Rattle.o2_run.specs.declared.fault.Fault.TheVariants as fault
 use Rattle.o2_run.specs.Faults.{CauseOf}
-use Rattle.o2_machine.specs.Ran.{IsStill, IsInPart, LeavesFault, AttemptFor, OnMissed as OnStepMissed}
-use Rattle.o2_machine.specs.declared.one_step.Attempt.{Attempt}
-use Rattle.o2_machine.specs.declared.one_step.Attempt.TheVariants as attempt
-use Rattle.o2_machine.proofs.Leaving.{effect_by, in_part}
+use Rattle.o2_stepping.specs.Ran.{IsStill, IsInPart, LeavesFault, AttemptFor, OnMissed as OnStepMissed}
+use Rattle.o2_stepping.specs.declared.one_step.Attempt.{Attempt}
+use Rattle.o2_stepping.specs.declared.one_step.Attempt.TheVariants as attempt
+use Rattle.o2_stepping.proofs.Leaving.{effect_by, in_part}
 
 -- The instruction.
 
@@ -110,6 +110,9 @@ module _ (f : Filling) (number : ℕ) (input : List ℕ) (known : Known) (servic
 
 pub missed_by : (v : View) (x : Called) (s : Selector) → x ≡ Missed s → OnMissed (Ok x) (λ t. IsAway v t) → IsAway v s
 missed_by v x s is away = subst (λ (y : Called). OnMissed (Ok y) (λ t. IsAway v t)) is away
+
+pub missed_of : (P : Selector → Type 0) (x : Called) (s : Selector) → x ≡ Missed s → OnMissed (Ok x) P → P s
+missed_of P x s is holds = subst (λ (y : Called). OnMissed (Ok y) P) is holds
 
 -- Attempts.
 

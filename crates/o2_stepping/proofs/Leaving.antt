@@ -16,8 +16,8 @@ use Rattle.o2_world.specs.Calls.{Before, Effect}
 use Rattle.o2_world.specs.Effect.{effect, answered, single_stepped, has_trap_flag}
 use Rattle.o2_world.specs.Text.{lines_text, line_text}
 use Rattle.o2_gate.specs.Called.{IsMade}
-use Rattle.o2_machine.specs.declared.tally.Tally.{Tally}
-use Rattle.o2_machine.specs.Ran.{IsDone, IsInPart}
+use Rattle.o2_stepping.specs.declared.tally.Tally.{Tally}
+use Rattle.o2_stepping.specs.Ran.{IsDone, IsInPart}
 use Rattle.o2_world.specs.declared.types.State.{State}
 
 -- what a call has made, as a step that is done

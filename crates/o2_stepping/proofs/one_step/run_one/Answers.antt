@@ -12,11 +12,13 @@ use Rattle.o2_world.specs.declared.types.State.TheVariants.{Exited}
 use Rattle.o2_gate.specs.Befores.{boundless, before_call}
 use Rattle.o2_gate.specs.Pointed.{IsAway}
 use Rattle.o2_gate.specs.declared.called.Called.TheVariants as called
-use Rattle.o2_machine.specs.Ran.{Leaves, IsDone}
-use Rattle.o2_machine.specs.declared.tally.Tally.{Tally}
-use Rattle.o2_machine.proofs.Leaving.{effect_by, done_by, ended_stays}
-use Rattle.o2_machine.proofs.Gates.{done_boundless, trap_boundless, gate_boundless, away_by, whole_same, frame_by, frame_then, moved, by_answer, fault_by, still_of, missed_by, none_missed}
-use Rattle.o2_machine.proofs.one_step.run_one.Goals as goal
+use Rattle.o2_stepping.specs.Ran.{Leaves, IsDone}
+use Rattle.o2_stepping.specs.declared.tally.Tally.{Tally}
+use Rattle.o2_stepping.proofs.Leaving.{effect_by, done_by, ended_stays}
+use Rattle.o2_stepping.proofs.Gates.{done_boundless, trap_boundless, gate_boundless, away_by, whole_same, frame_by, frame_then, moved, by_answer, fault_by, still_of, missed_by, missed_of, none_missed}
+use Rattle.o2_gate.proofs.Writing.{writes_data, writes_then, agrees_then}
+use Rattle.o2_stepping.proofs.Touches.{loads_missed, touched_present, call_missed, call_present, told_by, told_before}
+use Rattle.o2_stepping.proofs.one_step.run_one.Goals as goal
 
 pub returns-in-Done-clause-leaves : goal.returns-in-Done-clause-leaves
 returns-in-Done-clause-leaves g c = λ f input known bound left same.
@@ -193,3 +195,170 @@ returns-in-Ok-Back-clause-away g c = λ bound. none_missed c.outlived-in-Ok-Back
 
 pub returns-in-Ok-Trap-clause-away : goal.returns-in-Ok-Trap-clause-away
 returns-in-Ok-Trap-clause-away g c = λ bound. none_missed c.trap-in-Ok-Trap.result _ c.trap-in-Ok-Trap.ensures.done
+
+-- The names that the step touches.
+
+pub returns-in-Miss-clause-missed : goal.returns-in-Miss-clause-missed
+returns-in-Miss-clause-missed g c = λ f input known bound.
+    loads_missed f (g.B.Bus.view c.args.bus.now) c.args.cpu.now c.args.pid input known c.in-Miss.sel (c.in-Miss.ensures.boundless f bound).1
+
+pub returns-in-Done-clause-missed : goal.returns-in-Done-clause-missed
+returns-in-Done-clause-missed g c = λ f input known bound. none_missed c.outlived.result _ c.outlived.ensures.done
+
+pub returns-in-Trap-clause-missed : goal.returns-in-Trap-clause-missed
+returns-in-Trap-clause-missed g c = λ f input known bound. none_missed c.trap.result _ c.trap.ensures.done
+
+pub returns-in-Ok-Back-clause-missed : goal.returns-in-Ok-Back-clause-missed
+returns-in-Ok-Back-clause-missed g c = λ f input known bound. none_missed c.outlived-in-Ok-Back.result _ c.outlived-in-Ok-Back.ensures.done
+
+pub returns-in-Ok-Trap-clause-missed : goal.returns-in-Ok-Trap-clause-missed
+returns-in-Ok-Trap-clause-missed g c = λ f input known bound. none_missed c.trap-in-Ok-Trap.result _ c.trap-in-Ok-Trap.ensures.done
+
+pub returns-in-Ok-Missed-clause-missed : goal.returns-in-Ok-Missed-clause-missed
+returns-in-Ok-Missed-clause-missed g c = λ f input known bound.
+    let v : View = g.B.Bus.view c.args.bus.now in
+    let w : View = g.B.Bus.view c.step_one.new.bus in
+    let step = c.in-Gate.ensures.step in
+    let bound_then : IsBound w = subst (λ (s : Machine). IsBound s.view) (sym step.1) bound in
+    call_missed f v c.args.cpu.now c.args.pid input known c.in-Gate.service c.in-Gate.next
+    (gate_boundless f v w c.args.cpu.now c.step_one.new.cpu c.in-Gate.service c.in-Gate.next (c.in-Gate.ensures.boundless f bound)) c.in-Ok-Missed.sel
+    (told_by c.args.pid input known c.in-Gate.service c.in-Ok-Missed.field-0 (called.Missed c.in-Ok-Missed.sel) (state c.step_one.new.cpu w) (state c.args.cpu.now v)
+    c.in-Ok-Missed.field-0-is step.1 (c.in-Ok-Missed.ensures.names input known bound_then) f)
+
+pub returns-in-Done-clause-present : goal.returns-in-Done-clause-present
+returns-in-Done-clause-present g c = λ f input known bound never.
+    let v : View = g.B.Bus.view c.args.bus.now in
+    let w : View = g.B.Bus.view c.step_one.new.bus in
+    touched_present f v c.args.cpu.now c.args.pid input known (Ok (state c.step_one.new.cpu (boundless f w)))
+    (done_boundless f v w c.args.cpu.now c.step_one.new.cpu (c.in-Done.ensures.boundless f bound)) refl (c.in-Done.ensures.present f bound refl)
+
+pub returns-in-Trap-clause-present : goal.returns-in-Trap-clause-present
+returns-in-Trap-clause-present g c = λ f input known bound never.
+    let v : View = g.B.Bus.view c.args.bus.now in
+    let w : View = g.B.Bus.view c.step_one.new.bus in
+    touched_present f v c.args.cpu.now c.args.pid input known (Err (stop.Trap c.in-Trap.vector c.in-Trap.field-1))
+    (trap_boundless f v w c.args.cpu.now c.step_one.new.cpu c.in-Trap.vector c.in-Trap.field-1 (c.in-Trap.ensures.boundless f bound)) refl (c.in-Trap.ensures.present f bound refl)
+
+pub returns-in-Ok-Back-clause-present : goal.returns-in-Ok-Back-clause-present
+returns-in-Ok-Back-clause-present g c = λ f input known bound never.
+    let v : View = g.B.Bus.view c.args.bus.now in
+    let w : View = g.B.Bus.view c.step_one.new.bus in
+    let step = c.in-Gate.ensures.step in
+    let bound_then : IsBound w = subst (λ (s : Machine). IsBound s.view) (sym step.1) bound in
+    call_present f v c.args.cpu.now c.args.pid input known c.in-Gate.service c.in-Gate.next
+    (gate_boundless f v w c.args.cpu.now c.step_one.new.cpu c.in-Gate.service c.in-Gate.next (c.in-Gate.ensures.boundless f bound)) (c.in-Gate.ensures.present f bound refl)
+    (told_by c.args.pid input known c.in-Gate.service c.in-Ok-Back.field-0 (called.Back c.in-Ok-Back.bytes) (state c.step_one.new.cpu w) (state c.args.cpu.now v)
+    c.in-Ok-Back.field-0-is step.1 (c.in-Ok-Back.ensures.names input known bound_then) f)
+
+pub returns-in-Ok-Exited-clause-present : goal.returns-in-Ok-Exited-clause-present
+returns-in-Ok-Exited-clause-present g c = λ f input known bound never.
+    let v : View = g.B.Bus.view c.args.bus.now in
+    let w : View = g.B.Bus.view c.step_one.new.bus in
+    let step = c.in-Gate.ensures.step in
+    let bound_then : IsBound w = subst (λ (s : Machine). IsBound s.view) (sym step.1) bound in
+    call_present f v c.args.cpu.now c.args.pid input known c.in-Gate.service c.in-Gate.next
+    (gate_boundless f v w c.args.cpu.now c.step_one.new.cpu c.in-Gate.service c.in-Gate.next (c.in-Gate.ensures.boundless f bound)) (c.in-Gate.ensures.present f bound refl)
+    (told_by c.args.pid input known c.in-Gate.service c.in-Ok-Exited.field-0 (called.Exited c.in-Ok-Exited.code) (state c.step_one.new.cpu w) (state c.args.cpu.now v)
+    c.in-Ok-Exited.field-0-is step.1 (c.in-Ok-Exited.ensures.names input known bound_then) f)
+
+pub returns-in-Ok-Trap-clause-present : goal.returns-in-Ok-Trap-clause-present
+returns-in-Ok-Trap-clause-present g c = λ f input known bound never.
+    let v : View = g.B.Bus.view c.args.bus.now in
+    let w : View = g.B.Bus.view c.step_one.new.bus in
+    let step = c.in-Gate.ensures.step in
+    let bound_then : IsBound w = subst (λ (s : Machine). IsBound s.view) (sym step.1) bound in
+    call_present f v c.args.cpu.now c.args.pid input known c.in-Gate.service c.in-Gate.next
+    (gate_boundless f v w c.args.cpu.now c.step_one.new.cpu c.in-Gate.service c.in-Gate.next (c.in-Gate.ensures.boundless f bound)) (c.in-Gate.ensures.present f bound refl)
+    (told_by c.args.pid input known c.in-Gate.service c.in-Ok-Trap.field-0 (called.Trap c.in-Ok-Trap.vector _) (state c.step_one.new.cpu w) (state c.args.cpu.now v)
+    c.in-Ok-Trap.field-0-is step.1 (c.in-Ok-Trap.ensures.names input known bound_then) f)
+
+pub returns-in-Err-clause-present : goal.returns-in-Err-clause-present
+returns-in-Err-clause-present g c = λ f input known bound never.
+    let v : View = g.B.Bus.view c.args.bus.now in
+    let w : View = g.B.Bus.view c.step_one.new.bus in
+    let step = c.in-Gate.ensures.step in
+    let bound_then : IsBound w = subst (λ (s : Machine). IsBound s.view) (sym step.1) bound in
+    call_present f v c.args.cpu.now c.args.pid input known c.in-Gate.service c.in-Gate.next
+    (gate_boundless f v w c.args.cpu.now c.step_one.new.cpu c.in-Gate.service c.in-Gate.next (c.in-Gate.ensures.boundless f bound)) (c.in-Gate.ensures.present f bound refl)
+    (told_before c.args.pid input known c.in-Gate.service (Err c.in-Err.fault) (state c.step_one.new.cpu w) (state c.args.cpu.now v)
+    step.1 (c.in-Err.ensures.names input known bound_then) f)
+
+-- What it writes, and the segment registers.
+
+pub returns-in-Done-clause-writes : goal.returns-in-Done-clause-writes
+returns-in-Done-clause-writes g c = λ agrees. writes_data (g.B.Bus.view c.args.bus.now) (g.B.Bus.view c.step_one.new.bus) c.args.cpu.now agrees c.step_one.ensures.writes
+
+pub returns-in-Trap-clause-writes : goal.returns-in-Trap-clause-writes
+returns-in-Trap-clause-writes g c = λ agrees. writes_data (g.B.Bus.view c.args.bus.now) (g.B.Bus.view c.step_one.new.bus) c.args.cpu.now agrees c.step_one.ensures.writes
+
+pub returns-in-Miss-clause-writes : goal.returns-in-Miss-clause-writes
+returns-in-Miss-clause-writes g c = λ agrees. writes_data (g.B.Bus.view c.args.bus.now) (g.B.Bus.view c.step_one.new.bus) c.args.cpu.now agrees c.step_one.ensures.writes
+
+pub returns-in-Ok-Back-clause-writes : goal.returns-in-Ok-Back-clause-writes
+returns-in-Ok-Back-clause-writes g c = λ agrees.
+    writes_then (g.B.Bus.view c.args.bus.now) (g.B.Bus.view c.step_one.new.bus) (g.B.Bus.view c.call.new.bus) c.step_one.ensures.frame.held
+    (writes_data (g.B.Bus.view c.args.bus.now) (g.B.Bus.view c.step_one.new.bus) c.args.cpu.now agrees c.step_one.ensures.writes) c.call.ensures.writes
+
+pub returns-in-Ok-Back-clause-agrees : goal.returns-in-Ok-Back-clause-agrees
+returns-in-Ok-Back-clause-agrees g c = λ agrees.
+    agrees_then c.step_one.new.cpu c.call.new.cpu (g.B.Bus.view c.step_one.new.bus) (g.B.Bus.view c.call.new.bus) c.call.ensures.frame c.call.ensures.selectors (c.step_one.ensures.agrees agrees)
+
+pub returns-in-Ok-Exited-clause-writes : goal.returns-in-Ok-Exited-clause-writes
+returns-in-Ok-Exited-clause-writes g c = λ agrees.
+    writes_then (g.B.Bus.view c.args.bus.now) (g.B.Bus.view c.step_one.new.bus) (g.B.Bus.view c.call.new.bus) c.step_one.ensures.frame.held
+    (writes_data (g.B.Bus.view c.args.bus.now) (g.B.Bus.view c.step_one.new.bus) c.args.cpu.now agrees c.step_one.ensures.writes) c.call.ensures.writes
+
+pub returns-in-Ok-Exited-clause-agrees : goal.returns-in-Ok-Exited-clause-agrees
+returns-in-Ok-Exited-clause-agrees g c = λ agrees.
+    agrees_then c.step_one.new.cpu c.call.new.cpu (g.B.Bus.view c.step_one.new.bus) (g.B.Bus.view c.call.new.bus) c.call.ensures.frame c.call.ensures.selectors (c.step_one.ensures.agrees agrees)
+
+pub returns-in-Ok-Trap-clause-writes : goal.returns-in-Ok-Trap-clause-writes
+returns-in-Ok-Trap-clause-writes g c = λ agrees.
+    writes_then (g.B.Bus.view c.args.bus.now) (g.B.Bus.view c.step_one.new.bus) (g.B.Bus.view c.call.new.bus) c.step_one.ensures.frame.held
+    (writes_data (g.B.Bus.view c.args.bus.now) (g.B.Bus.view c.step_one.new.bus) c.args.cpu.now agrees c.step_one.ensures.writes) c.call.ensures.writes
+
+pub returns-in-Ok-Trap-clause-agrees : goal.returns-in-Ok-Trap-clause-agrees
+returns-in-Ok-Trap-clause-agrees g c = λ agrees.
+    agrees_then c.step_one.new.cpu c.call.new.cpu (g.B.Bus.view c.step_one.new.bus) (g.B.Bus.view c.call.new.bus) c.call.ensures.frame c.call.ensures.selectors (c.step_one.ensures.agrees agrees)
+
+pub returns-in-Ok-Missed-clause-writes : goal.returns-in-Ok-Missed-clause-writes
+returns-in-Ok-Missed-clause-writes g c = λ agrees.
+    writes_then (g.B.Bus.view c.args.bus.now) (g.B.Bus.view c.step_one.new.bus) (g.B.Bus.view c.call.new.bus) c.step_one.ensures.frame.held
+    (writes_data (g.B.Bus.view c.args.bus.now) (g.B.Bus.view c.step_one.new.bus) c.args.cpu.now agrees c.step_one.ensures.writes) c.call.ensures.writes
+
+pub returns-in-Ok-Missed-clause-agrees : goal.returns-in-Ok-Missed-clause-agrees
+returns-in-Ok-Missed-clause-agrees g c = λ agrees.
+    agrees_then c.step_one.new.cpu c.call.new.cpu (g.B.Bus.view c.step_one.new.bus) (g.B.Bus.view c.call.new.bus) c.call.ensures.frame c.call.ensures.selectors (c.step_one.ensures.agrees agrees)
+
+pub returns-in-Err-clause-writes : goal.returns-in-Err-clause-writes
+returns-in-Err-clause-writes g c = λ agrees.
+    writes_then (g.B.Bus.view c.args.bus.now) (g.B.Bus.view c.step_one.new.bus) (g.B.Bus.view c.call.new.bus) c.step_one.ensures.frame.held
+    (writes_data (g.B.Bus.view c.args.bus.now) (g.B.Bus.view c.step_one.new.bus) c.args.cpu.now agrees c.step_one.ensures.writes) c.call.ensures.writes
+
+pub returns-in-Err-clause-agrees : goal.returns-in-Err-clause-agrees
+returns-in-Err-clause-agrees g c = λ agrees.
+    agrees_then c.step_one.new.cpu c.call.new.cpu (g.B.Bus.view c.step_one.new.bus) (g.B.Bus.view c.call.new.bus) c.call.ensures.frame c.call.ensures.selectors (c.step_one.ensures.agrees agrees)
+
+-- Nothing is changed where a segment is missed.
+
+pub returns-in-Miss-clause-still : goal.returns-in-Miss-clause-still
+returns-in-Miss-clause-still g c =
+    let same = c.in-Miss.ensures.step.1 in (ap (λ (s : Machine). s.cpu) same, ap (λ (s : Machine). s.view) same, refl, refl, refl)
+
+pub returns-in-Done-clause-still : goal.returns-in-Done-clause-still
+returns-in-Done-clause-still g c = none_missed c.outlived.result _ c.outlived.ensures.done
+
+pub returns-in-Trap-clause-still : goal.returns-in-Trap-clause-still
+returns-in-Trap-clause-still g c = none_missed c.trap.result _ c.trap.ensures.done
+
+pub returns-in-Ok-Back-clause-still : goal.returns-in-Ok-Back-clause-still
+returns-in-Ok-Back-clause-still g c = none_missed c.outlived-in-Ok-Back.result _ c.outlived-in-Ok-Back.ensures.done
+
+pub returns-in-Ok-Trap-clause-still : goal.returns-in-Ok-Trap-clause-still
+returns-in-Ok-Trap-clause-still g c = none_missed c.trap-in-Ok-Trap.result _ c.trap-in-Ok-Trap.ensures.done
+
+pub returns-in-Ok-Missed-clause-still : goal.returns-in-Ok-Missed-clause-still
+returns-in-Ok-Missed-clause-still g c =
+    let same = c.in-Gate.ensures.step.1 in
+    let did = missed_of _ c.in-Ok-Missed.field-0 c.in-Ok-Missed.sel c.in-Ok-Missed.field-0-is c.in-Ok-Missed.ensures.still in
+    (did.0 ∙ ap (λ (s : Machine). s.cpu) same, did.1 ∙ ap (λ (s : Machine). s.view) same, did.2, did.3, did.4)

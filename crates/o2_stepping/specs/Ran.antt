@@ -11,10 +11,10 @@ use Rattle.o2_run.specs.declared.steps.Stop.TheVariants as stop
 use Rattle.o2_run.specs.declared.fault.Fault.{Fault}
 use Rattle.o2_run.specs.declared.fault.Fault.TheVariants as fault
 use Rattle.o2_run.specs.Faults.{CauseOf}
-use Rattle.o2_machine.specs.Tallies.{IsTally}
-use Rattle.o2_machine.specs.declared.one_step.Ran.{Ran}
-use Rattle.o2_machine.specs.declared.one_step.Attempt.{Attempt}
-use Rattle.o2_machine.specs.declared.one_step.Attempt.TheVariants as attempt
+use Rattle.o2_stepping.specs.Tallies.{IsTally}
+use Rattle.o2_stepping.specs.declared.one_step.Ran.{Ran}
+use Rattle.o2_stepping.specs.declared.one_step.Attempt.{Attempt}
+use Rattle.o2_stepping.specs.declared.one_step.Attempt.TheVariants as attempt
 
 -- the report took a text whole, or a front of it
 abbrev pub TakesText : (whole : Bool) → (report_old report_new : Option (List ℕ)) → List ℕ → Type 0
@@ -86,6 +86,12 @@ abbrev pub OnMissed : Result Attempt Fault → (Selector → Type 0) → Type 0
 OnMissed (Ok (attempt.Missed s)) P = P s
 OnMissed (Ok (attempt.Ran ran)) P = Unit {0}
 OnMissed (Err f) P = Unit {0}
+
+-- whether it is missed
+abbrev pub is_missed : Result Attempt Fault → Bool
+is_missed (Ok (attempt.Missed s)) = true
+is_missed (Ok (attempt.Ran ran)) = false
+is_missed (Err f) = false
 
 -- the causes of a fault, and of a last line that isn't put whole; a step stops for its input alone
 abbrev pub RanFor : (sink input : Type 0) → Result Ran Fault → Type 0

@@ -4,9 +4,9 @@ use Rattle.o2_isa.specs.View.{whole}
 use Rattle.o2_world.specs.Calls.{Effect}
 use Rattle.o2_world.specs.Effect.{has_trap_flag}
 use Rattle.o2_world.specs.declared.types.State.TheVariants.{Live}
-use Rattle.o2_machine.specs.Ran.{IsDone}
-use Rattle.o2_machine.proofs.Leaving.{late_with_trap, made_with_trap, without_flag, done_by}
-use Rattle.o2_machine.proofs.one_step.outlived.Goals as goal
+use Rattle.o2_stepping.specs.Ran.{IsDone}
+use Rattle.o2_stepping.proofs.Leaving.{late_with_trap, made_with_trap, without_flag, done_by}
+use Rattle.o2_stepping.proofs.one_step.outlived.Goals as goal
 
 pub returns-then-not-has_trap_flag-clause-leaves : goal.returns-then-not-has_trap_flag-clause-leaves
 returns-then-not-has_trap_flag-clause-leaves g c = λ f b e cpu old new i j x d r number registers made.
