@@ -146,7 +146,7 @@ impl Module {
     pub fn is_resolved_by(&self, r: &Resolved) -> bool
         ensures { IsTrue result ↔ Belongs self.now r.now }
     {
-        are_targets(self.file.as_slice(), self.segments.as_slice(), r)
+        are_targets(self.names.file().as_slice(), self.segments.as_slice(), r)
     }
 
     /// Writes the first bytes of a segment's image into a slice, as many as it has, with zeros behind the image's end.
@@ -159,7 +159,7 @@ impl Module {
         let Some(segment) = self.segments.get(seg) else {
             unreachable!()
         };
-        fill_segment(self.file.as_slice(), &segment, r.of_segment(seg), into);
+        fill_segment(self.names.file().as_slice(), &segment, r.of_segment(seg), into);
     }
 }
 

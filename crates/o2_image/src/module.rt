@@ -3,7 +3,7 @@ ghost use Rattle.std.specs.Prelude.{◌≡◌, ◌+◌, ◌≤◌, ◌<◌, ◌�
 ghost use Rattle.o2_ne.specs.Checks.{all_hold};
 ghost use Rattle.o2_ne.specs.EntryTable.{entries_of};
 ghost use Rattle.o2_ne.specs.Header.{head_of};
-ghost use Rattle.o2_ne.specs.NameTable.{exports_of};
+ghost use Rattle.o2_ne.specs.NameTable.{exports, exports_of};
 ghost use Rattle.o2_ne.specs.Steps.{Gives};
 ghost use Rattle.o2_ne_segs.specs.declared.segment.Segment.{Segment};
 ghost use Rattle.o2_ne_segs.specs.Records.{end_of};
@@ -68,11 +68,12 @@ fn references(file: &[u8], head: &Head) -> Result<(), Fail<ModuleFault>>
     }
 }
 
-// The names of a file.
-fn names(alloc: Global, file: &[u8], head: &Head) -> Result<Names, Fail<ModuleFault>>
-    requires small { length file.now ≤ 4194304 }
-    requires inside { head.now.at + 64 ≤ length file.now }
-    ensures { Gives (λ ns. ns) result (under_ne (exports_of file.now head.now)) }
+// The names of a file, with which it is kept.
+fn names(alloc: Global, file: Bytes, head: &Head) -> Result<Names, Fail<ModuleFault>>
+    requires small { length file ≤ 4194304 }
+    requires inside { head.now.at + 64 ≤ length file }
+    ensures exact { Gives exports result (under_ne (exports_of file head.now)) }
+    ensures file { IfOk result (λ ns. ns.file ≡ file) }
 {
     match Names::read(alloc, file, head) {
         Ok(names) => Ok(names),
@@ -133,7 +134,6 @@ fn auto_data(head: &Head, segments: &SegTable) -> Result<(), Fail<ModuleFault>>
 /// A file that passed every check of the format and of what is run here.
 #[derive(Drop)]
 pub struct Module {
-    pub(crate) file: Bytes,
     pub(crate) head: Head,
     pub(crate) segments: SegTable,
     pub(crate) names: Names,
@@ -141,6 +141,7 @@ pub struct Module {
 }
 
 impl Model for Module {
+    ghost use Rattle.o2_ne.specs.NameTable.{exports};
     ghost use Rattle.o2_image.specs.Getters.{imported_name, is_library, nth, nth_reloc, reloc_total};
     ghost use Rattle.o2_image.specs.Modules.{parts_of};
     ghost use Rattle.o2_image.specs.Parts.{Parts};
@@ -148,9 +149,9 @@ impl Model for Module {
 
     ghost Value = { Parts };
 
-    ghost view = { λ m. parts_of m.file m.head m.segments m.names m.entries };
+    ghost view = { λ m. parts_of m.names.file m.head m.segments (exports m.names) m.entries };
 
-    ghost invariant = { λ m. IsWhole m.file m.head m.segments };
+    ghost invariant = { λ m. IsWhole m.names.file m.head m.segments };
 }
 
 impl Module {
@@ -164,17 +165,18 @@ impl Module {
         let head = head(bytes)?;
         let segments = segments(alloc, bytes, &head)?;
         auto_data(&head, &segments)?;
-        let names = names(alloc, bytes, &head)?;
-        references(bytes, &head)?;
-        let entries = entries(alloc, bytes, &head)?;
+        let names = names(alloc, file, &head)?;
+        let held = names.file();
+        let kept = held.as_slice();
+        references(kept, &head)?;
+        let entries = entries(alloc, kept, &head)?;
         let scope = Scope {
-            file: bytes,
+            file: kept,
             head: &head,
             entries: &entries,
         };
         check_segments(alloc, &scope, segments.as_slice())?;
         Ok(Module {
-            file,
             head,
             segments,
             names,
@@ -227,7 +229,7 @@ impl Module {
 
     /// The module's own name, and the names that it exports.
     pub fn names(&self) -> &Names
-        ensures { result.now ≡ self.now.names }
+        ensures { exports result.now ≡ self.now.names }
     {
         &self.names
     }
@@ -249,14 +251,14 @@ impl Module {
         if k > self.head.references {
             return None;
         }
-        Some(reference_at(self.file.as_slice(), &self.head, k - 1))
+        Some(reference_at(self.names.file().as_slice(), &self.head, k - 1))
     }
 
     /// The imported name at an offset in the table of imported names. None exactly where it doesn't lie in the file.
     pub fn imported(&self, at: u16) -> Option<&[u8]>
         ensures { option_map (λ b. b.now) result ≡ imported_name self.now at }
     {
-        let file = self.file.as_slice();
+        let file = self.names.file().as_slice();
         let place = imported_place(&self.head, at);
         if !has_string(file, place) {
             return None;
@@ -269,7 +271,7 @@ impl Module {
         ensures { result ≡ nth_reloc self.now seg k }
     {
         let segment = self.segments.get(seg)?;
-        reloc_in(self.file.as_slice(), &segment, k)
+        reloc_in(self.names.file().as_slice(), &segment, k)
     }
 
     /// How many records a segment has, 0 where there is no such segment.
@@ -277,7 +279,7 @@ impl Module {
         ensures { result ≡ length (nth_list self.now.relocs seg) }
     {
         match self.segments.get(seg) {
-            Some(segment) => reloc_count(self.file.as_slice(), &segment),
+            Some(segment) => reloc_count(self.names.file().as_slice(), &segment),
             None => 0,
         }
     }
@@ -308,14 +310,14 @@ impl Module {
         let Some(second) = self.segments.get(b) else {
             return None;
         };
-        records_before(self.file.as_slice(), &first, &second)
+        records_before(self.names.file().as_slice(), &first, &second)
     }
 
     /// How many records all segments have together.
     pub fn reloc_count(&self) -> u32
         ensures { result ≡ reloc_total self.now }
     {
-        total_relocs(self.file.as_slice(), self.segments.as_slice())
+        total_relocs(self.names.file().as_slice(), self.segments.as_slice())
     }
 
     /// How many ordinals are defined.

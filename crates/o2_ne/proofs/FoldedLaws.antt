@@ -9,7 +9,7 @@ use Rattle.std.specs.Cmp.Lexicographic.{slice_cmp}
 use Rattle.std.proofs.Math.Seq.{drop-cons}
 use Rattle.std.proofs.lemmas.List.{length-drop}
 use Rattle.std.proofs.lemmas.Bool.{ne_eqb, eq-eqb, lt-ltb, le-ltb, ltb-true, ltb-false}
-use Rattle.o2_ne.specs.NameRows.{folded}
+use Rattle.o2_ne.specs.NameOrder.{folded}
 
 pub nat_cmp_less : (x y : ℕ) → x < y → nat_cmp x y ≡ Less
 nat_cmp_less x y lt = let e : nat_lt x y ≡ true = lt-ltb x y lt in rw e refl

@@ -3,7 +3,7 @@ pub mod Checks
 pub mod Steps
 pub mod Header
 pub mod NameTable
-pub mod NameRows
+pub mod NameOrder
 pub mod NamePlaces
 pub mod NameViews
 pub mod Rising

@@ -72,6 +72,15 @@ pub record Exports : Type 0 where
   pub own : List ℕ
   pub names : List Name
 
+-- both, and the file that they stand in
+pub record Named : Type 0 where
+  pub file : List ℕ
+  pub own : List ℕ
+  pub names : List Name
+
+abbrev pub exports : Named → Exports
+exports n = record { own = n.own; names = n.names }
+
 -- the module's name is the first resident string; behind it come the other resident names, then the nonresident ones
 unfoldable pub exports_of : List ℕ → Head → Result Exports NeFault
 exports_of file h = do

@@ -2,7 +2,7 @@
 ghost use Rattle.std.specs.Prelude.{◌≡◌, map};
 ghost use Rattle.std.specs.Ordering.{nat_cmp};
 ghost use Rattle.std.specs.Cmp.Lexicographic.{slice_cmp};
-ghost use Rattle.o2_ne.specs.NameRows.{folded};
+ghost use Rattle.o2_ne.specs.NameOrder.{folded};
 
 use std::cmp::Ordering;
 

@@ -6,7 +6,9 @@ mod entries;
 mod folded;
 mod head;
 mod names;
-mod rows;
+mod order;
+mod sorting;
+mod table;
 mod walking;
 
 pub use bytes::{Missing, lies_in, need, u16_at, u32_at};

@@ -4,11 +4,11 @@ use crate::{Entries, Names, NoMemory};
 use std::alloc::Global;
 use std::test::Fail;
 
-// The bytes of names: letters in both cases, and bytes that differ by 20h and are no letters.
-static LETTERS: &str = "aAbB{[zZ";
+// The bytes of names: letters in both cases, bytes that differ by 20h and are no letters, and a zero. The eighth is missing.
+static LETTERS: &str = "aAbB{[\0";
 
-// What names begin with: they are put in order by eight bytes first, and then by all.
-static FRONTS: &str = "|exports_|Exports_ByName16|exports_byname16_and_behind_it_";
+// What names begin with: they are put in order by four bytes at a time.
+static FRONTS: &str = "zz|exports_|Exports_ByName16|exports_byname16_and_behind_it_";
 
 // The next number of a generator.
 fn next(seed: u32) -> u32 {
@@ -20,7 +20,7 @@ fn below_8(seed: u32) -> usize {
     (seed / 65_536 % 8) as usize
 }
 
-// The name of four numbers.
+// The name of three numbers, with none, one or two bytes behind what it begins with.
 fn name_of(alloc: Global, front: u32, first: u32, second: u32) -> Result<Vec<u8>, NoMemory> {
     let mut name = Vec::new(alloc);
     for (i, text) in FRONTS.split('|').enumerate() {

@@ -5,8 +5,8 @@ use Rattle.o2_image.proofs.module.Module.records_before.Goals as goal
 
 pub returns : goal.returns
 returns c =
-    let file = c.self.inside.file in
+    let file = c.self.inside.names.file in
     let one = nth_list-map (relocs_in file) c.self.inside.segments c.args.a c.in-Some.first (sym c.in-Some.ensures.value) in
     let two = nth_list-map (relocs_in file) c.self.inside.segments c.args.b c.in-Some-get.second (sym c.in-Some-get.ensures.value) in
-    let h = rw c.as_slice.ensures at c.records_before.ensures in
+    let h = rw (c.as_slice.ensures, c.file.ensures) at c.records_before.ensures in
     rw (← c.self.view_is) (rw (one, two) h)

@@ -8,7 +8,7 @@ returns-then-k-self c = rw (← c.self.view_is) (sym (nth_past _ _ c.args.k c.if
 
 pub returns : goal.returns
 returns c =
-    let text : c.reference_at.result.now ≡ reference_at c.self.inside.file c.self.inside.head (c.args.k - 1) =
-    rw c.as_slice.ensures at c.reference_at.ensures in
+    let text : c.reference_at.result.now ≡ reference_at c.self.inside.names.file c.self.inside.head (c.args.k - 1) =
+    rw (c.as_slice.ensures, c.file.ensures) at c.reference_at.ensures in
     let some : List ℕ → Option (List ℕ) = λ t. Some t in
     rw (← c.self.view_is) (ap some text ∙ sym (nth_there _ _ c.args.k c.if-k-eq0.false c.if-k-self.false))
