@@ -1,4 +1,4 @@
-use Rattle.std.proofs.Common.{length, ◌≤◌, ◌+◌, arith}
+use Rattle.std.proofs.Common.{arith}
 use Rattle.std.proofs.lemmas.Result.{err_from_is_err_and}
 use Rattle.o2_ne.proofs.Stepwise.{goes_on, fails_here, is_done}
 use Rattle.o2_ne.proofs.NameSteps.{is_over}

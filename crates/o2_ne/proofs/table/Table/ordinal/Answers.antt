@@ -1,4 +1,4 @@
-use Rattle.std.proofs.Common.{◌≡◌, ℕ, Option, Some, sym, ap, ◌∙◌}
+use Rattle.std.proofs.Common.{ℕ, Option, Some, sym, ap, ◌∙◌}
 use Rattle.o2_ne.specs.NameTable.{same_name}
 use Rattle.o2_ne.proofs.NameIndex.{here, other, past}
 use Rattle.o2_ne.proofs.TableLaws.{places_rise}
