@@ -5,3 +5,5 @@ pub mod Words
 pub mod Links
 pub mod Lending
 pub mod Described
+pub mod Accessed
+pub mod Uses

@@ -1,16 +1,22 @@
 // Who holds which index, how often, and what its descriptor says.
-ghost use Rattle.std.specs.Prelude.{None, ◌≡◌, ℕ, ◌+◌, ◌*◌, ◌<◌, ◌≤◌, ◌^◌, ◌∷◌, true, false, not, [], length, replicate, IfOk, IfSome, slice_get, slice_index_or, slice_set};
+ghost use Rattle.std.specs.Prelude.{None, Some, ◌≡◌, ◌⊎◌, Option, ℕ, ◌+◌, ◌*◌, ◌<◌, ◌≤◌, ◌^◌, ◌∷◌, true, false, not, [], length, replicate, IfOk, IfSome, slice_get, slice_index_or, slice_set};
 ghost use Rattle.std.specs.Borrow.{sem};
 ghost use Rattle.std.specs.Option.{is_some};
-ghost use Rattle.o2_desc.specs.Bytes.{empty};
+ghost use Rattle.o2_desc.specs.Bytes.{empty, mark_at};
 ghost use Rattle.o2_desc.specs.Choice.{IsRun, chosen};
 ghost use Rattle.o2_regions.specs.declared.held.Region.{Region as RegionThere};
+ghost use Rattle.o2_regions.specs.Accessed.{ClearsUse, NoneAccessed, with_unused};
 ghost use Rattle.o2_regions.specs.Described.{Describes};
+ghost use Rattle.o2_regions.specs.declared.accessed.Next.TheVariants as NextThere;
+ghost use Rattle.o2_regions.specs.declared.regions.Used.TheVariants as UsedThere;
+ghost use Rattle.o2_regions.specs.Uses.{segment_in, used_of};
+ghost use Rattle.o2_place.specs.declared.seg_id.SegId.{SegId as SegIdThere};
 ghost use Rattle.o2_regions.specs.Kept.{AreKept};
-ghost use Rattle.o2_regions.specs.Lending.{LendsTable};
+ghost use Rattle.o2_regions.specs.Lending.{LendsTable, with_table};
 ghost use Rattle.o2_regions.specs.Links.{holders, pair_at};
 ghost use Rattle.o2_regions.specs.Maps.{IsProcess, IsRegion, base_of, descriptor_of, dropped, end_of, first_of, granted, held_at, holds_of, is_held, is_reserved, is_taken, left_of, nothing, place, region_of, table_of, with_reserved};
 
+use crate::accessed::{Next, Tables};
 use crate::bits::Bits;
 use crate::describing::describe;
 use crate::links::{kth_place, link, unlink, unlinked};
@@ -27,6 +33,21 @@ const INDEXES: u16 = 8192;
 /// How many indexes a region has, those of the private ones from 0 on.
 const REGION: u16 = 4096;
 
+/// What the list of accessed bits has to say next.
+#[derive(Clone, Copy, Debug, PartialEq, Eq)]
+pub enum Used {
+    /// The accessed bit of an index was set at which this segment is held, and is clear now.
+    Segment(SegId),
+    /// The accessed bit of an index was set at which nothing is held, and is clear now.
+    Free,
+    /// An index was listed whose bit isn't set.
+    Stale,
+    /// No accessed bit is set.
+    Clear,
+    /// The list is at its end, and had no room for all whose bits were set.
+    More,
+}
+
 /// What each process holds at which index, which indexes are reserved, and the tables of descriptors. Contracts see it as
 /// finite maps. It takes all its memory when it is made.
 #[derive(Debug, Drop)]
@@ -37,7 +58,7 @@ pub struct Regions {
     // by region and index
     reserved: Bits,
     // by process
-    tables: Vec<Table>,
+    tables: Tables,
     // where something is held, by process and index
     marks: Bits,
     // the holders of each segment, in lists by its key
@@ -51,9 +72,9 @@ impl Model for Regions {
 
     ghost Value = { Maps };
 
-    ghost view = { λ r. record { processes = r.processes; held = r.held.items; reserved = r.reserved; tables = r.tables.items } };
+    ghost view = { λ r. record { processes = r.processes; held = r.held.items; reserved = r.reserved; tables = r.tables } };
 
-    ghost invariant = { λ r. AreWhole (record { processes = r.processes; held = r.held.items; reserved = r.reserved; tables = r.tables.items }) r.marks r.next.items r.prev.items };
+    ghost invariant = { λ r. AreWhole (record { processes = r.processes; held = r.held.items; reserved = r.reserved; tables = r.tables }) r.marks r.next.items r.prev.items };
 }
 
 // Where a process's index stands.
@@ -104,27 +125,20 @@ fn end_index(region: Region) -> u16
     }
 }
 
-/// Writes the descriptor of an index where the process's table has one.
-pub(crate) fn set_entry(tables: &mut Vec<Table>, pid: u16, index: u16, d: Descriptor)
-    requires { pid < length tables.old.items }
-    ensures { tables.new.items ≡ slice_set tables.old.items pid (slice_set (slice_index_or tables.old.items pid []) index d) }
+// What is used at a place that the list says.
+fn used_of(held: &[Option<Held>], next: Next) -> Used
+    requires { (p : ℕ) → next ≡ NextThere.Place p → p < length held.now }
+    ensures { result ≡ used_of held.now next }
 {
-    let table = &mut tables[pid as usize];
-    if (index as usize) < table.len() {
-        table.set(index, d);
+    match next {
+        Next::Place(place) => match held[place as usize] {
+            Some(held) => Used::Segment(held.id),
+            None => Used::Free,
+        },
+        Next::Stale => Used::Stale,
+        Next::Clear => Used::Clear,
+        Next::More => Used::More,
     }
-}
-
-// The tables of so many processes, with an empty one before them.
-fn new_tables(alloc: Global, processes: u16) -> Result<Vec<Table>, NoMemory>
-    ensures { IfOk result (λ v. v.items ≡ [] ∷ replicate processes (replicate 8192 empty)) }
-{
-    let mut tables = Vec::new(alloc);
-    tables.push(Table::new(alloc, 0)?)?;
-    for _pid in 0..processes {
-        tables.push(Table::new(alloc, INDEXES)?)?;
-    }
-    Ok(tables)
 }
 
 impl Regions {
@@ -140,7 +154,7 @@ impl Regions {
         let rows = processes as usize + 1;
         let held = Vec::from_elem(alloc, None, rows * INDEXES as usize)?;
         let reserved = Bits::new(alloc, (rows + 1) * (REGION as usize / 64))?;
-        let tables = new_tables(alloc, processes)?;
+        let tables = Tables::new(alloc, processes)?;
         let marks = Bits::new(alloc, rows * (INDEXES as usize / 64))?;
         let next = unlinked(alloc, rows * INDEXES as usize)?;
         let prev = unlinked(alloc, rows * INDEXES as usize)?;
@@ -241,7 +255,7 @@ impl Regions {
                         limit: 0,
                         access,
                     };
-                    set_entry(&mut self.tables, pid, index, entry);
+                    self.tables.set_entry(pid, index, entry);
                 }
             }
         }
@@ -265,7 +279,7 @@ impl Regions {
                     unlink(&self.held, &mut self.next, &mut self.prev, place);
                     self.held[place] = None;
                     self.marks.set(place, false);
-                    set_entry(&mut self.tables, pid, index, Descriptor::EMPTY);
+                    self.tables.set_entry(pid, index, Descriptor::EMPTY);
                 } else {
                     self.held[place] = Some(Held { holds: left, ..was });
                 }
@@ -302,10 +316,7 @@ impl Regions {
         ensures { result ≡ descriptor_of (held_at self.now pid index) (table_of self.now pid) index }
     {
         match self.held[place_of(pid, index)] {
-            Some(_) => match self.tables[pid as usize].get(index) {
-                Some(d) => Some(d),
-                None => Some(Descriptor::EMPTY),
-            },
+            Some(_) => Some(self.tables.entry(pid, index)),
             None => None,
         }
     }
@@ -334,6 +345,43 @@ impl Regions {
         ensures* lends { sem 𝓛 (LendsTable self.entry pid result) }
         ensures value { result.now ≡ table_of self.old pid }
     {
-        &mut self.tables[pid as usize]
+        self.tables.lend(pid)
+    }
+
+    /// Sets the accessed bit of an index in a process's table.
+    pub fn mark(&mut self, pid: u16, index: u16)
+        requires process { IsProcess self.old pid }
+        requires index { index < 8192 }
+        ensures { self.new ≡ with_table self.old pid (mark_at (table_of self.old pid) index) }
+    {
+        self.tables.mark(pid, index);
+    }
+
+    /// Clears the accessed bit of an index in a process's table.
+    pub fn unmark(&mut self, pid: u16, index: u16)
+        requires process { IsProcess self.old pid }
+        requires index { index < 8192 }
+        ensures { self.new ≡ with_unused self.old pid index }
+    {
+        self.tables.unmark(pid, index);
+    }
+
+    /// Takes the next index out of the list of those whose accessed bit was set, and clears the bit. A list of fixed size
+    /// gets an index as its bit goes from 0 to 1; the work is that of one index.
+    pub fn next_used(&mut self) -> Used
+        ensures clears { (o : Option SegIdThere) → segment_in result ≡ Some o → ClearsUse self.old self.new o }
+        ensures stays { segment_in result ≡ None → self.new ≡ self.old }
+        ensures clear { result ≡ UsedThere.Clear → NoneAccessed self.old.tables }
+    {
+        let next = self.tables.next_used();
+        used_of(&self.held, next)
+    }
+
+    /// Begins the list of accessed bits anew, where none is set.
+    pub fn list_anew(&mut self)
+        requires { NoneAccessed self.old.tables }
+        ensures { self.new ≡ self.old }
+    {
+        self.tables.list_anew();
     }
 }

@@ -1,20 +1,9 @@
 // Accessed bits.
 ghost use Rattle.std.specs.Prelude.{◌≡◌};
 ghost use Rattle.o2_regions.specs.Maps.{IsProcess};
-ghost use Rattle.o2_segbus.specs.Marking.{with_mark, with_mark_of};
+ghost use Rattle.o2_segbus.specs.Marking.{with_mark_of};
 
 use o2_regions::Regions;
-
-/// Sets the accessed bit of a process's index.
-fn mark(regions: &mut Regions, pid: u16, index: u16)
-    requires { IsProcess regions.old pid }
-    ensures { regions.new ≡ with_mark regions.old pid index }
-{
-    let table = regions.table(pid);
-    if (index as usize) < table.len() {
-        table.mark(index);
-    }
-}
 
 /// Sets the accessed bit of what a selector names.
 pub(crate) fn mark_named(regions: &mut Regions, pid: u16, sel: u16)
@@ -22,6 +11,6 @@ pub(crate) fn mark_named(regions: &mut Regions, pid: u16, sel: u16)
     ensures { regions.new ≡ with_mark_of regions.old pid sel }
 {
     if sel >= 4 {
-        mark(regions, pid, sel / 8);
+        regions.mark(pid, sel / 8);
     }
 }

@@ -99,3 +99,14 @@ pub all_fit : (s : Shelf) (need : List (SegId × ℕ)) → IsShelf s → FitAt s
 all_fit s need h f sum room =
     let a = over-le (needed s need) (λ k. len_of (place_of s k)) (length s.entries) (λ k l. part s need k h (fit_all s need f)) in
     omega (arith, a, sum, room)
+
+-- where all that is needed is in memory, each number that is needed has its segment there
+present_needs : (s : Shelf) (need : List (SegId × ℕ)) (k : ℕ) → ((i : ℕ) (p : SegId × ℕ) → slice_get need i ≡ Some p → IsSome (place_of s p.0.key)) → needs need k ≡ true → IsSome (place_of s k)
+present_needs s [] k f e = absurd (let g : false ≡ true = e in cc)
+present_needs s (p ∷ ps) k f e = elim (cases_eq k p.0.key) [
+  | inl same ↦ subst (λ (x : ℕ). IsSome (place_of s x)) (sym same) (f 0 p refl)
+  | inr other ↦ (let t : eqb k p.0.key ≡ false = grind (arith, nat_tests) in let r : needs ps k ≡ true = rw t at e in present_needs s ps k (λ i q. f (suc i) q) r)
+]
+
+pub all_present : (s : Shelf) (need : List (SegId × ℕ)) (k : ℕ) → ArePresent s need (length need) → needs need k ≡ true → IsSome (place_of s k)
+all_present s need k a e = present_needs s need k (λ i p q. a.each i p (get_within need i p q) q) e

@@ -2,3 +2,4 @@ pub mod Amounts
 pub mod Among
 pub mod Fitting
 pub mod Placing
+pub mod Clocks

@@ -42,17 +42,17 @@ told_descriptor base limit size place d e l =
     }
 
 -- what a telling leaves of what is held
-told_held : (m n : Maps) (id : SegId) (base : Option ℕ) (limit : ℕ) → Tells m n id base limit → (pid i : ℕ) → held_at n pid i ≡ held_at m pid i
+pub told_held : (m n : Maps) (id : SegId) (base : Option ℕ) (limit : ℕ) → Tells m n id base limit → (pid i : ℕ) → held_at n pid i ≡ held_at m pid i
 told_held m n id base limit t pid i = ap (λ (x : Maps). held_at x pid i) t.rest
 
 -- descriptors of other segments stay
-told_other : (m n : Maps) (id : SegId) (base : Option ℕ) (limit : ℕ) → Tells m n id base limit → (pid i : ℕ) → is_of id (held_at m pid i) ≡ false → descriptor_at n pid i ≡ descriptor_at m pid i
+pub told_other : (m n : Maps) (id : SegId) (base : Option ℕ) (limit : ℕ) → Tells m n id base limit → (pid i : ℕ) → is_of id (held_at m pid i) ≡ false → descriptor_at n pid i ≡ descriptor_at m pid i
 told_other m n id base limit t pid i other = elim (cases_lt i (length (table_of m pid))) [
   | inl within ↦ t.entries pid i within ∙ cond-false (is_of id (held_at m pid i)) (placed base limit (entry_at m pid i)) (entry_at m pid i) other
   | inr past ↦ (let l = t.lengths pid in get_or_past (table_of n pid) i empty (omega (arith, l, past)) ∙ sym (get_or_past (table_of m pid) i empty past))
 ]
 
-told_here : (m n : Maps) (id : SegId) (base : Option ℕ) (limit : ℕ) → Tells m n id base limit → (pid i : ℕ) → i < length (table_of m pid) → is_of id (held_at m pid i) ≡ true
+pub told_here : (m n : Maps) (id : SegId) (base : Option ℕ) (limit : ℕ) → Tells m n id base limit → (pid i : ℕ) → i < length (table_of m pid) → is_of id (held_at m pid i) ≡ true
     → descriptor_at n pid i ≡ placed base limit (descriptor_at m pid i)
 told_here m n id base limit t pid i within here = t.entries pid i within ∙ cond-true (is_of id (held_at m pid i)) (placed base limit (entry_at m pid i)) (entry_at m pid i) here
 

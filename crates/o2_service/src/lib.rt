@@ -2,10 +2,12 @@
 #![tactic(auto)]
 
 mod amount;
+mod learning;
 mod need;
 mod serving;
 mod settling;
 
+pub use learning::learn;
 pub use need::Need;
 pub use o2_segbus::SegBus;
 pub use serving::{Served, serve};

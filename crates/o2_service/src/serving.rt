@@ -1,5 +1,5 @@
 // What is needed comes into memory, and the descriptors say so.
-ghost use Rattle.std.specs.Prelude.{◌≡◌, ℕ, ◌+◌, ◌<◌, ◌≤◌, length, true, IsSome};
+ghost use Rattle.std.specs.Prelude.{◌≡◌, ℕ, ◌+◌, ◌<◌, ◌≤◌, length, None, true, false, IsSome};
 ghost use Rattle.o2_outer.specs.Texts.{Rose};
 ghost use Rattle.o2_segbus.specs.Settled.{IsSettled};
 ghost use Rattle.o2_swapmap.specs.Piles.{all_of};
@@ -7,9 +7,11 @@ ghost use Rattle.o2_store.specs.Loads.{live_load, swap_load};
 ghost use Rattle.o2_store.specs.Pictures.{picture, HasPicture};
 ghost use Rattle.o2_store.specs.Shelf.{AreClean, HasAll, KeepsAll, entry, entry_of, place_of};
 ghost use Rattle.o2_service.specs.Needs.{AreLive, ArePresent, OnlyNeededComes, Stays, all_needed, needs};
+ghost use Rattle.o2_service.specs.Learned.{AreUnused};
 ghost use Rattle.o2_service.specs.Told.{IsHeldWell, OnlyTables};
 
 use crate::amount::{amount, are_here};
+use crate::learning::learn;
 use crate::need::Need;
 use crate::settling::{settle_present, withdraw};
 use o2_image::Images;
@@ -35,8 +37,9 @@ pub enum Served {
 /// and was in memory stays there, and nothing else comes in; so each that is needed comes in once at most. Whatever the
 /// answer, each segment keeps its bytes, its size and its attributes, and all descriptors agree with the store.
 ///
-/// Where nothing is missing, nothing changes, and the work is that of looking each needed segment up. Otherwise it is that
-/// of going over those who hold a segment that was or is in memory, beside the copies.
+/// Where nothing is missing, nothing changes, and the work is that of looking each needed segment up. Otherwise the clock first
+/// learns which segments were used, by the accessed bits, which are clear then; and the work is that of those bits and of going
+/// over those who hold a segment that was or is in memory, beside the copies.
 pub fn serve<S: SwapDevice>(
     need: &Need,
     store: &mut Store,
@@ -70,6 +73,9 @@ pub fn serve<S: SwapDevice>(
     ensures always_no_room { store.old.places.size < all_needed store.old need.now
         → result ≡ Served.NoRoom }
     ensures refused { result ≡ Served.NoRoom → (store.new ≡ store.old) × (swap.new ≡ swap.old) }
+    ensures kept_bits { result ≡ Served.NoRoom → regions.new ≡ regions.old }
+    ensures clear { (k : ℕ) → needs need.now k ≡ true → place_of store.old k ≡ None
+        → (result ≡ Served.NoRoom → ⊥) → AreUnused regions.new }
     ensures loads { result ≡ Served.SwapFull
         → (all_of store.old.swap < swap_load store.old)
         × (store.old.places.size < live_load store.old) }
@@ -80,10 +86,24 @@ pub fn serve<S: SwapDevice>(
     if are_here(need.pairs(), store) {
         return Served::Here;
     }
+    if !is_room(need, store) {
+        return Served::NoRoom;
+    }
+    learn(store, regions);
     withdraw(store, regions);
     let served = bring_all(need, store, images, swap);
     settle_present(store, regions);
     served
+}
+
+/// Whether the memory has room for what is needed and what is locked.
+pub(crate) fn is_room(need: &Need, store: &Store) -> bool
+    requires live { AreLive store.now need.now }
+    ensures room { result ≡ true → all_needed store.now need.now ≤ store.now.places.size }
+    ensures none { result ≡ false → store.now.places.size < all_needed store.now need.now }
+{
+    store.law();
+    amount(need.pairs(), store) <= memory_size(store)
 }
 
 // Brings what is needed into memory together, where it isn't there yet.
@@ -94,6 +114,7 @@ pub(crate) fn bring_all<S: SwapDevice>(
     swap: &mut S,
 ) -> Served
     requires live { AreLive store.old need.now }
+    requires fits { all_needed store.old need.now ≤ store.old.places.size }
     requires pictures { HasAll (HasPicture images.now) store.old }
     requires clean { AreClean store.old (picture images.now) }
     requires device { all_of store.old.swap ≤ S.blocks swap.old }
@@ -109,11 +130,7 @@ pub(crate) fn bring_all<S: SwapDevice>(
     ensures locked { (k : ℕ) → 0 < (entry store.old k).attr.lock → IsSome (place_of store.new k) }
 
     ensures here { result ≡ Served.Here → ArePresent store.new need.now (length need.now) }
-    ensures no_room { result ≡ Served.NoRoom
-        → store.old.places.size < all_needed store.old need.now }
-    ensures always_no_room { store.old.places.size < all_needed store.old need.now
-        → result ≡ Served.NoRoom }
-    ensures refused { result ≡ Served.NoRoom → (store.new ≡ store.old) × (swap.new ≡ swap.old) }
+    ensures never { result ≡ Served.NoRoom → ⊥ }
     ensures loads { result ≡ Served.SwapFull
         → (all_of store.old.swap < swap_load store.old)
         × (store.old.places.size < live_load store.old) }
@@ -122,9 +139,6 @@ pub(crate) fn bring_all<S: SwapDevice>(
 {
     store.law();
     let pairs = need.pairs();
-    if memory_size(store) < amount(pairs, store) {
-        return Served::NoRoom;
-    }
     for k in 0..pairs.len() {
         let (id, _) = pairs[k];
         match bring_one(id, need, store, images, swap) {

@@ -5,6 +5,7 @@ ghost use Rattle.o2_regions.specs.Described.{Describes};
 ghost use Rattle.o2_regions.specs.Maps.{held_at};
 ghost use Rattle.o2_segbus.specs.Settled.{IsSettled, descriptor_at};
 ghost use Rattle.o2_store.specs.Shelf.{base_of, entry, entry_of, place_of};
+ghost use Rattle.o2_service.specs.Learned.{AreUnused};
 ghost use Rattle.o2_service.specs.Told.{AreTold, IsHeldWell, OnlyTables, nowhere};
 
 use crate::amount::size_of;
@@ -54,6 +55,7 @@ pub(crate) fn withdraw(store: &Store, regions: &mut Regions)
     requires settled { IsSettled store.now regions.old }
     ensures told { AreTold nowhere store.now regions.new }
     ensures maps { OnlyTables regions.old regions.new }
+    ensures unused { AreUnused regions.old → AreUnused regions.new }
 {
     store.law();
     for k in 0..store.present_count() {
@@ -67,6 +69,7 @@ pub(crate) fn settle_present(store: &Store, regions: &mut Regions)
     requires told { AreTold nowhere store.now regions.old }
     ensures settled { IsSettled store.now regions.new }
     ensures maps { OnlyTables regions.old regions.new }
+    ensures unused { AreUnused regions.old → AreUnused regions.new }
 {
     store.law();
     let count = store.present_count();

@@ -4,7 +4,7 @@ ghost use Rattle.o2_store.specs.Trials.{IsReady};
 ghost use Rattle.o2_service.specs.Needs.{AreLive};
 
 use crate::need::Need;
-use crate::serving::{Served, bring_all};
+use crate::serving::{Served, bring_all, is_room};
 use o2_image::Images;
 use o2_outer::{MemSwap, SwapDevice};
 use o2_place::SegId;
@@ -98,6 +98,9 @@ fn bring<S: SwapDevice>(
     ensures { IsReady store.new images.now (S.blocks swap.new) }
 {
     let need = live_need(store, pairs)?;
+    if !is_room(&need, store) {
+        return Some(Served::NoRoom);
+    }
     Some(bring_all(&need, store, images, swap))
 }
 

@@ -1,10 +1,9 @@
-use Rattle.std.proofs.Common.{◌<◌, ◌∙◌, ℕ, Bool, arith, rules, length, get_or, subst, ap}
+use Rattle.std.proofs.Common.{◌<◌, ◌∙◌, ℕ, Bool, arith, rules, length, get_or, subst}
 use Rattle.std.proofs.lemmas.Option.{slice_get-get_or}
 use Rattle.o2_place.specs.declared.seg_id.SegId.{SegId}
 use Rattle.o2_store.specs.Pictures.{picture}
 use Rattle.o2_store.specs.Shelf.{KeepsAll}
 use Rattle.o2_store.proofs.Keeping.{keeps_trans, tables_trans, locked_stay}
-use Rattle.o2_service.specs.Needs.{all_needed}
 use Rattle.o2_service.proofs.Among.{all_live_same, loads_after, needs_at, only_trans, present_more, same_needed, stays_trans}
 use Rattle.o2_service.proofs.serving.bring_all.Goals as goal
 
@@ -36,9 +35,7 @@ returns-in_default g c =
       only = only_trans need s t u i.only e.only;
       locked = locked_stay s u c.law-in_default.ensures.shelf (tables_trans s t u i.keeps.tables e.keeps.tables);
       here = λ q. absurd (c.in_default.not-Here q);
-      no_room = λ q. absurd (e.never q);
-      always_no_room = λ l. absurd (let a = ap (all_needed s) c.pairs-pairs.ensures.pairs in omega (arith, a, l, c.amount.ensures, c.memory_size.ensures, c.if-memory_size-amount.false));
-      refused = λ q. absurd (e.never q);
+      never = e.never;
       loads = λ q. loads_after s t i.keeps.tables i.map (e.loads q);
       faults = omega (arith, i.faults, e.faults);
       cause = search rules;

@@ -3,12 +3,14 @@ use Rattle.o2_place.specs.declared.seg_id.SegId.{SegId}
 use Rattle.o2_place.specs.Layout.{find_in}
 use Rattle.o2_service.specs.Told.{AreTold}
 use Rattle.o2_service.proofs.Placing.{told_last, first_told, settle_more, held_only, only_refl, only_told, live_size}
+use Rattle.o2_service.proofs.Clocks.{told_unused}
 use Rattle.o2_service.proofs.settling.settle_present.Goals as goal
 
 pub loop-k-init : goal.loop-k-init
 loop-k-init c = record {
   told = told_last c.args.store.now c.args.regions.now _ (omega arith) c.requires.told;
   maps = only_refl c.args.regions.now;
+  unused = λ u. u;
 }
 
 pub loop-k-preserved : goal.loop-k-preserved
@@ -29,6 +31,7 @@ loop-k-preserved c =
           (settle_more s m n at id c.base.result _ (subst (λ (x : ℕ). AreTold (λ j. find_in (drop x s.places.ranges) j) s m) before i.told)
           w c.tell.ensures e.live (omega arith) (ap (λ (x : SegId). x.key) e.id) e.place c.base.ensures (omega (arith, size)));
       maps = only_told c.args.regions.now m n id _ _ i.maps c.tell.ensures;
+      unused = λ u. told_unused s m n id _ _ w c.tell.ensures (i.unused u);
     }
 
 pub returns-clause-settled : goal.returns-clause-settled

@@ -1,0 +1,9 @@
+use Rattle.o2_service.specs.Learned.{Learns}
+use Rattle.o2_service.specs.Told.{IsHeldWell}
+use Rattle.o2_service.proofs.learning.learn_listed.Given as goal
+
+abbrev pub invariant-loop-round : goal.invariant-loop-round
+invariant-loop-round l = record {
+  learned : Learns l.initial.store l.store l.initial.regions l.regions;
+  held : IsHeldWell l.store l.regions;
+}
