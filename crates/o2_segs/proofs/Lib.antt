@@ -1,0 +1,4 @@
+pub mod Selecting
+pub mod Rows
+pub mod Stops
+pub mod Resizing

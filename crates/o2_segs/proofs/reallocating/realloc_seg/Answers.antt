@@ -1,0 +1,40 @@
+use Rattle.std.proofs.Common.{Some, ap, refl, sym, ◌∙◌}
+use Rattle.o2_stands.specs.Knows.{known_in}
+use Rattle.o2_world.specs.Rulings.{reallocation}
+use Rattle.o2_segs.proofs.Resizing.{keeps, realloc_done, realloc_fixed, realloc_kept, realloc_none, refusal_moved, sized_matches, stopped_matches}
+use Rattle.o2_segs.proofs.Rows.{done_answers, refusal_answers}
+use Rattle.o2_segs.proofs.Stops.{error_none, not_here, stop_answers, was_here}
+use Rattle.o2_segs.proofs.reallocating.realloc_seg.Goals as goal
+
+pub returns-then-is_fixed-clause-answer : goal.returns-then-is_fixed-clause-answer
+returns-then-is_fixed-clause-answer g c = λ p o es em. refusal_answers _ 5 c.refusal.result (realloc_fixed p o c.args.regions.now c.args.pid c.args.size c.args.sel c.in-Some.held em (sym c.in-Some.ensures) (sym c.if-is_fixed.ensures)) c.refusal.ensures
+
+pub returns-then-is_fixed-clause-matches : goal.returns-then-is_fixed-clause-matches
+returns-then-is_fixed-clause-matches g c = λ p o w es em ei eb tells q. refusal_moved p c.args.store.now c.args.regions.now _ w _ 5 es em eb (realloc_fixed p o c.args.regions.now c.args.pid c.args.size c.args.sel c.in-Some.held em (sym c.in-Some.ensures) (sym c.if-is_fixed.ensures)) q
+
+pub returns-then-keeps_its_size-clause-answer : goal.returns-then-keeps_its_size-clause-answer
+returns-then-keeps_its_size-clause-answer g c = λ p o es em. refusal_answers _ 5 c.refusal-then-keeps_its_size.result (realloc_kept p o c.args.store.now c.args.regions.now c.args.pid c.args.size c.args.sel c.in-Some.held es em c.requires.named (sym c.in-Some.ensures) (sym c.if-is_fixed.ensures) (ap (keeps c.args.store.now c.in-Some.held.id.key) (sym c.full_size-bytes.ensures.size) ∙ sym c.if-keeps_its_size.ensures)) c.refusal-then-keeps_its_size.ensures
+
+pub returns-then-keeps_its_size-clause-matches : goal.returns-then-keeps_its_size-clause-matches
+returns-then-keeps_its_size-clause-matches g c = λ p o w es em ei eb tells q. refusal_moved p c.args.store.now c.args.regions.now _ w _ 5 es em eb (realloc_kept p o c.args.store.now c.args.regions.now c.args.pid c.args.size c.args.sel c.in-Some.held es em c.requires.named (sym c.in-Some.ensures) (sym c.if-is_fixed.ensures) (ap (keeps c.args.store.now c.in-Some.held.id.key) (sym c.full_size-bytes.ensures.size) ∙ sym c.if-keeps_its_size.ensures)) q
+
+pub returns-in-Some-stop_of-clause-answer : goal.returns-in-Some-stop_of-clause-answer
+returns-in-Some-stop_of-clause-answer g c = λ p o es em. stop_answers _ c.resize.result c.in-Some-stop_of.stop (error_none (realloc_done p o c.args.store.now c.args.regions.now c.args.pid c.args.size c.args.sel c.in-Some.held es em c.requires.named (sym c.in-Some.ensures) (sym c.if-is_fixed.ensures) (ap (keeps c.args.store.now c.in-Some.held.id.key) (sym c.full_size-bytes.ensures.size) ∙ sym c.if-keeps_its_size.ensures))) c.in-Some-stop_of.ensures
+
+pub returns-in-Some-stop_of-clause-matches : goal.returns-in-Some-stop_of-clause-matches
+returns-in-Some-stop_of-clause-matches g c = λ p o w es em ei eb tells q.
+    stopped_matches p w c.resize.new.store c.resize.new.regions _ (reallocation (known_in p o) c.args.pid c.args.size c.args.sel) c.resize.result c.in-Some-stop_of.stop c.in-Some-stop_of.ensures ((c.resize.ensures.stays (not_here c.resize.result c.in-Some-stop_of.stop c.in-Some-stop_of.ensures)).world p w es em ei eb tells q)
+
+pub returns-in-None-stop_of-clause-answer : goal.returns-in-None-stop_of-clause-answer
+returns-in-None-stop_of-clause-answer g c = λ p o es em. done_answers _ _ 0 c.done.result (realloc_done p o c.args.store.now c.args.regions.now c.args.pid c.args.size c.args.sel c.in-Some.held es em c.requires.named (sym c.in-Some.ensures) (sym c.if-is_fixed.ensures) (ap (keeps c.args.store.now c.in-Some.held.id.key) (sym c.full_size-bytes.ensures.size) ∙ sym c.if-keeps_its_size.ensures)) c.done.ensures
+
+pub returns-in-None-stop_of-clause-matches : goal.returns-in-None-stop_of-clause-matches
+returns-in-None-stop_of-clause-matches g c = λ p o w es em ei eb tells q.
+    sized_matches p w c.resize.new.store c.resize.new.regions _ c.in-Some.held.id _ _ _ (realloc_done p o c.args.store.now c.args.regions.now c.args.pid c.args.size c.args.sel c.in-Some.held es em c.requires.named (sym c.in-Some.ensures) (sym c.if-is_fixed.ensures) (ap (keeps c.args.store.now c.in-Some.held.id.key) (sym c.full_size-bytes.ensures.size) ∙ sym c.if-keeps_its_size.ensures)) c.full_size-bytes.ensures.size
+    ((c.resize.ensures.matches (was_here c.resize.result c.in-None-stop_of.ensures c.resize.ensures.never)).world p w es em ei eb tells q)
+
+pub returns-in-None-clause-answer : goal.returns-in-None-clause-answer
+returns-in-None-clause-answer g c = λ p o es em. refusal_answers _ 5 c.refusal-in-None.result (realloc_none p o c.args.regions.now c.args.pid c.args.size c.args.sel em (sym c.in-None.ensures)) c.refusal-in-None.ensures
+
+pub returns-in-None-clause-matches : goal.returns-in-None-clause-matches
+returns-in-None-clause-matches g c = λ p o w es em ei eb tells q. refusal_moved p c.args.store.now c.args.regions.now _ w _ 5 es em eb (realloc_none p o c.args.regions.now c.args.pid c.args.size c.args.sel em (sym c.in-None.ensures)) q

@@ -1,0 +1,113 @@
+// DosReallocSeg.
+ghost use Rattle.std.specs.Prelude.{◌≡◌, ◌<◌, ◌≤◌, ◌==◌, ◌&&◌, ◌||◌, nat_lt, not, IsSome, IsTrue};
+ghost use Rattle.o2_outer.specs.Texts.{Rose};
+ghost use Rattle.o2_regions.specs.Maps.{IsProcess};
+ghost use Rattle.o2_segbus.specs.Seen.{AreNamed};
+ghost use Rattle.o2_store.specs.Loads.{swap_load};
+ghost use Rattle.o2_store.specs.Pictures.{picture};
+ghost use Rattle.o2_store.specs.Shelf.{AreClean, entry, entry_of};
+ghost use Rattle.o2_swapmap.specs.Piles.{all_of};
+ghost use Rattle.o2_changes.specs.Order.{IsInOrder};
+ghost use Rattle.o2_changes.specs.Worlds.{Matches};
+ghost use Rattle.o2_stands.specs.Knows.{Others, known_in};
+ghost use Rattle.o2_stands.specs.Moves.{moved};
+ghost use Rattle.o2_stands.specs.Parts.{Parts, cause_of};
+ghost use Rattle.o2_world.specs.Changes.{with_all};
+ghost use Rattle.o2_world.specs.Rulings.{full_size, is_alias, reallocation};
+ghost use Rattle.o2_world.specs.World.{World};
+ghost use Rattle.o2_segs.specs.Answers.{AnswersRoomed, changes_roomed};
+
+use crate::asking::{ACCESS_DENIED, done, held_under, refusal, stop_of};
+use o2_changes::resize;
+use o2_image::Images;
+use o2_outer::SwapDevice;
+use o2_place::SegId;
+use o2_regions::{Cause, Held, Regions, Roomed};
+use o2_store::Store;
+
+/// The size in bytes that a call is given as a word, where 0 is 65,536.
+pub(crate) fn full_size(size: u16) -> u32
+    ensures size { result ≡ full_size size }
+    ensures some { 0 < result }
+    ensures most { result ≤ 65536 }
+{
+    if size == 0 { 65536 } else { u32::from(size) }
+}
+
+// Whether a segment is held as an alias.
+fn is_alias(cause: Cause) -> bool
+    ensures { result ≡ is_alias (cause_of cause) }
+{
+    match cause {
+        Cause::Loaded => false,
+        Cause::Called => false,
+        Cause::Alias => true,
+    }
+}
+
+// Whether what is held is an alias, or in a run.
+fn is_fixed(held: Held) -> bool
+    ensures { result ≡ (is_alias (cause_of held.cause) || not (held.reserved == 0)) }
+{
+    is_alias(held.cause) || held.reserved != 0
+}
+
+// Whether a live segment may not get a size: it is clean, or it is shared and would shrink.
+fn keeps_its_size(store: &Store, id: SegId, size: u32) -> bool
+    requires { IsSome (entry_of store.now id) }
+    ensures { result ≡ ((entry store.now id.key).attr.clean || ((entry store.now id.key).attr.shared && nat_lt size (entry store.now id.key).size)) }
+{
+    match (store.attr(id), store.size(id)) {
+        (Some(attr), Some(old)) => attr.clean || (attr.shared && size < old),
+        _ => false,
+    }
+}
+
+/// DosReallocSeg(size, sel): a segment that the caller holds gets another size, 0 for 65,536 bytes; grown bytes are zero. 5 where
+/// it isn't held, is an alias, lies in a run, is clean, or is shared and would shrink. One in memory that is locked or in `keep`
+/// stays there. At a stop no segment has changed.
+pub fn realloc_seg<S: SwapDevice>(
+    store: &mut Store,
+    regions: &mut Regions,
+    pid: u16,
+    size: u16,
+    sel: u16,
+    keep: &[SegId],
+    images: &Images,
+    swap: &mut S,
+) -> Roomed
+    requires process { IsProcess regions.old pid }
+    requires named { AreNamed store.old regions.old }
+    requires order { IsInOrder store.old regions.old }
+    requires clean { AreClean store.old (picture images.now) }
+    requires device { all_of store.old.swap ≤ S.blocks swap.old }
+
+    ensures answer { (p : Parts) (o : Others) → p.shelf ≡ store.old → p.maps ≡ regions.old
+        → AnswersRoomed (reallocation (known_in p o) pid size sel) result }
+    ensures matches { (p : Parts) (o : Others) (w : World) → p.shelf ≡ store.old → p.maps ≡ regions.old
+        → p.images ≡ images.now → p.block ≡ S.block swap.old → IsTrue (S.told swap.old) → Matches p w
+        → Matches (moved p store.new regions.new (S.block swap.new))
+        (with_all w (changes_roomed (reallocation (known_in p o) pid size sel) result)) }
+    ensures order { IsInOrder store.new regions.new }
+    ensures clean { AreClean store.new (picture images.now) }
+    ensures load { result ≡ Roomed.SwapFull → all_of store.old.swap < swap_load store.old }
+    ensures faults { S.faults swap.old ≤ S.faults swap.new }
+    ensures cause { result ≡ Roomed.SwapFault → Rose (S.faults swap.old) (S.faults swap.new) }
+{
+    match held_under(regions, pid, sel) {
+        Some(held) => {
+            if is_fixed(held) {
+                return Roomed::Done(refusal(ACCESS_DENIED));
+            }
+            let bytes = full_size(size);
+            if keeps_its_size(store, held.id, bytes) {
+                return Roomed::Done(refusal(ACCESS_DENIED));
+            }
+            match stop_of(resize(store, regions, held.id, bytes, keep, images, swap)) {
+                Some(stop) => stop,
+                None => Roomed::Done(done(0)),
+            }
+        }
+        None => Roomed::Done(refusal(ACCESS_DENIED)),
+    }
+}
