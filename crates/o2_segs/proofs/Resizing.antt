@@ -1,10 +1,9 @@
 -- What the row of a new size comes to.
-use Rattle.std.proofs.Common.{◌≡◌, ℕ, ◌/◌, ◌&&◌, ◌||◌, ◌==◌, Option, Some, None, Bool, true, false, nat_lt, not, option_map, List, [], ◌∷◌, refl, sym, ap, ◌∙◌, subst}
+use Rattle.std.proofs.Common.{◌≡◌, ℕ, ◌/◌, ◌&&◌, ◌||◌, ◌==◌, Some, None, Bool, true, false, nat_lt, not, option_map, List, [], ◌∷◌, sym, ap, ◌∙◌, subst}
 use Rattle.std.proofs.lemmas.Bool.{cond-true, cond-false}
-use Rattle.o2_regions.specs.declared.answer.Answer.{Answer}
 use Rattle.o2_regions.specs.declared.answer.Roomed.{Roomed}
 use Rattle.o2_regions.specs.declared.held.Held.{Held as HeldThere}
-use Rattle.o2_regions.specs.Maps.{Maps, held_at}
+use Rattle.o2_regions.specs.Maps.{Maps}
 use Rattle.o2_place.specs.declared.seg_id.SegId.{SegId}
 use Rattle.o2_segbus.specs.Seen.{AreNamed}
 use Rattle.o2_store.specs.Shelf.{Shelf, entry}
@@ -12,7 +11,6 @@ use Rattle.o2_store.specs.declared.brought.Brought.{Brought}
 use Rattle.o2_changes.specs.Worlds.{Matches}
 use Rattle.o2_world.specs.World.{World}
 use Rattle.o2_world.specs.Changes.{Change, Resizes, with_all, with_change, with_changes}
-use Rattle.o2_world.specs.Known.{Marks}
 use Rattle.o2_world.specs.Rulings.{Ruling, full_size, grants, is_alias, reallocation, reallocation_of, reallocation_with, refusal}
 use Rattle.o2_stands.specs.Knows.{Others, known_in, marks_under}
 use Rattle.o2_stands.specs.Moves.{moved}

@@ -1,28 +1,26 @@
 -- What the rows come to, by what is held under a selector.
-use Rattle.std.proofs.Common.{◌≡◌, ◌≢◌, ℕ, zero, suc, ◌+◌, ◌-◌, ◌/◌, ◌<◌, ◌≤◌, ◌&&◌, ◌||◌, ◌==◌, Option, Some, None, is_some, IsSome, Bool, true, false, cond, eqb, nat_le, nat_lt, not, filter, option_map, List, [], ◌∷◌, refl, sym, ap, ◌∙◌, subst, arith}
+use Rattle.std.proofs.Common.{◌≡◌, ℕ, zero, suc, ◌-◌, ◌/◌, ◌<◌, ◌≤◌, ◌&&◌, ◌||◌, ◌==◌, Option, Some, None, is_some, Bool, true, false, cond, eqb, nat_le, not, filter, option_map, List, [], ◌∷◌, refl, sym, ap, ◌∙◌, subst, arith}
 use Rattle.std.proofs.lemmas.Bool.{cond-true, cond-false, ne_eqb, eq-eqb}
 use Rattle.std.proofs.lemmas.Bool.Decides.{nat_tests}
 use Rattle.o2_base.specs.Selectors.{selector_of}
-use Rattle.o2_desc.specs.Bits.{is_writable, readable_code, rights_of}
+use Rattle.o2_desc.specs.Bits.{is_writable, readable_code}
 use Rattle.o2_desc.specs.Choice.{chosen}
 use Rattle.o2_isa.specs.declared.cpu.Cpu.{Cpu}
 use Rattle.o2_place.specs.declared.seg_id.SegId.{SegId}
 use Rattle.o2_regions.specs.declared.answer.Answer.{Answer}
-use Rattle.o2_regions.specs.declared.held.Cause.{Cause as CauseThere}
-use Rattle.o2_regions.specs.declared.held.Cause.TheVariants.{Loaded, Called, Alias}
 use Rattle.o2_regions.specs.declared.held.Held.{Held as HeldThere}
 use Rattle.o2_regions.specs.declared.held.Region.{Region}
 use Rattle.o2_regions.specs.declared.held.Region.TheVariants.{Private, Shared}
-use Rattle.o2_regions.specs.Maps.{Maps, IsProcess, held_at, is_taken}
+use Rattle.o2_regions.specs.Maps.{Maps, held_at, is_taken}
 use Rattle.o2_segbus.specs.Seen.{AreNamed}
-use Rattle.o2_store.specs.Shelf.{Shelf, entry, entry_of}
+use Rattle.o2_store.specs.Shelf.{Shelf, entry}
 use Rattle.o2_changes.specs.Holding.{rights_at}
-use Rattle.o2_changes.specs.Worlds.{LosesOne, Matches, MatchesDrop, MatchesHold, held_as}
-use Rattle.o2_world.specs.World.{Held, Process, World, ByLoad, ByCall, ByAlias}
+use Rattle.o2_changes.specs.Worlds.{LosesOne, Matches, MatchesDrop, MatchesHold}
+use Rattle.o2_world.specs.World.{Held, Process, World}
 use Rattle.o2_world.specs.Holders.{process_at}
 use Rattle.o2_world.specs.Known.{Known, Marks}
-use Rattle.o2_world.specs.Changes.{Change, Drops, Holds, with_all, with_change, with_changes}
-use Rattle.o2_world.specs.Rulings.{Ruling, aliasing, aliasing_at, aliasing_of, by_load, free_index, freed_cpu, freeing, freeing_cpu, freeing_of, held_as_code, held_under, in_use, freeing_with, grants, indexes, is_index, is_last, dropped_indexes, refusal, sizing, sizing_of, sizing_with}
+use Rattle.o2_world.specs.Changes.{Change, Drops, with_all, with_changes}
+use Rattle.o2_world.specs.Rulings.{Ruling, aliasing, aliasing_at, aliasing_of, by_load, free_index, freed_cpu, freeing, freeing_cpu, freeing_of, freeing_with, grants, indexes, is_index, is_last, dropped_indexes, refusal, sizing, sizing_of, sizing_with}
 use Rattle.o2_stands.specs.Knows.{Others, known_in, region_by}
 use Rattle.o2_stands.specs.Parts.{Parts, cause_of, held_in, held_of}
 use Rattle.o2_segs.specs.Answers.{Answers, AreAlone, alias_of}
@@ -129,7 +127,7 @@ unfolding held_in
 free_registers p o pid s left c h e there some is =
     ap (λ (r : Ruling). freed_cpu (known_in p o) pid (dropped_indexes r.changes) c) e
     ∙ ap (λ (x : Option HeldThere). let y : Option Held = option_map (held_of p.maps pid (s / 8)) x in
-      record c { ds = cond ((is_index c.ds (s / 8) && is_last y) || false) 0 c.ds; es = cond ((is_index c.es (s / 8) && is_last y) || false) 0 c.es }) there
+    record c { ds = cond ((is_index c.ds (s / 8) && is_last y) || false) 0 c.ds; es = cond ((is_index c.es (s / 8) && is_last y) || false) 0 c.es }) there
     ∙ ap (λ (b : Bool). record c { ds = cond ((is_index c.ds (s / 8) && b) || false) 0 c.ds; es = cond ((is_index c.es (s / 8) && b) || false) 0 c.es }) (left_one h.holds left some is)
     ∙ ap (λ (b : Bool). record c { ds = cond b 0 c.ds; es = cond ((is_index c.es (s / 8) && eqb left 0) || false) 0 c.es }) (or_no (is_index c.ds (s / 8) && eqb left 0))
     ∙ ap (λ (b : Bool). record c { ds = cond (is_index c.ds (s / 8) && eqb left 0) 0 c.ds; es = cond b 0 c.es }) (or_no (is_index c.es (s / 8) && eqb left 0))
@@ -184,7 +182,7 @@ alias_all_matches p o sh m n pid s h w x some es em e t full aliased at q =
     (alias_matches p n pid h.id (chosen (is_taken p.maps (Private pid)) 1 4096 1) w x
     (subst (λ (y : Maps). chosen (is_taken y (Private pid)) 1 4096 1 ≡ None → n ≡ y) (sym em) full)
     (subst (λ (y : Maps). (i : ℕ) → chosen (is_taken y (Private pid)) 1 4096 1 ≡ Some i → MatchesHold p.shelf y n pid i (alias_of h.id) readable_code) (sym em)
-      (subst (λ (z : Shelf). (i : ℕ) → chosen (is_taken m (Private pid)) 1 4096 1 ≡ Some i → MatchesHold z m n pid i (alias_of h.id) readable_code) (sym es) aliased)) at q)
+    (subst (λ (z : Shelf). (i : ℕ) → chosen (is_taken m (Private pid)) 1 4096 1 ≡ Some i → MatchesHold z m n pid i (alias_of h.id) readable_code) (sym es) aliased)) at q)
 
 -- the free of a segment alone, by the maps of a machine
 pub free_refused : (p : Parts) (o : Others) (m : Maps) (pid s : ℕ) (c : Cpu) (h : HeldThere) → AreAlone m → p.maps ≡ m → under m pid s ≡ Some h

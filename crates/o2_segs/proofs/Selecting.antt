@@ -1,16 +1,13 @@
 -- What is held under a selector, as the rows read it.
-use Rattle.std.proofs.Common.{◌≡◌, ℕ, ◌/◌, Option, Some, None, is_some, IsSome, Bool, true, false, cond, eqb, option_map, refl, sym, ap, ◌∙◌, subst}
+use Rattle.std.proofs.Common.{◌≡◌, ℕ, ◌/◌, Option, Some, None, IsSome, Bool, true, false, cond, eqb, option_map, refl, sym, ap, ◌∙◌, subst}
 use Rattle.o2_entries.specs.declared.Entry.{Entry}
 use Rattle.o2_entries.specs.Tables.{slot_at}
 use Rattle.o2_isa.specs.View.{is_local}
 use Rattle.o2_regions.specs.declared.held.Held.{Held as HeldThere}
 use Rattle.o2_regions.specs.Maps.{Maps, held_at}
-use Rattle.o2_segbus.specs.Seen.{AreNamed, key_of}
-use Rattle.o2_store.specs.Needs.{has_age}
+use Rattle.o2_segbus.specs.Seen.{AreNamed}
 use Rattle.o2_store.specs.Shelf.{Shelf, aged, entry, entry_of, entry_or}
-use Rattle.o2_changes.proofs.Keys.{aged_has, has_is, key_has}
-use Rattle.o2_world.specs.World.{Held}
-use Rattle.o2_world.specs.Known.{Known, Marks}
+use Rattle.o2_changes.proofs.Keys.{aged_has, key_has}
 use Rattle.o2_world.specs.Rulings.{held_under}
 use Rattle.o2_stands.specs.Knows.{Others, known_in, marks_under}
 use Rattle.o2_stands.specs.Parts.{Parts, held_in, held_of}

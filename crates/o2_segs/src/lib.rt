@@ -8,7 +8,9 @@ mod reallocating;
 mod sizing;
 
 pub use aliasing::create_cs_alias;
-pub use asking::{ACCESS_DENIED, INVALID_PARAMETER, NOT_ENOUGH_MEMORY, done, held_under, refusal, stop_of};
+pub use asking::{
+    ACCESS_DENIED, INVALID_PARAMETER, NOT_ENOUGH_MEMORY, done, held_under, refusal, stop_of,
+};
 pub use freeing::free_seg;
 pub use reallocating::realloc_seg;
 pub use sizing::size_seg;

@@ -1,8 +1,4 @@
-use Rattle.std.proofs.Common.{ℕ, ◌≡◌, ◌≤◌, ◌/◌, ◌∙◌, Option, Some, None, Bool, true, false, ap, refl, sym, subst}
-use Rattle.o2_desc.specs.Choice.{chosen}
-use Rattle.o2_regions.specs.declared.held.Region.TheVariants.{Private}
-use Rattle.o2_regions.specs.Maps.{Maps, is_taken}
-use Rattle.o2_store.specs.Shelf.{Shelf}
+use Rattle.std.proofs.Common.{true, sym}
 use Rattle.o2_segs.proofs.Rows.{alias_all_answers, alias_all_matches, alias_none, alias_refused, at_maps, at_rights, refusal_answers, refusal_maps}
 use Rattle.o2_segs.proofs.aliasing.create_cs_alias.Goals as goal
 

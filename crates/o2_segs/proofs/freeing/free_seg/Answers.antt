@@ -1,5 +1,4 @@
-use Rattle.std.proofs.Common.{ℕ, ◌≡◌, ◌/◌, ◌∙◌, Option, Some, None, Bool, true, false, ap, refl, sym, subst}
-use Rattle.o2_isa.specs.declared.cpu.Cpu.{Cpu}
+use Rattle.std.proofs.Common.{ℕ, ◌≡◌, ◌/◌, ◌∙◌, Some, ap, sym, subst}
 use Rattle.o2_regions.specs.Maps.{Maps, held_at}
 use Rattle.o2_segs.proofs.Rows.{at_maps, cleared, done_answers, free_done, free_kept, free_matches, free_none, free_refused, free_registers, refusal_answers, refusal_matches}
 use Rattle.o2_segs.proofs.Selecting.{under_held}

@@ -1,4 +1,4 @@
-use Rattle.std.proofs.Common.{Some, ap, refl, sym, ◌∙◌}
+use Rattle.std.proofs.Common.{ap, sym, ◌∙◌}
 use Rattle.o2_stands.specs.Knows.{known_in}
 use Rattle.o2_world.specs.Rulings.{reallocation}
 use Rattle.o2_segs.proofs.Resizing.{keeps, realloc_done, realloc_fixed, realloc_kept, realloc_none, refusal_moved, sized_matches, stopped_matches}

@@ -1,6 +1,4 @@
-use Rattle.std.proofs.Common.{ℕ, ◌/◌, ◌∙◌, ◌≡◌, Option, Some, ap, refl, sym, subst}
-use Rattle.std.specs.Option.{unwrap_or}
-use Rattle.o2_entries.specs.declared.Entry.{Entry}
+use Rattle.std.proofs.Common.{◌/◌, ◌∙◌, ◌≡◌, Some, ap, sym, subst}
 use Rattle.o2_regions.specs.Maps.{Maps, held_at}
 use Rattle.o2_store.specs.Shelf.{Shelf, entry}
 use Rattle.o2_stands.specs.Knows.{known_in}
