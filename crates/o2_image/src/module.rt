@@ -75,7 +75,7 @@ fn names(alloc: Global, file: Bytes, head: &Head) -> Result<Names, Fail<ModuleFa
     ensures exact { Gives exports result (under_ne (exports_of file head.now)) }
     ensures file { IfOk result (λ ns. ns.file ≡ file) }
 {
-    match Names::read(alloc, file, head) {
+    match Names::of_file(alloc, file, head) {
         Ok(names) => Ok(names),
         Err(Fail::NoMemory) => Err(Fail::NoMemory),
         Err(Fail::Bad(fault)) => Err(Fail::Bad(of_ne(fault))),

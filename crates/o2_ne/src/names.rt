@@ -108,9 +108,23 @@ impl Model for Names {
 }
 
 impl Names {
-    /// The names of a file of at most 4,194,304 bytes with this header, or the fault of the first check that fails.
+    /// The names of a file of at most 4,194,304 bytes with this header, or the fault of the first check that fails. The file is
+    /// copied: who owns its bytes calls `of_file`.
+    pub fn read(alloc: Global, file: &[u8], head: &Head) -> Result<Names, Fail<NeFault>>
+        requires small { length file.now ≤ 4194304 }
+        requires inside { head.now.at + 64 ≤ length file.now }
+        ensures exact { Gives exports result (exports_of file.now head.now) }
+        ensures file { IfOk result (λ ns. ns.file ≡ file.now) }
+        ensures stand { IfOk result (λ ns. ExportsStand file.now head.now (exports ns)) }
+    {
+        let kept = Bytes::from_slice(alloc, file)?;
+        Names::of_file(alloc, kept, head)
+    }
+
+    /// The names of a file of at most 4,194,304 bytes with this header, with its bytes, or the fault of the first check that
+    /// fails.
     #[tactic(auto, unfolding(crate::specs::NameTable::exports_of))]
-    pub fn read(alloc: Global, file: Bytes, head: &Head) -> Result<Names, Fail<NeFault>>
+    pub fn of_file(alloc: Global, file: Bytes, head: &Head) -> Result<Names, Fail<NeFault>>
         requires small { length file ≤ 4194304 }
         requires inside { head.now.at + 64 ≤ length file }
         ensures exact { Gives exports result (exports_of file head.now) }

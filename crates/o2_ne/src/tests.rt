@@ -50,7 +50,7 @@ fn names_in(alloc: Global, table: &[u8]) -> Option<Names> {
     let Ok(head) = Head::read(file.as_slice()) else {
         return None;
     };
-    match Names::read(alloc, Bytes::new(file), &head) {
+    match Names::read(alloc, file.as_slice(), &head) {
         Ok(names) => Some(names),
         Err(_) => None,
     }
