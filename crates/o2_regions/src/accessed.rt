@@ -64,7 +64,8 @@ fn new_tables(alloc: Global, processes: u16) -> Result<Vec<Table>, NoMemory>
 // Writes the descriptor of an index where the process's table has one.
 fn set_entry(tables: &mut Vec<Table>, pid: u16, index: u16, d: Descriptor)
     requires { pid < length tables.old.items }
-    ensures { tables.new.items ≡ slice_set tables.old.items pid (slice_set (slice_index_or tables.old.items pid []) index d) }
+    ensures { tables.new.items ≡ slice_set tables.old.items pid
+        (slice_set (slice_index_or tables.old.items pid []) index d) }
 {
     let table = &mut tables[pid as usize];
     if (index as usize) < table.len() {
@@ -86,7 +87,8 @@ fn entry_of(tables: &[Table], pid: u16, index: u16) -> Descriptor
 // Sets the accessed bit of an index where the process's table has one.
 fn mark_entry(tables: &mut Vec<Table>, pid: u16, index: u16)
     requires { pid < length tables.old.items }
-    ensures { tables.new.items ≡ slice_set tables.old.items pid (mark_at (slice_index_or tables.old.items pid []) index) }
+    ensures { tables.new.items ≡ slice_set tables.old.items pid
+        (mark_at (slice_index_or tables.old.items pid []) index) }
 {
     let table = &mut tables[pid as usize];
     if (index as usize) < table.len() {
@@ -97,7 +99,8 @@ fn mark_entry(tables: &mut Vec<Table>, pid: u16, index: u16)
 // Clears the accessed bit of an index where the process's table has one.
 fn unmark_entry(tables: &mut Vec<Table>, pid: u16, index: u16)
     requires { pid < length tables.old.items }
-    ensures { tables.new.items ≡ slice_set tables.old.items pid (unmark_at (slice_index_or tables.old.items pid []) index) }
+    ensures { tables.new.items ≡ slice_set tables.old.items pid
+        (unmark_at (slice_index_or tables.old.items pid []) index) }
 {
     let d = entry_of(tables, pid, index);
     let cleared = Descriptor {
@@ -162,7 +165,8 @@ impl Tables {
         requires pid { pid < length self.old }
         requires few { length self.old ≤ 65536 }
         requires index { index < 8192 }
-        ensures { self.new ≡ slice_set self.old pid (slice_set (slice_index_or self.old pid []) index d) }
+        ensures { self.new ≡ slice_set self.old pid
+            (slice_set (slice_index_or self.old pid []) index d) }
     {
         let was = self.entry(pid, index);
         note(&mut self.listed, pid, index, was.access, d.access);

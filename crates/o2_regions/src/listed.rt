@@ -46,7 +46,8 @@ impl Listed {
         requires few { self.old.count ≤ 256 }
         ensures few { self.new.count ≤ 256 }
         ensures none { result ≡ None → (self.old.count ≡ 0) × (self.new ≡ self.old) }
-        ensures some { IfSome result (λ place. (p : ℕ) → Lists self.old p → (p ≡ place) ⊎ Lists self.new p) }
+        ensures some { IfSome result (λ place. (p : ℕ)
+            → Lists self.old p → (p ≡ place) ⊎ Lists self.new p) }
     {
         if self.count == 0 {
             return None;

@@ -1,5 +1,5 @@
 // Who holds which index, how often, and what its descriptor says.
-ghost use Rattle.std.specs.Prelude.{None, Some, ◌≡◌, ◌⊎◌, Option, ℕ, ◌+◌, ◌*◌, ◌<◌, ◌≤◌, ◌^◌, ◌∷◌, true, false, not, [], length, replicate, IfOk, IfSome, slice_get, slice_index_or, slice_set};
+ghost use Rattle.std.specs.Prelude.{None, Some, ◌≡◌, Option, ℕ, ◌+◌, ◌*◌, ◌<◌, ◌≤◌, ◌^◌, ◌∷◌, true, false, not, [], length, replicate, IfOk, IfSome, slice_get, slice_index_or, slice_set};
 ghost use Rattle.std.specs.Borrow.{sem};
 ghost use Rattle.std.specs.Option.{is_some};
 ghost use Rattle.o2_desc.specs.Bytes.{empty, mark_at};
@@ -369,7 +369,8 @@ impl Regions {
     /// Takes the next index out of the list of those whose accessed bit was set, and clears the bit. A list of fixed size
     /// gets an index as its bit goes from 0 to 1; the work is that of one index.
     pub fn next_used(&mut self) -> Used
-        ensures clears { (o : Option SegIdThere) → segment_in result ≡ Some o → ClearsUse self.old self.new o }
+        ensures clears { (o : Option SegIdThere)
+            → segment_in result ≡ Some o → ClearsUse self.old self.new o }
         ensures stays { segment_in result ≡ None → self.new ≡ self.old }
         ensures clear { result ≡ UsedThere.Clear → NoneAccessed self.old.tables }
     {

@@ -3,7 +3,7 @@ ghost use Rattle.o2_regions.specs.Maps.{IsProcess, IsRegion, is_reserved};
 ghost use Rattle.o2_regions.specs.declared.held.Region.TheVariants.{Shared as SharedThere};
 
 use crate::bits::Bits;
-use crate::{Cause, Ends, Held, Region, Regions};
+use crate::{Cause, Ends, Held, Region, Regions, Used};
 use o2_desc::Descriptor;
 use o2_place::SegId;
 use std::test::Fail;
@@ -311,6 +311,44 @@ fn ended_processes_stay_ended(rt: HostRuntime) -> Result<(), Fail> {
         (65, false),
     ] {
         assert_eq!(rt; ends.is_live(pid), live);
+    }
+    Ok(())
+}
+
+// Sets the accessed bits of the first indexes of process 1.
+fn mark_first(regions: &mut Regions, count: u16) {
+    for index in 0..count {
+        if is_process(regions, 1) && index < 8192 {
+            regions.mark(1, index);
+        }
+    }
+}
+
+// How many accessed bits the list tells, and what it says behind them.
+fn told(regions: &mut Regions) -> (u32, Used) {
+    let mut count = 0u32;
+    for _round in 0..300u32 {
+        match regions.next_used() {
+            Used::Segment(_) => count = count.wrapping_add(1),
+            Used::Free => count = count.wrapping_add(1),
+            Used::Stale => {}
+            end => return (count, end),
+        }
+    }
+    (count, Used::Stale)
+}
+
+#[test]
+fn a_list_tells_256_accessed_bits_once_each(rt: HostRuntime) -> Result<(), Fail> {
+    let mut regions = Regions::new(rt.alloc(), 1)?;
+    for (marked, again, says) in [
+        (3, 2, (3, Used::Clear)),
+        (256, 256, (256, Used::Clear)),
+        (257, 0, (256, Used::More)),
+    ] {
+        mark_first(&mut regions, marked);
+        mark_first(&mut regions, again);
+        assert!(rt; told(&mut regions) == says);
     }
     Ok(())
 }

@@ -34,7 +34,8 @@ fn learn_next(store: &mut Store, regions: &mut Regions) -> Used
 
 // Tells the clock of the segment of a use.
 fn touch_used(store: &mut Store, used: Used)
-    requires live { (id : SegIdThere) → segment_in used ≡ Some (Some id) → IsSome (entry_of store.old id) }
+    requires live { (id : SegIdThere)
+        → segment_in used ≡ Some (Some id) → IsSome (entry_of store.old id) }
     ensures { Touches store.old store.new (segment_in used) }
 {
     match used {
@@ -73,7 +74,8 @@ fn learn_at(store: &mut Store, regions: &mut Regions, pid: u16, index: u16)
     requires index { index < 8192 }
     requires held { IsHeldWell store.old regions.old }
     ensures learned { Learns store.old store.new regions.old regions.new }
-    ensures clear { (h : HeldThere) → held_at regions.old pid index ≡ Some h → is_used_at regions.new pid index ≡ false }
+    ensures clear { (h : HeldThere)
+        → held_at regions.old pid index ≡ Some h → is_used_at regions.new pid index ≡ false }
 {
     store.law();
     let Some(held) = regions.held(pid, index) else {
