@@ -1,0 +1,61 @@
+use Rattle.std.proofs.Common.{◌+◌, Some, ap, min, refl, sym, ◌∙◌}
+use Rattle.o2_desc.specs.Bits.{has_bit}
+use Rattle.o2_entries.specs.declared.Attr.{Attr}
+use Rattle.o2_entries.specs.Tables.{slot_at}
+use Rattle.o2_store.specs.Shelf.{entry, entry_of}
+use Rattle.o2_changes.proofs.Segmenting.{attr_there}
+use Rattle.o2_service.proofs.Among.{live_same}
+use Rattle.o2_store.specs.Pictures.{picture}
+use Rattle.o2_changes.proofs.LocksStand.{locked_clean}
+use Rattle.o2_stands.specs.Moves.{moved}
+use Rattle.o2_world.specs.Rulings.{locking_with}
+use Rattle.o2_segs.proofs.Resizing.{refusal_moved, stopped_matches}
+use Rattle.o2_segs.proofs.Rows.{done_answers, refusal_answers}
+use Rattle.o2_segs.proofs.Stops.{error_none, stop_answers, was_here}
+use Rattle.o2_locks.proofs.Rows.{lock_done, lock_plain, locked_matches}
+use Rattle.o2_locks.proofs.locking.lock.Goals as goal
+
+pub returns-then-not-is_discardable-clause-answer : goal.returns-then-not-is_discardable-clause-answer
+returns-then-not-is_discardable-clause-answer g c = λ m is.
+    (let s = c.args.store.now in
+    let at = attr_there (entry_of s c.args.id) c.in-Some.attr (sym c.in-Some.ensures) c.args.id.age (slot_at s.entries c.args.id.key) refl in
+    refusal_answers _ 5 c.refusal.result (lock_plain c.args.id.age (entry s c.args.id.key).attr m is (ap (λ (a : Attr). has_bit a.flags 2) (sym at) ∙ sym c.if-not-is_discardable.ensures)) c.refusal.ensures)
+
+pub returns-then-not-is_discardable-clause-matches : goal.returns-then-not-is_discardable-clause-matches
+returns-then-not-is_discardable-clause-matches g c = λ m p w is es em ei eb tells q.
+    (let s = c.args.store.now in
+    let at = attr_there (entry_of s c.args.id) c.in-Some.attr (sym c.in-Some.ensures) c.args.id.age (slot_at s.entries c.args.id.key) refl in
+    refusal_moved p s c.args.regions.now _ w _ 5 es em eb (lock_plain c.args.id.age (entry s c.args.id.key).attr m is (ap (λ (a : Attr). has_bit a.flags 2) (sym at) ∙ sym c.if-not-is_discardable.ensures)) q)
+
+pub returns-in-Some-stop_of-clause-answer : goal.returns-in-Some-stop_of-clause-answer
+returns-in-Some-stop_of-clause-answer g c = λ m is.
+    (let s = c.args.store.now in
+    let at = attr_there (entry_of s c.args.id) c.in-Some.attr (sym c.in-Some.ensures) c.args.id.age (slot_at s.entries c.args.id.key) refl in
+    stop_answers _ c.bring_in.result c.in-Some-stop_of.stop (error_none (lock_done c.args.id.age (entry s c.args.id.key).attr m is (ap (λ (a : Attr). has_bit a.flags 2) (sym at) ∙ sym c.if-not-is_discardable.ensures))) c.in-Some-stop_of.ensures)
+
+pub returns-in-Some-stop_of-clause-matches : goal.returns-in-Some-stop_of-clause-matches
+returns-in-Some-stop_of-clause-matches g c = λ m p w is es em ei eb tells q.
+    stopped_matches p w c.bring_in.new.store c.bring_in.new.regions (g.S.SwapDevice.block c.bring_in.new.swap) (locking_with c.args.id.age (Some m)) c.bring_in.result c.in-Some-stop_of.stop c.in-Some-stop_of.ensures (c.bring_in.ensures.matches.world p w es em ei eb tells q)
+
+pub set_lock-requires-clause-live : goal.set_lock-requires-clause-live
+set_lock-requires-clause-live g c = live_same c.args.store.now c.bring_in.new.store c.args.id c.bring_in.ensures.keeps.tables c.requires.live
+
+pub set_lock-requires-clause-present : goal.set_lock-requires-clause-present
+set_lock-requires-clause-present g c = λ l. c.bring_in.ensures.here (was_here c.bring_in.result c.in-None-stop_of.ensures c.bring_in.ensures.never)
+
+pub returns-in-None-stop_of-clause-answer : goal.returns-in-None-stop_of-clause-answer
+returns-in-None-stop_of-clause-answer g c = λ m is.
+    (let s = c.args.store.now in
+    let at = attr_there (entry_of s c.args.id) c.in-Some.attr (sym c.in-Some.ensures) c.args.id.age (slot_at s.entries c.args.id.key) refl in
+    done_answers _ _ 0 c.done.result (lock_done c.args.id.age (entry s c.args.id.key).attr m is (ap (λ (a : Attr). has_bit a.flags 2) (sym at) ∙ sym c.if-not-is_discardable.ensures)) c.done.ensures)
+
+pub returns-in-None-stop_of-clause-matches : goal.returns-in-None-stop_of-clause-matches
+returns-in-None-stop_of-clause-matches g c = λ m p w is es em ei eb tells q.
+    (let s = c.args.store.now in
+    let at = attr_there (entry_of s c.args.id) c.in-Some.attr (sym c.in-Some.ensures) c.args.id.age (slot_at s.entries c.args.id.key) refl in
+    locked_matches p w c.set_lock.new.store c.bring_in.new.regions (g.S.SwapDevice.block c.bring_in.new.swap) c.args.id (min ((entry s c.args.id.key).attr.lock + 1) 255) c.saturating_add.result (locking_with c.args.id.age (Some m)) (lock_done c.args.id.age (entry s c.args.id.key).attr m is (ap (λ (a : Attr). has_bit a.flags 2) (sym at) ∙ sym c.if-not-is_discardable.ensures)) (c.saturating_add.ensures ∙ ap (λ (a : Attr). min (a.lock + 1) 255) at)
+    (c.set_lock.ensures.matches.world (moved p c.bring_in.new.store c.bring_in.new.regions (g.S.SwapDevice.block c.bring_in.new.swap)) w refl refl (c.bring_in.ensures.matches.world p w es em ei eb tells q)))
+
+pub returns-in-None-stop_of-clause-clean : goal.returns-in-None-stop_of-clause-clean
+returns-in-None-stop_of-clause-clean g c =
+    locked_clean c.bring_in.new.store c.set_lock.new.store c.args.id c.saturating_add.result (live_same c.args.store.now c.bring_in.new.store c.args.id c.bring_in.ensures.keeps.tables c.requires.live) c.set_lock.ensures.sets (picture c.args.images.now) c.bring_in.ensures.clean

@@ -1,0 +1,31 @@
+use Rattle.std.proofs.Common.{sym, subst}
+use Rattle.o2_changes.specs.Worlds.{Matches}
+use Rattle.o2_segs.specs.Answers.{AnswersRoomed, changes_roomed}
+use Rattle.o2_segs.proofs.Resizing.{refusal_moved}
+use Rattle.o2_segs.proofs.Rows.{at_maps, refusal_answers}
+use Rattle.o2_segs.proofs.Selecting.{named_in}
+use Rattle.o2_stands.specs.Knows.{marks_under}
+use Rattle.o2_stands.specs.Moves.{moved}
+use Rattle.o2_world.specs.Changes.{with_all}
+use Rattle.o2_world.specs.Rulings.{Ruling}
+use Rattle.o2_locks.proofs.Rows.{lock_none, lock_some, marked}
+use Rattle.o2_locks.proofs.locking.lock_seg.Goals as goal
+
+pub returns-in-Some-clause-answer : goal.returns-in-Some-clause-answer
+returns-in-Some-clause-answer g c = λ p o es em.
+    (let id = c.in-Some.held.id in
+    subst (λ (r : Ruling). AnswersRoomed r c.lock.result) (sym (lock_some p o c.args.pid c.args.sel c.in-Some.held (named_in p c.args.store.now c.args.regions.now es em c.requires.named) (at_maps p c.args.regions.now c.args.pid c.args.sel _ em (sym c.in-Some.ensures))))
+    (c.lock.ensures.answer (marks_under p o id.age id.key) (marked p o c.args.store.now id.age id.key es)))
+
+pub returns-in-Some-clause-matches : goal.returns-in-Some-clause-matches
+returns-in-Some-clause-matches g c = λ p o w es em ei eb tells q.
+    (let id = c.in-Some.held.id in
+    subst (λ (r : Ruling). Matches (moved p c.lock.new.store c.lock.new.regions (g.S.SwapDevice.block c.lock.new.swap)) (with_all w (changes_roomed r c.lock.result))) (sym (lock_some p o c.args.pid c.args.sel c.in-Some.held (named_in p c.args.store.now c.args.regions.now es em c.requires.named) (at_maps p c.args.regions.now c.args.pid c.args.sel _ em (sym c.in-Some.ensures))))
+    (c.lock.ensures.matches (marks_under p o id.age id.key) p w (marked p o c.args.store.now id.age id.key es) es em ei eb tells q))
+
+pub returns-in-None-clause-answer : goal.returns-in-None-clause-answer
+returns-in-None-clause-answer g c = λ p o es em. refusal_answers _ 5 c.refusal.result (lock_none p o c.args.pid c.args.sel (at_maps p c.args.regions.now c.args.pid c.args.sel _ em (sym c.in-None.ensures))) c.refusal.ensures
+
+pub returns-in-None-clause-matches : goal.returns-in-None-clause-matches
+returns-in-None-clause-matches g c = λ p o w es em ei eb tells q.
+    refusal_moved p c.args.store.now c.args.regions.now _ w _ 5 es em eb (lock_none p o c.args.pid c.args.sel (at_maps p c.args.regions.now c.args.pid c.args.sel _ em (sym c.in-None.ensures))) q

@@ -1,0 +1,114 @@
+// DosLockSeg.
+ghost use Rattle.std.specs.Prelude.{◌≡◌, ◌<◌, ◌≤◌, IsTrue, Some, IsSome};
+ghost use Rattle.o2_outer.specs.Texts.{Rose};
+ghost use Rattle.o2_regions.specs.Maps.{IsProcess};
+ghost use Rattle.o2_segbus.specs.Seen.{AreNamed};
+ghost use Rattle.o2_store.specs.Loads.{live_load, swap_load};
+ghost use Rattle.o2_store.specs.Pictures.{picture, HasPicture};
+ghost use Rattle.o2_store.specs.Shelf.{AreClean, HasAll, entry, entry_of};
+ghost use Rattle.o2_swapmap.specs.Piles.{all_of};
+ghost use Rattle.o2_changes.specs.Order.{IsInOrder};
+ghost use Rattle.o2_changes.specs.Worlds.{Matches};
+ghost use Rattle.o2_segs.specs.Answers.{AnswersRoomed, changes_roomed};
+ghost use Rattle.o2_stands.specs.Knows.{Others, known_in};
+ghost use Rattle.o2_stands.specs.Moves.{moved};
+ghost use Rattle.o2_stands.specs.Parts.{Parts};
+ghost use Rattle.o2_world.specs.Changes.{with_all};
+ghost use Rattle.o2_world.specs.Known.{Marks};
+ghost use Rattle.o2_world.specs.Rulings.{locking, locking_with};
+ghost use Rattle.o2_world.specs.World.{World};
+ghost use Rattle.o2_locks.specs.Marked.{IsMarked};
+
+use crate::unlocking::is_discardable;
+use o2_changes::{bring_in, set_lock};
+use o2_image::Images;
+use o2_outer::SwapDevice;
+use o2_place::SegId;
+use o2_regions::{Regions, Roomed};
+use o2_segs::{ACCESS_DENIED, done, held_under, refusal, stop_of};
+use o2_store::Store;
+
+/// DosLockSeg(sel): a discardable segment that the caller holds is locked once more, at most 255 times. Where it isn't locked
+/// yet, it comes into memory first, together with the segments of `keep` and those that are locked. 5 where no such segment is
+/// held. At a stop no segment, no hold and no lock has changed.
+pub fn lock_seg<S: SwapDevice>(
+    store: &mut Store,
+    regions: &mut Regions,
+    pid: u16,
+    sel: u16,
+    keep: &[SegId],
+    images: &Images,
+    swap: &mut S,
+) -> Roomed
+    requires process { IsProcess regions.old pid }
+    requires named { AreNamed store.old regions.old }
+    requires order { IsInOrder store.old regions.old }
+    requires pictures { HasAll (HasPicture images.now) store.old }
+    requires clean { AreClean store.old (picture images.now) }
+    requires device { all_of store.old.swap ≤ S.blocks swap.old }
+
+    ensures answer { (p : Parts) (o : Others) → p.shelf ≡ store.old → p.maps ≡ regions.old
+        → AnswersRoomed (locking (known_in p o) pid sel) result }
+    ensures matches { (p : Parts) (o : Others) (w : World) → p.shelf ≡ store.old → p.maps ≡ regions.old
+        → p.images ≡ images.now → p.block ≡ S.block swap.old → IsTrue (S.told swap.old) → Matches p w
+        → Matches (moved p store.new regions.new (S.block swap.new))
+        (with_all w (changes_roomed (locking (known_in p o) pid sel) result)) }
+    ensures order { IsInOrder store.new regions.new }
+    ensures clean { AreClean store.new (picture images.now) }
+    ensures loads { result ≡ Roomed.SwapFull
+        → (all_of store.old.swap < swap_load store.old)
+        × (store.old.places.size < live_load store.old) }
+    ensures faults { S.faults swap.old ≤ S.faults swap.new }
+    ensures cause { result ≡ Roomed.SwapFault → Rose (S.faults swap.old) (S.faults swap.new) }
+{
+    match held_under(regions, pid, sel) {
+        Some(held) => lock(store, regions, held.id, keep, images, swap),
+        None => Roomed::Done(refusal(ACCESS_DENIED)),
+    }
+}
+
+// A live segment is locked once more, where it may be.
+fn lock<S: SwapDevice>(
+    store: &mut Store,
+    regions: &mut Regions,
+    id: SegId,
+    keep: &[SegId],
+    images: &Images,
+    swap: &mut S,
+) -> Roomed
+    requires live { IsSome (entry_of store.old id) }
+    requires order { IsInOrder store.old regions.old }
+    requires pictures { HasAll (HasPicture images.now) store.old }
+    requires clean { AreClean store.old (picture images.now) }
+    requires device { all_of store.old.swap ≤ S.blocks swap.old }
+
+    ensures answer { (m : Marks) → IsMarked (entry store.old id.key).attr m
+        → AnswersRoomed (locking_with id.age (Some m)) result }
+    ensures matches { (m : Marks) (p : Parts) (w : World) → IsMarked (entry store.old id.key).attr m → p.shelf ≡ store.old
+        → p.maps ≡ regions.old → p.images ≡ images.now → p.block ≡ S.block swap.old → IsTrue (S.told swap.old)
+        → Matches p w → Matches (moved p store.new regions.new (S.block swap.new))
+        (with_all w (changes_roomed (locking_with id.age (Some m)) result)) }
+    ensures order { IsInOrder store.new regions.new }
+    ensures clean { AreClean store.new (picture images.now) }
+    ensures loads { result ≡ Roomed.SwapFull
+        → (all_of store.old.swap < swap_load store.old)
+        × (store.old.places.size < live_load store.old) }
+    ensures faults { S.faults swap.old ≤ S.faults swap.new }
+    ensures cause { result ≡ Roomed.SwapFault → Rose (S.faults swap.old) (S.faults swap.new) }
+{
+    match store.attr(id) {
+        Some(attr) => {
+            if !is_discardable(attr) {
+                return Roomed::Done(refusal(ACCESS_DENIED));
+            }
+            match stop_of(bring_in(store, regions, id, keep, images, swap)) {
+                Some(stop) => stop,
+                None => {
+                    set_lock(store, regions, id, attr.lock.saturating_add(1));
+                    Roomed::Done(done(0))
+                }
+            }
+        }
+        None => Roomed::Done(refusal(ACCESS_DENIED)),
+    }
+}
