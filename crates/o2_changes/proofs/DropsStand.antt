@@ -83,7 +83,7 @@ out_image s t pic block k j e image =
     ∙ ap (λ (x : Entry). cond (nat_lt j x.kept) (source_byte x.image pic t.swap block k j) 0) (sym e)
 
 -- clean segments go on to have the bytes of their images where another segment is removed
-removed_clean : (s t : Shelf) (key : ℕ) (pic : Pictures) → IsShelf s → Removes s t key → AreClean s pic → AreClean t pic
+pub removed_clean : (s t : Shelf) (key : ℕ) (pic : Pictures) → IsShelf s → Removes s t key → AreClean s pic → AreClean t pic
 removed_clean s t key pic shelf r a = record { bytes = λ k at len j clean place l block. go k at len j clean place l block (cases_eq k key) }
   where
     go : (k at len j : ℕ) → (entry t k).attr.clean ≡ true → place_of t k ≡ Some (at, len) → j < (entry t k).size → (block : ℕ → List ℕ) → (k ≡ key) ⊎ (k ≢ key)
@@ -97,7 +97,7 @@ removed_clean s t key pic shelf r a = record { bytes = λ k at len j clean place
         let image = (shelf.each k (shelf.numbered k at len pl)).clean c in
         ap (λ (x : Shelf). get_or x.memory (at + j) 0) r.shelf ∙ a.bytes k at len j c pl ll block ∙ out_image s t pic block k j same image
 
-removed_pictures : (s t : Shelf) (key : ℕ) (has : ℕ → ℕ → Type 0) → Removes s t key → HasAll has s → HasAll has t
+pub removed_pictures : (s t : Shelf) (key : ℕ) (has : ℕ → ℕ → Type 0) → Removes s t key → HasAll has s → HasAll has t
 removed_pictures s t key has r a k x y e = elim (cases_eq k key) [
   | inr n ↦ a k x y (ap (λ (o : Option Entry). (entry_or o).image) (sym (r.entries k n)) ∙ e)
   | inl same ↦ absurd (let z : ◌≡◌ {A = Option (ℕ × ℕ)} None (Some (x, y)) = sym (ap (λ (j : ℕ). (entry t j).image) same ∙ ap (λ (o : Option Entry). (entry_or o).image) (removed_none s t key r)) ∙ e in cc)

@@ -1,6 +1,6 @@
 -- What a machine matches behind a new segment.
-use Rattle.std.proofs.Common.{◌≡◌, ◌≢◌, ℕ, ◌+◌, ◌<◌, ◌≤◌, ◌⊎◌, inl, inr, List, length, Option, Some, None, is_some, Bool, true, false, cond, eqb, nat_lt, get_or, refl, sym, ap, ◌∙◌, subst, arith}
-use Rattle.std.proofs.lemmas.Bool.{cases_eq, cases_lt, cond-true, cond-false, eq-eqb, ne_eqb}
+use Rattle.std.proofs.Common.{◌≡◌, ◌≢◌, ℕ, ◌+◌, ◌<◌, ◌≤◌, ◌⊎◌, inl, inr, List, length, Option, Some, None, is_some, IsSome, Bool, true, false, cond, eqb, nat_lt, option_map, get_or, refl, sym, ap, ◌∙◌, subst, arith}
+use Rattle.std.proofs.lemmas.Bool.{and_parts, cases_eq, cases_lt, cond-true, cond-false, eq-eqb, eqb-true, ne_eqb}
 use Rattle.std.proofs.lemmas.List.{length-set}
 use Rattle.o2_entries.specs.declared.Entry.{Entry}
 use Rattle.o2_entries.specs.Tables.{slot_at}
@@ -10,18 +10,27 @@ use Rattle.o2_segbus.specs.Seen.{key_of}
 use Rattle.o2_segbus.proofs.Ages.{aged_key, ages_added, named_by_age}
 use Rattle.o2_store.specs.Needs.{has_age}
 use Rattle.o2_store.specs.Pictures.{picture, HasPicture}
-use Rattle.o2_store.specs.Shelf.{Shelf, Adds, AreClean, HasAll, IsShelf, Pictures, byte_at, entry, entry_or, out_byte, place_of, source_byte}
+use Rattle.o2_store.specs.Shelf.{Shelf, Adds, AreClean, HasAll, IsShelf, Pictures, byte_at, entry, entry_of, entry_or, out_byte, place_of, source_byte}
 use Rattle.o2_store.proofs.Tables.{slot-past, slot-set_other, slot-set_same}
 use Rattle.o2_swapmap.specs.Piles.{Blocks, all_of}
 use Rattle.o2_world.specs.Map.{Map, get, put}
 use Rattle.o2_world.specs.World.{Segment, World}
-use Rattle.o2_world.specs.Changes.{Makes, with_change}
+use Rattle.o2_world.specs.Changes.{Locks, Makes, with_change}
 use Rattle.o2_world.proofs.Reached.{get-put}
 use Rattle.o2_stands.specs.Parts.{Parts}
 use Rattle.o2_stands.specs.Stands.{IsNamed, IsSegment}
 use Rattle.o2_changes.specs.Order.{IsInOrder}
 use Rattle.o2_changes.specs.Worlds.{Matches}
-use Rattle.o2_changes.proofs.Keys.{has_is, key_has, same_key}
+use Rattle.o2_regions.specs.declared.held.Held.{Held}
+use Rattle.o2_regions.specs.Maps.{Maps, held_at, is_of}
+use Rattle.o2_segbus.proofs.Ages.{ages_removed}
+use Rattle.o2_service.proofs.Amounts.{slot_some}
+use Rattle.o2_store.specs.Shelf.{Removes}
+use Rattle.o2_changes.specs.Holding.{IsUnheld}
+use Rattle.o2_changes.proofs.DropsStand.{removed_clean, removed_pictures}
+use Rattle.o2_changes.proofs.Freeing.{keys_apart}
+use Rattle.o2_changes.proofs.Keys.{has_is, key_has, live_key, other_key, removed_other, removed_own, same_key}
+use Rattle.o2_changes.proofs.Named.{named_by}
 
 module _ (s t : Shelf) (id : SegId) (e : Entry) (shelf : IsShelf s) (a : Adds s t id e) (age : e.age ≡ s.made) where
   slot_own : slot_at t.entries id.key ≡ Some e
@@ -75,6 +84,25 @@ module _ (s t : Shelf) (id : SegId) (e : Entry) (shelf : IsShelf s) (a : Adds s 
       ap (λ (x : Entry). cond (nat_lt j x.kept) (source_byte x.image pic t.swap block k j) 0) (entry_other k n)
       ∙ ap (λ (m : Blocks). cond (nat_lt j (entry s k).kept) (source_byte (entry s k).image pic m block k j) 0) (ap (λ (x : Shelf). x.swap) a.shelf)
 
+  pub made_clean : (pic : Pictures) → AreClean s pic → AreClean t pic
+  made_clean pic was = record { bytes = λ k at len j clean place low block. go k at len j clean place low block (cases_eq k id.key) }
+    where
+      go : (k at len j : ℕ) → (entry t k).attr.clean ≡ true → place_of t k ≡ Some (at, len) → j < (entry t k).size → (block : ℕ → List ℕ) → (k ≡ id.key) ⊎ (k ≢ id.key)
+          → get_or t.memory (at + j) 0 ≡ out_byte t pic block k j
+      go k at len j clean place low block (inl same) =
+          absurd (let z : ◌≡◌ {A = Option (ℕ × ℕ)} None (Some (at, len)) = sym (ap (place_of t) same ∙ place_same id.key ∙ (shelf.each id.key a.within).dead a.vacant) ∙ place in cc)
+      go k at len j clean place low block (inr n) =
+          let f = entry_other k n in
+          ap (λ (x : Shelf). get_or x.memory (at + j) 0) a.shelf
+          ∙ was.bytes k at len j (ap (λ (x : Entry). x.attr.clean) (sym f) ∙ clean) (sym (place_same k) ∙ place) (subst (λ (x : Entry). j < x.size) f low) block
+          ∙ sym (out_other pic block k j n)
+
+  pub made_pictures : (has : ℕ → ℕ → Type 0) → e.image ≡ None → HasAll has s → HasAll has t
+  made_pictures has none was k x y f = elim (cases_eq k id.key) [
+    | inr n ↦ was k x y (ap (λ (z : Entry). z.image) (sym (entry_other k n)) ∙ f)
+    | inl same ↦ absurd (let z : ◌≡◌ {A = Option (ℕ × ℕ)} None (Some (x, y)) = sym (ap (λ (j : ℕ). (entry t j).image) same ∙ ap (λ (o : Option Entry). (entry_or o).image) slot_own ∙ none) ∙ f in cc)
+  ]
+
 -- a machine whose world has the same names under all numbers
 pub same_names : (p : Parts) (w : World) (names : Map Segment) → ((q : ℕ) → get names q ≡ get w.names q) → Matches p w → Matches p (record w { names = names })
 same_names p w names same m = record {
@@ -117,25 +145,6 @@ module _ (p : Parts) (w : World) (t : Shelf) (id : SegId) (e : Entry) (sg : Segm
         (subst (λ (x : Option Segment). IsNamed (record p { shelf = t }) (key_of p.shelf q) x) (sym g) (named_other q (key_of p.shelf q) (get w.names q) refl (stands.segments q))))
   ]
 
-  clean_now : AreClean t (picture p.images)
-  clean_now = record { bytes = λ k at len j clean place low block. go k at len j clean place low block (cases_eq k id.key) }
-    where
-      go : (k at len j : ℕ) → (entry t k).attr.clean ≡ true → place_of t k ≡ Some (at, len) → j < (entry t k).size → (block : ℕ → List ℕ) → (k ≡ id.key) ⊎ (k ≢ id.key)
-          → get_or t.memory (at + j) 0 ≡ out_byte t (picture p.images) block k j
-      go k at len j clean place low block (inl same) =
-          absurd (let z : ◌≡◌ {A = Option (ℕ × ℕ)} None (Some (at, len)) = sym (ap (place_of t) same ∙ place_same p.shelf t id e shelf a age id.key ∙ (shelf.each id.key a.within).dead a.vacant) ∙ place in cc)
-      go k at len j clean place low block (inr n) =
-          let f = entry_other p.shelf t id e shelf a age k n in
-          ap (λ (x : Shelf). get_or x.memory (at + j) 0) a.shelf
-          ∙ stands.ready.clean.bytes k at len j (ap (λ (x : Entry). x.attr.clean) (sym f) ∙ clean) (sym (place_same p.shelf t id e shelf a age k) ∙ place) (subst (λ (x : Entry). j < x.size) f low) block
-          ∙ sym (out_other p.shelf t id e shelf a age (picture p.images) block k j n)
-
-  pictures_now : e.image ≡ None → HasAll (HasPicture p.images) t
-  pictures_now none k x y f = elim (cases_eq k id.key) [
-    | inr n ↦ stands.ready.pictures k x y (ap (λ (z : Entry). z.image) (sym (entry_other p.shelf t id e shelf a age k n)) ∙ f)
-    | inl same ↦ absurd (let z : ◌≡◌ {A = Option (ℕ × ℕ)} None (Some (x, y)) = sym (ap (λ (j : ℕ). (entry t j).image) same ∙ ap (λ (o : Option Entry). (entry_or o).image) (slot_own p.shelf t id e shelf a age) ∙ none) ∙ f in cc)
-  ]
-
   pub makes_match : e.image ≡ None → IsInOrder t p.maps → IsSegment (record p { shelf = t }) id.key sg → Matches (record p { shelf = t }) (with_change w (Makes sg))
   makes_match none order here = record {
     ready = record {
@@ -146,8 +155,8 @@ module _ (p : Parts) (w : World) (t : Shelf) (id : SegId) (e : Entry) (sg : Segm
       guarded = λ q j h f writable.
           ap (λ (x : Entry). x.attr.clean) (entry_other p.shelf t id e shelf a age h.id.key (not_new p.shelf t id e shelf a age h.id.age h.id.key (stands.ready.named q j h f)))
           ∙ stands.ready.guarded q j h f writable;
-      clean = clean_now;
-      pictures = pictures_now none;
+      clean = made_clean p.shelf t id e shelf a age (picture p.images) stands.ready.clean;
+      pictures = made_pictures p.shelf t id e shelf a age (HasPicture p.images) none stands.ready.pictures;
       device = subst (λ (m : Blocks). all_of m ≤ p.device) (sym (ap (λ (x : Shelf). x.swap) a.shelf)) stands.ready.device;
     };
     segments = segments_now here;
@@ -156,3 +165,88 @@ module _ (p : Parts) (w : World) (t : Shelf) (id : SegId) (e : Entry) (sg : Segm
     held = stands.held;
     taken = stands.taken;
   }
+
+-- A segment that nobody holds goes again.
+
+key_made : (t : Shelf) (n q : ℕ) → key_of (record t { made = n }) q ≡ key_of t q
+unfolding key_of
+key_made t n q = refl
+
+-- what was held before a segment was made isn't it
+pub new_unheld : (s t : Shelf) (m : Maps) (id : SegId) (e : Entry) → Adds s t id e → IsInOrder s m → IsUnheld m id
+new_unheld s t m id e a o pid i = go (held_at m pid i) refl
+  where
+    go : (x : Option Held) → held_at m pid i ≡ x → is_of id x ≡ false
+    go None f = refl
+    go (Some h) f = pick (is_of id (Some h)) refl
+      where
+        pick : (b : Bool) → is_of id (Some h) ≡ b → b ≡ false
+        pick false g = refl
+        pick true g =
+            let k : h.id.key ≡ id.key = eqb-true h.id.key id.key (and_parts (eqb h.id.key id.key) (eqb h.id.age id.age) g).0 in
+            let l = slot_some h.id.age (slot_at s.entries h.id.key) (o.held.live pid i h f) in
+            let z : false ≡ true = sym (ap is_some (ap (slot_at s.entries) k ∙ a.vacant)) ∙ l in
+            absurd (cc)
+
+module _ (p : Parts) (w : World) (sg : Segment) (t : Shelf) (id : SegId) (shelf : IsShelf p.shelf) (live : IsSome (entry_of p.shelf id)) (r : Removes p.shelf t id.key) (none : IsUnheld p.maps id) (age : id.age ≡ w.next_name) (absent : get w.names w.next_name ≡ None)
+    (stands : Matches p (with_change w (Makes sg))) where
+  segments_then : (q : ℕ) → IsNamed (record p { shelf = record t { made = w.next_name } }) (key_of (record t { made = w.next_name }) q) (get w.names q)
+  segments_then q = subst (λ (o : Option ℕ). IsNamed (record p { shelf = record t { made = w.next_name } }) o (get w.names q)) (sym (key_made t w.next_name q)) (elim (cases_eq q w.next_name) [
+    | inl f ↦
+        (let k : key_of t q ≡ None = ap (key_of t) (f ∙ sym age) ∙ removed_own p.shelf t id stands.ready.aged live r in
+        subst (λ (o : Option ℕ). IsNamed (record p { shelf = record t { made = w.next_name } }) o (get w.names q)) (sym k)
+        (subst (λ (g : Option Segment). IsNamed (record p { shelf = record t { made = w.next_name } }) None g) (sym (ap (get w.names) f ∙ absent)) tt))
+    | inr n ↦
+        (let other : q ≢ id.age = λ z. n (z ∙ age) in
+        let g : get (put w.next_name (Some sg) w.names) q ≡ get w.names q = get-put w.next_name q (Some sg) w.names ∙ cond-false (eqb w.next_name q) (Some sg) (get w.names q) (ne_eqb w.next_name q (λ z. n (sym z))) in
+        named_by p (record t { made = w.next_name }) p.maps (key_of p.shelf q) (key_of t q) (get w.names q) (removed_other p.shelf t id q live r other)
+        (λ c f. ap entry_or (r.entries c (other_key p.shelf id q c live other f)))
+        (λ c f j. r.bytes (picture p.images) p.block c j (other_key p.shelf id q c live other f))
+        (subst (λ (x : Option Segment). IsNamed p (key_of p.shelf q) x) g (stands.segments q)))
+  ])
+
+  pub unmade_match : IsInOrder t p.maps → all_of t.swap ≡ all_of p.shelf.swap → Matches (record p { shelf = record t { made = w.next_name } }) w
+  unmade_match order map = record {
+    ready = record {
+      aged = ages_removed p.shelf t id.key r stands.ready.aged;
+      named = named_by_age (record t { made = w.next_name }) p.maps (ages_removed p.shelf t id.key r stands.ready.aged) order.held.live;
+      held = record { live = order.held.live; inside = order.held.inside };
+      settled = order.settled;
+      guarded = λ q j h e writable.
+          ap (λ (x : Entry). x.attr.clean) (ap entry_or (r.entries h.id.key (keys_apart p.shelf id h live (stands.ready.held.live q j h e) (sym (ap (is_of id) e) ∙ none q j)))) ∙ stands.ready.guarded q j h e writable;
+      clean = (let a = removed_clean p.shelf t id.key (picture p.images) shelf r stands.ready.clean in record { bytes = a.bytes });
+      pictures = removed_pictures p.shelf t id.key (HasPicture p.images) r stands.ready.pictures;
+      device = (let d = stands.ready.device in omega (arith, map, d));
+    };
+    segments = segments_then;
+    next = refl;
+    processes = stands.processes;
+    held = stands.held;
+    taken = stands.taken;
+  }
+
+-- What a new segment is in a world.
+
+pub new_plain : (p : Parts) (w : World) (sg : Segment) (id : SegId) → Matches p (with_change w (Makes sg)) → IsSome (entry_of p.shelf id) → id.age ≡ w.next_name → sg.clean ≡ false → (entry p.shelf id.key).attr.clean ≡ false
+new_plain p w sg id q live age plain =
+    let k : key_of p.shelf id.age ≡ Some id.key = live_key p.shelf id q.ready.aged live in
+    let g : get (put w.next_name (Some sg) w.names) id.age ≡ Some sg = get-put w.next_name id.age (Some sg) w.names ∙ cond-true (eqb w.next_name id.age) (Some sg) (get w.names id.age) (eq-eqb w.next_name id.age (sym age)) in
+    let is : IsNamed p (Some id.key) (Some sg) = subst (λ (o : Option ℕ). IsNamed p o (Some sg)) k (subst (λ (x : Option Segment). IsNamed p (key_of p.shelf id.age) x) g (q.segments id.age)) in
+    sym is.clean ∙ plain
+
+pub new_locked : (p : Parts) (w : World) (sg : Segment) → Matches p (with_change (with_change w (Makes sg)) (Locks w.next_name 1)) → Matches p (with_change w (Makes (record sg { lock = 1 })))
+new_locked p w sg m = same_names p (with_change (with_change w (Makes sg)) (Locks w.next_name 1)) (put w.next_name (Some (record sg { lock = 1 })) w.names) all m
+  where
+    all : (q : ℕ) → get (put w.next_name (Some (record sg { lock = 1 })) w.names) q ≡ get (put w.next_name (option_map (λ (s : Segment). record s { lock = 1 }) (get (put w.next_name (Some sg) w.names) w.next_name)) (put w.next_name (Some sg) w.names)) q
+    all q =
+        let n = w.next_name in
+        let own : get (put n (Some sg) w.names) n ≡ Some sg = get-put n n (Some sg) w.names ∙ cond-true (eqb n n) (Some sg) (get w.names n) (eq-eqb n n refl) in
+        get-put n q (Some (record sg { lock = 1 })) w.names
+        ∙ collapse (eqb n q)
+        ∙ sym (get-put n q (option_map (λ (s : Segment). record s { lock = 1 }) (get (put n (Some sg) w.names) n)) (put n (Some sg) w.names)
+        ∙ ap (λ (x : Option Segment). cond (eqb n q) (option_map (λ (s : Segment). record s { lock = 1 }) x) (get (put n (Some sg) w.names) q)) own
+        ∙ ap (cond (eqb n q) (Some (record sg { lock = 1 }))) (get-put n q (Some sg) w.names))
+      where
+        collapse : (b : Bool) → cond b (Some (record sg { lock = 1 })) (get w.names q) ≡ cond b (Some (record sg { lock = 1 })) (cond b (Some sg) (get w.names q))
+        collapse true = refl
+        collapse false = refl

@@ -30,7 +30,13 @@ use Rattle.o2_changes.specs.Worlds.{LosesOne, Matches, MatchesMake, held_as, new
 use Rattle.o2_changes.proofs.DropsStand.{drops_stand}
 use Rattle.o2_changes.proofs.HoldsStand.{holds_stand, region_same}
 use Rattle.o2_changes.proofs.LocksStand.{locks_match}
-use Rattle.o2_changes.proofs.MakesStand.{makes_match}
+use Rattle.o2_changes.proofs.MakesStand.{made_clean, made_pictures, makes_match, new_unheld, unmade_match}
+use Rattle.o2_world.specs.Map.{get}
+use Rattle.o2_world.specs.World.{Segment}
+use Rattle.o2_store.specs.Shelf.{HasAll, Removes, aged}
+use Rattle.std.specs.Option.{IfNone}
+use Rattle.o2_changes.specs.Holding.{IsUnheld}
+use Rattle.std.proofs.lemmas.Bool.{cond-true, eq-eqb}
 use Rattle.o2_changes.proofs.MovesMatch.{moves_match}
 use Rattle.o2_changes.proofs.SizesMatch.{sizes_match}
 use Rattle.o2_store.specs.Sizes.{Resizes}
@@ -116,3 +122,28 @@ size_matches s t m n images told before after id size live r only clean order al
     sizes_match p w t n after told id size tells
     (subst (λ (i : ImageList). Resizes told (picture i) p.shelf p.block t after id.key size) (sym ei) (subst (λ (x : Shelf). Resizes told (picture images) x p.block t after id.key size) (sym es) (subst (λ (b : ℕ → List ℕ). Resizes told (picture images) s b t after id.key size) (sym eb) r)))
     (subst (λ (x : Maps). OnlyTables x n) (sym em) only) (subst (λ (x : Shelf). IsSome (entry_of x id)) (sym es) live) q (subst (λ (i : ImageList). AreClean t (picture i)) (sym ei) clean) order (all ∙ ap (λ (x : Shelf). all_of x.swap) (sym es))
+
+pub unmake_matches : (s t : Shelf) (m : Maps) (id : SegId) → IsShelf s → IsSome (entry_of s id) → IsUnheld m id → Removes s t id.key → IsInOrder t m → all_of t.swap ≡ all_of s.swap
+    → (p : Parts) (w : World) (sg : Segment) → p.shelf ≡ s → p.maps ≡ m → id.age ≡ w.next_name → get w.names w.next_name ≡ None
+    → Matches p (with_change w (Makes sg)) → Matches (record p { shelf = record t { made = w.next_name } }) w
+unmake_matches s t m id shelf live none r order map p w sg es em age absent q =
+    unmade_match p w sg t id (subst IsShelf (sym es) shelf) (subst (λ (x : Shelf). IsSome (entry_of x id)) (sym es) live) (subst (λ (x : Shelf). Removes x t id.key) (sym es) r) (subst (λ (x : Maps). IsUnheld x id) (sym em) none) age absent q
+    (subst (IsInOrder t) (sym em) order) (map ∙ ap (λ (x : Shelf). all_of x.swap) (sym es))
+
+pub some_unheld : (s t : Shelf) (m : Maps) (o : Option SegId) (e : Entry) → IfSome o (λ id. Adds s t id e) → IsInOrder s m → IfSome o (λ id. IsUnheld m id)
+some_unheld s t m None e adds order = tt
+some_unheld s t m (Some id) e adds order = new_unheld s t m id e adds order
+
+pub some_live : (s t : Shelf) (o : Option SegId) (e : Entry) → e.age ≡ s.made → IfSome o (λ id. Adds s t id e) → IfSome o (λ id. IsSome (entry_of t id))
+some_live s t None e age adds = tt
+some_live s t (Some id) e age adds =
+    let slot : slot_at t.entries id.key ≡ Some e = ap (λ (x : Shelf). slot_at x.entries id.key) adds.shelf ∙ slot-set_same s.entries id.key (Some e) adds.within in
+    ap is_some (ap (aged id.age) slot ∙ cond-true (eqb e.age id.age) (Some e) None (eq-eqb e.age id.age (age ∙ sym adds.age)))
+
+pub some_clean : (s t : Shelf) (o : Option SegId) (e : Entry) (X : Type 0) → IsShelf s → e.age ≡ s.made → IfNone o (X × (t ≡ s)) → IfSome o (λ id. Adds s t id e) → (pic : Pictures) → AreClean s pic → AreClean t pic
+some_clean s t None e X shelf age none adds pic a = subst (λ (x : Shelf). AreClean x pic) (sym none.1) a
+some_clean s t (Some id) e X shelf age none adds pic a = made_clean s t id e shelf adds age pic a
+
+pub some_pictures : (s t : Shelf) (o : Option SegId) (e : Entry) (X : Type 0) → IsShelf s → e.age ≡ s.made → e.image ≡ None → IfNone o (X × (t ≡ s)) → IfSome o (λ id. Adds s t id e) → (has : ℕ → ℕ → Type 0) → HasAll has s → HasAll has t
+some_pictures s t None e X shelf age blank none adds has a = subst (λ (x : Shelf). HasAll has x) (sym none.1) a
+some_pictures s t (Some id) e X shelf age blank none adds has a = made_pictures s t id e shelf adds age has blank a

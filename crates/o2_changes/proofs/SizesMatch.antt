@@ -1,6 +1,6 @@
 -- What a machine matches behind a segment's new size.
 use Rattle.std.specs.Prelude.{IsTrue}
-use Rattle.std.proofs.Common.{◌≡◌, ◌≢◌, ℕ, ◌+◌, ◌-◌, ◌<◌, ◌≤◌, ◌++◌, inl, inr, List, length, take, Option, Some, None, is_some, IsSome, Bool, true, false, cond, eqb, option_map, get_or, refl, sym, ap, ◌∙◌, subst, arith, length-append}
+use Rattle.std.proofs.Common.{◌≡◌, ◌≢◌, ℕ, ◌-◌, ◌<◌, ◌≤◌, inl, inr, List, length, take, Option, Some, None, is_some, IsSome, Bool, true, cond, eqb, option_map, get_or, refl, sym, ap, ◌∙◌, subst, arith, length-append}
 use Rattle.std.specs.Prelude.{replicate}
 use Rattle.std.proofs.lemmas.Bool.{cases_eq, cases_lt, cond-true, cond-false, eq-eqb, ne_eqb}
 use Rattle.std.proofs.lemmas.List.{get_or-append_right, get_or_append_left, get_or-take, length-replicate, length-take}
@@ -17,9 +17,9 @@ use Rattle.o2_segbus.specs.Seen.{key_of}
 use Rattle.o2_segbus.proofs.Ages.{named_by_age}
 use Rattle.o2_service.specs.Told.{OnlyTables}
 use Rattle.o2_store.specs.Needs.{has_age}
-use Rattle.o2_store.specs.Pictures.{picture, HasPicture}
-use Rattle.o2_store.specs.Shelf.{Shelf, AreClean, SameEntry, entry, entry_of, entry_or}
-use Rattle.o2_store.specs.Sizes.{GetsSize, Resizes}
+use Rattle.o2_store.specs.Pictures.{picture}
+use Rattle.o2_store.specs.Shelf.{Shelf, AreClean, entry, entry_of, entry_or}
+use Rattle.o2_store.specs.Sizes.{Resizes}
 use Rattle.o2_swapmap.specs.Piles.{all_of}
 use Rattle.o2_world.specs.Map.{get, put}
 use Rattle.o2_world.specs.World.{Segment, World}

@@ -1,5 +1,5 @@
 -- When a machine over a store matches a world by look-ups: all of what it stands for, but for what is true of the world alone.
-use Rattle.std.specs.Prelude.{◌≡◌, ℕ, Bool, true, false, IsTrue, List, [], ◌∷◌, Some, is_some, option_map, replicate}
+use Rattle.std.specs.Prelude.{◌≡◌, ℕ, Bool, true, false, IsTrue, List, [], ◌∷◌, Some, None, is_some, option_map, replicate}
 use Rattle.std.specs.List.{list_any}
 use Rattle.o2_desc.specs.Bits.{is_writable, rights_of}
 use Rattle.o2_image.specs.ImageList.{ImageList}
@@ -71,3 +71,8 @@ pub record MatchesMake (s t : Shelf) (m : Maps) (segment : Segment) : Type 0 whe
 pub record MatchesSize (s t : Shelf) (old new : Maps) (images : ImageList) (told : Bool) (before after : ℕ → List ℕ) (id : SegId) (size : ℕ) : Type 0 where
   pub world : (p : Parts) (w : World) → p.shelf ≡ s → p.maps ≡ old → p.images ≡ images → p.block ≡ before → IsTrue told
       → Matches p w → Matches (moved p t new after) (with_change w (Resizes id.age size))
+
+-- the store matches a world again without the segment that was made last, as if none had been made
+pub record MatchesUnmake (s t : Shelf) (m : Maps) (id : SegId) : Type 0 where
+  pub world : (p : Parts) (w : World) (segment : Segment) → p.shelf ≡ s → p.maps ≡ m → id.age ≡ w.next_name → get w.names w.next_name ≡ None
+      → Matches p (with_change w (Makes segment)) → Matches (record p { shelf = record t { made = w.next_name } }) w

@@ -7,4 +7,4 @@ mod segments;
 
 pub use dropping::{drop_hold, free_index, is_unheld, let_go, sweep};
 pub use holding::{hold_more, hold_new, region_of};
-pub use segments::{bring_in, make, resize, set_lock};
+pub use segments::{bring_in, make, resize, set_lock, unmake};

@@ -2,17 +2,19 @@
 ghost use Rattle.std.specs.Prelude.{◌≡◌, ◌⊎◌, ℕ, List, ◌+◌, ◌-◌, ◌<◌, ◌≤◌, ◌^◌, length, IsSome, IfSome, None, true, false, nat_lt};
 ghost use Rattle.std.specs.Option.{IfNone};
 ghost use Rattle.o2_entries.specs.Tables.{live_numbers};
+ghost use Rattle.o2_image.specs.ImageList.{ImageList};
 ghost use Rattle.o2_outer.specs.Texts.{Rose};
 ghost use Rattle.o2_service.specs.Told.{OnlyTables};
 ghost use Rattle.o2_store.specs.Loads.{live_load, live_load_at, swap_load};
 ghost use Rattle.o2_store.specs.Needs.{all_wanted, named_in};
 ghost use Rattle.o2_store.specs.Pictures.{picture, HasPicture};
-ghost use Rattle.o2_store.specs.Shelf.{AreClean, Adds, HasAll, KeepsAll, Pictures, byte_at, entry, entry_of, place_of};
+ghost use Rattle.o2_store.specs.Shelf.{AreClean, Adds, HasAll, KeepsAll, Pictures, Removes, byte_at, entry, entry_of, place_of};
 ghost use Rattle.o2_store.specs.Sizes.{Resizes, all_wanted_at, stays};
 ghost use Rattle.o2_swapmap.specs.Piles.{all_of};
+ghost use Rattle.o2_changes.specs.Holding.{IsUnheld};
 ghost use Rattle.o2_changes.specs.Order.{IsInOrder};
 ghost use Rattle.o2_changes.specs.Segments.{SetsLock};
-ghost use Rattle.o2_changes.specs.Worlds.{MatchesLock, MatchesMake, MatchesMove, MatchesSize, new_segment};
+ghost use Rattle.o2_changes.specs.Worlds.{MatchesLock, MatchesMake, MatchesMove, MatchesSize, MatchesUnmake, new_segment};
 
 use o2_image::Images;
 use o2_outer::SwapDevice;
@@ -38,7 +40,11 @@ pub fn make(
     ensures added { IfSome result (λ id. Adds store.old store.new id (record { age = store.old.made; size = size; kept = 0; image = None; attr = record { flags = flags; lock = 0; clean = false; shared = shared } })) }
     ensures zeros { IfSome result (λ id. (pic : Pictures) (block : ℕ → List ℕ) (j : ℕ)
         → byte_at store.new pic block id.key j ≡ 0) }
+    ensures clean { (pic : Pictures) → AreClean store.old pic → AreClean store.new pic }
+    ensures pictures { (images : ImageList) → HasAll (HasPicture images) store.old → HasAll (HasPicture images) store.new }
     ensures order { IsInOrder store.new regions.now }
+    ensures unheld { IfSome result (λ id. IsUnheld regions.now id) }
+    ensures live { IfSome result (λ id. IsSome (entry_of store.new id)) }
     ensures matches { IfSome result (λ id. MatchesMake store.old store.new regions.now (new_segment size flags shared)) }
 {
     store.law();
@@ -51,6 +57,22 @@ pub fn make(
             shared,
         },
     )
+}
+
+/// Removes a live segment that nobody holds, with its range and its blocks.
+pub fn unmake(store: &mut Store, regions: &Regions, id: SegId)
+    requires live { IsSome (entry_of store.old id) }
+    requires unheld { IsUnheld regions.now id }
+    requires order { IsInOrder store.old regions.now }
+
+    ensures removed { Removes store.old store.new id.key }
+    ensures map { all_of store.new.swap ≡ all_of store.old.swap }
+    ensures clean { (pic : Pictures) → AreClean store.old pic → AreClean store.new pic }
+    ensures order { IsInOrder store.new regions.now }
+    ensures matches { MatchesUnmake store.old store.new regions.now id }
+{
+    store.law();
+    store.remove(id);
 }
 
 /// Sets how often a live segment is locked. One that gets a lock is in memory.
