@@ -2,3 +2,4 @@ pub mod Selecting
 pub mod Rows
 pub mod Stops
 pub mod Resizing
+pub mod Making

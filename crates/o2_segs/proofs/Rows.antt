@@ -50,7 +50,7 @@ region_own : (pid : ℕ) → 1 ≤ pid → region_by pid ≡ Private pid
 region_own zero l = absurd (omega arith)
 region_own (suc n) l = refl
 
-own_index : (p : Parts) (o : Others) (pid : ℕ) → 1 ≤ pid → free_index (known_in p o) pid ≡ chosen (is_taken p.maps (Private pid)) 1 4096 1
+pub own_index : (p : Parts) (o : Others) (pid : ℕ) → 1 ≤ pid → free_index (known_in p o) pid ≡ chosen (is_taken p.maps (Private pid)) 1 4096 1
 own_index p o pid l =
     cond-false (eqb pid 0) (chosen (λ i. is_taken p.maps Shared i) 4096 8192 1) (chosen (λ i. is_taken p.maps (region_by pid) i) 1 4096 1) (ne_eqb pid 0 (omega arith))
     ∙ ap (λ (g : Region). chosen (is_taken p.maps g) 1 4096 1) (region_own pid l)

@@ -2,12 +2,14 @@
 #![tactic(auto)]
 
 mod aliasing;
+mod allocating;
 mod asking;
 mod freeing;
 mod reallocating;
 mod sizing;
 
 pub use aliasing::create_cs_alias;
+pub use allocating::alloc_seg;
 pub use asking::{
     ACCESS_DENIED, INVALID_PARAMETER, NOT_ENOUGH_MEMORY, done, held_under, refusal, stop_of,
 };
