@@ -1,10 +1,13 @@
 // The relocations and the code of a segment.
-ghost use Rattle.std.specs.Prelude.{◌≤◌, ◌<◌, length};
+ghost use Rattle.std.specs.Prelude.{◌≡◌, ◌≤◌, ◌<◌, length, drop, take, slice_index, IfOk};
+ghost use Rattle.o2_text.specs.Text.{text_of};
+ghost use Rattle.os2list.specs.Listing.{spelled, byte_text, line_text, line_count};
 
 use crate::relocations::{source_text, target_text};
+use o2_base::NoMemory;
 use o2_decode::decode;
 use o2_image::Module;
-use o2_isa::Decoded;
+use o2_isa::{Decoded, Instr};
 use o2_ne_segs::{Kind, Reloc, Segment};
 use o2_text::line;
 use o2_tool::Shown;
@@ -102,25 +105,49 @@ fn list_line(
 /// How many bytes are looked at, of those from a place on.
 fn front(bytes: &[u8], at: usize) -> &[u8]
     requires { at ≤ length bytes.now }
-    ensures { length result.now ≤ 10 }
+    ensures { result.now ≡ take 10 (drop at bytes.now) }
 {
     let rest = &bytes[at..];
     if rest.len() > 10 { &rest[..10] } else { rest }
 }
 
+/// A line for one byte.
+#[tactic(auto, using(std::proofs::lemmas::Fmt::hex_byte))]
+fn byte_line(alloc: Global, byte: u8) -> Result<(Vec<u8>, usize), AllocError>
+    ensures text { IfOk result (λ p. p.0.items ≡ byte_text byte) }
+    ensures count { IfOk result (λ p. p.1 ≡ 1) }
+{
+    let text = format!(in alloc; "db 0x{byte:02X}")?;
+    Ok((text.into_bytes(), 1))
+}
+
+/// The text of an instruction.
+fn instruction_text(alloc: Global, instr: &Instr, next: u16) -> Result<Vec<u8>, AllocError>
+    ensures { IfOk result (λ v. v.items ≡ text_of instr.now next) }
+{
+    match line(alloc, instr, next) {
+        Ok(text) => Ok(text),
+        Err(NoMemory) => Err(AllocError),
+    }
+}
+
 /// The instruction at a place, and how many bytes it has; a byte where there is none.
 fn text_at(alloc: Global, bytes: &[u8], at: usize) -> Result<(Vec<u8>, usize), AllocError>
     requires { at < length bytes.now }
+    ensures text { IfOk result
+        (λ p. p.0.items ≡ line_text at (slice_index bytes.now at) (spelled bytes.now at)) }
+    ensures count { IfOk result (λ p. p.1 ≡ line_count (spelled bytes.now at)) }
 {
-    if let Decoded::One(instr, count) = decode(front(bytes, at)) {
-        if let Ok(text) = line(alloc, &instr, ((at + count as usize) % 65536) as u16) {
-            return Ok((text, count as usize));
+    match decode(front(bytes, at)) {
+        Decoded::One(instr, count) => {
+            let next = ((at + count as usize) % 65536) as u16;
+            let text = instruction_text(alloc, &instr, next)?;
+            Ok((text, count as usize))
         }
-        return Err(AllocError);
+        Decoded::Invalid => byte_line(alloc, bytes[at]),
+        Decoded::TooLong => byte_line(alloc, bytes[at]),
+        Decoded::Need => byte_line(alloc, bytes[at]),
     }
-    let byte = bytes[at];
-    let text = format!(in alloc; "db 0x{byte:02X}")?;
-    Ok((text.into_bytes(), 1))
 }
 
 /// The code of a segment, from its first byte to its last in the file, one instruction behind the other.
