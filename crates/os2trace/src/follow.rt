@@ -1,12 +1,13 @@
 // Two machines of one session: one goes ahead, and the other is a step behind, so that a step that ended a process can be looked at as
 // it was.
-ghost use Rattle.std.specs.Prelude.{◌≡◌, ◌≤◌, ◌<◌, ◌==◌, ◌&&◌, ◌||◌, nat_le, length, IfSome};
+ghost use Rattle.std.specs.Prelude.{◌≡◌, ◌≤◌, ◌<◌, length, IfSome};
 ghost use Rattle.o2_conf.specs.Limits.{IsWithinLimits};
 ghost use Rattle.o2_open.specs.Loads.{HasEnvironments};
 ghost use Rattle.o2_sched.specs.Schedule.{pick_of};
+ghost use Rattle.os2trace.specs.Chosen.{is_chosen};
 
 use crate::command::Choice;
-use crate::show::{Before, show_pieces, show_step, show_trap};
+use crate::show::{Before, show_exception, show_pieces, show_step};
 use o2_base::{Bytes, NoMemory};
 use o2_bus::Plain;
 use o2_core::step_plain;
@@ -114,16 +115,13 @@ fn copy_of(alloc: Global, plain: &Plain, pid: u16) -> Result<Plain, NoMemory> {
     Ok(copy)
 }
 
-/// The exception in which a step ends, with its error code; none where it ends in none.
-fn trap_of(alloc: Global, plain: &Plain, before: &Before) -> Result<Option<(u8, u16)>, AllocError> {
+/// What the processor answers to a step.
+fn answer_of(alloc: Global, plain: &Plain, before: &Before) -> Result<Outcome, AllocError> {
     let Ok(mut copy) = copy_of(alloc, plain, before.process) else {
         return Err(AllocError);
     };
     let mut cpu = before.cpu;
-    match step_plain(&mut copy, before.process, &mut cpu) {
-        Outcome::Trap(vector, code) => Ok(Some((vector, code))),
-        _ => Ok(None),
-    }
+    Ok(step_plain(&mut copy, before.process, &mut cpu))
 }
 
 /// A machine at the front of its run, with the lines of its starts put to the report; none where there is no memory.
@@ -143,9 +141,7 @@ fn front(alloc: Global, session: &Session, input: &[u8], report: &mut MemSink) -
 
 /// Whether a step is shown, by its number from 1, its process and the selector in CS.
 fn is_chosen(choice: Choice, number: u64, process: u16, cs: u16) -> bool
-    ensures { result ≡ (nat_le choice.from number
-        && (choice.process == 0 || choice.process == process)
-        && (choice.selector == 0 || choice.selector == cs)) }
+    ensures { result ≡ is_chosen choice number process cs }
 {
     number >= choice.from
         && (choice.process == 0 || choice.process == process)
@@ -154,14 +150,13 @@ fn is_chosen(choice: Choice, number: u64, process: u16, cs: u16) -> bool
 
 /// Shows a step that was taken ahead, and its exception where it ended in one.
 fn show(rt: &HostRuntime, ahead: &Runner, behind: &Runner, before: &Before) -> anyhow::Result<()> {
-    let Some((after, state, _)) = ahead.machine.process(before.process) else {
+    let Some((after, state, value)) = ahead.machine.process(before.process) else {
         return Ok(());
     };
     show_step(rt, before, if state == 0 { Some(&after) } else { None })?;
     if state == 2 {
-        if let Some((vector, code)) = trap_of(rt.alloc(), &behind.machine.space.plain, before)? {
-            show_trap(rt, before, vector, code)?;
-        }
+        let answer = answer_of(rt.alloc(), &behind.machine.space.plain, before)?;
+        show_exception(rt, before, value, answer)?;
     }
     Ok(())
 }

@@ -1,9 +1,10 @@
 // The lines of a trace.
-ghost use Rattle.std.specs.Prelude.{◌<◌, IfSome};
+ghost use Rattle.std.specs.Prelude.{◌≡◌, ◌++◌, ◌<◌, IfOk, IfSome, OnOk, string_bytes};
+ghost use Rattle.os2trace.specs.Changes.{change_text, general_text, pointers_text, segments_text, changes_text};
 
 use o2_base::NoMemory;
 use o2_decode::decode;
-use o2_isa::{Arg, Cpu, Decoded, Instr, Sreg};
+use o2_isa::{Arg, Cpu, Decoded, Instr, Outcome, Sreg};
 use o2_text::line;
 use o2_tool::Shown;
 use std::alloc::{AllocError, Global};
@@ -36,7 +37,10 @@ fn add_change(
     name: &str,
     old: u16,
     new: u16,
-) -> Result<(), AllocError> {
+) -> Result<(), AllocError>
+    ensures { OnOk result
+        (string_bytes out.new ≡ string_bytes out.old ++ change_text name.now old new) }
+{
     if old != new {
         let text = format!(in alloc; " {name}={new:04X}")?;
         out.push_str(text.as_str())?;
@@ -44,27 +48,53 @@ fn add_change(
     Ok(())
 }
 
+/// Adds those of AX, BX, CX and DX that have changed.
+#[tactic(auto, using(std::proofs::Common::append_assoc))]
+fn add_general(out: &mut String, alloc: Global, old: &Cpu, new: &Cpu) -> Result<(), AllocError>
+    ensures { OnOk result
+        (string_bytes out.new ≡ string_bytes out.old ++ general_text old.now new.now) }
+{
+    add_change(out, alloc, "AX", old.ax, new.ax)?;
+    add_change(out, alloc, "BX", old.bx, new.bx)?;
+    add_change(out, alloc, "CX", old.cx, new.cx)?;
+    add_change(out, alloc, "DX", old.dx, new.dx)
+}
+
+/// Adds those of SI, DI, BP and SP that have changed.
+#[tactic(auto, using(std::proofs::Common::append_assoc))]
+fn add_pointers(out: &mut String, alloc: Global, old: &Cpu, new: &Cpu) -> Result<(), AllocError>
+    ensures { OnOk result
+        (string_bytes out.new ≡ string_bytes out.old ++ pointers_text old.now new.now) }
+{
+    add_change(out, alloc, "SI", old.si, new.si)?;
+    add_change(out, alloc, "DI", old.di, new.di)?;
+    add_change(out, alloc, "BP", old.bp, new.bp)?;
+    add_change(out, alloc, "SP", old.sp, new.sp)
+}
+
+/// Adds the segment registers that have changed.
+#[tactic(auto, using(std::proofs::Common::append_assoc))]
+fn add_segments(out: &mut String, alloc: Global, old: &Cpu, new: &Cpu) -> Result<(), AllocError>
+    ensures { OnOk result
+        (string_bytes out.new ≡ string_bytes out.old ++ segments_text old.now new.now) }
+{
+    add_change(out, alloc, "CS", old.cs, new.cs)?;
+    add_change(out, alloc, "DS", old.ds, new.ds)?;
+    add_change(out, alloc, "ES", old.es, new.es)?;
+    add_change(out, alloc, "SS", old.ss, new.ss)
+}
+
 /// The registers that have changed. IP is told where it isn't that of the next instruction.
-fn changes(alloc: Global, old: &Cpu, new: &Cpu, next: u16) -> Result<String, AllocError> {
+#[tactic(auto, using(std::proofs::Common::append_assoc))]
+fn changes(alloc: Global, old: &Cpu, new: &Cpu, next: u16) -> Result<String, AllocError>
+    ensures { IfOk result (λ s. string_bytes s ≡ changes_text old.now new.now next) }
+{
     let mut out = String::new(alloc);
-    for (name, old, new) in [
-        ("AX", old.ax, new.ax),
-        ("BX", old.bx, new.bx),
-        ("CX", old.cx, new.cx),
-        ("DX", old.dx, new.dx),
-        ("SI", old.si, new.si),
-        ("DI", old.di, new.di),
-        ("BP", old.bp, new.bp),
-        ("SP", old.sp, new.sp),
-        ("CS", old.cs, new.cs),
-        ("DS", old.ds, new.ds),
-        ("ES", old.es, new.es),
-        ("SS", old.ss, new.ss),
-        ("IP", next, new.ip),
-        ("F", old.flags, new.flags),
-    ] {
-        add_change(&mut out, alloc, name, old, new)?;
-    }
+    add_general(&mut out, alloc, old, new)?;
+    add_pointers(&mut out, alloc, old, new)?;
+    add_segments(&mut out, alloc, old, new)?;
+    add_change(&mut out, alloc, "IP", next, new.ip)?;
+    add_change(&mut out, alloc, "F", old.flags, new.flags)?;
     Ok(out)
 }
 
@@ -135,13 +165,35 @@ fn segment_by(vector: u8, instr: &Instr) -> Option<Sreg> {
     }
 }
 
-/// An exception: its error code, and the segment register by which it came, where there is one.
-pub fn show_trap(rt: &HostRuntime, before: &Before, vector: u8, code: u16) -> io::Result<()> {
-    print!(rt; "! exception {vector}, error code {code:04X}")?;
+/// The segment register by which an instruction ended in an exception, where there is one.
+fn show_segment(rt: &HostRuntime, before: &Before, vector: u8) -> io::Result<()> {
     if let Some((instr, _)) = instruction(before) {
         if let Some(reg) = segment_by(vector, &instr) {
             let (name, selector) = segment_of(&before.cpu, reg);
             print!(rt; ", segment {name}={selector:04X}")?;
+        }
+    }
+    Ok(())
+}
+
+/// The exception by which a step ended its process, where the processor answered so to the step: of an instruction with its error code
+/// and its segment; of a service, whose exceptions have the code 0; and that of the trap flag, which comes behind a step that is done.
+pub fn show_exception(
+    rt: &HostRuntime,
+    before: &Before,
+    number: u16,
+    answer: Outcome,
+) -> io::Result<()> {
+    match answer {
+        Outcome::Trap(vector, code) => {
+            print!(rt; "! exception {vector}, error code {code:04X}")?;
+            show_segment(rt, before, vector)?;
+        }
+        Outcome::Gate { .. } => print!(rt;
+            "! exception {number}, error code 0000, in the service"
+        )?,
+        Outcome::Done | Outcome::Miss(_) => {
+            print!(rt; "! exception {number}, error code 0000, behind the step")?
         }
     }
     println!(rt; "")
