@@ -43,8 +43,16 @@ bits_trans m n o p q = record {
 bits_held : (m n : Maps) → ClearsBits m n → (pid i : ℕ) → held_at n pid i ≡ held_at m pid i
 bits_held m n c pid i = ap (λ (z : Maps). held_at z pid i) c.rest
 
+-- access bytes that are the same but for the accessed bit have the same rights
+same_rights : (a b : ℕ) → unmarked a ≡ unmarked b → rights_of a ≡ rights_of b
+same_rights a b e = omega arith
+
 pub only_bits : (m n : Maps) → ClearsBits m n → OnlyTables m n
-only_bits m n c = record { rest = c.rest; lengths = c.lengths }
+only_bits m n c = record {
+  rest = c.rest;
+  lengths = c.lengths;
+  rights = λ pid i. same_rights (descriptor_at n pid i).access (descriptor_at m pid i).access (c.access pid i);
+}
 
 pub learns_refl : (s : Shelf) (m : Maps) → Learns s s m m
 learns_refl s m = record {

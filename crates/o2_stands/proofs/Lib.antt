@@ -1,5 +1,6 @@
 pub mod Worlds
 pub mod Running
+pub mod Openings
 pub mod Views
 pub mod Moves
 pub mod Sums

@@ -1,5 +1,7 @@
 // What follows where a machine over a store stands for a world, and what keeps that.
-ghost use Rattle.std.specs.Prelude.{◌≡◌, ◌≤◌, ℕ, Bool, List, Some, IsTrue};
+ghost use Rattle.std.specs.Prelude.{◌≡◌, ◌≤◌, ℕ, Bool, true, List, Ok, Some, is_some, IsTrue};
+ghost use Rattle.std.specs.List.{list_any};
+ghost use Rattle.o2_conf.specs.declared.script.Word.{Word as WordThere};
 ghost use Rattle.std.specs.Borrow.{GName};
 ghost use Rattle.o2_isa.specs.declared.cpu.Cpu.{Cpu as CpuThere};
 ghost use Rattle.o2_isa.specs.View.{Filling, Hidden, Rest, bound_registers};
@@ -20,10 +22,12 @@ ghost use Rattle.o2_swapmap.specs.Piles.{all_of};
 ghost use Rattle.o2_world.specs.Map.{Map};
 ghost use Rattle.o2_world.specs.World.{Process, Reserve, Segment, Setting, World, is_live};
 ghost use Rattle.o2_world.specs.Holders.{process_at, with_process};
-ghost use Rattle.o2_world.specs.Known.{known_of};
+ghost use Rattle.o2_world.specs.Known.{held_at, is_for_the_run, known_of};
+ghost use Rattle.o2_world.specs.Starts.{Start, opening_of};
+ghost use Rattle.o2_world.specs.Tied.{IsSound};
 ghost use Rattle.o2_world.specs.Views.{view_of, with_bytes};
 ghost use Rattle.o2_stands.specs.Parts.{Parts, running_of};
-ghost use Rattle.o2_stands.specs.Stands.{AreLawful, IsReady, IsSetTo, Stands, StandsIn};
+ghost use Rattle.o2_stands.specs.Stands.{AreLawful, IsReady, IsSetTo, IsTidy, Stands, StandsIn};
 ghost use Rattle.o2_stands.specs.Moves.{AreWritten, moved, stepped_to, with_running};
 ghost use Rattle.o2_stands.specs.Views.{Fills, boundless_view, filled};
 ghost use Rattle.o2_stands.specs.Knows.{KnowsAs, known_in, others_of};
@@ -41,6 +45,14 @@ pub fn views_are_filled()
         → StandsIn p ps names next reserved → process_at ps pid ≡ Some q
         → registers_of p.maps pid x ≡ bound_registers (hold_in p.maps pid) q.cpu
         → view_of names q ≡ boundless_view p h (bus_view g t p.shelf p.maps pid x) }
+{}
+
+/// The world before the first step is what the machine goes by, where each shared index that is held then is one of a library.
+pub fn openings_are_tidy()
+    ensures { (s : Setting) (reserved : List (ℕ × ℕ)) (script : List WordThere) (input : List ℕ)
+        (starts : List Start) (w : World) → opening_of s reserved script input starts ≡ Ok w → IsSound w
+        → ((n i : ℕ) → 4096 ≤ i → is_some (held_at w.processes n i) ≡ true
+        → list_any (is_for_the_run i) w.reserved ≡ true) → IsTidy w.processes w.names w.reserved }
 {}
 
 /// What is known of a world beside what a process sees is known of the machine.
