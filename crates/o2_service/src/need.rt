@@ -48,8 +48,8 @@ impl Need {
         Some(need)
     }
 
-    // No segment.
-    fn none() -> Need
+    /// No segment.
+    pub fn none() -> Need
         ensures { result ≡ [] }
     {
         let id = SegId { key: 0, age: 0 };
@@ -74,6 +74,7 @@ impl Need {
     pub fn push(&mut self, id: SegId, size: u32) -> bool
         ensures full { result ≡ false → (length self.old ≡ 16) × (self.new ≡ self.old) }
         ensures pushed { result ≡ true → self.new ≡ self.old ++ (id, size) ∷ [] }
+        ensures room { result ≡ true → length self.old < 16 }
     {
         if self.count >= MOST {
             return false;

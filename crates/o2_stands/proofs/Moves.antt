@@ -126,7 +126,7 @@ same_has None (Some y) age e = absurd (let f : true ≡ false = e.live in cc)
 same_has (Some x) None age e = absurd (let f : false ≡ true = e.live in cc)
 same_has (Some x) (Some y) age e = grind (arith, e.age)
 
-same_keys : (s t : Shelf) → SameTables s t → (n : ℕ) → key_of t n ≡ key_of s n
+pub same_keys : (s t : Shelf) → SameTables s t → (n : ℕ) → key_of t n ≡ key_of s n
 unfolding key_of
 same_keys s t w n = same_numbers n s.entries t.entries 0 w.count (λ k. same_has (slot_at s.entries k) (slot_at t.entries k) n (w.same k))
 

@@ -1,3 +1,13 @@
 pub mod Leaving
 pub mod Gates
 pub mod Touches
+pub mod Buses
+pub mod Worlds
+pub mod Named
+pub mod Keeping
+pub mod Bringing
+pub mod Rooms
+pub mod Lefts
+pub mod Trials
+pub mod Rounds
+pub mod Steps

@@ -1,8 +1,12 @@
-//! One step of a process, all but what an end takes from it: over any bus that may miss segments.
+//! One step of a process, all but what an end takes from it: over any bus, and over a store that moves and swaps its segments.
 #![tactic(auto)]
 
+mod in_store;
 mod one_step;
+mod seats;
 mod tally;
+mod trying;
 
+pub use in_store::step_in_store;
 pub use one_step::{Attempt, Ran, absent, run_one};
 pub use tally::Tally;

@@ -1,0 +1,84 @@
+-- A step in a store, from its last try.
+use Rattle.std.proofs.Common.{◌≡◌, ℕ, ◌≤◌, ◌<◌, Bool, false, List, Option, ap, sym, ◌∙◌, refl, subst, arith}
+use Rattle.std.specs.Prelude.{Result, Ok, Err}
+use mathlib.Core.Path.{fun_ext}
+use Rattle.o2_isa.specs.declared.cpu.Cpu.{Cpu}
+use Rattle.o2_isa.specs.View.{View}
+use Rattle.o2_regions.specs.Maps.{Maps}
+use Rattle.o2_store.specs.Shelf.{Shelf}
+use Rattle.o2_world.specs.Known.{Known}
+use Rattle.o2_world.specs.Calls.{Before, Effect}
+use Rattle.o2_world.specs.Effect.{effect}
+use Rattle.o2_gate.specs.Befores.{before_call}
+use Rattle.o2_run.specs.declared.steps.Stop.TheVariants as stop
+use Rattle.o2_run.specs.declared.fault.Fault.{Fault}
+use Rattle.o2_run.specs.declared.fault.Fault.TheVariants as fault
+use Rattle.o2_base.specs.declared.selector.Selector.{Selector}
+use Rattle.o2_swapmap.specs.Piles.{all_of}
+use Rattle.o2_store.specs.Loads.{live_load, swap_load}
+use Rattle.o2_store.proofs.Loads.{same_live_load, same_swap_load}
+use Rattle.o2_stepping.specs.Shapes.{SameShape}
+use Rattle.o2_stepping.specs.Ran.{IsDone, OnMissed}
+use Rattle.o2_stepping.specs.declared.one_step.Ran.{Ran}
+use Rattle.o2_stepping.specs.Taken.{OnRan, OnSwapFault, TriedFor, Tries}
+use Rattle.o2_stepping.specs.Worlds.{before_in, bytes_with, world_view}
+use Rattle.o2_stepping.specs.declared.one_step.Attempt.{Attempt}
+use Rattle.o2_stepping.specs.declared.one_step.Attempt.TheVariants as attempt
+
+-- what a try did from a state behind others that were missed, it did from the first one
+module _ (a b : ℕ → List ℕ) (s t : Shelf) (m n : Maps) (pid : ℕ) (c : Cpu) (bytes : List ℕ) (known : Known)
+    (view : world_view b t n pid c ≡ world_view a s m pid c) (same : (k : ℕ) → bytes_with b t k ≡ bytes_with a s k) where
+  pub first_same : before_in b t n pid c bytes known ≡ before_in a s m pid c bytes known
+  first_same = ap (λ (v : View). before_call v pid c bytes known) view
+
+  pub first_from : (d : Cpu) → d ≡ c → before_in b t n pid d bytes known ≡ before_in a s m pid c bytes known
+  first_from d e = ap (λ (z : Cpu). before_in b t n pid z bytes known) e ∙ first_same
+
+  tries_first : (new : Cpu) (after : ℕ → List ℕ) (i j x y r q : Option (List ℕ)) (result : Result Attempt Fault)
+      → (let e = before_in b t n pid c bytes known in Tries e (effect e) new (bytes_with b t) after i j x y r q result)
+      → (let e = before_in a s m pid c bytes known in Tries e (effect e) new (bytes_with a s) after i j x y r q result)
+  tries_first new after i j x y r q result h =
+      subst (λ (z : Before). Tries z (effect z) new (bytes_with a s) after i j x y r q result) first_same
+      (subst (λ (f : ℕ → List ℕ). Tries (before_in b t n pid c bytes known) (effect (before_in b t n pid c bytes known)) new f after i j x y r q result) (fun_ext same) h)
+
+  pub tries_from : (d new : Cpu) (after : ℕ → List ℕ) (i' i j x' x y r' r q : Option (List ℕ)) (result : Result Attempt Fault) → d ≡ c → i' ≡ i → x' ≡ x → r' ≡ r
+      → (let e = before_in b t n pid d bytes known in Tries e (effect e) new (bytes_with b t) after i' j x' y r' q result)
+      → (let e = before_in a s m pid c bytes known in Tries e (effect e) new (bytes_with a s) after i j x y r q result)
+  tries_from d new after i' i j x' x y r' r q result cpu input console report h =
+      tries_first new after i j x y r q result
+      (subst (λ (z : Cpu). let e = before_in b t n pid z bytes known in Tries e (effect e) new (bytes_with b t) after i j x y r q result) cpu
+      (subst (λ (z : Option (List ℕ)). let e = before_in b t n pid d bytes known in Tries e (effect e) new (bytes_with b t) after z j x y r q result) input
+      (subst (λ (z : Option (List ℕ)). let e = before_in b t n pid d bytes known in Tries e (effect e) new (bytes_with b t) after i' j z y r q result) console
+      (subst (λ (z : Option (List ℕ)). let e = before_in b t n pid d bytes known in Tries e (effect e) new (bytes_with b t) after i' j x' y z q result) report h))))
+
+-- where a step was missed, or is done
+pub missed_at : (P : Selector → Type 0) (x : Attempt) (s : Selector) → x ≡ attempt.Missed s → OnMissed (Ok x) P → P s
+missed_at P x s is h = subst (λ (z : Attempt). OnMissed (Ok z) P) is h
+
+pub ran_at : (P : Type 0) (x : Attempt) (r : Ran) → x ≡ attempt.Ran r → OnRan (Ok x) P → P
+ran_at P x r is h = subst (λ (z : Attempt). OnRan (Ok z) P) is h
+
+-- at a stop, what holds of it
+pub at_stop : (P Q R A B C : Type 0) (f : Fault) → (P → A) → (Q → B) → (R → C) → OnSwapFault P Q R f → OnSwapFault A B C f
+at_stop P Q R A B C fault.Sink p q r h = tt
+at_stop P Q R A B C (fault.Stopped stop.Input) p q r h = tt
+at_stop P Q R A B C (fault.Stopped stop.NoRoom) p q r h = p h
+at_stop P Q R A B C (fault.Stopped stop.SwapFull) p q r h = q h
+at_stop P Q R A B C (fault.Stopped stop.SwapFault) p q r h = r h
+
+pub ran_tries : (b : Before) (e : Effect) (cpu : Cpu) (old new : ℕ → List ℕ) (i j x y r q : Option (List ℕ)) (z : Attempt) (ran : Ran) → z ≡ attempt.Ran ran
+    → Tries b e cpu old new i j x y r q (Ok z) → IsDone e ran cpu new j x y r q
+ran_tries b e cpu old new i j x y r q z ran is h = subst (λ (w : Attempt). Tries b e cpu old new i j x y r q (Ok w)) is h
+
+pub full_then : (s t : Shelf) {m n : Maps} → SameShape s m t n → (all_of t.swap < swap_load t) × (t.places.size < live_load t) → (all_of s.swap < swap_load s) × (s.places.size < live_load s)
+full_then s t w p =
+    let a = same_swap_load s t w.tables in
+    let b = same_live_load s t w.tables in
+    let c = w.swap in
+    let d = w.tables.size in
+    let e = p.0 in
+    let f = p.1 in
+    (omega (arith, a, c, e), omega (arith, b, d, f))
+
+pub ran_cause : (A B : Type 0) (z : Attempt) (ran : Ran) → z ≡ attempt.Ran ran → TriedFor A B (Ok z) → ran.whole ≡ false → A
+ran_cause A B z ran is h = subst (λ (w : Attempt). TriedFor A B (Ok w)) is h

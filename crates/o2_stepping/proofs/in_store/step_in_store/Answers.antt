@@ -1,0 +1,318 @@
+use Rattle.std.proofs.Common.{◌≡◌, ◌⊎◌, ℕ, ◌+◌, ◌≤◌, ◌<◌, Bool, true, false, List, ◌++◌, length, Option, Some, None, ap, sym, ◌∙◌, refl, subst, arith}
+use Rattle.std.specs.Prelude.{Result, Ok, Err, IsTrue}
+use Rattle.std.proofs.lemmas.Bool.{false≢true}
+use Rattle.o2_base.specs.declared.selector.Selector.{Selector}
+use Rattle.o2_isa.specs.Presence.{is_in}
+use Rattle.o2_isa.specs.View.{View, Registers, bound_registers}
+use Rattle.o2_place.specs.declared.seg_id.SegId.{SegId}
+use Rattle.o2_segbus.specs.Bus.{held_under}
+use Rattle.o2_segbus.specs.Seen.{hold_in, seen}
+use Rattle.o2_service.proofs.Among.{all_live_same}
+use Rattle.o2_service.specs.Needs.{AreLive, all_needed, size_in}
+use Rattle.o2_outer.specs.Texts.{Rose}
+use Rattle.o2_store.specs.Loads.{live_load, swap_load}
+use Rattle.o2_swapmap.specs.Piles.{all_of}
+use Rattle.o2_gate.specs.Befores.{IsKnown}
+use Rattle.o2_gate.specs.Pointed.{ArePresent}
+use Rattle.o2_world.specs.Known.{Known}
+use Rattle.o2_world.specs.Calls.{Before}
+use Rattle.o2_world.specs.Effect.{effect}
+use Rattle.o2_run.specs.Room.{seated, touched}
+use Rattle.o2_stepping.specs.Rooms.{AreNeeded, IsWanted, ages_of, all_names, left_in, needed_names, pair_of, room_in, seated_in}
+use Rattle.o2_stepping.specs.Worlds.{away_of, before_in, bytes_with, world_view}
+use Rattle.o2_stepping.proofs.Keeping.{shape_refl, shape_trans}
+use Rattle.o2_stepping.proofs.Lefts.{in_more, left_less, left_most, touched_few}
+use Rattle.o2_stepping.proofs.Rounds.{ages_seated, lacks_room, length_one, length_some, no_place, own_in, live_more, live_pair, live_seated, named_more, needed_all, needed_more, none_more, none_pair, none_seated, seated_few, seated_same}
+use Rattle.o2_stepping.proofs.Named.{both_in, or_front, or_back}
+use Rattle.o2_stepping.proofs.Steps.{at_stop, first_from, missed_at, full_then, ran_at, ran_cause, ran_tries, tries_from}
+use Rattle.o2_stepping.proofs.Rooms.{room_fits, room_same}
+use Rattle.o2_stepping.proofs.Worlds.{registers_are, seen_present, view_same}
+use Rattle.o2_stepping.proofs.in_store.step_in_store.Goals as goal
+
+pub tries-init : goal.tries-init
+tries-init g c =
+    let S = g.S.SwapDevice in
+    let s = c.args.store.now in
+    let m = c.args.regions.now in
+    let pid = c.args.pid in
+    let cpu = c.args.cpu.now in
+    let need = c.seats-need.result in
+    let e : need ≡ seated_in m pid cpu = c.seats-need.ensures in
+    let a : ℕ → List ℕ = away_of s m c.args.images.now (S.blocks c.args.swap.now) (S.block c.args.swap.now) in
+    record {
+      cpu = refl;
+      input = refl;
+      console = refl;
+      report = refl;
+      avail = refl;
+      shape = shape_refl s m;
+      ready = c.requires.ready;
+      blocks = refl;
+      told = refl;
+      faults = omega arith;
+      bytes = λ tells k. refl;
+      live = subst (λ (x : List (SegId × ℕ)). AreLive s x) (sym e) (live_seated s m pid cpu c.requires.ready.held);
+      seats = subst (λ (x : List (SegId × ℕ)). AreNeeded x (seated_in m pid cpu)) (sym e) (needed_all (seated_in m pid cpu));
+      sizes = λ k. ap (λ (x : List (SegId × ℕ)). size_in x k) e ∙ none_seated m pid cpu k;
+      named = λ bytes known tells k h.
+          let z = before_in a s m pid cpu bytes known in
+          both_in k (seated z.view.registers) (touched z)
+          ∙ or_front (is_in k (seated z.view.registers)) (is_in k (touched z))
+          (ap (λ (r : Registers). is_in k (seated r)) (registers_are a s m pid cpu) ∙ ap (is_in k) (sym (ages_seated m pid cpu)) ∙ ap (λ (x : List (SegId × ℕ)). is_in k (ages_of x)) (sym e) ∙ h);
+      left = λ bytes known tells.
+          let z = before_in a s m pid cpu bytes known in
+          let x = left_most (touched z) need in
+          let y = touched_few z in
+          let w = seated_few m pid cpu in
+          let l : length need ≡ length (seated_in m pid cpu) = ap length e in
+          omega (arith, x, y, w, l);
+    }
+
+pub tries-preserved : goal.tries-preserved
+tries-preserved g c =
+    let S = g.S.SwapDevice in
+    let i = c.tries.invariant in
+    let s = c.args.store.now in
+    let t = c.tries.store in
+    let m = c.args.regions.now in
+    let n = c.tries.regions in
+    let im = c.args.images.now in
+    let pid = c.args.pid in
+    let cpu = c.args.cpu.now in
+    let a : ℕ → List ℕ = away_of s m im (S.blocks c.args.swap.now) (S.block c.args.swap.now) in
+    let b : ℕ → List ℕ = away_of t n im (S.blocks c.tries.swap) (S.block c.tries.swap) in
+    let sel = c.in-Ok-Missed.sel in
+    let x0 = c.in-Ok-Missed.field-0 in
+    let is = c.in-Ok-Missed.field-0-is in
+    let u = c.serve_and_try.new.store in
+    let o = c.serve_and_try.new.regions in
+    let d = c.serve_and_try.new.cpu in
+    let e = c.in-Ok-Missed.ensures in
+    let st = missed_at _ x0 sel is e.still in
+    let old = c.tries.need in
+    let added = c.add_missed.ensures.added c.if-not-add_missed.false in
+    let more = pair_of (held_under o pid sel.0) in
+    let wants = λ (bytes : List ℕ) (known : Known) (tells : IsTrue (S.told c.args.swap.now)).
+    subst (λ (z : Before). IsWanted o pid old (touched z) sel) (first_from a b s t m n pid cpu bytes known (view_same a b s t m n pid cpu i.shape.tables i.shape.holds (i.bytes tells)) (i.bytes tells) c.tries.cpu i.cpu)
+    (missed_at _ x0 sel is (e.missed bytes known (subst IsTrue (sym i.told) tells))) in
+    record {
+      cpu = st.0 ∙ i.cpu;
+      input = st.1 ∙ i.input;
+      console = st.2 ∙ i.console;
+      report = st.3 ∙ i.report;
+      avail = e.avail ∙ i.avail;
+      shape = shape_trans s t u m n o i.shape e.shape;
+      ready = e.ready;
+      blocks = e.device.0 ∙ i.blocks;
+      told = e.device.1 ∙ i.told;
+      faults = omega (arith, i.faults, e.swap_count);
+      bytes = λ tells k. missed_at _ x0 sel is (e.same (subst IsTrue (sym i.told) tells)) k ∙ i.bytes tells k;
+      live = subst (λ (x : List (SegId × ℕ)). AreLive u x) (sym added) (live_more u old more (all_live_same t u old e.shape.tables i.live) (live_pair u o pid sel.0 e.ready.held));
+      seats = subst (λ (x : List (SegId × ℕ)). AreNeeded x (seated_in o pid d)) (sym added)
+          (needed_more old more (seated_in o pid d)
+          (subst (λ (x : List (SegId × ℕ)). AreNeeded old x) (sym (seated_same n o pid d e.shape.holds ∙ ap (seated_in n pid) st.0)) i.seats));
+      sizes = λ k. ap (λ (x : List (SegId × ℕ)). size_in x k) added ∙ none_more old more k (i.sizes k) (none_pair (held_under o pid sel.0) k);
+      named = λ bytes known tells k h.
+          (let z : Before = before_in a s m pid cpu bytes known in
+          let w = wants bytes known tells in
+          named_more (needed_names z) old w.held (held_under o pid sel.0) w.under (i.named bytes known tells)
+          (both_in w.held.id.age (seated z.view.registers) (touched z) ∙ or_back (is_in w.held.id.age (seated z.view.registers)) (is_in w.held.id.age (touched z)) w.named) k
+          (ap (λ (x : List (SegId × ℕ)). is_in k (ages_of x)) (sym added) ∙ h));
+      left = λ bytes known tells.
+          (let z : Before = before_in a s m pid cpu bytes known in
+          let w = wants bytes known tells in
+          let x = left_less (touched z) old more w.held.id.age w.named w.other (own_in (held_under o pid sel.0) w.held w.under) in
+          let y = i.left bytes known tells in
+          let l = length_one old (held_under o pid sel.0) w.held w.under in
+          subst (λ (x : List (SegId × ℕ)). left_in (touched z) x + length x ≤ 7) (sym added) (omega (arith, x, y, l)));
+    }
+
+pub tries-smaller : goal.tries-smaller
+tries-smaller g c =
+    let added = ap length (c.add_missed.ensures.added c.if-not-add_missed.false) in
+    let room = c.add_missed.ensures.room c.if-not-add_missed.false in
+    let held = c.add_missed.ensures.held c.if-not-add_missed.false in
+    let l = length_some c.tries.need (held_under c.serve_and_try.new.regions c.args.pid c.in-Ok-Missed.sel.0) held in
+    omega (arith, added, room, l)
+
+pub returns-in-Ok-Ran-clause-takes : goal.returns-in-Ok-Ran-clause-takes
+returns-in-Ok-Ran-clause-takes g c = λ bytes known tells left same.
+    let S = g.S.SwapDevice in
+    let i = c.tries.invariant in
+    let s = c.args.store.now in
+    let t = c.tries.store in
+    let m = c.args.regions.now in
+    let n = c.tries.regions in
+    let im = c.args.images.now in
+    let pid = c.args.pid in
+    let cpu = c.args.cpu.now in
+    let a : ℕ → List ℕ = away_of s m im (S.blocks c.args.swap.now) (S.block c.args.swap.now) in
+    let b : ℕ → List ℕ = away_of t n im (S.blocks c.tries.swap) (S.block c.tries.swap) in
+    let z : Before = before_in a s m pid cpu bytes known in
+    let u = c.serve_and_try.new.store in
+    let d : ℕ → List ℕ = away_of u c.serve_and_try.new.regions im (S.blocks c.serve_and_try.new.swap) (S.block c.serve_and_try.new.swap) in
+    ran_tries z (effect z) c.serve_and_try.new.cpu (bytes_with a s) (bytes_with d u) _ _ _ _ _ _ c.in-Ok-Ran.field-0 c.in-Ok-Ran.ran c.in-Ok-Ran.field-0-is
+    (tries_from a b s t m n pid cpu bytes known (view_same a b s t m n pid cpu i.shape.tables i.shape.holds (i.bytes tells)) (i.bytes tells) c.tries.cpu c.serve_and_try.new.cpu (bytes_with d u) _ _ _ _ _ _ _ _ _ (Ok c.in-Ok-Ran.field-0) i.cpu
+    (ap g.I.Source.left i.input) (ap g.C.Sink.taken i.console) (ap g.R.Sink.taken i.report)
+    (c.in-Ok-Ran.ensures.tries bytes known (subst IsTrue (sym i.told) tells) (ap g.I.Source.left i.input ∙ left) (record { avail = same.avail ∙ sym i.avail })))
+
+pub returns-in-Err-clause-takes : goal.returns-in-Err-clause-takes
+returns-in-Err-clause-takes g c = λ bytes known tells left same.
+    let S = g.S.SwapDevice in
+    let i = c.tries.invariant in
+    let s = c.args.store.now in
+    let t = c.tries.store in
+    let m = c.args.regions.now in
+    let n = c.tries.regions in
+    let im = c.args.images.now in
+    let pid = c.args.pid in
+    let cpu = c.args.cpu.now in
+    let a : ℕ → List ℕ = away_of s m im (S.blocks c.args.swap.now) (S.block c.args.swap.now) in
+    let b : ℕ → List ℕ = away_of t n im (S.blocks c.tries.swap) (S.block c.tries.swap) in
+    let u = c.serve_and_try.new.store in
+    let d : ℕ → List ℕ = away_of u c.serve_and_try.new.regions im (S.blocks c.serve_and_try.new.swap) (S.block c.serve_and_try.new.swap) in
+    tries_from a b s t m n pid cpu bytes known (view_same a b s t m n pid cpu i.shape.tables i.shape.holds (i.bytes tells)) (i.bytes tells) c.tries.cpu c.serve_and_try.new.cpu (bytes_with d u) _ _ _ _ _ _ _ _ _ (Err c.in-Err.fault) i.cpu
+    (ap g.I.Source.left i.input) (ap g.C.Sink.taken i.console) (ap g.R.Sink.taken i.report)
+    (c.in-Err.ensures.tries bytes known (subst IsTrue (sym i.told) tells) (ap g.I.Source.left i.input ∙ left) (record { avail = same.avail ∙ sym i.avail }))
+
+pub returns-in-Err-clause-still : goal.returns-in-Err-clause-still
+returns-in-Err-clause-still g c =
+    let i = c.tries.invariant in
+    let new = c.serve_and_try.new in
+    let P : Type 0 = (new.cpu ≡ c.tries.cpu) × (new.input ≡ c.tries.input) × (new.console ≡ c.tries.console) × (new.report ≡ c.tries.report) in
+    let A : Type 0 = (new.cpu ≡ c.args.cpu.now) × (new.input ≡ c.args.input.now) × (new.console ≡ c.args.console.now) × (new.report ≡ c.args.report.now) in
+    let f : P → A = λ p. (p.0 ∙ i.cpu, p.1 ∙ i.input, p.2 ∙ i.console, p.3 ∙ i.report) in
+    at_stop P P P A A A c.in-Err.fault f f f c.in-Err.ensures.stopped
+
+pub returns-in-Err-clause-no_room : goal.returns-in-Err-clause-no_room
+returns-in-Err-clause-no_room g c = λ bytes known tells.
+    let S = g.S.SwapDevice in
+    let i = c.tries.invariant in
+    let s = c.args.store.now in
+    let t = c.tries.store in
+    let a : ℕ → List ℕ = away_of s c.args.regions.now c.args.images.now (S.blocks c.args.swap.now) (S.block c.args.swap.now) in
+    let names = needed_names (before_in a s c.args.regions.now c.args.pid c.args.cpu.now bytes known) in
+    at_stop (t.places.size < all_needed t c.tries.need) ((all_of t.swap < swap_load t) × (t.places.size < live_load t)) (Rose (S.faults c.tries.swap) (S.faults c.serve_and_try.new.swap))
+    (s.places.size < room_in s names) (Unit {0}) (Unit {0}) c.in-Err.fault
+    (λ p. lacks_room s t c.tries.need names i.shape.tables i.live i.sizes (i.named bytes known tells) p) (λ p. tt) (λ p. tt) c.in-Err.ensures.causes
+
+pub returns-in-Err-clause-swap_stops : goal.returns-in-Err-clause-swap_stops
+returns-in-Err-clause-swap_stops g c =
+    let S = g.S.SwapDevice in
+    let i = c.tries.invariant in
+    let s = c.args.store.now in
+    let t = c.tries.store in
+    at_stop (t.places.size < all_needed t c.tries.need) ((all_of t.swap < swap_load t) × (t.places.size < live_load t)) (Rose (S.faults c.tries.swap) (S.faults c.serve_and_try.new.swap))
+    (Unit {0}) ((all_of s.swap < swap_load s) × (s.places.size < live_load s)) (Rose (S.faults c.args.swap.now) (S.faults c.serve_and_try.new.swap)) c.in-Err.fault
+    (λ p. tt) (λ p. full_then s t i.shape p) (λ p. (let f = i.faults in omega (arith, f, p))) c.in-Err.ensures.causes
+
+pub returns-in-Err-clause-cause : goal.returns-in-Err-clause-cause
+returns-in-Err-clause-cause g c = rw (c.tries.invariant.console, c.tries.invariant.report, c.tries.invariant.input) at c.in-Err.ensures.cause
+
+pub returns-in-Err-clause-shape : goal.returns-in-Err-clause-shape
+returns-in-Err-clause-shape g c = shape_trans c.args.store.now c.tries.store c.serve_and_try.new.store c.args.regions.now c.tries.regions c.serve_and_try.new.regions c.tries.invariant.shape c.in-Err.ensures.shape
+
+pub returns-in-Ok-Ran-clause-shape : goal.returns-in-Ok-Ran-clause-shape
+returns-in-Ok-Ran-clause-shape g c = shape_trans c.args.store.now c.tries.store c.serve_and_try.new.store c.args.regions.now c.tries.regions c.serve_and_try.new.regions c.tries.invariant.shape c.in-Ok-Ran.ensures.shape
+
+pub returns-in-Ok-Ran-clause-together : goal.returns-in-Ok-Ran-clause-together
+returns-in-Ok-Ran-clause-together g c = λ bytes known tells.
+    let S = g.S.SwapDevice in
+    let i = c.tries.invariant in
+    let s = c.args.store.now in
+    let t = c.tries.store in
+    let m = c.args.regions.now in
+    let n = c.tries.regions in
+    let im = c.args.images.now in
+    let pid = c.args.pid in
+    let cpu = c.args.cpu.now in
+    let a : ℕ → List ℕ = away_of s m im (S.blocks c.args.swap.now) (S.block c.args.swap.now) in
+    let b : ℕ → List ℕ = away_of t n im (S.blocks c.tries.swap) (S.block c.tries.swap) in
+    subst (λ (z : Before). ArePresent (seen c.serve_and_try.new.store c.serve_and_try.new.regions pid c.serve_and_try.new.cpu) (all_names z (bound_registers (hold_in c.serve_and_try.new.regions pid) c.serve_and_try.new.cpu)))
+    (first_from a b s t m n pid cpu bytes known (view_same a b s t m n pid cpu i.shape.tables i.shape.holds (i.bytes tells)) (i.bytes tells) c.tries.cpu i.cpu)
+    (ran_at _ c.in-Ok-Ran.field-0 c.in-Ok-Ran.ran c.in-Ok-Ran.field-0-is (c.in-Ok-Ran.ensures.together bytes known (subst IsTrue (sym i.told) tells)))
+
+pub returns-in-Ok-Ran-clause-room : goal.returns-in-Ok-Ran-clause-room
+returns-in-Ok-Ran-clause-room g c = λ bytes known tells.
+    let S = g.S.SwapDevice in
+    let i = c.tries.invariant in
+    let s = c.args.store.now in
+    let t = c.tries.store in
+    let m = c.args.regions.now in
+    let n = c.tries.regions in
+    let im = c.args.images.now in
+    let pid = c.args.pid in
+    let cpu = c.args.cpu.now in
+    let a : ℕ → List ℕ = away_of s m im (S.blocks c.args.swap.now) (S.block c.args.swap.now) in
+    let b : ℕ → List ℕ = away_of t n im (S.blocks c.tries.swap) (S.block c.tries.swap) in
+    let u = c.serve_and_try.new.store in
+    let o = c.serve_and_try.new.regions in
+    let d = c.serve_and_try.new.cpu in
+    let e = c.in-Ok-Ran.ensures in
+    let z : Before = before_in a s m pid cpu bytes known in
+    let names = all_names z (bound_registers (hold_in o pid) d) in
+    let here = subst (λ (y : Before). ArePresent (seen u o pid d) (all_names y (bound_registers (hold_in o pid) d)))
+    (first_from a b s t m n pid cpu bytes known (view_same a b s t m n pid cpu i.shape.tables i.shape.holds (i.bytes tells)) (i.bytes tells) c.tries.cpu i.cpu)
+    (ran_at _ c.in-Ok-Ran.field-0 c.in-Ok-Ran.ran c.in-Ok-Ran.field-0-is (e.together bytes known (subst IsTrue (sym i.told) tells))) in
+    let w = shape_trans s t u m n o i.shape e.shape in
+    let fits = room_fits u names c.law.ensures.shelf e.ready.aged (seen_present u o pid d names here) c.law.ensures.sum c.law.ensures.room in
+    let same = room_same s u names w.tables in
+    let size = w.tables.size in
+    omega (arith, fits, same, size)
+
+pub returns-then-not-add_missed-clause-takes : goal.returns-then-not-add_missed-clause-takes
+returns-then-not-add_missed-clause-takes g c = λ bytes known tells left same.
+    let S = g.S.SwapDevice in
+    let i = c.tries.invariant in
+    let s = c.args.store.now in
+    let t = c.tries.store in
+    let m = c.args.regions.now in
+    let n = c.tries.regions in
+    let im = c.args.images.now in
+    let pid = c.args.pid in
+    let cpu = c.args.cpu.now in
+    let a : ℕ → List ℕ = away_of s m im (S.blocks c.args.swap.now) (S.block c.args.swap.now) in
+    let b : ℕ → List ℕ = away_of t n im (S.blocks c.tries.swap) (S.block c.tries.swap) in
+    let sel = c.in-Ok-Missed.sel in
+    let w = subst (λ (z : Before). IsWanted c.serve_and_try.new.regions pid c.tries.need (touched z) sel) (first_from a b s t m n pid cpu bytes known (view_same a b s t m n pid cpu i.shape.tables i.shape.holds (i.bytes tells)) (i.bytes tells) c.tries.cpu i.cpu)
+    (missed_at _ c.in-Ok-Missed.field-0 sel c.in-Ok-Missed.field-0-is (c.in-Ok-Missed.ensures.missed bytes known (subst IsTrue (sym i.told) tells))) in
+    absurd (no_place (held_under c.serve_and_try.new.regions pid sel.0) w.held _ (length c.tries.need) w.under (i.left bytes known tells) (c.add_missed.ensures.full c.if-not-add_missed.true))
+
+pub returns-then-not-add_missed-clause-no_room : goal.returns-then-not-add_missed-clause-no_room
+returns-then-not-add_missed-clause-no_room g c = λ bytes known tells.
+    let S = g.S.SwapDevice in
+    let i = c.tries.invariant in
+    let s = c.args.store.now in
+    let t = c.tries.store in
+    let m = c.args.regions.now in
+    let n = c.tries.regions in
+    let im = c.args.images.now in
+    let pid = c.args.pid in
+    let cpu = c.args.cpu.now in
+    let a : ℕ → List ℕ = away_of s m im (S.blocks c.args.swap.now) (S.block c.args.swap.now) in
+    let b : ℕ → List ℕ = away_of t n im (S.blocks c.tries.swap) (S.block c.tries.swap) in
+    let sel = c.in-Ok-Missed.sel in
+    let w = subst (λ (z : Before). IsWanted c.serve_and_try.new.regions pid c.tries.need (touched z) sel) (first_from a b s t m n pid cpu bytes known (view_same a b s t m n pid cpu i.shape.tables i.shape.holds (i.bytes tells)) (i.bytes tells) c.tries.cpu i.cpu)
+    (missed_at _ c.in-Ok-Missed.field-0 sel c.in-Ok-Missed.field-0-is (c.in-Ok-Missed.ensures.missed bytes known (subst IsTrue (sym i.told) tells))) in
+    absurd (no_place (held_under c.serve_and_try.new.regions pid sel.0) w.held _ (length c.tries.need) w.under (i.left bytes known tells) (c.add_missed.ensures.full c.if-not-add_missed.true))
+
+pub returns-then-not-add_missed-clause-still : goal.returns-then-not-add_missed-clause-still
+returns-then-not-add_missed-clause-still g c =
+    let i = c.tries.invariant in
+    let st = missed_at _ c.in-Ok-Missed.field-0 c.in-Ok-Missed.sel c.in-Ok-Missed.field-0-is c.in-Ok-Missed.ensures.still in
+    (st.0 ∙ i.cpu, st.1 ∙ i.input, st.2 ∙ i.console, st.3 ∙ i.report)
+
+pub returns-then-not-add_missed-clause-shape : goal.returns-then-not-add_missed-clause-shape
+returns-then-not-add_missed-clause-shape g c = shape_trans c.args.store.now c.tries.store c.serve_and_try.new.store c.args.regions.now c.tries.regions c.serve_and_try.new.regions c.tries.invariant.shape c.in-Ok-Missed.ensures.shape
+
+pub returns-in-Ok-Ran-clause-cause : goal.returns-in-Ok-Ran-clause-cause
+returns-in-Ok-Ran-clause-cause g c =
+    let C = g.C.Sink in
+    let R = g.R.Sink in
+    let new = c.serve_and_try.new in
+    rw (c.tries.invariant.console, c.tries.invariant.report) at (ran_cause
+    (Rose (C.faults c.tries.console) (C.faults new.console) ⊎ Rose (R.faults c.tries.report) (R.faults new.report)) (Rose (g.I.Source.faults c.tries.input) (g.I.Source.faults new.input))
+    c.in-Ok-Ran.field-0 c.in-Ok-Ran.ran c.in-Ok-Ran.field-0-is c.in-Ok-Ran.ensures.cause)
+
+pub returns-in-Ok-Ran-clause-next : goal.returns-in-Ok-Ran-clause-next
+returns-in-Ok-Ran-clause-next g c = ran_at _ c.in-Ok-Ran.field-0 c.in-Ok-Ran.ran c.in-Ok-Ran.field-0-is c.in-Ok-Ran.ensures.next

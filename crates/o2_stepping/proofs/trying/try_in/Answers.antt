@@ -1,0 +1,43 @@
+use Rattle.o2_segbus.specs.Calls.{view_of}
+use Rattle.o2_segbus.proofs.Called.{agrees, bound, leaves}
+use Rattle.o2_stepping.proofs.Buses.{filling, leaves_there, step_missed, step_present, writes_there, on_missed, bytes_there}
+use Rattle.o2_stepping.proofs.trying.try_in.Goals as goal
+
+pub returns-clause-same_store : goal.returns-clause-same_store
+returns-clause-same_store g c = (leaves c.args.bus.now c.run_one.new.bus c.run_one.ensures.frame).same_store
+
+pub returns-clause-same_regions : goal.returns-clause-same_regions
+returns-clause-same_regions g c = (leaves c.args.bus.now c.run_one.new.bus c.run_one.ensures.frame).same_regions
+
+pub returns-clause-over : goal.returns-clause-over
+returns-clause-over g c =
+    let a = c.args.bus.now in
+    let b = c.run_one.new.bus in
+    let e = c.run_one.ensures in
+    let agree = agrees a c.args.cpu.now c.requires in
+    record {
+      leaves = λ away bytes known left same.
+          leaves_there away a b c.args.cpu.now c.run_one.new.cpu c.args.pid bytes known agree _ _ _ _ _ _ c.run_one.result (e.leaves (filling away) bytes known (bound a) left same);
+      missed = λ away bytes known. step_missed away a b c.args.cpu.now c.run_one.new.cpu c.args.pid bytes known agree c.run_one.result (e.missed (filling away) bytes known (bound a));
+      present = λ away bytes known never. step_present away a b c.args.cpu.now c.run_one.new.cpu c.args.pid bytes known agree (e.present (filling away) bytes known (bound a) never);
+      same = on_missed _ _ c.run_one.result (λ s m n. bytes_there a b m.1 n) e.still;
+    }
+
+pub returns-clause-still : goal.returns-clause-still
+returns-clause-still g c = on_missed _ _ c.run_one.result (λ s m. (m.0, m.2, m.3, m.4)) c.run_one.ensures.still
+
+pub returns-clause-store : goal.returns-clause-store
+returns-clause-store g c = (leaves c.args.bus.now c.run_one.new.bus c.run_one.ensures.frame).store
+
+pub returns-clause-maps : goal.returns-clause-maps
+returns-clause-maps g c = (leaves c.args.bus.now c.run_one.new.bus c.run_one.ensures.frame).maps
+
+pub returns-clause-clean : goal.returns-clause-clean
+returns-clause-clean g c =
+    (leaves c.args.bus.now c.run_one.new.bus c.run_one.ensures.frame).clean
+    (writes_there (view_of c.args.bus.now) (view_of c.run_one.new.bus) (c.run_one.ensures.writes (agrees c.args.bus.now c.args.cpu.now c.requires)))
+
+pub returns-clause-next : goal.returns-clause-next
+returns-clause-next g c =
+    (leaves c.args.bus.now c.run_one.new.bus c.run_one.ensures.frame).next c.run_one.new.cpu
+    (c.run_one.ensures.agrees (agrees c.args.bus.now c.args.cpu.now c.requires))

@@ -1,0 +1,82 @@
+-- What a step in a store came to, by its answer.
+use Rattle.std.specs.Prelude.{◌≡◌, ℕ, false, List, Option, Result, Ok, Err}
+use Rattle.o2_isa.specs.declared.cpu.Cpu.{Cpu}
+use Rattle.o2_world.specs.Calls.{Before, Effect}
+use Rattle.o2_run.specs.declared.steps.Stop.TheVariants as stop
+use Rattle.o2_run.specs.declared.fault.Fault.{Fault}
+use Rattle.o2_run.specs.declared.fault.Fault.TheVariants as fault
+use Rattle.o2_run.specs.Faults.{CauseOf}
+use Rattle.o2_stepping.specs.Ran.{IsDone, IsInPart, IsStill, IsUnread}
+use Rattle.o2_stepping.specs.declared.one_step.Ran.{Ran}
+use Rattle.o2_stepping.specs.declared.one_step.Attempt.{Attempt}
+use Rattle.o2_stepping.specs.declared.one_step.Attempt.TheVariants as attempt
+
+-- a fault; before a step that lacks room, or whose swap device fails, all is as it was
+abbrev pub TakesFault : Before → Effect → Cpu → (old new : ℕ → List ℕ)
+    → (left_old left_new console_old console_new report_old report_new : Option (List ℕ)) → Fault → Type 0
+TakesFault b e cpu old new i j c d r q fault.Sink = IsInPart e cpu b.cpu old new i j c d r q
+TakesFault b e cpu old new i j c d r q (fault.Stopped stop.Input) = IsUnread b cpu old new i j c d r q
+TakesFault b e cpu old new i j c d r q (fault.Stopped stop.NoRoom) = IsStill cpu b.cpu old new i j c d r q
+TakesFault b e cpu old new i j c d r q (fault.Stopped stop.SwapFull) = IsStill cpu b.cpu old new i j c d r q
+TakesFault b e cpu old new i j c d r q (fault.Stopped stop.SwapFault) = IsStill cpu b.cpu old new i j c d r q
+
+-- of a step
+abbrev pub Takes : Before → Effect → Cpu → (old new : ℕ → List ℕ)
+    → (left_old left_new console_old console_new report_old report_new : Option (List ℕ)) → Result Ran Fault → Type 0
+Takes b e cpu old new i j c d r q (Ok ran) = IsDone e ran cpu new j c d r q
+Takes b e cpu old new i j c d r q (Err f) = TakesFault b e cpu old new i j c d r q f
+
+-- of one try of it
+abbrev pub Tries : Before → Effect → Cpu → (old new : ℕ → List ℕ)
+    → (left_old left_new console_old console_new report_old report_new : Option (List ℕ)) → Result Attempt Fault → Type 0
+Tries b e cpu old new i j c d r q (Ok (attempt.Ran ran)) = IsDone e ran cpu new j c d r q
+Tries b e cpu old new i j c d r q (Ok (attempt.Missed s)) = IsStill cpu b.cpu old new i j c d r q
+Tries b e cpu old new i j c d r q (Err f) = TakesFault b e cpu old new i j c d r q f
+
+-- where a try is a step that is done
+abbrev pub OnRan : Result Attempt Fault → Type 0 → Type 0
+OnRan (Ok (attempt.Ran ran)) P = P
+OnRan (Ok (attempt.Missed s)) P = Unit {0}
+OnRan (Err f) P = Unit {0}
+
+abbrev pub OnDone : Result Ran Fault → Type 0 → Type 0
+OnDone (Ok ran) P = P
+OnDone (Err f) P = Unit {0}
+
+-- what holds at the stops for want of room or of swap blocks, and for the swap device
+abbrev pub OnSwapFault : (no_room swap_full swap_fault : Type 0) → Fault → Type 0
+OnSwapFault room full device (fault.Stopped stop.NoRoom) = room
+OnSwapFault room full device (fault.Stopped stop.SwapFull) = full
+OnSwapFault room full device (fault.Stopped stop.SwapFault) = device
+OnSwapFault room full device (fault.Stopped stop.Input) = Unit {0}
+OnSwapFault room full device fault.Sink = Unit {0}
+
+abbrev pub OnSwapStop : {T : Type 0} → Result T Fault → (no_room swap_full swap_fault : Type 0) → Type 0
+OnSwapStop (Ok x) room full device = Unit {0}
+OnSwapStop (Err f) room full device = OnSwapFault room full device f
+
+-- what holds at each of these stops
+abbrev pub OnNoStep : {T : Type 0} → Result T Fault → Type 0 → Type 0
+OnNoStep r P = OnSwapStop r P P P
+
+-- the causes of a fault, and of a last line that isn't put whole; those of the stops for room and swap are told elsewhere
+abbrev pub TriedFor : (sink input : Type 0) → Result Attempt Fault → Type 0
+TriedFor sink input (Ok (attempt.Ran ran)) = ran.whole ≡ false → sink
+TriedFor sink input (Ok (attempt.Missed s)) = Unit {0}
+TriedFor sink input (Err f) = CauseOf sink input (Unit {0}) (Unit {0}) f
+
+abbrev pub TakenFor : (sink input : Type 0) → Result Ran Fault → Type 0
+TakenFor sink input (Ok ran) = ran.whole ≡ false → sink
+TakenFor sink input (Err f) = CauseOf sink input (Unit {0}) (Unit {0}) f
+
+abbrev pub OnErr : {T : Type 0} → Result T Fault → (Fault → Type 0) → Type 0
+OnErr (Ok x) P = Unit {0}
+OnErr (Err f) P = P f
+
+-- it is one of these stops
+abbrev pub IsSwapStop : Fault → Type 0
+IsSwapStop fault.Sink = ⊥
+IsSwapStop (fault.Stopped stop.Input) = ⊥
+IsSwapStop (fault.Stopped stop.NoRoom) = Unit {0}
+IsSwapStop (fault.Stopped stop.SwapFull) = Unit {0}
+IsSwapStop (fault.Stopped stop.SwapFault) = Unit {0}

@@ -1,0 +1,32 @@
+-- One try of a step of a process, over what is in memory.
+use Rattle.std.specs.Prelude.{◌≡◌, ℕ, false, List, Option, Some, Result}
+use Rattle.o2_isa.specs.declared.cpu.Cpu.{Cpu}
+use Rattle.o2_isa.specs.Presence.{IsMissed}
+use Rattle.o2_regions.specs.Maps.{Maps}
+use Rattle.o2_store.specs.Shelf.{Shelf}
+use Rattle.o2_segbus.specs.Seen.{bytes_in, seen}
+use Rattle.o2_world.specs.Known.{Known}
+use Rattle.o2_world.specs.Effect.{effect}
+use Rattle.o2_gate.specs.declared.state.State.{State as Services}
+use Rattle.o2_gate.specs.Befores.{before_call, IsKnown}
+use Rattle.o2_gate.specs.Pointed.{ArePresent}
+use Rattle.o2_run.specs.declared.fault.Fault.{Fault}
+use Rattle.o2_run.specs.Room.{touched}
+use Rattle.o2_stepping.specs.Ran.{Leaves, OnMissed, is_missed}
+use Rattle.o2_stepping.specs.Worlds.{bytes_with, world_view}
+use Rattle.o2_stepping.specs.declared.one_step.Attempt.{Attempt}
+
+-- The step of the boundless machine by the map of process `seat`, whatever the bytes of the names that are out of memory; or
+-- one of the names that it touches is missed, and all bytes in memory are as before. Where none is missed all of them are there.
+pub record TriesOver (s : Shelf) (m : Maps) (t : Shelf) (seat number : ℕ) (before after : Cpu) (services : Services)
+    (left_old left_new console_old console_new report_old report_new : Option (List ℕ)) (result : Result Attempt Fault) : Type 0 where
+  pub leaves : (away : ℕ → List ℕ) (bytes : List ℕ) (known : Known) → left_old ≡ Some bytes → IsKnown known services
+      → let b = before_call (world_view away s m seat before) number before bytes known in
+      Leaves b (effect b) after (bytes_with away s) (bytes_with away t) left_old left_new console_old console_new report_old report_new result
+  pub missed : (away : ℕ → List ℕ) (bytes : List ℕ) (known : Known)
+      → let b = before_call (world_view away s m seat before) number before bytes known in
+      OnMissed result (λ z. IsMissed (seen s m seat before) z (touched b))
+  pub present : (away : ℕ → List ℕ) (bytes : List ℕ) (known : Known) → is_missed result ≡ false
+      → let b = before_call (world_view away s m seat before) number before bytes known in
+      ArePresent (seen s m seat before) (touched b)
+  pub same : OnMissed result (λ z. (n : ℕ) → bytes_in t n ≡ bytes_in s n)

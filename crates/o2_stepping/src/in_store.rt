@@ -1,0 +1,245 @@
+// A step of a process over a store: what it needs comes into memory, and it is tried until it misses nothing.
+ghost use Rattle.std.specs.Prelude.{◌≡◌, ◌<◌, ◌≤◌, ◌⊎◌, ◌++◌, ℕ, List, Some, false, true, IsTrue, IsOk};
+ghost use Rattle.o2_outer.specs.Texts.{Rose};
+ghost use Rattle.o2_isa.specs.View.{bound_registers};
+ghost use Rattle.o2_isa.specs.Presence.{is_in};
+ghost use Rattle.o2_swapmap.specs.Piles.{all_of};
+ghost use Rattle.o2_regions.specs.Maps.{IsProcess};
+ghost use Rattle.o2_store.specs.Loads.{live_load, swap_load};
+ghost use Rattle.o2_segbus.specs.Frames.{CanStep};
+ghost use Rattle.o2_segbus.specs.Seen.{hold_in, present_in, seen};
+ghost use Rattle.o2_service.specs.Needs.{AreLive, all_needed};
+ghost use Rattle.o2_stands.specs.Stands.{IsReady};
+ghost use Rattle.o2_world.specs.Known.{Known};
+ghost use Rattle.o2_world.specs.Effect.{effect};
+ghost use Rattle.o2_gate.specs.Befores.{IsKnown};
+ghost use Rattle.o2_gate.specs.Pointed.{ArePresent};
+ghost use Rattle.o2_run.specs.Room.{touched};
+ghost use Rattle.o2_stepping.specs.Ran.{OnMissed};
+ghost use Rattle.o2_stepping.specs.Rooms.{AreNeeded, IsWanted, ages_of, all_names, needed_names, room_in, seated_in};
+ghost use Rattle.o2_stepping.specs.Shapes.{SameShape};
+ghost use Rattle.o2_stepping.specs.Taken.{IsSwapStop, OnDone, OnErr, OnNoStep, OnRan, OnSwapStop, TakenFor, Takes, TriedFor, Tries};
+ghost use Rattle.o2_stepping.specs.Worlds.{away_of, before_in, bytes_with, parts_of};
+
+use crate::one_step::{Attempt, Ran};
+use crate::seats::{add_missed, seats};
+use crate::trying::try_step;
+use o2_gate::State as Services;
+use o2_image::Images;
+use o2_isa::Cpu;
+use o2_outer::{Sink, Source, SwapDevice};
+use o2_regions::Regions;
+use o2_run::{Fault, Stop};
+use o2_service::{Need, Served, serve};
+use o2_store::Store;
+
+/// Serves what is known to be needed, said of what the process sees.
+fn bring<S: SwapDevice>(
+    need: &Need,
+    pid: u16,
+    cpu: &Cpu,
+    store: &mut Store,
+    regions: &mut Regions,
+    images: &Images,
+    swap: &mut S,
+) -> Served
+    requires process { IsProcess regions.old pid }
+    requires ready { IsReady (parts_of store.old regions.old images.now (S.blocks swap.old) (S.block swap.old)) }
+    requires live { AreLive store.old need.now }
+    requires seats { AreNeeded need.now (seated_in regions.old pid cpu.now) }
+    ensures bytes { IsTrue (S.told swap.old) → (n : ℕ)
+        → bytes_with (away_of store.new regions.new images.now (S.blocks swap.new) (S.block swap.new)) store.new n
+        ≡ bytes_with (away_of store.old regions.old images.now (S.blocks swap.old) (S.block swap.old)) store.old n }
+    ensures shape { SameShape store.old regions.old store.new regions.new }
+    ensures ready { IsReady (parts_of store.new regions.new images.now (S.blocks swap.new) (S.block swap.new)) }
+    ensures device { (S.blocks swap.new ≡ S.blocks swap.old) × (S.told swap.new ≡ S.told swap.old) }
+    ensures can_step { result ≡ Served.Here → CanStep store.new regions.new pid cpu.now }
+    ensures here { result ≡ Served.Here → (n : ℕ) → is_in n (ages_of need.now) ≡ true → present_in store.new n ≡ true }
+    ensures no_room { result ≡ Served.NoRoom → store.old.places.size < all_needed store.old need.now }
+    ensures loads { result ≡ Served.SwapFull
+        → (all_of store.old.swap < swap_load store.old) × (store.old.places.size < live_load store.old) }
+    ensures cause { result ≡ Served.SwapFault → Rose (S.faults swap.old) (S.faults swap.new) }
+    ensures count { S.faults swap.old ≤ S.faults swap.new }
+{
+    store.law();
+    let served = serve(need, store, regions, images, swap);
+    store.law();
+    served
+}
+
+/// What is known to be needed comes into memory; or why not.
+fn bring_in<S: SwapDevice>(
+    need: &Need,
+    pid: u16,
+    cpu: &Cpu,
+    store: &mut Store,
+    regions: &mut Regions,
+    images: &Images,
+    swap: &mut S,
+) -> Result<(), Fault>
+    requires process { IsProcess regions.old pid }
+    requires ready { IsReady (parts_of store.old regions.old images.now (S.blocks swap.old) (S.block swap.old)) }
+    requires live { AreLive store.old need.now }
+    requires seats { AreNeeded need.now (seated_in regions.old pid cpu.now) }
+    ensures bytes { IsTrue (S.told swap.old) → (n : ℕ)
+        → bytes_with (away_of store.new regions.new images.now (S.blocks swap.new) (S.block swap.new)) store.new n
+        ≡ bytes_with (away_of store.old regions.old images.now (S.blocks swap.old) (S.block swap.old)) store.old n }
+    ensures shape { SameShape store.old regions.old store.new regions.new }
+    ensures ready { IsReady (parts_of store.new regions.new images.now (S.blocks swap.new) (S.block swap.new)) }
+    ensures device { (S.blocks swap.new ≡ S.blocks swap.old) × (S.told swap.new ≡ S.told swap.old) }
+    ensures can_step { IsOk result → CanStep store.new regions.new pid cpu.now }
+    ensures here { IsOk result → (n : ℕ) → is_in n (ages_of need.now) ≡ true → present_in store.new n ≡ true }
+    ensures causes { OnSwapStop result (store.old.places.size < all_needed store.old need.now)
+        ((all_of store.old.swap < swap_load store.old) × (store.old.places.size < live_load store.old))
+        (Rose (S.faults swap.old) (S.faults swap.new)) }
+    ensures kind { OnErr result (λ f. IsSwapStop f) }
+    ensures count { S.faults swap.old ≤ S.faults swap.new }
+{
+    match bring(need, pid, cpu, store, regions, images, swap) {
+        Served::Here => Ok(()),
+        Served::NoRoom => Err(Fault::Stopped(Stop::NoRoom)),
+        Served::SwapFull => Err(Fault::Stopped(Stop::SwapFull)),
+        Served::SwapFault => Err(Fault::Stopped(Stop::SwapFault)),
+    }
+}
+
+/// One try of a step, once all that is known to be needed is in memory.
+fn serve_and_try<S: SwapDevice, I: Source, C: Sink, R: Sink>(
+    need: &Need,
+    pid: u16,
+    cpu: &mut Cpu,
+    store: &mut Store,
+    regions: &mut Regions,
+    images: &Images,
+    services: &mut Services,
+    input: &mut I,
+    console: &mut C,
+    report: &mut R,
+    swap: &mut S,
+) -> Result<Attempt, Fault>
+    requires process { IsProcess regions.old pid }
+    requires ready { IsReady (parts_of store.old regions.old images.now (S.blocks swap.old) (S.block swap.old)) }
+    requires live { AreLive store.old need.now }
+    requires seats { AreNeeded need.now (seated_in regions.old pid cpu.old) }
+
+    // The step of the boundless machine; where a segment is missed or cannot come in, nothing that it sees is changed.
+    ensures tries { (bytes : List ℕ) (known : Known) → IsTrue (S.told swap.old) → I.left input.old ≡ Some bytes → IsKnown known services.old
+        → let away = away_of store.old regions.old images.now (S.blocks swap.old) (S.block swap.old) in
+        let b = before_in away store.old regions.old pid cpu.old bytes known in
+        Tries b (effect b) cpu.new (bytes_with away store.old)
+        (bytes_with (away_of store.new regions.new images.now (S.blocks swap.new) (S.block swap.new)) store.new)
+        (I.left input.old) (I.left input.new) (C.taken console.old) (C.taken console.new) (R.taken report.old) (R.taken report.new) result }
+    ensures missed { (bytes : List ℕ) (known : Known) → IsTrue (S.told swap.old)
+        → let b = before_in (away_of store.old regions.old images.now (S.blocks swap.old) (S.block swap.old)) store.old regions.old pid cpu.old bytes known in
+        OnMissed result (λ s. IsWanted regions.new pid need.now (touched b) s) }
+    ensures together { (bytes : List ℕ) (known : Known) → IsTrue (S.told swap.old)
+        → let b = before_in (away_of store.old regions.old images.now (S.blocks swap.old) (S.block swap.old)) store.old regions.old pid cpu.old bytes known in
+        OnRan result (ArePresent (seen store.new regions.new pid cpu.new) (all_names b (bound_registers (hold_in regions.new pid) cpu.new))) }
+    ensures still { OnMissed result (λ s. (cpu.new ≡ cpu.old)
+        × (input.new ≡ input.old) × (console.new ≡ console.old) × (report.new ≡ report.old)) }
+    ensures same { IsTrue (S.told swap.old) → OnMissed result (λ s. (n : ℕ)
+        → bytes_with (away_of store.new regions.new images.now (S.blocks swap.new) (S.block swap.new)) store.new n
+        ≡ bytes_with (away_of store.old regions.old images.now (S.blocks swap.old) (S.block swap.old)) store.old n) }
+    ensures stopped { OnNoStep result ((cpu.new ≡ cpu.old)
+        × (input.new ≡ input.old) × (console.new ≡ console.old) × (report.new ≡ report.old)) }
+
+    // Each segment keeps its size and its attributes, each process what it holds, and all goes on to agree.
+    ensures shape { SameShape store.old regions.old store.new regions.new }
+    ensures ready { IsReady (parts_of store.new regions.new images.now (S.blocks swap.new) (S.block swap.new)) }
+    ensures next { OnRan result (CanStep store.new regions.new pid cpu.new) }
+    ensures avail { services.new.avail ≡ services.old.avail }
+    ensures device { (S.blocks swap.new ≡ S.blocks swap.old) × (S.told swap.new ≡ S.told swap.old) }
+
+    ensures causes { OnSwapStop result (store.old.places.size < all_needed store.old need.now)
+        ((all_of store.old.swap < swap_load store.old) × (store.old.places.size < live_load store.old))
+        (Rose (S.faults swap.old) (S.faults swap.new)) }
+    ensures cause { TriedFor (Rose (C.faults console.old) (C.faults console.new) ⊎ Rose (R.faults report.old) (R.faults report.new))
+        (Rose (I.faults input.old) (I.faults input.new)) result }
+    ensures input_count { I.faults input.old ≤ I.faults input.new }
+    ensures console_count { C.faults console.old ≤ C.faults console.new }
+    ensures report_count { R.faults report.old ≤ R.faults report.new }
+    ensures swap_count { S.faults swap.old ≤ S.faults swap.new }
+{
+    match bring_in(need, pid, cpu, store, regions, images, swap) {
+        Ok(()) => {}
+        Err(fault) => return Err(fault),
+    }
+    try_step(pid, cpu, store, regions, services, input, console, report)
+}
+
+/// One step of process `pid`, all but what an end takes from it, over a store: what it needs comes into memory together, as far
+/// as it is known, and the step is tried; what it misses is needed too, and it is tried again. A try that misses puts nothing
+/// and takes nothing.
+///
+/// Where what it needs doesn't come in, the step isn't taken: `Stop::NoRoom`, `Stop::SwapFull` or `Stop::SwapFault`.
+pub fn step_in_store<S: SwapDevice, I: Source, C: Sink, R: Sink>(
+    pid: u16,
+    cpu: &mut Cpu,
+    store: &mut Store,
+    regions: &mut Regions,
+    images: &Images,
+    services: &mut Services,
+    input: &mut I,
+    console: &mut C,
+    report: &mut R,
+    swap: &mut S,
+) -> Result<Ran, Fault>
+    requires process { IsProcess regions.old pid }
+    requires ready { IsReady (parts_of store.old regions.old images.now (S.blocks swap.old) (S.block swap.old)) }
+
+    // The step of the boundless machine, or nothing where what it needs doesn't come in.
+    ensures takes { (bytes : List ℕ) (known : Known) → IsTrue (S.told swap.old) → I.left input.old ≡ Some bytes → IsKnown known services.old
+        → let away = away_of store.old regions.old images.now (S.blocks swap.old) (S.block swap.old) in
+        let b = before_in away store.old regions.old pid cpu.old bytes known in
+        Takes b (effect b) cpu.new (bytes_with away store.old)
+        (bytes_with (away_of store.new regions.new images.now (S.blocks swap.new) (S.block swap.new)) store.new)
+        (I.left input.old) (I.left input.new) (C.taken console.old) (C.taken console.new) (R.taken report.old) (R.taken report.new) result }
+    ensures still { OnNoStep result ((cpu.new ≡ cpu.old)
+        × (input.new ≡ input.old) × (console.new ≡ console.old) × (report.new ≡ report.old)) }
+
+    // All that a step needs is in memory together, so that its room is at most the memory; and more than it at NoRoom.
+    ensures together { (bytes : List ℕ) (known : Known) → IsTrue (S.told swap.old)
+        → let b = before_in (away_of store.old regions.old images.now (S.blocks swap.old) (S.block swap.old)) store.old regions.old pid cpu.old bytes known in
+        OnDone result (ArePresent (seen store.new regions.new pid cpu.new) (all_names b (bound_registers (hold_in regions.new pid) cpu.new))) }
+    ensures room { (bytes : List ℕ) (known : Known) → IsTrue (S.told swap.old)
+        → let b = before_in (away_of store.old regions.old images.now (S.blocks swap.old) (S.block swap.old)) store.old regions.old pid cpu.old bytes known in
+        OnDone result (room_in store.old (all_names b (bound_registers (hold_in regions.new pid) cpu.new)) ≤ store.old.places.size) }
+    ensures no_room { (bytes : List ℕ) (known : Known) → IsTrue (S.told swap.old)
+        → let b = before_in (away_of store.old regions.old images.now (S.blocks swap.old) (S.block swap.old)) store.old regions.old pid cpu.old bytes known in
+        OnSwapStop result (store.old.places.size < room_in store.old (needed_names b)) (Unit {0}) (Unit {0}) }
+    ensures swap_stops { OnSwapStop result (Unit {0})
+        ((all_of store.old.swap < swap_load store.old) × (store.old.places.size < live_load store.old))
+        (Rose (S.faults swap.old) (S.faults swap.new)) }
+
+    // Each segment keeps its size and its attributes, each process what it holds, and all goes on to agree.
+    ensures shape { SameShape store.old regions.old store.new regions.new }
+    ensures ready { IsReady (parts_of store.new regions.new images.now (S.blocks swap.new) (S.block swap.new)) }
+    ensures next { OnDone result (CanStep store.new regions.new pid cpu.new) }
+    ensures avail { services.new.avail ≡ services.old.avail }
+    ensures device { (S.blocks swap.new ≡ S.blocks swap.old) × (S.told swap.new ≡ S.told swap.old) }
+
+    ensures cause { TakenFor (Rose (C.faults console.old) (C.faults console.new) ⊎ Rose (R.faults report.old) (R.faults report.new))
+        (Rose (I.faults input.old) (I.faults input.new)) result }
+    ensures input_count { I.faults input.old ≤ I.faults input.new }
+    ensures console_count { C.faults console.old ≤ C.faults console.new }
+    ensures report_count { R.faults report.old ≤ R.faults report.new }
+    ensures swap_count { S.faults swap.old ≤ S.faults swap.new }
+{
+    let mut need = seats(regions, pid, cpu);
+    'tries: loop {
+        match serve_and_try(
+            &need, pid, cpu, store, regions, images, services, input, console, report, swap,
+        ) {
+            Err(fault) => return Err(fault),
+            Ok(Attempt::Ran(ran)) => {
+                store.law();
+                return Ok(ran);
+            }
+            Ok(Attempt::Missed(sel)) => {
+                if !add_missed(&mut need, regions, pid, sel) {
+                    return Err(Fault::Stopped(Stop::NoRoom));
+                }
+            }
+        }
+    }
+}

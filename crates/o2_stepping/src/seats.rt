@@ -1,0 +1,66 @@
+// The segments that a step needs, as far as they are known before it.
+ghost use Rattle.std.specs.Prelude.{◌≡◌, ◌<◌, ◌≤◌, ◌+◌, ◌++◌, ◌∷◌, [], length, option_map, Some, None, IsSome, true, false, ◌⊎◌};
+ghost use Rattle.o2_regions.specs.declared.held.Held.{Held as HeldThere};
+ghost use Rattle.o2_regions.specs.Maps.{IsProcess};
+ghost use Rattle.o2_segbus.specs.Bus.{held_under};
+ghost use Rattle.o2_stepping.specs.Rooms.{pair_of, seated_in};
+
+use o2_base::Selector;
+use o2_isa::Cpu;
+use o2_place::SegId;
+use o2_regions::Regions;
+use o2_service::Need;
+
+/// The segment that a selector names for a process.
+fn named(regions: &Regions, pid: u16, sel: u16) -> Option<SegId>
+    requires { IsProcess regions.now pid }
+    ensures { result ≡ option_map (λ h. h.id) (held_under regions.now pid sel) }
+{
+    if sel < 4 || sel / 4 % 2 != 1 {
+        return None;
+    }
+    match regions.held(pid, sel / 8) {
+        Some(held) => Some(held.id),
+        None => None,
+    }
+}
+
+/// One more segment, that of a selector, where it names one.
+fn seat(need: &mut Need, regions: &Regions, pid: u16, sel: u16)
+    requires process { IsProcess regions.now pid }
+    requires room { length need.old < 16 }
+    ensures seated { need.new ≡ need.old ++ pair_of (held_under regions.now pid sel) }
+    ensures few { length need.new ≤ length need.old + 1 }
+{
+    if let Some(id) = named(regions, pid, sel) {
+        need.push(id, 0);
+    }
+}
+
+/// The segments in the segment registers.
+pub(crate) fn seats(regions: &Regions, pid: u16, cpu: &Cpu) -> Need
+    requires { IsProcess regions.now pid }
+    ensures { result ≡ seated_in regions.now pid cpu.now }
+{
+    let mut need = Need::none();
+    seat(&mut need, regions, pid, cpu.es);
+    seat(&mut need, regions, pid, cpu.cs);
+    seat(&mut need, regions, pid, cpu.ss);
+    seat(&mut need, regions, pid, cpu.ds);
+    need
+}
+
+/// The segment that was missed, too. False where nothing is held under its selector, or all places are taken.
+pub(crate) fn add_missed(need: &mut Need, regions: &Regions, pid: u16, sel: Selector) -> bool
+    requires { IsProcess regions.now pid }
+    ensures added { result ≡ true → need.new ≡ need.old ++ pair_of (held_under regions.now pid sel.0) }
+    ensures held { result ≡ true → IsSome (held_under regions.now pid sel.0) }
+    ensures room { result ≡ true → length need.old < 16 }
+    ensures none { result ≡ false → need.new ≡ need.old }
+    ensures full { result ≡ false → (held_under regions.now pid sel.0 ≡ None) ⊎ (length need.old ≡ 16) }
+{
+    match named(regions, pid, sel.0) {
+        Some(id) => need.push(id, 0),
+        None => false,
+    }
+}
