@@ -7,10 +7,12 @@ KIND is one of
   names      a library with SIZE exported names of three bytes, which refers to itself by 65,535 imports by name
   twice      SIZE names of one byte, as the resident and as the nonresident table at once
   twin       the same in a program, of one segment
+  fronts     SIZE names of twelve bytes of which the first nine are the same, as both tables at once
   ordinals   SIZE segments that share the records of 65,535 imports by ordinal, of a module with a name of 255 bytes
   shared     SIZE segments that share the records of 65,535 imports by name, over 8,000 names
   astride    SIZE segments, the bytes and the records of each 16 bytes behind those of the one before it in the file, so that
              they meet and no two have the same: some 59,000 imports by name each
+  apart      the same segments, each before those that lie before it in the file
   program    a program of SIZE segments that share 65,535 records, each to the program itself
 NUMBER makes the module's name another one, so that up to 64 of them can be listed together.
 """
@@ -39,9 +41,10 @@ def table(own, names):
     return b"".join(rows) + b"\0"
 
 
-def build(own, names, imported, records, segments, twice=False, program=False, step=0):
+def build(own, names, imported, records, segments, twice=False, program=False, step=0, falling=False):
     """A library, or a program whose last segment is its stack: one entry at ordinal 1, `segments` segments with the same records,
-    or each with those `step` units of 16 bytes behind the one before it, and a reference to the first imported name."""
+    or each with those `step` units of 16 bytes behind the one before it, or before it where they are falling, and a reference to
+    the first imported name."""
     at = 64
     parts = b""
     places = {}
@@ -58,7 +61,9 @@ def build(own, names, imported, records, segments, twice=False, program=False, s
     shift = 4 if step else 9
     start = (end + (1 << shift) - 1) >> shift
     data = 0x100 if program else 0x101
-    rows = [struct.pack("<HHHH", start + step * k, 0, 0x101 if k == segments - 1 else data, 0) for k in range(segments)]
+    begins = [start + step * k for k in range(segments)]
+    rows = [struct.pack("<HHHH", begin, 0, data, 0) for begin in (begins[::-1] if falling else begins)]
+    rows[-1] = rows[-1][:4] + struct.pack("<HH", 0x101, 0)
     header = bytearray(64)
     header[0:2] = b"NE"
     words = {
@@ -104,23 +109,30 @@ def make(kind, size, number):
     if kind in ("twice", "twin"):
         names = [bytes([BYTES[n % len(BYTES)]]) for n in range(size)]
         return build(own, names, [own], [], 1, twice=True, program=kind == "twin")
+    if kind == "fronts":
+        names = [b"exports__" + three(n) for n in range(size)]
+        random.Random(24).shuffle(names)
+        return build(own, names, [own], [], 1, twice=True)
     if kind == "program":
         return build(own, [], [own], [struct.pack("<BBHHH", 0, 0, place, 1, 0) for place in range(65535)], size, program=True)
     if kind == "ordinals":
         own = b"%02d" % number + b"L" * 253
         return build(own, [], [own], [record(1, place, 1) for place in range(65535)], size)
-    names = [three(n) for n in range(14_800 if kind == "astride" else 8000)]
+    names = [three(n) for n in range(14_800 if kind in ("astride", "apart") else 8000)]
     random.Random(24).shuffle(names)
     starts = [1 + len(own) + 4 * k for k in range(len(names))]
-    if kind == "astride":
+    if kind in ("astride", "apart"):
         count = starts[-1]
         records = [record(2, n % 65536, starts[n % len(starts)]) for n in range(count + 2 * (size - 1))]
-        return build(own, names, [own] + names, records, size, step=1)
+        return build(own, names, [own] + names, records, size, step=1, falling=kind == "apart")
     records = [record(2, place, starts[place % len(starts)]) for place in range(65535)]
     return build(own, names, [own] + names, records, size)
 
 
-DEFAULT = {"names": 590_000, "twice": 1_000_000, "twin": 1_000_000, "ordinals": 254, "shared": 254, "astride": 254, "program": 254}
+DEFAULT = {
+    "names": 590_000, "twice": 1_000_000, "twin": 1_000_000, "fronts": 270_000, "ordinals": 254, "shared": 254, "astride": 254,
+    "apart": 254, "program": 254,
+}
 
 
 def main():
