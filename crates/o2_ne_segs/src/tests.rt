@@ -1,6 +1,8 @@
 use super::*;
 use std::test::Fail;
 
+mod random;
+
 // Two rows: position 5 and length 0, then position 0 and length 0; both have minimum allocation 0.
 static ROWS: [u8; 16] = [5, 0, 0, 0, 0, 1, 0, 0, 0, 0, 0, 0, 1, 0, 0, 0];
 
