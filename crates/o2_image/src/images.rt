@@ -159,7 +159,12 @@ impl Module {
         let Some(segment) = self.segments.get(seg) else {
             unreachable!()
         };
-        fill_segment(self.names.file().as_slice(), &segment, r.of_segment(seg), into);
+        fill_segment(
+            self.names.file().as_slice(),
+            &segment,
+            r.of_segment(seg),
+            into,
+        );
     }
 }
 

@@ -3,6 +3,8 @@ use o2_base::{Bytes, Fail as ReadFail, NoMemory};
 use std::alloc::{AllocError, Global};
 use std::test::Fail;
 
+mod random;
+
 // The files and their changes are texts. All numbers in them are hexadecimal, and `00*3A` is so many bytes in a row.
 
 // A program that writes `hello` by DosWrite and ends by DosExit: headers, the tables, code of 25 bytes at B0h with two records
