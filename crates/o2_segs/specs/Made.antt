@@ -1,5 +1,5 @@
 -- A segment that a call makes.
-use Rattle.std.specs.Prelude.{◌≡◌, ℕ, ◌%◌, ◌==◌, Bool, IsTrue, List, Option, Some, None, nat_le, if◌then◌else◌}
+use Rattle.std.specs.Prelude.{◌≡◌, ℕ, ◌%◌, ◌==◌, Bool, IsTrue, List, Option, None, nat_le, if◌then◌else◌}
 use Rattle.o2_image.specs.ImageList.{ImageList}
 use Rattle.o2_place.specs.declared.seg_id.SegId.{SegId}
 use Rattle.o2_regions.specs.declared.answer.Roomed.{Roomed}

@@ -100,7 +100,17 @@ pub fn alloc_seg<S: SwapDevice>(
         return Roomed::Done(refusal(INVALID_PARAMETER));
     }
     match regions.lowest(region_for(pid, flags), 1) {
-        Some(index) => allocate(store, regions, pid, index, size, flags as u8, keep, images, swap),
+        Some(index) => allocate(
+            store,
+            regions,
+            pid,
+            index,
+            size,
+            flags as u8,
+            keep,
+            images,
+            swap,
+        ),
         None => Roomed::Done(refusal(NOT_ENOUGH_MEMORY)),
     }
 }

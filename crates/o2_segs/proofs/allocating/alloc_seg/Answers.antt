@@ -1,4 +1,4 @@
-use Rattle.std.proofs.Common.{◌≡◌, ℕ, ◌%◌, Option, Some, None, ap, refl, sym, subst, ◌∙◌}
+use Rattle.std.proofs.Common.{◌≡◌, ℕ, Option, Some, None, sym, subst, ◌∙◌}
 use Rattle.o2_changes.specs.Worlds.{Matches}
 use Rattle.o2_regions.specs.Maps.{end_of, first_of, is_taken}
 use Rattle.o2_regions.specs.declared.held.Region.{Region}
@@ -8,7 +8,7 @@ use Rattle.o2_stands.specs.Moves.{moved}
 use Rattle.o2_world.specs.Changes.{with_all}
 use Rattle.o2_world.specs.Rulings.{Ruling}
 use Rattle.o2_segs.specs.Answers.{AnswersRoomed, changes_roomed}
-use Rattle.o2_segs.specs.Made.{allocation_to, left_by}
+use Rattle.o2_segs.specs.Made.{left_by}
 use Rattle.o2_segs.proofs.Making.{alloc_refused, alloc_tried, to_none}
 use Rattle.o2_segs.proofs.Resizing.{refusal_moved}
 use Rattle.o2_segs.proofs.Rows.{refusal_answers}

@@ -1,15 +1,12 @@
-use Rattle.std.proofs.Common.{◌≡◌, ℕ, Some, None, ap, refl, sym, subst, ◌∙◌}
-use Rattle.o2_desc.specs.Bits.{has_bit}
-use Rattle.o2_entries.specs.declared.Entry.{Entry}
+use Rattle.std.proofs.Common.{ℕ, Some, ap, refl, sym, subst, ◌∙◌}
 use Rattle.o2_regions.specs.Maps.{region_of}
-use Rattle.o2_store.specs.Shelf.{Shelf, Adds}
-use Rattle.o2_changes.specs.Worlds.{Matches, MatchesMake, new_segment}
-use Rattle.o2_world.specs.World.{Segment}
+use Rattle.o2_store.specs.Shelf.{Shelf}
+use Rattle.o2_changes.specs.Worlds.{Matches, new_segment}
 use Rattle.o2_world.specs.Changes.{Makes, with_change}
 use Rattle.o2_stands.specs.Knows.{known_in}
 use Rattle.o2_stands.specs.Moves.{moved}
 use Rattle.o2_segs.specs.Made.{allocation_to}
-use Rattle.o2_segs.proofs.Making.{done_answers_any, made_locked_by, made_matches, made_plain_by, moved_made, new_name, process_same, refusal_answers_any, run_same, stop_answers_any, stop_leaves, to_full, to_some}
+use Rattle.o2_segs.proofs.Making.{done_answers_any, made_locked_by, made_matches, made_plain_by, moved_made, new_name, refusal_answers_any, run_same, stop_answers_any, stop_leaves, to_full, to_some}
 use Rattle.o2_segs.proofs.Resizing.{refusal_moved}
 use Rattle.o2_segs.proofs.Stops.{error_none}
 use Rattle.o2_segs.proofs.allocating.allocate.Goals as goal

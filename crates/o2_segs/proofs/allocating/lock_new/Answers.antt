@@ -1,4 +1,4 @@
-use Rattle.std.proofs.Common.{◌≡◌, ℕ, Some, None, ap, refl, sym, subst, ◌∙◌}
+use Rattle.std.proofs.Common.{ℕ, refl, subst}
 use Rattle.o2_service.proofs.Among.{live_same}
 use Rattle.o2_store.specs.Pictures.{picture}
 use Rattle.o2_changes.proofs.LocksStand.{locked_clean}
@@ -17,11 +17,13 @@ pub unmake-requires-clause-unheld : goal.unmake-requires-clause-unheld
 unmake-requires-clause-unheld g c = still_unheld c.args.regions.now c.bring_in.new.regions c.args.id c.bring_in.ensures.maps c.requires.unheld
 
 pub returns-in-Some-clause-without : goal.returns-in-Some-clause-without
-returns-in-Some-clause-without g c = λ r e.
-    (is_stop_of c.bring_in.result c.in-Some.stop r c.in-Some.ensures e, record {
-      world = λ p w sg es em ei eb tells age absent q.
-          c.unmake.ensures.matches.world (moved p c.bring_in.new.store c.bring_in.new.regions (g.S.SwapDevice.block c.bring_in.new.swap)) w sg refl refl age absent (c.bring_in.ensures.matches.world p (with_change w (Makes sg)) es em ei eb tells q);
-    })
+returns-in-Some-clause-without g c = λ r e. (
+  is_stop_of c.bring_in.result c.in-Some.stop r c.in-Some.ensures e,
+  record {
+    world = λ p w sg es em ei eb tells age absent q.
+        c.unmake.ensures.matches.world (moved p c.bring_in.new.store c.bring_in.new.regions (g.S.SwapDevice.block c.bring_in.new.swap)) w sg refl refl age absent (c.bring_in.ensures.matches.world p (with_change w (Makes sg)) es em ei eb tells q);
+  },
+)
 
 pub returns-in-Some-clause-clean : goal.returns-in-Some-clause-clean
 returns-in-Some-clause-clean g c = c.unmake.ensures.clean (picture c.args.images.now) c.bring_in.ensures.clean
