@@ -185,3 +185,6 @@ made_matches p w x t m n block id sg pid size flags i made left ruling r is done
     (subst (λ (k : ℕ). Matches (moved p t n block) (with_change (with_change w (Makes (made_segment size flags))) (Holds pid i (held_by_call k)))) (sym named)
     (subst (λ (y : Segment). Matches (moved p t n block) (with_change (with_change w (Makes y)) (Holds pid i (held_by_call id.age)))) same
     (hold.world (moved p t m block) (with_change w (Makes sg)) x refl refl at (λ writable. new_plain (moved p t m block) w sg id q live age (ap (λ (y : Segment). y.clean) same)) q))))
+
+pub no_stop : (r : Roomed) (a : Answer) (X : Type 0) → r ≡ roomed.Done a → IsStop r → X
+no_stop r a X e stop = absurd (subst IsStop e stop)

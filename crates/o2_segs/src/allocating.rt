@@ -1,5 +1,5 @@
 // DosAllocSeg.
-ghost use Rattle.std.specs.Prelude.{◌≡◌, ◌-◌, ◌<◌, ◌≤◌, ◌^◌, ◌||◌, IsSome, IsTrue, Some, None};
+ghost use Rattle.std.specs.Prelude.{◌≡◌, ◌-◌, ◌<◌, ◌≤◌, ◌^◌, ◌||◌, IsSome, IsTrue, Some, None, true};
 ghost use Rattle.o2_base.specs.Selectors.{selector_of};
 ghost use Rattle.o2_desc.specs.Bits.{has_bit, writable_data};
 ghost use Rattle.o2_desc.specs.Choice.{IsRun};
@@ -91,6 +91,7 @@ pub fn alloc_seg<S: SwapDevice>(
         → process_at w.processes pid ≡ Some x → get w.names w.next_name ≡ None → Matches p w
         → Matches (moved p (left_by store.new store.old.made result) regions.new (S.block swap.new))
         (with_all w (changes_roomed (allocation (known_in p o) pid size flags) result)) }
+    ensures stops { IsStop result → has_bit flags 2 ≡ true }
     ensures order { IsInOrder store.new regions.new }
     ensures clean { AreClean store.new (picture images.now) }
     ensures faults { S.faults swap.old ≤ S.faults swap.new }
@@ -142,6 +143,7 @@ fn allocate<S: SwapDevice>(
         → process_at w.processes pid ≡ Some x → get w.names w.next_name ≡ None → Matches p w
         → Matches (moved p (left_by store.new store.old.made result) regions.new (S.block swap.new))
         (with_all w (changes_roomed (allocation_to (known_in p o) pid size flags (Some index)) result)) }
+    ensures stops { IsStop result → has_bit flags 2 ≡ true }
     ensures order { IsInOrder store.new regions.new }
     ensures clean { AreClean store.new (picture images.now) }
     ensures faults { S.faults swap.old ≤ S.faults swap.new }

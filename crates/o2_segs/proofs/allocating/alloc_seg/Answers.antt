@@ -41,3 +41,12 @@ returns-in-None-clause-matches g c = λ p o w x es em ei eb tells at absent q.
     refusal_moved p c.args.store.now c.args.regions.now (g.S.SwapDevice.block c.args.swap.now) w _ 8 es em eb
     (alloc_tried p o c.args.regions.now c.args.pid c.args.size c.args.flags None c.requires.process.0 em c.if-flags-gt-FLAGS.false (subst (λ (y : Region). ◌≡◌ {A = Option ℕ} None (chosen (is_taken c.args.regions.now y) (first_of y) (end_of y) 1)) c.region_for.ensures c.in-None.ensures.lowest)
     ∙ to_none (known_in p o) c.args.pid c.args.size c.args.flags) q
+
+pub returns-then-flags-gt-FLAGS-clause-stops : goal.returns-then-flags-gt-FLAGS-clause-stops
+returns-then-flags-gt-FLAGS-clause-stops g c = λ stop. absurd stop
+
+pub returns-in-Some-clause-stops : goal.returns-in-Some-clause-stops
+returns-in-Some-clause-stops g c = λ stop. c.allocate.ensures.stops stop
+
+pub returns-in-None-clause-stops : goal.returns-in-None-clause-stops
+returns-in-None-clause-stops g c = λ stop. absurd stop

@@ -6,7 +6,7 @@ use Rattle.o2_world.specs.Changes.{Makes, with_change}
 use Rattle.o2_stands.specs.Knows.{known_in}
 use Rattle.o2_stands.specs.Moves.{moved}
 use Rattle.o2_segs.specs.Made.{allocation_to}
-use Rattle.o2_segs.proofs.Making.{done_answers_any, made_locked_by, made_matches, made_plain_by, moved_made, new_name, refusal_answers_any, run_same, stop_answers_any, stop_leaves, to_full, to_some}
+use Rattle.o2_segs.proofs.Making.{done_answers_any, made_locked_by, made_matches, made_plain_by, moved_made, new_name, no_stop, refusal_answers_any, run_same, stop_answers_any, stop_leaves, to_full, to_some}
 use Rattle.o2_segs.proofs.Resizing.{refusal_moved}
 use Rattle.o2_segs.proofs.Stops.{error_none}
 use Rattle.o2_segs.proofs.allocating.allocate.Goals as goal
@@ -78,3 +78,15 @@ returns-in-None-clause-matches g c = λ p o w x es em ei eb tells at absent q.
 
 pub hold_made-requires-in-None-lock_new-clause-free : goal.hold_made-requires-in-None-lock_new-clause-free
 hold_made-requires-in-None-lock_new-clause-free g c = run_same c.args.regions.now c.lock_new.new.regions (region_of c.args.pid c.args.index) c.args.index c.lock_new.ensures.maps c.requires.free
+
+pub returns-then-not-is_locked-clause-stops : goal.returns-then-not-is_locked-clause-stops
+returns-then-not-is_locked-clause-stops g c = λ stop. no_stop c.hold_made.result _ _ c.hold_made.ensures.answer stop
+
+pub returns-in-Some-lock_new-clause-stops : goal.returns-in-Some-lock_new-clause-stops
+returns-in-Some-lock_new-clause-stops g c = λ stop. sym c.if-not-is_locked.ensures
+
+pub returns-in-None-lock_new-clause-stops : goal.returns-in-None-lock_new-clause-stops
+returns-in-None-lock_new-clause-stops g c = λ stop. no_stop c.hold_made-in-None-lock_new.result _ _ c.hold_made-in-None-lock_new.ensures.answer stop
+
+pub returns-in-None-clause-stops : goal.returns-in-None-clause-stops
+returns-in-None-clause-stops g c = λ stop. absurd stop
