@@ -1,5 +1,5 @@
 -- What the rows of locks come to.
-use Rattle.std.proofs.Common.{◌≡◌, ◌≢◌, ℕ, ◌+◌, ◌-◌, ◌/◌, ◌<◌, arith, min, Some, None, true, false, cond, eqb, nat_lt, option_map, List, [], ◌∷◌, refl, sym, ap, ◌∙◌, subst}
+use Rattle.std.proofs.Common.{◌≡◌, ◌≢◌, ℕ, ◌+◌, ◌-◌, ◌≤◌, ◌/◌, ◌<◌, arith, min, Some, None, true, false, cond, eqb, nat_lt, option_map, List, [], ◌∷◌, refl, sym, ap, ◌∙◌, subst}
 use Rattle.std.proofs.lemmas.Bool.{cond-true, cond-false, ne_eqb, eq-eqb}
 use Rattle.o2_desc.specs.Bits.{has_bit}
 use Rattle.o2_entries.specs.declared.Attr.{Attr}
@@ -63,6 +63,9 @@ pub lock_done : (name : ℕ) (a : Attr) (m : Marks) → IsMarked a m → has_bit
 lock_done name a m is e =
     cond-true (has_bit m.flags 2) (grants 0 (Locks name (min (m.lock + 1) 255) ∷ [])) (refusal 5) (ap (λ (f : ℕ). has_bit f 2) is.flags ∙ e)
     ∙ ap (λ (l : ℕ). grants 0 (Locks name (min (l + 1) 255) ∷ [])) is.lock
+
+pub none_less : (n : ℕ) → n ≤ 0 → n ≡ 0
+none_less n low = omega (arith, low)
 
 pub positive : (n : ℕ) → n ≢ 0 → 0 < n
 positive n other = omega (arith, other)

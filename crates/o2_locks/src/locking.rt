@@ -1,7 +1,8 @@
 // DosLockSeg.
-ghost use Rattle.std.specs.Prelude.{◌≡◌, ◌<◌, ◌≤◌, IsTrue, Some, IsSome};
+ghost use Rattle.std.specs.Prelude.{◌≡◌, ◌<◌, ◌≤◌, ◌/◌, IsTrue, None, Some, IfSome, IsSome, if◌then◌else◌};
+ghost use Rattle.o2_isa.specs.View.{is_local};
 ghost use Rattle.o2_outer.specs.Texts.{Rose};
-ghost use Rattle.o2_regions.specs.Maps.{IsProcess};
+ghost use Rattle.o2_regions.specs.Maps.{IsProcess, held_at};
 ghost use Rattle.o2_segbus.specs.Seen.{AreNamed};
 ghost use Rattle.o2_store.specs.Loads.{live_load, swap_load};
 ghost use Rattle.o2_store.specs.Pictures.{picture, HasPicture};
@@ -10,6 +11,7 @@ ghost use Rattle.o2_swapmap.specs.Piles.{all_of};
 ghost use Rattle.o2_changes.specs.Order.{IsInOrder};
 ghost use Rattle.o2_changes.specs.Worlds.{Matches};
 ghost use Rattle.o2_segs.specs.Answers.{AnswersRoomed, changes_roomed};
+ghost use Rattle.o2_segs.specs.Made.{IsStop};
 ghost use Rattle.o2_stands.specs.Knows.{Others, known_in};
 ghost use Rattle.o2_stands.specs.Moves.{moved};
 ghost use Rattle.o2_stands.specs.Parts.{Parts};
@@ -29,8 +31,8 @@ use o2_segs::{ACCESS_DENIED, done, held_under, refusal, stop_of};
 use o2_store::Store;
 
 /// DosLockSeg(sel): a discardable segment that the caller holds is locked once more, at most 255 times. Where it isn't locked
-/// yet, it comes into memory first, together with the segments of `keep` and those that are locked. 5 where no such segment is
-/// held. At a stop no segment, no hold and no lock has changed.
+/// yet, it comes into memory first, together with the segments of `keep` and those that are locked, and only then a stop may come.
+/// 5 where no such segment is held. At a stop no segment, no hold and no lock has changed.
 pub fn lock_seg<S: SwapDevice>(
     store: &mut Store,
     regions: &mut Regions,
@@ -53,6 +55,8 @@ pub fn lock_seg<S: SwapDevice>(
         → p.images ≡ images.now → p.block ≡ S.block swap.old → IsTrue (S.told swap.old) → Matches p w
         → Matches (moved p store.new regions.new (S.block swap.new))
         (with_all w (changes_roomed (locking (known_in p o) pid sel) result)) }
+    ensures stops { IsStop result
+        → IfSome (if is_local sel then held_at regions.old pid (sel / 8) else None) (λ h. (entry store.old h.id.key).attr.lock ≡ 0) }
     ensures order { IsInOrder store.new regions.new }
     ensures clean { AreClean store.new (picture images.now) }
     ensures loads { result ≡ Roomed.SwapFull
@@ -88,6 +92,7 @@ fn lock<S: SwapDevice>(
         → p.maps ≡ regions.old → p.images ≡ images.now → p.block ≡ S.block swap.old → IsTrue (S.told swap.old)
         → Matches p w → Matches (moved p store.new regions.new (S.block swap.new))
         (with_all w (changes_roomed (locking_with id.age (Some m)) result)) }
+    ensures stops { IsStop result → (entry store.old id.key).attr.lock ≡ 0 }
     ensures order { IsInOrder store.new regions.new }
     ensures clean { AreClean store.new (picture images.now) }
     ensures loads { result ≡ Roomed.SwapFull
@@ -96,10 +101,15 @@ fn lock<S: SwapDevice>(
     ensures faults { S.faults swap.old ≤ S.faults swap.new }
     ensures cause { result ≡ Roomed.SwapFault → Rose (S.faults swap.old) (S.faults swap.new) }
 {
+    store.law();
     match store.attr(id) {
         Some(attr) => {
             if !is_discardable(attr) {
                 return Roomed::Done(refusal(ACCESS_DENIED));
+            }
+            if 0 < attr.lock {
+                set_lock(store, regions, id, attr.lock.saturating_add(1));
+                return Roomed::Done(done(0));
             }
             match stop_of(bring_in(store, regions, id, keep, images, swap)) {
                 Some(stop) => stop,

@@ -1,4 +1,4 @@
-use Rattle.std.proofs.Common.{◌+◌, Some, ap, min, refl, sym, ◌∙◌}
+use Rattle.std.proofs.Common.{◌+◌, ◌<◌, Some, ap, min, refl, sym, subst, ◌∙◌}
 use Rattle.o2_desc.specs.Bits.{has_bit}
 use Rattle.o2_entries.specs.declared.Attr.{Attr}
 use Rattle.o2_entries.specs.Tables.{slot_at}
@@ -12,7 +12,10 @@ use Rattle.o2_world.specs.Rulings.{locking_with}
 use Rattle.o2_segs.proofs.Resizing.{refusal_moved, stopped_matches}
 use Rattle.o2_segs.proofs.Rows.{done_answers, refusal_answers}
 use Rattle.o2_segs.proofs.Stops.{error_none, stop_answers, was_here}
-use Rattle.o2_locks.proofs.Rows.{lock_done, lock_plain, locked_matches}
+use Rattle.o2_store.proofs.Tables.{locked_at}
+use Rattle.o2_world.specs.Changes.{Locks, with_change}
+use Rattle.o2_segs.proofs.Making.{moved_made}
+use Rattle.o2_locks.proofs.Rows.{lock_done, lock_plain, locked_matches, none_less}
 use Rattle.o2_locks.proofs.locking.lock.Goals as goal
 
 pub returns-then-not-is_discardable-clause-answer : goal.returns-then-not-is_discardable-clause-answer
@@ -37,25 +40,54 @@ pub returns-in-Some-stop_of-clause-matches : goal.returns-in-Some-stop_of-clause
 returns-in-Some-stop_of-clause-matches g c = λ m p w is es em ei eb tells q.
     stopped_matches p w c.bring_in.new.store c.bring_in.new.regions (g.S.SwapDevice.block c.bring_in.new.swap) (locking_with c.args.id.age (Some m)) c.bring_in.result c.in-Some-stop_of.stop c.in-Some-stop_of.ensures (c.bring_in.ensures.matches.world p w es em ei eb tells q)
 
-pub set_lock-requires-clause-live : goal.set_lock-requires-clause-live
-set_lock-requires-clause-live g c = live_same c.args.store.now c.bring_in.new.store c.args.id c.bring_in.ensures.keeps.tables c.requires.live
+pub set_lock-requires-in-None-stop_of-clause-live : goal.set_lock-requires-in-None-stop_of-clause-live
+set_lock-requires-in-None-stop_of-clause-live g c = live_same c.args.store.now c.bring_in.new.store c.args.id c.bring_in.ensures.keeps.tables c.requires.live
 
-pub set_lock-requires-clause-present : goal.set_lock-requires-clause-present
-set_lock-requires-clause-present g c = λ l. c.bring_in.ensures.here (was_here c.bring_in.result c.in-None-stop_of.ensures c.bring_in.ensures.never)
+pub set_lock-requires-in-None-stop_of-clause-present : goal.set_lock-requires-in-None-stop_of-clause-present
+set_lock-requires-in-None-stop_of-clause-present g c = λ l. c.bring_in.ensures.here (was_here c.bring_in.result c.in-None-stop_of.ensures c.bring_in.ensures.never)
 
 pub returns-in-None-stop_of-clause-answer : goal.returns-in-None-stop_of-clause-answer
 returns-in-None-stop_of-clause-answer g c = λ m is.
     (let s = c.args.store.now in
     let at = attr_there (entry_of s c.args.id) c.in-Some.attr (sym c.in-Some.ensures) c.args.id.age (slot_at s.entries c.args.id.key) refl in
-    done_answers _ _ 0 c.done.result (lock_done c.args.id.age (entry s c.args.id.key).attr m is (ap (λ (a : Attr). has_bit a.flags 2) (sym at) ∙ sym c.if-not-is_discardable.ensures)) c.done.ensures)
+    done_answers _ _ 0 c.done-in-None-stop_of.result (lock_done c.args.id.age (entry s c.args.id.key).attr m is (ap (λ (a : Attr). has_bit a.flags 2) (sym at) ∙ sym c.if-not-is_discardable.ensures)) c.done-in-None-stop_of.ensures)
 
 pub returns-in-None-stop_of-clause-matches : goal.returns-in-None-stop_of-clause-matches
 returns-in-None-stop_of-clause-matches g c = λ m p w is es em ei eb tells q.
     (let s = c.args.store.now in
     let at = attr_there (entry_of s c.args.id) c.in-Some.attr (sym c.in-Some.ensures) c.args.id.age (slot_at s.entries c.args.id.key) refl in
-    locked_matches p w c.set_lock.new.store c.bring_in.new.regions (g.S.SwapDevice.block c.bring_in.new.swap) c.args.id (min ((entry s c.args.id.key).attr.lock + 1) 255) c.saturating_add.result (locking_with c.args.id.age (Some m)) (lock_done c.args.id.age (entry s c.args.id.key).attr m is (ap (λ (a : Attr). has_bit a.flags 2) (sym at) ∙ sym c.if-not-is_discardable.ensures)) (c.saturating_add.ensures ∙ ap (λ (a : Attr). min (a.lock + 1) 255) at)
-    (c.set_lock.ensures.matches.world (moved p c.bring_in.new.store c.bring_in.new.regions (g.S.SwapDevice.block c.bring_in.new.swap)) w refl refl (c.bring_in.ensures.matches.world p w es em ei eb tells q)))
+    locked_matches p w c.set_lock-in-None-stop_of.new.store c.bring_in.new.regions (g.S.SwapDevice.block c.bring_in.new.swap) c.args.id (min ((entry s c.args.id.key).attr.lock + 1) 255) c.saturating_add-in-None-stop_of.result (locking_with c.args.id.age (Some m)) (lock_done c.args.id.age (entry s c.args.id.key).attr m is (ap (λ (a : Attr). has_bit a.flags 2) (sym at) ∙ sym c.if-not-is_discardable.ensures)) (c.saturating_add-in-None-stop_of.ensures ∙ ap (λ (a : Attr). min (a.lock + 1) 255) at)
+    (c.set_lock-in-None-stop_of.ensures.matches.world (moved p c.bring_in.new.store c.bring_in.new.regions (g.S.SwapDevice.block c.bring_in.new.swap)) w refl refl (c.bring_in.ensures.matches.world p w es em ei eb tells q)))
 
 pub returns-in-None-stop_of-clause-clean : goal.returns-in-None-stop_of-clause-clean
 returns-in-None-stop_of-clause-clean g c =
-    locked_clean c.bring_in.new.store c.set_lock.new.store c.args.id c.saturating_add.result (live_same c.args.store.now c.bring_in.new.store c.args.id c.bring_in.ensures.keeps.tables c.requires.live) c.set_lock.ensures.sets (picture c.args.images.now) c.bring_in.ensures.clean
+    locked_clean c.bring_in.new.store c.set_lock-in-None-stop_of.new.store c.args.id c.saturating_add-in-None-stop_of.result (live_same c.args.store.now c.bring_in.new.store c.args.id c.bring_in.ensures.keeps.tables c.requires.live) c.set_lock-in-None-stop_of.ensures.sets (picture c.args.images.now) c.bring_in.ensures.clean
+
+pub returns-in-Some-stop_of-clause-stops : goal.returns-in-Some-stop_of-clause-stops
+returns-in-Some-stop_of-clause-stops g c = λ stop.
+    (let s = c.args.store.now in
+    let at = attr_there (entry_of s c.args.id) c.in-Some.attr (sym c.in-Some.ensures) c.args.id.age (slot_at s.entries c.args.id.key) refl in
+    ap (λ (a : Attr). a.lock) (sym at) ∙ none_less c.in-Some.attr.lock c.if-attr-gt0.false)
+
+pub set_lock-requires-clause-present : goal.set_lock-requires-clause-present
+set_lock-requires-clause-present g c = λ l.
+    (let s = c.args.store.now in
+    let at = attr_there (entry_of s c.args.id) c.in-Some.attr (sym c.in-Some.ensures) c.args.id.age (slot_at s.entries c.args.id.key) refl in
+    locked_at s c.args.id.key c.law.ensures.shelf (subst (λ (a : Attr). 0 < a.lock) at c.if-attr-gt0.true))
+
+pub returns-then-attr-gt0-clause-answer : goal.returns-then-attr-gt0-clause-answer
+returns-then-attr-gt0-clause-answer g c = λ m is.
+    (let s = c.args.store.now in
+    let at = attr_there (entry_of s c.args.id) c.in-Some.attr (sym c.in-Some.ensures) c.args.id.age (slot_at s.entries c.args.id.key) refl in
+    done_answers _ _ 0 c.done.result (lock_done c.args.id.age (entry s c.args.id.key).attr m is (ap (λ (a : Attr). has_bit a.flags 2) (sym at) ∙ sym c.if-not-is_discardable.ensures)) c.done.ensures)
+
+pub returns-then-attr-gt0-clause-matches : goal.returns-then-attr-gt0-clause-matches
+returns-then-attr-gt0-clause-matches g c = λ m p w is es em ei eb tells q.
+    (let s = c.args.store.now in
+    let at = attr_there (entry_of s c.args.id) c.in-Some.attr (sym c.in-Some.ensures) c.args.id.age (slot_at s.entries c.args.id.key) refl in
+    locked_matches p w c.set_lock.new.store c.args.regions.now (g.S.SwapDevice.block c.args.swap.now) c.args.id (min ((entry s c.args.id.key).attr.lock + 1) 255) c.saturating_add.result (locking_with c.args.id.age (Some m)) (lock_done c.args.id.age (entry s c.args.id.key).attr m is (ap (λ (a : Attr). has_bit a.flags 2) (sym at) ∙ sym c.if-not-is_discardable.ensures)) (c.saturating_add.ensures ∙ ap (λ (a : Attr). min (a.lock + 1) 255) at)
+    (moved_made p (with_change w (Locks c.args.id.age c.saturating_add.result)) c.set_lock.new.store c.args.regions.now (g.S.SwapDevice.block c.args.swap.now) em eb (c.set_lock.ensures.matches.world p w es em q)))
+
+pub returns-then-attr-gt0-clause-clean : goal.returns-then-attr-gt0-clause-clean
+returns-then-attr-gt0-clause-clean g c =
+    locked_clean c.args.store.now c.set_lock.new.store c.args.id c.saturating_add.result c.requires.live c.set_lock.ensures.sets (picture c.args.images.now) c.requires.clean

@@ -1,4 +1,6 @@
-use Rattle.std.proofs.Common.{sym, subst}
+use Rattle.o2_regions.specs.declared.held.Held.{Held}
+use Rattle.o2_store.specs.Shelf.{entry}
+use Rattle.std.proofs.Common.{◌≡◌, Option, IfSome, sym, subst}
 use Rattle.o2_changes.specs.Worlds.{Matches}
 use Rattle.o2_segs.specs.Answers.{AnswersRoomed, changes_roomed}
 use Rattle.o2_segs.proofs.Resizing.{refusal_moved}
@@ -29,3 +31,7 @@ returns-in-None-clause-answer g c = λ p o es em. refusal_answers _ 5 c.refusal.
 pub returns-in-None-clause-matches : goal.returns-in-None-clause-matches
 returns-in-None-clause-matches g c = λ p o w es em ei eb tells q.
     refusal_moved p c.args.store.now c.args.regions.now _ w _ 5 es em eb (lock_none p o c.args.pid c.args.sel (at_maps p c.args.regions.now c.args.pid c.args.sel _ em (sym c.in-None.ensures))) q
+
+pub returns-in-Some-clause-stops : goal.returns-in-Some-clause-stops
+returns-in-Some-clause-stops g c = λ stop.
+    subst (λ (y : Option Held). IfSome y (λ h. (entry c.args.store.now h.id.key).attr.lock ≡ 0)) c.in-Some.ensures (c.lock.ensures.stops stop)
