@@ -1,5 +1,7 @@
 -- The images of segments, with the room behind them.
-use Rattle.std.proofs.Common.{◌≡◌, ℕ, zero, suc, Bool, true, false, ◌≤◌, ◌<◌, ◌+◌, ◌-◌, List, [], ◌∷◌, ◌++◌, length, replicate, Option, Some, None, if◌then◌else◌, ◌==◌, sym, refl, arith, append-nil, subst, get_or}
+use Rattle.o2_ne.specs.Steps.{tabulate}
+use Rattle.o2_image.specs.Getters.{nth_list}
+use Rattle.std.proofs.Common.{◌∙◌, ap, append_assoc, ◌≡◌, ℕ, zero, suc, Bool, true, false, ◌≤◌, ◌<◌, ◌+◌, ◌-◌, List, [], ◌∷◌, ◌++◌, length, replicate, Option, Some, None, if◌then◌else◌, ◌==◌, sym, refl, arith, append-nil, subst, get_or}
 use Rattle.std.specs.Prelude.{option_map, slice_get, MatchBool}
 use Rattle.o2_ne_segs.specs.declared.segment.Segment.{Segment}
 use Rattle.o2_ne_segs.specs.SegmentTable.{nth_segment, AllSized, HasSize}
@@ -81,3 +83,28 @@ room_behind_fits m n s runs e = fits_by (n == m.head.auto_seg) m n s refl runs e
 -- and has at least one byte
 pub size_is_some : (m : Parts) (n : ℕ) (s : Segment) → IsRunnable m → nth_segment n m.segments ≡ Some s → 1 ≤ s.size
 size_is_some m n s runs e = least (n == 0) m.segments n s runs.sizes e
+
+-- the bytes of an environment
+
+told : (front rest : List ℕ) (i : ℕ) → i ≡ length front → tabulate (λ (j : ℕ). get_or (front ++ rest) j 0) i (length rest) ≡ rest
+unfolding tabulate
+told front [] i e = refl
+told front (x ∷ rest) i e =
+    ap (λ (n : ℕ). n ∷ tabulate (λ (j : ℕ). get_or (front ++ x ∷ rest) j 0) (i + 1) (length rest)) (here front i e)
+    ∙ ap (λ (ys : List ℕ). x ∷ ys)
+    (ap (λ (bs : List ℕ). tabulate (λ (j : ℕ). get_or bs j 0) (i + 1) (length rest)) (sym (append_assoc front (x ∷ []) rest))
+    ∙ told (front ++ x ∷ []) rest (i + 1) (more front i e))
+  where
+    here : (front : List ℕ) (i : ℕ) → i ≡ length front → get_or (front ++ x ∷ rest) i 0 ≡ x
+    here [] i e = rw e refl
+    here (y ∷ front) zero e = absurd (omega (arith, e))
+    here (y ∷ front) (suc i) e = here front i (omega (arith, e))
+
+    more : (front : List ℕ) (i : ℕ) → i ≡ length front → i + 1 ≡ length (front ++ x ∷ [])
+    more [] i e = omega (arith, e)
+    more (y ∷ front) zero e = absurd (omega (arith, e))
+    more (y ∷ front) (suc i) e = let m = more front i (omega (arith, e)) in omega (arith, m)
+
+pub environment_is : (images : ImageList) (pid size : ℕ) → size ≡ length (nth_list images.environments pid) → image_front images 0 pid size ++ replicate 0 0 ≡ nth_list images.environments pid
+environment_is images pid size e =
+    append-nil (image_front images 0 pid size) ∙ ap (λ (n : ℕ). image_front images 0 pid n) e ∙ told [] (nth_list images.environments pid) 0 refl

@@ -1,10 +1,13 @@
 pub mod Indexed
 pub mod Names
+pub mod Held
+pub mod Steps
 pub mod Images
 pub mod Firsts
 pub mod Modules
 pub mod Wholes
 pub mod Nexts
+pub mod Takes
 pub mod Sizes
 pub mod Alls
 pub mod Apart
@@ -13,3 +16,4 @@ pub mod Fits
 pub mod Reserved
 pub mod Overs
 pub mod Openings
+pub mod Vectored

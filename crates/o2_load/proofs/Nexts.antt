@@ -1,26 +1,22 @@
 -- One process more.
 use Rattle.std.proofs.Common.{◌≡◌, ◌≢◌, ℕ, zero, suc, true, ◌≤◌, ◌+◌, List, [], ◌∷◌, ◌++◌, length, Option, Some, None, if◌then◌else◌, ap, sym, ◌∙◌, refl, arith, subst, length-append, append-nil, append_assoc}
-use Rattle.std.specs.Prelude.{slice_get, map, Ok, Err}
+use Rattle.std.specs.Prelude.{slice_get, Result, Ok, Err}
+use Rattle.std.specs.Result.{IsErr, IsErrAnd}
 use Rattle.o2_base.specs.declared.faults.ModuleFault.{ModuleFault}
-use Rattle.o2_isa.specs.declared.cpu.Cpu.{Cpu}
-use Rattle.o2_isa.specs.View.{Hold}
-use Rattle.o2_bus.specs.Plain.{held_in, bytes_in, shown_in, count_in, segment_bytes as stored_bytes}
-use Rattle.o2_bus.specs.declared.plain.Plain.{Plain}
-use Rattle.o2_bus.specs.declared.segment.Segment.{Segment as Stored}
-use Rattle.o2_dynlink.specs.Outcome.{LinkedParts}
-use Rattle.o2_world.specs.World.{Process, Line}
-use Rattle.o2_world.specs.Opening.{start_lines}
-use Rattle.std.proofs.lemmas.List.{length-map}
-use Rattle.o2_world.specs.Map.{Map}
-use Rattle.o2_world.specs.Views.{holds_in}
-use Rattle.o2_world.specs.Starts.{Built, nothing_built, Start, Holding, first_cpu, first_process, holdings, holds_as, name_in, with_holding, with_holdings, with_started, started_as, next_started}
-use Rattle.o2_load.specs.declared.build.Build.{Build}
-use Rattle.o2_load.specs.declared.begun.Begun.{Begun}
-use Rattle.o2_load.specs.Holds.{IsHolding, OthersStay}
 use Rattle.o2_base.specs.declared.memory.Fail.{Fail}
 use Rattle.o2_base.specs.declared.memory.Fail.TheVariants.{NoMemory, Bad}
+use Rattle.o2_isa.specs.declared.cpu.Cpu.{Cpu}
+use Rattle.std.proofs.lemmas.List.{length-map}
+use Rattle.o2_dynlink.specs.Outcome.{LinkedParts}
+use Rattle.o2_world.specs.Map.{Map, get}
+use Rattle.o2_world.specs.World.{Process, Line, Held}
+use Rattle.o2_world.specs.Opening.{start_lines}
+use Rattle.o2_world.specs.Starts.{Built, nothing_built, Start, Holding, first_cpu, first_process, holdings, holds_as, name_in, with_holding, with_holdings, with_started, started_as, next_started}
+use Rattle.o2_load.specs.Memory.{Memory, OthersStay}
+use Rattle.o2_load.specs.Holds.{Names, Stage, IsHolding}
 use Rattle.o2_load.specs.Started.{StartsAs}
-use Rattle.o2_load.specs.Beginnings.{IsFirst, IsFirstAt, IsBegun, BeginsAs, lines_from, program_name}
+use Rattle.o2_load.specs.Beginnings.{lines_from, program_name}
+use Rattle.o2_load.specs.Progresses.{IsStarted, IsStartedAt, Course, HasCome, ComesAs, IsEmpty}
 
 -- holding changes no process that has started
 same_as : (b : Built) (h : Holding) (o : Option ℕ) → (holds_as b h o).processes ≡ b.processes
@@ -46,7 +42,7 @@ lines_more l n k (ys ∷ xss) xs e =
     ap (λ (z : List Line). start_lines n (program_name l n) ys ++ z) (lines_more l (n + 1) k xss xs (omega (arith, e)))
     ∙ sym (append_assoc (start_lines n (program_name l n) ys) (lines_from l (n + 1) xss) (start_lines k (program_name l k) xs))
 
-past_end : (o : Option Cpu) (holds : ℕ → Option Hold) (u : Option Process) → o ≡ None → IsFirstAt o holds u → (j : ℕ) → None ≡ holds j
+past_end : (o : Option Cpu) (holds : ℕ → Option Held) (u : Option Process) → o ≡ None → IsStartedAt o holds u → (j : ℕ) → None ≡ holds j
 past_end None holds None e is = is
 past_end None holds (Some p) e is = absurd is
 past_end (Some c) holds u e is = absurd (cc)
@@ -57,57 +53,60 @@ none_past (x ∷ xs) zero h = absurd (omega (arith, h))
 none_past (x ∷ xs) (suc i) h = none_past xs i (omega (arith, h))
 
 -- what the next process starts from
-pub ready_for : (m : Begun) (l : LinkedParts) (b : Built) (pid : ℕ) → pid ≡ length m.cpus.items + 1 → IsBegun m l b → IsHolding m.build pid b
-ready_for m l b pid e is = record {
+pub ready_for : (names : Names) (x : Course) (l : LinkedParts) (b : Built) (most pid : ℕ) → pid ≡ length x.cpus + 1 → HasCome names x l most b → IsHolding names x.at most pid b
+ready_for names x l b most pid e is = record {
   count = is.count;
-  bytes = is.bytes;
-  shown = is.shown;
+  most = is.most;
+  fits = is.fits;
+  named = is.named;
   made = is.made;
   selectors = is.ready ∙ sym is.fresh;
   held = λ i.
-      ap (λ (h : Map Rattle.o2_world.specs.World.Held). holds_in h i) is.idle
-      ∙ past_end (slice_get m.cpus.items (length m.cpus.items)) (held_in m.build.plain (length m.cpus.items + 1)) _ (none_past m.cpus.items (length m.cpus.items) (omega arith)) (is.places (length m.cpus.items)) i
-      ∙ ap (λ (n : ℕ). held_in m.build.plain n i) (sym e);
+      ap (λ (h : Map Held). get h i) is.idle
+      ∙ past_end (slice_get x.cpus (length x.cpus)) (x.at.memory.held (length x.cpus + 1)) _ (none_past x.cpus (length x.cpus) (omega arith)) (is.places (length x.cpus)) i
+      ∙ ap (λ (n : ℕ). x.at.memory.held n i) (sym e);
 }
 
 -- the places before, at and behind a new one
-placed : (cs : List Cpu) (ps : List Process) (c : Cpu) (p : Process) (old new : ℕ → ℕ → Option Hold) → length ps ≡ length cs → IsFirst c (new (length cs)) p → ((n : ℕ) → n ≢ length cs → (j : ℕ) → new n j ≡ old n j)
-    → ((i : ℕ) → IsFirstAt (slice_get cs i) (old i) (slice_get ps i)) → (i : ℕ) → IsFirstAt (slice_get (cs ++ c ∷ []) i) (new i) (slice_get (ps ++ p ∷ []) i)
+placed : (cs : List Cpu) (ps : List Process) (c : Cpu) (p : Process) (old new : ℕ → ℕ → Option Held) → length ps ≡ length cs → IsStarted c (new (length cs)) p
+    → ((n : ℕ) → n ≢ length cs → (j : ℕ) → new n j ≡ old n j) → ((i : ℕ) → IsStartedAt (slice_get cs i) (old i) (slice_get ps i))
+    → (i : ℕ) → IsStartedAt (slice_get (cs ++ c ∷ []) i) (new i) (slice_get (ps ++ p ∷ []) i)
 placed [] [] c p old new same first stays each zero = first
 placed [] [] c p old new same first stays each (suc i) = λ j. each (suc i) j ∙ sym (stays (suc i) (λ e. absurd (omega (arith, e))) j)
 placed [] (q ∷ ps) c p old new same first stays each i = absurd (omega (arith, same))
 placed (d ∷ cs) [] c p old new same first stays each i = absurd (omega (arith, same))
 placed (d ∷ cs) (q ∷ ps) c p old new same first stays each zero =
-    let was : IsFirst d (old 0) q = each 0 in
+    let was : IsStarted d (old 0) q = each 0 in
     record { cpu = was.cpu; state = was.state; held = λ j. was.held j ∙ sym (stays 0 (λ e. absurd (omega (arith, e))) j) }
 placed (d ∷ cs) (q ∷ ps) c p old new same first stays each (suc i) =
     placed cs ps c p (λ n. old (suc n)) (λ n. new (suc n)) (omega (arith, same)) first (λ n other j. stays (suc n) (λ e. other (omega (arith, e))) j) (λ n. each (suc n)) i
 
-module _ (m new : Begun) (after : Build) (l : LinkedParts) (s : Start) (b : Built) (pid : ℕ) (c : Cpu) (e : pid ≡ length m.cpus.items + 1) (is : IsBegun m l b)
-    (others : OthersStay m.build after pid) (holds : IsHolding after pid (with_holdings b (holdings pid s))) (first : c ≡ first_cpu s)
-    (plain : new.build.plain ≡ after.plain) (made : new.build.made ≡ after.made) (fresh : new.build.selectors.items ≡ []) (cpus : new.cpus.items ≡ m.cpus.items ++ c ∷ [])
-    (rows : map (λ v. v.items) new.starts.items ≡ map (λ v. v.items) m.starts.items ++ after.selectors.items ∷ []) (name : s.program.name ≡ program_name l pid) where
+module _ (before after : Names) (x new : Course) (y : Stage) (l : LinkedParts) (s : Start) (b : Built) (most pid : ℕ) (c : Cpu) (e : pid ≡ length x.cpus + 1) (is : HasCome before x l most b)
+    (others : OthersStay x.at.memory y.memory pid) (holds : IsHolding after y most pid (with_holdings b (holdings pid s))) (first : c ≡ first_cpu s)
+    (memory : new.at.memory ≡ y.memory) (made : new.at.made ≡ y.made) (fresh : new.at.selectors ≡ []) (cpus : new.cpus ≡ x.cpus ++ c ∷ [])
+    (rows : new.starts ≡ x.starts ++ y.selectors ∷ []) (name : s.program.name ≡ program_name l pid) where
   pub done : Built
   done = with_started pid s (with_holdings b (holdings pid s))
 
-  place_is : (i : ℕ) → IsFirstAt (slice_get (m.cpus.items ++ c ∷ []) i) (held_in after.plain (i + 1)) (slice_get (b.processes ++ first_process s (with_holdings b (holdings pid s)).held ∷ []) i)
+  place_is : (i : ℕ) → IsStartedAt (slice_get (x.cpus ++ c ∷ []) i) (y.memory.held (i + 1)) (slice_get (b.processes ++ first_process s (with_holdings b (holdings pid s)).held ∷ []) i)
   place_is =
-      placed m.cpus.items b.processes c (first_process s (with_holdings b (holdings pid s)).held) (λ n. held_in m.build.plain (n + 1)) (λ n. held_in after.plain (n + 1)) is.same
-      (record { cpu = sym first; state = refl; held = λ j. holds.held j ∙ ap (λ (n : ℕ). held_in after.plain n j) e })
-      (λ n other j. others (n + 1) j (λ same. other (omega (arith, same, e)))) is.places
+      placed x.cpus b.processes c (first_process s (with_holdings b (holdings pid s)).held) (λ n. x.at.memory.held (n + 1)) (λ n. y.memory.held (n + 1)) is.same
+      (record { cpu = sym first; state = refl; held = λ j. holds.held j ∙ ap (λ (n : ℕ). y.memory.held n j) e })
+      (λ n other j. others.others (n + 1) j (λ same. other (omega (arith, same, e)))) is.places
 
-  pub begun : IsBegun new l done
+  pub begun : HasCome after new l most done
   unfolding done
   begun = record {
-    count = ap count_in plain ∙ holds.count;
-    bytes = λ n. holds.bytes n ∙ ap (λ p. bytes_in p n) (sym plain);
-    shown = λ n. ap (λ p. shown_in p n) plain ∙ holds.shown n;
+    count = ap (λ (m : Memory). m.count) memory ∙ holds.count;
+    most = ap (λ (m : Memory). m.most) memory ∙ holds.most;
+    fits = subst (λ (m : Memory). m.count ≤ m.most) (sym memory) holds.fits;
+    named = holds.named;
     made = holds.made ∙ sym made;
-    none = λ j. is.none j ∙ sym (others 0 j (λ same. absurd (omega (arith, same, e)))) ∙ ap (λ p. held_in p 0 j) (sym plain);
+    none = λ j. is.none j ∙ sym (others.others 0 j (λ same. absurd (omega (arith, same, e)))) ∙ ap (λ (m : Memory). m.held 0 j) (sym memory);
     places = λ i.
-        subst (λ (cs : List Cpu). IsFirstAt (slice_get cs i) (held_in new.build.plain (i + 1)) (slice_get done.processes i)) (sym cpus)
-        (subst (λ p. IsFirstAt (slice_get (m.cpus.items ++ c ∷ []) i) (held_in p (i + 1)) (slice_get done.processes i)) (sym plain)
-        (subst (λ (ps : List Process). IsFirstAt (slice_get (m.cpus.items ++ c ∷ []) i) (held_in after.plain (i + 1)) (slice_get (ps ++ first_process s (with_holdings b (holdings pid s)).held ∷ []) i))
+        subst (λ (cs : List Cpu). IsStartedAt (slice_get cs i) (new.at.memory.held (i + 1)) (slice_get done.processes i)) (sym cpus)
+        (subst (λ (m : Memory). IsStartedAt (slice_get (x.cpus ++ c ∷ []) i) (m.held (i + 1)) (slice_get done.processes i)) (sym memory)
+        (subst (λ (ps : List Process). IsStartedAt (slice_get (x.cpus ++ c ∷ []) i) (y.memory.held (i + 1)) (slice_get (ps ++ first_process s (with_holdings b (holdings pid s)).held ∷ []) i))
         (sym (same_processes (holdings pid s) b)) (place_is i)));
     idle = refl;
     ready = refl;
@@ -115,62 +114,57 @@ module _ (m new : Begun) (after : Build) (l : LinkedParts) (s : Start) (b : Buil
     same =
         let old = ap (λ (ps : List Process). length ps) (same_processes (holdings pid s) b) in
         let one = length-append (with_holdings b (holdings pid s)).processes (first_process s (with_holdings b (holdings pid s)).held ∷ []) in
-        let two = length-append m.cpus.items (c ∷ []) in
+        let two = length-append x.cpus (c ∷ []) in
         let all = ap (λ (cs : List Cpu). length cs) cpus in
         omega (arith, old, one, two, all, is.same);
     rows =
-        let two = length-append m.cpus.items (c ∷ []) in
+        let two = length-append x.cpus (c ∷ []) in
         let all = ap (λ (cs : List Cpu). length cs) cpus in
-        let three = length-append (map (λ v. v.items) m.starts.items) (after.selectors.items ∷ []) in
+        let three = length-append x.starts (y.selectors ∷ []) in
         let four = ap (λ (xs : List (List ℕ)). length xs) rows in
-        let five = length-map new.starts.items (λ v. v.items) in
-        let six = length-map m.starts.items (λ v. v.items) in
-        omega (arith, two, all, three, four, five, six, is.rows);
+        omega (arith, two, all, three, four, is.rows);
     lines =
-        let size = length-map m.starts.items (λ v. v.items) in
         ap (λ (z : List Line). z ++ start_lines pid s.program.name (with_holdings b (holdings pid s)).selectors) (same_lines (holdings pid s) b ∙ is.lines)
-        ∙ ap (λ (z : List ℕ). lines_from l 1 (map (λ v. v.items) m.starts.items) ++ start_lines pid z (with_holdings b (holdings pid s)).selectors) name
-        ∙ ap (λ (z : List ℕ). lines_from l 1 (map (λ v. v.items) m.starts.items) ++ start_lines pid (program_name l pid) z) holds.selectors
-        ∙ sym (lines_more l 1 pid (map (λ v. v.items) m.starts.items) after.selectors.items (omega (arith, e, size, is.rows)))
+        ∙ ap (λ (z : List ℕ). lines_from l 1 x.starts ++ start_lines pid z (with_holdings b (holdings pid s)).selectors) name
+        ∙ ap (λ (z : List ℕ). lines_from l 1 x.starts ++ start_lines pid (program_name l pid) z) holds.selectors
+        ∙ sym (lines_more l 1 pid x.starts y.selectors (omega (arith, e, is.rows)))
         ∙ ap (lines_from l 1) (sym rows);
   }
 
-  pub next_is : (most : ℕ) → started_as most pid s b ≡ Ok (with_started pid s (with_holdings b (holdings pid s))) → next_started most (Ok b) s ≡ Ok done
+  pub next_is : started_as most pid s b ≡ Ok (with_started pid s (with_holdings b (holdings pid s))) → next_started most (Ok b) s ≡ Ok done
   unfolding done
-  next_is most starts = ap (λ (n : ℕ). started_as most n s b) (omega (arith, e, is.same)) ∙ starts
+  next_is starts = ap (λ (n : ℕ). started_as most n s b) (omega (arith, e, is.same)) ∙ starts
 
   -- one process more
-  pub begins : (most : ℕ) → started_as most pid s b ≡ Ok (with_started pid s (with_holdings b (holdings pid s))) → BeginsAs new l (next_started most (Ok b) s) pid (Ok tt)
-  begins most starts = (done, (next_is most starts, begun))
+  pub begins : started_as most pid s b ≡ Ok (with_started pid s (with_holdings b (holdings pid s))) → ComesAs after new l most (next_started most (Ok b) s) pid (Ok tt)
+  begins starts = (done, (next_is starts, begun))
 
 -- a refusal
-pub refused_next : (m : Begun) (after : Build) (l : LinkedParts) (s : Start) (b : Built) (pid most : ℕ) (r : Fail ModuleFault) → pid ≡ length m.cpus.items + 1 → IsBegun m l b → (new : Begun)
-    → StartsAs after most pid s b (Err r) → BeginsAs new l (next_started most (Ok b) s) pid (Err r)
-refused_next m after l s b pid most NoMemory e is new starts = tt
-refused_next m after l s b pid most (Bad fault) e is new starts = ap (λ (n : ℕ). started_as most n s b) (omega (arith, e, is.same)) ∙ starts
-
-nothing_stored : (ss : List Stored) (n : ℕ) → length ss ≡ 0 → stored_bytes (slice_get ss n) ≡ []
-nothing_stored [] n e = refl
-nothing_stored (s ∷ ss) n e = absurd (omega (arith, e))
-
-nothing_in : (p : Plain) (n : ℕ) → count_in p ≡ 0 → bytes_in p n ≡ []
-unfolding count_in bytes_in
-nothing_in p n e = nothing_stored p.segments.items n e
+pub refused_next : (names after last : Names) (x new : Course) (y : Stage) (l : LinkedParts) (s : Start) (b : Built) (pid most : ℕ) (r : Fail ModuleFault) (result : Result (Unit {0}) (Fail ModuleFault))
+    → IsErr result → IsErrAnd result (λ f. f ≡ r) → pid ≡ length x.cpus + 1 → HasCome names x l most b
+    → StartsAs after y most pid s b (Err r) → ComesAs last new l most (next_started most (Ok b) s) pid result
+refused_next names after last x new y l s b pid most r (Ok done) err same e is starts = absurd (cc)
+refused_next names after last x new y l s b pid most r (Err NoMemory) err same e is starts = tt
+refused_next names after last x new y l s b pid most NoMemory (Err (Bad fault)) err same e is starts = absurd (cc)
+refused_next names after last x new y l s b pid most (Bad f) (Err (Bad fault)) err same e is starts =
+    let equal : f ≡ fault = cc in
+    ap (λ (n : ℕ). started_as most n s b) (omega (arith, e, is.same)) ∙ starts ∙ ap (λ (g : ModuleFault). Err (pid, g)) equal
 
 -- no process has started
-pub nothing_begun : (m : Begun) (l : LinkedParts) → count_in m.build.plain ≡ 0 → ((q i : ℕ) → held_in m.build.plain q i ≡ None) → ((n : ℕ) → shown_in m.build.plain n ≡ true)
-    → m.build.made ≡ [] → m.build.selectors.items ≡ [] → m.cpus.items ≡ [] → m.starts.items ≡ [] → IsBegun m l nothing_built
-nothing_begun m l count held shown made selectors cpus starts = record {
-  count = count;
-  bytes = λ n. sym (nothing_in m.build.plain n count);
-  shown = shown;
+pub nothing_begun : (names : Names) (x : Course) (l : LinkedParts) → IsEmpty names x.at.memory → x.at.made ≡ [] → x.at.selectors ≡ [] → x.cpus ≡ [] → x.starts ≡ []
+    → HasCome names x l x.at.memory.most nothing_built
+nothing_begun names x l empty made selectors cpus starts = record {
+  count = empty.count;
+  most = refl;
+  fits = let c = empty.count in omega (arith, c);
+  named = empty.named;
   made = sym made;
-  none = λ j. sym (held 0 j);
-  places = λ i. subst (λ (cs : List Cpu). IsFirstAt (slice_get cs i) (held_in m.build.plain (i + 1)) None) (sym cpus) (λ j. sym (held (i + 1) j));
+  none = λ j. sym (empty.held 0 j);
+  places = λ i. subst (λ (cs : List Cpu). IsStartedAt (slice_get cs i) (x.at.memory.held (i + 1)) None) (sym cpus) (λ j. sym (empty.held (i + 1) j));
   idle = refl;
   ready = refl;
   fresh = selectors;
   same = ap (λ (cs : List Cpu). length cs) (sym cpus);
   rows = ap length starts ∙ ap (λ (cs : List Cpu). length cs) (sym cpus);
-  lines = ap (λ vs. lines_from l 1 (map (λ v. v.items) vs)) (sym starts);
+  lines = ap (lines_from l 1) (sym starts);
 }

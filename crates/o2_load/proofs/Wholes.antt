@@ -1,7 +1,10 @@
 -- All that a process holds, and the start that a linked module gives.
-use Rattle.std.proofs.Common.{◌≡◌, ℕ, zero, suc, Bool, true, false, not, ◌<◌, ◌+◌, ◌-◌, List, [], ◌∷◌, ◌++◌, length, Option, Some, None, if◌then◌else◌, ◌==◌, ◌&&◌, ap, sym, ◌∙◌, refl, arith, subst, nat_lt}
+use Rattle.std.proofs.Common.{◌≡◌, ℕ, zero, suc, Bool, true, false, not, ◌<◌, ◌+◌, ◌-◌, List, [], ◌∷◌, ◌++◌, length, Option, Some, None, if◌then◌else◌, ◌==◌, ◌&&◌, ap, sym, ◌∙◌, refl, arith, subst, nat_lt, append_assoc, ◌≤◌}
 use Rattle.std.specs.Prelude.{slice_get, map, option_map, Result, Ok, Err}
-use Rattle.std.proofs.lemmas.List.Sums.{fold-append}
+use Rattle.std.specs.Result.{IsErr, IsErrAnd}
+use Rattle.std.proofs.lemmas.Bool.Decides.{nat_tests}
+use Rattle.o2_base.specs.declared.memory.Fail.TheVariants.{NoMemory, Bad}
+use Rattle.o2_isa.specs.declared.cpu.Cpu.{Cpu}
 use Rattle.o2_base.specs.declared.faults.ModuleFault.{ModuleFault}
 use Rattle.o2_base.specs.declared.faults.ModuleFault.TheVariants.{NoStack, NoEntry, NoSegment}
 use Rattle.o2_isa.specs.View.{is_code}
@@ -16,11 +19,13 @@ use Rattle.o2_image.specs.Images.{Target, image_in}
 use Rattle.o2_image.specs.Parts.{Parts}
 use Rattle.o2_dynlink.specs.Outcome.{LinkedParts}
 use Rattle.o2_world.specs.Starts.{Built, Loaded, LoadedSegment, Holding, Start, holdings, module_holdings, library_holdings, with_holding, with_holdings, nth_loaded, is_stack, is_entry, start_check, first_cpu, image_size, cpu_by, started_as, within_names, where_checked, with_started}
-use Rattle.o2_load.specs.declared.build.Build.{Build}
-use Rattle.o2_load.specs.Holds.{IsHolding, Adds, AddsAll}
+use Rattle.o2_base.specs.declared.memory.Fail.{Fail}
+use Rattle.o2_load.specs.Holds.{Names, Stage, IsHolding, IsOver, ComesTo, Adds, AddsAll}
+use Rattle.o2_load.specs.Started.{HasStarted, StartsAs}
+use Rattle.o2_load.proofs.Steps.{adds_then, adds_refused}
 use Rattle.o2_load.specs.Loads.{loaded, loaded_at, loaded_module, loaded_segment, loaded_segments, segment_holdings, environment_of, start_of, program_place, is_stack_segment, is_entry_segment, stack_of, parts_check, parts_cpu, size_in, rights_of}
 
-loaded_by : (images : ImageList) (place : ℕ) (o : Option Resolution) (m : Parts) → option_map (λ (p : Resolution). p.0) o ≡ Some m → loaded_at images place o ≡ loaded_module images place m
+pub loaded_by : (images : ImageList) (place : ℕ) (o : Option Resolution) (m : Parts) → option_map (λ (p : Resolution). p.0) o ≡ Some m → loaded_at images place o ≡ loaded_module images place m
 loaded_by images place None m e = cc
 loaded_by images place (Some p) m e = let same : p.0 ≡ m = cc in ap (loaded_module images place) same
 
@@ -47,11 +52,18 @@ holdings_are l pid place m p bytes libraries e f g h =
     ∙ ap (λ (z : List ℕ). parts_of_start pid (loaded_module l.images place m) (length m.segments) z (map (loaded l.images) (nth_list l.libraries pid))) (sym g)
     ∙ ap (λ (z : List ℕ). parts_of_start pid (loaded_module l.images place m) (length m.segments) bytes (map (loaded l.images) z)) (sym h)
 
--- the steps of a start
-pub all_adds : (old a e new : Build) (pid : ℕ) (xs : List Holding) (h : Holding) (ys zs : List Holding) → zs ≡ xs ++ h ∷ ys → AddsAll old a pid xs → Adds a e pid h → AddsAll e new pid ys → AddsAll old new pid zs
-all_adds old a e new pid xs h ys zs same first next last b is =
-    subst (λ (x : Built). IsHolding new pid x) (sym (ap (with_holdings b) same ∙ fold-append with_holding b xs (h ∷ ys)))
-    (last (with_holding (with_holdings b xs) h) (next (with_holdings b xs) (first b is)))
+-- all that a process holds, step by step, to a refusal or to the end
+pub parts_then : (n0 n1 n2 n3 : Names) (a e l z : Stage) (pid : ℕ) (xs : List Holding) (h : Holding) (ys zs : List Holding) (r : Result (Unit {0}) (Fail ModuleFault)) → zs ≡ xs ++ h ∷ ys
+    → AddsAll n0 a n1 e pid xs (Ok tt) → Adds n1 e n2 l pid h (Ok tt) → AddsAll n2 l n3 z pid ys r → AddsAll n0 a n3 z pid zs r
+parts_then n0 n1 n2 n3 a e l z pid xs h ys zs r same first next last =
+    adds_then n0 n2 n3 a l z pid (xs ++ h ∷ []) ys zs r (same ∙ sym (append_assoc xs (h ∷ []) ys))
+    (adds_then n0 n1 n2 a e l pid xs (h ∷ []) (xs ++ h ∷ []) (Ok tt) refl first next) last
+
+pub middle_refused : (n0 n1 n2 n3 : Names) (a e l z : Stage) (pid : ℕ) (xs : List Holding) (h : Holding) (ys zs : List Holding) (f : Fail ModuleFault) → zs ≡ xs ++ h ∷ ys
+    → AddsAll n0 a n1 e pid xs (Ok tt) → Adds n1 e n2 l pid h (Err f) → AddsAll n0 a n3 z pid zs (Err f)
+middle_refused n0 n1 n2 n3 a e l z pid xs h ys zs f same first next =
+    adds_refused n0 n3 n3 a z z pid (xs ++ h ∷ []) ys zs f (same ∙ sym (append_assoc xs (h ∷ []) ys))
+    (adds_then n0 n1 n3 a e z pid xs (h ∷ []) (xs ++ h ∷ []) (Err f) refl first next)
 
 -- The checks and the registers by the segments of the table.
 
@@ -131,3 +143,31 @@ module _ (images : ImageList) (place most pid : ℕ) (m : Parts) (s : Start) (b 
   within_by c e f =
       ap (λ (r : Result (Unit {0}) ModuleFault). where_checked pid r (within_names most pid s (with_holdings b (holdings pid s)))) (check_is (Ok tt) f)
       ∙ ap (either_start (with_started pid s (with_holdings b (holdings pid s)))) e
+
+  -- too many names are refused
+  pub over_refused : (fault : ModuleFault) → parts_check m ≡ Ok tt → IsOver fault most (with_holdings b (holdings pid s)) → started_as most pid s b ≡ Err (pid, fault)
+  over_refused fault checked over =
+      let less = over.over in
+      let is_over : nat_lt most (with_holdings b (holdings pid s)).next_name ≡ true = grind (arith, nat_tests) in
+      within_by true is_over checked ∙ ap (λ (f : ModuleFault). Err (pid, f)) (sym over.fault)
+
+  -- and no more than there may be are not
+  pub fits_started : (names : Names) (x : Stage) → parts_check m ≡ Ok tt → IsHolding names x most pid (with_holdings b (holdings pid s))
+      → started_as most pid s b ≡ Ok (with_started pid s (with_holdings b (holdings pid s)))
+  fits_started names x checked is =
+      let a = is.fits in
+      let c = is.count in
+      let d = is.most in
+      let le : (with_holdings b (holdings pid s)).next_name ≤ most = omega (arith, a, c, d) in
+      let fits : nat_lt most (with_holdings b (holdings pid s)).next_name ≡ false = grind (arith, nat_tests) in
+      within_by false fits checked
+
+  -- what a refusal or want of memory comes to
+  pub refused_as : (names : Names) (x : Stage) (e : Fail ModuleFault) (result : Result Cpu (Fail ModuleFault)) → IsErr result → IsErrAnd result (λ f. f ≡ e) → parts_check m ≡ Ok tt
+      → ComesTo {X = Unit {0}} names x most pid (with_holdings b (holdings pid s)) (Err e) → StartsAs names x most pid s b result
+  refused_as names x e (Ok cpu) is same checked comes = absurd (cc)
+  refused_as names x e (Err NoMemory) is same checked comes = tt
+  refused_as names x (Bad fault) (Err (Bad f)) is same checked comes =
+      let equal : fault ≡ f = cc in
+      over_refused f checked (subst (λ (g : ModuleFault). IsOver g most (with_holdings b (holdings pid s))) equal comes)
+  refused_as names x NoMemory (Err (Bad f)) is same checked comes = absurd (cc)

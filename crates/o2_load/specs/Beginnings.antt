@@ -1,4 +1,4 @@
--- What a memory and the first registers stand for, once some processes have started.
+-- What a memory of byte vectors and the first registers stand for, once all processes have started.
 use Rattle.std.specs.Prelude.{◌≡◌, ℕ, ◌+◌, true, List, [], ◌∷◌, ◌++◌, length, Option, Some, None, Result, Ok, Err, map, slice_get}
 use Rattle.o2_base.specs.declared.memory.Fail.{Fail}
 use Rattle.o2_base.specs.declared.memory.Fail.TheVariants.{NoMemory, Bad}
@@ -38,30 +38,14 @@ lines_from l pid [] = []
 lines_from l pid (xs ∷ xss) = start_lines pid (program_name l pid) xs ++ lines_from l (pid + 1) xss
 
 pub record IsBegun (m : Begun) (l : LinkedParts) (b : Built) : Type 0 where
-  pub count : count_in m.build.plain ≡ b.next_name
-  pub bytes : (n : ℕ) → bytes_of b.names n ≡ bytes_in m.build.plain n
-  pub shown : (n : ℕ) → shown_in m.build.plain n ≡ true
-  pub made : b.made ≡ m.build.made
-  pub none : (j : ℕ) → ◌≡◌ {A = Option Hold} None (held_in m.build.plain 0 j)
-  pub places : (i : ℕ) → IsFirstAt (slice_get m.cpus.items i) (held_in m.build.plain (i + 1)) (slice_get b.processes i)
-  pub idle : b.held ≡ []
-  pub ready : b.selectors ≡ []
-  pub fresh : m.build.selectors.items ≡ []
+  pub count : count_in m.plain ≡ b.next_name
+  pub bytes : (n : ℕ) → bytes_of b.names n ≡ bytes_in m.plain n
+  pub shown : (n : ℕ) → shown_in m.plain n ≡ true
+  pub none : (j : ℕ) → ◌≡◌ {A = Option Hold} None (held_in m.plain 0 j)
+  pub places : (i : ℕ) → IsFirstAt (slice_get m.cpus.items i) (held_in m.plain (i + 1)) (slice_get b.processes i)
   pub same : length b.processes ≡ length m.cpus.items
   pub rows : length m.starts.items ≡ length m.cpus.items
   pub lines : b.lines ≡ lines_from l 1 (map (λ v. v.items) m.starts.items)
-
--- one process more, or its refusal
-abbrev pub BeginsAs : Begun → LinkedParts → Result Built (ℕ × ModuleFault) → ℕ → Result (Unit {0}) (Fail ModuleFault) → Type 0
-BeginsAs new l next pid (Ok done) = (b : Built) × ((next ≡ Ok b) × IsBegun new l b)
-BeginsAs new l next pid (Err (Bad fault)) = next ≡ Err (pid, fault)
-BeginsAs new l next pid (Err NoMemory) = Unit {0}
-
--- one process more, or its refusal with its number
-abbrev pub BeginsOn : Begun → LinkedParts → Result Built (ℕ × ModuleFault) → Result (Unit {0}) (Fail StartFault) → Type 0
-BeginsOn new l next (Ok done) = (b : Built) × ((next ≡ Ok b) × IsBegun new l b)
-BeginsOn new l next (Err (Bad f)) = next ≡ Err (f.pid, f.fault)
-BeginsOn new l next (Err NoMemory) = Unit {0}
 
 -- all processes, or the refusal of the first that is refused
 abbrev pub BeginsAll : LinkedParts → Result Built (ℕ × ModuleFault) → Result Begun (Fail StartFault) → Type 0

@@ -1,6 +1,9 @@
 pub mod Loads
+pub mod Memory
 pub mod Holds
 pub mod Started
 pub mod Beginnings
+pub mod Progresses
+pub mod ByVectors
 pub mod MadeIndex
 pub mod Rises

@@ -1,46 +1,35 @@
 // Names and holds, as processes start one after the other.
-ghost use Rattle.std.specs.Prelude.{◌≡◌, ◌≢◌, ◌≤◌, ◌<◌, ◌+◌, ◌*◌, ◌++◌, ◌∷◌, [], ℕ, List, length, Some, None, true, IfOk, IfSome, OnOk, if◌then◌else◌};
-ghost use Rattle.o2_bus.specs.declared.plain.Plain.{Plain};
-ghost use Rattle.o2_bus.specs.Plain.{held_in, bytes_in, count_in};
+ghost use Rattle.std.specs.Prelude.{◌≡◌, ◌≢◌, ◌≤◌, ◌<◌, ◌+◌, ◌*◌, ◌++◌, ◌∷◌, [], ℕ, List, All, length, Some, None, true, Option, IfOk, IfSome, OnOk, if◌then◌else◌};
 ghost use Rattle.o2_base.specs.Selectors.{selector_of};
+ghost use Rattle.o2_desc.specs.Bits.{is_kind};
+ghost use Rattle.o2_image.specs.ImageList.{ImageList, HasImage};
+ghost use Rattle.o2_dynlink.specs.Outcome.{LinkedParts};
+ghost use Rattle.o2_world.specs.declared.types.Made.{Made as MadeThere};
 ghost use Rattle.o2_world.specs.Starts.{name_in, made_with, named, holds, holds_as, with_holding, Built};
-ghost use Rattle.o2_load.specs.Holds.{IsHolding, HaveBytes, OthersStay, Adds, gripped};
+ghost use Rattle.o2_load.specs.Memory.{MakesName, KeepsHolds, OthersStay};
+ghost use Rattle.o2_load.specs.Holds.{IsHolding, IsReady, Makes, AddsNew, gripped, stage, bytes_with_room};
 
 use crate::made_names::MadeNames;
-use o2_base::{NoMemory, Selector};
-use o2_bus::Plain;
+use crate::starting_memory::{Grip, Segments};
+use o2_base::{Fail, ModuleFault, NoMemory, Selector};
+use o2_image::Images;
 use o2_world::Made;
 use std::alloc::Global;
 
-/// A segment as a process holds it, all but its bytes.
-#[derive(Clone, Copy, Debug)]
-pub struct Grip {
-    /// Its index in the process's local descriptor table.
-    pub index: u16,
-    /// The place of its module from 1, or 0 for an environment.
-    pub place: u16,
-    /// Its number in the module from 1, or the number of the environment's process.
-    pub number: u16,
-    /// The access byte.
-    pub rights: u8,
-    /// Whether one name stands for it in all processes.
-    pub common: bool,
-}
-
 /// The memory of segments as processes start, with the names that are common, and the selectors of the process that starts.
 #[derive(Drop)]
-pub struct Build {
-    pub plain: Plain,
+pub struct Build<S: Drop> {
+    pub segments: S,
     pub made: MadeNames,
     pub selectors: Vec<u16>,
 }
 
 /// The name of a segment, where it is common and one is made.
-#[tactic(auto, using(crate::proofs::Names::name_has_bytes))]
+#[tactic(auto, using(crate::proofs::Names::name_is_made))]
 pub(crate) fn found(made: &MadeNames, grip: &Grip) -> Option<u32>
     requires { grip.now.number < 256 }
     ensures value { result ≡ (if grip.now.common then name_in made.now grip.now.place grip.now.number else None) }
-    ensures some { (p : Plain) → HaveBytes made.now p → IfSome result (λ name. 0 < length (bytes_in p name)) }
+    ensures some { (count : ℕ) → All (λ (d : MadeThere). d.name < count) made.now → IfSome result (λ name. name < count) }
 {
     if grip.common {
         made.name(grip.place, grip.number)
@@ -72,8 +61,7 @@ pub(crate) fn selector_of(index: u16) -> u16
     Selector::local(u32::from(index)).0
 }
 
-#[tactic(auto, using(crate::proofs::Names::have_kept, crate::proofs::Names::have_named, crate::proofs::Names::have_made))]
-impl Build {
+impl<S: Segments> Build<S> {
     /// The process holds a name under an index.
     pub(crate) fn hold(
         &mut self,
@@ -82,51 +70,79 @@ impl Build {
         grip: &Grip,
         name: u32,
     ) -> Result<(), NoMemory>
-        requires some { 0 < length (bytes_in self.old.plain name) }
+        requires whole { S.whole self.old.segments }
+        requires name { name < (S.seen self.old.segments).count }
+        requires takes { (S.seen self.old.segments).takes pid grip.now.index ≡ true }
+        requires rights { is_kind grip.now.rights ≡ true }
         requires index { grip.now.index < 8192 }
-        ensures adds { OnOk result ((b : Built) (bytes : List ℕ) → IsHolding self.old pid b → IsHolding self.new pid (holds b (gripped grip.now bytes) name)) }
-        ensures others { OthersStay self.old self.new pid }
-        ensures bytes { (n : ℕ) → bytes_in self.new.plain n ≡ bytes_in self.old.plain n }
-        ensures made { self.new.made ≡ self.old.made }
+        ensures adds { OnOk result ((images : ImageList) (most : ℕ) (b : Built) (bytes : List ℕ)
+            → IsHolding (S.names self.old.segments images) (stage (S.seen self.old.segments) self.old) most pid b
+            → IsHolding (S.names self.new.segments images) (stage (S.seen self.new.segments) self.new) most pid (holds b (gripped grip.now bytes) name)) }
+        ensures others { OthersStay (S.seen self.old.segments) (S.seen self.new.segments) pid }
+        ensures ready { (l : LinkedParts) → IsReady (S.whole self.old.segments) (S.seen self.old.segments) self.old.made l
+            → OnOk result (IsReady (S.whole self.new.segments) (S.seen self.new.segments) self.new.made l) }
     {
-        self.plain.hold(alloc, pid, grip.index, name, grip.rights)?;
+        self.segments.hold(alloc, pid, grip, name)?;
         self.selectors.push(selector_of(grip.index))?;
         Ok(())
     }
 
-    /// One name more, with these bytes.
-    fn name(&mut self, pid: u16, grip: &Grip, bytes: Vec<u8>) -> Result<u32, NoMemory>
-        requires some { 0 < length bytes.items }
-        requires small { length bytes.items ≤ 65536 }
+    /// One name more, for a segment whose bytes are the first `size` ones of the grip's image, with `room` zeros behind them.
+    fn name(
+        &mut self,
+        alloc: Global,
+        images: &Images,
+        grip: &Grip,
+        size: u32,
+        room: u32,
+    ) -> Result<u32, Fail<ModuleFault>>
+        requires whole { S.whole self.old.segments }
+        requires image { HasImage images.now grip.now.place grip.now.number }
+        requires some { 0 < size }
+        requires small { size + room ≤ 65536 }
+        requires rights { is_kind grip.now.rights ≡ true }
         requires number { grip.now.common ≡ true → grip.now.number < 256 }
-        ensures adds { OnOk result ((b : Built) → IsHolding self.old pid b → IsHolding self.new pid (named b (gripped grip.now bytes.items))) }
-        ensures held { (q i : ℕ) → held_in self.new.plain q i ≡ held_in self.old.plain q i }
-        ensures name { IfOk result (λ n. n ≡ count_in self.old.plain) }
-        ensures bytes { IfOk result (λ n. bytes_in self.new.plain n ≡ bytes.items) }
-        ensures named { HaveBytes self.old.made self.old.plain → OnOk result (HaveBytes self.new.made self.new.plain) }
+        ensures makes { Makes (S.names self.old.segments images.now) (stage (S.seen self.old.segments) self.old)
+            (S.names self.new.segments images.now) (stage (S.seen self.new.segments) self.new)
+            (gripped grip.now (bytes_with_room images.now grip.now size room)) result }
+        ensures name { IfOk result (MakesName (S.seen self.old.segments) (S.seen self.new.segments)) }
+        ensures whole { OnOk result (S.whole self.new.segments) }
+        ensures held { KeepsHolds (S.seen self.old.segments) (S.seen self.new.segments) }
+        ensures ready { (l : LinkedParts) → IsReady (S.whole self.old.segments) (S.seen self.old.segments) self.old.made l
+            → OnOk result (IsReady (S.whole self.new.segments) (S.seen self.new.segments) self.new.made l) }
     {
-        let name = self.plain.add(bytes)?;
+        let name = self.segments.add(alloc, images, grip, size, room)?;
         note_made(&mut self.made, grip, name)?;
         Ok(name)
     }
 
-    /// The process holds a new name, with these bytes.
+    /// The process holds a new name.
     pub(crate) fn add(
         &mut self,
         alloc: Global,
+        images: &Images,
         pid: u16,
         grip: &Grip,
-        bytes: Vec<u8>,
-    ) -> Result<(), NoMemory>
-        requires some { 0 < length bytes.items }
-        requires small { length bytes.items ≤ 65536 }
+        size: u32,
+        room: u32,
+    ) -> Result<(), Fail<ModuleFault>>
+        requires image { HasImage images.now grip.now.place grip.now.number }
+        requires some { 0 < size }
+        requires small { size + room ≤ 65536 }
+        requires rights { is_kind grip.now.rights ≡ true }
         requires number { grip.now.common ≡ true → grip.now.number < 256 }
+        requires takes { (S.seen self.old.segments).takes pid grip.now.index ≡ true }
         requires index { grip.now.index < 8192 }
-        ensures adds { OnOk result ((b : Built) → IsHolding self.old pid b → IsHolding self.new pid (holds_as b (gripped grip.now bytes.items) None)) }
-        ensures others { OthersStay self.old self.new pid }
-        ensures named { HaveBytes self.old.made self.old.plain → OnOk result (HaveBytes self.new.made self.new.plain) }
+        requires whole { S.whole self.old.segments }
+        ensures adds { AddsNew (S.names self.old.segments images.now) (stage (S.seen self.old.segments) self.old)
+            (S.names self.new.segments images.now) (stage (S.seen self.new.segments) self.new)
+            pid (gripped grip.now (bytes_with_room images.now grip.now size room)) result }
+        ensures others { OthersStay (S.seen self.old.segments) (S.seen self.new.segments) pid }
+        ensures ready { (l : LinkedParts) → IsReady (S.whole self.old.segments) (S.seen self.old.segments) self.old.made l
+            → OnOk result (IsReady (S.whole self.new.segments) (S.seen self.new.segments) self.new.made l) }
     {
-        let name = self.name(pid, grip, bytes)?;
-        self.hold(alloc, pid, grip, name)
+        let name = self.name(alloc, images, grip, size, room)?;
+        self.hold(alloc, pid, grip, name)?;
+        Ok(())
     }
 }

@@ -7,7 +7,7 @@ ghost use Rattle.o2_world.specs.Opening.{even};
 ghost use Rattle.o2_load.specs.Loads.{rights_of, is_stack_segment, is_entry_segment, stack_of, parts_check, parts_cpu, size_in};
 
 use crate::build::selector_of;
-use crate::segments::rights_of;
+use crate::module_segments::rights_of;
 use o2_base::ModuleFault;
 use o2_desc::FlagsWord;
 use o2_image::Module;

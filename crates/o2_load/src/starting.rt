@@ -1,19 +1,22 @@
-// All processes start.
-ghost use Rattle.std.specs.Prelude.{◌≡◌, ◌≤◌, ◌<◌, ◌+◌, All, length, map, Ok, IfOk, OnOk};
-ghost use Rattle.o2_bus.specs.Plain.{count_in};
+// All processes start, one after the other.
+ghost use Rattle.std.specs.Prelude.{◌≡◌, ◌≤◌, ◌<◌, ◌+◌, [], ℕ, All, length, map, Ok, IfOk, OnOk};
 ghost use Rattle.o2_conf.specs.Environments.{environment_bytes, command_place};
-ghost use Rattle.o2_conf.specs.Limits.{HasEnvironment, IsWithinLimits};
+ghost use Rattle.o2_conf.specs.Limits.{HasEnvironment};
 ghost use Rattle.o2_conf.specs.Processes.{strings_size};
 ghost use Rattle.o2_image.specs.Getters.{nth_list};
 ghost use Rattle.o2_image.specs.ImageList.{Exists};
 ghost use Rattle.o2_world.specs.Starts.{Built, next_started, all_started};
-ghost use Rattle.o2_load.specs.Holds.{HaveBytes};
+ghost use Rattle.o2_load.specs.Memory.{KeepsSetting};
+ghost use Rattle.o2_load.specs.Holds.{IsReady};
 ghost use Rattle.o2_load.specs.Loads.{start_of, starts_of};
-ghost use Rattle.o2_load.specs.Beginnings.{IsBegun, BeginsOn, BeginsAll};
+ghost use Rattle.o2_load.specs.Progresses.{HasCome, ComesOn, ComesAll, IsEmpty, course};
 
-use crate::begun::Begun;
+use crate::build::Build;
+use crate::made_names::MadeNames;
+use crate::progress::Progress;
+use crate::starting_memory::Segments;
 use o2_base::{Bytes, Fail, ModuleFault};
-use o2_conf::{Conf, Process};
+use o2_conf::Process;
 use o2_dynlink::Linked;
 use std::alloc::Global;
 
@@ -49,61 +52,65 @@ fn command_place(process: &Process) -> u16
 
 /// One process more starts, the next one.
 #[tactic(auto, using(crate::proofs::Sizes::bytes_size, crate::proofs::Sizes::bytes_some))]
-fn begin_next(
+fn start_next<S: Segments>(
     alloc: Global,
-    begun: &mut Begun,
+    progress: &mut Progress<S>,
     linked: &Linked,
     process: &Process,
     pid: u16,
-    most: u32,
 ) -> Result<(), Fail<StartFault>>
-    requires number { pid ≡ length begun.old.cpus.items + 1 }
+    requires number { pid ≡ length progress.old.cpus.items + 1 }
     requires there { Exists linked.now.programs pid }
     requires environment { environment_bytes process.now ≡ nth_list linked.now.images.environments pid }
     requires fits { HasEnvironment process.now }
-    requires named { HaveBytes begun.old.build.made begun.old.build.plain }
-    ensures begins { (b : Built) → IsBegun begun.old linked.now b → BeginsOn begun.new linked.now (next_started most (Ok b) (start_of linked.now pid process.now)) result }
-    ensures named { OnOk result (HaveBytes begun.new.build.made begun.new.build.plain) }
-    ensures count { OnOk result (length begun.new.cpus.items ≡ length begun.old.cpus.items + 1) }
+    requires ready { IsReady (S.whole progress.old.build.segments) (S.seen progress.old.build.segments) progress.old.build.made linked.now }
+    ensures comes { (most : ℕ) (b : Built)
+        → HasCome (S.names progress.old.build.segments linked.now.images) (course (S.seen progress.old.build.segments) progress.old) linked.now most b
+        → ComesOn (S.names progress.new.build.segments linked.now.images) (course (S.seen progress.new.build.segments) progress.new) linked.now most
+        (next_started most (Ok b) (start_of linked.now pid process.now)) result }
+    ensures ready { OnOk result (IsReady (S.whole progress.new.build.segments) (S.seen progress.new.build.segments) progress.new.build.made linked.now) }
+    ensures setting { KeepsSetting (S.seen progress.old.build.segments) (S.seen progress.new.build.segments) }
+    ensures count { OnOk result (length progress.new.cpus.items ≡ length progress.old.cpus.items + 1) }
 {
-    match begun.next(alloc, linked, pid, command_place(process), most) {
+    match progress.next(alloc, linked, pid, command_place(process)) {
         Ok(()) => Ok(()),
         Err(Fail::NoMemory) => Err(Fail::NoMemory),
         Err(Fail::Bad(fault)) => Err(Fail::Bad(StartFault { pid, fault })),
     }
 }
 
-/// These processes start, one after the other, from number 1 on.
-fn begin_each(
+/// These processes start in a memory without names, one after the other, from number 1 on. The first that is refused decides.
+pub fn start_each<S: Segments>(
     alloc: Global,
+    segments: S,
     linked: &Linked,
     processes: &[Process],
-    most: u32,
-) -> Result<Begun, Fail<StartFault>>
+) -> Result<Progress<S>, Fail<StartFault>>
     requires few { length processes.now ≤ 64 }
     requires fit { All HasEnvironment processes.now }
     requires environments { linked.now.images.environments ≡ map environment_bytes processes.now }
     requires programs { length linked.now.programs ≡ length processes.now }
-    ensures begins { BeginsAll linked.now (all_started most (starts_of linked.now 1 processes.now)) result }
-    ensures count { IfOk result (λ m. length m.cpus.items ≡ length processes.now) }
+    requires empty { IsEmpty (S.names segments linked.now.images) (S.seen segments) }
+    requires ready { IsReady (S.whole segments) (S.seen segments) [] linked.now }
+    ensures comes { ComesAll S.seen (λ s. S.names s linked.now.images) linked.now (S.seen segments).most
+        (all_started (S.seen segments).most (starts_of linked.now 1 processes.now)) result }
+    ensures whole { IfOk result (λ p. S.whole p.build.segments) }
+    ensures setting { IfOk result (λ p. KeepsSetting (S.seen segments) (S.seen p.build.segments)) }
+    ensures count { IfOk result (λ p. length p.cpus.items ≡ length processes.now) }
 {
-    let mut begun = Begun::new(alloc)?;
+    let mut progress = Progress {
+        build: Build {
+            segments,
+            made: MadeNames::new(alloc),
+            selectors: Vec::new(alloc),
+        },
+        cpus: Vec::new(alloc),
+        starts: Vec::new(alloc),
+    };
     let mut pid = 1u16;
     for process in processes {
-        begin_next(alloc, &mut begun, linked, process, pid, most)?;
+        start_next(alloc, &mut progress, linked, process, pid)?;
         pid += 1;
     }
-    Ok(begun)
-}
-
-/// All processes of a machine file start over what its modules are linked to, one after the other, with no more names than its
-/// setting allows. The first that is refused decides.
-pub fn begin(alloc: Global, linked: &Linked, conf: &Conf) -> Result<Begun, Fail<StartFault>>
-    requires within { IsWithinLimits conf.now }
-    requires environments { linked.now.images.environments ≡ map environment_bytes conf.now.process }
-    ensures begins { BeginsAll linked.now (all_started conf.now.segments (starts_of linked.now 1 conf.now.process)) result }
-    ensures count { IfOk result (λ m. length m.cpus.items ≡ length conf.now.process) }
-{
-    linked.process_count();
-    begin_each(alloc, linked, conf.process.as_slice(), conf.segments)
+    Ok(progress)
 }

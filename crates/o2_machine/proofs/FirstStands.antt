@@ -42,20 +42,20 @@ abbrev first_schedule : Conf → Schedule
 first_schedule c = record { dispatch = opening_dispatch c.script c.budget; flags = replicate (length c.process) true; quantum = c.quantum }
 
 pub first_stands : (begun : Begun) (l : LinkedParts) (b : Built) (c : Conf) (m : Machine) (input : List ℕ) → IsBegun begun l b
-    → m.space.procs.items ≡ map first_proc begun.cpus.items → m.space.plain ≡ begun.build.plain → m.space.state.avail ≡ c.avail
+    → m.space.procs.items ≡ map first_proc begun.cpus.items → m.space.plain ≡ begun.plain → m.space.state.avail ≡ c.avail
     → m.sched ≡ first_schedule c → length begun.cpus.items ≡ length c.process → m.budget ≡ c.budget → m.console_bytes ≡ 0 → m.lines ≡ length b.lines → StandsFor m (setting_of c) (first_world l c input b)
 first_stands begun l b c m input is procs plain avail sched count budget console lines = record {
   space = record {
     processes = λ i.
         subst (λ (x : Plain). IsAt (slice_get m.space.procs.items i) (held_in x (i + 1)) (slice_get b.processes i)) (sym plain)
-        (subst (λ (x : List Proc). IsAt (slice_get x i) (held_in begun.build.plain (i + 1)) (slice_get b.processes i)) (sym procs)
-        (subst (λ (x : Option Proc). IsAt x (held_in begun.build.plain (i + 1)) (slice_get b.processes i)) (sym (slice_get-map first_proc begun.cpus.items i))
-        (at_first (slice_get begun.cpus.items i) (held_in begun.build.plain (i + 1)) (slice_get b.processes i) (is.places i))));
+        (subst (λ (x : List Proc). IsAt (slice_get x i) (held_in begun.plain (i + 1)) (slice_get b.processes i)) (sym procs)
+        (subst (λ (x : Option Proc). IsAt x (held_in begun.plain (i + 1)) (slice_get b.processes i)) (sym (slice_get-map first_proc begun.cpus.items i))
+        (at_first (slice_get begun.cpus.items i) (held_in begun.plain (i + 1)) (slice_get b.processes i) (is.places i))));
     none = λ j. is.none j ∙ ap (λ (x : Plain). held_in x 0 j) (sym plain);
     bytes = λ n. is.bytes n ∙ ap (λ (x : Plain). bytes_in x n) (sym plain);
     shown = λ n. ap (λ (x : Plain). shown_in x n) plain ∙ is.shown n;
   };
-  flags = all_live begun.cpus.items b.processes (λ i. held_in begun.build.plain (i + 1)) is.places ∙ ap (λ n. replicate n true) count ∙ ap (λ (s : Schedule). s.flags) (sym sched);
+  flags = all_live begun.cpus.items b.processes (λ i. held_in begun.plain (i + 1)) is.places ∙ ap (λ n. replicate n true) count ∙ ap (λ (s : Schedule). s.flags) (sym sched);
   dispatch = ap (λ (s : Schedule). s.dispatch) (sym sched);
   quantum = ap (λ (s : Schedule). s.quantum) (sym sched);
   known = record { avail = sym avail };

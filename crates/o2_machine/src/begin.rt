@@ -149,7 +149,7 @@ fn finish<R: Sink>(
     ensures cause { OnSinkFault result (Rose (R.faults report.old) (R.faults report.new)) }
 {
     let Begun {
-        build,
+        plain,
         cpus,
         starts,
     } = begun;
@@ -157,7 +157,7 @@ fn finish<R: Sink>(
         return Err(BeginFault::NoMemory);
     };
     let lines = line_count(&starts);
-    let Ok(machine) = assemble(alloc, conf, &cpus, build.plain, lines) else {
+    let Ok(machine) = assemble(alloc, conf, &cpus, plain, lines) else {
         return Err(BeginFault::NoMemory);
     };
     match put_starts(&mut line, linked, &starts, report) {
