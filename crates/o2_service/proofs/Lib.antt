@@ -3,3 +3,4 @@ pub mod Among
 pub mod Fitting
 pub mod Placing
 pub mod Clocks
+pub mod Unheld

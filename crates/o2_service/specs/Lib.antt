@@ -1,3 +1,4 @@
 pub mod Needs
 pub mod Told
 pub mod Learned
+pub mod Trials

@@ -1,14 +1,18 @@
 // What is needed comes into small memories, over a device that may fail.
-ghost use Rattle.std.specs.Prelude.{◌≡◌, ◌+◌, ◌<◌, ◌≤◌, ◌^◌, IfSome};
+ghost use Rattle.std.specs.Prelude.{◌≡◌, ◌+◌, ◌<◌, ◌≤◌, ◌^◌, IfOk, IfSome};
 ghost use Rattle.o2_store.specs.Trials.{IsReady};
 ghost use Rattle.o2_service.specs.Needs.{AreLive};
+ghost use Rattle.o2_service.specs.Trials.{IsUnheld};
 
 use crate::need::Need;
-use crate::serving::{Served, bring_all, is_room};
+use crate::serving::{Served, serve};
+use o2_base::NoMemory;
 use o2_image::Images;
 use o2_outer::{MemSwap, SwapDevice};
 use o2_place::SegId;
+use o2_regions::Regions;
 use o2_store::{Attr, Store};
+use std::alloc::Global;
 use std::test::Fail;
 
 const PLAIN: Attr = Attr {
@@ -75,6 +79,14 @@ fn mark<S: SwapDevice>(store: &mut Store, images: &Images, swap: &S, id: SegId) 
     true
 }
 
+// A process that holds nothing.
+fn nobody(alloc: Global) -> Result<Regions, NoMemory>
+    ensures { IfOk result (λ r. IsUnheld r) }
+{
+    let regions = Regions::new(alloc, 1)?;
+    Ok(regions)
+}
+
 // What is needed, if all of it is live.
 fn live_need(store: &Store, pairs: &[(SegId, u32)]) -> Option<Need>
     ensures { IfSome result (λ n. AreLive store.now n) }
@@ -90,58 +102,93 @@ fn live_need(store: &Store, pairs: &[(SegId, u32)]) -> Option<Need>
 // Brings in what is needed, and tells what that came to.
 fn bring<S: SwapDevice>(
     store: &mut Store,
+    regions: &mut Regions,
     images: &Images,
     swap: &mut S,
     pairs: &[(SegId, u32)],
 ) -> Option<Served>
-    requires { IsReady store.old images.now (S.blocks swap.old) }
-    ensures { IsReady store.new images.now (S.blocks swap.new) }
+    requires ready { IsReady store.old images.now (S.blocks swap.old) }
+    requires unheld { IsUnheld regions.old }
+    ensures ready { IsReady store.new images.now (S.blocks swap.new) }
+    ensures unheld { IsUnheld regions.new }
 {
     let need = live_need(store, pairs)?;
-    if !is_room(&need, store) {
-        return Some(Served::NoRoom);
-    }
-    Some(bring_all(&need, store, images, swap))
+    Some(serve(&need, store, regions, images, swap))
 }
 
 // Brings in what is needed, and tests what that came to and who is out of memory then.
 fn step<S: SwapDevice>(
     store: &mut Store,
+    regions: &mut Regions,
     images: &Images,
     swap: &mut S,
     pairs: &[(SegId, u32)],
     served: Served,
     out: SegId,
 ) -> Result<(), Fail>
-    requires { IsReady store.old images.now (S.blocks swap.old) }
-    ensures { IsReady store.new images.now (S.blocks swap.new) }
+    requires ready { IsReady store.old images.now (S.blocks swap.old) }
+    requires unheld { IsUnheld regions.old }
+    ensures ready { IsReady store.new images.now (S.blocks swap.new) }
+    ensures unheld { IsUnheld regions.new }
 {
-    let answer = bring(store, images, swap, pairs);
+    let answer = bring(store, regions, images, swap, pairs);
     must(answer == Some(served), "another answer")?;
     must(store.base(out).is_none(), "it is still in memory")
 }
 
 // Three segments of 32 bytes, of which two have room.
-fn take_turns<S: SwapDevice>(store: &mut Store, images: &Images, swap: &mut S) -> Result<(), Fail>
+fn take_turns<S: SwapDevice>(
+    store: &mut Store,
+    regions: &mut Regions,
+    images: &Images,
+    swap: &mut S,
+) -> Result<(), Fail>
+    requires unheld { IsUnheld regions.old }
     requires ready { IsReady store.old images.now (S.blocks swap.old) }
     requires none { store.old.made ≡ 0 }
 {
     let a = add(store, images, swap)?;
     let b = add(store, images, swap)?;
     let c = add(store, images, swap)?;
-    step(store, images, swap, &[(a, 0), (b, 0)], Served::Here, c)?;
     step(
         store,
+        regions,
+        images,
+        swap,
+        &[(a, 0), (b, 0)],
+        Served::Here,
+        c,
+    )?;
+    step(
+        store,
+        regions,
         images,
         swap,
         &[(c, 0), (a, 0), (c, 32)],
         Served::Here,
         b,
     )?;
-    step(store, images, swap, &[(b, 17), (a, 0)], Served::Here, c)?;
-    step(store, images, swap, &[(a, 0), (b, 33)], Served::NoRoom, c)?;
     step(
         store,
+        regions,
+        images,
+        swap,
+        &[(b, 17), (a, 0)],
+        Served::Here,
+        c,
+    )?;
+    step(
+        store,
+        regions,
+        images,
+        swap,
+        &[(a, 0), (b, 33)],
+        Served::NoRoom,
+        c,
+    )?;
+    step(
+        store,
+        regions,
         images,
         swap,
         &[(a, 0), (b, 0), (c, 0)],
@@ -153,56 +200,98 @@ fn take_turns<S: SwapDevice>(store: &mut Store, images: &Images, swap: &mut S) -
 // Two segments with bytes, and a third that comes in for one of them.
 fn press<S: SwapDevice>(
     store: &mut Store,
+    regions: &mut Regions,
     images: &Images,
     swap: &mut S,
     served: Served,
 ) -> Result<[SegId; 3], Fail>
     requires ready { IsReady store.old images.now (S.blocks swap.old) }
+    requires unheld { IsUnheld regions.old }
     requires none { store.old.made ≡ 0 }
-    ensures { IsReady store.new images.now (S.blocks swap.new) }
+    ensures ready { IsReady store.new images.now (S.blocks swap.new) }
+    ensures unheld { IsUnheld regions.new }
 {
     let a = add(store, images, swap)?;
     let b = add(store, images, swap)?;
     let c = add(store, images, swap)?;
-    step(store, images, swap, &[(a, 0), (b, 0)], Served::Here, c)?;
+    step(
+        store,
+        regions,
+        images,
+        swap,
+        &[(a, 0), (b, 0)],
+        Served::Here,
+        c,
+    )?;
     must(mark(store, images, swap, b), "no byte is written")?;
-    step(store, images, swap, &[(c, 0), (a, 0)], served, c)?;
+    step(store, regions, images, swap, &[(c, 0), (a, 0)], served, c)?;
     Ok([a, b, c])
 }
 
 // The first call of the device fails, and the next ones don't.
-fn fail_once<S: SwapDevice>(store: &mut Store, images: &Images, swap: &mut S) -> Result<(), Fail>
+fn fail_once<S: SwapDevice>(
+    store: &mut Store,
+    regions: &mut Regions,
+    images: &Images,
+    swap: &mut S,
+) -> Result<(), Fail>
+    requires unheld { IsUnheld regions.old }
     requires ready { IsReady store.old images.now (S.blocks swap.old) }
     requires none { store.old.made ≡ 0 }
 {
-    let [a, b, c] = press(store, images, swap, Served::SwapFault)?;
-    step(store, images, swap, &[(c, 0), (a, 0)], Served::Here, b)?;
-    step(store, images, swap, &[(b, 0), (a, 0)], Served::Here, c)
+    let [a, b, c] = press(store, regions, images, swap, Served::SwapFault)?;
+    step(
+        store,
+        regions,
+        images,
+        swap,
+        &[(c, 0), (a, 0)],
+        Served::Here,
+        b,
+    )?;
+    step(
+        store,
+        regions,
+        images,
+        swap,
+        &[(b, 0), (a, 0)],
+        Served::Here,
+        c,
+    )
 }
 
 #[test]
 fn a_failing_device_changes_nothing(rt: HostRuntime) -> Result<(), Fail> {
+    let mut regions = nobody(rt.alloc())?;
     let mut store = Store::make(rt.alloc(), 64, 8, 4)?;
     let mut fails = Vec::new(rt.alloc());
     fails.push(1)?;
     let mut swap = MemSwap::new(rt.alloc(), 8, fails)?;
     let images = Images::new(Vec::new(rt.alloc()), Vec::new(rt.alloc()));
-    fail_once(&mut store, &images, &mut swap)
+    fail_once(&mut store, &mut regions, &images, &mut swap)
 }
 
 #[test]
 fn a_full_swap_is_told(rt: HostRuntime) -> Result<(), Fail> {
+    let mut regions = nobody(rt.alloc())?;
     let mut store = Store::make(rt.alloc(), 64, 0, 4)?;
     let mut swap = MemSwap::new(rt.alloc(), 0, Vec::new(rt.alloc()))?;
     let images = Images::new(Vec::new(rt.alloc()), Vec::new(rt.alloc()));
-    press(&mut store, &images, &mut swap, Served::SwapFull)?;
+    press(
+        &mut store,
+        &mut regions,
+        &images,
+        &mut swap,
+        Served::SwapFull,
+    )?;
     Ok(())
 }
 
 #[test]
 fn what_is_needed_is_in_memory_together(rt: HostRuntime) -> Result<(), Fail> {
+    let mut regions = nobody(rt.alloc())?;
     let mut store = Store::make(rt.alloc(), 64, 8, 4)?;
     let mut swap = MemSwap::new(rt.alloc(), 8, Vec::new(rt.alloc()))?;
     let images = Images::new(Vec::new(rt.alloc()), Vec::new(rt.alloc()));
-    take_turns(&mut store, &images, &mut swap)
+    take_turns(&mut store, &mut regions, &images, &mut swap)
 }
