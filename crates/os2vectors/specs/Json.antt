@@ -2,6 +2,7 @@
 use Rattle.std.specs.Prelude.{ℕ, ◌+◌, ◌==◌, List, [], ◌∷◌, ◌++◌, codes, true, if◌then◌else◌}
 use Rattle.serde_json.specs.Data.{Data, number, unsigned, string, boolean, array, object, no_items, item, no_members, member}
 use Rattle.serde_json.specs.View.{items_of}
+use Rattle.o2_desc.specs.Bits.{readable_code, writable_data}
 use Rattle.o2_isa.specs.declared.cpu.Cpu.{Cpu}
 use Rattle.o2_isa.specs.declared.cpu.Outcome.{Outcome}
 use Rattle.o2_isa.specs.declared.cpu.Outcome.TheVariants as outcome
@@ -45,8 +46,8 @@ abbrev pub segment_data : ℕ → ℕ → ℕ → Data
 segment_data selector base access = array (item (natural selector) (item (natural base) (item (natural 63) (item (natural access) no_items))))
 
 abbrev pub segments_data : Data
-segments_data = array (item (segment_data 15 4096 250) (item (segment_data 23 8192 242)
-    (item (segment_data 31 12288 242) (item (segment_data 39 16384 242) no_items))))
+segments_data = array (item (segment_data 15 4096 readable_code) (item (segment_data 23 8192 writable_data)
+    (item (segment_data 31 12288 writable_data) (item (segment_data 39 16384 writable_data) no_items))))
 
 abbrev pub answer_data : Outcome → Data
 answer_data outcome.Done = object (member (codes "done") (boolean true) no_members)

@@ -1,5 +1,6 @@
 -- What a processor sees of a state, and what a step makes of it.
 use Rattle.std.specs.Prelude.{◌≡◌, ℕ, true, List, [], ◌∷◌, slice_index_or, ◌==◌, ◌+◌, take, drop, codes, Option, Some, None, if◌then◌else◌}
+use Rattle.o2_desc.specs.Bits.{readable_code, writable_data}
 use Rattle.o2_isa.specs.declared.cpu.Outcome.{Outcome}
 use Rattle.o2_isa.specs.View.{Hold, bound_registers, simple_view}
 use Rattle.o2_isa.specs.Steps.{State, state}
@@ -16,10 +17,10 @@ use Rattle.os2vectors.specs.declared.state.Snapshot.{Snapshot}
 -- the indexes 1 to 4 of the local descriptor table hold code that can be read, and three times data that can be written
 abbrev pub held_segments : ℕ → Option Hold
 held_segments i =
-    if i == 4 then Some (record { name = 3; rights = 242 })
-    else if i == 3 then Some (record { name = 2; rights = 242 })
-    else if i == 2 then Some (record { name = 1; rights = 242 })
-    else if i == 1 then Some (record { name = 0; rights = 250 })
+    if i == 4 then Some (record { name = 3; rights = writable_data })
+    else if i == 3 then Some (record { name = 2; rights = writable_data })
+    else if i == 2 then Some (record { name = 1; rights = writable_data })
+    else if i == 1 then Some (record { name = 0; rights = readable_code })
     else None
 
 -- the bytes of the four segments

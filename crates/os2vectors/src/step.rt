@@ -8,6 +8,7 @@ use crate::state::Snapshot;
 use o2_base::NoMemory;
 use o2_bus::Plain;
 use o2_core::step_plain;
+use o2_desc::Access;
 use o2_isa::Outcome;
 use std::alloc::Global;
 
@@ -24,17 +25,17 @@ fn hold(
     alloc: Global,
     index: u16,
     bytes: &[u8; 64],
-    access: u8,
+    access: Access,
 ) -> Result<(), NoMemory>
     ensures { OnOk result (IsSeenAs plain.new (record (memory plain.old) {
       held = λ p i. if p == 1 && i == index
-          then Some (record { name = count_in plain.old; rights = access }) else held_in plain.old p i;
+          then Some (record { name = count_in plain.old; rights = access.0 }) else held_in plain.old p i;
       bytes = λ n. if n == count_in plain.old then bytes.now else bytes_in plain.old n;
       count = count_in plain.old + 1;
     })) }
 {
     let name = plain.add(bytes.to_vec(alloc)?)?;
-    plain.hold(alloc, 1, index, name, access)
+    plain.hold(alloc, 1, index, name, access.0)
 }
 
 /// The memory of a state.
@@ -42,10 +43,10 @@ fn filled(alloc: Global, before: &Snapshot) -> Result<Plain, NoMemory>
     ensures { IfOk result (λ p. IsMemory p (segments_of before.now)) }
 {
     let mut plain = Plain::new(alloc)?;
-    hold(&mut plain, alloc, 1, &before.code, 0xFA)?;
-    hold(&mut plain, alloc, 2, &before.data, 0xF2)?;
-    hold(&mut plain, alloc, 3, &before.extra, 0xF2)?;
-    hold(&mut plain, alloc, 4, &before.stack, 0xF2)?;
+    hold(&mut plain, alloc, 1, &before.code, Access::READABLE_CODE)?;
+    hold(&mut plain, alloc, 2, &before.data, Access::WRITABLE_DATA)?;
+    hold(&mut plain, alloc, 3, &before.extra, Access::WRITABLE_DATA)?;
+    hold(&mut plain, alloc, 4, &before.stack, Access::WRITABLE_DATA)?;
     Ok(plain)
 }
 

@@ -2,10 +2,11 @@
 ghost use Rattle.std.specs.Prelude.{◌≡◌, ◌++◌, ◌+◌, ◌<◌, ◌^◌, length, map, IfOk, OnOk};
 ghost use Rattle.serde_json.specs.Data.{array};
 ghost use Rattle.serde_json.specs.View.{view, items_of};
-ghost use Rattle.os2vectors.specs.Json.{registers_data, cell, cells, changes, ram, changed_ram, segments_data, answer_data, initial_data, final_data, vector_data};
+ghost use Rattle.os2vectors.specs.Json.{registers_data, cell, cells, changes, ram, changed_ram, segment_data, segments_data, answer_data, initial_data, final_data, vector_data};
 
 use crate::state::Snapshot;
 use crate::step::Taken;
+use o2_desc::Access;
 use o2_isa::{Cpu, Outcome};
 use serde_json::{Value, json};
 use std::alloc::{AllocError, Global};
@@ -90,16 +91,22 @@ fn changed(alloc: Global, before: &Snapshot, after: &Snapshot) -> Result<Value, 
     Ok(Value::Array(out))
 }
 
+/// A segment: its selector, base, limit and access byte.
+fn descriptor(alloc: Global, selector: u16, base: u32, access: Access) -> Result<Value, AllocError>
+    ensures { IfOk result (λ v. view v ≡ segment_data selector base access.0) }
+{
+    json!(in alloc; [selector, base, 63, access.0])
+}
+
 /// The selectors of the segments, with base, limit and access byte.
 fn segments(alloc: Global) -> Result<Value, AllocError>
     ensures { IfOk result (λ v. view v ≡ segments_data) }
 {
-    json!(in alloc; [
-        [0x000F, 0x1000, 63, 0xFA],
-        [0x0017, 0x2000, 63, 0xF2],
-        [0x001F, 0x3000, 63, 0xF2],
-        [0x0027, 0x4000, 63, 0xF2]
-    ])
+    let code = descriptor(alloc, 0x000F, 0x1000, Access::READABLE_CODE)?;
+    let data = descriptor(alloc, 0x0017, 0x2000, Access::WRITABLE_DATA)?;
+    let extra = descriptor(alloc, 0x001F, 0x3000, Access::WRITABLE_DATA)?;
+    let stack = descriptor(alloc, 0x0027, 0x4000, Access::WRITABLE_DATA)?;
+    json!(in alloc; [code, data, extra, stack])
 }
 
 /// What a step answered.
