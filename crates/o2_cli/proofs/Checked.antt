@@ -14,9 +14,10 @@ use Rattle.o2_open.specs.declared.session.Session.{Session}
 use Rattle.o2_open.specs.declared.fault.OpenFault.{OpenFault}
 use Rattle.o2_open.specs.declared.fault.OpenFault.TheVariants as open_fault
 use Rattle.o2_open.specs.Loads.{Contents, Fails, Refuses as OpenRefuses, loaded}
+use Rattle.o2_run.specs.Pieces.{Counts}
 use Rattle.o2_cli.specs.declared.status.Status.{Status}
 use Rattle.o2_cli.specs.declared.status.Status.TheVariants as status
-use Rattle.o2_cli.specs.Top.{Told, IsCheck, IsFirst, Refuses, Shows}
+use Rattle.o2_cli.specs.Top.{Told, IsCheck, IsFirst, Refuses, Shows, OnTried}
 use Rattle.o2_cli.specs.Statuses.{status_by}
 use Rattle.o2_cli.specs.Checks.{module_line, with_line, module_lines, IsUnstarted, ShowsLines, Checks, ChecksFile}
 use Rattle.o2_cli.proofs.Runs.{load_started}
@@ -115,19 +116,19 @@ quiet words told c f answer is = λ name command. subst (λ (a : Status). Checks
 
 -- what a check shows of a session
 module _ (words : List (String Global)) (told : Told) (name : List ℕ) (command : IsCommandFor words Check name) (s : Session) (c d : Option (List ℕ)) where
-  pub texts_of_check : (blocks : ℕ) (i r : Option (List ℕ)) (e : Type 0) (answer : Status) → ShowsLines s c d answer → Shows words told blocks i i c d r r e answer
-  texts_of_check blocks i r e status.Fine t = λ runs. absurd (runs (name, command))
-  texts_of_check blocks i r e status.SinkFault t = λ runs. absurd (runs (name, command))
-  texts_of_check blocks i r e status.NoMemory t = record { input = refl; console = t; report = refl }
-  texts_of_check blocks i r e status.BadWords t = absurd t
-  texts_of_check blocks i r e (status.NoFile n) t = absurd t
-  texts_of_check blocks i r e (status.BadMachine f) t = absurd t
-  texts_of_check blocks i r e (status.BadModule n f) t = absurd t
-  texts_of_check blocks i r e status.FileFault t = absurd t
-  texts_of_check blocks i r e status.InputFault t = absurd t
-  texts_of_check blocks i r e status.NoRoom t = absurd t
-  texts_of_check blocks i r e status.SwapFull t = absurd t
-  texts_of_check blocks i r e status.SwapFault t = absurd t
+  pub texts_of_check : (blocks : ℕ) (i r : Option (List ℕ)) (e : Type 0) (puts : Counts) (answer : Status) → ShowsLines s c d answer → Shows words told blocks i i c d r r e puts answer
+  texts_of_check blocks i r e puts status.Fine t = λ runs. absurd (runs (name, command))
+  texts_of_check blocks i r e puts status.SinkFault t = λ runs. absurd (runs (name, command))
+  texts_of_check blocks i r e puts status.NoMemory t = record { input = refl; console = t; report = refl }
+  texts_of_check blocks i r e puts status.BadWords t = absurd t
+  texts_of_check blocks i r e puts (status.NoFile n) t = absurd t
+  texts_of_check blocks i r e puts (status.BadMachine f) t = absurd t
+  texts_of_check blocks i r e puts (status.BadModule n f) t = absurd t
+  texts_of_check blocks i r e puts status.FileFault t = absurd t
+  texts_of_check blocks i r e puts status.InputFault t = absurd t
+  texts_of_check blocks i r e puts status.NoRoom t = absurd t
+  texts_of_check blocks i r e puts status.SwapFull t = absurd t
+  texts_of_check blocks i r e puts status.SwapFault t = absurd t
 
   file_shown : (loads : (contents : Contents) → told ≡ Some contents → loaded Check contents name ≡ Ok s) (answer : Status) → ShowsLines s c d answer → ChecksFile name told c d answer
   file_shown loads status.Fine t = λ contents is. record { session = s; links = loads contents is; shows = t }
@@ -145,6 +146,17 @@ module _ (words : List (String Global)) (told : Told) (name : List ℕ) (command
 
   pub lines_of_check : (loads : (contents : Contents) → told ≡ Some contents → loaded Check contents name ≡ Ok s) (answer : Status) → ShowsLines s c d answer → Checks words told c d answer
   lines_of_check loads answer t = λ other too. subst (λ (n : List ℕ). ChecksFile n told c d answer) (name_is words Check Check name other command too) (file_shown loads answer t)
+
+-- what keeps a command from opening puts nothing
+untried_by : (P : Type 0) (f : OpenFault) → OnTried (status_by f) P
+untried_by P (open_fault.NoFile n) = tt
+untried_by P (open_fault.BadMachine f) = tt
+untried_by P (open_fault.BadModule n f) = tt
+untried_by P open_fault.FileFault = tt
+untried_by P open_fault.NoMemory = tt
+
+pub untried : (P : Type 0) (f : OpenFault) (answer : Status) → answer ≡ status_by f → OnTried answer P
+untried P f answer is = subst (λ (a : Status). OnTried a P) (sym is) (untried_by P f)
 
 -- what keeps a command from opening is no refusal of a start
 unstarted_by : (before now : ℕ) (f : OpenFault) → OpenRefuses before now f → IsUnstarted (status_by f)

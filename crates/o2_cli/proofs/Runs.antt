@@ -1,5 +1,5 @@
 -- The run of a session, by what its machine began with.
-use Rattle.std.proofs.Common.{◌≡◌, ℕ, List, Option, Some, map, ap, sym, ◌∙◌, refl, append-nil, inl, subst}
+use Rattle.std.proofs.Common.{◌≡◌, ◌≤◌, ℕ, ◌+◌, arith, length, List, Option, Some, map, ap, sym, ◌∙◌, refl, append-nil, inl, subst}
 use Rattle.std.specs.Prelude.{Result, Ok, Err, String}
 use Rattle.std.specs.declared.alloc.Global.{Global}
 use Rattle.o2_base.specs.declared.faults.ModuleFault.{ModuleFault}
@@ -16,8 +16,9 @@ use Rattle.o2_run.specs.declared.steps.Stop.TheVariants.{Input, NoRoom, SwapFull
 use Rattle.o2_run.specs.declared.fault.Fault.{Fault}
 use Rattle.o2_run.specs.declared.fault.Fault.TheVariants.{Sink, Stopped}
 use Rattle.o2_run.specs.Faults.{CauseOf}
+use Rattle.o2_run.specs.Pieces.{Counts, counts}
 use Rattle.o2_run.specs.Ended.{HasPartRun, HasTexts}
-use Rattle.o2_run.proofs.Reached.{stopped_since}
+use Rattle.o2_run.proofs.Reached.{part_from, stopped_from}
 use Rattle.o2_machine.specs.Begins.{setting_of, starting, first_world}
 use Rattle.o2_machine.specs.Lasts.{machine_swaps}
 use Rattle.o2_open.specs.declared.session.Session.{Session}
@@ -49,52 +50,62 @@ is_refused s input f e = ap (opened_from s _ input) e
 pub nothing_yet : (s : Session) (b : Built) (input : List ℕ) (c : Option (List ℕ)) → Gains c c (console (first_world s.linked s.conf input b))
 nothing_yet s b input c = λ t e. e ∙ ap Some (sym (append-nil t))
 
+no_more : (x y n : ℕ) → y ≤ x + n → y + 0 ≤ x + n
+no_more x y n h = omega (arith, h)
+
 -- a sink failed in the opening
-pub in_opening : (s : Session) (b : Built) (input : List ℕ) (j c r q : Option (List ℕ)) → j ≡ Some input → GainsSome r q (λ front. IsPrefix front (lines_text b.lines)) → HasPartRun (setting_of s.conf) (first_world s.linked s.conf input b) j c c r q
-in_opening s b input j c r q left g = record { texts = InOpening (λ t e. e ∙ ap Some (sym (append-nil t))) g; input = inl left }
+pub in_opening : (s : Session) (b : Built) (input : List ℕ) (j c r q : Option (List ℕ)) → j ≡ Some input → GainsSome r q (λ front. IsPrefix front (lines_text b.lines)) → (k x y : ℕ) → x ≤ y → y ≤ x + length b.lines
+    → HasPartRun (setting_of s.conf) (first_world s.linked s.conf input b) j c c r q (counts k k x y 0)
+in_opening s b input j c r q left g k x y least most = record {
+  texts = InOpening (λ t e. e ∙ ap Some (sym (append-nil t))) g;
+  input = inl left;
+  hands = record { to_console = omega arith; at_least = omega (arith, least); at_most = no_more x y (length b.lines) most };
+}
 
 -- a refusal of a start, as it is told
-refused_by : (s : Session) (blocks : ℕ) (i c r q : Option (List ℕ)) (z : Type 0) (pid : ℕ) (fault : ModuleFault) (answer : OpenFault) → starting s.linked s.conf ≡ Err (pid, fault) → q ≡ r → Tells answer (start_refusal s pid fault) → ShowsRun s blocks i i c c r q z (status_by answer)
-refused_by s blocks i c r q z pid fault open_fault.NoMemory e same t = record { input = refl; console = refl; report = same }
-refused_by s blocks i c r q z pid fault (open_fault.BadModule name f) e same t = (record { input = refl; console = refl; report = same }, λ input. is_refused s input (pid, fault) e ∙ ap Err (sym t))
-refused_by s blocks i c r q z pid fault (open_fault.NoFile name) e same t = absurd (cc)
-refused_by s blocks i c r q z pid fault (open_fault.BadMachine f) e same t = absurd (cc)
-refused_by s blocks i c r q z pid fault open_fault.FileFault e same t = absurd (cc)
+refused_by : (s : Session) (blocks : ℕ) (i c r q : Option (List ℕ)) (z : Type 0) (n : Counts) (pid : ℕ) (fault : ModuleFault) (answer : OpenFault) → starting s.linked s.conf ≡ Err (pid, fault) → q ≡ r → Tells answer (start_refusal s pid fault) → ShowsRun s blocks i i c c r q z n (status_by answer)
+refused_by s blocks i c r q z n pid fault open_fault.NoMemory e same t = record { input = refl; console = refl; report = same }
+refused_by s blocks i c r q z n pid fault (open_fault.BadModule name f) e same t = (record { input = refl; console = refl; report = same }, λ input. is_refused s input (pid, fault) e ∙ ap Err (sym t))
+refused_by s blocks i c r q z n pid fault (open_fault.NoFile name) e same t = absurd (cc)
+refused_by s blocks i c r q z n pid fault (open_fault.BadMachine f) e same t = absurd (cc)
+refused_by s blocks i c r q z n pid fault open_fault.FileFault e same t = absurd (cc)
 
-pub refused_texts : (s : Session) (blocks : ℕ) (i c r q : Option (List ℕ)) (z : Type 0) (pid : ℕ) (fault : ModuleFault) (answer : OpenFault) (told : Status) → told ≡ status_by answer
-    → starting s.linked s.conf ≡ Err (pid, fault) → q ≡ r → Tells answer (start_refusal s pid fault) → ShowsRun s blocks i i c c r q z told
-refused_texts s blocks i c r q z pid fault answer told is e same t = subst (λ (a : Status). ShowsRun s blocks i i c c r q z a) (sym is) (refused_by s blocks i c r q z pid fault answer e same t)
+pub refused_texts : (s : Session) (blocks : ℕ) (i c r q : Option (List ℕ)) (z : Type 0) (n : Counts) (pid : ℕ) (fault : ModuleFault) (answer : OpenFault) (told : Status) → told ≡ status_by answer
+    → starting s.linked s.conf ≡ Err (pid, fault) → q ≡ r → Tells answer (start_refusal s pid fault) → ShowsRun s blocks i i c c r q z n told
+refused_texts s blocks i c r q z n pid fault answer told is e same t = subst (λ (a : Status). ShowsRun s blocks i i c c r q z n a) (sym is) (refused_by s blocks i c r q z n pid fault answer e same t)
 
 -- where nothing opens, nothing is taken or put
-untouched_by : (words : List (String Global)) (told : Told) (blocks : ℕ) (i c r : Option (List ℕ)) (z : Type 0) (fault : OpenFault) → Shows words told blocks i i c c r r z (status_by fault)
-untouched_by words told blocks i c r z (open_fault.NoFile name) = record { input = refl; console = refl; report = refl }
-untouched_by words told blocks i c r z (open_fault.BadMachine f) = record { input = refl; console = refl; report = refl }
-untouched_by words told blocks i c r z (open_fault.BadModule name f) = record { input = refl; console = refl; report = refl }
-untouched_by words told blocks i c r z open_fault.FileFault = record { input = refl; console = refl; report = refl }
-untouched_by words told blocks i c r z open_fault.NoMemory = record { input = refl; console = refl; report = refl }
+untouched_by : (words : List (String Global)) (told : Told) (blocks : ℕ) (i c r : Option (List ℕ)) (z : Type 0) (n : Counts) (fault : OpenFault) → Shows words told blocks i i c c r r z n (status_by fault)
+untouched_by words told blocks i c r z n (open_fault.NoFile name) = record { input = refl; console = refl; report = refl }
+untouched_by words told blocks i c r z n (open_fault.BadMachine f) = record { input = refl; console = refl; report = refl }
+untouched_by words told blocks i c r z n (open_fault.BadModule name f) = record { input = refl; console = refl; report = refl }
+untouched_by words told blocks i c r z n open_fault.FileFault = record { input = refl; console = refl; report = refl }
+untouched_by words told blocks i c r z n open_fault.NoMemory = record { input = refl; console = refl; report = refl }
 
-pub untouched : (words : List (String Global)) (told : Told) (blocks : ℕ) (i c r : Option (List ℕ)) (z : Type 0) (fault : OpenFault) (answer : Status) → answer ≡ status_by fault → Shows words told blocks i i c c r r z answer
-untouched words told blocks i c r z fault answer is = subst (λ (a : Status). Shows words told blocks i i c c r r z a) (sym is) (untouched_by words told blocks i c r z fault)
+pub untouched : (words : List (String Global)) (told : Told) (blocks : ℕ) (i c r : Option (List ℕ)) (z : Type 0) (n : Counts) (fault : OpenFault) (answer : Status) → answer ≡ status_by fault → Shows words told blocks i i c c r r z n answer
+untouched words told blocks i c r z n fault answer is = subst (λ (a : Status). Shows words told blocks i i c c r r z n a) (sym is) (untouched_by words told blocks i c r z n fault)
 
 -- what a run with a fault shows, and the causes of its status
-module _ (s : Session) (blocks : ℕ) (i j c d r q : Option (List ℕ)) (e : Type 0) where
-  pub faulted_shows : (f : Fault) (answer : Status) → answer ≡ status_of f → FaultsRun s blocks i j c d r q e f → ShowsRun s blocks i j c d r q e answer
-  faulted_shows f answer is t = subst (λ (a : Status). ShowsRun s blocks i j c d r q e a) (sym is) (by_fault f t) where
-    by_fault : (f : Fault) → FaultsRun s blocks i j c d r q e f → ShowsRun s blocks i j c d r q e (status_of f)
+module _ (s : Session) (blocks : ℕ) (i j c d r q : Option (List ℕ)) (e : Type 0) (n : Counts) where
+  pub faulted_shows : (f : Fault) (answer : Status) → answer ≡ status_of f → FaultsRun s blocks i j c d r q e n f → ShowsRun s blocks i j c d r q e n answer
+  faulted_shows f answer is t = subst (λ (a : Status). ShowsRun s blocks i j c d r q e n a) (sym is) (by_fault f t) where
+    by_fault : (f : Fault) → FaultsRun s blocks i j c d r q e n f → ShowsRun s blocks i j c d r q e n (status_of f)
     by_fault Sink t = t
     by_fault (Stopped Input) t = t
     by_fault (Stopped NoRoom) t = t
     by_fault (Stopped SwapFull) t = t
     by_fault (Stopped SwapFault) t = t
 
-  -- from its start on, where the report's count rose behind that
+-- from the start on: the report's count rose behind that, and the lines of the start were put before
+module _ (s : Session) (blocks : ℕ) (i j c d r q : Option (List ℕ)) (e : Type 0) (u v x y z : ℕ) where
   pub faulted_run : (stands : Setting → World → Type 0) (since : Type 0) → (since → e) → (f : Fault)
-      → ((input : List ℕ) → i ≡ Some input → StartsWith s input (λ o. HasTexts (stands o.setting) machine_swaps blocks o.setting o.world j c d r q since (Err f)))
-      → FaultsRun s blocks i j c d r q e f
-  faulted_run stands since later Sink ran = λ input left. let x = ran input left in record { start = x.start; starts = x.starts; runs = x.runs.0 }
+      → ((input : List ℕ) → i ≡ Some input → StartsWith s input (λ o. (y ≡ x + length o.world.lines) × HasTexts (stands o.setting) machine_swaps blocks o.setting o.world j c d r q since (counts u v y z (length o.world.lines)) (Err f)))
+      → FaultsRun s blocks i j c d r q e (counts u v x z 0) f
+  faulted_run stands since later Sink ran = λ input left.
+      let o = ran input left in record { start = o.start; starts = o.starts; runs = part_from o.start.setting o.start.world j c d r q u v x y z (length o.start.world.lines) o.runs.0 o.runs.1.0 }
   faulted_run stands since later (Stopped why) ran = λ input left.
-      let x = ran input left in
-      record { start = x.start; starts = x.starts; runs = stopped_since machine_swaps blocks x.start.setting x.start.world why j c d r q since e later x.runs.0 }
+      let o = ran input left in
+      record { start = o.start; starts = o.starts; runs = stopped_from machine_swaps blocks o.start.setting o.start.world why j c d r q since e later u v x y z (length o.start.world.lines) o.runs.0 o.runs.1.0 }
 
 pub input_status : (f : Fault) (sink input device : Type 0) → CauseOf sink input (Unit {0}) device f → OnInputFault (status_of f) input
 input_status Sink sink input device h = tt
@@ -126,13 +137,13 @@ first_of Exe contents name input f starts e = e
 first_of Run contents name input f starts e = e
 first_of Check contents name input f starts e = absurd (starts refl)
 
-module _ (words : List (String Global)) (told : Told) (blocks : ℕ) (i j c d r q : Option (List ℕ)) (e : Type 0) (verb : Verb) (name : List ℕ) (s : Session) (command : IsCommandFor words verb name)
+module _ (words : List (String Global)) (told : Told) (blocks : ℕ) (i j c d r q : Option (List ℕ)) (e : Type 0) (n : Counts) (verb : Verb) (name : List ℕ) (s : Session) (command : IsCommandFor words verb name)
     (loads : (contents : Contents) → told ≡ Some contents → loaded verb contents name ≡ Ok s) where
   opens : (contents : Contents) (input : List ℕ) (P : Opened → Type 0) → told ≡ Some contents → StartsWith s input P → Opens words contents input P
   opens contents input P is st = record { verb = verb; name = name; command = command; start = st.start; opens = ap (load_started input) (loads contents is) ∙ st.starts; runs = st.runs }
 
   -- what a session's run shows is what its command shows
-  pub shown : (answer : Status) → ShowsRun s blocks i j c d r q e answer → Shows words told blocks i j c d r q e answer
+  pub shown : (answer : Status) → ShowsRun s blocks i j c d r q e n answer → Shows words told blocks i j c d r q e n answer
   shown status.Fine t = λ runs contents input is left. opens contents input _ is (t input left)
   shown status.SinkFault t = λ runs contents input is left. opens contents input _ is (t input left)
   shown status.InputFault t = λ runs contents input is left. opens contents input _ is (t input left)
@@ -147,7 +158,7 @@ module _ (words : List (String Global)) (told : Told) (blocks : ℕ) (i j c d r 
   shown status.SwapFault t = λ runs contents input is left. opens contents input _ is (t input left)
 
   -- and what it refuses is what its command refuses, but for `check`
-  pub refused : (starts : (verb ≡ Check) → ⊥) (answer : Status) → ShowsRun s blocks i j c d r q e answer → IsUnswapped answer → TopRefuses words told answer
+  pub refused : (starts : (verb ≡ Check) → ⊥) (answer : Status) → ShowsRun s blocks i j c d r q e n answer → IsUnswapped answer → TopRefuses words told answer
   refused starts status.Fine t never = (verb, name, command)
   refused starts status.SinkFault t never = (verb, name, command)
   refused starts status.InputFault t never = (verb, name, command)

@@ -1,5 +1,6 @@
 -- What the run of a session comes to.
 use Rattle.std.specs.Prelude.{◌≡◌, ℕ, List, Option, Some, Ok, Err}
+use Rattle.o2_run.specs.Pieces.{Counts}
 use Rattle.o2_run.specs.Ended.{HasWholeRun, HasStoppedTexts, HasPartRun}
 use Rattle.o2_run.specs.declared.fault.Fault.{Fault}
 use Rattle.o2_run.specs.declared.fault.Fault.TheVariants.{Sink, Stopped}
@@ -20,25 +21,25 @@ pub record StartsWith (s : Session) (input : List ℕ) (P : Opened → Type 0) :
 
 -- its run is stopped so, before a step
 abbrev pub StopsRun : Session → (blocks : ℕ)
-    → (left_old left_new console_old console_new report_old report_new : Option (List ℕ)) → (fault : Type 0) → Stop → Type 0
-StopsRun s blocks i j c d r q e why = (input : List ℕ) → i ≡ Some input
-    → StartsWith s input (λ o. HasStoppedTexts machine_swaps blocks o.setting o.world why j c d r q e)
+    → (left_old left_new console_old console_new report_old report_new : Option (List ℕ)) → (fault : Type 0) → (puts : Counts) → Stop → Type 0
+StopsRun s blocks i j c d r q e n why = (input : List ℕ) → i ≡ Some input
+    → StartsWith s input (λ o. HasStoppedTexts machine_swaps blocks o.setting o.world why j c d r q e n)
 
 -- its run has this fault
 abbrev pub FaultsRun : Session → (blocks : ℕ)
-    → (left_old left_new console_old console_new report_old report_new : Option (List ℕ)) → (fault : Type 0) → Fault → Type 0
-FaultsRun s blocks i j c d r q e Sink = (input : List ℕ) → i ≡ Some input → StartsWith s input (λ o. HasPartRun o.setting o.world j c d r q)
-FaultsRun s blocks i j c d r q e (Stopped why) = StopsRun s blocks i j c d r q e why
+    → (left_old left_new console_old console_new report_old report_new : Option (List ℕ)) → (fault : Type 0) → (puts : Counts) → Fault → Type 0
+FaultsRun s blocks i j c d r q e n Sink = (input : List ℕ) → i ≡ Some input → StartsWith s input (λ o. HasPartRun o.setting o.world j c d r q n)
+FaultsRun s blocks i j c d r q e n (Stopped why) = StopsRun s blocks i j c d r q e n why
 
 -- what its run shows, by the status, where the device has so many blocks
 abbrev pub ShowsRun : Session → (blocks : ℕ)
-    → (left_old left_new console_old console_new report_old report_new : Option (List ℕ)) → (fault : Type 0) → Status → Type 0
-ShowsRun s blocks i j c d r q e status.Fine = (input : List ℕ) → i ≡ Some input → StartsWith s input (λ o. HasWholeRun machine_swaps o.setting o.world j c d r q)
-ShowsRun s blocks i j c d r q e status.SinkFault = (input : List ℕ) → i ≡ Some input → StartsWith s input (λ o. HasPartRun o.setting o.world j c d r q)
-ShowsRun s blocks i j c d r q e status.InputFault = StopsRun s blocks i j c d r q e Input
-ShowsRun s blocks i j c d r q e status.NoRoom = StopsRun s blocks i j c d r q e NoRoom
-ShowsRun s blocks i j c d r q e status.SwapFull = StopsRun s blocks i j c d r q e SwapFull
-ShowsRun s blocks i j c d r q e status.SwapFault = StopsRun s blocks i j c d r q e SwapFault
-ShowsRun s blocks i j c d r q e status.NoMemory = IsUntouched i j c d r q
-ShowsRun s blocks i j c d r q e (status.BadModule name fault) = IsUntouched i j c d r q × ((input : List ℕ) → started s input ≡ Err (BadModule name fault))
-ShowsRun s blocks i j c d r q e _ = ⊥
+    → (left_old left_new console_old console_new report_old report_new : Option (List ℕ)) → (fault : Type 0) → (puts : Counts) → Status → Type 0
+ShowsRun s blocks i j c d r q e n status.Fine = (input : List ℕ) → i ≡ Some input → StartsWith s input (λ o. HasWholeRun machine_swaps o.setting o.world j c d r q n)
+ShowsRun s blocks i j c d r q e n status.SinkFault = (input : List ℕ) → i ≡ Some input → StartsWith s input (λ o. HasPartRun o.setting o.world j c d r q n)
+ShowsRun s blocks i j c d r q e n status.InputFault = StopsRun s blocks i j c d r q e n Input
+ShowsRun s blocks i j c d r q e n status.NoRoom = StopsRun s blocks i j c d r q e n NoRoom
+ShowsRun s blocks i j c d r q e n status.SwapFull = StopsRun s blocks i j c d r q e n SwapFull
+ShowsRun s blocks i j c d r q e n status.SwapFault = StopsRun s blocks i j c d r q e n SwapFault
+ShowsRun s blocks i j c d r q e n status.NoMemory = IsUntouched i j c d r q
+ShowsRun s blocks i j c d r q e n (status.BadModule name fault) = IsUntouched i j c d r q × ((input : List ℕ) → started s input ≡ Err (BadModule name fault))
+ShowsRun s blocks i j c d r q e n _ = ⊥

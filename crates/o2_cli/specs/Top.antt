@@ -6,6 +6,7 @@ use Rattle.o2_words.specs.declared.words.Verb.{Verb}
 use Rattle.o2_words.specs.declared.words.Verb.TheVariants.{Exe, Run, Check}
 use Rattle.o2_words.specs.Words.{IsCommand, IsCommandFor}
 use Rattle.o2_world.specs.World.{World, Setting}
+use Rattle.o2_run.specs.Pieces.{Counts}
 use Rattle.o2_run.specs.Ended.{HasWholeRun, HasStoppedTexts, HasPartRun}
 use Rattle.o2_run.specs.declared.steps.Stop.{Stop}
 use Rattle.o2_run.specs.declared.steps.Stop.TheVariants.{Input, NoRoom, SwapFull, SwapFault}
@@ -94,20 +95,20 @@ pub record IsUntouched (left_old left_new console_old console_new report_old rep
 
 -- the run is stopped so, before a step
 abbrev pub Stops : List (String Global) → Told → (blocks : ℕ)
-    → (left_old left_new console_old console_new report_old report_new : Option (List ℕ)) → (fault : Type 0) → Stop → Type 0
-Stops words told blocks i j c d r q e why = Runs words told i (λ o. HasStoppedTexts machine_swaps blocks o.setting o.world why j c d r q e)
+    → (left_old left_new console_old console_new report_old report_new : Option (List ℕ)) → (fault : Type 0) → (puts : Counts) → Stop → Type 0
+Stops words told blocks i j c d r q e n why = Runs words told i (λ o. HasStoppedTexts machine_swaps blocks o.setting o.world why j c d r q e n)
 
--- both texts and the input, by the status: those of the boundless machine, or fronts of them; `fault` says that the report
--- failed, and `blocks` how many blocks the device has
+-- both texts, their puts and the input, by the status: those of the boundless machine, or fronts of them; `fault` says that the
+-- report failed, and `blocks` how many blocks the device has
 abbrev pub Shows : List (String Global) → Told → (blocks : ℕ)
-    → (left_old left_new console_old console_new report_old report_new : Option (List ℕ)) → (fault : Type 0) → Status → Type 0
-Shows words told blocks i j c d r q e status.Fine = Runs words told i (λ o. HasWholeRun machine_swaps o.setting o.world j c d r q)
-Shows words told blocks i j c d r q e status.SinkFault = Runs words told i (λ o. HasPartRun o.setting o.world j c d r q)
-Shows words told blocks i j c d r q e status.InputFault = Stops words told blocks i j c d r q e Input
-Shows words told blocks i j c d r q e status.NoRoom = Stops words told blocks i j c d r q e NoRoom
-Shows words told blocks i j c d r q e status.SwapFull = Stops words told blocks i j c d r q e SwapFull
-Shows words told blocks i j c d r q e status.SwapFault = Stops words told blocks i j c d r q e SwapFault
-Shows words told blocks i j c d r q e _ = IsUntouched i j c d r q
+    → (left_old left_new console_old console_new report_old report_new : Option (List ℕ)) → (fault : Type 0) → (puts : Counts) → Status → Type 0
+Shows words told blocks i j c d r q e n status.Fine = Runs words told i (λ o. HasWholeRun machine_swaps o.setting o.world j c d r q n)
+Shows words told blocks i j c d r q e n status.SinkFault = Runs words told i (λ o. HasPartRun o.setting o.world j c d r q n)
+Shows words told blocks i j c d r q e n status.InputFault = Stops words told blocks i j c d r q e n Input
+Shows words told blocks i j c d r q e n status.NoRoom = Stops words told blocks i j c d r q e n NoRoom
+Shows words told blocks i j c d r q e n status.SwapFull = Stops words told blocks i j c d r q e n SwapFull
+Shows words told blocks i j c d r q e n status.SwapFault = Stops words told blocks i j c d r q e n SwapFault
+Shows words told blocks i j c d r q e n _ = IsUntouched i j c d r q
 
 -- a machine that doesn't swap is stopped neither for room nor for swap
 abbrev pub IsUnswapped : Status → Type 0
@@ -141,3 +142,9 @@ OnUnrun (status.BadModule name fault) P = P
 OnUnrun status.FileFault P = P
 OnUnrun status.NoMemory P = P
 OnUnrun _ P = Unit {0}
+
+-- where the lines of `check` were put, or failed
+abbrev pub OnTried : Status → Type 0 → Type 0
+OnTried status.Fine P = P
+OnTried status.SinkFault P = P
+OnTried _ P = Unit {0}

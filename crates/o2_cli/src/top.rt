@@ -1,9 +1,10 @@
 // The top call.
-ghost use Rattle.std.specs.Prelude.{◌≡◌, ◌≤◌, ◌⊎◌, ℕ, List, Option, Some};
+ghost use Rattle.std.specs.Prelude.{◌≡◌, ◌≤◌, ◌+◌, ◌⊎◌, ℕ, List, Option, Some};
 ghost use Rattle.o2_conf.specs.Limits.{IsWithinLimits};
 ghost use Rattle.o2_open.specs.Loads.{HasEnvironments};
 ghost use Rattle.o2_outer.specs.Texts.{Rose};
-ghost use Rattle.o2_cli.specs.Top.{IsCheck, Refuses, Shows, IsUnswapped, OnFileFault, OnInputFault, OnSinkFault, OnSwapFault, OnUnrun};
+ghost use Rattle.o2_run.specs.Pieces.{counts};
+ghost use Rattle.o2_cli.specs.Top.{IsCheck, Refuses, Shows, IsUnswapped, OnFileFault, OnInputFault, OnSinkFault, OnSwapFault, OnTried, OnUnrun};
 ghost use Rattle.o2_cli.specs.RunTexts.{ShowsRun};
 ghost use Rattle.o2_cli.specs.Checks.{Checks, IsUnstarted, ShowsLines};
 
@@ -30,13 +31,16 @@ pub fn os2run<F: Files, I: Source, C: Sink, R: Sink, S: SwapDevice>(
 ) -> Status
     // Each refusal, with its cause.
     ensures refused { Refuses words.now (F.told files.old) result }
-    // Both texts are those of the boundless machine, or fronts of them.
+    // Both texts are those of the boundless machine, or fronts of them; each line of the report is one put, and so is the piece for
+    // the console of each step that has one.
     ensures texts { Shows words.now (F.told files.old) (S.blocks swap.old)
         (I.left input.old) (I.left input.new) (C.taken console.old) (C.taken console.new)
-        (R.taken report.old) (R.taken report.new) (Rose (R.faults report.old) (R.faults report.new)) result }
+        (R.taken report.old) (R.taken report.new) (Rose (R.faults report.old) (R.faults report.new))
+        (counts (C.puts console.old) (C.puts console.new) (R.puts report.old) (R.puts report.new) 0) result }
     // Of `check` the console gains the line of each linked module, or a front of the lines, and nothing else is touched; no
     // module is refused for a stack, an entry point or the number of segments.
     ensures lines { Checks words.now (F.told files.old) (C.taken console.old) (C.taken console.new) result }
+    ensures checks_at_once { IsCheck words.now → OnTried result (C.puts console.new ≡ C.puts console.old + 1) }
     ensures checks_unstarted { IsCheck words.now → IsUnstarted result }
     ensures checks_quietly { IsCheck words.now → report.new ≡ report.old }
     ensures checks_unread { IsCheck words.now → input.new ≡ input.old }
@@ -74,6 +78,7 @@ pub fn os2run<F: Files, I: Source, C: Sink, R: Sink, S: SwapDevice>(
 /// Writes what `check` says of what it opened.
 fn check_session<C: Sink>(alloc: Global, session: &Session, console: &mut C) -> Status
     ensures lines { ShowsLines session.now (C.taken console.old) (C.taken console.new) result }
+    ensures at_once { OnTried result (C.puts console.new ≡ C.puts console.old + 1) }
     ensures unstarted { IsUnstarted result }
     ensures same_console { OnUnrun result (console.new ≡ console.old) }
     ensures sink_fault { OnSinkFault result (Rose (C.faults console.old) (C.faults console.new)) }
@@ -105,7 +110,8 @@ fn run_session<I: Source, C: Sink, R: Sink, S: SwapDevice>(
     ensures unswapped { IsUnswapped result }
     ensures texts { ShowsRun session.now (S.blocks swap.old)
         (I.left input.old) (I.left input.new) (C.taken console.old) (C.taken console.new)
-        (R.taken report.old) (R.taken report.new) (Rose (R.faults report.old) (R.faults report.new)) result }
+        (R.taken report.old) (R.taken report.new) (Rose (R.faults report.old) (R.faults report.new))
+        (counts (C.puts console.old) (C.puts console.new) (R.puts report.old) (R.puts report.new) 0) result }
     ensures input_fault { OnInputFault result (Rose (I.faults input.old) (I.faults input.new)) }
     ensures sink_fault { OnSinkFault result (Rose (C.faults console.old) (C.faults console.new) ⊎ Rose (R.faults report.old) (R.faults report.new)) }
     ensures swap_fault { OnSwapFault result (Rose (S.faults swap.old) (S.faults swap.new)) }

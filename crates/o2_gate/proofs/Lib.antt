@@ -10,3 +10,4 @@ pub mod Takes
 pub mod Served
 pub mod Named
 pub mod Writing
+pub mod Lines

@@ -3,3 +3,4 @@ pub mod Pointed
 pub mod Called
 pub mod Names
 pub mod Writes
+pub mod Pieces

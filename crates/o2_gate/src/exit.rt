@@ -14,6 +14,8 @@ ghost use Rattle.o2_gate.specs.Names.{TellsNames};
 ghost use Rattle.o2_world.specs.declared.types.Row.TheVariants.{DosExit};
 ghost use Rattle.o2_run.specs.Room.{call_names};
 ghost use Rattle.o2_run.specs.Faults.{Caused};
+ghost use Rattle.o2_gate.specs.Pieces.{CallHands};
+ghost use Rattle.o2_run.specs.Pieces.{counts, PartHands};
 
 use crate::Called;
 use crate::stack::two_arguments;
@@ -60,6 +62,11 @@ pub fn dos_exit<B: Bus, R: Sink>(
     ensures never { OnMissed result (λ s. ⊥) }
     ensures count { R.faults report.old ≤ R.faults report.new }
     ensures cause { Caused (Rose (R.faults report.old) (R.faults report.new)) ⊥ ⊥ ⊥ result }
+    // Each line is one put; none is put for an exception or a miss.
+    ensures puts { (c : ℕ) → CallHands (counts c c (R.puts report.old) (R.puts report.new) 0) result }
+    ensures part { (f : Filling) (input : List ℕ) (known : Known) (c : ℕ) → IsBound (B.view bus.now)
+        → PartHands (dos_exit_row (before_call (boundless f (B.view bus.now)) pid cpu.now input known))
+        (counts c c (R.puts report.old) (R.puts report.new) 0) result }
 {
     let Some((action, code)) = two_arguments(bus, cpu) else {
         return Ok(Called::Trap(12, 0));

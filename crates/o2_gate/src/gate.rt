@@ -13,6 +13,8 @@ ghost use Rattle.o2_gate.specs.Pointed.{IsAway};
 ghost use Rattle.o2_gate.specs.Names.{TellsNames};
 ghost use Rattle.o2_run.specs.Room.{call_names};
 ghost use Rattle.o2_run.specs.Faults.{Caused};
+ghost use Rattle.o2_gate.specs.Pieces.{CallHands};
+ghost use Rattle.o2_run.specs.Pieces.{counts, PartHands};
 
 use crate::exit::dos_exit;
 use crate::mem_avail::dos_mem_avail;
@@ -90,6 +92,11 @@ pub fn call<B: Ranges, I: Source, C: Sink, R: Sink>(
     ensures cause { Caused (Rose (C.faults console.old) (C.faults console.new) ⊎ Rose (R.faults report.old) (R.faults report.new)) (Rose (I.faults input.old) (I.faults input.new)) ⊥ ⊥ result }
     // The input fails in a DosRead alone.
     ensures input_service { Caused (Unit {0}) (service ≡ 3) ⊥ ⊥ result }
+    // Each line is one put, and so is the piece where it has bytes; none is put for an exception or a miss.
+    ensures puts { CallHands (counts (C.puts console.old) (C.puts console.new) (R.puts report.old) (R.puts report.new) 0) result }
+    ensures part { (f : Filling) (bytes : List ℕ) (known : Known) → IsBound (B.view bus.old) → IsKnown known state.old
+        → PartHands (serviced (before_call (boundless f (B.view bus.old)) pid cpu.old bytes known) service next)
+        (counts (C.puts console.old) (C.puts console.new) (R.puts report.old) (R.puts report.new) 0) result }
 {
     let line = &mut state.line;
     match row_of(service) {

@@ -14,6 +14,8 @@ ghost use Rattle.o2_gate.specs.Names.{TellsNames};
 ghost use Rattle.o2_world.specs.declared.types.Row.TheVariants.{DosGetPid};
 ghost use Rattle.o2_run.specs.Room.{call_names};
 ghost use Rattle.o2_run.specs.Faults.{Caused};
+ghost use Rattle.o2_gate.specs.Pieces.{CallHands};
+ghost use Rattle.o2_run.specs.Pieces.{counts, SinkHands};
 
 use crate::Called;
 use crate::told::{Telling, told};
@@ -51,6 +53,9 @@ pub fn dos_get_pid<B: Ranges, R: Sink>(
     ensures still { OnMissed result (λ s. (cpu.new ≡ cpu.old) × (B.view bus.new ≡ B.view bus.old) × (report.new ≡ report.old)) }
     ensures count { R.faults report.old ≤ R.faults report.new }
     ensures cause { Caused (Rose (R.faults report.old) (R.faults report.new)) ⊥ ⊥ ⊥ result }
+    // Each line is one put; none is put for an exception or a miss.
+    ensures puts { (c : ℕ) → CallHands (counts c c (R.puts report.old) (R.puts report.new) 0) result }
+    ensures part { (c : ℕ) → SinkHands 0 1 (counts c c (R.puts report.old) (R.puts report.new) 0) result }
 {
     let part = [(pid % 256) as u8, (pid / 256) as u8, 1, 0, 0, 0];
     let values = [

@@ -15,6 +15,8 @@ ghost use Rattle.o2_gate.specs.Names.{TellsNames};
 ghost use Rattle.o2_world.specs.declared.types.Row.TheVariants.{DosRead};
 ghost use Rattle.o2_run.specs.Room.{call_names, pointed};
 ghost use Rattle.o2_run.specs.Faults.{Caused};
+ghost use Rattle.o2_gate.specs.Pieces.{CallHands};
+ghost use Rattle.o2_run.specs.Pieces.{counts, SinkHands};
 
 use crate::Called;
 use crate::pointer::{Pointed, store};
@@ -97,6 +99,9 @@ fn deliver<B: Ranges, R: Sink>(
     ensures never { OnMissed result (λ s. ⊥) }
     ensures count { R.faults report.old ≤ R.faults report.new }
     ensures cause { Caused (Rose (R.faults report.old) (R.faults report.new)) ⊥ ⊥ ⊥ result }
+    // Each line is one put; none is put for an exception or a miss.
+    ensures puts { (c : ℕ) → CallHands (counts c c (R.puts report.old) (R.puts report.new) 0) result }
+    ensures part { (c : ℕ) → SinkHands 0 1 (counts c c (R.puts report.old) (R.puts report.new) 0) result }
 {
     match put_line(line, pid, b"DosRead", read, 0, got.len() as u16, report) {
         Put::Failed => Err(Fault::Sink),
@@ -146,6 +151,9 @@ fn read_from<B: Ranges, I: Source, R: Sink>(
     ensures input_count { I.faults input.old ≤ I.faults input.new }
     ensures report_count { R.faults report.old ≤ R.faults report.new }
     ensures cause { Caused (Rose (R.faults report.old) (R.faults report.new)) (Rose (I.faults input.old) (I.faults input.new)) ⊥ ⊥ result }
+    // Each line is one put; none is put for an exception or a miss.
+    ensures puts { (c : ℕ) → CallHands (counts c c (R.puts report.old) (R.puts report.new) 0) result }
+    ensures part { (c : ℕ) → SinkHands 0 1 (counts c c (R.puts report.old) (R.puts report.new) 0) result }
 {
     match test_both(bus, true, read) {
         Pointed::Missed(sel) => return Ok(Called::Missed(sel)),
@@ -207,6 +215,9 @@ pub fn dos_read<B: Ranges, I: Source, R: Sink>(
     ensures input_count { I.faults input.old ≤ I.faults input.new }
     ensures report_count { R.faults report.old ≤ R.faults report.new }
     ensures cause { Caused (Rose (R.faults report.old) (R.faults report.new)) (Rose (I.faults input.old) (I.faults input.new)) ⊥ ⊥ result }
+    // Each line is one put; none is put for an exception or a miss.
+    ensures puts { (c : ℕ) → CallHands (counts c c (R.puts report.old) (R.puts report.new) 0) result }
+    ensures part { (c : ℕ) → SinkHands 0 1 (counts c c (R.puts report.old) (R.puts report.new) 0) result }
 {
     match transfer(bus, cpu) {
         None => Ok(Called::Trap(12, 0)),

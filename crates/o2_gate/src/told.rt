@@ -16,6 +16,8 @@ ghost use Rattle.o2_gate.specs.Pointed.{IsAway, pointer};
 ghost use Rattle.o2_gate.specs.Names.{TellsNames, told_names};
 ghost use Rattle.o2_run.specs.Room.{pointed};
 ghost use Rattle.o2_run.specs.Faults.{Caused};
+ghost use Rattle.o2_gate.specs.Pieces.{CallHands};
+ghost use Rattle.o2_run.specs.Pieces.{counts, SinkHands};
 
 use crate::Called;
 use crate::pointer::{Pointed, store, test};
@@ -88,6 +90,9 @@ fn told_at<B: Ranges, R: Sink>(
     ensures still { OnMissed result (λ s. (cpu.new ≡ cpu.old) × (B.view bus.new ≡ B.view bus.old) × (report.new ≡ report.old)) }
     ensures count { R.faults report.old ≤ R.faults report.new }
     ensures cause { Caused (Rose (R.faults report.old) (R.faults report.new)) ⊥ ⊥ ⊥ result }
+    // Each line is one put; none is put for an exception or a miss.
+    ensures puts { (c : ℕ) → CallHands (counts c c (R.puts report.old) (R.puts report.new) 0) result }
+    ensures part { (c : ℕ) → SinkHands 0 1 (counts c c (R.puts report.old) (R.puts report.new) 0) result }
 {
     match test(bus, true, selector, offset, telling.part.len() as u16) {
         Pointed::Missed(sel) => return Ok(Called::Missed(sel)),
@@ -134,6 +139,9 @@ pub fn told<B: Ranges, R: Sink>(
     ensures still { OnMissed result (λ s. (cpu.new ≡ cpu.old) × (B.view bus.new ≡ B.view bus.old) × (report.new ≡ report.old)) }
     ensures count { R.faults report.old ≤ R.faults report.new }
     ensures cause { Caused (Rose (R.faults report.old) (R.faults report.new)) ⊥ ⊥ ⊥ result }
+    // Each line is one put; none is put for an exception or a miss.
+    ensures puts { (c : ℕ) → CallHands (counts c c (R.puts report.old) (R.puts report.new) 0) result }
+    ensures part { (c : ℕ) → SinkHands 0 1 (counts c c (R.puts report.old) (R.puts report.new) 0) result }
 {
     let Some((selector, offset)) = two_arguments(bus, cpu) else {
         return Ok(Called::Trap(12, 0));

@@ -1,7 +1,7 @@
 // DosWrite.
 ghost use Rattle.std.specs.Prelude.{◌≡◌, ◌≢◌, ◌≤◌, ◌+◌, ◌⊎◌, ◌∷◌, [], ℕ, List, Option, Some, true, false, length};
 ghost use Rattle.o2_outer.specs.Texts.{Rose};
-ghost use Rattle.o2_outer.specs.Answers.{Takes, OnFailed};
+ghost use Rattle.o2_outer.specs.Answers.{Takes, OnDone, OnFailed};
 ghost use Rattle.o2_isa.specs.View.{Filling, IsBound, is_readable, whole};
 ghost use Rattle.o2_isa.specs.Pointers.{is_ready, range_of, KeepsAllButBytes};
 ghost use Rattle.o2_isa.specs.Presence.{SameSelectors};
@@ -16,6 +16,8 @@ ghost use Rattle.o2_gate.specs.Names.{TellsNames};
 ghost use Rattle.o2_world.specs.declared.types.Row.TheVariants.{DosWrite};
 ghost use Rattle.o2_run.specs.Room.{call_names, pointed};
 ghost use Rattle.o2_run.specs.Faults.{Caused};
+ghost use Rattle.o2_gate.specs.Pieces.{CallHands};
+ghost use Rattle.o2_run.specs.Pieces.{counts, puts_of, PartHands};
 
 use crate::Called;
 use crate::pointer::{Pointed, range};
@@ -64,6 +66,9 @@ fn put_both<B: Ranges, C: Sink, R: Sink>(
     ensures console_count { C.faults console.old ≤ C.faults console.new }
     ensures report_count { R.faults report.old ≤ R.faults report.new }
     ensures cause { OnFailed result (Rose (C.faults console.old) (C.faults console.new) ⊎ Rose (R.faults report.old) (R.faults report.new)) }
+    ensures piece { C.puts console.new ≡ C.puts console.old + puts_of write.now.count }
+    ensures line { OnDone result (R.puts report.new ≡ R.puts report.old + 1) }
+    ensures line_at_most { (R.puts report.old ≤ R.puts report.new) × (R.puts report.new ≤ R.puts report.old + 1) }
 {
     match put_range(bus, write, console) {
         Put::Failed => Put::Failed,
@@ -108,6 +113,11 @@ fn written<B: Ranges, C: Sink, R: Sink>(
     ensures console_count { C.faults console.old ≤ C.faults console.new }
     ensures report_count { R.faults report.old ≤ R.faults report.new }
     ensures cause { Caused (Rose (C.faults console.old) (C.faults console.new) ⊎ Rose (R.faults report.old) (R.faults report.new)) ⊥ ⊥ ⊥ result }
+    // Each line is one put, and so is the piece where it has bytes; none is put for an exception or a miss.
+    ensures puts { CallHands (counts (C.puts console.old) (C.puts console.new) (R.puts report.old) (R.puts report.new) 0) result }
+    ensures part { (f : Filling) (input : List ℕ) (known : Known)
+        → PartHands (written_row (before_call (boundless f (B.view bus.old)) pid cpu.old input known) next write.now)
+        (counts (C.puts console.old) (C.puts console.new) (R.puts report.old) (R.puts report.new) 0) result }
 {
     match test_both(bus, false, write) {
         Pointed::Missed(sel) => return Ok(Called::Missed(sel)),
@@ -165,6 +175,11 @@ pub fn dos_write<B: Ranges, C: Sink, R: Sink>(
     ensures console_count { C.faults console.old ≤ C.faults console.new }
     ensures report_count { R.faults report.old ≤ R.faults report.new }
     ensures cause { Caused (Rose (C.faults console.old) (C.faults console.new) ⊎ Rose (R.faults report.old) (R.faults report.new)) ⊥ ⊥ ⊥ result }
+    // Each line is one put, and so is the piece where it has bytes; none is put for an exception or a miss.
+    ensures puts { CallHands (counts (C.puts console.old) (C.puts console.new) (R.puts report.old) (R.puts report.new) 0) result }
+    ensures part { (f : Filling) (input : List ℕ) (known : Known) → IsBound (B.view bus.old)
+        → PartHands (dos_write_row (before_call (boundless f (B.view bus.old)) pid cpu.old input known) next)
+        (counts (C.puts console.old) (C.puts console.new) (R.puts report.old) (R.puts report.new) 0) result }
 {
     match transfer(bus, cpu) {
         None => Ok(Called::Trap(12, 0)),

@@ -5,3 +5,5 @@ pub mod Between
 pub mod Turns
 pub mod StartLines
 pub mod FirstStands
+pub mod Hands
+pub mod StartPuts

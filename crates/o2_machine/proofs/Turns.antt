@@ -1,5 +1,5 @@
 -- What a turn does to the world that the machine stands for.
-use Rattle.std.proofs.Common.{◌≡◌, ℕ, ◌+◌, ◌-◌, ◌⊎◌, Bool, true, false, not, List, [], ◌∷◌, ◌++◌, Option, Some, ap, sym, ◌∙◌, refl, inl, inr, ◌==◌, if◌then◌else◌, subst, slice_set, length-append, arith}
+use Rattle.std.proofs.Common.{◌≡◌, ℕ, ◌+◌, ◌-◌, ◌⊎◌, Bool, true, false, not, List, [], ◌∷◌, ◌++◌, Option, Some, ap, sym, ◌∙◌, refl, inl, inr, ◌==◌, if◌then◌else◌, subst, slice_set, length, length-append, arith}
 use Rattle.std.specs.Prelude.{codes}
 use Rattle.std.specs.List.{list_any}
 use Rattle.std.proofs.lemmas.Grind.{flat_map-append}
@@ -17,6 +17,7 @@ use Rattle.o2_world.specs.Run.{process_after, before, step, plainly, is_over, an
 use Rattle.o2_world.proofs.Budget.{step_runs}
 use Rattle.o2_world.proofs.Flags.{live_process, lives_some, flags_after, flags_ended}
 use Rattle.o2_run.specs.Turn.{StepsOn, StepsInPart, IsStopped, IsClosed, IsClosedInPart, Turns, Caused, is_for_swap, LineIs, OnRan}
+use Rattle.o2_run.specs.Pieces.{counts, Hands, HandsUpTo, FailedHands, puts_of, step_puts}
 use Rattle.o2_run.specs.Stops.{stop_line}
 use Rattle.o2_run.specs.declared.steps.Stop.{Stop}
 use Rattle.o2_run.specs.declared.steps.Stop.TheVariants.{Input, NoRoom, SwapFull, SwapFault}
@@ -71,17 +72,17 @@ by_parts false none a b e = absurd (cc)
 picked : (s : Schedule) (n : ℕ) → pick_of s ≡ Step n → IsPicked s n
 picked s n e = let three = by_parts (any_of s) (s.dispatch.budget == 0) (next_of s).current n e in record { any = three.0; some = three.1.0; number = three.1.1 }
 
-by_ended : (any none : Bool) (a : ℕ) → (if not any then AllEnded else (if none then BudgetSpent else Step a)) ≡ AllEnded → any ≡ false
+pub by_ended : (any none : Bool) (a : ℕ) → (if not any then AllEnded else (if none then BudgetSpent else Step a)) ≡ AllEnded → any ≡ false
 by_ended true true a e = absurd (cc)
 by_ended true false a e = absurd (cc)
 by_ended false none a e = refl
 
-by_spent : (any none : Bool) (a : ℕ) → (if not any then AllEnded else (if none then BudgetSpent else Step a)) ≡ BudgetSpent → (any ≡ true) × (none ≡ true)
+pub by_spent : (any none : Bool) (a : ℕ) → (if not any then AllEnded else (if none then BudgetSpent else Step a)) ≡ BudgetSpent → (any ≡ true) × (none ≡ true)
 by_spent true true a e = (refl, refl)
 by_spent true false a e = absurd (cc)
 by_spent false none a e = absurd (cc)
 
-any_is : (m : Machine) (s : Setting) (w : World) (b : Bool) → StandsFor m s w → any_of m.sched ≡ b → any_lives w.processes ≡ b
+pub any_is : (m : Machine) (s : Setting) (w : World) (b : Bool) → StandsFor m s w → any_of m.sched ≡ b → any_lives w.processes ≡ b
 any_is m s w b stands e = ap (λ (x : List Bool). list_any (λ (y : Bool). y) x) stands.flags ∙ e
 
 module _ (m : Machine) (s : Setting) (w : World) (p : Process) (c d r q : Option (List ℕ))
@@ -150,6 +151,46 @@ module _ (m : Machine) (s : Setting) (w : World) (p : Process) (c d r q : Option
     to_report = rw lines_of (continues_by (lines_text made.lines) (lines_text w.lines) r q to_report);
   }
 
+  -- The puts.
+
+  bytes_of : length (step s w).console ≡ length w.console + length made.piece
+  bytes_of = ap length console_of ∙ length-append w.console made.piece
+
+  lines_length : length (step s w).lines ≡ length w.lines + length made.lines
+  unfolding plainly
+  lines_length = ap (λ (v : World). length v.lines) step_is ∙ length-append w.lines made.lines
+
+  put_is : (bytes : ℕ) → length made.piece ≡ bytes → bytes ≡ length (step s w).console - length w.console
+  put_is bytes is = omega (arith, is, bytes_of)
+
+  module _ (a b x y : ℕ) where
+    pub step_hands : (bytes lines : ℕ) → length made.piece ≡ bytes → length made.lines ≡ lines → Hands (counts a b x y 0) (puts_of bytes) lines
+        → Hands (counts a b x y (length w.lines)) (step_puts w (step s w)) (length (step s w).lines)
+    step_hands bytes lines piece_is lines_is h = record {
+      to_console = h.to_console ∙ ap (λ (n : ℕ). a + puts_of n) (put_is bytes piece_is);
+      to_report = omega (arith, h.to_report, lines_is, lines_length);
+    }
+
+    pub late_hands : (bytes lines : ℕ) → length made.piece ≡ bytes → length made.lines ≡ lines → Hands (counts a b x y 0) (puts_of bytes) lines → FailedHands s w (counts a b x y (length w.lines))
+    late_hands bytes lines piece_is lines_is h = record {
+      in_step = λ on. record {
+        to_console = h.to_console ∙ ap (λ (n : ℕ). a + puts_of n) (put_is bytes piece_is);
+        at_least = omega (arith, h.to_report);
+        at_most = omega (arith, h.to_report, lines_is, lines_length);
+      };
+      at_end = λ over. let never : true ≡ false = sym over ∙ runs in absurd (cc);
+    }
+
+    pub part_hands : HandsUpTo (counts a b x y 0) (puts_of (length made.piece)) 0 (length made.lines) → FailedHands s w (counts a b x y (length w.lines))
+    part_hands h = record {
+      in_step = λ on. record {
+        to_console = h.to_console ∙ ap (λ (n : ℕ). a + puts_of n) (put_is (length made.piece) refl);
+        at_least = omega (arith, h.at_least);
+        at_most = omega (arith, h.at_most, lines_length);
+      };
+      at_end = λ over. let never : true ≡ false = sym over ∙ runs in absurd (cc);
+    }
+
 pub same_space : (n m : Machine) (s : Setting) (w : World) → StandsFor m s w → IsSame m n → StandsIn n.space w.processes w.names → StandsFor n s w
 same_space n m s w stands same space = record {
   space = space;
@@ -206,6 +247,24 @@ module _ (m : Machine) (s : Setting) (w : World) (number : ℕ) (c d r q : Optio
     pub late : ran.whole ≡ false → StepsInPart (StandsFor n s) false s w i c d r q
     late part = steps_in_part m s w here.0 c d r q stands is.any is.some here.1 i n (inr all.input) (inr now) (gains_some _ c d all.to_console)
         (subst (λ (z : Bool). TakesText z r q (lines_text (effect (before s w k here.0)).lines)) part all.to_report) (inr all.to_console)
+
+  -- The puts of a step that is done, whole or not, and of one in which a sink failed.
+  module _ (a b x y : ℕ) where
+    pub failed_puts : ((p : Process) → process_at w.processes number ≡ Some p → p.state ≡ Live → let e : Effect = effect (before s w number p) in HandsUpTo (counts a b x y 0) (puts_of (length e.piece)) 0 (length e.lines))
+        → FailedHands s w (counts a b x y (length w.lines))
+    failed_puts did =
+        let at_k = subst (λ (z : ℕ). (p : Process) → process_at w.processes z ≡ Some p → p.state ≡ Live → let e : Effect = effect (before s w z p) in HandsUpTo (counts a b x y 0) (puts_of (length e.piece)) 0 (length e.lines)) (sym is.number) did in
+        part_hands m s w here.0 c d r q stands is.any is.some here.1 a b x y (at_k here.0 here.1 here.2)
+
+    module _ (tally : Tally) (did : (p : Process) → process_at w.processes number ≡ Some p → p.state ≡ Live → IsTally (effect (before s w number p)) tally) (hands : Hands (counts a b x y 0) (puts_of tally.bytes) tally.lines) where
+      so : IsTally (effect (before s w k here.0)) tally
+      so = subst (λ (z : ℕ). (p : Process) → process_at w.processes z ≡ Some p → p.state ≡ Live → IsTally (effect (before s w z p)) tally) (sym is.number) did here.0 here.1 here.2
+
+      pub went_puts : Hands (counts a b x y (length w.lines)) (step_puts w (step s w)) (length (step s w).lines)
+      went_puts = step_hands m s w here.0 c d r q stands is.any is.some here.1 a b x y tally.bytes tally.lines so.bytes so.lines hands
+
+      pub late_puts : FailedHands s w (counts a b x y (length w.lines))
+      late_puts = late_hands m s w here.0 c d r q stands is.any is.some here.1 a b x y tally.bytes tally.lines so.bytes so.lines hands
 
   -- the input failed: the next step is a DosRead, and the machine stands for the world before it
   pub stopped : (blocks : ℕ) (n : Machine) (put : Bool) (i j s_of : Option (List ℕ)) → IsSame m n → i ≡ Some w.input

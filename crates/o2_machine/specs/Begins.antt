@@ -1,5 +1,5 @@
 -- How a machine begins.
-use Rattle.std.specs.Prelude.{◌≡◌, ℕ, List, Option, None, Result, Ok, Err, map}
+use Rattle.std.specs.Prelude.{◌≡◌, ◌≤◌, ℕ, ◌+◌, List, Option, None, Result, Ok, Err, map}
 use Rattle.o2_base.specs.declared.faults.ModuleFault.{ModuleFault}
 use Rattle.o2_conf.specs.declared.conf.Conf.{Conf}
 use Rattle.o2_dynlink.specs.Outcome.{LinkedParts}
@@ -58,3 +58,10 @@ abbrev pub OnUnbegun : Result Machine BeginFault → Type 0 → Type 0
 OnUnbegun (Err (begin_fault.Start pid fault)) P = P
 OnUnbegun (Err begin_fault.NoMemory) P = P
 OnUnbegun _ P = Unit {0}
+
+-- each line of the starts is one put, and no more are put where one failed
+abbrev pub BeginPuts : (before now lines : ℕ) → Result Machine BeginFault → Type 0
+BeginPuts before now lines (Ok m) = now ≡ before + lines
+BeginPuts before now lines (Err begin_fault.SinkFault) = (before ≤ now) × (now ≤ before + lines)
+BeginPuts before now lines (Err (begin_fault.Start pid fault)) = now ≡ before
+BeginPuts before now lines (Err begin_fault.NoMemory) = now ≡ before

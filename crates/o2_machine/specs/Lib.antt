@@ -8,3 +8,4 @@ pub mod StandsFor
 pub mod Begins
 pub mod Readies
 pub mod Shown
+pub mod Puts

@@ -5,11 +5,11 @@ ghost use Rattle.o2_sched.specs.Schedule.{opening_dispatch};
 ghost use Rattle.o2_conf.specs.Environments.{environment_bytes};
 ghost use Rattle.o2_image.specs.ImageList.{Exists};
 ghost use Rattle.o2_outer.specs.Texts.{Rose};
-ghost use Rattle.o2_outer.specs.Answers.{Takes, OnFailed};
+ghost use Rattle.o2_outer.specs.Answers.{Takes, Puts, OnFailed};
 ghost use Rattle.o2_world.specs.Text.{lines_text};
 ghost use Rattle.o2_load.specs.Beginnings.{lines_from, program_name, IsBegun};
 ghost use Rattle.o2_world.specs.Starts.{Built};
-ghost use Rattle.o2_machine.specs.Begins.{Begins, OnSinkFault, OnUnbegun, starting};
+ghost use Rattle.o2_machine.specs.Begins.{Begins, BeginPuts, OnSinkFault, OnUnbegun, starting};
 ghost use Rattle.o2_machine.specs.Readies.{first_proc};
 
 use crate::fault::BeginFault;
@@ -118,6 +118,7 @@ fn put_starts<R: Sink>(
     requires few { length starts.now ≤ 64 }
     requires there { length starts.now ≤ length linked.now.programs }
     ensures report { Takes (R.taken report.old) (R.taken report.new) (lines_text (lines_from linked.now 1 (map (λ v. v.items) starts.now))) result }
+    ensures puts { Puts (R.puts report.old) (R.puts report.new) (sum_by (λ v. length v.items + 1) starts.now) result }
     ensures count { R.faults report.old ≤ R.faults report.new }
     ensures cause { OnFailed result (Rose (R.faults report.old) (R.faults report.new)) }
 {
@@ -144,6 +145,7 @@ fn finish<R: Sink>(
     requires few { length conf.now.process ≤ 64 }
     requires there { length conf.now.process ≤ length linked.now.programs }
     ensures begins { (b : Built) → starting linked.now conf.now ≡ Ok b → IsBegun begun linked.now b → Begins linked.now conf.now (R.taken report.old) (R.taken report.new) result }
+    ensures puts { (b : Built) → IsBegun begun linked.now b → BeginPuts (R.puts report.old) (R.puts report.new) (length b.lines) result }
     ensures untouched { OnUnbegun result (report.new ≡ report.old) }
     ensures count { R.faults report.old ≤ R.faults report.new }
     ensures cause { OnSinkFault result (Rose (R.faults report.old) (R.faults report.new)) }
@@ -178,6 +180,8 @@ impl Machine {
         requires within { IsWithinLimits conf.now }
         requires environments { linked.now.images.environments ≡ map environment_bytes conf.now.process }
         ensures begins { Begins linked.now conf.now (R.taken report.old) (R.taken report.new) result }
+        // Each line of the starts is one put.
+        ensures puts { (b : Built) → starting linked.now conf.now ≡ Ok b → BeginPuts (R.puts report.old) (R.puts report.new) (length b.lines) result }
         ensures untouched { OnUnbegun result (report.new ≡ report.old) }
         ensures count { R.faults report.old ≤ R.faults report.new }
         ensures cause { OnSinkFault result (Rose (R.faults report.old) (R.faults report.new)) }

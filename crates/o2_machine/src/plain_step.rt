@@ -6,6 +6,9 @@ ghost use Rattle.o2_bus.specs.Plain.{held_in, registers_of};
 ghost use Rattle.o2_bus.specs.Frames.{KeepsSegments};
 ghost use Rattle.o2_stepping.specs.Ran.{RanFor};
 ghost use Rattle.o2_machine.specs.RunsOver.{RunsOver};
+ghost use Rattle.o2_run.specs.Pieces.{counts};
+ghost use Rattle.o2_stepping.specs.Pieces.{RanHands};
+ghost use Rattle.o2_machine.specs.Puts.{PartOver};
 
 use o2_bus::{Plain, PlainBus};
 use o2_gate::State as Services;
@@ -35,6 +38,9 @@ fn run_in<I: Source, C: Sink, R: Sink>(
     ensures report_count { R.faults report.old ≤ R.faults report.new }
     ensures cause { RanFor (Rose (C.faults console.old) (C.faults console.new) ⊎ Rose (R.faults report.old) (R.faults report.new))
         (Rose (I.faults input.old) (I.faults input.new)) result }
+    ensures puts { RanHands (counts (C.puts console.old) (C.puts console.new) (R.puts report.old) (R.puts report.new) 0) result }
+    ensures part { PartOver bus.old.plain.now bus.old.pid pid cpu.old services.old (I.left input.old)
+        (counts (C.puts console.old) (C.puts console.new) (R.puts report.old) (R.puts report.new) 0) result }
 {
     match run_one(pid, cpu, bus, services, input, console, report) {
         Err(fault) => Err(fault),
@@ -62,6 +68,10 @@ pub fn run_plain<I: Source, C: Sink, R: Sink>(
     ensures report_count { R.faults report.old ≤ R.faults report.new }
     ensures cause { RanFor (Rose (C.faults console.old) (C.faults console.new) ⊎ Rose (R.faults report.old) (R.faults report.new))
         (Rose (I.faults input.old) (I.faults input.new)) result }
+    // Each line is one put, and so is the piece where it has bytes. Where a sink fails, no more lines were put than there are.
+    ensures puts { RanHands (counts (C.puts console.old) (C.puts console.new) (R.puts report.old) (R.puts report.new) 0) result }
+    ensures part { PartOver plain.old pid pid cpu.old services.old (I.left input.old)
+        (counts (C.puts console.old) (C.puts console.new) (R.puts report.old) (R.puts report.new) 0) result }
 {
     let mut bus = plain.bus(pid, cpu);
     run_in(pid, cpu, &mut bus, services, input, console, report)

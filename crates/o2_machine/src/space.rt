@@ -46,6 +46,8 @@ impl Space {
     ghost use Rattle.o2_machine.specs.Commit.{IsBetween};
     ghost use Rattle.o2_machine.specs.Acts.{Acts, StandsAfter};
     ghost use Rattle.o2_stepping.specs.Ran.{RanFor};
+    ghost use Rattle.o2_run.specs.Pieces.{counts, PartHands};
+    ghost use Rattle.o2_stepping.specs.Pieces.{RanHands};
 
     /// Registers and state of a process after its step; where it has ended it holds nothing any more.
     fn commit(&mut self, pid: u16, cpu: &Cpu, state: State)
@@ -84,6 +86,11 @@ impl Space {
             (Rose (I.faults input.old) (I.faults input.new)) result }
         ensures len { length self.new.procs.items ≡ length self.old.procs.items }
         ensures avail { self.new.state.avail ≡ self.old.state.avail }
+        // Each line is one put, and so is the piece where it has bytes. Where a sink fails, no more lines were put than there are.
+        ensures puts { RanHands (counts (C.puts console.old) (C.puts console.new) (R.puts report.old) (R.puts report.new) 0) result }
+        ensures part { (ps : List Process) (names : Map Segment) (p : Process) (bytes : List ℕ) (known : Known) → StandsIn self.old ps names → process_at ps pid ≡ Some p → p.state ≡ State.Live → I.left input.old ≡ Some bytes → IsKnown known self.old.state
+            → let b : Before = record { number = pid; cpu = p.cpu; view = view_of names p; known = known; input = bytes } in PartHands (effect b)
+            (counts (C.puts console.old) (C.puts console.new) (R.puts report.old) (R.puts report.new) 0) result }
     {
         let mut cpu = self.procs[pid as usize - 1].cpu;
         match run_plain(

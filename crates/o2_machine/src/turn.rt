@@ -1,5 +1,5 @@
 // A turn of the machine: whose it is, and its step.
-ghost use Rattle.std.specs.Prelude.{◌≡◌, ◌<◌, ◌≤◌, ◌+◌, ◌⊎◌, ℕ, true, false, Some};
+ghost use Rattle.std.specs.Prelude.{◌≡◌, ◌<◌, ◌≤◌, ◌+◌, ◌⊎◌, ℕ, true, false, length, Some};
 ghost use Rattle.o2_outer.specs.Texts.{Rose};
 ghost use Rattle.o2_conf.specs.Dispatch.{counted, lives};
 ghost use Rattle.o2_world.specs.World.{World, Setting};
@@ -9,6 +9,7 @@ ghost use Rattle.o2_machine.specs.Lasts.{answer_of, put_of};
 ghost use Rattle.o2_machine.specs.Steppeds.{stepped_sched};
 ghost use Rattle.o2_world.specs.World.{is_live as lives_on};
 ghost use Rattle.o2_machine.specs.StandsFor.{StandsFor};
+ghost use Rattle.o2_run.specs.Pieces.{counts, TurnHands};
 
 use crate::last::{Last, answer};
 use crate::machine::Machine;
@@ -58,6 +59,9 @@ impl Machine {
         ensures no_swap_stop { is_for_swap (answer_of result) ≡ false }
         ensures line { LineIs (put_of result) (Rose (R.faults report.old) (R.faults report.new)) (answer_of result) }
         ensures left { OnRan (answer_of result) (self.new.sched.dispatch.budget < self.old.sched.dispatch.budget) }
+        // Each line is one put, and so is the piece for the console, where it has bytes.
+        ensures puts { (s : Setting) (w : World) → StandsFor self.old s w → I.left input.old ≡ Some w.input
+            → TurnHands s w (counts (C.puts console.old) (C.puts console.new) (R.puts report.old) (R.puts report.new) (length w.lines)) (answer_of result) }
     {
         match self.space.act(pid, input, console, report) {
             Err(Fault::Sink) => Some(Last::SinkFault),
@@ -90,6 +94,9 @@ impl Machine {
         ensures no_swap_stop { is_for_swap (answer_of result) ≡ false }
         ensures line { LineIs (put_of result) (Rose (R.faults report.old) (R.faults report.new)) (answer_of result) }
         ensures left { OnRan (answer_of result) (self.new.sched.dispatch.budget < self.old.sched.dispatch.budget) }
+        // Each line is one put, and so is the piece for the console, where it has bytes.
+        ensures puts { (s : Setting) (w : World) → StandsFor self.old s w → I.left input.old ≡ Some w.input
+            → TurnHands s w (counts (C.puts console.old) (C.puts console.new) (R.puts report.old) (R.puts report.new) (length w.lines)) (answer_of result) }
     {
         match self.sched.next() {
             Pick::AllEnded => match report.put(b"all ended\n") {

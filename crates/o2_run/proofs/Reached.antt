@@ -1,14 +1,15 @@
 -- How a run goes on, and how it ends.
-use Rattle.std.proofs.Common.{◌≡◌, ℕ, suc, ◌+◌, ◌<◌, ◌≤◌, Bool, true, false, not, List, [], ◌++◌, Option, None, ◌⊎◌, inl, inr, Result, Ok, Err, ap, sym, ◌∙◌, refl, arith, ◌||◌, ◌==◌, if◌then◌else◌, below_more, append-nil, append_assoc, subst}
+use Rattle.std.proofs.Common.{◌≡◌, ℕ, suc, ◌+◌, ◌<◌, ◌≤◌, Bool, true, false, not, List, [], ◌++◌, Option, None, ◌⊎◌, inl, inr, Result, Ok, Err, ap, sym, ◌∙◌, refl, arith, ◌||◌, ◌==◌, if◌then◌else◌, below_more, append-nil, append_assoc, length, subst}
 use Rattle.o2_outer.specs.Texts.{Rose, Gains, Continues}
 use Rattle.o2_world.specs.World.{World, Setting}
 use Rattle.o2_world.specs.Text.{lines_text}
-use Rattle.o2_world.specs.Run.{any_lives, after, is_over, last_line, report, HasPartTexts, Between, AtLastLine}
+use Rattle.o2_world.specs.Run.{any_lives, after, is_over, last_line, report, HasPartTexts, InOpening, Between, AtLastLine}
 use Rattle.o2_run.specs.Room.{Fits}
 use Rattle.o2_run.specs.Turn.{StepsOn, StepsInPart, IsClosed, IsClosedInPart, IsStopped, Turns, LineIs}
 use Rattle.o2_run.specs.Faults.{fault_turn}
 use Rattle.o2_run.specs.Stops.{stop_line}
-use Rattle.o2_run.specs.Ended.{FitsBelow, HasReached, HasWholeRun, HasStoppedTexts, HasTexts}
+use Rattle.o2_run.specs.Pieces.{Counts, counts, Hands, HandsUpTo, FailedHands, TurnHands, step_puts, pieces}
+use Rattle.o2_run.specs.Ended.{FitsBelow, HasReached, HasWholeRun, HasStoppedTexts, HasPartRun, HandsPart, HasTexts}
 use Rattle.o2_run.specs.declared.fault.Fault.TheVariants.{Sink, Stopped}
 use Rattle.o2_run.specs.declared.fault.Fault.{Fault}
 use Rattle.o2_run.specs.declared.steps.Turn.{Turn}
@@ -27,15 +28,33 @@ no_last w e = neither (not (any_lives w.processes)) (w.dispatch.budget == 0) _ _
 report_so_far : (w : World) → is_over w ≡ false → report w ≡ lines_text w.lines
 report_so_far w e = ap (λ x. lines_text w.lines ++ x) (no_last w e) ∙ append-nil (lines_text w.lines)
 
-module _ (before_it now : World → Type 0) (swaps : Bool) (blocks : ℕ) (s : Setting) (w : World) (i l c d e r q p : Option (List ℕ)) where
+-- puts behind puts: what was handed so far are the lines ahead of what follows
+module _ (c d e r q p ahead so_far : ℕ) where
+  pub hands_more : (done more lines : ℕ) → Hands (counts c d r q ahead) done so_far → Hands (counts d e q p so_far) more lines → Hands (counts c e r p ahead) (done + more) lines
+  hands_more done more lines a b = record { to_console = omega (arith, a.to_console, b.to_console); to_report = omega (arith, a.to_report, b.to_report) }
+
+  -- lines alone
+  pub hands_last : (done lines : ℕ) → Hands (counts c d r q ahead) done so_far → Hands (counts d e q p so_far) 0 lines → Hands (counts c e r p ahead) done lines
+  hands_last done lines a b = record { to_console = omega (arith, a.to_console, b.to_console); to_report = omega (arith, a.to_report, b.to_report) }
+
+  pub hands_up_to : (done more low high : ℕ) → Hands (counts c d r q ahead) done so_far → HandsUpTo (counts d e q p so_far) more low high → HandsUpTo (counts c e r p ahead) (done + more) low high
+  hands_up_to done more low high a b = record {
+    to_console = omega (arith, a.to_console, b.to_console);
+    at_least = omega (arith, a.to_report, b.at_least);
+    at_most = omega (arith, a.to_report, b.at_most);
+  }
+
+module _ (before_it now : World → Type 0) (swaps : Bool) (blocks : ℕ) (s : Setting) (w : World) (i l c d e r q p : Option (List ℕ)) (u v x y z o ahead : ℕ) where
   runs_to : (k : ℕ) → ((j : ℕ) → j < k → is_over (after s w j) ≡ false) → is_over (after s w k) ≡ false → (j : ℕ) → j < k + 1 → is_over (after s w j) ≡ false
   runs_to k before now = let P : ℕ → Type 0 = λ j. is_over (after s w j) ≡ false in below_more P k before now
 
   fits_to : (k : ℕ) → FitsBelow swaps s w k → Fits swaps s (after s w k) → (j : ℕ) → j < k + 1 → Fits swaps s (after s w j)
   fits_to k before now = let P : ℕ → Type 0 = λ j. Fits swaps s (after s w j) in below_more P k before now
 
-  pub one_more : (h : HasReached before_it swaps s w i c d r q) → StepsOn now swaps s (after s w h.steps) l d e q p → HasReached now swaps s w l c e r p
-  one_more h on = record {
+  pub one_more : (h : HasReached before_it swaps s w i c d r q (counts u v y z ahead)) → StepsOn now swaps s (after s w h.steps) l d e q p
+      → Hands (counts v x z o (length (after s w h.steps).lines)) (step_puts (after s w h.steps) (after s w (suc h.steps))) (length (after s w (suc h.steps)).lines)
+      → HasReached now swaps s w l c e r p (counts u x y o ahead)
+  one_more h on puts = record {
     steps = suc h.steps;
     stands = on.stands;
     runs = λ j below. runs_to h.steps h.runs on.runs j (omega (arith, below));
@@ -43,10 +62,12 @@ module _ (before_it now : World → Type 0) (swaps : Bool) (blocks : ℕ) (s : S
     input = on.input;
     to_console = λ t x. on.to_console t (h.to_console t x);
     to_report = λ t x. on.to_report t (h.to_report t x);
+    hands = hands_more u v x y z o ahead (length (after s w h.steps).lines) (pieces s w h.steps) _ _ h.hands puts;
   }
 
-  closed_texts : (h : HasReached before_it swaps s w i c d r q) (lives : Bool) → IsClosed now (after s w h.steps) lives l d e q p → HasWholeRun swaps s w l c e r p
-  closed_texts h lives end = record {
+  closed_texts : (h : HasReached before_it swaps s w i c d r q (counts u v y z ahead)) (lives : Bool) → IsClosed now (after s w h.steps) lives l d e q p
+      → Hands (counts v x z o (length (after s w h.steps).lines)) 0 (length (after s w h.steps).lines + 1) → HasWholeRun swaps s w l c e r p (counts u x y o ahead)
+  closed_texts h lives end puts = record {
     texts = record {
       last = h.steps;
       is_last = record { over = end.over; first = h.runs };
@@ -55,11 +76,13 @@ module _ (before_it now : World → Type 0) (swaps : Bool) (blocks : ℕ) (s : S
     };
     room = h.room;
     input = end.input;
+    hands = hands_last u v x y z o ahead (length (after s w h.steps).lines) (pieces s w h.steps) _ h.hands puts;
   }
 
-  pub closed : (h : HasReached before_it swaps s w i c d r q) (lives : Bool) → IsClosed now (after s w h.steps) lives l d e q p → HasTexts now swaps blocks s w l c e r p (Unit {0}) (Ok tt)
+  pub closed : (h : HasReached before_it swaps s w i c d r q (counts u v y z ahead)) (lives : Bool) → IsClosed now (after s w h.steps) lives l d e q p
+      → Hands (counts v x z o (length (after s w h.steps).lines)) 0 (length (after s w h.steps).lines + 1) → (since : Type 0) → HasTexts now swaps blocks s w l c e r p since (counts u x y o ahead) (Ok tt)
   unfolding closed_texts
-  closed h lives end = (closed_texts h lives end, end.stands)
+  closed h lives end puts since = (closed_texts h lives end puts, end.stands)
 
   -- the stop line is whole, or the report failed
   line_or : (k : ℕ) (why : Stop) (put : Bool) (fault : Type 0) → (t : Bool) → t ≡ put → (put ≡ true → Continues q p (lines_text (after s w k).lines) (lines_text (after s w k).lines ++ stop_line why)) → (put ≡ false → fault)
@@ -67,8 +90,9 @@ module _ (before_it now : World → Type 0) (swaps : Bool) (blocks : ℕ) (s : S
   line_or k why put fault true is whole failed gains = inl (λ t x. whole (sym is) t (gains t x))
   line_or k why put fault false is whole failed gains = inr (failed (sym is))
 
-  stopped_texts : (h : HasReached before_it swaps s w i c d r q) (why : Stop) (put : Bool) (since : Type 0) → (put ≡ false → since) → IsStopped now blocks s (after s w h.steps) why put l d e q p → HasStoppedTexts swaps blocks s w why l c e r p since
-  stopped_texts h why put since failed stop = record {
+  stopped_texts : (h : HasReached before_it swaps s w i c d r q (counts u v y z ahead)) (why : Stop) (put : Bool) (since : Type 0) → (put ≡ false → since) → IsStopped now blocks s (after s w h.steps) why put l d e q p
+      → Hands (counts v x z o (length (after s w h.steps).lines)) 0 (length (after s w h.steps).lines + 1) → HasStoppedTexts swaps blocks s w why l c e r p since (counts u x y o ahead)
+  stopped_texts h why put since failed stop puts = record {
     steps = h.steps;
     below = λ j le. runs_to h.steps h.runs stop.runs j (omega (arith, le));
     room = h.room;
@@ -77,17 +101,20 @@ module _ (before_it now : World → Type 0) (swaps : Bool) (blocks : ℕ) (s : S
     to_console = λ t x. stop.to_console ∙ h.to_console t x;
     to_report = λ t x. stop.to_report t (h.to_report t x);
     whole = line_or h.steps why put since put refl stop.whole failed h.to_report;
+    hands = hands_last u v x y z o ahead (length (after s w h.steps).lines) (pieces s w h.steps) _ h.hands puts;
   }
 
-  pub stopped_before : (h : HasReached before_it swaps s w i c d r q) (why : Stop) (put : Bool) (since : Type 0) → (put ≡ false → since) → IsStopped now blocks s (after s w h.steps) why put l d e q p → HasTexts now swaps blocks s w l c e r p since (Err (Stopped why))
+  pub stopped_before : (h : HasReached before_it swaps s w i c d r q (counts u v y z ahead)) (why : Stop) (put : Bool) (since : Type 0) → (put ≡ false → since) → IsStopped now blocks s (after s w h.steps) why put l d e q p
+      → Hands (counts v x z o (length (after s w h.steps).lines)) 0 (length (after s w h.steps).lines + 1) → HasTexts now swaps blocks s w l c e r p since (counts u x y o ahead) (Err (Stopped why))
   unfolding stopped_texts
-  stopped_before h why put since failed stop = (stopped_texts h why put since failed stop, stop.stands)
+  stopped_before h why put since failed stop puts = (stopped_texts h why put since failed stop puts, stop.stands)
 
   -- the same, where the device's blocks are counted at an earlier time
-  pub stopped_with : (count : ℕ) → count ≡ blocks → (h : HasReached before_it swaps s w i c d r q) (why : Stop) (put : Bool) (since : Type 0) → (put ≡ false → since) → IsStopped now count s (after s w h.steps) why put l d e q p → HasTexts now swaps blocks s w l c e r p since (Err (Stopped why))
-  stopped_with count same h why put since failed stop = stopped_before h why put since failed (subst (λ n. IsStopped now n s (after s w h.steps) why put l d e q p) same stop)
+  pub stopped_with : (count : ℕ) → count ≡ blocks → (h : HasReached before_it swaps s w i c d r q (counts u v y z ahead)) (why : Stop) (put : Bool) (since : Type 0) → (put ≡ false → since) → IsStopped now count s (after s w h.steps) why put l d e q p
+      → Hands (counts v x z o (length (after s w h.steps).lines)) 0 (length (after s w h.steps).lines + 1) → HasTexts now swaps blocks s w l c e r p since (counts u x y o ahead) (Err (Stopped why))
+  stopped_with count same h why put since failed stop puts = stopped_before h why put since failed (subst (λ n. IsStopped now n s (after s w h.steps) why put l d e q p) same stop) puts
 
-  part_texts : (h : HasReached before_it swaps s w i c d r q) → StepsInPart now swaps s (after s w h.steps) l d e q p → HasPartTexts s w c e r p
+  part_texts : (h : HasReached before_it swaps s w i c d r q (counts u v y z ahead)) → StepsInPart now swaps s (after s w h.steps) l d e q p → HasPartTexts s w c e r p
   part_texts h part = Between h.steps (λ j le. runs_to h.steps h.runs part.runs j (omega (arith, le)))
       (λ t x. part.to_console t (h.to_console t x))
       (λ t x. let y = part.to_report t (h.to_report t x) in
@@ -97,41 +124,45 @@ module _ (before_it now : World → Type 0) (swaps : Bool) (blocks : ℕ) (s : S
         | inr goes ↦ inr (λ t x. goes t (h.to_console t x))
       ])
 
-  last_texts : (h : HasReached before_it swaps s w i c d r q) → IsClosedInPart now (after s w h.steps) l d e q p → HasPartTexts s w c e r p
+  last_texts : (h : HasReached before_it swaps s w i c d r q (counts u v y z ahead)) → IsClosedInPart now (after s w h.steps) l d e q p → HasPartTexts s w c e r p
   last_texts h end = AtLastLine h.steps (record { over = end.over; first = h.runs })
       (λ t x. end.to_console ∙ h.to_console t x)
       (λ t x. end.to_report t (h.to_report t x))
 
   -- a sink failed, in a step or in the last line
-  pub stopped_anyhow : (h : HasReached before_it swaps s w i c d r q) → StepsInPart now swaps s (after s w h.steps) l d e q p ⊎ IsClosedInPart now (after s w h.steps) l d e q p → HasTexts now swaps blocks s w l c e r p (Unit {0}) (Err Sink)
+  pub stopped_anyhow : (h : HasReached before_it swaps s w i c d r q (counts u v y z ahead)) → StepsInPart now swaps s (after s w h.steps) l d e q p ⊎ IsClosedInPart now (after s w h.steps) l d e q p
+      → FailedHands s (after s w h.steps) (counts v x z o (length (after s w h.steps).lines)) → (since : Type 0) → HasTexts now swaps blocks s w l c e r p since (counts u x y o ahead) (Err Sink)
   unfolding part_texts last_texts
-  stopped_anyhow h (inl part) = (record { texts = part_texts h part; input = part.input }, part.stands)
-  stopped_anyhow h (inr end) = (record { texts = last_texts h end; input = inl end.input }, inl end.stands)
+  stopped_anyhow h (inl part) puts since =
+      (record { texts = part_texts h part; input = part.input; hands = hands_up_to u v x y z o ahead (length (after s w h.steps).lines) (pieces s w h.steps) _ _ _ h.hands (puts.in_step part.runs) }, part.stands)
+  stopped_anyhow h (inr end) puts since =
+      (record { texts = last_texts h end; input = inl end.input; hands = hands_last u v x y z o ahead (length (after s w h.steps).lines) (pieces s w h.steps) _ h.hands (puts.at_end end.over) }, inl end.stands)
 
   -- by the fault with which the run ends
-  pub faulted : (f : Fault) (count : ℕ) → count ≡ blocks → (h : HasReached before_it swaps s w i c d r q) (put : Bool) (fault since : Type 0) → (fault → since) → LineIs put fault (fault_turn f)
-      → Turns now swaps count s (after s w h.steps) put l d e q p (fault_turn f) → HasTexts now swaps blocks s w l c e r p since (Err f)
-  faulted Sink count same h put fault since later line turns = stopped_anyhow h turns
-  faulted (Stopped Input) count same h put fault since later line turns = stopped_with count same h Input put since (λ e. later (line e)) turns
-  faulted (Stopped NoRoom) count same h put fault since later line turns = stopped_with count same h NoRoom put since (λ e. later (line e)) turns
-  faulted (Stopped SwapFull) count same h put fault since later line turns = stopped_with count same h SwapFull put since (λ e. later (line e)) turns
-  faulted (Stopped SwapFault) count same h put fault since later line turns = stopped_with count same h SwapFault put since (λ e. later (line e)) turns
+  pub faulted : (f : Fault) (count : ℕ) → count ≡ blocks → (h : HasReached before_it swaps s w i c d r q (counts u v y z ahead)) (put : Bool) (fault since : Type 0) → (fault → since) → LineIs put fault (fault_turn f)
+      → Turns now swaps count s (after s w h.steps) put l d e q p (fault_turn f) → TurnHands s (after s w h.steps) (counts v x z o (length (after s w h.steps).lines)) (fault_turn f)
+      → HasTexts now swaps blocks s w l c e r p since (counts u x y o ahead) (Err f)
+  faulted Sink count same h put fault since later line turns puts = stopped_anyhow h turns puts since
+  faulted (Stopped Input) count same h put fault since later line turns puts = stopped_with count same h Input put since (λ e. later (line e)) turns puts
+  faulted (Stopped NoRoom) count same h put fault since later line turns puts = stopped_with count same h NoRoom put since (λ e. later (line e)) turns puts
+  faulted (Stopped SwapFull) count same h put fault since later line turns puts = stopped_with count same h SwapFull put since (λ e. later (line e)) turns puts
+  faulted (Stopped SwapFault) count same h put fault since later line turns puts = stopped_with count same h SwapFault put since (λ e. later (line e)) turns puts
 
   -- by the answer of the last turn
-  pub faulted_by : (t : Turn) (f : Fault) → t ≡ fault_turn f → (count : ℕ) → count ≡ blocks → (h : HasReached before_it swaps s w i c d r q) (put : Bool) (fault since : Type 0) → (fault → since) → LineIs put fault t
-      → Turns now swaps count s (after s w h.steps) put l d e q p t → HasTexts now swaps blocks s w l c e r p since (Err f)
-  faulted_by t f is count same h put fault since later line turns =
+  pub faulted_by : (t : Turn) (f : Fault) → t ≡ fault_turn f → (count : ℕ) → count ≡ blocks → (h : HasReached before_it swaps s w i c d r q (counts u v y z ahead)) (put : Bool) (fault since : Type 0) → (fault → since) → LineIs put fault t
+      → Turns now swaps count s (after s w h.steps) put l d e q p t → TurnHands s (after s w h.steps) (counts v x z o (length (after s w h.steps).lines)) t → HasTexts now swaps blocks s w l c e r p since (counts u x y o ahead) (Err f)
+  faulted_by t f is count same h put fault since later line turns puts =
       faulted f count same h put fault since later (subst (λ (a : Turn). LineIs put fault a) is line)
-      (subst (λ (a : Turn). Turns now swaps count s (after s w h.steps) put l d e q p a) is turns)
+      (subst (λ (a : Turn). Turns now swaps count s (after s w h.steps) put l d e q p a) is turns) (subst (λ (a : Turn). TurnHands s (after s w h.steps) (counts v x z o (length (after s w h.steps).lines)) a) is puts)
 
-  pub closed_by : (t : Turn) → (t ≡ AllEnded) ⊎ (t ≡ BudgetSpent) → (count : ℕ) (h : HasReached before_it swaps s w i c d r q) (put : Bool) (since : Type 0) → Turns now swaps count s (after s w h.steps) put l d e q p t
-      → HasTexts now swaps blocks s w l c e r p since (Ok tt)
-  closed_by t (inl is) count h put since turns = closed h false (subst (λ (a : Turn). Turns now swaps count s (after s w h.steps) put l d e q p a) is turns)
-  closed_by t (inr is) count h put since turns = closed h true (subst (λ (a : Turn). Turns now swaps count s (after s w h.steps) put l d e q p a) is turns)
+  pub closed_by : (t : Turn) → (t ≡ AllEnded) ⊎ (t ≡ BudgetSpent) → (count : ℕ) (h : HasReached before_it swaps s w i c d r q (counts u v y z ahead)) (put : Bool) (since : Type 0) → Turns now swaps count s (after s w h.steps) put l d e q p t → TurnHands s (after s w h.steps) (counts v x z o (length (after s w h.steps).lines)) t
+      → HasTexts now swaps blocks s w l c e r p since (counts u x y o ahead) (Ok tt)
+  closed_by t (inl is) count h put since turns puts = closed h false (subst (λ (a : Turn). Turns now swaps count s (after s w h.steps) put l d e q p a) is turns) (subst (λ (a : Turn). TurnHands s (after s w h.steps) (counts v x z o (length (after s w h.steps).lines)) a) is puts) since
+  closed_by t (inr is) count h put since turns puts = closed h true (subst (λ (a : Turn). Turns now swaps count s (after s w h.steps) put l d e q p a) is turns) (subst (λ (a : Turn). TurnHands s (after s w h.steps) (counts v x z o (length (after s w h.steps).lines)) a) is puts) since
 
-  pub ran_by : (t : Turn) → t ≡ Ran → (count : ℕ) (h : HasReached before_it swaps s w i c d r q) (put : Bool) → Turns now swaps count s (after s w h.steps) put l d e q p t
-      → HasReached now swaps s w l c e r p
-  ran_by t is count h put turns = one_more h (subst (λ (a : Turn). Turns now swaps count s (after s w h.steps) put l d e q p a) is turns)
+  pub ran_by : (t : Turn) → t ≡ Ran → (count : ℕ) (h : HasReached before_it swaps s w i c d r q (counts u v y z ahead)) (put : Bool) → Turns now swaps count s (after s w h.steps) put l d e q p t → TurnHands s (after s w h.steps) (counts v x z o (length (after s w h.steps).lines)) t
+      → HasReached now swaps s w l c e r p (counts u x y o ahead)
+  ran_by t is count h put turns puts = one_more h (subst (λ (a : Turn). Turns now swaps count s (after s w h.steps) put l d e q p a) is turns) (subst (λ (a : Turn). TurnHands s (after s w h.steps) (counts v x z o (length (after s w h.steps).lines)) a) is puts)
 
 -- of a text that isn't told nothing is owed
 pub gains_untold : (c : Option (List ℕ)) (piece : List ℕ) → Gains None c piece
@@ -141,9 +172,29 @@ gains_untold c piece = λ t e. absurd (cc)
 pub rose_since : (before mid now : ℕ) → before ≤ mid → Rose mid now → Rose before now
 rose_since before mid now later rose = grind arith
 
--- the same, where the report's count is seen from an earlier time
-pub stopped_since : (swaps : Bool) (blocks : ℕ) (s : Setting) (w : World) (why : Stop) (l c e r p : Option (List ℕ)) (fault since : Type 0) → (fault → since) → HasStoppedTexts swaps blocks s w why l c e r p fault → HasStoppedTexts swaps blocks s w why l c e r p since
-stopped_since swaps blocks s w why l c e r p fault since later t = record {
+-- The same, from an earlier time: lines that were put since then are ahead no more, and the report's count may have risen.
+module _ (c d r q z ahead : ℕ) (put : q ≡ r + ahead) where
+  hands_from : (done lines : ℕ) → Hands (counts c d q z ahead) done lines → Hands (counts c d r z 0) done lines
+  hands_from done lines h = record { to_console = h.to_console; to_report = omega (arith, put, h.to_report) }
+
+  up_to_from : (done low high : ℕ) → HandsUpTo (counts c d q z ahead) done low high → HandsUpTo (counts c d r z 0) done low high
+  up_to_from done low high h = record { to_console = h.to_console; at_least = omega (arith, put, h.at_least); at_most = omega (arith, put, h.at_most) }
+
+  hands_part : (s : Setting) (w : World) (i j k l : Option (List ℕ)) (t : HasPartTexts s w i j k l) → HandsPart s w (counts c d q z ahead) t → HandsPart s w (counts c d r z 0) t
+  hands_part s w i j k l (InOpening x y) h = up_to_from 0 0 (length w.lines) h
+  hands_part s w i j k l (Between n below x y order) h = up_to_from (pieces s w (suc n)) (length (after s w n).lines) (length (after s w (suc n)).lines) h
+  hands_part s w i j k l (AtLastLine n last x y) h = hands_from (pieces s w n) (length (after s w n).lines + 1) h
+
+module _ (swaps : Bool) (s : Setting) (w : World) (l c e r p : Option (List ℕ)) (u v x y z ahead : ℕ) (put : y ≡ x + ahead) where
+  pub whole_from : HasWholeRun swaps s w l c e r p (counts u v y z ahead) → HasWholeRun swaps s w l c e r p (counts u v x z 0)
+  whole_from t = record { texts = t.texts; room = t.room; input = t.input; hands = hands_from u v x y z ahead put _ _ t.hands }
+
+pub part_from : (s : Setting) (w : World) (l c e r p : Option (List ℕ)) (u v x y z ahead : ℕ) → y ≡ x + ahead → HasPartRun s w l c e r p (counts u v y z ahead) → HasPartRun s w l c e r p (counts u v x z 0)
+part_from s w l c e r p u v x y z ahead put t = record { texts = t.texts; input = t.input; hands = hands_part u v x y z ahead put s w c e r p t.texts t.hands }
+
+pub stopped_from : (swaps : Bool) (blocks : ℕ) (s : Setting) (w : World) (why : Stop) (l c e r p : Option (List ℕ)) (fault since : Type 0) → (fault → since) → (u v x y z ahead : ℕ) → y ≡ x + ahead
+    → HasStoppedTexts swaps blocks s w why l c e r p fault (counts u v y z ahead) → HasStoppedTexts swaps blocks s w why l c e r p since (counts u v x z 0)
+stopped_from swaps blocks s w why l c e r p fault since later u v x y z ahead put t = record {
   steps = t.steps;
   below = t.below;
   room = t.room;
@@ -155,4 +206,5 @@ stopped_since swaps blocks s w why l c e r p fault since later t = record {
     | inl gains ↦ inl gains
     | inr f ↦ inr (later f)
   ];
+  hands = hands_from u v x y z ahead put _ _ t.hands;
 }

@@ -1,5 +1,5 @@
 -- What the texts are at the end of a run.
-use Rattle.std.specs.Prelude.{◌⊎◌, ◌≡◌, ◌<◌, ◌++◌, ℕ, suc, Bool, false, List, Option, Some, Result, Ok, Err}
+use Rattle.std.specs.Prelude.{◌⊎◌, ◌≡◌, ◌<◌, ◌+◌, ◌++◌, ℕ, suc, Bool, false, List, length, Option, Some, Result, Ok, Err}
 use Rattle.o2_outer.specs.Texts.{Gains, GainsBetween}
 use Rattle.o2_world.specs.World.{World, Setting}
 use Rattle.o2_world.specs.Text.{lines_text}
@@ -7,6 +7,7 @@ use Rattle.o2_world.specs.Run.{HasWholeTexts, HasPartTexts, InOpening, Between, 
 use Rattle.o2_run.specs.Room.{Fits}
 use Rattle.o2_run.specs.Stops.{stop_line, StopsFor}
 use Rattle.o2_run.specs.Faults.{fault_turn}
+use Rattle.o2_run.specs.Pieces.{Counts, Hands, HandsUpTo, pieces}
 use Rattle.o2_run.specs.declared.fault.Fault.{Fault}
 use Rattle.o2_run.specs.declared.fault.Fault.TheVariants as fault
 use Rattle.o2_run.specs.declared.steps.Stop.{Stop}
@@ -19,9 +20,9 @@ abbrev pub FitsBelow : (swaps : Bool) → Setting → World → ℕ → Type 0
 FitsBelow swaps s w k = (j : ℕ) → j < k → Fits swaps s (after s w j)
 
 -- a run that stops before its step k, for which it had the first cause: the lines so far, and the stop line, or where the
--- report failed a front of it
+-- report failed a front of it; each line is one put
 pub record HasStoppedTexts (swaps : Bool) (blocks : ℕ) (s : Setting) (w : World) (why : Stop)
-    (left console_old console_new report_old report_new : Option (List ℕ)) (fault : Type 0) : Type 0 where
+    (left console_old console_new report_old report_new : Option (List ℕ)) (fault : Type 0) (puts : Counts) : Type 0 where
   pub steps : ℕ
   pub below : IsBelowLast s w steps
   pub room : FitsBelow swaps s w steps
@@ -31,12 +32,14 @@ pub record HasStoppedTexts (swaps : Bool) (blocks : ℕ) (s : Setting) (w : Worl
   pub to_report : GainsBetween report_old report_new (lines_text (after s w steps).lines)
       (lines_text (after s w steps).lines ++ stop_line why)
   pub whole : Gains report_old report_new (lines_text (after s w steps).lines ++ stop_line why) ⊎ fault
+  pub hands : Hands puts (pieces s w steps) (length (after s w steps).lines + 1)
 
--- the whole texts, and the input that is left
-pub record HasWholeRun (swaps : Bool) (s : Setting) (w : World) (left console_old console_new report_old report_new : Option (List ℕ)) : Type 0 where
+-- the whole texts, line by line and piece by piece, and the input that is left
+pub record HasWholeRun (swaps : Bool) (s : Setting) (w : World) (left console_old console_new report_old report_new : Option (List ℕ)) (puts : Counts) : Type 0 where
   pub texts : HasWholeTexts s w console_old console_new report_old report_new
   pub room : FitsBelow swaps s w texts.last
   pub input : left ≡ Some (after s w texts.last).input
+  pub hands : Hands puts (pieces s w texts.last) (length (after s w texts.last).lines + 1)
 
 -- the step of which the texts are those of a front: none in the opening
 abbrev pub part_at : {s : Setting} {w : World} {c d r q : Option (List ℕ)} → HasPartTexts s w c d r q → ℕ
@@ -44,19 +47,27 @@ part_at (InOpening to_console to_report) = 0
 part_at (Between k below to_console to_report in_order) = k
 part_at (AtLastLine k last to_console to_report) = k
 
+-- the puts of a front, the one that failed among them
+abbrev pub HandsPart : (s : Setting) (w : World) {c d r q : Option (List ℕ)} → Counts → HasPartTexts s w c d r q → Type 0
+HandsPart s w n (InOpening to_console to_report) = HandsUpTo n 0 0 (length w.lines)
+HandsPart s w n (Between k below to_console to_report in_order) =
+    HandsUpTo n (pieces s w (suc k)) (length (after s w k).lines) (length (after s w (suc k)).lines)
+HandsPart s w n (AtLastLine k last to_console to_report) = Hands n (pieces s w k) (length (after s w k).lines + 1)
+
 -- texts of a front, and an input that has left what the world before that step has left, or the one after it
-pub record HasPartRun (s : Setting) (w : World) (left console_old console_new report_old report_new : Option (List ℕ)) : Type 0 where
+pub record HasPartRun (s : Setting) (w : World) (left console_old console_new report_old report_new : Option (List ℕ)) (puts : Counts) : Type 0 where
   pub texts : HasPartTexts s w console_old console_new report_old report_new
   pub input : (left ≡ Some (after s w (part_at texts)).input) ⊎ (left ≡ Some (after s w (suc (part_at texts))).input)
+  pub hands : HandsPart s w puts texts
 
 -- at each end the machine stands for the world of the same k as the texts
 abbrev pub HasTexts : (stands_now : World → Type 0) → (swaps : Bool) → (blocks : ℕ) → Setting → World
-    → (left console_old console_new report_old report_new : Option (List ℕ)) → (fault : Type 0) → Result (Unit {0}) Fault → Type 0
-HasTexts f swaps blocks s w i c d r q e (Ok x) = (t : HasWholeRun swaps s w i c d r q) × f (after s w t.texts.last)
-HasTexts f swaps blocks s w i c d r q e (Err fault.Sink) =
-    (t : HasPartRun s w i c d r q) × (f (after s w (part_at t.texts)) ⊎ f (after s w (suc (part_at t.texts))))
-HasTexts f swaps blocks s w i c d r q e (Err (fault.Stopped why)) =
-    (t : HasStoppedTexts swaps blocks s w why i c d r q e) × f (after s w t.steps)
+    → (left console_old console_new report_old report_new : Option (List ℕ)) → (fault : Type 0) → (puts : Counts) → Result (Unit {0}) Fault → Type 0
+HasTexts f swaps blocks s w i c d r q e n (Ok x) = (t : HasWholeRun swaps s w i c d r q n) × f (after s w t.texts.last)
+HasTexts f swaps blocks s w i c d r q e n (Err fault.Sink) =
+    (t : HasPartRun s w i c d r q n) × (f (after s w (part_at t.texts)) ⊎ f (after s w (suc (part_at t.texts))))
+HasTexts f swaps blocks s w i c d r q e n (Err (fault.Stopped why)) =
+    (t : HasStoppedTexts swaps blocks s w why i c d r q e n) × f (after s w t.steps)
 
 -- only a machine that swaps stops for anything but its input
 abbrev pub StopsForInput : Result (Unit {0}) Fault → Type 0
@@ -71,7 +82,7 @@ EndsAs t (Err f) = t ≡ Some (fault_turn f)
 
 -- after k steps, none of which ended the run: the machine stands for that world, and both texts are its texts
 pub record HasReached (stands_now : World → Type 0) (swaps : Bool) (s : Setting) (w : World)
-    (left : Option (List ℕ)) (console_old console_now report_old report_now : Option (List ℕ)) : Type 0 where
+    (left : Option (List ℕ)) (console_old console_now report_old report_now : Option (List ℕ)) (puts : Counts) : Type 0 where
   pub steps : ℕ
   pub stands : stands_now (after s w steps)
   pub runs : (j : ℕ) → j < steps → is_over (after s w j) ≡ false
@@ -79,3 +90,4 @@ pub record HasReached (stands_now : World → Type 0) (swaps : Bool) (s : Settin
   pub input : left ≡ Some (after s w steps).input
   pub to_console : Gains console_old console_now (console (after s w steps))
   pub to_report : Gains report_old report_now (lines_text (after s w steps).lines)
+  pub hands : Hands puts (pieces s w steps) (length (after s w steps).lines)

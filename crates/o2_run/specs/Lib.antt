@@ -1,5 +1,6 @@
 pub mod Faults
 pub mod Room
 pub mod Stops
+pub mod Pieces
 pub mod Turn
 pub mod Ended

@@ -1,9 +1,10 @@
 // A machine that stands for a world, step by step.
-ghost use Rattle.std.specs.Prelude.{◌≡◌, ◌≤◌, ◌<◌, ◌⊎◌, ℕ, Bool, false, List, Option, Some, None};
+ghost use Rattle.std.specs.Prelude.{◌≡◌, ◌≤◌, ◌<◌, ◌⊎◌, ℕ, Bool, false, List, length, Option, Some, None};
 ghost use Rattle.o2_outer.specs.Texts.{Rose};
 ghost use Rattle.o2_world.specs.World.{World, Setting};
 ghost use Rattle.o2_run.specs.declared.steps.Turn.{Turn};
 ghost use Rattle.o2_run.specs.Turn.{Turns, LineIs, Caused, OnRan, stopped_by, is_for_swap};
+ghost use Rattle.o2_run.specs.Pieces.{counts, TurnHands};
 
 use o2_outer::{Sink, Source, SwapDevice};
 
@@ -71,6 +72,10 @@ pub trait Steps {
             → I.left input.old ≡ Some w.input
             → Turns (stands self.new (S.told swap.new) (S.block swap.new) s) swaps (S.blocks swap.old) s w (line_put self.new)
             (I.left input.new) (C.taken console.old) (C.taken console.new) (R.taken report.old) (R.taken report.new) result }
+        // Each line is one put, and so is the piece for the console, where it has bytes.
+        ensures puts { stopped self.old ≡ None → (s : Setting) (w : World) → stands self.old (S.told swap.old) (S.block swap.old) s w
+            → I.left input.old ≡ Some w.input
+            → TurnHands s w (counts (C.puts console.old) (C.puts console.new) (R.puts report.old) (R.puts report.new) (length w.lines)) result }
         ensures stops { stopped self.new ≡ stopped_by result }
 
         // A stop or an end is final.

@@ -1,17 +1,19 @@
 // The whole run.
-ghost use Rattle.std.specs.Prelude.{◌≡◌, ◌≤◌, ◌⊎◌, false, List, ℕ, Option, Some, None};
+ghost use Rattle.std.specs.Prelude.{◌≡◌, ◌≤◌, ◌⊎◌, false, List, length, ℕ, Option, Some, None};
 ghost use Rattle.o2_outer.specs.Texts.{Rose, Gains};
 ghost use Rattle.o2_world.specs.World.{World, Setting};
 ghost use Rattle.o2_world.specs.Text.{lines_text};
 ghost use Rattle.o2_world.specs.Run.{console as console_text};
 ghost use Rattle.o2_run.specs.Faults.{Caused};
+ghost use Rattle.o2_run.specs.Pieces.{counts};
 ghost use Rattle.o2_run.specs.Ended.{HasTexts, EndsAs, StopsForInput};
 
 use crate::{Fault, Steps};
 use o2_outer::{Sink, Source, SwapDevice};
 
 /// Runs a machine that stands for a world to its end: it is Ok where the last line is put. What both sinks took before the opening
-/// is `c` and `r`. At each end, and at each fault, the machine stands for the world whose texts they have taken.
+/// is `c` and `r`. At each end, and at each fault, the machine stands for the world whose texts they have taken. Each line is one
+/// put, and so is the console's piece of each step that has one.
 pub fn run<M: Steps, I: Source, C: Sink, R: Sink, S: SwapDevice>(
     machine: &mut M,
     input: &mut I,
@@ -24,7 +26,8 @@ pub fn run<M: Steps, I: Source, C: Sink, R: Sink, S: SwapDevice>(
         → I.left input.old ≡ Some w.input
         → Gains c (C.taken console.old) (console_text w) → Gains r (R.taken report.old) (lines_text w.lines)
         → HasTexts (M.stands machine.new (S.told swap.new) (S.block swap.new) s) M.swaps (S.blocks swap.old) s w
-        (I.left input.new) c (C.taken console.new) r (R.taken report.new) (Rose (R.faults report.old) (R.faults report.new)) result }
+        (I.left input.new) c (C.taken console.new) r (R.taken report.new) (Rose (R.faults report.old) (R.faults report.new))
+        (counts (C.puts console.old) (C.puts console.new) (R.puts report.old) (R.puts report.new) (length w.lines)) result }
     ensures stopped { EndsAs (M.stopped machine.new) result }
 
     // A machine that doesn't swap leaves the device as it is, and stops for its input alone.

@@ -11,3 +11,4 @@ pub mod Lefts
 pub mod Trials
 pub mod Rounds
 pub mod Steps
+pub mod Puts

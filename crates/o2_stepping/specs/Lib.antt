@@ -5,3 +5,4 @@ pub mod Tried
 pub mod Rooms
 pub mod Shapes
 pub mod Taken
+pub mod Pieces

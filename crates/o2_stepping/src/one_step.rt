@@ -15,6 +15,8 @@ ghost use Rattle.o2_run.specs.Room.{touched};
 ghost use Rattle.o2_gate.specs.Called.{IsMade};
 ghost use Rattle.o2_gate.specs.Writes.{WritesHeld};
 ghost use Rattle.o2_stepping.specs.Ran.{Leaves, AttemptFor, RanFor, OnMissed, is_missed};
+ghost use Rattle.o2_run.specs.Pieces.{Counts, counts, Hands, SinkHands, PartHands, puts_of};
+ghost use Rattle.o2_stepping.specs.Pieces.{RanHands, AttemptHands};
 
 use crate::tally::Tally;
 use o2_alu::is_set;
@@ -81,6 +83,8 @@ fn trap<R: Sink>(
     ensures done { OnMissed result (λ s. ⊥) }
     ensures count { R.faults report.old ≤ R.faults report.new }
     ensures cause { AttemptFor (Rose (R.faults report.old) (R.faults report.new)) ⊥ result }
+    ensures puts { (c : ℕ) → AttemptHands (counts c c (R.puts report.old) (R.puts report.new) 0) result }
+    ensures part { (c : ℕ) → SinkHands 0 1 (counts c c (R.puts report.old) (R.puts report.new) 0) result }
 {
     match put_trap(line, pid, vector, cpu, report) {
         Put::Failed => Err(Fault::Sink),
@@ -107,6 +111,9 @@ fn outlived<R: Sink>(
     ensures done { OnMissed result (λ s. ⊥) }
     ensures count { R.faults report.old ≤ R.faults report.new }
     ensures cause { AttemptFor (Rose (R.faults report.old) (R.faults report.new)) ⊥ result }
+    ensures puts { (c d r : ℕ) → Hands (counts c d r (R.puts report.old) 0) (puts_of tally.bytes) tally.lines
+        → AttemptHands (counts c d r (R.puts report.new) 0) result }
+    ensures part { (bytes lines : ℕ) (n : Counts) → SinkHands bytes lines n result }
 {
     if !has_trap_flag(before.flags) {
         return Ok(Attempt::Ran(Ran {
@@ -143,6 +150,7 @@ pub fn absent<R: Sink>(
     ensures avail { services.new.avail ≡ services.old.avail }
     ensures count { R.faults report.old ≤ R.faults report.new }
     ensures cause { RanFor (Rose (R.faults report.old) (R.faults report.new)) ⊥ result }
+    ensures puts { (c : ℕ) → RanHands (counts c c (R.puts report.old) (R.puts report.new) 0) result }
 {
     match put_trap(&mut services.line, pid, 11, cpu, report) {
         Put::Failed => Err(Fault::Sink),
@@ -191,6 +199,11 @@ pub fn run_one<B: Ranges, I: Source, C: Sink, R: Sink>(
     ensures report_count { R.faults report.old ≤ R.faults report.new }
     ensures cause { AttemptFor (Rose (C.faults console.old) (C.faults console.new) ⊎ Rose (R.faults report.old) (R.faults report.new))
         (Rose (I.faults input.old) (I.faults input.new)) result }
+    // Each line is one put, and so is the piece where it has bytes. Where a sink fails, no more lines were put than there are.
+    ensures puts { AttemptHands (counts (C.puts console.old) (C.puts console.new) (R.puts report.old) (R.puts report.new) 0) result }
+    ensures part { (f : Filling) (bytes : List ℕ) (known : Known) → IsBound (B.view bus.old) → I.left input.old ≡ Some bytes → IsKnown known services.old
+        → PartHands (effect (before_call (boundless f (B.view bus.old)) pid cpu.old bytes known))
+        (counts (C.puts console.old) (C.puts console.new) (R.puts report.old) (R.puts report.new) 0) result }
 {
     let before = *cpu;
     match step_one(cpu, bus) {

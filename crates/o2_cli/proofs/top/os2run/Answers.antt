@@ -1,22 +1,25 @@
 use Rattle.std.proofs.Common.{◌∙◌, subst, sym}
 use Rattle.o2_words.specs.declared.words.Verb.{Verb}
 use Rattle.o2_words.specs.Words.{IsCommandFor}
-use Rattle.o2_cli.proofs.Checked.{texts_of_check}
+use Rattle.o2_cli.proofs.Checked.{texts_of_check, untried}
 use Rattle.o2_cli.proofs.Runs.{shown, untouched}
 use Rattle.o2_cli.proofs.top.os2run.Goals as goal
 
 pub returns-clause-texts : goal.returns-clause-texts
 returns-clause-texts g c =
-    shown c.args.words.now (g.F.Files.told c.args.files.now) _ _ _ _ _ _ _ _ c.in-Ok.command.verb c.in-Ok-from_slice.name c.in-Ok-open.session
+    shown c.args.words.now (g.F.Files.told c.args.files.now) _ _ _ _ _ _ _ _ _ c.in-Ok.command.verb c.in-Ok-from_slice.name c.in-Ok-open.session
     (subst (λ name. IsCommandFor c.args.words.now c.in-Ok.command.verb name) (sym (c.in-Ok-from_slice.ensures ∙ c.as_bytes.ensures.value)) c.in-Ok.ensures)
     (λ contents is. c.in-Ok-open.ensures.exact contents is) c.run_session.result c.run_session.ensures.texts
 
 pub returns-in-Err-clause-texts : goal.returns-in-Err-clause-texts
-returns-in-Err-clause-texts g c = untouched _ _ _ _ _ _ _ _ c.from.result c.from.ensures
+returns-in-Err-clause-texts g c = untouched _ _ _ _ _ _ _ _ _ c.from.result c.from.ensures
 
 pub returns-in-Check-clause-texts : goal.returns-in-Check-clause-texts
 returns-in-Check-clause-texts g c =
     texts_of_check c.args.words.now (g.F.Files.told c.args.files.now) c.in-Ok-from_slice.name
     (subst (λ (v : Verb). IsCommandFor c.args.words.now v c.in-Ok-from_slice.name) c.in-Check.is
     (subst (λ name. IsCommandFor c.args.words.now c.in-Ok.command.verb name) (sym (c.in-Ok-from_slice.ensures ∙ c.as_bytes.ensures.value)) c.in-Ok.ensures))
-    c.in-Ok-open.session _ _ _ _ _ _ c.check_session.result c.check_session.ensures.lines
+    c.in-Ok-open.session _ _ _ _ _ _ _ c.check_session.result c.check_session.ensures.lines
+
+pub returns-in-Err-clause-checks_at_once : goal.returns-in-Err-clause-checks_at_once
+returns-in-Err-clause-checks_at_once g c = λ check. untried _ _ c.from.result c.from.ensures

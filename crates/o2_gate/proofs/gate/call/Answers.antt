@@ -9,6 +9,8 @@ use Rattle.o2_gate.specs.Befores.{boundless, before_call}
 use Rattle.o2_gate.specs.Called.{Does}
 use Rattle.o2_gate.proofs.Served.{by_row}
 use Rattle.o2_gate.proofs.Named.{names_by_row}
+use Rattle.o2_run.specs.Pieces.{counts, PartHands}
+use Rattle.o2_gate.proofs.Lines.{by_line, told_line, read_line}
 use Rattle.o2_gate.proofs.gate.call.Goals as goal
 
 pub returns-in-Some-DosExit-clause-does : goal.returns-in-Some-DosExit-clause-does
@@ -195,3 +197,50 @@ returns-in-Some-DosMemAvail-clause-names g c = λ input known bound.
     let old : View = g.B.Bus.view c.args.bus.now in
     names_by_row old (λ (f : Filling) (x : Option Row). call_names (before_call (boundless f old) c.args.pid c.args.cpu.now input known) x) c.dos_mem_avail.result c.args.service
     c.row_of.result c.in-Some-DosMemAvail.field-0 DosMemAvail c.row_of.ensures.row c.in-Some-DosMemAvail.is c.in-Some-DosMemAvail.field-0-is (c.dos_mem_avail.ensures.names input known bound)
+
+pub returns-in-Some-DosExit-clause-part : goal.returns-in-Some-DosExit-clause-part
+returns-in-Some-DosExit-clause-part g c = λ f bytes known bound same.
+    let b = before_call (boundless f (g.B.Bus.view c.args.bus.now)) c.args.pid c.args.cpu.now bytes known in
+    by_row (λ (y : Effect). PartHands y (counts (g.C.Sink.puts c.args.console.now) (g.C.Sink.puts c.args.console.now) (g.R.Sink.puts c.args.report.now) (g.R.Sink.puts c.dos_exit.new.report) 0) c.dos_exit.result)
+    b c.args.service c.args.next c.row_of.result c.in-Some-DosExit.field-0 DosExit c.row_of.ensures.row c.in-Some-DosExit.is c.in-Some-DosExit.field-0-is
+    (c.dos_exit.ensures.part f bytes known _ bound)
+
+pub returns-in-Some-DosGetPid-clause-part : goal.returns-in-Some-DosGetPid-clause-part
+returns-in-Some-DosGetPid-clause-part g c = λ f bytes known bound same.
+    let b = before_call (boundless f (g.B.Bus.view c.args.bus.now)) c.args.pid c.args.cpu.now bytes known in
+    by_row (λ (y : Effect). PartHands y (counts (g.C.Sink.puts c.args.console.now) (g.C.Sink.puts c.args.console.now) (g.R.Sink.puts c.args.report.now) (g.R.Sink.puts c.dos_get_pid.new.report) 0) c.dos_get_pid.result)
+    b c.args.service c.args.next c.row_of.result c.in-Some-DosGetPid.field-0 DosGetPid c.row_of.ensures.row c.in-Some-DosGetPid.is c.in-Some-DosGetPid.field-0-is
+    (by_line _ _ _ (told_line b c.args.next _ _ _) (c.dos_get_pid.ensures.part _))
+
+pub returns-in-Some-DosRead-clause-part : goal.returns-in-Some-DosRead-clause-part
+returns-in-Some-DosRead-clause-part g c = λ f bytes known bound same.
+    let b = before_call (boundless f (g.B.Bus.view c.args.bus.now)) c.args.pid c.args.cpu.now bytes known in
+    by_row (λ (y : Effect). PartHands y (counts (g.C.Sink.puts c.args.console.now) (g.C.Sink.puts c.args.console.now) (g.R.Sink.puts c.args.report.now) (g.R.Sink.puts c.dos_read.new.report) 0) c.dos_read.result)
+    b c.args.service c.args.next c.row_of.result c.in-Some-DosRead.field-0 DosRead c.row_of.ensures.row c.in-Some-DosRead.is c.in-Some-DosRead.field-0-is
+    (by_line _ _ _ (read_line b c.args.next) (c.dos_read.ensures.part _))
+
+pub returns-in-Some-DosWrite-clause-part : goal.returns-in-Some-DosWrite-clause-part
+returns-in-Some-DosWrite-clause-part g c = λ f bytes known bound same.
+    let b = before_call (boundless f (g.B.Bus.view c.args.bus.now)) c.args.pid c.args.cpu.now bytes known in
+    by_row (λ (y : Effect). PartHands y (counts (g.C.Sink.puts c.args.console.now) (g.C.Sink.puts c.dos_write.new.console) (g.R.Sink.puts c.args.report.now) (g.R.Sink.puts c.dos_write.new.report) 0) c.dos_write.result)
+    b c.args.service c.args.next c.row_of.result c.in-Some-DosWrite.field-0 DosWrite c.row_of.ensures.row c.in-Some-DosWrite.is c.in-Some-DosWrite.field-0-is
+    (c.dos_write.ensures.part f bytes known bound)
+
+pub returns-in-Some-DosMemAvail-clause-part : goal.returns-in-Some-DosMemAvail-clause-part
+returns-in-Some-DosMemAvail-clause-part g c = λ f bytes known bound same.
+    let b = before_call (boundless f (g.B.Bus.view c.args.bus.now)) c.args.pid c.args.cpu.now bytes known in
+    by_row (λ (y : Effect). PartHands y (counts (g.C.Sink.puts c.args.console.now) (g.C.Sink.puts c.args.console.now) (g.R.Sink.puts c.args.report.now) (g.R.Sink.puts c.dos_mem_avail.new.report) 0) c.dos_mem_avail.result)
+    b c.args.service c.args.next c.row_of.result c.in-Some-DosMemAvail.field-0 DosMemAvail c.row_of.ensures.row c.in-Some-DosMemAvail.is c.in-Some-DosMemAvail.field-0-is
+    (by_line _ _ _ (told_line b c.args.next _ _ _) (c.dos_mem_avail.ensures.part _))
+
+pub returns-in-Some-DosExit-clause-puts : goal.returns-in-Some-DosExit-clause-puts
+returns-in-Some-DosExit-clause-puts g c = c.dos_exit.ensures.puts _
+
+pub returns-in-Some-DosGetPid-clause-puts : goal.returns-in-Some-DosGetPid-clause-puts
+returns-in-Some-DosGetPid-clause-puts g c = c.dos_get_pid.ensures.puts _
+
+pub returns-in-Some-DosRead-clause-puts : goal.returns-in-Some-DosRead-clause-puts
+returns-in-Some-DosRead-clause-puts g c = c.dos_read.ensures.puts _
+
+pub returns-in-Some-DosMemAvail-clause-puts : goal.returns-in-Some-DosMemAvail-clause-puts
+returns-in-Some-DosMemAvail-clause-puts g c = c.dos_mem_avail.ensures.puts _

@@ -8,6 +8,7 @@ use Rattle.o2_world.specs.declared.types.Row.TheVariants.{DosWrite}
 use Rattle.o2_run.specs.Room.{pointed, call_names}
 use Rattle.o2_gate.specs.Pointed.{transfer_pointers}
 use Rattle.o2_gate.proofs.Named.{same_names, none_there, few_arguments, write_names}
+use Rattle.o2_run.specs.Pieces.{counts, PartHands}
 use Rattle.o2_gate.proofs.write.dos_write.Goals as goal
 
 pub returns-in-Some-clause-does : goal.returns-in-Some-clause-does
@@ -38,3 +39,11 @@ returns-in-None-clause-names g c = λ input known bound f.
     let b = before_call v c.args.pid c.args.cpu.now input known in
     none_there (g.B.Bus.view c.args.bus.now) (call_names b (Some DosWrite))
     (few_arguments b DosWrite (if_none (has_arguments v c.args.cpu.now 6) (transfer_of (argument v c.args.cpu.now)) (c.in-None.ensures f bound)))
+
+pub returns-in-Some-clause-part : goal.returns-in-Some-clause-part
+returns-in-Some-clause-part g c = λ f input known bound.
+    let v : View = boundless f (g.B.Bus.view c.args.bus.now) in
+    let b = before_call v c.args.pid c.args.cpu.now input known in
+    let a = if_some (has_arguments v c.args.cpu.now 6) (transfer_of (argument v c.args.cpu.now)) c.in-Some.write (c.in-Some.ensures f bound) in
+    subst (λ (y : Effect). PartHands y (counts (g.C.Sink.puts c.args.console.now) (g.C.Sink.puts c.written.new.console) (g.R.Sink.puts c.args.report.now) (g.R.Sink.puts c.written.new.report) 0) c.written.result)
+    (sym (write_with b c.args.next c.in-Some.write a.0 a.1)) (c.written.ensures.part f input known)

@@ -7,6 +7,8 @@ use Rattle.o2_world.specs.declared.types.State.TheVariants.{Live}
 use Rattle.o2_gate.specs.Befores.{boundless, before_call}
 use Rattle.o2_gate.specs.Called.{IsMade, IsInPart, PutInPart}
 use Rattle.o2_gate.proofs.Rows.{give_tells, written_is, not_written_is}
+use Rattle.std.proofs.Common.{ℕ, ◌+◌, arith}
+use Rattle.o2_run.specs.Pieces.{counts, HandsUpTo, puts_of}
 use Rattle.o2_gate.proofs.write.written.Goals as goal
 
 pub returns-in-Failed-clause-does : goal.returns-in-Failed-clause-does
@@ -71,4 +73,26 @@ returns-in-Done-put_both-clause-does g c = λ f input known i e.
       input = e;
       to_console = rw piece at both.0;
       to_report = both.1;
+    })
+
+pub returns-in-Failed-clause-part : goal.returns-in-Failed-clause-part
+returns-in-Failed-clause-part g c = λ f input known.
+    let b = before_call (boundless f (g.B.Bus.view c.args.bus.now)) c.args.pid c.args.cpu.now input known in
+    let w = c.args.write.now in
+    let same = not_written_is b c.args.next w (give_tells b w true (c.in-Good.ensures.tells.good f)) (sym c.is_console.ensures ∙ c.if-not-is_console.true) in
+    subst (λ (y : Effect). HandsUpTo (counts (g.C.Sink.puts c.args.console.now) (g.C.Sink.puts c.args.console.now) (g.R.Sink.puts c.args.report.now) (g.R.Sink.puts c.put_line.new.report) 0) (puts_of (length y.piece)) 0 (length y.lines))
+    (sym same) (record { to_console = omega arith; at_least = omega (arith, c.put_line.ensures.puts); at_most = omega (arith, c.put_line.ensures.puts) })
+
+pub returns-in-Failed-put_both-clause-part : goal.returns-in-Failed-put_both-clause-part
+returns-in-Failed-put_both-clause-part g c = λ f input known.
+    let b = before_call (boundless f (g.B.Bus.view c.args.bus.now)) c.args.pid c.args.cpu.now input known in
+    let w = c.args.write.now in
+    let same = written_is b c.args.next w (give_tells b w true (c.in-Good.ensures.tells.good f)) (sym c.is_console.ensures ∙ c.if-not-is_console.false) in
+    let piece = ap (λ (x : View). range_of x.held (whole f x).bytes w.selector w.offset w.count) c.test_both.ensures.same in
+    let size = sym (ap length piece) ∙ c.in-Failed-put_both.ensures.len f in
+    subst (λ (y : Effect). HandsUpTo (counts (g.C.Sink.puts c.args.console.now) (g.C.Sink.puts c.put_both.new.console) (g.R.Sink.puts c.args.report.now) (g.R.Sink.puts c.put_both.new.report) 0) (puts_of (length y.piece)) 0 (length y.lines))
+    (sym same) (record {
+      to_console = c.in-Failed-put_both.ensures.piece ∙ ap (λ (n : ℕ). g.C.Sink.puts c.args.console.now + puts_of n) (sym size);
+      at_least = omega (arith, c.in-Failed-put_both.ensures.line_at_most.0);
+      at_most = omega (arith, c.in-Failed-put_both.ensures.line_at_most.1);
     })

@@ -1,4 +1,4 @@
-use Rattle.std.proofs.Common.{◌+◌, List, map, length, sum_by, ap, sym, ◌∙◌, subst}
+use Rattle.std.proofs.Common.{◌+◌, List, map, length, sum_by, arith, ap, sym, ◌∙◌, subst}
 use Rattle.o2_outer.specs.Texts.{Gains}
 use Rattle.o2_world.specs.World.{Line}
 use Rattle.o2_world.specs.Text.{lines_text}
@@ -19,3 +19,13 @@ returns-clause-begins g c = λ b e is. record {
   to_report = subst (λ (z : List Line). Gains (g.R.Sink.taken c.args.report.now) (g.R.Sink.taken c.put_starts.new.report) (lines_text z))
       (ap (λ xs. lines_from c.args.linked.now 1 (map (λ v. v.items) xs)) c.deref-3.ensures.value ∙ sym is.lines) c.in-Done.ensures.report;
 }
+
+pub returns-clause-puts : goal.returns-clause-puts
+returns-clause-puts g c = λ b is.
+    let size = ap (λ xs. sum_by (λ v. length v.items + 1) xs) c.deref-3.ensures.value ∙ sym (lines_counted (λ v. v.items) c.args.linked.now 1 _) ∙ ap length (sym is.lines) in
+    omega (arith, c.in-Done.ensures.puts, size)
+
+pub returns-in-Failed-clause-puts : goal.returns-in-Failed-clause-puts
+returns-in-Failed-clause-puts g c = λ b is.
+    let size = ap (λ xs. sum_by (λ v. length v.items + 1) xs) c.deref-3.ensures.value ∙ sym (lines_counted (λ v. v.items) c.args.linked.now 1 _) ∙ ap length (sym is.lines) in
+    (c.in-Failed.ensures.puts.0, omega (arith, c.in-Failed.ensures.puts.1, size))

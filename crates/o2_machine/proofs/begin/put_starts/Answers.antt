@@ -1,4 +1,4 @@
-use Rattle.std.proofs.Common.{◌≡◌, ◌+◌, List, ℕ, Some, map, take, arith, ap, sym, ◌∙◌, refl, subst, add-one}
+use Rattle.std.proofs.Common.{◌≡◌, ◌+◌, List, ℕ, length, Some, map, take, arith, ap, sym, ◌∙◌, refl, subst, add-one}
 use Rattle.std.specs.Prelude.{slice_get, option_map}
 use Rattle.std.proofs.lemmas.Option.{slice_get_read, slice_get-map}
 use Rattle.o2_outer.specs.declared.sink.Put.TheVariants as put
@@ -8,6 +8,7 @@ use Rattle.o2_world.specs.Text.{lines_text}
 use Rattle.o2_world.specs.Opening.{start_lines}
 use Rattle.o2_load.specs.Beginnings.{lines_from}
 use Rattle.o2_machine.proofs.StartLines.{starts_split, starts_more}
+use Rattle.o2_machine.proofs.StartPuts.{count_more, count_le}
 use Rattle.o2_machine.proofs.begin.put_starts.Goals as goal
 
 pub returns-in-Failed-clause-report : goal.returns-in-Failed-clause-report
@@ -27,5 +28,13 @@ loop-i-preserved g c =
       so_far = subst (λ (z : List ℕ). Gains (g.R.Sink.taken c.args.report.now) (g.R.Sink.taken c.put_start.new.report) z) (sym more)
           (puts_more _ _ _ _ _ put.Done c.loop-i.invariant.so_far
           (subst (λ (z : List ℕ). Gains (g.R.Sink.taken c.loop-i.report) (g.R.Sink.taken c.put_start.new.report) (lines_text (start_lines (c.loop-i.i + 1) z c.deref.result.now))) c.program_name.ensures.value c.in-Done.ensures.report));
+      puts =
+          let size = count_more (λ v. length v.items + 1) c.args.starts.now c.loop-i.i c.index-starts-i.result c.loop-i-test.true c.index-starts-i.is in
+          omega (arith, c.loop-i.invariant.puts, c.in-Done.ensures.puts, size, ap length c.deref.ensures.value);
       count = omega (arith, c.loop-i.invariant.count, c.in-Done.ensures.count);
     }
+
+pub returns-in-Failed-clause-puts : goal.returns-in-Failed-clause-puts
+returns-in-Failed-clause-puts g c =
+    let most = count_le (λ v. length v.items + 1) c.args.starts.now c.loop-i.i c.index-starts-i.result c.loop-i-test.true c.index-starts-i.is in
+    (omega (arith, c.loop-i.invariant.puts, c.in-Failed.ensures.puts.0), omega (arith, c.loop-i.invariant.puts, c.in-Failed.ensures.puts.1, most, ap length c.deref.ensures.value))

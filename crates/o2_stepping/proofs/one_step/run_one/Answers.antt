@@ -18,6 +18,12 @@ use Rattle.o2_stepping.proofs.Leaving.{effect_by, done_by, ended_stays}
 use Rattle.o2_stepping.proofs.Gates.{done_boundless, trap_boundless, gate_boundless, away_by, whole_same, frame_by, frame_then, moved, by_answer, fault_by, still_of, missed_by, missed_of, none_missed}
 use Rattle.o2_gate.proofs.Writing.{writes_data, writes_then, agrees_then}
 use Rattle.o2_stepping.proofs.Touches.{loads_missed, touched_present, call_missed, call_present, told_by, told_before}
+use Rattle.o2_world.specs.Effect.{effect}
+use Rattle.o2_run.specs.declared.fault.Fault.{Fault}
+use Rattle.o2_run.specs.Pieces.{Counts, counts, PartHands}
+use Rattle.o2_gate.specs.declared.called.Called.{Called}
+use Rattle.o2_stepping.specs.Pieces.{AttemptHands}
+use Rattle.o2_stepping.proofs.Puts.{no_hands, back_hands, exit_hands, trap_hands, fault_hands, behind, trap_part, fault_part}
 use Rattle.o2_stepping.proofs.one_step.run_one.Goals as goal
 
 pub returns-in-Done-clause-leaves : goal.returns-in-Done-clause-leaves
@@ -362,3 +368,66 @@ returns-in-Ok-Missed-clause-still g c =
     let same = c.in-Gate.ensures.step.1 in
     let did = missed_of _ c.in-Ok-Missed.field-0 c.in-Ok-Missed.sel c.in-Ok-Missed.field-0-is c.in-Ok-Missed.ensures.still in
     (did.0 ∙ ap (λ (s : Machine). s.cpu) same, did.1 ∙ ap (λ (s : Machine). s.view) same, did.2, did.3, did.4)
+
+pub returns-in-Done-clause-puts : goal.returns-in-Done-clause-puts
+returns-in-Done-clause-puts g c = c.outlived.ensures.puts _ _ _ (no_hands _ _)
+
+pub returns-in-Ok-Back-clause-puts : goal.returns-in-Ok-Back-clause-puts
+returns-in-Ok-Back-clause-puts g c = c.outlived-in-Ok-Back.ensures.puts _ _ _ (back_hands _ c.in-Ok-Back.field-0 c.in-Ok-Back.ensures.puts _ c.in-Ok-Back.field-0-is)
+
+pub returns-in-Ok-Exited-clause-puts : goal.returns-in-Ok-Exited-clause-puts
+returns-in-Ok-Exited-clause-puts g c = exit_hands _ c.in-Ok-Exited.field-0 c.in-Ok-Exited.ensures.puts _ c.in-Ok-Exited.field-0-is
+
+pub returns-in-Ok-Trap-clause-puts : goal.returns-in-Ok-Trap-clause-puts
+returns-in-Ok-Trap-clause-puts g c = behind (λ (n : Counts). AttemptHands n c.trap-in-Ok-Trap.result) _ _ _ _ _ (trap_hands _ c.in-Ok-Trap.field-0 c.in-Ok-Trap.ensures.puts _ _ c.in-Ok-Trap.field-0-is) (c.trap-in-Ok-Trap.ensures.puts _)
+
+pub returns-in-Err-clause-puts : goal.returns-in-Err-clause-puts
+returns-in-Err-clause-puts g c = fault_hands _ c.in-Err.fault c.in-Err.ensures.puts
+
+pub returns-in-Trap-clause-part : goal.returns-in-Trap-clause-part
+returns-in-Trap-clause-part g c = λ f input known bound left same.
+    let v : View = g.B.Bus.view c.args.bus.now in
+    let b = before_call (boundless f v) c.args.pid c.args.cpu.now input known in
+    trap_part b _ c.in-Trap.vector _ c.trap.result
+    (effect_by b (Err (stop.Trap c.in-Trap.vector c.in-Trap.field-1)) (trap_boundless f v (g.B.Bus.view c.step_one.new.bus) c.args.cpu.now c.step_one.new.cpu c.in-Trap.vector c.in-Trap.field-1 (c.in-Trap.ensures.boundless f bound)))
+    (c.trap.ensures.part _)
+
+pub returns-in-Ok-Trap-clause-part : goal.returns-in-Ok-Trap-clause-part
+returns-in-Ok-Trap-clause-part g c = λ f input known bound left same.
+    let v : View = g.B.Bus.view c.args.bus.now in
+    let w : View = g.B.Bus.view c.step_one.new.bus in
+    let b = before_call (boundless f v) c.args.pid c.args.cpu.now input known in
+    let step = c.in-Gate.ensures.step in
+    let bound_then : IsBound w = subst (λ (s : Machine). IsBound s.view) (sym step.1) bound in
+    let does = moved f c.args.pid input known c.in-Gate.service c.in-Gate.next c.call.new.cpu (g.B.Bus.view c.call.new.bus) _ _ _ _ _ _ (Ok c.in-Ok-Trap.field-0) (state c.step_one.new.cpu w) (state c.args.cpu.now v) step.1
+    (c.in-Ok-Trap.ensures.does f input known bound_then left (record { avail = same.avail })) in
+    let vector = c.in-Ok-Trap.vector in
+    let t = by_answer f c.args.pid input known c.in-Gate.service c.in-Gate.next c.call.new.cpu (g.B.Bus.view c.call.new.bus) _ _ _ _ _ _ v c.args.cpu.now c.in-Ok-Trap.field-0 (called.Trap vector _) c.in-Ok-Trap.field-0-is does in
+    behind (λ (n : Counts). PartHands (effect b) n c.trap-in-Ok-Trap.result) _ _ _ _ _ (trap_hands _ c.in-Ok-Trap.field-0 c.in-Ok-Trap.ensures.puts _ _ c.in-Ok-Trap.field-0-is)
+    (trap_part b _ vector _ c.trap-in-Ok-Trap.result
+    (effect_by b (Err (stop.Gate c.in-Gate.service c.in-Gate.next)) (gate_boundless f v w c.args.cpu.now c.step_one.new.cpu c.in-Gate.service c.in-Gate.next (c.in-Gate.ensures.boundless f bound))
+    ∙ ap (λ (e : Effect). single_stepped b e) t.effect)
+    (c.trap-in-Ok-Trap.ensures.part _))
+
+pub returns-in-Err-clause-part : goal.returns-in-Err-clause-part
+returns-in-Err-clause-part g c = λ f input known bound left same.
+    let v : View = g.B.Bus.view c.args.bus.now in
+    let w : View = g.B.Bus.view c.step_one.new.bus in
+    let b = before_call (boundless f v) c.args.pid c.args.cpu.now input known in
+    let step = c.in-Gate.ensures.step in
+    let bound_then : IsBound w = subst (λ (s : Machine). IsBound s.view) (sym step.1) bound in
+    let n = counts (g.C.Sink.puts c.args.console.now) (g.C.Sink.puts c.call.new.console) (g.R.Sink.puts c.args.report.now) (g.R.Sink.puts c.call.new.report) 0 in
+    let fails : Result Called Fault = Err c.in-Err.fault in
+    let part = subst (λ (s : Machine). PartHands (serviced (before_call (boundless f s.view) c.args.pid s.cpu input known) c.in-Gate.service c.in-Gate.next) n fails) step.1
+    (c.in-Err.ensures.part f input known bound_then (record { avail = same.avail })) in
+    fault_part b (serviced b c.in-Gate.service c.in-Gate.next) _ n c.in-Err.fault
+    (effect_by b (Err (stop.Gate c.in-Gate.service c.in-Gate.next)) (gate_boundless f v w c.args.cpu.now c.step_one.new.cpu c.in-Gate.service c.in-Gate.next (c.in-Gate.ensures.boundless f bound))) part
+
+pub returns-in-Done-clause-part : goal.returns-in-Done-clause-part
+returns-in-Done-clause-part g c = λ f input known bound left same. c.outlived.ensures.part _ _ _
+
+pub returns-in-Trap-clause-puts : goal.returns-in-Trap-clause-puts
+returns-in-Trap-clause-puts g c = c.trap.ensures.puts _
+
+pub returns-in-Ok-Back-clause-part : goal.returns-in-Ok-Back-clause-part
+returns-in-Ok-Back-clause-part g c = λ f input known bound left same. c.outlived-in-Ok-Back.ensures.part _ _ _

@@ -1,5 +1,6 @@
 use Rattle.std.proofs.Common.{sym, ◌∙◌, refl, inr}
 use Rattle.o2_machine.proofs.Turns.{same_space, closes_ended, ended_in_part, closes_spent, spent_in_part}
+use Rattle.o2_machine.proofs.Hands.{one_line, failed_all, failed_spent}
 use Rattle.o2_machine.proofs.machine.Machine.advance.Goals as goal
 
 pub returns-in-Done-clause-turns : goal.returns-in-Done-clause-turns
@@ -21,3 +22,19 @@ returns-in-Failed-put-clause-turns g c = λ s w blocks stands left.
 pub returns-in-Step-clause-turns : goal.returns-in-Step-clause-turns
 returns-in-Step-clause-turns g c = λ s w blocks stands left.
     c.step.ensures.turns s w blocks (same_space _ c.args.self.now s w stands (record { sched = c.next.ensures.same; avail = refl; budget = refl; bytes = refl; lines = refl }) stands.space) left
+
+pub returns-in-Done-clause-puts : goal.returns-in-Done-clause-puts
+returns-in-Done-clause-puts g c = λ s w stands left. one_line _ _ _ _ c.in-Done.ensures.puts
+
+pub returns-in-Failed-clause-puts : goal.returns-in-Failed-clause-puts
+returns-in-Failed-clause-puts g c = λ s w stands left. failed_all c.args.self.now s w _ stands (one_line _ _ _ _ c.in-Failed.ensures.puts) (sym c.next.ensures.pick ∙ c.in-AllEnded.is)
+
+pub returns-in-Done-put-clause-puts : goal.returns-in-Done-put-clause-puts
+returns-in-Done-put-clause-puts g c = λ s w stands left. one_line _ _ _ _ c.in-Done-put.ensures.puts
+
+pub returns-in-Failed-put-clause-puts : goal.returns-in-Failed-put-clause-puts
+returns-in-Failed-put-clause-puts g c = λ s w stands left. failed_spent c.args.self.now s w _ stands (one_line _ _ _ _ c.in-Failed-put.ensures.puts) (sym c.next.ensures.pick ∙ c.in-BudgetSpent.is)
+
+pub returns-in-Step-clause-puts : goal.returns-in-Step-clause-puts
+returns-in-Step-clause-puts g c = λ s w stands left.
+    c.step.ensures.puts s w (same_space _ c.args.self.now s w stands (record { sched = c.next.ensures.same; avail = refl; budget = refl; bytes = refl; lines = refl }) stands.space) left

@@ -10,6 +10,10 @@ use Rattle.o2_machine.specs.Acts.{Acts}
 use Rattle.o2_machine.specs.declared.space.Proc.{Proc}
 use Rattle.o2_machine.proofs.Spaces.{process_is, before_is}
 use Rattle.o2_machine.proofs.Between.{between, faults}
+use Rattle.std.specs.Prelude.{Result}
+use Rattle.o2_run.specs.declared.fault.Fault.{Fault}
+use Rattle.o2_run.specs.Pieces.{counts, PartHands}
+use Rattle.o2_stepping.specs.declared.one_step.Ran.{Ran}
 use Rattle.o2_machine.proofs.space.Space.act.Goals as goal
 
 pub returns-in-Err-clause-acts : goal.returns-in-Err-clause-acts
@@ -49,3 +53,16 @@ returns-in-Ok-clause-acts g c = λ ps names p bytes known stands at live left_is
     (g.I.Source.left c.run_plain.new.input) (g.C.Sink.taken c.args.console.now) (g.C.Sink.taken c.run_plain.new.console)
     (g.R.Sink.taken c.args.report.now) (g.R.Sink.taken c.run_plain.new.report) (Ok c.in-Ok.ran)) (sym same)
     (record { lives = ap lives left.state; ends = left.ends; puts = left.puts; stands = done; input = left.input; to_console = left.to_console; to_report = left.to_report })
+
+pub returns-in-Err-clause-part : goal.returns-in-Err-clause-part
+returns-in-Err-clause-part g c = λ ps names p bytes known stands at live left_is avail_is.
+    let q : Proc = c.index.result.now in
+    let is = process_is c.args.self.now.procs.items c.args.self.now.plain ps c.args.pid q p c.requires.some (omega (
+      arith,
+      c.requires.some,
+      c.requires.there,
+    )) c.index.ensures stands.processes at in
+    let fails : Result Ran Fault = Err c.in-Err.fault in
+    subst (λ (x : Before). PartHands (effect x) (counts (g.C.Sink.puts c.args.console.now) (g.C.Sink.puts c.run_plain.new.console) (g.R.Sink.puts c.args.report.now) (g.R.Sink.puts c.run_plain.new.report) 0) fails)
+    (sym (before_is c.args.self.now ps names c.args.pid q p bytes known stands is))
+    (c.in-Err.ensures.part.part bytes known stands.shown left_is avail_is)

@@ -1,5 +1,8 @@
 use Rattle.o2_machine.specs.StandsFor.{StandsFor}
 use Rattle.o2_machine.proofs.Turns.{turns_answered, caused_answered}
+use Rattle.std.proofs.Common.{length, sym, subst}
+use Rattle.o2_run.specs.declared.steps.Turn.{Turn}
+use Rattle.o2_run.specs.Pieces.{counts, TurnHands}
 use Rattle.o2_machine.proofs.turn.MachineSteps.turn.Goals as goal
 
 pub returns-in-None-clause-turns : goal.returns-in-None-clause-turns
@@ -9,3 +12,8 @@ returns-in-None-clause-turns g c = λ fresh s w stands left.
 
 pub returns-in-None-clause-cause : goal.returns-in-None-clause-cause
 returns-in-None-clause-cause g c = λ fresh. caused_answered _ _ _ _ _ c.answer-in-None.ensures c.advance-last.ensures.cause
+
+pub returns-in-None-clause-puts : goal.returns-in-None-clause-puts
+returns-in-None-clause-puts g c = λ fresh s w stands left.
+    subst (λ (t : Turn). TurnHands s w (counts (g.C.Sink.puts c.args.console.now) (g.C.Sink.puts c.advance-last.new.console) (g.R.Sink.puts c.args.report.now) (g.R.Sink.puts c.advance-last.new.report) (length w.lines)) t)
+    (sym c.answer-in-None.ensures) (c.advance-last.ensures.puts s w stands left)

@@ -1,0 +1,77 @@
+-- The puts of a step, by those of its call and of the line of an exception.
+use Rattle.std.proofs.Common.{◌≡◌, ℕ, ◌+◌, ◌≤◌, Bool, true, false, ◌&&◌, List, [], ◌∷◌, ◌++◌, length, ap, sym, ◌∙◌, refl, subst, arith, length-append, if◌then◌else◌}
+use Rattle.std.specs.Prelude.{Result, Ok, Err}
+use Rattle.o2_base.specs.declared.selector.Selector.{Selector}
+use Rattle.o2_world.specs.World.{Traps, is_live}
+use Rattle.o2_world.specs.declared.types.State.TheVariants.{Trapped}
+use Rattle.o2_world.specs.Calls.{Before, Effect, trapped}
+use Rattle.o2_world.specs.Effect.{single_stepped, has_trap_flag}
+use Rattle.o2_run.specs.declared.fault.Fault.{Fault}
+use Rattle.o2_run.specs.declared.fault.Fault.TheVariants as fault
+use Rattle.o2_run.specs.Pieces.{Counts, counts, Hands, HandsUpTo, SinkHands, PartHands, puts_of}
+use Rattle.o2_gate.specs.declared.called.Called.{Called}
+use Rattle.o2_gate.specs.declared.called.Called.TheVariants.{Back, Exited, Trap, Missed}
+use Rattle.o2_gate.specs.Pieces.{CallHands}
+use Rattle.o2_stepping.specs.Pieces.{RanHands, AttemptHands}
+use Rattle.o2_stepping.specs.declared.one_step.Ran.{Ran}
+use Rattle.o2_stepping.specs.declared.one_step.Attempt.{Attempt}
+use Rattle.o2_stepping.specs.declared.one_step.Attempt.TheVariants as attempt
+use Rattle.o2_stepping.proofs.Leaving.{ended_stays}
+
+-- by the answer of the call
+module _ (n : Counts) (x : Called) (hands : CallHands n (Ok x)) where
+  pub back_hands : (bytes : ℕ) → x ≡ Back bytes → Hands n (puts_of bytes) 1
+  back_hands bytes is = subst (λ (y : Called). CallHands n (Ok y)) is hands
+
+  pub exit_hands : (code : ℕ) → x ≡ Exited code → Hands n 0 2
+  exit_hands code is = subst (λ (y : Called). CallHands n (Ok y)) is hands
+
+  pub trap_hands : (vector code : ℕ) → x ≡ Trap vector code → Hands n 0 0
+  trap_hands vector code is = subst (λ (y : Called). CallHands n (Ok y)) is hands
+
+pub fault_hands : (n : Counts) (f : Fault) → CallHands n (Err f) → AttemptHands n (Err f)
+fault_hands n fault.Sink h = tt
+fault_hands n (fault.Stopped why) h = h
+
+pub no_hands : (c r : ℕ) → Hands (counts c c r r 0) 0 0
+no_hands c r = record { to_console = omega arith; to_report = omega arith }
+
+pub missed_hands : (n : Counts) (a : Attempt) (s : Selector) → a ≡ attempt.Missed s → AttemptHands n (Ok a) → Hands n 0 0
+missed_hands n a s is h = subst (λ (x : Attempt). AttemptHands n (Ok x)) is h
+
+-- behind what has put nothing
+pub behind : (P : Counts → Type 0) (c d r q p : ℕ) → Hands (counts c d r q 0) 0 0 → P (counts d d q p 0) → P (counts c d r p 0)
+behind P c d r q p nothing h =
+    let console : d ≡ c = omega (arith, nothing.to_console) in
+    let report : q ≡ r = omega (arith, nothing.to_report) in
+    subst (λ (z : ℕ). P (counts z d r p 0)) console (subst (λ (z : ℕ). P (counts d d z p 0)) report h)
+
+-- the line of an exception alone
+pub trap_part : (b : Before) (e : Effect) (vector : ℕ) (n : Counts) (result : Result Attempt Fault) → e ≡ single_stepped b (trapped b vector) → SinkHands 0 1 n result → PartHands e n result
+trap_part b e vector n result is h = subst (λ (x : Effect). PartHands x n result) (sym (is ∙ ended_stays b (trapped b vector) refl)) h
+
+-- a line more changes nothing of what failed before it
+more_up_to : (n : Counts) (pieces lines more : ℕ) → HandsUpTo n pieces 0 lines → HandsUpTo n pieces 0 (lines + more)
+more_up_to n pieces lines more h = record { to_console = h.to_console; at_least = h.at_least; at_most = omega (arith, h.at_most) }
+
+with_line : (b : Before) (e : Effect) (n : Counts) (flag live : Bool) → HandsUpTo n (puts_of (length e.piece)) 0 (length e.lines)
+    → let f : Effect = if flag && live then record e { state = Trapped 1; lines = e.lines ++ Traps b.number 1 b.cpu.cs b.cpu.ip ∷ [] } else e in HandsUpTo n (puts_of (length f.piece)) 0 (length f.lines)
+with_line b e n true true h = rw (length-append e.lines (Traps b.number 1 b.cpu.cs b.cpu.ip ∷ [])) (more_up_to n (puts_of (length e.piece)) (length e.lines) 1 h)
+with_line b e n true false h = h
+with_line b e n false live h = h
+
+pub fault_part : (b : Before) (e whole : Effect) (n : Counts) (f : Fault) → whole ≡ single_stepped b e → PartHands {T = Called} e n (Err f) → PartHands {T = Attempt} whole n (Err f)
+fault_part b e whole n fault.Sink is h = subst (λ (x : Effect). HandsUpTo n (puts_of (length x.piece)) 0 (length x.lines)) (sym is) (with_line b e n (has_trap_flag b.cpu.flags) (is_live e.state) h)
+fault_part b e whole n (fault.Stopped why) is h = tt
+
+-- an attempt as a step, where nothing can be missed
+pub ran_hands : (n : Counts) (a : Attempt) (ran : Ran) → a ≡ attempt.Ran ran → AttemptHands n (Ok a) → RanHands n (Ok ran)
+ran_hands n a ran is h = subst (λ (x : Attempt). AttemptHands n (Ok x)) is h
+
+pub ran_fault : (n : Counts) (f : Fault) → AttemptHands n (Err f) → RanHands n (Err f)
+ran_fault n fault.Sink h = tt
+ran_fault n (fault.Stopped why) h = h
+
+pub part_fault : (e : Effect) (n : Counts) (f : Fault) → PartHands {T = Attempt} e n (Err f) → PartHands {T = Ran} e n (Err f)
+part_fault e n fault.Sink h = h
+part_fault e n (fault.Stopped why) h = tt
