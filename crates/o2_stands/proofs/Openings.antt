@@ -55,7 +55,7 @@ opening_once : (s : Setting) (reserved : List (ℕ × ℕ)) (script : List Word)
 unfolding all_started
 opening_once s reserved script input starts w e =
     let so_far : SoFar OnceSoFar (all_started s.segments starts) =
-        all_so_far OnceSoFar (λ (x : Start). Unit {0}) s.segments starts (Ok nothing_built) started_once (λ k d l. tt) (record { once = tt; below = λ q f. absurd (false≢true f) }) in
+    all_so_far OnceSoFar (λ (x : Start). Unit {0}) s.segments starts (Ok nothing_built) started_once (λ k d l. tt) (record { once = tt; below = λ q f. absurd (false≢true f) }) in
     opened (λ (x : World). AreOnce x.names) OnceSoFar reserved script s.budget input (all_started s.segments starts) w (λ b x. x.once) so_far e
 
 all_for_the_run : (rs : List (ℕ × ℕ)) → AllStay (map for_the_run rs)
