@@ -22,7 +22,7 @@ use Rattle.o2_world.specs.Known.{live_below}
 use Rattle.o2_run.specs.Room.{is_in, is_locked, larger, load_between, numbers, of_both, room_between, size_of, blocks_of, rounded as whole}
 use Rattle.o2_stands.specs.Parts.{Parts}
 use Rattle.o2_stands.specs.Stands.{AreLawful, IsNamed, IsSegment, StandsIn}
-use Rattle.o2_stands.specs.Sums.{AreAllHere, IsAmong, IsWithin, NoneGrows, SaysNeed}
+use Rattle.o2_stands.specs.Sums.{AreAllHere, AreAtLeast, AreAtMost, IsAmong, IsWithin, NoneGrows, SaysNeed, part_of}
 use Rattle.o2_stands.proofs.Sums.{ages_are, all_sum, at_key, in_slot, is_number, live_sum, none_beside, numbers_sum, pairs_sum, picked_sum, val}
 
 same_whole : (n : ℕ) → whole n ≡ rounded n
@@ -420,4 +420,53 @@ module _ (p : Parts) (ps : List Process) (names : Map Segment) (next : ℕ) (res
       let b = all_sum (larger names new) names in
       let c = aged (larger names new) in
       let d = over-le (memory_load s) (λ k. in_slot (λ j. larger names new (entry s j).age) k (slot_at s.entries k)) (length s.entries) (λ k l. load_least_slot new k) in
+      omega (arith, a, b, c, d)
+
+  -- By any weight of the numbers.
+
+  -- size, lock count and age of the segment of a name
+  pub name_facts : (n k : ℕ) → key_of s n ≡ Some k
+      → (size_of (get names n) ≡ (entry s k).size) × (is_locked (get names n) ≡ nat_lt 0 (entry s k).attr.lock) × ((entry s k).age ≡ n)
+  name_facts n k e =
+      let here : IsNamed p (Some k) (get names n) = subst (λ (o : Option ℕ). IsNamed p o (get names n)) e (stands.segments n) in
+      (name_size n k (get names n) here, locked_by (get names n) here, (found_at s n k e).1)
+    where
+      locked_by : (v : Option Segment) → IsNamed p (Some k) v → is_locked v ≡ nat_lt 0 (entry s k).attr.lock
+      locked_by None named = absurd named
+      locked_by (Some y) named = ap (λ (c : ℕ). nat_lt 0 c) named.lock
+
+  at_least_slot : (new : Map Segment) (list : List ℕ) (weight : ℕ → ℕ) → AreAtLeast s names new list weight → (k : ℕ)
+      → weight k ≤ in_slot (λ j. part_of names new list (entry s j).age) k (slot_at s.entries k)
+  at_least_slot new list weight w k = go (slot_at s.entries k) refl
+    where
+      go : (o : Option Entry) → slot_at s.entries k ≡ o → weight k ≤ in_slot (λ j. part_of names new list (entry s j).age) k o
+      go None q = (let z = w.none k q in omega (arith, z))
+      go (Some e) q = w.each (entry s k).age k (aged_key s k stands.ready.aged (ap is_some q))
+
+  -- what weighs no more than the names take is part of the room
+  pub room_at_least : (new : Map Segment) (list : List ℕ) (weight : ℕ → ℕ) → AreAtLeast s names new list weight → over weight (length s.entries) ≤ room_between names new list
+  room_at_least new list weight w =
+      let part : ℕ → ℕ = part_of names new list in
+      let a = front_le (larger names new) (counted new list) (numbers names) (filter (λ n. not (is_in n (numbers names))) (numbers new)) in
+      let b = picked_sum (larger names new) (counted new list) names in
+      let c = aged part in
+      let d = over-le weight (λ k. in_slot (λ j. part (entry s j).age) k (slot_at s.entries k)) (length s.entries) (λ k l. at_least_slot new list weight w k) in
+      omega (arith, a, b, c, d)
+
+  at_most_slot : (new : Map Segment) (list : List ℕ) (weight : ℕ → ℕ) → AreAtMost s names new list weight → (k : ℕ)
+      → in_slot (λ j. part_of names new list (entry s j).age) k (slot_at s.entries k) ≤ weight k
+  at_most_slot new list weight w k = go (slot_at s.entries k) refl
+    where
+      go : (o : Option Entry) → slot_at s.entries k ≡ o → in_slot (λ j. part_of names new list (entry s j).age) k o ≤ weight k
+      go None q = omega arith
+      go (Some e) q = w.each (entry s k).age k (aged_key s k stands.ready.aged (ap is_some q))
+
+  -- the room is no more than what weighs at least what the names take
+  pub room_at_most : (new : Map Segment) (list : List ℕ) (weight : ℕ → ℕ) → AreAtMost s names new list weight → room_between names new list ≤ over weight (length s.entries)
+  room_at_most new list weight w =
+      let part : ℕ → ℕ = part_of names new list in
+      let a = ap (λ (ns : List ℕ). sum (map (larger names new) (filter (counted new list) ns))) (both_old names new w.within) in
+      let b = picked_sum (larger names new) (counted new list) names in
+      let c = aged part in
+      let d = over-le (λ k. in_slot (λ j. part (entry s j).age) k (slot_at s.entries k)) weight (length s.entries) (λ k l. at_most_slot new list weight w k) in
       omega (arith, a, b, c, d)

@@ -1,12 +1,13 @@
 -- What a step needs of the memory, by names and by numbers of segments.
-use Rattle.std.specs.Prelude.{◌≡◌, ◌≤◌, ℕ, List, true, ◌||◌, nat_lt, max, Some, None, IsSome}
+use Rattle.std.specs.Prelude.{◌≡◌, ◌≤◌, ℕ, Bool, List, true, ◌||◌, nat_lt, max, if◌then◌else◌, Some, None, IsSome}
+use Rattle.o2_entries.specs.Tables.{slot_at}
 use Rattle.o2_place.specs.declared.seg_id.SegId.{SegId}
 use Rattle.o2_store.specs.Shelf.{Shelf, entry, place_of}
 use Rattle.o2_segbus.specs.Seen.{key_of}
 use Rattle.o2_service.specs.Needs.{AreLive, needs, size_in}
 use Rattle.o2_world.specs.Map.{Map, get}
 use Rattle.o2_world.specs.World.{Segment}
-use Rattle.o2_run.specs.Room.{is_in, is_locked, size_of}
+use Rattle.o2_run.specs.Room.{is_in, is_locked, larger, size_of}
 
 -- the names behind a step are those before it, some of which may have gone
 pub record IsWithin (old new : Map Segment) : Type 0 where
@@ -37,3 +38,20 @@ pub record IsAmong (s : Shelf) (new : Map Segment) (names : List ℕ) (need : Li
 pub record AreAllHere (s : Shelf) (old new : Map Segment) (names : List ℕ) : Type 0 where
   pub grows : NoneGrows s old new
   pub here : (n k : ℕ) → key_of s n ≡ Some k → (is_in n names || is_locked (get new n)) ≡ true → IsSome (place_of s k)
+
+-- what a name takes of the room of a step: it counts where the step needs it, or where it is locked before the step or behind it
+abbrev pub counts : Map Segment → Map Segment → List ℕ → ℕ → Bool
+counts old new names n = is_in n names || (is_locked (get old n) || is_locked (get new n))
+
+abbrev pub part_of : Map Segment → Map Segment → List ℕ → ℕ → ℕ
+part_of old new names n = if counts old new names n then larger old new n else 0
+
+-- No name takes more than the number of its segment weighs.
+pub record AreAtMost (s : Shelf) (old new : Map Segment) (names : List ℕ) (weight : ℕ → ℕ) : Type 0 where
+  pub within : IsWithin old new
+  pub each : (n k : ℕ) → key_of s n ≡ Some k → part_of old new names n ≤ weight k
+
+-- No number weighs more than the name of its segment takes, and one without a segment weighs nothing.
+pub record AreAtLeast (s : Shelf) (old new : Map Segment) (names : List ℕ) (weight : ℕ → ℕ) : Type 0 where
+  pub none : (k : ℕ) → slot_at s.entries k ≡ None → weight k ≡ 0
+  pub each : (n k : ℕ) → key_of s n ≡ Some k → weight k ≤ part_of old new names n

@@ -1,11 +1,12 @@
 // What follows where a machine over a store stands for a world, and what keeps that.
-ghost use Rattle.std.specs.Prelude.{◌≡◌, ◌≤◌, ℕ, Bool, true, List, Ok, Some, is_some, IsTrue};
+ghost use Rattle.std.specs.Prelude.{◌≡◌, ◌≤◌, ℕ, Bool, true, List, length, Ok, Some, is_some, IsTrue};
 ghost use Rattle.std.specs.List.{list_any};
 ghost use Rattle.o2_conf.specs.declared.script.Word.{Word as WordThere};
 ghost use Rattle.std.specs.Borrow.{GName};
 ghost use Rattle.o2_isa.specs.declared.cpu.Cpu.{Cpu as CpuThere};
 ghost use Rattle.o2_isa.specs.View.{Filling, Hidden, Rest, bound_registers};
 ghost use Rattle.o2_place.specs.declared.seg_id.SegId.{SegId as SegIdThere};
+ghost use Rattle.o2_place.specs.Layout.{over};
 ghost use Rattle.o2_regions.specs.Maps.{Maps};
 ghost use Rattle.o2_run.specs.Room.{load_between, room_between, swap_load as world_load};
 ghost use Rattle.o2_segbus.specs.declared.registers.SegmentRegisters.{SegmentRegisters as SegmentRegistersThere};
@@ -31,7 +32,7 @@ ghost use Rattle.o2_stands.specs.Stands.{AreLawful, IsReady, IsSetTo, IsTidy, St
 ghost use Rattle.o2_stands.specs.Moves.{AreWritten, moved, stepped_to, with_running};
 ghost use Rattle.o2_stands.specs.Views.{Fills, boundless_view, filled};
 ghost use Rattle.o2_stands.specs.Knows.{KnowsAs, known_in, others_of};
-ghost use Rattle.o2_stands.specs.Sums.{AreAllHere, IsAmong, NoneGrows, SaysNeed};
+ghost use Rattle.o2_stands.specs.Sums.{AreAllHere, AreAtLeast, AreAtMost, IsAmong, NoneGrows, SaysNeed};
 
 /// What the boundless machine sees of a process is what a bus shows of it, with all segments present, where a filling gives
 /// the bytes of those that are out of memory.
@@ -113,6 +114,12 @@ pub fn names_are_segments()
     ensures room_at_most { (p : Parts) (ps : List Process) (names behind : Map Segment) (next : ℕ) (reserved : List Reserve)
         (list : List ℕ) → AreLawful p.shelf p.maps → StandsIn p ps names next reserved
         → AreAllHere p.shelf names behind list → room_between names behind list ≤ p.shelf.places.size }
+    ensures weighs_at_least { (p : Parts) (ps : List Process) (names behind : Map Segment) (next : ℕ) (reserved : List Reserve)
+        (list : List ℕ) (weight : ℕ → ℕ) → AreLawful p.shelf p.maps → StandsIn p ps names next reserved
+        → AreAtLeast p.shelf names behind list weight → over weight (length p.shelf.entries) ≤ room_between names behind list }
+    ensures weighs_at_most { (p : Parts) (ps : List Process) (names behind : Map Segment) (next : ℕ) (reserved : List Reserve)
+        (list : List ℕ) (weight : ℕ → ℕ) → AreLawful p.shelf p.maps → StandsIn p ps names next reserved
+        → AreAtMost p.shelf names behind list weight → room_between names behind list ≤ over weight (length p.shelf.entries) }
     ensures live_at_least { (p : Parts) (ps : List Process) (names behind : Map Segment) (next : ℕ) (reserved : List Reserve)
         → AreLawful p.shelf p.maps → StandsIn p ps names next reserved
         → live_load p.shelf ≤ load_between names behind }

@@ -29,6 +29,7 @@ use Rattle.o2_stepping.specs.Ran.{IsStill, IsInPart, LeavesFault, AttemptFor, On
 use Rattle.o2_stepping.specs.declared.one_step.Attempt.{Attempt}
 use Rattle.o2_stepping.specs.declared.one_step.Attempt.TheVariants as attempt
 use Rattle.o2_stepping.proofs.Leaving.{effect_by, in_part}
+use Rattle.o2_stepping.proofs.Selectors.{call_stays}
 
 -- The instruction.
 
@@ -99,7 +100,7 @@ module _ (f : Filling) (number : ℕ) (input : List ℕ) (known : Known) (servic
       let b = before_call (boundless f v) number old input known in
       subst (λ (e : Effect). IsInPart e cpu old (whole f v).bytes (whole f new).bytes i j c d r q) (sym (effect_by b (Err (stop.Gate service next)) step))
       (in_part b (serviced b service next) cpu old (whole f v).bytes (whole f new).bytes i j c d r q
-      (record { cpu = part.cpu; bytes = whole_same f v new part.view; input = part.input; to_console = part.to_console; to_report = part.to_report; in_order = part.in_order }))
+      (record { cpu = part.cpu; bytes = whole_same f v new part.view; input = part.input; to_console = part.to_console; to_report = part.to_report; in_order = part.in_order; selectors = call_stays b service next }))
   fault_by v old (fault.Stopped halt.Input) step read unread = record {
     cause = record { next = next; calls = step ∙ ap (λ (n : ℕ). Err (stop.Gate n next)) read; asks_it = unread.cause };
     still = still_of f cpu old v new i j c d r q unread.untouched;

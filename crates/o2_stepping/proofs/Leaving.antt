@@ -101,6 +101,7 @@ in_part_more b e true true cpu before old new i j c d r q part = record {
   to_console = part.to_console;
   to_report = rw (more_lines e (Traps b.number 1 b.cpu.cs b.cpu.ip)) (puts_front _ _ r q part.to_report);
   in_order = part.in_order;
+  selectors = part.selectors;
 }
 in_part_more b e true false cpu before old new i j c d r q part = part
 in_part_more b e false live cpu before old new i j c d r q part = part

@@ -12,3 +12,5 @@ pub mod Trials
 pub mod Rounds
 pub mod Steps
 pub mod Puts
+pub mod Selectors
+pub mod NextRooms

@@ -20,7 +20,7 @@ use Rattle.o2_store.proofs.Loads.{same_live_load, same_swap_load}
 use Rattle.o2_stepping.specs.Shapes.{SameShape}
 use Rattle.o2_stepping.specs.Ran.{IsDone, OnMissed}
 use Rattle.o2_stepping.specs.declared.one_step.Ran.{Ran}
-use Rattle.o2_stepping.specs.Taken.{OnRan, OnSwapFault, TriedFor, Tries}
+use Rattle.o2_stepping.specs.Taken.{OnRan, OnSinkFault, OnSwapFault, TriedFor, Tries}
 use Rattle.o2_stepping.specs.Worlds.{before_in, bytes_with, world_view}
 use Rattle.o2_stepping.specs.declared.one_step.Attempt.{Attempt}
 use Rattle.o2_stepping.specs.declared.one_step.Attempt.TheVariants as attempt
@@ -57,6 +57,11 @@ missed_at P x s is h = subst (λ (z : Attempt). OnMissed (Ok z) P) is h
 
 pub ran_at : (P : Type 0) (x : Attempt) (r : Ran) → x ≡ attempt.Ran r → OnRan (Ok x) P → P
 ran_at P x r is h = subst (λ (z : Attempt). OnRan (Ok z) P) is h
+
+-- what holds where a sink failed
+pub at_sink : (P Q : Type 0) (f : Fault) → (P → Q) → OnSinkFault f P → OnSinkFault f Q
+at_sink P Q fault.Sink g h = g h
+at_sink P Q (fault.Stopped why) g h = tt
 
 -- at a stop, what holds of it
 pub at_stop : (P Q R A B C : Type 0) (f : Fault) → (P → A) → (Q → B) → (R → C) → OnSwapFault P Q R f → OnSwapFault A B C f

@@ -123,7 +123,7 @@ pub registers_are : (away : ℕ → List ℕ) (s : Shelf) (m : Maps) (pid : ℕ)
 unfolding seen_with
 registers_are away s m pid c = refl
 
-abbrev shown : Cpu → (ℕ → Option Hold) → (ℕ → ℕ) → (ℕ → List ℕ) → View
+abbrev pub shown : Cpu → (ℕ → Option Hold) → (ℕ → ℕ) → (ℕ → List ℕ) → View
 shown c holds sizes bytes = record {
   held = holds;
   gate = built_gates;

@@ -6,3 +6,4 @@ pub mod Rooms
 pub mod Shapes
 pub mod Taken
 pub mod Pieces
+pub mod Nexts

@@ -3,6 +3,7 @@ use Rattle.std.specs.Prelude.{◌⊎◌, ◌≡◌, ℕ, Bool, true, false, List
 use Rattle.o2_base.specs.declared.selector.Selector.{Selector}
 use Rattle.o2_outer.specs.Texts.{Gains, GainsSome, IsPrefix}
 use Rattle.o2_isa.specs.declared.cpu.Cpu.{Cpu}
+use Rattle.o2_isa.specs.Presence.{SameSelectors}
 use Rattle.o2_world.specs.World.{is_live}
 use Rattle.o2_world.specs.Calls.{Before, Effect}
 use Rattle.o2_world.specs.Effect.{AsksInput}
@@ -49,7 +50,7 @@ pub record IsUnread (b : Before) (registers : Cpu) (old new : ℕ → List ℕ)
   pub still : IsStill registers b.cpu old new left_old left_new console_old console_new report_old report_new
 
 -- a sink failed: registers and bytes are as before, the input is as before or as the effect leaves it, and both texts are fronts,
--- the report's only behind the whole piece
+-- the report's only behind the whole piece; the effect leaves the segment registers as they are
 pub record IsInPart (e : Effect) (registers before : Cpu) (old new : ℕ → List ℕ)
     (left_old left_new console_old console_new report_old report_new : Option (List ℕ)) : Type 0 where
   pub cpu : registers ≡ before
@@ -58,6 +59,7 @@ pub record IsInPart (e : Effect) (registers before : Cpu) (old new : ℕ → Lis
   pub to_console : GainsSome console_old console_new (λ front. IsPrefix front e.piece)
   pub to_report : GainsSome report_old report_new (λ front. IsPrefix front (lines_text e.lines))
   pub in_order : (report_new ≡ report_old) ⊎ Gains console_old console_new e.piece
+  pub selectors : SameSelectors e.cpu before
 
 -- a fault; a step stops for its input alone
 abbrev pub LeavesFault : Before → Effect → Cpu → (old new : ℕ → List ℕ)

@@ -55,6 +55,15 @@ abbrev pub OnSwapStop : {T : Type 0} → Result T Fault → (no_room swap_full s
 OnSwapStop (Ok x) room full device = Unit {0}
 OnSwapStop (Err f) room full device = OnSwapFault room full device f
 
+-- what holds where a sink failed
+abbrev pub OnSinkFault : Fault → Type 0 → Type 0
+OnSinkFault fault.Sink P = P
+OnSinkFault (fault.Stopped why) P = Unit {0}
+
+abbrev pub OnSink : {T : Type 0} → Result T Fault → Type 0 → Type 0
+OnSink (Ok x) P = Unit {0}
+OnSink (Err f) P = OnSinkFault f P
+
 -- what holds at each of these stops
 abbrev pub OnNoStep : {T : Type 0} → Result T Fault → Type 0 → Type 0
 OnNoStep r P = OnSwapStop r P P P

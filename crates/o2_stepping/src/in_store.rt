@@ -18,7 +18,7 @@ ghost use Rattle.o2_run.specs.Room.{touched};
 ghost use Rattle.o2_stepping.specs.Ran.{OnMissed};
 ghost use Rattle.o2_stepping.specs.Rooms.{AreNeeded, IsWanted, ages_of, all_names, needed_names, room_in, seated_in};
 ghost use Rattle.o2_stepping.specs.Shapes.{SameShape};
-ghost use Rattle.o2_stepping.specs.Taken.{IsSwapStop, OnDone, OnErr, OnNoStep, OnRan, OnSwapStop, TakenFor, Takes, TriedFor, Tries};
+ghost use Rattle.o2_stepping.specs.Taken.{IsSwapStop, OnDone, OnErr, OnNoStep, OnRan, OnSink, OnSwapStop, TakenFor, Takes, TriedFor, Tries};
 ghost use Rattle.o2_stepping.specs.Worlds.{away_of, before_in, bytes_with, parts_of};
 
 use crate::one_step::{Attempt, Ran};
@@ -135,6 +135,9 @@ fn serve_and_try<S: SwapDevice, I: Source, C: Sink, R: Sink>(
     ensures together { (bytes : List ℕ) (known : Known) → IsTrue (S.told swap.old)
         → let b = before_in (away_of store.old regions.old images.now (S.blocks swap.old) (S.block swap.old)) store.old regions.old pid cpu.old bytes known in
         OnRan result (ArePresent (seen store.new regions.new pid cpu.new) (all_names b (bound_registers (hold_in regions.new pid) cpu.new))) }
+    ensures in_part { (bytes : List ℕ) (known : Known) → IsTrue (S.told swap.old)
+        → let b = before_in (away_of store.old regions.old images.now (S.blocks swap.old) (S.block swap.old)) store.old regions.old pid cpu.old bytes known in
+        OnSink result (ArePresent (seen store.new regions.new pid cpu.new) (all_names b (bound_registers (hold_in regions.new pid) cpu.new))) }
     ensures still { OnMissed result (λ s. (cpu.new ≡ cpu.old)
         × (input.new ≡ input.old) × (console.new ≡ console.old) × (report.new ≡ report.old)) }
     ensures same { IsTrue (S.told swap.old) → OnMissed result (λ s. (n : ℕ)
@@ -204,6 +207,9 @@ pub fn step_in_store<S: SwapDevice, I: Source, C: Sink, R: Sink>(
     ensures room { (bytes : List ℕ) (known : Known) → IsTrue (S.told swap.old)
         → let b = before_in (away_of store.old regions.old images.now (S.blocks swap.old) (S.block swap.old)) store.old regions.old pid cpu.old bytes known in
         OnDone result (room_in store.old (all_names b (bound_registers (hold_in regions.new pid) cpu.new)) ≤ store.old.places.size) }
+    ensures room_in_part { (bytes : List ℕ) (known : Known) → IsTrue (S.told swap.old)
+        → let b = before_in (away_of store.old regions.old images.now (S.blocks swap.old) (S.block swap.old)) store.old regions.old pid cpu.old bytes known in
+        OnSink result (room_in store.old (all_names b (bound_registers (hold_in regions.new pid) cpu.new)) ≤ store.old.places.size) }
     ensures no_room { (bytes : List ℕ) (known : Known) → IsTrue (S.told swap.old)
         → let b = before_in (away_of store.old regions.old images.now (S.blocks swap.old) (S.block swap.old)) store.old regions.old pid cpu.old bytes known in
         OnSwapStop result (store.old.places.size < room_in store.old (needed_names b)) (Unit {0}) (Unit {0}) }
@@ -230,7 +236,10 @@ pub fn step_in_store<S: SwapDevice, I: Source, C: Sink, R: Sink>(
         match serve_and_try(
             &need, pid, cpu, store, regions, images, services, input, console, report, swap,
         ) {
-            Err(fault) => return Err(fault),
+            Err(fault) => {
+                store.law();
+                return Err(fault);
+            }
             Ok(Attempt::Ran(ran)) => {
                 store.law();
                 return Ok(ran);

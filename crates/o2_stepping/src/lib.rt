@@ -2,11 +2,13 @@
 #![tactic(auto)]
 
 mod in_store;
+mod laws;
 mod one_step;
 mod seats;
 mod tally;
 mod trying;
 
 pub use in_store::step_in_store;
+pub use laws::{rooms_are_those_of_the_world, steps_start_alike};
 pub use one_step::{Attempt, Ran, absent, run_one};
 pub use tally::Tally;

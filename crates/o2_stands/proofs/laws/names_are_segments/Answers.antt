@@ -1,4 +1,4 @@
-use Rattle.o2_stands.proofs.Rooms.{load_is, load_least, room_is, room_least, room_most, swap_is}
+use Rattle.o2_stands.proofs.Rooms.{load_is, load_least, room_at_least, room_at_most, room_is, room_least, room_most, swap_is}
 use Rattle.o2_stands.proofs.laws.names_are_segments.Goals as goal
 
 pub returns-clause-room : goal.returns-clause-room
@@ -18,3 +18,9 @@ returns-clause-room_at_most c = λ p ps names behind next reserved list lawful s
 
 pub returns-clause-live_at_least : goal.returns-clause-live_at_least
 returns-clause-live_at_least c = λ p ps names behind next reserved lawful stands. load_least p ps names next reserved lawful stands behind
+
+pub returns-clause-weighs_at_least : goal.returns-clause-weighs_at_least
+returns-clause-weighs_at_least c = λ p ps names behind next reserved list weight lawful stands w. room_at_least p ps names next reserved lawful stands behind list weight w
+
+pub returns-clause-weighs_at_most : goal.returns-clause-weighs_at_most
+returns-clause-weighs_at_most c = λ p ps names behind next reserved list weight lawful stands w. room_at_most p ps names next reserved lawful stands behind list weight w

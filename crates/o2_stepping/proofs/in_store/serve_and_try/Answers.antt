@@ -5,7 +5,7 @@ use Rattle.o2_world.specs.Effect.{effect}
 use Rattle.o2_run.specs.Room.{touched}
 use Rattle.o2_stepping.specs.Worlds.{away_of, before_in, bytes_with, world_view}
 use Rattle.o2_stepping.proofs.Keeping.{held_stays, marks_hold, ready_same, shape_trans, try_shape}
-use Rattle.o2_stepping.proofs.Trials.{away_same, map_missed, never_stops, no_cause, no_step, on_ran, stays_still, together, tried, tried_for, wanted}
+use Rattle.o2_stepping.proofs.Trials.{away_same, map_missed, never_stops, no_cause, no_sink, no_step, on_ran, stays_still, together, together_in_part, tried, tried_for, wanted}
 use Rattle.o2_stepping.proofs.Worlds.{away_kept, view_same, with_kept}
 use Rattle.o2_stepping.proofs.in_store.serve_and_try.Goals as goal
 
@@ -68,6 +68,22 @@ returns-clause-together g c = λ bytes known tells.
     let b : ℕ → List ℕ = away_of t c.bring_in.new.regions im (S.blocks c.bring_in.new.swap) (S.block c.bring_in.new.swap) in
     let view = view_same a b s t c.args.regions.now c.bring_in.new.regions c.args.pid c.args.cpu.now c.bring_in.ensures.shape.tables c.bring_in.ensures.shape.holds (c.bring_in.ensures.bytes tells) in
     together a b b s t u c.args.regions.now c.bring_in.new.regions c.args.pid c.args.cpu.now bytes known view c.try_step.new.regions c.try_step.new.cpu c.try_step.result
+    c.try_step.ensures.store (c.in-Ok.ensures.can_step refl) c.try_step.ensures.next (c.try_step.ensures.over.present b bytes known)
+
+pub returns-in-Err-clause-in_part : goal.returns-in-Err-clause-in_part
+returns-in-Err-clause-in_part g c = λ bytes known tells. no_sink _ c.in-Err.fault c.in-Err.ensures.kind
+
+pub returns-clause-in_part : goal.returns-clause-in_part
+returns-clause-in_part g c = λ bytes known tells.
+    let S = g.S.SwapDevice in
+    let s = c.args.store.now in
+    let t = c.bring_in.new.store in
+    let u = c.try_step.new.store in
+    let im = c.args.images.now in
+    let a : ℕ → List ℕ = away_of s c.args.regions.now im (S.blocks c.args.swap.now) (S.block c.args.swap.now) in
+    let b : ℕ → List ℕ = away_of t c.bring_in.new.regions im (S.blocks c.bring_in.new.swap) (S.block c.bring_in.new.swap) in
+    let view = view_same a b s t c.args.regions.now c.bring_in.new.regions c.args.pid c.args.cpu.now c.bring_in.ensures.shape.tables c.bring_in.ensures.shape.holds (c.bring_in.ensures.bytes tells) in
+    together_in_part a b b s t u c.args.regions.now c.bring_in.new.regions c.args.pid c.args.cpu.now bytes known view c.try_step.new.regions c.try_step.new.cpu c.try_step.result
     c.try_step.ensures.store (c.in-Ok.ensures.can_step refl) c.try_step.ensures.next (c.try_step.ensures.over.present b bytes known)
 
 pub returns-clause-stopped : goal.returns-clause-stopped

@@ -24,7 +24,7 @@ use Rattle.o2_stepping.proofs.Keeping.{shape_refl, shape_trans}
 use Rattle.o2_stepping.proofs.Lefts.{in_more, left_less, left_most, touched_few}
 use Rattle.o2_stepping.proofs.Rounds.{ages_seated, lacks_room, length_one, length_some, no_place, own_in, live_more, live_pair, live_seated, named_more, needed_all, needed_more, none_more, none_pair, none_seated, seated_few, seated_same}
 use Rattle.o2_stepping.proofs.Named.{both_in, or_front, or_back}
-use Rattle.o2_stepping.proofs.Steps.{at_stop, first_from, missed_at, full_then, ran_at, ran_cause, ran_tries, tries_from}
+use Rattle.o2_stepping.proofs.Steps.{at_sink, at_stop, first_from, missed_at, full_then, ran_at, ran_cause, ran_tries, tries_from}
 use Rattle.o2_stepping.proofs.Rooms.{room_fits, room_same}
 use Rattle.o2_stepping.proofs.Worlds.{registers_are, seen_present, view_same}
 use Rattle.o2_stepping.proofs.in_store.step_in_store.Goals as goal
@@ -255,10 +255,40 @@ returns-in-Ok-Ran-clause-room g c = λ bytes known tells.
     (first_from a b s t m n pid cpu bytes known (view_same a b s t m n pid cpu i.shape.tables i.shape.holds (i.bytes tells)) (i.bytes tells) c.tries.cpu i.cpu)
     (ran_at _ c.in-Ok-Ran.field-0 c.in-Ok-Ran.ran c.in-Ok-Ran.field-0-is (e.together bytes known (subst IsTrue (sym i.told) tells))) in
     let w = shape_trans s t u m n o i.shape e.shape in
-    let fits = room_fits u names c.law.ensures.shelf e.ready.aged (seen_present u o pid d names here) c.law.ensures.sum c.law.ensures.room in
+    let fits = room_fits u names c.law-in-Ok-Ran.ensures.shelf e.ready.aged (seen_present u o pid d names here) c.law-in-Ok-Ran.ensures.sum c.law-in-Ok-Ran.ensures.room in
     let same = room_same s u names w.tables in
     let size = w.tables.size in
     omega (arith, fits, same, size)
+
+pub returns-in-Err-clause-room_in_part : goal.returns-in-Err-clause-room_in_part
+returns-in-Err-clause-room_in_part g c = λ bytes known tells.
+    let S = g.S.SwapDevice in
+    let i = c.tries.invariant in
+    let s = c.args.store.now in
+    let t = c.tries.store in
+    let m = c.args.regions.now in
+    let n = c.tries.regions in
+    let im = c.args.images.now in
+    let pid = c.args.pid in
+    let cpu = c.args.cpu.now in
+    let a : ℕ → List ℕ = away_of s m im (S.blocks c.args.swap.now) (S.block c.args.swap.now) in
+    let b : ℕ → List ℕ = away_of t n im (S.blocks c.tries.swap) (S.block c.tries.swap) in
+    let u = c.serve_and_try.new.store in
+    let o = c.serve_and_try.new.regions in
+    let d = c.serve_and_try.new.cpu in
+    let e = c.in-Err.ensures in
+    let z : Before = before_in a s m pid cpu bytes known in
+    let names = all_names z (bound_registers (hold_in o pid) d) in
+    let w = shape_trans s t u m n o i.shape e.shape in
+    let same = room_same s u names w.tables in
+    let size = w.tables.size in
+    let first = first_from a b s t m n pid cpu bytes known (view_same a b s t m n pid cpu i.shape.tables i.shape.holds (i.bytes tells)) (i.bytes tells) c.tries.cpu i.cpu in
+    let start : Before = before_in b t n pid c.tries.cpu bytes known in
+    at_sink (ArePresent (seen u o pid d) (all_names start (bound_registers (hold_in o pid) d))) (room_in s names ≤ s.places.size) c.in-Err.fault
+    (λ x.
+    (let here = subst (λ (y : Before). ArePresent (seen u o pid d) (all_names y (bound_registers (hold_in o pid) d))) first x in
+    let fits = room_fits u names c.law.ensures.shelf e.ready.aged (seen_present u o pid d names here) c.law.ensures.sum c.law.ensures.room in
+    omega (arith, fits, same, size))) (e.in_part bytes known (subst IsTrue (sym i.told) tells))
 
 pub returns-then-not-add_missed-clause-takes : goal.returns-then-not-add_missed-clause-takes
 returns-then-not-add_missed-clause-takes g c = λ bytes known tells left same.
