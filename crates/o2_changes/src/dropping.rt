@@ -41,8 +41,8 @@ fn holds_at(regions: &Regions, pid: u16, index: u16) -> bool
     regions.held(pid, index).is_some()
 }
 
-// Whether a process holds an index of those that all share.
-fn is_shared_held(regions: &Regions, index: u16) -> bool
+/// Whether a process holds an index of those that all share.
+pub fn is_shared_held(regions: &Regions, index: u16) -> bool
     requires { index < 8192 }
     ensures { result ≡ some_holds regions.now index regions.now.processes }
 {

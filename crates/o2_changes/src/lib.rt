@@ -5,6 +5,6 @@ mod dropping;
 mod holding;
 mod segments;
 
-pub use dropping::{drop_hold, free_index, is_unheld, let_go, sweep};
+pub use dropping::{drop_hold, free_index, is_shared_held, is_unheld, let_go, sweep};
 pub use holding::{hold_more, hold_new, region_of};
 pub use segments::{bring_in, make, resize, set_lock, unmake};

@@ -1,6 +1,7 @@
 -- What the machine goes by, and what it stands for, behind the end of a process.
-use Rattle.std.proofs.Common.{◌≡◌, ◌≢◌, ℕ, ◌+◌, ◌<◌, inl, inr, Bool, true, false, cond, ◌&&◌, List, [], length, get_or, Option, Some, None, is_some, IsSome, refl, sym, ap, ◌∙◌, subst, arith, if◌then◌else◌, option_map}
+use Rattle.std.proofs.Common.{◌≡◌, ◌≢◌, ℕ, ◌+◌, ◌<◌, inl, inr, Bool, true, false, cond, ◌&&◌, ◌||◌, not, List, [], length, get_or, Option, Some, None, is_some, IsSome, refl, sym, ap, ◌∙◌, subst, arith, if◌then◌else◌, option_map}
 use Rattle.std.specs.Prelude.{nat_lt, ◌==◌}
+use Rattle.std.specs.List.{list_any}
 use Rattle.std.proofs.lemmas.Bool.{cases_eq, cases_lt, false≢true, eq-eqb, ne_eqb}
 use Rattle.std.proofs.lemmas.List.{get_or_past}
 use Rattle.o2_desc.specs.declared.descriptor.Descriptor.{Descriptor}
@@ -9,13 +10,15 @@ use Rattle.o2_desc.specs.Bytes.{empty}
 use Rattle.o2_entries.specs.declared.Entry.{Entry}
 use Rattle.o2_entries.specs.Tables.{slot_at}
 use Rattle.o2_place.specs.declared.seg_id.SegId.{SegId}
+use Rattle.o2_regions.specs.declared.held.Cause.{Cause}
+use Rattle.o2_regions.specs.declared.held.Cause.TheVariants.{Alias, Called, Loaded}
 use Rattle.o2_regions.specs.declared.held.Held.{Held}
 use Rattle.o2_regions.specs.declared.held.Region.{Region}
 use Rattle.o2_regions.specs.declared.held.Region.TheVariants.{Private, Shared}
 use Rattle.o2_regions.specs.Kept.{AreKept}
 use Rattle.o2_regions.specs.Lives.{lives}
-use Rattle.o2_regions.specs.Maps.{Maps, held_at, is_held as is_held_in, is_reserved, is_taken}
-use Rattle.o2_regions.proofs.Reserves.{held_reserved}
+use Rattle.o2_regions.specs.Maps.{Maps, held_at, is_held as is_held_in, is_reserved, is_taken, some_holds}
+use Rattle.o2_regions.proofs.Reserves.{held_reserved, is_shared}
 use Rattle.o2_segbus.specs.Guards.{AreAged}
 use Rattle.o2_segbus.specs.Seen.{key_of}
 use Rattle.o2_segbus.specs.Settled.{Describes, IsSettled, IsSettledAt, descriptor_at}
@@ -26,21 +29,22 @@ use Rattle.o2_store.specs.Shelf.{AreClean, IsShelf, Pictures, Shelf, entry, entr
 use Rattle.o2_swapmap.specs.Piles.{Blocks}
 use Rattle.o2_world.specs.Holders.{is_held, kept, process_at, with_process}
 use Rattle.o2_world.specs.Changes.{used}
-use Rattle.o2_world.specs.Known.{held_at as world_held}
+use Rattle.o2_world.specs.Known.{held_at as world_held, holds_index, reserves}
 use Rattle.o2_world.specs.Map.{Map, get}
 use Rattle.o2_world.specs.World.{Held as WorldHeld, Process, Reserve, Segment, is_live}
-use Rattle.o2_stands.specs.Parts.{Parts, Running, goes_on, held_in, held_of, running_of}
-use Rattle.o2_stands.specs.Stands.{AreMarked, IsIndex, IsNamed, IsReady, IsSegment, IsTidy, StandsIn, number_of, taken_by}
+use Rattle.o2_stands.specs.Parts.{Parts, Running, cause_of, goes_on, held_in, held_of, running_of}
+use Rattle.o2_stands.specs.Stands.{AreMarked, IsIndex, IsNamed, IsReady, IsSegment, IsTidy, StandsIn, is_by_load, number_of, taken_by}
 use Rattle.o2_stands.specs.Moves.{stepped_to, with_running}
 use Rattle.o2_stands.proofs.Moves.{index_same}
 use Rattle.o2_stands.proofs.Rooms.{found_at}
 use Rattle.o2_ends.specs.Ended.{StandsBehind}
-use Rattle.o2_ends.specs.LetsGo.{KeepsSegment, LetsGo, Sheds, is_own, some_has}
+use Rattle.o2_ends.specs.LetsGo.{KeepsSegment, LetsGo, Sheds, is_free, is_loaded, not_by_load, some_has}
 use Rattle.o2_ends.proofs.Holders.{has_there, holder_of, id_same, some_is}
-use Rattle.o2_ends.proofs.Letting.{held_before, held_behind, live_id}
+use Rattle.o2_ends.proofs.Letting.{held_before, held_behind, live_id, some_all}
 use Rattle.o2_stands.proofs.Running.{running_put, running_ready}
 use Rattle.o2_stands.proofs.Worlds.{holds_of, name_held}
-use Rattle.o2_ends.proofs.Worlds.{absorbed, held_here, held_other, kept_is, private_taken, shared_taken, tidy_behind, used_all}
+use Rattle.o2_ends.proofs.Worlds.{absorbed, held_here, held_other, kept_is, or_right, private_taken, run_reserves, tidy_behind, used_all}
+use Rattle.o2_changes.proofs.Worlds.{index_held}
 
 none_some : {X : Type 0} (x : X) → None ≡ Some x → ⊥
 none_some x e = cc
@@ -178,6 +182,12 @@ in_back n q i x e = go (held_at n q i) refl e
     go : (o : Option Held) → held_at n q i ≡ o → option_map (held_of n q i) o ≡ Some x → IsIn n q i x
     go None f g = absurd (none_some x g)
     go (Some h) f g = record { hold = h; there = f; name = ap (λ (y : WorldHeld). y.name) (some_is (held_of n q i h) x g) }
+
+-- a cause of a world is by load where that of the maps is
+by_load : (c : Cause) → is_by_load (cause_of c) ≡ is_loaded c
+by_load Loaded = refl
+by_load Called = refl
+by_load Alias = refl
 
 taken_is : (m : Maps) (g : Region) (i : ℕ) → AreKept m → IsIndex m g i → is_taken m g i ≡ is_reserved m g i
 taken_is m g i kept x = absorbed (is_held_in m g i) (is_reserved m g i) (λ e. held_reserved m g i kept x.from x.to e)
@@ -324,20 +334,54 @@ module _ (p : Parts) (s : Shelf) (m : Maps) (t : Shelf) (n : Maps) (pid : ℕ) (
       before : (g : Region) → IsIndex m g i → taken_by ps reserved (number_of g) i ≡ is_reserved m g i
       before g z = stands.taken g i z ∙ taken_is m g i old z
 
-      by_region : (g : Region) → IsIndex m g i → taken_by qs reserved (number_of g) i ≡ (if is_own pid g && (true && is_some (held_at m pid i)) then false else is_reserved m g i)
-      by_region Shared z =
-          shared_taken qs (kept qs names) reserved i z.from (tidy_behind ps names reserved pid x q there none stands.tidy)
-          ∙ (sym (shared_taken ps names reserved i z.from stands.tidy) ∙ before Shared z)
+      by_region : (g : Region) → IsIndex m g i → taken_by qs reserved (number_of g) i ≡ (if true && is_free n pid g i (held_at m pid i) then false else is_reserved m g i)
+      by_region Shared z = by_hold (held_at m pid i) refl
+        where
+          now : holds_index qs i ≡ some_holds n i n.processes
+          now = index_held qs n i new (λ a. ap is_some (holds a i) ∙ some_in n a i)
+
+          was : holds_index ps i ≡ some_holds m i m.processes
+          was = index_held ps m i old (λ a. ap is_some (stands.held a i) ∙ some_in m a i)
+
+          -- where it held something there
+          marked : (h : Held) → held_at m pid i ≡ Some h → is_reserved m Shared i ≡ true
+          marked h e = ap (λ (r : Region). is_reserved m r i) (sym (is_shared pid i z.from)) ∙ old.covered pid i h e
+
+          held_there : (h : Held) → held_at m pid i ≡ Some h → world_held ps pid i ≡ Some (held_of m pid i h)
+          held_there h e = stands.held pid i ∙ in_some m pid i h e
+
+          by_cause : (h : Held) → held_at m pid i ≡ Some h → (load held : Bool) → is_loaded h.cause ≡ load → some_holds n i n.processes ≡ held
+              → (holds_index qs i || list_any (reserves 0 i) reserved) ≡ cond (not load && not held) false (is_reserved m Shared i)
+          by_cause h e true held f g =
+              or_right (holds_index qs i) (list_any (reserves 0 i) reserved)
+              (run_reserves reserved i (stands.tidy.shared pid i (held_of m pid i h) z.from (held_there h e) (by_load h.cause ∙ f)))
+              ∙ sym (marked h e)
+          by_cause h e false true f g = ap (λ (b : Bool). b || list_any (reserves 0 i) reserved) (now ∙ g) ∙ sym (marked h e)
+          by_cause h e false false f g =
+              ap (λ (b : Bool). b || list_any (reserves 0 i) reserved) (now ∙ g)
+              ∙ stands.tidy.free pid i (held_of m pid i h) z.from (held_there h e) (by_load h.cause ∙ f)
+
+          by_hold : (o : Option Held) → held_at m pid i ≡ o
+              → (holds_index qs i || list_any (reserves 0 i) reserved) ≡ cond (not_by_load o && not (some_holds n i n.processes)) false (is_reserved m Shared i)
+          by_hold (Some h) e = by_cause h e (is_loaded h.cause) (some_holds n i n.processes) refl refl
+          by_hold None e = ap (λ (b : Bool). b || list_any (reserves 0 i) reserved) (now ∙ (some_all m n i w.processes same ∙ sym was)) ∙ before Shared z
+            where
+              same : (a : ℕ) → held_at n a i ≡ held_at m a i
+              same a = elim (cases_eq a pid) [
+                | inl here ↦ ap (λ (b : ℕ). held_at n b i) here ∙ (nothing i ∙ sym (ap (λ (b : ℕ). held_at m b i) here ∙ e))
+                | inr apart ↦ other_held a i apart
+              ]
       by_region (Private a) z =
           private_taken qs reserved a i z.region.0 stands.tidy.stay
           ∙ (ap is_some (holds a i) ∙ (some_in n a i ∙ elim (cases_eq a pid) [
             | inl same ↦
                 ap is_some (ap (λ (b : ℕ). held_at n b i) same ∙ nothing i)
-                ∙ (sym (ends (is_some (held_at m pid i)) (is_reserved m (Private a) i) (was same)) ∙ ap (λ (b : Bool). if b && (true && is_some (held_at m pid i)) then false else is_reserved m (Private a) i) (sym (eq-eqb a pid same)))
+                ∙ (sym (ends (is_some (held_at m pid i)) (is_reserved m (Private a) i) (was same)) ∙ ap (λ (b : Bool). if is_some (held_at m pid i) && b then false else is_reserved m (Private a) i) (sym (eq-eqb a pid same)))
             | inr apart ↦
                 ap is_some (other_held a i apart)
                 ∙ (sym (some_in m a i) ∙ (ap is_some (sym (stands.held a i)) ∙ (sym (private_taken ps reserved a i z.region.0 stands.tidy.stay) ∙ (before (Private a) z
-                ∙ ap (λ (b : Bool). if b && (true && is_some (held_at m pid i)) then false else is_reserved m (Private a) i) (sym (ne_eqb a pid apart))))))
+                ∙ (idle (is_some (held_at m pid i)) (is_reserved m (Private a) i)
+                ∙ ap (λ (b : Bool). if is_some (held_at m pid i) && b then false else is_reserved m (Private a) i) (sym (ne_eqb a pid apart)))))))
           ]))
         where
           was : a ≡ pid → is_reserved m (Private a) i ≡ is_some (held_at m pid i)
@@ -345,9 +389,13 @@ module _ (p : Parts) (s : Shelf) (m : Maps) (t : Shelf) (n : Maps) (pid : ℕ) (
               sym (before (Private a) z)
               ∙ (private_taken ps reserved a i z.region.0 stands.tidy.stay ∙ (ap is_some (stands.held a i) ∙ (some_in m a i ∙ ap (λ (b : ℕ). is_some (held_at m b i)) same)))
 
-          ends : (b r : Bool) → r ≡ b → (if true && (true && b) then false else r) ≡ false
+          ends : (b r : Bool) → r ≡ b → (if b && true then false else r) ≡ false
           ends true r e = refl
           ends false r e = e
+
+          idle : (b r : Bool) → r ≡ (if b && false then false else r)
+          idle true r = refl
+          idle false r = refl
 
   pub stands_behind : StandsIn behind qs (kept qs names) next (used qs reserved)
   stands_behind = record {

@@ -1,21 +1,22 @@
 -- Drops at one index, and the end of its reservation.
-use Rattle.std.proofs.Common.{◌≡◌, ◌≢◌, ℕ, ◌+◌, ◌-◌, ◌<◌, inl, inr, Bool, true, false, cond, ◌&&◌, List, length, set, get_or, Option, Some, None, refl, sym, ap, ◌∙◌, subst, arith}
+use Rattle.std.proofs.Common.{◌≡◌, ◌≢◌, ℕ, ◌+◌, ◌-◌, ◌<◌, ◌≤◌, inl, inr, Bool, true, false, cond, ◌&&◌, not, List, length, set, get_or, Option, Some, None, refl, sym, ap, ◌∙◌, subst, arith}
 use Rattle.std.specs.Prelude.{nat_lt, nat_le, ◌==◌, if◌then◌else◌, IfSome}
 use Rattle.std.proofs.lemmas.Bool.{cases_eq, cases_lt, eq-eqb, ne_eqb}
 use Rattle.std.proofs.lemmas.List.{get_or_past, get_or-set_other, get_or-set_same, length-set}
 use Rattle.o2_desc.specs.declared.descriptor.Descriptor.{Descriptor}
 use Rattle.o2_desc.specs.Bytes.{empty}
+use Rattle.o2_regions.specs.declared.held.Cause.{Cause}
 use Rattle.o2_regions.specs.declared.held.Held.{Held}
 use Rattle.o2_regions.specs.declared.held.Region.{Region}
 use Rattle.o2_regions.specs.declared.held.Region.TheVariants.{Private, Shared}
 use Rattle.o2_regions.specs.Kept.{AreKept}
-use Rattle.o2_regions.specs.Maps.{IsProcess, Maps, dropped, emptied, held_at, is_reserved, less_of, same_region, table_of, with_reserved}
+use Rattle.o2_regions.specs.Maps.{IsProcess, Maps, dropped, emptied, held_at, is_reserved, less_of, same_region, some_holds, table_of, with_reserved}
 use Rattle.o2_regions.proofs.AfterCalls.{dropped-processes, dropped-reserved, held_at-dropped, table_of-dropped}
 use Rattle.o2_regions.proofs.Reserves.{is_reserved-with}
 use Rattle.o2_segbus.specs.Settled.{descriptor_at}
 use Rattle.o2_stands.specs.Stands.{IsIndex}
 use Rattle.o2_ends.specs.Drops.{Drops, Empties, left_after}
-use Rattle.o2_ends.specs.LetsGo.{Releases, is_own}
+use Rattle.o2_ends.specs.LetsGo.{Frees, FreesShared, Releases, is_left, is_loaded, is_own}
 
 -- the descriptor of an index that was emptied or not
 emptied_entry : (t : List Descriptor) (i j : ℕ) → get_or (set t i empty) j empty ≡ (if j == i then empty else get_or t j empty)
@@ -177,6 +178,73 @@ unreleased m pid i out = record { maps = refl; reserved = λ g j x. go g j x }
         none : (b r : Bool) → r ≡ cond (b && false) false r
         none true r = refl
         none false r = refl
+
+-- A shared index.
+
+unfreed : (b : Bool) (r : Bool) → r ≡ cond (b && false) false r
+unfreed true r = refl
+unfreed false r = refl
+
+kept_shared : (m : Maps) (i : ℕ) (cause : Cause) → is_left m i cause ≡ false → FreesShared m m i cause
+kept_shared m i cause e = record {
+  maps = refl;
+  own = λ q j x. refl;
+  shared = λ j x. unfreed (j == i) (is_reserved m Shared j) ∙ ap (λ (b : Bool). if (j == i) && b then false else is_reserved m Shared j) (sym e);
+}
+
+pub loaded_shared : (m : Maps) (i : ℕ) (cause : Cause) → is_loaded cause ≡ true → FreesShared m m i cause
+loaded_shared m i cause e = kept_shared m i cause (ap (λ (b : Bool). not b && not (some_holds m i m.processes)) e)
+
+pub held_shared : (m : Maps) (i : ℕ) (cause : Cause) → some_holds m i m.processes ≡ true → FreesShared m m i cause
+held_shared m i cause e = kept_shared m i cause (ap (λ (b : Bool). not (is_loaded cause) && not b) e ∙ none (not (is_loaded cause)))
+  where
+    none : (b : Bool) → (b && false) ≡ false
+    none true = refl
+    none false = refl
+
+pub freed_shared : (m : Maps) (i : ℕ) (cause : Cause) → AreKept m → 4096 ≤ i → i < 8192 → is_loaded cause ≡ false → some_holds m i m.processes ≡ false
+    → FreesShared m (with_reserved m Shared i 1 false) i cause
+freed_shared m i cause kept high low load none = record {
+  maps = refl;
+  own = λ q j x. is_reserved-with m Shared (Private q) i 1 j false kept tt x.region (omega (arith, low));
+  shared = λ j x.
+      is_reserved-with m Shared Shared i 1 j false kept tt x.region (omega (arith, low))
+      ∙ (ap (λ (b : Bool). if b then false else is_reserved m Shared j) (one_index i j ∙ sym (and_true (j == i)))
+      ∙ ap (λ (b : Bool). if (j == i) && b then false else is_reserved m Shared j) (sym left));
+}
+  where
+    left : is_left m i cause ≡ true
+    left = ap (λ (b : Bool). not b && not (some_holds m i m.processes)) load ∙ ap not none
+
+    and_true : (b : Bool) → (b && true) ≡ b
+    and_true true = refl
+    and_true false = refl
+
+-- An index of either region.
+
+pub own_freed : (m n : Maps) (pid i : ℕ) (cause : Cause) → i < 4096 → Releases m n pid i → Frees m n pid i cause
+own_freed m n pid i cause low r = record {
+  maps = r.maps;
+  own = λ q j x. r.reserved (Private q) j x ∙ ap (λ (b : Bool). if b then false else is_reserved m (Private q) j) (turned (q == pid) (j == i));
+  shared = λ j x.
+      r.reserved Shared j x
+      ∙ ap (λ (b : Bool). if b && is_left m i cause then false else is_reserved m Shared j) (sym (ne_eqb j i (λ e. (let a = x.from in absurd (omega (arith, a, e, low))))));
+}
+  where
+    turned : (a b : Bool) → (a && b) ≡ (b && a)
+    turned true true = refl
+    turned true false = refl
+    turned false true = refl
+    turned false false = refl
+
+pub shared_freed : (m n : Maps) (pid i : ℕ) (cause : Cause) → 4096 ≤ i → FreesShared m n i cause → Frees m n pid i cause
+shared_freed m n pid i cause high r = record {
+  maps = r.maps;
+  own = λ q j x.
+      r.own q j x
+      ∙ ap (λ (b : Bool). if b && (q == pid) then false else is_reserved m (Private q) j) (sym (ne_eqb j i (λ e. (let a = x.to in absurd (omega (arith, a, e, high))))));
+  shared = r.shared;
+}
 
 -- what is said of all holds
 pub all_of_it : (o : Option Held) (was : Held) (holds : ℕ) → IfSome o (λ h. h.holds ≡ holds) → o ≡ Some was → was.holds ≡ holds

@@ -11,7 +11,7 @@ use Rattle.o2_world.specs.Sound.{held_of}
 use Rattle.o2_world.specs.World.{Held, Process, Reserve, Segment}
 use Rattle.o2_world.proofs.MapLemmas.{get-filter}
 use Rattle.o2_stands.specs.Stands.{AllStay, AreOnce, IsTidy, taken_by}
-use Rattle.o2_stands.proofs.Worlds.{HoldsIndex, index_held, number_is, put_here, put_other}
+use Rattle.o2_stands.proofs.Worlds.{put_here, put_other}
 
 -- The process that has ended.
 
@@ -62,11 +62,11 @@ no_own (r ∷ rs) a i some all =
     let t : (r.region == a) ≡ false = ne_eqb r.region a (λ z. absurd (omega (arith, x, z, some))) in
     ap (λ (b : Bool). (b && (nat_le r.first i && nat_lt i (r.first + r.count))) || list_any (reserves a i) rs) t ∙ no_own rs a i some all.1
 
-or_right : (a b : Bool) → b ≡ true → (a || b) ≡ true
+pub or_right : (a b : Bool) → b ≡ true → (a || b) ≡ true
 or_right true b e = refl
 or_right false b e = e
 
-run_reserves : (rs : List Reserve) (i : ℕ) → list_any (is_for_the_run i) rs ≡ true → list_any (reserves 0 i) rs ≡ true
+pub run_reserves : (rs : List Reserve) (i : ℕ) → list_any (is_for_the_run i) rs ≡ true → list_any (reserves 0 i) rs ≡ true
 run_reserves [] i e = absurd (false≢true e)
 run_reserves (r ∷ rs) i e = go r.stays (reserves 0 i r) e (run_reserves rs i)
   where
@@ -88,11 +88,8 @@ private_taken ps rs a i some all =
     or_false true = refl
     or_false false = refl
 
-pub shared_taken : (ps : List Process) (names : Map Segment) (rs : List Reserve) (i : ℕ) → 4096 ≤ i → IsTidy ps names rs → taken_by ps rs 0 i ≡ list_any (reserves 0 i) rs
-shared_taken ps names rs i high tidy = absorbed (holds_index ps i) (list_any (reserves 0 i) rs) (λ e. held (index_held ps i e))
-  where
-    held : HoldsIndex ps i → list_any (reserves 0 i) rs ≡ true
-    held x = run_reserves rs i (tidy.shared (x.place + 1) i high (ap (λ (o : Option Process). is_some (held_of o i)) (number_is ps x.place) ∙ x.there))
+no_hold : (h : Held) → ◌≡◌ {A = Option Held} None (Some h) → ⊥
+no_hold h e = cc
 
 -- The world is tidy.
 pub tidy_behind : (ps : List Process) (names : Map Segment) (rs : List Reserve) (pid : ℕ) (x q : Process) → process_at ps pid ≡ Some x → q.held ≡ [] → IsTidy ps names rs
@@ -105,9 +102,13 @@ tidy_behind ps names rs pid x q there none tidy = record {
     | inr other ↦ held_other ps pid x q there n i other ∙ tidy.ended n i (ap lives_at (sym (put_other ps pid x q there n other)) ∙ e)
   ];
   stay = tidy.stay;
-  shared = λ n i high e. elim (cases_eq n pid) [
-    | inl same ↦ absurd (false≢true (ap is_some (sym (ap (λ (a : ℕ). held_at qs a i) same ∙ held_here ps pid x q there none i)) ∙ e))
-    | inr other ↦ tidy.shared n i high (ap is_some (sym (held_other ps pid x q there n i other)) ∙ e)
+  shared = λ n i h high e load. elim (cases_eq n pid) [
+    | inl same ↦ absurd (no_hold h (sym (ap (λ (a : ℕ). held_at qs a i) same ∙ held_here ps pid x q there none i) ∙ e))
+    | inr other ↦ tidy.shared n i h high (sym (held_other ps pid x q there n i other) ∙ e) load
+  ];
+  free = λ n i h high e other_cause. elim (cases_eq n pid) [
+    | inl same ↦ absurd (no_hold h (sym (ap (λ (a : ℕ). held_at qs a i) same ∙ held_here ps pid x q there none i) ∙ e))
+    | inr other ↦ tidy.free n i h high (sym (held_other ps pid x q there n i other) ∙ e) other_cause
   ];
 }
   where

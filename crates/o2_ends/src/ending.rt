@@ -11,12 +11,13 @@ ghost use Rattle.o2_stands.specs.Stands.{AreMarked};
 ghost use Rattle.o2_ends.specs.Ended.{StandsBehind};
 ghost use Rattle.o2_ends.specs.LetsGo.{LetsGo, Sheds};
 
-use crate::drops::{drop_all, release_own};
+use crate::drops::{drop_all, release};
 use o2_regions::{Ends, Regions};
 use o2_store::Store;
 
 /// A process lets go of what it holds at an index: its holds there and its descriptor, and the index itself, where that is one
-/// of its own. The segment goes too, with its range and its blocks, where nobody holds it any more.
+/// of its own, or a shared one that it didn't hold by load and that nobody holds any more. The segment goes too, with its range
+/// and its blocks, where nobody holds it any more.
 fn let_go_at(pid: u16, index: u16, store: &mut Store, regions: &mut Regions)
     requires process { IsProcess regions.old pid }
     requires index { index < 8192 }
@@ -31,7 +32,7 @@ fn let_go_at(pid: u16, index: u16, store: &mut Store, regions: &mut Regions)
         return;
     };
     drop_all(regions, pid, index, held.holds);
-    release_own(regions, pid, index);
+    release(regions, pid, index, held.cause);
     regions.law();
     if regions.holder(held.id, 0).is_none() {
         store.remove(held.id);
@@ -40,7 +41,8 @@ fn let_go_at(pid: u16, index: u16, store: &mut Store, regions: &mut Regions)
 }
 
 /// A process lets go of all that it holds. Segments that nobody holds any more go, with their ranges and their blocks, and the
-/// process's own indexes are free. The work is that of going over what it holds and over those who hold the same segments.
+/// process's own indexes are free, with those shared ones of calls that nobody holds. The work is that of going over what it
+/// holds and over those who hold the same segments and indexes.
 pub fn let_go(pid: u16, store: &mut Store, regions: &mut Regions)
     requires process { IsProcess regions.old pid }
     requires held { IsHeldWell store.old regions.old }

@@ -278,6 +278,7 @@ tidy_written ps names reserved bytes tidy =
       ended = tidy.ended;
       stay = tidy.stay;
       shared = tidy.shared;
+      free = tidy.free;
     }
 
 pub step_stands : (p : Parts) (t : Shelf) (m : Maps) (ps : List Process) (names : Map Segment) (next : ℕ) (reserved : List Reserve) (bytes : ℕ → List ℕ)

@@ -83,7 +83,8 @@ module _ (ps : List Process) (pid : ℕ) (x q : Process) (there : process_at ps 
     used = λ n s. used n (tidy.used n s);
     ended = λ n i e. holds_same n i ∙ tidy.ended n i (before n e);
     stay = tidy.stay;
-    shared = λ n i high e. tidy.shared n i high (ap is_some (sym (holds_same n i)) ∙ e);
+    shared = λ n i h high e load. tidy.shared n i h high (sym (holds_same n i) ∙ e) load;
+    free = λ n i h high e other. tidy.free n i h high (sym (holds_same n i) ∙ e) other;
   }
     where
       used : (n : ℕ) → is_held ps n ≡ true → is_held qs n ≡ true

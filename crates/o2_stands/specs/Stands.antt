@@ -16,7 +16,7 @@ use Rattle.o2_segbus.specs.Seen.{AreNamed, key_of}
 use Rattle.o2_segbus.specs.Settled.{IsSettled}
 use Rattle.o2_service.specs.Told.{IsHeldWell}
 use Rattle.o2_world.specs.Map.{Map, get}
-use Rattle.o2_world.specs.World.{Process, Reserve, Segment, Setting, World}
+use Rattle.o2_world.specs.World.{Cause, Held, Process, Reserve, Segment, Setting, World, ByLoad, ByCall, ByAlias}
 use Rattle.o2_world.specs.Holders.{is_held, process_at}
 use Rattle.o2_world.specs.Known.{held_at, holds_index, is_for_the_run, lives_at, reserves}
 use Rattle.o2_stands.specs.Parts.{Parts, byte_in, goes_on, held_in, running_of}
@@ -84,14 +84,21 @@ abbrev pub AllStay : List Reserve → Type 0
 AllStay [] = Unit {0}
 AllStay (r ∷ rs) = (((r.region == 0) && r.stays) ≡ true) × AllStay rs
 
+abbrev pub is_by_load : Cause → Bool
+is_by_load ByLoad = true
+is_by_load ByCall = false
+is_by_load ByAlias = false
+
 -- What the machine goes by that isn't its own: each name stands once and is held by somebody, who has ended holds nothing, and
--- what is reserved and not held is reserved for the whole run, with each shared index that is held.
+-- what is reserved and not held is reserved for the whole run. A shared index that is held by load is one of those, and one that
+-- is held otherwise is not.
 pub record IsTidy (ps : List Process) (names : Map Segment) (reserved : List Reserve) : Type 0 where
   pub once : AreOnce names
   pub used : (n : ℕ) → is_some (get names n) ≡ true → is_held ps n ≡ true
   pub ended : (n i : ℕ) → lives_at (process_at ps n) ≡ false → held_at ps n i ≡ None
   pub stay : AllStay reserved
-  pub shared : (n i : ℕ) → 4096 ≤ i → is_some (held_at ps n i) ≡ true → list_any (is_for_the_run i) reserved ≡ true
+  pub shared : (n i : ℕ) (h : Held) → 4096 ≤ i → held_at ps n i ≡ Some h → is_by_load h.cause ≡ true → list_any (is_for_the_run i) reserved ≡ true
+  pub free : (n i : ℕ) (h : Held) → 4096 ≤ i → held_at ps n i ≡ Some h → is_by_load h.cause ≡ false → list_any (reserves 0 i) reserved ≡ false
 
 -- The machine stands for the processes, names, next name and reserved indexes of a world.
 pub record StandsIn (p : Parts) (ps : List Process) (names : Map Segment) (next : ℕ) (reserved : List Reserve) : Type 0 where

@@ -6,16 +6,20 @@ use Rattle.o2_ends.proofs.Letting.{lets_one, sheds_none, sheds_one}
 use Rattle.o2_ends.proofs.ending.let_go_at.Goals as goal
 use Rattle.o2_ends.proofs.ending.let_go_at.Goals.{else-is_none, then-is_none}
 
+pub returns-clause-maps : goal.returns-clause-maps
+returns-clause-maps c =
+    lets_one c.args.regions.now c.drop_all.new.regions c.release.new.regions c.args.pid c.args.index c.in-Some.held (sym c.in-Some.ensures.held) c.drop_all.ensures c.release.ensures
+
 pub returns-clause-store : goal.returns-clause-store
 returns-clause-store c =
     let s = c.args.store.now in
     let m = c.args.regions.now in
-    let n = c.release_own.new.regions in
+    let n = c.release.new.regions in
     let h = c.in-Some.held in
     let pid = c.args.pid in
     let i = c.args.index in
     let at = sym c.in-Some.ensures.held in
-    let w : LetsGo m n pid (λ j. j == i) = lets_one m c.drop_all.new.regions n pid i c.requires.some c.drop_all.ensures c.release_own.ensures in
+    let w : LetsGo m n pid (λ j. j == i) = lets_one m c.drop_all.new.regions n pid i h at c.drop_all.ensures c.release.ensures in
     elim c.if-is_none.branch [
       | then-is_none x ↦
           (let live = c.requires.held.live pid i h at in
