@@ -25,10 +25,10 @@ use Rattle.o2_world.specs.Known.{held_at, reserves}
 use Rattle.o2_world.specs.Changes.{Drops, fewer, swept, with_change}
 use Rattle.o2_world.proofs.MapLemmas.{get-filter}
 use Rattle.o2_stands.specs.Parts.{Parts, held_in, held_of, running_of}
-use Rattle.o2_stands.specs.Stands.{IsIndex, IsNamed, number_of, taken_by}
+use Rattle.o2_stands.specs.Stands.{IsIndex, IsNamed, Matches, number_of, taken_by}
 use Rattle.o2_changes.specs.Holding.{FreesIndex, Goes, IsUnheld, Remains, Sweeps, Takes, rights_at}
 use Rattle.o2_changes.specs.Order.{IsInOrder}
-use Rattle.o2_changes.specs.Worlds.{LosesOne, Matches}
+use Rattle.o2_changes.specs.Worlds.{LosesOne}
 use Rattle.o2_changes.proofs.HoldsStand.{held_of_same, region_same, world_taken}
 use Rattle.o2_changes.proofs.Freeing.{keys_apart}
 use Rattle.o2_changes.proofs.Keys.{live_key, other_key, removed_none, removed_other, removed_own}
@@ -235,7 +235,7 @@ module _ (p : Parts) (w : World) (t : Shelf) (n : Maps) (pid i : ℕ) (was : Hel
       device = device;
     };
     segments = segments;
-    next = stands.next ∙ sym made;
+    made = stands.made ∙ sym made;
     processes = λ q. number_kept running_of (put_at i (fewer 1)) (λ y. refl) pid q w.processes ∙ stands.processes q;
     held = held_now;
     taken = λ r j x2. ap (λ (rs : List Reserve). taken_by (with_change w (Drops pid i 1)).processes rs (number_of r) j) loses.reserved ∙ taken_now k kn frees r j x2;

@@ -18,10 +18,10 @@ use Rattle.o2_world.specs.Holders.{process_at}
 use Rattle.o2_world.specs.Known.{held_at, holds_index, reserves}
 use Rattle.o2_world.specs.Changes.{Holds, more, with_change}
 use Rattle.o2_stands.specs.Parts.{Parts, held_in, held_of, running_of}
-use Rattle.o2_stands.specs.Stands.{IsIndex, number_of, taken_by}
+use Rattle.o2_stands.specs.Stands.{IsIndex, Matches, number_of, taken_by}
 use Rattle.o2_changes.specs.Holding.{Grants, TakesIndex, rights_at}
 use Rattle.o2_changes.specs.Order.{IsInOrder}
-use Rattle.o2_changes.specs.Worlds.{Matches, held_as}
+use Rattle.o2_changes.specs.Worlds.{held_as}
 use Rattle.o2_changes.proofs.Named.{named_maps}
 use Rattle.o2_changes.proofs.Settling.{Here, Other, pair_is}
 use Rattle.o2_changes.proofs.Taken.{held_apart, held_region, pair_hit}
@@ -149,7 +149,7 @@ module _ (p : Parts) (w : World) (n : Maps) (pid i access : ℕ) (h : HeldThere)
       device = stands.ready.device;
     };
     segments = λ q. named_maps p n (key_of p.shelf q) (get w.names q) (stands.segments q);
-    next = stands.next;
+    made = stands.made;
     processes = λ q. number_kept running_of (put_at i (more (held_as h access))) (λ y. refl) pid q w.processes ∙ stands.processes q;
     held = held_now;
     taken = taken_now k kn there takes;

@@ -17,10 +17,9 @@ use Rattle.o2_world.specs.World.{Segment, World}
 use Rattle.o2_world.specs.Changes.{Locks, with_change}
 use Rattle.o2_world.proofs.Reached.{get-put}
 use Rattle.o2_stands.specs.Parts.{Parts}
-use Rattle.o2_stands.specs.Stands.{IsNamed}
+use Rattle.o2_stands.specs.Stands.{IsNamed, Matches}
 use Rattle.o2_changes.specs.Order.{IsInOrder}
 use Rattle.o2_changes.specs.Segments.{SetsLock}
-use Rattle.o2_changes.specs.Worlds.{Matches}
 use Rattle.o2_changes.proofs.Keys.{live_key, other_key, same_key}
 
 module _ (s t : Shelf) (id : SegId) (lock : ℕ) (live : IsSome (entry_of s id)) (l : SetsLock s t id lock) where
@@ -140,7 +139,7 @@ module _ (p : Parts) (w : World) (t : Shelf) (id : SegId) (lock : ℕ) (live : I
       device = (let e = swap_same p.shelf t id lock live l in subst (λ (m : Blocks). all_of m ≤ p.device) (sym e) stands.ready.device);
     };
     segments = segments_now;
-    next = stands.next ∙ sym (ap (λ (x : Shelf). x.made) l.shelf);
+    made = stands.made ∙ sym (ap (λ (x : Shelf). x.made) l.shelf);
     processes = stands.processes;
     held = stands.held;
     taken = stands.taken;

@@ -18,9 +18,8 @@ use Rattle.o2_world.specs.World.{Segment, World}
 use Rattle.o2_world.specs.Changes.{Locks, Makes, with_change}
 use Rattle.o2_world.proofs.Reached.{get-put}
 use Rattle.o2_stands.specs.Parts.{Parts}
-use Rattle.o2_stands.specs.Stands.{IsNamed, IsSegment}
+use Rattle.o2_stands.specs.Stands.{IsNamed, IsSegment, Matches}
 use Rattle.o2_changes.specs.Order.{IsInOrder}
-use Rattle.o2_changes.specs.Worlds.{Matches}
 use Rattle.o2_regions.specs.declared.held.Held.{Held}
 use Rattle.o2_regions.specs.Maps.{Maps, held_at, is_of}
 use Rattle.o2_segbus.proofs.Ages.{ages_removed}
@@ -108,7 +107,7 @@ pub same_names : (p : Parts) (w : World) (names : Map Segment) → ((q : ℕ) �
 same_names p w names same m = record {
   ready = m.ready;
   segments = λ q. subst (λ (g : Option Segment). IsNamed p (key_of p.shelf q) g) (sym (same q)) (m.segments q);
-  next = m.next;
+  made = m.made;
   processes = m.processes;
   held = m.held;
   taken = m.taken;
@@ -135,11 +134,11 @@ module _ (p : Parts) (w : World) (t : Shelf) (id : SegId) (e : Entry) (sg : Segm
   segments_now : IsSegment (record p { shelf = t }) id.key sg → (q : ℕ) → IsNamed (record p { shelf = t }) (key_of t q) (get (put w.next_name (Some sg) w.names) q)
   segments_now here q = elim (cases_eq w.next_name q) [
     | inl f ↦
-        (let k : key_of t q ≡ Some id.key = ap (key_of t) (sym f ∙ stands.next) ∙ key_own p.shelf t id e shelf a age stands.ready.aged in
+        (let k : key_of t q ≡ Some id.key = ap (key_of t) (sym f ∙ stands.made) ∙ key_own p.shelf t id e shelf a age stands.ready.aged in
         let g : get (put w.next_name (Some sg) w.names) q ≡ Some sg = get-put w.next_name q (Some sg) w.names ∙ cond-true (eqb w.next_name q) (Some sg) (get w.names q) (eq-eqb w.next_name q f) in
         subst (λ (o : Option ℕ). IsNamed (record p { shelf = t }) o (get (put w.next_name (Some sg) w.names) q)) (sym k) (subst (λ (x : Option Segment). IsNamed (record p { shelf = t }) (Some id.key) x) (sym g) here))
     | inr n ↦
-        (let k : key_of t q ≡ key_of p.shelf q = key_other p.shelf t id e shelf a age q (λ z. n (stands.next ∙ sym z)) in
+        (let k : key_of t q ≡ key_of p.shelf q = key_other p.shelf t id e shelf a age q (λ z. n (stands.made ∙ sym z)) in
         let g : get (put w.next_name (Some sg) w.names) q ≡ get w.names q = get-put w.next_name q (Some sg) w.names ∙ cond-false (eqb w.next_name q) (Some sg) (get w.names q) (ne_eqb w.next_name q n) in
         subst (λ (o : Option ℕ). IsNamed (record p { shelf = t }) o (get (put w.next_name (Some sg) w.names) q)) (sym k)
         (subst (λ (x : Option Segment). IsNamed (record p { shelf = t }) (key_of p.shelf q) x) (sym g) (named_other q (key_of p.shelf q) (get w.names q) refl (stands.segments q))))
@@ -160,7 +159,7 @@ module _ (p : Parts) (w : World) (t : Shelf) (id : SegId) (e : Entry) (sg : Segm
       device = subst (λ (m : Blocks). all_of m ≤ p.device) (sym (ap (λ (x : Shelf). x.swap) a.shelf)) stands.ready.device;
     };
     segments = segments_now here;
-    next = ap (λ (n : ℕ). n + 1) stands.next ∙ sym (ap (λ (x : Shelf). x.made) a.shelf);
+    made = ap (λ (n : ℕ). n + 1) stands.made ∙ sym (ap (λ (x : Shelf). x.made) a.shelf);
     processes = stands.processes;
     held = stands.held;
     taken = stands.taken;
@@ -219,7 +218,7 @@ module _ (p : Parts) (w : World) (sg : Segment) (t : Shelf) (id : SegId) (shelf 
       device = (let d = stands.ready.device in omega (arith, map, d));
     };
     segments = segments_then;
-    next = refl;
+    made = refl;
     processes = stands.processes;
     held = stands.held;
     taken = stands.taken;

@@ -22,11 +22,11 @@ use Rattle.o2_world.specs.Changes.{Drops, Holds, Locks, Makes, with_all, with_ch
 use Rattle.o2_world.proofs.TiedChanges.{zeros_length}
 use Rattle.o2_stands.specs.Moves.{moved}
 use Rattle.o2_stands.specs.Parts.{Parts}
-use Rattle.o2_stands.specs.Stands.{IsSegment}
+use Rattle.o2_stands.specs.Stands.{IsSegment, Matches}
 use Rattle.o2_changes.specs.Holding.{FreesIndex, Grants, Sweeps, Takes, TakesIndex}
 use Rattle.o2_changes.specs.Order.{IsInOrder}
 use Rattle.o2_changes.specs.Segments.{SetsLock}
-use Rattle.o2_changes.specs.Worlds.{LosesOne, Matches, MatchesMake, held_as, new_segment}
+use Rattle.o2_changes.specs.Worlds.{LosesOne, MatchesMake, held_as, new_segment}
 use Rattle.o2_changes.proofs.DropsStand.{drops_stand}
 use Rattle.o2_changes.proofs.HoldsStand.{holds_stand, region_same}
 use Rattle.o2_changes.proofs.LocksStand.{locks_match}

@@ -14,23 +14,11 @@ use Rattle.o2_swapmap.specs.Piles.{all_of}
 use Rattle.o2_world.specs.World.{Segment, World}
 use Rattle.o2_world.specs.Map.{get}
 use Rattle.o2_stands.specs.Parts.{Parts}
-use Rattle.o2_stands.specs.Stands.{IsNamed, Stands}
+use Rattle.o2_stands.specs.Stands.{IsNamed, Matches}
 use Rattle.o2_stands.specs.Moves.{moved}
 use Rattle.o2_stands.proofs.Moves.{in_same, index_same, moved_ready, taken_same}
 use Rattle.o2_changes.specs.Order.{IsInOrder}
-use Rattle.o2_changes.specs.Worlds.{Matches}
 use Rattle.o2_changes.proofs.Keys.{same_key}
-
--- what a machine stands for, it matches
-pub stands_match : (p : Parts) (w : World) → Stands p w → Matches p w
-stands_match p w s = record {
-  ready = s.ready;
-  segments = s.segments;
-  next = s.made;
-  processes = s.processes;
-  held = s.held;
-  taken = s.taken;
-}
 
 has_same : (o u : Option Entry) (q : ℕ) → SameEntry o u → has_age u q ≡ has_age o q
 has_same None None q e = refl
@@ -61,7 +49,7 @@ module _ (p : Parts) (w : World) (t : Shelf) (m : Maps) (after : ℕ → List �
   moves_match clean order all = record {
     ready = moved_ready p t m after stands.ready keeps.tables only clean order.settled order.held all;
     segments = λ q. subst (λ (o : Option ℕ). IsNamed (moved p t m after) o (get w.names q)) (sym (keys q)) (named (key_of p.shelf q) (get w.names q) (stands.segments q));
-    next = stands.next ∙ sym keeps.tables.made;
+    made = stands.made ∙ sym keeps.tables.made;
     processes = stands.processes;
     held = λ n i. stands.held n i ∙ sym (in_same p.maps m n i (ap (λ (x : Maps). x.held) only.rest) (only.rights n i));
     taken = λ g i x. stands.taken g i (index_same p.maps m g i (ap (λ (x : Maps). x.processes) only.rest) x) ∙ sym (taken_same p.maps m g i (ap (λ (x : Maps). x.processes) only.rest) (ap (λ (x : Maps). x.held) only.rest) (ap (λ (x : Maps). x.reserved) only.rest));

@@ -27,10 +27,9 @@ use Rattle.o2_world.specs.Changes.{Resizes as ResizesChange, resized, with_chang
 use Rattle.o2_world.proofs.Reached.{get-put}
 use Rattle.o2_stands.specs.Moves.{moved}
 use Rattle.o2_stands.specs.Parts.{Parts, byte_in}
-use Rattle.o2_stands.specs.Stands.{IsNamed, IsSegment}
+use Rattle.o2_stands.specs.Stands.{IsNamed, IsSegment, Matches}
 use Rattle.o2_stands.proofs.Moves.{held_same, in_same, index_same, taken_same}
 use Rattle.o2_changes.specs.Order.{IsInOrder}
-use Rattle.o2_changes.specs.Worlds.{Matches}
 use Rattle.o2_changes.proofs.Keys.{live_key, other_key, same_key}
 
 -- a list of another length
@@ -147,7 +146,7 @@ module _ (p : Parts) (w : World) (t : Shelf) (m : Maps) (after : ℕ → List �
       device = (let d = stands.ready.device in omega (arith, all, d));
     };
     segments = segments_now;
-    next = stands.next ∙ sym r.made;
+    made = stands.made ∙ sym r.made;
     processes = stands.processes;
     held = λ n i. stands.held n i ∙ sym (in_same p.maps m n i (ap (λ (x : Maps). x.held) only.rest) (only.rights n i));
     taken = λ g i x. stands.taken g i (index_same p.maps m g i (ap (λ (x : Maps). x.processes) only.rest) x) ∙ sym (taken_same p.maps m g i (ap (λ (x : Maps). x.processes) only.rest) (ap (λ (x : Maps). x.held) only.rest) (ap (λ (x : Maps). x.reserved) only.rest));

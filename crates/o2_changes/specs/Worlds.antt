@@ -1,4 +1,4 @@
--- When a machine over a store matches a world by look-ups: all of what it stands for, but for what is true of the world alone.
+-- What single changes of store and tables leave of the worlds that they match.
 use Rattle.std.specs.Prelude.{◌≡◌, ℕ, Bool, true, false, IsTrue, List, [], ◌∷◌, Some, None, is_some, option_map, replicate}
 use Rattle.std.specs.List.{list_any}
 use Rattle.o2_desc.specs.Bits.{is_writable, rights_of}
@@ -16,16 +16,7 @@ use Rattle.o2_world.specs.Known.{held_at, reserves}
 use Rattle.o2_world.specs.Changes.{Drops, Holds, Locks, Makes, Resizes, used, with_all, with_change}
 use Rattle.o2_stands.specs.Moves.{moved}
 use Rattle.o2_stands.specs.Parts.{Parts, cause_of, held_in, running_of}
-use Rattle.o2_stands.specs.Stands.{IsIndex, IsNamed, IsReady, number_of, taken_by}
-
-pub record Matches (p : Parts) (w : World) : Type 0 where
-  pub ready : IsReady p
-  -- a name is the age of its segment
-  pub segments : (n : ℕ) → IsNamed p (key_of p.shelf n) (get w.names n)
-  pub next : w.next_name ≡ p.shelf.made
-  pub processes : (n : ℕ) → option_map running_of (process_at w.processes n) ≡ p.running n
-  pub held : (n i : ℕ) → held_at w.processes n i ≡ held_in p.maps n i
-  pub taken : (g : Region) (i : ℕ) → IsIndex p.maps g i → taken_by w.processes w.reserved (number_of g) i ≡ is_taken p.maps g i
+use Rattle.o2_stands.specs.Stands.{Matches, number_of}
 
 -- what a process holds by a machine, as a world has it, with the rights of an access byte
 abbrev pub held_as : HeldThere → ℕ → Held

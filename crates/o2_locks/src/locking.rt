@@ -9,7 +9,7 @@ ghost use Rattle.o2_store.specs.Pictures.{picture, HasPicture};
 ghost use Rattle.o2_store.specs.Shelf.{AreClean, HasAll, entry, entry_of};
 ghost use Rattle.o2_swapmap.specs.Piles.{all_of};
 ghost use Rattle.o2_changes.specs.Order.{IsInOrder};
-ghost use Rattle.o2_changes.specs.Worlds.{Matches};
+ghost use Rattle.o2_stands.specs.Stands.{Matches};
 ghost use Rattle.o2_segs.specs.Answers.{AnswersRoomed, changes_roomed};
 ghost use Rattle.o2_segs.specs.Made.{IsStop};
 ghost use Rattle.o2_stands.specs.Knows.{Others, known_in};

@@ -5,7 +5,7 @@ ghost use Rattle.o2_regions.specs.Maps.{IsProcess};
 ghost use Rattle.o2_segbus.specs.Seen.{AreNamed};
 ghost use Rattle.o2_store.specs.Shelf.{entry, entry_of};
 ghost use Rattle.o2_changes.specs.Order.{IsInOrder};
-ghost use Rattle.o2_changes.specs.Worlds.{Matches};
+ghost use Rattle.o2_stands.specs.Stands.{Matches};
 ghost use Rattle.o2_segs.specs.Answers.{Answers};
 ghost use Rattle.o2_stands.specs.Knows.{Others, known_in};
 ghost use Rattle.o2_stands.specs.Parts.{Parts};

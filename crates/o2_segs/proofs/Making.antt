@@ -21,7 +21,8 @@ use Rattle.o2_store.specs.declared.brought.Brought.TheVariants as brought
 use Rattle.o2_store.specs.Shelf.{Shelf, Adds, aged, entry, entry_of}
 use Rattle.o2_changes.specs.Holding.{IsUnheld}
 use Rattle.o2_changes.specs.Segments.{SetsLock}
-use Rattle.o2_changes.specs.Worlds.{Matches, MatchesHold, new_segment}
+use Rattle.o2_changes.specs.Worlds.{MatchesHold, new_segment}
+use Rattle.o2_stands.specs.Stands.{Matches}
 use Rattle.o2_changes.proofs.Keys.{aged_has, has_is}
 use Rattle.o2_changes.proofs.MakesStand.{new_plain}
 use Rattle.o2_world.specs.World.{Process, Segment, World}

@@ -8,7 +8,7 @@ use Rattle.o2_place.specs.declared.seg_id.SegId.{SegId}
 use Rattle.o2_segbus.specs.Seen.{AreNamed}
 use Rattle.o2_store.specs.Shelf.{Shelf, entry}
 use Rattle.o2_store.specs.declared.brought.Brought.{Brought}
-use Rattle.o2_changes.specs.Worlds.{Matches}
+use Rattle.o2_stands.specs.Stands.{Matches}
 use Rattle.o2_world.specs.World.{World}
 use Rattle.o2_world.specs.Changes.{Change, Resizes, with_all, with_change, with_changes}
 use Rattle.o2_world.specs.Rulings.{Ruling, full_size, grants, is_alias, reallocation, reallocation_of, reallocation_with, refusal}

@@ -15,7 +15,8 @@ use Rattle.o2_regions.specs.Maps.{Maps, held_at, is_taken}
 use Rattle.o2_segbus.specs.Seen.{AreNamed}
 use Rattle.o2_store.specs.Shelf.{Shelf, entry}
 use Rattle.o2_changes.specs.Holding.{rights_at}
-use Rattle.o2_changes.specs.Worlds.{LosesOne, Matches, MatchesDrop, MatchesHold}
+use Rattle.o2_changes.specs.Worlds.{LosesOne, MatchesDrop, MatchesHold}
+use Rattle.o2_stands.specs.Stands.{Matches}
 use Rattle.o2_world.specs.World.{Held, Process, World}
 use Rattle.o2_world.specs.Holders.{process_at}
 use Rattle.o2_world.specs.Known.{Known, Marks}

@@ -17,7 +17,7 @@ use Rattle.o2_world.specs.Known.{Known}
 use Rattle.o2_world.specs.Rulings.{Ruling, allocation_at, refusal}
 use Rattle.o2_stands.specs.Moves.{moved}
 use Rattle.o2_stands.specs.Parts.{Parts}
-use Rattle.o2_changes.specs.Worlds.{Matches}
+use Rattle.o2_stands.specs.Stands.{Matches}
 
 -- a segment as its maker holds it
 abbrev pub made_by_call : SegId → Held

@@ -3,7 +3,8 @@ ghost use Rattle.std.specs.Prelude.{◌≡◌, ◌/◌, ◌==◌, ◌&&◌, ◌|
 ghost use Rattle.o2_regions.specs.Maps.{IsProcess};
 ghost use Rattle.o2_segbus.specs.Seen.{AreNamed};
 ghost use Rattle.o2_changes.specs.Order.{IsInOrder};
-ghost use Rattle.o2_changes.specs.Worlds.{LosesOne, Matches};
+ghost use Rattle.o2_changes.specs.Worlds.{LosesOne};
+ghost use Rattle.o2_stands.specs.Stands.{Matches};
 ghost use Rattle.o2_stands.specs.Knows.{Others, known_in};
 ghost use Rattle.o2_stands.specs.Parts.{Parts, cause_of};
 ghost use Rattle.o2_world.specs.Changes.{with_all};

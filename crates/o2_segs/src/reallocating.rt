@@ -8,7 +8,7 @@ ghost use Rattle.o2_store.specs.Pictures.{picture};
 ghost use Rattle.o2_store.specs.Shelf.{AreClean, entry, entry_of};
 ghost use Rattle.o2_swapmap.specs.Piles.{all_of};
 ghost use Rattle.o2_changes.specs.Order.{IsInOrder};
-ghost use Rattle.o2_changes.specs.Worlds.{Matches};
+ghost use Rattle.o2_stands.specs.Stands.{Matches};
 ghost use Rattle.o2_stands.specs.Knows.{Others, known_in};
 ghost use Rattle.o2_stands.specs.Moves.{moved};
 ghost use Rattle.o2_stands.specs.Parts.{Parts, cause_of};

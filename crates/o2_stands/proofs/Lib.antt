@@ -6,3 +6,4 @@ pub mod Moves
 pub mod Sums
 pub mod Rooms
 pub mod Knowing
+pub mod Matching

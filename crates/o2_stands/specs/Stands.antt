@@ -100,7 +100,21 @@ pub record IsTidy (ps : List Process) (names : Map Segment) (reserved : List Res
   pub shared : (n i : ℕ) (h : Held) → 4096 ≤ i → held_at ps n i ≡ Some h → is_by_load h.cause ≡ true → list_any (is_for_the_run i) reserved ≡ true
   pub free : (n i : ℕ) (h : Held) → 4096 ≤ i → held_at ps n i ≡ Some h → is_by_load h.cause ≡ false → list_any (reserves 0 i) reserved ≡ false
 
--- The machine stands for the processes, names, next name and reserved indexes of a world.
+-- The machine matches the processes, names, next name and reserved indexes of a world by look-ups: all of what it stands for, but
+-- for what is true of the world alone. Between the changes of a call no more than that holds.
+pub record MatchesIn (p : Parts) (ps : List Process) (names : Map Segment) (next : ℕ) (reserved : List Reserve) : Type 0 where
+  pub ready : IsReady p
+  -- a name is the age of its segment
+  pub segments : (n : ℕ) → IsNamed p (key_of p.shelf n) (get names n)
+  pub made : next ≡ p.shelf.made
+  pub processes : (n : ℕ) → option_map running_of (process_at ps n) ≡ p.running n
+  pub held : (n i : ℕ) → held_at ps n i ≡ held_in p.maps n i
+  pub taken : (g : Region) (i : ℕ) → IsIndex p.maps g i → taken_by ps reserved (number_of g) i ≡ is_taken p.maps g i
+
+abbrev pub Matches : Parts → World → Type 0
+Matches p w = MatchesIn p w.processes w.names w.next_name w.reserved
+
+-- The machine stands for them: it matches them, and the world is tidy.
 pub record StandsIn (p : Parts) (ps : List Process) (names : Map Segment) (next : ℕ) (reserved : List Reserve) : Type 0 where
   pub ready : IsReady p
   -- a name is the age of its segment

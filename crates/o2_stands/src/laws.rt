@@ -28,7 +28,7 @@ ghost use Rattle.o2_world.specs.Starts.{Start, opening_of};
 ghost use Rattle.o2_world.specs.Tied.{IsSound};
 ghost use Rattle.o2_world.specs.Views.{view_of, with_bytes};
 ghost use Rattle.o2_stands.specs.Parts.{Parts, running_of};
-ghost use Rattle.o2_stands.specs.Stands.{AreLawful, IsReady, IsSetTo, IsTidy, Stands, StandsIn};
+ghost use Rattle.o2_stands.specs.Stands.{AreLawful, IsReady, IsSetTo, IsTidy, MatchesIn, Stands, StandsIn};
 ghost use Rattle.o2_stands.specs.Moves.{AreWritten, moved, stepped_to, with_running};
 ghost use Rattle.o2_stands.specs.Views.{Fills, boundless_view, filled};
 ghost use Rattle.o2_stands.specs.Knows.{KnowsAs, known_in, others_of};
@@ -54,6 +54,14 @@ pub fn openings_are_tidy()
         (starts : List Start) (w : World) → opening_of s reserved script input starts ≡ Ok w → IsSound w
         → ((n i : ℕ) → 4096 ≤ i → is_some (held_at w.processes n i) ≡ true
         → list_any (is_for_the_run i) w.reserved ≡ true) → IsTidy w.processes w.names w.reserved }
+{}
+
+/// A machine stands for a world where it matches it by look-ups and the world is tidy.
+pub fn standing_is_matching()
+    ensures matches { (p : Parts) (ps : List Process) (names : Map Segment) (next : ℕ) (reserved : List Reserve)
+        → StandsIn p ps names next reserved → MatchesIn p ps names next reserved }
+    ensures stands { (p : Parts) (ps : List Process) (names : Map Segment) (next : ℕ) (reserved : List Reserve)
+        → MatchesIn p ps names next reserved → IsTidy ps names reserved → StandsIn p ps names next reserved }
 {}
 
 /// What is known of a world beside what a process sees is known of the machine.

@@ -1,7 +1,7 @@
 use Rattle.o2_regions.specs.declared.held.Held.{Held}
 use Rattle.o2_store.specs.Shelf.{entry}
 use Rattle.std.proofs.Common.{◌≡◌, Option, IfSome, sym, subst}
-use Rattle.o2_changes.specs.Worlds.{Matches}
+use Rattle.o2_stands.specs.Stands.{Matches}
 use Rattle.o2_segs.specs.Answers.{AnswersRoomed, changes_roomed}
 use Rattle.o2_segs.proofs.Resizing.{refusal_moved}
 use Rattle.o2_segs.proofs.Rows.{at_maps, refusal_answers}

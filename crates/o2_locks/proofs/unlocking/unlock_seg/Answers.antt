@@ -1,5 +1,5 @@
 use Rattle.std.proofs.Common.{sym, subst}
-use Rattle.o2_changes.specs.Worlds.{Matches}
+use Rattle.o2_stands.specs.Stands.{Matches}
 use Rattle.o2_segs.specs.Answers.{Answers}
 use Rattle.o2_segs.proofs.Rows.{at_maps, refusal_answers, refusal_shelf}
 use Rattle.o2_segs.proofs.Selecting.{named_in}

@@ -1,5 +1,5 @@
 use Rattle.std.proofs.Common.{◌≡◌, ℕ, Option, Some, None, sym, subst, ◌∙◌}
-use Rattle.o2_changes.specs.Worlds.{Matches}
+use Rattle.o2_stands.specs.Stands.{Matches}
 use Rattle.o2_regions.specs.Maps.{end_of, first_of, is_taken}
 use Rattle.o2_regions.specs.declared.held.Region.{Region}
 use Rattle.o2_desc.specs.Choice.{chosen}

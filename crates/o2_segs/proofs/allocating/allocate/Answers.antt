@@ -1,7 +1,8 @@
 use Rattle.std.proofs.Common.{ℕ, Some, ap, refl, sym, subst, ◌∙◌}
 use Rattle.o2_regions.specs.Maps.{region_of}
 use Rattle.o2_store.specs.Shelf.{Shelf}
-use Rattle.o2_changes.specs.Worlds.{Matches, new_segment}
+use Rattle.o2_changes.specs.Worlds.{new_segment}
+use Rattle.o2_stands.specs.Stands.{Matches}
 use Rattle.o2_world.specs.Changes.{Makes, with_change}
 use Rattle.o2_stands.specs.Knows.{known_in}
 use Rattle.o2_stands.specs.Moves.{moved}
@@ -21,7 +22,7 @@ returns-then-not-is_locked-clause-matches g c = λ p o w x es em ei eb tells at 
     (let id = c.in-Some.id in
     let t = c.make.new.store in
     let adds = c.in-Some.ensures.added in
-    let name = new_name p w c.args.store.now t id _ es adds q.next in
+    let name = new_name p w c.args.store.now t id _ es adds q.made in
     let sg = new_segment c.full_size.result c.args.flags c.is_shared.result in
     made_matches p w x t c.args.regions.now c.hold_made.new.regions (g.S.SwapDevice.block c.args.swap.now) id sg c.args.pid c.args.size c.args.flags c.args.index p.shelf.made c.args.store.now.made
     (allocation_to (known_in p o) c.args.pid c.args.size c.args.flags (Some c.args.index)) c.hold_made.result (to_some p o c.args.store.now t id _ c.args.pid c.args.size c.args.flags c.args.index es adds) c.hold_made.ensures.answer
@@ -39,12 +40,12 @@ returns-in-Some-lock_new-clause-matches g c = λ p o w x es em ei eb tells at ab
     (let id = c.in-Some.id in
     let t = c.make.new.store in
     let adds = c.in-Some.ensures.added in
-    let name = new_name p w c.args.store.now t id _ es adds q.next in
+    let name = new_name p w c.args.store.now t id _ es adds q.made in
     let sg = new_segment c.full_size.result c.args.flags c.is_shared.result in
     let block = g.S.SwapDevice.block c.lock_new.new.swap in
     stop_leaves p w c.lock_new.new.store c.lock_new.new.regions block (allocation_to (known_in p o) c.args.pid c.args.size c.args.flags (Some c.args.index)) c.args.store.now.made c.in-Some-lock_new.stop
     (c.in-Some-lock_new.ensures.without c.in-Some-lock_new.stop refl).0
-    (subst (λ (k : ℕ). Matches (moved p (record c.lock_new.new.store { made = k }) c.lock_new.new.regions block) w) (q.next ∙ ap (λ (y : Shelf). y.made) es)
+    (subst (λ (k : ℕ). Matches (moved p (record c.lock_new.new.store { made = k }) c.lock_new.new.regions block) w) (q.made ∙ ap (λ (y : Shelf). y.made) es)
     ((c.in-Some-lock_new.ensures.without c.in-Some-lock_new.stop refl).1.world (record p { shelf = t }) w sg refl em ei eb tells name.1 absent (c.in-Some.ensures.matches.world p w es em q))))
 
 pub returns-in-None-lock_new-clause-answer : goal.returns-in-None-lock_new-clause-answer
@@ -57,7 +58,7 @@ returns-in-None-lock_new-clause-matches g c = λ p o w x es em ei eb tells at ab
     (let id = c.in-Some.id in
     let t = c.make.new.store in
     let adds = c.in-Some.ensures.added in
-    let name = new_name p w c.args.store.now t id _ es adds q.next in
+    let name = new_name p w c.args.store.now t id _ es adds q.made in
     let sg = new_segment c.full_size.result c.args.flags c.is_shared.result in
     let block = g.S.SwapDevice.block c.lock_new.new.swap in
     made_matches p w x c.lock_new.new.store c.lock_new.new.regions c.hold_made-in-None-lock_new.new.regions block id (record sg { lock = 1 }) c.args.pid c.args.size c.args.flags c.args.index p.shelf.made c.args.store.now.made

@@ -3,7 +3,7 @@ use Rattle.o2_service.proofs.Among.{live_same}
 use Rattle.o2_store.specs.Pictures.{picture}
 use Rattle.o2_changes.proofs.LocksStand.{locked_clean}
 use Rattle.o2_changes.proofs.MakesStand.{new_locked}
-use Rattle.o2_changes.specs.Worlds.{Matches}
+use Rattle.o2_stands.specs.Stands.{Matches}
 use Rattle.o2_world.specs.Changes.{Locks, Makes, with_change}
 use Rattle.o2_stands.specs.Moves.{moved}
 use Rattle.o2_segs.proofs.Making.{is_stop_of, same_stop, set_live, still_unheld}
