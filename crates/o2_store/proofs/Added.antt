@@ -25,6 +25,12 @@ pub image_added : (s t : Shelf) (e : Entry) (m n : ℕ) (o : Option SegId) → I
 image_added s t e m n None h i a = tt
 image_added s t e m n (Some id) h i a = λ pic block j l. (let b = added_byte s t id e pic block j h a in let f : ltb j e.kept ≡ true = grind (arith, nat_tests) in b ∙ rw (f, i) refl)
 
+-- a new segment with the front of an image
+pub front_added : (s t : Shelf) (e : Entry) (m n : ℕ) (o : Option SegId) → IsShelf s → e.image ≡ Some (m, n) → IfSome o (λ id. Adds s t id e)
+    → IfSome o (λ id. (pic : Pictures) (block : ℕ → List ℕ) (j : ℕ) → byte_at t pic block id.key j ≡ (if ltb j e.kept then pic m n j else 0))
+front_added s t e m n None h i a = tt
+front_added s t e m n (Some id) h i a = λ pic block j. (let b = added_byte s t id e pic block j h a in b ∙ rw i refl)
+
 -- the others keep their bytes
 pub others_added : (s t : Shelf) (e : Entry) (o : Option SegId) → IfSome o (λ id. Adds s t id e) → IfSome o (λ id. (pic : Pictures) (block : ℕ → List ℕ) (k j : ℕ) → k ≢ id.key → byte_at t pic block k j ≡ byte_at s pic block k j)
 others_added s t e None a = tt

@@ -1,5 +1,5 @@
 // Segments are added, changed in their attributes, and removed.
-ghost use Rattle.std.specs.Prelude.{◌≡◌, ◌≢◌, ℕ, List, ◌+◌, ◌<◌, ◌≤◌, ◌^◌, ◌-◌, ◌↔◌, length, Some, None, IsSome, IsTrue, IfSome, slice_set, true, false};
+ghost use Rattle.std.specs.Prelude.{◌≡◌, ◌≢◌, ℕ, List, ◌+◌, ◌<◌, ◌≤◌, ◌^◌, ◌-◌, ◌↔◌, length, Some, None, IsSome, IsTrue, IfSome, slice_set, true, false, nat_lt, if◌then◌else◌};
 ghost use Rattle.std.specs.Option.{IfNone};
 ghost use Rattle.o2_entries.specs.declared.Entry.{Entry};
 ghost use Rattle.o2_entries.specs.Tables.{slot_at, live_numbers};
@@ -45,6 +45,31 @@ impl Store {
     {
         self.law();
         self.add(size, size, Some((module, seg)), attr)
+    }
+
+    /// A new segment, out of memory, of 1 to 65,536 bytes: the first `kept` are the first ones of an image, as `add_image` names
+    /// it, and the others are zeros. None exactly where there is room for no more.
+    pub fn add_front(
+        &mut self,
+        module: u16,
+        seg: u16,
+        kept: u32,
+        size: u32,
+        attr: Attr,
+    ) -> Option<SegId>
+        requires size { (0 < size) × (size ≤ 65536) }
+        requires kept { kept ≤ size }
+        requires unlocked { attr.lock ≡ 0 }
+        requires made { self.old.made < 2 ^ 64 - 1 }
+        ensures none { IfNone result ((length (live_numbers 0 self.old.entries) ≡ length self.old.entries) × (self.new ≡ self.old)) }
+        ensures added { IfSome result (λ id. Adds self.old self.new id (record { age = self.old.made; size = size; kept = kept; image = Some («module», seg); attr = attr })) }
+        ensures bytes { IfSome result (λ id. (pic : Pictures) (block : ℕ → List ℕ) (j : ℕ)
+            → byte_at self.new pic block id.key j ≡ (if nat_lt j kept then pic «module» seg j else 0)) }
+        ensures others { IfSome result (λ id. (pic : Pictures) (block : ℕ → List ℕ) (k j : ℕ)
+            → k ≢ id.key → byte_at self.new pic block k j ≡ byte_at self.old pic block k j) }
+    {
+        self.law();
+        self.add(size, kept, Some((module, seg)), attr)
     }
 
     // A new segment out of memory.
