@@ -116,7 +116,9 @@ impl Steps for Machine {
     ghost use Rattle.o2_machine.specs.Lasts.{stopped_of, put_of, machine_swaps};
     ghost use Rattle.o2_machine.specs.StandsFor.{StandsFor};
 
-    ghost stands = { λ m told block s w. StandsFor m s w };
+    ghost stands = { λ m blocks told block s w. StandsFor m s w };
+
+    ghost fits = { λ m blocks. Unit {0} };
 
     ghost swaps = { machine_swaps };
 

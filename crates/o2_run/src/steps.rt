@@ -44,11 +44,14 @@ pub enum Turn {
 
 /// A machine that does the boundless machine's steps, one a turn.
 pub trait Steps {
-    /// The settings and worlds that it stands for, with what the swap device holds.
-    ghost stands: { Self → Bool → (ℕ → List ℕ) → Setting → World → Type 0 };
+    /// The settings and worlds that it stands for, over a device of so many blocks, which tells what they hold or doesn't.
+    ghost stands: { Self → (blocks : ℕ) → (told : Bool) → (ℕ → List ℕ) → Setting → World → Type 0 };
 
     /// Whether it keeps its segments in the memory of its setting, and swaps them. One that doesn't leaves the device as it is.
     ghost swaps: { Bool };
+
+    /// That it goes on over a device of so many blocks.
+    ghost fits: { Self → (blocks : ℕ) → Type 0 };
 
     /// How many steps are left at most.
     ghost left: { Self → ℕ };
@@ -68,15 +71,17 @@ pub trait Steps {
         report: &mut R,
         swap: &mut S,
     ) -> Turn
-        ensures turns { stopped self.old ≡ None → (s : Setting) (w : World) → stands self.old (S.told swap.old) (S.block swap.old) s w
+        requires device { fits self.old (S.blocks swap.old) }
+        ensures turns { stopped self.old ≡ None → (s : Setting) (w : World) → stands self.old (S.blocks swap.old) (S.told swap.old) (S.block swap.old) s w
             → I.left input.old ≡ Some w.input
-            → Turns (stands self.new (S.told swap.new) (S.block swap.new) s) swaps (S.blocks swap.old) s w (line_put self.new)
+            → Turns (stands self.new (S.blocks swap.new) (S.told swap.new) (S.block swap.new) s) swaps (S.blocks swap.old) s w (line_put self.new)
             (I.left input.new) (C.taken console.old) (C.taken console.new) (R.taken report.old) (R.taken report.new) result }
         // Each line is one put, and so is the piece for the console, where it has bytes.
-        ensures puts { stopped self.old ≡ None → (s : Setting) (w : World) → stands self.old (S.told swap.old) (S.block swap.old) s w
+        ensures puts { stopped self.old ≡ None → (s : Setting) (w : World) → stands self.old (S.blocks swap.old) (S.told swap.old) (S.block swap.old) s w
             → I.left input.old ≡ Some w.input
             → TurnHands s w (counts (C.puts console.old) (C.puts console.new) (R.puts report.old) (R.puts report.new) (length w.lines)) result }
         ensures stops { stopped self.new ≡ stopped_by result }
+        ensures device { fits self.new (S.blocks swap.new) }
 
         // A stop or an end is final.
         ensures again { (t : Turn) → stopped self.old ≡ Some t → result ≡ t }

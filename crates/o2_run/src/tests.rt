@@ -84,7 +84,9 @@ impl Steps for Halting {
     ghost use Rattle.std.specs.Option.{unwrap_or};
     ghost use Rattle.o2_run.specs.Faults.{turn_of};
 
-    ghost stands = { λ m told block s w. ⊥ };
+    ghost stands = { λ m blocks told block s w. ⊥ };
+
+    ghost fits = { λ m blocks. Unit {0} };
 
     ghost swaps = { true };
 

@@ -21,14 +21,16 @@ pub fn run<M: Steps, I: Source, C: Sink, R: Sink, S: SwapDevice>(
     report: &mut R,
     swap: &mut S,
 ) -> Result<(), Fault>
+    requires device { M.fits machine.old (S.blocks swap.old) }
     ensures texts { M.stopped machine.old ≡ None → (s : Setting) (w : World) (c r : Option (List ℕ))
-        → M.stands machine.old (S.told swap.old) (S.block swap.old) s w
+        → M.stands machine.old (S.blocks swap.old) (S.told swap.old) (S.block swap.old) s w
         → I.left input.old ≡ Some w.input
         → Gains c (C.taken console.old) (console_text w) → Gains r (R.taken report.old) (lines_text w.lines)
-        → HasTexts (M.stands machine.new (S.told swap.new) (S.block swap.new) s) M.swaps (S.blocks swap.old) s w
+        → HasTexts (M.stands machine.new (S.blocks swap.new) (S.told swap.new) (S.block swap.new) s) M.swaps (S.blocks swap.old) s w
         (I.left input.new) c (C.taken console.new) r (R.taken report.new) (Rose (R.faults report.old) (R.faults report.new))
         (counts (C.puts console.old) (C.puts console.new) (R.puts report.old) (R.puts report.new) (length w.lines)) result }
     ensures stopped { EndsAs (M.stopped machine.new) result }
+    ensures device { M.fits machine.new (S.blocks swap.new) }
 
     // A machine that doesn't swap leaves the device as it is, and stops for its input alone.
     ensures unswapped { M.swaps ≡ false → swap.new ≡ swap.old }

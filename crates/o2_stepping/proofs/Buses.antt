@@ -15,6 +15,7 @@ use Rattle.o2_world.specs.Known.{Known}
 use Rattle.o2_world.specs.Calls.{Before, Effect}
 use Rattle.o2_world.specs.Effect.{effect}
 use Rattle.o2_run.specs.declared.fault.Fault.{Fault}
+use Rattle.o2_run.specs.Pieces.{Counts, PartHands}
 use Rattle.o2_run.specs.Room.{touched}
 use Rattle.o2_gate.specs.Befores.{boundless, before_call}
 use Rattle.o2_gate.specs.Pointed.{ArePresent}
@@ -80,6 +81,9 @@ module _ (away : ℕ → List ℕ) (a b : SegBus) (c d : Cpu) (number : ℕ) (in
   leaves_there i j x y r q result h =
       subst (λ (v : View). let e = before_call v number c input known in Leaves e (effect e) d (bytes_with away a.store.now) (bytes_with away b.store.now) i j x y r q result)
       (boundless_is away a c agrees) h
+
+  pub part_there : (n : Counts) (result : Result Attempt Fault) → PartHands (effect on_bus) n result → PartHands (effect in_store) n result
+  part_there n result h = subst (λ (v : View). PartHands (effect (before_call v number c input known)) n result) (boundless_is away a c agrees) h
 
   touched_same : touched on_bus ≡ touched in_store
   touched_same = ap (λ (v : View). touched (before_call v number c input known)) (boundless_is away a c agrees)

@@ -13,6 +13,7 @@ use Rattle.o2_gate.specs.declared.called.Called.{Called}
 use Rattle.o2_gate.specs.declared.called.Called.TheVariants.{Back, Exited, Trap, Missed}
 use Rattle.o2_gate.specs.Pieces.{CallHands}
 use Rattle.o2_stepping.specs.Pieces.{RanHands, AttemptHands}
+use Rattle.o2_stepping.specs.Taken.{IsSwapStop}
 use Rattle.o2_stepping.specs.declared.one_step.Ran.{Ran}
 use Rattle.o2_stepping.specs.declared.one_step.Attempt.{Attempt}
 use Rattle.o2_stepping.specs.declared.one_step.Attempt.TheVariants as attempt
@@ -75,3 +76,8 @@ ran_fault n (fault.Stopped why) h = h
 pub part_fault : (e : Effect) (n : Counts) (f : Fault) → PartHands {T = Attempt} e n (Err f) → PartHands {T = Ran} e n (Err f)
 part_fault e n fault.Sink h = h
 part_fault e n (fault.Stopped why) h = tt
+
+-- a stop before a try
+pub stop_hands : (c r : ℕ) (f : Fault) → IsSwapStop f → AttemptHands (counts c c r r 0) (Err f)
+stop_hands c r fault.Sink s = absurd s
+stop_hands c r (fault.Stopped why) s = no_hands c r

@@ -11,6 +11,7 @@ use Rattle.o2_gate.specs.declared.state.State.{State as Services}
 use Rattle.o2_gate.specs.Befores.{before_call, IsKnown}
 use Rattle.o2_gate.specs.Pointed.{ArePresent}
 use Rattle.o2_run.specs.declared.fault.Fault.{Fault}
+use Rattle.o2_run.specs.Pieces.{Counts, PartHands}
 use Rattle.o2_run.specs.Room.{touched}
 use Rattle.o2_stepping.specs.Ran.{Leaves, OnMissed, is_missed}
 use Rattle.o2_stepping.specs.Worlds.{bytes_with, world_view}
@@ -30,3 +31,9 @@ pub record TriesOver (s : Shelf) (m : Maps) (t : Shelf) (seat number : ℕ) (bef
       → let b = before_call (world_view away s m seat before) number before bytes known in
       ArePresent (seen s m seat before) (touched b)
   pub same : OnMissed result (λ z. (n : ℕ) → bytes_in t n ≡ bytes_in s n)
+
+-- what a sink's fault leaves of the step of the boundless machine, whatever the bytes of the names that are out of memory
+pub record PartTried (s : Shelf) (m : Maps) (seat number : ℕ) (before : Cpu) (services : Services)
+    (left : Option (List ℕ)) (n : Counts) (result : Result Attempt Fault) : Type 0 where
+  pub part : (away : ℕ → List ℕ) (bytes : List ℕ) (known : Known) → left ≡ Some bytes → IsKnown known services
+      → PartHands (effect (before_call (world_view away s m seat before) number before bytes known)) n result

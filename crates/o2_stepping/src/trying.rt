@@ -6,7 +6,9 @@ ghost use Rattle.o2_segbus.specs.Seen.{hold_in};
 ghost use Rattle.o2_segbus.specs.Bus.{registers_of};
 ghost use Rattle.o2_segbus.specs.Frames.{CanStep, KeepsClean, KeepsMaps, KeepsStore};
 ghost use Rattle.o2_stepping.specs.Ran.{AttemptFor, OnMissed};
-ghost use Rattle.o2_stepping.specs.Tried.{TriesOver};
+ghost use Rattle.o2_stepping.specs.Tried.{PartTried, TriesOver};
+ghost use Rattle.o2_run.specs.Pieces.{counts};
+ghost use Rattle.o2_stepping.specs.Pieces.{AttemptHands};
 
 use crate::one_step::{Attempt, run_one};
 use o2_gate::State as Services;
@@ -45,6 +47,9 @@ fn try_in<I: Source, C: Sink, R: Sink>(
     ensures report_count { R.faults report.old ≤ R.faults report.new }
     ensures cause { AttemptFor (Rose (C.faults console.old) (C.faults console.new) ⊎ Rose (R.faults report.old) (R.faults report.new))
         (Rose (I.faults input.old) (I.faults input.new)) result }
+    ensures puts { AttemptHands (counts (C.puts console.old) (C.puts console.new) (R.puts report.old) (R.puts report.new) 0) result }
+    ensures part { PartTried bus.old.store.now bus.old.regions.now bus.old.pid pid cpu.old services.old (I.left input.old)
+        (counts (C.puts console.old) (C.puts console.new) (R.puts report.old) (R.puts report.new) 0) result }
 {
     run_one(pid, cpu, bus, services, input, console, report)
 }
@@ -78,6 +83,9 @@ pub(crate) fn try_step<I: Source, C: Sink, R: Sink>(
     ensures report_count { R.faults report.old ≤ R.faults report.new }
     ensures cause { AttemptFor (Rose (C.faults console.old) (C.faults console.new) ⊎ Rose (R.faults report.old) (R.faults report.new))
         (Rose (I.faults input.old) (I.faults input.new)) result }
+    ensures puts { AttemptHands (counts (C.puts console.old) (C.puts console.new) (R.puts report.old) (R.puts report.new) 0) result }
+    ensures part { PartTried store.old regions.old pid pid cpu.old services.old (I.left input.old)
+        (counts (C.puts console.old) (C.puts console.new) (R.puts report.old) (R.puts report.new) 0) result }
 {
     let mut bus = SegBus::new(store, regions, pid, cpu);
     try_in(pid, cpu, &mut bus, services, input, console, report)

@@ -13,6 +13,7 @@ steps-preserved g c =
       reached = λ n s w a b stands input to_console to_report.
           let h = c.steps.invariant.reached n s w a b stands input to_console to_report in
           ran_by _ _ _ (g.S.SwapDevice.blocks c.steps.swap) s w _ _ _ _ _ _ _ _ _ _ _ _ _ _ (length w.lines) c.turn.result is _ h _ (c.turn.ensures.turns (c.steps.invariant.fresh n) s _ h.stands h.input) (c.turn.ensures.puts (c.steps.invariant.fresh n) s _ h.stands h.input);
+      device = c.turn.ensures.device;
       input_count = omega (arith, c.steps.invariant.input_count, c.turn.ensures.input_count);
       console_count = omega (arith, c.steps.invariant.console_count, c.turn.ensures.console_count);
       report_count = omega (arith, c.steps.invariant.report_count, c.turn.ensures.report_count);

@@ -1,6 +1,7 @@
+use Rattle.o2_run.specs.Pieces.{counts}
 use Rattle.o2_segbus.specs.Calls.{view_of}
 use Rattle.o2_segbus.proofs.Called.{agrees, bound, leaves}
-use Rattle.o2_stepping.proofs.Buses.{filling, leaves_there, step_missed, step_present, writes_there, on_missed, bytes_there}
+use Rattle.o2_stepping.proofs.Buses.{filling, leaves_there, part_there, step_missed, step_present, writes_there, on_missed, bytes_there}
 use Rattle.o2_stepping.proofs.trying.try_in.Goals as goal
 
 pub returns-clause-same_store : goal.returns-clause-same_store
@@ -41,3 +42,13 @@ pub returns-clause-next : goal.returns-clause-next
 returns-clause-next g c =
     (leaves c.args.bus.now c.run_one.new.bus c.run_one.ensures.frame).next c.run_one.new.cpu
     (c.run_one.ensures.agrees (agrees c.args.bus.now c.args.cpu.now c.requires))
+
+pub returns-clause-part : goal.returns-clause-part
+returns-clause-part g c =
+    let a = c.args.bus.now in
+    let agree = agrees a c.args.cpu.now c.requires in
+    let n = counts (g.C.Sink.puts c.args.console.now) (g.C.Sink.puts c.run_one.new.console) (g.R.Sink.puts c.args.report.now) (g.R.Sink.puts c.run_one.new.report) 0 in
+    record {
+      part = λ away bytes known left same.
+          part_there away a c.run_one.new.bus c.args.cpu.now c.run_one.new.cpu c.args.pid bytes known agree n c.run_one.result (c.run_one.ensures.part (filling away) bytes known (bound a) left same);
+    }
