@@ -13,6 +13,7 @@ use Rattle.o2_gate.specs.Befores.{before_call}
 use Rattle.o2_run.specs.declared.steps.Stop.TheVariants as stop
 use Rattle.o2_run.specs.declared.fault.Fault.{Fault}
 use Rattle.o2_run.specs.declared.fault.Fault.TheVariants as fault
+use Rattle.o2_run.specs.Pieces.{Counts, counts, PartHands}
 use Rattle.o2_base.specs.declared.selector.Selector.{Selector}
 use Rattle.o2_swapmap.specs.Piles.{all_of}
 use Rattle.o2_store.specs.Loads.{live_load, swap_load}
@@ -50,6 +51,14 @@ module _ (a b : ℕ → List ℕ) (s t : Shelf) (m n : Maps) (pid : ℕ) (c : Cp
       (subst (λ (z : Option (List ℕ)). let e = before_in b t n pid d bytes known in Tries e (effect e) new (bytes_with b t) after z j x y r q result) input
       (subst (λ (z : Option (List ℕ)). let e = before_in b t n pid d bytes known in Tries e (effect e) new (bytes_with b t) after i' j z y r q result) console
       (subst (λ (z : Option (List ℕ)). let e = before_in b t n pid d bytes known in Tries e (effect e) new (bytes_with b t) after i' j x' y z q result) report h))))
+
+  pub part_from : (d : Cpu) → d ≡ c → (k : Counts) (result : Result Attempt Fault)
+      → PartHands (effect (before_in b t n pid d bytes known)) k result → PartHands (effect (before_in a s m pid c bytes known)) k result
+  part_from d e k result h = subst (λ (z : Before). PartHands (effect z) k result) (first_from d e) h
+
+-- counts from where both sinks had been handed as many
+pub counts_from : (P : Counts → Type 0) (c d r q : ℕ) {x y : ℕ} → x ≡ c → y ≡ r → P (counts x d y q 0) → P (counts c d r q 0)
+counts_from P c d r q {x} e f h = subst (λ (z : ℕ). P (counts z d r q 0)) e (subst (λ (z : ℕ). P (counts x d z q 0)) f h)
 
 -- where a step was missed, or is done
 pub missed_at : (P : Selector → Type 0) (x : Attempt) (s : Selector) → x ≡ attempt.Missed s → OnMissed (Ok x) P → P s

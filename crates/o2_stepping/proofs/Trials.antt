@@ -25,6 +25,7 @@ use Rattle.o2_gate.specs.Pointed.{ArePresent}
 use Rattle.o2_run.specs.declared.steps.Stop.TheVariants as stop
 use Rattle.o2_run.specs.declared.fault.Fault.{Fault}
 use Rattle.o2_run.specs.declared.fault.Fault.TheVariants as fault
+use Rattle.o2_run.specs.Pieces.{Counts, PartHands}
 use Rattle.o2_run.specs.Room.{seated, touched}
 use Rattle.o2_run.specs.Faults.{CauseOf}
 use Rattle.o2_stepping.specs.Ran.{AttemptFor, IsStill, Leaves, OnMissed, is_missed}
@@ -73,6 +74,10 @@ module _ (a b d : ℕ → List ℕ) (s t u : Shelf) (m n : Maps) (pid : ℕ) (c 
       (subst (λ (z : Before). Leaves z (effect z) new (bytes_with a s) (bytes_with d u) i j x y r q result) first_step
       (subst (λ (f : ℕ → List ℕ). Leaves (before_in b t n pid c bytes known) (effect (before_in b t n pid c bytes known)) new f (bytes_with d u) i j x y r q result) (fun_ext old)
       (subst (λ (f : ℕ → List ℕ). Leaves (before_in b t n pid c bytes known) (effect (before_in b t n pid c bytes known)) new (bytes_with b t) f i j x y r q result) (fun_ext now) h)))
+
+  -- what a sink's fault leaves
+  pub part_first : (k : Counts) (result : Result Attempt Fault) → PartHands (effect (before_in b t n pid c bytes known)) k result → PartHands (effect (before_in a s m pid c bytes known)) k result
+  part_first k result h = subst (λ (z : Before). PartHands (effect z) k result) first_step h
 
   -- What was missed.
 
@@ -159,6 +164,10 @@ no_step P (fault.Stopped stop.Input) p = tt
 no_step P (fault.Stopped stop.NoRoom) p = p
 no_step P (fault.Stopped stop.SwapFull) p = p
 no_step P (fault.Stopped stop.SwapFault) p = p
+
+pub stop_part : (e : Effect) (n : Counts) (f : Fault) → IsSwapStop f → PartHands {T = Attempt} e n (Err f)
+stop_part e n fault.Sink s = absurd s
+stop_part e n (fault.Stopped why) s = tt
 
 pub no_cause : (A B : Type 0) (f : Fault) → IsSwapStop f → CauseOf A B (Unit {0}) (Unit {0}) f
 no_cause A B fault.Sink s = absurd s

@@ -14,7 +14,9 @@ ghost use Rattle.o2_world.specs.Known.{Known};
 ghost use Rattle.o2_world.specs.Effect.{effect};
 ghost use Rattle.o2_gate.specs.Befores.{IsKnown};
 ghost use Rattle.o2_gate.specs.Pointed.{ArePresent};
+ghost use Rattle.o2_run.specs.Pieces.{PartHands, counts};
 ghost use Rattle.o2_run.specs.Room.{touched};
+ghost use Rattle.o2_stepping.specs.Pieces.{AttemptHands, RanHands};
 ghost use Rattle.o2_stepping.specs.Ran.{OnMissed};
 ghost use Rattle.o2_stepping.specs.Rooms.{AreNeeded, IsWanted, ages_of, all_names, needed_names, room_in, seated_in};
 ghost use Rattle.o2_stepping.specs.Shapes.{SameShape};
@@ -162,6 +164,11 @@ fn serve_and_try<S: SwapDevice, I: Source, C: Sink, R: Sink>(
     ensures console_count { C.faults console.old ≤ C.faults console.new }
     ensures report_count { R.faults report.old ≤ R.faults report.new }
     ensures swap_count { S.faults swap.old ≤ S.faults swap.new }
+
+    ensures puts { AttemptHands (counts (C.puts console.old) (C.puts console.new) (R.puts report.old) (R.puts report.new) 0) result }
+    ensures part { (bytes : List ℕ) (known : Known) → IsTrue (S.told swap.old) → I.left input.old ≡ Some bytes → IsKnown known services.old
+        → let b = before_in (away_of store.old regions.old images.now (S.blocks swap.old) (S.block swap.old)) store.old regions.old pid cpu.old bytes known in
+        PartHands (effect b) (counts (C.puts console.old) (C.puts console.new) (R.puts report.old) (R.puts report.new) 0) result }
 {
     match bring_in(need, pid, cpu, store, regions, images, swap) {
         Ok(()) => {}
@@ -230,6 +237,12 @@ pub fn step_in_store<S: SwapDevice, I: Source, C: Sink, R: Sink>(
     ensures console_count { C.faults console.old ≤ C.faults console.new }
     ensures report_count { R.faults report.old ≤ R.faults report.new }
     ensures swap_count { S.faults swap.old ≤ S.faults swap.new }
+
+    // Each line is one put, and so is the piece where it has bytes. Where a sink fails, no more lines were put than there are.
+    ensures puts { RanHands (counts (C.puts console.old) (C.puts console.new) (R.puts report.old) (R.puts report.new) 0) result }
+    ensures part { (bytes : List ℕ) (known : Known) → IsTrue (S.told swap.old) → I.left input.old ≡ Some bytes → IsKnown known services.old
+        → let b = before_in (away_of store.old regions.old images.now (S.blocks swap.old) (S.block swap.old)) store.old regions.old pid cpu.old bytes known in
+        PartHands (effect b) (counts (C.puts console.old) (C.puts console.new) (R.puts report.old) (R.puts report.new) 0) result }
 {
     let mut need = seats(regions, pid, cpu);
     'tries: loop {

@@ -2,10 +2,12 @@ use Rattle.std.proofs.Common.{ℕ, List, sym, ◌∙◌, refl, ap, arith}
 use Rattle.o2_isa.specs.View.{View, bound_registers}
 use Rattle.o2_segbus.specs.Seen.{hold_in}
 use Rattle.o2_world.specs.Effect.{effect}
+use Rattle.o2_run.specs.Pieces.{counts}
 use Rattle.o2_run.specs.Room.{touched}
 use Rattle.o2_stepping.specs.Worlds.{away_of, before_in, bytes_with, world_view}
 use Rattle.o2_stepping.proofs.Keeping.{held_stays, marks_hold, ready_same, shape_trans, try_shape}
-use Rattle.o2_stepping.proofs.Trials.{away_same, map_missed, never_stops, no_cause, no_sink, no_step, on_ran, stays_still, together, together_in_part, tried, tried_for, wanted}
+use Rattle.o2_stepping.proofs.Puts.{stop_hands}
+use Rattle.o2_stepping.proofs.Trials.{away_same, map_missed, never_stops, no_cause, no_sink, no_step, on_ran, part_first, stays_still, stop_part, together, together_in_part, tried, tried_for, wanted}
 use Rattle.o2_stepping.proofs.Worlds.{away_kept, view_same, with_kept}
 use Rattle.o2_stepping.proofs.in_store.serve_and_try.Goals as goal
 
@@ -119,3 +121,27 @@ returns-clause-same g c = λ tells.
     map_missed _ _ c.try_step.result
     (λ z same n. with_kept c.args.images.now t u c.bring_in.new.regions c.try_step.new.regions (S.blocks c.bring_in.new.swap) (S.block c.bring_in.new.swap) c.try_step.ensures.store same n
     ∙ c.bring_in.ensures.bytes tells n) c.try_step.ensures.over.same
+
+pub returns-in-Err-clause-puts : goal.returns-in-Err-clause-puts
+returns-in-Err-clause-puts g c = stop_hands (g.C.Sink.puts c.args.console.now) (g.R.Sink.puts c.args.report.now) c.in-Err.fault c.in-Err.ensures.kind
+
+pub returns-in-Err-clause-part : goal.returns-in-Err-clause-part
+returns-in-Err-clause-part g c = λ bytes known tells left same.
+    let S = g.S.SwapDevice in
+    let away : ℕ → List ℕ = away_of c.args.store.now c.args.regions.now c.args.images.now (S.blocks c.args.swap.now) (S.block c.args.swap.now) in
+    stop_part (effect (before_in away c.args.store.now c.args.regions.now c.args.pid c.args.cpu.now bytes known))
+    (counts (g.C.Sink.puts c.args.console.now) (g.C.Sink.puts c.args.console.now) (g.R.Sink.puts c.args.report.now) (g.R.Sink.puts c.args.report.now) 0) c.in-Err.fault c.in-Err.ensures.kind
+
+pub returns-clause-part : goal.returns-clause-part
+returns-clause-part g c = λ bytes known tells left same.
+    let S = g.S.SwapDevice in
+    let s = c.args.store.now in
+    let t = c.bring_in.new.store in
+    let u = c.try_step.new.store in
+    let im = c.args.images.now in
+    let a : ℕ → List ℕ = away_of s c.args.regions.now im (S.blocks c.args.swap.now) (S.block c.args.swap.now) in
+    let b : ℕ → List ℕ = away_of t c.bring_in.new.regions im (S.blocks c.bring_in.new.swap) (S.block c.bring_in.new.swap) in
+    let view = view_same a b s t c.args.regions.now c.bring_in.new.regions c.args.pid c.args.cpu.now c.bring_in.ensures.shape.tables c.bring_in.ensures.shape.holds (c.bring_in.ensures.bytes tells) in
+    part_first a b b s t u c.args.regions.now c.bring_in.new.regions c.args.pid c.args.cpu.now bytes known view
+    (counts (g.C.Sink.puts c.args.console.now) (g.C.Sink.puts c.try_step.new.console) (g.R.Sink.puts c.args.report.now) (g.R.Sink.puts c.try_step.new.report) 0) c.try_step.result
+    (c.try_step.ensures.part.part b bytes known left same)

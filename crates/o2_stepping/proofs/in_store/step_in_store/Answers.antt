@@ -24,7 +24,11 @@ use Rattle.o2_stepping.proofs.Keeping.{shape_refl, shape_trans}
 use Rattle.o2_stepping.proofs.Lefts.{in_more, left_less, left_most, touched_few}
 use Rattle.o2_stepping.proofs.Rounds.{ages_seated, lacks_room, length_one, length_some, no_place, own_in, live_more, live_pair, live_seated, named_more, needed_all, needed_more, none_more, none_pair, none_seated, seated_few, seated_same}
 use Rattle.o2_stepping.proofs.Named.{both_in, or_front, or_back}
-use Rattle.o2_stepping.proofs.Steps.{at_sink, at_stop, first_from, missed_at, full_then, ran_at, ran_cause, ran_tries, tries_from}
+use Rattle.o2_run.specs.Pieces.{Counts, counts, Hands, PartHands}
+use Rattle.o2_stepping.specs.Pieces.{RanHands}
+use Rattle.o2_stepping.specs.declared.one_step.Ran.{Ran}
+use Rattle.o2_stepping.proofs.Puts.{missed_hands, part_fault, ran_fault, ran_hands}
+use Rattle.o2_stepping.proofs.Steps.{at_sink, at_stop, counts_from, first_from, full_then, missed_at, part_from, ran_at, ran_cause, ran_tries, tries_from}
 use Rattle.o2_stepping.proofs.Rooms.{room_fits, room_same}
 use Rattle.o2_stepping.proofs.Worlds.{registers_are, seen_present, view_same}
 use Rattle.o2_stepping.proofs.in_store.step_in_store.Goals as goal
@@ -346,3 +350,43 @@ returns-in-Ok-Ran-clause-cause g c =
 
 pub returns-in-Ok-Ran-clause-next : goal.returns-in-Ok-Ran-clause-next
 returns-in-Ok-Ran-clause-next g c = ran_at _ c.in-Ok-Ran.field-0 c.in-Ok-Ran.ran c.in-Ok-Ran.field-0-is c.in-Ok-Ran.ensures.next
+
+pub returns-in-Err-clause-puts : goal.returns-in-Err-clause-puts
+returns-in-Err-clause-puts g c =
+    let new = c.serve_and_try.new in
+    counts_from (λ (k : Counts). RanHands k (Err c.in-Err.fault)) (g.C.Sink.puts c.args.console.now) (g.C.Sink.puts new.console) (g.R.Sink.puts c.args.report.now) (g.R.Sink.puts new.report)
+    (ap g.C.Sink.puts c.tries.invariant.console) (ap g.R.Sink.puts c.tries.invariant.report) (ran_fault _ c.in-Err.fault c.in-Err.ensures.puts)
+
+pub returns-in-Ok-Ran-clause-puts : goal.returns-in-Ok-Ran-clause-puts
+returns-in-Ok-Ran-clause-puts g c =
+    let new = c.serve_and_try.new in
+    counts_from (λ (k : Counts). RanHands k (Ok c.in-Ok-Ran.ran)) (g.C.Sink.puts c.args.console.now) (g.C.Sink.puts new.console) (g.R.Sink.puts c.args.report.now) (g.R.Sink.puts new.report)
+    (ap g.C.Sink.puts c.tries.invariant.console) (ap g.R.Sink.puts c.tries.invariant.report) (ran_hands _ c.in-Ok-Ran.field-0 c.in-Ok-Ran.ran c.in-Ok-Ran.field-0-is c.in-Ok-Ran.ensures.puts)
+
+pub returns-then-not-add_missed-clause-puts : goal.returns-then-not-add_missed-clause-puts
+returns-then-not-add_missed-clause-puts g c =
+    let new = c.serve_and_try.new in
+    counts_from (λ (k : Counts). Hands k 0 0) (g.C.Sink.puts c.args.console.now) (g.C.Sink.puts new.console) (g.R.Sink.puts c.args.report.now) (g.R.Sink.puts new.report)
+    (ap g.C.Sink.puts c.tries.invariant.console) (ap g.R.Sink.puts c.tries.invariant.report) (missed_hands _ c.in-Ok-Missed.field-0 c.in-Ok-Missed.sel c.in-Ok-Missed.field-0-is c.in-Ok-Missed.ensures.puts)
+
+pub returns-in-Err-clause-part : goal.returns-in-Err-clause-part
+returns-in-Err-clause-part g c = λ bytes known tells left same.
+    let S = g.S.SwapDevice in
+    let i = c.tries.invariant in
+    let s = c.args.store.now in
+    let t = c.tries.store in
+    let m = c.args.regions.now in
+    let n = c.tries.regions in
+    let im = c.args.images.now in
+    let pid = c.args.pid in
+    let cpu = c.args.cpu.now in
+    let a : ℕ → List ℕ = away_of s m im (S.blocks c.args.swap.now) (S.block c.args.swap.now) in
+    let b : ℕ → List ℕ = away_of t n im (S.blocks c.tries.swap) (S.block c.tries.swap) in
+    let view = view_same a b s t m n pid cpu i.shape.tables i.shape.holds (i.bytes tells) in
+    let z : Before = before_in a s m pid cpu bytes known in
+    let new = c.serve_and_try.new in
+    let k = counts (g.C.Sink.puts c.tries.console) (g.C.Sink.puts new.console) (g.R.Sink.puts c.tries.report) (g.R.Sink.puts new.report) 0 in
+    counts_from (λ (n : Counts). PartHands {T = Ran} (effect z) n (Err c.in-Err.fault)) (g.C.Sink.puts c.args.console.now) (g.C.Sink.puts new.console) (g.R.Sink.puts c.args.report.now) (g.R.Sink.puts new.report)
+    (ap g.C.Sink.puts i.console) (ap g.R.Sink.puts i.report) (part_fault (effect z) k c.in-Err.fault
+    (part_from a b s t m n pid cpu bytes known view (i.bytes tells) c.tries.cpu i.cpu k (Err c.in-Err.fault)
+    (c.in-Err.ensures.part bytes known (subst IsTrue (sym i.told) tells) (ap g.I.Source.left i.input ∙ left) (record { avail = same.avail ∙ sym i.avail }))))
