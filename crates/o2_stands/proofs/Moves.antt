@@ -269,7 +269,7 @@ once_written (e ∷ es) bytes once =
     let put : ℕ → Segment → Segment = λ n s. record s { bytes = bytes n } in
     (get-map put es e.0 ∙ none_stays (put e.0) (get es e.0) once.0, once_written es bytes once.1)
 
-tidy_written : (ps : List Process) (names : Map Segment) (reserved : List Reserve) (bytes : ℕ → List ℕ) → IsTidy ps names reserved → IsTidy ps (with_bytes names bytes) reserved
+pub tidy_written : (ps : List Process) (names : Map Segment) (reserved : List Reserve) (bytes : ℕ → List ℕ) → IsTidy ps names reserved → IsTidy ps (with_bytes names bytes) reserved
 tidy_written ps names reserved bytes tidy =
     let put : ℕ → Segment → Segment = λ n s. record s { bytes = bytes n } in
     record {

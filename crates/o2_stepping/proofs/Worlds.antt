@@ -49,7 +49,7 @@ sizes_same s t w = fun_ext (λ n. ap (size_under t) (same_keys s t w n) ∙ size
 -- Bytes.
 
 -- as many as a number says, each by its place
-abbrev table : (ℕ → ℕ) → ℕ → List ℕ
+abbrev pub table : (ℕ → ℕ) → ℕ → List ℕ
 table f n = map f (range_with_len 0 n)
 
 table_same : (f g : ℕ → ℕ) (n : ℕ) → ((j : ℕ) → j < n → f j ≡ g j) → table f n ≡ table g n
@@ -67,7 +67,7 @@ part_table memory at n room =
     get-part memory at n j l2 ∙ sym (get_or-map-range_with_len (λ j. get_or memory (at + j) 0) 0 n j j 0 l2 (omega arith))))
 
 -- the bytes of a number's segment, wherever they lie
-abbrev all_under : Shelf → Pictures → (ℕ → List ℕ) → Option ℕ → List ℕ
+abbrev pub all_under : Shelf → Pictures → (ℕ → List ℕ) → Option ℕ → List ℕ
 all_under s pic block None = []
 all_under s pic block (Some k) = table (byte_at s pic block k) (entry s k).size
 

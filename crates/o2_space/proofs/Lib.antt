@@ -1,0 +1,5 @@
+pub mod Alike
+pub mod Sights
+pub mod Behind
+pub mod Commits
+pub mod Rooms

@@ -1,0 +1,64 @@
+use Rattle.std.proofs.Common.{◌≡◌, ℕ, ◌-◌, List, [], Bool, true, false, ap, sym, ◌∙◌, refl, subst, arith}
+use Rattle.o2_world.specs.World.{is_live as lives_on}
+use Rattle.o2_stands.specs.Moves.{stepped_to, with_running}
+use Rattle.o2_stands.specs.Parts.{Parts}
+use Rattle.o2_stands.specs.Stands.{IsReady}
+use Rattle.o2_space.specs.declared.space.Proc.{Proc}
+use Rattle.o2_space.specs.Parts.{parts_in, running_at, running_in}
+use Rattle.o2_space.proofs.Alike.{ready_as, set_as}
+use Rattle.o2_space.proofs.Commits.{count_put, marked_end, marked_put, now, set_ended, stands_ended, stands_live}
+use Rattle.o2_space.proofs.space.Space.commit.Goals as goal
+
+pub returns-then-not-is_live-clause-stands : goal.returns-then-not-is_live-clause-stands
+returns-then-not-is_live-clause-stands c = λ device block w x e stands found live cpu state.
+    let m = c.args.self.now in
+    let y : Proc = record { cpu = c.args.cpu.now; state = c.args.state } in
+    stands_ended m.procs.items c.args.pid y c.requires.process.0 c.requires.there (parts_in m device block) w x e refl stands found cpu (sym state)
+    c.end.new.store c.end.new.regions c.end.ensures.behind (ap lives_on state ∙ sym c.if-not-is_live.ensures)
+
+pub returns-else-not-is_live-clause-stands : goal.returns-else-not-is_live-clause-stands
+returns-else-not-is_live-clause-stands c = λ device block w x e stands found live cpu state.
+    let m = c.args.self.now in
+    let y : Proc = record { cpu = c.args.cpu.now; state = c.args.state } in
+    stands_live m.procs.items c.args.pid y c.requires.process.0 c.requires.there (parts_in m device block) w x e refl stands found cpu (sym state)
+    (ap lives_on state ∙ sym c.if-not-is_live.ensures) live
+
+pub returns-then-not-is_live-clause-together : goal.returns-then-not-is_live-clause-together
+returns-then-not-is_live-clause-together c = λ device here together.
+    let m = c.args.self.now in
+    let y : Proc = record { cpu = c.args.cpu.now; state = c.args.state } in
+    let t = c.end.new.store in
+    let n = c.end.new.regions in
+    let dead : lives_on c.args.state ≡ false = sym c.if-not-is_live.ensures in
+    record {
+      ready = λ block.
+          ready_as t n m.images device block block (running_at m.procs.items) (running_at (now m.procs.items c.args.pid y c.requires.process.0 c.requires.there))
+          (c.end.ensures.behind.ready (parts_in m device block) (together.ready block));
+      numbers = (let a = together.numbers in let b = count_put m.procs.items c.args.pid y c.requires.process.0 c.requires.there in let d = c.end.ensures.maps.processes in omega (arith, a, b, d));
+      marked = marked_end m.procs.items c.args.pid y c.requires.process.0 c.requires.there c.end.new.ends (parts_in m device (λ k. [])) refl
+          (c.end.ensures.marked (parts_in m device (λ k. [])) (running_in y) dead together.marked);
+    }
+
+pub returns-else-not-is_live-clause-together : goal.returns-else-not-is_live-clause-together
+returns-else-not-is_live-clause-together c = λ device here together.
+    let m = c.args.self.now in
+    let y : Proc = record { cpu = c.args.cpu.now; state = c.args.state } in
+    let live : lives_on c.args.state ≡ true = sym c.if-not-is_live.ensures in
+    record {
+      ready = λ block. ready_as m.store m.regions m.images device block block (running_at m.procs.items) (running_at (now m.procs.items c.args.pid y c.requires.process.0 c.requires.there)) (together.ready block);
+      numbers = (let a = together.numbers in let b = count_put m.procs.items c.args.pid y c.requires.process.0 c.requires.there in omega (arith, a, b));
+      marked = marked_put m.procs.items c.args.pid y c.requires.process.0 c.requires.there m.ends together.marked (here ∙ sym live);
+    }
+
+pub returns-then-not-is_live-clause-set : goal.returns-then-not-is_live-clause-set
+returns-then-not-is_live-clause-set c = λ device block s set.
+    let m = c.args.self.now in
+    let y : Proc = record { cpu = c.args.cpu.now; state = c.args.state } in
+    set_as c.end.new.store c.end.new.regions m.images device block block (running_at m.procs.items) (running_at (now m.procs.items c.args.pid y c.requires.process.0 c.requires.there)) s
+    (set_ended (parts_in m device block) c.end.new.store c.end.new.regions s c.end.ensures.store set)
+
+pub returns-else-not-is_live-clause-set : goal.returns-else-not-is_live-clause-set
+returns-else-not-is_live-clause-set c = λ device block s set.
+    let m = c.args.self.now in
+    let y : Proc = record { cpu = c.args.cpu.now; state = c.args.state } in
+    set_as m.store m.regions m.images device block block (running_at m.procs.items) (running_at (now m.procs.items c.args.pid y c.requires.process.0 c.requires.there)) s set

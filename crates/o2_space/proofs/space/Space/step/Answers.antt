@@ -1,0 +1,95 @@
+use Rattle.std.proofs.Common.{◌≡◌, ℕ, ◌≤◌, ◌<◌, List, [], Option, None, ap, sym, ◌∙◌, refl, subst, arith}
+use Rattle.o2_isa.specs.View.{bound_registers}
+use Rattle.o2_segbus.specs.Seen.{hold_in}
+use Rattle.o2_world.specs.Calls.{Before}
+use Rattle.o2_world.specs.Effect.{effect}
+use Rattle.o2_world.specs.Known.{known_of}
+use Rattle.o2_world.specs.Run.{before}
+use Rattle.o2_stands.specs.Parts.{Parts, Running}
+use Rattle.o2_stepping.specs.Rooms.{all_names, needed_names, room_in}
+use Rattle.o2_stepping.specs.Taken.{OnDone, OnSwapStop, Takes}
+use Rattle.o2_stepping.specs.Worlds.{away_of, bytes_with}
+use Rattle.o2_stepping.proofs.Worlds.{same_map}
+use Rattle.o2_space.specs.Parts.{parts_in, running_at}
+use Rattle.o2_space.proofs.Alike.{ready_as}
+use Rattle.o2_space.proofs.Behind.{set_behind, steps_by}
+use Rattle.o2_space.proofs.Rooms.{on_stop, room_by}
+use Rattle.o2_space.proofs.Sights.{before_is}
+use Rattle.o2_space.proofs.space.Space.step.Goals as goal
+
+pub step_in_store-result-requires-clause-ready : goal.step_in_store-result-requires-clause-ready
+step_in_store-result-requires-clause-ready g c =
+    let S = g.S.SwapDevice in
+    let m = c.args.self.now in
+    ready_as m.store m.regions m.images (S.blocks c.args.swap.now) (S.block c.args.swap.now) (S.block c.args.swap.now) (running_at m.procs.items) (λ k. None)
+    (c.requires.together.ready (S.block c.args.swap.now))
+
+pub returns-clause-steps : goal.returns-clause-steps
+returns-clause-steps g c = λ s w x tells stands there same left known.
+    let S = g.S.SwapDevice in
+    let m = c.args.self.now in
+    let new = c.step_in_store-result.new in
+    let e = c.step_in_store-result.ensures in
+    let p : Parts = parts_in m (S.blocks c.args.swap.now) (S.block c.args.swap.now) in
+    let b : Before = before s w c.args.pid x in
+    let old_bytes : ℕ → List ℕ = bytes_with (away_of m.store m.regions m.images (S.blocks c.args.swap.now) (S.block c.args.swap.now)) m.store in
+    let new_bytes : ℕ → List ℕ = bytes_with (away_of new.store new.regions m.images (S.blocks new.swap) (S.block new.swap)) new.store in
+    let ready = ready_as new.store new.regions m.images (S.blocks new.swap) (S.block new.swap) (S.block new.swap) (λ k. None) (running_at m.procs.items) e.ready in
+    steps_by p new.store new.regions (S.blocks new.swap) (S.block new.swap) e.shape c.lawful.ensures c.lawful-2.ensures.inside ready w stands b new.cpu _ _ _ _ _ _ c.step_in_store-result.result
+    (subst (λ (z : Before). Takes z (effect z) new.cpu old_bytes new_bytes (g.I.Source.left c.args.input.now) (g.I.Source.left new.input)
+    (g.C.Sink.taken c.args.console.now) (g.C.Sink.taken new.console) (g.R.Sink.taken c.args.report.now) (g.R.Sink.taken new.report) c.step_in_store-result.result)
+    (before_is p w c.lawful.ensures stands s c.args.pid x c.args.cpu.now there same) (e.takes w.input (known_of s w) tells left known))
+
+pub returns-clause-still : goal.returns-clause-still
+returns-clause-still g c = on_stop _ _ c.step_in_store-result.result (λ p. (p.1, p.2, p.3)) c.step_in_store-result.ensures.still
+
+pub returns-clause-room : goal.returns-clause-room
+returns-clause-room g c = λ s w x tells stands there same left known.
+    let S = g.S.SwapDevice in
+    let m = c.args.self.now in
+    let pid = c.args.pid in
+    let new = c.step_in_store-result.new in
+    let e = c.step_in_store-result.ensures in
+    let result = c.step_in_store-result.result in
+    let p : Parts = parts_in m (S.blocks c.args.swap.now) (S.block c.args.swap.now) in
+    let b : Before = before s w pid x in
+    let old_bytes : ℕ → List ℕ = bytes_with (away_of m.store m.regions m.images (S.blocks c.args.swap.now) (S.block c.args.swap.now)) m.store in
+    let new_bytes : ℕ → List ℕ = bytes_with (away_of new.store new.regions m.images (S.blocks new.swap) (S.block new.swap)) new.store in
+    let is = before_is p w c.lawful.ensures stands s pid x c.args.cpu.now there same in
+    room_by m.store b (effect b) (hold_in new.regions pid) (hold_in m.regions pid) new.cpu old_bytes new_bytes _ _ _ _ _ _ result (same_map m.regions new.regions pid e.shape.holds)
+    (subst (λ (z : Before). Takes z (effect z) new.cpu old_bytes new_bytes (g.I.Source.left c.args.input.now) (g.I.Source.left new.input)
+    (g.C.Sink.taken c.args.console.now) (g.C.Sink.taken new.console) (g.R.Sink.taken c.args.report.now) (g.R.Sink.taken new.report) result) is (e.takes w.input (known_of s w) tells left known))
+    (subst (λ (z : Before). OnDone result (room_in m.store (all_names z (bound_registers (hold_in new.regions pid) new.cpu)) ≤ m.store.places.size)) is (e.room w.input (known_of s w) tells))
+
+pub returns-clause-no_room : goal.returns-clause-no_room
+returns-clause-no_room g c = λ s w x tells stands there same.
+    let S = g.S.SwapDevice in
+    let m = c.args.self.now in
+    let p : Parts = parts_in m (S.blocks c.args.swap.now) (S.block c.args.swap.now) in
+    subst (λ (z : Before). OnSwapStop c.step_in_store-result.result (m.store.places.size < room_in m.store (needed_names z)) (Unit {0}) (Unit {0}))
+    (before_is p w c.lawful.ensures stands s c.args.pid x c.args.cpu.now there same) (c.step_in_store-result.ensures.no_room w.input (known_of s w) tells)
+
+pub returns-clause-together : goal.returns-clause-together
+returns-clause-together g c =
+    let S = g.S.SwapDevice in
+    let m = c.args.self.now in
+    let new = c.step_in_store-result.new in
+    let e = c.step_in_store-result.ensures in
+    record {
+      ready = λ block. ready_as new.store new.regions m.images (S.blocks new.swap) (S.block new.swap) block (λ k. None) (running_at m.procs.items) e.ready;
+      numbers = (let a = c.requires.together.numbers in let b = e.shape.holds.processes in omega (arith, a, b));
+      marked = c.requires.together.marked;
+    }
+
+pub returns-clause-set : goal.returns-clause-set
+returns-clause-set g c = λ s set.
+    let S = g.S.SwapDevice in
+    let new = c.step_in_store-result.new in
+    let e = c.step_in_store-result.ensures in
+    set_behind (parts_in c.args.self.now (S.blocks c.args.swap.now) (S.block c.args.swap.now)) new.store new.regions (S.blocks new.swap) (S.block new.swap) e.shape s e.device.0 set
+
+pub returns-clause-processes : goal.returns-clause-processes
+returns-clause-processes g c = c.step_in_store-result.ensures.shape.holds.processes
+
+pub returns-clause-most : goal.returns-clause-most
+returns-clause-most g c = c.lawful-2.ensures.maps.most

@@ -1,0 +1,205 @@
+// One step of a process over a store.
+ghost use Rattle.std.specs.Prelude.{◌≡◌, ◌<◌, ◌≤◌, ◌⊎◌, ℕ, List, length, Some, true, IsTrue};
+ghost use Rattle.o2_outer.specs.Texts.{Rose};
+ghost use Rattle.o2_isa.specs.View.{bound_registers};
+ghost use Rattle.o2_regions.specs.Lives.{lives};
+ghost use Rattle.o2_regions.specs.Maps.{IsProcess};
+ghost use Rattle.o2_segbus.specs.Seen.{hold_in};
+ghost use Rattle.o2_segbus.specs.Settled.{IsSettled};
+ghost use Rattle.o2_service.specs.Told.{IsHeldWell};
+ghost use Rattle.o2_store.specs.Loads.{live_load, swap_load};
+ghost use Rattle.o2_swapmap.specs.Piles.{all_of};
+ghost use Rattle.o2_world.specs.Calls.{Effect};
+ghost use Rattle.o2_world.specs.Effect.{effect};
+ghost use Rattle.o2_world.specs.Holders.{process_at};
+ghost use Rattle.o2_world.specs.Known.{known_of};
+ghost use Rattle.o2_world.specs.Run.{before};
+ghost use Rattle.o2_world.specs.Views.{with_bytes};
+ghost use Rattle.o2_world.specs.World.{Process, Setting, World, is_live as lives_on};
+ghost use Rattle.o2_gate.specs.Befores.{IsKnown};
+ghost use Rattle.o2_stands.specs.Stands.{IsSetTo, Stands, StandsIn};
+ghost use Rattle.o2_stepping.specs.Rooms.{all_names, needed_names, room_in};
+ghost use Rattle.o2_stepping.specs.Taken.{OnDone, OnNoStep, OnSwapStop, TakenFor};
+ghost use Rattle.o2_space.specs.Acts.{Acts};
+ghost use Rattle.o2_space.specs.Between.{Steps};
+ghost use Rattle.o2_space.specs.Parts.{parts_in};
+ghost use Rattle.o2_space.specs.Stands.{GoTogether, StandsAfter};
+
+use crate::space::{Proc, Space};
+use o2_ends::end;
+use o2_isa::Cpu;
+use o2_outer::{Sink, Source, SwapDevice};
+use o2_run::Fault;
+use o2_stands::lawful;
+use o2_stepping::{Ran, step_in_store};
+use o2_world::State;
+
+/// Whether a process goes on.
+pub fn is_live(state: State) -> bool
+    ensures { result ≡ lives_on state }
+{
+    matches!(state, State::Live)
+}
+
+impl Space {
+    /// Registers and state of a process behind its step; where it has ended it lets go of all that it holds.
+    fn commit(&mut self, pid: u16, cpu: &Cpu, state: State)
+        requires there { pid ≤ length self.old.procs.items }
+        requires process { IsProcess self.old.regions pid }
+        requires most { pid ≤ 64 }
+        requires held { IsHeldWell self.old.store self.old.regions }
+        requires settled { IsSettled self.old.store self.old.regions }
+        ensures stands { (device : ℕ) (block : ℕ → List ℕ) (w : World) (x : Process) (e : Effect)
+            → StandsIn (parts_in self.old device block) w.processes (with_bytes w.names e.bytes) w.next_name w.reserved
+            → process_at w.processes pid ≡ Some x → lives_on x.state ≡ true → cpu.now ≡ e.cpu → e.state ≡ state
+            → StandsAfter w pid x e (parts_in self.new device block) }
+        ensures together { (device : ℕ) → lives self.old.ends pid ≡ true → GoTogether self.old device → GoTogether self.new device }
+        ensures set { (device : ℕ) (block : ℕ → List ℕ) (s : Setting)
+            → IsSetTo (parts_in self.old device block) s → IsSetTo (parts_in self.new device block) s }
+        ensures count { length self.new.procs.items ≡ length self.old.procs.items }
+        ensures processes { self.new.regions.processes ≡ self.old.regions.processes }
+        ensures avail { self.new.services.avail ≡ self.old.services.avail }
+    {
+        self.procs[pid as usize - 1] = Proc { cpu: *cpu, state };
+        if !is_live(state) {
+            end(pid, &mut self.store, &mut self.regions, &mut self.ends);
+        }
+    }
+
+    /// A step of a process with these registers, which aren't written back; what an end takes isn't taken yet.
+    fn step<I: Source, C: Sink, R: Sink, S: SwapDevice>(
+        &mut self,
+        pid: u16,
+        cpu: &mut Cpu,
+        input: &mut I,
+        console: &mut C,
+        report: &mut R,
+        swap: &mut S,
+    ) -> Result<Ran, Fault>
+        requires process { IsProcess self.old.regions pid }
+        requires together { GoTogether self.old (S.blocks swap.old) }
+        ensures steps { (s : Setting) (w : World) (x : Process) → IsTrue (S.told swap.old)
+            → Stands (parts_in self.old (S.blocks swap.old) (S.block swap.old)) w
+            → process_at w.processes pid ≡ Some x → cpu.old ≡ x.cpu
+            → I.left input.old ≡ Some w.input → IsKnown (known_of s w) self.old.services
+            → Steps (before s w pid x) w cpu.new (parts_in self.new (S.blocks swap.new) (S.block swap.new))
+            (I.left input.old) (I.left input.new) (C.taken console.old) (C.taken console.new) (R.taken report.old) (R.taken report.new) result }
+        ensures still { OnNoStep result ((input.new ≡ input.old) × (console.new ≡ console.old) × (report.new ≡ report.old)) }
+        ensures room { (s : Setting) (w : World) (x : Process) → IsTrue (S.told swap.old)
+            → Stands (parts_in self.old (S.blocks swap.old) (S.block swap.old)) w
+            → process_at w.processes pid ≡ Some x → cpu.old ≡ x.cpu
+            → I.left input.old ≡ Some w.input → IsKnown (known_of s w) self.old.services
+            → let b = before s w pid x in
+            OnDone result (room_in self.old.store (all_names b (bound_registers (hold_in self.old.regions pid) (effect b).cpu))
+            ≤ self.old.store.places.size) }
+        ensures no_room { (s : Setting) (w : World) (x : Process) → IsTrue (S.told swap.old)
+            → Stands (parts_in self.old (S.blocks swap.old) (S.block swap.old)) w
+            → process_at w.processes pid ≡ Some x → cpu.old ≡ x.cpu
+            → OnSwapStop result (self.old.store.places.size < room_in self.old.store (needed_names (before s w pid x))) (Unit {0}) (Unit {0}) }
+        ensures swap_stops { OnSwapStop result (Unit {0})
+            ((all_of self.old.store.swap < swap_load self.old.store) × (self.old.store.places.size < live_load self.old.store))
+            (Rose (S.faults swap.old) (S.faults swap.new)) }
+        ensures together { GoTogether self.new (S.blocks swap.new) }
+        ensures set { (s : Setting) → IsSetTo (parts_in self.old (S.blocks swap.old) (S.block swap.old)) s
+            → IsSetTo (parts_in self.new (S.blocks swap.new) (S.block swap.new)) s }
+        ensures procs { self.new.procs ≡ self.old.procs }
+        ensures ends { self.new.ends ≡ self.old.ends }
+        ensures processes { self.new.regions.processes ≡ self.old.regions.processes }
+        ensures most { self.new.regions.processes ≤ 64 }
+        ensures avail { self.new.services.avail ≡ self.old.services.avail }
+        ensures device { (S.blocks swap.new ≡ S.blocks swap.old) × (S.told swap.new ≡ S.told swap.old) }
+        ensures cause { TakenFor (Rose (C.faults console.old) (C.faults console.new) ⊎ Rose (R.faults report.old) (R.faults report.new))
+            (Rose (I.faults input.old) (I.faults input.new)) result }
+        ensures input_count { I.faults input.old ≤ I.faults input.new }
+        ensures console_count { C.faults console.old ≤ C.faults console.new }
+        ensures report_count { R.faults report.old ≤ R.faults report.new }
+        ensures swap_count { S.faults swap.old ≤ S.faults swap.new }
+    {
+        lawful(&self.store, &self.regions);
+        let result = step_in_store(
+            pid,
+            cpu,
+            &mut self.store,
+            &mut self.regions,
+            &self.images,
+            &mut self.services,
+            input,
+            console,
+            report,
+            swap,
+        );
+        lawful(&self.store, &self.regions);
+        result
+    }
+
+    /// One step of a process that lives: what it needs comes into memory together, and it is the step of the boundless machine;
+    /// where it ends the process, all that this holds goes.
+    ///
+    /// Where what it needs doesn't come in, the step isn't taken: `Stop::NoRoom`, `Stop::SwapFull` or `Stop::SwapFault`. Nor is
+    /// it where the input fails, `Stop::Input`, or a sink, `Fault::Sink`. Where the report fails in the line of an exception
+    /// that follows a step, the step is done all the same, and its last line isn't whole.
+    pub fn act<I: Source, C: Sink, R: Sink, S: SwapDevice>(
+        &mut self,
+        pid: u16,
+        input: &mut I,
+        console: &mut C,
+        report: &mut R,
+        swap: &mut S,
+    ) -> Result<Ran, Fault>
+        requires some { 1 ≤ pid }
+        requires there { pid ≤ length self.old.procs.items }
+        requires live { lives self.old.ends pid ≡ true }
+        requires together { GoTogether self.old (S.blocks swap.old) }
+
+        // From a machine that stands for a world, the step of the boundless machine; or it stands for the same world.
+        ensures acts { (s : Setting) (w : World) (x : Process) → IsTrue (S.told swap.old)
+            → Stands (parts_in self.old (S.blocks swap.old) (S.block swap.old)) w
+            → process_at w.processes pid ≡ Some x
+            → I.left input.old ≡ Some w.input → IsKnown (known_of s w) self.old.services
+            → Acts (before s w pid x) w x (parts_in self.new (S.blocks swap.new) (S.block swap.new))
+            (I.left input.old) (I.left input.new) (C.taken console.old) (C.taken console.new) (R.taken report.old) (R.taken report.new) result }
+        ensures still { OnNoStep result ((input.new ≡ input.old) × (console.new ≡ console.old) × (report.new ≡ report.old)) }
+
+        // The room of a step that is done is at most the memory, and more than it at NoRoom; what swapping has to hold exceeds
+        // blocks and memory at SwapFull, and the device failed at SwapFault.
+        ensures room { (s : Setting) (w : World) (x : Process) → IsTrue (S.told swap.old)
+            → Stands (parts_in self.old (S.blocks swap.old) (S.block swap.old)) w
+            → process_at w.processes pid ≡ Some x
+            → I.left input.old ≡ Some w.input → IsKnown (known_of s w) self.old.services
+            → let b = before s w pid x in
+            OnDone result (room_in self.old.store (all_names b (bound_registers (hold_in self.old.regions pid) (effect b).cpu))
+            ≤ self.old.store.places.size) }
+        ensures no_room { (s : Setting) (w : World) (x : Process) → IsTrue (S.told swap.old)
+            → Stands (parts_in self.old (S.blocks swap.old) (S.block swap.old)) w
+            → process_at w.processes pid ≡ Some x
+            → OnSwapStop result (self.old.store.places.size < room_in self.old.store (needed_names (before s w pid x))) (Unit {0}) (Unit {0}) }
+        ensures swap_stops { OnSwapStop result (Unit {0})
+            ((all_of self.old.store.swap < swap_load self.old.store) × (self.old.store.places.size < live_load self.old.store))
+            (Rose (S.faults swap.old) (S.faults swap.new)) }
+
+        // The parts go on to go together, whatever the device tells, and what a setting fixes stays.
+        ensures together { GoTogether self.new (S.blocks swap.new) }
+        ensures set { (s : Setting) → IsSetTo (parts_in self.old (S.blocks swap.old) (S.block swap.old)) s
+            → IsSetTo (parts_in self.new (S.blocks swap.new) (S.block swap.new)) s }
+        ensures count { length self.new.procs.items ≡ length self.old.procs.items }
+        ensures processes { self.new.regions.processes ≡ self.old.regions.processes }
+        ensures avail { self.new.services.avail ≡ self.old.services.avail }
+        ensures device { (S.blocks swap.new ≡ S.blocks swap.old) × (S.told swap.new ≡ S.told swap.old) }
+
+        ensures cause { TakenFor (Rose (C.faults console.old) (C.faults console.new) ⊎ Rose (R.faults report.old) (R.faults report.new))
+            (Rose (I.faults input.old) (I.faults input.new)) result }
+        ensures input_count { I.faults input.old ≤ I.faults input.new }
+        ensures console_count { C.faults console.old ≤ C.faults console.new }
+        ensures report_count { R.faults report.old ≤ R.faults report.new }
+        ensures swap_count { S.faults swap.old ≤ S.faults swap.new }
+    {
+        let mut cpu = self.procs[pid as usize - 1].cpu;
+        match self.step(pid, &mut cpu, input, console, report, swap) {
+            Err(fault) => Err(fault),
+            Ok(ran) => {
+                self.commit(pid, &cpu, ran.state);
+                Ok(ran)
+            }
+        }
+    }
+}
