@@ -1,7 +1,7 @@
 -- The bytes of the ranges of a memory.
-use Rattle.std.specs.Prelude.{◌≡◌, ◌≢◌, ℕ, ◌+◌, ◌-◌, Some, List, length, take, Option, option_map}
+use Rattle.std.specs.Prelude.{◌≡◌, ◌≢◌, ℕ, ◌+◌, ◌-◌, ◌<◌, ◌≤◌, Some, None, List, length, take, drop, Option, option_map}
 use Rattle.o2_phys.specs.Bytes.{part}
-use Rattle.o2_place.specs.Layout.{Layout, find_in, used, len_of, ids_of, without, IsFree}
+use Rattle.o2_place.specs.Layout.{Layout, find_in, used, len_of, ids_of, without, IsFree, range_at}
 
 -- the bytes of an id's range
 abbrev pub part_of : List ℕ → Layout → ℕ → Option (List ℕ)
@@ -46,3 +46,11 @@ GrowsInPlace p q id len = (at was : ℕ) → find_in p.ranges id ≡ Some (at, w
 -- where a gap has room for it, no other one moves
 abbrev pub MovesAlone : Layout → Layout → ℕ → ℕ → Type 0
 MovesAlone p q id len = (at : ℕ) → IsFree p.size p.ranges at len → StayBut p q id
+
+-- all ids have the ranges that they had, but those of the n-th range and the ones behind it
+abbrev pub StayInFront : Layout → Layout → ℕ → Type 0
+StayInFront p q n = (id : ℕ) → find_in (drop n q.ranges) id ≡ None → find_in q.ranges id ≡ find_in p.ranges id
+
+-- the n-th range and each one behind it begin below where they began
+abbrev pub SlideBehind : Layout → Layout → ℕ → Type 0
+SlideBehind p q n = (k : ℕ) → n ≤ k → k < length q.ranges → (range_at q.ranges k).at < (range_at p.ranges k).at

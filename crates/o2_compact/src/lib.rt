@@ -3,24 +3,63 @@
 
 ghost use Rattle.std.specs.Prelude.{◌≡◌, ◌≢◌, ℕ, ◌+◌, ◌<◌, ◌≤◌, ◌-◌, Some, None, length, IsSome, take};
 ghost use Rattle.o2_place.specs.Layout.{IsFree, IsPacked, find_in, used, end_before, start_of, range_at, reshaped};
-ghost use Rattle.o2_compact.specs.Parts.{KeepsParts, OpensGap, length_of, GrowsInPlace, MovesAlone, StayBut};
+ghost use Rattle.o2_compact.specs.Parts.{KeepsParts, OpensGap, length_of, GrowsInPlace, MovesAlone, SlideBehind, StayBut, StayInFront};
 
 use o2_phys::Phys;
 use o2_place::{Places, Range};
 
-/// Moves the ranges down, in order, until they lie one behind the other from 0 on. Each id's bytes stay.
-pub fn close_up(phys: &mut Phys, places: &mut Places)
+/// Moves the ranges down, in order, until they lie one behind the other from 0 on. Each id's bytes stay. The answer is how many
+/// ranges lie so already: they stay where they are, and each one behind them moves down. The work is that of the others, beside
+/// one look at each of the first.
+pub fn close_up(phys: &mut Phys, places: &mut Places) -> u32
     requires memory { places.old.size ≤ length phys.old }
     ensures kept { KeepsParts phys.old places.old phys.new places.new }
     ensures packed { IsPacked places.new.ranges (length places.new.ranges) }
     ensures room { (len : ℕ) → used places.new.ranges + len ≤ places.new.size → IsFree places.new.size places.new.ranges (used places.new.ranges) len }
+    ensures stay { StayInFront places.old places.new result }
+    ensures slide { SlideBehind places.old places.new result }
 {
-    let mut end = 0;
-    for k in 0..places.count() {
+    places.law();
+    let front = packed_front(places);
+    let mut end = end_below(places, front);
+    for k in front..places.count() {
         places.law();
         end = move_range(phys, places, k, end);
     }
     places.law();
+    front
+}
+
+// How many ranges lie one behind the other from 0 on.
+fn packed_front(places: &Places) -> u32
+    ensures within { result ≤ length places.now.ranges }
+    ensures packed { IsPacked places.now.ranges result }
+    ensures gap { result < length places.now.ranges
+        → end_before 0 places.now.ranges result < (range_at places.now.ranges result).at }
+{
+    places.law();
+    let mut end = 0;
+    for k in 0..places.count() {
+        let range = places.range_at(k);
+        if range.at > end {
+            return k;
+        }
+        end = range.at + range.len;
+    }
+    places.count()
+}
+
+// Where the range before the k-th ends, and 0 before the first.
+fn end_below(places: &Places, k: u32) -> u32
+    requires { k ≤ length places.now.ranges }
+    ensures { result ≡ end_before 0 places.now.ranges k }
+{
+    if k == 0 {
+        return 0;
+    }
+    places.law();
+    let below = places.range_at(k - 1);
+    below.at + below.len
 }
 
 /// Gives an id that has a range one of `len` bytes, whose first bytes are its old ones. The others keep their bytes and
