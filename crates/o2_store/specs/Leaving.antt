@@ -1,8 +1,10 @@
 -- What is left of segments that leave the memory.
-use Rattle.std.specs.Prelude.{◌≡◌, ◌≢◌, ℕ, ◌+◌, ◌-◌, ◌<◌, Some, None, IsSome, false, slice_index_or}
+use Rattle.std.specs.Prelude.{◌≡◌, ◌≢◌, ℕ, ◌+◌, ◌-◌, ◌<◌, List, Some, None, IsSome, false, slice_index_or}
 use Rattle.o2_entries.specs.Tables.{slot_at}
+use Rattle.o2_place.specs.declared.seg_id.SegId.{SegId}
 use Rattle.o2_place.specs.Marks.{IsVictim}
-use Rattle.o2_store.specs.Shelf.{Shelf, entry, place_of}
+use Rattle.o2_store.specs.Needs.{named_in}
+use Rattle.o2_store.specs.Shelf.{Shelf, entry, entry_of, place_of}
 
 -- the segment has no image any more, and the last byte that its blocks keep isn't zero
 pub record IsWrittenOut (old new : Shelf) (k : ℕ) : Type 0 where
@@ -27,3 +29,12 @@ pub record TakesVictim (old new : Shelf) : Type 0 where
   pub was : IsSome (place_of old number)
   pub out : place_of new number ≡ None
   pub others : (k : ℕ) → k ≢ number → place_of new k ≡ place_of old k
+
+-- a segment that may leave the memory for a number's one, which is to be there together with a list: a live one in memory that
+-- isn't locked, isn't that one, and isn't named in the list
+pub record MayLeave (s : Shelf) (key : ℕ) (keep : List SegId) (out : SegId) : Type 0 where
+  pub live : IsSome (entry_of s out)
+  pub here : IsSome (place_of s out.key)
+  pub unlocked : (entry s out.key).attr.lock ≡ 0
+  pub other : out.key ≢ key
+  pub unnamed : named_in s.entries keep out.key ≡ false

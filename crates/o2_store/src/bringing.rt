@@ -3,7 +3,7 @@ ghost use Rattle.std.specs.Prelude.{◌≡◌, ◌≢◌, ℕ, List, ◌+◌, �
 ghost use Rattle.std.specs.Option.{IfNone};
 ghost use Rattle.o2_entries.specs.Tables.{slot_at};
 ghost use Rattle.o2_outer.specs.Texts.{Rose};
-ghost use Rattle.o2_place.specs.Layout.{used};
+ghost use Rattle.o2_place.specs.Layout.{IsFree, used};
 ghost use Rattle.o2_place.specs.Marks.{IsKept, IsOutside, IsVictim, place_in};
 ghost use Rattle.o2_swapmap.specs.Piles.{all_of};
 ghost use Rattle.o2_store.specs.Shelf.{Shelf, Pictures, KeepsAll, AreClean, SameTables, place_of, entry, entry_of, rounded, HasAll, IsFull};
@@ -28,7 +28,7 @@ impl Store {
     }
 
     // A segment in memory that isn't locked and not among the numbers.
-    fn next_victim(&mut self) -> Option<u32>
+    pub(crate) fn next_victim(&mut self) -> Option<u32>
         ensures shelf { self.new ≡ record self.old { turns = self.new.turns } }
         ensures some { IfSome result (λ v. (v < length self.old.entries) × IsSome (place_of self.old v) × ((entry self.old v).attr.lock ≡ 0) × IsOutside self.old.keys v) }
         ensures none { IfNone result ((k : ℕ) → IsSome (place_of self.old k) → (entry self.old k).attr.lock ≡ 0 → IsKept self.old.keys k) }
@@ -147,7 +147,7 @@ impl Store {
     }
 
     // Brings a segment in where enough bytes are in no range, or the swap device fails.
-    fn come_in<S: SwapDevice>(
+    pub(crate) fn come_in<S: SwapDevice>(
         &mut self,
         key: u32,
         len: u32,
@@ -171,6 +171,8 @@ impl Store {
         ensures none { (k : ℕ) → k ≢ key → place_of self.old k ≡ None → place_of self.new k ≡ None }
         ensures entries { self.new.entries ≡ self.old.entries }
         ensures others { (k : ℕ) → IsSome (place_of self.old k) → IsSome (place_of self.new k) }
+        ensures alone { (at : ℕ) → IsFree self.old.places.size self.old.places.ranges at len
+            → (k : ℕ) → k ≢ key → place_of self.new k ≡ place_of self.old k }
         ensures faults { S.faults swap.old ≤ S.faults swap.new }
         ensures cause { result ≡ Brought.SwapFault → Rose (S.faults swap.old) (S.faults swap.new) }
         ensures never { (result ≡ Brought.NoRoom → ⊥) × (result ≡ Brought.Stale → ⊥) × (result ≡ Brought.SwapFull → ⊥) }

@@ -206,6 +206,8 @@ impl Store {
         ensures already { place_of self.old id.key ≡ None → (self.new ≡ self.old) × (swap.new ≡ swap.old) }
 
         ensures out { result ≡ Brought.Here → place_of self.new id.key ≡ None }
+        ensures fewer { result ≡ Brought.Here → IsSome (place_of self.old id.key)
+            → length self.new.places.ranges < length self.old.places.ranges }
         ensures stale { result ≡ Brought.Stale → entry_of self.old id ≡ None }
         ensures always { entry_of self.old id ≡ None → (result ≡ Brought.Stale) × (self.new ≡ self.old) }
         ensures full { result ≡ Brought.SwapFull → IsFull self.new }

@@ -12,6 +12,7 @@ mod moving;
 mod present;
 mod showing;
 mod sizing;
+mod steps;
 mod store;
 mod windows;
 

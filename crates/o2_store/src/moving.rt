@@ -1,6 +1,7 @@
 // Segments come to a place in memory.
 ghost use Rattle.std.specs.Prelude.{◌≡◌, ◌≢◌, ◌⊎◌, ℕ, List, Bool, ◌+◌, ◌<◌, ◌≤◌, ◌^◌, length, Some, None, IsSome, IsTrue, slice_index, true, false};
 ghost use Rattle.o2_outer.specs.Texts.{Rose};
+ghost use Rattle.o2_compact.specs.Parts.{SlideBehind, StayInFront};
 ghost use Rattle.o2_entries.specs.Tables.{slot_at};
 ghost use Rattle.o2_outer.specs.Answers.{HasCause};
 ghost use Rattle.o2_place.specs.Layout.{Changes, IsFree, used};
@@ -16,19 +17,37 @@ use o2_outer::{Dev, SwapDevice};
 use o2_phys::Phys;
 
 impl Store {
+    /// Slides the segments in memory down until no gap lies between them. The answer is how many of them lie so already, by
+    /// rising place: they stay where they are, and each one behind them slides. All bytes stay.
+    pub fn close_gaps(&mut self) -> u32
+        ensures moved { IsMoved self.old self.new }
+        ensures keeps { (told : Bool) (pic : Pictures) (block : ℕ → List ℕ) → KeepsAll told pic self.old block self.new block }
+        ensures clean { (pic : Pictures) → AreClean self.old pic → AreClean self.new pic }
+        ensures stay { StayInFront self.old.places self.new.places result }
+        ensures slide { SlideBehind self.old.places self.new.places result }
+        ensures gap { (len : ℕ) → used self.new.places.ranges + len ≤ self.new.places.size
+            → IsFree self.new.places.size self.new.places.ranges (used self.new.places.ranges) len }
+    {
+        self.law();
+        let front = close_up(&mut self.phys, &mut self.places);
+        self.places.law();
+        front
+    }
+
     // A place that is free for so many bytes, of which enough are in no range. The gaps are closed where none is long enough.
     pub(crate) fn make_fit(&mut self, len: u32) -> u32
         requires { used self.old.places.ranges + len ≤ self.old.places.size }
         ensures free { IsFree self.new.places.size self.new.places.ranges result len }
         ensures within { result + len ≤ self.new.places.size }
         ensures moved { IsMoved self.old self.new }
+        ensures alone { (at : ℕ) → IsFree self.old.places.size self.old.places.ranges at len → self.new ≡ self.old }
     {
         self.law();
         if let Some(at) = self.places.fit(len) {
             return at;
         }
-        close_up(&mut self.phys, &mut self.places);
-        self.places.law();
+        self.close_gaps();
+        self.law();
         match self.places.fit(len) {
             Some(at) => at,
             None => 0,
@@ -116,6 +135,8 @@ impl Store {
         ensures none { (k : ℕ) → k ≢ key → place_of self.old k ≡ None → place_of self.new k ≡ None }
         ensures entries { self.new.entries ≡ self.old.entries }
         ensures others { (k : ℕ) → IsSome (place_of self.old k) → IsSome (place_of self.new k) }
+        ensures alone { (at : ℕ) → IsFree self.old.places.size self.old.places.ranges at len
+            → (k : ℕ) → k ≢ key → place_of self.new k ≡ place_of self.old k }
         ensures faults { S.faults swap.old ≤ S.faults swap.new }
         ensures cause { result ≡ false → Rose (S.faults swap.old) (S.faults swap.new) }
     {

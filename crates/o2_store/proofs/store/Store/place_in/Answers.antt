@@ -3,6 +3,7 @@ use Rattle.o2_store.specs.Pictures.{picture}
 use Rattle.o2_store.specs.Shelf.{Shelf, entry}
 use Rattle.o2_store.proofs.Keeping.{keeps_trans}
 use Rattle.o2_store.proofs.Shifts.{keeps_filled, clean_filled, others_in, others_moved, read_there, out_told, out_pictured}
+use Rattle.o2_store.proofs.Choosing.{gap_failed, gap_filled}
 use Rattle.o2_store.proofs.store.Store.place_in.Goals as goal
 
 pub returns-in-Failed-clause-keeps : goal.returns-in-Failed-clause-keeps
@@ -71,3 +72,9 @@ returns-clause-clean g c =
 
 pub returns-clause-others : goal.returns-clause-others
 returns-clause-others g c = others_in c.args.self.now c.make_fit-at.new.self c.fill.new.self c.settle.new.self c.args.key c.make_fit-at.result _ c.make_fit-at.ensures.moved c.fill.ensures.shelf c.settle.ensures.places
+
+pub returns-in-Failed-clause-alone : goal.returns-in-Failed-clause-alone
+returns-in-Failed-clause-alone g c = λ at f k n. gap_failed c.args.self.now c.make_fit-at.new.self c.fill.new.self k (c.make_fit-at.ensures.alone at f) c.fill.ensures.shelf
+
+pub returns-clause-alone : goal.returns-clause-alone
+returns-clause-alone g c = λ at f k n. gap_filled c.args.self.now c.make_fit-at.new.self c.fill.new.self c.settle.new.self c.args.key k _ (c.make_fit-at.ensures.alone at f) c.fill.ensures.shelf c.settle.ensures.places n

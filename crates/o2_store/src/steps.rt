@@ -1,0 +1,100 @@
+// A segment is brought in step by step, for those who want to know which other ones leave or slide.
+ghost use Rattle.std.specs.Prelude.{◌≡◌, ◌≢◌, ℕ, ◌+◌, ◌<◌, ◌≤◌, ◌↔◌, None, IsSome, IsTrue, IfSome, true, false};
+ghost use Rattle.std.specs.Option.{IfNone};
+ghost use Rattle.o2_outer.specs.Texts.{Rose};
+ghost use Rattle.o2_place.specs.Layout.{IsFree, IsLowestFree, used};
+ghost use Rattle.o2_store.specs.Leaving.{MayLeave};
+ghost use Rattle.o2_store.specs.Needs.{all_wanted};
+ghost use Rattle.o2_store.specs.Pictures.{picture, HasPicture};
+ghost use Rattle.o2_store.specs.Shelf.{AreClean, HasAll, KeepsAll, entry, entry_of, place_of, rounded};
+ghost use Rattle.o2_swapmap.specs.Piles.{all_of};
+
+use crate::brought::Brought;
+use crate::store::Store;
+use o2_image::Images;
+use o2_outer::SwapDevice;
+use o2_place::SegId;
+
+impl Store {
+    /// Whether a live segment has more bytes, rounded up, than are free in memory.
+    pub fn lacks_room(&self, id: SegId) -> bool
+        requires { IsSome (entry_of self.now id) }
+        ensures { IsTrue result ↔ (self.now.places.size < used self.now.places.ranges + rounded (entry self.now id.key).size) }
+    {
+        self.is_short(self.rounded_size(id.key))
+    }
+
+    /// Whether the memory is large enough for a live segment together with those of `keep` and the locked ones.
+    pub fn fits(&mut self, id: SegId, keep: &[SegId]) -> bool
+        requires { IsSome (entry_of self.old id) }
+        ensures shelf { self.new ≡ record self.old { keys = self.new.keys } }
+        ensures fits { result ≡ true → all_wanted self.old id.key keep.now ≤ self.old.places.size }
+        ensures none { result ≡ false → self.old.places.size < all_wanted self.old id.key keep.now }
+    {
+        let need = self.list_keys(id.key, keep);
+        if self.memory_size() < need {
+            return false;
+        }
+        true
+    }
+
+    /// The lowest place in memory at which a live segment would fit, and none exactly where no gap is long enough.
+    pub fn gap_for(&self, id: SegId) -> Option<u32>
+        requires { IsSome (entry_of self.now id) }
+        ensures { IsLowestFree self.now.places (rounded (entry self.now id.key).size) result }
+    {
+        self.places.fit(self.rounded_size(id.key))
+    }
+
+    /// The segment that leaves the memory next, where room is made for a live one that is to be there together with those of
+    /// `keep` and the locked ones. None only where these are more than the memory.
+    pub fn next_out(&mut self, id: SegId, keep: &[SegId]) -> Option<SegId>
+        requires live { IsSome (entry_of self.old id) }
+        ensures shelf { self.new ≡ record self.old { turns = self.new.turns; keys = self.new.keys } }
+        ensures some { IfSome result (λ out. MayLeave self.old id.key keep.now out) }
+        ensures none { IfNone result (place_of self.old id.key ≡ None
+            → self.old.places.size < used self.old.places.ranges + rounded (entry self.old id.key).size
+            → self.old.places.size < all_wanted self.old id.key keep.now) }
+    {
+        self.list_keys(id.key, keep);
+        self.law();
+        match self.next_victim() {
+            Some(key) => Some(SegId {
+                key,
+                age: self.age_of(key),
+            }),
+            None => None,
+        }
+    }
+
+    /// Brings a live segment that is out of memory into a gap that is long enough for it. No other one comes, goes or slides.
+    pub fn bring_to_gap<S: SwapDevice>(
+        &mut self,
+        id: SegId,
+        images: &Images,
+        swap: &mut S,
+    ) -> Brought
+        requires live { IsSome (entry_of self.old id) }
+        requires out { place_of self.old id.key ≡ None }
+        requires room { used self.old.places.ranges + rounded (entry self.old id.key).size ≤ self.old.places.size }
+        requires gap { (at : ℕ) × IsFree self.old.places.size self.old.places.ranges at (rounded (entry self.old id.key).size) }
+        requires pictures { HasAll (HasPicture images.now) self.old }
+        requires clean { AreClean self.old (picture images.now) }
+        requires device { all_of self.old.swap ≤ S.blocks swap.old }
+
+        ensures keeps { KeepsAll (S.told swap.old) (picture images.now) self.old (S.block swap.old) self.new (S.block swap.new) }
+        ensures clean { AreClean self.new (picture images.now) }
+        ensures device { (S.blocks swap.new ≡ S.blocks swap.old) × (S.told swap.new ≡ S.told swap.old) }
+        ensures map { all_of self.new.swap ≡ all_of self.old.swap }
+        ensures alone { (k : ℕ) → k ≢ id.key → place_of self.new k ≡ place_of self.old k }
+
+        ensures here { result ≡ Brought.Here → IsSome (place_of self.new id.key) }
+        ensures out { (result ≡ Brought.Here → ⊥) → place_of self.new id.key ≡ None }
+        ensures faults { S.faults swap.old ≤ S.faults swap.new }
+        ensures cause { result ≡ Brought.SwapFault → Rose (S.faults swap.old) (S.faults swap.new) }
+        ensures never { (result ≡ Brought.NoRoom → ⊥) × (result ≡ Brought.Stale → ⊥) × (result ≡ Brought.SwapFull → ⊥) }
+    {
+        let len = self.rounded_size(id.key);
+        self.come_in(id.key, len, images, swap)
+    }
+}
