@@ -2,3 +2,4 @@ pub mod TextLemmas
 pub mod Written
 pub mod Booleans
 pub mod Readers
+pub mod Inputs

@@ -8,3 +8,4 @@ pub mod Reads
 pub mod Planned
 pub mod Plans
 pub mod Streams
+pub mod Inputs

@@ -1,10 +1,11 @@
 -- What a sink over a writer and a source over a reader show.
-use Rattle.std.specs.Prelude.{◌≡◌, ℕ, List, ◌++◌, Option, take}
+use Rattle.std.specs.Prelude.{◌≡◌, ℕ, Bool, List, ◌++◌, Option, take, ◌&&◌, nat_eq}
 use Rattle.o2_outer.specs.declared.streams.StreamSink.{StreamSink}
 use Rattle.o2_outer.specs.declared.stdin.StreamSource.{StreamSource}
 use Rattle.o2_outer.specs.declared.sink.Put.{Put}
 use Rattle.o2_outer.specs.declared.sink.Put.TheVariants as put
 use Rattle.o2_outer.specs.Texts.{IsPrefix, Gains}
+use Rattle.o2_outer.specs.Inputs.{Past}
 
 abbrev pub sink_stream : {W : Type 0} → StreamSink W → W
 sink_stream s = s.stream
@@ -36,3 +37,14 @@ source_held s = take s.held s.buffer.items
 
 abbrev pub source_faults : {R : Type 0} {g : _} → StreamSource R g → ℕ
 source_faults s = s.faults
+
+-- whether a read has come to the reader's end
+abbrev pub source_ended : {R : Type 0} {g : _} → StreamSource R g → Bool
+source_ended s = s.ended
+
+-- the bytes that it gave; it has ended where the reader has and none are held
+abbrev pub stream_past : List ℕ → Bool → ℕ → Past
+stream_past given ended held = record { given = given; ended = ended && nat_eq held 0 }
+
+abbrev pub source_past : {R : Type 0} {g : _} → StreamSource R g → Past
+source_past s = stream_past s.log.bytes s.ended s.held

@@ -1,10 +1,11 @@
-// What a sink was handed, for proofs alone.
+// What a sink was handed, or a source gave, for proofs alone.
 ghost use Rattle.std.specs.Prelude.{◌≡◌, ◌+◌, List, ℕ, [], ◌++◌};
 ghost use Rattle.std.specs.Borrow.{ftrue};
 
 use std::marker::{Model, PhantomData};
 
-/// The bytes that all puts took, and how many puts there were. When the program runs it takes no room, and its calls do nothing.
+/// The bytes that all puts took or all takes gave, and how many there were. When the program runs it takes no room, and its calls do
+/// nothing.
 #[derive(Drop)]
 pub struct Log {
     marker: PhantomData<u8>,
@@ -17,7 +18,7 @@ impl Model for Log {
 }
 
 impl Log {
-    /// No put.
+    /// None yet.
     pub fn new() -> Log
         ensures { (result.bytes ≡ []) × (result.puts ≡ 0) }
     {
@@ -26,7 +27,7 @@ impl Log {
         }
     }
 
-    /// One put more, which took these bytes.
+    /// One more, of these bytes.
     pub fn note(&mut self, _taken: &[u8])
         ensures { (self.new.bytes ≡ self.old.bytes ++ _taken.now) × (self.new.puts ≡ self.old.puts + 1) }
     {}

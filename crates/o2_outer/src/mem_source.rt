@@ -53,16 +53,20 @@ impl MemSource {
 
 impl Source for MemSource {
     ghost use Rattle.o2_outer.specs.Answers.{Gives, TookAtMost, TookHasCause};
-    ghost use Rattle.o2_outer.specs.Sources.{mem_left, mem_faults};
+    ghost use Rattle.o2_outer.specs.Inputs.{Adds};
+    ghost use Rattle.o2_outer.specs.Sources.{mem_left, mem_past, mem_faults, past_at};
     ghost use Rattle.o2_outer.specs.Planned.{fails_next, next_call};
     ghost use Rattle.o2_outer.specs.Plans.{mem_takes, mem_takes_to_fail};
 
     ghost left = { λ s. Some (drop s.at s.bytes) };
 
+    ghost past = { λ s. past_at s.at s.bytes };
+
     ghost faults = { λ s. s.faults };
 
     fn take(&mut self, into: &mut [u8]) -> Took
         ensures takes { Gives (Some (mem_left self.old)) (Some (mem_left self.new)) into.new result }
+        ensures adds { Adds (mem_past self.old) (mem_past self.new) into.new result }
         ensures bounded { TookAtMost (length into.old) result }
         ensures count { mem_faults self.old ≤ mem_faults self.new }
         ensures cause { TookHasCause (mem_faults self.old) (mem_faults self.new) result }

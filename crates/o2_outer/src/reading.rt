@@ -37,6 +37,7 @@ pub fn read_on<R: Read>(
 fn give_front(buffer: &mut [u8], held: usize, into: &mut [u8]) -> usize
     requires { held ≤ length buffer.old }
     ensures count { result ≡ min (length into.old) held }
+    ensures most { result ≤ length into.new }
     ensures given { take result into.new ≡ take result (take held buffer.old) }
     ensures rest { take (held - result) buffer.new ≡ drop result (take held buffer.old) }
     ensures len { length buffer.new ≡ length buffer.old }
@@ -51,6 +52,7 @@ fn give_front(buffer: &mut [u8], held: usize, into: &mut [u8]) -> usize
 pub fn give(buffer: &mut Vec<u8>, held: usize, into: &mut [u8]) -> usize
     requires { held ≤ length buffer.old.items }
     ensures count { result ≡ min (length into.old) held }
+    ensures most { result ≤ length into.new }
     ensures given { take result into.new ≡ take result (take held buffer.old.items) }
     ensures rest { take (held - result) buffer.new.items ≡ drop result (take held buffer.old.items) }
     ensures len { length buffer.new.items ≡ length buffer.old.items }

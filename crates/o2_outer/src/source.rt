@@ -1,6 +1,7 @@
 // What gives bytes.
 ghost use Rattle.std.specs.Prelude.{◌≤◌, length, List, ℕ, Option};
 ghost use Rattle.o2_outer.specs.Answers.{Gives, TookAtMost, TookHasCause};
+ghost use Rattle.o2_outer.specs.Inputs.{Past, Adds};
 
 /// What a take came to.
 #[derive(Clone, Copy, Debug, PartialEq, Eq)]
@@ -16,12 +17,16 @@ pub trait Source {
     /// The bytes left, where they are told.
     ghost left: { Self → Option (List ℕ) };
 
+    /// The bytes that it has given, and whether it has ended. By these one that tells nothing is known, too.
+    ghost past: { Self → Past };
+
     /// How often it has failed. One at 2^64 - 1 counts as risen at each call.
     ghost faults: { Self → ℕ };
 
-    /// Fills a front of the slice, all of it unless the bytes end before.
+    /// Fills a front of the slice, all of it unless the bytes end before; then it has ended, and gives nothing more.
     fn take(&mut self, into: &mut [u8]) -> Took
         ensures takes { Gives (left self.old) (left self.new) into.new result }
+        ensures adds { Adds (past self.old) (past self.new) into.new result }
         ensures bounded { TookAtMost (length into.old) result }
         ensures count { faults self.old ≤ faults self.new }
         ensures cause { TookHasCause (faults self.old) (faults self.new) result };

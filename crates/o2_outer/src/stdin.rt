@@ -1,7 +1,7 @@
 // The standard input as a source.
-ghost use Rattle.std.specs.Prelude.{◌≡◌, ◌≤◌, ◌<◌, List, ℕ, Some, true, take, length, IfOk};
-ghost use Rattle.std.specs.Io.KnownBytes.{IsAtEnd};
+ghost use Rattle.std.specs.Prelude.{◌≡◌, ◌≤◌, ◌<◌, List, ℕ, Some, true, false, take, length, IfOk};
 
+use crate::log::Log;
 use crate::reading::{give, read_on};
 use crate::{Source, Took};
 use o2_base::NoMemory;
@@ -12,12 +12,15 @@ use std::io::{Read, StdinLock};
 const ROOM: usize = 65_536;
 
 /// A reader as a source: it has left what the reader tells that it gives. Each error of the reader is a fault, and what was read
-/// before it is kept for the next take. A take of more than 65,536 bytes is a fault that reads nothing.
+/// before it is kept for the next take. Where a read gives nothing the reader has ended, and is read no more. A take of more than
+/// 65,536 bytes is a fault that reads nothing.
 #[derive(Drop)]
 pub struct StreamSource<R: Read + Drop> {
     reader: R,
     buffer: Vec<u8>,
     held: usize,
+    ended: bool,
+    log: Log,
     faults: u64,
     ghost room: { length buffer.items ≡ 65536 },
     ghost within: { held ≤ 65536 },
@@ -28,13 +31,15 @@ pub type StdinSource = StreamSource<StdinLock<'static>>;
 
 impl<R: Read + Drop> StreamSource<R> {
     ghost use Rattle.std.specs.Prelude.{[]};
-    ghost use Rattle.o2_outer.specs.Reads.{bytes_left};
-    ghost use Rattle.o2_outer.specs.Streams.{source_reader, source_held, source_faults};
+    ghost use Rattle.o2_outer.specs.Reads.{left_behind};
+    ghost use Rattle.o2_outer.specs.Streams.{source_reader, source_held, source_ended, source_past, source_faults};
 
     /// A source over this reader.
     pub fn new(alloc: Global, reader: R) -> Result<StreamSource<R>, NoMemory>
         ensures reader { IfOk result (λ s. source_reader s ≡ reader) }
         ensures held { IfOk result (λ s. source_held s ≡ []) }
+        ensures going { IfOk result (λ s. source_ended s ≡ false) }
+        ensures given { IfOk result (λ s. (source_past s).given ≡ []) }
         ensures faultless { IfOk result (λ s. source_faults s ≡ 0) }
     {
         let buffer = Vec::from_elem(alloc, 0, ROOM)?;
@@ -42,6 +47,8 @@ impl<R: Read + Drop> StreamSource<R> {
             reader,
             buffer,
             held: 0,
+            ended: false,
+            log: Log::new(),
             faults: 0,
         })
     }
@@ -50,12 +57,15 @@ impl<R: Read + Drop> StreamSource<R> {
     fn hold(&mut self, wanted: usize) -> bool
         requires { wanted ≤ 65536 }
         ensures left { (t : List ℕ)
-            → bytes_left (take self.old.held self.old.buffer.items) (R.remaining self.old.reader) ≡ Some t
-            → bytes_left (take self.new.held self.new.buffer.items) (R.remaining self.new.reader) ≡ Some t }
-        ensures end { result ≡ true → self.new.held < wanted → IsAtEnd (R.remaining self.new.reader) }
+            → left_behind self.old.ended (take self.old.held self.old.buffer.items) (R.remaining self.old.reader) ≡ Some t
+            → left_behind self.new.ended (take self.new.held self.new.buffer.items) (R.remaining self.new.reader) ≡ Some t }
+        ensures end { result ≡ true → self.new.held < wanted → self.new.ended ≡ true }
+        ensures over { self.old.ended ≡ true → self.new ≡ self.old }
+        ensures failed { result ≡ false → source_past self.new ≡ source_past self.old }
+        ensures log { self.new.log ≡ self.old.log }
         ensures faults { self.new.faults ≡ self.old.faults }
     {
-        if wanted <= self.held {
+        if self.ended || wanted <= self.held {
             return true;
         }
         let (held, whole) = read_on(
@@ -65,15 +75,21 @@ impl<R: Read + Drop> StreamSource<R> {
             wanted,
         );
         self.held = held;
-        whole
+        if !whole {
+            return false;
+        }
+        self.ended = held < wanted;
+        true
     }
 }
 
 impl<R: Read + Drop> Source for StreamSource<R> {
-    ghost use Rattle.o2_outer.specs.Reads.{bytes_left};
-    ghost use Rattle.o2_outer.specs.Streams.{source_reader, source_held, source_faults};
+    ghost use Rattle.o2_outer.specs.Reads.{left_behind};
+    ghost use Rattle.o2_outer.specs.Streams.{source_reader, source_held, source_ended, source_past, source_faults};
 
-    ghost left = { λ s. bytes_left (source_held s) (R.remaining (source_reader s)) };
+    ghost left = { λ s. left_behind (source_ended s) (source_held s) (R.remaining (source_reader s)) };
+
+    ghost past = { λ s. source_past s };
 
     ghost faults = { λ s. source_faults s };
 
@@ -84,6 +100,7 @@ impl<R: Read + Drop> Source for StreamSource<R> {
         }
         let count = give(&mut self.buffer, self.held, into);
         self.held -= count;
+        self.log.note(&into[..count]);
         Took::Done(count)
     }
 }

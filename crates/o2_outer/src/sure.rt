@@ -27,7 +27,11 @@ impl SureSource {
 }
 
 impl Source for SureSource {
+    ghost use Rattle.o2_outer.specs.Sources.{past_at};
+
     ghost left = { λ s. Some (drop s.at s.bytes) };
+
+    ghost past = { λ s. past_at s.at s.bytes };
 
     ghost faults = { λ _. 0 };
 

@@ -87,13 +87,14 @@ fn a_device_fails_at_its_calls_and_at_one_write(rt: HostRuntime) -> Result<(), F
     Ok(())
 }
 
-/// A reader that gives one byte at a time, and fails at one read.
+/// A reader that gives one byte at a time, fails at one read, and gives nothing at another.
 #[derive(Drop)]
 struct Halting {
     bytes: Vec<u8>,
     at: usize,
     reads: usize,
     fails: usize,
+    pauses: usize,
 }
 
 impl Read for Halting {
@@ -102,7 +103,7 @@ impl Read for Halting {
         if self.reads == self.fails {
             return Err(io::Error::from(io::ErrorKind::BrokenPipe));
         }
-        if buf.is_empty() {
+        if buf.is_empty() || self.reads == self.pauses {
             return Ok(0);
         }
         match self.bytes.get(self.at) {
@@ -117,7 +118,11 @@ impl Read for Halting {
 }
 
 /// A source over such a reader, which has seven bytes.
-fn source_over(alloc: Global, fails: usize) -> Result<StreamSource<Halting>, NoMemory> {
+fn source_over(
+    alloc: Global,
+    fails: usize,
+    pauses: usize,
+) -> Result<StreamSource<Halting>, NoMemory> {
     let mut bytes = Vec::new(alloc);
     bytes.extend_from_slice(b"abcdefg")?;
     let reader = Halting {
@@ -125,6 +130,7 @@ fn source_over(alloc: Global, fails: usize) -> Result<StreamSource<Halting>, NoM
         at: 0,
         reads: 0,
         fails,
+        pauses,
     };
     StreamSource::new(alloc, reader)
 }
@@ -132,7 +138,7 @@ fn source_over(alloc: Global, fails: usize) -> Result<StreamSource<Halting>, NoM
 #[test]
 fn bytes_before_an_error_are_given_later(rt: HostRuntime) -> Result<(), Fail> {
     for fails in 1..6usize {
-        let mut source = source_over(rt.alloc(), fails)?;
+        let mut source = source_over(rt.alloc(), fails, 0)?;
         let mut into = [0u8; 5];
         assert_eq!(rt; source.take(&mut into), Took::Failed);
         assert_eq!(rt; source.take(&mut into[..2]), Took::Done(2));
@@ -146,10 +152,20 @@ fn bytes_before_an_error_are_given_later(rt: HostRuntime) -> Result<(), Fail> {
 
 #[test]
 fn a_take_ends_early_at_the_end_alone(rt: HostRuntime) -> Result<(), Fail> {
-    let mut source = source_over(rt.alloc(), 0)?;
+    let mut source = source_over(rt.alloc(), 0, 0)?;
     let mut into = [0u8; 9];
     assert_eq!(rt; source.take(&mut into), Took::Done(7));
     assert_eq!(rt; &into[..7], b"abcdefg".as_slice());
+    assert_eq!(rt; source.take(&mut into), Took::Done(0));
+    Ok(())
+}
+
+#[test]
+fn an_input_that_has_ended_is_read_no_more(rt: HostRuntime) -> Result<(), Fail> {
+    let mut source = source_over(rt.alloc(), 0, 3)?;
+    let mut into = [0u8; 5];
+    assert_eq!(rt; source.take(&mut into), Took::Done(2));
+    assert_eq!(rt; &into[..2], b"ab".as_slice());
     assert_eq!(rt; source.take(&mut into), Took::Done(0));
     Ok(())
 }
