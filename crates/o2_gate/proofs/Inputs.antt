@@ -1,6 +1,5 @@
 -- Calls that don't go to the input, and those that do.
-use Rattle.std.proofs.Common.{◌≡◌, ◌≤◌, ℕ, List, [], length, Option, take, drop, arith}
-use Rattle.std.proofs.lemmas.Grind.{common_steps}
+use Rattle.std.proofs.Common.{◌≡◌, ℕ, List, Option}
 use Rattle.o2_isa.specs.declared.cpu.Cpu.{Cpu}
 use Rattle.o2_isa.specs.View.{View, Filling}
 use Rattle.o2_world.specs.Calls.{Before, Effect}
@@ -37,13 +36,3 @@ any_reason P Q S f b e cpu old new i j c d r q (Err (fault.Stopped stop.Input)) 
 any_reason P Q S f b e cpu old new i j c d r q (Err (fault.Stopped stop.NoRoom)) never does = absurd never
 any_reason P Q S f b e cpu old new i j c d r q (Err (fault.Stopped stop.SwapFull)) never does = absurd never
 any_reason P Q S f b e cpu old new i j c d r q (Err (fault.Stopped stop.SwapFault)) never does = absurd never
-
--- what came, as an input that holds nothing else
-pub take_whole : (n : ℕ) (t : List ℕ) → length t ≤ n → t ≡ take n t
-take_whole n t le = grind (arith, common_steps)
-
-pub drop_whole : (n : ℕ) (t : List ℕ) → length t ≤ n → [] ≡ drop n t
-drop_whole n t le = grind (arith, common_steps)
-
-pub short_take : (n count : ℕ) (xs : List ℕ) → n ≤ count → length (take n xs) ≤ count
-short_take n count xs le = grind (arith, common_steps)

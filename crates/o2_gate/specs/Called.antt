@@ -93,10 +93,6 @@ OnMissed (Ok (Exited code)) P = Unit {0}
 OnMissed (Ok (Trap vector code)) P = Unit {0}
 OnMissed (Err x) P = Unit {0}
 
--- what holds for some input, whatever the input tells: these bytes before a call, and what the call leaves of them
-abbrev pub ForSome : (List ℕ → (left_old left_new : Option (List ℕ)) → Type 0) → Type 0
-ForSome P = (bytes : List ℕ) × ((left : Option (List ℕ)) × P bytes (Some bytes) left)
-
 -- a piece for the console and then a text for the report: both whole, or fronts, the report's only behind the whole piece
 pub record PutInPart (piece text : List ℕ) (console_old console_new report_old report_new : Option (List ℕ)) : Type 0 where
   pub to_console : GainsSome console_old console_new (λ front. IsPrefix front piece)
@@ -110,4 +106,9 @@ PutsBoth piece text c d r q put.Failed = PutInPart piece text c d r q
 -- the bytes of the input that a take of at most `count` gave stand at the front of the buffer
 abbrev pub Fills : ℕ → (left_old left_new : Option (List ℕ)) → List ℕ → Took → Type 0
 Fills count i j buffer (took.Done n) = (t : List ℕ) → i ≡ Some t → (take n buffer ≡ take count t) × (j ≡ Some (drop count t))
-Fills count i j buffer took.Failed = ((t : List ℕ) → i ≡ Some t → j ≡ i) × ((count == 0) ≡ false)
+Fills count i j buffer took.Failed = (t : List ℕ) → i ≡ Some t → j ≡ i
+
+-- only a take of some bytes fails
+abbrev pub AskedFor : ℕ → Took → Type 0
+AskedFor count (took.Done n) = Unit {0}
+AskedFor count took.Failed = (count == 0) ≡ false

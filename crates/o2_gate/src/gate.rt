@@ -1,6 +1,7 @@
 // The call of a service.
-ghost use Rattle.std.specs.Prelude.{◌≡◌, ◌≢◌, ◌≤◌, ◌⊎◌, ℕ, List, Some};
+ghost use Rattle.std.specs.Prelude.{◌≡◌, ◌≢◌, ◌≤◌, ◌⊎◌, ℕ, List, Option, Some};
 ghost use Rattle.o2_outer.specs.Texts.{Rose};
+ghost use Rattle.o2_outer.specs.Inputs.{GoesOn, IsSeenAs, left_as};
 ghost use Rattle.o2_isa.specs.View.{Filling, IsBound};
 ghost use Rattle.o2_isa.specs.Pointers.{KeepsAllButBytes};
 ghost use Rattle.o2_isa.specs.Presence.{SameSelectors};
@@ -8,7 +9,7 @@ ghost use Rattle.o2_gate.specs.Writes.{WritesHeld};
 ghost use Rattle.o2_world.specs.Known.{Known};
 ghost use Rattle.o2_world.specs.Calls.{serviced, row_of as number_row};
 ghost use Rattle.o2_gate.specs.Befores.{boundless, before_call, IsKnown};
-ghost use Rattle.o2_gate.specs.Called.{Does, ForSome, OnMissed};
+ghost use Rattle.o2_gate.specs.Called.{Does, OnMissed};
 ghost use Rattle.o2_gate.specs.Pointed.{IsAway};
 ghost use Rattle.o2_gate.specs.Names.{TellsNames};
 ghost use Rattle.o2_run.specs.Room.{call_names};
@@ -46,6 +47,7 @@ fn row_of(service: u16) -> Option<Row>
 
 /// The call of a service by process `pid`, which comes back to `next`. It sees the segments of its process by the bus alone,
 /// whose four registers are those of `cpu`. No call takes memory.
+#[tactic(auto, using(o2_outer::proofs::Inputs::goes_same))]
 pub fn call<B: Ranges, I: Source, C: Sink, R: Sink>(
     service: u16,
     next: u16,
@@ -58,15 +60,16 @@ pub fn call<B: Ranges, I: Source, C: Sink, R: Sink>(
     report: &mut R,
 ) -> Result<Called, Fault>
     // What the row of the service does in the boundless machine, whatever is absent; nothing where a segment is missed.
-    ensures does { (f : Filling) (bytes : List ℕ) (known : Known) → IsBound (B.view bus.old) → I.left input.old ≡ Some bytes → IsKnown known state.old
+    // However the input is seen: by what it tells, or as a text that the whole of it may be.
+    ensures does { (text : Option (List ℕ)) → IsSeenAs text (I.past input.new)
+        → (f : Filling) (bytes : List ℕ) (known : Known) → IsBound (B.view bus.old)
+        → left_as text (I.left input.old) (I.past input.old) ≡ Some bytes → IsKnown known state.old
         → let b = before_call (boundless f (B.view bus.old)) pid cpu.old bytes known in
         Does f b (serviced b service next) cpu.new (B.view bus.old) (B.view bus.new)
-        (I.left input.old) (I.left input.new) (C.taken console.old) (C.taken console.new) (R.taken report.old) (R.taken report.new) result }
-    // Where the input tells nothing, a DosRead does this for some input, and any other service for every input.
-    ensures some { (f : Filling) (known : Known) → IsBound (B.view bus.old) → IsKnown known state.old → ForSome (λ bytes i j.
-        let b = before_call (boundless f (B.view bus.old)) pid cpu.old bytes known in
-        Does f b (serviced b service next) cpu.new (B.view bus.old) (B.view bus.new)
-        i j (C.taken console.old) (C.taken console.new) (R.taken report.old) (R.taken report.new) result) }
+        (left_as text (I.left input.old) (I.past input.old)) (left_as text (I.left input.new) (I.past input.new))
+        (C.taken console.old) (C.taken console.new) (R.taken report.old) (R.taken report.new) result }
+    ensures goes_on { GoesOn (I.past input.old) (I.past input.new) }
+    // Any service but DosRead does this for every input.
     ensures every { service ≢ 3 → (f : Filling) (bytes : List ℕ) (known : Known) → IsBound (B.view bus.old) → IsKnown known state.old
         → let b = before_call (boundless f (B.view bus.old)) pid cpu.old bytes known in
         Does f b (serviced b service next) cpu.new (B.view bus.old) (B.view bus.new)

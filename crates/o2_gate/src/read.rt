@@ -2,6 +2,7 @@
 ghost use Rattle.std.specs.Prelude.{◌≡◌, ◌≢◌, ◌≤◌, ◌<◌, ◌∷◌, [], ℕ, List, Option, Some, true, length, vec_len};
 ghost use Rattle.o2_outer.specs.Texts.{Rose};
 ghost use Rattle.o2_outer.specs.Answers.{TookAtMost, TookHasCause};
+ghost use Rattle.o2_outer.specs.Inputs.{GoesOn, IsSeenAs, left_as};
 ghost use Rattle.o2_isa.specs.View.{Filling, IsBound, is_writable, whole};
 ghost use Rattle.o2_isa.specs.Pointers.{is_ready, KeepsAllButBytes};
 ghost use Rattle.o2_isa.specs.Presence.{SameSelectors};
@@ -9,7 +10,7 @@ ghost use Rattle.o2_gate.specs.Writes.{WritesHeld};
 ghost use Rattle.o2_world.specs.Known.{Known};
 ghost use Rattle.o2_world.specs.Calls.{dos_read as dos_read_row, read_from as read_from_row, read_with, bytes_with, asks_input, argument};
 ghost use Rattle.o2_gate.specs.Befores.{boundless, before_call};
-ghost use Rattle.o2_gate.specs.Called.{Does, DoesFor, Fills, ForSome, OnMissed};
+ghost use Rattle.o2_gate.specs.Called.{Does, DoesFor, Fills, AskedFor, OnMissed};
 ghost use Rattle.o2_gate.specs.Pointed.{IsAway, transfer_pointers};
 ghost use Rattle.o2_gate.specs.Names.{TellsNames};
 ghost use Rattle.o2_world.specs.declared.types.Row.TheVariants.{DosRead};
@@ -33,7 +34,11 @@ use o2_world::Transfer;
 fn take_front<I: Source>(bytes: &mut [u8], count: u16, input: &mut I) -> Took
     requires some { 0 < count }
     requires room { count ≤ length bytes.old }
-    ensures fills { Fills count (I.left input.old) (I.left input.new) bytes.new result }
+    ensures fills { (text : Option (List ℕ)) → IsSeenAs text (I.past input.new)
+        → Fills count (left_as text (I.left input.old) (I.past input.old))
+        (left_as text (I.left input.new) (I.past input.new)) bytes.new result }
+    ensures asked { AskedFor count result }
+    ensures goes_on { GoesOn (I.past input.old) (I.past input.new) }
     ensures bounded { TookAtMost count result }
     ensures count { I.faults input.old ≤ I.faults input.new }
     ensures cause { TookHasCause (I.faults input.old) (I.faults input.new) result }
@@ -42,9 +47,14 @@ fn take_front<I: Source>(bytes: &mut [u8], count: u16, input: &mut I) -> Took
 }
 
 /// Takes bytes of the input into the front of the buffer; none are no take.
+#[tactic(auto, using(o2_outer::proofs::Inputs::goes_same))]
 fn take_bytes<I: Source>(buffer: &mut Vec<u8>, count: u16, input: &mut I) -> Took
     requires { vec_len buffer.old ≡ 65536 }
-    ensures fills { Fills count (I.left input.old) (I.left input.new) buffer.new.items result }
+    ensures fills { (text : Option (List ℕ)) → IsSeenAs text (I.past input.new)
+        → Fills count (left_as text (I.left input.old) (I.past input.old))
+        (left_as text (I.left input.new) (I.past input.new)) buffer.new.items result }
+    ensures asked { AskedFor count result }
+    ensures goes_on { GoesOn (I.past input.old) (I.past input.new) }
     ensures bounded { TookAtMost count result }
     ensures room { vec_len buffer.new ≡ 65536 }
     ensures nothing { count ≡ 0 → input.new ≡ input.old }
@@ -114,7 +124,7 @@ fn deliver<B: Ranges, R: Sink>(
 }
 
 /// The call with its arguments.
-#[tactic(auto, using(o2_outer::proofs::TextLemmas::gains_none, o2_outer::proofs::TextLemmas::puts_none))]
+#[tactic(auto, using(o2_outer::proofs::TextLemmas::gains_none, o2_outer::proofs::TextLemmas::puts_none, o2_outer::proofs::Inputs::goes_same))]
 fn read_from<B: Ranges, I: Source, R: Sink>(
     pid: u16,
     next: u16,
@@ -127,15 +137,14 @@ fn read_from<B: Ranges, I: Source, R: Sink>(
     report: &mut R,
 ) -> Result<Called, Fault>
     requires { vec_len buffer.old ≡ 65536 }
-    ensures does { (f : Filling) (bytes : List ℕ) (known : Known) (c : Option (List ℕ)) → I.left input.old ≡ Some bytes
+    // However the input is seen: by what it tells, or as a text that the whole of it may be.
+    ensures does { (text : Option (List ℕ)) → IsSeenAs text (I.past input.new)
+        → (f : Filling) (bytes : List ℕ) (known : Known) (c : Option (List ℕ)) → left_as text (I.left input.old) (I.past input.old) ≡ Some bytes
         → let b = before_call (boundless f (B.view bus.old)) pid cpu.old bytes known in
         DoesFor (asks_input b read.now ≡ true) f b (read_from_row b next read.now) cpu.new (B.view bus.old) (B.view bus.new)
-        (I.left input.old) (I.left input.new) c c (R.taken report.old) (R.taken report.new) result }
-    // The same for some input, where it tells nothing.
-    ensures some { (f : Filling) (known : Known) (c : Option (List ℕ)) → ForSome (λ bytes i j.
-        let b = before_call (boundless f (B.view bus.old)) pid cpu.old bytes known in
-        DoesFor (asks_input b read.now ≡ true) f b (read_from_row b next read.now) cpu.new (B.view bus.old) (B.view bus.new)
-        i j c c (R.taken report.old) (R.taken report.new) result) }
+        (left_as text (I.left input.old) (I.past input.old)) (left_as text (I.left input.new) (I.past input.new))
+        c c (R.taken report.old) (R.taken report.new) result }
+    ensures goes_on { GoesOn (I.past input.old) (I.past input.new) }
     ensures frame { KeepsAllButBytes (B.view bus.old) (B.view bus.new) }
     ensures writes { WritesHeld (B.view bus.old) (B.view bus.new) }
     ensures selectors { SameSelectors cpu.old cpu.new }
@@ -177,7 +186,7 @@ fn read_from<B: Ranges, I: Source, R: Sink>(
 
 /// DosRead(handle, buffer, count, pdone): the next bytes of the input go to the buffer, and then their number behind `pdone`.
 /// Error 6 unless the handle is 0.
-#[tactic(auto, unfolding(o2_world::specs::Calls::dos_read))]
+#[tactic(auto, unfolding(o2_world::specs::Calls::dos_read), using(o2_outer::proofs::Inputs::goes_same))]
 pub fn dos_read<B: Ranges, I: Source, R: Sink>(
     pid: u16,
     next: u16,
@@ -189,15 +198,15 @@ pub fn dos_read<B: Ranges, I: Source, R: Sink>(
     report: &mut R,
 ) -> Result<Called, Fault>
     requires { vec_len buffer.old ≡ 65536 }
-    ensures does { (f : Filling) (bytes : List ℕ) (known : Known) (c : Option (List ℕ)) → IsBound (B.view bus.old) → I.left input.old ≡ Some bytes
+    // However the input is seen: by what it tells, or as a text that the whole of it may be.
+    ensures does { (text : Option (List ℕ)) → IsSeenAs text (I.past input.new)
+        → (f : Filling) (bytes : List ℕ) (known : Known) (c : Option (List ℕ)) → IsBound (B.view bus.old)
+        → left_as text (I.left input.old) (I.past input.old) ≡ Some bytes
         → let b = before_call (boundless f (B.view bus.old)) pid cpu.old bytes known in
         Does f b (dos_read_row b next) cpu.new (B.view bus.old) (B.view bus.new)
-        (I.left input.old) (I.left input.new) c c (R.taken report.old) (R.taken report.new) result }
-    // The same for some input, where it tells nothing.
-    ensures some { (f : Filling) (known : Known) (c : Option (List ℕ)) → IsBound (B.view bus.old) → ForSome (λ bytes i j.
-        let b = before_call (boundless f (B.view bus.old)) pid cpu.old bytes known in
-        Does f b (dos_read_row b next) cpu.new (B.view bus.old) (B.view bus.new)
-        i j c c (R.taken report.old) (R.taken report.new) result) }
+        (left_as text (I.left input.old) (I.past input.old)) (left_as text (I.left input.new) (I.past input.new))
+        c c (R.taken report.old) (R.taken report.new) result }
+    ensures goes_on { GoesOn (I.past input.old) (I.past input.new) }
     ensures frame { KeepsAllButBytes (B.view bus.old) (B.view bus.new) }
     ensures writes { WritesHeld (B.view bus.old) (B.view bus.new) }
     ensures selectors { SameSelectors cpu.old cpu.new }

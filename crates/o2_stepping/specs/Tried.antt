@@ -1,5 +1,6 @@
 -- One try of a step of a process, over what is in memory.
 use Rattle.std.specs.Prelude.{◌≡◌, ℕ, false, List, Option, Some, Result}
+use Rattle.o2_outer.specs.Inputs.{Past, IsSeenAs, left_as}
 use Rattle.o2_isa.specs.declared.cpu.Cpu.{Cpu}
 use Rattle.o2_isa.specs.Presence.{IsMissed}
 use Rattle.o2_regions.specs.Maps.{Maps}
@@ -19,11 +20,14 @@ use Rattle.o2_stepping.specs.declared.one_step.Attempt.{Attempt}
 
 -- The step of the boundless machine by the map of process `seat`, whatever the bytes of the names that are out of memory; or
 -- one of the names that it touches is missed, and all bytes in memory are as before. Where none is missed all of them are there.
+-- The input is seen by what it tells, or as a text that the whole of it may be.
 pub record TriesOver (s : Shelf) (m : Maps) (t : Shelf) (seat number : ℕ) (before after : Cpu) (services : Services)
-    (left_old left_new console_old console_new report_old report_new : Option (List ℕ)) (result : Result Attempt Fault) : Type 0 where
-  pub leaves : (away : ℕ → List ℕ) (bytes : List ℕ) (known : Known) → left_old ≡ Some bytes → IsKnown known services
+    (told_old told_new : Option (List ℕ)) (past_old past_new : Past) (console_old console_new report_old report_new : Option (List ℕ)) (result : Result Attempt Fault) : Type 0 where
+  pub leaves : (text : Option (List ℕ)) → IsSeenAs text past_new → (away : ℕ → List ℕ) (bytes : List ℕ) (known : Known)
+      → left_as text told_old past_old ≡ Some bytes → IsKnown known services
       → let b = before_call (world_view away s m seat before) number before bytes known in
-      Leaves b (effect b) after (bytes_with away s) (bytes_with away t) left_old left_new console_old console_new report_old report_new result
+      Leaves b (effect b) after (bytes_with away s) (bytes_with away t) (left_as text told_old past_old) (left_as text told_new past_new)
+      console_old console_new report_old report_new result
   pub missed : (away : ℕ → List ℕ) (bytes : List ℕ) (known : Known)
       → let b = before_call (world_view away s m seat before) number before bytes known in
       OnMissed result (λ z. IsMissed (seen s m seat before) z (touched b))

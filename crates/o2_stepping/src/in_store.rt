@@ -1,6 +1,7 @@
 // A step of a process over a store: what it needs comes into memory, and it is tried until it misses nothing.
-ghost use Rattle.std.specs.Prelude.{◌≡◌, ◌<◌, ◌≤◌, ◌⊎◌, ◌++◌, ℕ, List, Some, false, true, IsTrue, IsOk};
+ghost use Rattle.std.specs.Prelude.{◌≡◌, ◌<◌, ◌≤◌, ◌⊎◌, ◌++◌, ℕ, List, Option, Some, false, true, IsTrue, IsOk};
 ghost use Rattle.o2_outer.specs.Texts.{Rose};
+ghost use Rattle.o2_outer.specs.Inputs.{GoesOn, IsSeenAs, left_as};
 ghost use Rattle.o2_isa.specs.View.{bound_registers};
 ghost use Rattle.o2_isa.specs.Presence.{is_in};
 ghost use Rattle.o2_swapmap.specs.Piles.{all_of};
@@ -106,6 +107,7 @@ fn bring_in<S: SwapDevice>(
 }
 
 /// One try of a step, once all that is known to be needed is in memory.
+#[tactic(auto, using(o2_outer::proofs::Inputs::goes_same))]
 fn serve_and_try<S: SwapDevice, I: Source, C: Sink, R: Sink>(
     need: &Need,
     pid: u16,
@@ -125,12 +127,16 @@ fn serve_and_try<S: SwapDevice, I: Source, C: Sink, R: Sink>(
     requires seats { AreNeeded need.now (seated_in regions.old pid cpu.old) }
 
     // The step of the boundless machine; where a segment is missed or cannot come in, nothing that it sees is changed.
-    ensures tries { (bytes : List ℕ) (known : Known) → IsTrue (S.told swap.old) → I.left input.old ≡ Some bytes → IsKnown known services.old
+    // However the input is seen: by what it tells, or as a text that the whole of it may be.
+    ensures tries { (text : Option (List ℕ)) → IsSeenAs text (I.past input.new) → (bytes : List ℕ) (known : Known)
+        → IsTrue (S.told swap.old) → left_as text (I.left input.old) (I.past input.old) ≡ Some bytes → IsKnown known services.old
         → let away = away_of store.old regions.old images.now (S.blocks swap.old) (S.block swap.old) in
         let b = before_in away store.old regions.old pid cpu.old bytes known in
         Tries b (effect b) cpu.new (bytes_with away store.old)
         (bytes_with (away_of store.new regions.new images.now (S.blocks swap.new) (S.block swap.new)) store.new)
-        (I.left input.old) (I.left input.new) (C.taken console.old) (C.taken console.new) (R.taken report.old) (R.taken report.new) result }
+        (left_as text (I.left input.old) (I.past input.old)) (left_as text (I.left input.new) (I.past input.new))
+        (C.taken console.old) (C.taken console.new) (R.taken report.old) (R.taken report.new) result }
+    ensures goes_on { GoesOn (I.past input.old) (I.past input.new) }
     ensures missed { (bytes : List ℕ) (known : Known) → IsTrue (S.told swap.old)
         → let b = before_in (away_of store.old regions.old images.now (S.blocks swap.old) (S.block swap.old)) store.old regions.old pid cpu.old bytes known in
         OnMissed result (λ s. IsWanted regions.new pid need.now (touched b) s) }
@@ -204,6 +210,16 @@ pub fn step_in_store<S: SwapDevice, I: Source, C: Sink, R: Sink>(
         Takes b (effect b) cpu.new (bytes_with away store.old)
         (bytes_with (away_of store.new regions.new images.now (S.blocks swap.new) (S.block swap.new)) store.new)
         (I.left input.old) (I.left input.new) (C.taken console.old) (C.taken console.new) (R.taken report.old) (R.taken report.new) result }
+    // The same, however the input is seen: by what it tells, or as a text that the whole of it may be.
+    ensures takes_as { (text : Option (List ℕ)) → IsSeenAs text (I.past input.new) → (bytes : List ℕ) (known : Known)
+        → IsTrue (S.told swap.old) → left_as text (I.left input.old) (I.past input.old) ≡ Some bytes → IsKnown known services.old
+        → let away = away_of store.old regions.old images.now (S.blocks swap.old) (S.block swap.old) in
+        let b = before_in away store.old regions.old pid cpu.old bytes known in
+        Takes b (effect b) cpu.new (bytes_with away store.old)
+        (bytes_with (away_of store.new regions.new images.now (S.blocks swap.new) (S.block swap.new)) store.new)
+        (left_as text (I.left input.old) (I.past input.old)) (left_as text (I.left input.new) (I.past input.new))
+        (C.taken console.old) (C.taken console.new) (R.taken report.old) (R.taken report.new) result }
+    ensures goes_on { GoesOn (I.past input.old) (I.past input.new) }
     ensures still { OnNoStep result ((cpu.new ≡ cpu.old)
         × (input.new ≡ input.old) × (console.new ≡ console.old) × (report.new ≡ report.old)) }
 

@@ -2,6 +2,7 @@
 ghost use Rattle.std.specs.Prelude.{◌≡◌, ◌<◌, ◌≤◌, ◌+◌, ◌^◌, ◌⊎◌, ◌∷◌, [], ℕ, List, Option, Some, false};
 ghost use Rattle.o2_outer.specs.Texts.{Rose};
 ghost use Rattle.o2_outer.specs.Answers.{Takes, OnFailed};
+ghost use Rattle.o2_outer.specs.Inputs.{GoesOn, IsSeenAs, left_as};
 ghost use Rattle.o2_isa.specs.View.{View, Filling, IsBound, KeepsFrame, Agrees, whole};
 ghost use Rattle.o2_isa.specs.Presence.{IsMissed};
 ghost use Rattle.o2_world.specs.Known.{Known};
@@ -164,6 +165,7 @@ pub fn absent<R: Sink>(
 
 /// One step of process `pid`, all but what an end takes from it, over a bus whose registers are those of `cpu`. Where a segment
 /// is missed, nothing is changed, and the step may be tried again.
+#[tactic(auto, using(o2_outer::proofs::Inputs::goes_same))]
 pub fn run_one<B: Ranges, I: Source, C: Sink, R: Sink>(
     pid: u16,
     cpu: &mut Cpu,
@@ -178,6 +180,15 @@ pub fn run_one<B: Ranges, I: Source, C: Sink, R: Sink>(
         → let b = before_call (boundless f (B.view bus.old)) pid cpu.old bytes known in
         Leaves b (effect b) cpu.new (whole f (B.view bus.old)).bytes (whole f (B.view bus.new)).bytes
         (I.left input.old) (I.left input.new) (C.taken console.old) (C.taken console.new) (R.taken report.old) (R.taken report.new) result }
+    // The same, however the input is seen: by what it tells, or as a text that the whole of it may be.
+    ensures leaves_as { (text : Option (List ℕ)) → IsSeenAs text (I.past input.new)
+        → (f : Filling) (bytes : List ℕ) (known : Known) → IsBound (B.view bus.old)
+        → left_as text (I.left input.old) (I.past input.old) ≡ Some bytes → IsKnown known services.old
+        → let b = before_call (boundless f (B.view bus.old)) pid cpu.old bytes known in
+        Leaves b (effect b) cpu.new (whole f (B.view bus.old)).bytes (whole f (B.view bus.new)).bytes
+        (left_as text (I.left input.old) (I.past input.old)) (left_as text (I.left input.new) (I.past input.new))
+        (C.taken console.old) (C.taken console.new) (R.taken report.old) (R.taken report.new) result }
+    ensures goes_on { GoesOn (I.past input.old) (I.past input.new) }
     ensures away { IsBound (B.view bus.old) → OnMissed result (λ s. IsAway (B.view bus.old) s) }
     // What is missed is one of the names that the step touches in the boundless machine; at every other answer all of them are
     // present.
@@ -202,6 +213,11 @@ pub fn run_one<B: Ranges, I: Source, C: Sink, R: Sink>(
     // Each line is one put, and so is the piece where it has bytes. Where a sink fails, no more lines were put than there are.
     ensures puts { AttemptHands (counts (C.puts console.old) (C.puts console.new) (R.puts report.old) (R.puts report.new) 0) result }
     ensures part { (f : Filling) (bytes : List ℕ) (known : Known) → IsBound (B.view bus.old) → I.left input.old ≡ Some bytes → IsKnown known services.old
+        → PartHands (effect (before_call (boundless f (B.view bus.old)) pid cpu.old bytes known))
+        (counts (C.puts console.old) (C.puts console.new) (R.puts report.old) (R.puts report.new) 0) result }
+    ensures part_as { (text : Option (List ℕ)) → IsSeenAs text (I.past input.new)
+        → (f : Filling) (bytes : List ℕ) (known : Known) → IsBound (B.view bus.old)
+        → left_as text (I.left input.old) (I.past input.old) ≡ Some bytes → IsKnown known services.old
         → PartHands (effect (before_call (boundless f (B.view bus.old)) pid cpu.old bytes known))
         (counts (C.puts console.old) (C.puts console.new) (R.puts report.old) (R.puts report.new) 0) result }
 {

@@ -1,6 +1,7 @@
 // One try of a step of a process over a store, by what is in memory.
 ghost use Rattle.std.specs.Prelude.{◌≡◌, ◌≤◌, ◌⊎◌};
 ghost use Rattle.o2_outer.specs.Texts.{Rose};
+ghost use Rattle.o2_outer.specs.Inputs.{GoesOn};
 ghost use Rattle.o2_isa.specs.View.{bound_registers};
 ghost use Rattle.o2_segbus.specs.Seen.{hold_in};
 ghost use Rattle.o2_segbus.specs.Bus.{registers_of};
@@ -34,7 +35,9 @@ fn try_in<I: Source, C: Sink, R: Sink>(
     ensures same_store { bus.new.store.ghost_name ≡ bus.old.store.ghost_name }
     ensures same_regions { bus.new.regions.ghost_name ≡ bus.old.regions.ghost_name }
     ensures over { TriesOver bus.old.store.now bus.old.regions.now bus.new.store.now bus.old.pid pid cpu.old cpu.new services.old
-        (I.left input.old) (I.left input.new) (C.taken console.old) (C.taken console.new) (R.taken report.old) (R.taken report.new) result }
+        (I.left input.old) (I.left input.new) (I.past input.old) (I.past input.new)
+        (C.taken console.old) (C.taken console.new) (R.taken report.old) (R.taken report.new) result }
+    ensures goes_on { GoesOn (I.past input.old) (I.past input.new) }
     ensures still { OnMissed result (λ s. (cpu.new ≡ cpu.old)
         × (input.new ≡ input.old) × (console.new ≡ console.old) × (report.new ≡ report.old)) }
     ensures store { KeepsStore bus.old.store.now bus.new.store.now }
@@ -70,7 +73,9 @@ pub(crate) fn try_step<I: Source, C: Sink, R: Sink>(
 ) -> Result<Attempt, Fault>
     requires ready { CanStep store.old regions.old pid cpu.old }
     ensures over { TriesOver store.old regions.old store.new pid pid cpu.old cpu.new services.old
-        (I.left input.old) (I.left input.new) (C.taken console.old) (C.taken console.new) (R.taken report.old) (R.taken report.new) result }
+        (I.left input.old) (I.left input.new) (I.past input.old) (I.past input.new)
+        (C.taken console.old) (C.taken console.new) (R.taken report.old) (R.taken report.new) result }
+    ensures goes_on { GoesOn (I.past input.old) (I.past input.new) }
     ensures still { OnMissed result (λ s. (cpu.new ≡ cpu.old)
         × (input.new ≡ input.old) × (console.new ≡ console.old) × (report.new ≡ report.old)) }
     ensures store { KeepsStore store.old store.new }

@@ -1,6 +1,7 @@
 -- Each row is answered by its own service.
-use Rattle.std.proofs.Common.{List, ℕ, [], Option, Some, refl}
+use Rattle.std.proofs.Common.{Option, Some, refl}
 use Rattle.o2_isa.specs.View.{View, Filling}
+use Rattle.o2_outer.specs.Inputs.{left_as}
 use Rattle.o2_run.specs.Room.{call_names}
 use Rattle.o2_world.specs.declared.types.Row.{Row}
 use Rattle.o2_world.specs.declared.types.Row.TheVariants.{DosExit, DosGetPid, DosRead, DosWrite, DosMemAvail}
@@ -14,10 +15,10 @@ use Rattle.o2_gate.proofs.Lines.{by_line, told_line, read_line}
 use Rattle.o2_gate.proofs.gate.call.Goals as goal
 
 pub returns-in-Some-DosExit-clause-does : goal.returns-in-Some-DosExit-clause-does
-returns-in-Some-DosExit-clause-does g c = λ f bytes known bound e same.
+returns-in-Some-DosExit-clause-does g c = λ text m f bytes known bound e same.
     let old : View = g.B.Bus.view c.args.bus.now in
     let b = before_call (boundless f old) c.args.pid c.args.cpu.now bytes known in
-    by_row (λ (y : Effect). Does f b y c.args.cpu.now old old (g.I.Source.left c.args.input.now) (g.I.Source.left c.args.input.now)
+    by_row (λ (y : Effect). Does f b y c.args.cpu.now old old (left_as text (g.I.Source.left c.args.input.now) (g.I.Source.past c.args.input.now)) (left_as text (g.I.Source.left c.args.input.now) (g.I.Source.past c.args.input.now))
     (g.C.Sink.taken c.args.console.now) (g.C.Sink.taken c.args.console.now) (g.R.Sink.taken c.args.report.now) (g.R.Sink.taken c.dos_exit.new.report) c.dos_exit.result)
     b c.args.service c.args.next c.row_of.result c.in-Some-DosExit.field-0 DosExit c.row_of.ensures.row c.in-Some-DosExit.is c.in-Some-DosExit.field-0-is
     (c.dos_exit.ensures.does f bytes known _ _ bound e)
@@ -31,26 +32,11 @@ returns-in-Some-DosExit-clause-every g c = λ other f bytes known bound same.
     b c.args.service c.args.next c.row_of.result c.in-Some-DosExit.field-0 DosExit c.row_of.ensures.row c.in-Some-DosExit.is c.in-Some-DosExit.field-0-is
     (c.dos_exit.ensures.does f bytes known _ _ bound refl)
 
-pub returns-in-Some-DosExit-clause-some : goal.returns-in-Some-DosExit-clause-some
-returns-in-Some-DosExit-clause-some g c = λ f known bound same.
-    let bytes : List ℕ = [] in
-    let old : View = g.B.Bus.view c.args.bus.now in
-    let b = before_call (boundless f old) c.args.pid c.args.cpu.now bytes known in (
-      bytes,
-      (
-        Some bytes,
-        by_row (λ (y : Effect). Does f b y c.args.cpu.now old old (Some bytes) (Some bytes)
-            (g.C.Sink.taken c.args.console.now) (g.C.Sink.taken c.args.console.now) (g.R.Sink.taken c.args.report.now) (g.R.Sink.taken c.dos_exit.new.report) c.dos_exit.result)
-            b c.args.service c.args.next c.row_of.result c.in-Some-DosExit.field-0 DosExit c.row_of.ensures.row c.in-Some-DosExit.is c.in-Some-DosExit.field-0-is
-            (c.dos_exit.ensures.does f bytes known _ _ bound refl),
-      ),
-    )
-
 pub returns-in-Some-DosGetPid-clause-does : goal.returns-in-Some-DosGetPid-clause-does
-returns-in-Some-DosGetPid-clause-does g c = λ f bytes known bound e same.
+returns-in-Some-DosGetPid-clause-does g c = λ text m f bytes known bound e same.
     let old : View = g.B.Bus.view c.args.bus.now in
     let b = before_call (boundless f old) c.args.pid c.args.cpu.now bytes known in
-    by_row (λ (y : Effect). Does f b y c.dos_get_pid.new.cpu old (g.B.Bus.view c.dos_get_pid.new.bus) (g.I.Source.left c.args.input.now) (g.I.Source.left c.args.input.now)
+    by_row (λ (y : Effect). Does f b y c.dos_get_pid.new.cpu old (g.B.Bus.view c.dos_get_pid.new.bus) (left_as text (g.I.Source.left c.args.input.now) (g.I.Source.past c.args.input.now)) (left_as text (g.I.Source.left c.args.input.now) (g.I.Source.past c.args.input.now))
     (g.C.Sink.taken c.args.console.now) (g.C.Sink.taken c.args.console.now) (g.R.Sink.taken c.args.report.now) (g.R.Sink.taken c.dos_get_pid.new.report) c.dos_get_pid.result)
     b c.args.service c.args.next c.row_of.result c.in-Some-DosGetPid.field-0 DosGetPid c.row_of.ensures.row c.in-Some-DosGetPid.is c.in-Some-DosGetPid.field-0-is
     (c.dos_get_pid.ensures.does f bytes known _ _ bound e)
@@ -64,49 +50,20 @@ returns-in-Some-DosGetPid-clause-every g c = λ other f bytes known bound same.
     b c.args.service c.args.next c.row_of.result c.in-Some-DosGetPid.field-0 DosGetPid c.row_of.ensures.row c.in-Some-DosGetPid.is c.in-Some-DosGetPid.field-0-is
     (c.dos_get_pid.ensures.does f bytes known _ _ bound refl)
 
-pub returns-in-Some-DosGetPid-clause-some : goal.returns-in-Some-DosGetPid-clause-some
-returns-in-Some-DosGetPid-clause-some g c = λ f known bound same.
-    let bytes : List ℕ = [] in
-    let old : View = g.B.Bus.view c.args.bus.now in
-    let b = before_call (boundless f old) c.args.pid c.args.cpu.now bytes known in (
-      bytes,
-      (
-        Some bytes,
-        by_row (λ (y : Effect). Does f b y c.dos_get_pid.new.cpu old (g.B.Bus.view c.dos_get_pid.new.bus) (Some bytes) (Some bytes)
-            (g.C.Sink.taken c.args.console.now) (g.C.Sink.taken c.args.console.now) (g.R.Sink.taken c.args.report.now) (g.R.Sink.taken c.dos_get_pid.new.report) c.dos_get_pid.result)
-            b c.args.service c.args.next c.row_of.result c.in-Some-DosGetPid.field-0 DosGetPid c.row_of.ensures.row c.in-Some-DosGetPid.is c.in-Some-DosGetPid.field-0-is
-            (c.dos_get_pid.ensures.does f bytes known _ _ bound refl),
-      ),
-    )
-
 pub returns-in-Some-DosRead-clause-does : goal.returns-in-Some-DosRead-clause-does
-returns-in-Some-DosRead-clause-does g c = λ f bytes known bound e same.
+returns-in-Some-DosRead-clause-does g c = λ text m f bytes known bound e same.
     let old : View = g.B.Bus.view c.args.bus.now in
     let b = before_call (boundless f old) c.args.pid c.args.cpu.now bytes known in
-    by_row (λ (y : Effect). Does f b y c.dos_read.new.cpu old (g.B.Bus.view c.dos_read.new.bus) (g.I.Source.left c.args.input.now) (g.I.Source.left c.dos_read.new.input)
+    by_row (λ (y : Effect). Does f b y c.dos_read.new.cpu old (g.B.Bus.view c.dos_read.new.bus) (left_as text (g.I.Source.left c.args.input.now) (g.I.Source.past c.args.input.now)) (left_as text (g.I.Source.left c.dos_read.new.input) (g.I.Source.past c.dos_read.new.input))
     (g.C.Sink.taken c.args.console.now) (g.C.Sink.taken c.args.console.now) (g.R.Sink.taken c.args.report.now) (g.R.Sink.taken c.dos_read.new.report) c.dos_read.result)
     b c.args.service c.args.next c.row_of.result c.in-Some-DosRead.field-0 DosRead c.row_of.ensures.row c.in-Some-DosRead.is c.in-Some-DosRead.field-0-is
-    (c.dos_read.ensures.does f bytes known _ bound e)
-
-pub returns-in-Some-DosRead-clause-some : goal.returns-in-Some-DosRead-clause-some
-returns-in-Some-DosRead-clause-some g c = λ f known bound same.
-    let did = c.dos_read.ensures.some f known (g.C.Sink.taken c.args.console.now) bound in
-    let old : View = g.B.Bus.view c.args.bus.now in
-    let b = before_call (boundless f old) c.args.pid c.args.cpu.now did.0 known in (
-      did.0,
-      (
-        did.1.0,
-        by_row (λ (y : Effect). Does f b y c.dos_read.new.cpu old (g.B.Bus.view c.dos_read.new.bus) (Some did.0) did.1.0
-            (g.C.Sink.taken c.args.console.now) (g.C.Sink.taken c.args.console.now) (g.R.Sink.taken c.args.report.now) (g.R.Sink.taken c.dos_read.new.report) c.dos_read.result)
-            b c.args.service c.args.next c.row_of.result c.in-Some-DosRead.field-0 DosRead c.row_of.ensures.row c.in-Some-DosRead.is c.in-Some-DosRead.field-0-is did.1.1,
-      ),
-    )
+    (c.dos_read.ensures.does text m f bytes known _ bound e)
 
 pub returns-in-Some-DosWrite-clause-does : goal.returns-in-Some-DosWrite-clause-does
-returns-in-Some-DosWrite-clause-does g c = λ f bytes known bound e same.
+returns-in-Some-DosWrite-clause-does g c = λ text m f bytes known bound e same.
     let old : View = g.B.Bus.view c.args.bus.now in
     let b = before_call (boundless f old) c.args.pid c.args.cpu.now bytes known in
-    by_row (λ (y : Effect). Does f b y c.dos_write.new.cpu old (g.B.Bus.view c.dos_write.new.bus) (g.I.Source.left c.args.input.now) (g.I.Source.left c.args.input.now)
+    by_row (λ (y : Effect). Does f b y c.dos_write.new.cpu old (g.B.Bus.view c.dos_write.new.bus) (left_as text (g.I.Source.left c.args.input.now) (g.I.Source.past c.args.input.now)) (left_as text (g.I.Source.left c.args.input.now) (g.I.Source.past c.args.input.now))
     (g.C.Sink.taken c.args.console.now) (g.C.Sink.taken c.dos_write.new.console) (g.R.Sink.taken c.args.report.now) (g.R.Sink.taken c.dos_write.new.report) c.dos_write.result)
     b c.args.service c.args.next c.row_of.result c.in-Some-DosWrite.field-0 DosWrite c.row_of.ensures.row c.in-Some-DosWrite.is c.in-Some-DosWrite.field-0-is
     (c.dos_write.ensures.does f bytes known _ bound e)
@@ -120,26 +77,11 @@ returns-in-Some-DosWrite-clause-every g c = λ other f bytes known bound same.
     b c.args.service c.args.next c.row_of.result c.in-Some-DosWrite.field-0 DosWrite c.row_of.ensures.row c.in-Some-DosWrite.is c.in-Some-DosWrite.field-0-is
     (c.dos_write.ensures.does f bytes known _ bound refl)
 
-pub returns-in-Some-DosWrite-clause-some : goal.returns-in-Some-DosWrite-clause-some
-returns-in-Some-DosWrite-clause-some g c = λ f known bound same.
-    let bytes : List ℕ = [] in
-    let old : View = g.B.Bus.view c.args.bus.now in
-    let b = before_call (boundless f old) c.args.pid c.args.cpu.now bytes known in (
-      bytes,
-      (
-        Some bytes,
-        by_row (λ (y : Effect). Does f b y c.dos_write.new.cpu old (g.B.Bus.view c.dos_write.new.bus) (Some bytes) (Some bytes)
-            (g.C.Sink.taken c.args.console.now) (g.C.Sink.taken c.dos_write.new.console) (g.R.Sink.taken c.args.report.now) (g.R.Sink.taken c.dos_write.new.report) c.dos_write.result)
-            b c.args.service c.args.next c.row_of.result c.in-Some-DosWrite.field-0 DosWrite c.row_of.ensures.row c.in-Some-DosWrite.is c.in-Some-DosWrite.field-0-is
-            (c.dos_write.ensures.does f bytes known _ bound refl),
-      ),
-    )
-
 pub returns-in-Some-DosMemAvail-clause-does : goal.returns-in-Some-DosMemAvail-clause-does
-returns-in-Some-DosMemAvail-clause-does g c = λ f bytes known bound e same.
+returns-in-Some-DosMemAvail-clause-does g c = λ text m f bytes known bound e same.
     let old : View = g.B.Bus.view c.args.bus.now in
     let b = before_call (boundless f old) c.args.pid c.args.cpu.now bytes known in
-    by_row (λ (y : Effect). Does f b y c.dos_mem_avail.new.cpu old (g.B.Bus.view c.dos_mem_avail.new.bus) (g.I.Source.left c.args.input.now) (g.I.Source.left c.args.input.now)
+    by_row (λ (y : Effect). Does f b y c.dos_mem_avail.new.cpu old (g.B.Bus.view c.dos_mem_avail.new.bus) (left_as text (g.I.Source.left c.args.input.now) (g.I.Source.past c.args.input.now)) (left_as text (g.I.Source.left c.args.input.now) (g.I.Source.past c.args.input.now))
     (g.C.Sink.taken c.args.console.now) (g.C.Sink.taken c.args.console.now) (g.R.Sink.taken c.args.report.now) (g.R.Sink.taken c.dos_mem_avail.new.report) c.dos_mem_avail.result)
     b c.args.service c.args.next c.row_of.result c.in-Some-DosMemAvail.field-0 DosMemAvail c.row_of.ensures.row c.in-Some-DosMemAvail.is c.in-Some-DosMemAvail.field-0-is
     (c.dos_mem_avail.ensures.does f bytes known _ _ bound e same.avail)
@@ -152,21 +94,6 @@ returns-in-Some-DosMemAvail-clause-every g c = λ other f bytes known bound same
     (g.C.Sink.taken c.args.console.now) (g.C.Sink.taken c.args.console.now) (g.R.Sink.taken c.args.report.now) (g.R.Sink.taken c.dos_mem_avail.new.report) c.dos_mem_avail.result)
     b c.args.service c.args.next c.row_of.result c.in-Some-DosMemAvail.field-0 DosMemAvail c.row_of.ensures.row c.in-Some-DosMemAvail.is c.in-Some-DosMemAvail.field-0-is
     (c.dos_mem_avail.ensures.does f bytes known _ _ bound refl same.avail)
-
-pub returns-in-Some-DosMemAvail-clause-some : goal.returns-in-Some-DosMemAvail-clause-some
-returns-in-Some-DosMemAvail-clause-some g c = λ f known bound same.
-    let bytes : List ℕ = [] in
-    let old : View = g.B.Bus.view c.args.bus.now in
-    let b = before_call (boundless f old) c.args.pid c.args.cpu.now bytes known in (
-      bytes,
-      (
-        Some bytes,
-        by_row (λ (y : Effect). Does f b y c.dos_mem_avail.new.cpu old (g.B.Bus.view c.dos_mem_avail.new.bus) (Some bytes) (Some bytes)
-            (g.C.Sink.taken c.args.console.now) (g.C.Sink.taken c.args.console.now) (g.R.Sink.taken c.args.report.now) (g.R.Sink.taken c.dos_mem_avail.new.report) c.dos_mem_avail.result)
-            b c.args.service c.args.next c.row_of.result c.in-Some-DosMemAvail.field-0 DosMemAvail c.row_of.ensures.row c.in-Some-DosMemAvail.is c.in-Some-DosMemAvail.field-0-is
-            (c.dos_mem_avail.ensures.does f bytes known _ _ bound refl same.avail),
-      ),
-    )
 
 pub returns-in-Some-DosExit-clause-names : goal.returns-in-Some-DosExit-clause-names
 returns-in-Some-DosExit-clause-names g c = λ input known bound.

@@ -12,7 +12,7 @@ use Rattle.o2_stepping.proofs.Worlds.{away_kept, view_same, with_kept}
 use Rattle.o2_stepping.proofs.in_store.serve_and_try.Goals as goal
 
 pub returns-in-Err-clause-tries : goal.returns-in-Err-clause-tries
-returns-in-Err-clause-tries g c = λ bytes known tells left same.
+returns-in-Err-clause-tries g c = λ text may bytes known tells left same.
     let S = g.S.SwapDevice in
     let away : ℕ → List ℕ = away_of c.args.store.now c.args.regions.now c.args.images.now (S.blocks c.args.swap.now) (S.block c.args.swap.now) in
     let b = before_in away c.args.store.now c.args.regions.now c.args.pid c.args.cpu.now bytes known in
@@ -29,7 +29,7 @@ pub try_step-requires : goal.try_step-requires
 try_step-requires g c = record { ready = c.in-Ok.ensures.can_step refl }
 
 pub returns-clause-tries : goal.returns-clause-tries
-returns-clause-tries g c = λ bytes known tells left same.
+returns-clause-tries g c = λ text may bytes known tells left same.
     let S = g.S.SwapDevice in
     let s = c.args.store.now in
     let t = c.bring_in.new.store in
@@ -42,7 +42,7 @@ returns-clause-tries g c = λ bytes known tells left same.
     let view = view_same a b s t c.args.regions.now c.bring_in.new.regions c.args.pid c.args.cpu.now c.bring_in.ensures.shape.tables c.bring_in.ensures.shape.holds same_bytes in
     tried a b d s t u c.args.regions.now c.bring_in.new.regions c.args.pid c.args.cpu.now bytes known view c.try_step.new.cpu _ _ _ _ _ _ c.try_step.result same_bytes
     (away_same b d u (λ n. away_kept im t u c.bring_in.new.regions c.try_step.new.regions (S.blocks c.bring_in.new.swap) (S.block c.bring_in.new.swap) c.try_step.ensures.store n))
-    (c.try_step.ensures.over.leaves b bytes known left same)
+    (c.try_step.ensures.over.leaves text may b bytes known left same)
 
 pub returns-clause-missed : goal.returns-clause-missed
 returns-clause-missed g c = λ bytes known tells.

@@ -10,6 +10,7 @@ use Rattle.o2_segbus.specs.Seen.{hold_in, seen}
 use Rattle.o2_service.proofs.Among.{all_live_same}
 use Rattle.o2_service.specs.Needs.{AreLive, all_needed, size_in}
 use Rattle.o2_outer.specs.Texts.{Rose}
+use Rattle.o2_outer.specs.Inputs.{left_as}
 use Rattle.o2_store.specs.Loads.{live_load, swap_load}
 use Rattle.o2_swapmap.specs.Piles.{all_of}
 use Rattle.o2_gate.specs.Befores.{IsKnown}
@@ -139,8 +140,8 @@ tries-smaller g c =
     let l = length_some c.tries.need (held_under c.serve_and_try.new.regions c.args.pid c.in-Ok-Missed.sel.0) held in
     omega (arith, added, room, l)
 
-pub returns-in-Ok-Ran-clause-takes : goal.returns-in-Ok-Ran-clause-takes
-returns-in-Ok-Ran-clause-takes g c = λ bytes known tells left same.
+pub returns-in-Ok-Ran-clause-takes_as : goal.returns-in-Ok-Ran-clause-takes_as
+returns-in-Ok-Ran-clause-takes_as g c = λ text may bytes known tells left same.
     let S = g.S.SwapDevice in
     let i = c.tries.invariant in
     let s = c.args.store.now in
@@ -157,11 +158,14 @@ returns-in-Ok-Ran-clause-takes g c = λ bytes known tells left same.
     let d : ℕ → List ℕ = away_of u c.serve_and_try.new.regions im (S.blocks c.serve_and_try.new.swap) (S.block c.serve_and_try.new.swap) in
     ran_tries z (effect z) c.serve_and_try.new.cpu (bytes_with a s) (bytes_with d u) _ _ _ _ _ _ c.in-Ok-Ran.field-0 c.in-Ok-Ran.ran c.in-Ok-Ran.field-0-is
     (tries_from a b s t m n pid cpu bytes known (view_same a b s t m n pid cpu i.shape.tables i.shape.holds (i.bytes tells)) (i.bytes tells) c.tries.cpu c.serve_and_try.new.cpu (bytes_with d u) _ _ _ _ _ _ _ _ _ (Ok c.in-Ok-Ran.field-0) i.cpu
-    (ap g.I.Source.left i.input) (ap g.C.Sink.taken i.console) (ap g.R.Sink.taken i.report)
-    (c.in-Ok-Ran.ensures.tries bytes known (subst IsTrue (sym i.told) tells) (ap g.I.Source.left i.input ∙ left) (record { avail = same.avail ∙ sym i.avail })))
+    (ap (λ x. left_as text (g.I.Source.left x) (g.I.Source.past x)) i.input) (ap g.C.Sink.taken i.console) (ap g.R.Sink.taken i.report)
+    (c.in-Ok-Ran.ensures.tries text may bytes known (subst IsTrue (sym i.told) tells) (ap (λ x. left_as text (g.I.Source.left x) (g.I.Source.past x)) i.input ∙ left) (record { avail = same.avail ∙ sym i.avail })))
 
-pub returns-in-Err-clause-takes : goal.returns-in-Err-clause-takes
-returns-in-Err-clause-takes g c = λ bytes known tells left same.
+pub returns-in-Ok-Ran-clause-takes : goal.returns-in-Ok-Ran-clause-takes
+returns-in-Ok-Ran-clause-takes g c = λ bytes known tells left same. returns-in-Ok-Ran-clause-takes_as g c None tt bytes known tells left same
+
+pub returns-in-Err-clause-takes_as : goal.returns-in-Err-clause-takes_as
+returns-in-Err-clause-takes_as g c = λ text may bytes known tells left same.
     let S = g.S.SwapDevice in
     let i = c.tries.invariant in
     let s = c.args.store.now in
@@ -176,8 +180,11 @@ returns-in-Err-clause-takes g c = λ bytes known tells left same.
     let u = c.serve_and_try.new.store in
     let d : ℕ → List ℕ = away_of u c.serve_and_try.new.regions im (S.blocks c.serve_and_try.new.swap) (S.block c.serve_and_try.new.swap) in
     tries_from a b s t m n pid cpu bytes known (view_same a b s t m n pid cpu i.shape.tables i.shape.holds (i.bytes tells)) (i.bytes tells) c.tries.cpu c.serve_and_try.new.cpu (bytes_with d u) _ _ _ _ _ _ _ _ _ (Err c.in-Err.fault) i.cpu
-    (ap g.I.Source.left i.input) (ap g.C.Sink.taken i.console) (ap g.R.Sink.taken i.report)
-    (c.in-Err.ensures.tries bytes known (subst IsTrue (sym i.told) tells) (ap g.I.Source.left i.input ∙ left) (record { avail = same.avail ∙ sym i.avail }))
+    (ap (λ x. left_as text (g.I.Source.left x) (g.I.Source.past x)) i.input) (ap g.C.Sink.taken i.console) (ap g.R.Sink.taken i.report)
+    (c.in-Err.ensures.tries text may bytes known (subst IsTrue (sym i.told) tells) (ap (λ x. left_as text (g.I.Source.left x) (g.I.Source.past x)) i.input ∙ left) (record { avail = same.avail ∙ sym i.avail }))
+
+pub returns-in-Err-clause-takes : goal.returns-in-Err-clause-takes
+returns-in-Err-clause-takes g c = λ bytes known tells left same. returns-in-Err-clause-takes_as g c None tt bytes known tells left same
 
 pub returns-in-Err-clause-still : goal.returns-in-Err-clause-still
 returns-in-Err-clause-still g c =
@@ -294,8 +301,8 @@ returns-in-Err-clause-room_in_part g c = λ bytes known tells.
     let fits = room_fits u names c.law.ensures.shelf e.ready.aged (seen_present u o pid d names here) c.law.ensures.sum c.law.ensures.room in
     omega (arith, fits, same, size))) (e.in_part bytes known (subst IsTrue (sym i.told) tells))
 
-pub returns-then-not-add_missed-clause-takes : goal.returns-then-not-add_missed-clause-takes
-returns-then-not-add_missed-clause-takes g c = λ bytes known tells left same.
+pub returns-then-not-add_missed-clause-takes_as : goal.returns-then-not-add_missed-clause-takes_as
+returns-then-not-add_missed-clause-takes_as g c = λ text may bytes known tells left same.
     let S = g.S.SwapDevice in
     let i = c.tries.invariant in
     let s = c.args.store.now in
@@ -311,6 +318,9 @@ returns-then-not-add_missed-clause-takes g c = λ bytes known tells left same.
     let w = subst (λ (z : Before). IsWanted c.serve_and_try.new.regions pid c.tries.need (touched z) sel) (first_from a b s t m n pid cpu bytes known (view_same a b s t m n pid cpu i.shape.tables i.shape.holds (i.bytes tells)) (i.bytes tells) c.tries.cpu i.cpu)
     (missed_at _ c.in-Ok-Missed.field-0 sel c.in-Ok-Missed.field-0-is (c.in-Ok-Missed.ensures.missed bytes known (subst IsTrue (sym i.told) tells))) in
     absurd (no_place (held_under c.serve_and_try.new.regions pid sel.0) w.held _ (length c.tries.need) w.under (i.left bytes known tells) (c.add_missed.ensures.full c.if-not-add_missed.true))
+
+pub returns-then-not-add_missed-clause-takes : goal.returns-then-not-add_missed-clause-takes
+returns-then-not-add_missed-clause-takes g c = λ bytes known tells left same. returns-then-not-add_missed-clause-takes_as g c None tt bytes known tells left same
 
 pub returns-then-not-add_missed-clause-no_room : goal.returns-then-not-add_missed-clause-no_room
 returns-then-not-add_missed-clause-no_room g c = λ bytes known tells.
@@ -390,3 +400,12 @@ returns-in-Err-clause-part g c = λ bytes known tells left same.
     (ap g.C.Sink.puts i.console) (ap g.R.Sink.puts i.report) (part_fault (effect z) k c.in-Err.fault
     (part_from a b s t m n pid cpu bytes known view (i.bytes tells) c.tries.cpu i.cpu k (Err c.in-Err.fault)
     (c.in-Err.ensures.part bytes known (subst IsTrue (sym i.told) tells) (ap g.I.Source.left i.input ∙ left) (record { avail = same.avail ∙ sym i.avail }))))
+
+pub returns-in-Ok-Ran-clause-goes_on : goal.returns-in-Ok-Ran-clause-goes_on
+returns-in-Ok-Ran-clause-goes_on g c = rw c.tries.invariant.input at c.in-Ok-Ran.ensures.goes_on
+
+pub returns-in-Err-clause-goes_on : goal.returns-in-Err-clause-goes_on
+returns-in-Err-clause-goes_on g c = rw c.tries.invariant.input at c.in-Err.ensures.goes_on
+
+pub returns-then-not-add_missed-clause-goes_on : goal.returns-then-not-add_missed-clause-goes_on
+returns-then-not-add_missed-clause-goes_on g c = rw c.tries.invariant.input at c.in-Ok-Missed.ensures.goes_on

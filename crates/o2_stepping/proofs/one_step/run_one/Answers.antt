@@ -1,5 +1,6 @@
-use Rattle.std.proofs.Common.{◌≡◌, ℕ, [], List, Option, ap, sym, ◌∙◌, refl, subst, true}
+use Rattle.std.proofs.Common.{◌≡◌, ℕ, [], List, Option, None, ap, sym, ◌∙◌, refl, subst, true}
 use Rattle.std.specs.Prelude.{Result, Ok, Err}
+use Rattle.o2_outer.specs.Inputs.{left_as}
 use Rattle.o2_outer.proofs.TextLemmas.{gains_none}
 use Rattle.o2_isa.specs.declared.cpu.Stop.TheVariants as stop
 use Rattle.o2_isa.specs.View.{View, Filling, IsBound, whole, no_hidden}
@@ -26,22 +27,25 @@ use Rattle.o2_stepping.specs.Pieces.{AttemptHands}
 use Rattle.o2_stepping.proofs.Puts.{no_hands, back_hands, exit_hands, trap_hands, fault_hands, behind, trap_part, fault_part}
 use Rattle.o2_stepping.proofs.one_step.run_one.Goals as goal
 
-pub returns-in-Done-clause-leaves : goal.returns-in-Done-clause-leaves
-returns-in-Done-clause-leaves g c = λ f input known bound left same.
+pub returns-in-Done-clause-leaves_as : goal.returns-in-Done-clause-leaves_as
+returns-in-Done-clause-leaves_as g c = λ text m f input known bound left same.
     let v : View = g.B.Bus.view c.args.bus.now in
     let w : View = g.B.Bus.view c.step_one.new.bus in
     let b = before_call (boundless f v) c.args.pid c.args.cpu.now input known in
     let cpu = c.step_one.new.cpu in
     let r : Result Machine stop.the_data = Ok (state cpu (boundless f w)) in
-    subst (λ (e : Effect). Leaves b e cpu (whole f v).bytes (whole f w).bytes (g.I.Source.left c.args.input.now)
-    (g.I.Source.left c.args.input.now) (g.C.Sink.taken c.args.console.now) (g.C.Sink.taken c.args.console.now)
+    subst (λ (e : Effect). Leaves b e cpu (whole f v).bytes (whole f w).bytes (left_as text (g.I.Source.left c.args.input.now) (g.I.Source.past c.args.input.now))
+    (left_as text (g.I.Source.left c.args.input.now) (g.I.Source.past c.args.input.now)) (g.C.Sink.taken c.args.console.now) (g.C.Sink.taken c.args.console.now)
     (g.R.Sink.taken c.args.report.now) (g.R.Sink.taken c.outlived.new.report) c.outlived.result)
     (sym (effect_by b r (done_boundless f v w c.args.cpu.now cpu (c.in-Done.ensures.boundless f bound))))
     (c.outlived.ensures.leaves f b (answered b r) cpu (whole f v).bytes w
-    (g.I.Source.left c.args.input.now) _ _ _ _ refl refl (record { state = refl; piece = refl; lines = refl; cpu = refl; bytes = λ n. refl; input = left; to_console = gains_none _; to_report = gains_none _ }))
+    (left_as text (g.I.Source.left c.args.input.now) (g.I.Source.past c.args.input.now)) _ _ _ _ refl refl (record { state = refl; piece = refl; lines = refl; cpu = refl; bytes = λ n. refl; input = left; to_console = gains_none _; to_report = gains_none _ }))
 
-pub returns-in-Trap-clause-leaves : goal.returns-in-Trap-clause-leaves
-returns-in-Trap-clause-leaves g c = λ f input known bound left same.
+pub returns-in-Done-clause-leaves : goal.returns-in-Done-clause-leaves
+returns-in-Done-clause-leaves g c = λ f input known bound left same. returns-in-Done-clause-leaves_as g c None tt f input known bound left same
+
+pub returns-in-Trap-clause-leaves_as : goal.returns-in-Trap-clause-leaves_as
+returns-in-Trap-clause-leaves_as g c = λ text m f input known bound left same.
     let v : View = g.B.Bus.view c.args.bus.now in
     let w : View = g.B.Bus.view c.step_one.new.bus in
     let b = before_call (boundless f v) c.args.pid c.args.cpu.now input known in
@@ -49,14 +53,17 @@ returns-in-Trap-clause-leaves g c = λ f input known bound left same.
     let step = c.in-Trap.ensures.step in
     let registers = ap (λ (s : Machine). s.cpu) step.1 in
     let bytes = whole_same f v w (ap (λ (s : Machine). s.view) step.1) in
-    subst (λ (e : Effect). Leaves b e cpu (whole f v).bytes (whole f w).bytes (g.I.Source.left c.args.input.now) (g.I.Source.left c.args.input.now)
+    subst (λ (e : Effect). Leaves b e cpu (whole f v).bytes (whole f w).bytes (left_as text (g.I.Source.left c.args.input.now) (g.I.Source.past c.args.input.now)) (left_as text (g.I.Source.left c.args.input.now) (g.I.Source.past c.args.input.now))
     (g.C.Sink.taken c.args.console.now) (g.C.Sink.taken c.args.console.now) (g.R.Sink.taken c.args.report.now)
     (g.R.Sink.taken c.trap.new.report) c.trap.result)
     (sym (effect_by b (Err (stop.Trap c.in-Trap.vector c.in-Trap.field-1)) (trap_boundless f v w c.args.cpu.now cpu c.in-Trap.vector c.in-Trap.field-1 (c.in-Trap.ensures.boundless f bound))))
     (c.trap.ensures.leaves b cpu (whole f v).bytes (whole f w).bytes _ _ refl (sym registers) registers left bytes bytes)
 
-pub returns-in-Miss-clause-leaves : goal.returns-in-Miss-clause-leaves
-returns-in-Miss-clause-leaves g c = λ f input known bound left same.
+pub returns-in-Trap-clause-leaves : goal.returns-in-Trap-clause-leaves
+returns-in-Trap-clause-leaves g c = λ f input known bound left same. returns-in-Trap-clause-leaves_as g c None tt f input known bound left same
+
+pub returns-in-Miss-clause-leaves_as : goal.returns-in-Miss-clause-leaves_as
+returns-in-Miss-clause-leaves_as g c = λ text m f input known bound left same.
     let step = c.in-Miss.ensures.step in
     record {
       cpu = ap (λ (s : Machine). s.cpu) step.1;
@@ -66,13 +73,16 @@ returns-in-Miss-clause-leaves g c = λ f input known bound left same.
       to_report = refl;
     }
 
+pub returns-in-Miss-clause-leaves : goal.returns-in-Miss-clause-leaves
+returns-in-Miss-clause-leaves g c = λ f input known bound left same. returns-in-Miss-clause-leaves_as g c None tt f input known bound left same
+
 pub returns-in-Miss-clause-away : goal.returns-in-Miss-clause-away
 returns-in-Miss-clause-away g c = λ bound.
     let f : Filling = record { blocks = λ n. []; hidden = no_hidden } in
     away_by (g.B.Bus.view c.args.bus.now) c.in-Miss.sel _ (c.in-Miss.ensures.boundless f bound).1
 
-pub returns-in-Ok-Back-clause-leaves : goal.returns-in-Ok-Back-clause-leaves
-returns-in-Ok-Back-clause-leaves g c = λ f input known bound left same.
+pub returns-in-Ok-Back-clause-leaves_as : goal.returns-in-Ok-Back-clause-leaves_as
+returns-in-Ok-Back-clause-leaves_as g c = λ text m f input known bound left same.
     let v : View = g.B.Bus.view c.args.bus.now in
     let w : View = g.B.Bus.view c.step_one.new.bus in
     let new : View = g.B.Bus.view c.call.new.bus in
@@ -80,17 +90,20 @@ returns-in-Ok-Back-clause-leaves g c = λ f input known bound left same.
     let step = c.in-Gate.ensures.step in
     let bound_then : IsBound w = subst (λ (s : Machine). IsBound s.view) (sym step.1) bound in
     let does = moved f c.args.pid input known c.in-Gate.service c.in-Gate.next c.call.new.cpu new _ _ _ _ _ _ (Ok c.in-Ok-Back.field-0) (state c.step_one.new.cpu w) (state c.args.cpu.now v) step.1
-    (c.in-Ok-Back.ensures.does f input known bound_then left (record { avail = same.avail })) in
+    (c.in-Ok-Back.ensures.does text m f input known bound_then left (record { avail = same.avail })) in
     let made = by_answer f c.args.pid input known c.in-Gate.service c.in-Gate.next c.call.new.cpu new _ _ _ _ _ _ v c.args.cpu.now c.in-Ok-Back.field-0 (called.Back c.in-Ok-Back.bytes) c.in-Ok-Back.field-0-is does in
-    subst (λ (e : Effect). Leaves b e c.call.new.cpu (whole f v).bytes (whole f new).bytes (g.I.Source.left c.args.input.now)
-    (g.I.Source.left c.call.new.input) (g.C.Sink.taken c.args.console.now) (g.C.Sink.taken c.call.new.console)
+    subst (λ (e : Effect). Leaves b e c.call.new.cpu (whole f v).bytes (whole f new).bytes (left_as text (g.I.Source.left c.args.input.now) (g.I.Source.past c.args.input.now))
+    (left_as text (g.I.Source.left c.call.new.input) (g.I.Source.past c.call.new.input)) (g.C.Sink.taken c.args.console.now) (g.C.Sink.taken c.call.new.console)
     (g.R.Sink.taken c.args.report.now) (g.R.Sink.taken c.outlived-in-Ok-Back.new.report) c.outlived-in-Ok-Back.result)
     (sym (effect_by b (Err (stop.Gate c.in-Gate.service c.in-Gate.next)) (gate_boundless f v w c.args.cpu.now c.step_one.new.cpu c.in-Gate.service c.in-Gate.next (c.in-Gate.ensures.boundless f bound))))
     (c.outlived-in-Ok-Back.ensures.leaves f b (serviced b c.in-Gate.service c.in-Gate.next) c.call.new.cpu (whole f v).bytes new
-    (g.I.Source.left c.args.input.now) _ _ _ _ refl refl made)
+    (left_as text (g.I.Source.left c.args.input.now) (g.I.Source.past c.args.input.now)) _ _ _ _ refl refl made)
 
-pub returns-in-Ok-Trap-clause-leaves : goal.returns-in-Ok-Trap-clause-leaves
-returns-in-Ok-Trap-clause-leaves g c = λ f input known bound left same.
+pub returns-in-Ok-Back-clause-leaves : goal.returns-in-Ok-Back-clause-leaves
+returns-in-Ok-Back-clause-leaves g c = λ f input known bound left same. returns-in-Ok-Back-clause-leaves_as g c None tt f input known bound left same
+
+pub returns-in-Ok-Trap-clause-leaves_as : goal.returns-in-Ok-Trap-clause-leaves_as
+returns-in-Ok-Trap-clause-leaves_as g c = λ text m f input known bound left same.
     let v : View = g.B.Bus.view c.args.bus.now in
     let w : View = g.B.Bus.view c.step_one.new.bus in
     let new : View = g.B.Bus.view c.call.new.bus in
@@ -98,25 +111,28 @@ returns-in-Ok-Trap-clause-leaves g c = λ f input known bound left same.
     let step = c.in-Gate.ensures.step in
     let bound_then : IsBound w = subst (λ (s : Machine). IsBound s.view) (sym step.1) bound in
     let does = moved f c.args.pid input known c.in-Gate.service c.in-Gate.next c.call.new.cpu new _ _ _ _ _ _ (Ok c.in-Ok-Trap.field-0) (state c.step_one.new.cpu w) (state c.args.cpu.now v) step.1
-    (c.in-Ok-Trap.ensures.does f input known bound_then left (record { avail = same.avail })) in
+    (c.in-Ok-Trap.ensures.does text m f input known bound_then left (record { avail = same.avail })) in
     let vector = c.in-Ok-Trap.vector in
     let t = by_answer f c.args.pid input known c.in-Gate.service c.in-Gate.next c.call.new.cpu new _ _ _ _ _ _ v c.args.cpu.now c.in-Ok-Trap.field-0 (called.Trap vector _) c.in-Ok-Trap.field-0-is does in
     let bytes = whole_same f v new t.untouched.view in
-    let base = c.trap-in-Ok-Trap.ensures.leaves b c.call.new.cpu (whole f v).bytes (whole f new).bytes (g.I.Source.left c.args.input.now)
+    let base = c.trap-in-Ok-Trap.ensures.leaves b c.call.new.cpu (whole f v).bytes (whole f new).bytes (left_as text (g.I.Source.left c.args.input.now) (g.I.Source.past c.args.input.now))
     (g.C.Sink.taken c.args.console.now) refl (sym t.untouched.cpu) t.untouched.cpu left bytes bytes in
     let P : Effect → Option (List ℕ) → Option (List ℕ) → Option (List ℕ) → Type 0 = λ e j d r. Leaves b e c.call.new.cpu (whole f v).bytes (whole f new).bytes
-    (g.I.Source.left c.args.input.now) j (g.C.Sink.taken c.args.console.now) d r
+    (left_as text (g.I.Source.left c.args.input.now) (g.I.Source.past c.args.input.now)) j (g.C.Sink.taken c.args.console.now) d r
     (g.R.Sink.taken c.trap-in-Ok-Trap.new.report) c.trap-in-Ok-Trap.result in
     let one = single_stepped b (trapped b vector) in
     let eff = effect_by b (Err (stop.Gate c.in-Gate.service c.in-Gate.next)) (gate_boundless f v w c.args.cpu.now c.step_one.new.cpu c.in-Gate.service c.in-Gate.next (c.in-Gate.ensures.boundless f bound))
     ∙ ap (λ (e : Effect). single_stepped b e) t.effect in
-    subst (λ (e : Effect). P e (g.I.Source.left c.call.new.input) (g.C.Sink.taken c.call.new.console) (g.R.Sink.taken c.args.report.now)) (sym eff)
+    subst (λ (e : Effect). P e (left_as text (g.I.Source.left c.call.new.input) (g.I.Source.past c.call.new.input)) (g.C.Sink.taken c.call.new.console) (g.R.Sink.taken c.args.report.now)) (sym eff)
     (subst (λ (j : Option (List ℕ)). P one j (g.C.Sink.taken c.call.new.console) (g.R.Sink.taken c.args.report.now)) (sym t.untouched.input)
-    (subst (λ (d : Option (List ℕ)). P one (g.I.Source.left c.args.input.now) d (g.R.Sink.taken c.args.report.now)) (sym t.untouched.to_console)
-    (subst (λ (r : Option (List ℕ)). P one (g.I.Source.left c.args.input.now) (g.C.Sink.taken c.args.console.now) r) t.untouched.to_report base)))
+    (subst (λ (d : Option (List ℕ)). P one (left_as text (g.I.Source.left c.args.input.now) (g.I.Source.past c.args.input.now)) d (g.R.Sink.taken c.args.report.now)) (sym t.untouched.to_console)
+    (subst (λ (r : Option (List ℕ)). P one (left_as text (g.I.Source.left c.args.input.now) (g.I.Source.past c.args.input.now)) (g.C.Sink.taken c.args.console.now) r) t.untouched.to_report base)))
 
-pub returns-in-Ok-Exited-clause-leaves : goal.returns-in-Ok-Exited-clause-leaves
-returns-in-Ok-Exited-clause-leaves g c = λ f input known bound left same.
+pub returns-in-Ok-Trap-clause-leaves : goal.returns-in-Ok-Trap-clause-leaves
+returns-in-Ok-Trap-clause-leaves g c = λ f input known bound left same. returns-in-Ok-Trap-clause-leaves_as g c None tt f input known bound left same
+
+pub returns-in-Ok-Exited-clause-leaves_as : goal.returns-in-Ok-Exited-clause-leaves_as
+returns-in-Ok-Exited-clause-leaves_as g c = λ text m f input known bound left same.
     let v : View = g.B.Bus.view c.args.bus.now in
     let w : View = g.B.Bus.view c.step_one.new.bus in
     let new : View = g.B.Bus.view c.call.new.bus in
@@ -124,37 +140,43 @@ returns-in-Ok-Exited-clause-leaves g c = λ f input known bound left same.
     let step = c.in-Gate.ensures.step in
     let bound_then : IsBound w = subst (λ (s : Machine). IsBound s.view) (sym step.1) bound in
     let does = moved f c.args.pid input known c.in-Gate.service c.in-Gate.next c.call.new.cpu new _ _ _ _ _ _ (Ok c.in-Ok-Exited.field-0) (state c.step_one.new.cpu w) (state c.args.cpu.now v) step.1
-    (c.in-Ok-Exited.ensures.does f input known bound_then left (record { avail = same.avail })) in
+    (c.in-Ok-Exited.ensures.does text m f input known bound_then left (record { avail = same.avail })) in
     let made = by_answer f c.args.pid input known c.in-Gate.service c.in-Gate.next c.call.new.cpu new _ _ _ _ _ _ v c.args.cpu.now c.in-Ok-Exited.field-0 (called.Exited c.in-Ok-Exited.code) c.in-Ok-Exited.field-0-is does in
     let ends : State = Exited c.in-Ok-Exited.code in
     let tally : Tally = record { bytes = 0; lines = 2 } in
     let e = serviced b c.in-Gate.service c.in-Gate.next in
     subst (λ (y : Effect). IsDone y (record { state = ends; tally = tally; whole = true }) c.call.new.cpu (whole f new).bytes
-    (g.I.Source.left c.call.new.input) (g.C.Sink.taken c.args.console.now) (g.C.Sink.taken c.call.new.console)
+    (left_as text (g.I.Source.left c.call.new.input) (g.I.Source.past c.call.new.input)) (g.C.Sink.taken c.args.console.now) (g.C.Sink.taken c.call.new.console)
     (g.R.Sink.taken c.args.report.now) (g.R.Sink.taken c.call.new.report))
     (sym (effect_by b (Err (stop.Gate c.in-Gate.service c.in-Gate.next)) (gate_boundless f v w c.args.cpu.now c.step_one.new.cpu c.in-Gate.service c.in-Gate.next (c.in-Gate.ensures.boundless f bound))
     ∙ ended_stays b e (ap is_live made.state)))
     (done_by f e ends tally c.call.new.cpu new _ _ _ _ _ made)
 
-pub returns-in-Ok-Missed-clause-leaves : goal.returns-in-Ok-Missed-clause-leaves
-returns-in-Ok-Missed-clause-leaves g c = λ f input known bound left same.
+pub returns-in-Ok-Exited-clause-leaves : goal.returns-in-Ok-Exited-clause-leaves
+returns-in-Ok-Exited-clause-leaves g c = λ f input known bound left same. returns-in-Ok-Exited-clause-leaves_as g c None tt f input known bound left same
+
+pub returns-in-Ok-Missed-clause-leaves_as : goal.returns-in-Ok-Missed-clause-leaves_as
+returns-in-Ok-Missed-clause-leaves_as g c = λ text m f input known bound left same.
     let v : View = g.B.Bus.view c.args.bus.now in
     let w : View = g.B.Bus.view c.step_one.new.bus in
     let new : View = g.B.Bus.view c.call.new.bus in
     let step = c.in-Gate.ensures.step in
     let bound_then : IsBound w = subst (λ (s : Machine). IsBound s.view) (sym step.1) bound in
     let does = moved f c.args.pid input known c.in-Gate.service c.in-Gate.next c.call.new.cpu new _ _ _ _ _ _ (Ok c.in-Ok-Missed.field-0) (state c.step_one.new.cpu w) (state c.args.cpu.now v) step.1
-    (c.in-Ok-Missed.ensures.does f input known bound_then left (record { avail = same.avail })) in
+    (c.in-Ok-Missed.ensures.does text m f input known bound_then left (record { avail = same.avail })) in
     still_of f c.call.new.cpu c.args.cpu.now v new _ _ _ _ _ _
     (by_answer f c.args.pid input known c.in-Gate.service c.in-Gate.next c.call.new.cpu new _ _ _ _ _ _ v c.args.cpu.now c.in-Ok-Missed.field-0 (called.Missed c.in-Ok-Missed.sel) c.in-Ok-Missed.field-0-is does)
+
+pub returns-in-Ok-Missed-clause-leaves : goal.returns-in-Ok-Missed-clause-leaves
+returns-in-Ok-Missed-clause-leaves g c = λ f input known bound left same. returns-in-Ok-Missed-clause-leaves_as g c None tt f input known bound left same
 
 pub returns-in-Ok-Missed-clause-away : goal.returns-in-Ok-Missed-clause-away
 returns-in-Ok-Missed-clause-away g c = λ bound.
     subst (λ (s : Machine). IsAway s.view c.in-Ok-Missed.sel) c.in-Gate.ensures.step.1
     (missed_by (g.B.Bus.view c.step_one.new.bus) c.in-Ok-Missed.field-0 c.in-Ok-Missed.sel c.in-Ok-Missed.field-0-is c.in-Ok-Missed.ensures.away)
 
-pub returns-in-Err-clause-leaves : goal.returns-in-Err-clause-leaves
-returns-in-Err-clause-leaves g c = λ f input known bound left same.
+pub returns-in-Err-clause-leaves_as : goal.returns-in-Err-clause-leaves_as
+returns-in-Err-clause-leaves_as g c = λ text m f input known bound left same.
     let v : View = g.B.Bus.view c.args.bus.now in
     let w : View = g.B.Bus.view c.step_one.new.bus in
     let new : View = g.B.Bus.view c.call.new.bus in
@@ -163,7 +185,10 @@ returns-in-Err-clause-leaves g c = λ f input known bound left same.
     fault_by f c.args.pid input known c.in-Gate.service c.in-Gate.next c.call.new.cpu new _ _ _ _ _ _ v c.args.cpu.now c.in-Err.fault
     (gate_boundless f v w c.args.cpu.now c.step_one.new.cpu c.in-Gate.service c.in-Gate.next (c.in-Gate.ensures.boundless f bound)) c.in-Err.ensures.input_service
     (moved f c.args.pid input known c.in-Gate.service c.in-Gate.next c.call.new.cpu new _ _ _ _ _ _ (Err c.in-Err.fault) (state c.step_one.new.cpu w) (state c.args.cpu.now v) step.1
-    (c.in-Err.ensures.does f input known bound_then left (record { avail = same.avail })))
+    (c.in-Err.ensures.does text m f input known bound_then left (record { avail = same.avail })))
+
+pub returns-in-Err-clause-leaves : goal.returns-in-Err-clause-leaves
+returns-in-Err-clause-leaves g c = λ f input known bound left same. returns-in-Err-clause-leaves_as g c None tt f input known bound left same
 
 pub returns-in-Ok-Back-clause-frame : goal.returns-in-Ok-Back-clause-frame
 returns-in-Ok-Back-clause-frame g c =
@@ -384,23 +409,26 @@ returns-in-Ok-Trap-clause-puts g c = behind (λ (n : Counts). AttemptHands n c.t
 pub returns-in-Err-clause-puts : goal.returns-in-Err-clause-puts
 returns-in-Err-clause-puts g c = fault_hands _ c.in-Err.fault c.in-Err.ensures.puts
 
-pub returns-in-Trap-clause-part : goal.returns-in-Trap-clause-part
-returns-in-Trap-clause-part g c = λ f input known bound left same.
+pub returns-in-Trap-clause-part_as : goal.returns-in-Trap-clause-part_as
+returns-in-Trap-clause-part_as g c = λ text m f input known bound left same.
     let v : View = g.B.Bus.view c.args.bus.now in
     let b = before_call (boundless f v) c.args.pid c.args.cpu.now input known in
     trap_part b _ c.in-Trap.vector _ c.trap.result
     (effect_by b (Err (stop.Trap c.in-Trap.vector c.in-Trap.field-1)) (trap_boundless f v (g.B.Bus.view c.step_one.new.bus) c.args.cpu.now c.step_one.new.cpu c.in-Trap.vector c.in-Trap.field-1 (c.in-Trap.ensures.boundless f bound)))
     (c.trap.ensures.part _)
 
-pub returns-in-Ok-Trap-clause-part : goal.returns-in-Ok-Trap-clause-part
-returns-in-Ok-Trap-clause-part g c = λ f input known bound left same.
+pub returns-in-Trap-clause-part : goal.returns-in-Trap-clause-part
+returns-in-Trap-clause-part g c = λ f input known bound left same. returns-in-Trap-clause-part_as g c None tt f input known bound left same
+
+pub returns-in-Ok-Trap-clause-part_as : goal.returns-in-Ok-Trap-clause-part_as
+returns-in-Ok-Trap-clause-part_as g c = λ text m f input known bound left same.
     let v : View = g.B.Bus.view c.args.bus.now in
     let w : View = g.B.Bus.view c.step_one.new.bus in
     let b = before_call (boundless f v) c.args.pid c.args.cpu.now input known in
     let step = c.in-Gate.ensures.step in
     let bound_then : IsBound w = subst (λ (s : Machine). IsBound s.view) (sym step.1) bound in
     let does = moved f c.args.pid input known c.in-Gate.service c.in-Gate.next c.call.new.cpu (g.B.Bus.view c.call.new.bus) _ _ _ _ _ _ (Ok c.in-Ok-Trap.field-0) (state c.step_one.new.cpu w) (state c.args.cpu.now v) step.1
-    (c.in-Ok-Trap.ensures.does f input known bound_then left (record { avail = same.avail })) in
+    (c.in-Ok-Trap.ensures.does text m f input known bound_then left (record { avail = same.avail })) in
     let vector = c.in-Ok-Trap.vector in
     let t = by_answer f c.args.pid input known c.in-Gate.service c.in-Gate.next c.call.new.cpu (g.B.Bus.view c.call.new.bus) _ _ _ _ _ _ v c.args.cpu.now c.in-Ok-Trap.field-0 (called.Trap vector _) c.in-Ok-Trap.field-0-is does in
     behind (λ (n : Counts). PartHands (effect b) n c.trap-in-Ok-Trap.result) _ _ _ _ _ (trap_hands _ c.in-Ok-Trap.field-0 c.in-Ok-Trap.ensures.puts _ _ c.in-Ok-Trap.field-0-is)
@@ -409,8 +437,11 @@ returns-in-Ok-Trap-clause-part g c = λ f input known bound left same.
     ∙ ap (λ (e : Effect). single_stepped b e) t.effect)
     (c.trap-in-Ok-Trap.ensures.part _))
 
-pub returns-in-Err-clause-part : goal.returns-in-Err-clause-part
-returns-in-Err-clause-part g c = λ f input known bound left same.
+pub returns-in-Ok-Trap-clause-part : goal.returns-in-Ok-Trap-clause-part
+returns-in-Ok-Trap-clause-part g c = λ f input known bound left same. returns-in-Ok-Trap-clause-part_as g c None tt f input known bound left same
+
+pub returns-in-Err-clause-part_as : goal.returns-in-Err-clause-part_as
+returns-in-Err-clause-part_as g c = λ text m f input known bound left same.
     let v : View = g.B.Bus.view c.args.bus.now in
     let w : View = g.B.Bus.view c.step_one.new.bus in
     let b = before_call (boundless f v) c.args.pid c.args.cpu.now input known in
@@ -423,11 +454,20 @@ returns-in-Err-clause-part g c = λ f input known bound left same.
     fault_part b (serviced b c.in-Gate.service c.in-Gate.next) _ n c.in-Err.fault
     (effect_by b (Err (stop.Gate c.in-Gate.service c.in-Gate.next)) (gate_boundless f v w c.args.cpu.now c.step_one.new.cpu c.in-Gate.service c.in-Gate.next (c.in-Gate.ensures.boundless f bound))) part
 
+pub returns-in-Err-clause-part : goal.returns-in-Err-clause-part
+returns-in-Err-clause-part g c = λ f input known bound left same. returns-in-Err-clause-part_as g c None tt f input known bound left same
+
+pub returns-in-Done-clause-part_as : goal.returns-in-Done-clause-part_as
+returns-in-Done-clause-part_as g c = λ text m f input known bound left same. c.outlived.ensures.part _ _ _
+
 pub returns-in-Done-clause-part : goal.returns-in-Done-clause-part
-returns-in-Done-clause-part g c = λ f input known bound left same. c.outlived.ensures.part _ _ _
+returns-in-Done-clause-part g c = λ f input known bound left same. returns-in-Done-clause-part_as g c None tt f input known bound left same
 
 pub returns-in-Trap-clause-puts : goal.returns-in-Trap-clause-puts
 returns-in-Trap-clause-puts g c = c.trap.ensures.puts _
 
+pub returns-in-Ok-Back-clause-part_as : goal.returns-in-Ok-Back-clause-part_as
+returns-in-Ok-Back-clause-part_as g c = λ text m f input known bound left same. c.outlived-in-Ok-Back.ensures.part _ _ _
+
 pub returns-in-Ok-Back-clause-part : goal.returns-in-Ok-Back-clause-part
-returns-in-Ok-Back-clause-part g c = λ f input known bound left same. c.outlived-in-Ok-Back.ensures.part _ _ _
+returns-in-Ok-Back-clause-part g c = λ f input known bound left same. returns-in-Ok-Back-clause-part_as g c None tt f input known bound left same

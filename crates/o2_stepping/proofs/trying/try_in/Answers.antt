@@ -17,8 +17,8 @@ returns-clause-over g c =
     let e = c.run_one.ensures in
     let agree = agrees a c.args.cpu.now c.requires in
     record {
-      leaves = λ away bytes known left same.
-          leaves_there away a b c.args.cpu.now c.run_one.new.cpu c.args.pid bytes known agree _ _ _ _ _ _ c.run_one.result (e.leaves (filling away) bytes known (bound a) left same);
+      leaves = λ text may away bytes known left same.
+          leaves_there away a b c.args.cpu.now c.run_one.new.cpu c.args.pid bytes known agree _ _ _ _ _ _ c.run_one.result (e.leaves_as text may (filling away) bytes known (bound a) left same);
       missed = λ away bytes known. step_missed away a b c.args.cpu.now c.run_one.new.cpu c.args.pid bytes known agree c.run_one.result (e.missed (filling away) bytes known (bound a));
       present = λ away bytes known never. step_present away a b c.args.cpu.now c.run_one.new.cpu c.args.pid bytes known agree (e.present (filling away) bytes known (bound a) never);
       same = on_missed _ _ c.run_one.result (λ s m n. bytes_there a b m.1 n) e.still;
