@@ -4,3 +4,4 @@ pub mod Fitting
 pub mod Placing
 pub mod Clocks
 pub mod Unheld
+pub mod Movings

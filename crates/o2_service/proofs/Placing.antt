@@ -17,7 +17,7 @@ use Rattle.o2_regions.specs.Maps.{Maps, held_at, is_of, table_of}
 use Rattle.o2_regions.specs.Described.{Describes as Tells, entry_at, placed}
 use Rattle.o2_segbus.specs.Settled.{Describes, IsSettled, IsSettledAt, descriptor_at, start_of, unmarked}
 use Rattle.o2_store.specs.Shelf.{Shelf, IsShelf, SameTables, aged, base_of, entry, entry_of, numbered, place_of}
-use Rattle.o2_service.specs.Told.{AreTold, AreToldBelow, IsHeldWell, IsToldAt, IsToldBelow, OnlyTables, nowhere}
+use Rattle.o2_service.specs.Told.{AreToldBelow, AreToldWhere, IsHeldWell, IsToldWhere, OnlyTables}
 use Rattle.o2_service.proofs.Amounts.{live_within, slot_some}
 use Rattle.o2_service.proofs.Among.{live_same}
 
@@ -79,51 +79,52 @@ is_of_key s id h i j same =
 is_of_other : (id : SegId) (h : Held) → h.id.key ≢ id.key → is_of id (Some h) ≡ false
 is_of_other id h n = (let a : eqb h.id.key id.key ≡ false = grind (arith, nat_tests) in rw a refl)
 
--- one segment is told where it is by another account
-pub told_more : (p q : ℕ → Option (ℕ × ℕ)) (s : Shelf) (m n : Maps) (id : SegId) (base : Option ℕ) (limit : ℕ) → AreTold p s m → IsHeldWell s m → Tells m n id base limit
-    → IsSome (entry_of s id) → ((k : ℕ) → k ≢ id.key → q k ≡ p k) → base ≡ option_map (λ (r : ℕ × ℕ). r.0) (q id.key) → limit + 1 ≡ (entry s id.key).size → AreTold q s n
-told_more p q s m n id base limit a w t live same b l = record {
-  each = λ pid i. subst (λ (o : Option Held). IsToldAt q s o (descriptor_at n pid i)) (sym (told_held m n id base limit t pid i)) (go pid i (held_at m pid i) refl);
+-- where a live segment in memory begins
+pub base_there : (o : Option Entry) (p : Option (ℕ × ℕ)) → IsSome o → base_of o p ≡ option_map (λ (r : ℕ × ℕ). r.0) p
+base_there None p i = absurd (let f : false ≡ true = i in cc)
+base_there (Some e) None i = refl
+base_there (Some e) (Some r) i = refl
+
+-- where one segment is told where it is, descriptors agree with the store for its number too
+pub told_one : (P Q : ℕ → Type 0) (s : Shelf) (m n : Maps) (id : SegId) (base : Option ℕ) (limit : ℕ) → AreToldWhere P s m → IsHeldWell s m → Tells m n id base limit → IsSome (entry_of s id)
+    → ((k : ℕ) → k ≢ id.key → Q k → P k) → base ≡ base_of (entry_of s id) (place_of s id.key) → limit + 1 ≡ (entry s id.key).size → AreToldWhere Q s n
+told_one P Q s m n id base limit a w t live more b l = record {
+  each = λ pid i. subst (λ (o : Option Held). IsToldWhere Q s o (descriptor_at n pid i)) (sym (told_held m n id base limit t pid i)) (go pid i (held_at m pid i) refl);
 }
   where
-    go : (pid i : ℕ) (o : Option Held) → held_at m pid i ≡ o → IsToldAt q s o (descriptor_at n pid i)
-    go pid i None e = told_other m n id base limit t pid i (ap (is_of id) e) ∙ subst (λ (o : Option Held). IsToldAt p s o (descriptor_at m pid i)) e (a.each pid i)
-    go pid i (Some h) e = elim (cases_eq h.id.key id.key) [
+    there : base ≡ option_map (λ (r : ℕ × ℕ). r.0) (place_of s id.key)
+    there = b ∙ base_there (entry_of s id) (place_of s id.key) live
+
+    go : (pid i : ℕ) (o : Option Held) → held_at m pid i ≡ o → IsToldWhere Q s o (descriptor_at n pid i)
+    go pid i None e = told_other m n id base limit t pid i (ap (is_of id) e) ∙ subst (λ (o : Option Held). IsToldWhere P s o (descriptor_at m pid i)) e (a.each pid i)
+    go pid i (Some h) e = λ q. elim (cases_eq h.id.key id.key) [
       | inl here ↦
           (let x = told_here m n id base limit t pid i (w.inside pid i h e) (ap (is_of id) e ∙ is_of_key s id h live (w.live pid i h e) here) in
-          let y = told_descriptor base limit (entry s id.key).size (q id.key) (descriptor_at m pid i) b l in
-          subst (λ (d : Descriptor). Describes (q h.id.key) (entry s h.id.key).size (rights_of d.access) d) (sym x)
-          (subst (λ (k : ℕ). Describes (q k) (entry s k).size (rights_of (placed base limit (descriptor_at m pid i)).access) (placed base limit (descriptor_at m pid i))) (sym here) y))
+          let y = told_descriptor base limit (entry s id.key).size (place_of s id.key) (descriptor_at m pid i) there l in
+          subst (λ (d : Descriptor). Describes (place_of s h.id.key) (entry s h.id.key).size (rights_of d.access) d) (sym x)
+          (subst (λ (k : ℕ). Describes (place_of s k) (entry s k).size (rights_of (placed base limit (descriptor_at m pid i)).access) (placed base limit (descriptor_at m pid i))) (sym here) y))
       | inr other ↦
           (let x = told_other m n id base limit t pid i (ap (is_of id) e ∙ is_of_other id h other) in
-          let y : Describes (p h.id.key) (entry s h.id.key).size (rights_of (descriptor_at m pid i).access) (descriptor_at m pid i) = subst (λ (o : Option Held). IsToldAt p s o (descriptor_at m pid i)) e (a.each pid i) in
-          subst (λ (d : Descriptor). Describes (q h.id.key) (entry s h.id.key).size (rights_of d.access) d) (sym x)
-          (subst (λ (z : Option (ℕ × ℕ)). Describes z (entry s h.id.key).size (rights_of (descriptor_at m pid i).access) (descriptor_at m pid i)) (sym (same h.id.key other)) y))
+          let y : IsToldWhere P s (Some h) (descriptor_at m pid i) = subst (λ (o : Option Held). IsToldWhere P s o (descriptor_at m pid i)) e (a.each pid i) in
+          subst (λ (d : Descriptor). Describes (place_of s h.id.key) (entry s h.id.key).size (rights_of d.access) d) (sym x) (y (more h.id.key other q)))
     ]
 
--- an account that says the same of each number
-pub told_same : (p q : ℕ → Option (ℕ × ℕ)) (s t : Shelf) (m : Maps) → AreTold p s m → ((k : ℕ) → q k ≡ p k) → ((k : ℕ) → (entry t k).size ≡ (entry s k).size) → AreTold q t m
-told_same p q s t m a same sizes = record { each = λ pid i. go (held_at m pid i) (descriptor_at m pid i) (a.each pid i) }
+-- those that didn't move are told already
+pub told_still : (P : ℕ → Type 0) (s t : Shelf) (m : Maps) → IsSettled s m → ((k : ℕ) → P k → place_of t k ≡ place_of s k) → ((k : ℕ) → (entry t k).size ≡ (entry s k).size) → AreToldWhere P t m
+told_still P s t m a same sizes = record { each = λ pid i. go (held_at m pid i) (descriptor_at m pid i) (a pid i) }
   where
-    go : (o : Option Held) (d : Descriptor) → IsToldAt p s o d → IsToldAt q t o d
+    go : (o : Option Held) (d : Descriptor) → IsSettledAt s o d → IsToldWhere P t o d
     go None d x = x
-    go (Some h) d x =
-        subst (λ (n : ℕ). Describes (q h.id.key) n (rights_of d.access) d) (sym (sizes h.id.key)) (subst (λ (z : Option (ℕ × ℕ)). Describes z (entry s h.id.key).size (rights_of d.access) d) (sym (same h.id.key)) x)
+    go (Some h) d x = λ p.
+        subst (λ (n : ℕ). Describes (place_of t h.id.key) n (rights_of d.access) d) (sym (sizes h.id.key)) (subst (λ (z : Option (ℕ × ℕ)). Describes z (entry s h.id.key).size (rights_of d.access) d) (sym (same h.id.key p)) x)
 
--- descriptors that agree with the store
-settled_at : (s : Shelf) (o : Option Held) (d : Descriptor) → IsToldAt (place_of s) s o d → IsSettledAt s o d
-settled_at s None d x = x
-settled_at s (Some h) d x = x
-
-at_settled : (s : Shelf) (o : Option Held) (d : Descriptor) → IsSettledAt s o d → IsToldAt (place_of s) s o d
-at_settled s None d x = x
-at_settled s (Some h) d x = x
-
-pub told_settled : (s : Shelf) (m : Maps) → AreTold (place_of s) s m → IsSettled s m
-told_settled s m a pid i = settled_at s (held_at m pid i) (descriptor_at m pid i) (a.each pid i)
-
-pub settled_told : (s : Shelf) (m : Maps) → IsSettled s m → AreTold (place_of s) s m
-settled_told s m a = record { each = λ pid i. at_settled s (held_at m pid i) (descriptor_at m pid i) (a pid i) }
+-- where all are told, the descriptors agree with the store
+pub told_all : (P : ℕ → Type 0) (s : Shelf) (m : Maps) → AreToldWhere P s m → ((k : ℕ) → P k) → IsSettled s m
+told_all P s m a all pid i = go (held_at m pid i) (descriptor_at m pid i) (a.each pid i)
+  where
+    go : (o : Option Held) (d : Descriptor) → IsToldWhere P s o d → IsSettledAt s o d
+    go None d x = x
+    go (Some h) d x = x (all h.id.key)
 
 -- what only changes descriptors, and what is held well then
 pub only_refl : (m : Maps) → OnlyTables m m
@@ -179,21 +180,9 @@ drop_same rs k r j l e n =
     sym (ap (λ (x : List Range). find_in x j) (drop_more rs k no_range l ∙ ap (λ (x : Range). x ∷ drop (k + 1) rs) (sym e))
     ∙ cond-false (eqb j r.id) (Some (r.at, r.len)) (find_in (drop (k + 1) rs) j) t)
 
-pub drop_here : (rs : List Range) (k : ℕ) (r : Range) → k < length rs → r ≡ range_at rs k → find_in (drop k rs) r.id ≡ Some (r.at, r.len)
-drop_here rs k r l e =
-    let t : eqb r.id r.id ≡ true = grind (arith, nat_tests) in
-    ap (λ (x : List Range). find_in x r.id) (drop_more rs k no_range l ∙ ap (λ (x : Range). x ∷ drop (k + 1) rs) (sym e))
-    ∙ cond-true (eqb r.id r.id) (Some (r.at, r.len)) (find_in (drop (k + 1) rs) r.id) t
-
 -- past the last range there is none
 pub drop_none : (rs : List Range) (k j : ℕ) → length rs ≤ k → find_in (drop k rs) j ≡ None
 drop_none rs k j l = ap (λ (x : List Range). find_in x j) (drop_all k rs l)
-
--- where a live segment in memory begins
-pub base_there : (o : Option Entry) (p : Option (ℕ × ℕ)) → IsSome o → base_of o p ≡ option_map (λ (r : ℕ × ℕ). r.0) p
-base_there None p i = absurd (let f : false ≡ true = i in cc)
-base_there (Some e) None i = refl
-base_there (Some e) (Some r) i = refl
 
 -- a live segment isn't empty, and has at most 65,536 bytes
 pub live_size : (s : Shelf) (id : SegId) → IsShelf s → IsSome (entry_of s id) → (0 < (entry s id.key).size) × ((entry s id.key).size ≤ 65536)
@@ -206,7 +195,7 @@ live_size s id h i =
 pub below_none : (m : Maps) (s : Shelf) → ((pid i : ℕ) → held_at m pid i ≡ None → descriptor_at m pid i ≡ empty) → AreToldBelow 0 s m
 below_none m s e = record { each = λ pid i. go (held_at m pid i) (descriptor_at m pid i) (e pid i) }
   where
-    go : (o : Option Held) (d : Descriptor) → (o ≡ None → d ≡ empty) → IsToldBelow 0 s o d
+    go : (o : Option Held) (d : Descriptor) → (o ≡ None → d ≡ empty) → IsToldWhere (λ k. k < 0) s o d
     go None d f = f refl
     go (Some h) d f = λ l. absurd (omega (arith, l))
 
@@ -214,86 +203,28 @@ below_none m s e = record { each = λ pid i. go (held_at m pid i) (descriptor_at
 pub below_skip : (n : ℕ) (s : Shelf) (m : Maps) → AreToldBelow n s m → IsHeldWell s m → slot_at s.entries n ≡ None → AreToldBelow (n + 1) s m
 below_skip n s m a w none = record { each = λ pid i. go pid i (held_at m pid i) refl }
   where
-    go : (pid i : ℕ) (o : Option Held) → held_at m pid i ≡ o → IsToldBelow (n + 1) s o (descriptor_at m pid i)
-    go pid i None e = subst (λ (o : Option Held). IsToldBelow n s o (descriptor_at m pid i)) e (a.each pid i)
+    go : (pid i : ℕ) (o : Option Held) → held_at m pid i ≡ o → IsToldWhere (λ k. k < n + 1) s o (descriptor_at m pid i)
+    go pid i None e = subst (λ (o : Option Held). IsToldWhere (λ k. k < n) s o (descriptor_at m pid i)) e (a.each pid i)
     go pid i (Some h) e = λ l. elim (cases_lt h.id.key n) [
       | inl low ↦
-          (let x : IsToldBelow n s (Some h) (descriptor_at m pid i) = subst (λ (o : Option Held). IsToldBelow n s o (descriptor_at m pid i)) e (a.each pid i) in x low)
+          (let x : IsToldWhere (λ k. k < n) s (Some h) (descriptor_at m pid i) = subst (λ (o : Option Held). IsToldWhere (λ k. k < n) s o (descriptor_at m pid i)) e (a.each pid i) in x low)
       | inr high ↦ absurd (let k : h.id.key ≡ n = omega (arith, l, high) in
           let i2 : IsSome (slot_at s.entries h.id.key) = slot_some h.id.age (slot_at s.entries h.id.key) (w.live pid i h e) in
           let i3 : IsSome (slot_at s.entries n) = subst (λ (x : ℕ). IsSome (slot_at s.entries x)) k i2 in
           let f : true ≡ false = sym i3 ∙ ap is_some none in cc)
     ]
 
-pub below_more : (s : Shelf) (m n : Maps) (id : SegId) (base : Option ℕ) (limit : ℕ) → AreToldBelow id.key s m → IsHeldWell s m → Tells m n id base limit
-    → IsSome (entry_of s id) → base ≡ option_map (λ (r : ℕ × ℕ). r.0) (place_of s id.key) → limit + 1 ≡ (entry s id.key).size → AreToldBelow (id.key + 1) s n
-below_more s m n id base limit a w t live b l = record {
-  each = λ pid i. subst (λ (o : Option Held). IsToldBelow (id.key + 1) s o (descriptor_at n pid i)) (sym (told_held m n id base limit t pid i)) (go pid i (held_at m pid i) refl);
-}
-  where
-    go : (pid i : ℕ) (o : Option Held) → held_at m pid i ≡ o → IsToldBelow (id.key + 1) s o (descriptor_at n pid i)
-    go pid i None e = told_other m n id base limit t pid i (ap (is_of id) e) ∙ subst (λ (o : Option Held). IsToldBelow id.key s o (descriptor_at m pid i)) e (a.each pid i)
-    go pid i (Some h) e = λ low. elim (cases_eq h.id.key id.key) [
-      | inl here ↦
-          (let x = told_here m n id base limit t pid i (w.inside pid i h e) (ap (is_of id) e ∙ is_of_key s id h live (w.live pid i h e) here) in
-          let y = told_descriptor base limit (entry s id.key).size (place_of s id.key) (descriptor_at m pid i) b l in
-          subst (λ (d : Descriptor). Describes (place_of s h.id.key) (entry s h.id.key).size (rights_of d.access) d) (sym x)
-          (subst (λ (k : ℕ). Describes (place_of s k) (entry s k).size (rights_of (placed base limit (descriptor_at m pid i)).access) (placed base limit (descriptor_at m pid i))) (sym here) y))
-      | inr other ↦
-          (let x = told_other m n id base limit t pid i (ap (is_of id) e ∙ is_of_other id h other) in
-          let y : IsToldBelow id.key s (Some h) (descriptor_at m pid i) = subst (λ (o : Option Held). IsToldBelow id.key s o (descriptor_at m pid i)) e (a.each pid i) in
-          subst (λ (d : Descriptor). Describes (place_of s h.id.key) (entry s h.id.key).size (rights_of d.access) d) (sym x) (y (omega (arith, low, other))))
-    ]
-
 -- all numbers
 pub below_all : (s : Shelf) (m : Maps) → AreToldBelow (length s.entries) s m → IsHeldWell s m → IsSettled s m
 below_all s m a w pid i = go (held_at m pid i) refl (a.each pid i)
   where
-    go : (o : Option Held) → held_at m pid i ≡ o → IsToldBelow (length s.entries) s o (descriptor_at m pid i) → IsSettledAt s o (descriptor_at m pid i)
+    go : (o : Option Held) → held_at m pid i ≡ o → IsToldWhere (λ k. k < length s.entries) s o (descriptor_at m pid i) → IsSettledAt s o (descriptor_at m pid i)
     go None e x = x
     go (Some h) e x = x (live_within s h.id (w.live pid i h e))
 
--- a segment in memory is told that it isn't
-pub withdraw_more : (s : Shelf) (m n : Maps) (k : ℕ) (id : SegId) (limit : ℕ) → AreTold (λ j. find_in (drop k s.places.ranges) j) s m → IsHeldWell s m → Tells m n id None limit → IsSome (entry_of s id)
-    → k < length s.places.ranges → id.key ≡ (range_at s.places.ranges k).id → find_in (drop (k + 1) s.places.ranges) id.key ≡ None → limit + 1 ≡ (entry s id.key).size
-    → AreTold (λ j. find_in (drop (k + 1) s.places.ranges) j) s n
-withdraw_more s m n k id limit a w t live l key once size =
-    let rs = s.places.ranges in
-    let r = range_at rs k in
-    told_more (λ j. find_in (drop k rs) j) (λ j. find_in (drop (k + 1) rs) j) s m n id None limit a w t live (λ j ne. drop_same rs k r j l
-    refl (λ e. ne (e ∙ sym key))) (sym (ap (option_map (λ (x : ℕ × ℕ). x.0)) once)) size
-
--- a segment in memory is told where it is
-pub settle_more : (s : Shelf) (m n : Maps) (k : ℕ) (id : SegId) (base : Option ℕ) (limit : ℕ) → AreTold (λ j. find_in (drop (k + 1) s.places.ranges) j) s m → IsHeldWell s m → Tells m n id base limit → IsSome (entry_of s id)
-    → k < length s.places.ranges → id.key ≡ (range_at s.places.ranges k).id → place_of s id.key ≡ Some (
-      (range_at s.places.ranges k).at,
-      (range_at s.places.ranges k).len,
-    ) → base ≡ base_of (entry_of s id) (place_of s id.key)
-    → limit + 1 ≡ (entry s id.key).size → AreTold (λ j. find_in (drop k s.places.ranges) j) s n
-settle_more s m n k id base limit a w t live l key place there size =
-    let rs = s.places.ranges in
-    let r = range_at rs k in
-    let b : base ≡ option_map (λ (x : ℕ × ℕ). x.0) (place_of s id.key) = there ∙ base_there (entry_of s id) (place_of s id.key) live in
-    let q : find_in (drop k rs) id.key ≡ place_of s id.key = ap (find_in (drop k rs)) key ∙ drop_here rs k r l refl ∙ sym place in
-    told_more (λ j. find_in (drop (k + 1) rs) j) (λ j. find_in (drop k rs) j) s m n id base limit a w t live (λ j ne. sym (drop_same rs k r
-    j l refl (λ e. ne (e ∙ sym key)))) (b ∙ ap (option_map (λ (x : ℕ × ℕ). x.0)) (sym q)) size
-
--- at the first range and behind the last
-pub told_first : (s : Shelf) (m : Maps) (k : ℕ) → k ≡ 0 → IsSettled s m → AreTold (λ j. find_in (drop k s.places.ranges) j) s m
-told_first s m k e a = told_same (place_of s) (λ j. find_in (drop k s.places.ranges) j) s s m (settled_told s m a) (λ j. ap (λ (x : ℕ). find_in (drop x s.places.ranges) j) e) (λ j. refl)
-
-pub first_told : (s : Shelf) (m : Maps) (k : ℕ) → k ≡ 0 → AreTold (λ j. find_in (drop k s.places.ranges) j) s m → IsSettled s m
-first_told s m k e a = told_settled s m (told_same (λ j. find_in (drop k s.places.ranges) j) (place_of s) s s m a (λ j. sym (ap (λ (x : ℕ). find_in (drop x s.places.ranges) j) e)) (λ j. refl))
-
-pub told_last : (s : Shelf) (m : Maps) (k : ℕ) → length s.places.ranges ≤ k → AreTold nowhere s m → AreTold (λ j. find_in (drop k s.places.ranges) j) s m
-told_last s m k l a = told_same nowhere (λ j. find_in (drop k s.places.ranges) j) s s m a (λ j. drop_none s.places.ranges k j l) (λ j. refl)
-
-pub last_told : (s : Shelf) (m : Maps) (k : ℕ) → length s.places.ranges ≤ k → AreTold (λ j. find_in (drop k s.places.ranges) j) s m → AreTold nowhere s m
-last_told s m k l a = told_same (λ j. find_in (drop k s.places.ranges) j) nowhere s s m a (λ j. sym (drop_none s.places.ranges k j l)) (λ j. refl)
-
--- sizes stay, and so what was told when nothing was in memory
-pub nowhere_same : (s t : Shelf) (m : Maps) → SameTables s t → AreTold nowhere s m → AreTold nowhere t m
-nowhere_same s t m q a = told_same nowhere nowhere s t m a (λ j. refl) (λ k. (q.same k).size)
+-- one more of those that slid is told
+pub slid_more : (s : Shelf) (k : ℕ) (id : SegId) → k < length s.places.ranges → id.key ≡ (range_at s.places.ranges k).id → (j : ℕ) → j ≢ id.key → find_in (drop (k + 1) s.places.ranges) j ≡ None → find_in (drop k s.places.ranges) j ≡ None
+slid_more s k id l key j n none = sym (drop_same s.places.ranges k (range_at s.places.ranges k) j l refl (λ e. n (e ∙ sym key))) ∙ none
 
 -- the segment of a number, if it has one
 pub numbered_is : (o : Option Entry) (x id : SegId) → option_map (λ (e : Entry). x) o ≡ Some id → (id ≡ x) × IsSome o
@@ -314,6 +245,4 @@ live_of s key i = go (slot_at s.entries key) refl i
 -- a number's segment is told where it is
 pub below_at : (s : Shelf) (m n : Maps) (key : ℕ) (id : SegId) (base : Option ℕ) (limit : ℕ) → AreToldBelow key s m → IsHeldWell s m → Tells m n id base limit → id.key ≡ key
     → IsSome (entry_of s id) → base ≡ base_of (entry_of s id) (place_of s id.key) → limit + 1 ≡ (entry s id.key).size → AreToldBelow (key + 1) s n
-below_at s m n key id base limit a w t same live b l =
-    subst (λ (x : ℕ). AreToldBelow (x + 1) s n) same
-    (below_more s m n id base limit (subst (λ (x : ℕ). AreToldBelow x s m) (sym same) a) w t live (b ∙ base_there (entry_of s id) (place_of s id.key) live) l)
+below_at s m n key id base limit a w t same live b l = told_one (λ k. k < key) (λ k. k < key + 1) s m n id base limit a w t live (λ k ne q. omega (arith, ne, q, same)) b l

@@ -2,11 +2,13 @@
 #![tactic(auto)]
 
 mod amount;
+mod bringing;
 mod learning;
 mod need;
 mod serving;
 mod settling;
 
+pub use bringing::bring;
 pub use learning::learn;
 pub use need::Need;
 pub use o2_segbus::SegBus;

@@ -8,12 +8,12 @@ ghost use Rattle.o2_store.specs.Pictures.{picture, HasPicture};
 ghost use Rattle.o2_store.specs.Shelf.{AreClean, HasAll, KeepsAll, entry, entry_of, place_of};
 ghost use Rattle.o2_service.specs.Needs.{AreLive, ArePresent, OnlyNeededComes, Stays, all_needed, needs};
 ghost use Rattle.o2_service.specs.Learned.{AreUnused};
-ghost use Rattle.o2_service.specs.Told.{IsHeldWell, OnlyTables};
+ghost use Rattle.o2_service.specs.Told.{Follows, IsHeldWell, OnlyTables};
 
 use crate::amount::{amount, are_here};
+use crate::bringing::bring;
 use crate::learning::learn;
 use crate::need::Need;
-use crate::settling::{settle_present, withdraw};
 use o2_image::Images;
 use o2_outer::SwapDevice;
 use o2_place::SegId;
@@ -38,8 +38,8 @@ pub enum Served {
 /// answer, each segment keeps its bytes, its size and its attributes, and all descriptors agree with the store.
 ///
 /// Where nothing is missing, nothing changes, and the work is that of looking each needed segment up. Otherwise the clock first
-/// learns which segments were used, by the accessed bits, which are clear then; and the work is that of those bits and of going
-/// over those who hold a segment that was or is in memory, beside the copies.
+/// learns which segments were used, by the accessed bits, which are clear then; and the work is that of those bits, and of each
+/// segment that comes, goes or slides: its copy, and going over those who hold it.
 pub fn serve<S: SwapDevice>(
     need: &Need,
     store: &mut Store,
@@ -90,10 +90,7 @@ pub fn serve<S: SwapDevice>(
         return Served::NoRoom;
     }
     learn(store, regions);
-    withdraw(store, regions);
-    let served = bring_all(need, store, images, swap);
-    settle_present(store, regions);
-    served
+    bring_all(need, store, regions, images, swap)
 }
 
 /// Whether the memory has room for what is needed and what is locked.
@@ -106,15 +103,18 @@ pub(crate) fn is_room(need: &Need, store: &Store) -> bool
     amount(need.pairs(), store) <= memory_size(store)
 }
 
-// Brings what is needed into memory together, where it isn't there yet.
-pub(crate) fn bring_all<S: SwapDevice>(
+// Brings what is needed into memory together, where it isn't there yet, and says in all descriptors where segments are then.
+fn bring_all<S: SwapDevice>(
     need: &Need,
     store: &mut Store,
+    regions: &mut Regions,
     images: &Images,
     swap: &mut S,
 ) -> Served
     requires live { AreLive store.old need.now }
     requires fits { all_needed store.old need.now ≤ store.old.places.size }
+    requires held { IsHeldWell store.old regions.old }
+    requires settled { IsSettled store.old regions.old }
     requires pictures { HasAll (HasPicture images.now) store.old }
     requires clean { AreClean store.old (picture images.now) }
     requires device { all_of store.old.swap ≤ S.blocks swap.old }
@@ -125,6 +125,7 @@ pub(crate) fn bring_all<S: SwapDevice>(
     ensures device { (S.blocks swap.new ≡ S.blocks swap.old)
         × (S.told swap.new ≡ S.told swap.old) }
     ensures map { all_of store.new.swap ≡ all_of store.old.swap }
+    ensures follows { Follows regions.old store.new regions.new }
     ensures stays { Stays need.now store.old store.new }
     ensures only { OnlyNeededComes need.now store.old store.new }
     ensures locked { (k : ℕ) → 0 < (entry store.old k).attr.lock → IsSome (place_of store.new k) }
@@ -141,7 +142,7 @@ pub(crate) fn bring_all<S: SwapDevice>(
     let pairs = need.pairs();
     for k in 0..pairs.len() {
         let (id, _) = pairs[k];
-        match bring_one(id, need, store, images, swap) {
+        match bring_one(id, need, store, regions, images, swap) {
             Served::Here => {}
             answer => {
                 store.law();
@@ -161,11 +162,12 @@ fn memory_size(store: &Store) -> u64
     store.memory().len() as u64
 }
 
-// Brings in a segment that is needed, where it isn't in memory yet.
+// Brings in a segment that is needed, with all others that are.
 fn bring_one<S: SwapDevice>(
     id: SegId,
     need: &Need,
     store: &mut Store,
+    regions: &mut Regions,
     images: &Images,
     swap: &mut S,
 ) -> Served
@@ -173,6 +175,8 @@ fn bring_one<S: SwapDevice>(
     requires all { AreLive store.old need.now }
     requires among { needs need.now id.key ≡ true }
     requires fits { all_needed store.old need.now ≤ store.old.places.size }
+    requires held { IsHeldWell store.old regions.old }
+    requires settled { IsSettled store.old regions.old }
     requires pictures { HasAll (HasPicture images.now) store.old }
     requires clean { AreClean store.old (picture images.now) }
     requires device { all_of store.old.swap ≤ S.blocks swap.old }
@@ -183,6 +187,7 @@ fn bring_one<S: SwapDevice>(
     ensures device { (S.blocks swap.new ≡ S.blocks swap.old)
         × (S.told swap.new ≡ S.told swap.old) }
     ensures map { all_of store.new.swap ≡ all_of store.old.swap }
+    ensures follows { Follows regions.old store.new regions.new }
     ensures stays { Stays need.now store.old store.new }
     ensures only { OnlyNeededComes need.now store.old store.new }
 
@@ -194,10 +199,7 @@ fn bring_one<S: SwapDevice>(
     ensures faults { S.faults swap.old ≤ S.faults swap.new }
     ensures cause { result ≡ Served.SwapFault → Rose (S.faults swap.old) (S.faults swap.new) }
 {
-    if store.base(id).is_some() {
-        return Served::Here;
-    }
-    match store.bring(id, need.ids(), images, swap) {
+    match bring(id, need.ids(), store, regions, images, swap) {
         Brought::Here => Served::Here,
         Brought::SwapFull => Served::SwapFull,
         Brought::SwapFault => Served::SwapFault,

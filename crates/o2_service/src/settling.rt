@@ -5,8 +5,7 @@ ghost use Rattle.o2_regions.specs.Described.{Describes};
 ghost use Rattle.o2_regions.specs.Maps.{held_at};
 ghost use Rattle.o2_segbus.specs.Settled.{IsSettled, descriptor_at};
 ghost use Rattle.o2_store.specs.Shelf.{base_of, entry, entry_of, place_of};
-ghost use Rattle.o2_service.specs.Learned.{AreUnused};
-ghost use Rattle.o2_service.specs.Told.{AreTold, IsHeldWell, OnlyTables, nowhere};
+ghost use Rattle.o2_service.specs.Told.{AreToldBefore, AreToldBut, Follows, IsHeldWell, OnlyTables};
 
 use crate::amount::size_of;
 use o2_place::SegId;
@@ -49,32 +48,28 @@ pub fn settle(store: &Store, regions: &mut Regions)
     }
 }
 
-/// Says in the descriptors of all that is in memory that it isn't.
-pub(crate) fn withdraw(store: &Store, regions: &mut Regions)
+/// Says in the descriptors of those who hold a live segment where it is, where those of all other segments say so already. The
+/// work is that of going over its holders.
+pub(crate) fn settle_moved(store: &Store, regions: &mut Regions, id: SegId)
+    requires live { IsSome (entry_of store.now id) }
     requires held { IsHeldWell store.now regions.old }
-    requires settled { IsSettled store.now regions.old }
-    ensures told { AreTold nowhere store.now regions.new }
-    ensures maps { OnlyTables regions.old regions.new }
-    ensures unused { AreUnused regions.old → AreUnused regions.new }
+    requires others { AreToldBut id.key store.now regions.old }
+    ensures follows { Follows regions.old store.now regions.new }
 {
     store.law();
-    for k in 0..store.present_count() {
-        tell(store, regions, store.present_at(k), None);
-    }
+    tell(store, regions, id, store.base(id));
 }
 
-/// Says in the descriptors of all that is in memory where it is, where those of what isn't say so already.
-pub(crate) fn settle_present(store: &Store, regions: &mut Regions)
+/// Says in the descriptors of the segments in memory from one on, by rising place, where they are, where those of all other
+/// segments say so already. The work is that of going over the holders of these.
+pub(crate) fn settle_slid(store: &Store, regions: &mut Regions, from: u32)
     requires held { IsHeldWell store.now regions.old }
-    requires told { AreTold nowhere store.now regions.old }
-    ensures settled { IsSettled store.now regions.new }
-    ensures maps { OnlyTables regions.old regions.new }
-    ensures unused { AreUnused regions.old → AreUnused regions.new }
+    requires before { AreToldBefore from store.now regions.old }
+    ensures follows { Follows regions.old store.now regions.new }
 {
     store.law();
-    let count = store.present_count();
-    for k in 0..count {
-        let id = store.present_at(count - 1 - k);
+    for k in from..store.present_count() {
+        let id = store.present_at(k);
         tell(store, regions, id, store.base(id));
     }
 }

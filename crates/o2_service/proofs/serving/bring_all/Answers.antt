@@ -1,11 +1,37 @@
-use Rattle.std.proofs.Common.{◌<◌, ◌∙◌, ℕ, Bool, arith, rules, length, get_or, subst}
+use Rattle.std.proofs.Common.{◌<◌, ◌∙◌, ℕ, Bool, arith, refl, rules, length, get_or, subst}
 use Rattle.std.proofs.lemmas.Option.{slice_get-get_or}
 use Rattle.o2_place.specs.declared.seg_id.SegId.{SegId}
 use Rattle.o2_store.specs.Pictures.{picture}
 use Rattle.o2_store.specs.Shelf.{KeepsAll}
-use Rattle.o2_store.proofs.Keeping.{keeps_trans, tables_trans, locked_stay}
-use Rattle.o2_service.proofs.Among.{all_live_same, loads_after, needs_at, only_trans, present_more, same_needed, stays_trans}
+use Rattle.o2_store.proofs.Keeping.{keeps_refl, keeps_trans, tables_trans, locked_stay}
+use Rattle.o2_service.proofs.Among.{all_live_same, loads_after, needs_at, only_refl, only_trans, present_more, same_needed, stays_refl, stays_trans}
+use Rattle.o2_service.proofs.Movings.{follows_refl, follows_trans}
 use Rattle.o2_service.proofs.serving.bring_all.Goals as goal
+
+pub loop-k-init : goal.loop-k-init
+loop-k-init g c = record {
+  keeps = keeps_refl _ _ c.args.store.now _;
+  clean = c.requires.clean;
+  blocks = refl;
+  told = refl;
+  map = refl;
+  live = c.requires.live;
+  pictured = c.requires.pictures;
+  stays = stays_refl c.args.need.now c.args.store.now;
+  only = only_refl c.args.need.now c.args.store.now;
+  here = record { each = λ i p l e. absurd (omega (arith, l)) };
+  fits = c.requires.fits;
+  follows = follows_refl c.args.store.now c.args.regions.now c.requires.held c.requires.settled;
+  faults = omega arith;
+}
+
+pub bring_one-requires-clause-live : goal.bring_one-requires-clause-live
+bring_one-requires-clause-live g c =
+    let need = c.args.need.now in
+    let k = c.loop-k.k in
+    let d : SegId × ℕ = (record { key = 0; age = 0 }, 0) in
+    let l : k < length need = rw c.pairs-pairs.ensures.pairs at c.loop-k-test.true in
+    rw c.pairs-pairs.ensures.pairs (c.loop-k.invariant.live.each k (get_or need k d) (slice_get-get_or need k d l))
 
 pub bring_one-requires-clause-among : goal.bring_one-requires-clause-among
 bring_one-requires-clause-among g c =
@@ -31,6 +57,7 @@ returns-in_default g c =
       clean = e.clean;
       device = (e.device.0 ∙ i.blocks, e.device.1 ∙ i.told);
       map = e.map ∙ i.map;
+      follows = follows_trans c.args.regions.now c.loop-k.regions c.bring_one.new.regions t u i.follows e.follows;
       stays = stays_trans need s t u i.stays e.stays;
       only = only_trans need s t u i.only e.only;
       locked = locked_stay s u c.law-in_default.ensures.shelf (tables_trans s t u i.keeps.tables e.keeps.tables);
@@ -63,6 +90,7 @@ loop-k-preserved g c =
       blocks = e.device.0 ∙ i.blocks;
       told = e.device.1 ∙ i.told;
       map = e.map ∙ i.map;
+      follows = follows_trans c.args.regions.now c.loop-k.regions c.bring_one.new.regions t u i.follows e.follows;
       live = all_live_same t u need q i.live;
       pictured = λ j m seg x. i.pictured j m seg ((q.same j).image (m, seg) x);
       stays = stays_trans need s t u i.stays e.stays;

@@ -3,6 +3,7 @@ use Rattle.o2_swapmap.specs.Piles.{all_of}
 use Rattle.o2_store.specs.Pictures.{picture, HasPicture}
 use Rattle.o2_store.specs.Shelf.{AreClean, HasAll, KeepsAll}
 use Rattle.o2_service.specs.Needs.{AreLive, ArePresent, OnlyNeededComes, Stays, all_needed}
+use Rattle.o2_service.specs.Told.{Follows}
 use Rattle.o2_service.proofs.serving.bring_all.Given as goal
 
 abbrev pub invariant-loop-k : goal.invariant-loop-k
@@ -20,5 +21,6 @@ invariant-loop-k g l =
       only : OnlyNeededComes l.need l.initial.store l.store;
       here : ArePresent l.store l.need l.k;
       fits : all_needed l.store l.need ≤ l.store.places.size;
+      follows : Follows l.initial.regions l.store l.regions;
       faults : S.faults l.initial.swap ≤ S.faults l.swap;
     }

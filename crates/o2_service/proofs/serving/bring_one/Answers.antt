@@ -3,31 +3,31 @@ use Rattle.o2_service.proofs.Among.{only_by, stays_by, wanted_needed}
 use Rattle.o2_service.proofs.serving.bring_one.Goals as goal
 
 pub returns-in-Here-clause-stays : goal.returns-in-Here-clause-stays
-returns-in-Here-clause-stays g c = stays_by c.args.store.now c.bring.new.self c.args.need.now c.ids.result.now c.ids.ensures c.requires.all c.bring.ensures.kept
+returns-in-Here-clause-stays g c = stays_by c.args.store.now c.bring.new.store c.args.need.now c.ids.result.now c.ids.ensures c.requires.all c.bring.ensures.kept
 
 pub returns-in-SwapFull-clause-stays : goal.returns-in-SwapFull-clause-stays
-returns-in-SwapFull-clause-stays g c = stays_by c.args.store.now c.bring.new.self c.args.need.now c.ids.result.now c.ids.ensures c.requires.all c.bring.ensures.kept
+returns-in-SwapFull-clause-stays g c = stays_by c.args.store.now c.bring.new.store c.args.need.now c.ids.result.now c.ids.ensures c.requires.all c.bring.ensures.kept
 
 pub returns-in-SwapFault-clause-stays : goal.returns-in-SwapFault-clause-stays
-returns-in-SwapFault-clause-stays g c = stays_by c.args.store.now c.bring.new.self c.args.need.now c.ids.result.now c.ids.ensures c.requires.all c.bring.ensures.kept
+returns-in-SwapFault-clause-stays g c = stays_by c.args.store.now c.bring.new.store c.args.need.now c.ids.result.now c.ids.ensures c.requires.all c.bring.ensures.kept
 
 pub returns-in-NoRoom-clause-stays : goal.returns-in-NoRoom-clause-stays
-returns-in-NoRoom-clause-stays g c = stays_by c.args.store.now c.bring.new.self c.args.need.now c.ids.result.now c.ids.ensures c.requires.all c.bring.ensures.kept
+returns-in-NoRoom-clause-stays g c = stays_by c.args.store.now c.bring.new.store c.args.need.now c.ids.result.now c.ids.ensures c.requires.all c.bring.ensures.kept
+
+pub returns-in-Here-clause-only : goal.returns-in-Here-clause-only
+returns-in-Here-clause-only g c = only_by c.args.store.now c.bring.new.store c.args.need.now c.args.id.key c.requires.among c.bring.ensures.none
+
+pub returns-in-SwapFull-clause-only : goal.returns-in-SwapFull-clause-only
+returns-in-SwapFull-clause-only g c = only_by c.args.store.now c.bring.new.store c.args.need.now c.args.id.key c.requires.among c.bring.ensures.none
+
+pub returns-in-SwapFault-clause-only : goal.returns-in-SwapFault-clause-only
+returns-in-SwapFault-clause-only g c = only_by c.args.store.now c.bring.new.store c.args.need.now c.args.id.key c.requires.among c.bring.ensures.none
+
+pub returns-in-NoRoom-clause-only : goal.returns-in-NoRoom-clause-only
+returns-in-NoRoom-clause-only g c = only_by c.args.store.now c.bring.new.store c.args.need.now c.args.id.key c.requires.among c.bring.ensures.none
 
 pub returns-in-NoRoom-clause-never : goal.returns-in-NoRoom-clause-never
 returns-in-NoRoom-clause-never g c = λ e.
     (let w = wanted_needed c.args.store.now c.args.need.now c.args.id.key c.requires.among in
     let n = rw c.ids.ensures at (c.bring.ensures.no_room c.in-NoRoom.is) in
     omega (arith, w, n, c.requires.fits))
-
-pub returns-in-Here-clause-only : goal.returns-in-Here-clause-only
-returns-in-Here-clause-only g c = only_by c.args.store.now c.bring.new.self c.args.need.now c.args.id.key c.requires.among c.bring.ensures.none
-
-pub returns-in-SwapFull-clause-only : goal.returns-in-SwapFull-clause-only
-returns-in-SwapFull-clause-only g c = only_by c.args.store.now c.bring.new.self c.args.need.now c.args.id.key c.requires.among c.bring.ensures.none
-
-pub returns-in-SwapFault-clause-only : goal.returns-in-SwapFault-clause-only
-returns-in-SwapFault-clause-only g c = only_by c.args.store.now c.bring.new.self c.args.need.now c.args.id.key c.requires.among c.bring.ensures.none
-
-pub returns-in-NoRoom-clause-only : goal.returns-in-NoRoom-clause-only
-returns-in-NoRoom-clause-only g c = only_by c.args.store.now c.bring.new.self c.args.need.now c.args.id.key c.requires.among c.bring.ensures.none

@@ -1,0 +1,77 @@
+use Rattle.std.proofs.Common.{◌≡◌, ◌≢◌, ◌<◌, ◌≤◌, ◌∙◌, ap, arith, ℕ, None, IsSome, refl, subst, sym, true}
+use Rattle.o2_swapmap.specs.Piles.{all_of}
+use Rattle.o2_store.specs.Loads.{live_load, swap_load}
+use Rattle.o2_store.specs.Needs.{all_wanted, named_in}
+use Rattle.o2_store.specs.Pictures.{picture, HasPicture}
+use Rattle.o2_store.specs.Shelf.{Shelf, HasAll, entry_of, place_of}
+use Rattle.o2_store.proofs.Keeping.{keeps_refl, keys_clean, keys_keep}
+use Rattle.o2_service.proofs.Movings.{base_none, follows_keys, follows_refl, held_keys, settled_keys}
+use Rattle.o2_service.proofs.bringing.bring.Goals as goal
+
+pub returns-then-is_some-clause-follows : goal.returns-then-is_some-clause-follows
+returns-then-is_some-clause-follows g c = follows_refl c.args.store.now c.args.regions.now c.requires.held c.requires.settled
+
+pub returns-then-not-fits : goal.returns-then-not-fits
+returns-then-not-fits g c =
+    let S = g.S.SwapDevice in
+    let s = c.args.store.now in
+    let t = c.fits.new.self in
+    let e = c.fits.ensures.shelf in
+    let pic = picture c.args.images.now in
+    let a = S.block c.args.swap.now in
+    record {
+      keeps = keys_keep (S.told c.args.swap.now) pic s t t a a e (keeps_refl (S.told c.args.swap.now) pic t a);
+      clean = keys_clean pic s t e c.requires.clean;
+      device = (refl, refl);
+      map = ap (λ (z : Shelf). all_of z.swap) e;
+      follows = follows_keys s t c.args.regions.now e c.requires.held c.requires.settled;
+      kept = λ k n i. subst (λ (z : Shelf). IsSome (place_of z k)) (sym e) i;
+      none = λ k d n. ap (λ (z : Shelf). place_of z k) e ∙ n;
+      here = λ r. absurd cc;
+      no_room = λ r. c.fits.ensures.none c.if-not-fits.true;
+      loads = λ r. absurd cc;
+      faults = omega arith;
+      cause = λ r. absurd cc;
+      never = λ r. cc;
+    }
+
+pub bring_in-requires : goal.bring_in-requires
+bring_in-requires g c =
+    let s = c.args.store.now in
+    let t = c.fits.new.self in
+    let e = c.fits.ensures.shelf in
+    let n = base_none (entry_of s c.args.id) (place_of s c.args.id.key) c.requires.live (rw c.base.ensures at (sym c.is_some.ensures ∙ c.if-is_some.false)) in
+    record {
+      live = subst (λ (z : Shelf). IsSome (entry_of z c.args.id)) (sym e) c.requires.live;
+      out = ap (λ (z : Shelf). place_of z c.args.id.key) e ∙ n;
+      fits = subst (λ (z : Shelf). all_wanted z c.args.id.key c.args.keep.now ≤ z.places.size) (sym e) (c.fits.ensures.fits c.if-not-fits.false);
+      held = held_keys s t c.args.regions.now e c.requires.held;
+      settled = settled_keys s t c.args.regions.now e c.requires.settled;
+      pictures = subst (λ (z : Shelf). HasAll (HasPicture c.args.images.now) z) (sym e) c.requires.pictures;
+      clean = keys_clean (picture c.args.images.now) s t e c.requires.clean;
+      device = subst (λ (z : Shelf). all_of z.swap ≤ g.S.SwapDevice.blocks c.args.swap.now) (sym e) c.requires.device;
+    }
+
+pub returns : goal.returns
+returns g c =
+    let S = g.S.SwapDevice in
+    let s = c.args.store.now in
+    let t = c.fits.new.self in
+    let u = c.bring_in.new.store in
+    let e = c.fits.ensures.shelf in
+    let q = c.bring_in.ensures in
+    record {
+      keeps = keys_keep (S.told c.args.swap.now) (picture c.args.images.now) s t u (S.block c.args.swap.now) (S.block c.bring_in.new.swap) e q.keeps;
+      clean = q.clean;
+      device = q.device;
+      map = q.map ∙ ap (λ (z : Shelf). all_of z.swap) e;
+      follows = q.follows;
+      kept = subst (λ (z : Shelf). (k : ℕ) → named_in z.entries c.args.keep.now k ≡ true → IsSome (place_of z k) → IsSome (place_of u k)) e q.kept;
+      none = subst (λ (z : Shelf). (k : ℕ) → k ≢ c.args.id.key → place_of z k ≡ None → place_of u k ≡ None) e q.none;
+      here = q.here;
+      no_room = λ r. absurd (q.never.0 r);
+      loads = λ r. subst (λ (z : Shelf). (all_of z.swap < swap_load z) × (z.places.size < live_load z)) e (q.loads r);
+      faults = q.faults;
+      cause = q.cause;
+      never = q.never.1;
+    }

@@ -1,0 +1,85 @@
+use Rattle.std.proofs.Common.{◌∙◌, Bool, refl, subst, arith, rules}
+use Rattle.o2_store.specs.Shelf.{KeepsAll}
+use Rattle.o2_store.proofs.Keeping.{keeps_refl, keeps_trans, same_tables, tables_trans}
+use Rattle.o2_store.proofs.Choosing.{same_named, same_wanted}
+use Rattle.o2_service.proofs.Among.{live_same, loads_after}
+use Rattle.o2_service.proofs.Movings.{follows_refl, follows_trans}
+use Rattle.o2_service.proofs.bringing.make_room.Goals as goal
+
+pub loop-id-init : goal.loop-id-init
+loop-id-init g c = record {
+  keeps = λ pic q. keeps_refl _ pic c.args.store.now _;
+  clean = λ pic q. q;
+  tables = same_tables c.args.store.now;
+  blocks = refl;
+  told = refl;
+  map = refl;
+  follows = follows_refl c.args.store.now c.args.regions.now c.requires.held c.requires.settled;
+  kept = λ k n. refl;
+  none = λ k n. n;
+  faults = omega arith;
+}
+
+pub make_way-answer-requires-clause-live : goal.make_way-answer-requires-clause-live
+make_way-answer-requires-clause-live g c = live_same c.args.store.now c.loop-id.store c.args.id c.loop-id.invariant.tables c.requires.live
+
+pub make_way-answer-requires-clause-fits : goal.make_way-answer-requires-clause-fits
+make_way-answer-requires-clause-fits g c =
+    let q = c.loop-id.invariant.tables in
+    let w = same_wanted c.args.store.now c.loop-id.store c.args.id.key c.args.keep.now q in
+    omega (arith, w, q.size, c.requires.fits)
+
+pub loop-id-preserved : goal.loop-id-preserved
+loop-id-preserved g c =
+    let S = g.S.SwapDevice in
+    let told = S.told c.args.swap.now in
+    let a = S.block c.args.swap.now in
+    let v = c.make_way-answer in
+    let e = v.ensures in
+    let i = c.loop-id.invariant in
+    let b = S.block c.loop-id.swap in
+    let d = S.block v.new.swap in
+    let s = c.args.store.now in
+    let t = c.loop-id.store in
+    let u = v.new.store in
+    record {
+      keeps = λ pic q. keeps_trans told pic s t u a b d (i.keeps pic q) (subst (λ (x : Bool). KeepsAll x pic t b u d) i.told (e.keeps pic (i.clean pic q)));
+      clean = λ pic q. e.clean pic (i.clean pic q);
+      tables = tables_trans s t u i.tables e.tables;
+      blocks = e.device.0 ∙ i.blocks;
+      told = e.device.1 ∙ i.told;
+      map = e.map ∙ i.map;
+      follows = follows_trans c.args.regions.now c.loop-id.regions v.new.regions t u i.follows e.follows;
+      kept = λ k n. e.kept k (same_named s t c.args.keep.now k i.tables ∙ n) ∙ i.kept k n;
+      none = λ k n. e.none k (i.none k n);
+      faults = omega (arith, i.faults, e.faults);
+    }
+
+pub returns-then-not-matches : goal.returns-then-not-matches
+returns-then-not-matches g c =
+    let S = g.S.SwapDevice in
+    let told = S.told c.args.swap.now in
+    let a = S.block c.args.swap.now in
+    let v = c.make_way-answer in
+    let e = v.ensures in
+    let i = c.loop-id.invariant in
+    let b = S.block c.loop-id.swap in
+    let d = S.block v.new.swap in
+    let s = c.args.store.now in
+    let t = c.loop-id.store in
+    let u = v.new.store in
+    record {
+      keeps = λ pic q. keeps_trans told pic s t u a b d (i.keeps pic q) (subst (λ (x : Bool). KeepsAll x pic t b u d) i.told (e.keeps pic (i.clean pic q)));
+      clean = λ pic q. e.clean pic (i.clean pic q);
+      tables = tables_trans s t u i.tables e.tables;
+      device = (e.device.0 ∙ i.blocks, e.device.1 ∙ i.told);
+      map = e.map ∙ i.map;
+      follows = follows_trans c.args.regions.now c.loop-id.regions v.new.regions t u i.follows e.follows;
+      kept = λ k n. e.kept k (same_named s t c.args.keep.now k i.tables ∙ n) ∙ i.kept k n;
+      none = λ k n. e.none k (i.none k n);
+      room = search rules;
+      loads = λ q. loads_after s t i.tables i.map (e.loads q);
+      faults = omega (arith, i.faults, e.faults);
+      cause = search rules;
+      never = e.never;
+    }

@@ -1,0 +1,58 @@
+use Rattle.std.proofs.Common.{ap, ◌∙◌, arith}
+use Rattle.o2_swapmap.specs.Piles.{all_of}
+use Rattle.o2_store.specs.Shelf.{Shelf}
+use Rattle.o2_service.proofs.Among.{live_same}
+use Rattle.o2_service.proofs.Movings.{clean_chosen, fewer_leaving, keeps_chosen, kept_leaving, may_evict, none_leaving, place_chosen, short_load, stale_never, tables_chosen, told_but}
+use Rattle.o2_service.proofs.Placing.{held_same}
+use Rattle.o2_service.proofs.bringing.make_way.Goals as goal
+
+pub returns-in_default : goal.returns-in_default
+returns-in_default g c = absurd (let n = c.in_default.ensures.none c.requires.out c.requires.short in omega (arith, n, c.requires.fits))
+
+pub evict-answer-requires-clause-unlocked : goal.evict-answer-requires-clause-unlocked
+evict-answer-requires-clause-unlocked g c = may_evict c.args.store.now c.next_out.new.self c.args.id.key c.args.keep.now c.in-Some.out c.next_out.ensures.shelf c.in-Some.ensures.some
+
+pub settle_moved-requires : goal.settle_moved-requires
+settle_moved-requires g c =
+    let s = c.args.store.now in
+    let t = c.next_out.new.self in
+    let u = c.evict-answer.new.self in
+    let e = c.next_out.ensures.shelf in
+    let q = tables_chosen s t u e c.evict-answer.ensures.tables in
+    let v = c.in-Some.ensures.some in
+    record {
+      live = live_same s u c.in-Some.out q v.live;
+      held = held_same s u c.args.regions.now c.requires.held q;
+      others = told_but s u c.in-Some.out.key c.args.regions.now c.requires.settled q (λ k n. c.evict-answer.ensures.others k n ∙ place_chosen s t k e);
+    }
+
+pub returns : goal.returns
+returns g c =
+    let S = g.S.SwapDevice in
+    let told = S.told c.args.swap.now in
+    let a = S.block c.args.swap.now in
+    let b = S.block c.evict-answer.new.swap in
+    let s = c.args.store.now in
+    let t = c.next_out.new.self in
+    let u = c.evict-answer.new.self in
+    let e = c.next_out.ensures.shelf in
+    let v = c.in-Some.ensures.some in
+    let out = c.in-Some.out in
+    let w = c.evict-answer.ensures in
+    let key = c.args.id.key in
+    let keep = c.args.keep.now in
+    record {
+      keeps = λ pic q. keeps_chosen told pic s t u a b e (w.keeps pic (clean_chosen s t pic e q));
+      clean = λ pic q. w.clean pic (clean_chosen s t pic e q);
+      tables = tables_chosen s t u e w.tables;
+      device = w.device;
+      map = w.map ∙ ap (λ (z : Shelf). all_of z.swap) e;
+      follows = c.settle_moved.ensures.follows;
+      kept = kept_leaving s t u key keep out e v w.others;
+      none = none_leaving s t u key keep out e v w.others;
+      fewer = λ r. fewer_leaving s t u key keep out e v (w.fewer r);
+      loads = λ r. short_load s t key e c.law.ensures.shelf c.law.ensures.sum c.requires.out c.requires.short (w.loads r);
+      faults = w.faults;
+      cause = w.cause;
+      never = (w.never, λ r. stale_never s t out e v.live (w.stale r));
+    }
