@@ -9,3 +9,4 @@ pub mod Leading
 pub mod Known
 pub mod Sharing
 pub mod Behind
+pub mod Ordered

@@ -1,45 +1,51 @@
--- Lists of targets that several segments share.
-use Rattle.std.proofs.Common.{◌≡◌, ℕ, ◌+◌, ◌<◌, List, [], ◌∷◌, ◌++◌, get_or, length, Result, Ok, Err, refl, sym, ap, ◌∙◌, arith, inl, inr}
+-- Lists of targets, of which there is one more each time.
+use Rattle.std.proofs.Common.{◌≡◌, ℕ, ◌+◌, List, [], ◌∷◌, ◌++◌, Bool, true, false, if◌then◌else◌, Option, Some, None, get_or, length, Result, Ok, Err, refl, sym, ap, ◌∙◌, arith}
+use Rattle.std.specs.Prelude.{IfSome}
 use Rattle.std.proofs.Math.Seq.{get_or-append_seam}
 use Rattle.std.proofs.lemmas.List.{get_or_append_left, length-append}
-use Rattle.std.proofs.lemmas.Bool.{cases_lt}
 use Rattle.o2_ne.specs.Checks.{◌>>=◌}
-use Rattle.o2_image.specs.Getters.{nth_list}
 use Rattle.o2_image.specs.Images.{Target}
+use Rattle.o2_dynlink.specs.declared.gathering.Last.{Last}
 use Rattle.o2_dynlink.specs.Imports.{gather}
-use Rattle.o2_dynlink.specs.Memo.{AreFound}
+use Rattle.o2_dynlink.specs.Memo.{IsKnown}
 
-module _ {X F : Type 0} (f : List X → Result (List Target) F) (records : List (List X)) where
-  -- the list of an earlier segment with the same records
-  pub shared : (found after : List (List Target)) (j seg : ℕ) → AreFound f records found → j < length found → nth_list records (j + 1) ≡ nth_list records seg
-      → after ≡ found ++ get_or found j [] ∷ [] → gather f (nth_list records seg) found ≡ Ok after
-  shared found after j seg are lt same more = rw (← same, are j lt, more) refl
-
+module _ {F : Type 0} (g : ℕ → Result (List Target) F) where
   step : (found after : List (List Target)) (r : Result (List Target) F) → (r >>= (λ y. Ok (found ++ y ∷ []))) ≡ Ok after → (y : List Target) × (r ≡ Ok y) × (after ≡ found ++ y ∷ [])
   step found after (Ok y) e = let is : found ++ y ∷ [] ≡ after = cc in (y, refl, sym is)
   step found after (Err d) e = absurd cc
 
-  -- one list more
-  pub found_more : (found after : List (List Target)) (k : ℕ) → AreFound f records found → length found ≡ k → gather f (nth_list records (k + 1)) found ≡ Ok after
-      → AreFound f records after × (length after ≡ k + 1)
-  found_more found after k are count h = (go, length-after)
-    where
-      one : (y : List Target) × (f (nth_list records (k + 1)) ≡ Ok y) × (after ≡ found ++ y ∷ [])
-      one = step found after (f (nth_list records (k + 1))) h
+  pub longer : (found after : List (List Target)) (seg k : ℕ) → length found ≡ k → gather g seg found ≡ Ok after → length after ≡ k + 1
+  longer found after seg k count h =
+      let one = step found after (g seg) h in
+      ap length one.2 ∙ length-append found (one.0 ∷ []) ∙ omega (arith, count)
 
-      is : after ≡ found ++ one.0 ∷ []
-      is = one.2
+  -- what is known stays so
+  still : (found : List (List Target)) (y : List Target) (last : Last) → IsKnown g found last → IsKnown g (found ++ y ∷ []) last
+  still found y last known =
+      let low = known.low in
+      record {
+        low = omega (arith, length-append found (y ∷ []), low);
+        are = known.are ∙ ap (λ x. Ok x) (sym (get_or_append_left found (y ∷ []) [] last.index known.low));
+      }
 
-      length-after : length after ≡ k + 1
-      length-after = ap length is ∙ length-append found (one.0 ∷ []) ∙ omega (arith, count)
+  all_still : (found : List (List Target)) (y : List Target) (last : Option Last) → IfSome last (IsKnown g found) → IfSome last (IsKnown g (found ++ y ∷ []))
+  all_still found y None known = tt
+  all_still found y (Some last) known = still found y last known
 
-      go : AreFound f records after
-      go j lt = elim (cases_lt j (length found)) [
-        | inl low ↦ are j low ∙ ap (λ x. Ok x) (sym (get_or_append_left found (one.0 ∷ []) [] j low) ∙ ap (λ xs. get_or xs j []) (sym is))
-        | inr high ↦
-            let last : j ≡ length found = omega (arith, length-after, count, lt) in
-            let same : j ≡ k = omega (arith, last, count) in
-            let at : get_or after j [] ≡ one.0 =
-            ap (λ xs. get_or xs j []) is ∙ ap (λ i. get_or (found ++ one.0 ∷ []) i []) last ∙ get_or-append_seam found one.0 [] [] in
-            ap (λ i. f (nth_list records (i + 1))) same ∙ one.1 ∙ ap (λ x. Ok x) (sym at)
-      ]
+  -- and so is the list that was added
+  newest : (found : List (List Target)) (y : List Target) (seg k : ℕ) → length found ≡ k → g seg ≡ Ok y → IsKnown g (found ++ y ∷ []) (record { index = k; seg = seg })
+  newest found y seg k count is = record {
+    low = omega (arith, length-append found (y ∷ []), count);
+    are = is ∙ ap (λ x. Ok x) (sym (ap (λ i. get_or (found ++ y ∷ []) i []) (sym count) ∙ get_or-append_seam found y [] []));
+  }
+
+  either : (found : List (List Target)) (y : List Target) (seg k : ℕ) (last : Option Last) (more : Bool) → length found ≡ k → g seg ≡ Ok y → IfSome last (IsKnown g found)
+      → IfSome (if more then Some (record { index = k; seg = seg }) else last) (IsKnown g (found ++ y ∷ []))
+  either found y seg k last true count is known = newest found y seg k count is
+  either found y seg k last false count is known = all_still found y last known
+
+  pub known_after : (found after : List (List Target)) (seg k : ℕ) (last next : Option Last) (more : Bool) → length found ≡ k → gather g seg found ≡ Ok after → IfSome last (IsKnown g found)
+      → next ≡ (if more then Some (record { index = k; seg = seg }) else last) → IfSome next (IsKnown g after)
+  known_after found after seg k last next more count h known is =
+      let one = step found after (g seg) h in
+      rw (is, one.2) (either found one.0 seg k last more count one.1 known)

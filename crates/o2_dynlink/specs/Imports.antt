@@ -10,7 +10,7 @@ use Rattle.o2_ne.specs.EntryTable.{target_of}
 use Rattle.o2_ne.specs.NameTable.{ordinal_of, same_name}
 use Rattle.o2_ne.specs.Steps.{over}
 use Rattle.o2_ne_segs.specs.declared.reloc.Reloc.{Reloc}
-use Rattle.o2_image.specs.Getters.{imported_name, nth}
+use Rattle.o2_image.specs.Getters.{imported_name, nth, nth_list}
 use Rattle.o2_image.specs.Images.{Target}
 use Rattle.o2_image.specs.Parts.{Parts}
 use Rattle.o2_image.specs.Targets.{target_kind}
@@ -25,6 +25,10 @@ gather f x found = do
 
 abbrev pub each : {X Y F : Type 0} → (X → Result Y F) → List X → Result (List Y) F
 each f xs = over (gather f) xs []
+
+-- what f gives of each item of a list of lists, by its number from 1
+abbrev pub on_list : {X Y F : Type 0} → (X → Result Y F) → List (List X) → ℕ → Result (List Y) F
+on_list f xss n = each f (nth_list xss n)
 
 -- a service has a gate where the machine has it
 abbrev pub gate_or : Option ℕ → ModuleFault → Result Target ModuleFault

@@ -12,7 +12,8 @@ ghost use Rattle.o2_dynlink.specs.Selectors.{base_at, bases_of, index_of};
 
 use crate::environments::environments_of;
 use crate::fault::LinkFault;
-use crate::imports::{Scope, targets_of};
+use crate::gathering::targets_of;
+use crate::imports::Scope;
 use crate::linked::Linked;
 use crate::listed::{is_any_named, is_doscalls, lost_reference, module_named};
 use crate::reached::libraries_of_all;

@@ -5,21 +5,20 @@ ghost use Rattle.o2_ne.specs.EntryTable.{target_of};
 ghost use Rattle.o2_ne.specs.NameTable.{ordinal_of};
 ghost use Rattle.o2_image.specs.Getters.{imported_name, nth, nth_list};
 ghost use Rattle.o2_image.specs.ImageList.{Exists};
-ghost use Rattle.o2_image.specs.Alike.{Precedes};
 ghost use Rattle.o2_image.specs.Images.{Target};
-ghost use Rattle.o2_dynlink.specs.Imports.{each, exported, exported_as, gather, import_name, import_ordinal, import_text, imported, internal, target_in, targets_of};
+ghost use Rattle.o2_dynlink.specs.Imports.{each, exported, exported_as, gather, import_name, import_ordinal, import_text, imported, internal, target_in};
 ghost use Rattle.o2_dynlink.specs.Leads.{lead_of};
-ghost use Rattle.o2_dynlink.specs.Memo.{AddsBehind, AreFound, IsMemo};
+ghost use Rattle.o2_dynlink.specs.Memo.{IsMemo};
 ghost use Rattle.o2_dynlink.specs.Selectors.{base_at};
 
-use crate::leads::{Lead, lead_at, leads_of};
-use crate::memo::{known, memo_for, note};
+use crate::leads::{Lead, lead_at};
+use crate::memo::{known, note};
 use crate::refusals::{no_module, no_name, no_ordinal};
 use crate::selectors::{base_at, point};
 use crate::services::{import_service, import_service_called};
 use o2_base::{Fail, ModuleFault};
 use o2_conf::Ordinals;
-use o2_image::{Module, Resolved, SharedTargets};
+use o2_image::Module;
 use o2_ne_segs::Reloc;
 use std::alloc::Global;
 
@@ -271,8 +270,8 @@ fn record_at(module: &Module, seg: u16, k: u16) -> Reloc
     }
 }
 
-// Where the records of a segment lead, from one on.
-fn targets_in(
+/// Where the records of a segment lead, from one on.
+pub(crate) fn targets_in(
     alloc: Global,
     scope: &Scope,
     base: u16,
@@ -296,145 +295,4 @@ fn targets_in(
         add_target(alloc, scope, base, module, leads, &reloc, memo, &mut found)?;
     }
     Ok(found)
-}
-
-// The first segment before one, by its number from 0, that shares its records.
-fn earlier_with(module: &Module, seg: u16) -> Option<u16>
-    ensures within { IfSome result (λ j. j + 1 < seg) }
-    ensures same { IfSome result (λ j. nth_list «module».now.relocs (j + 1) ≡ nth_list «module».now.relocs seg) }
-{
-    for j in 1..seg {
-        if module.share_records(j, seg) {
-            return Some(j - 1);
-        }
-    }
-    None
-}
-
-// Those of one segment more, the first of which are the last ones of the segment before it.
-fn add_behind(
-    alloc: Global,
-    scope: &Scope,
-    base: u16,
-    module: &Module,
-    leads: &[Lead],
-    seg: u16,
-    skip: u16,
-    memo: &mut Vec<Option<(u16, u16)>>,
-    found: &mut SharedTargets,
-) -> Result<bool, Fail<ModuleFault>>
-    requires leads { leads.now ≡ map (lead_of scope.now.modules.now) «module».now.references }
-    requires few { length scope.now.modules.now ≤ 64 }
-    requires same { length scope.now.bases.now ≡ length scope.now.modules.now }
-    requires memo { IsMemo scope.now.modules.now scope.now.bases.now «module».now memo.old.items }
-    requires at { seg ≡ length found.old + 1 }
-    requires some { 2 ≤ seg }
-    requires precedes { Precedes skip (nth_list «module».now.relocs (seg - 1)) (nth_list «module».now.relocs seg) }
-    requires are { AreFound (each (target_in scope.now.modules.now scope.now.bases.now scope.now.ordinals.now base «module».now)) «module».now.relocs found.old }
-    ensures exact { AddsBehind (gather (each (target_in scope.now.modules.now scope.now.bases.now scope.now.ordinals.now base «module».now)) (nth_list «module».now.relocs seg) found.old) found.old found.new result }
-    ensures memo { IsMemo scope.now.modules.now scope.now.bases.now «module».now memo.new.items }
-{
-    let shared = module.segment_relocs(seg - 1) - skip;
-    let targets = targets_in(alloc, scope, base, module, leads, seg, shared, memo)?;
-    let held = found.add_behind(seg - 2, skip, targets)?;
-    Ok(held)
-}
-
-// How many records of the segment before one stand before its own, where it shares the others.
-fn before(module: &Module, seg: u16) -> Option<u16>
-    ensures { IfSome result (λ n. (2 ≤ seg) × Precedes n (nth_list «module».now.relocs (seg - 1)) (nth_list «module».now.relocs seg)) }
-{
-    if seg < 2 {
-        return None;
-    }
-    module.records_before(seg - 1, seg)
-}
-
-// The same, where it shares any with the segment before it.
-fn add_onwards(
-    alloc: Global,
-    scope: &Scope,
-    base: u16,
-    module: &Module,
-    leads: &[Lead],
-    seg: u16,
-    memo: &mut Vec<Option<(u16, u16)>>,
-    found: &mut SharedTargets,
-) -> Result<bool, Fail<ModuleFault>>
-    requires leads { leads.now ≡ map (lead_of scope.now.modules.now) «module».now.references }
-    requires few { length scope.now.modules.now ≤ 64 }
-    requires same { length scope.now.bases.now ≡ length scope.now.modules.now }
-    requires memo { IsMemo scope.now.modules.now scope.now.bases.now «module».now memo.old.items }
-    requires at { seg ≡ length found.old + 1 }
-    requires are { AreFound (each (target_in scope.now.modules.now scope.now.bases.now scope.now.ordinals.now base «module».now)) «module».now.relocs found.old }
-    ensures exact { AddsBehind (gather (each (target_in scope.now.modules.now scope.now.bases.now scope.now.ordinals.now base «module».now)) (nth_list «module».now.relocs seg) found.old) found.old found.new result }
-    ensures memo { IsMemo scope.now.modules.now scope.now.bases.now «module».now memo.new.items }
-{
-    match before(module, seg) {
-        Some(skip) => add_behind(alloc, scope, base, module, leads, seg, skip, memo, found),
-        None => Ok(false),
-    }
-}
-
-// Those of one segment more, which are looked up once where segments share their records.
-#[tactic(auto, using(crate::proofs::Sharing::shared))]
-fn add_targets(
-    alloc: Global,
-    scope: &Scope,
-    base: u16,
-    module: &Module,
-    leads: &[Lead],
-    seg: u16,
-    memo: &mut Vec<Option<(u16, u16)>>,
-    found: &mut SharedTargets,
-) -> Result<(), Fail<ModuleFault>>
-    requires leads { leads.now ≡ map (lead_of scope.now.modules.now) «module».now.references }
-    requires few { length scope.now.modules.now ≤ 64 }
-    requires same { length scope.now.bases.now ≡ length scope.now.modules.now }
-    requires memo { IsMemo scope.now.modules.now scope.now.bases.now «module».now memo.old.items }
-    requires at { seg ≡ length found.old + 1 }
-    requires are { AreFound (each (target_in scope.now.modules.now scope.now.bases.now scope.now.ordinals.now base «module».now)) «module».now.relocs found.old }
-    ensures exact { Gives (λ _. found.new) result (gather (each (target_in scope.now.modules.now scope.now.bases.now scope.now.ordinals.now base «module».now)) (nth_list «module».now.relocs seg) found.old) }
-    ensures memo { IsMemo scope.now.modules.now scope.now.bases.now «module».now memo.new.items }
-{
-    if let Some(earlier) = earlier_with(module, seg) {
-        found.add_same(earlier)?;
-        return Ok(());
-    }
-    if add_onwards(alloc, scope, base, module, leads, seg, memo, found)? {
-        return Ok(());
-    }
-    let targets = targets_in(alloc, scope, base, module, leads, seg, 0, memo)?;
-    found.add(targets)?;
-    Ok(())
-}
-
-/// Where all records of a module lead, by segment and record.
-pub(crate) fn targets_of(
-    alloc: Global,
-    scope: &Scope,
-    base: u16,
-    module: &Module,
-) -> Result<Resolved, Fail<ModuleFault>>
-    requires few { length scope.now.modules.now ≤ 64 }
-    requires same { length scope.now.bases.now ≡ length scope.now.modules.now }
-    ensures { Gives (λ r. r) result (targets_of scope.now.modules.now scope.now.bases.now scope.now.ordinals.now base «module».now) }
-{
-    let leads = leads_of(alloc, scope.modules, module)?;
-    let mut memo = memo_for(alloc, scope.modules, module)?;
-    module.is_runnable();
-    let mut found = SharedTargets::new(alloc);
-    for k in 0..module.segment_count() {
-        add_targets(
-            alloc,
-            scope,
-            base,
-            module,
-            leads.as_slice(),
-            k + 1,
-            &mut memo,
-            &mut found,
-        )?;
-    }
-    Ok(found.finish())
 }

@@ -4,11 +4,13 @@
 mod checks;
 mod environments;
 mod fault;
+mod gathering;
 mod imports;
 mod leads;
 mod linked;
 mod listed;
 mod memo;
+mod order;
 mod reached;
 mod refusals;
 mod selectors;

@@ -1,10 +1,10 @@
 -- Records that two segments share, since the file has the last ones of the one where the other has its first ones.
-use Rattle.std.proofs.Common.{◌≡◌, ℕ, zero, suc, ◌+◌, ◌*◌, ◌-◌, ◌≤◌, List, [], ◌∷◌, drop, take, length, refl, sym, ap, ◌∙◌, arith}
+use Rattle.std.proofs.Common.{◌≡◌, ℕ, zero, suc, ◌+◌, ◌*◌, ◌-◌, ◌≤◌, List, ◌∷◌, drop, take, refl, sym, ap, ◌∙◌, arith}
 use Rattle.o2_ne.specs.Steps.{tabulate}
 use Rattle.o2_ne.proofs.Tabulated.{length-tabulate}
 use Rattle.o2_ne_segs.specs.declared.segment.Segment.{Segment}
 use Rattle.o2_ne_segs.specs.Records.{end_of, reloc_at, reloc_count, relocs_at, relocs_in}
-use Rattle.o2_image.specs.Alike.{Precedes}
+use Rattle.o2_image.specs.Alike.{HasPart, Precedes}
 
 module _ {X : Type 0} where
   drop-tabulate : (f : ℕ → X) (i s n : ℕ) → i ≤ n → drop i (tabulate f s n) ≡ tabulate f (s + i) (n - i)
@@ -47,4 +47,21 @@ precede file a b i at le within =
       some = omega (arith, first, le);
       within = omega (arith, first, second, within);
       same = rw first (records_meet file (end_of a + 2) (end_of b + 2) (reloc_count file a) (reloc_count file b) i (omega (arith, at)) le within);
+    }
+
+records_inside : (file : List ℕ) (p q n m i : ℕ) → q ≡ p + 8 * i → i + m ≤ n → relocs_at file q m ≡ take m (drop i (relocs_at file p n))
+records_inside file p q n m i at within =
+    let le : i ≤ n = omega (arith, within) in
+    sym
+    (ap (take m) (drop-tabulate (λ k. reloc_at file (p + 8 * k)) i 0 n le)
+    ∙ take-tabulate (λ k. reloc_at file (p + 8 * k)) m (0 + i) (n - i) (omega (arith, within))
+    ∙ shifted (λ k. reloc_at file (p + 8 * k)) (λ k. reloc_at file (q + 8 * k)) (0 + i) 0 m (λ k. ap (reloc_at file) (omega (arith, at))))
+
+pub has_part : (file : List ℕ) (a b : Segment) (i : ℕ) → end_of b ≡ end_of a + 8 * i → i + reloc_count file b ≤ reloc_count file a → HasPart i (relocs_in file a) (relocs_in file b)
+has_part file a b i at within =
+    let first = length-tabulate (λ k. reloc_at file (end_of a + 2 + 8 * k)) 0 (reloc_count file a) in
+    let second = length-tabulate (λ k. reloc_at file (end_of b + 2 + 8 * k)) 0 (reloc_count file b) in
+    record {
+      within = omega (arith, first, second, within);
+      same = rw second (records_inside file (end_of a + 2) (end_of b + 2) (reloc_count file a) (reloc_count file b) i (omega (arith, at)) within);
     }

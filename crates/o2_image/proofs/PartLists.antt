@@ -1,9 +1,9 @@
 -- Parts of a list, and one part more.
-use Rattle.std.proofs.Common.{◌≡◌, ℕ, zero, suc, ◌+◌, ◌-◌, ◌<◌, ◌≤◌, List, [], ◌∷◌, ◌++◌, drop, get_or, length, map, take, refl, sym, ap, ◌∙◌, arith, length-append, length-drop, subst}
-use Rattle.std.proofs.lemmas.List.{drop-append-le, drop-drop, get_or-map, get_or_append_left, length-take-le, map-append, take-append-le, take_all}
-use Rattle.std.proofs.Math.Seq.{drop-append_seam, get_or-append_seam}
+use Rattle.std.proofs.Common.{◌≡◌, ℕ, zero, suc, ◌+◌, ◌-◌, ◌<◌, ◌≤◌, List, [], ◌∷◌, ◌++◌, drop, get_or, length, map, take, refl, sym, ap, ◌∙◌, arith, length-append, length-drop}
+use Rattle.std.proofs.lemmas.List.{drop-append-le, drop-drop, drop-take, get_or-map, length-take-le, map-append, take-append-le, take-take, take_all}
+use Rattle.std.proofs.Math.Seq.{drop-append_seam}
 use Rattle.o2_image.specs.declared.sharing.Part.{Part}
-use Rattle.o2_image.specs.Alike.{AreWithin, behind, part_of, parts_of}
+use Rattle.o2_image.specs.Alike.{AreWithin, behind, chosen, no_part, part_of, parts_of}
 
 module _ {X : Type 0} where
   -- a part has as many items as it says
@@ -58,8 +58,30 @@ module _ {X : Type 0} where
       let at : get_or (parts_of xs ps) k [] ≡ part_of xs p = get_or-map (part_of xs) ps k p [] low ∙ ap (part_of xs) (sym is) in
       rw (one, two, at) (more xs ys ps q within ∙ ap (λ (y : List X). parts_of xs ps ++ y ∷ []) (onwards xs ys p q n end le from count))
 
-  -- the same part again
-  pub added_same : (xs : List X) (ps next : List Part) (k : ℕ) (p : Part) → k < length ps → p ≡ get_or ps k p → next ≡ ps ++ p ∷ [] → parts_of xs next ≡ parts_of xs ps ++ get_or (parts_of xs ps) k [] ∷ []
-  added_same xs ps next k p low is two =
+  -- a part of a part
+  inside : (xs : List X) (p q : Part) (n : ℕ) → n + q.count ≤ p.count → q.from ≡ p.from + n → part_of xs q ≡ take q.count (drop n (part_of xs p))
+  inside xs p q n le from =
+      let sum : n + (p.count - n) ≡ p.count = omega (arith, le) in
+      let one : drop n (part_of xs p) ≡ take (p.count - n) (drop n (drop p.from xs)) =
+      ap (λ (k : ℕ). drop n (take k (drop p.from xs))) (sym sum) ∙ drop-take n (p.count - n) (drop p.from xs) in
+      rw from
+      (ap (take q.count) (sym (drop-drop n p.from xs))
+      ∙ sym (take-take q.count (p.count - n) (drop n (drop p.from xs)) (omega (arith, le)))
+      ∙ ap (take q.count) (sym one))
+
+  pub added_within : (xs : List X) (ps next : List Part) (k n m : ℕ) (p q : Part) → k < length ps → p ≡ get_or ps k p → q.count ≡ m → n + q.count ≤ p.count → q.from ≡ p.from + n → next ≡ ps ++ q ∷ []
+      → parts_of xs next ≡ parts_of xs ps ++ take m (drop n (get_or (parts_of xs ps) k [])) ∷ []
+  added_within xs ps next k n m p q low is count le from two =
       let at : get_or (parts_of xs ps) k [] ≡ part_of xs p = get_or-map (part_of xs) ps k p [] low ∙ ap (part_of xs) (sym is) in
-      rw (two, at) (map-append (part_of xs) ps (p ∷ []))
+      rw (← count, two, at) (map-append (part_of xs) ps (q ∷ []) ∙ ap (λ (y : List X). parts_of xs ps ++ y ∷ []) (inside xs p q n le from))
+
+  -- the part at a place
+  at_place : (xs : List X) (ps : List Part) (k : ℕ) → part_of xs (get_or ps k no_part) ≡ get_or (parts_of xs ps) k []
+  at_place xs [] k = refl
+  at_place xs (p ∷ ps) zero = refl
+  at_place xs (p ∷ ps) (suc k) = at_place xs ps k
+
+  pub chosen_parts : (xs : List X) (ps : List Part) (places : List ℕ) → parts_of xs (chosen ps places) ≡ map (λ p. get_or (parts_of xs ps) p []) places
+  chosen_parts xs ps [] = refl
+  chosen_parts xs ps (k ∷ ks) =
+      ap (λ (y : List X). y ∷ parts_of xs (chosen ps ks)) (at_place xs ps k) ∙ ap (λ (zs : List (List X)). get_or (parts_of xs ps) k [] ∷ zs) (chosen_parts xs ps ks)

@@ -1,5 +1,5 @@
 -- What segments over the same bytes share: whether their records pass, and what the file has of them.
-use Rattle.std.proofs.Common.{◌≡◌, ℕ, zero, suc, ◌+◌, ◌<◌, ◌≤◌, ◌&&◌, ◌||◌, ◌==◌, Bool, true, false, not, List, [], ◌∷◌, Some, get_or, length, map, Result, Ok, Err, refl, sym, ◌∙◌, arith, subst, take}
+use Rattle.std.proofs.Common.{◌≡◌, ℕ, zero, suc, ◌+◌, ◌<◌, ◌≤◌, ◌&&◌, ◌||◌, ◌==◌, Bool, true, false, not, List, [], ◌∷◌, get_or, length, Result, Ok, Err, refl, sym, ◌∙◌, arith, subst, take}
 use Rattle.std.specs.Prelude.{if◌then◌else◌, nat_le, replicate, OnOk}
 use Rattle.std.specs.List.{list_any}
 use Rattle.std.proofs.lemmas.Bool.{eqb-true}
@@ -15,15 +15,12 @@ use Rattle.o2_ne.proofs.Binding.{bind_ok}
 use Rattle.o2_ne_segs.specs.declared.reloc.Reloc.{Reloc}
 use Rattle.o2_ne_segs.specs.declared.segment.Segment.{Segment}
 use Rattle.o2_ne_segs.specs.Records.{counted, relocs_in}
-use Rattle.o2_ne_segs.specs.SegmentTable.{nth_segment}
 use Rattle.o2_image.specs.Alike.{Passes, is_alike}
 use Rattle.o2_image.specs.Chains.{Marks, Walk, any_patched, chain, chain_step, single}
 use Rattle.o2_image.specs.Faults.{under_seg}
-use Rattle.o2_image.specs.Getters.{nth_list}
 use Rattle.o2_image.specs.Records.{Checking, bytes_of, has_one_place, marks_after, record_step, segment_step}
 use Rattle.o2_image.specs.Targets.{has_target, is_fixup, is_source, width_of}
 use Rattle.o2_image.specs.Whole.{HasSegment}
-use Rattle.o2_image.proofs.Getting.{nth_list-map}
 
 -- what passes in the one passes in the other
 abbrev Same : {X F : Type 0} → Result X F → Result X F → Type 0
@@ -166,9 +163,6 @@ alike_has file earlier s whole any =
     let at = found (λ e. is_alike e s) earlier s any in
     has file (get_or earlier at.0 s) s (alike (get_or earlier at.0 s) s at.2) (whole at.0 s at.1)
 
-same_relocs : (file : List ℕ) (a b : Segment) → Alike a b → relocs_in file a ≡ relocs_in file b
-same_relocs file a b like = rw (like.first, like.second, like.at, like.len) refl
-
 -- what holds of those before index i, of the front that they make
 pub of_front : {X : Type 0} (P : X → Type 0) (xs : List X) (i : ℕ) → i ≤ length xs → ((k : ℕ) (d : X) → k < i → P (get_or xs k d))
     → (k : ℕ) (d : X) → k < length (take i xs) → P (get_or (take i xs) k d)
@@ -176,9 +170,3 @@ of_front P xs i le h k d lt =
     let len = length-take-le i xs le in
     let low : k < i = omega arith in
     subst P (sym (get_or-take i xs k d low)) (h k d low)
-
--- segments that are alike share their records
-pub shared_records : (file : List ℕ) (ss : List Segment) (m n : ℕ) (a b : Segment) → nth_segment m ss ≡ Some a → nth_segment n ss ≡ Some b → is_alike a b ≡ true
-    → nth_list (map (relocs_in file) ss) m ≡ nth_list (map (relocs_in file) ss) n
-shared_records file ss m n a b x y like =
-    nth_list-map (relocs_in file) ss m a x ∙ same_relocs file a b (alike a b like) ∙ sym (nth_list-map (relocs_in file) ss n b y)

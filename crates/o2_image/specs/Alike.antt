@@ -1,27 +1,16 @@
 -- Segments over the same bytes of the file, which have the same records, and lists that stand for several segments.
-use Rattle.std.specs.Prelude.{◌≡◌, ℕ, ◌+◌, ◌-◌, ◌<◌, ◌≤◌, ◌==◌, ◌&&◌, ◌++◌, Bool, false, List, Option, Some, None, drop, get_or, length, map, take, Ok}
+use Rattle.std.specs.Prelude.{◌≡◌, ℕ, ◌+◌, ◌-◌, ◌<◌, ◌≤◌, ◌==◌, ◌&&◌, ◌++◌, Bool, List, drop, get_or, length, map, take, Ok}
 use Rattle.o2_ne.specs.declared.head.Head.{Head}
 use Rattle.o2_ne.specs.declared.entries.Entry.{Entry}
 use Rattle.o2_ne_segs.specs.declared.segment.Segment.{Segment}
-use Rattle.o2_ne_segs.specs.SegmentTable.{nth_segment}
 use Rattle.o2_image.specs.declared.images.Kept.{Kept}
 use Rattle.o2_image.specs.declared.images.Kept.TheVariants.{Lists, Parts as Parted}
 use Rattle.o2_image.specs.declared.sharing.Part.{Part}
-use Rattle.o2_image.specs.Parts.{Parts}
 use Rattle.o2_image.specs.Records.{segment_step}
 
 -- both have records, and the same bytes before them
 abbrev pub is_alike : Segment → Segment → Bool
 is_alike a b = a.relocs && b.relocs && a.file_at == b.file_at && a.file_len == b.file_len
-
-abbrev pub are_alike : Option Segment → Option Segment → Bool
-are_alike None o = false
-are_alike (Some a) None = false
-are_alike (Some a) (Some b) = is_alike a b
-
--- the segments of these numbers share their records
-abbrev pub share_records : Parts → ℕ → ℕ → Bool
-share_records m a b = are_alike (nth_segment a m.segments) (nth_segment b m.segments)
 
 -- the records of a segment pass, whatever its number
 abbrev pub Passes : List ℕ → Head → List Entry → Segment → Type 0
@@ -33,6 +22,11 @@ pub record Precedes {X : Type 0} (n : ℕ) (xs ys : List X) : Type 0 where
   pub within : length xs ≤ n + length ys
   pub same : drop n xs ≡ take (length xs - n) ys
 
+-- the one list is a part of the other, from its item n on
+pub record HasPart {X : Type 0} (n : ℕ) (xs ys : List X) : Type 0 where
+  pub within : n + length ys ≤ length xs
+  pub same : ys ≡ take (length ys) (drop n xs)
+
 -- one list behind another, but for its first items
 abbrev pub behind : {X : Type 0} → List X → ℕ → List X → List X
 behind xs n ys = drop n xs ++ ys
@@ -43,6 +37,14 @@ part_of xs p = take p.count (drop p.from xs)
 
 abbrev pub parts_of : {X : Type 0} → List X → List Part → List (List X)
 parts_of xs ps = map (part_of xs) ps
+
+-- no item
+abbrev pub no_part : Part
+no_part = record { from = 0; count = 0 }
+
+-- the parts at these places
+abbrev pub chosen : List Part → List ℕ → List Part
+chosen ps places = map (λ p. get_or ps p no_part) places
 
 -- each part lies in a list of this length
 abbrev pub AreWithin : ℕ → List Part → Type 0

@@ -1,5 +1,5 @@
 -- Faults of the parts, as faults of a module.
-use Rattle.std.specs.Prelude.{◌≡◌, ℕ, List, Result, Ok, Err}
+use Rattle.std.specs.Prelude.{◌≡◌, Result, Ok, Err}
 use Rattle.o2_base.specs.declared.faults.NeFault.{NeFault}
 use Rattle.o2_base.specs.declared.faults.NeFault.TheVariants as ne
 use Rattle.o2_base.specs.declared.faults.SegFault.{SegFault}

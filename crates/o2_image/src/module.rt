@@ -8,7 +8,7 @@ ghost use Rattle.o2_ne.specs.Steps.{Gives};
 ghost use Rattle.o2_ne_segs.specs.declared.segment.Segment.{Segment};
 ghost use Rattle.o2_ne_segs.specs.Records.{end_of};
 ghost use Rattle.o2_ne_segs.specs.SegmentTable.{nth_segment, segments_of};
-ghost use Rattle.o2_image.specs.Alike.{share_records, Precedes};
+ghost use Rattle.o2_image.specs.Alike.{HasPart, Precedes};
 ghost use Rattle.o2_image.specs.Faults.{under_ne, under_seg};
 ghost use Rattle.o2_image.specs.Getters.{imported_name, is_library, nth, nth_list, nth_reloc, reloc_total};
 ghost use Rattle.o2_image.specs.Modules.{auto_data_checks, is_writable, module_of};
@@ -18,7 +18,7 @@ ghost use Rattle.o2_image.specs.Whole.{HasAutoData, HasReference, IsRunnable};
 use crate::faults::{of_ne, of_seg};
 use crate::records::{Scope, check_segments, reloc_count, reloc_in, total_relocs};
 use crate::references::{check_references, has_string, imported_place, reference_at, string_at};
-use crate::same_bytes::{is_alike, records_before};
+use crate::same_bytes::{records_before, records_within};
 use o2_base::{Bytes, Fail, ModuleFault, Which};
 use o2_ne::{Entries, Head, Names};
 use o2_ne_segs::{Kind, Reloc, SegTable, Segment};
@@ -284,21 +284,6 @@ impl Module {
         }
     }
 
-    /// Whether two segments share their records, since the file has both at the same place.
-    #[tactic(auto, using(crate::proofs::Uniform::shared_records))]
-    pub fn share_records(&self, a: u16, b: u16) -> bool
-        ensures value { result ≡ share_records self.now a b }
-        ensures same { IsTrue result → nth_list self.now.relocs a ≡ nth_list self.now.relocs b }
-    {
-        let Some(first) = self.segments.get(a) else {
-            return false;
-        };
-        let Some(second) = self.segments.get(b) else {
-            return false;
-        };
-        is_alike(&first, &second)
-    }
-
     /// How many records of a segment stand before those of another, where the last ones of the one are the first ones of the
     /// other, since the file has both at the same place.
     pub fn records_before(&self, a: u16, b: u16) -> Option<u16>
@@ -311,6 +296,20 @@ impl Module {
             return None;
         };
         records_before(self.names.file().as_slice(), &first, &second)
+    }
+
+    /// How many records of a segment stand before those of another, where it has all of these, since the file has both at the
+    /// same place.
+    pub fn records_within(&self, a: u16, b: u16) -> Option<u16>
+        ensures { IfSome result (λ n. HasPart n (nth_list self.now.relocs a) (nth_list self.now.relocs b)) }
+    {
+        let Some(first) = self.segments.get(a) else {
+            return None;
+        };
+        let Some(second) = self.segments.get(b) else {
+            return None;
+        };
+        records_within(self.names.file().as_slice(), &first, &second)
     }
 
     /// How many records all segments have together.

@@ -1,6 +1,6 @@
 // Targets gathered segment by segment, where segments share records of the file.
-ghost use Rattle.std.specs.Prelude.{◌≡◌, ◌≤◌, ◌<◌, ◌+◌, ◌++◌, ◌∷◌, [], ℕ, drop, get_or, length, OnOk, IfOk, if◌then◌else◌};
-ghost use Rattle.o2_image.specs.Alike.{behind};
+ghost use Rattle.std.specs.Prelude.{◌≡◌, ◌≤◌, ◌<◌, ◌+◌, ◌++◌, ◌∷◌, [], ℕ, drop, get_or, length, map, take, OnOk, IfOk, if◌then◌else◌};
+ghost use Rattle.o2_image.specs.Alike.{behind, chosen, no_part};
 
 use crate::images::Resolved;
 use o2_base::NoMemory;
@@ -12,6 +12,27 @@ use std::marker::Model;
 pub(crate) struct Part {
     pub(crate) from: usize,
     pub(crate) count: usize,
+}
+
+// The part at a place, none past the last.
+fn part_or_none(parts: &[Part], place: u16) -> Part
+    ensures { result ≡ get_or parts.now place no_part }
+{
+    match parts.get(usize::from(place)) {
+        Some(part) => *part,
+        None => Part { from: 0, count: 0 },
+    }
+}
+
+// The parts at these places.
+fn chosen(alloc: Global, parts: &[Part], places: &[u16]) -> Result<Vec<Part>, NoMemory>
+    ensures { IfOk result (λ v. v.items ≡ chosen parts.now places.now) }
+{
+    let mut found = Vec::with_capacity(alloc, places.len())?;
+    for i in 0..places.len() {
+        found.push(part_or_none(parts, places[i]))?;
+    }
+    Ok(found)
 }
 
 /// The targets of a module's records so far, by segment and number from 0. Those that segments share are held once.
@@ -58,13 +79,18 @@ impl SharedTargets {
         Ok(())
     }
 
-    /// The next segment has the targets of an earlier one, by its number from 0.
-    pub fn add_same(&mut self, earlier: u16) -> Result<(), NoMemory>
-        requires { earlier < length self.old }
-        ensures { OnOk result (self.new ≡ self.old ++ get_or self.old earlier [] ∷ []) }
+    /// The next segment has so many of the targets of an earlier one, by its number from 0, behind the first `skip`.
+    pub fn add_within(&mut self, earlier: u16, skip: u16, count: u16) -> Result<(), NoMemory>
+        requires earlier { earlier < length self.old }
+        requires within { skip + count ≤ length (get_or self.old earlier []) }
+        ensures { OnOk result (self.new ≡ self.old ++ take count (drop skip (get_or self.old earlier [])) ∷ []) }
     {
-        let same = self.parts[usize::from(earlier)];
-        self.parts.push(same)?;
+        let part = self.parts[usize::from(earlier)];
+        let next = Part {
+            from: part.from + usize::from(skip),
+            count: usize::from(count),
+        };
+        self.parts.push(next)?;
         Ok(())
     }
 
@@ -102,5 +128,16 @@ impl SharedTargets {
         let SharedTargets { mut targets, parts } = self;
         targets.shrink_to_fit();
         Resolved::of_parts(targets, parts)
+    }
+
+    /// The lists at these places from 0, in the order of the places. There is none past the last.
+    #[tactic(auto, using(crate::proofs::PartLists::chosen_parts))]
+    pub fn finish_in(self, alloc: Global, places: &[u16]) -> Result<Resolved, NoMemory>
+        ensures { IfOk result (λ r. r ≡ map (λ p. get_or self p []) places.now) }
+    {
+        let SharedTargets { mut targets, parts } = self;
+        targets.shrink_to_fit();
+        let found = chosen(alloc, parts.as_slice(), places)?;
+        Ok(Resolved::of_parts(targets, found))
     }
 }

@@ -321,20 +321,24 @@ fn segments_may_share_records(rt: HostRuntime) {
     assert!(rt; matches!(module.records_before(1, 2), Some(2)));
     assert!(rt; module.records_before(2, 1).is_none());
     assert!(rt; module.records_before(1, 3).is_none());
+    assert!(rt; matches!(module.records_within(1, 1), Some(0)));
+    assert!(rt; module.records_within(1, 2).is_none());
 }
 
-// Three targets of a segment, the last of which are the first of the next; those of a third can't follow the first one's.
+// Three targets of a segment, which the next one has too. The last of these are the first of a third, whose second is all that a fourth
+// has; those of a fifth can't follow the first one's. The first, the fourth and the third are kept.
 fn shared(alloc: Global) -> Result<Option<Resolved>, NoMemory> {
     let mut found = SharedTargets::new(alloc);
     found.add(vec![in alloc; (7, 1), (7, 2), (7, 3)]?)?;
-    found.add_same(0)?;
+    found.add_within(0, 0, 3)?;
     if !found.add_behind(1, 1, vec![in alloc; (7, 4)]?)? {
         return Ok(None);
     }
     if found.add_behind(0, 1, vec![in alloc; (7, 5)]?)? {
         return Ok(None);
     }
-    Ok(Some(found.finish()))
+    found.add_within(2, 1, 1)?;
+    Ok(Some(found.finish_in(alloc, &[0, 3, 2])?))
 }
 
 fn is_target(found: Option<(u16, u16)>, offset: u16) -> bool {
@@ -349,7 +353,7 @@ fn targets_are_held_once(rt: HostRuntime) -> Result<(), Fail> {
     let Some(targets) = shared(rt.alloc())? else {
         panic!(rt; "not shared");
     };
-    for (segment, first, count) in [(1u16, 1u16, 3u16), (2, 1, 3), (3, 2, 3), (4, 0, 0)] {
+    for (segment, first, count) in [(1u16, 1u16, 3u16), (2, 3, 1), (3, 2, 3), (4, 0, 0)] {
         for k in 0..count {
             assert!(rt;
                 is_target(targets.get(segment, k), first + k),
