@@ -13,6 +13,8 @@ KIND is one of
   astride    SIZE segments, the bytes and the records of each 16 bytes behind those of the one before it in the file, so that
              they meet and no two have the same: some 59,000 imports by name each
   apart      the same segments, each before those that lie before it in the file
+  fixups     56 segments whose records, all of them system fixups, lie at each place of the file but every eighth: the most records
+             that a file can have
   program    a program of SIZE segments that share 65,535 records, each to the program itself
 NUMBER makes the module's name another one, so that up to 64 of them can be listed together.
 """
@@ -92,6 +94,31 @@ def build(own, names, imported, records, segments, twice=False, program=False, s
     return bytes(file)
 
 
+def fixups(own):
+    """A library of eight groups of segments. The records of a group begin at places 7 to 1 of eight bytes, so that each byte of the file is
+    the source of one, the kind of another, and part of five more. A group ends before the next begins, so that no record meets the word
+    with their number."""
+    count = 0xFF03
+    groups = 8
+    rows = 7 * groups
+    head = build(own, [], [own], [], rows)
+    begin = (len(head) - 65538 + 1023) // 64 * 64
+    file = bytearray(head[:begin - 512] + b"\3" * (MOST - begin + 512))
+    table = NE + 64
+    place = begin
+    for group in range(groups):
+        for row in range(7):
+            first = place + 7 * (row + 1)
+            at = (first - 3) // 64
+            length = first - 2 - 64 * at
+            flags = 0x100
+            struct.pack_into("<HHHH", file, table + 8 * (7 * group + row), at, length, flags, length)
+            struct.pack_into("<H", file, first - 2, count)
+        place += 56 + 8 * count
+    struct.pack_into("<H", file, NE + 50, 6)
+    return bytes(file)
+
+
 def record(kind, place, second):
     """An import of the first reference that patches one byte."""
     return struct.pack("<BBHHH", 0, kind, place, 1, second)
@@ -118,6 +145,8 @@ def make(kind, size, number):
     if kind == "ordinals":
         own = b"%02d" % number + b"L" * 253
         return build(own, [], [own], [record(1, place, 1) for place in range(65535)], size)
+    if kind == "fixups":
+        return fixups(own)
     names = [three(n) for n in range(14_800 if kind in ("astride", "apart") else 8000)]
     random.Random(24).shuffle(names)
     starts = [1 + len(own) + 4 * k for k in range(len(names))]
@@ -131,7 +160,7 @@ def make(kind, size, number):
 
 DEFAULT = {
     "names": 590_000, "twice": 1_000_000, "twin": 1_000_000, "fronts": 270_000, "ordinals": 254, "shared": 254, "astride": 254,
-    "apart": 254, "program": 254,
+    "apart": 254, "fixups": 56, "program": 254,
 }
 
 
