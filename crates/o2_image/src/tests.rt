@@ -325,19 +325,19 @@ fn segments_may_share_records(rt: HostRuntime) {
     assert!(rt; module.records_within(1, 2).is_none());
 }
 
-// Three targets of a segment, which the next one has too. The last of these are the first of a third, whose second is all that a fourth
-// has; those of a fifth can't follow the first one's. The first, the fourth and the third are kept.
+// Three targets of a segment, which the next one has too; a third has the last of them. A fourth has those of the second from its
+// second one on, and one more; those of a fifth can't follow the first one's. The first, the fourth and the third are kept.
 fn shared(alloc: Global) -> Result<Option<Resolved>, NoMemory> {
     let mut found = SharedTargets::new(alloc);
     found.add(vec![in alloc; (7, 1), (7, 2), (7, 3)]?)?;
     found.add_within(0, 0, 3)?;
+    found.add_within(0, 2, 1)?;
     if !found.add_behind(1, 1, vec![in alloc; (7, 4)]?)? {
         return Ok(None);
     }
     if found.add_behind(0, 1, vec![in alloc; (7, 5)]?)? {
         return Ok(None);
     }
-    found.add_within(2, 1, 1)?;
     Ok(Some(found.finish_in(alloc, &[0, 3, 2])?))
 }
 
@@ -353,7 +353,7 @@ fn targets_are_held_once(rt: HostRuntime) -> Result<(), Fail> {
     let Some(targets) = shared(rt.alloc())? else {
         panic!(rt; "not shared");
     };
-    for (segment, first, count) in [(1u16, 1u16, 3u16), (2, 3, 1), (3, 2, 3), (4, 0, 0)] {
+    for (segment, first, count) in [(1u16, 1u16, 3u16), (2, 2, 3), (3, 3, 1), (4, 0, 0)] {
         for k in 0..count {
             assert!(rt;
                 is_target(targets.get(segment, k), first + k),
