@@ -1,9 +1,10 @@
 // Times the calls that its arguments name, each by one line: the name, how many were done, and milliseconds.
 //
-// The names are `decode`, `loop`, `moves`, `sums`, `calls` and `strings`; `tables`, `lowest`, `runs`, `grants`, `walks` and
-// `holders` of who holds which index; and `swaps`, `halves` and `copies` of segments that leave the memory. Those of the
-// readers, `check`, `fill` and `names`, and of the parts of a memory, `fit`, `victim`, `slide` and `blocks`, have a size of at
-// most 65,535, as in `fit=65535`; it is 1,000 where it is missing. Without arguments it prints nothing.
+// The names are `decode`; `loop`, `moves`, `sums`, `calls` and `strings` of steps over one bus of a plain memory, which with
+// `-each` behind them have a bus for each step, and with `-store` or `-store-each` run over a store; `tables`, `lowest`, `runs`,
+// `grants`, `walks` and `holders` of who holds which index; and `swaps`, `halves` and `copies` of segments that leave the memory.
+// Those of the readers, `check`, `fill` and `names`, and of the parts of a memory, `fit`, `victim`, `slide` and `blocks`, have a
+// size of at most 65,535, as in `fit=65535`; it is 1,000 where it is missing. Without arguments it prints nothing.
 #![tactic(auto)]
 
 mod decoding;
@@ -12,6 +13,7 @@ mod readers;
 mod regions;
 mod stepping;
 mod store;
+mod stored;
 
 use decoding::decode_many;
 use memory::{fit_many, list_many, slide_many, victim_many};
@@ -19,8 +21,9 @@ use readers::{check_many, fill_many, name_many};
 use regions::{grant_many, holder_many, lowest_many, make_many, walk_many};
 use std::time::Instant;
 use std::{env, io};
-use stepping::{CALLS, LOOP, MOVES, STRINGS, SUMS, step_many};
+use stepping::{CALLS, LOOP, MOVES, STRINGS, SUMS, step_each, step_many};
 use store::{copy_many, swap_many};
+use stored::{store_each, store_many};
 
 const STEPS: u64 = 3_000_000;
 
@@ -28,14 +31,29 @@ const ROUNDS: u64 = 300_000;
 
 /// What the name stands for, done many times; 0 for another name, and where there is no memory.
 fn measure(rt: &HostRuntime, name: &str) -> u64 {
-    let done = match name {
-        "decode" => return decode_many(ROUNDS),
-        "loop" => step_many(rt.alloc(), &LOOP, STEPS),
-        "moves" => step_many(rt.alloc(), &MOVES, STEPS),
-        "sums" => step_many(rt.alloc(), &SUMS, STEPS),
-        "calls" => step_many(rt.alloc(), &CALLS, STEPS),
-        "strings" => step_many(rt.alloc(), &STRINGS, STEPS),
-        _ => return measure_regions(rt, name),
+    let (first, over) = match name.split_once('-') {
+        Some(pair) => pair,
+        None => (name, ""),
+    };
+    match first {
+        "decode" => decode_many(ROUNDS),
+        "loop" => measure_steps(rt, &LOOP, over),
+        "moves" => measure_steps(rt, &MOVES, over),
+        "sums" => measure_steps(rt, &SUMS, over),
+        "calls" => measure_steps(rt, &CALLS, over),
+        "strings" => measure_steps(rt, &STRINGS, over),
+        _ => measure_regions(rt, name),
+    }
+}
+
+/// Steps of this code, over the memory that is named.
+fn measure_steps(rt: &HostRuntime, code: &[u8], over: &str) -> u64 {
+    let done = match over {
+        "" => step_many(rt.alloc(), code, STEPS),
+        "each" => step_each(rt.alloc(), code, STEPS),
+        "store" => store_many(rt.alloc(), code, STEPS),
+        "store-each" => store_each(rt.alloc(), code, STEPS),
+        _ => return 0,
     };
     match done {
         Ok(done) => done,

@@ -1,8 +1,9 @@
 // Steps over a plain memory.
 ghost use Rattle.std.specs.Prelude.{◌<◌, ◌≤◌, length};
 
+use bus_rows::count_done;
 use o2_bus::{Cpu, NoMemory, Outcome, Plain};
-use o2_core::step_one;
+use o2_core::step_plain;
 use o2_desc::Access;
 use std::alloc::Global;
 
@@ -58,7 +59,8 @@ pub static STRINGS: [u8; 13] = [
     0xEB, 0xF3, // JMP to the first
 ];
 
-fn start() -> Cpu {
+/// Code at 000F, data at 0017 and a stack at 001F, of which all is free.
+pub fn start() -> Cpu {
     Cpu {
         ax: 0,
         cx: 0,
@@ -107,14 +109,21 @@ fn memory(alloc: Global, code: &[u8]) -> Result<Plain, NoMemory> {
     Ok(plain)
 }
 
-/// So many steps of this code; the answer is how many were done.
+/// So many steps of this code over one bus; the answer is how many were done.
 pub fn step_many(alloc: Global, code: &[u8], steps: u64) -> Result<u64, NoMemory> {
     let mut plain = memory(alloc, code)?;
     let mut cpu = start();
     let mut bus = plain.bus(1, &cpu);
+    Ok(count_done(&mut cpu, &mut bus, steps))
+}
+
+/// The same with a bus for each step.
+pub fn step_each(alloc: Global, code: &[u8], steps: u64) -> Result<u64, NoMemory> {
+    let mut plain = memory(alloc, code)?;
+    let mut cpu = start();
     let mut done = 0u64;
     for _ in 0..steps {
-        match step_one(&mut cpu, &mut bus) {
+        match step_plain(&mut plain, 1, &mut cpu) {
             Outcome::Done => done = done.wrapping_add(1),
             _ => {}
         }
