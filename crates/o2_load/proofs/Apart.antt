@@ -27,7 +27,7 @@ library_base used m is = ap (λ (t : Bool). cond t (4095 + used) 0) is
 library_shared : (used : ℕ) (m : Parts) → is_library m ≡ true → shared_after used m ≡ used + length m.segments
 library_shared used m is = ap (λ (t : Bool). cond t (used + length m.segments) used) is
 
-used_grows : (used : ℕ) (m : Parts) → used ≤ shared_after used m
+pub used_grows : (used : ℕ) (m : Parts) → used ≤ shared_after used m
 used_grows used m = go (is_library m)
   where
     go : (t : Bool) → used ≤ cond t (used + length m.segments) used

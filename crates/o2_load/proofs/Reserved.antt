@@ -17,10 +17,10 @@ use Rattle.o2_load.specs.Loads.{index_at, library_range, ranges_from, library_ra
 use Rattle.o2_load.proofs.Fits.{index_there, linked_modules}
 
 -- an index is reserved by a range
-abbrev is_in : ℕ → ℕ × ℕ → Bool
+abbrev pub is_in : ℕ → ℕ × ℕ → Bool
 is_in i r = is_for_the_run i (for_the_run r)
 
-any_map : (i : ℕ) (rs : List (ℕ × ℕ)) → list_any (is_for_the_run i) (map for_the_run rs) ≡ list_any (is_in i) rs
+pub any_map : (i : ℕ) (rs : List (ℕ × ℕ)) → list_any (is_for_the_run i) (map for_the_run rs) ≡ list_any (is_in i) rs
 any_map i [] = refl
 any_map i (r ∷ rs) = ap (λ (b : Bool). is_in i r || b) (any_map i rs)
 

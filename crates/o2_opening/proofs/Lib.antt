@@ -1,0 +1,11 @@
+pub mod Clearing
+pub mod Loads
+pub mod Mapped
+pub mod Holding
+pub mod Stores
+pub mod Adding
+pub mod Libraries
+pub mod Openings
+pub mod Preparing
+pub mod Outcomes
+pub mod Worlds

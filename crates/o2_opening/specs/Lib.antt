@@ -1,0 +1,4 @@
+pub mod Loads
+pub mod Libraries
+pub mod Starting
+pub mod Openings
