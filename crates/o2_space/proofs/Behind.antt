@@ -1,7 +1,6 @@
 -- Where a space stands for a world, what a step in the store left stands for that world with the bytes of the effect.
-use Rattle.std.proofs.Common.{◌≡◌, ℕ, ◌<◌, Bool, true, List, length, map, get_or, Option, Some, None, ap, sym, ◌∙◌, refl, subst, arith, option_map}
+use Rattle.std.proofs.Common.{◌≡◌, ℕ, List, length, get_or, Option, Some, None, ap, sym, ◌∙◌, refl, subst, arith, option_map}
 use Rattle.std.specs.Prelude.{Result, Ok, Err, min}
-use Rattle.std.specs.List.{range_with_len}
 use Rattle.std.proofs.lemmas.List.FromFn.{get_or-map-range_with_len, length-map-range_with_len}
 use Rattle.o2_entries.specs.declared.Attr.{Attr}
 use Rattle.o2_isa.specs.declared.cpu.Cpu.{Cpu}
@@ -13,7 +12,7 @@ use Rattle.o2_store.specs.Shelf.{Shelf, byte_at, entry}
 use Rattle.o2_run.specs.declared.fault.Fault.{Fault}
 use Rattle.o2_run.specs.declared.fault.Fault.TheVariants as fault
 use Rattle.o2_run.specs.declared.steps.Stop.TheVariants as stop
-use Rattle.o2_world.specs.Map.{Map, get}
+use Rattle.o2_world.specs.Map.{get}
 use Rattle.o2_world.specs.World.{Segment, Setting, World}
 use Rattle.o2_world.specs.Views.{bytes_in, segment_bytes, with_bytes}
 use Rattle.o2_world.specs.Calls.{Before, Effect}
@@ -22,7 +21,7 @@ use Rattle.o2_world.proofs.MapLemmas.{get-map}
 use Rattle.o2_stands.specs.Parts.{Parts}
 use Rattle.o2_stands.specs.Stands.{AreLawful, IsNamed, IsReady, IsSegment, IsSetTo, Stands, StandsIn}
 use Rattle.o2_stands.proofs.Moves.{SameFor, same_keys, stands_as, tidy_written}
-use Rattle.o2_stepping.specs.Ran.{IsDone, IsInPart, IsStill}
+use Rattle.o2_stepping.specs.Ran.{IsDone, IsStill}
 use Rattle.o2_stepping.specs.Shapes.{SameShape}
 use Rattle.o2_stepping.specs.Taken.{Takes, TakesFault}
 use Rattle.o2_stepping.specs.Worlds.{away_of, bytes_with}
@@ -137,7 +136,7 @@ module _ (p : Parts) (t : Shelf) (n : Maps) (device : ℕ) (block : ℕ → List
     still cpu before i j c d r u x = record { stands = stays x.bytes; input = x.input; to_console = x.to_console; to_report = x.to_report }
 
     faults : (b : Before) (cpu : Cpu) (i j c d r u : Option (List ℕ)) (f : Fault) → TakesFault b (effect b) cpu old new i j c d r u f → ActsFault b w q i j c d r u f
-    faults b cpu i j c d r u fault.Sink x = record { stands = stays x.bytes; input = x.input; to_console = x.to_console; to_report = x.to_report; in_order = x.in_order }
+    faults b cpu i j c d r u fault.Sink x = record { stands = stays x.bytes; input = x.input; to_console = x.to_console; to_report = x.to_report; in_order = x.in_order; selectors = x.selectors }
     faults b cpu i j c d r u (fault.Stopped stop.Input) x = record { cause = x.cause; still = still cpu b.cpu i j c d r u x.still }
     faults b cpu i j c d r u (fault.Stopped stop.NoRoom) x = still cpu b.cpu i j c d r u x
     faults b cpu i j c d r u (fault.Stopped stop.SwapFull) x = still cpu b.cpu i j c d r u x

@@ -11,13 +11,12 @@ use Rattle.o2_store.specs.Shelf.{Shelf}
 use Rattle.o2_world.specs.Changes.{used}
 use Rattle.o2_world.specs.Calls.{Effect}
 use Rattle.o2_world.specs.Holders.{kept, process_at, with_process}
-use Rattle.o2_world.specs.Run.{process_after}
 use Rattle.o2_world.specs.Views.{with_bytes}
 use Rattle.o2_world.specs.World.{Process, Setting, World, is_live}
 use Rattle.o2_world.specs.declared.types.State.{State}
 use Rattle.o2_world.proofs.Keeps.{at_other}
 use Rattle.o2_stands.specs.Parts.{Parts, Running, goes_on, running_of}
-use Rattle.o2_stands.specs.Stands.{AreMarked, IsReady, IsSetTo, Stands, StandsIn}
+use Rattle.o2_stands.specs.Stands.{AreMarked, IsSetTo, StandsIn}
 use Rattle.o2_stands.specs.Moves.{stepped_to, with_running}
 use Rattle.o2_stands.proofs.Running.{goes_on_stands}
 use Rattle.o2_ends.specs.Ended.{StandsBehind}

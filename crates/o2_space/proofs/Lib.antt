@@ -3,3 +3,4 @@ pub mod Sights
 pub mod Behind
 pub mod Commits
 pub mod Rooms
+pub mod Nexting

@@ -1,13 +1,12 @@
 -- What a process of the world sees is what its step in the store starts from.
-use Rattle.std.proofs.Common.{◌≡◌, ℕ, Bool, List, Option, Some, None, ap, sym, ◌∙◌, refl, cond}
+use Rattle.std.proofs.Common.{◌≡◌, ℕ, List, Option, Some, None, ap, sym, ◌∙◌, refl, cond}
 use Rattle.o2_isa.specs.declared.cpu.Cpu.{Cpu}
 use Rattle.o2_isa.specs.View.{View, Filling, Hidden, no_hidden, no_rest}
 use Rattle.o2_segbus.specs.Seen.{bytes_in as bytes_there, key_of, present_in, seen_with}
 use Rattle.o2_world.specs.Holders.{process_at}
-use Rattle.o2_world.specs.Known.{Known, known_of}
+use Rattle.o2_world.specs.Known.{known_of}
 use Rattle.o2_world.specs.Views.{bytes_in, view_of}
 use Rattle.o2_world.specs.World.{Process, Setting, World}
-use Rattle.o2_world.specs.Calls.{Before}
 use Rattle.o2_world.specs.Run.{before}
 use Rattle.o2_stands.specs.Parts.{Parts, away_in, away_under}
 use Rattle.o2_stands.specs.Stands.{AreLawful, Stands}

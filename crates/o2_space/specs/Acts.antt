@@ -1,6 +1,8 @@
 -- What one step of a process does to the machine and to both sinks, by its answer, for the effect that it has in the world.
 use Rattle.std.specs.Prelude.{◌≡◌, ◌⊎◌, ℕ, false, List, Option, Some, Result, Ok, Err}
 use Rattle.o2_outer.specs.Texts.{Gains, GainsSome, IsPrefix}
+use Rattle.o2_isa.specs.declared.cpu.Cpu.{Cpu}
+use Rattle.o2_isa.specs.Presence.{SameSelectors}
 use Rattle.o2_world.specs.World.{Process, World, is_live}
 use Rattle.o2_world.specs.Text.{lines_text}
 use Rattle.o2_world.specs.Calls.{Before, Effect}
@@ -27,14 +29,15 @@ pub record ActsAll (w : World) (number : ℕ) (x : Process) (e : Effect) (ran : 
   pub to_report : TakesText ran.whole report_old report_new (lines_text e.lines)
 
 -- a sink failed: the machine stands for the same world, the input is as before or as the effect leaves it, and both texts are
--- fronts, the report's only behind the whole piece
-pub record ActsInPart (w : World) (e : Effect) (p : Parts)
+-- fronts, the report's only behind the whole piece; the effect leaves the segment registers as they were
+pub record ActsInPart (w : World) (e : Effect) (before : Cpu) (p : Parts)
     (left_old left_new console_old console_new report_old report_new : Option (List ℕ)) : Type 0 where
   pub stands : Stands p w
   pub input : (left_new ≡ left_old) ⊎ (left_new ≡ Some e.input)
   pub to_console : GainsSome console_old console_new (λ front. IsPrefix front e.piece)
   pub to_report : GainsSome report_old report_new (λ front. IsPrefix front (lines_text e.lines))
   pub in_order : (report_new ≡ report_old) ⊎ Gains console_old console_new e.piece
+  pub selectors : SameSelectors e.cpu before
 
 -- no step is made: the machine stands for the same world, and nothing is taken or put
 pub record Stays (w : World) (p : Parts) (left_old left_new console_old console_new report_old report_new : Option (List ℕ)) : Type 0 where
@@ -50,7 +53,7 @@ pub record StaysUnread (b : Before) (w : World) (p : Parts)
   pub still : Stays w p left_old left_new console_old console_new report_old report_new
 
 abbrev pub ActsFault : Before → World → Parts → (left_old left_new console_old console_new report_old report_new : Option (List ℕ)) → Fault → Type 0
-ActsFault b w p i j c d r q fault.Sink = ActsInPart w (effect b) p i j c d r q
+ActsFault b w p i j c d r q fault.Sink = ActsInPart w (effect b) b.cpu p i j c d r q
 ActsFault b w p i j c d r q (fault.Stopped stop.Input) = StaysUnread b w p i j c d r q
 ActsFault b w p i j c d r q (fault.Stopped stop.NoRoom) = Stays w p i j c d r q
 ActsFault b w p i j c d r q (fault.Stopped stop.SwapFull) = Stays w p i j c d r q

@@ -2,3 +2,4 @@ pub mod Parts
 pub mod Stands
 pub mod Acts
 pub mod Between
+pub mod Nexts

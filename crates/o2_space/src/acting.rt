@@ -13,15 +13,18 @@ ghost use Rattle.o2_world.specs.Calls.{Effect};
 ghost use Rattle.o2_world.specs.Effect.{effect};
 ghost use Rattle.o2_world.specs.Holders.{process_at};
 ghost use Rattle.o2_world.specs.Known.{known_of};
-ghost use Rattle.o2_world.specs.Run.{before};
+ghost use Rattle.o2_world.specs.Run.{before, next_dispatch};
 ghost use Rattle.o2_world.specs.Views.{with_bytes};
 ghost use Rattle.o2_world.specs.World.{Process, Setting, World, is_live as lives_on};
 ghost use Rattle.o2_gate.specs.Befores.{IsKnown};
 ghost use Rattle.o2_stands.specs.Stands.{IsSetTo, Stands, StandsIn};
+ghost use Rattle.o2_run.specs.Pieces.{PartHands, counts};
+ghost use Rattle.o2_stepping.specs.Pieces.{RanHands};
 ghost use Rattle.o2_stepping.specs.Rooms.{all_names, needed_names, room_in};
-ghost use Rattle.o2_stepping.specs.Taken.{OnDone, OnNoStep, OnSwapStop, TakenFor};
+ghost use Rattle.o2_stepping.specs.Taken.{OnDone, OnNoStep, OnSink, OnSwapStop, TakenFor};
 ghost use Rattle.o2_space.specs.Acts.{Acts};
 ghost use Rattle.o2_space.specs.Between.{Steps};
+ghost use Rattle.o2_space.specs.Nexts.{SaysRoom};
 ghost use Rattle.o2_space.specs.Parts.{parts_in};
 ghost use Rattle.o2_space.specs.Stands.{GoTogether, StandsAfter};
 
@@ -50,12 +53,16 @@ impl Space {
         requires held { IsHeldWell self.old.store self.old.regions }
         requires settled { IsSettled self.old.store self.old.regions }
         ensures stands { (device : ℕ) (block : ℕ → List ℕ) (w : World) (x : Process) (e : Effect)
-            → StandsIn (parts_in self.old device block) w.processes (with_bytes w.names e.bytes) w.next_name w.reserved
-            → process_at w.processes pid ≡ Some x → lives_on x.state ≡ true → cpu.now ≡ e.cpu → e.state ≡ state
+            → StandsIn (parts_in self.old device block)
+            w.processes (with_bytes w.names e.bytes) w.next_name w.reserved
+            → process_at w.processes pid ≡ Some x → lives_on x.state ≡ true
+            → cpu.now ≡ e.cpu → e.state ≡ state
             → StandsAfter w pid x e (parts_in self.new device block) }
-        ensures together { (device : ℕ) → lives self.old.ends pid ≡ true → GoTogether self.old device → GoTogether self.new device }
+        ensures together { (device : ℕ) → lives self.old.ends pid ≡ true
+            → GoTogether self.old device → GoTogether self.new device }
         ensures set { (device : ℕ) (block : ℕ → List ℕ) (s : Setting)
-            → IsSetTo (parts_in self.old device block) s → IsSetTo (parts_in self.new device block) s }
+            → IsSetTo (parts_in self.old device block) s
+            → IsSetTo (parts_in self.new device block) s }
         ensures count { length self.new.procs.items ≡ length self.old.procs.items }
         ensures processes { self.new.regions.processes ≡ self.old.regions.processes }
         ensures avail { self.new.services.avail ≡ self.old.services.avail }
@@ -82,38 +89,72 @@ impl Space {
             → Stands (parts_in self.old (S.blocks swap.old) (S.block swap.old)) w
             → process_at w.processes pid ≡ Some x → cpu.old ≡ x.cpu
             → I.left input.old ≡ Some w.input → IsKnown (known_of s w) self.old.services
-            → Steps (before s w pid x) w cpu.new (parts_in self.new (S.blocks swap.new) (S.block swap.new))
-            (I.left input.old) (I.left input.new) (C.taken console.old) (C.taken console.new) (R.taken report.old) (R.taken report.new) result }
-        ensures still { OnNoStep result ((input.new ≡ input.old) × (console.new ≡ console.old) × (report.new ≡ report.old)) }
+            → Steps (before s w pid x) w cpu.new
+            (parts_in self.new (S.blocks swap.new) (S.block swap.new))
+            (I.left input.old) (I.left input.new) (C.taken console.old) (C.taken console.new)
+            (R.taken report.old) (R.taken report.new) result }
+        ensures still { OnNoStep result
+            ((input.new ≡ input.old) × (console.new ≡ console.old) × (report.new ≡ report.old)) }
         ensures room { (s : Setting) (w : World) (x : Process) → IsTrue (S.told swap.old)
             → Stands (parts_in self.old (S.blocks swap.old) (S.block swap.old)) w
             → process_at w.processes pid ≡ Some x → cpu.old ≡ x.cpu
             → I.left input.old ≡ Some w.input → IsKnown (known_of s w) self.old.services
             → let b = before s w pid x in
-            OnDone result (room_in self.old.store (all_names b (bound_registers (hold_in self.old.regions pid) (effect b).cpu))
+            OnDone result (room_in self.old.store
+            (all_names b (bound_registers (hold_in self.old.regions pid) (effect b).cpu))
+            ≤ self.old.store.places.size) }
+        ensures room_in_part { (s : Setting) (w : World) (x : Process) → IsTrue (S.told swap.old)
+            → Stands (parts_in self.old (S.blocks swap.old) (S.block swap.old)) w
+            → process_at w.processes pid ≡ Some x → cpu.old ≡ x.cpu
+            → I.left input.old ≡ Some w.input → IsKnown (known_of s w) self.old.services
+            → let b = before s w pid x in
+            OnSink result (room_in self.old.store
+            (all_names b (bound_registers (hold_in self.old.regions pid) b.cpu))
             ≤ self.old.store.places.size) }
         ensures no_room { (s : Setting) (w : World) (x : Process) → IsTrue (S.told swap.old)
             → Stands (parts_in self.old (S.blocks swap.old) (S.block swap.old)) w
             → process_at w.processes pid ≡ Some x → cpu.old ≡ x.cpu
-            → OnSwapStop result (self.old.store.places.size < room_in self.old.store (needed_names (before s w pid x))) (Unit {0}) (Unit {0}) }
+            → OnSwapStop result (self.old.store.places.size
+            < room_in self.old.store (needed_names (before s w pid x))) (Unit {0}) (Unit {0}) }
         ensures swap_stops { OnSwapStop result (Unit {0})
-            ((all_of self.old.store.swap < swap_load self.old.store) × (self.old.store.places.size < live_load self.old.store))
+            ((all_of self.old.store.swap < swap_load self.old.store)
+            × (self.old.store.places.size < live_load self.old.store))
             (Rose (S.faults swap.old) (S.faults swap.new)) }
+        ensures next_room { (s : Setting) (w : World) (x : Process) → IsTrue (S.told swap.old)
+            → Stands (parts_in self.old (S.blocks swap.old) (S.block swap.old)) w
+            → IsSetTo (parts_in self.old (S.blocks swap.old) (S.block swap.old)) s
+            → (next_dispatch s w).current ≡ pid
+            → process_at w.processes pid ≡ Some x → cpu.old ≡ x.cpu
+            → I.left input.old ≡ Some w.input → IsKnown (known_of s w) self.old.services
+            → SaysRoom (S.blocks swap.old) s w result }
         ensures together { GoTogether self.new (S.blocks swap.new) }
-        ensures set { (s : Setting) → IsSetTo (parts_in self.old (S.blocks swap.old) (S.block swap.old)) s
+        ensures set { (s : Setting)
+            → IsSetTo (parts_in self.old (S.blocks swap.old) (S.block swap.old)) s
             → IsSetTo (parts_in self.new (S.blocks swap.new) (S.block swap.new)) s }
         ensures procs { self.new.procs ≡ self.old.procs }
         ensures ends { self.new.ends ≡ self.old.ends }
         ensures processes { self.new.regions.processes ≡ self.old.regions.processes }
         ensures most { self.new.regions.processes ≤ 64 }
         ensures avail { self.new.services.avail ≡ self.old.services.avail }
-        ensures device { (S.blocks swap.new ≡ S.blocks swap.old) × (S.told swap.new ≡ S.told swap.old) }
-        ensures cause { TakenFor (Rose (C.faults console.old) (C.faults console.new) ⊎ Rose (R.faults report.old) (R.faults report.new))
+        ensures device { (S.blocks swap.new ≡ S.blocks swap.old)
+            × (S.told swap.new ≡ S.told swap.old) }
+        ensures cause { TakenFor
+            (Rose (C.faults console.old) (C.faults console.new)
+            ⊎ Rose (R.faults report.old) (R.faults report.new))
             (Rose (I.faults input.old) (I.faults input.new)) result }
         ensures input_count { I.faults input.old ≤ I.faults input.new }
         ensures console_count { C.faults console.old ≤ C.faults console.new }
         ensures report_count { R.faults report.old ≤ R.faults report.new }
         ensures swap_count { S.faults swap.old ≤ S.faults swap.new }
+        ensures puts { RanHands (counts (C.puts console.old) (C.puts console.new)
+            (R.puts report.old) (R.puts report.new) 0) result }
+        ensures part { (s : Setting) (w : World) (x : Process) → IsTrue (S.told swap.old)
+            → Stands (parts_in self.old (S.blocks swap.old) (S.block swap.old)) w
+            → process_at w.processes pid ≡ Some x → cpu.old ≡ x.cpu
+            → I.left input.old ≡ Some w.input → IsKnown (known_of s w) self.old.services
+            → PartHands (effect (before s w pid x))
+            (counts (C.puts console.old) (C.puts console.new)
+            (R.puts report.old) (R.puts report.new) 0) result }
     {
         lawful(&self.store, &self.regions);
         let result = step_in_store(
@@ -157,41 +198,76 @@ impl Space {
             → process_at w.processes pid ≡ Some x
             → I.left input.old ≡ Some w.input → IsKnown (known_of s w) self.old.services
             → Acts (before s w pid x) w x (parts_in self.new (S.blocks swap.new) (S.block swap.new))
-            (I.left input.old) (I.left input.new) (C.taken console.old) (C.taken console.new) (R.taken report.old) (R.taken report.new) result }
-        ensures still { OnNoStep result ((input.new ≡ input.old) × (console.new ≡ console.old) × (report.new ≡ report.old)) }
+            (I.left input.old) (I.left input.new) (C.taken console.old) (C.taken console.new)
+            (R.taken report.old) (R.taken report.new) result }
+        ensures still { OnNoStep result
+            ((input.new ≡ input.old) × (console.new ≡ console.old) × (report.new ≡ report.old)) }
 
-        // The room of a step that is done is at most the memory, and more than it at NoRoom; what swapping has to hold exceeds
-        // blocks and memory at SwapFull, and the device failed at SwapFault.
+        // The room of a step that is done, or in which a sink fails, is at most the memory, and more than it at NoRoom; what
+        // swapping has to hold exceeds blocks and memory at SwapFull, and the device failed at SwapFault.
         ensures room { (s : Setting) (w : World) (x : Process) → IsTrue (S.told swap.old)
             → Stands (parts_in self.old (S.blocks swap.old) (S.block swap.old)) w
             → process_at w.processes pid ≡ Some x
             → I.left input.old ≡ Some w.input → IsKnown (known_of s w) self.old.services
             → let b = before s w pid x in
-            OnDone result (room_in self.old.store (all_names b (bound_registers (hold_in self.old.regions pid) (effect b).cpu))
+            OnDone result (room_in self.old.store
+            (all_names b (bound_registers (hold_in self.old.regions pid) (effect b).cpu))
+            ≤ self.old.store.places.size) }
+        ensures room_in_part { (s : Setting) (w : World) (x : Process) → IsTrue (S.told swap.old)
+            → Stands (parts_in self.old (S.blocks swap.old) (S.block swap.old)) w
+            → process_at w.processes pid ≡ Some x
+            → I.left input.old ≡ Some w.input → IsKnown (known_of s w) self.old.services
+            → let b = before s w pid x in
+            OnSink result (room_in self.old.store
+            (all_names b (bound_registers (hold_in self.old.regions pid) b.cpu))
             ≤ self.old.store.places.size) }
         ensures no_room { (s : Setting) (w : World) (x : Process) → IsTrue (S.told swap.old)
             → Stands (parts_in self.old (S.blocks swap.old) (S.block swap.old)) w
             → process_at w.processes pid ≡ Some x
-            → OnSwapStop result (self.old.store.places.size < room_in self.old.store (needed_names (before s w pid x))) (Unit {0}) (Unit {0}) }
+            → OnSwapStop result (self.old.store.places.size
+            < room_in self.old.store (needed_names (before s w pid x))) (Unit {0}) (Unit {0}) }
         ensures swap_stops { OnSwapStop result (Unit {0})
-            ((all_of self.old.store.swap < swap_load self.old.store) × (self.old.store.places.size < live_load self.old.store))
+            ((all_of self.old.store.swap < swap_load self.old.store)
+            × (self.old.store.places.size < live_load self.old.store))
             (Rose (S.faults swap.old) (S.faults swap.new)) }
+        // The same of the world's next step, where it is one of this process.
+        ensures next_room { (s : Setting) (w : World) (x : Process) → IsTrue (S.told swap.old)
+            → Stands (parts_in self.old (S.blocks swap.old) (S.block swap.old)) w
+            → IsSetTo (parts_in self.old (S.blocks swap.old) (S.block swap.old)) s
+            → (next_dispatch s w).current ≡ pid → process_at w.processes pid ≡ Some x
+            → I.left input.old ≡ Some w.input → IsKnown (known_of s w) self.old.services
+            → SaysRoom (S.blocks swap.old) s w result }
 
         // The parts go on to go together, whatever the device tells, and what a setting fixes stays.
         ensures together { GoTogether self.new (S.blocks swap.new) }
-        ensures set { (s : Setting) → IsSetTo (parts_in self.old (S.blocks swap.old) (S.block swap.old)) s
+        ensures set { (s : Setting)
+            → IsSetTo (parts_in self.old (S.blocks swap.old) (S.block swap.old)) s
             → IsSetTo (parts_in self.new (S.blocks swap.new) (S.block swap.new)) s }
         ensures count { length self.new.procs.items ≡ length self.old.procs.items }
         ensures processes { self.new.regions.processes ≡ self.old.regions.processes }
         ensures avail { self.new.services.avail ≡ self.old.services.avail }
-        ensures device { (S.blocks swap.new ≡ S.blocks swap.old) × (S.told swap.new ≡ S.told swap.old) }
+        ensures device { (S.blocks swap.new ≡ S.blocks swap.old)
+            × (S.told swap.new ≡ S.told swap.old) }
 
-        ensures cause { TakenFor (Rose (C.faults console.old) (C.faults console.new) ⊎ Rose (R.faults report.old) (R.faults report.new))
+        ensures cause { TakenFor
+            (Rose (C.faults console.old) (C.faults console.new)
+            ⊎ Rose (R.faults report.old) (R.faults report.new))
             (Rose (I.faults input.old) (I.faults input.new)) result }
         ensures input_count { I.faults input.old ≤ I.faults input.new }
         ensures console_count { C.faults console.old ≤ C.faults console.new }
         ensures report_count { R.faults report.old ≤ R.faults report.new }
         ensures swap_count { S.faults swap.old ≤ S.faults swap.new }
+
+        // Each line is one put, and so is the piece where it has bytes. Where a sink fails, no more lines were put than there are.
+        ensures puts { RanHands (counts (C.puts console.old) (C.puts console.new)
+            (R.puts report.old) (R.puts report.new) 0) result }
+        ensures part { (s : Setting) (w : World) (x : Process) → IsTrue (S.told swap.old)
+            → Stands (parts_in self.old (S.blocks swap.old) (S.block swap.old)) w
+            → process_at w.processes pid ≡ Some x
+            → I.left input.old ≡ Some w.input → IsKnown (known_of s w) self.old.services
+            → PartHands (effect (before s w pid x))
+            (counts (C.puts console.old) (C.puts console.new)
+            (R.puts report.old) (R.puts report.new) 0) result }
     {
         let mut cpu = self.procs[pid as usize - 1].cpu;
         match self.step(pid, &mut cpu, input, console, report, swap) {

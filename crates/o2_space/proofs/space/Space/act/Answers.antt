@@ -1,5 +1,4 @@
-use Rattle.std.proofs.Common.{◌≡◌, ℕ, ◌≤◌, List, [], Bool, length, ap, sym, ◌∙◌, refl, subst, arith}
-use Rattle.o2_isa.specs.declared.cpu.Cpu.{Cpu}
+use Rattle.std.proofs.Common.{List, [], Bool, length, ap, ◌∙◌, arith}
 use Rattle.o2_regions.specs.Lives.{lives}
 use Rattle.o2_world.specs.Effect.{effect}
 use Rattle.o2_world.specs.Run.{before}
@@ -71,3 +70,27 @@ returns-in-Ok-clause-together g c =
 
 pub returns-in-Ok-clause-set : goal.returns-in-Ok-clause-set
 returns-in-Ok-clause-set g c = λ s set. c.commit.ensures.set _ _ s (c.step.ensures.set s set)
+
+pub returns-in-Err-clause-room_in_part : goal.returns-in-Err-clause-room_in_part
+returns-in-Err-clause-room_in_part g c = λ s w x tells stands there left known.
+    let y : Proc = c.index.result.now in
+    let was = process_was c.args.self.now.procs.items c.args.pid w.processes x c.requires.some c.requires.there (stands.processes c.args.pid) there y c.index.ensures in
+    c.in-Err.ensures.room_in_part s w x tells stands there (ap (λ (r : Running). r.cpu) was) left known
+
+pub returns-in-Err-clause-part : goal.returns-in-Err-clause-part
+returns-in-Err-clause-part g c = λ s w x tells stands there left known.
+    let y : Proc = c.index.result.now in
+    let was = process_was c.args.self.now.procs.items c.args.pid w.processes x c.requires.some c.requires.there (stands.processes c.args.pid) there y c.index.ensures in
+    c.in-Err.ensures.part s w x tells stands there (ap (λ (r : Running). r.cpu) was) left known
+
+pub returns-in-Err-clause-next_room : goal.returns-in-Err-clause-next_room
+returns-in-Err-clause-next_room g c = λ s w x tells stands set chosen there left known.
+    let y : Proc = c.index.result.now in
+    let was = process_was c.args.self.now.procs.items c.args.pid w.processes x c.requires.some c.requires.there (stands.processes c.args.pid) there y c.index.ensures in
+    c.in-Err.ensures.next_room s w x tells stands set chosen there (ap (λ (r : Running). r.cpu) was) left known
+
+pub returns-in-Ok-clause-next_room : goal.returns-in-Ok-clause-next_room
+returns-in-Ok-clause-next_room g c = λ s w x tells stands set chosen there left known.
+    let y : Proc = c.index.result.now in
+    let was = process_was c.args.self.now.procs.items c.args.pid w.processes x c.requires.some c.requires.there (stands.processes c.args.pid) there y c.index.ensures in
+    c.in-Ok.ensures.next_room s w x tells stands set chosen there (ap (λ (r : Running). r.cpu) was) left known

@@ -1,8 +1,5 @@
-use Rattle.std.proofs.Common.{◌≡◌, ℕ, ◌-◌, List, [], Bool, true, false, ap, sym, ◌∙◌, refl, subst, arith}
+use Rattle.std.proofs.Common.{◌≡◌, [], true, false, ap, sym, ◌∙◌, refl, arith}
 use Rattle.o2_world.specs.World.{is_live as lives_on}
-use Rattle.o2_stands.specs.Moves.{stepped_to, with_running}
-use Rattle.o2_stands.specs.Parts.{Parts}
-use Rattle.o2_stands.specs.Stands.{IsReady}
 use Rattle.o2_space.specs.declared.space.Proc.{Proc}
 use Rattle.o2_space.specs.Parts.{parts_in, running_at, running_in}
 use Rattle.o2_space.proofs.Alike.{ready_as, set_as}

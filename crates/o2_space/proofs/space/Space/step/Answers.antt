@@ -1,19 +1,22 @@
-use Rattle.std.proofs.Common.{◌≡◌, ℕ, ◌≤◌, ◌<◌, List, [], Option, None, ap, sym, ◌∙◌, refl, subst, arith}
+use Rattle.std.proofs.Common.{ℕ, ◌≤◌, ◌<◌, List, None, ap, sym, ◌∙◌, subst, arith}
 use Rattle.o2_isa.specs.View.{bound_registers}
 use Rattle.o2_segbus.specs.Seen.{hold_in}
 use Rattle.o2_world.specs.Calls.{Before}
 use Rattle.o2_world.specs.Effect.{effect}
 use Rattle.o2_world.specs.Known.{known_of}
+use Rattle.o2_world.specs.Holders.{process_at}
 use Rattle.o2_world.specs.Run.{before}
-use Rattle.o2_stands.specs.Parts.{Parts, Running}
+use Rattle.o2_stands.specs.Parts.{Parts}
+use Rattle.o2_run.specs.Pieces.{Counts, PartHands, counts}
 use Rattle.o2_stepping.specs.Rooms.{all_names, needed_names, room_in}
-use Rattle.o2_stepping.specs.Taken.{OnDone, OnSwapStop, Takes}
+use Rattle.o2_stepping.specs.Taken.{OnDone, OnSink, OnSwapStop, Takes}
 use Rattle.o2_stepping.specs.Worlds.{away_of, bytes_with}
 use Rattle.o2_stepping.proofs.Worlds.{same_map}
 use Rattle.o2_space.specs.Parts.{parts_in, running_at}
 use Rattle.o2_space.proofs.Alike.{ready_as}
 use Rattle.o2_space.proofs.Behind.{set_behind, steps_by}
-use Rattle.o2_space.proofs.Rooms.{on_stop, room_by}
+use Rattle.o2_space.proofs.Nexting.{says_room}
+use Rattle.o2_space.proofs.Rooms.{on_stop, room_by, room_in_part_by}
 use Rattle.o2_space.proofs.Sights.{before_is}
 use Rattle.o2_space.proofs.space.Space.step.Goals as goal
 
@@ -93,3 +96,50 @@ returns-clause-processes g c = c.step_in_store-result.ensures.shape.holds.proces
 
 pub returns-clause-most : goal.returns-clause-most
 returns-clause-most g c = c.lawful-2.ensures.maps.most
+
+pub returns-clause-room_in_part : goal.returns-clause-room_in_part
+returns-clause-room_in_part g c = λ s w x tells stands there same left known.
+    let S = g.S.SwapDevice in
+    let m = c.args.self.now in
+    let pid = c.args.pid in
+    let new = c.step_in_store-result.new in
+    let e = c.step_in_store-result.ensures in
+    let result = c.step_in_store-result.result in
+    let p : Parts = parts_in m (S.blocks c.args.swap.now) (S.block c.args.swap.now) in
+    let b : Before = before s w pid x in
+    let old_bytes : ℕ → List ℕ = bytes_with (away_of m.store m.regions m.images (S.blocks c.args.swap.now) (S.block c.args.swap.now)) m.store in
+    let new_bytes : ℕ → List ℕ = bytes_with (away_of new.store new.regions m.images (S.blocks new.swap) (S.block new.swap)) new.store in
+    let is = before_is p w c.lawful.ensures stands s pid x c.args.cpu.now there same in
+    room_in_part_by m.store b (effect b) (hold_in new.regions pid) (hold_in m.regions pid) new.cpu old_bytes new_bytes _ _ _ _ _ _ result (same_map m.regions new.regions pid e.shape.holds)
+    (subst (λ (z : Before). Takes z (effect z) new.cpu old_bytes new_bytes (g.I.Source.left c.args.input.now) (g.I.Source.left new.input)
+    (g.C.Sink.taken c.args.console.now) (g.C.Sink.taken new.console) (g.R.Sink.taken c.args.report.now) (g.R.Sink.taken new.report) result) is (e.takes w.input (known_of s w) tells left known))
+    (subst (λ (z : Before). OnSink result (room_in m.store (all_names z (bound_registers (hold_in new.regions pid) new.cpu)) ≤ m.store.places.size)) is (e.room_in_part w.input (known_of s w) tells))
+
+pub returns-clause-part : goal.returns-clause-part
+returns-clause-part g c = λ s w x tells stands there same left known.
+    let S = g.S.SwapDevice in
+    let C = g.C.Sink in
+    let R = g.R.Sink in
+    let new = c.step_in_store-result.new in
+    let p : Parts = parts_in c.args.self.now (S.blocks c.args.swap.now) (S.block c.args.swap.now) in
+    let n : Counts = counts (C.puts c.args.console.now) (C.puts new.console) (R.puts c.args.report.now) (R.puts new.report) 0 in
+    subst (λ (z : Before). PartHands (effect z) n c.step_in_store-result.result)
+    (before_is p w c.lawful.ensures stands s c.args.pid x c.args.cpu.now there same) (c.step_in_store-result.ensures.part w.input (known_of s w) tells left known)
+
+pub returns-clause-next_room : goal.returns-clause-next_room
+returns-clause-next_room g c = λ s w x tells stands set chosen there same left known.
+    let S = g.S.SwapDevice in
+    let m = c.args.self.now in
+    let pid = c.args.pid in
+    let new = c.step_in_store-result.new in
+    let e = c.step_in_store-result.ensures in
+    let result = c.step_in_store-result.result in
+    let p : Parts = parts_in m (S.blocks c.args.swap.now) (S.block c.args.swap.now) in
+    let old_bytes : ℕ → List ℕ = bytes_with (away_of m.store m.regions m.images (S.blocks c.args.swap.now) (S.block c.args.swap.now)) m.store in
+    let new_bytes : ℕ → List ℕ = bytes_with (away_of new.store new.regions m.images (S.blocks new.swap) (S.block new.swap)) new.store in
+    let is = before_is p w c.lawful.ensures stands s pid x c.args.cpu.now there same in
+    says_room p s w x (record { lawful = c.lawful.ensures; set = set; stands = stands; chosen = ap (process_at w.processes) chosen ∙ there }) new.cpu old_bytes new_bytes _ _ _ _ _ _ _ result pid (sym chosen)
+    (subst (λ (z : Before). Takes z (effect z) new.cpu old_bytes new_bytes (g.I.Source.left c.args.input.now) (g.I.Source.left new.input)
+    (g.C.Sink.taken c.args.console.now) (g.C.Sink.taken new.console) (g.R.Sink.taken c.args.report.now) (g.R.Sink.taken new.report) result) is (e.takes w.input (known_of s w) tells left known))
+    (returns-clause-room g c s w x tells stands there same left known) (returns-clause-room_in_part g c s w x tells stands there same left known)
+    (returns-clause-no_room g c s w x tells stands there same) e.swap_stops
