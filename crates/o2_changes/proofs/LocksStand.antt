@@ -12,10 +12,10 @@ use Rattle.o2_store.specs.Needs.{has_age}
 use Rattle.o2_store.specs.Pictures.{picture, HasPicture}
 use Rattle.o2_store.specs.Shelf.{Shelf, AreClean, HasAll, Pictures, entry, entry_of, entry_or, out_byte, place_of, source_byte}
 use Rattle.o2_swapmap.specs.Piles.{Blocks, all_of}
-use Rattle.o2_world.specs.Map.{get, put}
+use Rattle.o2_world.specs.Map.{at_key, get}
 use Rattle.o2_world.specs.World.{Segment, World}
 use Rattle.o2_world.specs.Changes.{Locks, with_change}
-use Rattle.o2_world.proofs.Reached.{get-put}
+use Rattle.o2_world.proofs.MapLemmas.{get-at_key}
 use Rattle.o2_stands.specs.Parts.{Parts}
 use Rattle.o2_stands.specs.Stands.{IsNamed, Matches}
 use Rattle.o2_changes.specs.Order.{IsInOrder}
@@ -112,8 +112,8 @@ module _ (p : Parts) (w : World) (t : Shelf) (id : SegId) (lock : ℕ) (live : I
         shared = is.shared ∙ ap (λ (x : Entry). x.attr.shared) (sym same);
       }
 
-  segments_now : (q : ℕ) → IsNamed (record p { shelf = t }) (key_of t q) (get (put id.age (option_map (λ (s : Segment). record s { lock = lock }) (get w.names id.age)) w.names) q)
-  segments_now q = subst (λ (g : Option Segment). IsNamed (record p { shelf = t }) (key_of t q) g) (sym (get-put id.age q (option_map (λ (s : Segment). record s { lock = lock }) (get w.names id.age)) w.names))
+  segments_now : (q : ℕ) → IsNamed (record p { shelf = t }) (key_of t q) (get (at_key id.age (λ (s : Segment). record s { lock = lock }) w.names) q)
+  segments_now q = subst (λ (g : Option Segment). IsNamed (record p { shelf = t }) (key_of t q) g) (sym (get-at_key id.age q (λ (s : Segment). record s { lock = lock }) w.names))
       (subst (λ (o : Option ℕ). IsNamed (record p { shelf = t }) o (cond (eqb id.age q) (option_map (λ (s : Segment). record s { lock = lock }) (get w.names id.age)) (get w.names q))) (sym (locked_key p.shelf t id lock live l q))
       (elim (cases_eq id.age q) [
         | inl e ↦

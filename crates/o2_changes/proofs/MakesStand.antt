@@ -13,9 +13,10 @@ use Rattle.o2_store.specs.Pictures.{picture, HasPicture}
 use Rattle.o2_store.specs.Shelf.{Shelf, Adds, AreClean, HasAll, IsShelf, Pictures, byte_at, entry, entry_of, entry_or, out_byte, place_of, source_byte}
 use Rattle.o2_store.proofs.Tables.{slot-past, slot-set_other, slot-set_same}
 use Rattle.o2_swapmap.specs.Piles.{Blocks, all_of}
-use Rattle.o2_world.specs.Map.{Map, get, put}
+use Rattle.o2_world.specs.Map.{Map, at_key, get, put}
 use Rattle.o2_world.specs.World.{Segment, World}
 use Rattle.o2_world.specs.Changes.{Locks, Makes, with_change}
+use Rattle.o2_world.proofs.MapLemmas.{get-at_key}
 use Rattle.o2_world.proofs.Reached.{get-put}
 use Rattle.o2_stands.specs.Parts.{Parts}
 use Rattle.o2_stands.specs.Stands.{IsNamed, IsSegment, Matches}
@@ -236,13 +237,13 @@ new_plain p w sg id q live age plain =
 pub new_locked : (p : Parts) (w : World) (sg : Segment) → Matches p (with_change (with_change w (Makes sg)) (Locks w.next_name 1)) → Matches p (with_change w (Makes (record sg { lock = 1 })))
 new_locked p w sg m = same_names p (with_change (with_change w (Makes sg)) (Locks w.next_name 1)) (put w.next_name (Some (record sg { lock = 1 })) w.names) all m
   where
-    all : (q : ℕ) → get (put w.next_name (Some (record sg { lock = 1 })) w.names) q ≡ get (put w.next_name (option_map (λ (s : Segment). record s { lock = 1 }) (get (put w.next_name (Some sg) w.names) w.next_name)) (put w.next_name (Some sg) w.names)) q
+    all : (q : ℕ) → get (put w.next_name (Some (record sg { lock = 1 })) w.names) q ≡ get (at_key w.next_name (λ (s : Segment). record s { lock = 1 }) (put w.next_name (Some sg) w.names)) q
     all q =
         let n = w.next_name in
         let own : get (put n (Some sg) w.names) n ≡ Some sg = get-put n n (Some sg) w.names ∙ cond-true (eqb n n) (Some sg) (get w.names n) (eq-eqb n n refl) in
         get-put n q (Some (record sg { lock = 1 })) w.names
         ∙ collapse (eqb n q)
-        ∙ sym (get-put n q (option_map (λ (s : Segment). record s { lock = 1 }) (get (put n (Some sg) w.names) n)) (put n (Some sg) w.names)
+        ∙ sym (get-at_key n q (λ (s : Segment). record s { lock = 1 }) (put n (Some sg) w.names)
         ∙ ap (λ (x : Option Segment). cond (eqb n q) (option_map (λ (s : Segment). record s { lock = 1 }) x) (get (put n (Some sg) w.names) q)) own
         ∙ ap (cond (eqb n q) (Some (record sg { lock = 1 }))) (get-put n q (Some sg) w.names))
       where

@@ -21,10 +21,10 @@ use Rattle.o2_store.specs.Pictures.{picture}
 use Rattle.o2_store.specs.Shelf.{Shelf, AreClean, entry, entry_of, entry_or}
 use Rattle.o2_store.specs.Sizes.{Resizes}
 use Rattle.o2_swapmap.specs.Piles.{all_of}
-use Rattle.o2_world.specs.Map.{get, put}
+use Rattle.o2_world.specs.Map.{at_key, get}
 use Rattle.o2_world.specs.World.{Segment, World}
 use Rattle.o2_world.specs.Changes.{Resizes as ResizesChange, resized, with_change}
-use Rattle.o2_world.proofs.Reached.{get-put}
+use Rattle.o2_world.proofs.MapLemmas.{get-at_key}
 use Rattle.o2_stands.specs.Moves.{moved}
 use Rattle.o2_stands.specs.Parts.{Parts, byte_in}
 use Rattle.o2_stands.specs.Stands.{IsNamed, IsSegment, Matches}
@@ -116,11 +116,11 @@ module _ (p : Parts) (w : World) (t : Shelf) (m : Maps) (after : ℕ → List �
     shared = is.shared ∙ ap (λ (a : Attr). a.shared) (sym r.here.attr);
   }
 
-  segments_now : (q : ℕ) → IsNamed (moved p t m after) (key_of t q) (get (put id.age (option_map (λ (s : Segment). record s { bytes = resized size s.bytes }) (get w.names id.age)) w.names) q)
+  segments_now : (q : ℕ) → IsNamed (moved p t m after) (key_of t q) (get (at_key id.age (λ (s : Segment). record s { bytes = resized size s.bytes }) w.names) q)
   segments_now q =
       let new : Option Segment = option_map (λ (s : Segment). record s { bytes = resized size s.bytes }) (get w.names id.age) in
       let own = live_key p.shelf id stands.ready.aged live in
-      subst (λ (g : Option Segment). IsNamed (moved p t m after) (key_of t q) g) (sym (get-put id.age q new w.names))
+      subst (λ (g : Option Segment). IsNamed (moved p t m after) (key_of t q) g) (sym (get-at_key id.age q (λ (s : Segment). record s { bytes = resized size s.bytes }) w.names))
       (subst (λ (o : Option ℕ). IsNamed (moved p t m after) o (cond (eqb id.age q) new (get w.names q))) (sym (sized_key p.shelf t told p.images p.block after id.key size r q))
       (elim (cases_eq id.age q) [
         | inl e ↦

@@ -10,7 +10,8 @@ use Rattle.o2_world.specs.Map.{Map, get}
 use Rattle.o2_world.specs.Sound.{held_of}
 use Rattle.o2_world.specs.World.{Held, Process, Reserve, Segment}
 use Rattle.o2_world.proofs.MapLemmas.{get-filter}
-use Rattle.o2_stands.specs.Stands.{AllStay, AreOnce, IsTidy, taken_by}
+use Rattle.o2_stands.specs.Stands.{AllStay, IsTidy, taken_by}
+use Rattle.o2_stands.proofs.Once.{once_kept}
 use Rattle.o2_stands.proofs.Worlds.{put_here, put_other}
 
 -- The process that has ended.
@@ -26,18 +27,6 @@ module _ (ps : List Process) (pid : ℕ) (x q : Process) (there : process_at ps 
 
 pub kept_is : (ps : List Process) (names : Map Segment) (n : ℕ) → get (kept ps names) n ≡ (if is_held ps n then get names n else None)
 kept_is ps names n = get-filter (is_held ps) names n
-
-once_kept : (p : ℕ → Bool) (m : Map Segment) → AreOnce m → AreOnce (filter (λ (e : ℕ × Segment). p e.0) m)
-once_kept p [] once = once
-once_kept p (e ∷ es) once = go (p e.0) (once_kept p es once.1)
-  where
-    none : (b : Bool) (o : Option Segment) → o ≡ None → cond b o None ≡ None
-    none true o z = z
-    none false o z = refl
-
-    go : (b : Bool) → AreOnce (filter (λ (e : ℕ × Segment). p e.0) es) → AreOnce (cond b (e ∷ filter (λ (e : ℕ × Segment). p e.0) es) (filter (λ (e : ℕ × Segment). p e.0) es))
-    go true rest = (get-filter p es e.0 ∙ none (p e.0) (get es e.0) once.0, rest)
-    go false rest = rest
 
 -- Reserved indexes.
 

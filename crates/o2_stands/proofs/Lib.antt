@@ -6,4 +6,5 @@ pub mod Moves
 pub mod Sums
 pub mod Rooms
 pub mod Knowing
+pub mod Once
 pub mod Matching

@@ -25,10 +25,11 @@ ghost use Rattle.o2_world.specs.World.{Process, Reserve, Segment, Setting, World
 ghost use Rattle.o2_world.specs.Holders.{process_at, with_process};
 ghost use Rattle.o2_world.specs.Known.{held_at, is_for_the_run, known_of};
 ghost use Rattle.o2_world.specs.Starts.{Start, opening_of};
-ghost use Rattle.o2_world.specs.Tied.{IsSound};
+ghost use Rattle.o2_world.specs.Changes.{Change, with_all, with_change};
+ghost use Rattle.o2_world.specs.Tied.{AreFitChanges, IsSound, IsTied};
 ghost use Rattle.o2_world.specs.Views.{view_of, with_bytes};
 ghost use Rattle.o2_stands.specs.Parts.{Parts, running_of};
-ghost use Rattle.o2_stands.specs.Stands.{AreLawful, IsReady, IsSetTo, IsTidy, MatchesIn, Stands, StandsIn};
+ghost use Rattle.o2_stands.specs.Stands.{AreLawful, AreOnce, IsReady, IsSetTo, IsTidy, MatchesIn, Stands, StandsIn};
 ghost use Rattle.o2_stands.specs.Moves.{AreWritten, moved, stepped_to, with_running};
 ghost use Rattle.o2_stands.specs.Views.{Fills, boundless_view, filled};
 ghost use Rattle.o2_stands.specs.Knows.{KnowsAs, known_in, others_of};
@@ -62,6 +63,13 @@ pub fn standing_is_matching()
         → StandsIn p ps names next reserved → MatchesIn p ps names next reserved }
     ensures stands { (p : Parts) (ps : List Process) (names : Map Segment) (next : ℕ) (reserved : List Reserve)
         → MatchesIn p ps names next reserved → IsTidy ps names reserved → StandsIn p ps names next reserved }
+{}
+
+/// Each name of a world stands once behind changes, where it did so before them, and sums over names count it once.
+pub fn names_stand_once()
+    ensures change { (w : World) (c : Change) → IsTied w → AreOnce w.names → AreOnce (with_change w c).names }
+    ensures all { (w : World) (cs : List Change) → AreFitChanges w cs → IsTied w → AreOnce w.names
+        → AreOnce (with_all w cs).names }
 {}
 
 /// What is known of a world beside what a process sees is known of the machine.

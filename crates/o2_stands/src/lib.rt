@@ -6,6 +6,6 @@ mod laws;
 
 pub use always::lawful;
 pub use laws::{
-    moves_are_unseen, names_are_segments, openings_are_tidy, processes_go_on, standing_is_matching,
-    steps_are_seen, views_are_filled, worlds_are_known,
+    moves_are_unseen, names_are_segments, names_stand_once, openings_are_tidy, processes_go_on,
+    standing_is_matching, steps_are_seen, views_are_filled, worlds_are_known,
 };

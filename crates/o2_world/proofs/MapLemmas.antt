@@ -2,7 +2,7 @@
 use Rattle.std.proofs.Common.{◌≡◌, ℕ, Bool, true, false, cond, [], ◌∷◌, Option, Some, None, if◌then◌else◌, ◌==◌, ◌||◌, ap, sym, ◌∙◌, refl, arith}
 use Rattle.std.specs.Prelude.{filter, map, option_map}
 use Rattle.std.specs.List.{list_any}
-use Rattle.o2_world.specs.Map.{Map, get}
+use Rattle.o2_world.specs.Map.{Map, at_key, get}
 
 pub if_yes : {X : Type 0} (b : Bool) (x y : X) → b ≡ true → (if b then x else y) ≡ x
 if_yes true x y e = refl
@@ -50,6 +50,26 @@ get-map f [] q = refl
 get-map f (e ∷ es) q =
     picked (e.0 == q) (f e.0 e.1) (f q e.1) _ _ (λ same. ap (λ (k : ℕ). f k e.1) (key_is e.0 q _ refl same)) (get-map f es q)
     ∙ sym (pull (f q) (e.0 == q) e.1 (get es q))
+
+one_way : (k q : ℕ) → (q == k) ≡ (k == q)
+one_way k q = grind arith
+
+changed_by : {X : Type 0} (b : Bool) (f : X → X) (o : Option X) → option_map (λ (x : X). if b then f x else x) o ≡ (if b then option_map f o else o)
+changed_by true f o = refl
+changed_by false f None = refl
+changed_by false f (Some x) = refl
+
+-- what is there after one value is changed in its place
+pub get-at_key : {X : Type 0} (k q : ℕ) (f : X → X) (m : Map X) → get (at_key k f m) q ≡ (if k == q then option_map f (get m k) else get m q)
+get-at_key {X} k q f m =
+    get-map (λ (n : ℕ) (x : X). if n == k then f x else x) m q
+    ∙ changed_by (q == k) f (get m q)
+    ∙ ap (λ (b : Bool). if b then option_map f (get m q) else get m q) (one_way k q)
+    ∙ turned (k == q) refl
+  where
+    turned : (b : Bool) → (k == q) ≡ b → (if b then option_map f (get m q) else get m q) ≡ (if b then option_map f (get m k) else get m q)
+    turned true is = ap (λ (n : ℕ). option_map f (get m n)) (sym (key_is k q true is refl))
+    turned false is = refl
 
 found_step : {X : Type 0} (g : ℕ → Bool) (k i : ℕ) (u v : X) (rest : Option X) (below : Bool) → (rest ≡ Some v → below ≡ true)
     → (if k == i then Some u else rest) ≡ Some v → g i ≡ true → g k || below ≡ true

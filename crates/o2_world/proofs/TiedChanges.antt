@@ -3,13 +3,13 @@ use Rattle.std.proofs.Common.{◌≡◌, ◌≢◌, ◌⊎◌, inl, inr, ℕ, ze
 use Rattle.std.specs.Prelude.{slice_get, option_map, is_some}
 use Rattle.o2_isa.specs.View.{is_null, is_writable, is_readable, is_code}
 use Rattle.o2_world.specs.declared.types.State.{State}
-use Rattle.o2_world.specs.Map.{Map, get, put}
+use Rattle.o2_world.specs.Map.{Map, at_key, get, put}
 use Rattle.o2_world.specs.World.{World, Process, Segment, Held, Reserve, is_live}
 use Rattle.o2_world.specs.Changes.{Change, Makes, Resizes, Locks, Marks, Holds, Drops, Finishes, Reserves, Frees, Names, more, fewer, resized, at_place, at_number, with_segment, with_change}
 use Rattle.o2_world.specs.Sound.{held_of, held_in, has_rights, NamesHeld, HasGoodRegisters}
 use Rattle.o2_world.specs.Tied.{AreLive, lives_in, HasSize, IsOwnData, AreOne, IsTied, IsUnnamed, IsFitHold, IsFitDrop, IsFitChange}
 use Rattle.o2_world.proofs.Reached.{get-put, get-place, held_at_place, held_then}
-use Rattle.o2_world.proofs.MapLemmas.{if_yes, if_no}
+use Rattle.o2_world.proofs.MapLemmas.{get-at_key, if_yes, if_no}
 
 -- Look-ups after a change of one map, and of one name.
 
@@ -68,8 +68,8 @@ is_some-map : {X : Type 0} (f : X → X) (o : Option X) → is_some (option_map 
 is_some-map f None = refl
 is_some-map f (Some x) = refl
 
-pub lives_same : (m : Map Segment) (n q : ℕ) (f : Segment → Segment) → is_some (get (put n (option_map f (get m n)) m) q) ≡ is_some (get m q)
-lives_same m n q f = ap is_some (get-put n q (option_map f (get m n)) m) ∙ go (n == q) refl
+pub lives_same : (m : Map Segment) (n q : ℕ) (f : Segment → Segment) → is_some (get (at_key n f m) q) ≡ is_some (get m q)
+lives_same m n q f = ap is_some (get-at_key n q f m) ∙ go (n == q) refl
   where
     go : (b : Bool) → (n == q) ≡ b → is_some (if n == q then option_map f (get m n) else get m q) ≡ is_some (get m q)
     go true is = ap is_some (if_yes (n == q) _ _ is) ∙ is_some-map f (get m n) ∙ ap (λ k. is_some (get m k)) (same_number n q true is refl)
@@ -80,9 +80,9 @@ record IsNamedFrom (m : Map Segment) (q : ℕ) (f : Segment → Segment) (s : Se
   pub there : get m q ≡ Some old
   pub is : (s ≡ old) ⊎ (s ≡ f old)
 
-named_from : (m : Map Segment) (n q : ℕ) (f : Segment → Segment) (s : Segment) → get (put n (option_map f (get m n)) m) q ≡ Some s
+named_from : (m : Map Segment) (n q : ℕ) (f : Segment → Segment) (s : Segment) → get (at_key n f m) q ≡ Some s
     → IsNamedFrom m q f s
-named_from m n q f s e = go (n == q) refl (get m n) refl (sym (get-put n q (option_map f (get m n)) m) ∙ e)
+named_from m n q f s e = go (n == q) refl (get m n) refl (sym (get-at_key n q f m) ∙ e)
   where
     go : (b : Bool) → (n == q) ≡ b → (o : Option Segment) → get m n ≡ o → (if n == q then option_map f (get m n) else get m q) ≡ Some s
         → IsNamedFrom m q f s
@@ -129,8 +129,8 @@ segment_tied w n f clean shared sized tied = record {
   below = λ q e. tied.below q (sym (lives_same w.names n q f) ∙ e);
   sized = λ q s e. let from = named_from w.names n q f s e in size_by s from.old from.is (tied.sized q from.old from.there);
   clean = λ place i h s e g c. let from = named_from w.names n h.name f s g in tied.clean place i h from.old e from.there (sym (clean_by s from.old from.is) ∙ c);
-  one = λ place other i h k big e g. still_one w.names (put n (option_map f (get w.names n)) w.names) h k (marks h.name) (marks k.name) (tied.one place other i h k big e g);
-  texts = texts_live w.names (put n (option_map f (get w.names n)) w.names) w.texts (λ q e. lives_same w.names n q f ∙ e) tied.texts;
+  one = λ place other i h k big e g. still_one w.names (at_key n f w.names) h k (marks h.name) (marks k.name) (tied.one place other i h k big e g);
+  texts = texts_live w.names (at_key n f w.names) w.texts (λ q e. lives_same w.names n q f ∙ e) tied.texts;
   ended = tied.ended;
   registers = tied.registers;
 }
@@ -147,7 +147,7 @@ segment_tied w n f clean shared sized tied = record {
     shared_by s old (inl same) = ap (λ (x : Segment). x.shared) same
     shared_by s old (inr same) = ap (λ (x : Segment). x.shared) same ∙ shared old
 
-    marks : (q : ℕ) (s : Segment) → get (put n (option_map f (get w.names n)) w.names) q ≡ Some s → KeepsMarks w.names q s
+    marks : (q : ℕ) (s : Segment) → get (at_key n f w.names) q ≡ Some s → KeepsMarks w.names q s
     marks q s e =
         let from = named_from w.names n q f s e in
         record { old = from.old; there = from.there; clean = clean_by s from.old from.is; shared = shared_by s from.old from.is }

@@ -1,8 +1,8 @@
 -- What a step changes beside bytes, registers and texts, as data: the calls say it, and one function does it.
-use Rattle.std.specs.Prelude.{ℕ, zero, suc, ◌+◌, ◌-◌, ◌*◌, Bool, true, false, not, List, [], ◌∷◌, ◌++◌, take, length, replicate, filter, flat_map, if◌then◌else◌, ◌==◌, ◌&&◌, ◌||◌, nat_le, nat_lt, Option, Some, None, option_map}
+use Rattle.std.specs.Prelude.{ℕ, zero, suc, ◌+◌, ◌-◌, ◌*◌, Bool, true, false, not, List, [], ◌∷◌, ◌++◌, take, length, replicate, filter, flat_map, if◌then◌else◌, ◌==◌, ◌&&◌, ◌||◌, nat_le, nat_lt, Option, Some, None}
 use Rattle.std.specs.List.{list_any}
 use Rattle.o2_world.specs.declared.types.State.{State}
-use Rattle.o2_world.specs.Map.{Map, get, put}
+use Rattle.o2_world.specs.Map.{Map, at_key, get, put}
 use Rattle.o2_world.specs.World.{World, Process, Segment, Held, Reserve, Line, Starts, HoldsBy, DropsBy, Calls, Exits, Ends, Traps}
 use Rattle.o2_world.specs.Holders.{is_held, kept, process_at}
 use Rattle.o2_base.specs.Selectors.{selector_of}
@@ -52,8 +52,9 @@ at_number n f ps = if n == 0 then ps else at_place (n - 1) f ps
 abbrev pub with_held : World → ℕ → (Map Held → Map Held) → World
 with_held w n f = record w { processes = at_number n (λ (p : Process). record p { held = f p.held }) w.processes }
 
+-- a segment is changed in its place, so that no name stands twice
 abbrev pub with_segment : World → ℕ → (Segment → Segment) → World
-with_segment w n f = record w { names = put n (option_map f (get w.names n)) w.names }
+with_segment w n f = record w { names = at_key n f w.names }
 
 -- the world with a change
 abbrev pub with_change : World → Change → World
