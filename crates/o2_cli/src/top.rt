@@ -3,6 +3,7 @@ ghost use Rattle.std.specs.Prelude.{◌≡◌, ◌≤◌, ◌+◌, ◌⊎◌, �
 ghost use Rattle.o2_conf.specs.Limits.{IsWithinLimits};
 ghost use Rattle.o2_open.specs.Loads.{HasEnvironments};
 ghost use Rattle.o2_outer.specs.Texts.{Rose};
+ghost use Rattle.o2_outer.specs.Inputs.{GoesOn, MayBe, rest_of, IsSeenAs, left_as};
 ghost use Rattle.o2_run.specs.Pieces.{counts};
 ghost use Rattle.o2_cli.specs.Top.{IsCheck, Refuses, Shows, IsUnswapped, OnFileFault, OnInputFault, OnSinkFault, OnSwapFault, OnTried, OnUnrun};
 ghost use Rattle.o2_cli.specs.RunTexts.{ShowsRun};
@@ -20,6 +21,7 @@ use std::alloc::Global;
 
 /// Runs a command. What it writes is what the boundless machine's run shows, or where a sink or the input fails a front
 /// of it; `check` starts nothing, and writes a line for each module. Where a command is refused, nothing is written.
+#[tactic(auto, using(o2_outer::proofs::Inputs::goes_same, o2_outer::proofs::Inputs::may_be_given))]
 pub fn os2run<F: Files, I: Source, C: Sink, R: Sink, S: SwapDevice>(
     alloc: Global,
     words: &[String],
@@ -37,6 +39,16 @@ pub fn os2run<F: Files, I: Source, C: Sink, R: Sink, S: SwapDevice>(
         (I.left input.old) (I.left input.new) (C.taken console.old) (C.taken console.new)
         (R.taken report.old) (R.taken report.new) (Rose (R.faults report.old) (R.faults report.new))
         (counts (C.puts console.old) (C.puts console.new) (R.puts report.old) (R.puts report.new) 0) result }
+    // The same of an input that tells nothing, over each text that the whole of it may be when the call comes back: what it has given
+    // is a front of it, and all of it where it has ended. What it has given is such a text.
+    ensures untold_texts { (text : List ℕ) → MayBe text (I.past input.new)
+        → Shows words.now (F.told files.old) (S.blocks swap.old)
+        (Some (rest_of text (I.past input.old))) (Some (rest_of text (I.past input.new)))
+        (C.taken console.old) (C.taken console.new)
+        (R.taken report.old) (R.taken report.new) (Rose (R.faults report.old) (R.faults report.new))
+        (counts (C.puts console.old) (C.puts console.new) (R.puts report.old) (R.puts report.new) 0) result }
+    ensures some_text { MayBe (I.past input.new).given (I.past input.new) }
+    ensures goes_on { GoesOn (I.past input.old) (I.past input.new) }
     // Of `check` the console gains the line of each linked module, or a front of the lines, and nothing else is touched; no
     // module is refused for a stack, an entry point or the number of segments.
     ensures lines { Checks words.now (F.told files.old) (C.taken console.old) (C.taken console.new) result }
@@ -93,6 +105,7 @@ fn check_session<C: Sink>(alloc: Global, session: &Session, console: &mut C) -> 
 }
 
 /// Runs what a command opened.
+#[tactic(auto, using(o2_outer::proofs::Inputs::goes_same))]
 fn run_session<I: Source, C: Sink, R: Sink, S: SwapDevice>(
     alloc: Global,
     session: &Session,
@@ -108,10 +121,13 @@ fn run_session<I: Source, C: Sink, R: Sink, S: SwapDevice>(
     ensures same_report { OnUnrun result (report.new ≡ report.old) }
     ensures same_swap { swap.new ≡ swap.old }
     ensures unswapped { IsUnswapped result }
-    ensures texts { ShowsRun session.now (S.blocks swap.old)
-        (I.left input.old) (I.left input.new) (C.taken console.old) (C.taken console.new)
+    // However the input is seen: by what it tells, or as a text that the whole of it may be.
+    ensures texts { (text : Option (List ℕ)) → IsSeenAs text (I.past input.new) → ShowsRun session.now (S.blocks swap.old)
+        (left_as text (I.left input.old) (I.past input.old)) (left_as text (I.left input.new) (I.past input.new))
+        (C.taken console.old) (C.taken console.new)
         (R.taken report.old) (R.taken report.new) (Rose (R.faults report.old) (R.faults report.new))
         (counts (C.puts console.old) (C.puts console.new) (R.puts report.old) (R.puts report.new) 0) result }
+    ensures goes_on { GoesOn (I.past input.old) (I.past input.new) }
     ensures input_fault { OnInputFault result (Rose (I.faults input.old) (I.faults input.new)) }
     ensures sink_fault { OnSinkFault result (Rose (C.faults console.old) (C.faults console.new) ⊎ Rose (R.faults report.old) (R.faults report.new)) }
     ensures swap_fault { OnSwapFault result (Rose (S.faults swap.old) (S.faults swap.new)) }

@@ -1,6 +1,7 @@
 // The processes and their segments.
-ghost use Rattle.std.specs.Prelude.{◌≡◌, ◌<◌, ◌≤◌, ◌+◌, ◌-◌, ◌⊎◌, ℕ, List, length, true, false, Some};
+ghost use Rattle.std.specs.Prelude.{◌≡◌, ◌<◌, ◌≤◌, ◌+◌, ◌-◌, ◌⊎◌, ℕ, List, length, true, false, Option, Some};
 ghost use Rattle.o2_outer.specs.Texts.{Rose};
+ghost use Rattle.o2_outer.specs.Inputs.{GoesOn, IsSeenAs, left_as};
 ghost use Rattle.o2_world.specs.Known.{Known};
 ghost use Rattle.o2_world.specs.Map.{Map};
 ghost use Rattle.o2_world.specs.World.{Process, Segment, is_live as lives};
@@ -76,9 +77,15 @@ impl Space {
     ) -> Result<Ran, Fault>
         requires some { 0 < pid }
         requires there { pid ≤ length self.old.procs.items }
-        ensures acts { (ps : List Process) (names : Map Segment) (p : Process) (bytes : List ℕ) (known : Known) → StandsIn self.old ps names → process_at ps pid ≡ Some p → p.state ≡ State.Live → I.left input.old ≡ Some bytes → IsKnown known self.old.state
+        // However the input is seen: by what it tells, or as a text that the whole of it may be.
+        ensures acts { (text : Option (List ℕ)) → IsSeenAs text (I.past input.new)
+            → (ps : List Process) (names : Map Segment) (p : Process) (bytes : List ℕ) (known : Known) → StandsIn self.old ps names
+            → process_at ps pid ≡ Some p → p.state ≡ State.Live → left_as text (I.left input.old) (I.past input.old) ≡ Some bytes
+            → IsKnown known self.old.state
             → let b : Before = record { number = pid; cpu = p.cpu; view = view_of names p; known = known; input = bytes } in Acts (AsksInput b) pid ps names p (effect b) self.new
-            (I.left input.old) (I.left input.new) (C.taken console.old) (C.taken console.new) (R.taken report.old) (R.taken report.new) result }
+            (left_as text (I.left input.old) (I.past input.old)) (left_as text (I.left input.new) (I.past input.new))
+            (C.taken console.old) (C.taken console.new) (R.taken report.old) (R.taken report.new) result }
+        ensures goes_on { GoesOn (I.past input.old) (I.past input.new) }
         ensures input_count { I.faults input.old ≤ I.faults input.new }
         ensures console_count { C.faults console.old ≤ C.faults console.new }
         ensures report_count { R.faults report.old ≤ R.faults report.new }
@@ -88,7 +95,10 @@ impl Space {
         ensures avail { self.new.state.avail ≡ self.old.state.avail }
         // Each line is one put, and so is the piece where it has bytes. Where a sink fails, no more lines were put than there are.
         ensures puts { RanHands (counts (C.puts console.old) (C.puts console.new) (R.puts report.old) (R.puts report.new) 0) result }
-        ensures part { (ps : List Process) (names : Map Segment) (p : Process) (bytes : List ℕ) (known : Known) → StandsIn self.old ps names → process_at ps pid ≡ Some p → p.state ≡ State.Live → I.left input.old ≡ Some bytes → IsKnown known self.old.state
+        ensures part { (text : Option (List ℕ)) → IsSeenAs text (I.past input.new)
+            → (ps : List Process) (names : Map Segment) (p : Process) (bytes : List ℕ) (known : Known) → StandsIn self.old ps names
+            → process_at ps pid ≡ Some p → p.state ≡ State.Live → left_as text (I.left input.old) (I.past input.old) ≡ Some bytes
+            → IsKnown known self.old.state
             → let b : Before = record { number = pid; cpu = p.cpu; view = view_of names p; known = known; input = bytes } in PartHands (effect b)
             (counts (C.puts console.old) (C.puts console.new) (R.puts report.old) (R.puts report.new) 0) result }
     {

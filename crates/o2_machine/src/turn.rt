@@ -1,6 +1,7 @@
 // A turn of the machine: whose it is, and its step.
-ghost use Rattle.std.specs.Prelude.{◌≡◌, ◌<◌, ◌≤◌, ◌+◌, ◌⊎◌, ℕ, true, false, length, Some};
+ghost use Rattle.std.specs.Prelude.{◌≡◌, ◌<◌, ◌≤◌, ◌+◌, ◌⊎◌, ℕ, List, true, false, length, Option, Some};
 ghost use Rattle.o2_outer.specs.Texts.{Rose};
+ghost use Rattle.o2_outer.specs.Inputs.{GoesOn, IsSeenAs, left_as};
 ghost use Rattle.o2_conf.specs.Dispatch.{counted, lives};
 ghost use Rattle.o2_world.specs.World.{World, Setting};
 ghost use Rattle.o2_sched.specs.Schedule.{next_of, pick_of, is_step};
@@ -49,8 +50,11 @@ impl Machine {
     ) -> Option<Last>
         requires pick { pick_of self.old.sched ≡ Pick.Step pid }
         requires live { lives self.old.sched.flags pid ≡ true }
-        ensures turns { (s : Setting) (w : World) (blocks : ℕ) → StandsFor self.old s w → I.left input.old ≡ Some w.input
-            → Turns (StandsFor self.new s) false blocks s w (put_of result) (I.left input.new) (C.taken console.old) (C.taken console.new) (R.taken report.old) (R.taken report.new) (answer_of result) }
+        ensures turns { (text : Option (List ℕ)) → IsSeenAs text (I.past input.new)
+            → (s : Setting) (w : World) (blocks : ℕ) → StandsFor self.old s w → left_as text (I.left input.old) (I.past input.old) ≡ Some w.input
+            → Turns (StandsFor self.new s) false blocks s w (put_of result) (left_as text (I.left input.new) (I.past input.new))
+            (C.taken console.old) (C.taken console.new) (R.taken report.old) (R.taken report.new) (answer_of result) }
+        ensures goes_on { GoesOn (I.past input.old) (I.past input.new) }
         ensures last { self.new.last ≡ self.old.last }
         ensures input_count { I.faults input.old ≤ I.faults input.new }
         ensures console_count { C.faults console.old ≤ C.faults console.new }
@@ -60,7 +64,8 @@ impl Machine {
         ensures line { LineIs (put_of result) (Rose (R.faults report.old) (R.faults report.new)) (answer_of result) }
         ensures left { OnRan (answer_of result) (self.new.sched.dispatch.budget < self.old.sched.dispatch.budget) }
         // Each line is one put, and so is the piece for the console, where it has bytes.
-        ensures puts { (s : Setting) (w : World) → StandsFor self.old s w → I.left input.old ≡ Some w.input
+        ensures puts { (text : Option (List ℕ)) → IsSeenAs text (I.past input.new)
+            → (s : Setting) (w : World) → StandsFor self.old s w → left_as text (I.left input.old) (I.past input.old) ≡ Some w.input
             → TurnHands s w (counts (C.puts console.old) (C.puts console.new) (R.puts report.old) (R.puts report.new) (length w.lines)) (answer_of result) }
     {
         match self.space.act(pid, input, console, report) {
@@ -78,14 +83,18 @@ impl Machine {
     }
 
     /// One step, or the last line, or a stop line.
+    #[tactic(auto, using(o2_outer::proofs::Inputs::goes_same))]
     fn advance<I: Source, C: Sink, R: Sink>(
         &mut self,
         input: &mut I,
         console: &mut C,
         report: &mut R,
     ) -> Option<Last>
-        ensures turns { (s : Setting) (w : World) (blocks : ℕ) → StandsFor self.old s w → I.left input.old ≡ Some w.input
-            → Turns (StandsFor self.new s) false blocks s w (put_of result) (I.left input.new) (C.taken console.old) (C.taken console.new) (R.taken report.old) (R.taken report.new) (answer_of result) }
+        ensures turns { (text : Option (List ℕ)) → IsSeenAs text (I.past input.new)
+            → (s : Setting) (w : World) (blocks : ℕ) → StandsFor self.old s w → left_as text (I.left input.old) (I.past input.old) ≡ Some w.input
+            → Turns (StandsFor self.new s) false blocks s w (put_of result) (left_as text (I.left input.new) (I.past input.new))
+            (C.taken console.old) (C.taken console.new) (R.taken report.old) (R.taken report.new) (answer_of result) }
+        ensures goes_on { GoesOn (I.past input.old) (I.past input.new) }
         ensures last { self.new.last ≡ self.old.last }
         ensures input_count { I.faults input.old ≤ I.faults input.new }
         ensures console_count { C.faults console.old ≤ C.faults console.new }
@@ -95,7 +104,8 @@ impl Machine {
         ensures line { LineIs (put_of result) (Rose (R.faults report.old) (R.faults report.new)) (answer_of result) }
         ensures left { OnRan (answer_of result) (self.new.sched.dispatch.budget < self.old.sched.dispatch.budget) }
         // Each line is one put, and so is the piece for the console, where it has bytes.
-        ensures puts { (s : Setting) (w : World) → StandsFor self.old s w → I.left input.old ≡ Some w.input
+        ensures puts { (text : Option (List ℕ)) → IsSeenAs text (I.past input.new)
+            → (s : Setting) (w : World) → StandsFor self.old s w → left_as text (I.left input.old) (I.past input.old) ≡ Some w.input
             → TurnHands s w (counts (C.puts console.old) (C.puts console.new) (R.puts report.old) (R.puts report.new) (length w.lines)) (answer_of result) }
     {
         match self.sched.next() {
@@ -128,6 +138,7 @@ impl Steps for Machine {
 
     ghost line_put = { λ m. put_of m.last };
 
+    #[tactic(auto, using(o2_outer::proofs::Inputs::goes_same))]
     fn turn<I: Source, C: Sink, R: Sink, S: SwapDevice>(
         &mut self,
         input: &mut I,

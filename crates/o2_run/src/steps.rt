@@ -1,6 +1,7 @@
 // A machine that stands for a world, step by step.
 ghost use Rattle.std.specs.Prelude.{◌≡◌, ◌≤◌, ◌<◌, ◌⊎◌, ℕ, Bool, false, List, length, Option, Some, None};
 ghost use Rattle.o2_outer.specs.Texts.{Rose};
+ghost use Rattle.o2_outer.specs.Inputs.{GoesOn, IsSeenAs, left_as};
 ghost use Rattle.o2_world.specs.World.{World, Setting};
 ghost use Rattle.o2_run.specs.declared.steps.Turn.{Turn};
 ghost use Rattle.o2_run.specs.Turn.{Turns, LineIs, Caused, OnRan, stopped_by, is_for_swap};
@@ -72,13 +73,18 @@ pub trait Steps {
         swap: &mut S,
     ) -> Turn
         requires device { fits self.old (S.blocks swap.old) }
-        ensures turns { stopped self.old ≡ None → (s : Setting) (w : World) → stands self.old (S.blocks swap.old) (S.told swap.old) (S.block swap.old) s w
-            → I.left input.old ≡ Some w.input
+        // However the input is seen: by what it tells, or as a text that the whole of it may be.
+        ensures turns { stopped self.old ≡ None → (text : Option (List ℕ)) → IsSeenAs text (I.past input.new)
+            → (s : Setting) (w : World) → stands self.old (S.blocks swap.old) (S.told swap.old) (S.block swap.old) s w
+            → left_as text (I.left input.old) (I.past input.old) ≡ Some w.input
             → Turns (stands self.new (S.blocks swap.new) (S.told swap.new) (S.block swap.new) s) swaps (S.blocks swap.old) s w (line_put self.new)
-            (I.left input.new) (C.taken console.old) (C.taken console.new) (R.taken report.old) (R.taken report.new) result }
+            (left_as text (I.left input.new) (I.past input.new))
+            (C.taken console.old) (C.taken console.new) (R.taken report.old) (R.taken report.new) result }
+        ensures goes_on { GoesOn (I.past input.old) (I.past input.new) }
         // Each line is one put, and so is the piece for the console, where it has bytes.
-        ensures puts { stopped self.old ≡ None → (s : Setting) (w : World) → stands self.old (S.blocks swap.old) (S.told swap.old) (S.block swap.old) s w
-            → I.left input.old ≡ Some w.input
+        ensures puts { stopped self.old ≡ None → (text : Option (List ℕ)) → IsSeenAs text (I.past input.new)
+            → (s : Setting) (w : World) → stands self.old (S.blocks swap.old) (S.told swap.old) (S.block swap.old) s w
+            → left_as text (I.left input.old) (I.past input.old) ≡ Some w.input
             → TurnHands s w (counts (C.puts console.old) (C.puts console.new) (R.puts report.old) (R.puts report.new) (length w.lines)) result }
         ensures stops { stopped self.new ≡ stopped_by result }
         ensures device { fits self.new (S.blocks swap.new) }

@@ -1,6 +1,7 @@
 // Runs of a machine of the tests, which is stopped by whatever it is told to be stopped by.
 ghost use Rattle.std.specs.Prelude.{◌≡◌, ◌≤◌};
 ghost use Rattle.o2_outer.specs.Texts.{Rose};
+ghost use Rattle.o2_outer.specs.Inputs.{GoesOn};
 ghost use Rattle.o2_run.specs.Turn.{Caused};
 ghost use Rattle.o2_run.specs.Faults.{turn_of};
 
@@ -52,9 +53,11 @@ struct Halting {
 
 /// What a machine of the tests asks before it stops so: the input for a byte, the device for a block. Where these don't fail it
 /// is stopped for want of room.
+#[tactic(auto, using(o2_outer::proofs::Inputs::goes_same, o2_outer::proofs::Inputs::goes_taken))]
 fn found<I: Source, S: SwapDevice>(why: Stop, input: &mut I, swap: &mut S) -> Stop
     ensures blocks { S.blocks swap.new ≡ S.blocks swap.old }
     ensures told { S.told swap.new ≡ S.told swap.old }
+    ensures goes_on { GoesOn (I.past input.old) (I.past input.new) }
     ensures input_count { I.faults input.old ≤ I.faults input.new }
     ensures swap_count { S.faults swap.old ≤ S.faults swap.new }
     ensures cause { Caused ⊥ (Rose (I.faults input.old) (I.faults input.new)) (Rose (S.faults swap.old) (S.faults swap.new)) (turn_of result) }
@@ -96,6 +99,7 @@ impl Steps for Halting {
 
     ghost line_put = { λ m. unwrap_or (option_map (λ p. p.1) m.last) false };
 
+    #[tactic(auto, using(o2_outer::proofs::Inputs::goes_same))]
     fn turn<I: Source, C: Sink, R: Sink, S: SwapDevice>(
         &mut self,
         input: &mut I,

@@ -1,6 +1,7 @@
 // The whole run.
 ghost use Rattle.std.specs.Prelude.{◌≡◌, ◌≤◌, ◌⊎◌, false, List, length, ℕ, Option, Some, None};
 ghost use Rattle.o2_outer.specs.Texts.{Rose, Gains};
+ghost use Rattle.o2_outer.specs.Inputs.{GoesOn, IsSeenAs, left_as};
 ghost use Rattle.o2_world.specs.World.{World, Setting};
 ghost use Rattle.o2_world.specs.Text.{lines_text};
 ghost use Rattle.o2_world.specs.Run.{console as console_text};
@@ -14,6 +15,7 @@ use o2_outer::{Sink, Source, SwapDevice};
 /// Runs a machine that stands for a world to its end: it is Ok where the last line is put. What both sinks took before the opening
 /// is `c` and `r`. At each end, and at each fault, the machine stands for the world whose texts they have taken. Each line is one
 /// put, and so is the console's piece of each step that has one.
+#[tactic(auto, using(o2_outer::proofs::Inputs::goes_same))]
 pub fn run<M: Steps, I: Source, C: Sink, R: Sink, S: SwapDevice>(
     machine: &mut M,
     input: &mut I,
@@ -22,13 +24,16 @@ pub fn run<M: Steps, I: Source, C: Sink, R: Sink, S: SwapDevice>(
     swap: &mut S,
 ) -> Result<(), Fault>
     requires device { M.fits machine.old (S.blocks swap.old) }
-    ensures texts { M.stopped machine.old ≡ None → (s : Setting) (w : World) (c r : Option (List ℕ))
-        → M.stands machine.old (S.blocks swap.old) (S.told swap.old) (S.block swap.old) s w
-        → I.left input.old ≡ Some w.input
+    // However the input is seen: by what it tells, or as a text that the whole of it may be.
+    ensures texts { M.stopped machine.old ≡ None → (text : Option (List ℕ)) → IsSeenAs text (I.past input.new)
+        → (s : Setting) (w : World) (c r : Option (List ℕ)) → M.stands machine.old (S.blocks swap.old) (S.told swap.old) (S.block swap.old) s w
+        → left_as text (I.left input.old) (I.past input.old) ≡ Some w.input
         → Gains c (C.taken console.old) (console_text w) → Gains r (R.taken report.old) (lines_text w.lines)
         → HasTexts (M.stands machine.new (S.blocks swap.new) (S.told swap.new) (S.block swap.new) s) M.swaps (S.blocks swap.old) s w
-        (I.left input.new) c (C.taken console.new) r (R.taken report.new) (Rose (R.faults report.old) (R.faults report.new))
+        (left_as text (I.left input.new) (I.past input.new))
+        c (C.taken console.new) r (R.taken report.new) (Rose (R.faults report.old) (R.faults report.new))
         (counts (C.puts console.old) (C.puts console.new) (R.puts report.old) (R.puts report.new) (length w.lines)) result }
+    ensures goes_on { GoesOn (I.past input.old) (I.past input.new) }
     ensures stopped { EndsAs (M.stopped machine.new) result }
     ensures device { M.fits machine.new (S.blocks swap.new) }
 

@@ -1,4 +1,4 @@
-use Rattle.std.proofs.Common.{◌∙◌, subst, sym}
+use Rattle.std.proofs.Common.{None, Some, ◌∙◌, subst, sym}
 use Rattle.o2_words.specs.declared.words.Verb.{Verb}
 use Rattle.o2_words.specs.Words.{IsCommandFor}
 use Rattle.o2_cli.proofs.Checked.{texts_of_check, untried}
@@ -9,13 +9,30 @@ pub returns-clause-texts : goal.returns-clause-texts
 returns-clause-texts g c =
     shown c.args.words.now (g.F.Files.told c.args.files.now) _ _ _ _ _ _ _ _ _ c.in-Ok.command.verb c.in-Ok-from_slice.name c.in-Ok-open.session
     (subst (λ name. IsCommandFor c.args.words.now c.in-Ok.command.verb name) (sym (c.in-Ok-from_slice.ensures ∙ c.as_bytes.ensures.value)) c.in-Ok.ensures)
-    (λ contents is. c.in-Ok-open.ensures.exact contents is) c.run_session.result c.run_session.ensures.texts
+    (λ contents is. c.in-Ok-open.ensures.exact contents is) c.run_session.result (c.run_session.ensures.texts None tt)
+
+pub returns-clause-untold_texts : goal.returns-clause-untold_texts
+returns-clause-untold_texts g c = λ text may.
+    shown c.args.words.now (g.F.Files.told c.args.files.now) _ _ _ _ _ _ _ _ _ c.in-Ok.command.verb c.in-Ok-from_slice.name c.in-Ok-open.session
+    (subst (λ name. IsCommandFor c.args.words.now c.in-Ok.command.verb name) (sym (c.in-Ok-from_slice.ensures ∙ c.as_bytes.ensures.value)) c.in-Ok.ensures)
+    (λ contents is. c.in-Ok-open.ensures.exact contents is) c.run_session.result (c.run_session.ensures.texts (Some text) may)
 
 pub returns-in-Err-clause-texts : goal.returns-in-Err-clause-texts
 returns-in-Err-clause-texts g c = untouched _ _ _ _ _ _ _ _ _ c.from.result c.from.ensures
 
+pub returns-in-Err-clause-untold_texts : goal.returns-in-Err-clause-untold_texts
+returns-in-Err-clause-untold_texts g c = λ text may.
+    untouched _ _ _ _ _ _ _ _ _ c.from.result c.from.ensures
+
 pub returns-in-Check-clause-texts : goal.returns-in-Check-clause-texts
 returns-in-Check-clause-texts g c =
+    texts_of_check c.args.words.now (g.F.Files.told c.args.files.now) c.in-Ok-from_slice.name
+    (subst (λ (v : Verb). IsCommandFor c.args.words.now v c.in-Ok-from_slice.name) c.in-Check.is
+    (subst (λ name. IsCommandFor c.args.words.now c.in-Ok.command.verb name) (sym (c.in-Ok-from_slice.ensures ∙ c.as_bytes.ensures.value)) c.in-Ok.ensures))
+    c.in-Ok-open.session _ _ _ _ _ _ _ c.check_session.result c.check_session.ensures.lines
+
+pub returns-in-Check-clause-untold_texts : goal.returns-in-Check-clause-untold_texts
+returns-in-Check-clause-untold_texts g c = λ text may.
     texts_of_check c.args.words.now (g.F.Files.told c.args.files.now) c.in-Ok-from_slice.name
     (subst (λ (v : Verb). IsCommandFor c.args.words.now v c.in-Ok-from_slice.name) c.in-Check.is
     (subst (λ name. IsCommandFor c.args.words.now c.in-Ok.command.verb name) (sym (c.in-Ok-from_slice.ensures ∙ c.as_bytes.ensures.value)) c.in-Ok.ensures))

@@ -1,5 +1,6 @@
 use Rattle.std.proofs.Common.{◌≡◌, ◌≤◌, false, ℕ, List, length, Option, Some, None}
 use Rattle.o2_outer.specs.Texts.{Gains}
+use Rattle.o2_outer.specs.Inputs.{GoesOn, IsSeenAs, left_as}
 use Rattle.o2_world.specs.World.{World, Setting}
 use Rattle.o2_world.specs.Text.{lines_text}
 use Rattle.o2_world.specs.Run.{console}
@@ -10,10 +11,11 @@ use Rattle.o2_run.proofs.whole.run.Given as goal
 abbrev pub invariant-steps : goal.invariant-steps
 invariant-steps g l = record {
   fresh : g.M.Steps.stopped l.fn.machine ≡ None → g.M.Steps.stopped l.machine ≡ None;
-  reached : g.M.Steps.stopped l.fn.machine ≡ None → (s : Setting) (w : World) (c r : Option (List ℕ)) → g.M.Steps.stands l.fn.machine (g.S.SwapDevice.blocks l.fn.swap) (g.S.SwapDevice.told l.fn.swap) (g.S.SwapDevice.block l.fn.swap) s w
-      → g.I.Source.left l.fn.input ≡ Some w.input
+  goes_on : GoesOn (g.I.Source.past l.fn.input) (g.I.Source.past l.input);
+  reached : g.M.Steps.stopped l.fn.machine ≡ None → (text : Option (List ℕ)) → IsSeenAs text (g.I.Source.past l.input) → (s : Setting) (w : World) (c r : Option (List ℕ)) → g.M.Steps.stands l.fn.machine (g.S.SwapDevice.blocks l.fn.swap) (g.S.SwapDevice.told l.fn.swap) (g.S.SwapDevice.block l.fn.swap) s w
+      → left_as text (g.I.Source.left l.fn.input) (g.I.Source.past l.fn.input) ≡ Some w.input
       → Gains c (g.C.Sink.taken l.fn.console) (console w) → Gains r (g.R.Sink.taken l.fn.report) (lines_text w.lines)
-      → HasReached (g.M.Steps.stands l.machine (g.S.SwapDevice.blocks l.swap) (g.S.SwapDevice.told l.swap) (g.S.SwapDevice.block l.swap) s) g.M.Steps.swaps s w (g.I.Source.left l.input) c (g.C.Sink.taken l.console) r (g.R.Sink.taken l.report)
+      → HasReached (g.M.Steps.stands l.machine (g.S.SwapDevice.blocks l.swap) (g.S.SwapDevice.told l.swap) (g.S.SwapDevice.block l.swap) s) g.M.Steps.swaps s w (left_as text (g.I.Source.left l.input) (g.I.Source.past l.input)) c (g.C.Sink.taken l.console) r (g.R.Sink.taken l.report)
       (counts (g.C.Sink.puts l.fn.console) (g.C.Sink.puts l.console) (g.R.Sink.puts l.fn.report) (g.R.Sink.puts l.report) (length w.lines));
   device : g.M.Steps.fits l.machine (g.S.SwapDevice.blocks l.swap);
   input_count : g.I.Source.faults l.fn.input ≤ g.I.Source.faults l.input;
