@@ -43,7 +43,8 @@ use Rattle.o2_ends.proofs.Holders.{has_there, holder_of, id_same, some_is}
 use Rattle.o2_ends.proofs.Letting.{held_before, held_behind, live_id, some_all}
 use Rattle.o2_stands.proofs.Running.{running_put, running_ready}
 use Rattle.o2_stands.proofs.Worlds.{holds_of, name_held}
-use Rattle.o2_ends.proofs.Worlds.{absorbed, held_here, held_other, kept_is, or_right, private_taken, run_reserves, tidy_behind, used_all}
+use Rattle.o2_ends.proofs.Worlds.{absorbed, held_here, held_other, kept_is, or_right, private_taken, run_reserves, tidy_behind}
+use Rattle.o2_stands.proofs.Tidying.{used_all}
 use Rattle.o2_changes.proofs.Worlds.{index_held}
 
 none_some : {X : Type 0} (x : X) → None ≡ Some x → ⊥

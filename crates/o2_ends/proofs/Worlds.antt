@@ -3,7 +3,6 @@ use Rattle.std.proofs.Common.{◌≡◌, ◌≢◌, ℕ, ◌+◌, ◌≤◌, inl
 use Rattle.std.specs.Prelude.{filter, nat_le, nat_lt, ◌==◌}
 use Rattle.std.specs.List.{list_any}
 use Rattle.std.proofs.lemmas.Bool.{cases_eq, false≢true, ne_eqb}
-use Rattle.o2_world.specs.Changes.{is_used, used}
 use Rattle.o2_world.specs.Holders.{is_held, kept, process_at, with_process}
 use Rattle.o2_world.specs.Known.{held_at, holds_index, is_for_the_run, lives_at, reserves}
 use Rattle.o2_world.specs.Map.{Map, get}
@@ -12,6 +11,7 @@ use Rattle.o2_world.specs.World.{Held, Process, Reserve, Segment}
 use Rattle.o2_world.proofs.MapLemmas.{get-filter}
 use Rattle.o2_stands.specs.Stands.{AllStay, IsTidy, taken_by}
 use Rattle.o2_stands.proofs.Once.{once_kept}
+use Rattle.o2_stands.proofs.Tidying.{and_parts}
 use Rattle.o2_stands.proofs.Worlds.{put_here, put_other}
 
 -- The process that has ended.
@@ -30,19 +30,8 @@ kept_is ps names n = get-filter (is_held ps) names n
 
 -- Reserved indexes.
 
-and_parts : (a b : Bool) → (a && b) ≡ true → (a ≡ true) × (b ≡ true)
-and_parts true b e = (refl, e)
-and_parts false b e = absurd (false≢true e)
-
 is_zero : (n : ℕ) → (n == 0) ≡ true → n ≡ 0
 is_zero n e = grind arith
-
-pub used_all : (ps : List Process) (rs : List Reserve) → AllStay rs → used ps rs ≡ rs
-used_all ps [] all = refl
-used_all ps (r ∷ rs) all =
-    let x = and_parts (r.region == 0) r.stays all.0 in
-    let t : is_used ps r ≡ true = rw (x.0, x.1) refl in
-    ap (λ (b : Bool). cond b (r ∷ filter (is_used ps) rs) (filter (is_used ps) rs)) t ∙ ap (λ (z : List Reserve). r ∷ z) (used_all ps rs all.1)
 
 pub no_own : (rs : List Reserve) (a i : ℕ) → 1 ≤ a → AllStay rs → list_any (reserves a i) rs ≡ false
 no_own [] a i some all = refl

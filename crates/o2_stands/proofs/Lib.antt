@@ -7,4 +7,5 @@ pub mod Sums
 pub mod Rooms
 pub mod Knowing
 pub mod Once
+pub mod Tidying
 pub mod Matching

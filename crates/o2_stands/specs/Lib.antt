@@ -1,5 +1,6 @@
 pub mod Parts
 pub mod Stands
+pub mod Tidies
 pub mod Knows
 pub mod Views
 pub mod Moves

@@ -26,10 +26,11 @@ ghost use Rattle.o2_world.specs.Holders.{process_at, with_process};
 ghost use Rattle.o2_world.specs.Known.{held_at, is_for_the_run, known_of};
 ghost use Rattle.o2_world.specs.Starts.{Start, opening_of};
 ghost use Rattle.o2_world.specs.Changes.{Change, with_all, with_change};
-ghost use Rattle.o2_world.specs.Tied.{AreFitChanges, IsSound, IsTied};
+ghost use Rattle.o2_world.specs.Tied.{AreFitChanges, IsSound, IsSwept, IsTied};
 ghost use Rattle.o2_world.specs.Views.{view_of, with_bytes};
 ghost use Rattle.o2_stands.specs.Parts.{Parts, running_of};
 ghost use Rattle.o2_stands.specs.Stands.{AreLawful, AreOnce, IsReady, IsSetTo, IsTidy, MatchesIn, Stands, StandsIn};
+ghost use Rattle.o2_stands.specs.Tidies.{AreTidyChanges};
 ghost use Rattle.o2_stands.specs.Moves.{AreWritten, moved, stepped_to, with_running};
 ghost use Rattle.o2_stands.specs.Views.{Fills, boundless_view, filled};
 ghost use Rattle.o2_stands.specs.Knows.{KnowsAs, known_in, others_of};
@@ -70,6 +71,14 @@ pub fn names_stand_once()
     ensures change { (w : World) (c : Change) → IsTied w → AreOnce w.names → AreOnce (with_change w c).names }
     ensures all { (w : World) (cs : List Change) → AreFitChanges w cs → IsTied w → AreOnce w.names
         → AreOnce (with_all w cs).names }
+{}
+
+/// A tidy world stays tidy behind changes that are fit, where all that lives behind them is held and what is held anew under shared
+/// indexes is held as these are reserved.
+pub fn changes_keep_a_world_tidy()
+    ensures { (w : World) (cs : List Change) → IsTied w → AreFitChanges w cs → AreTidyChanges w cs
+        → IsTidy w.processes w.names w.reserved → IsSwept (with_all w cs)
+        → IsTidy (with_all w cs).processes (with_all w cs).names (with_all w cs).reserved }
 {}
 
 /// What is known of a world beside what a process sees is known of the machine.

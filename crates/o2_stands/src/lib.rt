@@ -6,6 +6,7 @@ mod laws;
 
 pub use always::lawful;
 pub use laws::{
-    moves_are_unseen, names_are_segments, names_stand_once, openings_are_tidy, processes_go_on,
-    standing_is_matching, steps_are_seen, views_are_filled, worlds_are_known,
+    changes_keep_a_world_tidy, moves_are_unseen, names_are_segments, names_stand_once,
+    openings_are_tidy, processes_go_on, standing_is_matching, steps_are_seen, views_are_filled,
+    worlds_are_known,
 };
