@@ -10,6 +10,14 @@ abbrev pub shown_text : List ℕ → List ℕ
 shown_text [] = []
 shown_text (b ∷ bs) = byte_text b ++ shown_text bs
 
+-- bytes in hexadecimal digits, two of each
+abbrev pub pair_text : ℕ → List ℕ
+pair_text b = digit_glyph true (b / 16) ∷ (digit_glyph true (b % 16) ∷ [])
+
+abbrev pub hex_text : List ℕ → List ℕ
+hex_text [] = []
+hex_text (b ∷ bs) = pair_text b ++ hex_text bs
+
 -- a number in four hexadecimal digits, as `{:04X}` writes it
 abbrev pub hex4 : ℕ → List ℕ
 hex4 n = padded_integral (format_spec 32 0 4 4 (2 ^ 64 - 1)) false [] (digits 16 true n)

@@ -10,15 +10,26 @@ use std::alloc::{AllocError, Global};
 use std::process::ExitCode;
 use std::{env, io};
 
-/// The program's words, its own name first.
-pub fn words(rt: &HostRuntime) -> io::Result<Vec<String>> {
+/// The program's words, its own name first. None where one of them isn't UTF-8, as the standard error then says; the status is to be
+/// `MISUSED`.
+pub fn words(rt: &HostRuntime, name: &str) -> io::Result<Option<Vec<String>>> {
+    let all = match env::args(rt) {
+        Ok(all) => all,
+        Err(error) => {
+            if error.kind() != io::ErrorKind::InvalidData {
+                return Err(error);
+            }
+            eprintln!(rt; "{name}: a word isn't UTF-8")?;
+            return Ok(None);
+        }
+    };
     let mut words = Vec::new(rt.alloc());
-    for word in env::args(rt)? {
+    for word in all {
         if words.push(word).is_err() {
             return Err(io::Error::from(io::ErrorKind::OutOfMemory));
         }
     }
-    Ok(words)
+    Ok(Some(words))
 }
 
 /// What a program ends with where its words are no command, or ask for help or the version: the text goes to the standard error or to

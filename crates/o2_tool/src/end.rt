@@ -2,6 +2,7 @@
 ghost use Rattle.std.specs.Prelude.{◌≡◌, MatchResult};
 ghost use Rattle.std.specs.Process.{exit_status};
 
+use std::io;
 use std::process::ExitCode;
 
 /// The status of a program that said why something is refused.
@@ -13,14 +14,31 @@ pub const MISUSED: u8 = 2;
 /// The status of a program that has failed: a file can't be read, there is no memory, or the output fails.
 pub const FAILED: u8 = 3;
 
-/// The end of a program: its status, or 3 with a line on the standard error.
+/// The system's number of the error that a write to a pipe gives where nobody reads any more.
+const EPIPE: i32 = 32;
+
+/// Whether an error is that of a pipe that nobody reads any more, as behind `| head`. An `anyhow::Error` has its text alone.
+fn is_closed_pipe(rt: &HostRuntime, error: &anyhow::Error) -> bool {
+    let closed = io::Error::from_raw_os_error(EPIPE);
+    let Ok(text) = format!(in rt.alloc(); "{error}") else {
+        return false;
+    };
+    let Ok(wanted) = format!(in rt.alloc(); "{closed}") else {
+        return false;
+    };
+    text.as_str() == wanted.as_str()
+}
+
+/// The end of a program: its status, or 3 with a line on the standard error. Nothing is said where nobody reads the output any more.
 pub fn ended(rt: &HostRuntime, name: &str, done: anyhow::Result<ExitCode>) -> ExitCode
     ensures { MatchResult done (λ code. result ≡ code) (λ _. exit_status result ≡ FAILED) }
 {
     match done {
         Ok(code) => code,
         Err(error) => {
-            let _ = eprintln!(rt; "{name}: {error}");
+            if !is_closed_pipe(rt, &error) {
+                let _ = eprintln!(rt; "{name}: {error}");
+            }
             ExitCode::from(FAILED)
         }
     }

@@ -10,7 +10,7 @@ use std::fmt;
 pub struct Shown<'a>(pub &'a [u8]);
 
 /// A hexadecimal digit.
-fn digit(value: u8) -> char
+pub(crate) fn digit(value: u8) -> char
     requires { value < 16 }
     ensures { result ≡ digit_glyph true value }
 {

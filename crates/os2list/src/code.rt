@@ -10,7 +10,7 @@ use o2_image::Module;
 use o2_isa::{Decoded, Instr};
 use o2_ne_segs::{Kind, Reloc, Segment};
 use o2_text::line;
-use o2_tool::Shown;
+use o2_tool::{Hex, Shown, filling};
 use std::alloc::{AllocError, Global};
 use std::collections::BTreeMap;
 
@@ -87,18 +87,11 @@ fn list_line(
     text: &[u8],
     notes: &Notes,
 ) -> anyhow::Result<()> {
-    print!(rt; "  {at:04X}  ")?;
-    for byte in bytes {
-        print!(rt; "{byte:02X}")?;
+    let (code, rest, text) = (Hex(bytes), filling(bytes.len()), Shown(text));
+    match note_in(notes, at, bytes.len()) {
+        None => println!(rt; "  {at:04X}  {code}{rest}  {text}")?,
+        Some(note) => println!(rt; "  {at:04X}  {code}{rest}  {text}  ; {note}")?,
     }
-    for _ in bytes.len()..10 {
-        print!(rt; "  ")?;
-    }
-    print!(rt; "  {}", Shown(text))?;
-    if let Some(note) = note_in(notes, at, bytes.len()) {
-        print!(rt; "  ; {note}")?;
-    }
-    println!(rt; "")?;
     Ok(())
 }
 

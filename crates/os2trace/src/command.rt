@@ -58,11 +58,12 @@ pub fn program<'a>(alloc: Global) -> Result<Command<'a>, AllocError> {
         .subcommand(with_file(alloc, "run", "Traces a machine file")?)
 }
 
-/// The choices in the words; none where the selector is no hexadecimal number.
+/// The choices in the words; none where the selector is no hexadecimal number from 1 to FFFF.
 pub fn wish(matches: &ArgMatches<'_>) -> Option<Choice> {
     let selector = match matches.get_str("selector") {
         None => 0,
         Some(text) => match u16::from_str_radix(text, 16) {
+            Ok(0) => return None,
             Ok(selector) => selector,
             Err(_) => return None,
         },

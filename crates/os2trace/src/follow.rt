@@ -7,7 +7,7 @@ ghost use Rattle.o2_sched.specs.Schedule.{pick_of};
 ghost use Rattle.os2trace.specs.Chosen.{is_chosen};
 
 use crate::command::Choice;
-use crate::show::{Before, show_exception, show_pieces, show_step};
+use crate::show::{Before, show_exception, show_step};
 use o2_base::{Bytes, NoMemory};
 use o2_bus::Plain;
 use o2_core::step_plain;
@@ -16,7 +16,7 @@ use o2_machine::{Machine, Steps, Turn};
 use o2_open::Session;
 use o2_outer::{MemSink, Sink, SureSource, SureSwap};
 use o2_sched::Pick;
-use o2_tool::REFUSED;
+use o2_tool::{REFUSED, print_lines};
 use std::alloc::{AllocError, Global};
 use std::process::ExitCode;
 
@@ -174,8 +174,8 @@ fn step(
     let turn = ahead.turn(&mut console, &mut report);
     if chosen {
         show(rt, ahead, behind, before)?;
-        show_pieces(rt, ">", console.taken())?;
-        show_pieces(rt, "|", report.taken())?;
+        print_lines(rt, ">", console.taken())?;
+        print_lines(rt, "|", report.taken())?;
     }
     let mut nothing = sink(rt.alloc(), STEP_ROOM)?;
     let mut nowhere = sink(rt.alloc(), STEP_ROOM)?;
@@ -188,7 +188,7 @@ fn finish(rt: &HostRuntime, ahead: &mut Runner) -> anyhow::Result<()> {
     let mut console = sink(rt.alloc(), STEP_ROOM)?;
     let mut report = sink(rt.alloc(), STEP_ROOM)?;
     let _ = ahead.turn(&mut console, &mut report);
-    show_pieces(rt, "|", report.taken())?;
+    print_lines(rt, "|", report.taken())?;
     Ok(())
 }
 
@@ -226,12 +226,12 @@ pub fn follow(
     let mut report = sink(rt.alloc(), START_ROOM)?;
     let mut unseen = sink(rt.alloc(), START_ROOM)?;
     let Some(mut ahead) = front(rt.alloc(), session, input, &mut report) else {
-        println!(rt; "it doesn't start: `os2why` with the same words says why")?;
+        eprintln!(rt; "os2trace: it doesn't start: `os2why` with the same words says why")?;
         return Ok(ExitCode::from(REFUSED));
     };
     let Some(mut behind) = front(rt.alloc(), session, input, &mut unseen) else {
         anyhow::bail!("there is no memory");
     };
-    show_pieces(rt, "|", report.taken())?;
+    print_lines(rt, "|", report.taken())?;
     follow_both(rt, &mut ahead, &mut behind, choice)
 }

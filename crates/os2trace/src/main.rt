@@ -7,7 +7,7 @@ mod show;
 
 use clap::ArgMatches;
 use command::wish;
-use o2_open::open;
+use o2_open::{OpenFault, open};
 use o2_outer::FolderFiles;
 use o2_tool::{MISUSED, REFUSED, answered, ended, file_name, words};
 use o2_words::Verb;
@@ -32,14 +32,16 @@ fn whole_input(rt: &HostRuntime) -> anyhow::Result<Vec<u8>> {
 /// Traces what the command opens.
 fn trace(rt: &HostRuntime, verb: Verb, found: &ArgMatches<'_>) -> anyhow::Result<ExitCode> {
     let Some(choice) = wish(found) else {
-        eprintln!(rt; "os2trace: a selector is a hexadecimal number, as 000F")?;
+        eprintln!(rt; "os2trace: a selector is a hexadecimal number from 1 to FFFF, as 000F")?;
         return Ok(ExitCode::from(MISUSED));
     };
     let name = file_name(rt.alloc(), found.get_str("FILE").unwrap_or(""))?;
     let mut files = FolderFiles::new(rt);
     match open(rt.alloc(), verb, &mut files, &name) {
+        Err(OpenFault::FileFault) => anyhow::bail!("a file can't be read"),
+        Err(OpenFault::NoMemory) => anyhow::bail!("there is no memory"),
         Err(_) => {
-            println!(rt; "it isn't opened: `os2why` with the same words says why")?;
+            eprintln!(rt; "os2trace: it isn't opened: `os2why` with the same words says why")?;
             Ok(ExitCode::from(REFUSED))
         }
         Ok(session) => {
@@ -50,7 +52,9 @@ fn trace(rt: &HostRuntime, verb: Verb, found: &ArgMatches<'_>) -> anyhow::Result
 }
 
 fn run(rt: &HostRuntime) -> anyhow::Result<ExitCode> {
-    let words = words(rt)?;
+    let Some(words) = words(rt, "os2trace")? else {
+        return Ok(ExitCode::from(MISUSED));
+    };
     match command::program(rt.alloc())?.try_get_matches_from(words.as_slice()) {
         Err(error) => Ok(answered(rt, &error)?),
         Ok(matches) => match matches.subcommand() {

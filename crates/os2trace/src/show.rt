@@ -4,9 +4,9 @@ ghost use Rattle.os2trace.specs.Changes.{change_text, general_text, pointers_tex
 
 use o2_base::NoMemory;
 use o2_decode::decode;
-use o2_isa::{Arg, Cpu, Decoded, Instr, Outcome, Sreg};
+use o2_isa::{Arg, Cpu, Decoded, Instr, Op, Outcome, Sreg};
 use o2_text::line;
-use o2_tool::Shown;
+use o2_tool::{Hex, Shown, filling};
 use std::alloc::{AllocError, Global};
 use std::io;
 
@@ -98,18 +98,6 @@ fn changes(alloc: Global, old: &Cpu, new: &Cpu, next: u16) -> Result<String, All
     Ok(out)
 }
 
-/// The instruction's bytes, in room for ten.
-fn show_bytes(rt: &HostRuntime, before: &Before, count: usize) -> io::Result<()> {
-    for (k, byte) in before.bytes.iter().enumerate() {
-        if k < count && k < before.count {
-            print!(rt; "{byte:02X}")?;
-        } else {
-            print!(rt; "  ")?;
-        }
-    }
-    Ok(())
-}
-
 /// The text of an instruction with this IP behind it.
 fn text_of(alloc: Global, instr: &Instr, next: u16) -> Result<String, AllocError> {
     match line(alloc, instr, next) {
@@ -133,12 +121,13 @@ pub fn show_step(rt: &HostRuntime, before: &Before, after: Option<&Cpu>) -> anyh
         None => String::new(alloc),
         Some(new) => changes(alloc, old, new, next)?,
     };
-    print!(rt; "{} {:04X}:{:04X} ", before.process, old.cs, old.ip)?;
-    show_bytes(rt, before, count)?;
+    let count = count.min(before.count).min(10);
+    let (code, rest) = (Hex(&before.bytes[..count]), filling(count));
+    let (process, cs, ip) = (before.process, old.cs, old.ip);
     if changed.is_empty() {
-        println!(rt; " {text}")?;
+        println!(rt; "{process} {cs:04X}:{ip:04X} {code}{rest} {text}")?;
     } else {
-        println!(rt; " {text:<32}{changed}")?;
+        println!(rt; "{process} {cs:04X}:{ip:04X} {code}{rest} {text:<32}{changed}")?;
     }
     Ok(())
 }
@@ -153,25 +142,47 @@ fn segment_of(cpu: &Cpu, reg: Sreg) -> (&'static str, u16) {
     }
 }
 
-/// The segment register by which an instruction ended in an exception: that of the stack, or of the operand in memory.
-fn segment_by(vector: u8, instr: &Instr) -> Option<Sreg> {
-    if vector == 12 {
-        return Some(Sreg::Ss);
-    }
-    match (&instr.left, &instr.right) {
-        (Arg::M(ea), _) => Some(ea.seg),
-        (_, Arg::M(ea)) => Some(ea.seg),
-        _ => None,
+/// The segment registers of an instruction's operands in memory. A string instruction that writes one writes it in ES.
+fn segments_of(instr: &Instr) -> (Option<Sreg>, Option<Sreg>) {
+    match instr.op {
+        Op::OpMovs | Op::OpCmps => (Some(instr.seg), Some(Sreg::Es)),
+        Op::OpLods | Op::OpXlat => (Some(instr.seg), None),
+        Op::OpStos | Op::OpScas => (Some(Sreg::Es), None),
+        // what only a system may do is refused before its operand is looked at
+        Op::OpLgdt | Op::OpLidt | Op::OpLldt | Op::OpLtr | Op::OpLmsw => (None, None),
+        _ => match (&instr.left, &instr.right) {
+            (Arg::M(ea), _) => (Some(ea.seg), None),
+            (_, Arg::M(ea)) => (Some(ea.seg), None),
+            _ => (None, None),
+        },
     }
 }
 
-/// The segment register by which an instruction ended in an exception, where there is one.
-fn show_segment(rt: &HostRuntime, before: &Before, vector: u8) -> io::Result<()> {
-    if let Some((instr, _)) = instruction(before) {
-        if let Some(reg) = segment_by(vector, &instr) {
-            let (name, selector) = segment_of(&before.cpu, reg);
-            print!(rt; ", segment {name}={selector:04X}")?;
-        }
+/// The segment registers by which an instruction may have ended in an exception: that of the stack, or those of its operands. There is
+/// none where the error code is a selector, or where LOCK isn't allowed.
+fn segments_by(vector: u8, code: u16, instr: &Instr) -> (Option<Sreg>, Option<Sreg>) {
+    if vector == 12 {
+        return (Some(Sreg::Ss), None);
+    }
+    if vector != 13 || code != 0 || instr.lock {
+        return (None, None);
+    }
+    segments_of(instr)
+}
+
+/// The segment registers by which an instruction may have ended in an exception, where there are any.
+fn show_segments(rt: &HostRuntime, before: &Before, vector: u8, code: u16) -> io::Result<()> {
+    let Some((instr, _)) = instruction(before) else {
+        return Ok(());
+    };
+    let (first, second) = segments_by(vector, code, &instr);
+    if let Some(reg) = first {
+        let (name, selector) = segment_of(&before.cpu, reg);
+        print!(rt; ", segment {name}={selector:04X}")?;
+    }
+    if let Some(reg) = second {
+        let (name, selector) = segment_of(&before.cpu, reg);
+        print!(rt; " or {name}={selector:04X}")?;
     }
     Ok(())
 }
@@ -187,7 +198,7 @@ pub fn show_exception(
     match answer {
         Outcome::Trap(vector, code) => {
             print!(rt; "! exception {vector}, error code {code:04X}")?;
-            show_segment(rt, before, vector)?;
+            show_segments(rt, before, vector, code)?;
         }
         Outcome::Gate { .. } => print!(rt;
             "! exception {number}, error code 0000, in the service"
@@ -197,22 +208,4 @@ pub fn show_exception(
         }
     }
     println!(rt; "")
-}
-
-/// Pieces, line by line, each behind a mark.
-pub fn show_pieces(rt: &HostRuntime, mark: &str, bytes: &[u8]) -> io::Result<()> {
-    if bytes.is_empty() {
-        return Ok(());
-    }
-    let mut start = 0usize;
-    for (at, byte) in bytes.iter().enumerate() {
-        if *byte == b'\n' && start <= at {
-            println!(rt; "{mark} {}", Shown(&bytes[start..at]))?;
-            start = at + 1;
-        }
-    }
-    if start < bytes.len() {
-        println!(rt; "{mark} {}", Shown(&bytes[start..]))?;
-    }
-    Ok(())
 }

@@ -66,10 +66,16 @@ final_data old new = object
     (member (codes "ram") (array (items_of (changed_ram old new)))
     (member (codes "regs") (registers_data new.cpu) no_members))
 
--- the state before a step and behind it, with what it answered
-abbrev pub vector_data : List ℕ → Snapshot → Snapshot → Outcome → Data
-vector_data name before after outcome = object
+-- bytes as numbers
+abbrev pub naturals : List ℕ → List Data
+naturals [] = []
+naturals (b ∷ bs) = natural b ∷ naturals bs
+
+-- the instruction's text and bytes, the state before a step and behind it, and what it answered
+abbrev pub vector_data : List ℕ → List ℕ → Snapshot → Snapshot → Outcome → Data
+vector_data name bytes before after outcome = object
     (member (codes "answer") (answer_data outcome)
+    (member (codes "bytes") (array (items_of (naturals bytes)))
     (member (codes "final") (final_data before after)
     (member (codes "initial") (initial_data before)
-    (member (codes "name") (string name) no_members))))
+    (member (codes "name") (string name) no_members)))))

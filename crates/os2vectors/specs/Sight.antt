@@ -52,3 +52,11 @@ spelling_text ip _ = codes "no instruction"
 
 abbrev pub name_text : ℕ → List ℕ → List ℕ
 name_text ip code = spelling_text ip (decoded (take 10 (drop ip code)))
+
+-- the bytes of what bytes spell, none where that is no instruction
+abbrev pub spelling_bytes : List ℕ → Decoded → List ℕ
+spelling_bytes front (One i n) = take n front
+spelling_bytes front _ = []
+
+abbrev pub instruction_bytes : ℕ → List ℕ → List ℕ
+instruction_bytes ip code = spelling_bytes (take 10 (drop ip code)) (decoded (take 10 (drop ip code)))

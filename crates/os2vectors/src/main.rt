@@ -5,7 +5,7 @@ ghost use Rattle.std.specs.Prelude.{◌≡◌, ◌<◌, ℕ, List, IfOk, string_
 ghost use Rattle.o2_isa.specs.declared.cpu.Outcome.{Outcome};
 ghost use Rattle.serde_json.specs.View.{view};
 ghost use Rattle.os2vectors.specs.declared.state.Snapshot.{Snapshot as State};
-ghost use Rattle.os2vectors.specs.Sight.{Steps, name_text};
+ghost use Rattle.os2vectors.specs.Sight.{Steps, instruction_bytes, name_text};
 ghost use Rattle.os2vectors.specs.Json.{vector_data};
 
 mod command;
@@ -45,19 +45,34 @@ fn name_of(alloc: Global, before: &Snapshot) -> Result<String, AllocError>
     }
 }
 
+/// The bytes of the instruction that a state begins with, none where it begins with none.
+fn bytes_of(before: &Snapshot) -> &[u8]
+    requires { before.now.cpu.ip < 32 }
+    ensures { result.now ≡ instruction_bytes before.now.cpu.ip before.now.code }
+{
+    let at = before.cpu.ip as usize;
+    let front = &before.code[at..at + 10];
+    if let Decoded::One(_, count) = decode(front) {
+        &front[..count as usize]
+    } else {
+        &[]
+    }
+}
+
 /// The vector of a state: the step that its data tell is that of the processor's definition.
 fn made(alloc: Global, before: &Snapshot) -> Result<Value, AllocError>
     requires { before.now.cpu.ip < 32 }
     ensures { IfOk result (λ v. (after : State) × (outcome : Outcome)
         × Steps before.now after outcome
-        × (view v ≡ vector_data (name_text before.now.cpu.ip before.now.code) before.now after outcome)) }
+        × (view v ≡ vector_data (name_text before.now.cpu.ip before.now.code)
+        (instruction_bytes before.now.cpu.ip before.now.code) before.now after outcome)) }
 {
     let name = name_of(alloc, before)?;
     let taken = match step(alloc, before) {
         Ok(taken) => taken,
         Err(NoMemory) => return Err(AllocError),
     };
-    let value = vector(alloc, name.as_str(), before, &taken)?;
+    let value = vector(alloc, name.as_str(), bytes_of(before), before, &taken)?;
     Ok(value)
 }
 
@@ -76,7 +91,9 @@ fn print_all(rt: &HostRuntime, wanted: &Wanted) -> anyhow::Result<ExitCode> {
 }
 
 fn run(rt: &HostRuntime) -> anyhow::Result<ExitCode> {
-    let words = words(rt)?;
+    let Some(words) = words(rt, "os2vectors")? else {
+        return Ok(ExitCode::from(MISUSED));
+    };
     match command::program(rt.alloc())?.try_get_matches_from(words.as_slice()) {
         Err(error) => Ok(answered(rt, &error)?),
         Ok(matches) => match command::wish(rt.alloc(), &matches)? {

@@ -2,13 +2,13 @@
 ghost use Rattle.std.specs.Prelude.{◌≡◌, ◌++◌, ◌+◌, ◌<◌, ◌^◌, length, map, IfOk, OnOk};
 ghost use Rattle.serde_json.specs.Data.{array};
 ghost use Rattle.serde_json.specs.View.{view, items_of};
-ghost use Rattle.os2vectors.specs.Json.{registers_data, cell, cells, changes, ram, changed_ram, segment_data, segments_data, answer_data, initial_data, final_data, vector_data};
+ghost use Rattle.os2vectors.specs.Json.{registers_data, cell, cells, changes, ram, changed_ram, segment_data, segments_data, answer_data, initial_data, final_data, vector_data, natural, naturals};
 
 use crate::state::Snapshot;
 use crate::step::Taken;
 use o2_desc::Access;
 use o2_isa::{Cpu, Outcome};
-use serde_json::{Value, json};
+use serde_json::{Number, Value, json};
 use std::alloc::{AllocError, Global};
 
 /// The registers.
@@ -140,18 +140,49 @@ fn last(alloc: Global, before: &Snapshot, after: &Snapshot) -> Result<Value, All
     json!(in alloc; {"regs": regs, "ram": ram})
 }
 
+/// A byte as a number.
+fn number(byte: u8) -> Value
+    ensures { view result ≡ natural byte }
+{
+    Value::Number(Number::from(byte))
+}
+
+/// Adds bytes as numbers.
+fn add_numbers(out: &mut Vec<Value>, bytes: &[u8]) -> Result<(), AllocError>
+    ensures { OnOk result
+        (map view out.new.items ≡ map view out.old.items ++ naturals bytes.now) }
+{
+    for byte in bytes {
+        out.push(number(*byte))?;
+    }
+    Ok(())
+}
+
+/// Bytes as an array of numbers.
+fn numbers(alloc: Global, bytes: &[u8]) -> Result<Value, AllocError>
+    ensures { IfOk result (λ v. view v ≡ array (items_of (naturals bytes.now))) }
+{
+    let mut out = Vec::new(alloc);
+    add_numbers(&mut out, bytes)?;
+    Ok(Value::Array(out))
+}
+
 /// The vector of a step.
 pub fn vector(
     alloc: Global,
     name: &str,
+    bytes: &[u8],
     before: &Snapshot,
     taken: &Taken,
 ) -> Result<Value, AllocError>
     ensures { IfOk result (λ v. view v
-        ≡ vector_data name.now before.now taken.now.after taken.now.outcome) }
+        ≡ vector_data name.now bytes.now before.now taken.now.after taken.now.outcome) }
 {
+    let bytes = numbers(alloc, bytes)?;
     let initial = initial(alloc, before)?;
     let last = last(alloc, before, &taken.after)?;
     let done = answer(alloc, taken.outcome)?;
-    json!(in alloc; {"name": name, "initial": initial, "final": last, "answer": done})
+    json!(in alloc; {
+        "name": name, "bytes": bytes, "initial": initial, "final": last, "answer": done
+    })
 }

@@ -1,1 +1,3 @@
+pub mod Imports
 pub mod Judges
+pub mod Sentences

@@ -1,14 +1,16 @@
 // An inventory of what executables import.
-ghost use Rattle.std.specs.Prelude.{◌≤◌};
+ghost use Rattle.std.specs.Prelude.{◌≡◌, ◌≤◌, [], IfOk, IfSome, Some, string_bytes};
+ghost use Rattle.os2why.specs.Imports.{by_ordinal, by_name, is_there, label_or, ordinal_label, name_label};
 
 use crate::judge::refusal;
-use crate::sentences::{service_named, service_of};
+use crate::services::{call_name, is_system, service_called, service_of};
 use clap::ArgMatches;
-use o2_base::{Fail, SERVICE_COUNT, is_built, service_at};
+use o2_base::{Fail, SERVICE_COUNT, is_built};
 use o2_image::Module;
 use o2_ne_segs::Reloc;
+use o2_open::OpenFault;
 use o2_outer::{Fetch, Files, FolderFiles};
-use o2_tool::{Shown, file_name};
+use o2_tool::{FAILED, Shown, file_name};
 use o2_words::Verb;
 use std::alloc::{AllocError, Global};
 use std::collections::BTreeMap;
@@ -46,12 +48,38 @@ struct Import {
     is_built: bool,
 }
 
+/// The service that an import by an ordinal is of, where it is of one.
+fn service_by_ordinal(name: &[u8], ordinal: u16) -> Option<u16>
+    ensures within { IfSome result (λ n. (1 ≤ n) × (n ≤ SERVICE_COUNT)) }
+    ensures exact { result ≡ by_ordinal name.now ordinal }
+{
+    if is_system(name) {
+        service_of(ordinal)
+    } else {
+        None
+    }
+}
+
+/// The service that an import by a name is of, where it is of one.
+fn service_by_name(name: &[u8], symbol: &[u8]) -> Option<u16>
+    ensures within { IfSome result (λ n. (1 ≤ n) × (n ≤ SERVICE_COUNT)) }
+    ensures exact { result ≡ by_name name.now symbol.now }
+{
+    if is_system(name) {
+        service_called(symbol)
+    } else {
+        None
+    }
+}
+
 /// The import of a service.
 fn service_import(alloc: Global, number: u16) -> Result<Import, AllocError>
     requires low { 1 ≤ number }
     requires high { number ≤ SERVICE_COUNT }
+    ensures text { IfOk result (λ i. string_bytes i.text ≡ label_or (Some number) []) }
+    ensures built { IfOk result (λ i. i.is_built ≡ is_there (Some number)) }
 {
-    let name = Shown(service_at(number).name);
+    let name = Shown(call_name(number));
     Ok(Import {
         text: format!(in alloc; "DOSCALLS.{name}")?,
         is_built: is_built(number),
@@ -59,29 +87,39 @@ fn service_import(alloc: Global, number: u16) -> Result<Import, AllocError>
 }
 
 /// An import by an ordinal.
-fn by_ordinal(alloc: Global, module: &[u8], ordinal: u16) -> Result<Import, AllocError> {
-    if module.eq_ignore_ascii_case(b"DOSCALLS") {
-        if let Some(number) = service_of(ordinal) {
-            return service_import(alloc, number);
+fn by_ordinal(alloc: Global, name: &[u8], ordinal: u16) -> Result<Import, AllocError>
+    ensures text { IfOk result (λ i. string_bytes i.text
+        ≡ label_or (by_ordinal name.now ordinal) (ordinal_label name.now ordinal)) }
+    ensures built { IfOk result (λ i. i.is_built ≡ is_there (by_ordinal name.now ordinal)) }
+{
+    match service_by_ordinal(name, ordinal) {
+        Some(number) => service_import(alloc, number),
+        None => {
+            let text = format!(in alloc; "{}.{ordinal}", Shown(name))?;
+            Ok(Import {
+                text,
+                is_built: false,
+            })
         }
     }
-    Ok(Import {
-        text: format!(in alloc; "{}.{ordinal}", Shown(module))?,
-        is_built: false,
-    })
 }
 
 /// An import by a name.
-fn by_name(alloc: Global, module: &[u8], name: &[u8]) -> Result<Import, AllocError> {
-    if module.eq_ignore_ascii_case(b"DOSCALLS") {
-        if let Some(number) = service_named(name) {
-            return service_import(alloc, number);
+fn by_name(alloc: Global, name: &[u8], symbol: &[u8]) -> Result<Import, AllocError>
+    ensures text { IfOk result (λ i. string_bytes i.text
+        ≡ label_or (by_name name.now symbol.now) (name_label name.now symbol.now)) }
+    ensures built { IfOk result (λ i. i.is_built ≡ is_there (by_name name.now symbol.now)) }
+{
+    match service_by_name(name, symbol) {
+        Some(number) => service_import(alloc, number),
+        None => {
+            let text = format!(in alloc; "{}.{}", Shown(name), Shown(symbol))?;
+            Ok(Import {
+                text,
+                is_built: false,
+            })
         }
     }
-    Ok(Import {
-        text: format!(in alloc; "{}.{}", Shown(module), Shown(name))?,
-        is_built: false,
-    })
 }
 
 /// What a relocation imports; none where it doesn't.
@@ -126,38 +164,66 @@ fn count_in(
     Ok(())
 }
 
-/// What a file imports; none where it isn't read, or is refused.
-fn imports_of(rt: &HostRuntime, file: &str) -> anyhow::Result<Option<Tally>> {
+/// What is found in a file.
+#[derive(Drop)]
+enum Found {
+    /// A module with these imports.
+    Imports(Tally),
+    /// No module that is read here.
+    Refused,
+    /// There is no such file.
+    Nothing,
+    /// It can't be read.
+    Unread,
+}
+
+/// What a file imports.
+fn imports_of(rt: &HostRuntime, file: &str) -> anyhow::Result<Found> {
     let alloc = rt.alloc();
     let name = file_name(alloc, file)?;
     let mut files = FolderFiles::new(rt);
-    let Fetch::Got(bytes) = files.fetch(alloc, &name, 4_194_304) else {
-        return Ok(None);
+    let bytes = match files.fetch(alloc, &name, 4_194_304) {
+        Fetch::Got(bytes) => bytes,
+        Fetch::TooLong => return Ok(Found::Refused),
+        Fetch::NoFile => return Ok(Found::Nothing),
+        Fetch::Failed => return Ok(Found::Unread),
+        Fetch::NoMemory => anyhow::bail!("there is no memory"),
     };
     match Module::check(alloc, bytes) {
         Err(Fail::NoMemory) => anyhow::bail!("there is no memory"),
-        Err(Fail::Bad(_)) => Ok(None),
+        Err(Fail::Bad(_)) => Ok(Found::Refused),
         Ok(module) => {
             let mut found = Tally::new(alloc);
             gather(alloc, &module, &mut found)?;
-            Ok(Some(found))
+            Ok(Found::Imports(found))
         }
     }
 }
 
-/// Says what a file imports, and counts it.
-fn take(rt: &HostRuntime, file: &str, all: &mut Tally) -> anyhow::Result<()> {
+/// Says what a file imports, and counts it; whether it was read.
+fn take(rt: &HostRuntime, file: &str, all: &mut Tally) -> anyhow::Result<bool> {
     let shown = Shown(file.as_bytes());
-    let Some(found) = imports_of(rt, file)? else {
-        println!(rt; "{shown}: no module that is read here; `os2why exe` says why")?;
-        return Ok(());
+    let found = match imports_of(rt, file)? {
+        Found::Imports(found) => found,
+        Found::Refused => {
+            println!(rt; "{shown}: no module that is read here; `os2why exe` says why")?;
+            return Ok(true);
+        }
+        Found::Nothing => {
+            eprintln!(rt; "os2why: there is no file {shown}")?;
+            return Ok(false);
+        }
+        Found::Unread => {
+            eprintln!(rt; "os2why: the file {shown} can't be read")?;
+            return Ok(false);
+        }
     };
     let built = found.built.len() as u64;
     let missing = found.missing.len() as u64;
     println!(rt; "{shown}: {built} of its imports are built, {missing} are missing")?;
     count_in(&mut all.built, &found.built)?;
     count_in(&mut all.missing, &found.missing)?;
-    Ok(())
+    Ok(true)
 }
 
 /// Lists calls with how many files import them, the most wanted first.
@@ -177,17 +243,23 @@ fn list(rt: &HostRuntime, counts: &BTreeMap<String, u64>, state: &str) -> anyhow
 fn opens(rt: &HostRuntime, file: &str) -> anyhow::Result<bool> {
     let name = file_name(rt.alloc(), file)?;
     let mut files = FolderFiles::new(rt);
-    Ok(refusal(rt.alloc(), Verb::Exe, &mut files, &name).is_none())
+    match refusal(rt.alloc(), Verb::Exe, &mut files, &name) {
+        None => Ok(true),
+        Some(OpenFault::NoMemory) => anyhow::bail!("there is no memory"),
+        Some(_) => Ok(false),
+    }
 }
 
-/// Lists what the files import, what of it is missing most, and how many of them open.
+/// Lists what the files import, what of it is missing most, and how many of them open. The status is 3 where one of them isn't read.
 pub fn inventory(rt: &HostRuntime, found: &ArgMatches<'_>) -> anyhow::Result<ExitCode> {
     let mut all = Tally::new(rt.alloc());
     let mut count = 0u64;
     let mut open = 0u64;
+    let mut all_read = true;
     if let Some(files) = found.get_raw("FILE") {
         for file in files {
-            take(rt, file, &mut all)?;
+            let is_read = take(rt, file, &mut all)?;
+            all_read = all_read && is_read;
             count = count.saturating_add(1);
             if opens(rt, file)? {
                 open = open.saturating_add(1);
@@ -197,5 +269,9 @@ pub fn inventory(rt: &HostRuntime, found: &ArgMatches<'_>) -> anyhow::Result<Exi
     println!(rt; "{open} of {count} files open")?;
     list(rt, &all.missing, "is missing")?;
     list(rt, &all.built, "is built")?;
-    Ok(ExitCode::SUCCESS)
+    Ok(if all_read {
+        ExitCode::SUCCESS
+    } else {
+        ExitCode::from(FAILED)
+    })
 }

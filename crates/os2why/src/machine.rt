@@ -7,7 +7,7 @@ use crate::sentences::key_text;
 use o2_base::{Bytes, Key, MachineFault};
 use o2_open::OpenFault;
 use o2_outer::{Fetch, Files, FolderFiles};
-use o2_tool::Shown;
+use o2_tool::{Shown, print_lines};
 use toml::{Table, Value};
 
 /// The keys of a machine file.
@@ -232,7 +232,10 @@ pub fn tell(rt: &HostRuntime, name: &Bytes, refusal: Option<&OpenFault>) -> anyh
     };
     let text = file.as_slice();
     match toml::table_from_slice(rt.alloc(), text) {
-        Err(error) => println!(rt; "  {error}")?,
+        Err(error) => {
+            let why = format!(in rt.alloc(); "{error}")?;
+            print_lines(rt, " ", why.as_str().as_bytes())?;
+        }
         Ok(table) => {
             if let Some(key) = key_of(refusal) {
                 tell_key(rt, text, &table, key)?;

@@ -7,10 +7,12 @@ mod judge;
 mod lines;
 mod machine;
 mod sentences;
+mod services;
 
 use clap::ArgMatches;
+use o2_open::OpenFault;
 use o2_outer::FolderFiles;
-use o2_tool::{REFUSED, answered, ended, file_name, words};
+use o2_tool::{MISUSED, REFUSED, answered, ended, file_name, words};
 use o2_words::Verb;
 use std::process::ExitCode;
 
@@ -19,6 +21,9 @@ fn say(rt: &HostRuntime, verb: Verb, file: &str) -> anyhow::Result<ExitCode> {
     let name = file_name(rt.alloc(), file)?;
     let mut files = FolderFiles::new(rt);
     let refusal = judge::refusal(rt.alloc(), verb, &mut files, &name);
+    if let Some(OpenFault::NoMemory) = &refusal {
+        anyhow::bail!("there is no memory");
+    }
     println!(rt;
         "{}",
         sentences::verdict(rt.alloc(), verb, refusal.as_ref())?
@@ -50,7 +55,9 @@ fn obey(rt: &HostRuntime, matches: &ArgMatches<'_>) -> anyhow::Result<ExitCode> 
 }
 
 fn run(rt: &HostRuntime) -> anyhow::Result<ExitCode> {
-    let words = words(rt)?;
+    let Some(words) = words(rt, "os2why")? else {
+        return Ok(ExitCode::from(MISUSED));
+    };
     match command::program(rt.alloc())?.try_get_matches_from(words.as_slice()) {
         Ok(matches) => obey(rt, &matches),
         Err(error) => Ok(answered(rt, &error)?),

@@ -1,8 +1,11 @@
 // Refusals in sentences.
-ghost use Rattle.std.specs.Prelude.{◌≡◌, ◌≤◌, ◌<◌, ◌++◌, ℕ, List, length, codes, string_bytes, None, IfOk, IfSome, IsSome};
+ghost use Rattle.std.specs.Prelude.{◌≡◌, ◌≤◌, ◌++◌, Bool, IfOk, IfSome, codes, string_bytes, None};
 ghost use Rattle.o2_cli.specs.StatusTexts.{module_reason, machine_text, key_text as text_of_key};
+ghost use Rattle.os2why.specs.Sentences.{which_text, known_text, ordinal_text, name_text, lost_text, target_text, taken_text, words_of, sentence_of};
+ghost use Rattle.os2why.specs.Sentences.{form_text, limits_text, machine_words, machine_sentence, module_text, cause_text};
 
-use o2_base::{Bytes, Key, MachineFault, ModuleFault, SERVICE_COUNT, Which, is_built, service_at};
+use crate::services::{call_name, is_system, service_called, service_of};
+use o2_base::{Bytes, Key, MachineFault, ModuleFault, SERVICE_COUNT, Which, is_built};
 use o2_open::OpenFault;
 use o2_tool::Shown;
 use o2_words::Verb;
@@ -10,7 +13,7 @@ use std::alloc::{AllocError, Global};
 
 /// What a table or a limit is about.
 fn which_text(which: Which) -> &'static str
-    ensures { 0 < length result.now }
+    ensures { result.now ≡ which_text which }
 {
     match which {
         Which::DataMode => "its header's data mode (bits 0 and 1 of the flags) is 3, which is none",
@@ -36,57 +39,42 @@ fn which_text(which: Which) -> &'static str
     }
 }
 
-/// The service that DOSCALLS has under an ordinal, where the machine file gives no list of its own.
-pub fn service_of(ordinal: u16) -> Option<u16>
-    ensures { IfSome result (λ n. (1 ≤ n) × (n ≤ SERVICE_COUNT)) }
+/// Why an import of a service by its ordinal isn't there: it isn't built, or the machine file leaves it out.
+fn known_sentence(
+    alloc: Global,
+    name: &[u8],
+    ordinal: u16,
+    number: u16,
+) -> Result<String, AllocError>
+    requires low { 1 ≤ number }
+    requires high { number ≤ SERVICE_COUNT }
+    ensures { IfOk result (λ s. string_bytes s ≡ known_text name.now ordinal number) }
 {
-    for number in 1..=SERVICE_COUNT {
-        if service_at(number).ordinal == ordinal {
-            return Some(number);
-        }
+    let name = Shown(name);
+    let call = Shown(call_name(number));
+    if is_built(number) {
+        format!(in alloc;
+            "it imports {name}.{ordinal} ({call}), which the table [ordinals] of the machine file leaves out"
+        )
+    } else {
+        format!(in alloc; "it imports {name}.{ordinal} ({call}), which isn't built yet")
     }
-    None
-}
-
-/// The service of a name.
-pub fn service_named(name: &[u8]) -> Option<u16>
-    ensures { IfSome result (λ n. (1 ≤ n) × (n ≤ SERVICE_COUNT)) }
-{
-    for number in 1..=SERVICE_COUNT {
-        if service_at(number).name == name {
-            return Some(number);
-        }
-    }
-    None
-}
-
-/// Whether a module is the system's own.
-fn is_system(module: &Bytes) -> bool {
-    module.as_slice().eq_ignore_ascii_case(b"DOSCALLS")
 }
 
 /// Why an import by an ordinal isn't there.
-fn ordinal_sentence(alloc: Global, module: &Bytes, ordinal: u16) -> Result<String, AllocError>
-    ensures { IfOk result (λ s. 0 < length (string_bytes s)) }
+fn ordinal_sentence(alloc: Global, name: &[u8], ordinal: u16) -> Result<String, AllocError>
+    ensures { IfOk result (λ s. string_bytes s ≡ ordinal_text name.now ordinal) }
 {
-    let name = Shown(module.as_slice());
-    if !is_system(module) {
+    if !is_system(name) {
+        let name = Shown(name);
         return format!(in alloc;
             "it imports {name}.{ordinal}, and {name} has no entry of that ordinal"
         );
     }
     match service_of(ordinal) {
-        Some(number) => {
-            let call = Shown(service_at(number).name);
-            if is_built(number) {
-                format!(in alloc;
-                    "it imports {name}.{ordinal} ({call}), which the table [ordinals] of the machine file leaves out"
-                )
-            } else {
-                format!(in alloc; "it imports {name}.{ordinal} ({call}), which isn't built yet")
-            }
-        }
+        Some(number) => known_sentence(alloc, name, ordinal, number),
         None => {
+            let name = Shown(name);
             format!(in alloc;
                 "it imports {name}.{ordinal}, and this machine has no call of that ordinal"
             )
@@ -95,26 +83,31 @@ fn ordinal_sentence(alloc: Global, module: &Bytes, ordinal: u16) -> Result<Strin
 }
 
 /// Why an import by a name isn't there.
-fn name_sentence(alloc: Global, module: &Bytes, symbol: &Bytes) -> Result<String, AllocError>
-    ensures { IfOk result (λ s. 0 < length (string_bytes s)) }
+fn name_sentence(alloc: Global, name: &[u8], symbol: &[u8]) -> Result<String, AllocError>
+    ensures { IfOk result (λ s. string_bytes s ≡ name_text name.now symbol.now) }
 {
-    let name = Shown(module.as_slice());
-    let call = Shown(symbol.as_slice());
-    if !is_system(module) {
-        return format!(in alloc; "it imports {name}.{call}, and {name} exports no such name");
+    let module_name = Shown(name);
+    let call = Shown(symbol);
+    if !is_system(name) {
+        return format!(in alloc;
+            "it imports {module_name}.{call}, and {module_name} exports no such name"
+        );
     }
-    if service_named(symbol.as_slice()).is_some() {
-        format!(in alloc; "it imports {name}.{call}, which isn't built yet")
-    } else {
-        format!(in alloc; "it imports {name}.{call}, and this machine has no call of that name")
+    match service_called(symbol) {
+        Some(_) => format!(in alloc; "it imports {module_name}.{call}, which isn't built yet"),
+        None => {
+            format!(in alloc;
+                "it imports {module_name}.{call}, and this machine has no call of that name"
+            )
+        }
     }
 }
 
 /// Why a name is none of a module that is there. `asked` says that a process asks for it, and else another module does.
-fn module_sentence(alloc: Global, name: &Bytes, asked: bool) -> Result<String, AllocError>
-    ensures { IfOk result (λ s. 0 < length (string_bytes s)) }
+fn module_sentence(alloc: Global, name: &[u8], asked: bool) -> Result<String, AllocError>
+    ensures { IfOk result (λ s. string_bytes s ≡ lost_text asked name.now) }
 {
-    let name = Shown(name.as_slice());
+    let name = Shown(name);
     if asked {
         format!(in alloc;
             "a process runs the module {name}, which no file of `modules` is. `module` is the name in the executable, and not the file's"
@@ -124,6 +117,23 @@ fn module_sentence(alloc: Global, name: &Bytes, asked: bool) -> Result<String, A
             "it refers to the module {name}, which is neither DOSCALLS nor the module of a file that is named"
         )
     }
+}
+
+/// Why a relocation of a segment isn't done.
+fn target_sentence(alloc: Global, segment: u16, number: u16) -> Result<String, AllocError>
+    ensures { IfOk result (λ s. string_bytes s ≡ target_text segment number) }
+{
+    format!(in alloc;
+        "segment {segment}: its relocation {number}, from 0, is of an unknown kind, or what it leads to isn't there"
+    )
+}
+
+/// Why a module's name isn't its own.
+fn taken_sentence(alloc: Global, name: &[u8]) -> Result<String, AllocError>
+    ensures { IfOk result (λ s. string_bytes s ≡ taken_text name.now) }
+{
+    let name = Shown(name);
+    format!(in alloc; "another module has its name, {name}, or it is named DOSCALLS")
 }
 
 /// The number of a reason, as `os2run` tells it.
@@ -154,8 +164,7 @@ fn reason(fault: &ModuleFault) -> &'static str
 /// Why a module is refused: the reason's number, and a sentence with every field of the refusal.
 #[tactic(auto, using(std::proofs::Common::append_assoc))]
 pub fn sentence(alloc: Global, fault: &ModuleFault, asked: bool) -> Result<String, AllocError>
-    ensures { IfOk result (λ s. (why : List ℕ) × (0 < length why)
-        × (string_bytes s ≡ codes "reason " ++ (module_reason fault.now ++ (codes ": " ++ why)))) }
+    ensures { IfOk result (λ s. string_bytes s ≡ sentence_of asked fault.now) }
 {
     let number = reason(fault);
     let why = words(alloc, fault, asked)?;
@@ -165,7 +174,7 @@ pub fn sentence(alloc: Global, fault: &ModuleFault, asked: bool) -> Result<Strin
 
 /// Why a module is refused, with every field of the refusal. `asked` says that a process asks for it, and no file has it.
 fn words(alloc: Global, fault: &ModuleFault, asked: bool) -> Result<String, AllocError>
-    ensures { IfOk result (λ s. 0 < length (string_bytes s)) }
+    ensures { IfOk result (λ s. string_bytes s ≡ words_of asked fault.now) }
 {
     match fault {
         ModuleFault::NotMz => { format!(in alloc; "it doesn't begin with MZ: it is no executable") }
@@ -194,20 +203,13 @@ fn words(alloc: Global, fault: &ModuleFault, asked: bool) -> Result<String, Allo
                 "segment {segment}: at offset {place:04X}h a relocation's chain leaves the segment's bytes, or meets a byte that is patched already"
             )
         }
-        ModuleFault::BadTarget(segment, number) => {
-            format!(in alloc;
-                "segment {segment}: its relocation {number}, from 0, is of an unknown kind, or what it leads to isn't there"
-            )
+        ModuleFault::BadTarget(segment, number) => target_sentence(alloc, *segment, *number),
+        ModuleFault::NoModule(name) => module_sentence(alloc, name.as_slice(), asked),
+        ModuleFault::NoOrdinal(name, ordinal) => ordinal_sentence(alloc, name.as_slice(), *ordinal),
+        ModuleFault::NoName(name, symbol) => {
+            name_sentence(alloc, name.as_slice(), symbol.as_slice())
         }
-        ModuleFault::NoModule(name) => module_sentence(alloc, name, asked),
-        ModuleFault::NoOrdinal(module, ordinal) => ordinal_sentence(alloc, module, *ordinal),
-        ModuleFault::NoName(module, name) => name_sentence(alloc, module, name),
-        ModuleFault::TwoModules(name) => {
-            format!(in alloc;
-                "another module has its name, {}, or it is named DOSCALLS",
-                Shown(name.as_slice())
-            )
-        }
+        ModuleFault::TwoModules(name) => taken_sentence(alloc, name.as_slice()),
         ModuleFault::NoSelector(name) => {
             format!(in alloc;
                 "no selectors are left for the segments of the library {}",
@@ -255,7 +257,9 @@ pub fn key_text(key: Key) -> &'static str
 }
 
 /// What a key has to be.
-fn form(key: Key) -> &'static str {
+fn form(key: Key) -> &'static str
+    ensures { result.now ≡ form_text key }
+{
     match key {
         Key::File => "a TOML document",
         Key::Memory | Key::Swap | Key::Segments | Key::Budget | Key::Quantum | Key::Avail => {
@@ -273,7 +277,9 @@ fn form(key: Key) -> &'static str {
 }
 
 /// The limits of a key.
-fn limits(key: Key) -> &'static str {
+fn limits(key: Key) -> &'static str
+    ensures { result.now ≡ limits_text key }
+{
     match key {
         Key::File => "the file has at most 1,048,576 bytes",
         Key::Memory => "it is a multiple of 16 from 4,096 to 16,777,216",
@@ -311,8 +317,7 @@ fn machine_reason(alloc: Global, fault: MachineFault) -> Result<String, AllocErr
 /// Why a machine file is refused: the reason's number with the key, and a sentence.
 #[tactic(auto, using(std::proofs::Common::append_assoc))]
 pub fn machine_sentence(alloc: Global, fault: MachineFault) -> Result<String, AllocError>
-    ensures { IfOk result (λ s. (why : List ℕ) × (0 < length why)
-        × (string_bytes s ≡ codes "reason " ++ (machine_text fault ++ (codes ": " ++ why)))) }
+    ensures { IfOk result (λ s. string_bytes s ≡ machine_sentence fault) }
 {
     let number = machine_reason(alloc, fault)?;
     let why = machine_words(alloc, fault)?;
@@ -322,7 +327,7 @@ pub fn machine_sentence(alloc: Global, fault: MachineFault) -> Result<String, Al
 
 /// Why a machine file is refused.
 fn machine_words(alloc: Global, fault: MachineFault) -> Result<String, AllocError>
-    ensures { IfOk result (λ s. 0 < length (string_bytes s)) }
+    ensures { IfOk result (λ s. string_bytes s ≡ machine_words fault) }
 {
     match fault {
         MachineFault::BadToml => format!(in alloc; "it is no TOML document"),
@@ -356,32 +361,46 @@ fn is_asked(verb: Verb, name: &Bytes, fault: &ModuleFault) -> bool {
     }
 }
 
-/// Why a module doesn't open, with the file that it is in.
+/// Why a module doesn't open, with the file that it is in. `asked` says that a process asks for it, and no file has it.
 fn module_text(
     alloc: Global,
-    verb: Verb,
     name: &Bytes,
     fault: &ModuleFault,
-) -> Result<String, AllocError> {
-    let asked = is_asked(verb, name, fault);
+    asked: bool,
+) -> Result<String, AllocError>
+    ensures { IfOk result (λ s. string_bytes s ≡ module_text asked name.now fault.now) }
+{
     let why = sentence(alloc, fault, asked)?;
     let file = Shown(name.as_slice());
     if asked {
-        format!(in alloc; "a process has no module\n  {why}")
+        let text = format!(in alloc; "a process has no module\n  {why}")?;
+        Ok(text)
     } else {
-        format!(in alloc; "the module in {file} is refused\n  {why}")
+        let text = format!(in alloc; "the module in {file} is refused\n  {why}")?;
+        Ok(text)
     }
 }
 
-/// Why a command isn't opened.
-fn cause(alloc: Global, verb: Verb, fault: &OpenFault) -> Result<String, AllocError> {
+/// Whether a refusal is of the module that a process asks for, and not of one in a file.
+fn is_of_process(verb: Verb, fault: &OpenFault) -> bool {
+    match fault {
+        OpenFault::BadModule(name, fault) => is_asked(verb, name, fault),
+        _ => false,
+    }
+}
+
+/// Why a command isn't opened. `asked` says that a process asks for a module, and no file has it.
+fn cause(alloc: Global, fault: &OpenFault, asked: bool) -> Result<String, AllocError>
+    ensures { IfOk result (λ s. string_bytes s ≡ cause_text asked fault.now) }
+{
     match fault {
         OpenFault::NoFile(name) => format!(in alloc; "there is no file {}", Shown(name.as_slice())),
         OpenFault::BadMachine(fault) => {
             let why = machine_sentence(alloc, *fault)?;
-            format!(in alloc; "the machine file is refused\n  {why}")
+            let text = format!(in alloc; "the machine file is refused\n  {why}")?;
+            Ok(text)
         }
-        OpenFault::BadModule(name, fault) => module_text(alloc, verb, name, fault),
+        OpenFault::BadModule(name, fault) => module_text(alloc, name, fault, asked),
         OpenFault::FileFault => format!(in alloc; "a file can't be read"),
         OpenFault::NoMemory => format!(in alloc; "there is no memory for it"),
     }
@@ -391,13 +410,14 @@ fn cause(alloc: Global, verb: Verb, fault: &OpenFault) -> Result<String, AllocEr
 pub fn verdict(alloc: Global, verb: Verb, refusal: Option<&OpenFault>) -> Result<String, AllocError>
     // "it opens" exactly where there is no refusal
     ensures opens { IfOk result (λ s. refusal.entry ≡ None → string_bytes s ≡ codes "it opens") }
-    ensures refused { IfOk result (λ s. IsSome refusal.entry
-        → (why : List ℕ) × (string_bytes s ≡ codes "it isn't opened: " ++ why)) }
+    // and else the cause, with each name and number of the refusal
+    ensures refused { IfOk result (λ s. IfSome refusal.entry (λ fault. (asked : Bool)
+        × (string_bytes s ≡ codes "it isn't opened: " ++ cause_text asked fault.now))) }
 {
     match refusal {
         None => format!(in alloc; "it opens"),
         Some(fault) => {
-            let why = cause(alloc, verb, fault)?;
+            let why = cause(alloc, fault, is_of_process(verb, fault))?;
             let text = format!(in alloc; "it isn't opened: {why}")?;
             Ok(text)
         }
