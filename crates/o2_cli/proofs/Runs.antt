@@ -1,5 +1,5 @@
 -- The run of a session, by what its machine began with.
-use Rattle.std.proofs.Common.{◌≡◌, ◌≤◌, ℕ, ◌+◌, arith, length, List, Option, Some, map, ap, sym, ◌∙◌, refl, append-nil, inl, subst}
+use Rattle.std.proofs.Common.{inr, ◌⊎◌, ◌≡◌, ◌≤◌, ℕ, ◌+◌, arith, length, List, Option, Some, map, ap, sym, ◌∙◌, refl, append-nil, inl, subst}
 use Rattle.std.specs.Prelude.{Result, Ok, Err, String}
 use Rattle.std.specs.declared.alloc.Global.{Global}
 use Rattle.o2_base.specs.declared.faults.ModuleFault.{ModuleFault}
@@ -27,7 +27,7 @@ use Rattle.o2_cli.specs.declared.status.Status.TheVariants as status
 use Rattle.o2_open.specs.declared.fault.OpenFault.{OpenFault}
 use Rattle.o2_open.specs.declared.fault.OpenFault.TheVariants as open_fault
 use Rattle.o2_open.specs.Loads.{Contents, Tells, loaded, start_refusal, under, ◌>>=◌}
-use Rattle.o2_cli.specs.Top.{Refuses as TopRefuses, IsUnswapped, OnInputFault, OnSinkFault, OnSwapFault, Opened, Told, IsFirst, Opens, Shows, opened, started, with_setting, refusal}
+use Rattle.o2_cli.specs.Top.{OnFileFault, Refuses as TopRefuses, IsUnswapped, OnInputFault, OnSinkFault, OnSwapFault, Opened, Told, IsFirst, Opens, Shows, opened, started, with_setting, refusal}
 use Rattle.o2_cli.specs.Statuses.{status_by, status_of}
 use Rattle.o2_cli.specs.RunTexts.{StartsWith, FaultsRun, ShowsRun}
 
@@ -131,6 +131,11 @@ swap_status (Stopped SwapFault) sink input device h = h
 abbrev pub load_started : List ℕ → Result Session OpenFault → Result Opened OpenFault
 load_started input r = r >>= (λ s. started s input)
 
+-- a command that runs is no `check`
+pub runs_not_checks : (verb : Verb) → (verb ≡ Exe) ⊎ (verb ≡ Run) → verb ≡ Check → ⊥
+runs_not_checks verb (inl exe) check = let same : Exe ≡ Check = sym exe ∙ check in absurd (cc)
+runs_not_checks verb (inr run) check = let same : Run ≡ Check = sym run ∙ check in absurd (cc)
+
 -- a refusal of a command that starts
 first_of : (verb : Verb) (contents : Contents) (name input : List ℕ) (f : OpenFault) → ((verb ≡ Check) → ⊥) → opened verb contents name input ≡ Err f → IsFirst verb contents name input f
 first_of Exe contents name input f starts e = e
@@ -171,3 +176,18 @@ module _ (words : List (String Global)) (told : Told) (blocks : ℕ) (i j c d r 
   refused starts status.NoRoom t never = absurd never
   refused starts status.SwapFull t never = absurd never
   refused starts status.SwapFault t never = absurd never
+
+  -- a run tells of no file
+  pub no_file_fault : (P : Type 0) (answer : Status) → ShowsRun s blocks i j c d r q e n answer → OnFileFault answer P
+  no_file_fault P status.FileFault t = absurd t
+  no_file_fault P status.Fine t = tt
+  no_file_fault P status.BadWords t = tt
+  no_file_fault P (status.NoFile n) t = tt
+  no_file_fault P (status.BadMachine f) t = tt
+  no_file_fault P (status.BadModule n f) t = tt
+  no_file_fault P status.InputFault t = tt
+  no_file_fault P status.SinkFault t = tt
+  no_file_fault P status.NoRoom t = tt
+  no_file_fault P status.SwapFull t = tt
+  no_file_fault P status.SwapFault t = tt
+  no_file_fault P status.NoMemory t = tt

@@ -2,7 +2,7 @@ use Rattle.std.proofs.Common.{None, Some, ◌∙◌, subst, sym}
 use Rattle.o2_words.specs.declared.words.Verb.{Verb}
 use Rattle.o2_words.specs.Words.{IsCommandFor}
 use Rattle.o2_cli.proofs.Checked.{texts_of_check, untried}
-use Rattle.o2_cli.proofs.Runs.{shown, untouched}
+use Rattle.o2_cli.proofs.Runs.{no_file_fault, refused, runs_not_checks, shown, untouched}
 use Rattle.o2_cli.proofs.top.os2run.Goals as goal
 
 pub returns-clause-texts : goal.returns-clause-texts
@@ -40,3 +40,15 @@ returns-in-Check-clause-untold_texts g c = λ text may.
 
 pub returns-in-Err-clause-checks_at_once : goal.returns-in-Err-clause-checks_at_once
 returns-in-Err-clause-checks_at_once g c = λ check. untried _ _ c.from.result c.from.ensures
+
+pub returns-clause-refused : goal.returns-clause-refused
+returns-clause-refused g c =
+    refused c.args.words.now (g.F.Files.told c.args.files.now) _ _ _ _ _ _ _ _ _ c.in-Ok.command.verb c.in-Ok-from_slice.name c.in-Ok-open.session
+    (subst (λ name. IsCommandFor c.args.words.now c.in-Ok.command.verb name) (sym (c.in-Ok-from_slice.ensures ∙ c.as_bytes.ensures.value)) c.in-Ok.ensures)
+    (λ contents is. c.in-Ok-open.ensures.exact contents is) (runs_not_checks c.in-Ok.command.verb c.in-Exe.is) c.run_session.result (c.run_session.ensures.texts None tt) c.run_session.ensures.unswapped
+
+pub returns-clause-file_fault : goal.returns-clause-file_fault
+returns-clause-file_fault g c =
+    no_file_fault c.args.words.now (g.F.Files.told c.args.files.now) _ _ _ _ _ _ _ _ _ c.in-Ok.command.verb c.in-Ok-from_slice.name c.in-Ok-open.session
+    (subst (λ name. IsCommandFor c.args.words.now c.in-Ok.command.verb name) (sym (c.in-Ok-from_slice.ensures ∙ c.as_bytes.ensures.value)) c.in-Ok.ensures)
+    (λ contents is. c.in-Ok-open.ensures.exact contents is) _ c.run_session.result (c.run_session.ensures.texts None tt)
