@@ -1,0 +1,146 @@
+"""Traces of the examples, and of small programs."""
+import os
+import re
+import select
+import subprocess
+
+import ne
+import trying
+from trying import ROOT, check_words, program, said, wrong
+
+
+def check_trace():
+    """Each example's trace has the lines of its report, in their order; where NAME.trace stands beside it, it is that."""
+    check_words("os2trace", ["exe"])
+    for folder, _, files in sorted(os.walk(os.path.join(ROOT, "examples"))):
+        for file in sorted(files):
+            name, end = os.path.splitext(file)
+            if end != ".report":
+                continue
+            trying.count()
+            verb, what = ("run", name + ".toml") if name + ".toml" in files else ("exe", name + ".exe")
+            stream = os.path.join(folder, name + ".input")
+            with open(stream if os.path.exists(stream) else os.devnull, "rb") as source:
+                run = subprocess.run([program("os2trace"), verb, what], cwd=folder, stdin=source, stdout=subprocess.PIPE)
+            text = run.stdout.decode("ascii")
+            with open(os.path.join(folder, file)) as wanted:
+                if run.returncode or [line[2:] for line in text.splitlines() if line.startswith("| ")] != wanted.read().splitlines():
+                    wrong(f"os2trace {verb} {what}: status {run.returncode}; the lines behind | aren't those of {file}")
+            if name + ".trace" in files:
+                with open(os.path.join(folder, name + ".trace")) as wanted:
+                    if text != wanted.read():
+                        wrong(f"os2trace {verb} {what}: it isn't {name}.trace")
+    choices()
+    exceptions()
+    pieces()
+    first_input()
+
+
+def traced(code):
+    """The lines of the trace of a program with these bytes, behind PUSH DS and POP ES."""
+    rows = "".join(f"{at:04X}  {byte}\n" for at, byte in enumerate(("1E 07 " + code).split(" ")))
+    with open("traced.exe", "wb") as file:
+        file.write(ne.Listing(f"module TRACED\nstack 512\nstart 1:0000\nsegment 1 code\n{rows}segment 2 data auto size=16\n").file())
+    status, text = said("os2trace", "exe", "traced.exe")
+    if status:
+        wrong(f"os2trace, {code}: status {status}")
+    return text.splitlines()
+
+
+def pieces():
+    """A line for each repetition, exceptions that are no operand's, what has no instruction, and bytes that no terminal shows."""
+    for code, wanted in (
+        ("B9 03 00 BF 00 00 F3 AA F4", [  # mov cx,3; mov di,0; rep stosb; hlt
+            "1 000F:0008 F3AA                 rep stosb                        CX=0002 DI=0001 IP=0008",
+            "1 000F:0008 F3AA                 rep stosb                        CX=0001 DI=0002 IP=0008",
+            "1 000F:0008 F3AA                 rep stosb                        CX=0000 DI=0003",
+            "1 000F:000A F4                   hlt", "! exception 13, error code 0000", "| 1 end trap 13 at 000F:000A", "| all ended"]),
+        ("9C 58 0D 00 01 50 9D 90 90", [  # pushf; pop ax; or ax,100h; push ax; popf; nop
+            "1 000F:0009 90                   xchg ax,ax", "! exception 1, error code 0000, behind the step", "| 1 end trap 1 at 000F:0009", "| all ended"]),
+        ("0F FF", ["1 000F:0002 0FFF                 no instruction", "! exception 6, error code 0000", "| 1 end trap 6 at 000F:0002", "| all ended"]),
+        ("8C D8 8E D0 50", [  # mov ax,ds; mov ss,ax; push ax, with the stack's top at 0
+            "1 000F:0006 50                   push ax                          SP=020E"]),
+        ("BC 00 00 58", [  # mov sp,0; pop ax
+            "1 000F:0005 58                   pop ax                           AX=0000 SP=0002"]),
+        ("BC 01 00 50", ["1 000F:0005 50                   push ax", "! exception 12, error code 0000, segment SS=0017", "| 1 end trap 12 at 000F:0005", "| all ended"]),
+    ):
+        trying.count()
+        lines = traced(code)
+        if not any(lines[at : at + len(wanted)] == wanted for at in range(len(lines))):
+            wrong(f"os2trace, {code}: {lines}; wanted {wanted}")
+    protection = os.path.join(ROOT, "examples", "protection")
+    for file in sorted(os.listdir(protection)):
+        name, end = os.path.splitext(file)
+        if end == ".report":
+            trying.count()
+            _, text = said("os2trace", "exe", os.path.join(protection, name + ".exe"))
+            lines = text.splitlines()
+            ends = re.match(r"\| 1 end trap (\d+) at", lines[-2])
+            told = [line for line in lines if line.startswith("!")]
+            wanted = f"! exception {ends[1]}, error code " if ends else ""
+            if len(told) != bool(ends) or not (told or [""])[0].startswith(wanted):
+                wrong(f"os2trace exe {name}.exe: {told}, {lines[-2:]}")
+            if name in ("pointer", "arguments") and not told[0].endswith(", error code 0000, in the service"):
+                wrong(f"os2trace exe {name}.exe: {told}")
+    with open(os.path.join(ROOT, "examples", "hello.exe"), "rb") as file:
+        hello = file.read()
+    with open("shown.exe", "wb") as file:
+        file.write(hello.replace(b"hello", b"\x01\x80\\\nA"))
+    trying.count(2)
+    _, text = said("os2trace", "exe", "shown.exe")
+    if [line for line in text.splitlines() if line.startswith(">")] != ["> \\x01\\x80\\", "> A"]:
+        wrong(f"os2trace, bytes that no terminal shows: {text!r}")
+    starts = "| 1 start HELLO\n| 1 hold 000F by load\n| 1 hold 0017 by load\n| 1 hold 001F by load\n"
+    if said("os2trace", "exe", "--process", "2", "shown.exe") != (0, starts + "| all ended\n"):
+        wrong(f"os2trace, a process that isn't there: {said('os2trace', 'exe', '--process', '2', 'shown.exe')}")
+
+
+def first_input():
+    """The input is read to its end before the first step."""
+    trying.count()
+    run = subprocess.Popen([program("os2trace"), "exe", os.path.join(ROOT, "examples", "hello.exe")], stdin=subprocess.PIPE, stdout=subprocess.PIPE)
+    early = select.select([run.stdout], [], [], 0.5)[0]
+    run.stdin.close()
+    text = run.stdout.read()
+    if early or run.wait() or not text.endswith(b"| all ended\n"):
+        wrong(f"os2trace, an input that stays open: early {bool(early)}, {text!r}")
+
+
+def exceptions():
+    """What is told of an exception: its error code, and the segment registers of the operands that it may have come by."""
+    for code, wanted in (
+        ("A2 FF FF", "0000, segment DS=0017"),  # mov [FFFFh],al
+        ("2E A0 FF FF", "0000, segment CS=000F"),  # mov al,[cs:FFFFh]
+        ("BF FF FF AA", "0000, segment ES=0017"),  # stosb
+        ("BF FF FF F3 AB", "0000, segment ES=0017"),  # rep stosw
+        ("BF FF FF AE", "0000, segment ES=0017"),  # scasb
+        ("BE FF FF A4", "0000, segment DS=0017 or ES=0017"),  # movsb
+        ("BE FF FF 2E A6", "0000, segment CS=000F or ES=0017"),  # cs cmpsb
+        ("BE FF FF AC", "0000, segment DS=0017"),  # lodsb
+        ("BB FF FF 2E D7", "0000, segment CS=000F"),  # cs xlatb
+        ("F0 01 07", "0000"),  # lock add [bx],ax
+        ("0F 01 17", "0000"),  # lgdt [bx]
+        ("6C", "0000"),  # insb
+        ("B8 34 12 8E D8", "1234"),  # mov ds,1234h
+    ):
+        trying.count()
+        lines = [line for line in traced(code) if line.startswith("!")]
+        if lines != ["! exception 13, error code " + wanted]:
+            wrong(f"os2trace, {code}: {lines}; wanted {wanted}")
+
+
+def choices():
+    """Options choose among the steps of a whole trace, and change none."""
+    examples = os.path.join(ROOT, "examples")
+    _, whole = said("os2trace", "run", "two.toml", cwd=examples)
+    steps = [line for line in whole.splitlines() if re.match(r"\d", line)]
+    for words, wanted in (
+        (["--process", "2"], [line for line in steps if line.startswith("2 ")]),
+        (["--from", "3", "--to", "6"], steps[2:6]),
+        (["--selector", "000F"], [line for line in steps if " 000F:" in line]),
+        (["--selector", "0017"], []),
+    ):
+        trying.count()
+        _, text = said("os2trace", "run", *words, "two.toml", cwd=examples)
+        if [line for line in text.splitlines() if re.match(r"\d", line)] != wanted:
+            wrong(f"os2trace {' '.join(words)}: {text!r}")
