@@ -38,6 +38,7 @@ pub record TriesOver (s : Shelf) (m : Maps) (t : Shelf) (seat number : ℕ) (bef
 
 -- what a sink's fault leaves of the step of the boundless machine, whatever the bytes of the names that are out of memory
 pub record PartTried (s : Shelf) (m : Maps) (seat number : ℕ) (before : Cpu) (services : Services)
-    (left : Option (List ℕ)) (n : Counts) (result : Result Attempt Fault) : Type 0 where
-  pub part : (away : ℕ → List ℕ) (bytes : List ℕ) (known : Known) → left ≡ Some bytes → IsKnown known services
+    (told : Option (List ℕ)) (past_old past_new : Past) (n : Counts) (result : Result Attempt Fault) : Type 0 where
+  pub part : (text : Option (List ℕ)) → IsSeenAs text past_new → (away : ℕ → List ℕ) (bytes : List ℕ) (known : Known)
+      → left_as text told past_old ≡ Some bytes → IsKnown known services
       → PartHands (effect (before_call (world_view away s m seat before) number before bytes known)) n result

@@ -172,7 +172,8 @@ fn serve_and_try<S: SwapDevice, I: Source, C: Sink, R: Sink>(
     ensures swap_count { S.faults swap.old ≤ S.faults swap.new }
 
     ensures puts { AttemptHands (counts (C.puts console.old) (C.puts console.new) (R.puts report.old) (R.puts report.new) 0) result }
-    ensures part { (bytes : List ℕ) (known : Known) → IsTrue (S.told swap.old) → I.left input.old ≡ Some bytes → IsKnown known services.old
+    ensures part { (text : Option (List ℕ)) → IsSeenAs text (I.past input.new) → (bytes : List ℕ) (known : Known)
+        → IsTrue (S.told swap.old) → left_as text (I.left input.old) (I.past input.old) ≡ Some bytes → IsKnown known services.old
         → let b = before_in (away_of store.old regions.old images.now (S.blocks swap.old) (S.block swap.old)) store.old regions.old pid cpu.old bytes known in
         PartHands (effect b) (counts (C.puts console.old) (C.puts console.new) (R.puts report.old) (R.puts report.new) 0) result }
 {
@@ -256,7 +257,8 @@ pub fn step_in_store<S: SwapDevice, I: Source, C: Sink, R: Sink>(
 
     // Each line is one put, and so is the piece where it has bytes. Where a sink fails, no more lines were put than there are.
     ensures puts { RanHands (counts (C.puts console.old) (C.puts console.new) (R.puts report.old) (R.puts report.new) 0) result }
-    ensures part { (bytes : List ℕ) (known : Known) → IsTrue (S.told swap.old) → I.left input.old ≡ Some bytes → IsKnown known services.old
+    ensures part { (text : Option (List ℕ)) → IsSeenAs text (I.past input.new) → (bytes : List ℕ) (known : Known)
+        → IsTrue (S.told swap.old) → left_as text (I.left input.old) (I.past input.old) ≡ Some bytes → IsKnown known services.old
         → let b = before_in (away_of store.old regions.old images.now (S.blocks swap.old) (S.block swap.old)) store.old regions.old pid cpu.old bytes known in
         PartHands (effect b) (counts (C.puts console.old) (C.puts console.new) (R.puts report.old) (R.puts report.new) 0) result }
 {

@@ -52,6 +52,7 @@ fn try_in<I: Source, C: Sink, R: Sink>(
         (Rose (I.faults input.old) (I.faults input.new)) result }
     ensures puts { AttemptHands (counts (C.puts console.old) (C.puts console.new) (R.puts report.old) (R.puts report.new) 0) result }
     ensures part { PartTried bus.old.store.now bus.old.regions.now bus.old.pid pid cpu.old services.old (I.left input.old)
+        (I.past input.old) (I.past input.new)
         (counts (C.puts console.old) (C.puts console.new) (R.puts report.old) (R.puts report.new) 0) result }
 {
     run_one(pid, cpu, bus, services, input, console, report)
@@ -90,6 +91,7 @@ pub(crate) fn try_step<I: Source, C: Sink, R: Sink>(
         (Rose (I.faults input.old) (I.faults input.new)) result }
     ensures puts { AttemptHands (counts (C.puts console.old) (C.puts console.new) (R.puts report.old) (R.puts report.new) 0) result }
     ensures part { PartTried store.old regions.old pid pid cpu.old services.old (I.left input.old)
+        (I.past input.old) (I.past input.new)
         (counts (C.puts console.old) (C.puts console.new) (R.puts report.old) (R.puts report.new) 0) result }
 {
     let mut bus = SegBus::new(store, regions, pid, cpu);

@@ -126,14 +126,14 @@ pub returns-in-Err-clause-puts : goal.returns-in-Err-clause-puts
 returns-in-Err-clause-puts g c = stop_hands (g.C.Sink.puts c.args.console.now) (g.R.Sink.puts c.args.report.now) c.in-Err.fault c.in-Err.ensures.kind
 
 pub returns-in-Err-clause-part : goal.returns-in-Err-clause-part
-returns-in-Err-clause-part g c = λ bytes known tells left same.
+returns-in-Err-clause-part g c = λ text may bytes known tells left same.
     let S = g.S.SwapDevice in
     let away : ℕ → List ℕ = away_of c.args.store.now c.args.regions.now c.args.images.now (S.blocks c.args.swap.now) (S.block c.args.swap.now) in
     stop_part (effect (before_in away c.args.store.now c.args.regions.now c.args.pid c.args.cpu.now bytes known))
     (counts (g.C.Sink.puts c.args.console.now) (g.C.Sink.puts c.args.console.now) (g.R.Sink.puts c.args.report.now) (g.R.Sink.puts c.args.report.now) 0) c.in-Err.fault c.in-Err.ensures.kind
 
 pub returns-clause-part : goal.returns-clause-part
-returns-clause-part g c = λ bytes known tells left same.
+returns-clause-part g c = λ text may bytes known tells left same.
     let S = g.S.SwapDevice in
     let s = c.args.store.now in
     let t = c.bring_in.new.store in
@@ -144,4 +144,4 @@ returns-clause-part g c = λ bytes known tells left same.
     let view = view_same a b s t c.args.regions.now c.bring_in.new.regions c.args.pid c.args.cpu.now c.bring_in.ensures.shape.tables c.bring_in.ensures.shape.holds (c.bring_in.ensures.bytes tells) in
     part_first a b b s t u c.args.regions.now c.bring_in.new.regions c.args.pid c.args.cpu.now bytes known view
     (counts (g.C.Sink.puts c.args.console.now) (g.C.Sink.puts c.try_step.new.console) (g.R.Sink.puts c.args.report.now) (g.R.Sink.puts c.try_step.new.report) 0) c.try_step.result
-    (c.try_step.ensures.part.part b bytes known left same)
+    (c.try_step.ensures.part.part text may b bytes known left same)

@@ -380,7 +380,7 @@ returns-then-not-add_missed-clause-puts g c =
     (ap g.C.Sink.puts c.tries.invariant.console) (ap g.R.Sink.puts c.tries.invariant.report) (missed_hands _ c.in-Ok-Missed.field-0 c.in-Ok-Missed.sel c.in-Ok-Missed.field-0-is c.in-Ok-Missed.ensures.puts)
 
 pub returns-in-Err-clause-part : goal.returns-in-Err-clause-part
-returns-in-Err-clause-part g c = λ bytes known tells left same.
+returns-in-Err-clause-part g c = λ text may bytes known tells left same.
     let S = g.S.SwapDevice in
     let i = c.tries.invariant in
     let s = c.args.store.now in
@@ -399,7 +399,7 @@ returns-in-Err-clause-part g c = λ bytes known tells left same.
     counts_from (λ (n : Counts). PartHands {T = Ran} (effect z) n (Err c.in-Err.fault)) (g.C.Sink.puts c.args.console.now) (g.C.Sink.puts new.console) (g.R.Sink.puts c.args.report.now) (g.R.Sink.puts new.report)
     (ap g.C.Sink.puts i.console) (ap g.R.Sink.puts i.report) (part_fault (effect z) k c.in-Err.fault
     (part_from a b s t m n pid cpu bytes known view (i.bytes tells) c.tries.cpu i.cpu k (Err c.in-Err.fault)
-    (c.in-Err.ensures.part bytes known (subst IsTrue (sym i.told) tells) (ap g.I.Source.left i.input ∙ left) (record { avail = same.avail ∙ sym i.avail }))))
+    (c.in-Err.ensures.part text may bytes known (subst IsTrue (sym i.told) tells) (ap (λ x. left_as text (g.I.Source.left x) (g.I.Source.past x)) i.input ∙ left) (record { avail = same.avail ∙ sym i.avail }))))
 
 pub returns-in-Ok-Ran-clause-goes_on : goal.returns-in-Ok-Ran-clause-goes_on
 returns-in-Ok-Ran-clause-goes_on g c = rw c.tries.invariant.input at c.in-Ok-Ran.ensures.goes_on

@@ -49,6 +49,6 @@ returns-clause-part g c =
     let agree = agrees a c.args.cpu.now c.requires in
     let n = counts (g.C.Sink.puts c.args.console.now) (g.C.Sink.puts c.run_one.new.console) (g.R.Sink.puts c.args.report.now) (g.R.Sink.puts c.run_one.new.report) 0 in
     record {
-      part = λ away bytes known left same.
-          part_there away a c.run_one.new.bus c.args.cpu.now c.run_one.new.cpu c.args.pid bytes known agree n c.run_one.result (c.run_one.ensures.part (filling away) bytes known (bound a) left same);
+      part = λ text may away bytes known left same.
+          part_there away a c.run_one.new.bus c.args.cpu.now c.run_one.new.cpu c.args.pid bytes known agree n c.run_one.result (c.run_one.ensures.part_as text may (filling away) bytes known (bound a) left same);
     }
