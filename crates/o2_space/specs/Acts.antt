@@ -1,8 +1,9 @@
 -- What one step of a process does to the machine and to both sinks, by its answer, for the effect that it has in the world.
-use Rattle.std.specs.Prelude.{◌≡◌, ◌⊎◌, ℕ, false, List, Option, Some, Result, Ok, Err}
+use Rattle.std.specs.Prelude.{◌≡◌, ◌⊎◌, ◌==◌, ℕ, Bool, false, List, if◌then◌else◌, Option, Some, Result, Ok, Err}
 use Rattle.o2_outer.specs.Texts.{Gains, GainsSome, IsPrefix}
 use Rattle.o2_isa.specs.declared.cpu.Cpu.{Cpu}
 use Rattle.o2_isa.specs.Presence.{SameSelectors}
+use Rattle.o2_regions.specs.Lives.{lives}
 use Rattle.o2_world.specs.World.{Process, World, is_live}
 use Rattle.o2_world.specs.Text.{lines_text}
 use Rattle.o2_world.specs.Calls.{Before, Effect}
@@ -64,3 +65,8 @@ abbrev pub Acts : Before → World → Process → Parts → (left_old left_new 
     → Result Ran Fault → Type 0
 Acts b w x p i j c d r q (Ok ran) = ActsAll w b.number x (effect b) ran p j c d r q
 Acts b w x p i j c d r q (Err f) = ActsFault b w p i j c d r q f
+
+-- Who is marked live behind a step of a process: where the step ended it, all but this one that were, and else all that were.
+abbrev pub AreMarkedBehind : (old new : List Bool) → (pid : ℕ) → Result Ran Fault → Type 0
+AreMarkedBehind old new pid (Ok ran) = (n : ℕ) → lives new n ≡ (if is_live ran.state then lives old n else (if n == pid then false else lives old n))
+AreMarkedBehind old new pid (Err f) = (n : ℕ) → lives new n ≡ lives old n

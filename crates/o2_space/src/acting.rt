@@ -1,6 +1,7 @@
 // One step of a process over a store.
-ghost use Rattle.std.specs.Prelude.{◌≡◌, ◌<◌, ◌≤◌, ◌⊎◌, ℕ, List, length, Some, true, IsTrue};
+ghost use Rattle.std.specs.Prelude.{◌≡◌, ◌<◌, ◌≤◌, ◌==◌, ◌⊎◌, ℕ, List, length, Option, Some, true, false, if◌then◌else◌, IsTrue};
 ghost use Rattle.o2_outer.specs.Texts.{Rose};
+ghost use Rattle.o2_outer.specs.Inputs.{GoesOn, IsSeenAs, left_as};
 ghost use Rattle.o2_isa.specs.View.{bound_registers};
 ghost use Rattle.o2_regions.specs.Lives.{lives};
 ghost use Rattle.o2_regions.specs.Maps.{IsProcess};
@@ -22,7 +23,7 @@ ghost use Rattle.o2_run.specs.Pieces.{PartHands, counts};
 ghost use Rattle.o2_stepping.specs.Pieces.{RanHands};
 ghost use Rattle.o2_stepping.specs.Rooms.{all_names, needed_names, room_in};
 ghost use Rattle.o2_stepping.specs.Taken.{OnDone, OnNoStep, OnSink, OnSwapStop, TakenFor};
-ghost use Rattle.o2_space.specs.Acts.{Acts};
+ghost use Rattle.o2_space.specs.Acts.{Acts, AreMarkedBehind};
 ghost use Rattle.o2_space.specs.Between.{Steps};
 ghost use Rattle.o2_space.specs.Nexts.{SaysRoom};
 ghost use Rattle.o2_space.specs.Parts.{parts_in};
@@ -63,6 +64,8 @@ impl Space {
         ensures set { (device : ℕ) (block : ℕ → List ℕ) (s : Setting)
             → IsSetTo (parts_in self.old device block) s
             → IsSetTo (parts_in self.new device block) s }
+        ensures marks { (n : ℕ) → lives self.new.ends n
+            ≡ (if lives_on state then lives self.old.ends n else (if n == pid then false else lives self.old.ends n)) }
         ensures count { length self.new.procs.items ≡ length self.old.procs.items }
         ensures processes { self.new.regions.processes ≡ self.old.regions.processes }
         ensures avail { self.new.services.avail ≡ self.old.services.avail }
@@ -85,28 +88,33 @@ impl Space {
     ) -> Result<Ran, Fault>
         requires process { IsProcess self.old.regions pid }
         requires together { GoTogether self.old (S.blocks swap.old) }
-        ensures steps { (s : Setting) (w : World) (x : Process) → IsTrue (S.told swap.old)
+        ensures steps { (text : Option (List ℕ)) → IsSeenAs text (I.past input.new)
+            → (s : Setting) (w : World) (x : Process) → IsTrue (S.told swap.old)
             → Stands (parts_in self.old (S.blocks swap.old) (S.block swap.old)) w
             → process_at w.processes pid ≡ Some x → cpu.old ≡ x.cpu
-            → I.left input.old ≡ Some w.input → IsKnown (known_of s w) self.old.services
+            → left_as text (I.left input.old) (I.past input.old) ≡ Some w.input → IsKnown (known_of s w) self.old.services
             → Steps (before s w pid x) w cpu.new
             (parts_in self.new (S.blocks swap.new) (S.block swap.new))
-            (I.left input.old) (I.left input.new) (C.taken console.old) (C.taken console.new)
+            (left_as text (I.left input.old) (I.past input.old))
+            (left_as text (I.left input.new) (I.past input.new)) (C.taken console.old) (C.taken console.new)
             (R.taken report.old) (R.taken report.new) result }
         ensures still { OnNoStep result
             ((input.new ≡ input.old) × (console.new ≡ console.old) × (report.new ≡ report.old)) }
-        ensures room { (s : Setting) (w : World) (x : Process) → IsTrue (S.told swap.old)
+        ensures goes_on { GoesOn (I.past input.old) (I.past input.new) }
+        ensures room { (text : Option (List ℕ)) → IsSeenAs text (I.past input.new)
+            → (s : Setting) (w : World) (x : Process) → IsTrue (S.told swap.old)
             → Stands (parts_in self.old (S.blocks swap.old) (S.block swap.old)) w
             → process_at w.processes pid ≡ Some x → cpu.old ≡ x.cpu
-            → I.left input.old ≡ Some w.input → IsKnown (known_of s w) self.old.services
+            → left_as text (I.left input.old) (I.past input.old) ≡ Some w.input → IsKnown (known_of s w) self.old.services
             → let b = before s w pid x in
             OnDone result (room_in self.old.store
             (all_names b (bound_registers (hold_in self.old.regions pid) (effect b).cpu))
             ≤ self.old.store.places.size) }
-        ensures room_in_part { (s : Setting) (w : World) (x : Process) → IsTrue (S.told swap.old)
+        ensures room_in_part { (text : Option (List ℕ)) → IsSeenAs text (I.past input.new)
+            → (s : Setting) (w : World) (x : Process) → IsTrue (S.told swap.old)
             → Stands (parts_in self.old (S.blocks swap.old) (S.block swap.old)) w
             → process_at w.processes pid ≡ Some x → cpu.old ≡ x.cpu
-            → I.left input.old ≡ Some w.input → IsKnown (known_of s w) self.old.services
+            → left_as text (I.left input.old) (I.past input.old) ≡ Some w.input → IsKnown (known_of s w) self.old.services
             → let b = before s w pid x in
             OnSink result (room_in self.old.store
             (all_names b (bound_registers (hold_in self.old.regions pid) b.cpu))
@@ -120,12 +128,13 @@ impl Space {
             ((all_of self.old.store.swap < swap_load self.old.store)
             × (self.old.store.places.size < live_load self.old.store))
             (Rose (S.faults swap.old) (S.faults swap.new)) }
-        ensures next_room { (s : Setting) (w : World) (x : Process) → IsTrue (S.told swap.old)
+        ensures next_room { (text : Option (List ℕ)) → IsSeenAs text (I.past input.new)
+            → (s : Setting) (w : World) (x : Process) → IsTrue (S.told swap.old)
             → Stands (parts_in self.old (S.blocks swap.old) (S.block swap.old)) w
             → IsSetTo (parts_in self.old (S.blocks swap.old) (S.block swap.old)) s
             → (next_dispatch s w).current ≡ pid
             → process_at w.processes pid ≡ Some x → cpu.old ≡ x.cpu
-            → I.left input.old ≡ Some w.input → IsKnown (known_of s w) self.old.services
+            → left_as text (I.left input.old) (I.past input.old) ≡ Some w.input → IsKnown (known_of s w) self.old.services
             → SaysRoom (S.blocks swap.old) s w result }
         ensures together { GoTogether self.new (S.blocks swap.new) }
         ensures set { (s : Setting)
@@ -148,10 +157,11 @@ impl Space {
         ensures swap_count { S.faults swap.old ≤ S.faults swap.new }
         ensures puts { RanHands (counts (C.puts console.old) (C.puts console.new)
             (R.puts report.old) (R.puts report.new) 0) result }
-        ensures part { (s : Setting) (w : World) (x : Process) → IsTrue (S.told swap.old)
+        ensures part { (text : Option (List ℕ)) → IsSeenAs text (I.past input.new)
+            → (s : Setting) (w : World) (x : Process) → IsTrue (S.told swap.old)
             → Stands (parts_in self.old (S.blocks swap.old) (S.block swap.old)) w
             → process_at w.processes pid ≡ Some x → cpu.old ≡ x.cpu
-            → I.left input.old ≡ Some w.input → IsKnown (known_of s w) self.old.services
+            → left_as text (I.left input.old) (I.past input.old) ≡ Some w.input → IsKnown (known_of s w) self.old.services
             → PartHands (effect (before s w pid x))
             (counts (C.puts console.old) (C.puts console.new)
             (R.puts report.old) (R.puts report.new) 0) result }
@@ -192,31 +202,37 @@ impl Space {
         requires live { lives self.old.ends pid ≡ true }
         requires together { GoTogether self.old (S.blocks swap.old) }
 
-        // From a machine that stands for a world, the step of the boundless machine; or it stands for the same world.
-        ensures acts { (s : Setting) (w : World) (x : Process) → IsTrue (S.told swap.old)
+        // From a machine that stands for a world, the step of the boundless machine; or it stands for the same world. However the
+        // input is seen: by what it tells, or as a text that the whole of it may be.
+        ensures acts { (text : Option (List ℕ)) → IsSeenAs text (I.past input.new)
+            → (s : Setting) (w : World) (x : Process) → IsTrue (S.told swap.old)
             → Stands (parts_in self.old (S.blocks swap.old) (S.block swap.old)) w
             → process_at w.processes pid ≡ Some x
-            → I.left input.old ≡ Some w.input → IsKnown (known_of s w) self.old.services
+            → left_as text (I.left input.old) (I.past input.old) ≡ Some w.input → IsKnown (known_of s w) self.old.services
             → Acts (before s w pid x) w x (parts_in self.new (S.blocks swap.new) (S.block swap.new))
-            (I.left input.old) (I.left input.new) (C.taken console.old) (C.taken console.new)
+            (left_as text (I.left input.old) (I.past input.old))
+            (left_as text (I.left input.new) (I.past input.new)) (C.taken console.old) (C.taken console.new)
             (R.taken report.old) (R.taken report.new) result }
         ensures still { OnNoStep result
             ((input.new ≡ input.old) × (console.new ≡ console.old) × (report.new ≡ report.old)) }
+        ensures goes_on { GoesOn (I.past input.old) (I.past input.new) }
 
         // The room of a step that is done, or in which a sink fails, is at most the memory, and more than it at NoRoom; what
         // swapping has to hold exceeds blocks and memory at SwapFull, and the device failed at SwapFault.
-        ensures room { (s : Setting) (w : World) (x : Process) → IsTrue (S.told swap.old)
+        ensures room { (text : Option (List ℕ)) → IsSeenAs text (I.past input.new)
+            → (s : Setting) (w : World) (x : Process) → IsTrue (S.told swap.old)
             → Stands (parts_in self.old (S.blocks swap.old) (S.block swap.old)) w
             → process_at w.processes pid ≡ Some x
-            → I.left input.old ≡ Some w.input → IsKnown (known_of s w) self.old.services
+            → left_as text (I.left input.old) (I.past input.old) ≡ Some w.input → IsKnown (known_of s w) self.old.services
             → let b = before s w pid x in
             OnDone result (room_in self.old.store
             (all_names b (bound_registers (hold_in self.old.regions pid) (effect b).cpu))
             ≤ self.old.store.places.size) }
-        ensures room_in_part { (s : Setting) (w : World) (x : Process) → IsTrue (S.told swap.old)
+        ensures room_in_part { (text : Option (List ℕ)) → IsSeenAs text (I.past input.new)
+            → (s : Setting) (w : World) (x : Process) → IsTrue (S.told swap.old)
             → Stands (parts_in self.old (S.blocks swap.old) (S.block swap.old)) w
             → process_at w.processes pid ≡ Some x
-            → I.left input.old ≡ Some w.input → IsKnown (known_of s w) self.old.services
+            → left_as text (I.left input.old) (I.past input.old) ≡ Some w.input → IsKnown (known_of s w) self.old.services
             → let b = before s w pid x in
             OnSink result (room_in self.old.store
             (all_names b (bound_registers (hold_in self.old.regions pid) b.cpu))
@@ -231,18 +247,21 @@ impl Space {
             × (self.old.store.places.size < live_load self.old.store))
             (Rose (S.faults swap.old) (S.faults swap.new)) }
         // The same of the world's next step, where it is one of this process.
-        ensures next_room { (s : Setting) (w : World) (x : Process) → IsTrue (S.told swap.old)
+        ensures next_room { (text : Option (List ℕ)) → IsSeenAs text (I.past input.new)
+            → (s : Setting) (w : World) (x : Process) → IsTrue (S.told swap.old)
             → Stands (parts_in self.old (S.blocks swap.old) (S.block swap.old)) w
             → IsSetTo (parts_in self.old (S.blocks swap.old) (S.block swap.old)) s
             → (next_dispatch s w).current ≡ pid → process_at w.processes pid ≡ Some x
-            → I.left input.old ≡ Some w.input → IsKnown (known_of s w) self.old.services
+            → left_as text (I.left input.old) (I.past input.old) ≡ Some w.input → IsKnown (known_of s w) self.old.services
             → SaysRoom (S.blocks swap.old) s w result }
 
-        // The parts go on to go together, whatever the device tells, and what a setting fixes stays.
+        // The parts go on to go together, whatever the device tells, and what a setting fixes stays. Who is marked live stays so, but
+        // for the process, where its step ended it.
         ensures together { GoTogether self.new (S.blocks swap.new) }
         ensures set { (s : Setting)
             → IsSetTo (parts_in self.old (S.blocks swap.old) (S.block swap.old)) s
             → IsSetTo (parts_in self.new (S.blocks swap.new) (S.block swap.new)) s }
+        ensures marks { AreMarkedBehind self.old.ends self.new.ends pid result }
         ensures count { length self.new.procs.items ≡ length self.old.procs.items }
         ensures processes { self.new.regions.processes ≡ self.old.regions.processes }
         ensures avail { self.new.services.avail ≡ self.old.services.avail }
@@ -261,10 +280,11 @@ impl Space {
         // Each line is one put, and so is the piece where it has bytes. Where a sink fails, no more lines were put than there are.
         ensures puts { RanHands (counts (C.puts console.old) (C.puts console.new)
             (R.puts report.old) (R.puts report.new) 0) result }
-        ensures part { (s : Setting) (w : World) (x : Process) → IsTrue (S.told swap.old)
+        ensures part { (text : Option (List ℕ)) → IsSeenAs text (I.past input.new)
+            → (s : Setting) (w : World) (x : Process) → IsTrue (S.told swap.old)
             → Stands (parts_in self.old (S.blocks swap.old) (S.block swap.old)) w
             → process_at w.processes pid ≡ Some x
-            → I.left input.old ≡ Some w.input → IsKnown (known_of s w) self.old.services
+            → left_as text (I.left input.old) (I.past input.old) ≡ Some w.input → IsKnown (known_of s w) self.old.services
             → PartHands (effect (before s w pid x))
             (counts (C.puts console.old) (C.puts console.new)
             (R.puts report.old) (R.puts report.new) 0) result }

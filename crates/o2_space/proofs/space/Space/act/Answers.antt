@@ -1,7 +1,8 @@
-use Rattle.std.proofs.Common.{List, [], Bool, length, ap, ◌∙◌, arith}
+use Rattle.std.proofs.Common.{◌≡◌, ◌==◌, List, [], Bool, false, if◌then◌else◌, length, ap, ◌∙◌, arith, subst}
 use Rattle.o2_regions.specs.Lives.{lives}
 use Rattle.o2_world.specs.Effect.{effect}
 use Rattle.o2_world.specs.Run.{before}
+use Rattle.o2_world.specs.World.{is_live}
 use Rattle.o2_stands.specs.Parts.{Running}
 use Rattle.o2_space.specs.declared.space.Proc.{Proc}
 use Rattle.o2_space.proofs.Commits.{lived, process_was}
@@ -28,10 +29,10 @@ pub commit-requires-clause-settled : goal.commit-requires-clause-settled
 commit-requires-clause-settled g c = (c.step.ensures.together.ready (λ k. [])).settled
 
 pub returns-in-Err-clause-acts : goal.returns-in-Err-clause-acts
-returns-in-Err-clause-acts g c = λ s w x tells stands there left known.
+returns-in-Err-clause-acts g c = λ text may s w x tells stands there left known.
     let y : Proc = c.index.result.now in
     let was = process_was c.args.self.now.procs.items c.args.pid w.processes x c.requires.some c.requires.there (stands.processes c.args.pid) there y c.index.ensures in
-    c.in-Err.ensures.steps s w x tells stands there (ap (λ (r : Running). r.cpu) was) left known
+    c.in-Err.ensures.steps text may s w x tells stands there (ap (λ (r : Running). r.cpu) was) left known
 
 pub returns-in-Err-clause-no_room : goal.returns-in-Err-clause-no_room
 returns-in-Err-clause-no_room g c = λ s w x tells stands there.
@@ -40,20 +41,20 @@ returns-in-Err-clause-no_room g c = λ s w x tells stands there.
     c.in-Err.ensures.no_room s w x tells stands there (ap (λ (r : Running). r.cpu) was)
 
 pub returns-in-Ok-clause-room : goal.returns-in-Ok-clause-room
-returns-in-Ok-clause-room g c = λ s w x tells stands there left known.
+returns-in-Ok-clause-room g c = λ text may s w x tells stands there left known.
     let y : Proc = c.index.result.now in
     let was = process_was c.args.self.now.procs.items c.args.pid w.processes x c.requires.some c.requires.there (stands.processes c.args.pid) there y c.index.ensures in
-    c.in-Ok.ensures.room s w x tells stands there (ap (λ (r : Running). r.cpu) was) left known
+    c.in-Ok.ensures.room text may s w x tells stands there (ap (λ (r : Running). r.cpu) was) left known
 
 pub returns-in-Ok-clause-acts : goal.returns-in-Ok-clause-acts
-returns-in-Ok-clause-acts g c = λ s w x tells stands there left known.
+returns-in-Ok-clause-acts g c = λ text may s w x tells stands there left known.
     let S = g.S.SwapDevice in
     let m = c.args.self.now in
     let y : Proc = c.index.result.now in
     let was = process_was m.procs.items c.args.pid w.processes x c.requires.some c.requires.there (stands.processes c.args.pid) there y c.index.ensures in
     let alive = lived m.procs.items c.args.pid w.processes x c.requires.some c.requires.there (stands.processes c.args.pid) there m.ends c.requires.together.marked c.requires.live in
     let b = before s w c.args.pid x in
-    let between = c.in-Ok.ensures.steps s w x tells stands there (ap (λ (r : Running). r.cpu) was) left known in
+    let between = c.in-Ok.ensures.steps text may s w x tells stands there (ap (λ (r : Running). r.cpu) was) left known in
     record {
       state = between.state;
       ends = between.ends;
@@ -72,25 +73,33 @@ pub returns-in-Ok-clause-set : goal.returns-in-Ok-clause-set
 returns-in-Ok-clause-set g c = λ s set. c.commit.ensures.set _ _ s (c.step.ensures.set s set)
 
 pub returns-in-Err-clause-room_in_part : goal.returns-in-Err-clause-room_in_part
-returns-in-Err-clause-room_in_part g c = λ s w x tells stands there left known.
+returns-in-Err-clause-room_in_part g c = λ text may s w x tells stands there left known.
     let y : Proc = c.index.result.now in
     let was = process_was c.args.self.now.procs.items c.args.pid w.processes x c.requires.some c.requires.there (stands.processes c.args.pid) there y c.index.ensures in
-    c.in-Err.ensures.room_in_part s w x tells stands there (ap (λ (r : Running). r.cpu) was) left known
+    c.in-Err.ensures.room_in_part text may s w x tells stands there (ap (λ (r : Running). r.cpu) was) left known
 
 pub returns-in-Err-clause-part : goal.returns-in-Err-clause-part
-returns-in-Err-clause-part g c = λ s w x tells stands there left known.
+returns-in-Err-clause-part g c = λ text may s w x tells stands there left known.
     let y : Proc = c.index.result.now in
     let was = process_was c.args.self.now.procs.items c.args.pid w.processes x c.requires.some c.requires.there (stands.processes c.args.pid) there y c.index.ensures in
-    c.in-Err.ensures.part s w x tells stands there (ap (λ (r : Running). r.cpu) was) left known
+    c.in-Err.ensures.part text may s w x tells stands there (ap (λ (r : Running). r.cpu) was) left known
 
 pub returns-in-Err-clause-next_room : goal.returns-in-Err-clause-next_room
-returns-in-Err-clause-next_room g c = λ s w x tells stands set chosen there left known.
+returns-in-Err-clause-next_room g c = λ text may s w x tells stands set chosen there left known.
     let y : Proc = c.index.result.now in
     let was = process_was c.args.self.now.procs.items c.args.pid w.processes x c.requires.some c.requires.there (stands.processes c.args.pid) there y c.index.ensures in
-    c.in-Err.ensures.next_room s w x tells stands set chosen there (ap (λ (r : Running). r.cpu) was) left known
+    c.in-Err.ensures.next_room text may s w x tells stands set chosen there (ap (λ (r : Running). r.cpu) was) left known
 
 pub returns-in-Ok-clause-next_room : goal.returns-in-Ok-clause-next_room
-returns-in-Ok-clause-next_room g c = λ s w x tells stands set chosen there left known.
+returns-in-Ok-clause-next_room g c = λ text may s w x tells stands set chosen there left known.
     let y : Proc = c.index.result.now in
     let was = process_was c.args.self.now.procs.items c.args.pid w.processes x c.requires.some c.requires.there (stands.processes c.args.pid) there y c.index.ensures in
-    c.in-Ok.ensures.next_room s w x tells stands set chosen there (ap (λ (r : Running). r.cpu) was) left known
+    c.in-Ok.ensures.next_room text may s w x tells stands set chosen there (ap (λ (r : Running). r.cpu) was) left known
+
+pub returns-in-Err-clause-marks : goal.returns-in-Err-clause-marks
+returns-in-Err-clause-marks g c = λ n. ap (λ (ends : List Bool). lives ends n) c.step.ensures.ends
+
+pub returns-in-Ok-clause-marks : goal.returns-in-Ok-clause-marks
+returns-in-Ok-clause-marks g c = λ n.
+    let is_so : List Bool → Type 0 = λ ends. lives c.commit.new.self.ends n ≡ (if is_live c.in-Ok.ran.state then lives ends n else (if n == c.args.pid then false else lives ends n)) in
+    subst is_so c.step.ensures.ends (c.commit.ensures.marks n)

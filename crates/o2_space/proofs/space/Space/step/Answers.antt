@@ -1,5 +1,6 @@
 use Rattle.std.proofs.Common.{ℕ, ◌≤◌, ◌<◌, List, None, ap, sym, ◌∙◌, subst, arith}
 use Rattle.o2_isa.specs.View.{bound_registers}
+use Rattle.o2_outer.specs.Inputs.{left_as}
 use Rattle.o2_segbus.specs.Seen.{hold_in}
 use Rattle.o2_world.specs.Calls.{Before}
 use Rattle.o2_world.specs.Effect.{effect}
@@ -28,7 +29,7 @@ step_in_store-result-requires-clause-ready g c =
     (c.requires.together.ready (S.block c.args.swap.now))
 
 pub returns-clause-steps : goal.returns-clause-steps
-returns-clause-steps g c = λ s w x tells stands there same left known.
+returns-clause-steps g c = λ text may s w x tells stands there same left known.
     let S = g.S.SwapDevice in
     let m = c.args.self.now in
     let new = c.step_in_store-result.new in
@@ -39,15 +40,15 @@ returns-clause-steps g c = λ s w x tells stands there same left known.
     let new_bytes : ℕ → List ℕ = bytes_with (away_of new.store new.regions m.images (S.blocks new.swap) (S.block new.swap)) new.store in
     let ready = ready_as new.store new.regions m.images (S.blocks new.swap) (S.block new.swap) (S.block new.swap) (λ k. None) (running_at m.procs.items) e.ready in
     steps_by p new.store new.regions (S.blocks new.swap) (S.block new.swap) e.shape c.lawful.ensures c.lawful-2.ensures.inside ready w stands b new.cpu _ _ _ _ _ _ c.step_in_store-result.result
-    (subst (λ (z : Before). Takes z (effect z) new.cpu old_bytes new_bytes (g.I.Source.left c.args.input.now) (g.I.Source.left new.input)
+    (subst (λ (z : Before). Takes z (effect z) new.cpu old_bytes new_bytes (left_as text (g.I.Source.left c.args.input.now) (g.I.Source.past c.args.input.now)) (left_as text (g.I.Source.left new.input) (g.I.Source.past new.input))
     (g.C.Sink.taken c.args.console.now) (g.C.Sink.taken new.console) (g.R.Sink.taken c.args.report.now) (g.R.Sink.taken new.report) c.step_in_store-result.result)
-    (before_is p w c.lawful.ensures stands s c.args.pid x c.args.cpu.now there same) (e.takes w.input (known_of s w) tells left known))
+    (before_is p w c.lawful.ensures stands s c.args.pid x c.args.cpu.now there same) (e.takes_as text may w.input (known_of s w) tells left known))
 
 pub returns-clause-still : goal.returns-clause-still
 returns-clause-still g c = on_stop _ _ c.step_in_store-result.result (λ p. (p.1, p.2, p.3)) c.step_in_store-result.ensures.still
 
 pub returns-clause-room : goal.returns-clause-room
-returns-clause-room g c = λ s w x tells stands there same left known.
+returns-clause-room g c = λ text may s w x tells stands there same left known.
     let S = g.S.SwapDevice in
     let m = c.args.self.now in
     let pid = c.args.pid in
@@ -60,8 +61,8 @@ returns-clause-room g c = λ s w x tells stands there same left known.
     let new_bytes : ℕ → List ℕ = bytes_with (away_of new.store new.regions m.images (S.blocks new.swap) (S.block new.swap)) new.store in
     let is = before_is p w c.lawful.ensures stands s pid x c.args.cpu.now there same in
     room_by m.store b (effect b) (hold_in new.regions pid) (hold_in m.regions pid) new.cpu old_bytes new_bytes _ _ _ _ _ _ result (same_map m.regions new.regions pid e.shape.holds)
-    (subst (λ (z : Before). Takes z (effect z) new.cpu old_bytes new_bytes (g.I.Source.left c.args.input.now) (g.I.Source.left new.input)
-    (g.C.Sink.taken c.args.console.now) (g.C.Sink.taken new.console) (g.R.Sink.taken c.args.report.now) (g.R.Sink.taken new.report) result) is (e.takes w.input (known_of s w) tells left known))
+    (subst (λ (z : Before). Takes z (effect z) new.cpu old_bytes new_bytes (left_as text (g.I.Source.left c.args.input.now) (g.I.Source.past c.args.input.now)) (left_as text (g.I.Source.left new.input) (g.I.Source.past new.input))
+    (g.C.Sink.taken c.args.console.now) (g.C.Sink.taken new.console) (g.R.Sink.taken c.args.report.now) (g.R.Sink.taken new.report) result) is (e.takes_as text may w.input (known_of s w) tells left known))
     (subst (λ (z : Before). OnDone result (room_in m.store (all_names z (bound_registers (hold_in new.regions pid) new.cpu)) ≤ m.store.places.size)) is (e.room w.input (known_of s w) tells))
 
 pub returns-clause-no_room : goal.returns-clause-no_room
@@ -98,7 +99,7 @@ pub returns-clause-most : goal.returns-clause-most
 returns-clause-most g c = c.lawful-2.ensures.maps.most
 
 pub returns-clause-room_in_part : goal.returns-clause-room_in_part
-returns-clause-room_in_part g c = λ s w x tells stands there same left known.
+returns-clause-room_in_part g c = λ text may s w x tells stands there same left known.
     let S = g.S.SwapDevice in
     let m = c.args.self.now in
     let pid = c.args.pid in
@@ -111,12 +112,12 @@ returns-clause-room_in_part g c = λ s w x tells stands there same left known.
     let new_bytes : ℕ → List ℕ = bytes_with (away_of new.store new.regions m.images (S.blocks new.swap) (S.block new.swap)) new.store in
     let is = before_is p w c.lawful.ensures stands s pid x c.args.cpu.now there same in
     room_in_part_by m.store b (effect b) (hold_in new.regions pid) (hold_in m.regions pid) new.cpu old_bytes new_bytes _ _ _ _ _ _ result (same_map m.regions new.regions pid e.shape.holds)
-    (subst (λ (z : Before). Takes z (effect z) new.cpu old_bytes new_bytes (g.I.Source.left c.args.input.now) (g.I.Source.left new.input)
-    (g.C.Sink.taken c.args.console.now) (g.C.Sink.taken new.console) (g.R.Sink.taken c.args.report.now) (g.R.Sink.taken new.report) result) is (e.takes w.input (known_of s w) tells left known))
+    (subst (λ (z : Before). Takes z (effect z) new.cpu old_bytes new_bytes (left_as text (g.I.Source.left c.args.input.now) (g.I.Source.past c.args.input.now)) (left_as text (g.I.Source.left new.input) (g.I.Source.past new.input))
+    (g.C.Sink.taken c.args.console.now) (g.C.Sink.taken new.console) (g.R.Sink.taken c.args.report.now) (g.R.Sink.taken new.report) result) is (e.takes_as text may w.input (known_of s w) tells left known))
     (subst (λ (z : Before). OnSink result (room_in m.store (all_names z (bound_registers (hold_in new.regions pid) new.cpu)) ≤ m.store.places.size)) is (e.room_in_part w.input (known_of s w) tells))
 
 pub returns-clause-part : goal.returns-clause-part
-returns-clause-part g c = λ s w x tells stands there same left known.
+returns-clause-part g c = λ text may s w x tells stands there same left known.
     let S = g.S.SwapDevice in
     let C = g.C.Sink in
     let R = g.R.Sink in
@@ -124,10 +125,10 @@ returns-clause-part g c = λ s w x tells stands there same left known.
     let p : Parts = parts_in c.args.self.now (S.blocks c.args.swap.now) (S.block c.args.swap.now) in
     let n : Counts = counts (C.puts c.args.console.now) (C.puts new.console) (R.puts c.args.report.now) (R.puts new.report) 0 in
     subst (λ (z : Before). PartHands (effect z) n c.step_in_store-result.result)
-    (before_is p w c.lawful.ensures stands s c.args.pid x c.args.cpu.now there same) (c.step_in_store-result.ensures.part w.input (known_of s w) tells left known)
+    (before_is p w c.lawful.ensures stands s c.args.pid x c.args.cpu.now there same) (c.step_in_store-result.ensures.part text may w.input (known_of s w) tells left known)
 
 pub returns-clause-next_room : goal.returns-clause-next_room
-returns-clause-next_room g c = λ s w x tells stands set chosen there same left known.
+returns-clause-next_room g c = λ text may s w x tells stands set chosen there same left known.
     let S = g.S.SwapDevice in
     let m = c.args.self.now in
     let pid = c.args.pid in
@@ -139,7 +140,7 @@ returns-clause-next_room g c = λ s w x tells stands set chosen there same left 
     let new_bytes : ℕ → List ℕ = bytes_with (away_of new.store new.regions m.images (S.blocks new.swap) (S.block new.swap)) new.store in
     let is = before_is p w c.lawful.ensures stands s pid x c.args.cpu.now there same in
     says_room p s w x (record { lawful = c.lawful.ensures; set = set; stands = stands; chosen = ap (process_at w.processes) chosen ∙ there }) new.cpu old_bytes new_bytes _ _ _ _ _ _ _ result pid (sym chosen)
-    (subst (λ (z : Before). Takes z (effect z) new.cpu old_bytes new_bytes (g.I.Source.left c.args.input.now) (g.I.Source.left new.input)
-    (g.C.Sink.taken c.args.console.now) (g.C.Sink.taken new.console) (g.R.Sink.taken c.args.report.now) (g.R.Sink.taken new.report) result) is (e.takes w.input (known_of s w) tells left known))
-    (returns-clause-room g c s w x tells stands there same left known) (returns-clause-room_in_part g c s w x tells stands there same left known)
+    (subst (λ (z : Before). Takes z (effect z) new.cpu old_bytes new_bytes (left_as text (g.I.Source.left c.args.input.now) (g.I.Source.past c.args.input.now)) (left_as text (g.I.Source.left new.input) (g.I.Source.past new.input))
+    (g.C.Sink.taken c.args.console.now) (g.C.Sink.taken new.console) (g.R.Sink.taken c.args.report.now) (g.R.Sink.taken new.report) result) is (e.takes_as text may w.input (known_of s w) tells left known))
+    (returns-clause-room g c text may s w x tells stands there same left known) (returns-clause-room_in_part g c text may s w x tells stands there same left known)
     (returns-clause-no_room g c s w x tells stands there same) e.swap_stops
