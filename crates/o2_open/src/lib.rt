@@ -7,5 +7,5 @@ mod opening;
 mod session;
 
 pub use fault::OpenFault;
-pub use opening::{open, refused_start};
+pub use opening::{open, program_places, refused_start};
 pub use session::Session;

@@ -1,9 +1,10 @@
 // Opening what a command runs.
-ghost use Rattle.std.specs.Prelude.{◌≡◌, ◌≤◌, ℕ, Some, IfOk, IfErr, length, map, [], ◌∷◌};
+ghost use Rattle.std.specs.Prelude.{◌≡◌, ◌≤◌, ℕ, All, Some, IfOk, IfErr, length, map, unwrap_or, [], ◌∷◌};
 ghost use Rattle.o2_open.specs.declared.fault.OpenFault.TheVariants as open_fault;
-ghost use Rattle.o2_open.specs.Loads.{Contents, Loads, Tells, Refuses, under, asked, link_refusal, linked_in, HasEnvironments, start_refusal, exe_loaded, run_loaded, loaded};
+ghost use Rattle.o2_open.specs.Loads.{Contents, Loads, Tells, Refuses, under, asked, link_refusal, linked_in, HasEnvironments, IsLinked, start_refusal, exe_loaded, run_loaded, loaded};
 ghost use Rattle.o2_dynlink.specs.Linking.{linked_of};
-ghost use Rattle.o2_image.specs.Getters.{nth_list};
+ghost use Rattle.o2_image.specs.Getters.{nth, nth_list};
+ghost use Rattle.o2_image.specs.Whole.{IsRunnable};
 ghost use Rattle.o2_conf.specs.Alone.{exe_setting};
 ghost use Rattle.o2_conf.specs.Limits.{IsWithinLimits};
 ghost use Rattle.o2_conf.specs.Environments.{environment_bytes};
@@ -57,13 +58,24 @@ fn link_refusal(alloc: Global, conf: &Conf, refusal: LinkFault) -> OpenFault
     }
 }
 
+/// Each module passed its checks.
+fn all_checked(modules: &[Module])
+    ensures { All IsRunnable modules.now }
+{
+    for one in modules {
+        one.is_runnable();
+    }
+}
+
 /// What links the modules, or why they are refused.
 fn link_all(alloc: Global, conf: &Conf, modules: Vec<Module>) -> Result<Linked, OpenFault>
     requires few { length modules.items ≤ 64 }
     ensures exact { Loads (λ l. l) result (under (link_refusal conf.now) (linked_of modules.items conf.now)) }
     ensures environments { IfOk result (λ l. l.images.environments ≡ map environment_bytes conf.now.process) }
+    ensures linked { IfOk result (IsLinked conf.now) }
     ensures refuses { (faults : ℕ) → IfErr result (Refuses faults faults) }
 {
+    all_checked(&modules);
     match link(alloc, modules, conf) {
         Ok(linked) => Ok(linked),
         Err(Fail::NoMemory) => Err(OpenFault::NoMemory),
@@ -78,6 +90,7 @@ fn linked(alloc: Global, conf: Conf, modules: Vec<Module>) -> Result<Session, Op
     ensures exact { Loads (λ s. s) result (linked_in conf modules.items) }
     ensures within { IfOk result (λ s. IsWithinLimits s.conf) }
     ensures environments { IfOk result HasEnvironments }
+    ensures linked { IfOk result (λ s. IsLinked s.conf s.linked) }
     ensures refuses { (faults : ℕ) → IfErr result (Refuses faults faults) }
 {
     match link_all(alloc, &conf, modules) {
@@ -116,6 +129,7 @@ fn open_exe<F: Files>(alloc: Global, files: &mut F, name: &Bytes) -> Result<Sess
     ensures exact { (contents : Contents) → F.told files.old ≡ Some contents → Loads (λ s. s) result (exe_loaded contents name.now) }
     ensures within { IfOk result (λ s. IsWithinLimits s.conf) }
     ensures environments { IfOk result HasEnvironments }
+    ensures linked { IfOk result (λ s. IsLinked s.conf s.linked) }
     ensures refuses { IfErr result (Refuses (F.faults files.old) (F.faults files.new)) }
     ensures count { F.faults files.old ≤ F.faults files.new }
 {
@@ -130,6 +144,7 @@ fn open_run<F: Files>(alloc: Global, files: &mut F, name: &Bytes) -> Result<Sess
     ensures exact { (contents : Contents) → F.told files.old ≡ Some contents → Loads (λ s. s) result (run_loaded contents name.now) }
     ensures within { IfOk result (λ s. IsWithinLimits s.conf) }
     ensures environments { IfOk result HasEnvironments }
+    ensures linked { IfOk result (λ s. IsLinked s.conf s.linked) }
     ensures refuses { IfErr result (Refuses (F.faults files.old) (F.faults files.new)) }
     ensures count { F.faults files.old ≤ F.faults files.new }
 {
@@ -152,6 +167,8 @@ pub fn open<F: Files>(
     // the setting is within its limits
     ensures within { IfOk result (λ s. IsWithinLimits s.conf) }
     ensures environments { IfOk result HasEnvironments }
+    // its modules passed their checks, and are linked as the setting says
+    ensures linked { IfOk result (λ s. IsLinked s.conf s.linked) }
     // a fault of the files is told only where their count rose
     ensures refuses { IfErr result (Refuses (F.faults files.old) (F.faults files.new)) }
     ensures count { F.faults files.old ≤ F.faults files.new }
@@ -163,10 +180,41 @@ pub fn open<F: Files>(
     }
 }
 
-/// Why a start is refused: that of process `pid`, for this reason.
-pub fn refused_start(alloc: Global, session: &Session, pid: u16, fault: ModuleFault) -> OpenFault
-    ensures { Tells result (start_refusal session.now pid fault) }
+/// The places of the programs that the processes run, one for each process.
+pub fn program_places(alloc: Global, linked: &Linked) -> Result<Vec<u16>, NoMemory>
+    requires few { length linked.now.programs ≤ 64 }
+    ensures { IfOk result (λ v. v.items ≡ linked.now.programs) }
 {
-    let place = session.linked.program(pid).unwrap_or(0);
-    bad_module(alloc, file_name(&session.conf, place), fault)
+    let mut places = Vec::new(alloc);
+    for k in 0..linked.process_count() {
+        let place = linked.program(k as u16 + 1).unwrap_or(0);
+        places.push(place)?;
+    }
+    Ok(places)
+}
+
+/// Why a start is refused: that of process `pid`, for this reason, where the processes' programs lie at these places.
+pub fn refused_start(
+    alloc: Global,
+    conf: &Conf,
+    programs: &[u16],
+    pid: u16,
+    fault: ModuleFault,
+) -> OpenFault
+    ensures { Tells result (start_refusal conf.now programs.now pid fault) }
+{
+    bad_module(alloc, file_name(conf, place_of(programs, pid)), fault)
+}
+
+/// The place of the program of a process, 0 where there is no such process.
+fn place_of(programs: &[u16], pid: u16) -> u16
+    ensures { result ≡ unwrap_or (nth programs.now pid) 0 }
+{
+    if pid == 0 {
+        return 0;
+    }
+    match programs.get(pid as usize - 1) {
+        Some(place) => *place,
+        None => 0,
+    }
 }
