@@ -1,14 +1,12 @@
 -- The puts of a turn that ends the run.
-use Rattle.std.proofs.Common.{◌≡◌, ℕ, ◌+◌, true, false, length, Some, ap, sym, ◌∙◌, refl, arith, ◌==◌}
+use Rattle.std.proofs.Common.{◌≡◌, ℕ, ◌+◌, Bool, true, false, List, length, ap, sym, ◌∙◌, refl, arith, ◌==◌}
 use Rattle.o2_world.specs.World.{World, Setting}
-use Rattle.o2_world.specs.Run.{is_over, any_lives}
+use Rattle.o2_world.specs.Run.{is_over}
 use Rattle.o2_conf.specs.Dispatch.{Dispatch}
 use Rattle.o2_sched.specs.Schedule.{next_of, pick_of}
 use Rattle.o2_sched.specs.declared.sched.Pick.TheVariants.{AllEnded, BudgetSpent}
 use Rattle.o2_run.specs.declared.steps.Stop.{Stop}
 use Rattle.o2_run.specs.declared.steps.Stop.TheVariants.{Input, NoRoom, SwapFull, SwapFault}
-use Rattle.o2_run.specs.declared.steps.Turn.{Turn}
-use Rattle.o2_run.specs.declared.fault.Fault.TheVariants as fault
 use Rattle.o2_run.specs.Faults.{turn_of}
 use Rattle.o2_run.specs.Pieces.{Counts, counts, Hands, FailedHands, TurnHands}
 use Rattle.o2_machine.specs.StandsFor.{StandsFor}
@@ -30,16 +28,16 @@ by_stop s w n SwapFull h = h
 by_stop s w n SwapFault h = h
 
 -- the last line, which failed
-module _ (m : Machine) (s : Setting) (w : World) (n : Counts) (stands : StandsFor m s w) (last : Hands n 0 (length w.lines + 1)) where
+module _ (m : Machine) (device : ℕ) (told : Bool) (block : ℕ → List ℕ) (s : Setting) (w : World) (n : Counts) (stands : StandsFor m device told block s w) (last : Hands n 0 (length w.lines + 1)) where
   at_over : is_over w ≡ true → FailedHands s w n
   at_over over = record { in_step = λ on. let never : true ≡ false = sym over ∙ on in absurd (cc); at_end = λ e. last }
 
   pub failed_all : pick_of m.sched ≡ AllEnded → FailedHands s w n
-  failed_all pick = at_over (let none = any_is m s w false stands (by_ended (any_of m.sched) (m.sched.dispatch.budget == 0) (next_of m.sched).current pick) in rw none refl)
+  failed_all pick = at_over (let none = any_is m w false stands.flags (by_ended (any_of m.sched) (m.sched.dispatch.budget == 0) (next_of m.sched).current pick) in rw none refl)
 
   pub failed_spent : pick_of m.sched ≡ BudgetSpent → FailedHands s w n
   failed_spent pick =
       let both = by_spent (any_of m.sched) (m.sched.dispatch.budget == 0) (next_of m.sched).current pick in
-      let lives = any_is m s w true stands both.0 in
+      let lives = any_is m w true stands.flags both.0 in
       let spent = ap (λ (d : Dispatch). d.budget == 0) stands.dispatch ∙ both.1 in
       at_over (rw (lives, spent) refl)

@@ -1,9 +1,7 @@
-pub mod Plains
-pub mod Spaces
-pub mod Commits
-pub mod Between
 pub mod Turns
+pub mod Marks
 pub mod StartLines
+pub mod Devices
 pub mod FirstStands
 pub mod Hands
 pub mod StartPuts

@@ -1,11 +1,11 @@
 -- What a turn does to the world that the machine stands for.
 use Rattle.std.proofs.Common.{◌≡◌, ℕ, ◌+◌, ◌-◌, ◌⊎◌, Bool, true, false, not, List, [], ◌∷◌, ◌++◌, Option, Some, ap, sym, ◌∙◌, refl, inl, inr, ◌==◌, if◌then◌else◌, subst, slice_set, length, length-append, arith}
-use Rattle.std.specs.Prelude.{codes}
+use Rattle.std.specs.Prelude.{codes, IsTrue}
 use Rattle.std.specs.List.{list_any}
 use Rattle.std.proofs.lemmas.Grind.{flat_map-append}
 use Rattle.o2_outer.specs.Texts.{Gains, GainsSome, IsPrefix, Continues}
 use Rattle.o2_outer.proofs.TextLemmas.{continues_by, continues_in_part, gains_some}
-use Rattle.o2_world.specs.World.{World, Setting, Process}
+use Rattle.o2_world.specs.World.{World, Setting, Process, is_live}
 use Rattle.o2_conf.specs.Dispatch.{Dispatch, counted, lives}
 use Rattle.o2_world.specs.declared.types.State.TheVariants.{Live}
 use Rattle.o2_world.specs.Holders.{process_at, with_process}
@@ -13,30 +13,35 @@ use Rattle.o2_world.specs.Calls.{Effect}
 use Rattle.o2_world.specs.Effect.{effect, AsksInput}
 use Rattle.o2_world.specs.Text.{lines_text, line_text}
 use Rattle.o2_world.proofs.Quiet.{changed_plain, effect_quiet}
-use Rattle.o2_world.specs.Run.{process_after, before, step, plainly, is_over, any_lives, live_flags, console, last_line, next_dispatch}
+use Rattle.o2_world.specs.Run.{process_after, before, step, plainly, is_over, IsReadNext, any_lives, live_flags, console, last_line, next_dispatch}
 use Rattle.o2_world.proofs.Budget.{step_runs}
 use Rattle.o2_world.proofs.Flags.{live_process, lives_some, flags_after, flags_ended}
-use Rattle.o2_run.specs.Turn.{StepsOn, StepsInPart, IsStopped, IsClosed, IsClosedInPart, Turns, Caused, is_for_swap, LineIs, OnRan}
+use Rattle.o2_run.specs.Room.{Fits}
+use Rattle.o2_run.specs.Turn.{StepsOn, StepsInPart, IsStopped, IsClosed, IsClosedInPart, Turns, Caused, LineIs, OnRan}
 use Rattle.o2_run.specs.Pieces.{counts, Hands, HandsUpTo, FailedHands, puts_of, step_puts}
-use Rattle.o2_run.specs.Stops.{stop_line}
+use Rattle.o2_run.specs.Stops.{StopsFor, stop_line}
 use Rattle.o2_run.specs.declared.steps.Stop.{Stop}
 use Rattle.o2_run.specs.declared.steps.Stop.TheVariants.{Input, NoRoom, SwapFull, SwapFault}
 use Rattle.o2_run.specs.declared.steps.Turn.{Turn}
 use Rattle.o2_run.specs.declared.steps.Turn.TheVariants as turn
 use Rattle.o2_sched.specs.Schedule.{Schedule, next_of, pick_of}
 use Rattle.o2_sched.specs.declared.sched.Pick.TheVariants.{Step, AllEnded, BudgetSpent}
-use Rattle.o2_machine.specs.Acts.{ActsAll, ActsInPart, ActsUnread, ActsFault, StandsAfter}
 use Rattle.o2_stepping.specs.Ran.{TakesText}
+use Rattle.o2_stepping.specs.Taken.{OnSwapFault}
+use Rattle.o2_stands.specs.Stands.{IsSetTo, Stands}
+use Rattle.o2_space.specs.Acts.{ActsAll, ActsInPart, ActsFault, Stays}
+use Rattle.o2_space.specs.Nexts.{FaultSays}
+use Rattle.o2_space.specs.Parts.{parts_in}
+use Rattle.o2_space.specs.Stands.{StandsAfter}
+use Rattle.o2_space.specs.declared.space.Space.{Space}
 use Rattle.o2_machine.specs.Steppeds.{stepped_sched}
 use Rattle.o2_stepping.specs.declared.one_step.Ran.{Ran}
 use Rattle.o2_run.specs.declared.fault.Fault.{Fault}
 use Rattle.o2_run.specs.declared.fault.Fault.TheVariants.{Stopped}
 use Rattle.o2_run.specs.Faults.{CauseOf, turn_of}
 use Rattle.o2_stepping.specs.Tallies.{IsTally}
-use Rattle.o2_machine.specs.Stands.{StandsIn}
 use Rattle.o2_machine.specs.StandsFor.{StandsFor}
 use Rattle.o2_stepping.specs.declared.tally.Tally.{Tally}
-use Rattle.o2_machine.specs.declared.space.Space.{Space}
 use Rattle.o2_machine.specs.declared.machine.Machine.{Machine}
 
 abbrev pub any_of : Schedule → Bool
@@ -45,7 +50,7 @@ any_of s = list_any (λ (x : Bool). x) s.flags
 -- what a machine has counted of a step that left this space and put so much
 pub record HasCounted (m n : Machine) (left : Space) (tally : Tally) : Type 0 where
   pub space : n.space ≡ left
-  pub avail : left.state.avail ≡ m.space.state.avail
+  pub avail : left.services.avail ≡ m.space.services.avail
   pub budget : n.budget ≡ m.budget
   pub bytes : n.console_bytes ≡ m.console_bytes + tally.bytes
   pub lines : n.lines ≡ m.lines + tally.lines
@@ -53,7 +58,7 @@ pub record HasCounted (m n : Machine) (left : Space) (tally : Tally) : Type 0 wh
 -- nothing has changed but the space
 pub record IsSame (m n : Machine) : Type 0 where
   pub sched : n.sched ≡ m.sched
-  pub avail : n.space.state.avail ≡ m.space.state.avail
+  pub avail : n.space.services.avail ≡ m.space.services.avail
   pub budget : n.budget ≡ m.budget
   pub bytes : n.console_bytes ≡ m.console_bytes
   pub lines : n.lines ≡ m.lines
@@ -82,11 +87,11 @@ by_spent true true a e = (refl, refl)
 by_spent true false a e = absurd (cc)
 by_spent false none a e = absurd (cc)
 
-pub any_is : (m : Machine) (s : Setting) (w : World) (b : Bool) → StandsFor m s w → any_of m.sched ≡ b → any_lives w.processes ≡ b
-any_is m s w b stands e = ap (λ (x : List Bool). list_any (λ (y : Bool). y) x) stands.flags ∙ e
+pub any_is : (m : Machine) (w : World) (b : Bool) → live_flags w.processes ≡ m.sched.flags → any_of m.sched ≡ b → any_lives w.processes ≡ b
+any_is m w b flags e = ap (λ (x : List Bool). list_any (λ (y : Bool). y) x) flags ∙ e
 
-module _ (m : Machine) (s : Setting) (w : World) (p : Process) (c d r q : Option (List ℕ))
-    (stands : StandsFor m s w) (any : any_of m.sched ≡ true) (some : (m.sched.dispatch.budget == 0) ≡ false) (at : process_at w.processes (next_of m.sched).current ≡ Some p) where
+module _ (m : Machine) (device : ℕ) (told : Bool) (block : ℕ → List ℕ) (s : Setting) (w : World) (p : Process) (c d r q : Option (List ℕ))
+    (stands : StandsFor m device told block s w) (any : any_of m.sched ≡ true) (some : (m.sched.dispatch.budget == 0) ≡ false) (at : process_at w.processes (next_of m.sched).current ≡ Some p) where
   abbrev pub made : Effect
   made = effect (before s w (next_of m.sched).current p)
 
@@ -94,7 +99,7 @@ module _ (m : Machine) (s : Setting) (w : World) (p : Process) (c d r q : Option
   next_is = rw (stands.flags, stands.dispatch, stands.quantum) refl
 
   runs : is_over w ≡ false
-  runs = rw (any_is m s w true stands any, stands.dispatch, some) refl
+  runs = rw (any_is m w true stands.flags any, stands.dispatch, some) refl
 
   step_is : step s w ≡ plainly w (next_of m.sched) p made
   step_is = step_runs s w runs ∙ rw (next_is, at) (changed_plain w (next_of m.sched) p made (effect_quiet (before s w (next_of m.sched).current p)))
@@ -111,26 +116,30 @@ module _ (m : Machine) (s : Setting) (w : World) (p : Process) (c d r q : Option
   unfolding plainly
   lines_of = ap (λ (v : World). lines_text v.lines) step_is ∙ flat_map-append line_text w.lines made.lines
 
-  stands_next : (n : Machine) (left : Space) (tally : Tally) → StandsAfter (next_of m.sched).current w.processes w.names p made left
+  -- over what the device is behind the step
+  stands_next : (n : Machine) (count : ℕ) (tells : Bool) (holds : ℕ → List ℕ) (left : Space) (tally : Tally) → IsTrue tells
+      → StandsAfter w (next_of m.sched).current p made (parts_in left count holds) → IsSetTo (parts_in left count holds) s
       → n.sched.dispatch ≡ counted (next_of m.sched) → n.sched.quantum ≡ m.sched.quantum → live_flags (with_process w.processes (next_of m.sched).current (process_after p made)) ≡ n.sched.flags
-      → IsTally made tally → HasCounted m n left tally → StandsFor n s (step s w)
+      → IsTally made tally → HasCounted m n left tally → StandsFor n count tells holds s (step s w)
   unfolding plainly
-  stands_next n left tally space dispatch quantum flags puts counts = rw step_is (record {
-    space = subst (λ (z : Space). StandsAfter (next_of m.sched).current w.processes w.names p made z) (sym counts.space) space;
+  stands_next n count tells holds left tally yes_told space set dispatch quantum flags puts counts = rw step_is (record {
+    told = yes_told;
+    space = subst (λ (z : Space). StandsAfter w (next_of m.sched).current p made (parts_in z count holds)) (sym counts.space) space;
+    set = subst (λ (z : Space). IsSetTo (parts_in z count holds) s) (sym counts.space) set;
     flags = flags;
     dispatch = sym dispatch;
     quantum = stands.quantum ∙ sym quantum;
-    known = record { avail = stands.known.avail ∙ sym (ap (λ (z : Space). z.state.avail) counts.space ∙ counts.avail) };
+    known = record { avail = stands.known.avail ∙ sym (ap (λ (z : Space). z.services.avail) counts.space ∙ counts.avail) };
     budget = stands.budget ∙ sym counts.budget;
     console = length-append w.console made.piece ∙ omega (arith, stands.console, puts.bytes, counts.bytes);
     lines = length-append w.lines made.lines ∙ omega (arith, stands.lines, puts.lines, counts.lines);
   })
 
-  pub steps_in_part : (j : Option (List ℕ)) (n : Machine) → (j ≡ Some w.input) ⊎ (j ≡ Some made.input) → StandsFor n s w ⊎ StandsFor n s (step s w) → GainsSome c d (λ front. IsPrefix front made.piece) → GainsSome r q (λ front. IsPrefix front (lines_text made.lines))
-      → (q ≡ r) ⊎ Gains c d made.piece → StepsInPart (StandsFor n s) false s w j c d r q
-  steps_in_part j n left now to_console to_report in_order = record {
+  pub steps_in_part : (f : World → Type 0) (j : Option (List ℕ)) → Fits true s w → (j ≡ Some w.input) ⊎ (j ≡ Some made.input) → f w ⊎ f (step s w) → GainsSome c d (λ front. IsPrefix front made.piece) → GainsSome r q (λ front. IsPrefix front (lines_text made.lines))
+      → (q ≡ r) ⊎ Gains c d made.piece → StepsInPart f true s w j c d r q
+  steps_in_part f j room left now to_console to_report in_order = record {
     runs = runs;
-    room = λ e. absurd (cc);
+    room = room;
     input = elim left [ inl same ↦ inl same | inr took ↦ inr (took ∙ ap Some (sym input_of)) ];
     stands = now;
     to_console = rw console_of (continues_in_part made.piece (console w) c d to_console);
@@ -141,10 +150,10 @@ module _ (m : Machine) (s : Setting) (w : World) (p : Process) (c d r q : Option
     in_order_of (inl same) = inl same
     in_order_of (inr whole) = inr (rw console_of (continues_by made.piece (console w) c d whole))
 
-  pub steps_on : (i : Option (List ℕ)) (n : Machine) → i ≡ Some made.input → StandsFor n s (step s w) → Gains c d made.piece → Gains r q (lines_text made.lines) → StepsOn (StandsFor n s) false s w i c d r q
-  steps_on i n left now to_console to_report = record {
+  pub steps_on : (f : World → Type 0) (i : Option (List ℕ)) → Fits true s w → i ≡ Some made.input → f (step s w) → Gains c d made.piece → Gains r q (lines_text made.lines) → StepsOn f true s w i c d r q
+  steps_on f i room left now to_console to_report = record {
     runs = runs;
-    room = λ e. absurd (cc);
+    room = room;
     input = left ∙ ap Some (sym input_of);
     stands = now;
     to_console = rw console_of (continues_by made.piece (console w) c d to_console);
@@ -191,9 +200,13 @@ module _ (m : Machine) (s : Setting) (w : World) (p : Process) (c d r q : Option
       at_end = λ over. let never : true ≡ false = sym over ∙ runs in absurd (cc);
     }
 
-pub same_space : (n m : Machine) (s : Setting) (w : World) → StandsFor m s w → IsSame m n → StandsIn n.space w.processes w.names → StandsFor n s w
-same_space n m s w stands same space = record {
+-- for the same world, over what the device is behind a turn that did no step
+pub same_space : (n m : Machine) (device count : ℕ) (told tells : Bool) (block holds : ℕ → List ℕ) (s : Setting) (w : World) → StandsFor m device told block s w → IsSame m n → IsTrue tells
+    → Stands (parts_in n.space count holds) w → IsSetTo (parts_in n.space count holds) s → StandsFor n count tells holds s w
+same_space n m device count told tells block holds s w stands same yes_told space set = record {
+  told = yes_told;
   space = space;
+  set = set;
   flags = stands.flags ∙ ap (λ (z : Schedule). z.flags) (sym same.sched);
   dispatch = stands.dispatch ∙ ap (λ (z : Schedule). z.dispatch) (sym same.sched);
   quantum = stands.quantum ∙ ap (λ (z : Schedule). z.quantum) (sym same.sched);
@@ -203,121 +216,149 @@ same_space n m s w stands same space = record {
   lines = stands.lines ∙ sym same.lines;
 }
 
-module _ (m : Machine) (s : Setting) (w : World) (number : ℕ) (c d r q : Option (List ℕ))
-    (stands : StandsFor m s w) (pick : pick_of m.sched ≡ Step number) (live : lives m.sched.flags number ≡ true) where
+module _ (m : Machine) (device : ℕ) (told : Bool) (block : ℕ → List ℕ) (s : Setting) (w : World) (number : ℕ) (c d r q : Option (List ℕ))
+    (stands : StandsFor m device told block s w) (pick : pick_of m.sched ≡ Step number) (live : lives m.sched.flags number ≡ true) where
   abbrev pub k : ℕ
   k = (next_of m.sched).current
 
   is : IsPicked m.sched number
   is = picked m.sched number pick
 
-  here : (p : Process) × (process_at w.processes k ≡ Some p) × (p.state ≡ Live)
-  here = live_process w.processes m.sched.flags k stands.flags (ap (lives m.sched.flags) is.number ∙ live)
+  found_at : (p : Process) × (process_at w.processes k ≡ Some p) × (p.state ≡ Live)
+  found_at = live_process w.processes m.sched.flags k stands.flags (ap (lives m.sched.flags) is.number ∙ live)
 
-  pub faulted : (i j : Option (List ℕ)) (n : Machine) → IsSame m n → i ≡ Some w.input
-      → ((p : Process) → process_at w.processes number ≡ Some p → p.state ≡ Live → ActsInPart w.processes w.names (effect (before s w number p)) n.space i j c d r q)
-      → StepsInPart (StandsFor n s) false s w j c d r q
-  faulted i j n same left did =
-      let at_k = subst (λ (z : ℕ). (p : Process) → process_at w.processes z ≡ Some p → p.state ≡ Live → ActsInPart w.processes w.names (effect (before s w z p)) n.space i j c d r q) (sym is.number) did in
-      let all = at_k here.0 here.1 here.2 in
-      steps_in_part m s w here.0 c d r q stands is.any is.some here.1 j n (elim all.input [ inl same ↦ inl (same ∙ left) | inr took ↦ inr took ]) (inl (same_space n m s w stands same all.stands)) all.to_console all.to_report all.in_order
+  abbrev here : Process
+  here = found_at.0
 
-  ended_flags : (e : Effect) (p : Process) → Rattle.o2_world.specs.World.is_live e.state ≡ false → live_flags (with_process w.processes k (process_after p e)) ≡ slice_set m.sched.flags (number - 1) false
-  ended_flags e p ends = flags_ended w.processes m.sched.flags k p e (lives_some m.sched.flags k (ap (lives m.sched.flags) is.number ∙ live)) stands.flags ends ∙ ap (λ (z : ℕ). slice_set m.sched.flags (z - 1) false) is.number
+  here_is : process_at w.processes k ≡ Some here
+  here_is = found_at.1
 
-  flags_next : (e : Effect) (p : Process) (goes_on : Bool) → Rattle.o2_world.specs.World.is_live e.state ≡ goes_on → live_flags (with_process w.processes k (process_after p e)) ≡ (stepped_sched m.sched number goes_on).flags
-  flags_next e p true goes = flags_after w.processes m.sched.flags k p e stands.flags (ap (lives m.sched.flags) is.number ∙ live) goes
-  flags_next e p false ends = ended_flags e p ends
+  -- the next step is this process's
+  current_is : (next_dispatch s w).current ≡ number
+  current_is = ap (λ (z : Dispatch). z.current) (next_is m device told block s w here c d r q stands is.any is.some here_is) ∙ is.number
 
-  module _ (i : Option (List ℕ)) (n : Machine) (left : Space) (ran : Ran) (counts : HasCounted m n left ran.tally)
-      (did : (p : Process) → process_at w.processes number ≡ Some p → p.state ≡ Live → ActsAll number w.processes w.names p (effect (before s w number p)) ran left i c d r q)
-      (sched : n.sched ≡ stepped_sched m.sched number (Rattle.o2_world.specs.World.is_live ran.state)) where
-    all : ActsAll k w.processes w.names here.0 (effect (before s w k here.0)) ran left i c d r q
-    all = subst (λ (z : ℕ). (p : Process) → process_at w.processes z ≡ Some p → p.state ≡ Live → ActsAll z w.processes w.names p (effect (before s w z p)) ran left i c d r q) (sym is.number) did here.0 here.1 here.2
+  -- what is said of the process of this number is so of it
+  at_k : (P : ℕ → Process → Type 0) → ((p : Process) → process_at w.processes number ≡ Some p → P number p) → P k here
+  at_k P did = subst (λ (z : ℕ). (p : Process) → process_at w.processes z ≡ Some p → P z p) (sym is.number) did here here_is
 
-    -- the machine stands for the world after the step
-    now : StandsFor n s (step s w)
-    now = stands_next m s w here.0 c d r q stands is.any is.some here.1 n left ran.tally all.stands (ap (λ (z : Schedule). z.dispatch) sched) (ap (λ (z : Schedule). z.quantum) sched)
-        (flags_next (effect (before s w k here.0)) here.0 _ all.lives ∙ sym (ap (λ (z : Schedule). z.flags) sched)) all.puts counts
+  -- over what the device is behind it
+  module _ (n : Machine) (count : ℕ) (tells : Bool) (holds : ℕ → List ℕ) (yes_told : IsTrue tells) where
+    abbrev stands_now : World → Type 0
+    stands_now = StandsFor n count tells holds s
 
-    pub went : ran.whole ≡ true → StepsOn (StandsFor n s) false s w i c d r q
-    went whole = steps_on m s w here.0 c d r q stands is.any is.some here.1 i n all.input now all.to_console
-        (subst (λ (z : Bool). TakesText z r q (lines_text (effect (before s w k here.0)).lines)) whole all.to_report)
+    pub faulted : (i j : Option (List ℕ)) → IsSame m n → i ≡ Some w.input → IsSetTo (parts_in n.space count holds) s
+        → ((p : Process) → process_at w.processes number ≡ Some p → ActsInPart w (effect (before s w number p)) p.cpu (parts_in n.space count holds) i j c d r q)
+        → ((next_dispatch s w).current ≡ number → (p : Process) → process_at w.processes number ≡ Some p → Fits true s w)
+        → StepsInPart stands_now true s w j c d r q
+    faulted i j same left set did room =
+        let all = at_k (λ z p. ActsInPart w (effect (before s w z p)) p.cpu (parts_in n.space count holds) i j c d r q) did in
+        steps_in_part m device told block s w here c d r q stands is.any is.some here_is stands_now j (at_k (λ z p. Fits true s w) (room current_is))
+        (elim all.input [ inl same_left ↦ inl (same_left ∙ left) | inr took ↦ inr took ])
+        (inl (same_space n m device count told tells block holds s w stands same yes_told all.stands set)) all.to_console all.to_report all.in_order
 
-    pub late : ran.whole ≡ false → StepsInPart (StandsFor n s) false s w i c d r q
-    late part = steps_in_part m s w here.0 c d r q stands is.any is.some here.1 i n (inr all.input) (inr now) (gains_some _ c d all.to_console)
-        (subst (λ (z : Bool). TakesText z r q (lines_text (effect (before s w k here.0)).lines)) part all.to_report) (inr all.to_console)
+    module _ (i : Option (List ℕ)) (left : Space) (ran : Ran) (counts : HasCounted m n left ran.tally) (set : IsSetTo (parts_in left count holds) s)
+        (did : (p : Process) → process_at w.processes number ≡ Some p → ActsAll w number p (effect (before s w number p)) ran (parts_in left count holds) i c d r q)
+        (room : (next_dispatch s w).current ≡ number → (p : Process) → process_at w.processes number ≡ Some p → Fits true s w)
+        (sched : n.sched ≡ stepped_sched m.sched number (is_live ran.state)) where
+      abbrev e : Effect
+      e = effect (before s w k here)
+
+      all : ActsAll w k here e ran (parts_in left count holds) i c d r q
+      all = at_k (λ z p. ActsAll w z p (effect (before s w z p)) ran (parts_in left count holds) i c d r q) did
+
+      flags_next : (goes_on : Bool) → is_live e.state ≡ goes_on → live_flags (with_process w.processes k (process_after here e)) ≡ (stepped_sched m.sched number goes_on).flags
+      flags_next true goes = flags_after w.processes m.sched.flags k here e stands.flags (ap (lives m.sched.flags) is.number ∙ live) goes
+      flags_next false ends =
+          flags_ended w.processes m.sched.flags k here e (lives_some m.sched.flags k (ap (lives m.sched.flags) is.number ∙ live)) stands.flags ends
+          ∙ ap (λ (z : ℕ). slice_set m.sched.flags (z - 1) false) is.number
+
+      fits : Fits true s w
+      fits = at_k (λ z p. Fits true s w) (room current_is)
+
+      -- the machine stands for the world after the step
+      now : stands_now (step s w)
+      now = stands_next m device told block s w here c d r q stands is.any is.some here_is n count tells holds left ran.tally yes_told all.stands set
+          (ap (λ (z : Schedule). z.dispatch) sched) (ap (λ (z : Schedule). z.quantum) sched)
+          (flags_next (is_live ran.state) (ap is_live all.state) ∙ sym (ap (λ (z : Schedule). z.flags) sched)) all.puts counts
+
+      pub went : ran.whole ≡ true → StepsOn stands_now true s w i c d r q
+      went whole = steps_on m device told block s w here c d r q stands is.any is.some here_is stands_now i fits all.input now all.to_console
+          (subst (λ (z : Bool). TakesText z r q (lines_text e.lines)) whole all.to_report)
+
+      pub late : ran.whole ≡ false → StepsInPart stands_now true s w i c d r q
+      late part = steps_in_part m device told block s w here c d r q stands is.any is.some here_is stands_now i fits (inr all.input) (inr now) (gains_some _ c d all.to_console)
+          (subst (λ (z : Bool). TakesText z r q (lines_text e.lines)) part all.to_report) (inr all.to_console)
+
+    -- no step is done: the machine stands for the world before it, and there is a cause in that world
+    halts : (why : Stop) (put : Bool) (i j s_of : Option (List ℕ)) → StopsFor device s w why → IsSame m n → i ≡ Some w.input → IsSetTo (parts_in n.space count holds) s
+        → Stays w (parts_in n.space count holds) i j c d r s_of → GainsSome s_of q (λ front. IsPrefix front (stop_line why)) → (put ≡ true → Gains s_of q (stop_line why))
+        → IsStopped stands_now device s w why put j c d r q
+    halts why put i j s_of cause same left set all front whole = record {
+      runs = runs m device told block s w here c d r q stands is.any is.some here_is;
+      cause = cause;
+      stands = same_space n m device count told tells block holds s w stands same yes_told all.stands set;
+      input = all.input ∙ left;
+      to_console = all.to_console;
+      to_report = continues_in_part (stop_line why) (lines_text w.lines) r q (subst (λ (z : Option (List ℕ)). GainsSome z q (λ front. IsPrefix front (stop_line why))) all.to_report front);
+      whole = λ e. continues_by (stop_line why) (lines_text w.lines) r q (subst (λ (z : Option (List ℕ)). Gains z q (stop_line why)) all.to_report (whole e));
+    }
+
+    -- at an input fault the next step is one that asks the input
+    reads : AsksInput (before s w k here) → IsReadNext s w
+    reads asks =
+        let next = next_is m device told block s w here c d r q stands is.any is.some here_is in
+        record {
+          process = here;
+          there = ap (λ (z : Dispatch). process_at w.processes z.current) next ∙ here_is;
+          reads = subst (λ (z : Dispatch). AsksInput (before s w z.current here)) (sym next) asks;
+        }
+
+    -- whatever stop a step answers
+    pub stopped_by : (why : Stop) (put : Bool) (i j s_of : Option (List ℕ)) → IsSame m n → i ≡ Some w.input → IsSetTo (parts_in n.space count holds) s
+        → ((p : Process) → process_at w.processes number ≡ Some p → ActsFault (before s w number p) w (parts_in n.space count holds) i j c d r s_of (Stopped why))
+        → ((next_dispatch s w).current ≡ number → (p : Process) → process_at w.processes number ≡ Some p → FaultSays device s w (Stopped why))
+        → GainsSome s_of q (λ front. IsPrefix front (stop_line why)) → (put ≡ true → Gains s_of q (stop_line why)) → Turns stands_now true device s w put j c d r q (turn_of why)
+    stopped_by Input put i j s_of same left set did says front whole =
+        let all = at_k (λ z p. ActsFault (before s w z p) w (parts_in n.space count holds) i j c d r s_of (Stopped Input)) did in
+        halts Input put i j s_of (reads all.cause) same left set all.still front whole
+    stopped_by NoRoom put i j s_of same left set did says front whole =
+        halts NoRoom put i j s_of (at_k (λ z p. FaultSays device s w (Stopped NoRoom)) (says current_is)) same left set
+        (at_k (λ z p. ActsFault (before s w z p) w (parts_in n.space count holds) i j c d r s_of (Stopped NoRoom)) did) front whole
+    stopped_by SwapFull put i j s_of same left set did says front whole =
+        halts SwapFull put i j s_of (at_k (λ z p. FaultSays device s w (Stopped SwapFull)) (says current_is)) same left set
+        (at_k (λ z p. ActsFault (before s w z p) w (parts_in n.space count holds) i j c d r s_of (Stopped SwapFull)) did) front whole
+    stopped_by SwapFault put i j s_of same left set did says front whole =
+        halts SwapFault put i j s_of tt same left set
+        (at_k (λ z p. ActsFault (before s w z p) w (parts_in n.space count holds) i j c d r s_of (Stopped SwapFault)) did) front whole
 
   -- The puts of a step that is done, whole or not, and of one in which a sink failed.
   module _ (a b x y : ℕ) where
-    pub failed_puts : ((p : Process) → process_at w.processes number ≡ Some p → p.state ≡ Live → let e : Effect = effect (before s w number p) in HandsUpTo (counts a b x y 0) (puts_of (length e.piece)) 0 (length e.lines))
+    pub failed_puts : ((p : Process) → process_at w.processes number ≡ Some p → let e : Effect = effect (before s w number p) in HandsUpTo (counts a b x y 0) (puts_of (length e.piece)) 0 (length e.lines))
         → FailedHands s w (counts a b x y (length w.lines))
     failed_puts did =
-        let at_k = subst (λ (z : ℕ). (p : Process) → process_at w.processes z ≡ Some p → p.state ≡ Live → let e : Effect = effect (before s w z p) in HandsUpTo (counts a b x y 0) (puts_of (length e.piece)) 0 (length e.lines)) (sym is.number) did in
-        part_hands m s w here.0 c d r q stands is.any is.some here.1 a b x y (at_k here.0 here.1 here.2)
+        part_hands m device told block s w here c d r q stands is.any is.some here_is a b x y
+        (at_k (λ z p. let e : Effect = effect (before s w z p) in HandsUpTo (counts a b x y 0) (puts_of (length e.piece)) 0 (length e.lines)) did)
 
-    module _ (tally : Tally) (did : (p : Process) → process_at w.processes number ≡ Some p → p.state ≡ Live → IsTally (effect (before s w number p)) tally) (hands : Hands (counts a b x y 0) (puts_of tally.bytes) tally.lines) where
-      so : IsTally (effect (before s w k here.0)) tally
-      so = subst (λ (z : ℕ). (p : Process) → process_at w.processes z ≡ Some p → p.state ≡ Live → IsTally (effect (before s w z p)) tally) (sym is.number) did here.0 here.1 here.2
+    module _ (tally : Tally) (did : (p : Process) → process_at w.processes number ≡ Some p → IsTally (effect (before s w number p)) tally) (hands : Hands (counts a b x y 0) (puts_of tally.bytes) tally.lines) where
+      so : IsTally (effect (before s w k here)) tally
+      so = at_k (λ z p. IsTally (effect (before s w z p)) tally) did
 
       pub went_puts : Hands (counts a b x y (length w.lines)) (step_puts w (step s w)) (length (step s w).lines)
-      went_puts = step_hands m s w here.0 c d r q stands is.any is.some here.1 a b x y tally.bytes tally.lines so.bytes so.lines hands
+      went_puts = step_hands m device told block s w here c d r q stands is.any is.some here_is a b x y tally.bytes tally.lines so.bytes so.lines hands
 
       pub late_puts : FailedHands s w (counts a b x y (length w.lines))
-      late_puts = late_hands m s w here.0 c d r q stands is.any is.some here.1 a b x y tally.bytes tally.lines so.bytes so.lines hands
+      late_puts = late_hands m device told block s w here c d r q stands is.any is.some here_is a b x y tally.bytes tally.lines so.bytes so.lines hands
 
-  -- the input failed: the next step is a DosRead, and the machine stands for the world before it
-  pub stopped : (blocks : ℕ) (n : Machine) (put : Bool) (i j s_of : Option (List ℕ)) → IsSame m n → i ≡ Some w.input
-      → ((p : Process) → process_at w.processes number ≡ Some p → p.state ≡ Live → ActsUnread (AsksInput (before s w number p)) w.processes w.names n.space i j c d r s_of)
-      → GainsSome s_of q (λ front. IsPrefix front (stop_line Input)) → (put ≡ true → Gains s_of q (stop_line Input)) → IsStopped (StandsFor n s) blocks s w Input put j c d r q
-  stopped blocks n put i j s_of same left did front whole =
-      let at_k = subst (λ (z : ℕ). (p : Process) → process_at w.processes z ≡ Some p → p.state ≡ Live → ActsUnread (AsksInput (before s w z p)) w.processes w.names n.space i j c d r s_of) (sym is.number) did in
-      let all = at_k here.0 here.1 here.2 in
-      let next = next_is m s w here.0 c d r q stands is.any is.some here.1 in
-      record {
-        runs = runs m s w here.0 c d r q stands is.any is.some here.1;
-        cause = record {
-          process = here.0;
-          there = ap (λ (z : Dispatch). process_at w.processes z.current) next ∙ here.1;
-          reads = subst (λ (z : Dispatch). AsksInput (before s w z.current here.0)) (sym next) all.cause;
-        };
-        stands = same_space n m s w stands same all.stands;
-        input = all.input ∙ left;
-        to_console = all.to_console;
-        to_report = continues_in_part (stop_line Input) (lines_text w.lines) r q (subst (λ (z : Option (List ℕ)). GainsSome z q (λ front. IsPrefix front (stop_line Input))) all.to_report front);
-        whole = λ e. continues_by (stop_line Input) (lines_text w.lines) r q (subst (λ (z : Option (List ℕ)). Gains z q (stop_line Input)) all.to_report (whole e));
-      }
-
-  did_here : ((p : Process) → process_at w.processes number ≡ Some p → p.state ≡ Live → ⊥) → ⊥
-  did_here did = subst (λ (z : ℕ). (p : Process) → process_at w.processes z ≡ Some p → p.state ≡ Live → ⊥) (sym is.number) did here.0 here.1 here.2
-
-  -- whatever stop a step answers
-  pub stopped_by : (why : Stop) (blocks : ℕ) (n : Machine) (put : Bool) (i j s_of : Option (List ℕ)) → IsSame m n → i ≡ Some w.input
-      → ((p : Process) → process_at w.processes number ≡ Some p → p.state ≡ Live → ActsFault (AsksInput (before s w number p)) w.processes w.names (effect (before s w number p)) n.space i j c d r s_of (Stopped why))
-      → GainsSome s_of q (λ front. IsPrefix front (stop_line why)) → (put ≡ true → Gains s_of q (stop_line why)) → Turns (StandsFor n s) false blocks s w put j c d r q (turn_of why)
-  stopped_by Input blocks n put i j s_of same left did front whole = stopped blocks n put i j s_of same left did front whole
-  stopped_by NoRoom blocks n put i j s_of same left did front whole = absurd (did_here did)
-  stopped_by SwapFull blocks n put i j s_of same left did front whole = absurd (did_here did)
-  stopped_by SwapFault blocks n put i j s_of same left did front whole = absurd (did_here did)
-
--- a step that stops does so for its input alone
-pub caused_stop : (sink other input : Type 0) (f : Fault) (why : Stop) → f ≡ Stopped why → CauseOf sink input ⊥ ⊥ f → Caused other input ⊥ (turn_of why)
-caused_stop sink other input f why is h = by_stop why (subst (λ (z : Fault). CauseOf sink input ⊥ ⊥ z) is h)
+-- what caused a step to stop
+pub caused_stop : (sink other input device full : Type 0) (f : Fault) (why : Stop) → f ≡ Stopped why → CauseOf sink input (Unit {0}) (Unit {0}) f → OnSwapFault (Unit {0}) full device f → Caused other input device (turn_of why)
+caused_stop sink other input device full f why is h t =
+    by_stop why (subst (λ (z : Fault). CauseOf sink input (Unit {0}) (Unit {0}) z) is h) (subst (λ (z : Fault). OnSwapFault (Unit {0}) full device z) is t)
   where
-    by_stop : (why : Stop) → CauseOf sink input ⊥ ⊥ (Stopped why) → Caused other input ⊥ (turn_of why)
-    by_stop Input h = h
-    by_stop NoRoom h = absurd h
-    by_stop SwapFull h = absurd h
-    by_stop SwapFault h = absurd h
-
-pub not_for_swap : (sink input : Type 0) (f : Fault) (why : Stop) → f ≡ Stopped why → CauseOf sink input ⊥ ⊥ f → is_for_swap (turn_of why) ≡ false
-not_for_swap sink input f why is h = by_stop why (subst (λ (z : Fault). CauseOf sink input ⊥ ⊥ z) is h)
-  where
-    by_stop : (why : Stop) → CauseOf sink input ⊥ ⊥ (Stopped why) → is_for_swap (turn_of why) ≡ false
-    by_stop Input h = refl
-    by_stop NoRoom h = absurd h
-    by_stop SwapFull h = absurd h
-    by_stop SwapFault h = absurd h
+    by_stop : (why : Stop) → CauseOf sink input (Unit {0}) (Unit {0}) (Stopped why) → OnSwapFault (Unit {0}) full device (Stopped why) → Caused other input device (turn_of why)
+    by_stop Input h t = h
+    by_stop NoRoom h t = tt
+    by_stop SwapFull h t = tt
+    by_stop SwapFault h t = t
 
 pub line_of_stop : (put : Bool) (fault : Type 0) (why : Stop) → (put ≡ false → fault) → LineIs put fault (turn_of why)
 line_of_stop put fault Input h = h
@@ -332,34 +373,39 @@ left_at_stop P SwapFull = tt
 left_at_stop P SwapFault = tt
 
 -- the last line, whole or in part
-module _ (m n : Machine) (s : Setting) (w : World) (i c r q : Option (List ℕ)) (stands : StandsFor m s w) (same : IsSame m n) (space : n.space ≡ m.space) (left : i ≡ Some w.input) where
-  stays : StandsFor n s w
-  stays = same_space n m s w stands same (subst (λ (z : Space). StandsIn z w.processes w.names) (sym space) stands.space)
+module _ (m n : Machine) (device : ℕ) (told : Bool) (block : ℕ → List ℕ) (s : Setting) (w : World) (i c r q : Option (List ℕ))
+    (stands : StandsFor m device told block s w) (same : IsSame m n) (space : n.space ≡ m.space) (left : i ≡ Some w.input) where
+  abbrev stands_still : World → Type 0
+  stands_still = StandsFor n device told block s
 
-  closed : (lives : Bool) (text : List ℕ) → any_lives w.processes ≡ lives → is_over w ≡ true → last_line w ≡ text → Gains r q text → IsClosed (StandsFor n s) w lives i c c r q
+  stays : stands_still w
+  stays = same_space n m device device told told block block s w stands same stands.told
+      (subst (λ (z : Space). Stands (parts_in z device block) w) (sym space) stands.space) (subst (λ (z : Space). IsSetTo (parts_in z device block) s) (sym space) stands.set)
+
+  closed : (lives : Bool) (text : List ℕ) → any_lives w.processes ≡ lives → is_over w ≡ true → last_line w ≡ text → Gains r q text → IsClosed stands_still w lives i c c r q
   closed lives text by over last g = record { over = over; by = by; stands = stays; input = left; to_console = refl; to_report = rw last (continues_by text (lines_text w.lines) r q g) }
 
-  closed_in_part : (text : List ℕ) → is_over w ≡ true → last_line w ≡ text → GainsSome r q (λ front. IsPrefix front text) → IsClosedInPart (StandsFor n s) w i c c r q
+  closed_in_part : (text : List ℕ) → is_over w ≡ true → last_line w ≡ text → GainsSome r q (λ front. IsPrefix front text) → IsClosedInPart stands_still w i c c r q
   closed_in_part text over last g = record { over = over; stands = stays; input = left; to_console = refl; to_report = rw last (continues_in_part text (lines_text w.lines) r q g) }
 
   none_lives : pick_of m.sched ≡ AllEnded → any_lives w.processes ≡ false
-  none_lives pick = any_is m s w false stands (by_ended (any_of m.sched) (m.sched.dispatch.budget == 0) (next_of m.sched).current pick)
+  none_lives pick = any_is m w false stands.flags (by_ended (any_of m.sched) (m.sched.dispatch.budget == 0) (next_of m.sched).current pick)
 
-  pub closes_ended : pick_of m.sched ≡ AllEnded → Gains r q (codes "all ended" ++ 10 ∷ []) → IsClosed (StandsFor n s) w false i c c r q
+  pub closes_ended : pick_of m.sched ≡ AllEnded → Gains r q (codes "all ended" ++ 10 ∷ []) → IsClosed stands_still w false i c c r q
   closes_ended pick g = closed false _ (none_lives pick) (rw (none_lives pick) refl) (rw (none_lives pick) refl) g
 
-  pub ended_in_part : pick_of m.sched ≡ AllEnded → GainsSome r q (λ front. IsPrefix front (codes "all ended" ++ 10 ∷ [])) → IsClosedInPart (StandsFor n s) w i c c r q
+  pub ended_in_part : pick_of m.sched ≡ AllEnded → GainsSome r q (λ front. IsPrefix front (codes "all ended" ++ 10 ∷ [])) → IsClosedInPart stands_still w i c c r q
   ended_in_part pick g = closed_in_part _ (rw (none_lives pick) refl) (rw (none_lives pick) refl) g
 
   some_lives : pick_of m.sched ≡ BudgetSpent → (any_lives w.processes ≡ true) × ((w.dispatch.budget == 0) ≡ true)
   some_lives pick =
       let both = by_spent (any_of m.sched) (m.sched.dispatch.budget == 0) (next_of m.sched).current pick in
-      (any_is m s w true stands both.0, ap (λ (d : Dispatch). d.budget == 0) stands.dispatch ∙ both.1)
+      (any_is m w true stands.flags both.0, ap (λ (d : Dispatch). d.budget == 0) stands.dispatch ∙ both.1)
 
-  pub closes_spent : pick_of m.sched ≡ BudgetSpent → Gains r q (codes "budget spent" ++ 10 ∷ []) → IsClosed (StandsFor n s) w true i c c r q
+  pub closes_spent : pick_of m.sched ≡ BudgetSpent → Gains r q (codes "budget spent" ++ 10 ∷ []) → IsClosed stands_still w true i c c r q
   closes_spent pick g = let both = some_lives pick in closed true _ both.0 (rw (both.0, both.1) refl) (rw (both.0, both.1) refl) g
 
-  pub spent_in_part : pick_of m.sched ≡ BudgetSpent → GainsSome r q (λ front. IsPrefix front (codes "budget spent" ++ 10 ∷ [])) → IsClosedInPart (StandsFor n s) w i c c r q
+  pub spent_in_part : pick_of m.sched ≡ BudgetSpent → GainsSome r q (λ front. IsPrefix front (codes "budget spent" ++ 10 ∷ [])) → IsClosedInPart stands_still w i c c r q
   spent_in_part pick g = let both = some_lives pick in closed_in_part _ (rw (both.0, both.1) refl) (rw (both.0, both.1) refl) g
 
 -- what a machine stands for doesn't depend on the answer that it keeps
@@ -384,16 +430,5 @@ turns_move f g h swaps blocks s w put i c d r q turn.SinkFault (inr x) = inr (re
 pub turns_answered : (f g : World → Type 0) → ((w : World) → f w → g w) → (swaps : Bool) (blocks : ℕ) (s : Setting) (w : World) (put : Bool) (i c d r q : Option (List ℕ)) (t u : Turn) → u ≡ t → Turns f swaps blocks s w put i c d r q t → Turns g swaps blocks s w put i c d r q u
 turns_answered f g h swaps blocks s w put i c d r q t u same x = subst (λ (z : Turn). Turns g swaps blocks s w put i c d r q z) (sym same) (turns_move f g h swaps blocks s w put i c d r q t x)
 
--- a machine that doesn't swap owes no cause for a fault of its device
-caused : (sink input device : Type 0) (t : Turn) → Caused sink input ⊥ t → Caused sink input device t
-caused sink input device turn.Ran h = h
-caused sink input device turn.AllEnded h = h
-caused sink input device turn.BudgetSpent h = h
-caused sink input device turn.InputFault h = h
-caused sink input device turn.SinkFault h = h
-caused sink input device turn.NoRoom h = h
-caused sink input device turn.SwapFull h = h
-caused sink input device turn.SwapFault h = absurd h
-
-pub caused_answered : (sink input device : Type 0) (t u : Turn) → u ≡ t → Caused sink input ⊥ t → Caused sink input device u
-caused_answered sink input device t u same h = subst (λ (z : Turn). Caused sink input device z) (sym same) (caused sink input device t h)
+pub caused_answered : (sink input device : Type 0) (t u : Turn) → u ≡ t → Caused sink input device t → Caused sink input device u
+caused_answered sink input device t u same h = subst (λ (z : Turn). Caused sink input device z) (sym same) h

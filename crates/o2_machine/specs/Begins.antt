@@ -1,7 +1,10 @@
 -- How a machine begins.
-use Rattle.std.specs.Prelude.{◌≡◌, ◌≤◌, ℕ, ◌+◌, List, Option, None, Result, Ok, Err, map}
+use Rattle.std.specs.Prelude.{◌≡◌, ◌≤◌, ℕ, ◌+◌, All, true, List, Option, None, Result, Ok, Err, min}
 use Rattle.o2_base.specs.declared.faults.ModuleFault.{ModuleFault}
 use Rattle.o2_conf.specs.declared.conf.Conf.{Conf}
+use Rattle.o2_image.specs.Parts.{Parts}
+use Rattle.o2_image.specs.Whole.{IsRunnable}
+use Rattle.o2_dynlink.specs.Linking.{linked_of}
 use Rattle.o2_dynlink.specs.Outcome.{LinkedParts}
 use Rattle.o2_outer.specs.Texts.{Gains, GainsSome, IsPrefix}
 use Rattle.o2_world.specs.World.{World, Setting}
@@ -11,11 +14,16 @@ use Rattle.o2_load.specs.Loads.{starts_of, library_ranges}
 use Rattle.o2_machine.specs.declared.fault.BeginFault.{BeginFault}
 use Rattle.o2_machine.specs.declared.fault.BeginFault.TheVariants as begin_fault
 use Rattle.o2_machine.specs.declared.machine.Machine.{Machine}
+use Rattle.o2_machine.specs.GoesOver.{GoesOver}
 use Rattle.o2_machine.specs.StandsFor.{StandsFor}
 
 -- what a run takes from the machine file
 abbrev pub setting_of : Conf → Setting
 setting_of c = record { quantum = c.quantum; memory = c.memory; swap = c.swap; segments = c.segments; avail = c.avail; budget = c.budget }
+
+-- linked modules are those of a setting, and each of them passed its checks
+abbrev pub IsLinked : Conf → LinkedParts → Type 0
+IsLinked c l = (modules : List Parts) × (All IsRunnable modules × (linked_of modules c ≡ Ok l))
 
 -- the starts of a setting's processes
 abbrev pub starting : LinkedParts → Conf → Result Built (ℕ × ModuleFault)
@@ -26,14 +34,21 @@ abbrev pub first_world : LinkedParts → Conf → List ℕ → Built → World
 first_world l c input b = world_of (library_ranges l) c.script c.budget input b
 
 -- the world before the first step, or the process that is refused, and why
-abbrev pub opening : LinkedParts → Conf → List ℕ → Result World (ℕ × ModuleFault)
-opening l c input = opening_of (setting_of c) (library_ranges l) c.script input (starts_of l 1 c.process)
+abbrev pub opening_in : Setting → LinkedParts → Conf → List ℕ → Result World (ℕ × ModuleFault)
+opening_in s l c input = opening_of s (library_ranges l) c.script input (starts_of l 1 c.process)
 
--- all processes have started, and the lines of their starts are put
-pub record HasBegun (m : Machine) (l : LinkedParts) (c : Conf) (report_old report_new : Option (List ℕ)) : Type 0 where
+abbrev pub opening : LinkedParts → Conf → List ℕ → Result World (ℕ × ModuleFault)
+opening l c input = opening_in (setting_of c) l c input
+
+-- All processes have started, and the lines of their starts are put. The machine is made for `blocks` blocks of its device, or for
+-- as many as the setting has, where these are fewer. It stands for the first world over each device of which that leaves as many,
+-- whatever they hold, and goes on over each device that has as many.
+pub record HasBegun (m : Machine) (l : LinkedParts) (c : Conf) (blocks : ℕ) (report_old report_new : Option (List ℕ)) : Type 0 where
   pub built : Built
   pub starts : starting l c ≡ Ok built
-  pub stands : (input : List ℕ) → StandsFor m (setting_of c) (first_world l c input built)
+  pub stands : (device : ℕ) → min c.swap device ≡ min c.swap blocks → (block : ℕ → List ℕ) (input : List ℕ)
+      → StandsFor m device true block (setting_of c) (first_world l c input built)
+  pub goes_on : (device : ℕ) → min c.swap blocks ≤ device → GoesOver m.space m.sched.flags device
   pub fresh : m.last ≡ None
   pub to_report : Gains report_old report_new (lines_text built.lines)
 
@@ -43,11 +58,11 @@ pub record HasBegunInPart (l : LinkedParts) (c : Conf) (report_old report_new : 
   pub starts : starting l c ≡ Ok built
   pub to_report : GainsSome report_old report_new (λ front. IsPrefix front (lines_text built.lines))
 
-abbrev pub Begins : LinkedParts → Conf → (report_old report_new : Option (List ℕ)) → Result Machine BeginFault → Type 0
-Begins l c r q (Ok m) = HasBegun m l c r q
-Begins l c r q (Err (begin_fault.Start pid fault)) = (starting l c ≡ Err (pid, fault)) × (q ≡ r)
-Begins l c r q (Err begin_fault.SinkFault) = HasBegunInPart l c r q
-Begins l c r q (Err begin_fault.NoMemory) = q ≡ r
+abbrev pub Begins : LinkedParts → Conf → (blocks : ℕ) → (report_old report_new : Option (List ℕ)) → Result Machine BeginFault → Type 0
+Begins l c blocks r q (Ok m) = HasBegun m l c blocks r q
+Begins l c blocks r q (Err (begin_fault.Start pid fault)) = (starting l c ≡ Err (pid, fault)) × (q ≡ r)
+Begins l c blocks r q (Err begin_fault.SinkFault) = HasBegunInPart l c r q
+Begins l c blocks r q (Err begin_fault.NoMemory) = q ≡ r
 
 abbrev pub OnSinkFault : Result Machine BeginFault → Type 0 → Type 0
 OnSinkFault (Err begin_fault.SinkFault) P = P

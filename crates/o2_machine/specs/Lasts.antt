@@ -1,5 +1,5 @@
 -- The answer that is final, and what it says.
-use Rattle.std.specs.Prelude.{ℕ, Bool, false, Option, Some, None}
+use Rattle.std.specs.Prelude.{ℕ, Bool, true, false, Option, Some, None}
 use Rattle.o2_run.specs.declared.steps.Turn.{Turn}
 use Rattle.o2_run.specs.declared.steps.Turn.TheVariants as turn
 use Rattle.o2_machine.specs.declared.last.Last.{Last}
@@ -33,6 +33,6 @@ last_lines (Some AllEnded) = 1
 last_lines (Some BudgetSpent) = 1
 last_lines _ = 0
 
--- nothing is moved or swapped
+-- segments are kept in the memory of the setting, and swapped
 abbrev pub machine_swaps : Bool
-machine_swaps = false
+machine_swaps = true

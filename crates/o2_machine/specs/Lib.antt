@@ -1,11 +1,7 @@
-pub mod RunsOver
-pub mod Stands
-pub mod Commit
-pub mod Acts
+pub mod GoesOver
 pub mod Lasts
 pub mod Steppeds
 pub mod StandsFor
 pub mod Begins
 pub mod Readies
 pub mod Shown
-pub mod Puts

@@ -4,7 +4,7 @@ use Rattle.o2_isa.specs.declared.cpu.Cpu.{Cpu}
 use Rattle.o2_world.specs.declared.types.State.{State}
 use Rattle.o2_world.specs.declared.types.State.TheVariants.{Live, Exited, Trapped}
 use Rattle.o2_world.specs.World.{Process}
-use Rattle.o2_machine.specs.declared.space.Proc.{Proc}
+use Rattle.o2_space.specs.declared.space.Proc.{Proc}
 
 -- 0 where it lives, 1 where it exited, and 2 where an exception ended it
 abbrev pub state_number : State → ℕ

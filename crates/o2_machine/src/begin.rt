@@ -1,32 +1,44 @@
 // How a machine begins: its processes start, and the lines of their starts are put.
-ghost use Rattle.std.specs.Prelude.{◌≡◌, ◌≤◌, ◌+◌, ◌^◌, ℕ, List, length, map, sum_by, replicate, true, IfOk, Ok, None};
+ghost use Rattle.std.specs.Prelude.{◌≡◌, ◌≤◌, ◌+◌, ◌^◌, ℕ, List, length, map, min, sum_by, IfOk, Ok, None};
 ghost use Rattle.o2_conf.specs.Limits.{IsWithinLimits};
-ghost use Rattle.o2_sched.specs.Schedule.{opening_dispatch};
 ghost use Rattle.o2_conf.specs.Environments.{environment_bytes};
 ghost use Rattle.o2_image.specs.ImageList.{Exists};
 ghost use Rattle.o2_outer.specs.Texts.{Rose};
 ghost use Rattle.o2_outer.specs.Answers.{Takes, Puts, OnFailed};
+ghost use Rattle.o2_swapmap.specs.Piles.{all_of};
 ghost use Rattle.o2_world.specs.Text.{lines_text};
-ghost use Rattle.o2_load.specs.Beginnings.{lines_from, program_name, IsBegun};
+ghost use Rattle.o2_world.specs.Tied.{IsSound};
+ghost use Rattle.o2_world.specs.World.{Setting, World};
+ghost use Rattle.o2_load.specs.Beginnings.{lines_from, program_name};
 ghost use Rattle.o2_world.specs.Starts.{Built};
-ghost use Rattle.o2_machine.specs.Begins.{Begins, BeginPuts, OnSinkFault, OnUnbegun, starting};
-ghost use Rattle.o2_machine.specs.Readies.{first_proc};
+ghost use Rattle.o2_opening.specs.Openings.{IsOpened, IsSettingOf, StandsFirst};
+ghost use Rattle.o2_machine.specs.Begins.{Begins, BeginPuts, IsLinked, OnSinkFault, OnUnbegun, opening, opening_in, starting};
+ghost use Rattle.o2_machine.specs.Readies.{first_proc, first_schedule};
 
 use crate::fault::BeginFault;
 use crate::machine::Machine;
-use crate::space::{Proc, Space};
 use o2_base::{Fail, NoMemory};
-use o2_bus::Plain;
 use o2_conf::Conf;
 use o2_dynlink::Linked;
 use o2_gate::State as Services;
+use o2_image::Images;
 use o2_isa::Cpu;
-use o2_load::{Begun, begin};
+use o2_opening::{Opened, open};
 use o2_outer::{Put, Sink};
 use o2_report::{LineBuffer, put_start};
 use o2_sched::Sched;
+use o2_space::{Proc, Space};
 use o2_world::State;
 use std::alloc::Global;
+
+/// What a machine has before its first step beside the store and what processes hold, and a buffer for the lines of the starts.
+#[derive(Drop)]
+struct Front {
+    procs: Vec<Proc>,
+    sched: Sched,
+    services: Services,
+    line: LineBuffer,
+}
 
 /// The processes before their first step.
 fn first_procs(alloc: Global, cpus: &[Cpu]) -> Result<Vec<Proc>, NoMemory>
@@ -55,41 +67,71 @@ fn line_count(starts: &[Vec<u16>]) -> u128
     count
 }
 
-/// The machine of processes that have started.
-fn assemble(
-    alloc: Global,
-    conf: &Conf,
-    cpus: &[Cpu],
-    plain: Plain,
-    lines: u128,
-) -> Result<Machine, NoMemory>
-    requires count { length cpus.now ≡ length conf.now.process }
+/// All that a machine has beside its store, for processes with these registers.
+fn prepared(alloc: Global, conf: &Conf, cpus: &[Cpu]) -> Result<Front, NoMemory>
     requires few { length conf.now.process ≤ 64 }
-    requires lines { lines ≤ 2 ^ 96 }
-    ensures procs { IfOk result (λ m. m.space.procs.items ≡ map first_proc cpus.now) }
-    ensures plain { IfOk result (λ m. m.space.plain ≡ plain) }
-    ensures avail { IfOk result (λ m. m.space.state.avail ≡ conf.now.avail) }
-    ensures sched { IfOk result (λ m. m.sched ≡ record { dispatch = opening_dispatch conf.now.script conf.now.budget; flags = replicate (length conf.now.process) true; quantum = conf.now.quantum }) }
-    ensures budget { IfOk result (λ m. m.budget ≡ conf.now.budget) }
-    ensures console { IfOk result (λ m. m.console_bytes ≡ 0) }
-    ensures lines { IfOk result (λ m. m.lines ≡ lines) }
-    ensures fresh { IfOk result (λ m. m.last ≡ None) }
+    ensures procs { IfOk result (λ f. f.procs.items ≡ map first_proc cpus.now) }
+    ensures sched { IfOk result (λ f. f.sched ≡ first_schedule conf.now) }
+    ensures avail { IfOk result (λ f. f.services.avail ≡ conf.now.avail) }
 {
     let procs = first_procs(alloc, cpus)?;
     let sched = Sched::make(alloc, conf)?;
-    let state = Services::new(alloc, conf.avail)?;
-    Ok(Machine {
+    let services = Services::new(alloc, conf.avail)?;
+    let line = LineBuffer::new(alloc)?;
+    Ok(Front {
+        procs,
+        sched,
+        services,
+        line,
+    })
+}
+
+/// The machine of processes that have started, with these images.
+fn assemble(front: Front, conf: &Conf, opened: Opened, images: Images, lines: u128) -> Machine
+    requires sched { front.sched ≡ first_schedule conf.now }
+    requires procs { length front.procs.items ≡ length conf.now.process }
+    requires lines { lines ≤ 2 ^ 96 }
+    ensures space { result.space ≡ record {
+      procs = front.procs;
+      ends = opened.ends;
+      store = opened.store;
+      regions = opened.regions;
+      images = images;
+      services = front.services;
+    } }
+    ensures sched { result.sched ≡ front.sched }
+    ensures budget { result.budget ≡ conf.now.budget }
+    ensures console { result.console_bytes ≡ 0 }
+    ensures lines { result.lines ≡ lines }
+    ensures fresh { result.last ≡ None }
+{
+    let Front {
+        procs,
+        sched,
+        services,
+        ..
+    } = front;
+    let Opened {
+        store,
+        regions,
+        ends,
+        ..
+    } = opened;
+    Machine {
         space: Space {
             procs,
-            plain,
-            state,
+            ends,
+            store,
+            regions,
+            images,
+            services,
         },
         sched,
         budget: conf.budget,
         console_bytes: 0,
         lines,
         last: None,
-    })
+    }
 }
 
 /// The name of the program that a process runs, of at most 255 bytes.
@@ -136,59 +178,61 @@ fn put_starts<R: Sink>(
 fn finish<R: Sink>(
     alloc: Global,
     conf: &Conf,
-    linked: &Linked,
-    begun: Begun,
+    linked: Linked,
+    opened: Opened,
+    blocks: u32,
     report: &mut R,
 ) -> Result<Machine, BeginFault>
-    requires count { length begun.cpus.items ≡ length conf.now.process }
-    requires rows { length begun.starts.items ≡ length begun.cpus.items }
+    requires count { length opened.cpus.items ≡ length conf.now.process }
+    requires rows { length opened.starts.items ≡ length opened.cpus.items }
     requires few { length conf.now.process ≤ 64 }
-    requires there { length conf.now.process ≤ length linked.now.programs }
-    ensures begins { (b : Built) → starting linked.now conf.now ≡ Ok b → IsBegun begun linked.now b → Begins linked.now conf.now (R.taken report.old) (R.taken report.new) result }
-    ensures puts { (b : Built) → IsBegun begun linked.now b → BeginPuts (R.puts report.old) (R.puts report.new) (length b.lines) result }
+    requires there { length conf.now.process ≤ length linked.programs }
+    requires processes { opened.regions.processes ≡ length conf.now.process }
+    requires swap { all_of opened.store.swap ≡ min conf.now.swap blocks }
+    requires stands { (s : Setting) (input : List ℕ) (w : World) → IsSettingOf conf.now s
+        → opening_in s linked conf.now input ≡ Ok w → IsSound w → StandsFirst opened linked.images blocks s w }
+    requires sound { (input : List ℕ) (w : World) → opening linked conf.now input ≡ Ok w → IsSound w }
+    ensures begins { (b : Built) → starting linked conf.now ≡ Ok b → IsOpened opened linked b
+        → Begins linked conf.now blocks (R.taken report.old) (R.taken report.new) result }
+    ensures puts { (b : Built) → IsOpened opened linked b → BeginPuts (R.puts report.old) (R.puts report.new) (length b.lines) result }
     ensures untouched { OnUnbegun result (report.new ≡ report.old) }
     ensures count { R.faults report.old ≤ R.faults report.new }
     ensures cause { OnSinkFault result (Rose (R.faults report.old) (R.faults report.new)) }
 {
-    let Begun {
-        plain,
-        cpus,
-        starts,
-    } = begun;
-    let Ok(mut line) = LineBuffer::new(alloc) else {
+    let Ok(mut front) = prepared(alloc, conf, &opened.cpus) else {
         return Err(BeginFault::NoMemory);
     };
-    let lines = line_count(&starts);
-    let Ok(machine) = assemble(alloc, conf, &cpus, plain, lines) else {
-        return Err(BeginFault::NoMemory);
-    };
-    match put_starts(&mut line, linked, &starts, report) {
+    let lines = line_count(&opened.starts);
+    match put_starts(&mut front.line, &linked, &opened.starts, report) {
         Put::Failed => Err(BeginFault::SinkFault),
-        Put::Done => Ok(machine),
+        Put::Done => Ok(assemble(front, conf, opened, linked.into_images(), lines)),
     }
 }
 
 impl Machine {
-    /// The machine of a setting and its linked modules: all processes have started, and the lines of their starts are put. The
-    /// first start that is refused decides; every refusal of a start, and want of memory, come before the first line.
+    /// The machine of a setting and its linked modules, over a swap device of so many blocks, or of which it is to use as many at
+    /// most: all processes have started, and the lines of their starts are put. The first start that is refused decides; every
+    /// refusal of a start, and want of memory, come before the first line.
     pub fn begin<R: Sink>(
         alloc: Global,
         conf: &Conf,
-        linked: &Linked,
+        linked: Linked,
+        blocks: u32,
         report: &mut R,
     ) -> Result<Machine, BeginFault>
         requires within { IsWithinLimits conf.now }
-        requires environments { linked.now.images.environments ≡ map environment_bytes conf.now.process }
-        ensures begins { Begins linked.now conf.now (R.taken report.old) (R.taken report.new) result }
+        requires environments { linked.images.environments ≡ map environment_bytes conf.now.process }
+        requires linked { IsLinked conf.now linked }
+        ensures begins { Begins linked conf.now blocks (R.taken report.old) (R.taken report.new) result }
         // Each line of the starts is one put.
-        ensures puts { (b : Built) → starting linked.now conf.now ≡ Ok b → BeginPuts (R.puts report.old) (R.puts report.new) (length b.lines) result }
+        ensures puts { (b : Built) → starting linked conf.now ≡ Ok b → BeginPuts (R.puts report.old) (R.puts report.new) (length b.lines) result }
         ensures untouched { OnUnbegun result (report.new ≡ report.old) }
         ensures count { R.faults report.old ≤ R.faults report.new }
         ensures cause { OnSinkFault result (Rose (R.faults report.old) (R.faults report.new)) }
     {
         linked.process_count();
-        match begin(alloc, linked, conf) {
-            Ok(begun) => finish(alloc, conf, linked, begun, report),
+        match open(alloc, &linked, conf, blocks) {
+            Ok(opened) => finish(alloc, conf, linked, opened, blocks, report),
             Err(Fail::NoMemory) => Err(BeginFault::NoMemory),
             Err(Fail::Bad(refusal)) => Err(BeginFault::Start(refusal.pid, refusal.fault)),
         }

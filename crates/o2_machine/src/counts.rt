@@ -1,5 +1,5 @@
 // What a machine tells of itself.
-ghost use Rattle.std.specs.Prelude.{◌≡◌, ◌+◌, ◌-◌, ℕ, length, option_map};
+ghost use Rattle.std.specs.Prelude.{◌≡◌, ◌+◌, ◌-◌, ℕ, Bool, List, length, option_map};
 ghost use Rattle.o2_world.specs.World.{World, Setting};
 ghost use Rattle.o2_world.specs.Run.{steps_done};
 ghost use Rattle.o2_machine.specs.Lasts.{last_lines, stopped_of, put_of};
@@ -9,7 +9,9 @@ ghost use Rattle.o2_machine.specs.StandsFor.{StandsFor};
 use crate::last::{Last, answer};
 use crate::machine::Machine;
 use o2_isa::Cpu;
+use o2_regions::Regions;
 use o2_run::Turn;
+use o2_store::Store;
 use o2_world::State;
 
 /// 0 where a process lives, 1 where it exited, and 2 where an exception ended it.
@@ -38,7 +40,8 @@ impl Machine {
     /// The steps done so far.
     pub fn steps(&self) -> u64
         ensures value { result ≡ self.now.budget - self.now.sched.dispatch.budget }
-        ensures world { (s : Setting) (w : World) → StandsFor self.now s w → result ≡ steps_done s w }
+        ensures world { (device : ℕ) (told : Bool) (block : ℕ → List ℕ) (s : Setting) (w : World)
+            → StandsFor self.now device told block s w → result ≡ steps_done s w }
     {
         (self.budget - self.sched.budget()) as u64
     }
@@ -46,7 +49,8 @@ impl Machine {
     /// The bytes of the console so far.
     pub fn console_bytes(&self) -> u64
         ensures value { result ≡ self.now.console_bytes }
-        ensures world { (s : Setting) (w : World) → StandsFor self.now s w → result ≡ length w.console }
+        ensures world { (device : ℕ) (told : Bool) (block : ℕ → List ℕ) (s : Setting) (w : World)
+            → StandsFor self.now device told block s w → result ≡ length w.console }
     {
         self.console_bytes
     }
@@ -54,7 +58,8 @@ impl Machine {
     /// The lines of the report so far: `all ended` and `budget spent` count once they are put, and a stop line doesn't.
     pub fn report_lines(&self) -> u128
         ensures value { result ≡ self.now.lines + last_lines self.now.last }
-        ensures world { (s : Setting) (w : World) → StandsFor self.now s w → result ≡ length w.lines + last_lines self.now.last }
+        ensures world { (device : ℕ) (told : Bool) (block : ℕ → List ℕ) (s : Setting) (w : World)
+            → StandsFor self.now device told block s w → result ≡ length w.lines + last_lines self.now.last }
     {
         match self.last {
             Some(Last::AllEnded) => self.lines + 1,
@@ -63,11 +68,26 @@ impl Machine {
         }
     }
 
+    /// The segments, in memory and out of it.
+    pub fn store(&self) -> &Store
+        ensures { result.now ≡ self.now.space.store }
+    {
+        &self.space.store
+    }
+
+    /// What each process holds, and its descriptors.
+    pub fn regions(&self) -> &Regions
+        ensures { result.now ≡ self.now.space.regions }
+    {
+        &self.space.regions
+    }
+
     /// The registers of process `pid`, the number of its state (0 where it lives, 1 where it exited, 2 where an exception ended
     /// it), and its exit code or vector, 0 where it lives. None exactly where `pid` is the number of no process.
     pub fn process(&self, pid: u16) -> Option<(Cpu, u16, u16)>
         ensures value { result ≡ option_map shown_proc (numbered self.now.space.procs.items pid) }
-        ensures world { (s : Setting) (w : World) → StandsFor self.now s w → result ≡ option_map shown_process (numbered w.processes pid) }
+        ensures world { (device : ℕ) (told : Bool) (block : ℕ → List ℕ) (s : Setting) (w : World)
+            → StandsFor self.now device told block s w → result ≡ option_map shown_process (numbered w.processes pid) }
     {
         if pid == 0 {
             return None;

@@ -1,4 +1,4 @@
-//! The machine: processes over segments, one step a turn, as the boundless machine does them.
+//! The machine: processes over a store that moves and swaps their segments, one step a turn, as the boundless machine does them.
 #![tactic(auto)]
 
 mod begin;
@@ -6,14 +6,10 @@ mod counts;
 mod fault;
 mod last;
 mod machine;
-mod plain_step;
-mod space;
 mod turn;
 
 pub use fault::BeginFault;
 pub use last::{Last, answer};
 pub use machine::Machine;
 pub use o2_run::{Fault, Steps, Stop, Turn};
-pub use o2_stepping::{Attempt, Ran, Tally, run_one};
-pub use plain_step::run_plain;
-pub use space::{Proc, Space};
+pub use o2_space::{Proc, Space};

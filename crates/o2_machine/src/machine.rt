@@ -2,12 +2,13 @@
 ghost use Rattle.std.specs.Prelude.{◌≡◌, ◌≤◌, ◌+◌, ◌*◌, ◌^◌, length};
 
 use crate::last::Last;
-use crate::space::Space;
 use o2_sched::Sched;
+use o2_space::Space;
 
-/// Processes over segments, with the schedule of their steps, and how much is put.
+/// Processes over a store, with the schedule of their steps, and how much is put.
 #[derive(Drop)]
 pub struct Machine {
+    /// The processes, the store of their segments, and what each holds.
     pub space: Space,
     pub sched: Sched,
     /// The steps of the whole run at most.

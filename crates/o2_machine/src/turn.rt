@@ -5,19 +5,20 @@ ghost use Rattle.o2_outer.specs.Inputs.{GoesOn, IsSeenAs, left_as};
 ghost use Rattle.o2_conf.specs.Dispatch.{counted, lives};
 ghost use Rattle.o2_world.specs.World.{World, Setting};
 ghost use Rattle.o2_sched.specs.Schedule.{next_of, pick_of, is_step};
-ghost use Rattle.o2_run.specs.Turn.{Turns, LineIs, Caused, OnRan, is_for_swap};
+ghost use Rattle.o2_run.specs.Turn.{Turns, LineIs, Caused, OnRan};
 ghost use Rattle.o2_machine.specs.Lasts.{answer_of, put_of};
 ghost use Rattle.o2_machine.specs.Steppeds.{stepped_sched};
 ghost use Rattle.o2_world.specs.World.{is_live as lives_on};
+ghost use Rattle.o2_machine.specs.GoesOver.{GoesOver};
 ghost use Rattle.o2_machine.specs.StandsFor.{StandsFor};
 ghost use Rattle.o2_run.specs.Pieces.{counts, TurnHands};
 
 use crate::last::{Last, answer};
 use crate::machine::Machine;
-use crate::space::is_live;
 use o2_outer::{Put, Sink, Source, SwapDevice};
 use o2_run::{Fault, Steps, Turn, put_stop};
 use o2_sched::Pick;
+use o2_space::is_live;
 use o2_stepping::Ran;
 
 impl Machine {
@@ -31,6 +32,7 @@ impl Machine {
         ensures space { self.new.space ≡ self.old.space }
         ensures budget { self.new.budget ≡ self.old.budget }
         ensures last { self.new.last ≡ self.old.last }
+        ensures left { self.new.sched.dispatch.budget < self.old.sched.dispatch.budget }
     {
         self.sched.stepped();
         self.console_bytes += ran.tally.bytes as u64;
@@ -41,34 +43,46 @@ impl Machine {
     }
 
     /// The step of this process, or a stop line.
-    fn step<I: Source, C: Sink, R: Sink>(
+    fn step<I: Source, C: Sink, R: Sink, S: SwapDevice>(
         &mut self,
         pid: u16,
         input: &mut I,
         console: &mut C,
         report: &mut R,
+        swap: &mut S,
     ) -> Option<Last>
         requires pick { pick_of self.old.sched ≡ Pick.Step pid }
         requires live { lives self.old.sched.flags pid ≡ true }
-        ensures turns { (text : Option (List ℕ)) → IsSeenAs text (I.past input.new)
-            → (s : Setting) (w : World) (blocks : ℕ) → StandsFor self.old s w → left_as text (I.left input.old) (I.past input.old) ≡ Some w.input
-            → Turns (StandsFor self.new s) false blocks s w (put_of result) (left_as text (I.left input.new) (I.past input.new))
+        requires device { GoesOver self.old.space self.old.sched.flags (S.blocks swap.old) }
+        ensures turns { (text : Option (List ℕ)) → IsSeenAs text (I.past input.new) → (s : Setting) (w : World)
+            → StandsFor self.old (S.blocks swap.old) (S.told swap.old) (S.block swap.old) s w
+            → left_as text (I.left input.old) (I.past input.old) ≡ Some w.input
+            → Turns (StandsFor self.new (S.blocks swap.new) (S.told swap.new) (S.block swap.new) s)
+            true (S.blocks swap.old) s w (put_of result)
+            (left_as text (I.left input.new) (I.past input.new))
             (C.taken console.old) (C.taken console.new) (R.taken report.old) (R.taken report.new) (answer_of result) }
         ensures goes_on { GoesOn (I.past input.old) (I.past input.new) }
         ensures last { self.new.last ≡ self.old.last }
+        ensures device { GoesOver self.new.space self.new.sched.flags (S.blocks swap.new) }
+        ensures frame { (S.blocks swap.new ≡ S.blocks swap.old) × (S.told swap.new ≡ S.told swap.old) }
         ensures input_count { I.faults input.old ≤ I.faults input.new }
         ensures console_count { C.faults console.old ≤ C.faults console.new }
         ensures report_count { R.faults report.old ≤ R.faults report.new }
-        ensures cause { Caused (Rose (C.faults console.old) (C.faults console.new) ⊎ Rose (R.faults report.old) (R.faults report.new)) (Rose (I.faults input.old) (I.faults input.new)) ⊥ (answer_of result) }
-        ensures no_swap_stop { is_for_swap (answer_of result) ≡ false }
+        ensures swap_count { S.faults swap.old ≤ S.faults swap.new }
+        ensures cause { Caused
+            (Rose (C.faults console.old) (C.faults console.new) ⊎ Rose (R.faults report.old) (R.faults report.new))
+            (Rose (I.faults input.old) (I.faults input.new))
+            (Rose (S.faults swap.old) (S.faults swap.new)) (answer_of result) }
         ensures line { LineIs (put_of result) (Rose (R.faults report.old) (R.faults report.new)) (answer_of result) }
         ensures left { OnRan (answer_of result) (self.new.sched.dispatch.budget < self.old.sched.dispatch.budget) }
         // Each line is one put, and so is the piece for the console, where it has bytes.
-        ensures puts { (text : Option (List ℕ)) → IsSeenAs text (I.past input.new)
-            → (s : Setting) (w : World) → StandsFor self.old s w → left_as text (I.left input.old) (I.past input.old) ≡ Some w.input
-            → TurnHands s w (counts (C.puts console.old) (C.puts console.new) (R.puts report.old) (R.puts report.new) (length w.lines)) (answer_of result) }
+        ensures puts { (text : Option (List ℕ)) → IsSeenAs text (I.past input.new) → (s : Setting) (w : World)
+            → StandsFor self.old (S.blocks swap.old) (S.told swap.old) (S.block swap.old) s w
+            → left_as text (I.left input.old) (I.past input.old) ≡ Some w.input
+            → TurnHands s w (counts (C.puts console.old) (C.puts console.new)
+            (R.puts report.old) (R.puts report.new) (length w.lines)) (answer_of result) }
     {
-        match self.space.act(pid, input, console, report) {
+        match self.space.act(pid, input, console, report, swap) {
             Err(Fault::Sink) => Some(Last::SinkFault),
             Err(Fault::Stopped(why)) => Some(Last::Stopped(why, put_stop(why, report))),
             Ok(ran) => {
@@ -84,29 +98,41 @@ impl Machine {
 
     /// One step, or the last line, or a stop line.
     #[tactic(auto, using(o2_outer::proofs::Inputs::goes_same))]
-    fn advance<I: Source, C: Sink, R: Sink>(
+    fn advance<I: Source, C: Sink, R: Sink, S: SwapDevice>(
         &mut self,
         input: &mut I,
         console: &mut C,
         report: &mut R,
+        swap: &mut S,
     ) -> Option<Last>
-        ensures turns { (text : Option (List ℕ)) → IsSeenAs text (I.past input.new)
-            → (s : Setting) (w : World) (blocks : ℕ) → StandsFor self.old s w → left_as text (I.left input.old) (I.past input.old) ≡ Some w.input
-            → Turns (StandsFor self.new s) false blocks s w (put_of result) (left_as text (I.left input.new) (I.past input.new))
+        requires device { GoesOver self.old.space self.old.sched.flags (S.blocks swap.old) }
+        ensures turns { (text : Option (List ℕ)) → IsSeenAs text (I.past input.new) → (s : Setting) (w : World)
+            → StandsFor self.old (S.blocks swap.old) (S.told swap.old) (S.block swap.old) s w
+            → left_as text (I.left input.old) (I.past input.old) ≡ Some w.input
+            → Turns (StandsFor self.new (S.blocks swap.new) (S.told swap.new) (S.block swap.new) s)
+            true (S.blocks swap.old) s w (put_of result)
+            (left_as text (I.left input.new) (I.past input.new))
             (C.taken console.old) (C.taken console.new) (R.taken report.old) (R.taken report.new) (answer_of result) }
         ensures goes_on { GoesOn (I.past input.old) (I.past input.new) }
         ensures last { self.new.last ≡ self.old.last }
+        ensures device { GoesOver self.new.space self.new.sched.flags (S.blocks swap.new) }
+        ensures frame { (S.blocks swap.new ≡ S.blocks swap.old) × (S.told swap.new ≡ S.told swap.old) }
         ensures input_count { I.faults input.old ≤ I.faults input.new }
         ensures console_count { C.faults console.old ≤ C.faults console.new }
         ensures report_count { R.faults report.old ≤ R.faults report.new }
-        ensures cause { Caused (Rose (C.faults console.old) (C.faults console.new) ⊎ Rose (R.faults report.old) (R.faults report.new)) (Rose (I.faults input.old) (I.faults input.new)) ⊥ (answer_of result) }
-        ensures no_swap_stop { is_for_swap (answer_of result) ≡ false }
+        ensures swap_count { S.faults swap.old ≤ S.faults swap.new }
+        ensures cause { Caused
+            (Rose (C.faults console.old) (C.faults console.new) ⊎ Rose (R.faults report.old) (R.faults report.new))
+            (Rose (I.faults input.old) (I.faults input.new))
+            (Rose (S.faults swap.old) (S.faults swap.new)) (answer_of result) }
         ensures line { LineIs (put_of result) (Rose (R.faults report.old) (R.faults report.new)) (answer_of result) }
         ensures left { OnRan (answer_of result) (self.new.sched.dispatch.budget < self.old.sched.dispatch.budget) }
         // Each line is one put, and so is the piece for the console, where it has bytes.
-        ensures puts { (text : Option (List ℕ)) → IsSeenAs text (I.past input.new)
-            → (s : Setting) (w : World) → StandsFor self.old s w → left_as text (I.left input.old) (I.past input.old) ≡ Some w.input
-            → TurnHands s w (counts (C.puts console.old) (C.puts console.new) (R.puts report.old) (R.puts report.new) (length w.lines)) (answer_of result) }
+        ensures puts { (text : Option (List ℕ)) → IsSeenAs text (I.past input.new) → (s : Setting) (w : World)
+            → StandsFor self.old (S.blocks swap.old) (S.told swap.old) (S.block swap.old) s w
+            → left_as text (I.left input.old) (I.past input.old) ≡ Some w.input
+            → TurnHands s w (counts (C.puts console.old) (C.puts console.new)
+            (R.puts report.old) (R.puts report.new) (length w.lines)) (answer_of result) }
     {
         match self.sched.next() {
             Pick::AllEnded => match report.put(b"all ended\n") {
@@ -117,18 +143,19 @@ impl Machine {
                 Put::Done => Some(Last::BudgetSpent),
                 Put::Failed => Some(Last::SinkFault),
             },
-            Pick::Step(pid) => self.step(pid, input, console, report),
+            Pick::Step(pid) => self.step(pid, input, console, report, swap),
         }
     }
 }
 
 impl Steps for Machine {
     ghost use Rattle.o2_machine.specs.Lasts.{stopped_of, put_of, machine_swaps};
+    ghost use Rattle.o2_machine.specs.GoesOver.{GoesOver};
     ghost use Rattle.o2_machine.specs.StandsFor.{StandsFor};
 
-    ghost stands = { λ m blocks told block s w. StandsFor m s w };
+    ghost stands = { λ m blocks told block s w. StandsFor m blocks told block s w };
 
-    ghost fits = { λ m blocks. Unit {0} };
+    ghost fits = { λ m blocks. GoesOver m.space m.sched.flags blocks };
 
     ghost swaps = { machine_swaps };
 
@@ -149,7 +176,7 @@ impl Steps for Machine {
         match self.last {
             Some(_) => answer(self.last),
             None => {
-                let last = self.advance(input, console, report);
+                let last = self.advance(input, console, report, swap);
                 self.last = last;
                 answer(last)
             }

@@ -1,52 +1,88 @@
-use Rattle.o2_world.specs.Known.{known_of}
-use Rattle.std.proofs.Common.{refl, inl, subst}
+use Rattle.std.proofs.Common.{refl, inl, subst, sym, ◌∙◌, ap}
 use Rattle.o2_outer.specs.Inputs.{left_as}
-use Rattle.o2_world.specs.Effect.{effect, AsksInput}
+use Rattle.o2_conf.specs.Dispatch.{lives}
+use Rattle.o2_regions.specs.Lives.{lives as is_marked}
+use Rattle.o2_world.specs.Effect.{effect}
 use Rattle.o2_world.specs.Run.{before}
+use Rattle.o2_world.specs.World.{is_live}
 use Rattle.o2_run.specs.declared.fault.Fault.{Fault}
-use Rattle.o2_machine.specs.Acts.{ActsFault}
 use Rattle.o2_run.proofs.Reached.{rose_since}
-use Rattle.o2_machine.proofs.Turns.{faulted, went, late, stopped_by, caused_stop, not_for_swap, line_of_stop, left_at_stop}
-use Rattle.std.specs.Prelude.{length, None, Result, Err}
+use Rattle.std.specs.Prelude.{length, None, Err, Bool, IsTrue}
 use Rattle.o2_run.specs.Pieces.{counts, PartHands}
 use Rattle.o2_stepping.specs.Pieces.{RanHands}
 use Rattle.o2_stepping.specs.declared.one_step.Ran.{Ran}
-use Rattle.o2_machine.proofs.Turns.{failed_puts, went_puts, late_puts}
+use Rattle.o2_sched.specs.Schedule.{Schedule}
+use Rattle.o2_space.specs.Acts.{ActsFault}
+use Rattle.o2_space.specs.Nexts.{FaultSays}
+use Rattle.o2_space.specs.Parts.{parts_in}
+use Rattle.o2_space.specs.Stands.{GoTogether}
+use Rattle.o2_space.specs.declared.space.Space.{Space}
 use Rattle.o2_machine.proofs.Hands.{stop_line_put, by_stop}
+use Rattle.o2_machine.proofs.Marks.{marked_next, some_number}
+use Rattle.o2_machine.proofs.Turns.{faulted, went, late, stopped_by, caused_stop, line_of_stop, left_at_stop, failed_puts, went_puts, late_puts}
 use Rattle.o2_machine.proofs.machine.Machine.step.Goals as goal
 
+pub act-requires-clause-some : goal.act-requires-clause-some
+act-requires-clause-some g c = some_number c.args.self.now.sched.flags c.args.pid c.requires.live
+
+pub act-requires-clause-live : goal.act-requires-clause-live
+act-requires-clause-live g c = c.requires.device.marked c.args.pid ∙ c.requires.live
+
+pub act-requires-clause-together : goal.act-requires-clause-together
+act-requires-clause-together g c = c.requires.device.together
+
 pub returns-in-Err-Sink-clause-turns : goal.returns-in-Err-Sink-clause-turns
-returns-in-Err-Sink-clause-turns g c = λ text may s w blocks stands left.
-    inl (faulted c.args.self.now s w c.args.pid _ _ _ _ stands c.requires.pick c.requires.live _ _ _ (record {
-      sched = refl;
-      avail =
-          c.act.ensures.avail;
-      budget = refl;
-      bytes = refl;
-      lines = refl;
-    }) left
-    (λ p at live. subst (λ (f : Fault). ActsFault (AsksInput (before s w c.args.pid p)) w.processes w.names (effect (before s w
-    c.args.pid p)) c.act.new.self (left_as text (g.I.Source.left c.args.input.now) (g.I.Source.past c.args.input.now)) (left_as text (g.I.Source.left c.act.new.input) (g.I.Source.past c.act.new.input))
-    (g.C.Sink.taken c.args.console.now) (g.C.Sink.taken c.act.new.console) (g.R.Sink.taken c.args.report.now)
-    (g.R.Sink.taken c.act.new.report) f) c.in-Err-Sink.field-0-is
-    (c.in-Err-Sink.ensures.acts text may w.processes w.names p w.input (known_of s w) stands.space at live left stands.known)))
+returns-in-Err-Sink-clause-turns g c = λ text may s w stands left.
+    let S = g.S.SwapDevice in
+    let new = c.act.new in
+    let tells = subst (λ (b : Bool). IsTrue b) (sym c.act.ensures.device.1) stands.told in
+    inl (faulted c.args.self.now _ _ _ s w c.args.pid _ _ _ _ stands c.requires.pick c.requires.live _ (S.blocks new.swap) (S.told new.swap) (S.block new.swap) tells _ _
+    (record { sched = refl; avail = c.act.ensures.avail; budget = refl; bytes = refl; lines = refl }) left (c.act.ensures.set s stands.set)
+    (λ p at. subst (λ (f : Fault). ActsFault (before s w c.args.pid p) w (parts_in new.self (S.blocks new.swap) (S.block new.swap))
+    (left_as text (g.I.Source.left c.args.input.now) (g.I.Source.past c.args.input.now)) (left_as text (g.I.Source.left new.input) (g.I.Source.past new.input))
+    (g.C.Sink.taken c.args.console.now) (g.C.Sink.taken new.console) (g.R.Sink.taken c.args.report.now) (g.R.Sink.taken new.report) f) c.in-Err-Sink.field-0-is
+    (c.in-Err-Sink.ensures.acts text may s w p stands.told stands.space at left stands.known))
+    (λ chosen p at. subst (λ (f : Fault). FaultSays (S.blocks c.args.swap.now) s w f) c.in-Err-Sink.field-0-is
+    (c.in-Err-Sink.ensures.next_room text may s w p stands.told stands.space stands.set chosen at left stands.known)))
 
 pub returns-in-Err-Stopped-clause-turns : goal.returns-in-Err-Stopped-clause-turns
-returns-in-Err-Stopped-clause-turns g c = λ text may s w blocks stands left.
-    stopped_by c.args.self.now s w c.args.pid _ _ _ _ stands c.requires.pick c.requires.live c.in-Err-Stopped.why blocks _
-    c.put_stop.result _ _ _ (record { sched = refl; avail = c.act.ensures.avail; budget = refl; bytes = refl; lines = refl }) left
-    (λ p at live. subst (λ (f : Fault). ActsFault (AsksInput (before s w c.args.pid p)) w.processes w.names (effect (before s w
-    c.args.pid p)) c.act.new.self (left_as text (g.I.Source.left c.args.input.now) (g.I.Source.past c.args.input.now)) (left_as text (g.I.Source.left c.act.new.input) (g.I.Source.past c.act.new.input))
-    (g.C.Sink.taken c.args.console.now) (g.C.Sink.taken c.act.new.console) (g.R.Sink.taken c.args.report.now)
-    (g.R.Sink.taken c.act.new.report) f) c.in-Err-Stopped.field-0-is
-    (c.in-Err-Stopped.ensures.acts text may w.processes w.names p w.input (known_of s w) stands.space at live left stands.known))
+returns-in-Err-Stopped-clause-turns g c = λ text may s w stands left.
+    let S = g.S.SwapDevice in
+    let new = c.act.new in
+    let tells = subst (λ (b : Bool). IsTrue b) (sym c.act.ensures.device.1) stands.told in
+    stopped_by c.args.self.now _ _ _ s w c.args.pid _ _ _ _ stands c.requires.pick c.requires.live _ (S.blocks new.swap) (S.told new.swap) (S.block new.swap) tells
+    c.in-Err-Stopped.why c.put_stop.result _ _ _
+    (record { sched = refl; avail = c.act.ensures.avail; budget = refl; bytes = refl; lines = refl }) left (c.act.ensures.set s stands.set)
+    (λ p at. subst (λ (f : Fault). ActsFault (before s w c.args.pid p) w (parts_in new.self (S.blocks new.swap) (S.block new.swap))
+    (left_as text (g.I.Source.left c.args.input.now) (g.I.Source.past c.args.input.now)) (left_as text (g.I.Source.left new.input) (g.I.Source.past new.input))
+    (g.C.Sink.taken c.args.console.now) (g.C.Sink.taken new.console) (g.R.Sink.taken c.args.report.now) (g.R.Sink.taken new.report) f) c.in-Err-Stopped.field-0-is
+    (c.in-Err-Stopped.ensures.acts text may s w p stands.told stands.space at left stands.known))
+    (λ chosen p at. subst (λ (f : Fault). FaultSays (S.blocks c.args.swap.now) s w f) c.in-Err-Stopped.field-0-is
+    (c.in-Err-Stopped.ensures.next_room text may s w p stands.told stands.space stands.set chosen at left stands.known))
     c.put_stop.ensures.text c.put_stop.ensures.whole
 
-pub returns-in-Err-Stopped-clause-cause : goal.returns-in-Err-Stopped-clause-cause
-returns-in-Err-Stopped-clause-cause g c = caused_stop _ _ _ _ c.in-Err-Stopped.why c.in-Err-Stopped.field-0-is c.in-Err-Stopped.ensures.cause
+pub returns-then-ran-clause-turns : goal.returns-then-ran-clause-turns
+returns-then-ran-clause-turns g c = λ text may s w stands left.
+    let S = g.S.SwapDevice in
+    let new = c.act.new in
+    let tells = subst (λ (b : Bool). IsTrue b) (sym c.act.ensures.device.1) stands.told in
+    went c.args.self.now _ _ _ s w c.args.pid _ _ _ _ stands c.requires.pick c.requires.live c.stepped.new.self (S.blocks new.swap) (S.told new.swap) (S.block new.swap) tells _ new.self c.in-Ok.ran
+    (record { space = c.stepped.ensures.space; avail = c.act.ensures.avail; budget = c.stepped.ensures.budget; bytes = c.stepped.ensures.bytes; lines = c.stepped.ensures.lines })
+    (c.act.ensures.set s stands.set) (λ p at. c.in-Ok.ensures.acts text may s w p stands.told stands.space at left stands.known)
+    (λ chosen p at. c.in-Ok.ensures.next_room text may s w p stands.told stands.space stands.set chosen at left stands.known) c.stepped.ensures.sched c.if-ran.true
 
-pub returns-in-Err-Stopped-clause-no_swap_stop : goal.returns-in-Err-Stopped-clause-no_swap_stop
-returns-in-Err-Stopped-clause-no_swap_stop g c = not_for_swap _ _ _ c.in-Err-Stopped.why c.in-Err-Stopped.field-0-is c.in-Err-Stopped.ensures.cause
+pub returns-else-ran-clause-turns : goal.returns-else-ran-clause-turns
+returns-else-ran-clause-turns g c = λ text may s w stands left.
+    let S = g.S.SwapDevice in
+    let new = c.act.new in
+    let tells = subst (λ (b : Bool). IsTrue b) (sym c.act.ensures.device.1) stands.told in
+    inl (late c.args.self.now _ _ _ s w c.args.pid _ _ _ _ stands c.requires.pick c.requires.live c.stepped.new.self (S.blocks new.swap) (S.told new.swap) (S.block new.swap) tells _ new.self c.in-Ok.ran
+    (record { space = c.stepped.ensures.space; avail = c.act.ensures.avail; budget = c.stepped.ensures.budget; bytes = c.stepped.ensures.bytes; lines = c.stepped.ensures.lines })
+    (c.act.ensures.set s stands.set) (λ p at. c.in-Ok.ensures.acts text may s w p stands.told stands.space at left stands.known)
+    (λ chosen p at. c.in-Ok.ensures.next_room text may s w p stands.told stands.space stands.set chosen at left stands.known) c.stepped.ensures.sched c.if-ran.false)
+
+pub returns-in-Err-Stopped-clause-cause : goal.returns-in-Err-Stopped-clause-cause
+returns-in-Err-Stopped-clause-cause g c = caused_stop _ _ _ _ _ _ c.in-Err-Stopped.why c.in-Err-Stopped.field-0-is c.in-Err-Stopped.ensures.cause c.in-Err-Stopped.ensures.swap_stops
 
 pub returns-in-Err-Stopped-clause-line : goal.returns-in-Err-Stopped-clause-line
 returns-in-Err-Stopped-clause-line g c = line_of_stop _ _ c.in-Err-Stopped.why (λ e. rose_since _ _ _ c.act.ensures.report_count (c.put_stop.ensures.cause e))
@@ -54,24 +90,47 @@ returns-in-Err-Stopped-clause-line g c = line_of_stop _ _ c.in-Err-Stopped.why (
 pub returns-in-Err-Stopped-clause-left : goal.returns-in-Err-Stopped-clause-left
 returns-in-Err-Stopped-clause-left g c = left_at_stop _ c.in-Err-Stopped.why
 
-pub returns-then-ran-clause-turns : goal.returns-then-ran-clause-turns
-returns-then-ran-clause-turns g c = λ text may s w blocks stands left.
-    went c.args.self.now s w c.args.pid _ _ _ _ stands c.requires.pick c.requires.live _ c.stepped.new.self c.act.new.self c.in-Ok.ran
-    (record { space = c.stepped.ensures.space; avail = c.act.ensures.avail; budget = c.stepped.ensures.budget; bytes = c.stepped.ensures.bytes; lines = c.stepped.ensures.lines })
-    (λ p at live. c.in-Ok.ensures.acts text may w.processes w.names p w.input (known_of s w) stands.space at live left stands.known) c.stepped.ensures.sched c.if-ran.true
+pub returns-then-ran-clause-left : goal.returns-then-ran-clause-left
+returns-then-ran-clause-left g c = c.stepped.ensures.left
 
-pub returns-else-ran-clause-turns : goal.returns-else-ran-clause-turns
-returns-else-ran-clause-turns g c = λ text may s w blocks stands left.
-    inl (late c.args.self.now s w c.args.pid _ _ _ _ stands c.requires.pick c.requires.live _ c.stepped.new.self c.act.new.self c.in-Ok.ran
-    (record { space = c.stepped.ensures.space; avail = c.act.ensures.avail; budget = c.stepped.ensures.budget; bytes = c.stepped.ensures.bytes; lines = c.stepped.ensures.lines })
-    (λ p at live. c.in-Ok.ensures.acts text may w.processes w.names p w.input (known_of s w) stands.space at live left stands.known) c.stepped.ensures.sched c.if-ran.false)
+pub returns-in-Err-Sink-clause-device : goal.returns-in-Err-Sink-clause-device
+returns-in-Err-Sink-clause-device g c = record {
+  together = c.act.ensures.together;
+  marked = λ n. c.in-Err-Sink.ensures.marks n ∙ c.requires.device.marked n;
+}
+
+pub returns-in-Err-Stopped-clause-device : goal.returns-in-Err-Stopped-clause-device
+returns-in-Err-Stopped-clause-device g c = record {
+  together = c.act.ensures.together;
+  marked = λ n. c.in-Err-Stopped.ensures.marks n ∙ c.requires.device.marked n;
+}
+
+pub returns-then-ran-clause-device : goal.returns-then-ran-clause-device
+returns-then-ran-clause-device g c =
+    let old = c.args.self.now in
+    let new = c.act.new in
+    let marks = marked_next old.space.ends new.self.ends old.sched.flags c.args.pid (is_live c.in-Ok.ran.state) (some_number old.sched.flags c.args.pid c.requires.live) c.requires.device.marked c.in-Ok.ensures.marks in
+    record {
+      together = subst (λ (z : Space). GoTogether z (g.S.SwapDevice.blocks new.swap)) (sym c.stepped.ensures.space) c.act.ensures.together;
+      marked = λ n. ap (λ (z : Space). is_marked z.ends n) c.stepped.ensures.space ∙ marks n ∙ ap (λ (z : Schedule). lives z.flags n) (sym c.stepped.ensures.sched);
+    }
+
+pub returns-else-ran-clause-device : goal.returns-else-ran-clause-device
+returns-else-ran-clause-device g c =
+    let old = c.args.self.now in
+    let new = c.act.new in
+    let marks = marked_next old.space.ends new.self.ends old.sched.flags c.args.pid (is_live c.in-Ok.ran.state) (some_number old.sched.flags c.args.pid c.requires.live) c.requires.device.marked c.in-Ok.ensures.marks in
+    record {
+      together = subst (λ (z : Space). GoTogether z (g.S.SwapDevice.blocks new.swap)) (sym c.stepped.ensures.space) c.act.ensures.together;
+      marked = λ n. ap (λ (z : Space). is_marked z.ends n) c.stepped.ensures.space ∙ marks n ∙ ap (λ (z : Schedule). lives z.flags n) (sym c.stepped.ensures.sched);
+    }
 
 pub returns-in-Err-Sink-clause-puts : goal.returns-in-Err-Sink-clause-puts
 returns-in-Err-Sink-clause-puts g c = λ text may s w stands left.
-    failed_puts c.args.self.now s w c.args.pid None None None None stands c.requires.pick c.requires.live _ _ _ _
-    (λ p at live. subst (λ (f : Fault). PartHands {T = Ran} (effect (before s w c.args.pid p))
+    failed_puts c.args.self.now _ _ _ s w c.args.pid None None None None stands c.requires.pick c.requires.live _ _ _ _
+    (λ p at. subst (λ (f : Fault). PartHands {T = Ran} (effect (before s w c.args.pid p))
     (counts (g.C.Sink.puts c.args.console.now) (g.C.Sink.puts c.act.new.console) (g.R.Sink.puts c.args.report.now) (g.R.Sink.puts c.act.new.report) 0) (Err f)) c.in-Err-Sink.field-0-is
-    (c.in-Err-Sink.ensures.part text may w.processes w.names p w.input (known_of s w) stands.space at live left stands.known))
+    (c.in-Err-Sink.ensures.part text may s w p stands.told stands.space at left stands.known))
 
 pub returns-in-Err-Stopped-clause-puts : goal.returns-in-Err-Stopped-clause-puts
 returns-in-Err-Stopped-clause-puts g c = λ text may s w stands left.
@@ -82,10 +141,10 @@ returns-in-Err-Stopped-clause-puts g c = λ text may s w stands left.
 
 pub returns-then-ran-clause-puts : goal.returns-then-ran-clause-puts
 returns-then-ran-clause-puts g c = λ text may s w stands left.
-    went_puts c.args.self.now s w c.args.pid None None None None stands c.requires.pick c.requires.live _ _ _ _ c.in-Ok.ran.tally
-    (λ p at live. (c.in-Ok.ensures.acts text may w.processes w.names p w.input (known_of s w) stands.space at live left stands.known).puts) c.in-Ok.ensures.puts
+    went_puts c.args.self.now _ _ _ s w c.args.pid None None None None stands c.requires.pick c.requires.live _ _ _ _ c.in-Ok.ran.tally
+    (λ p at. (c.in-Ok.ensures.acts text may s w p stands.told stands.space at left stands.known).puts) c.in-Ok.ensures.puts
 
 pub returns-else-ran-clause-puts : goal.returns-else-ran-clause-puts
 returns-else-ran-clause-puts g c = λ text may s w stands left.
-    late_puts c.args.self.now s w c.args.pid None None None None stands c.requires.pick c.requires.live _ _ _ _ c.in-Ok.ran.tally
-    (λ p at live. (c.in-Ok.ensures.acts text may w.processes w.names p w.input (known_of s w) stands.space at live left stands.known).puts) c.in-Ok.ensures.puts
+    late_puts c.args.self.now _ _ _ s w c.args.pid None None None None stands c.requires.pick c.requires.live _ _ _ _ c.in-Ok.ran.tally
+    (λ p at. (c.in-Ok.ensures.acts text may s w p stands.told stands.space at left stands.known).puts) c.in-Ok.ensures.puts
