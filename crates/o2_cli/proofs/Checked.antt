@@ -63,9 +63,26 @@ is_check Exe e = let size : 3 ≡ 5 = ap length e in absurd (omega (arith, size)
 is_check Run e = let size : 3 ≡ 5 = ap length e in absurd (omega (arith, size))
 is_check Check e = refl
 
+-- the first letters tell the others apart
+abbrev first_letter : List ℕ → ℕ
+first_letter [] = 0
+first_letter (x ∷ xs) = x
+
+one_verb : (v w : Verb) → verb_text v ≡ verb_text w → v ≡ w
+one_verb Exe Exe e = refl
+one_verb Exe Run e = let letter : 101 ≡ 114 = ap first_letter e in absurd (omega (arith, letter))
+one_verb Run Exe e = let letter : 114 ≡ 101 = ap first_letter e in absurd (omega (arith, letter))
+one_verb Run Run e = refl
+one_verb v Check e = is_check v e
+one_verb Check Exe e = sym (is_check Exe (sym e))
+one_verb Check Run e = sym (is_check Run (sym e))
+
 module _ (words : List (String Global)) (v w : Verb) (name other : List ℕ) (one : IsCommandFor words v name) (two : IsCommandFor words w other) where
   pub name_is : name ≡ other
   name_is = ap second_word (sym one.two ∙ two.two)
+
+  pub verb_is : v ≡ w
+  verb_is = one_verb v w (ap first_word (sym one.two ∙ two.two))
 
 -- a command of another verb is no check
 pub no_check : (words : List (String Global)) (v : Verb) (name : List ℕ) → IsCommandFor words v name → ((v ≡ Check) → ⊥) → IsCheck words → ⊥

@@ -1,6 +1,6 @@
 -- The run of a session, by what its machine began with.
-use Rattle.std.proofs.Common.{inr, ◌⊎◌, ◌≡◌, ◌≤◌, ℕ, ◌+◌, arith, length, List, Option, Some, map, ap, sym, ◌∙◌, refl, append-nil, inl, subst}
-use Rattle.std.specs.Prelude.{Result, Ok, Err, String}
+use Rattle.std.proofs.Common.{inr, ◌⊎◌, ◌≡◌, ◌≤◌, ℕ, ◌+◌, arith, length, List, Option, Some, ap, sym, ◌∙◌, refl, append-nil, inl, subst}
+use Rattle.std.specs.Prelude.{Bool, IsTrue, Result, Ok, Err, String, min}
 use Rattle.std.specs.declared.alloc.Global.{Global}
 use Rattle.o2_base.specs.declared.faults.ModuleFault.{ModuleFault}
 use Rattle.o2_words.specs.declared.words.Verb.{Verb}
@@ -11,7 +11,6 @@ use Rattle.o2_world.specs.Starts.{Built, where_started}
 use Rattle.o2_world.specs.Run.{InOpening, console}
 use Rattle.o2_world.specs.Text.{lines_text}
 use Rattle.o2_outer.specs.Texts.{Gains, GainsSome, IsPrefix}
-use Rattle.o2_run.specs.declared.steps.Stop.{Stop}
 use Rattle.o2_run.specs.declared.steps.Stop.TheVariants.{Input, NoRoom, SwapFull, SwapFault}
 use Rattle.o2_run.specs.declared.fault.Fault.{Fault}
 use Rattle.o2_run.specs.declared.fault.Fault.TheVariants.{Sink, Stopped}
@@ -19,7 +18,11 @@ use Rattle.o2_run.specs.Faults.{CauseOf}
 use Rattle.o2_run.specs.Pieces.{Counts, counts}
 use Rattle.o2_run.specs.Ended.{HasPartRun, HasTexts}
 use Rattle.o2_run.proofs.Reached.{part_from, stopped_from}
-use Rattle.o2_machine.specs.Begins.{setting_of, starting, first_world}
+use Rattle.o2_conf.specs.declared.conf.Conf.{Conf}
+use Rattle.o2_dynlink.specs.Outcome.{LinkedParts}
+use Rattle.o2_machine.specs.declared.machine.Machine.{Machine}
+use Rattle.o2_machine.specs.Begins.{HasBegun, setting_of, starting, first_world}
+use Rattle.o2_machine.specs.StandsFor.{StandsFor}
 use Rattle.o2_machine.specs.Lasts.{machine_swaps}
 use Rattle.o2_open.specs.declared.session.Session.{Session}
 use Rattle.o2_cli.specs.declared.status.Status.{Status}
@@ -27,9 +30,9 @@ use Rattle.o2_cli.specs.declared.status.Status.TheVariants as status
 use Rattle.o2_open.specs.declared.fault.OpenFault.{OpenFault}
 use Rattle.o2_open.specs.declared.fault.OpenFault.TheVariants as open_fault
 use Rattle.o2_open.specs.Loads.{Contents, Tells, loaded, start_refusal, under, ◌>>=◌}
-use Rattle.o2_cli.specs.Top.{OnFileFault, Refuses as TopRefuses, IsUnswapped, OnInputFault, OnSinkFault, OnSwapFault, Opened, Told, IsFirst, Opens, Shows, opened, started, with_setting, refusal}
+use Rattle.o2_cli.specs.Top.{OnFileFault, Refuses as TopRefuses, OnInputFault, OnSinkFault, OnSwapFault, Opened, Told, IsFirst, Opens, Shows, opened, started, with_setting, refusal}
 use Rattle.o2_cli.specs.Statuses.{status_by, status_of}
-use Rattle.o2_cli.specs.RunTexts.{StartsWith, FaultsRun, ShowsRun}
+use Rattle.o2_cli.specs.RunTexts.{StartsWith, FaultsRun, ShowsRun, RefusesRun}
 
 -- the whole opening, from what is reserved for the run and what the starts come to
 abbrev pub opened_from : Session → List (ℕ × ℕ) → List ℕ → Result Built (ℕ × ModuleFault) → Result Opened OpenFault
@@ -42,9 +45,16 @@ pub has_started : (s : Session) (input : List ℕ) (b : Built) → starting s.li
 unfolding started
 has_started s input b e = ap (opened_from s _ input) e
 
-pub is_refused : (s : Session) (input : List ℕ) (f : ℕ × ModuleFault) → starting s.linked s.conf ≡ Err f → started s input ≡ Err (start_refusal s f.0 f.1)
+pub is_refused : (s : Session) (input : List ℕ) (f : ℕ × ModuleFault) → starting s.linked s.conf ≡ Err f → started s input ≡ Err (start_refusal s.conf s.linked.programs f.0 f.1)
 unfolding started
 is_refused s input f e = ap (opened_from s _ input) e
+
+-- what has begun stands for that world over the device that it was begun for, where that tells what its blocks hold
+pub stands_over : (m : Machine) (l : LinkedParts) (c : Conf) (count : ℕ) (r q : Option (List ℕ)) (begun : HasBegun m l c count r q) (blocks : ℕ) → count ≡ blocks → (told : Bool) → IsTrue told → (block : ℕ → List ℕ) (input : List ℕ)
+    → StandsFor m blocks told block (setting_of c) (first_world l c input begun.built)
+stands_over m l c count r q begun blocks is told tells block input =
+    subst (λ (b : Bool). StandsFor m blocks b block (setting_of c) (first_world l c input begun.built)) (sym tells)
+    (begun.stands blocks (ap (λ (n : ℕ). min c.swap n) (sym is)) block input)
 
 -- before the first step nothing is on the console
 pub nothing_yet : (s : Session) (b : Built) (input : List ℕ) (c : Option (List ℕ)) → Gains c c (console (first_world s.linked s.conf input b))
@@ -63,16 +73,39 @@ in_opening s b input j c r q left g k x y least most = record {
 }
 
 -- a refusal of a start, as it is told
-refused_by : (s : Session) (blocks : ℕ) (i c r q : Option (List ℕ)) (z : Type 0) (n : Counts) (pid : ℕ) (fault : ModuleFault) (answer : OpenFault) → starting s.linked s.conf ≡ Err (pid, fault) → q ≡ r → Tells answer (start_refusal s pid fault) → ShowsRun s blocks i i c c r q z n (status_by answer)
+refused_by : (s : Session) (blocks : ℕ) (i c r q : Option (List ℕ)) (z : Type 0) (n : Counts) (pid : ℕ) (fault : ModuleFault) (answer : OpenFault) → starting s.linked s.conf ≡ Err (pid, fault) → q ≡ r → Tells answer (start_refusal s.conf s.linked.programs pid fault) → ShowsRun s blocks i i c c r q z n (status_by answer)
 refused_by s blocks i c r q z n pid fault open_fault.NoMemory e same t = record { input = refl; console = refl; report = same }
-refused_by s blocks i c r q z n pid fault (open_fault.BadModule name f) e same t = (record { input = refl; console = refl; report = same }, λ input. is_refused s input (pid, fault) e ∙ ap Err (sym t))
+refused_by s blocks i c r q z n pid fault (open_fault.BadModule name f) e same t = record { input = refl; console = refl; report = same }
 refused_by s blocks i c r q z n pid fault (open_fault.NoFile name) e same t = absurd (cc)
 refused_by s blocks i c r q z n pid fault (open_fault.BadMachine f) e same t = absurd (cc)
 refused_by s blocks i c r q z n pid fault open_fault.FileFault e same t = absurd (cc)
 
 pub refused_texts : (s : Session) (blocks : ℕ) (i c r q : Option (List ℕ)) (z : Type 0) (n : Counts) (pid : ℕ) (fault : ModuleFault) (answer : OpenFault) (told : Status) → told ≡ status_by answer
-    → starting s.linked s.conf ≡ Err (pid, fault) → q ≡ r → Tells answer (start_refusal s pid fault) → ShowsRun s blocks i i c c r q z n told
+    → starting s.linked s.conf ≡ Err (pid, fault) → q ≡ r → Tells answer (start_refusal s.conf s.linked.programs pid fault) → ShowsRun s blocks i i c c r q z n told
 refused_texts s blocks i c r q z n pid fault answer told is e same t = subst (λ (a : Status). ShowsRun s blocks i i c c r q z n a) (sym is) (refused_by s blocks i c r q z n pid fault answer e same t)
+
+-- and as the first refusal of the run
+start_refused_by : (s : Session) (pid : ℕ) (fault : ModuleFault) (answer : OpenFault) → starting s.linked s.conf ≡ Err (pid, fault) → Tells answer (start_refusal s.conf s.linked.programs pid fault) → RefusesRun s (status_by answer)
+start_refused_by s pid fault open_fault.NoMemory e t = tt
+start_refused_by s pid fault (open_fault.BadModule name f) e t = λ input. is_refused s input (pid, fault) e ∙ ap Err (sym t)
+start_refused_by s pid fault (open_fault.NoFile name) e t = absurd (cc)
+start_refused_by s pid fault (open_fault.BadMachine f) e t = absurd (cc)
+start_refused_by s pid fault open_fault.FileFault e t = absurd (cc)
+
+pub start_refused : (s : Session) (pid : ℕ) (fault : ModuleFault) (answer : OpenFault) (told : Status) → told ≡ status_by answer
+    → starting s.linked s.conf ≡ Err (pid, fault) → Tells answer (start_refusal s.conf s.linked.programs pid fault) → RefusesRun s told
+start_refused s pid fault answer told is e t = subst (λ (a : Status). RefusesRun s a) (sym is) (start_refused_by s pid fault answer e t)
+
+-- a fault of a run refuses nothing
+fault_refuses : (s : Session) (f : Fault) → RefusesRun s (status_of f)
+fault_refuses s Sink = tt
+fault_refuses s (Stopped Input) = tt
+fault_refuses s (Stopped NoRoom) = tt
+fault_refuses s (Stopped SwapFull) = tt
+fault_refuses s (Stopped SwapFault) = tt
+
+pub no_refusal : (s : Session) (f : Fault) (answer : Status) → answer ≡ status_of f → RefusesRun s answer
+no_refusal s f answer is = subst (λ (a : Status). RefusesRun s a) (sym is) (fault_refuses s f)
 
 -- where nothing opens, nothing is taken or put
 untouched_by : (words : List (String Global)) (told : Told) (blocks : ℕ) (i c r : Option (List ℕ)) (z : Type 0) (n : Counts) (fault : OpenFault) → Shows words told blocks i i c c r r z n (status_by fault)
@@ -153,7 +186,7 @@ module _ (words : List (String Global)) (told : Told) (blocks : ℕ) (i j c d r 
   shown status.SinkFault t = λ runs contents input is left. opens contents input _ is (t input left)
   shown status.InputFault t = λ runs contents input is left. opens contents input _ is (t input left)
   shown status.NoMemory t = t
-  shown (status.BadModule n f) t = t.0
+  shown (status.BadModule n f) t = t
   shown status.BadWords t = absurd t
   shown (status.NoFile n) t = absurd t
   shown (status.BadMachine f) t = absurd t
@@ -162,32 +195,34 @@ module _ (words : List (String Global)) (told : Told) (blocks : ℕ) (i j c d r 
   shown status.SwapFull t = λ runs contents input is left. opens contents input _ is (t input left)
   shown status.SwapFault t = λ runs contents input is left. opens contents input _ is (t input left)
 
-  -- and what it refuses is what its command refuses, but for `check`
-  pub refused : (starts : (verb ≡ Check) → ⊥) (answer : Status) → ShowsRun s blocks i j c d r q e n answer → IsUnswapped answer → TopRefuses words told answer
-  refused starts status.Fine t never = (verb, name, command)
-  refused starts status.SinkFault t never = (verb, name, command)
-  refused starts status.InputFault t never = (verb, name, command)
-  refused starts status.NoMemory t never = (verb, name, command)
-  refused starts (status.BadModule n f) t never = record { verb = verb; name = name; command = command; refused = λ contents input is. first_of verb contents name input _ starts (ap (load_started input) (loads contents is) ∙ t.1 input) }
-  refused starts status.BadWords t never = absurd t
-  refused starts (status.NoFile n) t never = absurd t
-  refused starts (status.BadMachine f) t never = absurd t
-  refused starts status.FileFault t never = absurd t
-  refused starts status.NoRoom t never = absurd never
-  refused starts status.SwapFull t never = absurd never
-  refused starts status.SwapFault t never = absurd never
+-- and what it refuses is what its command refuses, but for `check`
+module _ (words : List (String Global)) (told : Told) (verb : Verb) (name : List ℕ) (s : Session) (command : IsCommandFor words verb name)
+    (loads : (contents : Contents) → told ≡ Some contents → loaded verb contents name ≡ Ok s) where
+  pub refused : (starts : (verb ≡ Check) → ⊥) (answer : Status) → RefusesRun s answer → TopRefuses words told answer
+  refused starts status.Fine t = (verb, name, command)
+  refused starts status.SinkFault t = (verb, name, command)
+  refused starts status.InputFault t = (verb, name, command)
+  refused starts status.NoRoom t = (verb, name, command)
+  refused starts status.SwapFull t = (verb, name, command)
+  refused starts status.SwapFault t = (verb, name, command)
+  refused starts status.NoMemory t = (verb, name, command)
+  refused starts (status.BadModule n f) t = record { verb = verb; name = name; command = command; refused = λ contents input is. first_of verb contents name input _ starts (ap (load_started input) (loads contents is) ∙ t input) }
+  refused starts status.BadWords t = absurd t
+  refused starts (status.NoFile n) t = absurd t
+  refused starts (status.BadMachine f) t = absurd t
+  refused starts status.FileFault t = absurd t
 
-  -- a run tells of no file
-  pub no_file_fault : (P : Type 0) (answer : Status) → ShowsRun s blocks i j c d r q e n answer → OnFileFault answer P
-  no_file_fault P status.FileFault t = absurd t
-  no_file_fault P status.Fine t = tt
-  no_file_fault P status.BadWords t = tt
-  no_file_fault P (status.NoFile n) t = tt
-  no_file_fault P (status.BadMachine f) t = tt
-  no_file_fault P (status.BadModule n f) t = tt
-  no_file_fault P status.InputFault t = tt
-  no_file_fault P status.SinkFault t = tt
-  no_file_fault P status.NoRoom t = tt
-  no_file_fault P status.SwapFull t = tt
-  no_file_fault P status.SwapFault t = tt
-  no_file_fault P status.NoMemory t = tt
+-- a run tells of no file
+pub no_file_fault : (s : Session) (P : Type 0) (answer : Status) → RefusesRun s answer → OnFileFault answer P
+no_file_fault s P status.FileFault t = absurd t
+no_file_fault s P status.Fine t = tt
+no_file_fault s P status.BadWords t = tt
+no_file_fault s P (status.NoFile n) t = tt
+no_file_fault s P (status.BadMachine f) t = tt
+no_file_fault s P (status.BadModule n f) t = tt
+no_file_fault s P status.InputFault t = tt
+no_file_fault s P status.SinkFault t = tt
+no_file_fault s P status.NoRoom t = tt
+no_file_fault s P status.SwapFull t = tt
+no_file_fault s P status.SwapFault t = tt
+no_file_fault s P status.NoMemory t = tt

@@ -3,3 +3,4 @@ pub mod StatusTexts
 pub mod Top
 pub mod Checks
 pub mod RunTexts
+pub mod Done

@@ -41,5 +41,14 @@ ShowsRun s blocks i j c d r q e n status.NoRoom = StopsRun s blocks i j c d r q 
 ShowsRun s blocks i j c d r q e n status.SwapFull = StopsRun s blocks i j c d r q e n SwapFull
 ShowsRun s blocks i j c d r q e n status.SwapFault = StopsRun s blocks i j c d r q e n SwapFault
 ShowsRun s blocks i j c d r q e n status.NoMemory = IsUntouched i j c d r q
-ShowsRun s blocks i j c d r q e n (status.BadModule name fault) = IsUntouched i j c d r q × ((input : List ℕ) → started s input ≡ Err (BadModule name fault))
+ShowsRun s blocks i j c d r q e n (status.BadModule name fault) = IsUntouched i j c d r q
 ShowsRun s blocks i j c d r q e n _ = ⊥
+
+-- what a run refuses: the start of a process, and nothing else
+abbrev pub RefusesRun : Session → Status → Type 0
+RefusesRun s (status.BadModule name fault) = (input : List ℕ) → started s input ≡ Err (BadModule name fault)
+RefusesRun s status.BadWords = ⊥
+RefusesRun s (status.NoFile name) = ⊥
+RefusesRun s (status.BadMachine fault) = ⊥
+RefusesRun s status.FileFault = ⊥
+RefusesRun s _ = Unit {0}

@@ -29,7 +29,7 @@ with_setting s w = Ok (record { setting = setting_of s.conf; world = w })
 
 -- a start that is refused
 abbrev pub refusal : Session → ℕ × ModuleFault → OpenFault
-refusal s f = start_refusal s f.0 f.1
+refusal s f = start_refusal s.conf s.linked.programs f.0 f.1
 
 -- all processes of a session start, with this input
 unfoldable pub started : Session → List ℕ → Result Opened OpenFault
@@ -65,9 +65,9 @@ Refuses words told status.BadWords = IsCommand words → ⊥
 Refuses words told (status.NoFile name) = IsRefused words told (open_fault.NoFile name)
 Refuses words told (status.BadMachine fault) = IsRefused words told (open_fault.BadMachine fault)
 Refuses words told (status.BadModule name fault) = IsRefused words told (open_fault.BadModule name fault)
-Refuses words told status.NoRoom = ⊥
-Refuses words told status.SwapFull = ⊥
-Refuses words told status.SwapFault = ⊥
+Refuses words told status.NoRoom = IsCommand words
+Refuses words told status.SwapFull = IsCommand words
+Refuses words told status.SwapFault = IsCommand words
 Refuses words told status.Fine = IsCommand words
 Refuses words told status.FileFault = IsCommand words
 Refuses words told status.InputFault = IsCommand words
@@ -109,13 +109,6 @@ Shows words told blocks i j c d r q e n status.NoRoom = Stops words told blocks 
 Shows words told blocks i j c d r q e n status.SwapFull = Stops words told blocks i j c d r q e n SwapFull
 Shows words told blocks i j c d r q e n status.SwapFault = Stops words told blocks i j c d r q e n SwapFault
 Shows words told blocks i j c d r q e n _ = IsUntouched i j c d r q
-
--- a machine that doesn't swap is stopped neither for room nor for swap
-abbrev pub IsUnswapped : Status → Type 0
-IsUnswapped status.NoRoom = ⊥
-IsUnswapped status.SwapFull = ⊥
-IsUnswapped status.SwapFault = ⊥
-IsUnswapped _ = Unit {0}
 
 abbrev pub OnFileFault : Status → Type 0 → Type 0
 OnFileFault status.FileFault P = P

@@ -1,19 +1,20 @@
 // The top call.
-ghost use Rattle.std.specs.Prelude.{◌≡◌, ◌≤◌, ◌+◌, ◌⊎◌, ℕ, List, Option, Some};
+ghost use Rattle.std.specs.Prelude.{◌≡◌, ◌≤◌, ◌+◌, ◌⊎◌, ℕ, List, Option, Some, IsTrue};
 ghost use Rattle.o2_conf.specs.Limits.{IsWithinLimits};
-ghost use Rattle.o2_open.specs.Loads.{HasEnvironments};
+ghost use Rattle.o2_open.specs.Loads.{HasEnvironments, IsLinked};
 ghost use Rattle.o2_outer.specs.Texts.{Rose};
 ghost use Rattle.o2_outer.specs.Inputs.{GoesOn, MayBe, rest_of, IsSeenAs, left_as};
 ghost use Rattle.o2_run.specs.Pieces.{counts};
-ghost use Rattle.o2_cli.specs.Top.{IsCheck, Refuses, Shows, IsUnswapped, OnFileFault, OnInputFault, OnSinkFault, OnSwapFault, OnTried, OnUnrun};
-ghost use Rattle.o2_cli.specs.RunTexts.{ShowsRun};
+ghost use Rattle.o2_cli.specs.Top.{IsCheck, Refuses, Shows, OnFileFault, OnInputFault, OnSinkFault, OnSwapFault, OnTried, OnUnrun};
+ghost use Rattle.o2_cli.specs.RunTexts.{ShowsRun, RefusesRun};
 ghost use Rattle.o2_cli.specs.Checks.{Checks, IsUnstarted, ShowsLines};
+ghost use Rattle.o2_cli.specs.Done.{Completes, CompletesCheck};
 
 use crate::Status;
 use crate::lines::lines;
 use o2_base::{Bytes, NoMemory};
 use o2_machine::{BeginFault, Machine};
-use o2_open::{Session, open, refused_start};
+use o2_open::{Session, open, program_places, refused_start};
 use o2_outer::{Files, Put, Sink, Source, SwapDevice};
 use o2_run::run;
 use o2_words::{Verb, command, is_command};
@@ -33,15 +34,15 @@ pub fn os2run<F: Files, I: Source, C: Sink, R: Sink, S: SwapDevice>(
 ) -> Status
     // Each refusal, with its cause.
     ensures refused { Refuses words.now (F.told files.old) result }
-    // Both texts are those of the boundless machine, or fronts of them; each line of the report is one put, and so is the piece for
-    // the console of each step that has one.
-    ensures texts { Shows words.now (F.told files.old) (S.blocks swap.old)
+    // Both texts are those of the boundless machine, or fronts of them, over a device that tells what its blocks hold; each line of
+    // the report is one put, and so is the piece for the console of each step that has one.
+    ensures texts { IsTrue (S.told swap.old) → Shows words.now (F.told files.old) (S.blocks swap.old)
         (I.left input.old) (I.left input.new) (C.taken console.old) (C.taken console.new)
         (R.taken report.old) (R.taken report.new) (Rose (R.faults report.old) (R.faults report.new))
         (counts (C.puts console.old) (C.puts console.new) (R.puts report.old) (R.puts report.new) 0) result }
     // The same of an input that tells nothing, over each text that the whole of it may be when the call comes back: what it has given
     // is a front of it, and all of it where it has ended. What it has given is such a text.
-    ensures untold_texts { (text : List ℕ) → MayBe text (I.past input.new)
+    ensures untold_texts { IsTrue (S.told swap.old) → (text : List ℕ) → MayBe text (I.past input.new)
         → Shows words.now (F.told files.old) (S.blocks swap.old)
         (Some (rest_of text (I.past input.old))) (Some (rest_of text (I.past input.new)))
         (C.taken console.old) (C.taken console.new)
@@ -56,13 +57,24 @@ pub fn os2run<F: Files, I: Source, C: Sink, R: Sink, S: SwapDevice>(
     ensures checks_unstarted { IsCheck words.now → IsUnstarted result }
     ensures checks_quietly { IsCheck words.now → report.new ≡ report.old }
     ensures checks_unread { IsCheck words.now → input.new ≡ input.old }
-    // Where nothing ran, the input and both sinks are as they were, whatever they tell.
+    // Where each step has what it needs in memory and swap, and no count of faults rose, a command that opens is done, or there
+    // was no memory; and so is a check.
+    ensures complete { IsTrue (S.told swap.old) → (text : Option (List ℕ)) → IsSeenAs text (I.past input.new)
+        → Completes words.now (F.told files.old) (S.blocks swap.old) (left_as text (I.left input.old) (I.past input.old))
+        (Rose (F.faults files.old) (F.faults files.new)) (Rose (I.faults input.old) (I.faults input.new))
+        (Rose (C.faults console.old) (C.faults console.new) ⊎ Rose (R.faults report.old) (R.faults report.new))
+        (Rose (S.faults swap.old) (S.faults swap.new)) result }
+    ensures check_complete { CompletesCheck words.now (F.told files.old) (Rose (F.faults files.old) (F.faults files.new))
+        (Rose (C.faults console.old) (C.faults console.new) ⊎ Rose (R.faults report.old) (R.faults report.new)) result }
+    // Where nothing ran, the input, both sinks and the device are as they were, whatever they tell.
     ensures same_input { OnUnrun result (input.new ≡ input.old) }
     ensures same_console { OnUnrun result (console.new ≡ console.old) }
     ensures same_report { OnUnrun result (report.new ≡ report.old) }
-    // Nothing is swapped: the device is as it was, and no run is stopped for room or swap.
-    ensures same_swap { swap.new ≡ swap.old }
-    ensures unswapped { IsUnswapped result }
+    ensures same_swap { OnUnrun result (swap.new ≡ swap.old) }
+    ensures checks_unswapped { IsCheck words.now → swap.new ≡ swap.old }
+    // A device goes on to have as many blocks, and to tell what they hold or not.
+    ensures swap_blocks { S.blocks swap.new ≡ S.blocks swap.old }
+    ensures swap_told { S.told swap.new ≡ S.told swap.old }
     // A fault is told only where a count rose.
     ensures file_fault { OnFileFault result (Rose (F.faults files.old) (F.faults files.new)) }
     ensures input_fault { OnInputFault result (Rose (I.faults input.old) (I.faults input.new)) }
@@ -82,7 +94,7 @@ pub fn os2run<F: Files, I: Source, C: Sink, R: Sink, S: SwapDevice>(
         Err(fault) => Status::from(fault),
         Ok(session) => match command.verb {
             Verb::Check => check_session(alloc, &session, console),
-            Verb::Exe | Verb::Run => run_session(alloc, &session, input, console, report, swap),
+            Verb::Exe | Verb::Run => run_session(alloc, session, input, console, report, swap),
         },
     }
 }
@@ -108,21 +120,25 @@ fn check_session<C: Sink>(alloc: Global, session: &Session, console: &mut C) -> 
 #[tactic(auto, using(o2_outer::proofs::Inputs::goes_same))]
 fn run_session<I: Source, C: Sink, R: Sink, S: SwapDevice>(
     alloc: Global,
-    session: &Session,
+    session: Session,
     input: &mut I,
     console: &mut C,
     report: &mut R,
     swap: &mut S,
 ) -> Status
-    requires within { IsWithinLimits session.now.conf }
-    requires environments { HasEnvironments session.now }
+    requires within { IsWithinLimits session.conf }
+    requires environments { HasEnvironments session }
+    requires linked { IsLinked session.conf session.linked }
     ensures same_input { OnUnrun result (input.new ≡ input.old) }
     ensures same_console { OnUnrun result (console.new ≡ console.old) }
     ensures same_report { OnUnrun result (report.new ≡ report.old) }
-    ensures same_swap { swap.new ≡ swap.old }
-    ensures unswapped { IsUnswapped result }
+    ensures same_swap { OnUnrun result (swap.new ≡ swap.old) }
+    ensures swap_blocks { S.blocks swap.new ≡ S.blocks swap.old }
+    ensures swap_told { S.told swap.new ≡ S.told swap.old }
+    ensures refused { RefusesRun session result }
     // However the input is seen: by what it tells, or as a text that the whole of it may be.
-    ensures texts { (text : Option (List ℕ)) → IsSeenAs text (I.past input.new) → ShowsRun session.now (S.blocks swap.old)
+    ensures texts { IsTrue (S.told swap.old) → (text : Option (List ℕ)) → IsSeenAs text (I.past input.new)
+        → ShowsRun session (S.blocks swap.old)
         (left_as text (I.left input.old) (I.past input.old)) (left_as text (I.left input.new) (I.past input.new))
         (C.taken console.old) (C.taken console.new)
         (R.taken report.old) (R.taken report.new) (Rose (R.faults report.old) (R.faults report.new))
@@ -132,11 +148,19 @@ fn run_session<I: Source, C: Sink, R: Sink, S: SwapDevice>(
     ensures sink_fault { OnSinkFault result (Rose (C.faults console.old) (C.faults console.new) ⊎ Rose (R.faults report.old) (R.faults report.new)) }
     ensures swap_fault { OnSwapFault result (Rose (S.faults swap.old) (S.faults swap.new)) }
 {
-    match Machine::begin(alloc, &session.conf, &session.linked, report) {
+    let Session { conf, linked } = session;
+    let Ok(places) = program_places(alloc, &linked) else {
+        return Status::NoMemory;
+    };
+    match Machine::begin(alloc, &conf, linked, swap.count(), report) {
         Err(BeginFault::NoMemory) => Status::NoMemory,
         Err(BeginFault::SinkFault) => Status::SinkFault,
         Err(BeginFault::Start(pid, fault)) => Status::from(refused_start(
-            alloc, session, pid, fault,
+            alloc,
+            &conf,
+            places.as_slice(),
+            pid,
+            fault,
         )),
         Ok(mut machine) => match run(&mut machine, input, console, report, swap) {
             Ok(()) => Status::Fine,

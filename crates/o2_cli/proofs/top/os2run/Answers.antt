@@ -2,37 +2,38 @@ use Rattle.std.proofs.Common.{None, Some, ◌∙◌, subst, sym}
 use Rattle.o2_words.specs.declared.words.Verb.{Verb}
 use Rattle.o2_words.specs.Words.{IsCommandFor}
 use Rattle.o2_cli.proofs.Checked.{texts_of_check, untried}
+use Rattle.o2_cli.proofs.Completed.{completes}
 use Rattle.o2_cli.proofs.Runs.{no_file_fault, refused, runs_not_checks, shown, untouched}
 use Rattle.o2_cli.proofs.top.os2run.Goals as goal
 
 pub returns-clause-texts : goal.returns-clause-texts
-returns-clause-texts g c =
+returns-clause-texts g c = λ tells.
     shown c.args.words.now (g.F.Files.told c.args.files.now) _ _ _ _ _ _ _ _ _ c.in-Ok.command.verb c.in-Ok-from_slice.name c.in-Ok-open.session
     (subst (λ name. IsCommandFor c.args.words.now c.in-Ok.command.verb name) (sym (c.in-Ok-from_slice.ensures ∙ c.as_bytes.ensures.value)) c.in-Ok.ensures)
-    (λ contents is. c.in-Ok-open.ensures.exact contents is) c.run_session.result (c.run_session.ensures.texts None tt)
+    (λ contents is. c.in-Ok-open.ensures.exact contents is) c.run_session.result (c.run_session.ensures.texts tells None tt)
 
 pub returns-clause-untold_texts : goal.returns-clause-untold_texts
-returns-clause-untold_texts g c = λ text may.
+returns-clause-untold_texts g c = λ tells text may.
     shown c.args.words.now (g.F.Files.told c.args.files.now) _ _ _ _ _ _ _ _ _ c.in-Ok.command.verb c.in-Ok-from_slice.name c.in-Ok-open.session
     (subst (λ name. IsCommandFor c.args.words.now c.in-Ok.command.verb name) (sym (c.in-Ok-from_slice.ensures ∙ c.as_bytes.ensures.value)) c.in-Ok.ensures)
-    (λ contents is. c.in-Ok-open.ensures.exact contents is) c.run_session.result (c.run_session.ensures.texts (Some text) may)
+    (λ contents is. c.in-Ok-open.ensures.exact contents is) c.run_session.result (c.run_session.ensures.texts tells (Some text) may)
 
 pub returns-in-Err-clause-texts : goal.returns-in-Err-clause-texts
-returns-in-Err-clause-texts g c = untouched _ _ _ _ _ _ _ _ _ c.from.result c.from.ensures
+returns-in-Err-clause-texts g c = λ tells. untouched _ _ _ _ _ _ _ _ _ c.from.result c.from.ensures
 
 pub returns-in-Err-clause-untold_texts : goal.returns-in-Err-clause-untold_texts
-returns-in-Err-clause-untold_texts g c = λ text may.
+returns-in-Err-clause-untold_texts g c = λ tells text may.
     untouched _ _ _ _ _ _ _ _ _ c.from.result c.from.ensures
 
 pub returns-in-Check-clause-texts : goal.returns-in-Check-clause-texts
-returns-in-Check-clause-texts g c =
+returns-in-Check-clause-texts g c = λ tells.
     texts_of_check c.args.words.now (g.F.Files.told c.args.files.now) c.in-Ok-from_slice.name
     (subst (λ (v : Verb). IsCommandFor c.args.words.now v c.in-Ok-from_slice.name) c.in-Check.is
     (subst (λ name. IsCommandFor c.args.words.now c.in-Ok.command.verb name) (sym (c.in-Ok-from_slice.ensures ∙ c.as_bytes.ensures.value)) c.in-Ok.ensures))
     c.in-Ok-open.session _ _ _ _ _ _ _ c.check_session.result c.check_session.ensures.lines
 
 pub returns-in-Check-clause-untold_texts : goal.returns-in-Check-clause-untold_texts
-returns-in-Check-clause-untold_texts g c = λ text may.
+returns-in-Check-clause-untold_texts g c = λ tells text may.
     texts_of_check c.args.words.now (g.F.Files.told c.args.files.now) c.in-Ok-from_slice.name
     (subst (λ (v : Verb). IsCommandFor c.args.words.now v c.in-Ok-from_slice.name) c.in-Check.is
     (subst (λ name. IsCommandFor c.args.words.now c.in-Ok.command.verb name) (sym (c.in-Ok-from_slice.ensures ∙ c.as_bytes.ensures.value)) c.in-Ok.ensures))
@@ -43,12 +44,21 @@ returns-in-Err-clause-checks_at_once g c = λ check. untried _ _ c.from.result c
 
 pub returns-clause-refused : goal.returns-clause-refused
 returns-clause-refused g c =
-    refused c.args.words.now (g.F.Files.told c.args.files.now) _ _ _ _ _ _ _ _ _ c.in-Ok.command.verb c.in-Ok-from_slice.name c.in-Ok-open.session
+    refused c.args.words.now (g.F.Files.told c.args.files.now) c.in-Ok.command.verb c.in-Ok-from_slice.name c.in-Ok-open.session
     (subst (λ name. IsCommandFor c.args.words.now c.in-Ok.command.verb name) (sym (c.in-Ok-from_slice.ensures ∙ c.as_bytes.ensures.value)) c.in-Ok.ensures)
-    (λ contents is. c.in-Ok-open.ensures.exact contents is) (runs_not_checks c.in-Ok.command.verb c.in-Exe.is) c.run_session.result (c.run_session.ensures.texts None tt) c.run_session.ensures.unswapped
+    (λ contents is. c.in-Ok-open.ensures.exact contents is) (runs_not_checks c.in-Ok.command.verb c.in-Exe.is) c.run_session.result c.run_session.ensures.refused
 
 pub returns-clause-file_fault : goal.returns-clause-file_fault
-returns-clause-file_fault g c =
-    no_file_fault c.args.words.now (g.F.Files.told c.args.files.now) _ _ _ _ _ _ _ _ _ c.in-Ok.command.verb c.in-Ok-from_slice.name c.in-Ok-open.session
+returns-clause-file_fault g c = no_file_fault c.in-Ok-open.session _ c.run_session.result c.run_session.ensures.refused
+
+pub returns-clause-complete : goal.returns-clause-complete
+returns-clause-complete g c = λ tells text may.
+    completes c.args.words.now (g.F.Files.told c.args.files.now) _ _ _ _ _ _ _ _ _ _ _ _ _ c.run_session.result
+    (refused c.args.words.now (g.F.Files.told c.args.files.now) c.in-Ok.command.verb c.in-Ok-from_slice.name c.in-Ok-open.session
     (subst (λ name. IsCommandFor c.args.words.now c.in-Ok.command.verb name) (sym (c.in-Ok-from_slice.ensures ∙ c.as_bytes.ensures.value)) c.in-Ok.ensures)
-    (λ contents is. c.in-Ok-open.ensures.exact contents is) _ c.run_session.result (c.run_session.ensures.texts None tt)
+    (λ contents is. c.in-Ok-open.ensures.exact contents is) (runs_not_checks c.in-Ok.command.verb c.in-Exe.is) c.run_session.result c.run_session.ensures.refused)
+    (shown c.args.words.now (g.F.Files.told c.args.files.now) _ _ _ _ _ _ _ _ _ c.in-Ok.command.verb c.in-Ok-from_slice.name c.in-Ok-open.session
+    (subst (λ name. IsCommandFor c.args.words.now c.in-Ok.command.verb name) (sym (c.in-Ok-from_slice.ensures ∙ c.as_bytes.ensures.value)) c.in-Ok.ensures)
+    (λ contents is. c.in-Ok-open.ensures.exact contents is) c.run_session.result (c.run_session.ensures.texts tells text may))
+    (no_file_fault c.in-Ok-open.session _ c.run_session.result c.run_session.ensures.refused)
+    c.run_session.ensures.input_fault c.run_session.ensures.sink_fault c.run_session.ensures.swap_fault

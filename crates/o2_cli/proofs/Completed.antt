@@ -1,0 +1,136 @@
+-- What keeps a command from being done: a refusal, a fault, or a step that hasn't what it needs.
+use Rattle.std.proofs.Common.{inl, inr, ◌≡◌, ◌≤◌, ◌<◌, ℕ, Bool, true, false, cond, arith, List, [], ◌∷◌, map, Option, Some, None, subst, refl}
+use Rattle.std.proofs.lemmas.List.Sums.{sum_by-cons}
+use Rattle.std.specs.Prelude.{Ok, Err, Result, String, filter, sum}
+use Rattle.std.specs.declared.alloc.Global.{Global}
+use Rattle.o2_words.specs.declared.words.Verb.{Verb}
+use Rattle.o2_words.specs.declared.words.Verb.TheVariants.{Exe, Run, Check}
+use Rattle.o2_words.specs.Words.{IsCommandFor}
+use Rattle.o2_conf.specs.Dispatch.{Dispatch}
+use Rattle.o2_world.specs.Map.{Map}
+use Rattle.o2_world.specs.World.{World, Setting, Segment, Process}
+use Rattle.o2_world.specs.Holders.{process_at}
+use Rattle.o2_world.specs.Run.{after, before, next_dispatch}
+use Rattle.o2_run.specs.Room.{room, live_load, room_next, load_next, room_between, load_between, of_both, behind, need}
+use Rattle.o2_run.specs.Stops.{IsSwapFull}
+use Rattle.o2_run.specs.Pieces.{Counts}
+use Rattle.o2_open.specs.declared.session.Session.{Session}
+use Rattle.o2_open.specs.declared.fault.OpenFault.{OpenFault}
+use Rattle.o2_open.specs.Loads.{Contents, loaded}
+use Rattle.o2_cli.specs.declared.status.Status.{Status}
+use Rattle.o2_cli.specs.declared.status.Status.TheVariants as status
+use Rattle.o2_cli.specs.Top.{IsCheck, IsFirst, IsRefused, Opened, Opens, Refuses, Shows, Told, opened, OnFileFault, OnInputFault, OnSinkFault, OnSwapFault}
+use Rattle.o2_cli.specs.Checks.{Checks}
+use Rattle.o2_cli.specs.Done.{HasAmple, Completes, CompletesCheck}
+use Rattle.o2_cli.proofs.Checked.{name_is, verb_is}
+
+-- What is needed or locked is a part of what lives.
+
+part_le : (g : ℕ → ℕ) (c : ℕ → Bool) (xs : List ℕ) → sum (map g (filter c xs)) ≤ sum (map g xs)
+part_le g c [] = omega arith
+part_le g c (x ∷ xs) = go (c x) (part_le g c xs)
+  where
+    go : (b : Bool) → sum (map g (filter c xs)) ≤ sum (map g xs) → sum (map g (cond b (x ∷ filter c xs) (filter c xs))) ≤ sum (map g (x ∷ xs))
+    go false rest = (let whole = sum_by-cons (λ (n : ℕ). n) (g x) (map g xs) in omega (arith, whole, rest))
+    go true rest =
+        (let some = sum_by-cons (λ (n : ℕ). n) (g x) (map g (filter c xs)) in
+        let whole = sum_by-cons (λ (n : ℕ). n) (g x) (map g xs) in
+        omega (arith, some, whole, rest))
+
+between_le : (old new : Map Segment) (need : List ℕ) → room_between old new need ≤ load_between old new
+between_le old new need = part_le _ _ (of_both old new)
+
+next_le : (s : Setting) (w : World) (d : Dispatch) (o : Option Process) → room_next s w d o ≤ load_next s w d o
+next_le s w d None = omega arith
+next_le s w d (Some p) =
+    let next = behind w d p (before s w d.current p) in
+    between_le w.names next.names (need (before s w d.current p) next.names (process_at next.processes d.current))
+
+rooms_live : (s : Setting) (w : World) → room s w ≤ live_load s w
+unfolding room live_load
+rooms_live s w = next_le s w (next_dispatch s w) (process_at w.processes (next_dispatch s w).current)
+
+no_stop_for_room : (blocks : ℕ) (s : Setting) (w : World) → HasAmple blocks s w → s.memory < room s w → ⊥
+no_stop_for_room blocks s w (inl live) above = let part = rooms_live s w in absurd (omega (arith, live, part, above))
+no_stop_for_room blocks s w (inr fits) above = absurd (omega (arith, fits.0, above))
+
+no_full_swap : (blocks : ℕ) (s : Setting) (w : World) → HasAmple blocks s w → IsSwapFull blocks s w → ⊥
+no_full_swap blocks s w (inl live) full = absurd (omega (arith, live, full.memory))
+no_full_swap blocks s w (inr fits) full = absurd (omega (arith, fits.1, full.swap))
+
+-- What opens isn't refused.
+
+opens_or : (verb : Verb) (contents : Contents) (name text : List ℕ) (f : OpenFault) (o : Opened) → ((verb ≡ Check) → ⊥)
+    → opened verb contents name text ≡ Ok o → IsFirst verb contents name text f → ⊥
+opens_or Exe contents name text f o runs ok err = absurd (cc)
+opens_or Run contents name text f o runs ok err = absurd (cc)
+opens_or Check contents name text f o runs ok err = runs refl
+
+links_or : (contents : Contents) (name : List ℕ) (f : OpenFault) (s : Session) → loaded Check contents name ≡ Ok s → loaded Check contents name ≡ Err f → ⊥
+links_or contents name f s ok err = absurd (cc)
+
+same_start : (r : Result Opened OpenFault) (a b : Opened) → r ≡ Ok a → r ≡ Ok b → a ≡ b
+same_start r a b x y = cc
+
+module _ (words : List (String Global)) (told : Told) (contents : Contents) (is : told ≡ Some contents) where
+  -- a refusal is one of this command
+  refused_as : (verb : Verb) (name text : List ℕ) (f : OpenFault) → IsCommandFor words verb name → IsRefused words told f → IsFirst verb contents name text f
+  refused_as verb name text f command r =
+      subst (λ (v : Verb). IsFirst v contents name text f) (verb_is words r.verb verb r.name name r.command command)
+      (subst (λ (n : List ℕ). IsFirst r.verb contents n text f) (name_is words r.verb verb r.name name r.command command) (r.refused contents text is))
+
+  unrefused : (text : List ℕ) (P : Opened → Type 0) (f : OpenFault) → IsRefused words told f → (IsCheck words → ⊥) → Opens words contents text P → ⊥
+  unrefused text P f r runs o =
+      opens_or o.verb contents o.name text f o.start
+      (λ check. runs (o.name, subst (λ (v : Verb). IsCommandFor words v o.name) check o.command))
+      o.opens (refused_as o.verb o.name text f o.command r)
+
+  unrefused_check : (name : List ℕ) (s : Session) (f : OpenFault) → IsRefused words told f → IsCommandFor words Check name → loaded Check contents name ≡ Ok s → ⊥
+  unrefused_check name s f r command links = links_or contents name f s links (refused_as Check name [] f command r)
+
+  -- what a command opens is one setting and one world
+  one_start : (text : List ℕ) (P Q : Opened → Type 0) (a : Opens words contents text P) (b : Opens words contents text Q) → a.start ≡ b.start
+  one_start text P Q a b =
+      same_start (opened b.verb contents b.name text) a.start b.start
+      (subst (λ (v : Verb). opened v contents b.name text ≡ Ok a.start) (verb_is words a.verb b.verb a.name b.name a.command b.command)
+      (subst (λ (n : List ℕ). opened a.verb contents n text ≡ Ok a.start) (name_is words a.verb b.verb a.name b.name a.command b.command) a.opens)) b.opens
+
+  unstopped : (text : List ℕ) (P Q : Opened → Type 0) → Opens words contents text P → Opens words contents text Q → ((o : Opened) → P o → Q o → ⊥) → ⊥
+  unstopped text P Q a b clash = clash b.start (subst P (one_start text P Q a b) a.runs) b.runs
+
+module _ (words : List (String Global)) (told : Told) (files input sink device : Type 0) where
+  pub completes : (blocks : ℕ) (i j c d r q : Option (List ℕ)) (e : Type 0) (n : Counts) (answer : Status)
+      → Refuses words told answer → Shows words told blocks i j c d r q e n answer
+      → OnFileFault answer files → OnInputFault answer input → OnSinkFault answer sink → OnSwapFault answer device
+      → Completes words told blocks i files input sink device answer
+  completes blocks i j c d r q e n status.Fine refuses shows f g h k = λ runs contents text is left o nf ni ns nd. tt
+  completes blocks i j c d r q e n status.NoMemory refuses shows f g h k = λ runs contents text is left o nf ni ns nd. tt
+  completes blocks i j c d r q e n status.BadWords refuses shows f g h k = λ runs contents text is left o nf ni ns nd. refuses (o.verb, o.name, o.command)
+  completes blocks i j c d r q e n (status.NoFile name) refuses shows f g h k = λ runs contents text is left o nf ni ns nd. unrefused words told contents is text _ _ refuses runs o
+  completes blocks i j c d r q e n (status.BadMachine fault) refuses shows f g h k = λ runs contents text is left o nf ni ns nd. unrefused words told contents is text _ _ refuses runs o
+  completes blocks i j c d r q e n (status.BadModule name fault) refuses shows f g h k = λ runs contents text is left o nf ni ns nd. unrefused words told contents is text _ _ refuses runs o
+  completes blocks i j c d r q e n status.FileFault refuses shows f g h k = λ runs contents text is left o nf ni ns nd. nf f
+  completes blocks i j c d r q e n status.InputFault refuses shows f g h k = λ runs contents text is left o nf ni ns nd. ni g
+  completes blocks i j c d r q e n status.SinkFault refuses shows f g h k = λ runs contents text is left o nf ni ns nd. ns h
+  completes blocks i j c d r q e n status.SwapFault refuses shows f g h k = λ runs contents text is left o nf ni ns nd. nd k
+  completes blocks i j c d r q e n status.NoRoom refuses shows f g h k = λ runs contents text is left o nf ni ns nd.
+      unstopped words told contents is text _ _ (shows runs contents text is left) o
+      (λ start stops ample. no_stop_for_room blocks start.setting (after start.setting start.world stops.steps) (ample stops.steps stops.below) stops.cause)
+  completes blocks i j c d r q e n status.SwapFull refuses shows f g h k = λ runs contents text is left o nf ni ns nd.
+      unstopped words told contents is text _ _ (shows runs contents text is left) o
+      (λ start stops ample. no_full_swap blocks start.setting (after start.setting start.world stops.steps) (ample stops.steps stops.below) stops.cause)
+
+  pub check_completes : (c d : Option (List ℕ)) (answer : Status) → Refuses words told answer → Checks words told c d answer
+      → OnFileFault answer files → OnSinkFault answer sink → CompletesCheck words told files sink answer
+  check_completes c d status.Fine refuses checks f h = λ contents name s is command links nf ns. tt
+  check_completes c d status.NoMemory refuses checks f h = λ contents name s is command links nf ns. tt
+  check_completes c d status.BadWords refuses checks f h = λ contents name s is command links nf ns. refuses (Check, name, command)
+  check_completes c d (status.NoFile n) refuses checks f h = λ contents name s is command links nf ns. unrefused_check words told contents is name s _ refuses command links
+  check_completes c d (status.BadMachine fault) refuses checks f h = λ contents name s is command links nf ns. unrefused_check words told contents is name s _ refuses command links
+  check_completes c d (status.BadModule n fault) refuses checks f h = λ contents name s is command links nf ns. unrefused_check words told contents is name s _ refuses command links
+  check_completes c d status.FileFault refuses checks f h = λ contents name s is command links nf ns. nf f
+  check_completes c d status.SinkFault refuses checks f h = λ contents name s is command links nf ns. ns h
+  check_completes c d status.InputFault refuses checks f h = λ contents name s is command links nf ns. checks name command
+  check_completes c d status.NoRoom refuses checks f h = λ contents name s is command links nf ns. checks name command
+  check_completes c d status.SwapFull refuses checks f h = λ contents name s is command links nf ns. checks name command
+  check_completes c d status.SwapFault refuses checks f h = λ contents name s is command links nf ns. checks name command
