@@ -1,7 +1,7 @@
 // Runs segmented executables (NE) of OS/2 1.x: `os2run exe FILE`, `os2run run FILE`.
 //
 // The program's input is the standard input, and its console the standard output. The report, and the line of a status other
-// than 0, go to the standard error; the status is the exit status.
+// than 0, go to the standard error; the status is the exit status. What is swapped goes to the file `os2run.swp`.
 #![tactic(auto)]
 
 ghost use Rattle.std.specs.Prelude.{◌≡◌, ◌≢◌, [], MatchResult};
@@ -9,14 +9,11 @@ ghost use Rattle.std.specs.IoError.{error_kind};
 
 use o2_base::NoMemory;
 use o2_cli::{Status, number, os2run, text};
-use o2_outer::{FolderFiles, Put, Sink, StderrSink, StdinSource, StdoutSink, SureSwap};
+use o2_outer::{FileSwap, FolderFiles, Put, Sink, StderrSink, StdinSource, StdoutSink};
 use std::alloc::Global;
 use std::env;
 use std::io::{Error, ErrorKind};
 use std::process::ExitCode;
-
-/// The blocks of the swap device: nothing is swapped.
-const SWAP_BLOCKS: u32 = 0;
 
 /// The words that are there in place of those that can't be read: none, which is no command, unless memory was wanting.
 fn words_in_place(alloc: Global, error: &Error) -> Result<Vec<String>, NoMemory>
@@ -41,14 +38,14 @@ fn words(rt: &HostRuntime) -> Result<Vec<String>, NoMemory> {
     Ok(words)
 }
 
-/// Runs the command over the folder's files and the standard streams.
+/// Runs the command over the folder's files, the standard streams and a swap file.
 fn run(rt: &HostRuntime) -> Result<Status, NoMemory> {
     let words = words(rt)?;
     let mut files = FolderFiles::new(rt);
     let mut input = StdinSource::new(rt.alloc(), rt.reader())?;
     let mut console = StdoutSink::new(rt.stdout());
     let mut report = StderrSink::new(rt.stderr());
-    let mut swap = SureSwap::new(rt.alloc(), SWAP_BLOCKS)?;
+    let mut swap = FileSwap::new(rt);
     Ok(os2run(
         rt.alloc(),
         words.as_slice(),
