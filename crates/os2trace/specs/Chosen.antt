@@ -1,5 +1,8 @@
 -- Which steps of a run are shown.
-use Rattle.std.specs.Prelude.{ℕ, Bool, ◌==◌, ◌&&◌, ◌||◌, nat_le}
+use Rattle.std.specs.Prelude.{ℕ, Bool, ◌==◌, ◌&&◌, ◌||◌, nat_le, Option, Some, None}
+use Rattle.o2_machine.specs.declared.last.Last.{Last}
+use Rattle.o2_sched.specs.declared.sched.Pick.{Pick}
+use Rattle.o2_sched.specs.declared.sched.Pick.TheVariants as pick
 use Rattle.os2trace.specs.declared.command.Choice.{Choice}
 
 -- the number that is asked for, where 0 asks for any
@@ -10,3 +13,10 @@ is_any_or asked number = asked == 0 || asked == number
 abbrev pub is_chosen : Choice → ℕ → ℕ → ℕ → Bool
 is_chosen choice number process cs = nat_le choice.from number
     && is_any_or choice.process process && is_any_or choice.selector cs
+
+-- the process whose step is next: none where the run has ended or stopped, and where a turn would end it
+abbrev pub next_of : Option Last → Pick → Option ℕ
+next_of None (pick.Step process) = Some process
+next_of None pick.AllEnded = None
+next_of None pick.BudgetSpent = None
+next_of (Some last) p = None

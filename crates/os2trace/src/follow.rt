@@ -1,12 +1,14 @@
-// Two machines of one session: one goes ahead, and the other is a step behind, so that a step that ended a process can be looked at as
-// it was.
+// The steps of a run, each with what the processor answers to it, which is asked before it is taken: a step that ends its process
+// leaves nothing to look at.
 ghost use Rattle.std.specs.Prelude.{◌≡◌, ◌≤◌, ◌<◌, length, IfSome};
 ghost use Rattle.o2_conf.specs.Limits.{IsWithinLimits};
-ghost use Rattle.o2_open.specs.Loads.{HasEnvironments};
+ghost use Rattle.o2_open.specs.Loads.{HasEnvironments, IsLinked};
 ghost use Rattle.o2_sched.specs.Schedule.{pick_of};
-ghost use Rattle.os2trace.specs.Chosen.{is_chosen};
+ghost use Rattle.os2trace.specs.Chosen.{is_chosen, next_of};
+ghost use Rattle.os2trace.specs.Going.{IsGoing};
 
 use crate::command::Choice;
+use crate::reading::bytes_of;
 use crate::show::{Before, show_exception, show_step};
 use o2_base::{Bytes, NoMemory};
 use o2_bus::Plain;
@@ -15,6 +17,7 @@ use o2_isa::Outcome;
 use o2_machine::{Machine, Steps, Turn};
 use o2_open::Session;
 use o2_outer::{MemSink, Sink, SureSource, SureSwap};
+use o2_place::SegId;
 use o2_sched::Pick;
 use o2_tool::{REFUSED, print_lines};
 use std::alloc::{AllocError, Global};
@@ -34,7 +37,7 @@ fn sink(alloc: Global, room: usize) -> Result<MemSink, AllocError> {
     }
 }
 
-/// A machine with its input.
+/// A machine with its input and its swap device.
 #[derive(Drop)]
 struct Runner {
     machine: Machine,
@@ -45,7 +48,8 @@ struct Runner {
 impl Runner {
     /// The process whose step is next; none where the run has ended or stopped, or a turn would end it.
     fn next_process(&mut self) -> Option<u16>
-        ensures { IfSome result (λ p. pick_of self.old.machine.sched ≡ Pick.Step p) }
+        ensures next { result ≡ next_of self.old.machine.last (pick_of self.old.machine.sched) }
+        ensures going { IsGoing self.old.machine self.old.swap → IsGoing self.new.machine self.new.swap }
     {
         if self.machine.stopped().is_some() {
             return None;
@@ -58,30 +62,120 @@ impl Runner {
     }
 
     /// One turn.
-    fn turn<C: Sink, R: Sink>(&mut self, console: &mut C, report: &mut R) -> Turn {
+    fn turn<C: Sink, R: Sink>(&mut self, console: &mut C, report: &mut R) -> Turn
+        requires going { IsGoing self.old.machine self.old.swap }
+        ensures going { IsGoing self.new.machine self.new.swap }
+    {
         self.machine
             .turn(&mut self.input, console, report, &mut self.swap)
     }
 
+    /// The segment that a process holds under a selector, and its access byte; none where it holds none.
+    fn held(&self, process: u16, selector: u16) -> Option<(SegId, u8)> {
+        let index = selector / 8;
+        let regions = &self.machine.space.regions;
+        if selector % 8 != 7 || process == 0 || process > regions.processes() {
+            return None;
+        }
+        let held = regions.held(process, index)?;
+        let descriptor = regions.descriptor(process, index)?;
+        Some((held.id, descriptor.access & 0x7F & 0xFE | 0x80))
+    }
+
+    /// The bytes of a segment, none where there is none, or no memory for them.
+    fn bytes(&mut self, alloc: Global, id: SegId) -> Option<Vec<u8>>
+        requires going { IsGoing self.old.machine self.old.swap }
+        ensures going { IsGoing self.new.machine self.new.swap }
+    {
+        let machine = &self.machine;
+        match bytes_of(alloc, &machine.space, id, &mut self.swap) {
+            Ok(bytes) => bytes,
+            Err(AllocError) => None,
+        }
+    }
+
+    /// The bytes of an instruction at a place of a segment, ten at most.
+    fn code(&mut self, alloc: Global, process: u16, selector: u16, at: u16) -> ([u8; 10], usize)
+        requires going { IsGoing self.old.machine self.old.swap }
+        ensures going { IsGoing self.new.machine self.new.swap }
+    {
+        let mut ten = [0u8; 10];
+        let Some((id, _)) = self.held(process, selector) else {
+            return (ten, 0);
+        };
+        let Some(bytes) = self.bytes(alloc, id) else {
+            return (ten, 0);
+        };
+        let Some((_, code)) = bytes.as_slice().split_at_checked(at as usize) else {
+            return (ten, 0);
+        };
+        let count = code.len().min(10);
+        ten[..count].copy_from_slice(&code[..count]);
+        (ten, count)
+    }
+
     /// The step that is next, none at the end of the run.
-    fn before(&mut self) -> Option<Before> {
+    fn before(&mut self, alloc: Global) -> Option<Before>
+        requires going { IsGoing self.old.machine self.old.swap }
+        ensures going { IsGoing self.new.machine self.new.swap }
+    {
         let process = self.next_process()?;
         let (cpu, _, _) = self.machine.process(process)?;
-        let mut before = Before {
+        let (bytes, count) = self.code(alloc, process, cpu.cs, cpu.ip);
+        Some(Before {
             process,
             cpu,
-            bytes: [0u8; 10],
-            count: 0,
-        };
-        let plain = &self.machine.space.plain;
-        if let Some(grant) = plain.bound(process, cpu.cs) {
-            if let Some((_, code)) = plain.bytes(grant.name).split_at_checked(cpu.ip as usize) {
-                let count = code.len().min(10);
-                before.bytes[..count].copy_from_slice(&code[..count]);
-                before.count = count;
-            }
+            bytes,
+            count,
+        })
+    }
+
+    /// A memory in which a process holds what it holds here.
+    fn copy_of(&mut self, alloc: Global, process: u16) -> Result<Plain, NoMemory>
+        requires going { IsGoing self.old.machine self.old.swap }
+        ensures going { IsGoing self.new.machine self.new.swap }
+    {
+        let mut copy = Plain::new(alloc)?;
+        for index in 0..=8191u16 {
+            self.copy_one(alloc, process, index, &mut copy)?;
         }
-        Some(before)
+        Ok(copy)
+    }
+
+    /// One segment of it.
+    fn copy_one(
+        &mut self,
+        alloc: Global,
+        process: u16,
+        index: u16,
+        copy: &mut Plain,
+    ) -> Result<(), NoMemory>
+        requires index { index < 8192 }
+        requires going { IsGoing self.old.machine self.old.swap }
+        ensures going { IsGoing self.new.machine self.new.swap }
+    {
+        let Some((id, access)) = self.held(process, index * 8 + 7) else {
+            return Ok(());
+        };
+        let Some(bytes) = self.bytes(alloc, id) else {
+            return Ok(());
+        };
+        if !bytes.is_empty() && bytes.len() <= 65536 {
+            hold(copy, alloc, process, index, bytes.as_slice(), access)?;
+        }
+        Ok(())
+    }
+
+    /// What the processor answers to a step.
+    fn answer_of(&mut self, alloc: Global, before: &Before) -> Result<Outcome, AllocError>
+        requires going { IsGoing self.old.machine self.old.swap }
+        ensures going { IsGoing self.new.machine self.new.swap }
+    {
+        let Ok(mut copy) = self.copy_of(alloc, before.process) else {
+            return Err(AllocError);
+        };
+        let mut cpu = before.cpu;
+        Ok(step_plain(&mut copy, before.process, &mut cpu))
     }
 }
 
@@ -101,42 +195,44 @@ fn hold(
     plain.hold(alloc, pid, index, name, access)
 }
 
-/// A memory in which a process holds what it holds in another.
-fn copy_of(alloc: Global, plain: &Plain, pid: u16) -> Result<Plain, NoMemory> {
-    let mut copy = Plain::new(alloc)?;
-    for index in 0..=8191u16 {
-        if let Some(grant) = plain.held(pid, index) {
-            let bytes = plain.bytes(grant.name);
-            if bytes.len() > 0 {
-                hold(&mut copy, alloc, pid, index, bytes, grant.access)?;
-            }
-        }
-    }
-    Ok(copy)
-}
-
-/// What the processor answers to a step.
-fn answer_of(alloc: Global, plain: &Plain, before: &Before) -> Result<Outcome, AllocError> {
-    let Ok(mut copy) = copy_of(alloc, plain, before.process) else {
-        return Err(AllocError);
-    };
-    let mut cpu = before.cpu;
-    Ok(step_plain(&mut copy, before.process, &mut cpu))
-}
-
 /// A machine at the front of its run, with the lines of its starts put to the report; none where there is no memory.
-fn front(alloc: Global, session: &Session, input: &[u8], report: &mut MemSink) -> Option<Runner>
-    requires within { IsWithinLimits session.now.conf }
-    requires environments { HasEnvironments session.now }
+fn front(alloc: Global, session: Session, input: &[u8], report: &mut MemSink) -> Option<Runner>
+    requires within { IsWithinLimits session.conf }
+    requires environments { HasEnvironments session }
+    requires linked { IsLinked session.conf session.linked }
+    ensures { IfSome result (λ r. IsGoing r.machine r.swap) }
 {
-    let bytes = Bytes::from_slice(alloc, input).ok()?;
-    let swap = SureSwap::new(alloc, 0).ok()?;
-    let machine = Machine::begin(alloc, &session.conf, &session.linked, report).ok()?;
-    Some(Runner {
-        machine,
-        input: SureSource::new(bytes),
-        swap,
-    })
+    let Session { conf, linked } = session;
+    let Ok(bytes) = Bytes::from_slice(alloc, input) else {
+        return None;
+    };
+    let Ok(swap) = SureSwap::new(alloc, conf.swap) else {
+        return None;
+    };
+    match Machine::begin(alloc, &conf, linked, conf.swap, report) {
+        Err(_) => None,
+        Ok(machine) => Some(Runner {
+            machine,
+            input: SureSource::new(bytes),
+            swap,
+        }),
+    }
+}
+
+/// A machine at the front of its run, and the lines of its starts.
+fn started(alloc: Global, session: Session, input: &[u8]) -> Option<(Runner, MemSink)>
+    requires within { IsWithinLimits session.conf }
+    requires environments { HasEnvironments session }
+    requires linked { IsLinked session.conf session.linked }
+    ensures { IfSome result (λ p. IsGoing p.0.machine p.0.swap) }
+{
+    let Ok(mut report) = sink(alloc, START_ROOM) else {
+        return None;
+    };
+    match front(alloc, session, input, &mut report) {
+        Some(runner) => Some((runner, report)),
+        None => None,
+    }
 }
 
 /// Whether a step is shown, by its number from 1, its process and the selector in CS.
@@ -148,64 +244,69 @@ fn is_chosen(choice: Choice, number: u64, process: u16, cs: u16) -> bool
         && (choice.selector == 0 || choice.selector == cs)
 }
 
-/// Shows a step that was taken ahead, and its exception where it ended in one.
-fn show(rt: &HostRuntime, ahead: &Runner, behind: &Runner, before: &Before) -> anyhow::Result<()> {
-    let Some((after, state, value)) = ahead.machine.process(before.process) else {
+/// Shows a step that was taken, and its exception where it ended in one.
+fn show(rt: &HostRuntime, runner: &Runner, before: &Before, answer: Outcome) -> anyhow::Result<()> {
+    let Some((after, state, value)) = runner.machine.process(before.process) else {
         return Ok(());
     };
     show_step(rt, before, if state == 0 { Some(&after) } else { None })?;
     if state == 2 {
-        let answer = answer_of(rt.alloc(), &behind.machine.space.plain, before)?;
         show_exception(rt, before, value, answer)?;
     }
     Ok(())
 }
 
-/// A step ahead, shown where it is chosen; then the other machine's.
-fn step(
-    rt: &HostRuntime,
-    ahead: &mut Runner,
-    behind: &mut Runner,
-    chosen: bool,
-    before: &Before,
-) -> anyhow::Result<Turn> {
+/// Takes a step, and shows it.
+fn shown_step(rt: &HostRuntime, runner: &mut Runner, before: &Before) -> anyhow::Result<Turn>
+    requires going { IsGoing runner.old.machine runner.old.swap }
+    ensures going { IsGoing runner.new.machine runner.new.swap }
+{
     let mut console = sink(rt.alloc(), STEP_ROOM)?;
     let mut report = sink(rt.alloc(), STEP_ROOM)?;
-    let turn = ahead.turn(&mut console, &mut report);
-    if chosen {
-        show(rt, ahead, behind, before)?;
-        print_lines(rt, ">", console.taken())?;
-        print_lines(rt, "|", report.taken())?;
-    }
-    let mut nothing = sink(rt.alloc(), STEP_ROOM)?;
-    let mut nowhere = sink(rt.alloc(), STEP_ROOM)?;
-    let _ = behind.turn(&mut nothing, &mut nowhere);
+    let answer = runner.answer_of(rt.alloc(), before)?;
+    let turn = runner.turn(&mut console, &mut report);
+    show(rt, runner, before, answer)?;
+    print_lines(rt, ">", console.taken())?;
+    print_lines(rt, "|", report.taken())?;
     Ok(turn)
 }
 
-/// Puts the last line of a run.
-fn finish(rt: &HostRuntime, ahead: &mut Runner) -> anyhow::Result<()> {
+/// Takes a step that isn't shown.
+fn unseen_step(rt: &HostRuntime, runner: &mut Runner) -> anyhow::Result<Turn>
+    requires going { IsGoing runner.old.machine runner.old.swap }
+    ensures going { IsGoing runner.new.machine runner.new.swap }
+{
     let mut console = sink(rt.alloc(), STEP_ROOM)?;
     let mut report = sink(rt.alloc(), STEP_ROOM)?;
-    let _ = ahead.turn(&mut console, &mut report);
+    Ok(runner.turn(&mut console, &mut report))
+}
+
+/// Puts the last line of a run.
+fn finish(rt: &HostRuntime, runner: &mut Runner) -> anyhow::Result<()>
+    requires { IsGoing runner.old.machine runner.old.swap }
+{
+    let mut console = sink(rt.alloc(), STEP_ROOM)?;
+    let mut report = sink(rt.alloc(), STEP_ROOM)?;
+    let _ = runner.turn(&mut console, &mut report);
     print_lines(rt, "|", report.taken())?;
     Ok(())
 }
 
-/// Shows the steps of two machines that stand at the front of one run.
-fn follow_both(
-    rt: &HostRuntime,
-    ahead: &mut Runner,
-    behind: &mut Runner,
-    choice: Choice,
-) -> anyhow::Result<ExitCode> {
+/// Shows the steps of a machine that stands at the front of its run.
+fn follow_on(rt: &HostRuntime, runner: &mut Runner, choice: Choice) -> anyhow::Result<ExitCode>
+    requires going { IsGoing runner.old.machine runner.old.swap }
+{
     for number in 1..=choice.to.min(1 << 60) {
-        let Some(before) = ahead.before() else {
-            finish(rt, ahead)?;
+        let Some(before) = runner.before(rt.alloc()) else {
+            finish(rt, runner)?;
             return Ok(ExitCode::SUCCESS);
         };
-        let chosen = is_chosen(choice, number, before.process, before.cpu.cs);
-        match step(rt, ahead, behind, chosen, &before)? {
+        let turn = if is_chosen(choice, number, before.process, before.cpu.cs) {
+            shown_step(rt, runner, &before)?
+        } else {
+            unseen_step(rt, runner)?
+        };
+        match turn {
             Turn::Ran => {}
             _ => anyhow::bail!("the run has stopped"),
         }
@@ -216,22 +317,18 @@ fn follow_both(
 /// Shows the run of a session.
 pub fn follow(
     rt: &HostRuntime,
-    session: &Session,
+    session: Session,
     input: &[u8],
     choice: Choice,
 ) -> anyhow::Result<ExitCode>
-    requires within { IsWithinLimits session.now.conf }
-    requires environments { HasEnvironments session.now }
+    requires within { IsWithinLimits session.conf }
+    requires environments { HasEnvironments session }
+    requires linked { IsLinked session.conf session.linked }
 {
-    let mut report = sink(rt.alloc(), START_ROOM)?;
-    let mut unseen = sink(rt.alloc(), START_ROOM)?;
-    let Some(mut ahead) = front(rt.alloc(), session, input, &mut report) else {
+    let Some((mut runner, report)) = started(rt.alloc(), session, input) else {
         eprintln!(rt; "os2trace: it doesn't start: `os2why` with the same words says why")?;
         return Ok(ExitCode::from(REFUSED));
     };
-    let Some(mut behind) = front(rt.alloc(), session, input, &mut unseen) else {
-        anyhow::bail!("there is no memory");
-    };
     print_lines(rt, "|", report.taken())?;
-    follow_both(rt, &mut ahead, &mut behind, choice)
+    follow_on(rt, &mut runner, choice)
 }

@@ -3,6 +3,7 @@
 
 mod command;
 mod follow;
+mod reading;
 mod show;
 
 use clap::ArgMatches;
@@ -46,7 +47,7 @@ fn trace(rt: &HostRuntime, verb: Verb, found: &ArgMatches<'_>) -> anyhow::Result
         }
         Ok(session) => {
             let input = whole_input(rt)?;
-            follow::follow(rt, &session, input.as_slice(), choice)
+            follow::follow(rt, session, input.as_slice(), choice)
         }
     }
 }
