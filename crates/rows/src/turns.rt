@@ -1,11 +1,14 @@
 // Machines turn by turn: what they count, and that a stop or an end is final.
 
+ghost use Rattle.std.specs.Prelude.{IfOk, IfSome};
+ghost use Rattle.rows.specs.Going.{IsGoing};
+
 use crate::command::{Fails, add_file};
 use crate::hello::changed;
 use o2_base::{Bytes, NoMemory};
 use o2_machine::{Machine, Steps, Turn};
-use o2_open::open;
-use o2_outer::{MemFiles, MemSink, MemSource, SureSwap};
+use o2_open::{Session, open};
+use o2_outer::{MemFiles, MemSink, MemSource, SureSwap, SwapDevice};
 use o2_words::Verb;
 use std::alloc::Global;
 use std::test::Fail;
@@ -19,7 +22,6 @@ struct Outside {
     input: MemSource,
     console: MemSink,
     report: MemSink,
-    swap: SureSwap,
 }
 
 /// An input of three bytes and empty sinks, which fail at these calls.
@@ -33,17 +35,19 @@ fn made_outside(
         input: MemSource::new(Bytes::from_slice(alloc, b"abc")?, takes.to_vec(alloc)?),
         console: MemSink::new(alloc, 4096, console.to_vec(alloc)?)?,
         report: MemSink::new(alloc, 4096, report.to_vec(alloc)?)?,
-        swap: SureSwap::new(alloc, 1)?,
     })
 }
 
-/// The machine of one process with this budget, of the program that writes `hello` with some bytes changed.
+/// The machine of one process with this budget, of the program that writes `hello` with some bytes changed, over a device.
 fn begun(
     alloc: Global,
     budget: &str,
     changes: &[(usize, u8)],
     report: &mut MemSink,
-) -> Result<Option<Machine>, NoMemory> {
+    swap: &SureSwap,
+) -> Result<Option<Machine>, NoMemory>
+    ensures { IfOk result (λ m. IfSome m (λ m. IsGoing m swap.now)) }
+{
     let mut text = String::new(alloc);
     text.push_str(KEYS)?;
     text.push_str(budget)?;
@@ -58,26 +62,33 @@ fn begun(
     let Ok(session) = open(alloc, Verb::Run, &mut files, &name) else {
         return Ok(None);
     };
-    match Machine::begin(alloc, &session.conf, &session.linked, report) {
+    let Session { conf, linked } = session;
+    match Machine::begin(alloc, &conf, linked, swap.count(), report) {
         Ok(machine) => Ok(Some(machine)),
         Err(_) => Ok(None),
     }
 }
 
 /// One turn.
-fn turn(machine: &mut Machine, outside: &mut Outside) -> Turn {
+fn turn(machine: &mut Machine, outside: &mut Outside, swap: &mut SureSwap) -> Turn
+    requires { IsGoing machine.old swap.old }
+    ensures { IsGoing machine.new swap.new }
+{
     machine.turn(
         &mut outside.input,
         &mut outside.console,
         &mut outside.report,
-        &mut outside.swap,
+        swap,
     )
 }
 
 /// Turns until one is no step, and the answer of that one.
-fn run_on(machine: &mut Machine, outside: &mut Outside) -> Turn {
-    for _ in 0..100 {
-        match turn(machine, outside) {
+fn run_on(machine: &mut Machine, outside: &mut Outside, swap: &mut SureSwap) -> Turn
+    requires { IsGoing machine.old swap.old }
+    ensures { IsGoing machine.new swap.new }
+{
+    for _turn in 0..100 {
+        match turn(machine, outside, swap) {
             Turn::Ran => {}
             last => return last,
         }
@@ -254,35 +265,47 @@ fn is_untouched(outside: &Outside) -> bool {
 }
 
 /// Whether a machine that has come to a row's answer gives it again at later turns, which touch nothing.
-fn is_final(alloc: Global, machine: &mut Machine, row: &Row) -> Result<bool, NoMemory> {
+fn is_final(
+    alloc: Global,
+    machine: &mut Machine,
+    swap: &mut SureSwap,
+    row: &Row,
+) -> Result<bool, NoMemory>
+    requires { IsGoing machine.old swap.old }
+{
     let mut later = made_outside(alloc, &[], &[], &[])?;
-    for _ in 0..3 {
-        if turn(machine, &mut later) != row.answer {
+    for _turn in 0..3 {
+        if turn(machine, &mut later, swap) != row.answer {
             return Ok(false);
         }
     }
     Ok(is_untouched(&later) && is_told(machine, row))
 }
 
+/// Whether a machine that has not stopped yet comes to what a row has.
+fn comes_to(machine: &mut Machine, outside: &mut Outside, swap: &mut SureSwap, row: &Row) -> bool
+    requires { IsGoing machine.old swap.old }
+    ensures { IsGoing machine.new swap.new }
+{
+    machine.stopped().is_none()
+        && run_on(machine, outside, swap) == row.answer
+        && is_told(machine, row)
+        && state_of(machine) == Some(row.state)
+        && machine.process(0).is_none()
+        && machine.process(2).is_none()
+}
+
 /// What is wrong with a row, or no text.
 fn wrong(alloc: Global, row: &Row) -> Result<&'static str, NoMemory> {
     let mut first = made_outside(alloc, row.takes, row.console, row.report)?;
-    let Some(mut machine) = begun(alloc, row.budget, row.changes, &mut first.report)? else {
+    let mut swap = SureSwap::new(alloc, 1)?;
+    let Some(mut machine) = begun(alloc, row.budget, row.changes, &mut first.report, &swap)? else {
         return Ok("it doesn't begin");
     };
-    if machine.stopped().is_some() {
-        return Ok("it has stopped before its first turn");
+    if !comes_to(&mut machine, &mut first, &mut swap, row) {
+        return Ok("another answer, other counts, another state or other processes");
     }
-    if run_on(&mut machine, &mut first) != row.answer || !is_told(&machine, row) {
-        return Ok("another answer, or other counts");
-    }
-    if state_of(&machine) != Some(row.state) {
-        return Ok("another state");
-    }
-    if machine.process(0).is_some() || machine.process(2).is_some() {
-        return Ok("a process that isn't there");
-    }
-    if !is_final(alloc, &mut machine, row)? {
+    if !is_final(alloc, &mut machine, &mut swap, row)? {
         return Ok("a later turn isn't the same");
     }
     Ok("")
