@@ -10,7 +10,8 @@ from trying import ROOT, check_words, program, said, wrong
 
 
 def check_trace():
-    """Each example's trace has the lines of its report, in their order; where NAME.trace stands beside it, it is that."""
+    """Each example's trace has the lines of its report, in their order, without the line of a status behind them; where NAME.trace stands
+    beside it, it is that."""
     check_words("os2trace", ["exe"])
     for folder, _, files in sorted(os.walk(os.path.join(ROOT, "examples"))):
         for file in sorted(files):
@@ -24,7 +25,8 @@ def check_trace():
                 run = subprocess.run([program("os2trace"), verb, what], cwd=folder, stdin=source, stdout=subprocess.PIPE)
             text = run.stdout.decode("ascii")
             with open(os.path.join(folder, file)) as wanted:
-                if run.returncode or [line[2:] for line in text.splitlines() if line.startswith("| ")] != wanted.read().splitlines():
+                lines = [line for line in wanted.read().splitlines() if not line.startswith("os2run: ")]
+                if run.returncode or [line[2:] for line in text.splitlines() if line.startswith("| ")] != lines:
                     wrong(f"os2trace {verb} {what}: status {run.returncode}; the lines behind | aren't those of {file}")
             if name + ".trace" in files:
                 with open(os.path.join(folder, name + ".trace")) as wanted:

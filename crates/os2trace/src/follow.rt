@@ -256,7 +256,7 @@ fn show(rt: &HostRuntime, runner: &Runner, before: &Before, answer: Outcome) -> 
     Ok(())
 }
 
-/// Takes a step, and shows it.
+/// Takes a step, and shows it; where the run stops before it, the stop line alone.
 fn shown_step(rt: &HostRuntime, runner: &mut Runner, before: &Before) -> anyhow::Result<Turn>
     requires going { IsGoing runner.old.machine runner.old.swap }
     ensures going { IsGoing runner.new.machine runner.new.swap }
@@ -265,20 +265,26 @@ fn shown_step(rt: &HostRuntime, runner: &mut Runner, before: &Before) -> anyhow:
     let mut report = sink(rt.alloc(), STEP_ROOM)?;
     let answer = runner.answer_of(rt.alloc(), before)?;
     let turn = runner.turn(&mut console, &mut report);
-    show(rt, runner, before, answer)?;
+    if matches!(turn, Turn::Ran) {
+        show(rt, runner, before, answer)?;
+    }
     print_lines(rt, ">", console.taken())?;
     print_lines(rt, "|", report.taken())?;
     Ok(turn)
 }
 
-/// Takes a step that isn't shown.
+/// Takes a step that isn't shown; where the run stops before it, its stop line is.
 fn unseen_step(rt: &HostRuntime, runner: &mut Runner) -> anyhow::Result<Turn>
     requires going { IsGoing runner.old.machine runner.old.swap }
     ensures going { IsGoing runner.new.machine runner.new.swap }
 {
     let mut console = sink(rt.alloc(), STEP_ROOM)?;
     let mut report = sink(rt.alloc(), STEP_ROOM)?;
-    Ok(runner.turn(&mut console, &mut report))
+    let turn = runner.turn(&mut console, &mut report);
+    if !matches!(turn, Turn::Ran) {
+        print_lines(rt, "|", report.taken())?;
+    }
+    Ok(turn)
 }
 
 /// Puts the last line of a run.
@@ -308,6 +314,7 @@ fn follow_on(rt: &HostRuntime, runner: &mut Runner, choice: Choice) -> anyhow::R
         };
         match turn {
             Turn::Ran => {}
+            Turn::NoRoom | Turn::SwapFull => return Ok(ExitCode::SUCCESS),
             _ => anyhow::bail!("the run has stopped"),
         }
     }
