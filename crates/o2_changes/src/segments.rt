@@ -20,7 +20,7 @@ use o2_image::Images;
 use o2_outer::SwapDevice;
 use o2_place::SegId;
 use o2_regions::Regions;
-use o2_service::settle;
+use o2_service::{bring, settle};
 use o2_store::{Attr, Brought, Store};
 
 /// A new segment of zeros, out of memory, of 1 to 65,536 bytes, with the flags of the call that makes it. It isn't locked, and
@@ -130,10 +130,7 @@ pub fn bring_in<S: SwapDevice>(
     ensures cause { result ≡ Brought.SwapFault → Rose (S.faults swap.old) (S.faults swap.new) }
     ensures never { result ≡ Brought.Stale → ⊥ }
 {
-    store.law();
-    let answer = store.bring(id, keep, images, swap);
-    settle(store, regions);
-    answer
+    bring(id, keep, store, regions, images, swap)
 }
 
 /// Gives a live segment another size of 1 to 65,536 bytes, and says in all descriptors where segments are. Its bytes below both
