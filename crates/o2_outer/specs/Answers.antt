@@ -8,7 +8,7 @@ use Rattle.o2_outer.specs.declared.swap.Dev.{Dev}
 use Rattle.o2_outer.specs.declared.swap.Dev.TheVariants as dev
 use Rattle.o2_outer.specs.declared.files.Fetch.{Fetch}
 use Rattle.o2_outer.specs.declared.files.Fetch.TheVariants as fetched
-use Rattle.o2_outer.specs.Texts.{Rose, Gains, GainsSome, IsPrefix}
+use Rattle.o2_outer.specs.Texts.{Rose, risen, Gains, GainsSome, IsPrefix}
 
 -- what a put does to the bytes taken: a fault takes a front of the piece
 abbrev pub Takes : Option (List ℕ) → Option (List ℕ) → List ℕ → Put → Type 0
@@ -29,6 +29,23 @@ abbrev pub OnDone : Put → Type 0 → Type 0
 OnDone Done P = P
 OnDone Failed P = Unit {0}
 
+-- the count of faults by the answer of a call: one more at a fault, and else as it was
+abbrev pub CountsPut : ℕ → ℕ → Put → Type 0
+CountsPut before now Done = now ≡ before
+CountsPut before now Failed = now ≡ risen before
+
+abbrev pub CountsTook : ℕ → ℕ → Took → Type 0
+CountsTook before now (took.Done n) = now ≡ before
+CountsTook before now took.Failed = now ≡ risen before
+
+abbrev pub CountsFetch : ℕ → ℕ → Fetch → Type 0
+CountsFetch before now fetched.Failed = now ≡ risen before
+CountsFetch before now _ = now ≡ before
+
+abbrev pub CountsDev : ℕ → ℕ → Dev → Type 0
+CountsDev before now dev.Done = now ≡ before
+CountsDev before now dev.Failed = now ≡ risen before
+
 -- what a fetch answers over files that are told
 abbrev pub Answers : (List ℕ → Option (List ℕ)) → List ℕ → ℕ → Fetch → Type 0
 Answers files name most (fetched.Got bytes) = files name ≡ Some bytes
@@ -40,6 +57,14 @@ Answers files name most fetched.NoMemory = Unit {0}
 abbrev pub IsBounded : ℕ → Fetch → Type 0
 IsBounded most (fetched.Got bytes) = length bytes ≤ most
 IsBounded most _ = Unit {0}
+
+-- what a fetch gave is all that an open file tells that it has, and one that is too long tells more than the limit
+abbrev pub IsReadFrom : {F : Type 0} → (remaining : F → Option (List ℕ)) → (most : ℕ) → Fetch → Type 0
+IsReadFrom remaining most (fetched.Got bytes) = (file : _) × ((t : List ℕ) → remaining file ≡ Some t → bytes ≡ t)
+IsReadFrom remaining most fetched.TooLong = (file : _) × ((t : List ℕ) → remaining file ≡ Some t → most < length t)
+IsReadFrom remaining most fetched.NoFile = Unit {0}
+IsReadFrom remaining most fetched.Failed = Unit {0}
+IsReadFrom remaining most fetched.NoMemory = Unit {0}
 
 abbrev pub FetchHasCause : ℕ → ℕ → Fetch → Type 0
 FetchHasCause before now fetched.Failed = Rose before now

@@ -9,6 +9,9 @@ use Rattle.o2_outer.specs.Planned.{fails_next, next_call}
 abbrev pub swap_blocks : SureSwap → ℕ
 swap_blocks s = length s.blocks.items
 
+abbrev pub swap_contents : SureSwap → List (List ℕ)
+swap_contents s = s.blocks.items
+
 abbrev pub mem_blocks : MemSwap → List (List ℕ)
 mem_blocks s = s.blocks.items
 
@@ -44,6 +47,10 @@ read_fails s = fails_next s.calls s.fails.items
 
 abbrev pub write_fails : MemSwap → Bool
 write_fails s = fails_next s.calls s.fails.items || is_number s.failing_write (next_call s.tries)
+
+-- how many writes were done after the next call, a write
+abbrev pub writes_after : MemSwap → ℕ
+writes_after s = if write_fails s then s.writes else next_call s.writes
 
 abbrev pub device_answer : Bool → Dev
 device_answer fails = if fails then dev.Failed else dev.Done

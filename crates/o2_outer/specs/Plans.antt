@@ -17,6 +17,9 @@ mem_fetches f = f.calls
 abbrev pub mem_fetches_to_fail : MemFiles → List ℕ
 mem_fetches_to_fail f = f.fails.items
 
+abbrev pub mem_fetch_faults : MemFiles → ℕ
+mem_fetch_faults f = f.faults
+
 abbrev pub sure_files : SureFiles → List (List ℕ × List ℕ)
 sure_files f = f.files.items
 

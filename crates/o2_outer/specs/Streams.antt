@@ -1,7 +1,8 @@
--- What a sink over a writer and a source over a reader show.
+-- What a sink over a writer, a source over a reader and the files of a folder show.
 use Rattle.std.specs.Prelude.{◌≡◌, ℕ, Bool, List, ◌++◌, Option, take, ◌&&◌, nat_eq}
 use Rattle.o2_outer.specs.declared.streams.StreamSink.{StreamSink}
 use Rattle.o2_outer.specs.declared.stdin.StreamSource.{StreamSource}
+use Rattle.o2_outer.specs.declared.folder.FolderFiles.{FolderFiles}
 use Rattle.o2_outer.specs.declared.sink.Put.{Put}
 use Rattle.o2_outer.specs.declared.sink.Put.TheVariants as put
 use Rattle.o2_outer.specs.Texts.{IsPrefix, Gains}
@@ -48,3 +49,7 @@ stream_past given ended held = record { given = given; ended = ended && nat_eq h
 
 abbrev pub source_past : {R : Type 0} {g : _} → StreamSource R g → Past
 source_past s = stream_past s.log.bytes s.ended s.held
+
+-- how often the system has failed
+abbrev pub folder_faults : {R F D : Type 0} → FolderFiles R F D → ℕ
+folder_faults f = f.faults

@@ -1,6 +1,8 @@
 // Files of the folder that the program runs in.
 ghost use Rattle.std.specs.Prelude.{None, Some, ◌≡◌, ◌≤◌, ◌<◌, List, ℕ, IfOk, MatchResult, length, vec_len};
-ghost use Rattle.o2_outer.specs.Texts.{Rose};
+ghost use Rattle.o2_outer.specs.Texts.{Rose, risen};
+ghost use Rattle.o2_outer.specs.Streams.{folder_faults};
+ghost use Rattle.o2_outer.specs.Answers.{IsBounded, IsReadFrom, FetchHasCause, CountsFetch};
 
 use crate::{Fetch, Files};
 use o2_base::Bytes;
@@ -52,7 +54,9 @@ fn read_whole<F: Read>(alloc: Global, file: &mut F, most: u32) -> Result<Vec<u8>
 
 impl<R: rt::Files + Drop> FolderFiles<R> {
     /// The files that this system has.
-    pub fn new(system: R) -> FolderFiles<R> {
+    pub fn new(system: R) -> FolderFiles<R>
+        ensures faultless { folder_faults result ≡ 0 }
+    {
         FolderFiles { system, faults: 0 }
     }
 
@@ -61,6 +65,7 @@ impl<R: rt::Files + Drop> FolderFiles<R> {
         ensures failed { result ≡ Fetch.Failed }
         ensures later { self.old.faults ≤ self.new.faults }
         ensures rose { Rose self.old.faults self.new.faults }
+        ensures counts { self.new.faults ≡ risen self.old.faults }
     {
         self.faults = self.faults.saturating_add(1);
         Fetch::Failed
@@ -70,9 +75,16 @@ impl<R: rt::Files + Drop> FolderFiles<R> {
 impl<R: rt::Files + Drop> Files for FolderFiles<R> {
     ghost told = { λ _. None };
 
-    ghost faults = { λ f. f.faults };
+    ghost faults = { λ f. folder_faults f };
 
-    fn fetch(&mut self, alloc: Global, name: &Bytes, most: u32) -> Fetch {
+    fn fetch(&mut self, alloc: Global, name: &Bytes, most: u32) -> Fetch
+        ensures bounded { IsBounded most result }
+        ensures count { folder_faults self.old ≤ folder_faults self.new }
+        ensures cause { FetchHasCause (folder_faults self.old) (folder_faults self.new) result }
+        ensures counts { CountsFetch (folder_faults self.old) (folder_faults self.new) result }
+        // What the system's open file tells of itself, where it does.
+        ensures whole { IsReadFrom R.File.remaining most result }
+    {
         let Ok(path) = str::from_utf8(name.as_slice()) else {
             return self.fault();
         };

@@ -1,8 +1,8 @@
 // Files in memory: some that fail when told to, and some that never fail.
 ghost use Rattle.std.specs.Prelude.{◌≡◌, ◌≤◌, Some, drop, option_map, List, ℕ, true, false};
-ghost use Rattle.o2_outer.specs.Answers.{Answers, IsBounded, FetchHasCause};
+ghost use Rattle.o2_outer.specs.Answers.{Answers, IsBounded, FetchHasCause, CountsFetch};
 ghost use Rattle.o2_outer.specs.Planned.{fails_next, next_call};
-ghost use Rattle.o2_outer.specs.Plans.{mem_files, mem_fetches, mem_fetches_to_fail, sure_files};
+ghost use Rattle.o2_outer.specs.Plans.{mem_files, mem_fetches, mem_fetches_to_fail, mem_fetch_faults, sure_files};
 ghost use Rattle.o2_outer.specs.Contents.{file_in};
 
 use crate::plan::fails_now;
@@ -56,6 +56,7 @@ impl MemFiles {
         ensures files { mem_files result ≡ files.items }
         ensures fails { mem_fetches_to_fail result ≡ fails.items }
         ensures calls { mem_fetches result ≡ 0 }
+        ensures faultless { mem_fetch_faults result ≡ 0 }
     {
         MemFiles {
             files,
@@ -69,14 +70,15 @@ impl MemFiles {
 impl Files for MemFiles {
     ghost told = { λ f. Some (file_in (mem_files f)) };
 
-    ghost faults = { λ f. f.faults };
+    ghost faults = { λ f. mem_fetch_faults f };
 
     fn fetch(&mut self, alloc: Global, name: &Bytes, most: u32) -> Fetch
         ensures answers { Answers (file_in (mem_files self.old)) name.now most result }
         ensures bounded { IsBounded most result }
         ensures files { mem_files self.new ≡ mem_files self.old }
-        ensures count { self.old.faults ≤ self.new.faults }
-        ensures cause { FetchHasCause self.old.faults self.new.faults result }
+        ensures count { mem_fetch_faults self.old ≤ mem_fetch_faults self.new }
+        ensures cause { FetchHasCause (mem_fetch_faults self.old) (mem_fetch_faults self.new) result }
+        ensures counts { CountsFetch (mem_fetch_faults self.old) (mem_fetch_faults self.new) result }
 
         ensures fails { fails_next (mem_fetches self.old) (mem_fetches_to_fail self.old) ≡ true
             → result ≡ Fetch.Failed }

@@ -73,7 +73,7 @@ impl MemSink {
 
 impl Sink for MemSink {
     ghost use Rattle.o2_outer.specs.Texts.{Rose};
-    ghost use Rattle.o2_outer.specs.Answers.{Takes, OnFailed};
+    ghost use Rattle.o2_outer.specs.Answers.{Takes, OnFailed, CountsPut};
     ghost use Rattle.o2_outer.specs.Sinks.{sink_bytes, sink_puts, sink_faults};
     ghost use Rattle.o2_outer.specs.Planned.{next_call};
     ghost use Rattle.o2_outer.specs.Plans.{mem_room, mem_puts, mem_puts_to_fail, put_answer, put_front};
@@ -91,6 +91,7 @@ impl Sink for MemSink {
         ensures puts { sink_puts self.new ≡ sink_puts self.old + 1 }
         ensures count { sink_faults self.old ≤ sink_faults self.new }
         ensures cause { OnFailed result (Rose (sink_faults self.old) (sink_faults self.new)) }
+        ensures counts { CountsPut (sink_faults self.old) (sink_faults self.new) result }
 
         ensures front { sink_bytes self.new ≡ sink_bytes self.old ++ put_front self.old piece.now }
         ensures answer { result ≡ put_answer self.old piece.now }

@@ -52,7 +52,7 @@ impl MemSource {
 }
 
 impl Source for MemSource {
-    ghost use Rattle.o2_outer.specs.Answers.{Gives, TookAtMost, TookHasCause};
+    ghost use Rattle.o2_outer.specs.Answers.{Gives, TookAtMost, TookHasCause, CountsTook};
     ghost use Rattle.o2_outer.specs.Inputs.{Adds};
     ghost use Rattle.o2_outer.specs.Sources.{mem_left, mem_past, mem_faults, past_at};
     ghost use Rattle.o2_outer.specs.Planned.{fails_next, next_call};
@@ -70,6 +70,7 @@ impl Source for MemSource {
         ensures bounded { TookAtMost (length into.old) result }
         ensures count { mem_faults self.old ≤ mem_faults self.new }
         ensures cause { TookHasCause (mem_faults self.old) (mem_faults self.new) result }
+        ensures counts { CountsTook (mem_faults self.old) (mem_faults self.new) result }
 
         ensures fails { fails_next (mem_takes self.old) (mem_takes_to_fail self.old) ≡ true
             → result ≡ Took.Failed }

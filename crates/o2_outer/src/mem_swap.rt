@@ -76,10 +76,10 @@ impl MemSwap {
 }
 
 impl SwapDevice for MemSwap {
-    ghost use Rattle.o2_outer.specs.Answers.{HasCause};
+    ghost use Rattle.o2_outer.specs.Answers.{HasCause, CountsDev};
     ghost use Rattle.o2_outer.specs.Contents.{block_of};
     ghost use Rattle.o2_outer.specs.Planned.{fails_next, next_call};
-    ghost use Rattle.o2_outer.specs.Devices.{mem_blocks, mem_calls, mem_calls_to_fail, mem_failing_write, mem_write_tries, mem_writes, mem_swap_faults, read_fails, write_fails, device_answer, blocks_written};
+    ghost use Rattle.o2_outer.specs.Devices.{mem_blocks, mem_calls, mem_calls_to_fail, mem_failing_write, mem_write_tries, mem_writes, mem_swap_faults, read_fails, write_fails, device_answer, blocks_written, writes_after};
 
     ghost blocks = { λ s. length (mem_blocks s) };
 
@@ -98,6 +98,7 @@ impl SwapDevice for MemSwap {
         ensures same { mem_blocks self.new ≡ mem_blocks self.old }
         ensures read { result ≡ Dev.Done → into.new ≡ block_of (mem_blocks self.old) i }
         ensures cause { HasCause (mem_swap_faults self.old) (mem_swap_faults self.new) result }
+        ensures counts { CountsDev (mem_swap_faults self.old) (mem_swap_faults self.new) result }
 
         ensures answer { result ≡ device_answer (read_fails self.old) }
         ensures calls { mem_calls self.new ≡ next_call (mem_calls self.old) }
@@ -118,12 +119,14 @@ impl SwapDevice for MemSwap {
         requires { i < length (mem_blocks self.old) }
         ensures written { mem_blocks self.new ≡ blocks_written self.old i from.now }
         ensures cause { HasCause (mem_swap_faults self.old) (mem_swap_faults self.new) result }
+        ensures counts { CountsDev (mem_swap_faults self.old) (mem_swap_faults self.new) result }
 
         ensures answer { result ≡ device_answer (write_fails self.old) }
         ensures calls { mem_calls self.new ≡ next_call (mem_calls self.old) }
         ensures tries { mem_write_tries self.new ≡ next_call (mem_write_tries self.old) }
         ensures plan { mem_calls_to_fail self.new ≡ mem_calls_to_fail self.old }
         ensures failing { mem_failing_write self.new ≡ mem_failing_write self.old }
+        ensures writes { mem_writes self.new ≡ writes_after self.old }
     {
         self.tries = self.tries.saturating_add(1);
         let planned = fails_now(&mut self.calls, &self.fails);

@@ -85,6 +85,8 @@ impl<R: Read + Drop> StreamSource<R> {
 
 impl<R: Read + Drop> Source for StreamSource<R> {
     ghost use Rattle.o2_outer.specs.Reads.{left_behind};
+    ghost use Rattle.o2_outer.specs.Answers.{Gives, TookAtMost, TookHasCause, CountsTook};
+    ghost use Rattle.o2_outer.specs.Inputs.{Adds};
     ghost use Rattle.o2_outer.specs.Streams.{source_reader, source_held, source_ended, source_past, source_faults};
 
     ghost left = { λ s. left_behind (source_ended s) (source_held s) (R.remaining (source_reader s)) };
@@ -93,7 +95,15 @@ impl<R: Read + Drop> Source for StreamSource<R> {
 
     ghost faults = { λ s. source_faults s };
 
-    fn take(&mut self, into: &mut [u8]) -> Took {
+    fn take(&mut self, into: &mut [u8]) -> Took
+        ensures takes { Gives (left_behind (source_ended self.old) (source_held self.old) (R.remaining (source_reader self.old)))
+            (left_behind (source_ended self.new) (source_held self.new) (R.remaining (source_reader self.new))) into.new result }
+        ensures adds { Adds (source_past self.old) (source_past self.new) into.new result }
+        ensures bounded { TookAtMost (length into.old) result }
+        ensures count { source_faults self.old ≤ source_faults self.new }
+        ensures cause { TookHasCause (source_faults self.old) (source_faults self.new) result }
+        ensures counts { CountsTook (source_faults self.old) (source_faults self.new) result }
+    {
         if into.len() > ROOM || !self.hold(into.len()) {
             self.faults = self.faults.saturating_add(1);
             return Took::Failed;

@@ -78,7 +78,7 @@ impl<W: Write + Drop> StreamSink<W> {
 impl<W: Write + Drop> Sink for StreamSink<W> {
     ghost use Rattle.std.specs.Prelude.{◌+◌, Some, refl};
     ghost use Rattle.o2_outer.specs.Texts.{Rose};
-    ghost use Rattle.o2_outer.specs.Answers.{OnFailed};
+    ghost use Rattle.o2_outer.specs.Answers.{OnFailed, CountsPut};
     ghost use Rattle.o2_outer.specs.Streams.{sink_stream, stream_taken, stream_puts, stream_faults, Sends};
 
     ghost taken = { λ s. Some (stream_taken s) };
@@ -96,6 +96,7 @@ impl<W: Write + Drop> Sink for StreamSink<W> {
         ensures puts { stream_puts self.new ≡ stream_puts self.old + 1 }
         ensures count { stream_faults self.old ≤ stream_faults self.new }
         ensures cause { OnFailed result (Rose (stream_faults self.old) (stream_faults self.new)) }
+        ensures counts { CountsPut (stream_faults self.old) (stream_faults self.new) result }
     {
         let written = write_on(&mut self.stream, piece);
         self.log.note(&piece[..written]);

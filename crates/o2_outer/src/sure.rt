@@ -52,12 +52,13 @@ pub struct SureSwap {
 }
 
 impl SureSwap {
-    ghost use Rattle.o2_outer.specs.Devices.{swap_blocks};
+    ghost use Rattle.o2_outer.specs.Devices.{swap_blocks, swap_contents};
 
     /// A device of so many blocks of zeros.
     pub fn new(alloc: Global, blocks: u32) -> Result<SureSwap, NoMemory>
         requires { blocks ≤ 65536 }
-        ensures { IfOk result (λ s. swap_blocks s ≡ blocks) }
+        ensures blocks { IfOk result (λ s. swap_blocks s ≡ blocks) }
+        ensures zeros { IfOk result (λ s. swap_contents s ≡ replicate blocks (replicate 512 0)) }
     {
         let blocks = zero_blocks(alloc, blocks)?;
         Ok(SureSwap { blocks })

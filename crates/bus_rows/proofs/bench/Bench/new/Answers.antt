@@ -3,5 +3,5 @@ use Rattle.bus_rows.proofs.bench.Bench.new.Goals as goal
 
 pub returns : goal.returns
 returns c =
-    begun c.in_ok-store.store c.in_ok-regions.regions c.args.blocks _ c.in_ok-store.ensures.empty c.in_ok-store.ensures.map c.in_ok-swap.ensures
+    begun c.in_ok-store.store c.in_ok-regions.regions c.args.blocks _ c.in_ok-store.ensures.empty c.in_ok-store.ensures.map c.in_ok-swap.ensures.blocks
     c.in_ok-regions.ensures.nothing c.in_ok-regions.ensures.processes c.in_ok-regions.ensures.unheld
