@@ -10,3 +10,4 @@ pub mod Rising
 pub mod EntryTable
 pub mod EntryPlaces
 pub mod EntryViews
+pub mod EntrySlots

@@ -1,12 +1,12 @@
-ghost use Rattle.std.specs.Prelude.{◌≡◌, ◌+◌, ◌*◌, ◌≤◌, ◌<◌, ◌^◌, length, List, Option, option_map, find, ◌==◌, nat_lt, true, false, slice_get, IfOk};
+ghost use Rattle.std.specs.Prelude.{◌≡◌, ◌+◌, ◌*◌, ◌≤◌, ◌<◌, ◌^◌, length, List, Option, option_map, find, ◌==◌, slice_get, IfOk};
 ghost use Rattle.o2_ne.specs.Steps.{Gives, steps};
 ghost use Rattle.o2_ne.specs.Rising.{IsRising};
 ghost use Rattle.o2_ne.specs.EntryPlaces.{BundlesStand};
 ghost use Rattle.o2_ne.specs.EntryTable.{Table, bundle, entry_step, entries_of, is_segment, table_step, target_of};
-ghost use Rattle.std.specs.List.Sorted.{IsNonDecreasingBy, IsPartitionPoint};
 
 use crate::bytes::{need, u16_at};
 use crate::head::Head;
+use crate::slots::{slot_at, slots_of};
 use o2_base::{Fail, NeFault, Which};
 use std::alloc::Global;
 use std::marker::Model;
@@ -170,14 +170,6 @@ impl Reading {
     }
 }
 
-// How many entries have a lower ordinal.
-fn place_of(found: &[Entry], ordinal: u32) -> usize
-    requires { IsNonDecreasingBy (λ e. e.ordinal) found.now }
-    ensures { IsPartitionPoint (λ e. nat_lt e.ordinal ordinal ≡ true) (λ e. nat_lt e.ordinal ordinal ≡ false) found.now result }
-{
-    found.partition_point(|e| e.ordinal < ordinal)
-}
-
 // The entry at an index.
 fn entry_at(found: &[Entry], at: usize) -> Option<Entry>
     ensures { result ≡ slice_get found.now at }
@@ -185,22 +177,27 @@ fn entry_at(found: &[Entry], at: usize) -> Option<Entry>
     found.get(at).copied()
 }
 
-/// The defined ordinals of a file.
+// How many ordinals a file can name.
+const ORDINALS: usize = 65536;
+
+/// The defined ordinals of a file, with a slot for each that it can name.
 #[derive(Drop)]
 pub struct Entries {
     found: Vec<Entry>,
+    slots: Vec<u32>,
 }
 
 impl Model for Entries {
     ghost use Rattle.std.specs.Prelude.{List};
     ghost use Rattle.o2_ne.specs.declared.entries.Entry.{Entry};
+    ghost use Rattle.o2_ne.specs.EntrySlots.{AreSlots, named_ordinals};
     ghost use Rattle.o2_ne.specs.Rising.{AreEntries};
 
     ghost Value = { List Entry };
 
     ghost view = { λ a. a.found.items };
 
-    ghost invariant = { λ a. AreEntries a.found.items };
+    ghost invariant = { λ a. AreEntries a.found.items × AreSlots named_ordinals a.found.items a.slots.items };
 }
 
 impl Entries {
@@ -222,22 +219,22 @@ impl Entries {
         };
         reading.bundles(file, head.segments, head.entries_len, end)?;
         let Reading { found, .. } = reading;
-        Ok(Entries { found })
+        let slots = slots_of(alloc, found.as_slice(), ORDINALS)?;
+        Ok(Entries { found, slots })
     }
 
     /// Where an ordinal leads, as a segment and an offset. None exactly where it isn't defined.
     pub fn get(&self, ordinal: u16) -> Option<(u8, u16)>
         ensures { result ≡ target_of ordinal self.now }
     {
-        let found = self.found.as_slice();
-        let wanted = u32::from(ordinal);
-        let Some(entry) = entry_at(found, place_of(found, wanted)) else {
-            return None;
-        };
-        if entry.ordinal != wanted {
+        let slot = slot_at(self.slots.as_slice(), ordinal);
+        if slot == 0 {
             return None;
         }
-        Some((entry.segment, entry.offset))
+        match entry_at(self.found.as_slice(), slot as usize - 1) {
+            Some(entry) => Some((entry.segment, entry.offset)),
+            None => unreachable!(),
+        }
     }
 
     /// How many ordinals are defined.

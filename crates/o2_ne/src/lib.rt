@@ -7,6 +7,7 @@ mod folded;
 mod head;
 mod names;
 mod order;
+mod slots;
 mod sorting;
 mod table;
 mod walking;

@@ -64,10 +64,10 @@ fn is_before(file: &[u8], at: u32, name: &[u8]) -> bool
 }
 
 /// The places in the order of their folded texts. The sort by whole texts finds its work done.
-pub(crate) fn index_of(alloc: Global, file: &[u8], places: &[u32]) -> Result<Vec<u32>, NoMemory>
-    requires { length places.now ≤ 4194304 }
-    ensures index { IfOk result (λ v. IsIndex file.now places.now v.items) }
-    ensures many { IfOk result (λ v. length v.items ≡ length places.now) }
+pub(crate) fn index_of(alloc: Global, file: &[u8], places: Vec<u32>) -> Result<Vec<u32>, NoMemory>
+    requires { length places.items ≤ 4194304 }
+    ensures index { IfOk result (λ v. IsIndex file.now places.items v.items) }
+    ensures many { IfOk result (λ v. length v.items ≡ length places.items) }
 {
     let mut order = sorted(alloc, file, places)?;
     order.sort_unstable_by(|a, b| by_name(file, *a, *b));

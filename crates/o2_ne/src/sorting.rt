@@ -98,13 +98,13 @@ fn sorted_by(alloc: Global, file: &[u8], places: &[u32], by: By) -> Result<Vec<u
     Ok(found)
 }
 
-// Sorts the places from an index on by a part of their texts.
+// Sorts the places from an index on, where they lie.
 fn sort_behind(
     alloc: Global,
     file: &[u8],
     places: &mut Vec<u32>,
     from: usize,
-    n: u8,
+    by: By,
 ) -> Result<(), NoMemory>
     requires few { length places.old.items ≤ 4194304 }
     requires from { from ≤ length places.old.items }
@@ -112,25 +112,28 @@ fn sort_behind(
     ensures many { OnOk result (length places.new.items ≡ length places.old.items) }
 {
     let (_, rest) = places.as_slice().split_at(from);
-    let mut behind = sorted_by(alloc, file, rest, By::Part(n))?;
+    let mut behind = sorted_by(alloc, file, rest, by)?;
     places.truncate(from);
     places.append(&mut behind)?;
     Ok(())
 }
 
 /// The places in the order of their texts, with ASCII letters folded: by the last part that any text has, then by the one before it, and
-/// so on. Those whose texts have the part stand behind the others.
-pub(crate) fn sorted(alloc: Global, file: &[u8], places: &[u32]) -> Result<Vec<u32>, NoMemory>
-    requires { length places.now ≤ 4194304 }
-    ensures those { IfOk result (λ v. AreThose places.now v.items) }
-    ensures many { IfOk result (λ v. length v.items ≡ length places.now) }
+/// so on. Those whose texts have the part stand behind the others. The places stay where they lie in memory: what else the sort takes
+/// is given back.
+pub(crate) fn sorted(alloc: Global, file: &[u8], places: Vec<u32>) -> Result<Vec<u32>, NoMemory>
+    requires { length places.items ≤ 4194304 }
+    ensures those { IfOk result (λ v. AreThose places.items v.items) }
+    ensures many { IfOk result (λ v. length v.items ≡ length places.items) }
 {
-    let mut order = sorted_by(alloc, file, places, By::Count)?;
+    let mut order = places;
+    order.shrink_to_fit();
+    sort_behind(alloc, file, &mut order, 0, By::Count)?;
     for k in 0..64u8 {
         let n = 63 - k;
         let from = order.partition_point(|at| count_at(file, *at) <= n);
         if from < order.len() {
-            sort_behind(alloc, file, &mut order, from, n)?;
+            sort_behind(alloc, file, &mut order, from, By::Part(n))?;
         }
     }
     Ok(order)

@@ -7,7 +7,7 @@ ghost use Rattle.o2_ne.specs.Steps.{Gives};
 
 use crate::names::is_same_name;
 use crate::order::{first_of, index_of, ordinal_at, place_at, text_at};
-use crate::walking::walk_on;
+use crate::walking::{Walking, walk_on};
 use o2_base::{Fail, NeFault};
 use std::alloc::Global;
 
@@ -29,7 +29,8 @@ impl Table {
         ensures stand { IfOk result (λ t. NamesStand file.now at (names_of file.now t)) }
     {
         let walking = walk_on(alloc, file, at)?;
-        let order = index_of(alloc, file, walking.places.as_slice())?;
+        let Walking { places, .. } = walking;
+        let order = index_of(alloc, file, places)?;
         Ok(Table { at, order })
     }
 

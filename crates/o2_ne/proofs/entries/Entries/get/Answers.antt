@@ -1,16 +1,23 @@
-use Rattle.std.proofs.Common.{sym}
-use Rattle.o2_ne.proofs.Lookup.{here, other, past}
+use Rattle.std.proofs.Common.{ap, arith, sym, ◌∙◌, ◌-◌, ℕ}
+use Rattle.o2_ne.specs.declared.entries.Entry.{Entry}
+use Rattle.o2_ne.specs.EntrySlots.{named_ordinals}
+use Rattle.o2_ne.proofs.SlotSteps.{defined, not_lost, undefined}
 use Rattle.o2_ne.proofs.entries.Entries.get.Goals as goal
+
+pub returns-then-slot-eq0 : goal.returns-then-slot-eq0
+returns-then-slot-eq0 c =
+    let slot = rw c.as_slice.ensures.value at c.slot_at-slot.ensures in
+    rw (← c.self.view_is) (sym (undefined named_ordinals _ _ c.args.ordinal c.self.invariant.1 (omega arith) (sym slot ∙ c.if-slot-eq0.true)))
 
 pub returns : goal.returns
 returns c =
-    rw (← c.self.view_is, ← c.as_slice-found.ensures.value, ← c.from-wanted.ensures) (sym (here _ _ _ c.in-Some.entry c.place_of.ensures (sym c.in-Some.ensures) c.if-entry-wanted.false))
+    let slot = rw c.as_slice.ensures.value at c.slot_at-slot.ensures in
+    let at = rw (c.as_slice-2.ensures.value, slot) at c.in-Some.ensures in
+    rw (← c.self.view_is)
+    (sym (defined named_ordinals _ _ c.args.ordinal c.in-Some.entry c.self.invariant.1 (omega arith) (λ e. c.if-slot-eq0.false (slot ∙ e)) (sym at)))
 
-pub returns-then-entry-wanted : goal.returns-then-entry-wanted
-returns-then-entry-wanted c =
-    rw (← c.self.view_is, ← c.as_slice-found.ensures.value, ← c.from-wanted.ensures)
-    (sym (other _ _ _ c.in-Some.entry (rw c.as_slice-found.ensures.value c.self.invariant.rising) c.place_of.ensures (sym c.in-Some.ensures) c.if-entry-wanted.true))
-
-pub returns-in_default : goal.returns-in_default
-returns-in_default c =
-    rw (← c.self.view_is, ← c.as_slice-found.ensures.value, ← c.from-wanted.ensures) (sym (past _ _ _ c.place_of.ensures (sym c.in_default.ensures)))
+pub unreachable-requires : goal.unreachable-requires
+unreachable-requires c =
+    let slot = rw c.as_slice.ensures.value at c.slot_at-slot.ensures in
+    let at = rw (c.as_slice-2.ensures.value, slot) at c.in-None.ensures in
+    not_lost named_ordinals _ _ c.args.ordinal c.self.invariant.1 (omega arith) (λ e. c.if-slot-eq0.false (slot ∙ e)) (sym at)

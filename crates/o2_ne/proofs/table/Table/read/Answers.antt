@@ -12,7 +12,7 @@ pub returns-clause-exact : goal.returns-clause-exact
 unfolding names_at
 returns-clause-exact c =
     let places : places_from c.args.file.now c.args.at (length c.in_ok-order.order.items) ≡ c.in_ok-walking.walking.places.items =
-    ap (λ n. places_from c.args.file.now c.args.at n) (c.in_ok-order.ensures.many ∙ ap length c.as_slice.ensures.value)
+    ap (λ n. places_from c.args.file.now c.args.at n) c.in_ok-order.ensures.many
     ∙ walked_from c.args.file.now _ c.args.at _ (c.in_ok-walking.ensures.walks) in
     let read : List ℕ → Result (List Name) NeFault = λ ps. Ok (names_in c.args.file.now ps) in
     rw c.in_ok-walking.ensures.exact (ap read (sym places))
@@ -20,14 +20,14 @@ returns-clause-exact c =
 pub returns-clause-index : goal.returns-clause-index
 returns-clause-index c =
     let places : places_from c.args.file.now c.args.at (length c.in_ok-order.order.items) ≡ c.in_ok-walking.walking.places.items =
-    ap (λ n. places_from c.args.file.now c.args.at n) (c.in_ok-order.ensures.many ∙ ap length c.as_slice.ensures.value)
+    ap (λ n. places_from c.args.file.now c.args.at n) c.in_ok-order.ensures.many
     ∙ walked_from c.args.file.now _ c.args.at _ (c.in_ok-walking.ensures.walks) in
-    subst (λ ps. IsIndex c.args.file.now ps c.in_ok-order.order.items) (c.as_slice.ensures.value ∙ sym places) c.in_ok-order.ensures.index
+    subst (λ ps. IsIndex c.args.file.now ps c.in_ok-order.order.items) (sym places) c.in_ok-order.ensures.index
 
 pub returns-clause-stand : goal.returns-clause-stand
 returns-clause-stand c =
     let places : places_from c.args.file.now c.args.at (length c.in_ok-order.order.items) ≡ c.in_ok-walking.walking.places.items =
-    ap (λ n. places_from c.args.file.now c.args.at n) (c.in_ok-order.ensures.many ∙ ap length c.as_slice.ensures.value)
+    ap (λ n. places_from c.args.file.now c.args.at n) c.in_ok-order.ensures.many
     ∙ walked_from c.args.file.now _ c.args.at _ (c.in_ok-walking.ensures.walks) in
     subst (λ ps. NamesStand c.args.file.now c.args.at (names_in c.args.file.now ps)) (sym places)
     (names_stand _ _ _ c.requires.some c.in_ok-walking.ensures.exact)
