@@ -13,6 +13,8 @@ KIND is one of
   astride    SIZE segments, the bytes and the records of each 16 bytes behind those of the one before it in the file, so that
              they meet and no two have the same: some 59,000 imports by name each
   apart      the same segments, each before those that lie before it in the file
+  lost       the same again, with one record that leads nowhere: the first in the file, which the last segment alone has
+  entries    SIZE such segments, of which each record leads to one of 21,000 entries of the library itself
   fixups     56 segments whose records, all of them system fixups, lie at each place of the file but every eighth: the most records
              that a file can have
   program    a program of SIZE segments that share 65,535 records, each to the program itself
@@ -43,20 +45,28 @@ def table(own, names):
     return b"".join(rows) + b"\0"
 
 
-def build(own, names, imported, records, segments, twice=False, program=False, step=0, falling=False):
-    """A library, or a program whose last segment is its stack: one entry at ordinal 1, `segments` segments with the same records,
+def bundles(count, last):
+    """An entry table: ordinals 1 to `count`, a multiple of 255, and the ordinal `last`, all of segment 1."""
+    dense = b"".join(b"\xff\1" + b"\1\0\0" * 255 for _ in range(count // 255))
+    skipped = last - 1 - count
+    return dense + b"\xff\0" * (skipped // 255) + bytes([skipped % 255, 0]) + b"\1\1\1\0\0\0"
+
+
+def build(own, names, imported, records, segments, twice=False, program=False, step=0, falling=False, entries=bytes([1, 1, 1, 0, 0, 0])):
+    """A library, or a program whose last segment is its stack: with these entries, `segments` segments with the same records,
     or each with those `step` units of 16 bytes behind the one before it, or before it where they are falling, and a reference to
     the first imported name."""
     at = 64
     parts = b""
     places = {}
-    for name, content in (
-        ("segments", b"\0" * (8 * segments)),
+    tables = (
         ("references", struct.pack("<H", 0)),
-        ("entries", bytes([1, 1, 1, 0, 0, 0])),
+        ("entries", entries),
         ("imported", b"".join(counted(text) for text in imported)),
         ("resident", table(own, names)),
-    ):
+    )
+    # the longest last, since each begins at most 65,535 bytes behind the header
+    for name, content in (("segments", b"\0" * (8 * segments)), *sorted(tables, key=lambda part: len(part[1]))):
         places[name] = at + len(parts)
         parts += content
     end = NE + at + len(parts)
@@ -69,7 +79,7 @@ def build(own, names, imported, records, segments, twice=False, program=False, s
     header = bytearray(64)
     header[0:2] = b"NE"
     words = {
-        4: places["entries"], 6: 6, 12: 0 if program else 0x8000, 28: segments, 30: 1, 34: places["segments"],
+        4: places["entries"], 6: len(entries), 12: 0 if program else 0x8000, 28: segments, 30: 1, 34: places["segments"],
         38: places["resident"], 40: places["references"], 42: places["imported"], 50: shift,
     }
     if program:
@@ -147,20 +157,29 @@ def make(kind, size, number):
         return build(own, [], [own], [record(1, place, 1) for place in range(65535)], size)
     if kind == "fixups":
         return fixups(own)
-    names = [three(n) for n in range(14_800 if kind in ("astride", "apart") else 8000)]
+    if kind == "entries":
+        count, dense, some = 65_000, 21_165, random.Random(24)
+        ordinals = [some.randrange(1, dense + 1) for _ in range(count + 2 * (size - 1))]
+        records = [struct.pack("<BBHHH", 0, 0, n % 65536, 255, ordinal) for n, ordinal in enumerate(ordinals)]
+        return build(own, [], [own], records, size, step=1, entries=bundles(dense, count))
+    meet = kind in ("astride", "apart", "lost")
+    names = [three(n) for n in range(14_800 if meet else 8000)]
     random.Random(24).shuffle(names)
     starts = [1 + len(own) + 4 * k for k in range(len(names))]
-    if kind in ("astride", "apart"):
+    if meet:
         count = starts[-1]
-        records = [record(2, n % 65536, starts[n % len(starts)]) for n in range(count + 2 * (size - 1))]
-        return build(own, names, [own] + names, records, size, step=1, falling=kind == "apart")
+        used = starts[1:] if kind == "lost" else starts
+        records = [record(2, n % 65536, used[n % len(used)]) for n in range(count + 2 * (size - 1))]
+        if kind == "lost":
+            records[0] = record(2, 0, starts[0])
+        return build(own, names[1:] if kind == "lost" else names, [own] + names, records, size, step=1, falling=kind != "astride")
     records = [record(2, place, starts[place % len(starts)]) for place in range(65535)]
     return build(own, names, [own] + names, records, size)
 
 
 DEFAULT = {
     "names": 590_000, "twice": 1_000_000, "twin": 1_000_000, "fronts": 270_000, "ordinals": 254, "shared": 254, "astride": 254,
-    "apart": 254, "fixups": 56, "program": 254,
+    "apart": 254, "lost": 254, "entries": 254, "fixups": 56, "program": 254,
 }
 
 
