@@ -1,5 +1,5 @@
 // Bytes in hexadecimal digits.
-ghost use Rattle.std.specs.Prelude.{◌≡◌, ◌+◌, ◌*◌, ◌≤◌, Some, length};
+ghost use Rattle.std.specs.Prelude.{◌≡◌, ◌-◌, ◌*◌, ◌≤◌, Some, min, replicate};
 ghost use Rattle.std.specs.Fmt.{WritesOnOk};
 ghost use Rattle.o2_tool.specs.Text.{pair_text, hex_text};
 
@@ -29,13 +29,20 @@ impl fmt::Display for Hex<'_> {
     }
 }
 
-/// The blanks of ten bytes' digits.
-const BLANKS: &[u8] = b"                    ";
+/// A text of 32 blanks.
+const BLANKS: &[u8] = b"                                ";
+
+/// This many blanks.
+pub fn blanks(count: usize) -> Shown<'static>
+    requires { count ≤ 32 }
+    ensures { result.0.now ≡ replicate count 32 }
+{
+    Shown(&BLANKS[..count])
+}
 
 /// What fills a column of ten bytes' digits behind those of this many.
 pub fn filling(count: usize) -> Shown<'static>
-    ensures { count ≤ 10 → 2 * count + length result.0.now ≡ 20 }
+    ensures { result.0.now ≡ replicate (20 - 2 * min count 10) 32 }
 {
-    let rest = 20 - 2 * count.min(10);
-    Shown(&BLANKS[..rest])
+    blanks(20 - 2 * count.min(10))
 }

@@ -9,6 +9,6 @@ mod shown;
 
 pub use arguments::{answered, file_name, words};
 pub use end::{FAILED, MISUSED, REFUSED, ended};
-pub use hex::{Hex, filling};
+pub use hex::{Hex, blanks, filling};
 pub use lines::print_lines;
 pub use shown::Shown;

@@ -4,6 +4,7 @@
 
 mod code;
 mod command;
+mod lines;
 mod names;
 mod relocations;
 mod tables;
