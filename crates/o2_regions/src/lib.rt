@@ -17,6 +17,3 @@ pub use ends::{Ends, MOST_PROCESSES};
 pub use held::{Cause, Held, Region};
 pub use laws::{drops_are_exact, grants_are_exact, reservations_are_exact};
 pub use regions::{Regions, Used};
-
-#[cfg(test)]
-mod tests;
