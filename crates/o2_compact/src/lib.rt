@@ -178,6 +178,3 @@ fn lift(phys: &mut Phys, places: &mut Places, k: u32, growth: u32)
     let was = places.range_at(k);
     move_range(phys, places, k, was.at + growth);
 }
-
-#[cfg(test)]
-mod tests;

@@ -11,9 +11,6 @@ use o2_base::NoMemory;
 use std::alloc::Global;
 use std::marker::Model;
 
-#[cfg(test)]
-mod tests;
-
 /// The physical memory. Contracts see it as the list of its bytes, by rising address.
 #[derive(Debug, Drop)]
 pub struct Phys {

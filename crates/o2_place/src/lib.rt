@@ -11,6 +11,3 @@ pub use clock::{Clock, Mark};
 pub use places::Places;
 pub use ranges::Range;
 pub use seg_id::SegId;
-
-#[cfg(test)]
-mod tests;

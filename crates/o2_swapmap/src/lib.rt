@@ -6,6 +6,3 @@ mod piles;
 mod swap_map;
 
 pub use swap_map::SwapMap;
-
-#[cfg(test)]
-mod tests;

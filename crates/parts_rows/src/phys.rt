@@ -1,6 +1,6 @@
 ghost use Rattle.std.specs.Prelude.{◌≡◌};
 
-use crate::Phys;
+use o2_phys::Phys;
 use std::test::Fail;
 
 #[test]
