@@ -14,6 +14,3 @@ pub use need::Need;
 pub use o2_segbus::SegBus;
 pub use serving::{Served, serve};
 pub use settling::{settle, settle_one};
-
-#[cfg(test)]
-mod tests;

@@ -3,7 +3,7 @@ use Rattle.o2_entries.specs.declared.Attr.{Attr}
 use Rattle.o2_entries.specs.Tables.{slot_at}
 use Rattle.o2_store.specs.Shelf.{entry_of}
 use Rattle.o2_store.proofs.Ready.{ready_put, attr_by, size_by}
-use Rattle.o2_service.proofs.tests.mark.Goals as goal
+use Rattle.service_rows.proofs.service.mark.Goals as goal
 
 pub returns : goal.returns
 returns g c =
