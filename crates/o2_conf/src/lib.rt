@@ -36,6 +36,3 @@ pub use lists::{Ordinals, Processes, Script, Texts};
 pub use o2_base::{Key, MachineFault};
 pub use process::Process;
 pub use script::Word;
-
-#[cfg(test)]
-mod tests;

@@ -5,6 +5,3 @@ mod place;
 mod sched;
 
 pub use sched::{Pick, Sched};
-
-#[cfg(test)]
-mod tests;
