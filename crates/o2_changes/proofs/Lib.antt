@@ -14,3 +14,4 @@ pub mod MakesStand
 pub mod MovesMatch
 pub mod Named
 pub mod SizesMatch
+pub mod Losing

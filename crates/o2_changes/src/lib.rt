@@ -3,8 +3,10 @@
 
 mod dropping;
 mod holding;
+mod laws;
 mod segments;
 
 pub use dropping::{drop_hold, free_index, is_shared_held, is_unheld, let_go, sweep};
 pub use holding::{hold_more, hold_new, region_of};
+pub use laws::a_tidy_world_may_lose_a_hold;
 pub use segments::{bring_in, make, resize, set_lock, unmake};

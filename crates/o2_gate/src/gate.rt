@@ -7,7 +7,7 @@ ghost use Rattle.o2_isa.specs.Pointers.{KeepsAllButBytes};
 ghost use Rattle.o2_isa.specs.Presence.{SameSelectors};
 ghost use Rattle.o2_gate.specs.Writes.{WritesHeld};
 ghost use Rattle.o2_world.specs.Known.{Known};
-ghost use Rattle.o2_world.specs.Calls.{serviced, row_of as number_row};
+ghost use Rattle.o2_world.specs.Calls.{serviced, row_of as number_row, IsPlain};
 ghost use Rattle.o2_gate.specs.Befores.{boundless, before_call, IsKnown};
 ghost use Rattle.o2_gate.specs.Called.{Does, OnMissed};
 ghost use Rattle.o2_gate.specs.Pointed.{IsAway};
@@ -34,6 +34,7 @@ fn row_of(service: u16) -> Option<Row>
     ensures row { result ≡ number_row service }
     ensures read { result ≡ Some Row.DosRead → service ≡ 3 }
     ensures write { result ≡ Some Row.DosWrite → service ≡ 4 }
+    ensures plain { IsPlain result }
 {
     match service {
         1 => Some(Row::DosExit),
@@ -112,5 +113,6 @@ pub fn call<B: Ranges, I: Source, C: Sink, R: Sink>(
         }
         Some(Row::DosWrite) => dos_write(pid, next, cpu, bus, line, console, report),
         Some(Row::DosMemAvail) => dos_mem_avail(pid, next, state.avail, cpu, bus, line, report),
+        Some(Row::OnSegments(_)) => unreachable!(),
     }
 }

@@ -10,7 +10,9 @@ use Rattle.o2_isa.specs.declared.cpu.Stop.{Stop}
 use Rattle.o2_isa.specs.declared.cpu.Stop.TheVariants as stop
 use Rattle.o2_conf.specs.Dispatch.{Dispatch}
 use Rattle.o2_world.specs.declared.types.Row.{Row}
-use Rattle.o2_world.specs.declared.types.Row.TheVariants.{DosExit, DosGetPid, DosRead, DosWrite, DosMemAvail}
+use Rattle.o2_world.specs.declared.types.Row.TheVariants.{DosExit, DosGetPid, DosRead, DosWrite, DosMemAvail, OnSegments}
+use Rattle.o2_world.specs.declared.types.SegmentCall.{SegmentCall}
+use Rattle.o2_world.specs.declared.types.SegmentCall.TheVariants.{DosAllocSeg, DosReallocSeg, DosFreeSeg, DosSizeSeg, DosLockSeg, DosUnlockSeg, DosCreateCsAlias}
 use Rattle.o2_world.specs.Map.{Map, get}
 use Rattle.o2_world.specs.World.{World, Setting, Process, Segment, is_live}
 use Rattle.o2_world.specs.Holders.{process_at}
@@ -48,12 +50,22 @@ pub record Pointer : Type 0 where
 abbrev pub pointer_at : (ℕ → ℕ) → (place count : ℕ) → (ℕ → Bool) → Pointer
 pointer_at a place count good = record { selector = a (place + 1); offset = a place; count = count; good = good }
 
+abbrev pub segment_pointers : SegmentCall → (ℕ → ℕ) → List Pointer
+segment_pointers DosAllocSeg a = pointer_at a 1 2 is_writable ∷ []
+segment_pointers DosReallocSeg a = []
+segment_pointers DosFreeSeg a = []
+segment_pointers DosSizeSeg a = pointer_at a 0 4 is_writable ∷ []
+segment_pointers DosLockSeg a = []
+segment_pointers DosUnlockSeg a = []
+segment_pointers DosCreateCsAlias a = pointer_at a 0 2 is_writable ∷ []
+
 abbrev pub pointers_of : Row → (ℕ → ℕ) → List Pointer
 pointers_of DosExit a = []
 pointers_of DosGetPid a = pointer_at a 0 6 is_writable ∷ []
 pointers_of DosRead a = pointer_at a 3 (a 2) is_writable ∷ pointer_at a 0 2 is_writable ∷ []
 pointers_of DosWrite a = pointer_at a 3 (a 2) is_readable ∷ pointer_at a 0 2 is_writable ∷ []
 pointers_of DosMemAvail a = pointer_at a 0 4 is_writable ∷ []
+pointers_of (OnSegments call) a = segment_pointers call a
 
 -- a selector that passes counts even where the range behind it is refused, and nothing behind a refused pointer does; a range
 -- of no bytes is not looked at
@@ -70,12 +82,22 @@ pointed v (p ∷ ps) =
     if p.count == 0 then pointed v ps else passed v (bound_in v.held p.selector) p (pointed v ps)
 
 -- the words of a call's arguments must lie in the stack before a pointer is looked at
+abbrev pub segment_words : SegmentCall → ℕ
+segment_words DosAllocSeg = 4
+segment_words DosReallocSeg = 2
+segment_words DosFreeSeg = 1
+segment_words DosSizeSeg = 3
+segment_words DosLockSeg = 1
+segment_words DosUnlockSeg = 1
+segment_words DosCreateCsAlias = 3
+
 abbrev pub words_of : Row → ℕ
 words_of DosRead = 6
 words_of DosWrite = 6
 words_of DosExit = 2
 words_of DosGetPid = 2
 words_of DosMemAvail = 2
+words_of (OnSegments call) = segment_words call
 
 abbrev pub call_names : Before → Option Row → List ℕ
 call_names b None = []

@@ -1,5 +1,5 @@
 -- What the row of a new size comes to.
-use Rattle.std.proofs.Common.{◌≡◌, ℕ, ◌/◌, ◌&&◌, ◌||◌, ◌==◌, Some, None, Bool, true, false, nat_lt, not, option_map, List, [], ◌∷◌, sym, ap, ◌∙◌, subst}
+use Rattle.std.proofs.Common.{◌≡◌, ℕ, ◌<◌, ◌/◌, ◌%◌, ◌&&◌, ◌||◌, ◌==◌, Some, None, Bool, true, false, nat_lt, not, option_map, List, [], ◌∷◌, sym, ap, ◌∙◌, subst, arith, if◌then◌else◌}
 use Rattle.std.proofs.lemmas.Bool.{cond-true, cond-false}
 use Rattle.o2_regions.specs.declared.answer.Roomed.{Roomed}
 use Rattle.o2_regions.specs.declared.held.Held.{Held as HeldThere}
@@ -68,3 +68,18 @@ unfolding with_changes
 refusal_moved p s m block w r error es em eb e q =
     subst (λ (x : Ruling). Matches (moved p s m block) (with_all w x.changes)) (sym e)
     (subst (λ (x : Shelf). Matches (moved p x m block) w) es (subst (λ (x : Maps). Matches (moved p p.shelf x block) w) em (subst (λ (x : ℕ → List ℕ). Matches (moved p p.shelf p.maps x) w) eb q)))
+
+-- A size as a word.
+
+zero_is : (n : ℕ) → (n == 0) ≡ true → n ≡ 0
+zero_is n e = grind arith
+
+same_word : (n : ℕ) → n < 65536 → n % 65536 ≡ n
+same_word n low = omega (arith, low)
+
+pub full_zero : (n : ℕ) → (n == 0) ≡ true → 65536 ≡ full_size n
+full_zero n e = ap full_size (sym (zero_is n e))
+
+pub full_some : (n : ℕ) → n < 65536 → (n == 0) ≡ false → n ≡ full_size n
+full_some n low e =
+    sym (ap (λ (k : ℕ). if k == 0 then 65536 else k) (same_word n low) ∙ ap (λ (b : Bool). if b then 65536 else n) e)

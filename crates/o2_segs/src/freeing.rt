@@ -41,7 +41,8 @@ pub fn free_seg(
         → cpu.new ≡ freeing_cpu (known_in p o) pid sel cpu.old }
     ensures order { IsInOrder store.new regions.new }
     ensures matches { (p : Parts) (o : Others) (w : World) (x : Process) → p.shelf ≡ store.old
-        → p.maps ≡ regions.old → process_at w.processes pid ≡ Some x → LosesOne w pid (sel / 8)
+        → p.maps ≡ regions.old → process_at w.processes pid ≡ Some x
+        → ((freeing (known_in p o) pid sel cpu.old).error ≡ 0 → LosesOne w pid (sel / 8))
         → Matches p w → Matches (record p { shelf = store.new; maps = regions.new })
         (with_all w (freeing (known_in p o) pid sel cpu.old).changes) }
 {

@@ -26,6 +26,7 @@ use o2_regions::{Cause, Held, Regions, Roomed};
 use o2_store::Store;
 
 /// The size in bytes that a call is given as a word, where 0 is 65,536.
+#[tactic(auto, using(crate::proofs::Resizing::full_zero, crate::proofs::Resizing::full_some))]
 pub(crate) fn full_size(size: u16) -> u32
     ensures size { result ≡ full_size size }
     ensures some { 0 < result }

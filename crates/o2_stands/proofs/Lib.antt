@@ -9,3 +9,6 @@ pub mod Knowing
 pub mod Once
 pub mod Tidying
 pub mod Matching
+pub mod Ruled
+pub mod TidySteps
+pub mod Alike

@@ -172,7 +172,7 @@ moved_ready p t m after ready w only clean settled held all = record {
 rights_by : (a b : ℕ) → unmarked a ≡ unmarked b → rights_of a ≡ rights_of b
 rights_by a b e = omega arith
 
-step_same : (p : Parts) (t : Shelf) (m : Maps) → KeepsStore p.shelf t → KeepsMaps p.maps m → SameFor p (stepped_to p t m)
+pub step_same : (p : Parts) (t : Shelf) (m : Maps) → KeepsStore p.shelf t → KeepsMaps p.maps m → SameFor p (stepped_to p t m)
 unfolding key_of
 step_same p t m f g = record {
   keys = λ n. ap (λ (z : Shelf). key_of z n) f.store;
@@ -247,7 +247,7 @@ module _ (p : Parts) (t : Shelf) (m : Maps) (f : KeepsStore p.shelf t) (g : Keep
         shared = is.shared ∙ ap (λ (a : Attr). a.shared) (sym (w.attrs k));
       }
 
-  written_at : (names : Map Segment) (bytes : ℕ → List ℕ) → ((n : ℕ) → IsNamed p (key_of p.shelf n) (get names n)) → AreWritten names t bytes
+  pub written_at : (names : Map Segment) (bytes : ℕ → List ℕ) → ((n : ℕ) → IsNamed p (key_of p.shelf n) (get names n)) → AreWritten names t bytes
       → (n : ℕ) → IsNamed q (key_of t n) (get (with_bytes names bytes) n)
   written_at names bytes segments written n =
       let w = step_same p t m f g in

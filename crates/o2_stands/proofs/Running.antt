@@ -26,7 +26,7 @@ running_ready p pid r w = record {
   device = w.device;
 }
 
-running_named : (p : Parts) (pid : ℕ) (r : Running) (o : Option ℕ) (v : Option Segment) → IsNamed p o v → IsNamed (with_running p pid r) o v
+pub running_named : (p : Parts) (pid : ℕ) (r : Running) (o : Option ℕ) (v : Option Segment) → IsNamed p o v → IsNamed (with_running p pid r) o v
 running_named p pid r None None is = is
 running_named p pid r (Some k) None is = is
 running_named p pid r None (Some s) is = is
@@ -77,7 +77,7 @@ module _ (ps : List Process) (pid : ℕ) (x q : Process) (there : process_at ps 
       ap (λ (b : Bool). (if region == 0 then b else is_some (held_at qs region i)) || list_any (reserves region i) reserved) (index_same i)
       ∙ ap (λ (o : Option Held). (if region == 0 then holds_index ps i else is_some o) || list_any (reserves region i) reserved) (holds_same region i)
 
-  tidy_same : (names : Map Segment) (reserved : List Reserve) → is_live q.state ≡ is_live x.state → IsTidy ps names reserved → IsTidy qs names reserved
+  pub tidy_same : (names : Map Segment) (reserved : List Reserve) → is_live q.state ≡ is_live x.state → IsTidy ps names reserved → IsTidy qs names reserved
   tidy_same names reserved lives tidy = record {
     once = tidy.once;
     used = λ n s. used n (tidy.used n s);

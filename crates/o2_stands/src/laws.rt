@@ -7,7 +7,7 @@ ghost use Rattle.o2_isa.specs.declared.cpu.Cpu.{Cpu as CpuThere};
 ghost use Rattle.o2_isa.specs.View.{Filling, Hidden, Rest, bound_registers};
 ghost use Rattle.o2_place.specs.declared.seg_id.SegId.{SegId as SegIdThere};
 ghost use Rattle.o2_place.specs.Layout.{over};
-ghost use Rattle.o2_regions.specs.Maps.{Maps};
+ghost use Rattle.o2_regions.specs.Maps.{IsProcess, Maps};
 ghost use Rattle.o2_run.specs.Room.{load_between, room_between, swap_load as world_load};
 ghost use Rattle.o2_segbus.specs.declared.registers.SegmentRegisters.{SegmentRegisters as SegmentRegistersThere};
 ghost use Rattle.o2_segbus.specs.Bus.{AreInside, bus_view, registers_of};
@@ -23,15 +23,18 @@ ghost use Rattle.o2_swapmap.specs.Piles.{all_of};
 ghost use Rattle.o2_world.specs.Map.{Map};
 ghost use Rattle.o2_world.specs.World.{Process, Reserve, Segment, Setting, World, is_live};
 ghost use Rattle.o2_world.specs.Holders.{process_at, with_process};
-ghost use Rattle.o2_world.specs.Known.{held_at, is_for_the_run, known_of};
+ghost use Rattle.o2_world.specs.Known.{Known, held_at, is_for_the_run, known_of};
+ghost use Rattle.o2_world.specs.Rulings.{aliasing, allocation, freeing, freeing_cpu, locking, reallocation, sizing, unlocking};
+ghost use Rattle.o2_world.specs.Run.{step};
 ghost use Rattle.o2_world.specs.Starts.{Start, opening_of};
 ghost use Rattle.o2_world.specs.Changes.{Change, with_all, with_change};
 ghost use Rattle.o2_world.specs.Tied.{AreFitChanges, IsSound, IsSwept, IsTied};
-ghost use Rattle.o2_world.specs.Views.{view_of, with_bytes};
-ghost use Rattle.o2_stands.specs.Parts.{Parts, running_of};
-ghost use Rattle.o2_stands.specs.Stands.{AreLawful, AreOnce, IsReady, IsSetTo, IsTidy, MatchesIn, Stands, StandsIn};
+ghost use Rattle.o2_world.specs.Bare.{bare};
+ghost use Rattle.o2_world.specs.Views.{bytes_in, view_of, with_bytes};
+ghost use Rattle.o2_stands.specs.Parts.{Parts, Running as RunningThere, running_of};
+ghost use Rattle.o2_stands.specs.Stands.{AreLawful, AreOnce, IsReady, IsSetTo, IsTidy, Matches, MatchesIn, Stands, StandsIn};
 ghost use Rattle.o2_stands.specs.Tidies.{AreTidyChanges};
-ghost use Rattle.o2_stands.specs.Moves.{AreWritten, moved, stepped_to, with_running};
+ghost use Rattle.o2_stands.specs.Moves.{AreWritten, RunsAs, moved, stepped_to, with_running};
 ghost use Rattle.o2_stands.specs.Views.{Fills, boundless_view, filled};
 ghost use Rattle.o2_stands.specs.Knows.{KnowsAs, known_in, others_of};
 ghost use Rattle.o2_stands.specs.Sums.{AreAllHere, AreAtLeast, AreAtMost, IsAmong, NoneGrows, SaysNeed};
@@ -79,6 +82,41 @@ pub fn changes_keep_a_world_tidy()
     ensures { (w : World) (cs : List Change) → IsTied w → AreFitChanges w cs → AreTidyChanges w cs
         → IsTidy w.processes w.names w.reserved → IsSwept (with_all w cs)
         → IsTidy (with_all w cs).processes (with_all w cs).names (with_all w cs).reserved }
+{}
+
+/// What a call writes behind its changes is seen: a machine that matches the world with the changes matches the one that is bare the
+/// same, once its segments have the bytes that they have there and its process has these registers and this state.
+pub fn what_a_call_writes_is_seen()
+    ensures { (p : Parts) (t : Shelf) (m : Maps) (number : ℕ) (r : RunningThere) (u v : World)
+        → KeepsStore p.shelf t → KeepsMaps p.maps m → AreInside t → IsReady (stepped_to p t m) → bare u ≡ bare v
+        → AreWritten u.names t (bytes_in v.names) → RunsAs u v number r
+        → Matches p u → Matches (with_running (stepped_to p t m) number r) v }
+{}
+
+/// Each step keeps a sound world tidy, whatever the call that it makes.
+pub fn each_step_keeps_a_world_tidy()
+    ensures { (s : Setting) (w : World) → IsSound w → IsTidy w.processes w.names w.reserved
+        → IsTidy (step s w).processes (step s w).names (step s w).reserved }
+{}
+
+/// Calls on segments come to the same where the same is known: error, value, changes and registers.
+pub fn rulings_go_by_what_is_known()
+    ensures allocation { (m : Maps) (k l : Known) (n size flags : ℕ) → KnowsAs m k l → IsProcess m n
+        → allocation k n size flags ≡ allocation l n size flags }
+    ensures reallocation { (m : Maps) (k l : Known) (n size selector : ℕ) → KnowsAs m k l
+        → reallocation k n size selector ≡ reallocation l n size selector }
+    ensures freeing { (m : Maps) (k l : Known) (n selector : ℕ) (c : CpuThere) → KnowsAs m k l
+        → freeing k n selector c ≡ freeing l n selector c }
+    ensures freeing_cpu { (m : Maps) (k l : Known) (n selector : ℕ) (c : CpuThere) → KnowsAs m k l
+        → freeing_cpu k n selector c ≡ freeing_cpu l n selector c }
+    ensures sizing { (m : Maps) (k l : Known) (n selector : ℕ) → KnowsAs m k l
+        → sizing k n selector ≡ sizing l n selector }
+    ensures locking { (m : Maps) (k l : Known) (n selector : ℕ) → KnowsAs m k l
+        → locking k n selector ≡ locking l n selector }
+    ensures unlocking { (m : Maps) (k l : Known) (n selector : ℕ) → KnowsAs m k l
+        → unlocking k n selector ≡ unlocking l n selector }
+    ensures aliasing { (m : Maps) (k l : Known) (n selector : ℕ) → KnowsAs m k l → IsProcess m n
+        → aliasing k n selector ≡ aliasing l n selector }
 {}
 
 /// What is known of a world beside what a process sees is known of the machine.

@@ -12,9 +12,11 @@ use Rattle.o2_isa.specs.declared.cpu.Stop.TheVariants as stop
 use Rattle.o2_isa.proofs.StepLaws.{step_loads_few}
 use Rattle.o2_place.specs.declared.seg_id.SegId.{SegId}
 use Rattle.o2_world.specs.declared.types.Row.{Row}
-use Rattle.o2_world.specs.declared.types.Row.TheVariants.{DosExit, DosGetPid, DosRead, DosWrite, DosMemAvail}
+use Rattle.o2_world.specs.declared.types.Row.TheVariants.{DosExit, DosGetPid, DosRead, DosWrite, DosMemAvail, OnSegments}
+use Rattle.o2_world.specs.declared.types.SegmentCall.{SegmentCall}
+use Rattle.o2_world.specs.declared.types.SegmentCall.TheVariants.{DosAllocSeg, DosReallocSeg, DosFreeSeg, DosSizeSeg, DosLockSeg, DosUnlockSeg, DosCreateCsAlias}
 use Rattle.o2_world.specs.Calls.{Before, argument, has_arguments, row_of}
-use Rattle.o2_run.specs.Room.{Pointer, call_names, gate_names, passed, pointed, pointers_of, touched, words_of}
+use Rattle.o2_run.specs.Room.{Pointer, call_names, gate_names, passed, pointed, pointers_of, segment_pointers, touched, words_of}
 use Rattle.o2_stepping.specs.Rooms.{ages_of, left_in}
 use Rattle.o2_stepping.proofs.Named.{both_in, or_front, or_back}
 
@@ -38,12 +40,22 @@ pointed_few : (v : View) (ps : List Pointer) → length (pointed v ps) ≤ lengt
 pointed_few v [] = omega arith
 pointed_few v (p ∷ ps) = counted_few v p ps (pointed_few v ps) (p.count == 0)
 
+few_on_segments : (call : SegmentCall) (a : ℕ → ℕ) → length (segment_pointers call a) ≤ 2
+few_on_segments DosAllocSeg a = omega arith
+few_on_segments DosReallocSeg a = omega arith
+few_on_segments DosFreeSeg a = omega arith
+few_on_segments DosSizeSeg a = omega arith
+few_on_segments DosLockSeg a = omega arith
+few_on_segments DosUnlockSeg a = omega arith
+few_on_segments DosCreateCsAlias a = omega arith
+
 few_pointers : (row : Row) (a : ℕ → ℕ) → length (pointers_of row a) ≤ 2
 few_pointers DosExit a = omega arith
 few_pointers DosGetPid a = omega arith
 few_pointers DosRead a = omega arith
 few_pointers DosWrite a = omega arith
 few_pointers DosMemAvail a = omega arith
+few_pointers (OnSegments call) a = few_on_segments call a
 
 call_few : (b : Before) (o : Option Row) → length (call_names b o) ≤ 2
 call_few b None = omega arith

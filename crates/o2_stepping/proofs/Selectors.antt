@@ -4,8 +4,9 @@ use Rattle.o2_isa.specs.declared.cpu.Cpu.{Cpu}
 use Rattle.o2_isa.specs.Presence.{SameSelectors}
 use Rattle.o2_world.specs.declared.types.Argument.{Argument}
 use Rattle.o2_world.specs.declared.types.Row.{Row}
-use Rattle.o2_world.specs.declared.types.Row.TheVariants.{DosExit, DosGetPid, DosRead, DosWrite, DosMemAvail}
-use Rattle.o2_world.specs.Calls.{Before, Effect, argument, dos_exit, dos_read, dos_write, has_arguments, is_console, may_give, may_take, may_write, returned, row_of, served_by, serviced, told, transfer_of}
+use Rattle.o2_world.specs.declared.types.Row.TheVariants.{DosExit, DosGetPid, DosRead, DosWrite, DosMemAvail, OnSegments}
+use Rattle.o2_world.proofs.Rows.{built_is_plain}
+use Rattle.o2_world.specs.Calls.{Before, Effect, argument, dos_exit, dos_read, dos_write, has_arguments, is_console, IsPlain, may_give, may_take, may_write, returned, row_of, served_by, serviced, told, transfer_of}
 
 abbrev Stay : Before → Effect → Type 0
 Stay b e = SameSelectors e.cpu b.cpu
@@ -41,13 +42,14 @@ unfolding told
 told_stays b next name part values =
     either b (has_arguments b.view b.cpu 2) _ _ (either b (may_write b.view (argument b.view b.cpu 1) (argument b.view b.cpu 0) (length part)) _ _ (back b.cpu next 2 0) (same b.cpu)) (same b.cpu)
 
-served_stays : (row : Option Row) (b : Before) (next : ℕ) → Stay b (served_by row b next)
-served_stays None b next = same b.cpu
-served_stays (Some DosExit) b next = exit_stays b
-served_stays (Some DosGetPid) b next = told_stays b next _ _ _
-served_stays (Some DosRead) b next = read_stays b next
-served_stays (Some DosWrite) b next = write_stays b next
-served_stays (Some DosMemAvail) b next = told_stays b next _ _ _
+served_stays : (row : Option Row) (b : Before) (next : ℕ) → IsPlain row → Stay b (served_by row b next)
+served_stays None b next plain = same b.cpu
+served_stays (Some DosExit) b next plain = exit_stays b
+served_stays (Some DosGetPid) b next plain = told_stays b next _ _ _
+served_stays (Some DosRead) b next plain = read_stays b next
+served_stays (Some DosWrite) b next plain = write_stays b next
+served_stays (Some DosMemAvail) b next plain = told_stays b next _ _ _
+served_stays (Some (OnSegments call)) b next plain = absurd plain
 
 pub call_stays : (b : Before) (service next : ℕ) → SameSelectors (serviced b service next).cpu b.cpu
-call_stays b service next = served_stays (row_of service) b next
+call_stays b service next = served_stays (row_of service) b next (built_is_plain service)

@@ -1,14 +1,15 @@
 -- A run has no more steps than its budget.
-use Rattle.std.proofs.Common.{◌≡◌, ℕ, zero, suc, ◌+◌, ◌<◌, ◌≤◌, Bool, true, false, not, ◌||◌, ◌==◌, nat_lt, ◌&&◌, if◌then◌else◌, List, [], ◌∷◌, Option, Some, ap, sym, ◌∙◌, refl, arith, subst, below_more}
+use Rattle.std.proofs.Common.{◌≡◌, ℕ, zero, suc, ◌+◌, ◌-◌, ◌<◌, ◌≤◌, Bool, true, false, not, ◌||◌, ◌==◌, nat_lt, ◌&&◌, if◌then◌else◌, List, [], ◌∷◌, Option, Some, ap, sym, ◌∙◌, refl, arith, subst, below_more}
 use Rattle.o2_conf.specs.declared.script.Word.{Word}
 use Rattle.o2_conf.specs.declared.script.Word.TheVariants.{Slice}
 use Rattle.o2_world.specs.World.{World, Setting, Process}
 use Rattle.o2_conf.specs.Dispatch.{Dispatch, dispatched, started, live_script, lives}
 use Rattle.o2_world.specs.Effect.{effect}
-use Rattle.o2_world.specs.Run.{plainly, before, acted, step, chosen_step, after, is_over, any_lives, live_flags, next_dispatch, steps_done, IsLast}
+use Rattle.o2_world.specs.Run.{all_changes, before, changed, worked, acted, step, chosen_step, after, is_over, any_lives, live_flags, next_dispatch, steps_done, IsLast}
 use Rattle.o2_world.proofs.MapLemmas.{if_no}
 use Rattle.o2_conf.proofs.Choice.{chosen_lives}
-use Rattle.o2_world.proofs.Quiet.{changed_plain, effect_quiet}
+use Rattle.o2_world.specs.Calls.{Effect}
+use Rattle.o2_world.proofs.OwnChanges.{all_dispatch}
 use Rattle.o2_world.proofs.Flags.{live_process}
 
 started_budget : (quantum : ℕ) (flags : List Bool) (d : Dispatch) (words : List Word) → (started quantum flags d words).budget ≡ d.budget
@@ -30,8 +31,11 @@ not_over true n e = (refl, grind arith)
 not_over false n e = absurd (cc)
 
 acted_budget : (s : Setting) (w : World) (d : Dispatch) (p : Process) → 0 < d.budget → (acted s w d (Some p)).dispatch.budget + 1 ≡ d.budget
-unfolding plainly
-acted_budget s w d p h = rw (changed_plain w d p (effect (before s w d.current p)) (effect_quiet (before s w d.current p))) (omega arith)
+unfolding changed
+acted_budget s w d p h =
+    let e : Effect = effect (before s w d.current p) in
+    let same : (acted s w d (Some p)).dispatch.budget ≡ d.budget - 1 = ap (λ (x : Dispatch). x.budget) (all_dispatch (worked w d p e) (all_changes d.current e)) in
+    omega (arith, same, h)
 
 pub step_runs : (s : Setting) (w : World) → is_over w ≡ false → step s w ≡ chosen_step s w
 unfolding step

@@ -1,7 +1,7 @@
 -- A step leaves good registers to a process that outlives it.
-use Rattle.std.proofs.Common.{◌≡◌, ◌⊎◌, ℕ, ◌/◌, ◌%◌, Bool, true, false, cond, ◌==◌, ◌&&◌, List, [], Option, Some, None, ap, sym, ◌∙◌, refl, arith, subst, inl, inr, drop, take, length}
+use Rattle.std.proofs.Common.{◌≡◌, ◌⊎◌, ℕ, ◌/◌, ◌%◌, Bool, true, false, cond, ◌==◌, ◌&&◌, List, [], ◌∷◌, Option, Some, None, ap, sym, ◌∙◌, refl, arith, subst, inl, inr, drop, take, length}
 use Rattle.std.proofs.Math.Seq.{drop-nil}
-use Rattle.std.specs.Prelude.{Result, Ok, Err, option_map}
+use Rattle.std.specs.Prelude.{Result, Ok, Err, option_map, if◌then◌else◌, codes}
 use Rattle.o2_isa.specs.declared.cpu.Cpu.{Cpu}
 use Rattle.o2_isa.specs.declared.cpu.Loaded.TheVariants as loaded
 use Rattle.o2_isa.specs.declared.cpu.Outcome.TheVariants as outcome
@@ -17,14 +17,19 @@ use Rattle.o2_isa.specs.Steps.{State as Machine, state, run}
 use Rattle.o2_isa.specs.Step.{stepped, steps_at}
 use Rattle.o2_isa.proofs.SpelledLoads.{stepped_ruled}
 use Rattle.o2_world.specs.declared.types.Argument.{Argument}
+use Rattle.o2_world.specs.declared.types.Argument.TheVariants.{Word, Far}
 use Rattle.o2_world.specs.declared.types.Row.{Row}
 use Rattle.o2_world.specs.declared.types.Transfer.{Transfer}
-use Rattle.o2_world.specs.declared.types.Row.TheVariants.{DosExit, DosGetPid, DosRead, DosWrite, DosMemAvail}
+use Rattle.o2_world.specs.declared.types.SegmentCall.{SegmentCall}
+use Rattle.o2_world.specs.declared.types.SegmentCall.TheVariants.{DosAllocSeg, DosReallocSeg, DosFreeSeg, DosSizeSeg, DosLockSeg, DosUnlockSeg, DosCreateCsAlias}
+use Rattle.o2_world.specs.declared.types.Row.TheVariants.{DosExit, DosGetPid, DosRead, DosWrite, DosMemAvail, OnSegments}
 use Rattle.o2_world.specs.declared.types.State.{State}
 use Rattle.o2_world.specs.Map.{Map, get}
 use Rattle.o2_world.specs.World.{World, Setting, Process, Segment, Held, is_live}
 use Rattle.o2_world.specs.Views.{hold_of, holds_in, view_of}
 use Rattle.o2_world.specs.Calls.{Before, Effect, trapped, returned, argument, has_arguments, transfer_of, may_write, may_give, is_console, written, dos_write, dos_exit, told_at, told, may_take, read_from, dos_read, row_of, served_by}
+use Rattle.o2_world.specs.Rulings.{Ruling, aliasing, allocation, sizing}
+use Rattle.o2_world.specs.SegmentCalls.{Written, alloc_args, aliased, allocated, dos_alloc_seg, dos_create_cs_alias, dos_free_seg, dos_lock_seg, dos_realloc_seg, dos_size_seg, dos_unlock_seg, freed, locked, on_segments, reallocated, ruled_at, sized, unlocked, written_long, written_word}
 use Rattle.o2_world.specs.Effect.{has_trap_flag, answered, single_stepped, effect}
 use Rattle.o2_world.specs.Run.{before}
 use Rattle.o2_world.specs.Sound.{has_rights, NamesHeld, HasGoodRegisters}
@@ -98,7 +103,7 @@ good_after names p c s good ruled =
       es = from {P = λ x. (is_null x ≡ true) ⊎ NamesHeld p is_readable x} {Q = Passes v DataReg} p.cpu.es c.es good.es (ruled Es) (data_named names p);
     }
 
--- Services and traps leave the segment registers as they are.
+-- Other services and traps leave the segment registers as they are.
 
 record Keeps (c : Cpu) (e : Effect) : Type 0 where
   pub selectors : SameSelectors e.cpu c
@@ -148,30 +153,83 @@ told_keeps : (b : Before) (next : ℕ) (name part : List ℕ) (values : List Arg
 unfolding told
 told_keeps b next name part values = either b.cpu (has_arguments b.view b.cpu 2) _ _ (told_at_keeps b next name part values _ _) (traps b 12)
 
-served_keeps : (row : Option Row) (b : Before) (next : ℕ) → Keeps b.cpu (served_by row b next)
-served_keeps None b next = traps b 13
-served_keeps (Some DosExit) b next = exit_keeps b
-served_keeps (Some DosGetPid) b next = told_keeps b next _ _ _
-served_keeps (Some DosRead) b next = read_keeps b next
-served_keeps (Some DosWrite) b next = write_keeps b next
-served_keeps (Some DosMemAvail) b next = told_keeps b next _ _ _
-
 kept_ruled : (v : View) (c : Cpu) (e : Effect) → Keeps c e → LoadsByRules v c e.cpu
 kept_ruled v c e k Es = inl k.selectors.es
 kept_ruled v c e k Cs = inl k.selectors.cs
 kept_ruled v c e k Ss = inl k.selectors.ss
 kept_ruled v c e k Ds = inl k.selectors.ds
 
-answered_ruled : (b : Before) (r : Result Machine Stop) → stepped (state b.cpu b.view) ≡ r → LoadsByRules b.view b.cpu (answered b r).cpu
-answered_ruled b (Ok s) e = stepped_ruled outcome.Done s (state b.cpu b.view) e
-answered_ruled b (Err (stop.Trap vector code)) e = kept_ruled b.view b.cpu _ (traps b vector)
-answered_ruled b (Err (stop.Gate service next)) e = kept_ruled b.view b.cpu _ (served_keeps (row_of service) b next)
-answered_ruled b (Err (stop.Miss s)) e = kept_ruled b.view b.cpu _ (traps b 11)
+-- The calls on segments: a free may leave DS and ES null.
+
+ruled_keeps : (b : Before) (next words : ℕ) (name : List ℕ) (args : List Argument) (t : Written) (r : Ruling) → Keeps b.cpu (ruled_at b next words name args t r)
+ruled_keeps b next words name args t r = either b.cpu (r.error == 0) _ _ (returns b _ next words 0 refl) (returns b _ next words r.error refl)
+
+cleared : (v : View) (t : Bool) (s : ℕ) → ((if t then 0 else s) ≡ s) ⊎ Passes v DataReg (if t then 0 else s)
+unfolding probe_of
+cleared v true s = inr refl
+cleared v false s = inl refl
+
+freed_ruled : (b : Before) (next s : ℕ) → LoadsByRules b.view b.cpu (freed b next s).cpu
+freed_ruled b next s Es = cleared b.view _ b.cpu.es
+freed_ruled b next s Cs = inl refl
+freed_ruled b next s Ss = inl refl
+freed_ruled b next s Ds = cleared b.view _ b.cpu.ds
+
+allocated_keeps : (b : Before) (next size s o flags : ℕ) → Keeps b.cpu (allocated b next size s o flags)
+allocated_keeps b next size s o flags =
+    let r = allocation b.known b.number size flags in
+    either b.cpu (may_write b.view s o 2) _ _ (ruled_keeps b next 4 (codes "DosAllocSeg") (alloc_args size s o flags) (written_word s o r.value) r) (traps b 13)
+
+sized_keeps : (b : Before) (next selector s o : ℕ) → Keeps b.cpu (sized b next selector s o)
+sized_keeps b next selector s o =
+    let r = sizing b.known b.number selector in
+    either b.cpu (may_write b.view s o 4) _ _ (ruled_keeps b next 3 (codes "DosSizeSeg") (Word selector ∷ Far s o ∷ []) (written_long s o r.value) r) (traps b 13)
+
+aliased_keeps : (b : Before) (next selector s o : ℕ) → Keeps b.cpu (aliased b next selector s o)
+aliased_keeps b next selector s o =
+    let r = aliasing b.known b.number selector in
+    either b.cpu (may_write b.view s o 2) _ _ (ruled_keeps b next 3 (codes "DosCreateCSAlias") (Word selector ∷ Far s o ∷ []) (written_word s o r.value) r) (traps b 13)
 
 picked_ruled : (v : View) (c : Cpu) (t : Bool) (e f : Effect) → LoadsByRules v c e.cpu → LoadsByRules v c f.cpu
     → LoadsByRules v c (cond t e f).cpu
 picked_ruled v c true e f h k = h
 picked_ruled v c false e f h k = k
+
+on_segments_ruled : (call : SegmentCall) (b : Before) (next : ℕ) → LoadsByRules b.view b.cpu (on_segments call b next).cpu
+unfolding dos_alloc_seg dos_realloc_seg dos_free_seg dos_size_seg dos_lock_seg dos_unlock_seg dos_create_cs_alias
+on_segments_ruled DosAllocSeg b next =
+    let a : ℕ → ℕ = argument b.view b.cpu in
+    picked_ruled b.view b.cpu (has_arguments b.view b.cpu 4) _ _ (kept_ruled b.view b.cpu _ (allocated_keeps b next (a 3) (a 2) (a 1) (a 0))) (kept_ruled b.view b.cpu _ (traps b 12))
+on_segments_ruled DosReallocSeg b next =
+    let a : ℕ → ℕ = argument b.view b.cpu in
+    picked_ruled b.view b.cpu (has_arguments b.view b.cpu 2) _ _ (kept_ruled b.view b.cpu _ (returns b (reallocated b next (a 1) (a 0)) next 2 _ refl)) (kept_ruled b.view b.cpu _ (traps b 12))
+on_segments_ruled DosFreeSeg b next =
+    picked_ruled b.view b.cpu (has_arguments b.view b.cpu 1) _ _ (freed_ruled b next (argument b.view b.cpu 0)) (kept_ruled b.view b.cpu _ (traps b 12))
+on_segments_ruled DosSizeSeg b next =
+    let a : ℕ → ℕ = argument b.view b.cpu in
+    picked_ruled b.view b.cpu (has_arguments b.view b.cpu 3) _ _ (kept_ruled b.view b.cpu _ (sized_keeps b next (a 2) (a 1) (a 0))) (kept_ruled b.view b.cpu _ (traps b 12))
+on_segments_ruled DosLockSeg b next =
+    picked_ruled b.view b.cpu (has_arguments b.view b.cpu 1) _ _ (kept_ruled b.view b.cpu _ (returns b (locked b next (argument b.view b.cpu 0)) next 1 _ refl)) (kept_ruled b.view b.cpu _ (traps b 12))
+on_segments_ruled DosUnlockSeg b next =
+    picked_ruled b.view b.cpu (has_arguments b.view b.cpu 1) _ _ (kept_ruled b.view b.cpu _ (returns b (unlocked b next (argument b.view b.cpu 0)) next 1 _ refl)) (kept_ruled b.view b.cpu _ (traps b 12))
+on_segments_ruled DosCreateCsAlias b next =
+    let a : ℕ → ℕ = argument b.view b.cpu in
+    picked_ruled b.view b.cpu (has_arguments b.view b.cpu 3) _ _ (kept_ruled b.view b.cpu _ (aliased_keeps b next (a 2) (a 1) (a 0))) (kept_ruled b.view b.cpu _ (traps b 12))
+
+served_ruled : (row : Option Row) (b : Before) (next : ℕ) → LoadsByRules b.view b.cpu (served_by row b next).cpu
+served_ruled None b next = kept_ruled b.view b.cpu _ (traps b 13)
+served_ruled (Some DosExit) b next = kept_ruled b.view b.cpu _ (exit_keeps b)
+served_ruled (Some DosGetPid) b next = kept_ruled b.view b.cpu _ (told_keeps b next _ _ _)
+served_ruled (Some DosRead) b next = kept_ruled b.view b.cpu _ (read_keeps b next)
+served_ruled (Some DosWrite) b next = kept_ruled b.view b.cpu _ (write_keeps b next)
+served_ruled (Some DosMemAvail) b next = kept_ruled b.view b.cpu _ (told_keeps b next _ _ _)
+served_ruled (Some (OnSegments call)) b next = on_segments_ruled call b next
+
+answered_ruled : (b : Before) (r : Result Machine Stop) → stepped (state b.cpu b.view) ≡ r → LoadsByRules b.view b.cpu (answered b r).cpu
+answered_ruled b (Ok s) e = stepped_ruled outcome.Done s (state b.cpu b.view) e
+answered_ruled b (Err (stop.Trap vector code)) e = kept_ruled b.view b.cpu _ (traps b vector)
+answered_ruled b (Err (stop.Gate service next)) e = served_ruled (row_of service) b next
+answered_ruled b (Err (stop.Miss s)) e = kept_ruled b.view b.cpu _ (traps b 11)
 
 single_ruled : (b : Before) (e : Effect) → LoadsByRules b.view b.cpu e.cpu → LoadsByRules b.view b.cpu (single_stepped b e).cpu
 single_ruled b e h = picked_ruled b.view b.cpu (has_trap_flag b.cpu.flags && is_live e.state) _ e h h

@@ -1,17 +1,14 @@
--- Who holds a name behind a write of one process; a step changes no other process.
+-- Who holds a name behind a write of one process.
 use Rattle.std.proofs.Common.{◌≡◌, ◌≢◌, ℕ, zero, suc, ◌+◌, ◌-◌, ◌<◌, Bool, true, false, List, [], ◌∷◌, Option, Some, None, ap, sym, ◌∙◌, refl, arith, if◌then◌else◌, ◌||◌, ◌==◌, slice_set, subst}
 use Rattle.std.specs.Prelude.{is_some, slice_get, option_map}
 use Rattle.o2_world.specs.Map.{Map, get}
 use Rattle.o2_world.specs.World.{World, Setting, Process, Segment, Held}
-use Rattle.o2_conf.specs.Dispatch.{Dispatch}
 use Rattle.o2_world.specs.Holders.{names_it, holds_name, is_held, process_at, with_process}
 use Rattle.o2_world.specs.Views.{with_bytes}
-use Rattle.o2_world.specs.Effect.{effect}
-use Rattle.o2_world.specs.Run.{before, plainly, acted, step, chosen_step, is_over, next_dispatch}
+use Rattle.o2_world.specs.Run.{step, chosen_step, is_over}
 use Rattle.o2_world.specs.Sound.{held_in}
 use Rattle.o2_world.proofs.MapLemmas.{get-map, found_any, if_yes}
 use Rattle.o2_world.proofs.Numbers.{number_some, at_place_of, with_is}
-use Rattle.o2_world.proofs.Quiet.{changed_plain, effect_quiet}
 
 is_some-map : {X : Type 0} (f : X → X) (o : Option X) → is_some (option_map f o) ≡ is_some o
 is_some-map f None = refl
@@ -85,7 +82,7 @@ each_at {P} ps n new one old place x = go (n == 0)
     go true e = old place x e
     go false e = each_after {P = P} ps (n - 1) new one old place x e
 
-other_number : (ps : List Process) (n : ℕ) (x : Process) (place : ℕ) → place + 1 ≢ n
+pub other_number : (ps : List Process) (n : ℕ) (x : Process) (place : ℕ) → place + 1 ≢ n
     → slice_get (with_process ps n x) place ≡ slice_get ps place
 other_number ps n x place other = go (n == 0) refl
   where
@@ -95,21 +92,6 @@ other_number ps n x place other = go (n == 0) refl
     go : (b : Bool) → (n == 0) ≡ b → slice_get (if b then ps else slice_set ps (n - 1) x) place ≡ slice_get ps place
     go true is = refl
     go false is = at_other ps (n - 1) place x (past is)
-
-acted_other : (s : Setting) (w : World) (d : Dispatch) (o : Option Process) (place : ℕ) → place + 1 ≢ d.current
-    → slice_get (acted s w d o).processes place ≡ slice_get w.processes place
-unfolding plainly
-acted_other s w d None place other = refl
-acted_other s w d (Some p) place other = rw (changed_plain w d p (effect (before s w d.current p)) (effect_quiet (before s w d.current p))) (other_number w.processes d.current _ place other)
-
-pub step_other : (s : Setting) (w : World) (place : ℕ) → place + 1 ≢ (next_dispatch s w).current
-    → slice_get (step s w).processes place ≡ slice_get w.processes place
-unfolding step
-step_other s w place other = go (is_over w)
-  where
-    go : (b : Bool) → slice_get (if b then w else chosen_step s w).processes place ≡ slice_get w.processes place
-    go true = refl
-    go false = acted_other s w (next_dispatch s w) _ place other
 
 -- a run that is over stays as it is
 pub over_stays : (s : Setting) (w : World) → is_over w ≡ true → step s w ≡ w

@@ -12,6 +12,14 @@ pub mod TiedChanges
 pub mod TiedSteps
 pub mod TiedWorld
 pub mod FitRows
+pub mod FitFrees
+pub mod HoldsSwept
+pub mod OwnChanges
+pub mod SegmentMoves
+pub mod StepMoves
+pub mod MovesFit
+pub mod RowsTold
+pub mod BareChanges
 pub mod GoodRegisters
 pub mod Keeps
 pub mod HoldingMaps

@@ -10,7 +10,7 @@ use Rattle.o2_world.specs.Opening.{held_by_load}
 use Rattle.o2_world.specs.Starts.{Loaded, Start, Holding, Built, holdings, nothing_built, segment_of, name_in, made_with, named, holds, holds_as, with_holding, with_holdings, with_started}
 use Rattle.o2_world.specs.Sound.{held_in}
 use Rattle.o2_world.specs.Tied.{HasSize, IsOwnData, AreOne}
-use Rattle.o2_world.specs.FitStarts.{rights_at, segment_index, is_common_at, ShareNoIndex, IsOfModule, IsWhole, IsOf}
+use Rattle.o2_world.specs.FitStarts.{rights_at, segment_index, is_common_at, ShareNoIndex, IsWhole, IsOf}
 use Rattle.o2_world.proofs.Keeps.{some_is}
 use Rattle.o2_world.proofs.OpeningSound.{equal, behind, either_of, Keeps}
 

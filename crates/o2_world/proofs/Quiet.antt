@@ -8,13 +8,14 @@ use Rattle.o2_isa.specs.Step.{stepped}
 use Rattle.o2_conf.specs.Dispatch.{Dispatch}
 use Rattle.o2_world.specs.declared.types.Argument.{Argument}
 use Rattle.o2_world.specs.declared.types.Row.{Row}
-use Rattle.o2_world.specs.declared.types.Row.TheVariants.{DosExit, DosGetPid, DosRead, DosWrite, DosMemAvail}
+use Rattle.o2_world.specs.declared.types.Row.TheVariants.{DosExit, DosGetPid, DosRead, DosWrite, DosMemAvail, OnSegments}
 use Rattle.o2_world.specs.World.{World, Process, is_live}
 use Rattle.o2_world.specs.Holders.{with_process}
 use Rattle.o2_world.specs.Changes.{at_place, at_number, with_changes, swept}
-use Rattle.o2_world.specs.Calls.{Before, Effect, argument, has_arguments, transfer_of, may_write, may_give, is_console, dos_write, dos_exit, told, may_take, dos_read, row_of, served_by}
+use Rattle.o2_world.specs.Calls.{Before, Effect, argument, has_arguments, transfer_of, may_write, may_give, is_console, dos_write, dos_exit, told, may_take, dos_read, row_of, served_by, IsPlain}
 use Rattle.o2_world.specs.Effect.{has_trap_flag, answered, effect}
 use Rattle.o2_world.specs.Run.{changed, plainly, worked}
+use Rattle.o2_world.proofs.Rows.{built_is_plain}
 
 set_then : {X : Type 0} (xs : List X) (i : ℕ) (x : X) (f : X → X) → at_place i f (slice_set xs i x) ≡ slice_set xs i (f x)
 set_then [] i x f = refl
@@ -44,38 +45,39 @@ either : (t : Bool) (e f : Effect) → e.changes ≡ [] → f.changes ≡ [] →
 either true e f h k = h
 either false e f h k = k
 
-write_quiet : (b : Before) (next : ℕ) → (dos_write b next).changes ≡ []
+pub write_quiet : (b : Before) (next : ℕ) → (dos_write b next).changes ≡ []
 unfolding dos_write
 write_quiet b next =
     let t = transfer_of (argument b.view b.cpu) in
     either (has_arguments b.view b.cpu 6) _ _ (either (may_give b t) _ _ (either (is_console t.handle) _ _ refl refl) refl) refl
 
-read_quiet : (b : Before) (next : ℕ) → (dos_read b next).changes ≡ []
+pub read_quiet : (b : Before) (next : ℕ) → (dos_read b next).changes ≡ []
 unfolding dos_read
 read_quiet b next =
     let t = transfer_of (argument b.view b.cpu) in
     either (has_arguments b.view b.cpu 6) _ _ (either (may_take b t) _ _ (either (t.handle == 0) _ _ refl refl) refl) refl
 
-exit_quiet : (b : Before) → (dos_exit b).changes ≡ []
+pub exit_quiet : (b : Before) → (dos_exit b).changes ≡ []
 unfolding dos_exit
 exit_quiet b = either (has_arguments b.view b.cpu 2) _ _ refl refl
 
-told_quiet : (b : Before) (next : ℕ) (name part : List ℕ) (values : List Argument) → (told b next name part values).changes ≡ []
+pub told_quiet : (b : Before) (next : ℕ) (name part : List ℕ) (values : List Argument) → (told b next name part values).changes ≡ []
 unfolding told
 told_quiet b next name part values = either (has_arguments b.view b.cpu 2) _ _ (either (may_write b.view (argument b.view b.cpu 1) (argument b.view b.cpu 0) (length part)) _ _ refl refl) refl
 
-served_quiet : (row : Option Row) (b : Before) (next : ℕ) → (served_by row b next).changes ≡ []
-served_quiet None b next = refl
-served_quiet (Some DosExit) b next = exit_quiet b
-served_quiet (Some DosGetPid) b next = told_quiet b next _ _ _
-served_quiet (Some DosRead) b next = read_quiet b next
-served_quiet (Some DosWrite) b next = write_quiet b next
-served_quiet (Some DosMemAvail) b next = told_quiet b next _ _ _
+served_quiet : (row : Option Row) (b : Before) (next : ℕ) → IsPlain row → (served_by row b next).changes ≡ []
+served_quiet None b next plain = refl
+served_quiet (Some DosExit) b next plain = exit_quiet b
+served_quiet (Some DosGetPid) b next plain = told_quiet b next _ _ _
+served_quiet (Some DosRead) b next plain = read_quiet b next
+served_quiet (Some DosWrite) b next plain = write_quiet b next
+served_quiet (Some DosMemAvail) b next plain = told_quiet b next _ _ _
+served_quiet (Some (OnSegments call)) b next plain = absurd plain
 
 answered_quiet : (b : Before) (r : Result Machine Stop) → (answered b r).changes ≡ []
 answered_quiet b (Ok s) = refl
 answered_quiet b (Err (stop.Trap vector code)) = refl
-answered_quiet b (Err (stop.Gate service next)) = served_quiet (row_of service) b next
+answered_quiet b (Err (stop.Gate service next)) = served_quiet (row_of service) b next (built_is_plain service)
 answered_quiet b (Err (stop.Miss s)) = refl
 
 -- no call that is built changes anything but bytes

@@ -47,13 +47,13 @@ went_in_order : (xs : List Line) (p s : ℕ) → went (in_order xs) p s ≡ went
 went_in_order [] p s = refl
 went_in_order (x ∷ xs) p s = went_among x (in_order xs) p s ∙ ap (λ n. goes x p s + n) (went_in_order xs p s)
 
-came_times : (n : ℕ) (l : Line) (p s : ℕ) (b : Bool) → comes l p s ≡ one_if b → came (replicate n l) p s ≡ (if b then n else 0)
+pub came_times : (n : ℕ) (l : Line) (p s : ℕ) (b : Bool) → comes l p s ≡ one_if b → came (replicate n l) p s ≡ (if b then n else 0)
 came_times zero l p s true e = refl
 came_times zero l p s false e = refl
 came_times (suc n) l p s true e = let ih = came_times n l p s true e in omega (arith, ih, e)
 came_times (suc n) l p s false e = let ih = came_times n l p s false e in omega (arith, ih, e)
 
-went_times : (n : ℕ) (l : Line) (p s : ℕ) (b : Bool) → goes l p s ≡ one_if b → went (replicate n l) p s ≡ (if b then n else 0)
+pub went_times : (n : ℕ) (l : Line) (p s : ℕ) (b : Bool) → goes l p s ≡ one_if b → went (replicate n l) p s ≡ (if b then n else 0)
 went_times zero l p s true e = refl
 went_times zero l p s false e = refl
 went_times (suc n) l p s true e = let ih = went_times n l p s true e in omega (arith, ih, e)
@@ -254,7 +254,7 @@ went_balance false x new old lines n e f g = omega (arith, e, f)
 same_holds : (w : World) (p q i j : ℕ) → (p ≡ q) × (j ≡ i) → place_holds w q j ≡ place_holds w p i
 same_holds w p q i j e = rw (e.0, e.1) refl
 
-one_told : (cause : List ℕ) (w : World) (c : Change) → CanTell w c → (p i : ℕ) → 0 < p
+pub one_told : (cause : List ℕ) (w : World) (c : Change) → CanTell w c → (p i : ℕ) → 0 < p
     → place_holds (with_change w c) p i + went (drop_lines_of cause c) p (selector_of i) ≡ place_holds w p i + came (hold_lines_of cause c) p (selector_of i)
 one_told cause w (Holds q j h) there p i some =
     came_balance ((p == q) && (j == i)) _ (holds_of (more h (held_in w.processes (q - 1) j))) (place_holds w p i) _ h.holds (put_holds w q j p i (more h) there some)

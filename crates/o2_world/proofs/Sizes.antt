@@ -1,8 +1,7 @@
--- No step of today changes the size of a segment.
+-- The bytes that a step leaves to a name, before its changes, are as many as before.
 use Rattle.std.proofs.Common.{◌≡◌, ℕ, ◌+◌, ◌≤◌, ◌==◌, ◌&&◌, ◌||◌, nat_le, Bool, true, false, cond, List, [], ◌∷◌, ◌++◌, length, take, Option, Some, None, if◌then◌else◌, ap, sym, ◌∙◌, refl, arith, subst}
-use Rattle.std.specs.Prelude.{Result, Ok, Err}
+use Rattle.std.specs.Prelude.{Result, Ok, Err, codes}
 use Rattle.std.proofs.lemmas.Grind.{common_steps}
-use Rattle.o2_isa.specs.declared.cpu.Cpu.{Cpu}
 use Rattle.o2_isa.specs.declared.cpu.Stop.{Stop}
 use Rattle.o2_isa.specs.declared.cpu.Stop.TheVariants as stop
 use Rattle.o2_isa.specs.Parts.{put_part}
@@ -14,11 +13,16 @@ use Rattle.o2_isa.specs.declared.cpu.Outcome.TheVariants as outcome
 use Rattle.o2_isa.specs.Sizes.{KeepsLengths}
 use Rattle.o2_isa.proofs.Sizes.{stays, behind, stepped_lengths}
 use Rattle.o2_world.specs.declared.types.Argument.{Argument}
+use Rattle.o2_world.specs.declared.types.Argument.TheVariants.{Word, Far}
 use Rattle.o2_world.specs.declared.types.Row.{Row}
 use Rattle.o2_world.specs.declared.types.Transfer.{Transfer}
-use Rattle.o2_world.specs.declared.types.Row.TheVariants.{DosExit, DosGetPid, DosRead, DosWrite, DosMemAvail}
+use Rattle.o2_world.specs.declared.types.SegmentCall.{SegmentCall}
+use Rattle.o2_world.specs.declared.types.SegmentCall.TheVariants.{DosAllocSeg, DosReallocSeg, DosFreeSeg, DosSizeSeg, DosLockSeg, DosUnlockSeg, DosCreateCsAlias}
+use Rattle.o2_world.specs.declared.types.Row.TheVariants.{DosExit, DosGetPid, DosRead, DosWrite, DosMemAvail, OnSegments}
 use Rattle.o2_world.specs.World.{is_live}
 use Rattle.o2_world.specs.Calls.{Before, Effect, argument, has_arguments, transfer_of, may_write, may_give, put_at_pointer, word_bytes, is_console, written, dos_write, dos_exit, told_at, told, bytes_with, may_take, read_from, dos_read, row_of, served_by}
+use Rattle.o2_world.specs.Rulings.{Ruling, aliasing, allocation, sizing}
+use Rattle.o2_world.specs.SegmentCalls.{Written, alloc_args, aliased, allocated, dos_alloc_seg, dos_create_cs_alias, dos_free_seg, dos_lock_seg, dos_realloc_seg, dos_size_seg, dos_unlock_seg, on_segments, ruled_at, sized, written_long, written_word}
 use Rattle.o2_world.specs.Effect.{has_trap_flag, answered, effect}
 
 same_name : (n m : ℕ) → (n == m) ≡ true → n ≡ m
@@ -183,6 +187,44 @@ exit_sizes : (b : Before) → Keeps b (dos_exit b)
 unfolding dos_exit
 exit_sizes b = by_test b (has_arguments b.view b.cpu 2) _ _ (λ _. stays b.view.bytes) (stays b.view.bytes)
 
+-- the calls on segments change no size of a name that lived before but by their changes, which come behind the bytes
+
+ruled_sizes : (b : Before) (next words : ℕ) (name : List ℕ) (args : List Argument) (t : Written) (r : Ruling)
+    → may_write b.view t.selector t.offset (length t.part) ≡ true → Keeps b (ruled_at b next words name args t r)
+ruled_sizes b next words name args t r good =
+    by_test b (r.error == 0) _ _ (λ _. pointer_sizes b.view.held b.view.bytes t.selector t.offset t.part (good_fits b.view t.selector t.offset (length t.part) good)) (stays b.view.bytes)
+
+allocated_sizes : (b : Before) (next size s o flags : ℕ) → Keeps b (allocated b next size s o flags)
+allocated_sizes b next size s o flags =
+    let r = allocation b.known b.number size flags in
+    by_test b (may_write b.view s o 2) _ _ (λ good. ruled_sizes b next 4 (codes "DosAllocSeg") (alloc_args size s o flags) (written_word s o r.value) r good) (stays b.view.bytes)
+
+sized_sizes : (b : Before) (next selector s o : ℕ) → Keeps b (sized b next selector s o)
+sized_sizes b next selector s o =
+    let r = sizing b.known b.number selector in
+    by_test b (may_write b.view s o 4) _ _ (λ good. ruled_sizes b next 3 (codes "DosSizeSeg") (Word selector ∷ Far s o ∷ []) (written_long s o r.value) r good) (stays b.view.bytes)
+
+aliased_sizes : (b : Before) (next selector s o : ℕ) → Keeps b (aliased b next selector s o)
+aliased_sizes b next selector s o =
+    let r = aliasing b.known b.number selector in
+    by_test b (may_write b.view s o 2) _ _ (λ good. ruled_sizes b next 3 (codes "DosCreateCSAlias") (Word selector ∷ Far s o ∷ []) (written_word s o r.value) r good) (stays b.view.bytes)
+
+on_segments_sizes : (call : SegmentCall) (b : Before) (next : ℕ) → Keeps b (on_segments call b next)
+unfolding dos_alloc_seg dos_realloc_seg dos_free_seg dos_size_seg dos_lock_seg dos_unlock_seg dos_create_cs_alias
+on_segments_sizes DosAllocSeg b next =
+    let a : ℕ → ℕ = argument b.view b.cpu in
+    by_test b (has_arguments b.view b.cpu 4) _ _ (λ _. allocated_sizes b next (a 3) (a 2) (a 1) (a 0)) (stays b.view.bytes)
+on_segments_sizes DosReallocSeg b next = by_test b (has_arguments b.view b.cpu 2) _ _ (λ _. stays b.view.bytes) (stays b.view.bytes)
+on_segments_sizes DosFreeSeg b next = by_test b (has_arguments b.view b.cpu 1) _ _ (λ _. stays b.view.bytes) (stays b.view.bytes)
+on_segments_sizes DosSizeSeg b next =
+    let a : ℕ → ℕ = argument b.view b.cpu in
+    by_test b (has_arguments b.view b.cpu 3) _ _ (λ _. sized_sizes b next (a 2) (a 1) (a 0)) (stays b.view.bytes)
+on_segments_sizes DosLockSeg b next = by_test b (has_arguments b.view b.cpu 1) _ _ (λ _. stays b.view.bytes) (stays b.view.bytes)
+on_segments_sizes DosUnlockSeg b next = by_test b (has_arguments b.view b.cpu 1) _ _ (λ _. stays b.view.bytes) (stays b.view.bytes)
+on_segments_sizes DosCreateCsAlias b next =
+    let a : ℕ → ℕ = argument b.view b.cpu in
+    by_test b (has_arguments b.view b.cpu 3) _ _ (λ _. aliased_sizes b next (a 2) (a 1) (a 0)) (stays b.view.bytes)
+
 served_sizes : (row : Option Row) (b : Before) (next : ℕ) → Keeps b (served_by row b next)
 served_sizes None b next = stays b.view.bytes
 served_sizes (Some DosExit) b next = exit_sizes b
@@ -190,6 +232,7 @@ served_sizes (Some DosGetPid) b next = told_sizes b next _ _ _
 served_sizes (Some DosRead) b next = dos_read_sizes b next
 served_sizes (Some DosWrite) b next = write_sizes b next
 served_sizes (Some DosMemAvail) b next = told_sizes b next _ _ _
+served_sizes (Some (OnSegments call)) b next = on_segments_sizes call b next
 
 answered_sizes : (b : Before) (r : Result Machine Stop) → stepped (state b.cpu b.view) ≡ r → Keeps b (answered b r)
 answered_sizes b (Ok s) e = stepped_lengths outcome.Done s (state b.cpu b.view) e

@@ -1,15 +1,41 @@
--- What is reserved for the whole run stays.
-use Rattle.std.proofs.Common.{◌≡◌, ℕ, ◌==◌, ◌&&◌, ◌||◌, Bool, true, false, cond, List, [], ◌∷◌, if◌then◌else◌, ap, sym, ◌∙◌, refl, Option, Some, None}
+-- What each step leaves as it is: other processes, and what is reserved for the whole run.
+use Rattle.std.proofs.Common.{◌≡◌, ◌≢◌, ℕ, ◌+◌, ◌==◌, ◌&&◌, ◌||◌, Bool, true, false, cond, List, [], ◌∷◌, if◌then◌else◌, ap, sym, ◌∙◌, refl, Option, Some, None}
+use Rattle.std.specs.Prelude.{slice_get}
 use Rattle.std.specs.List.{list_any}
 use Rattle.o2_conf.specs.Dispatch.{Dispatch}
-use Rattle.o2_world.specs.World.{World, Setting, Process, Reserve, is_live}
-use Rattle.o2_world.specs.Changes.{used, is_used}
+use Rattle.o2_world.specs.World.{World, Setting, Process, Reserve}
+use Rattle.o2_world.specs.Changes.{is_used, swept, takes, used, with_changes}
 use Rattle.o2_world.specs.Known.{is_for_the_run}
 use Rattle.o2_world.specs.Calls.{Effect}
 use Rattle.o2_world.specs.Effect.{effect}
 use Rattle.o2_world.specs.Holders.{process_at}
-use Rattle.o2_world.specs.Run.{before, plainly, acted, step, chosen_step, is_over, next_dispatch}
-use Rattle.o2_world.proofs.Quiet.{changed_plain, effect_quiet}
+use Rattle.o2_world.specs.Run.{all_changes, before, changed, worked, acted, step, chosen_step, is_over, next_dispatch}
+use Rattle.o2_world.specs.Moves.{AreOwn}
+use Rattle.o2_world.proofs.Keeps.{other_number}
+use Rattle.o2_world.proofs.OwnChanges.{all_other, all_own, changes_reserved, moves_own}
+use Rattle.o2_world.proofs.StepMoves.{effect_moves}
+
+own_changes : (s : Setting) (w : World) (n : ℕ) (p : Process) → let e = effect (before s w n p) in AreOwn n (all_changes n e)
+own_changes s w n p = let b = before s w n p in all_own n (effect b) (moves_own b (effect b).cpu (effect b).changes (effect_moves b))
+
+acted_other : (s : Setting) (w : World) (d : Dispatch) (o : Option Process) (place : ℕ) → place + 1 ≢ d.current
+    → slice_get (acted s w d o).processes place ≡ slice_get w.processes place
+unfolding changed
+acted_other s w d None place other = refl
+acted_other s w d (Some p) place other =
+    let e : Effect = effect (before s w d.current p) in
+    all_other (worked w d p e) (all_changes d.current e) d.current place (own_changes s w d.current p) other ∙ other_number w.processes d.current _ place other
+
+pub step_other : (s : Setting) (w : World) (place : ℕ) → place + 1 ≢ (next_dispatch s w).current
+    → slice_get (step s w).processes place ≡ slice_get w.processes place
+unfolding step
+step_other s w place other = go (is_over w)
+  where
+    go : (b : Bool) → slice_get (if b then w else chosen_step s w).processes place ≡ slice_get w.processes place
+    go true = refl
+    go false = acted_other s w (next_dispatch s w) _ place other
+
+-- What is reserved for the whole run.
 
 either_by : (z s x y : Bool) (own : Bool) → (s && (z && x)) ≡ true → (if z then (s || y) else own) ≡ true
 either_by true true x y own e = refl
@@ -37,18 +63,20 @@ any_used : (ps : List Process) (i : ℕ) (rs : List Reserve) → list_any (is_fo
 any_used ps i [] e = e
 any_used ps i (r ∷ rs) e = one_used ps i r (used ps rs) rs (is_used ps r) refl e (any_used ps i rs)
 
-by_end : (ps : List Process) (i : ℕ) (rs : List Reserve) (b : Bool) → list_any (is_for_the_run i) rs ≡ true
-    → list_any (is_for_the_run i) (if b then rs else used ps rs) ≡ true
-by_end ps i rs true e = e
-by_end ps i rs false e = any_used ps i rs e
+by_sweep : (w : World) (i : ℕ) (b : Bool) → list_any (is_for_the_run i) w.reserved ≡ true
+    → list_any (is_for_the_run i) (if b then swept w else w).reserved ≡ true
+by_sweep w i true e = any_used w.processes i w.reserved e
+by_sweep w i false e = e
 
 acted_stays : (s : Setting) (w : World) (d : Dispatch) (o : Option Process) (i : ℕ) → list_any (is_for_the_run i) w.reserved ≡ true
     → list_any (is_for_the_run i) (acted s w d o).reserved ≡ true
-unfolding plainly
+unfolding changed
 acted_stays s w d None i e = e
 acted_stays s w d (Some p) i e =
     let f : Effect = effect (before s w d.current p) in
-    rw (changed_plain w d p (effect (before s w d.current p)) (effect_quiet (before s w d.current p))) (by_end _ i w.reserved (is_live f.state) e)
+    let v : World = with_changes (worked w d p f) (all_changes d.current f) in
+    by_sweep v i (list_any takes (all_changes d.current f))
+    (ap (λ (rs : List Reserve). list_any (is_for_the_run i) rs) (changes_reserved (worked w d p f) (all_changes d.current f) d.current (own_changes s w d.current p)) ∙ e)
 
 pub step_stays : (s : Setting) (w : World) (i : ℕ) → list_any (is_for_the_run i) w.reserved ≡ true
     → list_any (is_for_the_run i) (step s w).reserved ≡ true

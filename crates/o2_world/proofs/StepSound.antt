@@ -1,5 +1,5 @@
 -- A step keeps a sound world sound.
-use Rattle.std.proofs.Common.{◌≡◌, ℕ, ◌-◌, Bool, true, false, List, [], length, Option, Some, if◌then◌else◌, ap, sym, ◌∙◌, refl, subst}
+use Rattle.std.proofs.Common.{◌≡◌, ℕ, ◌-◌, Bool, true, false, [], ◌∷◌, length, Option, Some, if◌then◌else◌, ap, sym, ◌∙◌, refl, subst}
 use Rattle.o2_conf.specs.Dispatch.{Dispatch}
 use Rattle.o2_world.specs.declared.types.State.TheVariants.{Live}
 use Rattle.o2_world.specs.Map.{get}
@@ -7,19 +7,21 @@ use Rattle.o2_world.specs.World.{World, Setting, Process, Segment, is_live}
 use Rattle.o2_world.specs.Holders.{process_at}
 use Rattle.o2_world.specs.Sound.{HasGoodRegisters}
 use Rattle.o2_world.specs.Views.{segment_bytes}
-use Rattle.o2_world.specs.Changes.{Change, with_changes}
+use Rattle.o2_world.specs.Changes.{Finishes}
 use Rattle.o2_world.specs.Calls.{Effect}
 use Rattle.o2_world.specs.Effect.{effect}
-use Rattle.o2_world.specs.Run.{before, changed, worked, working, acted, step, chosen_step, is_over, any_lives, live_flags, next_dispatch}
-use Rattle.o2_world.specs.Tied.{IsSound, IsSwept, AreFitChanges}
+use Rattle.o2_world.specs.Run.{all_changes, before, changed, worked, working, acted, step, chosen_step, is_over, any_lives, live_flags, next_dispatch}
+use Rattle.o2_world.specs.Tied.{AreFitChanges, IsSound, IsTied}
 use Rattle.o2_world.proofs.Budget.{not_over}
 use Rattle.o2_conf.proofs.Choice.{chosen_lives}
 use Rattle.o2_world.proofs.Flags.{live_process}
 use Rattle.o2_world.proofs.GoodRegisters.{good_after, effect_ruled}
 use Rattle.o2_world.proofs.Numbers.{at_place_of}
-use Rattle.o2_world.proofs.Quiet.{effect_quiet}
+use Rattle.o2_world.proofs.MovesFit.{moves_fit, moves_swept}
+use Rattle.o2_world.proofs.StepMoves.{effect_moves}
 use Rattle.o2_world.proofs.Sizes.{effect_sizes}
-use Rattle.o2_world.proofs.TiedWorld.{changed_tied, worked_swept}
+use Rattle.o2_world.proofs.TiedWorld.{changed_tied, fit_more, still_live, worked_tied}
+use Rattle.o2_world.proofs.StepReach.{end_changes, live_changes}
 
 -- the process whose step is next, where the run goes on
 pub next_process : (s : Setting) (w : World) → is_over w ≡ false
@@ -41,21 +43,31 @@ module _ (s : Setting) (w : World) (p : Process) (at : process_at w.processes (n
   sizes : (q : ℕ) (x : Segment) → get w.names q ≡ Some x → length (e.bytes q) ≡ length x.bytes
   sizes q x there = effect_sizes (before s w d.current p) q ∙ ap (λ (o : Option Segment). length (segment_bytes o)) there
 
-  quiet : e.changes ≡ []
-  quiet = effect_quiet (before s w d.current p)
-
   good : HasGoodRegisters (working p e)
   good = good_after w.names p e.cpu (working p e).state (sound.tied.registers (d.current - 1) p (at_place_of w.processes d.current p at) lives_now) (effect_ruled (before s w d.current p))
 
-  fit : AreFitChanges (worked w d p e) e.changes
-  fit = subst (AreFitChanges (worked w d p e)) (sym quiet) tt
+  still : is_live (working p e).state ≡ true
+  still = still_live w d p e at lives_now good sizes
 
-  swept_behind : IsSwept (with_changes (worked w d p e) e.changes)
-  unfolding with_changes
-  swept_behind = subst (λ (cs : List Change). IsSwept (with_changes (worked w d p e) cs)) (sym quiet) (worked_swept w d p e at lives_now good sizes sound.swept)
+  -- before its changes, and all its changes with an end
+  pub worked_is_tied : IsTied (worked w d p e)
+  worked_is_tied = worked_tied w d p e at lives_now good sizes sound.tied
+
+  fit : AreFitChanges (worked w d p e) e.changes
+  fit = moves_fit s w d p e at lives_now still good sizes sound (effect_moves (before s w d.current p))
+
+  pub all_fit : AreFitChanges (worked w d p e) (all_changes d.current e)
+  all_fit = go (is_live e.state) refl
+    where
+      go : (b : Bool) → is_live e.state ≡ b → AreFitChanges (worked w d p e) (all_changes d.current e)
+      go true is = subst (AreFitChanges (worked w d p e)) (sym (live_changes d.current e is)) fit
+      go false is = subst (AreFitChanges (worked w d p e)) (sym (end_changes d.current e is)) (fit_more (worked w d p e) e.changes (Finishes d.current e.state ∷ []) fit (is, tt))
 
   pub acted_sound : IsSound (changed w d p e)
-  acted_sound = let both = changed_tied w d p e at lives_now good sizes fit (λ _. swept_behind) sound.tied in record { tied = both.0; swept = both.1 }
+  acted_sound =
+      let moves = effect_moves (before s w d.current p) in
+      let both = changed_tied w d p e at lives_now good sizes fit (moves_swept s w d p e at lives_now still good sizes sound moves) sound.tied in
+      record { tied = both.0; swept = both.1 }
 
 pub step_sound : (s : Setting) (w : World) → IsSound w → IsSound (step s w)
 unfolding step

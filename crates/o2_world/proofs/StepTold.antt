@@ -1,148 +1,210 @@
--- The lines of a step tell what it changes of holds, and whom it ends.
-use Rattle.std.proofs.Common.{◌≡◌, ℕ, zero, suc, ◌+◌, ◌==◌, ◌&&◌, ◌||◌, not, Bool, true, false, cond, List, [], ◌∷◌, ◌++◌, Option, Some, None, if◌then◌else◌, ap, sym, ◌∙◌, refl, subst}
-use Rattle.std.specs.Prelude.{length, Result, Ok, Err}
-use Rattle.o2_isa.specs.declared.cpu.Stop.{Stop}
-use Rattle.o2_isa.specs.declared.cpu.Stop.TheVariants as stop
-use Rattle.o2_isa.specs.Steps.{State as Machine, state}
-use Rattle.o2_isa.specs.Step.{stepped}
-use Rattle.o2_conf.specs.Dispatch.{Dispatch}
-use Rattle.o2_world.specs.declared.types.Argument.{Argument}
-use Rattle.o2_world.specs.declared.types.State.TheVariants.{Trapped}
-use Rattle.o2_world.specs.declared.types.Row.{Row}
-use Rattle.o2_world.specs.declared.types.Transfer.{Transfer}
-use Rattle.o2_world.specs.declared.types.Row.TheVariants.{DosExit, DosGetPid, DosRead, DosWrite, DosMemAvail}
-use Rattle.o2_world.specs.World.{World, Setting, Process, Traps, is_live}
-use Rattle.o2_world.specs.Holders.{process_at}
+-- A step keeps what is held told by the lines.
+use Rattle.std.proofs.Common.{◌≡◌, ◌≢◌, ℕ, zero, suc, ◌-◌, ◌<◌, ◌≤◌, ◌/◌, ◌==◌, ◌&&◌, Bool, true, false, List, [], ◌∷◌, map, length, replicate, Option, Some, None, if◌then◌else◌, ap, sym, ◌∙◌, refl, arith, subst}
+use Rattle.std.specs.Prelude.{is_some, slice_get, flat_map}
+use Rattle.std.proofs.lemmas.Bool.{false≢true}
 use Rattle.o2_base.specs.Selectors.{selector_of}
-use Rattle.o2_world.specs.Changes.{Change, moved_lines}
-use Rattle.o2_world.specs.Calls.{Before, Effect, trapped, argument, has_arguments, transfer_of, may_write, may_give, is_console, written, dos_write, dos_exit, told_at, told, may_take, read_from, dos_read, row_of, served_by}
-use Rattle.o2_world.specs.Effect.{has_trap_flag, answered, single_stepped, effect}
-use Rattle.o2_world.specs.Run.{before, worked, acted, after, step, chosen_step, is_over, next_dispatch}
-use Rattle.o2_world.specs.Reach.{came, went, tells_end, CanTellAll, IsTold}
-use Rattle.o2_world.proofs.Numbers.{number_some}
-use Rattle.o2_world.proofs.Quiet.{effect_quiet}
-use Rattle.o2_world.proofs.Reached.{came_append, went_append}
-use Rattle.o2_world.proofs.RunReach.{end_append, told_after_step}
-use Rattle.o2_world.proofs.StepSound.{next_process}
+use Rattle.o2_conf.specs.Dispatch.{Dispatch}
+use Rattle.o2_isa.specs.View.{is_code}
+use Rattle.o2_world.specs.Map.{get, put}
+use Rattle.o2_world.specs.World.{World, Setting, Process, Held, HoldsBy, DropsBy, is_live}
+use Rattle.o2_world.specs.Holders.{process_at}
+use Rattle.o2_world.specs.Changes.{Change, Makes, Resizes, Locks, Marks, Holds, Drops, Finishes, Reserves, Frees, Names, at_number, at_place, fewer, hold_lines_of, with_change}
+use Rattle.o2_world.specs.CallParts.{Before, Effect}
+use Rattle.o2_world.specs.Effect.{effect}
+use Rattle.o2_world.specs.Run.{before, worked, working, acted, after, step, chosen_step, is_over, next_dispatch}
+use Rattle.o2_world.specs.Sound.{has_rights, held_in, held_of}
+use Rattle.o2_world.specs.Tied.{IsSound}
+use Rattle.o2_world.specs.Reach.{came, went, one_if, tells_end, holds_of, holds_at, IsThere, CanTellAll, IsTold}
+use Rattle.o2_world.specs.Moves.{AreApart, AreOwn, Each, IsOwn, Moves, NoneMoves, OneAliased, OneLocked, OneMade, OneSized, SomeFreed}
+use Rattle.o2_world.proofs.FitFrees.{at_each, each_among}
+use Rattle.o2_world.proofs.Numbers.{at_place_of, number_some}
+use Rattle.o2_world.proofs.OwnChanges.{moves_own}
+use Rattle.o2_world.proofs.Reached.{came_append, came_times, moved_came, number_holds, one_told, selector_is, went_times}
+use Rattle.o2_world.proofs.RowsTold.{IsToldBy, effect_told}
+use Rattle.o2_world.proofs.RunReach.{told_after_step}
+use Rattle.o2_world.proofs.StepMoves.{effect_moves}
+use Rattle.o2_world.proofs.StepReach.{own_at, same_at}
+use Rattle.o2_world.proofs.StepSound.{next_process, step_sound}
 
--- no line of a hold or a drop, and one of an end exactly where the process has ended
-record IsPlain (n : ℕ) (e : Effect) : Type 0 where
-  comes : (q s : ℕ) → came e.lines q s ≡ 0
-  goes : (q s : ℕ) → went e.lines q s ≡ 0
-  ends : (q : ℕ) → tells_end e.lines q ≡ (not (is_live e.state) && (q == n))
+-- Drops of what is held can be told.
 
-either : (n : ℕ) (t : Bool) (e f : Effect) → IsPlain n e → IsPlain n f → IsPlain n (cond t e f)
-either n true e f h k = h
-either n false e f h k = k
+place_length : (k : ℕ) (f : Process → Process) (ps : List Process) → length (at_place k f ps) ≡ length ps
+place_length k f [] = refl
+place_length zero f (p ∷ ps) = refl
+place_length (suc k) f (p ∷ ps) = ap suc (place_length k f ps)
 
-one_end : (b : Bool) → (if b then true else false) ≡ b
-one_end true = refl
-one_end false = refl
-
-traps : (b : Before) (vector : ℕ) → IsPlain b.number (trapped b vector)
-traps b vector = record { comes = λ q s. refl; goes = λ q s. refl; ends = λ q. one_end (q == b.number) }
-
-written_plain : (b : Before) (next : ℕ) (t : Transfer) → IsPlain b.number (written b next t)
-written_plain b next t =
-    either b.number (may_give b t) _ _
-    (either b.number (is_console t.handle) _ _ (record { comes = λ q s. refl; goes = λ q s. refl; ends = λ q. refl }) (record { comes = λ q s. refl; goes = λ q s. refl; ends = λ q. refl })) (traps b 13)
-
-write_plain : (b : Before) (next : ℕ) → IsPlain b.number (dos_write b next)
-unfolding dos_write
-write_plain b next = either b.number (has_arguments b.view b.cpu 6) _ _ (written_plain b next (transfer_of (argument b.view b.cpu))) (traps b 12)
-
-read_from_plain : (b : Before) (next : ℕ) (t : Transfer) → IsPlain b.number (read_from b next t)
-read_from_plain b next t =
-    either b.number (may_take b t) _ _
-    (either b.number (t.handle == 0) _ _ (record { comes = λ q s. refl; goes = λ q s. refl; ends = λ q. refl }) (record { comes = λ q s. refl; goes = λ q s. refl; ends = λ q. refl })) (traps b 13)
-
-read_plain : (b : Before) (next : ℕ) → IsPlain b.number (dos_read b next)
-unfolding dos_read
-read_plain b next = either b.number (has_arguments b.view b.cpu 6) _ _ (read_from_plain b next (transfer_of (argument b.view b.cpu))) (traps b 12)
-
-exit_plain : (b : Before) → IsPlain b.number (dos_exit b)
-unfolding dos_exit
-exit_plain b = either b.number (has_arguments b.view b.cpu 2) _ _ (record { comes = λ q s. refl; goes = λ q s. refl; ends = λ q. one_end (q == b.number) }) (traps b 12)
-
-told_at_plain : (b : Before) (next : ℕ) (name part : List ℕ) (values : List Argument) (selector offset : ℕ)
-    → IsPlain b.number (told_at b next name part values selector offset)
-told_at_plain b next name part values selector offset =
-    either b.number (may_write b.view selector offset (length part)) _ _ (record { comes = λ q s. refl; goes = λ q s. refl; ends = λ q. refl }) (traps b 13)
-
-told_plain : (b : Before) (next : ℕ) (name part : List ℕ) (values : List Argument) → IsPlain b.number (told b next name part values)
-unfolding told
-told_plain b next name part values = either b.number (has_arguments b.view b.cpu 2) _ _ (told_at_plain b next name part values _ _) (traps b 12)
-
-served_plain : (row : Option Row) (b : Before) (next : ℕ) → IsPlain b.number (served_by row b next)
-served_plain None b next = traps b 13
-served_plain (Some DosExit) b next = exit_plain b
-served_plain (Some DosGetPid) b next = told_plain b next _ _ _
-served_plain (Some DosRead) b next = read_plain b next
-served_plain (Some DosWrite) b next = write_plain b next
-served_plain (Some DosMemAvail) b next = told_plain b next _ _ _
-
-answered_plain : (b : Before) (r : Result Machine Stop) → IsPlain b.number (answered b r)
-answered_plain b (Ok s) = record { comes = λ q s. refl; goes = λ q s. refl; ends = λ q. refl }
-answered_plain b (Err (stop.Trap vector code)) = traps b vector
-answered_plain b (Err (stop.Gate service next)) = served_plain (row_of service) b next
-answered_plain b (Err (stop.Miss s)) = traps b 11
-
--- exception 1 behind a step that the process outlives
-trapped_plain : (b : Before) (e : Effect) → is_live e.state ≡ true → IsPlain b.number e → IsPlain b.number (record e { state = Trapped 1; lines = e.lines ++ Traps b.number 1 b.cpu.cs b.cpu.ip ∷ [] })
-trapped_plain b e lives plain = record {
-  comes = λ q s. came_append e.lines (Traps b.number 1 b.cpu.cs b.cpu.ip ∷ []) q s ∙ ap (λ (k : ℕ). k + 0) (plain.comes q s);
-  goes = λ q s. went_append e.lines (Traps b.number 1 b.cpu.cs b.cpu.ip ∷ []) q s ∙ ap (λ (k : ℕ). k + 0) (plain.goes q s);
-  ends = λ q. end_append e.lines (Traps b.number 1 b.cpu.cs b.cpu.ip ∷ []) q ∙ ap (λ (t : Bool). t || (if q == b.number then true else false)) (plain.ends q ∙ ap (λ (t : Bool). not t && (q == b.number)) lives) ∙ one_end (q == b.number);
-}
-
-single_plain : (b : Before) (e : Effect) → IsPlain b.number e → IsPlain b.number (single_stepped b e)
-single_plain b e plain = go (has_trap_flag b.cpu.flags) (is_live e.state) refl
+number_length : (n : ℕ) (f : Process → Process) (ps : List Process) → length (at_number n f ps) ≡ length ps
+number_length n f ps = go (n == 0)
   where
-    go : (t l : Bool) → is_live e.state ≡ l → IsPlain b.number (cond (t && l) (record e { state = Trapped 1; lines = e.lines ++ Traps b.number 1 b.cpu.cs b.cpu.ip ∷ [] }) e)
-    go true true lives = trapped_plain b e lives plain
-    go true false lives = plain
-    go false l lives = plain
+    go : (b : Bool) → length (if b then ps else at_place (n - 1) f ps) ≡ length ps
+    go true = refl
+    go false = place_length (n - 1) f ps
 
-effect_plain : (b : Before) → IsPlain b.number (effect b)
-unfolding effect
-effect_plain b = single_plain b (answered b (stepped (state b.cpu b.view))) (answered_plain b (stepped (state b.cpu b.view)))
+still_there : (w : World) (n i : ℕ) → IsThere w n → IsThere (with_change w (Drops n i 1)) n
+still_there w n i there = (there.0, let l = number_length n (λ (p : Process). record p { held = put i (fewer 1 (get p.held i)) p.held }) w.processes in let h = there.1 in omega (arith, l, h))
 
-nothing_comes : (q t : ℕ) → came (moved_lines [] []) q t ≡ 0
-unfolding moved_lines
-nothing_comes q t = refl
+not_same : (i j : ℕ) → i ≢ j → (i == j) ≡ false
+not_same i j other = go (i == j) refl
+  where
+    is_same : (i j : ℕ) → (i == j) ≡ true → i ≡ j
+    is_same i j e = grind arith
 
-nothing_goes : (q t : ℕ) → went (moved_lines [] []) q t ≡ 0
-unfolding moved_lines
-nothing_goes q t = refl
+    go : (b : Bool) → (i == j) ≡ b → (i == j) ≡ false
+    go true e = absurd (other (is_same i j e))
+    go false e = e
 
--- A step keeps a world told.
+-- one drop leaves other indexes as they are
+still_held : (w : World) (n i j : ℕ) → IsThere w n → 1 ≤ holds_at w n i → i ≢ j → 1 ≤ holds_at w n j → 1 ≤ holds_at (with_change w (Drops n i 1)) n j
+still_held w n i j there held other some =
+    let one = one_told [] w (Drops n i 1) (there, held) n j there.0 in
+    let none : went (replicate 1 (DropsBy n (selector_of i) [])) n (selector_of j) ≡ 0 =
+    went_times 1 (DropsBy n (selector_of i) []) n (selector_of j) false (apart (n == n) (selector_of j == selector_of i) (selector_is j i ∙ not_same i j other)) in
+    let a = number_holds w n j there.0 in
+    let b = number_holds (with_change w (Drops n i 1)) n j there.0 in
+    omega (arith, one, none, a, b, some)
+  where
+    apart : (x y : Bool) → y ≡ false → one_if (x && y) ≡ 0
+    apart x true e = absurd (false≢true (sym e))
+    apart true false e = refl
+    apart false false e = refl
 
-acted_told : (s : Setting) (w : World) (d : Dispatch) (p : Process) → process_at w.processes d.current ≡ Some p → IsTold w
-    → IsTold (acted s w d (Some p))
-acted_told s w d p at told =
-    let b : Before = before s w d.current p in
-    let plain = effect_plain b in
-    let quiet = effect_quiet b in
-    told_after_step w d p (effect b) at
-    (subst (CanTellAll (worked w d p (effect b))) (sym quiet) tt)
-    (record {
-      cause = [];
-      came_by = λ q t. plain.comes q t ∙ sym (ap (λ (cs : List Change). came (moved_lines [] cs) q t) quiet ∙ nothing_comes q t);
-      went_by = λ q t. plain.goes q t ∙ sym (ap (λ (cs : List Change). went (moved_lines [] cs) q t) quiet ∙ nothing_goes q t);
-    })
-    (number_some w.processes d.current p at) plain.ends (λ q i ended. plain.comes q (selector_of i)) told
+each_held : (w : World) (n i : ℕ) (is : List ℕ) → IsThere w n → 1 ≤ holds_at w n i → Each (λ (j : ℕ). i ≢ j) is → Each (λ (j : ℕ). 1 ≤ holds_at w n j) is
+    → Each (λ (j : ℕ). 1 ≤ holds_at (with_change w (Drops n i 1)) n j) is
+each_held w n i [] there held others some = tt
+each_held w n i (j ∷ is) there held others some = (still_held w n i j there held others.0 some.0, each_held w n i is there held others.1 some.1)
 
-pub step_told : (s : Setting) (w : World) → IsTold w → IsTold (step s w)
+drops_tell : (w : World) (n : ℕ) (is : List ℕ) → IsThere w n → AreApart is → Each (λ (j : ℕ). 1 ≤ holds_at w n j) is
+    → CanTellAll w (map (λ (i : ℕ). Drops n i 1) is)
+drops_tell w n [] there apart held = tt
+drops_tell w n (i ∷ is) there apart held =
+    ((there, held.0), drops_tell (with_change w (Drops n i 1)) n is (still_there w n i there) apart.1 (each_held w n i is there held.0 apart.0 held.1))
+
+-- a place that has a process
+below : (ps : List Process) (k : ℕ) (x : Process) → slice_get ps k ≡ Some x → k < length ps
+below [] k x e = absurd (cc)
+below (p ∷ ps) zero x e = omega arith
+below (p ∷ ps) (suc k) x e = let h = below ps k x e in omega (arith, h)
+
+-- Changes of one process give no hold to another.
+
+other_comes : (q n : ℕ) (h : Held) (i s : ℕ) (cause : List ℕ) → (q == n) ≡ false → came (replicate h.holds (HoldsBy n (selector_of i) cause)) q s ≡ 0
+other_comes q n h i s cause other = came_times h.holds (HoldsBy n (selector_of i) cause) q s false (ap (λ (b : Bool). one_if (b && (s == selector_of i))) other)
+
+own_comes : (cause : List ℕ) (c : Change) (n q s : ℕ) → IsOwn n c → (q == n) ≡ false → came (hold_lines_of cause c) q s ≡ 0
+own_comes cause (Holds p i h) n q s own other = other_comes q p h i s cause (ap (λ (k : ℕ). q == k) own ∙ other)
+own_comes cause (Makes g) n q s own other = refl
+own_comes cause (Resizes m size) n q s own other = refl
+own_comes cause (Locks m count) n q s own other = refl
+own_comes cause (Marks m d) n q s own other = refl
+own_comes cause (Drops p i count) n q s own other = refl
+own_comes cause (Finishes p state) n q s own other = refl
+own_comes cause (Reserves r) n q s own other = refl
+own_comes cause (Frees r first) n q s own other = refl
+own_comes cause (Names text m) n q s own other = refl
+
+none_come : (cause : List ℕ) (cs : List Change) (n q s : ℕ) → AreOwn n cs → (q == n) ≡ false → came (flat_map (hold_lines_of cause) cs) q s ≡ 0
+none_come cause [] n q s own other = refl
+none_come cause (c ∷ cs) n q s own other =
+    let a = came_append (hold_lines_of cause c) (flat_map (hold_lines_of cause) cs) q s in
+    let x = own_comes cause c n q s own.0 other in
+    let y = none_come cause cs n q s own.1 other in
+    omega (arith, a, x, y)
+
+module _ (s : Setting) (w : World) (p : Process) (d : Dispatch) (at : process_at w.processes d.current ≡ Some p) (lives : is_live p.state ≡ true) (sound : IsSound w) (told : IsTold w) where
+  abbrev b : Before
+  b = before s w d.current p
+
+  abbrev e : Effect
+  e = effect b
+
+  abbrev v : World
+  v = worked w d p e
+
+  some : 0 < d.current
+  some = number_some w.processes d.current p at
+
+  here : held_of (slice_get w.processes (d.current - 1)) ≡ held_of (Some p)
+  here = ap held_of (at_place_of w.processes d.current p at)
+
+  -- what the process holds it holds at least once
+  held_some : (i : ℕ) (h : Held) → get p.held i ≡ Some h → 1 ≤ holds_at w d.current i
+  held_some i h there =
+      let x : held_in w.processes (d.current - 1) i ≡ Some h = ap (λ (f : ℕ → Option Held). f i) here ∙ there in
+      let y = (sound.tied.held (d.current - 1) i h x).1 in
+      let z = number_holds w d.current i some in
+      let u : holds_of (held_in w.processes (d.current - 1) i) ≡ h.holds = ap holds_of x in
+      omega (arith, y, z, u)
+
+  same_holds : (i : ℕ) → holds_at v d.current i ≡ holds_at w d.current i
+  same_holds i =
+      number_holds v d.current i some ∙ ap holds_of (same_at w.processes d.current p (working p e) (d.current - 1) i at refl) ∙ sym (number_holds w d.current i some)
+
+  there_now : IsThere v d.current
+  there_now = (some, let h = below v.processes (d.current - 1) (working p e) (at_place_of v.processes d.current (working p e) (own_at w.processes d.current p (working p e) at)) in let z = some in omega (arith, h, z))
+
+  -- it has not ended: it holds its code
+  goes_on : tells_end w.lines d.current ≡ false
+  goes_on = go (tells_end w.lines d.current) refl
+    where
+      code : (o : Option Held) → get p.held (p.cpu.cs / 8) ≡ o → has_rights is_code o ≡ true → 1 ≤ holds_at w d.current (p.cpu.cs / 8)
+      code None f g = absurd (false≢true g)
+      code (Some h) f g = held_some (p.cpu.cs / 8) h f
+
+      go : (t : Bool) → tells_end w.lines d.current ≡ t → tells_end w.lines d.current ≡ false
+      go true f =
+          let good = sound.tied.registers (d.current - 1) p (at_place_of w.processes d.current p at) lives in
+          let x = code (get p.held (p.cpu.cs / 8)) refl good.cs.1 in
+          let y = told.ended d.current (p.cpu.cs / 8) some f in
+          absurd (omega (arith, x, y))
+      go false f = f
+
+  can_tell : Moves b e.cpu e.changes → CanTellAll v e.changes
+  can_tell (NoneMoves is) = subst (CanTellAll v) (sym is) tt
+  can_tell (OneMade size flags i free is) = subst (CanTellAll v) (sym is) (tt, (there_now, tt))
+  can_tell (OneSized name size is) = subst (CanTellAll v) (sym is) (tt, tt)
+  can_tell (OneLocked name count is) = subst (CanTellAll v) (sym is) (tt, tt)
+  can_tell (OneAliased index i h there free is) = subst (CanTellAll v) (sym is) (there_now, tt)
+  can_tell (SomeFreed xs frees is) =
+      subst (CanTellAll v) (sym is) (drops_tell v d.current xs there_now frees.apart (each_among (λ (j : ℕ). 1 ≤ holds_at v d.current j) xs (λ j among. subst (λ (k : ℕ). 1 ≤ k) (sym (same_holds j)) (freed j (get p.held j) refl (at_each (λ (i : ℕ). is_some (b.known.held b.number i) ≡ true) xs j frees.held among)))))
+    where
+      freed : (j : ℕ) (o : Option Held) → get p.held j ≡ o → is_some (b.known.held b.number j) ≡ true → 1 ≤ holds_at w d.current j
+      freed j None f g = absurd (false≢true (sym (ap is_some (ap (λ (x : Option Process). held_of x j) at ∙ f)) ∙ g))
+      freed j (Some h) f g = held_some j h f
+
+  -- a process that has ended gets nothing
+  gives_none : (q i : ℕ) → tells_end w.lines q ≡ true → came e.lines q (selector_of i) ≡ 0
+  gives_none q i ended = go (q == d.current) refl
+    where
+      is_same : (n m : ℕ) → (n == m) ≡ true → n ≡ m
+      is_same n m f = grind arith
+
+      t : IsToldBy d.current e
+      t = effect_told b
+
+      go : (x : Bool) → (q == d.current) ≡ x → came e.lines q (selector_of i) ≡ 0
+      go true f = absurd (false≢true (sym goes_on ∙ ap (tells_end w.lines) (sym (is_same q d.current f)) ∙ ended))
+      go false f = t.tells.came_by q (selector_of i) ∙ moved_came t.tells.cause e.changes q (selector_of i) ∙ none_come t.tells.cause e.changes d.current q (selector_of i) (moves_own b e.cpu e.changes (effect_moves b)) f
+
+  pub acted_told : IsTold (acted s w d (Some p))
+  acted_told =
+      let t : IsToldBy d.current e = effect_told b in
+      told_after_step w d p e at (can_tell (effect_moves b)) t.tells some t.ends gives_none told
+
+pub step_told : (s : Setting) (w : World) → IsSound w → IsTold w → IsTold (step s w)
 unfolding step
-step_told s w told = go (is_over w) refl
+step_told s w sound told = go (is_over w) refl
   where
     go : (b : Bool) → is_over w ≡ b → IsTold (if b then w else chosen_step s w)
     go true over = told
     go false runs =
         let here = next_process s w runs in
-        subst (λ (o : Option Process). IsTold (acted s w (next_dispatch s w) o)) (sym here.1) (acted_told s w (next_dispatch s w) here.0 here.1 told)
+        subst (λ (o : Option Process). IsTold (acted s w (next_dispatch s w) o)) (sym here.1) (acted_told s w here.0 (next_dispatch s w) here.1 (ap is_live here.2) sound told)
 
 -- what each step keeps holds along the run
 pub along : {P : World → Type 0} (s : Setting) → ((w : World) → P w → P (step s w)) → (w : World) → P w → (k : ℕ) → P (after s w k)
 along s keeps w first zero = first
 along {P} s keeps w first (suc k) = keeps (after s w k) (along {P = P} s keeps w first k)
+
+-- and so both do
+pub told_along : (s : Setting) (w : World) → IsSound w → IsTold w → (k : ℕ) → IsSound (after s w k) × IsTold (after s w k)
+told_along s w sound told k = along {P = λ (x : World). IsSound x × IsTold x} s (λ x both. (step_sound s x both.0, step_told s x both.0 both.1)) w (sound, told) k

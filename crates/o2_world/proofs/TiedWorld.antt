@@ -38,7 +38,7 @@ rewritten names bytes q s e = go (get names q) refl (sym (get-map (λ (n : ℕ) 
 dead_or_live : (b c : Bool) → b ≡ true → b ≡ false → ⊥
 dead_or_live b c e f = cc
 
-fit_more : (w : World) (xs ys : List Change) → AreFitChanges w xs → AreFitChanges (with_changes w xs) ys → AreFitChanges w (xs ++ ys)
+pub fit_more : (w : World) (xs ys : List Change) → AreFitChanges w xs → AreFitChanges (with_changes w xs) ys → AreFitChanges w (xs ++ ys)
 unfolding with_changes
 fit_more w [] ys fit more = more
 fit_more w (x ∷ xs) ys fit more = (fit.0, fit_more (with_change w x) xs ys fit.1 more)
@@ -93,14 +93,14 @@ uses_same ps n p new (r ∷ rs) at same h = (used_same ps n p new r at same ∙ 
 
 module _ (w : World) (d : Dispatch) (p : Process) (e : Effect) (at : process_at w.processes d.current ≡ Some p) (lives : is_live p.state ≡ true)
     (good : HasGoodRegisters (working p e)) (sizes : (q : ℕ) (s : Segment) → get w.names q ≡ Some s → length (e.bytes q) ≡ length s.bytes) where
-  still_live : is_live (working p e).state ≡ true
+  pub still_live : is_live (working p e).state ≡ true
   still_live = go (is_live e.state) refl
     where
       go : (b : Bool) → is_live e.state ≡ b → is_live (if b then e.state else p.state) ≡ true
       go true is = is
       go false is = lives
 
-  worked_tied : IsTied w → IsTied (worked w d p e)
+  pub worked_tied : IsTied w → IsTied (worked w d p e)
   worked_tied tied = record {
     held = λ place i h x. let old = tied.held place i h (before place i h x) in (bytes_there w.names e.bytes h.name ∙ old.0, old.1);
     below = λ q x. tied.below q (sym (bytes_there w.names e.bytes q) ∙ x);

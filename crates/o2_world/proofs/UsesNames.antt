@@ -1,16 +1,15 @@
 -- No change uses a name twice, and so no step does.
-use Rattle.std.proofs.Common.{◌≡◌, ℕ, ◌+◌, ◌<◌, ◌≤◌, ◌==◌, Bool, true, false, List, [], ◌∷◌, Option, Some, None, if◌then◌else◌, ap, sym, ◌∙◌, refl, arith, subst}
+use Rattle.std.proofs.Common.{◌≡◌, ℕ, ◌<◌, ◌==◌, Bool, true, false, List, [], ◌∷◌, Option, Some, None, if◌then◌else◌, ap, sym, ◌∙◌, arith}
 use Rattle.std.specs.Prelude.{is_some}
 use Rattle.std.specs.List.{list_any}
 use Rattle.o2_conf.specs.Dispatch.{Dispatch}
-use Rattle.o2_world.specs.Map.{get, put}
+use Rattle.o2_world.specs.Map.{get}
 use Rattle.o2_world.specs.World.{World, Setting, Process, Segment}
 use Rattle.o2_world.specs.Holders.{process_at}
 use Rattle.o2_world.specs.Changes.{Change, Makes, Resizes, Locks, Marks, Holds, Drops, Finishes, Reserves, Frees, Names, takes, resized, with_segment, with_change, with_changes, swept, with_all}
 use Rattle.o2_world.specs.Calls.{Effect}
 use Rattle.o2_world.specs.Effect.{effect}
 use Rattle.o2_world.specs.Run.{before, worked, changed, all_changes, acted, step, chosen_step, is_over, next_dispatch}
-use Rattle.o2_world.specs.Tied.{lives_in}
 use Rattle.o2_world.specs.NewNames.{UsesNewNames}
 use Rattle.o2_world.proofs.MapLemmas.{if_no}
 use Rattle.o2_world.proofs.Keeps.{bytes_there}

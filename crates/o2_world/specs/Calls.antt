@@ -1,80 +1,17 @@
 -- The calls of DOSCALLS by the OS/2 1.3 Programmer's Reference: for each its pointers in order, its conditions in order, its
--- error number, what it changes, and its line.
-use Rattle.std.specs.Prelude.{ℕ, zero, suc, ◌+◌, ◌*◌, ◌/◌, ◌%◌, Bool, true, List, [], ◌∷◌, ◌++◌, length, take, drop, not, if◌then◌else◌, ◌==◌, ◌&&◌, ◌||◌, Option, Some, None, Result, is_ok, codes}
-use Rattle.std.specs.Result.{result_unwrap_or}
-use Rattle.o2_isa.specs.declared.cpu.Cpu.{Cpu}
-use Rattle.o2_isa.specs.declared.instr.Sreg.TheVariants.{Ss}
-use Rattle.o2_isa.specs.declared.instr.Width.TheVariants.{Word as WordWide}
-use Rattle.o2_isa.specs.View.{View, read_of}
-pub use Rattle.o2_isa.specs.Pointers.{may_read, may_write}
-unfoldable pub use Rattle.o2_isa.specs.Pointers.{is_good, range_of, put_at_pointer}
+-- error number, what it changes, and its line. Those on segments stand in a file of their own.
+use Rattle.std.specs.Prelude.{ℕ, ◌/◌, ◌%◌, Bool, List, [], ◌∷◌, ◌++◌, length, take, drop, not, if◌then◌else◌, ◌==◌, ◌&&◌, ◌||◌, Option, Some, None, codes}
 use Rattle.o2_world.specs.declared.types.Argument.{Argument}
 use Rattle.o2_world.specs.declared.types.Argument.TheVariants.{Word, Long, Far}
 use Rattle.o2_world.specs.declared.types.Transfer.{Transfer}
 use Rattle.o2_world.specs.declared.types.Row.{Row}
-use Rattle.o2_world.specs.declared.types.Row.TheVariants.{DosExit, DosGetPid, DosRead, DosWrite, DosMemAvail}
+use Rattle.o2_world.specs.declared.types.Row.TheVariants.{DosExit, DosGetPid, DosRead, DosWrite, DosMemAvail, OnSegments}
+use Rattle.o2_world.specs.declared.types.State.TheVariants.{Live, Exited}
 use Rattle.o2_world.specs.Map.{get}
-use Rattle.o2_world.specs.declared.types.State.{State}
-use Rattle.o2_world.specs.declared.types.State.TheVariants.{Live, Exited, Trapped}
-use Rattle.o2_world.specs.World.{Line, Calls, Exits, Ends, Traps}
-use Rattle.o2_world.specs.Changes.{Change}
-use Rattle.o2_world.specs.Known.{Known}
-
--- what a step does: the registers and the state after it, the bytes after it of the names that lived before, what it changes
--- beside them, in order, the input left, the piece for the console, and the lines
-pub record Effect : Type 0 where
-  pub cpu : Cpu
-  pub state : State
-  pub bytes : ℕ → List ℕ
-  pub changes : List Change
-  pub input : List ℕ
-  pub piece : List ℕ
-  pub lines : List Line
-
--- what a step starts from: the number of its process, its registers, what it sees, what else is known, and the input left
-pub record Before : Type 0 where
-  pub number : ℕ
-  pub cpu : Cpu
-  pub view : View
-  pub known : Known
-  pub input : List ℕ
-
--- a trap: nothing changes but that the process ends
-abbrev pub trapped : Before → ℕ → Effect
-trapped b vector = record {
-  cpu = b.cpu;
-  state = Trapped vector;
-  bytes = b.view.bytes;
-  changes = [];
-  input = b.input;
-  piece = [];
-  lines = Traps b.number vector b.cpu.cs b.cpu.ip ∷ [];
-}
-
--- the error code of each exception by which a call ends its process
-abbrev pub trap_code : ℕ
-trap_code = 0
-
--- Arguments. They are pushed from left to right as words, each of which must lie in SS.
-
--- the i-th word from the top of the stack
-abbrev pub word_of : View → Cpu → ℕ → Result ℕ (ℕ × ℕ)
-word_of v c i = read_of v Ss ((c.sp + 2 * i) % 65536) WordWide
-
-unfoldable pub argument : View → Cpu → ℕ → ℕ
-argument v c i = result_unwrap_or (word_of v c i) 0
-
--- the first n words from the top of the stack lie in SS
-abbrev pub has_arguments : View → Cpu → ℕ → Bool
-has_arguments v c zero = true
-has_arguments v c (suc n) = has_arguments v c n && is_ok (word_of v c n)
-
-abbrev pub word_bytes : ℕ → List ℕ
-word_bytes n = n % 256 ∷ n / 256 ∷ []
-
--- the registers as a call comes back: AX has the error number, and the arguments are gone
-abbrev pub returned : Cpu → ℕ → ℕ → ℕ → Cpu
-returned c next words error = record c { ax = error; sp = (c.sp + 2 * words) % 65536; ip = next }
+use Rattle.o2_world.specs.World.{Line, Calls, Exits, Ends}
+pub use Rattle.o2_world.specs.CallParts.{Effect, Before, trapped, trap_code, word_of, has_arguments, word_bytes, long_bytes, returned, may_read, may_write}
+unfoldable pub use Rattle.o2_world.specs.CallParts.{argument, is_good, range_of, put_at_pointer}
+use Rattle.o2_world.specs.SegmentCalls.{on_segments}
 
 -- A transfer: what DosRead and DosWrite are given.
 abbrev pub transfer_of : (argument : ℕ → ℕ) → Transfer
@@ -190,9 +127,6 @@ abbrev pub dos_get_pid : Before → ℕ → Effect
 dos_get_pid b next = told b next (codes "DosGetPID") (pid_bytes b.number) (Word b.number ∷ Word 1 ∷ Word 0 ∷ [])
 
 -- DosMemAvail(psize): the number that the machine file gives, as four bytes, and as one value of eight digits
-abbrev pub long_bytes : ℕ → List ℕ
-long_bytes n = word_bytes (n % 65536) ++ word_bytes (n / 65536)
-
 abbrev pub dos_mem_avail : Before → ℕ → Effect
 dos_mem_avail b next = told b next (codes "DosMemAvail") (long_bytes b.known.avail) (Long (b.known.avail / 65536) (b.known.avail % 65536) ∷ [])
 
@@ -257,6 +191,7 @@ served DosGetPid b next = dos_get_pid b next
 served DosRead b next = dos_read b next
 served DosWrite b next = dos_write b next
 served DosMemAvail b next = dos_mem_avail b next
+served (OnSegments call) b next = on_segments call b next
 
 -- a number without a row is that of no call: its gate names nothing
 abbrev pub served_by : Option Row → Before → ℕ → Effect
@@ -266,3 +201,13 @@ served_by (Some row) b next = served row b next
 -- the call of a service that comes back to `next`
 abbrev pub serviced : Before → ℕ → ℕ → Effect
 serviced b service next = served_by (row_of service) b next
+
+-- what is built has no call on segments yet
+abbrev pub IsPlain : Option Row → Type 0
+IsPlain None = Unit {0}
+IsPlain (Some DosExit) = Unit {0}
+IsPlain (Some DosGetPid) = Unit {0}
+IsPlain (Some DosRead) = Unit {0}
+IsPlain (Some DosWrite) = Unit {0}
+IsPlain (Some DosMemAvail) = Unit {0}
+IsPlain (Some (OnSegments call)) = ⊥

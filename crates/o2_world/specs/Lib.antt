@@ -5,9 +5,12 @@ pub mod Holders
 pub mod Views
 pub mod Changes
 pub mod Known
-pub mod Calls
+pub mod CallParts
 pub mod Rulings
 pub mod SegmentCalls
+pub mod Calls
+pub mod Moves
+pub mod Bare
 pub mod Effect
 pub mod Run
 pub mod Opening

@@ -36,8 +36,9 @@ free_index k region = if region == 0 then chosen (k.taken 0) 4096 8192 1 else ch
 -- DosAllocSeg(size, psel, flags): 87 where the flags exceed 000Fh; 8 where no index of the region is free, or no more names
 -- may live. A segment of zeros, shared where the flags have 1 (giveable) or 2 (gettable); with flag 4 it is locked once.
 
+-- a size is a word, and 0 stands for 65,536
 abbrev pub full_size : ℕ → ℕ
-full_size size = if size == 0 then 65536 else size
+full_size size = if size % 65536 == 0 then 65536 else size % 65536
 
 abbrev pub made_segment : (size flags : ℕ) → Segment
 made_segment size flags = record {

@@ -9,7 +9,9 @@ use Rattle.o2_world.specs.World.{Held, Calls, ByCall}
 use Rattle.o2_world.specs.Changes.{Change, Holds, moved_lines}
 use Rattle.o2_world.specs.Known.{Marks}
 use Rattle.o2_base.specs.Selectors.{selector_of}
-use Rattle.o2_world.specs.Calls.{Before, Effect, trapped, returned, argument, has_arguments, may_write, put_at_pointer, word_bytes, long_bytes}
+use Rattle.o2_world.specs.declared.types.SegmentCall.{SegmentCall}
+use Rattle.o2_world.specs.declared.types.SegmentCall.TheVariants.{DosAllocSeg, DosReallocSeg, DosFreeSeg, DosSizeSeg, DosLockSeg, DosUnlockSeg, DosCreateCsAlias}
+use Rattle.o2_world.specs.CallParts.{Before, Effect, trapped, returned, argument, has_arguments, may_write, put_at_pointer, word_bytes, long_bytes}
 use Rattle.o2_world.specs.Rulings.{Ruling, aliasing, allocation, freeing, freeing_cpu, held_under, is_later, locking, members, reallocation, sizing, unlocking}
 
 -- a call that comes back: error number, values, changes, and the bytes behind its pointers
@@ -124,6 +126,16 @@ unfoldable pub dos_create_cs_alias : Before → ℕ → Effect
 dos_create_cs_alias b next =
     let a : ℕ → ℕ = argument b.view b.cpu in
     if has_arguments b.view b.cpu 3 then aliased b next (a 2) (a 1) (a 0) else trapped b 12
+
+-- the call that comes back to `next`
+abbrev pub on_segments : SegmentCall → Before → ℕ → Effect
+on_segments DosAllocSeg b next = dos_alloc_seg b next
+on_segments DosReallocSeg b next = dos_realloc_seg b next
+on_segments DosFreeSeg b next = dos_free_seg b next
+on_segments DosSizeSeg b next = dos_size_seg b next
+on_segments DosLockSeg b next = dos_lock_seg b next
+on_segments DosUnlockSeg b next = dos_unlock_seg b next
+on_segments DosCreateCsAlias b next = dos_create_cs_alias b next
 
 -- DosGiveSeg(sel, pid, psel): 5 where sel isn't held, has no flag 1, or is in a run but not its first; 303 where pid isn't a
 -- process that lives. A hold more of pid, for each member of a run; the selector is written.

@@ -13,14 +13,20 @@ ghost use Rattle.o2_world.specs.World.{Process, Segment, is_live};
 ghost use Rattle.o2_world.specs.Holders.{process_at};
 ghost use Rattle.std.specs.Prelude.{is_some};
 ghost use Rattle.o2_base.specs.Services.{is_built};
-ghost use Rattle.o2_world.specs.Calls.{row_of};
+ghost use Rattle.o2_world.specs.Calls.{row_of, served_by};
+ghost use Rattle.o2_world.specs.CallParts.{Before};
+ghost use Rattle.o2_world.specs.declared.types.Row.{Row};
+ghost use Rattle.o2_world.specs.Effect.{effect};
+ghost use Rattle.o2_world.specs.Moves.{Moves};
+ghost use Rattle.std.specs.Prelude.{Option};
 ghost use Rattle.o2_world.specs.Known.{is_for_the_run};
 ghost use Rattle.o2_world.specs.SharedMarks.{shared_marks, some_marks};
-ghost use Rattle.o2_world.specs.Changes.{Locks, takes, used, told_of, moved_lines, with_changes};
+ghost use Rattle.o2_world.specs.Changes.{Change, Locks, takes, used, told_of, moved_lines, with_all, with_changes};
+ghost use Rattle.o2_world.specs.Bare.{bare};
 ghost use Rattle.o2_world.specs.Calls.{Effect};
 ghost use Rattle.o2_base.specs.Selectors.{selector_of};
 ghost use Rattle.o2_world.specs.Sound.{HasGoodRegisters};
-ghost use Rattle.o2_world.specs.Run.{changed, worked, working};
+ghost use Rattle.o2_world.specs.Run.{before, changed, worked, working};
 ghost use Rattle.o2_world.specs.Reach.{CanTellAll, Tells, IsTold, reach, tells_end, holds_at, came, went};
 ghost use Rattle.o2_world.specs.Tied.{IsTied, IsSwept, IsSound, AreFitChanges};
 ghost use Rattle.o2_world.specs.NewNames.{UsesNewNames};
@@ -163,12 +169,12 @@ pub fn what_is_held_is_the_reach_of_the_report()
         → reach w.lines q (selector_of i) ≡ holds_at w q i }
 {}
 
-/// From the opening on, what each process holds under each selector is the reach of the report, step by step: the lines of
+/// From a sound opening on, what each process holds under each selector is the reach of the report, step by step: the lines of
 /// holds that came less those that went, and nothing behind the line of its end.
 pub fn reach_holds_along_the_run()
-    ensures step { (s : Setting) (w : World) → IsTold w → IsTold (step s w) }
+    ensures step { (s : Setting) (w : World) → IsSound w → IsTold w → IsTold (step s w) }
     ensures run { (s : Setting) (reserved : List (ℕ × ℕ)) (script : List Word) (input : List ℕ) (starts : List Start) (w : World)
-        → AreFit starts → opening_of s reserved script input starts ≡ Ok w
+        → AreFit starts → opening_of s reserved script input starts ≡ Ok w → IsSound w
         → (k q i : ℕ) → 0 < q
         → reach (after s w k).lines q (selector_of i) ≡ holds_at (after s w k) q i }
 {}
@@ -182,6 +188,35 @@ pub fn fit_changes_keep_a_world_tied()
         → AreFitChanges (worked w d p e) e.changes
         → (list_any takes e.changes ≡ false → IsSwept (with_changes (worked w d p e) e.changes))
         → IsTied w → IsTied (changed w d p e) × IsSwept (changed w d p e) }
+{}
+
+/// What a call may change is one of a few things: nothing but bytes; a new segment that is held at an index that was free; the size
+/// of a segment; its lock count; a segment that is held already and is held at a free index too, as code; or one hold less at each
+/// of some indexes that are held and that neither CS nor SS names, with DS and ES 0 where they named one that is gone. In a sound
+/// world these changes are fit, and where none takes a hold all that lives behind them is held.
+pub fn what_calls_change_is_fit()
+    ensures shape { (row : Option Row) (b : Before) (next : ℕ)
+        → Moves b (served_by row b next).cpu (served_by row b next).changes }
+    ensures steps { (b : Before) → Moves b (effect b).cpu (effect b).changes }
+    ensures fit { (s : Setting) (w : World) (d : Dispatch) (p : Process) (e : Effect)
+        → process_at w.processes d.current ≡ Some p → is_live p.state ≡ true → is_live (working p e).state ≡ true
+        → HasGoodRegisters (working p e)
+        → ((q : ℕ) (x : Segment) → get w.names q ≡ Some x → length (e.bytes q) ≡ length x.bytes)
+        → IsSound w → Moves (before s w d.current p) e.cpu e.changes → AreFitChanges (worked w d p e) e.changes }
+    ensures swept { (s : Setting) (w : World) (d : Dispatch) (p : Process) (e : Effect)
+        → process_at w.processes d.current ≡ Some p → is_live p.state ≡ true → is_live (working p e).state ≡ true
+        → HasGoodRegisters (working p e)
+        → ((q : ℕ) (x : Segment) → get w.names q ≡ Some x → length (e.bytes q) ≡ length x.bytes)
+        → IsSound w → Moves (before s w d.current p) e.cpu e.changes
+        → list_any takes e.changes ≡ false → IsSwept (with_changes (worked w d p e) e.changes) }
+{}
+
+/// Changes go by names, marks and holds, and by no byte and no register: worlds that have these alike have them alike behind
+/// changes. Bytes and registers of a step change none of them.
+pub fn changes_go_by_no_bytes()
+    ensures alike { (u v : World) (cs : List Change) → bare u ≡ bare v → bare (with_all u cs) ≡ bare (with_all v cs) }
+    ensures worked { (w : World) (d : Dispatch) (p : Process) (e : Effect) → process_at w.processes d.current ≡ Some p
+        → bare (worked w d p e) ≡ bare w }
 {}
 
 /// Each service that is built has a row, and no other.

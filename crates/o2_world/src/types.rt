@@ -19,6 +19,19 @@ pub enum Row {
     DosRead,
     DosWrite,
     DosMemAvail,
+    OnSegments(SegmentCall),
+}
+
+/// A call that makes, sizes, frees, locks or aliases a segment.
+#[derive(Clone, Copy, Debug, PartialEq, Eq)]
+pub enum SegmentCall {
+    DosAllocSeg,
+    DosReallocSeg,
+    DosFreeSeg,
+    DosSizeSeg,
+    DosLockSeg,
+    DosUnlockSeg,
+    DosCreateCsAlias,
 }
 
 /// An argument of a call, or a value that a call wrote, as the report prints it.

@@ -8,7 +8,7 @@ use Rattle.o2_world.specs.declared.types.Row.TheVariants.{DosExit, DosGetPid, Do
 use Rattle.o2_world.specs.Calls.{Effect}
 use Rattle.o2_gate.specs.Befores.{boundless, before_call}
 use Rattle.o2_gate.specs.Called.{Does}
-use Rattle.o2_gate.proofs.Served.{by_row}
+use Rattle.o2_gate.proofs.Served.{by_row, not_plain}
 use Rattle.o2_gate.proofs.Named.{names_by_row}
 use Rattle.o2_run.specs.Pieces.{counts, PartHands}
 use Rattle.o2_gate.proofs.Lines.{by_line, told_line, read_line}
@@ -171,3 +171,6 @@ returns-in-Some-DosRead-clause-puts g c = c.dos_read.ensures.puts _
 
 pub returns-in-Some-DosMemAvail-clause-puts : goal.returns-in-Some-DosMemAvail-clause-puts
 returns-in-Some-DosMemAvail-clause-puts g c = c.dos_mem_avail.ensures.puts _
+
+pub unreachable-requires : goal.unreachable-requires
+unreachable-requires g c = not_plain c.row_of.result c.in-Some-OnSegments.field-0 _ c.row_of.ensures.plain c.in-Some-OnSegments.is c.in-Some-OnSegments.field-0-is

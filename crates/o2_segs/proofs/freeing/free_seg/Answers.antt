@@ -1,5 +1,6 @@
 use Rattle.std.proofs.Common.{ℕ, ◌≡◌, ◌/◌, ◌∙◌, Some, ap, sym, subst}
 use Rattle.o2_regions.specs.Maps.{Maps, held_at}
+use Rattle.o2_world.specs.Rulings.{Ruling}
 use Rattle.o2_segs.proofs.Rows.{at_maps, cleared, done_answers, free_done, free_kept, free_matches, free_none, free_refused, free_registers, refusal_answers, refusal_matches}
 use Rattle.o2_segs.proofs.Selecting.{under_held}
 use Rattle.o2_segs.proofs.freeing.free_seg.Goals as goal
@@ -32,8 +33,9 @@ returns-else-is_kept-clause-registers c = λ p o es em.
 
 pub returns-else-is_kept-clause-matches : goal.returns-else-is_kept-clause-matches
 returns-else-is_kept-clause-matches c = λ p o w x es em at loses q.
+    (let d = free_done p o c.args.regions.now c.args.pid c.args.sel c.args.cpu.now c.in-Some.held c.requires.alone em (sym c.in-Some.ensures) (sym c.if-is_kept.ensures) in
     free_matches p o c.args.store.now c.let_go-left.new.store c.args.regions.now c.let_go-left.new.regions c.args.pid c.args.sel c.index-index.result c.args.cpu.now w x
-    (free_done p o c.args.regions.now c.args.pid c.args.sel c.args.cpu.now c.in-Some.held c.requires.alone em (sym c.in-Some.ensures) (sym c.if-is_kept.ensures)) c.index-index.ensures c.let_go-left.ensures.matches es em at loses q
+    d c.index-index.ensures c.let_go-left.ensures.matches es em at (loses (ap (λ (r : Ruling). r.error) d)) q)
 
 pub returns-in-None-clause-answer : goal.returns-in-None-clause-answer
 returns-in-None-clause-answer c = λ p o es em.

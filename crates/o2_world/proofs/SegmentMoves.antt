@@ -1,0 +1,270 @@
+-- What each call on segments changes, by its shape.
+use Rattle.std.proofs.Common.{◌≡◌, ◌≢◌, ◌⊎◌, inl, inr, ℕ, zero, suc, ◌+◌, ◌<◌, ◌≤◌, ◌==◌, ◌/◌, ◌%◌, nat_lt, nat_le, not, ◌||◌, Bool, true, false, cond, List, [], ◌∷◌, Option, Some, None, if◌then◌else◌, ap, refl, arith, subst}
+use Rattle.std.specs.Prelude.{is_some, filter, map, min, codes}
+use Rattle.o2_desc.specs.Bits.{is_writable}
+use Rattle.o2_desc.specs.Choice.{IsChosen, chosen}
+use Rattle.o2_desc.proofs.Choices.{chosen_law}
+use Rattle.o2_isa.specs.declared.cpu.Cpu.{Cpu}
+use Rattle.o2_isa.specs.View.{is_local}
+use Rattle.o2_world.specs.declared.types.Argument.{Argument}
+use Rattle.o2_world.specs.declared.types.Argument.TheVariants.{Word, Far}
+use Rattle.o2_world.specs.declared.types.SegmentCall.{SegmentCall}
+use Rattle.o2_world.specs.declared.types.SegmentCall.TheVariants.{DosAllocSeg, DosReallocSeg, DosFreeSeg, DosSizeSeg, DosLockSeg, DosUnlockSeg, DosCreateCsAlias}
+use Rattle.o2_world.specs.World.{Held}
+use Rattle.o2_world.specs.Changes.{Drops}
+use Rattle.o2_world.specs.Known.{Known, Marks}
+use Rattle.o2_world.specs.CallParts.{Before, Effect, argument, has_arguments, may_write, returned}
+use Rattle.o2_world.specs.Rulings.{Ruling, aliasing, aliasing_at, aliasing_of, allocation, allocation_at, by_load, dropped_indexes, free_index, freed_cpu, freeing, freeing_of, full_size, grants, held_under, in_use, indexes, is_alias, is_discardable, is_gone, is_in_run, is_later, keeps_its_size, locking_of, locking_with, members, reallocation_of, reallocation_with, refusal, region_by, sizing, sizing_of, sizing_with, unlocking_of, unlocking_with}
+use Rattle.o2_world.specs.SegmentCalls.{Written, alloc_args, aliased, allocated, dos_alloc_seg, dos_create_cs_alias, dos_free_seg, dos_lock_seg, dos_realloc_seg, dos_size_seg, dos_unlock_seg, freed, on_segments, ruled_at, sized, written_long, written_word}
+use Rattle.o2_world.specs.Moves.{AreApart, Each, IsFreeIndex, IsFreeing, Moves, NoneMoves, OneAliased, OneLocked, OneMade, OneSized, SomeFreed}
+
+either : (b : Before) (t : Bool) (e f : Effect) → Moves b e.cpu e.changes → Moves b f.cpu f.changes
+    → Moves b (cond t e f).cpu (cond t e f).changes
+either b true e f h k = h
+either b false e f h k = k
+
+rules : (b : Before) (cpu : Cpu) (t : Bool) (r q : Ruling) → Moves b cpu r.changes → Moves b cpu q.changes → Moves b cpu (cond t r q).changes
+rules b cpu true r q h k = h
+rules b cpu false r q h k = k
+
+-- The index of a new selector is free.
+
+record IsOpen (taken : ℕ → Bool) (low end i : ℕ) : Type 0 where
+  from : low ≤ i
+  below : i < end
+  free : taken i ≡ false
+
+chosen_open : (taken : ℕ → Bool) (low end i : ℕ) → chosen taken low end 1 ≡ Some i → IsOpen taken low end i
+chosen_open taken low end i e =
+    let law : IsChosen taken low end 1 (Some i) = subst (IsChosen taken low end 1) e (chosen_law taken low end 1) in
+    record { from = law.0.0; below = (let a = law.0.1 in omega (arith, a)); free = law.0.2 i (omega arith) (omega arith) }
+
+zero_is : (n : ℕ) → (n == 0) ≡ true → n ≡ 0
+zero_is n e = grind arith
+
+not_zero : (n : ℕ) → (n == 0) ≡ false → n ≡ 0 → ⊥
+not_zero n e f = grind arith
+
+free_by : (k : Known) (n r i : ℕ) → (r ≡ n) ⊎ (r ≡ 0) → free_index k r ≡ Some i → IsFreeIndex k n i
+free_by k n r i which e = go (r == 0) refl e
+  where
+    own_of : (r ≡ n) ⊎ (r ≡ 0) → (r ≡ 0 → ⊥) → r ≡ n
+    own_of (inl same) some = same
+    own_of (inr none) some = absurd (some none)
+
+    go : (b : Bool) → (r == 0) ≡ b → (if b then chosen (k.taken 0) 4096 8192 1 else chosen (k.taken r) 1 4096 1) ≡ Some i → IsFreeIndex k n i
+    go true is f = let o = chosen_open (k.taken 0) 4096 8192 i f in let low = o.from in record { own = λ below. absurd (omega (arith, low, below)); shared = λ _. o.free }
+    go false is f =
+        let o = chosen_open (k.taken r) 1 4096 i f in
+        let high = o.below in
+        record { own = λ _. subst (λ (m : ℕ). k.taken m i ≡ false) (own_of which (not_zero r is)) o.free; shared = λ from. absurd (omega (arith, high, from)) }
+
+region_is : (n flags : ℕ) → (region_by n flags ≡ n) ⊎ (region_by n flags ≡ 0)
+region_is n flags = go (flags % 4 == 0)
+  where
+    go : (b : Bool) → ((if b then n else 0) ≡ n) ⊎ ((if b then n else 0) ≡ 0)
+    go true = inl refl
+    go false = inr refl
+
+-- Rulings.
+
+at_moves : (b : Before) (cpu : Cpu) (size flags : ℕ) (o : Option ℕ) → free_index b.known (region_by b.number flags) ≡ o
+    → Moves b cpu (allocation_at b.known b.number size flags o).changes
+at_moves b cpu size flags None e = NoneMoves refl
+at_moves b cpu size flags (Some i) e = OneMade size flags i (free_by b.known b.number (region_by b.number flags) i (region_is b.number flags) e) refl
+
+allocation_moves : (b : Before) (cpu : Cpu) (size flags : ℕ) → Moves b cpu (allocation b.known b.number size flags).changes
+allocation_moves b cpu size flags =
+    rules b cpu (nat_lt 15 flags) _ _ (NoneMoves refl)
+    (rules b cpu (nat_le b.known.most b.known.count) _ _ (NoneMoves refl) (at_moves b cpu size flags (free_index b.known (region_by b.number flags)) refl))
+
+resize_moves : (b : Before) (cpu : Cpu) (name size : ℕ) (o : Option Marks) → Moves b cpu (reallocation_with name (full_size size) o).changes
+resize_moves b cpu name size None = NoneMoves refl
+resize_moves b cpu name size (Some m) = rules b cpu (keeps_its_size (full_size size) m) _ _ (NoneMoves refl) (OneSized name size refl)
+
+realloc_moves : (b : Before) (cpu : Cpu) (size : ℕ) (o : Option Held) → Moves b cpu (reallocation_of b.known (full_size size) o).changes
+realloc_moves b cpu size None = NoneMoves refl
+realloc_moves b cpu size (Some h) = rules b cpu (is_alias h.cause || is_in_run h) _ _ (NoneMoves refl) (resize_moves b cpu h.name size (b.known.segment h.name))
+
+marks_size : (b : Before) (cpu : Cpu) (o : Option Marks) → Moves b cpu (sizing_with o).changes
+marks_size b cpu None = NoneMoves refl
+marks_size b cpu (Some m) = NoneMoves refl
+
+size_moves : (b : Before) (cpu : Cpu) (o : Option Held) → Moves b cpu (sizing_of b.known o).changes
+size_moves b cpu None = NoneMoves refl
+size_moves b cpu (Some h) = marks_size b cpu (b.known.segment h.name)
+
+marks_lock : (b : Before) (cpu : Cpu) (name : ℕ) (o : Option Marks) → Moves b cpu (locking_with name o).changes
+marks_lock b cpu name None = NoneMoves refl
+marks_lock b cpu name (Some m) = rules b cpu (is_discardable m) _ _ (OneLocked name (min (m.lock + 1) 255) refl) (NoneMoves refl)
+
+lock_moves : (b : Before) (cpu : Cpu) (o : Option Held) → Moves b cpu (locking_of b.known o).changes
+lock_moves b cpu None = NoneMoves refl
+lock_moves b cpu (Some h) = marks_lock b cpu h.name (b.known.segment h.name)
+
+marks_unlock : (b : Before) (cpu : Cpu) (name : ℕ) (o : Option Marks) → Moves b cpu (unlocking_with name o).changes
+marks_unlock b cpu name None = NoneMoves refl
+marks_unlock b cpu name (Some m) = rules b cpu (is_discardable m) _ _ (rules b cpu (m.lock == 0) _ _ (NoneMoves refl) (OneLocked name _ refl)) (NoneMoves refl)
+
+unlock_moves : (b : Before) (cpu : Cpu) (o : Option Held) → Moves b cpu (unlocking_of b.known o).changes
+unlock_moves b cpu None = NoneMoves refl
+unlock_moves b cpu (Some h) = marks_unlock b cpu h.name (b.known.segment h.name)
+
+pub held_there : (k : Known) (n s : ℕ) (h : Held) → held_under k n s ≡ Some h → k.held n (s / 8) ≡ Some h
+held_there k n s h e = go (is_local s) e
+  where
+    go : (b : Bool) → (if b then k.held n (s / 8) else None) ≡ Some h → k.held n (s / 8) ≡ Some h
+    go true f = f
+    go false f = absurd (cc)
+
+alias_at : (b : Before) (cpu : Cpu) (index : ℕ) (h : Held) (o : Option ℕ) → b.known.held b.number index ≡ Some h
+    → free_index b.known b.number ≡ o → Moves b cpu (aliasing_at b.number h.name o).changes
+alias_at b cpu index h None there e = NoneMoves refl
+alias_at b cpu index h (Some i) there e = OneAliased index i h there (free_by b.known b.number b.number i (inl refl) e) refl
+
+alias_moves : (b : Before) (cpu : Cpu) (s : ℕ) (o : Option Held) → held_under b.known b.number s ≡ o
+    → Moves b cpu (aliasing_of b.known b.number (s / 8) o).changes
+alias_moves b cpu s None e = NoneMoves refl
+alias_moves b cpu s (Some h) e =
+    rules b cpu (nat_le 4096 (s / 8) || (not (is_writable h.rights) || is_in_run h)) _ _ (NoneMoves refl)
+    (alias_at b cpu (s / 8) h (free_index b.known b.number) (held_there b.known b.number s h e) refl)
+
+-- Which indexes a free is about.
+
+above : (P Q : ℕ → Type 0) → ((i : ℕ) → P i → Q i) → (is : List ℕ) → Each P is → Each Q is
+above P Q f [] h = tt
+above P Q f (i ∷ is) h = (f i h.0, above P Q f is h.1)
+
+indexes_from : (first n : ℕ) → Each (λ (j : ℕ). first ≤ j) (indexes first n)
+indexes_from first zero = tt
+indexes_from first (suc n) = (omega arith, above (λ j. first + 1 ≤ j) (λ j. first ≤ j) (λ j h. omega (arith, h)) (indexes (first + 1) n) (indexes_from (first + 1) n))
+
+each_kept : (P : ℕ → Type 0) (f : ℕ → Bool) (is : List ℕ) → Each P is → Each P (filter f is)
+each_kept P f [] h = tt
+each_kept P f (i ∷ is) h = go (f i) (each_kept P f is h.1)
+  where
+    go : (b : Bool) → Each P (filter f is) → Each P (cond b (i ∷ filter f is) (filter f is))
+    go true rest = (h.0, rest)
+    go false rest = rest
+
+apart_kept : (f : ℕ → Bool) (is : List ℕ) → AreApart is → AreApart (filter f is)
+apart_kept f [] h = tt
+apart_kept f (i ∷ is) h = go (f i) (apart_kept f is h.1)
+  where
+    go : (b : Bool) → AreApart (filter f is) → AreApart (cond b (i ∷ filter f is) (filter f is))
+    go true rest = (each_kept (λ (j : ℕ). i ≢ j) f is h.0, rest)
+    go false rest = rest
+
+indexes_apart : (first n : ℕ) → AreApart (indexes first n)
+indexes_apart first zero = tt
+indexes_apart first (suc n) =
+    (above (λ j. first + 1 ≤ j) (λ j. first ≢ j) (λ j h same. omega (arith, h, same)) (indexes (first + 1) n) (indexes_from (first + 1) n), indexes_apart (first + 1) n)
+
+kept_are : (f : ℕ → Bool) (is : List ℕ) → Each (λ (j : ℕ). f j ≡ true) (filter f is)
+kept_are f [] = tt
+kept_are f (i ∷ is) = go (f i) refl (kept_are f is)
+  where
+    go : (b : Bool) → f i ≡ b → Each (λ (j : ℕ). f j ≡ true) (filter f is) → Each (λ (j : ℕ). f j ≡ true) (cond b (i ∷ filter f is) (filter f is))
+    go true so rest = (so, rest)
+    go false so rest = rest
+
+members_apart : (k : Known) (n i : ℕ) (h : Held) → AreApart (members k n i h)
+members_apart k n i h = go (h.reserved == 0)
+  where
+    go : (b : Bool) → AreApart (cond b (i ∷ []) (filter (λ (j : ℕ). is_some (k.held n j)) (indexes h.first h.reserved)))
+    go true = (tt, tt)
+    go false = apart_kept (λ (j : ℕ). is_some (k.held n j)) (indexes h.first h.reserved) (indexes_apart h.first h.reserved)
+
+members_held : (k : Known) (n i : ℕ) (h : Held) → k.held n i ≡ Some h → Each (λ (j : ℕ). is_some (k.held n j) ≡ true) (members k n i h)
+members_held k n i h there = go (h.reserved == 0)
+  where
+    go : (b : Bool) → Each (λ (j : ℕ). is_some (k.held n j) ≡ true) (cond b (i ∷ []) (filter (λ (j : ℕ). is_some (k.held n j)) (indexes h.first h.reserved)))
+    go true = (ap is_some there, tt)
+    go false = kept_are (λ (j : ℕ). is_some (k.held n j)) (indexes h.first h.reserved)
+
+dropped_are : (n : ℕ) (is : List ℕ) → dropped_indexes (map (λ (i : ℕ). Drops n i 1) is) ≡ is
+dropped_are n [] = refl
+dropped_are n (i ∷ is) = ap (λ (js : List ℕ). i ∷ js) (dropped_are n is)
+
+module _ (b : Before) (next s : ℕ) where
+  -- the registers behind a free, by its ruling
+  abbrev behind : Ruling → Cpu → Cpu
+  behind r c = freed_cpu b.known b.number (dropped_indexes r.changes) c
+
+  freeing_is : (error : ℕ) (is : List ℕ) → AreApart is → Each (λ (j : ℕ). is_some (b.known.held b.number j) ≡ true) is
+      → in_use b.cpu is ≡ false
+      → IsFreeing b (behind (grants 0 (map (λ (i : ℕ). Drops b.number i 1) is)) (returned b.cpu next 1 error)) is
+  freeing_is error is apart held unused = record {
+    apart = apart;
+    held = held;
+    unused = unused;
+    cs = refl;
+    ss = refl;
+    ds = ap (λ (js : List ℕ). if is_gone b.known b.number js b.cpu.ds then 0 else b.cpu.ds) (dropped_are b.number is);
+    es = ap (λ (js : List ℕ). if is_gone b.known b.number js b.cpu.es then 0 else b.cpu.es) (dropped_are b.number is);
+  }
+
+  free_moves : (error : ℕ) (o : Option Held) → held_under b.known b.number s ≡ o
+      → Moves b (behind (freeing_of b.known b.number s (returned b.cpu next 1 error) o) (returned b.cpu next 1 error)) (freeing_of b.known b.number s b.cpu o).changes
+  free_moves error None e = NoneMoves refl
+  free_moves error (Some h) e = go (by_load h.cause || is_later (s / 8) h) (in_use b.cpu is) refl
+    where
+      is : List ℕ
+      is = members b.known b.number (s / 8) h
+
+      ds : Ruling
+      ds = grants 0 (map (λ (i : ℕ). Drops b.number i 1) is)
+
+      go : (t u : Bool) → in_use b.cpu is ≡ u
+          → Moves b (behind (cond t (refusal 5) (cond u (refusal 5) ds)) (returned b.cpu next 1 error)) (cond t (refusal 5) (cond u (refusal 5) ds)).changes
+      go true u f = NoneMoves refl
+      go false true f = NoneMoves refl
+      go false false f = SomeFreed is (freeing_is error is (members_apart b.known b.number (s / 8) h) (members_held b.known b.number (s / 8) h (held_there b.known b.number s h e)) f) refl
+
+  freed_moves : Moves b (freed b next s).cpu (freed b next s).changes
+  freed_moves = free_moves (freeing b.known b.number s b.cpu).error (held_under b.known b.number s) refl
+
+-- The calls.
+
+ruled_moves : (b : Before) (next words : ℕ) (name : List ℕ) (args : List Argument) (t : Written) (r : Ruling)
+    → ((cpu : Cpu) → Moves b cpu r.changes) → Moves b (ruled_at b next words name args t r).cpu (ruled_at b next words name args t r).changes
+ruled_moves b next words name args t r h = either b (r.error == 0) _ _ (h _) (NoneMoves refl)
+
+allocated_moves : (b : Before) (next size s o flags : ℕ) → Moves b (allocated b next size s o flags).cpu (allocated b next size s o flags).changes
+allocated_moves b next size s o flags =
+    let r = allocation b.known b.number size flags in
+    either b (may_write b.view s o 2) _ _
+    (ruled_moves b next 4 (codes "DosAllocSeg") (alloc_args size s o flags) (written_word s o r.value) r (λ cpu. allocation_moves b cpu size flags))
+    (NoneMoves refl)
+
+sized_moves : (b : Before) (next selector s o : ℕ) → Moves b (sized b next selector s o).cpu (sized b next selector s o).changes
+sized_moves b next selector s o =
+    let r = sizing b.known b.number selector in
+    either b (may_write b.view s o 4) _ _
+    (ruled_moves b next 3 (codes "DosSizeSeg") (Word selector ∷ Far s o ∷ []) (written_long s o r.value) r (λ cpu. size_moves b cpu (held_under b.known b.number selector)))
+    (NoneMoves refl)
+
+aliased_moves : (b : Before) (next selector s o : ℕ) → Moves b (aliased b next selector s o).cpu (aliased b next selector s o).changes
+aliased_moves b next selector s o =
+    let r = aliasing b.known b.number selector in
+    either b (may_write b.view s o 2) _ _
+    (ruled_moves b next 3 (codes "DosCreateCSAlias") (Word selector ∷ Far s o ∷ []) (written_word s o r.value) r (λ cpu. alias_moves b cpu selector (held_under b.known b.number selector) refl))
+    (NoneMoves refl)
+
+pub on_segments_moves : (call : SegmentCall) (b : Before) (next : ℕ) → Moves b (on_segments call b next).cpu (on_segments call b next).changes
+unfolding dos_alloc_seg dos_realloc_seg dos_free_seg dos_size_seg dos_lock_seg dos_unlock_seg dos_create_cs_alias
+on_segments_moves DosAllocSeg b next =
+    let a : ℕ → ℕ = argument b.view b.cpu in
+    either b (has_arguments b.view b.cpu 4) _ _ (allocated_moves b next (a 3) (a 2) (a 1) (a 0)) (NoneMoves refl)
+on_segments_moves DosReallocSeg b next =
+    let a : ℕ → ℕ = argument b.view b.cpu in
+    either b (has_arguments b.view b.cpu 2) _ _ (realloc_moves b _ (a 1) (held_under b.known b.number (a 0))) (NoneMoves refl)
+on_segments_moves DosFreeSeg b next = either b (has_arguments b.view b.cpu 1) _ _ (freed_moves b next (argument b.view b.cpu 0)) (NoneMoves refl)
+on_segments_moves DosSizeSeg b next =
+    let a : ℕ → ℕ = argument b.view b.cpu in
+    either b (has_arguments b.view b.cpu 3) _ _ (sized_moves b next (a 2) (a 1) (a 0)) (NoneMoves refl)
+on_segments_moves DosLockSeg b next = either b (has_arguments b.view b.cpu 1) _ _ (lock_moves b _ (held_under b.known b.number (argument b.view b.cpu 0))) (NoneMoves refl)
+on_segments_moves DosUnlockSeg b next = either b (has_arguments b.view b.cpu 1) _ _ (unlock_moves b _ (held_under b.known b.number (argument b.view b.cpu 0))) (NoneMoves refl)
+on_segments_moves DosCreateCsAlias b next =
+    let a : ℕ → ℕ = argument b.view b.cpu in
+    either b (has_arguments b.view b.cpu 3) _ _ (aliased_moves b next (a 2) (a 1) (a 0)) (NoneMoves refl)

@@ -1,0 +1,42 @@
+-- What a step changes beside bytes and registers, by its shape.
+use Rattle.std.proofs.Common.{ℕ, Bool, true, false, cond, ◌&&◌, Option, Some, None, refl}
+use Rattle.std.specs.Prelude.{Result, Ok, Err}
+use Rattle.o2_isa.specs.declared.cpu.Stop.{Stop}
+use Rattle.o2_isa.specs.declared.cpu.Stop.TheVariants as stop
+use Rattle.o2_isa.specs.Steps.{State as Machine, state}
+use Rattle.o2_isa.specs.Step.{stepped}
+use Rattle.o2_world.specs.declared.types.Row.{Row}
+use Rattle.o2_world.specs.declared.types.Row.TheVariants.{DosExit, DosGetPid, DosRead, DosWrite, DosMemAvail, OnSegments}
+use Rattle.o2_world.specs.World.{is_live}
+use Rattle.o2_world.specs.Calls.{Before, Effect, row_of, served_by}
+use Rattle.o2_world.specs.Effect.{answered, effect, has_trap_flag, single_stepped}
+use Rattle.o2_world.specs.Moves.{Moves, NoneMoves}
+use Rattle.o2_world.proofs.Quiet.{exit_quiet, read_quiet, told_quiet, write_quiet}
+use Rattle.o2_world.proofs.SegmentMoves.{on_segments_moves}
+
+pub served_moves : (row : Option Row) (b : Before) (next : ℕ) → Moves b (served_by row b next).cpu (served_by row b next).changes
+served_moves None b next = NoneMoves refl
+served_moves (Some DosExit) b next = NoneMoves (exit_quiet b)
+served_moves (Some DosGetPid) b next = NoneMoves (told_quiet b next _ _ _)
+served_moves (Some DosRead) b next = NoneMoves (read_quiet b next)
+served_moves (Some DosWrite) b next = NoneMoves (write_quiet b next)
+served_moves (Some DosMemAvail) b next = NoneMoves (told_quiet b next _ _ _)
+served_moves (Some (OnSegments call)) b next = on_segments_moves call b next
+
+answered_moves : (b : Before) (r : Result Machine Stop) → Moves b (answered b r).cpu (answered b r).changes
+answered_moves b (Ok s) = NoneMoves refl
+answered_moves b (Err (stop.Trap vector code)) = NoneMoves refl
+answered_moves b (Err (stop.Gate service next)) = served_moves (row_of service) b next
+answered_moves b (Err (stop.Miss s)) = NoneMoves refl
+
+either : (b : Before) (t : Bool) (e f : Effect) → Moves b e.cpu e.changes → Moves b f.cpu f.changes
+    → Moves b (cond t e f).cpu (cond t e f).changes
+either b true e f h k = h
+either b false e f h k = k
+
+single_moves : (b : Before) (e : Effect) → Moves b e.cpu e.changes → Moves b (single_stepped b e).cpu (single_stepped b e).changes
+single_moves b e h = either b (has_trap_flag b.cpu.flags && is_live e.state) _ e h h
+
+pub effect_moves : (b : Before) → Moves b (effect b).cpu (effect b).changes
+unfolding effect
+effect_moves b = single_moves b (answered b (stepped (state b.cpu b.view))) (answered_moves b (stepped (state b.cpu b.view)))
