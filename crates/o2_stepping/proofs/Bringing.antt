@@ -1,8 +1,8 @@
 -- A process may step once what it needs is in memory.
-use Rattle.std.proofs.Common.{◌≡◌, ℕ, ◌+◌, ◌/◌, ◌<◌, ◌≤◌, ◌==◌, ◌||◌, Bool, cond, true, false, List, [], ◌∷◌, ◌++◌, length, Option, Some, None, is_some, IsSome, ap, sym, ◌∙◌, refl, subst, arith}
-use Rattle.std.specs.Prelude.{option_map, slice_get}
+use Rattle.std.proofs.Common.{◌≡◌, ℕ, ◌/◌, ◌==◌, ◌||◌, Bool, cond, true, false, List, [], ◌∷◌, ◌++◌, length, Option, Some, None, IsSome, ap, sym, ◌∙◌, refl, subst, arith}
+use Rattle.std.specs.Prelude.{option_map}
 use Rattle.std.proofs.lemmas.Option.{slice_get_within}
-use Rattle.std.proofs.lemmas.Bool.{false≢true, eq-eqb}
+use Rattle.std.proofs.lemmas.Bool.{eq-eqb}
 use Rattle.o2_isa.specs.declared.cpu.Cpu.{Cpu}
 use Rattle.o2_isa.specs.declared.instr.Sreg.{Sreg}
 use Rattle.o2_isa.specs.declared.instr.Sreg.TheVariants.{Es, Cs, Ss, Ds}
@@ -10,11 +10,11 @@ use Rattle.o2_isa.specs.Registers.{sreg}
 use Rattle.o2_isa.specs.View.{Hold, IsBound, bound_in, bound_registers, in_register, is_null, is_local, present_or_none}
 use Rattle.o2_place.specs.declared.seg_id.SegId.{SegId}
 use Rattle.o2_regions.specs.declared.held.Held.{Held}
-use Rattle.o2_regions.specs.Maps.{Maps, IsProcess, held_at}
+use Rattle.o2_regions.specs.Maps.{Maps, IsProcess}
 use Rattle.o2_store.specs.Shelf.{Shelf, place_of}
 use Rattle.o2_segbus.specs.Bus.{held_under}
 use Rattle.o2_segbus.specs.Frames.{CanStep}
-use Rattle.o2_segbus.specs.Seen.{AreNamed, hold_in, hold_of, key_of, present_in, present_under, seen, seen_with}
+use Rattle.o2_segbus.specs.Seen.{AreNamed, hold_in, hold_of, present_in, present_under, seen, seen_with}
 use Rattle.o2_segbus.specs.Settled.{IsSettled}
 use Rattle.o2_segbus.proofs.Holds.{bound_is, under_at}
 use Rattle.o2_service.specs.Needs.{ArePresent, needs}
@@ -59,7 +59,7 @@ seat_needed m pid c r h e = by r (one (held_under m pid (sreg c r)) e)
     by Ss f = in_front (seat_of m pid c.es ++ seat_of m pid c.cs ++ seat_of m pid c.ss) (seat_of m pid c.ds) h.id.key (in_back (seat_of m pid c.es ++ seat_of m pid c.cs) (seat_of m pid c.ss) h.id.key f)
     by Ds f = in_back (seat_of m pid c.es ++ seat_of m pid c.cs ++ seat_of m pid c.ss) (seat_of m pid c.ds) h.id.key f
 
-by_register : (held : ℕ → Option Hold) (c : Cpu) (r : Sreg) → in_register (bound_registers held c) r ≡ bound_in held (sreg c r)
+pub by_register : (held : ℕ → Option Hold) (c : Cpu) (r : Sreg) → in_register (bound_registers held c) r ≡ bound_in held (sreg c r)
 by_register held c Es = refl
 by_register held c Cs = refl
 by_register held c Ss = refl

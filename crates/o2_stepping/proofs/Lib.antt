@@ -14,3 +14,4 @@ pub mod Steps
 pub mod Puts
 pub mod Selectors
 pub mod NextRooms
+pub mod Here

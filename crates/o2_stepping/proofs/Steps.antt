@@ -1,5 +1,5 @@
 -- A step in a store, from its last try.
-use Rattle.std.proofs.Common.{◌≡◌, ℕ, ◌≤◌, ◌<◌, Bool, false, List, Option, ap, sym, ◌∙◌, refl, subst, arith}
+use Rattle.std.proofs.Common.{◌≡◌, ℕ, ◌<◌, false, List, Option, ap, ◌∙◌, subst, arith}
 use Rattle.std.specs.Prelude.{Result, Ok, Err}
 use mathlib.Core.Path.{fun_ext}
 use Rattle.o2_isa.specs.declared.cpu.Cpu.{Cpu}
@@ -21,7 +21,7 @@ use Rattle.o2_store.proofs.Loads.{same_live_load, same_swap_load}
 use Rattle.o2_stepping.specs.Shapes.{SameShape}
 use Rattle.o2_stepping.specs.Ran.{IsDone, OnMissed}
 use Rattle.o2_stepping.specs.declared.one_step.Ran.{Ran}
-use Rattle.o2_stepping.specs.Taken.{OnRan, OnSinkFault, OnSwapFault, TriedFor, Tries}
+use Rattle.o2_stepping.specs.Taken.{OnDone, OnRan, OnSink, OnSinkFault, OnSwapFault, OnSwapStop, Takes, TriedFor, Tries}
 use Rattle.o2_stepping.specs.Worlds.{before_in, bytes_with, world_view}
 use Rattle.o2_stepping.specs.declared.one_step.Attempt.{Attempt}
 use Rattle.o2_stepping.specs.declared.one_step.Attempt.TheVariants as attempt
@@ -35,22 +35,30 @@ module _ (a b : ℕ → List ℕ) (s t : Shelf) (m n : Maps) (pid : ℕ) (c : Cp
   pub first_from : (d : Cpu) → d ≡ c → before_in b t n pid d bytes known ≡ before_in a s m pid c bytes known
   first_from d e = ap (λ (z : Cpu). before_in b t n pid z bytes known) e ∙ first_same
 
-  tries_first : (new : Cpu) (after : ℕ → List ℕ) (i j x y r q : Option (List ℕ)) (result : Result Attempt Fault)
-      → (let e = before_in b t n pid c bytes known in Tries e (effect e) new (bytes_with b t) after i j x y r q result)
-      → (let e = before_in a s m pid c bytes known in Tries e (effect e) new (bytes_with a s) after i j x y r q result)
-  tries_first new after i j x y r q result h =
-      subst (λ (z : Before). Tries z (effect z) new (bytes_with a s) after i j x y r q result) first_same
-      (subst (λ (f : ℕ → List ℕ). Tries (before_in b t n pid c bytes known) (effect (before_in b t n pid c bytes known)) new f after i j x y r q result) (fun_ext same) h)
+  -- what is said of a step from the later state, said from the first one
+  pub said_first : (P : Before → (ℕ → List ℕ) → Type 0) (d : Cpu) → d ≡ c
+      → P (before_in b t n pid d bytes known) (bytes_with b t) → P (before_in a s m pid c bytes known) (bytes_with a s)
+  said_first P d e h =
+      subst (λ (z : Before). P z (bytes_with a s)) (first_from d e)
+      (subst (λ (f : ℕ → List ℕ). P (before_in b t n pid d bytes known) f) (fun_ext same) h)
 
   pub tries_from : (d new : Cpu) (after : ℕ → List ℕ) (i' i j x' x y r' r q : Option (List ℕ)) (result : Result Attempt Fault) → d ≡ c → i' ≡ i → x' ≡ x → r' ≡ r
       → (let e = before_in b t n pid d bytes known in Tries e (effect e) new (bytes_with b t) after i' j x' y r' q result)
       → (let e = before_in a s m pid c bytes known in Tries e (effect e) new (bytes_with a s) after i j x y r q result)
   tries_from d new after i' i j x' x y r' r q result cpu input console report h =
-      tries_first new after i j x y r q result
-      (subst (λ (z : Cpu). let e = before_in b t n pid z bytes known in Tries e (effect e) new (bytes_with b t) after i j x y r q result) cpu
+      said_first (λ e f. Tries e (effect e) new f after i j x y r q result) d cpu
       (subst (λ (z : Option (List ℕ)). let e = before_in b t n pid d bytes known in Tries e (effect e) new (bytes_with b t) after z j x y r q result) input
       (subst (λ (z : Option (List ℕ)). let e = before_in b t n pid d bytes known in Tries e (effect e) new (bytes_with b t) after i' j z y r q result) console
-      (subst (λ (z : Option (List ℕ)). let e = before_in b t n pid d bytes known in Tries e (effect e) new (bytes_with b t) after i' j x' y z q result) report h))))
+      (subst (λ (z : Option (List ℕ)). let e = before_in b t n pid d bytes known in Tries e (effect e) new (bytes_with b t) after i' j x' y z q result) report h)))
+
+  pub takes_from : (d new : Cpu) (after : ℕ → List ℕ) (i' i j x' x y r' r q : Option (List ℕ)) (result : Result Ran Fault) → d ≡ c → i' ≡ i → x' ≡ x → r' ≡ r
+      → (let e = before_in b t n pid d bytes known in Takes e (effect e) new (bytes_with b t) after i' j x' y r' q result)
+      → (let e = before_in a s m pid c bytes known in Takes e (effect e) new (bytes_with a s) after i j x y r q result)
+  takes_from d new after i' i j x' x y r' r q result cpu input console report h =
+      said_first (λ e f. Takes e (effect e) new f after i j x y r q result) d cpu
+      (subst (λ (z : Option (List ℕ)). let e = before_in b t n pid d bytes known in Takes e (effect e) new (bytes_with b t) after z j x y r q result) input
+      (subst (λ (z : Option (List ℕ)). let e = before_in b t n pid d bytes known in Takes e (effect e) new (bytes_with b t) after i' j z y r q result) console
+      (subst (λ (z : Option (List ℕ)). let e = before_in b t n pid d bytes known in Takes e (effect e) new (bytes_with b t) after i' j x' y z q result) report h)))
 
   pub part_from : (d : Cpu) → d ≡ c → (k : Counts) (result : Result Attempt Fault)
       → PartHands (effect (before_in b t n pid d bytes known)) k result → PartHands (effect (before_in a s m pid c bytes known)) k result
@@ -79,6 +87,19 @@ at_stop P Q R A B C (fault.Stopped stop.Input) p q r h = tt
 at_stop P Q R A B C (fault.Stopped stop.NoRoom) p q r h = p h
 at_stop P Q R A B C (fault.Stopped stop.SwapFull) p q r h = q h
 at_stop P Q R A B C (fault.Stopped stop.SwapFault) p q r h = r h
+
+-- the same behind a call that answers what the step answers
+pub on_done : (P Q : Type 0) (r : Result Ran Fault) → (P → Q) → OnDone r P → OnDone r Q
+on_done P Q (Ok ran) g h = g h
+on_done P Q (Err f) g h = tt
+
+pub on_sink : (P Q : Type 0) (r : Result Ran Fault) → (P → Q) → OnSink r P → OnSink r Q
+on_sink P Q (Ok ran) g h = tt
+on_sink P Q (Err f) g h = at_sink P Q f g h
+
+pub on_stop : (P Q R A B C : Type 0) (r : Result Ran Fault) → (P → A) → (Q → B) → (R → C) → OnSwapStop r P Q R → OnSwapStop r A B C
+on_stop P Q R A B C (Ok ran) p q r h = tt
+on_stop P Q R A B C (Err f) p q r h = at_stop P Q R A B C f p q r h
 
 pub ran_tries : (b : Before) (e : Effect) (cpu : Cpu) (old new : ℕ → List ℕ) (i j x y r q : Option (List ℕ)) (z : Attempt) (ran : Ran) → z ≡ attempt.Ran ran
     → Tries b e cpu old new i j x y r q (Ok z) → IsDone e ran cpu new j x y r q

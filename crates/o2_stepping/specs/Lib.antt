@@ -7,3 +7,4 @@ pub mod Shapes
 pub mod Taken
 pub mod Pieces
 pub mod Nexts
+pub mod Here

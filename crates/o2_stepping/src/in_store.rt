@@ -189,7 +189,7 @@ fn serve_and_try<S: SwapDevice, I: Source, C: Sink, R: Sink>(
 /// and takes nothing.
 ///
 /// Where what it needs doesn't come in, the step isn't taken: `Stop::NoRoom`, `Stop::SwapFull` or `Stop::SwapFault`.
-pub fn step_in_store<S: SwapDevice, I: Source, C: Sink, R: Sink>(
+pub(crate) fn step_as_needed<S: SwapDevice, I: Source, C: Sink, R: Sink>(
     pid: u16,
     cpu: &mut Cpu,
     store: &mut Store,

@@ -1,6 +1,7 @@
 //! One step of a process, all but what an end takes from it: over any bus, and over a store that moves and swaps its segments.
 #![tactic(auto)]
 
+mod at_once;
 mod in_store;
 mod laws;
 mod one_step;
@@ -8,7 +9,7 @@ mod seats;
 mod tally;
 mod trying;
 
-pub use in_store::step_in_store;
+pub use at_once::step_in_store;
 pub use laws::{rooms_are_those_of_the_world, steps_start_alike};
 pub use one_step::{Attempt, Ran, absent, run_one};
 pub use tally::Tally;

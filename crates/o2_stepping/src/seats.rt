@@ -4,8 +4,10 @@ ghost use Rattle.o2_regions.specs.declared.held.Held.{Held as HeldThere};
 ghost use Rattle.o2_regions.specs.Maps.{IsProcess};
 ghost use Rattle.o2_segbus.specs.Bus.{held_under};
 ghost use Rattle.o2_stepping.specs.Rooms.{pair_of, seated_in};
+ghost use Rattle.o2_stepping.specs.Here.{are_here, is_here};
 
 use o2_base::Selector;
+use o2_desc::Access;
 use o2_isa::Cpu;
 use o2_place::SegId;
 use o2_regions::Regions;
@@ -48,6 +50,33 @@ pub(crate) fn seats(regions: &Regions, pid: u16, cpu: &Cpu) -> Need
     seat(&mut need, regions, pid, cpu.ss);
     seat(&mut need, regions, pid, cpu.ds);
     need
+}
+
+/// Whether a selector names nothing, or a segment that is in memory.
+#[inline(always)]
+fn is_here(regions: &Regions, pid: u16, sel: u16) -> bool
+    requires { IsProcess regions.now pid }
+    ensures { result ≡ is_here regions.now pid sel }
+{
+    if sel < 4 || sel / 4 % 2 != 1 {
+        return true;
+    }
+    match regions.descriptor(pid, sel / 8) {
+        Some(descriptor) => Access(descriptor.access).is_present(),
+        None => true,
+    }
+}
+
+/// Whether all segments in the segment registers are in memory.
+#[inline(always)]
+pub(crate) fn are_here(regions: &Regions, pid: u16, cpu: &Cpu) -> bool
+    requires { IsProcess regions.now pid }
+    ensures { result ≡ are_here regions.now pid cpu.now }
+{
+    is_here(regions, pid, cpu.es)
+        && is_here(regions, pid, cpu.cs)
+        && is_here(regions, pid, cpu.ss)
+        && is_here(regions, pid, cpu.ds)
 }
 
 /// The segment that was missed, too. False where nothing is held under its selector, or all places are taken.

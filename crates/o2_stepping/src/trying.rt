@@ -21,6 +21,7 @@ use o2_segbus::SegBus;
 use o2_store::Store;
 
 /// A try over the bus, said of store and tables.
+#[inline(always)]
 fn try_in<I: Source, C: Sink, R: Sink>(
     pid: u16,
     cpu: &mut Cpu,
@@ -62,6 +63,7 @@ fn try_in<I: Source, C: Sink, R: Sink>(
 /// nothing is changed but accessed bits, nothing is taken or put, and the step may be tried again.
 ///
 /// The store changes in bytes of the memory alone, and the tables in accessed bits.
+#[inline(always)]
 pub(crate) fn try_step<I: Source, C: Sink, R: Sink>(
     pid: u16,
     cpu: &mut Cpu,

@@ -8,7 +8,7 @@ use Rattle.o2_run.specs.Room.{touched}
 use Rattle.o2_stepping.specs.Rooms.{AreNeeded, ages_of, left_in, needed_names, seated_in}
 use Rattle.o2_stepping.specs.Shapes.{SameShape}
 use Rattle.o2_stepping.specs.Worlds.{away_of, before_in, bytes_with, parts_of}
-use Rattle.o2_stepping.proofs.in_store.step_in_store.Given as goal
+use Rattle.o2_stepping.proofs.in_store.step_as_needed.Given as goal
 
 abbrev pub invariant-tries : goal.invariant-tries
 invariant-tries g l =

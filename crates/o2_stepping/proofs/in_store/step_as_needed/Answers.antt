@@ -1,9 +1,7 @@
-use Rattle.std.proofs.Common.{◌≡◌, ◌⊎◌, ℕ, ◌+◌, ◌≤◌, ◌<◌, Bool, true, false, List, ◌++◌, length, Option, Some, None, ap, sym, ◌∙◌, refl, subst, arith}
-use Rattle.std.specs.Prelude.{Result, Ok, Err, IsTrue}
-use Rattle.std.proofs.lemmas.Bool.{false≢true}
-use Rattle.o2_base.specs.declared.selector.Selector.{Selector}
+use Rattle.std.proofs.Common.{◌≡◌, ◌⊎◌, ℕ, ◌+◌, ◌≤◌, ◌<◌, List, length, None, ap, sym, ◌∙◌, refl, subst, arith}
+use Rattle.std.specs.Prelude.{Ok, Err, IsTrue}
 use Rattle.o2_isa.specs.Presence.{is_in}
-use Rattle.o2_isa.specs.View.{View, Registers, bound_registers}
+use Rattle.o2_isa.specs.View.{Registers, bound_registers}
 use Rattle.o2_place.specs.declared.seg_id.SegId.{SegId}
 use Rattle.o2_segbus.specs.Bus.{held_under}
 use Rattle.o2_segbus.specs.Seen.{hold_in, seen}
@@ -13,16 +11,15 @@ use Rattle.o2_outer.specs.Texts.{Rose}
 use Rattle.o2_outer.specs.Inputs.{left_as}
 use Rattle.o2_store.specs.Loads.{live_load, swap_load}
 use Rattle.o2_swapmap.specs.Piles.{all_of}
-use Rattle.o2_gate.specs.Befores.{IsKnown}
 use Rattle.o2_gate.specs.Pointed.{ArePresent}
 use Rattle.o2_world.specs.Known.{Known}
 use Rattle.o2_world.specs.Calls.{Before}
 use Rattle.o2_world.specs.Effect.{effect}
 use Rattle.o2_run.specs.Room.{seated, touched}
 use Rattle.o2_stepping.specs.Rooms.{AreNeeded, IsWanted, ages_of, all_names, left_in, needed_names, pair_of, room_in, seated_in}
-use Rattle.o2_stepping.specs.Worlds.{away_of, before_in, bytes_with, world_view}
+use Rattle.o2_stepping.specs.Worlds.{away_of, before_in, bytes_with}
 use Rattle.o2_stepping.proofs.Keeping.{shape_refl, shape_trans}
-use Rattle.o2_stepping.proofs.Lefts.{in_more, left_less, left_most, touched_few}
+use Rattle.o2_stepping.proofs.Lefts.{left_less, left_most, touched_few}
 use Rattle.o2_stepping.proofs.Rounds.{ages_seated, lacks_room, length_one, length_some, no_place, own_in, live_more, live_pair, live_seated, named_more, needed_all, needed_more, none_more, none_pair, none_seated, seated_few, seated_same}
 use Rattle.o2_stepping.proofs.Named.{both_in, or_front, or_back}
 use Rattle.o2_run.specs.Pieces.{Counts, counts, Hands, PartHands}
@@ -32,7 +29,7 @@ use Rattle.o2_stepping.proofs.Puts.{missed_hands, part_fault, ran_fault, ran_han
 use Rattle.o2_stepping.proofs.Steps.{at_sink, at_stop, counts_from, first_from, full_then, missed_at, part_from, ran_at, ran_cause, ran_tries, tries_from}
 use Rattle.o2_stepping.proofs.Rooms.{room_fits, room_same}
 use Rattle.o2_stepping.proofs.Worlds.{registers_are, seen_present, view_same}
-use Rattle.o2_stepping.proofs.in_store.step_in_store.Goals as goal
+use Rattle.o2_stepping.proofs.in_store.step_as_needed.Goals as goal
 
 pub tries-init : goal.tries-init
 tries-init g c =

@@ -1,0 +1,132 @@
+// A step of a process over a store, tried at once where all that its segment registers name is in memory.
+ghost use Rattle.std.specs.Prelude.{◌≡◌, ◌<◌, ◌≤◌, ◌⊎◌, ℕ, List, Option, Some, IsTrue};
+ghost use Rattle.o2_outer.specs.Texts.{Rose};
+ghost use Rattle.o2_outer.specs.Inputs.{GoesOn, IsSeenAs, left_as};
+ghost use Rattle.o2_isa.specs.View.{bound_registers};
+ghost use Rattle.o2_swapmap.specs.Piles.{all_of};
+ghost use Rattle.o2_regions.specs.Maps.{IsProcess};
+ghost use Rattle.o2_store.specs.Loads.{live_load, swap_load};
+ghost use Rattle.o2_segbus.specs.Frames.{CanStep};
+ghost use Rattle.o2_segbus.specs.Seen.{hold_in, seen};
+ghost use Rattle.o2_stands.specs.Stands.{IsReady};
+ghost use Rattle.o2_world.specs.Known.{Known};
+ghost use Rattle.o2_world.specs.Effect.{effect};
+ghost use Rattle.o2_gate.specs.Befores.{IsKnown};
+ghost use Rattle.o2_gate.specs.Pointed.{ArePresent};
+ghost use Rattle.o2_run.specs.Pieces.{PartHands, counts};
+ghost use Rattle.o2_stepping.specs.Pieces.{RanHands};
+ghost use Rattle.o2_stepping.specs.Rooms.{all_names, needed_names, room_in};
+ghost use Rattle.o2_stepping.specs.Shapes.{SameShape};
+ghost use Rattle.o2_stepping.specs.Taken.{OnDone, OnNoStep, OnSink, OnSwapStop, TakenFor, Takes};
+ghost use Rattle.o2_stepping.specs.Worlds.{away_of, before_in, bytes_with, parts_of};
+
+use crate::in_store::step_as_needed;
+use crate::one_step::{Attempt, Ran};
+use crate::seats::are_here;
+use crate::trying::try_step;
+use o2_gate::State as Services;
+use o2_image::Images;
+use o2_isa::Cpu;
+use o2_outer::{Sink, Source, SwapDevice};
+use o2_regions::Regions;
+use o2_run::Fault;
+use o2_store::Store;
+
+/// One step of process `pid`, all but what an end takes from it, over a store. Where all that its segment registers name is in
+/// memory, it is tried at once. Otherwise, and where the try misses a segment, what it needs comes into memory together, as far as
+/// it is known, and the step is tried; what it misses is needed too, and it is tried again. A try that misses puts nothing and
+/// takes nothing.
+///
+/// Where what it needs doesn't come in, the step isn't taken: `Stop::NoRoom`, `Stop::SwapFull` or `Stop::SwapFault`.
+pub fn step_in_store<S: SwapDevice, I: Source, C: Sink, R: Sink>(
+    pid: u16,
+    cpu: &mut Cpu,
+    store: &mut Store,
+    regions: &mut Regions,
+    images: &Images,
+    services: &mut Services,
+    input: &mut I,
+    console: &mut C,
+    report: &mut R,
+    swap: &mut S,
+) -> Result<Ran, Fault>
+    requires process { IsProcess regions.old pid }
+    requires ready { IsReady (parts_of store.old regions.old images.now (S.blocks swap.old) (S.block swap.old)) }
+
+    // The step of the boundless machine, or nothing where what it needs doesn't come in.
+    ensures takes { (bytes : List ℕ) (known : Known) → IsTrue (S.told swap.old) → I.left input.old ≡ Some bytes → IsKnown known services.old
+        → let away = away_of store.old regions.old images.now (S.blocks swap.old) (S.block swap.old) in
+        let b = before_in away store.old regions.old pid cpu.old bytes known in
+        Takes b (effect b) cpu.new (bytes_with away store.old)
+        (bytes_with (away_of store.new regions.new images.now (S.blocks swap.new) (S.block swap.new)) store.new)
+        (I.left input.old) (I.left input.new) (C.taken console.old) (C.taken console.new) (R.taken report.old) (R.taken report.new) result }
+    // The same, however the input is seen: by what it tells, or as a text that the whole of it may be.
+    ensures takes_as { (text : Option (List ℕ)) → IsSeenAs text (I.past input.new) → (bytes : List ℕ) (known : Known)
+        → IsTrue (S.told swap.old) → left_as text (I.left input.old) (I.past input.old) ≡ Some bytes → IsKnown known services.old
+        → let away = away_of store.old regions.old images.now (S.blocks swap.old) (S.block swap.old) in
+        let b = before_in away store.old regions.old pid cpu.old bytes known in
+        Takes b (effect b) cpu.new (bytes_with away store.old)
+        (bytes_with (away_of store.new regions.new images.now (S.blocks swap.new) (S.block swap.new)) store.new)
+        (left_as text (I.left input.old) (I.past input.old)) (left_as text (I.left input.new) (I.past input.new))
+        (C.taken console.old) (C.taken console.new) (R.taken report.old) (R.taken report.new) result }
+    ensures goes_on { GoesOn (I.past input.old) (I.past input.new) }
+    ensures still { OnNoStep result ((cpu.new ≡ cpu.old)
+        × (input.new ≡ input.old) × (console.new ≡ console.old) × (report.new ≡ report.old)) }
+
+    // All that a step needs is in memory together, so that its room is at most the memory; and more than it at NoRoom.
+    ensures together { (bytes : List ℕ) (known : Known) → IsTrue (S.told swap.old)
+        → let b = before_in (away_of store.old regions.old images.now (S.blocks swap.old) (S.block swap.old)) store.old regions.old pid cpu.old bytes known in
+        OnDone result (ArePresent (seen store.new regions.new pid cpu.new) (all_names b (bound_registers (hold_in regions.new pid) cpu.new))) }
+    ensures room { (bytes : List ℕ) (known : Known) → IsTrue (S.told swap.old)
+        → let b = before_in (away_of store.old regions.old images.now (S.blocks swap.old) (S.block swap.old)) store.old regions.old pid cpu.old bytes known in
+        OnDone result (room_in store.old (all_names b (bound_registers (hold_in regions.new pid) cpu.new)) ≤ store.old.places.size) }
+    ensures room_in_part { (bytes : List ℕ) (known : Known) → IsTrue (S.told swap.old)
+        → let b = before_in (away_of store.old regions.old images.now (S.blocks swap.old) (S.block swap.old)) store.old regions.old pid cpu.old bytes known in
+        OnSink result (room_in store.old (all_names b (bound_registers (hold_in regions.new pid) cpu.new)) ≤ store.old.places.size) }
+    ensures no_room { (bytes : List ℕ) (known : Known) → IsTrue (S.told swap.old)
+        → let b = before_in (away_of store.old regions.old images.now (S.blocks swap.old) (S.block swap.old)) store.old regions.old pid cpu.old bytes known in
+        OnSwapStop result (store.old.places.size < room_in store.old (needed_names b)) (Unit {0}) (Unit {0}) }
+    ensures swap_stops { OnSwapStop result (Unit {0})
+        ((all_of store.old.swap < swap_load store.old) × (store.old.places.size < live_load store.old))
+        (Rose (S.faults swap.old) (S.faults swap.new)) }
+
+    // Each segment keeps its size and its attributes, each process what it holds, and all goes on to agree.
+    ensures shape { SameShape store.old regions.old store.new regions.new }
+    ensures ready { IsReady (parts_of store.new regions.new images.now (S.blocks swap.new) (S.block swap.new)) }
+    ensures next { OnDone result (CanStep store.new regions.new pid cpu.new) }
+    ensures avail { services.new.avail ≡ services.old.avail }
+    ensures device { (S.blocks swap.new ≡ S.blocks swap.old) × (S.told swap.new ≡ S.told swap.old) }
+
+    ensures cause { TakenFor (Rose (C.faults console.old) (C.faults console.new) ⊎ Rose (R.faults report.old) (R.faults report.new))
+        (Rose (I.faults input.old) (I.faults input.new)) result }
+    ensures input_count { I.faults input.old ≤ I.faults input.new }
+    ensures console_count { C.faults console.old ≤ C.faults console.new }
+    ensures report_count { R.faults report.old ≤ R.faults report.new }
+    ensures swap_count { S.faults swap.old ≤ S.faults swap.new }
+
+    // Each line is one put, and so is the piece where it has bytes. Where a sink fails, no more lines were put than there are.
+    ensures puts { RanHands (counts (C.puts console.old) (C.puts console.new) (R.puts report.old) (R.puts report.new) 0) result }
+    ensures part { (text : Option (List ℕ)) → IsSeenAs text (I.past input.new) → (bytes : List ℕ) (known : Known)
+        → IsTrue (S.told swap.old) → left_as text (I.left input.old) (I.past input.old) ≡ Some bytes → IsKnown known services.old
+        → let b = before_in (away_of store.old regions.old images.now (S.blocks swap.old) (S.block swap.old)) store.old regions.old pid cpu.old bytes known in
+        PartHands (effect b) (counts (C.puts console.old) (C.puts console.new) (R.puts report.old) (R.puts report.new) 0) result }
+{
+    if !are_here(regions, pid, cpu) {
+        return step_as_needed(
+            pid, cpu, store, regions, images, services, input, console, report, swap,
+        );
+    }
+    match try_step(pid, cpu, store, regions, services, input, console, report) {
+        Err(fault) => {
+            store.law();
+            Err(fault)
+        }
+        Ok(Attempt::Ran(ran)) => {
+            store.law();
+            Ok(ran)
+        }
+        Ok(Attempt::Missed(_)) => step_as_needed(
+            pid, cpu, store, regions, images, services, input, console, report, swap,
+        ),
+    }
+}
