@@ -1,18 +1,17 @@
 -- What the boundless machine sees where a bus over a store shows its view.
-use Rattle.std.proofs.Common.{◌≡◌, ◌⊎◌, inl, inr, ℕ, Bool, true, false, cond, List, [], ◌∷◌, Option, Some, None, ap, sym, ◌∙◌, refl, subst}
+use Rattle.std.proofs.Common.{◌≡◌, ◌⊎◌, inl, inr, ℕ, true, false, List, Option, ap, refl, subst}
 use Rattle.std.specs.Prelude.{Result, Ok, Err}
 use Rattle.o2_base.specs.declared.selector.Selector.{Selector}
 use Rattle.o2_isa.specs.declared.cpu.Cpu.{Cpu}
-use Rattle.o2_isa.specs.View.{View, Hold, Registers, Filling, Agrees, whole, built_gates, no_rest, no_hidden, bound_registers}
+use Rattle.o2_isa.specs.View.{View, Hold, Registers, Filling, Agrees, whole, built_gates, no_rest, no_hidden}
 use Rattle.o2_isa.specs.Presence.{IsMissed}
-use Rattle.o2_regions.specs.Maps.{Maps}
 use Rattle.o2_store.specs.Shelf.{Shelf}
 use Rattle.o2_segbus.specs.declared.seg_bus.SegBus.{SegBus}
-use Rattle.o2_segbus.specs.Seen.{hold_in, size_in, present_in, bytes_in, seen, seen_with}
+use Rattle.o2_segbus.specs.Seen.{hold_in, size_in, bytes_in, seen, seen_with}
 use Rattle.o2_segbus.specs.Bus.{bus_view}
 use Rattle.o2_segbus.specs.Calls.{view_of, HoldsInMap, WritesHeld as WritesThere}
 use Rattle.o2_world.specs.Known.{Known}
-use Rattle.o2_world.specs.Calls.{Before, Effect}
+use Rattle.o2_world.specs.Calls.{Before}
 use Rattle.o2_world.specs.Effect.{effect}
 use Rattle.o2_run.specs.declared.fault.Fault.{Fault}
 use Rattle.o2_run.specs.Pieces.{Counts, PartHands}
@@ -20,7 +19,7 @@ use Rattle.o2_run.specs.Room.{touched}
 use Rattle.o2_gate.specs.Befores.{boundless, before_call}
 use Rattle.o2_gate.specs.Pointed.{ArePresent}
 use Rattle.o2_gate.specs.Writes.{HoldsForWriting, WritesHeld}
-use Rattle.o2_stepping.specs.Ran.{Leaves, OnMissed, is_missed}
+use Rattle.o2_stepping.specs.Ran.{Leaves, OnMissed}
 use Rattle.o2_stepping.specs.Worlds.{bytes_with, world_view}
 use Rattle.o2_stepping.specs.declared.one_step.Attempt.{Attempt}
 use Rattle.o2_stepping.specs.declared.one_step.Attempt.TheVariants as attempt

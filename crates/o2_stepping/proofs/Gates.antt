@@ -1,26 +1,24 @@
 -- An attempt at a step over a bus, as the step of the boundless machine.
-use Rattle.std.proofs.Common.{◌≡◌, ℕ, List, Option, true, ap, sym, ◌∙◌, subst, refl}
+use Rattle.std.proofs.Common.{◌≡◌, ℕ, List, Option, true, ap, sym, ◌∙◌, subst}
 use Rattle.std.specs.Prelude.{Result, Ok, Err}
 use Rattle.o2_base.specs.declared.selector.Selector.{Selector}
 use Rattle.o2_isa.specs.declared.cpu.Cpu.{Cpu}
 use Rattle.o2_isa.specs.declared.cpu.Outcome.TheVariants as outcome
 use Rattle.o2_isa.specs.declared.cpu.Stop.TheVariants as stop
-use Rattle.o2_isa.specs.View.{View, Filling, IsBound, KeepsFrame, whole, no_rest, no_hidden}
+use Rattle.o2_isa.specs.View.{View, Filling, KeepsFrame, whole, no_rest, no_hidden}
 use Rattle.o2_isa.specs.Pointers.{KeepsAllButBytes}
 use Rattle.o2_isa.specs.Steps.{State as Machine, state}
 use Rattle.o2_isa.specs.Presence.{whole_state, IsMissed}
 use Rattle.o2_isa.specs.Step.{stepped, AsBoundless}
 use Rattle.o2_isa.proofs.StepLaws.{answers_unseen}
-use Rattle.o2_world.specs.declared.types.State.{State}
-use Rattle.o2_world.specs.declared.types.State.TheVariants.{Live, Exited as Gone}
 use Rattle.o2_world.specs.Known.{Known}
-use Rattle.o2_world.specs.Calls.{Before, Effect, serviced, asks}
-use Rattle.o2_world.specs.Effect.{effect, AsksInput}
+use Rattle.o2_world.specs.Calls.{Effect, serviced, asks}
+use Rattle.o2_world.specs.Effect.{effect}
 use Rattle.o2_gate.specs.Befores.{boundless, before_call}
 use Rattle.o2_gate.specs.Pointed.{IsAway}
-use Rattle.o2_gate.specs.Called.{IsMade, IsTrap, IsUntouched, FaultsFor, DoesFor, OnMissed}
+use Rattle.o2_gate.specs.Called.{IsUntouched, FaultsFor, DoesFor, OnMissed}
 use Rattle.o2_gate.specs.declared.called.Called.{Called}
-use Rattle.o2_gate.specs.declared.called.Called.TheVariants.{Back, Exited, Trap, Missed}
+use Rattle.o2_gate.specs.declared.called.Called.TheVariants.{Missed}
 use Rattle.o2_run.specs.declared.steps.Stop.TheVariants as halt
 use Rattle.o2_run.specs.declared.fault.Fault.{Fault}
 use Rattle.o2_run.specs.declared.fault.Fault.TheVariants as fault

@@ -1,13 +1,12 @@
 -- What is kept by bringing segments in and by a try of a step.
-use Rattle.std.proofs.Common.{◌≡◌, ℕ, ◌*◌, ◌/◌, ◌%◌, ◌≤◌, Bool, true, false, List, length, Option, Some, IsSome, ap, sym, ◌∙◌, refl, subst, arith}
-use Rattle.std.proofs.lemmas.Bool.{false≢true}
+use Rattle.std.proofs.Common.{◌≡◌, ℕ, true, List, Option, ap, sym, ◌∙◌, refl, subst, arith}
 use Rattle.o2_desc.specs.Bits.{is_writable, rights_of}
 use Rattle.o2_entries.specs.declared.Attr.{Attr}
 use Rattle.o2_image.specs.ImageList.{ImageList}
 use Rattle.o2_regions.specs.declared.held.Held.{Held}
 use Rattle.o2_regions.specs.Maps.{Maps, held_at}
 use Rattle.o2_store.specs.Pictures.{picture, HasPicture}
-use Rattle.o2_store.specs.Shelf.{Shelf, SameTables, AreClean, HasAll, entry}
+use Rattle.o2_store.specs.Shelf.{Shelf, SameTables, AreClean, HasAll}
 use Rattle.o2_store.proofs.Keeping.{same_tables, tables_trans}
 use Rattle.o2_swapmap.specs.Piles.{all_of}
 use Rattle.o2_segbus.specs.Frames.{KeepsMaps, KeepsStore}

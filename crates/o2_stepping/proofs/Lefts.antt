@@ -1,5 +1,5 @@
 -- A step touches few names, and each try finds one more of them.
-use Rattle.std.proofs.Common.{◌≡◌, ◌⊎◌, inl, inr, ℕ, ◌+◌, ◌<◌, ◌≤◌, ◌==◌, ◌||◌, ◌&&◌, nat_le, Bool, true, false, cond, List, [], ◌∷◌, ◌++◌, length, Option, Some, None, ap, sym, ◌∙◌, refl, subst, arith, length-append}
+use Rattle.std.proofs.Common.{◌≡◌, ℕ, ◌+◌, ◌≤◌, ◌==◌, ◌||◌, ◌&&◌, nat_le, Bool, true, false, cond, List, [], ◌∷◌, ◌++◌, length, Option, Some, None, ap, sym, ◌∙◌, refl, arith, length-append}
 use Rattle.std.specs.Prelude.{Result, Ok, Err, if◌then◌else◌}
 use Rattle.std.proofs.lemmas.Bool.{false≢true}
 use Rattle.o2_isa.specs.View.{View, Hold, bound_in}
@@ -18,7 +18,7 @@ use Rattle.o2_world.specs.declared.types.SegmentCall.TheVariants.{DosAllocSeg, D
 use Rattle.o2_world.specs.Calls.{Before, argument, has_arguments, row_of}
 use Rattle.o2_run.specs.Room.{Pointer, call_names, gate_names, passed, pointed, pointers_of, segment_pointers, touched, words_of}
 use Rattle.o2_stepping.specs.Rooms.{ages_of, left_in}
-use Rattle.o2_stepping.proofs.Named.{both_in, or_front, or_back}
+use Rattle.o2_stepping.proofs.Named.{both_in}
 
 -- How many names a step touches.
 

@@ -1,29 +1,22 @@
 -- The segments that a step needs: their names, and that they are in memory.
-use Rattle.std.proofs.Common.{◌≡◌, ◌⊎◌, inl, inr, ℕ, zero, suc, ◌+◌, ◌/◌, ◌<◌, ◌≤◌, ◌==◌, Bool, true, false, cond, ◌||◌, List, [], ◌∷◌, ◌++◌, length, Option, Some, None, is_some, IsSome, ap, sym, ◌∙◌, refl, subst, arith}
-use Rattle.std.specs.Prelude.{option_map, slice_get, max}
-use Rattle.std.proofs.lemmas.Bool.{false≢true, eqb-true, eq-eqb}
+use Rattle.std.proofs.Common.{◌≡◌, ◌⊎◌, inl, inr, ℕ, suc, ◌==◌, Bool, true, false, cond, ◌||◌, List, [], ◌∷◌, ◌++◌, Option, Some, None, is_some, IsSome, ap, sym, ◌∙◌, refl, subst, arith}
+use Rattle.std.specs.Prelude.{slice_get}
+use Rattle.std.proofs.lemmas.Bool.{false≢true, eqb-true}
 use Rattle.std.proofs.lemmas.List.Folds.{list_any-append}
-use Rattle.o2_isa.specs.declared.cpu.Cpu.{Cpu}
 use Rattle.o2_isa.specs.declared.instr.Sreg.{Sreg}
 use Rattle.o2_isa.specs.declared.instr.Sreg.TheVariants.{Es, Cs, Ss, Ds}
 use Rattle.o2_isa.specs.Presence.{is_in}
-use Rattle.o2_isa.specs.View.{Hold, Registers, IsBound, bound_in, bound_registers, in_register, present_or_none}
+use Rattle.o2_isa.specs.View.{Hold, Registers, in_register, present_or_none}
 use Rattle.o2_entries.specs.declared.Entry.{Entry}
 use Rattle.o2_entries.specs.Tables.{slot_at}
 use Rattle.o2_place.specs.declared.seg_id.SegId.{SegId}
-use Rattle.o2_regions.specs.declared.held.Held.{Held}
-use Rattle.o2_regions.specs.Maps.{Maps, IsProcess, held_at}
 use Rattle.o2_run.specs.Room.{name_in, seated}
 use Rattle.o2_store.specs.Shelf.{Shelf, aged, entry, entry_of, entry_or, place_of}
-use Rattle.o2_segbus.specs.Bus.{held_under}
-use Rattle.o2_segbus.specs.Frames.{CanStep}
 use Rattle.o2_segbus.specs.Guards.{AreAged}
-use Rattle.o2_segbus.specs.Seen.{AreNamed, hold_in, hold_of, key_of, present_in, present_under, seen, seen_with}
-use Rattle.o2_segbus.specs.Settled.{IsSettled}
+use Rattle.o2_segbus.specs.Seen.{key_of, present_in, present_under}
 use Rattle.o2_segbus.proofs.Ages.{aged_key}
-use Rattle.o2_segbus.proofs.Holds.{bound_is, under_at}
-use Rattle.o2_service.specs.Needs.{AreLive, ArePresent, needs, size_in}
-use Rattle.o2_stepping.specs.Rooms.{AreNeeded, ages_of, pair_of, seated_in}
+use Rattle.o2_service.specs.Needs.{needs}
+use Rattle.o2_stepping.specs.Rooms.{ages_of}
 
 -- Names in lists.
 

@@ -1,24 +1,20 @@
 -- What a step in a store needs is the room of the world's next step.
-use Rattle.std.proofs.Common.{◌≡◌, ◌⊎◌, inl, inr, ℕ, ◌+◌, ◌<◌, ◌≤◌, Bool, true, false, cond, ◌||◌, ◌&&◌, List, [], ◌∷◌, ◌++◌, length, Option, Some, None, is_some, ap, sym, ◌∙◌, refl, subst, arith, if◌then◌else◌}
-use Rattle.std.specs.Prelude.{max, min, nat_lt, option_map}
+use Rattle.std.proofs.Common.{◌≡◌, ◌⊎◌, inl, inr, ℕ, ◌<◌, ◌≤◌, Bool, true, false, cond, ◌||◌, ◌&&◌, List, [], ◌∷◌, ◌++◌, length, Option, Some, None, ap, sym, ◌∙◌, refl, subst, arith, if◌then◌else◌}
+use Rattle.std.specs.Prelude.{max, nat_lt, option_map}
 use Rattle.std.proofs.lemmas.Bool.{false≢true}
 use mathlib.Core.Path.{fun_ext}
 use Rattle.o2_entries.specs.declared.Entry.{Entry}
-use Rattle.o2_entries.specs.Tables.{slot_at}
 use Rattle.o2_isa.specs.declared.cpu.Cpu.{Cpu}
 use Rattle.o2_isa.specs.View.{Hold, Registers, View, bound_in, bound_registers}
 use Rattle.o2_isa.specs.Presence.{SameSelectors, is_in}
-use Rattle.o2_isa.specs.Steps.{state}
-use Rattle.o2_isa.specs.Step.{stepped}
-use Rattle.o2_place.specs.Layout.{over}
 use Rattle.o2_regions.specs.Maps.{Maps}
 use Rattle.o2_store.specs.Loads.{live_load as store_live, swap_load as store_swap}
-use Rattle.o2_store.specs.Shelf.{Shelf, entry, entry_or, rounded}
+use Rattle.o2_store.specs.Shelf.{entry, entry_or, rounded}
 use Rattle.o2_swapmap.specs.Piles.{all_of}
-use Rattle.o2_segbus.specs.Seen.{bytes_in as bytes_there, hold_in, key_of, present_in, seen, seen_with, size_in}
+use Rattle.o2_segbus.specs.Seen.{bytes_in as bytes_there, hold_in, key_of, present_in, seen_with, size_in}
 use Rattle.o2_world.specs.declared.types.State.TheVariants.{Trapped}
 use Rattle.o2_world.specs.Calls.{Before, Effect}
-use Rattle.o2_world.specs.Effect.{answered, effect, has_trap_flag, single_stepped}
+use Rattle.o2_world.specs.Effect.{effect, has_trap_flag, single_stepped}
 use Rattle.o2_world.specs.Holders.{is_held, kept, process_at, with_process}
 use Rattle.o2_world.specs.Known.{known_of}
 use Rattle.o2_world.specs.Map.{Map, get}
@@ -29,7 +25,7 @@ use Rattle.o2_world.proofs.MapLemmas.{get-filter, get-map}
 use Rattle.o2_world.proofs.Quiet.{changed_plain, effect_quiet}
 use Rattle.o2_world.proofs.Sizes.{effect_sizes}
 use Rattle.o2_gate.specs.Befores.{before_call}
-use Rattle.o2_run.specs.Room.{Fits, behind, is_locked, larger, live_load, load_next, need, room, room_between, room_next, rounded as whole, seated, seated_in, size_of, swap_load, touched, untrapped}
+use Rattle.o2_run.specs.Room.{Fits, behind, is_locked, live_load, load_next, need, room, room_between, room_next, rounded as whole, seated, seated_in, size_of, swap_load, untrapped}
 use Rattle.o2_run.specs.Stops.{IsSwapFull}
 use Rattle.o2_stands.specs.Parts.{Parts, away_in, away_under}
 use Rattle.o2_stands.specs.Stands.{AreLawful, IsSetTo, Stands}

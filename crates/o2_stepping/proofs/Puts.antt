@@ -1,5 +1,5 @@
 -- The puts of a step, by those of its call and of the line of an exception.
-use Rattle.std.proofs.Common.{◌≡◌, ℕ, ◌+◌, ◌≤◌, Bool, true, false, ◌&&◌, List, [], ◌∷◌, ◌++◌, length, ap, sym, ◌∙◌, refl, subst, arith, length-append, if◌then◌else◌}
+use Rattle.std.proofs.Common.{◌≡◌, ℕ, ◌+◌, Bool, true, false, ◌&&◌, [], ◌∷◌, ◌++◌, length, sym, ◌∙◌, refl, subst, arith, length-append, if◌then◌else◌}
 use Rattle.std.specs.Prelude.{Result, Ok, Err}
 use Rattle.o2_base.specs.declared.selector.Selector.{Selector}
 use Rattle.o2_world.specs.World.{Traps, is_live}
@@ -10,7 +10,7 @@ use Rattle.o2_run.specs.declared.fault.Fault.{Fault}
 use Rattle.o2_run.specs.declared.fault.Fault.TheVariants as fault
 use Rattle.o2_run.specs.Pieces.{Counts, counts, Hands, HandsUpTo, SinkHands, PartHands, puts_of}
 use Rattle.o2_gate.specs.declared.called.Called.{Called}
-use Rattle.o2_gate.specs.declared.called.Called.TheVariants.{Back, Exited, Trap, Missed}
+use Rattle.o2_gate.specs.declared.called.Called.TheVariants.{Back, Exited, Trap}
 use Rattle.o2_gate.specs.Pieces.{CallHands}
 use Rattle.o2_stepping.specs.Pieces.{RanHands, AttemptHands}
 use Rattle.o2_stepping.specs.Taken.{IsSwapStop}

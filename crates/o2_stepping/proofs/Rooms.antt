@@ -1,8 +1,7 @@
 -- The room of what a step needs, in a store.
-use Rattle.std.proofs.Common.{◌≡◌, ◌⊎◌, inl, inr, ℕ, ◌+◌, ◌*◌, ◌/◌, ◌<◌, ◌≤◌, ◌==◌, Bool, true, false, cond, ◌||◌, List, [], ◌∷◌, ◌++◌, length, Option, Some, None, is_some, IsSome, ap, sym, ◌∙◌, refl, subst, arith}
+use Rattle.std.proofs.Common.{◌≡◌, ◌⊎◌, inl, inr, ℕ, ◌<◌, ◌≤◌, Bool, true, false, cond, ◌||◌, List, length, Option, Some, None, is_some, IsSome, ap, sym, ◌∙◌, refl, subst, arith}
 use Rattle.std.specs.Prelude.{max, nat_lt}
-use Rattle.std.proofs.lemmas.Bool.{false≢true, eqb-true, eq-eqb}
-use Rattle.std.proofs.lemmas.List.Folds.{list_any-append}
+use Rattle.std.proofs.lemmas.Bool.{false≢true}
 use Rattle.o2_entries.specs.declared.Entry.{Entry}
 use Rattle.o2_entries.specs.declared.Attr.{Attr}
 use Rattle.o2_entries.specs.Tables.{slot_at}
@@ -12,7 +11,7 @@ use Rattle.o2_place.specs.Layout.{len_of, over, used}
 use Rattle.o2_place.proofs.Sums.{over-le, over-same}
 use Rattle.o2_store.specs.Shelf.{Shelf, IsShelf, SameTables, entry, entry_or, place_of, rounded}
 use Rattle.o2_segbus.specs.Guards.{AreAged}
-use Rattle.o2_segbus.specs.Seen.{key_of, present_in, present_under}
+use Rattle.o2_segbus.specs.Seen.{present_in, present_under}
 use Rattle.o2_segbus.proofs.Ages.{aged_key}
 use Rattle.o2_service.specs.Needs.{all_needed, needed, needs, size_in}
 use Rattle.o2_stepping.specs.Rooms.{room_at, room_in}

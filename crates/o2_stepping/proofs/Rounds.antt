@@ -1,17 +1,16 @@
 -- What is needed from one try to the next.
-use Rattle.std.proofs.Common.{◌≡◌, ◌⊎◌, inl, inr, ℕ, zero, suc, ◌+◌, ◌/◌, ◌<◌, ◌≤◌, ◌==◌, ◌||◌, Bool, true, false, cond, List, [], ◌∷◌, ◌++◌, length, Option, Some, None, is_some, IsSome, ap, sym, ◌∙◌, refl, subst, arith, length-append}
+use Rattle.std.proofs.Common.{◌≡◌, ◌⊎◌, inl, inr, ℕ, zero, suc, ◌+◌, ◌/◌, ◌<◌, ◌≤◌, ◌==◌, Bool, true, false, cond, List, [], ◌∷◌, ◌++◌, length, Option, Some, None, IsSome, ap, sym, ◌∙◌, refl, subst, arith, length-append}
 use Rattle.std.specs.Prelude.{max, option_map, slice_get}
 use Rattle.std.proofs.lemmas.Bool.{false≢true, eqb-true, eq-eqb}
 use Rattle.o2_isa.specs.declared.cpu.Cpu.{Cpu}
 use Rattle.o2_isa.specs.Presence.{is_in}
-use Rattle.o2_isa.specs.View.{Hold, bound_in, bound_registers, is_null, is_local}
+use Rattle.o2_isa.specs.View.{bound_in, bound_registers, is_null, is_local}
 use Rattle.o2_place.specs.declared.seg_id.SegId.{SegId}
 use Rattle.o2_regions.specs.declared.held.Held.{Held}
-use Rattle.o2_regions.specs.Maps.{Maps, held_at}
+use Rattle.o2_regions.specs.Maps.{Maps}
 use Rattle.o2_run.specs.Room.{name_in, seated}
 use Rattle.o2_store.specs.Shelf.{Shelf, SameTables, entry, entry_of}
 use Rattle.o2_segbus.specs.Bus.{held_under}
-use Rattle.o2_segbus.specs.Guards.{AreAged}
 use Rattle.o2_segbus.specs.Seen.{hold_in, hold_of}
 use Rattle.o2_segbus.proofs.Holds.{bound_is, under_at}
 use Rattle.o2_service.specs.Needs.{AreLive, all_needed, needs, size_in}

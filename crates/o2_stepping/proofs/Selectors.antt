@@ -1,5 +1,5 @@
 -- The segment registers behind a call that is built, and behind an exception, are those before it.
-use Rattle.std.proofs.Common.{◌≡◌, ℕ, Bool, true, false, cond, ◌==◌, List, length, Option, Some, None, refl}
+use Rattle.std.proofs.Common.{ℕ, Bool, true, false, cond, ◌==◌, List, length, Option, Some, None, refl}
 use Rattle.o2_isa.specs.declared.cpu.Cpu.{Cpu}
 use Rattle.o2_isa.specs.Presence.{SameSelectors}
 use Rattle.o2_world.specs.declared.types.Argument.{Argument}

@@ -1,7 +1,6 @@
 -- The names that a step touches, by what the instruction and the call tell of theirs.
-use Rattle.std.proofs.Common.{◌≡◌, ◌⊎◌, inl, inr, ℕ, ◌+◌, ◌%◌, ◌==◌, Bool, true, false, cond, ◌||◌, List, [], ◌++◌, take, ap, sym, ◌∙◌, refl, subst, arith}
+use Rattle.std.proofs.Common.{◌≡◌, ◌⊎◌, inl, inr, ℕ, ◌%◌, ◌==◌, Bool, true, false, cond, ◌||◌, List, [], ◌++◌, take, ap, sym, ◌∙◌, refl, subst, arith}
 use Rattle.std.specs.Prelude.{Option, Some, None, Result, Ok, Err, drop}
-use Rattle.std.specs.List.{list_any}
 use Rattle.std.proofs.lemmas.List.Folds.{list_any-append}
 use Rattle.o2_base.specs.declared.selector.Selector.{Selector}
 use Rattle.o2_isa.specs.declared.cpu.Cpu.{Cpu}
@@ -14,7 +13,7 @@ use Rattle.o2_isa.specs.declared.cpu.Stop.TheVariants as stop
 use Rattle.o2_isa.specs.declared.instr.Sreg.{Sreg}
 use Rattle.o2_isa.specs.declared.instr.Width.{Width}
 use Rattle.o2_isa.specs.Reading.{decoded}
-use Rattle.o2_isa.specs.View.{View, Hold, read_of, Rest, Hidden, Filling, whole, no_rest, no_hidden, found, is_null, is_readable, is_writable, is_code, in_register, reached, room_of, size_at, rights_at, probe_of, when, called, refused, hold_bytes, fetched}
+use Rattle.o2_isa.specs.View.{View, Hold, read_of, Rest, Hidden, Filling, no_rest, no_hidden, found, is_null, is_readable, is_writable, is_code, in_register, reached, room_of, size_at, rights_at, probe_of, when, called, refused, hold_bytes, fetched}
 use Rattle.o2_isa.specs.Steps.{State as Machine, state, Steps, Stops, Ends, Reads, Room, Loads, Sizes, Rights, or_trap, passed, selector}
 use Rattle.o2_isa.specs.Presence.{with_unseen, unseen, whole_state, loaded_names, names_after, hold_name, is_in, IsMissed}
 use Rattle.o2_isa.specs.Step.{steps_at, stepped, step_names}

@@ -1,19 +1,17 @@
 -- One try of a step in a store, from what brought its segments in and from the try itself.
-use Rattle.std.proofs.Common.{◌≡◌, ◌⊎◌, inl, inr, ℕ, ◌/◌, ◌%◌, ◌==◌, ◌||◌, Bool, true, false, cond, List, ◌++◌, Option, Some, None, ap, sym, ◌∙◌, refl, subst, arith}
+use Rattle.std.proofs.Common.{◌≡◌, ◌⊎◌, inl, inr, ℕ, ◌/◌, Bool, true, false, cond, List, Option, Some, None, ap, sym, ◌∙◌, refl, subst, arith}
 use Rattle.std.specs.Prelude.{option_map, Result, Ok, Err}
 use Rattle.std.proofs.lemmas.Bool.{false≢true}
 use mathlib.Core.Path.{fun_ext}
 use Rattle.o2_base.specs.declared.selector.Selector.{Selector}
-use Rattle.o2_image.specs.ImageList.{ImageList}
 use Rattle.o2_isa.specs.declared.cpu.Cpu.{Cpu}
-use Rattle.o2_isa.specs.View.{View, Hold, found, found_in, bound_registers, is_null, is_local}
+use Rattle.o2_isa.specs.View.{View, Hold, bound_registers, is_null, is_local}
 use Rattle.o2_isa.specs.Presence.{IsMissed, is_in}
 use Rattle.o2_place.specs.declared.seg_id.SegId.{SegId}
 use Rattle.o2_regions.specs.declared.held.Held.{Held}
 use Rattle.o2_regions.specs.Maps.{Maps, held_at}
 use Rattle.o2_store.specs.Shelf.{Shelf}
-use Rattle.o2_segbus.specs.Bus.{held_under}
-use Rattle.o2_segbus.specs.Frames.{CanStep, KeepsMaps, KeepsStore}
+use Rattle.o2_segbus.specs.Frames.{CanStep, KeepsStore}
 use Rattle.o2_segbus.specs.Seen.{bytes_in, hold_in, hold_of, present_in, seen, seen_with}
 use Rattle.o2_segbus.proofs.Holds.{found_is}
 use Rattle.o2_segbus.proofs.Keeping.{presence_stays}

@@ -1,14 +1,13 @@
 -- What the boundless machine sees of a process stays where segments keep their bytes and processes what they hold.
-use Rattle.std.proofs.Common.{◌≡◌, ℕ, ◌+◌, ◌<◌, ◌≤◌, ◌/◌, Bool, true, false, cond, List, [], length, get_or, Option, Some, None, is_some, IsSome, ap, sym, ◌∙◌, refl, subst, arith}
+use Rattle.std.proofs.Common.{◌≡◌, ℕ, ◌+◌, ◌<◌, ◌≤◌, Bool, true, false, cond, List, [], length, get_or, Option, Some, None, is_some, ap, sym, ◌∙◌, refl, arith}
 use Rattle.std.specs.Prelude.{map, option_map, IsTrue}
 use Rattle.std.specs.List.{range_with_len}
 use Rattle.std.proofs.lemmas.List.{ext_get_or}
 use Rattle.std.proofs.lemmas.List.FromFn.{get_or-map-range_with_len, length-map-range_with_len}
 use mathlib.Core.Path.{fun_ext}
-use Rattle.o2_desc.specs.Bits.{rights_of}
 use Rattle.o2_image.specs.ImageList.{ImageList}
 use Rattle.o2_isa.specs.declared.cpu.Cpu.{Cpu}
-use Rattle.o2_isa.specs.View.{View, Hold, Registers, built_gates, no_rest, no_hidden, bound_registers}
+use Rattle.o2_isa.specs.View.{View, Hold, built_gates, no_rest, no_hidden, bound_registers}
 use Rattle.o2_phys.proofs.Parts.{length-part, get-part}
 use Rattle.o2_regions.specs.declared.held.Held.{Held}
 use Rattle.o2_regions.specs.Maps.{Maps, held_at}
@@ -16,13 +15,12 @@ use Rattle.o2_store.specs.Pictures.{picture}
 use Rattle.o2_store.specs.Shelf.{Shelf, Pictures, SameTables, KeepsAll, byte_at, byte_in, entry, out_byte, place_of}
 use Rattle.o2_segbus.specs.Bus.{AreInside}
 use Rattle.o2_segbus.specs.Seen.{bytes_from, bytes_in, bytes_under, hold_in, hold_of, key_of, present_in, present_under, seen, seen_with, size_in, size_under}
-use Rattle.o2_segbus.specs.Settled.{descriptor_at}
 use Rattle.o2_segbus.specs.Frames.{KeepsStore}
 use Rattle.o2_segbus.proofs.Keeping.{presence_stays}
 use Rattle.o2_stands.proofs.Moves.{same_keys}
 use Rattle.o2_isa.specs.Presence.{is_in}
 use Rattle.o2_gate.specs.Pointed.{ArePresent}
-use Rattle.o2_stands.specs.Parts.{Parts, away_in, away_under}
+use Rattle.o2_stands.specs.Parts.{away_in, away_under}
 use Rattle.o2_stepping.specs.Shapes.{SameHolds}
 use Rattle.o2_stepping.specs.Worlds.{bytes_with, parts_of, world_view}
 

@@ -1,5 +1,5 @@
 -- What the boundless machine sees of a process over a store.
-use Rattle.std.specs.Prelude.{◌≡◌, ℕ, ◌≤◌, List, [], length, Bool, true, Option, None, if◌then◌else◌}
+use Rattle.std.specs.Prelude.{ℕ, List, true, None, if◌then◌else◌}
 use Rattle.o2_image.specs.ImageList.{ImageList}
 use Rattle.o2_isa.specs.declared.cpu.Cpu.{Cpu}
 use Rattle.o2_isa.specs.View.{View}

@@ -1,5 +1,3 @@
-use Rattle.std.proofs.Common.{ℕ, Some}
-use Rattle.o2_place.specs.declared.seg_id.SegId.{SegId}
 use Rattle.std.proofs.lemmas.Option.{slice_get_within}
 use Rattle.o2_segbus.proofs.Writings.{inside_is}
 use Rattle.o2_service.proofs.Among.{all_live_same}

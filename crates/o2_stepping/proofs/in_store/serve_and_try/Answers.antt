@@ -1,10 +1,7 @@
-use Rattle.std.proofs.Common.{ℕ, List, sym, ◌∙◌, refl, ap, arith}
-use Rattle.o2_isa.specs.View.{View, bound_registers}
-use Rattle.o2_segbus.specs.Seen.{hold_in}
+use Rattle.std.proofs.Common.{ℕ, List, ◌∙◌, refl}
 use Rattle.o2_world.specs.Effect.{effect}
 use Rattle.o2_run.specs.Pieces.{counts}
-use Rattle.o2_run.specs.Room.{touched}
-use Rattle.o2_stepping.specs.Worlds.{away_of, before_in, bytes_with, world_view}
+use Rattle.o2_stepping.specs.Worlds.{away_of, before_in}
 use Rattle.o2_stepping.proofs.Keeping.{held_stays, marks_hold, ready_same, shape_trans, try_shape}
 use Rattle.o2_stepping.proofs.Puts.{stop_hands}
 use Rattle.o2_stepping.proofs.Trials.{away_same, map_missed, never_stops, no_cause, no_sink, no_step, on_ran, part_first, stays_still, stop_part, together, together_in_part, tried, tried_for, wanted}

@@ -1,4 +1,4 @@
-use Rattle.std.proofs.Common.{◌≡◌, ℕ, [], List, Option, None, ap, sym, ◌∙◌, refl, subst, true}
+use Rattle.std.proofs.Common.{ℕ, [], List, Option, None, ap, sym, ◌∙◌, refl, subst, true}
 use Rattle.std.specs.Prelude.{Result, Ok, Err}
 use Rattle.o2_outer.specs.Inputs.{left_as}
 use Rattle.o2_outer.proofs.TextLemmas.{gains_none}
