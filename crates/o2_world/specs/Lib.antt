@@ -23,3 +23,4 @@ pub mod NewNames
 pub mod Hello
 pub mod SegmentsWorked
 pub mod SharedMarks
+pub mod EndWorked

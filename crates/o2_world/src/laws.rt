@@ -10,8 +10,8 @@ ghost use Rattle.std.specs.List.{list_any};
 ghost use Rattle.o2_conf.specs.Dispatch.{Dispatch};
 ghost use Rattle.o2_world.specs.Map.{get};
 ghost use Rattle.o2_world.specs.World.{Process, Segment, is_live};
-ghost use Rattle.o2_world.specs.Holders.{process_at};
-ghost use Rattle.std.specs.Prelude.{is_some};
+ghost use Rattle.o2_world.specs.Holders.{process_at, with_process};
+ghost use Rattle.std.specs.Prelude.{is_some, None};
 ghost use Rattle.o2_base.specs.Services.{is_built};
 ghost use Rattle.o2_world.specs.Calls.{row_of, served_by};
 ghost use Rattle.o2_world.specs.CallParts.{Before};
@@ -21,7 +21,8 @@ ghost use Rattle.o2_world.specs.Moves.{Moves};
 ghost use Rattle.std.specs.Prelude.{Option};
 ghost use Rattle.o2_world.specs.Known.{is_for_the_run};
 ghost use Rattle.o2_world.specs.SharedMarks.{shared_marks, some_marks};
-ghost use Rattle.o2_world.specs.Changes.{Change, Locks, takes, used, told_of, moved_lines, with_all, with_changes};
+ghost use Rattle.o2_world.specs.EndWorked.{before_ends, one_ended, both_ended, names_in, texts_in, runs_in};
+ghost use Rattle.o2_world.specs.Changes.{Change, Locks, at_number, takes, used, told_of, moved_lines, with_all, with_changes};
 ghost use Rattle.o2_world.specs.Bare.{bare};
 ghost use Rattle.o2_world.specs.Calls.{Effect};
 ghost use Rattle.o2_base.specs.Selectors.{selector_of};
@@ -76,6 +77,13 @@ pub fn each_step_keeps_a_sound_world_sound()
 pub fn no_name_is_used_twice()
     ensures step { (s : Setting) (w : World) → UsesNewNames w (step s w) }
     ensures changes { (w : World) (d : Dispatch) (p : Process) (e : Effect) → UsesNewNames w (changed w d p e) }
+{}
+
+/// Number 0 is no process: none has it, and nothing changes one of it.
+pub fn number_0_is_no_process()
+    ensures none { (ps : List Process) → process_at ps 0 ≡ None }
+    ensures stays { (ps : List Process) (p : Process) → with_process ps 0 p ≡ ps }
+    ensures changes { (ps : List Process) (f : Process → Process) → at_number 0 f ps ≡ ps }
 {}
 
 /// A run that is over stays as it is.
@@ -249,4 +257,19 @@ pub fn an_end_frees_what_nobody_holds()
         → let v = changed w d p e in told_of v.processes v.texts ≡ v.texts }
     ensures swept { (w : World) (d : Dispatch) (p : Process) (e : Effect) → is_live e.state ≡ false
         → IsSwept (changed w d p e) }
+{}
+
+/// What two processes leave that end one behind the other: code that both hold, data and environment of either, names 5 and 6 with
+/// a text, of which the second process holds the latter, a run of its own of either, and shared runs, of which the second process
+/// holds that of index 4102 and a library has that of 4104.
+pub fn an_end_leaves_what_another_holds()
+    ensures names_before { names_in before_ends ≡ 10 ∷ 9 ∷ 8 ∷ 7 ∷ 6 ∷ 5 ∷ 4 ∷ 3 ∷ 2 ∷ 1 ∷ 0 ∷ [] }
+    ensures names_of_one { names_in one_ended ≡ 10 ∷ 8 ∷ 6 ∷ 4 ∷ 3 ∷ 0 ∷ [] }
+    ensures names_of_none { names_in both_ended ≡ [] }
+    ensures texts_before { texts_in before_ends ≡ 6 ∷ 5 ∷ [] }
+    ensures texts_of_one { texts_in one_ended ≡ 6 ∷ [] }
+    ensures texts_of_none { texts_in both_ended ≡ [] }
+    ensures runs_before { runs_in before_ends ≡ (1, 8) ∷ (2, 8) ∷ (0, 4100) ∷ (0, 4102) ∷ (0, 4104) ∷ [] }
+    ensures runs_of_one { runs_in one_ended ≡ (2, 8) ∷ (0, 4102) ∷ (0, 4104) ∷ [] }
+    ensures runs_of_none { runs_in both_ended ≡ (0, 4104) ∷ [] }
 {}
