@@ -16,6 +16,3 @@ pub use images::{Images, Resolved};
 pub use module::Module;
 pub use o2_base::ModuleFault;
 pub use sharing::SharedTargets;
-
-#[cfg(test)]
-mod tests;

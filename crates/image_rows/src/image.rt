@@ -1,5 +1,5 @@
-use super::*;
 use o2_base::{Bytes, Fail as ReadFail, NoMemory};
+use o2_image::{Module, Resolved, SharedTargets};
 use std::alloc::{AllocError, Global};
 use std::test::Fail;
 
@@ -241,9 +241,8 @@ fn the_parts_of_a_program(rt: HostRuntime) {
     let Some(module) = module_of(rt.alloc(), HELLO) else {
         panic!(rt; "refused");
     };
-    assert!(rt; are_sizes_of_hello(&module));
-    assert!(rt; are_parts_of_hello(&module));
-    assert!(rt; are_names_of_hello(&module));
+    let sizes_and_parts = are_sizes_of_hello(&module) && are_parts_of_hello(&module);
+    assert!(rt; sizes_and_parts && are_names_of_hello(&module));
 }
 
 // Targets for the records of a first segment, and none for the second.
@@ -312,17 +311,23 @@ fn a_chain_meets_itself(rt: HostRuntime) -> Result<(), Fail> {
     Ok(())
 }
 
+// Whether the first segment has two records before those that it shares with the second, and none with a third.
+fn has_shared_records(module: &Module) -> bool {
+    module.segment_relocs(1) == 4
+        && module.segment_relocs(2) == 3
+        && matches!(module.records_before(1, 2), Some(2))
+        && module.records_before(2, 1).is_none()
+        && module.records_before(1, 3).is_none()
+        && matches!(module.records_within(1, 1), Some(0))
+        && module.records_within(1, 2).is_none()
+}
+
 #[test]
 fn segments_may_share_records(rt: HostRuntime) {
     let Some(module) = module_of(rt.alloc(), MEETS) else {
         panic!(rt; "refused");
     };
-    assert!(rt; module.segment_relocs(1) == 4 && module.segment_relocs(2) == 3);
-    assert!(rt; matches!(module.records_before(1, 2), Some(2)));
-    assert!(rt; module.records_before(2, 1).is_none());
-    assert!(rt; module.records_before(1, 3).is_none());
-    assert!(rt; matches!(module.records_within(1, 1), Some(0)));
-    assert!(rt; module.records_within(1, 2).is_none());
+    assert!(rt; has_shared_records(&module));
 }
 
 // Three targets of a segment, which the next one has too; a third has the last of them. A fourth has those of the second from its
@@ -354,13 +359,11 @@ fn targets_are_held_once(rt: HostRuntime) -> Result<(), Fail> {
         panic!(rt; "not shared");
     };
     for (segment, first, count) in [(1u16, 1u16, 3u16), (2, 2, 3), (3, 3, 1), (4, 0, 0)] {
+        let mut right = targets.get(segment, count).is_none();
         for k in 0..count {
-            assert!(rt;
-                is_target(targets.get(segment, k), first + k),
-                "{segment} {k}"
-            );
+            right = right && is_target(targets.get(segment, k), first + k);
         }
-        assert!(rt; targets.get(segment, count).is_none());
+        assert!(rt; right, "{segment}");
     }
     Ok(())
 }

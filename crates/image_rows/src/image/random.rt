@@ -1,7 +1,7 @@
 // Random executables with every feature of the format, written from what they must be read as.
-use crate::Module;
-use crate::tests::{is_text, judged};
+use crate::image::{is_text, judged};
 use o2_base::{Bytes, NoMemory};
+use o2_image::Module;
 use o2_ne_segs::{Kind, Reloc, Segment};
 use std::alloc::{AllocError, Global};
 use std::test::Fail;
