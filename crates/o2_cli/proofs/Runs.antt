@@ -65,9 +65,10 @@ no_more x y n h = omega (arith, h)
 
 -- a sink failed in the opening
 pub in_opening : (s : Session) (b : Built) (input : List ℕ) (j c r q : Option (List ℕ)) → j ≡ Some input → GainsSome r q (λ front. IsPrefix front (lines_text b.lines)) → (k x y : ℕ) → x ≤ y → y ≤ x + length b.lines
-    → HasPartRun (setting_of s.conf) (first_world s.linked s.conf input b) j c c r q (counts k k x y 0)
+    → HasPartRun machine_swaps (setting_of s.conf) (first_world s.linked s.conf input b) j c c r q (counts k k x y 0)
 in_opening s b input j c r q left g k x y least most = record {
   texts = InOpening (λ t e. e ∙ ap Some (sym (append-nil t))) g;
+  room = tt;
   input = inl left;
   hands = record { to_console = omega arith; at_least = omega (arith, least); at_most = no_more x y (length b.lines) most };
 }
@@ -135,7 +136,7 @@ module _ (s : Session) (blocks : ℕ) (i j c d r q : Option (List ℕ)) (e : Typ
       → ((input : List ℕ) → i ≡ Some input → StartsWith s input (λ o. (y ≡ x + length o.world.lines) × HasTexts (stands o.setting) machine_swaps blocks o.setting o.world j c d r q since (counts u v y z (length o.world.lines)) (Err f)))
       → FaultsRun s blocks i j c d r q e (counts u v x z 0) f
   faulted_run stands since later Sink ran = λ input left.
-      let o = ran input left in record { start = o.start; starts = o.starts; runs = part_from o.start.setting o.start.world j c d r q u v x y z (length o.start.world.lines) o.runs.0 o.runs.1.0 }
+      let o = ran input left in record { start = o.start; starts = o.starts; runs = part_from machine_swaps o.start.setting o.start.world j c d r q u v x y z (length o.start.world.lines) o.runs.0 o.runs.1.0 }
   faulted_run stands since later (Stopped why) ran = λ input left.
       let o = ran input left in
       record { start = o.start; starts = o.starts; runs = stopped_from machine_swaps blocks o.start.setting o.start.world why j c d r q since e later u v x y z (length o.start.world.lines) o.runs.0 o.runs.1.0 }

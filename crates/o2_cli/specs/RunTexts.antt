@@ -28,14 +28,14 @@ StopsRun s blocks i j c d r q e n why = (input : List ℕ) → i ≡ Some input
 -- its run has this fault
 abbrev pub FaultsRun : Session → (blocks : ℕ)
     → (left_old left_new console_old console_new report_old report_new : Option (List ℕ)) → (fault : Type 0) → (puts : Counts) → Fault → Type 0
-FaultsRun s blocks i j c d r q e n Sink = (input : List ℕ) → i ≡ Some input → StartsWith s input (λ o. HasPartRun o.setting o.world j c d r q n)
+FaultsRun s blocks i j c d r q e n Sink = (input : List ℕ) → i ≡ Some input → StartsWith s input (λ o. HasPartRun machine_swaps o.setting o.world j c d r q n)
 FaultsRun s blocks i j c d r q e n (Stopped why) = StopsRun s blocks i j c d r q e n why
 
 -- what its run shows, by the status, where the device has so many blocks
 abbrev pub ShowsRun : Session → (blocks : ℕ)
     → (left_old left_new console_old console_new report_old report_new : Option (List ℕ)) → (fault : Type 0) → (puts : Counts) → Status → Type 0
 ShowsRun s blocks i j c d r q e n status.Fine = (input : List ℕ) → i ≡ Some input → StartsWith s input (λ o. HasWholeRun machine_swaps o.setting o.world j c d r q n)
-ShowsRun s blocks i j c d r q e n status.SinkFault = (input : List ℕ) → i ≡ Some input → StartsWith s input (λ o. HasPartRun o.setting o.world j c d r q n)
+ShowsRun s blocks i j c d r q e n status.SinkFault = (input : List ℕ) → i ≡ Some input → StartsWith s input (λ o. HasPartRun machine_swaps o.setting o.world j c d r q n)
 ShowsRun s blocks i j c d r q e n status.InputFault = StopsRun s blocks i j c d r q e n Input
 ShowsRun s blocks i j c d r q e n status.NoRoom = StopsRun s blocks i j c d r q e n NoRoom
 ShowsRun s blocks i j c d r q e n status.SwapFull = StopsRun s blocks i j c d r q e n SwapFull

@@ -103,7 +103,7 @@ Stops words told blocks i j c d r q e n why = Runs words told i (λ o. HasStoppe
 abbrev pub Shows : List (String Global) → Told → (blocks : ℕ)
     → (left_old left_new console_old console_new report_old report_new : Option (List ℕ)) → (fault : Type 0) → (puts : Counts) → Status → Type 0
 Shows words told blocks i j c d r q e n status.Fine = Runs words told i (λ o. HasWholeRun machine_swaps o.setting o.world j c d r q n)
-Shows words told blocks i j c d r q e n status.SinkFault = Runs words told i (λ o. HasPartRun o.setting o.world j c d r q n)
+Shows words told blocks i j c d r q e n status.SinkFault = Runs words told i (λ o. HasPartRun machine_swaps o.setting o.world j c d r q n)
 Shows words told blocks i j c d r q e n status.InputFault = Stops words told blocks i j c d r q e n Input
 Shows words told blocks i j c d r q e n status.NoRoom = Stops words told blocks i j c d r q e n NoRoom
 Shows words told blocks i j c d r q e n status.SwapFull = Stops words told blocks i j c d r q e n SwapFull

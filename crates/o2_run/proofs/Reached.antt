@@ -134,9 +134,9 @@ module _ (before_it now : World → Type 0) (swaps : Bool) (blocks : ℕ) (s : S
       → FailedHands s (after s w h.steps) (counts v x z o (length (after s w h.steps).lines)) → (since : Type 0) → HasTexts now swaps blocks s w l c e r p since (counts u x y o ahead) (Err Sink)
   unfolding part_texts last_texts
   stopped_anyhow h (inl part) puts since =
-      (record { texts = part_texts h part; input = part.input; hands = hands_up_to u v x y z o ahead (length (after s w h.steps).lines) (pieces s w h.steps) _ _ _ h.hands (puts.in_step part.runs) }, part.stands)
+      (record { texts = part_texts h part; room = λ j below. fits_to h.steps h.room part.room j (omega (arith, below)); input = part.input; hands = hands_up_to u v x y z o ahead (length (after s w h.steps).lines) (pieces s w h.steps) _ _ _ h.hands (puts.in_step part.runs) }, part.stands)
   stopped_anyhow h (inr end) puts since =
-      (record { texts = last_texts h end; input = inl end.input; hands = hands_last u v x y z o ahead (length (after s w h.steps).lines) (pieces s w h.steps) _ h.hands (puts.at_end end.over) }, inl end.stands)
+      (record { texts = last_texts h end; room = h.room; input = inl end.input; hands = hands_last u v x y z o ahead (length (after s w h.steps).lines) (pieces s w h.steps) _ h.hands (puts.at_end end.over) }, inl end.stands)
 
   -- by the fault with which the run ends
   pub faulted : (f : Fault) (count : ℕ) → count ≡ blocks → (h : HasReached before_it swaps s w i c d r q (counts u v y z ahead)) (put : Bool) (fault since : Type 0) → (fault → since) → LineIs put fault (fault_turn f)
@@ -189,8 +189,8 @@ module _ (swaps : Bool) (s : Setting) (w : World) (l c e r p : Option (List ℕ)
   pub whole_from : HasWholeRun swaps s w l c e r p (counts u v y z ahead) → HasWholeRun swaps s w l c e r p (counts u v x z 0)
   whole_from t = record { texts = t.texts; room = t.room; input = t.input; hands = hands_from u v x y z ahead put _ _ t.hands }
 
-pub part_from : (s : Setting) (w : World) (l c e r p : Option (List ℕ)) (u v x y z ahead : ℕ) → y ≡ x + ahead → HasPartRun s w l c e r p (counts u v y z ahead) → HasPartRun s w l c e r p (counts u v x z 0)
-part_from s w l c e r p u v x y z ahead put t = record { texts = t.texts; input = t.input; hands = hands_part u v x y z ahead put s w c e r p t.texts t.hands }
+pub part_from : (swaps : Bool) (s : Setting) (w : World) (l c e r p : Option (List ℕ)) (u v x y z ahead : ℕ) → y ≡ x + ahead → HasPartRun swaps s w l c e r p (counts u v y z ahead) → HasPartRun swaps s w l c e r p (counts u v x z 0)
+part_from swaps s w l c e r p u v x y z ahead put t = record { texts = t.texts; room = t.room; input = t.input; hands = hands_part u v x y z ahead put s w c e r p t.texts t.hands }
 
 pub stopped_from : (swaps : Bool) (blocks : ℕ) (s : Setting) (w : World) (why : Stop) (l c e r p : Option (List ℕ)) (fault since : Type 0) → (fault → since) → (u v x y z ahead : ℕ) → y ≡ x + ahead
     → HasStoppedTexts swaps blocks s w why l c e r p fault (counts u v y z ahead) → HasStoppedTexts swaps blocks s w why l c e r p since (counts u v x z 0)

@@ -54,9 +54,16 @@ HandsPart s w n (Between k below to_console to_report in_order) =
     HandsUpTo n (pieces s w (suc k)) (length (after s w k).lines) (length (after s w (suc k)).lines)
 HandsPart s w n (AtLastLine k last to_console to_report) = Hands n (pieces s w k) (length (after s w k).lines + 1)
 
+-- a machine that swaps had room for each step of a front, the one in which a sink failed among them
+abbrev pub FitsPart : (swaps : Bool) (s : Setting) (w : World) {c d r q : Option (List ℕ)} → HasPartTexts s w c d r q → Type 0
+FitsPart swaps s w (InOpening to_console to_report) = Unit {0}
+FitsPart swaps s w (Between k below to_console to_report in_order) = FitsBelow swaps s w (suc k)
+FitsPart swaps s w (AtLastLine k last to_console to_report) = FitsBelow swaps s w k
+
 -- texts of a front, and an input that has left what the world before that step has left, or the one after it
-pub record HasPartRun (s : Setting) (w : World) (left console_old console_new report_old report_new : Option (List ℕ)) (puts : Counts) : Type 0 where
+pub record HasPartRun (swaps : Bool) (s : Setting) (w : World) (left console_old console_new report_old report_new : Option (List ℕ)) (puts : Counts) : Type 0 where
   pub texts : HasPartTexts s w console_old console_new report_old report_new
+  pub room : FitsPart swaps s w texts
   pub input : (left ≡ Some (after s w (part_at texts)).input) ⊎ (left ≡ Some (after s w (suc (part_at texts))).input)
   pub hands : HandsPart s w puts texts
 
@@ -65,7 +72,7 @@ abbrev pub HasTexts : (stands_now : World → Type 0) → (swaps : Bool) → (bl
     → (left console_old console_new report_old report_new : Option (List ℕ)) → (fault : Type 0) → (puts : Counts) → Result (Unit {0}) Fault → Type 0
 HasTexts f swaps blocks s w i c d r q e n (Ok x) = (t : HasWholeRun swaps s w i c d r q n) × f (after s w t.texts.last)
 HasTexts f swaps blocks s w i c d r q e n (Err fault.Sink) =
-    (t : HasPartRun s w i c d r q n) × (f (after s w (part_at t.texts)) ⊎ f (after s w (suc (part_at t.texts))))
+    (t : HasPartRun swaps s w i c d r q n) × (f (after s w (part_at t.texts)) ⊎ f (after s w (suc (part_at t.texts))))
 HasTexts f swaps blocks s w i c d r q e n (Err (fault.Stopped why)) =
     (t : HasStoppedTexts swaps blocks s w why i c d r q e n) × f (after s w t.steps)
 
