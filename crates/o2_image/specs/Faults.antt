@@ -12,6 +12,8 @@ use Rattle.o2_base.specs.declared.faults.ModuleFault.{ModuleFault}
 use Rattle.o2_base.specs.declared.faults.ModuleFault.TheVariants as module_fault
 use Rattle.o2_base.specs.declared.memory.Fail.{Fail}
 use Rattle.o2_base.specs.declared.memory.Fail.TheVariants.{Bad, NoMemory}
+use Rattle.o2_image.specs.declared.faults.RecordFault.{RecordFault}
+use Rattle.o2_image.specs.declared.faults.RecordFault.TheVariants as record_fault
 
 abbrev pub of_ne : NeFault → ModuleFault
 of_ne ne.NotMz = module_fault.NotMz
@@ -34,6 +36,10 @@ of_seg seg.NoMemory = module_fault.Truncated 0
 of_seg (seg.Truncated p) = module_fault.Truncated p
 of_seg (seg.OutOfProfile p) = module_fault.OutOfProfile (of_part p)
 
+abbrev pub of_record : RecordFault → ModuleFault
+of_record (record_fault.Chain seg p) = module_fault.BadChain seg p
+of_record (record_fault.Target seg n) = module_fault.BadTarget seg n
+
 -- the readings of the parts, with faults of a module
 abbrev pub under_ne : {X : Type 0} → Result X NeFault → Result X ModuleFault
 under_ne (Ok x) = Ok x
@@ -47,6 +53,11 @@ under_seg (Err f) = Err (of_seg f)
 abbrev pub StepsTo : {X F : Type 0} → X → Result (Unit {0}) F → Result X F → Type 0
 StepsTo after (Ok x) read = read ≡ Ok after
 StepsTo after (Err e) read = read ≡ Err e
+
+-- The same of a function that checks records.
+abbrev pub RecordStepsTo : {X : Type 0} → X → Result (Unit {0}) RecordFault → Result X ModuleFault → Type 0
+RecordStepsTo after (Ok x) read = read ≡ Ok after
+RecordStepsTo after (Err e) read = read ≡ Err (of_record e)
 
 -- The failure of a module that a segment's fault stands for.
 abbrev pub SegFailsAs : SegFault → Fail ModuleFault → Type 0

@@ -1,12 +1,12 @@
 // The places that a record patches.
 ghost use Rattle.std.specs.Prelude.{◌≡◌, ◌+◌, ◌≤◌, ◌<◌, ◌^◌, length, false, OnOk};
 ghost use Rattle.o2_ne.specs.Steps.{steps};
-ghost use Rattle.o2_image.specs.Faults.{StepsTo};
+ghost use Rattle.o2_image.specs.Faults.{RecordStepsTo};
 ghost use Rattle.o2_image.specs.Chains.{Marks, Walk, any_patched, chain, chain_step, patched, places, single};
 ghost use Rattle.o2_image.specs.ChainViews.{Walks, walk};
 ghost use Rattle.o2_image.specs.Whole.{Fit};
 
-use o2_base::ModuleFault;
+use crate::faults::RecordFault;
 use o2_ne::u16_at;
 
 // Whether one of these bytes is patched.
@@ -29,6 +29,11 @@ fn patch(marks: &mut [bool], at: usize, width: usize)
     requires { at + width ≤ length marks.old }
     ensures { marks.new ≡ patched marks.old at width }
 {
+    // (a loop would be compiled to a call, which costs more than the byte)
+    if width == 1 {
+        marks[at] = true;
+        return;
+    }
     for k in 0..width {
         marks[at + k] = true;
     }
@@ -41,18 +46,18 @@ pub(crate) fn place(
     at: u16,
     width: u8,
     marks: &mut [bool],
-) -> Result<(), ModuleFault>
+) -> Result<(), RecordFault>
     requires same { length marks.old ≡ length bytes.now }
-    ensures marks { StepsTo marks.new result (single seg bytes.now width at marks.old) }
+    ensures marks { RecordStepsTo marks.new result (single seg bytes.now width at marks.old) }
     ensures fits { OnOk result (at + width ≤ length bytes.now) }
 {
     let start = at as usize;
     let size = width as usize;
     if start + size > bytes.len() {
-        return Err(ModuleFault::BadChain(seg, at));
+        return Err(RecordFault::Chain(seg, at));
     }
     if any_patched(marks, start, size) {
-        return Err(ModuleFault::BadChain(seg, at));
+        return Err(RecordFault::Chain(seg, at));
     }
     patch(marks, start, size);
     Ok(())
@@ -74,11 +79,11 @@ impl Walking {
         bytes: &[u8],
         width: u8,
         marks: &mut [bool],
-    ) -> Result<(), ModuleFault>
+    ) -> Result<(), RecordFault>
         requires same { length marks.old ≡ length bytes.now }
         requires wide { 2 ≤ width }
         requires goes_on { self.old.ended ≡ false }
-        ensures { StepsTo (walk self.new marks.new) result (chain_step seg bytes.now width (walk self.old marks.old)) }
+        ensures { RecordStepsTo (walk self.new marks.new) result (chain_step seg bytes.now width (walk self.old marks.old)) }
     {
         place(seg, bytes, self.next, width, marks)?;
         self.next = u16_at(bytes, self.next as usize);
@@ -94,7 +99,7 @@ fn walk_on(
     at: u16,
     width: u8,
     marks: &mut [bool],
-) -> Result<Walking, ModuleFault>
+) -> Result<Walking, RecordFault>
     requires same { length marks.old ≡ length bytes.now }
     requires wide { 2 ≤ width }
     ensures { Walks marks.new result (steps (chain_step seg bytes.now width) 65536 (record { marks = marks.old; next = at; ended = false })) }
@@ -120,10 +125,10 @@ pub(crate) fn follow(
     at: u16,
     width: u8,
     marks: &mut [bool],
-) -> Result<(), ModuleFault>
+) -> Result<(), RecordFault>
     requires same { length marks.old ≡ length bytes.now }
     requires wide { 2 ≤ width }
-    ensures marks { StepsTo marks.new result (chain seg bytes.now width at marks.old) }
+    ensures marks { RecordStepsTo marks.new result (chain seg bytes.now width at marks.old) }
     ensures fit { OnOk result (Fit bytes.now (places bytes.now 65536 at)) }
 {
     let _walking = walk_on(seg, bytes, at, width, marks)?;

@@ -4,12 +4,12 @@ ghost use Rattle.o2_ne.specs.Steps.{Gives, over};
 ghost use Rattle.o2_ne_segs.specs.declared.segment.Segment.{Segment};
 ghost use Rattle.o2_ne_segs.specs.Records.{counted, end_of, reloc_at, reloc_count, relocs_at, relocs_in};
 ghost use Rattle.o2_image.specs.Alike.{Passes};
-ghost use Rattle.o2_image.specs.Faults.{StepsTo, under_seg};
+ghost use Rattle.o2_image.specs.Faults.{RecordStepsTo, under_seg};
 ghost use Rattle.o2_image.specs.Records.{bytes_of, marks_after, record_step, segment_step};
 ghost use Rattle.o2_image.specs.Whole.{HasPlaces, HasSegment};
 
 use crate::chain::{follow, place};
-use crate::faults::of_seg;
+use crate::faults::{RecordFault, of_record, of_seg};
 use crate::same_bytes::is_any_alike;
 use crate::targets::{has_target, is_additive, is_fixup, is_source, width_of};
 use o2_base::{Fail, ModuleFault, SegFault};
@@ -29,9 +29,9 @@ pub(crate) fn bytes_of<'a>(file: &'a [u8], segment: &Segment) -> &'a [u8]
 }
 
 // The places of a record.
-fn mark_places(seg: u16, bytes: &[u8], reloc: &Reloc, marks: &mut [bool]) -> Result<(), ModuleFault>
+fn mark_places(seg: u16, bytes: &[u8], reloc: &Reloc, marks: &mut [bool]) -> Result<(), RecordFault>
     requires { length marks.old ≡ length bytes.now }
-    ensures exact { StepsTo marks.new result (marks_after seg bytes.now reloc.now marks.old) }
+    ensures exact { RecordStepsTo marks.new result (marks_after seg bytes.now reloc.now marks.old) }
     ensures places { OnOk result (HasPlaces bytes.now reloc.now) }
 {
     if is_fixup(reloc) {
@@ -61,15 +61,17 @@ fn check_record(
     reloc: &Reloc,
     number: u16,
     marks: &mut [bool],
-) -> Result<(), ModuleFault>
+) -> Result<(), RecordFault>
     requires small { length scope.now.file.now ≤ 4194304 }
     requires inside { scope.now.head.now.at + 64 ≤ length scope.now.file.now }
     requires same { length marks.old ≡ length bytes.now }
-    ensures exact { StepsTo (record { marks = marks.new; number = number + 1 }) result (record_step scope.now.file.now scope.now.head.now scope.now.entries.now seg bytes.now reloc.now (record { marks = marks.old; number = number })) }
+    ensures exact { RecordStepsTo (record { marks = marks.new; number = number + 1 }) result
+        (record_step scope.now.file.now scope.now.head.now scope.now.entries.now seg bytes.now reloc.now
+        (record { marks = marks.old; number = number })) }
     ensures places { OnOk result (HasPlaces bytes.now reloc.now) }
 {
     if !is_source(reloc.source) || !has_target(scope.file, scope.head, scope.entries, reloc) {
-        return Err(ModuleFault::BadTarget(seg, number));
+        return Err(RecordFault::Target(seg, number));
     }
     mark_places(seg, bytes, reloc, marks)
 }
@@ -82,12 +84,14 @@ fn check_records(
     at: usize,
     count: u16,
     marks: &mut [bool],
-) -> Result<(), ModuleFault>
+) -> Result<(), RecordFault>
     requires small { length scope.now.file.now ≤ 4194304 }
     requires inside { scope.now.head.now.at + 64 ≤ length scope.now.file.now }
     requires rows { 0 < count → at + 8 * count ≤ length scope.now.file.now }
     requires same { length marks.old ≡ length bytes.now }
-    ensures exact { StepsTo (record { marks = marks.new; number = count }) result (over (record_step scope.now.file.now scope.now.head.now scope.now.entries.now seg bytes.now) (relocs_at scope.now.file.now at count) (record { marks = marks.old; number = 0 })) }
+    ensures exact { RecordStepsTo (record { marks = marks.new; number = count }) result
+        (over (record_step scope.now.file.now scope.now.head.now scope.now.entries.now seg bytes.now)
+        (relocs_at scope.now.file.now at count) (record { marks = marks.old; number = 0 })) }
     ensures places { OnOk result ((j : ℕ) → j < count → HasPlaces bytes.now (reloc_at scope.now.file.now (at + 8 * j))) }
 {
     for number in 0..count {
@@ -130,7 +134,10 @@ fn check_segment(
     let bytes = bytes_of(scope.file, segment);
     let mut marks = vec![in alloc; false; bytes.len()]?;
     let at = segment.file_at as usize + segment.file_len as usize + 2;
-    check_records(scope, seg, bytes, at, count, marks.as_mut_slice()).map_err(Fail::Bad)
+    match check_records(scope, seg, bytes, at, count, marks.as_mut_slice()) {
+        Ok(()) => Ok(()),
+        Err(fault) => Err(Fail::Bad(of_record(fault))),
+    }
 }
 
 // The records of segment `seg`, where those of an earlier one that is alike passed.
