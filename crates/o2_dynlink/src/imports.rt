@@ -1,18 +1,19 @@
 // Where the records of a module lead: within it, to a service, or to what a library exports.
-ghost use Rattle.std.specs.Prelude.{◌≡◌, ◌+◌, ◌-◌, ◌≤◌, ◌<◌, ℕ, drop, length, map, option_and_then, option_map, slice_get, IfSome, Some};
+ghost use Rattle.std.specs.Prelude.{◌≡◌, ◌+◌, ◌-◌, ◌≤◌, ◌<◌, ℕ, drop, length, map, option_and_then, option_map, slice_get, IfSome, Ok, Some};
 ghost use Rattle.o2_ne.specs.Steps.{Gives, over};
 ghost use Rattle.o2_ne.specs.EntryTable.{target_of};
 ghost use Rattle.o2_ne.specs.NameTable.{ordinal_of};
 ghost use Rattle.o2_image.specs.Getters.{imported_name, nth, nth_list};
 ghost use Rattle.o2_image.specs.ImageList.{Exists};
 ghost use Rattle.o2_image.specs.Images.{Target};
+ghost use Rattle.o2_image.specs.Targets.{target_kind};
 ghost use Rattle.o2_dynlink.specs.Imports.{each, exported, exported_as, gather, import_name, import_ordinal, import_text, imported, internal, target_in};
 ghost use Rattle.o2_dynlink.specs.Leads.{lead_of};
 ghost use Rattle.o2_dynlink.specs.Memo.{IsMemo};
 ghost use Rattle.o2_dynlink.specs.Selectors.{base_at};
 
 use crate::leads::{Lead, lead_at};
-use crate::memo::{known, note};
+use crate::memo::{block_of, known, note};
 use crate::refusals::{no_module, no_name, no_ordinal};
 use crate::selectors::{base_at, point};
 use crate::services::{import_service, import_service_called};
@@ -155,9 +156,9 @@ fn import_text(
     }
 }
 
-// The same, where each name of a library is looked up once.
+// The same, and where the name leads is noted.
 #[tactic(auto, using(crate::proofs::Known::noted))]
-fn import_known(
+fn import_noted(
     alloc: Global,
     scope: &Scope,
     module: &Module,
@@ -173,14 +174,11 @@ fn import_known(
     ensures exact { Gives (λ t. t) result (import_text scope.now.modules.now scope.now.bases.now name.now (imported_name «module».now at)) }
     ensures memo { IsMemo scope.now.modules.now scope.now.bases.now «module».now memo.new.items }
 {
-    let Lead::Library(place) = lead else {
+    let Some(block) = block_of(lead) else {
         return import_text(alloc, scope, module, lead, name, at);
     };
-    if let Some(target) = known(memo.as_slice(), place, at) {
-        return Ok(target);
-    }
     let target = import_text(alloc, scope, module, lead, name, at)?;
-    note(memo, place, at, target);
+    note(memo, block, at, target);
     Ok(target)
 }
 
@@ -209,7 +207,7 @@ fn imported(
     if reloc.flags & 3 == 1 {
         return import_ordinal(alloc, scope, lead, name, reloc.second);
     }
-    import_known(alloc, scope, module, lead, name, reloc.second, memo)
+    import_noted(alloc, scope, module, lead, name, reloc.second, memo)
 }
 
 // Where a record of a module with this base leads.
@@ -236,6 +234,49 @@ fn target_in(
     }
 }
 
+// Where an import by a name leads that was looked up before.
+fn known_import(
+    scope: &Scope,
+    module: &Module,
+    leads: &[Lead],
+    reloc: &Reloc,
+    memo: &[Option<(u16, u16)>],
+) -> Option<(u16, u16)>
+    requires leads { leads.now ≡ map (lead_of scope.now.modules.now) «module».now.references }
+    requires memo { IsMemo scope.now.modules.now scope.now.bases.now «module».now memo.now }
+    requires named { target_kind reloc.now ≡ 2 }
+    ensures { IfSome result (λ t. imported scope.now.modules.now scope.now.bases.now scope.now.ordinals.now «module».now reloc.now (nth «module».now.references reloc.now.first) ≡ Ok t) }
+{
+    let Some(lead) = lead_at(leads, reloc.first) else {
+        return None;
+    };
+    let Some(block) = block_of(lead) else {
+        return None;
+    };
+    known(memo, block, reloc.second)
+}
+
+// Where a record leads, if nothing has to be looked up for that.
+fn known_target(
+    scope: &Scope,
+    base: u16,
+    module: &Module,
+    leads: &[Lead],
+    reloc: &Reloc,
+    memo: &[Option<(u16, u16)>],
+) -> Option<(u16, u16)>
+    requires leads { leads.now ≡ map (lead_of scope.now.modules.now) «module».now.references }
+    requires memo { IsMemo scope.now.modules.now scope.now.bases.now «module».now memo.now }
+    ensures { IfSome result (λ t. target_in scope.now.modules.now scope.now.bases.now scope.now.ordinals.now base «module».now reloc.now ≡ Ok t) }
+{
+    match reloc.flags & 3 {
+        0 => Some(internal(base, module, reloc)),
+        2 => known_import(scope, module, leads, reloc, memo),
+        3 => Some((0, 0)),
+        _ => None,
+    }
+}
+
 // One target more.
 fn add_target(
     alloc: Global,
@@ -254,6 +295,10 @@ fn add_target(
     ensures exact { Gives (λ _. found.new.items) result (gather (target_in scope.now.modules.now scope.now.bases.now scope.now.ordinals.now base «module».now) reloc.now found.old.items) }
     ensures memo { IsMemo scope.now.modules.now scope.now.bases.now «module».now memo.new.items }
 {
+    if let Some(target) = known_target(scope, base, module, leads, reloc, memo.as_slice()) {
+        found.push(target)?;
+        return Ok(());
+    }
     let target = target_in(alloc, scope, base, module, leads, reloc, memo)?;
     found.push(target)?;
     Ok(())

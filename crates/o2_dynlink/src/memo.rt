@@ -1,33 +1,45 @@
-// What is known of the imported names of a module: each name of a library is looked up once.
+// What is known of the imported names of a module: each name of a library or of the services is looked up once.
 ghost use Rattle.std.specs.Prelude.{◌≡◌, ◌≤◌, ℕ, None, Some, get_or, length, set, IfOk};
-ghost use Rattle.o2_dynlink.specs.Memo.{memo_at};
+ghost use Rattle.o2_dynlink.specs.Memo.{block_of, memo_at};
 
+use crate::leads::Lead;
 use o2_base::NoMemory;
 use o2_image::Module;
 use std::alloc::Global;
 
-// The place in the memo of the name at an offset, of the library at a place.
-fn memo_at(place: u16, at: u16) -> usize
-    ensures { result ≡ memo_at place at }
+// The block of the memo for the names of what a lead is to.
+pub(crate) fn block_of(lead: Lead) -> Option<u16>
+    ensures { result ≡ block_of lead }
 {
-    usize::from(place) * 65536 + usize::from(at)
+    match lead {
+        Lead::Services => Some(0),
+        Lead::Library(place) => Some(place),
+        Lead::Nowhere => None,
+    }
 }
 
-// What is known of the name at an offset, of the library at a place.
-pub(crate) fn known(memo: &[Option<(u16, u16)>], place: u16, at: u16) -> Option<(u16, u16)>
-    ensures { result ≡ get_or memo.now (memo_at place at) None }
+// The place in a block of the memo of the name at an offset.
+fn memo_at(block: u16, at: u16) -> usize
+    ensures { result ≡ memo_at block at }
 {
-    match memo.get(memo_at(place, at)) {
+    usize::from(block) * 65536 + usize::from(at)
+}
+
+// What is known of the name at an offset.
+pub(crate) fn known(memo: &[Option<(u16, u16)>], block: u16, at: u16) -> Option<(u16, u16)>
+    ensures { result ≡ get_or memo.now (memo_at block at) None }
+{
+    match memo.get(memo_at(block, at)) {
         Some(held) => *held,
         None => None,
     }
 }
 
 // Notes where it leads.
-pub(crate) fn note(memo: &mut Vec<Option<(u16, u16)>>, place: u16, at: u16, target: (u16, u16))
-    ensures { memo.new.items ≡ set memo.old.items (memo_at place at) (Some target) }
+pub(crate) fn note(memo: &mut Vec<Option<(u16, u16)>>, block: u16, at: u16, target: (u16, u16))
+    ensures { memo.new.items ≡ set memo.old.items (memo_at block at) (Some target) }
 {
-    let i = memo_at(place, at);
+    let i = memo_at(block, at);
     if i < memo.len() {
         memo[i] = Some(target);
     }
