@@ -10,3 +10,4 @@ pub mod Known
 pub mod Sharing
 pub mod Behind
 pub mod Ordered
+pub mod Passing

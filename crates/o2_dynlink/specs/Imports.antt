@@ -26,6 +26,11 @@ gather f x found = do
 abbrev pub each : {X Y F : Type 0} → (X → Result Y F) → List X → Result (List Y) F
 each f xs = over (gather f) xs []
 
+-- whether something is given
+abbrev pub passed : {Y F : Type 0} → Result Y F → Result (Unit {0}) F
+passed (Ok y) = Ok tt
+passed (Err e) = Err e
+
 -- what f gives of each item of a list of lists, by its number from 1
 abbrev pub on_list : {X Y F : Type 0} → (X → Result Y F) → List (List X) → ℕ → Result (List Y) F
 on_list f xss n = each f (nth_list xss n)

@@ -3,7 +3,7 @@ ghost use Rattle.std.specs.Prelude.{◌≡◌, ◌+◌, ◌≤◌, ◌<◌, leng
 ghost use Rattle.o2_ne.specs.Steps.{Gives};
 ghost use Rattle.o2_image.specs.Alike.{Precedes};
 ghost use Rattle.o2_image.specs.Getters.{nth_list};
-ghost use Rattle.o2_dynlink.specs.Imports.{each, gather, on_list, target_in, targets_of};
+ghost use Rattle.o2_dynlink.specs.Imports.{each, gather, on_list, passed, target_in, targets_of};
 ghost use Rattle.o2_dynlink.specs.Leads.{lead_of};
 ghost use Rattle.o2_dynlink.specs.Memo.{IsKnown, IsMemo};
 
@@ -178,7 +178,51 @@ fn gathered_by(
     }
 }
 
-// All of them, segment by segment, or the first that leads nowhere.
+// Whether each record of a segment leads somewhere. No target is kept.
+fn check_segment(
+    alloc: Global,
+    scope: &Scope,
+    base: u16,
+    module: &Module,
+    leads: &[Lead],
+    seg: u16,
+    memo: &mut Vec<Option<(u16, u16)>>,
+) -> Result<(), Fail<ModuleFault>>
+    requires leads { leads.now ≡ map (lead_of scope.now.modules.now) «module».now.references }
+    requires few { length scope.now.modules.now ≤ 64 }
+    requires same { length scope.now.bases.now ≡ length scope.now.modules.now }
+    requires memo { IsMemo scope.now.modules.now scope.now.bases.now «module».now memo.old.items }
+    ensures exact { Gives (λ u. u) result (passed (on_list (target_in scope.now.modules.now scope.now.bases.now scope.now.ordinals.now base «module».now) «module».now.relocs seg)) }
+    ensures memo { IsMemo scope.now.modules.now scope.now.bases.now «module».now memo.new.items }
+{
+    let _targets = targets_in(alloc, scope, base, module, leads, seg, 0, memo)?;
+    Ok(())
+}
+
+// Whether each record of the segments of these numbers, in their order, leads somewhere.
+fn check_in(
+    alloc: Global,
+    scope: &Scope,
+    base: u16,
+    module: &Module,
+    leads: &[Lead],
+    order: &[u16],
+    memo: &mut Vec<Option<(u16, u16)>>,
+) -> Result<(), Fail<ModuleFault>>
+    requires leads { leads.now ≡ map (lead_of scope.now.modules.now) «module».now.references }
+    requires few { length scope.now.modules.now ≤ 64 }
+    requires same { length scope.now.bases.now ≡ length scope.now.modules.now }
+    requires memo { IsMemo scope.now.modules.now scope.now.bases.now «module».now memo.old.items }
+    ensures exact { Gives (λ u. u) result (passed (each (on_list (target_in scope.now.modules.now scope.now.bases.now scope.now.ordinals.now base «module».now) «module».now.relocs) order.now)) }
+    ensures memo { IsMemo scope.now.modules.now scope.now.bases.now «module».now memo.new.items }
+{
+    for k in 0..order.len() {
+        check_segment(alloc, scope, base, module, leads, order[k], memo)?;
+    }
+    Ok(())
+}
+
+// All of them, segment by segment, or the first that leads nowhere, which is looked for before any target is kept.
 fn in_turn(
     alloc: Global,
     scope: &Scope,
@@ -195,8 +239,11 @@ fn in_turn(
 {
     module.is_runnable();
     let numbers = numbers(alloc, module.segment_count())?;
-    let found = gather_in(alloc, scope, base, module, leads, numbers.as_slice(), memo)?;
-    Ok(found.finish())
+    let order = numbers.as_slice();
+    check_in(alloc, scope, base, module, leads, order, memo)?;
+    let found = gather_in(alloc, scope, base, module, leads, order, memo)?;
+    let targets = found.finish(alloc)?;
+    Ok(targets)
 }
 
 /// Where all records of a module lead, by segment and record.

@@ -58,7 +58,7 @@ pub same_lengths : {A B : Type 0} (xss : List (List A)) (yss : List (List B)) (n
 same_lengths xss yss n h =
     length-nth_list xss n ∙ ap (λ (ls : List ℕ). unwrap_or (nth ls n) 0) h ∙ sym (length-nth_list yss n)
 
-not_none : {X : Type 0} (xs : List X) (k : ℕ) → k < length xs → slice_get xs k ≡ None → ⊥
+pub not_none : {X : Type 0} (xs : List X) (k : ℕ) → k < length xs → slice_get xs k ≡ None → ⊥
 not_none [] k lt h = absurd (omega arith)
 not_none (x ∷ xs) zero lt h = cc
 not_none (x ∷ xs) (suc k) lt h = not_none xs k (omega arith) h

@@ -11,3 +11,4 @@ pub mod Runnable
 pub mod Uniform
 pub mod PartLists
 pub mod Overlaps
+pub mod Packing

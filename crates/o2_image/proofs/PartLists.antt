@@ -1,6 +1,8 @@
 -- Parts of a list, and one part more.
-use Rattle.std.proofs.Common.{◌≡◌, ℕ, zero, suc, ◌+◌, ◌-◌, ◌<◌, ◌≤◌, List, [], ◌∷◌, ◌++◌, drop, get_or, length, map, take, refl, sym, ap, ◌∙◌, arith, length-append, length-drop}
-use Rattle.std.proofs.lemmas.List.{drop-append-le, drop-drop, drop-take, get_or-map, length-take-le, map-append, take-append-le, take-take, take_all}
+use Rattle.std.proofs.Common.{◌≡◌, ℕ, zero, suc, ◌+◌, ◌-◌, ◌<◌, ◌≤◌, List, [], ◌∷◌, ◌++◌, Some, drop, get_or, length, map, take, refl, sym, ap, ◌∙◌, arith, length-append, length-drop}
+use Rattle.std.specs.List.{slice_get}
+use Rattle.std.proofs.lemmas.Option.{slice_get-get_or}
+use Rattle.std.proofs.lemmas.List.{drop-append-le, drop-drop, drop-take, get_or-drop, get_or-map, get_or-take, length-take, length-take-le, map-append, take-append-le, take-take, take_all}
 use Rattle.std.proofs.Math.Seq.{drop-append_seam}
 use Rattle.o2_image.specs.declared.sharing.Part.{Part}
 use Rattle.o2_image.specs.Alike.{AreWithin, behind, chosen, no_part, part_of, parts_of}
@@ -13,6 +15,20 @@ module _ {X : Type 0} where
       let e = length-drop p.from xs in
       let w = within k d low in
       ap length (get_or-map (part_of xs) ps k d [] low) ∙ length-take-le p.count (drop p.from xs) (omega (arith, e, w))
+
+  -- how many items it has otherwise
+  pub part_whole : (xs : List X) (p : Part) → p.count ≤ length xs - p.from → length (part_of xs p) ≡ p.count
+  part_whole xs p le = let e = length-drop p.from xs in length-take-le p.count (drop p.from xs) (omega (arith, e, le))
+
+  pub part_cut : (xs : List X) (p : Part) → length xs - p.from ≤ p.count → length (part_of xs p) ≡ length xs - p.from
+  part_cut xs p le = let e = length-drop p.from xs in ap length (take_all p.count (drop p.from xs) (omega (arith, e, le))) ∙ e
+
+  -- an item of it
+  pub part_item : (xs : List X) (p : Part) (k : ℕ) (d : X) → k < length (part_of xs p) → slice_get (part_of xs p) k ≡ Some (get_or xs (p.from + k) d)
+  part_item xs p k d lt =
+      let e = length-take p.count (drop p.from xs) in
+      let low : k < p.count = omega (arith, e, lt) in
+      slice_get-get_or (part_of xs p) k d lt ∙ ap (λ (x : X). Some x) (get_or-take p.count (drop p.from xs) k d low ∙ get_or-drop p.from xs k d)
 
   -- a part stays the same where the list goes on
   stays : (xs ys : List X) (p : Part) → p.from + p.count ≤ length xs → part_of (xs ++ ys) p ≡ part_of xs p
@@ -41,7 +57,8 @@ module _ {X : Type 0} where
       rw (one, two) (more xs ys ps p within ∙ ap (λ (y : List X). parts_of xs ps ++ y ∷ []) (whole xs ys p from count))
 
   -- a part that goes on behind an earlier one
-  onwards : (xs ys : List X) (p q : Part) (n : ℕ) → p.from + p.count ≡ length xs → n ≤ p.count → q.from ≡ p.from + n → q.count ≡ p.count - n + length ys → part_of (xs ++ ys) q ≡ behind (part_of xs p) n ys
+  onwards : (xs ys : List X) (p q : Part) (n : ℕ) → p.from + p.count ≡ length xs → n ≤ p.count → q.from ≡ p.from + n → q.count ≡ p.count - n + length ys
+      → part_of (xs ++ ys) q ≡ behind (part_of xs p) n ys
   onwards xs ys p q n end le from count =
       let e = length-drop p.from xs in
       let g = length-drop (p.from + n) xs in

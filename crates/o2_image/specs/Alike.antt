@@ -5,7 +5,10 @@ use Rattle.o2_ne.specs.declared.entries.Entry.{Entry}
 use Rattle.o2_ne_segs.specs.declared.segment.Segment.{Segment}
 use Rattle.o2_image.specs.declared.images.Kept.{Kept}
 use Rattle.o2_image.specs.declared.images.Kept.TheVariants.{Lists, Parts as Parted}
+use Rattle.o2_image.specs.declared.images.Row.{Row}
+use Rattle.o2_image.specs.declared.images.Row.TheVariants.{One, Piece}
 use Rattle.o2_image.specs.declared.sharing.Part.{Part}
+use Rattle.o2_image.specs.Marked.{unpacked}
 use Rattle.o2_image.specs.Records.{segment_step}
 
 -- both have records, and the same bytes before them
@@ -53,4 +56,9 @@ AreWithin n ps = (k : ℕ) (d : Part) → k < length ps → (get_or ps k d).from
 -- the lists that are kept one by one, or as parts
 abbrev pub lists_of : Kept → List (List (ℕ × ℕ))
 lists_of (Lists lists) = map (λ v. v.items) lists.items
-lists_of (Parted targets parts) = parts_of targets.items parts.items
+lists_of (Parted targets parts) = parts_of (unpacked targets) parts.items
+
+-- the targets of one segment
+abbrev pub row_of : Row → List (ℕ × ℕ)
+row_of (One targets) = targets.now
+row_of (Piece targets part) = part_of (unpacked targets.now) part

@@ -11,3 +11,4 @@ pub mod Images
 pub mod ImageList
 pub mod ChainViews
 pub mod Alike
+pub mod Marked

@@ -1,13 +1,15 @@
 // The image of a segment: its bytes in the file, with the patches of its records.
-ghost use Rattle.std.specs.Prelude.{◌≡◌, ◌≢◌, ◌+◌, ◌*◌, ◌≤◌, ◌<◌, ◌^◌, ◌==◌, ◌++◌, ℕ, [], false, fold, if◌then◌else◌, length, map, slice_index, IsTrue};
+ghost use Rattle.std.specs.Prelude.{◌≡◌, ◌≢◌, ◌+◌, ◌*◌, ◌≤◌, ◌<◌, ◌^◌, ◌==◌, ◌++◌, ℕ, [], false, fold, get_or, if◌then◌else◌, length, map, slice_index, IsTrue};
 ghost use Rattle.o2_ne.specs.Words.{byte_at, word_at};
 ghost use Rattle.o2_ne_segs.specs.Records.{reloc_count, relocs_in};
+ghost use Rattle.o2_image.specs.Alike.{row_of};
 ghost use Rattle.o2_image.specs.Chains.{places};
 ghost use Rattle.o2_image.specs.Images.{all_patches, byte_after, image, offset_part, patch_at, patch_bytes, patches_of, places_of, word_bytes};
 ghost use Rattle.o2_image.specs.Records.{bytes_of, has_one_place};
 ghost use Rattle.o2_image.specs.Targets.{is_additive, is_fixup, width_of};
 ghost use Rattle.o2_image.specs.Whole.{Fit, HasPlaces, HasSegment};
 
+use crate::images::Row;
 use crate::records::{bytes_of, reloc_count};
 use crate::targets::{is_additive, is_fixup};
 use o2_ne::u16_at;
@@ -96,7 +98,8 @@ fn put_patch(bytes: &[u8], reloc: &Reloc, target: (u16, u16), place: u16, into: 
 fn fill_chain(bytes: &[u8], reloc: &Reloc, target: (u16, u16), into: &mut [u8])
     requires fit { Fit bytes.now (places bytes.now 65536 reloc.now.place) }
     requires plain { is_additive reloc.now ≡ false }
-    ensures { (i : ℕ) → i < length into.new → slice_index into.new i ≡ fold (byte_after i) (slice_index into.old i) (map (patch_at bytes.now reloc.now target) (places bytes.now 65536 reloc.now.place)) }
+    ensures { (i : ℕ) → i < length into.new
+        → slice_index into.new i ≡ fold (byte_after i) (slice_index into.old i) (map (patch_at bytes.now reloc.now target) (places bytes.now 65536 reloc.now.place)) }
 {
     let mut next = reloc.place;
     for _ in 0..65536u32 {
@@ -124,25 +127,39 @@ fn fill_reloc(bytes: &[u8], reloc: &Reloc, target: (u16, u16), into: &mut [u8])
     }
 }
 
+// A target by its number from 0.
+fn target_of(targets: &Row, k: usize) -> (u16, u16)
+    requires { k < length (row_of targets.now) }
+    ensures { (d : ℕ × ℕ) → get_or (row_of targets.now) k d ≡ result }
+{
+    match targets.get(k) {
+        Some(target) => target,
+        None => unreachable!(),
+    }
+}
+
 // Writes the patches of all records of a segment.
-fn fill_relocs(file: &[u8], segment: &Segment, targets: &[(u16, u16)], into: &mut [u8])
+fn fill_relocs(file: &[u8], segment: &Segment, targets: &Row, into: &mut [u8])
     requires has { HasSegment file.now segment.now }
-    requires belong { length targets.now ≡ reloc_count file.now segment.now }
-    ensures { (i : ℕ) → i < length into.new → slice_index into.new i ≡ fold (byte_after i) (slice_index into.old i) (all_patches (bytes_of file.now segment.now) (relocs_in file.now segment.now) targets.now) }
+    requires belong { length (row_of targets.now) ≡ reloc_count file.now segment.now }
+    ensures { (i : ℕ) → i < length into.new
+        → slice_index into.new i ≡ fold (byte_after i) (slice_index into.old i)
+        (all_patches (bytes_of file.now segment.now) (relocs_in file.now segment.now) (row_of targets.now)) }
 {
     let bytes = bytes_of(file, segment);
     let at = segment.file_at as usize + segment.file_len as usize + 2;
-    for (k, target) in targets.iter().enumerate() {
+    for k in 0..targets.len() {
         let reloc = reloc_at(file, at + 8 * k);
-        fill_reloc(bytes, &reloc, *target, into);
+        fill_reloc(bytes, &reloc, target_of(targets, k), into);
     }
 }
 
 // Writes the first bytes of a segment's image.
-pub(crate) fn fill_segment(file: &[u8], segment: &Segment, targets: &[(u16, u16)], into: &mut [u8])
+pub(crate) fn fill_segment(file: &[u8], segment: &Segment, targets: &Row, into: &mut [u8])
     requires has { HasSegment file.now segment.now }
-    requires belong { length targets.now ≡ reloc_count file.now segment.now }
-    ensures { into.new ≡ image (bytes_of file.now segment.now) (all_patches (bytes_of file.now segment.now) (relocs_in file.now segment.now) targets.now) (length into.old) }
+    requires belong { length (row_of targets.now) ≡ reloc_count file.now segment.now }
+    ensures { into.new ≡ image (bytes_of file.now segment.now)
+        (all_patches (bytes_of file.now segment.now) (relocs_in file.now segment.now) (row_of targets.now)) (length into.old) }
 {
     copy_front(bytes_of(file, segment), into);
     fill_relocs(file, segment, targets, into);

@@ -1,15 +1,17 @@
 // The targets of records, and the images of a run.
-ghost use Rattle.std.specs.Prelude.{[], ◌≡◌, ◌≤◌, ◌<◌, ◌↔◌, ℕ, get_or, length, map, option_map, slice_get, IsTrue, Some};
+ghost use Rattle.std.specs.Prelude.{[], ◌≡◌, ◌+◌, ◌≤◌, ◌<◌, ◌↔◌, ◌^◌, ℕ, get_or, length, map, option_map, slice_get, IsTrue, Some};
 ghost use Rattle.o2_ne_segs.specs.declared.segment.Segment.{Segment};
 ghost use Rattle.o2_ne_segs.specs.Records.{relocs_in};
-ghost use Rattle.o2_image.specs.Alike.{part_of, parts_of};
+ghost use Rattle.o2_image.specs.Alike.{part_of, parts_of, row_of};
 ghost use Rattle.o2_image.specs.Getters.{nth, nth_list};
 ghost use Rattle.o2_image.specs.ImageList.{AllBelong, Belongs, Exists, HasImage, image_front, same_shape};
 ghost use Rattle.o2_image.specs.Images.{segment_image};
+ghost use Rattle.o2_image.specs.Marked.{unpacked};
 ghost use Rattle.o2_image.specs.Whole.{HasSegment};
 
 use crate::fill::{fill_bytes, fill_segment};
 use crate::module::Module;
+use crate::packed::Packed;
 use crate::records::reloc_count;
 use crate::sharing::Part;
 use o2_base::Bytes;
@@ -20,7 +22,14 @@ use std::marker::Model;
 #[derive(Drop)]
 pub(crate) enum Kept {
     Lists(Vec<Vec<(u16, u16)>>),
-    Parts(Vec<(u16, u16)>, Vec<Part>),
+    Parts(Packed, Vec<Part>),
+}
+
+// The targets of a segment: a list, or a part of those of all.
+#[derive(Drop)]
+pub(crate) enum Row<'a> {
+    One(&'a [(u16, u16)]),
+    Piece(&'a Packed, Part),
 }
 
 /// Where each record of a module leads: a selector and an offset, by segment from 1 and number from 0.
@@ -39,31 +48,66 @@ impl Model for Resolved {
 }
 
 // The list at an index, of which there is none past the last.
-fn list_at(lists: &[Vec<(u16, u16)>], i: usize) -> &[(u16, u16)]
-    ensures { result.now ≡ get_or (map (λ v. v.items) lists.now) i [] }
+fn list_at(lists: &[Vec<(u16, u16)>], i: usize) -> Row<'_>
+    ensures { row_of result ≡ get_or (map (λ v. v.items) lists.now) i [] }
 {
     match lists.get(i) {
-        Some(list) => list.as_slice(),
-        None => &[],
+        Some(list) => Row::One(list.as_slice()),
+        None => Row::One(&[]),
     }
 }
 
-// A part of the targets.
-fn part_of<'a>(targets: &'a [(u16, u16)], part: &Part) -> &'a [(u16, u16)]
-    ensures { result.now ≡ part_of targets.now part.now }
-{
-    let (_, rest) = targets.split_at(part.from.min(targets.len()));
-    let (list, _) = rest.split_at(part.count.min(rest.len()));
-    list
-}
-
 // The part at an index, of which there is none past the last.
-fn part_at<'a>(targets: &'a [(u16, u16)], parts: &[Part], i: usize) -> &'a [(u16, u16)]
-    ensures { result.now ≡ get_or (parts_of targets.now parts.now) i [] }
+fn part_at<'a>(targets: &'a Packed, parts: &[Part], i: usize) -> Row<'a>
+    ensures { row_of result ≡ get_or (parts_of (unpacked targets.now) parts.now) i [] }
 {
     match parts.get(i) {
-        Some(part) => part_of(targets, part),
-        None => &[],
+        Some(part) => Row::Piece(targets, *part),
+        None => Row::One(&[]),
+    }
+}
+
+// How many targets a part has.
+fn part_len(targets: &Packed, part: &Part) -> usize
+    ensures value { result ≡ length (part_of (unpacked targets.now) part.now) }
+    ensures within { 0 < result → part.now.from + result < 2 ^ 64 }
+{
+    let rest = targets.len().saturating_sub(part.from);
+    if part.count < rest {
+        return part.count;
+    }
+    rest
+}
+
+// A target of a part, None exactly past the last.
+fn target_in(targets: &Packed, part: &Part, k: usize) -> Option<(u16, u16)>
+    ensures { result ≡ slice_get (part_of (unpacked targets.now) part.now) k }
+{
+    if k >= part_len(targets, part) {
+        return None;
+    }
+    Some(targets.at(part.from + k))
+}
+
+impl Row<'_> {
+    // How many there are.
+    pub(crate) fn len(&self) -> usize
+        ensures { result ≡ length (row_of self.now) }
+    {
+        match self {
+            Row::One(list) => list.len(),
+            Row::Piece(targets, part) => part_len(targets, part),
+        }
+    }
+
+    // One of them, None exactly past the last.
+    pub(crate) fn get(&self, k: usize) -> Option<(u16, u16)>
+        ensures { result ≡ slice_get (row_of self.now) k }
+    {
+        match self {
+            Row::One(list) => list.get(k).copied(),
+            Row::Piece(targets, part) => target_in(targets, part, k),
+        }
     }
 }
 
@@ -78,8 +122,8 @@ impl Resolved {
     }
 
     // The targets of which each segment has a part.
-    pub(crate) fn of_parts(targets: Vec<(u16, u16)>, parts: Vec<Part>) -> Resolved
-        ensures { result ≡ parts_of targets.items parts.items }
+    pub(crate) fn of_parts(targets: Packed, parts: Vec<Part>) -> Resolved
+        ensures { result ≡ parts_of (unpacked targets) parts.items }
     {
         Resolved {
             kept: Kept::Parts(targets, parts),
@@ -96,22 +140,22 @@ impl Resolved {
         }
     }
 
-    // The list of a segment by its number from 0.
-    fn at(&self, i: usize) -> &[(u16, u16)]
-        ensures { result.now ≡ get_or self.now i [] }
+    // The targets of a segment by its number from 0.
+    fn at(&self, i: usize) -> Row<'_>
+        ensures { row_of result ≡ get_or self.now i [] }
     {
         match &self.kept {
             Kept::Lists(lists) => list_at(lists.as_slice(), i),
-            Kept::Parts(targets, parts) => part_at(targets.as_slice(), parts.as_slice(), i),
+            Kept::Parts(targets, parts) => part_at(targets, parts.as_slice(), i),
         }
     }
 
     // The targets of a segment, of which there are none where there is no such segment.
-    pub(crate) fn of_segment(&self, seg: u16) -> &[(u16, u16)]
-        ensures { result.now ≡ nth_list self.now seg }
+    pub(crate) fn of_segment(&self, seg: u16) -> Row<'_>
+        ensures { row_of result ≡ nth_list self.now seg }
     {
         if seg == 0 {
-            return &[];
+            return Row::One(&[]);
         }
         self.at(usize::from(seg) - 1)
     }
@@ -120,7 +164,7 @@ impl Resolved {
     pub fn get(&self, seg: u16, k: u16) -> Option<(u16, u16)>
         ensures { result ≡ slice_get (nth_list self.now seg) k }
     {
-        self.of_segment(seg).get(usize::from(k)).copied()
+        self.of_segment(seg).get(usize::from(k))
     }
 }
 
@@ -134,7 +178,8 @@ fn are_targets(file: &[u8], segments: &[Segment], targets: &Resolved) -> bool
     }
     for (i, segment) in segments.iter().enumerate() {
         let count = usize::from(reloc_count(file, segment));
-        if targets.at(i).len() != count {
+        let found = targets.at(i).len();
+        if found != count {
             return false;
         }
     }
@@ -162,7 +207,7 @@ impl Module {
         fill_segment(
             self.names.file().as_slice(),
             &segment,
-            r.of_segment(seg),
+            &r.of_segment(seg),
             into,
         );
     }

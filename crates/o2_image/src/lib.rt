@@ -6,6 +6,7 @@ mod faults;
 mod fill;
 mod images;
 mod module;
+mod packed;
 mod records;
 mod references;
 mod same_bytes;

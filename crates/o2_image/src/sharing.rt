@@ -3,6 +3,7 @@ ghost use Rattle.std.specs.Prelude.{◌≡◌, ◌≤◌, ◌<◌, ◌+◌, ◌+
 ghost use Rattle.o2_image.specs.Alike.{behind, chosen, no_part};
 
 use crate::images::Resolved;
+use crate::packed::pack;
 use o2_base::NoMemory;
 use std::alloc::Global;
 use std::marker::Model;
@@ -122,12 +123,12 @@ impl SharedTargets {
     }
 
     /// All of them.
-    pub fn finish(self) -> Resolved
-        ensures { result ≡ self }
+    pub fn finish(self, alloc: Global) -> Result<Resolved, NoMemory>
+        ensures { IfOk result (λ r. r ≡ self) }
     {
-        let SharedTargets { mut targets, parts } = self;
-        targets.shrink_to_fit();
-        Resolved::of_parts(targets, parts)
+        let SharedTargets { targets, parts } = self;
+        let packed = pack(alloc, targets.as_slice())?;
+        Ok(Resolved::of_parts(packed, parts))
     }
 
     /// The lists at these places from 0, in the order of the places. There is none past the last.
@@ -135,9 +136,9 @@ impl SharedTargets {
     pub fn finish_in(self, alloc: Global, places: &[u16]) -> Result<Resolved, NoMemory>
         ensures { IfOk result (λ r. r ≡ map (λ p. get_or self p []) places.now) }
     {
-        let SharedTargets { mut targets, parts } = self;
-        targets.shrink_to_fit();
+        let SharedTargets { targets, parts } = self;
+        let packed = pack(alloc, targets.as_slice())?;
         let found = chosen(alloc, parts.as_slice(), places)?;
-        Ok(Resolved::of_parts(targets, found))
+        Ok(Resolved::of_parts(packed, found))
     }
 }
