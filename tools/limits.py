@@ -14,6 +14,7 @@ KIND is one of
              they meet and no two have the same: some 59,000 imports by name each
   apart      the same segments, each before those that lie before it in the file
   lost       the same again, with one record that leads nowhere: the first in the file, which the last segment alone has
+  services   the same with imports of a service by its name, one of which the services haven't
   entries    SIZE such segments, of which each record leads to one of 21,000 entries of the library itself
   fixups     56 segments whose records, all of them system fixups, lie at each place of the file but every eighth: the most records
              that a file can have
@@ -157,6 +158,13 @@ def make(kind, size, number):
         return build(own, [], [own], [record(1, place, 1) for place in range(65535)], size)
     if kind == "fixups":
         return fixups(own)
+    if kind == "services":
+        # the service that is found last, by each of the names
+        names = [b"DosMemAvai_"] + [b"DosMemAvail"] * 5_400
+        starts = [1 + len("DOSCALLS") + 12 * k for k in range(len(names))]
+        records = [record(2, n % 65536, starts[1 + n % (len(names) - 1)]) for n in range(starts[-1] + 2 * (size - 1))]
+        records[0] = record(2, 0, starts[0])
+        return build(own, [], [b"DOSCALLS"] + names, records, size, step=1, falling=True)
     if kind == "entries":
         count, dense, some = 65_000, 21_165, random.Random(24)
         ordinals = [some.randrange(1, dense + 1) for _ in range(count + 2 * (size - 1))]
@@ -179,7 +187,7 @@ def make(kind, size, number):
 
 DEFAULT = {
     "names": 590_000, "twice": 1_000_000, "twin": 1_000_000, "fronts": 270_000, "ordinals": 254, "shared": 254, "astride": 254,
-    "apart": 254, "lost": 254, "entries": 254, "fixups": 56, "program": 254,
+    "apart": 254, "lost": 254, "services": 254, "entries": 254, "fixups": 56, "program": 254,
 }
 
 
