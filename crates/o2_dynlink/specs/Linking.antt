@@ -1,5 +1,5 @@
 -- Linking: its checks in their order, and what it gives.
-use Rattle.std.specs.Prelude.{ℕ, ◌+◌, List, [], ◌∷◌, ◌++◌, Option, Some, None, length, map, nat_le, Result, Ok, Err, if◌then◌else◌}
+use Rattle.std.specs.Prelude.{◌≡◌, ℕ, ◌+◌, All, List, [], ◌∷◌, ◌++◌, Option, Some, None, length, map, nat_le, Result, Ok, Err, if◌then◌else◌}
 use Rattle.std.specs.List.{zip}
 use Rattle.o2_base.specs.declared.faults.ModuleFault.{ModuleFault}
 use Rattle.o2_base.specs.declared.faults.ModuleFault.TheVariants.{NoModule, NoSelector, TwoModules}
@@ -10,6 +10,7 @@ use Rattle.o2_ne.specs.Checks.{◌>>=◌}
 use Rattle.o2_ne.specs.Steps.{over}
 use Rattle.o2_image.specs.Images.{Target}
 use Rattle.o2_image.specs.Parts.{Parts}
+use Rattle.o2_image.specs.Whole.{IsRunnable}
 use Rattle.o2_dynlink.specs.declared.fault.LinkFault.{LinkFault}
 use Rattle.o2_dynlink.specs.Imports.{each, targets_of}
 use Rattle.o2_dynlink.specs.Listed.{is_taken, lost_reference, module_named}
@@ -75,3 +76,7 @@ linked_of ms c = do
   programs ← each (program_of ms) c.process
   _ ← over (region_step (bases_of ms)) ms 0
   Ok (outcome ms c targets programs)
+
+-- linked modules are those of a setting, and each of them passed its checks
+abbrev pub IsLinked : Conf → LinkedParts → Type 0
+IsLinked c l = (modules : List Parts) × (All IsRunnable modules × (linked_of modules c ≡ Ok l))

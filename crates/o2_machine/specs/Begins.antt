@@ -1,10 +1,8 @@
 -- How a machine begins.
-use Rattle.std.specs.Prelude.{◌≡◌, ◌≤◌, ℕ, ◌+◌, All, true, List, Option, None, Result, Ok, Err, min}
+use Rattle.std.specs.Prelude.{◌≡◌, ◌≤◌, ℕ, ◌+◌, true, List, Option, None, Result, Ok, Err, min}
 use Rattle.o2_base.specs.declared.faults.ModuleFault.{ModuleFault}
 use Rattle.o2_conf.specs.declared.conf.Conf.{Conf}
-use Rattle.o2_image.specs.Parts.{Parts}
-use Rattle.o2_image.specs.Whole.{IsRunnable}
-use Rattle.o2_dynlink.specs.Linking.{linked_of}
+pub use Rattle.o2_dynlink.specs.Linking.{IsLinked}
 use Rattle.o2_dynlink.specs.Outcome.{LinkedParts}
 use Rattle.o2_outer.specs.Texts.{Gains, GainsSome, IsPrefix}
 use Rattle.o2_world.specs.World.{World, Setting}
@@ -20,10 +18,6 @@ use Rattle.o2_machine.specs.StandsFor.{StandsFor}
 -- what a run takes from the machine file
 abbrev pub setting_of : Conf → Setting
 setting_of c = record { quantum = c.quantum; memory = c.memory; swap = c.swap; segments = c.segments; avail = c.avail; budget = c.budget }
-
--- linked modules are those of a setting, and each of them passed its checks
-abbrev pub IsLinked : Conf → LinkedParts → Type 0
-IsLinked c l = (modules : List Parts) × (All IsRunnable modules × (linked_of modules c ≡ Ok l))
 
 -- the starts of a setting's processes
 abbrev pub starting : LinkedParts → Conf → Result Built (ℕ × ModuleFault)

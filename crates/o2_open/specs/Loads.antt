@@ -1,5 +1,5 @@
 -- What a command opens, or its first refusal: the machine file, each module in its order, and linking.
-use Rattle.std.specs.Prelude.{ℕ, All, List, [], ◌∷◌, ◌++◌, ◌≡◌, length, map, nat_lt, unwrap_or, if◌then◌else◌, ◌==◌, Option, Some, None, Result, Ok, Err}
+use Rattle.std.specs.Prelude.{ℕ, List, [], ◌∷◌, ◌++◌, ◌≡◌, length, map, nat_lt, unwrap_or, if◌then◌else◌, ◌==◌, Option, Some, None, Result, Ok, Err}
 use Rattle.o2_base.specs.declared.faults.Key.TheVariants as key
 use Rattle.o2_base.specs.declared.faults.MachineFault.TheVariants.{Limit}
 use Rattle.o2_base.specs.declared.faults.ModuleFault.{ModuleFault}
@@ -14,11 +14,10 @@ use Rattle.o2_conf.specs.Environments.{environment_bytes}
 use Rattle.o2_conf.specs.Alone.{exe_setting}
 use Rattle.o2_image.specs.Parts.{Parts}
 use Rattle.o2_image.specs.Modules.{module_of}
-use Rattle.o2_image.specs.Whole.{IsRunnable}
 use Rattle.o2_image.specs.Getters.{nth, nth_list}
 use Rattle.o2_dynlink.specs.declared.fault.LinkFault.{LinkFault}
 use Rattle.o2_dynlink.specs.Linking.{linked_of}
-use Rattle.o2_dynlink.specs.Outcome.{LinkedParts}
+pub use Rattle.o2_dynlink.specs.Linking.{IsLinked}
 use Rattle.o2_open.specs.declared.session.Session.{Session}
 use Rattle.o2_open.specs.declared.fault.OpenFault.{OpenFault}
 use Rattle.o2_open.specs.declared.fault.OpenFault.TheVariants as open_fault
@@ -75,10 +74,6 @@ linked_in c ms = under (link_refusal c) (linked_of ms c) >>= (λ l. Ok (record {
 -- the environments of a session's images are those of its setting
 abbrev pub HasEnvironments : Session → Type 0
 HasEnvironments s = s.linked.images.environments ≡ map environment_bytes s.conf.process
-
--- linked modules are those of a setting, and each of them passed its checks
-abbrev pub IsLinked : Conf → LinkedParts → Type 0
-IsLinked c l = (modules : List Parts) × (All IsRunnable modules × (linked_of modules c ≡ Ok l))
 
 -- a start that is refused: by the file of the program that the process runs, where the programs lie at these places
 abbrev pub start_refusal : Conf → (programs : List ℕ) → ℕ → ModuleFault → OpenFault
