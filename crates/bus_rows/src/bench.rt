@@ -1,9 +1,9 @@
 // A store, and the tables of one process over it.
-ghost use Rattle.std.specs.Prelude.{◌≡◌, ◌<◌, ◌≤◌, ◌^◌, IfOk, IfSome};
+ghost use Rattle.std.specs.Prelude.{◌≡◌, ◌-◌, ◌<◌, ◌≤◌, ◌^◌, IfOk, IfSome};
 ghost use Rattle.o2_service.specs.Needs.{AreLive};
 ghost use Rattle.bus_rows.specs.Trials.{IsReady};
 
-use crate::seats::are_seated;
+use crate::seats::{are_seated, named};
 use o2_base::NoMemory;
 use o2_bus::{Cpu, Outcome};
 use o2_changes::{hold_new, make};
@@ -16,16 +16,13 @@ use o2_service::{Need, Served, serve};
 use o2_store::Store;
 use std::alloc::Global;
 
-/// How many segments may live.
-const SEGMENTS: u32 = 16;
-
 /// How many segments are ever made.
 const MADE: u64 = 65_536;
 
 /// A memory with swapping, and the descriptor table of process 1, which holds segments in it.
 #[derive(Drop)]
 pub struct Bench {
-    /// The segments, 16 at most.
+    /// The segments.
     pub store: Store,
     /// What process 1 holds.
     pub regions: Regions,
@@ -48,13 +45,14 @@ fn live_need(store: &Store, pairs: &[(SegId, u32)]) -> Option<Need>
 }
 
 impl Bench {
-    /// A memory of so many bytes with so many swap blocks, in which process 1 holds nothing.
-    pub fn new(alloc: Global, memory: u32, blocks: u32) -> Result<Bench, NoMemory>
+    /// A memory of so many bytes with so many swap blocks and room for so many segments, in which process 1 holds nothing.
+    pub fn new(alloc: Global, memory: u32, blocks: u32, segments: u32) -> Result<Bench, NoMemory>
         requires memory { memory ≤ 2 ^ 24 }
         requires blocks { blocks ≤ 65536 }
+        requires segments { segments < 2 ^ 32 - 1 }
         ensures { IfOk result (λ b. IsReady b) }
     {
-        let store = Store::make(alloc, memory, blocks, SEGMENTS)?;
+        let store = Store::make(alloc, memory, blocks, segments)?;
         let regions = Regions::new(alloc, 1)?;
         let swap = SureSwap::new(alloc, blocks)?;
         let images = Images::new(Vec::new(alloc), Vec::new(alloc));
@@ -100,6 +98,13 @@ impl Bench {
         };
         hold_new(&self.store, &mut self.regions, 1, index, held, access);
         Some(index)
+    }
+
+    /// The segment that process 1 holds under a selector.
+    pub fn named(&self, sel: u16) -> Option<SegId>
+        requires { IsReady self.now }
+    {
+        named(&self.regions, sel)
     }
 
     /// Brings all of these segments into memory together, as a step that needs them, and tells whether they are there. The

@@ -11,7 +11,7 @@ use o2_regions::Regions;
 use o2_store::Store;
 
 /// The segment that a selector names for process 1.
-fn named(regions: &Regions, sel: u16) -> Option<SegId>
+pub(crate) fn named(regions: &Regions, sel: u16) -> Option<SegId>
     requires { IsProcess regions.now 1 }
     ensures { result ≡ option_map (λ h. h.id) (held_under regions.now 1 sel) }
 {

@@ -24,7 +24,7 @@ fn hold(bench: &mut Bench, bytes: &[u8], access: Access) -> Result<(SegId, u32),
 fn memory(alloc: Global, code: &[u8]) -> Result<Bench, NoMemory>
     ensures { IfOk result (λ b. IsReady b) }
 {
-    let mut bench = Bench::new(alloc, 65_536, 16)?;
+    let mut bench = Bench::new(alloc, 65_536, 16, 4)?;
     let first = hold(&mut bench, code, Access::READABLE_CODE)?;
     let zeros = [0u8; 4096];
     let second = hold(&mut bench, &zeros, Access::WRITABLE_DATA)?;
