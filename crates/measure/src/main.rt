@@ -3,14 +3,16 @@
 // The names are `decode`; `loop`, `moves`, `sums`, `calls` and `strings` of steps over one bus of a plain memory, which with
 // `-each` behind them have a bus for each step, and with `-store` or `-store-each` run over a store; `tables`, `lowest`, `runs`,
 // `grants`, `walks` and `holders` of who holds which index; and `swaps`, `halves` and `copies` of segments that leave the memory.
-// Those of the readers, `check`, `fill` and `names`, and of the parts of a memory, `fit`, `victim`, `slide` and `blocks`, have a
-// size of at most 65,535, as in `fit=65535`; it is 1,000 where it is missing. Without arguments it prints nothing.
+// Those of the readers, `check`, `fill` and `names`, of the parts of a memory, `fit`, `victim`, `slide` and `blocks`, and of what a
+// step needs, `serve`, have a size of at most 65,535, as in `fit=65535`; it is 1,000 where it is missing. Without arguments it
+// prints nothing.
 #![tactic(auto)]
 
 mod decoding;
 mod memory;
 mod readers;
 mod regions;
+mod serving;
 mod stepping;
 mod store;
 mod stored;
@@ -19,6 +21,7 @@ use decoding::decode_many;
 use memory::{fit_many, list_many, slide_many, victim_many};
 use readers::{check_many, fill_many, name_many};
 use regions::{grant_many, holder_many, lowest_many, make_many, walk_many};
+use serving::serve_many;
 use std::time::Instant;
 use std::{env, io};
 use stepping::{CALLS, LOOP, MOVES, STRINGS, SUMS, step_each, step_many};
@@ -111,6 +114,7 @@ fn measure_sized(rt: &HostRuntime, name: &str) -> u64 {
         "victim" => victim_many(rt.alloc(), size),
         "slide" => slide_many(rt.alloc(), size),
         "blocks" => list_many(rt.alloc(), size),
+        "serve" => serve_many(rt.alloc(), size),
         _ => return 0,
     };
     match done {

@@ -1,0 +1,5 @@
+use Rattle.bus_rows.specs.Trials.{IsReady}
+use Rattle.measure.proofs.serving.serve_round.Given as goal
+
+abbrev pub invariant-loop-round : goal.invariant-loop-round
+invariant-loop-round l = IsReady l.bench
