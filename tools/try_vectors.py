@@ -4,6 +4,7 @@ import os
 import shutil
 import subprocess
 
+import ne
 import trying
 from trying import TOOLS, check_words, said, wrong
 
@@ -72,16 +73,42 @@ def compare(opcode, vector, line):
     return True
 
 
+# Code that can be read, and three segments of data that can be written, each of 64 bytes at level 3.
+SEGMENTS = [[0x0F, 0x1000, 63, 0xFA], [0x17, 0x2000, 63, 0xF2], [0x1F, 0x3000, 63, 0xF2], [0x27, 0x4000, 63, 0xF2]]
+
+
 def is_formed(opcode, vector):
-    """The members that the tests of the field have, and the instruction's bytes where CS:IP is."""
+    """The members that the tests of the field have, and the instruction's bytes where CS:IP is. An exception changes nothing, no segment is
+    missed, and the bytes that are told of the state behind it are others than before."""
     trying.count()
-    state, bytes_ = vector["initial"], vector["bytes"]
+    state, last, bytes_ = vector["initial"], vector["final"], vector["bytes"]
     ram, at = dict(map(tuple, state["ram"])), 0x1000 + state["regs"]["ip"]
-    formed = list(vector) == ["answer", "bytes", "final", "initial", "name"] and set(state["regs"]) == set(vector["final"]["regs"]) == set(NAMES) and len(ram) == 256
-    if not formed or bytes_ != [ram[at + k] for k in range(len(bytes_))] or (vector["name"] == "no instruction") != (bytes_ == []):
+    held = [state["regs"][name] for name in ("cs", "ds", "es", "ss")]
+    formed = list(vector) == ["answer", "bytes", "final", "initial", "name"] and set(state["regs"]) == set(last["regs"]) == set(NAMES)
+    formed = formed and list(ram) == [base + k for _, base, _, _ in SEGMENTS for k in range(64)] and [row[0] for row in SEGMENTS] == held
+    if not formed or state["segments"] != SEGMENTS:
         wrong(f"os2vectors {opcode}: {vector}")
-    if bytes_ and not bytes(bytes_).startswith(bytes.fromhex(opcode.partition(".")[0])):
+    if bytes_ != [ram[at + k] for k in range(len(bytes_))] or (vector["name"] == "no instruction") != (bytes_ == []):
+        wrong(f"os2vectors {opcode}, the instruction's bytes: {vector}")
+    head, _, reg = opcode.partition(".")
+    if bytes_ and not bytes(bytes_).startswith(bytes.fromhex(head)) or bytes_ and reg and bytes_[len(head) // 2] // 8 % 8 != int(reg):
         wrong(f"os2vectors {opcode}: the bytes are {bytes_}")
+    if list(vector["answer"]) not in (["done"], ["code", "trap"], ["gate", "next"]) or any(ram[place] == byte for place, byte in last["ram"]):
+        wrong(f"os2vectors {opcode}, the state behind: {vector['answer']}, {last}")
+    if "trap" in vector["answer"] and (last["regs"] != state["regs"] or last["ram"]):
+        wrong(f"os2vectors {opcode}, an exception that changes something: {vector}")
+
+
+def check_names(opcode, vector):
+    """The name is the text that a listing has where the same bytes stand at the same offset."""
+    trying.count()
+    at, bytes_ = vector["initial"]["regs"]["ip"], vector["bytes"]
+    rows = "".join(f"{k:04X}  90\n" for k in range(at)) + f"{at:04X}  {bytes(bytes_).hex(' ').upper()}\n"
+    with open("named.exe", "wb") as file:
+        file.write(ne.Listing(f"module A\nstack 512\nstart 1:0000\nsegment 1 code\n{rows}segment 2 data auto size=16\n").file())
+    line = f"  {at:04X}  {bytes(bytes_).hex().upper():<20}  {vector['name']}"
+    if line not in said("os2list", "named.exe")[1].splitlines():
+        wrong(f"os2vectors {opcode}: os2list has no line {line!r}")
 
 
 def forms_of_answers():
@@ -96,10 +123,6 @@ def forms_of_answers():
         left = before["cx"] - 1 if before["cx"] and vector["answer"] == {"done": True} else before["cx"]
         if after["cx"] != left or len(vector["final"]["ram"]) > 1:
             wrong(f"os2vectors, a repetition: {vector}")
-    for vector in json.loads(said("os2vectors", "8A", "200", "5")[1]):
-        trying.count()
-        if "trap" in vector["answer"] and (vector["final"]["regs"] != vector["initial"]["regs"] or vector["final"]["ram"]):
-            wrong(f"os2vectors, an exception that changes something: {vector}")
     for count in (0, 1, 3):
         trying.count()
         status, text = said("os2vectors", "00", str(count), str(2**64 - 1))
@@ -112,9 +135,16 @@ def check_vectors():
     same = [said("os2vectors", "F7.4", "3", seed) for seed in ("1", "1", "2")]
     if same[0] != same[1] or same[0] == same[2] or len(json.loads(same[0][1])) != 3:
         wrong("os2vectors: the same words give other vectors, or other words the same")
-    for opcode in ("00", "F7.4", "F3A4", "0F02", "0F06", "D8", "F0", "F4", "9A", "26" * 10):
-        for vector in json.loads(said("os2vectors", opcode, "50", "3")[1]):
+    small = []
+    for opcode in ("00", "8a", "F7.4", "F3A4", "0F02", "0F06", "D8", "F0", "F4", "9A", "26" * 10):
+        vectors = json.loads(said("os2vectors", opcode, "50", "3")[1])
+        for vector in vectors:
             is_formed(opcode, vector)
+            small += [vector["initial"]["regs"][name] < 32 for name in ("ax", "bx", "cx", "dx", "sp", "bp", "si", "di")]
+        for vector in [vector for vector in vectors if vector["bytes"]][:3]:
+            check_names(opcode, vector)
+    if 2 * sum(small) < len(small):
+        wrong(f"os2vectors: {sum(small)} of {len(small)} registers are small")
     forms_of_answers()
     build = shutil.which("cc") and subprocess.run(["cc", "-o", "steps", os.path.join(TOOLS, "x86emu_steps.c"), "-lx86emu"], capture_output=True)
     if not build or build.returncode:

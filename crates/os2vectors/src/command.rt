@@ -1,5 +1,7 @@
 // The words of the program.
-ghost use Rattle.std.specs.Prelude.{◌≤◌, ◌<◌, length, IfOk, IfSome};
+ghost use Rattle.std.specs.Prelude.{◌≡◌, ◌≤◌, ◌<◌, ◌+◌, ◌++◌, ◌∷◌, [], ℕ, List, length, option_map, IfNone, IfOk, IfSome, Some};
+ghost use Rattle.std.specs.Option.{ForSome};
+ghost use Rattle.os2vectors.specs.Words.{digit_value, pair_bytes, few, opcode_bytes};
 
 use clap::{Arg, ArgMatches, Command, value_parser};
 use std::alloc::{AllocError, Global};
@@ -43,7 +45,8 @@ pub fn program<'a>(alloc: Global) -> Result<Command<'a>, AllocError> {
 
 /// The value of a hexadecimal digit.
 fn digit(byte: u8) -> Option<u8>
-    ensures { IfSome result (λ d. d < 16) }
+    ensures within { IfSome result (λ d. d < 16) }
+    ensures exact { result ≡ digit_value byte }
 {
     match byte {
         b'0'..=b'9' => Some(byte - b'0'),
@@ -53,9 +56,49 @@ fn digit(byte: u8) -> Option<u8>
     }
 }
 
-/// The bytes that hexadecimal digits write; none where they don't.
+/// One digit more: the first of a pair is kept, and the second makes a byte.
+#[tactic(auto, using(crate::proofs::Pairs::kept, crate::proofs::Pairs::made))]
+fn add_digit(bytes: &mut Vec<u8>, high: Option<u8>, digit: u8) -> Result<Option<u8>, AllocError>
+    requires digit { digit < 16 }
+    requires high { ForSome high (λ h. h < 16) }
+    ensures within { IfOk result (λ h. ForSome h (λ d. d < 16)) }
+    ensures reads { IfOk result (λ h. (c : ℕ) (cs : List ℕ) → digit_value c ≡ Some digit
+        → option_map (λ bs. bytes.new.items ++ bs) (pair_bytes cs h)
+        ≡ option_map (λ bs. bytes.old.items ++ bs) (pair_bytes (c ∷ cs) high)) }
+{
+    match high {
+        None => Ok(Some(digit)),
+        Some(high) => {
+            bytes.push(high * 16 + digit)?;
+            Ok(None)
+        }
+    }
+}
+
+/// The bytes that were read, where no digit is left over and there are 1 to 10.
+#[tactic(auto, using(crate::proofs::Pairs::few_some, crate::proofs::Pairs::few_not))]
+fn whole(bytes: Vec<u8>, high: Option<u8>) -> Option<Vec<u8>>
+    ensures exact { option_map (λ v. v.items) result
+        ≡ few (option_map (λ bs. bytes.items ++ bs) (pair_bytes [] high)) }
+    ensures short { IfSome result (λ v. length v.items ≤ 10) }
+{
+    match high {
+        Some(_) => None,
+        None => {
+            if bytes.is_empty() || bytes.len() > 10 {
+                None
+            } else {
+                Some(bytes)
+            }
+        }
+    }
+}
+
+/// The bytes that pairs of hexadecimal digits write; none where they don't write 1 to 10.
+#[tactic(auto, using(crate::proofs::Pairs::none_yet, crate::proofs::Pairs::undigit))]
 fn bytes_of(alloc: Global, text: &[u8]) -> Result<Option<Vec<u8>>, AllocError>
-    ensures { IfOk result (λ o. IfSome o (λ v. length v.items ≤ 10)) }
+    ensures exact { IfOk result (λ o. option_map (λ v. v.items) o ≡ opcode_bytes text.now) }
+    ensures short { IfOk result (λ o. IfSome o (λ v. length v.items ≤ 10)) }
 {
     let mut bytes = Vec::new(alloc);
     let mut high = None;
@@ -63,29 +106,31 @@ fn bytes_of(alloc: Global, text: &[u8]) -> Result<Option<Vec<u8>>, AllocError>
         let Some(value) = digit(*byte) else {
             return Ok(None);
         };
-        match high {
-            None => high = Some(value),
-            Some(before) => {
-                bytes.push((before % 16) * 16 + value % 16)?;
-                high = None;
-            }
-        }
+        high = add_digit(&mut bytes, high, value)?;
     }
-    if high.is_some() || bytes.is_empty() || bytes.len() > 10 {
-        return Ok(None);
+    Ok(whole(bytes, high))
+}
+
+/// The digits of OPCODE, and what is asked of bits 3 to 5 behind them; none where that is no number below 8.
+fn parts(text: &[u8]) -> Option<(&[u8], Option<u8>)>
+    ensures all { IfSome result (λ p. IfNone p.1 (p.0.now ≡ text.now)) }
+    ensures reg { IfSome result (λ p. IfSome p.1
+        (λ r. (r < 8) × (text.now ≡ p.0.now ++ 46 ∷ (48 + r) ∷ []))) }
+{
+    match text {
+        [front @ .., b'.', last] => match *last {
+            b'0'..=b'7' => Some((front, Some(*last - b'0'))),
+            _ => None,
+        },
+        all => Some((all, None)),
     }
-    Ok(Some(bytes))
 }
 
 /// What the words ask for; none where OPCODE has another form.
 pub fn wish(alloc: Global, found: &ArgMatches<'_>) -> Result<Option<Wanted>, AllocError> {
     let text = found.get_str("OPCODE").unwrap_or("").as_bytes();
-    let (digits, reg) = match text {
-        [front @ .., b'.', last] => match *last {
-            b'0'..=b'7' => (front, Some(*last - b'0')),
-            _ => return Ok(None),
-        },
-        all => (all, None),
+    let Some((digits, reg)) = parts(text) else {
+        return Ok(None);
     };
     let Some(opcode) = bytes_of(alloc, digits)? else {
         return Ok(None);
