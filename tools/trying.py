@@ -28,13 +28,19 @@ def said(name, *words, **how):
     return run.returncode, run.stdout.decode("ascii")
 
 
-def check_words(name, wrong_words):
-    """Help and version go to the standard output with status 0; wrong words have status 2, and nothing there."""
-    count(3)
-    status, text = said(name, "--help")
-    if status or "Usage" not in text or name not in text:
-        wrong(f"{name} --help: status {status}, {text!r}")
-    if said(name, "--version") != (0, f"{name} 1.0.0\n"):
-        wrong(f"{name} --version: {said(name, '--version')}")
+def check_words(name, wrong_words, parts=None):
+    """Help and version go to the standard output with status 0, the help behind a part with its options; wrong words have status 2, and
+    nothing there."""
+    for part, options in {"": (), **(parts or {})}.items():
+        for word in ("--help", "-h"):
+            count()
+            status, text = said(name, *part.split(), word)
+            if status or f"Usage: {' '.join([name, *part.split()])} " not in text or any(option not in text for option in options):
+                wrong(f"{name} {part} {word}: status {status}, {text!r}")
+    for word in ("--version", "-V"):
+        count()
+        if said(name, word) != (0, f"{name} 1.0.0\n"):
+            wrong(f"{name} {word}: {said(name, word)}")
+    count()
     if said(name, *wrong_words, stderr=subprocess.DEVNULL) != (2, ""):
         wrong(f"{name} {' '.join(wrong_words)}: {said(name, *wrong_words)}")

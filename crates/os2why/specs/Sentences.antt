@@ -1,5 +1,5 @@
 -- The sentences of refusals, with each name and number that the refusal has.
-use Rattle.std.specs.Prelude.{ℕ, ◌+◌, ◌==◌, Bool, true, false, List, [], ◌∷◌, ◌++◌, Option, Some, None, option_map, codes, if◌then◌else◌}
+use Rattle.std.specs.Prelude.{ℕ, ◌+◌, ◌==◌, ◌&&◌, nat_le, Bool, true, false, List, [], ◌∷◌, ◌++◌, Option, Some, None, option_map, codes, if◌then◌else◌}
 use Rattle.std.specs.List.{position_from}
 use Rattle.std.specs.Fmt.{decimal, digits}
 use Rattle.o2_base.specs.Services.{ServiceRow, services, row_at, is_built}
@@ -51,21 +51,36 @@ call_name number = row_name (row_at number)
 abbrev pub import_text : List ℕ → ℕ → List ℕ → List ℕ
 import_text name ordinal rest = codes "it imports " ++ (shown_text name ++ (codes "." ++ (decimal ordinal ++ rest)))
 
--- why an import of a service isn't there: it isn't built, or the machine file leaves it out
+-- an import of a service that isn't built
+abbrev pub unbuilt_text : List ℕ → ℕ → ℕ → List ℕ
+unbuilt_text name ordinal number = import_text name ordinal (codes " (" ++ (shown_text (call_name number) ++ codes "), which isn't built yet"))
+
+-- why an import of a service isn't there: it isn't built, or the machine file leaves its ordinal out
 abbrev pub known_text : List ℕ → ℕ → ℕ → List ℕ
 known_text name ordinal number =
     if is_built number
     then import_text name ordinal (codes " (" ++ (shown_text (call_name number) ++ codes "), which the table [ordinals] of the machine file leaves out"))
-    else import_text name ordinal (codes " (" ++ (shown_text (call_name number) ++ codes "), which isn't built yet"))
+    else unbuilt_text name ordinal number
 
+-- where the machine file has no service under the ordinal
+abbrev pub usual_text : List ℕ → ℕ → Option ℕ → List ℕ
+usual_text name ordinal None = import_text name ordinal (codes ", and this machine has no call of that ordinal")
+usual_text name ordinal (Some number) = known_text name ordinal number
+
+-- and where it has one, which then isn't built
 abbrev pub call_text : List ℕ → ℕ → Option ℕ → List ℕ
-call_text name ordinal None = import_text name ordinal (codes ", and this machine has no call of that ordinal")
-call_text name ordinal (Some number) = known_text name ordinal number
+call_text name ordinal None = usual_text name ordinal (service_of ordinal)
+call_text name ordinal (Some number) = unbuilt_text name ordinal number
 
--- why an import by an ordinal isn't there
-abbrev pub ordinal_text : List ℕ → ℕ → List ℕ
-ordinal_text name ordinal =
-    if is_doscalls name then call_text name ordinal (service_of ordinal)
+-- the number of a service, where it is one
+abbrev pub in_table : Option ℕ → Option ℕ
+in_table None = None
+in_table (Some number) = if nat_le 1 number && nat_le number 31 then Some number else None
+
+-- why an import by an ordinal isn't there; the machine file has the service `listed` under it
+abbrev pub ordinal_text : List ℕ → ℕ → Option ℕ → List ℕ
+ordinal_text name ordinal listed =
+    if is_doscalls name then call_text name ordinal (in_table listed)
     else import_text name ordinal (codes ", and " ++ (shown_text name ++ codes " has no entry of that ordinal"))
 
 abbrev pub named_text : List ℕ → List ℕ → Option ℕ → List ℕ
@@ -81,7 +96,7 @@ name_text name call =
 -- why a name is that of no module; a process asks for it, or else another module does
 abbrev pub lost_text : Bool → List ℕ → List ℕ
 lost_text true name = codes "a process runs the module " ++ (shown_text name ++ codes ", which no file of `modules` is. `module` is the name in the executable, and not the file's")
-lost_text false name = codes "it refers to the module " ++ (shown_text name ++ codes ", which is neither DOSCALLS nor the module of a file that is named")
+lost_text false name = codes "it refers to the module " ++ (shown_text name ++ codes ", which is neither DOSCALLS nor a library among the files that are named")
 
 -- why a relocation isn't done, and why a module's name isn't its own
 abbrev pub target_text : ℕ → ℕ → List ℕ
@@ -90,29 +105,32 @@ target_text segment number = codes "segment " ++ (decimal segment ++ (codes ": i
 abbrev pub taken_text : List ℕ → List ℕ
 taken_text name = codes "another module has its name, " ++ (shown_text name ++ codes ", or it is named DOSCALLS")
 
--- why a module is refused; of a module that isn't there, whether a process asks for it
-abbrev pub words_of : Bool → ModuleFault → List ℕ
-words_of asked fault.NotMz = codes "it doesn't begin with MZ: it is no executable"
-words_of asked fault.NotNe = codes "there is no NE where the four bytes at 3Ch say: it is a program of DOS, or one of 32 bits"
-words_of asked (fault.Truncated place) = codes "it ends early: byte " ++ (decimal place ++ (codes " (" ++ (digits 16 true place ++ codes "h), from 0, isn't there. It is cut off, or was copied as text")))
-words_of asked fault.NotOs2 = codes "it is for another system, as Windows: byte 36h of its NE header is neither 0 nor 1"
-words_of asked fault.LinkErrors = codes "its linker marked it as having errors (flag 2000h): link it again"
-words_of asked (fault.BadTable w) = which_text w
-words_of asked (fault.OutOfProfile w) = which_text w
-words_of asked (fault.BadChain segment place) = codes "segment " ++ (decimal segment ++ (codes ": at offset " ++ (hex4 place ++ codes "h a relocation's chain leaves the segment's bytes, or meets a byte that is patched already")))
-words_of asked (fault.BadTarget segment number) = target_text segment number
-words_of asked (fault.NoModule name) = lost_text asked name
-words_of asked (fault.NoOrdinal name ordinal) = ordinal_text name ordinal
-words_of asked (fault.NoName name call) = name_text name call
-words_of asked (fault.TwoModules name) = taken_text name
-words_of asked (fault.NoSelector name) = codes "no selectors are left for the segments of the library " ++ shown_text name
-words_of asked fault.NoStack = codes "it has no stack: SS names no writable data, or there is neither a stack segment nor automatic data"
-words_of asked fault.NoEntry = codes "it has no entry point: CS:IP lies in no code of it, or past its end, or it is a library"
-words_of asked fault.NoSegment = codes "its processes want more segments than the key `segments` allows: raise it"
+-- why a module is refused; of a module that isn't there, whether a process asks for it, and of an ordinal, which service the machine
+-- file has under it
+abbrev pub words_of : Bool → Option ℕ → ModuleFault → List ℕ
+words_of asked listed fault.NotMz = codes "it doesn't begin with MZ: it is no executable"
+words_of asked listed fault.NotNe = codes "there is no NE where the four bytes at 3Ch say: it is a program of DOS, or one of 32 bits"
+words_of asked listed (fault.Truncated place) = codes "it ends early: byte "
+    ++ (decimal place ++ (codes " (" ++ (digits 16 true place ++ codes "h), from 0, isn't there. It is cut off, or was copied as text")))
+words_of asked listed fault.NotOs2 = codes "it is for another system, as Windows: byte 36h of its NE header is neither 0 nor 1"
+words_of asked listed fault.LinkErrors = codes "its linker marked it as having errors (flag 2000h): link it again"
+words_of asked listed (fault.BadTable w) = which_text w
+words_of asked listed (fault.OutOfProfile w) = which_text w
+words_of asked listed (fault.BadChain segment place) = codes "segment "
+    ++ (decimal segment ++ (codes ": at offset " ++ (hex4 place ++ codes "h a relocation's chain leaves the segment's bytes, or meets a byte that is patched already")))
+words_of asked listed (fault.BadTarget segment number) = target_text segment number
+words_of asked listed (fault.NoModule name) = lost_text asked name
+words_of asked listed (fault.NoOrdinal name ordinal) = ordinal_text name ordinal listed
+words_of asked listed (fault.NoName name call) = name_text name call
+words_of asked listed (fault.TwoModules name) = taken_text name
+words_of asked listed (fault.NoSelector name) = codes "no selectors are left for the segments of the library " ++ shown_text name
+words_of asked listed fault.NoStack = codes "it has no stack: SS names no writable data, or there is neither a stack segment nor automatic data"
+words_of asked listed fault.NoEntry = codes "it has no entry point: CS:IP lies in no code of it, or past its end, or it is a library"
+words_of asked listed fault.NoSegment = codes "its processes want more segments than the key `segments` allows: raise it"
 
 -- the number of the reason as os2run tells it, and why
-abbrev pub sentence_of : Bool → ModuleFault → List ℕ
-sentence_of asked f = codes "reason " ++ (module_reason f ++ (codes ": " ++ words_of asked f))
+abbrev pub sentence_of : Bool → Option ℕ → ModuleFault → List ℕ
+sentence_of asked listed f = codes "reason " ++ (module_reason f ++ (codes ": " ++ words_of asked listed f))
 
 -- what a key has to be
 abbrev pub form_text : Key → List ℕ
@@ -160,14 +178,15 @@ abbrev pub machine_sentence : MachineFault → List ℕ
 machine_sentence f = codes "reason " ++ (machine_text f ++ (codes ": " ++ machine_words f))
 
 -- why a module doesn't open, with the file that it is in
-abbrev pub module_text : Bool → List ℕ → ModuleFault → List ℕ
-module_text true name f = codes "a process has no module\n  " ++ sentence_of true f
-module_text false name f = codes "the module in " ++ (shown_text name ++ (codes " is refused\n  " ++ sentence_of false f))
+abbrev pub module_text : Bool → Option ℕ → List ℕ → ModuleFault → List ℕ
+module_text true listed name f = codes "a process has no module\n  " ++ sentence_of true listed f
+module_text false listed name f = codes "the module in " ++ (shown_text name ++ (codes " is refused\n  " ++ sentence_of false listed f))
 
--- why a command isn't opened; of a module that isn't there, whether a process asks for it
-abbrev pub cause_text : Bool → OpenFault → List ℕ
-cause_text asked (open_fault.NoFile name) = codes "there is no file " ++ shown_text name
-cause_text asked (open_fault.BadMachine f) = codes "the machine file is refused\n  " ++ machine_sentence f
-cause_text asked (open_fault.BadModule name f) = module_text asked name f
-cause_text asked open_fault.FileFault = codes "a file can't be read"
-cause_text asked open_fault.NoMemory = codes "there is no memory for it"
+-- why a command isn't opened; of a module that isn't there, whether a process asks for it, and of an ordinal, which service the machine
+-- file has under it
+abbrev pub cause_text : Bool → Option ℕ → OpenFault → List ℕ
+cause_text asked listed (open_fault.NoFile name) = codes "there is no file " ++ shown_text name
+cause_text asked listed (open_fault.BadMachine f) = codes "the machine file is refused\n  " ++ machine_sentence f
+cause_text asked listed (open_fault.BadModule name f) = module_text asked listed name f
+cause_text asked listed open_fault.FileFault = codes "a file can't be read"
+cause_text asked listed open_fault.NoMemory = codes "there is no memory for it"

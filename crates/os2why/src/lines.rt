@@ -51,33 +51,64 @@ fn has(table: &Table, spot: Spot<'_>) -> bool {
     }
 }
 
-/// The lines that give a key its value: the first front of the file, in whole lines, that reads as a document with this key ends with
-/// them, and the longest shorter front that reads as one ends before them. None where no front has it, and in a file of very
-/// many lines.
-pub fn lines_of(alloc: Global, text: &[u8], spot: Spot<'_>) -> Result<Option<Lines>, AllocError> {
-    let mut line = 0usize;
-    let mut first = 1usize;
-    for (at, byte) in text.iter().enumerate() {
-        if *byte != b'\n' && at + 1 < text.len() {
-            continue;
-        }
-        if line >= MOST_LINES {
-            return Ok(None);
-        }
-        line += 1;
-        match toml::table_from_slice(alloc, &text[..at + 1]) {
-            Ok(table) => {
-                if has(&table, spot) {
-                    return Ok(Some(Lines { first, last: line }));
-                }
-                first = line + 1;
-            }
-            Err(error) => {
-                if error.is_memory() {
-                    return Err(AllocError);
-                }
-            }
-        }
+/// The most bytes that are read in search of all keys, each time that they are read.
+const MOST_BYTES: usize = 67_108_864;
+
+/// A search for the lines of keys.
+#[derive(Drop)]
+pub struct Search {
+    /// How many bytes may yet be read.
+    left: usize,
+}
+
+impl Search {
+    /// A search that has read nothing.
+    pub fn new() -> Search {
+        Search { left: MOST_BYTES }
     }
-    Ok(None)
+
+    /// Whether so many bytes may be read, which then are.
+    fn takes(&mut self, count: usize) -> bool {
+        if count > self.left {
+            return false;
+        }
+        self.left -= count;
+        true
+    }
+
+    /// The lines that give a key its value: the first front of the file, in whole lines, that reads as a document with this key ends
+    /// with them, and the longest shorter front that reads as one ends before them. None where no front has it, behind very many
+    /// lines, and where very much has been read.
+    pub fn lines_of(
+        &mut self,
+        alloc: Global,
+        text: &[u8],
+        spot: Spot<'_>,
+    ) -> Result<Option<Lines>, AllocError> {
+        let mut line = 0usize;
+        let mut first = 1usize;
+        for (at, byte) in text.iter().enumerate() {
+            if *byte != b'\n' && at + 1 < text.len() {
+                continue;
+            }
+            if line >= MOST_LINES || !self.takes(at + 1) {
+                return Ok(None);
+            }
+            line += 1;
+            match toml::table_from_slice(alloc, &text[..at + 1]) {
+                Ok(table) => {
+                    if has(&table, spot) {
+                        return Ok(Some(Lines { first, last: line }));
+                    }
+                    first = line + 1;
+                }
+                Err(error) => {
+                    if error.is_memory() {
+                        return Err(AllocError);
+                    }
+                }
+            }
+        }
+        Ok(None)
+    }
 }

@@ -2,9 +2,9 @@
 // names of files where a module's name is wanted.
 ghost use Rattle.std.specs.Prelude.{◌<◌};
 
-use crate::lines::{Lines, Spot, lines_of, process_of};
+use crate::lines::{Lines, Search, Spot, process_of};
 use crate::sentences::key_text;
-use o2_base::{Bytes, Key, MachineFault};
+use o2_base::{Bytes, Key, MachineFault, ModuleFault};
 use o2_open::OpenFault;
 use o2_outer::{Fetch, Files, FolderFiles};
 use o2_tool::{Shown, print_lines};
@@ -23,9 +23,24 @@ fn is_among(name: &str, keys: &[&str]) -> bool {
     keys.iter().any(|key| *key == name)
 }
 
+/// A machine file that is read as a document, and what is refused of it.
+#[derive(Clone, Copy)]
+struct Document<'a> {
+    text: &'a [u8],
+    table: &'a Table,
+    refused: bool,
+    /// The module that a process asks for, and that isn't there.
+    lost: Option<&'a [u8]>,
+}
+
 /// The lines of a key, as ` (line 3)`.
-fn say_lines(rt: &HostRuntime, text: &[u8], spot: Spot<'_>) -> anyhow::Result<()> {
-    match lines_of(rt.alloc(), text, spot)? {
+fn say_lines(
+    rt: &HostRuntime,
+    lookup: &mut Search,
+    text: &[u8],
+    spot: Spot<'_>,
+) -> anyhow::Result<()> {
+    match lookup.lines_of(rt.alloc(), text, spot)? {
         None => {}
         Some(Lines { first, last }) => {
             if first == last {
@@ -39,77 +54,111 @@ fn say_lines(rt: &HostRuntime, text: &[u8], spot: Spot<'_>) -> anyhow::Result<()
 }
 
 /// Says which keys nobody reads.
-fn tell_top(rt: &HostRuntime, text: &[u8], table: &Table) -> anyhow::Result<()> {
-    for (name, _) in table.iter() {
+fn tell_top(rt: &HostRuntime, lookup: &mut Search, file: &Document<'_>) -> anyhow::Result<()> {
+    for (name, _) in file.table.iter() {
         if !is_among(name.as_str(), &TOP_KEYS) {
             print!(rt; "  the key `{}`", Shown(name.as_bytes()))?;
-            say_lines(rt, text, Spot::Top(name.as_str()))?;
+            say_lines(rt, lookup, file.text, Spot::Top(name.as_str()))?;
             println!(rt; " is none of a machine file, and is ignored")?;
         }
     }
     Ok(())
 }
 
-/// Whether a name is that of a file: one of `modules`, or with the end of one.
-fn is_file_name(table: &Table, name: &str) -> bool {
-    let end = name.as_bytes();
-    if end.len() > 4 {
-        let end = &end[end.len() - 4..];
-        if end.eq_ignore_ascii_case(b".exe") || end.eq_ignore_ascii_case(b".dll") {
-            return true;
+/// Whether a name ends as that of a file.
+fn has_file_end(name: &str) -> bool {
+    let bytes = name.as_bytes();
+    if bytes.len() <= 4 {
+        return false;
+    }
+    let end = &bytes[bytes.len() - 4..];
+    end.eq_ignore_ascii_case(b".exe") || end.eq_ignore_ascii_case(b".dll")
+}
+
+/// Whether a name is one of `modules`.
+fn is_listed(table: &Table, name: &str) -> bool {
+    let mut found = false;
+    if let Some(files) = table.get("modules").and_then(Value::as_array) {
+        for file in files {
+            found = found || file.as_str() == Some(name);
         }
     }
-    match table.get("modules").and_then(Value::as_array) {
+    found
+}
+
+/// Whether a process asks for a module by the name of a file: one of `modules` that is no module's name, or what ends as one in a
+/// command that is refused.
+fn is_file_name(file: &Document<'_>, name: &str) -> bool {
+    if has_file_end(name) {
+        return file.refused;
+    }
+    match file.lost {
+        Some(lost) => lost == name.as_bytes() && is_listed(file.table, name),
         None => false,
-        Some(files) => {
-            let mut found = false;
-            for file in files {
-                if let Some(file) = file.as_str() {
-                    if file == name {
-                        found = true;
-                    }
-                }
-            }
-            found
-        }
     }
+}
+
+/// Says of the key `module` of a process that it is the name of a file, where it is.
+fn tell_module(
+    rt: &HostRuntime,
+    lookup: &mut Search,
+    file: &Document<'_>,
+    number: usize,
+    module: &str,
+) -> anyhow::Result<()>
+    requires { number < 64 }
+{
+    if is_file_name(file, module) {
+        print!(rt; "  `module` of process {}", number as u64 + 1)?;
+        say_lines(rt, lookup, file.text, Spot::Within(number, "module"))?;
+        println!(rt;
+            " is {}, which is the name of a file: it is to be the name in the executable",
+            Shown(module.as_bytes())
+        )?;
+    }
+    Ok(())
+}
+
+/// Says of a key of a process that nobody reads it.
+fn tell_unread(
+    rt: &HostRuntime,
+    lookup: &mut Search,
+    file: &Document<'_>,
+    number: usize,
+    name: &str,
+) -> anyhow::Result<()>
+    requires { number < 64 }
+{
+    print!(rt; "  the key `{}`", Shown(name.as_bytes()))?;
+    say_lines(rt, lookup, file.text, Spot::Within(number, name))?;
+    if is_among(name, &TOP_KEYS) {
+        println!(rt;
+            " stands below [[process]] and so belongs to process {}, which doesn't read it: put it above the first [[process]]",
+            number as u64 + 1
+        )?;
+    } else {
+        println!(rt; " is none of a process, and is ignored")?;
+    }
+    Ok(())
 }
 
 /// Says what is odd in a process.
 fn tell_process(
     rt: &HostRuntime,
-    text: &[u8],
-    table: &Table,
+    lookup: &mut Search,
+    file: &Document<'_>,
     number: usize,
     process: &Table,
 ) -> anyhow::Result<()>
     requires { number < 64 }
 {
     for (name, value) in process.iter() {
-        let spot = Spot::Within(number, name.as_str());
-        if is_among(name.as_str(), &PROCESS_KEYS) {
-            if name.as_str() == "module" {
-                if let Some(module) = value.as_str() {
-                    if is_file_name(table, module) {
-                        print!(rt; "  `module` of process {}", number as u64 + 1)?;
-                        say_lines(rt, text, spot)?;
-                        println!(rt;
-                            " is {}, which is the name of a file: it is to be the name in the executable",
-                            Shown(module.as_bytes())
-                        )?;
-                    }
-                }
-            }
-        } else {
-            print!(rt; "  the key `{}`", Shown(name.as_bytes()))?;
-            say_lines(rt, text, spot)?;
-            if is_among(name.as_str(), &TOP_KEYS) {
-                println!(rt;
-                    " stands below [[process]] and so belongs to process {}, which doesn't read it: put it above the first [[process]]",
-                    number as u64 + 1
-                )?;
-            } else {
-                println!(rt; " is none of a process, and is ignored")?;
+        if !is_among(name.as_str(), &PROCESS_KEYS) {
+            tell_unread(rt, lookup, file, number, name.as_str())?;
+        }
+        if name.as_str() == "module" {
+            if let Some(module) = value.as_str() {
+                tell_module(rt, lookup, file, number, module)?;
             }
         }
     }
@@ -117,11 +166,14 @@ fn tell_process(
 }
 
 /// Says what is odd in all processes.
-fn tell_processes(rt: &HostRuntime, text: &[u8], table: &Table) -> anyhow::Result<()> {
+fn tell_processes(
+    rt: &HostRuntime,
+    lookup: &mut Search,
+    file: &Document<'_>,
+) -> anyhow::Result<()> {
     for number in 0..64usize {
-        match process_of(table, number) {
-            Some(process) => tell_process(rt, text, table, number, process)?,
-            None => {}
+        if let Some(process) = process_of(file.table, number) {
+            tell_process(rt, lookup, file, number, process)?;
         }
     }
     Ok(())
@@ -210,11 +262,16 @@ fn spot_of(table: &Table, key: Key) -> Option<Spot<'static>> {
 }
 
 /// Says where the key of a refusal stands.
-fn tell_key(rt: &HostRuntime, text: &[u8], table: &Table, key: Key) -> anyhow::Result<()> {
-    let Some(spot) = spot_of(table, key) else {
+fn tell_key(
+    rt: &HostRuntime,
+    lookup: &mut Search,
+    file: &Document<'_>,
+    key: Key,
+) -> anyhow::Result<()> {
+    let Some(spot) = spot_of(file.table, key) else {
         return Ok(());
     };
-    if let Some(Lines { first, last }) = lines_of(rt.alloc(), text, spot)? {
+    if let Some(Lines { first, last }) = lookup.lines_of(rt.alloc(), file.text, spot)? {
         if first == last {
             println!(rt; "  that is in line {last}")?;
         } else {
@@ -224,24 +281,44 @@ fn tell_key(rt: &HostRuntime, text: &[u8], table: &Table, key: Key) -> anyhow::R
     Ok(())
 }
 
-/// Says what is odd in the machine file of this name, and where the key of a refusal stands.
-pub fn tell(rt: &HostRuntime, name: &Bytes, refusal: Option<&OpenFault>) -> anyhow::Result<()> {
+/// The module that isn't there.
+fn lost_of(refusal: Option<&OpenFault>) -> Option<&[u8]> {
+    match refusal {
+        Some(OpenFault::BadModule(_, ModuleFault::NoModule(name))) => Some(name.as_slice()),
+        _ => None,
+    }
+}
+
+/// Says what is odd in the machine file of this name, and where the key of a refusal stands. `asked` says of a module that isn't there
+/// that a process asks for it.
+pub fn tell(
+    rt: &HostRuntime,
+    name: &Bytes,
+    refusal: Option<&OpenFault>,
+    asked: bool,
+) -> anyhow::Result<()> {
     let mut files = FolderFiles::new(rt);
     let Fetch::Got(file) = files.fetch(rt.alloc(), name, 1_048_576) else {
         return Ok(());
     };
-    let text = file.as_slice();
-    match toml::table_from_slice(rt.alloc(), text) {
+    match toml::table_from_slice(rt.alloc(), file.as_slice()) {
         Err(error) => {
             let why = format!(in rt.alloc(); "{error}")?;
             print_lines(rt, " ", why.as_str().as_bytes())?;
         }
         Ok(table) => {
+            let document = Document {
+                text: file.as_slice(),
+                table: &table,
+                refused: refusal.is_some(),
+                lost: if asked { lost_of(refusal) } else { None },
+            };
+            let mut lookup = Search::new();
             if let Some(key) = key_of(refusal) {
-                tell_key(rt, text, &table, key)?;
+                tell_key(rt, &mut lookup, &document, key)?;
             }
-            tell_top(rt, text, &table)?;
-            tell_processes(rt, text, &table)?;
+            tell_top(rt, &mut lookup, &document)?;
+            tell_processes(rt, &mut lookup, &document)?;
         }
     }
     Ok(())

@@ -2,6 +2,7 @@
 #![tactic(auto)]
 
 mod command;
+mod context;
 mod imports;
 mod judge;
 mod lines;
@@ -10,11 +11,33 @@ mod sentences;
 mod services;
 
 use clap::ArgMatches;
+use context::{Context, read_context};
+use o2_base::{Bytes, NoMemory};
 use o2_open::OpenFault;
 use o2_outer::FolderFiles;
 use o2_tool::{MISUSED, REFUSED, answered, ended, file_name, words};
 use o2_words::Verb;
 use std::process::ExitCode;
+
+/// What the sentence of a refusal goes by beside it.
+fn context_of(
+    rt: &HostRuntime,
+    verb: Verb,
+    name: &Bytes,
+    refusal: Option<&OpenFault>,
+) -> anyhow::Result<Context> {
+    if verb != Verb::Run {
+        return Ok(Context::NONE);
+    }
+    let Some(refusal) = refusal else {
+        return Ok(Context::NONE);
+    };
+    let mut files = FolderFiles::new(rt);
+    match read_context(rt.alloc(), &mut files, name, refusal) {
+        Ok(found) => Ok(found),
+        Err(NoMemory) => anyhow::bail!("there is no memory"),
+    }
+}
 
 /// Says what the command in this file comes to.
 fn say(rt: &HostRuntime, verb: Verb, file: &str) -> anyhow::Result<ExitCode> {
@@ -24,12 +47,11 @@ fn say(rt: &HostRuntime, verb: Verb, file: &str) -> anyhow::Result<ExitCode> {
     if let Some(OpenFault::NoMemory) = &refusal {
         anyhow::bail!("there is no memory");
     }
-    println!(rt;
-        "{}",
-        sentences::verdict(rt.alloc(), verb, refusal.as_ref())?
-    )?;
+    let Context { asked, listed } = context_of(rt, verb, &name, refusal.as_ref())?;
+    let text = sentences::verdict(rt.alloc(), refusal.as_ref(), asked, listed)?;
+    println!(rt; "{text}")?;
     if verb == Verb::Run {
-        machine::tell(rt, &name, refusal.as_ref())?;
+        machine::tell(rt, &name, refusal.as_ref(), asked)?;
     }
     if refusal.is_none() {
         Ok(ExitCode::SUCCESS)

@@ -1,14 +1,13 @@
 // Refusals in sentences.
-ghost use Rattle.std.specs.Prelude.{◌≡◌, ◌≤◌, ◌++◌, Bool, IfOk, IfSome, codes, string_bytes, None};
+ghost use Rattle.std.specs.Prelude.{◌≡◌, ◌≤◌, ◌++◌, IfOk, IfSome, codes, string_bytes, None};
 ghost use Rattle.o2_cli.specs.StatusTexts.{module_reason, machine_text, key_text as text_of_key};
-ghost use Rattle.os2why.specs.Sentences.{which_text, known_text, ordinal_text, name_text, lost_text, target_text, taken_text, words_of, sentence_of};
+ghost use Rattle.os2why.specs.Sentences.{which_text, unbuilt_text, known_text, usual_text, service_of, in_table, ordinal_text, name_text, lost_text, target_text, taken_text, words_of, sentence_of};
 ghost use Rattle.os2why.specs.Sentences.{form_text, limits_text, machine_words, machine_sentence, module_text, cause_text};
 
 use crate::services::{call_name, is_system, service_called, service_of};
 use o2_base::{Bytes, Key, MachineFault, ModuleFault, SERVICE_COUNT, Which, is_built};
 use o2_open::OpenFault;
 use o2_tool::Shown;
-use o2_words::Verb;
 use std::alloc::{AllocError, Global};
 
 /// What a table or a limit is about.
@@ -39,6 +38,22 @@ fn which_text(which: Which) -> &'static str
     }
 }
 
+/// Why an import of a service by its ordinal isn't there: it isn't built.
+fn unbuilt_sentence(
+    alloc: Global,
+    name: &[u8],
+    ordinal: u16,
+    number: u16,
+) -> Result<String, AllocError>
+    requires low { 1 ≤ number }
+    requires high { number ≤ SERVICE_COUNT }
+    ensures { IfOk result (λ s. string_bytes s ≡ unbuilt_text name.now ordinal number) }
+{
+    let name = Shown(name);
+    let call = Shown(call_name(number));
+    format!(in alloc; "it imports {name}.{ordinal} ({call}), which isn't built yet")
+}
+
 /// Why an import of a service by its ordinal isn't there: it isn't built, or the machine file leaves it out.
 fn known_sentence(
     alloc: Global,
@@ -50,27 +65,21 @@ fn known_sentence(
     requires high { number ≤ SERVICE_COUNT }
     ensures { IfOk result (λ s. string_bytes s ≡ known_text name.now ordinal number) }
 {
+    if !is_built(number) {
+        return unbuilt_sentence(alloc, name, ordinal, number);
+    }
     let name = Shown(name);
     let call = Shown(call_name(number));
-    if is_built(number) {
-        format!(in alloc;
-            "it imports {name}.{ordinal} ({call}), which the table [ordinals] of the machine file leaves out"
-        )
-    } else {
-        format!(in alloc; "it imports {name}.{ordinal} ({call}), which isn't built yet")
-    }
+    format!(in alloc;
+        "it imports {name}.{ordinal} ({call}), which the table [ordinals] of the machine file leaves out"
+    )
 }
 
-/// Why an import by an ordinal isn't there.
-fn ordinal_sentence(alloc: Global, name: &[u8], ordinal: u16) -> Result<String, AllocError>
-    ensures { IfOk result (λ s. string_bytes s ≡ ordinal_text name.now ordinal) }
+/// Why an import of an ordinal isn't there under which the machine file has no service.
+fn usual_sentence(alloc: Global, name: &[u8], ordinal: u16) -> Result<String, AllocError>
+    ensures { IfOk result
+        (λ s. string_bytes s ≡ usual_text name.now ordinal (service_of ordinal)) }
 {
-    if !is_system(name) {
-        let name = Shown(name);
-        return format!(in alloc;
-            "it imports {name}.{ordinal}, and {name} has no entry of that ordinal"
-        );
-    }
     match service_of(ordinal) {
         Some(number) => known_sentence(alloc, name, ordinal, number),
         None => {
@@ -79,6 +88,44 @@ fn ordinal_sentence(alloc: Global, name: &[u8], ordinal: u16) -> Result<String, 
                 "it imports {name}.{ordinal}, and this machine has no call of that ordinal"
             )
         }
+    }
+}
+
+/// The number of a service, where it is one.
+fn in_table(listed: Option<u16>) -> Option<u16>
+    ensures within { IfSome result (λ n. (1 ≤ n) × (n ≤ SERVICE_COUNT)) }
+    ensures exact { result ≡ in_table listed }
+{
+    match listed {
+        None => None,
+        Some(number) => {
+            if number >= 1 && number <= SERVICE_COUNT {
+                Some(number)
+            } else {
+                None
+            }
+        }
+    }
+}
+
+/// Why an import by an ordinal isn't there. The machine file has the service `listed` under it.
+fn ordinal_sentence(
+    alloc: Global,
+    name: &[u8],
+    ordinal: u16,
+    listed: Option<u16>,
+) -> Result<String, AllocError>
+    ensures { IfOk result (λ s. string_bytes s ≡ ordinal_text name.now ordinal listed) }
+{
+    if !is_system(name) {
+        let name = Shown(name);
+        return format!(in alloc;
+            "it imports {name}.{ordinal}, and {name} has no entry of that ordinal"
+        );
+    }
+    match in_table(listed) {
+        Some(number) => unbuilt_sentence(alloc, name, ordinal, number),
+        None => usual_sentence(alloc, name, ordinal),
     }
 }
 
@@ -114,7 +161,7 @@ fn module_sentence(alloc: Global, name: &[u8], asked: bool) -> Result<String, Al
         )
     } else {
         format!(in alloc;
-            "it refers to the module {name}, which is neither DOSCALLS nor the module of a file that is named"
+            "it refers to the module {name}, which is neither DOSCALLS nor a library among the files that are named"
         )
     }
 }
@@ -163,18 +210,29 @@ fn reason(fault: &ModuleFault) -> &'static str
 
 /// Why a module is refused: the reason's number, and a sentence with every field of the refusal.
 #[tactic(auto, using(std::proofs::Common::append_assoc))]
-pub fn sentence(alloc: Global, fault: &ModuleFault, asked: bool) -> Result<String, AllocError>
-    ensures { IfOk result (λ s. string_bytes s ≡ sentence_of asked fault.now) }
+fn sentence(
+    alloc: Global,
+    fault: &ModuleFault,
+    asked: bool,
+    listed: Option<u16>,
+) -> Result<String, AllocError>
+    ensures { IfOk result (λ s. string_bytes s ≡ sentence_of asked listed fault.now) }
 {
     let number = reason(fault);
-    let why = words(alloc, fault, asked)?;
+    let why = words(alloc, fault, asked, listed)?;
     let text = format!(in alloc; "reason {number}: {why}")?;
     Ok(text)
 }
 
-/// Why a module is refused, with every field of the refusal. `asked` says that a process asks for it, and no file has it.
-fn words(alloc: Global, fault: &ModuleFault, asked: bool) -> Result<String, AllocError>
-    ensures { IfOk result (λ s. string_bytes s ≡ words_of asked fault.now) }
+/// Why a module is refused, with every field of the refusal. `asked` says that a process asks for it, and no file has it; the machine
+/// file has the service `listed` under an ordinal that isn't there.
+fn words(
+    alloc: Global,
+    fault: &ModuleFault,
+    asked: bool,
+    listed: Option<u16>,
+) -> Result<String, AllocError>
+    ensures { IfOk result (λ s. string_bytes s ≡ words_of asked listed fault.now) }
 {
     match fault {
         ModuleFault::NotMz => { format!(in alloc; "it doesn't begin with MZ: it is no executable") }
@@ -205,7 +263,9 @@ fn words(alloc: Global, fault: &ModuleFault, asked: bool) -> Result<String, Allo
         }
         ModuleFault::BadTarget(segment, number) => target_sentence(alloc, *segment, *number),
         ModuleFault::NoModule(name) => module_sentence(alloc, name.as_slice(), asked),
-        ModuleFault::NoOrdinal(name, ordinal) => ordinal_sentence(alloc, name.as_slice(), *ordinal),
+        ModuleFault::NoOrdinal(name, ordinal) => {
+            ordinal_sentence(alloc, name.as_slice(), *ordinal, listed)
+        }
         ModuleFault::NoName(name, symbol) => {
             name_sentence(alloc, name.as_slice(), symbol.as_slice())
         }
@@ -351,26 +411,18 @@ fn machine_words(alloc: Global, fault: MachineFault) -> Result<String, AllocErro
     }
 }
 
-/// Whether a refusal is of the module that a process asks for, and not of one in a file.
-fn is_asked(verb: Verb, name: &Bytes, fault: &ModuleFault) -> bool {
-    match fault {
-        ModuleFault::NoModule(wanted) => {
-            verb == Verb::Run && wanted.as_slice() == name.as_slice()
-        }
-        _ => false,
-    }
-}
-
-/// Why a module doesn't open, with the file that it is in. `asked` says that a process asks for it, and no file has it.
+/// Why a module doesn't open, with the file that it is in. `asked` says that a process asks for it, and no file has it; the machine
+/// file has the service `listed` under an ordinal that isn't there.
 fn module_text(
     alloc: Global,
     name: &Bytes,
     fault: &ModuleFault,
     asked: bool,
+    listed: Option<u16>,
 ) -> Result<String, AllocError>
-    ensures { IfOk result (λ s. string_bytes s ≡ module_text asked name.now fault.now) }
+    ensures { IfOk result (λ s. string_bytes s ≡ module_text asked listed name.now fault.now) }
 {
-    let why = sentence(alloc, fault, asked)?;
+    let why = sentence(alloc, fault, asked, listed)?;
     let file = Shown(name.as_slice());
     if asked {
         let text = format!(in alloc; "a process has no module\n  {why}")?;
@@ -381,17 +433,14 @@ fn module_text(
     }
 }
 
-/// Whether a refusal is of the module that a process asks for, and not of one in a file.
-fn is_of_process(verb: Verb, fault: &OpenFault) -> bool {
-    match fault {
-        OpenFault::BadModule(name, fault) => is_asked(verb, name, fault),
-        _ => false,
-    }
-}
-
-/// Why a command isn't opened. `asked` says that a process asks for a module, and no file has it.
-fn cause(alloc: Global, fault: &OpenFault, asked: bool) -> Result<String, AllocError>
-    ensures { IfOk result (λ s. string_bytes s ≡ cause_text asked fault.now) }
+/// Why a command isn't opened, as `verdict` says it.
+fn cause(
+    alloc: Global,
+    fault: &OpenFault,
+    asked: bool,
+    listed: Option<u16>,
+) -> Result<String, AllocError>
+    ensures { IfOk result (λ s. string_bytes s ≡ cause_text asked listed fault.now) }
 {
     match fault {
         OpenFault::NoFile(name) => format!(in alloc; "there is no file {}", Shown(name.as_slice())),
@@ -400,24 +449,30 @@ fn cause(alloc: Global, fault: &OpenFault, asked: bool) -> Result<String, AllocE
             let text = format!(in alloc; "the machine file is refused\n  {why}")?;
             Ok(text)
         }
-        OpenFault::BadModule(name, fault) => module_text(alloc, name, fault, asked),
+        OpenFault::BadModule(name, fault) => module_text(alloc, name, fault, asked, listed),
         OpenFault::FileFault => format!(in alloc; "a file can't be read"),
         OpenFault::NoMemory => format!(in alloc; "there is no memory for it"),
     }
 }
 
-/// What a command comes to: that it opens, or why not.
-pub fn verdict(alloc: Global, verb: Verb, refusal: Option<&OpenFault>) -> Result<String, AllocError>
+/// What a command comes to: that it opens, or why not. `asked` says of a module that isn't there that a process asks for it, and not a
+/// module; `listed` is the service that the machine file has under an ordinal that isn't there.
+pub fn verdict(
+    alloc: Global,
+    refusal: Option<&OpenFault>,
+    asked: bool,
+    listed: Option<u16>,
+) -> Result<String, AllocError>
     // "it opens" exactly where there is no refusal
     ensures opens { IfOk result (λ s. refusal.entry ≡ None → string_bytes s ≡ codes "it opens") }
     // and else the cause, with each name and number of the refusal
-    ensures refused { IfOk result (λ s. IfSome refusal.entry (λ fault. (asked : Bool)
-        × (string_bytes s ≡ codes "it isn't opened: " ++ cause_text asked fault.now))) }
+    ensures refused { IfOk result (λ s. IfSome refusal.entry (λ fault.
+        string_bytes s ≡ codes "it isn't opened: " ++ cause_text asked listed fault.now)) }
 {
     match refusal {
         None => format!(in alloc; "it opens"),
         Some(fault) => {
-            let why = cause(alloc, fault, is_of_process(verb, fault))?;
+            let why = cause(alloc, fault, asked, listed)?;
             let text = format!(in alloc; "it isn't opened: {why}")?;
             Ok(text)
         }
