@@ -148,9 +148,44 @@ def check_tables():
         wrong(f"os2list kinds.dll: {text!r}; wanted three entries")
 
 
+def listing_of(name, text):
+    """The listing of an executable that is made of this text."""
+    with open(name, "wb") as file:
+        file.write(ne.Listing(text).file())
+    status, listing = said("os2list", name)
+    if status:
+        wrong(f"os2list {name}: status {status}")
+    return listing
+
+
+def check_code():
+    """What stands in a line of code, and what of other modules a listing tells."""
+    text = listing_of("chain.exe", "module CHAIN\nstart 1:0000\nsegment 1 code\n0000  9A 06 00 00 00  call @0001 far DOSCALLS.138\n"
+                      "0005  9A FF FF 00 00  call\n000A  9A FF FF 00 00  call @000B far LIB.NAME\n000F  B8 05 00  mov @0010 add-offset 2:0002\n"
+                      "0012  0F FF\n0014  D8 C0 90\nsegment 2 data auto size=4\n")
+    for wanted in (
+        "\nmodule references: 2\n      1 DOSCALLS\n      2 LIB\n\nimports: 2\n      1 DOSCALLS.138 (DosWrite)\n      1 LIB.NAME\n\nsegment 1\n",
+        "  0001h a far pointer to DOSCALLS.138 (DosWrite)\n  000Bh a far pointer to LIB.NAME\n  0010h an offset to segment 2:0002h, added\n",
+        # a patched place holds the next one of its chain
+        "  0000  9A06000000            call 0x0000:0x0006  ; DOSCALLS.138 (DosWrite)\n  0005  9AFFFF0000            call 0x0000:0xFFFF  ; DOSCALLS.138 (DosWrite)\n"
+        "  000A  9AFFFF0000            call 0x0000:0xFFFF  ; LIB.NAME\n  000F  B80500                mov ax,0x05  ; segment 2:0002h\n"
+        # what begins no instruction, an instruction of the numeric processor, and data behind that
+        "  0012  0F                    db 0x0F\n  0013  FF                    db 0xFF\n",
+    ):
+        trying.count()
+        if wanted not in text:
+            wrong(f"os2list chain.exe: {text!r}; wanted {wanted!r}")
+    for opcode in range(0xD8, 0xE0):
+        trying.count()
+        texts = [row[2] for row in listed(bytes([opcode, 0x47, 0x01, opcode, 0xC1])) if row[1][0] == opcode]
+        if len(texts) != 2 or any(not text.startswith("esc ") for text in texts):
+            wrong(f"os2list, opcode {opcode:02X}: {texts}")
+
+
 def check_list():
     check_words("os2list", [])
     check_tables()
+    check_code()
     if not shutil.which("nasm"):
         print("listings: nasm isn't installed (apt-get install nasm), so none is read back")
         return
