@@ -124,6 +124,10 @@ def exceptions():
         ("0F 01 17", "0000"),  # lgdt [bx]
         ("6C", "0000"),  # insb
         ("B8 34 12 8E D8", "1234"),  # mov ds,1234h
+        ("B8 37 12 8E D8", "1234"),  # mov ds,1237h
+        ("B8 2F 00 8E D0", "002C"),  # mov ss,2Fh
+        ("68 37 12 6A 00 CB", "1234"),  # retf to 1237:0000
+        ("CD 21", "010A"),  # int 21h
     ):
         trying.count()
         lines = [line for line in traced(code) if line.startswith("!")]
