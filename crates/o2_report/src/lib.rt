@@ -6,5 +6,6 @@ mod lines;
 
 pub use line::LineBuffer;
 pub use lines::{
-    put_holds, put_start, set_calls, set_ends, set_exits, set_holds, set_starts, set_traps,
+    put_holds, put_start, set_calls, set_drops, set_ends, set_exits, set_holds, set_starts,
+    set_traps,
 };

@@ -67,6 +67,21 @@ pub fn set_holds(line: &mut LineBuffer, process: u16, selector: u16, cause: &[u8
     line.push_byte(b'\n');
 }
 
+/// The line of a hold that is dropped.
+#[tactic(auto, unfolding(o2_world::specs::Text::line_text), using(std::proofs::Common::append_assoc))]
+pub fn set_drops(line: &mut LineBuffer, process: u16, selector: u16, cause: &[u8])
+    requires { length cause.now ≤ 20 }
+    ensures { line.new ≡ line_text (DropsBy process selector cause.now) }
+{
+    line.clear();
+    line.push_number(process as u64);
+    line.push_text(b" drop ");
+    line.push_hex4(selector);
+    line.push_text(b" by ");
+    line.push_text(cause);
+    line.push_byte(b'\n');
+}
+
 /// The line of a call that comes back. The values stand in it only where the error is 0.
 #[tactic(auto, unfolding(o2_world::specs::Text::line_text), using(std::proofs::Common::append_assoc))]
 pub fn set_calls(
