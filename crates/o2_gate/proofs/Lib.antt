@@ -11,3 +11,5 @@ pub mod Served
 pub mod Named
 pub mod Writing
 pub mod Lines
+pub mod Arguments
+pub mod Replied

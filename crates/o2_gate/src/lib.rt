@@ -4,10 +4,12 @@
 mod called;
 mod exit;
 mod gate;
+mod gathering;
 mod mem_avail;
 mod pid;
 mod pointer;
 mod read;
+mod replying;
 mod stack;
 mod state;
 mod told;
@@ -16,4 +18,6 @@ mod write;
 
 pub use called::Called;
 pub use gate::call;
+pub use gathering::{Gathered, SegmentArguments, gather};
+pub use replying::{come_back, give_value, put_reply};
 pub use state::State;

@@ -19,6 +19,15 @@ fn word<B: Bus>(bus: &B, cpu: &Cpu, i: u16) -> Option<u16>
     }
 }
 
+/// The only argument. None exactly where it doesn't lie in SS.
+pub fn one_argument<B: Bus>(bus: &B, cpu: &Cpu) -> Option<u16>
+    ensures { (f : Filling) → IsBound (B.view bus.now) → let v = boundless f (B.view bus.now) in
+        result ≡ (if has_arguments v cpu.now 1 then Some (argument v cpu.now 0) else None) }
+{
+    let only = word(bus, cpu, 0)?;
+    Some(only)
+}
+
 /// Two arguments, the one that was pushed first before the other. None exactly where they don't lie in SS.
 pub fn two_arguments<B: Bus>(bus: &B, cpu: &Cpu) -> Option<(u16, u16)>
     ensures { (f : Filling) → IsBound (B.view bus.now) → let v = boundless f (B.view bus.now) in
@@ -27,6 +36,36 @@ pub fn two_arguments<B: Bus>(bus: &B, cpu: &Cpu) -> Option<(u16, u16)>
     let last = word(bus, cpu, 0)?;
     let first = word(bus, cpu, 1)?;
     Some((first, last))
+}
+
+/// Three arguments, in the order in which they were pushed. None exactly where they don't lie in SS.
+pub fn three_arguments<B: Bus>(bus: &B, cpu: &Cpu) -> Option<(u16, u16, u16)>
+    ensures { (f : Filling) → IsBound (B.view bus.now) → let v = boundless f (B.view bus.now) in
+        result ≡ (if has_arguments v cpu.now 3
+        then Some (argument v cpu.now 2, argument v cpu.now 1, argument v cpu.now 0) else None) }
+{
+    let last = word(bus, cpu, 0)?;
+    let second = word(bus, cpu, 1)?;
+    let first = word(bus, cpu, 2)?;
+    Some((first, second, last))
+}
+
+/// Four arguments, in the order in which they were pushed. None exactly where they don't lie in SS.
+pub fn four_arguments<B: Bus>(bus: &B, cpu: &Cpu) -> Option<(u16, u16, u16, u16)>
+    ensures { (f : Filling) → IsBound (B.view bus.now) → let v = boundless f (B.view bus.now) in
+        result ≡ (if has_arguments v cpu.now 4
+        then Some (
+          argument v cpu.now 3,
+          argument v cpu.now 2,
+          argument v cpu.now 1,
+          argument v cpu.now 0,
+        ) else None) }
+{
+    let last = word(bus, cpu, 0)?;
+    let third = word(bus, cpu, 1)?;
+    let second = word(bus, cpu, 2)?;
+    let first = word(bus, cpu, 3)?;
+    Some((first, second, third, last))
 }
 
 /// The arguments of a transfer. None exactly where they don't lie in SS.

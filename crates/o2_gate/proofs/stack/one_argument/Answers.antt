@@ -1,0 +1,11 @@
+use Rattle.std.proofs.Common.{refl}
+use Rattle.o2_isa.specs.View.{View}
+use Rattle.o2_gate.specs.Befores.{boundless}
+use Rattle.o2_gate.proofs.Words.{word_there}
+use Rattle.o2_gate.proofs.stack.one_argument.Goals as goal
+
+pub returns : goal.returns
+returns g c = λ f bound.
+    let v : View = boundless f (g.B.Bus.view c.args.bus.now) in
+    let w0 = word_there v c.args.cpu.now 0 _ _ (c.in_ok-only.ensures f bound) refl in
+    rw (w0.there, w0.value) refl

@@ -1,0 +1,174 @@
+// What a call on segments is given: its arguments, and whether its pointer is good. Nothing is changed yet.
+ghost use Rattle.std.specs.Prelude.{◌≡◌, ◌∷◌, [], true};
+ghost use Rattle.o2_world.specs.declared.types.SegmentCall.TheVariants as segments;
+ghost use Rattle.o2_gate.specs.Gathers.{Aims, Gathers};
+ghost use Rattle.o2_gate.specs.Pointed.{pointer};
+
+use crate::pointer::{Pointed, test};
+use crate::stack::{four_arguments, one_argument, three_arguments, two_arguments};
+use o2_base::Selector;
+use o2_bus::Bus;
+use o2_isa::Cpu;
+use o2_world::SegmentCall;
+
+/// The arguments of a call on segments. Where a value is wanted, its selector and offset.
+#[derive(Clone, Copy, Debug, PartialEq, Eq)]
+pub enum SegmentArguments {
+    Alloc {
+        size: u16,
+        to_selector: u16,
+        to_offset: u16,
+        flags: u16,
+    },
+    Realloc {
+        size: u16,
+        selector: u16,
+    },
+    Free(u16),
+    Size {
+        selector: u16,
+        to_selector: u16,
+        to_offset: u16,
+    },
+    Lock(u16),
+    Unlock(u16),
+    Alias {
+        selector: u16,
+        to_selector: u16,
+        to_offset: u16,
+    },
+}
+
+/// What the arguments of a call on segments come to.
+#[derive(Clone, Copy, Debug, PartialEq, Eq)]
+pub enum Gathered {
+    /// They lie in SS, and the pointer is good.
+    Good(SegmentArguments),
+    /// The call ends its process by this exception.
+    Trap(u8),
+    /// The segment behind this selector, which passes, isn't present.
+    Missed(Selector),
+}
+
+/// Arguments with a pointer to so many bytes that will be written.
+fn aim<B: Bus>(
+    bus: &mut B,
+    arguments: SegmentArguments,
+    selector: u16,
+    offset: u16,
+    count: u16,
+) -> Gathered
+    ensures same { B.view bus.new ≡ B.view bus.old }
+    ensures aims { Aims (B.view bus.old) (pointer true selector offset count ∷ []) arguments result }
+{
+    match test(bus, true, selector, offset, count) {
+        Pointed::Good => Gathered::Good(arguments),
+        Pointed::Bad => Gathered::Trap(13),
+        Pointed::Missed(sel) => Gathered::Missed(sel),
+    }
+}
+
+fn gather_alloc<B: Bus>(cpu: &Cpu, bus: &mut B) -> Gathered
+    ensures same { B.view bus.new ≡ B.view bus.old }
+    ensures gathers { Gathers (B.view bus.old) cpu.now segments.DosAllocSeg result }
+{
+    match four_arguments(bus, cpu) {
+        None => Gathered::Trap(12),
+        Some((size, to_selector, to_offset, flags)) => {
+            let arguments = SegmentArguments::Alloc {
+                size,
+                to_selector,
+                to_offset,
+                flags,
+            };
+            aim(bus, arguments, to_selector, to_offset, 2)
+        }
+    }
+}
+
+fn gather_realloc<B: Bus>(cpu: &Cpu, bus: &B) -> Gathered
+    ensures gathers { Gathers (B.view bus.now) cpu.now segments.DosReallocSeg result }
+{
+    match two_arguments(bus, cpu) {
+        None => Gathered::Trap(12),
+        Some((size, selector)) => Gathered::Good(SegmentArguments::Realloc { size, selector }),
+    }
+}
+
+fn gather_free<B: Bus>(cpu: &Cpu, bus: &B) -> Gathered
+    ensures gathers { Gathers (B.view bus.now) cpu.now segments.DosFreeSeg result }
+{
+    match one_argument(bus, cpu) {
+        None => Gathered::Trap(12),
+        Some(selector) => Gathered::Good(SegmentArguments::Free(selector)),
+    }
+}
+
+fn gather_size<B: Bus>(cpu: &Cpu, bus: &mut B) -> Gathered
+    ensures same { B.view bus.new ≡ B.view bus.old }
+    ensures gathers { Gathers (B.view bus.old) cpu.now segments.DosSizeSeg result }
+{
+    match three_arguments(bus, cpu) {
+        None => Gathered::Trap(12),
+        Some((selector, to_selector, to_offset)) => {
+            let arguments = SegmentArguments::Size {
+                selector,
+                to_selector,
+                to_offset,
+            };
+            aim(bus, arguments, to_selector, to_offset, 4)
+        }
+    }
+}
+
+fn gather_lock<B: Bus>(cpu: &Cpu, bus: &B) -> Gathered
+    ensures gathers { Gathers (B.view bus.now) cpu.now segments.DosLockSeg result }
+{
+    match one_argument(bus, cpu) {
+        None => Gathered::Trap(12),
+        Some(selector) => Gathered::Good(SegmentArguments::Lock(selector)),
+    }
+}
+
+fn gather_unlock<B: Bus>(cpu: &Cpu, bus: &B) -> Gathered
+    ensures gathers { Gathers (B.view bus.now) cpu.now segments.DosUnlockSeg result }
+{
+    match one_argument(bus, cpu) {
+        None => Gathered::Trap(12),
+        Some(selector) => Gathered::Good(SegmentArguments::Unlock(selector)),
+    }
+}
+
+fn gather_alias<B: Bus>(cpu: &Cpu, bus: &mut B) -> Gathered
+    ensures same { B.view bus.new ≡ B.view bus.old }
+    ensures gathers { Gathers (B.view bus.old) cpu.now segments.DosCreateCsAlias result }
+{
+    match three_arguments(bus, cpu) {
+        None => Gathered::Trap(12),
+        Some((selector, to_selector, to_offset)) => {
+            let arguments = SegmentArguments::Alias {
+                selector,
+                to_selector,
+                to_offset,
+            };
+            aim(bus, arguments, to_selector, to_offset, 2)
+        }
+    }
+}
+
+/// The arguments of a call on segments by the process whose segments the bus shows, as far as it can go without a change: what
+/// the call does then is said by the arguments alone, whatever is absent.
+pub fn gather<B: Bus>(call: SegmentCall, cpu: &Cpu, bus: &mut B) -> Gathered
+    ensures same { B.view bus.new ≡ B.view bus.old }
+    ensures gathers { Gathers (B.view bus.old) cpu.now call result }
+{
+    match call {
+        SegmentCall::DosAllocSeg => gather_alloc(cpu, bus),
+        SegmentCall::DosReallocSeg => gather_realloc(cpu, bus),
+        SegmentCall::DosFreeSeg => gather_free(cpu, bus),
+        SegmentCall::DosSizeSeg => gather_size(cpu, bus),
+        SegmentCall::DosLockSeg => gather_lock(cpu, bus),
+        SegmentCall::DosUnlockSeg => gather_unlock(cpu, bus),
+        SegmentCall::DosCreateCsAlias => gather_alias(cpu, bus),
+    }
+}
