@@ -1,0 +1,103 @@
+-- A machine that stands for a world, before and behind a call.
+use Rattle.std.proofs.Common.{◌≡◌, ℕ, ◌<◌, ◌≤◌, ◌/◌, Bool, true, false, List, [], Option, Some, None, is_some, refl, sym, ap, ◌∙◌, subst, arith}
+use Rattle.std.specs.Prelude.{IsTrue}
+use Rattle.o2_image.specs.ImageList.{ImageList}
+use Rattle.o2_isa.specs.declared.cpu.Cpu.{Cpu}
+use Rattle.o2_regions.specs.declared.answer.Answer.{Answer}
+use Rattle.o2_regions.specs.declared.answer.Roomed.{Roomed}
+use Rattle.o2_regions.specs.declared.answer.Roomed.TheVariants.{Done, NoRoom, SwapFull, SwapFault}
+use Rattle.o2_regions.specs.Maps.{Maps, IsProcess}
+use Rattle.o2_store.specs.Shelf.{Shelf}
+use Rattle.o2_world.specs.Changes.{Change, with_all, with_changes}
+use Rattle.o2_world.specs.Holders.{process_at}
+use Rattle.o2_world.specs.Known.{known_of}
+use Rattle.o2_world.specs.Map.{get}
+use Rattle.o2_world.specs.Rulings.{Ruling, freeing, sizing}
+use Rattle.o2_world.specs.Tied.{IsTied}
+use Rattle.o2_world.specs.World.{Process, Segment, Setting, World}
+use Rattle.o2_gate.specs.declared.gathering.SegmentArguments.{SegmentArguments}
+use Rattle.o2_stands.specs.Knows.{KnowsAs, Others, known_in, others_of}
+use Rattle.o2_stands.specs.Moves.{moved}
+use Rattle.o2_stands.specs.Parts.{Parts}
+use Rattle.o2_stands.specs.Stands.{Matches}
+use Rattle.o2_stands.proofs.Knowing.{known_is}
+use Rattle.o2_stands.proofs.Matching.{matched_by}
+use Rattle.o2_changes.specs.Worlds.{LosesOne}
+use Rattle.o2_changes.proofs.Losing.{loses_one}
+use Rattle.o2_segs.specs.Answers.{AnswersRoomed, changes_roomed}
+use Rattle.o2_segs.specs.Made.{left_by}
+use Rattle.o2_calls.specs.Acts.{IsOver, cpu_of, ruling_of}
+use Rattle.o2_calls.proofs.Rulings.{is_freed, same_cpu, same_ruling, sizing_still}
+
+-- the next name is none
+pub none_next : (w : World) → IsTied w → get w.names w.next_name ≡ None
+none_next w tied = go (get w.names w.next_name) refl
+  where
+    go : (o : Option Segment) → get w.names w.next_name ≡ o → get w.names w.next_name ≡ None
+    go None e = e
+    go (Some s) e = absurd (let low = tied.below w.next_name (ap is_some e) in omega (arith, low))
+
+nothing : (w : World) → with_all w [] ≡ w
+unfolding with_changes
+nothing w = refl
+
+module _ (sh : Shelf) (m : Maps) (images : ImageList) (block : ℕ → List ℕ) (p : Parts) (s : Setting) (w : World) (over : IsOver sh m images block p s w) (pid : ℕ) (process : IsProcess m pid) where
+  abbrev o : Others
+  o = others_of s w
+
+  here : IsProcess p.maps pid
+  here = subst (λ (x : Maps). IsProcess x pid) (sym over.regions) process
+
+  known : KnowsAs p.maps (known_of s w) (known_in p o)
+  known = known_is p s w over.lawful over.set over.stands
+
+  matches : Matches p w
+  matches = matched_by p w.processes w.names w.next_name w.reserved over.stands
+
+  ruling_is : (a : SegmentArguments) (c : Cpu) → ruling_of a (known_in p o) pid c ≡ ruling_of a (known_of s w) pid c
+  ruling_is a c = sym (same_ruling p.maps (known_of s w) (known_in p o) known pid here c a)
+
+  pub row_by : (a : SegmentArguments) (c : Cpu) (r : Roomed) → AnswersRoomed (ruling_of a (known_in p o) pid c) r → AnswersRoomed (ruling_of a (known_of s w) pid c) r
+  row_by a c r h = subst (λ (x : Ruling). AnswersRoomed x r) (ruling_is a c) h
+
+  pub cpu_by : (a : SegmentArguments) (c new : Cpu) → new ≡ cpu_of a (known_in p o) pid c → new ≡ cpu_of a (known_of s w) pid c
+  cpu_by a c new h = h ∙ sym (same_cpu p.maps (known_of s w) (known_in p o) known pid here c a)
+
+  -- behind it
+  pub behind_by : (a : SegmentArguments) (c : Cpu) (r : Roomed) (q : Parts) → Matches q (with_all w (changes_roomed (ruling_of a (known_in p o) pid c) r))
+      → Matches q (with_all w (changes_roomed (ruling_of a (known_of s w) pid c) r))
+  behind_by a c r q h = subst (λ (x : Ruling). Matches q (with_all w (changes_roomed x r))) (ruling_is a c) h
+
+  -- at a stop the store has made no more
+  same_made : (t : Shelf) (n : Maps) (after : ℕ → List ℕ) → Matches (moved p t n after) (with_all w []) → t.made ≡ sh.made
+  same_made t n after h = sym (ap (λ (x : World). x.next_name) (sym (nothing w)) ∙ h.made) ∙ (matches.made ∙ ap (λ (x : Shelf). x.made) over.store)
+
+  as_left : (t : Shelf) (n : Maps) (after : ℕ → List ℕ) → Matches (moved p t n after) (with_all w []) → Matches (moved p (record t { made = sh.made }) n after) (with_all w [])
+  as_left t n after h = subst (λ (k : ℕ). Matches (moved p (record t { made = k }) n after) (with_all w [])) (same_made t n after h) h
+
+  pub left_behind : (r : Ruling) (result : Roomed) (t : Shelf) (n : Maps) (after : ℕ → List ℕ) → Matches (moved p t n after) (with_all w (changes_roomed r result))
+      → Matches (moved p (left_by t sh.made result) n after) (with_all w (changes_roomed r result))
+  left_behind r (Done a) t n after h = h
+  left_behind r NoRoom t n after h = as_left t n after h
+  left_behind r SwapFull t n after h = as_left t n after h
+  left_behind r SwapFault t n after h = as_left t n after h
+
+  -- a call that touches no swap device
+  pub unmoved : (t : Shelf) (n : Maps) (u : World) → Matches (record p { shelf = t; maps = n }) u → Matches (moved p t n block) u
+  unmoved t n u h = subst (λ (z : ℕ → List ℕ). Matches (moved p t n z) u) over.blocks h
+
+  pub store_only : (t : Shelf) (n : Maps) (u : World) → n ≡ m → Matches (record p { shelf = t }) u → Matches (moved p t n block) u
+  store_only t n u same h = unmoved t n u (subst (λ (z : Maps). Matches (record p { shelf = t; maps = z }) u) (over.regions ∙ sym same) h)
+
+  pub maps_only : (t : Shelf) (n : Maps) (u : World) → t ≡ sh → Matches (record p { maps = n }) u → Matches (moved p t n block) u
+  maps_only t n u same h = unmoved t n u (subst (λ (z : Shelf). Matches (record p { shelf = z; maps = n }) u) (over.store ∙ sym same) h)
+
+  pub sized_only : (selector : ℕ) (t : Shelf) (n : Maps) → t ≡ sh → n ≡ m → Matches (moved p t n block) (with_all w (sizing (known_in p o) pid selector).changes)
+  sized_only selector t n store regions =
+      subst (λ (cs : List Change). Matches (moved p t n block) (with_all w cs)) (sym (sizing_still (known_in p o) pid selector))
+      (subst (λ (u : World). Matches (moved p t n block) u) (sym (nothing w)) (store_only t n w regions (subst (λ (z : Shelf). Matches (record p { shelf = z }) w) (over.store ∙ sym store) matches)))
+
+  pub loses : (selector : ℕ) (c : Cpu) → (freeing (known_in p o) pid selector c).error ≡ 0 → LosesOne w pid (selector / 8)
+  loses selector c zero =
+      let f = is_freed (known_in p o) pid selector c zero in
+      loses_one w pid (selector / 8) f.held (let l = process.0 in omega (arith, l)) over.stands.tidy (over.stands.held pid (selector / 8) ∙ f.there) f.called

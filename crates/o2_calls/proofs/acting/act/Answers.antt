@@ -1,0 +1,104 @@
+-- Each call is its row.
+use Rattle.std.proofs.Common.{refl, sym, subst, ◌≡◌}
+use Rattle.o2_regions.specs.declared.answer.Roomed.TheVariants.{Done}
+use Rattle.o2_gate.specs.declared.gathering.SegmentArguments.TheVariants.{Alloc, Realloc, Free, Size, Lock, Unlock, Alias}
+use Rattle.o2_stands.specs.Knows.{known_in, others_of}
+use Rattle.o2_stands.proofs.Matching.{matched_by}
+use Rattle.o2_calls.proofs.Overs.{behind_by, cpu_by, left_behind, loses, maps_only, none_next, row_by, sized_only, store_only, unmoved}
+use Rattle.o2_gate.specs.declared.gathering.SegmentArguments.{SegmentArguments}
+use Rattle.o2_stands.specs.Moves.{moved}
+use Rattle.o2_stands.specs.Stands.{Matches}
+use Rattle.o2_world.specs.Changes.{with_all}
+use Rattle.o2_world.specs.Known.{known_of}
+use Rattle.o2_world.specs.Rulings.{aliasing, freeing, locking, reallocation, unlocking}
+use Rattle.o2_segs.specs.Answers.{Answers, AnswersRoomed, changes_roomed}
+use Rattle.o2_calls.specs.Acts.{cpu_of, ruling_of}
+use Rattle.o2_segs.specs.Made.{left_by}
+use Rattle.o2_calls.proofs.acting.act.Goals as goal
+
+pub returns-in-Alloc-clause-row : goal.returns-in-Alloc-clause-row
+returns-in-Alloc-clause-row g c = λ p s w over.
+    subst (λ (a : SegmentArguments). AnswersRoomed (ruling_of a (known_of s w) c.args.pid c.args.cpu.now) c.alloc_seg.result) (sym c.in-Alloc.is)
+    (row_by _ _ _ _ p s w over c.args.pid c.requires.process (Alloc c.in-Alloc.size 0 0 c.in-Alloc.flags) c.args.cpu.now c.alloc_seg.result (c.alloc_seg.ensures.answer p (others_of s w) over.store over.regions))
+
+pub returns-in-Alloc-clause-matches : goal.returns-in-Alloc-clause-matches
+returns-in-Alloc-clause-matches g c = λ p s w x over told at tied.
+    subst (λ (a : SegmentArguments). Matches (moved p (left_by c.alloc_seg.new.store c.args.store.now.made c.alloc_seg.result) c.alloc_seg.new.regions (g.S.SwapDevice.block c.alloc_seg.new.swap)) (with_all w (changes_roomed (ruling_of a (known_of s w) c.args.pid c.args.cpu.now) c.alloc_seg.result))) (sym c.in-Alloc.is)
+    (behind_by _ _ _ _ p s w over c.args.pid c.requires.process (Alloc c.in-Alloc.size 0 0 c.in-Alloc.flags) c.args.cpu.now c.alloc_seg.result _
+    (c.alloc_seg.ensures.matches p (others_of s w) w x over.store over.regions over.pictures over.blocks told at (none_next w tied) (matched_by p w.processes w.names w.next_name w.reserved over.stands)))
+
+pub returns-in-Realloc-clause-row : goal.returns-in-Realloc-clause-row
+returns-in-Realloc-clause-row g c = λ p s w over.
+    subst (λ (a : SegmentArguments). AnswersRoomed (ruling_of a (known_of s w) c.args.pid c.args.cpu.now) c.realloc_seg.result) (sym c.in-Realloc.is)
+    (row_by _ _ _ _ p s w over c.args.pid c.requires.process (Realloc c.in-Realloc.size c.in-Realloc.selector) c.args.cpu.now c.realloc_seg.result (c.realloc_seg.ensures.answer p (others_of s w) over.store over.regions))
+
+pub returns-in-Realloc-clause-matches : goal.returns-in-Realloc-clause-matches
+returns-in-Realloc-clause-matches g c = λ p s w x over told at tied.
+    subst (λ (a : SegmentArguments). Matches (moved p (left_by c.realloc_seg.new.store c.args.store.now.made c.realloc_seg.result) c.realloc_seg.new.regions (g.S.SwapDevice.block c.realloc_seg.new.swap)) (with_all w (changes_roomed (ruling_of a (known_of s w) c.args.pid c.args.cpu.now) c.realloc_seg.result))) (sym c.in-Realloc.is)
+    (behind_by _ _ _ _ p s w over c.args.pid c.requires.process (Realloc c.in-Realloc.size c.in-Realloc.selector) c.args.cpu.now c.realloc_seg.result _
+    (left_behind _ _ _ _ p s w over c.args.pid c.requires.process (reallocation (known_in p (others_of s w)) c.args.pid c.in-Realloc.size c.in-Realloc.selector) _ _ _ _
+    (c.realloc_seg.ensures.matches p (others_of s w) w over.store over.regions over.pictures over.blocks told (matched_by p w.processes w.names w.next_name w.reserved over.stands))))
+
+pub returns-in-Free-clause-row : goal.returns-in-Free-clause-row
+returns-in-Free-clause-row g c = λ p s w over.
+    subst (λ (a : SegmentArguments). Answers (ruling_of a (known_of s w) c.args.pid c.args.cpu.now) c.free_seg.result) (sym c.in-Free.is)
+    (row_by _ _ _ _ p s w over c.args.pid c.requires.process (Free c.in-Free.selector) c.args.cpu.now (Done c.free_seg.result) (c.free_seg.ensures.answer p (others_of s w) over.store over.regions))
+
+pub returns-in-Free-clause-registers : goal.returns-in-Free-clause-registers
+returns-in-Free-clause-registers g c = λ p s w over.
+    subst (λ (a : SegmentArguments). c.free_seg.new.cpu ≡ cpu_of a (known_of s w) c.args.pid c.args.cpu.now) (sym c.in-Free.is)
+    (cpu_by _ _ _ _ p s w over c.args.pid c.requires.process (Free c.in-Free.selector) c.args.cpu.now c.free_seg.new.cpu (c.free_seg.ensures.registers p (others_of s w) over.store over.regions))
+
+pub returns-in-Free-clause-matches : goal.returns-in-Free-clause-matches
+returns-in-Free-clause-matches g c = λ p s w x over told at tied.
+    subst (λ (a : SegmentArguments). Matches (moved p c.free_seg.new.store c.free_seg.new.regions (g.S.SwapDevice.block c.args.swap.now)) (with_all w (ruling_of a (known_of s w) c.args.pid c.args.cpu.now).changes)) (sym c.in-Free.is)
+    (behind_by _ _ _ _ p s w over c.args.pid c.requires.process (Free c.in-Free.selector) c.args.cpu.now (Done c.free_seg.result) _
+    (unmoved _ _ _ _ p s w over c.args.pid c.requires.process _ _ (with_all w (freeing (known_in p (others_of s w)) c.args.pid c.in-Free.selector c.args.cpu.now).changes)
+    (c.free_seg.ensures.matches p (others_of s w) w x over.store over.regions at (loses _ _ _ _ p s w over c.args.pid c.requires.process c.in-Free.selector c.args.cpu.now) (matched_by p w.processes w.names w.next_name w.reserved over.stands))))
+
+pub returns-in-Size-clause-row : goal.returns-in-Size-clause-row
+returns-in-Size-clause-row g c = λ p s w over.
+    subst (λ (a : SegmentArguments). Answers (ruling_of a (known_of s w) c.args.pid c.args.cpu.now) c.size_seg.result) (sym c.in-Size.is)
+    (row_by _ _ _ _ p s w over c.args.pid c.requires.process (Size c.in-Size.selector 0 0) c.args.cpu.now (Done c.size_seg.result) (c.size_seg.ensures.answer p (others_of s w) over.store over.regions))
+
+pub returns-in-Size-clause-matches : goal.returns-in-Size-clause-matches
+returns-in-Size-clause-matches g c = λ p s w x over told at tied.
+    subst (λ (a : SegmentArguments). Matches (moved p c.size_seg.new.store c.size_seg.new.regions (g.S.SwapDevice.block c.args.swap.now)) (with_all w (ruling_of a (known_of s w) c.args.pid c.args.cpu.now).changes)) (sym c.in-Size.is)
+    (behind_by _ _ _ _ p s w over c.args.pid c.requires.process (Size c.in-Size.selector 0 0) c.args.cpu.now (Done c.size_seg.result) _
+    (sized_only _ _ _ _ p s w over c.args.pid c.requires.process c.in-Size.selector _ _ c.size_seg.ensures.store c.size_seg.ensures.regions))
+
+pub returns-in-Lock-clause-row : goal.returns-in-Lock-clause-row
+returns-in-Lock-clause-row g c = λ p s w over.
+    subst (λ (a : SegmentArguments). AnswersRoomed (ruling_of a (known_of s w) c.args.pid c.args.cpu.now) c.lock_seg.result) (sym c.in-Lock.is)
+    (row_by _ _ _ _ p s w over c.args.pid c.requires.process (Lock c.in-Lock.selector) c.args.cpu.now c.lock_seg.result (c.lock_seg.ensures.answer p (others_of s w) over.store over.regions))
+
+pub returns-in-Lock-clause-matches : goal.returns-in-Lock-clause-matches
+returns-in-Lock-clause-matches g c = λ p s w x over told at tied.
+    subst (λ (a : SegmentArguments). Matches (moved p (left_by c.lock_seg.new.store c.args.store.now.made c.lock_seg.result) c.lock_seg.new.regions (g.S.SwapDevice.block c.lock_seg.new.swap)) (with_all w (changes_roomed (ruling_of a (known_of s w) c.args.pid c.args.cpu.now) c.lock_seg.result))) (sym c.in-Lock.is)
+    (behind_by _ _ _ _ p s w over c.args.pid c.requires.process (Lock c.in-Lock.selector) c.args.cpu.now c.lock_seg.result _
+    (left_behind _ _ _ _ p s w over c.args.pid c.requires.process (locking (known_in p (others_of s w)) c.args.pid c.in-Lock.selector) _ _ _ _
+    (c.lock_seg.ensures.matches p (others_of s w) w over.store over.regions over.pictures over.blocks told (matched_by p w.processes w.names w.next_name w.reserved over.stands))))
+
+pub returns-in-Unlock-clause-row : goal.returns-in-Unlock-clause-row
+returns-in-Unlock-clause-row g c = λ p s w over.
+    subst (λ (a : SegmentArguments). Answers (ruling_of a (known_of s w) c.args.pid c.args.cpu.now) c.unlock_seg.result) (sym c.in-Unlock.is)
+    (row_by _ _ _ _ p s w over c.args.pid c.requires.process (Unlock c.in-Unlock.selector) c.args.cpu.now (Done c.unlock_seg.result) (c.unlock_seg.ensures.answer p (others_of s w) over.store over.regions))
+
+pub returns-in-Unlock-clause-matches : goal.returns-in-Unlock-clause-matches
+returns-in-Unlock-clause-matches g c = λ p s w x over told at tied.
+    subst (λ (a : SegmentArguments). Matches (moved p c.unlock_seg.new.store c.unlock_seg.new.regions (g.S.SwapDevice.block c.args.swap.now)) (with_all w (ruling_of a (known_of s w) c.args.pid c.args.cpu.now).changes)) (sym c.in-Unlock.is)
+    (behind_by _ _ _ _ p s w over c.args.pid c.requires.process (Unlock c.in-Unlock.selector) c.args.cpu.now (Done c.unlock_seg.result) _
+    (store_only _ _ _ _ p s w over c.args.pid c.requires.process _ _ (with_all w (unlocking (known_in p (others_of s w)) c.args.pid c.in-Unlock.selector).changes) c.unlock_seg.ensures.regions
+    (c.unlock_seg.ensures.matches p (others_of s w) w over.store over.regions (matched_by p w.processes w.names w.next_name w.reserved over.stands))))
+
+pub returns-in-Alias-clause-row : goal.returns-in-Alias-clause-row
+returns-in-Alias-clause-row g c = λ p s w over.
+    subst (λ (a : SegmentArguments). Answers (ruling_of a (known_of s w) c.args.pid c.args.cpu.now) c.create_cs_alias.result) (sym c.in-Alias.is)
+    (row_by _ _ _ _ p s w over c.args.pid c.requires.process (Alias c.in-Alias.selector 0 0) c.args.cpu.now (Done c.create_cs_alias.result) (c.create_cs_alias.ensures.answer p (others_of s w) over.store over.regions))
+
+pub returns-in-Alias-clause-matches : goal.returns-in-Alias-clause-matches
+returns-in-Alias-clause-matches g c = λ p s w x over told at tied.
+    subst (λ (a : SegmentArguments). Matches (moved p c.create_cs_alias.new.store c.create_cs_alias.new.regions (g.S.SwapDevice.block c.args.swap.now)) (with_all w (ruling_of a (known_of s w) c.args.pid c.args.cpu.now).changes)) (sym c.in-Alias.is)
+    (behind_by _ _ _ _ p s w over c.args.pid c.requires.process (Alias c.in-Alias.selector 0 0) c.args.cpu.now (Done c.create_cs_alias.result) _
+    (maps_only _ _ _ _ p s w over c.args.pid c.requires.process _ _ (with_all w (aliasing (known_in p (others_of s w)) c.args.pid c.in-Alias.selector).changes) c.create_cs_alias.ensures.store
+    (c.create_cs_alias.ensures.matches p (others_of s w) w x over.store over.regions at (matched_by p w.processes w.names w.next_name w.reserved over.stands))))

@@ -1,0 +1,54 @@
+-- What a call on segments comes to in the world that a machine stands for.
+use Rattle.std.specs.Prelude.{◌≡◌, ℕ, true, List}
+use Rattle.o2_desc.specs.Bits.{has_bit}
+use Rattle.o2_image.specs.ImageList.{ImageList}
+use Rattle.o2_isa.specs.declared.cpu.Cpu.{Cpu}
+use Rattle.o2_regions.specs.Maps.{Maps}
+use Rattle.o2_store.specs.Shelf.{Shelf}
+use Rattle.o2_world.specs.World.{Setting, World}
+use Rattle.o2_world.specs.Known.{Known}
+use Rattle.o2_world.specs.Rulings.{Ruling, aliasing, allocation, freeing, freeing_cpu, locking, reallocation, sizing, unlocking}
+use Rattle.o2_gate.specs.declared.gathering.SegmentArguments.{SegmentArguments}
+use Rattle.o2_gate.specs.declared.gathering.SegmentArguments.TheVariants.{Alloc, Realloc, Free, Size, Lock, Unlock, Alias}
+use Rattle.o2_stands.specs.Parts.{Parts}
+use Rattle.o2_stands.specs.Stands.{AreLawful, IsSetTo, Stands}
+
+-- error, value and changes of the call by a process with these registers
+abbrev pub ruling_of : SegmentArguments → Known → (number : ℕ) → Cpu → Ruling
+ruling_of (Alloc size s o flags) k n c = allocation k n size flags
+ruling_of (Realloc size selector) k n c = reallocation k n size selector
+ruling_of (Free selector) k n c = freeing k n selector c
+ruling_of (Size selector s o) k n c = sizing k n selector
+ruling_of (Lock selector) k n c = locking k n selector
+ruling_of (Unlock selector) k n c = unlocking k n selector
+ruling_of (Alias selector s o) k n c = aliasing k n selector
+
+-- the registers behind it, as far as the call itself changes them: a free clears DS and ES
+abbrev pub cpu_of : SegmentArguments → Known → (number : ℕ) → Cpu → Cpu
+cpu_of (Alloc size s o flags) k n c = c
+cpu_of (Realloc size selector) k n c = c
+cpu_of (Free selector) k n c = freeing_cpu k n selector c
+cpu_of (Size selector s o) k n c = c
+cpu_of (Lock selector) k n c = c
+cpu_of (Unlock selector) k n c = c
+cpu_of (Alias selector s o) k n c = c
+
+-- only a call that sizes or locks may stop
+abbrev pub MayStop : SegmentArguments → Type 0
+MayStop (Alloc size s o flags) = has_bit flags 2 ≡ true
+MayStop (Realloc size selector) = Unit {0}
+MayStop (Free selector) = ⊥
+MayStop (Size selector s o) = ⊥
+MayStop (Lock selector) = Unit {0}
+MayStop (Unlock selector) = ⊥
+MayStop (Alias selector s o) = ⊥
+
+-- A machine with this store, these maps, images and blocks has what the setting says and stands for the world.
+pub record IsOver (shelf : Shelf) (maps : Maps) (images : ImageList) (block : ℕ → List ℕ) (p : Parts) (s : Setting) (w : World) : Type 0 where
+  pub store : p.shelf ≡ shelf
+  pub regions : p.maps ≡ maps
+  pub pictures : p.images ≡ images
+  pub blocks : p.block ≡ block
+  pub lawful : AreLawful p.shelf p.maps
+  pub set : IsSetTo p s
+  pub stands : Stands p w

@@ -1,0 +1,103 @@
+// A call on segments over a store and the tables of what processes hold.
+ghost use Rattle.std.specs.Prelude.{◌≡◌, ◌-◌, ◌<◌, ◌≤◌, ◌^◌, IsTrue, Some};
+ghost use Rattle.o2_outer.specs.Texts.{Rose};
+ghost use Rattle.o2_regions.specs.Maps.{IsProcess};
+ghost use Rattle.o2_segbus.specs.Seen.{AreNamed};
+ghost use Rattle.o2_store.specs.Pictures.{HasPicture, picture};
+ghost use Rattle.o2_store.specs.Shelf.{AreClean, HasAll};
+ghost use Rattle.o2_swapmap.specs.Piles.{all_of};
+ghost use Rattle.o2_changes.specs.Order.{IsInOrder};
+ghost use Rattle.o2_stands.specs.Moves.{moved};
+ghost use Rattle.o2_stands.specs.Parts.{Parts};
+ghost use Rattle.o2_stands.specs.Stands.{Matches};
+ghost use Rattle.o2_world.specs.Changes.{with_all};
+ghost use Rattle.o2_world.specs.Holders.{process_at};
+ghost use Rattle.o2_world.specs.Known.{known_of};
+ghost use Rattle.o2_world.specs.Tied.{IsTied};
+ghost use Rattle.o2_world.specs.World.{Process, Setting, World};
+ghost use Rattle.o2_segs.specs.Answers.{AnswersRoomed, AreAlone, changes_roomed};
+ghost use Rattle.o2_segs.specs.Made.{IsStop, left_by};
+ghost use Rattle.o2_calls.specs.Acts.{IsOver, MayStop, cpu_of, ruling_of};
+
+use o2_gate::SegmentArguments;
+use o2_image::Images;
+use o2_isa::Cpu;
+use o2_locks::{lock_seg, unlock_seg};
+use o2_outer::SwapDevice;
+use o2_place::SegId;
+use o2_regions::{Regions, Roomed};
+use o2_segs::{alloc_seg, create_cs_alias, free_seg, realloc_seg, size_seg};
+use o2_store::Store;
+
+/// A call on segments by process `pid`, with these registers and arguments, where its pointer is good. What it answers is the
+/// row's error number and value, and the machine then matches the world with the row's changes; the registers are those that
+/// the call itself changes. Where it wants room for a size or a lock, it has it together with the segments of `keep` and those
+/// that are locked, or it stops, and then nothing is changed, but that the store may have counted one segment more.
+pub fn act<S: SwapDevice>(
+    arguments: SegmentArguments,
+    pid: u16,
+    cpu: &mut Cpu,
+    store: &mut Store,
+    regions: &mut Regions,
+    keep: &[SegId],
+    images: &Images,
+    swap: &mut S,
+) -> Roomed
+    requires process { IsProcess regions.old pid }
+    requires named { AreNamed store.old regions.old }
+    requires made { store.old.made < 2 ^ 64 - 1 }
+    requires order { IsInOrder store.old regions.old }
+    requires pictures { HasAll (HasPicture images.now) store.old }
+    requires clean { AreClean store.old (picture images.now) }
+    requires device { all_of store.old.swap ≤ S.blocks swap.old }
+    requires alone { AreAlone regions.old }
+
+    // The row of the call in the world for which the machine stands.
+    ensures row { (p : Parts) (s : Setting) (w : World)
+        → IsOver store.old regions.old images.now (S.block swap.old) p s w
+        → AnswersRoomed (ruling_of arguments (known_of s w) pid cpu.old) result }
+    ensures registers { (p : Parts) (s : Setting) (w : World)
+        → IsOver store.old regions.old images.now (S.block swap.old) p s w
+        → cpu.new ≡ cpu_of arguments (known_of s w) pid cpu.old }
+    ensures matches { (p : Parts) (s : Setting) (w : World) (x : Process)
+        → IsOver store.old regions.old images.now (S.block swap.old) p s w
+        → IsTrue (S.told swap.old)
+        → process_at w.processes pid ≡ Some x → IsTied w
+        → Matches (moved p (left_by store.new store.old.made result) regions.new (S.block swap.new))
+        (with_all w (changes_roomed (ruling_of arguments (known_of s w) pid cpu.old) result)) }
+    ensures stops { IsStop result → MayStop arguments }
+    ensures order { IsInOrder store.new regions.new }
+    ensures faults { S.faults swap.old ≤ S.faults swap.new }
+    ensures cause { result ≡ Roomed.SwapFault → Rose (S.faults swap.old) (S.faults swap.new) }
+{
+    match arguments {
+        SegmentArguments::Alloc {
+            size,
+            to_selector: _,
+            to_offset: _,
+            flags,
+        } => alloc_seg(store, regions, pid, size, flags, keep, images, swap),
+        SegmentArguments::Realloc { size, selector } => realloc_seg(
+            store, regions, pid, size, selector, keep, images, swap,
+        ),
+        SegmentArguments::Free(selector) => {
+            Roomed::Done(free_seg(store, regions, pid, selector, cpu))
+        }
+        SegmentArguments::Size {
+            selector,
+            to_selector: _,
+            to_offset: _,
+        } => Roomed::Done(size_seg(store, regions, pid, selector)),
+        SegmentArguments::Lock(selector) => {
+            lock_seg(store, regions, pid, selector, keep, images, swap)
+        }
+        SegmentArguments::Unlock(selector) => {
+            Roomed::Done(unlock_seg(store, regions, pid, selector))
+        }
+        SegmentArguments::Alias {
+            selector,
+            to_selector: _,
+            to_offset: _,
+        } => Roomed::Done(create_cs_alias(store, regions, pid, selector)),
+    }
+}

@@ -1,0 +1,8 @@
+//! The calls of DOSCALLS on segments over a machine that stands for a world: each is its row.
+#![tactic(auto)]
+
+mod acting;
+mod laws;
+
+pub use acting::act;
+pub use laws::{an_end_sweeps_once, calls_come_back_by_their_rulings};
