@@ -1,5 +1,5 @@
 -- Each call is its row.
-use Rattle.std.proofs.Common.{refl, sym, subst, ◌≡◌}
+use Rattle.std.proofs.Common.{sym, subst, ◌≡◌}
 use Rattle.o2_regions.specs.declared.answer.Roomed.TheVariants.{Done}
 use Rattle.o2_gate.specs.declared.gathering.SegmentArguments.TheVariants.{Alloc, Realloc, Free, Size, Lock, Unlock, Alias}
 use Rattle.o2_stands.specs.Knows.{known_in, others_of}
