@@ -17,6 +17,3 @@ pub use entries::{Entries, Entry};
 pub use head::Head;
 pub use names::{Name, Names, is_same_name};
 pub use o2_base::{Bytes, Fail, NeFault, NoMemory, Which};
-
-#[cfg(test)]
-mod tests;

@@ -1,6 +1,6 @@
 // Random rows and records, written from what they must be read as.
-use crate::{Kind, Part, Reloc, Relocs, SegFault, SegTable, Segment};
 use o2_base::NoMemory;
+use o2_ne_segs::{Kind, Part, Reloc, Relocs, SegFault, SegTable, Segment};
 use std::alloc::Global;
 use std::test::Fail;
 
@@ -106,7 +106,7 @@ fn random_table(
 }
 
 // The table at the beginning of a file, or its first fault.
-fn table_in(alloc: Global, file: &[u8], count: u16, shift: u16) -> Result<SegTable, SegFault> {
+pub fn table_in(alloc: Global, file: &[u8], count: u16, shift: u16) -> Result<SegTable, SegFault> {
     if file.len() > 4_194_304 || shift > 15 {
         return Err(SegFault::NoMemory);
     }

@@ -1,6 +1,6 @@
 // Random tables, read and then compared with a list that is kept beside them.
-use crate::tests::{entries_in, is_ordinal, names_in};
-use crate::{Entries, Names, NoMemory};
+use crate::ne::{entries_in, is_ordinal, names_in};
+use o2_ne::{Entries, Names, NoMemory};
 use std::alloc::Global;
 use std::test::Fail;
 

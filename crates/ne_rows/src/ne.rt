@@ -1,4 +1,4 @@
-use super::*;
+use o2_ne::{Entries, Head, Names, NeFault, NoMemory};
 use std::alloc::Global;
 use std::test::Fail as TestFail;
 
