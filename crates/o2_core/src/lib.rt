@@ -7,6 +7,3 @@ mod step;
 pub use o2_bus::{Bus, Cpu, Outcome, Plain};
 pub use plain_step::step_plain;
 pub use step::step_one;
-
-#[cfg(test)]
-mod tests;
