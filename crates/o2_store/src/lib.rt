@@ -19,6 +19,3 @@ mod windows;
 pub use brought::{Brought, Place};
 pub use o2_entries::Attr;
 pub use store::Store;
-
-#[cfg(test)]
-mod tests;

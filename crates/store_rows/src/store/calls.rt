@@ -3,10 +3,10 @@ ghost use Rattle.std.specs.Prelude.{◌≡◌, ◌+◌, ◌<◌, ◌≤◌, ◌^
 ghost use Rattle.o2_store.specs.Pictures.{HasPicture};
 ghost use Rattle.o2_store.specs.Trials.{IsReady};
 
-use crate::{Attr, Brought, Store};
 use o2_image::Images;
 use o2_outer::SwapDevice;
 use o2_place::SegId;
+use o2_store::{Attr, Brought, Store};
 
 fn attributes(clean: bool) -> Attr
     ensures { result ≡ record { flags = 0; lock = 0; clean = clean; shared = false } }

@@ -4,11 +4,11 @@ ghost use Rattle.o2_store.specs.Pictures.{HasPicture};
 ghost use Rattle.o2_store.specs.Trials.{IsReady};
 
 use super::calls::{add, add_environment, bring, evict, lock, remove, resize, touch, write};
-use crate::{Brought, Store};
 use o2_base::Bytes;
 use o2_image::Images;
 use o2_outer::{MemSwap, SwapDevice};
 use o2_place::SegId;
+use o2_store::{Brought, Store};
 use std::alloc::Global;
 use std::test::Fail;
 
@@ -57,7 +57,7 @@ fn bytes_of(alloc: Global, size: u32, environment: bool) -> Result<Vec<u8>, Fail
 }
 
 /// Images of no module and one environment.
-#[tactic(auto, using(crate::proofs::Ready::first_environment))]
+#[tactic(auto, using(o2_store::proofs::Ready::first_environment))]
 pub fn environment(alloc: Global) -> Result<Images, Fail>
     ensures { IfOk result (λ images. HasPicture images 0 1) }
 {

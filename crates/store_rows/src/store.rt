@@ -5,9 +5,10 @@ mod calls;
 mod plain;
 mod sharing;
 
-use crate::Store;
 use o2_image::Images;
 use o2_outer::SureSwap;
+use o2_store::Store;
+use sharing::{CHANGED, TWO, first_wrong};
 use std::test::Fail;
 
 #[test]
@@ -15,7 +16,9 @@ fn segments_share_the_memory(rt: HostRuntime) -> Result<(), Fail> {
     let mut store = Store::make(rt.alloc(), 1024, 16, 4)?;
     let mut swap = SureSwap::new(rt.alloc(), 16)?;
     let images = Images::new(Vec::new(rt.alloc()), Vec::new(rt.alloc()));
-    sharing::share(&mut store, &images, &mut swap)
+    let wrong = first_wrong(&mut store, &images, &mut swap, (600, 700), TWO)?;
+    assert_eq!(rt; wrong, "");
+    Ok(())
 }
 
 #[test]
@@ -23,7 +26,9 @@ fn the_device_at_hand_tells_the_bytes(rt: HostRuntime) -> Result<(), Fail> {
     let mut store = Store::make(rt.alloc(), 1024, 16, 4)?;
     let mut swap = SureSwap::new(rt.alloc(), 16)?;
     let images = Images::new(Vec::new(rt.alloc()), Vec::new(rt.alloc()));
-    sharing::change_block(&mut store, &images, &mut swap)
+    let wrong = first_wrong(&mut store, &images, &mut swap, (16, 16), CHANGED)?;
+    assert_eq!(rt; wrong, "");
+    Ok(())
 }
 
 /// A memory for one segment, and for more of them up to all.
