@@ -3,7 +3,7 @@ ghost use Rattle.std.specs.Prelude.{◌≡◌, ◌≤◌, ◌<◌, ◌-◌, true
 ghost use Rattle.std.specs.List.{list_any};
 ghost use Rattle.o2_conf.specs.Dispatch.{counted};
 
-use crate::place::{Place, advanced, fill_turns};
+use crate::place::{Place, advanced, fill_turns, is_live};
 use o2_base::NoMemory;
 use o2_conf::{Conf, Word};
 use std::alloc::Global;
@@ -45,7 +45,7 @@ impl Model for Sched {
 }
 
 impl Sched {
-    ghost use Rattle.o2_sched.specs.Schedule.{Schedule, next_of, pick_of, is_step, PicksLive, opening_dispatch};
+    ghost use Rattle.o2_sched.specs.Schedule.{Schedule, ahead_of, next_of, pick_of, is_step, taken, PicksLive, opening_dispatch};
 
     /// The schedule of so many processes, before their first step. The budget is the steps of the whole run, and the quantum
     /// those of a turn.
@@ -139,6 +139,36 @@ impl Sched {
             ..place
         };
         self.budget -= 1;
+    }
+
+    /// The process of the slice or turn that was begun last.
+    pub fn current(&self) -> u16
+        ensures { result ≡ self.now.dispatch.current }
+    {
+        self.place.current
+    }
+
+    /// How many steps of the turn that was begun last may be taken at once: all that are left but its last one, within the budget,
+    /// where its process lives.
+    pub fn ahead(&mut self) -> u32
+        ensures value { result ≡ ahead_of self.old }
+        ensures same { self.new ≡ self.old }
+    {
+        if self.any_lives && self.place.left > 1 && is_live(&self.flags, self.place.current) {
+            (self.place.left - 1).min(self.budget)
+        } else {
+            0
+        }
+    }
+
+    /// So many steps of the turn that was begun last are done.
+    pub fn take(&mut self, steps: u32)
+        requires turn { steps ≤ self.old.dispatch.left }
+        requires budget { steps ≤ self.old.dispatch.budget }
+        ensures { self.new ≡ record self.old { dispatch = taken steps self.old.dispatch } }
+    {
+        self.place.left -= steps;
+        self.budget -= steps;
     }
 
     /// A process has ended.
