@@ -1,0 +1,3 @@
+pub mod OverBus
+pub mod Laters
+pub mod Seats

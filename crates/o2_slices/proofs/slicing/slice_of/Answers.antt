@@ -1,0 +1,71 @@
+use Rattle.std.proofs.Common.{◌≡◌, ℕ, ◌-◌, ◌==◌, List, [], Option, Some, ap, sym, ◌∙◌, refl, subst, arith, if◌then◌else◌}
+use Rattle.o2_world.specs.declared.types.State.TheVariants.{Live}
+use Rattle.o2_stands.specs.Parts.{Running}
+use Rattle.o2_stands.specs.Stands.{Stands, IsSetTo}
+use Rattle.o2_slices.specs.Slices.{Seat, seat}
+use Rattle.o2_space.specs.declared.space.Proc.{Proc}
+use Rattle.o2_slices.specs.Laters.{StandsLater}
+use Rattle.o2_space.specs.Parts.{parts_in, running_at}
+use Rattle.o2_space.proofs.Alike.{made, ready_as, set_as}
+use Rattle.o2_space.proofs.Behind.{set_behind}
+use Rattle.o2_space.proofs.Commits.{count_put, marked_put, now}
+use Rattle.o2_slices.proofs.Laters.{sliced_later}
+use Rattle.o2_slices.proofs.Seats.{runs_before, runs_behind, sliced_keeps}
+use Rattle.o2_slices.proofs.slicing.slice_of.Goals as goal
+
+pub slice_in_store-done-requires-clause-process : goal.slice_in_store-done-requires-clause-process
+slice_in_store-done-requires-clause-process c = (c.requires.some, (let a = c.requires.there in let b = c.requires.together.over.numbers in omega (arith, a, b)))
+
+pub slice_in_store-done-requires-clause-named : goal.slice_in_store-done-requires-clause-named
+slice_in_store-done-requires-clause-named c = (c.requires.together.over.ready (λ k. [])).named
+
+pub slice_in_store-done-requires-clause-settled : goal.slice_in_store-done-requires-clause-settled
+slice_in_store-done-requires-clause-settled c = (c.requires.together.over.ready (λ k. [])).settled
+
+pub returns-clause-later : goal.returns-clause-later
+returns-clause-later c = λ device block s w stands set runs chosen turn budget.
+    let m = c.args.space.now in
+    let pid = c.args.pid in
+    let y : Proc = c.index.result.now in
+    let new = c.slice_in_store-done.new in
+    let k = c.slice_in_store-done.result in
+    let a : Seat = seat m.store m.regions y.cpu in
+    let b : Seat = seat new.store new.regions new.cpu in
+    let before = runs_before m.procs.items pid c.requires.some c.requires.there y c.index.ensures m.ends c.requires.together.over.marked c.requires.live in
+    let behind = runs_behind m.procs.items pid c.requires.some c.requires.there (record { cpu = new.cpu; state = Live }) in
+    let within = c.slice_in_store-done.ensures.within in
+    subst (λ (f : ℕ → Option Running). StandsLater (made new.store new.regions m.images device block f) s w k) (sym behind)
+    (sliced_later pid m.images device block (running_at m.procs.items) s w runs chosen k a b c.slice_in_store-done.ensures.sliced
+    (record {
+      stands = subst (λ (f : ℕ → Option Running). Stands (made m.store m.regions m.images device block f) w) before stands;
+      set = set_as m.store m.regions m.images device block block (running_at m.procs.items) _ s set;
+      lawful = c.lawful.ensures;
+    })
+    (omega (arith, turn, within)) (omega (arith, budget, within)))
+
+pub returns-clause-together : goal.returns-clause-together
+returns-clause-together c = λ device together.
+    let m = c.args.space.now in
+    let pid = c.args.pid in
+    let y : Proc = c.index.result.now in
+    let new = c.slice_in_store-done.new in
+    let x : Proc = record { cpu = new.cpu; state = Live } in
+    let keeps = sliced_keeps pid c.slice_in_store-done.result (seat m.store m.regions y.cpu) (seat new.store new.regions new.cpu) c.slice_in_store-done.ensures.sliced in
+    record {
+      ready = λ block.
+          ready_as new.store new.regions m.images device block block (running_at m.procs.items) (running_at (now m.procs.items pid x c.requires.some c.requires.there))
+          (keeps.ready m.images device block (running_at m.procs.items) (together.ready block));
+      numbers = (let a = together.numbers in let b = count_put m.procs.items pid x c.requires.some c.requires.there in let d = keeps.shape.holds.processes in omega (arith, a, b, d));
+      marked = marked_put m.procs.items pid x c.requires.some c.requires.there m.ends together.marked c.requires.live;
+    }
+
+pub returns-clause-set : goal.returns-clause-set
+returns-clause-set c = λ device block s set.
+    let m = c.args.space.now in
+    let pid = c.args.pid in
+    let y : Proc = c.index.result.now in
+    let new = c.slice_in_store-done.new in
+    let x : Proc = record { cpu = new.cpu; state = Live } in
+    let keeps = sliced_keeps pid c.slice_in_store-done.result (seat m.store m.regions y.cpu) (seat new.store new.regions new.cpu) c.slice_in_store-done.ensures.sliced in
+    set_as new.store new.regions m.images device block block (running_at m.procs.items) (running_at (now m.procs.items pid x c.requires.some c.requires.there)) s
+    (set_behind (parts_in m device block) new.store new.regions device block keeps.shape s refl set)

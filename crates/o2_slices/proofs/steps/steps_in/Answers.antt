@@ -1,0 +1,36 @@
+use Rattle.std.proofs.Common.{◌≡◌, ap, sym, ◌∙◌, refl, inl, inr, arith, false}
+use Rattle.o2_slices.proofs.OverBus.{one_more}
+use Rattle.o2_slices.proofs.steps.steps_in.Goals as goal
+
+pub steps-init : goal.steps-init
+steps-init c = record {
+  steps = refl;
+  within = omega arith;
+  same_store = refl;
+  same_regions = refl;
+  process = c.requires.process;
+  holds = c.requires.holds;
+  agrees = c.requires.agrees;
+}
+
+pub steps-preserved : goal.steps-preserved
+steps-preserved c =
+    let e = c.step_in.ensures in
+    record {
+      steps = one_more c.args.pid c.steps.done _ _ _ c.steps.invariant.steps (e.step c.if-not-step_in.false);
+      within = omega (arith, c.steps-test.true);
+      same_store = e.same_store ∙ c.steps.invariant.same_store;
+      same_regions = e.same_regions ∙ c.steps.invariant.same_regions;
+      process = e.process;
+      holds = e.holds;
+      agrees = e.agrees;
+    }
+
+pub returns-then-not-step_in-clause-sliced : goal.returns-then-not-step_in-clause-sliced
+returns-then-not-step_in-clause-sliced c = record { last = _; steps = c.steps.invariant.steps; behind = inr (c.step_in.ensures.still c.if-not-step_in.true) }
+
+pub returns-else-not-has_trap_flag-clause-sliced : goal.returns-else-not-has_trap_flag-clause-sliced
+returns-else-not-has_trap_flag-clause-sliced c = record { last = _; steps = c.steps.invariant.steps; behind = inl refl }
+
+pub returns-after-steps-clause-sliced : goal.returns-after-steps-clause-sliced
+returns-after-steps-clause-sliced c = record { last = _; steps = c.steps.invariant.steps; behind = inl refl }

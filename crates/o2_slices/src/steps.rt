@@ -1,0 +1,127 @@
+// Steps of a process over a store that are done at once, one behind another.
+ghost use Rattle.std.specs.Prelude.{◌≡◌, ◌≤◌, ℕ, List, Option, Some, true, false};
+ghost use Rattle.o2_isa.specs.View.{Agrees, Filling, IsBound, KeepsFrame, bound_registers, whole};
+ghost use Rattle.o2_isa.specs.Writes.{WritesData};
+ghost use Rattle.o2_regions.specs.Maps.{IsProcess};
+ghost use Rattle.o2_segbus.specs.Bus.{registers_of};
+ghost use Rattle.o2_segbus.specs.Frames.{CanStep};
+ghost use Rattle.o2_segbus.specs.Seen.{AreNamed, hold_in};
+ghost use Rattle.o2_segbus.specs.Settled.{IsSettled};
+ghost use Rattle.o2_world.specs.Known.{Known};
+ghost use Rattle.o2_world.specs.Effect.{effect, has_trap_flag as trap_flag_of};
+ghost use Rattle.o2_gate.specs.Befores.{before_call, boundless};
+ghost use Rattle.o2_gate.specs.Pointed.{ArePresent};
+ghost use Rattle.o2_run.specs.Room.{touched};
+ghost use Rattle.o2_stepping.specs.Ran.{IsDone};
+ghost use Rattle.o2_slices.specs.Slices.{AreSliced, IsStep, IsTry, quiet, seat};
+
+use crate::here::{are_here, has_trap_flag};
+use o2_bus::Bus;
+use o2_core::step_one;
+use o2_isa::{Cpu, Outcome};
+use o2_regions::Regions;
+use o2_segbus::SegBus;
+use o2_stands::lawful;
+use o2_store::Store;
+
+/// One step, where it is done at once; whether it is. It isn't where it misses a segment, calls a service or raises an exception:
+/// registers and bytes are then as before.
+#[inline(always)]
+fn done_at_once<B: Bus>(cpu: &mut Cpu, bus: &mut B) -> bool
+    requires clear { trap_flag_of cpu.old.flags ≡ false }
+    ensures done { result ≡ true → (f : Filling) (number : ℕ) (bytes : List ℕ) (known : Known)
+        (console report : Option (List ℕ)) → IsBound (B.view bus.old)
+        → IsDone (effect (before_call (boundless f (B.view bus.old)) number cpu.old bytes known)) quiet
+        cpu.new (whole f (B.view bus.new)).bytes (Some bytes) console console report report }
+    ensures present { result ≡ true → (f : Filling) (number : ℕ) (bytes : List ℕ) (known : Known) → IsBound (B.view bus.old)
+        → ArePresent (B.view bus.old) (touched (before_call (boundless f (B.view bus.old)) number cpu.old bytes known)) }
+    ensures still { result ≡ false → (cpu.new ≡ cpu.old) × (B.view bus.new ≡ B.view bus.old) }
+    ensures frame { KeepsFrame (B.view bus.old) (B.view bus.new) }
+    ensures writes { WritesData (B.view bus.old) (B.view bus.new) }
+    ensures agrees { Agrees cpu.old (B.view bus.old) → Agrees cpu.new (B.view bus.new) }
+{
+    match step_one(cpu, bus) {
+        Outcome::Done => true,
+        _ => false,
+    }
+}
+
+/// The same over the bus of a store, said of store and tables.
+#[inline(always)]
+fn step_in(pid: u16, cpu: &mut Cpu, bus: &mut SegBus<'_, '_>) -> bool
+    requires clear { trap_flag_of cpu.old.flags ≡ false }
+    requires process { IsProcess bus.old.regions.now pid }
+    requires holds { hold_in bus.old.regions.now bus.old.pid ≡ hold_in bus.old.regions.now pid }
+    requires agrees { registers_of bus.old.regions.now bus.old.pid bus.old.registers
+        ≡ bound_registers (hold_in bus.old.regions.now bus.old.pid) cpu.old }
+    ensures step { result ≡ true → IsStep pid (seat bus.old.store.now bus.old.regions.now cpu.old)
+        (seat bus.new.store.now bus.new.regions.now cpu.new) }
+    ensures still { result ≡ false → IsTry pid (seat bus.old.store.now bus.old.regions.now cpu.old)
+        (seat bus.new.store.now bus.new.regions.now cpu.new) }
+    ensures same_store { bus.new.store.ghost_name ≡ bus.old.store.ghost_name }
+    ensures same_regions { bus.new.regions.ghost_name ≡ bus.old.regions.ghost_name }
+    ensures process { IsProcess bus.new.regions.now pid }
+    ensures holds { hold_in bus.new.regions.now bus.new.pid ≡ hold_in bus.new.regions.now pid }
+    ensures agrees { registers_of bus.new.regions.now bus.new.pid bus.new.registers
+        ≡ bound_registers (hold_in bus.new.regions.now bus.new.pid) cpu.new }
+{
+    let done = done_at_once(cpu, bus);
+    bus.store.law();
+    lawful(bus.store, bus.regions);
+    done
+}
+
+/// So many steps over the bus at most; how many are done.
+fn steps_in(pid: u16, cpu: &mut Cpu, bus: &mut SegBus<'_, '_>, most: u32) -> u32
+    requires process { IsProcess bus.old.regions.now pid }
+    requires holds { hold_in bus.old.regions.now bus.old.pid ≡ hold_in bus.old.regions.now pid }
+    requires agrees { registers_of bus.old.regions.now bus.old.pid bus.old.registers
+        ≡ bound_registers (hold_in bus.old.regions.now bus.old.pid) cpu.old }
+    ensures sliced { AreSliced pid result (seat bus.old.store.now bus.old.regions.now cpu.old)
+        (seat bus.new.store.now bus.new.regions.now cpu.new) }
+    ensures within { result ≤ most }
+    ensures same_store { bus.new.store.ghost_name ≡ bus.old.store.ghost_name }
+    ensures same_regions { bus.new.regions.ghost_name ≡ bus.old.regions.ghost_name }
+{
+    let mut done = 0u32;
+    'steps: while done < most && !has_trap_flag(cpu.flags) {
+        if !step_in(pid, cpu, bus) {
+            return done;
+        }
+        done += 1;
+    }
+    done
+}
+
+/// Such steps over store and tables, where what the segment registers name is in memory. Their descriptors are looked up once for
+/// all these steps.
+fn slice_here(pid: u16, cpu: &mut Cpu, store: &mut Store, regions: &mut Regions, most: u32) -> u32
+    requires ready { CanStep store.old regions.old pid cpu.old }
+    ensures sliced { AreSliced pid result (seat store.old regions.old cpu.old) (seat store.new regions.new cpu.new) }
+    ensures within { result ≤ most }
+{
+    let mut bus = SegBus::new(store, regions, pid, cpu);
+    steps_in(pid, cpu, &mut bus, most)
+}
+
+/// So many steps of process `pid` at most, over what is in memory, one behind another; how many are done. They end before a step
+/// that isn't done at once, as it misses a segment, calls a service or raises an exception, and where the trap flag is set.
+/// There are none where a segment register names what is out of memory.
+pub fn slice_in_store(
+    pid: u16,
+    cpu: &mut Cpu,
+    store: &mut Store,
+    regions: &mut Regions,
+    most: u32,
+) -> u32
+    requires process { IsProcess regions.old pid }
+    requires named { AreNamed store.old regions.old }
+    requires settled { IsSettled store.old regions.old }
+    ensures sliced { AreSliced pid result (seat store.old regions.old cpu.old) (seat store.new regions.new cpu.new) }
+    ensures within { result ≤ most }
+{
+    if !are_here(regions, pid, cpu) {
+        return 0;
+    }
+    slice_here(pid, cpu, store, regions, most)
+}
