@@ -19,6 +19,3 @@ mod services;
 pub use checks::link;
 pub use fault::LinkFault;
 pub use linked::Linked;
-
-#[cfg(test)]
-mod tests;
