@@ -35,6 +35,3 @@ pub use stdin::{StdinSource, StreamSource};
 pub use streams::{StderrSink, StdoutSink, StreamSink};
 pub use sure::{SureSource, SureSwap};
 pub use swap::{Dev, SwapDevice};
-
-#[cfg(test)]
-mod tests;

@@ -1,7 +1,7 @@
 // The forms in memory and the adapters over the standard library's readers and writers.
 
-use crate::{Dev, MemSwap, Put, Sink, Source, StreamSink, StreamSource, SwapDevice, Took};
 use o2_base::NoMemory;
+use o2_outer::{Dev, MemSwap, Put, Sink, Source, StreamSink, StreamSource, SwapDevice, Took};
 use std::alloc::Global;
 use std::io;
 use std::io::{Read, Write};
@@ -49,10 +49,9 @@ fn a_piece_is_written_byte_by_byte_and_fails_where_nothing_is_taken(
     rt: HostRuntime,
 ) -> Result<(), Fail> {
     let mut sink = sink_over(rt.alloc(), 5, 0);
-    assert_eq!(rt; sink.put(b"abc"), Put::Done);
-    assert_eq!(rt; sink.put(b""), Put::Done);
-    assert_eq!(rt; sink.put(b"def"), Put::Failed);
-    assert_eq!(rt; sink.stream().bytes.as_slice(), b"abcde".as_slice());
+    let puts = [sink.put(b"abc"), sink.put(b""), sink.put(b"def")];
+    let held = sink.stream().bytes.as_slice() == b"abcde".as_slice();
+    assert!(rt; puts == [Put::Done, Put::Done, Put::Failed] && held);
     Ok(())
 }
 
@@ -60,10 +59,11 @@ fn a_piece_is_written_byte_by_byte_and_fails_where_nothing_is_taken(
 fn a_piece_holds_what_was_taken_before_an_error(rt: HostRuntime) -> Result<(), Fail> {
     for fails in 1..4usize {
         let mut sink = sink_over(rt.alloc(), 5, fails);
-        assert_eq!(rt; sink.put(b"abc"), Put::Failed);
-        assert_eq!(rt; sink.stream().bytes.as_slice(), &b"abc"[..fails - 1]);
-        assert_eq!(rt; sink.put(b"de"), Put::Done);
-        assert_eq!(rt; sink.stream().bytes.len(), fails + 1);
+        let failed = sink.put(b"abc") == Put::Failed;
+        let held = sink.stream().bytes.as_slice() == &b"abc"[..fails - 1];
+        let done = sink.put(b"de") == Put::Done;
+        let len = sink.stream().bytes.len();
+        assert!(rt; failed && held && done && len == fails + 1);
     }
     Ok(())
 }
@@ -73,17 +73,19 @@ fn a_device_fails_at_its_calls_and_at_one_write(rt: HostRuntime) -> Result<(), F
     let mut swap = MemSwap::new(rt.alloc(), 2, vec![in rt.alloc(); 3]?)?;
     swap.fail_write(3);
     let mut block = [7u8; 512];
-    assert_eq!(rt; swap.write(1, &block), Dev::Done);
-    assert_eq!(rt; swap.read(0, &mut block), Dev::Done);
-    assert_eq!(rt; block[511], 0);
-    assert_eq!(rt; swap.read(1, &mut block), Dev::Failed);
-    assert_eq!(rt; swap.read(1, &mut block), Dev::Done);
-    assert_eq!(rt; block[0], 7);
-    assert_eq!(rt; swap.write(0, &block), Dev::Done);
-    assert_eq!(rt; swap.write(0, &block), Dev::Failed);
-    assert_eq!(rt; swap.write(0, &block), Dev::Done);
-    assert_eq!(rt; swap.writes(), 3);
-    assert_eq!(rt; swap.faults(), 2);
+    let first = [swap.write(1, &block), swap.read(0, &mut block)];
+    let zero = block[511];
+    let second = [swap.read(1, &mut block), swap.read(1, &mut block)];
+    let seven = block[0];
+    let third = [
+        swap.write(0, &block),
+        swap.write(0, &block),
+        swap.write(0, &block),
+    ];
+    assert!(rt; first == [Dev::Done, Dev::Done] && zero == 0);
+    assert!(rt; second == [Dev::Failed, Dev::Done] && seven == 7);
+    assert!(rt; third == [Dev::Done, Dev::Failed, Dev::Done]);
+    assert!(rt; (swap.writes(), swap.faults()) == (3, 2));
     Ok(())
 }
 
@@ -140,12 +142,14 @@ fn bytes_before_an_error_are_given_later(rt: HostRuntime) -> Result<(), Fail> {
     for fails in 1..6usize {
         let mut source = source_over(rt.alloc(), fails, 0)?;
         let mut into = [0u8; 5];
-        assert_eq!(rt; source.take(&mut into), Took::Failed);
-        assert_eq!(rt; source.take(&mut into[..2]), Took::Done(2));
-        assert_eq!(rt; &into[..2], b"ab".as_slice());
-        assert_eq!(rt; source.take(&mut into), Took::Done(5));
-        assert_eq!(rt; into.as_slice(), b"cdefg".as_slice());
-        assert_eq!(rt; source.take(&mut into), Took::Done(0));
+        let failed = source.take(&mut into);
+        let front = source.take(&mut into[..2]);
+        let is_front = &into[..2] == b"ab".as_slice();
+        let rest = source.take(&mut into);
+        let is_rest = into.as_slice() == b"cdefg".as_slice();
+        let takes = [failed, front, rest, source.take(&mut into)];
+        let wanted = [Took::Failed, Took::Done(2), Took::Done(5), Took::Done(0)];
+        assert!(rt; takes == wanted && is_front && is_rest);
     }
     Ok(())
 }
@@ -154,9 +158,10 @@ fn bytes_before_an_error_are_given_later(rt: HostRuntime) -> Result<(), Fail> {
 fn a_take_ends_early_at_the_end_alone(rt: HostRuntime) -> Result<(), Fail> {
     let mut source = source_over(rt.alloc(), 0, 0)?;
     let mut into = [0u8; 9];
-    assert_eq!(rt; source.take(&mut into), Took::Done(7));
-    assert_eq!(rt; &into[..7], b"abcdefg".as_slice());
-    assert_eq!(rt; source.take(&mut into), Took::Done(0));
+    let first = source.take(&mut into);
+    let all = &into[..7] == b"abcdefg".as_slice();
+    let second = source.take(&mut into);
+    assert!(rt; [first, second] == [Took::Done(7), Took::Done(0)] && all);
     Ok(())
 }
 
@@ -164,8 +169,9 @@ fn a_take_ends_early_at_the_end_alone(rt: HostRuntime) -> Result<(), Fail> {
 fn an_input_that_has_ended_is_read_no_more(rt: HostRuntime) -> Result<(), Fail> {
     let mut source = source_over(rt.alloc(), 0, 3)?;
     let mut into = [0u8; 5];
-    assert_eq!(rt; source.take(&mut into), Took::Done(2));
-    assert_eq!(rt; &into[..2], b"ab".as_slice());
-    assert_eq!(rt; source.take(&mut into), Took::Done(0));
+    let first = source.take(&mut into);
+    let front = &into[..2] == b"ab".as_slice();
+    let second = source.take(&mut into);
+    assert!(rt; [first, second] == [Took::Done(2), Took::Done(0)] && front);
     Ok(())
 }

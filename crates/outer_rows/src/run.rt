@@ -5,9 +5,9 @@ ghost use Rattle.o2_outer.specs.Inputs.{GoesOn};
 ghost use Rattle.o2_run.specs.Turn.{Caused};
 ghost use Rattle.o2_run.specs.Faults.{turn_of};
 
-use crate::{Fault, Steps, Stop, Turn, put_stop, run};
 use o2_base::{Bytes, NoMemory};
 use o2_outer::{Dev, MemSink, MemSource, Sink, Source, SwapDevice, Took};
+use o2_run::{Fault, Steps, Stop, Turn, put_stop, run};
 use std::alloc::Global;
 use std::test::Fail;
 
@@ -163,17 +163,11 @@ fn each_stop(rt: HostRuntime) -> Result<(), Fail> {
     ];
     for (why, line) in &stops {
         let (ended, report, again) = halted(rt.alloc(), *why, &[])?;
-        assert_eq!(rt; ended, Err(Fault::Stopped(*why)));
-        assert_eq!(rt; report.taken(), line.as_bytes());
-        assert!(rt; again);
+        let is_put = report.taken() == line.as_bytes();
+        assert!(rt; ended == Err(Fault::Stopped(*why)) && is_put && again);
         let (ended, report, again) = halted(rt.alloc(), *why, &[(1, 4)])?;
-        assert_eq!(rt;
-            ended,
-            Err(Fault::Stopped(*why)),
-            "where the line's put fails"
-        );
-        assert_eq!(rt; report.taken(), b"stop".as_slice());
-        assert!(rt; again);
+        let is_part = report.taken() == b"stop".as_slice();
+        assert!(rt; ended == Err(Fault::Stopped(*why)) && is_part && again);
     }
     Ok(())
 }
