@@ -9,6 +9,3 @@ mod top;
 pub use messages::{number, text};
 pub use status::Status;
 pub use top::os2run;
-
-#[cfg(test)]
-mod tests;

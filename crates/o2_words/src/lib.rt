@@ -8,6 +8,3 @@ mod words;
 pub use laws::one_command;
 pub use parser::command;
 pub use words::{Command, Verb, is_command};
-
-#[cfg(test)]
-mod tests;

@@ -1,0 +1,81 @@
+// Words with the command that they are, by the rule of the program's words.
+use o2_base::NoMemory;
+use o2_words::{Command, Verb, command, is_command};
+use std::alloc::Global;
+use std::test::Fail;
+
+/// Words that are a command, its verb and its file.
+static COMMANDS: &str =
+    "exe;x|run;x|exe;exe|exe;run|run;help|exe;my file.exe|exe; -x|run;a=b|exe;=|run;x--help|exe;größe.exe|run;機械.toml|exe;\u{2212}x|exe;a,b\n@c|check;x|check;check|run;check";
+
+/// Words that are none; a dot is no word at all.
+static OTHERS: &str =
+    ".|exe|run|x|exe;x;y|run;x;y|exe;run;x|exe;-x|run;-x|exe;-|exe;--|exe;--;x|exe;|run;|;x|EXE;x|Run;x|exe ;x|ex;x|check|check;|check;-x|check;x;y|chec;x|bench;1|dump;x|exe;--help|run;--version|help;exe|--help;x|x;exe";
+
+/// The words as the program has them.
+fn owned(alloc: Global, row: &str) -> Result<Vec<String>, NoMemory> {
+    let mut list = Vec::new(alloc);
+    if row == "." {
+        return Ok(list);
+    }
+    for word in row.split(';') {
+        list.push(String::from_str(alloc, word)?)?;
+    }
+    Ok(list)
+}
+
+fn verb_of(word: &str) -> Verb {
+    match word {
+        "exe" => Verb::Exe,
+        "run" => Verb::Run,
+        _ => Verb::Check,
+    }
+}
+
+/// Whether a command has the verb and the file of its words.
+fn is_of(found: &Command<'_>, row: &str) -> bool {
+    match row.split_once(';') {
+        Some((verb, file)) => found.verb == verb_of(verb) && found.file == file,
+        None => false,
+    }
+}
+
+#[test]
+fn words_of_a_command(rt: HostRuntime) -> Result<(), Fail> {
+    let mut count = 0u32;
+    for row in COMMANDS.split('|') {
+        let list = owned(rt.alloc(), row)?;
+        assert!(rt; is_command(list.as_slice()), "of {row:?}");
+        let found = command(rt.alloc(), list.as_slice())?;
+        assert!(rt; is_of(&found, row), "of {row:?}");
+        count = count.saturating_add(1);
+    }
+    assert!(rt; count == 17);
+    Ok(())
+}
+
+#[test]
+fn other_words(rt: HostRuntime) -> Result<(), Fail> {
+    let mut count = 0u32;
+    for row in OTHERS.split('|') {
+        let list = owned(rt.alloc(), row)?;
+        assert!(rt; !is_command(list.as_slice()), "of {row:?}");
+        count = count.saturating_add(1);
+    }
+    assert!(rt; count == 31);
+    Ok(())
+}
+
+/// Whichever allocation fails, the answer is the command or want of memory. `rt try --test --fail-alloc N`
+/// makes the Nth fail.
+#[test]
+fn want_of_memory_alone(rt: HostRuntime) {
+    let Ok(list) = owned(rt.alloc(), "run;machine.toml") else {
+        return;
+    };
+    let words = list.as_slice();
+    assert!(rt; is_command(words));
+    if let Ok(found) = command(rt.alloc(), words) {
+        assert!(rt; is_of(&found, "run;machine.toml"));
+    }
+}
