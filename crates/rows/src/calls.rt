@@ -3,6 +3,7 @@
 use crate::command::{Answer, Fails, add_file, command, one_file};
 use crate::hello::{changed, report_of};
 use crate::instructions::program;
+use crate::texts::{changes_in, report_in, two};
 use o2_base::NoMemory;
 use std::alloc::Global;
 use std::test::Fail;
@@ -23,70 +24,38 @@ fn run_over(
 /// DosRead of 8 bytes from handle 0 to 0017:0000, and of their number to 0017:0008.
 static READ: [(usize, u8); 4] = [(0xD1, 137), (0xB1, 0), (0xB7, 8), (0xBA, 8)];
 
-/// What a program that goes on to DosExit ends with.
-static END: &str = "1 call DosExit 0001 0000\n1 end exit 0\nall ended\n";
+/// Changed bytes, and the report, which begins with so many of the lines of the program as it stands.
+static ROWS: &str = "
+- DosRead of what is there, of less than that, of nothing, and from handle 1
+D1=89 B1=0 B7=8 BA=8 | 4 1 call DosRead 0000 0017:0000 0008 0017:0008 = 0 0003 / 1 call DosExit 0001 0000 / 1 end exit 0 / all ended
+D1=89 B1=0 B7=2 BA=8 | 4 1 call DosRead 0000 0017:0000 0002 0017:0008 = 0 0002 / 1 call DosExit 0001 0000 / 1 end exit 0 / all ended
+D1=89 B1=0 B7=0 BA=8 | 4 1 call DosRead 0000 0017:0000 0000 0017:0008 = 0 0000 / 1 call DosExit 0001 0000 / 1 end exit 0 / all ended
+D1=89 B1=1 B7=8 BA=8 | 4 1 call DosRead 0001 0017:0000 0008 0017:0008 = 6 / 1 call DosExit 0001 0000 / 1 end exit 0 / all ended
+- past the end of the segment, which has 528 bytes
+D1=89 B1=0 B4=9 B5=2 B7=8 | 4 1 end trap 13 at 000F:000B / all ended
+- DosGetPID and DosMemAvail
+D1=5E | 4 1 call DosGetPID 0017:0006 = 0 0001 0001 0000 / 1 call DosExit 0001 0000 / 1 end exit 0 / all ended
+D1=7F | 4 1 call DosMemAvail 0017:0006 = 0 00080000 / 1 call DosExit 0001 0000 / 1 end exit 0 / all ended
+";
 
-/// Changed bytes, the line of the first call, and whether DosExit follows.
-static ROWS: [(&[(usize, u8)], &str, bool); 7] = [
-    // DosRead of what is there
-    (
-        &[(0xD1, 137), (0xB1, 0), (0xB7, 8), (0xBA, 8)],
-        "1 call DosRead 0000 0017:0000 0008 0017:0008 = 0 0003\n",
-        true,
-    ),
-    // of less than that
-    (
-        &[(0xD1, 137), (0xB1, 0), (0xB7, 2), (0xBA, 8)],
-        "1 call DosRead 0000 0017:0000 0002 0017:0008 = 0 0002\n",
-        true,
-    ),
-    // of nothing
-    (
-        &[(0xD1, 137), (0xB1, 0), (0xB7, 0), (0xBA, 8)],
-        "1 call DosRead 0000 0017:0000 0000 0017:0008 = 0 0000\n",
-        true,
-    ),
-    // from handle 1
-    (
-        &[(0xD1, 137), (0xB1, 1), (0xB7, 8), (0xBA, 8)],
-        "1 call DosRead 0001 0017:0000 0008 0017:0008 = 6\n",
-        true,
-    ),
-    // past the end of the segment, which has 528 bytes
-    (
-        &[
-            (0xD1, 137),
-            (0xB1, 0),
-            (0xB4, 0x09),
-            (0xB5, 0x02),
-            (0xB7, 8),
-        ],
-        "1 end trap 13 at 000F:000B\nall ended\n",
-        false,
-    ),
-    // DosGetPID and DosMemAvail
-    (
-        &[(0xD1, 94)],
-        "1 call DosGetPID 0017:0006 = 0 0001 0001 0000\n",
-        true,
-    ),
-    (
-        &[(0xD1, 127)],
-        "1 call DosMemAvail 0017:0006 = 0 00080000\n",
-        true,
-    ),
-];
+/// Whether the program with these changes has this report.
+fn reports(alloc: Global, changes: &str, report: &str) -> Result<bool, NoMemory> {
+    let changes = changes_in(alloc, changes)?;
+    let answer = run_over(alloc, changes.as_slice(), &[], &[])?;
+    let wanted = report_in(alloc, report)?;
+    Ok(answer.is(0, &[], wanted.as_bytes()))
+}
 
 #[test]
 fn calls(rt: HostRuntime) -> Result<(), Fail> {
-    for (changes, line, exits) in ROWS.iter() {
-        let answer = run_over(rt.alloc(), changes, &[], &[])?;
-        let mut wanted = report_of(rt.alloc(), 4, line)?;
-        if *exits {
-            wanted.push_str(END)?;
+    let mut count = 0u32;
+    for row in ROWS.lines() {
+        if let Some((changes, report)) = two(row) {
+            assert!(rt; reports(rt.alloc(), changes, report)?, "{row}");
+            count = count.saturating_add(1);
         }
-        assert!(rt; answer.is(0, &[], wanted.as_bytes()), "of {changes:?}");
     }
+    assert!(rt; count == 7);
     Ok(())
 }
 
@@ -95,10 +64,9 @@ fn the_input_fails(rt: HostRuntime) -> Result<(), Fail> {
     let stop = "stop input fault\n";
     let answer = run_over(rt.alloc(), &READ, &[1], &[])?;
     let wanted = report_of(rt.alloc(), 4, stop)?;
-    assert!(rt; answer.is(6, &[], wanted.as_bytes()));
     // a program that doesn't read never goes to it
-    let answer = run_over(rt.alloc(), &[], &[1], &[])?;
-    assert_eq!(rt; answer.status, 0);
+    let other = run_over(rt.alloc(), &[], &[1], &[])?;
+    assert!(rt; answer.is(6, &[], wanted.as_bytes()) && other.status == 0);
     Ok(())
 }
 

@@ -1,6 +1,7 @@
 // A program that writes `hello`, and what may go wrong with it.
 
 use crate::command::{Answer, Fails, command, one_file};
+use crate::texts::{changes_in, hex, line_of, report_in, three, two};
 use o2_base::{Bytes, NoMemory};
 use std::alloc::Global;
 use std::test::Fail;
@@ -59,65 +60,24 @@ fn run_changed(
     command(alloc, words, files, &[], &[], console_fails, report_fails)
 }
 
-/// Words, changed bytes, status, console, how many of the start's lines come, and what follows them.
-static ROWS: [(&[&str], &[(usize, u8)], u8, &str, usize, &str); 12] = [
-    // as it stands
-    (
-        &["exe", "hello.exe"],
-        &[],
-        0,
-        "hello",
-        4,
-        "1 call DosWrite 0001 0017:0000 0005 0017:0006 = 0 0005\n1 call DosExit 0001 0000\n1 end exit 0\nall ended\n",
-    ),
-    // an opcode that is none, D6
-    (
-        &["exe", "hello.exe"],
-        &[(0xB0, 0xD6)],
-        0,
-        "",
-        4,
-        "1 end trap 6 at 000F:0000\nall ended\n",
-    ),
-    // a jump to itself, EB FE
-    (
-        &["exe", "hello.exe"],
-        &[(0xB0, 0xEB), (0xB1, 0xFE)],
-        0,
-        "",
-        4,
-        "budget spent\n",
-    ),
-    // DosWrite to handle 3
-    (
-        &["exe", "hello.exe"],
-        &[(0xB1, 3)],
-        0,
-        "",
-        4,
-        "1 call DosWrite 0003 0017:0000 0005 0017:0006 = 6\n1 call DosExit 0001 0000\n1 end exit 0\nall ended\n",
-    ),
-    // ordinal 34, DosAllocSeg
-    (&["exe", "hello.exe"], &[(0xD1, 34)], 4, "", 0, ""),
-    // no MZ
-    (&["exe", "hello.exe"], &[(0, 0x4E)], 4, "", 0, ""),
-    // no automatic data: SP is the header's 0, and the first push lies outside
-    (
-        &["exe", "hello.exe"],
-        &[(0x4E, 0)],
-        0,
-        "",
-        4,
-        "1 end trap 12 at 000F:0000\nall ended\n",
-    ),
-    // no such file
-    (&["exe", "none.exe"], &[], 2, "", 0, ""),
-    // no command
-    (&["exe"], &[], 1, "", 0, ""),
-    (&["exe", "hello.exe", "hello.exe"], &[], 1, "", 0, ""),
-    (&["exe", "-hello.exe"], &[], 1, "", 0, ""),
-    (&["exe", ""], &[], 1, "", 0, ""),
-];
+/// Words, parted by commas; changed bytes; status; console; and the report, which begins with so many of the lines above.
+static ROWS: &str = "
+exe,hello.exe | | 0 | hello | 8
+exe,hello.exe | B0=D6 | 0 | | 4 1 end trap 6 at 000F:0000 / all ended
+exe,hello.exe | B0=EB B1=FE | 0 | | 4 budget spent
+exe,hello.exe | B1=3 | 0 | | 4 1 call DosWrite 0003 0017:0000 0005 0017:0006 = 6 / 1 call DosExit 0001 0000 / 1 end exit 0 / all ended
+- ordinal 34, DosAllocSeg
+exe,hello.exe | D1=22 | 4 | | 0
+- no MZ
+exe,hello.exe | 0=4E | 4 | | 0
+- no automatic data: SP is the header's 0, and the first push lies outside
+exe,hello.exe | 4E=0 | 0 | | 4 1 end trap 12 at 000F:0000 / all ended
+exe,none.exe | | 2 | | 0
+exe | | 1 | | 0
+exe,hello.exe,hello.exe | | 1 | | 0
+exe,-hello.exe | | 1 | | 0
+exe, | | 1 | | 0
+";
 
 /// The first lines of the report, with these texts behind them.
 pub fn report_of(alloc: Global, lines: usize, rest: &str) -> Result<String, NoMemory> {
@@ -129,16 +89,32 @@ pub fn report_of(alloc: Global, lines: usize, rest: &str) -> Result<String, NoMe
     Ok(report)
 }
 
+/// Whether a command over the program comes to what a row says, or nothing where it is no row.
+fn comes_to(alloc: Global, row: &str) -> Result<Option<bool>, NoMemory> {
+    let Some((words, changes, rest)) = three(row) else {
+        return Ok(None);
+    };
+    let Some((status, console, report)) = three(rest) else {
+        return Ok(None);
+    };
+    let words: Vec<&str> = words.split(',').collect(alloc)?;
+    let changes = changes_in(alloc, changes)?;
+    let answer = run_changed(alloc, words.as_slice(), changes.as_slice(), &[], &[])?;
+    let report = report_in(alloc, report)?;
+    let status = (hex(status) % 256) as u8;
+    Ok(Some(answer.is(status, console.as_bytes(), report.as_bytes())))
+}
+
 #[test]
 fn rows(rt: HostRuntime) -> Result<(), Fail> {
-    for (words, changes, status, console, lines, rest) in ROWS.iter() {
-        let answer = run_changed(rt.alloc(), words, changes, &[], &[])?;
-        let report = report_of(rt.alloc(), *lines, rest)?;
-        assert!(rt;
-            answer.is(*status, console.as_bytes(), report.as_bytes()),
-            "of {words:?} {changes:?}"
-        );
+    let mut count = 0u32;
+    for row in ROWS.lines() {
+        if let Some(right) = comes_to(rt.alloc(), row)? {
+            assert!(rt; right, "{row}");
+            count = count.saturating_add(1);
+        }
     }
+    assert!(rt; count == 12);
     Ok(())
 }
 
@@ -174,63 +150,59 @@ fn the_put_of_the_console_fails(rt: HostRuntime) -> Result<(), Fail> {
     Ok(())
 }
 
-/// Changed bytes of `hello.exe`, and the line of the refusal.
-static REFUSED: [(&[(usize, u8)], &str); 16] = [
-    // no NE
-    (&[(0x40, 0x4F)], "os2run: module hello.exe: reason 2\n"),
-    // a header behind the end
-    (&[(0x3D, 1)], "os2run: module hello.exe: reason 3\n"),
-    // linked with errors
-    (&[(0x4D, 0x20)], "os2run: module hello.exe: reason 5\n"),
-    // a shift of 16
-    (&[(0x72, 16)], "os2run: module hello.exe: reason 6\n"),
-    // an iterated segment
-    (&[(0x84, 8)], "os2run: module hello.exe: reason 7\n"),
-    // a relocation that leaves the segment
-    (&[(0xCD, 0x17)], "os2run: module hello.exe: reason 8\n"),
-    // a source type that is none
-    (&[(0xCB, 1)], "os2run: module hello.exe: reason 9\n"),
-    // no MZ
-    (&[(0, 0x4E)], "os2run: module hello.exe: reason 1\n"),
-    // another system's
-    (&[(0x76, 2)], "os2run: module hello.exe: reason 4\n"),
-    // ordinal 34, which isn't there yet
-    (&[(0xD1, 34)], "os2run: module hello.exe: reason 11\n"),
-    // a reference to NOLIB
-    (
-        &[
-            (0x9C, 5),
-            (0x9D, 0x4E),
-            (0x9E, 0x4F),
-            (0x9F, 0x4C),
-            (0xA0, 0x49),
-            (0xA1, 0x42),
-        ],
-        "os2run: module hello.exe: reason 10\n",
-    ),
-    // no automatic data and no SS
-    (
-        &[(0x4E, 0), (0x5A, 0)],
-        "os2run: module hello.exe: reason 15\n",
-    ),
-    // a library with a stack
-    (&[(0x4D, 0x80)], "os2run: module hello.exe: reason 16\n"),
-    // IP outside the code
-    (&[(0x54, 0x19)], "os2run: module hello.exe: reason 16\n"),
-    // CS in the data
-    (&[(0x56, 2)], "os2run: module hello.exe: reason 16\n"),
-    // SS in the code
-    (&[(0x5A, 1)], "os2run: module hello.exe: reason 15\n"),
-];
+/// Changed bytes of `hello.exe`, and the reason of the refusal.
+static REFUSED: &str = "
+- no NE
+40=4F | 2
+- a header behind the end
+3D=1 | 3
+- linked with errors
+4D=20 | 5
+- a shift of 16
+72=10 | 6
+- an iterated segment
+84=8 | 7
+- a relocation that leaves the segment
+CD=17 | 8
+- a source type that is none
+CB=1 | 9
+- no MZ
+0=4E | 1
+- another system's
+76=2 | 4
+- ordinal 34, which isn't there yet
+D1=22 | 11
+- a reference to NOLIB
+9C=5 9D=4E 9E=4F 9F=4C A0=49 A1=42 | 10
+- no automatic data and no SS
+4E=0 5A=0 | 15
+- a library with a stack
+4D=80 | 16
+- IP outside the code
+54=19 | 16
+- CS in the data
+56=2 | 16
+- SS in the code
+5A=1 | 15
+";
+
+/// Whether the program with these changes is refused for this reason.
+fn is_refused(alloc: Global, changes: &str, reason: &str) -> Result<bool, NoMemory> {
+    let changes = changes_in(alloc, changes)?;
+    let answer = run_changed(alloc, &["exe", "hello.exe"], changes.as_slice(), &[], &[])?;
+    let line = line_of(alloc, "os2run: module hello.exe: reason ", reason)?;
+    Ok(answer.status == 4 && answer.says(&[], line.as_str()))
+}
 
 #[test]
 fn refusals(rt: HostRuntime) -> Result<(), Fail> {
-    for (changes, line) in REFUSED.iter() {
-        let answer = run_changed(rt.alloc(), &["exe", "hello.exe"], changes, &[], &[])?;
-        assert!(rt;
-            answer.status == 4 && answer.says(&[], line),
-            "of {changes:?}"
-        );
+    let mut count = 0u32;
+    for row in REFUSED.lines() {
+        if let Some((changes, reason)) = two(row) {
+            assert!(rt; is_refused(rt.alloc(), changes, reason)?, "{row}");
+            count = count.saturating_add(1);
+        }
     }
+    assert!(rt; count == 16);
     Ok(())
 }

@@ -36,16 +36,20 @@ static END: [u8; 30] = [
 /// The places of the two calls' addresses behind the code, with their ordinals.
 static IMPORTS: [(u16, u16); 2] = [(0x11, 138), (0x1A, 5)];
 
-/// A program of this code, of 60,000 bytes at most.
-pub fn program(alloc: Global, code: &[u8]) -> Result<Bytes, NoMemory> {
-    let len = code.len().min(60000) as u16;
-    let [low, high] = (len + 30).to_le_bytes();
-    let mut file = FRONT.to_vec(alloc)?;
+/// Writes the length of the code into the segment table.
+fn write_length(file: &mut [u8], len: u16) {
+    let [low, high] = len.to_le_bytes();
     for (at, byte) in [(0x82usize, low), (0x83, high), (0x86, low), (0x87, high)] {
         if let Some(place) = file.get_mut(at) {
             *place = byte;
         }
     }
+}
+
+/// Writes the code with what follows it, and the two records behind it.
+fn write_code(file: &mut Vec<u8>, code: &[u8]) -> Result<(), NoMemory> {
+    let len = code.len().min(60000) as u16;
+    write_length(file.as_mut_slice(), len + 30);
     file.extend_from_slice(code)?;
     file.extend_from_slice(&END)?;
     file.extend_from_slice(&[2, 0])?;
@@ -55,6 +59,13 @@ pub fn program(alloc: Global, code: &[u8]) -> Result<Bytes, NoMemory> {
         file.extend_from_slice(&[1, 0])?;
         file.extend_from_slice(&ordinal.to_le_bytes())?;
     }
+    Ok(())
+}
+
+/// A program of this code, of 60,000 bytes at most.
+pub fn program(alloc: Global, code: &[u8]) -> Result<Bytes, NoMemory> {
+    let mut file = FRONT.to_vec(alloc)?;
+    write_code(&mut file, code)?;
     Ok(Bytes::new(file))
 }
 
@@ -62,14 +73,12 @@ pub fn program(alloc: Global, code: &[u8]) -> Result<Bytes, NoMemory> {
 const START: &str =
     "1 start HELLO\n1 hold 000F by load\n1 hold 0017 by load\n1 hold 001F by load\n";
 
-/// The bytes of hexadecimal tokens.
-fn bytes_of(alloc: Global, text: &str) -> Result<Vec<u8>, Fail> {
-    let mut bytes = Vec::new(alloc);
+/// Writes the bytes of hexadecimal tokens.
+fn write_bytes(into: &mut Vec<u8>, text: &str) -> Result<(), Fail> {
     for token in text.split_ascii_whitespace() {
-        let byte = u8::from_str_radix(token, 16).ok().ok_or("no byte")?;
-        bytes.push(byte)?;
+        into.push(u8::from_str_radix(token, 16).ok().ok_or("no byte")?)?;
     }
-    Ok(bytes)
+    Ok(())
 }
 
 /// The three parts of a line.
@@ -81,23 +90,43 @@ fn parts(line: &str) -> Option<(&str, &str, &str)> {
 
 /// What the program of this code comes to.
 fn answer_of(alloc: Global, code: &str) -> Result<Answer, Fail> {
-    let code = bytes_of(alloc, code)?;
-    let files = one_file(alloc, b"a.exe", program(alloc, code.as_slice())?)?;
+    let mut bytes = Vec::new(alloc);
+    write_bytes(&mut bytes, code)?;
+    let files = one_file(alloc, b"a.exe", program(alloc, bytes.as_slice())?)?;
     Ok(command(alloc, &["exe", "a.exe"], files, &[], &[], &[], &[])?)
 }
 
-/// Runs programs whose code leaves these bytes at DS:0010, with 0 behind them, and counts them.
+/// Whether a program of this code leaves these bytes at DS:0010, with 0 behind them.
+fn is_shown(alloc: Global, code: &str, bytes: &str) -> Result<bool, Fail> {
+    let answer = answer_of(alloc, code)?;
+    let mut wanted = Vec::new(alloc);
+    write_bytes(&mut wanted, bytes)?;
+    wanted.resize(16, 0)?;
+    Ok(answer.status == 0 && answer.console.taken() == wanted.as_slice())
+}
+
+/// Writes the report of a program that ends with this line.
+fn write_end(report: &mut String, line: &str) -> Result<(), NoMemory> {
+    report.push_str(START)?;
+    report.push_str(line)?;
+    report.push_str("\nall ended\n")?;
+    Ok(())
+}
+
+/// Whether a program of this code ends its process with this line.
+fn is_ended(alloc: Global, code: &str, line: &str) -> Result<bool, Fail> {
+    let answer = answer_of(alloc, code)?;
+    let mut report = String::new(alloc);
+    write_end(&mut report, line)?;
+    Ok(answer.status == 0 && answer.report.taken() == report.as_bytes())
+}
+
+/// Runs programs whose code leaves these bytes, and counts them.
 fn shown(rt: &impl Abort, alloc: Global, rows: &str) -> Result<u32, Fail> {
     let mut count = 0u32;
     for row in rows.lines() {
         if let Some((name, code, bytes)) = parts(row) {
-            let mut wanted = bytes_of(alloc, bytes)?;
-            for _ in wanted.len()..16 {
-                wanted.push(0)?;
-            }
-            let answer = answer_of(alloc, code)?;
-            assert_eq!(rt; answer.console.taken(), wanted.as_slice(), "of {name}");
-            assert_eq!(rt; answer.status, 0, "of {name}");
+            assert!(rt; is_shown(alloc, code, bytes)?, "of {name}");
             count = count.saturating_add(1);
         }
     }
@@ -109,13 +138,7 @@ fn ended(rt: &impl Abort, alloc: Global, rows: &str) -> Result<u32, Fail> {
     let mut count = 0u32;
     for row in rows.lines() {
         if let Some((name, code, line)) = parts(row) {
-            let answer = answer_of(alloc, code)?;
-            let mut report = String::new(alloc);
-            report.push_str(START)?;
-            report.push_str(line)?;
-            report.push_str("\nall ended\n")?;
-            assert_eq!(rt; answer.report.taken(), report.as_bytes(), "of {name}");
-            assert_eq!(rt; answer.status, 0, "of {name}");
+            assert!(rt; is_ended(alloc, code, line)?, "of {name}");
             count = count.saturating_add(1);
         }
     }
@@ -124,14 +147,16 @@ fn ended(rt: &impl Abort, alloc: Global, rows: &str) -> Result<u32, Fail> {
 
 #[test]
 fn data_instructions(rt: HostRuntime) -> Result<(), Fail> {
-    assert_eq!(rt; shown(&rt, rt.alloc(), data::SHOWN)?, 56);
-    assert_eq!(rt; ended(&rt, rt.alloc(), data::ENDED)?, 15);
+    let shown = shown(&rt, rt.alloc(), data::SHOWN)?;
+    let ended = ended(&rt, rt.alloc(), data::ENDED)?;
+    assert!(rt; shown == 56 && ended == 15);
     Ok(())
 }
 
 #[test]
 fn flow_and_string_instructions(rt: HostRuntime) -> Result<(), Fail> {
-    assert_eq!(rt; shown(&rt, rt.alloc(), flow::SHOWN)?, 54);
-    assert_eq!(rt; ended(&rt, rt.alloc(), flow::ENDED)?, 32);
+    let shown = shown(&rt, rt.alloc(), flow::SHOWN)?;
+    let ended = ended(&rt, rt.alloc(), flow::ENDED)?;
+    assert!(rt; shown == 54 && ended == 32);
     Ok(())
 }

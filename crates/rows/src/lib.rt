@@ -18,4 +18,6 @@ mod library_files;
 #[cfg(test)]
 mod machine_files;
 #[cfg(test)]
+mod texts;
+#[cfg(test)]
 mod turns;

@@ -1,8 +1,9 @@
 // Machine files: several processes, their turns and slices, budgets and faults.
 
-use crate::command::{Answer, add_file, command, command_over};
+use crate::command::{Answer, add_file, command, command_over, one_file};
 use crate::hello::{HELLO, LINES, report_of};
-use o2_base::NoMemory;
+use crate::texts::{line_of, lines_in, two};
+use o2_base::{Bytes, NoMemory};
 use o2_outer::MemFiles;
 use std::alloc::Global;
 use std::test::Fail;
@@ -11,27 +12,31 @@ const FRONT: &str = "memory = 1048576\nswap = 2048\nsegments = 1024\nmodules = [
 
 const PROCESS: &str = "[[process]]\nmodule = \"HELLO\"\n";
 
-/// `run` over a machine file of these parts and `hello.exe`.
-fn run_parts(alloc: Global, parts: &[&str]) -> Result<Answer, NoMemory> {
-    let mut text = String::new(alloc);
+fn write_parts(text: &mut String, parts: &[&str]) -> Result<(), NoMemory> {
     for part in parts {
         text.push_str(part)?;
     }
-    let mut files = Vec::new(alloc);
-    add_file(alloc, &mut files, b"a.toml", text.as_bytes())?;
+    Ok(())
+}
+
+/// A machine file of these parts, and `hello.exe`.
+fn files_of(alloc: Global, parts: &[&str]) -> Result<Vec<(Bytes, Bytes)>, NoMemory> {
+    let mut text = String::new(alloc);
+    write_parts(&mut text, parts)?;
+    let mut files = one_file(alloc, b"a.toml", Bytes::from_slice(alloc, text.as_bytes())?)?;
     add_file(alloc, &mut files, b"hello.exe", &HELLO)?;
+    Ok(files)
+}
+
+/// `run` over a machine file of these parts and `hello.exe`.
+fn run_parts(alloc: Global, parts: &[&str]) -> Result<Answer, NoMemory> {
+    let files = files_of(alloc, parts)?;
     command(alloc, &["run", "a.toml"], files, &[], &[], &[], &[])
 }
 
 /// `run` over a machine file and `hello.exe`, where this fetch, counted from 1, fails.
 fn run_without(alloc: Global, fetch: u64) -> Result<Answer, NoMemory> {
-    let mut text = String::new(alloc);
-    text.push_str(FRONT)?;
-    text.push_str("budget = 20\nquantum = 1\n")?;
-    text.push_str(PROCESS)?;
-    let mut files = Vec::new(alloc);
-    add_file(alloc, &mut files, b"a.toml", text.as_bytes())?;
-    add_file(alloc, &mut files, b"hello.exe", &HELLO)?;
+    let files = files_of(alloc, &[FRONT, "budget = 20\nquantum = 1\n", PROCESS])?;
     let files = MemFiles::new(files, [fetch].to_vec(alloc)?);
     command_over(alloc, &["run", "a.toml"], files, &[], &[], &[], &[])
 }
@@ -46,17 +51,17 @@ fn a_fetch_fails(rt: HostRuntime) -> Result<(), Fail> {
             "without {fetch}"
         );
     }
-    assert_eq!(rt; run_without(rt.alloc(), 3)?.status, 0);
+    assert!(rt; run_without(rt.alloc(), 3)?.status == 0);
     Ok(())
 }
 
 /// The line of a budget.
 fn budget_line(alloc: Global, budget: u32) -> Result<String, NoMemory> {
-    let mut line = String::new(alloc);
-    line.push_str("quantum = 3\nbudget = ")?;
-    line.push_str(budget.to_string(alloc)?.as_str())?;
-    line.push_str("\n")?;
-    Ok(line)
+    line_of(
+        alloc,
+        "quantum = 3\nbudget = ",
+        budget.to_string(alloc)?.as_str(),
+    )
 }
 
 #[test]
@@ -110,32 +115,36 @@ fn a_slice_comes_first_and_ends_with_its_process(rt: HostRuntime) -> Result<(), 
     let answer = run_parts(rt.alloc(), &[FRONT, front, PROCESS, PROCESS])?;
     let report = answer.report.taken();
     let second = b"2 end exit 0\n1 call DosWrite".as_slice();
-    assert!(rt; report.windows(second.len()).any(|part| part == second));
-    assert_eq!(rt; answer.status, 0);
+    let comes_first = report.windows(second.len()).any(|part| part == second);
+    assert!(rt; comes_first && answer.status == 0);
+    Ok(())
+}
+
+fn write_processes(text: &mut String, count: u32) -> Result<(), NoMemory> {
+    text.push_str("budget = 1000000\nquantum = 1\n")?;
+    for _ in 0..count {
+        text.push_str(PROCESS)?;
+    }
     Ok(())
 }
 
 /// What so many processes come to that take turns of one step each.
 fn run_many(alloc: Global, count: u32) -> Result<Answer, NoMemory> {
     let mut text = String::new(alloc);
-    text.push_str("budget = 1000000\nquantum = 1\n")?;
-    for _ in 0..count {
-        text.push_str(PROCESS)?;
-    }
+    write_processes(&mut text, count)?;
     run_parts(alloc, &[FRONT, text.as_str()])
 }
 
 #[test]
 fn sixty_four_processes(rt: HostRuntime) -> Result<(), Fail> {
     let answer = run_many(rt.alloc(), 64)?;
-    assert!(rt; answer.status == 0 && answer.console.taken().len() == 320);
     let ended = answer
         .report
         .taken()
         .windows(11)
         .filter(|part| *part == b"end exit 0\n".as_slice())
         .count();
-    assert_eq!(rt; ended, 64);
+    assert!(rt; answer.status == 0 && answer.console.taken().len() == 320 && ended == 64);
     Ok(())
 }
 
@@ -146,39 +155,37 @@ fn no_more_than_sixty_four_processes(rt: HostRuntime) -> Result<(), Fail> {
     Ok(())
 }
 
-/// What stands for the keys at the front, and the line of the refusal.
-static FAULTS: [(&str, &str); 8] = [
-    ("", "os2run: machine file: reason 2 memory\n"),
-    ("memory = 100\n", "os2run: machine file: reason 4 memory\n"),
-    (
-        "memory = \"x\"\n",
-        "os2run: machine file: reason 3 memory\n",
-    ),
-    (
-        "memory = 4096\nswap = 0\nsegments = 5\nquantum = 1\n",
-        "os2run: machine file: reason 2 budget\n",
-    ),
-    ("memory = ", "os2run: machine file: reason 1 \n"),
-    (
-        "memory = 4096\nswap = 0\nsegments = 2\nquantum = 1\nbudget = 1\nmodules = [\"hello.exe\"]\n[[process]]\nmodule = \"hello\"\n",
-        "os2run: module hello.exe: reason 17\n",
-    ),
-    (
-        "memory = 4096\nswap = 0\nsegments = 3\nquantum = 1\nbudget = 1\nmodules = [\"hello.exe\", \"hello.exe\"]\n[[process]]\nmodule = \"hello\"\n",
-        "os2run: module hello.exe: reason 13\n",
-    ),
-    (
-        "memory = 4096\nswap = 0\nsegments = 3\nquantum = 1\nbudget = 1\nmodules = [\"hello.exe\"]\n[[process]]\nmodule = \"other\"\n",
-        "os2run: module other: reason 10\n",
-    ),
-];
+/// What stands for the keys at the front, where ` / ` ends a line, and why it is refused.
+static FAULTS: &str = "
+ | machine file: reason 2 memory
+memory = 100 | machine file: reason 4 memory
+memory = 'x' | machine file: reason 3 memory
+memory = 4096 / swap = 0 / segments = 5 / quantum = 1 | machine file: reason 2 budget
+memory = 4096 / swap = 0 / segments = 2 / quantum = 1 / budget = 1 / modules = ['hello.exe'] / [[process]] / module = 'hello' | module hello.exe: reason 17
+memory = 4096 / swap = 0 / segments = 3 / quantum = 1 / budget = 1 / modules = ['hello.exe', 'hello.exe'] / [[process]] / module = 'hello' | module hello.exe: reason 13
+memory = 4096 / swap = 0 / segments = 3 / quantum = 1 / budget = 1 / modules = ['hello.exe'] / [[process]] / module = 'other' | module other: reason 10
+";
+
+/// Whether the machine file of these parts is refused for this.
+fn is_refused(alloc: Global, parts: &[&str], why: &str) -> Result<bool, NoMemory> {
+    let answer = run_parts(alloc, parts)?;
+    let line = line_of(alloc, "os2run: ", why)?;
+    Ok(answer.says(&[], line.as_str()))
+}
 
 #[test]
 fn faults(rt: HostRuntime) -> Result<(), Fail> {
-    for (text, line) in FAULTS.iter() {
-        let answer = run_parts(rt.alloc(), &[text])?;
-        assert!(rt; answer.says(&[], line), "of {text}");
+    let mut count = 0u32;
+    for row in FAULTS.lines() {
+        if let Some((lines, why)) = two(row) {
+            let text = lines_in(rt.alloc(), lines)?;
+            assert!(rt; is_refused(rt.alloc(), &[text.as_str()], why)?, "{row}");
+            count = count.saturating_add(1);
+        }
     }
+    assert!(rt; count == 7);
+    // no TOML, which has no key
+    assert!(rt; is_refused(rt.alloc(), &["memory = "], "machine file: reason 1 ")?);
     Ok(())
 }
 
