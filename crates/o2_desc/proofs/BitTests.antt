@@ -8,7 +8,7 @@ use Rattle.std.proofs.lemmas.Nat.{and_mask, pow_pos}
 use Rattle.std.proofs.lemmas.Nat.Bits.{and_pow, bit_at-lt, and_high}
 use Rattle.std.proofs.lemmas.Bool.{cases_lt}
 use Rattle.std.proofs.lemmas.Bool.Decides.{nat_tests}
-use Rattle.o2_desc.specs.Bits.{has_bit, marked, with_present, rights_of, privilege_of}
+use Rattle.o2_desc.specs.Bits.{has_bit, marked, unmarked, with_present, rights_of, privilege_of}
 
 tested_of : (b p : ℕ) → b < 2 → 0 < p → (b * p == p) ≡ (b == 1)
 tested_of b p small some = elim (cases_lt b 1) [
@@ -50,7 +50,7 @@ pub and_low : (n : ℕ) → bit_and n 127 ≡ n % 128
 and_low n = and_mask n 7
 
 -- the low bit cleared
-pub and_top : (n : ℕ) → n < 256 → bit_and n 254 ≡ n / 2 * 2
+pub and_top : (n : ℕ) → n < 256 → bit_and n 254 ≡ unmarked n
 and_top n small = let m : bit_and n 254 ≡ n / 2 % 128 * 2 = and_high n 7 1 in omega (arith, m)
 
 -- the privilege level
@@ -72,6 +72,15 @@ present_marked n = let e : marked n / 128 % 2 ≡ n / 128 % 2 = omega arith in r
 
 pub rights_marked : (n : ℕ) → rights_of (marked n) ≡ rights_of n
 rights_marked n = omega arith
+
+pub accessed_unmarked : (n : ℕ) → has_bit (unmarked n) 0 ≡ false
+accessed_unmarked n = let e : unmarked n / 1 % 2 ≡ 0 = omega arith in rw e refl
+
+pub present_unmarked : (n : ℕ) → has_bit (unmarked n) 7 ≡ has_bit n 7
+present_unmarked n = let e : unmarked n / 128 % 2 ≡ n / 128 % 2 = omega arith in rw e refl
+
+pub rights_unmarked : (n : ℕ) → rights_of (unmarked n) ≡ rights_of n
+rights_unmarked n = omega arith
 
 pub present_with : (n : ℕ) (present : Bool) → has_bit (with_present n present) 7 ≡ present
 present_with n true = let e : (n % 128 + 128) / 128 % 2 ≡ 1 = omega arith in rw e refl

@@ -36,6 +36,10 @@ is_writable access = has_bit access 4 && not (has_bit access 3) && has_bit acces
 abbrev pub privilege_of : ℕ → ℕ
 privilege_of access = access / 32 % 4
 
+-- with the accessed bit cleared
+abbrev pub unmarked : ℕ → ℕ
+unmarked access = access / 2 * 2
+
 -- with the accessed bit set
 abbrev pub marked : ℕ → ℕ
 marked access = access / 2 * 2 + 1

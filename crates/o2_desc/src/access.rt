@@ -1,6 +1,6 @@
 // The access byte.
-ghost use Rattle.std.specs.Prelude.{⊤, ◌≡◌, ◌==◌, ◌||◌, true, IsTrue, [], ◌∷◌, codes};
-ghost use Rattle.o2_desc.specs.Bits.{is_present, is_accessed, is_segment, is_code, is_readable, is_writable, privilege_of, marked, with_present, rights_of, is_kind, readable_code, run_only_code, writable_data, read_only_data};
+ghost use Rattle.std.specs.Prelude.{⊤, ◌≡◌, ◌==◌, ◌||◌, true, false, IsTrue, [], ◌∷◌, codes};
+ghost use Rattle.o2_desc.specs.Bits.{is_present, is_accessed, is_segment, is_code, is_readable, is_writable, privilege_of, marked, unmarked, with_present, rights_of, is_kind, readable_code, run_only_code, writable_data, read_only_data};
 
 use bitflags::{Flag, Flags, bitflag_items};
 
@@ -132,6 +132,16 @@ impl Access {
         ensures rights { rights_of result.0 ≡ rights_of self.0 }
     {
         self.union(Access::ACCESSED)
+    }
+
+    /// With the accessed bit cleared.
+    pub fn unmarked(self) -> Access
+        ensures value { result.0 ≡ unmarked self.0 }
+        ensures accessed { is_accessed result.0 ≡ false }
+        ensures present { is_present result.0 ≡ is_present self.0 }
+        ensures rights { rights_of result.0 ≡ rights_of self.0 }
+    {
+        self.difference(Access::ACCESSED)
     }
 
     /// With the present bit set or cleared.

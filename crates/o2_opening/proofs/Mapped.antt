@@ -5,7 +5,7 @@ use Rattle.std.proofs.lemmas.Bool.{and_parts, cases_eq, cases_lt, eq-eqb, eqb-tr
 use Rattle.std.proofs.lemmas.Bool.Decides.{nat_tests}
 use Rattle.std.proofs.lemmas.List.{get_or_past}
 use Rattle.o2_desc.specs.declared.descriptor.Descriptor.{Descriptor}
-use Rattle.o2_desc.specs.Bits.{is_kind, rights_of, with_present, readable_code, run_only_code, writable_data, read_only_data}
+use Rattle.o2_desc.specs.Bits.{is_kind, rights_of, with_present, readable_code, run_only_code, writable_data, read_only_data, unmarked}
 use Rattle.o2_desc.specs.Bytes.{empty}
 use Rattle.o2_place.specs.declared.seg_id.SegId.{SegId}
 use Rattle.o2_regions.specs.declared.held.Held.{Held as HeldThere}
@@ -14,7 +14,7 @@ use Rattle.o2_regions.specs.declared.held.Region.TheVariants.{Private, Shared}
 use Rattle.o2_regions.specs.Described.{placed}
 use Rattle.o2_regions.specs.Maps.{Maps, IsProcess, fresh, held_at, is_of, is_reserved, region_of, same_region, table_of}
 use Rattle.o2_store.specs.Shelf.{Shelf, entry, place_of}
-use Rattle.o2_segbus.specs.Settled.{Describes, IsSettledAt, descriptor_at, unmarked}
+use Rattle.o2_segbus.specs.Settled.{Describes, IsSettledAt, descriptor_at}
 use Rattle.o2_world.specs.Opening.{held_by_load}
 use Rattle.o2_opening.specs.Loads.{Loads, loaded_once}
 use Rattle.o2_stands.specs.Parts.{held_in, held_of}

@@ -4,7 +4,7 @@ use Rattle.std.proofs.lemmas.Bool.{cases_eq, cases_lt, false≢true}
 use Rattle.std.proofs.lemmas.Bool.Decides.{nat_tests}
 use Rattle.std.proofs.lemmas.List.{get_or_past, get_or-set_same, get_or-set_other, length-set}
 use Rattle.o2_desc.specs.declared.descriptor.Descriptor.{Descriptor}
-use Rattle.o2_desc.specs.Bits.{is_accessed, marked}
+use Rattle.o2_desc.specs.Bits.{is_accessed, marked, unmarked}
 use Rattle.o2_desc.specs.Bytes.{empty, entry, mark_at}
 use Rattle.o2_regions.specs.declared.listed.Listed.{Listed}
 use Rattle.o2_place.specs.declared.seg_id.SegId.{SegId}
@@ -13,7 +13,7 @@ use Rattle.o2_regions.specs.declared.accessed.Next.TheVariants as next
 use Rattle.o2_regions.specs.declared.held.Held.{Held}
 use Rattle.o2_regions.specs.declared.regions.Used.{Used}
 use Rattle.o2_regions.specs.declared.regions.Used.TheVariants as used
-use Rattle.o2_regions.specs.Accessed.{AreListed, ClearsPlace, ClearsUse, Lists, is_used, unused, unmark_at, segment_of}
+use Rattle.o2_regions.specs.Accessed.{AreListed, ClearsPlace, ClearsUse, Lists, is_used, unmark_at, segment_of}
 use Rattle.o2_regions.specs.Uses.{used_in, used_of, segment_in}
 use Rattle.o2_regions.specs.Maps.{Maps, held_at}
 use Rattle.o2_regions.specs.Described.{entry_in}
@@ -64,12 +64,12 @@ listed_set tables l k pid i d a few keeps w small has = record { few = few; all 
     at p u (inl e) = keeps p (a.all p (used_by tables new p e u))
     at p u (inr e) = written p e.0 e.1 (ap (λ (z : Descriptor). is_accessed z.access) (sym e.2) ∙ u) (is_accessed (entry (get_or tables pid []) i).access) refl
 
-cleared : (a : ℕ) → is_accessed (unused a) ≡ false
-cleared a = let q : a / 2 * 2 / 1 % 2 ≡ 0 = omega arith in ap (λ (n : ℕ). n == 1) q
+cleared : (a : ℕ) → is_accessed (unmarked a) ≡ false
+cleared a = let q : unmarked a / 1 % 2 ≡ 0 = omega arith in ap (λ (n : ℕ). n == 1) q
 
 -- the accessed bit of an index is cleared
 abbrev without : List Descriptor → ℕ → Descriptor
-without t i = record (entry t i) { access = unused (entry t i).access }
+without t i = record (entry t i) { access = unmarked (entry t i).access }
 
 pub listed_clear : (tables : List (List Descriptor)) (l : Listed) (pid i : ℕ) → AreListed tables l → pid < length tables → i < 8192 → AreListed (set tables pid (unmark_at (get_or tables pid []) i)) l
 listed_clear tables l pid i a w small =

@@ -1,7 +1,7 @@
 -- Accessed bits in tables of descriptors, and a list of places that tells them.
-use Rattle.std.specs.Prelude.{◌≡◌, ◌⊎◌, ℕ, ◌*◌, ◌/◌, ◌%◌, ◌<◌, ◌≤◌, Bool, true, false, List, [], length, Option, option_map, slice_index_or, slice_set}
+use Rattle.std.specs.Prelude.{◌≡◌, ◌⊎◌, ℕ, ◌/◌, ◌%◌, ◌<◌, ◌≤◌, Bool, true, false, List, [], length, Option, option_map, slice_index_or, slice_set}
 use Rattle.o2_desc.specs.declared.descriptor.Descriptor.{Descriptor}
-use Rattle.o2_desc.specs.Bits.{is_accessed}
+use Rattle.o2_desc.specs.Bits.{is_accessed, unmarked}
 use Rattle.o2_desc.specs.Bytes.{entry}
 use Rattle.o2_place.specs.declared.seg_id.SegId.{SegId}
 use Rattle.o2_regions.specs.declared.held.Held.{Held}
@@ -9,13 +9,9 @@ use Rattle.o2_regions.specs.declared.listed.Listed.{Listed}
 use Rattle.o2_regions.specs.Described.{entry_in}
 use Rattle.o2_regions.specs.Maps.{Maps, held_at, table_of}
 
--- an access byte with its accessed bit cleared
-abbrev pub unused : ℕ → ℕ
-unused access = access / 2 * 2
-
 -- a table with the accessed bit of an entry cleared
 abbrev pub unmark_at : List Descriptor → ℕ → List Descriptor
-unmark_at ds i = slice_set ds i (record (entry ds i) { access = unused (entry ds i).access })
+unmark_at ds i = slice_set ds i (record (entry ds i) { access = unmarked (entry ds i).access })
 
 -- a place is among the first so many of a list
 pub record IsAmong (places : List ℕ) (count p : ℕ) : Type 0 where

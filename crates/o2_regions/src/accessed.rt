@@ -104,7 +104,7 @@ fn unmark_entry(tables: &mut Vec<Table>, pid: u16, index: u16)
 {
     let d = entry_of(tables, pid, index);
     let cleared = Descriptor {
-        access: d.access / 2 * 2,
+        access: Access(d.access).unmarked().0,
         ..d
     };
     set_entry(tables, pid, index, cleared);

@@ -4,7 +4,7 @@ use Rattle.std.specs.Prelude.{Option, Some, None, is_some, option_map}
 use Rattle.std.specs.Borrow.{GName}
 use Rattle.std.proofs.lemmas.List.{ext_get_or}
 use Rattle.o2_desc.specs.declared.descriptor.Descriptor.{Descriptor}
-use Rattle.o2_desc.specs.Bits.{rights_of, with_present}
+use Rattle.o2_desc.specs.Bits.{rights_of, with_present, unmarked}
 use Rattle.o2_isa.specs.declared.cpu.Cpu.{Cpu}
 use Rattle.o2_isa.specs.declared.cpu.Outcome.{Outcome}
 use Rattle.o2_isa.specs.declared.instr.Sreg.{Sreg}
@@ -17,7 +17,7 @@ use Rattle.o2_regions.specs.declared.held.Held.{Held}
 use Rattle.o2_regions.specs.Maps.{Maps, held_at, IsProcess}
 use Rattle.o2_store.specs.Shelf.{Shelf, entry, place_of}
 use Rattle.o2_segbus.specs.declared.registers.SegmentRegisters.{SegmentRegisters}
-use Rattle.o2_segbus.specs.Settled.{IsSettled, IsSettledAt, descriptor_at, unmarked, start_of}
+use Rattle.o2_segbus.specs.Settled.{IsSettled, IsSettledAt, descriptor_at, start_of}
 use Rattle.o2_segbus.specs.Seen.{AreNamed, hold_in, hold_of, size_in, present_in, bytes_in, seen_with, seen, seen_state}
 use Rattle.o2_segbus.specs.Bus.{AreLoaded, AreInside, registers_of, bus_view}
 use Rattle.o2_segbus.specs.Kept.{planes}

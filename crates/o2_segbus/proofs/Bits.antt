@@ -1,9 +1,8 @@
 -- What an access byte allows doesn't depend on its accessed and present bits.
 use Rattle.std.proofs.Common.{◌≡◌, refl, ap, ℕ, ◌/◌, ◌%◌, Bool, true, false, arith}
 use Rattle.std.specs.Prelude.{◌==◌}
-use Rattle.o2_desc.specs.Bits.{has_bit, marked, with_present, rights_of, is_present, is_code, is_readable, is_writable}
+use Rattle.o2_desc.specs.Bits.{has_bit, marked, with_present, rights_of, is_present, is_code, is_readable, is_writable, unmarked}
 use Rattle.o2_isa.specs.View.{shown_rights}
-use Rattle.o2_segbus.specs.Settled.{unmarked}
 
 bit_1 : (a rights : ℕ) (p : Bool) → unmarked a ≡ with_present rights p → has_bit a 1 ≡ has_bit rights 1
 bit_1 a rights true e = let q : a / 2 % 2 ≡ rights / 2 % 2 = omega arith in ap (λ (n : ℕ). n == 1) q

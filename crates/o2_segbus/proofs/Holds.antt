@@ -3,7 +3,7 @@ use Rattle.std.proofs.Common.{◌≡◌, ◌≤◌, ◌+◌, ◌/◌, refl, sym,
 use Rattle.std.specs.Prelude.{Option, Some, None, is_some, option_map}
 use Rattle.std.proofs.lemmas.Bool.{false≢true}
 use Rattle.o2_desc.specs.declared.descriptor.Descriptor.{Descriptor}
-use Rattle.o2_desc.specs.Bits.{rights_of, with_present}
+use Rattle.o2_desc.specs.Bits.{rights_of, with_present, unmarked}
 use Rattle.o2_phys.specs.Bytes.{part}
 use Rattle.o2_isa.specs.declared.cpu.Cpu.{Cpu}
 use Rattle.o2_isa.specs.declared.instr.Sreg.{Sreg}
@@ -15,7 +15,7 @@ use Rattle.o2_store.specs.Shelf.{Shelf, entry, place_of}
 use Rattle.o2_segbus.specs.declared.registers.SegmentRegister.{SegmentRegister}
 use Rattle.o2_segbus.specs.declared.registers.SegmentRegisters.{SegmentRegisters}
 use Rattle.o2_segbus.specs.Registers.{register_in}
-use Rattle.o2_segbus.specs.Settled.{Describes, IsSettled, IsSettledAt, descriptor_at, unmarked}
+use Rattle.o2_segbus.specs.Settled.{Describes, IsSettled, IsSettledAt, descriptor_at}
 use Rattle.o2_segbus.specs.Seen.{key_of, size_in, size_under, present_in, present_under, bytes_in, bytes_under, bytes_from, hold_in, hold_of, AreNamed, seen, seen_with}
 use Rattle.o2_segbus.specs.Bus.{held_under, IsLoadedAs, IsLoaded, AreLoaded, AreInside, registers_of}
 use Rattle.o2_segbus.specs.Opening.{opened_registers}

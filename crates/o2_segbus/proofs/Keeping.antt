@@ -1,11 +1,11 @@
 -- What the frames of a step tell.
 use Rattle.std.proofs.Common.{◌≡◌, sym, ◌∙◌, ap, subst, ℕ, true, List, arith}
 use Rattle.std.specs.Prelude.{Option, option_map}
-use Rattle.o2_desc.specs.Bits.{is_writable, rights_of}
+use Rattle.o2_desc.specs.Bits.{is_writable, rights_of, unmarked}
 use Rattle.o2_regions.specs.declared.held.Held.{Held}
 use Rattle.o2_regions.specs.Maps.{Maps, held_at}
 use Rattle.o2_store.specs.Shelf.{Shelf, entry}
-use Rattle.o2_segbus.specs.Settled.{descriptor_at, unmarked}
+use Rattle.o2_segbus.specs.Settled.{descriptor_at}
 use Rattle.o2_segbus.specs.Seen.{key_of, hold_in, hold_of, size_in, present_in}
 use Rattle.o2_segbus.specs.Frames.{KeepsStore, KeepsMaps}
 use Rattle.o2_segbus.specs.Guards.{AreAged, AreGuarded}

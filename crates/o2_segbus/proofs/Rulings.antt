@@ -5,7 +5,7 @@ use Rattle.std.specs.Borrow.{GName}
 use Rattle.std.proofs.lemmas.Bool.{false≢true}
 use Rattle.o2_base.specs.declared.selector.Selector.{Selector}
 use Rattle.o2_desc.specs.declared.descriptor.Descriptor.{Descriptor}
-use Rattle.o2_desc.specs.Bits.{is_present, with_present}
+use Rattle.o2_desc.specs.Bits.{is_present, with_present, unmarked}
 use Rattle.o2_isa.specs.declared.cpu.Purpose.{Purpose}
 use Rattle.o2_isa.specs.declared.cpu.Purpose.TheVariants.{DataReg, StackReg, Jump, Call, Return}
 use Rattle.o2_isa.specs.declared.cpu.Loaded.{Loaded}
@@ -14,7 +14,7 @@ use Rattle.o2_isa.specs.View.{View, Hold, is_code, is_readable, is_writable, is_
 use Rattle.o2_regions.specs.Maps.{Maps}
 use Rattle.o2_store.specs.Shelf.{Shelf}
 use Rattle.o2_segbus.specs.declared.registers.SegmentRegisters.{SegmentRegisters}
-use Rattle.o2_segbus.specs.Settled.{IsSettled, unmarked}
+use Rattle.o2_segbus.specs.Settled.{IsSettled}
 use Rattle.o2_segbus.specs.Seen.{AreNamed, hold_in, present_in, seen_with}
 use Rattle.o2_segbus.specs.Bus.{bus_view, IsLoaded}
 use Rattle.o2_segbus.specs.Words.{named_descriptor, loaded_descriptor, tested, called_by, rules, rights_by, service_at}

@@ -4,7 +4,8 @@ use Rattle.o2_regions.specs.Maps.{Maps, IsProcess, table_of}
 use Rattle.o2_isa.specs.declared.cpu.Cpu.{Cpu}
 use Rattle.o2_isa.specs.View.{IsBound}
 use Rattle.o2_store.specs.Shelf.{Shelf, AreClean, Pictures}
-use Rattle.o2_segbus.specs.Settled.{IsSettled, descriptor_at, unmarked}
+use Rattle.o2_desc.specs.Bits.{unmarked}
+use Rattle.o2_segbus.specs.Settled.{IsSettled, descriptor_at}
 use Rattle.o2_segbus.specs.Seen.{AreNamed, seen}
 use Rattle.o2_segbus.specs.Guards.{AreAged, AreGuarded}
 

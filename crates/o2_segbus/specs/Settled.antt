@@ -1,7 +1,7 @@
 -- What the descriptors of processes say of the segments that they hold.
-use Rattle.std.specs.Prelude.{◌≡◌, ℕ, ◌+◌, ◌*◌, ◌/◌, Option, Some, None, is_some, slice_index_or}
+use Rattle.std.specs.Prelude.{◌≡◌, ℕ, ◌+◌, Option, Some, None, is_some, slice_index_or}
 use Rattle.o2_desc.specs.declared.descriptor.Descriptor.{Descriptor}
-use Rattle.o2_desc.specs.Bits.{with_present, rights_of}
+use Rattle.o2_desc.specs.Bits.{with_present, rights_of, unmarked}
 use Rattle.o2_desc.specs.Bytes.{empty}
 use Rattle.o2_regions.specs.declared.held.Held.{Held}
 use Rattle.o2_regions.specs.Maps.{Maps, held_at, table_of}
@@ -11,10 +11,6 @@ use Rattle.o2_store.specs.Shelf.{Shelf, entry, place_of}
 abbrev pub start_of : Option (ℕ × ℕ) → ℕ
 start_of None = 0
 start_of (Some r) = r.0
-
--- an access byte without its accessed bit
-abbrev pub unmarked : ℕ → ℕ
-unmarked access = access / 2 * 2
 
 -- the descriptor of a segment by its place in memory, its size and the rights to it: present exactly where it has a place,
 -- with any accessed bit; the base is the address of its first byte, 0 where it has none, and the limit its size less 1

@@ -3,7 +3,7 @@ use Rattle.std.proofs.Common.{◌≡◌, ◌⊎◌, inl, inr, ℕ, zero, suc, �
 use Rattle.std.proofs.lemmas.Bool.{cases_eq, cases_lt, false≢true, ltb-true}
 use Rattle.std.proofs.lemmas.List.{get_or_past, get_or-set_same, get_or-set_other, length-set}
 use Rattle.o2_desc.specs.declared.descriptor.Descriptor.{Descriptor}
-use Rattle.o2_desc.specs.Bits.{is_accessed, rights_of, with_present}
+use Rattle.o2_desc.specs.Bits.{is_accessed, rights_of, with_present, unmarked}
 use Rattle.o2_desc.specs.Bytes.{empty, entry}
 use Rattle.o2_desc.specs.Choice.{IsChosen, IsRun, chosen}
 use Rattle.o2_desc.proofs.Choices.{chosen_law}
@@ -12,11 +12,11 @@ use Rattle.o2_place.specs.declared.clock.Mark.{Mark}
 use Rattle.o2_place.specs.declared.seg_id.SegId.{SegId}
 use Rattle.o2_place.specs.Marks.{mark_of, no_mark}
 use Rattle.o2_regions.specs.declared.held.Held.{Held}
-use Rattle.o2_regions.specs.Accessed.{ClearsUse, NoneAccessed, is_used_at, segment_of, unmark_at, unused, with_unused}
+use Rattle.o2_regions.specs.Accessed.{ClearsUse, NoneAccessed, is_used_at, segment_of, unmark_at, with_unused}
 use Rattle.o2_regions.specs.Kept.{AreKept}
 use Rattle.o2_regions.specs.Described.{Describes as Tells}
 use Rattle.o2_regions.specs.Maps.{Maps, descriptor_of, held_at, is_of, table_of}
-use Rattle.o2_segbus.specs.Settled.{IsSettled, IsSettledAt, descriptor_at, unmarked}
+use Rattle.o2_segbus.specs.Settled.{IsSettled, IsSettledAt, descriptor_at}
 use Rattle.o2_store.specs.Shelf.{Shelf, IsShelf, base_of, entry_of, place_of}
 use Rattle.o2_store.specs.Shelf as shelf
 use Rattle.o2_service.specs.Learned.{AreUnused, AreUnusedBelow, AreUnusedTo, ClearsBits, IsLoose, Learns, Touches, TouchesOne, used_mark}
@@ -85,14 +85,14 @@ learns_trans s t u m n o p q = record {
 
 -- the descriptor of an index is as it was, or its accessed bit was cleared
 abbrev Cleared : Maps → ℕ → ℕ → ℕ → ℕ → Type 0
-Cleared m pid i q j = (descriptor_at (with_unused m pid i) q j ≡ descriptor_at m q j) ⊎ ((q ≡ pid) × (j ≡ i) × (descriptor_at (with_unused m pid i) q j ≡ record (descriptor_at m q j) { access = unused (descriptor_at m q j).access }))
+Cleared m pid i q j = (descriptor_at (with_unused m pid i) q j ≡ descriptor_at m q j) ⊎ ((q ≡ pid) × (j ≡ i) × (descriptor_at (with_unused m pid i) q j ≡ record (descriptor_at m q j) { access = unmarked (descriptor_at m q j).access }))
 
-in_table : (t : List Descriptor) (i j : ℕ) → (get_or (unmark_at t i) j empty ≡ get_or t j empty) ⊎ ((j ≡ i) × (get_or (unmark_at t i) j empty ≡ record (get_or t j empty) { access = unused (get_or t j empty).access }))
+in_table : (t : List Descriptor) (i j : ℕ) → (get_or (unmark_at t i) j empty ≡ get_or t j empty) ⊎ ((j ≡ i) × (get_or (unmark_at t i) j empty ≡ record (get_or t j empty) { access = unmarked (get_or t j empty).access }))
 in_table t i j = elim (cases_eq j i) [
   | inr n ↦ inl (get_or-set_other t i j _ empty n)
   | inl e ↦ elim (cases_lt j (length t)) [
-    | inl l ↦ inr (e, subst (λ (k : ℕ). get_or (unmark_at t k) j empty ≡ record (get_or t j empty) { access = unused (get_or t j empty).access }) e (get_or-set_same t j _ empty l))
-    | inr l ↦ inl (get_or_past (unmark_at t i) j empty (omega (arith, l, length-set t i (record (get_or t i empty) { access = unused (get_or t i empty).access }))) ∙ sym (get_or_past t j empty l))
+    | inl l ↦ inr (e, subst (λ (k : ℕ). get_or (unmark_at t k) j empty ≡ record (get_or t j empty) { access = unmarked (get_or t j empty).access }) e (get_or-set_same t j _ empty l))
+    | inr l ↦ inl (get_or_past (unmark_at t i) j empty (omega (arith, l, length-set t i (record (get_or t i empty) { access = unmarked (get_or t i empty).access }))) ∙ sym (get_or_past t j empty l))
   ]
 ]
 
@@ -111,11 +111,11 @@ cleared m pid i q j = elim (cases_eq q pid) [
       | inr s ↦ inr (e, s.0, ap (λ (z : List Descriptor). get_or z j empty) t ∙ s.1)
     ]
 
-twice_unused : (a : ℕ) → unmarked (unused a) ≡ unmarked a
+twice_unused : (a : ℕ) → unmarked (unmarked a) ≡ unmarked a
 twice_unused a = omega arith
 
-unused_clear : (a : ℕ) → is_accessed (unused a) ≡ false
-unused_clear a = let q : a / 2 * 2 / 1 % 2 ≡ 0 = omega arith in ap (λ (n : ℕ). n == 1) q
+unused_clear : (a : ℕ) → is_accessed (unmarked a) ≡ false
+unused_clear a = let q : unmarked a / 1 % 2 ≡ 0 = omega arith in ap (λ (n : ℕ). n == 1) q
 
 table_length : (m : Maps) (pid i q : ℕ) → length (table_of (with_unused m pid i) q) ≡ length (table_of m q)
 table_length m pid i q = elim (cases_eq q pid) [

@@ -5,7 +5,7 @@ use Rattle.std.proofs.lemmas.Bool.{cases_eq, cases_lt, cond-true, cond-false}
 use Rattle.std.proofs.lemmas.Bool.Decides.{nat_tests}
 use Rattle.std.proofs.lemmas.List.{drop_more, drop_all, get_or_past}
 use Rattle.o2_desc.specs.declared.descriptor.Descriptor.{Descriptor}
-use Rattle.o2_desc.specs.Bits.{rights_of, with_present}
+use Rattle.o2_desc.specs.Bits.{rights_of, with_present, unmarked}
 use Rattle.o2_desc.specs.Bytes.{empty}
 use Rattle.o2_entries.specs.declared.Entry.{Entry}
 use Rattle.o2_entries.specs.Tables.{slot_at}
@@ -15,7 +15,7 @@ use Rattle.o2_place.specs.Layout.{find_in, no_range, range_at}
 use Rattle.o2_regions.specs.declared.held.Held.{Held}
 use Rattle.o2_regions.specs.Maps.{Maps, held_at, is_of, table_of}
 use Rattle.o2_regions.specs.Described.{Describes as Tells, entry_at, placed}
-use Rattle.o2_segbus.specs.Settled.{Describes, IsSettled, IsSettledAt, descriptor_at, start_of, unmarked}
+use Rattle.o2_segbus.specs.Settled.{Describes, IsSettled, IsSettledAt, descriptor_at, start_of}
 use Rattle.o2_store.specs.Shelf.{Shelf, IsShelf, SameTables, aged, base_of, entry, entry_of, numbered, place_of}
 use Rattle.o2_service.specs.Told.{AreToldBelow, AreToldWhere, IsHeldWell, IsToldWhere, OnlyTables}
 use Rattle.o2_service.proofs.Amounts.{live_within, slot_some}

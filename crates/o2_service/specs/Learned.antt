@@ -6,7 +6,8 @@ use Rattle.o2_place.specs.Marks.{mark_of}
 use Rattle.o2_regions.specs.declared.held.Held.{Held}
 use Rattle.o2_regions.specs.Accessed.{is_used_at}
 use Rattle.o2_regions.specs.Maps.{Maps, held_at, table_of}
-use Rattle.o2_segbus.specs.Settled.{descriptor_at, unmarked}
+use Rattle.o2_desc.specs.Bits.{unmarked}
+use Rattle.o2_segbus.specs.Settled.{descriptor_at}
 use Rattle.o2_store.specs.Shelf.{Shelf, entry, place_of}
 
 -- accessed bits are cleared, and nothing else changes

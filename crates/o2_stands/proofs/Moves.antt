@@ -4,7 +4,7 @@ use Rattle.std.specs.Prelude.{IsTrue, nat_lt}
 use Rattle.o2_entries.specs.declared.Attr.{Attr}
 use Rattle.o2_entries.specs.declared.Entry.{Entry}
 use Rattle.o2_entries.specs.Tables.{slot_at}
-use Rattle.o2_desc.specs.Bits.{is_writable, rights_of}
+use Rattle.o2_desc.specs.Bits.{is_writable, rights_of, unmarked}
 use Rattle.o2_isa.specs.declared.cpu.Cpu.{Cpu}
 use Rattle.o2_phys.specs.Bytes.{part}
 use Rattle.o2_phys.proofs.Parts.{length-part, get-part}
@@ -19,7 +19,7 @@ use Rattle.o2_store.specs.Shelf.{Shelf, AreClean, HasAll, KeepsAll, SameEntry, S
 use Rattle.o2_segbus.specs.Bus.{AreInside}
 use Rattle.o2_segbus.specs.Frames.{CanStep, KeepsClean, KeepsMaps, KeepsStore}
 use Rattle.o2_segbus.specs.Seen.{bytes_from, bytes_in as bytes_there, bytes_under, key_of, number_from, present_in, present_under}
-use Rattle.o2_segbus.specs.Settled.{IsSettled, descriptor_at, unmarked}
+use Rattle.o2_segbus.specs.Settled.{IsSettled, descriptor_at}
 use Rattle.o2_segbus.proofs.Ages.{ages_stay, names_stay}
 use Rattle.o2_segbus.proofs.Keeping.{ages_kept, guards_stay}
 use Rattle.o2_service.specs.Told.{IsHeldWell, OnlyTables}

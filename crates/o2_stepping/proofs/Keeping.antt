@@ -1,6 +1,6 @@
 -- What is kept by bringing segments in and by a try of a step.
 use Rattle.std.proofs.Common.{◌≡◌, ℕ, true, List, Option, ap, sym, ◌∙◌, refl, subst, arith}
-use Rattle.o2_desc.specs.Bits.{is_writable, rights_of}
+use Rattle.o2_desc.specs.Bits.{is_writable, rights_of, unmarked}
 use Rattle.o2_entries.specs.declared.Attr.{Attr}
 use Rattle.o2_image.specs.ImageList.{ImageList}
 use Rattle.o2_regions.specs.declared.held.Held.{Held}
@@ -11,7 +11,7 @@ use Rattle.o2_store.proofs.Keeping.{same_tables, tables_trans}
 use Rattle.o2_swapmap.specs.Piles.{all_of}
 use Rattle.o2_segbus.specs.Frames.{KeepsMaps, KeepsStore}
 use Rattle.o2_segbus.specs.Guards.{AreGuarded}
-use Rattle.o2_segbus.specs.Settled.{IsSettled, descriptor_at, unmarked}
+use Rattle.o2_segbus.specs.Settled.{IsSettled, descriptor_at}
 use Rattle.o2_segbus.proofs.Ages.{ages_stay, names_stay}
 use Rattle.o2_service.specs.Told.{IsHeldWell, OnlyTables}
 use Rattle.o2_service.proofs.Among.{live_same}
