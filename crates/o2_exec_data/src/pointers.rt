@@ -11,8 +11,10 @@ pub fn purpose_of(reg: Sreg) -> Purpose
     ensures { result ≡ load_purpose reg }
 {
     match reg {
+        Sreg::Es => Purpose::DataReg,
+        Sreg::Cs => Purpose::DataReg,
         Sreg::Ss => Purpose::StackReg,
-        _ => Purpose::DataReg,
+        Sreg::Ds => Purpose::DataReg,
     }
 }
 

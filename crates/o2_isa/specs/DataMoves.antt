@@ -3,7 +3,7 @@ use Rattle.std.specs.Prelude.{ℕ, ◌+◌, ◌%◌, [], ◌∷◌, nat_lt, if�
 use Rattle.o2_isa.specs.declared.instr.Width.{Width}
 use Rattle.o2_isa.specs.declared.instr.Width.TheVariants.{Byte, Word}
 use Rattle.o2_isa.specs.declared.instr.Sreg.{Sreg}
-use Rattle.o2_isa.specs.declared.instr.Sreg.TheVariants.{Ss}
+use Rattle.o2_isa.specs.declared.instr.Sreg.TheVariants.{Es, Cs, Ss, Ds}
 use Rattle.o2_isa.specs.declared.instr.Arg.{Arg}
 use Rattle.o2_isa.specs.declared.instr.Arg.TheVariants as arg
 use Rattle.o2_isa.specs.declared.instr.Instr.{Instr}
@@ -17,8 +17,10 @@ use Rattle.o2_isa.specs.Finishing.{placed}
 
 -- what a segment register is loaded for
 abbrev pub purpose_of : Sreg → Purpose
+purpose_of Es = DataReg
+purpose_of Cs = DataReg
 purpose_of Ss = StackReg
-purpose_of _ = DataReg
+purpose_of Ds = DataReg
 
 -- a selector into a segment register
 unfoldable pub loading : Cpu → Sreg → ℕ → ℕ → Steps

@@ -51,8 +51,13 @@ is_status Parity = true
 is_status Auxiliary = true
 is_status Zero = true
 is_status Sign = true
+is_status Trap = false
+is_status Interrupt = false
+is_status Direction = false
 is_status Overflow = true
-is_status _ = false
+is_status PrivilegeLow = false
+is_status PrivilegeHigh = false
+is_status Nested = false
 
 -- an even number of ones in the low byte
 unfoldable pub is_even : ℕ → Bool

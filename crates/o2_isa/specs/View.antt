@@ -239,8 +239,10 @@ put_at bs k Word x = slice_set (slice_set bs k (x % 256)) (k + 1) (x / 256)
 
 -- the exception of an access outside the segment
 abbrev pub outside : Sreg → ℕ × ℕ
+outside Es = (13, 0)
+outside Cs = (13, 0)
 outside Ss = (12, 0)
-outside _ = (13, 0)
+outside Ds = (13, 0)
 
 -- the name, where the register holds one with such rights and the access lies in it
 abbrev pub reached : Option Hold → (ℕ → Bool) → View → Sreg → ℕ → Width → Result ℕ (ℕ × ℕ)
