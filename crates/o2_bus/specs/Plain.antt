@@ -2,12 +2,11 @@
 use Rattle.std.specs.Prelude.{◌≡◌, ◌≢◌, ℕ, Bool, true, not, List, slice_get, length, Option, Some, None, option_map}
 use Rattle.std.specs.Borrow.{GName}
 use Rattle.o2_isa.specs.declared.cpu.Cpu.{Cpu}
-use Rattle.o2_isa.specs.declared.cpu.Purpose.{Purpose}
-use Rattle.o2_isa.specs.declared.cpu.Purpose.TheVariants.{DataReg, StackReg}
-use Rattle.o2_isa.specs.View.{View, Hold, Registers, is_readable, is_writable, is_code, bound_registers, simple_view, no_rest, no_hidden}
+use Rattle.o2_isa.specs.View.{View, Hold, Registers, bound_registers, simple_view, no_rest, no_hidden}
 use Rattle.o2_isa.specs.Presence.{with_unseen}
 use Rattle.o2_bus.specs.declared.plain.Plain.{Plain}
 use Rattle.o2_bus.specs.declared.segment.Segment.{Segment}
+use Rattle.o2_bus.specs.declared.loading.LoadTarget.{LoadTarget}
 pub use Rattle.o2_bus.specs.Maps.{hold_of, granted, in_map, segment_bytes}
 use Rattle.o2_bus.specs.declared.plain_bus.Holds.{Holds}
 use Rattle.o2_bus.specs.declared.plain_bus.PlainBus.{PlainBus}
@@ -46,16 +45,9 @@ bus_view name p pid h = with_unseen (record no_rest { maps = held_in p; most = c
 abbrev pub view_in : PlainBus → View
 view_in b = bus_view b.plain.ghost_name b.plain.now b.pid b.holds
 
--- which access bytes a load takes
-abbrev pub passes_of : Purpose → ℕ → Bool
-passes_of DataReg r = is_readable r
-passes_of StackReg r = is_writable r
-passes_of _ r = is_code r
-
--- the exception where the segment isn't present
-abbrev pub absent_of : Purpose → ℕ
-absent_of StackReg = 12
-absent_of _ = 11
+-- what a load asks of the segment of a hold
+abbrev pub target_in : Plain → Hold → LoadTarget
+target_in p h = record { access = h.rights; present = shown_in p h.name }
 
 -- one segment's bytes are new, and nothing else is
 pub record PutsBytes (old new : List Segment) (name : ℕ) (bytes : List ℕ) : Type 0 where

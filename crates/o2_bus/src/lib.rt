@@ -3,6 +3,8 @@
 
 mod access;
 mod bus;
+mod bytes;
+mod loading;
 mod operands;
 mod outcome;
 mod plain;
@@ -17,12 +19,14 @@ mod segment;
 
 pub use access::{check_load, check_target, check_unlocked, read, room, store, value};
 pub use bus::{Bus, Caches};
+pub use bytes::{first_bytes, len_of, outside_of, put_in, value_in};
+pub use loading::{LoadTarget, load_by, service, shown};
 pub use o2_base::{NoMemory, Selector};
 pub use o2_isa::{Cpu, Loaded, Outcome, Purpose, Stop};
 pub use operands::{finish, operand, place};
 pub use outcome::outcome_of;
 pub use plain::{Grant, Plain};
-pub use plain_bus::{PlainBus, is_readable_byte, is_writable_byte};
+pub use plain_bus::PlainBus;
 pub use ranges::Ranges;
 pub use registers::{
     accumulator, byte_register, offset, segment_register, set_accumulator, set_byte_register,

@@ -1,14 +1,16 @@
 // A bus over a plain memory of segments.
-ghost use Rattle.std.specs.Prelude.{◌≡◌, ◌<◌, ◌≤◌, ◌+◌, ◌*◌, ◌/◌, ◌%◌, ℕ, length, take, drop, IsOk, IfOk, option_map, None, Some};
+ghost use Rattle.std.specs.Prelude.{◌≡◌, ◌<◌, ◌≤◌, ◌+◌, ℕ, length, take, drop, IsOk, IfOk, option_map, None, Some};
 ghost use Rattle.o2_isa.specs.declared.instr.Width.TheVariants.{Byte};
-ghost use Rattle.o2_isa.specs.View.{with_register, in_register, bound_registers, is_null, is_code, is_readable, is_writable, shown_rights, refused, here, when, called, gate_at, load_rules, outside, width_len, value_at, put_at, reached, read_name, SameRoom};
+ghost use Rattle.o2_isa.specs.View.{with_register, in_register, bound_registers, is_readable, is_writable, load_rules, width_len, put_at, reached, read_name, SameRoom};
 ghost use Rattle.std.specs.Prelude.{slice_get};
 ghost use Rattle.o2_bus.specs.Sized.{plain_sized};
-ghost use Rattle.o2_bus.specs.Plain.{hold_of, held_in, bus_view, view_in, registers_of, passes_of, absent_of, segment_bytes, PutsBytes};
+ghost use Rattle.o2_bus.specs.Plain.{hold_of, held_in, bus_view, view_in, registers_of, target_in, segment_bytes, PutsBytes};
 
+use crate::bytes::{first_bytes, len_of, outside_of, put_in, value_in};
+use crate::loading::{LoadTarget, load_by, service, shown};
 use crate::segment::Segment;
 use crate::{Bus, Grant, Plain};
-use o2_base::{Selector, is_built};
+use o2_base::Selector;
 use o2_desc::Access;
 use o2_isa::{Cpu, Loaded, Purpose, Sreg, Width};
 
@@ -80,187 +82,32 @@ fn with_hold(holds: Holds, reg: Sreg, grant: Option<Grant>) -> Holds
     }
 }
 
-// Access bytes, as `Access` says of them.
-
-/// Whether a segment with this access byte may be read through.
-pub fn is_readable_byte(access: u8) -> bool
-    ensures { result ≡ is_readable access }
-{
-    Access(access).is_readable()
-}
-
-/// Whether a segment with this access byte may be written through.
-pub fn is_writable_byte(access: u8) -> bool
-    ensures { result ≡ is_writable access }
-{
-    Access(access).is_writable()
-}
-
-fn is_code_byte(access: u8) -> bool
-    ensures { result ≡ is_code access }
-{
-    Access(access).is_code()
-}
-
-/// An access byte with present and accessed read as 1.
-fn shown(access: u8) -> u8
-    ensures { result ≡ shown_rights access }
-{
-    Access(access).with_present(true).marked().0
-}
-
-fn passes(purpose: Purpose, access: u8) -> bool
-    ensures { result ≡ passes_of purpose access }
-{
-    match purpose {
-        Purpose::DataReg => is_readable_byte(access),
-        Purpose::StackReg => is_writable_byte(access),
-        _ => is_code_byte(access),
-    }
-}
-
 // Loads.
 
-fn refuses(sel: u16) -> Loaded
-    ensures { result ≡ refused sel }
+/// What a load asks of the segment that an index holds.
+fn target_of(plain: &Plain, grant: Option<Grant>) -> Option<LoadTarget>
+    ensures { result ≡ option_map (target_in plain.now) (option_map hold_of grant) }
 {
-    Loaded::Trap(13, sel - sel % 4)
+    match grant {
+        Some(g) => Some(LoadTarget {
+            access: g.access,
+            present: plain.is_shown(g.name),
+        }),
+        None => None,
+    }
 }
 
 impl PlainBus<'_> {
-    #[tactic(auto, unfolding(crate::specs::Plain::bus_view))]
-    fn present_test(&self, _purpose: Purpose, sel: u16, grant: Grant) -> Loaded
-        ensures { result ≡ here (view_in self.now) (absent_of _purpose) sel (hold_of grant) }
-    {
-        if self.plain.is_shown(grant.name) {
-            Loaded::Done
-        } else {
-            Loaded::Miss(Selector(sel))
-        }
-    }
-
-    fn tested(&self, purpose: Purpose, sel: u16, grant: Option<Grant>) -> Loaded
-        ensures { result ≡ when (view_in self.now) (absent_of purpose) sel (passes_of purpose) (option_map hold_of grant) }
-    {
-        match grant {
-            Some(g) => {
-                if passes(purpose, g.access) {
-                    self.present_test(purpose, sel, g)
-                } else {
-                    refuses(sel)
-                }
-            }
-            None => refuses(sel),
-        }
-    }
-
-    #[tactic(auto, unfolding(crate::specs::Plain::bus_view, o2_isa::specs::View::built_gates))]
-    fn gate(&self, sel: u16) -> Option<u16>
-        ensures value { result ≡ gate_at (view_in self.now) sel }
-    {
-        let index = sel / 8;
-        if sel / 4 % 2 == 1 || index < 16 || !is_built(index - 16) {
-            None
-        } else {
-            Some(index - 16)
-        }
-    }
-
-    fn far_call(&self, sel: u16, grant: Option<Grant>) -> Loaded
-        ensures { result ≡ called (view_in self.now) sel (option_map hold_of grant) }
-    {
-        match grant {
-            Some(_) => self.tested(Purpose::Call, sel, grant),
-            None => match self.gate(sel) {
-                Some(service) => Loaded::Gate(service),
-                None => refuses(sel),
-            },
-        }
-    }
-
+    /// The load rules, and then the present test, for a selector and what it names.
+    #[tactic(auto, using(crate::proofs::Ruled::plain_rules))]
     fn rules(&self, purpose: Purpose, sel: u16, grant: Option<Grant>) -> Loaded
         ensures { result ≡ load_rules (view_in self.now) purpose sel (option_map hold_of grant) }
     {
-        if sel < 4 {
-            return match purpose {
-                Purpose::DataReg => Loaded::Done,
-                _ => Loaded::Trap(13, 0),
-            };
-        }
-        let outer = sel % 4 == 3;
-        match purpose {
-            Purpose::StackReg if !outer => refuses(sel),
-            Purpose::Return if !outer => refuses(sel),
-            Purpose::DataReg => self.tested(Purpose::DataReg, sel, grant),
-            Purpose::StackReg => self.tested(Purpose::StackReg, sel, grant),
-            Purpose::Jump => self.tested(Purpose::Jump, sel, grant),
-            Purpose::Call => self.far_call(sel, grant),
-            Purpose::Return => self.tested(Purpose::Return, sel, grant),
-        }
+        load_by(purpose, sel, target_of(self.plain, grant))
     }
 }
 
 // Accesses.
-
-fn outside_of(reg: Sreg) -> (u8, u16)
-    ensures { result ≡ outside reg }
-{
-    match reg {
-        Sreg::Ss => (12, 0),
-        _ => (13, 0),
-    }
-}
-
-fn len_of(width: Width) -> usize
-    ensures value { result ≡ width_len width }
-    ensures small { result ≤ 2 }
-{
-    match width {
-        Width::Byte => 1,
-        Width::Word => 2,
-    }
-}
-
-fn value_in(bytes: &[u8], at: usize, width: Width) -> u16
-    requires room { at + width_len width ≤ length bytes.now }
-    ensures value { result ≡ value_at bytes.now at width }
-    ensures fits { width ≡ Width.Byte → result < 256 }
-{
-    match width {
-        Width::Byte => bytes[at] as u16,
-        Width::Word => bytes[at] as u16 + 256 * bytes[at + 1] as u16,
-    }
-}
-
-fn put(bytes: &mut [u8], at: usize, width: Width, value: u16)
-    requires room { at + width_len width ≤ length bytes.old }
-    requires fits { width ≡ Width.Byte → value < 256 }
-    ensures { bytes.new ≡ put_at bytes.old at width value }
-{
-    match width {
-        Width::Byte => bytes[at] = value as u8,
-        Width::Word => {
-            bytes[at] = (value % 256) as u8;
-            bytes[at + 1] = (value / 256) as u8;
-        }
-    }
-}
-
-/// Up to ten bytes from a place on, to the front of `into`.
-fn front(bytes: &[u8], at: u16, into: &mut [u8; 10]) -> usize
-    ensures count { result ≡ length (take 10 (drop at bytes.now)) }
-    ensures within { result ≤ 10 }
-    ensures bytes { take result into.new ≡ take 10 (drop at bytes.now) }
-    ensures rest { drop result into.new ≡ drop result into.old }
-{
-    let at = at as usize;
-    if bytes.len() <= at {
-        return 0;
-    }
-    let count = (bytes.len() - at).min(10);
-    into[..count].copy_from_slice(&bytes[at..at + count]);
-    count
-}
 
 impl PlainBus<'_> {
     #[tactic(auto, unfolding(crate::specs::Plain::bus_view))]
@@ -275,10 +122,10 @@ impl PlainBus<'_> {
     {
         match grant {
             Some(g) => {
-                if !is_writable_byte(g.access) {
+                if !Access(g.access).is_writable() {
                     return Err((13, 0));
                 }
-                if off as usize + len_of(width) <= self.plain.bytes(g.name).len() {
+                if off as usize + len_of(width) as usize <= self.plain.bytes(g.name).len() {
                     Ok(())
                 } else {
                     Err(outside_of(reg))
@@ -301,11 +148,11 @@ impl PlainBus<'_> {
     {
         match grant {
             Some(g) => {
-                if !is_readable_byte(g.access) {
+                if !Access(g.access).is_readable() {
                     return Err((13, 0));
                 }
                 let bytes = self.plain.bytes(g.name);
-                if off as usize + len_of(width) <= bytes.len() {
+                if off as usize + len_of(width) as usize <= bytes.len() {
                     Ok(value_in(bytes, off as usize, width))
                 } else {
                     Err(outside_of(reg))
@@ -323,7 +170,7 @@ fn put_segment(segments: &mut Vec<Segment>, name: usize, at: usize, width: Width
     ensures { PutsBytes segments.old.items segments.new.items name (put_at (segment_bytes (slice_get segments.old.items name)) at width value) }
 {
     let segment = &mut segments[name];
-    put(&mut segment.bytes, at, width, value);
+    put_in(&mut segment.bytes, at, width, value);
 }
 
 impl Plain {
@@ -347,7 +194,7 @@ impl Bus for PlainBus<'_> {
     #[tactic(auto, unfolding(crate::specs::Plain::bus_view, o2_isa::specs::View::fetched))]
     fn fetch(&self, ip: u16, into: &mut [u8; 10]) -> usize {
         match self.holds.cs {
-            Some(grant) => front(self.plain.bytes(grant.name), ip, into),
+            Some(grant) => first_bytes(self.plain.bytes(grant.name), ip as usize, into),
             None => 0,
         }
     }
@@ -393,7 +240,7 @@ impl Bus for PlainBus<'_> {
     fn rights_of(&self, sel: Selector) -> Option<u8> {
         match self.plain.found(self.pid, sel.0) {
             Some(grant) => Some(shown(grant.access)),
-            None => match self.gate(sel.0) {
+            None => match service(sel.0) {
                 Some(_) => Some(Access::CALL_GATE.0),
                 None => None,
             },

@@ -6,7 +6,8 @@ ghost use Rattle.o2_gate.specs.Writes.{WritesHeld};
 ghost use Rattle.o2_gate.specs.Pointed.{Tells, pointer, writes_to, lies_within, refuses};
 
 use o2_base::Selector;
-use o2_bus::{Bus, Ranges, is_writable_byte};
+use o2_bus::{Bus, Ranges};
+use o2_desc::Access;
 use o2_isa::{Loaded, Purpose};
 
 /// What a test of pointers came to.
@@ -26,7 +27,7 @@ fn names_writable<B: Bus>(bus: &B, sel: Selector) -> bool
     ensures { result ≡ writes_to (found (B.view bus.now) sel.0) }
 {
     match bus.rights_of(sel) {
-        Some(access) => is_writable_byte(access),
+        Some(access) => Access(access).is_writable(),
         None => false,
     }
 }

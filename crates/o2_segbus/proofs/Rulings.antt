@@ -17,7 +17,8 @@ use Rattle.o2_segbus.specs.declared.registers.SegmentRegisters.{SegmentRegisters
 use Rattle.o2_segbus.specs.Settled.{IsSettled}
 use Rattle.o2_segbus.specs.Seen.{AreNamed, hold_in, present_in, seen_with}
 use Rattle.o2_segbus.specs.Bus.{bus_view, IsLoaded}
-use Rattle.o2_segbus.specs.Words.{named_descriptor, loaded_descriptor, tested, called_by, rules, rights_by, service_at}
+use Rattle.o2_bus.specs.Loads.{tested, called_by, rules_of, service_at}
+use Rattle.o2_segbus.specs.Words.{named_descriptor, loaded_descriptor, target_of, rights_by}
 use Rattle.o2_segbus.proofs.Bits.{readable_by, writable_by, code_by, present_by, shown_by}
 use Rattle.o2_segbus.proofs.Holds.{Matches, HasHold, matched, loaded_is}
 
@@ -31,7 +32,7 @@ abbrev AsksRights : (ℕ → Bool) → Type 0
 AsksRights ok = (a rights : ℕ) (p : Bool) → unmarked a ≡ with_present rights p → ok a ≡ ok rights
 
 tested_hold : (s : Shelf) (v : View) (absent sel : ℕ) (ok : ℕ → Bool) (d : Descriptor) (h : Hold) → Shows s v → AsksRights ok → HasHold s d h
-    → tested sel ok (Some d) ≡ when v absent sel ok (Some h)
+    → tested sel ok (Some (target_of d)) ≡ when v absent sel ok (Some h)
 tested_hold s v absent sel ok d h w f q =
     ap (λ (b : Bool). cond b (cond (is_present d.access) loaded.Done (loaded.Miss (record { 0 = sel }))) (refused sel)) (f d.access h.rights (present_in s h.name) q.access)
     ∙ (ap (λ (b : Bool). cond (ok h.rights) (cond b loaded.Done (loaded.Miss (record { 0 = sel }))) (refused sel)) (present_by d.access h.rights (present_in s h.name) q.access)
@@ -39,13 +40,13 @@ tested_hold s v absent sel ok d h w f q =
     ∙ ap (λ (b : Bool). cond (ok h.rights) (cond b (trap_of absent sel) (cond (v.present h.name) loaded.Done (loaded.Miss (record { 0 = sel })))) (refused sel)) (sym (w.kept h.name))))
 
 tested_when : (s : Shelf) (v : View) (absent sel : ℕ) (ok : ℕ → Bool) (d : Option Descriptor) (h : Option Hold) → Shows s v → AsksRights ok → Matches s d h
-    → tested sel ok d ≡ when v absent sel ok h
+    → tested sel ok (option_map target_of d) ≡ when v absent sel ok h
 tested_when s v absent sel ok None None w f q = refl
 tested_when s v absent sel ok None (Some h) w f q = absurd q
 tested_when s v absent sel ok (Some d) None w f q = absurd q
 tested_when s v absent sel ok (Some d) (Some h) w f q = tested_hold s v absent sel ok d h w f q
 
-called_when : (s : Shelf) (v : View) (sel : ℕ) (d : Option Descriptor) (h : Option Hold) → Shows s v → service_at sel ≡ gate_at v sel → Matches s d h → called_by sel d ≡ called v sel h
+called_when : (s : Shelf) (v : View) (sel : ℕ) (d : Option Descriptor) (h : Option Hold) → Shows s v → service_at sel ≡ gate_at v sel → Matches s d h → called_by sel (option_map target_of d) ≡ called v sel h
 called_when s v sel None None w g q = ap (through_gate sel) g
 called_when s v sel None (Some h) w g q = absurd q
 called_when s v sel (Some d) None w g q = absurd q
@@ -57,7 +58,7 @@ guard b x y z e = ap (λ (q : Loaded). cond b x q) e
 guard_then : (b : Bool) (x y z : Loaded) → y ≡ z → cond b y x ≡ cond b z x
 guard_then b x y z e = ap (λ (q : Loaded). cond b q x) e
 
-ruled : (s : Shelf) (v : View) (p : Purpose) (sel : ℕ) (d : Option Descriptor) (h : Option Hold) → Shows s v → service_at sel ≡ gate_at v sel → Matches s d h → rules p sel d ≡ load_rules v p sel h
+ruled : (s : Shelf) (v : View) (p : Purpose) (sel : ℕ) (d : Option Descriptor) (h : Option Hold) → Shows s v → service_at sel ≡ gate_at v sel → Matches s d h → rules_of p sel (option_map target_of d) ≡ load_rules v p sel h
 ruled s v DataReg sel d h w g q = guard (is_null sel) _ _ _ (tested_when s v 11 sel is_readable d h w readable_by q)
 ruled s v StackReg sel d h w g q = guard (is_null sel) _ _ _ (guard_then (sel % 4 == 3) _ _ _ (tested_when s v 12 sel is_writable d h w writable_by q))
 ruled s v Jump sel d h w g q = guard (is_null sel) _ _ _ (tested_when s v 11 sel is_code d h w code_by q)
@@ -65,7 +66,7 @@ ruled s v Call sel d h w g q = guard (is_null sel) _ _ _ (called_when s v sel d 
 ruled s v Return sel d h w g q = guard (is_null sel) _ _ _ (guard_then (sel % 4 == 3) _ _ _ (tested_when s v 11 sel is_code d h w code_by q))
 
 pub probe_view : (g t : GName) (s : Shelf) (m : Maps) (pid : ℕ) (x : SegmentRegisters) (p : Purpose) (sel : Selector) → AreNamed s m → IsSettled s m
-    → rules p sel.0 (named_descriptor m pid sel.0) ≡ probe_of (bus_view g t s m pid x) p sel
+    → rules_of p sel.0 (option_map target_of (named_descriptor m pid sel.0)) ≡ probe_of (bus_view g t s m pid x) p sel
 unfolding probe_of bus_view seen_with
 probe_view g t s m pid x p sel n q =
     ruled s (bus_view g t s m pid x) p sel.0 (named_descriptor m pid sel.0) (found_in (hold_in m pid) sel.0) (record { present = refl; kept = λ k. refl }) refl (matched s m pid sel.0 n q)

@@ -1,44 +1,14 @@
 // Accesses to memory through the descriptor in a register.
 ghost use Rattle.std.specs.Prelude.{◌≡◌, ◌+◌, ◌≤◌, ◌<◌, ◌^◌, ℕ, length, take, drop, IfOk, true};
 ghost use Rattle.o2_isa.specs.declared.instr.Width.TheVariants.{Byte};
-ghost use Rattle.o2_isa.specs.View.{is_readable, outside, width_len, value_at, put_at, SameRoom};
+ghost use Rattle.o2_isa.specs.View.{is_readable, width_len, put_at, SameRoom};
 ghost use Rattle.o2_phys.specs.Bytes.{part, with_part};
 ghost use Rattle.o2_segbus.specs.Words.{read_by, room_by, bytes_by, IsInside};
 
+use o2_bus::{first_bytes, len_of, outside_of, put_in, value_in};
 use o2_desc::{Access, Descriptor};
 use o2_isa::{Sreg, Width};
 use o2_store::Store;
-
-fn outside_of(reg: Sreg) -> (u8, u16)
-    ensures { result ≡ outside reg }
-{
-    match reg {
-        Sreg::Ss => (12, 0),
-        _ => (13, 0),
-    }
-}
-
-#[inline]
-fn len_of(width: Width) -> u32
-    ensures value { result ≡ width_len width }
-    ensures small { result ≤ 2 }
-{
-    match width {
-        Width::Byte => 1,
-        Width::Word => 2,
-    }
-}
-
-fn value_in(memory: &[u8], at: usize, width: Width) -> u16
-    requires room { at + width_len width ≤ length memory.now }
-    ensures value { result ≡ value_at memory.now at width }
-    ensures fits { width ≡ Width.Byte → result < 256 }
-{
-    match width {
-        Width::Byte => memory[at] as u16,
-        Width::Word => memory[at] as u16 + 256 * memory[at + 1] as u16,
-    }
-}
 
 /// Whether a byte or word may be written through a descriptor; if not, the exception and its error code.
 pub(crate) fn room(d: &Descriptor, reg: Sreg, off: u16, width: Width) -> Result<(), (u8, u16)>
@@ -91,34 +61,6 @@ pub(crate) fn front(memory: &[u8], d: &Descriptor, ip: u16, into: &mut [u8; 10])
     first_bytes(bytes, ip as usize, into)
 }
 
-fn first_bytes(bytes: &[u8], at: usize, into: &mut [u8; 10]) -> usize
-    ensures count { result ≡ length (take 10 (drop at bytes.now)) }
-    ensures within { result ≤ 10 }
-    ensures bytes { take result into.new ≡ take 10 (drop at bytes.now) }
-    ensures rest { drop result into.new ≡ drop result into.old }
-{
-    if bytes.len() <= at {
-        return 0;
-    }
-    let count = (bytes.len() - at).min(10);
-    into[..count].copy_from_slice(&bytes[at..at + count]);
-    count
-}
-
-fn put(bytes: &mut [u8], width: Width, value: u16)
-    requires room { length bytes.old ≡ width_len width }
-    requires fits { width ≡ Width.Byte → value < 256 }
-    ensures { bytes.new ≡ put_at bytes.old 0 width value }
-{
-    match width {
-        Width::Byte => bytes[0] = value as u8,
-        Width::Word => {
-            bytes[0] = (value % 256) as u8;
-            bytes[1] = (value / 256) as u8;
-        }
-    }
-}
-
 /// Writes a byte or word to an address of the memory.
 pub(crate) fn write(store: &mut Store, at: u32, width: Width, value: u16)
     requires room { at + width_len width ≤ length store.old.memory }
@@ -126,7 +68,7 @@ pub(crate) fn write(store: &mut Store, at: u32, width: Width, value: u16)
     ensures { store.new ≡ record store.old { memory = put_at store.old.memory at width value } }
 {
     let bytes = store.lend(at, len_of(width));
-    put(bytes, width, value);
+    put_in(bytes, 0, width, value);
 }
 
 /// Some bytes of the segment of a descriptor, from an offset on.

@@ -7,10 +7,10 @@ ghost use Rattle.o2_segbus.specs.Sized.{seg_sized};
 use crate::access::{front, read, room, write};
 use crate::marking::mark_named;
 use crate::registers::{descriptor_in, with_register};
-use crate::rules::{loaded, named, rules, service, shown};
+use crate::rules::{loaded, named, target};
 use crate::{SegBus, SegmentRegister};
 use o2_base::Selector;
-use o2_bus::Bus;
+use o2_bus::{Bus, load_by, service, shown};
 use o2_desc::Access;
 use o2_isa::{Loaded, Purpose, Sreg, Width};
 
@@ -25,7 +25,8 @@ impl Bus for SegBus<'_, '_> {
 
     fn probe(&mut self, purpose: Purpose, sel: Selector) -> Loaded {
         let descriptor = named(self.regions, self.pid, sel.0);
-        rules(purpose, sel.0, descriptor)
+        let wanted = target(descriptor);
+        load_by(purpose, sel.0, wanted)
     }
 
     fn load(&mut self, reg: Sreg, sel: Selector) {

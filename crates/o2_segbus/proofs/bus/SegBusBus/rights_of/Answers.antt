@@ -1,7 +1,8 @@
 use Rattle.std.proofs.Common.{ap, ◌∙◌}
 use Rattle.std.specs.Prelude.{Option, Some, None}
 use Rattle.o2_desc.specs.declared.descriptor.Descriptor.{Descriptor}
-use Rattle.o2_segbus.specs.Words.{rights_by, service_at}
+use Rattle.o2_bus.specs.Loads.{service_at}
+use Rattle.o2_segbus.specs.Words.{rights_by}
 use Rattle.o2_segbus.proofs.Rulings.{rights_view}
 use Rattle.o2_segbus.proofs.bus.SegBusBus.rights_of.Goals as goal
 
