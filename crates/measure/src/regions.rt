@@ -3,6 +3,7 @@ ghost use Rattle.std.specs.Prelude.{◌≡◌, ◌<◌, true};
 ghost use Rattle.o2_regions.specs.Maps.{IsProcess, is_reserved, region_of};
 
 use o2_base::NoMemory;
+use o2_desc::Access;
 use o2_place::SegId;
 use o2_regions::{Cause, Held, Region, Regions};
 use std::alloc::Global;
@@ -38,7 +39,7 @@ fn hold(regions: &mut Regions, pid: u16, key: u32) -> Option<u16> {
     let index = regions.lowest(Region::Private(pid), 1)?;
     regions.reserve(Region::Private(pid), index, 1);
     if regions.held(pid, index).is_none() {
-        regions.grant(pid, index, one_hold(key), 0xF2);
+        regions.grant(pid, index, one_hold(key), Access::WRITABLE_DATA.0);
     }
     Some(index)
 }
@@ -81,7 +82,7 @@ fn grant_and_drop(regions: &mut Regions, pid: u16, index: u16, key: u32)
     ensures reserved { regions.new.reserved ≡ regions.old.reserved }
 {
     if regions.held(pid, index).is_none() {
-        regions.grant(pid, index, one_hold(key), 0xF2);
+        regions.grant(pid, index, one_hold(key), Access::WRITABLE_DATA.0);
         let _ = regions.drop_one(pid, index);
     }
 }

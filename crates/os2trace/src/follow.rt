@@ -10,9 +10,10 @@ ghost use Rattle.os2trace.specs.Going.{IsGoing};
 use crate::command::Choice;
 use crate::reading::bytes_of;
 use crate::show::{Before, show_exception, show_step};
-use o2_base::{Bytes, NoMemory};
+use o2_base::{Bytes, NoMemory, Selector};
 use o2_bus::Plain;
 use o2_core::step_plain;
+use o2_desc::Access;
 use o2_isa::Outcome;
 use o2_machine::{Machine, Steps, Turn};
 use o2_open::Session;
@@ -70,16 +71,26 @@ impl Runner {
             .turn(&mut self.input, console, report, &mut self.swap)
     }
 
-    /// The segment that a process holds under a selector, and its access byte; none where it holds none.
-    fn held(&self, process: u16, selector: u16) -> Option<(SegId, u8)> {
-        let index = selector / 8;
+    /// The segment that a process holds at an index, and the rights to it; none where it holds none.
+    fn held(&self, process: u16, index: u16) -> Option<(SegId, u8)>
+        requires index { index < 8192 }
+    {
         let regions = &self.machine.space.regions;
-        if selector % 8 != 7 || process == 0 || process > regions.processes() {
+        if process == 0 || process > regions.processes() {
             return None;
         }
         let held = regions.held(process, index)?;
         let descriptor = regions.descriptor(process, index)?;
-        Some((held.id, descriptor.access & 0x7F & 0xFE | 0x80))
+        Some((held.id, Access(descriptor.access).rights().0))
+    }
+
+    /// The segment that a process holds under a selector with privilege level 3; none where it holds none.
+    fn named(&self, process: u16, selector: Selector) -> Option<SegId> {
+        if !selector.is_local() || selector.rpl() != 3 {
+            return None;
+        }
+        let (id, _) = self.held(process, selector.index())?;
+        Some(id)
     }
 
     /// The bytes of a segment, none where there is none, or no memory for them.
@@ -100,7 +111,7 @@ impl Runner {
         ensures going { IsGoing self.new.machine self.new.swap }
     {
         let mut ten = [0u8; 10];
-        let Some((id, _)) = self.held(process, selector) else {
+        let Some(id) = self.named(process, Selector(selector)) else {
             return (ten, 0);
         };
         let Some(bytes) = self.bytes(alloc, id) else {
@@ -154,7 +165,7 @@ impl Runner {
         requires going { IsGoing self.old.machine self.old.swap }
         ensures going { IsGoing self.new.machine self.new.swap }
     {
-        let Some((id, access)) = self.held(process, index * 8 + 7) else {
+        let Some((id, access)) = self.held(process, index) else {
             return Ok(());
         };
         let Some(bytes) = self.bytes(alloc, id) else {
