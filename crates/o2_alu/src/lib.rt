@@ -20,6 +20,3 @@ pub use products::{div, mul, mul_low};
 pub use shifts::shift;
 pub use sums::{add, binary, complement, decrement, increment, logic, negate, sub, unary};
 pub use widths::signed_value;
-
-#[cfg(test)]
-mod tests;

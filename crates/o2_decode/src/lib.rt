@@ -8,6 +8,3 @@ mod table;
 
 pub use o2_isa::Decoded;
 pub use reading::{decode, one_spelling};
-
-#[cfg(test)]
-mod tests;

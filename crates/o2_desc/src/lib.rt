@@ -16,6 +16,3 @@ pub use kinds::kinds_by_bits;
 pub use o2_base::Selector;
 pub use table::Table;
 pub use word::FlagsWord;
-
-#[cfg(test)]
-mod tests;

@@ -3,7 +3,7 @@
 ghost use Rattle.std.specs.Prelude.{◌<◌, IsTrue};
 ghost use Rattle.o2_isa.specs.Widths.{IsOfWidth, IsOfTwice};
 
-use crate::{add, adjust, binary, div, mul, shift, sub, unary};
+use o2_alu::{add, adjust, binary, div, mul, shift, sub, unary};
 use o2_isa::{AdjustOp, BinaryOp, ShiftOp, UnaryOp, Width};
 
 /// What a byte addition leaves in the flags word 0202h, by the bits of operands and sum.
@@ -25,8 +25,8 @@ fn all_byte_additions(rt: HostRuntime) {
         let carry = n / 65536;
         let sum = a + b + carry as u16;
         let (r, f) = add(Width::Byte, a, b, carry == 1, 0x202);
-        assert_eq!(rt; r, sum & 0xFF, "{a} + {b}");
-        assert_eq!(rt; f, flags_by_bits(a, b, sum), "{a} + {b}");
+        let is_right = r == sum & 0xFF && f == flags_by_bits(a, b, sum);
+        assert!(rt; is_right, "{a} + {b}");
     }
 }
 
@@ -47,8 +47,8 @@ fn daa_of_all_packed_decimals(rt: HostRuntime) {
         let total = a + b + (if carry { 1 } else { 0 });
         let (sum, f) = add(Width::Byte, packed(a), packed(b), carry, 0x202);
         let (ax, g) = adjust(AdjustOp::Daa, 0x1200 + sum, 0, f).unwrap_or((0, 0));
-        assert_eq!(rt; ax, 0x1200 + packed(total % 100), "{a} + {b}");
-        assert_eq!(rt; g % 2, total / 100, "{a} + {b}");
+        let is_right = ax == 0x1200 + packed(total % 100) && g % 2 == total / 100;
+        assert!(rt; is_right, "{a} + {b}");
     }
 }
 
@@ -61,8 +61,9 @@ fn das_of_all_packed_decimals(rt: HostRuntime) {
         let taken = b + (if borrow { 1 } else { 0 });
         let (difference, f) = sub(Width::Byte, packed(a), packed(b), borrow, 0x202);
         let (ax, g) = adjust(AdjustOp::Das, 0x1200 + difference, 0, f).unwrap_or((0, 0));
-        assert_eq!(rt; ax, 0x1200 + packed((a + 100 - taken) % 100), "{a} - {b}");
-        assert_eq!(rt; g % 2, if a < taken { 1 } else { 0 }, "{a} - {b}");
+        let carries = (g % 2 == 1) == (a < taken);
+        let is_right = ax == 0x1200 + packed((a + 100 - taken) % 100);
+        assert!(rt; is_right && carries, "{a} - {b}");
     }
 }
 

@@ -1,4 +1,4 @@
-use crate::{Access, Descriptor, FlagsWord, Selector, Table};
+use o2_desc::{Access, Descriptor, FlagsWord, Selector, Table};
 use std::test::Fail;
 
 #[test]
@@ -9,16 +9,12 @@ fn descriptor_bytes(rt: HostRuntime) {
         access: 0xF3,
     };
     let bytes = [0xFF, 0x00, 0x40, 0x23, 0x01, 0xF3, 0x00, 0x00];
-    assert_eq!(rt; d.to_bytes(), bytes);
-    assert_eq!(rt; Descriptor::from_bytes(&bytes), Some(d));
-    assert_eq!(rt;
+    let found = [
+        Descriptor::from_bytes(&bytes),
         Descriptor::from_bytes(&[0xFF, 0x00, 0x40, 0x23, 0x01, 0xF3, 0x01, 0x00]),
-        None
-    );
-    assert_eq!(rt;
         Descriptor::from_bytes(&[0xFF, 0x00, 0x40, 0x23, 0x01, 0xF3, 0x00, 0x80]),
-        None
-    );
+    ];
+    assert!(rt; d.to_bytes() == bytes && found == [Some(d), None, None]);
 }
 
 #[test]
@@ -26,8 +22,8 @@ fn selectors_split_and_join(rt: HostRuntime) {
     for s in 0..=u16::MAX {
         let selector = Selector(s);
         let table = if selector.is_local() { 4 } else { 0 };
-        assert_eq!(rt; selector.index() * 8 + table + selector.rpl(), s);
-        assert!(rt; selector.rpl() < 4);
+        let joined = selector.index() * 8 + table + selector.rpl();
+        assert!(rt; joined == s && selector.rpl() < 4);
     }
 }
 
@@ -59,12 +55,9 @@ static ACCESS_BITS: [(Access, u8); 7] = [
 
 #[test]
 fn named_bits(rt: HostRuntime) {
-    for (flag, bits) in &FLAG_BITS {
-        assert_eq!(rt; flag.0, *bits);
-    }
-    for (flag, bits) in &ACCESS_BITS {
-        assert_eq!(rt; flag.0, *bits);
-    }
+    let flags = FLAG_BITS.iter().all(|(flag, bits)| flag.0 == *bits);
+    let rights = ACCESS_BITS.iter().all(|(flag, bits)| flag.0 == *bits);
+    assert!(rt; flags && rights);
 }
 
 // Access bytes, and whether they are present code, readable, writable.
@@ -83,29 +76,36 @@ static KINDS: [(u8, bool, bool, bool, bool); 8] = [
 fn kinds_of_segment(rt: HostRuntime) {
     for (byte, present, code, readable, writable) in &KINDS {
         let access = Access(*byte);
-        assert_eq!(rt; access.is_present(), *present);
-        assert_eq!(rt; access.is_code(), *code);
-        assert_eq!(rt; access.is_readable(), *readable);
-        assert_eq!(rt; access.is_writable(), *writable);
-        assert_eq!(rt; access.privilege(), 3);
+        let found = [
+            access.is_present(),
+            access.is_code(),
+            access.is_readable(),
+            access.is_writable(),
+        ];
+        let is_right = found == [*present, *code, *readable, *writable];
+        assert!(rt; is_right && access.privilege() == 3, "{byte:X}");
     }
 }
 
 #[test]
 fn flags_that_programs_write(rt: HostRuntime) {
-    assert_eq!(rt; FlagsWord(0x0202).popped(0xFFFF).0, 0x4FD7);
-    assert_eq!(rt; FlagsWord(0xFFFF).popped(0x0000).0, 0xB22A);
-    assert_eq!(rt; FlagsWord(0x0202).loaded(0xFF).0, 0x02D7);
-    assert_eq!(rt; FlagsWord(0xFFFF).loaded(0x00).0, 0xFF2A);
-    assert_eq!(rt; FlagsWord(0x0000).shown().0, 0x0002);
-    assert_eq!(rt; FlagsWord(0xFFFF).shown().0, 0x7FD7);
-    assert_eq!(rt; FlagsWord(0x8246).shown().0, 0x0246);
+    let words = [
+        FlagsWord(0x0202).popped(0xFFFF).0,
+        FlagsWord(0xFFFF).popped(0x0000).0,
+        FlagsWord(0x0202).loaded(0xFF).0,
+        FlagsWord(0xFFFF).loaded(0x00).0,
+        FlagsWord(0x0000).shown().0,
+        FlagsWord(0xFFFF).shown().0,
+        FlagsWord(0x8246).shown().0,
+    ];
+    let wanted = [0x4FD7, 0xB22A, 0x02D7, 0xFF2A, 0x0002, 0x7FD7, 0x0246];
+    assert_eq!(rt; words, wanted);
 }
 
 #[test]
 fn table_keeps_its_entries(rt: HostRuntime) -> Result<(), Fail> {
     let mut table = Table::new(rt.alloc(), 3)?;
-    assert_eq!(rt; table.len(), 3);
+    assert!(rt; table.len() == 3);
     let d = Descriptor {
         base: 0x1000,
         limit: 0x01FF,
@@ -113,9 +113,9 @@ fn table_keeps_its_entries(rt: HostRuntime) -> Result<(), Fail> {
     };
     table.set(1, d);
     table.mark(1);
-    assert_eq!(rt; table.get(0), Some(Descriptor::EMPTY));
-    assert_eq!(rt; table.get(1).map_or(0, |d| d.access), 0x73);
-    assert_eq!(rt; table.get(2), Some(Descriptor::EMPTY));
-    assert_eq!(rt; table.get(3), None);
+    let empty = Some(Descriptor::EMPTY);
+    let marked = Some(Descriptor { access: 0x73, ..d });
+    let found = [table.get(0), table.get(1), table.get(2), table.get(3)];
+    assert!(rt; found == [empty, marked, empty, None]);
     Ok(())
 }
