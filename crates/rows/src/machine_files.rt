@@ -199,3 +199,22 @@ fn a_machine_file_that_is_too_long(rt: HostRuntime) -> Result<(), Fail> {
     assert!(rt; answer.status == 3 && answer.says(&[], line));
     Ok(())
 }
+
+/// A word of the script, and the line of its refusal: both halves are judged by their form, and then by their range.
+static SCRIPT_WORDS: [(&str, &str); 5] = [
+    ("0:x", "os2run: machine file: reason 3 script\n"),
+    ("0:", "os2run: machine file: reason 3 script\n"),
+    ("x:0", "os2run: machine file: reason 3 script\n"),
+    ("70000:01", "os2run: machine file: reason 3 script\n"),
+    ("70000:1", "os2run: machine file: reason 4 script\n"),
+];
+
+#[test]
+fn script_words_are_refused_by_their_form_first(rt: HostRuntime) -> Result<(), Fail> {
+    for (word, line) in SCRIPT_WORDS.iter() {
+        let numbers = "budget = 20\nquantum = 1\nscript = [\"";
+        let answer = run_parts(rt.alloc(), &[FRONT, numbers, word, "\"]\n", PROCESS])?;
+        assert!(rt; answer.status == 3 && answer.says(&[], line), "of {word}");
+    }
+    Ok(())
+}
