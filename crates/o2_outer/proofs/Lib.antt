@@ -3,3 +3,4 @@ pub mod Written
 pub mod Booleans
 pub mod Readers
 pub mod Inputs
+pub mod Walks

@@ -9,3 +9,5 @@ pub mod Planned
 pub mod Plans
 pub mod Streams
 pub mod Inputs
+pub mod Fetches
+pub mod Accesses

@@ -1,4 +1,4 @@
--- What a sink over a writer, a source over a reader and the files of a folder show.
+-- What a sink over a writer, a source over a reader, the files of a folder and a swap device over a file show.
 use Rattle.std.specs.Prelude.{◌≡◌, ℕ, Bool, List, ◌++◌, Option, take, ◌&&◌, nat_eq}
 use Rattle.o2_outer.specs.declared.streams.StreamSink.{StreamSink}
 use Rattle.o2_outer.specs.declared.stdin.StreamSource.{StreamSource}
@@ -7,6 +7,9 @@ use Rattle.o2_outer.specs.declared.sink.Put.{Put}
 use Rattle.o2_outer.specs.declared.sink.Put.TheVariants as put
 use Rattle.o2_outer.specs.Texts.{IsPrefix, Gains}
 use Rattle.o2_outer.specs.Inputs.{Past}
+use Rattle.o2_outer.specs.Fetches.{Fetched}
+use Rattle.o2_outer.specs.Accesses.{Accessed}
+use Rattle.o2_outer.specs.declared.file_swap.FileSwap.{FileSwap}
 
 abbrev pub sink_stream : {W : Type 0} → StreamSink W → W
 sink_stream s = s.stream
@@ -53,3 +56,14 @@ source_past s = stream_past s.log.bytes s.ended s.held
 -- how often the system has failed
 abbrev pub folder_faults : {R F D : Type 0} → FolderFiles R F D → ℕ
 folder_faults f = f.faults
+
+-- what it gave so far
+abbrev pub folder_fetches : {R F D : Type 0} → FolderFiles R F D → List Fetched
+folder_fetches f = f.fetches.items
+
+-- what was done with the blocks of a file so far
+abbrev pub swap_history : {R F D : Type 0} → FileSwap R F D → List Accessed
+swap_history s = s.history.items
+
+abbrev pub swap_faults : {R F D : Type 0} → FileSwap R F D → ℕ
+swap_faults s = s.faults

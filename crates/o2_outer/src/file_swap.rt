@@ -1,7 +1,9 @@
 // A swap device over a file of the system.
-ghost use Rattle.std.specs.Prelude.{◌≡◌, ◌≤◌, false, []};
-ghost use Rattle.o2_outer.specs.Texts.{Rose};
+ghost use Rattle.std.specs.Prelude.{◌≡◌, ◌≤◌, []};
+ghost use Rattle.o2_outer.specs.Texts.{Rose, risen};
+ghost use Rattle.o2_outer.specs.Streams.{swap_history, swap_faults};
 
+use crate::history::History;
 use crate::reading::read_on;
 use crate::streams::write_whole;
 use crate::{Dev, Put, SwapDevice};
@@ -18,28 +20,42 @@ const BLOCKS: u32 = 65_536;
 /// How many bytes a block has.
 const BLOCK: u64 = 512;
 
-/// Blocks in the file `os2run.swp`, which is made, empty, at the first use. It tells no content; each error of the system, and a
-/// block of which the file has less than the whole, is a fault.
+/// What was done with a block.
+enum Access {
+    Read,
+    Written,
+    /// A write failed, so nobody knows what it holds.
+    Lost,
+}
+
+/// Blocks in the file `os2run.swp`, which is made, empty, at the first use. A block holds what was written last, and it tells whether
+/// each read gave that. Each error of the system, and a block of which the file has less than the whole, is a fault.
 #[derive(Drop)]
 pub struct FileSwap<R: rt::Files + Drop> {
     system: R,
     file: Option<R::File>,
+    history: History<u32, Access, [u8; 512]>,
     faults: u64,
 }
 
 impl<R: rt::Files + Drop> FileSwap<R> {
     /// A device over the files that this system has. Nothing is opened yet.
-    pub fn new(system: R) -> FileSwap<R> {
+    pub fn new(system: R) -> FileSwap<R>
+        ensures faultless { swap_faults result ≡ 0 }
+        ensures none { swap_history result ≡ [] }
+    {
         FileSwap {
             system,
             file: None,
+            history: History::new(),
             faults: 0,
         }
     }
 
     /// Opens the file where it isn't open, and tells whether it is.
     fn open(&mut self) -> bool
-        ensures { self.new.faults ≡ self.old.faults }
+        ensures faults { self.new.faults ≡ self.old.faults }
+        ensures history { self.new.history ≡ self.old.history }
     {
         if self.file.is_some() {
             return true;
@@ -60,6 +76,8 @@ impl<R: rt::Files + Drop> FileSwap<R> {
         ensures failed { result ≡ Dev.Failed }
         ensures later { self.old.faults ≤ self.new.faults }
         ensures rose { Rose self.old.faults self.new.faults }
+        ensures counts { self.new.faults ≡ risen self.old.faults }
+        ensures history { self.new.history ≡ self.old.history }
     {
         self.faults = self.faults.saturating_add(1);
         Dev::Failed
@@ -67,7 +85,8 @@ impl<R: rt::Files + Drop> FileSwap<R> {
 
     /// Reads a block from the open file, and tells whether it has the whole.
     fn reads(&mut self, i: u32, into: &mut [u8; 512]) -> bool
-        ensures { self.new.faults ≡ self.old.faults }
+        ensures faults { self.new.faults ≡ self.old.faults }
+        ensures history { self.new.history ≡ self.old.history }
     {
         let Some(file) = &mut self.file else {
             return false;
@@ -78,7 +97,8 @@ impl<R: rt::Files + Drop> FileSwap<R> {
 
     /// Writes a block to the open file, and tells whether it was taken whole.
     fn writes(&mut self, i: u32, from: &[u8; 512]) -> bool
-        ensures { self.new.faults ≡ self.old.faults }
+        ensures faults { self.new.faults ≡ self.old.faults }
+        ensures history { self.new.history ≡ self.old.history }
     {
         let Some(file) = &mut self.file else {
             return false;
@@ -88,31 +108,56 @@ impl<R: rt::Files + Drop> FileSwap<R> {
 }
 
 impl<R: rt::Files + Drop> SwapDevice for FileSwap<R> {
+    ghost use Rattle.std.specs.Prelude.{◌≢◌, ◌<◌, ◌∷◌, ℕ, IsTrue};
+    ghost use Rattle.o2_outer.specs.Answers.{HasCause, CountsDev};
+    ghost use Rattle.o2_outer.specs.Accesses.{all_agree, content, with_read, with_write};
+    ghost use Rattle.o2_outer.specs.Streams.{swap_history, swap_faults};
+
     ghost blocks = { λ _. 65536 };
 
-    ghost told = { λ _. false };
+    ghost told = { λ s. all_agree (swap_history s) };
 
-    ghost block = { λ _ _. [] };
+    ghost block = { λ s. content (swap_history s) };
 
-    ghost faults = { λ s. s.faults };
+    ghost faults = { λ s. swap_faults s };
 
     fn count(&self) -> u32 {
         BLOCKS
     }
 
-    fn read(&mut self, i: u32, into: &mut [u8; 512]) -> Dev {
-        if self.open() && self.reads(i, into) {
-            Dev::Done
-        } else {
-            self.fault()
+    fn read(&mut self, i: u32, into: &mut [u8; 512]) -> Dev
+        requires { i < 65536 }
+        ensures notes { swap_history self.new ≡ with_read result i into.new (swap_history self.old) }
+        ensures earlier { IsTrue (all_agree (swap_history self.new))
+            → IsTrue (all_agree (swap_history self.old)) }
+        ensures same { (b : ℕ) → content (swap_history self.new) b ≡ content (swap_history self.old) b }
+        ensures read { IsTrue (all_agree (swap_history self.new)) → result ≡ Dev.Done
+            → into.new ≡ content (swap_history self.old) i }
+        ensures cause { HasCause (swap_faults self.old) (swap_faults self.new) result }
+        ensures counts { CountsDev (swap_faults self.old) (swap_faults self.new) result }
+    {
+        if !(self.open() && self.reads(i, into)) {
+            return self.fault();
         }
+        self.history = self.history.and(&i, &Access::Read, into);
+        Dev::Done
     }
 
-    fn write(&mut self, i: u32, from: &[u8; 512]) -> Dev {
-        if self.open() && self.writes(i, from) {
-            Dev::Done
-        } else {
-            self.fault()
+    fn write(&mut self, i: u32, from: &[u8; 512]) -> Dev
+        requires { i < 65536 }
+        ensures notes { swap_history self.new ≡ with_write result i from.now (swap_history self.old) }
+        ensures same { all_agree (swap_history self.new) ≡ all_agree (swap_history self.old) }
+        ensures others { (b : ℕ) → b ≢ i
+            → content (swap_history self.new) b ≡ content (swap_history self.old) b }
+        ensures written { result ≡ Dev.Done → content (swap_history self.new) i ≡ from.now }
+        ensures cause { HasCause (swap_faults self.old) (swap_faults self.new) result }
+        ensures counts { CountsDev (swap_faults self.old) (swap_faults self.new) result }
+    {
+        if !(self.open() && self.writes(i, from)) {
+            self.history = self.history.and(&i, &Access::Lost, from);
+            return self.fault();
         }
+        self.history = self.history.and(&i, &Access::Written, from);
+        Dev::Done
     }
 }

@@ -1,5 +1,5 @@
 // Files by name.
-ghost use Rattle.std.specs.Prelude.{◌≡◌, ◌≤◌, List, ℕ, Option, Some};
+ghost use Rattle.std.specs.Prelude.{◌≤◌, List, ℕ, Option};
 ghost use Rattle.o2_outer.specs.Answers.{Answers, IsBounded, FetchHasCause};
 
 use o2_base::Bytes;
@@ -22,17 +22,17 @@ pub enum Fetch {
 
 /// Files by name.
 pub trait Files {
-    /// What there is under each name, where it is told.
-    ghost told: { Self → Option (List ℕ → Option (List ℕ)) };
+    /// What may be there under each name: what each fetch so far came to is what it comes to over these.
+    ghost may_hold: { Self → (List ℕ → Option (List ℕ)) → Type 0 };
 
     /// How often it has failed. One at 2^64 - 1 counts as risen at each call.
     ghost faults: { Self → ℕ };
 
     /// The bytes of a file, `most` at most.
     fn fetch(&mut self, alloc: Global, name: &Bytes, most: u32) -> Fetch
-        ensures answers { (files : List ℕ → Option (List ℕ)) → told self.old ≡ Some files → Answers files name.now most result }
+        ensures answers { (files : List ℕ → Option (List ℕ)) → may_hold self.new files → Answers files name.now most result }
         ensures bounded { IsBounded most result }
-        ensures same { told self.new ≡ told self.old }
+        ensures earlier { (files : List ℕ → Option (List ℕ)) → may_hold self.new files → may_hold self.old files }
         ensures count { faults self.old ≤ faults self.new }
         ensures cause { FetchHasCause (faults self.old) (faults self.new) result };
 }

@@ -1,19 +1,23 @@
 // Files of the folder that the program runs in.
-ghost use Rattle.std.specs.Prelude.{None, Some, ◌≡◌, ◌≤◌, ◌<◌, List, ℕ, IfOk, MatchResult, length, vec_len};
+ghost use Rattle.std.specs.Prelude.{Some, ◌≡◌, ◌≤◌, ◌<◌, ◌∷◌, [], List, ℕ, IfOk, MatchResult, length, vec_len};
 ghost use Rattle.o2_outer.specs.Texts.{Rose, risen};
-ghost use Rattle.o2_outer.specs.Streams.{folder_faults};
+ghost use Rattle.o2_outer.specs.Streams.{folder_faults, folder_fetches};
+ghost use Rattle.o2_outer.specs.Fetches.{AreOver};
 ghost use Rattle.o2_outer.specs.Answers.{IsBounded, IsReadFrom, FetchHasCause, CountsFetch};
 
+use crate::history::History;
 use crate::{Fetch, Files};
 use o2_base::Bytes;
 use std::alloc::Global;
 use std::io::{ErrorKind, Read};
 use std::{fs, rt};
 
-/// Files of the system, by the names that it knows. It tells no content; each error of the system is a fault.
+/// Files of the system, by the names that it knows. They may hold what agrees with each fetch so far; each error of the system is a
+/// fault.
 #[derive(Drop)]
 pub struct FolderFiles<R: rt::Files + Drop> {
     system: R,
+    fetches: History<Bytes, u32, Fetch>,
     faults: u64,
 }
 
@@ -56,8 +60,13 @@ impl<R: rt::Files + Drop> FolderFiles<R> {
     /// The files that this system has.
     pub fn new(system: R) -> FolderFiles<R>
         ensures faultless { folder_faults result ≡ 0 }
+        ensures none { folder_fetches result ≡ [] }
     {
-        FolderFiles { system, faults: 0 }
+        FolderFiles {
+            system,
+            fetches: History::new(),
+            faults: 0,
+        }
     }
 
     /// One fault more.
@@ -66,24 +75,20 @@ impl<R: rt::Files + Drop> FolderFiles<R> {
         ensures later { self.old.faults ≤ self.new.faults }
         ensures rose { Rose self.old.faults self.new.faults }
         ensures counts { self.new.faults ≡ risen self.old.faults }
+        ensures same { self.new.fetches ≡ self.old.fetches }
     {
         self.faults = self.faults.saturating_add(1);
         Fetch::Failed
     }
-}
 
-impl<R: rt::Files + Drop> Files for FolderFiles<R> {
-    ghost told = { λ _. None };
-
-    ghost faults = { λ f. folder_faults f };
-
-    fn fetch(&mut self, alloc: Global, name: &Bytes, most: u32) -> Fetch
+    /// The bytes of a file, `most` at most.
+    fn read(&mut self, alloc: Global, name: &Bytes, most: u32) -> Fetch
         ensures bounded { IsBounded most result }
-        ensures count { folder_faults self.old ≤ folder_faults self.new }
-        ensures cause { FetchHasCause (folder_faults self.old) (folder_faults self.new) result }
-        ensures counts { CountsFetch (folder_faults self.old) (folder_faults self.new) result }
-        // What the system's open file tells of itself, where it does.
+        ensures count { self.old.faults ≤ self.new.faults }
+        ensures cause { FetchHasCause self.old.faults self.new.faults result }
+        ensures counts { CountsFetch self.old.faults self.new.faults result }
         ensures whole { IsReadFrom R.File.remaining most result }
+        ensures same { self.new.fetches ≡ self.old.fetches }
     {
         let Ok(path) = str::from_utf8(name.as_slice()) else {
             return self.fault();
@@ -103,5 +108,25 @@ impl<R: rt::Files + Drop> Files for FolderFiles<R> {
                 Err(Unread::NoMemory) => Fetch::NoMemory,
             },
         }
+    }
+}
+
+impl<R: rt::Files + Drop> Files for FolderFiles<R> {
+    ghost may_hold = { λ f files. AreOver files (folder_fetches f) };
+
+    ghost faults = { λ f. folder_faults f };
+
+    fn fetch(&mut self, alloc: Global, name: &Bytes, most: u32) -> Fetch
+        ensures fetched { folder_fetches self.new ≡ (name.now, (most, result)) ∷ folder_fetches self.old }
+        ensures bounded { IsBounded most result }
+        ensures count { folder_faults self.old ≤ folder_faults self.new }
+        ensures cause { FetchHasCause (folder_faults self.old) (folder_faults self.new) result }
+        ensures counts { CountsFetch (folder_faults self.old) (folder_faults self.new) result }
+        // What the system's open file tells of itself, where it does.
+        ensures whole { IsReadFrom R.File.remaining most result }
+    {
+        let fetch = self.read(alloc, name, most);
+        self.fetches = self.fetches.and(name, &most, &fetch);
+        fetch
     }
 }

@@ -68,7 +68,7 @@ impl MemFiles {
 }
 
 impl Files for MemFiles {
-    ghost told = { λ f. Some (file_in (mem_files f)) };
+    ghost may_hold = { λ f files. files ≡ file_in (mem_files f) };
 
     ghost faults = { λ f. mem_fetch_faults f };
 
@@ -111,7 +111,7 @@ impl SureFiles {
 }
 
 impl Files for SureFiles {
-    ghost told = { λ f. Some (file_in (sure_files f)) };
+    ghost may_hold = { λ f files. files ≡ file_in (sure_files f) };
 
     ghost faults = { λ _. 0 };
 
