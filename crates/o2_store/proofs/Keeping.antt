@@ -42,6 +42,10 @@ keeps_trans told pic s t u a b c p q = record {
   tables = tables_trans s t u p.tables q.tables;
 }
 
+-- what is kept where an earlier device tells is kept where a later one does
+pub keeps_later : (earlier later : Bool) (pic : Pictures) (s t : Shelf) (a b : ℕ → List ℕ) → (IsTrue later → IsTrue earlier) → KeepsAll earlier pic s a t b → KeepsAll later pic s a t b
+keeps_later earlier later pic s t a b told p = record { bytes = λ w k j l. p.bytes (told w) k j l; tables = p.tables }
+
 -- the source of a byte that lies in an owner's blocks
 kept_source : (o : Option (ℕ × ℕ)) (pic : Pictures) (m n : Blocks) (a b : ℕ → List ℕ) (k j : ℕ) → blocks_of n k ≡ blocks_of m k → (o ≡ None → j / 512 < length (blocks_of m k))
     → ((i : ℕ) → i < length (blocks_of m k) → b (get_or (blocks_of m k) i 0) ≡ a (get_or (blocks_of m k) i 0)) → source_byte o pic n b k j ≡ source_byte o pic m a k j

@@ -39,9 +39,9 @@ pub(crate) fn write_out<S: SwapDevice>(
     requires fits { (at + size < 2 ^ 31) × (size ≤ 65536) }
     requires blocks { length (blocks_of map.now key) ≡ blocks_for size }
     requires device { all_of map.now ≤ S.blocks swap.old }
-    ensures device { (S.blocks swap.new ≡ S.blocks swap.old) × (S.told swap.new ≡ S.told swap.old) }
-    ensures others { IsTrue (S.told swap.old) → (b : ℕ) → IsOther map.now key b → S.block swap.new b ≡ S.block swap.old b }
-    ensures written { IsTrue (S.told swap.old) → result ≡ Dev.Done → (j : ℕ) → j < size → stored_byte map.now (S.block swap.new) key j ≡ slice_index phys.now (at + j) }
+    ensures device { (S.blocks swap.new ≡ S.blocks swap.old) × (IsTrue (S.told swap.new) → IsTrue (S.told swap.old)) }
+    ensures others { IsTrue (S.told swap.new) → (b : ℕ) → IsOther map.now key b → S.block swap.new b ≡ S.block swap.old b }
+    ensures written { IsTrue (S.told swap.new) → result ≡ Dev.Done → (j : ℕ) → j < size → stored_byte map.now (S.block swap.new) key j ≡ slice_index phys.now (at + j) }
     ensures cause { HasCause (S.faults swap.old) (S.faults swap.new) result }
 {
     let mut buffer = [0u8; 512];
@@ -73,11 +73,11 @@ pub(crate) fn read_in<S: SwapDevice>(
     requires fits { (at + kept < 2 ^ 31) × (kept ≤ 65536) }
     requires blocks { length (blocks_of map.now key) ≡ blocks_for kept }
     requires device { all_of map.now ≤ S.blocks swap.old }
-    ensures device { (S.blocks swap.new ≡ S.blocks swap.old) × (S.told swap.new ≡ S.told swap.old) }
-    ensures same { IsTrue (S.told swap.old) → (b : ℕ) → S.block swap.new b ≡ S.block swap.old b }
+    ensures device { (S.blocks swap.new ≡ S.blocks swap.old) × (IsTrue (S.told swap.new) → IsTrue (S.told swap.old)) }
+    ensures same { IsTrue (S.told swap.new) → (b : ℕ) → S.block swap.new b ≡ S.block swap.old b }
     ensures length { length phys.new ≡ length phys.old }
     ensures outside { (i : ℕ) → (i < at) ⊎ (at + kept ≤ i) → slice_index phys.new i ≡ slice_index phys.old i }
-    ensures read { IsTrue (S.told swap.old) → result ≡ Dev.Done → (j : ℕ) → j < kept → slice_index phys.new (at + j) ≡ stored_byte map.now (S.block swap.old) key j }
+    ensures read { IsTrue (S.told swap.new) → result ≡ Dev.Done → (j : ℕ) → j < kept → slice_index phys.new (at + j) ≡ stored_byte map.now (S.block swap.old) key j }
     ensures cause { HasCause (S.faults swap.old) (S.faults swap.new) result }
 {
     let mut buffer = [0u8; 512];

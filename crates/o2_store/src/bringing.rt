@@ -41,10 +41,10 @@ impl Store {
     // Takes the next segment out of memory that isn't locked and not among the numbers.
     fn evict_next<S: SwapDevice>(&mut self, swap: &mut S) -> Brought
         requires device { all_of self.old.swap ≤ S.blocks swap.old }
-        ensures keeps { (pic : Pictures) → AreClean self.old pic → KeepsAll (S.told swap.old) pic self.old (S.block swap.old) self.new (S.block swap.new) }
+        ensures keeps { (pic : Pictures) → AreClean self.old pic → KeepsAll (S.told swap.new) pic self.old (S.block swap.old) self.new (S.block swap.new) }
         ensures clean { (pic : Pictures) → AreClean self.old pic → AreClean self.new pic }
         ensures tables { SameTables self.old self.new }
-        ensures device { (S.blocks swap.new ≡ S.blocks swap.old) × (S.told swap.new ≡ S.told swap.old) }
+        ensures device { (S.blocks swap.new ≡ S.blocks swap.old) × (IsTrue (S.told swap.new) → IsTrue (S.told swap.old)) }
         ensures map { all_of self.new.swap ≡ all_of self.old.swap }
         ensures keys { self.new.keys ≡ self.old.keys }
         ensures kept { (k : ℕ) → IsKept self.old.keys k → place_of self.new k ≡ place_of self.old k }
@@ -69,10 +69,10 @@ impl Store {
     // Takes segments out of memory until so many bytes are in no range.
     pub(crate) fn evict_until<S: SwapDevice>(&mut self, len: u32, swap: &mut S) -> Brought
         requires device { all_of self.old.swap ≤ S.blocks swap.old }
-        ensures keeps { (pic : Pictures) → AreClean self.old pic → KeepsAll (S.told swap.old) pic self.old (S.block swap.old) self.new (S.block swap.new) }
+        ensures keeps { (pic : Pictures) → AreClean self.old pic → KeepsAll (S.told swap.new) pic self.old (S.block swap.old) self.new (S.block swap.new) }
         ensures clean { (pic : Pictures) → AreClean self.old pic → AreClean self.new pic }
         ensures tables { SameTables self.old self.new }
-        ensures device { (S.blocks swap.new ≡ S.blocks swap.old) × (S.told swap.new ≡ S.told swap.old) }
+        ensures device { (S.blocks swap.new ≡ S.blocks swap.old) × (IsTrue (S.told swap.new) → IsTrue (S.told swap.old)) }
         ensures map { all_of self.new.swap ≡ all_of self.old.swap }
         ensures keys { self.new.keys ≡ self.old.keys }
         ensures kept { (k : ℕ) → IsKept self.old.keys k → place_of self.new k ≡ place_of self.old k }
@@ -116,10 +116,10 @@ impl Store {
         requires fits { all_need self.old.entries self.old.keys ≤ self.old.places.size }
         requires pictures { HasAll (HasPicture images.now) self.old }
         requires device { all_of self.old.swap ≤ S.blocks swap.old }
-        ensures keeps { AreClean self.old (picture images.now) → KeepsAll (S.told swap.old) (picture images.now) self.old (S.block swap.old) self.new (S.block swap.new) }
+        ensures keeps { AreClean self.old (picture images.now) → KeepsAll (S.told swap.new) (picture images.now) self.old (S.block swap.old) self.new (S.block swap.new) }
         ensures clean { AreClean self.old (picture images.now) → AreClean self.new (picture images.now) }
         ensures tables { SameTables self.old self.new }
-        ensures device { (S.blocks swap.new ≡ S.blocks swap.old) × (S.told swap.new ≡ S.told swap.old) }
+        ensures device { (S.blocks swap.new ≡ S.blocks swap.old) × (IsTrue (S.told swap.new) → IsTrue (S.told swap.old)) }
         ensures map { all_of self.new.swap ≡ all_of self.old.swap }
         ensures here { result ≡ Brought.Here → IsSome (place_of self.new key) }
         ensures same { IsSome (place_of self.old key) → (result ≡ Brought.Here) × (self.new ≡ self.old) × (swap.new ≡ swap.old) }
@@ -161,10 +161,10 @@ impl Store {
         requires room { used self.old.places.ranges + len ≤ self.old.places.size }
         requires pictures { HasAll (HasPicture images.now) self.old }
         requires device { all_of self.old.swap ≤ S.blocks swap.old }
-        ensures keeps { KeepsAll (S.told swap.old) (picture images.now) self.old (S.block swap.old) self.new (S.block swap.new) }
+        ensures keeps { KeepsAll (S.told swap.new) (picture images.now) self.old (S.block swap.old) self.new (S.block swap.new) }
         ensures clean { AreClean self.old (picture images.now) → AreClean self.new (picture images.now) }
         ensures tables { SameTables self.old self.new }
-        ensures device { (S.blocks swap.new ≡ S.blocks swap.old) × (S.told swap.new ≡ S.told swap.old) }
+        ensures device { (S.blocks swap.new ≡ S.blocks swap.old) × (IsTrue (S.told swap.new) → IsTrue (S.told swap.old)) }
         ensures map { all_of self.new.swap ≡ all_of self.old.swap }
         ensures here { result ≡ Brought.Here → IsSome (place_of self.new key) }
         ensures out { (result ≡ Brought.Here → ⊥) → place_of self.new key ≡ None }
@@ -198,10 +198,10 @@ impl Store {
         requires clean { AreClean self.old (picture images.now) }
         requires device { all_of self.old.swap ≤ S.blocks swap.old }
 
-        ensures keeps { KeepsAll (S.told swap.old) (picture images.now) self.old (S.block swap.old) self.new (S.block swap.new) }
+        ensures keeps { KeepsAll (S.told swap.new) (picture images.now) self.old (S.block swap.old) self.new (S.block swap.new) }
         ensures clean { AreClean self.new (picture images.now) }
         ensures tables { SameTables self.old self.new }
-        ensures device { (S.blocks swap.new ≡ S.blocks swap.old) × (S.told swap.new ≡ S.told swap.old) }
+        ensures device { (S.blocks swap.new ≡ S.blocks swap.old) × (IsTrue (S.told swap.new) → IsTrue (S.told swap.old)) }
         ensures map { all_of self.new.swap ≡ all_of self.old.swap }
         ensures kept { (k : ℕ) → named_in self.old.entries keep.now k ≡ true → IsSome (place_of self.old k) → IsSome (place_of self.new k) }
         ensures locked { (k : ℕ) → 0 < (entry self.old k).attr.lock → IsSome (place_of self.new k) }

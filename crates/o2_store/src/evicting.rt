@@ -73,9 +73,9 @@ impl Store {
         requires kept { kept ≤ (entry self.now key).size }
         requires enough { length (blocks_of self.now.swap key) ≡ blocks_for kept }
         requires device { all_of self.now.swap ≤ S.blocks swap.old }
-        ensures device { (S.blocks swap.new ≡ S.blocks swap.old) × (S.told swap.new ≡ S.told swap.old) }
-        ensures others { IsTrue (S.told swap.old) → (b : ℕ) → IsOther self.now.swap key b → S.block swap.new b ≡ S.block swap.old b }
-        ensures written { IsTrue (S.told swap.old) → result ≡ Dev.Done → (j : ℕ) → j < kept → stored_byte self.now.swap (S.block swap.new) key j ≡ slice_index self.now.memory (at + j) }
+        ensures device { (S.blocks swap.new ≡ S.blocks swap.old) × (IsTrue (S.told swap.new) → IsTrue (S.told swap.old)) }
+        ensures others { IsTrue (S.told swap.new) → (b : ℕ) → IsOther self.now.swap key b → S.block swap.new b ≡ S.block swap.old b }
+        ensures written { IsTrue (S.told swap.new) → result ≡ Dev.Done → (j : ℕ) → j < kept → stored_byte self.now.swap (S.block swap.new) key j ≡ slice_index self.now.memory (at + j) }
         ensures cause { HasCause (S.faults swap.old) (S.faults swap.new) result }
     {
         self.law();
@@ -88,13 +88,13 @@ impl Store {
         requires placed { place_of self.old key ≡ Some (at, rounded (entry self.old key).size) }
         requires written { (entry self.old key).attr.clean ≡ false }
         requires device { all_of self.old.swap ≤ S.blocks swap.old }
-        ensures keeps { (pic : Pictures) → KeepsAll (S.told swap.old) pic self.old (S.block swap.old) self.new (S.block swap.new) }
+        ensures keeps { (pic : Pictures) → KeepsAll (S.told swap.new) pic self.old (S.block swap.old) self.new (S.block swap.new) }
         ensures clean { (pic : Pictures) → AreClean self.old pic → AreClean self.new pic }
         ensures shelf { self.new ≡ record self.old { swap = self.new.swap; entries = self.new.entries } }
         ensures map { all_of self.new.swap ≡ all_of self.old.swap }
         ensures tables { SameTables self.old self.new }
-        ensures device { (S.blocks swap.new ≡ S.blocks swap.old) × (S.told swap.new ≡ S.told swap.old) }
-        ensures saved { IsTrue (S.told swap.old) → result ≡ Brought.Here → (pic : Pictures) (j : ℕ) → j < (entry self.old key).size → out_byte self.new pic (S.block swap.new) key j ≡ slice_index self.new.memory (at + j) }
+        ensures device { (S.blocks swap.new ≡ S.blocks swap.old) × (IsTrue (S.told swap.new) → IsTrue (S.told swap.old)) }
+        ensures saved { IsTrue (S.told swap.new) → result ≡ Brought.Here → (pic : Pictures) (j : ℕ) → j < (entry self.old key).size → out_byte self.new pic (S.block swap.new) key j ≡ slice_index self.new.memory (at + j) }
         ensures others { (k : ℕ) → k ≢ key → slot_at self.new.entries k ≡ slot_at self.old.entries k }
         ensures written { result ≡ Brought.Here → IsWrittenOut self.old self.new key }
         ensures full { result ≡ Brought.SwapFull → IsFull self.new }
@@ -148,10 +148,10 @@ impl Store {
         requires placed { IsSome (place_of self.old key) }
         requires unlocked { (entry self.old key).attr.lock ≡ 0 }
         requires device { all_of self.old.swap ≤ S.blocks swap.old }
-        ensures keeps { (pic : Pictures) → AreClean self.old pic → KeepsAll (S.told swap.old) pic self.old (S.block swap.old) self.new (S.block swap.new) }
+        ensures keeps { (pic : Pictures) → AreClean self.old pic → KeepsAll (S.told swap.new) pic self.old (S.block swap.old) self.new (S.block swap.new) }
         ensures clean { (pic : Pictures) → AreClean self.old pic → AreClean self.new pic }
         ensures tables { SameTables self.old self.new }
-        ensures device { (S.blocks swap.new ≡ S.blocks swap.old) × (S.told swap.new ≡ S.told swap.old) }
+        ensures device { (S.blocks swap.new ≡ S.blocks swap.old) × (IsTrue (S.told swap.new) → IsTrue (S.told swap.old)) }
         ensures map { all_of self.new.swap ≡ all_of self.old.swap }
         ensures out { result ≡ Brought.Here → Changes self.old.places self.new.places key None }
         ensures used { result ≡ Brought.Here → used self.new.places.ranges + len_of (place_of self.old key) ≡ used self.old.places.ranges }
@@ -191,10 +191,10 @@ impl Store {
         requires unlocked { IfSome (entry_of self.old id) (λ e. e.attr.lock ≡ 0) }
         requires device { all_of self.old.swap ≤ S.blocks swap.old }
 
-        ensures keeps { (pic : Pictures) → AreClean self.old pic → KeepsAll (S.told swap.old) pic self.old (S.block swap.old) self.new (S.block swap.new) }
+        ensures keeps { (pic : Pictures) → AreClean self.old pic → KeepsAll (S.told swap.new) pic self.old (S.block swap.old) self.new (S.block swap.new) }
         ensures clean { (pic : Pictures) → AreClean self.old pic → AreClean self.new pic }
         ensures tables { SameTables self.old self.new }
-        ensures device { (S.blocks swap.new ≡ S.blocks swap.old) × (S.told swap.new ≡ S.told swap.old) }
+        ensures device { (S.blocks swap.new ≡ S.blocks swap.old) × (IsTrue (S.told swap.new) → IsTrue (S.told swap.old)) }
         ensures map { all_of self.new.swap ≡ all_of self.old.swap }
         ensures others { (k : ℕ) → k ≢ id.key → place_of self.new k ≡ place_of self.old k }
 

@@ -61,10 +61,10 @@ impl Store {
         requires pictures { HasAll (HasPicture images.now) self.old }
         requires device { all_of self.old.swap ≤ S.blocks swap.old }
         ensures shelf { self.new ≡ record self.old { memory = self.new.memory } }
-        ensures device { (S.blocks swap.new ≡ S.blocks swap.old) × (S.told swap.new ≡ S.told swap.old) }
-        ensures same { IsTrue (S.told swap.old) → (b : ℕ) → S.block swap.new b ≡ S.block swap.old b }
+        ensures device { (S.blocks swap.new ≡ S.blocks swap.old) × (IsTrue (S.told swap.new) → IsTrue (S.told swap.old)) }
+        ensures same { IsTrue (S.told swap.new) → (b : ℕ) → S.block swap.new b ≡ S.block swap.old b }
         ensures outside { (i : ℕ) → (i < at) ⊎ (at + (entry self.old key).size ≤ i) → slice_index self.new.memory i ≡ slice_index self.old.memory i }
-        ensures read { Tells (S.told swap.old) (entry self.old key).image → result ≡ Dev.Done → (j : ℕ) → j < (entry self.old key).size → slice_index self.new.memory (at + j) ≡ out_byte self.old (picture images.now) (S.block swap.old) key j }
+        ensures read { Tells (S.told swap.new) (entry self.old key).image → result ≡ Dev.Done → (j : ℕ) → j < (entry self.old key).size → slice_index self.new.memory (at + j) ≡ out_byte self.old (picture images.now) (S.block swap.old) key j }
         ensures cause { HasCause (S.faults swap.old) (S.faults swap.new) result }
     {
         self.law();
@@ -125,10 +125,10 @@ impl Store {
         requires room { used self.old.places.ranges + len ≤ self.old.places.size }
         requires pictures { HasAll (HasPicture images.now) self.old }
         requires device { all_of self.old.swap ≤ S.blocks swap.old }
-        ensures keeps { KeepsAll (S.told swap.old) (picture images.now) self.old (S.block swap.old) self.new (S.block swap.new) }
+        ensures keeps { KeepsAll (S.told swap.new) (picture images.now) self.old (S.block swap.old) self.new (S.block swap.new) }
         ensures clean { AreClean self.old (picture images.now) → AreClean self.new (picture images.now) }
         ensures tables { SameTables self.old self.new }
-        ensures device { (S.blocks swap.new ≡ S.blocks swap.old) × (S.told swap.new ≡ S.told swap.old) }
+        ensures device { (S.blocks swap.new ≡ S.blocks swap.old) × (IsTrue (S.told swap.new) → IsTrue (S.told swap.old)) }
         ensures map { all_of self.new.swap ≡ all_of self.old.swap }
         ensures here { result ≡ true → IsSome (place_of self.new key) }
         ensures out { result ≡ false → place_of self.new key ≡ None }

@@ -53,10 +53,10 @@ impl Store {
         requires unlocked { (entry self.old key).attr.lock ≡ 0 }
         requires sizes { (0 < size) × (size ≤ 65536) }
         requires device { all_of self.old.swap ≤ S.blocks swap.old }
-        ensures resized { (pic : Pictures) → AreClean self.old pic → result ≡ Brought.Here → Resizes (S.told swap.old) pic self.old (S.block swap.old) self.new (S.block swap.new) key size }
-        ensures keeps { (pic : Pictures) → AreClean self.old pic → (result ≡ Brought.Here → ⊥) → KeepsAll (S.told swap.old) pic self.old (S.block swap.old) self.new (S.block swap.new) }
+        ensures resized { (pic : Pictures) → AreClean self.old pic → result ≡ Brought.Here → Resizes (S.told swap.new) pic self.old (S.block swap.old) self.new (S.block swap.new) key size }
+        ensures keeps { (pic : Pictures) → AreClean self.old pic → (result ≡ Brought.Here → ⊥) → KeepsAll (S.told swap.new) pic self.old (S.block swap.old) self.new (S.block swap.new) }
         ensures clean { (pic : Pictures) → AreClean self.old pic → AreClean self.new pic }
-        ensures device { (S.blocks swap.new ≡ S.blocks swap.old) × (S.told swap.new ≡ S.told swap.old) }
+        ensures device { (S.blocks swap.new ≡ S.blocks swap.old) × (IsTrue (S.told swap.new) → IsTrue (S.told swap.old)) }
         ensures map { all_of self.new.swap ≡ all_of self.old.swap }
         ensures others { (k : ℕ) → k ≢ key → is_some (place_of self.new k) ≡ is_some (place_of self.old k) }
         ensures still { used self.old.places.ranges + rounded size ≤ self.old.places.size + rounded (entry self.old key).size → IsSome (place_of self.new key) }
@@ -98,10 +98,10 @@ impl Store {
         requires placed { IsSome (place_of self.old key) }
         requires sizes { (0 < size) × (size ≤ 65536) }
         requires device { all_of self.old.swap ≤ S.blocks swap.old }
-        ensures resized { (pic : Pictures) → AreClean self.old pic → result ≡ Brought.Here → Resizes (S.told swap.old) pic self.old (S.block swap.old) self.new (S.block swap.new) key size }
-        ensures keeps { (pic : Pictures) → AreClean self.old pic → (result ≡ Brought.Here → ⊥) → KeepsAll (S.told swap.old) pic self.old (S.block swap.old) self.new (S.block swap.new) }
+        ensures resized { (pic : Pictures) → AreClean self.old pic → result ≡ Brought.Here → Resizes (S.told swap.new) pic self.old (S.block swap.old) self.new (S.block swap.new) key size }
+        ensures keeps { (pic : Pictures) → AreClean self.old pic → (result ≡ Brought.Here → ⊥) → KeepsAll (S.told swap.new) pic self.old (S.block swap.old) self.new (S.block swap.new) }
         ensures clean { (pic : Pictures) → AreClean self.old pic → AreClean self.new pic }
-        ensures device { (S.blocks swap.new ≡ S.blocks swap.old) × (S.told swap.new ≡ S.told swap.old) }
+        ensures device { (S.blocks swap.new ≡ S.blocks swap.old) × (IsTrue (S.told swap.new) → IsTrue (S.told swap.old)) }
         ensures map { all_of self.new.swap ≡ all_of self.old.swap }
         ensures out { (k : ℕ) → place_of self.old k ≡ None → place_of self.new k ≡ None }
         ensures here { IsSome (place_of self.new key) }
@@ -147,10 +147,10 @@ impl Store {
         requires clean { AreClean self.old (picture images.now) }
         requires device { all_of self.old.swap ≤ S.blocks swap.old }
 
-        ensures resized { result ≡ Brought.Here → Resizes (S.told swap.old) (picture images.now) self.old (S.block swap.old) self.new (S.block swap.new) id.key size }
-        ensures keeps { (result ≡ Brought.Here → ⊥) → KeepsAll (S.told swap.old) (picture images.now) self.old (S.block swap.old) self.new (S.block swap.new) }
+        ensures resized { result ≡ Brought.Here → Resizes (S.told swap.new) (picture images.now) self.old (S.block swap.old) self.new (S.block swap.new) id.key size }
+        ensures keeps { (result ≡ Brought.Here → ⊥) → KeepsAll (S.told swap.new) (picture images.now) self.old (S.block swap.old) self.new (S.block swap.new) }
         ensures clean { AreClean self.new (picture images.now) }
-        ensures device { (S.blocks swap.new ≡ S.blocks swap.old) × (S.told swap.new ≡ S.told swap.old) }
+        ensures device { (S.blocks swap.new ≡ S.blocks swap.old) × (IsTrue (S.told swap.new) → IsTrue (S.told swap.old)) }
         ensures map { all_of self.new.swap ≡ all_of self.old.swap }
         ensures out { (k : ℕ) → place_of self.old k ≡ None → place_of self.new k ≡ None }
         ensures kept { (k : ℕ) → named_in self.old.entries keep.now k ≡ true → IsSome (place_of self.old k) → IsSome (place_of self.new k) }
@@ -219,10 +219,10 @@ impl Store {
         requires fits { all_need self.old.entries self.old.keys + rounded size ≤ self.old.places.size + rounded (entry self.old key).size }
         requires sizes { (0 < size) × (size ≤ 65536) }
         requires device { all_of self.old.swap ≤ S.blocks swap.old }
-        ensures resized { (pic : Pictures) → AreClean self.old pic → result ≡ Brought.Here → Resizes (S.told swap.old) pic self.old (S.block swap.old) self.new (S.block swap.new) key size }
-        ensures keeps { (pic : Pictures) → AreClean self.old pic → (result ≡ Brought.Here → ⊥) → KeepsAll (S.told swap.old) pic self.old (S.block swap.old) self.new (S.block swap.new) }
+        ensures resized { (pic : Pictures) → AreClean self.old pic → result ≡ Brought.Here → Resizes (S.told swap.new) pic self.old (S.block swap.old) self.new (S.block swap.new) key size }
+        ensures keeps { (pic : Pictures) → AreClean self.old pic → (result ≡ Brought.Here → ⊥) → KeepsAll (S.told swap.new) pic self.old (S.block swap.old) self.new (S.block swap.new) }
         ensures clean { (pic : Pictures) → AreClean self.old pic → AreClean self.new pic }
-        ensures device { (S.blocks swap.new ≡ S.blocks swap.old) × (S.told swap.new ≡ S.told swap.old) }
+        ensures device { (S.blocks swap.new ≡ S.blocks swap.old) × (IsTrue (S.told swap.new) → IsTrue (S.told swap.old)) }
         ensures map { all_of self.new.swap ≡ all_of self.old.swap }
         ensures out { (k : ℕ) → place_of self.old k ≡ None → is_some (place_of self.new k) ≡ false }
         ensures kept { (k : ℕ) → has self.old.keys k ≡ true → IsSome (place_of self.old k) → IsSome (place_of self.new k) }

@@ -82,9 +82,9 @@ impl Store {
         requires clean { AreClean self.old (picture images.now) }
         requires device { all_of self.old.swap ≤ S.blocks swap.old }
 
-        ensures keeps { KeepsAll (S.told swap.old) (picture images.now) self.old (S.block swap.old) self.new (S.block swap.new) }
+        ensures keeps { KeepsAll (S.told swap.new) (picture images.now) self.old (S.block swap.old) self.new (S.block swap.new) }
         ensures clean { AreClean self.new (picture images.now) }
-        ensures device { (S.blocks swap.new ≡ S.blocks swap.old) × (S.told swap.new ≡ S.told swap.old) }
+        ensures device { (S.blocks swap.new ≡ S.blocks swap.old) × (IsTrue (S.told swap.new) → IsTrue (S.told swap.old)) }
         ensures map { all_of self.new.swap ≡ all_of self.old.swap }
         ensures alone { (k : ℕ) → k ≢ id.key → place_of self.new k ≡ place_of self.old k }
 

@@ -1,4 +1,4 @@
-use Rattle.std.proofs.Common.{◌≡◌, ◌+◌, ◌-◌, ◌*◌, ◌<◌, ◌≤◌, length, take, get_or, arith, sym, ◌∙◌, min, subst, IsTrue}
+use Rattle.std.proofs.Common.{◌≡◌, ◌+◌, ◌-◌, ◌*◌, ◌<◌, ◌≤◌, length, take, get_or, arith, ◌∙◌, min}
 use Rattle.std.proofs.lemmas.List.{length-take-le}
 use Rattle.o2_swapmap.specs.Piles.{blocks_of}
 use Rattle.o2_phys.proofs.Parts.{length-with_part}
@@ -16,15 +16,14 @@ loop-k-preserved g c =
     let n : c.min-n.result ≡ min (c.args.kept - 512 * c.loop-k.k) 512 = c.min-n.ensures in
     let l : length ys ≡ c.min-n.result = length-take-le c.min-n.result c.read.new.into (omega (arith, c.read.array_long)) in
     let w : c.args.at + c.args.kept ≤ length c.loop-k.phys = omega (arith, i.size_of_memory) in
-    let told = λ (t : IsTrue (g.S.SwapDevice.told c.args.swap.now)). subst IsTrue (sym i.told) t in
     record {
       blocks = c.read.ensures.blocks ∙ i.blocks;
-      told = c.read.ensures.told ∙ i.told;
+      told = λ t. i.told (c.read.ensures.earlier t);
       faults = omega (arith, i.faults, c.read.ensures.cause.later);
       size_of_buffer = c.read.array_long;
       size_of_memory = rw c.write.ensures.written (length-with_part c.loop-k.phys ys (c.args.at + 512 * c.loop-k.k) (omega arith) ∙ i.size_of_memory);
-      same = λ t b. c.read.ensures.same (told t) b ∙ i.same t b;
+      same = λ t b. c.read.ensures.same t b ∙ i.same (c.read.ensures.earlier t) b;
       outside = rw c.write.ensures.written (outside_step c.args.phys.now c.loop-k.phys ys c.args.at c.args.kept (512 * c.loop-k.k) (omega arith) w i.outside);
-      read = rw c.write.ensures.written (λ t. read_step c.loop-k.phys ys (stored_byte c.args.map.now (g.S.SwapDevice.block c.args.swap.now) c.args.key) c.args.at c.args.kept c.loop-k.k c.min-n.result n (omega arith) l w (i.read t)
-          (block_step c.read.new.into (g.S.SwapDevice.block c.args.swap.now) c.args.map.now c.args.key c.loop-k.k c.min-n.result list_k (omega arith) (c.read.ensures.read (told t) c.in_default.is ∙ i.same t list_k) is_k));
+      read = rw c.write.ensures.written (λ t. read_step c.loop-k.phys ys (stored_byte c.args.map.now (g.S.SwapDevice.block c.args.swap.now) c.args.key) c.args.at c.args.kept c.loop-k.k c.min-n.result n (omega arith) l w (i.read (c.read.ensures.earlier t))
+          (block_step c.read.new.into (g.S.SwapDevice.block c.args.swap.now) c.args.map.now c.args.key c.loop-k.k c.min-n.result list_k (omega arith) (c.read.ensures.read t c.in_default.is ∙ i.same (c.read.ensures.earlier t) list_k) is_k));
     }

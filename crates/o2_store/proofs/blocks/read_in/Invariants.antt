@@ -5,11 +5,11 @@ use Rattle.o2_store.proofs.blocks.read_in.Given as goal
 abbrev pub invariant-loop-k : goal.invariant-loop-k
 invariant-loop-k g l = let S = g.S.SwapDevice in record {
   blocks : S.blocks l.swap ≡ S.blocks l.initial.swap;
-  told : S.told l.swap ≡ S.told l.initial.swap;
+  told : IsTrue (S.told l.swap) → IsTrue (S.told l.initial.swap);
   faults : S.faults l.initial.swap ≤ S.faults l.swap;
   size_of_buffer : length l.buffer ≡ 512;
   size_of_memory : length l.phys ≡ length l.initial.phys;
-  same : IsTrue (S.told l.initial.swap) → (b : ℕ) → S.block l.swap b ≡ S.block l.initial.swap b;
+  same : IsTrue (S.told l.swap) → (b : ℕ) → S.block l.swap b ≡ S.block l.initial.swap b;
   outside : (i : ℕ) → (i < l.at) ⊎ (l.at + l.kept ≤ i) → slice_index l.phys i ≡ slice_index l.initial.phys i;
-  read : IsTrue (S.told l.initial.swap) → (j : ℕ) → j < l.kept → j < 512 * l.k → slice_index l.phys (l.at + j) ≡ stored_byte l.map (S.block l.initial.swap) l.key j;
+  read : IsTrue (S.told l.swap) → (j : ℕ) → j < l.kept → j < 512 * l.k → slice_index l.phys (l.at + j) ≡ stored_byte l.map (S.block l.initial.swap) l.key j;
 }

@@ -19,7 +19,7 @@ returns-clause-keeps g c =
     let s = c.args.self.now in
     let t = c.list_keys-need.new.self in
     let e = c.list_keys-need.ensures.shelf in
-    keys_keep (S.told c.args.swap.now) (picture c.args.images.now) s t c.bring_key-answer.new.self (S.block c.args.swap.now) (S.block c.bring_key-answer.new.swap) e
+    keys_keep (S.told c.bring_key-answer.new.swap) (picture c.args.images.now) s t c.bring_key-answer.new.self (S.block c.args.swap.now) (S.block c.bring_key-answer.new.swap) e
     (c.bring_key-answer.ensures.keeps (keys_clean (picture c.args.images.now) s t e c.requires.clean))
 
 pub returns-clause-clean : goal.returns-clause-clean

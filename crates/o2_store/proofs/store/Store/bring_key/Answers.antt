@@ -4,14 +4,26 @@ use Rattle.o2_store.specs.Pictures.{picture}
 use Rattle.o2_store.specs.Needs.{has, all_need}
 use Rattle.o2_store.specs.Shelf.{Shelf, place_of, entry, rounded}
 use Rattle.o2_store.proofs.Tables.{within_at}
+use Rattle.o2_store.proofs.Keeping.{keeps_later, keeps_trans}
 use Rattle.o2_store.proofs.Collecting.{kept_has, need_exceeds, same_need}
 use Rattle.o2_store.proofs.Leaving.{some_not_none, written_in}
 use Rattle.o2_store.proofs.store.Store.bring_key.Goals as goal
 
+pub returns-in-Here-clause-keeps : goal.returns-in-Here-clause-keeps
+returns-in-Here-clause-keeps g c =
+    let S = g.S.SwapDevice in
+    let told = S.told c.come_in.new.swap in
+    let a = S.block c.args.swap.now in
+    let b = S.block c.evict_until-answer.new.swap in
+    let pic = picture c.args.images.now in
+    let s = c.args.self.now in
+    let v = c.evict_until-answer in
+    let t = v.new.self in
+    λ q. keeps_trans told pic s t c.come_in.new.self a b (S.block c.come_in.new.swap) (keeps_later (S.told v.new.swap) told pic s t a b c.come_in.ensures.device.1 (v.ensures.keeps pic q)) c.come_in.ensures.keeps
+
 pub returns-in-Here-clause-kept : goal.returns-in-Here-clause-kept
 returns-in-Here-clause-kept g c =
     let S = g.S.SwapDevice in
-    let told = S.told c.args.swap.now in
     let a = S.block c.args.swap.now in
     let pic = picture c.args.images.now in
     let s = c.args.self.now in
@@ -31,7 +43,6 @@ returns-in-Here-clause-written g c =
 pub returns-in_default : goal.returns-in_default
 returns-in_default g c =
     let S = g.S.SwapDevice in
-    let told = S.told c.args.swap.now in
     let a = S.block c.args.swap.now in
     let pic = picture c.args.images.now in
     let s = c.args.self.now in

@@ -6,7 +6,7 @@ use Rattle.o2_store.proofs.store.Store.evict_next.Goals as goal
 pub returns-in-Some-clause-keeps : goal.returns-in-Some-clause-keeps
 returns-in-Some-clause-keeps g c =
     let S = g.S.SwapDevice in
-    let told = S.told c.args.swap.now in
+    let told = S.told c.evict_one.new.swap in
     let a = S.block c.args.swap.now in
     let b = S.block c.evict_one.new.swap in
     let s = c.args.self.now in

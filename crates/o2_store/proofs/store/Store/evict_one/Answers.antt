@@ -6,7 +6,7 @@ use Rattle.o2_store.proofs.store.Store.evict_one.Goals as goal
 pub returns-in-Here-clause-keeps : goal.returns-in-Here-clause-keeps
 returns-in-Here-clause-keeps g c =
     let S = g.S.SwapDevice in
-    let told = S.told c.args.swap.now in
+    let told = S.told c.save.new.swap in
     let a = S.block c.args.swap.now in
     let b = S.block c.save.new.swap in
     let s = c.args.self.now in

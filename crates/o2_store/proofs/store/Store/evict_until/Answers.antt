@@ -1,23 +1,23 @@
 use Rattle.std.proofs.Common.{List, ℕ, ◌∙◌, sym, subst, Bool, rules, arith, ap}
 use Rattle.o2_place.specs.Layout.{used}
 use Rattle.o2_place.specs.Marks.{IsKept}
-use Rattle.o2_store.specs.Shelf.{Shelf, KeepsAll}
-use Rattle.o2_store.proofs.Keeping.{keeps_trans, tables_trans}
+use Rattle.o2_store.specs.Shelf.{Shelf}
+use Rattle.o2_store.proofs.Keeping.{keeps_later, keeps_trans, tables_trans}
 use Rattle.o2_store.proofs.Leaving.{evicts_trans}
 use Rattle.o2_store.proofs.store.Store.evict_until.Goals as goal
 
 pub returns-then-not-matches-clause-keeps : goal.returns-then-not-matches-clause-keeps
 returns-then-not-matches-clause-keeps g c =
     let S = g.S.SwapDevice in
-    let told = S.told c.args.swap.now in
     let a = S.block c.args.swap.now in
     let v = c.evict_next-answer in
+    let told = S.told v.new.swap in
     let i = c.loop-self.invariant in
     let b = S.block c.loop-self.swap in
     let d = S.block v.new.swap in
     let s = c.args.self.now in
     let t = c.loop-self.self in
-    λ pic q. keeps_trans told pic s t v.new.self a b d (i.keeps pic q) (subst (λ (x : Bool). KeepsAll x pic t b v.new.self d) i.told (v.ensures.keeps pic (i.clean pic q)))
+    λ pic q. keeps_trans told pic s t v.new.self a b d (keeps_later (S.told c.loop-self.swap) told pic s t a b v.ensures.device.1 (i.keeps pic q)) (v.ensures.keeps pic (i.clean pic q))
 
 pub returns-then-not-matches-clause-clean : goal.returns-then-not-matches-clause-clean
 returns-then-not-matches-clause-clean g c = λ pic q. c.evict_next-answer.ensures.clean pic (c.loop-self.invariant.clean pic q)
@@ -33,20 +33,20 @@ returns-then-not-matches-clause-evicts g c =
 pub loop-self-preserved : goal.loop-self-preserved
 loop-self-preserved g c =
     let S = g.S.SwapDevice in
-    let told = S.told c.args.swap.now in
     let a = S.block c.args.swap.now in
     let v = c.evict_next-answer in
+    let told = S.told v.new.swap in
     let i = c.loop-self.invariant in
     let b = S.block c.loop-self.swap in
     let d = S.block v.new.swap in
     let s = c.args.self.now in
     let t = c.loop-self.self in
     record {
-      keeps = λ pic q. keeps_trans told pic s t v.new.self a b d (i.keeps pic q) (subst (λ (x : Bool). KeepsAll x pic t b v.new.self d) i.told (v.ensures.keeps pic (i.clean pic q)));
+      keeps = λ pic q. keeps_trans told pic s t v.new.self a b d (keeps_later (S.told c.loop-self.swap) told pic s t a b v.ensures.device.1 (i.keeps pic q)) (v.ensures.keeps pic (i.clean pic q));
       clean = λ pic q. v.ensures.clean pic (i.clean pic q);
       tables = tables_trans s t v.new.self i.tables v.ensures.tables;
       blocks_many = v.ensures.device.0 ∙ i.blocks_many;
-      told = v.ensures.device.1 ∙ i.told;
+      told = λ w. i.told (v.ensures.device.1 w);
       map = v.ensures.map ∙ i.map;
       keys = v.ensures.keys ∙ i.keys;
       kept = λ k q. v.ensures.kept k (subst (λ (x : List ℕ). IsKept x k) (sym i.keys) q) ∙ i.kept k q;

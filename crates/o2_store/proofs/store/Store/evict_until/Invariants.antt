@@ -1,4 +1,4 @@
-use Rattle.std.proofs.Common.{◌≡◌, ◌+◌, ◌≤◌, ◌<◌, ℕ, length, None}
+use Rattle.std.proofs.Common.{◌≡◌, ◌+◌, ◌≤◌, ◌<◌, ℕ, length, None, IsTrue}
 use Rattle.o2_swapmap.specs.Piles.{all_of}
 use Rattle.o2_place.specs.Layout.{used}
 use Rattle.o2_place.specs.Marks.{IsKept}
@@ -8,11 +8,11 @@ use Rattle.o2_store.proofs.store.Store.evict_until.Given as goal
 
 abbrev pub invariant-loop-self : goal.invariant-loop-self
 invariant-loop-self g l = let S = g.S.SwapDevice in record {
-  keeps : (pic : Pictures) → AreClean l.initial.self pic → KeepsAll (S.told l.initial.swap) pic l.initial.self (S.block l.initial.swap) l.self (S.block l.swap);
+  keeps : (pic : Pictures) → AreClean l.initial.self pic → KeepsAll (S.told l.swap) pic l.initial.self (S.block l.initial.swap) l.self (S.block l.swap);
   clean : (pic : Pictures) → AreClean l.initial.self pic → AreClean l.self pic;
   tables : SameTables l.initial.self l.self;
   blocks_many : S.blocks l.swap ≡ S.blocks l.initial.swap;
-  told : S.told l.swap ≡ S.told l.initial.swap;
+  told : IsTrue (S.told l.swap) → IsTrue (S.told l.initial.swap);
   map : all_of l.self.swap ≡ all_of l.initial.self.swap;
   keys : l.self.keys ≡ l.initial.self.keys;
   kept : (k : ℕ) → IsKept l.initial.self.keys k → place_of l.self k ≡ place_of l.initial.self k;

@@ -9,7 +9,7 @@ use Rattle.o2_store.proofs.store.Store.place_in.Goals as goal
 pub returns-in-Failed-clause-keeps : goal.returns-in-Failed-clause-keeps
 returns-in-Failed-clause-keeps g c =
     let S = g.S.SwapDevice in
-    let told = S.told c.args.swap.now in
+    let told = S.told c.fill.new.swap in
     let a = S.block c.args.swap.now in
     let b = S.block c.fill.new.swap in
     let pic = picture c.args.images.now in
@@ -23,7 +23,7 @@ returns-in-Failed-clause-keeps g c =
 pub returns-in-Failed-clause-clean : goal.returns-in-Failed-clause-clean
 returns-in-Failed-clause-clean g c =
     let S = g.S.SwapDevice in
-    let told = S.told c.args.swap.now in
+    let told = S.told c.fill.new.swap in
     let a = S.block c.args.swap.now in
     let b = S.block c.fill.new.swap in
     let pic = picture c.args.images.now in
@@ -40,7 +40,7 @@ returns-in-Failed-clause-others g c = others_moved c.args.self.now c.make_fit-at
 pub returns-clause-keeps : goal.returns-clause-keeps
 returns-clause-keeps g c =
     let S = g.S.SwapDevice in
-    let told = S.told c.args.swap.now in
+    let told = S.told c.fill.new.swap in
     let a = S.block c.args.swap.now in
     let b = S.block c.fill.new.swap in
     let pic = picture c.args.images.now in
@@ -56,7 +56,7 @@ returns-clause-keeps g c =
 pub returns-clause-clean : goal.returns-clause-clean
 returns-clause-clean g c =
     let S = g.S.SwapDevice in
-    let told = S.told c.args.swap.now in
+    let told = S.told c.fill.new.swap in
     let a = S.block c.args.swap.now in
     let b = S.block c.fill.new.swap in
     let pic = picture c.args.images.now in

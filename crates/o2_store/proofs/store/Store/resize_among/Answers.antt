@@ -13,8 +13,8 @@ use Rattle.o2_store.proofs.store.Store.resize_among.Goals as goal
 pub returns-in-Here-clause-resized : goal.returns-in-Here-clause-resized
 returns-in-Here-clause-resized g c =
     let S = g.S.SwapDevice in
-    let told = S.told c.args.swap.now in
     let v = c.evict_until-answer in
+    let told = S.told v.new.swap in
     let b = S.block v.new.swap in
     λ pic a e. resizes_after told pic c.args.self.now v.new.self c.set_size.new.self (S.block c.args.swap.now) b b c.args.key c.args.size (v.ensures.keeps pic a) (c.set_size.ensures.resizes told pic b)
 

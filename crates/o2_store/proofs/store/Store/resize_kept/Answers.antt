@@ -29,7 +29,7 @@ returns-clause-resized g c =
     let s = c.args.self.now in
     let t = c.list_keys.new.self in
     let e = c.list_keys.ensures.shelf in
-    λ pic a q. keys_resize (S.told c.args.swap.now) pic s t c.resize_among.new.self (S.block c.args.swap.now) (S.block c.resize_among.new.swap) c.args.key c.args.size e (c.resize_among.ensures.resized pic (keys_clean pic s t e a) q)
+    λ pic a q. keys_resize (S.told c.resize_among.new.swap) pic s t c.resize_among.new.self (S.block c.args.swap.now) (S.block c.resize_among.new.swap) c.args.key c.args.size e (c.resize_among.ensures.resized pic (keys_clean pic s t e a) q)
 
 pub returns-clause-keeps : goal.returns-clause-keeps
 returns-clause-keeps g c =
@@ -37,7 +37,7 @@ returns-clause-keeps g c =
     let s = c.args.self.now in
     let t = c.list_keys.new.self in
     let e = c.list_keys.ensures.shelf in
-    λ pic a q. keys_keep (S.told c.args.swap.now) pic s t c.resize_among.new.self (S.block c.args.swap.now) (S.block c.resize_among.new.swap) e (c.resize_among.ensures.keeps pic (keys_clean pic s t e a) q)
+    λ pic a q. keys_keep (S.told c.resize_among.new.swap) pic s t c.resize_among.new.self (S.block c.args.swap.now) (S.block c.resize_among.new.swap) e (c.resize_among.ensures.keeps pic (keys_clean pic s t e a) q)
 
 pub returns-clause-clean : goal.returns-clause-clean
 returns-clause-clean g c = λ pic a. c.resize_among.ensures.clean pic (keys_clean pic c.args.self.now c.list_keys.new.self c.list_keys.ensures.shelf a)

@@ -6,7 +6,7 @@ use Rattle.o2_store.proofs.store.Store.save.Goals as goal
 pub returns-in-Failed-clause-keeps : goal.returns-in-Failed-clause-keeps
 returns-in-Failed-clause-keeps g c =
     let S = g.S.SwapDevice in
-    let told = S.told c.args.swap.now in
+    let told = S.told c.flush.new.swap in
     let a = S.block c.args.swap.now in
     let b = S.block c.flush.new.swap in
     let s = c.args.self.now in
@@ -17,7 +17,7 @@ returns-in-Failed-clause-keeps g c =
 pub returns-clause-keeps : goal.returns-clause-keeps
 returns-clause-keeps g c =
     let S = g.S.SwapDevice in
-    let told = S.told c.args.swap.now in
+    let told = S.told c.flush.new.swap in
     let a = S.block c.args.swap.now in
     let b = S.block c.flush.new.swap in
     let s = c.args.self.now in
