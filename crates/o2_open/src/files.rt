@@ -1,5 +1,5 @@
 // The files that a command names: the machine file, and the modules.
-ghost use Rattle.std.specs.Prelude.{◌≡◌, ◌≤◌, ℕ, List, Option, Some, IfOk, IfErr, OnOk, length, [], ◌∷◌, ◌++◌};
+ghost use Rattle.std.specs.Prelude.{◌≡◌, ◌≤◌, ℕ, List, IfOk, IfErr, OnOk, length, [], ◌∷◌, ◌++◌};
 ghost use Rattle.o2_image.specs.Modules.{module_of};
 ghost use Rattle.o2_image.specs.Whole.{IsRunnable};
 ghost use Rattle.o2_conf.specs.Setting.{setting};
@@ -56,9 +56,9 @@ fn checked(alloc: Global, name: &Bytes, file: Bytes) -> Result<Module, OpenFault
 /// The module in a file.
 #[tactic(auto, unfolding(crate::specs::Loads::module_in))]
 pub fn module<F: Files>(alloc: Global, files: &mut F, name: &Bytes) -> Result<Module, OpenFault>
-    ensures exact { (contents : Contents) → F.told files.old ≡ Some contents → Loads (λ m. m) result (module_in contents name.now) }
+    ensures exact { (contents : Contents) → F.may_hold files.new contents → Loads (λ m. m) result (module_in contents name.now) }
     ensures refuses { IfErr result (Refuses (F.faults files.old) (F.faults files.new)) }
-    ensures told { F.told files.new ≡ F.told files.old }
+    ensures earlier { (contents : Contents) → F.may_hold files.new contents → F.may_hold files.old contents }
     ensures count { F.faults files.old ≤ F.faults files.new }
 {
     match files.fetch(alloc, name, MODULE_BYTES) {
@@ -92,7 +92,8 @@ pub fn modules<F: Files>(
     files: &mut F,
     names: &[Bytes],
 ) -> Result<Vec<Module>, OpenFault>
-    ensures exact { (contents : Contents) → F.told files.old ≡ Some contents → Loads (λ v. v.items) result (modules_in contents names.now []) }
+    ensures exact { (contents : Contents) → F.may_hold files.new contents → Loads (λ v. v.items) result (modules_in contents names.now []) }
+    ensures earlier { (contents : Contents) → F.may_hold files.new contents → F.may_hold files.old contents }
     ensures count_of { IfOk result (λ v. length v.items ≡ length names.now) }
     ensures refuses { IfErr result (Refuses (F.faults files.old) (F.faults files.new)) }
     ensures count { F.faults files.old ≤ F.faults files.new }
@@ -121,10 +122,10 @@ fn setting_of(alloc: Global, file: &Bytes) -> Result<Conf, OpenFault>
 /// The setting in a machine file.
 #[tactic(auto, unfolding(crate::specs::Loads::machine_in))]
 pub fn machine<F: Files>(alloc: Global, files: &mut F, name: &Bytes) -> Result<Conf, OpenFault>
-    ensures exact { (contents : Contents) → F.told files.old ≡ Some contents → Loads (λ c. c) result (machine_in contents name.now) }
+    ensures exact { (contents : Contents) → F.may_hold files.new contents → Loads (λ c. c) result (machine_in contents name.now) }
     ensures within { IfOk result IsWithinLimits }
     ensures refuses { IfErr result (Refuses (F.faults files.old) (F.faults files.new)) }
-    ensures told { F.told files.new ≡ F.told files.old }
+    ensures earlier { (contents : Contents) → F.may_hold files.new contents → F.may_hold files.old contents }
     ensures count { F.faults files.old ≤ F.faults files.new }
 {
     match files.fetch(alloc, name, MACHINE_BYTES) {

@@ -1,5 +1,5 @@
 // Opening what a command runs.
-ghost use Rattle.std.specs.Prelude.{◌≡◌, ◌≤◌, ℕ, All, Some, IfOk, IfErr, length, map, unwrap_or, [], ◌∷◌};
+ghost use Rattle.std.specs.Prelude.{◌≡◌, ◌≤◌, ℕ, All, IfOk, IfErr, length, map, unwrap_or, [], ◌∷◌};
 ghost use Rattle.o2_open.specs.declared.fault.OpenFault.TheVariants as open_fault;
 ghost use Rattle.o2_open.specs.Loads.{Contents, Loads, Tells, Refuses, under, asked, link_refusal, linked_in, HasEnvironments, IsLinked, start_refusal, exe_loaded, run_loaded, loaded};
 ghost use Rattle.o2_dynlink.specs.Linking.{linked_of};
@@ -126,11 +126,12 @@ fn only(alloc: Global, program: Module) -> Result<Vec<Module>, OpenFault>
 
 /// What `exe` opens: the module in a file, as the only one.
 fn open_exe<F: Files>(alloc: Global, files: &mut F, name: &Bytes) -> Result<Session, OpenFault>
-    ensures exact { (contents : Contents) → F.told files.old ≡ Some contents → Loads (λ s. s) result (exe_loaded contents name.now) }
+    ensures exact { (contents : Contents) → F.may_hold files.new contents → Loads (λ s. s) result (exe_loaded contents name.now) }
     ensures within { IfOk result (λ s. IsWithinLimits s.conf) }
     ensures environments { IfOk result HasEnvironments }
     ensures linked { IfOk result (λ s. IsLinked s.conf s.linked) }
     ensures refuses { IfErr result (Refuses (F.faults files.old) (F.faults files.new)) }
+    ensures earlier { (contents : Contents) → F.may_hold files.new contents → F.may_hold files.old contents }
     ensures count { F.faults files.old ≤ F.faults files.new }
 {
     let program = module(alloc, files, name)?;
@@ -141,11 +142,12 @@ fn open_exe<F: Files>(alloc: Global, files: &mut F, name: &Bytes) -> Result<Sess
 
 /// What `run` and `check` open: a machine file, and the modules that it names.
 fn open_run<F: Files>(alloc: Global, files: &mut F, name: &Bytes) -> Result<Session, OpenFault>
-    ensures exact { (contents : Contents) → F.told files.old ≡ Some contents → Loads (λ s. s) result (run_loaded contents name.now) }
+    ensures exact { (contents : Contents) → F.may_hold files.new contents → Loads (λ s. s) result (run_loaded contents name.now) }
     ensures within { IfOk result (λ s. IsWithinLimits s.conf) }
     ensures environments { IfOk result HasEnvironments }
     ensures linked { IfOk result (λ s. IsLinked s.conf s.linked) }
     ensures refuses { IfErr result (Refuses (F.faults files.old) (F.faults files.new)) }
+    ensures earlier { (contents : Contents) → F.may_hold files.new contents → F.may_hold files.old contents }
     ensures count { F.faults files.old ≤ F.faults files.new }
 {
     let conf = machine(alloc, files, name)?;
@@ -162,8 +164,8 @@ pub fn open<F: Files>(
     files: &mut F,
     name: &Bytes,
 ) -> Result<Session, OpenFault>
-    // exactly what the definition says, where the files tell what they hold
-    ensures exact { (contents : Contents) → F.told files.old ≡ Some contents → Loads (λ s. s) result (loaded verb contents name.now) }
+    // exactly what the definition says, over all files that would have given what came
+    ensures exact { (contents : Contents) → F.may_hold files.new contents → Loads (λ s. s) result (loaded verb contents name.now) }
     // the setting is within its limits
     ensures within { IfOk result (λ s. IsWithinLimits s.conf) }
     ensures environments { IfOk result HasEnvironments }
@@ -171,6 +173,7 @@ pub fn open<F: Files>(
     ensures linked { IfOk result (λ s. IsLinked s.conf s.linked) }
     // a fault of the files is told only where their count rose
     ensures refuses { IfErr result (Refuses (F.faults files.old) (F.faults files.new)) }
+    ensures earlier { (contents : Contents) → F.may_hold files.new contents → F.may_hold files.old contents }
     ensures count { F.faults files.old ≤ F.faults files.new }
 {
     match verb {

@@ -1,4 +1,4 @@
-use Rattle.std.proofs.Common.{◌≡◌, ◌≤◌, ◌∙◌, List, ℕ, [], arith, sym, subst}
+use Rattle.std.proofs.Common.{◌≡◌, ◌≤◌, List, ℕ, [], arith, sym, subst}
 use Rattle.std.specs.Prelude.{Result, Ok}
 use Rattle.o2_open.specs.declared.session.Session.{Session}
 use Rattle.o2_open.specs.declared.fault.OpenFault.{OpenFault}
@@ -8,10 +8,10 @@ use Rattle.o2_open.proofs.Stepping.{run_is}
 use Rattle.o2_open.proofs.opening.open_run.Goals as goal
 
 pub returns-clause-exact : goal.returns-clause-exact
-returns-clause-exact g c = λ contents e.
+returns-clause-exact g c = λ contents h.
     subst (λ (r : Result Session OpenFault). Loads (λ s. s) c.linked.result r)
-    (sym (run_is contents c.args.name.now c.in_ok-conf.conf c.in_ok-modules.modules.items (c.in_ok-conf.ensures.exact contents e)
-    (subst (λ (z : List (List ℕ)). modules_in contents z [] ≡ Ok c.in_ok-modules.modules.items) c.as_slice.ensures (c.in_ok-modules.ensures.exact contents (c.in_ok-conf.ensures.told ∙ e)))))
+    (sym (run_is contents c.args.name.now c.in_ok-conf.conf c.in_ok-modules.modules.items (c.in_ok-conf.ensures.exact contents (c.in_ok-modules.ensures.earlier contents h))
+    (subst (λ (z : List (List ℕ)). modules_in contents z [] ≡ Ok c.in_ok-modules.modules.items) c.as_slice.ensures (c.in_ok-modules.ensures.exact contents h))))
     c.linked.ensures.exact
 
 pub returns-clause-refuses : goal.returns-clause-refuses
