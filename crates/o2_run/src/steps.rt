@@ -1,5 +1,5 @@
 // A machine that stands for a world, step by step.
-ghost use Rattle.std.specs.Prelude.{◌≡◌, ◌≤◌, ◌<◌, ◌⊎◌, ℕ, Bool, false, List, length, Option, Some, None};
+ghost use Rattle.std.specs.Prelude.{◌≡◌, ◌≤◌, ◌<◌, ◌⊎◌, ℕ, Bool, IsTrue, false, List, length, Option, Some, None};
 ghost use Rattle.o2_outer.specs.Texts.{Rose};
 ghost use Rattle.o2_outer.specs.Inputs.{GoesOn, IsSeenAs, left_as};
 ghost use Rattle.o2_world.specs.World.{World, Setting};
@@ -45,8 +45,8 @@ pub enum Turn {
 
 /// A machine that does the boundless machine's steps, one a turn.
 pub trait Steps {
-    /// The settings and worlds that it stands for, over a device of so many blocks, which tells what they hold or doesn't.
-    ghost stands: { Self → (blocks : ℕ) → (told : Bool) → (ℕ → List ℕ) → Setting → World → Type 0 };
+    /// The settings and worlds that it stands for, over a device of so many blocks, which hold this.
+    ghost stands: { Self → (blocks : ℕ) → (ℕ → List ℕ) → Setting → World → Type 0 };
 
     /// Whether it keeps its segments in the memory of its setting, and swaps them. One that doesn't leaves the device as it is.
     ghost swaps: { Bool };
@@ -73,17 +73,18 @@ pub trait Steps {
         swap: &mut S,
     ) -> Turn
         requires device { fits self.old (S.blocks swap.old) }
-        // However the input is seen: by what it tells, or as a text that the whole of it may be.
-        ensures turns { stopped self.old ≡ None → (text : Option (List ℕ)) → IsSeenAs text (I.past input.new)
-            → (s : Setting) (w : World) → stands self.old (S.blocks swap.old) (S.told swap.old) (S.block swap.old) s w
+        // Where each read of the device so far gave what was written last; and however the input is seen: by what it tells, or as a text
+        // that the whole of it may be.
+        ensures turns { stopped self.old ≡ None → IsTrue (S.told swap.new) → (text : Option (List ℕ)) → IsSeenAs text (I.past input.new)
+            → (s : Setting) (w : World) → stands self.old (S.blocks swap.old) (S.block swap.old) s w
             → left_as text (I.left input.old) (I.past input.old) ≡ Some w.input
-            → Turns (stands self.new (S.blocks swap.new) (S.told swap.new) (S.block swap.new) s) swaps (S.blocks swap.old) s w (line_put self.new)
+            → Turns (stands self.new (S.blocks swap.new) (S.block swap.new) s) swaps (S.blocks swap.old) s w (line_put self.new)
             (left_as text (I.left input.new) (I.past input.new))
             (C.taken console.old) (C.taken console.new) (R.taken report.old) (R.taken report.new) result }
         ensures goes_on { GoesOn (I.past input.old) (I.past input.new) }
         // Each line is one put, and so is the piece for the console, where it has bytes.
-        ensures puts { stopped self.old ≡ None → (text : Option (List ℕ)) → IsSeenAs text (I.past input.new)
-            → (s : Setting) (w : World) → stands self.old (S.blocks swap.old) (S.told swap.old) (S.block swap.old) s w
+        ensures puts { stopped self.old ≡ None → IsTrue (S.told swap.new) → (text : Option (List ℕ)) → IsSeenAs text (I.past input.new)
+            → (s : Setting) (w : World) → stands self.old (S.blocks swap.old) (S.block swap.old) s w
             → left_as text (I.left input.old) (I.past input.old) ≡ Some w.input
             → TurnHands s w (counts (C.puts console.old) (C.puts console.new) (R.puts report.old) (R.puts report.new) (length w.lines)) result }
         ensures stops { stopped self.new ≡ stopped_by result }
@@ -101,7 +102,7 @@ pub trait Steps {
         ensures unswapped { swaps ≡ false → swap.new ≡ swap.old }
         ensures no_swap_stop { swaps ≡ false → stopped self.old ≡ None → is_for_swap result ≡ false }
         ensures swap_blocks { S.blocks swap.new ≡ S.blocks swap.old }
-        ensures swap_told { S.told swap.new ≡ S.told swap.old }
+        ensures swap_told { IsTrue (S.told swap.new) → IsTrue (S.told swap.old) }
 
         // A fault is told only where a count rose in the turn that first tells it.
         ensures input_count { I.faults input.old ≤ I.faults input.new }

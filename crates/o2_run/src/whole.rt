@@ -1,5 +1,5 @@
 // The whole run.
-ghost use Rattle.std.specs.Prelude.{◌≡◌, ◌≤◌, ◌⊎◌, false, List, length, ℕ, Option, Some, None};
+ghost use Rattle.std.specs.Prelude.{◌≡◌, ◌≤◌, ◌⊎◌, IsTrue, false, List, length, ℕ, Option, Some, None};
 ghost use Rattle.o2_outer.specs.Texts.{Rose, Gains};
 ghost use Rattle.o2_outer.specs.Inputs.{GoesOn, IsSeenAs, left_as};
 ghost use Rattle.o2_world.specs.World.{World, Setting};
@@ -24,12 +24,13 @@ pub fn run<M: Steps, I: Source, C: Sink, R: Sink, S: SwapDevice>(
     swap: &mut S,
 ) -> Result<(), Fault>
     requires device { M.fits machine.old (S.blocks swap.old) }
-    // However the input is seen: by what it tells, or as a text that the whole of it may be.
-    ensures texts { M.stopped machine.old ≡ None → (text : Option (List ℕ)) → IsSeenAs text (I.past input.new)
-        → (s : Setting) (w : World) (c r : Option (List ℕ)) → M.stands machine.old (S.blocks swap.old) (S.told swap.old) (S.block swap.old) s w
+    // Where each read of the device gave what was written last; and however the input is seen: by what it tells, or as a text that the
+    // whole of it may be.
+    ensures texts { M.stopped machine.old ≡ None → IsTrue (S.told swap.new) → (text : Option (List ℕ)) → IsSeenAs text (I.past input.new)
+        → (s : Setting) (w : World) (c r : Option (List ℕ)) → M.stands machine.old (S.blocks swap.old) (S.block swap.old) s w
         → left_as text (I.left input.old) (I.past input.old) ≡ Some w.input
         → Gains c (C.taken console.old) (console_text w) → Gains r (R.taken report.old) (lines_text w.lines)
-        → HasTexts (M.stands machine.new (S.blocks swap.new) (S.told swap.new) (S.block swap.new) s) M.swaps (S.blocks swap.old) s w
+        → HasTexts (M.stands machine.new (S.blocks swap.new) (S.block swap.new) s) M.swaps (S.blocks swap.old) s w
         (left_as text (I.left input.new) (I.past input.new))
         c (C.taken console.new) r (R.taken report.new) (Rose (R.faults report.old) (R.faults report.new))
         (counts (C.puts console.old) (C.puts console.new) (R.puts report.old) (R.puts report.new) (length w.lines)) result }
@@ -41,7 +42,7 @@ pub fn run<M: Steps, I: Source, C: Sink, R: Sink, S: SwapDevice>(
     ensures unswapped { M.swaps ≡ false → swap.new ≡ swap.old }
     ensures no_swap_stop { M.swaps ≡ false → M.stopped machine.old ≡ None → StopsForInput result }
     ensures swap_blocks { S.blocks swap.new ≡ S.blocks swap.old }
-    ensures swap_told { S.told swap.new ≡ S.told swap.old }
+    ensures swap_told { IsTrue (S.told swap.new) → IsTrue (S.told swap.old) }
 
     // A fault is told only where a count rose.
     ensures input_count { I.faults input.old ≤ I.faults input.new }

@@ -1,5 +1,5 @@
 // Runs of a machine of the tests, which is stopped by whatever it is told to be stopped by.
-ghost use Rattle.std.specs.Prelude.{◌≡◌, ◌≤◌};
+ghost use Rattle.std.specs.Prelude.{◌≡◌, ◌≤◌, IsTrue};
 ghost use Rattle.o2_outer.specs.Texts.{Rose};
 ghost use Rattle.o2_outer.specs.Inputs.{GoesOn};
 ghost use Rattle.o2_run.specs.Turn.{Caused};
@@ -56,7 +56,7 @@ struct Halting {
 #[tactic(auto, using(o2_outer::proofs::Inputs::goes_same, o2_outer::proofs::Inputs::goes_taken))]
 fn found<I: Source, S: SwapDevice>(why: Stop, input: &mut I, swap: &mut S) -> Stop
     ensures blocks { S.blocks swap.new ≡ S.blocks swap.old }
-    ensures told { S.told swap.new ≡ S.told swap.old }
+    ensures told { IsTrue (S.told swap.new) → IsTrue (S.told swap.old) }
     ensures goes_on { GoesOn (I.past input.old) (I.past input.new) }
     ensures input_count { I.faults input.old ≤ I.faults input.new }
     ensures swap_count { S.faults swap.old ≤ S.faults swap.new }
@@ -87,7 +87,7 @@ impl Steps for Halting {
     ghost use Rattle.std.specs.Option.{unwrap_or};
     ghost use Rattle.o2_run.specs.Faults.{turn_of};
 
-    ghost stands = { λ m blocks told block s w. ⊥ };
+    ghost stands = { λ m blocks block s w. ⊥ };
 
     ghost fits = { λ m blocks. Unit {0} };
 

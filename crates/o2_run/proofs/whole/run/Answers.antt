@@ -13,34 +13,34 @@ steps-preserved g c =
       fresh = λ n. c.turn.ensures.stops ∙ ap stopped_by is;
       device = c.turn.ensures.device;
       goes_on = goes_then _ _ _ c.steps.invariant.goes_on c.turn.ensures.goes_on;
-      reached = λ n text may s w a b stands input to_console to_report.
-          let h = c.steps.invariant.reached n text (seen_before text _ _ c.turn.ensures.goes_on may) s w a b stands input to_console to_report in
-          ran_by _ _ _ (g.S.SwapDevice.blocks c.steps.swap) s w _ _ _ _ _ _ _ _ _ _ _ _ _ _ (length w.lines) c.turn.result is _ h _ (c.turn.ensures.turns (c.steps.invariant.fresh n) text may s _ h.stands h.input) (c.turn.ensures.puts (c.steps.invariant.fresh n) text may s _ h.stands h.input);
+      reached = λ n tells text may s w a b stands input to_console to_report.
+          let h = c.steps.invariant.reached n (c.turn.ensures.swap_told tells) text (seen_before text _ _ c.turn.ensures.goes_on may) s w a b stands input to_console to_report in
+          ran_by _ _ _ (g.S.SwapDevice.blocks c.steps.swap) s w _ _ _ _ _ _ _ _ _ _ _ _ _ _ (length w.lines) c.turn.result is _ h _ (c.turn.ensures.turns (c.steps.invariant.fresh n) tells text may s _ h.stands h.input) (c.turn.ensures.puts (c.steps.invariant.fresh n) tells text may s _ h.stands h.input);
       input_count = omega (arith, c.steps.invariant.input_count, c.turn.ensures.input_count);
       console_count = omega (arith, c.steps.invariant.console_count, c.turn.ensures.console_count);
       report_count = omega (arith, c.steps.invariant.report_count, c.turn.ensures.report_count);
       swap_count = omega (arith, c.steps.invariant.swap_count, c.turn.ensures.swap_count);
       swap_blocks = c.turn.ensures.swap_blocks ∙ c.steps.invariant.swap_blocks;
-      swap_told = c.turn.ensures.swap_told ∙ c.steps.invariant.swap_told;
+      swap_told = λ w. c.steps.invariant.swap_told (c.turn.ensures.swap_told w);
       unswapped = λ e. c.turn.ensures.unswapped e ∙ c.steps.invariant.unswapped e;
     }
 
 pub returns-then-not-more-clause-texts : goal.returns-then-not-more-clause-texts
-returns-then-not-more-clause-texts g c = λ n text may s w a b stands input to_console to_report.
-    let h = c.steps.invariant.reached n text (seen_before text _ _ c.turn.ensures.goes_on may) s w a b stands input to_console to_report in
+returns-then-not-more-clause-texts g c = λ n tells text may s w a b stands input to_console to_report.
+    let h = c.steps.invariant.reached n (c.turn.ensures.swap_told tells) text (seen_before text _ _ c.turn.ensures.goes_on may) s w a b stands input to_console to_report in
     closed_by _ _ _ (g.S.SwapDevice.blocks c.args.swap.now) s w _ _ _ _ _ _ _ _ _ _ _ _ _ _ (length w.lines) c.turn.result (end_is c.turn.result (gives _ _ _ c.in_ok-more.ensures c.if-not-more.true)) _ h _ (Unit {0})
-    (c.turn.ensures.turns (c.steps.invariant.fresh n) text may s _ h.stands h.input) (c.turn.ensures.puts (c.steps.invariant.fresh n) text may s _ h.stands h.input)
+    (c.turn.ensures.turns (c.steps.invariant.fresh n) tells text may s _ h.stands h.input) (c.turn.ensures.puts (c.steps.invariant.fresh n) tells text may s _ h.stands h.input)
 
 pub returns-then-not-more-clause-stopped : goal.returns-then-not-more-clause-stopped
 returns-then-not-more-clause-stopped g c = ends_at _ c.turn.result (gives _ _ _ c.in_ok-more.ensures c.if-not-more.true) c.turn.ensures.stops
 
 pub returns-in_err-more-clause-texts : goal.returns-in_err-more-clause-texts
-returns-in_err-more-clause-texts g c = λ n text may s w a b stands input to_console to_report.
+returns-in_err-more-clause-texts g c = λ n tells text may s w a b stands input to_console to_report.
     let p = err_from_is_err_and c.from_residual.result c.from_residual.ensures.1 in
     let fresh = c.steps.invariant.fresh n in
-    let h = c.steps.invariant.reached n text (seen_before text _ _ c.turn.ensures.goes_on may) s w a b stands input to_console to_report in
+    let h = c.steps.invariant.reached n (c.turn.ensures.swap_told tells) text (seen_before text _ _ c.turn.ensures.goes_on may) s w a b stands input to_console to_report in
     rw (p.1, p.2) (faulted_by _ _ _ (g.S.SwapDevice.blocks c.args.swap.now) s w _ _ _ _ _ _ _ _ _ _ _ _ _ _ (length w.lines) c.turn.result _ (fault_is c.turn.result _ (sym c.in_err-more.ensures)) _ c.steps.invariant.swap_blocks h _ _ _
-    (rose_since _ _ _ c.steps.invariant.report_count) (c.turn.ensures.line fresh) (c.turn.ensures.turns fresh text may s _ h.stands h.input) (c.turn.ensures.puts fresh text may s _ h.stands h.input))
+    (rose_since _ _ _ c.steps.invariant.report_count) (c.turn.ensures.line fresh) (c.turn.ensures.turns fresh tells text may s _ h.stands h.input) (c.turn.ensures.puts fresh tells text may s _ h.stands h.input))
 
 pub returns-in_err-more-clause-stopped : goal.returns-in_err-more-clause-stopped
 returns-in_err-more-clause-stopped g c =
