@@ -1,5 +1,5 @@
 // One segment comes in, and the descriptors of each one that moves for it say where it is.
-ghost use Rattle.std.specs.Prelude.{◌≡◌, ◌≢◌, ℕ, List, Bool, ◌+◌, ◌<◌, ◌≤◌, length, is_some, IsSome, None, true};
+ghost use Rattle.std.specs.Prelude.{◌≡◌, ◌≢◌, ℕ, List, Bool, ◌+◌, ◌<◌, ◌≤◌, length, is_some, IsSome, IsTrue, None, true};
 ghost use Rattle.o2_outer.specs.Texts.{Rose};
 ghost use Rattle.o2_place.specs.Layout.{IsFree, used};
 ghost use Rattle.o2_segbus.specs.Settled.{IsSettled};
@@ -33,12 +33,12 @@ fn make_way<S: SwapDevice>(
     requires settled { IsSettled store.old regions.old }
     requires device { all_of store.old.swap ≤ S.blocks swap.old }
 
-    ensures keeps { (pic : Pictures) → AreClean store.old pic → KeepsAll (S.told swap.old) pic
+    ensures keeps { (pic : Pictures) → AreClean store.old pic → KeepsAll (S.told swap.new) pic
         store.old (S.block swap.old) store.new (S.block swap.new) }
     ensures clean { (pic : Pictures) → AreClean store.old pic → AreClean store.new pic }
     ensures tables { SameTables store.old store.new }
     ensures device { (S.blocks swap.new ≡ S.blocks swap.old)
-        × (S.told swap.new ≡ S.told swap.old) }
+        × (IsTrue (S.told swap.new) → IsTrue (S.told swap.old)) }
     ensures map { all_of store.new.swap ≡ all_of store.old.swap }
     ensures follows { Follows regions.old store.new regions.new }
     ensures kept { (k : ℕ) → named_in store.old.entries keep.now k ≡ true
@@ -78,12 +78,12 @@ fn make_room<S: SwapDevice>(
     requires settled { IsSettled store.old regions.old }
     requires device { all_of store.old.swap ≤ S.blocks swap.old }
 
-    ensures keeps { (pic : Pictures) → AreClean store.old pic → KeepsAll (S.told swap.old) pic
+    ensures keeps { (pic : Pictures) → AreClean store.old pic → KeepsAll (S.told swap.new) pic
         store.old (S.block swap.old) store.new (S.block swap.new) }
     ensures clean { (pic : Pictures) → AreClean store.old pic → AreClean store.new pic }
     ensures tables { SameTables store.old store.new }
     ensures device { (S.blocks swap.new ≡ S.blocks swap.old)
-        × (S.told swap.new ≡ S.told swap.old) }
+        × (IsTrue (S.told swap.new) → IsTrue (S.told swap.old)) }
     ensures map { all_of store.new.swap ≡ all_of store.old.swap }
     ensures follows { Follows regions.old store.new regions.new }
     ensures kept { (k : ℕ) → named_in store.old.entries keep.now k ≡ true
@@ -150,11 +150,11 @@ fn fill_gap<S: SwapDevice>(
     requires clean { AreClean store.old (picture images.now) }
     requires device { all_of store.old.swap ≤ S.blocks swap.old }
 
-    ensures keeps { KeepsAll (S.told swap.old) (picture images.now)
+    ensures keeps { KeepsAll (S.told swap.new) (picture images.now)
         store.old (S.block swap.old) store.new (S.block swap.new) }
     ensures clean { AreClean store.new (picture images.now) }
     ensures device { (S.blocks swap.new ≡ S.blocks swap.old)
-        × (S.told swap.new ≡ S.told swap.old) }
+        × (IsTrue (S.told swap.new) → IsTrue (S.told swap.old)) }
     ensures map { all_of store.new.swap ≡ all_of store.old.swap }
     ensures follows { Follows regions.old store.new regions.new }
     ensures alone { (k : ℕ) → k ≢ id.key → place_of store.new k ≡ place_of store.old k }
@@ -188,11 +188,11 @@ fn bring_in<S: SwapDevice>(
     requires clean { AreClean store.old (picture images.now) }
     requires device { all_of store.old.swap ≤ S.blocks swap.old }
 
-    ensures keeps { KeepsAll (S.told swap.old) (picture images.now)
+    ensures keeps { KeepsAll (S.told swap.new) (picture images.now)
         store.old (S.block swap.old) store.new (S.block swap.new) }
     ensures clean { AreClean store.new (picture images.now) }
     ensures device { (S.blocks swap.new ≡ S.blocks swap.old)
-        × (S.told swap.new ≡ S.told swap.old) }
+        × (IsTrue (S.told swap.new) → IsTrue (S.told swap.old)) }
     ensures map { all_of store.new.swap ≡ all_of store.old.swap }
     ensures follows { Follows regions.old store.new regions.new }
     ensures kept { (k : ℕ) → named_in store.old.entries keep.now k ≡ true
@@ -235,11 +235,11 @@ pub fn bring<S: SwapDevice>(
     requires clean { AreClean store.old (picture images.now) }
     requires device { all_of store.old.swap ≤ S.blocks swap.old }
 
-    ensures keeps { KeepsAll (S.told swap.old) (picture images.now)
+    ensures keeps { KeepsAll (S.told swap.new) (picture images.now)
         store.old (S.block swap.old) store.new (S.block swap.new) }
     ensures clean { AreClean store.new (picture images.now) }
     ensures device { (S.blocks swap.new ≡ S.blocks swap.old)
-        × (S.told swap.new ≡ S.told swap.old) }
+        × (IsTrue (S.told swap.new) → IsTrue (S.told swap.old)) }
     ensures map { all_of store.new.swap ≡ all_of store.old.swap }
     ensures follows { Follows regions.old store.new regions.new }
     ensures kept { (k : ℕ) → named_in store.old.entries keep.now k ≡ true

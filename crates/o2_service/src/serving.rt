@@ -1,5 +1,5 @@
 // What is needed comes into memory, and the descriptors say so.
-ghost use Rattle.std.specs.Prelude.{◌≡◌, ℕ, ◌+◌, ◌<◌, ◌≤◌, length, None, true, false, IsSome};
+ghost use Rattle.std.specs.Prelude.{◌≡◌, ℕ, ◌+◌, ◌<◌, ◌≤◌, length, None, true, false, IsSome, IsTrue};
 ghost use Rattle.o2_outer.specs.Texts.{Rose};
 ghost use Rattle.o2_segbus.specs.Settled.{IsSettled};
 ghost use Rattle.o2_swapmap.specs.Piles.{all_of};
@@ -54,11 +54,11 @@ pub fn serve<S: SwapDevice>(
     requires clean { AreClean store.old (picture images.now) }
     requires device { all_of store.old.swap ≤ S.blocks swap.old }
 
-    ensures keeps { KeepsAll (S.told swap.old) (picture images.now)
+    ensures keeps { KeepsAll (S.told swap.new) (picture images.now)
         store.old (S.block swap.old) store.new (S.block swap.new) }
     ensures clean { AreClean store.new (picture images.now) }
     ensures device { (S.blocks swap.new ≡ S.blocks swap.old)
-        × (S.told swap.new ≡ S.told swap.old) }
+        × (IsTrue (S.told swap.new) → IsTrue (S.told swap.old)) }
     ensures map { all_of store.new.swap ≡ all_of store.old.swap }
     ensures maps { OnlyTables regions.old regions.new }
     ensures settled { IsSettled store.new regions.new }
@@ -119,11 +119,11 @@ fn bring_all<S: SwapDevice>(
     requires clean { AreClean store.old (picture images.now) }
     requires device { all_of store.old.swap ≤ S.blocks swap.old }
 
-    ensures keeps { KeepsAll (S.told swap.old) (picture images.now)
+    ensures keeps { KeepsAll (S.told swap.new) (picture images.now)
         store.old (S.block swap.old) store.new (S.block swap.new) }
     ensures clean { AreClean store.new (picture images.now) }
     ensures device { (S.blocks swap.new ≡ S.blocks swap.old)
-        × (S.told swap.new ≡ S.told swap.old) }
+        × (IsTrue (S.told swap.new) → IsTrue (S.told swap.old)) }
     ensures map { all_of store.new.swap ≡ all_of store.old.swap }
     ensures follows { Follows regions.old store.new regions.new }
     ensures stays { Stays need.now store.old store.new }
@@ -181,11 +181,11 @@ fn bring_one<S: SwapDevice>(
     requires clean { AreClean store.old (picture images.now) }
     requires device { all_of store.old.swap ≤ S.blocks swap.old }
 
-    ensures keeps { KeepsAll (S.told swap.old) (picture images.now)
+    ensures keeps { KeepsAll (S.told swap.new) (picture images.now)
         store.old (S.block swap.old) store.new (S.block swap.new) }
     ensures clean { AreClean store.new (picture images.now) }
     ensures device { (S.blocks swap.new ≡ S.blocks swap.old)
-        × (S.told swap.new ≡ S.told swap.old) }
+        × (IsTrue (S.told swap.new) → IsTrue (S.told swap.old)) }
     ensures map { all_of store.new.swap ≡ all_of store.old.swap }
     ensures follows { Follows regions.old store.new regions.new }
     ensures stays { Stays need.now store.old store.new }

@@ -22,7 +22,7 @@ returns-then-not-fits g c =
     record {
       keeps = keys_keep (S.told c.args.swap.now) pic s t t a a e (keeps_refl (S.told c.args.swap.now) pic t a);
       clean = keys_clean pic s t e c.requires.clean;
-      device = (refl, refl);
+      device = (refl, λ w. w);
       map = ap (λ (z : Shelf). all_of z.swap) e;
       follows = follows_keys s t c.args.regions.now e c.requires.held c.requires.settled;
       kept = λ k n i. subst (λ (z : Shelf). IsSome (place_of z k)) (sym e) i;
@@ -61,7 +61,7 @@ returns g c =
     let e = c.fits.ensures.shelf in
     let q = c.bring_in.ensures in
     record {
-      keeps = keys_keep (S.told c.args.swap.now) (picture c.args.images.now) s t u (S.block c.args.swap.now) (S.block c.bring_in.new.swap) e q.keeps;
+      keeps = keys_keep (S.told c.bring_in.new.swap) (picture c.args.images.now) s t u (S.block c.args.swap.now) (S.block c.bring_in.new.swap) e q.keeps;
       clean = q.clean;
       device = q.device;
       map = q.map ∙ ap (λ (z : Shelf). all_of z.swap) e;

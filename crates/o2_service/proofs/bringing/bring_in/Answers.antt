@@ -2,7 +2,7 @@ use Rattle.std.proofs.Common.{◌≡◌, ◌∙◌, ap, is_some, inl, inr, ℕ, 
 use Rattle.std.proofs.lemmas.Bool.{cases_eq, false≢true}
 use Rattle.o2_store.specs.Pictures.{picture}
 use Rattle.o2_store.specs.Shelf.{AreClean, KeepsAll, SameTables, place_of}
-use Rattle.o2_store.proofs.Keeping.{keeps_trans, tables_trans}
+use Rattle.o2_store.proofs.Keeping.{keeps_trans, tables_trans, keeps_later}
 use Rattle.o2_service.proofs.Among.{live_same}
 use Rattle.o2_service.proofs.Movings.{follows_trans, not_there}
 use Rattle.o2_service.proofs.bringing.bring_in.Goals as goal
@@ -61,7 +61,7 @@ fill_gap-requires g c =
 pub returns-in-Here : goal.returns-in-Here
 returns-in-Here g c =
     let S = g.S.SwapDevice in
-    let told = S.told c.args.swap.now in
+    let told = S.told c.fill_gap.new.swap in
     let pic = picture c.args.images.now in
     let r = c.make_room.ensures in
     let q = c.make_gap.ensures in
@@ -73,11 +73,11 @@ returns-in-Here g c =
     let a = S.block c.args.swap.now in
     let b = S.block c.make_room.new.swap in
     let d = S.block c.fill_gap.new.swap in
-    let first : KeepsAll told pic s a u b = keeps_trans told pic s t u a b b (r.keeps pic c.requires.clean) (q.keeps told pic b) in
+    let first : KeepsAll told pic s a u b = keeps_trans told pic s t u a b b (keeps_later (S.told c.make_room.new.swap) told pic s t a b f.device.1 (r.keeps pic c.requires.clean)) (q.keeps told pic b) in
     record {
-      keeps = keeps_trans told pic s u v a b d first (subst (λ (x : Bool). KeepsAll x pic u b v d) r.device.1 f.keeps);
+      keeps = keeps_trans told pic s u v a b d first f.keeps;
       clean = f.clean;
-      device = (f.device.0 ∙ r.device.0, f.device.1 ∙ r.device.1);
+      device = (f.device.0 ∙ r.device.0, λ w. r.device.1 (f.device.1 w));
       map = f.map ∙ q.map ∙ r.map;
       follows = follows_trans c.args.regions.now c.make_gap.new.regions c.fill_gap.new.regions u v (follows_trans c.args.regions.now c.make_room.new.regions c.make_gap.new.regions t u r.follows q.follows) f.follows;
       kept = λ k n i. elim (cases_eq k c.args.id.key) [

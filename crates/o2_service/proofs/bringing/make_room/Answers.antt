@@ -1,6 +1,6 @@
 use Rattle.std.proofs.Common.{◌∙◌, Bool, refl, subst, arith, rules}
 use Rattle.o2_store.specs.Shelf.{KeepsAll}
-use Rattle.o2_store.proofs.Keeping.{keeps_refl, keeps_trans, same_tables, tables_trans}
+use Rattle.o2_store.proofs.Keeping.{keeps_refl, keeps_trans, same_tables, tables_trans, keeps_later}
 use Rattle.o2_store.proofs.Choosing.{same_named, same_wanted}
 use Rattle.o2_service.proofs.Among.{live_same, loads_after}
 use Rattle.o2_service.proofs.Movings.{follows_refl, follows_trans}
@@ -12,7 +12,7 @@ loop-id-init g c = record {
   clean = λ pic q. q;
   tables = same_tables c.args.store.now;
   blocks = refl;
-  told = refl;
+  told = λ w. w;
   map = refl;
   follows = follows_refl c.args.store.now c.args.regions.now c.requires.held c.requires.settled;
   kept = λ k n. refl;
@@ -32,9 +32,9 @@ make_way-answer-requires-clause-fits g c =
 pub loop-id-preserved : goal.loop-id-preserved
 loop-id-preserved g c =
     let S = g.S.SwapDevice in
-    let told = S.told c.args.swap.now in
     let a = S.block c.args.swap.now in
     let v = c.make_way-answer in
+    let told = S.told v.new.swap in
     let e = v.ensures in
     let i = c.loop-id.invariant in
     let b = S.block c.loop-id.swap in
@@ -43,11 +43,11 @@ loop-id-preserved g c =
     let t = c.loop-id.store in
     let u = v.new.store in
     record {
-      keeps = λ pic q. keeps_trans told pic s t u a b d (i.keeps pic q) (subst (λ (x : Bool). KeepsAll x pic t b u d) i.told (e.keeps pic (i.clean pic q)));
+      keeps = λ pic q. keeps_trans told pic s t u a b d (keeps_later (S.told c.loop-id.swap) told pic s t a b e.device.1 (i.keeps pic q)) (e.keeps pic (i.clean pic q));
       clean = λ pic q. e.clean pic (i.clean pic q);
       tables = tables_trans s t u i.tables e.tables;
       blocks = e.device.0 ∙ i.blocks;
-      told = e.device.1 ∙ i.told;
+      told = λ w. i.told (e.device.1 w);
       map = e.map ∙ i.map;
       follows = follows_trans c.args.regions.now c.loop-id.regions v.new.regions t u i.follows e.follows;
       kept = λ k n. e.kept k (same_named s t c.args.keep.now k i.tables ∙ n) ∙ i.kept k n;
@@ -58,9 +58,9 @@ loop-id-preserved g c =
 pub returns-then-not-matches : goal.returns-then-not-matches
 returns-then-not-matches g c =
     let S = g.S.SwapDevice in
-    let told = S.told c.args.swap.now in
     let a = S.block c.args.swap.now in
     let v = c.make_way-answer in
+    let told = S.told v.new.swap in
     let e = v.ensures in
     let i = c.loop-id.invariant in
     let b = S.block c.loop-id.swap in
@@ -69,10 +69,10 @@ returns-then-not-matches g c =
     let t = c.loop-id.store in
     let u = v.new.store in
     record {
-      keeps = λ pic q. keeps_trans told pic s t u a b d (i.keeps pic q) (subst (λ (x : Bool). KeepsAll x pic t b u d) i.told (e.keeps pic (i.clean pic q)));
+      keeps = λ pic q. keeps_trans told pic s t u a b d (keeps_later (S.told c.loop-id.swap) told pic s t a b e.device.1 (i.keeps pic q)) (e.keeps pic (i.clean pic q));
       clean = λ pic q. e.clean pic (i.clean pic q);
       tables = tables_trans s t u i.tables e.tables;
-      device = (e.device.0 ∙ i.blocks, e.device.1 ∙ i.told);
+      device = (e.device.0 ∙ i.blocks, λ w. i.told (e.device.1 w));
       map = e.map ∙ i.map;
       follows = follows_trans c.args.regions.now c.loop-id.regions v.new.regions t u i.follows e.follows;
       kept = λ k n. e.kept k (same_named s t c.args.keep.now k i.tables ∙ n) ∙ i.kept k n;

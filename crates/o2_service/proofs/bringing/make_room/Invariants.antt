@@ -1,4 +1,4 @@
-use Rattle.std.proofs.Common.{◌≡◌, ◌≤◌, ℕ, length, None, true}
+use Rattle.std.proofs.Common.{◌≡◌, ◌≤◌, ℕ, length, None, true, IsTrue}
 use Rattle.o2_swapmap.specs.Piles.{all_of}
 use Rattle.o2_store.specs.Needs.{named_in}
 use Rattle.o2_store.specs.Shelf.{AreClean, KeepsAll, Pictures, SameTables, place_of}
@@ -7,11 +7,11 @@ use Rattle.o2_service.proofs.bringing.make_room.Given as goal
 
 abbrev pub invariant-loop-id : goal.invariant-loop-id
 invariant-loop-id g l = let S = g.S.SwapDevice in record {
-  keeps : (pic : Pictures) → AreClean l.initial.store pic → KeepsAll (S.told l.initial.swap) pic l.initial.store (S.block l.initial.swap) l.store (S.block l.swap);
+  keeps : (pic : Pictures) → AreClean l.initial.store pic → KeepsAll (S.told l.swap) pic l.initial.store (S.block l.initial.swap) l.store (S.block l.swap);
   clean : (pic : Pictures) → AreClean l.initial.store pic → AreClean l.store pic;
   tables : SameTables l.initial.store l.store;
   blocks : S.blocks l.swap ≡ S.blocks l.initial.swap;
-  told : S.told l.swap ≡ S.told l.initial.swap;
+  told : IsTrue (S.told l.swap) → IsTrue (S.told l.initial.swap);
   map : all_of l.store.swap ≡ all_of l.initial.store.swap;
   follows : Follows l.initial.regions l.store l.regions;
   kept : (k : ℕ) → named_in l.initial.store.entries l.keep k ≡ true → place_of l.store k ≡ place_of l.initial.store k;

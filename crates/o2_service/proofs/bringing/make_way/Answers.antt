@@ -29,7 +29,7 @@ settle_moved-requires g c =
 pub returns : goal.returns
 returns g c =
     let S = g.S.SwapDevice in
-    let told = S.told c.args.swap.now in
+    let told = S.told c.evict-answer.new.swap in
     let a = S.block c.args.swap.now in
     let b = S.block c.evict-answer.new.swap in
     let s = c.args.store.now in

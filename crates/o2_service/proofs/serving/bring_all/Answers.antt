@@ -3,7 +3,7 @@ use Rattle.std.proofs.lemmas.Option.{slice_get-get_or}
 use Rattle.o2_place.specs.declared.seg_id.SegId.{SegId}
 use Rattle.o2_store.specs.Pictures.{picture}
 use Rattle.o2_store.specs.Shelf.{KeepsAll}
-use Rattle.o2_store.proofs.Keeping.{keeps_refl, keeps_trans, tables_trans, locked_stay}
+use Rattle.o2_store.proofs.Keeping.{keeps_refl, keeps_trans, tables_trans, locked_stay, keeps_later}
 use Rattle.o2_service.proofs.Among.{all_live_same, loads_after, needs_at, only_refl, only_trans, present_more, same_needed, stays_refl, stays_trans}
 use Rattle.o2_service.proofs.Movings.{follows_refl, follows_trans}
 use Rattle.o2_service.proofs.serving.bring_all.Goals as goal
@@ -13,7 +13,7 @@ loop-k-init g c = record {
   keeps = keeps_refl _ _ c.args.store.now _;
   clean = c.requires.clean;
   blocks = refl;
-  told = refl;
+  told = λ w. w;
   map = refl;
   live = c.requires.live;
   pictured = c.requires.pictures;
@@ -52,10 +52,10 @@ returns-in_default g c =
     let i = c.loop-k.invariant in
     let e = c.bring_one.ensures in
     record {
-      keeps = keeps_trans (S.told c.args.swap.now) pic s t u (S.block c.args.swap.now) (S.block c.loop-k.swap) (S.block c.bring_one.new.swap) i.keeps
-          (subst (λ (x : Bool). KeepsAll x pic t (S.block c.loop-k.swap) u (S.block c.bring_one.new.swap)) i.told e.keeps);
+      keeps = keeps_trans (S.told c.bring_one.new.swap) pic s t u (S.block c.args.swap.now) (S.block c.loop-k.swap) (S.block c.bring_one.new.swap)
+          (keeps_later (S.told c.loop-k.swap) (S.told c.bring_one.new.swap) pic s t (S.block c.args.swap.now) (S.block c.loop-k.swap) e.device.1 i.keeps) e.keeps;
       clean = e.clean;
-      device = (e.device.0 ∙ i.blocks, e.device.1 ∙ i.told);
+      device = (e.device.0 ∙ i.blocks, λ w. i.told (e.device.1 w));
       map = e.map ∙ i.map;
       follows = follows_trans c.args.regions.now c.loop-k.regions c.bring_one.new.regions t u i.follows e.follows;
       stays = stays_trans need s t u i.stays e.stays;
@@ -84,11 +84,11 @@ loop-k-preserved g c =
     let q = e.keeps.tables in
     let n = same_needed t u need q in
     record {
-      keeps = keeps_trans (S.told c.args.swap.now) pic s t u (S.block c.args.swap.now) (S.block c.loop-k.swap) (S.block c.bring_one.new.swap) i.keeps
-          (subst (λ (x : Bool). KeepsAll x pic t (S.block c.loop-k.swap) u (S.block c.bring_one.new.swap)) i.told e.keeps);
+      keeps = keeps_trans (S.told c.bring_one.new.swap) pic s t u (S.block c.args.swap.now) (S.block c.loop-k.swap) (S.block c.bring_one.new.swap)
+          (keeps_later (S.told c.loop-k.swap) (S.told c.bring_one.new.swap) pic s t (S.block c.args.swap.now) (S.block c.loop-k.swap) e.device.1 i.keeps) e.keeps;
       clean = e.clean;
       blocks = e.device.0 ∙ i.blocks;
-      told = e.device.1 ∙ i.told;
+      told = λ w. i.told (e.device.1 w);
       map = e.map ∙ i.map;
       follows = follows_trans c.args.regions.now c.loop-k.regions c.bring_one.new.regions t u i.follows e.follows;
       live = all_live_same t u need q i.live;

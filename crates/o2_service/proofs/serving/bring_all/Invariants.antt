@@ -1,4 +1,4 @@
-use Rattle.std.proofs.Common.{◌≡◌, ◌≤◌}
+use Rattle.std.proofs.Common.{◌≡◌, ◌≤◌, IsTrue}
 use Rattle.o2_swapmap.specs.Piles.{all_of}
 use Rattle.o2_store.specs.Pictures.{picture, HasPicture}
 use Rattle.o2_store.specs.Shelf.{AreClean, HasAll, KeepsAll}
@@ -10,10 +10,10 @@ abbrev pub invariant-loop-k : goal.invariant-loop-k
 invariant-loop-k g l =
     let S = g.S.SwapDevice in
     record {
-      keeps : KeepsAll (S.told l.initial.swap) (picture l.images) l.initial.store (S.block l.initial.swap) l.store (S.block l.swap);
+      keeps : KeepsAll (S.told l.swap) (picture l.images) l.initial.store (S.block l.initial.swap) l.store (S.block l.swap);
       clean : AreClean l.store (picture l.images);
       blocks : S.blocks l.swap ≡ S.blocks l.initial.swap;
-      told : S.told l.swap ≡ S.told l.initial.swap;
+      told : IsTrue (S.told l.swap) → IsTrue (S.told l.initial.swap);
       map : all_of l.store.swap ≡ all_of l.initial.store.swap;
       live : AreLive l.store l.need;
       pictured : HasAll (HasPicture l.images) l.store;

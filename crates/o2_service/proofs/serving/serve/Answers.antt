@@ -36,7 +36,7 @@ returns-clause-maps g c =
 pub returns-clause-keeps : goal.returns-clause-keeps
 returns-clause-keeps g c =
     let S = g.S.SwapDevice in
-    keeps_marked (S.told c.args.swap.now) (picture c.args.images.now) c.args.store.now c.learn.new.store c.bring_all.new.store (S.block c.args.swap.now) (S.block c.bring_all.new.swap)
+    keeps_marked (S.told c.bring_all.new.swap) (picture c.args.images.now) c.args.store.now c.learn.new.store c.bring_all.new.store (S.block c.args.swap.now) (S.block c.bring_all.new.swap)
     c.learn.ensures.learned.rest c.bring_all.ensures.keeps
 
 pub returns-clause-stays : goal.returns-clause-stays
