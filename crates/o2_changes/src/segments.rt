@@ -1,5 +1,5 @@
 // Segments are made, locked, sized and brought into memory, and descriptors say where they are.
-ghost use Rattle.std.specs.Prelude.{◌≡◌, ◌⊎◌, ℕ, List, ◌+◌, ◌-◌, ◌<◌, ◌≤◌, ◌^◌, length, IsSome, IfSome, None, true, false, nat_lt};
+ghost use Rattle.std.specs.Prelude.{◌≡◌, ◌⊎◌, ℕ, List, ◌+◌, ◌-◌, ◌<◌, ◌≤◌, ◌^◌, length, IsSome, IsTrue, IfSome, None, true, false, nat_lt};
 ghost use Rattle.std.specs.Option.{IfNone};
 ghost use Rattle.o2_entries.specs.Tables.{live_numbers};
 ghost use Rattle.o2_image.specs.ImageList.{ImageList};
@@ -107,16 +107,16 @@ pub fn bring_in<S: SwapDevice>(
     requires clean { AreClean store.old (picture images.now) }
     requires device { all_of store.old.swap ≤ S.blocks swap.old }
 
-    ensures keeps { KeepsAll (S.told swap.old) (picture images.now)
+    ensures keeps { KeepsAll (S.told swap.new) (picture images.now)
         store.old (S.block swap.old) store.new (S.block swap.new) }
     ensures clean { AreClean store.new (picture images.now) }
     ensures device { (S.blocks swap.new ≡ S.blocks swap.old)
-        × (S.told swap.new ≡ S.told swap.old) }
+        × (IsTrue (S.told swap.new) → IsTrue (S.told swap.old)) }
     ensures map { all_of store.new.swap ≡ all_of store.old.swap }
     ensures maps { OnlyTables regions.old regions.new }
     ensures order { IsInOrder store.new regions.new }
     ensures matches { MatchesMove store.old store.new regions.old regions.new images.now
-        (S.told swap.old) (S.block swap.old) (S.block swap.new) }
+        (S.told swap.new) (S.block swap.old) (S.block swap.new) }
     ensures kept { (k : ℕ) → named_in store.old.entries keep.now k ≡ true
         → IsSome (place_of store.old k) → IsSome (place_of store.new k) }
 
@@ -150,20 +150,20 @@ pub fn resize<S: SwapDevice>(
     requires clean { AreClean store.old (picture images.now) }
     requires device { all_of store.old.swap ≤ S.blocks swap.old }
 
-    ensures resized { result ≡ Brought.Here → Resizes (S.told swap.old) (picture images.now)
+    ensures resized { result ≡ Brought.Here → Resizes (S.told swap.new) (picture images.now)
         store.old (S.block swap.old) store.new (S.block swap.new) id.key size }
-    ensures keeps { (result ≡ Brought.Here → ⊥) → KeepsAll (S.told swap.old) (picture images.now)
+    ensures keeps { (result ≡ Brought.Here → ⊥) → KeepsAll (S.told swap.new) (picture images.now)
         store.old (S.block swap.old) store.new (S.block swap.new) }
     ensures clean { AreClean store.new (picture images.now) }
     ensures device { (S.blocks swap.new ≡ S.blocks swap.old)
-        × (S.told swap.new ≡ S.told swap.old) }
+        × (IsTrue (S.told swap.new) → IsTrue (S.told swap.old)) }
     ensures map { all_of store.new.swap ≡ all_of store.old.swap }
     ensures maps { OnlyTables regions.old regions.new }
     ensures order { IsInOrder store.new regions.new }
     ensures matches { result ≡ Brought.Here → MatchesSize store.old store.new regions.old regions.new images.now
-        (S.told swap.old) (S.block swap.old) (S.block swap.new) id size }
+        (S.told swap.new) (S.block swap.old) (S.block swap.new) id size }
     ensures stays { (result ≡ Brought.Here → ⊥) → MatchesMove store.old store.new regions.old regions.new images.now
-        (S.told swap.old) (S.block swap.old) (S.block swap.new) }
+        (S.told swap.new) (S.block swap.old) (S.block swap.new) }
     ensures kept { (k : ℕ) → named_in store.old.entries keep.now k ≡ true
         → IsSome (place_of store.old k) → IsSome (place_of store.new k) }
 

@@ -17,7 +17,7 @@ use Rattle.o2_open.specs.Loads.{Contents, Fails, Refuses as OpenRefuses, loaded}
 use Rattle.o2_run.specs.Pieces.{Counts}
 use Rattle.o2_cli.specs.declared.status.Status.{Status}
 use Rattle.o2_cli.specs.declared.status.Status.TheVariants as status
-use Rattle.o2_cli.specs.Top.{Told, IsCheck, IsFirst, Refuses, Shows, OnTried}
+use Rattle.o2_cli.specs.Top.{Possible, IsCheck, IsFirst, Refuses, Shows, OnTried}
 use Rattle.o2_cli.specs.Statuses.{status_by}
 use Rattle.o2_cli.specs.Checks.{module_line, with_line, module_lines, IsUnstarted, ShowsLines, Checks, ChecksFile}
 use Rattle.o2_cli.proofs.Runs.{load_started}
@@ -94,19 +94,19 @@ first_fault Exe contents name input f e = ap (load_started input) e
 first_fault Run contents name input f e = ap (load_started input) e
 first_fault Check contents name input f e = e
 
-module _ (words : List (String Global)) (told : Told) (verb : Verb) (name : List ℕ) (command : IsCommandFor words verb name) where
-  refused_by : (f : OpenFault) → ((contents : Contents) → told ≡ Some contents → Fails f (loaded verb contents name)) → Refuses words told (status_by f)
+module _ (words : List (String Global)) (may : Possible) (verb : Verb) (name : List ℕ) (command : IsCommandFor words verb name) where
+  refused_by : (f : OpenFault) → ((contents : Contents) → may contents → Fails f (loaded verb contents name)) → Refuses words may (status_by f)
   refused_by (open_fault.NoFile n) h = record { verb = verb; name = name; command = command; refused = λ contents input is. first_fault verb contents name input _ (h contents is) }
   refused_by (open_fault.BadMachine f) h = record { verb = verb; name = name; command = command; refused = λ contents input is. first_fault verb contents name input _ (h contents is) }
   refused_by (open_fault.BadModule n f) h = record { verb = verb; name = name; command = command; refused = λ contents input is. first_fault verb contents name input _ (h contents is) }
   refused_by open_fault.FileFault h = (verb, name, command)
   refused_by open_fault.NoMemory h = (verb, name, command)
 
-  pub refused_open : (f : OpenFault) (answer : Status) → answer ≡ status_by f → ((contents : Contents) → told ≡ Some contents → Fails f (loaded verb contents name)) → Refuses words told answer
-  refused_open f answer is h = subst (λ (a : Status). Refuses words told a) (sym is) (refused_by f h)
+  pub refused_open : (f : OpenFault) (answer : Status) → answer ≡ status_by f → ((contents : Contents) → may contents → Fails f (loaded verb contents name)) → Refuses words may answer
+  refused_open f answer is h = subst (λ (a : Status). Refuses words may a) (sym is) (refused_by f h)
 
   -- a check refuses nothing of what it opened
-  pub refused_lines : (s : Session) (c d : Option (List ℕ)) (answer : Status) → ShowsLines s c d answer → Refuses words told answer
+  pub refused_lines : (s : Session) (c d : Option (List ℕ)) (answer : Status) → ShowsLines s c d answer → Refuses words may answer
   refused_lines s c d status.Fine t = (verb, name, command)
   refused_lines s c d status.SinkFault t = (verb, name, command)
   refused_lines s c d status.NoMemory t = (verb, name, command)
@@ -121,19 +121,19 @@ module _ (words : List (String Global)) (told : Told) (verb : Verb) (name : List
   refused_lines s c d status.SwapFault t = absurd t
 
 -- where nothing opens, the console is as it was
-quiet_by : (name : List ℕ) (told : Told) (c : Option (List ℕ)) (f : OpenFault) → ChecksFile name told c c (status_by f)
-quiet_by name told c (open_fault.NoFile n) = refl
-quiet_by name told c (open_fault.BadMachine f) = refl
-quiet_by name told c (open_fault.BadModule n f) = refl
-quiet_by name told c open_fault.FileFault = refl
-quiet_by name told c open_fault.NoMemory = refl
+quiet_by : (name : List ℕ) (may : Possible) (c : Option (List ℕ)) (f : OpenFault) → ChecksFile name may c c (status_by f)
+quiet_by name may c (open_fault.NoFile n) = refl
+quiet_by name may c (open_fault.BadMachine f) = refl
+quiet_by name may c (open_fault.BadModule n f) = refl
+quiet_by name may c open_fault.FileFault = refl
+quiet_by name may c open_fault.NoMemory = refl
 
-pub quiet : (words : List (String Global)) (told : Told) (c : Option (List ℕ)) (f : OpenFault) (answer : Status) → answer ≡ status_by f → Checks words told c c answer
-quiet words told c f answer is = λ name command. subst (λ (a : Status). ChecksFile name told c c a) (sym is) (quiet_by name told c f)
+pub quiet : (words : List (String Global)) (may : Possible) (c : Option (List ℕ)) (f : OpenFault) (answer : Status) → answer ≡ status_by f → Checks words may c c answer
+quiet words may c f answer is = λ name command. subst (λ (a : Status). ChecksFile name may c c a) (sym is) (quiet_by name may c f)
 
 -- what a check shows of a session
-module _ (words : List (String Global)) (told : Told) (name : List ℕ) (command : IsCommandFor words Check name) (s : Session) (c d : Option (List ℕ)) where
-  pub texts_of_check : (blocks : ℕ) (i r : Option (List ℕ)) (e : Type 0) (puts : Counts) (answer : Status) → ShowsLines s c d answer → Shows words told blocks i i c d r r e puts answer
+module _ (words : List (String Global)) (may : Possible) (name : List ℕ) (command : IsCommandFor words Check name) (s : Session) (c d : Option (List ℕ)) where
+  pub texts_of_check : (blocks : ℕ) (i r : Option (List ℕ)) (e : Type 0) (puts : Counts) (answer : Status) → ShowsLines s c d answer → Shows words may blocks i i c d r r e puts answer
   texts_of_check blocks i r e puts status.Fine t = λ runs. absurd (runs (name, command))
   texts_of_check blocks i r e puts status.SinkFault t = λ runs. absurd (runs (name, command))
   texts_of_check blocks i r e puts status.NoMemory t = record { input = refl; console = t; report = refl }
@@ -147,7 +147,7 @@ module _ (words : List (String Global)) (told : Told) (name : List ℕ) (command
   texts_of_check blocks i r e puts status.SwapFull t = absurd t
   texts_of_check blocks i r e puts status.SwapFault t = absurd t
 
-  file_shown : (loads : (contents : Contents) → told ≡ Some contents → loaded Check contents name ≡ Ok s) (answer : Status) → ShowsLines s c d answer → ChecksFile name told c d answer
+  file_shown : (loads : (contents : Contents) → may contents → loaded Check contents name ≡ Ok s) (answer : Status) → ShowsLines s c d answer → ChecksFile name may c d answer
   file_shown loads status.Fine t = λ contents is. record { session = s; links = loads contents is; shows = t }
   file_shown loads status.SinkFault t = λ contents is. record { session = s; links = loads contents is; shows = t }
   file_shown loads status.NoMemory t = t
@@ -161,8 +161,8 @@ module _ (words : List (String Global)) (told : Told) (name : List ℕ) (command
   file_shown loads status.SwapFull t = absurd t
   file_shown loads status.SwapFault t = absurd t
 
-  pub lines_of_check : (loads : (contents : Contents) → told ≡ Some contents → loaded Check contents name ≡ Ok s) (answer : Status) → ShowsLines s c d answer → Checks words told c d answer
-  lines_of_check loads answer t = λ other too. subst (λ (n : List ℕ). ChecksFile n told c d answer) (name_is words Check Check name other command too) (file_shown loads answer t)
+  pub lines_of_check : (loads : (contents : Contents) → may contents → loaded Check contents name ≡ Ok s) (answer : Status) → ShowsLines s c d answer → Checks words may c d answer
+  lines_of_check loads answer t = λ other too. subst (λ (n : List ℕ). ChecksFile n may c d answer) (name_is words Check Check name other command too) (file_shown loads answer t)
 
 -- what keeps a command from opening puts nothing
 untried_by : (P : Type 0) (f : OpenFault) → OnTried (status_by f) P

@@ -19,7 +19,7 @@ use Rattle.o2_open.specs.declared.fault.OpenFault.{OpenFault}
 use Rattle.o2_open.specs.Loads.{Contents, loaded}
 use Rattle.o2_cli.specs.declared.status.Status.{Status}
 use Rattle.o2_cli.specs.declared.status.Status.TheVariants as status
-use Rattle.o2_cli.specs.Top.{IsCheck, IsFirst, IsRefused, Opened, Opens, Refuses, Shows, Told, opened, OnFileFault, OnInputFault, OnSinkFault, OnSwapFault}
+use Rattle.o2_cli.specs.Top.{IsCheck, IsFirst, IsRefused, Opened, Opens, Refuses, Shows, Possible, opened, OnFileFault, OnInputFault, OnSinkFault, OnSwapFault}
 use Rattle.o2_cli.specs.Checks.{Checks}
 use Rattle.o2_cli.specs.Done.{HasAmple, Completes, CompletesCheck}
 use Rattle.o2_cli.proofs.Checked.{name_is, verb_is}
@@ -72,20 +72,20 @@ links_or contents name f s ok err = absurd (cc)
 same_start : (r : Result Opened OpenFault) (a b : Opened) → r ≡ Ok a → r ≡ Ok b → a ≡ b
 same_start r a b x y = cc
 
-module _ (words : List (String Global)) (told : Told) (contents : Contents) (is : told ≡ Some contents) where
+module _ (words : List (String Global)) (may : Possible) (contents : Contents) (is : may contents) where
   -- a refusal is one of this command
-  refused_as : (verb : Verb) (name text : List ℕ) (f : OpenFault) → IsCommandFor words verb name → IsRefused words told f → IsFirst verb contents name text f
+  refused_as : (verb : Verb) (name text : List ℕ) (f : OpenFault) → IsCommandFor words verb name → IsRefused words may f → IsFirst verb contents name text f
   refused_as verb name text f command r =
       subst (λ (v : Verb). IsFirst v contents name text f) (verb_is words r.verb verb r.name name r.command command)
       (subst (λ (n : List ℕ). IsFirst r.verb contents n text f) (name_is words r.verb verb r.name name r.command command) (r.refused contents text is))
 
-  unrefused : (text : List ℕ) (P : Opened → Type 0) (f : OpenFault) → IsRefused words told f → (IsCheck words → ⊥) → Opens words contents text P → ⊥
+  unrefused : (text : List ℕ) (P : Opened → Type 0) (f : OpenFault) → IsRefused words may f → (IsCheck words → ⊥) → Opens words contents text P → ⊥
   unrefused text P f r runs o =
       opens_or o.verb contents o.name text f o.start
       (λ check. runs (o.name, subst (λ (v : Verb). IsCommandFor words v o.name) check o.command))
       o.opens (refused_as o.verb o.name text f o.command r)
 
-  unrefused_check : (name : List ℕ) (s : Session) (f : OpenFault) → IsRefused words told f → IsCommandFor words Check name → loaded Check contents name ≡ Ok s → ⊥
+  unrefused_check : (name : List ℕ) (s : Session) (f : OpenFault) → IsRefused words may f → IsCommandFor words Check name → loaded Check contents name ≡ Ok s → ⊥
   unrefused_check name s f r command links = links_or contents name f s links (refused_as Check name [] f command r)
 
   -- what a command opens is one setting and one world
@@ -98,36 +98,36 @@ module _ (words : List (String Global)) (told : Told) (contents : Contents) (is 
   unstopped : (text : List ℕ) (P Q : Opened → Type 0) → Opens words contents text P → Opens words contents text Q → ((o : Opened) → P o → Q o → ⊥) → ⊥
   unstopped text P Q a b clash = clash b.start (subst P (one_start text P Q a b) a.runs) b.runs
 
-module _ (words : List (String Global)) (told : Told) (files input sink device : Type 0) where
+module _ (words : List (String Global)) (may : Possible) (files input sink device : Type 0) where
   pub completes : (blocks : ℕ) (i j c d r q : Option (List ℕ)) (e : Type 0) (n : Counts) (answer : Status)
-      → Refuses words told answer → Shows words told blocks i j c d r q e n answer
+      → Refuses words may answer → Shows words may blocks i j c d r q e n answer
       → OnFileFault answer files → OnInputFault answer input → OnSinkFault answer sink → OnSwapFault answer device
-      → Completes words told blocks i files input sink device answer
+      → Completes words may blocks i files input sink device answer
   completes blocks i j c d r q e n status.Fine refuses shows f g h k = λ runs contents text is left o nf ni ns nd. tt
   completes blocks i j c d r q e n status.NoMemory refuses shows f g h k = λ runs contents text is left o nf ni ns nd. tt
   completes blocks i j c d r q e n status.BadWords refuses shows f g h k = λ runs contents text is left o nf ni ns nd. refuses (o.verb, o.name, o.command)
-  completes blocks i j c d r q e n (status.NoFile name) refuses shows f g h k = λ runs contents text is left o nf ni ns nd. unrefused words told contents is text _ _ refuses runs o
-  completes blocks i j c d r q e n (status.BadMachine fault) refuses shows f g h k = λ runs contents text is left o nf ni ns nd. unrefused words told contents is text _ _ refuses runs o
-  completes blocks i j c d r q e n (status.BadModule name fault) refuses shows f g h k = λ runs contents text is left o nf ni ns nd. unrefused words told contents is text _ _ refuses runs o
+  completes blocks i j c d r q e n (status.NoFile name) refuses shows f g h k = λ runs contents text is left o nf ni ns nd. unrefused words may contents is text _ _ refuses runs o
+  completes blocks i j c d r q e n (status.BadMachine fault) refuses shows f g h k = λ runs contents text is left o nf ni ns nd. unrefused words may contents is text _ _ refuses runs o
+  completes blocks i j c d r q e n (status.BadModule name fault) refuses shows f g h k = λ runs contents text is left o nf ni ns nd. unrefused words may contents is text _ _ refuses runs o
   completes blocks i j c d r q e n status.FileFault refuses shows f g h k = λ runs contents text is left o nf ni ns nd. nf f
   completes blocks i j c d r q e n status.InputFault refuses shows f g h k = λ runs contents text is left o nf ni ns nd. ni g
   completes blocks i j c d r q e n status.SinkFault refuses shows f g h k = λ runs contents text is left o nf ni ns nd. ns h
   completes blocks i j c d r q e n status.SwapFault refuses shows f g h k = λ runs contents text is left o nf ni ns nd. nd k
   completes blocks i j c d r q e n status.NoRoom refuses shows f g h k = λ runs contents text is left o nf ni ns nd.
-      unstopped words told contents is text _ _ (shows runs contents text is left) o
+      unstopped words may contents is text _ _ (shows runs contents text is left) o
       (λ start stops ample. no_stop_for_room blocks start.setting (after start.setting start.world stops.steps) (ample stops.steps stops.below) stops.cause)
   completes blocks i j c d r q e n status.SwapFull refuses shows f g h k = λ runs contents text is left o nf ni ns nd.
-      unstopped words told contents is text _ _ (shows runs contents text is left) o
+      unstopped words may contents is text _ _ (shows runs contents text is left) o
       (λ start stops ample. no_full_swap blocks start.setting (after start.setting start.world stops.steps) (ample stops.steps stops.below) stops.cause)
 
-  pub check_completes : (c d : Option (List ℕ)) (answer : Status) → Refuses words told answer → Checks words told c d answer
-      → OnFileFault answer files → OnSinkFault answer sink → CompletesCheck words told files sink answer
+  pub check_completes : (c d : Option (List ℕ)) (answer : Status) → Refuses words may answer → Checks words may c d answer
+      → OnFileFault answer files → OnSinkFault answer sink → CompletesCheck words may files sink answer
   check_completes c d status.Fine refuses checks f h = λ contents name s is command links nf ns. tt
   check_completes c d status.NoMemory refuses checks f h = λ contents name s is command links nf ns. tt
   check_completes c d status.BadWords refuses checks f h = λ contents name s is command links nf ns. refuses (Check, name, command)
-  check_completes c d (status.NoFile n) refuses checks f h = λ contents name s is command links nf ns. unrefused_check words told contents is name s _ refuses command links
-  check_completes c d (status.BadMachine fault) refuses checks f h = λ contents name s is command links nf ns. unrefused_check words told contents is name s _ refuses command links
-  check_completes c d (status.BadModule n fault) refuses checks f h = λ contents name s is command links nf ns. unrefused_check words told contents is name s _ refuses command links
+  check_completes c d (status.NoFile n) refuses checks f h = λ contents name s is command links nf ns. unrefused_check words may contents is name s _ refuses command links
+  check_completes c d (status.BadMachine fault) refuses checks f h = λ contents name s is command links nf ns. unrefused_check words may contents is name s _ refuses command links
+  check_completes c d (status.BadModule n fault) refuses checks f h = λ contents name s is command links nf ns. unrefused_check words may contents is name s _ refuses command links
   check_completes c d status.FileFault refuses checks f h = λ contents name s is command links nf ns. nf f
   check_completes c d status.SinkFault refuses checks f h = λ contents name s is command links nf ns. ns h
   check_completes c d status.InputFault refuses checks f h = λ contents name s is command links nf ns. checks name command

@@ -30,7 +30,7 @@ use Rattle.o2_cli.specs.declared.status.Status.TheVariants as status
 use Rattle.o2_open.specs.declared.fault.OpenFault.{OpenFault}
 use Rattle.o2_open.specs.declared.fault.OpenFault.TheVariants as open_fault
 use Rattle.o2_open.specs.Loads.{Contents, Tells, loaded, start_refusal, under, ◌>>=◌}
-use Rattle.o2_cli.specs.Top.{OnFileFault, Refuses as TopRefuses, OnInputFault, OnSinkFault, OnSwapFault, Opened, Told, IsFirst, Opens, Shows, opened, started, with_setting, refusal}
+use Rattle.o2_cli.specs.Top.{OnFileFault, Refuses as TopRefuses, OnInputFault, OnSinkFault, OnSwapFault, Opened, Possible, IsFirst, Opens, Shows, opened, started, with_setting, refusal}
 use Rattle.o2_cli.specs.Statuses.{status_by, status_of}
 use Rattle.o2_cli.specs.RunTexts.{StartsWith, FaultsRun, ShowsRun, RefusesRun}
 
@@ -49,12 +49,10 @@ pub is_refused : (s : Session) (input : List ℕ) (f : ℕ × ModuleFault) → s
 unfolding started
 is_refused s input f e = ap (opened_from s _ input) e
 
--- what has begun stands for that world over the device that it was begun for, where that tells what its blocks hold
-pub stands_over : (m : Machine) (l : LinkedParts) (c : Conf) (count : ℕ) (r q : Option (List ℕ)) (begun : HasBegun m l c count r q) (blocks : ℕ) → count ≡ blocks → (told : Bool) → IsTrue told → (block : ℕ → List ℕ) (input : List ℕ)
-    → StandsFor m blocks told block (setting_of c) (first_world l c input begun.built)
-stands_over m l c count r q begun blocks is told tells block input =
-    subst (λ (b : Bool). StandsFor m blocks b block (setting_of c) (first_world l c input begun.built)) (sym tells)
-    (begun.stands blocks (ap (λ (n : ℕ). min c.swap n) (sym is)) block input)
+-- what has begun stands for that world over the device that it was begun for
+pub stands_over : (m : Machine) (l : LinkedParts) (c : Conf) (count : ℕ) (r q : Option (List ℕ)) (begun : HasBegun m l c count r q) (blocks : ℕ) → count ≡ blocks → (block : ℕ → List ℕ) (input : List ℕ)
+    → StandsFor m blocks block (setting_of c) (first_world l c input begun.built)
+stands_over m l c count r q begun blocks is block input = begun.stands blocks (ap (λ (n : ℕ). min c.swap n) (sym is)) block input
 
 -- before the first step nothing is on the console
 pub nothing_yet : (s : Session) (b : Built) (input : List ℕ) (c : Option (List ℕ)) → Gains c c (console (first_world s.linked s.conf input b))
@@ -109,15 +107,15 @@ pub no_refusal : (s : Session) (f : Fault) (answer : Status) → answer ≡ stat
 no_refusal s f answer is = subst (λ (a : Status). RefusesRun s a) (sym is) (fault_refuses s f)
 
 -- where nothing opens, nothing is taken or put
-untouched_by : (words : List (String Global)) (told : Told) (blocks : ℕ) (i c r : Option (List ℕ)) (z : Type 0) (n : Counts) (fault : OpenFault) → Shows words told blocks i i c c r r z n (status_by fault)
-untouched_by words told blocks i c r z n (open_fault.NoFile name) = record { input = refl; console = refl; report = refl }
-untouched_by words told blocks i c r z n (open_fault.BadMachine f) = record { input = refl; console = refl; report = refl }
-untouched_by words told blocks i c r z n (open_fault.BadModule name f) = record { input = refl; console = refl; report = refl }
-untouched_by words told blocks i c r z n open_fault.FileFault = record { input = refl; console = refl; report = refl }
-untouched_by words told blocks i c r z n open_fault.NoMemory = record { input = refl; console = refl; report = refl }
+untouched_by : (words : List (String Global)) (may : Possible) (blocks : ℕ) (i c r : Option (List ℕ)) (z : Type 0) (n : Counts) (fault : OpenFault) → Shows words may blocks i i c c r r z n (status_by fault)
+untouched_by words may blocks i c r z n (open_fault.NoFile name) = record { input = refl; console = refl; report = refl }
+untouched_by words may blocks i c r z n (open_fault.BadMachine f) = record { input = refl; console = refl; report = refl }
+untouched_by words may blocks i c r z n (open_fault.BadModule name f) = record { input = refl; console = refl; report = refl }
+untouched_by words may blocks i c r z n open_fault.FileFault = record { input = refl; console = refl; report = refl }
+untouched_by words may blocks i c r z n open_fault.NoMemory = record { input = refl; console = refl; report = refl }
 
-pub untouched : (words : List (String Global)) (told : Told) (blocks : ℕ) (i c r : Option (List ℕ)) (z : Type 0) (n : Counts) (fault : OpenFault) (answer : Status) → answer ≡ status_by fault → Shows words told blocks i i c c r r z n answer
-untouched words told blocks i c r z n fault answer is = subst (λ (a : Status). Shows words told blocks i i c c r r z n a) (sym is) (untouched_by words told blocks i c r z n fault)
+pub untouched : (words : List (String Global)) (may : Possible) (blocks : ℕ) (i c r : Option (List ℕ)) (z : Type 0) (n : Counts) (fault : OpenFault) (answer : Status) → answer ≡ status_by fault → Shows words may blocks i i c c r r z n answer
+untouched words may blocks i c r z n fault answer is = subst (λ (a : Status). Shows words may blocks i i c c r r z n a) (sym is) (untouched_by words may blocks i c r z n fault)
 
 -- what a run with a fault shows, and the causes of its status
 module _ (s : Session) (blocks : ℕ) (i j c d r q : Option (List ℕ)) (e : Type 0) (n : Counts) where
@@ -176,13 +174,13 @@ first_of Exe contents name input f starts e = e
 first_of Run contents name input f starts e = e
 first_of Check contents name input f starts e = absurd (starts refl)
 
-module _ (words : List (String Global)) (told : Told) (blocks : ℕ) (i j c d r q : Option (List ℕ)) (e : Type 0) (n : Counts) (verb : Verb) (name : List ℕ) (s : Session) (command : IsCommandFor words verb name)
-    (loads : (contents : Contents) → told ≡ Some contents → loaded verb contents name ≡ Ok s) where
-  opens : (contents : Contents) (input : List ℕ) (P : Opened → Type 0) → told ≡ Some contents → StartsWith s input P → Opens words contents input P
+module _ (words : List (String Global)) (may : Possible) (blocks : ℕ) (i j c d r q : Option (List ℕ)) (e : Type 0) (n : Counts) (verb : Verb) (name : List ℕ) (s : Session) (command : IsCommandFor words verb name)
+    (loads : (contents : Contents) → may contents → loaded verb contents name ≡ Ok s) where
+  opens : (contents : Contents) (input : List ℕ) (P : Opened → Type 0) → may contents → StartsWith s input P → Opens words contents input P
   opens contents input P is st = record { verb = verb; name = name; command = command; start = st.start; opens = ap (load_started input) (loads contents is) ∙ st.starts; runs = st.runs }
 
   -- what a session's run shows is what its command shows
-  pub shown : (answer : Status) → ShowsRun s blocks i j c d r q e n answer → Shows words told blocks i j c d r q e n answer
+  pub shown : (answer : Status) → ShowsRun s blocks i j c d r q e n answer → Shows words may blocks i j c d r q e n answer
   shown status.Fine t = λ runs contents input is left. opens contents input _ is (t input left)
   shown status.SinkFault t = λ runs contents input is left. opens contents input _ is (t input left)
   shown status.InputFault t = λ runs contents input is left. opens contents input _ is (t input left)
@@ -197,9 +195,9 @@ module _ (words : List (String Global)) (told : Told) (blocks : ℕ) (i j c d r 
   shown status.SwapFault t = λ runs contents input is left. opens contents input _ is (t input left)
 
 -- and what it refuses is what its command refuses, but for `check`
-module _ (words : List (String Global)) (told : Told) (verb : Verb) (name : List ℕ) (s : Session) (command : IsCommandFor words verb name)
-    (loads : (contents : Contents) → told ≡ Some contents → loaded verb contents name ≡ Ok s) where
-  pub refused : (starts : (verb ≡ Check) → ⊥) (answer : Status) → RefusesRun s answer → TopRefuses words told answer
+module _ (words : List (String Global)) (may : Possible) (verb : Verb) (name : List ℕ) (s : Session) (command : IsCommandFor words verb name)
+    (loads : (contents : Contents) → may contents → loaded verb contents name ≡ Ok s) where
+  pub refused : (starts : (verb ≡ Check) → ⊥) (answer : Status) → RefusesRun s answer → TopRefuses words may answer
   refused starts status.Fine t = (verb, name, command)
   refused starts status.SinkFault t = (verb, name, command)
   refused starts status.InputFault t = (verb, name, command)

@@ -11,7 +11,7 @@ use Rattle.o2_open.specs.declared.session.Session.{Session}
 use Rattle.o2_open.specs.Loads.{Contents, IsOfStart, loaded}
 use Rattle.o2_cli.specs.declared.status.Status.{Status}
 use Rattle.o2_cli.specs.declared.status.Status.TheVariants as status
-use Rattle.o2_cli.specs.Top.{Told}
+use Rattle.o2_cli.specs.Top.{Possible}
 
 abbrev pub kind_text : Parts → List ℕ
 kind_text m = if is_library m then codes " library, " else codes " program, "
@@ -50,18 +50,18 @@ pub record Links (contents : Contents) (name : List ℕ) (P : Session → Type 0
   pub shows : P session
 
 -- what a status of `check` says of the console
-abbrev pub ChecksFile : List ℕ → Told → (console_old console_new : Option (List ℕ)) → Status → Type 0
-ChecksFile name told c d status.Fine = (contents : Contents) → told ≡ Some contents → Links contents name (λ s. Gains c d (session_lines s))
-ChecksFile name told c d status.SinkFault = (contents : Contents) → told ≡ Some contents → Links contents name (λ s. GainsSome c d (λ front. IsPrefix front (session_lines s)))
-ChecksFile name told c d status.InputFault = ⊥
-ChecksFile name told c d status.NoRoom = ⊥
-ChecksFile name told c d status.SwapFull = ⊥
-ChecksFile name told c d status.SwapFault = ⊥
-ChecksFile name told c d _ = d ≡ c
+abbrev pub ChecksFile : List ℕ → Possible → (console_old console_new : Option (List ℕ)) → Status → Type 0
+ChecksFile name may c d status.Fine = (contents : Contents) → may contents → Links contents name (λ s. Gains c d (session_lines s))
+ChecksFile name may c d status.SinkFault = (contents : Contents) → may contents → Links contents name (λ s. GainsSome c d (λ front. IsPrefix front (session_lines s)))
+ChecksFile name may c d status.InputFault = ⊥
+ChecksFile name may c d status.NoRoom = ⊥
+ChecksFile name may c d status.SwapFull = ⊥
+ChecksFile name may c d status.SwapFault = ⊥
+ChecksFile name may c d _ = d ≡ c
 
 -- where the words are `check` and the name of a file
-abbrev pub Checks : List (String Global) → Told → (console_old console_new : Option (List ℕ)) → Status → Type 0
-Checks words told c d s = (name : List ℕ) → IsCommandFor words Check name → ChecksFile name told c d s
+abbrev pub Checks : List (String Global) → Possible → (console_old console_new : Option (List ℕ)) → Status → Type 0
+Checks words may c d s = (name : List ℕ) → IsCommandFor words Check name → ChecksFile name may c d s
 
 -- no refusal of a start
 abbrev pub IsUnstarted : Status → Type 0

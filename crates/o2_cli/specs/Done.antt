@@ -10,7 +10,7 @@ use Rattle.o2_open.specs.declared.session.Session.{Session}
 use Rattle.o2_open.specs.Loads.{Contents, loaded}
 use Rattle.o2_cli.specs.declared.status.Status.{Status}
 use Rattle.o2_cli.specs.declared.status.Status.TheVariants as status
-use Rattle.o2_cli.specs.Top.{Opened, Opens, Told, IsCheck}
+use Rattle.o2_cli.specs.Top.{Opened, Opens, Possible, IsCheck}
 
 -- The next step has what it needs: all that lives fits the memory; or its room does, and what isn't clean fits the blocks in use,
 -- those of the setting, or of the device where it has fewer.
@@ -28,15 +28,15 @@ IsDone status.NoMemory = Unit {0}
 IsDone _ = ⊥
 
 -- a command that runs: it opens, each step has what it needs, and neither files, input, sinks nor device had a fault
-abbrev pub Completes : List (String Global) → Told → (blocks : ℕ) → (left : Option (List ℕ))
+abbrev pub Completes : List (String Global) → Possible → (blocks : ℕ) → (left : Option (List ℕ))
     → (files input sink device : Type 0) → Status → Type 0
-Completes words told blocks left files input sink device result =
-    (IsCheck words → ⊥) → (contents : Contents) (text : List ℕ) → told ≡ Some contents → left ≡ Some text
+Completes words may blocks left files input sink device result =
+    (IsCheck words → ⊥) → (contents : Contents) (text : List ℕ) → may contents → left ≡ Some text
     → Opens words contents text (IsAmple blocks)
     → (files → ⊥) → (input → ⊥) → (sink → ⊥) → (device → ⊥) → IsDone result
 
 -- `check`: what it names is read and linked, and neither files nor sink had a fault
-abbrev pub CompletesCheck : List (String Global) → Told → (files sink : Type 0) → Status → Type 0
-CompletesCheck words told files sink result =
-    (contents : Contents) (name : List ℕ) (s : Session) → told ≡ Some contents → IsCommandFor words Check name
+abbrev pub CompletesCheck : List (String Global) → Possible → (files sink : Type 0) → Status → Type 0
+CompletesCheck words may files sink result =
+    (contents : Contents) (name : List ℕ) (s : Session) → may contents → IsCommandFor words Check name
     → loaded Check contents name ≡ Ok s → (files → ⊥) → (sink → ⊥) → IsDone result

@@ -39,8 +39,13 @@ started s input = under (refusal s) (opening s.linked s.conf input) >>= with_set
 abbrev pub opened : Verb → Contents → List ℕ → List ℕ → Result Opened OpenFault
 opened verb contents name input = loaded verb contents name >>= (λ s. started s input)
 
-abbrev pub Told : Type 0
-Told = Option Contents
+-- which contents the files may have
+abbrev pub Possible : Type 1
+Possible = Contents → Type 0
+
+-- these and no other
+abbrev pub holding : Contents → Possible
+holding contents = λ (other : Contents). other ≡ contents
 
 -- the words ask for a check, which starts nothing
 abbrev pub IsCheck : List (String Global) → Type 0
@@ -53,26 +58,26 @@ IsFirst Run contents name input f = opened Run contents name input ≡ Err f
 IsFirst Check contents name input f = loaded Check contents name ≡ Err f
 
 -- the words are a command that is refused so
-pub record IsRefused (words : List (String Global)) (told : Told) (f : OpenFault) : Type 0 where
+pub record IsRefused (words : List (String Global)) (may : Possible) (f : OpenFault) : Type 0 where
   pub verb : Verb
   pub name : List ℕ
   pub command : IsCommandFor words verb name
-  pub refused : (contents : Contents) (input : List ℕ) → told ≡ Some contents → IsFirst verb contents name input f
+  pub refused : (contents : Contents) (input : List ℕ) → may contents → IsFirst verb contents name input f
 
 -- a refusal and its cause
-abbrev pub Refuses : List (String Global) → Told → Status → Type 0
-Refuses words told status.BadWords = IsCommand words → ⊥
-Refuses words told (status.NoFile name) = IsRefused words told (open_fault.NoFile name)
-Refuses words told (status.BadMachine fault) = IsRefused words told (open_fault.BadMachine fault)
-Refuses words told (status.BadModule name fault) = IsRefused words told (open_fault.BadModule name fault)
-Refuses words told status.NoRoom = IsCommand words
-Refuses words told status.SwapFull = IsCommand words
-Refuses words told status.SwapFault = IsCommand words
-Refuses words told status.Fine = IsCommand words
-Refuses words told status.FileFault = IsCommand words
-Refuses words told status.InputFault = IsCommand words
-Refuses words told status.SinkFault = IsCommand words
-Refuses words told status.NoMemory = IsCommand words
+abbrev pub Refuses : List (String Global) → Possible → Status → Type 0
+Refuses words may status.BadWords = IsCommand words → ⊥
+Refuses words may (status.NoFile name) = IsRefused words may (open_fault.NoFile name)
+Refuses words may (status.BadMachine fault) = IsRefused words may (open_fault.BadMachine fault)
+Refuses words may (status.BadModule name fault) = IsRefused words may (open_fault.BadModule name fault)
+Refuses words may status.NoRoom = IsCommand words
+Refuses words may status.SwapFull = IsCommand words
+Refuses words may status.SwapFault = IsCommand words
+Refuses words may status.Fine = IsCommand words
+Refuses words may status.FileFault = IsCommand words
+Refuses words may status.InputFault = IsCommand words
+Refuses words may status.SinkFault = IsCommand words
+Refuses words may status.NoMemory = IsCommand words
 
 -- where a program runs: the command opens, and P holds of the setting and of the world before the first step
 pub record Opens (words : List (String Global)) (contents : Contents) (input : List ℕ) (P : Opened → Type 0) : Type 0 where
@@ -83,9 +88,9 @@ pub record Opens (words : List (String Global)) (contents : Contents) (input : L
   pub opens : opened verb contents name input ≡ Ok start
   pub runs : P start
 
--- whatever the files and the input tell, but for `check`
-abbrev pub Runs : List (String Global) → Told → Option (List ℕ) → (Opened → Type 0) → Type 0
-Runs words told left P = (IsCheck words → ⊥) → (contents : Contents) (input : List ℕ) → told ≡ Some contents → left ≡ Some input → Opens words contents input P
+-- over all files that may be, and whatever the input tells, but for `check`
+abbrev pub Runs : List (String Global) → Possible → Option (List ℕ) → (Opened → Type 0) → Type 0
+Runs words may left P = (IsCheck words → ⊥) → (contents : Contents) (input : List ℕ) → may contents → left ≡ Some input → Opens words contents input P
 
 -- nothing was written, and the input is as before
 pub record IsUntouched (left_old left_new console_old console_new report_old report_new : Option (List ℕ)) : Type 0 where
@@ -94,21 +99,21 @@ pub record IsUntouched (left_old left_new console_old console_new report_old rep
   pub report : report_new ≡ report_old
 
 -- the run is stopped so, before a step
-abbrev pub Stops : List (String Global) → Told → (blocks : ℕ)
+abbrev pub Stops : List (String Global) → Possible → (blocks : ℕ)
     → (left_old left_new console_old console_new report_old report_new : Option (List ℕ)) → (fault : Type 0) → (puts : Counts) → Stop → Type 0
-Stops words told blocks i j c d r q e n why = Runs words told i (λ o. HasStoppedTexts machine_swaps blocks o.setting o.world why j c d r q e n)
+Stops words may blocks i j c d r q e n why = Runs words may i (λ o. HasStoppedTexts machine_swaps blocks o.setting o.world why j c d r q e n)
 
 -- both texts, their puts and the input, by the status: those of the boundless machine, or fronts of them; `fault` says that the
 -- report failed, and `blocks` how many blocks the device has
-abbrev pub Shows : List (String Global) → Told → (blocks : ℕ)
+abbrev pub Shows : List (String Global) → Possible → (blocks : ℕ)
     → (left_old left_new console_old console_new report_old report_new : Option (List ℕ)) → (fault : Type 0) → (puts : Counts) → Status → Type 0
-Shows words told blocks i j c d r q e n status.Fine = Runs words told i (λ o. HasWholeRun machine_swaps o.setting o.world j c d r q n)
-Shows words told blocks i j c d r q e n status.SinkFault = Runs words told i (λ o. HasPartRun machine_swaps o.setting o.world j c d r q n)
-Shows words told blocks i j c d r q e n status.InputFault = Stops words told blocks i j c d r q e n Input
-Shows words told blocks i j c d r q e n status.NoRoom = Stops words told blocks i j c d r q e n NoRoom
-Shows words told blocks i j c d r q e n status.SwapFull = Stops words told blocks i j c d r q e n SwapFull
-Shows words told blocks i j c d r q e n status.SwapFault = Stops words told blocks i j c d r q e n SwapFault
-Shows words told blocks i j c d r q e n _ = IsUntouched i j c d r q
+Shows words may blocks i j c d r q e n status.Fine = Runs words may i (λ o. HasWholeRun machine_swaps o.setting o.world j c d r q n)
+Shows words may blocks i j c d r q e n status.SinkFault = Runs words may i (λ o. HasPartRun machine_swaps o.setting o.world j c d r q n)
+Shows words may blocks i j c d r q e n status.InputFault = Stops words may blocks i j c d r q e n Input
+Shows words may blocks i j c d r q e n status.NoRoom = Stops words may blocks i j c d r q e n NoRoom
+Shows words may blocks i j c d r q e n status.SwapFull = Stops words may blocks i j c d r q e n SwapFull
+Shows words may blocks i j c d r q e n status.SwapFault = Stops words may blocks i j c d r q e n SwapFault
+Shows words may blocks i j c d r q e n _ = IsUntouched i j c d r q
 
 abbrev pub OnFileFault : Status → Type 0 → Type 0
 OnFileFault status.FileFault P = P

@@ -1,7 +1,7 @@
 // The top call.
 ghost use Rattle.std.specs.Prelude.{◌≡◌, ◌≤◌, ◌+◌, ◌⊎◌, ℕ, List, Option, Some, IsTrue};
 ghost use Rattle.o2_conf.specs.Limits.{IsWithinLimits};
-ghost use Rattle.o2_open.specs.Loads.{HasEnvironments, IsLinked};
+ghost use Rattle.o2_open.specs.Loads.{Contents, HasEnvironments, IsLinked};
 ghost use Rattle.o2_outer.specs.Texts.{Rose};
 ghost use Rattle.o2_outer.specs.Inputs.{GoesOn, MayBe, rest_of, IsSeenAs, left_as};
 ghost use Rattle.o2_run.specs.Pieces.{counts};
@@ -33,17 +33,18 @@ pub fn os2run<F: Files, I: Source, C: Sink, R: Sink, S: SwapDevice>(
     swap: &mut S,
 ) -> Status
     // Each refusal, with its cause.
-    ensures refused { Refuses words.now (F.told files.old) result }
-    // Both texts are those of the boundless machine, or fronts of them, over a device that tells what its blocks hold; each line of
-    // the report is one put, and so is the piece for the console of each step that has one.
-    ensures texts { IsTrue (S.told swap.old) → Shows words.now (F.told files.old) (S.blocks swap.old)
+    ensures refused { Refuses words.now (F.may_hold files.new) result }
+    // Both texts are those of the boundless machine over all files that agree with what was fetched, or fronts of them, where each
+    // block that was read had what was written to it last; each line of the report is one put, and so is the piece for the console
+    // of each step that has one.
+    ensures texts { IsTrue (S.told swap.new) → Shows words.now (F.may_hold files.new) (S.blocks swap.old)
         (I.left input.old) (I.left input.new) (C.taken console.old) (C.taken console.new)
         (R.taken report.old) (R.taken report.new) (Rose (R.faults report.old) (R.faults report.new))
         (counts (C.puts console.old) (C.puts console.new) (R.puts report.old) (R.puts report.new) 0) result }
     // The same of an input that tells nothing, over each text that the whole of it may be when the call comes back: what it has given
     // is a front of it, and all of it where it has ended. What it has given is such a text.
-    ensures untold_texts { IsTrue (S.told swap.old) → (text : List ℕ) → MayBe text (I.past input.new)
-        → Shows words.now (F.told files.old) (S.blocks swap.old)
+    ensures untold_texts { IsTrue (S.told swap.new) → (text : List ℕ) → MayBe text (I.past input.new)
+        → Shows words.now (F.may_hold files.new) (S.blocks swap.old)
         (Some (rest_of text (I.past input.old))) (Some (rest_of text (I.past input.new)))
         (C.taken console.old) (C.taken console.new)
         (R.taken report.old) (R.taken report.new) (Rose (R.faults report.old) (R.faults report.new))
@@ -52,19 +53,19 @@ pub fn os2run<F: Files, I: Source, C: Sink, R: Sink, S: SwapDevice>(
     ensures goes_on { GoesOn (I.past input.old) (I.past input.new) }
     // Of `check` the console gains the line of each linked module, or a front of the lines, and nothing else is touched; no
     // module is refused for a stack, an entry point or the number of segments.
-    ensures lines { Checks words.now (F.told files.old) (C.taken console.old) (C.taken console.new) result }
+    ensures lines { Checks words.now (F.may_hold files.new) (C.taken console.old) (C.taken console.new) result }
     ensures checks_at_once { IsCheck words.now → OnTried result (C.puts console.new ≡ C.puts console.old + 1) }
     ensures checks_unstarted { IsCheck words.now → IsUnstarted result }
     ensures checks_quietly { IsCheck words.now → report.new ≡ report.old }
     ensures checks_unread { IsCheck words.now → input.new ≡ input.old }
     // Where each step has what it needs in memory and swap, and no count of faults rose, a command that opens is done, or there
     // was no memory; and so is a check.
-    ensures complete { IsTrue (S.told swap.old) → (text : Option (List ℕ)) → IsSeenAs text (I.past input.new)
-        → Completes words.now (F.told files.old) (S.blocks swap.old) (left_as text (I.left input.old) (I.past input.old))
+    ensures complete { IsTrue (S.told swap.new) → (text : Option (List ℕ)) → IsSeenAs text (I.past input.new)
+        → Completes words.now (F.may_hold files.new) (S.blocks swap.old) (left_as text (I.left input.old) (I.past input.old))
         (Rose (F.faults files.old) (F.faults files.new)) (Rose (I.faults input.old) (I.faults input.new))
         (Rose (C.faults console.old) (C.faults console.new) ⊎ Rose (R.faults report.old) (R.faults report.new))
         (Rose (S.faults swap.old) (S.faults swap.new)) result }
-    ensures check_complete { CompletesCheck words.now (F.told files.old) (Rose (F.faults files.old) (F.faults files.new))
+    ensures check_complete { CompletesCheck words.now (F.may_hold files.new) (Rose (F.faults files.old) (F.faults files.new))
         (Rose (C.faults console.old) (C.faults console.new) ⊎ Rose (R.faults report.old) (R.faults report.new)) result }
     // Where nothing ran, the input, both sinks and the device are as they were, whatever they tell.
     ensures same_input { OnUnrun result (input.new ≡ input.old) }
@@ -72,9 +73,11 @@ pub fn os2run<F: Files, I: Source, C: Sink, R: Sink, S: SwapDevice>(
     ensures same_report { OnUnrun result (report.new ≡ report.old) }
     ensures same_swap { OnUnrun result (swap.new ≡ swap.old) }
     ensures checks_unswapped { IsCheck words.now → swap.new ≡ swap.old }
-    // A device goes on to have as many blocks, and to tell what they hold or not.
+    // Files that agree with what was fetched agreed with what was fetched before, and a device whose reads all gave what was written
+    // had none before that didn't.
+    ensures files_earlier { (contents : Contents) → F.may_hold files.new contents → F.may_hold files.old contents }
     ensures swap_blocks { S.blocks swap.new ≡ S.blocks swap.old }
-    ensures swap_told { S.told swap.new ≡ S.told swap.old }
+    ensures swap_told { IsTrue (S.told swap.new) → IsTrue (S.told swap.old) }
     // A fault is told only where a count rose.
     ensures file_fault { OnFileFault result (Rose (F.faults files.old) (F.faults files.new)) }
     ensures input_fault { OnInputFault result (Rose (I.faults input.old) (I.faults input.new)) }
@@ -134,10 +137,10 @@ fn run_session<I: Source, C: Sink, R: Sink, S: SwapDevice>(
     ensures same_report { OnUnrun result (report.new ≡ report.old) }
     ensures same_swap { OnUnrun result (swap.new ≡ swap.old) }
     ensures swap_blocks { S.blocks swap.new ≡ S.blocks swap.old }
-    ensures swap_told { S.told swap.new ≡ S.told swap.old }
+    ensures swap_told { IsTrue (S.told swap.new) → IsTrue (S.told swap.old) }
     ensures refused { RefusesRun session result }
     // However the input is seen: by what it tells, or as a text that the whole of it may be.
-    ensures texts { IsTrue (S.told swap.old) → (text : Option (List ℕ)) → IsSeenAs text (I.past input.new)
+    ensures texts { IsTrue (S.told swap.new) → (text : Option (List ℕ)) → IsSeenAs text (I.past input.new)
         → ShowsRun session (S.blocks swap.old)
         (left_as text (I.left input.old) (I.past input.old)) (left_as text (I.left input.new) (I.past input.new))
         (C.taken console.old) (C.taken console.new)

@@ -52,7 +52,7 @@ pub fn lock_seg<S: SwapDevice>(
     ensures answer { (p : Parts) (o : Others) → p.shelf ≡ store.old → p.maps ≡ regions.old
         → AnswersRoomed (locking (known_in p o) pid sel) result }
     ensures matches { (p : Parts) (o : Others) (w : World) → p.shelf ≡ store.old → p.maps ≡ regions.old
-        → p.images ≡ images.now → p.block ≡ S.block swap.old → IsTrue (S.told swap.old) → Matches p w
+        → p.images ≡ images.now → p.block ≡ S.block swap.old → IsTrue (S.told swap.new) → Matches p w
         → Matches (moved p store.new regions.new (S.block swap.new))
         (with_all w (changes_roomed (locking (known_in p o) pid sel) result)) }
     ensures stops { IsStop result
@@ -89,7 +89,7 @@ fn lock<S: SwapDevice>(
     ensures answer { (m : Marks) → IsMarked (entry store.old id.key).attr m
         → AnswersRoomed (locking_with id.age (Some m)) result }
     ensures matches { (m : Marks) (p : Parts) (w : World) → IsMarked (entry store.old id.key).attr m → p.shelf ≡ store.old
-        → p.maps ≡ regions.old → p.images ≡ images.now → p.block ≡ S.block swap.old → IsTrue (S.told swap.old)
+        → p.maps ≡ regions.old → p.images ≡ images.now → p.block ≡ S.block swap.old → IsTrue (S.told swap.new)
         → Matches p w → Matches (moved p store.new regions.new (S.block swap.new))
         (with_all w (changes_roomed (locking_with id.age (Some m)) result)) }
     ensures stops { IsStop result → (entry store.old id.key).attr.lock ≡ 0 }

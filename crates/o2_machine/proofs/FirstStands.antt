@@ -115,9 +115,8 @@ module _ (o : Opened) (l : LinkedParts) (b : Built) (c : Conf) (blocks : ℕ) (m
   enough : (device : ℕ) → min c.swap device ≡ min c.swap blocks → all_of o.store.swap ≤ device
   enough device same = omega (arith, swap, same)
 
-  pub first_stands : (device : ℕ) → min c.swap device ≡ min c.swap blocks → (block : ℕ → List ℕ) (input : List ℕ) → StandsFor m device true block (setting_of c) (world input)
+  pub first_stands : (device : ℕ) → min c.swap device ≡ min c.swap blocks → (block : ℕ → List ℕ) (input : List ℕ) → StandsFor m device block (setting_of c) (world input)
   first_stands device same block input = record {
-    told = refl;
     space = subst (λ (p : Parts). Stands p (world input)) (sym (parts_are device block))
         (stands_over o.store o.regions l.images runs blocks device block (world input) (enough device same) ((stood input).stands block));
     set = subst (λ (p : Parts). IsSetTo p (setting_of c)) (sym (parts_are device block))

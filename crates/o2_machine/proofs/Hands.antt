@@ -28,7 +28,7 @@ by_stop s w n SwapFull h = h
 by_stop s w n SwapFault h = h
 
 -- the last line, which failed
-module _ (m : Machine) (device : ℕ) (told : Bool) (block : ℕ → List ℕ) (s : Setting) (w : World) (n : Counts) (stands : StandsFor m device told block s w) (last : Hands n 0 (length w.lines + 1)) where
+module _ (m : Machine) (device : ℕ) (block : ℕ → List ℕ) (s : Setting) (w : World) (n : Counts) (stands : StandsFor m device block s w) (last : Hands n 0 (length w.lines + 1)) where
   at_over : is_over w ≡ true → FailedHands s w n
   at_over over = record { in_step = λ on. let never : true ≡ false = sym over ∙ on in absurd (cc); at_end = λ e. last }
 

@@ -90,8 +90,8 @@ by_spent false none a e = absurd (cc)
 pub any_is : (m : Machine) (w : World) (b : Bool) → live_flags w.processes ≡ m.sched.flags → any_of m.sched ≡ b → any_lives w.processes ≡ b
 any_is m w b flags e = ap (λ (x : List Bool). list_any (λ (y : Bool). y) x) flags ∙ e
 
-module _ (m : Machine) (device : ℕ) (told : Bool) (block : ℕ → List ℕ) (s : Setting) (w : World) (p : Process) (c d r q : Option (List ℕ))
-    (stands : StandsFor m device told block s w) (any : any_of m.sched ≡ true) (some : (m.sched.dispatch.budget == 0) ≡ false) (at : process_at w.processes (next_of m.sched).current ≡ Some p) where
+module _ (m : Machine) (device : ℕ) (block : ℕ → List ℕ) (s : Setting) (w : World) (p : Process) (c d r q : Option (List ℕ))
+    (stands : StandsFor m device block s w) (any : any_of m.sched ≡ true) (some : (m.sched.dispatch.budget == 0) ≡ false) (at : process_at w.processes (next_of m.sched).current ≡ Some p) where
   abbrev pub made : Effect
   made = effect (before s w (next_of m.sched).current p)
 
@@ -117,13 +117,12 @@ module _ (m : Machine) (device : ℕ) (told : Bool) (block : ℕ → List ℕ) (
   lines_of = ap (λ (v : World). lines_text v.lines) step_is ∙ flat_map-append line_text w.lines made.lines
 
   -- over what the device is behind the step
-  stands_next : (n : Machine) (count : ℕ) (tells : Bool) (holds : ℕ → List ℕ) (left : Space) (tally : Tally) → IsTrue tells
+  stands_next : (n : Machine) (count : ℕ) (holds : ℕ → List ℕ) (left : Space) (tally : Tally)
       → StandsAfter w (next_of m.sched).current p made (parts_in left count holds) → IsSetTo (parts_in left count holds) s
       → n.sched.dispatch ≡ counted (next_of m.sched) → n.sched.quantum ≡ m.sched.quantum → live_flags (with_process w.processes (next_of m.sched).current (process_after p made)) ≡ n.sched.flags
-      → IsTally made tally → HasCounted m n left tally → StandsFor n count tells holds s (step s w)
+      → IsTally made tally → HasCounted m n left tally → StandsFor n count holds s (step s w)
   unfolding plainly
-  stands_next n count tells holds left tally yes_told space set dispatch quantum flags puts counts = rw step_is (record {
-    told = yes_told;
+  stands_next n count holds left tally space set dispatch quantum flags puts counts = rw step_is (record {
     space = subst (λ (z : Space). StandsAfter w (next_of m.sched).current p made (parts_in z count holds)) (sym counts.space) space;
     set = subst (λ (z : Space). IsSetTo (parts_in z count holds) s) (sym counts.space) set;
     flags = flags;
@@ -201,10 +200,9 @@ module _ (m : Machine) (device : ℕ) (told : Bool) (block : ℕ → List ℕ) (
     }
 
 -- for the same world, over what the device is behind a turn that did no step
-pub same_space : (n m : Machine) (device count : ℕ) (told tells : Bool) (block holds : ℕ → List ℕ) (s : Setting) (w : World) → StandsFor m device told block s w → IsSame m n → IsTrue tells
-    → Stands (parts_in n.space count holds) w → IsSetTo (parts_in n.space count holds) s → StandsFor n count tells holds s w
-same_space n m device count told tells block holds s w stands same yes_told space set = record {
-  told = yes_told;
+pub same_space : (n m : Machine) (device count : ℕ) (block holds : ℕ → List ℕ) (s : Setting) (w : World) → StandsFor m device block s w → IsSame m n
+    → Stands (parts_in n.space count holds) w → IsSetTo (parts_in n.space count holds) s → StandsFor n count holds s w
+same_space n m device count block holds s w stands same space set = record {
   space = space;
   set = set;
   flags = stands.flags ∙ ap (λ (z : Schedule). z.flags) (sym same.sched);
@@ -216,8 +214,8 @@ same_space n m device count told tells block holds s w stands same yes_told spac
   lines = stands.lines ∙ sym same.lines;
 }
 
-module _ (m : Machine) (device : ℕ) (told : Bool) (block : ℕ → List ℕ) (s : Setting) (w : World) (number : ℕ) (c d r q : Option (List ℕ))
-    (stands : StandsFor m device told block s w) (pick : pick_of m.sched ≡ Step number) (live : lives m.sched.flags number ≡ true) where
+module _ (m : Machine) (device : ℕ) (block : ℕ → List ℕ) (s : Setting) (w : World) (number : ℕ) (c d r q : Option (List ℕ))
+    (stands : StandsFor m device block s w) (pick : pick_of m.sched ≡ Step number) (live : lives m.sched.flags number ≡ true) where
   abbrev pub k : ℕ
   k = (next_of m.sched).current
 
@@ -235,16 +233,16 @@ module _ (m : Machine) (device : ℕ) (told : Bool) (block : ℕ → List ℕ) (
 
   -- the next step is this process's
   current_is : (next_dispatch s w).current ≡ number
-  current_is = ap (λ (z : Dispatch). z.current) (next_is m device told block s w here c d r q stands is.any is.some here_is) ∙ is.number
+  current_is = ap (λ (z : Dispatch). z.current) (next_is m device block s w here c d r q stands is.any is.some here_is) ∙ is.number
 
   -- what is said of the process of this number is so of it
   at_k : (P : ℕ → Process → Type 0) → ((p : Process) → process_at w.processes number ≡ Some p → P number p) → P k here
   at_k P did = subst (λ (z : ℕ). (p : Process) → process_at w.processes z ≡ Some p → P z p) (sym is.number) did here here_is
 
   -- over what the device is behind it
-  module _ (n : Machine) (count : ℕ) (tells : Bool) (holds : ℕ → List ℕ) (yes_told : IsTrue tells) where
+  module _ (n : Machine) (count : ℕ) (holds : ℕ → List ℕ) where
     abbrev stands_now : World → Type 0
-    stands_now = StandsFor n count tells holds s
+    stands_now = StandsFor n count holds s
 
     pub faulted : (i j : Option (List ℕ)) → IsSame m n → i ≡ Some w.input → IsSetTo (parts_in n.space count holds) s
         → ((p : Process) → process_at w.processes number ≡ Some p → ActsInPart w (effect (before s w number p)) p.cpu (parts_in n.space count holds) i j c d r q)
@@ -252,9 +250,9 @@ module _ (m : Machine) (device : ℕ) (told : Bool) (block : ℕ → List ℕ) (
         → StepsInPart stands_now true s w j c d r q
     faulted i j same left set did room =
         let all = at_k (λ z p. ActsInPart w (effect (before s w z p)) p.cpu (parts_in n.space count holds) i j c d r q) did in
-        steps_in_part m device told block s w here c d r q stands is.any is.some here_is stands_now j (at_k (λ z p. Fits true s w) (room current_is))
+        steps_in_part m device block s w here c d r q stands is.any is.some here_is stands_now j (at_k (λ z p. Fits true s w) (room current_is))
         (elim all.input [ inl same_left ↦ inl (same_left ∙ left) | inr took ↦ inr took ])
-        (inl (same_space n m device count told tells block holds s w stands same yes_told all.stands set)) all.to_console all.to_report all.in_order
+        (inl (same_space n m device count block holds s w stands same all.stands set)) all.to_console all.to_report all.in_order
 
     module _ (i : Option (List ℕ)) (left : Space) (ran : Ran) (counts : HasCounted m n left ran.tally) (set : IsSetTo (parts_in left count holds) s)
         (did : (p : Process) → process_at w.processes number ≡ Some p → ActsAll w number p (effect (before s w number p)) ran (parts_in left count holds) i c d r q)
@@ -277,16 +275,16 @@ module _ (m : Machine) (device : ℕ) (told : Bool) (block : ℕ → List ℕ) (
 
       -- the machine stands for the world after the step
       now : stands_now (step s w)
-      now = stands_next m device told block s w here c d r q stands is.any is.some here_is n count tells holds left ran.tally yes_told all.stands set
+      now = stands_next m device block s w here c d r q stands is.any is.some here_is n count holds left ran.tally all.stands set
           (ap (λ (z : Schedule). z.dispatch) sched) (ap (λ (z : Schedule). z.quantum) sched)
           (flags_next (is_live ran.state) (ap is_live all.state) ∙ sym (ap (λ (z : Schedule). z.flags) sched)) all.puts counts
 
       pub went : ran.whole ≡ true → StepsOn stands_now true s w i c d r q
-      went whole = steps_on m device told block s w here c d r q stands is.any is.some here_is stands_now i fits all.input now all.to_console
+      went whole = steps_on m device block s w here c d r q stands is.any is.some here_is stands_now i fits all.input now all.to_console
           (subst (λ (z : Bool). TakesText z r q (lines_text e.lines)) whole all.to_report)
 
       pub late : ran.whole ≡ false → StepsInPart stands_now true s w i c d r q
-      late part = steps_in_part m device told block s w here c d r q stands is.any is.some here_is stands_now i fits (inr all.input) (inr now) (gains_some _ c d all.to_console)
+      late part = steps_in_part m device block s w here c d r q stands is.any is.some here_is stands_now i fits (inr all.input) (inr now) (gains_some _ c d all.to_console)
           (subst (λ (z : Bool). TakesText z r q (lines_text e.lines)) part all.to_report) (inr all.to_console)
 
     -- no step is done: the machine stands for the world before it, and there is a cause in that world
@@ -294,9 +292,9 @@ module _ (m : Machine) (device : ℕ) (told : Bool) (block : ℕ → List ℕ) (
         → Stays w (parts_in n.space count holds) i j c d r s_of → GainsSome s_of q (λ front. IsPrefix front (stop_line why)) → (put ≡ true → Gains s_of q (stop_line why))
         → IsStopped stands_now device s w why put j c d r q
     halts why put i j s_of cause same left set all front whole = record {
-      runs = runs m device told block s w here c d r q stands is.any is.some here_is;
+      runs = runs m device block s w here c d r q stands is.any is.some here_is;
       cause = cause;
-      stands = same_space n m device count told tells block holds s w stands same yes_told all.stands set;
+      stands = same_space n m device count block holds s w stands same all.stands set;
       input = all.input ∙ left;
       to_console = all.to_console;
       to_report = continues_in_part (stop_line why) (lines_text w.lines) r q (subst (λ (z : Option (List ℕ)). GainsSome z q (λ front. IsPrefix front (stop_line why))) all.to_report front);
@@ -306,7 +304,7 @@ module _ (m : Machine) (device : ℕ) (told : Bool) (block : ℕ → List ℕ) (
     -- at an input fault the next step is one that asks the input
     reads : AsksInput (before s w k here) → IsReadNext s w
     reads asks =
-        let next = next_is m device told block s w here c d r q stands is.any is.some here_is in
+        let next = next_is m device block s w here c d r q stands is.any is.some here_is in
         record {
           process = here;
           there = ap (λ (z : Dispatch). process_at w.processes z.current) next ∙ here_is;
@@ -336,7 +334,7 @@ module _ (m : Machine) (device : ℕ) (told : Bool) (block : ℕ → List ℕ) (
     pub failed_puts : ((p : Process) → process_at w.processes number ≡ Some p → let e : Effect = effect (before s w number p) in HandsUpTo (counts a b x y 0) (puts_of (length e.piece)) 0 (length e.lines))
         → FailedHands s w (counts a b x y (length w.lines))
     failed_puts did =
-        part_hands m device told block s w here c d r q stands is.any is.some here_is a b x y
+        part_hands m device block s w here c d r q stands is.any is.some here_is a b x y
         (at_k (λ z p. let e : Effect = effect (before s w z p) in HandsUpTo (counts a b x y 0) (puts_of (length e.piece)) 0 (length e.lines)) did)
 
     module _ (tally : Tally) (did : (p : Process) → process_at w.processes number ≡ Some p → IsTally (effect (before s w number p)) tally) (hands : Hands (counts a b x y 0) (puts_of tally.bytes) tally.lines) where
@@ -344,10 +342,10 @@ module _ (m : Machine) (device : ℕ) (told : Bool) (block : ℕ → List ℕ) (
       so = at_k (λ z p. IsTally (effect (before s w z p)) tally) did
 
       pub went_puts : Hands (counts a b x y (length w.lines)) (step_puts w (step s w)) (length (step s w).lines)
-      went_puts = step_hands m device told block s w here c d r q stands is.any is.some here_is a b x y tally.bytes tally.lines so.bytes so.lines hands
+      went_puts = step_hands m device block s w here c d r q stands is.any is.some here_is a b x y tally.bytes tally.lines so.bytes so.lines hands
 
       pub late_puts : FailedHands s w (counts a b x y (length w.lines))
-      late_puts = late_hands m device told block s w here c d r q stands is.any is.some here_is a b x y tally.bytes tally.lines so.bytes so.lines hands
+      late_puts = late_hands m device block s w here c d r q stands is.any is.some here_is a b x y tally.bytes tally.lines so.bytes so.lines hands
 
 -- what caused a step to stop
 pub caused_stop : (sink other input device full : Type 0) (f : Fault) (why : Stop) → f ≡ Stopped why → CauseOf sink input (Unit {0}) (Unit {0}) f → OnSwapFault (Unit {0}) full device f → Caused other input device (turn_of why)
@@ -373,13 +371,13 @@ left_at_stop P SwapFull = tt
 left_at_stop P SwapFault = tt
 
 -- the last line, whole or in part
-module _ (m n : Machine) (device : ℕ) (told : Bool) (block : ℕ → List ℕ) (s : Setting) (w : World) (i c r q : Option (List ℕ))
-    (stands : StandsFor m device told block s w) (same : IsSame m n) (space : n.space ≡ m.space) (left : i ≡ Some w.input) where
+module _ (m n : Machine) (device : ℕ) (block : ℕ → List ℕ) (s : Setting) (w : World) (i c r q : Option (List ℕ))
+    (stands : StandsFor m device block s w) (same : IsSame m n) (space : n.space ≡ m.space) (left : i ≡ Some w.input) where
   abbrev stands_still : World → Type 0
-  stands_still = StandsFor n device told block s
+  stands_still = StandsFor n device block s
 
   stays : stands_still w
-  stays = same_space n m device device told told block block s w stands same stands.told
+  stays = same_space n m device device block block s w stands same
       (subst (λ (z : Space). Stands (parts_in z device block) w) (sym space) stands.space) (subst (λ (z : Space). IsSetTo (parts_in z device block) s) (sym space) stands.set)
 
   closed : (lives : Bool) (text : List ℕ) → any_lives w.processes ≡ lives → is_over w ≡ true → last_line w ≡ text → Gains r q text → IsClosed stands_still w lives i c c r q

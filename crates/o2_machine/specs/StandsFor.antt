@@ -1,5 +1,5 @@
 -- The machine stands for a world, whatever its texts and its input are.
-use Rattle.std.specs.Prelude.{◌≡◌, ℕ, Bool, List, length, IsTrue}
+use Rattle.std.specs.Prelude.{◌≡◌, ℕ, List, length}
 use Rattle.o2_gate.specs.Befores.{IsKnown}
 use Rattle.o2_stands.specs.Stands.{IsSetTo, Stands}
 use Rattle.o2_space.specs.Parts.{parts_in}
@@ -8,9 +8,8 @@ use Rattle.o2_world.specs.World.{World, Setting}
 use Rattle.o2_world.specs.Run.{live_flags}
 use Rattle.o2_machine.specs.declared.machine.Machine.{Machine}
 
--- over a device of so many blocks, which tells that they hold this
-pub record StandsFor (m : Machine) (device : ℕ) (tells : Bool) (block : ℕ → List ℕ) (s : Setting) (w : World) : Type 0 where
-  pub told : IsTrue tells
+-- over a device of so many blocks, which hold this
+pub record StandsFor (m : Machine) (device : ℕ) (block : ℕ → List ℕ) (s : Setting) (w : World) : Type 0 where
   -- store, what each process holds, its registers and its state, and as much memory, names and blocks as the setting says
   pub space : Stands (parts_in m.space device block) w
   pub set : IsSetTo (parts_in m.space device block) s

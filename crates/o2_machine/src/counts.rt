@@ -40,8 +40,8 @@ impl Machine {
     /// The steps done so far.
     pub fn steps(&self) -> u64
         ensures value { result ≡ self.now.budget - self.now.sched.dispatch.budget }
-        ensures world { (device : ℕ) (told : Bool) (block : ℕ → List ℕ) (s : Setting) (w : World)
-            → StandsFor self.now device told block s w → result ≡ steps_done s w }
+        ensures world { (device : ℕ) (block : ℕ → List ℕ) (s : Setting) (w : World)
+            → StandsFor self.now device block s w → result ≡ steps_done s w }
     {
         (self.budget - self.sched.budget()) as u64
     }
@@ -49,8 +49,8 @@ impl Machine {
     /// The bytes of the console so far.
     pub fn console_bytes(&self) -> u64
         ensures value { result ≡ self.now.console_bytes }
-        ensures world { (device : ℕ) (told : Bool) (block : ℕ → List ℕ) (s : Setting) (w : World)
-            → StandsFor self.now device told block s w → result ≡ length w.console }
+        ensures world { (device : ℕ) (block : ℕ → List ℕ) (s : Setting) (w : World)
+            → StandsFor self.now device block s w → result ≡ length w.console }
     {
         self.console_bytes
     }
@@ -58,8 +58,8 @@ impl Machine {
     /// The lines of the report so far: `all ended` and `budget spent` count once they are put, and a stop line doesn't.
     pub fn report_lines(&self) -> u128
         ensures value { result ≡ self.now.lines + last_lines self.now.last }
-        ensures world { (device : ℕ) (told : Bool) (block : ℕ → List ℕ) (s : Setting) (w : World)
-            → StandsFor self.now device told block s w → result ≡ length w.lines + last_lines self.now.last }
+        ensures world { (device : ℕ) (block : ℕ → List ℕ) (s : Setting) (w : World)
+            → StandsFor self.now device block s w → result ≡ length w.lines + last_lines self.now.last }
     {
         match self.last {
             Some(Last::AllEnded) => self.lines + 1,
@@ -86,8 +86,8 @@ impl Machine {
     /// it), and its exit code or vector, 0 where it lives. None exactly where `pid` is the number of no process.
     pub fn process(&self, pid: u16) -> Option<(Cpu, u16, u16)>
         ensures value { result ≡ option_map shown_proc (numbered self.now.space.procs.items pid) }
-        ensures world { (device : ℕ) (told : Bool) (block : ℕ → List ℕ) (s : Setting) (w : World)
-            → StandsFor self.now device told block s w → result ≡ option_map shown_process (numbered w.processes pid) }
+        ensures world { (device : ℕ) (block : ℕ → List ℕ) (s : Setting) (w : World)
+            → StandsFor self.now device block s w → result ≡ option_map shown_process (numbered w.processes pid) }
     {
         if pid == 0 {
             return None;

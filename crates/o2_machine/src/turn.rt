@@ -1,5 +1,5 @@
 // A turn of the machine: whose it is, and its step.
-ghost use Rattle.std.specs.Prelude.{◌≡◌, ◌<◌, ◌≤◌, ◌+◌, ◌⊎◌, ℕ, List, true, false, length, Option, Some};
+ghost use Rattle.std.specs.Prelude.{◌≡◌, ◌<◌, ◌≤◌, ◌+◌, ◌⊎◌, ℕ, List, IsTrue, true, false, length, Option, Some};
 ghost use Rattle.o2_outer.specs.Texts.{Rose};
 ghost use Rattle.o2_outer.specs.Inputs.{GoesOn, IsSeenAs, left_as};
 ghost use Rattle.o2_conf.specs.Dispatch.{counted, lives};
@@ -54,17 +54,17 @@ impl Machine {
         requires pick { pick_of self.old.sched ≡ Pick.Step pid }
         requires live { lives self.old.sched.flags pid ≡ true }
         requires device { GoesOver self.old.space self.old.sched.flags (S.blocks swap.old) }
-        ensures turns { (text : Option (List ℕ)) → IsSeenAs text (I.past input.new) → (s : Setting) (w : World)
-            → StandsFor self.old (S.blocks swap.old) (S.told swap.old) (S.block swap.old) s w
+        ensures turns { IsTrue (S.told swap.new) → (text : Option (List ℕ)) → IsSeenAs text (I.past input.new) → (s : Setting) (w : World)
+            → StandsFor self.old (S.blocks swap.old) (S.block swap.old) s w
             → left_as text (I.left input.old) (I.past input.old) ≡ Some w.input
-            → Turns (StandsFor self.new (S.blocks swap.new) (S.told swap.new) (S.block swap.new) s)
+            → Turns (StandsFor self.new (S.blocks swap.new) (S.block swap.new) s)
             true (S.blocks swap.old) s w (put_of result)
             (left_as text (I.left input.new) (I.past input.new))
             (C.taken console.old) (C.taken console.new) (R.taken report.old) (R.taken report.new) (answer_of result) }
         ensures goes_on { GoesOn (I.past input.old) (I.past input.new) }
         ensures last { self.new.last ≡ self.old.last }
         ensures device { GoesOver self.new.space self.new.sched.flags (S.blocks swap.new) }
-        ensures frame { (S.blocks swap.new ≡ S.blocks swap.old) × (S.told swap.new ≡ S.told swap.old) }
+        ensures frame { (S.blocks swap.new ≡ S.blocks swap.old) × (IsTrue (S.told swap.new) → IsTrue (S.told swap.old)) }
         ensures input_count { I.faults input.old ≤ I.faults input.new }
         ensures console_count { C.faults console.old ≤ C.faults console.new }
         ensures report_count { R.faults report.old ≤ R.faults report.new }
@@ -76,8 +76,8 @@ impl Machine {
         ensures line { LineIs (put_of result) (Rose (R.faults report.old) (R.faults report.new)) (answer_of result) }
         ensures left { OnRan (answer_of result) (self.new.sched.dispatch.budget < self.old.sched.dispatch.budget) }
         // Each line is one put, and so is the piece for the console, where it has bytes.
-        ensures puts { (text : Option (List ℕ)) → IsSeenAs text (I.past input.new) → (s : Setting) (w : World)
-            → StandsFor self.old (S.blocks swap.old) (S.told swap.old) (S.block swap.old) s w
+        ensures puts { IsTrue (S.told swap.new) → (text : Option (List ℕ)) → IsSeenAs text (I.past input.new) → (s : Setting) (w : World)
+            → StandsFor self.old (S.blocks swap.old) (S.block swap.old) s w
             → left_as text (I.left input.old) (I.past input.old) ≡ Some w.input
             → TurnHands s w (counts (C.puts console.old) (C.puts console.new)
             (R.puts report.old) (R.puts report.new) (length w.lines)) (answer_of result) }
@@ -106,17 +106,17 @@ impl Machine {
         swap: &mut S,
     ) -> Option<Last>
         requires device { GoesOver self.old.space self.old.sched.flags (S.blocks swap.old) }
-        ensures turns { (text : Option (List ℕ)) → IsSeenAs text (I.past input.new) → (s : Setting) (w : World)
-            → StandsFor self.old (S.blocks swap.old) (S.told swap.old) (S.block swap.old) s w
+        ensures turns { IsTrue (S.told swap.new) → (text : Option (List ℕ)) → IsSeenAs text (I.past input.new) → (s : Setting) (w : World)
+            → StandsFor self.old (S.blocks swap.old) (S.block swap.old) s w
             → left_as text (I.left input.old) (I.past input.old) ≡ Some w.input
-            → Turns (StandsFor self.new (S.blocks swap.new) (S.told swap.new) (S.block swap.new) s)
+            → Turns (StandsFor self.new (S.blocks swap.new) (S.block swap.new) s)
             true (S.blocks swap.old) s w (put_of result)
             (left_as text (I.left input.new) (I.past input.new))
             (C.taken console.old) (C.taken console.new) (R.taken report.old) (R.taken report.new) (answer_of result) }
         ensures goes_on { GoesOn (I.past input.old) (I.past input.new) }
         ensures last { self.new.last ≡ self.old.last }
         ensures device { GoesOver self.new.space self.new.sched.flags (S.blocks swap.new) }
-        ensures frame { (S.blocks swap.new ≡ S.blocks swap.old) × (S.told swap.new ≡ S.told swap.old) }
+        ensures frame { (S.blocks swap.new ≡ S.blocks swap.old) × (IsTrue (S.told swap.new) → IsTrue (S.told swap.old)) }
         ensures input_count { I.faults input.old ≤ I.faults input.new }
         ensures console_count { C.faults console.old ≤ C.faults console.new }
         ensures report_count { R.faults report.old ≤ R.faults report.new }
@@ -128,8 +128,8 @@ impl Machine {
         ensures line { LineIs (put_of result) (Rose (R.faults report.old) (R.faults report.new)) (answer_of result) }
         ensures left { OnRan (answer_of result) (self.new.sched.dispatch.budget < self.old.sched.dispatch.budget) }
         // Each line is one put, and so is the piece for the console, where it has bytes.
-        ensures puts { (text : Option (List ℕ)) → IsSeenAs text (I.past input.new) → (s : Setting) (w : World)
-            → StandsFor self.old (S.blocks swap.old) (S.told swap.old) (S.block swap.old) s w
+        ensures puts { IsTrue (S.told swap.new) → (text : Option (List ℕ)) → IsSeenAs text (I.past input.new) → (s : Setting) (w : World)
+            → StandsFor self.old (S.blocks swap.old) (S.block swap.old) s w
             → left_as text (I.left input.old) (I.past input.old) ≡ Some w.input
             → TurnHands s w (counts (C.puts console.old) (C.puts console.new)
             (R.puts report.old) (R.puts report.new) (length w.lines)) (answer_of result) }
@@ -153,7 +153,7 @@ impl Steps for Machine {
     ghost use Rattle.o2_machine.specs.GoesOver.{GoesOver};
     ghost use Rattle.o2_machine.specs.StandsFor.{StandsFor};
 
-    ghost stands = { λ m blocks told block s w. StandsFor m blocks told block s w };
+    ghost stands = { λ m blocks block s w. StandsFor m blocks block s w };
 
     ghost fits = { λ m blocks. GoesOver m.space m.sched.flags blocks };
 

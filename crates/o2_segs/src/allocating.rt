@@ -88,7 +88,7 @@ pub fn alloc_seg<S: SwapDevice>(
     ensures answer { (p : Parts) (o : Others) → p.shelf ≡ store.old → p.maps ≡ regions.old
         → AnswersRoomed (allocation (known_in p o) pid size flags) result }
     ensures matches { (p : Parts) (o : Others) (w : World) (x : Process) → p.shelf ≡ store.old → p.maps ≡ regions.old
-        → p.images ≡ images.now → p.block ≡ S.block swap.old → IsTrue (S.told swap.old)
+        → p.images ≡ images.now → p.block ≡ S.block swap.old → IsTrue (S.told swap.new)
         → process_at w.processes pid ≡ Some x → get w.names w.next_name ≡ None → Matches p w
         → Matches (moved p (left_by store.new store.old.made result) regions.new (S.block swap.new))
         (with_all w (changes_roomed (allocation (known_in p o) pid size flags) result)) }
@@ -140,7 +140,7 @@ fn allocate<S: SwapDevice>(
     ensures answer { (p : Parts) (o : Others) → p.shelf ≡ store.old
         → AnswersRoomed (allocation_to (known_in p o) pid size flags (Some index)) result }
     ensures matches { (p : Parts) (o : Others) (w : World) (x : Process) → p.shelf ≡ store.old → p.maps ≡ regions.old
-        → p.images ≡ images.now → p.block ≡ S.block swap.old → IsTrue (S.told swap.old)
+        → p.images ≡ images.now → p.block ≡ S.block swap.old → IsTrue (S.told swap.new)
         → process_at w.processes pid ≡ Some x → get w.names w.next_name ≡ None → Matches p w
         → Matches (moved p (left_by store.new store.old.made result) regions.new (S.block swap.new))
         (with_all w (changes_roomed (allocation_to (known_in p o) pid size flags (Some index)) result)) }
@@ -181,9 +181,9 @@ fn lock_new<S: SwapDevice>(
     requires device { all_of store.old.swap ≤ S.blocks swap.old }
 
     ensures locked { result ≡ None → MatchesLocked store.old store.new regions.old regions.new images.now
-        (S.told swap.old) (S.block swap.old) (S.block swap.new) id }
+        (S.told swap.new) (S.block swap.old) (S.block swap.new) id }
     ensures without { (r : Roomed) → result ≡ Some r → IsStop r × MatchesWithout store.old store.new regions.old regions.new images.now
-        (S.told swap.old) (S.block swap.old) (S.block swap.new) id }
+        (S.told swap.new) (S.block swap.old) (S.block swap.new) id }
     ensures live { result ≡ None → IsSome (entry_of store.new id) }
     ensures maps { OnlyTables regions.old regions.new }
     ensures order { IsInOrder store.new regions.new }

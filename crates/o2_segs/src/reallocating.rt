@@ -86,7 +86,7 @@ pub fn realloc_seg<S: SwapDevice>(
     ensures answer { (p : Parts) (o : Others) → p.shelf ≡ store.old → p.maps ≡ regions.old
         → AnswersRoomed (reallocation (known_in p o) pid size sel) result }
     ensures matches { (p : Parts) (o : Others) (w : World) → p.shelf ≡ store.old → p.maps ≡ regions.old
-        → p.images ≡ images.now → p.block ≡ S.block swap.old → IsTrue (S.told swap.old) → Matches p w
+        → p.images ≡ images.now → p.block ≡ S.block swap.old → IsTrue (S.told swap.new) → Matches p w
         → Matches (moved p store.new regions.new (S.block swap.new))
         (with_all w (changes_roomed (reallocation (known_in p o) pid size sel) result)) }
     ensures order { IsInOrder store.new regions.new }

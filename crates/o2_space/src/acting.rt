@@ -89,7 +89,7 @@ impl Space {
         requires process { IsProcess self.old.regions pid }
         requires together { GoTogether self.old (S.blocks swap.old) }
         ensures steps { (text : Option (List ℕ)) → IsSeenAs text (I.past input.new)
-            → (s : Setting) (w : World) (x : Process) → IsTrue (S.told swap.old)
+            → (s : Setting) (w : World) (x : Process) → IsTrue (S.told swap.new)
             → Stands (parts_in self.old (S.blocks swap.old) (S.block swap.old)) w
             → process_at w.processes pid ≡ Some x → cpu.old ≡ x.cpu
             → left_as text (I.left input.old) (I.past input.old) ≡ Some w.input → IsKnown (known_of s w) self.old.services
@@ -102,7 +102,7 @@ impl Space {
             ((input.new ≡ input.old) × (console.new ≡ console.old) × (report.new ≡ report.old)) }
         ensures goes_on { GoesOn (I.past input.old) (I.past input.new) }
         ensures room { (text : Option (List ℕ)) → IsSeenAs text (I.past input.new)
-            → (s : Setting) (w : World) (x : Process) → IsTrue (S.told swap.old)
+            → (s : Setting) (w : World) (x : Process) → IsTrue (S.told swap.new)
             → Stands (parts_in self.old (S.blocks swap.old) (S.block swap.old)) w
             → process_at w.processes pid ≡ Some x → cpu.old ≡ x.cpu
             → left_as text (I.left input.old) (I.past input.old) ≡ Some w.input → IsKnown (known_of s w) self.old.services
@@ -111,7 +111,7 @@ impl Space {
             (all_names b (bound_registers (hold_in self.old.regions pid) (effect b).cpu))
             ≤ self.old.store.places.size) }
         ensures room_in_part { (text : Option (List ℕ)) → IsSeenAs text (I.past input.new)
-            → (s : Setting) (w : World) (x : Process) → IsTrue (S.told swap.old)
+            → (s : Setting) (w : World) (x : Process) → IsTrue (S.told swap.new)
             → Stands (parts_in self.old (S.blocks swap.old) (S.block swap.old)) w
             → process_at w.processes pid ≡ Some x → cpu.old ≡ x.cpu
             → left_as text (I.left input.old) (I.past input.old) ≡ Some w.input → IsKnown (known_of s w) self.old.services
@@ -119,7 +119,7 @@ impl Space {
             OnSink result (room_in self.old.store
             (all_names b (bound_registers (hold_in self.old.regions pid) b.cpu))
             ≤ self.old.store.places.size) }
-        ensures no_room { (s : Setting) (w : World) (x : Process) → IsTrue (S.told swap.old)
+        ensures no_room { (s : Setting) (w : World) (x : Process) → IsTrue (S.told swap.new)
             → Stands (parts_in self.old (S.blocks swap.old) (S.block swap.old)) w
             → process_at w.processes pid ≡ Some x → cpu.old ≡ x.cpu
             → OnSwapStop result (self.old.store.places.size
@@ -129,7 +129,7 @@ impl Space {
             × (self.old.store.places.size < live_load self.old.store))
             (Rose (S.faults swap.old) (S.faults swap.new)) }
         ensures next_room { (text : Option (List ℕ)) → IsSeenAs text (I.past input.new)
-            → (s : Setting) (w : World) (x : Process) → IsTrue (S.told swap.old)
+            → (s : Setting) (w : World) (x : Process) → IsTrue (S.told swap.new)
             → Stands (parts_in self.old (S.blocks swap.old) (S.block swap.old)) w
             → IsSetTo (parts_in self.old (S.blocks swap.old) (S.block swap.old)) s
             → (next_dispatch s w).current ≡ pid
@@ -146,7 +146,7 @@ impl Space {
         ensures most { self.new.regions.processes ≤ 64 }
         ensures avail { self.new.services.avail ≡ self.old.services.avail }
         ensures device { (S.blocks swap.new ≡ S.blocks swap.old)
-            × (S.told swap.new ≡ S.told swap.old) }
+            × (IsTrue (S.told swap.new) → IsTrue (S.told swap.old)) }
         ensures cause { TakenFor
             (Rose (C.faults console.old) (C.faults console.new)
             ⊎ Rose (R.faults report.old) (R.faults report.new))
@@ -158,7 +158,7 @@ impl Space {
         ensures puts { RanHands (counts (C.puts console.old) (C.puts console.new)
             (R.puts report.old) (R.puts report.new) 0) result }
         ensures part { (text : Option (List ℕ)) → IsSeenAs text (I.past input.new)
-            → (s : Setting) (w : World) (x : Process) → IsTrue (S.told swap.old)
+            → (s : Setting) (w : World) (x : Process) → IsTrue (S.told swap.new)
             → Stands (parts_in self.old (S.blocks swap.old) (S.block swap.old)) w
             → process_at w.processes pid ≡ Some x → cpu.old ≡ x.cpu
             → left_as text (I.left input.old) (I.past input.old) ≡ Some w.input → IsKnown (known_of s w) self.old.services
@@ -205,7 +205,7 @@ impl Space {
         // From a machine that stands for a world, the step of the boundless machine; or it stands for the same world. However the
         // input is seen: by what it tells, or as a text that the whole of it may be.
         ensures acts { (text : Option (List ℕ)) → IsSeenAs text (I.past input.new)
-            → (s : Setting) (w : World) (x : Process) → IsTrue (S.told swap.old)
+            → (s : Setting) (w : World) (x : Process) → IsTrue (S.told swap.new)
             → Stands (parts_in self.old (S.blocks swap.old) (S.block swap.old)) w
             → process_at w.processes pid ≡ Some x
             → left_as text (I.left input.old) (I.past input.old) ≡ Some w.input → IsKnown (known_of s w) self.old.services
@@ -220,7 +220,7 @@ impl Space {
         // The room of a step that is done, or in which a sink fails, is at most the memory, and more than it at NoRoom; what
         // swapping has to hold exceeds blocks and memory at SwapFull, and the device failed at SwapFault.
         ensures room { (text : Option (List ℕ)) → IsSeenAs text (I.past input.new)
-            → (s : Setting) (w : World) (x : Process) → IsTrue (S.told swap.old)
+            → (s : Setting) (w : World) (x : Process) → IsTrue (S.told swap.new)
             → Stands (parts_in self.old (S.blocks swap.old) (S.block swap.old)) w
             → process_at w.processes pid ≡ Some x
             → left_as text (I.left input.old) (I.past input.old) ≡ Some w.input → IsKnown (known_of s w) self.old.services
@@ -229,7 +229,7 @@ impl Space {
             (all_names b (bound_registers (hold_in self.old.regions pid) (effect b).cpu))
             ≤ self.old.store.places.size) }
         ensures room_in_part { (text : Option (List ℕ)) → IsSeenAs text (I.past input.new)
-            → (s : Setting) (w : World) (x : Process) → IsTrue (S.told swap.old)
+            → (s : Setting) (w : World) (x : Process) → IsTrue (S.told swap.new)
             → Stands (parts_in self.old (S.blocks swap.old) (S.block swap.old)) w
             → process_at w.processes pid ≡ Some x
             → left_as text (I.left input.old) (I.past input.old) ≡ Some w.input → IsKnown (known_of s w) self.old.services
@@ -237,7 +237,7 @@ impl Space {
             OnSink result (room_in self.old.store
             (all_names b (bound_registers (hold_in self.old.regions pid) b.cpu))
             ≤ self.old.store.places.size) }
-        ensures no_room { (s : Setting) (w : World) (x : Process) → IsTrue (S.told swap.old)
+        ensures no_room { (s : Setting) (w : World) (x : Process) → IsTrue (S.told swap.new)
             → Stands (parts_in self.old (S.blocks swap.old) (S.block swap.old)) w
             → process_at w.processes pid ≡ Some x
             → OnSwapStop result (self.old.store.places.size
@@ -248,14 +248,14 @@ impl Space {
             (Rose (S.faults swap.old) (S.faults swap.new)) }
         // The same of the world's next step, where it is one of this process.
         ensures next_room { (text : Option (List ℕ)) → IsSeenAs text (I.past input.new)
-            → (s : Setting) (w : World) (x : Process) → IsTrue (S.told swap.old)
+            → (s : Setting) (w : World) (x : Process) → IsTrue (S.told swap.new)
             → Stands (parts_in self.old (S.blocks swap.old) (S.block swap.old)) w
             → IsSetTo (parts_in self.old (S.blocks swap.old) (S.block swap.old)) s
             → (next_dispatch s w).current ≡ pid → process_at w.processes pid ≡ Some x
             → left_as text (I.left input.old) (I.past input.old) ≡ Some w.input → IsKnown (known_of s w) self.old.services
             → SaysRoom (S.blocks swap.old) s w result }
 
-        // The parts go on to go together, whatever the device tells, and what a setting fixes stays. Who is marked live stays so, but
+        // The parts go on to go together, whatever the device gives, and what a setting fixes stays. Who is marked live stays so, but
         // for the process, where its step ended it.
         ensures together { GoTogether self.new (S.blocks swap.new) }
         ensures set { (s : Setting)
@@ -266,7 +266,7 @@ impl Space {
         ensures processes { self.new.regions.processes ≡ self.old.regions.processes }
         ensures avail { self.new.services.avail ≡ self.old.services.avail }
         ensures device { (S.blocks swap.new ≡ S.blocks swap.old)
-            × (S.told swap.new ≡ S.told swap.old) }
+            × (IsTrue (S.told swap.new) → IsTrue (S.told swap.old)) }
 
         ensures cause { TakenFor
             (Rose (C.faults console.old) (C.faults console.new)
@@ -281,7 +281,7 @@ impl Space {
         ensures puts { RanHands (counts (C.puts console.old) (C.puts console.new)
             (R.puts report.old) (R.puts report.new) 0) result }
         ensures part { (text : Option (List ℕ)) → IsSeenAs text (I.past input.new)
-            → (s : Setting) (w : World) (x : Process) → IsTrue (S.told swap.old)
+            → (s : Setting) (w : World) (x : Process) → IsTrue (S.told swap.new)
             → Stands (parts_in self.old (S.blocks swap.old) (S.block swap.old)) w
             → process_at w.processes pid ≡ Some x
             → left_as text (I.left input.old) (I.past input.old) ≡ Some w.input → IsKnown (known_of s w) self.old.services

@@ -50,12 +50,12 @@ fn bring<S: SwapDevice>(
     requires ready { IsReady (parts_of store.old regions.old images.now (S.blocks swap.old) (S.block swap.old)) }
     requires live { AreLive store.old need.now }
     requires seats { AreNeeded need.now (seated_in regions.old pid cpu.now) }
-    ensures bytes { IsTrue (S.told swap.old) → (n : ℕ)
+    ensures bytes { IsTrue (S.told swap.new) → (n : ℕ)
         → bytes_with (away_of store.new regions.new images.now (S.blocks swap.new) (S.block swap.new)) store.new n
         ≡ bytes_with (away_of store.old regions.old images.now (S.blocks swap.old) (S.block swap.old)) store.old n }
     ensures shape { SameShape store.old regions.old store.new regions.new }
     ensures ready { IsReady (parts_of store.new regions.new images.now (S.blocks swap.new) (S.block swap.new)) }
-    ensures device { (S.blocks swap.new ≡ S.blocks swap.old) × (S.told swap.new ≡ S.told swap.old) }
+    ensures device { (S.blocks swap.new ≡ S.blocks swap.old) × (IsTrue (S.told swap.new) → IsTrue (S.told swap.old)) }
     ensures can_step { result ≡ Served.Here → CanStep store.new regions.new pid cpu.now }
     ensures here { result ≡ Served.Here → (n : ℕ) → is_in n (ages_of need.now) ≡ true → present_in store.new n ≡ true }
     ensures no_room { result ≡ Served.NoRoom → store.old.places.size < all_needed store.old need.now }
@@ -84,12 +84,12 @@ fn bring_in<S: SwapDevice>(
     requires ready { IsReady (parts_of store.old regions.old images.now (S.blocks swap.old) (S.block swap.old)) }
     requires live { AreLive store.old need.now }
     requires seats { AreNeeded need.now (seated_in regions.old pid cpu.now) }
-    ensures bytes { IsTrue (S.told swap.old) → (n : ℕ)
+    ensures bytes { IsTrue (S.told swap.new) → (n : ℕ)
         → bytes_with (away_of store.new regions.new images.now (S.blocks swap.new) (S.block swap.new)) store.new n
         ≡ bytes_with (away_of store.old regions.old images.now (S.blocks swap.old) (S.block swap.old)) store.old n }
     ensures shape { SameShape store.old regions.old store.new regions.new }
     ensures ready { IsReady (parts_of store.new regions.new images.now (S.blocks swap.new) (S.block swap.new)) }
-    ensures device { (S.blocks swap.new ≡ S.blocks swap.old) × (S.told swap.new ≡ S.told swap.old) }
+    ensures device { (S.blocks swap.new ≡ S.blocks swap.old) × (IsTrue (S.told swap.new) → IsTrue (S.told swap.old)) }
     ensures can_step { IsOk result → CanStep store.new regions.new pid cpu.now }
     ensures here { IsOk result → (n : ℕ) → is_in n (ages_of need.now) ≡ true → present_in store.new n ≡ true }
     ensures causes { OnSwapStop result (store.old.places.size < all_needed store.old need.now)
@@ -129,7 +129,7 @@ fn serve_and_try<S: SwapDevice, I: Source, C: Sink, R: Sink>(
     // The step of the boundless machine; where a segment is missed or cannot come in, nothing that it sees is changed.
     // However the input is seen: by what it tells, or as a text that the whole of it may be.
     ensures tries { (text : Option (List ℕ)) → IsSeenAs text (I.past input.new) → (bytes : List ℕ) (known : Known)
-        → IsTrue (S.told swap.old) → left_as text (I.left input.old) (I.past input.old) ≡ Some bytes → IsKnown known services.old
+        → IsTrue (S.told swap.new) → left_as text (I.left input.old) (I.past input.old) ≡ Some bytes → IsKnown known services.old
         → let away = away_of store.old regions.old images.now (S.blocks swap.old) (S.block swap.old) in
         let b = before_in away store.old regions.old pid cpu.old bytes known in
         Tries b (effect b) cpu.new (bytes_with away store.old)
@@ -137,18 +137,18 @@ fn serve_and_try<S: SwapDevice, I: Source, C: Sink, R: Sink>(
         (left_as text (I.left input.old) (I.past input.old)) (left_as text (I.left input.new) (I.past input.new))
         (C.taken console.old) (C.taken console.new) (R.taken report.old) (R.taken report.new) result }
     ensures goes_on { GoesOn (I.past input.old) (I.past input.new) }
-    ensures missed { (bytes : List ℕ) (known : Known) → IsTrue (S.told swap.old)
+    ensures missed { (bytes : List ℕ) (known : Known) → IsTrue (S.told swap.new)
         → let b = before_in (away_of store.old regions.old images.now (S.blocks swap.old) (S.block swap.old)) store.old regions.old pid cpu.old bytes known in
         OnMissed result (λ s. IsWanted regions.new pid need.now (touched b) s) }
-    ensures together { (bytes : List ℕ) (known : Known) → IsTrue (S.told swap.old)
+    ensures together { (bytes : List ℕ) (known : Known) → IsTrue (S.told swap.new)
         → let b = before_in (away_of store.old regions.old images.now (S.blocks swap.old) (S.block swap.old)) store.old regions.old pid cpu.old bytes known in
         OnRan result (ArePresent (seen store.new regions.new pid cpu.new) (all_names b (bound_registers (hold_in regions.new pid) cpu.new))) }
-    ensures in_part { (bytes : List ℕ) (known : Known) → IsTrue (S.told swap.old)
+    ensures in_part { (bytes : List ℕ) (known : Known) → IsTrue (S.told swap.new)
         → let b = before_in (away_of store.old regions.old images.now (S.blocks swap.old) (S.block swap.old)) store.old regions.old pid cpu.old bytes known in
         OnSink result (ArePresent (seen store.new regions.new pid cpu.new) (all_names b (bound_registers (hold_in regions.new pid) cpu.new))) }
     ensures still { OnMissed result (λ s. (cpu.new ≡ cpu.old)
         × (input.new ≡ input.old) × (console.new ≡ console.old) × (report.new ≡ report.old)) }
-    ensures same { IsTrue (S.told swap.old) → OnMissed result (λ s. (n : ℕ)
+    ensures same { IsTrue (S.told swap.new) → OnMissed result (λ s. (n : ℕ)
         → bytes_with (away_of store.new regions.new images.now (S.blocks swap.new) (S.block swap.new)) store.new n
         ≡ bytes_with (away_of store.old regions.old images.now (S.blocks swap.old) (S.block swap.old)) store.old n) }
     ensures stopped { OnNoStep result ((cpu.new ≡ cpu.old)
@@ -159,7 +159,7 @@ fn serve_and_try<S: SwapDevice, I: Source, C: Sink, R: Sink>(
     ensures ready { IsReady (parts_of store.new regions.new images.now (S.blocks swap.new) (S.block swap.new)) }
     ensures next { OnRan result (CanStep store.new regions.new pid cpu.new) }
     ensures avail { services.new.avail ≡ services.old.avail }
-    ensures device { (S.blocks swap.new ≡ S.blocks swap.old) × (S.told swap.new ≡ S.told swap.old) }
+    ensures device { (S.blocks swap.new ≡ S.blocks swap.old) × (IsTrue (S.told swap.new) → IsTrue (S.told swap.old)) }
 
     ensures causes { OnSwapStop result (store.old.places.size < all_needed store.old need.now)
         ((all_of store.old.swap < swap_load store.old) × (store.old.places.size < live_load store.old))
@@ -173,7 +173,7 @@ fn serve_and_try<S: SwapDevice, I: Source, C: Sink, R: Sink>(
 
     ensures puts { AttemptHands (counts (C.puts console.old) (C.puts console.new) (R.puts report.old) (R.puts report.new) 0) result }
     ensures part { (text : Option (List ℕ)) → IsSeenAs text (I.past input.new) → (bytes : List ℕ) (known : Known)
-        → IsTrue (S.told swap.old) → left_as text (I.left input.old) (I.past input.old) ≡ Some bytes → IsKnown known services.old
+        → IsTrue (S.told swap.new) → left_as text (I.left input.old) (I.past input.old) ≡ Some bytes → IsKnown known services.old
         → let b = before_in (away_of store.old regions.old images.now (S.blocks swap.old) (S.block swap.old)) store.old regions.old pid cpu.old bytes known in
         PartHands (effect b) (counts (C.puts console.old) (C.puts console.new) (R.puts report.old) (R.puts report.new) 0) result }
 {
@@ -205,7 +205,7 @@ pub(crate) fn step_as_needed<S: SwapDevice, I: Source, C: Sink, R: Sink>(
     requires ready { IsReady (parts_of store.old regions.old images.now (S.blocks swap.old) (S.block swap.old)) }
 
     // The step of the boundless machine, or nothing where what it needs doesn't come in.
-    ensures takes { (bytes : List ℕ) (known : Known) → IsTrue (S.told swap.old) → I.left input.old ≡ Some bytes → IsKnown known services.old
+    ensures takes { (bytes : List ℕ) (known : Known) → IsTrue (S.told swap.new) → I.left input.old ≡ Some bytes → IsKnown known services.old
         → let away = away_of store.old regions.old images.now (S.blocks swap.old) (S.block swap.old) in
         let b = before_in away store.old regions.old pid cpu.old bytes known in
         Takes b (effect b) cpu.new (bytes_with away store.old)
@@ -213,7 +213,7 @@ pub(crate) fn step_as_needed<S: SwapDevice, I: Source, C: Sink, R: Sink>(
         (I.left input.old) (I.left input.new) (C.taken console.old) (C.taken console.new) (R.taken report.old) (R.taken report.new) result }
     // The same, however the input is seen: by what it tells, or as a text that the whole of it may be.
     ensures takes_as { (text : Option (List ℕ)) → IsSeenAs text (I.past input.new) → (bytes : List ℕ) (known : Known)
-        → IsTrue (S.told swap.old) → left_as text (I.left input.old) (I.past input.old) ≡ Some bytes → IsKnown known services.old
+        → IsTrue (S.told swap.new) → left_as text (I.left input.old) (I.past input.old) ≡ Some bytes → IsKnown known services.old
         → let away = away_of store.old regions.old images.now (S.blocks swap.old) (S.block swap.old) in
         let b = before_in away store.old regions.old pid cpu.old bytes known in
         Takes b (effect b) cpu.new (bytes_with away store.old)
@@ -225,16 +225,16 @@ pub(crate) fn step_as_needed<S: SwapDevice, I: Source, C: Sink, R: Sink>(
         × (input.new ≡ input.old) × (console.new ≡ console.old) × (report.new ≡ report.old)) }
 
     // All that a step needs is in memory together, so that its room is at most the memory; and more than it at NoRoom.
-    ensures together { (bytes : List ℕ) (known : Known) → IsTrue (S.told swap.old)
+    ensures together { (bytes : List ℕ) (known : Known) → IsTrue (S.told swap.new)
         → let b = before_in (away_of store.old regions.old images.now (S.blocks swap.old) (S.block swap.old)) store.old regions.old pid cpu.old bytes known in
         OnDone result (ArePresent (seen store.new regions.new pid cpu.new) (all_names b (bound_registers (hold_in regions.new pid) cpu.new))) }
-    ensures room { (bytes : List ℕ) (known : Known) → IsTrue (S.told swap.old)
+    ensures room { (bytes : List ℕ) (known : Known) → IsTrue (S.told swap.new)
         → let b = before_in (away_of store.old regions.old images.now (S.blocks swap.old) (S.block swap.old)) store.old regions.old pid cpu.old bytes known in
         OnDone result (room_in store.old (all_names b (bound_registers (hold_in regions.new pid) cpu.new)) ≤ store.old.places.size) }
-    ensures room_in_part { (bytes : List ℕ) (known : Known) → IsTrue (S.told swap.old)
+    ensures room_in_part { (bytes : List ℕ) (known : Known) → IsTrue (S.told swap.new)
         → let b = before_in (away_of store.old regions.old images.now (S.blocks swap.old) (S.block swap.old)) store.old regions.old pid cpu.old bytes known in
         OnSink result (room_in store.old (all_names b (bound_registers (hold_in regions.new pid) cpu.new)) ≤ store.old.places.size) }
-    ensures no_room { (bytes : List ℕ) (known : Known) → IsTrue (S.told swap.old)
+    ensures no_room { (bytes : List ℕ) (known : Known) → IsTrue (S.told swap.new)
         → let b = before_in (away_of store.old regions.old images.now (S.blocks swap.old) (S.block swap.old)) store.old regions.old pid cpu.old bytes known in
         OnSwapStop result (store.old.places.size < room_in store.old (needed_names b)) (Unit {0}) (Unit {0}) }
     ensures swap_stops { OnSwapStop result (Unit {0})
@@ -246,7 +246,7 @@ pub(crate) fn step_as_needed<S: SwapDevice, I: Source, C: Sink, R: Sink>(
     ensures ready { IsReady (parts_of store.new regions.new images.now (S.blocks swap.new) (S.block swap.new)) }
     ensures next { OnDone result (CanStep store.new regions.new pid cpu.new) }
     ensures avail { services.new.avail ≡ services.old.avail }
-    ensures device { (S.blocks swap.new ≡ S.blocks swap.old) × (S.told swap.new ≡ S.told swap.old) }
+    ensures device { (S.blocks swap.new ≡ S.blocks swap.old) × (IsTrue (S.told swap.new) → IsTrue (S.told swap.old)) }
 
     ensures cause { TakenFor (Rose (C.faults console.old) (C.faults console.new) ⊎ Rose (R.faults report.old) (R.faults report.new))
         (Rose (I.faults input.old) (I.faults input.new)) result }
@@ -258,7 +258,7 @@ pub(crate) fn step_as_needed<S: SwapDevice, I: Source, C: Sink, R: Sink>(
     // Each line is one put, and so is the piece where it has bytes. Where a sink fails, no more lines were put than there are.
     ensures puts { RanHands (counts (C.puts console.old) (C.puts console.new) (R.puts report.old) (R.puts report.new) 0) result }
     ensures part { (text : Option (List ℕ)) → IsSeenAs text (I.past input.new) → (bytes : List ℕ) (known : Known)
-        → IsTrue (S.told swap.old) → left_as text (I.left input.old) (I.past input.old) ≡ Some bytes → IsKnown known services.old
+        → IsTrue (S.told swap.new) → left_as text (I.left input.old) (I.past input.old) ≡ Some bytes → IsKnown known services.old
         → let b = before_in (away_of store.old regions.old images.now (S.blocks swap.old) (S.block swap.old)) store.old regions.old pid cpu.old bytes known in
         PartHands (effect b) (counts (C.puts console.old) (C.puts console.new) (R.puts report.old) (R.puts report.new) 0) result }
 {

@@ -8,7 +8,7 @@ ghost use Rattle.std.specs.Prelude.{◌≡◌, ◌≢◌, [], MatchResult};
 ghost use Rattle.std.specs.IoError.{error_kind};
 
 use o2_base::NoMemory;
-use o2_cli::{Status, number, os2run, text};
+use o2_cli::{Status, number, os2run_on_system, text};
 use o2_outer::{FileSwap, FolderFiles, Put, Sink, StderrSink, StdinSource, StdoutSink};
 use std::alloc::Global;
 use std::env;
@@ -46,7 +46,7 @@ fn run(rt: &HostRuntime) -> Result<Status, NoMemory> {
     let mut console = StdoutSink::new(rt.stdout());
     let mut report = StderrSink::new(rt.stderr());
     let mut swap = FileSwap::new(rt);
-    Ok(os2run(
+    Ok(os2run_on_system(
         rt.alloc(),
         words.as_slice(),
         &mut files,

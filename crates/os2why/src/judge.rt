@@ -58,7 +58,7 @@ pub fn refusal<F: Files>(
     name: &Bytes,
 ) -> Option<OpenFault>
     // it opens exactly where the opening of os2run does, and is refused as that is
-    ensures { (contents : Contents) (input : List ℕ) → F.told files.old ≡ Some contents
+    ensures { (contents : Contents) (input : List ℕ) → F.may_hold files.new contents
         → Judges result (opened verb contents name.now input) }
 {
     match open(alloc, verb, files, name) {

@@ -8,13 +8,13 @@ use Rattle.o2_cli.proofs.top.os2run.Goals as goal
 
 pub returns-clause-texts : goal.returns-clause-texts
 returns-clause-texts g c = λ tells.
-    shown c.args.words.now (g.F.Files.told c.args.files.now) _ _ _ _ _ _ _ _ _ c.in-Ok.command.verb c.in-Ok-from_slice.name c.in-Ok-open.session
+    shown c.args.words.now (g.F.Files.may_hold c.open.new.files) _ _ _ _ _ _ _ _ _ c.in-Ok.command.verb c.in-Ok-from_slice.name c.in-Ok-open.session
     (subst (λ name. IsCommandFor c.args.words.now c.in-Ok.command.verb name) (sym (c.in-Ok-from_slice.ensures ∙ c.as_bytes.ensures.value)) c.in-Ok.ensures)
     (λ contents is. c.in-Ok-open.ensures.exact contents is) c.run_session.result (c.run_session.ensures.texts tells None tt)
 
 pub returns-clause-untold_texts : goal.returns-clause-untold_texts
 returns-clause-untold_texts g c = λ tells text may.
-    shown c.args.words.now (g.F.Files.told c.args.files.now) _ _ _ _ _ _ _ _ _ c.in-Ok.command.verb c.in-Ok-from_slice.name c.in-Ok-open.session
+    shown c.args.words.now (g.F.Files.may_hold c.open.new.files) _ _ _ _ _ _ _ _ _ c.in-Ok.command.verb c.in-Ok-from_slice.name c.in-Ok-open.session
     (subst (λ name. IsCommandFor c.args.words.now c.in-Ok.command.verb name) (sym (c.in-Ok-from_slice.ensures ∙ c.as_bytes.ensures.value)) c.in-Ok.ensures)
     (λ contents is. c.in-Ok-open.ensures.exact contents is) c.run_session.result (c.run_session.ensures.texts tells (Some text) may)
 
@@ -27,14 +27,14 @@ returns-in-Err-clause-untold_texts g c = λ tells text may.
 
 pub returns-in-Check-clause-texts : goal.returns-in-Check-clause-texts
 returns-in-Check-clause-texts g c = λ tells.
-    texts_of_check c.args.words.now (g.F.Files.told c.args.files.now) c.in-Ok-from_slice.name
+    texts_of_check c.args.words.now (g.F.Files.may_hold c.open.new.files) c.in-Ok-from_slice.name
     (subst (λ (v : Verb). IsCommandFor c.args.words.now v c.in-Ok-from_slice.name) c.in-Check.is
     (subst (λ name. IsCommandFor c.args.words.now c.in-Ok.command.verb name) (sym (c.in-Ok-from_slice.ensures ∙ c.as_bytes.ensures.value)) c.in-Ok.ensures))
     c.in-Ok-open.session _ _ _ _ _ _ _ c.check_session.result c.check_session.ensures.lines
 
 pub returns-in-Check-clause-untold_texts : goal.returns-in-Check-clause-untold_texts
 returns-in-Check-clause-untold_texts g c = λ tells text may.
-    texts_of_check c.args.words.now (g.F.Files.told c.args.files.now) c.in-Ok-from_slice.name
+    texts_of_check c.args.words.now (g.F.Files.may_hold c.open.new.files) c.in-Ok-from_slice.name
     (subst (λ (v : Verb). IsCommandFor c.args.words.now v c.in-Ok-from_slice.name) c.in-Check.is
     (subst (λ name. IsCommandFor c.args.words.now c.in-Ok.command.verb name) (sym (c.in-Ok-from_slice.ensures ∙ c.as_bytes.ensures.value)) c.in-Ok.ensures))
     c.in-Ok-open.session _ _ _ _ _ _ _ c.check_session.result c.check_session.ensures.lines
@@ -44,7 +44,7 @@ returns-in-Err-clause-checks_at_once g c = λ check. untried _ _ c.from.result c
 
 pub returns-clause-refused : goal.returns-clause-refused
 returns-clause-refused g c =
-    refused c.args.words.now (g.F.Files.told c.args.files.now) c.in-Ok.command.verb c.in-Ok-from_slice.name c.in-Ok-open.session
+    refused c.args.words.now (g.F.Files.may_hold c.open.new.files) c.in-Ok.command.verb c.in-Ok-from_slice.name c.in-Ok-open.session
     (subst (λ name. IsCommandFor c.args.words.now c.in-Ok.command.verb name) (sym (c.in-Ok-from_slice.ensures ∙ c.as_bytes.ensures.value)) c.in-Ok.ensures)
     (λ contents is. c.in-Ok-open.ensures.exact contents is) (runs_not_checks c.in-Ok.command.verb c.in-Exe.is) c.run_session.result c.run_session.ensures.refused
 
@@ -53,11 +53,11 @@ returns-clause-file_fault g c = no_file_fault c.in-Ok-open.session _ c.run_sessi
 
 pub returns-clause-complete : goal.returns-clause-complete
 returns-clause-complete g c = λ tells text may.
-    completes c.args.words.now (g.F.Files.told c.args.files.now) _ _ _ _ _ _ _ _ _ _ _ _ _ c.run_session.result
-    (refused c.args.words.now (g.F.Files.told c.args.files.now) c.in-Ok.command.verb c.in-Ok-from_slice.name c.in-Ok-open.session
+    completes c.args.words.now (g.F.Files.may_hold c.open.new.files) _ _ _ _ _ _ _ _ _ _ _ _ _ c.run_session.result
+    (refused c.args.words.now (g.F.Files.may_hold c.open.new.files) c.in-Ok.command.verb c.in-Ok-from_slice.name c.in-Ok-open.session
     (subst (λ name. IsCommandFor c.args.words.now c.in-Ok.command.verb name) (sym (c.in-Ok-from_slice.ensures ∙ c.as_bytes.ensures.value)) c.in-Ok.ensures)
     (λ contents is. c.in-Ok-open.ensures.exact contents is) (runs_not_checks c.in-Ok.command.verb c.in-Exe.is) c.run_session.result c.run_session.ensures.refused)
-    (shown c.args.words.now (g.F.Files.told c.args.files.now) _ _ _ _ _ _ _ _ _ c.in-Ok.command.verb c.in-Ok-from_slice.name c.in-Ok-open.session
+    (shown c.args.words.now (g.F.Files.may_hold c.open.new.files) _ _ _ _ _ _ _ _ _ c.in-Ok.command.verb c.in-Ok-from_slice.name c.in-Ok-open.session
     (subst (λ name. IsCommandFor c.args.words.now c.in-Ok.command.verb name) (sym (c.in-Ok-from_slice.ensures ∙ c.as_bytes.ensures.value)) c.in-Ok.ensures)
     (λ contents is. c.in-Ok-open.ensures.exact contents is) c.run_session.result (c.run_session.ensures.texts tells text may))
     (no_file_fault c.in-Ok-open.session _ c.run_session.result c.run_session.ensures.refused)

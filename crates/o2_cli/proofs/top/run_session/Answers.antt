@@ -43,18 +43,18 @@ returns-in-Ok-run-clause-texts g c = λ tells text may input left.
       start = start_of s input begun.built;
       starts = has_started s input begun.built begun.starts;
       runs = whole_from machine_swaps (setting_of s.conf) w _ _ _ _ _ _ _ _ _ _ (length w.lines) (c.in-Ok-begin.ensures.puts begun.built begun.starts)
-          (c.in-Ok-run.ensures.texts (ap stopped_of begun.fresh) text may (setting_of s.conf) w _ _ (stands_over _ _ _ _ _ _ begun _ c.count.ensures _ tells _ input) left (nothing_yet s begun.built input _) begun.to_report).0;
+          (c.in-Ok-run.ensures.texts (ap stopped_of begun.fresh) tells text may (setting_of s.conf) w _ _ (stands_over _ _ _ _ _ _ begun _ c.count.ensures _ input) left (nothing_yet s begun.built input _) begun.to_report).0;
     }
 
 pub returns-clause-texts : goal.returns-clause-texts
 returns-clause-texts g c = λ tells text may.
     faulted_shows _ _ _ _ _ _ _ _ _ _ c.in-Err.why _ c.from-in-Err.ensures
-    (faulted_run _ _ _ _ _ _ _ _ _ _ _ _ _ _ (λ (s : Setting). StandsFor c.run.new.machine (g.S.SwapDevice.blocks c.run.new.swap) (g.S.SwapDevice.told c.run.new.swap) (g.S.SwapDevice.block c.run.new.swap) s) _ (rose_since _ _ _ c.in-Ok-begin.ensures.count) c.in-Err.why (λ input left.
+    (faulted_run _ _ _ _ _ _ _ _ _ _ _ _ _ _ (λ (s : Setting). StandsFor c.run.new.machine (g.S.SwapDevice.blocks c.run.new.swap) (g.S.SwapDevice.block c.run.new.swap) s) _ (rose_since _ _ _ c.in-Ok-begin.ensures.count) c.in-Err.why (λ input left.
     let s = c.args.session in
     let begun = c.in-Ok-begin.ensures.begins in
     let w = first_world s.linked s.conf input begun.built in
     record {
       start = start_of s input begun.built;
       starts = has_started s input begun.built begun.starts;
-      runs = (c.in-Ok-begin.ensures.puts begun.built begun.starts, c.in-Err.ensures.texts (ap stopped_of begun.fresh) text may (setting_of s.conf) w _ _ (stands_over _ _ _ _ _ _ begun _ c.count.ensures _ tells _ input) left (nothing_yet s begun.built input _) begun.to_report);
+      runs = (c.in-Ok-begin.ensures.puts begun.built begun.starts, c.in-Err.ensures.texts (ap stopped_of begun.fresh) tells text may (setting_of s.conf) w _ _ (stands_over _ _ _ _ _ _ begun _ c.count.ensures _ input) left (nothing_yet s begun.built input _) begun.to_report);
     }))

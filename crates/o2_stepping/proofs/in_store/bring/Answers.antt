@@ -13,7 +13,7 @@ returns-clause-bytes g c = λ tells n.
     let S = g.S.SwapDevice in
     let s = c.args.store.now in
     let t = c.serve-served.new.store in
-    bytes_same c.args.images.now (S.told c.args.swap.now) s t c.args.regions.now c.serve-served.new.regions (S.blocks c.args.swap.now) (S.blocks c.serve-served.new.swap) (S.block c.args.swap.now) (S.block c.serve-served.new.swap)
+    bytes_same c.args.images.now (S.told c.serve-served.new.swap) s t c.args.regions.now c.serve-served.new.regions (S.blocks c.args.swap.now) (S.blocks c.serve-served.new.swap) (S.block c.args.swap.now) (S.block c.serve-served.new.swap)
     (inside_is s c.law.ensures.shelf c.law.ensures.within) (inside_is t c.law-2.ensures.shelf c.law-2.ensures.within) c.serve-served.ensures.keeps tells n
 
 pub returns-clause-shape : goal.returns-clause-shape

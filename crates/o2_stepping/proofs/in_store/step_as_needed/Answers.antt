@@ -50,7 +50,7 @@ tries-init g c =
       shape = shape_refl s m;
       ready = c.requires.ready;
       blocks = refl;
-      told = refl;
+      told = λ w. w;
       faults = omega arith;
       bytes = λ tells k. refl;
       live = subst (λ (x : List (SegId × ℕ)). AreLive s x) (sym e) (live_seated s m pid cpu c.requires.ready.held);
@@ -94,9 +94,9 @@ tries-preserved g c =
     let old = c.tries.need in
     let added = c.add_missed.ensures.added c.if-not-add_missed.false in
     let more = pair_of (held_under o pid sel.0) in
-    let wants = λ (bytes : List ℕ) (known : Known) (tells : IsTrue (S.told c.args.swap.now)).
-    subst (λ (z : Before). IsWanted o pid old (touched z) sel) (first_from a b s t m n pid cpu bytes known (view_same a b s t m n pid cpu i.shape.tables i.shape.holds (i.bytes tells)) (i.bytes tells) c.tries.cpu i.cpu)
-    (missed_at _ x0 sel is (e.missed bytes known (subst IsTrue (sym i.told) tells))) in
+    let wants = λ (bytes : List ℕ) (known : Known) (tells : IsTrue (S.told c.serve_and_try.new.swap)).
+    subst (λ (z : Before). IsWanted o pid old (touched z) sel) (first_from a b s t m n pid cpu bytes known (view_same a b s t m n pid cpu i.shape.tables i.shape.holds (i.bytes (e.device.1 tells))) (i.bytes (e.device.1 tells)) c.tries.cpu i.cpu)
+    (missed_at _ x0 sel is (e.missed bytes known tells)) in
     record {
       cpu = st.0 ∙ i.cpu;
       input = st.1 ∙ i.input;
@@ -106,9 +106,9 @@ tries-preserved g c =
       shape = shape_trans s t u m n o i.shape e.shape;
       ready = e.ready;
       blocks = e.device.0 ∙ i.blocks;
-      told = e.device.1 ∙ i.told;
+      told = λ w. i.told (e.device.1 w);
       faults = omega (arith, i.faults, e.swap_count);
-      bytes = λ tells k. missed_at _ x0 sel is (e.same (subst IsTrue (sym i.told) tells)) k ∙ i.bytes tells k;
+      bytes = λ tells k. missed_at _ x0 sel is (e.same tells) k ∙ i.bytes (e.device.1 tells) k;
       live = subst (λ (x : List (SegId × ℕ)). AreLive u x) (sym added) (live_more u old more (all_live_same t u old e.shape.tables i.live) (live_pair u o pid sel.0 e.ready.held));
       seats = subst (λ (x : List (SegId × ℕ)). AreNeeded x (seated_in o pid d)) (sym added)
           (needed_more old more (seated_in o pid d)
@@ -117,14 +117,14 @@ tries-preserved g c =
       named = λ bytes known tells k h.
           (let z : Before = before_in a s m pid cpu bytes known in
           let w = wants bytes known tells in
-          named_more (needed_names z) old w.held (held_under o pid sel.0) w.under (i.named bytes known tells)
+          named_more (needed_names z) old w.held (held_under o pid sel.0) w.under (i.named bytes known (e.device.1 tells))
           (both_in w.held.id.age (seated z.view.registers) (touched z) ∙ or_back (is_in w.held.id.age (seated z.view.registers)) (is_in w.held.id.age (touched z)) w.named) k
           (ap (λ (x : List (SegId × ℕ)). is_in k (ages_of x)) (sym added) ∙ h));
       left = λ bytes known tells.
           (let z : Before = before_in a s m pid cpu bytes known in
           let w = wants bytes known tells in
           let x = left_less (touched z) old more w.held.id.age w.named w.other (own_in (held_under o pid sel.0) w.held w.under) in
-          let y = i.left bytes known tells in
+          let y = i.left bytes known (e.device.1 tells) in
           let l = length_one old (held_under o pid sel.0) w.held w.under in
           subst (λ (x : List (SegId × ℕ)). left_in (touched z) x + length x ≤ 7) (sym added) (omega (arith, x, y, l)));
     }
@@ -154,9 +154,9 @@ returns-in-Ok-Ran-clause-takes_as g c = λ text may bytes known tells left same.
     let u = c.serve_and_try.new.store in
     let d : ℕ → List ℕ = away_of u c.serve_and_try.new.regions im (S.blocks c.serve_and_try.new.swap) (S.block c.serve_and_try.new.swap) in
     ran_tries z (effect z) c.serve_and_try.new.cpu (bytes_with a s) (bytes_with d u) _ _ _ _ _ _ c.in-Ok-Ran.field-0 c.in-Ok-Ran.ran c.in-Ok-Ran.field-0-is
-    (tries_from a b s t m n pid cpu bytes known (view_same a b s t m n pid cpu i.shape.tables i.shape.holds (i.bytes tells)) (i.bytes tells) c.tries.cpu c.serve_and_try.new.cpu (bytes_with d u) _ _ _ _ _ _ _ _ _ (Ok c.in-Ok-Ran.field-0) i.cpu
+    (tries_from a b s t m n pid cpu bytes known (view_same a b s t m n pid cpu i.shape.tables i.shape.holds (i.bytes (c.in-Ok-Ran.ensures.device.1 tells))) (i.bytes (c.in-Ok-Ran.ensures.device.1 tells)) c.tries.cpu c.serve_and_try.new.cpu (bytes_with d u) _ _ _ _ _ _ _ _ _ (Ok c.in-Ok-Ran.field-0) i.cpu
     (ap (λ x. left_as text (g.I.Source.left x) (g.I.Source.past x)) i.input) (ap g.C.Sink.taken i.console) (ap g.R.Sink.taken i.report)
-    (c.in-Ok-Ran.ensures.tries text may bytes known (subst IsTrue (sym i.told) tells) (ap (λ x. left_as text (g.I.Source.left x) (g.I.Source.past x)) i.input ∙ left) (record { avail = same.avail ∙ sym i.avail })))
+    (c.in-Ok-Ran.ensures.tries text may bytes known tells (ap (λ x. left_as text (g.I.Source.left x) (g.I.Source.past x)) i.input ∙ left) (record { avail = same.avail ∙ sym i.avail })))
 
 pub returns-in-Ok-Ran-clause-takes : goal.returns-in-Ok-Ran-clause-takes
 returns-in-Ok-Ran-clause-takes g c = λ bytes known tells left same. returns-in-Ok-Ran-clause-takes_as g c None tt bytes known tells left same
@@ -176,9 +176,9 @@ returns-in-Err-clause-takes_as g c = λ text may bytes known tells left same.
     let b : ℕ → List ℕ = away_of t n im (S.blocks c.tries.swap) (S.block c.tries.swap) in
     let u = c.serve_and_try.new.store in
     let d : ℕ → List ℕ = away_of u c.serve_and_try.new.regions im (S.blocks c.serve_and_try.new.swap) (S.block c.serve_and_try.new.swap) in
-    tries_from a b s t m n pid cpu bytes known (view_same a b s t m n pid cpu i.shape.tables i.shape.holds (i.bytes tells)) (i.bytes tells) c.tries.cpu c.serve_and_try.new.cpu (bytes_with d u) _ _ _ _ _ _ _ _ _ (Err c.in-Err.fault) i.cpu
+    tries_from a b s t m n pid cpu bytes known (view_same a b s t m n pid cpu i.shape.tables i.shape.holds (i.bytes (c.in-Err.ensures.device.1 tells))) (i.bytes (c.in-Err.ensures.device.1 tells)) c.tries.cpu c.serve_and_try.new.cpu (bytes_with d u) _ _ _ _ _ _ _ _ _ (Err c.in-Err.fault) i.cpu
     (ap (λ x. left_as text (g.I.Source.left x) (g.I.Source.past x)) i.input) (ap g.C.Sink.taken i.console) (ap g.R.Sink.taken i.report)
-    (c.in-Err.ensures.tries text may bytes known (subst IsTrue (sym i.told) tells) (ap (λ x. left_as text (g.I.Source.left x) (g.I.Source.past x)) i.input ∙ left) (record { avail = same.avail ∙ sym i.avail }))
+    (c.in-Err.ensures.tries text may bytes known tells (ap (λ x. left_as text (g.I.Source.left x) (g.I.Source.past x)) i.input ∙ left) (record { avail = same.avail ∙ sym i.avail }))
 
 pub returns-in-Err-clause-takes : goal.returns-in-Err-clause-takes
 returns-in-Err-clause-takes g c = λ bytes known tells left same. returns-in-Err-clause-takes_as g c None tt bytes known tells left same
@@ -202,7 +202,7 @@ returns-in-Err-clause-no_room g c = λ bytes known tells.
     let names = needed_names (before_in a s c.args.regions.now c.args.pid c.args.cpu.now bytes known) in
     at_stop (t.places.size < all_needed t c.tries.need) ((all_of t.swap < swap_load t) × (t.places.size < live_load t)) (Rose (S.faults c.tries.swap) (S.faults c.serve_and_try.new.swap))
     (s.places.size < room_in s names) (Unit {0}) (Unit {0}) c.in-Err.fault
-    (λ p. lacks_room s t c.tries.need names i.shape.tables i.live i.sizes (i.named bytes known tells) p) (λ p. tt) (λ p. tt) c.in-Err.ensures.causes
+    (λ p. lacks_room s t c.tries.need names i.shape.tables i.live i.sizes (i.named bytes known (c.in-Err.ensures.device.1 tells)) p) (λ p. tt) (λ p. tt) c.in-Err.ensures.causes
 
 pub returns-in-Err-clause-swap_stops : goal.returns-in-Err-clause-swap_stops
 returns-in-Err-clause-swap_stops g c =
@@ -237,8 +237,8 @@ returns-in-Ok-Ran-clause-together g c = λ bytes known tells.
     let a : ℕ → List ℕ = away_of s m im (S.blocks c.args.swap.now) (S.block c.args.swap.now) in
     let b : ℕ → List ℕ = away_of t n im (S.blocks c.tries.swap) (S.block c.tries.swap) in
     subst (λ (z : Before). ArePresent (seen c.serve_and_try.new.store c.serve_and_try.new.regions pid c.serve_and_try.new.cpu) (all_names z (bound_registers (hold_in c.serve_and_try.new.regions pid) c.serve_and_try.new.cpu)))
-    (first_from a b s t m n pid cpu bytes known (view_same a b s t m n pid cpu i.shape.tables i.shape.holds (i.bytes tells)) (i.bytes tells) c.tries.cpu i.cpu)
-    (ran_at _ c.in-Ok-Ran.field-0 c.in-Ok-Ran.ran c.in-Ok-Ran.field-0-is (c.in-Ok-Ran.ensures.together bytes known (subst IsTrue (sym i.told) tells)))
+    (first_from a b s t m n pid cpu bytes known (view_same a b s t m n pid cpu i.shape.tables i.shape.holds (i.bytes (c.in-Ok-Ran.ensures.device.1 tells))) (i.bytes (c.in-Ok-Ran.ensures.device.1 tells)) c.tries.cpu i.cpu)
+    (ran_at _ c.in-Ok-Ran.field-0 c.in-Ok-Ran.ran c.in-Ok-Ran.field-0-is (c.in-Ok-Ran.ensures.together bytes known tells))
 
 pub returns-in-Ok-Ran-clause-room : goal.returns-in-Ok-Ran-clause-room
 returns-in-Ok-Ran-clause-room g c = λ bytes known tells.
@@ -260,8 +260,8 @@ returns-in-Ok-Ran-clause-room g c = λ bytes known tells.
     let z : Before = before_in a s m pid cpu bytes known in
     let names = all_names z (bound_registers (hold_in o pid) d) in
     let here = subst (λ (y : Before). ArePresent (seen u o pid d) (all_names y (bound_registers (hold_in o pid) d)))
-    (first_from a b s t m n pid cpu bytes known (view_same a b s t m n pid cpu i.shape.tables i.shape.holds (i.bytes tells)) (i.bytes tells) c.tries.cpu i.cpu)
-    (ran_at _ c.in-Ok-Ran.field-0 c.in-Ok-Ran.ran c.in-Ok-Ran.field-0-is (e.together bytes known (subst IsTrue (sym i.told) tells))) in
+    (first_from a b s t m n pid cpu bytes known (view_same a b s t m n pid cpu i.shape.tables i.shape.holds (i.bytes (c.in-Ok-Ran.ensures.device.1 tells))) (i.bytes (c.in-Ok-Ran.ensures.device.1 tells)) c.tries.cpu i.cpu)
+    (ran_at _ c.in-Ok-Ran.field-0 c.in-Ok-Ran.ran c.in-Ok-Ran.field-0-is (e.together bytes known tells)) in
     let w = shape_trans s t u m n o i.shape e.shape in
     let fits = room_fits u names c.law-in-Ok-Ran.ensures.shelf e.ready.aged (seen_present u o pid d names here) c.law-in-Ok-Ran.ensures.sum c.law-in-Ok-Ran.ensures.room in
     let same = room_same s u names w.tables in
@@ -290,13 +290,13 @@ returns-in-Err-clause-room_in_part g c = λ bytes known tells.
     let w = shape_trans s t u m n o i.shape e.shape in
     let same = room_same s u names w.tables in
     let size = w.tables.size in
-    let first = first_from a b s t m n pid cpu bytes known (view_same a b s t m n pid cpu i.shape.tables i.shape.holds (i.bytes tells)) (i.bytes tells) c.tries.cpu i.cpu in
+    let first = first_from a b s t m n pid cpu bytes known (view_same a b s t m n pid cpu i.shape.tables i.shape.holds (i.bytes (c.in-Err.ensures.device.1 tells))) (i.bytes (c.in-Err.ensures.device.1 tells)) c.tries.cpu i.cpu in
     let start : Before = before_in b t n pid c.tries.cpu bytes known in
     at_sink (ArePresent (seen u o pid d) (all_names start (bound_registers (hold_in o pid) d))) (room_in s names ≤ s.places.size) c.in-Err.fault
     (λ x.
     (let here = subst (λ (y : Before). ArePresent (seen u o pid d) (all_names y (bound_registers (hold_in o pid) d))) first x in
     let fits = room_fits u names c.law.ensures.shelf e.ready.aged (seen_present u o pid d names here) c.law.ensures.sum c.law.ensures.room in
-    omega (arith, fits, same, size))) (e.in_part bytes known (subst IsTrue (sym i.told) tells))
+    omega (arith, fits, same, size))) (e.in_part bytes known tells)
 
 pub returns-then-not-add_missed-clause-takes_as : goal.returns-then-not-add_missed-clause-takes_as
 returns-then-not-add_missed-clause-takes_as g c = λ text may bytes known tells left same.
@@ -312,9 +312,9 @@ returns-then-not-add_missed-clause-takes_as g c = λ text may bytes known tells 
     let a : ℕ → List ℕ = away_of s m im (S.blocks c.args.swap.now) (S.block c.args.swap.now) in
     let b : ℕ → List ℕ = away_of t n im (S.blocks c.tries.swap) (S.block c.tries.swap) in
     let sel = c.in-Ok-Missed.sel in
-    let w = subst (λ (z : Before). IsWanted c.serve_and_try.new.regions pid c.tries.need (touched z) sel) (first_from a b s t m n pid cpu bytes known (view_same a b s t m n pid cpu i.shape.tables i.shape.holds (i.bytes tells)) (i.bytes tells) c.tries.cpu i.cpu)
-    (missed_at _ c.in-Ok-Missed.field-0 sel c.in-Ok-Missed.field-0-is (c.in-Ok-Missed.ensures.missed bytes known (subst IsTrue (sym i.told) tells))) in
-    absurd (no_place (held_under c.serve_and_try.new.regions pid sel.0) w.held _ (length c.tries.need) w.under (i.left bytes known tells) (c.add_missed.ensures.full c.if-not-add_missed.true))
+    let w = subst (λ (z : Before). IsWanted c.serve_and_try.new.regions pid c.tries.need (touched z) sel) (first_from a b s t m n pid cpu bytes known (view_same a b s t m n pid cpu i.shape.tables i.shape.holds (i.bytes (c.in-Ok-Missed.ensures.device.1 tells))) (i.bytes (c.in-Ok-Missed.ensures.device.1 tells)) c.tries.cpu i.cpu)
+    (missed_at _ c.in-Ok-Missed.field-0 sel c.in-Ok-Missed.field-0-is (c.in-Ok-Missed.ensures.missed bytes known tells)) in
+    absurd (no_place (held_under c.serve_and_try.new.regions pid sel.0) w.held _ (length c.tries.need) w.under (i.left bytes known (c.in-Ok-Missed.ensures.device.1 tells)) (c.add_missed.ensures.full c.if-not-add_missed.true))
 
 pub returns-then-not-add_missed-clause-takes : goal.returns-then-not-add_missed-clause-takes
 returns-then-not-add_missed-clause-takes g c = λ bytes known tells left same. returns-then-not-add_missed-clause-takes_as g c None tt bytes known tells left same
@@ -333,9 +333,9 @@ returns-then-not-add_missed-clause-no_room g c = λ bytes known tells.
     let a : ℕ → List ℕ = away_of s m im (S.blocks c.args.swap.now) (S.block c.args.swap.now) in
     let b : ℕ → List ℕ = away_of t n im (S.blocks c.tries.swap) (S.block c.tries.swap) in
     let sel = c.in-Ok-Missed.sel in
-    let w = subst (λ (z : Before). IsWanted c.serve_and_try.new.regions pid c.tries.need (touched z) sel) (first_from a b s t m n pid cpu bytes known (view_same a b s t m n pid cpu i.shape.tables i.shape.holds (i.bytes tells)) (i.bytes tells) c.tries.cpu i.cpu)
-    (missed_at _ c.in-Ok-Missed.field-0 sel c.in-Ok-Missed.field-0-is (c.in-Ok-Missed.ensures.missed bytes known (subst IsTrue (sym i.told) tells))) in
-    absurd (no_place (held_under c.serve_and_try.new.regions pid sel.0) w.held _ (length c.tries.need) w.under (i.left bytes known tells) (c.add_missed.ensures.full c.if-not-add_missed.true))
+    let w = subst (λ (z : Before). IsWanted c.serve_and_try.new.regions pid c.tries.need (touched z) sel) (first_from a b s t m n pid cpu bytes known (view_same a b s t m n pid cpu i.shape.tables i.shape.holds (i.bytes (c.in-Ok-Missed.ensures.device.1 tells))) (i.bytes (c.in-Ok-Missed.ensures.device.1 tells)) c.tries.cpu i.cpu)
+    (missed_at _ c.in-Ok-Missed.field-0 sel c.in-Ok-Missed.field-0-is (c.in-Ok-Missed.ensures.missed bytes known tells)) in
+    absurd (no_place (held_under c.serve_and_try.new.regions pid sel.0) w.held _ (length c.tries.need) w.under (i.left bytes known (c.in-Ok-Missed.ensures.device.1 tells)) (c.add_missed.ensures.full c.if-not-add_missed.true))
 
 pub returns-then-not-add_missed-clause-still : goal.returns-then-not-add_missed-clause-still
 returns-then-not-add_missed-clause-still g c =
@@ -389,14 +389,14 @@ returns-in-Err-clause-part g c = λ text may bytes known tells left same.
     let cpu = c.args.cpu.now in
     let a : ℕ → List ℕ = away_of s m im (S.blocks c.args.swap.now) (S.block c.args.swap.now) in
     let b : ℕ → List ℕ = away_of t n im (S.blocks c.tries.swap) (S.block c.tries.swap) in
-    let view = view_same a b s t m n pid cpu i.shape.tables i.shape.holds (i.bytes tells) in
+    let view = view_same a b s t m n pid cpu i.shape.tables i.shape.holds (i.bytes (c.in-Err.ensures.device.1 tells)) in
     let z : Before = before_in a s m pid cpu bytes known in
     let new = c.serve_and_try.new in
     let k = counts (g.C.Sink.puts c.tries.console) (g.C.Sink.puts new.console) (g.R.Sink.puts c.tries.report) (g.R.Sink.puts new.report) 0 in
     counts_from (λ (n : Counts). PartHands {T = Ran} (effect z) n (Err c.in-Err.fault)) (g.C.Sink.puts c.args.console.now) (g.C.Sink.puts new.console) (g.R.Sink.puts c.args.report.now) (g.R.Sink.puts new.report)
     (ap g.C.Sink.puts i.console) (ap g.R.Sink.puts i.report) (part_fault (effect z) k c.in-Err.fault
-    (part_from a b s t m n pid cpu bytes known view (i.bytes tells) c.tries.cpu i.cpu k (Err c.in-Err.fault)
-    (c.in-Err.ensures.part text may bytes known (subst IsTrue (sym i.told) tells) (ap (λ x. left_as text (g.I.Source.left x) (g.I.Source.past x)) i.input ∙ left) (record { avail = same.avail ∙ sym i.avail }))))
+    (part_from a b s t m n pid cpu bytes known view (i.bytes (c.in-Err.ensures.device.1 tells)) c.tries.cpu i.cpu k (Err c.in-Err.fault)
+    (c.in-Err.ensures.part text may bytes known tells (ap (λ x. left_as text (g.I.Source.left x) (g.I.Source.past x)) i.input ∙ left) (record { avail = same.avail ∙ sym i.avail }))))
 
 pub returns-in-Ok-Ran-clause-goes_on : goal.returns-in-Ok-Ran-clause-goes_on
 returns-in-Ok-Ran-clause-goes_on g c = rw c.tries.invariant.input at c.in-Ok-Ran.ensures.goes_on

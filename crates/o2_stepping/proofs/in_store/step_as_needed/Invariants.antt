@@ -22,16 +22,16 @@ invariant-tries g l =
       shape : SameShape l.fn.store l.fn.regions l.store l.regions;
       ready : IsReady (parts_of l.store l.regions l.images (S.blocks l.swap) (S.block l.swap));
       blocks : S.blocks l.swap ≡ S.blocks l.fn.swap;
-      told : S.told l.swap ≡ S.told l.fn.swap;
+      told : IsTrue (S.told l.swap) → IsTrue (S.told l.fn.swap);
       faults : S.faults l.fn.swap ≤ S.faults l.swap;
-      bytes : IsTrue (S.told l.fn.swap) → (n : ℕ) → bytes_with (away_of l.store l.regions l.images (S.blocks l.swap) (S.block l.swap)) l.store n
+      bytes : IsTrue (S.told l.swap) → (n : ℕ) → bytes_with (away_of l.store l.regions l.images (S.blocks l.swap) (S.block l.swap)) l.store n
           ≡ bytes_with (away_of l.fn.store l.fn.regions l.images (S.blocks l.fn.swap) (S.block l.fn.swap)) l.fn.store n;
       live : AreLive l.store l.need;
       seats : AreNeeded l.need (seated_in l.regions l.pid l.cpu);
       sizes : (k : ℕ) → size_in l.need k ≡ 0;
-      named : (bytes : List ℕ) (known : Known) → IsTrue (S.told l.fn.swap) → (n : ℕ) → is_in n (ages_of l.need) ≡ true
+      named : (bytes : List ℕ) (known : Known) → IsTrue (S.told l.swap) → (n : ℕ) → is_in n (ages_of l.need) ≡ true
           → is_in n (needed_names (before_in (away_of l.fn.store l.fn.regions l.images (S.blocks l.fn.swap) (S.block l.fn.swap)) l.fn.store l.fn.regions l.pid l.fn.cpu bytes known)) ≡ true;
-      left : (bytes : List ℕ) (known : Known) → IsTrue (S.told l.fn.swap)
+      left : (bytes : List ℕ) (known : Known) → IsTrue (S.told l.swap)
           → left_in (touched (before_in (away_of l.fn.store l.fn.regions l.images (S.blocks l.fn.swap) (S.block l.fn.swap)) l.fn.store l.fn.regions l.pid l.fn.cpu bytes known)) l.need + length l.need ≤ 7;
     }
 

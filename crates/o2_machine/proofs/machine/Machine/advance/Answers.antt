@@ -4,37 +4,37 @@ use Rattle.o2_machine.proofs.Hands.{one_line, failed_all, failed_spent}
 use Rattle.o2_machine.proofs.machine.Machine.advance.Goals as goal
 
 pub returns-in-Done-clause-turns : goal.returns-in-Done-clause-turns
-returns-in-Done-clause-turns g c = λ text may s w stands left.
-    closes_ended c.args.self.now _ _ _ _ s w _ _ _ _ stands (record { sched = c.next.ensures.same; avail = refl; budget = refl; bytes = refl; lines = refl }) refl left (sym c.next.ensures.pick ∙ c.in-AllEnded.is) c.in-Done.ensures.takes
+returns-in-Done-clause-turns g c = λ tells text may s w stands left.
+    closes_ended c.args.self.now _ _ _ s w _ _ _ _ stands (record { sched = c.next.ensures.same; avail = refl; budget = refl; bytes = refl; lines = refl }) refl left (sym c.next.ensures.pick ∙ c.in-AllEnded.is) c.in-Done.ensures.takes
 
 pub returns-in-Failed-clause-turns : goal.returns-in-Failed-clause-turns
-returns-in-Failed-clause-turns g c = λ text may s w stands left.
-    inr (ended_in_part c.args.self.now _ _ _ _ s w _ _ _ _ stands (record { sched = c.next.ensures.same; avail = refl; budget = refl; bytes = refl; lines = refl }) refl left (sym c.next.ensures.pick ∙ c.in-AllEnded.is) c.in-Failed.ensures.takes)
+returns-in-Failed-clause-turns g c = λ tells text may s w stands left.
+    inr (ended_in_part c.args.self.now _ _ _ s w _ _ _ _ stands (record { sched = c.next.ensures.same; avail = refl; budget = refl; bytes = refl; lines = refl }) refl left (sym c.next.ensures.pick ∙ c.in-AllEnded.is) c.in-Failed.ensures.takes)
 
 pub returns-in-Done-put-clause-turns : goal.returns-in-Done-put-clause-turns
-returns-in-Done-put-clause-turns g c = λ text may s w stands left.
-    closes_spent c.args.self.now _ _ _ _ s w _ _ _ _ stands (record { sched = c.next.ensures.same; avail = refl; budget = refl; bytes = refl; lines = refl }) refl left (sym c.next.ensures.pick ∙ c.in-BudgetSpent.is) c.in-Done-put.ensures.takes
+returns-in-Done-put-clause-turns g c = λ tells text may s w stands left.
+    closes_spent c.args.self.now _ _ _ s w _ _ _ _ stands (record { sched = c.next.ensures.same; avail = refl; budget = refl; bytes = refl; lines = refl }) refl left (sym c.next.ensures.pick ∙ c.in-BudgetSpent.is) c.in-Done-put.ensures.takes
 
 pub returns-in-Failed-put-clause-turns : goal.returns-in-Failed-put-clause-turns
-returns-in-Failed-put-clause-turns g c = λ text may s w stands left.
-    inr (spent_in_part c.args.self.now _ _ _ _ s w _ _ _ _ stands (record { sched = c.next.ensures.same; avail = refl; budget = refl; bytes = refl; lines = refl }) refl left (sym c.next.ensures.pick ∙ c.in-BudgetSpent.is) c.in-Failed-put.ensures.takes)
+returns-in-Failed-put-clause-turns g c = λ tells text may s w stands left.
+    inr (spent_in_part c.args.self.now _ _ _ s w _ _ _ _ stands (record { sched = c.next.ensures.same; avail = refl; budget = refl; bytes = refl; lines = refl }) refl left (sym c.next.ensures.pick ∙ c.in-BudgetSpent.is) c.in-Failed-put.ensures.takes)
 
 pub returns-in-Step-clause-turns : goal.returns-in-Step-clause-turns
-returns-in-Step-clause-turns g c = λ text may s w stands left.
-    c.step.ensures.turns text may s w (same_space _ c.args.self.now _ _ _ _ _ _ s w stands (record { sched = c.next.ensures.same; avail = refl; budget = refl; bytes = refl; lines = refl }) stands.told stands.space stands.set) left
+returns-in-Step-clause-turns g c = λ tells text may s w stands left.
+    c.step.ensures.turns tells text may s w (same_space _ c.args.self.now _ _ _ _ s w stands (record { sched = c.next.ensures.same; avail = refl; budget = refl; bytes = refl; lines = refl }) stands.space stands.set) left
 
 pub returns-in-Done-clause-puts : goal.returns-in-Done-clause-puts
-returns-in-Done-clause-puts g c = λ text may s w stands left. one_line _ _ _ _ c.in-Done.ensures.puts
+returns-in-Done-clause-puts g c = λ tells text may s w stands left. one_line _ _ _ _ c.in-Done.ensures.puts
 
 pub returns-in-Failed-clause-puts : goal.returns-in-Failed-clause-puts
-returns-in-Failed-clause-puts g c = λ text may s w stands left. failed_all c.args.self.now _ _ _ s w _ stands (one_line _ _ _ _ c.in-Failed.ensures.puts) (sym c.next.ensures.pick ∙ c.in-AllEnded.is)
+returns-in-Failed-clause-puts g c = λ tells text may s w stands left. failed_all c.args.self.now _ _ s w _ stands (one_line _ _ _ _ c.in-Failed.ensures.puts) (sym c.next.ensures.pick ∙ c.in-AllEnded.is)
 
 pub returns-in-Done-put-clause-puts : goal.returns-in-Done-put-clause-puts
-returns-in-Done-put-clause-puts g c = λ text may s w stands left. one_line _ _ _ _ c.in-Done-put.ensures.puts
+returns-in-Done-put-clause-puts g c = λ tells text may s w stands left. one_line _ _ _ _ c.in-Done-put.ensures.puts
 
 pub returns-in-Failed-put-clause-puts : goal.returns-in-Failed-put-clause-puts
-returns-in-Failed-put-clause-puts g c = λ text may s w stands left. failed_spent c.args.self.now _ _ _ s w _ stands (one_line _ _ _ _ c.in-Failed-put.ensures.puts) (sym c.next.ensures.pick ∙ c.in-BudgetSpent.is)
+returns-in-Failed-put-clause-puts g c = λ tells text may s w stands left. failed_spent c.args.self.now _ _ s w _ stands (one_line _ _ _ _ c.in-Failed-put.ensures.puts) (sym c.next.ensures.pick ∙ c.in-BudgetSpent.is)
 
 pub returns-in-Step-clause-puts : goal.returns-in-Step-clause-puts
-returns-in-Step-clause-puts g c = λ text may s w stands left.
-    c.step.ensures.puts text may s w (same_space _ c.args.self.now _ _ _ _ _ _ s w stands (record { sched = c.next.ensures.same; avail = refl; budget = refl; bytes = refl; lines = refl }) stands.told stands.space stands.set) left
+returns-in-Step-clause-puts g c = λ tells text may s w stands left.
+    c.step.ensures.puts tells text may s w (same_space _ c.args.self.now _ _ _ _ s w stands (record { sched = c.next.ensures.same; avail = refl; budget = refl; bytes = refl; lines = refl }) stands.space stands.set) left

@@ -32,54 +32,50 @@ pub act-requires-clause-together : goal.act-requires-clause-together
 act-requires-clause-together g c = c.requires.device.together
 
 pub returns-in-Err-Sink-clause-turns : goal.returns-in-Err-Sink-clause-turns
-returns-in-Err-Sink-clause-turns g c = λ text may s w stands left.
+returns-in-Err-Sink-clause-turns g c = λ tells text may s w stands left.
     let S = g.S.SwapDevice in
     let new = c.act.new in
-    let tells = subst (λ (b : Bool). IsTrue b) (sym c.act.ensures.device.1) stands.told in
-    inl (faulted c.args.self.now _ _ _ s w c.args.pid _ _ _ _ stands c.requires.pick c.requires.live _ (S.blocks new.swap) (S.told new.swap) (S.block new.swap) tells _ _
+    inl (faulted c.args.self.now _ _ s w c.args.pid _ _ _ _ stands c.requires.pick c.requires.live _ (S.blocks new.swap) (S.block new.swap) _ _
     (record { sched = refl; avail = c.act.ensures.avail; budget = refl; bytes = refl; lines = refl }) left (c.act.ensures.set s stands.set)
     (λ p at. subst (λ (f : Fault). ActsFault (before s w c.args.pid p) w (parts_in new.self (S.blocks new.swap) (S.block new.swap))
     (left_as text (g.I.Source.left c.args.input.now) (g.I.Source.past c.args.input.now)) (left_as text (g.I.Source.left new.input) (g.I.Source.past new.input))
     (g.C.Sink.taken c.args.console.now) (g.C.Sink.taken new.console) (g.R.Sink.taken c.args.report.now) (g.R.Sink.taken new.report) f) c.in-Err-Sink.field-0-is
-    (c.in-Err-Sink.ensures.acts text may s w p stands.told stands.space at left stands.known))
+    (c.in-Err-Sink.ensures.acts text may s w p tells stands.space at left stands.known))
     (λ chosen p at. subst (λ (f : Fault). FaultSays (S.blocks c.args.swap.now) s w f) c.in-Err-Sink.field-0-is
-    (c.in-Err-Sink.ensures.next_room text may s w p stands.told stands.space stands.set chosen at left stands.known)))
+    (c.in-Err-Sink.ensures.next_room text may s w p tells stands.space stands.set chosen at left stands.known)))
 
 pub returns-in-Err-Stopped-clause-turns : goal.returns-in-Err-Stopped-clause-turns
-returns-in-Err-Stopped-clause-turns g c = λ text may s w stands left.
+returns-in-Err-Stopped-clause-turns g c = λ tells text may s w stands left.
     let S = g.S.SwapDevice in
     let new = c.act.new in
-    let tells = subst (λ (b : Bool). IsTrue b) (sym c.act.ensures.device.1) stands.told in
-    stopped_by c.args.self.now _ _ _ s w c.args.pid _ _ _ _ stands c.requires.pick c.requires.live _ (S.blocks new.swap) (S.told new.swap) (S.block new.swap) tells
+    stopped_by c.args.self.now _ _ s w c.args.pid _ _ _ _ stands c.requires.pick c.requires.live _ (S.blocks new.swap) (S.block new.swap)
     c.in-Err-Stopped.why c.put_stop.result _ _ _
     (record { sched = refl; avail = c.act.ensures.avail; budget = refl; bytes = refl; lines = refl }) left (c.act.ensures.set s stands.set)
     (λ p at. subst (λ (f : Fault). ActsFault (before s w c.args.pid p) w (parts_in new.self (S.blocks new.swap) (S.block new.swap))
     (left_as text (g.I.Source.left c.args.input.now) (g.I.Source.past c.args.input.now)) (left_as text (g.I.Source.left new.input) (g.I.Source.past new.input))
     (g.C.Sink.taken c.args.console.now) (g.C.Sink.taken new.console) (g.R.Sink.taken c.args.report.now) (g.R.Sink.taken new.report) f) c.in-Err-Stopped.field-0-is
-    (c.in-Err-Stopped.ensures.acts text may s w p stands.told stands.space at left stands.known))
+    (c.in-Err-Stopped.ensures.acts text may s w p tells stands.space at left stands.known))
     (λ chosen p at. subst (λ (f : Fault). FaultSays (S.blocks c.args.swap.now) s w f) c.in-Err-Stopped.field-0-is
-    (c.in-Err-Stopped.ensures.next_room text may s w p stands.told stands.space stands.set chosen at left stands.known))
+    (c.in-Err-Stopped.ensures.next_room text may s w p tells stands.space stands.set chosen at left stands.known))
     c.put_stop.ensures.text c.put_stop.ensures.whole
 
 pub returns-then-ran-clause-turns : goal.returns-then-ran-clause-turns
-returns-then-ran-clause-turns g c = λ text may s w stands left.
+returns-then-ran-clause-turns g c = λ tells text may s w stands left.
     let S = g.S.SwapDevice in
     let new = c.act.new in
-    let tells = subst (λ (b : Bool). IsTrue b) (sym c.act.ensures.device.1) stands.told in
-    went c.args.self.now _ _ _ s w c.args.pid _ _ _ _ stands c.requires.pick c.requires.live c.stepped.new.self (S.blocks new.swap) (S.told new.swap) (S.block new.swap) tells _ new.self c.in-Ok.ran
+    went c.args.self.now _ _ s w c.args.pid _ _ _ _ stands c.requires.pick c.requires.live c.stepped.new.self (S.blocks new.swap) (S.block new.swap) _ new.self c.in-Ok.ran
     (record { space = c.stepped.ensures.space; avail = c.act.ensures.avail; budget = c.stepped.ensures.budget; bytes = c.stepped.ensures.bytes; lines = c.stepped.ensures.lines })
-    (c.act.ensures.set s stands.set) (λ p at. c.in-Ok.ensures.acts text may s w p stands.told stands.space at left stands.known)
-    (λ chosen p at. c.in-Ok.ensures.next_room text may s w p stands.told stands.space stands.set chosen at left stands.known) c.stepped.ensures.sched c.if-ran.true
+    (c.act.ensures.set s stands.set) (λ p at. c.in-Ok.ensures.acts text may s w p tells stands.space at left stands.known)
+    (λ chosen p at. c.in-Ok.ensures.next_room text may s w p tells stands.space stands.set chosen at left stands.known) c.stepped.ensures.sched c.if-ran.true
 
 pub returns-else-ran-clause-turns : goal.returns-else-ran-clause-turns
-returns-else-ran-clause-turns g c = λ text may s w stands left.
+returns-else-ran-clause-turns g c = λ tells text may s w stands left.
     let S = g.S.SwapDevice in
     let new = c.act.new in
-    let tells = subst (λ (b : Bool). IsTrue b) (sym c.act.ensures.device.1) stands.told in
-    inl (late c.args.self.now _ _ _ s w c.args.pid _ _ _ _ stands c.requires.pick c.requires.live c.stepped.new.self (S.blocks new.swap) (S.told new.swap) (S.block new.swap) tells _ new.self c.in-Ok.ran
+    inl (late c.args.self.now _ _ s w c.args.pid _ _ _ _ stands c.requires.pick c.requires.live c.stepped.new.self (S.blocks new.swap) (S.block new.swap) _ new.self c.in-Ok.ran
     (record { space = c.stepped.ensures.space; avail = c.act.ensures.avail; budget = c.stepped.ensures.budget; bytes = c.stepped.ensures.bytes; lines = c.stepped.ensures.lines })
-    (c.act.ensures.set s stands.set) (λ p at. c.in-Ok.ensures.acts text may s w p stands.told stands.space at left stands.known)
-    (λ chosen p at. c.in-Ok.ensures.next_room text may s w p stands.told stands.space stands.set chosen at left stands.known) c.stepped.ensures.sched c.if-ran.false)
+    (c.act.ensures.set s stands.set) (λ p at. c.in-Ok.ensures.acts text may s w p tells stands.space at left stands.known)
+    (λ chosen p at. c.in-Ok.ensures.next_room text may s w p tells stands.space stands.set chosen at left stands.known) c.stepped.ensures.sched c.if-ran.false)
 
 pub returns-in-Err-Stopped-clause-cause : goal.returns-in-Err-Stopped-clause-cause
 returns-in-Err-Stopped-clause-cause g c = caused_stop _ _ _ _ _ _ c.in-Err-Stopped.why c.in-Err-Stopped.field-0-is c.in-Err-Stopped.ensures.cause c.in-Err-Stopped.ensures.swap_stops
@@ -126,25 +122,25 @@ returns-else-ran-clause-device g c =
     }
 
 pub returns-in-Err-Sink-clause-puts : goal.returns-in-Err-Sink-clause-puts
-returns-in-Err-Sink-clause-puts g c = λ text may s w stands left.
-    failed_puts c.args.self.now _ _ _ s w c.args.pid None None None None stands c.requires.pick c.requires.live _ _ _ _
+returns-in-Err-Sink-clause-puts g c = λ tells text may s w stands left.
+    failed_puts c.args.self.now _ _ s w c.args.pid None None None None stands c.requires.pick c.requires.live _ _ _ _
     (λ p at. subst (λ (f : Fault). PartHands {T = Ran} (effect (before s w c.args.pid p))
     (counts (g.C.Sink.puts c.args.console.now) (g.C.Sink.puts c.act.new.console) (g.R.Sink.puts c.args.report.now) (g.R.Sink.puts c.act.new.report) 0) (Err f)) c.in-Err-Sink.field-0-is
-    (c.in-Err-Sink.ensures.part text may s w p stands.told stands.space at left stands.known))
+    (c.in-Err-Sink.ensures.part text may s w p tells stands.space at left stands.known))
 
 pub returns-in-Err-Stopped-clause-puts : goal.returns-in-Err-Stopped-clause-puts
-returns-in-Err-Stopped-clause-puts g c = λ text may s w stands left.
+returns-in-Err-Stopped-clause-puts g c = λ tells text may s w stands left.
     by_stop s w _ c.in-Err-Stopped.why
     (stop_line_put _ _ _ _ _ (length w.lines)
     (subst (λ (f : Fault). RanHands (counts (g.C.Sink.puts c.args.console.now) (g.C.Sink.puts c.act.new.console) (g.R.Sink.puts c.args.report.now) (g.R.Sink.puts c.act.new.report) 0) (Err f)) c.in-Err-Stopped.field-0-is c.in-Err-Stopped.ensures.puts)
     c.put_stop.ensures.puts)
 
 pub returns-then-ran-clause-puts : goal.returns-then-ran-clause-puts
-returns-then-ran-clause-puts g c = λ text may s w stands left.
-    went_puts c.args.self.now _ _ _ s w c.args.pid None None None None stands c.requires.pick c.requires.live _ _ _ _ c.in-Ok.ran.tally
-    (λ p at. (c.in-Ok.ensures.acts text may s w p stands.told stands.space at left stands.known).puts) c.in-Ok.ensures.puts
+returns-then-ran-clause-puts g c = λ tells text may s w stands left.
+    went_puts c.args.self.now _ _ s w c.args.pid None None None None stands c.requires.pick c.requires.live _ _ _ _ c.in-Ok.ran.tally
+    (λ p at. (c.in-Ok.ensures.acts text may s w p tells stands.space at left stands.known).puts) c.in-Ok.ensures.puts
 
 pub returns-else-ran-clause-puts : goal.returns-else-ran-clause-puts
-returns-else-ran-clause-puts g c = λ text may s w stands left.
-    late_puts c.args.self.now _ _ _ s w c.args.pid None None None None stands c.requires.pick c.requires.live _ _ _ _ c.in-Ok.ran.tally
-    (λ p at. (c.in-Ok.ensures.acts text may s w p stands.told stands.space at left stands.known).puts) c.in-Ok.ensures.puts
+returns-else-ran-clause-puts g c = λ tells text may s w stands left.
+    late_puts c.args.self.now _ _ s w c.args.pid None None None None stands c.requires.pick c.requires.live _ _ _ _ c.in-Ok.ran.tally
+    (λ p at. (c.in-Ok.ensures.acts text may s w p tells stands.space at left stands.known).puts) c.in-Ok.ensures.puts

@@ -1,0 +1,52 @@
+// The top call over files in memory and a device that always tells.
+ghost use Rattle.std.specs.Prelude.{◌⊎◌, ℕ, List, Option, Some, IsTrue};
+ghost use Rattle.o2_outer.specs.Contents.{file_in};
+ghost use Rattle.o2_outer.specs.Inputs.{IsSeenAs, MayBe, left_as, rest_of};
+ghost use Rattle.o2_outer.specs.Plans.{mem_files, mem_fetch_faults};
+ghost use Rattle.o2_outer.specs.Texts.{Rose};
+ghost use Rattle.o2_run.specs.Pieces.{counts};
+ghost use Rattle.o2_cli.specs.Checks.{Checks};
+ghost use Rattle.o2_cli.specs.Done.{Completes, CompletesCheck};
+ghost use Rattle.o2_cli.specs.Top.{Refuses, Shows, holding};
+
+use crate::{Status, os2run};
+use o2_outer::{MemFiles, Sink, Source, SwapDevice};
+use std::alloc::Global;
+
+/// `os2run` over files that are told before they are read and a device whose reads always give what was written last: what it says
+/// holds over just these files, with nothing supposed of the device.
+pub fn os2run_in_memory<I: Source, C: Sink, R: Sink, S: SwapDevice>(
+    alloc: Global,
+    words: &[String],
+    files: &mut MemFiles,
+    input: &mut I,
+    console: &mut C,
+    report: &mut R,
+    swap: &mut S,
+) -> Status
+    requires tells { (d : S) → IsTrue (S.told d) }
+    ensures refused { Refuses words.now (holding (file_in (mem_files files.old))) result }
+    ensures texts { Shows words.now (holding (file_in (mem_files files.old))) (S.blocks swap.old)
+        (I.left input.old) (I.left input.new) (C.taken console.old) (C.taken console.new)
+        (R.taken report.old) (R.taken report.new) (Rose (R.faults report.old) (R.faults report.new))
+        (counts (C.puts console.old) (C.puts console.new) (R.puts report.old) (R.puts report.new) 0) result }
+    ensures untold_texts { (text : List ℕ) → MayBe text (I.past input.new)
+        → Shows words.now (holding (file_in (mem_files files.old))) (S.blocks swap.old)
+        (Some (rest_of text (I.past input.old))) (Some (rest_of text (I.past input.new)))
+        (C.taken console.old) (C.taken console.new)
+        (R.taken report.old) (R.taken report.new) (Rose (R.faults report.old) (R.faults report.new))
+        (counts (C.puts console.old) (C.puts console.new) (R.puts report.old) (R.puts report.new) 0) result }
+    ensures lines { Checks words.now (holding (file_in (mem_files files.old)))
+        (C.taken console.old) (C.taken console.new) result }
+    ensures complete { (text : Option (List ℕ)) → IsSeenAs text (I.past input.new)
+        → Completes words.now (holding (file_in (mem_files files.old))) (S.blocks swap.old)
+        (left_as text (I.left input.old) (I.past input.old))
+        (Rose (mem_fetch_faults files.old) (mem_fetch_faults files.new)) (Rose (I.faults input.old) (I.faults input.new))
+        (Rose (C.faults console.old) (C.faults console.new) ⊎ Rose (R.faults report.old) (R.faults report.new))
+        (Rose (S.faults swap.old) (S.faults swap.new)) result }
+    ensures check_complete { CompletesCheck words.now (holding (file_in (mem_files files.old)))
+        (Rose (mem_fetch_faults files.old) (mem_fetch_faults files.new))
+        (Rose (C.faults console.old) (C.faults console.new) ⊎ Rose (R.faults report.old) (R.faults report.new)) result }
+{
+    os2run(alloc, words, files, input, console, report, swap)
+}
