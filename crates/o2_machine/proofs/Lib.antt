@@ -5,3 +5,4 @@ pub mod Devices
 pub mod FirstStands
 pub mod Hands
 pub mod StartPuts
+pub mod Slicing

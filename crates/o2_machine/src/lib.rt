@@ -6,6 +6,7 @@ mod counts;
 mod fault;
 mod last;
 mod machine;
+mod slice;
 mod turn;
 
 pub use fault::BeginFault;

@@ -1,0 +1,117 @@
+-- Steps of a turn that are done at once, as steps of the world.
+use Rattle.std.proofs.Common.{◌≡◌, ℕ, zero, suc, ◌+◌, ◌-◌, ◌<◌, ◌≤◌, ◌==◌, ◌&&◌, nat_lt, if◌then◌else◌, Bool, true, false, List, length, ap, sym, ◌∙◌, refl, subst, arith}
+use Rattle.std.specs.Prelude.{Option, Some, is_some, min}
+use Rattle.std.proofs.lemmas.Bool.{false≢true}
+use Rattle.o2_conf.specs.Dispatch.{Dispatch, live_script, lives, started}
+use Rattle.o2_slices.specs.Silent.{AreSilent, Slices}
+use Rattle.o2_sched.specs.Schedule.{Schedule, ahead_of, next_of}
+use Rattle.o2_slices.specs.Laters.{StandsLater, counted_by}
+use Rattle.o2_space.specs.Parts.{parts_in}
+use Rattle.o2_space.specs.declared.space.Space.{Space}
+use Rattle.o2_stands.specs.Stands.{IsSetTo, Stands}
+use Rattle.o2_world.specs.World.{Line, Setting, World}
+use Rattle.o2_world.specs.Run.{after, is_over, next_dispatch}
+use Rattle.o2_machine.specs.StandsFor.{StandsFor}
+use Rattle.o2_machine.specs.declared.last.Last.{Last}
+use Rattle.o2_machine.specs.declared.machine.Machine.{Machine}
+use Rattle.o2_machine.proofs.Turns.{any_is, any_of}
+
+console_stays : (s : Setting) (w : World) (k : ℕ) → AreSilent true s w k → (after s w k).console ≡ w.console
+console_stays s w zero x = refl
+console_stays s w (suc k) x = (x k (omega arith)).console ∙ console_stays s w k (λ j below. x j (omega (arith, below)))
+
+lines_stay : (s : Setting) (w : World) (k : ℕ) → AreSilent true s w k → (after s w k).lines ≡ w.lines
+lines_stay s w zero x = refl
+lines_stay s w (suc k) x = (x k (omega arith)).lines ∙ lines_stay s w k (λ j below. x j (omega (arith, below)))
+
+-- where there is no last answer
+pub no_answer : (o : Option Last) (last : Last) → is_some o ≡ false → o ≡ Some last → ⊥
+no_answer o last none e = (let some : is_some o ≡ true = ap is_some e in false≢true (sym none ∙ some))
+
+-- what may be taken at once is of a turn that was begun: fewer steps than it has left, and no more than the budget
+pub record IsBegun (s : Schedule) (k : ℕ) : Type 0 where
+  pub any : any_of s ≡ true
+  pub live : lives s.flags s.dispatch.current ≡ true
+  pub turn : k < s.dispatch.left
+  pub budget : k ≤ s.dispatch.budget
+  pub next : next_of s ≡ s.dispatch
+
+kept_if : (b : Bool) (x y : Dispatch) → b ≡ true → (if b then x else y) ≡ x
+kept_if b x y e = rw e refl
+
+by_tests : (a b c : Bool) (l n k : ℕ) → k ≡ (if a && (b && c) then min (l - 1) n else 0) → 0 < k → (a ≡ true) × ((b ≡ true) × ((c ≡ true) × (k ≡ min (l - 1) n)))
+by_tests true true true l n k e some = (refl, (refl, (refl, e)))
+by_tests true true false l n k e some = absurd (omega (arith, e, some))
+by_tests true false c l n k e some = absurd (omega (arith, e, some))
+by_tests false b c l n k e some = absurd (omega (arith, e, some))
+
+fewer : (l n k : ℕ) → k ≡ min (l - 1) n → 0 < k → k < l
+fewer l n k e some = omega (arith, e, some)
+
+within : (l n k : ℕ) → k ≡ min (l - 1) n → k ≤ n
+within l n k e = omega (arith, e)
+
+pub is_begun : (s : Schedule) (k : ℕ) → k ≡ ahead_of s → 0 < k → IsBegun s k
+is_begun s k is some =
+    let t = by_tests (any_of s) (nat_lt 1 s.dispatch.left) (lives s.flags s.dispatch.current) s.dispatch.left s.dispatch.budget k is some in
+    let turn : k < s.dispatch.left = fewer s.dispatch.left s.dispatch.budget k t.1.1.1 some in
+    record {
+      any = t.0;
+      live = t.1.1.0;
+      turn = turn;
+      budget = within s.dispatch.left s.dispatch.budget k t.1.1.1;
+      next = kept_if (nat_lt 0 s.dispatch.left && lives s.flags s.dispatch.current) s.dispatch (started s.quantum s.flags s.dispatch (live_script s.flags s.dispatch.script)) (rw t.1.1.0 (grind (arith, turn)));
+    }
+
+module _ (m : Machine) (device : ℕ) (told : Bool) (block : ℕ → List ℕ) (s : Setting) (w : World) (most : ℕ) (stands : StandsFor m device told block s w) (begun : IsBegun m.sched most) (some : 0 < most) where
+  next_is : next_dispatch s w ≡ m.sched.dispatch
+  next_is = rw (stands.flags, stands.dispatch, stands.quantum) begun.next
+
+  not_spent : (n : ℕ) → most ≤ n → (n == 0) ≡ false
+  not_spent n below = grind (arith, some, below)
+
+  pub runs_on : is_over w ≡ false
+  runs_on = rw (any_is m w true stands.flags begun.any, stands.dispatch, not_spent m.sched.dispatch.budget begun.budget) refl
+
+  pub chosen_is : (next_dispatch s w).current ≡ m.sched.dispatch.current
+  chosen_is = ap (λ (d : Dispatch). d.current) next_is
+
+  pub turn_left : most < (next_dispatch s w).left
+  turn_left = subst (λ (d : Dispatch). most < d.left) (sym next_is) begun.turn
+
+  pub budget_left : most ≤ w.dispatch.budget
+  budget_left = subst (λ (d : Dispatch). most ≤ d.budget) (sym stands.dispatch) begun.budget
+
+  -- the machine behind them
+  module _ (n : Machine) (left : Space) (k : ℕ) (later : StandsLater (parts_in left device block) s w k) (set : IsSetTo (parts_in left device block) s) (avail : left.services.avail ≡ m.space.services.avail)
+      (space : n.space ≡ left) (budget : n.budget ≡ m.budget) (bytes : n.console_bytes ≡ m.console_bytes) (lines : n.lines ≡ m.lines) where
+    now_at : n.sched.dispatch ≡ (after s w k).dispatch → n.sched.flags ≡ m.sched.flags → n.sched.quantum ≡ m.sched.quantum → StandsFor n device told block s (after s w k)
+    now_at dispatch flags quantum = record {
+      told = stands.told;
+      space = subst (λ (z : Space). Stands (parts_in z device block) (after s w k)) (sym space) later.stands;
+      set = subst (λ (z : Space). IsSetTo (parts_in z device block) s) (sym space) set;
+      flags = later.flags ∙ (stands.flags ∙ sym flags);
+      dispatch = sym dispatch;
+      quantum = stands.quantum ∙ sym quantum;
+      known = record { avail = stands.known.avail ∙ sym (ap (λ (z : Space). z.services.avail) space ∙ avail) };
+      budget = stands.budget ∙ sym budget;
+      console = ap (λ (l : List ℕ). length l) (console_stays s w k later.silent) ∙ (stands.console ∙ sym bytes);
+      lines = ap (λ (l : List Line). length l) (lines_stay s w k later.silent) ∙ (stands.lines ∙ sym lines);
+    }
+
+    pub some_steps : 0 < k → n.sched ≡ record m.sched { dispatch = counted_by k m.sched.dispatch } → Slices (StandsFor n device told block s) true s w k
+    some_steps some sched = record {
+      silent = later.silent;
+      stands =
+          now_at (ap (λ (z : Schedule). z.dispatch) sched ∙ (ap (counted_by k) (sym next_is) ∙ sym (later.dispatch some)))
+          (ap (λ (z : Schedule). z.flags) sched) (ap (λ (z : Schedule). z.quantum) sched);
+    }
+
+    -- where none is done
+    pub none_done : k ≡ 0 → n.sched ≡ m.sched → Slices (StandsFor n device told block s) true s w k
+    none_done none sched = record {
+      silent = later.silent;
+      stands =
+          now_at (ap (λ (z : Schedule). z.dispatch) sched ∙ (sym stands.dispatch ∙ ap (λ (j : ℕ). (after s w j).dispatch) (sym none)))
+          (ap (λ (z : Schedule). z.flags) sched) (ap (λ (z : Schedule). z.quantum) sched);
+    }
