@@ -1,9 +1,9 @@
 -- Steps of a turn that are done at once, as steps of the world.
 use Rattle.std.proofs.Common.{◌≡◌, ℕ, zero, suc, ◌+◌, ◌-◌, ◌<◌, ◌≤◌, ◌==◌, ◌&&◌, nat_lt, if◌then◌else◌, Bool, true, false, List, length, ap, sym, ◌∙◌, refl, subst, arith}
-use Rattle.std.specs.Prelude.{Option, Some, is_some, min}
+use Rattle.std.specs.Prelude.{Option, Some, None, is_some, min}
 use Rattle.std.proofs.lemmas.Bool.{false≢true}
 use Rattle.o2_conf.specs.Dispatch.{Dispatch, live_script, lives, started}
-use Rattle.o2_slices.specs.Silent.{AreSilent, Slices}
+use Rattle.o2_run.specs.Slice.{AreSilent, Slices}
 use Rattle.o2_sched.specs.Schedule.{Schedule, ahead_of, next_of}
 use Rattle.o2_slices.specs.Laters.{StandsLater, counted_by}
 use Rattle.o2_space.specs.Parts.{parts_in}
@@ -11,6 +11,8 @@ use Rattle.o2_space.specs.declared.space.Space.{Space}
 use Rattle.o2_stands.specs.Stands.{IsSetTo, Stands}
 use Rattle.o2_world.specs.World.{Line, Setting, World}
 use Rattle.o2_world.specs.Run.{after, is_over, next_dispatch}
+use Rattle.o2_run.specs.declared.steps.Turn.{Turn}
+use Rattle.o2_machine.specs.Lasts.{stopped_of}
 use Rattle.o2_machine.specs.StandsFor.{StandsFor}
 use Rattle.o2_machine.specs.declared.last.Last.{Last}
 use Rattle.o2_machine.specs.declared.machine.Machine.{Machine}
@@ -24,9 +26,10 @@ lines_stay : (s : Setting) (w : World) (k : ℕ) → AreSilent true s w k → (a
 lines_stay s w zero x = refl
 lines_stay s w (suc k) x = (x k (omega arith)).lines ∙ lines_stay s w k (λ j below. x j (omega (arith, below)))
 
--- where there is no last answer
-pub no_answer : (o : Option Last) (last : Last) → is_some o ≡ false → o ≡ Some last → ⊥
-no_answer o last none e = (let some : is_some o ≡ true = ap is_some e in false≢true (sym none ∙ some))
+-- where there is no last answer, none was final
+pub not_stopped : (o : Option Last) (turn : Turn) → is_some o ≡ false → stopped_of o ≡ Some turn → ⊥
+not_stopped None turn none e = cc
+not_stopped (Some last) turn none e = false≢true (sym none)
 
 -- what may be taken at once is of a turn that was begun: fewer steps than it has left, and no more than the budget
 pub record IsBegun (s : Schedule) (k : ℕ) : Type 0 where

@@ -1,18 +1,17 @@
 // Steps of a turn that are done at once.
-ghost use Rattle.std.specs.Prelude.{◌≡◌, ◌<◌, ◌+◌, ℕ, Bool, List, Some, true};
+ghost use Rattle.std.specs.Prelude.{◌≡◌, ◌<◌, ◌+◌, ℕ, Bool, List, true};
 ghost use Rattle.o2_sched.specs.Schedule.{ahead_of};
-ghost use Rattle.o2_slices.specs.Silent.{OverSome, Slices};
+ghost use Rattle.o2_run.specs.Slice.{OverSome, Slices};
 ghost use Rattle.o2_world.specs.World.{Setting, World};
 ghost use Rattle.o2_machine.specs.GoesOver.{GoesOver};
 ghost use Rattle.o2_machine.specs.StandsFor.{StandsFor};
 
-use crate::last::Last;
 use crate::machine::Machine;
 use o2_slices::slice_of;
 
 impl Machine {
     /// So many steps at most of the turn that was begun last, which are done at once; how many are done.
-    fn steps_at_once(&mut self, most: u32) -> u32
+    pub(crate) fn steps_at_once(&mut self, most: u32) -> u32
         requires most { most ≡ ahead_of self.old.sched }
         requires some { 0 < most }
         requires device { OverSome (GoesOver self.old.space self.old.sched.flags) }
@@ -28,29 +27,5 @@ impl Machine {
             self.sched.take(done);
         }
         done
-    }
-
-    /// Steps of one process within its turn that are done at once, one behind another; how many. It stops before a step that
-    /// isn't done at once, as it misses a segment, calls a service or raises an exception, before the last step of the turn, and
-    /// where the trap flag is set. So there may be none, as before the first step of a turn; behind a stop or an end there is none.
-    pub fn slice(&mut self) -> u32
-        requires device { OverSome (GoesOver self.old.space self.old.sched.flags) }
-        // They are as many steps of the boundless machine, none of which puts anything or takes anything from the input.
-        ensures steps { (device : ℕ) (told : Bool) (block : ℕ → List ℕ) (s : Setting) (w : World)
-            → StandsFor self.old device told block s w → Slices (StandsFor self.new device told block s) true s w result }
-        ensures device { (blocks : ℕ) → GoesOver self.old.space self.old.sched.flags blocks
-            → GoesOver self.new.space self.new.sched.flags blocks }
-        ensures left { self.new.sched.dispatch.budget + result ≡ self.old.sched.dispatch.budget }
-        ensures last { self.new.last ≡ self.old.last }
-        ensures same { (last : Last) → self.old.last ≡ Some last → self.new ≡ self.old }
-    {
-        if self.last.is_some() {
-            return 0;
-        }
-        let most = self.sched.ahead();
-        if most == 0 {
-            return 0;
-        }
-        self.steps_at_once(most)
     }
 }

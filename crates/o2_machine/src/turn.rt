@@ -182,4 +182,15 @@ impl Steps for Machine {
             }
         }
     }
+
+    fn slice(&mut self) -> u32 {
+        if self.last.is_some() {
+            return 0;
+        }
+        let most = self.sched.ahead();
+        if most == 0 {
+            return 0;
+        }
+        self.steps_at_once(most)
+    }
 }

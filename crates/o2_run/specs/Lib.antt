@@ -4,3 +4,4 @@ pub mod Stops
 pub mod Pieces
 pub mod Turn
 pub mod Ended
+pub mod Slice

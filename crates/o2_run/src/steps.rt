@@ -1,11 +1,12 @@
 // A machine that stands for a world, step by step.
-ghost use Rattle.std.specs.Prelude.{◌≡◌, ◌≤◌, ◌<◌, ◌⊎◌, ℕ, Bool, IsTrue, false, List, length, Option, Some, None};
+ghost use Rattle.std.specs.Prelude.{◌≡◌, ◌≤◌, ◌<◌, ◌+◌, ◌⊎◌, ℕ, Bool, IsTrue, false, List, length, Option, Some, None};
 ghost use Rattle.o2_outer.specs.Texts.{Rose};
 ghost use Rattle.o2_outer.specs.Inputs.{GoesOn, IsSeenAs, left_as};
 ghost use Rattle.o2_world.specs.World.{World, Setting};
 ghost use Rattle.o2_run.specs.declared.steps.Turn.{Turn};
 ghost use Rattle.o2_run.specs.Turn.{Turns, LineIs, Caused, OnRan, stopped_by, is_for_swap};
 ghost use Rattle.o2_run.specs.Pieces.{counts, TurnHands};
+ghost use Rattle.o2_run.specs.Slice.{OverSome, Slices};
 
 use o2_outer::{Sink, Source, SwapDevice};
 
@@ -43,7 +44,7 @@ pub enum Turn {
     SwapFault,
 }
 
-/// A machine that does the boundless machine's steps, one a turn.
+/// A machine that does the boundless machine's steps, one a turn, and before it those that are done at once.
 pub trait Steps {
     /// The settings and worlds that it stands for, over a device of so many blocks, which hold this.
     ghost stands: { Self → (blocks : ℕ) → (ℕ → List ℕ) → Setting → World → Type 0 };
@@ -114,4 +115,20 @@ pub trait Steps {
             (Rose (I.faults input.old) (I.faults input.new)) (Rose (S.faults swap.old) (S.faults swap.new)) result }
         ensures line { stopped self.old ≡ None → LineIs (line_put self.new) (Rose (R.faults report.old) (R.faults report.new)) result }
         ensures left { OnRan result (left self.new < left self.old) };
+
+    /// Steps of one process within its turn that are done at once, one behind another; how many. It stops before a step that
+    /// isn't done at once, as it misses a segment, calls a service or raises an exception, before the last step of the turn, and
+    /// where the trap flag is set. So there may be none.
+    fn slice(&mut self) -> u32
+        requires device { OverSome (fits self.old) }
+        // They are as many steps of the boundless machine, none of which puts anything or takes anything from the input.
+        ensures steps { (blocks : ℕ) (told : Bool) (block : ℕ → List ℕ) (s : Setting) (w : World)
+            → stands self.old blocks told block s w
+            → Slices (stands self.new blocks told block s) swaps s w result }
+        ensures stops { stopped self.new ≡ stopped self.old }
+        ensures device { (blocks : ℕ) → fits self.old blocks → fits self.new blocks }
+        ensures left { left self.new + result ≡ left self.old }
+
+        // Behind a stop or an end there is none.
+        ensures same { (t : Turn) → stopped self.old ≡ Some t → self.new ≡ self.old };
 }

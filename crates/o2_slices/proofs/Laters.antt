@@ -25,7 +25,7 @@ use Rattle.o2_world.proofs.Budget.{budget_after, not_over, step_runs}
 use Rattle.o2_world.proofs.Flags.{flags_after}
 use Rattle.o2_world.proofs.Quiet.{changed_plain, effect_quiet}
 use Rattle.o2_run.specs.Room.{Fits}
-use Rattle.o2_slices.specs.Silent.{AreSilent, IsSilent}
+use Rattle.o2_run.specs.Slice.{AreSilent, IsSilent}
 use Rattle.o2_stands.specs.Parts.{Parts, Running, running_of}
 use Rattle.o2_stands.specs.Stands.{AreLawful, IsReady, IsSetTo, Stands, StandsIn}
 use Rattle.o2_stands.specs.Moves.{with_running}

@@ -1,7 +1,7 @@
 -- The world that a space stands for behind some steps that are done at once.
 use Rattle.std.specs.Prelude.{◌≡◌, ◌<◌, ℕ, ◌-◌, true}
 use Rattle.o2_conf.specs.Dispatch.{Dispatch}
-use Rattle.o2_slices.specs.Silent.{AreSilent}
+use Rattle.o2_run.specs.Slice.{AreSilent}
 use Rattle.o2_stands.specs.Parts.{Parts}
 use Rattle.o2_stands.specs.Stands.{Stands}
 use Rattle.o2_world.specs.World.{Setting, World}

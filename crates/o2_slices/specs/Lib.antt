@@ -1,3 +1,2 @@
 pub mod Slices
-pub mod Silent
 pub mod Laters

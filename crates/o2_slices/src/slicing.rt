@@ -1,7 +1,7 @@
 // Steps of a process over a store that are done at once.
 ghost use Rattle.std.specs.Prelude.{◌≡◌, ◌<◌, ◌≤◌, ℕ, List, length, true, false};
 ghost use Rattle.o2_regions.specs.Lives.{lives};
-ghost use Rattle.o2_slices.specs.Silent.{OverSome};
+ghost use Rattle.o2_run.specs.Slice.{OverSome};
 ghost use Rattle.o2_stands.specs.Stands.{IsSetTo, Stands};
 ghost use Rattle.o2_world.specs.Run.{is_over, next_dispatch};
 ghost use Rattle.o2_world.specs.World.{Setting, World};

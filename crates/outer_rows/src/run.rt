@@ -119,6 +119,15 @@ impl Steps for Halting {
         self.last = Some((why, put));
         why.answer()
     }
+
+    fn slice(&mut self) -> u32 {
+        if self.last.is_some() {
+            return 0;
+        }
+        let done = self.steps / 2;
+        self.steps -= done;
+        done
+    }
 }
 
 /// How a run ends that is stopped so behind three steps, what it has put, and the same of a second run of the same machine.

@@ -1,9 +1,9 @@
 use Rattle.std.proofs.Common.{◌≡◌, ap, sym, ◌∙◌, refl, arith}
 use Rattle.o2_conf.specs.Dispatch.{lives}
 use Rattle.o2_sched.specs.Schedule.{Schedule}
-use Rattle.o2_machine.proofs.Slicing.{no_answer}
+use Rattle.o2_machine.proofs.Slicing.{not_stopped}
 use Rattle.o2_machine.proofs.Turns.{same_space}
-use Rattle.o2_machine.proofs.machine.Machine.slice.Goals as goal
+use Rattle.o2_machine.proofs.turn.MachineSteps.slice.Goals as goal
 
 pub returns-then-is_some-clause-steps : goal.returns-then-is_some-clause-steps
 returns-then-is_some-clause-steps c = λ device told block s w stands. record { silent = λ j below. absurd (omega (arith, below)); stands = stands }
@@ -15,7 +15,7 @@ returns-then-most-eq0-clause-steps c = λ device told block s w stands. record {
 }
 
 pub returns-then-most-eq0-clause-same : goal.returns-then-most-eq0-clause-same
-returns-then-most-eq0-clause-same c = λ last e. absurd (no_answer c.args.self.now.last last (sym c.is_some.ensures ∙ c.if-is_some.false) e)
+returns-then-most-eq0-clause-same c = λ last e. absurd (not_stopped c.args.self.now.last last (sym c.is_some.ensures ∙ c.if-is_some.false) e)
 
 pub returns-clause-steps : goal.returns-clause-steps
 returns-clause-steps c = λ device told block s w stands.
@@ -23,7 +23,7 @@ returns-clause-steps c = λ device told block s w stands.
     (same_space _ c.args.self.now _ _ _ _ _ _ s w stands (record { sched = c.ahead-most.ensures.same; avail = refl; budget = refl; bytes = refl; lines = refl }) stands.told stands.space stands.set)
 
 pub returns-clause-same : goal.returns-clause-same
-returns-clause-same c = λ last e. absurd (no_answer c.args.self.now.last last (sym c.is_some.ensures ∙ c.if-is_some.false) e)
+returns-clause-same c = λ last e. absurd (not_stopped c.args.self.now.last last (sym c.is_some.ensures ∙ c.if-is_some.false) e)
 
 pub returns-clause-device : goal.returns-clause-device
 returns-clause-device c = λ blocks goes.
