@@ -9,10 +9,16 @@ import trying
 from trying import ROOT, check_words, program, said, wrong
 
 
+def shown(bytes_):
+    """Bytes as a trace shows them."""
+    return "".join(chr(byte) if 32 <= byte < 127 else f"\\x{byte:02X}" for byte in bytes_)
+
+
 def check_trace():
-    """Each example's trace has the lines of its report, in their order, without the line of a status behind them; where NAME.trace stands
-    beside it, it is that."""
-    check_words("os2trace", ["exe"])
+    """Each example's trace has the lines of its report and the bytes of its console, in their order, without the line of a status behind
+    them; where NAME.trace stands beside it, it is that."""
+    options = ("--process <NUMBER>", "--from <STEP>", "--to <STEP>", "--selector <HEX>")
+    check_words("os2trace", ["exe"], {"exe": options, "run": options})
     for folder, _, files in sorted(os.walk(os.path.join(ROOT, "examples"))):
         for file in sorted(files):
             name, end = os.path.splitext(file)
@@ -28,14 +34,22 @@ def check_trace():
                 lines = [line for line in wanted.read().splitlines() if not line.startswith("os2run: ")]
                 if run.returncode or [line[2:] for line in text.splitlines() if line.startswith("| ")] != lines:
                     wrong(f"os2trace {verb} {what}: status {run.returncode}; the lines behind | aren't those of {file}")
+            if name + ".console" in files:
+                with open(os.path.join(folder, name + ".console"), "rb") as wanted:
+                    console = "".join(line[2:] for line in text.splitlines() if line.startswith("> "))
+                    if console != shown(wanted.read().replace(b"\n", b"")):
+                        wrong(f"os2trace {verb} {what}: what stands behind > isn't {name}.console: {console!r}")
             if name + ".trace" in files:
                 with open(os.path.join(folder, name + ".trace")) as wanted:
                     if text != wanted.read():
                         wrong(f"os2trace {verb} {what}: it isn't {name}.trace")
     choices()
+    last_lines()
     exceptions()
     pieces()
     first_input()
+    read_in_between()
+    written_by_another()
 
 
 def traced(code):
@@ -108,6 +122,36 @@ def first_input():
         wrong(f"os2trace, an input that stays open: early {bool(early)}, {text!r}")
 
 
+def read_in_between():
+    """What a call wrote into a segment is there at the step behind it: a selector that comes with the input, and isn't held."""
+    trying.count()
+    with open("reads.exe", "wb") as file:
+        file.write(ne.Listing("module READS\nstack 512\nstart 1:0000\nsegment 1 code\n0000  6A 00 1E 6A 00 6A 02 1E 6A 04\n"
+                              "000A  9A FF FF 00 00  call DosRead @000B far DOSCALLS.137\n000F  8E 06 00 00  mov es,[0]\nsegment 2 data auto size=16\n").file())
+    run = subprocess.run([program("os2trace"), "exe", "reads.exe"], input=b"\x34\x12", stdout=subprocess.PIPE)
+    lines = [line for line in run.stdout.decode("ascii").splitlines() if line.startswith("!")]
+    if lines != ["! exception 13, error code 1234"]:
+        wrong(f"os2trace, a selector that was read: {lines}")
+
+
+def written_by_another():
+    """And what another process wrote into bytes that both share, whose steps aren't shown. The first waits for a word, and loads it."""
+    trying.count()
+    programs = (("first", "83 3E 00 00 00 74 F9 8E 06 00 00"), ("second", "C7 06 00 00 34 12 F4"))
+    for name, code in programs:
+        with open(name + ".exe", "wb") as file:
+            file.write(ne.Listing(f"module {name.upper()}\nstack 512\nstart 1:0000\nsegment 1 code\n0000  B8 FF FF  mov ax @0001 selector SHARED.WORD\n"
+                                  f"0003  8E D8  mov ds,ax\n0005  {code}\nsegment 2 data auto size=16\n").file())
+    with open("shared.dll", "wb") as file:
+        file.write(ne.Listing("module SHARED library\nexport WORD 1:0000\nsegment 1 data shared size=16\n").file())
+    with open("both.toml", "w") as file:
+        file.write('memory = 1048576\nswap = 0\nsegments = 64\nbudget = 100\nquantum = 4\nmodules = ["first.exe", "second.exe", "shared.dll"]\n'
+                   '[[process]]\nmodule = "FIRST"\n[[process]]\nmodule = "SECOND"\n')
+    _, text = said("os2trace", "run", "--process", "1", "both.toml")
+    if [line for line in text.splitlines() if line.startswith("!")] != ["! exception 13, error code 1234"]:
+        wrong(f"os2trace, a selector that another process wrote: {text!r}")
+
+
 def exceptions():
     """What is told of an exception: its error code, and the segment registers of the operands that it may have come by."""
     for code, wanted in (
@@ -128,6 +172,9 @@ def exceptions():
         ("B8 2F 00 8E D0", "002C"),  # mov ss,2Fh
         ("68 37 12 6A 00 CB", "1234"),  # retf to 1237:0000
         ("CD 21", "010A"),  # int 21h
+        ("BB 00 00 C7 07 FF FF FF 17", "0000"),  # mov bx,0; mov word [bx],FFFFh; call [bx]
+        ("BB 00 00 FF 1F", "0000"),  # mov bx,0; call far [bx], to an empty selector
+        ("BB 00 00 8E 17", "0000"),  # mov bx,0; mov ss,[bx], which is empty
     ):
         trying.count()
         lines = [line for line in traced(code) if line.startswith("!")]
@@ -135,18 +182,56 @@ def exceptions():
             wrong(f"os2trace, {code}: {lines}; wanted {wanted}")
 
 
+def pieces_of(trace):
+    """A trace in pieces: what stands before the first step, each step with what stands behind it, and the last line of the run."""
+    lines = trace.splitlines(keepends=True)
+    front, steps = "", []
+    for line in lines[:-1]:
+        if re.match(r"\d", line):
+            steps.append(line)
+        elif steps:
+            steps[-1] += line
+        else:
+            front += line
+    return front, steps, lines[-1]
+
+
 def choices():
-    """Options choose among the steps of a whole trace, and change none."""
+    """Options choose among the steps of a whole trace, with what stands behind each, and change none. The lines of the starts stand in front
+    of them, and the last line behind them, where the trace comes to it."""
     examples = os.path.join(ROOT, "examples")
     _, whole = said("os2trace", "run", "two.toml", cwd=examples)
-    steps = [line for line in whole.splitlines() if re.match(r"\d", line)]
-    for words, wanted in (
-        (["--process", "2"], [line for line in steps if line.startswith("2 ")]),
-        (["--from", "3", "--to", "6"], steps[2:6]),
-        (["--selector", "000F"], [line for line in steps if " 000F:" in line]),
-        (["--selector", "0017"], []),
+    front, steps, last = pieces_of(whole)
+    for words, wanted, end in (
+        (["--process", "2"], [step for step in steps if step.startswith("2 ")], last),
+        (["--from", "3", "--to", "6"], steps[2:6], ""),
+        (["--to", str(len(steps))], steps, ""),
+        (["--to", str(len(steps) + 1)], steps, last),
+        (["--from", str(len(steps) + 1)], [], last),
+        (["--process", "1", "--from", "4"], [step for step in steps[3:] if step.startswith("1 ")], last),
+        (["--selector", "000F"], [step for step in steps if " 000F:" in step], last),
+        (["--selector", "f"], [step for step in steps if " 000F:" in step], last),
+        (["--selector", "0017"], [], last),
     ):
         trying.count()
-        _, text = said("os2trace", "run", *words, "two.toml", cwd=examples)
-        if [line for line in text.splitlines() if re.match(r"\d", line)] != wanted:
-            wrong(f"os2trace {' '.join(words)}: {text!r}")
+        if said("os2trace", "run", *words, "two.toml", cwd=examples) != (0, front + "".join(wanted) + end):
+            wrong(f"os2trace {' '.join(words)}: {said('os2trace', 'run', *words, 'two.toml', cwd=examples)}")
+
+
+def last_lines():
+    """How a run ends that isn't over by itself: its last line, and status 0. Whether the step before which it stops is shown doesn't matter."""
+    files = {"budget spent": ("budget = 4", "1 000F:"), "stop room": ("memory = 4096", "")}
+    for line, (change, step) in files.items():
+        key = change.split(" ")[0]
+        text = 'memory = 1048576\nswap = 0\nsegments = 64\nbudget = 100\nquantum = 4\nmodules = ["large.exe"]\n[[process]]\nmodule = "LARGE"\n'
+        with open("large.exe", "wb") as file:
+            file.write(ne.Listing("module LARGE\nstack 512\nstart 1:0000\nsegment 1 code\n0000  EB FE\nsegment 2 data auto size=8000\n").file())
+        with open("last.toml", "w") as file:
+            file.write(re.sub(f"{key} = .*", change, text))
+        for words in ([], ["--process", "2"]):
+            trying.count()
+            status, trace = said("os2trace", "run", *words, "last.toml")
+            lines = trace.splitlines()
+            shown_steps = [row for row in lines if re.match(r"\d", row)]
+            if status or lines[-1] != "| " + line or len(shown_steps) != (4 if step and not words else 0):
+                wrong(f"os2trace {' '.join(words)}, {line}: status {status}, {trace!r}")

@@ -1,3 +1,4 @@
+pub mod Lines
 pub mod Changes
 pub mod Chosen
 pub mod Going

@@ -1,5 +1,5 @@
 // The steps of a run, each with what the processor answers to it, which is asked before it is taken: a step that ends its process
-// leaves nothing to look at.
+// leaves nothing to look at. It is asked over a copy of what the process holds.
 ghost use Rattle.std.specs.Prelude.{◌≡◌, ◌≤◌, ◌<◌, length, IfSome};
 ghost use Rattle.o2_conf.specs.Limits.{IsWithinLimits};
 ghost use Rattle.o2_open.specs.Loads.{HasEnvironments, IsLinked};
@@ -8,7 +8,7 @@ ghost use Rattle.os2trace.specs.Chosen.{is_chosen, next_of};
 ghost use Rattle.os2trace.specs.Going.{IsGoing};
 
 use crate::command::Choice;
-use crate::reading::bytes_of;
+use crate::reading::{bytes_of, ten_at};
 use crate::show::{Before, show_exception, show_step};
 use o2_base::{Bytes, NoMemory, Selector};
 use o2_bus::Plain;
@@ -38,12 +38,22 @@ fn sink(alloc: Global, room: usize) -> Result<MemSink, AllocError> {
     }
 }
 
+/// A memory in which a process holds what it holds in the machine.
+#[derive(Drop)]
+struct Copied {
+    process: u16,
+    memory: Plain,
+}
+
 /// A machine with its input and its swap device.
 #[derive(Drop)]
 struct Runner {
     machine: Machine,
     input: SureSource,
     swap: SureSwap,
+    /// What the process of the last step holds, where the processor was asked for that step and has done it. A call of a service may
+    /// change what a process holds, and the step of another one the bytes that they share.
+    copied: Option<Copied>,
 }
 
 impl Runner {
@@ -110,19 +120,16 @@ impl Runner {
         requires going { IsGoing self.old.machine self.old.swap }
         ensures going { IsGoing self.new.machine self.new.swap }
     {
-        let mut ten = [0u8; 10];
         let Some(id) = self.named(process, Selector(selector)) else {
-            return (ten, 0);
+            return ([0u8; 10], 0);
         };
-        let Some(bytes) = self.bytes(alloc, id) else {
-            return (ten, 0);
-        };
-        let Some((_, code)) = bytes.as_slice().split_at_checked(at as usize) else {
-            return (ten, 0);
-        };
-        let count = code.len().min(10);
-        ten[..count].copy_from_slice(&code[..count]);
-        (ten, count)
+        if let Some(window) = self.machine.space.store.window(id) {
+            return ten_at(window, at);
+        }
+        match self.bytes(alloc, id) {
+            Some(bytes) => ten_at(bytes.as_slice(), at),
+            None => ([0u8; 10], 0),
+        }
     }
 
     /// The step that is next, none at the end of the run.
@@ -177,16 +184,34 @@ impl Runner {
         Ok(())
     }
 
+    /// The memory of a process: that in which its last step was done, or a new copy.
+    fn memory_of(&mut self, alloc: Global, process: u16) -> Result<Plain, NoMemory>
+        requires going { IsGoing self.old.machine self.old.swap }
+        ensures going { IsGoing self.new.machine self.new.swap }
+    {
+        if let Some(copied) = self.copied.take() {
+            if copied.process == process {
+                return Ok(copied.memory);
+            }
+        }
+        self.copy_of(alloc, process)
+    }
+
     /// What the processor answers to a step.
     fn answer_of(&mut self, alloc: Global, before: &Before) -> Result<Outcome, AllocError>
         requires going { IsGoing self.old.machine self.old.swap }
         ensures going { IsGoing self.new.machine self.new.swap }
     {
-        let Ok(mut copy) = self.copy_of(alloc, before.process) else {
+        let process = before.process;
+        let Ok(mut memory) = self.memory_of(alloc, process) else {
             return Err(AllocError);
         };
         let mut cpu = before.cpu;
-        Ok(step_plain(&mut copy, before.process, &mut cpu))
+        let answer = step_plain(&mut memory, process, &mut cpu);
+        if matches!(answer, Outcome::Done) {
+            self.copied = Some(Copied { process, memory });
+        }
+        Ok(answer)
     }
 }
 
@@ -226,6 +251,7 @@ fn front(alloc: Global, session: Session, input: &[u8], report: &mut MemSink) ->
             machine,
             input: SureSource::new(bytes),
             swap,
+            copied: None,
         }),
     }
 }
@@ -291,6 +317,7 @@ fn unseen_step(rt: &HostRuntime, runner: &mut Runner) -> anyhow::Result<Turn>
 {
     let mut console = sink(rt.alloc(), STEP_ROOM)?;
     let mut report = sink(rt.alloc(), STEP_ROOM)?;
+    runner.copied = None;
     let turn = runner.turn(&mut console, &mut report);
     if !matches!(turn, Turn::Ran) {
         print_lines(rt, "|", report.taken())?;

@@ -36,7 +36,12 @@ fn trace(rt: &HostRuntime, verb: Verb, found: &ArgMatches<'_>) -> anyhow::Result
         eprintln!(rt; "os2trace: a selector is a hexadecimal number from 1 to FFFF, as 000F")?;
         return Ok(ExitCode::from(MISUSED));
     };
-    let name = file_name(rt.alloc(), found.get_str("FILE").unwrap_or(""))?;
+    let file = found.get_str("FILE").unwrap_or("");
+    if file.is_empty() || file.starts_with('-') {
+        eprintln!(rt; "os2trace: a name that is empty or begins with - is none of a file")?;
+        return Ok(ExitCode::from(MISUSED));
+    }
+    let name = file_name(rt.alloc(), file)?;
     let mut files = FolderFiles::new(rt);
     match open(rt.alloc(), verb, &mut files, &name) {
         Err(OpenFault::FileFault) => anyhow::bail!("a file can't be read"),

@@ -58,6 +58,17 @@ fn fill<S: SwapDevice>(space: &Space, id: SegId, swap: &mut S, bytes: &mut [u8])
     }
 }
 
+/// Ten bytes from a place on, and how many of them there are.
+pub fn ten_at(bytes: &[u8], at: u16) -> ([u8; 10], usize) {
+    let mut ten = [0u8; 10];
+    let Some((_, rest)) = bytes.split_at_checked(at as usize) else {
+        return (ten, 0);
+    };
+    let count = rest.len().min(10);
+    ten[..count].copy_from_slice(&rest[..count]);
+    (ten, count)
+}
+
 /// The bytes of a segment, wherever they lie; none where it isn't live.
 pub fn bytes_of<S: SwapDevice>(
     alloc: Global,

@@ -1,12 +1,15 @@
 // The lines of a trace.
-ghost use Rattle.std.specs.Prelude.{◌≡◌, ◌++◌, ◌<◌, IfOk, IfSome, OnOk, string_bytes};
+ghost use Rattle.std.specs.Prelude.{◌≡◌, ◌≤◌, ◌++◌, [], IfOk, IfNone, IfSome, OnOk, string_bytes};
+ghost use Rattle.o2_text.specs.Text.{text_of};
+ghost use Rattle.o2_tool.specs.Text.{shown_text};
 ghost use Rattle.os2trace.specs.Changes.{change_text, general_text, pointers_text, segments_text, changes_text};
+ghost use Rattle.os2trace.specs.Lines.{at_ip, code_text, next_ip, shown_count, step_text};
 
 use o2_base::NoMemory;
 use o2_decode::decode;
 use o2_isa::{Arg, Cpu, Decoded, Instr, Op, Outcome, Sreg};
 use o2_text::line;
-use o2_tool::{Hex, Shown, filling};
+use o2_tool::{Hex, Shown, blanks, filling};
 use std::alloc::{AllocError, Global};
 use std::io;
 
@@ -19,15 +22,11 @@ pub struct Before {
     pub count: usize,
 }
 
-/// The instruction of a step, and how many bytes it has.
-fn instruction(before: &Before) -> Option<(Instr, usize)>
-    ensures { IfSome result (λ p. p.1 < 256) }
+/// What the bytes at CS:IP spell.
+fn spelled(before: &Before) -> Decoded
+    ensures { result ≡ at_ip before.now }
 {
-    let count = if before.count < 10 { before.count } else { 10 };
-    match decode(&before.bytes[..count]) {
-        Decoded::One(instr, len) => Some((instr, len as usize)),
-        _ => None,
-    }
+    decode(&before.bytes[..before.count.min(10)])
 }
 
 /// Adds a register that has changed.
@@ -99,36 +98,96 @@ fn changes(alloc: Global, old: &Cpu, new: &Cpu, next: u16) -> Result<String, All
 }
 
 /// The text of an instruction with this IP behind it.
-fn text_of(alloc: Global, instr: &Instr, next: u16) -> Result<String, AllocError> {
+fn text_of(alloc: Global, instr: &Instr, next: u16) -> Result<String, AllocError>
+    ensures { IfOk result (λ s. string_bytes s ≡ shown_text (text_of instr.now next)) }
+{
     match line(alloc, instr, next) {
         Ok(text) => format!(in alloc; "{}", Shown(text.as_slice())),
         Err(NoMemory) => Err(AllocError),
     }
 }
 
-/// A step that was taken: process, CS:IP, bytes, text, and the registers that it changed; of one that ended its process, none.
-pub fn show_step(rt: &HostRuntime, before: &Before, after: Option<&Cpu>) -> anyhow::Result<()> {
-    let alloc = rt.alloc();
-    let old = &before.cpu;
-    let (text, count, next) = match instruction(before) {
-        None => (String::from_str(alloc, "no instruction")?, 10, old.ip),
-        Some((instr, count)) => {
-            let next = ((old.ip as usize + count) % 65536) as u16;
-            (text_of(alloc, &instr, next)?, count, next)
-        }
-    };
-    let changed = match after {
-        None => String::new(alloc),
-        Some(new) => changes(alloc, old, new, next)?,
-    };
-    let count = count.min(before.count).min(10);
-    let (code, rest) = (Hex(&before.bytes[..count]), filling(count));
-    let (process, cs, ip) = (before.process, old.cs, old.ip);
-    if changed.is_empty() {
-        println!(rt; "{process} {cs:04X}:{ip:04X} {code}{rest} {text}")?;
-    } else {
-        println!(rt; "{process} {cs:04X}:{ip:04X} {code}{rest} {text:<32}{changed}")?;
+/// The IP behind the instruction at this one.
+#[tactic(auto, unfolding(crate::specs::Lines::next_ip))]
+fn next_ip(ip: u16, decoded: &Decoded) -> u16
+    ensures { result ≡ next_ip ip decoded.now }
+{
+    match decoded {
+        Decoded::One(_, count) => ((ip as u32 + *count as u32) % 65536) as u16,
+        Decoded::Invalid => ip,
+        Decoded::TooLong => ip,
+        Decoded::Need => ip,
     }
+}
+
+/// The text of the instruction, or that there is none.
+#[tactic(auto, unfolding(crate::specs::Lines::code_text))]
+fn code_text(alloc: Global, ip: u16, decoded: &Decoded) -> Result<String, AllocError>
+    ensures { IfOk result (λ s. string_bytes s ≡ code_text ip decoded.now) }
+{
+    match decoded {
+        Decoded::One(instr, count) => {
+            let next = ((ip as u32 + *count as u32) % 65536) as u16;
+            text_of(alloc, instr, next)
+        }
+        Decoded::Invalid => String::from_str(alloc, "no instruction"),
+        Decoded::TooLong => String::from_str(alloc, "no instruction"),
+        Decoded::Need => String::from_str(alloc, "no instruction"),
+    }
+}
+
+/// How many bytes are shown: those of the instruction, or all that were looked at.
+#[tactic(auto, unfolding(crate::specs::Lines::shown_count))]
+fn shown_count(known: usize, decoded: &Decoded) -> usize
+    ensures exact { result ≡ shown_count known decoded.now }
+    ensures within { result ≤ known }
+{
+    match decoded {
+        Decoded::One(_, count) => known.min(*count as usize),
+        Decoded::Invalid => known,
+        Decoded::TooLong => known,
+        Decoded::Need => known,
+    }
+}
+
+/// The line of a step: process, CS:IP, bytes, text, and what the step changed.
+#[tactic(auto, using(std::proofs::Common::append_assoc))]
+fn step_line(alloc: Global, before: &Before, changed: &str) -> Result<String, AllocError>
+    ensures { IfOk result (λ s. string_bytes s ≡ step_text before.now changed.now) }
+{
+    let decoded = spelled(before);
+    let text = code_text(alloc, before.cpu.ip, &decoded)?;
+    let count = shown_count(before.count.min(10), &decoded);
+    let (code, rest) = (Hex(&before.bytes[..count]), filling(count));
+    let (process, cs, ip) = (before.process, before.cpu.cs, before.cpu.ip);
+    if changed.is_empty() {
+        format!(in alloc; "{process} {cs:04X}:{ip:04X} {code}{rest} {text}")
+    } else {
+        let gap = blanks(32 - text.len().min(32));
+        format!(in alloc; "{process} {cs:04X}:{ip:04X} {code}{rest} {text}{gap}{changed}")
+    }
+}
+
+/// The registers that a step changed; of one that ended its process, none.
+fn changes_behind(alloc: Global, before: &Before, after: Option<&Cpu>) -> Result<String, AllocError>
+    ensures ended { IfOk result (λ s. IfNone after.entry (string_bytes s ≡ [])) }
+    ensures done { IfOk result (λ s. IfSome after.entry (λ new. string_bytes s
+        ≡ changes_text before.now.cpu new.now (next_ip before.now.cpu.ip (at_ip before.now)))) }
+{
+    match after {
+        None => Ok(String::new(alloc)),
+        Some(new) => {
+            let next = next_ip(before.cpu.ip, &spelled(before));
+            changes(alloc, &before.cpu, new, next)
+        }
+    }
+}
+
+/// Shows a step that was taken, in a line.
+pub fn show_step(rt: &HostRuntime, before: &Before, after: Option<&Cpu>) -> anyhow::Result<()> {
+    let changed = changes_behind(rt.alloc(), before, after)?;
+    let line = step_line(rt.alloc(), before, changed.as_str())?;
+    println!(rt; "{line}")?;
     Ok(())
 }
 
@@ -150,7 +209,11 @@ fn segments_of(instr: &Instr) -> (Option<Sreg>, Option<Sreg>) {
         Op::OpStos | Op::OpScas => (Some(Sreg::Es), None),
         // what only a system may do is refused before its operand is looked at
         Op::OpLgdt | Op::OpLidt | Op::OpLldt | Op::OpLtr | Op::OpLmsw => (None, None),
+        // the target that is read may be what is refused
+        Op::OpCallAt | Op::OpJmpAt | Op::OpCallFarAt | Op::OpJmpFarAt => (None, None),
         _ => match (&instr.left, &instr.right) {
+            // so may an empty selector for SS
+            (Arg::S(Sreg::Ss), _) => (None, None),
             (Arg::M(ea), _) => (Some(ea.seg), None),
             (_, Arg::M(ea)) => (Some(ea.seg), None),
             _ => (None, None),
@@ -159,7 +222,7 @@ fn segments_of(instr: &Instr) -> (Option<Sreg>, Option<Sreg>) {
 }
 
 /// The segment registers by which an instruction may have ended in an exception: that of the stack, or those of its operands. There is
-/// none where the error code is a selector, or where LOCK isn't allowed.
+/// none where the error code is a selector, where LOCK isn't allowed, and where it may have ended so by something else, too.
 fn segments_by(vector: u8, code: u16, instr: &Instr) -> (Option<Sreg>, Option<Sreg>) {
     if vector == 12 {
         return (Some(Sreg::Ss), None);
@@ -172,7 +235,7 @@ fn segments_by(vector: u8, code: u16, instr: &Instr) -> (Option<Sreg>, Option<Sr
 
 /// The segment registers by which an instruction may have ended in an exception, where there are any.
 fn show_segments(rt: &HostRuntime, before: &Before, vector: u8, code: u16) -> io::Result<()> {
-    let Some((instr, _)) = instruction(before) else {
+    let Decoded::One(instr, _) = spelled(before) else {
         return Ok(());
     };
     let (first, second) = segments_by(vector, code, &instr);
