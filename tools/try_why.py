@@ -33,6 +33,12 @@ TITLES = {
     "machine file, a process of no module": "a process runs the module hello.exe, which no file of `modules` is",
 }
 FAULTS = {1: "it is no TOML document", 2: "is missing", 3: "has another type or form", 4: "is outside its limits"}
+# The limits of each key, as the page os2run(5) has them.
+LIMITS = {
+    "file": "1,048,576", "memory": "a multiple of 16 from 4,096 to 16,777,216", "swap": "0 to 65,536", "segments": "1 to 65,535", "budget": "0 to 4,000,000,000",
+    "quantum": "1 to 1,000,000", "avail": "0 to 4,294,967,295", "modules": "1 to 64, each of 1 to 255 bytes", "process": "1 to 64", "process.module": "1 to 255 bytes",
+    "process.environment": "at most 65,536 bytes", "ordinals": "1 to 65,535", "script": "at most 100,000 words, of a process 1 to 65,535 with 1 to 4,000,000,000 steps",
+}
 # The keys that each of these faults can have.
 NEEDED = ["memory", "swap", "segments", "budget", "quantum", "modules", "process", "process.module"]
 READ = [*NEEDED, "avail", "process.environment", "ordinals", "script"]
@@ -42,7 +48,7 @@ seen = set()
 
 
 def fault_of(reason, key):
-    return ("it isn't opened: the machine file is refused\n", f"\n  reason {reason} {key}: ", FAULTS[reason], f"`{key}`" if key else "")
+    return ("it isn't opened: the machine file is refused\n", f"\n  reason {reason} {key}: ", FAULTS[reason], f"`{key}`" if key else "", LIMITS[key] if reason == 4 else "")
 
 
 def sentence_of(title, status, line):

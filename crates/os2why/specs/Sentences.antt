@@ -164,7 +164,7 @@ limits_text key.ProcessModule = codes "it has 1 to 255 bytes"
 limits_text key.ProcessArguments = codes "it has no zero byte"
 limits_text key.ProcessEnvironment = codes "with the module's name and the arguments it makes a segment of at most 65,536 bytes"
 limits_text key.Ordinals = codes "an ordinal is 1 to 65,535"
-limits_text key.Script = codes "there are at most 100,000 words, of a process 1 to 64 with 1 to 1,000,000 steps"
+limits_text key.Script = codes "there are at most 100,000 words, of a process 1 to 65,535 with 1 to 4,000,000,000 steps"
 
 -- why a machine file is refused
 abbrev pub machine_words : MachineFault → List ℕ

@@ -16,7 +16,7 @@ use o2_base::{Bytes, NoMemory};
 use o2_open::OpenFault;
 use o2_outer::FolderFiles;
 use o2_tool::{MISUSED, REFUSED, answered, ended, file_name, words};
-use o2_words::Verb;
+use o2_words::{Verb, is_command};
 use std::process::ExitCode;
 
 /// What the sentence of a refusal goes by beside it.
@@ -60,13 +60,25 @@ fn say(rt: &HostRuntime, verb: Verb, file: &str) -> anyhow::Result<ExitCode> {
     }
 }
 
-/// What the matched words ask for.
-fn obey(rt: &HostRuntime, matches: &ArgMatches<'_>) -> anyhow::Result<ExitCode> {
+/// The words behind the program's name.
+fn behind_name(words: &[String]) -> &[String] {
+    match words {
+        [_, rest @ ..] => rest,
+        [] => &[],
+    }
+}
+
+/// What the matched words ask for. A name that is empty or begins with a dash is none to `os2run`.
+fn obey(rt: &HostRuntime, words: &[String], matches: &ArgMatches<'_>) -> anyhow::Result<ExitCode> {
     let Some((verb, found)) = matches.subcommand() else {
         return Ok(ExitCode::SUCCESS);
     };
     if verb == "imports" {
         return imports::inventory(rt, found);
+    }
+    if !is_command(behind_name(words)) {
+        eprintln!(rt; "os2why: these words are no command of os2run")?;
+        return Ok(ExitCode::from(MISUSED));
     }
     let file = found.get_str("FILE").unwrap_or("");
     if verb == "run" {
@@ -81,7 +93,7 @@ fn run(rt: &HostRuntime) -> anyhow::Result<ExitCode> {
         return Ok(ExitCode::from(MISUSED));
     };
     match command::program(rt.alloc())?.try_get_matches_from(words.as_slice()) {
-        Ok(matches) => obey(rt, &matches),
+        Ok(matches) => obey(rt, words.as_slice(), &matches),
         Err(error) => Ok(answered(rt, &error)?),
     }
 }

@@ -357,7 +357,7 @@ fn limits(key: Key) -> &'static str
         }
         Key::Ordinals => "an ordinal is 1 to 65,535",
         Key::Script => {
-            "there are at most 100,000 words, of a process 1 to 64 with 1 to 1,000,000 steps"
+            "there are at most 100,000 words, of a process 1 to 65,535 with 1 to 4,000,000,000 steps"
         }
     }
 }
