@@ -1,0 +1,5 @@
+pub mod Fields
+pub mod Segments
+pub mod Processes
+pub mod Image
+pub mod Readings

@@ -1,0 +1,113 @@
+// The swap blocks of a segment.
+ghost use Rattle.std.specs.Prelude.{◌≡◌, ◌+◌, ◌*◌, ◌≤◌, ◌<◌, ◌^◌, ℕ, [], ◌∷◌, length, vec_len, IfOk, OnOk};
+ghost use Rattle.std.specs.List.{list_any};
+ghost use Rattle.o2_ne.specs.Checks.{all_hold};
+ghost use Rattle.o2_ne.specs.Steps.{Gives, steps};
+ghost use Rattle.o2_dump.specs.Segments.{block_checks, block_step, has_block, is_among, is_block, is_unused, next_block};
+
+use crate::fault::CoreFault;
+use crate::fields::need;
+use crate::parts::{Block, Place, SegmentEntry};
+use o2_base::{Bytes, Fail};
+use o2_ne::u32_at;
+use std::alloc::Global;
+
+// Whether one of these blocks has a number.
+fn is_among(number: u32, blocks: &[Block]) -> bool
+    ensures { result ≡ is_among number blocks.now }
+{
+    blocks.iter().any(|block| block.number == number)
+}
+
+// Whether a segment has its bytes in the block of a number.
+fn has_block(number: u32, place: &Place) -> bool
+    ensures { result ≡ has_block number place.now }
+{
+    match place {
+        Place::Swap(blocks) => is_among(number, blocks.as_slice()),
+        Place::Zeros => false,
+        Place::Image(_, _) => false,
+        Place::Memory(_) => false,
+    }
+}
+
+// Whether no segment has its bytes in the block of a number.
+fn is_unused(found: &[SegmentEntry], number: u32) -> bool
+    ensures { result ≡ is_unused found.now number }
+{
+    !found
+        .iter()
+        .any(|entry| has_block(number, &entry.place))
+}
+
+// Whether a block is on a device of this many, and holds nothing yet.
+fn is_block(blocks: u32, found: &[SegmentEntry], own: &[Block], number: u32) -> bool
+    ensures { result ≡ is_block blocks found.now own.now number }
+{
+    number < blocks && is_unused(found, number) && !is_among(number, own)
+}
+
+// Whether the block at a place is right and whole, in the entry at `entry`.
+fn check_block(
+    file: &[u8],
+    blocks: u32,
+    found: &[SegmentEntry],
+    entry: usize,
+    own: &[Block],
+    at: usize,
+) -> Result<(), CoreFault>
+    requires place { at ≤ length file.now }
+    ensures exact { result ≡ all_hold (block_checks file.now blocks found.now entry own.now at) }
+    ensures inside { OnOk result (at + 516 ≤ length file.now) }
+{
+    need(file, at, 4)?;
+    if !is_block(blocks, found, own, u32_at(file, at)) {
+        return Err(CoreFault::BadEntry(entry as u64));
+    }
+    need(file, at + 4, 512)?;
+    Ok(())
+}
+
+// The next block of the entry at `entry`.
+#[tactic(auto, unfolding(crate::specs::Segments::block_step))]
+fn add_block(
+    alloc: Global,
+    file: &[u8],
+    blocks: u32,
+    found: &[SegmentEntry],
+    entry: usize,
+    own: &mut Vec<Block>,
+) -> Result<(), Fail<CoreFault>>
+    requires place { entry + 16 + 516 * vec_len own.old ≤ length file.now }
+    ensures step { Gives (λ _. own.new.items) result (block_step file.now blocks found.now entry own.old.items) }
+    ensures more { OnOk result (vec_len own.new ≡ vec_len own.old + 1) }
+    ensures inside { OnOk result (entry + 16 + 516 * vec_len own.new ≤ length file.now) }
+{
+    let at = entry + 16 + 516 * own.len();
+    check_block(file, blocks, found, entry, own.as_slice(), at)?;
+    let number = u32_at(file, at);
+    let bytes = Bytes::from_slice(alloc, &file[at + 4..at + 516])?;
+    own.push(Block { number, bytes })?;
+    Ok(())
+}
+
+// The blocks of the entry at `entry`, of which it has `count`.
+pub(crate) fn blocks_of(
+    alloc: Global,
+    file: &[u8],
+    blocks: u32,
+    found: &[SegmentEntry],
+    entry: usize,
+    count: u32,
+) -> Result<Vec<Block>, Fail<CoreFault>>
+    requires place { entry + 16 ≤ length file.now }
+    ensures exact { Gives (λ v. v.items) result (steps (block_step file.now blocks found.now entry) count []) }
+    ensures inside { IfOk result (λ v. entry + 16 + 516 * length v.items ≤ length file.now) }
+    ensures count { IfOk result (λ v. length v.items ≡ count) }
+{
+    let mut own = Vec::new(alloc);
+    for _ in 0..count {
+        add_block(alloc, file, blocks, found, entry, &mut own)?;
+    }
+    Ok(own)
+}

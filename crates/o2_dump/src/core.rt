@@ -1,0 +1,126 @@
+// The reader of a core image.
+ghost use Rattle.std.specs.Prelude.{◌≡◌, ◌+◌, ◌*◌, ◌≤◌, ◌<◌, ◌^◌, ℕ, [], ◌∷◌, length, IfOk, OnOk};
+ghost use Rattle.o2_ne.specs.Checks.{all_hold};
+ghost use Rattle.o2_ne.specs.Steps.{Gives};
+ghost use Rattle.o2_dump.specs.Readings.{processes_so_far, segments_so_far};
+ghost use Rattle.o2_dump.specs.Image.{core_of, end_checks, head_checks, processes_of, segments_of};
+
+use crate::fault::CoreFault;
+use crate::fields::{need, u64_at};
+use crate::parts::{Processes, Segments};
+use crate::processes::ProcessReading;
+use crate::segments::SegmentReading;
+use o2_base::{Bytes, Fail};
+use o2_ne::u32_at;
+use std::alloc::Global;
+
+/// What a core image tells of a machine.
+#[derive(Debug, Drop)]
+pub struct Core {
+    /// The bytes of the memory.
+    pub memory: Bytes,
+    /// How many blocks of 512 bytes the swap device has for the machine.
+    pub blocks: u32,
+    /// How many steps were done.
+    pub steps: u64,
+    /// How many bytes the programs wrote to the console.
+    pub console: u64,
+    /// The segments, by their numbers from 0.
+    pub segments: Segments,
+    /// The processes, by rising number.
+    pub processes: Processes,
+}
+
+const MARK: [u8; 8] = *b"OS2CORE1";
+
+// Whether a file begins as a core image and has a head.
+fn check_head(file: &[u8]) -> Result<(), CoreFault>
+    ensures exact { result ≡ all_hold (head_checks file.now) }
+    ensures inside { OnOk result (40 ≤ length file.now) }
+{
+    let told = file.len().min(8);
+    if file[..told] != MARK[..told] {
+        return Err(CoreFault::NotCore);
+    }
+    need(file, 0, 40)?;
+    Ok(())
+}
+
+// The segments of a file with a head.
+fn segments_of(alloc: Global, file: &[u8]) -> Result<SegmentReading, Fail<CoreFault>>
+    requires head { 40 ≤ length file.now }
+    ensures exact { Gives (λ r. segments_so_far r) result (segments_of file.now) }
+    ensures inside { IfOk result (λ r. r.place ≤ length file.now) }
+{
+    let mut reading = SegmentReading {
+        found: Vec::new(alloc),
+        place: 40,
+    };
+    reading.all(
+        alloc,
+        file,
+        u32_at(file, 8),
+        u32_at(file, 12),
+        u32_at(file, 16),
+    )?;
+    Ok(reading)
+}
+
+// The processes whose entries begin at a place.
+fn processes_of(alloc: Global, file: &[u8], at: usize) -> Result<ProcessReading, Fail<CoreFault>>
+    requires head { 40 ≤ length file.now }
+    requires place { at ≤ length file.now }
+    ensures exact { Gives (λ r. processes_so_far r) result (processes_of file.now at) }
+    ensures inside { IfOk result (λ r. r.place ≤ length file.now) }
+{
+    let mut reading = ProcessReading {
+        found: Vec::new(alloc),
+        least: 0,
+        place: at,
+    };
+    reading.all(alloc, file, u32_at(file, 16), u32_at(file, 20))?;
+    Ok(reading)
+}
+
+// Whether the file ends at a place, with the end mark.
+fn check_end(file: &[u8], at: usize) -> Result<(), CoreFault>
+    requires place { at ≤ length file.now }
+    ensures { result ≡ all_hold (end_checks file.now at) }
+{
+    need(file, at, 4)?;
+    if &file[at..at + 4] != b"END!" {
+        return Err(CoreFault::BadEntry(at as u64));
+    }
+    if file.len() != at + 4 {
+        return Err(CoreFault::TooLong(at as u64 + 4));
+    }
+    Ok(())
+}
+
+impl Core {
+    /// What a core image tells, or the fault of the first of its bytes that can't be.
+    #[tactic(auto, unfolding(crate::specs::Image::core_of))]
+    pub fn read(alloc: Global, file: &[u8]) -> Result<Core, Fail<CoreFault>>
+        ensures exact { Gives (λ c. c) result (core_of file.now) }
+    {
+        check_head(file)?;
+        let SegmentReading { found, place } = segments_of(alloc, file)?;
+        let memory = u32_at(file, 8) as usize;
+        need(file, place, memory)?;
+        let behind = place + memory;
+        let ProcessReading {
+            found: processes,
+            place: end,
+            ..
+        } = processes_of(alloc, file, behind)?;
+        check_end(file, end)?;
+        Ok(Core {
+            memory: Bytes::from_slice(alloc, &file[place..behind])?,
+            blocks: u32_at(file, 12),
+            steps: u64_at(file, 24),
+            console: u64_at(file, 32),
+            segments: Segments::new(found),
+            processes: Processes::new(processes),
+        })
+    }
+}

@@ -1,0 +1,147 @@
+// The entries of the segments.
+ghost use Rattle.std.specs.Prelude.{◌≡◌, ◌+◌, ◌*◌, ◌≤◌, ◌<◌, ◌^◌, ℕ, [], ◌∷◌, length, IfOk, OnOk};
+ghost use Rattle.o2_ne.specs.Checks.{all_hold};
+ghost use Rattle.o2_ne.specs.Steps.{Gives, steps};
+ghost use Rattle.o2_dump.specs.Readings.{segments_so_far};
+ghost use Rattle.o2_dump.specs.Segments.{entry_checks, entry_of, is_place, place_len, segment_step};
+
+use crate::fault::CoreFault;
+use crate::fields::need;
+use crate::parts::{Place, SegmentEntry};
+use crate::places::place_at;
+use o2_base::Fail;
+use o2_ne::u32_at;
+use std::alloc::Global;
+
+// Whether as much is kept as a place with this number may have.
+fn is_place(number: u8, kept: u32, size: u32) -> bool
+    ensures { result ≡ is_place number kept size }
+{
+    match number {
+        0 => kept == 0,
+        1 => true,
+        2 => kept == size,
+        3 => true,
+        _ => false,
+    }
+}
+
+// Whether the fields of the entry at a place are right and whole.
+fn check_entry(file: &[u8], at: usize) -> Result<(), CoreFault>
+    requires place { at ≤ length file.now }
+    ensures exact { result ≡ all_hold (entry_checks file.now at) }
+    ensures inside { OnOk result (at + 12 ≤ length file.now) }
+{
+    need(file, at, 4)?;
+    let size = u32_at(file, at);
+    if size < 1 || size > 65536 {
+        return Err(CoreFault::BadEntry(at as u64));
+    }
+    need(file, at + 4, 4)?;
+    let kept = u32_at(file, at + 4);
+    if kept > size {
+        return Err(CoreFault::BadEntry(at as u64));
+    }
+    need(file, at + 8, 3)?;
+    if file[at + 10] > 1 {
+        return Err(CoreFault::BadEntry(at as u64));
+    }
+    need(file, at + 11, 1)?;
+    if !is_place(file[at + 11], kept, size) {
+        return Err(CoreFault::BadEntry(at as u64));
+    }
+    Ok(())
+}
+
+// How many bytes are told of a place.
+fn place_len(place: &Place) -> usize
+    requires { place_len place.now < 2 ^ 63 }
+    ensures { result ≡ place_len place.now }
+{
+    match place {
+        Place::Zeros => 0,
+        Place::Image(_, _) => 4,
+        Place::Memory(_) => 4,
+        Place::Swap(blocks) => 4 + 516 * blocks.as_slice().len(),
+    }
+}
+
+// The entry at a place, behind those found.
+#[tactic(auto, unfolding(crate::specs::Segments::entry_of))]
+fn entry_of(
+    alloc: Global,
+    file: &[u8],
+    memory: u32,
+    blocks: u32,
+    found: &[SegmentEntry],
+    at: usize,
+) -> Result<SegmentEntry, Fail<CoreFault>>
+    requires place { at ≤ length file.now }
+    ensures exact { Gives (λ e. e) result (entry_of file.now memory blocks found.now at) }
+    ensures inside { IfOk result (λ e. at + 12 + place_len e.place ≤ length file.now) }
+{
+    check_entry(file, at)?;
+    let place = place_at(alloc, file, memory, blocks, found, at)?;
+    Ok(SegmentEntry {
+        size: u32_at(file, at),
+        kept: u32_at(file, at + 4),
+        flags: file[at + 8],
+        lock: file[at + 9],
+        clean: file[at + 10] == 1,
+        place,
+    })
+}
+
+// The segments so far.
+#[derive(Drop)]
+pub(crate) struct SegmentReading {
+    pub(crate) found: Vec<SegmentEntry>,
+    pub(crate) place: usize,
+}
+
+impl SegmentReading {
+    // The next segment.
+    #[tactic(auto, unfolding(crate::specs::Segments::segment_step))]
+    fn next(
+        &mut self,
+        alloc: Global,
+        file: &[u8],
+        memory: u32,
+        blocks: u32,
+    ) -> Result<(), Fail<CoreFault>>
+        requires place { self.old.place ≤ length file.now }
+        ensures step { Gives (λ _. segments_so_far self.new) result (segment_step file.now memory blocks (segments_so_far self.old)) }
+        ensures inside { OnOk result (self.new.place ≤ length file.now) }
+    {
+        let entry = entry_of(
+            alloc,
+            file,
+            memory,
+            blocks,
+            self.found.as_slice(),
+            self.place,
+        )?;
+        self.place += 12 + place_len(&entry.place);
+        self.found.push(entry)?;
+        Ok(())
+    }
+
+    // All segments, of which there are `count`.
+    pub(crate) fn all(
+        &mut self,
+        alloc: Global,
+        file: &[u8],
+        memory: u32,
+        blocks: u32,
+        count: u32,
+    ) -> Result<(), Fail<CoreFault>>
+        requires place { self.old.place ≤ length file.now }
+        ensures exact { Gives (λ _. segments_so_far self.new) result (steps (segment_step file.now memory blocks) count (segments_so_far self.old)) }
+        ensures inside { OnOk result (self.new.place ≤ length file.now) }
+    {
+        for _ in 0..count {
+            self.next(alloc, file, memory, blocks)?;
+        }
+        Ok(())
+    }
+}
