@@ -1,5 +1,5 @@
-pub mod Fields
-pub mod Segments
-pub mod Processes
-pub mod Image
+pub mod FileFields
+pub mod SegmentEntries
+pub mod ProcessEntries
+pub mod CoreImage
 pub mod Readings

@@ -2,8 +2,8 @@
 use Rattle.o2_dump.specs.declared.segments.SegmentReading.{SegmentReading}
 use Rattle.o2_dump.specs.declared.held.HeldReading.{HeldReading}
 use Rattle.o2_dump.specs.declared.processes.ProcessReading.{ProcessReading}
-use Rattle.o2_dump.specs.Segments.{SegmentsSoFar}
-use Rattle.o2_dump.specs.Processes.{HeldSoFar, ProcessesSoFar}
+use Rattle.o2_dump.specs.SegmentEntries.{SegmentsSoFar}
+use Rattle.o2_dump.specs.ProcessEntries.{HeldSoFar, ProcessesSoFar}
 
 abbrev pub segments_so_far : SegmentReading → SegmentsSoFar
 segments_so_far r = record { found = r.found.items; place = r.place }

@@ -3,7 +3,7 @@ ghost use Rattle.std.specs.Prelude.{◌≡◌, ◌+◌, ◌*◌, ◌≤◌, ◌<
 ghost use Rattle.std.specs.List.{list_any};
 ghost use Rattle.o2_ne.specs.Checks.{all_hold};
 ghost use Rattle.o2_ne.specs.Steps.{Gives, steps};
-ghost use Rattle.o2_dump.specs.Segments.{block_checks, block_step, has_block, is_among, is_block, is_unused, next_block};
+ghost use Rattle.o2_dump.specs.SegmentEntries.{block_checks, block_step, has_block, is_among, is_block, is_unused, next_block};
 
 use crate::fault::CoreFault;
 use crate::fields::need;
@@ -35,9 +35,7 @@ fn has_block(number: u32, place: &Place) -> bool
 fn is_unused(found: &[SegmentEntry], number: u32) -> bool
     ensures { result ≡ is_unused found.now number }
 {
-    !found
-        .iter()
-        .any(|entry| has_block(number, &entry.place))
+    !found.iter().any(|entry| has_block(number, &entry.place))
 }
 
 // Whether a block is on a device of this many, and holds nothing yet.
@@ -69,7 +67,7 @@ fn check_block(
 }
 
 // The next block of the entry at `entry`.
-#[tactic(auto, unfolding(crate::specs::Segments::block_step))]
+#[tactic(auto, unfolding(crate::specs::SegmentEntries::block_step))]
 fn add_block(
     alloc: Global,
     file: &[u8],

@@ -1,7 +1,7 @@
 // The fields of a core image.
 ghost use Rattle.std.specs.Prelude.{◌≡◌, ◌+◌, ◌≤◌, ◌<◌, ◌^◌, [], ◌∷◌, length, OnOk};
 ghost use Rattle.o2_ne.specs.Checks.{all_hold};
-ghost use Rattle.o2_dump.specs.Fields.{quad_at, whole, descriptor_at, registers_at};
+ghost use Rattle.o2_dump.specs.FileFields.{quad_at, whole, descriptor_at, registers_at};
 
 use crate::fault::CoreFault;
 use o2_desc::Descriptor;

@@ -3,7 +3,7 @@ ghost use Rattle.std.specs.Prelude.{◌≡◌, ◌+◌, ◌*◌, ◌≤◌, ◌<
 ghost use Rattle.o2_ne.specs.Checks.{all_hold};
 ghost use Rattle.o2_ne.specs.Steps.{Gives, steps};
 ghost use Rattle.o2_dump.specs.Readings.{held_so_far};
-ghost use Rattle.o2_dump.specs.Processes.{held_at, held_checks, held_step};
+ghost use Rattle.o2_dump.specs.ProcessEntries.{held_at, held_checks, held_step};
 
 use crate::fault::CoreFault;
 use crate::fields::{descriptor_at, need};
@@ -60,7 +60,7 @@ pub(crate) struct HeldReading {
 
 impl HeldReading {
     // The next entry.
-    #[tactic(auto, unfolding(crate::specs::Processes::held_step))]
+    #[tactic(auto, unfolding(crate::specs::ProcessEntries::held_step))]
     fn next(&mut self, file: &[u8], segments: u32) -> Result<(), Fail<CoreFault>>
         requires place { self.old.place ≤ length file.now }
         ensures step { Gives (λ _. held_so_far self.new) result (held_step file.now segments (held_so_far self.old)) }
@@ -75,7 +75,12 @@ impl HeldReading {
     }
 
     // All entries, of which there are `count`.
-    pub(crate) fn all(&mut self, file: &[u8], segments: u32, count: u32) -> Result<(), Fail<CoreFault>>
+    pub(crate) fn all(
+        &mut self,
+        file: &[u8],
+        segments: u32,
+        count: u32,
+    ) -> Result<(), Fail<CoreFault>>
         requires place { self.old.place ≤ length file.now }
         ensures exact { Gives (λ _. held_so_far self.new) result (steps (held_step file.now segments) count (held_so_far self.old)) }
         ensures inside { OnOk result (self.new.place ≤ length file.now) }

@@ -2,16 +2,19 @@
 #![tactic(auto)]
 
 mod blocks;
-mod core;
+mod content;
 mod fault;
 mod fields;
 mod held;
 mod parts;
 mod places;
 mod processes;
+mod reader;
 mod segments;
 
-pub use core::Core;
 pub use fault::CoreFault;
 pub use o2_base::{Bytes, Fail, NoMemory};
-pub use parts::{Block, Blocks, Held, HeldList, Place, Process, Processes, Segments, SegmentEntry, State};
+pub use parts::{
+    Block, Blocks, Held, HeldList, Place, Process, Processes, SegmentEntry, Segments, State,
+};
+pub use reader::Core;

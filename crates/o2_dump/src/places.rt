@@ -3,7 +3,7 @@ ghost use Rattle.std.specs.Prelude.{◌≡◌, ◌+◌, ◌*◌, ◌≤◌, ◌<
 ghost use Rattle.std.specs.List.{list_any};
 ghost use Rattle.o2_ne.specs.Checks.{all_hold};
 ghost use Rattle.o2_ne.specs.Steps.{Gives, steps};
-ghost use Rattle.o2_dump.specs.Segments.{count_at, image_at, is_free, is_met_by, is_range, memory_at, memory_checks, place_at, place_len, rounded, swap_at};
+ghost use Rattle.o2_dump.specs.SegmentEntries.{count_at, image_at, is_free, is_met_by, is_range, memory_at, memory_checks, place_at, place_len, rounded, swap_at};
 
 use crate::blocks::blocks_of;
 use crate::fault::CoreFault;
@@ -52,7 +52,7 @@ fn is_range(memory: u32, found: &[SegmentEntry], base: u32, size: u32) -> bool
 }
 
 // The place in an image of the entry at a place.
-#[tactic(auto, unfolding(crate::specs::Segments::image_at))]
+#[tactic(auto, unfolding(crate::specs::SegmentEntries::image_at))]
 fn image_at(file: &[u8], at: usize) -> Result<Place, CoreFault>
     requires place { at + 12 ≤ length file.now }
     ensures exact { result ≡ image_at file.now at }
@@ -65,8 +65,13 @@ fn image_at(file: &[u8], at: usize) -> Result<Place, CoreFault>
 }
 
 // The place in memory of the entry at a place.
-#[tactic(auto, unfolding(crate::specs::Segments::memory_at))]
-fn memory_at(file: &[u8], memory: u32, found: &[SegmentEntry], at: usize) -> Result<Place, CoreFault>
+#[tactic(auto, unfolding(crate::specs::SegmentEntries::memory_at))]
+fn memory_at(
+    file: &[u8],
+    memory: u32,
+    found: &[SegmentEntry],
+    at: usize,
+) -> Result<Place, CoreFault>
     requires place { at + 12 ≤ length file.now }
     ensures exact { result ≡ memory_at file.now memory found.now at }
     ensures inside { IfOk result (λ p. at + 12 + place_len p ≤ length file.now) }
@@ -94,7 +99,7 @@ fn count_at(file: &[u8], at: usize) -> Result<u32, CoreFault>
 }
 
 // The place on the swap device of the entry at a place.
-#[tactic(auto, unfolding(crate::specs::Segments::swap_at))]
+#[tactic(auto, unfolding(crate::specs::SegmentEntries::swap_at))]
 fn swap_at(
     alloc: Global,
     file: &[u8],
@@ -112,7 +117,7 @@ fn swap_at(
 }
 
 // The place of the entry at a place, whose number is at most 3.
-#[tactic(auto, unfolding(crate::specs::Segments::place_at))]
+#[tactic(auto, unfolding(crate::specs::SegmentEntries::place_at))]
 pub(crate) fn place_at(
     alloc: Global,
     file: &[u8],

@@ -3,7 +3,7 @@ ghost use Rattle.std.specs.Prelude.{◌≡◌, ◌+◌, ◌*◌, ◌≤◌, ◌<
 ghost use Rattle.o2_ne.specs.Checks.{all_hold};
 ghost use Rattle.o2_ne.specs.Steps.{Gives, steps};
 ghost use Rattle.o2_dump.specs.Readings.{held_so_far, processes_so_far};
-ghost use Rattle.o2_dump.specs.Processes.{held_of, process_at, process_checks, process_step, state_of};
+ghost use Rattle.o2_dump.specs.ProcessEntries.{held_of, process_at, process_checks, process_step, state_of};
 
 use crate::fault::CoreFault;
 use crate::fields::{need, registers_at};
@@ -42,7 +42,12 @@ fn state_of(number: u16) -> State
 }
 
 // The entries of the process at a place.
-fn held_of(alloc: Global, file: &[u8], segments: u32, at: usize) -> Result<HeldReading, Fail<CoreFault>>
+fn held_of(
+    alloc: Global,
+    file: &[u8],
+    segments: u32,
+    at: usize,
+) -> Result<HeldReading, Fail<CoreFault>>
     requires place { at + 38 ≤ length file.now }
     ensures exact { Gives (λ h. held_so_far h) result (held_of file.now segments at) }
     ensures inside { IfOk result (λ h. h.place ≤ length file.now) }
@@ -67,7 +72,7 @@ pub(crate) struct ProcessReading {
 
 impl ProcessReading {
     // The next process.
-    #[tactic(auto, unfolding(crate::specs::Processes::process_step))]
+    #[tactic(auto, unfolding(crate::specs::ProcessEntries::process_step))]
     fn next(&mut self, alloc: Global, file: &[u8], segments: u32) -> Result<(), Fail<CoreFault>>
         requires place { self.old.place ≤ length file.now }
         ensures step { Gives (λ _. processes_so_far self.new) result (process_step file.now segments (processes_so_far self.old)) }

@@ -3,7 +3,7 @@ ghost use Rattle.std.specs.Prelude.{◌≡◌, ◌+◌, ◌*◌, ◌≤◌, ◌<
 ghost use Rattle.o2_ne.specs.Checks.{all_hold};
 ghost use Rattle.o2_ne.specs.Steps.{Gives, steps};
 ghost use Rattle.o2_dump.specs.Readings.{segments_so_far};
-ghost use Rattle.o2_dump.specs.Segments.{entry_checks, entry_of, is_place, place_len, segment_step};
+ghost use Rattle.o2_dump.specs.SegmentEntries.{entry_checks, entry_of, is_place, place_len, segment_step};
 
 use crate::fault::CoreFault;
 use crate::fields::need;
@@ -67,7 +67,7 @@ fn place_len(place: &Place) -> usize
 }
 
 // The entry at a place, behind those found.
-#[tactic(auto, unfolding(crate::specs::Segments::entry_of))]
+#[tactic(auto, unfolding(crate::specs::SegmentEntries::entry_of))]
 fn entry_of(
     alloc: Global,
     file: &[u8],
@@ -101,7 +101,7 @@ pub(crate) struct SegmentReading {
 
 impl SegmentReading {
     // The next segment.
-    #[tactic(auto, unfolding(crate::specs::Segments::segment_step))]
+    #[tactic(auto, unfolding(crate::specs::SegmentEntries::segment_step))]
     fn next(
         &mut self,
         alloc: Global,

@@ -10,7 +10,7 @@ use Rattle.o2_dump.specs.declared.parts.Block.{Block}
 use Rattle.o2_dump.specs.declared.parts.Place.{Place}
 use Rattle.o2_dump.specs.declared.parts.Place.TheVariants.{Zeros, Image, Memory, Swap}
 use Rattle.o2_dump.specs.declared.parts.SegmentEntry.{SegmentEntry}
-use Rattle.o2_dump.specs.Fields.{whole, right}
+use Rattle.o2_dump.specs.FileFields.{whole, right}
 
 -- how much memory a segment takes: its size rounded up to 16
 abbrev pub rounded : ℕ → ℕ

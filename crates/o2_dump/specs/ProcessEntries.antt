@@ -8,7 +8,7 @@ use Rattle.o2_dump.specs.declared.parts.Held.{Held}
 use Rattle.o2_dump.specs.declared.parts.Process.{Process}
 use Rattle.o2_dump.specs.declared.parts.State.{State}
 use Rattle.o2_dump.specs.declared.parts.State.TheVariants.{Live, Exited, Trapped}
-use Rattle.o2_dump.specs.Fields.{whole, right, descriptor_at, registers_at}
+use Rattle.o2_dump.specs.FileFields.{whole, right, descriptor_at, registers_at}
 
 -- what a process holds, as an entry of 18 bytes at place p: index, descriptor, number of the segment, number of holds
 abbrev pub held_checks : List ℕ → ℕ → ℕ → ℕ → List (Check CoreFault)

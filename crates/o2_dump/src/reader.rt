@@ -3,14 +3,15 @@ ghost use Rattle.std.specs.Prelude.{◌≡◌, ◌+◌, ◌*◌, ◌≤◌, ◌<
 ghost use Rattle.o2_ne.specs.Checks.{all_hold};
 ghost use Rattle.o2_ne.specs.Steps.{Gives};
 ghost use Rattle.o2_dump.specs.Readings.{processes_so_far, segments_so_far};
-ghost use Rattle.o2_dump.specs.Image.{core_of, end_checks, head_checks, processes_of, segments_of};
+ghost use Rattle.o2_dump.specs.CoreImage.{core_of, end_checks, head_checks, processes_of, segment_bytes, segments_of};
 
+use crate::content::bytes_of;
 use crate::fault::CoreFault;
 use crate::fields::{need, u64_at};
 use crate::parts::{Processes, Segments};
 use crate::processes::ProcessReading;
 use crate::segments::SegmentReading;
-use o2_base::{Bytes, Fail};
+use o2_base::{Bytes, Fail, NoMemory};
 use o2_ne::u32_at;
 use std::alloc::Global;
 
@@ -99,7 +100,7 @@ fn check_end(file: &[u8], at: usize) -> Result<(), CoreFault>
 
 impl Core {
     /// What a core image tells, or the fault of the first of its bytes that can't be.
-    #[tactic(auto, unfolding(crate::specs::Image::core_of))]
+    #[tactic(auto, unfolding(crate::specs::CoreImage::core_of))]
     pub fn read(alloc: Global, file: &[u8]) -> Result<Core, Fail<CoreFault>>
         ensures exact { Gives (λ c. c) result (core_of file.now) }
     {
@@ -122,5 +123,18 @@ impl Core {
             segments: Segments::new(found),
             processes: Processes::new(processes),
         })
+    }
+
+    /// The bytes of a segment by its number from 0, with zeros for those that stay with an image. None exactly past the last.
+    pub fn segment(&self, alloc: Global, number: u32) -> Result<Option<Bytes>, NoMemory>
+        ensures { IfOk result (λ b. b ≡ segment_bytes self.now number) }
+    {
+        match self.segments.as_slice().get(number as usize) {
+            Some(entry) => {
+                let bytes = bytes_of(alloc, self.memory.as_slice(), entry)?;
+                Ok(Some(Bytes::new(bytes)))
+            }
+            None => Ok(None),
+        }
     }
 }

@@ -1,18 +1,18 @@
 -- A core image: what a machine consisted of as it was written.
-use Rattle.std.specs.Prelude.{ℕ, ◌+◌, ◌-◌, ◌*◌, ◌==◌, ◌&&◌, Bool, List, [], ◌∷◌, ◌++◌, drop, flat_map, length, min, nat_eq, nat_le, option_map, Option, replicate, slice_get, take, Result, Ok, codes, bytes_eq}
+use Rattle.std.specs.Prelude.{ℕ, ◌+◌, ◌-◌, ◌*◌, ◌==◌, ◌&&◌, Bool, List, [], ◌∷◌, ◌++◌, drop, length, min, nat_eq, nat_le, option_map, Option, replicate, slice_get, take, Result, Ok, codes, bytes_eq}
 use Rattle.o2_ne.specs.Words.{long_at, string_at}
 use Rattle.o2_ne.specs.Checks.{Check, all_hold, or_fault, ◌>>=◌}
 use Rattle.o2_ne.specs.Steps.{steps}
-use Rattle.o2_dump.specs.declared.core.Core.{Core}
+use Rattle.o2_dump.specs.declared.reader.Core.{Core}
 use Rattle.o2_dump.specs.declared.fault.CoreFault.{CoreFault}
 use Rattle.o2_dump.specs.declared.fault.CoreFault.TheVariants.{NotCore, TooLong}
 use Rattle.o2_dump.specs.declared.parts.Block.{Block}
 use Rattle.o2_dump.specs.declared.parts.Place.{Place}
 use Rattle.o2_dump.specs.declared.parts.Place.TheVariants.{Zeros, Image, Memory, Swap}
 use Rattle.o2_dump.specs.declared.parts.SegmentEntry.{SegmentEntry}
-use Rattle.o2_dump.specs.Fields.{quad_at, whole, right}
-use Rattle.o2_dump.specs.Segments.{SegmentsSoFar, segment_step}
-use Rattle.o2_dump.specs.Processes.{ProcessesSoFar, process_step}
+use Rattle.o2_dump.specs.FileFields.{quad_at, whole, right}
+use Rattle.o2_dump.specs.SegmentEntries.{SegmentsSoFar, segment_step}
+use Rattle.o2_dump.specs.ProcessEntries.{ProcessesSoFar, process_step}
 
 -- the first eight bytes of the file, as far as it has them, are the mark's
 abbrev pub is_marked : List ℕ → Bool
@@ -57,12 +57,17 @@ core_of file = do
     processes = p.found;
   })
 
+-- the bytes of some blocks, one after the other
+unfoldable pub joined : List Block → List ℕ
+joined [] = []
+joined (b ∷ bs) = b.bytes ++ joined bs
+
 -- the kept bytes of a segment, which are zeros where they stay with an image
 abbrev pub kept_bytes : List ℕ → ℕ → Place → List ℕ
 kept_bytes memory kept Zeros = []
 kept_bytes memory kept (Image m k) = replicate kept 0
 kept_bytes memory kept (Memory base) = take kept (drop base memory)
-kept_bytes memory kept (Swap bs) = take kept (flat_map (λ (b : Block). b.bytes) bs)
+kept_bytes memory kept (Swap bs) = take kept (joined bs)
 
 -- the bytes of a segment: those that are kept, and zeros
 abbrev pub bytes_of : List ℕ → SegmentEntry → List ℕ
