@@ -163,6 +163,13 @@ fn each_front_is_cut(rt: HostRuntime) -> Result<(), test::Fail> {
     Ok(())
 }
 
+/// The bytes of the segments of the image, by number.
+static BYTES: &str = "z10
+z600
+tabcdefghijklmnopqrst
+a513 z87
+none";
+
 /// Whether a segment of the image has the bytes that a text stands for. The text `none` stands for no segment.
 fn has_bytes(alloc: Global, core: &Core, number: u32, text: &str) -> Result<bool, NoMemory> {
     let mut wanted = Vec::new(alloc);
@@ -178,10 +185,9 @@ fn bytes_of_segments(rt: HostRuntime) -> Result<(), test::Fail> {
     let mut file = Vec::new(rt.alloc());
     write_image(&mut file, "none", "").map_err(|_| AllocError)?;
     let core = Core::read(rt.alloc(), file.as_slice()).map_err(|_| "refused")?;
-    let texts = ["z10", "z600", "tabcdefghijklmnopqrst", "a513 z87", "none"];
-    for (number, text) in texts.iter().enumerate() {
-        let right = has_bytes(rt.alloc(), &core, number as u32, text).map_err(|_| AllocError)?;
-        assert!(rt; right, "of {number}");
+    for (line, text) in BYTES.lines().enumerate() {
+        let right = has_bytes(rt.alloc(), &core, line as u32, text).map_err(|_| AllocError)?;
+        assert!(rt; right, "of {text}");
     }
     Ok(())
 }

@@ -1,5 +1,5 @@
 -- A core image: what a machine consisted of as it was written.
-use Rattle.std.specs.Prelude.{ℕ, ◌+◌, ◌-◌, ◌*◌, ◌==◌, ◌&&◌, Bool, List, [], ◌∷◌, ◌++◌, drop, length, min, nat_eq, nat_le, option_map, Option, replicate, slice_get, take, Result, Ok, codes, bytes_eq}
+use Rattle.std.specs.Prelude.{ℕ, ◌+◌, ◌-◌, ◌*◌, ◌==◌, ◌&&◌, Bool, List, [], ◌∷◌, ◌++◌, drop, flat_map, length, min, nat_eq, nat_le, option_map, Option, replicate, slice_get, take, Result, Ok, codes, bytes_eq}
 use Rattle.o2_ne.specs.Words.{long_at, string_at}
 use Rattle.o2_ne.specs.Checks.{Check, all_hold, or_fault, ◌>>=◌}
 use Rattle.o2_ne.specs.Steps.{steps}
@@ -32,11 +32,14 @@ abbrev pub processes_of : List ℕ → ℕ → Result ProcessesSoFar CoreFault
 processes_of file p =
     steps (process_step file (long_at file 16)) (long_at file 20) (record { found = []; least = 0; place = p })
 
+abbrev pub has_end : List ℕ → ℕ → Bool
+has_end file p = bytes_eq (string_at file p 4) (codes "END!")
+
 -- the end mark at place p, with nothing behind it
 abbrev pub end_checks : List ℕ → ℕ → List (Check CoreFault)
 end_checks file p =
     whole file p 4
-    ∷ right p (bytes_eq (string_at file p 4) (codes "END!"))
+    ∷ right p (has_end file p)
     ∷ or_fault (length file == p + 4) (TooLong (p + 4))
     ∷ []
 
@@ -58,9 +61,8 @@ core_of file = do
   })
 
 -- the bytes of some blocks, one after the other
-unfoldable pub joined : List Block → List ℕ
-joined [] = []
-joined (b ∷ bs) = b.bytes ++ joined bs
+abbrev pub joined : List Block → List ℕ
+joined bs = flat_map (λ (b : Block). b.bytes) bs
 
 -- the kept bytes of a segment, which are zeros where they stay with an image
 abbrev pub kept_bytes : List ℕ → ℕ → Place → List ℕ

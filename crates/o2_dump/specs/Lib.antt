@@ -3,3 +3,4 @@ pub mod SegmentEntries
 pub mod ProcessEntries
 pub mod CoreImage
 pub mod Readings
+pub mod CoreBytes

@@ -15,6 +15,7 @@ fn zeros(alloc: Global, count: usize) -> Result<Vec<u8>, NoMemory>
     Ok(bytes)
 }
 
+#[tactic(auto, using(std::proofs::lemmas::List::drop_min, std::proofs::lemmas::List::take_min))]
 // The bytes from a place on, at most `most` of them.
 fn part(bytes: &[u8], from: usize, most: usize) -> &[u8]
     ensures { result.now ≡ take most (drop from bytes.now) }
@@ -23,6 +24,7 @@ fn part(bytes: &[u8], from: usize, most: usize) -> &[u8]
     &behind[..most.min(behind.len())]
 }
 
+#[tactic(auto, using(crate::proofs::Joining::more))]
 // The bytes of some blocks, one after the other.
 fn joined(alloc: Global, blocks: &[Block]) -> Result<Vec<u8>, NoMemory>
     ensures { IfOk result (λ v. v.items ≡ joined blocks.now) }

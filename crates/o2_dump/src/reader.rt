@@ -3,7 +3,7 @@ ghost use Rattle.std.specs.Prelude.{◌≡◌, ◌+◌, ◌*◌, ◌≤◌, ◌<
 ghost use Rattle.o2_ne.specs.Checks.{all_hold};
 ghost use Rattle.o2_ne.specs.Steps.{Gives};
 ghost use Rattle.o2_dump.specs.Readings.{processes_so_far, segments_so_far};
-ghost use Rattle.o2_dump.specs.CoreImage.{core_of, end_checks, head_checks, processes_of, segment_bytes, segments_of};
+ghost use Rattle.o2_dump.specs.CoreImage.{core_of, end_checks, has_end, head_checks, is_marked, processes_of, segment_bytes, segments_of};
 
 use crate::content::bytes_of;
 use crate::fault::CoreFault;
@@ -32,15 +32,22 @@ pub struct Core {
     pub processes: Processes,
 }
 
-const MARK: [u8; 8] = *b"OS2CORE1";
+// Whether the first eight bytes of a file are the mark's, as far as it has them.
+fn is_marked(file: &[u8]) -> bool
+    ensures { result ≡ is_marked file.now }
+{
+    let mark = b"OS2CORE1".as_slice();
+    let told = file.len().min(8);
+    let front = &file[..told];
+    front == &mark[..told]
+}
 
 // Whether a file begins as a core image and has a head.
 fn check_head(file: &[u8]) -> Result<(), CoreFault>
     ensures exact { result ≡ all_hold (head_checks file.now) }
     ensures inside { OnOk result (40 ≤ length file.now) }
 {
-    let told = file.len().min(8);
-    if file[..told] != MARK[..told] {
+    if !is_marked(file) {
         return Err(CoreFault::NotCore);
     }
     need(file, 0, 40)?;
@@ -83,13 +90,22 @@ fn processes_of(alloc: Global, file: &[u8], at: usize) -> Result<ProcessReading,
     Ok(reading)
 }
 
+// Whether the end mark stands at a place.
+fn has_end(file: &[u8], at: usize) -> bool
+    requires { at + 4 ≤ length file.now }
+    ensures { result ≡ has_end file.now at }
+{
+    let mark = &file[at..at + 4];
+    mark == b"END!".as_slice()
+}
+
 // Whether the file ends at a place, with the end mark.
 fn check_end(file: &[u8], at: usize) -> Result<(), CoreFault>
     requires place { at ≤ length file.now }
     ensures { result ≡ all_hold (end_checks file.now at) }
 {
     need(file, at, 4)?;
-    if &file[at..at + 4] != b"END!" {
+    if !has_end(file, at) {
         return Err(CoreFault::BadEntry(at as u64));
     }
     if file.len() != at + 4 {
