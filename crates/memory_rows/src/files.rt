@@ -1,0 +1,153 @@
+// Modules as texts, machine files over them, and what a run of them comes to.
+
+use o2_base::{Bytes, NoMemory};
+use o2_cli::{number, os2run};
+use o2_outer::{MemFiles, MemSink, MemSource, MemSwap};
+use std::alloc::Global;
+
+// All numbers in these texts are hexadecimal, and `00*3A` is so many bytes in a row. What differs between modules stands between the
+// parts: the number of the automatic data, how many segments there are, the name of three letters, and all from the segment table on,
+// which stands at A0h.
+
+const HEADER: &str = "4D 5A 00*3A 40 00 00 00 4E 45 00 00 47 00 00*6 02 00";
+
+/// A stack of 512 bytes, and a start at 1:0000.
+const START: &str = "00 00 00 00 02 00 00 01 00 00 00 00 00";
+
+const TABLES: &str = "00 01 00 00 00 60 00 40 00 40 00 48 00 4A 00 00*6 04 00 00 00 01 00*9 03";
+
+/// No entries, and DOSCALLS as the only other module.
+const NAMES: &str = "00 00 00 00 01 00 00 08 44 4F 53 43 41 4C 4C 53 00*C";
+
+/// What a module has of its own.
+pub struct Listing {
+    pub name: &'static str,
+    pub segments: &'static str,
+    /// The number of the automatic data.
+    pub data: &'static str,
+    /// The segment table of four words a segment (position in paragraphs, length, flags, size), and the segments.
+    pub rest: &'static str,
+}
+
+fn number_in(text: &str) -> usize {
+    usize::from_str_radix(text, 16).unwrap_or(0)
+}
+
+/// Adds the bytes of a text.
+fn add_bytes(bytes: &mut Vec<u8>, text: &str) -> Result<(), NoMemory> {
+    for token in text.split_ascii_whitespace() {
+        let (byte, times) = token.split_once('*').unwrap_or((token, "1"));
+        let len = bytes.len().saturating_add(number_in(times));
+        bytes.resize(len, (number_in(byte) % 256) as u8)?;
+    }
+    Ok(())
+}
+
+/// The file of a module.
+pub fn file_of(alloc: Global, listing: &Listing) -> Result<Vec<u8>, NoMemory> {
+    let mut file = Vec::new(alloc);
+    add_bytes(&mut file, HEADER)?;
+    add_bytes(&mut file, listing.data)?;
+    add_bytes(&mut file, START)?;
+    add_bytes(&mut file, listing.segments)?;
+    add_bytes(&mut file, TABLES)?;
+    add_bytes(&mut file, listing.name)?;
+    add_bytes(&mut file, NAMES)?;
+    add_bytes(&mut file, listing.rest)?;
+    Ok(file)
+}
+
+/// What a run came to.
+#[derive(Drop)]
+pub struct Answer {
+    pub status: u8,
+    pub console: MemSink,
+    pub report: MemSink,
+}
+
+impl Answer {
+    /// Whether it came to this status, with this console and report.
+    pub fn is(&self, status: u8, console: &[u8], report: &str) -> bool {
+        self.status == status
+            && self.console.taken() == console
+            && self.report.taken() == report.as_bytes()
+    }
+}
+
+/// A file more.
+pub fn add_file(
+    alloc: Global,
+    files: &mut Vec<(Bytes, Bytes)>,
+    name: &[u8],
+    file: Vec<u8>,
+) -> Result<(), NoMemory> {
+    files.push((Bytes::from_slice(alloc, name)?, Bytes::new(file)))?;
+    Ok(())
+}
+
+/// `run a.toml` over these files and a device.
+pub fn run_files(
+    alloc: Global,
+    files: Vec<(Bytes, Bytes)>,
+    swap: &mut MemSwap,
+) -> Result<Answer, NoMemory> {
+    let mut files = MemFiles::new(files, Vec::new(alloc));
+    let mut input = MemSource::new(Bytes::new(Vec::new(alloc)), Vec::new(alloc));
+    let mut console = MemSink::new(alloc, 4096, Vec::new(alloc))?;
+    let mut report = MemSink::new(alloc, 65536, Vec::new(alloc))?;
+    let mut words = Vec::new(alloc);
+    words.push(String::from_str(alloc, "run")?)?;
+    words.push(String::from_str(alloc, "a.toml")?)?;
+    let status = os2run(
+        alloc,
+        words.as_slice(),
+        &mut files,
+        &mut input,
+        &mut console,
+        &mut report,
+        swap,
+    );
+    Ok(Answer {
+        status: number(&status),
+        console,
+        report,
+    })
+}
+
+/// The machine file of one process of the module MEM in `a.exe`, with these keys.
+pub fn machine_of(alloc: Global, keys: &str) -> Result<Vec<u8>, NoMemory> {
+    let mut text = String::new(alloc);
+    text.push_str(keys)?;
+    text.push_str(
+        "\nsegments = 100\nquantum = 1\nmodules = [\"a.exe\"]\n[[process]]\nmodule = \"MEM\"\n",
+    )?;
+    Ok(text.into_bytes())
+}
+
+/// The same, and its module.
+pub fn files_of(
+    alloc: Global,
+    listing: &Listing,
+    keys: &str,
+) -> Result<Vec<(Bytes, Bytes)>, NoMemory> {
+    let mut files = Vec::new(alloc);
+    add_file(alloc, &mut files, b"a.toml", machine_of(alloc, keys)?)?;
+    add_file(alloc, &mut files, b"a.exe", file_of(alloc, listing)?)?;
+    Ok(files)
+}
+
+/// The first lines of its report, with how many segments and environments it holds, and these lines behind them.
+pub fn report_of(alloc: Global, holds: usize, rest: &str) -> Result<String, NoMemory> {
+    let mut report = String::new(alloc);
+    report.push_str("1 start MEM\n")?;
+    for selector in ["000F", "0017", "001F", "0027", "002F", "0037"]
+        .iter()
+        .take(holds)
+    {
+        report.push_str("1 hold ")?;
+        report.push_str(selector)?;
+        report.push_str(" by load\n")?;
+    }
+    report.push_str(rest)?;
+    Ok(report)
+}
