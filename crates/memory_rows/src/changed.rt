@@ -3,7 +3,7 @@
 ghost use Rattle.std.specs.Prelude.{IfOk, IfSome};
 ghost use Rattle.memory_rows.specs.Going.{IsGoing};
 
-use crate::files::{Listing, files_of};
+use crate::files::files_of;
 use o2_base::{Bytes, NoMemory};
 use o2_machine::{Machine, Steps, Turn};
 use o2_open::{Session, open};
@@ -13,15 +13,10 @@ use std::alloc::Global;
 use std::test::Fail;
 
 /// Puts a 1 into the first of two segments of 16,384 bytes, loads the second one, which takes its place, and reads the byte again.
-const READ_AGAIN: Listing = Listing {
-    name: "4D 45 4D",
-    segments: "04",
-    data: "02",
-    rest: "
+static READ_AGAIN: &str = "02 | 04 | 4D 45 4D |
 0D 00 21 00 00 0C 21 00  00 00 00 00 01 0C 10 00  00 00 00 00 01 0C 00 40  00 00 00 00 01 0C 00 40  00*10
 B8 1F 00 8E C0 26 C6 06 00 00 01 31 C0 8E C0 B8 27 00 8E C0 31 C0 8E C0 B8 1F 00 8E C0 26 A0 00 00
-",
-};
+";
 
 /// The index of the first of the two.
 const FIRST: u16 = 3;
@@ -36,7 +31,7 @@ fn begun<S: SwapDevice>(
 {
     let files = files_of(
         alloc,
-        &READ_AGAIN,
+        READ_AGAIN,
         "memory = 20480\nswap = 2048\nbudget = 100",
     )?;
     let mut files = MemFiles::new(files, Vec::new(alloc));

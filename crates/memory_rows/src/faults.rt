@@ -1,16 +1,12 @@
 // A swap device whose k-th call fails, for each k.
 
-use crate::files::{Listing, files_of, report_of, run_files};
+use crate::files::{add_lines, files_of, report_of, run_files};
 use o2_outer::MemSwap;
 use std::test::Fail;
 
 /// Puts `a` at the end of one segment of 2,048 bytes and `b` at that of another, of which one has place in memory, writes the `b`, loads
 /// the first one again, and writes the `a`. What leaves memory goes to four blocks: four writes, four more, and then four reads.
-const BOTH: Listing = Listing {
-    name: "4D 45 4D",
-    segments: "04",
-    data: "02",
-    rest: "
+static BOTH: &str = "02 | 04 | 4D 45 4D |
 0D 00 50 00 00 0C 50 00  00 00 00 00 01 0C 10 00  00 00 00 00 01 0C 00 08  00 00 00 00 01 0C 00 08  00*10
 B8 1F 00 8E C0 26 C6 06 FF 07 61 31 C0 8E C0
 B8 27 00 8E C0 26 C6 06 FF 07 62
@@ -18,22 +14,21 @@ B8 27 00 8E C0 26 C6 06 FF 07 62
 31 C0 8E C0 B8 1F 00 8E C0
 6A 01 06 68 FF 07 6A 01 68 17 00 6A 00 9A 00 00 A3 00
 6A 01 6A 00 9A 00 00 8B 00
-",
-};
+";
 
-const KEYS: &str = "memory = 4096\nswap = 16\nbudget = 1000";
+static KEYS: &str = "memory = 4096\nswap = 16\nbudget = 1000";
 
-const FIRST: &str = "1 call DosWrite 0001 0027:07FF 0001 0017:0000 = 0 0001\n";
+static FIRST: &str = "1 call DosWrite 0001 0027:07FF 0001 0017:0000 = 0 0001";
 
-const REST: &str =
-    "1 call DosWrite 0001 001F:07FF 0001 0017:0000 = 0 0001\n1 call DosExit 0001 0000\n1 end exit 0\nall ended\n";
+static REST: &str =
+    "1 call DosWrite 0001 001F:07FF 0001 0017:0000 = 0 0001 / 1 call DosExit 0001 0000 / 1 end exit 0 / all ended";
 
 /// What a run over a device whose k-th call fails comes to: status, console, and the last two parts of the report.
 fn wanted(k: u64) -> (u8, &'static str, &'static str, &'static str) {
     if k <= 4 {
-        (10, "", "", "stop swap fault\n")
+        (10, "", "", "stop swap fault")
     } else if k <= 12 {
-        (10, "b", FIRST, "stop swap fault\n")
+        (10, "b", FIRST, "stop swap fault")
     } else {
         (0, "ba", FIRST, REST)
     }
@@ -44,9 +39,9 @@ fn each_call_of_the_swap_device_fails(rt: HostRuntime) -> Result<(), Fail> {
     for k in 1..=13u64 {
         let (status, console, first, rest) = wanted(k);
         let mut report = report_of(rt.alloc(), 5, first)?;
-        report.push_str(rest)?;
+        add_lines(&mut report, rest)?;
         let mut swap = MemSwap::new(rt.alloc(), 16, vec![in rt.alloc(); k]?)?;
-        let answer = run_files(rt.alloc(), files_of(rt.alloc(), &BOTH, KEYS)?, &mut swap)?;
+        let answer = run_files(rt.alloc(), files_of(rt.alloc(), BOTH, KEYS)?, &mut swap)?;
         assert!(rt;
             answer.is(status, console.as_bytes(), report.as_str()),
             "where call {k} fails"

@@ -9,25 +9,15 @@ use std::alloc::Global;
 // parts: the number of the automatic data, how many segments there are, the name of three letters, and all from the segment table on,
 // which stands at A0h.
 
-const HEADER: &str = "4D 5A 00*3A 40 00 00 00 4E 45 00 00 47 00 00*6 02 00";
+static HEADER: &str = "4D 5A 00*3A 40 00 00 00 4E 45 00 00 47 00 00*6 02 00";
 
 /// A stack of 512 bytes, and a start at 1:0000.
-const START: &str = "00 00 00 00 02 00 00 01 00 00 00 00 00";
+static START: &str = "00 00 00 00 02 00 00 01 00 00 00 00 00";
 
-const TABLES: &str = "00 01 00 00 00 60 00 40 00 40 00 48 00 4A 00 00*6 04 00 00 00 01 00*9 03";
+static TABLES: &str = "00 01 00 00 00 60 00 40 00 40 00 48 00 4A 00 00*6 04 00 00 00 01 00*9 03";
 
 /// No entries, and DOSCALLS as the only other module.
-const NAMES: &str = "00 00 00 00 01 00 00 08 44 4F 53 43 41 4C 4C 53 00*C";
-
-/// What a module has of its own.
-pub struct Listing {
-    pub name: &'static str,
-    pub segments: &'static str,
-    /// The number of the automatic data.
-    pub data: &'static str,
-    /// The segment table of four words a segment (position in paragraphs, length, flags, size), and the segments.
-    pub rest: &'static str,
-}
+static NAMES: &str = "00 00 00 00 01 00 00 08 44 4F 53 43 41 4C 4C 53 00*C";
 
 fn number_in(text: &str) -> usize {
     usize::from_str_radix(text, 16).unwrap_or(0)
@@ -43,17 +33,21 @@ fn add_bytes(bytes: &mut Vec<u8>, text: &str) -> Result<(), NoMemory> {
     Ok(())
 }
 
-/// The file of a module.
-pub fn file_of(alloc: Global, listing: &Listing) -> Result<Vec<u8>, NoMemory> {
+/// The file of a module: the number of its automatic data, how many segments it has, the three letters of its name, and the segment
+/// table of four words a segment (position in paragraphs, length, flags, size) with the segments behind it, all parted by bars.
+pub fn file_of(alloc: Global, listing: &str) -> Result<Vec<u8>, NoMemory> {
     let mut file = Vec::new(alloc);
+    let (data, rest) = listing.split_once('|').unwrap_or((listing, ""));
+    let (segments, rest) = rest.split_once('|').unwrap_or((rest, ""));
+    let (name, rest) = rest.split_once('|').unwrap_or((rest, ""));
     add_bytes(&mut file, HEADER)?;
-    add_bytes(&mut file, listing.data)?;
+    add_bytes(&mut file, data)?;
     add_bytes(&mut file, START)?;
-    add_bytes(&mut file, listing.segments)?;
+    add_bytes(&mut file, segments)?;
     add_bytes(&mut file, TABLES)?;
-    add_bytes(&mut file, listing.name)?;
+    add_bytes(&mut file, name)?;
     add_bytes(&mut file, NAMES)?;
-    add_bytes(&mut file, listing.rest)?;
+    add_bytes(&mut file, rest)?;
     Ok(file)
 }
 
@@ -127,7 +121,7 @@ pub fn machine_of(alloc: Global, keys: &str) -> Result<Vec<u8>, NoMemory> {
 /// The same, and its module.
 pub fn files_of(
     alloc: Global,
-    listing: &Listing,
+    listing: &str,
     keys: &str,
 ) -> Result<Vec<(Bytes, Bytes)>, NoMemory> {
     let mut files = Vec::new(alloc);
@@ -136,18 +130,28 @@ pub fn files_of(
     Ok(files)
 }
 
+static SELECTORS: &str = "000F 0017 001F 0027 002F 0037";
+
+/// Adds lines that a text has with ` / ` between them.
+pub fn add_lines(text: &mut String, lines: &str) -> Result<(), NoMemory> {
+    for line in lines.split(" / ") {
+        if !line.is_empty() {
+            text.push_str(line)?;
+            text.push_str("\n")?;
+        }
+    }
+    Ok(())
+}
+
 /// The first lines of its report, with how many segments and environments it holds, and these lines behind them.
 pub fn report_of(alloc: Global, holds: usize, rest: &str) -> Result<String, NoMemory> {
     let mut report = String::new(alloc);
     report.push_str("1 start MEM\n")?;
-    for selector in ["000F", "0017", "001F", "0027", "002F", "0037"]
-        .iter()
-        .take(holds)
-    {
+    for selector in SELECTORS.split_ascii_whitespace().take(holds) {
         report.push_str("1 hold ")?;
         report.push_str(selector)?;
         report.push_str(" by load\n")?;
     }
-    report.push_str(rest)?;
+    add_lines(&mut report, rest)?;
     Ok(report)
 }

@@ -1,6 +1,6 @@
 // Two processes that need each other's memory, step by step in turns.
 
-use crate::files::{Answer, Listing, add_file, file_of, run_files};
+use crate::files::{Answer, add_file, file_of, run_files};
 use o2_base::{Bytes, NoMemory};
 use o2_outer::MemSwap;
 use std::alloc::Global;
@@ -8,28 +8,18 @@ use std::test::Fail;
 
 /// Copies 1,000 bytes of one segment of 8,192 into another by REP MOVSB, writes them, and ends: 1,017 steps. The bytes themselves come
 /// behind this text, at 100h of the file.
-const COPY: Listing = Listing {
-    name: "43 50 59",
-    segments: "04",
-    data: "02",
-    rest: "
+static COPY: &str = "02 | 04 | 43 50 59 |
 0D 00 30 00 00 0C 30 00  00 00 00 00 01 0C 10 00  10 00 E8 03 01 0C 00 20  00 00 00 00 01 0C 00 20  00*10
 B8 1F 00 8E D8 B8 27 00 8E C0 31 F6 31 FF B9 E8 03 F3 A4
 6A 01 06 6A 00 68 E8 03 68 17 00 6A 00 9A 00 00 A3 00 6A 01 6A 00 9A 00 00 8B 00 00*2
-",
-};
+";
 
 /// Puts an `x` 2,000 times into its own segment of 8,192 by REP STOSB, writes the last four of them, and ends: 2,015 steps.
-const FILL: Listing = Listing {
-    name: "46 49 4C",
-    segments: "03",
-    data: "02",
-    rest: "
+static FILL: &str = "02 | 03 | 46 49 4C |
 0D 00 2A 00 00 0C 2A 00  00 00 00 00 01 0C 10 00  00 00 00 00 01 0C 00 20  00*18
 B8 1F 00 8E C0 B8 78 00 31 FF B9 D0 07 F3 AA
 6A 01 06 68 CC 07 6A 04 68 17 00 6A 00 9A 00 00 A3 00 6A 01 6A 00 9A 00 00 8B 00
-",
-};
+";
 
 /// The bytes that are copied.
 fn copied(alloc: Global) -> Result<Vec<u8>, NoMemory> {
@@ -40,7 +30,7 @@ fn copied(alloc: Global) -> Result<Vec<u8>, NoMemory> {
     Ok(bytes)
 }
 
-const KEYS: &str =
+static KEYS: &str =
     "memory = 20480\nsegments = 100\nquantum = 1\nmodules = [\"copy.exe\", \"fill.exe\"]\nprocess = [{ module = \"CPY\" }, { module = \"FIL\" }]\n";
 
 /// Both in a memory that has not room for the segments of both, with these keys more.
@@ -48,22 +38,22 @@ fn run_both(alloc: Global, keys: &str, swap: &mut MemSwap) -> Result<Answer, NoM
     let mut text = String::new(alloc);
     text.push_str(KEYS)?;
     text.push_str(keys)?;
-    let mut copy = file_of(alloc, &COPY)?;
+    let mut copy = file_of(alloc, COPY)?;
     copy.extend_from_slice(copied(alloc)?.as_slice())?;
     let mut files = Vec::new(alloc);
     add_file(alloc, &mut files, b"a.toml", text.into_bytes())?;
     add_file(alloc, &mut files, b"copy.exe", copy)?;
-    add_file(alloc, &mut files, b"fill.exe", file_of(alloc, &FILL)?)?;
+    add_file(alloc, &mut files, b"fill.exe", file_of(alloc, FILL)?)?;
     run_files(alloc, files, swap)
 }
 
-const OPENED: &str =
+static OPENED: &str =
     "1 start CPY\n1 hold 000F by load\n1 hold 0017 by load\n1 hold 001F by load\n1 hold 0027 by load\n1 hold 002F by load\n2 start FIL\n2 hold 000F by load\n2 hold 0017 by load\n2 hold 001F by load\n2 hold 0027 by load\n";
 
-const WRITTEN: &str =
+static WRITTEN: &str =
     "1 call DosWrite 0001 0027:0000 03E8 0017:0000 = 0 03E8\n1 call DosExit 0001 0000\n1 end exit 0\n2 call DosWrite 0001 001F:07CC 0004 0017:0000 = 0 0004\n";
 
-const END: &str = "2 call DosExit 0001 0000\n2 end exit 0\nall ended\n";
+static END: &str = "2 call DosExit 0001 0000\n2 end exit 0\nall ended\n";
 
 /// The report of a run of both, with these lines at the end.
 fn report_with(alloc: Global, last: &str) -> Result<String, NoMemory> {
