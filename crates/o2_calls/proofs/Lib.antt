@@ -2,4 +2,8 @@ pub mod Rulings
 pub mod Overs
 pub mod Tellings
 pub mod Replies
+pub mod Behind
+pub mod Shapes
+pub mod Answered
+pub mod Givable
 pub mod Ends

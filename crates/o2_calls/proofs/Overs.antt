@@ -1,17 +1,20 @@
 -- A machine that stands for a world, before and behind a call.
-use Rattle.std.proofs.Common.{◌≡◌, ℕ, ◌/◌, List, [], Option, Some, None, is_some, refl, sym, ap, ◌∙◌, subst, arith}
+use Rattle.std.proofs.Common.{◌≡◌, ℕ, ◌<◌, ◌≤◌, ◌/◌, Bool, true, false, List, [], Option, Some, None, is_some, refl, sym, ap, ◌∙◌, subst, arith}
+use Rattle.std.specs.Prelude.{IsTrue}
 use Rattle.o2_image.specs.ImageList.{ImageList}
 use Rattle.o2_isa.specs.declared.cpu.Cpu.{Cpu}
+use Rattle.o2_regions.specs.declared.answer.Answer.{Answer}
 use Rattle.o2_regions.specs.declared.answer.Roomed.{Roomed}
 use Rattle.o2_regions.specs.declared.answer.Roomed.TheVariants.{Done, NoRoom, SwapFull, SwapFault}
 use Rattle.o2_regions.specs.Maps.{Maps, IsProcess}
 use Rattle.o2_store.specs.Shelf.{Shelf}
 use Rattle.o2_world.specs.Changes.{Change, with_all, with_changes}
+use Rattle.o2_world.specs.Holders.{process_at}
 use Rattle.o2_world.specs.Known.{known_of}
 use Rattle.o2_world.specs.Map.{get}
 use Rattle.o2_world.specs.Rulings.{Ruling, freeing, sizing}
 use Rattle.o2_world.specs.Tied.{IsTied}
-use Rattle.o2_world.specs.World.{Segment, Setting, World}
+use Rattle.o2_world.specs.World.{Process, Segment, Setting, World}
 use Rattle.o2_gate.specs.declared.gathering.SegmentArguments.{SegmentArguments}
 use Rattle.o2_stands.specs.Knows.{KnowsAs, Others, known_in, others_of}
 use Rattle.o2_stands.specs.Moves.{moved}
@@ -22,7 +25,6 @@ use Rattle.o2_stands.proofs.Matching.{matched_by}
 use Rattle.o2_changes.specs.Worlds.{LosesOne}
 use Rattle.o2_changes.proofs.Losing.{loses_one}
 use Rattle.o2_segs.specs.Answers.{AnswersRoomed, changes_roomed}
-use Rattle.o2_segs.specs.Made.{left_by}
 use Rattle.o2_calls.specs.Acts.{IsOver, cpu_of, ruling_of}
 use Rattle.o2_calls.proofs.Rulings.{is_freed, same_cpu, same_ruling, sizing_still}
 
@@ -64,20 +66,6 @@ module _ (sh : Shelf) (m : Maps) (images : ImageList) (block : ℕ → List ℕ)
   pub behind_by : (a : SegmentArguments) (c : Cpu) (r : Roomed) (q : Parts) → Matches q (with_all w (changes_roomed (ruling_of a (known_in p o) pid c) r))
       → Matches q (with_all w (changes_roomed (ruling_of a (known_of s w) pid c) r))
   behind_by a c r q h = subst (λ (x : Ruling). Matches q (with_all w (changes_roomed x r))) (ruling_is a c) h
-
-  -- at a stop the store has made no more
-  same_made : (t : Shelf) (n : Maps) (after : ℕ → List ℕ) → Matches (moved p t n after) (with_all w []) → t.made ≡ sh.made
-  same_made t n after h = sym (ap (λ (x : World). x.next_name) (sym (nothing w)) ∙ h.made) ∙ (matches.made ∙ ap (λ (x : Shelf). x.made) over.store)
-
-  as_left : (t : Shelf) (n : Maps) (after : ℕ → List ℕ) → Matches (moved p t n after) (with_all w []) → Matches (moved p (record t { made = sh.made }) n after) (with_all w [])
-  as_left t n after h = subst (λ (k : ℕ). Matches (moved p (record t { made = k }) n after) (with_all w [])) (same_made t n after h) h
-
-  pub left_behind : (r : Ruling) (result : Roomed) (t : Shelf) (n : Maps) (after : ℕ → List ℕ) → Matches (moved p t n after) (with_all w (changes_roomed r result))
-      → Matches (moved p (left_by t sh.made result) n after) (with_all w (changes_roomed r result))
-  left_behind r (Done a) t n after h = h
-  left_behind r NoRoom t n after h = as_left t n after h
-  left_behind r SwapFull t n after h = as_left t n after h
-  left_behind r SwapFault t n after h = as_left t n after h
 
   -- a call that touches no swap device
   pub unmoved : (t : Shelf) (n : Maps) (u : World) → Matches (record p { shelf = t; maps = n }) u → Matches (moved p t n block) u

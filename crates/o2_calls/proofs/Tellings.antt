@@ -1,6 +1,6 @@
 -- What the rulings of the calls on segments tell: at an error they change nothing, and the lines of what they change are those of the
 -- call's reply.
-use Rattle.std.proofs.Common.{◌≡◌, ◌≢◌, ℕ, ◌+◌, ◌<◌, ◌≤◌, ◌==◌, ◌/◌, nat_lt, nat_le, not, ◌||◌, Bool, true, false, cond, List, [], ◌∷◌, Option, Some, None, if◌then◌else◌, ap, refl, sym, ◌∙◌, arith, subst}
+use Rattle.std.proofs.Common.{◌≡◌, ◌≢◌, ℕ, ◌+◌, ◌*◌, ◌<◌, ◌≤◌, ◌==◌, ◌/◌, nat_lt, nat_le, not, ◌||◌, Bool, true, false, cond, List, [], ◌∷◌, Option, Some, None, if◌then◌else◌, ap, refl, sym, ◌∙◌, arith, subst}
 use Rattle.std.specs.Prelude.{filter, is_some, min}
 use Rattle.o2_base.specs.Selectors.{selector_of}
 use Rattle.o2_desc.specs.Bits.{is_writable}
@@ -8,9 +8,9 @@ use Rattle.o2_desc.specs.Choice.{IsChosen, chosen}
 use Rattle.o2_desc.proofs.Choices.{chosen_law}
 use Rattle.o2_isa.specs.declared.cpu.Cpu.{Cpu}
 use Rattle.o2_world.specs.World.{Held}
-use Rattle.o2_world.specs.Changes.{Change, Locks, Resizes, moved_lines}
+use Rattle.o2_world.specs.Changes.{Change, Drops, Holds, Locks, Makes, Resizes, moved_lines}
 use Rattle.o2_world.specs.Known.{Known, Marks}
-use Rattle.o2_world.specs.Rulings.{Ruling, aliasing_at, aliasing_of, allocation, allocation_at, by_load, free_index, freeing_of, freeing_with, full_size, grants, held_under, in_use, indexes, is_alias, is_discardable, is_in_run, is_later, keeps_its_size, locking_of, locking_with, members, reallocation_of, reallocation_with, refusal, region_by, sizing_of, sizing_with, unlocking_of, unlocking_with}
+use Rattle.o2_world.specs.Rulings.{Ruling, aliasing, aliasing_at, aliasing_of, allocation, allocation_at, by_load, free_index, freeing, freeing_of, freeing_with, full_size, grants, held_under, in_use, indexes, is_alias, is_discardable, is_in_run, is_later, keeps_its_size, locking, locking_of, locking_with, members, reallocation, reallocation_of, reallocation_with, refusal, region_by, sizing, sizing_of, sizing_with, unlocking, unlocking_of, unlocking_with}
 use Rattle.o2_world.proofs.SegmentMoves.{held_there}
 use Rattle.o2_gate.specs.declared.gathering.SegmentArguments.{SegmentArguments}
 use Rattle.o2_gate.specs.declared.gathering.SegmentArguments.TheVariants.{Alloc, Realloc, Free, Size, Lock, Unlock, Alias}
@@ -64,6 +64,27 @@ index_below k region i e = go (region == 0) e
 
 word_of : (i : ℕ) → i < 8192 → selector_of i ≤ 65535
 word_of i l = omega (arith, l)
+
+-- A value that is a selector is a word.
+
+bounded : (b : Bool) (r q : Ruling) → r.value ≤ 65535 → q.value ≤ 65535 → (cond b r q).value ≤ 65535
+bounded true r q h k = h
+bounded false r q h k = k
+
+pub alloc_word : (k : Known) (n size flags : ℕ) → (allocation k n size flags).value ≤ 65535
+alloc_word k n size flags = bounded (nat_lt 15 flags) _ _ (omega arith) (bounded (nat_le k.most k.count) _ _ (omega arith) (at (free_index k (region_by n flags)) refl))
+  where
+    at : (index : Option ℕ) → free_index k (region_by n flags) ≡ index → (allocation_at k n size flags index).value ≤ 65535
+    at None e = omega arith
+    at (Some i) e = word_of i (index_below k (region_by n flags) i e)
+
+pub alias_word : (k : Known) (n index : ℕ) (o : Option Held) → (aliasing_of k n index o).value ≤ 65535
+alias_word k n index None = omega arith
+alias_word k n index (Some h) = bounded (nat_le 4096 index || (not (is_writable h.rights) || is_in_run h)) _ _ (omega arith) (at (free_index k n) refl)
+  where
+    at : (free : Option ℕ) → free_index k n ≡ free → (aliasing_at n h.name free).value ≤ 65535
+    at None e = omega arith
+    at (Some i) e = word_of i (index_below k n i e)
 
 -- Each call.
 

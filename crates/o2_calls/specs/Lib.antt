@@ -1,2 +1,4 @@
 pub mod Acts
+pub mod Stops
 pub mod Tellings
+pub mod Seen

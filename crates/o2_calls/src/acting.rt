@@ -1,12 +1,14 @@
 // A call on segments over a store and the tables of what processes hold.
-ghost use Rattle.std.specs.Prelude.{◌≡◌, ◌-◌, ◌<◌, ◌≤◌, ◌^◌, IsTrue, Some};
+ghost use Rattle.std.specs.Prelude.{◌≡◌, ℕ, ◌-◌, ◌<◌, ◌≤◌, ◌^◌, IsSome, IsTrue, Some, true};
+ghost use Rattle.o2_entries.specs.Tables.{slot_at};
 ghost use Rattle.o2_outer.specs.Texts.{Rose};
 ghost use Rattle.o2_regions.specs.Maps.{IsProcess};
 ghost use Rattle.o2_segbus.specs.Seen.{AreNamed};
+ghost use Rattle.o2_store.specs.Needs.{named_in};
 ghost use Rattle.o2_store.specs.Pictures.{HasPicture, picture};
-ghost use Rattle.o2_store.specs.Shelf.{AreClean, HasAll};
+ghost use Rattle.o2_store.specs.Shelf.{AreClean, HasAll, place_of};
 ghost use Rattle.o2_swapmap.specs.Piles.{all_of};
-ghost use Rattle.o2_changes.specs.Order.{IsInOrder};
+ghost use Rattle.o2_changes.specs.Order.{IsGuarded, IsInOrder};
 ghost use Rattle.o2_stands.specs.Moves.{moved};
 ghost use Rattle.o2_stands.specs.Parts.{Parts};
 ghost use Rattle.o2_stands.specs.Stands.{Matches};
@@ -16,8 +18,9 @@ ghost use Rattle.o2_world.specs.Known.{known_of};
 ghost use Rattle.o2_world.specs.Tied.{IsTied};
 ghost use Rattle.o2_world.specs.World.{Process, Setting, World};
 ghost use Rattle.o2_segs.specs.Answers.{AnswersRoomed, AreAlone, changes_roomed};
-ghost use Rattle.o2_segs.specs.Made.{IsStop, left_by};
+ghost use Rattle.o2_segs.specs.Made.{IsStop};
 ghost use Rattle.o2_calls.specs.Acts.{IsOver, MayStop, cpu_of, ruling_of};
+ghost use Rattle.o2_calls.specs.Stops.{IsGivable, LacksRoom, LacksSwap, LeavesHolds};
 
 use o2_gate::SegmentArguments;
 use o2_image::Images;
@@ -32,7 +35,7 @@ use o2_store::Store;
 /// A call on segments by process `pid`, with these registers and arguments, where its pointer is good. What it answers is the
 /// row's error number and value, and the machine then matches the world with the row's changes; the registers are those that
 /// the call itself changes. Where it wants room for a size or a lock, it has it together with the segments of `keep` and those
-/// that are locked, or it stops, and then nothing is changed, but that the store may have counted one segment more.
+/// that are locked, or it stops, and then nothing is changed.
 pub fn act<S: SwapDevice>(
     arguments: SegmentArguments,
     pid: u16,
@@ -63,10 +66,30 @@ pub fn act<S: SwapDevice>(
         → IsOver store.old regions.old images.now (S.block swap.old) p s w
         → IsTrue (S.told swap.old)
         → process_at w.processes pid ≡ Some x → IsTied w
-        → Matches (moved p (left_by store.new store.old.made result) regions.new (S.block swap.new))
+        → Matches (moved p store.new regions.new (S.block swap.new))
         (with_all w (changes_roomed (ruling_of arguments (known_of s w) pid cpu.old) result)) }
     ensures stops { IsStop result → MayStop arguments }
+
+    // What is to be kept stays in memory, and what the call writes through stays held; why it stops.
+    ensures kept { (k : ℕ) → named_in store.old.entries keep.now k ≡ true
+        → IsSome (slot_at store.new.entries k)
+        → IsSome (place_of store.old k) → IsSome (place_of store.new k) }
+    ensures holds { LeavesHolds arguments regions.old regions.new }
+    ensures no_room { result ≡ Roomed.NoRoom
+        → LacksRoom arguments store.old regions.old pid keep.now }
+    ensures swap_full { result ≡ Roomed.SwapFull
+        → LacksSwap arguments store.old regions.old pid }
+
+    // What the calls of store, service and bus ask for goes on to hold.
+    ensures processes { regions.new.processes ≡ regions.old.processes }
+    ensures value { IsGivable arguments result }
     ensures order { IsInOrder store.new regions.new }
+    ensures guards { IsGuarded store.old regions.old → IsGuarded store.new regions.new }
+    ensures clean { AreClean store.new (picture images.now) }
+    ensures pictures { HasAll (HasPicture images.now) store.new }
+    ensures map { all_of store.new.swap ≡ all_of store.old.swap }
+    ensures device { (S.blocks swap.new ≡ S.blocks swap.old)
+        × (S.told swap.new ≡ S.told swap.old) }
     ensures faults { S.faults swap.old ≤ S.faults swap.new }
     ensures cause { result ≡ Roomed.SwapFault → Rose (S.faults swap.old) (S.faults swap.new) }
 {

@@ -1,24 +1,50 @@
 // What the rows of the calls on segments come to by their rulings.
-ghost use Rattle.std.specs.Prelude.{◌≡◌, ◌++◌, ◌∷◌, [], ℕ, List};
+ghost use Rattle.std.specs.Prelude.{◌≡◌, ℕ, List, ◌++◌, ◌∷◌, [], Some};
+ghost use Rattle.o2_conf.specs.Dispatch.{Dispatch};
 ghost use Rattle.o2_isa.specs.declared.cpu.Cpu.{Cpu as CpuThere};
 ghost use Rattle.o2_gate.specs.declared.gathering.SegmentArguments.{SegmentArguments as ArgumentsThere};
 ghost use Rattle.o2_gate.specs.Gathers.{asked};
+ghost use Rattle.o2_regions.specs.Maps.{Maps};
+ghost use Rattle.o2_segbus.specs.Bus.{AreInside};
+ghost use Rattle.o2_segbus.specs.Frames.{KeepsMaps, KeepsStore};
+ghost use Rattle.o2_stands.specs.Moves.{stepped_to, with_running};
+ghost use Rattle.o2_stands.specs.Parts.{Parts};
+ghost use Rattle.o2_stands.specs.Stands.{IsReady, Matches};
+ghost use Rattle.o2_store.specs.Shelf.{Shelf};
 ghost use Rattle.o2_world.specs.Calls.{Before};
 ghost use Rattle.o2_world.specs.Changes.{Change, Finishes, with_all};
+ghost use Rattle.o2_world.specs.Holders.{process_at};
 ghost use Rattle.o2_world.specs.Known.{Known};
-ghost use Rattle.o2_world.specs.World.{World};
+ghost use Rattle.o2_world.specs.Run.{before, changed};
+ghost use Rattle.o2_world.specs.World.{Process, Setting, World};
 ghost use Rattle.o2_world.specs.declared.types.State.{State as StateThere};
+ghost use Rattle.o2_world.specs.declared.types.State.TheVariants as State;
+ghost use Rattle.o2_calls.specs.Seen.{Gives};
 ghost use Rattle.o2_calls.specs.Acts.{ruling_of};
 ghost use Rattle.o2_calls.specs.Tellings.{HoldsAlone, Tells, replied_by};
 
 /// A call on segments whose pointer is good comes back with the error number of its ruling: the value behind its pointer, its
-/// registers and its lines are those of `give_value`, `come_back` and `put_reply` of `o2_gate`, and its changes are the ruling's.
-/// It supposes that its process holds no run of a huge allocation.
+/// registers and its lines are those of `give_value`, `come_back` and `put_reply` of `o2_gate`, and its changes are the ruling's. It supposes that its
+/// process holds no run of a huge allocation.
 pub fn calls_come_back_by_their_rulings()
     ensures effect { (a : ArgumentsThere) (b : Before) (next : ℕ) → ((i : ℕ) → HoldsAlone b.known b.number i)
         → asked a b next ≡ replied_by a b next }
     ensures tells { (a : ArgumentsThere) (k : Known) (n : ℕ) (c : CpuThere) → ((i : ℕ) → HoldsAlone k n i)
         → Tells n a (ruling_of a k n c) }
+{}
+
+/// A call whose changes are made, and whose value is then written behind its pointer, is seen: a machine that matches the world with
+/// the changes matches the world behind the call, once the bytes and the registers of its process are those of the call.
+pub fn what_a_call_gives_is_seen()
+    ensures { (s : Setting) (w : World) (d : Dispatch) (x : Process) (a : ArgumentsThere) (next : ℕ)
+        (q : Parts) (t : Shelf) (m : Maps) → process_at w.processes d.current ≡ Some x
+        → let b = before s w d.current x in let r = ruling_of a b.known d.current x.cpu in
+        Matches q (with_all w r.changes)
+        → Gives w (with_all w r.changes) d.current x a r q t → KeepsStore q.shelf t → KeepsMaps q.maps m → AreInside t
+        → IsReady (stepped_to q t m)
+        → Matches (with_running (stepped_to q t m) d.current
+        (record { cpu = (replied_by a b next).cpu; state = State.Live }))
+        (changed w d x (replied_by a b next)) }
 {}
 
 /// Where a process ends in the step of a call, as by exception 1 behind it, the world is that behind the call and then its end: what

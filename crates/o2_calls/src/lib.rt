@@ -5,4 +5,4 @@ mod acting;
 mod laws;
 
 pub use acting::act;
-pub use laws::{an_end_sweeps_once, calls_come_back_by_their_rulings};
+pub use laws::{an_end_sweeps_once, calls_come_back_by_their_rulings, what_a_call_gives_is_seen};

@@ -103,6 +103,21 @@ removed_pictures s t key has r a k x y e = elim (cases_eq k key) [
   | inl same ↦ absurd (let z : ◌≡◌ {A = Option (ℕ × ℕ)} None (Some (x, y)) = sym (ap (λ (j : ℕ). (entry t j).image) same ∙ ap (λ (o : Option Entry). (entry_or o).image) (removed_none s t key r)) ∙ e in cc)
 ]
 
+-- what is held was held
+held_before : (m n : Maps) (pid i : ℕ) → Takes m n pid i → (q j : ℕ) (y : HeldThere) → held_there n q j ≡ Some y → (z : HeldThere) × (held_there m q j ≡ Some z) × (y.id ≡ z.id)
+held_before m n pid i d q j y e = elim (pair_is q j pid i) [
+  | Other _ u ↦ (y, sym (d.held q j ∙ cond-false (eqb q pid && eqb j i) (less_of (held_there m pid i)) (held_there m q j) u) ∙ e, refl)
+  | Here a b u ↦ (let l = less_some (held_there m pid i) y (sym (d.held q j ∙ cond-true (eqb q pid && eqb j i) (less_of (held_there m pid i)) (held_there m q j) u) ∙ e) in
+      (l.0, ap (λ (c : ℕ). held_there m c j) a ∙ ap (held_there m pid) b ∙ l.1, l.2))
+]
+
+-- what may be written isn't clean
+pub dropped_guarded : (s t : Shelf) (m n : Maps) (pid i : ℕ) → Takes m n pid i → ((q j : ℕ) (y : HeldThere) → held_there n q j ≡ Some y → entry t y.id.key ≡ entry s y.id.key) → AreGuarded s m → AreGuarded t n
+dropped_guarded s t m n pid i d same was q j y e writable =
+    let z = held_before m n pid i d q j y e in
+    ap (λ (v : Entry). v.attr.clean) (same q j y e) ∙ ap (λ (v : SegId). (entry s v.key).attr.clean) z.2
+    ∙ was q j z.0 z.1 (ap is_writable (sym (d.rights q j (ap is_some e))) ∙ writable)
+
 module _ (p : Parts) (w : World) (t : Shelf) (n : Maps) (pid i : ℕ) (was : HeldThere) (x : Process) (d : Takes p.maps n pid i) (there : held_there p.maps pid i ≡ Some was) (at : process_at w.processes pid ≡ Some x) (stands : Matches p w) (loses : LosesOne w pid i) where
   held_now : (q j : ℕ) → held_at (with_change w (Drops pid i 1)).processes q j ≡ held_in n q j
   unfolding held_in
@@ -126,14 +141,6 @@ module _ (p : Parts) (w : World) (t : Shelf) (n : Maps) (pid i : ℕ) (was : Hel
 
   other_there : (q j : ℕ) → (eqb q pid && eqb j i) ≡ false → held_there n q j ≡ held_there p.maps q j
   other_there q j u = d.held q j ∙ cond-false (eqb q pid && eqb j i) (less_of (held_there p.maps pid i)) (held_there p.maps q j) u
-
-  -- what is held was held
-  held_before : (q j : ℕ) (y : HeldThere) → held_there n q j ≡ Some y → (z : HeldThere) × (held_there p.maps q j ≡ Some z) × (y.id ≡ z.id)
-  held_before q j y e = elim (pair_is q j pid i) [
-    | Other _ u ↦ (y, sym (other_there q j u) ∙ e, refl)
-    | Here a b u ↦ (let l = less_some (held_there p.maps pid i) y (sym (d.held q j ∙ cond-true (eqb q pid && eqb j i) (less_of (held_there p.maps pid i)) (held_there p.maps q j) u) ∙ e) in
-        (l.0, ap (λ (c : ℕ). held_there p.maps c j) a ∙ ap (held_there p.maps pid) b ∙ l.1, l.2))
-  ]
 
   taken_now : AreKept p.maps → AreKept n → FreesIndex p.maps n pid i → (r : Region) (j : ℕ) → IsIndex n r j
       → taken_by (with_change w (Drops pid i 1)).processes w.reserved (number_of r) j ≡ is_taken n r j
@@ -212,12 +219,6 @@ module _ (p : Parts) (w : World) (t : Shelf) (n : Maps) (pid i : ℕ) (was : Hel
   used_now : (q : ℕ) → q ≢ was.id.age → is_some (get w.names q) ≡ true → is_name_held (with_change w (Drops pid i 1)).processes q ≡ true
   used_now q other live = held_still q other (loses.named q live)
 
-  guarded_now : ((q j : ℕ) (y : HeldThere) → held_there n q j ≡ Some y → entry t y.id.key ≡ entry p.shelf y.id.key) → AreGuarded t n
-  guarded_now same q j y e writable =
-      let z = held_before q j y e in
-      ap (λ (v : Entry). v.attr.clean) (same q j y e) ∙ ap (λ (v : SegId). (entry p.shelf v.key).attr.clean) z.2
-      ∙ stands.ready.guarded q j z.0 z.1 (ap is_writable (sym (d.rights q j (ap is_some e))) ∙ writable)
-
   drops_with : AreAged t → AreClean t (picture p.images) → HasAll (HasPicture p.images) t → all_of t.swap ≤ p.device → t.made ≡ p.shelf.made
       → ((q : ℕ) → IsNamed (record p { shelf = t; maps = n }) (key_of t q) (get (kept (with_change w (Drops pid i 1)).processes w.names) q))
       → ((q j : ℕ) (y : HeldThere) → held_there n q j ≡ Some y → entry t y.id.key ≡ entry p.shelf y.id.key)
@@ -229,7 +230,7 @@ module _ (p : Parts) (w : World) (t : Shelf) (n : Maps) (pid i : ℕ) (was : Hel
       named = named_by_age t n aged order.held.live;
       held = order.held;
       settled = order.settled;
-      guarded = guarded_now same;
+      guarded = dropped_guarded p.shelf t p.maps n pid i d same stands.ready.guarded;
       clean = clean;
       pictures = pictures;
       device = device;

@@ -11,7 +11,7 @@ use Rattle.o2_regions.specs.Maps.{Maps, IsProcess, IsRegion, held_at as held_the
 use Rattle.o2_segbus.specs.Guards.{AreGuarded}
 use Rattle.o2_segbus.specs.Seen.{key_of}
 use Rattle.o2_segbus.proofs.Ages.{named_by_age}
-use Rattle.o2_store.specs.Shelf.{entry}
+use Rattle.o2_store.specs.Shelf.{Shelf, entry}
 use Rattle.o2_world.specs.World.{Process, Reserve, World}
 use Rattle.o2_world.specs.Map.{get}
 use Rattle.o2_world.specs.Holders.{process_at}
@@ -68,6 +68,28 @@ more_some : (o : Option HeldThere) (h : HeldThere) → 0 < h.holds → is_some (
 more_some None h some = ap is_some (cond-false (eqb h.holds 0) None (Some h) (ne_eqb h.holds 0 (omega arith)))
 more_some (Some was) h some = refl
 
+-- what may be written isn't clean
+pub granted_guarded : (s : Shelf) (m n : Maps) (pid i access : ℕ) (h : HeldThere) → Grants m n pid i h access → IfSome (held_there m pid i) (λ y. y.id ≡ h.id)
+    → (is_writable (rights_of access) ≡ true → (entry s h.id.key).attr.clean ≡ false) → AreGuarded s m → AreGuarded s n
+granted_guarded s m n pid i access h g same guard was q j y e writable = elim (pair_is q j pid i) [
+  | Other _ t ↦ (let z : held_there m q j ≡ Some y = sym (g.held q j ∙ cond-false (eqb q pid && eqb j i) (more_of (held_there m pid i) h) (held_there m q j) t) ∙ e in
+      was q j y z (ap is_writable (sym (g.rights q j (ap is_some z))) ∙ writable))
+  | Here a b t ↦ (let z : more_of (held_there m pid i) h ≡ Some y = sym (g.held q j ∙ cond-true (eqb q pid && eqb j i) (more_of (held_there m pid i) h) (held_there m q j) t) ∙ e in
+      let wr : is_writable (rights_at n pid i) ≡ true = sym (ap (λ (c : ℕ). is_writable (rights_at n c j)) a ∙ ap (λ (c : ℕ). is_writable (rights_at n pid c)) b) ∙ writable in
+      here (held_there m pid i) refl same y z wr)
+]
+  where
+    here : (o : Option HeldThere) → held_there m pid i ≡ o → IfSome o (λ y. y.id ≡ h.id) → (y : HeldThere) → more_of o h ≡ Some y → is_writable (rights_at n pid i) ≡ true → (entry s y.id.key).attr.clean ≡ false
+    here None none u y z wr = new (eqb h.holds 0) z
+      where
+        new : (b : Bool) → cond b None (Some h) ≡ Some y → (entry s y.id.key).attr.clean ≡ false
+        new true z = absurd (cc)
+        new false z = (let v : h ≡ y = cc in subst (λ (u : HeldThere). (entry s u.id.key).attr.clean ≡ false) v (guard (ap is_writable (sym (g.here none)) ∙ wr)))
+    here (Some old) is u y z wr =
+        let v : record old { holds = old.holds + h.holds } ≡ y = cc in
+        subst (λ (u : HeldThere). (entry s u.id.key).attr.clean ≡ false) v
+        (was pid i old is (ap is_writable (sym (g.rights pid i (ap is_some is))) ∙ wr))
+
 module _ (p : Parts) (w : World) (n : Maps) (pid i access : ℕ) (h : HeldThere) (x : Process) (g : Grants p.maps n pid i h access) (some : 0 < h.holds) (same : IfSome (held_there p.maps pid i) (λ y. y.id ≡ h.id)) (at : process_at w.processes pid ≡ Some x) (stands : Matches p w) where
   after : World
   after = with_change w (Holds pid i (held_as h access))
@@ -114,26 +136,6 @@ module _ (p : Parts) (w : World) (n : Maps) (pid i access : ℕ) (h : HeldThere)
           (ap (λ (z : Region). is_held n z j) t.0 ∙ ap (is_held n (region_of pid i)) t.1 ∙ held_region n pid i there2 here_some)
       go false e = ap (λ (b : Bool). b || list_any (reserves (number_of r) j) w.reserved) (held_apart p.maps n pid i g.processes is_same r j d.from d.to e) ∙ old
 
-  guarded_now : (is_writable (rights_of access) ≡ true → (entry p.shelf h.id.key).attr.clean ≡ false) → AreGuarded p.shelf n
-  guarded_now guard q j y e writable = elim (pair_is q j pid i) [
-    | Other _ t ↦ (let z : held_there p.maps q j ≡ Some y = sym (g.held q j ∙ cond-false (eqb q pid && eqb j i) (more_of (held_there p.maps pid i) h) (held_there p.maps q j) t) ∙ e in
-        stands.ready.guarded q j y z (ap is_writable (sym (g.rights q j (ap is_some z))) ∙ writable))
-    | Here a b t ↦ (let z : more_of (held_there p.maps pid i) h ≡ Some y = sym (g.held q j ∙ cond-true (eqb q pid && eqb j i) (more_of (held_there p.maps pid i) h) (held_there p.maps q j) t) ∙ e in
-        let wr : is_writable (rights_at n pid i) ≡ true = sym (ap (λ (c : ℕ). is_writable (rights_at n c j)) a ∙ ap (λ (c : ℕ). is_writable (rights_at n pid c)) b) ∙ writable in
-        here (held_there p.maps pid i) refl same y z wr)
-  ]
-    where
-      here : (o : Option HeldThere) → held_there p.maps pid i ≡ o → IfSome o (λ y. y.id ≡ h.id) → (y : HeldThere) → more_of o h ≡ Some y → is_writable (rights_at n pid i) ≡ true → (entry p.shelf y.id.key).attr.clean ≡ false
-      here None none s y z wr = new (eqb h.holds 0) z
-        where
-          new : (b : Bool) → cond b None (Some h) ≡ Some y → (entry p.shelf y.id.key).attr.clean ≡ false
-          new true z = absurd (cc)
-          new false z = (let v : h ≡ y = cc in subst (λ (u : HeldThere). (entry p.shelf u.id.key).attr.clean ≡ false) v (guard (ap is_writable (sym (g.here none)) ∙ wr)))
-      here (Some was) is s y z wr =
-          let v : record was { holds = was.holds + h.holds } ≡ y = cc in
-          subst (λ (u : HeldThere). (entry p.shelf u.id.key).attr.clean ≡ false) v
-          (stands.ready.guarded pid i was is (ap is_writable (sym (g.rights pid i (ap is_some is))) ∙ wr))
-
   pub holds_stand : AreKept p.maps → AreKept n → IsProcess p.maps pid → TakesIndex p.maps n pid i → IsInOrder p.shelf n
       → (is_writable (rights_of access) ≡ true → (entry p.shelf h.id.key).attr.clean ≡ false)
       → Matches (record p { maps = n }) (with_change w (Holds pid i (held_as h access)))
@@ -143,7 +145,7 @@ module _ (p : Parts) (w : World) (n : Maps) (pid i access : ℕ) (h : HeldThere)
       named = named_by_age p.shelf n stands.ready.aged order.held.live;
       held = order.held;
       settled = order.settled;
-      guarded = guarded_now guard;
+      guarded = granted_guarded p.shelf p.maps n pid i access h g same guard stands.ready.guarded;
       clean = stands.ready.clean;
       pictures = stands.ready.pictures;
       device = stands.ready.device;

@@ -15,3 +15,5 @@ pub mod MovesMatch
 pub mod Named
 pub mod SizesMatch
 pub mod Losing
+pub mod Guarding
+pub mod KeepingHolds

@@ -1,5 +1,5 @@
 -- What a machine matches behind a new segment.
-use Rattle.std.proofs.Common.{◌≡◌, ◌≢◌, ℕ, ◌+◌, ◌<◌, ◌≤◌, ◌⊎◌, inl, inr, List, length, Option, Some, None, is_some, IsSome, Bool, true, false, cond, eqb, nat_lt, option_map, get_or, refl, sym, ap, ◌∙◌, subst, arith}
+use Rattle.std.proofs.Common.{◌≡◌, ◌≢◌, ℕ, ◌+◌, ◌-◌, ◌<◌, ◌≤◌, ◌⊎◌, inl, inr, List, length, Option, Some, None, is_some, IsSome, Bool, true, false, cond, eqb, nat_lt, option_map, get_or, refl, sym, ap, ◌∙◌, subst, arith}
 use Rattle.std.proofs.lemmas.Bool.{and_parts, cases_eq, cases_lt, cond-true, cond-false, eq-eqb, eqb-true, ne_eqb}
 use Rattle.std.proofs.lemmas.List.{length-set}
 use Rattle.o2_entries.specs.declared.Entry.{Entry}
@@ -11,7 +11,7 @@ use Rattle.o2_segbus.proofs.Ages.{aged_key, ages_added, named_by_age}
 use Rattle.o2_store.specs.Needs.{has_age}
 use Rattle.o2_store.specs.Pictures.{picture, HasPicture}
 use Rattle.o2_store.specs.Shelf.{Shelf, Adds, AreClean, HasAll, IsShelf, Pictures, byte_at, entry, entry_of, entry_or, out_byte, place_of, source_byte}
-use Rattle.o2_store.proofs.Tables.{slot-past, slot-set_other, slot-set_same}
+use Rattle.o2_store.proofs.Tables.{slot-past, slot-set_other, slot-set_same, within_at}
 use Rattle.o2_swapmap.specs.Piles.{Blocks, all_of}
 use Rattle.o2_world.specs.Map.{Map, at_key, get, put}
 use Rattle.o2_world.specs.World.{Segment, World}
@@ -20,13 +20,14 @@ use Rattle.o2_world.proofs.MapLemmas.{get-at_key}
 use Rattle.o2_world.proofs.Reached.{get-put}
 use Rattle.o2_stands.specs.Parts.{Parts}
 use Rattle.o2_stands.specs.Stands.{IsNamed, IsSegment, Matches}
-use Rattle.o2_changes.specs.Order.{IsInOrder}
+use Rattle.o2_changes.specs.Order.{IsGuarded, IsInOrder}
 use Rattle.o2_regions.specs.declared.held.Held.{Held}
 use Rattle.o2_regions.specs.Maps.{Maps, held_at, is_of}
 use Rattle.o2_segbus.proofs.Ages.{ages_removed}
 use Rattle.o2_service.proofs.Amounts.{slot_some}
-use Rattle.o2_store.specs.Shelf.{Removes}
+use Rattle.o2_store.specs.Shelf.{Removes, SameTables}
 use Rattle.o2_changes.specs.Holding.{IsUnheld}
+use Rattle.o2_changes.specs.Segments.{IsNewest}
 use Rattle.o2_changes.proofs.DropsStand.{removed_clean, removed_pictures}
 use Rattle.o2_changes.proofs.Freeing.{keys_apart}
 use Rattle.o2_changes.proofs.Keys.{has_is, key_has, live_key, other_key, removed_other, removed_own, same_key}
@@ -224,6 +225,68 @@ module _ (p : Parts) (w : World) (sg : Segment) (t : Shelf) (id : SegId) (shelf 
     held = stands.held;
     taken = stands.taken;
   }
+
+-- The segment that was made last.
+
+slot_age : (s t : Shelf) (k : ℕ) → slot_at t.entries k ≡ slot_at s.entries k → (entry t k).age ≡ (entry s k).age
+slot_age s t k same = ap (λ (o : Option Entry). (entry_or o).age) same
+
+young_at : (s : Shelf) (k : ℕ) → IsShelf s → IsSome (slot_at s.entries k) → (entry s k).age < s.made
+young_at s k shelf some = (shelf.each k (within_at s.entries k some)).young some
+
+pub new_newest : (s t : Shelf) (id : SegId) (e : Entry) → IsShelf s → Adds s t id e → IsNewest t id
+new_newest s t id e shelf a = record {
+  last = (let m : t.made ≡ s.made + 1 = ap (λ (x : Shelf). x.made) a.shelf in omega (arith, m, a.age));
+  older = λ k n some.
+      (let same : slot_at t.entries k ≡ slot_at s.entries k = ap (λ (x : Shelf). slot_at x.entries k) a.shelf ∙ slot-set_other s.entries id.key k (Some e) n in
+      let y = young_at s k shelf (subst (λ (o : Option Entry). IsSome o) same some) in
+      let g = slot_age s t k same in
+      omega (arith, y, g, a.age));
+}
+
+pub newest_still : (s t : Shelf) (id : SegId) → SameTables s t → IsNewest s id → IsNewest t id
+newest_still s t id same n = record {
+  last = same.made ∙ n.last;
+  older = λ k m some.
+      (let y = n.older k m (sym (same.same k).live ∙ some) in
+      let g = (same.same k).age in
+      omega (arith, y, g));
+}
+
+-- without it all segments are older than it was
+pub gone_newest : (s t : Shelf) (id : SegId) → IsSome (entry_of s id) → IsNewest s id → Removes s t id.key → (k : ℕ) → IsSome (slot_at t.entries k) → (entry t k).age + 1 < t.made
+gone_newest s t id live n r k some =
+    let m : t.made ≡ s.made = ap (λ (x : Shelf). x.made) r.shelf in
+    elim (cases_eq k id.key) [
+      | inl same ↦ absurd (
+          let within = within_at s.entries id.key (slot_some id.age (slot_at s.entries id.key) live) in
+          let none : slot_at t.entries k ≡ None = ap (slot_at t.entries) same ∙ ap (λ (x : Shelf). slot_at x.entries id.key) r.shelf ∙ slot-set_same s.entries id.key None within in
+          let z : false ≡ true = sym (ap is_some none) ∙ some in
+          cc)
+      | inr m' ↦
+          (let same = r.entries k m' in
+          let y = n.older k m' (subst (λ (o : Option Entry). IsSome o) same some) in
+          let g = slot_age s t k same in
+          let l = n.last in
+          omega (arith, y, g, l, m))
+    ]
+
+pub unmade_age : (s r t : Shelf) (id : SegId) → IsNewest s id → Removes s r id.key → t ≡ record r { made = r.made - 1 } → t.made ≡ id.age
+unmade_age s r t id n gone e =
+    let m : r.made ≡ s.made = ap (λ (x : Shelf). x.made) gone.shelf in
+    let f : t.made ≡ r.made - 1 = ap (λ (x : Shelf). x.made) e in
+    let l = n.last in
+    omega (arith, m, f, l)
+
+-- how many were made is nothing that descriptors or images say
+pub made_clean_any : (t : Shelf) (n : ℕ) (pic : Pictures) → AreClean t pic → AreClean (record t { made = n }) pic
+made_clean_any t n pic a = record { bytes = a.bytes }
+
+pub unmade_guards : (t : Shelf) (m : Maps) (n : ℕ) → IsGuarded t m → IsGuarded (record t { made = n }) m
+unmade_guards t m n g = record { aged = g.aged; guarded = g.guarded }
+
+pub unmade_order : (t : Shelf) (m : Maps) (n : ℕ) → IsInOrder t m → IsInOrder (record t { made = n }) m
+unmade_order t m n o = record { held = record { live = o.held.live; inside = o.held.inside }; settled = o.settled; tables = o.tables }
 
 -- What a new segment is in a world.
 

@@ -25,12 +25,12 @@ use Rattle.o2_stands.specs.Parts.{Parts}
 use Rattle.o2_stands.specs.Stands.{IsSegment, Matches}
 use Rattle.o2_changes.specs.Holding.{FreesIndex, Grants, Sweeps, Takes, TakesIndex}
 use Rattle.o2_changes.specs.Order.{IsInOrder}
-use Rattle.o2_changes.specs.Segments.{SetsLock}
+use Rattle.o2_changes.specs.Segments.{IsNewest, SetsLock}
 use Rattle.o2_changes.specs.Worlds.{LosesOne, MatchesMake, held_as, new_segment}
 use Rattle.o2_changes.proofs.DropsStand.{drops_stand}
 use Rattle.o2_changes.proofs.HoldsStand.{holds_stand, region_same}
 use Rattle.o2_changes.proofs.LocksStand.{locks_match}
-use Rattle.o2_changes.proofs.MakesStand.{made_clean, made_pictures, makes_match, new_unheld, unmade_match}
+use Rattle.o2_changes.proofs.MakesStand.{made_clean, made_pictures, makes_match, new_newest, new_unheld, unmade_match}
 use Rattle.o2_world.specs.Map.{get}
 use Rattle.o2_world.specs.World.{Segment}
 use Rattle.o2_store.specs.Shelf.{HasAll, Removes, aged}
@@ -125,10 +125,14 @@ size_matches s t m n images told before after id size live r only clean order al
 
 pub unmake_matches : (s t : Shelf) (m : Maps) (id : SegId) → IsShelf s → IsSome (entry_of s id) → IsUnheld m id → Removes s t id.key → IsInOrder t m → all_of t.swap ≡ all_of s.swap
     → (p : Parts) (w : World) (sg : Segment) → p.shelf ≡ s → p.maps ≡ m → id.age ≡ w.next_name → get w.names w.next_name ≡ None
-    → Matches p (with_change w (Makes sg)) → Matches (record p { shelf = record t { made = w.next_name } }) w
+    → Matches p (with_change w (Makes sg)) → Matches (record p { shelf = record t { made = id.age } }) w
 unmake_matches s t m id shelf live none r order map p w sg es em age absent q =
-    unmade_match p w sg t id (subst IsShelf (sym es) shelf) (subst (λ (x : Shelf). IsSome (entry_of x id)) (sym es) live) (subst (λ (x : Shelf). Removes x t id.key) (sym es) r) (subst (λ (x : Maps). IsUnheld x id) (sym em) none) age absent q
-    (subst (IsInOrder t) (sym em) order) (map ∙ ap (λ (x : Shelf). all_of x.swap) (sym es))
+    subst (λ (k : ℕ). Matches (record p { shelf = record t { made = k } }) w) (sym age) (unmade_match p w sg t id (subst IsShelf (sym es) shelf) (subst (λ (x : Shelf). IsSome (entry_of x id)) (sym es) live) (subst (λ (x : Shelf). Removes x t id.key) (sym es) r) (subst (λ (x : Maps). IsUnheld x id) (sym em) none) age absent q
+    (subst (IsInOrder t) (sym em) order) (map ∙ ap (λ (x : Shelf). all_of x.swap) (sym es)))
+
+pub some_newest : (s t : Shelf) (o : Option SegId) (e : Entry) → IsShelf s → IfSome o (λ id. Adds s t id e) → IfSome o (λ id. IsNewest t id)
+some_newest s t None e shelf adds = tt
+some_newest s t (Some id) e shelf adds = new_newest s t id e shelf adds
 
 pub some_unheld : (s t : Shelf) (m : Maps) (o : Option SegId) (e : Entry) → IfSome o (λ id. Adds s t id e) → IsInOrder s m → IfSome o (λ id. IsUnheld m id)
 some_unheld s t m None e adds order = tt

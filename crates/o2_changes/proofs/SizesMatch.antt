@@ -53,14 +53,14 @@ resized_rest size bytes j a b =
     get_or-append_right (take size bytes) (replicate (size - length bytes) 0) (length bytes) j 0 d a ∙ get_or-same (size - length bytes) (j - length bytes) 0
 
 -- what stays of each entry
-record StaysAs (o u : Option Entry) : Type 0 where
+pub record StaysAs (o u : Option Entry) : Type 0 where
   pub live : is_some u ≡ is_some o
   pub age : (entry_or u).age ≡ (entry_or o).age
   pub attr : (entry_or u).attr ≡ (entry_or o).attr
   pub image : (x : ℕ × ℕ) → (entry_or u).image ≡ Some x → (entry_or o).image ≡ Some x
 
 module _ (s t : Shelf) (told : Bool) (images : ImageList) (before after : ℕ → List ℕ) (key size : ℕ) (r : Resizes told (picture images) s before t after key size) where
-  each : (k : ℕ) → StaysAs (slot_at s.entries k) (slot_at t.entries k)
+  pub each : (k : ℕ) → StaysAs (slot_at s.entries k) (slot_at t.entries k)
   each k = elim (cases_eq k key) [
     | inr n ↦ (let e = r.same k n in record { live = e.live; age = e.age; attr = e.attr; image = e.image })
     | inl same ↦ subst (λ (j : ℕ). StaysAs (slot_at s.entries j) (slot_at t.entries j)) (sym same) (record { live = r.here.live; age = r.here.age; attr = r.here.attr; image = r.here.image })
@@ -78,7 +78,7 @@ module _ (s t : Shelf) (told : Bool) (images : ImageList) (before after : ℕ �
   sized_key : (q : ℕ) → key_of t q ≡ key_of s q
   sized_key q = same_key s t q r.count (λ k. has_same k q)
 
-  sized_aged : AreAged s → AreAged t
+  pub sized_aged : AreAged s → AreAged t
   sized_aged a j k x y e = a j k (sym (each j).live ∙ x) (sym (each k).live ∙ y) (sym (each j).age ∙ e ∙ (each k).age)
 
 module _ (p : Parts) (w : World) (t : Shelf) (m : Maps) (after : ℕ → List ℕ) (told : Bool) (id : SegId) (size : ℕ) (tells : IsTrue told) (r : Resizes told (picture p.images) p.shelf p.block t after id.key size) (only : OnlyTables p.maps m) (live : IsSome (entry_of p.shelf id)) (stands : Matches p w) where

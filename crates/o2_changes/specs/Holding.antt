@@ -1,22 +1,33 @@
 -- A process holds a segment more often, or less.
-use Rattle.std.specs.Prelude.{◌≡◌, ℕ, ◌<◌, ◌≤◌, ◌&&◌, ◌||◌, ◌==◌, true, false, None, IsSome, if◌then◌else◌}
-use Rattle.o2_desc.specs.Bits.{rights_of}
+use Rattle.std.specs.Prelude.{◌≡◌, ℕ, ◌<◌, ◌≤◌, ◌&&◌, ◌||◌, ◌==◌, true, false, Some, None, IsSome, if◌then◌else◌}
+use Rattle.o2_desc.specs.Bits.{is_writable, rights_of}
+use Rattle.o2_entries.specs.Tables.{slot_at}
 use Rattle.o2_place.specs.declared.seg_id.SegId.{SegId}
 use Rattle.o2_regions.specs.declared.held.Held.{Held}
 use Rattle.o2_regions.specs.declared.held.Region.{Region}
 use Rattle.o2_regions.specs.Maps.{Maps, IsRegion, end_of, first_of, held_at, is_held, is_of, is_taken, less_of, more_of, region_of, same_region}
 use Rattle.o2_segbus.specs.Settled.{descriptor_at}
-use Rattle.o2_store.specs.Shelf.{Shelf, Removes}
+use Rattle.o2_store.specs.Shelf.{Shelf, Removes, entry, place_of}
 
 -- the rights to what a process holds at an index
 abbrev pub rights_at : Maps → ℕ → ℕ → ℕ
 rights_at m pid i = rights_of (descriptor_at m pid i).access
+
+-- a segment that may be written by an access byte isn't clean
+abbrev pub IsGuard : Shelf → SegId → (access : ℕ) → Type 0
+IsGuard s id access = is_writable (rights_of access) ≡ true → (entry s id.key).attr.clean ≡ false
 
 -- a process holds more at an index, with these rights where it held nothing there; all else that is held stays
 pub record Grants (old new : Maps) (pid i : ℕ) (h : Held) (access : ℕ) : Type 0 where
   pub processes : new.processes ≡ old.processes
   pub held : (q j : ℕ) → held_at new q j ≡ (if (q == pid) && (j == i) then more_of (held_at old pid i) h else held_at old q j)
   pub here : held_at old pid i ≡ None → rights_at new pid i ≡ rights_of access
+  pub rights : (q j : ℕ) → IsSome (held_at old q j) → rights_at new q j ≡ rights_at old q j
+
+-- what is held goes on to be held as it is, with its rights; more may be held
+pub record KeepsHolds (old new : Maps) : Type 0 where
+  pub processes : new.processes ≡ old.processes
+  pub held : (q j : ℕ) (h : Held) → held_at old q j ≡ Some h → held_at new q j ≡ Some h
   pub rights : (q j : ℕ) → IsSome (held_at old q j) → rights_at new q j ≡ rights_at old q j
 
 -- an index of its region may no longer be chosen, and of all others the same may
@@ -38,6 +49,10 @@ pub record Takes (old new : Maps) (pid i : ℕ) : Type 0 where
 abbrev pub FreesIndex : Maps → Maps → ℕ → ℕ → Type 0
 FreesIndex old new pid i = (g : Region) (j : ℕ) → IsRegion old g → first_of g ≤ j → j < end_of g
     → is_taken new g j ≡ (if same_region g (region_of pid i) && (j == i) then is_held new g j else is_taken old g j)
+
+-- each segment that goes on to live stays where it is
+abbrev pub KeepsPlaces : Shelf → Shelf → Type 0
+KeepsPlaces old new = (k : ℕ) → IsSome (slot_at new.entries k) → place_of new k ≡ place_of old k
 
 -- a segment that nobody holds is gone, and else all segments stay
 pub data Sweeps (old new : Shelf) (m : Maps) (id : SegId) : Type 0 where

@@ -1,9 +1,14 @@
--- A segment's lock count.
-use Rattle.std.specs.Prelude.{◌≡◌, ◌≢◌, ℕ, List, length}
+-- A segment that was made last, and a segment's lock count.
+use Rattle.std.specs.Prelude.{◌≡◌, ◌≢◌, ℕ, ◌+◌, ◌<◌, List, length, IsSome}
 use Rattle.o2_entries.specs.Tables.{slot_at}
 use Rattle.o2_place.specs.declared.seg_id.SegId.{SegId}
 use Rattle.o2_store.specs.Shelf.{Shelf, Pictures, byte_at, entry}
 use Rattle.std.specs.Prelude.{Some}
+
+-- a segment was made last: it has the last age, and each other one is older
+pub record IsNewest (s : Shelf) (id : SegId) : Type 0 where
+  pub last : s.made ≡ id.age + 1
+  pub older : (k : ℕ) → k ≢ id.key → IsSome (slot_at s.entries k) → (entry s k).age < id.age
 
 -- a segment is locked so often, and all else stays
 pub record SetsLock (old new : Shelf) (id : SegId) (lock : ℕ) : Type 0 where

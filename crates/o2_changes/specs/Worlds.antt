@@ -66,4 +66,4 @@ pub record MatchesSize (s t : Shelf) (old new : Maps) (images : ImageList) (told
 -- the store matches a world again without the segment that was made last, as if none had been made
 pub record MatchesUnmake (s t : Shelf) (m : Maps) (id : SegId) : Type 0 where
   pub world : (p : Parts) (w : World) (segment : Segment) → p.shelf ≡ s → p.maps ≡ m → id.age ≡ w.next_name → get w.names w.next_name ≡ None
-      → Matches p (with_change w (Makes segment)) → Matches (record p { shelf = record t { made = w.next_name } }) w
+      → Matches p (with_change w (Makes segment)) → Matches (record p { shelf = t }) w

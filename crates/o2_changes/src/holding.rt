@@ -3,8 +3,8 @@ ghost use Rattle.std.specs.Prelude.{◌≡◌, ℕ, ◌+◌, ◌<◌, ◌^◌, I
 ghost use Rattle.o2_desc.specs.Choice.{IsRun};
 ghost use Rattle.o2_regions.specs.Maps.{IsProcess, end_of, first_of, held_at, holds_of, is_reserved, is_taken, region_of};
 ghost use Rattle.o2_store.specs.Shelf.{entry_of};
-ghost use Rattle.o2_changes.specs.Holding.{Grants, TakesIndex};
-ghost use Rattle.o2_changes.specs.Order.{IsInOrder};
+ghost use Rattle.o2_changes.specs.Holding.{Grants, IsGuard, KeepsHolds, TakesIndex};
+ghost use Rattle.o2_changes.specs.Order.{IsGuarded, IsInOrder};
 ghost use Rattle.o2_changes.specs.Worlds.{MatchesHold};
 
 use o2_regions::{Held, Region, Regions};
@@ -40,6 +40,8 @@ pub fn hold_more(store: &Store, regions: &mut Regions, pid: u16, index: u16, hel
     ensures grants { Grants regions.old regions.new pid index held access }
     ensures reserved { regions.new.reserved ≡ regions.old.reserved }
     ensures order { IsInOrder store.now regions.new }
+    ensures guards { IsGuard store.now held.id access → IsGuarded store.now regions.old
+        → IsGuarded store.now regions.new }
     ensures matches { MatchesHold store.now regions.old regions.new pid index held access }
 {
     store.law();
@@ -60,7 +62,10 @@ pub fn hold_new(store: &Store, regions: &mut Regions, pid: u16, index: u16, held
 
     ensures grants { Grants regions.old regions.new pid index held access }
     ensures taken { TakesIndex regions.old regions.new pid index }
+    ensures holds { KeepsHolds regions.old regions.new }
     ensures order { IsInOrder store.now regions.new }
+    ensures guards { IsGuard store.now held.id access → IsGuarded store.now regions.old
+        → IsGuarded store.now regions.new }
     ensures matches { MatchesHold store.now regions.old regions.new pid index held access }
 {
     regions.law();

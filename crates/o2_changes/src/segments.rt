@@ -5,6 +5,7 @@ ghost use Rattle.o2_entries.specs.Tables.{live_numbers};
 ghost use Rattle.o2_image.specs.ImageList.{ImageList};
 ghost use Rattle.o2_outer.specs.Texts.{Rose};
 ghost use Rattle.o2_service.specs.Told.{OnlyTables};
+ghost use Rattle.o2_store.specs.Leaving.{IsStuck};
 ghost use Rattle.o2_store.specs.Loads.{live_load, live_load_at, swap_load};
 ghost use Rattle.o2_store.specs.Needs.{all_wanted, named_in};
 ghost use Rattle.o2_store.specs.Pictures.{picture, HasPicture};
@@ -12,8 +13,8 @@ ghost use Rattle.o2_store.specs.Shelf.{AreClean, Adds, HasAll, KeepsAll, Picture
 ghost use Rattle.o2_store.specs.Sizes.{Resizes, all_wanted_at, stays};
 ghost use Rattle.o2_swapmap.specs.Piles.{all_of};
 ghost use Rattle.o2_changes.specs.Holding.{IsUnheld};
-ghost use Rattle.o2_changes.specs.Order.{IsInOrder};
-ghost use Rattle.o2_changes.specs.Segments.{SetsLock};
+ghost use Rattle.o2_changes.specs.Order.{IsGuarded, IsInOrder};
+ghost use Rattle.o2_changes.specs.Segments.{IsNewest, SetsLock};
 ghost use Rattle.o2_changes.specs.Worlds.{MatchesLock, MatchesMake, MatchesMove, MatchesSize, MatchesUnmake, new_segment};
 
 use o2_image::Images;
@@ -43,8 +44,10 @@ pub fn make(
     ensures clean { (pic : Pictures) → AreClean store.old pic → AreClean store.new pic }
     ensures pictures { (images : ImageList) → HasAll (HasPicture images) store.old → HasAll (HasPicture images) store.new }
     ensures order { IsInOrder store.new regions.now }
+    ensures guards { IsGuarded store.old regions.now → IsGuarded store.new regions.now }
     ensures unheld { IfSome result (λ id. IsUnheld regions.now id) }
     ensures live { IfSome result (λ id. IsSome (entry_of store.new id)) }
+    ensures newest { IfSome result (λ id. IsNewest store.new id) }
     ensures matches { IfSome result (λ id. MatchesMake store.old store.new regions.now (new_segment size flags shared)) }
 {
     store.law();
@@ -59,20 +62,27 @@ pub fn make(
     )
 }
 
-/// Removes a live segment that nobody holds, with its range and its blocks.
+/// Removes the segment that was made last and that nobody holds, with its range and its blocks, as if it had never been made: the
+/// next one has its age.
 pub fn unmake(store: &mut Store, regions: &Regions, id: SegId)
     requires live { IsSome (entry_of store.old id) }
     requires unheld { IsUnheld regions.now id }
+    requires newest { IsNewest store.old id }
     requires order { IsInOrder store.old regions.now }
 
-    ensures removed { Removes store.old store.new id.key }
+    ensures removed { Removes store.old (record store.new { made = store.old.made }) id.key }
+    ensures made { store.new.made ≡ id.age }
     ensures map { all_of store.new.swap ≡ all_of store.old.swap }
     ensures clean { (pic : Pictures) → AreClean store.old pic → AreClean store.new pic }
+    ensures pictures { (images : ImageList) → HasAll (HasPicture images) store.old
+        → HasAll (HasPicture images) store.new }
     ensures order { IsInOrder store.new regions.now }
+    ensures guards { IsGuarded store.old regions.now → IsGuarded store.new regions.now }
     ensures matches { MatchesUnmake store.old store.new regions.now id }
 {
     store.law();
     store.remove(id);
+    store.unmake();
 }
 
 /// Sets how often a live segment is locked. One that gets a lock is in memory.
@@ -82,7 +92,12 @@ pub fn set_lock(store: &mut Store, regions: &Regions, id: SegId, lock: u8)
     requires order { IsInOrder store.old regions.now }
 
     ensures sets { SetsLock store.old store.new id lock }
+    ensures map { all_of store.new.swap ≡ all_of store.old.swap }
+    ensures clean { (pic : Pictures) → AreClean store.old pic → AreClean store.new pic }
+    ensures pictures { (images : ImageList) → HasAll (HasPicture images) store.old
+        → HasAll (HasPicture images) store.new }
     ensures order { IsInOrder store.new regions.now }
+    ensures guards { IsGuarded store.old regions.now → IsGuarded store.new regions.now }
     ensures matches { MatchesLock store.old store.new regions.now id lock }
 {
     if let Some(attr) = store.attr(id) {
@@ -115,6 +130,9 @@ pub fn bring_in<S: SwapDevice>(
     ensures map { all_of store.new.swap ≡ all_of store.old.swap }
     ensures maps { OnlyTables regions.old regions.new }
     ensures order { IsInOrder store.new regions.new }
+    ensures guards { IsGuarded store.old regions.old → IsGuarded store.new regions.new }
+    ensures pictures { (images : ImageList) → HasAll (HasPicture images) store.old
+        → HasAll (HasPicture images) store.new }
     ensures matches { MatchesMove store.old store.new regions.old regions.new images.now
         (S.told swap.new) (S.block swap.old) (S.block swap.new) }
     ensures kept { (k : ℕ) → named_in store.old.entries keep.now k ≡ true
@@ -126,6 +144,7 @@ pub fn bring_in<S: SwapDevice>(
     ensures loads { result ≡ Brought.SwapFull
         → (all_of store.old.swap < swap_load store.old)
         × (store.old.places.size < live_load store.old) }
+    ensures stuck { result ≡ Brought.SwapFull → IsStuck store.old store.new id.key }
     ensures faults { S.faults swap.old ≤ S.faults swap.new }
     ensures cause { result ≡ Brought.SwapFault → Rose (S.faults swap.old) (S.faults swap.new) }
     ensures never { result ≡ Brought.Stale → ⊥ }
@@ -160,6 +179,9 @@ pub fn resize<S: SwapDevice>(
     ensures map { all_of store.new.swap ≡ all_of store.old.swap }
     ensures maps { OnlyTables regions.old regions.new }
     ensures order { IsInOrder store.new regions.new }
+    ensures guards { IsGuarded store.old regions.old → IsGuarded store.new regions.new }
+    ensures pictures { (images : ImageList) → HasAll (HasPicture images) store.old
+        → HasAll (HasPicture images) store.new }
     ensures matches { result ≡ Brought.Here → MatchesSize store.old store.new regions.old regions.new images.now
         (S.told swap.new) (S.block swap.old) (S.block swap.new) id size }
     ensures stays { (result ≡ Brought.Here → ⊥) → MatchesMove store.old store.new regions.old regions.new images.now

@@ -1,14 +1,15 @@
 // DosLockSeg.
-ghost use Rattle.std.specs.Prelude.{◌≡◌, ◌<◌, ◌≤◌, ◌/◌, IsTrue, None, Some, IfSome, IsSome, if◌then◌else◌};
+ghost use Rattle.std.specs.Prelude.{◌≡◌, ℕ, ◌<◌, ◌≤◌, ◌/◌, IsTrue, None, Some, IfSome, IsSome, true, if◌then◌else◌};
 ghost use Rattle.o2_isa.specs.View.{is_local};
 ghost use Rattle.o2_outer.specs.Texts.{Rose};
 ghost use Rattle.o2_regions.specs.Maps.{IsProcess, held_at};
 ghost use Rattle.o2_segbus.specs.Seen.{AreNamed};
 ghost use Rattle.o2_store.specs.Loads.{live_load, swap_load};
+ghost use Rattle.o2_store.specs.Needs.{all_wanted, named_in};
 ghost use Rattle.o2_store.specs.Pictures.{picture, HasPicture};
-ghost use Rattle.o2_store.specs.Shelf.{AreClean, HasAll, entry, entry_of};
+ghost use Rattle.o2_store.specs.Shelf.{AreClean, HasAll, entry, entry_of, place_of};
 ghost use Rattle.o2_swapmap.specs.Piles.{all_of};
-ghost use Rattle.o2_changes.specs.Order.{IsInOrder};
+ghost use Rattle.o2_changes.specs.Order.{IsGuarded, IsInOrder};
 ghost use Rattle.o2_stands.specs.Stands.{Matches};
 ghost use Rattle.o2_segs.specs.Answers.{AnswersRoomed, changes_roomed};
 ghost use Rattle.o2_segs.specs.Made.{IsStop};
@@ -57,8 +58,18 @@ pub fn lock_seg<S: SwapDevice>(
         (with_all w (changes_roomed (locking (known_in p o) pid sel) result)) }
     ensures stops { IsStop result
         → IfSome (if is_local sel then held_at regions.old pid (sel / 8) else None) (λ h. (entry store.old h.id.key).attr.lock ≡ 0) }
+    ensures processes { regions.new.processes ≡ regions.old.processes }
     ensures order { IsInOrder store.new regions.new }
+    ensures guards { IsGuarded store.old regions.old → IsGuarded store.new regions.new }
     ensures clean { AreClean store.new (picture images.now) }
+    ensures pictures { HasAll (HasPicture images.now) store.new }
+    ensures map { all_of store.new.swap ≡ all_of store.old.swap }
+    ensures device { (S.blocks swap.new ≡ S.blocks swap.old)
+        × (S.told swap.new ≡ S.told swap.old) }
+    ensures kept { (k : ℕ) → named_in store.old.entries keep.now k ≡ true
+        → IsSome (place_of store.old k) → IsSome (place_of store.new k) }
+    ensures no_room { result ≡ Roomed.NoRoom → IfSome (if is_local sel then held_at regions.old pid (sel / 8) else None)
+        (λ h. store.old.places.size < all_wanted store.old h.id.key keep.now) }
     ensures loads { result ≡ Roomed.SwapFull
         → (all_of store.old.swap < swap_load store.old)
         × (store.old.places.size < live_load store.old) }
@@ -93,8 +104,17 @@ fn lock<S: SwapDevice>(
         → Matches p w → Matches (moved p store.new regions.new (S.block swap.new))
         (with_all w (changes_roomed (locking_with id.age (Some m)) result)) }
     ensures stops { IsStop result → (entry store.old id.key).attr.lock ≡ 0 }
+    ensures processes { regions.new.processes ≡ regions.old.processes }
     ensures order { IsInOrder store.new regions.new }
+    ensures guards { IsGuarded store.old regions.old → IsGuarded store.new regions.new }
     ensures clean { AreClean store.new (picture images.now) }
+    ensures pictures { HasAll (HasPicture images.now) store.new }
+    ensures map { all_of store.new.swap ≡ all_of store.old.swap }
+    ensures device { (S.blocks swap.new ≡ S.blocks swap.old)
+        × (S.told swap.new ≡ S.told swap.old) }
+    ensures kept { (k : ℕ) → named_in store.old.entries keep.now k ≡ true
+        → IsSome (place_of store.old k) → IsSome (place_of store.new k) }
+    ensures no_room { result ≡ Roomed.NoRoom → store.old.places.size < all_wanted store.old id.key keep.now }
     ensures loads { result ≡ Roomed.SwapFull
         → (all_of store.old.swap < swap_load store.old)
         × (store.old.places.size < live_load store.old) }

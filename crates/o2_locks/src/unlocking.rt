@@ -3,8 +3,12 @@ ghost use Rattle.std.specs.Prelude.{◌≡◌, ◌-◌, ◌<◌, ◌==◌, if◌
 ghost use Rattle.o2_desc.specs.Bits.{has_bit};
 ghost use Rattle.o2_regions.specs.Maps.{IsProcess};
 ghost use Rattle.o2_segbus.specs.Seen.{AreNamed};
-ghost use Rattle.o2_store.specs.Shelf.{entry, entry_of};
-ghost use Rattle.o2_changes.specs.Order.{IsInOrder};
+ghost use Rattle.o2_image.specs.ImageList.{ImageList};
+ghost use Rattle.o2_store.specs.Pictures.{HasPicture};
+ghost use Rattle.o2_store.specs.Shelf.{AreClean, HasAll, Pictures, entry, entry_of};
+ghost use Rattle.o2_swapmap.specs.Piles.{all_of};
+ghost use Rattle.o2_changes.specs.Holding.{KeepsPlaces};
+ghost use Rattle.o2_changes.specs.Order.{IsGuarded, IsInOrder};
 ghost use Rattle.o2_stands.specs.Stands.{Matches};
 ghost use Rattle.o2_segs.specs.Answers.{Answers};
 ghost use Rattle.o2_stands.specs.Knows.{Others, known_in};
@@ -57,8 +61,14 @@ pub fn unlock_seg(store: &mut Store, regions: &mut Regions, pid: u16, sel: u16) 
 
     ensures answer { (p : Parts) (o : Others) → p.shelf ≡ store.old → p.maps ≡ regions.old
         → Answers (unlocking (known_in p o) pid sel) result }
+    ensures places { KeepsPlaces store.old store.new }
     ensures regions { regions.new ≡ regions.old }
     ensures order { IsInOrder store.new regions.new }
+    ensures guards { IsGuarded store.old regions.old → IsGuarded store.new regions.new }
+    ensures clean { (pic : Pictures) → AreClean store.old pic → AreClean store.new pic }
+    ensures pictures { (images : ImageList) → HasAll (HasPicture images) store.old
+        → HasAll (HasPicture images) store.new }
+    ensures map { all_of store.new.swap ≡ all_of store.old.swap }
     ensures matches { (p : Parts) (o : Others) (w : World) → p.shelf ≡ store.old
         → p.maps ≡ regions.old → Matches p w → Matches (record p { shelf = store.new })
         (with_all w (unlocking (known_in p o) pid sel).changes) }
@@ -76,7 +86,13 @@ fn unlock(store: &mut Store, regions: &Regions, id: SegId) -> Answer
 
     ensures answer { (m : Marks) → IsMarked (entry store.old id.key).attr m
         → Answers (unlocking_with id.age (Some m)) result }
+    ensures places { KeepsPlaces store.old store.new }
     ensures order { IsInOrder store.new regions.now }
+    ensures guards { IsGuarded store.old regions.now → IsGuarded store.new regions.now }
+    ensures clean { (pic : Pictures) → AreClean store.old pic → AreClean store.new pic }
+    ensures pictures { (images : ImageList) → HasAll (HasPicture images) store.old
+        → HasAll (HasPicture images) store.new }
+    ensures map { all_of store.new.swap ≡ all_of store.old.swap }
     ensures matches { (m : Marks) (p : Parts) (w : World) → IsMarked (entry store.old id.key).attr m → p.shelf ≡ store.old
         → p.maps ≡ regions.now → Matches p w → Matches (record p { shelf = store.new })
         (with_all w (unlocking_with id.age (Some m)).changes) }

@@ -1,6 +1,6 @@
 -- What the row of a new segment comes to.
-use Rattle.std.proofs.Common.{◌≡◌, ℕ, ◌+◌, ◌%◌, ◌<◌, ◌≤◌, ◌||◌, ◌==◌, arith, List, [], ◌∷◌, length, replicate, Option, Some, None, is_some, IsSome, Bool, true, false, cond, eqb, nat_le, nat_lt, refl, sym, ap, ◌∙◌, subst}
-use Rattle.std.proofs.lemmas.Bool.{cond-true, cond-false, eq-eqb}
+use Rattle.std.proofs.Common.{◌≡◌, ◌≢◌, ◌⊎◌, ◌&&◌, inl, inr, ℕ, ◌+◌, ◌%◌, ◌<◌, ◌≤◌, ◌||◌, ◌==◌, arith, List, [], ◌∷◌, length, replicate, Option, Some, None, is_some, IsSome, Bool, true, false, cond, eqb, nat_le, nat_lt, refl, sym, ap, ◌∙◌, subst}
+use Rattle.std.proofs.lemmas.Bool.{and_parts, cond-true, cond-false, eq-eqb, eqb-true}
 use Rattle.std.proofs.lemmas.Bool.Decides.{nat_tests}
 use Rattle.o2_base.specs.Selectors.{selector_of}
 use Rattle.o2_desc.specs.Bits.{has_bit, writable_data}
@@ -18,7 +18,10 @@ use Rattle.o2_regions.specs.Maps.{Maps, IsProcess, end_of, first_of, held_at, is
 use Rattle.o2_service.specs.Told.{OnlyTables}
 use Rattle.o2_store.specs.declared.brought.Brought.{Brought}
 use Rattle.o2_store.specs.declared.brought.Brought.TheVariants as brought
-use Rattle.o2_store.specs.Shelf.{Shelf, Adds, aged, entry, entry_of}
+use Rattle.o2_store.specs.Needs.{has_age, named_in}
+use Rattle.o2_store.specs.Shelf.{Shelf, Adds, aged, entry, entry_of, entry_or, place_of}
+use Rattle.o2_store.proofs.Tables.{slot-set_other, slot-set_same}
+use Rattle.o2_swapmap.specs.Piles.{all_of}
 use Rattle.o2_changes.specs.Holding.{IsUnheld}
 use Rattle.o2_changes.specs.Segments.{SetsLock}
 use Rattle.o2_changes.specs.Worlds.{MatchesHold, new_segment}
@@ -35,7 +38,7 @@ use Rattle.o2_stands.specs.Moves.{moved}
 use Rattle.o2_stands.specs.Parts.{Parts}
 use Rattle.o2_stands.proofs.Moves.{taken_same}
 use Rattle.o2_segs.specs.Answers.{Answers, AnswersRoomed, changes_roomed, stop_of}
-use Rattle.o2_segs.specs.Made.{IsStop, allocation_to, left_by, made_by_call, region_for}
+use Rattle.o2_segs.specs.Made.{IsStop, allocation_to, made_by_call, new_entry, region_for}
 use Rattle.o2_segs.proofs.Rows.{own_index}
 
 -- The index.
@@ -142,6 +145,60 @@ set_live s t id lock live l =
 pub still_unheld : (m n : Maps) (id : SegId) → OnlyTables m n → IsUnheld m id → IsUnheld n id
 still_unheld m n id o u pid i = ap (λ (x : Maps). is_of id (held_at x pid i)) o.rest ∙ u pid i
 
+-- What a new segment leaves of the others.
+
+pub added_entry : (s t : Shelf) (id : SegId) (e : Entry) → Adds s t id e → entry t id.key ≡ e
+added_entry s t id e a = ap entry_or (ap (λ (x : Shelf). slot_at x.entries id.key) a.shelf ∙ slot-set_same s.entries id.key (Some e) a.within)
+
+pub added_map : (s t : Shelf) (id : SegId) (e : Entry) → Adds s t id e → all_of t.swap ≡ all_of s.swap
+added_map s t id e a = ap (λ (x : Shelf). all_of x.swap) a.shelf
+
+pub added_place : (s t : Shelf) (id : SegId) (e : Entry) (k : ℕ) → Adds s t id e → IsSome (place_of s k) → IsSome (place_of t k)
+added_place s t id e k a here = subst (λ (o : Option (ℕ × ℕ)). IsSome o) (sym (ap (λ (x : Shelf). place_of x k) a.shelf)) here
+
+pub new_adds : (s t : Shelf) (id : SegId) (size flags n : ℕ) (b : Bool) → n ≡ full_size size → b ≡ (has_bit flags 0 || has_bit flags 1)
+    → Adds s t id (record { age = s.made; size = n; kept = 0; image = None; attr = record { flags = flags; lock = 0; clean = false; shared = b } }) → Adds s t id (new_entry s.made (full_size size) flags)
+new_adds s t id size flags n b en eb a =
+    subst (λ (k : ℕ). Adds s t id (new_entry s.made k flags)) en
+    (subst (λ (x : Bool). Adds s t id (record { age = s.made; size = n; kept = 0; image = None; attr = record { flags = flags; lock = 0; clean = false; shared = x } })) eb a)
+
+-- what is named in a list was there before
+
+one_of : (x y : Bool) → (x || y) ≡ true → (x ≡ true) ⊎ (y ≡ true)
+one_of true y e = inl refl
+one_of false y e = inr e
+
+named_some : (es : List (Option Entry)) (ids : List SegId) (k : ℕ) → named_in es ids k ≡ true → is_some (slot_at es k) ≡ true
+named_some es [] k e = absurd (cc)
+named_some es (id ∷ ids) k e = elim (one_of (has_age (slot_at es id.key) id.age && eqb k id.key) (named_in es ids k) e) [
+  | inl here ↦ (let p = and_parts (has_age (slot_at es id.key) id.age) (eqb k id.key) here in
+      subst (λ (j : ℕ). is_some (slot_at es j) ≡ true) (sym (eqb-true k id.key p.1)) (has_is (slot_at es id.key) id.age p.0).0)
+  | inr there ↦ named_some es ids k there
+]
+
+pub named_apart : (s t : Shelf) (id : SegId) (e : Entry) (ids : List SegId) (k : ℕ) → Adds s t id e → named_in s.entries ids k ≡ true → k ≢ id.key
+named_apart s t id e ids k a named same =
+    let z : false ≡ true = sym (ap is_some (ap (slot_at s.entries) same ∙ a.vacant)) ∙ named_some s.entries ids k named in
+    cc
+
+-- and is named there behind it
+pub named_behind : (s t : Shelf) (id : SegId) (e : Entry) (ids : List SegId) (k : ℕ) → Adds s t id e → k ≢ id.key → named_in s.entries ids k ≡ true → named_in t.entries ids k ≡ true
+named_behind s t id e ids k a apart named = go ids ∙ named
+  where
+    slot_same : slot_at t.entries k ≡ slot_at s.entries k
+    slot_same = ap (λ (x : Shelf). slot_at x.entries k) a.shelf ∙ slot-set_other s.entries id.key k (Some e) apart
+
+    one : (x : SegId) (b : Bool) → eqb k x.key ≡ b → (has_age (slot_at t.entries x.key) x.age && b) ≡ (has_age (slot_at s.entries x.key) x.age && b)
+    one x true f = ap (λ (o : Option Entry). has_age o x.age && true) (subst (λ (j : ℕ). slot_at t.entries j ≡ slot_at s.entries j) (eqb-true k x.key f) slot_same)
+    one x false f = none (has_age (slot_at t.entries x.key) x.age) (has_age (slot_at s.entries x.key) x.age)
+      where
+        none : (u v : Bool) → (u && false) ≡ (v && false)
+        none u v = grind arith
+
+    go : (xs : List SegId) → named_in t.entries xs k ≡ named_in s.entries xs k
+    go [] = refl
+    go (x ∷ xs) = ap (λ (b : Bool). b || named_in t.entries xs k) (one x (eqb k x.key) refl) ∙ ap (λ (b : Bool). (has_age (slot_at s.entries x.key) x.age && eqb k x.key) || b) (go xs)
+
 -- Stops.
 
 pub is_stop_of : (a : Brought) (stop r : Roomed) → Some stop ≡ stop_of a → Some stop ≡ Some r → IsStop r
@@ -151,8 +208,8 @@ is_stop_of brought.SwapFull stop r e f = subst IsStop (let g : roomed.SwapFull �
 is_stop_of brought.SwapFault stop r e f = subst IsStop (let g : roomed.SwapFault ≡ r = cc in g) tt
 is_stop_of brought.Stale stop r e f = absurd (cc)
 
-pub same_stop : (stop r : Roomed) → Some stop ≡ Some r → r ≡ roomed.SwapFault → stop ≡ roomed.SwapFault
-same_stop stop r e f = cc
+pub same_stop : (stop r q : Roomed) → Some stop ≡ Some r → r ≡ q → stop ≡ q
+same_stop stop r q e f = cc
 
 pub stop_answers_any : (ruling : Ruling) (r : Roomed) → IsStop r → ruling.error ≡ 0 → AnswersRoomed ruling r
 stop_answers_any ruling (roomed.Done a) stop none = absurd stop
@@ -160,12 +217,12 @@ stop_answers_any ruling roomed.NoRoom stop none = none
 stop_answers_any ruling roomed.SwapFull stop none = none
 stop_answers_any ruling roomed.SwapFault stop none = none
 
-pub stop_leaves : (p : Parts) (w : World) (t : Shelf) (n : Maps) (block : ℕ → List ℕ) (ruling : Ruling) (made : ℕ) (r : Roomed) → IsStop r → Matches (moved p (record t { made = made }) n block) w → Matches (moved p (left_by t made r) n block) (with_all w (changes_roomed ruling r))
+pub stop_leaves : (q : Parts) (w : World) (ruling : Ruling) (r : Roomed) → IsStop r → Matches q w → Matches q (with_all w (changes_roomed ruling r))
 unfolding with_changes
-stop_leaves p w t n block ruling made (roomed.Done a) stop q = absurd stop
-stop_leaves p w t n block ruling made roomed.NoRoom stop q = q
-stop_leaves p w t n block ruling made roomed.SwapFull stop q = q
-stop_leaves p w t n block ruling made roomed.SwapFault stop q = q
+stop_leaves q w ruling (roomed.Done a) stop m = absurd stop
+stop_leaves q w ruling roomed.NoRoom stop m = m
+stop_leaves q w ruling roomed.SwapFull stop m = m
+stop_leaves q w ruling roomed.SwapFault stop m = m
 
 -- What is made and held, as the changes of the row.
 
@@ -175,13 +232,13 @@ done_answers_any ruling value changes r e is = subst (AnswersRoomed ruling) (sym
 pub refusal_answers_any : (ruling : Ruling) (error : ℕ) (a : Answer) → ruling ≡ refusal error → a ≡ record { error = error; value = 0 } → Answers ruling a
 refusal_answers_any ruling error a e is = subst (Answers ruling) (sym is) (record { error = sym (ap (λ (x : Ruling). x.error) e); value = sym (ap (λ (x : Ruling). x.value) e) })
 
-pub made_matches : (p : Parts) (w : World) (x : Process) (t : Shelf) (m n : Maps) (block : ℕ → List ℕ) (id : SegId) (sg : Segment) (pid size flags i made left : ℕ) (ruling : Ruling) (r : Roomed)
+pub made_matches : (p : Parts) (w : World) (x : Process) (t : Shelf) (m n : Maps) (block : ℕ → List ℕ) (id : SegId) (sg : Segment) (pid size flags i made : ℕ) (ruling : Ruling) (r : Roomed)
     → ruling ≡ grants (selector_of i) (Makes (made_segment size flags) ∷ Holds pid i (held_by_call made) ∷ []) → r ≡ roomed.Done (record { error = 0; value = selector_of i })
     → made ≡ id.age → id.age ≡ w.next_name → sg ≡ made_segment size flags → IsSome (entry_of t id) → MatchesHold t m n pid i (made_by_call id) writable_data → process_at w.processes pid ≡ Some x
-    → Matches (moved p t m block) (with_change w (Makes sg)) → Matches (moved p (left_by t left r) n block) (with_all w (changes_roomed ruling r))
+    → Matches (moved p t m block) (with_change w (Makes sg)) → Matches (moved p t n block) (with_all w (changes_roomed ruling r))
 unfolding with_changes
-made_matches p w x t m n block id sg pid size flags i made left ruling r is done named age same live hold at q =
-    subst (λ (y : Roomed). Matches (moved p (left_by t left y) n block) (with_all w (changes_roomed ruling y))) (sym done)
+made_matches p w x t m n block id sg pid size flags i made ruling r is done named age same live hold at q =
+    subst (λ (y : Roomed). Matches (moved p t n block) (with_all w (changes_roomed ruling y))) (sym done)
     (subst (λ (y : Ruling). Matches (moved p t n block) (with_all w y.changes)) (sym is)
     (subst (λ (k : ℕ). Matches (moved p t n block) (with_change (with_change w (Makes (made_segment size flags))) (Holds pid i (held_by_call k)))) (sym named)
     (subst (λ (y : Segment). Matches (moved p t n block) (with_change (with_change w (Makes y)) (Holds pid i (held_by_call id.age)))) same

@@ -31,6 +31,13 @@ stop_changes ruling brought.SwapFault r e = ap (changes_roomed ruling) (sym (is_
 stop_changes ruling brought.Stale r e = absurd (cc)
 
 -- each stop by its cause
+pub stop_room : (a : Brought) (r : Roomed) → Some r ≡ stop_of a → r ≡ roomed.NoRoom → a ≡ brought.NoRoom
+stop_room brought.Here r e f = absurd (cc)
+stop_room brought.NoRoom r e f = refl
+stop_room brought.SwapFull r e f = absurd (cc)
+stop_room brought.SwapFault r e f = absurd (cc)
+stop_room brought.Stale r e f = absurd (cc)
+
 pub stop_full : (a : Brought) (r : Roomed) → Some r ≡ stop_of a → r ≡ roomed.SwapFull → a ≡ brought.SwapFull
 stop_full brought.Here r e f = absurd (cc)
 stop_full brought.NoRoom r e f = absurd (cc)

@@ -1,5 +1,7 @@
 -- A segment that a call makes.
-use Rattle.std.specs.Prelude.{◌≡◌, ℕ, ◌%◌, ◌==◌, Bool, IsTrue, List, Option, None, nat_le, if◌then◌else◌}
+use Rattle.std.specs.Prelude.{◌≡◌, ℕ, ◌%◌, ◌==◌, ◌||◌, Bool, false, IsTrue, List, Option, None, nat_le, if◌then◌else◌}
+use Rattle.o2_desc.specs.Bits.{has_bit}
+use Rattle.o2_entries.specs.declared.Entry.{Entry}
 use Rattle.o2_image.specs.ImageList.{ImageList}
 use Rattle.o2_place.specs.declared.seg_id.SegId.{SegId}
 use Rattle.o2_regions.specs.declared.answer.Roomed.{Roomed}
@@ -9,7 +11,7 @@ use Rattle.o2_regions.specs.declared.held.Held.{Held}
 use Rattle.o2_regions.specs.declared.held.Region.{Region}
 use Rattle.o2_regions.specs.declared.held.Region.TheVariants.{Private, Shared}
 use Rattle.o2_regions.specs.Maps.{Maps}
-use Rattle.o2_store.specs.Shelf.{Shelf}
+use Rattle.o2_store.specs.Shelf.{Shelf, Adds}
 use Rattle.o2_world.specs.Map.{get}
 use Rattle.o2_world.specs.World.{Segment, World}
 use Rattle.o2_world.specs.Changes.{Makes, with_change}
@@ -31,12 +33,16 @@ region_for pid flags = if flags % 4 == 0 then Private pid else Shared
 abbrev pub allocation_to : Known → (number size flags : ℕ) → Option ℕ → Ruling
 allocation_to k n size flags to = if nat_le k.most k.count then refusal 8 else allocation_at k n size flags to
 
--- a stop leaves the store as if no segment had been made
-abbrev pub left_by : Shelf → (made : ℕ) → Roomed → Shelf
-left_by s made (Done a) = s
-left_by s made NoRoom = record s { made = made }
-left_by s made SwapFull = record s { made = made }
-left_by s made SwapFault = record s { made = made }
+-- A store with one segment more of such a size and such flags, out of memory and not locked, of which this is so.
+
+abbrev pub new_entry : (made size flags : ℕ) → Entry
+new_entry made size flags = record { age = made; size = size; kept = 0; image = None; attr = record { flags = flags; lock = 0; clean = false; shared = has_bit flags 0 || has_bit flags 1 } }
+
+pub record IsWithNew (s : Shelf) (size flags : ℕ) (says : Shelf → SegId → Type 0) : Type 0 where
+  pub store : Shelf
+  pub id : SegId
+  pub adds : Adds s store id (new_entry s.made size flags)
+  pub holds : says store id
 
 -- a call isn't done
 abbrev pub IsStop : Roomed → Type 0
@@ -53,4 +59,4 @@ pub record MatchesLocked (s t : Shelf) (old new : Maps) (images : ImageList) (to
 -- and the world without it, as if none had been made
 pub record MatchesWithout (s t : Shelf) (old new : Maps) (images : ImageList) (told : Bool) (before after : ℕ → List ℕ) (id : SegId) : Type 0 where
   pub world : (p : Parts) (w : World) (segment : Segment) → p.shelf ≡ s → p.maps ≡ old → p.images ≡ images → p.block ≡ before → IsTrue told → id.age ≡ w.next_name
-      → get w.names w.next_name ≡ None → Matches p (with_change w (Makes segment)) → Matches (moved p (record t { made = w.next_name }) new after) w
+      → get w.names w.next_name ≡ None → Matches p (with_change w (Makes segment)) → Matches (moved p t new after) w

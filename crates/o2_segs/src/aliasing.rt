@@ -6,8 +6,8 @@ ghost use Rattle.o2_desc.specs.Choice.{chosen};
 ghost use Rattle.o2_regions.specs.Maps.{IsProcess, held_at, is_taken};
 ghost use Rattle.o2_segbus.specs.Seen.{AreNamed};
 ghost use Rattle.o2_store.specs.Shelf.{entry_of};
-ghost use Rattle.o2_changes.specs.Holding.{rights_at};
-ghost use Rattle.o2_changes.specs.Order.{IsInOrder};
+ghost use Rattle.o2_changes.specs.Holding.{KeepsHolds, rights_at};
+ghost use Rattle.o2_changes.specs.Order.{IsGuarded, IsInOrder};
 ghost use Rattle.o2_changes.specs.Worlds.{MatchesHold};
 ghost use Rattle.o2_stands.specs.Stands.{Matches};
 ghost use Rattle.o2_stands.specs.Knows.{Others, known_in};
@@ -29,6 +29,7 @@ use o2_store::Store;
 /// DosCreateCSAlias(sel, psel): a segment that the caller holds as data of its own that can be written is held under a new
 /// selector too, as code that can be read; its value is that selector. 5 where the segment isn't held so, 8 where no index of
 /// the process is free.
+#[tactic(auto, using(o2_changes::proofs::KeepingHolds::holds_refl))]
 pub fn create_cs_alias(store: &mut Store, regions: &mut Regions, pid: u16, sel: u16) -> Answer
     requires process { IsProcess regions.old pid }
     requires named { AreNamed store.old regions.old }
@@ -37,7 +38,9 @@ pub fn create_cs_alias(store: &mut Store, regions: &mut Regions, pid: u16, sel: 
     ensures answer { (p : Parts) (o : Others) → p.shelf ≡ store.old → p.maps ≡ regions.old
         → Answers (aliasing (known_in p o) pid sel) result }
     ensures store { store.new ≡ store.old }
+    ensures holds { KeepsHolds regions.old regions.new }
     ensures order { IsInOrder store.new regions.new }
+    ensures guards { IsGuarded store.old regions.old → IsGuarded store.new regions.new }
     ensures matches { (p : Parts) (o : Others) (w : World) (x : Process) → p.shelf ≡ store.old
         → p.maps ≡ regions.old → process_at w.processes pid ≡ Some x → Matches p w
         → Matches (record p { maps = regions.new })
@@ -79,6 +82,7 @@ fn has_no_alias(regions: &Regions, pid: u16, sel: u16, held: Held) -> bool
 }
 
 // A live segment is held under a new index of the process's own, as code.
+#[tactic(auto, using(o2_changes::proofs::KeepingHolds::holds_refl))]
 fn alias(store: &Store, regions: &mut Regions, pid: u16, id: SegId) -> Answer
     requires process { IsProcess regions.old pid }
     requires live { IsSome (entry_of store.now id) }
@@ -89,7 +93,9 @@ fn alias(store: &Store, regions: &mut Regions, pid: u16, id: SegId) -> Answer
     ensures aliased { (i : ℕ) → chosen (is_taken regions.old (Region.Private pid)) 1 4096 1 ≡ Some i
         → (result ≡ record { error = 0; value = selector_of i })
         × MatchesHold store.now regions.old regions.new pid i (alias_of id) readable_code }
+    ensures holds { KeepsHolds regions.old regions.new }
     ensures order { IsInOrder store.now regions.new }
+    ensures guards { IsGuarded store.now regions.old → IsGuarded store.now regions.new }
 {
     match regions.lowest(Region::Private(pid), 1) {
         Some(index) => {

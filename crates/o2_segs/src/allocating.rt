@@ -1,5 +1,5 @@
 // DosAllocSeg.
-ghost use Rattle.std.specs.Prelude.{◌≡◌, ◌-◌, ◌<◌, ◌≤◌, ◌^◌, ◌||◌, IsSome, IsTrue, Some, None, true};
+ghost use Rattle.std.specs.Prelude.{◌≡◌, ◌≢◌, ℕ, ◌-◌, ◌<◌, ◌≤◌, ◌^◌, ◌||◌, IsSome, IsTrue, Some, None, false, true};
 ghost use Rattle.o2_base.specs.Selectors.{selector_of};
 ghost use Rattle.o2_desc.specs.Bits.{has_bit, writable_data};
 ghost use Rattle.o2_desc.specs.Choice.{IsRun};
@@ -7,10 +7,13 @@ ghost use Rattle.o2_outer.specs.Texts.{Rose};
 ghost use Rattle.o2_regions.specs.Maps.{IsProcess, end_of, first_of, is_taken, region_of};
 ghost use Rattle.o2_service.specs.Told.{OnlyTables};
 ghost use Rattle.o2_store.specs.Pictures.{picture, HasPicture};
-ghost use Rattle.o2_store.specs.Shelf.{AreClean, HasAll, entry_of};
+ghost use Rattle.o2_store.specs.Loads.{live_load, swap_load, swap_load_but};
+ghost use Rattle.o2_store.specs.Needs.{all_wanted, named_in};
+ghost use Rattle.o2_store.specs.Shelf.{AreClean, HasAll, entry, entry_of, place_of};
 ghost use Rattle.o2_swapmap.specs.Piles.{all_of};
-ghost use Rattle.o2_changes.specs.Holding.{IsUnheld};
-ghost use Rattle.o2_changes.specs.Order.{IsInOrder};
+ghost use Rattle.o2_changes.specs.Holding.{IsUnheld, KeepsHolds};
+ghost use Rattle.o2_changes.specs.Order.{IsGuarded, IsInOrder};
+ghost use Rattle.o2_changes.specs.Segments.{IsNewest};
 ghost use Rattle.o2_changes.specs.Worlds.{MatchesHold};
 ghost use Rattle.o2_stands.specs.Stands.{Matches};
 ghost use Rattle.o2_stands.specs.Knows.{Others, known_in};
@@ -19,10 +22,10 @@ ghost use Rattle.o2_stands.specs.Parts.{Parts};
 ghost use Rattle.o2_world.specs.Changes.{with_all};
 ghost use Rattle.o2_world.specs.Holders.{process_at};
 ghost use Rattle.o2_world.specs.Map.{get};
-ghost use Rattle.o2_world.specs.Rulings.{allocation};
+ghost use Rattle.o2_world.specs.Rulings.{allocation, full_size};
 ghost use Rattle.o2_world.specs.World.{Process, World};
 ghost use Rattle.o2_segs.specs.Answers.{AnswersRoomed, changes_roomed};
-ghost use Rattle.o2_segs.specs.Made.{IsStop, MatchesLocked, MatchesWithout, allocation_to, left_by, made_by_call, region_for};
+ghost use Rattle.o2_segs.specs.Made.{IsStop, IsWithNew, MatchesLocked, MatchesWithout, allocation_to, made_by_call, region_for};
 
 use crate::asking::{INVALID_PARAMETER, NOT_ENOUGH_MEMORY, done, refusal, stop_of};
 use crate::reallocating::full_size;
@@ -67,7 +70,8 @@ fn region_for(pid: u16, flags: u16) -> Region
 /// written; its value is the selector. With flag 1 or 2 it is shared and has a shared selector; with flag 4 it is locked once,
 /// and so comes into memory, together with the segments of `keep` and those that are locked. 87 for other flags than 1, 2, 4
 /// and 8; 8 where no index of the region is free, or no more segments may live. A stop leaves all as if no segment had been
-/// made, but that the store has counted one more.
+/// made.
+#[tactic(auto, using(o2_changes::proofs::KeepingHolds::holds_refl))]
 pub fn alloc_seg<S: SwapDevice>(
     store: &mut Store,
     regions: &mut Regions,
@@ -90,11 +94,24 @@ pub fn alloc_seg<S: SwapDevice>(
     ensures matches { (p : Parts) (o : Others) (w : World) (x : Process) → p.shelf ≡ store.old → p.maps ≡ regions.old
         → p.images ≡ images.now → p.block ≡ S.block swap.old → IsTrue (S.told swap.new)
         → process_at w.processes pid ≡ Some x → get w.names w.next_name ≡ None → Matches p w
-        → Matches (moved p (left_by store.new store.old.made result) regions.new (S.block swap.new))
+        → Matches (moved p store.new regions.new (S.block swap.new))
         (with_all w (changes_roomed (allocation (known_in p o) pid size flags) result)) }
     ensures stops { IsStop result → has_bit flags 2 ≡ true }
+    ensures holds { KeepsHolds regions.old regions.new }
     ensures order { IsInOrder store.new regions.new }
+    ensures guards { IsGuarded store.old regions.old → IsGuarded store.new regions.new }
     ensures clean { AreClean store.new (picture images.now) }
+    ensures pictures { HasAll (HasPicture images.now) store.new }
+    ensures map { all_of store.new.swap ≡ all_of store.old.swap }
+    ensures device { (S.blocks swap.new ≡ S.blocks swap.old)
+        × (S.told swap.new ≡ S.told swap.old) }
+    ensures kept { (k : ℕ) → named_in store.old.entries keep.now k ≡ true
+        → IsSome (place_of store.old k) → IsSome (place_of store.new k) }
+
+    ensures no_room { result ≡ Roomed.NoRoom → IsWithNew store.old (full_size size) flags
+        (λ t id. t.places.size < all_wanted t id.key keep.now) }
+    ensures loads { result ≡ Roomed.SwapFull → (all_of store.old.swap < swap_load store.old)
+        × IsWithNew store.old (full_size size) flags (λ t id. t.places.size < live_load t) }
     ensures faults { S.faults swap.old ≤ S.faults swap.new }
     ensures cause { result ≡ Roomed.SwapFault → Rose (S.faults swap.old) (S.faults swap.new) }
 {
@@ -118,6 +135,7 @@ pub fn alloc_seg<S: SwapDevice>(
 }
 
 // A new segment is held at an index that is free.
+#[tactic(auto, using(o2_changes::proofs::KeepingHolds::holds_refl))]
 fn allocate<S: SwapDevice>(
     store: &mut Store,
     regions: &mut Regions,
@@ -142,11 +160,24 @@ fn allocate<S: SwapDevice>(
     ensures matches { (p : Parts) (o : Others) (w : World) (x : Process) → p.shelf ≡ store.old → p.maps ≡ regions.old
         → p.images ≡ images.now → p.block ≡ S.block swap.old → IsTrue (S.told swap.new)
         → process_at w.processes pid ≡ Some x → get w.names w.next_name ≡ None → Matches p w
-        → Matches (moved p (left_by store.new store.old.made result) regions.new (S.block swap.new))
+        → Matches (moved p store.new regions.new (S.block swap.new))
         (with_all w (changes_roomed (allocation_to (known_in p o) pid size flags (Some index)) result)) }
     ensures stops { IsStop result → has_bit flags 2 ≡ true }
+    ensures holds { KeepsHolds regions.old regions.new }
     ensures order { IsInOrder store.new regions.new }
+    ensures guards { IsGuarded store.old regions.old → IsGuarded store.new regions.new }
     ensures clean { AreClean store.new (picture images.now) }
+    ensures pictures { HasAll (HasPicture images.now) store.new }
+    ensures map { all_of store.new.swap ≡ all_of store.old.swap }
+    ensures device { (S.blocks swap.new ≡ S.blocks swap.old)
+        × (S.told swap.new ≡ S.told swap.old) }
+    ensures kept { (k : ℕ) → named_in store.old.entries keep.now k ≡ true
+        → IsSome (place_of store.old k) → IsSome (place_of store.new k) }
+
+    ensures no_room { result ≡ Roomed.NoRoom → IsWithNew store.old (full_size size) flags
+        (λ t id. t.places.size < all_wanted t id.key keep.now) }
+    ensures loads { result ≡ Roomed.SwapFull → (all_of store.old.swap < swap_load store.old)
+        × IsWithNew store.old (full_size size) flags (λ t id. t.places.size < live_load t) }
     ensures faults { S.faults swap.old ≤ S.faults swap.new }
     ensures cause { result ≡ Roomed.SwapFault → Rose (S.faults swap.old) (S.faults swap.new) }
 {
@@ -175,6 +206,8 @@ fn lock_new<S: SwapDevice>(
 ) -> Option<Roomed>
     requires live { IsSome (entry_of store.old id) }
     requires unheld { IsUnheld regions.old id }
+    requires newest { IsNewest store.old id }
+    requires bare { ((entry store.old id.key).image ≡ None) × ((entry store.old id.key).kept ≡ 0) }
     requires order { IsInOrder store.old regions.old }
     requires pictures { HasAll (HasPicture images.now) store.old }
     requires clean { AreClean store.old (picture images.now) }
@@ -185,14 +218,29 @@ fn lock_new<S: SwapDevice>(
     ensures without { (r : Roomed) → result ≡ Some r → IsStop r × MatchesWithout store.old store.new regions.old regions.new images.now
         (S.told swap.new) (S.block swap.old) (S.block swap.new) id }
     ensures live { result ≡ None → IsSome (entry_of store.new id) }
+    ensures plain { result ≡ None → (entry store.new id.key).attr.clean ≡ (entry store.old id.key).attr.clean }
     ensures maps { OnlyTables regions.old regions.new }
     ensures order { IsInOrder store.new regions.new }
+    ensures guards { IsGuarded store.old regions.old → IsGuarded store.new regions.new }
     ensures clean { AreClean store.new (picture images.now) }
+    ensures pictures { HasAll (HasPicture images.now) store.new }
+    ensures map { all_of store.new.swap ≡ all_of store.old.swap }
+    ensures device { (S.blocks swap.new ≡ S.blocks swap.old)
+        × (S.told swap.new ≡ S.told swap.old) }
+    ensures kept { (k : ℕ) → k ≢ id.key → named_in store.old.entries keep.now k ≡ true
+        → IsSome (place_of store.old k) → IsSome (place_of store.new k) }
+
+    ensures no_room { (r : Roomed) → result ≡ Some r → r ≡ Roomed.NoRoom
+        → store.old.places.size < all_wanted store.old id.key keep.now }
+    ensures loads { (r : Roomed) → result ≡ Some r → r ≡ Roomed.SwapFull
+        → (all_of store.old.swap < swap_load_but store.old id.key)
+        × (store.old.places.size < live_load store.old) }
     ensures faults { S.faults swap.old ≤ S.faults swap.new }
     ensures cause { (r : Roomed) → result ≡ Some r → r ≡ Roomed.SwapFault → Rose (S.faults swap.old) (S.faults swap.new) }
 {
     match stop_of(bring_in(store, regions, id, keep, images, swap)) {
         Some(stop) => {
+            store.law();
             unmake(store, regions, id);
             Some(stop)
         }
@@ -208,10 +256,13 @@ fn hold_made(store: &Store, regions: &mut Regions, pid: u16, index: u16, id: Seg
     requires process { IsProcess regions.old pid }
     requires free { IsRun (is_taken regions.old (region_of pid index)) (first_of (region_of pid index)) (end_of (region_of pid index)) 1 index }
     requires live { IsSome (entry_of store.now id) }
+    requires plain { (entry store.now id.key).attr.clean ≡ false }
     requires order { IsInOrder store.now regions.old }
 
     ensures answer { result ≡ Roomed.Done (record { error = 0; value = selector_of index }) }
+    ensures holds { KeepsHolds regions.old regions.new }
     ensures order { IsInOrder store.now regions.new }
+    ensures guards { IsGuarded store.now regions.old → IsGuarded store.now regions.new }
     ensures matches { MatchesHold store.now regions.old regions.new pid index (made_by_call id) writable_data }
 {
     let held = Held {

@@ -1,8 +1,13 @@
 // DosFreeSeg.
 ghost use Rattle.std.specs.Prelude.{◌≡◌, ◌/◌, ◌==◌, ◌&&◌, ◌||◌, Some, if◌then◌else◌};
 ghost use Rattle.o2_regions.specs.Maps.{IsProcess};
+ghost use Rattle.o2_image.specs.ImageList.{ImageList};
 ghost use Rattle.o2_segbus.specs.Seen.{AreNamed};
-ghost use Rattle.o2_changes.specs.Order.{IsInOrder};
+ghost use Rattle.o2_store.specs.Pictures.{HasPicture};
+ghost use Rattle.o2_store.specs.Shelf.{AreClean, HasAll, Pictures};
+ghost use Rattle.o2_swapmap.specs.Piles.{all_of};
+ghost use Rattle.o2_changes.specs.Holding.{KeepsPlaces};
+ghost use Rattle.o2_changes.specs.Order.{IsGuarded, IsInOrder};
 ghost use Rattle.o2_changes.specs.Worlds.{LosesOne};
 ghost use Rattle.o2_stands.specs.Stands.{Matches};
 ghost use Rattle.o2_stands.specs.Knows.{Others, known_in};
@@ -39,7 +44,14 @@ pub fn free_seg(
         → Answers (freeing (known_in p o) pid sel cpu.old) result }
     ensures registers { (p : Parts) (o : Others) → p.shelf ≡ store.old → p.maps ≡ regions.old
         → cpu.new ≡ freeing_cpu (known_in p o) pid sel cpu.old }
+    ensures places { KeepsPlaces store.old store.new }
+    ensures processes { regions.new.processes ≡ regions.old.processes }
     ensures order { IsInOrder store.new regions.new }
+    ensures guards { IsGuarded store.old regions.old → IsGuarded store.new regions.new }
+    ensures clean { (pic : Pictures) → AreClean store.old pic → AreClean store.new pic }
+    ensures pictures { (images : ImageList) → HasAll (HasPicture images) store.old
+        → HasAll (HasPicture images) store.new }
+    ensures map { all_of store.new.swap ≡ all_of store.old.swap }
     ensures matches { (p : Parts) (o : Others) (w : World) (x : Process) → p.shelf ≡ store.old
         → p.maps ≡ regions.old → process_at w.processes pid ≡ Some x
         → ((freeing (known_in p o) pid sel cpu.old).error ≡ 0 → LosesOne w pid (sel / 8))

@@ -1,13 +1,16 @@
 // DosReallocSeg.
-ghost use Rattle.std.specs.Prelude.{◌≡◌, ◌<◌, ◌≤◌, ◌==◌, ◌&&◌, ◌||◌, nat_lt, not, IsSome, IsTrue};
+ghost use Rattle.std.specs.Prelude.{◌≡◌, ℕ, ◌<◌, ◌≤◌, ◌/◌, ◌==◌, ◌&&◌, ◌||◌, nat_lt, not, None, IfSome, IsSome, IsTrue, true, if◌then◌else◌};
+ghost use Rattle.o2_isa.specs.View.{is_local};
 ghost use Rattle.o2_outer.specs.Texts.{Rose};
-ghost use Rattle.o2_regions.specs.Maps.{IsProcess};
+ghost use Rattle.o2_regions.specs.Maps.{IsProcess, held_at};
 ghost use Rattle.o2_segbus.specs.Seen.{AreNamed};
-ghost use Rattle.o2_store.specs.Loads.{swap_load};
-ghost use Rattle.o2_store.specs.Pictures.{picture};
-ghost use Rattle.o2_store.specs.Shelf.{AreClean, entry, entry_of};
+ghost use Rattle.o2_store.specs.Loads.{live_load_at, swap_load};
+ghost use Rattle.o2_store.specs.Needs.{named_in};
+ghost use Rattle.o2_store.specs.Pictures.{picture, HasPicture};
+ghost use Rattle.o2_store.specs.Shelf.{AreClean, HasAll, entry, entry_of, place_of};
+ghost use Rattle.o2_store.specs.Sizes.{all_wanted_at, stays};
 ghost use Rattle.o2_swapmap.specs.Piles.{all_of};
-ghost use Rattle.o2_changes.specs.Order.{IsInOrder};
+ghost use Rattle.o2_changes.specs.Order.{IsGuarded, IsInOrder};
 ghost use Rattle.o2_stands.specs.Stands.{Matches};
 ghost use Rattle.o2_stands.specs.Knows.{Others, known_in};
 ghost use Rattle.o2_stands.specs.Moves.{moved};
@@ -89,8 +92,22 @@ pub fn realloc_seg<S: SwapDevice>(
         → p.images ≡ images.now → p.block ≡ S.block swap.old → IsTrue (S.told swap.new) → Matches p w
         → Matches (moved p store.new regions.new (S.block swap.new))
         (with_all w (changes_roomed (reallocation (known_in p o) pid size sel) result)) }
+    ensures processes { regions.new.processes ≡ regions.old.processes }
     ensures order { IsInOrder store.new regions.new }
+    ensures guards { IsGuarded store.old regions.old → IsGuarded store.new regions.new }
     ensures clean { AreClean store.new (picture images.now) }
+    ensures pictures { HasAll (HasPicture images.now) store.old → HasAll (HasPicture images.now) store.new }
+    ensures map { all_of store.new.swap ≡ all_of store.old.swap }
+    ensures device { (S.blocks swap.new ≡ S.blocks swap.old)
+        × (S.told swap.new ≡ S.told swap.old) }
+    ensures kept { (k : ℕ) → named_in store.old.entries keep.now k ≡ true
+        → IsSome (place_of store.old k) → IsSome (place_of store.new k) }
+
+    ensures no_room { result ≡ Roomed.NoRoom → IfSome (if is_local sel then held_at regions.old pid (sel / 8) else None)
+        (λ h. (stays store.old h.id.key keep.now ≡ true)
+        × (store.old.places.size < all_wanted_at store.old h.id.key keep.now (full_size size))) }
+    ensures all_load { result ≡ Roomed.SwapFull → IfSome (if is_local sel then held_at regions.old pid (sel / 8) else None)
+        (λ h. store.old.places.size < live_load_at store.old h.id.key (full_size size)) }
     ensures load { result ≡ Roomed.SwapFull → all_of store.old.swap < swap_load store.old }
     ensures faults { S.faults swap.old ≤ S.faults swap.new }
     ensures cause { result ≡ Roomed.SwapFault → Rose (S.faults swap.old) (S.faults swap.new) }

@@ -1,13 +1,15 @@
 // One segment comes in, and the descriptors of each one that moves for it say where it is.
 ghost use Rattle.std.specs.Prelude.{◌≡◌, ◌≢◌, ℕ, List, Bool, ◌+◌, ◌<◌, ◌≤◌, length, is_some, IsSome, IsTrue, None, true};
 ghost use Rattle.o2_outer.specs.Texts.{Rose};
+ghost use Rattle.o2_entries.specs.Tables.{slot_at};
 ghost use Rattle.o2_place.specs.Layout.{IsFree, used};
 ghost use Rattle.o2_segbus.specs.Settled.{IsSettled};
 ghost use Rattle.o2_swapmap.specs.Piles.{all_of};
 ghost use Rattle.o2_store.specs.Loads.{live_load, swap_load};
 ghost use Rattle.o2_store.specs.Needs.{all_wanted, named_in};
 ghost use Rattle.o2_store.specs.Pictures.{picture, HasPicture};
-ghost use Rattle.o2_store.specs.Shelf.{AreClean, HasAll, KeepsAll, Pictures, SameTables, entry, entry_of, place_of, rounded};
+ghost use Rattle.o2_store.specs.Leaving.{IsStuck};
+ghost use Rattle.o2_store.specs.Shelf.{AreClean, HasAll, IsFull, KeepsAll, Pictures, SameTables, entry, entry_of, place_of, rounded};
 ghost use Rattle.o2_service.specs.Told.{Follows, IsHeldWell};
 
 use crate::settling::{settle_moved, settle_slid};
@@ -44,12 +46,14 @@ fn make_way<S: SwapDevice>(
     ensures kept { (k : ℕ) → named_in store.old.entries keep.now k ≡ true
         → place_of store.new k ≡ place_of store.old k }
     ensures none { (k : ℕ) → place_of store.old k ≡ None → place_of store.new k ≡ None }
+    ensures entry { slot_at store.new.entries id.key ≡ slot_at store.old.entries id.key }
 
     ensures fewer { result ≡ Brought.Here
         → length store.new.places.ranges < length store.old.places.ranges }
     ensures loads { result ≡ Brought.SwapFull
         → (all_of store.old.swap < swap_load store.old)
         × (store.old.places.size < live_load store.old) }
+    ensures full { result ≡ Brought.SwapFull → IsFull store.new }
     ensures faults { S.faults swap.old ≤ S.faults swap.new }
     ensures cause { result ≡ Brought.SwapFault → Rose (S.faults swap.old) (S.faults swap.new) }
     ensures never { (result ≡ Brought.NoRoom → ⊥) × (result ≡ Brought.Stale → ⊥) }
@@ -89,12 +93,14 @@ fn make_room<S: SwapDevice>(
     ensures kept { (k : ℕ) → named_in store.old.entries keep.now k ≡ true
         → place_of store.new k ≡ place_of store.old k }
     ensures none { (k : ℕ) → place_of store.old k ≡ None → place_of store.new k ≡ None }
+    ensures entry { slot_at store.new.entries id.key ≡ slot_at store.old.entries id.key }
 
     ensures room { result ≡ Brought.Here
         → used store.new.places.ranges + rounded (entry store.new id.key).size ≤ store.new.places.size }
     ensures loads { result ≡ Brought.SwapFull
         → (all_of store.old.swap < swap_load store.old)
         × (store.old.places.size < live_load store.old) }
+    ensures full { result ≡ Brought.SwapFull → IsFull store.new }
     ensures faults { S.faults swap.old ≤ S.faults swap.new }
     ensures cause { result ≡ Brought.SwapFault → Rose (S.faults swap.old) (S.faults swap.new) }
     ensures never { (result ≡ Brought.NoRoom → ⊥) × (result ≡ Brought.Stale → ⊥) }
@@ -203,6 +209,7 @@ fn bring_in<S: SwapDevice>(
     ensures loads { result ≡ Brought.SwapFull
         → (all_of store.old.swap < swap_load store.old)
         × (store.old.places.size < live_load store.old) }
+    ensures stuck { result ≡ Brought.SwapFull → IsStuck store.old store.new id.key }
     ensures faults { S.faults swap.old ≤ S.faults swap.new }
     ensures cause { result ≡ Brought.SwapFault → Rose (S.faults swap.old) (S.faults swap.new) }
     ensures never { (result ≡ Brought.NoRoom → ⊥) × (result ≡ Brought.Stale → ⊥) }
@@ -252,6 +259,7 @@ pub fn bring<S: SwapDevice>(
     ensures loads { result ≡ Brought.SwapFull
         → (all_of store.old.swap < swap_load store.old)
         × (store.old.places.size < live_load store.old) }
+    ensures stuck { result ≡ Brought.SwapFull → IsStuck store.old store.new id.key }
     ensures faults { S.faults swap.old ≤ S.faults swap.new }
     ensures cause { result ≡ Brought.SwapFault → Rose (S.faults swap.old) (S.faults swap.new) }
     ensures never { result ≡ Brought.Stale → ⊥ }

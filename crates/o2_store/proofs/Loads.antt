@@ -1,16 +1,19 @@
 -- What the segments take together, and what is left of it.
-use Rattle.std.proofs.Common.{◌≡◌, inl, inr, ℕ, zero, suc, ◌+◌, ◌<◌, ◌≤◌, List, [], ◌∷◌, length, get_or, Option, Some, None, is_some, Bool, true, false, eqb, refl, sym, ap, ◌∙◌, arith, sum_by, if◌then◌else◌}
+use Rattle.std.proofs.Common.{◌≡◌, inl, inr, ℕ, zero, suc, ◌+◌, ◌<◌, ◌≤◌, List, [], ◌∷◌, length, get_or, Option, Some, None, is_some, Bool, true, false, eqb, refl, sym, ap, ◌∙◌, subst, arith, sum_by, if◌then◌else◌}
 use Rattle.std.proofs.lemmas.Bool.{cases_eq, cases_lt}
 use Rattle.std.proofs.lemmas.Bool.Decides.{nat_tests}
+use Rattle.std.proofs.lemmas.List.{length-set}
 use Rattle.std.proofs.lemmas.List.Sums.{sum_by-cons}
 use Rattle.o2_entries.specs.declared.Attr.{Attr}
 use Rattle.o2_entries.specs.declared.Entry.{Entry}
+use Rattle.o2_entries.specs.Tables.{slot_at}
+use Rattle.o2_place.specs.declared.seg_id.SegId.{SegId}
 use Rattle.o2_place.specs.Layout.{over, used, len_of}
 use Rattle.o2_place.proofs.Sums.{over-same, over-le, over-add, over-only, only}
 use Rattle.o2_swapmap.specs.Piles.{Blocks, blocks_of, free, all_of}
-use Rattle.o2_store.specs.Shelf.{Shelf, IsShelf, SameTables, IsFull, entry, entry_or, place_of, rounded, blocks_for}
-use Rattle.o2_store.specs.Loads.{block_load, swap_load, memory_load, live_load, memory_load_at, live_load_at}
-use Rattle.o2_store.proofs.Tables.{over-change, slot-past, placed_at}
+use Rattle.o2_store.specs.Shelf.{Shelf, Adds, IsShelf, SameTables, IsFull, entry, entry_or, place_of, rounded, blocks_for}
+use Rattle.o2_store.specs.Loads.{block_load, block_load_but, swap_load, swap_load_but, memory_load, live_load, memory_load_at, live_load_at}
+use Rattle.o2_store.proofs.Tables.{over-change, slot-past, slot-set_other, placed_at}
 use Rattle.o2_store.proofs.Keeping.{placed_below}
 
 -- a sum from its first summand on
@@ -64,6 +67,42 @@ full_load s h all full =
     ]) in
     omega (arith, a, b, c, all)
 
+-- a segment that was never written out has no blocks
+bare_le : (s : Shelf) (k : ℕ) → IsShelf s → k < length s.entries → (entry s k).image ≡ None → (entry s k).kept ≡ 0 → length (blocks_of s.swap k) ≤ 0
+bare_le s k h l none zero = let a = (h.each k l).stored none in omega (arith, a, zero)
+
+-- the same without one that is out of memory and was never written out
+pub full_load_but : (s : Shelf) (key : ℕ) → IsShelf s → over (λ k. length (blocks_of s.swap k)) (length s.entries) + length (free s.swap) ≡ all_of s.swap → IsFull s
+    → place_of s key ≡ None → (entry s key).image ≡ None → (entry s key).kept ≡ 0 → all_of s.swap < swap_load_but s key
+full_load_but s key h all full out none zero =
+    let v = full.victim in
+    let spare = length (free s.swap) + 1 in
+    let l = placed_below s v h full.present in
+    let a = over-add (λ k. length (blocks_of s.swap k)) (only v spare) (length s.entries) in
+    let b = over-only v spare (length s.entries) l in
+    let c = over-le (λ k. length (blocks_of s.swap k) + only v spare k) (block_load_but s key) (length s.entries) (λ k w. elim (cases_eq k v) [
+      | inl same ↦
+          (let t : eqb k v ≡ true = grind (arith, nat_tests) in
+          let u : eqb k key ≡ false = apart k same in
+          let x : length (blocks_of s.swap k) ≡ length (blocks_of s.swap v) = ap (λ (i : ℕ). length (blocks_of s.swap i)) same in
+          let y : block_load s k ≡ blocks_for (entry s v).size = ap (block_load s) same ∙ ap (λ (b : Bool). if b then 0 else blocks_for (entry s v).size) full.written in
+          rw (t, u) (omega (arith, x, y, full.lacks)))
+      | inr other ↦ (let t : eqb k v ≡ false = grind (arith, nat_tests) in elim (cases_eq k key) [
+        | inl here ↦
+            (let u : eqb k key ≡ true = grind (arith, nat_tests) in
+            let x = bare_le s k h w (subst (λ (i : ℕ). (entry s i).image ≡ None) (sym here) none) (subst (λ (i : ℕ). (entry s i).kept ≡ 0) (sym here) zero) in
+            rw (t, u) (omega (arith, x)))
+        | inr away ↦ (let u : eqb k key ≡ false = grind (arith, nat_tests) in let x = block_le s k h w in rw (t, u) (omega (arith, x)))
+      ])
+    ]) in
+    omega (arith, a, b, c, all)
+  where
+    apart : (k : ℕ) → k ≡ full.victim → eqb k key ≡ false
+    apart k same = elim (cases_eq k key) [
+      | inl here ↦ absurd (let z : ◌≡◌ {A = Bool} false true = sym (ap is_some (ap (place_of s) (sym same ∙ here) ∙ out)) ∙ full.present in cc)
+      | inr away ↦ (grind (arith, nat_tests))
+    ]
+
 len_le : (s : Shelf) (k : ℕ) → IsShelf s → (o : Option (ℕ × ℕ)) → place_of s k ≡ o → len_of o ≤ memory_load s k
 len_le s k h None e = omega arith
 len_le s k h (Some r) e = let p = (placed_at s k r.0 r.1 h e).1 in omega (arith, p)
@@ -107,6 +146,27 @@ same_swap_load s t q =
     ∙ over-same (block_load t) (block_load s) (length s.entries)
     (λ k l. ap (λ (a : Attr). if a.clean then 0 else blocks_for (entry t k).size) (q.same k).attr
     ∙ ap (λ (n : ℕ). if (entry s k).attr.clean then 0 else blocks_for n) (q.same k).size)
+
+pub same_load_but : (s t : Shelf) (key : ℕ) → SameTables s t → swap_load_but t key ≡ swap_load_but s key
+same_load_but s t key q =
+    ap (over (block_load_but t key)) q.count
+    ∙ over-same (block_load_but t key) (block_load_but s key) (length s.entries)
+    (λ k l. ap (λ (n : ℕ). if eqb k key then 0 else n)
+    (ap (λ (a : Attr). if a.clean then 0 else blocks_for (entry t k).size) (q.same k).attr
+    ∙ ap (λ (n : ℕ). if (entry s k).attr.clean then 0 else blocks_for n) (q.same k).size))
+
+-- a new segment adds nothing to what the others may need
+pub added_load : (s t : Shelf) (id : SegId) (e : Entry) → Adds s t id e → swap_load_but t id.key ≡ swap_load s
+added_load s t id e a =
+    ap (over (block_load_but t id.key)) (ap (λ (x : Shelf). length x.entries) a.shelf ∙ length-set s.entries id.key (Some e))
+    ∙ over-same (block_load_but t id.key) (block_load s) (length s.entries) (λ k l. elim (cases_eq k id.key) [
+      | inl same ↦
+          (let u : eqb k id.key ≡ true = grind (arith, nat_tests) in
+          rw u (sym (ap (λ (o : Option Entry). if (entry_or o).attr.clean then 0 else blocks_for (entry_or o).size) (ap (slot_at s.entries) same ∙ a.vacant))))
+      | inr other ↦
+          (let u : eqb k id.key ≡ false = grind (arith, nat_tests) in
+          rw u (ap (λ (o : Option Entry). if (entry_or o).attr.clean then 0 else blocks_for (entry_or o).size) (ap (λ (x : Shelf). slot_at x.entries k) a.shelf ∙ slot-set_other s.entries id.key k (Some e) other)))
+    ])
 
 pub same_live_load : (s t : Shelf) → SameTables s t → live_load t ≡ live_load s
 same_live_load s t q = ap (over (memory_load t)) q.count ∙ over-same (memory_load t) (memory_load s) (length s.entries) (λ k l. ap rounded (q.same k).size)

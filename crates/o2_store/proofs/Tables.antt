@@ -38,21 +38,25 @@ pub record Touches (s t : Shelf) (key : ℕ) : Type 0 where
   pub mark : (k : ℕ) → k ≢ key → (mark_of t.turns.marks k).present ≡ (mark_of s.turns.marks k).present
   pub blocks : (k : ℕ) → k ≢ key → k < length s.entries → length (blocks_of t.swap k) ≡ length (blocks_of s.swap k)
 
--- later ones were made
-older : (m n : ℕ) (o : Option Entry) (p : Option (ℕ × ℕ)) (b : Bool) (blocks : ℕ) → m ≤ n → IsSegment m o p b blocks → IsSegment n o p b blocks
-older m n o p b blocks l h = record {
+-- another number were made, above its age
+pub with_made : (m n : ℕ) (o : Option Entry) (p : Option (ℕ × ℕ)) (b : Bool) (blocks : ℕ) → (IsSome o → (entry_or o).age < n) → IsSegment m o p b blocks → IsSegment n o p b blocks
+with_made m n o p b blocks young h = record {
   placed = h.placed;
   clock = h.clock;
   locked = h.locked;
   dead = h.dead;
   live = h.live;
-  young = λ i. (let y = h.young i in omega (arith, y, l));
+  young = young;
   sized = h.sized;
   kept = h.kept;
   stored = h.stored;
   pure = h.pure;
   clean = h.clean;
 }
+
+-- later ones were made
+older : (m n : ℕ) (o : Option Entry) (p : Option (ℕ × ℕ)) (b : Bool) (blocks : ℕ) → m ≤ n → IsSegment m o p b blocks → IsSegment n o p b blocks
+older m n o p b blocks l h = with_made m n o p b blocks (λ i. (let y = h.young i in omega (arith, y, l))) h
 
 pub IsShelf-touch : (s t : Shelf) (key : ℕ) → IsShelf s → Touches s t key → key < length s.entries → IsSegmentAt t key → IsShelf t
 IsShelf-touch s t key h c l here = record {

@@ -4,7 +4,7 @@ use Rattle.o2_entries.specs.Tables.{slot_at}
 use Rattle.o2_place.specs.declared.seg_id.SegId.{SegId}
 use Rattle.o2_place.specs.Marks.{IsVictim}
 use Rattle.o2_store.specs.Needs.{named_in}
-use Rattle.o2_store.specs.Shelf.{Shelf, entry, entry_of, place_of}
+use Rattle.o2_store.specs.Shelf.{Shelf, IsFull, entry, entry_of, place_of}
 
 -- the segment has no image any more, and the last byte that its blocks keep isn't zero
 pub record IsWrittenOut (old new : Shelf) (k : ℕ) : Type 0 where
@@ -21,6 +21,12 @@ pub record Evicts (old new : Shelf) : Type 0 where
   pub places : (k : ℕ) → IsSome (place_of new k) → place_of new k ≡ place_of old k
   pub entries : (k : ℕ) → place_of old k ≡ None → slot_at new.entries k ≡ slot_at old.entries k
   pub written : WritesOut old new
+
+-- a segment stays out of memory with its entry, for want of swap blocks
+pub record IsStuck (old new : Shelf) (key : ℕ) : Type 0 where
+  pub full : IsFull new
+  pub out : place_of new key ≡ None
+  pub same : slot_at new.entries key ≡ slot_at old.entries key
 
 -- one segment left the memory: what the clock gives of those that aren't locked and not among the numbers
 pub record TakesVictim (old new : Shelf) : Type 0 where

@@ -11,6 +11,13 @@ block_load s k = if (entry s k).attr.clean then 0 else blocks_for (entry s k).si
 abbrev pub swap_load : Shelf → ℕ
 swap_load s = over (block_load s) (length s.entries)
 
+-- how many all but one may need together
+abbrev pub block_load_but : Shelf → ℕ → ℕ → ℕ
+block_load_but s key k = if k == key then 0 else block_load s k
+
+abbrev pub swap_load_but : Shelf → ℕ → ℕ
+swap_load_but s key = over (block_load_but s key) (length s.entries)
+
 -- what a segment takes of the memory
 abbrev pub memory_load : Shelf → ℕ → ℕ
 memory_load s k = rounded (entry s k).size

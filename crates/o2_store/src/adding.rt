@@ -118,6 +118,15 @@ impl Store {
         true
     }
 
+    /// The segment that was made last is gone as if it had never been made: the next one has its age.
+    pub fn unmake(&mut self)
+        requires some { 0 < self.old.made }
+        requires gone { (k : ℕ) → IsSome (slot_at self.old.entries k) → (entry self.old k).age + 1 < self.old.made }
+        ensures { self.new ≡ record self.old { made = self.old.made - 1 } }
+    {
+        self.made -= 1;
+    }
+
     /// Sets a segment's attributes. One that gets a lock is in memory, and it stays clean or not. False exactly where it
     /// is stale.
     pub fn set_attr(&mut self, id: SegId, attr: Attr) -> bool

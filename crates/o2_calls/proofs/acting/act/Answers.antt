@@ -1,10 +1,16 @@
 -- Each call is its row.
-use Rattle.std.proofs.Common.{sym, subst, ◌≡◌}
+use Rattle.std.proofs.Common.{ℕ, Option, IsSome, ap, refl, sym, subst, ◌≡◌}
 use Rattle.o2_regions.specs.declared.answer.Roomed.TheVariants.{Done}
+use Rattle.o2_regions.specs.Maps.{Maps}
 use Rattle.o2_gate.specs.declared.gathering.SegmentArguments.TheVariants.{Alloc, Realloc, Free, Size, Lock, Unlock, Alias}
 use Rattle.o2_stands.specs.Knows.{known_in, others_of}
 use Rattle.o2_stands.proofs.Matching.{matched_by}
-use Rattle.o2_calls.proofs.Overs.{behind_by, cpu_by, left_behind, loses, maps_only, none_next, row_by, sized_only, store_only, unmoved}
+use Rattle.o2_calls.proofs.Givable.{alias_givable, alloc_givable, no_others, some_parts}
+use Rattle.o2_calls.proofs.Overs.{behind_by, cpu_by, loses, maps_only, none_next, row_by, sized_only, store_only, unmoved}
+use Rattle.o2_store.specs.Pictures.{picture}
+use Rattle.o2_store.specs.Shelf.{Shelf, place_of}
+use Rattle.o2_changes.specs.Holding.{KeepsHolds}
+use Rattle.o2_changes.proofs.KeepingHolds.{holds_refl}
 use Rattle.o2_gate.specs.declared.gathering.SegmentArguments.{SegmentArguments}
 use Rattle.o2_stands.specs.Moves.{moved}
 use Rattle.o2_stands.specs.Stands.{Matches}
@@ -13,7 +19,6 @@ use Rattle.o2_world.specs.Known.{known_of}
 use Rattle.o2_world.specs.Rulings.{aliasing, freeing, locking, reallocation, unlocking}
 use Rattle.o2_segs.specs.Answers.{Answers, AnswersRoomed, changes_roomed}
 use Rattle.o2_calls.specs.Acts.{cpu_of, ruling_of}
-use Rattle.o2_segs.specs.Made.{left_by}
 use Rattle.o2_calls.proofs.acting.act.Goals as goal
 
 pub returns-in-Alloc-clause-row : goal.returns-in-Alloc-clause-row
@@ -23,7 +28,7 @@ returns-in-Alloc-clause-row g c = λ p s w over.
 
 pub returns-in-Alloc-clause-matches : goal.returns-in-Alloc-clause-matches
 returns-in-Alloc-clause-matches g c = λ p s w x over told at tied.
-    subst (λ (a : SegmentArguments). Matches (moved p (left_by c.alloc_seg.new.store c.args.store.now.made c.alloc_seg.result) c.alloc_seg.new.regions (g.S.SwapDevice.block c.alloc_seg.new.swap)) (with_all w (changes_roomed (ruling_of a (known_of s w) c.args.pid c.args.cpu.now) c.alloc_seg.result))) (sym c.in-Alloc.is)
+    subst (λ (a : SegmentArguments). Matches (moved p c.alloc_seg.new.store c.alloc_seg.new.regions (g.S.SwapDevice.block c.alloc_seg.new.swap)) (with_all w (changes_roomed (ruling_of a (known_of s w) c.args.pid c.args.cpu.now) c.alloc_seg.result))) (sym c.in-Alloc.is)
     (behind_by _ _ _ _ p s w over c.args.pid c.requires.process (Alloc c.in-Alloc.size 0 0 c.in-Alloc.flags) c.args.cpu.now c.alloc_seg.result _
     (c.alloc_seg.ensures.matches p (others_of s w) w x over.store over.regions over.pictures over.blocks told at (none_next w tied) (matched_by p w.processes w.names w.next_name w.reserved over.stands)))
 
@@ -34,10 +39,9 @@ returns-in-Realloc-clause-row g c = λ p s w over.
 
 pub returns-in-Realloc-clause-matches : goal.returns-in-Realloc-clause-matches
 returns-in-Realloc-clause-matches g c = λ p s w x over told at tied.
-    subst (λ (a : SegmentArguments). Matches (moved p (left_by c.realloc_seg.new.store c.args.store.now.made c.realloc_seg.result) c.realloc_seg.new.regions (g.S.SwapDevice.block c.realloc_seg.new.swap)) (with_all w (changes_roomed (ruling_of a (known_of s w) c.args.pid c.args.cpu.now) c.realloc_seg.result))) (sym c.in-Realloc.is)
+    subst (λ (a : SegmentArguments). Matches (moved p c.realloc_seg.new.store c.realloc_seg.new.regions (g.S.SwapDevice.block c.realloc_seg.new.swap)) (with_all w (changes_roomed (ruling_of a (known_of s w) c.args.pid c.args.cpu.now) c.realloc_seg.result))) (sym c.in-Realloc.is)
     (behind_by _ _ _ _ p s w over c.args.pid c.requires.process (Realloc c.in-Realloc.size c.in-Realloc.selector) c.args.cpu.now c.realloc_seg.result _
-    (left_behind _ _ _ _ p s w over c.args.pid c.requires.process (reallocation (known_in p (others_of s w)) c.args.pid c.in-Realloc.size c.in-Realloc.selector) _ _ _ _
-    (c.realloc_seg.ensures.matches p (others_of s w) w over.store over.regions over.pictures over.blocks told (matched_by p w.processes w.names w.next_name w.reserved over.stands))))
+    (c.realloc_seg.ensures.matches p (others_of s w) w over.store over.regions over.pictures over.blocks told (matched_by p w.processes w.names w.next_name w.reserved over.stands)))
 
 pub returns-in-Free-clause-row : goal.returns-in-Free-clause-row
 returns-in-Free-clause-row g c = λ p s w over.
@@ -74,10 +78,9 @@ returns-in-Lock-clause-row g c = λ p s w over.
 
 pub returns-in-Lock-clause-matches : goal.returns-in-Lock-clause-matches
 returns-in-Lock-clause-matches g c = λ p s w x over told at tied.
-    subst (λ (a : SegmentArguments). Matches (moved p (left_by c.lock_seg.new.store c.args.store.now.made c.lock_seg.result) c.lock_seg.new.regions (g.S.SwapDevice.block c.lock_seg.new.swap)) (with_all w (changes_roomed (ruling_of a (known_of s w) c.args.pid c.args.cpu.now) c.lock_seg.result))) (sym c.in-Lock.is)
+    subst (λ (a : SegmentArguments). Matches (moved p c.lock_seg.new.store c.lock_seg.new.regions (g.S.SwapDevice.block c.lock_seg.new.swap)) (with_all w (changes_roomed (ruling_of a (known_of s w) c.args.pid c.args.cpu.now) c.lock_seg.result))) (sym c.in-Lock.is)
     (behind_by _ _ _ _ p s w over c.args.pid c.requires.process (Lock c.in-Lock.selector) c.args.cpu.now c.lock_seg.result _
-    (left_behind _ _ _ _ p s w over c.args.pid c.requires.process (locking (known_in p (others_of s w)) c.args.pid c.in-Lock.selector) _ _ _ _
-    (c.lock_seg.ensures.matches p (others_of s w) w over.store over.regions over.pictures over.blocks told (matched_by p w.processes w.names w.next_name w.reserved over.stands))))
+    (c.lock_seg.ensures.matches p (others_of s w) w over.store over.regions over.pictures over.blocks told (matched_by p w.processes w.names w.next_name w.reserved over.stands)))
 
 pub returns-in-Unlock-clause-row : goal.returns-in-Unlock-clause-row
 returns-in-Unlock-clause-row g c = λ p s w over.
@@ -102,3 +105,67 @@ returns-in-Alias-clause-matches g c = λ p s w x over told at tied.
     (behind_by _ _ _ _ p s w over c.args.pid c.requires.process (Alias c.in-Alias.selector 0 0) c.args.cpu.now (Done c.create_cs_alias.result) _
     (maps_only _ _ _ _ p s w over c.args.pid c.requires.process _ _ (with_all w (aliasing (known_in p (others_of s w)) c.args.pid c.in-Alias.selector).changes) c.create_cs_alias.ensures.store
     (c.create_cs_alias.ensures.matches p (others_of s w) w x over.store over.regions at (matched_by p w.processes w.names w.next_name w.reserved over.stands))))
+
+pub returns-in-Realloc-clause-pictures : goal.returns-in-Realloc-clause-pictures
+returns-in-Realloc-clause-pictures g c = c.realloc_seg.ensures.pictures c.requires.pictures
+
+pub returns-in-Free-clause-clean : goal.returns-in-Free-clause-clean
+returns-in-Free-clause-clean g c = c.free_seg.ensures.clean (picture c.args.images.now) c.requires.clean
+
+pub returns-in-Free-clause-pictures : goal.returns-in-Free-clause-pictures
+returns-in-Free-clause-pictures g c = c.free_seg.ensures.pictures c.args.images.now c.requires.pictures
+
+pub returns-in-Unlock-clause-clean : goal.returns-in-Unlock-clause-clean
+returns-in-Unlock-clause-clean g c = c.unlock_seg.ensures.clean (picture c.args.images.now) c.requires.clean
+
+pub returns-in-Unlock-clause-pictures : goal.returns-in-Unlock-clause-pictures
+returns-in-Unlock-clause-pictures g c = c.unlock_seg.ensures.pictures c.args.images.now c.requires.pictures
+
+pub returns-in-Alloc-clause-kept : goal.returns-in-Alloc-clause-kept
+returns-in-Alloc-clause-kept g c = λ k named live here. c.alloc_seg.ensures.kept k named here
+
+pub returns-in-Realloc-clause-kept : goal.returns-in-Realloc-clause-kept
+returns-in-Realloc-clause-kept g c = λ k named live here. c.realloc_seg.ensures.kept k named here
+
+pub returns-in-Free-clause-kept : goal.returns-in-Free-clause-kept
+returns-in-Free-clause-kept g c = λ k named live here. subst (λ (o : Option (ℕ × ℕ)). IsSome o) (sym (c.free_seg.ensures.places k live)) here
+
+pub returns-in-Size-clause-kept : goal.returns-in-Size-clause-kept
+returns-in-Size-clause-kept g c = λ k named live here. subst (λ (x : Shelf). IsSome (place_of x k)) (sym c.size_seg.ensures.store) here
+
+pub returns-in-Lock-clause-kept : goal.returns-in-Lock-clause-kept
+returns-in-Lock-clause-kept g c = λ k named live here. c.lock_seg.ensures.kept k named here
+
+pub returns-in-Unlock-clause-kept : goal.returns-in-Unlock-clause-kept
+returns-in-Unlock-clause-kept g c = λ k named live here. subst (λ (o : Option (ℕ × ℕ)). IsSome o) (sym (c.unlock_seg.ensures.places k live)) here
+
+pub returns-in-Alias-clause-kept : goal.returns-in-Alias-clause-kept
+returns-in-Alias-clause-kept g c = λ k named live here. subst (λ (x : Shelf). IsSome (place_of x k)) (sym c.create_cs_alias.ensures.store) here
+
+pub returns-in-Size-clause-holds : goal.returns-in-Size-clause-holds
+returns-in-Size-clause-holds g c = subst (KeepsHolds c.args.regions.now) (sym c.size_seg.ensures.regions) (holds_refl c.args.regions.now)
+
+pub returns-in-Realloc-clause-swap_full : goal.returns-in-Realloc-clause-swap_full
+returns-in-Realloc-clause-swap_full g c = λ e. (c.realloc_seg.ensures.load e, c.realloc_seg.ensures.all_load e)
+
+pub returns-in-Alloc-clause-value : goal.returns-in-Alloc-clause-value
+returns-in-Alloc-clause-value g c =
+    let p = some_parts c.args.store.now c.args.regions.now c.args.images.now in
+    alloc_givable (known_in p no_others) c.args.pid c.in-Alloc.size c.in-Alloc.flags c.alloc_seg.result (c.alloc_seg.ensures.answer p no_others refl refl)
+
+pub returns-in-Alias-clause-value : goal.returns-in-Alias-clause-value
+returns-in-Alias-clause-value g c =
+    let p = some_parts c.args.store.now c.args.regions.now c.args.images.now in
+    alias_givable (known_in p no_others) c.args.pid c.in-Alias.selector c.create_cs_alias.result (c.create_cs_alias.ensures.answer p no_others refl refl)
+
+pub returns-in-Alloc-clause-processes : goal.returns-in-Alloc-clause-processes
+returns-in-Alloc-clause-processes g c = c.alloc_seg.ensures.holds.processes
+
+pub returns-in-Size-clause-processes : goal.returns-in-Size-clause-processes
+returns-in-Size-clause-processes g c = ap (λ (x : Maps). x.processes) c.size_seg.ensures.regions
+
+pub returns-in-Unlock-clause-processes : goal.returns-in-Unlock-clause-processes
+returns-in-Unlock-clause-processes g c = ap (λ (x : Maps). x.processes) c.unlock_seg.ensures.regions
+
+pub returns-in-Alias-clause-processes : goal.returns-in-Alias-clause-processes
+returns-in-Alias-clause-processes g c = c.create_cs_alias.ensures.holds.processes

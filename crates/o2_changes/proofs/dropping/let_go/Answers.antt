@@ -1,4 +1,7 @@
+use Rattle.std.proofs.Common.{ap, ◌∙◌}
+use Rattle.o2_regions.specs.Maps.{Maps}
 use Rattle.o2_changes.proofs.Matching.{let_go_matches}
+use Rattle.o2_changes.proofs.Guarding.{dropped_guards, reserved_guards}
 use Rattle.o2_changes.proofs.dropping.let_go.Goals as goal
 
 pub returns-clause-matches : goal.returns-clause-matches
@@ -6,3 +9,11 @@ returns-clause-matches c = record {
   world = let_go_matches c.args.store.now c.sweep.new.store c.args.regions.now c.drop_hold-left.new.regions c.free_index.new.regions c.args.pid c.args.index c.args.held c.requires.held c.law.ensures.shelf
       c.law-2.ensures c.law-3.ensures c.drop_hold-left.ensures.takes c.drop_hold-left.ensures.reserved c.free_index.ensures.frees c.free_index.ensures.tables c.free_index.ensures.order c.sweep.ensures.order c.sweep.ensures.map c.sweep.ensures.sweeps;
 }
+
+pub returns-clause-guards : goal.returns-clause-guards
+returns-clause-guards c = λ was.
+    c.sweep.ensures.guards (reserved_guards c.args.store.now c.drop_hold-left.new.regions c.free_index.new.regions c.free_index.ensures.tables
+    (dropped_guards c.args.store.now c.args.regions.now c.drop_hold-left.new.regions c.args.pid c.args.index c.drop_hold-left.ensures.takes was))
+
+pub returns-clause-processes : goal.returns-clause-processes
+returns-clause-processes c = ap (λ (x : Maps). x.processes) c.free_index.ensures.tables ∙ c.drop_hold-left.ensures.takes.processes

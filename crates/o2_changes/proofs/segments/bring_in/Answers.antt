@@ -1,6 +1,8 @@
 use Rattle.o2_service.proofs.Placing.{held_same}
 use Rattle.o2_changes.proofs.Matching.{move_matches}
 use Rattle.o2_changes.proofs.Segmenting.{told_order}
+use Rattle.o2_store.specs.Pictures.{HasPicture}
+use Rattle.o2_changes.proofs.Guarding.{moved_guards, moved_pictures}
 use Rattle.o2_changes.proofs.segments.bring_in.Goals as goal
 
 pub bring-requires-clause-held : goal.bring-requires-clause-held
@@ -26,3 +28,9 @@ returns-clause-matches g c =
       world = move_matches s t m c.bring.new.regions c.args.images.now _ _ _ c.bring.ensures.keeps c.bring.ensures.follows.maps c.bring.ensures.clean
           (told_order t m c.bring.new.regions (held_same s t m c.requires.order.held c.bring.ensures.keeps.tables) c.requires.order.tables c.bring.ensures.follows.settled c.bring.ensures.follows.maps) c.bring.ensures.map;
     }
+
+pub returns-clause-guards : goal.returns-clause-guards
+returns-clause-guards g c = moved_guards c.args.store.now c.bring.new.store c.args.regions.now c.bring.new.regions c.bring.ensures.keeps.tables c.bring.ensures.follows.maps
+
+pub returns-clause-pictures : goal.returns-clause-pictures
+returns-clause-pictures g c = λ images. moved_pictures c.args.store.now c.bring.new.store (HasPicture images) c.bring.ensures.keeps.tables

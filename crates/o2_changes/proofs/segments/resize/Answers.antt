@@ -1,5 +1,7 @@
 use Rattle.o2_changes.proofs.Matching.{move_matches, size_matches}
 use Rattle.o2_changes.proofs.Segmenting.{resized_held, told_order}
+use Rattle.o2_store.specs.Pictures.{HasPicture}
+use Rattle.o2_changes.proofs.Guarding.{resized_guards_by, resized_pictures_by}
 use Rattle.o2_changes.proofs.segments.resize.Goals as goal
 
 pub settle-requires-clause-held : goal.settle-requires-clause-held
@@ -27,3 +29,12 @@ returns-clause-stays g c = λ other. record {
       (resized_held c.args.store.now c.resize-answer.new.self c.args.regions.now _ _ _ _ _ _ c.resize-answer.result c.resize-answer.ensures.resized c.resize-answer.ensures.keeps c.requires.order.held)
       c.requires.order.tables c.settle.ensures.settled c.settle.ensures.maps) c.resize-answer.ensures.map;
 }
+
+pub returns-clause-guards : goal.returns-clause-guards
+returns-clause-guards g c =
+    resized_guards_by c.args.store.now c.resize-answer.new.self _ c.args.images.now _ _ _ _ c.resize-answer.result c.resize-answer.ensures.resized c.resize-answer.ensures.keeps
+    c.args.regions.now c.settle.new.regions c.settle.ensures.maps
+
+pub returns-clause-pictures : goal.returns-clause-pictures
+returns-clause-pictures g c = λ images.
+    resized_pictures_by c.args.store.now c.resize-answer.new.self _ c.args.images.now _ _ _ _ c.resize-answer.result c.resize-answer.ensures.resized c.resize-answer.ensures.keeps (HasPicture images)

@@ -4,6 +4,9 @@ use Rattle.o2_entries.specs.Tables.{slot_at}
 use Rattle.o2_store.specs.Shelf.{entry_of}
 use Rattle.o2_changes.specs.Order.{IsInOrder}
 use Rattle.o2_changes.specs.Segments.{SetsLock}
+use Rattle.o2_store.specs.Pictures.{HasPicture}
+use Rattle.o2_changes.proofs.Guarding.{locked_guards, locked_swap}
+use Rattle.o2_changes.proofs.LocksStand.{locked_clean, locked_pictures}
 use Rattle.o2_changes.proofs.Matching.{lock_matches}
 use Rattle.o2_changes.proofs.Segmenting.{attr_there, locked_order, sets_lock}
 use Rattle.o2_changes.proofs.segments.set_lock.Goals as goal
@@ -17,4 +20,12 @@ returns-in-Some c =
     let l : SetsLock s t id c.args.lock = sets_lock s c.set_attr.new.self id (record attr { lock = c.args.lock }) c.requires.live (c.set_attr.ensures.set (c.set_attr.ensures.live.1 c.requires.live)) c.set_attr.ensures.bytes c.args.lock
     (ap (λ (a : Attr). record a { lock = c.args.lock }) (attr_there (entry_of s id) attr (sym c.in-Some.ensures) id.age (slot_at s.entries id.key) refl)) in
     let o : IsInOrder t c.args.regions.now = locked_order s t c.args.regions.now id c.args.lock l c.requires.order in
-    record { sets = l; order = o; matches = record { world = lock_matches s t c.args.regions.now id c.args.lock c.requires.live l o } }
+    record {
+      sets = l;
+      map = locked_swap s t id c.args.lock l;
+      clean = λ pic was. locked_clean s t id c.args.lock c.requires.live l pic was;
+      pictures = λ images was. locked_pictures s t id c.args.lock c.requires.live l (HasPicture images) was;
+      order = o;
+      guards = locked_guards s t c.args.regions.now id c.args.lock c.requires.live l;
+      matches = record { world = lock_matches s t c.args.regions.now id c.args.lock c.requires.live l o };
+    }

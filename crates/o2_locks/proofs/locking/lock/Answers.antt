@@ -1,8 +1,7 @@
-use Rattle.std.proofs.Common.{◌+◌, ◌<◌, Some, ap, min, refl, sym, subst, ◌∙◌}
+use Rattle.std.proofs.Common.{◌+◌, ◌<◌, ℕ, Option, Some, IsSome, ap, min, refl, sym, subst, ◌∙◌}
 use Rattle.o2_desc.specs.Bits.{has_bit}
 use Rattle.o2_entries.specs.declared.Attr.{Attr}
 use Rattle.o2_entries.specs.Tables.{slot_at}
-use Rattle.o2_store.specs.Shelf.{entry, entry_of}
 use Rattle.o2_changes.proofs.Segmenting.{attr_there}
 use Rattle.o2_service.proofs.Among.{live_same}
 use Rattle.o2_store.specs.Pictures.{picture}
@@ -11,11 +10,13 @@ use Rattle.o2_stands.specs.Moves.{moved}
 use Rattle.o2_world.specs.Rulings.{locking_with}
 use Rattle.o2_segs.proofs.Resizing.{refusal_moved, stopped_matches}
 use Rattle.o2_segs.proofs.Rows.{done_answers, refusal_answers}
-use Rattle.o2_segs.proofs.Stops.{error_none, stop_answers, was_here}
+use Rattle.o2_segs.proofs.Stops.{error_none, stop_answers, stop_room, was_here}
 use Rattle.o2_store.proofs.Tables.{locked_at}
 use Rattle.o2_world.specs.Changes.{Locks, with_change}
 use Rattle.o2_segs.proofs.Making.{moved_made}
 use Rattle.o2_locks.proofs.Rows.{lock_done, lock_plain, locked_matches, none_less}
+use Rattle.o2_store.specs.Shelf.{Shelf, entry, entry_of, place_of}
+use Rattle.o2_regions.specs.Maps.{Maps}
 use Rattle.o2_locks.proofs.locking.lock.Goals as goal
 
 pub returns-then-not-is_discardable-clause-answer : goal.returns-then-not-is_discardable-clause-answer
@@ -91,3 +92,30 @@ returns-then-attr-gt0-clause-matches g c = λ m p w is es em ei eb tells q.
 pub returns-then-attr-gt0-clause-clean : goal.returns-then-attr-gt0-clause-clean
 returns-then-attr-gt0-clause-clean g c =
     locked_clean c.args.store.now c.set_lock.new.store c.args.id c.saturating_add.result c.requires.live c.set_lock.ensures.sets (picture c.args.images.now) c.requires.clean
+
+pub returns-in-None-stop_of-clause-guards : goal.returns-in-None-stop_of-clause-guards
+returns-in-None-stop_of-clause-guards g c = λ was. c.set_lock-in-None-stop_of.ensures.guards (c.bring_in.ensures.guards was)
+
+pub returns-in-Some-stop_of-clause-pictures : goal.returns-in-Some-stop_of-clause-pictures
+returns-in-Some-stop_of-clause-pictures g c = c.bring_in.ensures.pictures c.args.images.now c.requires.pictures
+
+pub returns-in-None-stop_of-clause-pictures : goal.returns-in-None-stop_of-clause-pictures
+returns-in-None-stop_of-clause-pictures g c = c.set_lock-in-None-stop_of.ensures.pictures c.args.images.now (c.bring_in.ensures.pictures c.args.images.now c.requires.pictures)
+
+pub returns-then-attr-gt0-clause-pictures : goal.returns-then-attr-gt0-clause-pictures
+returns-then-attr-gt0-clause-pictures g c = c.set_lock.ensures.pictures c.args.images.now c.requires.pictures
+
+pub returns-in-None-stop_of-clause-kept : goal.returns-in-None-stop_of-clause-kept
+returns-in-None-stop_of-clause-kept g c = λ k named here. subst (λ (o : Option (ℕ × ℕ)). IsSome o) (sym (ap (λ (x : Shelf). place_of x k) c.set_lock-in-None-stop_of.ensures.sets.shelf)) (c.bring_in.ensures.kept k named here)
+
+pub returns-then-attr-gt0-clause-kept : goal.returns-then-attr-gt0-clause-kept
+returns-then-attr-gt0-clause-kept g c = λ k named here. subst (λ (o : Option (ℕ × ℕ)). IsSome o) (sym (ap (λ (x : Shelf). place_of x k) c.set_lock.ensures.sets.shelf)) here
+
+pub returns-in-Some-stop_of-clause-no_room : goal.returns-in-Some-stop_of-clause-no_room
+returns-in-Some-stop_of-clause-no_room g c = λ e. c.bring_in.ensures.no_room (stop_room c.bring_in.result c.in-Some-stop_of.stop c.in-Some-stop_of.ensures e)
+
+pub returns-in-Some-stop_of-clause-processes : goal.returns-in-Some-stop_of-clause-processes
+returns-in-Some-stop_of-clause-processes g c = ap (λ (x : Maps). x.processes) c.bring_in.ensures.maps.rest
+
+pub returns-in-None-stop_of-clause-processes : goal.returns-in-None-stop_of-clause-processes
+returns-in-None-stop_of-clause-processes g c = ap (λ (x : Maps). x.processes) c.bring_in.ensures.maps.rest

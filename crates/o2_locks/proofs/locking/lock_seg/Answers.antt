@@ -1,6 +1,7 @@
 use Rattle.o2_regions.specs.declared.held.Held.{Held}
+use Rattle.o2_store.specs.Needs.{all_wanted}
 use Rattle.o2_store.specs.Shelf.{entry}
-use Rattle.std.proofs.Common.{◌≡◌, Option, IfSome, sym, subst}
+use Rattle.std.proofs.Common.{◌≡◌, ◌<◌, Option, IfSome, sym, subst}
 use Rattle.o2_stands.specs.Stands.{Matches}
 use Rattle.o2_segs.specs.Answers.{AnswersRoomed, changes_roomed}
 use Rattle.o2_segs.proofs.Resizing.{refusal_moved}
@@ -35,3 +36,7 @@ returns-in-None-clause-matches g c = λ p o w es em ei eb tells q.
 pub returns-in-Some-clause-stops : goal.returns-in-Some-clause-stops
 returns-in-Some-clause-stops g c = λ stop.
     subst (λ (y : Option Held). IfSome y (λ h. (entry c.args.store.now h.id.key).attr.lock ≡ 0)) c.in-Some.ensures (c.lock.ensures.stops stop)
+
+pub returns-in-Some-clause-no_room : goal.returns-in-Some-clause-no_room
+returns-in-Some-clause-no_room g c = λ e.
+    subst (λ (y : Option Held). IfSome y (λ h. c.args.store.now.places.size < all_wanted c.args.store.now h.id.key c.args.keep.now)) c.in-Some.ensures (c.lock.ensures.no_room e)

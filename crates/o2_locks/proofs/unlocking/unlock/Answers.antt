@@ -2,7 +2,7 @@ use Rattle.std.proofs.Common.{◌-◌, ◌<◌, ap, cond, refl, sym, subst, ◌�
 use Rattle.o2_desc.specs.Bits.{has_bit}
 use Rattle.o2_entries.specs.declared.Attr.{Attr}
 use Rattle.o2_entries.specs.Tables.{slot_at}
-use Rattle.o2_store.specs.Shelf.{entry, entry_of}
+use Rattle.o2_store.specs.Shelf.{Shelf, entry, entry_of, place_of}
 use Rattle.o2_store.proofs.Tables.{locked_at}
 use Rattle.o2_changes.proofs.Segmenting.{attr_there}
 use Rattle.o2_segs.proofs.Rows.{done_answers, refusal_answers, refusal_shelf}
@@ -51,3 +51,15 @@ returns-else-attr-eq0-clause-matches c = λ m p w is es em q.
     let at = attr_there (entry_of s c.args.id) c.in-Some.attr (sym c.in-Some.ensures) c.args.id.age (slot_at s.entries c.args.id.key) refl in
     done_matches p w c.set_lock.new.store c.args.id _ _ (unlock_done c.args.id.age (entry s c.args.id.key).attr m is (ap (λ (a : Attr). has_bit a.flags 2) (sym at) ∙ sym c.if-not-is_discardable.ensures) (λ z. c.if-attr-eq0.false (ap (λ (a : Attr). a.lock) at ∙ z)))
     (c.one_less.ensures ∙ ap (λ (a : Attr). cond (nat_lt a.lock 255) (a.lock - 1) a.lock) at) (c.set_lock.ensures.matches.world p w es em q))
+
+pub returns-then-not-is_discardable-clause-places : goal.returns-then-not-is_discardable-clause-places
+returns-then-not-is_discardable-clause-places c = λ k some. refl
+
+pub returns-then-attr-eq0-clause-places : goal.returns-then-attr-eq0-clause-places
+returns-then-attr-eq0-clause-places c = λ k some. refl
+
+pub returns-else-attr-eq0-clause-places : goal.returns-else-attr-eq0-clause-places
+returns-else-attr-eq0-clause-places c = λ k some. ap (λ (x : Shelf). place_of x k) c.set_lock.ensures.sets.shelf
+
+pub returns-in-None-clause-places : goal.returns-in-None-clause-places
+returns-in-None-clause-places c = λ k some. refl

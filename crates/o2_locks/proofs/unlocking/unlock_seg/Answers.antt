@@ -1,4 +1,4 @@
-use Rattle.std.proofs.Common.{sym, subst}
+use Rattle.std.proofs.Common.{refl, sym, subst}
 use Rattle.o2_stands.specs.Stands.{Matches}
 use Rattle.o2_segs.specs.Answers.{Answers}
 use Rattle.o2_segs.proofs.Rows.{at_maps, refusal_answers, refusal_shelf}
@@ -26,3 +26,6 @@ returns-in-None-clause-answer c = λ p o es em. refusal_answers _ 5 c.refusal.re
 
 pub returns-in-None-clause-matches : goal.returns-in-None-clause-matches
 returns-in-None-clause-matches c = λ p o w es em q. refusal_shelf p c.args.store.now w _ 5 es (unlock_none p o c.args.pid c.args.sel (at_maps p c.args.regions.now c.args.pid c.args.sel _ em (sym c.in-None.ensures))) q
+
+pub returns-in-None-clause-places : goal.returns-in-None-clause-places
+returns-in-None-clause-places c = λ k some. refl

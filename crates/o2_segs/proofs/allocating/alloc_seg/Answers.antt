@@ -8,7 +8,6 @@ use Rattle.o2_stands.specs.Moves.{moved}
 use Rattle.o2_world.specs.Changes.{with_all}
 use Rattle.o2_world.specs.Rulings.{Ruling}
 use Rattle.o2_segs.specs.Answers.{AnswersRoomed, changes_roomed}
-use Rattle.o2_segs.specs.Made.{left_by}
 use Rattle.o2_segs.proofs.Making.{alloc_refused, alloc_tried, to_none}
 use Rattle.o2_segs.proofs.Resizing.{refusal_moved}
 use Rattle.o2_segs.proofs.Rows.{refusal_answers}
@@ -26,7 +25,7 @@ returns-in-Some-clause-answer g c = λ p o es em.
 
 pub returns-in-Some-clause-matches : goal.returns-in-Some-clause-matches
 returns-in-Some-clause-matches g c = λ p o w x es em ei eb tells at absent q.
-    subst (λ (r : Ruling). Matches (moved p (left_by c.allocate.new.store c.args.store.now.made c.allocate.result) c.allocate.new.regions (g.S.SwapDevice.block c.allocate.new.swap)) (with_all w (changes_roomed r c.allocate.result)))
+    subst (λ (r : Ruling). Matches (moved p c.allocate.new.store c.allocate.new.regions (g.S.SwapDevice.block c.allocate.new.swap)) (with_all w (changes_roomed r c.allocate.result)))
     (sym (alloc_tried p o c.args.regions.now c.args.pid c.args.size c.args.flags (Some c.in-Some.index) c.requires.process.0 em c.if-flags-gt-FLAGS.false (subst (λ (y : Region). Some c.in-Some.index ≡ chosen (is_taken c.args.regions.now y) (first_of y) (end_of y) 1) c.region_for.ensures c.in-Some.ensures.lowest)))
     (c.allocate.ensures.matches p o w x es em ei eb tells at absent q)
 

@@ -1,15 +1,18 @@
-use Rattle.std.proofs.Common.{ℕ, Some, ap, refl, sym, subst, ◌∙◌}
+use Rattle.std.proofs.Common.{arith, ℕ, Some, ap, refl, sym, subst, ◌∙◌}
 use Rattle.o2_regions.specs.Maps.{region_of}
 use Rattle.o2_store.specs.Shelf.{Shelf}
+use Rattle.o2_store.proofs.Loads.{added_load}
 use Rattle.o2_changes.specs.Worlds.{new_segment}
+use Rattle.o2_changes.proofs.KeepingHolds.{holds_trans, told_holds}
 use Rattle.o2_stands.specs.Stands.{Matches}
 use Rattle.o2_world.specs.Changes.{Makes, with_change}
 use Rattle.o2_stands.specs.Knows.{known_in}
 use Rattle.o2_stands.specs.Moves.{moved}
 use Rattle.o2_segs.specs.Made.{allocation_to}
-use Rattle.o2_segs.proofs.Making.{done_answers_any, made_locked_by, made_matches, made_plain_by, moved_made, new_name, no_stop, refusal_answers_any, run_same, stop_answers_any, stop_leaves, to_full, to_some}
+use Rattle.o2_segs.proofs.Making.{added_entry, added_map, added_place, done_answers_any, made_locked_by, made_matches, made_plain_by, moved_made, named_apart, named_behind, new_adds, new_name, no_stop, refusal_answers_any, run_same, stop_answers_any, stop_leaves, to_full, to_some}
 use Rattle.o2_segs.proofs.Resizing.{refusal_moved}
 use Rattle.o2_segs.proofs.Stops.{error_none}
+use Rattle.o2_entries.specs.declared.Entry.{Entry}
 use Rattle.o2_segs.proofs.allocating.allocate.Goals as goal
 
 pub returns-then-not-is_locked-clause-answer : goal.returns-then-not-is_locked-clause-answer
@@ -24,7 +27,7 @@ returns-then-not-is_locked-clause-matches g c = λ p o w x es em ei eb tells at 
     let adds = c.in-Some.ensures.added in
     let name = new_name p w c.args.store.now t id _ es adds q.made in
     let sg = new_segment c.full_size.result c.args.flags c.is_shared.result in
-    made_matches p w x t c.args.regions.now c.hold_made.new.regions (g.S.SwapDevice.block c.args.swap.now) id sg c.args.pid c.args.size c.args.flags c.args.index p.shelf.made c.args.store.now.made
+    made_matches p w x t c.args.regions.now c.hold_made.new.regions (g.S.SwapDevice.block c.args.swap.now) id sg c.args.pid c.args.size c.args.flags c.args.index p.shelf.made
     (allocation_to (known_in p o) c.args.pid c.args.size c.args.flags (Some c.args.index)) c.hold_made.result (to_some p o c.args.store.now t id _ c.args.pid c.args.size c.args.flags c.args.index es adds) c.hold_made.ensures.answer
     name.0 name.1 (made_plain_by c.args.size c.args.flags c.full_size.result c.is_shared.result c.full_size.ensures.size c.is_shared.ensures (sym c.if-not-is_locked.ensures))
     c.in-Some.ensures.live c.hold_made.ensures.matches at
@@ -43,10 +46,9 @@ returns-in-Some-lock_new-clause-matches g c = λ p o w x es em ei eb tells at ab
     let name = new_name p w c.args.store.now t id _ es adds q.made in
     let sg = new_segment c.full_size.result c.args.flags c.is_shared.result in
     let block = g.S.SwapDevice.block c.lock_new.new.swap in
-    stop_leaves p w c.lock_new.new.store c.lock_new.new.regions block (allocation_to (known_in p o) c.args.pid c.args.size c.args.flags (Some c.args.index)) c.args.store.now.made c.in-Some-lock_new.stop
+    stop_leaves (moved p c.lock_new.new.store c.lock_new.new.regions block) w (allocation_to (known_in p o) c.args.pid c.args.size c.args.flags (Some c.args.index)) c.in-Some-lock_new.stop
     (c.in-Some-lock_new.ensures.without c.in-Some-lock_new.stop refl).0
-    (subst (λ (k : ℕ). Matches (moved p (record c.lock_new.new.store { made = k }) c.lock_new.new.regions block) w) (q.made ∙ ap (λ (y : Shelf). y.made) es)
-    ((c.in-Some-lock_new.ensures.without c.in-Some-lock_new.stop refl).1.world (record p { shelf = t }) w sg refl em ei eb tells name.1 absent (c.in-Some.ensures.matches.world p w es em q))))
+    ((c.in-Some-lock_new.ensures.without c.in-Some-lock_new.stop refl).1.world (record p { shelf = t }) w sg refl em ei eb tells name.1 absent (c.in-Some.ensures.matches.world p w es em q)))
 
 pub returns-in-None-lock_new-clause-answer : goal.returns-in-None-lock_new-clause-answer
 returns-in-None-lock_new-clause-answer g c = λ p o es.
@@ -61,7 +63,7 @@ returns-in-None-lock_new-clause-matches g c = λ p o w x es em ei eb tells at ab
     let name = new_name p w c.args.store.now t id _ es adds q.made in
     let sg = new_segment c.full_size.result c.args.flags c.is_shared.result in
     let block = g.S.SwapDevice.block c.lock_new.new.swap in
-    made_matches p w x c.lock_new.new.store c.lock_new.new.regions c.hold_made-in-None-lock_new.new.regions block id (record sg { lock = 1 }) c.args.pid c.args.size c.args.flags c.args.index p.shelf.made c.args.store.now.made
+    made_matches p w x c.lock_new.new.store c.lock_new.new.regions c.hold_made-in-None-lock_new.new.regions block id (record sg { lock = 1 }) c.args.pid c.args.size c.args.flags c.args.index p.shelf.made
     (allocation_to (known_in p o) c.args.pid c.args.size c.args.flags (Some c.args.index)) c.hold_made-in-None-lock_new.result (to_some p o c.args.store.now t id _ c.args.pid c.args.size c.args.flags c.args.index es adds) c.hold_made-in-None-lock_new.ensures.answer
     name.0 name.1 (made_locked_by c.args.size c.args.flags c.full_size.result c.is_shared.result c.full_size.ensures.size c.is_shared.ensures (sym c.if-not-is_locked.ensures))
     (c.in-None-lock_new.ensures.live refl) c.hold_made-in-None-lock_new.ensures.matches at
@@ -91,3 +93,85 @@ returns-in-None-lock_new-clause-stops g c = λ stop. no_stop c.hold_made-in-None
 
 pub returns-in-None-clause-stops : goal.returns-in-None-clause-stops
 returns-in-None-clause-stops g c = λ stop. absurd stop
+
+pub returns-then-not-is_locked-clause-guards : goal.returns-then-not-is_locked-clause-guards
+returns-then-not-is_locked-clause-guards g c = λ was. c.hold_made.ensures.guards (c.make.ensures.guards was)
+
+pub returns-then-not-is_locked-clause-pictures : goal.returns-then-not-is_locked-clause-pictures
+returns-then-not-is_locked-clause-pictures g c = c.make.ensures.pictures c.args.images.now c.requires.pictures
+
+pub returns-then-not-is_locked-clause-map : goal.returns-then-not-is_locked-clause-map
+returns-then-not-is_locked-clause-map g c = added_map c.args.store.now c.make.new.store c.in-Some.id _ c.in-Some.ensures.added
+
+pub returns-then-not-is_locked-clause-kept : goal.returns-then-not-is_locked-clause-kept
+returns-then-not-is_locked-clause-kept g c = λ k named here. added_place c.args.store.now c.make.new.store c.in-Some.id _ k c.in-Some.ensures.added here
+
+pub returns-in-Some-lock_new-clause-guards : goal.returns-in-Some-lock_new-clause-guards
+returns-in-Some-lock_new-clause-guards g c = λ was. c.lock_new.ensures.guards (c.make.ensures.guards was)
+
+pub returns-in-Some-lock_new-clause-map : goal.returns-in-Some-lock_new-clause-map
+returns-in-Some-lock_new-clause-map g c = c.lock_new.ensures.map ∙ added_map c.args.store.now c.make.new.store c.in-Some.id _ c.in-Some.ensures.added
+
+pub returns-in-Some-lock_new-clause-kept : goal.returns-in-Some-lock_new-clause-kept
+returns-in-Some-lock_new-clause-kept g c = λ k named here.
+    (let s = c.args.store.now in
+    let t = c.make.new.store in
+    let apart = named_apart s t c.in-Some.id _ c.args.keep.now k c.in-Some.ensures.added named in
+    c.lock_new.ensures.kept k apart (named_behind s t c.in-Some.id _ c.args.keep.now k c.in-Some.ensures.added apart named) (added_place s t c.in-Some.id _ k c.in-Some.ensures.added here))
+
+pub returns-in-None-lock_new-clause-guards : goal.returns-in-None-lock_new-clause-guards
+returns-in-None-lock_new-clause-guards g c = λ was. c.hold_made-in-None-lock_new.ensures.guards (c.lock_new.ensures.guards (c.make.ensures.guards was))
+
+pub returns-in-None-lock_new-clause-map : goal.returns-in-None-lock_new-clause-map
+returns-in-None-lock_new-clause-map g c = c.lock_new.ensures.map ∙ added_map c.args.store.now c.make.new.store c.in-Some.id _ c.in-Some.ensures.added
+
+pub returns-in-None-lock_new-clause-kept : goal.returns-in-None-lock_new-clause-kept
+returns-in-None-lock_new-clause-kept g c = λ k named here.
+    (let s = c.args.store.now in
+    let t = c.make.new.store in
+    let apart = named_apart s t c.in-Some.id _ c.args.keep.now k c.in-Some.ensures.added named in
+    c.lock_new.ensures.kept k apart (named_behind s t c.in-Some.id _ c.args.keep.now k c.in-Some.ensures.added apart named) (added_place s t c.in-Some.id _ k c.in-Some.ensures.added here))
+
+pub hold_made-requires-in-None-lock_new-clause-plain : goal.hold_made-requires-in-None-lock_new-clause-plain
+hold_made-requires-in-None-lock_new-clause-plain g c =
+    c.in-None-lock_new.ensures.plain refl ∙ ap (λ (x : Entry). x.attr.clean) (added_entry c.args.store.now c.make.new.store c.in-Some.id _ c.in-Some.ensures.added)
+
+pub hold_made-requires-clause-plain : goal.hold_made-requires-clause-plain
+hold_made-requires-clause-plain g c = ap (λ (x : Entry). x.attr.clean) (added_entry c.args.store.now c.make.new.store c.in-Some.id _ c.in-Some.ensures.added)
+
+pub returns-in-Some-lock_new-clause-no_room : goal.returns-in-Some-lock_new-clause-no_room
+returns-in-Some-lock_new-clause-no_room g c = λ e. record {
+  store = c.make.new.store;
+  id = c.in-Some.id;
+  adds = new_adds c.args.store.now c.make.new.store c.in-Some.id c.args.size c.args.flags c.full_size.result c.is_shared.result c.full_size.ensures.size c.is_shared.ensures c.in-Some.ensures.added;
+  holds = c.in-Some-lock_new.ensures.no_room c.in-Some-lock_new.stop refl e;
+}
+
+pub returns-in-Some-lock_new-clause-loads : goal.returns-in-Some-lock_new-clause-loads
+returns-in-Some-lock_new-clause-loads g c = λ e.
+    (let s = c.args.store.now in
+    let t = c.make.new.store in
+    let adds = c.in-Some.ensures.added in
+    let full = c.in-Some-lock_new.ensures.loads c.in-Some-lock_new.stop refl e in
+    let m = added_map s t c.in-Some.id _ adds in
+    let l = added_load s t c.in-Some.id _ adds in (
+      omega (arith, full.0, m, l),
+      record {
+        store = t;
+        id = c.in-Some.id;
+        adds = new_adds s t c.in-Some.id c.args.size c.args.flags c.full_size.result c.is_shared.result c.full_size.ensures.size c.is_shared.ensures adds;
+        holds = full.1;
+      },
+    ))
+
+pub lock_new-requires-clause-bare : goal.lock_new-requires-clause-bare
+lock_new-requires-clause-bare g c =
+    let e = added_entry c.args.store.now c.make.new.store c.in-Some.id _ c.in-Some.ensures.added in
+    (ap (λ (x : Entry). x.image) e, ap (λ (x : Entry). x.kept) e)
+
+pub returns-in-Some-lock_new-clause-holds : goal.returns-in-Some-lock_new-clause-holds
+returns-in-Some-lock_new-clause-holds g c = told_holds c.args.regions.now c.lock_new.new.regions c.lock_new.ensures.maps
+
+pub returns-in-None-lock_new-clause-holds : goal.returns-in-None-lock_new-clause-holds
+returns-in-None-lock_new-clause-holds g c =
+    holds_trans c.args.regions.now c.lock_new.new.regions c.hold_made-in-None-lock_new.new.regions (told_holds c.args.regions.now c.lock_new.new.regions c.lock_new.ensures.maps) c.hold_made-in-None-lock_new.ensures.holds

@@ -1,13 +1,18 @@
-use Rattle.std.proofs.Common.{ℕ, refl, subst}
+use Rattle.std.proofs.Common.{arith, ℕ, Option, IsSome, ap, refl, subst, sym, ◌∙◌}
 use Rattle.o2_service.proofs.Among.{live_same}
 use Rattle.o2_store.specs.Pictures.{picture}
 use Rattle.o2_changes.proofs.LocksStand.{locked_clean}
-use Rattle.o2_changes.proofs.MakesStand.{new_locked}
+use Rattle.o2_changes.proofs.MakesStand.{new_locked, newest_still}
 use Rattle.o2_stands.specs.Stands.{Matches}
 use Rattle.o2_world.specs.Changes.{Locks, Makes, with_change}
 use Rattle.o2_stands.specs.Moves.{moved}
 use Rattle.o2_segs.proofs.Making.{is_stop_of, same_stop, set_live, still_unheld}
-use Rattle.o2_segs.proofs.Stops.{stop_fault, was_here}
+use Rattle.o2_segs.proofs.Stops.{stop_fault, stop_full, stop_room, was_here}
+use Rattle.o2_entries.specs.declared.Attr.{Attr}
+use Rattle.o2_entries.specs.declared.Entry.{Entry}
+use Rattle.o2_store.specs.Shelf.{Shelf, entry_or, place_of}
+use Rattle.o2_store.proofs.Loads.{full_load_but, same_load_but}
+use Rattle.o2_changes.proofs.LocksStand.{locked_entry}
 use Rattle.o2_segs.proofs.allocating.lock_new.Goals as goal
 
 pub unmake-requires-clause-live : goal.unmake-requires-clause-live
@@ -15,6 +20,9 @@ unmake-requires-clause-live g c = live_same c.args.store.now c.bring_in.new.stor
 
 pub unmake-requires-clause-unheld : goal.unmake-requires-clause-unheld
 unmake-requires-clause-unheld g c = still_unheld c.args.regions.now c.bring_in.new.regions c.args.id c.bring_in.ensures.maps c.requires.unheld
+
+pub unmake-requires-clause-newest : goal.unmake-requires-clause-newest
+unmake-requires-clause-newest g c = newest_still c.args.store.now c.bring_in.new.store c.args.id c.bring_in.ensures.keeps.tables c.requires.newest
 
 pub returns-in-Some-clause-without : goal.returns-in-Some-clause-without
 returns-in-Some-clause-without g c = λ r e. (
@@ -29,7 +37,7 @@ pub returns-in-Some-clause-clean : goal.returns-in-Some-clause-clean
 returns-in-Some-clause-clean g c = c.unmake.ensures.clean (picture c.args.images.now) c.bring_in.ensures.clean
 
 pub returns-in-Some-clause-cause : goal.returns-in-Some-clause-cause
-returns-in-Some-clause-cause g c = λ r e f. c.bring_in.ensures.cause (stop_fault c.bring_in.result c.in-Some.stop c.in-Some.ensures (same_stop c.in-Some.stop r e f))
+returns-in-Some-clause-cause g c = λ r e f. c.bring_in.ensures.cause (stop_fault c.bring_in.result c.in-Some.stop c.in-Some.ensures (same_stop c.in-Some.stop r _ e f))
 
 pub set_lock-requires-clause-live : goal.set_lock-requires-clause-live
 set_lock-requires-clause-live g c = live_same c.args.store.now c.bring_in.new.store c.args.id c.bring_in.ensures.keeps.tables c.requires.live
@@ -51,3 +59,41 @@ returns-in-None-clause-live g c = λ e. set_live c.bring_in.new.store c.set_lock
 pub returns-in-None-clause-clean : goal.returns-in-None-clause-clean
 returns-in-None-clause-clean g c =
     locked_clean c.bring_in.new.store c.set_lock.new.store c.args.id 1 (live_same c.args.store.now c.bring_in.new.store c.args.id c.bring_in.ensures.keeps.tables c.requires.live) c.set_lock.ensures.sets (picture c.args.images.now) c.bring_in.ensures.clean
+
+pub returns-in-Some-clause-guards : goal.returns-in-Some-clause-guards
+returns-in-Some-clause-guards g c = λ was. c.unmake.ensures.guards (c.bring_in.ensures.guards was)
+
+pub returns-in-Some-clause-pictures : goal.returns-in-Some-clause-pictures
+returns-in-Some-clause-pictures g c = c.unmake.ensures.pictures c.args.images.now (c.bring_in.ensures.pictures c.args.images.now c.requires.pictures)
+
+pub returns-in-Some-clause-kept : goal.returns-in-Some-clause-kept
+returns-in-Some-clause-kept g c = λ k apart named here. subst (λ (o : Option (ℕ × ℕ)). IsSome o) (sym (c.unmake.ensures.removed.places k apart)) (c.bring_in.ensures.kept k named here)
+
+pub returns-in-None-clause-guards : goal.returns-in-None-clause-guards
+returns-in-None-clause-guards g c = λ was. c.set_lock.ensures.guards (c.bring_in.ensures.guards was)
+
+pub returns-in-None-clause-pictures : goal.returns-in-None-clause-pictures
+returns-in-None-clause-pictures g c = c.set_lock.ensures.pictures c.args.images.now (c.bring_in.ensures.pictures c.args.images.now c.requires.pictures)
+
+pub returns-in-None-clause-kept : goal.returns-in-None-clause-kept
+returns-in-None-clause-kept g c = λ k apart named here. subst (λ (o : Option (ℕ × ℕ)). IsSome o) (sym (ap (λ (x : Shelf). place_of x k) c.set_lock.ensures.sets.shelf)) (c.bring_in.ensures.kept k named here)
+
+pub returns-in-None-clause-plain : goal.returns-in-None-clause-plain
+returns-in-None-clause-plain g c = λ e.
+    ap (λ (x : Entry). x.attr.clean) (locked_entry c.bring_in.new.store c.set_lock.new.store c.args.id 1 (live_same c.args.store.now c.bring_in.new.store c.args.id c.bring_in.ensures.keeps.tables c.requires.live) c.set_lock.ensures.sets c.args.id.key)
+    ∙ ap (λ (a : Attr). a.clean) (c.bring_in.ensures.keeps.tables.same c.args.id.key).attr
+
+pub returns-in-Some-clause-no_room : goal.returns-in-Some-clause-no_room
+returns-in-Some-clause-no_room g c = λ r e f. c.bring_in.ensures.no_room (stop_room c.bring_in.result c.in-Some.stop c.in-Some.ensures (same_stop c.in-Some.stop r _ e f))
+
+pub returns-in-Some-clause-loads : goal.returns-in-Some-clause-loads
+returns-in-Some-clause-loads g c = λ r e f.
+    (let full = stop_full c.bring_in.result c.in-Some.stop c.in-Some.ensures (same_stop c.in-Some.stop r _ e f) in
+    let s = c.args.store.now in
+    let t = c.bring_in.new.store in
+    let key = c.args.id.key in
+    let stuck = c.bring_in.ensures.stuck full in
+    let l = full_load_but t key c.law.ensures.shelf c.law.ensures.blocks stuck.full stuck.out
+    (ap (λ (o : Option Entry). (entry_or o).image) stuck.same ∙ c.requires.bare.0) (ap (λ (o : Option Entry). (entry_or o).kept) stuck.same ∙ c.requires.bare.1) in
+    let m = same_load_but s t key c.bring_in.ensures.keeps.tables in
+    (omega (arith, l, m, c.bring_in.ensures.map), (c.bring_in.ensures.loads full).1))

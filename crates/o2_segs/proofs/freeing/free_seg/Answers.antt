@@ -1,4 +1,4 @@
-use Rattle.std.proofs.Common.{ℕ, ◌≡◌, ◌/◌, ◌∙◌, Some, ap, sym, subst}
+use Rattle.std.proofs.Common.{ℕ, ◌≡◌, ◌/◌, ◌∙◌, Some, ap, refl, sym, subst}
 use Rattle.o2_regions.specs.Maps.{Maps, held_at}
 use Rattle.o2_world.specs.Rulings.{Ruling}
 use Rattle.o2_segs.proofs.Rows.{at_maps, cleared, done_answers, free_done, free_kept, free_matches, free_none, free_refused, free_registers, refusal_answers, refusal_matches}
@@ -48,3 +48,9 @@ returns-in-None-clause-registers c = λ p o es em.
 pub returns-in-None-clause-matches : goal.returns-in-None-clause-matches
 returns-in-None-clause-matches c = λ p o w x es em at loses q.
     refusal_matches p c.args.store.now c.args.regions.now w _ 5 es em (free_none p o c.args.pid c.args.sel c.args.cpu.now (at_maps p c.args.regions.now c.args.pid c.args.sel _ em (sym c.in-None.ensures))) q
+
+pub returns-then-is_kept-clause-places : goal.returns-then-is_kept-clause-places
+returns-then-is_kept-clause-places c = λ k some. refl
+
+pub returns-in-None-clause-places : goal.returns-in-None-clause-places
+returns-in-None-clause-places c = λ k some. refl

@@ -1,9 +1,13 @@
-use Rattle.std.proofs.Common.{ap, sym, ◌∙◌}
+use Rattle.std.proofs.Common.{◌≡◌, ◌<◌, ℕ, Option, IfSome, true, ap, subst, sym, ◌∙◌}
 use Rattle.o2_stands.specs.Knows.{known_in}
-use Rattle.o2_world.specs.Rulings.{reallocation}
 use Rattle.o2_segs.proofs.Resizing.{keeps, realloc_done, realloc_fixed, realloc_kept, realloc_none, refusal_moved, sized_matches, stopped_matches}
 use Rattle.o2_segs.proofs.Rows.{done_answers, refusal_answers}
-use Rattle.o2_segs.proofs.Stops.{error_none, not_here, stop_answers, was_here}
+use Rattle.o2_segs.proofs.Stops.{error_none, not_here, stop_answers, stop_full, stop_room, was_here}
+use Rattle.o2_regions.specs.declared.held.Held.{Held}
+use Rattle.o2_store.specs.Loads.{live_load_at}
+use Rattle.o2_store.specs.Sizes.{all_wanted_at, stays}
+use Rattle.o2_world.specs.Rulings.{full_size, reallocation}
+use Rattle.o2_regions.specs.Maps.{Maps}
 use Rattle.o2_segs.proofs.reallocating.realloc_seg.Goals as goal
 
 pub returns-then-is_fixed-clause-answer : goal.returns-then-is_fixed-clause-answer
@@ -38,3 +42,28 @@ returns-in-None-clause-answer g c = λ p o es em. refusal_answers _ 5 c.refusal-
 
 pub returns-in-None-clause-matches : goal.returns-in-None-clause-matches
 returns-in-None-clause-matches g c = λ p o w es em ei eb tells q. refusal_moved p c.args.store.now c.args.regions.now _ w _ 5 es em eb (realloc_none p o c.args.regions.now c.args.pid c.args.size c.args.sel em (sym c.in-None.ensures)) q
+
+pub returns-in-Some-stop_of-clause-pictures : goal.returns-in-Some-stop_of-clause-pictures
+returns-in-Some-stop_of-clause-pictures g c = λ was. c.resize.ensures.pictures c.args.images.now was
+
+pub returns-in-None-stop_of-clause-pictures : goal.returns-in-None-stop_of-clause-pictures
+returns-in-None-stop_of-clause-pictures g c = λ was. c.resize.ensures.pictures c.args.images.now was
+
+pub returns-in-Some-stop_of-clause-no_room : goal.returns-in-Some-stop_of-clause-no_room
+returns-in-Some-stop_of-clause-no_room g c = λ e.
+    (let s = c.args.store.now in
+    let lacks = c.resize.ensures.no_room (stop_room c.resize.result c.in-Some-stop_of.stop c.in-Some-stop_of.ensures e) in
+    subst (λ (y : Option Held). IfSome y (λ h. (stays s h.id.key c.args.keep.now ≡ true) × (s.places.size < all_wanted_at s h.id.key c.args.keep.now (full_size c.args.size)))) c.in-Some.ensures
+    (lacks.1, subst (λ (n : ℕ). s.places.size < all_wanted_at s c.in-Some.held.id.key c.args.keep.now n) c.full_size-bytes.ensures.size lacks.2))
+
+pub returns-in-Some-stop_of-clause-all_load : goal.returns-in-Some-stop_of-clause-all_load
+returns-in-Some-stop_of-clause-all_load g c = λ e.
+    (let s = c.args.store.now in
+    subst (λ (y : Option Held). IfSome y (λ h. s.places.size < live_load_at s h.id.key (full_size c.args.size))) c.in-Some.ensures
+    (subst (λ (n : ℕ). s.places.size < live_load_at s c.in-Some.held.id.key n) c.full_size-bytes.ensures.size (c.resize.ensures.loads (stop_full c.resize.result c.in-Some-stop_of.stop c.in-Some-stop_of.ensures e)).1))
+
+pub returns-in-Some-stop_of-clause-processes : goal.returns-in-Some-stop_of-clause-processes
+returns-in-Some-stop_of-clause-processes g c = ap (λ (x : Maps). x.processes) c.resize.ensures.maps.rest
+
+pub returns-in-None-stop_of-clause-processes : goal.returns-in-None-stop_of-clause-processes
+returns-in-None-stop_of-clause-processes g c = ap (λ (x : Maps). x.processes) c.resize.ensures.maps.rest

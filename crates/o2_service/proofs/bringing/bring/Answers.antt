@@ -1,5 +1,6 @@
 use Rattle.std.proofs.Common.{◌≡◌, ◌≢◌, ◌<◌, ◌≤◌, ◌∙◌, ap, arith, ℕ, None, IsSome, refl, subst, sym, true}
 use Rattle.o2_swapmap.specs.Piles.{all_of}
+use Rattle.o2_store.specs.Leaving.{IsStuck}
 use Rattle.o2_store.specs.Loads.{live_load, swap_load}
 use Rattle.o2_store.specs.Needs.{all_wanted, named_in}
 use Rattle.o2_store.specs.Pictures.{picture, HasPicture}
@@ -30,6 +31,7 @@ returns-then-not-fits g c =
       here = λ r. absurd cc;
       no_room = λ r. c.fits.ensures.none c.if-not-fits.true;
       loads = λ r. absurd cc;
+      stuck = λ r. absurd cc;
       faults = omega arith;
       cause = λ r. absurd cc;
       never = λ r. cc;
@@ -71,6 +73,7 @@ returns g c =
       here = q.here;
       no_room = λ r. absurd (q.never.0 r);
       loads = λ r. subst (λ (z : Shelf). (all_of z.swap < swap_load z) × (z.places.size < live_load z)) e (q.loads r);
+      stuck = λ r. subst (λ (z : Shelf). IsStuck z u c.args.id.key) e (q.stuck r);
       faults = q.faults;
       cause = q.cause;
       never = q.never.1;

@@ -20,6 +20,7 @@ returns-in_default g c =
       none = λ k d e. r.none k e;
       here = λ x. absurd (c.in_default.not-Here x);
       loads = r.loads;
+      stuck = λ x. record { full = r.full x; out = r.none c.args.id.key c.requires.out; same = r.entry };
       faults = r.faults;
       cause = r.cause;
       never = r.never;
@@ -87,6 +88,7 @@ returns-in-Here g c =
       none = λ k d e. f.alone k d ∙ not_there (place_of u k) (q.presence k ∙ ap is_some (r.none k e));
       here = f.here;
       loads = λ x. absurd (f.never.2 x);
+      stuck = λ x. absurd (f.never.2 x);
       faults = omega (arith, r.faults, f.faults);
       cause = search rules;
       never = (f.never.0, f.never.1);

@@ -17,6 +17,7 @@ loop-id-init g c = record {
   follows = follows_refl c.args.store.now c.args.regions.now c.requires.held c.requires.settled;
   kept = λ k n. refl;
   none = λ k n. n;
+  entry = refl;
   faults = omega arith;
 }
 
@@ -52,6 +53,7 @@ loop-id-preserved g c =
       follows = follows_trans c.args.regions.now c.loop-id.regions v.new.regions t u i.follows e.follows;
       kept = λ k n. e.kept k (same_named s t c.args.keep.now k i.tables ∙ n) ∙ i.kept k n;
       none = λ k n. e.none k (i.none k n);
+      entry = e.entry ∙ i.entry;
       faults = omega (arith, i.faults, e.faults);
     }
 
@@ -77,8 +79,10 @@ returns-then-not-matches g c =
       follows = follows_trans c.args.regions.now c.loop-id.regions v.new.regions t u i.follows e.follows;
       kept = λ k n. e.kept k (same_named s t c.args.keep.now k i.tables ∙ n) ∙ i.kept k n;
       none = λ k n. e.none k (i.none k n);
+      entry = e.entry ∙ i.entry;
       room = search rules;
       loads = λ q. loads_after s t i.tables i.map (e.loads q);
+      full = e.full;
       faults = omega (arith, i.faults, e.faults);
       cause = search rules;
       never = e.never;

@@ -1,4 +1,5 @@
 use Rattle.std.proofs.Common.{◌≡◌, ◌≤◌, ℕ, length, None, true, IsTrue}
+use Rattle.o2_entries.specs.Tables.{slot_at}
 use Rattle.o2_swapmap.specs.Piles.{all_of}
 use Rattle.o2_store.specs.Needs.{named_in}
 use Rattle.o2_store.specs.Shelf.{AreClean, KeepsAll, Pictures, SameTables, place_of}
@@ -16,6 +17,7 @@ invariant-loop-id g l = let S = g.S.SwapDevice in record {
   follows : Follows l.initial.regions l.store l.regions;
   kept : (k : ℕ) → named_in l.initial.store.entries l.keep k ≡ true → place_of l.store k ≡ place_of l.initial.store k;
   none : (k : ℕ) → place_of l.initial.store k ≡ None → place_of l.store k ≡ None;
+  entry : slot_at l.store.entries l.id.key ≡ slot_at l.initial.store.entries l.id.key;
   faults : S.faults l.initial.swap ≤ S.faults l.swap;
 }
 

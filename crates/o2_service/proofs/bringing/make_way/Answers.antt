@@ -1,4 +1,5 @@
 use Rattle.std.proofs.Common.{ap, ◌∙◌, arith}
+use Rattle.o2_entries.specs.Tables.{slot_at}
 use Rattle.o2_swapmap.specs.Piles.{all_of}
 use Rattle.o2_store.specs.Shelf.{Shelf}
 use Rattle.o2_service.proofs.Among.{live_same}
@@ -50,8 +51,10 @@ returns g c =
       follows = c.settle_moved.ensures.follows;
       kept = kept_leaving s t u key keep out e v w.others;
       none = none_leaving s t u key keep out e v w.others;
+      entry = w.evicts.entries key (place_chosen s t key e ∙ c.requires.out) ∙ ap (λ (z : Shelf). slot_at z.entries key) e;
       fewer = λ r. fewer_leaving s t u key keep out e v (w.fewer r);
       loads = λ r. short_load s t key e c.law.ensures.shelf c.law.ensures.sum c.requires.out c.requires.short (w.loads r);
+      full = w.full;
       faults = w.faults;
       cause = w.cause;
       never = (w.never, λ r. stale_never s t out e v.live (w.stale r));

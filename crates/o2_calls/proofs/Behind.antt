@@ -1,0 +1,267 @@
+-- The bytes of names and the registers of processes behind the changes of a call.
+use Rattle.std.proofs.Common.{◌≡◌, ◌≢◌, ℕ, zero, suc, ◌+◌, ◌-◌, ◌==◌, Bool, true, false, cond, if◌then◌else◌, List, [], ◌∷◌, Option, Some, None, is_some, option_map, ap, refl, sym, ◌∙◌, subst, arith}
+use Rattle.std.specs.Prelude.{slice_get}
+use Rattle.std.specs.List.{list_any}
+use Rattle.o2_isa.specs.View.{Hold, bound_in}
+use Rattle.o2_isa.specs.Parts.{put_part}
+use Rattle.o2_isa.specs.Pointers.{put_at_pointer, put_in}
+use Rattle.o2_world.specs.Map.{Map, at_key, get, put}
+use Rattle.o2_world.specs.World.{Held, Process, Segment, World}
+use Rattle.o2_world.specs.Bare.{Bare, bare, bare_names}
+use Rattle.o2_world.specs.Changes.{Change, Makes, Resizes, Locks, Marks, Holds, Drops, Finishes, Reserves, Frees, Names, at_number, at_place, fewer, more, resized, swept, takes, with_all, with_change, with_changes}
+use Rattle.o2_world.specs.Holders.{is_held, kept, process_at}
+use Rattle.o2_world.specs.SegmentCalls.{Written}
+use Rattle.o2_world.specs.Views.{bytes_in, segment_bytes, with_bytes}
+use Rattle.o2_world.proofs.MapLemmas.{get-at_key, get-filter, get-map}
+use Rattle.o2_gate.specs.Replies.{bytes_by}
+use Rattle.o2_stands.specs.Parts.{Running, running_of}
+use Rattle.o2_calls.specs.Seen.{IsAimedAt}
+
+number_is : (n k : ℕ) → (n == k) ≡ true → n ≡ k
+number_is n k e = grind arith
+
+-- each name that lives has these bytes
+abbrev pub AreBytes : Map Segment → (ℕ → List ℕ) → Type 0
+AreBytes names f = (n : ℕ) → is_some (get names n) ≡ true → bytes_in names n ≡ f n
+
+pub own_bytes : (names : Map Segment) → AreBytes names (bytes_in names)
+own_bytes names n live = refl
+
+pub put_bytes : (names : Map Segment) (f : ℕ → List ℕ) → AreBytes (with_bytes names f) f
+put_bytes names f n = subst (λ (o : Option Segment). is_some o ≡ true → segment_bytes o ≡ f n) (sym (get-map (λ (a : ℕ) (x : Segment). record x { bytes = f a }) names n)) (go (get names n))
+  where
+    go : (o : Option Segment) → is_some (option_map (λ (x : Segment). record x { bytes = f n }) o) ≡ true → segment_bytes (option_map (λ (x : Segment). record x { bytes = f n }) o) ≡ f n
+    go None live = absurd (cc)
+    go (Some x) live = refl
+
+-- The bytes behind changes, by those before them and by the next name.
+
+abbrev pub changed_bytes : ℕ → Change → (ℕ → List ℕ) → ℕ → List ℕ
+changed_bytes next (Makes s) f n = if next == n then s.bytes else f n
+changed_bytes next (Resizes name size) f n = if name == n then resized size (f n) else f n
+changed_bytes next (Locks name count) f n = f n
+changed_bytes next (Marks name discarded) f n = f n
+changed_bytes next (Holds p i h) f n = f n
+changed_bytes next (Drops p i count) f n = f n
+changed_bytes next (Finishes p state) f n = f n
+changed_bytes next (Reserves r) f n = f n
+changed_bytes next (Frees region first) f n = f n
+changed_bytes next (Names text name) f n = f n
+
+abbrev pub next_behind : ℕ → Change → ℕ
+next_behind next (Makes s) = next + 1
+next_behind next (Resizes name size) = next
+next_behind next (Locks name count) = next
+next_behind next (Marks name discarded) = next
+next_behind next (Holds p i h) = next
+next_behind next (Drops p i count) = next
+next_behind next (Finishes p state) = next
+next_behind next (Reserves r) = next
+next_behind next (Frees region first) = next
+next_behind next (Names text name) = next
+
+abbrev pub all_bytes : ℕ → List Change → (ℕ → List ℕ) → ℕ → List ℕ
+all_bytes next [] f n = f n
+all_bytes next (c ∷ cs) f n = all_bytes (next_behind next c) cs (changed_bytes next c f) n
+
+next_is : (w : World) (c : Change) → (with_change w c).next_name ≡ next_behind w.next_name c
+next_is w (Makes s) = refl
+next_is w (Resizes name size) = refl
+next_is w (Locks name count) = refl
+next_is w (Marks name discarded) = refl
+next_is w (Holds p i h) = refl
+next_is w (Drops p i count) = refl
+next_is w (Finishes p state) = refl
+next_is w (Reserves r) = refl
+next_is w (Frees region first) = refl
+next_is w (Names text name) = refl
+
+-- a segment changed in its place
+module _ (k : ℕ) (g : Segment → Segment) (r : List ℕ → List ℕ) (is : (s : Segment) → (g s).bytes ≡ r s.bytes) (names : Map Segment) (f : ℕ → List ℕ) (h : AreBytes names f) (n : ℕ) where
+  here : (o : Option Segment) → get names n ≡ o → is_some (option_map g o) ≡ true → segment_bytes (option_map g o) ≡ r (f n)
+  here None e live = absurd (cc)
+  here (Some x) e live = is x ∙ ap r (ap segment_bytes (sym e) ∙ h n (ap is_some e))
+
+  by_key : (b : Bool) → (k == n) ≡ b → is_some (cond b (option_map g (get names k)) (get names n)) ≡ true
+      → segment_bytes (cond b (option_map g (get names k)) (get names n)) ≡ cond b (r (f n)) (f n)
+  by_key true e = subst (λ (j : ℕ). is_some (option_map g (get names j)) ≡ true → segment_bytes (option_map g (get names j)) ≡ r (f n)) (sym (number_is k n e)) (here (get names n) refl)
+  by_key false e = h n
+
+  placed : is_some (get (at_key k g names) n) ≡ true → bytes_in (at_key k g names) n ≡ cond (k == n) (r (f n)) (f n)
+  placed = subst (λ (o : Option Segment). is_some o ≡ true → segment_bytes o ≡ cond (k == n) (r (f n)) (f n)) (sym (get-at_key k n g names)) (by_key (k == n) refl)
+
+same_if : (b : Bool) (x : List ℕ) → cond b x x ≡ x
+same_if true x = refl
+same_if false x = refl
+
+one_bytes : (w : World) (c : Change) (f : ℕ → List ℕ) → AreBytes w.names f → AreBytes (with_change w c).names (changed_bytes w.next_name c f)
+one_bytes w (Makes s) f h n = go (w.next_name == n)
+  where
+    go : (b : Bool) → is_some (cond b (Some s) (get w.names n)) ≡ true → segment_bytes (cond b (Some s) (get w.names n)) ≡ cond b s.bytes (f n)
+    go true live = refl
+    go false live = h n live
+one_bytes w (Resizes name size) f h n = placed name (λ (s : Segment). record s { bytes = resized size s.bytes }) (resized size) (λ s. refl) w.names f h n
+one_bytes w (Locks name count) f h n = λ live. placed name (λ (s : Segment). record s { lock = count }) (λ (bs : List ℕ). bs) (λ s. refl) w.names f h n live ∙ same_if (name == n) (f n)
+one_bytes w (Marks name discarded) f h n = λ live. placed name (λ (s : Segment). record s { discarded = discarded }) (λ (bs : List ℕ). bs) (λ s. refl) w.names f h n live ∙ same_if (name == n) (f n)
+one_bytes w (Holds p i x) f h n = h n
+one_bytes w (Drops p i count) f h n = h n
+one_bytes w (Finishes p state) f h n = h n
+one_bytes w (Reserves r) f h n = h n
+one_bytes w (Frees region first) f h n = h n
+one_bytes w (Names text name) f h n = h n
+
+each_bytes : (w : World) (cs : List Change) (f : ℕ → List ℕ) → AreBytes w.names f → AreBytes (with_changes w cs).names (all_bytes w.next_name cs f)
+unfolding with_changes
+each_bytes w [] f h = h
+each_bytes w (c ∷ cs) f h = λ n live.
+    each_bytes (with_change w c) cs (changed_bytes w.next_name c f) (one_bytes w c f h) n live
+    ∙ ap (λ (k : ℕ). all_bytes k cs (changed_bytes w.next_name c f) n) (next_is w c)
+
+swept_bytes : (w : World) (f : ℕ → List ℕ) → AreBytes w.names f → AreBytes (swept w).names f
+swept_bytes w f h n = subst (λ (o : Option Segment). is_some o ≡ true → segment_bytes o ≡ f n) (sym (get-filter (is_held w.processes) w.names n)) (go (is_held w.processes n))
+  where
+    go : (b : Bool) → is_some (cond b (get w.names n) None) ≡ true → segment_bytes (cond b (get w.names n) None) ≡ f n
+    go true live = h n live
+    go false live = absurd (cc)
+
+pub behind_bytes : (w : World) (cs : List Change) (f : ℕ → List ℕ) → AreBytes w.names f → AreBytes (with_all w cs).names (all_bytes w.next_name cs f)
+behind_bytes w cs f h = go (list_any takes cs)
+  where
+    go : (b : Bool) → AreBytes (cond b (swept (with_changes w cs)) (with_changes w cs)).names (all_bytes w.next_name cs f)
+    go true = swept_bytes (with_changes w cs) (all_bytes w.next_name cs f) (each_bytes w cs f h)
+    go false = each_bytes w cs f h
+
+-- They go name by name.
+
+one_point : (next : ℕ) (c : Change) (f g : ℕ → List ℕ) (n : ℕ) → f n ≡ g n → changed_bytes next c f n ≡ changed_bytes next c g n
+one_point next (Makes s) f g n e = ap (λ (x : List ℕ). if next == n then s.bytes else x) e
+one_point next (Resizes name size) f g n e = ap (λ (x : List ℕ). if name == n then resized size x else x) e
+one_point next (Locks name count) f g n e = e
+one_point next (Marks name discarded) f g n e = e
+one_point next (Holds p i h) f g n e = e
+one_point next (Drops p i count) f g n e = e
+one_point next (Finishes p state) f g n e = e
+one_point next (Reserves r) f g n e = e
+one_point next (Frees region first) f g n e = e
+one_point next (Names text name) f g n e = e
+
+pub bytes_point : (next : ℕ) (cs : List Change) (f g : ℕ → List ℕ) (n : ℕ) → f n ≡ g n → all_bytes next cs f n ≡ all_bytes next cs g n
+bytes_point next [] f g n e = e
+bytes_point next (c ∷ cs) f g n e = bytes_point (next_behind next c) cs (changed_bytes next c f) (changed_bytes next c g) n (one_point next c f g n e)
+
+-- What a call that writes may change: it makes a segment and holds it, or holds one more.
+pub data IsGiving (cs : List Change) : Type 0 where
+  GivesNone : cs ≡ [] → IsGiving cs
+  GivesNew : (s : Segment) (p i : ℕ) (h : Held) → cs ≡ Makes s ∷ Holds p i h ∷ [] → IsGiving cs
+  GivesHold : (p i : ℕ) (h : Held) → cs ≡ Holds p i h ∷ [] → IsGiving cs
+
+written_new : (next : ℕ) (bytes : List ℕ) (f : ℕ → List ℕ) (offset : ℕ) (part : List ℕ) (h : Hold) (n : ℕ) → next ≢ h.name
+    → cond (next == n) bytes (put_in f offset part (Some h) n) ≡ put_in (λ (k : ℕ). cond (next == k) bytes (f k)) offset part (Some h) n
+written_new next bytes f offset part h n apart = go (next == n) (n == h.name) refl refl
+  where
+    go : (a b : Bool) → (next == n) ≡ a → (n == h.name) ≡ b
+        → cond a bytes (cond b (put_part (f n) offset part) (f n)) ≡ cond b (put_part (cond a bytes (f n)) offset part) (cond a bytes (f n))
+    go true true e d = absurd (apart (number_is next n e ∙ number_is n h.name d))
+    go true false e d = refl
+    go false true e d = refl
+    go false false e d = refl
+
+-- a write before such changes, and behind them
+through : (next : ℕ) (cs : List Change) (f : ℕ → List ℕ) (offset : ℕ) (part : List ℕ) (h : Hold) (n : ℕ) → IsGiving cs → next ≢ h.name
+    → all_bytes next cs (put_in f offset part (Some h)) n ≡ put_in (all_bytes next cs f) offset part (Some h) n
+through next cs f offset part h n (GivesNone e) apart = subst (λ (ds : List Change). all_bytes next ds (put_in f offset part (Some h)) n ≡ put_in (all_bytes next ds f) offset part (Some h) n) (sym e) refl
+through next cs f offset part h n (GivesNew s p i x e) apart =
+    subst (λ (ds : List Change). all_bytes next ds (put_in f offset part (Some h)) n ≡ put_in (all_bytes next ds f) offset part (Some h) n) (sym e) (written_new next s.bytes f offset part h n apart)
+through next cs f offset part h n (GivesHold p i x e) apart =
+    subst (λ (ds : List Change). all_bytes next ds (put_in f offset part (Some h)) n ≡ put_in (all_bytes next ds f) offset part (Some h) n) (sym e) refl
+
+module _ (held now : ℕ → Option Hold) (next : ℕ) (cs : List Change) (f : ℕ → List ℕ) (n : ℕ) where
+  aimed : (t : Written) → IsGiving cs → IsAimedAt held now next t
+      → all_bytes next cs (put_at_pointer held f t.selector t.offset t.part) n ≡ put_at_pointer now (all_bytes next cs f) t.selector t.offset t.part n
+  unfolding put_at_pointer
+  aimed t gives a =
+      bytes_point next cs (put_in f t.offset t.part (bound_in held t.selector)) (put_in f t.offset t.part (Some a.hold)) n (ap (λ (o : Option Hold). put_in f t.offset t.part o n) a.was)
+      ∙ (through next cs f t.offset t.part a.hold n gives a.apart
+      ∙ ap (λ (o : Option Hold). put_in (all_bytes next cs f) t.offset t.part o n) (sym a.still))
+
+  -- the value of a call, where it has one
+  pub valued : (error : ℕ) (o : Option Written) → (error ≡ 0 → (t : Written) → o ≡ Some t → IsGiving cs × IsAimedAt held now next t)
+      → all_bytes next cs (bytes_by error o held f) n ≡ bytes_by error o now (all_bytes next cs f) n
+  valued error None safe = refl
+  valued error (Some t) safe = go (error == 0) refl
+    where
+      go : (b : Bool) → (error == 0) ≡ b
+          → all_bytes next cs (cond b (put_at_pointer held f t.selector t.offset t.part) f) n ≡ cond b (put_at_pointer now (all_bytes next cs f) t.selector t.offset t.part) (all_bytes next cs f) n
+      go true e = (let s = safe (number_is error 0 e) t refl in aimed t s.0 s.1)
+      go false e = refl
+
+-- Worlds that are bare the same have the same live names.
+
+live_bare : (names : Map Segment) (n : ℕ) → is_some (get (bare_names names) n) ≡ is_some (get names n)
+live_bare names n = ap is_some (get-map (λ (k : ℕ) (x : Segment). record x { bytes = [] }) names n) ∙ go (get names n)
+  where
+    go : (o : Option Segment) → is_some (option_map (λ (x : Segment). record x { bytes = [] }) o) ≡ is_some o
+    go None = refl
+    go (Some x) = refl
+
+pub live_same : (u v : World) → bare u ≡ bare v → (n : ℕ) → is_some (get v.names n) ≡ is_some (get u.names n)
+live_same u v same n = sym (live_bare v.names n) ∙ (ap (λ (names : Map Segment). is_some (get names n)) (sym (ap (λ (x : Bare). x.names) same)) ∙ live_bare u.names n)
+
+-- Registers and states of processes: no change of a call has any.
+
+abbrev pub IsNoEnd : Change → Type 0
+IsNoEnd (Makes s) = Unit {0}
+IsNoEnd (Resizes name size) = Unit {0}
+IsNoEnd (Locks name count) = Unit {0}
+IsNoEnd (Marks name discarded) = Unit {0}
+IsNoEnd (Holds p i h) = Unit {0}
+IsNoEnd (Drops p i count) = Unit {0}
+IsNoEnd (Finishes p state) = ⊥
+IsNoEnd (Reserves r) = Unit {0}
+IsNoEnd (Frees region first) = Unit {0}
+IsNoEnd (Names text name) = Unit {0}
+
+abbrev pub AreNoEnds : List Change → Type 0
+AreNoEnds [] = Unit {0}
+AreNoEnds (c ∷ cs) = IsNoEnd c × AreNoEnds cs
+
+runs_place : (k : ℕ) (f : Process → Process) → ((x : Process) → running_of (f x) ≡ running_of x) → (ps : List Process) (j : ℕ)
+    → option_map running_of (slice_get (at_place k f ps) j) ≡ option_map running_of (slice_get ps j)
+runs_place k f same [] j = refl
+runs_place zero f same (p ∷ ps) zero = ap (λ (r : Running). Some r) (same p)
+runs_place zero f same (p ∷ ps) (suc j) = refl
+runs_place (suc k) f same (p ∷ ps) zero = refl
+runs_place (suc k) f same (p ∷ ps) (suc j) = runs_place k f same ps j
+
+runs_number : (k : ℕ) (f : Process → Process) → ((x : Process) → running_of (f x) ≡ running_of x) → (ps : List Process) (n : ℕ)
+    → option_map running_of (process_at (at_number k f ps) n) ≡ option_map running_of (process_at ps n)
+runs_number k f same ps n = go (k == 0) (n == 0)
+  where
+    go : (a b : Bool) → option_map running_of (cond b None (slice_get (cond a ps (at_place (k - 1) f ps)) (n - 1))) ≡ option_map running_of (cond b None (slice_get ps (n - 1)))
+    go true b = refl
+    go false true = refl
+    go false false = runs_place (k - 1) f same ps (n - 1)
+
+one_runs : (w : World) (c : Change) → IsNoEnd c → (n : ℕ) → option_map running_of (process_at (with_change w c).processes n) ≡ option_map running_of (process_at w.processes n)
+one_runs w (Makes s) no n = refl
+one_runs w (Resizes name size) no n = refl
+one_runs w (Locks name count) no n = refl
+one_runs w (Marks name discarded) no n = refl
+one_runs w (Holds p i h) no n = runs_number p (λ (x : Process). record x { held = put i (more h (get x.held i)) x.held }) (λ x. refl) w.processes n
+one_runs w (Drops p i count) no n = runs_number p (λ (x : Process). record x { held = put i (fewer count (get x.held i)) x.held }) (λ x. refl) w.processes n
+one_runs w (Finishes p state) no n = absurd no
+one_runs w (Reserves r) no n = refl
+one_runs w (Frees region first) no n = refl
+one_runs w (Names text name) no n = refl
+
+each_runs : (w : World) (cs : List Change) → AreNoEnds cs → (n : ℕ) → option_map running_of (process_at (with_changes w cs).processes n) ≡ option_map running_of (process_at w.processes n)
+unfolding with_changes
+each_runs w [] no n = refl
+each_runs w (c ∷ cs) no n = each_runs (with_change w c) cs no.1 n ∙ one_runs w c no.0 n
+
+pub behind_runs : (w : World) (cs : List Change) → AreNoEnds cs → (n : ℕ) → option_map running_of (process_at (with_all w cs).processes n) ≡ option_map running_of (process_at w.processes n)
+behind_runs w cs no n = go (list_any takes cs)
+  where
+    go : (b : Bool) → option_map running_of (process_at (cond b (swept (with_changes w cs)) (with_changes w cs)).processes n) ≡ option_map running_of (process_at w.processes n)
+    go true = each_runs w cs no n
+    go false = each_runs w cs no n

@@ -1,0 +1,102 @@
+-- The shapes of what calls on segments change.
+use Rattle.std.proofs.Common.{◌≡◌, ℕ, ◌+◌, ◌-◌, ◌/◌, ◌==◌, ◌||◌, not, nat_lt, nat_le, Bool, true, false, cond, List, [], ◌∷◌, Option, Some, None, map, refl, subst, sym}
+use Rattle.std.specs.Prelude.{min}
+use Rattle.o2_desc.specs.Bits.{is_writable}
+use Rattle.o2_isa.specs.declared.cpu.Cpu.{Cpu}
+use Rattle.o2_world.specs.World.{Held}
+use Rattle.o2_world.specs.Changes.{Change, Drops, Holds, Locks, Makes, Resizes}
+use Rattle.o2_world.specs.Known.{Known, Marks}
+use Rattle.o2_world.specs.Rulings.{Ruling, aliasing_at, aliasing_of, allocation, allocation_at, by_load, free_index, freeing_of, freeing_with, full_size, grants, held_as_code, held_by_call, held_under, in_use, is_alias, is_discardable, is_in_run, is_later, keeps_its_size, locking_of, locking_with, made_segment, members, reallocation_of, reallocation_with, refusal, region_by, sizing_of, sizing_with, unlocking_of, unlocking_with}
+use Rattle.o2_gate.specs.declared.gathering.SegmentArguments.{SegmentArguments}
+use Rattle.o2_gate.specs.declared.gathering.SegmentArguments.TheVariants.{Alloc, Realloc, Free, Size, Lock, Unlock, Alias}
+use Rattle.o2_world.specs.SegmentCalls.{Written}
+use Rattle.o2_gate.specs.Replies.{written_of}
+use Rattle.o2_calls.specs.Acts.{ruling_of}
+use Rattle.o2_calls.proofs.Behind.{AreNoEnds, GivesHold, GivesNew, GivesNone, IsGiving}
+use Rattle.o2_calls.proofs.Rulings.{sizing_still}
+
+-- by a test, or by a refusal
+either : (P : List Change → Type 0) (b : Bool) (r q : Ruling) → P r.changes → P q.changes → P (cond b r q).changes
+either P true r q h k = h
+either P false r q h k = k
+
+-- A call that writes gives at most one hold.
+
+new_gives : (k : Known) (n size flags : ℕ) (index : Option ℕ) → IsGiving (allocation_at k n size flags index).changes
+new_gives k n size flags None = GivesNone refl
+new_gives k n size flags (Some i) = GivesNew (made_segment size flags) n i (held_by_call k.next) refl
+
+pub alloc_gives : (k : Known) (n size flags : ℕ) → IsGiving (allocation k n size flags).changes
+alloc_gives k n size flags =
+    either IsGiving (nat_lt 15 flags) _ _ (GivesNone refl) (either IsGiving (nat_le k.most k.count) _ _ (GivesNone refl) (new_gives k n size flags (free_index k (region_by n flags))))
+
+pub size_gives : (k : Known) (n selector : ℕ) → IsGiving (sizing_of k (held_under k n selector)).changes
+size_gives k n selector = GivesNone (sizing_still k n selector)
+
+alias_at : (n name : ℕ) (index : Option ℕ) → IsGiving (aliasing_at n name index).changes
+alias_at n name None = GivesNone refl
+alias_at n name (Some i) = GivesHold n i (held_as_code name) refl
+
+pub alias_gives : (k : Known) (n index : ℕ) (o : Option Held) → IsGiving (aliasing_of k n index o).changes
+alias_gives k n index None = GivesNone refl
+alias_gives k n index (Some h) = either IsGiving (nat_le 4096 index || (not (is_writable h.rights) || is_in_run h)) _ _ (GivesNone refl) (alias_at n h.name (free_index k n))
+
+-- No call ends a process.
+
+drops_go_on : (n : ℕ) (is : List ℕ) → AreNoEnds (map (λ (i : ℕ). Drops n i 1) is)
+drops_go_on n [] = tt
+drops_go_on n (i ∷ is) = (tt, drops_go_on n is)
+
+giving_goes_on : (cs : List Change) → IsGiving cs → AreNoEnds cs
+giving_goes_on cs (GivesNone e) = subst AreNoEnds (sym e) tt
+giving_goes_on cs (GivesNew s p i h e) = subst AreNoEnds (sym e) (tt, (tt, tt))
+giving_goes_on cs (GivesHold p i h e) = subst AreNoEnds (sym e) (tt, tt)
+
+resize_goes_on : (name size : ℕ) (o : Option Marks) → AreNoEnds (reallocation_with name size o).changes
+resize_goes_on name size None = tt
+resize_goes_on name size (Some m) = either AreNoEnds (keeps_its_size size m) _ _ tt (tt, tt)
+
+realloc_goes_on : (k : Known) (size : ℕ) (o : Option Held) → AreNoEnds (reallocation_of k size o).changes
+realloc_goes_on k size None = tt
+realloc_goes_on k size (Some h) = either AreNoEnds (is_alias h.cause || is_in_run h) _ _ tt (resize_goes_on h.name size (k.segment h.name))
+
+free_goes_on : (k : Known) (n selector : ℕ) (c : Cpu) (o : Option Held) → AreNoEnds (freeing_of k n selector c o).changes
+free_goes_on k n selector c None = tt
+free_goes_on k n selector c (Some h) =
+    either AreNoEnds (by_load h.cause || is_later (selector / 8) h) _ _ tt
+    (either AreNoEnds (in_use c (members k n (selector / 8) h)) _ _ tt (drops_go_on n (members k n (selector / 8) h)))
+
+lock_goes_on : (name : ℕ) (o : Option Marks) → AreNoEnds (locking_with name o).changes
+lock_goes_on name None = tt
+lock_goes_on name (Some m) = either AreNoEnds (is_discardable m) _ _ (tt, tt) tt
+
+locking_goes_on : (k : Known) (o : Option Held) → AreNoEnds (locking_of k o).changes
+locking_goes_on k None = tt
+locking_goes_on k (Some h) = lock_goes_on h.name (k.segment h.name)
+
+unlock_goes_on : (name : ℕ) (o : Option Marks) → AreNoEnds (unlocking_with name o).changes
+unlock_goes_on name None = tt
+unlock_goes_on name (Some m) = either AreNoEnds (is_discardable m) _ _ (either AreNoEnds (m.lock == 0) _ _ tt (tt, tt)) tt
+
+unlocking_goes_on : (k : Known) (o : Option Held) → AreNoEnds (unlocking_of k o).changes
+unlocking_goes_on k None = tt
+unlocking_goes_on k (Some h) = unlock_goes_on h.name (k.segment h.name)
+
+pub calls_go_on : (a : SegmentArguments) (k : Known) (n : ℕ) (c : Cpu) → AreNoEnds (ruling_of a k n c).changes
+calls_go_on (Alloc size s o flags) k n c = giving_goes_on _ (alloc_gives k n size flags)
+calls_go_on (Realloc size selector) k n c = realloc_goes_on k (full_size size) (held_under k n selector)
+calls_go_on (Free selector) k n c = free_goes_on k n selector c (held_under k n selector)
+calls_go_on (Size selector s o) k n c = giving_goes_on _ (size_gives k n selector)
+calls_go_on (Lock selector) k n c = locking_goes_on k (held_under k n selector)
+calls_go_on (Unlock selector) k n c = unlocking_goes_on k (held_under k n selector)
+calls_go_on (Alias selector s o) k n c = giving_goes_on _ (alias_gives k n (selector / 8) (held_under k n selector))
+
+-- a call that writes a value gives
+pub valued_gives : (a : SegmentArguments) (k : Known) (n : ℕ) (c : Cpu) (value : ℕ) (z : Written) → written_of a value ≡ Some z → IsGiving (ruling_of a k n c).changes
+valued_gives (Alloc size s o flags) k n c value z e = alloc_gives k n size flags
+valued_gives (Realloc size selector) k n c value z e = absurd (cc)
+valued_gives (Free selector) k n c value z e = absurd (cc)
+valued_gives (Size selector s o) k n c value z e = size_gives k n selector
+valued_gives (Lock selector) k n c value z e = absurd (cc)
+valued_gives (Unlock selector) k n c value z e = absurd (cc)
+valued_gives (Alias selector s o) k n c value z e = alias_gives k n (selector / 8) (held_under k n selector)

@@ -1,0 +1,73 @@
+-- Why a call on segments stops, said of the store before it.
+use Rattle.std.specs.Prelude.{◌≡◌, ℕ, ◌<◌, ◌≤◌, ◌/◌, List, Option, None, IfSome, true, if◌then◌else◌}
+use Rattle.o2_isa.specs.View.{is_local}
+use Rattle.o2_place.specs.declared.seg_id.SegId.{SegId}
+use Rattle.o2_regions.specs.declared.answer.Roomed.{Roomed}
+use Rattle.o2_regions.specs.declared.answer.Roomed.TheVariants.{Done, NoRoom, SwapFull, SwapFault}
+use Rattle.o2_regions.specs.declared.held.Held.{Held}
+use Rattle.o2_regions.specs.Maps.{Maps, held_at}
+use Rattle.o2_store.specs.Loads.{live_load, live_load_at, swap_load}
+use Rattle.o2_store.specs.Needs.{all_wanted}
+use Rattle.o2_store.specs.Shelf.{Shelf}
+use Rattle.o2_store.specs.Sizes.{all_wanted_at, stays}
+use Rattle.o2_swapmap.specs.Piles.{all_of}
+use Rattle.o2_world.specs.Rulings.{full_size}
+use Rattle.o2_gate.specs.declared.gathering.SegmentArguments.{SegmentArguments}
+use Rattle.o2_gate.specs.declared.gathering.SegmentArguments.TheVariants.{Alloc, Realloc, Free, Size, Lock, Unlock, Alias}
+use Rattle.o2_changes.specs.Holding.{KeepsHolds}
+use Rattle.o2_segs.specs.Made.{IsWithNew}
+
+-- what a process holds under a selector
+abbrev pub held_by : Maps → ℕ → ℕ → Option Held
+held_by m pid selector = if is_local selector then held_at m pid (selector / 8) else None
+
+-- the segment at its new size, or the new one, together with what is to be kept and what is locked is more than the memory
+abbrev pub LacksRoom : SegmentArguments → Shelf → Maps → (pid : ℕ) → (keep : List SegId) → Type 0
+LacksRoom (Alloc size s o flags) t m pid keep = IsWithNew t (full_size size) flags (λ u id. u.places.size < all_wanted u id.key keep)
+LacksRoom (Realloc size selector) t m pid keep =
+    IfSome (held_by m pid selector) (λ h. (stays t h.id.key keep ≡ true) × (t.places.size < all_wanted_at t h.id.key keep (full_size size)))
+LacksRoom (Free selector) t m pid keep = ⊥
+LacksRoom (Size selector s o) t m pid keep = ⊥
+LacksRoom (Lock selector) t m pid keep = IfSome (held_by m pid selector) (λ h. t.places.size < all_wanted t h.id.key keep)
+LacksRoom (Unlock selector) t m pid keep = ⊥
+LacksRoom (Alias selector s o) t m pid keep = ⊥
+
+-- what lives, with the new segment or the new size, is more than the memory
+abbrev pub LacksMemory : SegmentArguments → Shelf → Maps → (pid : ℕ) → Type 0
+LacksMemory (Alloc size s o flags) t m pid = IsWithNew t (full_size size) flags (λ u id. u.places.size < live_load u)
+LacksMemory (Realloc size selector) t m pid = IfSome (held_by m pid selector) (λ h. t.places.size < live_load_at t h.id.key (full_size size))
+LacksMemory (Free selector) t m pid = ⊥
+LacksMemory (Size selector s o) t m pid = ⊥
+LacksMemory (Lock selector) t m pid = t.places.size < live_load t
+LacksMemory (Unlock selector) t m pid = ⊥
+LacksMemory (Alias selector s o) t m pid = ⊥
+
+-- and what isn't clean may need more blocks than there are
+abbrev pub LacksSwap : SegmentArguments → Shelf → Maps → (pid : ℕ) → Type 0
+LacksSwap a t m pid = (all_of t.swap < swap_load t) × LacksMemory a t m pid
+
+-- what a call that has a pointer leaves of what is held: all of it
+abbrev pub LeavesHolds : SegmentArguments → (old new : Maps) → Type 0
+LeavesHolds (Alloc size s o flags) m n = KeepsHolds m n
+LeavesHolds (Realloc size selector) m n = Unit {0}
+LeavesHolds (Free selector) m n = Unit {0}
+LeavesHolds (Size selector s o) m n = KeepsHolds m n
+LeavesHolds (Lock selector) m n = Unit {0}
+LeavesHolds (Unlock selector) m n = Unit {0}
+LeavesHolds (Alias selector s o) m n = KeepsHolds m n
+
+-- the value of a call that is done is a word where it is a selector
+abbrev pub HasWord : Roomed → Type 0
+HasWord (Done x) = x.value ≤ 65535
+HasWord NoRoom = Unit {0}
+HasWord SwapFull = Unit {0}
+HasWord SwapFault = Unit {0}
+
+abbrev pub IsGivable : SegmentArguments → Roomed → Type 0
+IsGivable (Alloc size s o flags) x = HasWord x
+IsGivable (Realloc size selector) x = Unit {0}
+IsGivable (Free selector) x = Unit {0}
+IsGivable (Size selector s o) x = Unit {0}
+IsGivable (Lock selector) x = Unit {0}
+IsGivable (Unlock selector) x = Unit {0}
+IsGivable (Alias selector s o) x = HasWord x
