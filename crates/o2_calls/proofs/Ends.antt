@@ -1,12 +1,12 @@
 -- An end behind the changes of a call: what nobody holds goes once, whether it went before the end or goes behind it.
-use Rattle.std.proofs.Common.{◌≡◌, ℕ, zero, suc, ◌-◌, ◌==◌, ◌||◌, Bool, true, false, cond, if◌then◌else◌, List, [], ◌∷◌, ◌++◌, filter, Option, Some, None, ap, refl, sym, ◌∙◌, subst}
+use Rattle.std.proofs.Common.{◌≡◌, ℕ, zero, suc, ◌-◌, ◌==◌, ◌||◌, Bool, true, false, cond, List, [], ◌∷◌, ◌++◌, filter, None, ap, refl, sym, ◌∙◌}
 use Rattle.std.specs.Prelude.{slice_get}
 use Rattle.std.specs.List.{list_any}
 use Rattle.std.proofs.lemmas.Bool.{false≢true}
 use Rattle.o2_world.specs.declared.types.State.{State}
-use Rattle.o2_world.specs.Map.{Map, get}
-use Rattle.o2_world.specs.World.{Held, Process, Reserve, Segment, World}
-use Rattle.o2_world.specs.Changes.{Change, Makes, Resizes, Locks, Marks, Holds, Drops, Finishes, Reserves, Frees, Names, at_number, at_place, holds_run, is_used, own_run_held, run_held, swept, takes, told_of, used, with_all, with_change, with_changes}
+use Rattle.o2_world.specs.Map.{Map}
+use Rattle.o2_world.specs.World.{Process, Reserve, Segment, World}
+use Rattle.o2_world.specs.Changes.{Change, Finishes, at_number, at_place, holds_run, is_used, own_run_held, run_held, swept, takes, told_of, used, with_all, with_change, with_changes}
 use Rattle.o2_world.specs.Holders.{holds_name, is_held, kept, process_at}
 
 -- filtering by more than was filtered by before

@@ -1,20 +1,17 @@
 -- A machine that stands for a world, before and behind a call.
-use Rattle.std.proofs.Common.{◌≡◌, ℕ, ◌<◌, ◌≤◌, ◌/◌, Bool, true, false, List, [], Option, Some, None, is_some, refl, sym, ap, ◌∙◌, subst, arith}
-use Rattle.std.specs.Prelude.{IsTrue}
+use Rattle.std.proofs.Common.{◌≡◌, ℕ, ◌/◌, List, [], Option, Some, None, is_some, refl, sym, ap, ◌∙◌, subst, arith}
 use Rattle.o2_image.specs.ImageList.{ImageList}
 use Rattle.o2_isa.specs.declared.cpu.Cpu.{Cpu}
-use Rattle.o2_regions.specs.declared.answer.Answer.{Answer}
 use Rattle.o2_regions.specs.declared.answer.Roomed.{Roomed}
 use Rattle.o2_regions.specs.declared.answer.Roomed.TheVariants.{Done, NoRoom, SwapFull, SwapFault}
 use Rattle.o2_regions.specs.Maps.{Maps, IsProcess}
 use Rattle.o2_store.specs.Shelf.{Shelf}
 use Rattle.o2_world.specs.Changes.{Change, with_all, with_changes}
-use Rattle.o2_world.specs.Holders.{process_at}
 use Rattle.o2_world.specs.Known.{known_of}
 use Rattle.o2_world.specs.Map.{get}
 use Rattle.o2_world.specs.Rulings.{Ruling, freeing, sizing}
 use Rattle.o2_world.specs.Tied.{IsTied}
-use Rattle.o2_world.specs.World.{Process, Segment, Setting, World}
+use Rattle.o2_world.specs.World.{Segment, Setting, World}
 use Rattle.o2_gate.specs.declared.gathering.SegmentArguments.{SegmentArguments}
 use Rattle.o2_stands.specs.Knows.{KnowsAs, Others, known_in, others_of}
 use Rattle.o2_stands.specs.Moves.{moved}

@@ -1,22 +1,20 @@
 -- A call on segments whose pointer is good comes to the reply by its ruling.
-use Rattle.std.proofs.Common.{◌≡◌, ◌≢◌, ℕ, ◌==◌, Bool, true, false, cond, List, [], ◌∷◌, Option, Some, None, if◌then◌else◌, ap, refl, sym, ◌∙◌, arith, subst}
+use Rattle.std.proofs.Common.{◌≡◌, ◌≢◌, ℕ, ◌==◌, Bool, true, false, cond, List, [], ◌∷◌, Option, Some, None, if◌then◌else◌, ap, refl, sym, ◌∙◌, arith}
 use Rattle.std.specs.Prelude.{codes}
 use Rattle.o2_isa.specs.declared.cpu.Cpu.{Cpu}
 use Rattle.o2_isa.specs.Pointers.{put_at_pointer}
-use Rattle.o2_world.specs.declared.types.Argument.{Argument}
-use Rattle.o2_world.specs.declared.types.Argument.TheVariants.{Word, Far}
+use Rattle.o2_world.specs.declared.types.Argument.TheVariants.{Word}
 use Rattle.o2_world.specs.declared.types.State.TheVariants.{Live}
 use Rattle.o2_world.specs.World.{Held, Line, Calls}
 use Rattle.o2_world.specs.Calls.{Before, Effect, returned}
 use Rattle.o2_world.specs.Changes.{Change, moved_lines}
-use Rattle.o2_world.specs.Known.{Known}
 use Rattle.o2_world.specs.Rulings.{Ruling, dropped_indexes, freed_cpu, freeing, freeing_cpu, freeing_of, held_under}
-use Rattle.o2_world.specs.SegmentCalls.{Written, alloc_args, ruled, ruled_at, written_long, written_word}
+use Rattle.o2_world.specs.SegmentCalls.{Written, ruled, ruled_at, written_long, written_word}
 use Rattle.o2_gate.specs.declared.gathering.SegmentArguments.{SegmentArguments}
 use Rattle.o2_gate.specs.declared.gathering.SegmentArguments.TheVariants.{Alloc, Realloc, Free, Size, Lock, Unlock, Alias}
 use Rattle.o2_gate.specs.Gathers.{asked}
 use Rattle.o2_gate.specs.Replies.{args_of, bytes_by, lines_of, moved_by, name_of, values_by, words_of, written_of}
-use Rattle.o2_calls.specs.Acts.{cpu_of, ruling_of}
+use Rattle.o2_calls.specs.Acts.{ruling_of}
 use Rattle.o2_calls.specs.Tellings.{HoldsAlone, Tells, replied, replied_by}
 use Rattle.o2_calls.proofs.Tellings.{ruling_tells}
 

@@ -1,11 +1,11 @@
 -- What the rulings of the calls on segments come to.
-use Rattle.std.proofs.Common.{◌≡◌, ℕ, ◌/◌, ◌||◌, Bool, true, false, cond, List, [], Option, Some, None, if◌then◌else◌, refl, sym, ap, ◌∙◌, arith}
+use Rattle.std.proofs.Common.{◌≡◌, ℕ, ◌/◌, ◌||◌, Bool, true, false, cond, [], Option, Some, None, if◌then◌else◌, refl, sym, ◌∙◌, arith}
 use Rattle.o2_isa.specs.declared.cpu.Cpu.{Cpu}
 use Rattle.o2_isa.specs.View.{is_local}
 use Rattle.o2_regions.specs.Maps.{Maps, IsProcess}
 use Rattle.o2_world.specs.World.{Cause, Held, ByLoad, ByCall, ByAlias}
 use Rattle.o2_world.specs.Known.{Known, Marks}
-use Rattle.o2_world.specs.Rulings.{Ruling, by_load, freeing, freeing_of, freeing_with, held_under, in_use, is_later, members, refusal, sizing, sizing_of, sizing_with}
+use Rattle.o2_world.specs.Rulings.{by_load, freeing, freeing_of, freeing_with, held_under, is_later, members, refusal, sizing, sizing_of, sizing_with}
 use Rattle.o2_gate.specs.declared.gathering.SegmentArguments.{SegmentArguments}
 use Rattle.o2_gate.specs.declared.gathering.SegmentArguments.TheVariants.{Alloc, Realloc, Free, Size, Lock, Unlock, Alias}
 use Rattle.o2_stands.specs.Knows.{KnowsAs}

@@ -1,6 +1,6 @@
 -- What the rulings of the calls on segments tell: at an error they change nothing, and the lines of what they change are those of the
 -- call's reply.
-use Rattle.std.proofs.Common.{◌≡◌, ◌≢◌, ℕ, ◌+◌, ◌*◌, ◌<◌, ◌≤◌, ◌==◌, ◌/◌, nat_lt, nat_le, not, ◌||◌, Bool, true, false, cond, List, [], ◌∷◌, Option, Some, None, if◌then◌else◌, ap, refl, sym, ◌∙◌, arith, subst}
+use Rattle.std.proofs.Common.{◌≡◌, ◌≢◌, ℕ, ◌+◌, ◌<◌, ◌≤◌, ◌==◌, ◌/◌, nat_lt, nat_le, not, ◌||◌, Bool, true, false, cond, List, [], ◌∷◌, Option, Some, None, if◌then◌else◌, ap, refl, sym, ◌∙◌, arith, subst}
 use Rattle.std.specs.Prelude.{filter, is_some, min}
 use Rattle.o2_base.specs.Selectors.{selector_of}
 use Rattle.o2_desc.specs.Bits.{is_writable}
@@ -8,9 +8,9 @@ use Rattle.o2_desc.specs.Choice.{IsChosen, chosen}
 use Rattle.o2_desc.proofs.Choices.{chosen_law}
 use Rattle.o2_isa.specs.declared.cpu.Cpu.{Cpu}
 use Rattle.o2_world.specs.World.{Held}
-use Rattle.o2_world.specs.Changes.{Change, Drops, Holds, Locks, Makes, Resizes, moved_lines}
+use Rattle.o2_world.specs.Changes.{Change, Locks, Resizes, moved_lines}
 use Rattle.o2_world.specs.Known.{Known, Marks}
-use Rattle.o2_world.specs.Rulings.{Ruling, aliasing, aliasing_at, aliasing_of, allocation, allocation_at, by_load, free_index, freeing, freeing_of, freeing_with, full_size, grants, held_under, in_use, indexes, is_alias, is_discardable, is_in_run, is_later, keeps_its_size, locking, locking_of, locking_with, members, reallocation, reallocation_of, reallocation_with, refusal, region_by, sizing, sizing_of, sizing_with, unlocking, unlocking_of, unlocking_with}
+use Rattle.o2_world.specs.Rulings.{Ruling, aliasing_at, aliasing_of, allocation, allocation_at, by_load, free_index, freeing_of, freeing_with, full_size, grants, held_under, in_use, indexes, is_alias, is_discardable, is_in_run, is_later, keeps_its_size, locking_of, locking_with, members, reallocation_of, reallocation_with, refusal, region_by, sizing_of, sizing_with, unlocking_of, unlocking_with}
 use Rattle.o2_world.proofs.SegmentMoves.{held_there}
 use Rattle.o2_gate.specs.declared.gathering.SegmentArguments.{SegmentArguments}
 use Rattle.o2_gate.specs.declared.gathering.SegmentArguments.TheVariants.{Alloc, Realloc, Free, Size, Lock, Unlock, Alias}
