@@ -122,9 +122,9 @@ pub trait Steps {
     fn slice(&mut self) -> u32
         requires device { OverSome (fits self.old) }
         // They are as many steps of the boundless machine, none of which puts anything or takes anything from the input.
-        ensures steps { (blocks : ℕ) (told : Bool) (block : ℕ → List ℕ) (s : Setting) (w : World)
-            → stands self.old blocks told block s w
-            → Slices (stands self.new blocks told block s) swaps s w result }
+        ensures steps { (blocks : ℕ) (block : ℕ → List ℕ) (s : Setting) (w : World)
+            → stands self.old blocks block s w
+            → Slices (stands self.new blocks block s) swaps s w result }
         ensures stops { stopped self.new ≡ stopped self.old }
         ensures device { (blocks : ℕ) → fits self.old blocks → fits self.new blocks }
         ensures left { left self.new + result ≡ left self.old }

@@ -22,7 +22,7 @@ steps-preserved g c =
       goes_on = goes_then _ _ _ c.steps.invariant.goes_on c.turn.ensures.goes_on;
       reached = λ n tells text may s w a b stands input to_console to_report.
           let before = c.steps.invariant.reached n (c.turn.ensures.swap_told tells) text (seen_before text _ _ c.turn.ensures.goes_on may) s w a b stands input to_console to_report in
-          let h = sliced _ s w _ _ _ _ _ _ _ _ c.slice.result before (c.slice.ensures.steps _ _ _ s _ before.stands) in
+          let h = sliced _ s w _ _ _ _ _ _ _ _ c.slice.result before (c.slice.ensures.steps _ _ s _ before.stands) in
           ran_by _ _ _ (g.S.SwapDevice.blocks c.steps.swap) s w _ _ _ _ _ _ _ _ _ _ _ _ _ _ (length w.lines) c.turn.result is _ h _ (c.turn.ensures.turns (c.slice.ensures.stops ∙ c.steps.invariant.fresh n) tells text may s _ h.stands h.input) (c.turn.ensures.puts (c.slice.ensures.stops ∙ c.steps.invariant.fresh n) tells text may s _ h.stands h.input);
       input_count = omega (arith, c.steps.invariant.input_count, c.turn.ensures.input_count);
       console_count = omega (arith, c.steps.invariant.console_count, c.turn.ensures.console_count);
@@ -36,7 +36,7 @@ steps-preserved g c =
 pub returns-then-not-more-clause-texts : goal.returns-then-not-more-clause-texts
 returns-then-not-more-clause-texts g c = λ n tells text may s w a b stands input to_console to_report.
     let before = c.steps.invariant.reached n (c.turn.ensures.swap_told tells) text (seen_before text _ _ c.turn.ensures.goes_on may) s w a b stands input to_console to_report in
-    let h = sliced _ s w _ _ _ _ _ _ _ _ c.slice.result before (c.slice.ensures.steps _ _ _ s _ before.stands) in
+    let h = sliced _ s w _ _ _ _ _ _ _ _ c.slice.result before (c.slice.ensures.steps _ _ s _ before.stands) in
     closed_by _ _ _ (g.S.SwapDevice.blocks c.args.swap.now) s w _ _ _ _ _ _ _ _ _ _ _ _ _ _ (length w.lines) c.turn.result (end_is c.turn.result (gives _ _ _ c.in_ok-more.ensures c.if-not-more.true)) _ h _ (Unit {0})
     (c.turn.ensures.turns (c.slice.ensures.stops ∙ c.steps.invariant.fresh n) tells text may s _ h.stands h.input) (c.turn.ensures.puts (c.slice.ensures.stops ∙ c.steps.invariant.fresh n) tells text may s _ h.stands h.input)
 
@@ -48,7 +48,7 @@ returns-in_err-more-clause-texts g c = λ n tells text may s w a b stands input 
     let p = err_from_is_err_and c.from_residual.result c.from_residual.ensures.1 in
     let fresh = c.slice.ensures.stops ∙ c.steps.invariant.fresh n in
     let before = c.steps.invariant.reached n (c.turn.ensures.swap_told tells) text (seen_before text _ _ c.turn.ensures.goes_on may) s w a b stands input to_console to_report in
-    let h = sliced _ s w _ _ _ _ _ _ _ _ c.slice.result before (c.slice.ensures.steps _ _ _ s _ before.stands) in
+    let h = sliced _ s w _ _ _ _ _ _ _ _ c.slice.result before (c.slice.ensures.steps _ _ s _ before.stands) in
     rw (p.1, p.2) (faulted_by _ _ _ (g.S.SwapDevice.blocks c.args.swap.now) s w _ _ _ _ _ _ _ _ _ _ _ _ _ _ (length w.lines) c.turn.result _ (fault_is c.turn.result _ (sym c.in_err-more.ensures)) _ c.steps.invariant.swap_blocks h _ _ _
     (rose_since _ _ _ c.steps.invariant.report_count) (c.turn.ensures.line fresh) (c.turn.ensures.turns fresh tells text may s _ h.stands h.input) (c.turn.ensures.puts fresh tells text may s _ h.stands h.input))
 
