@@ -64,7 +64,7 @@ pub fn act<S: SwapDevice>(
         → cpu.new ≡ cpu_of arguments (known_of s w) pid cpu.old }
     ensures matches { (p : Parts) (s : Setting) (w : World) (x : Process)
         → IsOver store.old regions.old images.now (S.block swap.old) p s w
-        → IsTrue (S.told swap.old)
+        → IsTrue (S.told swap.new)
         → process_at w.processes pid ≡ Some x → IsTied w
         → Matches (moved p store.new regions.new (S.block swap.new))
         (with_all w (changes_roomed (ruling_of arguments (known_of s w) pid cpu.old) result)) }
@@ -89,7 +89,7 @@ pub fn act<S: SwapDevice>(
     ensures pictures { HasAll (HasPicture images.now) store.new }
     ensures map { all_of store.new.swap ≡ all_of store.old.swap }
     ensures device { (S.blocks swap.new ≡ S.blocks swap.old)
-        × (S.told swap.new ≡ S.told swap.old) }
+        × (IsTrue (S.told swap.new) → IsTrue (S.told swap.old)) }
     ensures faults { S.faults swap.old ≤ S.faults swap.new }
     ensures cause { result ≡ Roomed.SwapFault → Rose (S.faults swap.old) (S.faults swap.new) }
 {

@@ -65,7 +65,7 @@ pub fn lock_seg<S: SwapDevice>(
     ensures pictures { HasAll (HasPicture images.now) store.new }
     ensures map { all_of store.new.swap ≡ all_of store.old.swap }
     ensures device { (S.blocks swap.new ≡ S.blocks swap.old)
-        × (S.told swap.new ≡ S.told swap.old) }
+        × (IsTrue (S.told swap.new) → IsTrue (S.told swap.old)) }
     ensures kept { (k : ℕ) → named_in store.old.entries keep.now k ≡ true
         → IsSome (place_of store.old k) → IsSome (place_of store.new k) }
     ensures no_room { result ≡ Roomed.NoRoom → IfSome (if is_local sel then held_at regions.old pid (sel / 8) else None)
@@ -111,7 +111,7 @@ fn lock<S: SwapDevice>(
     ensures pictures { HasAll (HasPicture images.now) store.new }
     ensures map { all_of store.new.swap ≡ all_of store.old.swap }
     ensures device { (S.blocks swap.new ≡ S.blocks swap.old)
-        × (S.told swap.new ≡ S.told swap.old) }
+        × (IsTrue (S.told swap.new) → IsTrue (S.told swap.old)) }
     ensures kept { (k : ℕ) → named_in store.old.entries keep.now k ≡ true
         → IsSome (place_of store.old k) → IsSome (place_of store.new k) }
     ensures no_room { result ≡ Roomed.NoRoom → store.old.places.size < all_wanted store.old id.key keep.now }

@@ -99,7 +99,7 @@ pub fn realloc_seg<S: SwapDevice>(
     ensures pictures { HasAll (HasPicture images.now) store.old → HasAll (HasPicture images.now) store.new }
     ensures map { all_of store.new.swap ≡ all_of store.old.swap }
     ensures device { (S.blocks swap.new ≡ S.blocks swap.old)
-        × (S.told swap.new ≡ S.told swap.old) }
+        × (IsTrue (S.told swap.new) → IsTrue (S.told swap.old)) }
     ensures kept { (k : ℕ) → named_in store.old.entries keep.now k ≡ true
         → IsSome (place_of store.old k) → IsSome (place_of store.new k) }
 
