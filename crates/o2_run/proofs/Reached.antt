@@ -1,5 +1,5 @@
 -- How a run goes on, and how it ends.
-use Rattle.std.proofs.Common.{◌≡◌, ℕ, suc, ◌+◌, ◌<◌, ◌≤◌, Bool, true, false, not, List, [], ◌++◌, Option, None, ◌⊎◌, inl, inr, Result, Ok, Err, ap, sym, ◌∙◌, refl, arith, ◌||◌, ◌==◌, if◌then◌else◌, below_more, append-nil, append_assoc, length, subst}
+use Rattle.std.proofs.Common.{◌≡◌, ℕ, suc, ◌+◌, ◌<◌, ◌≤◌, Bool, true, false, not, List, [], ◌++◌, Option, None, ◌⊎◌, inl, inr, Ok, Err, ap, sym, ◌∙◌, refl, arith, ◌||◌, ◌==◌, if◌then◌else◌, below_more, append-nil, append_assoc, length, subst}
 use Rattle.o2_outer.specs.Texts.{Rose, Gains, Continues}
 use Rattle.o2_world.specs.World.{World, Setting}
 use Rattle.o2_world.specs.Text.{lines_text}
@@ -8,7 +8,7 @@ use Rattle.o2_run.specs.Room.{Fits}
 use Rattle.o2_run.specs.Turn.{StepsOn, StepsInPart, IsClosed, IsClosedInPart, IsStopped, Turns, LineIs}
 use Rattle.o2_run.specs.Faults.{fault_turn}
 use Rattle.o2_run.specs.Stops.{stop_line}
-use Rattle.o2_run.specs.Pieces.{Counts, counts, Hands, HandsUpTo, FailedHands, TurnHands, step_puts, pieces}
+use Rattle.o2_run.specs.Pieces.{counts, Hands, HandsUpTo, FailedHands, TurnHands, step_puts, pieces}
 use Rattle.o2_run.specs.Ended.{FitsBelow, HasReached, HasWholeRun, HasStoppedTexts, HasPartRun, HandsPart, HasTexts}
 use Rattle.o2_run.specs.declared.fault.Fault.TheVariants.{Sink, Stopped}
 use Rattle.o2_run.specs.declared.fault.Fault.{Fault}

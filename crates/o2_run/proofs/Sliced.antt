@@ -1,5 +1,5 @@
 -- A run goes on behind a slice: its steps put nothing and take nothing.
-use Rattle.std.proofs.Common.{◌≡◌, ℕ, zero, suc, ◌+◌, ◌-◌, ◌<◌, Bool, false, List, Option, Some, ap, sym, ◌∙◌, refl, subst, arith, below_more, length}
+use Rattle.std.proofs.Common.{◌≡◌, ℕ, zero, suc, ◌-◌, ◌<◌, Bool, false, List, Option, Some, ap, sym, ◌∙◌, refl, subst, arith, below_more, length}
 use Rattle.o2_outer.specs.Texts.{Gains}
 use Rattle.o2_world.specs.World.{World, Setting, Line}
 use Rattle.o2_world.specs.Text.{lines_text}
