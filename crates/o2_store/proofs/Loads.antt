@@ -69,12 +69,12 @@ full_load s h all full =
 
 -- a segment that was never written out has no blocks
 bare_le : (s : Shelf) (k : ℕ) → IsShelf s → k < length s.entries → (entry s k).image ≡ None → (entry s k).kept ≡ 0 → length (blocks_of s.swap k) ≤ 0
-bare_le s k h l none zero = let a = (h.each k l).stored none in omega (arith, a, zero)
+bare_le s k h l none unkept = let a = (h.each k l).stored none in omega (arith, a, unkept)
 
 -- the same without one that is out of memory and was never written out
 pub full_load_but : (s : Shelf) (key : ℕ) → IsShelf s → over (λ k. length (blocks_of s.swap k)) (length s.entries) + length (free s.swap) ≡ all_of s.swap → IsFull s
     → place_of s key ≡ None → (entry s key).image ≡ None → (entry s key).kept ≡ 0 → all_of s.swap < swap_load_but s key
-full_load_but s key h all full out none zero =
+full_load_but s key h all full out none unkept =
     let v = full.victim in
     let spare = length (free s.swap) + 1 in
     let l = placed_below s v h full.present in
@@ -90,7 +90,7 @@ full_load_but s key h all full out none zero =
       | inr other ↦ (let t : eqb k v ≡ false = grind (arith, nat_tests) in elim (cases_eq k key) [
         | inl here ↦
             (let u : eqb k key ≡ true = grind (arith, nat_tests) in
-            let x = bare_le s k h w (subst (λ (i : ℕ). (entry s i).image ≡ None) (sym here) none) (subst (λ (i : ℕ). (entry s i).kept ≡ 0) (sym here) zero) in
+            let x = bare_le s k h w (subst (λ (i : ℕ). (entry s i).image ≡ None) (sym here) none) (subst (λ (i : ℕ). (entry s i).kept ≡ 0) (sym here) unkept) in
             rw (t, u) (omega (arith, x)))
         | inr away ↦ (let u : eqb k key ≡ false = grind (arith, nat_tests) in let x = block_le s k h w in rw (t, u) (omega (arith, x)))
       ])
