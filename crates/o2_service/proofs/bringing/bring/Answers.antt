@@ -1,6 +1,6 @@
 use Rattle.std.proofs.Common.{◌≡◌, ◌≢◌, ◌<◌, ◌≤◌, ◌∙◌, ap, arith, ℕ, None, IsSome, refl, subst, sym, true}
+use Rattle.o2_entries.specs.Tables.{slot_at}
 use Rattle.o2_swapmap.specs.Piles.{all_of}
-use Rattle.o2_store.specs.Leaving.{IsStuck}
 use Rattle.o2_store.specs.Loads.{live_load, swap_load}
 use Rattle.o2_store.specs.Needs.{all_wanted, named_in}
 use Rattle.o2_store.specs.Pictures.{picture, HasPicture}
@@ -73,7 +73,7 @@ returns g c =
       here = q.here;
       no_room = λ r. absurd (q.never.0 r);
       loads = λ r. subst (λ (z : Shelf). (all_of z.swap < swap_load z) × (z.places.size < live_load z)) e (q.loads r);
-      stuck = λ r. subst (λ (z : Shelf). IsStuck z u c.args.id.key) e (q.stuck r);
+      stuck = λ r. let k = q.stuck r in record { full = k.full; out = k.out; same = k.same ∙ ap (λ (z : Shelf). slot_at z.entries c.args.id.key) e };
       faults = q.faults;
       cause = q.cause;
       never = q.never.1;
