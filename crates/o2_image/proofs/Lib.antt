@@ -9,6 +9,7 @@ pub mod TotalSteps
 pub mod Shapes
 pub mod Runnable
 pub mod Uniform
+pub mod KnownSteps
 pub mod PartLists
 pub mod Overlaps
 pub mod Packing

@@ -4,6 +4,7 @@ pub mod References
 pub mod Targets
 pub mod Chains
 pub mod Records
+pub mod Known
 pub mod Modules
 pub mod Whole
 pub mod Getters

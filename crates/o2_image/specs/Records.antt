@@ -1,5 +1,5 @@
 -- The records of a segment: each must lead somewhere, and patch nothing twice.
-use Rattle.std.specs.Prelude.{ℕ, ◌+◌, ◌==◌, ◌&&◌, ◌||◌, Bool, false, List, [], ◌∷◌, Result, Ok, if◌then◌else◌, replicate}
+use Rattle.std.specs.Prelude.{ℕ, ◌+◌, ◌==◌, ◌||◌, Bool, false, List, [], ◌∷◌, Result, Ok, if◌then◌else◌, replicate}
 use Rattle.o2_base.specs.declared.faults.ModuleFault.{ModuleFault}
 use Rattle.o2_base.specs.declared.faults.ModuleFault.TheVariants.{BadTarget}
 use Rattle.o2_ne.specs.declared.head.Head.{Head}
@@ -11,7 +11,7 @@ use Rattle.o2_ne_segs.specs.declared.reloc.Reloc.{Reloc}
 use Rattle.o2_ne_segs.specs.declared.segment.Segment.{Segment}
 use Rattle.o2_ne_segs.specs.Records.{counted, relocs_in}
 use Rattle.o2_image.specs.Faults.{under_seg}
-use Rattle.o2_image.specs.Targets.{has_target, is_additive, is_fixup, is_source, width_of}
+use Rattle.o2_image.specs.Targets.{is_additive, is_fixup, leads, width_of}
 use Rattle.o2_image.specs.Chains.{Marks, chain, single}
 
 -- the bytes of a segment in the file
@@ -36,7 +36,7 @@ pub record Checking : Type 0 where
 
 unfoldable pub record_step : List ℕ → Head → List Entry → ℕ → List ℕ → Reloc → Checking → Result Checking ModuleFault
 record_step file h es seg bytes r c = do
-  _ ← all_hold (or_fault (is_source r.source && has_target file h es r) (BadTarget seg c.number) ∷ [])
+  _ ← all_hold (or_fault (leads file h es r) (BadTarget seg c.number) ∷ [])
   marks ← marks_after seg bytes r c.marks
   Ok (record { marks = marks; number = c.number + 1 })
 

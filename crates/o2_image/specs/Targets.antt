@@ -36,9 +36,13 @@ has_reference h r = is_segment h.references r.first
 abbrev pub has_name : List ℕ → Head → Reloc → Bool
 has_name file h r = has_reference h r && has_string file (imported_place h r.second)
 
--- the record has one of the source types, and its target exists
+-- the record's target exists
 abbrev pub has_target : List ℕ → Head → List Entry → Reloc → Bool
 has_target file h es r =
     if target_kind r == 0 then has_internal h es r
     else (if target_kind r == 1 then has_reference h r
     else (if target_kind r == 2 then has_name file h r else true))
+
+-- the record has one of the source types, and its target exists
+abbrev pub leads : List ℕ → Head → List Entry → Reloc → Bool
+leads file h es r = is_source r.source && has_target file h es r

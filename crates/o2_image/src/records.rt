@@ -5,7 +5,9 @@ ghost use Rattle.o2_ne_segs.specs.declared.segment.Segment.{Segment};
 ghost use Rattle.o2_ne_segs.specs.Records.{counted, end_of, reloc_at, reloc_count, relocs_at, relocs_in};
 ghost use Rattle.o2_image.specs.Alike.{Passes};
 ghost use Rattle.o2_image.specs.Faults.{RecordStepsTo, under_seg};
+ghost use Rattle.o2_image.specs.Known.{AreKnown};
 ghost use Rattle.o2_image.specs.Records.{bytes_of, marks_after, record_step, segment_step};
+ghost use Rattle.o2_image.specs.Targets.{leads};
 ghost use Rattle.o2_image.specs.Whole.{HasPlaces, HasSegment};
 
 use crate::chain::{follow, place};
@@ -52,28 +54,54 @@ pub(crate) struct Scope<'a> {
     pub(crate) entries: &'a Entries,
 }
 
-// Record `number` of segment `seg`, which has these bytes.
+// Whether the record at a place of the file leads somewhere. That hangs on the place alone, so it is looked up once.
+fn leads(scope: &Scope, at: usize, reloc: &Reloc, known: &mut [bool]) -> bool
+    requires small { length scope.now.file.now ≤ 4194304 }
+    requires inside { scope.now.head.now.at + 64 ≤ length scope.now.file.now }
+    requires there { at < length known.old }
+    requires row { reloc.now ≡ reloc_at scope.now.file.now at }
+    requires known { AreKnown scope.now.file.now scope.now.head.now scope.now.entries.now known.old }
+    ensures value { result ≡ leads scope.now.file.now scope.now.head.now scope.now.entries.now reloc.now }
+    ensures known { AreKnown scope.now.file.now scope.now.head.now scope.now.entries.now known.new }
+{
+    if known[at] {
+        return true;
+    }
+    if !is_source(reloc.source) || !has_target(scope.file, scope.head, scope.entries, reloc) {
+        return false;
+    }
+    known[at] = true;
+    true
+}
+
+// Record `number` of segment `seg`, which has these bytes. Its row stands at a place of the file.
 #[tactic(auto, unfolding(crate::specs::Records::record_step))]
 fn check_record(
     scope: &Scope,
     seg: u16,
     bytes: &[u8],
-    reloc: &Reloc,
+    at: usize,
     number: u16,
     marks: &mut [bool],
+    known: &mut [bool],
 ) -> Result<(), RecordFault>
     requires small { length scope.now.file.now ≤ 4194304 }
     requires inside { scope.now.head.now.at + 64 ≤ length scope.now.file.now }
+    requires row { at + 8 ≤ length scope.now.file.now }
     requires same { length marks.old ≡ length bytes.now }
+    requires places { length known.old ≡ length scope.now.file.now }
+    requires known { AreKnown scope.now.file.now scope.now.head.now scope.now.entries.now known.old }
     ensures exact { RecordStepsTo (record { marks = marks.new; number = number + 1 }) result
-        (record_step scope.now.file.now scope.now.head.now scope.now.entries.now seg bytes.now reloc.now
+        (record_step scope.now.file.now scope.now.head.now scope.now.entries.now seg bytes.now (reloc_at scope.now.file.now at)
         (record { marks = marks.old; number = number })) }
-    ensures places { OnOk result (HasPlaces bytes.now reloc.now) }
+    ensures places { OnOk result (HasPlaces bytes.now (reloc_at scope.now.file.now at)) }
+    ensures known { AreKnown scope.now.file.now scope.now.head.now scope.now.entries.now known.new }
 {
-    if !is_source(reloc.source) || !has_target(scope.file, scope.head, scope.entries, reloc) {
+    let reloc = reloc_at(scope.file, at);
+    if !leads(scope, at, &reloc, known) {
         return Err(RecordFault::Target(seg, number));
     }
-    mark_places(seg, bytes, reloc, marks)
+    mark_places(seg, bytes, &reloc, marks)
 }
 
 // The records whose rows begin at a place.
@@ -84,19 +112,23 @@ fn check_records(
     at: usize,
     count: u16,
     marks: &mut [bool],
+    known: &mut [bool],
 ) -> Result<(), RecordFault>
     requires small { length scope.now.file.now ≤ 4194304 }
     requires inside { scope.now.head.now.at + 64 ≤ length scope.now.file.now }
     requires rows { 0 < count → at + 8 * count ≤ length scope.now.file.now }
     requires same { length marks.old ≡ length bytes.now }
+    requires places { length known.old ≡ length scope.now.file.now }
+    requires known { AreKnown scope.now.file.now scope.now.head.now scope.now.entries.now known.old }
     ensures exact { RecordStepsTo (record { marks = marks.new; number = count }) result
         (over (record_step scope.now.file.now scope.now.head.now scope.now.entries.now seg bytes.now)
         (relocs_at scope.now.file.now at count) (record { marks = marks.old; number = 0 })) }
     ensures places { OnOk result ((j : ℕ) → j < count → HasPlaces bytes.now (reloc_at scope.now.file.now (at + 8 * j))) }
+    ensures known { AreKnown scope.now.file.now scope.now.head.now scope.now.entries.now known.new }
 {
     for number in 0..count {
-        let reloc = reloc_at(scope.file, at + 8 * usize::from(number));
-        check_record(scope, seg, bytes, &reloc, number, marks)?;
+        let row = at + 8 * usize::from(number);
+        check_record(scope, seg, bytes, row, number, marks, known)?;
     }
     Ok(())
 }
@@ -123,18 +155,22 @@ fn check_segment(
     scope: &Scope,
     segment: &Segment,
     seg: u16,
+    known: &mut [bool],
 ) -> Result<(), Fail<ModuleFault>>
     requires small { length scope.now.file.now ≤ 4194304 }
     requires inside { scope.now.head.now.at + 64 ≤ length scope.now.file.now }
     requires bytes { end_of segment.now ≤ length scope.now.file.now }
+    requires places { length known.old ≡ length scope.now.file.now }
+    requires known { AreKnown scope.now.file.now scope.now.head.now scope.now.entries.now known.old }
     ensures exact { Gives (λ _. seg + 1) result (segment_step scope.now.file.now scope.now.head.now scope.now.entries.now segment.now seg) }
     ensures whole { OnOk result (HasSegment scope.now.file.now segment.now) }
+    ensures known { AreKnown scope.now.file.now scope.now.head.now scope.now.entries.now known.new }
 {
     let count = count_records(scope.file, segment)?;
     let bytes = bytes_of(scope.file, segment);
     let mut marks = vec![in alloc; false; bytes.len()]?;
     let at = segment.file_at as usize + segment.file_len as usize + 2;
-    match check_records(scope, seg, bytes, at, count, marks.as_mut_slice()) {
+    match check_records(scope, seg, bytes, at, count, marks.as_mut_slice(), known) {
         Ok(()) => Ok(()),
         Err(fault) => Err(Fail::Bad(of_record(fault))),
     }
@@ -147,23 +183,51 @@ fn check_once(
     earlier: &[Segment],
     segment: &Segment,
     seg: u16,
+    known: &mut [bool],
 ) -> Result<(), Fail<ModuleFault>>
     requires small { length scope.now.file.now ≤ 4194304 }
     requires inside { scope.now.head.now.at + 64 ≤ length scope.now.file.now }
     requires bytes { end_of segment.now ≤ length scope.now.file.now }
     requires passed { (k : ℕ) (d : Segment) → k < length earlier.now → Passes scope.now.file.now scope.now.head.now scope.now.entries.now (get_or earlier.now k d) }
     requires has { (k : ℕ) (d : Segment) → k < length earlier.now → HasSegment scope.now.file.now (get_or earlier.now k d) }
+    requires places { length known.old ≡ length scope.now.file.now }
+    requires known { AreKnown scope.now.file.now scope.now.head.now scope.now.entries.now known.old }
     ensures exact { Gives (λ _. seg + 1) result (segment_step scope.now.file.now scope.now.head.now scope.now.entries.now segment.now seg) }
     ensures passes { OnOk result (Passes scope.now.file.now scope.now.head.now scope.now.entries.now segment.now) }
     ensures whole { OnOk result (HasSegment scope.now.file.now segment.now) }
+    ensures known { AreKnown scope.now.file.now scope.now.head.now scope.now.entries.now known.new }
 {
     if is_any_alike(earlier, segment) {
         return Ok(());
     }
-    check_segment(alloc, scope, segment, seg)
+    check_segment(alloc, scope, segment, seg, known)
 }
 
 // The records of all segments. Those of segments over the same bytes are checked once.
+fn check_all(
+    alloc: Global,
+    scope: &Scope,
+    segments: &[Segment],
+    known: &mut [bool],
+) -> Result<(), Fail<ModuleFault>>
+    requires small { length scope.now.file.now ≤ 4194304 }
+    requires inside { scope.now.head.now.at + 64 ≤ length scope.now.file.now }
+    requires few { length segments.now ≤ 254 }
+    requires bytes { (k : ℕ) (d : Segment) → k < length segments.now → end_of (get_or segments.now k d) ≤ length scope.now.file.now }
+    requires places { length known.old ≡ length scope.now.file.now }
+    requires known { AreKnown scope.now.file.now scope.now.head.now scope.now.entries.now known.old }
+    ensures exact { Gives (λ _. length segments.now + 1) result (over (segment_step scope.now.file.now scope.now.head.now scope.now.entries.now) segments.now 1) }
+    ensures whole { OnOk result ((k : ℕ) (d : Segment) → k < length segments.now → HasSegment scope.now.file.now (get_or segments.now k d)) }
+{
+    let mut number = 1u16;
+    for (i, segment) in segments.iter().enumerate() {
+        check_once(alloc, scope, &segments[..i], segment, number, known)?;
+        number += 1;
+    }
+    Ok(())
+}
+
+// The records of all segments. A record that several segments have is looked up once.
 pub(crate) fn check_segments(
     alloc: Global,
     scope: &Scope,
@@ -176,12 +240,8 @@ pub(crate) fn check_segments(
     ensures exact { Gives (λ _. length segments.now + 1) result (over (segment_step scope.now.file.now scope.now.head.now scope.now.entries.now) segments.now 1) }
     ensures whole { OnOk result ((k : ℕ) (d : Segment) → k < length segments.now → HasSegment scope.now.file.now (get_or segments.now k d)) }
 {
-    let mut number = 1u16;
-    for (i, segment) in segments.iter().enumerate() {
-        check_once(alloc, scope, &segments[..i], segment, number)?;
-        number += 1;
-    }
-    Ok(())
+    let mut known = vec![in alloc; false; scope.file.len()]?;
+    check_all(alloc, scope, segments, known.as_mut_slice())
 }
 
 // How many records a segment has.
