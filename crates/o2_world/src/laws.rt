@@ -45,7 +45,8 @@ pub fn hello_runs_in_ten_steps()
     ensures console { console_text (after (hello_setting 1000000) (hello_world 1000000) 10) ≡ codes "hello" }
     ensures report { report_text (after (hello_setting 1000000) (hello_world 1000000) 10) ≡ hello_report }
     ensures short_console { console_text (after (hello_setting 9) (hello_world 9) 9) ≡ codes "hello" }
-    ensures short_report { report_text (after (hello_setting 9) (hello_world 9) 9) ≡ text_of (hello_start ++ hello_write ∷ codes "budget spent" ∷ []) }
+    ensures short_report { report_text (after (hello_setting 9) (hello_world 9) 9)
+        ≡ text_of (hello_start ++ hello_write ∷ codes "budget spent" ∷ []) }
 {}
 
 /// The world before the first step is sound, where each start of a program has its segments under their numbers, no index for
@@ -111,10 +112,21 @@ pub fn the_budget_counts_the_steps()
 
 /// The lines of calls that make, free and give segments, from the opening of `hello`.
 pub fn segment_calls_tell_their_holds()
-    ensures makes { told_after 4 one_process ((λ b. allocated b 0 0 0x17 0 0) ∷ []) ≡ text_of (codes "1 call DosAllocSeg 0000 0017:0000 0000 = 0 0027" ∷ codes "1 hold 0027 by DosAllocSeg" ∷ []) }
-    ensures frees { told_after 4 one_process ((λ b. allocated b 0 0 0x17 0 0) ∷ (λ b. freed b 0 0x27) ∷ (λ b. freed b 0 0x27) ∷ []) ≡ text_of (codes "1 call DosAllocSeg 0000 0017:0000 0000 = 0 0027" ∷ codes "1 hold 0027 by DosAllocSeg" ∷ codes "1 call DosFreeSeg 0027 = 0" ∷ codes "1 drop 0027 by DosFreeSeg" ∷ codes "1 call DosFreeSeg 0027 = 5" ∷ []) }
-    ensures gives { told_after 8 two_processes ((λ b. allocated b 0 16 0x17 0 1) ∷ (λ b. given b 0 0x8007 2 0x17 0) ∷ (λ b. given b 0 0x8004 3 0x17 0) ∷ []) ≡ text_of (codes "1 call DosAllocSeg 0010 0017:0000 0001 = 0 8007" ∷ codes "1 hold 8007 by DosAllocSeg" ∷ codes "1 call DosGiveSeg 8007 0002 0017:0000 = 0 8007" ∷ codes "2 hold 8007 by DosGiveSeg" ∷ codes "1 call DosGiveSeg 8004 0003 0017:0000 = 303" ∷ []) }
-    ensures orders { lines_text (moved_lines (codes "DosX") some_moves) ≡ text_of (codes "1 hold 0027 by DosX" ∷ codes "1 hold 003F by DosX" ∷ codes "1 hold 003F by DosX" ∷ codes "2 hold 002F by DosX" ∷ codes "1 drop 004F by DosX" ∷ codes "2 drop 0027 by DosX" ∷ []) }
+    ensures makes { told_after 4 one_process ((λ b. allocated b 0 0 0x17 0 0) ∷ [])
+        ≡ text_of (codes "1 call DosAllocSeg 0000 0017:0000 0000 = 0 0027" ∷ codes "1 hold 0027 by DosAllocSeg" ∷ []) }
+    ensures frees { told_after 4 one_process ((λ b. allocated b 0 0 0x17 0 0) ∷ (λ b. freed b 0 0x27)
+        ∷ (λ b. freed b 0 0x27) ∷ [])
+        ≡ text_of (codes "1 call DosAllocSeg 0000 0017:0000 0000 = 0 0027" ∷ codes "1 hold 0027 by DosAllocSeg"
+        ∷ codes "1 call DosFreeSeg 0027 = 0" ∷ codes "1 drop 0027 by DosFreeSeg" ∷ codes "1 call DosFreeSeg 0027 = 5"
+        ∷ []) }
+    ensures gives { told_after 8 two_processes ((λ b. allocated b 0 16 0x17 0 1) ∷ (λ b. given b 0 0x8007 2 0x17 0)
+        ∷ (λ b. given b 0 0x8004 3 0x17 0) ∷ [])
+        ≡ text_of (codes "1 call DosAllocSeg 0010 0017:0000 0001 = 0 8007" ∷ codes "1 hold 8007 by DosAllocSeg"
+        ∷ codes "1 call DosGiveSeg 8007 0002 0017:0000 = 0 8007" ∷ codes "2 hold 8007 by DosGiveSeg"
+        ∷ codes "1 call DosGiveSeg 8004 0003 0017:0000 = 303" ∷ []) }
+    ensures orders { lines_text (moved_lines (codes "DosX") some_moves)
+        ≡ text_of (codes "1 hold 0027 by DosX" ∷ codes "1 hold 003F by DosX" ∷ codes "1 hold 003F by DosX"
+        ∷ codes "2 hold 002F by DosX" ∷ codes "1 drop 004F by DosX" ∷ codes "2 drop 0027 by DosX" ∷ []) }
     // By index, whatever the privilege level that the register has.
     ensures clears { es_after 0x24 ≡ 0 }
     ensures clears_ds { ds_after 0x24 ≡ 0 }
@@ -126,33 +138,60 @@ pub fn segment_calls_tell_their_holds()
 pub fn segment_calls_answer_by_their_rows()
     // 0 bytes are 65,536; the two low bits of a selector don't count, and the global table has none.
     ensures sizes { told_by_one (allocs 0 0 ∷ sizes 0x27 ∷ sizes 0x24 ∷ sizes 0x23 ∷ sizes 0x2f ∷ [])
-        ≡ text_of (codes "1 call DosAllocSeg 0000 0017:0000 0000 = 0 0027" ∷ codes "1 hold 0027 by DosAllocSeg" ∷ codes "1 call DosSizeSeg 0027 0017:0004 = 0 00010000" ∷ codes "1 call DosSizeSeg 0024 0017:0004 = 0 00010000" ∷ codes "1 call DosSizeSeg 0023 0017:0004 = 5" ∷ codes "1 call DosSizeSeg 002F 0017:0004 = 5" ∷ []) }
+        ≡ text_of (codes "1 call DosAllocSeg 0000 0017:0000 0000 = 0 0027" ∷ codes "1 hold 0027 by DosAllocSeg"
+        ∷ codes "1 call DosSizeSeg 0027 0017:0004 = 0 00010000" ∷ codes "1 call DosSizeSeg 0024 0017:0004 = 0 00010000"
+        ∷ codes "1 call DosSizeSeg 0023 0017:0004 = 5" ∷ codes "1 call DosSizeSeg 002F 0017:0004 = 5" ∷ []) }
     ensures flags { told_by_one (allocs 16 16 ∷ allocs 16 15 ∷ [])
-        ≡ text_of (codes "1 call DosAllocSeg 0010 0017:0000 0010 = 87" ∷ codes "1 call DosAllocSeg 0010 0017:0000 000F = 0 8007" ∷ codes "1 hold 8007 by DosAllocSeg" ∷ []) }
+        ≡ text_of (codes "1 call DosAllocSeg 0010 0017:0000 0010 = 87"
+        ∷ codes "1 call DosAllocSeg 0010 0017:0000 000F = 0 8007" ∷ codes "1 hold 8007 by DosAllocSeg" ∷ []) }
     // A shared segment doesn't shrink, and code of a module keeps its size.
-    ensures reallocs { told_by_one (allocs 16 1 ∷ reallocs 15 0x8004 ∷ reallocs 16 0x8007 ∷ reallocs 0 0x8007 ∷ sizes 0x8007 ∷ reallocs 16 0xf ∷ reallocs 16 0x2f ∷ [])
-        ≡ text_of (codes "1 call DosAllocSeg 0010 0017:0000 0001 = 0 8007" ∷ codes "1 hold 8007 by DosAllocSeg" ∷ codes "1 call DosReallocSeg 000F 8004 = 5" ∷ codes "1 call DosReallocSeg 0010 8007 = 0" ∷ codes "1 call DosReallocSeg 0000 8007 = 0" ∷ codes "1 call DosSizeSeg 8007 0017:0004 = 0 00010000" ∷ codes "1 call DosReallocSeg 0010 000F = 5" ∷ codes "1 call DosReallocSeg 0010 002F = 5" ∷ []) }
+    ensures reallocs { told_by_one (allocs 16 1 ∷ reallocs 15 0x8004 ∷ reallocs 16 0x8007 ∷ reallocs 0 0x8007
+        ∷ sizes 0x8007 ∷ reallocs 16 0xf ∷ reallocs 16 0x2f ∷ [])
+        ≡ text_of (codes "1 call DosAllocSeg 0010 0017:0000 0001 = 0 8007" ∷ codes "1 hold 8007 by DosAllocSeg"
+        ∷ codes "1 call DosReallocSeg 000F 8004 = 5" ∷ codes "1 call DosReallocSeg 0010 8007 = 0"
+        ∷ codes "1 call DosReallocSeg 0000 8007 = 0" ∷ codes "1 call DosSizeSeg 8007 0017:0004 = 0 00010000"
+        ∷ codes "1 call DosReallocSeg 0010 000F = 5" ∷ codes "1 call DosReallocSeg 0010 002F = 5" ∷ []) }
     ensures zeros { data_after (reallocs 2 0x17 ∷ reallocs 6 0x17 ∷ []) ≡ 104 ∷ 101 ∷ 0 ∷ 0 ∷ 0 ∷ 0 ∷ [] }
     // A discardable segment starts with the lock count 1, and 158 comes behind 5.
-    ensures locks { told_by_one (allocs 16 4 ∷ unlocks 0x24 ∷ unlocks 0x27 ∷ locks 0x27 ∷ unlocks 0x27 ∷ unlocks 0x27 ∷ locks 0x17 ∷ unlocks 0x17 ∷ locks 0x2f ∷ unlocks 0x2f ∷ [])
-        ≡ text_of (codes "1 call DosAllocSeg 0010 0017:0000 0004 = 0 0027" ∷ codes "1 hold 0027 by DosAllocSeg" ∷ codes "1 call DosUnlockSeg 0024 = 0" ∷ codes "1 call DosUnlockSeg 0027 = 158" ∷ codes "1 call DosLockSeg 0027 = 0" ∷ codes "1 call DosUnlockSeg 0027 = 0" ∷ codes "1 call DosUnlockSeg 0027 = 158" ∷ codes "1 call DosLockSeg 0017 = 5" ∷ codes "1 call DosUnlockSeg 0017 = 5" ∷ codes "1 call DosLockSeg 002F = 5" ∷ codes "1 call DosUnlockSeg 002F = 5" ∷ []) }
+    ensures locks { told_by_one (allocs 16 4 ∷ unlocks 0x24 ∷ unlocks 0x27 ∷ locks 0x27 ∷ unlocks 0x27 ∷ unlocks 0x27
+        ∷ locks 0x17 ∷ unlocks 0x17 ∷ locks 0x2f ∷ unlocks 0x2f ∷ [])
+        ≡ text_of (codes "1 call DosAllocSeg 0010 0017:0000 0004 = 0 0027" ∷ codes "1 hold 0027 by DosAllocSeg"
+        ∷ codes "1 call DosUnlockSeg 0024 = 0" ∷ codes "1 call DosUnlockSeg 0027 = 158"
+        ∷ codes "1 call DosLockSeg 0027 = 0" ∷ codes "1 call DosUnlockSeg 0027 = 0"
+        ∷ codes "1 call DosUnlockSeg 0027 = 158" ∷ codes "1 call DosLockSeg 0017 = 5"
+        ∷ codes "1 call DosUnlockSeg 0017 = 5" ∷ codes "1 call DosLockSeg 002F = 5"
+        ∷ codes "1 call DosUnlockSeg 002F = 5" ∷ []) }
     // A lock count of 255 stays, and one of 254 rises to it.
     ensures most_locks { locking_with 3 (locked_marks 255) ≡ grants 0 (Locks 3 255 ∷ []) }
     ensures more_locks { locking_with 3 (locked_marks 254) ≡ grants 0 (Locks 3 255 ∷ []) }
     ensures stays_locked { unlocking_with 3 (locked_marks 255) ≡ grants 0 (Locks 3 255 ∷ []) }
     ensures less_locks { unlocking_with 3 (locked_marks 254) ≡ grants 0 (Locks 3 253 ∷ []) }
     // An alias is private and code: it is locked by its name, has no alias and no other size, and is freed by itself.
-    ensures aliases { told_by_one (allocs 16 4 ∷ aliases 0x27 ∷ unlocks 0x2f ∷ unlocks 0x27 ∷ aliases 0x2f ∷ reallocs 32 0x2f ∷ frees 0x27 ∷ sizes 0x2f ∷ frees 0x2f ∷ aliases 0xf ∷ aliases 0x27 ∷ [])
-        ≡ text_of (codes "1 call DosAllocSeg 0010 0017:0000 0004 = 0 0027" ∷ codes "1 hold 0027 by DosAllocSeg" ∷ codes "1 call DosCreateCSAlias 0027 0017:0000 = 0 002F" ∷ codes "1 hold 002F by DosCreateCSAlias" ∷ codes "1 call DosUnlockSeg 002F = 0" ∷ codes "1 call DosUnlockSeg 0027 = 158" ∷ codes "1 call DosCreateCSAlias 002F 0017:0000 = 5" ∷ codes "1 call DosReallocSeg 0020 002F = 5" ∷ codes "1 call DosFreeSeg 0027 = 0" ∷ codes "1 drop 0027 by DosFreeSeg" ∷ codes "1 call DosSizeSeg 002F 0017:0004 = 0 00000010" ∷ codes "1 call DosFreeSeg 002F = 0" ∷ codes "1 drop 002F by DosFreeSeg" ∷ codes "1 call DosCreateCSAlias 000F 0017:0000 = 5" ∷ codes "1 call DosCreateCSAlias 0027 0017:0000 = 5" ∷ []) }
+    ensures aliases { told_by_one (allocs 16 4 ∷ aliases 0x27 ∷ unlocks 0x2f ∷ unlocks 0x27 ∷ aliases 0x2f
+        ∷ reallocs 32 0x2f ∷ frees 0x27 ∷ sizes 0x2f ∷ frees 0x2f ∷ aliases 0xf ∷ aliases 0x27 ∷ [])
+        ≡ text_of (codes "1 call DosAllocSeg 0010 0017:0000 0004 = 0 0027" ∷ codes "1 hold 0027 by DosAllocSeg"
+        ∷ codes "1 call DosCreateCSAlias 0027 0017:0000 = 0 002F" ∷ codes "1 hold 002F by DosCreateCSAlias"
+        ∷ codes "1 call DosUnlockSeg 002F = 0" ∷ codes "1 call DosUnlockSeg 0027 = 158"
+        ∷ codes "1 call DosCreateCSAlias 002F 0017:0000 = 5" ∷ codes "1 call DosReallocSeg 0020 002F = 5"
+        ∷ codes "1 call DosFreeSeg 0027 = 0" ∷ codes "1 drop 0027 by DosFreeSeg"
+        ∷ codes "1 call DosSizeSeg 002F 0017:0004 = 0 00000010" ∷ codes "1 call DosFreeSeg 002F = 0"
+        ∷ codes "1 drop 002F by DosFreeSeg" ∷ codes "1 call DosCreateCSAlias 000F 0017:0000 = 5"
+        ∷ codes "1 call DosCreateCSAlias 0027 0017:0000 = 5" ∷ []) }
     ensures shared_alias { told_by_one (allocs 16 2 ∷ aliases 0x8007 ∷ [])
-        ≡ text_of (codes "1 call DosAllocSeg 0010 0017:0000 0002 = 0 8007" ∷ codes "1 hold 8007 by DosAllocSeg" ∷ codes "1 call DosCreateCSAlias 8007 0017:0000 = 5" ∷ []) }
+        ≡ text_of (codes "1 call DosAllocSeg 0010 0017:0000 0002 = 0 8007" ∷ codes "1 hold 8007 by DosAllocSeg"
+        ∷ codes "1 call DosCreateCSAlias 8007 0017:0000 = 5" ∷ []) }
     // What is held from the start on isn't freed, and the name goes with its last hold.
     ensures frees { told_by_one (frees 0x1f ∷ frees 0x27 ∷ allocs 16 0 ∷ frees 0x24 ∷ allocs 16 0 ∷ [])
-        ≡ text_of (codes "1 call DosFreeSeg 001F = 5" ∷ codes "1 call DosFreeSeg 0027 = 5" ∷ codes "1 call DosAllocSeg 0010 0017:0000 0000 = 0 0027" ∷ codes "1 hold 0027 by DosAllocSeg" ∷ codes "1 call DosFreeSeg 0024 = 0" ∷ codes "1 drop 0027 by DosFreeSeg" ∷ codes "1 call DosAllocSeg 0010 0017:0000 0000 = 0 0027" ∷ codes "1 hold 0027 by DosAllocSeg" ∷ []) }
+        ≡ text_of (codes "1 call DosFreeSeg 001F = 5" ∷ codes "1 call DosFreeSeg 0027 = 5"
+        ∷ codes "1 call DosAllocSeg 0010 0017:0000 0000 = 0 0027" ∷ codes "1 hold 0027 by DosAllocSeg"
+        ∷ codes "1 call DosFreeSeg 0024 = 0" ∷ codes "1 drop 0027 by DosFreeSeg"
+        ∷ codes "1 call DosAllocSeg 0010 0017:0000 0000 = 0 0027" ∷ codes "1 hold 0027 by DosAllocSeg" ∷ []) }
     ensures names { names_with (allocs 16 0 ∷ []) ≡ 4 }
     ensures no_names { names_with (allocs 16 0 ∷ frees 0x27 ∷ []) ≡ 3 }
     // Error 8 exactly at the number of segments: three live from the start on.
-    ensures full { allocs_of 4 ≡ text_of (codes "1 call DosAllocSeg 0010 0017:0000 0000 = 0 0027" ∷ codes "1 hold 0027 by DosAllocSeg" ∷ codes "1 call DosAllocSeg 0010 0017:0000 0000 = 8" ∷ []) }
+    ensures full { allocs_of 4
+        ≡ text_of (codes "1 call DosAllocSeg 0010 0017:0000 0000 = 0 0027" ∷ codes "1 hold 0027 by DosAllocSeg"
+        ∷ codes "1 call DosAllocSeg 0010 0017:0000 0000 = 8" ∷ []) }
 {}
 
 /// A step of a process that goes on gives and takes as many holds of each process and selector as its lines tell.
