@@ -1,5 +1,5 @@
 -- The bytes of some blocks, one block after the other.
-use Rattle.std.proofs.Common.{◌≡◌, ℕ, ◌+◌, ◌<◌, ◌++◌, List, ◌∷◌, ap, append_assoc, drop, get_or, length, refl, sym, ◌∙◌}
+use Rattle.std.proofs.Common.{◌≡◌, ℕ, ◌+◌, ◌<◌, ◌++◌, List, ◌∷◌, ap, append_assoc, drop, get_or, length, sym, ◌∙◌}
 use Rattle.std.proofs.lemmas.List.{drop_more}
 use Rattle.o2_dump.specs.declared.parts.Block.{Block}
 use Rattle.o2_dump.specs.CoreImage.{joined}

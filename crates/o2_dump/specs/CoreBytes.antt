@@ -1,5 +1,5 @@
 -- A core image as bytes. Each number has its lowest byte first.
-use Rattle.std.specs.Prelude.{ℕ, ◌+◌, Bool, true, false, List, [], ◌∷◌, ◌++◌, codes, flat_map, length}
+use Rattle.std.specs.Prelude.{ℕ, Bool, true, false, List, [], ◌∷◌, ◌++◌, codes, flat_map, length}
 use Rattle.std.specs.Int.{bytes_low_first}
 use Rattle.o2_desc.specs.Bytes.{bytes_of as descriptor_bytes}
 use Rattle.o2_isa.specs.declared.cpu.Cpu.{Cpu}

@@ -1,5 +1,5 @@
 -- A core image: what a machine consisted of as it was written.
-use Rattle.std.specs.Prelude.{ℕ, ◌+◌, ◌-◌, ◌*◌, ◌==◌, ◌&&◌, Bool, List, [], ◌∷◌, ◌++◌, drop, flat_map, length, min, nat_eq, nat_le, option_map, Option, replicate, slice_get, take, Result, Ok, codes, bytes_eq}
+use Rattle.std.specs.Prelude.{ℕ, ◌+◌, ◌-◌, ◌==◌, Bool, List, [], ◌∷◌, ◌++◌, drop, flat_map, length, min, option_map, Option, replicate, slice_get, take, Result, Ok, codes, bytes_eq}
 use Rattle.o2_ne.specs.Words.{long_at, string_at}
 use Rattle.o2_ne.specs.Checks.{Check, all_hold, or_fault, ◌>>=◌}
 use Rattle.o2_ne.specs.Steps.{steps}

@@ -1,5 +1,5 @@
 -- The processes in a core image: number, state, code, registers, and what each holds.
-use Rattle.std.specs.Prelude.{ℕ, ◌+◌, ◌==◌, ◌&&◌, not, Bool, List, [], ◌∷◌, ◌++◌, nat_le, nat_lt, Result, Ok, if◌then◌else◌}
+use Rattle.std.specs.Prelude.{ℕ, ◌+◌, ◌==◌, ◌&&◌, not, List, [], ◌∷◌, ◌++◌, nat_le, nat_lt, Result, Ok, if◌then◌else◌}
 use Rattle.o2_ne.specs.Words.{byte_at, word_at, long_at}
 use Rattle.o2_ne.specs.Checks.{Check, all_hold, ◌>>=◌}
 use Rattle.o2_ne.specs.Steps.{steps}

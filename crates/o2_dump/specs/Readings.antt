@@ -6,7 +6,7 @@ use Rattle.o2_dump.specs.SegmentEntries.{SegmentsSoFar}
 use Rattle.o2_dump.specs.ProcessEntries.{HeldSoFar, ProcessesSoFar}
 
 abbrev pub segments_so_far : SegmentReading → SegmentsSoFar
-segments_so_far r = record { found = r.found.items; place = r.place }
+segments_so_far r = record { found = r.found; place = r.place }
 
 abbrev pub held_so_far : HeldReading → HeldSoFar
 held_so_far r = record { found = r.found.items; least = r.least; place = r.place }

@@ -1,6 +1,6 @@
 -- The entries of the segments in a core image: size, kept bytes, flags, lock, whether it is clean, and its place, which is
 -- followed by what that place needs.
-use Rattle.std.specs.Prelude.{ℕ, ◌+◌, ◌*◌, ◌/◌, ◌==◌, ◌&&◌, ◌||◌, not, Bool, true, false, List, [], ◌∷◌, ◌++◌, length, nat_le, nat_lt, Result, Ok, if◌then◌else◌}
+use Rattle.std.specs.Prelude.{ℕ, ◌+◌, ◌*◌, ◌/◌, ◌==◌, ◌&&◌, not, Bool, false, List, [], ◌∷◌, ◌++◌, length, nat_le, nat_lt, Result, Ok, if◌then◌else◌}
 use Rattle.std.specs.List.{list_any}
 use Rattle.o2_ne.specs.Words.{byte_at, word_at, long_at, string_at}
 use Rattle.o2_ne.specs.Checks.{Check, all_hold, ◌>>=◌}

@@ -3,11 +3,12 @@ ghost use Rattle.std.specs.Prelude.{◌≡◌, ◌+◌, ◌*◌, ◌≤◌, ◌<
 ghost use Rattle.std.specs.List.{list_any};
 ghost use Rattle.o2_ne.specs.Checks.{all_hold};
 ghost use Rattle.o2_ne.specs.Steps.{Gives, steps};
-ghost use Rattle.o2_dump.specs.SegmentEntries.{block_checks, block_step, has_block, is_among, is_block, is_unused, next_block};
+ghost use Rattle.o2_dump.specs.SegmentEntries.{block_checks, block_step, is_among, is_block, next_block};
 
 use crate::fault::CoreFault;
 use crate::fields::need;
-use crate::parts::{Block, Place, SegmentEntry};
+use crate::found::Found;
+use crate::parts::Block;
 use o2_base::{Bytes, Fail};
 use o2_ne::u32_at;
 use std::alloc::Global;
@@ -19,37 +20,18 @@ fn is_among(number: u32, blocks: &[Block]) -> bool
     blocks.iter().any(|block| block.number == number)
 }
 
-// Whether a segment has its bytes in the block of a number.
-fn has_block(number: u32, place: &Place) -> bool
-    ensures { result ≡ has_block number place.now }
-{
-    match place {
-        Place::Swap(blocks) => is_among(number, blocks.as_slice()),
-        Place::Zeros => false,
-        Place::Image(_, _) => false,
-        Place::Memory(_) => false,
-    }
-}
-
-// Whether no segment has its bytes in the block of a number.
-fn is_unused(found: &[SegmentEntry], number: u32) -> bool
-    ensures { result ≡ is_unused found.now number }
-{
-    !found.iter().any(|entry| has_block(number, &entry.place))
-}
-
 // Whether a block is on a device of this many, and holds nothing yet.
-fn is_block(blocks: u32, found: &[SegmentEntry], own: &[Block], number: u32) -> bool
+fn is_block(blocks: u32, found: &Found, own: &[Block], number: u32) -> bool
     ensures { result ≡ is_block blocks found.now own.now number }
 {
-    number < blocks && is_unused(found, number) && !is_among(number, own)
+    number < blocks && found.is_unused(number) && !is_among(number, own)
 }
 
 // Whether the block at a place is right and whole, in the entry at `entry`.
 fn check_block(
     file: &[u8],
     blocks: u32,
-    found: &[SegmentEntry],
+    found: &Found,
     entry: usize,
     own: &[Block],
     at: usize,
@@ -72,7 +54,7 @@ fn add_block(
     alloc: Global,
     file: &[u8],
     blocks: u32,
-    found: &[SegmentEntry],
+    found: &Found,
     entry: usize,
     own: &mut Vec<Block>,
 ) -> Result<(), Fail<CoreFault>>
@@ -94,7 +76,7 @@ pub(crate) fn blocks_of(
     alloc: Global,
     file: &[u8],
     blocks: u32,
-    found: &[SegmentEntry],
+    found: &Found,
     entry: usize,
     count: u32,
 ) -> Result<Vec<Block>, Fail<CoreFault>>

@@ -5,6 +5,7 @@ mod blocks;
 mod content;
 mod fault;
 mod fields;
+mod found;
 mod held;
 mod parts;
 mod places;

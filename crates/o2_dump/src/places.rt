@@ -1,54 +1,26 @@
 // Where the kept bytes of a segment are.
-ghost use Rattle.std.specs.Prelude.{◌≡◌, ◌+◌, ◌*◌, ◌≤◌, ◌<◌, ◌^◌, ℕ, [], ◌∷◌, length, IfOk, OnOk};
-ghost use Rattle.std.specs.List.{list_any};
+ghost use Rattle.std.specs.Prelude.{◌≡◌, ◌+◌, ◌*◌, ◌≤◌, ◌<◌, ℕ, true, List, [], ◌∷◌, length, IfOk, OnOk};
 ghost use Rattle.o2_ne.specs.Checks.{all_hold};
 ghost use Rattle.o2_ne.specs.Steps.{Gives, steps};
-ghost use Rattle.o2_dump.specs.SegmentEntries.{count_at, image_at, is_free, is_met_by, is_range, memory_at, memory_checks, place_at, place_len, rounded, swap_at};
+ghost use Rattle.o2_dump.specs.declared.parts.SegmentEntry.{SegmentEntry};
+ghost use Rattle.o2_dump.specs.FoundIndex.{fits};
+ghost use Rattle.o2_ne.specs.Words.{long_at};
+ghost use Rattle.o2_dump.specs.SegmentEntries.{count_at, image_at, is_range, memory_at, memory_checks, place_at, place_len, swap_at};
 
 use crate::blocks::blocks_of;
 use crate::fault::CoreFault;
 use crate::fields::need;
-use crate::parts::{Blocks, Place, SegmentEntry};
+use crate::found::{Found, rounded};
+use crate::parts::{Blocks, Place};
 use o2_base::Fail;
 use o2_ne::{u16_at, u32_at};
 use std::alloc::Global;
 
-// How much memory a segment of a size takes.
-fn rounded(size: u32) -> u64
-    ensures { result ≡ rounded size }
-{
-    (u64::from(size) + 15) / 16 * 16
-}
-
-// Whether a segment of size `other_size` at this place shares a byte with the range of `size` from a base on.
-fn is_met_by(base: u32, size: u32, other: &Place, other_size: u32) -> bool
-    ensures { result ≡ is_met_by base size other.now other_size }
-{
-    match other {
-        Place::Memory(start) => {
-            u64::from(base) < u64::from(*start) + rounded(other_size)
-                && u64::from(*start) < u64::from(base) + rounded(size)
-        }
-        Place::Zeros => false,
-        Place::Image(_, _) => false,
-        Place::Swap(_) => false,
-    }
-}
-
-// Whether no segment has its bytes in a range.
-fn is_free(found: &[SegmentEntry], base: u32, size: u32) -> bool
-    ensures { result ≡ is_free found.now base size }
-{
-    !found
-        .iter()
-        .any(|entry| is_met_by(base, size, &entry.place, entry.size))
-}
-
 // Whether a range lies in a memory of this size and is free.
-fn is_range(memory: u32, found: &[SegmentEntry], base: u32, size: u32) -> bool
+fn is_range(memory: u32, found: &Found, base: u32, size: u32) -> bool
     ensures { result ≡ is_range memory found.now base size }
 {
-    u64::from(base) + rounded(size) <= u64::from(memory) && is_free(found, base, size)
+    u64::from(base) + rounded(size) <= u64::from(memory) && found.is_free(base, size)
 }
 
 // The place in an image of the entry at a place.
@@ -57,6 +29,7 @@ fn image_at(file: &[u8], at: usize) -> Result<Place, CoreFault>
     requires place { at + 12 ≤ length file.now }
     ensures exact { result ≡ image_at file.now at }
     ensures inside { IfOk result (λ p. at + 12 + place_len p ≤ length file.now) }
+    ensures free { IfOk result (λ p. (found : List SegmentEntry) (n : ℕ) → fits found n p ≡ true) }
 {
     need(file, at + 12, 4)?;
     let number = u16_at(file, at + 12);
@@ -66,15 +39,11 @@ fn image_at(file: &[u8], at: usize) -> Result<Place, CoreFault>
 
 // The place in memory of the entry at a place.
 #[tactic(auto, unfolding(crate::specs::SegmentEntries::memory_at))]
-fn memory_at(
-    file: &[u8],
-    memory: u32,
-    found: &[SegmentEntry],
-    at: usize,
-) -> Result<Place, CoreFault>
+fn memory_at(file: &[u8], memory: u32, found: &Found, at: usize) -> Result<Place, CoreFault>
     requires place { at + 12 ≤ length file.now }
     ensures exact { result ≡ memory_at file.now memory found.now at }
     ensures inside { IfOk result (λ p. at + 12 + place_len p ≤ length file.now) }
+    ensures free { IfOk result (λ p. fits found.now (long_at file.now at) p ≡ true) }
 {
     need(file, at + 12, 4)?;
     let base = u32_at(file, at + 12);
@@ -104,12 +73,13 @@ fn swap_at(
     alloc: Global,
     file: &[u8],
     blocks: u32,
-    found: &[SegmentEntry],
+    found: &Found,
     at: usize,
 ) -> Result<Place, Fail<CoreFault>>
     requires place { at + 12 ≤ length file.now }
     ensures exact { Gives (λ p. p) result (swap_at file.now blocks found.now at) }
     ensures inside { IfOk result (λ p. at + 12 + place_len p ≤ length file.now) }
+    ensures free { IfOk result (λ p. (n : ℕ) → fits found.now n p ≡ true) }
 {
     let count = count_at(file, at)?;
     let own = blocks_of(alloc, file, blocks, found, at, count)?;
@@ -123,12 +93,13 @@ pub(crate) fn place_at(
     file: &[u8],
     memory: u32,
     blocks: u32,
-    found: &[SegmentEntry],
+    found: &Found,
     at: usize,
 ) -> Result<Place, Fail<CoreFault>>
     requires place { at + 12 ≤ length file.now }
     ensures exact { Gives (λ p. p) result (place_at file.now memory blocks found.now at) }
     ensures inside { IfOk result (λ p. at + 12 + place_len p ≤ length file.now) }
+    ensures free { IfOk result (λ p. fits found.now (long_at file.now at) p ≡ true) }
 {
     match file[at + 11] {
         0 => Ok(Place::Zeros),

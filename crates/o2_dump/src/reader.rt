@@ -8,6 +8,7 @@ ghost use Rattle.o2_dump.specs.CoreImage.{core_of, end_checks, has_end, head_che
 use crate::content::bytes_of;
 use crate::fault::CoreFault;
 use crate::fields::{need, u64_at};
+use crate::found::Found;
 use crate::parts::{Processes, Segments};
 use crate::processes::ProcessReading;
 use crate::segments::SegmentReading;
@@ -60,8 +61,8 @@ fn segments_of(alloc: Global, file: &[u8]) -> Result<SegmentReading, Fail<CoreFa
     ensures exact { Gives (λ r. segments_so_far r) result (segments_of file.now) }
     ensures inside { IfOk result (λ r. r.place ≤ length file.now) }
 {
-    let mut reading = SegmentReading {
-        found: Vec::new(alloc),
+    let reading = SegmentReading {
+        found: Found::new(alloc),
         place: 40,
     };
     reading.all(
@@ -70,8 +71,7 @@ fn segments_of(alloc: Global, file: &[u8]) -> Result<SegmentReading, Fail<CoreFa
         u32_at(file, 8),
         u32_at(file, 12),
         u32_at(file, 16),
-    )?;
-    Ok(reading)
+    )
 }
 
 // The processes whose entries begin at a place.
@@ -136,7 +136,7 @@ impl Core {
             blocks: u32_at(file, 12),
             steps: u64_at(file, 24),
             console: u64_at(file, 32),
-            segments: Segments::new(found),
+            segments: Segments::new(found.into_vec()),
             processes: Processes::new(processes),
         })
     }

@@ -1,12 +1,15 @@
 // The entries of the segments.
-ghost use Rattle.std.specs.Prelude.{◌≡◌, ◌+◌, ◌*◌, ◌≤◌, ◌<◌, ◌^◌, ℕ, [], ◌∷◌, length, IfOk, OnOk};
+ghost use Rattle.std.specs.Prelude.{◌≡◌, ◌+◌, ◌*◌, ◌≤◌, ◌<◌, ◌^◌, ℕ, true, [], ◌∷◌, length, IfOk, OnOk};
 ghost use Rattle.o2_ne.specs.Checks.{all_hold};
 ghost use Rattle.o2_ne.specs.Steps.{Gives, steps};
+ghost use Rattle.o2_ne.specs.Words.{long_at};
+ghost use Rattle.o2_dump.specs.FoundIndex.{fits};
 ghost use Rattle.o2_dump.specs.Readings.{segments_so_far};
 ghost use Rattle.o2_dump.specs.SegmentEntries.{entry_checks, entry_of, is_place, place_len, segment_step};
 
 use crate::fault::CoreFault;
 use crate::fields::need;
+use crate::found::Found;
 use crate::parts::{Place, SegmentEntry};
 use crate::places::place_at;
 use o2_base::Fail;
@@ -31,6 +34,7 @@ fn check_entry(file: &[u8], at: usize) -> Result<(), CoreFault>
     requires place { at ≤ length file.now }
     ensures exact { result ≡ all_hold (entry_checks file.now at) }
     ensures inside { OnOk result (at + 12 ≤ length file.now) }
+    ensures long { OnOk result (1 ≤ long_at file.now at) }
 {
     need(file, at, 4)?;
     let size = u32_at(file, at);
@@ -73,12 +77,14 @@ fn entry_of(
     file: &[u8],
     memory: u32,
     blocks: u32,
-    found: &[SegmentEntry],
+    found: &Found,
     at: usize,
 ) -> Result<SegmentEntry, Fail<CoreFault>>
     requires place { at ≤ length file.now }
     ensures exact { Gives (λ e. e) result (entry_of file.now memory blocks found.now at) }
     ensures inside { IfOk result (λ e. at + 12 + place_len e.place ≤ length file.now) }
+    ensures long { IfOk result (λ e. 1 ≤ e.size) }
+    ensures free { IfOk result (λ e. fits found.now e.size e.place ≡ true) }
 {
     check_entry(file, at)?;
     let place = place_at(alloc, file, memory, blocks, found, at)?;
@@ -95,53 +101,48 @@ fn entry_of(
 // The segments so far.
 #[derive(Drop)]
 pub(crate) struct SegmentReading {
-    pub(crate) found: Vec<SegmentEntry>,
+    pub(crate) found: Found,
     pub(crate) place: usize,
 }
 
 impl SegmentReading {
-    // The next segment.
+    // With the next segment.
     #[tactic(auto, unfolding(crate::specs::SegmentEntries::segment_step))]
     fn next(
-        &mut self,
+        self,
         alloc: Global,
         file: &[u8],
         memory: u32,
         blocks: u32,
-    ) -> Result<(), Fail<CoreFault>>
-        requires place { self.old.place ≤ length file.now }
-        ensures step { Gives (λ _. segments_so_far self.new) result (segment_step file.now memory blocks (segments_so_far self.old)) }
-        ensures inside { OnOk result (self.new.place ≤ length file.now) }
+    ) -> Result<SegmentReading, Fail<CoreFault>>
+        requires place { self.place ≤ length file.now }
+        ensures step { Gives (λ r. segments_so_far r) result (segment_step file.now memory blocks (segments_so_far self)) }
+        ensures inside { IfOk result (λ r. r.place ≤ length file.now) }
     {
-        let entry = entry_of(
-            alloc,
-            file,
-            memory,
-            blocks,
-            self.found.as_slice(),
-            self.place,
-        )?;
-        self.place += 12 + place_len(&entry.place);
-        self.found.push(entry)?;
-        Ok(())
+        let SegmentReading { found, place } = self;
+        let entry = entry_of(alloc, file, memory, blocks, &found, place)?;
+        let place = place + 12 + place_len(&entry.place);
+        let found = found.with(entry)?;
+        Ok(SegmentReading { found, place })
     }
 
-    // All segments, of which there are `count`.
+    // With all segments, of which there are `count`.
     pub(crate) fn all(
-        &mut self,
+        self,
         alloc: Global,
         file: &[u8],
         memory: u32,
         blocks: u32,
         count: u32,
-    ) -> Result<(), Fail<CoreFault>>
-        requires place { self.old.place ≤ length file.now }
-        ensures exact { Gives (λ _. segments_so_far self.new) result (steps (segment_step file.now memory blocks) count (segments_so_far self.old)) }
-        ensures inside { OnOk result (self.new.place ≤ length file.now) }
+    ) -> Result<SegmentReading, Fail<CoreFault>>
+        requires place { self.place ≤ length file.now }
+        ensures exact { Gives (λ r. segments_so_far r) result (steps (segment_step file.now memory blocks) count (segments_so_far self)) }
+        ensures inside { IfOk result (λ r. r.place ≤ length file.now) }
     {
+        let mut reading = self;
         for _ in 0..count {
-            self.next(alloc, file, memory, blocks)?;
+            reading = reading.next(alloc, file, memory, blocks)?;
         }
-        Ok(())
+        Ok(reading)
     }
 }

@@ -1,4 +1,4 @@
-use Rattle.std.proofs.Common.{arith, rules}
+use Rattle.std.proofs.Common.{rules}
 use Rattle.std.proofs.lemmas.Result.{err_from_is_err_and}
 use Rattle.o2_ne.proofs.Stepwise.{goes_on, fails_here, is_done}
 use Rattle.o2_dump.proofs.blocks.blocks_of.Goals as goal
