@@ -141,10 +141,11 @@ fn source_over(
 fn bytes_before_an_error_are_given_later(rt: HostRuntime) -> Result<(), Fail> {
     for fails in 1..6usize {
         let mut source = source_over(rt.alloc(), fails, 0)?;
+        let mut two = [0u8; 2];
         let mut into = [0u8; 5];
         let failed = source.take(&mut into);
-        let front = source.take(&mut into[..2]);
-        let is_front = &into[..2] == b"ab".as_slice();
+        let front = source.take(&mut two);
+        let is_front = two.as_slice() == b"ab".as_slice();
         let rest = source.take(&mut into);
         let is_rest = into.as_slice() == b"cdefg".as_slice();
         let takes = [failed, front, rest, source.take(&mut into)];
