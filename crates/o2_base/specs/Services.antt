@@ -1,5 +1,5 @@
 -- The services of the module DOSCALLS.
-use Rattle.std.specs.Prelude.{ℕ, ◌+◌, ◌-◌, ◌*◌, ◌==◌, ◌&&◌, nat_le, Bool, List, [], ◌∷◌, Option, Some, None, codes, option_map, position, slice_get, if◌then◌else◌}
+use Rattle.std.specs.Prelude.{ℕ, ◌+◌, ◌-◌, ◌*◌, ◌==◌, nat_le, Bool, List, [], ◌∷◌, Option, None, codes, option_map, position, slice_get, if◌then◌else◌}
 use Rattle.std.specs.List.{list_any}
 
 -- a service: the name by which it is imported, its default ordinal, and how many words its arguments have

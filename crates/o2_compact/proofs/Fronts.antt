@@ -1,10 +1,10 @@
 -- The ranges that lie one behind the other from 0 on, and those behind them.
-use Rattle.std.proofs.Common.{◌≡◌, ◌≢◌, ◌⊎◌, inl, inr, ℕ, zero, suc, ◌+◌, ◌-◌, ◌<◌, ◌≤◌, List, [], ◌∷◌, length, drop, take, set, get_or, Option, Some, None, eqb, true, false, refl, sym, ap, ◌∙◌, arith, subst, add-one}
+use Rattle.std.proofs.Common.{◌≡◌, ◌≢◌, ◌⊎◌, inl, inr, ℕ, zero, suc, ◌+◌, ◌-◌, ◌<◌, ◌≤◌, List, [], ◌∷◌, length, drop, take, Option, Some, None, eqb, true, false, refl, sym, ap, ◌∙◌, arith, subst, add-one}
 use Rattle.std.proofs.lemmas.Bool.{cases_eq}
 use Rattle.std.proofs.lemmas.Bool.Decides.{nat_tests}
 use Rattle.std.proofs.lemmas.List.{get_or-set_same, get_or-set_other}
 use Rattle.o2_place.specs.declared.ranges.Range.{Range}
-use Rattle.o2_place.specs.Layout.{Layout, IsLayout, find_in, used, reshaped, range_at, no_range, len_of, IsPacked, start_of, end_before}
+use Rattle.o2_place.specs.Layout.{Layout, IsLayout, find_in, used, reshaped, range_at, no_range, len_of, IsPacked, end_before}
 use Rattle.o2_place.proofs.RangeLemmas.{laid_at, packed_end, end_before-more, end_before-zero, start_of-le, start_of-at}
 use Rattle.o2_compact.specs.Parts.{KeepsParts, SlideBehind, StayInFront}
 

@@ -16,7 +16,6 @@ use Rattle.o2_isa.specs.declared.cpu.Cpu.{Cpu}
 use Rattle.o2_isa.specs.declared.cpu.Stop.TheVariants as stop
 use Rattle.o2_isa.specs.Flags.{is_set}
 use Rattle.o2_isa.specs.View.{is_readable, is_writable}
-use Rattle.o2_isa.specs.Steps.{Stops}
 use Rattle.o2_isa.specs.FlowJumps.{immediate, is_less}
 use Rattle.o2_isa.specs.OpRows.{op_steps}
 use Rattle.o2_isa.specs.Meaning.{behind, steps_of}

@@ -24,13 +24,13 @@ use Rattle.o2_isa.specs.Operands.{Plan, mod_of, reg_of, rm_of, register, sreg_of
 use Rattle.o2_isa.specs.Spelling.{is_prefix, no_prefixes, mark, checked}
 use Rattle.o2_isa.specs.Reading.{Head, More, Bad, Whole, head_with, head_modrm, head_after, head_two, head_of, read_tail, read, limited, decoded}
 use Rattle.o2_isa.specs.View.{View}
-use Rattle.o2_isa.specs.Steps.{State, Stops}
+use Rattle.o2_isa.specs.Steps.{State}
 use Rattle.o2_isa.specs.Meaning.{behind, steps_of}
 use Rattle.o2_isa.specs.OpRows.{op_steps}
 use Rattle.o2_isa.specs.Step.{Answers, seen, steps_at, step_steps, step_names, stepped}
 use Rattle.o2_isa.specs.declared.instr.Sreg.{Sreg}
 use Rattle.o2_isa.specs.SegmentLoads.{Passes, IsNamed, rules_for, LoadsByRules, BindsLoaded}
-use Rattle.o2_isa.proofs.Backing.{Ground, IsBacked, LoadsGranted, run_ruled, either_backed}
+use Rattle.o2_isa.proofs.Backing.{Ground, IsBacked, LoadsGranted, run_ruled}
 use Rattle.o2_isa.proofs.BackedData.{names_cs, puts_selector}
 use Rattle.o2_isa.proofs.BackedRows.{op_backed}
 use Rattle.o2_isa.proofs.StepLaws.{row_of_step}

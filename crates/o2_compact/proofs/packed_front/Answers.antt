@@ -1,6 +1,4 @@
-use Rattle.std.proofs.Common.{arith, ap, sym}
-use Rattle.o2_place.specs.declared.ranges.Range.{Range}
-use Rattle.o2_place.specs.Layout.{no_range}
+use Rattle.std.proofs.Common.{arith, sym}
 use Rattle.o2_place.proofs.RangeLemmas.{end_before-zero}
 use Rattle.o2_compact.proofs.Fronts.{range_ends, packed_next, next_end, all_packed, gap_before}
 use Rattle.o2_compact.proofs.packed_front.Goals as goal

@@ -1,6 +1,4 @@
 use Rattle.std.proofs.Common.{ap, ℕ, Bool}
-use Rattle.std.specs.Prelude.{Option}
-use Rattle.o2_isa.specs.View.{Hold}
 use Rattle.o2_isa.specs.Steps.{state}
 use Rattle.o2_bus.specs.Plain.{plain_view}
 use Rattle.o2_core.proofs.Plains.{framed, agrees_at, plain_answers, never_missed}

@@ -1,5 +1,4 @@
-use Rattle.std.proofs.Common.{ap, arith, sym, ◌∙◌, ◌-◌, ℕ}
-use Rattle.o2_ne.specs.declared.entries.Entry.{Entry}
+use Rattle.std.proofs.Common.{arith, sym, ◌∙◌}
 use Rattle.o2_ne.specs.EntrySlots.{named_ordinals}
 use Rattle.o2_ne.proofs.SlotSteps.{defined, not_lost, undefined}
 use Rattle.o2_ne.proofs.entries.Entries.get.Goals as goal

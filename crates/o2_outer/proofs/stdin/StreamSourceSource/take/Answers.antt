@@ -1,4 +1,4 @@
-use Rattle.std.proofs.Common.{◌≡◌, ◌≤◌, min, length, take, arith, ap, sym, subst, ◌∙◌, ℕ, true}
+use Rattle.std.proofs.Common.{◌≡◌, ◌≤◌, min, length, take, arith, ap, sym, subst, ◌∙◌, ℕ}
 use Rattle.std.proofs.lemmas.List.{length-take-le}
 use Rattle.o2_outer.specs.declared.log.Log.{Log}
 use Rattle.o2_outer.specs.Inputs.{Past}
