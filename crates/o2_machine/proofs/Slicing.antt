@@ -66,7 +66,7 @@ is_begun s k is some =
       next = kept_if (nat_lt 0 s.dispatch.left && lives s.flags s.dispatch.current) s.dispatch (started s.quantum s.flags s.dispatch (live_script s.flags s.dispatch.script)) (rw t.1.1.0 (grind (arith, turn)));
     }
 
-module _ (m : Machine) (device : ℕ) (told : Bool) (block : ℕ → List ℕ) (s : Setting) (w : World) (most : ℕ) (stands : StandsFor m device told block s w) (begun : IsBegun m.sched most) (some : 0 < most) where
+module _ (m : Machine) (device : ℕ) (block : ℕ → List ℕ) (s : Setting) (w : World) (most : ℕ) (stands : StandsFor m device block s w) (begun : IsBegun m.sched most) (some : 0 < most) where
   next_is : next_dispatch s w ≡ m.sched.dispatch
   next_is = rw (stands.flags, stands.dispatch, stands.quantum) begun.next
 
@@ -88,9 +88,8 @@ module _ (m : Machine) (device : ℕ) (told : Bool) (block : ℕ → List ℕ) (
   -- the machine behind them
   module _ (n : Machine) (left : Space) (k : ℕ) (later : StandsLater (parts_in left device block) s w k) (set : IsSetTo (parts_in left device block) s) (avail : left.services.avail ≡ m.space.services.avail)
       (space : n.space ≡ left) (budget : n.budget ≡ m.budget) (bytes : n.console_bytes ≡ m.console_bytes) (lines : n.lines ≡ m.lines) where
-    now_at : n.sched.dispatch ≡ (after s w k).dispatch → n.sched.flags ≡ m.sched.flags → n.sched.quantum ≡ m.sched.quantum → StandsFor n device told block s (after s w k)
+    now_at : n.sched.dispatch ≡ (after s w k).dispatch → n.sched.flags ≡ m.sched.flags → n.sched.quantum ≡ m.sched.quantum → StandsFor n device block s (after s w k)
     now_at dispatch flags quantum = record {
-      told = stands.told;
       space = subst (λ (z : Space). Stands (parts_in z device block) (after s w k)) (sym space) later.stands;
       set = subst (λ (z : Space). IsSetTo (parts_in z device block) s) (sym space) set;
       flags = later.flags ∙ (stands.flags ∙ sym flags);
@@ -102,7 +101,7 @@ module _ (m : Machine) (device : ℕ) (told : Bool) (block : ℕ → List ℕ) (
       lines = ap (λ (l : List Line). length l) (lines_stay s w k later.silent) ∙ (stands.lines ∙ sym lines);
     }
 
-    pub some_steps : 0 < k → n.sched ≡ record m.sched { dispatch = counted_by k m.sched.dispatch } → Slices (StandsFor n device told block s) true s w k
+    pub some_steps : 0 < k → n.sched ≡ record m.sched { dispatch = counted_by k m.sched.dispatch } → Slices (StandsFor n device block s) true s w k
     some_steps some sched = record {
       silent = later.silent;
       stands =
@@ -111,7 +110,7 @@ module _ (m : Machine) (device : ℕ) (told : Bool) (block : ℕ → List ℕ) (
     }
 
     -- where none is done
-    pub none_done : k ≡ 0 → n.sched ≡ m.sched → Slices (StandsFor n device told block s) true s w k
+    pub none_done : k ≡ 0 → n.sched ≡ m.sched → Slices (StandsFor n device block s) true s w k
     none_done none sched = record {
       silent = later.silent;
       stands =

@@ -1,5 +1,5 @@
 // Steps of a turn that are done at once.
-ghost use Rattle.std.specs.Prelude.{◌≡◌, ◌<◌, ◌+◌, ℕ, Bool, List, true};
+ghost use Rattle.std.specs.Prelude.{◌≡◌, ◌<◌, ◌+◌, ℕ, List, true};
 ghost use Rattle.o2_sched.specs.Schedule.{ahead_of};
 ghost use Rattle.o2_run.specs.Slice.{OverSome, Slices};
 ghost use Rattle.o2_world.specs.World.{Setting, World};
@@ -15,8 +15,8 @@ impl Machine {
         requires most { most ≡ ahead_of self.old.sched }
         requires some { 0 < most }
         requires device { OverSome (GoesOver self.old.space self.old.sched.flags) }
-        ensures steps { (device : ℕ) (told : Bool) (block : ℕ → List ℕ) (s : Setting) (w : World)
-            → StandsFor self.old device told block s w → Slices (StandsFor self.new device told block s) true s w result }
+        ensures steps { (device : ℕ) (block : ℕ → List ℕ) (s : Setting) (w : World)
+            → StandsFor self.old device block s w → Slices (StandsFor self.new device block s) true s w result }
         ensures device { (blocks : ℕ) → GoesOver self.old.space self.old.sched.flags blocks
             → GoesOver self.new.space self.new.sched.flags blocks }
         ensures left { self.new.sched.dispatch.budget + result ≡ self.old.sched.dispatch.budget }

@@ -43,25 +43,25 @@ take-requires-clause-budget c =
     omega (arith, budget, within))
 
 pub returns-then-done-gt0-clause-steps : goal.returns-then-done-gt0-clause-steps
-returns-then-done-gt0-clause-steps c = λ device told block s w stands.
+returns-then-done-gt0-clause-steps c = λ device block s w stands.
     let m = c.args.self.now in
     let begun = is_begun m.sched c.args.most c.requires.most c.requires.some in
     let e = c.slice_of-done.ensures in
-    let later = e.later device block s w stands.space stands.set (runs_on m device told block s w c.args.most stands begun c.requires.some)
-    (chosen_is m device told block s w c.args.most stands begun c.requires.some ∙ sym c.current.ensures)
-    (turn_left m device told block s w c.args.most stands begun c.requires.some) (budget_left m device told block s w c.args.most stands begun c.requires.some) in
-    some_steps m device told block s w c.args.most stands begun c.requires.some _ c.slice_of-done.new.space c.slice_of-done.result later (e.set device block s stands.set) e.avail refl refl refl refl
+    let later = e.later device block s w stands.space stands.set (runs_on m device block s w c.args.most stands begun c.requires.some)
+    (chosen_is m device block s w c.args.most stands begun c.requires.some ∙ sym c.current.ensures)
+    (turn_left m device block s w c.args.most stands begun c.requires.some) (budget_left m device block s w c.args.most stands begun c.requires.some) in
+    some_steps m device block s w c.args.most stands begun c.requires.some _ c.slice_of-done.new.space c.slice_of-done.result later (e.set device block s stands.set) e.avail refl refl refl refl
     (omega (arith, c.if-done-gt0.true)) c.take.ensures
 
 pub returns-else-done-gt0-clause-steps : goal.returns-else-done-gt0-clause-steps
-returns-else-done-gt0-clause-steps c = λ device told block s w stands.
+returns-else-done-gt0-clause-steps c = λ device block s w stands.
     let m = c.args.self.now in
     let begun = is_begun m.sched c.args.most c.requires.most c.requires.some in
     let e = c.slice_of-done.ensures in
-    let later = e.later device block s w stands.space stands.set (runs_on m device told block s w c.args.most stands begun c.requires.some)
-    (chosen_is m device told block s w c.args.most stands begun c.requires.some ∙ sym c.current.ensures)
-    (turn_left m device told block s w c.args.most stands begun c.requires.some) (budget_left m device told block s w c.args.most stands begun c.requires.some) in
-    none_done m device told block s w c.args.most stands begun c.requires.some _ c.slice_of-done.new.space c.slice_of-done.result later (e.set device block s stands.set) e.avail refl refl refl refl
+    let later = e.later device block s w stands.space stands.set (runs_on m device block s w c.args.most stands begun c.requires.some)
+    (chosen_is m device block s w c.args.most stands begun c.requires.some ∙ sym c.current.ensures)
+    (turn_left m device block s w c.args.most stands begun c.requires.some) (budget_left m device block s w c.args.most stands begun c.requires.some) in
+    none_done m device block s w c.args.most stands begun c.requires.some _ c.slice_of-done.new.space c.slice_of-done.result later (e.set device block s stands.set) e.avail refl refl refl refl
     (omega (arith, c.if-done-gt0.false)) refl
 
 pub returns-then-done-gt0-clause-device : goal.returns-then-done-gt0-clause-device

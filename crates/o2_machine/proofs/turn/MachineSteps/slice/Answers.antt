@@ -6,21 +6,21 @@ use Rattle.o2_machine.proofs.Turns.{same_space}
 use Rattle.o2_machine.proofs.turn.MachineSteps.slice.Goals as goal
 
 pub returns-then-is_some-clause-steps : goal.returns-then-is_some-clause-steps
-returns-then-is_some-clause-steps c = λ device told block s w stands. record { silent = λ j below. absurd (omega (arith, below)); stands = stands }
+returns-then-is_some-clause-steps c = λ device block s w stands. record { silent = λ j below. absurd (omega (arith, below)); stands = stands }
 
 pub returns-then-most-eq0-clause-steps : goal.returns-then-most-eq0-clause-steps
-returns-then-most-eq0-clause-steps c = λ device told block s w stands. record {
+returns-then-most-eq0-clause-steps c = λ device block s w stands. record {
   silent = λ j below. absurd (omega (arith, below));
-  stands = same_space _ c.args.self.now _ _ _ _ _ _ s w stands (record { sched = c.ahead-most.ensures.same; avail = refl; budget = refl; bytes = refl; lines = refl }) stands.told stands.space stands.set;
+  stands = same_space _ c.args.self.now _ _ _ _ s w stands (record { sched = c.ahead-most.ensures.same; avail = refl; budget = refl; bytes = refl; lines = refl }) stands.space stands.set;
 }
 
 pub returns-then-most-eq0-clause-same : goal.returns-then-most-eq0-clause-same
 returns-then-most-eq0-clause-same c = λ last e. absurd (not_stopped c.args.self.now.last last (sym c.is_some.ensures ∙ c.if-is_some.false) e)
 
 pub returns-clause-steps : goal.returns-clause-steps
-returns-clause-steps c = λ device told block s w stands.
-    c.steps_at_once.ensures.steps device told block s w
-    (same_space _ c.args.self.now _ _ _ _ _ _ s w stands (record { sched = c.ahead-most.ensures.same; avail = refl; budget = refl; bytes = refl; lines = refl }) stands.told stands.space stands.set)
+returns-clause-steps c = λ device block s w stands.
+    c.steps_at_once.ensures.steps device block s w
+    (same_space _ c.args.self.now _ _ _ _ s w stands (record { sched = c.ahead-most.ensures.same; avail = refl; budget = refl; bytes = refl; lines = refl }) stands.space stands.set)
 
 pub returns-clause-same : goal.returns-clause-same
 returns-clause-same c = λ last e. absurd (not_stopped c.args.self.now.last last (sym c.is_some.ensures ∙ c.if-is_some.false) e)
