@@ -94,6 +94,17 @@ fn write_text(file: &mut Vec<u8>, text: &str) -> Result<(), NoMemory> {
     Ok(())
 }
 
+/// Adds a line, with this text in place of that of the key.
+fn write_line(file: &mut Vec<u8>, line: &str, key: &str, text: &str) -> Result<(), NoMemory> {
+    let Some((name, usual)) = line.split_once('|') else {
+        return Ok(());
+    };
+    if key == name {
+        return write_text(file, text);
+    }
+    write_text(file, usual)
+}
+
 /// Adds the image, with this text in place of the line of a key; with the key `hello` the text is the end of HELLO.
 fn write_image(file: &mut Vec<u8>, key: &str, text: &str) -> Result<(), NoMemory> {
     if key == "hello" {
@@ -101,9 +112,7 @@ fn write_image(file: &mut Vec<u8>, key: &str, text: &str) -> Result<(), NoMemory
         return write_text(file, text);
     }
     for line in MACHINE.lines() {
-        if let Some((name, usual)) = line.split_once('|') {
-            write_text(file, if key == name { text } else { usual })?;
-        }
+        write_line(file, line, key, text)?;
     }
     Ok(())
 }
