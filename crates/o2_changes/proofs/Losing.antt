@@ -1,9 +1,7 @@
 -- A tidy world may lose a hold of a segment alone.
-use Rattle.std.proofs.Common.{◌≡◌, ℕ, ◌<◌, ◌≤◌, ◌==◌, ◌&&◌, ◌||◌, ◌+◌, nat_le, nat_lt, Bool, true, false, List, [], ◌∷◌, Some, if◌then◌else◌, refl, sym, ap, ◌∙◌, subst, arith}
+use Rattle.std.proofs.Common.{◌≡◌, ℕ, ◌<◌, ◌≤◌, ◌==◌, ◌&&◌, ◌||◌, ◌+◌, nat_le, nat_lt, Bool, true, false, List, [], ◌∷◌, Some, if◌then◌else◌, refl, sym, ◌∙◌, arith}
 use Rattle.std.specs.List.{list_any}
-use Rattle.std.proofs.lemmas.Bool.{false≢true}
 use Rattle.o2_regions.specs.declared.held.Region.TheVariants.{Private, Shared}
-use Rattle.o2_regions.specs.Maps.{region_of}
 use Rattle.o2_world.specs.Changes.{Drops, with_change}
 use Rattle.o2_world.specs.Known.{held_at, reserves}
 use Rattle.o2_world.specs.World.{Held, Reserve, World}

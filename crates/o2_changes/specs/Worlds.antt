@@ -1,21 +1,19 @@
 -- What single changes of store and tables leave of the worlds that they match.
-use Rattle.std.specs.Prelude.{◌≡◌, ℕ, Bool, true, false, IsTrue, List, [], ◌∷◌, Some, None, is_some, option_map, replicate}
+use Rattle.std.specs.Prelude.{◌≡◌, ℕ, Bool, true, false, IsTrue, List, [], ◌∷◌, Some, None, is_some, replicate}
 use Rattle.std.specs.List.{list_any}
 use Rattle.o2_desc.specs.Bits.{is_writable, rights_of}
 use Rattle.o2_image.specs.ImageList.{ImageList}
 use Rattle.o2_place.specs.declared.seg_id.SegId.{SegId}
 use Rattle.o2_regions.specs.declared.held.Held.{Held as HeldThere}
-use Rattle.o2_regions.specs.declared.held.Region.{Region}
-use Rattle.o2_regions.specs.Maps.{Maps, is_taken, region_of}
-use Rattle.o2_segbus.specs.Seen.{key_of}
+use Rattle.o2_regions.specs.Maps.{Maps, region_of}
 use Rattle.o2_store.specs.Shelf.{Shelf, entry}
 use Rattle.o2_world.specs.Map.{get}
 use Rattle.o2_world.specs.World.{Held, Process, Segment, World}
 use Rattle.o2_world.specs.Holders.{is_held, process_at}
-use Rattle.o2_world.specs.Known.{held_at, reserves}
+use Rattle.o2_world.specs.Known.{reserves}
 use Rattle.o2_world.specs.Changes.{Drops, Holds, Locks, Makes, Resizes, used, with_all, with_change}
 use Rattle.o2_stands.specs.Moves.{moved}
-use Rattle.o2_stands.specs.Parts.{Parts, cause_of, held_in, running_of}
+use Rattle.o2_stands.specs.Parts.{Parts, cause_of}
 use Rattle.o2_stands.specs.Stands.{Matches, number_of}
 
 -- what a process holds by a machine, as a world has it, with the rights of an access byte

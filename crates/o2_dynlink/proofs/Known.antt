@@ -6,7 +6,6 @@ use Rattle.std.proofs.lemmas.Bool.{cases_lt, eqb-true}
 use Rattle.o2_base.specs.declared.faults.ModuleFault.{ModuleFault}
 use Rattle.o2_ne_segs.specs.declared.reloc.Reloc.{Reloc}
 use Rattle.o2_image.specs.Getters.{imported_name, nth}
-use Rattle.o2_image.specs.ImageList.{Exists}
 use Rattle.o2_image.specs.Images.{Target}
 use Rattle.o2_image.specs.Parts.{Parts}
 use Rattle.o2_image.specs.Targets.{target_kind}

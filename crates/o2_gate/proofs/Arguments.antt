@@ -1,15 +1,12 @@
 -- What a call on segments is given, by what was found of its arguments and its pointer.
-use Rattle.std.proofs.Common.{◌≡◌, ℕ, Bool, true, false, cond, ◌&&◌, List, [], ◌∷◌, Option, Some, None, if◌then◌else◌, ap, sym, ◌∙◌, refl, subst}
-use Rattle.std.specs.Prelude.{codes}
-use Rattle.o2_base.specs.declared.selector.Selector.{Selector}
+use Rattle.std.proofs.Common.{◌≡◌, ℕ, Bool, true, false, List, [], ◌∷◌, Option, Some, None, if◌then◌else◌, ap, sym, ◌∙◌, refl, subst}
 use Rattle.o2_isa.specs.declared.cpu.Cpu.{Cpu}
 use Rattle.o2_isa.specs.View.{View, Filling, IsBound, is_writable}
-use Rattle.o2_isa.specs.Presence.{IsMissed, is_in}
-use Rattle.o2_world.specs.declared.types.Argument.TheVariants.{Word, Far}
+use Rattle.o2_isa.specs.Presence.{IsMissed}
 use Rattle.o2_world.specs.declared.types.Row.TheVariants.{OnSegments}
 use Rattle.o2_world.specs.declared.types.SegmentCall.{SegmentCall}
 use Rattle.o2_world.specs.declared.types.SegmentCall.TheVariants.{DosAllocSeg, DosReallocSeg, DosFreeSeg, DosSizeSeg, DosLockSeg, DosUnlockSeg, DosCreateCsAlias}
-use Rattle.o2_world.specs.Calls.{Before, Effect, argument, has_arguments, may_write, trapped}
+use Rattle.o2_world.specs.Calls.{Before, argument, has_arguments, may_write, trapped}
 use Rattle.o2_world.specs.Known.{Known}
 use Rattle.o2_world.specs.SegmentCalls.{aliased, allocated, dos_alloc_seg, dos_create_cs_alias, dos_free_seg, dos_lock_seg, dos_realloc_seg, dos_size_seg, dos_unlock_seg, freed, locked, on_segments, reallocated, sized, unlocked}
 use Rattle.o2_world.proofs.MapLemmas.{if_no}
@@ -19,10 +16,10 @@ use Rattle.o2_gate.specs.declared.gathering.SegmentArguments.TheVariants as give
 use Rattle.o2_gate.specs.declared.gathering.Gathered.{Gathered}
 use Rattle.o2_gate.specs.declared.gathering.Gathered.TheVariants.{Good, Trap, Missed}
 use Rattle.o2_gate.specs.Befores.{boundless, before_call}
-use Rattle.o2_gate.specs.Pointed.{ArePresent, IsBadTest, IsGoodTest, are_ready, pointer}
-use Rattle.o2_gate.specs.Gathers.{Aims, Asks, Gathers, NamesFor, asked, targets}
+use Rattle.o2_gate.specs.Pointed.{ArePresent, are_ready, pointer}
+use Rattle.o2_gate.specs.Gathers.{Aims, Gathers, asked, targets}
 use Rattle.o2_gate.proofs.Named.{few_arguments, none_there}
-use Rattle.o2_gate.proofs.Rows.{if_none, if_some, write_tells}
+use Rattle.o2_gate.proofs.Rows.{if_some, write_tells}
 
 -- Arguments that don't lie in SS.
 

@@ -1,5 +1,5 @@
 -- Calls that don't go to the input, and those that do.
-use Rattle.std.proofs.Common.{◌≡◌, ℕ, List, Option}
+use Rattle.std.proofs.Common.{ℕ, List, Option}
 use Rattle.o2_isa.specs.declared.cpu.Cpu.{Cpu}
 use Rattle.o2_isa.specs.View.{View, Filling}
 use Rattle.o2_world.specs.Calls.{Before, Effect}

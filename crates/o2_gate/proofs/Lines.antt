@@ -3,7 +3,7 @@ use Rattle.std.proofs.Common.{◌≡◌, ℕ, Bool, true, false, ◌==◌, List,
 use Rattle.std.specs.Prelude.{Result, codes}
 use Rattle.o2_world.specs.declared.types.Argument.{Argument}
 use Rattle.o2_world.specs.declared.types.Transfer.{Transfer}
-use Rattle.o2_world.specs.Calls.{Before, Effect, trapped, told, told_at, argument, has_arguments, transfer_of, may_take, may_write, not_transferred, dos_read, read_from, read_with}
+use Rattle.o2_world.specs.Calls.{Before, Effect, trapped, told, argument, has_arguments, transfer_of, may_take, may_write, not_transferred, dos_read, read_from, read_with}
 use Rattle.o2_run.specs.declared.fault.Fault.{Fault}
 use Rattle.o2_run.specs.Pieces.{Counts, SinkHands, PartHands}
 use Rattle.o2_gate.specs.declared.called.Called.{Called}

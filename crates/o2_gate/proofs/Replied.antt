@@ -1,7 +1,6 @@
 -- Calls on segments that came to an error write nothing and have one line.
-use Rattle.std.proofs.Common.{◌≡◌, ℕ, Bool, false, ◌==◌, List, [], Option, Some, None, refl, if◌then◌else◌, arith}
+use Rattle.std.proofs.Common.{◌≡◌, ℕ, false, ◌==◌, List, [], Option, Some, None, refl, arith}
 use Rattle.o2_isa.specs.View.{Hold}
-use Rattle.o2_world.specs.World.{Line}
 use Rattle.o2_world.specs.SegmentCalls.{Written}
 use Rattle.o2_world.proofs.MapLemmas.{if_no}
 use Rattle.o2_gate.specs.declared.gathering.SegmentArguments.{SegmentArguments}

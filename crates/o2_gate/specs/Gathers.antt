@@ -1,6 +1,5 @@
 -- What a call on segments is given, and what its pointer comes to, before anything is changed.
 use Rattle.std.specs.Prelude.{◌≡◌, ℕ, true, List, [], ◌∷◌, Some, codes}
-use Rattle.o2_base.specs.declared.selector.Selector.{Selector}
 use Rattle.o2_isa.specs.declared.cpu.Cpu.{Cpu}
 use Rattle.o2_isa.specs.View.{View, Filling, IsBound}
 use Rattle.o2_isa.specs.Presence.{IsMissed}

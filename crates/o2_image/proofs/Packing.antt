@@ -1,9 +1,8 @@
 -- Targets that are packed one by one.
-use Rattle.std.proofs.Common.{◌≡◌, ◌≢◌, ℕ, zero, suc, ◌+◌, ◌-◌, ◌*◌, ◌/◌, ◌<◌, ◌≤◌, ◌==◌, Bool, true, false, List, [], ◌∷◌, ◌++◌, get_or, length, refl, sym, ap, ◌∙◌, arith, inl, inr, if◌then◌else◌}
+use Rattle.std.proofs.Common.{◌≡◌, ◌≢◌, ℕ, ◌+◌, ◌-◌, ◌*◌, ◌/◌, ◌<◌, ◌≤◌, ◌==◌, Bool, true, false, List, [], ◌∷◌, ◌++◌, get_or, length, refl, sym, ap, ◌∙◌, arith, inl, inr}
 use Rattle.std.proofs.Math.Seq.{get_or-append_seam}
 use Rattle.std.proofs.lemmas.Bool.{cases_lt, eqb-false, ne_eqb}
-use Rattle.std.proofs.lemmas.List.{append-nil, ext_get_or, get_or_append_left, get_or_past, length-append}
-use Rattle.o2_ne.specs.Steps.{tabulate}
+use Rattle.std.proofs.lemmas.List.{ext_get_or, get_or_append_left, get_or_past, length-append}
 use Rattle.o2_ne.proofs.Tabulated.{get_or-table, length-tabulate}
 use Rattle.o2_image.specs.Images.{Target}
 use Rattle.o2_image.specs.Marked.{IsThere, Packs, last_of, look, placed, unpacked_of}

@@ -1,5 +1,5 @@
 -- No shared index stands for two segments of linked modules: the libraries' segments lie one behind the other.
-use Rattle.std.proofs.Common.{◌≡◌, ◌≢◌, ◌⊎◌, inl, inr, ℕ, zero, suc, ◌+◌, ◌-◌, ◌≤◌, ◌<◌, ◌==◌, Bool, true, false, cond, List, [], ◌∷◌, length, get_or, Option, Some, None, ap, sym, ◌∙◌, refl, arith, subst}
+use Rattle.std.proofs.Common.{◌≡◌, ◌≢◌, ◌⊎◌, inl, inr, ℕ, zero, suc, ◌+◌, ◌-◌, ◌≤◌, ◌<◌, Bool, true, false, cond, List, [], ◌∷◌, length, get_or, Option, Some, None, ap, sym, ◌∙◌, refl, arith, subst}
 use Rattle.std.specs.Prelude.{slice_get, Ok}
 use Rattle.std.specs.List.{All}
 use Rattle.std.proofs.lemmas.Bool.{cases_lt}
@@ -16,7 +16,7 @@ use Rattle.o2_dynlink.proofs.Indexes.{nth_some}
 use Rattle.o2_world.specs.Starts.{Loaded, LoadedSegment, nth_loaded}
 use Rattle.o2_world.specs.FitStarts.{index_or_none, segment_index, ShareNoIndex}
 use Rattle.o2_world.proofs.Keeps.{some_is}
-use Rattle.o2_load.specs.Loads.{index_at, loaded_segments, no_module, loaded}
+use Rattle.o2_load.specs.Loads.{index_at, loaded_segments, loaded}
 use Rattle.o2_load.proofs.Fits.{loaded_of, IsLoaded, is_loaded, program_base, none_there, at_place, index_there, runnable_at, linked_modules}
 
 -- What is added to the numbers of a library's segments, and of those of one behind it.

@@ -1,7 +1,6 @@
 -- A name more, and a name that is held.
-use Rattle.std.proofs.Common.{◌≡◌, ◌≢◌, ℕ, ◌<◌, ◌≤◌, ◌+◌, ◌++◌, ◌==◌, Bool, true, false, List, [], ◌∷◌, Option, Some, None, if◌then◌else◌, ap, sym, ◌∙◌, refl, arith, subst}
+use Rattle.std.proofs.Common.{◌≡◌, ◌≢◌, ℕ, ◌≤◌, ◌+◌, ◌++◌, ◌==◌, Bool, true, false, List, [], ◌∷◌, Option, Some, None, if◌then◌else◌, ap, sym, ◌∙◌, refl, arith, subst}
 use Rattle.std.specs.Prelude.{Result, Ok, Err}
-use Rattle.std.specs.List.{All}
 use Rattle.std.specs.Result.{IsErr, IsErrAnd}
 use Rattle.o2_base.specs.declared.memory.Fail.{Fail}
 use Rattle.o2_base.specs.declared.memory.Fail.TheVariants.{NoMemory, Bad}
@@ -10,7 +9,7 @@ use Rattle.o2_base.specs.declared.faults.ModuleFault.TheVariants.{NoSegment}
 use Rattle.o2_base.specs.Selectors.{selector_of}
 use Rattle.o2_dynlink.specs.Outcome.{LinkedParts}
 use Rattle.o2_world.specs.declared.types.Made.{Made}
-use Rattle.o2_world.specs.Map.{Map, get}
+use Rattle.o2_world.specs.Map.{get}
 use Rattle.o2_world.specs.World.{Segment, Held}
 use Rattle.o2_world.specs.Opening.{held_by_load}
 use Rattle.o2_world.specs.Starts.{Built, Holding, segment_of, made_with, name_in, named, holds, holds_as, with_holding}

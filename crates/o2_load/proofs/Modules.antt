@@ -10,7 +10,7 @@ use Rattle.o2_ne_segs.specs.SegmentTable.{nth_segment}
 use Rattle.o2_image.specs.ImageList.{ImageList}
 use Rattle.o2_image.specs.Parts.{Parts}
 use Rattle.o2_world.proofs.Keeps.{some_is}
-use Rattle.o2_world.specs.Starts.{Built, Loaded, Holding, holding_of, module_holdings, library_holdings}
+use Rattle.o2_world.specs.Starts.{Loaded, Holding, holding_of, module_holdings, library_holdings}
 use Rattle.o2_load.specs.Holds.{Names, Stage, Adds, AddsAll}
 use Rattle.o2_load.specs.Loads.{loaded, loaded_segment, loaded_segments, loaded_module, segment_holding, segment_holdings, all_holdings}
 use Rattle.o2_load.proofs.Steps.{adds_then, adds_refused, adds_next, adds_next_refused}

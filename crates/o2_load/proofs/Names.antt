@@ -1,11 +1,9 @@
 -- The names that are made.
-use Rattle.std.proofs.Common.{◌≡◌, ◌≢◌, ℕ, zero, suc, length, get_or, ◌++◌, Bool, true, false, ◌<◌, ◌≤◌, ◌+◌, List, [], ◌∷◌, Option, Some, None, OnOk, IfSome, if◌then◌else◌, ◌==◌, ◌&&◌, ap, sym, ◌∙◌, refl, arith, subst}
+use Rattle.std.proofs.Common.{◌≡◌, ℕ, zero, suc, ◌++◌, Bool, true, false, ◌<◌, ◌≤◌, List, [], ◌∷◌, Option, Some, None, OnOk, IfSome, if◌then◌else◌, ◌==◌, ◌&&◌, ap, sym, ◌∙◌, arith}
 use Rattle.std.specs.Prelude.{Result, Ok, Err}
 use Rattle.std.specs.List.{All}
 use Rattle.o2_world.specs.declared.types.Made.{Made}
-use Rattle.o2_world.specs.Starts.{Built, Holding, made_with, name_in, holds, holds_as, with_holding}
-use Rattle.o2_load.specs.declared.starting_memory.Grip.{Grip}
-use Rattle.o2_load.specs.Holds.{gripped}
+use Rattle.o2_world.specs.Starts.{Built, Holding, made_with, name_in, holds_as, with_holding}
 
 pub on_ok : {X E : Type 0} (r : Result X E) (P Q : Type 0) → (P → Q) → OnOk r P → OnOk r Q
 on_ok (Ok x) P Q f p = f p

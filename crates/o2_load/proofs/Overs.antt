@@ -1,6 +1,6 @@
 -- The starts of linked modules are over these modules, and each segment has 1 to 65,536 bytes.
-use Rattle.std.proofs.Common.{◌≡◌, ℕ, zero, suc, ◌+◌, ◌-◌, ◌≤◌, ◌<◌, ◌==◌, Bool, true, false, cond, List, [], ◌∷◌, ◌++◌, length, replicate, if◌then◌else◌, Option, Some, None, ap, sym, ◌∙◌, refl, arith, subst, length-append, get_or}
-use Rattle.std.specs.Prelude.{slice_get, option_map, map, flat_map, not, ◌||◌, Result, Ok, Err}
+use Rattle.std.proofs.Common.{◌≡◌, ℕ, suc, ◌+◌, ◌-◌, ◌≤◌, ◌<◌, ◌==◌, Bool, true, false, cond, List, [], ◌∷◌, ◌++◌, length, replicate, if◌then◌else◌, Option, Some, None, ap, sym, ◌∙◌, refl, arith, subst, length-append, get_or}
+use Rattle.std.specs.Prelude.{slice_get, option_map, map, not, ◌||◌, Ok}
 use Rattle.std.specs.List.{All, AllByRecursion}
 use Rattle.std.proofs.lemmas.List.Elements.{All-cons, All-nil, All-head, All-tail}
 use Rattle.o2_conf.specs.declared.conf.Conf.{Conf}
@@ -8,21 +8,18 @@ use Rattle.o2_conf.specs.declared.process.Process.{Process}
 use Rattle.o2_conf.specs.Environments.{environment_bytes}
 use Rattle.o2_conf.specs.Limits.{HasEnvironment}
 use Rattle.o2_isa.specs.View.{is_writable}
-use Rattle.o2_ne.proofs.Tabulated.{length-tabulate}
 use Rattle.o2_ne_segs.specs.declared.segment.Segment.{Segment}
 use Rattle.o2_ne_segs.specs.SegmentTable.{nth_segment, AllSized, HasSize}
 use Rattle.o2_image.specs.Getters.{nth, nth_list}
-use Rattle.o2_image.specs.Images.{Target, image, image_in, segment_image}
-use Rattle.o2_image.specs.ImageList.{ImageList, Resolution, image_front, module_front}
+use Rattle.o2_image.specs.ImageList.{ImageList, image_front}
 use Rattle.o2_image.specs.Parts.{Parts}
 use Rattle.o2_image.specs.Whole.{IsRunnable}
-use Rattle.o2_dynlink.specs.Linking.{linked_of, outcome}
+use Rattle.o2_dynlink.specs.Linking.{linked_of}
 use Rattle.o2_dynlink.specs.Outcome.{LinkedParts, modules_of}
-use Rattle.o2_dynlink.proofs.Indexes.{nth_some}
-use Rattle.o2_world.specs.Starts.{Loaded, LoadedSegment, Start, Holding, holding_of, module_holdings, environment_holding, library_holdings, holdings, loaded_bytes, nth_loaded}
-use Rattle.o2_world.specs.FitStarts.{segment_at, rights_or_none, rights_at, index_or_none, common_or_none, IsWhole, IsOf, AreOf}
+use Rattle.o2_world.specs.Starts.{Loaded, Holding, holding_of, module_holdings, library_holdings, loaded_bytes, nth_loaded}
+use Rattle.o2_world.specs.FitStarts.{segment_at, rights_or_none, index_or_none, common_or_none, IsWhole, IsOf, AreOf}
 use Rattle.o2_world.proofs.TiedChanges.{zeros_length}
-use Rattle.o2_load.specs.Loads.{rights_of, is_shared, room_at, loaded_segment, loaded_segments, loaded_module, no_module, loaded, program_place, start_of, starts_of}
+use Rattle.o2_load.specs.Loads.{rights_of, is_shared, room_at, loaded_segment, loaded_segments, loaded_module, loaded, program_place, start_of, starts_of}
 use Rattle.o2_load.proofs.Fits.{loaded_of, at_place, loaded_length, runnable_at, linked_modules}
 use Rattle.o2_load.proofs.Images.{first_bytes_are, room_behind_fits, in_list, get_in}
 use Rattle.o2_load.proofs.Sizes.{bytes_length, bytes_size}

@@ -1,13 +1,13 @@
 -- Steps of a start, one behind the other, to their end or to a refusal.
-use Rattle.std.proofs.Common.{◌≡◌, ℕ, zero, suc, ◌≤◌, ◌<◌, ◌+◌, List, [], ◌∷◌, ◌++◌, length, take, drop, get_or, Option, Some, None, if◌then◌else◌, Bool, true, false, refl, sym, ◌∙◌, ap, arith, subst, append_assoc}
-use Rattle.std.specs.Prelude.{Result, Ok, Err, fold}
+use Rattle.std.proofs.Common.{◌≡◌, ℕ, zero, suc, ◌≤◌, ◌<◌, ◌+◌, List, [], ◌∷◌, ◌++◌, length, take, drop, get_or, Option, Some, None, if◌then◌else◌, refl, sym, ◌∙◌, ap, arith, subst}
+use Rattle.std.specs.Prelude.{Result, Ok, Err}
 use Rattle.std.specs.Result.{IsErr, IsErrAnd}
 use Rattle.std.proofs.lemmas.List.Sums.{fold-append}
 use Rattle.o2_base.specs.declared.memory.Fail.{Fail}
 use Rattle.o2_base.specs.declared.memory.Fail.TheVariants.{NoMemory, Bad}
 use Rattle.o2_base.specs.declared.faults.ModuleFault.{ModuleFault}
 use Rattle.o2_world.specs.Starts.{Built, Holding, name_in, holds_as, with_holding, with_holdings}
-use Rattle.o2_load.specs.Holds.{Names, Stage, IsHolding, IsOver, ComesTo, Adds, AddsAll}
+use Rattle.o2_load.specs.Holds.{Names, Stage, IsOver, ComesTo, Adds, AddsAll}
 
 -- no step has fewer names
 next_as : (b : Built) (h : Holding) (o : Option ℕ) → b.next_name ≤ (holds_as b h o).next_name

@@ -1,8 +1,8 @@
 -- A process may hold the index of each segment of its program and of its libraries.
-use Rattle.std.proofs.Common.{◌≡◌, ℕ, ◌+◌, ◌-◌, ◌<◌, ◌≤◌, Bool, true, false, List, Option, Some, None, ap, sym, ◌∙◌, refl, arith, subst}
+use Rattle.std.proofs.Common.{◌≡◌, ℕ, ◌+◌, ◌-◌, Bool, true, false, List, Option, Some, ap, sym, refl, arith, subst}
 use Rattle.std.specs.Prelude.{option_map, unwrap_or}
 use Rattle.o2_image.specs.Getters.{is_library, nth}
-use Rattle.o2_image.specs.ImageList.{ImageList, Resolution, Exists}
+use Rattle.o2_image.specs.ImageList.{Resolution, Exists}
 use Rattle.o2_image.specs.Parts.{Parts}
 use Rattle.o2_image.specs.Whole.{IsRunnable}
 use Rattle.o2_dynlink.specs.Outcome.{LinkedParts, modules_of}

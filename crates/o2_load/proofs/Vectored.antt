@@ -1,15 +1,13 @@
 -- Processes that have started over byte vectors.
-use Rattle.std.proofs.Common.{◌≡◌, ℕ, ◌+◌, true, List, [], length, map, Option, Some, None, ap, sym, ◌∙◌, refl, subst, arith}
+use Rattle.std.proofs.Common.{◌≡◌, ℕ, ◌+◌, length, map, Option, Some, None, ap, sym, ◌∙◌, refl, subst}
 use Rattle.std.proofs.lemmas.List.{length-map}
-use Rattle.std.specs.Prelude.{slice_get, option_map, Result, Ok, Err}
-use Rattle.o2_base.specs.declared.memory.Fail.{Fail}
-use Rattle.o2_base.specs.declared.faults.ModuleFault.{ModuleFault}
+use Rattle.std.specs.Prelude.{slice_get, option_map}
 use Rattle.o2_isa.specs.declared.cpu.Cpu.{Cpu}
 use Rattle.o2_isa.specs.View.{Hold}
 use Rattle.o2_bus.specs.Plain.{held_in, bytes_in, shown_in, count_in}
 use Rattle.o2_bus.specs.declared.plain.Plain.{Plain}
 use Rattle.o2_dynlink.specs.Outcome.{LinkedParts}
-use Rattle.o2_world.specs.World.{Process, Held}
+use Rattle.o2_world.specs.World.{Process}
 use Rattle.o2_world.specs.Views.{hold_of, segment_bytes}
 use Rattle.o2_world.specs.Starts.{Built}
 use Rattle.o2_load.specs.declared.begun.Begun.{Begun}

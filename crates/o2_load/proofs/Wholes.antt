@@ -18,10 +18,10 @@ use Rattle.o2_image.specs.ImageList.{ImageList, Resolution, image_front, module_
 use Rattle.o2_image.specs.Images.{Target, image_in}
 use Rattle.o2_image.specs.Parts.{Parts}
 use Rattle.o2_dynlink.specs.Outcome.{LinkedParts}
-use Rattle.o2_world.specs.Starts.{Built, Loaded, LoadedSegment, Holding, Start, holdings, module_holdings, library_holdings, with_holding, with_holdings, nth_loaded, is_stack, is_entry, start_check, first_cpu, image_size, cpu_by, started_as, within_names, where_checked, with_started}
+use Rattle.o2_world.specs.Starts.{Built, Loaded, LoadedSegment, Holding, Start, holdings, module_holdings, library_holdings, with_holdings, nth_loaded, is_stack, is_entry, start_check, first_cpu, image_size, cpu_by, started_as, within_names, where_checked, with_started}
 use Rattle.o2_base.specs.declared.memory.Fail.{Fail}
 use Rattle.o2_load.specs.Holds.{Names, Stage, IsHolding, IsOver, ComesTo, Adds, AddsAll}
-use Rattle.o2_load.specs.Started.{HasStarted, StartsAs}
+use Rattle.o2_load.specs.Started.{StartsAs}
 use Rattle.o2_load.proofs.Steps.{adds_then, adds_refused}
 use Rattle.o2_load.specs.Loads.{loaded, loaded_at, loaded_module, loaded_segment, loaded_segments, segment_holdings, environment_of, start_of, program_place, is_stack_segment, is_entry_segment, stack_of, parts_check, parts_cpu, size_in, rights_of}
 

@@ -1,5 +1,5 @@
 -- A memory of byte vectors in which processes start.
-use Rattle.std.specs.Prelude.{◌≡◌, ℕ, ◌<◌, true, [], length, Option, option_map}
+use Rattle.std.specs.Prelude.{◌≡◌, ℕ, ◌<◌, true, [], length, option_map}
 use Rattle.o2_isa.specs.View.{Hold}
 use Rattle.o2_bus.specs.Plain.{held_in, bytes_in, shown_in, count_in}
 use Rattle.o2_world.specs.World.{Held}

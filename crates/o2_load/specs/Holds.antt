@@ -1,5 +1,5 @@
 -- What a memory and the lists beside it hold of a start.
-use Rattle.std.specs.Prelude.{◌≡◌, ◌≢◌, true, ℕ, ◌<◌, ◌≤◌, ◌++◌, All, List, length, replicate, Option, Some, None, Result, Ok, Err, if◌then◌else◌, ◌==◌}
+use Rattle.std.specs.Prelude.{◌≡◌, true, ℕ, ◌<◌, ◌≤◌, ◌++◌, All, List, replicate, Option, Some, None, Result, Ok, Err, if◌then◌else◌, ◌==◌}
 use Rattle.o2_base.specs.declared.memory.Fail.{Fail}
 use Rattle.o2_base.specs.declared.memory.Fail.TheVariants.{NoMemory, Bad}
 use Rattle.o2_base.specs.declared.faults.ModuleFault.{ModuleFault}

@@ -14,8 +14,8 @@ use Rattle.o2_store.specs.Shelf.{Shelf, AreClean, IsMoved, IsShelf, KeepsAll, Pi
 use Rattle.o2_swapmap.specs.Piles.{all_of}
 use Rattle.o2_store.proofs.Keeping.{keeps_trans, same_entry}
 use Rattle.o2_store.proofs.Loads.{out_load}
-use Rattle.o2_service.specs.Told.{AreToldBefore, AreToldBut, Follows, IsHeldWell, OnlyTables}
-use Rattle.o2_service.proofs.Placing.{held_only, held_same, only_refl, only_trans, told_all, told_still}
+use Rattle.o2_service.specs.Told.{AreToldBefore, AreToldBut, Follows, IsHeldWell}
+use Rattle.o2_service.proofs.Placing.{only_refl, only_trans, told_all, told_still}
 
 -- the clock's marks and the numbers of a call don't matter
 pub keeps_chosen : (told : Bool) (pic : Pictures) (s t u : Shelf) (a b : ℕ → List ℕ) → t ≡ record s { turns = t.turns; keys = t.keys } → KeepsAll told pic t a u b → KeepsAll told pic s a u b

@@ -1,6 +1,5 @@
 -- Maps in which nothing is held.
-use Rattle.std.proofs.Common.{◌≡◌, ℕ, zero, suc, ◌∙◌, sym, ap, subst, refl, List, [], ◌∷◌, Option, Some, None, get_or, replicate}
-use Rattle.o2_desc.specs.declared.descriptor.Descriptor.{Descriptor}
+use Rattle.std.proofs.Common.{◌≡◌, ℕ, zero, suc, ◌∙◌, sym, ap, subst, refl, [], ◌∷◌, Option, Some, None, get_or, replicate}
 use Rattle.o2_desc.specs.Bytes.{empty}
 use Rattle.o2_regions.specs.declared.held.Held.{Held}
 use Rattle.o2_regions.specs.Maps.{Maps, held_at, nothing}

@@ -8,7 +8,7 @@ use Rattle.o2_conf.proofs.Choice.{chosen_lives}
 use Rattle.o2_image.specs.ImageList.{ImageList}
 use Rattle.o2_isa.specs.declared.cpu.Cpu.{Cpu}
 use Rattle.o2_isa.specs.Presence.{is_in}
-use Rattle.o2_isa.specs.View.{Hold, bound_registers}
+use Rattle.o2_isa.specs.View.{bound_registers}
 use Rattle.o2_segbus.specs.Seen.{hold_in, present_in}
 use Rattle.o2_store.specs.Pictures.{picture}
 use Rattle.o2_world.specs.declared.types.State.TheVariants.{Live}
@@ -30,7 +30,6 @@ use Rattle.o2_stands.specs.Parts.{Parts, Running, running_of}
 use Rattle.o2_stands.specs.Stands.{AreLawful, IsReady, IsSetTo, Stands, StandsIn}
 use Rattle.o2_stands.specs.Moves.{with_running}
 use Rattle.o2_stands.proofs.Running.{goes_on_stands}
-use Rattle.o2_stepping.specs.Nexts.{IsNext}
 use Rattle.o2_stepping.specs.Ran.{IsDone}
 use Rattle.o2_stepping.specs.Rooms.{all_names, room_in}
 use Rattle.o2_stepping.specs.Shapes.{SameShape}

@@ -1,5 +1,5 @@
 -- Steps that are done at once, from the view of a bus to store and tables.
-use Rattle.std.proofs.Common.{◌≡◌, ℕ, ◌≤◌, length, zero, suc, ◌+◌, Bool, true, false, List, Option, Some, ap, sym, ◌∙◌, refl, subst, arith}
+use Rattle.std.proofs.Common.{◌≡◌, ℕ, ◌≤◌, length, suc, ◌+◌, true, false, List, Option, Some, ap, sym, ◌∙◌, refl, subst, arith}
 use Rattle.std.specs.Prelude.{Result, Ok}
 use Rattle.o2_outer.proofs.TextLemmas.{gains_none}
 use Rattle.o2_isa.specs.declared.cpu.Cpu.{Cpu}
@@ -16,7 +16,7 @@ use Rattle.o2_store.specs.Shelf.{Shelf, place_of}
 use Rattle.o2_segbus.specs.declared.seg_bus.SegBus.{SegBus}
 use Rattle.o2_segbus.specs.Bus.{bus_view, registers_of}
 use Rattle.o2_segbus.specs.Calls.{LeavesBus, view_of}
-use Rattle.o2_segbus.specs.Frames.{CanStep, KeepsMaps}
+use Rattle.o2_segbus.specs.Frames.{CanStep}
 use Rattle.o2_segbus.specs.Seen.{bytes_in, hold_in, present_in, seen, seen_with, size_in}
 use Rattle.o2_segbus.proofs.Attempts.{still}
 use Rattle.o2_segbus.proofs.Called.{held_data, leaves}

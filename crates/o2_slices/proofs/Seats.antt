@@ -5,7 +5,6 @@ use mathlib.Core.Path.{fun_ext}
 use Rattle.o2_image.specs.ImageList.{ImageList}
 use Rattle.o2_regions.specs.Lives.{lives}
 use Rattle.o2_store.specs.Pictures.{picture}
-use Rattle.o2_world.specs.World.{is_live}
 use Rattle.o2_world.specs.declared.types.State.{State}
 use Rattle.o2_world.specs.declared.types.State.TheVariants.{Live}
 use Rattle.o2_world.proofs.Flags.{live_is}

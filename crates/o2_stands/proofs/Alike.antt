@@ -1,5 +1,5 @@
 -- A machine that matches a world matches one that is bare the same, with what a step wrote and with its registers.
-use Rattle.std.proofs.Common.{◌≡◌, ℕ, ◌==◌, ◌||◌, Bool, true, false, List, Option, Some, None, is_some, if◌then◌else◌, refl, sym, ap, ◌∙◌, subst, option_map}
+use Rattle.std.proofs.Common.{◌≡◌, ℕ, ◌==◌, ◌||◌, Bool, List, Option, Some, None, is_some, if◌then◌else◌, refl, sym, ap, ◌∙◌, subst, option_map}
 use Rattle.std.specs.List.{list_any}
 use Rattle.o2_regions.specs.Maps.{Maps}
 use Rattle.o2_segbus.specs.Bus.{AreInside}
@@ -12,10 +12,10 @@ use Rattle.o2_world.specs.Holders.{process_at}
 use Rattle.o2_world.specs.Known.{held_at, holds_index, reserves}
 use Rattle.o2_world.specs.Sound.{held_of}
 use Rattle.o2_world.specs.Views.{bytes_in, segment_bytes, with_bytes}
-use Rattle.o2_world.specs.Bare.{Bare, bare, bare_names, held_maps}
+use Rattle.o2_world.specs.Bare.{Bare, bare, held_maps}
 use Rattle.o2_world.proofs.BareChanges.{any_map, map_at, map_of, stripped}
 use Rattle.o2_world.proofs.MapLemmas.{get-map}
-use Rattle.o2_stands.specs.Parts.{Parts, Running, running_of}
+use Rattle.o2_stands.specs.Parts.{Parts, Running}
 use Rattle.o2_stands.specs.Stands.{IsNamed, IsReady, Matches, number_of, taken_by}
 use Rattle.o2_stands.specs.Moves.{AreWritten, RunsAs, stepped_to, with_running}
 use Rattle.o2_stands.proofs.Moves.{in_same, index_same, step_same, taken_same, written_at}

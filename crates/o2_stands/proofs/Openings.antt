@@ -1,22 +1,20 @@
 -- The world before the first step is tidy.
-use Rattle.std.proofs.Common.{◌≡◌, ℕ, ◌+◌, ◌-◌, ◌<◌, ◌≤◌, Bool, true, false, cond, ◌&&◌, ◌==◌, List, [], ◌∷◌, length, map, Option, Some, None, is_some, refl, sym, ap, ◌∙◌, subst, arith}
-use Rattle.std.specs.Prelude.{fold, Result, Ok, Err, slice_get}
+use Rattle.std.proofs.Common.{◌≡◌, ℕ, ◌+◌, ◌-◌, ◌<◌, ◌≤◌, Bool, true, false, cond, ◌==◌, List, [], ◌∷◌, length, map, Option, Some, None, is_some, refl, sym, ap, ◌∙◌, subst, arith}
+use Rattle.std.specs.Prelude.{Ok}
 use Rattle.std.specs.List.{list_any}
 use Rattle.std.proofs.lemmas.Bool.{false≢true}
-use Rattle.o2_base.specs.declared.faults.ModuleFault.{ModuleFault}
 use Rattle.o2_conf.specs.declared.script.Word.{Word}
 use Rattle.o2_world.specs.Holders.{process_at}
 use Rattle.o2_world.specs.Known.{held_at, is_for_the_run, lives_at}
 use Rattle.o2_world.specs.Map.{Map, get}
 use Rattle.o2_world.specs.Opening.{held_by_load}
 use Rattle.o2_world.specs.Sound.{held_in, held_of}
-use Rattle.o2_world.specs.Starts.{Built, Holding, Start, all_started, for_the_run, holdings, holds_as, name_in, nothing_built, opening_of, segment_of, with_holding, with_holdings, with_started}
+use Rattle.o2_world.specs.Starts.{Built, Holding, Start, all_started, for_the_run, holdings, holds_as, name_in, nothing_built, opening_of, segment_of, with_holding, with_holdings}
 use Rattle.o2_world.specs.Tied.{IsSound}
-use Rattle.o2_world.specs.World.{ByLoad, Held, Process, Segment, Setting, World, is_live}
+use Rattle.o2_world.specs.World.{ByLoad, Held, Process, Setting, World}
 use Rattle.o2_world.proofs.Numbers.{at_place_of}
 use Rattle.o2_world.proofs.OpeningSound.{Keeps, SoFar, all_so_far, behind, either_of, opened}
 use Rattle.o2_world.proofs.Openings.{opening_reserves}
-use Rattle.o2_world.specs.Holders.{is_held}
 use Rattle.o2_stands.specs.Stands.{AllStay, AreOnce, IsTidy, is_by_load}
 use Rattle.o2_stands.proofs.Worlds.{to_place}
 

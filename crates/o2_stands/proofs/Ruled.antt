@@ -1,6 +1,6 @@
 -- A call on segments comes to the same by what is known of a machine as by what is known of its world.
 use mathlib.Core.Path.{fun_ext}
-use Rattle.std.proofs.Common.{◌≡◌, ◌⊎◌, inl, inr, ℕ, ◌+◌, ◌<◌, ◌≤◌, ◌==◌, ◌/◌, ◌%◌, ◌||◌, not, nat_le, nat_lt, Bool, true, false, List, Option, Some, None, if◌then◌else◌, ap, sym, ◌∙◌, refl, arith, subst}
+use Rattle.std.proofs.Common.{◌≡◌, ◌⊎◌, inl, inr, ℕ, ◌<◌, ◌≤◌, ◌==◌, ◌/◌, ◌%◌, ◌||◌, not, nat_le, nat_lt, Bool, true, false, List, Option, Some, None, if◌then◌else◌, ap, sym, ◌∙◌, refl, arith, subst}
 use Rattle.o2_desc.specs.Bits.{is_writable}
 use Rattle.o2_desc.specs.Choice.{IsChosen, IsRun, chosen}
 use Rattle.o2_desc.proofs.Choices.{chosen_law, one_choice}
@@ -9,7 +9,7 @@ use Rattle.o2_regions.specs.declared.held.Region.TheVariants.{Private, Shared}
 use Rattle.o2_regions.specs.Maps.{Maps, IsProcess}
 use Rattle.o2_world.specs.World.{Held}
 use Rattle.o2_world.specs.Known.{Known, Marks}
-use Rattle.o2_world.specs.Rulings.{Ruling, aliasing, aliasing_at, aliasing_of, allocation, allocation_at, free_index, freeing, freeing_cpu, held_under, is_in_run, locking, reallocation, refusal, region_by, sizing, unlocking}
+use Rattle.o2_world.specs.Rulings.{aliasing, aliasing_at, aliasing_of, allocation, allocation_at, free_index, freeing, freeing_cpu, held_under, is_in_run, locking, reallocation, refusal, region_by, sizing, unlocking}
 use Rattle.o2_stands.specs.Knows.{KnowsAs}
 
 -- The index that is chosen goes by the indexes of its region alone.

@@ -1,18 +1,17 @@
 -- Each step keeps a world tidy.
-use Rattle.std.proofs.Common.{◌≡◌, ℕ, ◌<◌, ◌≤◌, Bool, true, false, ◌||◌, ◌==◌, List, [], ◌∷◌, ◌++◌, map, Option, Some, None, if◌then◌else◌, is_some, ap, sym, ◌∙◌, refl, subst}
+use Rattle.std.proofs.Common.{◌≡◌, ℕ, ◌≤◌, Bool, true, false, ◌||◌, List, [], ◌∷◌, ◌++◌, map, Option, Some, if◌then◌else◌, ap, sym, ◌∙◌, refl, subst}
 use Rattle.std.specs.List.{list_any}
 use Rattle.o2_conf.specs.Dispatch.{Dispatch}
 use Rattle.o2_isa.specs.declared.cpu.Cpu.{Cpu}
 use Rattle.o2_world.specs.declared.types.State.TheVariants.{Live}
-use Rattle.o2_world.specs.World.{World, Setting, Process, Segment, Reserve, is_live}
-use Rattle.o2_world.specs.Holders.{process_at, with_process}
+use Rattle.o2_world.specs.World.{World, Setting, Process, Reserve, is_live}
+use Rattle.o2_world.specs.Holders.{process_at}
 use Rattle.o2_world.specs.Changes.{Change, Drops, Finishes, with_change, with_changes}
-use Rattle.o2_world.specs.Known.{holds_index, reserves, taken_in}
-use Rattle.o2_world.specs.CallParts.{Before, Effect}
+use Rattle.o2_world.specs.Known.{holds_index, reserves}
+use Rattle.o2_world.specs.CallParts.{Effect}
 use Rattle.o2_world.specs.Effect.{effect}
 use Rattle.o2_world.specs.Run.{acted, all_changes, before, changed, chosen_step, is_over, next_dispatch, step, worked, working}
-use Rattle.o2_world.specs.Sound.{HasGoodRegisters}
-use Rattle.o2_world.specs.Tied.{AreFitChanges, IsSound}
+use Rattle.o2_world.specs.Tied.{IsSound}
 use Rattle.o2_world.specs.Moves.{IsFreeIndex, Moves, NoneMoves, OneAliased, OneLocked, OneMade, OneSized, SomeFreed}
 use Rattle.o2_world.proofs.StepMoves.{effect_moves}
 use Rattle.o2_world.proofs.StepSound.{all_fit, next_process, step_sound, worked_is_tied}

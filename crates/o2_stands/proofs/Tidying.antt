@@ -3,7 +3,7 @@ use Rattle.std.proofs.Common.{◌≡◌, ◌⊎◌, inl, inr, ℕ, ◌+◌, ◌-
 use Rattle.std.specs.Prelude.{filter, option_map, nat_lt, slice_get, ◌==◌}
 use Rattle.std.specs.List.{list_any}
 use Rattle.std.proofs.lemmas.Bool.{false≢true}
-use Rattle.o2_world.specs.Changes.{Change, Drops, Finishes, Frees, Holds, Locks, Makes, Marks, Names, Reserves, Resizes, at_number, at_place, fewer, fewer_of, is_used, more, swept, takes, used, with_all, with_change, with_changes}
+use Rattle.o2_world.specs.Changes.{Change, Drops, Finishes, Frees, Holds, Locks, Makes, Marks, Names, Reserves, Resizes, at_number, at_place, fewer, is_used, more, swept, takes, used, with_all, with_change, with_changes}
 use Rattle.o2_world.specs.Holders.{process_at}
 use Rattle.o2_world.specs.Known.{held_at, lives_at}
 use Rattle.o2_world.specs.Map.{Map, get, put}

@@ -1,5 +1,5 @@
 -- A store whose last segment is gone as if it had never been made.
-use Rattle.std.proofs.Common.{◌≡◌, ℕ, ◌+◌, ◌-◌, ◌<◌, IsSome, length, arith}
+use Rattle.std.proofs.Common.{ℕ, ◌+◌, ◌-◌, ◌<◌, IsSome, length, arith}
 use Rattle.o2_entries.specs.Tables.{slot_at}
 use Rattle.o2_place.specs.Marks.{mark_of}
 use Rattle.o2_swapmap.specs.Piles.{blocks_of}

@@ -1,4 +1,4 @@
-use Rattle.std.proofs.Common.{◌≡◌, ℕ, ◌+◌, ◌-◌, ap, arith, sym, subst, ◌∙◌}
+use Rattle.std.proofs.Common.{◌≡◌, ℕ, ◌-◌, ap, arith, sym, subst, ◌∙◌}
 use Rattle.o2_store.specs.Pictures.{HasPicture}
 use Rattle.o2_store.specs.Shelf.{Shelf, AreClean, HasAll, Removes}
 use Rattle.o2_swapmap.specs.Piles.{all_of}

@@ -1,6 +1,5 @@
 use Rattle.std.proofs.Common.{◌≤◌, ◌<◌, arith, length}
 use Rattle.std.proofs.lemmas.Result.{err_from_is_err_and}
-use Rattle.o2_dynlink.specs.Imports.{on_list, target_in}
 use Rattle.o2_dynlink.proofs.Passing.{all_pass, none_yet, one_more, stops}
 use Rattle.o2_dynlink.proofs.gathering.check_in.Goals as goal
 

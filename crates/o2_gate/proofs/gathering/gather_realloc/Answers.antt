@@ -1,4 +1,3 @@
-use Rattle.std.proofs.Common.{refl}
 use Rattle.o2_isa.specs.declared.cpu.Cpu.{Cpu}
 use Rattle.o2_isa.specs.View.{View}
 use Rattle.o2_world.specs.declared.types.SegmentCall.TheVariants.{DosReallocSeg}

@@ -1,4 +1,4 @@
-use Rattle.std.proofs.Common.{Some, true, false, sym, subst}
+use Rattle.std.proofs.Common.{Some, false, sym, subst}
 use Rattle.o2_isa.specs.View.{View}
 use Rattle.o2_world.specs.Calls.{Effect, argument, has_arguments, transfer_of}
 use Rattle.o2_gate.specs.Befores.{boundless, before_call}

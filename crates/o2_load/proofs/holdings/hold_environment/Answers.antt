@@ -1,4 +1,4 @@
-use Rattle.std.proofs.Common.{ap, ◌∙◌, sym, subst, refl, ℕ, ◌+◌, false}
+use Rattle.std.proofs.Common.{subst, refl, ◌+◌, false}
 use Rattle.o2_desc.specs.Bits.{writable_data}
 use Rattle.o2_image.specs.Getters.{nth_list}
 use Rattle.o2_image.specs.ImageList.{ImageList}

@@ -1,5 +1,5 @@
-use Rattle.std.proofs.Common.{◌≡◌, ◌∙◌, ◌+◌, ℕ, arith, subst, refl, get_or, Some}
-use Rattle.std.specs.Prelude.{Ok, Err}
+use Rattle.std.proofs.Common.{arith, refl, get_or}
+use Rattle.std.specs.Prelude.{Ok}
 use Rattle.o2_load.specs.Holds.{stage}
 use Rattle.o2_load.proofs.Held.{others_on}
 use Rattle.o2_load.proofs.Modules.{held_at, libraries_next, libraries_refused, libraries_all}

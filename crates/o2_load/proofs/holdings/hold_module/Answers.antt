@@ -1,8 +1,8 @@
-use Rattle.std.proofs.Common.{◌≡◌, ◌∙◌, sym, ap, subst, List}
+use Rattle.std.proofs.Common.{◌≡◌, ◌∙◌, sym, ap, subst}
 use Rattle.std.specs.Prelude.{option_map}
 use Rattle.o2_image.specs.Getters.{nth}
 use Rattle.o2_image.specs.ImageList.{ImageList, Resolution}
-use Rattle.o2_world.specs.Starts.{Loaded, Holding}
+use Rattle.o2_world.specs.Starts.{Loaded}
 use Rattle.o2_load.specs.Holds.{AddsAll, stage}
 use Rattle.o2_load.specs.Loads.{loaded, loaded_module, all_holdings}
 use Rattle.o2_load.proofs.Wholes.{loaded_by}

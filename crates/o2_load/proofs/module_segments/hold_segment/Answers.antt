@@ -1,4 +1,4 @@
-use Rattle.std.proofs.Common.{ap, ◌∙◌, sym, subst, refl, ℕ, ◌≡◌, ◌++◌, true, replicate, List, Some}
+use Rattle.std.proofs.Common.{ap, ◌∙◌, sym, subst, ℕ, ◌≡◌, ◌++◌, true, replicate}
 use Rattle.std.specs.Prelude.{Ok}
 use Rattle.o2_ne_segs.specs.declared.segment.Segment.{Segment}
 use Rattle.o2_image.specs.ImageList.{ImageList, HasImage, image_front}

@@ -1,8 +1,6 @@
-use Rattle.std.proofs.Common.{◌≡◌, ℕ, List, length, refl, sym, ◌∙◌, ap, subst}
+use Rattle.std.proofs.Common.{ℕ, length, refl, sym, subst}
 use Rattle.std.specs.Prelude.{map, Ok, Err}
-use Rattle.o2_image.specs.Getters.{nth_list, list_or_none}
-use Rattle.o2_image.specs.ImageList.{ImageList}
-use Rattle.o2_conf.specs.Environments.{environment_bytes}
+use Rattle.o2_image.specs.Getters.{nth_list}
 use Rattle.o2_world.specs.Starts.{library_holdings, holdings}
 use Rattle.o2_load.specs.Holds.{Adds, stage}
 use Rattle.o2_load.specs.Loads.{loaded, segment_holdings, environment_of, start_of}

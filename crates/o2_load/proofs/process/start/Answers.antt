@@ -1,4 +1,4 @@
-use Rattle.std.proofs.Common.{sym, ◌∙◌, ap, ◌≡◌}
+use Rattle.std.proofs.Common.{sym, ◌∙◌, ap}
 use Rattle.std.specs.Prelude.{option_map, unwrap_or}
 use Rattle.o2_image.specs.Getters.{nth}
 use Rattle.o2_image.specs.ImageList.{ImageList, Resolution}

@@ -1,4 +1,4 @@
-use Rattle.std.proofs.Common.{◌+◌, ℕ, List, [], drop, ap, ◌∙◌, subst, sym, arith, length, refl}
+use Rattle.std.proofs.Common.{◌+◌, ℕ, List, drop, ap, ◌∙◌, subst, sym, arith, length, refl}
 use Rattle.std.specs.Prelude.{map}
 use Rattle.o2_conf.specs.declared.process.Process.{Process}
 use Rattle.o2_world.specs.declared.types.Made.{Made}

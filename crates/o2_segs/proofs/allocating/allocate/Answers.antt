@@ -1,10 +1,8 @@
-use Rattle.std.proofs.Common.{arith, ℕ, Some, ap, refl, sym, subst, ◌∙◌}
+use Rattle.std.proofs.Common.{arith, Some, ap, refl, sym, ◌∙◌}
 use Rattle.o2_regions.specs.Maps.{region_of}
-use Rattle.o2_store.specs.Shelf.{Shelf}
 use Rattle.o2_store.proofs.Loads.{added_load}
 use Rattle.o2_changes.specs.Worlds.{new_segment}
 use Rattle.o2_changes.proofs.KeepingHolds.{holds_trans, told_holds}
-use Rattle.o2_stands.specs.Stands.{Matches}
 use Rattle.o2_world.specs.Changes.{Makes, with_change}
 use Rattle.o2_stands.specs.Knows.{known_in}
 use Rattle.o2_stands.specs.Moves.{moved}

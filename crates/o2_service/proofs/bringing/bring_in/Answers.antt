@@ -1,7 +1,7 @@
-use Rattle.std.proofs.Common.{◌≡◌, ◌∙◌, ap, is_some, inl, inr, ℕ, None, Bool, rules, subst, sym, arith}
+use Rattle.std.proofs.Common.{◌≡◌, ◌∙◌, ap, is_some, inl, inr, ℕ, None, rules, subst, sym, arith}
 use Rattle.std.proofs.lemmas.Bool.{cases_eq, false≢true}
 use Rattle.o2_store.specs.Pictures.{picture}
-use Rattle.o2_store.specs.Shelf.{AreClean, KeepsAll, SameTables, place_of}
+use Rattle.o2_store.specs.Shelf.{KeepsAll, SameTables, place_of}
 use Rattle.o2_store.proofs.Keeping.{keeps_trans, tables_trans, keeps_later}
 use Rattle.o2_service.proofs.Among.{live_same}
 use Rattle.o2_service.proofs.Movings.{follows_trans, not_there}

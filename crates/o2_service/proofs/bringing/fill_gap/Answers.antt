@@ -1,4 +1,3 @@
-use Rattle.std.proofs.Common.{◌∙◌}
 use Rattle.o2_service.proofs.Among.{live_same}
 use Rattle.o2_service.proofs.Movings.{told_but}
 use Rattle.o2_service.proofs.Placing.{held_same}

@@ -1,5 +1,4 @@
-use Rattle.std.proofs.Common.{◌∙◌, Bool, refl, subst, arith, rules}
-use Rattle.o2_store.specs.Shelf.{KeepsAll}
+use Rattle.std.proofs.Common.{◌∙◌, refl, arith, rules}
 use Rattle.o2_store.proofs.Keeping.{keeps_refl, keeps_trans, same_tables, tables_trans, keeps_later}
 use Rattle.o2_store.proofs.Choosing.{same_named, same_wanted}
 use Rattle.o2_service.proofs.Among.{live_same, loads_after}

@@ -1,7 +1,7 @@
-use Rattle.std.proofs.Common.{◌≡◌, ℕ, ◌-◌, ◌==◌, List, [], Option, Some, ap, sym, ◌∙◌, refl, subst, arith, if◌then◌else◌}
+use Rattle.std.proofs.Common.{ℕ, [], Option, sym, refl, subst, arith}
 use Rattle.o2_world.specs.declared.types.State.TheVariants.{Live}
 use Rattle.o2_stands.specs.Parts.{Running}
-use Rattle.o2_stands.specs.Stands.{Stands, IsSetTo}
+use Rattle.o2_stands.specs.Stands.{Stands}
 use Rattle.o2_slices.specs.Slices.{Seat, seat}
 use Rattle.o2_space.specs.declared.space.Proc.{Proc}
 use Rattle.o2_slices.specs.Laters.{StandsLater}

@@ -1,5 +1,5 @@
-use Rattle.std.proofs.Common.{◌≡◌, ap, ◌∙◌, refl, arith, true, false}
-use Rattle.std.specs.Prelude.{Result, Ok}
+use Rattle.std.proofs.Common.{ap, refl}
+use Rattle.std.specs.Prelude.{Ok}
 use Rattle.o2_isa.specs.Steps.{State as Machine, state}
 use Rattle.o2_gate.specs.Befores.{boundless}
 use Rattle.o2_stepping.proofs.Gates.{done_boundless}

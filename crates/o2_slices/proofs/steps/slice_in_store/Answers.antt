@@ -1,4 +1,4 @@
-use Rattle.std.proofs.Common.{◌≡◌, sym, ◌∙◌, refl, inl}
+use Rattle.std.proofs.Common.{sym, ◌∙◌, refl, inl}
 use Rattle.o2_stepping.proofs.Here.{may_step}
 use Rattle.o2_slices.proofs.steps.slice_in_store.Goals as goal
 

@@ -1,4 +1,3 @@
-use Rattle.std.proofs.Common.{◌≡◌, ap, ◌∙◌, refl, sym, true, false}
 use Rattle.o2_segbus.proofs.Called.{agrees, bound, leaves}
 use Rattle.o2_stepping.proofs.Buses.{filling}
 use Rattle.o2_slices.proofs.OverBus.{agreed, done_there, follows, holds_stay, may_begin, process_stays, touched_there, tried_there}

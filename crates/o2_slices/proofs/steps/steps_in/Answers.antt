@@ -1,4 +1,4 @@
-use Rattle.std.proofs.Common.{◌≡◌, ap, sym, ◌∙◌, refl, inl, inr, arith, false}
+use Rattle.std.proofs.Common.{◌∙◌, refl, inl, inr, arith}
 use Rattle.o2_slices.proofs.OverBus.{one_more}
 use Rattle.o2_slices.proofs.steps.steps_in.Goals as goal
 

@@ -1,4 +1,4 @@
-use Rattle.std.proofs.Common.{◌≡◌, ◌≤◌, ◌-◌, ℕ}
+use Rattle.std.proofs.Common.{◌≡◌, ◌≤◌, ◌-◌}
 use Rattle.o2_isa.specs.View.{bound_registers}
 use Rattle.o2_regions.specs.Maps.{IsProcess}
 use Rattle.o2_segbus.specs.Bus.{registers_of}

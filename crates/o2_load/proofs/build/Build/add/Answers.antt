@@ -1,4 +1,4 @@
-use Rattle.std.proofs.Common.{ap, ◌∙◌, sym, subst, ℕ, arith}
+use Rattle.std.proofs.Common.{◌∙◌, subst, ℕ, arith}
 use Rattle.o2_world.specs.Starts.{named, holds}
 use Rattle.o2_load.specs.Holds.{IsHolding, gripped, bytes_with_room, stage}
 use Rattle.o2_load.proofs.Held.{new_refused, others_behind, others_kept}

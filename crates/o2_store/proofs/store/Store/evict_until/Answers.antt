@@ -1,4 +1,4 @@
-use Rattle.std.proofs.Common.{List, ℕ, ◌∙◌, sym, subst, Bool, rules, arith, ap}
+use Rattle.std.proofs.Common.{List, ℕ, ◌∙◌, sym, subst, rules, arith, ap}
 use Rattle.o2_place.specs.Layout.{used}
 use Rattle.o2_place.specs.Marks.{IsKept}
 use Rattle.o2_store.specs.Shelf.{Shelf}
