@@ -243,25 +243,25 @@ runs_number k f same ps n = go (k == 0) (n == 0)
     go false false = runs_place (k - 1) f same ps (n - 1)
 
 one_runs : (w : World) (c : Change) → IsNoEnd c → (n : ℕ) → option_map running_of (process_at (with_change w c).processes n) ≡ option_map running_of (process_at w.processes n)
-one_runs w (Makes s) no n = refl
-one_runs w (Resizes name size) no n = refl
-one_runs w (Locks name count) no n = refl
-one_runs w (Marks name discarded) no n = refl
-one_runs w (Holds p i h) no n = runs_number p (λ (x : Process). record x { held = put i (more h (get x.held i)) x.held }) (λ x. refl) w.processes n
-one_runs w (Drops p i count) no n = runs_number p (λ (x : Process). record x { held = put i (fewer count (get x.held i)) x.held }) (λ x. refl) w.processes n
-one_runs w (Finishes p state) no n = absurd no
-one_runs w (Reserves r) no n = refl
-one_runs w (Frees region first) no n = refl
-one_runs w (Names text name) no n = refl
+one_runs w (Makes s) none_ends n = refl
+one_runs w (Resizes name size) none_ends n = refl
+one_runs w (Locks name count) none_ends n = refl
+one_runs w (Marks name discarded) none_ends n = refl
+one_runs w (Holds p i h) none_ends n = runs_number p (λ (x : Process). record x { held = put i (more h (get x.held i)) x.held }) (λ x. refl) w.processes n
+one_runs w (Drops p i count) none_ends n = runs_number p (λ (x : Process). record x { held = put i (fewer count (get x.held i)) x.held }) (λ x. refl) w.processes n
+one_runs w (Finishes p state) none_ends n = absurd none_ends
+one_runs w (Reserves r) none_ends n = refl
+one_runs w (Frees region first) none_ends n = refl
+one_runs w (Names text name) none_ends n = refl
 
 each_runs : (w : World) (cs : List Change) → AreNoEnds cs → (n : ℕ) → option_map running_of (process_at (with_changes w cs).processes n) ≡ option_map running_of (process_at w.processes n)
 unfolding with_changes
-each_runs w [] no n = refl
-each_runs w (c ∷ cs) no n = each_runs (with_change w c) cs no.1 n ∙ one_runs w c no.0 n
+each_runs w [] none_ends n = refl
+each_runs w (c ∷ cs) none_ends n = each_runs (with_change w c) cs none_ends.1 n ∙ one_runs w c none_ends.0 n
 
 pub behind_runs : (w : World) (cs : List Change) → AreNoEnds cs → (n : ℕ) → option_map running_of (process_at (with_all w cs).processes n) ≡ option_map running_of (process_at w.processes n)
-behind_runs w cs no n = go (list_any takes cs)
+behind_runs w cs none_ends n = go (list_any takes cs)
   where
     go : (b : Bool) → option_map running_of (process_at (cond b (swept (with_changes w cs)) (with_changes w cs)).processes n) ≡ option_map running_of (process_at w.processes n)
-    go true = each_runs w cs no n
-    go false = each_runs w cs no n
+    go true = each_runs w cs none_ends n
+    go false = each_runs w cs none_ends n

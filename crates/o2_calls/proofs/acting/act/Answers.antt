@@ -19,6 +19,7 @@ use Rattle.o2_world.specs.Known.{known_of}
 use Rattle.o2_world.specs.Rulings.{aliasing, freeing, locking, reallocation, unlocking}
 use Rattle.o2_segs.specs.Answers.{Answers, AnswersRoomed, changes_roomed}
 use Rattle.o2_calls.specs.Acts.{cpu_of, ruling_of}
+use Rattle.o2_calls.specs.Stops.{IsGivable, LacksSwap, LeavesHolds}
 use Rattle.o2_calls.proofs.acting.act.Goals as goal
 
 pub returns-in-Alloc-clause-row : goal.returns-in-Alloc-clause-row
@@ -143,20 +144,25 @@ pub returns-in-Alias-clause-kept : goal.returns-in-Alias-clause-kept
 returns-in-Alias-clause-kept g c = λ k named live here. subst (λ (x : Shelf). IsSome (place_of x k)) (sym c.create_cs_alias.ensures.store) here
 
 pub returns-in-Size-clause-holds : goal.returns-in-Size-clause-holds
-returns-in-Size-clause-holds g c = subst (KeepsHolds c.args.regions.now) (sym c.size_seg.ensures.regions) (holds_refl c.args.regions.now)
+returns-in-Size-clause-holds g c =
+    subst (λ (a : SegmentArguments). LeavesHolds a c.args.regions.now c.size_seg.new.regions) (sym c.in-Size.is)
+    (subst (KeepsHolds c.args.regions.now) (sym c.size_seg.ensures.regions) (holds_refl c.args.regions.now))
 
 pub returns-in-Realloc-clause-swap_full : goal.returns-in-Realloc-clause-swap_full
-returns-in-Realloc-clause-swap_full g c = λ e. (c.realloc_seg.ensures.load e, c.realloc_seg.ensures.all_load e)
+returns-in-Realloc-clause-swap_full g c = λ e.
+    subst (λ (a : SegmentArguments). LacksSwap a c.args.store.now c.args.regions.now c.args.pid) (sym c.in-Realloc.is) (c.realloc_seg.ensures.load e, c.realloc_seg.ensures.all_load e)
 
 pub returns-in-Alloc-clause-value : goal.returns-in-Alloc-clause-value
 returns-in-Alloc-clause-value g c =
     let p = some_parts c.args.store.now c.args.regions.now c.args.images.now in
-    alloc_givable (known_in p no_others) c.args.pid c.in-Alloc.size c.in-Alloc.flags c.alloc_seg.result (c.alloc_seg.ensures.answer p no_others refl refl)
+    subst (λ (a : SegmentArguments). IsGivable a c.alloc_seg.result) (sym c.in-Alloc.is)
+    (alloc_givable (known_in p no_others) c.args.pid c.in-Alloc.size c.in-Alloc.flags c.alloc_seg.result (c.alloc_seg.ensures.answer p no_others refl refl))
 
 pub returns-in-Alias-clause-value : goal.returns-in-Alias-clause-value
 returns-in-Alias-clause-value g c =
     let p = some_parts c.args.store.now c.args.regions.now c.args.images.now in
-    alias_givable (known_in p no_others) c.args.pid c.in-Alias.selector c.create_cs_alias.result (c.create_cs_alias.ensures.answer p no_others refl refl)
+    subst (λ (a : SegmentArguments). IsGivable a (Done c.create_cs_alias.result)) (sym c.in-Alias.is)
+    (alias_givable (known_in p no_others) c.args.pid c.in-Alias.selector c.create_cs_alias.result (c.create_cs_alias.ensures.answer p no_others refl refl))
 
 pub returns-in-Alloc-clause-processes : goal.returns-in-Alloc-clause-processes
 returns-in-Alloc-clause-processes g c = c.alloc_seg.ensures.holds.processes
