@@ -1,8 +1,7 @@
 -- A call whose changes are made and whose value is written is seen in the world.
-use Rattle.std.proofs.Common.{◌≡◌, ◌≢◌, ℕ, ◌==◌, Bool, true, false, cond, if◌then◌else◌, List, Option, Some, None, is_some, option_map, ap, refl, sym, ◌∙◌, subst, arith}
+use Rattle.std.proofs.Common.{◌≡◌, ℕ, ◌==◌, Bool, true, false, cond, if◌then◌else◌, List, Option, Some, None, is_some, option_map, ap, refl, sym, ◌∙◌, arith}
 use Rattle.std.proofs.lemmas.Bool.{false≢true, eq-eqb}
 use Rattle.o2_conf.specs.Dispatch.{Dispatch}
-use Rattle.o2_isa.specs.declared.cpu.Cpu.{Cpu}
 use Rattle.o2_isa.specs.Parts.{put_part}
 use Rattle.o2_isa.specs.Pointers.{put_at_pointer, put_in}
 use Rattle.o2_isa.specs.View.{Hold, bound_in}
@@ -14,7 +13,7 @@ use Rattle.o2_store.specs.Shelf.{Shelf}
 use Rattle.o2_world.specs.declared.types.State.TheVariants.{Live}
 use Rattle.o2_world.specs.Bare.{bare}
 use Rattle.o2_world.specs.Calls.{Before, Effect}
-use Rattle.o2_world.specs.Changes.{Change, with_all}
+use Rattle.o2_world.specs.Changes.{with_all}
 use Rattle.o2_world.specs.Holders.{process_at, with_process}
 use Rattle.o2_world.specs.Map.{get}
 use Rattle.o2_world.specs.Run.{before, changed, worked, working}
@@ -25,7 +24,7 @@ use Rattle.o2_world.specs.World.{Process, Setting, World}
 use Rattle.o2_world.proofs.BareChanges.{same_all, worked_bare}
 use Rattle.o2_gate.specs.declared.gathering.SegmentArguments.{SegmentArguments}
 use Rattle.o2_gate.specs.Replies.{bytes_by, written_of}
-use Rattle.o2_stands.specs.Moves.{AreWritten, RunsAs, stepped_to, with_running}
+use Rattle.o2_stands.specs.Moves.{stepped_to, with_running}
 use Rattle.o2_stands.specs.Parts.{Parts, Running, running_of}
 use Rattle.o2_stands.specs.Stands.{IsReady, Matches}
 use Rattle.o2_stands.proofs.Alike.{written_matches}

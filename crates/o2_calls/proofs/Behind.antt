@@ -9,7 +9,7 @@ use Rattle.o2_world.specs.Map.{Map, at_key, get, put}
 use Rattle.o2_world.specs.World.{Held, Process, Segment, World}
 use Rattle.o2_world.specs.Bare.{Bare, bare, bare_names}
 use Rattle.o2_world.specs.Changes.{Change, Makes, Resizes, Locks, Marks, Holds, Drops, Finishes, Reserves, Frees, Names, at_number, at_place, fewer, more, resized, swept, takes, with_all, with_change, with_changes}
-use Rattle.o2_world.specs.Holders.{is_held, kept, process_at}
+use Rattle.o2_world.specs.Holders.{is_held, process_at}
 use Rattle.o2_world.specs.SegmentCalls.{Written}
 use Rattle.o2_world.specs.Views.{bytes_in, segment_bytes, with_bytes}
 use Rattle.o2_world.proofs.MapLemmas.{get-at_key, get-filter, get-map}

@@ -1,5 +1,5 @@
 -- The value of a call that is done can be written.
-use Rattle.std.proofs.Common.{◌≡◌, ℕ, ◌≤◌, ◌/◌, false, [], None, sym, subst}
+use Rattle.std.proofs.Common.{ℕ, ◌≤◌, ◌/◌, false, [], None, sym, subst}
 use Rattle.o2_image.specs.ImageList.{ImageList}
 use Rattle.o2_regions.specs.declared.answer.Answer.{Answer}
 use Rattle.o2_regions.specs.declared.answer.Roomed.{Roomed}

@@ -3,7 +3,6 @@ use Rattle.std.proofs.Common.{◌≡◌, ℕ, ◌/◌, List, [], Option, Some, N
 use Rattle.o2_image.specs.ImageList.{ImageList}
 use Rattle.o2_isa.specs.declared.cpu.Cpu.{Cpu}
 use Rattle.o2_regions.specs.declared.answer.Roomed.{Roomed}
-use Rattle.o2_regions.specs.declared.answer.Roomed.TheVariants.{Done, NoRoom, SwapFull, SwapFault}
 use Rattle.o2_regions.specs.Maps.{Maps, IsProcess}
 use Rattle.o2_store.specs.Shelf.{Shelf}
 use Rattle.o2_world.specs.Changes.{Change, with_all, with_changes}

@@ -1,12 +1,11 @@
 -- The shapes of what calls on segments change.
-use Rattle.std.proofs.Common.{◌≡◌, ℕ, ◌+◌, ◌-◌, ◌/◌, ◌==◌, ◌||◌, not, nat_lt, nat_le, Bool, true, false, cond, List, [], ◌∷◌, Option, Some, None, map, refl, subst, sym}
-use Rattle.std.specs.Prelude.{min}
+use Rattle.std.proofs.Common.{◌≡◌, ℕ, ◌/◌, ◌==◌, ◌||◌, not, nat_lt, nat_le, Bool, true, false, cond, List, [], ◌∷◌, Option, Some, None, map, refl, subst, sym}
 use Rattle.o2_desc.specs.Bits.{is_writable}
 use Rattle.o2_isa.specs.declared.cpu.Cpu.{Cpu}
 use Rattle.o2_world.specs.World.{Held}
-use Rattle.o2_world.specs.Changes.{Change, Drops, Holds, Locks, Makes, Resizes}
+use Rattle.o2_world.specs.Changes.{Change, Drops}
 use Rattle.o2_world.specs.Known.{Known, Marks}
-use Rattle.o2_world.specs.Rulings.{Ruling, aliasing_at, aliasing_of, allocation, allocation_at, by_load, free_index, freeing_of, freeing_with, full_size, grants, held_as_code, held_by_call, held_under, in_use, is_alias, is_discardable, is_in_run, is_later, keeps_its_size, locking_of, locking_with, made_segment, members, reallocation_of, reallocation_with, refusal, region_by, sizing_of, sizing_with, unlocking_of, unlocking_with}
+use Rattle.o2_world.specs.Rulings.{Ruling, aliasing_at, aliasing_of, allocation, allocation_at, by_load, free_index, freeing_of, full_size, held_as_code, held_by_call, held_under, in_use, is_alias, is_discardable, is_in_run, is_later, keeps_its_size, locking_of, locking_with, made_segment, members, reallocation_of, reallocation_with, region_by, sizing_of, unlocking_of, unlocking_with}
 use Rattle.o2_gate.specs.declared.gathering.SegmentArguments.{SegmentArguments}
 use Rattle.o2_gate.specs.declared.gathering.SegmentArguments.TheVariants.{Alloc, Realloc, Free, Size, Lock, Unlock, Alias}
 use Rattle.o2_world.specs.SegmentCalls.{Written}

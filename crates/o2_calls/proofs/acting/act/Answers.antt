@@ -16,7 +16,7 @@ use Rattle.o2_stands.specs.Moves.{moved}
 use Rattle.o2_stands.specs.Stands.{Matches}
 use Rattle.o2_world.specs.Changes.{with_all}
 use Rattle.o2_world.specs.Known.{known_of}
-use Rattle.o2_world.specs.Rulings.{aliasing, freeing, locking, reallocation, unlocking}
+use Rattle.o2_world.specs.Rulings.{aliasing, freeing, unlocking}
 use Rattle.o2_segs.specs.Answers.{Answers, AnswersRoomed, changes_roomed}
 use Rattle.o2_calls.specs.Acts.{cpu_of, ruling_of}
 use Rattle.o2_calls.specs.Stops.{IsGivable, LacksSwap, LeavesHolds}
