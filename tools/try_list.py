@@ -182,6 +182,19 @@ def check_code():
             wrong(f"os2list, opcode {opcode:02X}: {texts}")
 
 
+def check_wait():
+    """Of `lock wait` nasm makes the two bytes in the other order."""
+    trying.count()
+    texts = [text for _, code, text in listed(b"\xF0\x9B") if code == b"\xF0\x9B"]
+    with open("wait.asm", "w") as file:
+        file.write("bits 16\nlock wait\n")
+    run = subprocess.run(["nasm", "-f", "bin", "-o", "wait.bin", "wait.asm"], capture_output=True, text=True)
+    with open("wait.bin", "rb") as file:
+        made = file.read()
+    if run.returncode or texts != ["lock wait"] or made != b"\x9B\xF0":
+        wrong(f"lock wait: {texts}, {made!r}, {run.stderr!r}")
+
+
 def check_list():
     check_words("os2list", [])
     check_tables()
@@ -189,6 +202,7 @@ def check_list():
     if not shutil.which("nasm"):
         print("listings: nasm isn't installed (apt-get install nasm), so none is read back")
         return
+    check_wait()
     every, same, texts = {}, set(), 0
     chance = random.Random(7)
     pieces, at = [b""], 0

@@ -6,7 +6,7 @@ import subprocess
 
 import ne
 import trying
-from trying import TOOLS, check_words, said, wrong
+from trying import TOOLS, check_words, program, said, wrong
 
 # What real and protected mode do alike: nothing that loads a segment register, no repetition, nothing that only one mode has.
 ALIKE = [f"{op:02X}" for op in (
@@ -123,6 +123,12 @@ def forms_of_answers():
         left = before["cx"] - 1 if before["cx"] and vector["answer"] == {"done": True} else before["cx"]
         if after["cx"] != left or len(vector["final"]["ram"]) > 1:
             wrong(f"os2vectors, a repetition: {vector}")
+    trying.count()
+    with subprocess.Popen([program("os2vectors"), "F4", "1000000", "1"], stdout=subprocess.PIPE, stderr=subprocess.PIPE) as run:
+        front = run.stdout.read(2)
+        run.stdout.close()
+        if front != b"[\n" or run.stderr.read() or run.wait() != 3:
+            wrong(f"os2vectors F4 1000000 1: {front!r}, status {run.returncode}")
     for count in (0, 1, 3):
         trying.count()
         status, text = said("os2vectors", "00", str(count), str(2**64 - 1))

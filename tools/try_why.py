@@ -3,10 +3,11 @@ import importlib.machinery
 import importlib.util
 import json
 import os
+import subprocess
 
 import ne
 import trying
-from trying import TOOLS, check_words, said, wrong
+from trying import TOOLS, check_words, program, said, wrong
 
 # What stands in the sentence of a reason, or of one of its titles in tools/check_refusals.
 REASONS = {
@@ -126,6 +127,7 @@ def check_why():
     ordinals(refusals)
     lost(refusals)
     inventory(refusals)
+    runs_nothing()
 
 
 def oddities(good):
@@ -263,3 +265,22 @@ def inventory(refusals):
     wanted = ["1 of 5 files open", "     2 DOSCALLS.DosAllocSeg is missing", "     1 DOSCALLS.70 is missing", "     4 DOSCALLS.DosExit is built", "     1 DOSCALLS.DosWrite is built"]
     if status or lines[5:] != wanted or lines[1] != "one.exe: 1 of its imports are built, 1 are missing":
         wrong(f"os2why imports: status {status}, {text!r}; wanted {wanted}")
+
+
+def runs_nothing():
+    """A program that would write and read, and one that would swap: no output of theirs, no input taken, and no swap file made."""
+    examples = os.path.join(TOOLS, "..", "examples")
+    for words in (["exe", os.path.join(examples, "echo.exe")], ["imports", os.path.join(examples, "echo.exe")], ["run", "swaps.toml"]):
+        trying.count()
+        if words[0] == "run":
+            for name in ("swaps.toml", "rounds.exe"):
+                os.symlink(os.path.join(examples, "memory", name), name)
+        reader, writer = os.pipe()
+        os.write(writer, b"input")
+        os.close(writer)
+        with os.fdopen(reader, "rb") as source:
+            run = subprocess.run([program("os2why"), *words], stdin=source, stdout=subprocess.PIPE, stderr=subprocess.PIPE)
+            left = source.read()
+        told = run.stdout.decode("ascii")
+        if run.returncode or run.stderr or left != b"input" or words[0] != "imports" and told != "it opens\n" or os.path.exists("os2run.swp"):
+            wrong(f"os2why {' '.join(words)}: status {run.returncode}, {told!r}, {run.stderr!r}, {left!r} left of the input")
