@@ -37,6 +37,12 @@ def undefined(opcode):
     return {"27": OVERFLOW, "2F": OVERFLOW, "37": 0x8C4, "3F": 0x8C4, "D4": OVERFLOW | ADJUST | CARRY | SIGN | ZERO, "D5": OVERFLOW | ADJUST | CARRY}.get(op, 0)
 
 
+def built():
+    """Whether the other processor is there, as ./steps."""
+    build = shutil.which("cc") and subprocess.run(["cc", "-o", "steps", os.path.join(TOOLS, "x86emu_steps.c"), "-lx86emu"], capture_output=True)
+    return bool(build) and build.returncode == 0
+
+
 def numbers(vector):
     """A state as numbers for the other processor."""
     state = vector["initial"]
@@ -152,8 +158,7 @@ def check_vectors():
     if 2 * sum(small) < len(small):
         wrong(f"os2vectors: {sum(small)} of {len(small)} registers are small")
     forms_of_answers()
-    build = shutil.which("cc") and subprocess.run(["cc", "-o", "steps", os.path.join(TOOLS, "x86emu_steps.c"), "-lx86emu"], capture_output=True)
-    if not build or build.returncode:
+    if not built():
         print("vectors: libx86emu or a C compiler isn't installed (apt-get install gcc libx86emu-dev), so no step is compared with it")
         return
     steps, done = 0, set()

@@ -15,7 +15,7 @@ static unsigned next(void)
 
 int main(void)
 {
-    static unsigned address[4096];
+    static unsigned address[262144];
     unsigned first;
     while (scanf("%u", &first) == 1) {
         x86emu_t *emu = x86emu_new(X86EMU_PERM_RWX | X86EMU_PERM_VALID, 0);
@@ -39,7 +39,7 @@ int main(void)
             r->seg[order[k]].limit = 0xffff;
         }
         count = next();
-        if (count > 4096)
+        if (count > 262144)
             return 1;
         for (k = 0; k < count; k++) {
             address[k] = next();
@@ -54,6 +54,7 @@ int main(void)
         for (k = 0; k < count; k++)
             printf(" %u", x86emu_read_byte(emu, address[k]));
         printf("\n");
+        fflush(stdout);
         x86emu_done(emu);
     }
     return 0;
