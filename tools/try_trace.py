@@ -45,6 +45,8 @@ def check_trace():
                         wrong(f"os2trace {verb} {what}: it isn't {name}.trace")
     choices()
     last_lines()
+    swapped()
+    many_starts()
     exceptions()
     pieces()
     first_input()
@@ -216,6 +218,37 @@ def choices():
         trying.count()
         if said("os2trace", "run", *words, "two.toml", cwd=examples) != (0, front + "".join(wanted) + end):
             wrong(f"os2trace {' '.join(words)}: {said('os2trace', 'run', *words, 'two.toml', cwd=examples)}")
+
+
+def swapped():
+    """In a memory with room for one of two segments the trace is that in a memory for both."""
+    trying.count()
+    memory = os.path.join(ROOT, "examples", "memory")
+    ample, small = (said("os2trace", "run", name, cwd=memory) for name in ("ample.toml", "swaps.toml"))
+    if ample != small or ample[0] or not ample[1].endswith("| all ended\n"):
+        wrong(f"os2trace run swaps.toml: {small}; wanted that of ample.toml, {ample}")
+
+
+def many_starts():
+    """As many processes as there may be, with as many selectors as they may hold but a few: all lines of their starts are shown."""
+    trying.count()
+    count, libraries, segments = 64, 16, 254
+    for k in range(libraries):
+        with open(f"l{k}.dll", "wb") as file:
+            rows = "".join(f"segment {n} code\n0000  CB\n" for n in range(1, segments + 1))
+            file.write(ne.Listing(f"module L{k} library\nexport E 1:0000\n{rows}").file())
+    calls = "".join(f"{5 * k:04X}  9A FF FF 00 00  call @{5 * k + 1:04X} far L{k}.E\n" for k in range(libraries))
+    with open("many.exe", "wb") as file:
+        file.write(ne.Listing(f"module MANY\nstack 512\nstart 1:0000\nsegment 1 code\n{calls}segment 2 data auto size=16\n").file())
+    names = ", ".join(['"many.exe"', *(f'"l{k}.dll"' for k in range(libraries))])
+    with open("many.toml", "w") as file:
+        file.write(f"memory = 16777216\nswap = 0\nsegments = 65535\nbudget = 0\nquantum = 1\nmodules = [{names}]\n" + '[[process]]\nmodule = "MANY"\n' * count)
+    status, text = said("os2trace", "run", "many.toml")
+    wanted = [f"| {p} {what}" for p in range(1, count + 1)
+              for what in ("start MANY", *(f"hold {8 * n + 7:04X} by load" for n in (*range(1, 4), *range(4096, 4096 + libraries * segments))))]
+    lines = text.splitlines()
+    if status or lines != [*wanted, "| budget spent"]:
+        wrong(f"os2trace run many.toml: status {status}, {len(lines)} lines, {lines[:5]} .. {lines[-3:]}; wanted {len(wanted) + 1}")
 
 
 def last_lines():

@@ -27,8 +27,8 @@ use std::process::ExitCode;
 /// Room for what one step puts to the console or to the report.
 const STEP_ROOM: usize = 1_048_576;
 
-/// Room for the lines of all starts.
-const START_ROOM: usize = 4_194_304;
+/// Room for the lines of all starts: of 64 processes, each of which holds at most 4,351 selectors, with 22 bytes a line.
+const START_ROOM: usize = 8_388_608;
 
 /// A sink in memory.
 fn sink(alloc: Global, room: usize) -> Result<MemSink, AllocError> {
