@@ -13,7 +13,7 @@ use o2_outer::{Fetch, Files, FolderFiles};
 use o2_tool::{FAILED, Shown, file_name};
 use o2_words::Verb;
 use std::alloc::{AllocError, Global};
-use std::collections::BTreeMap;
+use std::collections::{BTreeMap, BTreeSet};
 use std::process::ExitCode;
 
 /// How many files import each call: those that are built, and those that are missing.
@@ -137,17 +137,36 @@ fn import_of(alloc: Global, module: &Module, reloc: &Reloc) -> Result<Option<Imp
     }
 }
 
+/// What a relocation leads to: the kind of its target, and both target words.
+type Target = (u8, u16, u16);
+
+/// Adds the imports of a segment whose targets none of the segments before has, each once.
+fn gather_segment(
+    alloc: Global,
+    module: &Module,
+    segment: u16,
+    seen: &mut BTreeSet<Target>,
+    found: &mut Tally,
+) -> Result<(), AllocError> {
+    for number in 0..module.segment_relocs(segment) {
+        let Some(reloc) = module.reloc(segment, number) else {
+            continue;
+        };
+        if !seen.insert((reloc.flags & 3, reloc.first, reloc.second))? {
+            continue;
+        }
+        if let Some(Import { text, is_built }) = import_of(alloc, module, &reloc)? {
+            found.part(is_built).insert(text, 1)?;
+        }
+    }
+    Ok(())
+}
+
 /// Adds the imports of a module, each once.
 fn gather(alloc: Global, module: &Module, found: &mut Tally) -> Result<(), AllocError> {
+    let mut seen = BTreeSet::new(alloc);
     for segment in 1..=module.segment_count() {
-        for number in 0..module.segment_relocs(segment) {
-            let Some(reloc) = module.reloc(segment, number) else {
-                continue;
-            };
-            if let Some(Import { text, is_built }) = import_of(alloc, module, &reloc)? {
-                found.part(is_built).insert(text, 1)?;
-            }
-        }
+        gather_segment(alloc, module, segment, &mut seen, found)?;
     }
     Ok(())
 }
