@@ -1,7 +1,9 @@
 // A swap device whose k-th call fails, for each k.
 
-use crate::files::{add_lines, files_of, report_of, run_files};
+use crate::files::{files_of, report_of, run_files};
+use o2_base::NoMemory;
 use o2_outer::MemSwap;
+use std::alloc::Global;
 use std::test::Fail;
 
 /// Puts `a` at the end of one segment of 2,048 bytes and `b` at that of another, of which one has place in memory, writes the `b`, loads
@@ -34,18 +36,19 @@ fn wanted(k: u64) -> (u8, &'static str, &'static str, &'static str) {
     }
 }
 
+/// Whether a run over a device whose k-th call fails comes to that.
+fn comes_to(alloc: Global, k: u64) -> Result<bool, NoMemory> {
+    let (status, console, first, rest) = wanted(k);
+    let report = report_of(alloc, 5, first, rest)?;
+    let mut swap = MemSwap::new(alloc, 16, vec![in alloc; k]?)?;
+    let answer = run_files(alloc, files_of(alloc, BOTH, KEYS)?, &mut swap)?;
+    Ok(answer.is(status, console.as_bytes(), report.as_str()))
+}
+
 #[test]
 fn each_call_of_the_swap_device_fails(rt: HostRuntime) -> Result<(), Fail> {
     for k in 1..=13u64 {
-        let (status, console, first, rest) = wanted(k);
-        let mut report = report_of(rt.alloc(), 5, first)?;
-        add_lines(&mut report, rest)?;
-        let mut swap = MemSwap::new(rt.alloc(), 16, vec![in rt.alloc(); k]?)?;
-        let answer = run_files(rt.alloc(), files_of(rt.alloc(), BOTH, KEYS)?, &mut swap)?;
-        assert!(rt;
-            answer.is(status, console.as_bytes(), report.as_str()),
-            "where call {k} fails"
-        );
+        assert!(rt; comes_to(rt.alloc(), k)?, "where call {k} fails");
     }
     Ok(())
 }

@@ -33,21 +33,26 @@ fn add_bytes(bytes: &mut Vec<u8>, text: &str) -> Result<(), NoMemory> {
     Ok(())
 }
 
-/// The file of a module: the number of its automatic data, how many segments it has, the three letters of its name, and the segment
-/// table of four words a segment (position in paragraphs, length, flags, size) with the segments behind it, all parted by bars.
-pub fn file_of(alloc: Global, listing: &str) -> Result<Vec<u8>, NoMemory> {
-    let mut file = Vec::new(alloc);
+/// Writes the file of a module: the number of its automatic data, how many segments it has, the three letters of its name, and the
+/// segment table of four words a segment (position in paragraphs, length, flags, size) with the segments behind it, all parted by bars.
+fn write_file(file: &mut Vec<u8>, listing: &str) -> Result<(), NoMemory> {
     let (data, rest) = listing.split_once('|').unwrap_or((listing, ""));
     let (segments, rest) = rest.split_once('|').unwrap_or((rest, ""));
     let (name, rest) = rest.split_once('|').unwrap_or((rest, ""));
-    add_bytes(&mut file, HEADER)?;
-    add_bytes(&mut file, data)?;
-    add_bytes(&mut file, START)?;
-    add_bytes(&mut file, segments)?;
-    add_bytes(&mut file, TABLES)?;
-    add_bytes(&mut file, name)?;
-    add_bytes(&mut file, NAMES)?;
-    add_bytes(&mut file, rest)?;
+    add_bytes(file, HEADER)?;
+    add_bytes(file, data)?;
+    add_bytes(file, START)?;
+    add_bytes(file, segments)?;
+    add_bytes(file, TABLES)?;
+    add_bytes(file, name)?;
+    add_bytes(file, NAMES)?;
+    add_bytes(file, rest)
+}
+
+/// Such a file.
+pub fn file_of(alloc: Global, listing: &str) -> Result<Vec<u8>, NoMemory> {
+    let mut file = Vec::new(alloc);
+    write_file(&mut file, listing)?;
     Ok(file)
 }
 
@@ -79,6 +84,14 @@ pub fn add_file(
     Ok(())
 }
 
+/// The words of the command.
+fn words(alloc: Global) -> Result<Vec<String>, NoMemory> {
+    let mut words = Vec::new(alloc);
+    words.push(String::from_str(alloc, "run")?)?;
+    words.push(String::from_str(alloc, "a.toml")?)?;
+    Ok(words)
+}
+
 /// `run a.toml` over these files and a device.
 pub fn run_files(
     alloc: Global,
@@ -89,9 +102,7 @@ pub fn run_files(
     let mut input = MemSource::new(Bytes::new(Vec::new(alloc)), Vec::new(alloc));
     let mut console = MemSink::new(alloc, 4096, Vec::new(alloc))?;
     let mut report = MemSink::new(alloc, 65536, Vec::new(alloc))?;
-    let mut words = Vec::new(alloc);
-    words.push(String::from_str(alloc, "run")?)?;
-    words.push(String::from_str(alloc, "a.toml")?)?;
+    let words = words(alloc)?;
     let status = os2run(
         alloc,
         words.as_slice(),
@@ -108,50 +119,64 @@ pub fn run_files(
     })
 }
 
-/// The machine file of one process of the module MEM in `a.exe`, with these keys.
-pub fn machine_of(alloc: Global, keys: &str) -> Result<Vec<u8>, NoMemory> {
-    let mut text = String::new(alloc);
+/// Writes the machine file of one process of the module MEM in `a.exe`, with these keys.
+fn write_machine(text: &mut String, keys: &str) -> Result<(), NoMemory> {
     text.push_str(keys)?;
     text.push_str(
         "\nsegments = 100\nquantum = 1\nmodules = [\"a.exe\"]\n[[process]]\nmodule = \"MEM\"\n",
     )?;
-    Ok(text.into_bytes())
+    Ok(())
 }
 
-/// The same, and its module.
-pub fn files_of(
-    alloc: Global,
-    listing: &str,
-    keys: &str,
-) -> Result<Vec<(Bytes, Bytes)>, NoMemory> {
+/// Such a machine file, and its module.
+pub fn files_of(alloc: Global, listing: &str, keys: &str) -> Result<Vec<(Bytes, Bytes)>, NoMemory> {
+    let mut text = String::new(alloc);
+    write_machine(&mut text, keys)?;
     let mut files = Vec::new(alloc);
-    add_file(alloc, &mut files, b"a.toml", machine_of(alloc, keys)?)?;
+    add_file(alloc, &mut files, b"a.toml", text.into_bytes())?;
     add_file(alloc, &mut files, b"a.exe", file_of(alloc, listing)?)?;
     Ok(files)
 }
 
 static SELECTORS: &str = "000F 0017 001F 0027 002F 0037";
 
-/// Adds lines that a text has with ` / ` between them.
-pub fn add_lines(text: &mut String, lines: &str) -> Result<(), NoMemory> {
+/// Writes a line.
+fn write_line(text: &mut String, front: &str, middle: &str, rest: &str) -> Result<(), NoMemory> {
+    text.push_str(front)?;
+    text.push_str(middle)?;
+    text.push_str(rest)?;
+    text.push('\n')?;
+    Ok(())
+}
+
+/// Writes lines, which ` / ` parts.
+fn write_lines(text: &mut String, lines: &str) -> Result<(), NoMemory> {
     for line in lines.split(" / ") {
         if !line.is_empty() {
-            text.push_str(line)?;
-            text.push_str("\n")?;
+            write_line(text, line, "", "")?;
         }
     }
     Ok(())
 }
 
-/// The first lines of its report, with how many segments and environments it holds, and these lines behind them.
-pub fn report_of(alloc: Global, holds: usize, rest: &str) -> Result<String, NoMemory> {
-    let mut report = String::new(alloc);
+/// Writes the first lines of its report, with how many segments and environments it holds, and these lines behind them.
+fn write_report(
+    report: &mut String,
+    holds: usize,
+    first: &str,
+    rest: &str,
+) -> Result<(), NoMemory> {
     report.push_str("1 start MEM\n")?;
     for selector in SELECTORS.split_ascii_whitespace().take(holds) {
-        report.push_str("1 hold ")?;
-        report.push_str(selector)?;
-        report.push_str(" by load\n")?;
+        write_line(report, "1 hold ", selector, " by load")?;
     }
-    add_lines(&mut report, rest)?;
+    write_lines(report, first)?;
+    write_lines(report, rest)
+}
+
+/// Such a report.
+pub fn report_of(alloc: Global, holds: usize, first: &str, rest: &str) -> Result<String, NoMemory> {
+    let mut report = String::new(alloc);
+    write_report(&mut report, holds, first, rest)?;
     Ok(report)
 }

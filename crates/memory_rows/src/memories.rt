@@ -102,24 +102,34 @@ fn module_of(name: &str) -> &'static str {
     }
 }
 
-/// The keys of a machine file, by their numbers.
-fn keys_of(alloc: Global, numbers: &str) -> Result<String, NoMemory> {
-    let mut keys = String::new(alloc);
-    for (key, number) in "memory swap budget".split(' ').zip(numbers.split(' ')) {
-        keys.push_str(key)?;
-        keys.push_str(" = ")?;
-        keys.push_str(number)?;
-        keys.push_str("\n")?;
-    }
-    Ok(keys)
+fn write_key(keys: &mut String, key: &str, number: &str) -> Result<(), NoMemory> {
+    keys.push_str(key)?;
+    keys.push_str(" = ")?;
+    keys.push_str(number)?;
+    keys.push('\n')?;
+    Ok(())
+}
+
+/// Writes the keys of a machine file, whose numbers blanks part.
+fn write_keys(keys: &mut String, numbers: &str) -> Result<(), NoMemory> {
+    let (memory, rest) = numbers.split_once(' ').unwrap_or((numbers, ""));
+    let (swap, budget) = rest.split_once(' ').unwrap_or((rest, ""));
+    write_key(keys, "memory", memory)?;
+    write_key(keys, "swap", swap)?;
+    write_key(keys, "budget", budget)
 }
 
 /// The run of a module with these numbers.
 fn answer_of(alloc: Global, words: &str) -> Result<Answer, NoMemory> {
     let (name, numbers) = words.split_once(' ').unwrap_or((words, ""));
-    let keys = keys_of(alloc, numbers)?;
+    let mut keys = String::new(alloc);
+    write_keys(&mut keys, numbers)?;
     let mut swap = MemSwap::new(alloc, 2048, Vec::new(alloc))?;
-    run_files(alloc, files_of(alloc, module_of(name), keys.as_str())?, &mut swap)
+    run_files(
+        alloc,
+        files_of(alloc, module_of(name), keys.as_str())?,
+        &mut swap,
+    )
 }
 
 /// What a run comes to: status, console, and report.
@@ -127,9 +137,13 @@ fn comes_to(alloc: Global, words: &str, wanted: &str) -> Result<bool, NoMemory> 
     let (status, wanted) = wanted.split_once(" | ").unwrap_or((wanted, ""));
     let (console, wanted) = wanted.split_once(" | ").unwrap_or((wanted, ""));
     let (holds, lines) = wanted.split_once(" | ").unwrap_or((wanted, ""));
-    let report = report_of(alloc, number(holds), lines)?;
+    let report = report_of(alloc, number(holds), lines, "")?;
     let answer = answer_of(alloc, words)?;
-    Ok(answer.is((number(status) % 256) as u8, console.trim().as_bytes(), report.as_str()))
+    Ok(answer.is(
+        (number(status) % 256) as u8,
+        console.trim().as_bytes(),
+        report.as_str(),
+    ))
 }
 
 fn number(text: &str) -> usize {
