@@ -3,7 +3,7 @@ ghost use Rattle.std.specs.Prelude.{◌≡◌, ◌≤◌, ◌++◌, [], IfOk, If
 ghost use Rattle.o2_text.specs.Text.{text_of};
 ghost use Rattle.o2_tool.specs.Text.{shown_text};
 ghost use Rattle.os2trace.specs.Changes.{change_text, general_text, pointers_text, segments_text, changes_text};
-ghost use Rattle.os2trace.specs.Lines.{at_ip, code_text, next_ip, shown_count, step_text};
+ghost use Rattle.os2trace.specs.Lines.{at_ip, code_text, front_text, next_ip, rest_text, shown_count, step_text};
 
 use o2_base::NoMemory;
 use o2_decode::decode;
@@ -150,22 +150,38 @@ fn shown_count(known: usize, decoded: &Decoded) -> usize
     }
 }
 
+/// Process, CS:IP, and bytes in a column of twenty digits.
+fn front_line(alloc: Global, before: &Before, count: usize) -> Result<String, AllocError>
+    requires { count ≤ 10 }
+    ensures { IfOk result (λ s. string_bytes s ≡ front_text before.now count) }
+{
+    let (process, cs, ip) = (before.process, before.cpu.cs, before.cpu.ip);
+    let (code, rest) = (Hex(&before.bytes[..count]), filling(count));
+    format!(in alloc; "{process} {cs:04X}:{ip:04X} {code}{rest} ")
+}
+
+/// The text of an instruction, and behind it in a column what has changed.
+fn rest_line(alloc: Global, text: &str, changed: &str) -> Result<String, AllocError>
+    ensures { IfOk result (λ s. string_bytes s ≡ rest_text text.now changed.now) }
+{
+    if changed.is_empty() {
+        return format!(in alloc; "{text}");
+    }
+    let gap = blanks(32 - text.len().min(32));
+    format!(in alloc; "{text}{gap}{changed}")
+}
+
 /// The line of a step: process, CS:IP, bytes, text, and what the step changed.
-#[tactic(auto, using(std::proofs::Common::append_assoc))]
 fn step_line(alloc: Global, before: &Before, changed: &str) -> Result<String, AllocError>
     ensures { IfOk result (λ s. string_bytes s ≡ step_text before.now changed.now) }
 {
     let decoded = spelled(before);
     let text = code_text(alloc, before.cpu.ip, &decoded)?;
     let count = shown_count(before.count.min(10), &decoded);
-    let (code, rest) = (Hex(&before.bytes[..count]), filling(count));
-    let (process, cs, ip) = (before.process, before.cpu.cs, before.cpu.ip);
-    if changed.is_empty() {
-        format!(in alloc; "{process} {cs:04X}:{ip:04X} {code}{rest} {text}")
-    } else {
-        let gap = blanks(32 - text.len().min(32));
-        format!(in alloc; "{process} {cs:04X}:{ip:04X} {code}{rest} {text}{gap}{changed}")
-    }
+    let front = front_line(alloc, before, count)?;
+    let rest = rest_line(alloc, text.as_str(), changed)?;
+    let line = format!(in alloc; "{front}{rest}")?;
+    Ok(line)
 }
 
 /// The registers that a step changed; of one that ended its process, none.
