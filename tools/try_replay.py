@@ -11,12 +11,19 @@ from try_vectors import NAMES, built, undefined
 STEP = re.compile(r"1 ([0-9A-F]{4}):([0-9A-F]{4}) ([0-9A-F]*) +(.*?)((?: (?:[ABCD]X|[SD]I|[BS]P|[CDES]S|IP|F)=[0-9A-F]{4})*)$")
 PREFIXES = (0x26, 0x2E, 0x36, 0x3E, 0xF2, 0xF3)
 STRINGS = (0xA4, 0xA5, 0xA6, 0xA7, 0xAA, 0xAB, 0xAC, 0xAD, 0xAE, 0xAF)
+# The calls that are built, with their ordinals and the numbers of their gates.
+GATES = {"DosExit": 1, "DosGetPID": 2, "DosRead": 3, "DosWrite": 4, "DosMemAvail": 19}
+ORDINALS = {5: "DosExit", 94: "DosGetPID", 137: "DosRead", 138: "DosWrite", 127: "DosMemAvail"}
 GROUPS = (0x80, 0x81, 0x83, 0xC0, 0xC1, 0xD0, 0xD1, 0xD2, 0xD3, 0xF6, 0xF7)
 ARITHMETIC = 0x0CD5
 
 
 def words_at(file, at, count):
     return struct.unpack_from(f"<{count}H", file, at)
+
+
+def string_at(file, at):
+    return file[at + 1 : at + 1 + file[at]]
 
 
 def patch(bytes_, place, source, value, additive):
@@ -51,16 +58,15 @@ def entries_of(file, at, size):
 
 
 def loaded(file):
-    """The segments of an executable of one module, by their selectors, with the places that lead to calls of the system, and the registers
-    at the start."""
+    """The segments of an executable that imports calls of DOSCALLS alone, by their selectors, and the registers at the start."""
     at = struct.unpack_from("<I", file, 0x3C)[0]
-    _, auto, heap, stack, ip, cs, sp, ss, count, references = words_at(file, at + 0x0C, 10)
-    table, _, resident, modules, imported = words_at(file, at + 0x22, 5)
+    _, auto, heap, stack, ip, cs, sp, ss, count = words_at(file, at + 0x0C, 9)
+    table, _, resident, _, imported = words_at(file, at + 0x22, 5)
     shift = words_at(file, at + 0x32, 1)[0]
-    name = file[at + resident + 1 : at + resident + 1 + file[at + resident]]
+    name = string_at(file, at + resident)
     place, size = words_at(file, at + 4, 2)
     entries = entries_of(file, at + place, size)
-    segments, calls = {}, set()
+    segments = {}
     for number in range(1, count + 1):
         sector, held, kind, size = words_at(file, at + table + 8 * (number - 1), 4)
         place, held = sector << shift, (held or 65536) if sector else 0
@@ -69,16 +75,18 @@ def loaded(file):
         for k in range(words_at(file, place + held, 1)[0] if kind & 0x100 else 0):
             source, flags, spot, first, second = struct.unpack_from("<BBHHH", file, place + held + 2 + 8 * k)
             if flags & 3:
-                calls |= {(8 * number + 7, spot + byte) for byte in range(4)}
+                call = ORDINALS[second] if flags & 3 == 1 else string_at(file, at + imported + second).decode("ascii")
+                value = (8 * (16 + GATES[call]) + 3, 0)
             else:
                 target = entries[second] if first == 255 else (first, second)
-                patch(bytes_, spot, source, (8 * target[0] + 7, target[1]), flags & 4)
+                value = (8 * target[0] + 7, target[1])
+            patch(bytes_, spot, source, value, flags & 4)
         segments[8 * number + 7] = bytes_
     segments[8 * count + 15] = bytearray(b"\0" + name + b"\0\0\0")
     whole = len(segments.get(8 * auto + 7, b""))
     regs = {"ax": 8 * count + 15, "bx": 1, "cx": whole % 65536, "dx": stack, "si": heap, "di": 1, "bp": 0, "es": 0, "flags": 0x0202, "cs": 8 * cs + 7, "ip": ip,
             "ds": 8 * auto + 7 if auto else 0, "ss": 8 * (ss or auto) + 7, "sp": sp if sp or (ss or auto) != auto else whole % 65536 & 0xFFFE}
-    return segments, calls, regs
+    return segments, regs
 
 
 class Processor:
@@ -168,12 +176,11 @@ def groups(trace):
 
 def replay(name, file, trace, source):
     """Each step of a trace of one process: where it is, its bytes, and the registers behind it; how many were compared with libx86emu."""
-    segments, calls, regs = loaded(file)
+    segments, regs = loaded(file)
     processor, compared = Processor(), 0
     for line, cs, ip, code, changes, behind in groups(trace):
         trying.count()
-        patched = any((cs, ip + k) in calls for k in range(len(code)))
-        if (cs, ip) != (regs["cs"], regs["ip"]) or not patched and segments[cs][ip : ip + len(code)] != code:
+        if (cs, ip) != (regs["cs"], regs["ip"]) or segments[cs][ip : ip + len(code)] != code:
             wrong(f"{name}: {line!r}, where {regs['cs']:04X}:{regs['ip']:04X} is next, and {bytes(segments.get(cs, b'')[ip : ip + 10]).hex()} stands there")
             break
         if any(row.startswith(("!", "| 1 end")) for row in behind):
