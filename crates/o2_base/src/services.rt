@@ -74,7 +74,18 @@ pub fn service_at(number: u16) -> Service
 pub fn is_built(number: u16) -> bool
     ensures { result ≡ has_gate number }
 {
-    number == 1 || number == 2 || number == 3 || number == 4 || number == 19
+    number == 1
+        || number == 2
+        || number == 3
+        || number == 4
+        || number == 5
+        || number == 6
+        || number == 7
+        || number == 8
+        || number == 9
+        || number == 10
+        || number == 11
+        || number == 19
 }
 
 /// The selector of a service's call gate.

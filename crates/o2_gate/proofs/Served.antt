@@ -8,6 +8,9 @@ use Rattle.o2_world.specs.Calls.{Before, Effect, IsPlain, row_of, served, served
 pub by_row : (P : Effect → Type 0) (b : Before) (service next : ℕ) (o : Option Row) (found row : Row) → o ≡ row_of service → o ≡ Some found → found ≡ row → P (served row b next) → P (serviced b service next)
 by_row P b service next o found row e f is h = subst (λ (r : Option Row). P (served_by r b next)) (sym (ap Some is) ∙ sym f ∙ e) h
 
--- what is built has no call on segments
-pub not_plain : (o : Option Row) (r : Row) (call : SegmentCall) → IsPlain o → o ≡ Some r → r ≡ OnSegments call → ⊥
-not_plain o r call plain e is = subst IsPlain (e ∙ ap Some is) plain
+-- the row of such a service is no call on segments
+pub not_plain : (service : ℕ) (o : Option Row) (r : Row) (call : SegmentCall) → IsPlain (row_of service) → o ≡ row_of service → o ≡ Some r → r ≡ OnSegments call → ⊥
+not_plain service o r call plain found e is = subst IsPlain (sym found ∙ e ∙ ap Some is) plain
+
+pub is_plain : (service : ℕ) (o : Option Row) (r row : Row) → IsPlain (Some row) → o ≡ row_of service → o ≡ Some r → r ≡ row → IsPlain (row_of service)
+is_plain service o r row plain found e is = subst IsPlain (sym (ap Some is) ∙ sym e ∙ found) plain

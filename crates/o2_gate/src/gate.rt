@@ -1,5 +1,5 @@
 // The call of a service.
-ghost use Rattle.std.specs.Prelude.{◌≡◌, ◌≢◌, ◌≤◌, ◌⊎◌, ℕ, List, Option, Some};
+ghost use Rattle.std.specs.Prelude.{◌≡◌, ◌≢◌, ◌≤◌, ◌⊎◌, ℕ, List, IfSome, None, Option, Some};
 ghost use Rattle.o2_outer.specs.Texts.{Rose};
 ghost use Rattle.o2_outer.specs.Inputs.{GoesOn, IsSeenAs, left_as};
 ghost use Rattle.o2_isa.specs.View.{Filling, IsBound};
@@ -27,27 +27,49 @@ use o2_bus::Ranges;
 use o2_isa::Cpu;
 use o2_outer::{Sink, Source};
 use o2_run::Fault;
-use o2_world::Row;
+use o2_world::{Row, SegmentCall};
 
 /// The row of a service, where it has one.
 fn row_of(service: u16) -> Option<Row>
     ensures row { result ≡ number_row service }
     ensures read { result ≡ Some Row.DosRead → service ≡ 3 }
     ensures write { result ≡ Some Row.DosWrite → service ≡ 4 }
-    ensures plain { IsPlain result }
 {
     match service {
         1 => Some(Row::DosExit),
         2 => Some(Row::DosGetPid),
         3 => Some(Row::DosRead),
         4 => Some(Row::DosWrite),
+        5 => Some(Row::OnSegments(SegmentCall::DosAllocSeg)),
+        6 => Some(Row::OnSegments(SegmentCall::DosReallocSeg)),
+        7 => Some(Row::OnSegments(SegmentCall::DosFreeSeg)),
+        8 => Some(Row::OnSegments(SegmentCall::DosSizeSeg)),
+        9 => Some(Row::OnSegments(SegmentCall::DosLockSeg)),
+        10 => Some(Row::OnSegments(SegmentCall::DosUnlockSeg)),
+        11 => Some(Row::OnSegments(SegmentCall::DosCreateCsAlias)),
         19 => Some(Row::DosMemAvail),
         _ => None,
     }
 }
 
-/// The call of a service by process `pid`, which comes back to `next`. It sees the segments of its process by the bus alone,
-/// whose four registers are those of `cpu`. No call takes memory.
+/// The call on segments that a service is, where it is one.
+pub fn segment_call(service: u16) -> Option<SegmentCall>
+    ensures some { IfSome result (λ call. number_row service ≡ Some (Row.OnSegments call)) }
+    ensures none { result ≡ None → IsPlain (number_row service) }
+{
+    match row_of(service) {
+        None => None,
+        Some(Row::DosExit) => None,
+        Some(Row::DosGetPid) => None,
+        Some(Row::DosRead) => None,
+        Some(Row::DosWrite) => None,
+        Some(Row::DosMemAvail) => None,
+        Some(Row::OnSegments(call)) => Some(call),
+    }
+}
+
+/// The call by process `pid` of a service that is no call on segments, which comes back to `next`. It sees the segments of its
+/// process by the bus alone, whose four registers are those of `cpu`. No call takes memory.
 #[tactic(auto, using(o2_outer::proofs::Inputs::goes_same))]
 pub fn call<B: Ranges, I: Source, C: Sink, R: Sink>(
     service: u16,
@@ -60,6 +82,7 @@ pub fn call<B: Ranges, I: Source, C: Sink, R: Sink>(
     console: &mut C,
     report: &mut R,
 ) -> Result<Called, Fault>
+    requires plain { IsPlain (number_row service) }
     // What the row of the service does in the boundless machine, whatever is absent; nothing where a segment is missed.
     // However the input is seen: by what it tells, or as a text that the whole of it may be.
     ensures does { (text : Option (List ℕ)) → IsSeenAs text (I.past input.new)

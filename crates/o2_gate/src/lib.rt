@@ -17,7 +17,7 @@ mod transfer;
 mod write;
 
 pub use called::Called;
-pub use gate::call;
+pub use gate::{call, segment_call};
 pub use gathering::{Gathered, SegmentArguments, gather};
 pub use replying::{come_back, give_value, put_reply};
 pub use state::State;

@@ -1,10 +1,5 @@
--- A step that changes nothing but bytes.
+-- Steps that change nothing but bytes.
 use Rattle.std.proofs.Common.{◌≡◌, ℕ, zero, suc, ◌-◌, Bool, true, false, cond, if◌then◌else◌, ◌==◌, ◌&&◌, List, [], ◌∷◌, Option, Some, None, ap, refl, length, slice_set}
-use Rattle.std.specs.Prelude.{Result, Ok, Err}
-use Rattle.o2_isa.specs.declared.cpu.Stop.{Stop}
-use Rattle.o2_isa.specs.declared.cpu.Stop.TheVariants as stop
-use Rattle.o2_isa.specs.Steps.{State as Machine, state}
-use Rattle.o2_isa.specs.Step.{stepped}
 use Rattle.o2_conf.specs.Dispatch.{Dispatch}
 use Rattle.o2_world.specs.declared.types.Argument.{Argument}
 use Rattle.o2_world.specs.declared.types.Row.{Row}
@@ -12,10 +7,9 @@ use Rattle.o2_world.specs.declared.types.Row.TheVariants.{DosExit, DosGetPid, Do
 use Rattle.o2_world.specs.World.{World, Process, is_live}
 use Rattle.o2_world.specs.Holders.{with_process}
 use Rattle.o2_world.specs.Changes.{at_place, at_number, with_changes, swept}
-use Rattle.o2_world.specs.Calls.{Before, Effect, argument, has_arguments, transfer_of, may_write, may_give, is_console, dos_write, dos_exit, told, may_take, dos_read, row_of, served_by, IsPlain}
-use Rattle.o2_world.specs.Effect.{has_trap_flag, answered, effect}
+use Rattle.o2_world.specs.Calls.{Before, Effect, argument, has_arguments, transfer_of, may_write, may_give, is_console, dos_write, dos_exit, told, may_take, dos_read, served_by, IsPlain}
+use Rattle.o2_world.specs.Effect.{has_trap_flag, single_stepped}
 use Rattle.o2_world.specs.Run.{changed, plainly, worked}
-use Rattle.o2_world.proofs.Rows.{built_is_plain}
 
 set_then : {X : Type 0} (xs : List X) (i : ℕ) (x : X) (f : X → X) → at_place i f (slice_set xs i x) ≡ slice_set xs i (f x)
 set_then [] i x f = refl
@@ -65,7 +59,8 @@ pub told_quiet : (b : Before) (next : ℕ) (name part : List ℕ) (values : List
 unfolding told
 told_quiet b next name part values = either (has_arguments b.view b.cpu 2) _ _ (either (may_write b.view (argument b.view b.cpu 1) (argument b.view b.cpu 0) (length part)) _ _ refl refl) refl
 
-served_quiet : (row : Option Row) (b : Before) (next : ℕ) → IsPlain row → (served_by row b next).changes ≡ []
+-- no call but those on segments changes anything but bytes
+pub served_quiet : (row : Option Row) (b : Before) (next : ℕ) → IsPlain row → (served_by row b next).changes ≡ []
 served_quiet None b next plain = refl
 served_quiet (Some DosExit) b next plain = exit_quiet b
 served_quiet (Some DosGetPid) b next plain = told_quiet b next _ _ _
@@ -74,13 +69,6 @@ served_quiet (Some DosWrite) b next plain = write_quiet b next
 served_quiet (Some DosMemAvail) b next plain = told_quiet b next _ _ _
 served_quiet (Some (OnSegments call)) b next plain = absurd plain
 
-answered_quiet : (b : Before) (r : Result Machine Stop) → (answered b r).changes ≡ []
-answered_quiet b (Ok s) = refl
-answered_quiet b (Err (stop.Trap vector code)) = refl
-answered_quiet b (Err (stop.Gate service next)) = served_quiet (row_of service) b next (built_is_plain service)
-answered_quiet b (Err (stop.Miss s)) = refl
-
--- no call that is built changes anything but bytes
-pub effect_quiet : (b : Before) → (effect b).changes ≡ []
-unfolding effect
-effect_quiet b = either (has_trap_flag b.cpu.flags && is_live (answered b (stepped (state b.cpu b.view))).state) _ _ (answered_quiet b (stepped (state b.cpu b.view))) (answered_quiet b (stepped (state b.cpu b.view)))
+-- nor does exception 1 behind a step
+pub single_quiet : (b : Before) (e : Effect) → e.changes ≡ [] → (single_stepped b e).changes ≡ []
+single_quiet b e quiet = either (has_trap_flag b.cpu.flags && is_live e.state) _ _ quiet quiet

@@ -11,6 +11,7 @@ use Rattle.o2_world.specs.Map.{get}
 use Rattle.o2_world.specs.World.{Line, Calls, Exits, Ends}
 pub use Rattle.o2_world.specs.CallParts.{Effect, Before, trapped, trap_code, word_of, has_arguments, word_bytes, long_bytes, returned, may_read, may_write}
 unfoldable pub use Rattle.o2_world.specs.CallParts.{argument, is_good, range_of, put_at_pointer}
+use Rattle.o2_world.specs.declared.types.SegmentCall.TheVariants.{DosAllocSeg, DosReallocSeg, DosFreeSeg, DosSizeSeg, DosLockSeg, DosUnlockSeg, DosCreateCsAlias}
 use Rattle.o2_world.specs.SegmentCalls.{on_segments}
 
 -- A transfer: what DosRead and DosWrite are given.
@@ -179,7 +180,11 @@ asks b = has_arguments b.view b.cpu 6 && asks_input b (transfer_of (argument b.v
 -- The rows by the numbers of their services: each service that is built has one.
 
 abbrev pub rows : List (ℕ × Row)
-rows = (1, DosExit) ∷ (2, DosGetPid) ∷ (3, DosRead) ∷ (4, DosWrite) ∷ (19, DosMemAvail) ∷ []
+rows =
+    (1, DosExit) ∷ (2, DosGetPid) ∷ (3, DosRead) ∷ (4, DosWrite) ∷
+    (5, OnSegments DosAllocSeg) ∷ (6, OnSegments DosReallocSeg) ∷ (7, OnSegments DosFreeSeg) ∷ (8, OnSegments DosSizeSeg) ∷
+    (9, OnSegments DosLockSeg) ∷ (10, OnSegments DosUnlockSeg) ∷ (11, OnSegments DosCreateCsAlias) ∷
+    (19, DosMemAvail) ∷ []
 
 abbrev pub row_of : ℕ → Option Row
 row_of service = get rows service
@@ -202,7 +207,7 @@ served_by (Some row) b next = served row b next
 abbrev pub serviced : Before → ℕ → ℕ → Effect
 serviced b service next = served_by (row_of service) b next
 
--- what is built has no call on segments yet
+-- a row that is no call on segments
 abbrev pub IsPlain : Option Row → Type 0
 IsPlain None = Unit {0}
 IsPlain (Some DosExit) = Unit {0}

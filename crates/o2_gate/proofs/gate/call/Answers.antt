@@ -173,4 +173,4 @@ pub returns-in-Some-DosMemAvail-clause-puts : goal.returns-in-Some-DosMemAvail-c
 returns-in-Some-DosMemAvail-clause-puts g c = c.dos_mem_avail.ensures.puts _
 
 pub unreachable-requires : goal.unreachable-requires
-unreachable-requires g c = not_plain c.row_of.result c.in-Some-OnSegments.field-0 _ c.row_of.ensures.plain c.in-Some-OnSegments.is c.in-Some-OnSegments.field-0-is
+unreachable-requires g c = not_plain c.args.service c.row_of.result c.in-Some-OnSegments.field-0 _ c.requires.plain c.row_of.ensures.row c.in-Some-OnSegments.is c.in-Some-OnSegments.field-0-is
