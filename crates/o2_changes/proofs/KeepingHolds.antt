@@ -1,5 +1,5 @@
 -- What stays held, and where segments stay, behind single changes.
-use Rattle.std.proofs.Common.{◌≡◌, ℕ, ◌&&◌, ◌∙◌, Option, Some, None, is_some, IsSome, true, false, eqb, inl, inr, ap, sym, refl}
+use Rattle.std.proofs.Common.{◌≡◌, ℕ, ◌&&◌, ◌∙◌, Option, Some, None, is_some, IsSome, true, false, eqb, inl, inr, ap, sym, refl, Bool, subst}
 use Rattle.std.proofs.lemmas.Bool.{cases_eq, cond-false}
 use Rattle.o2_entries.specs.Tables.{slot_at}
 use Rattle.o2_place.specs.declared.seg_id.SegId.{SegId}
@@ -10,7 +10,7 @@ use Rattle.o2_service.proofs.Amounts.{slot_some}
 use Rattle.o2_stands.proofs.Moves.{held_same}
 use Rattle.o2_store.specs.Shelf.{Shelf, Removes, entry_of}
 use Rattle.o2_store.proofs.Tables.{slot-set_same, within_at}
-use Rattle.o2_changes.specs.Holding.{Grants, KeepsHolds, KeepsPlaces}
+use Rattle.o2_changes.specs.Holding.{Grants, KeepsHolds, KeepsPlaces, Takes}
 use Rattle.o2_changes.proofs.Settling.{Here, Other, pair_is}
 
 pub holds_refl : (m : Maps) → KeepsHolds m m
@@ -54,3 +54,7 @@ removed_places s t id live r k some = elim (cases_eq k id.key) [
       let z : false ≡ true = sym (ap is_some none) ∙ some in
       cc)
 ]
+
+-- what is reserved doesn't matter to what is held
+pub taken_by : (m n o : Maps) (pid i : ℕ) → o ≡ record n { reserved = o.reserved } → Takes m n pid i → Takes m o pid i
+taken_by m n o pid i only takes = subst (λ (x : Maps). Takes m x pid i) (sym only) (record { processes = takes.processes; held = takes.held; rights = takes.rights })

@@ -133,6 +133,8 @@ pub fn let_go(store: &mut Store, regions: &mut Regions, pid: u16, index: u16, he
     ensures none { result ≡ 0 → held_at regions.new pid index ≡ None }
     ensures some { result ≢ 0 → IsSome (held_at regions.new pid index) }
     ensures left { result ≡ held.holds - 1 }
+    ensures takes { Takes regions.old regions.new pid index }
+    ensures sweeps { Sweeps store.old store.new regions.new held.id }
     ensures places { KeepsPlaces store.old store.new }
     ensures processes { regions.new.processes ≡ regions.old.processes }
     ensures order { IsInOrder store.new regions.new }

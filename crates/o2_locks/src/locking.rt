@@ -12,6 +12,7 @@ ghost use Rattle.o2_swapmap.specs.Piles.{all_of};
 ghost use Rattle.o2_changes.specs.Order.{IsGuarded, IsInOrder};
 ghost use Rattle.o2_stands.specs.Stands.{Matches};
 ghost use Rattle.o2_segs.specs.Answers.{AnswersRoomed, changes_roomed};
+ghost use Rattle.o2_segs.specs.Limits.{KeepsLimits};
 ghost use Rattle.o2_segs.specs.Made.{IsStop};
 ghost use Rattle.o2_stands.specs.Knows.{Others, known_in};
 ghost use Rattle.o2_stands.specs.Moves.{moved};
@@ -58,6 +59,7 @@ pub fn lock_seg<S: SwapDevice>(
         (with_all w (changes_roomed (locking (known_in p o) pid sel) result)) }
     ensures stops { IsStop result
         → IfSome (if is_local sel then held_at regions.old pid (sel / 8) else None) (λ h. (entry store.old h.id.key).attr.lock ≡ 0) }
+    ensures limits { KeepsLimits store.old regions.old store.new regions.new 0 }
     ensures processes { regions.new.processes ≡ regions.old.processes }
     ensures order { IsInOrder store.new regions.new }
     ensures guards { IsGuarded store.old regions.old → IsGuarded store.new regions.new }
@@ -104,6 +106,7 @@ fn lock<S: SwapDevice>(
         → Matches p w → Matches (moved p store.new regions.new (S.block swap.new))
         (with_all w (changes_roomed (locking_with id.age (Some m)) result)) }
     ensures stops { IsStop result → (entry store.old id.key).attr.lock ≡ 0 }
+    ensures limits { KeepsLimits store.old regions.old store.new regions.new 0 }
     ensures processes { regions.new.processes ≡ regions.old.processes }
     ensures order { IsInOrder store.new regions.new }
     ensures guards { IsGuarded store.old regions.old → IsGuarded store.new regions.new }

@@ -11,6 +11,7 @@ ghost use Rattle.o2_changes.specs.Holding.{KeepsPlaces};
 ghost use Rattle.o2_changes.specs.Order.{IsGuarded, IsInOrder};
 ghost use Rattle.o2_stands.specs.Stands.{Matches};
 ghost use Rattle.o2_segs.specs.Answers.{Answers};
+ghost use Rattle.o2_segs.specs.Limits.{KeepsLimits};
 ghost use Rattle.o2_stands.specs.Knows.{Others, known_in};
 ghost use Rattle.o2_stands.specs.Parts.{Parts};
 ghost use Rattle.o2_world.specs.Changes.{with_all};
@@ -61,6 +62,7 @@ pub fn unlock_seg(store: &mut Store, regions: &mut Regions, pid: u16, sel: u16) 
 
     ensures answer { (p : Parts) (o : Others) → p.shelf ≡ store.old → p.maps ≡ regions.old
         → Answers (unlocking (known_in p o) pid sel) result }
+    ensures limits { KeepsLimits store.old regions.old store.new regions.new 0 }
     ensures places { KeepsPlaces store.old store.new }
     ensures regions { regions.new ≡ regions.old }
     ensures order { IsInOrder store.new regions.new }
@@ -86,6 +88,7 @@ fn unlock(store: &mut Store, regions: &Regions, id: SegId) -> Answer
 
     ensures answer { (m : Marks) → IsMarked (entry store.old id.key).attr m
         → Answers (unlocking_with id.age (Some m)) result }
+    ensures limits { KeepsLimits store.old regions.now store.new regions.now 0 }
     ensures places { KeepsPlaces store.old store.new }
     ensures order { IsInOrder store.new regions.now }
     ensures guards { IsGuarded store.old regions.now → IsGuarded store.new regions.now }

@@ -3,3 +3,4 @@ pub mod Rows
 pub mod Stops
 pub mod Resizing
 pub mod Making
+pub mod Limits

@@ -17,6 +17,7 @@ ghost use Rattle.o2_world.specs.Holders.{process_at};
 ghost use Rattle.o2_world.specs.Rulings.{aliasing};
 ghost use Rattle.o2_world.specs.World.{Process, World};
 ghost use Rattle.o2_segs.specs.Answers.{Answers, alias_of};
+ghost use Rattle.o2_segs.specs.Limits.{KeepsLimits};
 
 use crate::asking::{ACCESS_DENIED, NOT_ENOUGH_MEMORY, SHARED, done, held_under, refusal};
 use o2_base::Selector;
@@ -39,6 +40,7 @@ pub fn create_cs_alias(store: &mut Store, regions: &mut Regions, pid: u16, sel: 
         → Answers (aliasing (known_in p o) pid sel) result }
     ensures store { store.new ≡ store.old }
     ensures holds { KeepsHolds regions.old regions.new }
+    ensures limits { KeepsLimits store.old regions.old store.new regions.new 0 }
     ensures order { IsInOrder store.new regions.new }
     ensures guards { IsGuarded store.old regions.old → IsGuarded store.new regions.new }
     ensures matches { (p : Parts) (o : Others) (w : World) (x : Process) → p.shelf ≡ store.old
@@ -94,6 +96,7 @@ fn alias(store: &Store, regions: &mut Regions, pid: u16, id: SegId) -> Answer
         → (result ≡ record { error = 0; value = selector_of i })
         × MatchesHold store.now regions.old regions.new pid i (alias_of id) readable_code }
     ensures holds { KeepsHolds regions.old regions.new }
+    ensures limits { KeepsLimits store.now regions.old store.now regions.new 0 }
     ensures order { IsInOrder store.now regions.new }
     ensures guards { IsGuarded store.now regions.old → IsGuarded store.now regions.new }
 {

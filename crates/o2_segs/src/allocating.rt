@@ -25,6 +25,7 @@ ghost use Rattle.o2_world.specs.Map.{get};
 ghost use Rattle.o2_world.specs.Rulings.{allocation, full_size};
 ghost use Rattle.o2_world.specs.World.{Process, World};
 ghost use Rattle.o2_segs.specs.Answers.{AnswersRoomed, changes_roomed};
+ghost use Rattle.o2_segs.specs.Limits.{KeepsLimits};
 ghost use Rattle.o2_segs.specs.Made.{IsStop, IsWithNew, MatchesLocked, MatchesWithout, allocation_to, made_by_call, region_for};
 
 use crate::asking::{INVALID_PARAMETER, NOT_ENOUGH_MEMORY, done, refusal, stop_of};
@@ -98,6 +99,7 @@ pub fn alloc_seg<S: SwapDevice>(
         (with_all w (changes_roomed (allocation (known_in p o) pid size flags) result)) }
     ensures stops { IsStop result → has_bit flags 2 ≡ true }
     ensures holds { KeepsHolds regions.old regions.new }
+    ensures limits { KeepsLimits store.old regions.old store.new regions.new 1 }
     ensures order { IsInOrder store.new regions.new }
     ensures guards { IsGuarded store.old regions.old → IsGuarded store.new regions.new }
     ensures clean { AreClean store.new (picture images.now) }
@@ -164,6 +166,7 @@ fn allocate<S: SwapDevice>(
         (with_all w (changes_roomed (allocation_to (known_in p o) pid size flags (Some index)) result)) }
     ensures stops { IsStop result → has_bit flags 2 ≡ true }
     ensures holds { KeepsHolds regions.old regions.new }
+    ensures limits { KeepsLimits store.old regions.old store.new regions.new 1 }
     ensures order { IsInOrder store.new regions.new }
     ensures guards { IsGuarded store.old regions.old → IsGuarded store.new regions.new }
     ensures clean { AreClean store.new (picture images.now) }
@@ -220,6 +223,7 @@ fn lock_new<S: SwapDevice>(
     ensures live { result ≡ None → IsSome (entry_of store.new id) }
     ensures plain { result ≡ None → (entry store.new id.key).attr.clean ≡ (entry store.old id.key).attr.clean }
     ensures maps { OnlyTables regions.old regions.new }
+    ensures limits { KeepsLimits store.old regions.old store.new regions.new 0 }
     ensures order { IsInOrder store.new regions.new }
     ensures guards { IsGuarded store.old regions.old → IsGuarded store.new regions.new }
     ensures clean { AreClean store.new (picture images.now) }
@@ -242,6 +246,7 @@ fn lock_new<S: SwapDevice>(
         Some(stop) => {
             store.law();
             unmake(store, regions, id);
+            store.law();
             Some(stop)
         }
         None => {
@@ -261,6 +266,7 @@ fn hold_made(store: &Store, regions: &mut Regions, pid: u16, index: u16, id: Seg
 
     ensures answer { result ≡ Roomed.Done (record { error = 0; value = selector_of index }) }
     ensures holds { KeepsHolds regions.old regions.new }
+    ensures limits { KeepsLimits store.now regions.old store.now regions.new 0 }
     ensures order { IsInOrder store.now regions.new }
     ensures guards { IsGuarded store.now regions.old → IsGuarded store.now regions.new }
     ensures matches { MatchesHold store.now regions.old regions.new pid index (made_by_call id) writable_data }

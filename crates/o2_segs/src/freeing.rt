@@ -17,6 +17,7 @@ ghost use Rattle.o2_world.specs.Holders.{process_at};
 ghost use Rattle.o2_world.specs.Rulings.{by_load, freeing, freeing_cpu, is_index};
 ghost use Rattle.o2_world.specs.World.{Process, World};
 ghost use Rattle.o2_segs.specs.Answers.{Answers, AreAlone};
+ghost use Rattle.o2_segs.specs.Limits.{KeepsLimits};
 
 use crate::asking::{ACCESS_DENIED, done, held_under, refusal};
 use o2_base::Selector;
@@ -44,6 +45,7 @@ pub fn free_seg(
         → Answers (freeing (known_in p o) pid sel cpu.old) result }
     ensures registers { (p : Parts) (o : Others) → p.shelf ≡ store.old → p.maps ≡ regions.old
         → cpu.new ≡ freeing_cpu (known_in p o) pid sel cpu.old }
+    ensures limits { KeepsLimits store.old regions.old store.new regions.new 0 }
     ensures places { KeepsPlaces store.old store.new }
     ensures processes { regions.new.processes ≡ regions.old.processes }
     ensures order { IsInOrder store.new regions.new }
@@ -59,6 +61,7 @@ pub fn free_seg(
         (with_all w (freeing (known_in p o) pid sel cpu.old).changes) }
 {
     regions.law();
+    store.law();
     match held_under(regions, pid, sel) {
         Some(held) => {
             if is_kept(cpu, sel, held) {
@@ -66,6 +69,7 @@ pub fn free_seg(
             }
             let index = Selector(sel).index();
             let left = let_go(store, regions, pid, index, held);
+            store.law();
             clear(cpu, index, left);
             done(0)
         }

@@ -19,6 +19,7 @@ ghost use Rattle.o2_world.specs.Changes.{with_all};
 ghost use Rattle.o2_world.specs.Rulings.{full_size, is_alias, reallocation};
 ghost use Rattle.o2_world.specs.World.{World};
 ghost use Rattle.o2_segs.specs.Answers.{AnswersRoomed, changes_roomed};
+ghost use Rattle.o2_segs.specs.Limits.{KeepsLimits};
 
 use crate::asking::{ACCESS_DENIED, done, held_under, refusal, stop_of};
 use o2_changes::resize;
@@ -92,6 +93,7 @@ pub fn realloc_seg<S: SwapDevice>(
         → p.images ≡ images.now → p.block ≡ S.block swap.old → IsTrue (S.told swap.new) → Matches p w
         → Matches (moved p store.new regions.new (S.block swap.new))
         (with_all w (changes_roomed (reallocation (known_in p o) pid size sel) result)) }
+    ensures limits { KeepsLimits store.old regions.old store.new regions.new 0 }
     ensures processes { regions.new.processes ≡ regions.old.processes }
     ensures order { IsInOrder store.new regions.new }
     ensures guards { IsGuarded store.old regions.old → IsGuarded store.new regions.new }

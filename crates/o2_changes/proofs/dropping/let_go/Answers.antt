@@ -2,6 +2,7 @@ use Rattle.std.proofs.Common.{ap, ◌∙◌}
 use Rattle.o2_regions.specs.Maps.{Maps}
 use Rattle.o2_changes.proofs.Matching.{let_go_matches}
 use Rattle.o2_changes.proofs.Guarding.{dropped_guards, reserved_guards}
+use Rattle.o2_changes.proofs.KeepingHolds.{taken_by}
 use Rattle.o2_changes.proofs.dropping.let_go.Goals as goal
 
 pub returns-clause-matches : goal.returns-clause-matches
@@ -17,3 +18,6 @@ returns-clause-guards c = λ was.
 
 pub returns-clause-processes : goal.returns-clause-processes
 returns-clause-processes c = ap (λ (x : Maps). x.processes) c.free_index.ensures.tables ∙ c.drop_hold-left.ensures.takes.processes
+
+pub returns-clause-takes : goal.returns-clause-takes
+returns-clause-takes c = taken_by c.args.regions.now c.drop_hold-left.new.regions c.free_index.new.regions c.args.pid c.args.index c.free_index.ensures.tables c.drop_hold-left.ensures.takes

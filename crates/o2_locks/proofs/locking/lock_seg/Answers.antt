@@ -12,6 +12,7 @@ use Rattle.o2_stands.specs.Moves.{moved}
 use Rattle.o2_world.specs.Changes.{with_all}
 use Rattle.o2_world.specs.Rulings.{Ruling}
 use Rattle.o2_locks.proofs.Rows.{lock_none, lock_some, marked}
+use Rattle.o2_segs.proofs.Limits.{limits_refl}
 use Rattle.o2_locks.proofs.locking.lock_seg.Goals as goal
 
 pub returns-in-Some-clause-answer : goal.returns-in-Some-clause-answer
@@ -40,3 +41,6 @@ returns-in-Some-clause-stops g c = λ stop.
 pub returns-in-Some-clause-no_room : goal.returns-in-Some-clause-no_room
 returns-in-Some-clause-no_room g c = λ e.
     subst (λ (y : Option Held). IfSome y (λ h. c.args.store.now.places.size < all_wanted c.args.store.now h.id.key c.args.keep.now)) c.in-Some.ensures (c.lock.ensures.no_room e)
+
+pub returns-in-None-clause-limits : goal.returns-in-None-clause-limits
+returns-in-None-clause-limits g c = limits_refl c.args.store.now c.args.regions.now

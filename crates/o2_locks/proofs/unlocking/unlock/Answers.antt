@@ -7,6 +7,7 @@ use Rattle.o2_store.proofs.Tables.{locked_at}
 use Rattle.o2_changes.proofs.Segmenting.{attr_there}
 use Rattle.o2_segs.proofs.Rows.{done_answers, refusal_answers, refusal_shelf}
 use Rattle.o2_locks.proofs.Rows.{done_matches, positive, unlock_done, unlock_open, unlock_plain}
+use Rattle.o2_segs.proofs.Limits.{limits_locked, limits_refl}
 use Rattle.o2_locks.proofs.unlocking.unlock.Goals as goal
 
 pub returns-then-not-is_discardable-clause-answer : goal.returns-then-not-is_discardable-clause-answer
@@ -63,3 +64,15 @@ returns-else-attr-eq0-clause-places c = λ k some. ap (λ (x : Shelf). place_of 
 
 pub returns-in-None-clause-places : goal.returns-in-None-clause-places
 returns-in-None-clause-places c = λ k some. refl
+
+pub returns-then-not-is_discardable-clause-limits : goal.returns-then-not-is_discardable-clause-limits
+returns-then-not-is_discardable-clause-limits c = limits_refl c.args.store.now c.args.regions.now
+
+pub returns-then-attr-eq0-clause-limits : goal.returns-then-attr-eq0-clause-limits
+returns-then-attr-eq0-clause-limits c = limits_refl c.args.store.now c.args.regions.now
+
+pub returns-else-attr-eq0-clause-limits : goal.returns-else-attr-eq0-clause-limits
+returns-else-attr-eq0-clause-limits c = limits_locked c.args.store.now c.set_lock.new.store c.args.regions.now c.args.id _ c.set_lock.ensures.sets
+
+pub returns-in-None-clause-limits : goal.returns-in-None-clause-limits
+returns-in-None-clause-limits c = limits_refl c.args.store.now c.args.regions.now

@@ -7,6 +7,7 @@ use Rattle.o2_stands.specs.Knows.{marks_under}
 use Rattle.o2_world.specs.Changes.{with_all}
 use Rattle.o2_world.specs.Rulings.{Ruling}
 use Rattle.o2_locks.proofs.Rows.{marked, unlock_none, unlock_some}
+use Rattle.o2_segs.proofs.Limits.{limits_refl}
 use Rattle.o2_locks.proofs.unlocking.unlock_seg.Goals as goal
 
 pub returns-in-Some-clause-answer : goal.returns-in-Some-clause-answer
@@ -29,3 +30,6 @@ returns-in-None-clause-matches c = λ p o w es em q. refusal_shelf p c.args.stor
 
 pub returns-in-None-clause-places : goal.returns-in-None-clause-places
 returns-in-None-clause-places c = λ k some. refl
+
+pub returns-in-None-clause-limits : goal.returns-in-None-clause-limits
+returns-in-None-clause-limits c = limits_refl c.args.store.now c.args.regions.now

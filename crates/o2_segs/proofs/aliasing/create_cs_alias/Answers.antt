@@ -1,5 +1,6 @@
 use Rattle.std.proofs.Common.{true, sym}
 use Rattle.o2_segs.proofs.Rows.{alias_all_answers, alias_all_matches, alias_none, alias_refused, at_maps, at_rights, refusal_answers, refusal_maps}
+use Rattle.o2_segs.proofs.Limits.{limits_refl}
 use Rattle.o2_segs.proofs.aliasing.create_cs_alias.Goals as goal
 
 pub returns-then-has_no_alias-clause-answer : goal.returns-then-has_no_alias-clause-answer
@@ -27,3 +28,9 @@ returns-in-None-clause-answer c = λ p o es em.
 pub returns-in-None-clause-matches : goal.returns-in-None-clause-matches
 returns-in-None-clause-matches c = λ p o w x es em at q.
     refusal_maps p c.args.regions.now w _ 5 em (alias_none p o c.args.pid c.args.sel (at_maps p c.args.regions.now c.args.pid c.args.sel _ em (sym c.in-None.ensures))) q
+
+pub returns-then-has_no_alias-clause-limits : goal.returns-then-has_no_alias-clause-limits
+returns-then-has_no_alias-clause-limits c = limits_refl c.args.store.now c.args.regions.now
+
+pub returns-in-None-clause-limits : goal.returns-in-None-clause-limits
+returns-in-None-clause-limits c = limits_refl c.args.store.now c.args.regions.now

@@ -11,6 +11,7 @@ use Rattle.o2_segs.proofs.Making.{added_entry, added_map, added_place, done_answ
 use Rattle.o2_segs.proofs.Resizing.{refusal_moved}
 use Rattle.o2_segs.proofs.Stops.{error_none}
 use Rattle.o2_entries.specs.declared.Entry.{Entry}
+use Rattle.o2_segs.proofs.Limits.{limits_added, limits_more, limits_same, limits_then}
 use Rattle.o2_segs.proofs.allocating.allocate.Goals as goal
 
 pub returns-then-not-is_locked-clause-answer : goal.returns-then-not-is_locked-clause-answer
@@ -173,3 +174,19 @@ returns-in-Some-lock_new-clause-holds g c = told_holds c.args.regions.now c.lock
 pub returns-in-None-lock_new-clause-holds : goal.returns-in-None-lock_new-clause-holds
 returns-in-None-lock_new-clause-holds g c =
     holds_trans c.args.regions.now c.lock_new.new.regions c.hold_made-in-None-lock_new.new.regions (told_holds c.args.regions.now c.lock_new.new.regions c.lock_new.ensures.maps) c.hold_made-in-None-lock_new.ensures.holds
+
+pub returns-then-not-is_locked-clause-limits : goal.returns-then-not-is_locked-clause-limits
+returns-then-not-is_locked-clause-limits g c =
+    limits_then c.args.store.now c.make.new.store c.make.new.store c.args.regions.now c.args.regions.now c.hold_made.new.regions 1 0 (limits_added c.args.store.now c.make.new.store c.args.regions.now c.in-Some.id _ c.in-Some.ensures.added) c.hold_made.ensures.limits
+
+pub returns-in-Some-lock_new-clause-limits : goal.returns-in-Some-lock_new-clause-limits
+returns-in-Some-lock_new-clause-limits g c =
+    limits_then c.args.store.now c.make.new.store c.lock_new.new.store c.args.regions.now c.args.regions.now c.lock_new.new.regions 1 0 (limits_added c.args.store.now c.make.new.store c.args.regions.now c.in-Some.id _ c.in-Some.ensures.added) c.lock_new.ensures.limits
+
+pub returns-in-None-lock_new-clause-limits : goal.returns-in-None-lock_new-clause-limits
+returns-in-None-lock_new-clause-limits g c =
+    limits_then c.args.store.now c.make.new.store c.lock_new.new.store c.args.regions.now c.args.regions.now c.hold_made-in-None-lock_new.new.regions 1 0 (limits_added c.args.store.now c.make.new.store c.args.regions.now c.in-Some.id _ c.in-Some.ensures.added)
+    (limits_then c.make.new.store c.lock_new.new.store c.lock_new.new.store c.args.regions.now c.lock_new.new.regions c.hold_made-in-None-lock_new.new.regions 0 0 c.lock_new.ensures.limits c.hold_made-in-None-lock_new.ensures.limits)
+
+pub returns-in-None-clause-limits : goal.returns-in-None-clause-limits
+returns-in-None-clause-limits g c = limits_more c.args.store.now c.make.new.store c.args.regions.now c.args.regions.now 0 1 (limits_same c.args.store.now c.make.new.store c.args.regions.now c.args.regions.now c.in-None.ensures.none.1 refl)

@@ -13,6 +13,7 @@ use Rattle.o2_entries.specs.declared.Entry.{Entry}
 use Rattle.o2_store.specs.Shelf.{Shelf, entry_or, place_of}
 use Rattle.o2_store.proofs.Loads.{full_load_but, same_load_but}
 use Rattle.o2_changes.proofs.LocksStand.{locked_entry}
+use Rattle.o2_segs.proofs.Limits.{limits_locked, limits_moved, limits_then, limits_unmade}
 use Rattle.o2_segs.proofs.allocating.lock_new.Goals as goal
 
 pub unmake-requires-clause-live : goal.unmake-requires-clause-live
@@ -97,3 +98,14 @@ returns-in-Some-clause-loads g c = λ r e f.
     (ap (λ (o : Option Entry). (entry_or o).image) stuck.same ∙ c.requires.bare.0) (ap (λ (o : Option Entry). (entry_or o).kept) stuck.same ∙ c.requires.bare.1) in
     let m = same_load_but s t key c.bring_in.ensures.keeps.tables in
     (omega (arith, l, m, c.bring_in.ensures.map), (c.bring_in.ensures.loads full).1))
+
+pub returns-in-Some-clause-limits : goal.returns-in-Some-clause-limits
+returns-in-Some-clause-limits g c =
+    limits_then c.args.store.now c.bring_in.new.store c.unmake.new.store c.args.regions.now c.bring_in.new.regions c.bring_in.new.regions 0 0 (limits_moved c.args.store.now c.bring_in.new.store c.args.regions.now c.bring_in.new.regions c.bring_in.ensures.keeps.tables c.bring_in.ensures.maps)
+    (limits_unmade c.bring_in.new.store c.unmake.new.store c.bring_in.new.regions c.args.id c.law.ensures.shelf c.law-2.ensures.shelf c.unmake.ensures.removed
+    (newest_still c.args.store.now c.bring_in.new.store c.args.id c.bring_in.ensures.keeps.tables c.requires.newest) c.unmake.ensures.made)
+
+pub returns-in-None-clause-limits : goal.returns-in-None-clause-limits
+returns-in-None-clause-limits g c =
+    limits_then c.args.store.now c.bring_in.new.store c.set_lock.new.store c.args.regions.now c.bring_in.new.regions c.bring_in.new.regions 0 0 (limits_moved c.args.store.now c.bring_in.new.store c.args.regions.now c.bring_in.new.regions c.bring_in.ensures.keeps.tables c.bring_in.ensures.maps)
+    (limits_locked c.bring_in.new.store c.set_lock.new.store c.bring_in.new.regions c.args.id 1 c.set_lock.ensures.sets)

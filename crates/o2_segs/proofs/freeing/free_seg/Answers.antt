@@ -3,6 +3,7 @@ use Rattle.o2_regions.specs.Maps.{Maps, held_at}
 use Rattle.o2_world.specs.Rulings.{Ruling}
 use Rattle.o2_segs.proofs.Rows.{at_maps, cleared, done_answers, free_done, free_kept, free_matches, free_none, free_refused, free_registers, refusal_answers, refusal_matches}
 use Rattle.o2_segs.proofs.Selecting.{under_held}
+use Rattle.o2_segs.proofs.Limits.{limits_dropped, limits_refl}
 use Rattle.o2_segs.proofs.freeing.free_seg.Goals as goal
 
 pub returns-then-is_kept-clause-answer : goal.returns-then-is_kept-clause-answer
@@ -54,3 +55,14 @@ returns-then-is_kept-clause-places c = λ k some. refl
 
 pub returns-in-None-clause-places : goal.returns-in-None-clause-places
 returns-in-None-clause-places c = λ k some. refl
+
+pub returns-then-is_kept-clause-limits : goal.returns-then-is_kept-clause-limits
+returns-then-is_kept-clause-limits c = limits_refl c.args.store.now c.args.regions.now
+
+pub returns-else-is_kept-clause-limits : goal.returns-else-is_kept-clause-limits
+returns-else-is_kept-clause-limits c =
+    limits_dropped c.args.store.now c.let_go-left.new.store c.args.regions.now c.let_go-left.new.regions c.in-Some.held.id c.args.pid c.index-index.result c.law-2.ensures.shelf c.law-3.ensures.shelf
+    c.let_go-left.ensures.sweeps c.let_go-left.ensures.takes
+
+pub returns-in-None-clause-limits : goal.returns-in-None-clause-limits
+returns-in-None-clause-limits c = limits_refl c.args.store.now c.args.regions.now

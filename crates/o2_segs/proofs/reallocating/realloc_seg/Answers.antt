@@ -8,6 +8,7 @@ use Rattle.o2_store.specs.Loads.{live_load_at}
 use Rattle.o2_store.specs.Sizes.{all_wanted_at, stays}
 use Rattle.o2_world.specs.Rulings.{full_size, reallocation}
 use Rattle.o2_regions.specs.Maps.{Maps}
+use Rattle.o2_segs.proofs.Limits.{limits_moved, limits_refl, limits_sized}
 use Rattle.o2_segs.proofs.reallocating.realloc_seg.Goals as goal
 
 pub returns-then-is_fixed-clause-answer : goal.returns-then-is_fixed-clause-answer
@@ -67,3 +68,20 @@ returns-in-Some-stop_of-clause-processes g c = ap (λ (x : Maps). x.processes) c
 
 pub returns-in-None-stop_of-clause-processes : goal.returns-in-None-stop_of-clause-processes
 returns-in-None-stop_of-clause-processes g c = ap (λ (x : Maps). x.processes) c.resize.ensures.maps.rest
+
+pub returns-then-is_fixed-clause-limits : goal.returns-then-is_fixed-clause-limits
+returns-then-is_fixed-clause-limits g c = limits_refl c.args.store.now c.args.regions.now
+
+pub returns-then-keeps_its_size-clause-limits : goal.returns-then-keeps_its_size-clause-limits
+returns-then-keeps_its_size-clause-limits g c = limits_refl c.args.store.now c.args.regions.now
+
+pub returns-in-Some-stop_of-clause-limits : goal.returns-in-Some-stop_of-clause-limits
+returns-in-Some-stop_of-clause-limits g c =
+    limits_moved c.args.store.now c.resize.new.store c.args.regions.now c.resize.new.regions (c.resize.ensures.keeps (not_here c.resize.result c.in-Some-stop_of.stop c.in-Some-stop_of.ensures)).tables c.resize.ensures.maps
+
+pub returns-in-None-stop_of-clause-limits : goal.returns-in-None-stop_of-clause-limits
+returns-in-None-stop_of-clause-limits g c =
+    limits_sized _ _ c.args.store.now c.resize.new.store _ _ c.args.regions.now c.resize.new.regions _ _ (c.resize.ensures.resized (was_here c.resize.result c.in-None-stop_of.ensures c.resize.ensures.never)) c.resize.ensures.maps
+
+pub returns-in-None-clause-limits : goal.returns-in-None-clause-limits
+returns-in-None-clause-limits g c = limits_refl c.args.store.now c.args.regions.now

@@ -1,0 +1,13 @@
+-- What a call leaves of how large a store is, and of what is held.
+use Rattle.std.specs.Prelude.{◌≡◌, ℕ, ◌+◌, ◌≤◌, length}
+use Rattle.o2_regions.specs.Maps.{Maps}
+use Rattle.o2_store.specs.Shelf.{Shelf}
+use Rattle.o2_segs.specs.Answers.{AreAlone}
+
+-- The memory is as large, as many segments may live, at most so many were made, and nobody holds a run of a huge allocation where
+-- nobody did.
+pub record KeepsLimits (s : Shelf) (m : Maps) (t : Shelf) (n : Maps) (more : ℕ) : Type 0 where
+  pub size : t.places.size ≡ s.places.size
+  pub count : length t.entries ≡ length s.entries
+  pub made : t.made ≤ s.made + more
+  pub alone : AreAlone m → AreAlone n
