@@ -1,21 +1,36 @@
 -- How many pieces a step hands both sinks, by its answer.
-use Rattle.std.specs.Prelude.{Result, Ok, Err}
+use Rattle.std.specs.Prelude.{ℕ, Bool, true, false, Result, Ok, Err}
 use Rattle.o2_run.specs.declared.fault.Fault.{Fault}
 use Rattle.o2_run.specs.declared.fault.Fault.TheVariants as fault
-use Rattle.o2_run.specs.Pieces.{Counts, Hands, puts_of}
+use Rattle.o2_run.specs.Pieces.{Counts, Hands, HandsUpTo, puts_of}
 use Rattle.o2_stepping.specs.declared.one_step.Ran.{Ran}
 use Rattle.o2_stepping.specs.declared.one_step.Attempt.{Attempt}
 use Rattle.o2_stepping.specs.declared.one_step.Attempt.TheVariants as attempt
+use Rattle.o2_stepping.specs.declared.one_step.Stepped.{Stepped}
+use Rattle.o2_stepping.specs.declared.one_step.Stepped.TheVariants as stepped
 
--- each line is one put, and so is the piece where it has bytes; nothing is put where it is missed or stopped. What a sink's fault
--- leaves is PartHands
+-- each line is one put, and so is the piece where it has bytes; where a sink failed in a line, none is put behind it
+abbrev pub HandsWhole : (whole : Bool) → Counts → (pieces lines : ℕ) → Type 0
+HandsWhole true n pieces lines = Hands n pieces lines
+HandsWhole false n pieces lines = HandsUpTo n pieces 0 lines
+
+-- nothing is put where a step is missed, asked or stopped. What a sink's fault leaves is PartHands
 abbrev pub RanHands : Counts → Result Ran Fault → Type 0
-RanHands n (Ok ran) = Hands n (puts_of ran.tally.bytes) ran.tally.lines
+RanHands n (Ok ran) = HandsWhole ran.whole n (puts_of ran.tally.bytes) ran.tally.lines
 RanHands n (Err fault.Sink) = Unit {0}
 RanHands n (Err (fault.Stopped why)) = Hands n 0 0
 
+abbrev pub StepPuts : Counts → Stepped → Type 0
+StepPuts n (stepped.Ran ran) = Hands n (puts_of ran.tally.bytes) ran.tally.lines
+StepPuts n (stepped.Asked a next) = Hands n 0 0
+
 abbrev pub AttemptHands : Counts → Result Attempt Fault → Type 0
-AttemptHands n (Ok (attempt.Ran ran)) = Hands n (puts_of ran.tally.bytes) ran.tally.lines
+AttemptHands n (Ok (attempt.Stepped x)) = StepPuts n x
 AttemptHands n (Ok (attempt.Missed s)) = Hands n 0 0
 AttemptHands n (Err fault.Sink) = Unit {0}
 AttemptHands n (Err (fault.Stopped why)) = Hands n 0 0
+
+abbrev pub StepHands : Counts → Result Stepped Fault → Type 0
+StepHands n (Ok x) = StepPuts n x
+StepHands n (Err fault.Sink) = Unit {0}
+StepHands n (Err (fault.Stopped why)) = Hands n 0 0

@@ -6,10 +6,12 @@ use Rattle.o2_run.specs.declared.steps.Stop.TheVariants as stop
 use Rattle.o2_run.specs.declared.fault.Fault.{Fault}
 use Rattle.o2_run.specs.declared.fault.Fault.TheVariants as fault
 use Rattle.o2_run.specs.Faults.{CauseOf}
-use Rattle.o2_stepping.specs.Ran.{IsDone, IsInPart, IsStill, IsUnread}
+use Rattle.o2_stepping.specs.Ran.{IsInPart, IsStill, IsUnread, OnAsking, StepFor, StepLeaves}
 use Rattle.o2_stepping.specs.declared.one_step.Ran.{Ran}
 use Rattle.o2_stepping.specs.declared.one_step.Attempt.{Attempt}
 use Rattle.o2_stepping.specs.declared.one_step.Attempt.TheVariants as attempt
+use Rattle.o2_stepping.specs.declared.one_step.Stepped.{Stepped}
+use Rattle.o2_gate.specs.declared.gathering.SegmentArguments.{SegmentArguments}
 
 -- a fault; before a step that lacks room, or whose swap device fails, all is as it was
 abbrev pub TakesFault : Before → Effect → Cpu → (old new : ℕ → List ℕ)
@@ -22,26 +24,32 @@ TakesFault b e cpu old new i j c d r q (fault.Stopped stop.SwapFault) = IsStill 
 
 -- of a step
 abbrev pub Takes : Before → Effect → Cpu → (old new : ℕ → List ℕ)
-    → (left_old left_new console_old console_new report_old report_new : Option (List ℕ)) → Result Ran Fault → Type 0
-Takes b e cpu old new i j c d r q (Ok ran) = IsDone e ran cpu new j c d r q
+    → (left_old left_new console_old console_new report_old report_new : Option (List ℕ)) → Result Stepped Fault → Type 0
+Takes b e cpu old new i j c d r q (Ok x) = StepLeaves b e cpu old new i j c d r q x
 Takes b e cpu old new i j c d r q (Err f) = TakesFault b e cpu old new i j c d r q f
 
 -- of one try of it
 abbrev pub Tries : Before → Effect → Cpu → (old new : ℕ → List ℕ)
     → (left_old left_new console_old console_new report_old report_new : Option (List ℕ)) → Result Attempt Fault → Type 0
-Tries b e cpu old new i j c d r q (Ok (attempt.Ran ran)) = IsDone e ran cpu new j c d r q
+Tries b e cpu old new i j c d r q (Ok (attempt.Stepped x)) = StepLeaves b e cpu old new i j c d r q x
 Tries b e cpu old new i j c d r q (Ok (attempt.Missed s)) = IsStill cpu b.cpu old new i j c d r q
 Tries b e cpu old new i j c d r q (Err f) = TakesFault b e cpu old new i j c d r q f
 
--- where a try is a step that is done
+-- where a try is a step that is done, or asks for a call on segments
 abbrev pub OnRan : Result Attempt Fault → Type 0 → Type 0
-OnRan (Ok (attempt.Ran ran)) P = P
+OnRan (Ok (attempt.Stepped x)) P = P
 OnRan (Ok (attempt.Missed s)) P = Unit {0}
 OnRan (Err f) P = Unit {0}
 
-abbrev pub OnDone : Result Ran Fault → Type 0 → Type 0
-OnDone (Ok ran) P = P
+-- where there is no fault
+abbrev pub OnDone : {T : Type 0} → Result T Fault → Type 0 → Type 0
+OnDone (Ok x) P = P
 OnDone (Err f) P = Unit {0}
+
+-- where a step asks for a call on segments
+abbrev pub OnAsks : Result Stepped Fault → (SegmentArguments → Type 0) → Type 0
+OnAsks (Ok x) P = OnAsking x P
+OnAsks (Err f) P = Unit {0}
 
 -- what holds at the stops for want of room or of swap blocks, and for the swap device
 abbrev pub OnSwapFault : (no_room swap_full swap_fault : Type 0) → Fault → Type 0
@@ -70,9 +78,13 @@ OnNoStep r P = OnSwapStop r P P P
 
 -- the causes of a fault, and of a last line that isn't put whole; those of the stops for room and swap are told elsewhere
 abbrev pub TriedFor : (sink input : Type 0) → Result Attempt Fault → Type 0
-TriedFor sink input (Ok (attempt.Ran ran)) = ran.whole ≡ false → sink
+TriedFor sink input (Ok (attempt.Stepped x)) = StepFor sink x
 TriedFor sink input (Ok (attempt.Missed s)) = Unit {0}
 TriedFor sink input (Err f) = CauseOf sink input (Unit {0}) (Unit {0}) f
+
+abbrev pub SteppedFor : (sink input : Type 0) → Result Stepped Fault → Type 0
+SteppedFor sink input (Ok x) = StepFor sink x
+SteppedFor sink input (Err f) = CauseOf sink input (Unit {0}) (Unit {0}) f
 
 abbrev pub TakenFor : (sink input : Type 0) → Result Ran Fault → Type 0
 TakenFor sink input (Ok ran) = ran.whole ≡ false → sink

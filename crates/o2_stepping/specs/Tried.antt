@@ -14,7 +14,7 @@ use Rattle.o2_gate.specs.Pointed.{ArePresent}
 use Rattle.o2_run.specs.declared.fault.Fault.{Fault}
 use Rattle.o2_run.specs.Pieces.{Counts, PartHands}
 use Rattle.o2_run.specs.Room.{touched}
-use Rattle.o2_stepping.specs.Ran.{Leaves, OnMissed, is_missed}
+use Rattle.o2_stepping.specs.Ran.{Leaves, OnMissed, OnUndone, is_missed}
 use Rattle.o2_stepping.specs.Worlds.{bytes_with, world_view}
 use Rattle.o2_stepping.specs.declared.one_step.Attempt.{Attempt}
 
@@ -34,7 +34,7 @@ pub record TriesOver (s : Shelf) (m : Maps) (t : Shelf) (seat number : ℕ) (bef
   pub present : (away : ℕ → List ℕ) (bytes : List ℕ) (known : Known) → is_missed result ≡ false
       → let b = before_call (world_view away s m seat before) number before bytes known in
       ArePresent (seen s m seat before) (touched b)
-  pub same : OnMissed result (λ z. (n : ℕ) → bytes_in t n ≡ bytes_in s n)
+  pub same : OnUndone result ((n : ℕ) → bytes_in t n ≡ bytes_in s n)
 
 -- what a sink's fault leaves of the step of the boundless machine, whatever the bytes of the names that are out of memory
 pub record PartTried (s : Shelf) (m : Maps) (seat number : ℕ) (before : Cpu) (services : Services)

@@ -1,5 +1,5 @@
 // A step of a process over a store, tried at once where all that its segment registers name is in memory.
-ghost use Rattle.std.specs.Prelude.{◌≡◌, ◌<◌, ◌≤◌, ◌⊎◌, ℕ, List, Option, Some, IsTrue};
+ghost use Rattle.std.specs.Prelude.{◌≡◌, ◌<◌, ◌≤◌, ◌⊎◌, ℕ, List, Option, Some, IsTrue, true};
 ghost use Rattle.o2_outer.specs.Texts.{Rose};
 ghost use Rattle.o2_outer.specs.Inputs.{GoesOn, IsSeenAs, left_as};
 ghost use Rattle.o2_isa.specs.View.{bound_registers};
@@ -12,16 +12,17 @@ ghost use Rattle.o2_stands.specs.Stands.{IsReady};
 ghost use Rattle.o2_world.specs.Known.{Known};
 ghost use Rattle.o2_world.specs.Effect.{effect};
 ghost use Rattle.o2_gate.specs.Befores.{IsKnown};
-ghost use Rattle.o2_gate.specs.Pointed.{ArePresent};
+ghost use Rattle.o2_gate.specs.Gathers.{targets};
+ghost use Rattle.o2_gate.specs.Pointed.{ArePresent, are_ready};
 ghost use Rattle.o2_run.specs.Pieces.{PartHands, counts};
-ghost use Rattle.o2_stepping.specs.Pieces.{RanHands};
+ghost use Rattle.o2_stepping.specs.Pieces.{StepHands};
 ghost use Rattle.o2_stepping.specs.Rooms.{all_names, needed_names, room_in};
 ghost use Rattle.o2_stepping.specs.Shapes.{SameShape};
-ghost use Rattle.o2_stepping.specs.Taken.{OnDone, OnNoStep, OnSink, OnSwapStop, TakenFor, Takes};
+ghost use Rattle.o2_stepping.specs.Taken.{OnAsks, OnDone, OnNoStep, OnSink, OnSwapStop, SteppedFor, Takes};
 ghost use Rattle.o2_stepping.specs.Worlds.{away_of, before_in, bytes_with, parts_of};
 
 use crate::in_store::step_as_needed;
-use crate::one_step::{Attempt, Ran};
+use crate::one_step::{Attempt, Stepped};
 use crate::seats::are_here;
 use crate::trying::try_step;
 use o2_gate::State as Services;
@@ -37,7 +38,8 @@ use o2_store::Store;
 /// it is known, and the step is tried; what it misses is needed too, and it is tried again. A try that misses puts nothing and
 /// takes nothing.
 ///
-/// Where what it needs doesn't come in, the step isn't taken: `Stop::NoRoom`, `Stop::SwapFull` or `Stop::SwapFault`.
+/// Where what it needs doesn't come in, the step isn't taken: `Stop::NoRoom`, `Stop::SwapFull` or `Stop::SwapFault`. A call on
+/// segments isn't made yet: it is asked for, with all that it needs beside its own segment in memory.
 pub fn step_in_store<S: SwapDevice, I: Source, C: Sink, R: Sink>(
     pid: u16,
     cpu: &mut Cpu,
@@ -49,7 +51,7 @@ pub fn step_in_store<S: SwapDevice, I: Source, C: Sink, R: Sink>(
     console: &mut C,
     report: &mut R,
     swap: &mut S,
-) -> Result<Ran, Fault>
+) -> Result<Stepped, Fault>
     requires process { IsProcess regions.old pid }
     requires ready { IsReady (parts_of store.old regions.old images.now (S.blocks swap.old) (S.block swap.old)) }
 
@@ -72,6 +74,10 @@ pub fn step_in_store<S: SwapDevice, I: Source, C: Sink, R: Sink>(
     ensures goes_on { GoesOn (I.past input.old) (I.past input.new) }
     ensures still { OnNoStep result ((cpu.new ≡ cpu.old)
         × (input.new ≡ input.old) × (console.new ≡ console.old) × (report.new ≡ report.old)) }
+    // Where a call on segments is asked for, nothing is changed, taken or put, and its pointer is ready for a write.
+    ensures asks { OnAsks result (λ a. (cpu.new ≡ cpu.old)
+        × (input.new ≡ input.old) × (console.new ≡ console.old) × (report.new ≡ report.old)) }
+    ensures aimed { OnAsks result (λ a. are_ready (seen store.new regions.new pid cpu.new) (targets a) ≡ true) }
 
     // All that a step needs is in memory together, so that its room is at most the memory; and more than it at NoRoom.
     ensures together { (bytes : List ℕ) (known : Known) → IsTrue (S.told swap.new)
@@ -97,7 +103,7 @@ pub fn step_in_store<S: SwapDevice, I: Source, C: Sink, R: Sink>(
     ensures avail { services.new.avail ≡ services.old.avail }
     ensures device { (S.blocks swap.new ≡ S.blocks swap.old) × (IsTrue (S.told swap.new) → IsTrue (S.told swap.old)) }
 
-    ensures cause { TakenFor (Rose (C.faults console.old) (C.faults console.new) ⊎ Rose (R.faults report.old) (R.faults report.new))
+    ensures cause { SteppedFor (Rose (C.faults console.old) (C.faults console.new) ⊎ Rose (R.faults report.old) (R.faults report.new))
         (Rose (I.faults input.old) (I.faults input.new)) result }
     ensures input_count { I.faults input.old ≤ I.faults input.new }
     ensures console_count { C.faults console.old ≤ C.faults console.new }
@@ -105,7 +111,7 @@ pub fn step_in_store<S: SwapDevice, I: Source, C: Sink, R: Sink>(
     ensures swap_count { S.faults swap.old ≤ S.faults swap.new }
 
     // Each line is one put, and so is the piece where it has bytes. Where a sink fails, no more lines were put than there are.
-    ensures puts { RanHands (counts (C.puts console.old) (C.puts console.new) (R.puts report.old) (R.puts report.new) 0) result }
+    ensures puts { StepHands (counts (C.puts console.old) (C.puts console.new) (R.puts report.old) (R.puts report.new) 0) result }
     ensures part { (text : Option (List ℕ)) → IsSeenAs text (I.past input.new) → (bytes : List ℕ) (known : Known)
         → IsTrue (S.told swap.new) → left_as text (I.left input.old) (I.past input.old) ≡ Some bytes → IsKnown known services.old
         → let b = before_in (away_of store.old regions.old images.now (S.blocks swap.old) (S.block swap.old)) store.old regions.old pid cpu.old bytes known in
@@ -121,9 +127,9 @@ pub fn step_in_store<S: SwapDevice, I: Source, C: Sink, R: Sink>(
             store.law();
             Err(fault)
         }
-        Ok(Attempt::Ran(ran)) => {
+        Ok(Attempt::Stepped(stepped)) => {
             store.law();
-            Ok(ran)
+            Ok(stepped)
         }
         Ok(Attempt::Missed(_)) => step_as_needed(
             pid, cpu, store, regions, images, services, input, console, report, swap,

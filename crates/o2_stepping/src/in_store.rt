@@ -14,17 +14,18 @@ ghost use Rattle.o2_stands.specs.Stands.{IsReady};
 ghost use Rattle.o2_world.specs.Known.{Known};
 ghost use Rattle.o2_world.specs.Effect.{effect};
 ghost use Rattle.o2_gate.specs.Befores.{IsKnown};
-ghost use Rattle.o2_gate.specs.Pointed.{ArePresent};
+ghost use Rattle.o2_gate.specs.Gathers.{targets};
+ghost use Rattle.o2_gate.specs.Pointed.{ArePresent, are_ready};
 ghost use Rattle.o2_run.specs.Pieces.{PartHands, counts};
 ghost use Rattle.o2_run.specs.Room.{touched};
-ghost use Rattle.o2_stepping.specs.Pieces.{AttemptHands, RanHands};
-ghost use Rattle.o2_stepping.specs.Ran.{OnMissed};
+ghost use Rattle.o2_stepping.specs.Pieces.{AttemptHands, StepHands};
+ghost use Rattle.o2_stepping.specs.Ran.{OnAsked, OnMissed, OnUndone};
 ghost use Rattle.o2_stepping.specs.Rooms.{AreNeeded, IsWanted, ages_of, all_names, needed_names, room_in, seated_in};
 ghost use Rattle.o2_stepping.specs.Shapes.{SameShape};
-ghost use Rattle.o2_stepping.specs.Taken.{IsSwapStop, OnDone, OnErr, OnNoStep, OnRan, OnSink, OnSwapStop, TakenFor, Takes, TriedFor, Tries};
+ghost use Rattle.o2_stepping.specs.Taken.{IsSwapStop, OnAsks, OnDone, OnErr, OnNoStep, OnRan, OnSink, OnSwapStop, SteppedFor, Takes, TriedFor, Tries};
 ghost use Rattle.o2_stepping.specs.Worlds.{away_of, before_in, bytes_with, parts_of};
 
-use crate::one_step::{Attempt, Ran};
+use crate::one_step::{Attempt, Stepped};
 use crate::seats::{add_missed, seats};
 use crate::trying::try_step;
 use o2_gate::State as Services;
@@ -146,11 +147,12 @@ fn serve_and_try<S: SwapDevice, I: Source, C: Sink, R: Sink>(
     ensures in_part { (bytes : List ℕ) (known : Known) → IsTrue (S.told swap.new)
         → let b = before_in (away_of store.old regions.old images.now (S.blocks swap.old) (S.block swap.old)) store.old regions.old pid cpu.old bytes known in
         OnSink result (ArePresent (seen store.new regions.new pid cpu.new) (all_names b (bound_registers (hold_in regions.new pid) cpu.new))) }
-    ensures still { OnMissed result (λ s. (cpu.new ≡ cpu.old)
+    ensures still { OnUndone result ((cpu.new ≡ cpu.old)
         × (input.new ≡ input.old) × (console.new ≡ console.old) × (report.new ≡ report.old)) }
-    ensures same { IsTrue (S.told swap.new) → OnMissed result (λ s. (n : ℕ)
+    ensures same { IsTrue (S.told swap.new) → OnUndone result ((n : ℕ)
         → bytes_with (away_of store.new regions.new images.now (S.blocks swap.new) (S.block swap.new)) store.new n
         ≡ bytes_with (away_of store.old regions.old images.now (S.blocks swap.old) (S.block swap.old)) store.old n) }
+    ensures aimed { OnAsked result (λ a. are_ready (seen store.new regions.new pid cpu.new) (targets a) ≡ true) }
     ensures stopped { OnNoStep result ((cpu.new ≡ cpu.old)
         × (input.new ≡ input.old) × (console.new ≡ console.old) × (report.new ≡ report.old)) }
 
@@ -200,7 +202,7 @@ pub(crate) fn step_as_needed<S: SwapDevice, I: Source, C: Sink, R: Sink>(
     console: &mut C,
     report: &mut R,
     swap: &mut S,
-) -> Result<Ran, Fault>
+) -> Result<Stepped, Fault>
     requires process { IsProcess regions.old pid }
     requires ready { IsReady (parts_of store.old regions.old images.now (S.blocks swap.old) (S.block swap.old)) }
 
@@ -223,6 +225,10 @@ pub(crate) fn step_as_needed<S: SwapDevice, I: Source, C: Sink, R: Sink>(
     ensures goes_on { GoesOn (I.past input.old) (I.past input.new) }
     ensures still { OnNoStep result ((cpu.new ≡ cpu.old)
         × (input.new ≡ input.old) × (console.new ≡ console.old) × (report.new ≡ report.old)) }
+    // Where a call on segments is asked for, nothing is changed, taken or put, and its pointer is ready for a write.
+    ensures asks { OnAsks result (λ a. (cpu.new ≡ cpu.old)
+        × (input.new ≡ input.old) × (console.new ≡ console.old) × (report.new ≡ report.old)) }
+    ensures aimed { OnAsks result (λ a. are_ready (seen store.new regions.new pid cpu.new) (targets a) ≡ true) }
 
     // All that a step needs is in memory together, so that its room is at most the memory; and more than it at NoRoom.
     ensures together { (bytes : List ℕ) (known : Known) → IsTrue (S.told swap.new)
@@ -248,7 +254,7 @@ pub(crate) fn step_as_needed<S: SwapDevice, I: Source, C: Sink, R: Sink>(
     ensures avail { services.new.avail ≡ services.old.avail }
     ensures device { (S.blocks swap.new ≡ S.blocks swap.old) × (IsTrue (S.told swap.new) → IsTrue (S.told swap.old)) }
 
-    ensures cause { TakenFor (Rose (C.faults console.old) (C.faults console.new) ⊎ Rose (R.faults report.old) (R.faults report.new))
+    ensures cause { SteppedFor (Rose (C.faults console.old) (C.faults console.new) ⊎ Rose (R.faults report.old) (R.faults report.new))
         (Rose (I.faults input.old) (I.faults input.new)) result }
     ensures input_count { I.faults input.old ≤ I.faults input.new }
     ensures console_count { C.faults console.old ≤ C.faults console.new }
@@ -256,7 +262,7 @@ pub(crate) fn step_as_needed<S: SwapDevice, I: Source, C: Sink, R: Sink>(
     ensures swap_count { S.faults swap.old ≤ S.faults swap.new }
 
     // Each line is one put, and so is the piece where it has bytes. Where a sink fails, no more lines were put than there are.
-    ensures puts { RanHands (counts (C.puts console.old) (C.puts console.new) (R.puts report.old) (R.puts report.new) 0) result }
+    ensures puts { StepHands (counts (C.puts console.old) (C.puts console.new) (R.puts report.old) (R.puts report.new) 0) result }
     ensures part { (text : Option (List ℕ)) → IsSeenAs text (I.past input.new) → (bytes : List ℕ) (known : Known)
         → IsTrue (S.told swap.new) → left_as text (I.left input.old) (I.past input.old) ≡ Some bytes → IsKnown known services.old
         → let b = before_in (away_of store.old regions.old images.now (S.blocks swap.old) (S.block swap.old)) store.old regions.old pid cpu.old bytes known in
@@ -271,9 +277,9 @@ pub(crate) fn step_as_needed<S: SwapDevice, I: Source, C: Sink, R: Sink>(
                 store.law();
                 return Err(fault);
             }
-            Ok(Attempt::Ran(ran)) => {
+            Ok(Attempt::Stepped(stepped)) => {
                 store.law();
-                return Ok(ran);
+                return Ok(stepped);
             }
             Ok(Attempt::Missed(sel)) => {
                 if !add_missed(&mut need, regions, pid, sel) {

@@ -11,5 +11,5 @@ mod trying;
 
 pub use at_once::step_in_store;
 pub use laws::{rooms_are_those_of_the_world, steps_start_alike};
-pub use one_step::{Attempt, Ran, absent, run_one};
+pub use one_step::{Attempt, Ran, Stepped, absent, run_one};
 pub use tally::Tally;

@@ -1,5 +1,5 @@
 // One step of a process, all but what an end takes from it.
-ghost use Rattle.std.specs.Prelude.{◌≡◌, ◌<◌, ◌≤◌, ◌+◌, ◌^◌, ◌⊎◌, ◌∷◌, [], ℕ, List, Option, Some, false};
+ghost use Rattle.std.specs.Prelude.{◌≡◌, ◌<◌, ◌≤◌, ◌+◌, ◌^◌, ◌⊎◌, ◌∷◌, [], ℕ, List, Option, Some, true, false};
 ghost use Rattle.o2_outer.specs.Texts.{Rose};
 ghost use Rattle.o2_outer.specs.Answers.{Takes, OnFailed};
 ghost use Rattle.o2_outer.specs.Inputs.{GoesOn, IsSeenAs, left_as};
@@ -10,12 +10,16 @@ ghost use Rattle.o2_world.specs.World.{Traps};
 ghost use Rattle.o2_world.specs.Text.{lines_text};
 ghost use Rattle.o2_world.specs.Effect.{effect, single_stepped, has_trap_flag as trap_flag_of};
 ghost use Rattle.o2_world.specs.Calls.{Before, Effect, trapped};
+ghost use Rattle.o2_world.specs.SegmentCalls.{on_segments};
+ghost use Rattle.o2_world.specs.declared.types.Row.{Row as RowThere};
+ghost use Rattle.o2_world.specs.declared.types.Row.TheVariants as Rows;
 ghost use Rattle.o2_gate.specs.Befores.{boundless, before_call, IsKnown};
-ghost use Rattle.o2_gate.specs.Pointed.{IsAway, ArePresent};
-ghost use Rattle.o2_run.specs.Room.{touched};
+ghost use Rattle.o2_gate.specs.Pointed.{IsAway, ArePresent, are_ready};
+ghost use Rattle.o2_gate.specs.Gathers.{targets};
+ghost use Rattle.o2_run.specs.Room.{call_names, touched};
 ghost use Rattle.o2_gate.specs.Called.{IsMade};
 ghost use Rattle.o2_gate.specs.Writes.{WritesHeld};
-ghost use Rattle.o2_stepping.specs.Ran.{Leaves, AttemptFor, RanFor, OnMissed, is_missed};
+ghost use Rattle.o2_stepping.specs.Ran.{Leaves, AttemptFor, RanFor, OnAsked, OnMissed, OnUndone, TellsTried, is_missed};
 ghost use Rattle.o2_run.specs.Pieces.{Counts, counts, Hands, SinkHands, PartHands, puts_of};
 ghost use Rattle.o2_stepping.specs.Pieces.{RanHands, AttemptHands};
 
@@ -24,12 +28,12 @@ use o2_alu::is_set;
 use o2_base::Selector;
 use o2_bus::Ranges;
 use o2_core::step_one;
-use o2_gate::{Called, State as Services, call};
+use o2_gate::{Called, Gathered, SegmentArguments, State as Services, call, gather, segment_call};
 use o2_isa::{Cpu, Flag, Outcome};
 use o2_outer::{Put, Sink, Source};
 use o2_report::{LineBuffer, set_traps};
 use o2_run::Fault;
-use o2_world::State;
+use o2_world::{SegmentCall, State};
 
 /// A step that is done.
 #[derive(Clone, Copy, Debug, PartialEq, Eq)]
@@ -43,11 +47,24 @@ pub struct Ran {
     pub whole: bool,
 }
 
+/// What a step came to, once all that it needs is in memory.
+#[derive(Clone, Copy, Debug, PartialEq, Eq)]
+pub enum Stepped {
+    /// It is done.
+    Ran(Ran),
+    /// A call on segments that comes back to `next`: its arguments lie in SS, and its pointer is good. Nothing is changed, taken or
+    /// put yet.
+    Asked {
+        arguments: SegmentArguments,
+        next: u16,
+    },
+}
+
 /// What an attempt at a step came to.
 #[derive(Clone, Copy, Debug, PartialEq, Eq)]
 pub enum Attempt {
-    /// The step is done.
-    Ran(Ran),
+    /// It misses nothing.
+    Stepped(Stepped),
     /// The segment behind this selector isn't present; nothing is changed, taken or put.
     Missed(Selector),
 }
@@ -81,7 +98,7 @@ fn trap<R: Sink>(
     ensures leaves { (b : Before) (registers : Cpu) (old new : ℕ → List ℕ) (i c : Option (List ℕ)) → b.number ≡ pid → b.cpu ≡ cpu.now → registers ≡ b.cpu → i ≡ Some b.input
         → ((n : ℕ) → new n ≡ b.view.bytes n) → ((n : ℕ) → new n ≡ old n)
         → Leaves b (single_stepped b (trapped b vector)) registers old new i i c c (R.taken report.old) (R.taken report.new) result }
-    ensures done { OnMissed result (λ s. ⊥) }
+    ensures done { OnUndone result ⊥ }
     ensures count { R.faults report.old ≤ R.faults report.new }
     ensures cause { AttemptFor (Rose (R.faults report.old) (R.faults report.new)) ⊥ result }
     ensures puts { (c : ℕ) → AttemptHands (counts c c (R.puts report.old) (R.puts report.new) 0) result }
@@ -89,11 +106,11 @@ fn trap<R: Sink>(
 {
     match put_trap(line, pid, vector, cpu, report) {
         Put::Failed => Err(Fault::Sink),
-        Put::Done => Ok(Attempt::Ran(Ran {
+        Put::Done => Ok(Attempt::Stepped(Stepped::Ran(Ran {
             state: State::Trapped(vector),
             tally: Tally { bytes: 0, lines: 1 },
             whole: true,
-        })),
+        }))),
     }
 }
 
@@ -107,9 +124,9 @@ fn outlived<R: Sink>(
 ) -> Result<Attempt, Fault>
     requires few { tally.lines < 2 ^ 63 }
     ensures leaves { (f : Filling) (b : Before) (e : Effect) (cpu : Cpu) (old : ℕ → List ℕ) (new : View) (i j c d r : Option (List ℕ)) → b.number ≡ pid → b.cpu ≡ before.now
-        → IsMade f e State.Live tally.bytes tally.lines cpu new j c d r (R.taken report.old)
+        → IsMade f e State.Live tally.bytes tally.lines cpu new j c d r (R.taken report.old) → e.changes ≡ []
         → Leaves b (single_stepped b e) cpu old (whole f new).bytes i j c d r (R.taken report.new) result }
-    ensures done { OnMissed result (λ s. ⊥) }
+    ensures done { OnUndone result ⊥ }
     ensures count { R.faults report.old ≤ R.faults report.new }
     ensures cause { AttemptFor (Rose (R.faults report.old) (R.faults report.new)) ⊥ result }
     ensures puts { (c d r : ℕ) → Hands (counts c d r (R.puts report.old) 0) (puts_of tally.bytes) tally.lines
@@ -117,27 +134,27 @@ fn outlived<R: Sink>(
     ensures part { (bytes lines : ℕ) (n : Counts) → SinkHands bytes lines n result }
 {
     if !has_trap_flag(before.flags) {
-        return Ok(Attempt::Ran(Ran {
+        return Ok(Attempt::Stepped(Stepped::Ran(Ran {
             state: State::Live,
             tally,
             whole: true,
-        }));
+        })));
     }
     let both = Tally {
         bytes: tally.bytes,
         lines: tally.lines + 1,
     };
     match put_trap(line, pid, 1, before, report) {
-        Put::Failed => Ok(Attempt::Ran(Ran {
+        Put::Failed => Ok(Attempt::Stepped(Stepped::Ran(Ran {
             state: State::Trapped(1),
             tally: both,
             whole: false,
-        })),
-        Put::Done => Ok(Attempt::Ran(Ran {
+        }))),
+        Put::Done => Ok(Attempt::Stepped(Stepped::Ran(Ran {
             state: State::Trapped(1),
             tally: both,
             whole: true,
-        })),
+        }))),
     }
 }
 
@@ -163,8 +180,44 @@ pub fn absent<R: Sink>(
     }
 }
 
+/// What a call on segments by process `pid` asks for, over a bus whose registers are those of `cpu`: its arguments, where they lie in
+/// SS and its pointer is good. An exception ends the process; nothing else is changed.
+fn ask<B: Ranges, R: Sink>(
+    which: SegmentCall,
+    next: u16,
+    pid: u16,
+    cpu: &Cpu,
+    bus: &mut B,
+    line: &mut LineBuffer,
+    report: &mut R,
+) -> Result<Attempt, Fault>
+    ensures leaves { (f : Filling) (bytes : List ℕ) (known : Known) (i c : Option (List ℕ)) → IsBound (B.view bus.old) → i ≡ Some bytes
+        → let b = before_call (boundless f (B.view bus.old)) pid cpu.now bytes known in
+        Leaves b (single_stepped b (on_segments which b next)) cpu.now (whole f (B.view bus.old)).bytes (whole f (B.view bus.new)).bytes
+        i i c c (R.taken report.old) (R.taken report.new) result }
+    ensures same { B.view bus.new ≡ B.view bus.old }
+    ensures ready { OnAsked result (λ a. are_ready (B.view bus.old) (targets a) ≡ true) }
+    ensures away { OnMissed result (λ s. IsAway (B.view bus.old) s) }
+    ensures names { (bytes : List ℕ) (known : Known) → IsBound (B.view bus.old)
+        → TellsTried (B.view bus.old)
+        (λ f. call_names (before_call (boundless f (B.view bus.old)) pid cpu.now bytes known) (Some (Rows.OnSegments which))) result }
+    ensures undone { OnUndone result (report.new ≡ report.old) }
+    ensures count { R.faults report.old ≤ R.faults report.new }
+    ensures cause { AttemptFor (Rose (R.faults report.old) (R.faults report.new)) ⊥ result }
+    ensures puts { (c : ℕ) → AttemptHands (counts c c (R.puts report.old) (R.puts report.new) 0) result }
+    ensures part { (f : Filling) (bytes : List ℕ) (known : Known) (c : ℕ) → IsBound (B.view bus.old)
+        → let b = before_call (boundless f (B.view bus.old)) pid cpu.now bytes known in
+        PartHands (single_stepped b (on_segments which b next)) (counts c c (R.puts report.old) (R.puts report.new) 0) result }
+{
+    match gather(which, cpu, bus) {
+        Gathered::Good(arguments) => Ok(Attempt::Stepped(Stepped::Asked { arguments, next })),
+        Gathered::Trap(vector) => trap(pid, vector, cpu, line, report),
+        Gathered::Missed(sel) => Ok(Attempt::Missed(sel)),
+    }
+}
+
 /// One step of process `pid`, all but what an end takes from it, over a bus whose registers are those of `cpu`. Where a segment
-/// is missed, nothing is changed, and the step may be tried again.
+/// is missed, nothing is changed, and the step may be tried again. A call on segments is asked for, and isn't made yet.
 #[tactic(auto, using(o2_outer::proofs::Inputs::goes_same))]
 pub fn run_one<B: Ranges, I: Source, C: Sink, R: Sink>(
     pid: u16,
@@ -198,9 +251,11 @@ pub fn run_one<B: Ranges, I: Source, C: Sink, R: Sink>(
     ensures present { (f : Filling) (bytes : List ℕ) (known : Known) → IsBound (B.view bus.old) → is_missed result ≡ false
         → let b = before_call (boundless f (B.view bus.old)) pid cpu.old bytes known in
         ArePresent (B.view bus.old) (touched b) }
-    // Where one is missed, nothing is changed, taken or put.
-    ensures still { OnMissed result (λ s. (cpu.new ≡ cpu.old) × (B.view bus.new ≡ B.view bus.old)
+    // Where one is missed, or a call on segments is asked for, nothing is changed, taken or put.
+    ensures still { OnUndone result ((cpu.new ≡ cpu.old) × (B.view bus.new ≡ B.view bus.old)
         × (input.new ≡ input.old) × (console.new ≡ console.old) × (report.new ≡ report.old)) }
+    // The pointer of the call that is asked for is ready for a write.
+    ensures ready { OnAsked result (λ a. are_ready (B.view bus.old) (targets a) ≡ true) }
     ensures frame { KeepsFrame (B.view bus.old) (B.view bus.new) }
     ensures writes { Agrees cpu.old (B.view bus.old) → WritesHeld (B.view bus.old) (B.view bus.new) }
     ensures agrees { Agrees cpu.old (B.view bus.old) → Agrees cpu.new (B.view bus.new) }
@@ -229,8 +284,9 @@ pub fn run_one<B: Ranges, I: Source, C: Sink, R: Sink>(
         }
         Outcome::Trap(vector, _) => trap(pid, vector, cpu, &mut services.line, report),
         Outcome::Miss(sel) => Ok(Attempt::Missed(sel)),
-        Outcome::Gate { service, next } => {
-            match call(
+        Outcome::Gate { service, next } => match segment_call(service) {
+            Some(which) => ask(which, next, pid, cpu, bus, &mut services.line, report),
+            None => match call(
                 service, next, pid, cpu, bus, services, input, console, report,
             ) {
                 Err(fault) => Err(fault),
@@ -238,14 +294,14 @@ pub fn run_one<B: Ranges, I: Source, C: Sink, R: Sink>(
                     let tally = Tally { bytes, lines: 1 };
                     outlived(pid, &before, tally, &mut services.line, report)
                 }
-                Ok(Called::Exited(code)) => Ok(Attempt::Ran(Ran {
+                Ok(Called::Exited(code)) => Ok(Attempt::Stepped(Stepped::Ran(Ran {
                     state: State::Exited(code),
                     tally: Tally { bytes: 0, lines: 2 },
                     whole: true,
-                })),
+                }))),
                 Ok(Called::Trap(vector, _)) => trap(pid, vector, cpu, &mut services.line, report),
                 Ok(Called::Missed(sel)) => Ok(Attempt::Missed(sel)),
-            }
-        }
+            },
+        },
     }
 }

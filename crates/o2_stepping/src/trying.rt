@@ -1,12 +1,14 @@
 // One try of a step of a process over a store, by what is in memory.
-ghost use Rattle.std.specs.Prelude.{◌≡◌, ◌≤◌, ◌⊎◌};
+ghost use Rattle.std.specs.Prelude.{◌≡◌, ◌≤◌, ◌⊎◌, true};
 ghost use Rattle.o2_outer.specs.Texts.{Rose};
 ghost use Rattle.o2_outer.specs.Inputs.{GoesOn};
 ghost use Rattle.o2_isa.specs.View.{bound_registers};
-ghost use Rattle.o2_segbus.specs.Seen.{hold_in};
+ghost use Rattle.o2_segbus.specs.Seen.{hold_in, seen};
 ghost use Rattle.o2_segbus.specs.Bus.{registers_of};
 ghost use Rattle.o2_segbus.specs.Frames.{CanStep, KeepsClean, KeepsMaps, KeepsStore};
-ghost use Rattle.o2_stepping.specs.Ran.{AttemptFor, OnMissed};
+ghost use Rattle.o2_stepping.specs.Ran.{AttemptFor, OnAsked, OnUndone};
+ghost use Rattle.o2_gate.specs.Gathers.{targets};
+ghost use Rattle.o2_gate.specs.Pointed.{are_ready};
 ghost use Rattle.o2_stepping.specs.Tried.{PartTried, TriesOver};
 ghost use Rattle.o2_run.specs.Pieces.{counts};
 ghost use Rattle.o2_stepping.specs.Pieces.{AttemptHands};
@@ -39,8 +41,9 @@ fn try_in<I: Source, C: Sink, R: Sink>(
         (I.left input.old) (I.left input.new) (I.past input.old) (I.past input.new)
         (C.taken console.old) (C.taken console.new) (R.taken report.old) (R.taken report.new) result }
     ensures goes_on { GoesOn (I.past input.old) (I.past input.new) }
-    ensures still { OnMissed result (λ s. (cpu.new ≡ cpu.old)
+    ensures still { OnUndone result ((cpu.new ≡ cpu.old)
         × (input.new ≡ input.old) × (console.new ≡ console.old) × (report.new ≡ report.old)) }
+    ensures ready { OnAsked result (λ a. are_ready (seen bus.new.store.now bus.new.regions.now bus.old.pid cpu.new) (targets a) ≡ true) }
     ensures store { KeepsStore bus.old.store.now bus.new.store.now }
     ensures maps { KeepsMaps bus.old.regions.now bus.new.regions.now }
     ensures clean { KeepsClean bus.old.store.now bus.old.regions.now bus.new.store.now }
@@ -60,7 +63,8 @@ fn try_in<I: Source, C: Sink, R: Sink>(
 }
 
 /// One try of a step of process `pid`, all but what an end takes from it, over what is in memory. Where a segment is missed,
-/// nothing is changed but accessed bits, nothing is taken or put, and the step may be tried again.
+/// or a call on segments is asked for, nothing is changed but accessed bits, and nothing is taken or put; where one is missed, the step
+/// may be tried again.
 ///
 /// The store changes in bytes of the memory alone, and the tables in accessed bits.
 #[inline(always)]
@@ -79,8 +83,9 @@ pub(crate) fn try_step<I: Source, C: Sink, R: Sink>(
         (I.left input.old) (I.left input.new) (I.past input.old) (I.past input.new)
         (C.taken console.old) (C.taken console.new) (R.taken report.old) (R.taken report.new) result }
     ensures goes_on { GoesOn (I.past input.old) (I.past input.new) }
-    ensures still { OnMissed result (λ s. (cpu.new ≡ cpu.old)
+    ensures still { OnUndone result ((cpu.new ≡ cpu.old)
         × (input.new ≡ input.old) × (console.new ≡ console.old) × (report.new ≡ report.old)) }
+    ensures ready { OnAsked result (λ a. are_ready (seen store.new regions.new pid cpu.new) (targets a) ≡ true) }
     ensures store { KeepsStore store.old store.new }
     ensures maps { KeepsMaps regions.old regions.new }
     ensures clean { KeepsClean store.old regions.old store.new }
