@@ -1,9 +1,10 @@
 -- What the boundless machine sees where a bus over a store shows its view.
-use Rattle.std.proofs.Common.{◌≡◌, ◌⊎◌, inl, inr, ℕ, true, false, List, Option, ap, refl, subst}
+use Rattle.std.proofs.Common.{◌≡◌, ◌⊎◌, inl, inr, ℕ, ◌==◌, ◌&&◌, ◌||◌, Bool, true, false, List, [], ◌∷◌, Option, ap, sym, ◌∙◌, refl, subst}
 use Rattle.std.specs.Prelude.{Result, Ok, Err}
 use Rattle.o2_base.specs.declared.selector.Selector.{Selector}
 use Rattle.o2_isa.specs.declared.cpu.Cpu.{Cpu}
-use Rattle.o2_isa.specs.View.{View, Hold, Registers, Filling, Agrees, whole, built_gates, no_rest, no_hidden}
+use Rattle.o2_isa.specs.View.{View, Hold, Registers, Filling, Agrees, bound_in, whole, built_gates, no_rest, no_hidden}
+use Rattle.o2_isa.specs.Pointers.{has_present_range, is_ready}
 use Rattle.o2_isa.specs.Presence.{IsMissed}
 use Rattle.o2_store.specs.Shelf.{Shelf}
 use Rattle.o2_segbus.specs.declared.seg_bus.SegBus.{SegBus}
@@ -15,9 +16,9 @@ use Rattle.o2_world.specs.Calls.{Before}
 use Rattle.o2_world.specs.Effect.{effect}
 use Rattle.o2_run.specs.declared.fault.Fault.{Fault}
 use Rattle.o2_run.specs.Pieces.{Counts, PartHands}
-use Rattle.o2_run.specs.Room.{touched}
+use Rattle.o2_run.specs.Room.{Pointer, touched}
 use Rattle.o2_gate.specs.Befores.{boundless, before_call}
-use Rattle.o2_gate.specs.Pointed.{ArePresent}
+use Rattle.o2_gate.specs.Pointed.{ArePresent, are_ready}
 use Rattle.o2_gate.specs.Writes.{HoldsForWriting, WritesHeld}
 use Rattle.o2_stepping.specs.Ran.{Leaves, OnMissed}
 use Rattle.o2_stepping.specs.Worlds.{bytes_with, world_view}
@@ -62,7 +63,7 @@ missed_there b c s names m = record { hold = m.hold; found_it = m.found_it; abse
 -- where a step is missed
 pub on_missed : (P Q : Selector → Type 0) (r : Result Attempt Fault) → ((s : Selector) → P s → Q s) → OnMissed r P → OnMissed r Q
 on_missed P Q (Ok (attempt.Missed s)) f p = f s p
-on_missed P Q (Ok (attempt.Ran ran)) f p = tt
+on_missed P Q (Ok (attempt.Stepped x)) f p = tt
 on_missed P Q (Err x) f p = tt
 
 -- the step, and what is missed
@@ -107,3 +108,19 @@ writes_there v w h n = go (h n)
 pub bytes_there : (a b : SegBus) → view_of b ≡ view_of a → (n : ℕ) → bytes_in b.store.now n ≡ bytes_in a.store.now n
 unfolding bus_view seen_with
 bytes_there a b e n = ap (λ (v : View). v.bytes n) e
+
+-- Pointers are ready for a write where what is held, its presence and its bytes are the same.
+
+ready_like : (v w : View) (ps : List Pointer) → v.held ≡ w.held → v.present ≡ w.present → v.bytes ≡ w.bytes → are_ready v ps ≡ are_ready w ps
+unfolding is_ready
+ready_like v w [] held present bytes = refl
+ready_like v w (p ∷ ps) held present bytes =
+    ap (λ (h : ℕ → Option Hold). ((p.count == 0) || has_present_range p.good v p.offset p.count (bound_in h p.selector)) && are_ready v ps) held
+    ∙ (ap (λ (f : ℕ → Bool). ((p.count == 0) || has_present_range p.good (record v { present = f }) p.offset p.count (bound_in w.held p.selector)) && are_ready v ps) present
+    ∙ (ap (λ (f : ℕ → List ℕ). ((p.count == 0) || has_present_range p.good (record w { bytes = f }) p.offset p.count (bound_in w.held p.selector)) && are_ready v ps) bytes
+    ∙ ap (λ (b : Bool). ((p.count == 0) || has_present_range p.good w p.offset p.count (bound_in w.held p.selector)) && b) (ready_like v w ps held present bytes)))
+
+-- on a bus as in store and tables
+pub aimed_there : (a : SegBus) (pid : ℕ) (c : Cpu) (ps : List Pointer) → hold_in a.regions.now a.pid ≡ hold_in a.regions.now pid → are_ready (view_of a) ps ≡ true → are_ready (seen a.store.now a.regions.now pid c) ps ≡ true
+unfolding bus_view seen_with
+aimed_there a pid c ps held ready = sym (ready_like (view_of a) (seen a.store.now a.regions.now pid c) ps held refl refl) ∙ ready

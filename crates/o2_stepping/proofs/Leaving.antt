@@ -22,11 +22,12 @@ use Rattle.o2_world.specs.declared.types.State.{State}
 
 -- what a call has made, as a step that is done
 pub done_by : (f : Filling) (e : Effect) (ends : State) (tally : Tally) (cpu : Cpu) (new : View) (j c d r q : Option (List ℕ))
-    → IsMade f e ends tally.bytes tally.lines cpu new j c d r q → IsDone e (record { state = ends; tally = tally; whole = true }) cpu (whole f new).bytes j c d r q
-done_by f e ends tally cpu new j c d r q made = record {
+    → e.changes ≡ [] → IsMade f e ends tally.bytes tally.lines cpu new j c d r q → IsDone e (record { state = ends; tally = tally; whole = true }) cpu (whole f new).bytes j c d r q
+done_by f e ends tally cpu new j c d r q quiet made = record {
   state = made.state;
   ends = λ late. absurd (cc);
   puts = record { bytes = made.piece; lines = made.lines };
+  changes = quiet;
   cpu = made.cpu;
   bytes = made.bytes;
   input = made.input;
@@ -64,12 +65,13 @@ module _ (f : Filling) (b : Before) (e : Effect) (tally more : Tally) (cpu : Cpu
   lines_more has = length-append e.lines (Traps b.number 1 b.cpu.cs b.cpu.ip ∷ []) ∙ ap (λ (n : ℕ). n + 1) has ∙ sym one_more
 
   -- the exception behind a step, with its line whole or in part
-  pub made_with_trap : has_trap_flag b.cpu.flags ≡ true → IsMade f e Live tally.bytes tally.lines cpu new j c d r s → Gains s q (lines_text (Traps b.number 1 b.cpu.cs b.cpu.ip ∷ [])) → IsDone (single_stepped b e) (record { state = Trapped 1; tally = more; whole = true }) cpu (whole f new).bytes j c d r q
-  made_with_trap flag made took =
+  pub made_with_trap : has_trap_flag b.cpu.flags ≡ true → e.changes ≡ [] → IsMade f e Live tally.bytes tally.lines cpu new j c d r s → Gains s q (lines_text (Traps b.number 1 b.cpu.cs b.cpu.ip ∷ [])) → IsDone (single_stepped b e) (record { state = Trapped 1; tally = more; whole = true }) cpu (whole f new).bytes j c d r q
+  made_with_trap flag quiet made took =
       subst (λ (x : Effect). IsDone x (record { state = Trapped 1; tally = more; whole = true }) cpu (whole f new).bytes j c d r q) (sym (with_flag b e flag made.state)) (record {
         state = refl;
         ends = λ late. absurd (cc);
         puts = record { bytes = made.piece ∙ sym same; lines = lines_more made.lines };
+        changes = quiet;
         cpu = made.cpu;
         bytes = made.bytes;
         input = made.input;
@@ -77,13 +79,14 @@ module _ (f : Filling) (b : Before) (e : Effect) (tally more : Tally) (cpu : Cpu
         to_report = rw (more_lines e (Traps b.number 1 b.cpu.cs b.cpu.ip)) (puts_more _ _ r s q put.Done made.to_report took);
       })
 
-  pub late_with_trap : has_trap_flag b.cpu.flags ≡ true → IsMade f e Live tally.bytes tally.lines cpu new j c d r s → GainsSome s q (λ front. IsPrefix front (lines_text (Traps b.number 1 b.cpu.cs b.cpu.ip ∷ [])))
+  pub late_with_trap : has_trap_flag b.cpu.flags ≡ true → e.changes ≡ [] → IsMade f e Live tally.bytes tally.lines cpu new j c d r s → GainsSome s q (λ front. IsPrefix front (lines_text (Traps b.number 1 b.cpu.cs b.cpu.ip ∷ [])))
       → IsDone (single_stepped b e) (record { state = Trapped 1; tally = more; whole = false }) cpu (whole f new).bytes j c d r q
-  late_with_trap flag made took =
+  late_with_trap flag quiet made took =
       subst (λ (x : Effect). IsDone x (record { state = Trapped 1; tally = more; whole = false }) cpu (whole f new).bytes j c d r q) (sym (with_flag b e flag made.state)) (record {
         state = refl;
         ends = λ late. refl;
         puts = record { bytes = made.piece ∙ sym same; lines = lines_more made.lines };
+        changes = quiet;
         cpu = made.cpu;
         bytes = made.bytes;
         input = made.input;
@@ -102,6 +105,7 @@ in_part_more b e true true cpu before old new i j c d r q part = record {
   to_report = rw (more_lines e (Traps b.number 1 b.cpu.cs b.cpu.ip)) (puts_front _ _ r q part.to_report);
   in_order = part.in_order;
   selectors = part.selectors;
+  changes = part.changes;
 }
 in_part_more b e true false cpu before old new i j c d r q part = part
 in_part_more b e false live cpu before old new i j c d r q part = part

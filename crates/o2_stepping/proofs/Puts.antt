@@ -12,9 +12,9 @@ use Rattle.o2_run.specs.Pieces.{Counts, counts, Hands, HandsUpTo, SinkHands, Par
 use Rattle.o2_gate.specs.declared.called.Called.{Called}
 use Rattle.o2_gate.specs.declared.called.Called.TheVariants.{Back, Exited, Trap}
 use Rattle.o2_gate.specs.Pieces.{CallHands}
-use Rattle.o2_stepping.specs.Pieces.{RanHands, AttemptHands}
+use Rattle.o2_stepping.specs.Pieces.{StepHands, AttemptHands}
 use Rattle.o2_stepping.specs.Taken.{IsSwapStop}
-use Rattle.o2_stepping.specs.declared.one_step.Ran.{Ran}
+use Rattle.o2_stepping.specs.declared.one_step.Stepped.{Stepped}
 use Rattle.o2_stepping.specs.declared.one_step.Attempt.{Attempt}
 use Rattle.o2_stepping.specs.declared.one_step.Attempt.TheVariants as attempt
 use Rattle.o2_stepping.proofs.Leaving.{ended_stays}
@@ -66,14 +66,14 @@ fault_part b e whole n fault.Sink is h = subst (λ (x : Effect). HandsUpTo n (pu
 fault_part b e whole n (fault.Stopped why) is h = tt
 
 -- an attempt as a step, where nothing can be missed
-pub ran_hands : (n : Counts) (a : Attempt) (ran : Ran) → a ≡ attempt.Ran ran → AttemptHands n (Ok a) → RanHands n (Ok ran)
+pub ran_hands : (n : Counts) (a : Attempt) (ran : Stepped) → a ≡ attempt.Stepped ran → AttemptHands n (Ok a) → StepHands n (Ok ran)
 ran_hands n a ran is h = subst (λ (x : Attempt). AttemptHands n (Ok x)) is h
 
-pub ran_fault : (n : Counts) (f : Fault) → AttemptHands n (Err f) → RanHands n (Err f)
+pub ran_fault : (n : Counts) (f : Fault) → AttemptHands n (Err f) → StepHands n (Err f)
 ran_fault n fault.Sink h = tt
 ran_fault n (fault.Stopped why) h = h
 
-pub part_fault : (e : Effect) (n : Counts) (f : Fault) → PartHands {T = Attempt} e n (Err f) → PartHands {T = Ran} e n (Err f)
+pub part_fault : (e : Effect) (n : Counts) (f : Fault) → PartHands {T = Attempt} e n (Err f) → PartHands {T = Stepped} e n (Err f)
 part_fault e n fault.Sink h = h
 part_fault e n (fault.Stopped why) h = tt
 

@@ -1,11 +1,10 @@
--- The segment registers behind a call that is built, and behind an exception, are those before it.
+-- The segment registers behind a call that isn't one on segments, and behind an exception, are those before it.
 use Rattle.std.proofs.Common.{ℕ, Bool, true, false, cond, ◌==◌, List, length, Option, Some, None, refl}
 use Rattle.o2_isa.specs.declared.cpu.Cpu.{Cpu}
 use Rattle.o2_isa.specs.Presence.{SameSelectors}
 use Rattle.o2_world.specs.declared.types.Argument.{Argument}
 use Rattle.o2_world.specs.declared.types.Row.{Row}
 use Rattle.o2_world.specs.declared.types.Row.TheVariants.{DosExit, DosGetPid, DosRead, DosWrite, DosMemAvail, OnSegments}
-use Rattle.o2_world.proofs.Rows.{built_is_plain}
 use Rattle.o2_world.specs.Calls.{Before, Effect, argument, dos_exit, dos_read, dos_write, has_arguments, is_console, IsPlain, may_give, may_take, may_write, returned, row_of, served_by, serviced, told, transfer_of}
 
 abbrev Stay : Before → Effect → Type 0
@@ -51,5 +50,5 @@ served_stays (Some DosWrite) b next plain = write_stays b next
 served_stays (Some DosMemAvail) b next plain = told_stays b next _ _ _
 served_stays (Some (OnSegments call)) b next plain = absurd plain
 
-pub call_stays : (b : Before) (service next : ℕ) → SameSelectors (serviced b service next).cpu b.cpu
-call_stays b service next = served_stays (row_of service) b next (built_is_plain service)
+pub call_stays : (b : Before) (service next : ℕ) → IsPlain (row_of service) → SameSelectors (serviced b service next).cpu b.cpu
+call_stays b service next plain = served_stays (row_of service) b next plain

@@ -19,12 +19,14 @@ use Rattle.o2_swapmap.specs.Piles.{all_of}
 use Rattle.o2_store.specs.Loads.{live_load, swap_load}
 use Rattle.o2_store.proofs.Loads.{same_live_load, same_swap_load}
 use Rattle.o2_stepping.specs.Shapes.{SameShape}
-use Rattle.o2_stepping.specs.Ran.{IsDone, OnMissed}
-use Rattle.o2_stepping.specs.declared.one_step.Ran.{Ran}
-use Rattle.o2_stepping.specs.Taken.{OnDone, OnRan, OnSink, OnSinkFault, OnSwapFault, OnSwapStop, Takes, TriedFor, Tries}
+use Rattle.o2_gate.specs.declared.gathering.SegmentArguments.{SegmentArguments}
+use Rattle.o2_stepping.specs.Ran.{OnAsked, OnAsking, OnMissed, OnUndone, StepFor, StepLeaves}
+use Rattle.o2_stepping.specs.Taken.{OnAsks, OnDone, OnRan, OnSink, OnSinkFault, OnSwapFault, OnSwapStop, Takes, TriedFor, Tries}
 use Rattle.o2_stepping.specs.Worlds.{before_in, bytes_with, world_view}
 use Rattle.o2_stepping.specs.declared.one_step.Attempt.{Attempt}
 use Rattle.o2_stepping.specs.declared.one_step.Attempt.TheVariants as attempt
+use Rattle.o2_stepping.specs.declared.one_step.Stepped.{Stepped}
+use Rattle.o2_stepping.specs.declared.one_step.Stepped.TheVariants as stepped
 
 -- what a try did from a state behind others that were missed, it did from the first one
 module _ (a b : ℕ → List ℕ) (s t : Shelf) (m n : Maps) (pid : ℕ) (c : Cpu) (bytes : List ℕ) (known : Known)
@@ -51,7 +53,7 @@ module _ (a b : ℕ → List ℕ) (s t : Shelf) (m n : Maps) (pid : ℕ) (c : Cp
       (subst (λ (z : Option (List ℕ)). let e = before_in b t n pid d bytes known in Tries e (effect e) new (bytes_with b t) after i' j z y r q result) console
       (subst (λ (z : Option (List ℕ)). let e = before_in b t n pid d bytes known in Tries e (effect e) new (bytes_with b t) after i' j x' y z q result) report h)))
 
-  pub takes_from : (d new : Cpu) (after : ℕ → List ℕ) (i' i j x' x y r' r q : Option (List ℕ)) (result : Result Ran Fault) → d ≡ c → i' ≡ i → x' ≡ x → r' ≡ r
+  pub takes_from : (d new : Cpu) (after : ℕ → List ℕ) (i' i j x' x y r' r q : Option (List ℕ)) (result : Result Stepped Fault) → d ≡ c → i' ≡ i → x' ≡ x → r' ≡ r
       → (let e = before_in b t n pid d bytes known in Takes e (effect e) new (bytes_with b t) after i' j x' y r' q result)
       → (let e = before_in a s m pid c bytes known in Takes e (effect e) new (bytes_with a s) after i j x y r q result)
   takes_from d new after i' i j x' x y r' r q result cpu input console report h =
@@ -72,7 +74,10 @@ counts_from P c d r q {x} e f h = subst (λ (z : ℕ). P (counts z d r q 0)) e (
 pub missed_at : (P : Selector → Type 0) (x : Attempt) (s : Selector) → x ≡ attempt.Missed s → OnMissed (Ok x) P → P s
 missed_at P x s is h = subst (λ (z : Attempt). OnMissed (Ok z) P) is h
 
-pub ran_at : (P : Type 0) (x : Attempt) (r : Ran) → x ≡ attempt.Ran r → OnRan (Ok x) P → P
+pub missed_then : (P : Type 0) (x : Attempt) (s : Selector) → x ≡ attempt.Missed s → OnUndone (Ok x) P → P
+missed_then P x s is h = subst (λ (z : Attempt). OnUndone (Ok z) P) is h
+
+pub ran_at : (P : Type 0) (x : Attempt) (r : Stepped) → x ≡ attempt.Stepped r → OnRan (Ok x) P → P
 ran_at P x r is h = subst (λ (z : Attempt). OnRan (Ok z) P) is h
 
 -- what holds where a sink failed
@@ -89,20 +94,20 @@ at_stop P Q R A B C (fault.Stopped stop.SwapFull) p q r h = q h
 at_stop P Q R A B C (fault.Stopped stop.SwapFault) p q r h = r h
 
 -- the same behind a call that answers what the step answers
-pub on_done : (P Q : Type 0) (r : Result Ran Fault) → (P → Q) → OnDone r P → OnDone r Q
+pub on_done : (P Q : Type 0) (r : Result Stepped Fault) → (P → Q) → OnDone r P → OnDone r Q
 on_done P Q (Ok ran) g h = g h
 on_done P Q (Err f) g h = tt
 
-pub on_sink : (P Q : Type 0) (r : Result Ran Fault) → (P → Q) → OnSink r P → OnSink r Q
+pub on_sink : (P Q : Type 0) (r : Result Stepped Fault) → (P → Q) → OnSink r P → OnSink r Q
 on_sink P Q (Ok ran) g h = tt
 on_sink P Q (Err f) g h = at_sink P Q f g h
 
-pub on_stop : (P Q R A B C : Type 0) (r : Result Ran Fault) → (P → A) → (Q → B) → (R → C) → OnSwapStop r P Q R → OnSwapStop r A B C
+pub on_stop : (P Q R A B C : Type 0) (r : Result Stepped Fault) → (P → A) → (Q → B) → (R → C) → OnSwapStop r P Q R → OnSwapStop r A B C
 on_stop P Q R A B C (Ok ran) p q r h = tt
 on_stop P Q R A B C (Err f) p q r h = at_stop P Q R A B C f p q r h
 
-pub ran_tries : (b : Before) (e : Effect) (cpu : Cpu) (old new : ℕ → List ℕ) (i j x y r q : Option (List ℕ)) (z : Attempt) (ran : Ran) → z ≡ attempt.Ran ran
-    → Tries b e cpu old new i j x y r q (Ok z) → IsDone e ran cpu new j x y r q
+pub ran_tries : (b : Before) (e : Effect) (cpu : Cpu) (old new : ℕ → List ℕ) (i j x y r q : Option (List ℕ)) (z : Attempt) (ran : Stepped) → z ≡ attempt.Stepped ran
+    → Tries b e cpu old new i j x y r q (Ok z) → StepLeaves b e cpu old new i j x y r q ran
 ran_tries b e cpu old new i j x y r q z ran is h = subst (λ (w : Attempt). Tries b e cpu old new i j x y r q (Ok w)) is h
 
 pub full_then : (s t : Shelf) {m n : Maps} → SameShape s m t n → (all_of t.swap < swap_load t) × (t.places.size < live_load t) → (all_of s.swap < swap_load s) × (s.places.size < live_load s)
@@ -115,5 +120,20 @@ full_then s t w p =
     let f = p.1 in
     (omega (arith, a, c, e), omega (arith, b, d, f))
 
-pub ran_cause : (A B : Type 0) (z : Attempt) (ran : Ran) → z ≡ attempt.Ran ran → TriedFor A B (Ok z) → ran.whole ≡ false → A
+pub ran_cause : (A B : Type 0) (z : Attempt) (ran : Stepped) → z ≡ attempt.Stepped ran → TriedFor A B (Ok z) → StepFor A ran
 ran_cause A B z ran is h = subst (λ (w : Attempt). TriedFor A B (Ok w)) is h
+
+-- what holds of a call on segments that is asked for
+pub asked_at : (P : SegmentArguments → Type 0) (z : Attempt) (ran : Stepped) → z ≡ attempt.Stepped ran → OnAsked (Ok z) P → OnAsking ran P
+asked_at P z ran is h = subst (λ (w : Attempt). OnAsked (Ok w) P) is h
+
+pub asks_at : (P : Type 0) (z : Attempt) (ran : Stepped) → z ≡ attempt.Stepped ran → OnUndone (Ok z) P → OnAsking ran (λ a. P)
+asks_at P z ran is h = subst (λ (w : Attempt). OnUndone (Ok w) P) is h
+
+pub map_asking : (P Q : SegmentArguments → Type 0) (x : Stepped) → ((a : SegmentArguments) → P a → Q a) → OnAsking x P → OnAsking x Q
+map_asking P Q (stepped.Ran ran) f p = tt
+map_asking P Q (stepped.Asked a next) f p = f a p
+
+pub map_asks : (P Q : SegmentArguments → Type 0) (r : Result Stepped Fault) → ((a : SegmentArguments) → P a → Q a) → OnAsks r P → OnAsks r Q
+map_asks P Q (Ok x) f p = map_asking P Q x f p
+map_asks P Q (Err e) f p = tt

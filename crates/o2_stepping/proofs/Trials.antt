@@ -38,7 +38,7 @@ use Rattle.o2_stepping.proofs.Named.{both_in, one_of, seated_present}
 
 leaves_tries : (b : Before) (e : Effect) (cpu : Cpu) (old new : ℕ → List ℕ) (i j x y r q : Option (List ℕ)) (result : Result Attempt Fault)
     → Leaves b e cpu old new i j x y r q result → Tries b e cpu old new i j x y r q result
-leaves_tries b e cpu old new i j x y r q (Ok (attempt.Ran ran)) h = h
+leaves_tries b e cpu old new i j x y r q (Ok (attempt.Stepped z)) h = h
 leaves_tries b e cpu old new i j x y r q (Ok (attempt.Missed s)) h = h
 leaves_tries b e cpu old new i j x y r q (Err fault.Sink) h = h
 leaves_tries b e cpu old new i j x y r q (Err (fault.Stopped stop.Input)) h = h
@@ -140,7 +140,7 @@ module _ (a b d : ℕ → List ℕ) (s t u : Shelf) (m n : Maps) (pid : ℕ) (c 
   unfolding seen_with
   together o new (Ok (attempt.Missed z)) keeps before after names = tt
   together o new (Err x) keeps before after names = tt
-  together o new (Ok (attempt.Ran ran)) keeps before after names = λ k e. all_present o new keeps before after (names refl) k e
+  together o new (Ok (attempt.Stepped z)) keeps before after names = λ k e. all_present o new keeps before after (names refl) k e
 
   pub together_in_part : (o : Maps) (new : Cpu) (result : Result Attempt Fault) → KeepsStore t u → CanStep t n pid c → CanStep u o pid new
       → (is_missed result ≡ false → ArePresent (seen t n pid c) (touched (before_in b t n pid c bytes known)))
@@ -185,7 +185,7 @@ never_stops A B P Q R (Err (fault.Stopped stop.SwapFull)) a = absurd a
 never_stops A B P Q R (Err (fault.Stopped stop.SwapFault)) a = absurd a
 
 pub tried_for : (A B : Type 0) (r : Result Attempt Fault) → AttemptFor A B r → TriedFor A B r
-tried_for A B (Ok (attempt.Ran ran)) a = a
+tried_for A B (Ok (attempt.Stepped x)) a = a
 tried_for A B (Ok (attempt.Missed s)) a = tt
 tried_for A B (Err fault.Sink) a = a
 tried_for A B (Err (fault.Stopped stop.Input)) a = a
@@ -194,11 +194,11 @@ tried_for A B (Err (fault.Stopped stop.SwapFull)) a = tt
 tried_for A B (Err (fault.Stopped stop.SwapFault)) a = tt
 
 pub on_ran : (P : Type 0) (r : Result Attempt Fault) → P → OnRan r P
-on_ran P (Ok (attempt.Ran ran)) p = p
+on_ran P (Ok (attempt.Stepped x)) p = p
 on_ran P (Ok (attempt.Missed s)) p = tt
 on_ran P (Err f) p = tt
 
 pub map_missed : (P Q : Selector → Type 0) (r : Result Attempt Fault) → ((s : Selector) → P s → Q s) → OnMissed r P → OnMissed r Q
 map_missed P Q (Ok (attempt.Missed s)) f p = f s p
-map_missed P Q (Ok (attempt.Ran ran)) f p = tt
+map_missed P Q (Ok (attempt.Stepped x)) f p = tt
 map_missed P Q (Err x) f p = tt

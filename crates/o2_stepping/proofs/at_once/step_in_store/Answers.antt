@@ -8,18 +8,18 @@ use Rattle.o2_world.specs.Effect.{effect}
 use Rattle.o2_outer.specs.Inputs.{left_as}
 use Rattle.o2_outer.specs.Texts.{Rose}
 use Rattle.o2_run.specs.Pieces.{Counts, counts, PartHands}
-use Rattle.o2_stepping.specs.Pieces.{RanHands}
+use Rattle.o2_stepping.specs.Pieces.{StepHands}
 use Rattle.o2_stepping.specs.Rooms.{all_names, needed_names, room_in}
 use Rattle.o2_stepping.specs.Taken.{OnDone, OnSink, OnSwapStop}
 use Rattle.o2_store.specs.Loads.{live_load, swap_load}
 use Rattle.o2_swapmap.specs.Piles.{all_of}
 use Rattle.o2_stepping.specs.Worlds.{away_of, before_in, bytes_with}
-use Rattle.o2_stepping.specs.declared.one_step.Ran.{Ran}
+use Rattle.o2_stepping.specs.declared.one_step.Stepped.{Stepped}
 use Rattle.o2_stepping.proofs.Here.{may_step}
 use Rattle.o2_stepping.proofs.Keeping.{ready_same, shape_trans, try_shape}
 use Rattle.o2_stepping.proofs.Puts.{part_fault, ran_fault, ran_hands}
 use Rattle.o2_stepping.proofs.Rooms.{room_fits, room_same}
-use Rattle.o2_stepping.proofs.Steps.{at_sink, counts_from, full_then, missed_at, on_done, on_sink, on_stop, ran_at, ran_cause, ran_tries, said_first, takes_from}
+use Rattle.o2_stepping.proofs.Steps.{asked_at, asks_at, at_sink, counts_from, full_then, map_asks, missed_then, on_done, on_sink, on_stop, ran_at, ran_cause, ran_tries, said_first, takes_from}
 use Rattle.o2_stepping.proofs.Trials.{away_same, never_stops, together, together_in_part, tried, tried_for}
 use Rattle.o2_stepping.proofs.Worlds.{away_kept, seen_present, view_same, with_kept}
 use Rattle.o2_stepping.proofs.at_once.step_in_store.Goals as goal
@@ -31,8 +31,8 @@ try_step-requires g c =
 
 -- The first try is the step.
 
-pub returns-in-Ok-Ran-clause-takes_as : goal.returns-in-Ok-Ran-clause-takes_as
-returns-in-Ok-Ran-clause-takes_as g c = λ text may bytes known tells left same.
+pub returns-in-Ok-Stepped-clause-takes_as : goal.returns-in-Ok-Stepped-clause-takes_as
+returns-in-Ok-Stepped-clause-takes_as g c = λ text may bytes known tells left same.
     let S = g.S.SwapDevice in
     let s = c.args.store.now in
     let m = c.args.regions.now in
@@ -44,27 +44,27 @@ returns-in-Ok-Ran-clause-takes_as g c = λ text may bytes known tells left same.
     let a : ℕ → List ℕ = away_of s m im (S.blocks c.args.swap.now) (S.block c.args.swap.now) in
     let b : ℕ → List ℕ = away_of t n im (S.blocks c.args.swap.now) (S.block c.args.swap.now) in
     let z : Before = before_in a s m pid cpu bytes known in
-    let h = tried a a b s s t m m pid cpu bytes known refl c.try_step.new.cpu _ _ _ _ _ _ (Ok c.in-Ok-Ran.field-0) (λ k. refl)
+    let h = tried a a b s s t m m pid cpu bytes known refl c.try_step.new.cpu _ _ _ _ _ _ (Ok c.in-Ok-Stepped.field-0) (λ k. refl)
     (away_same a b t (λ k. away_kept im s t m n (S.blocks c.args.swap.now) (S.block c.args.swap.now) c.try_step.ensures.store k))
-    (c.in-Ok-Ran.ensures.over.leaves text may a bytes known left same) in
-    ran_tries z (effect z) c.try_step.new.cpu (bytes_with a s) (bytes_with b t) _ _ _ _ _ _ c.in-Ok-Ran.field-0 c.in-Ok-Ran.ran c.in-Ok-Ran.field-0-is h
+    (c.in-Ok-Stepped.ensures.over.leaves text may a bytes known left same) in
+    ran_tries z (effect z) c.try_step.new.cpu (bytes_with a s) (bytes_with b t) _ _ _ _ _ _ c.in-Ok-Stepped.field-0 c.in-Ok-Stepped.stepped c.in-Ok-Stepped.field-0-is h
 
-pub returns-in-Ok-Ran-clause-takes : goal.returns-in-Ok-Ran-clause-takes
-returns-in-Ok-Ran-clause-takes g c = λ bytes known tells left same. returns-in-Ok-Ran-clause-takes_as g c None tt bytes known tells left same
+pub returns-in-Ok-Stepped-clause-takes : goal.returns-in-Ok-Stepped-clause-takes
+returns-in-Ok-Stepped-clause-takes g c = λ bytes known tells left same. returns-in-Ok-Stepped-clause-takes_as g c None tt bytes known tells left same
 
-pub returns-in-Ok-Ran-clause-shape : goal.returns-in-Ok-Ran-clause-shape
-returns-in-Ok-Ran-clause-shape g c = try_shape c.args.store.now c.try_step.new.store c.args.regions.now c.try_step.new.regions c.try_step.ensures.store c.try_step.ensures.maps
+pub returns-in-Ok-Stepped-clause-shape : goal.returns-in-Ok-Stepped-clause-shape
+returns-in-Ok-Stepped-clause-shape g c = try_shape c.args.store.now c.try_step.new.store c.args.regions.now c.try_step.new.regions c.try_step.ensures.store c.try_step.ensures.maps
 
-pub returns-in-Ok-Ran-clause-ready : goal.returns-in-Ok-Ran-clause-ready
-returns-in-Ok-Ran-clause-ready g c =
+pub returns-in-Ok-Stepped-clause-ready : goal.returns-in-Ok-Stepped-clause-ready
+returns-in-Ok-Stepped-clause-ready g c =
     let S = g.S.SwapDevice in
     let r = c.requires.ready in
     ready_same c.args.images.now c.args.store.now c.try_step.new.store c.args.regions.now c.try_step.new.regions (S.blocks c.args.swap.now) (S.blocks c.args.swap.now) (S.block c.args.swap.now) (S.block c.args.swap.now)
     r (try_shape c.args.store.now c.try_step.new.store c.args.regions.now c.try_step.new.regions c.try_step.ensures.store c.try_step.ensures.maps) refl c.try_step.ensures.next.settled
     (c.try_step.ensures.clean.clean _ r.aged r.guarded r.clean)
 
-pub returns-in-Ok-Ran-clause-together : goal.returns-in-Ok-Ran-clause-together
-returns-in-Ok-Ran-clause-together g c = λ bytes known tells.
+pub returns-in-Ok-Stepped-clause-together : goal.returns-in-Ok-Stepped-clause-together
+returns-in-Ok-Stepped-clause-together g c = λ bytes known tells.
     let S = g.S.SwapDevice in
     let s = c.args.store.now in
     let m = c.args.regions.now in
@@ -76,11 +76,11 @@ returns-in-Ok-Ran-clause-together g c = λ bytes known tells.
     let a : ℕ → List ℕ = away_of s m im (S.blocks c.args.swap.now) (S.block c.args.swap.now) in
     let r = c.requires.ready in
     let before = may_step s m pid r.named r.settled cpu c.requires.process (sym c.are_here.ensures ∙ c.if-not-are_here.false) in
-    ran_at _ c.in-Ok-Ran.field-0 c.in-Ok-Ran.ran c.in-Ok-Ran.field-0-is
-    (together a a a s s t m m pid cpu bytes known refl n c.try_step.new.cpu (Ok c.in-Ok-Ran.field-0) c.try_step.ensures.store before c.try_step.ensures.next (c.in-Ok-Ran.ensures.over.present a bytes known))
+    ran_at _ c.in-Ok-Stepped.field-0 c.in-Ok-Stepped.stepped c.in-Ok-Stepped.field-0-is
+    (together a a a s s t m m pid cpu bytes known refl n c.try_step.new.cpu (Ok c.in-Ok-Stepped.field-0) c.try_step.ensures.store before c.try_step.ensures.next (c.in-Ok-Stepped.ensures.over.present a bytes known))
 
-pub returns-in-Ok-Ran-clause-room : goal.returns-in-Ok-Ran-clause-room
-returns-in-Ok-Ran-clause-room g c = λ bytes known tells.
+pub returns-in-Ok-Stepped-clause-room : goal.returns-in-Ok-Stepped-clause-room
+returns-in-Ok-Stepped-clause-room g c = λ bytes known tells.
     let S = g.S.SwapDevice in
     let s = c.args.store.now in
     let m = c.args.regions.now in
@@ -91,25 +91,25 @@ returns-in-Ok-Ran-clause-room g c = λ bytes known tells.
     let n = c.try_step.new.regions in
     let a : ℕ → List ℕ = away_of s m im (S.blocks c.args.swap.now) (S.block c.args.swap.now) in
     let names = all_names (before_in a s m pid cpu bytes known) (bound_registers (hold_in n pid) c.try_step.new.cpu) in
-    let here = returns-in-Ok-Ran-clause-together g c bytes known tells in
+    let here = returns-in-Ok-Stepped-clause-together g c bytes known tells in
     let w = try_shape s t m n c.try_step.ensures.store c.try_step.ensures.maps in
-    let ready = returns-in-Ok-Ran-clause-ready g c in
-    let fits = room_fits t names c.law-in-Ok-Ran.ensures.shelf ready.aged (seen_present t n pid c.try_step.new.cpu names here) c.law-in-Ok-Ran.ensures.sum c.law-in-Ok-Ran.ensures.room in
+    let ready = returns-in-Ok-Stepped-clause-ready g c in
+    let fits = room_fits t names c.law-in-Ok-Stepped.ensures.shelf ready.aged (seen_present t n pid c.try_step.new.cpu names here) c.law-in-Ok-Stepped.ensures.sum c.law-in-Ok-Stepped.ensures.room in
     let same = room_same s t names w.tables in
     let size = w.tables.size in
     omega (arith, fits, same, size)
 
-pub returns-in-Ok-Ran-clause-cause : goal.returns-in-Ok-Ran-clause-cause
-returns-in-Ok-Ran-clause-cause g c =
+pub returns-in-Ok-Stepped-clause-cause : goal.returns-in-Ok-Stepped-clause-cause
+returns-in-Ok-Stepped-clause-cause g c =
     let C = g.C.Sink in
     let R = g.R.Sink in
     let new = c.try_step.new in
     let sink = Rose (C.faults c.args.console.now) (C.faults new.console) ⊎ Rose (R.faults c.args.report.now) (R.faults new.report) in
     let input = Rose (g.I.Source.faults c.args.input.now) (g.I.Source.faults new.input) in
-    ran_cause sink input c.in-Ok-Ran.field-0 c.in-Ok-Ran.ran c.in-Ok-Ran.field-0-is (tried_for sink input (Ok c.in-Ok-Ran.field-0) c.in-Ok-Ran.ensures.cause)
+    ran_cause sink input c.in-Ok-Stepped.field-0 c.in-Ok-Stepped.stepped c.in-Ok-Stepped.field-0-is (tried_for sink input (Ok c.in-Ok-Stepped.field-0) c.in-Ok-Stepped.ensures.cause)
 
-pub returns-in-Ok-Ran-clause-puts : goal.returns-in-Ok-Ran-clause-puts
-returns-in-Ok-Ran-clause-puts g c = ran_hands _ c.in-Ok-Ran.field-0 c.in-Ok-Ran.ran c.in-Ok-Ran.field-0-is c.in-Ok-Ran.ensures.puts
+pub returns-in-Ok-Stepped-clause-puts : goal.returns-in-Ok-Stepped-clause-puts
+returns-in-Ok-Stepped-clause-puts g c = ran_hands _ c.in-Ok-Stepped.field-0 c.in-Ok-Stepped.stepped c.in-Ok-Stepped.field-0-is c.in-Ok-Stepped.ensures.puts
 
 -- The first try ends in a fault.
 
@@ -210,8 +210,8 @@ returns-in-Ok-Missed-clause-takes_as g c = λ text may bytes known tells left sa
     let a : ℕ → List ℕ = away_of s m im (S.blocks c.args.swap.now) (S.block c.args.swap.now) in
     let b : ℕ → List ℕ = away_of t n im (S.blocks c.args.swap.now) (S.block c.args.swap.now) in
     let e = c.in-Ok-Missed.ensures in
-    let kept = missed_at _ c.in-Ok-Missed.field-0 c.in-Ok-Missed.field-0-0 c.in-Ok-Missed.field-0-is e.over.same in
-    let still = missed_at _ c.in-Ok-Missed.field-0 c.in-Ok-Missed.field-0-0 c.in-Ok-Missed.field-0-is e.still in
+    let kept = missed_then _ c.in-Ok-Missed.field-0 c.in-Ok-Missed.field-0-0 c.in-Ok-Missed.field-0-is e.over.same in
+    let still = missed_then _ c.in-Ok-Missed.field-0 c.in-Ok-Missed.field-0-0 c.in-Ok-Missed.field-0-is e.still in
     let w = try_shape s t m n c.try_step.ensures.store c.try_step.ensures.maps in
     let bytes_same = with_kept im s t m n (S.blocks c.args.swap.now) (S.block c.args.swap.now) c.try_step.ensures.store kept in
     let view = view_same a b s t m n pid cpu w.tables w.holds bytes_same in
@@ -227,7 +227,7 @@ returns-in-Ok-Missed-clause-takes g c = λ bytes known tells left same. returns-
 pub returns-in-Ok-Missed-clause-still : goal.returns-in-Ok-Missed-clause-still
 returns-in-Ok-Missed-clause-still g c =
     let e = c.in-Ok-Missed.ensures in
-    let still = missed_at _ c.in-Ok-Missed.field-0 c.in-Ok-Missed.field-0-0 c.in-Ok-Missed.field-0-is e.still in
+    let still = missed_then _ c.in-Ok-Missed.field-0 c.in-Ok-Missed.field-0-0 c.in-Ok-Missed.field-0-is e.still in
     let x = c.try_step.new in
     let y = c.step_as_needed-in-Ok-Missed.new in
     let P : Type 0 = (y.cpu ≡ x.cpu) × (y.input ≡ x.input) × (y.console ≡ x.console) × (y.report ≡ x.report) in
@@ -248,8 +248,8 @@ returns-in-Ok-Missed-clause-together g c = λ bytes known tells.
     let a : ℕ → List ℕ = away_of s m im (S.blocks c.args.swap.now) (S.block c.args.swap.now) in
     let b : ℕ → List ℕ = away_of t n im (S.blocks c.args.swap.now) (S.block c.args.swap.now) in
     let e = c.in-Ok-Missed.ensures in
-    let kept = missed_at _ c.in-Ok-Missed.field-0 c.in-Ok-Missed.field-0-0 c.in-Ok-Missed.field-0-is e.over.same in
-    let still = missed_at _ c.in-Ok-Missed.field-0 c.in-Ok-Missed.field-0-0 c.in-Ok-Missed.field-0-is e.still in
+    let kept = missed_then _ c.in-Ok-Missed.field-0 c.in-Ok-Missed.field-0-0 c.in-Ok-Missed.field-0-is e.over.same in
+    let still = missed_then _ c.in-Ok-Missed.field-0 c.in-Ok-Missed.field-0-0 c.in-Ok-Missed.field-0-is e.still in
     let w = try_shape s t m n c.try_step.ensures.store c.try_step.ensures.maps in
     let bytes_same = with_kept im s t m n (S.blocks c.args.swap.now) (S.block c.args.swap.now) c.try_step.ensures.store kept in
     let view = view_same a b s t m n pid cpu w.tables w.holds bytes_same in
@@ -271,8 +271,8 @@ returns-in-Ok-Missed-clause-room g c = λ bytes known tells.
     let a : ℕ → List ℕ = away_of s m im (S.blocks c.args.swap.now) (S.block c.args.swap.now) in
     let b : ℕ → List ℕ = away_of t n im (S.blocks c.args.swap.now) (S.block c.args.swap.now) in
     let e = c.in-Ok-Missed.ensures in
-    let kept = missed_at _ c.in-Ok-Missed.field-0 c.in-Ok-Missed.field-0-0 c.in-Ok-Missed.field-0-is e.over.same in
-    let still = missed_at _ c.in-Ok-Missed.field-0 c.in-Ok-Missed.field-0-0 c.in-Ok-Missed.field-0-is e.still in
+    let kept = missed_then _ c.in-Ok-Missed.field-0 c.in-Ok-Missed.field-0-0 c.in-Ok-Missed.field-0-is e.over.same in
+    let still = missed_then _ c.in-Ok-Missed.field-0 c.in-Ok-Missed.field-0-0 c.in-Ok-Missed.field-0-is e.still in
     let w = try_shape s t m n c.try_step.ensures.store c.try_step.ensures.maps in
     let bytes_same = with_kept im s t m n (S.blocks c.args.swap.now) (S.block c.args.swap.now) c.try_step.ensures.store kept in
     let view = view_same a b s t m n pid cpu w.tables w.holds bytes_same in
@@ -298,8 +298,8 @@ returns-in-Ok-Missed-clause-room_in_part g c = λ bytes known tells.
     let a : ℕ → List ℕ = away_of s m im (S.blocks c.args.swap.now) (S.block c.args.swap.now) in
     let b : ℕ → List ℕ = away_of t n im (S.blocks c.args.swap.now) (S.block c.args.swap.now) in
     let e = c.in-Ok-Missed.ensures in
-    let kept = missed_at _ c.in-Ok-Missed.field-0 c.in-Ok-Missed.field-0-0 c.in-Ok-Missed.field-0-is e.over.same in
-    let still = missed_at _ c.in-Ok-Missed.field-0 c.in-Ok-Missed.field-0-0 c.in-Ok-Missed.field-0-is e.still in
+    let kept = missed_then _ c.in-Ok-Missed.field-0 c.in-Ok-Missed.field-0-0 c.in-Ok-Missed.field-0-is e.over.same in
+    let still = missed_then _ c.in-Ok-Missed.field-0 c.in-Ok-Missed.field-0-0 c.in-Ok-Missed.field-0-is e.still in
     let w = try_shape s t m n c.try_step.ensures.store c.try_step.ensures.maps in
     let bytes_same = with_kept im s t m n (S.blocks c.args.swap.now) (S.block c.args.swap.now) c.try_step.ensures.store kept in
     let view = view_same a b s t m n pid cpu w.tables w.holds bytes_same in
@@ -325,8 +325,8 @@ returns-in-Ok-Missed-clause-no_room g c = λ bytes known tells.
     let a : ℕ → List ℕ = away_of s m im (S.blocks c.args.swap.now) (S.block c.args.swap.now) in
     let b : ℕ → List ℕ = away_of t n im (S.blocks c.args.swap.now) (S.block c.args.swap.now) in
     let e = c.in-Ok-Missed.ensures in
-    let kept = missed_at _ c.in-Ok-Missed.field-0 c.in-Ok-Missed.field-0-0 c.in-Ok-Missed.field-0-is e.over.same in
-    let still = missed_at _ c.in-Ok-Missed.field-0 c.in-Ok-Missed.field-0-0 c.in-Ok-Missed.field-0-is e.still in
+    let kept = missed_then _ c.in-Ok-Missed.field-0 c.in-Ok-Missed.field-0-0 c.in-Ok-Missed.field-0-is e.over.same in
+    let still = missed_then _ c.in-Ok-Missed.field-0 c.in-Ok-Missed.field-0-0 c.in-Ok-Missed.field-0-is e.still in
     let w = try_shape s t m n c.try_step.ensures.store c.try_step.ensures.maps in
     let bytes_same = with_kept im s t m n (S.blocks c.args.swap.now) (S.block c.args.swap.now) c.try_step.ensures.store kept in
     let view = view_same a b s t m n pid cpu w.tables w.holds bytes_same in
@@ -355,8 +355,8 @@ returns-in-Ok-Missed-clause-shape g c =
 
 pub returns-in-Ok-Missed-clause-puts : goal.returns-in-Ok-Missed-clause-puts
 returns-in-Ok-Missed-clause-puts g c =
-    let still = missed_at _ c.in-Ok-Missed.field-0 c.in-Ok-Missed.field-0-0 c.in-Ok-Missed.field-0-is c.in-Ok-Missed.ensures.still in
-    counts_from (λ (k : Counts). RanHands k c.step_as_needed-in-Ok-Missed.result) (g.C.Sink.puts c.args.console.now) (g.C.Sink.puts c.step_as_needed-in-Ok-Missed.new.console) (g.R.Sink.puts c.args.report.now) (g.R.Sink.puts c.step_as_needed-in-Ok-Missed.new.report)
+    let still = missed_then _ c.in-Ok-Missed.field-0 c.in-Ok-Missed.field-0-0 c.in-Ok-Missed.field-0-is c.in-Ok-Missed.ensures.still in
+    counts_from (λ (k : Counts). StepHands k c.step_as_needed-in-Ok-Missed.result) (g.C.Sink.puts c.args.console.now) (g.C.Sink.puts c.step_as_needed-in-Ok-Missed.new.console) (g.R.Sink.puts c.args.report.now) (g.R.Sink.puts c.step_as_needed-in-Ok-Missed.new.report)
     (ap g.C.Sink.puts still.2) (ap g.R.Sink.puts still.3) c.step_as_needed-in-Ok-Missed.ensures.puts
 
 pub returns-in-Ok-Missed-clause-part : goal.returns-in-Ok-Missed-clause-part
@@ -372,17 +372,17 @@ returns-in-Ok-Missed-clause-part g c = λ text may bytes known tells left same.
     let a : ℕ → List ℕ = away_of s m im (S.blocks c.args.swap.now) (S.block c.args.swap.now) in
     let b : ℕ → List ℕ = away_of t n im (S.blocks c.args.swap.now) (S.block c.args.swap.now) in
     let e = c.in-Ok-Missed.ensures in
-    let kept = missed_at _ c.in-Ok-Missed.field-0 c.in-Ok-Missed.field-0-0 c.in-Ok-Missed.field-0-is e.over.same in
-    let still = missed_at _ c.in-Ok-Missed.field-0 c.in-Ok-Missed.field-0-0 c.in-Ok-Missed.field-0-is e.still in
+    let kept = missed_then _ c.in-Ok-Missed.field-0 c.in-Ok-Missed.field-0-0 c.in-Ok-Missed.field-0-is e.over.same in
+    let still = missed_then _ c.in-Ok-Missed.field-0 c.in-Ok-Missed.field-0-0 c.in-Ok-Missed.field-0-is e.still in
     let w = try_shape s t m n c.try_step.ensures.store c.try_step.ensures.maps in
     let bytes_same = with_kept im s t m n (S.blocks c.args.swap.now) (S.block c.args.swap.now) c.try_step.ensures.store kept in
     let view = view_same a b s t m n pid cpu w.tables w.holds bytes_same in
     let y = c.step_as_needed-in-Ok-Missed.new in
     let z : Before = before_in a s m pid cpu bytes known in
-    counts_from (λ (k : Counts). PartHands {T = Ran} (effect z) k c.step_as_needed-in-Ok-Missed.result) (g.C.Sink.puts c.args.console.now) (g.C.Sink.puts y.console) (g.R.Sink.puts c.args.report.now) (g.R.Sink.puts y.report)
+    counts_from (λ (k : Counts). PartHands {T = Stepped} (effect z) k c.step_as_needed-in-Ok-Missed.result) (g.C.Sink.puts c.args.console.now) (g.C.Sink.puts y.console) (g.R.Sink.puts c.args.report.now) (g.R.Sink.puts y.report)
     (ap g.C.Sink.puts still.2) (ap g.R.Sink.puts still.3)
     (said_first a b s t m n pid cpu bytes known view bytes_same
-    (λ x f. PartHands {T = Ran} (effect x) (counts (g.C.Sink.puts c.try_step.new.console) (g.C.Sink.puts y.console) (g.R.Sink.puts c.try_step.new.report) (g.R.Sink.puts y.report) 0) c.step_as_needed-in-Ok-Missed.result) c.try_step.new.cpu still.0
+    (λ x f. PartHands {T = Stepped} (effect x) (counts (g.C.Sink.puts c.try_step.new.console) (g.C.Sink.puts y.console) (g.R.Sink.puts c.try_step.new.report) (g.R.Sink.puts y.report) 0) c.step_as_needed-in-Ok-Missed.result) c.try_step.new.cpu still.0
     (c.step_as_needed-in-Ok-Missed.ensures.part text may bytes known tells (ap (λ x. left_as text (g.I.Source.left x) (g.I.Source.past x)) still.1 ∙ left) (record { avail = same.avail ∙ sym e.avail })))
 
 pub step_as_needed-requires-in-Ok-Missed-clause-ready : goal.step_as_needed-requires-in-Ok-Missed-clause-ready
@@ -392,3 +392,16 @@ step_as_needed-requires-in-Ok-Missed-clause-ready g c =
     ready_same c.args.images.now c.args.store.now c.try_step.new.store c.args.regions.now c.try_step.new.regions (S.blocks c.args.swap.now) (S.blocks c.args.swap.now) (S.block c.args.swap.now) (S.block c.args.swap.now)
     r (try_shape c.args.store.now c.try_step.new.store c.args.regions.now c.try_step.new.regions c.try_step.ensures.store c.try_step.ensures.maps) refl c.try_step.ensures.next.settled
     (c.try_step.ensures.clean.clean _ r.aged r.guarded r.clean)
+
+-- A call on segments that is asked for.
+
+pub returns-in-Ok-Stepped-clause-asks : goal.returns-in-Ok-Stepped-clause-asks
+returns-in-Ok-Stepped-clause-asks g c = asks_at _ c.in-Ok-Stepped.field-0 c.in-Ok-Stepped.stepped c.in-Ok-Stepped.field-0-is c.in-Ok-Stepped.ensures.still
+
+pub returns-in-Ok-Stepped-clause-aimed : goal.returns-in-Ok-Stepped-clause-aimed
+returns-in-Ok-Stepped-clause-aimed g c = asked_at _ c.in-Ok-Stepped.field-0 c.in-Ok-Stepped.stepped c.in-Ok-Stepped.field-0-is c.in-Ok-Stepped.ensures.ready
+
+pub returns-in-Ok-Missed-clause-asks : goal.returns-in-Ok-Missed-clause-asks
+returns-in-Ok-Missed-clause-asks g c =
+    let still = missed_then _ c.in-Ok-Missed.field-0 c.in-Ok-Missed.field-0-0 c.in-Ok-Missed.field-0-is c.in-Ok-Missed.ensures.still in
+    map_asks _ _ c.step_as_needed-in-Ok-Missed.result (λ a p. (p.0 ∙ still.0, p.1 ∙ still.1, p.2 ∙ still.2, p.3 ∙ still.3)) c.step_as_needed-in-Ok-Missed.ensures.asks

@@ -2,6 +2,7 @@ use Rattle.std.proofs.Common.{ℕ, List, ◌∙◌, refl}
 use Rattle.o2_world.specs.Effect.{effect}
 use Rattle.o2_run.specs.Pieces.{counts}
 use Rattle.o2_stepping.specs.Worlds.{away_of, before_in}
+use Rattle.o2_stepping.proofs.Gates.{map_undone}
 use Rattle.o2_stepping.proofs.Keeping.{held_stays, marks_hold, ready_same, shape_trans, try_shape}
 use Rattle.o2_stepping.proofs.Puts.{stop_hands}
 use Rattle.o2_stepping.proofs.Trials.{away_same, map_missed, never_stops, no_cause, no_sink, no_step, on_ran, part_first, stays_still, stop_part, together, together_in_part, tried, tried_for, wanted}
@@ -115,8 +116,8 @@ returns-clause-same g c = λ tells.
     let S = g.S.SwapDevice in
     let t = c.bring_in.new.store in
     let u = c.try_step.new.store in
-    map_missed _ _ c.try_step.result
-    (λ z same n. with_kept c.args.images.now t u c.bring_in.new.regions c.try_step.new.regions (S.blocks c.bring_in.new.swap) (S.block c.bring_in.new.swap) c.try_step.ensures.store same n
+    map_undone _ _ c.try_step.result
+    (λ same n. with_kept c.args.images.now t u c.bring_in.new.regions c.try_step.new.regions (S.blocks c.bring_in.new.swap) (S.block c.bring_in.new.swap) c.try_step.ensures.store same n
     ∙ c.bring_in.ensures.bytes tells n) c.try_step.ensures.over.same
 
 pub returns-in-Err-clause-puts : goal.returns-in-Err-clause-puts

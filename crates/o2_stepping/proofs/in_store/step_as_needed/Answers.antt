@@ -23,10 +23,10 @@ use Rattle.o2_stepping.proofs.Lefts.{left_less, left_most, touched_few}
 use Rattle.o2_stepping.proofs.Rounds.{ages_seated, lacks_room, length_one, length_some, no_place, own_in, live_more, live_pair, live_seated, named_more, needed_all, needed_more, none_more, none_pair, none_seated, seated_few, seated_same}
 use Rattle.o2_stepping.proofs.Named.{both_in, or_front, or_back}
 use Rattle.o2_run.specs.Pieces.{Counts, counts, Hands, PartHands}
-use Rattle.o2_stepping.specs.Pieces.{RanHands}
-use Rattle.o2_stepping.specs.declared.one_step.Ran.{Ran}
+use Rattle.o2_stepping.specs.Pieces.{StepHands}
+use Rattle.o2_stepping.specs.declared.one_step.Stepped.{Stepped}
 use Rattle.o2_stepping.proofs.Puts.{missed_hands, part_fault, ran_fault, ran_hands}
-use Rattle.o2_stepping.proofs.Steps.{at_sink, at_stop, counts_from, first_from, full_then, missed_at, part_from, ran_at, ran_cause, ran_tries, tries_from}
+use Rattle.o2_stepping.proofs.Steps.{asked_at, asks_at, at_sink, at_stop, counts_from, first_from, full_then, map_asking, missed_at, missed_then, part_from, ran_at, ran_cause, ran_tries, tries_from}
 use Rattle.o2_stepping.proofs.Rooms.{room_fits, room_same}
 use Rattle.o2_stepping.proofs.Worlds.{registers_are, seen_present, view_same}
 use Rattle.o2_stepping.proofs.in_store.step_as_needed.Goals as goal
@@ -90,7 +90,7 @@ tries-preserved g c =
     let o = c.serve_and_try.new.regions in
     let d = c.serve_and_try.new.cpu in
     let e = c.in-Ok-Missed.ensures in
-    let st = missed_at _ x0 sel is e.still in
+    let st = missed_then _ x0 sel is e.still in
     let old = c.tries.need in
     let added = c.add_missed.ensures.added c.if-not-add_missed.false in
     let more = pair_of (held_under o pid sel.0) in
@@ -108,7 +108,7 @@ tries-preserved g c =
       blocks = e.device.0 ∙ i.blocks;
       told = λ w. i.told (e.device.1 w);
       faults = omega (arith, i.faults, e.swap_count);
-      bytes = λ tells k. missed_at _ x0 sel is (e.same tells) k ∙ i.bytes (e.device.1 tells) k;
+      bytes = λ tells k. missed_then _ x0 sel is (e.same tells) k ∙ i.bytes (e.device.1 tells) k;
       live = subst (λ (x : List (SegId × ℕ)). AreLive u x) (sym added) (live_more u old more (all_live_same t u old e.shape.tables i.live) (live_pair u o pid sel.0 e.ready.held));
       seats = subst (λ (x : List (SegId × ℕ)). AreNeeded x (seated_in o pid d)) (sym added)
           (needed_more old more (seated_in o pid d)
@@ -137,8 +137,8 @@ tries-smaller g c =
     let l = length_some c.tries.need (held_under c.serve_and_try.new.regions c.args.pid c.in-Ok-Missed.sel.0) held in
     omega (arith, added, room, l)
 
-pub returns-in-Ok-Ran-clause-takes_as : goal.returns-in-Ok-Ran-clause-takes_as
-returns-in-Ok-Ran-clause-takes_as g c = λ text may bytes known tells left same.
+pub returns-in-Ok-Stepped-clause-takes_as : goal.returns-in-Ok-Stepped-clause-takes_as
+returns-in-Ok-Stepped-clause-takes_as g c = λ text may bytes known tells left same.
     let S = g.S.SwapDevice in
     let i = c.tries.invariant in
     let s = c.args.store.now in
@@ -153,13 +153,13 @@ returns-in-Ok-Ran-clause-takes_as g c = λ text may bytes known tells left same.
     let z : Before = before_in a s m pid cpu bytes known in
     let u = c.serve_and_try.new.store in
     let d : ℕ → List ℕ = away_of u c.serve_and_try.new.regions im (S.blocks c.serve_and_try.new.swap) (S.block c.serve_and_try.new.swap) in
-    ran_tries z (effect z) c.serve_and_try.new.cpu (bytes_with a s) (bytes_with d u) _ _ _ _ _ _ c.in-Ok-Ran.field-0 c.in-Ok-Ran.ran c.in-Ok-Ran.field-0-is
-    (tries_from a b s t m n pid cpu bytes known (view_same a b s t m n pid cpu i.shape.tables i.shape.holds (i.bytes (c.in-Ok-Ran.ensures.device.1 tells))) (i.bytes (c.in-Ok-Ran.ensures.device.1 tells)) c.tries.cpu c.serve_and_try.new.cpu (bytes_with d u) _ _ _ _ _ _ _ _ _ (Ok c.in-Ok-Ran.field-0) i.cpu
+    ran_tries z (effect z) c.serve_and_try.new.cpu (bytes_with a s) (bytes_with d u) _ _ _ _ _ _ c.in-Ok-Stepped.field-0 c.in-Ok-Stepped.stepped c.in-Ok-Stepped.field-0-is
+    (tries_from a b s t m n pid cpu bytes known (view_same a b s t m n pid cpu i.shape.tables i.shape.holds (i.bytes (c.in-Ok-Stepped.ensures.device.1 tells))) (i.bytes (c.in-Ok-Stepped.ensures.device.1 tells)) c.tries.cpu c.serve_and_try.new.cpu (bytes_with d u) _ _ _ _ _ _ _ _ _ (Ok c.in-Ok-Stepped.field-0) i.cpu
     (ap (λ x. left_as text (g.I.Source.left x) (g.I.Source.past x)) i.input) (ap g.C.Sink.taken i.console) (ap g.R.Sink.taken i.report)
-    (c.in-Ok-Ran.ensures.tries text may bytes known tells (ap (λ x. left_as text (g.I.Source.left x) (g.I.Source.past x)) i.input ∙ left) (record { avail = same.avail ∙ sym i.avail })))
+    (c.in-Ok-Stepped.ensures.tries text may bytes known tells (ap (λ x. left_as text (g.I.Source.left x) (g.I.Source.past x)) i.input ∙ left) (record { avail = same.avail ∙ sym i.avail })))
 
-pub returns-in-Ok-Ran-clause-takes : goal.returns-in-Ok-Ran-clause-takes
-returns-in-Ok-Ran-clause-takes g c = λ bytes known tells left same. returns-in-Ok-Ran-clause-takes_as g c None tt bytes known tells left same
+pub returns-in-Ok-Stepped-clause-takes : goal.returns-in-Ok-Stepped-clause-takes
+returns-in-Ok-Stepped-clause-takes g c = λ bytes known tells left same. returns-in-Ok-Stepped-clause-takes_as g c None tt bytes known tells left same
 
 pub returns-in-Err-clause-takes_as : goal.returns-in-Err-clause-takes_as
 returns-in-Err-clause-takes_as g c = λ text may bytes known tells left same.
@@ -220,11 +220,11 @@ returns-in-Err-clause-cause g c = rw (c.tries.invariant.console, c.tries.invaria
 pub returns-in-Err-clause-shape : goal.returns-in-Err-clause-shape
 returns-in-Err-clause-shape g c = shape_trans c.args.store.now c.tries.store c.serve_and_try.new.store c.args.regions.now c.tries.regions c.serve_and_try.new.regions c.tries.invariant.shape c.in-Err.ensures.shape
 
-pub returns-in-Ok-Ran-clause-shape : goal.returns-in-Ok-Ran-clause-shape
-returns-in-Ok-Ran-clause-shape g c = shape_trans c.args.store.now c.tries.store c.serve_and_try.new.store c.args.regions.now c.tries.regions c.serve_and_try.new.regions c.tries.invariant.shape c.in-Ok-Ran.ensures.shape
+pub returns-in-Ok-Stepped-clause-shape : goal.returns-in-Ok-Stepped-clause-shape
+returns-in-Ok-Stepped-clause-shape g c = shape_trans c.args.store.now c.tries.store c.serve_and_try.new.store c.args.regions.now c.tries.regions c.serve_and_try.new.regions c.tries.invariant.shape c.in-Ok-Stepped.ensures.shape
 
-pub returns-in-Ok-Ran-clause-together : goal.returns-in-Ok-Ran-clause-together
-returns-in-Ok-Ran-clause-together g c = λ bytes known tells.
+pub returns-in-Ok-Stepped-clause-together : goal.returns-in-Ok-Stepped-clause-together
+returns-in-Ok-Stepped-clause-together g c = λ bytes known tells.
     let S = g.S.SwapDevice in
     let i = c.tries.invariant in
     let s = c.args.store.now in
@@ -237,11 +237,11 @@ returns-in-Ok-Ran-clause-together g c = λ bytes known tells.
     let a : ℕ → List ℕ = away_of s m im (S.blocks c.args.swap.now) (S.block c.args.swap.now) in
     let b : ℕ → List ℕ = away_of t n im (S.blocks c.tries.swap) (S.block c.tries.swap) in
     subst (λ (z : Before). ArePresent (seen c.serve_and_try.new.store c.serve_and_try.new.regions pid c.serve_and_try.new.cpu) (all_names z (bound_registers (hold_in c.serve_and_try.new.regions pid) c.serve_and_try.new.cpu)))
-    (first_from a b s t m n pid cpu bytes known (view_same a b s t m n pid cpu i.shape.tables i.shape.holds (i.bytes (c.in-Ok-Ran.ensures.device.1 tells))) (i.bytes (c.in-Ok-Ran.ensures.device.1 tells)) c.tries.cpu i.cpu)
-    (ran_at _ c.in-Ok-Ran.field-0 c.in-Ok-Ran.ran c.in-Ok-Ran.field-0-is (c.in-Ok-Ran.ensures.together bytes known tells))
+    (first_from a b s t m n pid cpu bytes known (view_same a b s t m n pid cpu i.shape.tables i.shape.holds (i.bytes (c.in-Ok-Stepped.ensures.device.1 tells))) (i.bytes (c.in-Ok-Stepped.ensures.device.1 tells)) c.tries.cpu i.cpu)
+    (ran_at _ c.in-Ok-Stepped.field-0 c.in-Ok-Stepped.stepped c.in-Ok-Stepped.field-0-is (c.in-Ok-Stepped.ensures.together bytes known tells))
 
-pub returns-in-Ok-Ran-clause-room : goal.returns-in-Ok-Ran-clause-room
-returns-in-Ok-Ran-clause-room g c = λ bytes known tells.
+pub returns-in-Ok-Stepped-clause-room : goal.returns-in-Ok-Stepped-clause-room
+returns-in-Ok-Stepped-clause-room g c = λ bytes known tells.
     let S = g.S.SwapDevice in
     let i = c.tries.invariant in
     let s = c.args.store.now in
@@ -256,14 +256,14 @@ returns-in-Ok-Ran-clause-room g c = λ bytes known tells.
     let u = c.serve_and_try.new.store in
     let o = c.serve_and_try.new.regions in
     let d = c.serve_and_try.new.cpu in
-    let e = c.in-Ok-Ran.ensures in
+    let e = c.in-Ok-Stepped.ensures in
     let z : Before = before_in a s m pid cpu bytes known in
     let names = all_names z (bound_registers (hold_in o pid) d) in
     let here = subst (λ (y : Before). ArePresent (seen u o pid d) (all_names y (bound_registers (hold_in o pid) d)))
-    (first_from a b s t m n pid cpu bytes known (view_same a b s t m n pid cpu i.shape.tables i.shape.holds (i.bytes (c.in-Ok-Ran.ensures.device.1 tells))) (i.bytes (c.in-Ok-Ran.ensures.device.1 tells)) c.tries.cpu i.cpu)
-    (ran_at _ c.in-Ok-Ran.field-0 c.in-Ok-Ran.ran c.in-Ok-Ran.field-0-is (e.together bytes known tells)) in
+    (first_from a b s t m n pid cpu bytes known (view_same a b s t m n pid cpu i.shape.tables i.shape.holds (i.bytes (c.in-Ok-Stepped.ensures.device.1 tells))) (i.bytes (c.in-Ok-Stepped.ensures.device.1 tells)) c.tries.cpu i.cpu)
+    (ran_at _ c.in-Ok-Stepped.field-0 c.in-Ok-Stepped.stepped c.in-Ok-Stepped.field-0-is (e.together bytes known tells)) in
     let w = shape_trans s t u m n o i.shape e.shape in
-    let fits = room_fits u names c.law-in-Ok-Ran.ensures.shelf e.ready.aged (seen_present u o pid d names here) c.law-in-Ok-Ran.ensures.sum c.law-in-Ok-Ran.ensures.room in
+    let fits = room_fits u names c.law-in-Ok-Stepped.ensures.shelf e.ready.aged (seen_present u o pid d names here) c.law-in-Ok-Stepped.ensures.sum c.law-in-Ok-Stepped.ensures.room in
     let same = room_same s u names w.tables in
     let size = w.tables.size in
     omega (arith, fits, same, size)
@@ -340,35 +340,35 @@ returns-then-not-add_missed-clause-no_room g c = λ bytes known tells.
 pub returns-then-not-add_missed-clause-still : goal.returns-then-not-add_missed-clause-still
 returns-then-not-add_missed-clause-still g c =
     let i = c.tries.invariant in
-    let st = missed_at _ c.in-Ok-Missed.field-0 c.in-Ok-Missed.sel c.in-Ok-Missed.field-0-is c.in-Ok-Missed.ensures.still in
+    let st = missed_then _ c.in-Ok-Missed.field-0 c.in-Ok-Missed.sel c.in-Ok-Missed.field-0-is c.in-Ok-Missed.ensures.still in
     (st.0 ∙ i.cpu, st.1 ∙ i.input, st.2 ∙ i.console, st.3 ∙ i.report)
 
 pub returns-then-not-add_missed-clause-shape : goal.returns-then-not-add_missed-clause-shape
 returns-then-not-add_missed-clause-shape g c = shape_trans c.args.store.now c.tries.store c.serve_and_try.new.store c.args.regions.now c.tries.regions c.serve_and_try.new.regions c.tries.invariant.shape c.in-Ok-Missed.ensures.shape
 
-pub returns-in-Ok-Ran-clause-cause : goal.returns-in-Ok-Ran-clause-cause
-returns-in-Ok-Ran-clause-cause g c =
+pub returns-in-Ok-Stepped-clause-cause : goal.returns-in-Ok-Stepped-clause-cause
+returns-in-Ok-Stepped-clause-cause g c =
     let C = g.C.Sink in
     let R = g.R.Sink in
     let new = c.serve_and_try.new in
     rw (c.tries.invariant.console, c.tries.invariant.report) at (ran_cause
     (Rose (C.faults c.tries.console) (C.faults new.console) ⊎ Rose (R.faults c.tries.report) (R.faults new.report)) (Rose (g.I.Source.faults c.tries.input) (g.I.Source.faults new.input))
-    c.in-Ok-Ran.field-0 c.in-Ok-Ran.ran c.in-Ok-Ran.field-0-is c.in-Ok-Ran.ensures.cause)
+    c.in-Ok-Stepped.field-0 c.in-Ok-Stepped.stepped c.in-Ok-Stepped.field-0-is c.in-Ok-Stepped.ensures.cause)
 
-pub returns-in-Ok-Ran-clause-next : goal.returns-in-Ok-Ran-clause-next
-returns-in-Ok-Ran-clause-next g c = ran_at _ c.in-Ok-Ran.field-0 c.in-Ok-Ran.ran c.in-Ok-Ran.field-0-is c.in-Ok-Ran.ensures.next
+pub returns-in-Ok-Stepped-clause-next : goal.returns-in-Ok-Stepped-clause-next
+returns-in-Ok-Stepped-clause-next g c = ran_at _ c.in-Ok-Stepped.field-0 c.in-Ok-Stepped.stepped c.in-Ok-Stepped.field-0-is c.in-Ok-Stepped.ensures.next
 
 pub returns-in-Err-clause-puts : goal.returns-in-Err-clause-puts
 returns-in-Err-clause-puts g c =
     let new = c.serve_and_try.new in
-    counts_from (λ (k : Counts). RanHands k (Err c.in-Err.fault)) (g.C.Sink.puts c.args.console.now) (g.C.Sink.puts new.console) (g.R.Sink.puts c.args.report.now) (g.R.Sink.puts new.report)
+    counts_from (λ (k : Counts). StepHands k (Err c.in-Err.fault)) (g.C.Sink.puts c.args.console.now) (g.C.Sink.puts new.console) (g.R.Sink.puts c.args.report.now) (g.R.Sink.puts new.report)
     (ap g.C.Sink.puts c.tries.invariant.console) (ap g.R.Sink.puts c.tries.invariant.report) (ran_fault _ c.in-Err.fault c.in-Err.ensures.puts)
 
-pub returns-in-Ok-Ran-clause-puts : goal.returns-in-Ok-Ran-clause-puts
-returns-in-Ok-Ran-clause-puts g c =
+pub returns-in-Ok-Stepped-clause-puts : goal.returns-in-Ok-Stepped-clause-puts
+returns-in-Ok-Stepped-clause-puts g c =
     let new = c.serve_and_try.new in
-    counts_from (λ (k : Counts). RanHands k (Ok c.in-Ok-Ran.ran)) (g.C.Sink.puts c.args.console.now) (g.C.Sink.puts new.console) (g.R.Sink.puts c.args.report.now) (g.R.Sink.puts new.report)
-    (ap g.C.Sink.puts c.tries.invariant.console) (ap g.R.Sink.puts c.tries.invariant.report) (ran_hands _ c.in-Ok-Ran.field-0 c.in-Ok-Ran.ran c.in-Ok-Ran.field-0-is c.in-Ok-Ran.ensures.puts)
+    counts_from (λ (k : Counts). StepHands k (Ok c.in-Ok-Stepped.stepped)) (g.C.Sink.puts c.args.console.now) (g.C.Sink.puts new.console) (g.R.Sink.puts c.args.report.now) (g.R.Sink.puts new.report)
+    (ap g.C.Sink.puts c.tries.invariant.console) (ap g.R.Sink.puts c.tries.invariant.report) (ran_hands _ c.in-Ok-Stepped.field-0 c.in-Ok-Stepped.stepped c.in-Ok-Stepped.field-0-is c.in-Ok-Stepped.ensures.puts)
 
 pub returns-then-not-add_missed-clause-puts : goal.returns-then-not-add_missed-clause-puts
 returns-then-not-add_missed-clause-puts g c =
@@ -393,16 +393,29 @@ returns-in-Err-clause-part g c = λ text may bytes known tells left same.
     let z : Before = before_in a s m pid cpu bytes known in
     let new = c.serve_and_try.new in
     let k = counts (g.C.Sink.puts c.tries.console) (g.C.Sink.puts new.console) (g.R.Sink.puts c.tries.report) (g.R.Sink.puts new.report) 0 in
-    counts_from (λ (n : Counts). PartHands {T = Ran} (effect z) n (Err c.in-Err.fault)) (g.C.Sink.puts c.args.console.now) (g.C.Sink.puts new.console) (g.R.Sink.puts c.args.report.now) (g.R.Sink.puts new.report)
+    counts_from (λ (n : Counts). PartHands {T = Stepped} (effect z) n (Err c.in-Err.fault)) (g.C.Sink.puts c.args.console.now) (g.C.Sink.puts new.console) (g.R.Sink.puts c.args.report.now) (g.R.Sink.puts new.report)
     (ap g.C.Sink.puts i.console) (ap g.R.Sink.puts i.report) (part_fault (effect z) k c.in-Err.fault
     (part_from a b s t m n pid cpu bytes known view (i.bytes (c.in-Err.ensures.device.1 tells)) c.tries.cpu i.cpu k (Err c.in-Err.fault)
     (c.in-Err.ensures.part text may bytes known tells (ap (λ x. left_as text (g.I.Source.left x) (g.I.Source.past x)) i.input ∙ left) (record { avail = same.avail ∙ sym i.avail }))))
 
-pub returns-in-Ok-Ran-clause-goes_on : goal.returns-in-Ok-Ran-clause-goes_on
-returns-in-Ok-Ran-clause-goes_on g c = rw c.tries.invariant.input at c.in-Ok-Ran.ensures.goes_on
+pub returns-in-Ok-Stepped-clause-goes_on : goal.returns-in-Ok-Stepped-clause-goes_on
+returns-in-Ok-Stepped-clause-goes_on g c = rw c.tries.invariant.input at c.in-Ok-Stepped.ensures.goes_on
 
 pub returns-in-Err-clause-goes_on : goal.returns-in-Err-clause-goes_on
 returns-in-Err-clause-goes_on g c = rw c.tries.invariant.input at c.in-Err.ensures.goes_on
 
 pub returns-then-not-add_missed-clause-goes_on : goal.returns-then-not-add_missed-clause-goes_on
 returns-then-not-add_missed-clause-goes_on g c = rw c.tries.invariant.input at c.in-Ok-Missed.ensures.goes_on
+
+-- A call on segments that is asked for.
+
+pub returns-in-Ok-Stepped-clause-asks : goal.returns-in-Ok-Stepped-clause-asks
+returns-in-Ok-Stepped-clause-asks g c =
+    let i = c.tries.invariant in
+    let new = c.serve_and_try.new in
+    let P : Type 0 = (new.cpu ≡ c.tries.cpu) × (new.input ≡ c.tries.input) × (new.console ≡ c.tries.console) × (new.report ≡ c.tries.report) in
+    map_asking (λ a. P) _ c.in-Ok-Stepped.stepped (λ a p. (p.0 ∙ i.cpu, p.1 ∙ i.input, p.2 ∙ i.console, p.3 ∙ i.report))
+    (asks_at P c.in-Ok-Stepped.field-0 c.in-Ok-Stepped.stepped c.in-Ok-Stepped.field-0-is c.in-Ok-Stepped.ensures.still)
+
+pub returns-in-Ok-Stepped-clause-aimed : goal.returns-in-Ok-Stepped-clause-aimed
+returns-in-Ok-Stepped-clause-aimed g c = asked_at _ c.in-Ok-Stepped.field-0 c.in-Ok-Stepped.stepped c.in-Ok-Stepped.field-0-is c.in-Ok-Stepped.ensures.aimed

@@ -1,4 +1,4 @@
-use Rattle.std.proofs.Common.{ℕ, [], List, Option, None, ap, sym, ◌∙◌, refl, subst, true}
+use Rattle.std.proofs.Common.{◌≡◌, inr, ℕ, [], List, Option, None, ap, sym, ◌∙◌, refl, subst, true}
 use Rattle.std.specs.Prelude.{Result, Ok, Err}
 use Rattle.o2_outer.specs.Inputs.{left_as}
 use Rattle.o2_outer.proofs.TextLemmas.{gains_none}
@@ -16,9 +16,17 @@ use Rattle.o2_gate.specs.declared.called.Called.TheVariants as called
 use Rattle.o2_stepping.specs.Ran.{Leaves, IsDone}
 use Rattle.o2_stepping.specs.declared.tally.Tally.{Tally}
 use Rattle.o2_stepping.proofs.Leaving.{effect_by, done_by, ended_stays}
-use Rattle.o2_stepping.proofs.Gates.{done_boundless, trap_boundless, gate_boundless, away_by, whole_same, frame_by, frame_then, moved, by_answer, fault_by, still_of, missed_by, missed_of, none_missed}
+use Rattle.o2_world.specs.Calls.{row_of}
+use Rattle.o2_world.specs.SegmentCalls.{on_segments}
+use Rattle.o2_world.proofs.Quiet.{served_quiet}
+use Rattle.o2_isa.specs.View.{Agrees, KeepsFrame}
+use Rattle.o2_gate.specs.Gathers.{targets}
+use Rattle.o2_gate.specs.Pointed.{are_ready}
+use Rattle.o2_gate.specs.Writes.{WritesHeld}
+use Rattle.o2_stepping.specs.Ran.{OnAsked, OnMissed}
+use Rattle.o2_stepping.proofs.Gates.{done_boundless, trap_boundless, gate_boundless, away_by, whole_same, frame_by, frame_then, moved, by_answer, fault_by, still_of, missed_by, missed_of, none_asked, none_missed, none_undone, asks_by, asks_from, map_undone, wider_cause}
 use Rattle.o2_gate.proofs.Writing.{writes_data, writes_then, agrees_then}
-use Rattle.o2_stepping.proofs.Touches.{loads_missed, touched_present, call_missed, call_present, told_by, told_before}
+use Rattle.o2_stepping.proofs.Touches.{loads_missed, touched_present, call_missed, call_present, told_by, told_before, asked_before, asked_missed, asked_present}
 use Rattle.o2_world.specs.Effect.{effect}
 use Rattle.o2_run.specs.declared.fault.Fault.{Fault}
 use Rattle.o2_run.specs.Pieces.{Counts, counts, PartHands}
@@ -39,7 +47,7 @@ returns-in-Done-clause-leaves_as g c = λ text m f input known bound left same.
     (g.R.Sink.taken c.args.report.now) (g.R.Sink.taken c.outlived.new.report) c.outlived.result)
     (sym (effect_by b r (done_boundless f v w c.args.cpu.now cpu (c.in-Done.ensures.boundless f bound))))
     (c.outlived.ensures.leaves f b (answered b r) cpu (whole f v).bytes w
-    (left_as text (g.I.Source.left c.args.input.now) (g.I.Source.past c.args.input.now)) _ _ _ _ refl refl (record { state = refl; piece = refl; lines = refl; cpu = refl; bytes = λ n. refl; input = left; to_console = gains_none _; to_report = gains_none _ }))
+    (left_as text (g.I.Source.left c.args.input.now) (g.I.Source.past c.args.input.now)) _ _ _ _ refl refl (record { state = refl; piece = refl; lines = refl; cpu = refl; bytes = λ n. refl; input = left; to_console = gains_none _; to_report = gains_none _ }) refl)
 
 pub returns-in-Done-clause-leaves : goal.returns-in-Done-clause-leaves
 returns-in-Done-clause-leaves g c = λ f input known bound left same. returns-in-Done-clause-leaves_as g c None tt f input known bound left same
@@ -97,7 +105,7 @@ returns-in-Ok-Back-clause-leaves_as g c = λ text m f input known bound left sam
     (g.R.Sink.taken c.args.report.now) (g.R.Sink.taken c.outlived-in-Ok-Back.new.report) c.outlived-in-Ok-Back.result)
     (sym (effect_by b (Err (stop.Gate c.in-Gate.service c.in-Gate.next)) (gate_boundless f v w c.args.cpu.now c.step_one.new.cpu c.in-Gate.service c.in-Gate.next (c.in-Gate.ensures.boundless f bound))))
     (c.outlived-in-Ok-Back.ensures.leaves f b (serviced b c.in-Gate.service c.in-Gate.next) c.call.new.cpu (whole f v).bytes new
-    (left_as text (g.I.Source.left c.args.input.now) (g.I.Source.past c.args.input.now)) _ _ _ _ refl refl made)
+    (left_as text (g.I.Source.left c.args.input.now) (g.I.Source.past c.args.input.now)) _ _ _ _ refl refl made (served_quiet (row_of c.in-Gate.service) b c.in-Gate.next (c.in-None.ensures.none refl)))
 
 pub returns-in-Ok-Back-clause-leaves : goal.returns-in-Ok-Back-clause-leaves
 returns-in-Ok-Back-clause-leaves g c = λ f input known bound left same. returns-in-Ok-Back-clause-leaves_as g c None tt f input known bound left same
@@ -150,7 +158,7 @@ returns-in-Ok-Exited-clause-leaves_as g c = λ text m f input known bound left s
     (g.R.Sink.taken c.args.report.now) (g.R.Sink.taken c.call.new.report))
     (sym (effect_by b (Err (stop.Gate c.in-Gate.service c.in-Gate.next)) (gate_boundless f v w c.args.cpu.now c.step_one.new.cpu c.in-Gate.service c.in-Gate.next (c.in-Gate.ensures.boundless f bound))
     ∙ ended_stays b e (ap is_live made.state)))
-    (done_by f e ends tally c.call.new.cpu new _ _ _ _ _ made)
+    (done_by f e ends tally c.call.new.cpu new _ _ _ _ _ (served_quiet (row_of c.in-Gate.service) b c.in-Gate.next (c.in-None.ensures.none refl)) made)
 
 pub returns-in-Ok-Exited-clause-leaves : goal.returns-in-Ok-Exited-clause-leaves
 returns-in-Ok-Exited-clause-leaves g c = λ f input known bound left same. returns-in-Ok-Exited-clause-leaves_as g c None tt f input known bound left same
@@ -182,7 +190,7 @@ returns-in-Err-clause-leaves_as g c = λ text m f input known bound left same.
     let new : View = g.B.Bus.view c.call.new.bus in
     let step = c.in-Gate.ensures.step in
     let bound_then : IsBound w = subst (λ (s : Machine). IsBound s.view) (sym step.1) bound in
-    fault_by f c.args.pid input known c.in-Gate.service c.in-Gate.next c.call.new.cpu new _ _ _ _ _ _ v c.args.cpu.now c.in-Err.fault
+    fault_by f c.args.pid input known c.in-Gate.service c.in-Gate.next c.call.new.cpu new _ _ _ _ _ _ v c.args.cpu.now c.in-Err.fault (c.in-None.ensures.none refl)
     (gate_boundless f v w c.args.cpu.now c.step_one.new.cpu c.in-Gate.service c.in-Gate.next (c.in-Gate.ensures.boundless f bound)) c.in-Err.ensures.input_service
     (moved f c.args.pid input known c.in-Gate.service c.in-Gate.next c.call.new.cpu new _ _ _ _ _ _ (Err c.in-Err.fault) (state c.step_one.new.cpu w) (state c.args.cpu.now v) step.1
     (c.in-Err.ensures.does text m f input known bound_then left (record { avail = same.avail })))
@@ -377,16 +385,28 @@ returns-in-Miss-clause-still g c =
     let same = c.in-Miss.ensures.step.1 in (ap (λ (s : Machine). s.cpu) same, ap (λ (s : Machine). s.view) same, refl, refl, refl)
 
 pub returns-in-Done-clause-still : goal.returns-in-Done-clause-still
-returns-in-Done-clause-still g c = none_missed c.outlived.result _ c.outlived.ensures.done
+returns-in-Done-clause-still g c = none_undone c.outlived.result _ c.outlived.ensures.done
+
+pub returns-in-Done-clause-ready : goal.returns-in-Done-clause-ready
+returns-in-Done-clause-ready g c = none_asked c.outlived.result _ c.outlived.ensures.done
 
 pub returns-in-Trap-clause-still : goal.returns-in-Trap-clause-still
-returns-in-Trap-clause-still g c = none_missed c.trap.result _ c.trap.ensures.done
+returns-in-Trap-clause-still g c = none_undone c.trap.result _ c.trap.ensures.done
+
+pub returns-in-Trap-clause-ready : goal.returns-in-Trap-clause-ready
+returns-in-Trap-clause-ready g c = none_asked c.trap.result _ c.trap.ensures.done
 
 pub returns-in-Ok-Back-clause-still : goal.returns-in-Ok-Back-clause-still
-returns-in-Ok-Back-clause-still g c = none_missed c.outlived-in-Ok-Back.result _ c.outlived-in-Ok-Back.ensures.done
+returns-in-Ok-Back-clause-still g c = none_undone c.outlived-in-Ok-Back.result _ c.outlived-in-Ok-Back.ensures.done
+
+pub returns-in-Ok-Back-clause-ready : goal.returns-in-Ok-Back-clause-ready
+returns-in-Ok-Back-clause-ready g c = none_asked c.outlived-in-Ok-Back.result _ c.outlived-in-Ok-Back.ensures.done
 
 pub returns-in-Ok-Trap-clause-still : goal.returns-in-Ok-Trap-clause-still
-returns-in-Ok-Trap-clause-still g c = none_missed c.trap-in-Ok-Trap.result _ c.trap-in-Ok-Trap.ensures.done
+returns-in-Ok-Trap-clause-still g c = none_undone c.trap-in-Ok-Trap.result _ c.trap-in-Ok-Trap.ensures.done
+
+pub returns-in-Ok-Trap-clause-ready : goal.returns-in-Ok-Trap-clause-ready
+returns-in-Ok-Trap-clause-ready g c = none_asked c.trap-in-Ok-Trap.result _ c.trap-in-Ok-Trap.ensures.done
 
 pub returns-in-Ok-Missed-clause-still : goal.returns-in-Ok-Missed-clause-still
 returns-in-Ok-Missed-clause-still g c =
@@ -471,3 +491,92 @@ returns-in-Ok-Back-clause-part_as g c = λ text m f input known bound left same.
 
 pub returns-in-Ok-Back-clause-part : goal.returns-in-Ok-Back-clause-part
 returns-in-Ok-Back-clause-part g c = λ f input known bound left same. returns-in-Ok-Back-clause-part_as g c None tt f input known bound left same
+
+-- A call on segments.
+
+pub call-requires-clause-plain : goal.call-requires-clause-plain
+call-requires-clause-plain g c = c.in-None.ensures.none refl
+
+pub returns-in-Some-clause-leaves_as : goal.returns-in-Some-clause-leaves_as
+returns-in-Some-clause-leaves_as g c = λ text m f input known bound left same.
+    let v : View = g.B.Bus.view c.args.bus.now in
+    let w : View = g.B.Bus.view c.step_one.new.bus in
+    let new : View = g.B.Bus.view c.ask.new.bus in
+    let cpu = c.step_one.new.cpu in
+    let b = before_call (boundless f v) c.args.pid c.args.cpu.now input known in
+    let i = left_as text (g.I.Source.left c.args.input.now) (g.I.Source.past c.args.input.now) in
+    let d = g.C.Sink.taken c.args.console.now in
+    let step = c.in-Gate.ensures.step in
+    let bound_then : IsBound w = subst (λ (s : Machine). IsBound s.view) (sym step.1) bound in
+    subst (λ (e : Effect). Leaves b e cpu (whole f v).bytes (whole f new).bytes i i d d (g.R.Sink.taken c.args.report.now) (g.R.Sink.taken c.ask.new.report) c.ask.result)
+    (sym (asks_by b c.in-Gate.service c.in-Gate.next c.in-Some.which c.in-Some.ensures.some (gate_boundless f v w c.args.cpu.now cpu c.in-Gate.service c.in-Gate.next (c.in-Gate.ensures.boundless f bound))))
+    (asks_from f c.args.pid input known c.in-Some.which c.in-Gate.next cpu new i i d d _ _ c.ask.result (state cpu w) (state c.args.cpu.now v) step.1
+    (c.ask.ensures.leaves f input known i d bound_then left))
+
+pub returns-in-Some-clause-leaves : goal.returns-in-Some-clause-leaves
+returns-in-Some-clause-leaves g c = λ f input known bound left same. returns-in-Some-clause-leaves_as g c None tt f input known bound left same
+
+pub returns-in-Some-clause-away : goal.returns-in-Some-clause-away
+returns-in-Some-clause-away g c = λ bound. subst (λ (s : Machine). OnMissed c.ask.result (λ t. IsAway s.view t)) c.in-Gate.ensures.step.1 c.ask.ensures.away
+
+pub returns-in-Some-clause-missed : goal.returns-in-Some-clause-missed
+returns-in-Some-clause-missed g c = λ f input known bound.
+    let v : View = g.B.Bus.view c.args.bus.now in
+    let w : View = g.B.Bus.view c.step_one.new.bus in
+    let step = c.in-Gate.ensures.step in
+    let bound_then : IsBound w = subst (λ (s : Machine). IsBound s.view) (sym step.1) bound in
+    asked_missed c.args.pid input known c.in-Some.which f v c.args.cpu.now c.in-Gate.service c.in-Gate.next
+    (gate_boundless f v w c.args.cpu.now c.step_one.new.cpu c.in-Gate.service c.in-Gate.next (c.in-Gate.ensures.boundless f bound)) c.in-Some.ensures.some c.ask.result
+    (asked_before c.args.pid input known c.in-Some.which c.ask.result (state c.step_one.new.cpu w) (state c.args.cpu.now v) step.1 (c.ask.ensures.names input known bound_then))
+
+pub returns-in-Some-clause-present : goal.returns-in-Some-clause-present
+returns-in-Some-clause-present g c = λ f input known bound never.
+    let v : View = g.B.Bus.view c.args.bus.now in
+    let w : View = g.B.Bus.view c.step_one.new.bus in
+    let step = c.in-Gate.ensures.step in
+    let bound_then : IsBound w = subst (λ (s : Machine). IsBound s.view) (sym step.1) bound in
+    asked_present c.args.pid input known c.in-Some.which f v c.args.cpu.now c.in-Gate.service c.in-Gate.next
+    (gate_boundless f v w c.args.cpu.now c.step_one.new.cpu c.in-Gate.service c.in-Gate.next (c.in-Gate.ensures.boundless f bound)) c.in-Some.ensures.some c.ask.result never
+    (c.in-Gate.ensures.present f bound refl)
+    (asked_before c.args.pid input known c.in-Some.which c.ask.result (state c.step_one.new.cpu w) (state c.args.cpu.now v) step.1 (c.ask.ensures.names input known bound_then))
+
+pub returns-in-Some-clause-still : goal.returns-in-Some-clause-still
+returns-in-Some-clause-still g c =
+    let same = c.in-Gate.ensures.step.1 in
+    map_undone _ _ c.ask.result (λ report. (ap (λ (s : Machine). s.cpu) same, c.ask.ensures.same ∙ ap (λ (s : Machine). s.view) same, refl, refl, report)) c.ask.ensures.undone
+
+pub returns-in-Some-clause-ready : goal.returns-in-Some-clause-ready
+returns-in-Some-clause-ready g c = subst (λ (s : Machine). OnAsked c.ask.result (λ a. are_ready s.view (targets a) ≡ true)) c.in-Gate.ensures.step.1 c.ask.ensures.ready
+
+pub returns-in-Some-clause-frame : goal.returns-in-Some-clause-frame
+returns-in-Some-clause-frame g c = subst (λ (v : View). KeepsFrame (g.B.Bus.view c.args.bus.now) v) (sym c.ask.ensures.same) c.step_one.ensures.frame
+
+pub returns-in-Some-clause-writes : goal.returns-in-Some-clause-writes
+returns-in-Some-clause-writes g c = λ agrees.
+    subst (λ (v : View). WritesHeld (g.B.Bus.view c.args.bus.now) v) (sym c.ask.ensures.same)
+    (writes_data (g.B.Bus.view c.args.bus.now) (g.B.Bus.view c.step_one.new.bus) c.args.cpu.now agrees c.step_one.ensures.writes)
+
+pub returns-in-Some-clause-agrees : goal.returns-in-Some-clause-agrees
+returns-in-Some-clause-agrees g c = λ agrees. subst (λ (v : View). Agrees c.step_one.new.cpu v) (sym c.ask.ensures.same) (c.step_one.ensures.agrees agrees)
+
+pub returns-in-Some-clause-cause : goal.returns-in-Some-clause-cause
+returns-in-Some-clause-cause g c = wider_cause _ _ _ _ c.ask.result inr (λ never. absurd never) c.ask.ensures.cause
+
+pub returns-in-Some-clause-puts : goal.returns-in-Some-clause-puts
+returns-in-Some-clause-puts g c = c.ask.ensures.puts _
+
+pub returns-in-Some-clause-part_as : goal.returns-in-Some-clause-part_as
+returns-in-Some-clause-part_as g c = λ text m f input known bound left same.
+    let v : View = g.B.Bus.view c.args.bus.now in
+    let w : View = g.B.Bus.view c.step_one.new.bus in
+    let b = before_call (boundless f v) c.args.pid c.args.cpu.now input known in
+    let step = c.in-Gate.ensures.step in
+    let bound_then : IsBound w = subst (λ (s : Machine). IsBound s.view) (sym step.1) bound in
+    let n = counts (g.C.Sink.puts c.args.console.now) (g.C.Sink.puts c.args.console.now) (g.R.Sink.puts c.args.report.now) (g.R.Sink.puts c.ask.new.report) 0 in
+    subst (λ (e : Effect). PartHands e n c.ask.result)
+    (sym (asks_by b c.in-Gate.service c.in-Gate.next c.in-Some.which c.in-Some.ensures.some (gate_boundless f v w c.args.cpu.now c.step_one.new.cpu c.in-Gate.service c.in-Gate.next (c.in-Gate.ensures.boundless f bound))))
+    (subst (λ (s : Machine). let z = before_call (boundless f s.view) c.args.pid s.cpu input known in PartHands (single_stepped z (on_segments c.in-Some.which z c.in-Gate.next)) n c.ask.result) step.1
+    (c.ask.ensures.part f input known _ bound_then))
+
+pub returns-in-Some-clause-part : goal.returns-in-Some-clause-part
+returns-in-Some-clause-part g c = λ f input known bound left same. returns-in-Some-clause-part_as g c None tt f input known bound left same

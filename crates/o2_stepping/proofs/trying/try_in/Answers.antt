@@ -1,7 +1,12 @@
+use Rattle.std.proofs.Common.{◌≡◌, true, subst, sym}
+use Rattle.o2_isa.specs.View.{View}
+use Rattle.o2_gate.specs.Gathers.{targets}
+use Rattle.o2_gate.specs.Pointed.{are_ready}
 use Rattle.o2_run.specs.Pieces.{counts}
 use Rattle.o2_segbus.specs.Calls.{view_of}
 use Rattle.o2_segbus.proofs.Called.{agrees, bound, leaves}
-use Rattle.o2_stepping.proofs.Buses.{filling, leaves_there, part_there, step_missed, step_present, writes_there, on_missed, bytes_there}
+use Rattle.o2_stepping.proofs.Buses.{aimed_there, filling, leaves_there, part_there, step_missed, step_present, writes_there, bytes_there}
+use Rattle.o2_stepping.proofs.Gates.{both_asked, map_undone}
 use Rattle.o2_stepping.proofs.trying.try_in.Goals as goal
 
 pub returns-clause-same_store : goal.returns-clause-same_store
@@ -21,11 +26,19 @@ returns-clause-over g c =
           leaves_there away a b c.args.cpu.now c.run_one.new.cpu c.args.pid bytes known agree _ _ _ _ _ _ c.run_one.result (e.leaves_as text may (filling away) bytes known (bound a) left same);
       missed = λ away bytes known. step_missed away a b c.args.cpu.now c.run_one.new.cpu c.args.pid bytes known agree c.run_one.result (e.missed (filling away) bytes known (bound a));
       present = λ away bytes known never. step_present away a b c.args.cpu.now c.run_one.new.cpu c.args.pid bytes known agree (e.present (filling away) bytes known (bound a) never);
-      same = on_missed _ _ c.run_one.result (λ s m n. bytes_there a b m.1 n) e.still;
+      same = map_undone _ _ c.run_one.result (λ m n. bytes_there a b m.1 n) e.still;
     }
 
 pub returns-clause-still : goal.returns-clause-still
-returns-clause-still g c = on_missed _ _ c.run_one.result (λ s m. (m.0, m.2, m.3, m.4)) c.run_one.ensures.still
+returns-clause-still g c = map_undone _ _ c.run_one.result (λ m. (m.0, m.2, m.3, m.4)) c.run_one.ensures.still
+
+pub returns-clause-ready : goal.returns-clause-ready
+returns-clause-ready g c =
+    let a = c.args.bus.now in
+    let b = c.run_one.new.bus in
+    both_asked _ _ _ c.run_one.result
+    (λ x m ready. aimed_there b a.pid c.run_one.new.cpu (targets x) (leaves a b c.run_one.ensures.frame).process (subst (λ (v : View). are_ready v (targets x) ≡ true) (sym m.1) ready))
+    c.run_one.ensures.still c.run_one.ensures.ready
 
 pub returns-clause-store : goal.returns-clause-store
 returns-clause-store g c = (leaves c.args.bus.now c.run_one.new.bus c.run_one.ensures.frame).store
