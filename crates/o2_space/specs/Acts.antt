@@ -16,15 +16,14 @@ use Rattle.o2_stepping.specs.Tallies.{IsTally}
 use Rattle.o2_stepping.specs.declared.one_step.Ran.{Ran}
 use Rattle.o2_stands.specs.Parts.{Parts}
 use Rattle.o2_stands.specs.Stands.{Stands}
-use Rattle.o2_space.specs.Stands.{StandsAfter}
+use Rattle.o2_space.specs.Stands.{MatchesAfter}
 
--- the step is made; where a sink failed in its last line, which ends the process, the report has a front of its lines
+-- the step is made; where a sink failed in one of its lines, the report has a front of them
 pub record ActsAll (w : World) (number : ℕ) (x : Process) (e : Effect) (ran : Ran) (p : Parts)
     (left console_old console_new report_old report_new : Option (List ℕ)) : Type 0 where
   pub state : e.state ≡ ran.state
-  pub ends : ran.whole ≡ false → is_live ran.state ≡ false
   pub puts : IsTally e ran.tally
-  pub stands : StandsAfter w number x e p
+  pub matches : MatchesAfter w number x e p
   pub input : left ≡ Some e.input
   pub to_console : Gains console_old console_new e.piece
   pub to_report : TakesText ran.whole report_old report_new (lines_text e.lines)

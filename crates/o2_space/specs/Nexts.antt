@@ -6,6 +6,8 @@ use Rattle.o2_run.specs.declared.fault.Fault.TheVariants as fault
 use Rattle.o2_run.specs.Room.{Fits, room}
 use Rattle.o2_run.specs.Stops.{IsSwapFull}
 use Rattle.o2_stepping.specs.declared.one_step.Ran.{Ran}
+use Rattle.o2_stepping.specs.declared.one_step.Stepped.{Stepped}
+use Rattle.o2_stepping.specs.declared.one_step.Stepped.TheVariants as stepped
 use Rattle.o2_world.specs.World.{Setting, World}
 
 abbrev pub FaultSays : (device : ℕ) → Setting → World → Fault → Type 0
@@ -19,3 +21,9 @@ FaultSays device s w (fault.Stopped stop.SwapFault) = Unit {0}
 abbrev pub SaysRoom : (device : ℕ) → Setting → World → Result Ran Fault → Type 0
 SaysRoom device s w (Ok ran) = Fits true s w
 SaysRoom device s w (Err f) = FaultSays device s w f
+
+-- the same before a call on segments that is asked for is made, of which nothing is said yet
+abbrev pub SaysStep : (device : ℕ) → Setting → World → Result Stepped Fault → Type 0
+SaysStep device s w (Ok (stepped.Ran ran)) = Fits true s w
+SaysStep device s w (Ok (stepped.Asked a next)) = Unit {0}
+SaysStep device s w (Err f) = FaultSays device s w f

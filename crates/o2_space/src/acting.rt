@@ -1,11 +1,12 @@
 // One step of a process over a store.
-ghost use Rattle.std.specs.Prelude.{◌≡◌, ◌<◌, ◌≤◌, ◌==◌, ◌⊎◌, ℕ, List, length, Option, Some, true, false, if◌then◌else◌, IsTrue};
+ghost use Rattle.std.specs.Prelude.{◌≡◌, ◌<◌, ◌≤◌, ◌+◌, ◌-◌, ◌^◌, ◌==◌, ◌⊎◌, ℕ, List, length, Option, Some, true, false, if◌then◌else◌, IsTrue};
 ghost use Rattle.o2_outer.specs.Texts.{Rose};
 ghost use Rattle.o2_outer.specs.Inputs.{GoesOn, IsSeenAs, left_as};
 ghost use Rattle.o2_isa.specs.View.{bound_registers};
 ghost use Rattle.o2_regions.specs.Lives.{lives};
 ghost use Rattle.o2_regions.specs.Maps.{IsProcess};
-ghost use Rattle.o2_segbus.specs.Seen.{hold_in};
+ghost use Rattle.o2_segbus.specs.Frames.{CanStep};
+ghost use Rattle.o2_segbus.specs.Seen.{hold_in, seen};
 ghost use Rattle.o2_segbus.specs.Settled.{IsSettled};
 ghost use Rattle.o2_service.specs.Told.{IsHeldWell};
 ghost use Rattle.o2_store.specs.Loads.{live_load, swap_load};
@@ -17,17 +18,21 @@ ghost use Rattle.o2_world.specs.Known.{known_of};
 ghost use Rattle.o2_world.specs.Run.{before, next_dispatch};
 ghost use Rattle.o2_world.specs.Views.{with_bytes};
 ghost use Rattle.o2_world.specs.World.{Process, Setting, World, is_live as lives_on};
+ghost use Rattle.o2_world.specs.Tied.{IsSound};
 ghost use Rattle.o2_gate.specs.Befores.{IsKnown};
+ghost use Rattle.o2_gate.specs.Gathers.{targets};
+ghost use Rattle.o2_gate.specs.Pointed.{are_ready};
 ghost use Rattle.o2_stands.specs.Stands.{IsSetTo, Stands, StandsIn};
 ghost use Rattle.o2_run.specs.Pieces.{PartHands, counts};
-ghost use Rattle.o2_stepping.specs.Pieces.{RanHands};
+ghost use Rattle.o2_stepping.specs.Pieces.{RanHands, StepHands};
+ghost use Rattle.o2_stepping.specs.Shapes.{SameShape};
 ghost use Rattle.o2_stepping.specs.Rooms.{all_names, needed_names, room_in};
-ghost use Rattle.o2_stepping.specs.Taken.{OnDone, OnNoStep, OnSink, OnSwapStop, TakenFor};
+ghost use Rattle.o2_stepping.specs.Taken.{OnAsks, OnDone, OnNoStep, OnSink, OnStep, OnSwapStop, SteppedFor, TakenFor};
 ghost use Rattle.o2_space.specs.Acts.{Acts, AreMarkedBehind};
 ghost use Rattle.o2_space.specs.Between.{Steps};
-ghost use Rattle.o2_space.specs.Nexts.{SaysRoom};
+ghost use Rattle.o2_space.specs.Nexts.{SaysRoom, SaysStep};
 ghost use Rattle.o2_space.specs.Parts.{parts_in};
-ghost use Rattle.o2_space.specs.Stands.{GoTogether, StandsAfter};
+ghost use Rattle.o2_space.specs.Stands.{GoTogether, StandsPlainly};
 
 use crate::space::{Proc, Space};
 use o2_ends::end;
@@ -35,7 +40,7 @@ use o2_isa::Cpu;
 use o2_outer::{Sink, Source, SwapDevice};
 use o2_run::Fault;
 use o2_stands::lawful;
-use o2_stepping::{Ran, step_in_store};
+use o2_stepping::{Ran, Stepped, step_in_store};
 use o2_world::State;
 
 /// Whether a process goes on.
@@ -47,7 +52,7 @@ pub fn is_live(state: State) -> bool
 
 impl Space {
     /// Registers and state of a process behind its step; where it has ended it lets go of all that it holds.
-    fn commit(&mut self, pid: u16, cpu: &Cpu, state: State)
+    pub(crate) fn commit(&mut self, pid: u16, cpu: &Cpu, state: State)
         requires there { pid ≤ length self.old.procs.items }
         requires process { IsProcess self.old.regions pid }
         requires most { pid ≤ 64 }
@@ -58,7 +63,7 @@ impl Space {
             w.processes (with_bytes w.names e.bytes) w.next_name w.reserved
             → process_at w.processes pid ≡ Some x → lives_on x.state ≡ true
             → cpu.now ≡ e.cpu → e.state ≡ state
-            → StandsAfter w pid x e (parts_in self.new device block) }
+            → StandsPlainly w pid x e (parts_in self.new device block) }
         ensures together { (device : ℕ) → lives self.old.ends pid ≡ true
             → GoTogether self.old device → GoTogether self.new device }
         ensures set { (device : ℕ) (block : ℕ → List ℕ) (s : Setting)
@@ -68,6 +73,7 @@ impl Space {
             ≡ (if lives_on state then lives self.old.ends n else (if n == pid then false else lives self.old.ends n)) }
         ensures count { length self.new.procs.items ≡ length self.old.procs.items }
         ensures processes { self.new.regions.processes ≡ self.old.regions.processes }
+        ensures made { self.new.store.made ≡ self.old.store.made }
         ensures avail { self.new.services.avail ≡ self.old.services.avail }
     {
         self.procs[pid as usize - 1] = Proc { cpu: *cpu, state };
@@ -76,7 +82,8 @@ impl Space {
         }
     }
 
-    /// A step of a process with these registers, which aren't written back; what an end takes isn't taken yet.
+    /// A step of a process with these registers, which aren't written back; what an end takes isn't taken yet, and a call on
+    /// segments isn't made yet.
     fn step<I: Source, C: Sink, R: Sink, S: SwapDevice>(
         &mut self,
         pid: u16,
@@ -85,7 +92,7 @@ impl Space {
         console: &mut C,
         report: &mut R,
         swap: &mut S,
-    ) -> Result<Ran, Fault>
+    ) -> Result<Stepped, Fault>
         requires process { IsProcess self.old.regions pid }
         requires together { GoTogether self.old (S.blocks swap.old) }
         ensures steps { (text : Option (List ℕ)) → IsSeenAs text (I.past input.new)
@@ -100,6 +107,11 @@ impl Space {
             (R.taken report.old) (R.taken report.new) result }
         ensures still { OnNoStep result
             ((input.new ≡ input.old) × (console.new ≡ console.old) × (report.new ≡ report.old)) }
+        ensures asks { OnAsks result (λ a. (cpu.new ≡ cpu.old)
+            × (input.new ≡ input.old) × (console.new ≡ console.old) × (report.new ≡ report.old)) }
+        ensures aimed { OnAsks result (λ a.
+            are_ready (seen self.new.store self.new.regions pid cpu.new) (targets a) ≡ true) }
+        ensures next { OnDone result (CanStep self.new.store self.new.regions pid cpu.new) }
         ensures goes_on { GoesOn (I.past input.old) (I.past input.new) }
         ensures room { (text : Option (List ℕ)) → IsSeenAs text (I.past input.new)
             → (s : Setting) (w : World) (x : Process) → IsTrue (S.told swap.new)
@@ -107,9 +119,9 @@ impl Space {
             → process_at w.processes pid ≡ Some x → cpu.old ≡ x.cpu
             → left_as text (I.left input.old) (I.past input.old) ≡ Some w.input → IsKnown (known_of s w) self.old.services
             → let b = before s w pid x in
-            OnDone result (room_in self.old.store
-            (all_names b (bound_registers (hold_in self.old.regions pid) (effect b).cpu))
-            ≤ self.old.store.places.size) }
+            OnStep result (λ c. room_in self.old.store
+            (all_names b (bound_registers (hold_in self.old.regions pid) c))
+            ≤ self.old.store.places.size) (effect b).cpu b.cpu }
         ensures room_in_part { (text : Option (List ℕ)) → IsSeenAs text (I.past input.new)
             → (s : Setting) (w : World) (x : Process) → IsTrue (S.told swap.new)
             → Stands (parts_in self.old (S.blocks swap.old) (S.block swap.old)) w
@@ -135,19 +147,21 @@ impl Space {
             → (next_dispatch s w).current ≡ pid
             → process_at w.processes pid ≡ Some x → cpu.old ≡ x.cpu
             → left_as text (I.left input.old) (I.past input.old) ≡ Some w.input → IsKnown (known_of s w) self.old.services
-            → SaysRoom (S.blocks swap.old) s w result }
+            → SaysStep (S.blocks swap.old) s w result }
         ensures together { GoTogether self.new (S.blocks swap.new) }
         ensures set { (s : Setting)
             → IsSetTo (parts_in self.old (S.blocks swap.old) (S.block swap.old)) s
             → IsSetTo (parts_in self.new (S.blocks swap.new) (S.block swap.new)) s }
         ensures procs { self.new.procs ≡ self.old.procs }
         ensures ends { self.new.ends ≡ self.old.ends }
+        ensures made { self.new.store.made ≡ self.old.store.made }
+        ensures shape { SameShape self.old.store self.old.regions self.new.store self.new.regions }
         ensures processes { self.new.regions.processes ≡ self.old.regions.processes }
         ensures most { self.new.regions.processes ≤ 64 }
         ensures avail { self.new.services.avail ≡ self.old.services.avail }
         ensures device { (S.blocks swap.new ≡ S.blocks swap.old)
             × (IsTrue (S.told swap.new) → IsTrue (S.told swap.old)) }
-        ensures cause { TakenFor
+        ensures cause { SteppedFor
             (Rose (C.faults console.old) (C.faults console.new)
             ⊎ Rose (R.faults report.old) (R.faults report.new))
             (Rose (I.faults input.old) (I.faults input.new)) result }
@@ -155,7 +169,7 @@ impl Space {
         ensures console_count { C.faults console.old ≤ C.faults console.new }
         ensures report_count { R.faults report.old ≤ R.faults report.new }
         ensures swap_count { S.faults swap.old ≤ S.faults swap.new }
-        ensures puts { RanHands (counts (C.puts console.old) (C.puts console.new)
+        ensures puts { StepHands (counts (C.puts console.old) (C.puts console.new)
             (R.puts report.old) (R.puts report.new) 0) result }
         ensures part { (text : Option (List ℕ)) → IsSeenAs text (I.past input.new)
             → (s : Setting) (w : World) (x : Process) → IsTrue (S.told swap.new)
@@ -201,13 +215,15 @@ impl Space {
         requires there { pid ≤ length self.old.procs.items }
         requires live { lives self.old.ends pid ≡ true }
         requires together { GoTogether self.old (S.blocks swap.old) }
+        requires made { self.old.store.made < 2 ^ 64 - 1 }
 
         // From a machine that stands for a world, the step of the boundless machine; or it stands for the same world. However the
         // input is seen: by what it tells, or as a text that the whole of it may be.
         ensures acts { (text : Option (List ℕ)) → IsSeenAs text (I.past input.new)
             → (s : Setting) (w : World) (x : Process) → IsTrue (S.told swap.new)
             → Stands (parts_in self.old (S.blocks swap.old) (S.block swap.old)) w
-            → process_at w.processes pid ≡ Some x
+            → IsSetTo (parts_in self.old (S.blocks swap.old) (S.block swap.old)) s → IsSound w
+            → (next_dispatch s w).current ≡ pid → process_at w.processes pid ≡ Some x
             → left_as text (I.left input.old) (I.past input.old) ≡ Some w.input → IsKnown (known_of s w) self.old.services
             → Acts (before s w pid x) w x (parts_in self.new (S.blocks swap.new) (S.block swap.new))
             (left_as text (I.left input.old) (I.past input.old))
@@ -217,40 +233,15 @@ impl Space {
             ((input.new ≡ input.old) × (console.new ≡ console.old) × (report.new ≡ report.old)) }
         ensures goes_on { GoesOn (I.past input.old) (I.past input.new) }
 
-        // The room of a step that is done, or in which a sink fails, is at most the memory, and more than it at NoRoom; what
-        // swapping has to hold exceeds blocks and memory at SwapFull, and the device failed at SwapFault.
-        ensures room { (text : Option (List ℕ)) → IsSeenAs text (I.past input.new)
-            → (s : Setting) (w : World) (x : Process) → IsTrue (S.told swap.new)
-            → Stands (parts_in self.old (S.blocks swap.old) (S.block swap.old)) w
-            → process_at w.processes pid ≡ Some x
-            → left_as text (I.left input.old) (I.past input.old) ≡ Some w.input → IsKnown (known_of s w) self.old.services
-            → let b = before s w pid x in
-            OnDone result (room_in self.old.store
-            (all_names b (bound_registers (hold_in self.old.regions pid) (effect b).cpu))
-            ≤ self.old.store.places.size) }
-        ensures room_in_part { (text : Option (List ℕ)) → IsSeenAs text (I.past input.new)
-            → (s : Setting) (w : World) (x : Process) → IsTrue (S.told swap.new)
-            → Stands (parts_in self.old (S.blocks swap.old) (S.block swap.old)) w
-            → process_at w.processes pid ≡ Some x
-            → left_as text (I.left input.old) (I.past input.old) ≡ Some w.input → IsKnown (known_of s w) self.old.services
-            → let b = before s w pid x in
-            OnSink result (room_in self.old.store
-            (all_names b (bound_registers (hold_in self.old.regions pid) b.cpu))
-            ≤ self.old.store.places.size) }
-        ensures no_room { (s : Setting) (w : World) (x : Process) → IsTrue (S.told swap.new)
-            → Stands (parts_in self.old (S.blocks swap.old) (S.block swap.old)) w
-            → process_at w.processes pid ≡ Some x
-            → OnSwapStop result (self.old.store.places.size
-            < room_in self.old.store (needed_names (before s w pid x))) (Unit {0}) (Unit {0}) }
-        ensures swap_stops { OnSwapStop result (Unit {0})
-            ((all_of self.old.store.swap < swap_load self.old.store)
-            × (self.old.store.places.size < live_load self.old.store))
+        // The swap device failed at SwapFault.
+        ensures swap_stops { OnSwapStop result (Unit {0}) (Unit {0})
             (Rose (S.faults swap.old) (S.faults swap.new)) }
-        // The same of the world's next step, where it is one of this process.
+        // The room of the world's next step, where it is one of this process, is at most the memory where it is taken, and also where a
+        // sink fails in it; it is more than the memory at NoRoom. At SwapFull what swapping has to hold exceeds blocks and memory.
         ensures next_room { (text : Option (List ℕ)) → IsSeenAs text (I.past input.new)
             → (s : Setting) (w : World) (x : Process) → IsTrue (S.told swap.new)
             → Stands (parts_in self.old (S.blocks swap.old) (S.block swap.old)) w
-            → IsSetTo (parts_in self.old (S.blocks swap.old) (S.block swap.old)) s
+            → IsSetTo (parts_in self.old (S.blocks swap.old) (S.block swap.old)) s → IsSound w
             → (next_dispatch s w).current ≡ pid → process_at w.processes pid ≡ Some x
             → left_as text (I.left input.old) (I.past input.old) ≡ Some w.input → IsKnown (known_of s w) self.old.services
             → SaysRoom (S.blocks swap.old) s w result }
@@ -264,6 +255,7 @@ impl Space {
         ensures marks { AreMarkedBehind self.old.ends self.new.ends pid result }
         ensures count { length self.new.procs.items ≡ length self.old.procs.items }
         ensures processes { self.new.regions.processes ≡ self.old.regions.processes }
+        ensures made { self.new.store.made ≤ self.old.store.made + 1 }
         ensures avail { self.new.services.avail ≡ self.old.services.avail }
         ensures device { (S.blocks swap.new ≡ S.blocks swap.old)
             × (IsTrue (S.told swap.new) → IsTrue (S.told swap.old)) }
@@ -292,9 +284,12 @@ impl Space {
         let mut cpu = self.procs[pid as usize - 1].cpu;
         match self.step(pid, &mut cpu, input, console, report, swap) {
             Err(fault) => Err(fault),
-            Ok(ran) => {
+            Ok(Stepped::Ran(ran)) => {
                 self.commit(pid, &cpu, ran.state);
                 Ok(ran)
+            }
+            Ok(Stepped::Asked { arguments, next }) => {
+                self.call(pid, cpu, arguments, next, report, swap)
             }
         }
     }

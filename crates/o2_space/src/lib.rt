@@ -2,6 +2,7 @@
 #![tactic(auto)]
 
 mod acting;
+mod calling;
 mod space;
 
 pub use acting::is_live;

@@ -8,3 +8,4 @@ pub mod Taken
 pub mod Pieces
 pub mod Nexts
 pub mod Here
+pub mod Replied

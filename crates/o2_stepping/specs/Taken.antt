@@ -11,6 +11,7 @@ use Rattle.o2_stepping.specs.declared.one_step.Ran.{Ran}
 use Rattle.o2_stepping.specs.declared.one_step.Attempt.{Attempt}
 use Rattle.o2_stepping.specs.declared.one_step.Attempt.TheVariants as attempt
 use Rattle.o2_stepping.specs.declared.one_step.Stepped.{Stepped}
+use Rattle.o2_stepping.specs.declared.one_step.Stepped.TheVariants as stepped
 use Rattle.o2_gate.specs.declared.gathering.SegmentArguments.{SegmentArguments}
 
 -- a fault; before a step that lacks room, or whose swap device fails, all is as it was
@@ -45,6 +46,12 @@ OnRan (Err f) P = Unit {0}
 abbrev pub OnDone : {T : Type 0} → Result T Fault → Type 0 → Type 0
 OnDone (Ok x) P = P
 OnDone (Err f) P = Unit {0}
+
+-- where there is no fault, with the registers of a step that is done, or of one that asks for a call on segments
+abbrev pub OnStep : Result Stepped Fault → (Cpu → Type 0) → (done asked : Cpu) → Type 0
+OnStep (Ok (stepped.Ran ran)) P done asked = P done
+OnStep (Ok (stepped.Asked a next)) P done asked = P asked
+OnStep (Err f) P done asked = Unit {0}
 
 -- where a step asks for a call on segments
 abbrev pub OnAsks : Result Stepped Fault → (SegmentArguments → Type 0) → Type 0

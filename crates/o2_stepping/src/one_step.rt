@@ -70,14 +70,20 @@ pub enum Attempt {
 }
 
 /// Whether the trap flag is set.
-fn has_trap_flag(flags: u16) -> bool
+pub(crate) fn has_trap_flag(flags: u16) -> bool
     ensures { result ≡ trap_flag_of flags }
 {
     is_set(flags, Flag::Trap)
 }
 
 /// Puts the line of an exception at the instruction of these registers, by one put.
-fn put_trap<R: Sink>(line: &mut LineBuffer, pid: u16, vector: u8, cpu: &Cpu, report: &mut R) -> Put
+pub(crate) fn put_trap<R: Sink>(
+    line: &mut LineBuffer,
+    pid: u16,
+    vector: u8,
+    cpu: &Cpu,
+    report: &mut R,
+) -> Put
     ensures report { Takes (R.taken report.old) (R.taken report.new) (lines_text (Traps pid vector cpu.now.cs cpu.now.ip ∷ [])) result }
     ensures puts { R.puts report.new ≡ R.puts report.old + 1 }
     ensures count { R.faults report.old ≤ R.faults report.new }

@@ -3,11 +3,12 @@ ghost use Rattle.std.specs.Prelude.{◌≡◌, ◌<◌, ◌≤◌, ◌+◌, ◌+
 ghost use Rattle.o2_regions.specs.declared.held.Held.{Held as HeldThere};
 ghost use Rattle.o2_regions.specs.Maps.{IsProcess};
 ghost use Rattle.o2_segbus.specs.Bus.{held_under};
-ghost use Rattle.o2_stepping.specs.Rooms.{pair_of, seated_in};
+ghost use Rattle.o2_stepping.specs.Rooms.{aimed_in, pair_of, seated_in};
 ghost use Rattle.o2_stepping.specs.Here.{are_here, is_here};
 
 use o2_base::Selector;
 use o2_desc::Access;
+use o2_gate::SegmentArguments;
 use o2_isa::Cpu;
 use o2_place::SegId;
 use o2_regions::Regions;
@@ -42,13 +43,45 @@ fn seat(need: &mut Need, regions: &Regions, pid: u16, sel: u16)
 /// The segments in the segment registers.
 pub(crate) fn seats(regions: &Regions, pid: u16, cpu: &Cpu) -> Need
     requires { IsProcess regions.now pid }
-    ensures { result ≡ seated_in regions.now pid cpu.now }
+    ensures seated { result ≡ seated_in regions.now pid cpu.now }
+    ensures few { length result ≤ 4 }
 {
     let mut need = Need::none();
     seat(&mut need, regions, pid, cpu.es);
     seat(&mut need, regions, pid, cpu.cs);
     seat(&mut need, regions, pid, cpu.ss);
     seat(&mut need, regions, pid, cpu.ds);
+    need
+}
+
+/// The segments that a call on segments keeps in memory: those in the segment registers, and that behind its pointer.
+pub fn call_need(arguments: SegmentArguments, regions: &Regions, pid: u16, cpu: &Cpu) -> Need
+    requires { IsProcess regions.now pid }
+    ensures { result ≡ seated_in regions.now pid cpu.now ++ aimed_in regions.now pid arguments }
+{
+    let mut need = seats(regions, pid, cpu);
+    match arguments {
+        SegmentArguments::Alloc {
+            size: _,
+            to_selector,
+            to_offset: _,
+            flags: _,
+        } => seat(&mut need, regions, pid, to_selector),
+        SegmentArguments::Realloc { .. } => {}
+        SegmentArguments::Free(_) => {}
+        SegmentArguments::Size {
+            selector: _,
+            to_selector,
+            to_offset: _,
+        } => seat(&mut need, regions, pid, to_selector),
+        SegmentArguments::Lock(_) => {}
+        SegmentArguments::Unlock(_) => {}
+        SegmentArguments::Alias {
+            selector: _,
+            to_selector,
+            to_offset: _,
+        } => seat(&mut need, regions, pid, to_selector),
+    }
     need
 }
 

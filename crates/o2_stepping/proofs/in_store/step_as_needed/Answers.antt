@@ -39,7 +39,7 @@ tries-init g c =
     let pid = c.args.pid in
     let cpu = c.args.cpu.now in
     let need = c.seats-need.result in
-    let e : need ≡ seated_in m pid cpu = c.seats-need.ensures in
+    let e : need ≡ seated_in m pid cpu = c.seats-need.ensures.seated in
     let a : ℕ → List ℕ = away_of s m c.args.images.now (S.blocks c.args.swap.now) (S.block c.args.swap.now) in
     record {
       cpu = refl;

@@ -1,0 +1,236 @@
+// A call on segments by a process over a store.
+ghost use Rattle.std.specs.Prelude.{◌≡◌, ◌<◌, ◌≤◌, ◌+◌, ◌-◌, ◌^◌, ℕ, List, length, Option, Some, IsTrue, true, false};
+ghost use Rattle.o2_outer.specs.Texts.{Rose};
+ghost use Rattle.o2_isa.specs.View.{bound_registers};
+ghost use Rattle.o2_regions.specs.Lives.{lives};
+ghost use Rattle.o2_regions.specs.Maps.{IsProcess};
+ghost use Rattle.o2_segbus.specs.Frames.{CanStep, KeepsClean, KeepsMaps, KeepsStore};
+ghost use Rattle.o2_segbus.specs.Seen.{AreNamed, hold_in, present_in, seen};
+ghost use Rattle.o2_segbus.specs.Settled.{IsSettled};
+ghost use Rattle.o2_world.specs.Effect.{effect, single_stepped};
+ghost use Rattle.o2_world.specs.Holders.{process_at};
+ghost use Rattle.o2_world.specs.Run.{before, next_dispatch};
+ghost use Rattle.o2_world.specs.Tied.{IsSound};
+ghost use Rattle.o2_world.specs.World.{Process, Setting, World};
+ghost use Rattle.o2_gate.specs.Gathers.{asked, targets};
+ghost use Rattle.o2_gate.specs.Pointed.{are_ready};
+ghost use Rattle.o2_gate.specs.Replies.{IsValue, bytes_of};
+ghost use Rattle.o2_stands.specs.Stands.{IsSetTo, Stands};
+ghost use Rattle.o2_run.specs.Pieces.{counts};
+ghost use Rattle.o2_stepping.specs.Pieces.{RanHands};
+ghost use Rattle.o2_stepping.specs.Rooms.{all_names, room_in};
+ghost use Rattle.o2_stepping.specs.Taken.{OnNoStep, OnSwapStop, TakenFor};
+ghost use Rattle.o2_stepping.specs.Worlds.{bytes_with};
+ghost use Rattle.o2_space.specs.Acts.{Acts, AreMarkedBehind};
+ghost use Rattle.o2_space.specs.Nexts.{SaysRoom};
+ghost use Rattle.o2_space.specs.Parts.{parts_in};
+ghost use Rattle.o2_space.specs.Stands.{GoTogether};
+
+use crate::acting::is_live;
+use crate::space::Space;
+use o2_calls::act;
+use o2_gate::{SegmentArguments, come_back, give_value};
+use o2_isa::Cpu;
+use o2_outer::{Sink, SwapDevice};
+use o2_regions::{Answer, Regions, Roomed};
+use o2_run::{Fault, Stop};
+use o2_segbus::SegBus;
+use o2_stands::lawful;
+use o2_stepping::{Ran, call_need, reply};
+use o2_store::Store;
+use o2_world::State;
+
+/// The value of a call on segments, said of store and tables.
+fn give_in(bus: &mut SegBus<'_, '_>, arguments: SegmentArguments, answer: &Answer)
+    requires ready { are_ready (seen bus.old.store.now bus.old.regions.now bus.old.pid no_registers) (targets arguments) ≡ true }
+    requires value { IsValue arguments answer.now.value }
+    ensures same_store { bus.new.store.ghost_name ≡ bus.old.store.ghost_name }
+    ensures same_regions { bus.new.regions.ghost_name ≡ bus.old.regions.ghost_name }
+    ensures bytes { (away : ℕ → List ℕ) (n : ℕ) → bytes_with away bus.new.store.now n
+        ≡ bytes_of arguments answer.now.error answer.now.value (hold_in bus.old.regions.now bus.old.pid)
+        (bytes_with away bus.old.store.now) n }
+    ensures store { KeepsStore bus.old.store.now bus.new.store.now }
+    ensures maps { KeepsMaps bus.old.regions.now bus.new.regions.now }
+    ensures clean { KeepsClean bus.old.store.now bus.old.regions.now bus.new.store.now }
+    ensures next { CanStep bus.new.store.now bus.new.regions.now bus.old.pid no_registers }
+{
+    give_value(bus, arguments, answer.error, answer.value);
+}
+
+/// Writes the value of a call on segments behind its pointer, where it has one and came to no error. No segment register is
+/// looked at.
+fn give(
+    store: &mut Store,
+    regions: &mut Regions,
+    pid: u16,
+    arguments: SegmentArguments,
+    answer: &Answer,
+)
+    requires process { IsProcess regions.old pid }
+    requires named { AreNamed store.old regions.old }
+    requires settled { IsSettled store.old regions.old }
+    requires ready { are_ready (seen store.old regions.old pid no_registers) (targets arguments) ≡ true }
+    requires value { IsValue arguments answer.now.value }
+    ensures bytes { (away : ℕ → List ℕ) (n : ℕ) → bytes_with away store.new n
+        ≡ bytes_of arguments answer.now.error answer.now.value (hold_in regions.old pid) (bytes_with away store.old) n }
+    ensures store { KeepsStore store.old store.new }
+    ensures maps { KeepsMaps regions.old regions.new }
+    ensures clean { KeepsClean store.old regions.old store.new }
+    ensures settled { IsSettled store.new regions.new }
+{
+    let nothing = Cpu {
+        ax: 0,
+        cx: 0,
+        dx: 0,
+        bx: 0,
+        sp: 0,
+        bp: 0,
+        si: 0,
+        di: 0,
+        ip: 0,
+        flags: 0,
+        cs: 0,
+        ds: 0,
+        es: 0,
+        ss: 0,
+    };
+    let mut bus = SegBus::new(store, regions, pid, &nothing);
+    give_in(&mut bus, arguments, answer);
+}
+
+impl Space {
+    /// A call on segments, with its value behind its pointer; its registers aren't written back, and its lines aren't put yet.
+    fn make_call<S: SwapDevice>(
+        &mut self,
+        pid: u16,
+        cpu: &mut Cpu,
+        arguments: SegmentArguments,
+        next: u16,
+        swap: &mut S,
+    ) -> Result<Answer, Fault>
+        requires together { GoTogether self.old (S.blocks swap.old) }
+        requires made { self.old.store.made < 2 ^ 64 - 1 }
+        requires can_step { CanStep self.old.store self.old.regions pid cpu.old }
+        requires aimed { are_ready (seen self.old.store self.old.regions pid cpu.old) (targets arguments) ≡ true }
+        ensures makes { (s : Setting) (w : World) (x : Process) → IsTrue (S.told swap.new)
+            → Stands (parts_in self.old (S.blocks swap.old) (S.block swap.old)) w
+            → IsSetTo (parts_in self.old (S.blocks swap.old) (S.block swap.old)) s → IsTied w
+            → process_at w.processes pid ≡ Some x → cpu.old ≡ x.cpu
+            → Makes s w pid x arguments next cpu.new (parts_in self.new (S.blocks swap.new) (S.block swap.new)) result }
+        ensures room { (s : Setting) (w : World) (x : Process) → IsTrue (S.told swap.new)
+            → Stands (parts_in self.old (S.blocks swap.old) (S.block swap.old)) w
+            → IsSetTo (parts_in self.old (S.blocks swap.old) (S.block swap.old)) s → IsSound w
+            → (next_dispatch s w).current ≡ pid → process_at w.processes pid ≡ Some x → cpu.old ≡ x.cpu
+            → let b = before s w pid x in effect b ≡ single_stepped b (asked arguments b next)
+            → room_in self.old.store (all_names b (bound_registers (hold_in self.old.regions pid) b.cpu)) ≤ self.old.store.places.size
+            → SaysCall (S.blocks swap.old) s w result }
+        ensures stops { OnErr result (λ f. IsSwapStop f) }
+        ensures fault { OnSwapStop result (Unit {0}) (Unit {0}) (Rose (S.faults swap.old) (S.faults swap.new)) }
+        ensures value { IfOk result (λ a. IsValue arguments a.value) }
+        ensures together { GoTogether self.new (S.blocks swap.new) }
+        ensures set { (s : Setting)
+            → IsSetTo (parts_in self.old (S.blocks swap.old) (S.block swap.old)) s
+            → IsSetTo (parts_in self.new (S.blocks swap.new) (S.block swap.new)) s }
+        ensures procs { self.new.procs ≡ self.old.procs }
+        ensures ends { self.new.ends ≡ self.old.ends }
+        ensures processes { self.new.regions.processes ≡ self.old.regions.processes }
+        ensures made { self.new.store.made ≤ self.old.store.made + 1 }
+        ensures avail { self.new.services.avail ≡ self.old.services.avail }
+        ensures device { (S.blocks swap.new ≡ S.blocks swap.old)
+            × (IsTrue (S.told swap.new) → IsTrue (S.told swap.old)) }
+        ensures swap_count { S.faults swap.old ≤ S.faults swap.new }
+    {
+        lawful(&self.store, &self.regions);
+        let need = call_need(arguments, &self.regions, pid, cpu);
+        match act(
+            arguments,
+            pid,
+            cpu,
+            &mut self.store,
+            &mut self.regions,
+            need.ids(),
+            &self.images,
+            swap,
+        ) {
+            Roomed::NoRoom => Err(Fault::Stopped(Stop::NoRoom)),
+            Roomed::SwapFull => Err(Fault::Stopped(Stop::SwapFull)),
+            Roomed::SwapFault => Err(Fault::Stopped(Stop::SwapFault)),
+            Roomed::Done(answer) => {
+                lawful(&self.store, &self.regions);
+                give(&mut self.store, &mut self.regions, pid, arguments, &answer);
+                come_back(cpu, arguments, answer.error, next);
+                Ok(answer)
+            }
+        }
+    }
+
+    /// A call on segments by a process that lives, with these registers and arguments, whose pointer is good: what it changes, its
+    /// value, its registers and then its lines. Where the trap flag was set before it, exception 1 follows.
+    ///
+    /// Where what it needs doesn't come in, it isn't made: `Stop::NoRoom`, `Stop::SwapFull` or `Stop::SwapFault`. Where a sink fails in
+    /// one of its lines, it is made all the same, and its lines aren't whole.
+    pub(crate) fn call<R: Sink, S: SwapDevice>(
+        &mut self,
+        pid: u16,
+        registers: Cpu,
+        arguments: SegmentArguments,
+        next: u16,
+        report: &mut R,
+        swap: &mut S,
+    ) -> Result<Ran, Fault>
+        requires there { pid ≤ length self.old.procs.items }
+        requires most { pid ≤ 64 }
+        requires live { lives self.old.ends pid ≡ true }
+        requires together { GoTogether self.old (S.blocks swap.old) }
+        requires made { self.old.store.made < 2 ^ 64 - 1 }
+        requires can_step { CanStep self.old.store self.old.regions pid registers }
+        requires aimed { are_ready (seen self.old.store self.old.regions pid registers) (targets arguments) ≡ true }
+        ensures acts { (s : Setting) (w : World) (x : Process) (i c : Option (List ℕ)) → IsTrue (S.told swap.new)
+            → Stands (parts_in self.old (S.blocks swap.old) (S.block swap.old)) w
+            → IsSetTo (parts_in self.old (S.blocks swap.old) (S.block swap.old)) s → IsSound w
+            → (next_dispatch s w).current ≡ pid → process_at w.processes pid ≡ Some x
+            → registers ≡ x.cpu → i ≡ Some w.input
+            → let b = before s w pid x in effect b ≡ single_stepped b (asked arguments b next)
+            → Acts b w x (parts_in self.new (S.blocks swap.new) (S.block swap.new))
+            i i c c (R.taken report.old) (R.taken report.new) result }
+        ensures next_room { (s : Setting) (w : World) (x : Process) → IsTrue (S.told swap.new)
+            → Stands (parts_in self.old (S.blocks swap.old) (S.block swap.old)) w
+            → IsSetTo (parts_in self.old (S.blocks swap.old) (S.block swap.old)) s → IsSound w
+            → (next_dispatch s w).current ≡ pid → process_at w.processes pid ≡ Some x → registers ≡ x.cpu
+            → let b = before s w pid x in effect b ≡ single_stepped b (asked arguments b next)
+            → room_in self.old.store (all_names b (bound_registers (hold_in self.old.regions pid) b.cpu)) ≤ self.old.store.places.size
+            → SaysRoom (S.blocks swap.old) s w result }
+        ensures still { OnNoStep result (report.new ≡ report.old) }
+        ensures no_sink { OnSink result ⊥ }
+        ensures swap_stops { OnSwapStop result (Unit {0}) (Unit {0}) (Rose (S.faults swap.old) (S.faults swap.new)) }
+        ensures together { GoTogether self.new (S.blocks swap.new) }
+        ensures set { (s : Setting)
+            → IsSetTo (parts_in self.old (S.blocks swap.old) (S.block swap.old)) s
+            → IsSetTo (parts_in self.new (S.blocks swap.new) (S.block swap.new)) s }
+        ensures marks { AreMarkedBehind self.old.ends self.new.ends pid result }
+        ensures count { length self.new.procs.items ≡ length self.old.procs.items }
+        ensures processes { self.new.regions.processes ≡ self.old.regions.processes }
+        ensures made { self.new.store.made ≤ self.old.store.made + 1 }
+        ensures avail { self.new.services.avail ≡ self.old.services.avail }
+        ensures device { (S.blocks swap.new ≡ S.blocks swap.old)
+            × (IsTrue (S.told swap.new) → IsTrue (S.told swap.old)) }
+        ensures cause { TakenFor (Rose (R.faults report.old) (R.faults report.new)) ⊥ result }
+        ensures report_count { R.faults report.old ≤ R.faults report.new }
+        ensures swap_count { S.faults swap.old ≤ S.faults swap.new }
+        ensures puts { (c : ℕ) → RanHands (counts c c (R.puts report.old) (R.puts report.new) 0) result }
+    {
+        let mut cpu = registers;
+        match self.make_call(pid, &mut cpu, arguments, next, swap) {
+            Err(fault) => Err(fault),
+            Ok(answer) => {
+                let line = &mut self.services.line;
+                let ran = reply(pid, &registers, arguments, &answer, line, report);
+                self.commit(pid, &cpu, State::Live);
+                if !is_live(ran.state) {
+                    self.commit(pid, &cpu, ran.state);
+                }
+                Ok(ran)
+            }
+        }
+    }
+}

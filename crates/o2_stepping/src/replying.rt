@@ -1,0 +1,118 @@
+// The lines of a call on segments that comes back.
+ghost use Rattle.std.specs.Prelude.{◌≡◌, ◌≤◌, ◌++◌, ℕ, false, length};
+ghost use Rattle.o2_outer.specs.Texts.{Rose};
+ghost use Rattle.o2_world.specs.Text.{lines_text};
+ghost use Rattle.o2_gate.specs.Replies.{IsValue, lines_of};
+ghost use Rattle.o2_run.specs.Pieces.{counts};
+ghost use Rattle.o2_stepping.specs.Pieces.{HandsWhole};
+ghost use Rattle.o2_stepping.specs.Ran.{TakesText};
+ghost use Rattle.o2_stepping.specs.Replied.{moves, state_behind, trap_lines};
+
+use crate::one_step::{Ran, has_trap_flag, put_trap};
+use crate::tally::Tally;
+use o2_gate::{SegmentArguments, put_reply};
+use o2_isa::Cpu;
+use o2_outer::{Put, Sink};
+use o2_regions::Answer;
+use o2_report::LineBuffer;
+use o2_world::State;
+
+// Whether a call on segments that comes to no error holds more or less.
+fn moves(arguments: SegmentArguments) -> bool
+    ensures { result ≡ moves arguments }
+{
+    match arguments {
+        SegmentArguments::Alloc { .. } => true,
+        SegmentArguments::Realloc { .. } => false,
+        SegmentArguments::Free(_) => true,
+        SegmentArguments::Size { .. } => false,
+        SegmentArguments::Lock(_) => false,
+        SegmentArguments::Unlock(_) => false,
+        SegmentArguments::Alias { .. } => true,
+    }
+}
+
+// How many lines a call on segments has that comes back with this error number.
+fn line_count(arguments: SegmentArguments, error: u16) -> u64
+    ensures count { (pid value : ℕ) → result ≡ length (lines_of arguments pid error value) }
+    ensures few { result ≤ 2 }
+{
+    if moves(arguments) && error == 0 { 2 } else { 1 }
+}
+
+// Puts the lines of the call and nothing more; whether they were put whole.
+fn put_lines<R: Sink>(
+    pid: u16,
+    arguments: SegmentArguments,
+    answer: &Answer,
+    line: &mut LineBuffer,
+    report: &mut R,
+) -> bool
+    requires value { IsValue arguments answer.now.value }
+    ensures report { TakesText result (R.taken report.old) (R.taken report.new)
+        (lines_text (lines_of arguments pid answer.now.error answer.now.value)) }
+    ensures puts { (c : ℕ) → HandsWhole result (counts c c (R.puts report.old) (R.puts report.new) 0) 0
+        (length (lines_of arguments pid answer.now.error answer.now.value)) }
+    ensures count { R.faults report.old ≤ R.faults report.new }
+    ensures cause { result ≡ false → Rose (R.faults report.old) (R.faults report.new) }
+{
+    match put_reply(line, pid, arguments, answer.error, answer.value, report) {
+        Put::Done => true,
+        Put::Failed => false,
+    }
+}
+
+/// Puts the lines of a call on segments that comes back with this answer, and behind them that of exception 1, where the trap flag
+/// was set before it. Where a sink fails, nothing is put behind the line that failed; the call is done all the same.
+pub fn reply<R: Sink>(
+    pid: u16,
+    before: &Cpu,
+    arguments: SegmentArguments,
+    answer: &Answer,
+    line: &mut LineBuffer,
+    report: &mut R,
+) -> Ran
+    requires value { IsValue arguments answer.now.value }
+    ensures state { result.state ≡ state_behind before.now }
+    ensures bytes { result.tally.bytes ≡ 0 }
+    ensures lines { result.tally.lines
+        ≡ length (lines_of arguments pid answer.now.error answer.now.value ++ trap_lines pid before.now) }
+    ensures report { TakesText result.whole (R.taken report.old) (R.taken report.new)
+        (lines_text (lines_of arguments pid answer.now.error answer.now.value ++ trap_lines pid before.now)) }
+    ensures puts { (c : ℕ) → HandsWhole result.whole (counts c c (R.puts report.old) (R.puts report.new) 0) 0 result.tally.lines }
+    ensures count { R.faults report.old ≤ R.faults report.new }
+    ensures cause { result.whole ≡ false → Rose (R.faults report.old) (R.faults report.new) }
+{
+    let lines = line_count(arguments, answer.error);
+    let whole = put_lines(pid, arguments, answer, line, report);
+    if !has_trap_flag(before.flags) {
+        return Ran {
+            state: State::Live,
+            tally: Tally { bytes: 0, lines },
+            whole,
+        };
+    }
+    let tally = Tally {
+        bytes: 0,
+        lines: lines + 1,
+    };
+    if !whole {
+        return Ran {
+            state: State::Trapped(1),
+            tally,
+            whole: false,
+        };
+    }
+    match put_trap(line, pid, 1, before, report) {
+        Put::Done => Ran {
+            state: State::Trapped(1),
+            tally,
+            whole: true,
+        },
+        Put::Failed => Ran {
+            state: State::Trapped(1),
+            tally,
+            whole: false,
+        },
+    }
+}
