@@ -18,7 +18,7 @@ ghost use Rattle.o2_world.specs.Known.{known_of};
 ghost use Rattle.o2_world.specs.Tied.{IsTied};
 ghost use Rattle.o2_world.specs.World.{Process, Setting, World};
 ghost use Rattle.o2_segs.specs.Answers.{AnswersRoomed, AreAlone, changes_roomed};
-ghost use Rattle.o2_segs.specs.Limits.{KeepsLimits};
+ghost use Rattle.o2_segs.specs.Limits.{KeepsLimits, made_in};
 ghost use Rattle.o2_segs.specs.Made.{IsStop};
 ghost use Rattle.o2_calls.specs.Acts.{IsOver, MayStop, cpu_of, ruling_of};
 ghost use Rattle.o2_calls.specs.Stops.{IsGivable, LacksRoom, LacksSwap, LeavesHolds};
@@ -83,7 +83,7 @@ pub fn act<S: SwapDevice>(
 
     // What the calls of store, service and bus ask for goes on to hold.
     ensures processes { regions.new.processes ≡ regions.old.processes }
-    ensures limits { KeepsLimits store.old regions.old store.new regions.new 1 }
+    ensures limits { KeepsLimits store.old regions.old store.new regions.new (made_in result) }
     ensures value { IsGivable arguments result }
     ensures order { IsInOrder store.new regions.new }
     ensures guards { IsGuarded store.old regions.old → IsGuarded store.new regions.new }

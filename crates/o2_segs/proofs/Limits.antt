@@ -1,8 +1,10 @@
 -- What single changes leave of how large a store is, and that nobody holds a run.
-use Rattle.std.proofs.Common.{◌≡◌, ℕ, ◌+◌, ◌-◌, ◌&&◌, ◌==◌, Bool, true, false, cond, List, length, Option, Some, None, ap, refl, sym, ◌∙◌, subst, arith}
+use Rattle.std.proofs.Common.{◌≡◌, ℕ, ◌+◌, ◌-◌, ◌<◌, ◌&&◌, ◌==◌, Bool, true, false, cond, List, length, Option, Some, None, ap, refl, sym, ◌∙◌, subst, arith}
 use Rattle.std.proofs.lemmas.List.{length-set}
 use Rattle.o2_entries.specs.declared.Entry.{Entry}
 use Rattle.o2_place.specs.declared.seg_id.SegId.{SegId}
+use Rattle.o2_regions.specs.declared.answer.Roomed.{Roomed}
+use Rattle.o2_regions.specs.declared.answer.Roomed.TheVariants.{Done, NoRoom, SwapFull, SwapFault}
 use Rattle.o2_regions.specs.declared.held.Held.{Held}
 use Rattle.o2_regions.specs.Maps.{Maps, held_at, less_of, more_of}
 use Rattle.o2_service.specs.Told.{OnlyTables}
@@ -11,7 +13,8 @@ use Rattle.o2_store.specs.Sizes.{Resizes}
 use Rattle.o2_changes.specs.Holding.{Goes, Grants, Remains, Sweeps, Takes}
 use Rattle.o2_changes.specs.Segments.{IsNewest, SetsLock}
 use Rattle.o2_segs.specs.Answers.{AreAlone}
-use Rattle.o2_segs.specs.Limits.{KeepsLimits}
+use Rattle.o2_segs.specs.Limits.{KeepsLimits, made_in}
+use Rattle.o2_segs.specs.Made.{IsStop}
 
 -- Nobody holds a run.
 
@@ -66,6 +69,28 @@ limits_then s t u m n o a b x y = record {
 
 pub limits_more : (s t : Shelf) (m n : Maps) (a b : ℕ) → KeepsLimits s m t n a → KeepsLimits s m t n (a + b)
 limits_more s t m n a b x = record { size = x.size; count = x.count; made = (let p = x.made in omega (arith, p)); alone = x.alone }
+
+-- whether it stops or not
+pub limits_in : (s t : Shelf) (m n : Maps) (r : Roomed) → KeepsLimits s m t n 0 → KeepsLimits s m t n (made_in r)
+limits_in s t m n (Done a) x = limits_more s t m n 0 1 x
+limits_in s t m n NoRoom x = x
+limits_in s t m n SwapFull x = x
+limits_in s t m n SwapFault x = x
+
+-- a call that stops has unmade its segment
+pub limits_undone : (s t u : Shelf) (m n o : Maps) (r : Roomed) → IsStop r → t.made ≡ s.made + 1 → u.made < t.made → KeepsLimits s m t n 1 → KeepsLimits t n u o 0 → KeepsLimits s m u o (made_in r)
+limits_undone s t u m n o r stop one less x y = subst (λ (k : ℕ). KeepsLimits s m u o k) (sym (none r stop)) (record {
+  size = y.size ∙ x.size;
+  count = y.count ∙ x.count;
+  made = omega (arith, one, less);
+  alone = λ was. y.alone (x.alone was);
+})
+  where
+    none : (r : Roomed) → IsStop r → made_in r ≡ 0
+    none (Done a) stop = absurd stop
+    none NoRoom stop = refl
+    none SwapFull stop = refl
+    none SwapFault stop = refl
 
 -- segments come, go and move
 pub limits_moved : (s t : Shelf) (m n : Maps) → SameTables s t → OnlyTables m n → KeepsLimits s m t n 0

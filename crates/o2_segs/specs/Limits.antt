@@ -1,5 +1,7 @@
 -- What a call leaves of how large a store is, and of what is held.
 use Rattle.std.specs.Prelude.{◌≡◌, ℕ, ◌+◌, ◌≤◌, length}
+use Rattle.o2_regions.specs.declared.answer.Roomed.{Roomed}
+use Rattle.o2_regions.specs.declared.answer.Roomed.TheVariants.{Done, NoRoom, SwapFull, SwapFault}
 use Rattle.o2_regions.specs.Maps.{Maps}
 use Rattle.o2_store.specs.Shelf.{Shelf}
 use Rattle.o2_segs.specs.Answers.{AreAlone}
@@ -11,3 +13,10 @@ pub record KeepsLimits (s : Shelf) (m : Maps) (t : Shelf) (n : Maps) (more : ℕ
   pub count : length t.entries ≡ length s.entries
   pub made : t.made ≤ s.made + more
   pub alone : AreAlone m → AreAlone n
+
+-- how many segments a call makes at most: none where it stops
+abbrev pub made_in : Roomed → ℕ
+made_in (Done a) = 1
+made_in NoRoom = 0
+made_in SwapFull = 0
+made_in SwapFault = 0

@@ -20,7 +20,7 @@ use Rattle.o2_world.specs.Rulings.{aliasing, freeing, unlocking}
 use Rattle.o2_segs.specs.Answers.{Answers, AnswersRoomed, changes_roomed}
 use Rattle.o2_calls.specs.Acts.{cpu_of, ruling_of}
 use Rattle.o2_calls.specs.Stops.{IsGivable, LacksSwap, LeavesHolds}
-use Rattle.o2_segs.proofs.Limits.{limits_more, limits_same}
+use Rattle.o2_segs.proofs.Limits.{limits_more, limits_same, limits_in}
 use Rattle.o2_calls.proofs.acting.act.Goals as goal
 
 pub returns-in-Alloc-clause-row : goal.returns-in-Alloc-clause-row
@@ -178,7 +178,7 @@ pub returns-in-Alias-clause-processes : goal.returns-in-Alias-clause-processes
 returns-in-Alias-clause-processes g c = c.create_cs_alias.ensures.holds.processes
 
 pub returns-in-Realloc-clause-limits : goal.returns-in-Realloc-clause-limits
-returns-in-Realloc-clause-limits g c = limits_more c.args.store.now c.realloc_seg.new.store c.args.regions.now c.realloc_seg.new.regions 0 1 c.realloc_seg.ensures.limits
+returns-in-Realloc-clause-limits g c = limits_in c.args.store.now c.realloc_seg.new.store c.args.regions.now c.realloc_seg.new.regions c.realloc_seg.result c.realloc_seg.ensures.limits
 
 pub returns-in-Free-clause-limits : goal.returns-in-Free-clause-limits
 returns-in-Free-clause-limits g c = limits_more c.args.store.now c.free_seg.new.store c.args.regions.now c.free_seg.new.regions 0 1 c.free_seg.ensures.limits
@@ -187,7 +187,7 @@ pub returns-in-Size-clause-limits : goal.returns-in-Size-clause-limits
 returns-in-Size-clause-limits g c = limits_more c.args.store.now c.size_seg.new.store c.args.regions.now c.size_seg.new.regions 0 1 (limits_same c.args.store.now c.size_seg.new.store c.args.regions.now c.size_seg.new.regions c.size_seg.ensures.store c.size_seg.ensures.regions)
 
 pub returns-in-Lock-clause-limits : goal.returns-in-Lock-clause-limits
-returns-in-Lock-clause-limits g c = limits_more c.args.store.now c.lock_seg.new.store c.args.regions.now c.lock_seg.new.regions 0 1 c.lock_seg.ensures.limits
+returns-in-Lock-clause-limits g c = limits_in c.args.store.now c.lock_seg.new.store c.args.regions.now c.lock_seg.new.regions c.lock_seg.result c.lock_seg.ensures.limits
 
 pub returns-in-Unlock-clause-limits : goal.returns-in-Unlock-clause-limits
 returns-in-Unlock-clause-limits g c = limits_more c.args.store.now c.unlock_seg.new.store c.args.regions.now c.unlock_seg.new.regions 0 1 c.unlock_seg.ensures.limits

@@ -11,7 +11,7 @@ use Rattle.o2_segs.proofs.Making.{added_entry, added_map, added_place, done_answ
 use Rattle.o2_segs.proofs.Resizing.{refusal_moved}
 use Rattle.o2_segs.proofs.Stops.{error_none}
 use Rattle.o2_entries.specs.declared.Entry.{Entry}
-use Rattle.o2_segs.proofs.Limits.{limits_added, limits_more, limits_same, limits_then}
+use Rattle.o2_segs.proofs.Limits.{limits_added, limits_more, limits_same, limits_then, limits_undone}
 use Rattle.o2_segs.proofs.allocating.allocate.Goals as goal
 
 pub returns-then-not-is_locked-clause-answer : goal.returns-then-not-is_locked-clause-answer
@@ -181,7 +181,11 @@ returns-then-not-is_locked-clause-limits g c =
 
 pub returns-in-Some-lock_new-clause-limits : goal.returns-in-Some-lock_new-clause-limits
 returns-in-Some-lock_new-clause-limits g c =
-    limits_then c.args.store.now c.make.new.store c.lock_new.new.store c.args.regions.now c.args.regions.now c.lock_new.new.regions 1 0 (limits_added c.args.store.now c.make.new.store c.args.regions.now c.in-Some.id _ c.in-Some.ensures.added) c.lock_new.ensures.limits
+    let s = c.args.store.now in
+    let t = c.make.new.store in
+    let adds = c.in-Some.ensures.added in
+    limits_undone s t c.lock_new.new.store c.args.regions.now c.args.regions.now c.lock_new.new.regions c.in-Some-lock_new.stop (c.in-Some-lock_new.ensures.without c.in-Some-lock_new.stop refl).0
+    (ap (λ (x : Shelf). x.made) adds.shelf) (c.in-Some-lock_new.ensures.undone refl) (limits_added s t c.args.regions.now c.in-Some.id _ adds) c.lock_new.ensures.limits
 
 pub returns-in-None-lock_new-clause-limits : goal.returns-in-None-lock_new-clause-limits
 returns-in-None-lock_new-clause-limits g c =

@@ -109,3 +109,10 @@ pub returns-in-None-clause-limits : goal.returns-in-None-clause-limits
 returns-in-None-clause-limits g c =
     limits_then c.args.store.now c.bring_in.new.store c.set_lock.new.store c.args.regions.now c.bring_in.new.regions c.bring_in.new.regions 0 0 (limits_moved c.args.store.now c.bring_in.new.store c.args.regions.now c.bring_in.new.regions c.bring_in.ensures.keeps.tables c.bring_in.ensures.maps)
     (limits_locked c.bring_in.new.store c.set_lock.new.store c.bring_in.new.regions c.args.id 1 c.set_lock.ensures.sets)
+
+pub returns-in-Some-clause-undone : goal.returns-in-Some-clause-undone
+returns-in-Some-clause-undone g c = λ some.
+    (let last = (newest_still c.args.store.now c.bring_in.new.store c.args.id c.bring_in.ensures.keeps.tables c.requires.newest).last in
+    let made = c.unmake.ensures.made in
+    let same = c.bring_in.ensures.keeps.tables.made in
+    omega (arith, last, made, same))
