@@ -26,6 +26,8 @@ use Rattle.o2_stepping.specs.Shapes.{SameShape}
 use Rattle.o2_stepping.specs.Taken.{Takes, TakesFault}
 use Rattle.o2_stepping.specs.Worlds.{away_of, bytes_with}
 use Rattle.o2_stepping.specs.declared.one_step.Ran.{Ran}
+use Rattle.o2_stepping.specs.declared.one_step.Stepped.{Stepped}
+use Rattle.o2_stepping.specs.declared.one_step.Stepped.TheVariants as stepped
 use Rattle.o2_stepping.proofs.Worlds.{all_bytes, all_under, table}
 use Rattle.o2_space.specs.Acts.{ActsFault, Stays}
 use Rattle.o2_space.specs.Between.{IsBetween, Steps}
@@ -123,8 +125,8 @@ module _ (p : Parts) (t : Shelf) (n : Maps) (device : ℕ) (block : ℕ → List
     done : (e : Effect) (ran : Ran) (cpu : Cpu) (j c d r u : Option (List ℕ)) → IsDone e ran cpu new j c d r u → IsBetween w e ran cpu q j c d r u
     done e ran cpu j c d r u x = record {
       state = x.state;
-      ends = x.ends;
       puts = x.puts;
+      changes = x.changes;
       cpu = x.cpu;
       stands = stands_written inside ready e.bytes x.bytes w stands;
       input = x.input;
@@ -142,6 +144,7 @@ module _ (p : Parts) (t : Shelf) (n : Maps) (device : ℕ) (block : ℕ → List
     faults b cpu i j c d r u (fault.Stopped stop.SwapFull) x = still cpu b.cpu i j c d r u x
     faults b cpu i j c d r u (fault.Stopped stop.SwapFault) x = still cpu b.cpu i j c d r u x
 
-    pub steps_by : (b : Before) (cpu : Cpu) (i j c d r u : Option (List ℕ)) (result : Result Ran Fault) → Takes b (effect b) cpu old new i j c d r u result → Steps b w cpu q i j c d r u result
-    steps_by b cpu i j c d r u (Ok ran) x = done (effect b) ran cpu j c d r u x
+    pub steps_by : (b : Before) (cpu : Cpu) (i j c d r u : Option (List ℕ)) (result : Result Stepped Fault) → Takes b (effect b) cpu old new i j c d r u result → Steps b w cpu q i j c d r u result
+    steps_by b cpu i j c d r u (Ok (stepped.Ran ran)) x = done (effect b) ran cpu j c d r u x
+    steps_by b cpu i j c d r u (Ok (stepped.Asked a next)) x = record { effect = x.effect; cpu = x.still.cpu; still = still cpu b.cpu i j c d r u x.still }
     steps_by b cpu i j c d r u (Err f) x = faults b cpu i j c d r u f x

@@ -9,10 +9,9 @@ use Rattle.o2_regions.specs.Lives.{lives}
 use Rattle.o2_regions.specs.Maps.{Maps}
 use Rattle.o2_store.specs.Shelf.{Shelf}
 use Rattle.o2_world.specs.Changes.{used}
-use Rattle.o2_world.specs.Calls.{Effect}
 use Rattle.o2_world.specs.Holders.{kept, process_at, with_process}
-use Rattle.o2_world.specs.Views.{with_bytes}
-use Rattle.o2_world.specs.World.{Process, Setting, World, is_live}
+use Rattle.o2_world.specs.Map.{Map}
+use Rattle.o2_world.specs.World.{Process, Reserve, Segment, Setting, is_live}
 use Rattle.o2_world.specs.declared.types.State.{State}
 use Rattle.o2_world.proofs.Keeps.{at_other}
 use Rattle.o2_stands.specs.Parts.{Parts, Running, goes_on, running_of}
@@ -23,7 +22,7 @@ use Rattle.o2_ends.specs.Ended.{StandsBehind}
 use Rattle.o2_ends.specs.LetsGo.{Sheds}
 use Rattle.o2_space.specs.declared.space.Proc.{Proc}
 use Rattle.o2_space.specs.Parts.{running_at, running_in}
-use Rattle.o2_space.specs.Stands.{StandsAfter}
+use Rattle.o2_space.specs.Stands.{StandsCommitted}
 
 -- A process is put at its place.
 
@@ -82,40 +81,39 @@ module _ (procs : List Proc) (pid : ℕ) (x : Proc) (some : 0 < pid) (there : pi
       → (n : ℕ) → lives marks n ≡ goes_on (running_at now n)
   marked_end marks p e marked n = marked n ∙ ap (λ (q : Parts). goes_on (q.running n)) (sym (parts_put p e))
 
-  -- The world behind the step.
+  -- What it stands for then.
 
-  module _ (p : Parts) (w : World) (y : Process) (e : Effect) (at : p.running ≡ running_at procs)
-      (stands : StandsIn p w.processes (with_bytes w.names e.bytes) w.next_name w.reserved) (found : process_at w.processes pid ≡ Some y)
-      (cpu : x.cpu ≡ e.cpu) (state : x.state ≡ e.state) where
+  module _ (p : Parts) (ps : List Process) (names : Map Segment) (next : ℕ) (reserved : List Reserve) (y : Process) (r : Running) (at : p.running ≡ running_at procs)
+      (stands : StandsIn p ps names next reserved) (found : process_at ps pid ≡ Some y) (cpu : x.cpu ≡ r.cpu) (state : x.state ≡ r.state) where
     abbrev worked : Process
-    worked = record y { cpu = e.cpu; state = e.state }
+    worked = record y { cpu = r.cpu; state = r.state }
 
     abbrev ended : Process
-    ended = record y { cpu = e.cpu; state = e.state; held = [] }
+    ended = record y { cpu = r.cpu; state = r.state; held = [] }
 
     -- by whether it lives
     abbrev StandsBy : Parts → Bool → Type 0
     StandsBy q b =
-        let ps = with_process w.processes pid (if b then worked else ended) in
-        StandsIn q ps (if b then with_bytes w.names e.bytes else kept ps (with_bytes w.names e.bytes)) w.next_name (if b then w.reserved else used ps w.reserved)
+        let qs = with_process ps pid (if b then worked else ended) in
+        StandsIn q qs (if b then names else kept qs names) next (if b then reserved else used qs reserved)
 
-    same_running : running_in x ≡ record { cpu = e.cpu; state = e.state }
-    same_running = ap (λ (c : Cpu). record { cpu = c; state = x.state }) cpu ∙ ap (λ (s : State). record { cpu = e.cpu; state = s }) state
+    same_running : running_in x ≡ r
+    same_running = ap (λ (c : Cpu). record { cpu = c; state = x.state }) cpu ∙ ap (λ (s : State). record { cpu = r.cpu; state = s }) state
 
-    parts_are : (q : Parts) → q.running ≡ running_at procs → with_running q pid (record { cpu = e.cpu; state = e.state }) ≡ put q
+    parts_are : (q : Parts) → q.running ≡ running_at procs → with_running q pid r ≡ put q
     parts_are q h = ap (with_running q pid) (sym same_running) ∙ sym (parts_put q h)
 
-    pub stands_live : is_live e.state ≡ true → is_live y.state ≡ true → StandsAfter w pid y e (put p)
+    pub stands_live : is_live r.state ≡ true → is_live y.state ≡ true → StandsCommitted ps names next reserved pid y r (put p)
     stands_live live was =
         subst (StandsBy (put p)) (sym live)
         (subst (λ (q : Parts). StandsBy q true) (parts_are p at)
-        (goes_on_stands w.processes pid y worked found refl p (with_bytes w.names e.bytes) w.next_name w.reserved (live ∙ sym was) stands))
+        (goes_on_stands ps pid y worked found refl p names next reserved (live ∙ sym was) stands))
 
-    pub stands_ended : (t : Shelf) (n : Maps) → StandsBehind pid p.shelf p.maps t n → is_live e.state ≡ false → StandsAfter w pid y e (put (stepped_to p t n))
+    pub stands_ended : (t : Shelf) (n : Maps) → StandsBehind pid p.shelf p.maps t n → is_live r.state ≡ false → StandsCommitted ps names next reserved pid y r (put (stepped_to p t n))
     stands_ended t n behind dead =
         subst (StandsBy (put (stepped_to p t n))) (sym dead)
         (subst (λ (q : Parts). StandsBy q false) (parts_are (stepped_to p t n) at)
-        (behind.stands p w.processes (with_bytes w.names e.bytes) w.next_name w.reserved y ended stands found refl dead))
+        (behind.stands p ps names next reserved y ended stands found refl dead))
 
 -- what a setting fixes stays where a process lets go
 pub set_ended : (p : Parts) (t : Shelf) (n : Maps) (s : Setting) → Sheds p.shelf p.maps t n → IsSetTo p s → IsSetTo (stepped_to p t n) s

@@ -4,3 +4,5 @@ pub mod Behind
 pub mod Commits
 pub mod Rooms
 pub mod Nexting
+pub mod Alone
+pub mod Afters

@@ -3,3 +3,4 @@ pub mod Stands
 pub mod Acts
 pub mod Between
 pub mod Nexts
+pub mod Calls

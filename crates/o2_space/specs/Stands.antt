@@ -3,11 +3,12 @@ use Rattle.std.specs.Prelude.{◌≡◌, ℕ, ◌≤◌, if◌then◌else◌, Li
 use Rattle.o2_conf.specs.Dispatch.{Dispatch}
 use Rattle.o2_world.specs.Calls.{Effect}
 use Rattle.o2_world.specs.Changes.{used}
-use Rattle.o2_world.specs.Holders.{with_process}
-use Rattle.o2_world.specs.Run.{changed, names_after, process_after}
-use Rattle.o2_world.specs.World.{Process, Reserve, World, is_live}
+use Rattle.o2_world.specs.Holders.{kept, with_process}
+use Rattle.o2_world.specs.Map.{Map}
+use Rattle.o2_world.specs.Run.{changed}
+use Rattle.o2_world.specs.World.{Process, Reserve, Segment, World, is_live}
 use Rattle.o2_segs.specs.Answers.{AreAlone}
-use Rattle.o2_stands.specs.Parts.{Parts}
+use Rattle.o2_stands.specs.Parts.{Parts, Running}
 use Rattle.o2_stands.specs.Stands.{AreMarked, IsReady, Matches, StandsIn}
 use Rattle.o2_space.specs.Parts.{parts_in}
 use Rattle.o2_space.specs.declared.space.Space.{Space}
@@ -21,16 +22,12 @@ pub record GoTogether (m : Space) (device : ℕ) : Type 0 where
   pub marked : AreMarked m.ends (parts_in m device (λ n. []))
   pub alone : AreAlone m.regions
 
--- what is reserved behind a step: where it ended the process, what is used
-abbrev pub reserved_after : List Process → List Reserve → Effect → List Reserve
-reserved_after ps reserved e = if is_live e.state then reserved else used ps reserved
-
--- The parts stand for the world behind a step of a process that changes nothing but bytes, whatever its texts, its input and its
--- dispatch are.
-abbrev pub StandsPlainly : World → (number : ℕ) → Process → Effect → Parts → Type 0
-StandsPlainly w number x e p =
-    let ps = with_process w.processes number (process_after x e) in
-    StandsIn p ps (names_after ps w.names e) w.next_name (reserved_after ps w.reserved e)
+-- The parts stand for these processes, names and reserved indexes once a process has these registers and this state: where it has
+-- ended, it holds nothing, and what nobody holds is gone.
+abbrev pub StandsCommitted : List Process → Map Segment → (next : ℕ) → List Reserve → (number : ℕ) → Process → Running → Parts → Type 0
+StandsCommitted ps names next reserved number x r p =
+    let qs = with_process ps number (if is_live r.state then record x { cpu = r.cpu; state = r.state } else record x { cpu = r.cpu; state = r.state; held = [] }) in
+    StandsIn p qs (if is_live r.state then names else kept qs names) next (if is_live r.state then reserved else used qs reserved)
 
 -- The parts match the world behind a step of a process.
 abbrev pub MatchesAfter : World → (number : ℕ) → Process → Effect → Parts → Type 0

@@ -11,17 +11,18 @@ ghost use Rattle.o2_segbus.specs.Settled.{IsSettled};
 ghost use Rattle.o2_service.specs.Told.{IsHeldWell};
 ghost use Rattle.o2_store.specs.Loads.{live_load, swap_load};
 ghost use Rattle.o2_swapmap.specs.Piles.{all_of};
-ghost use Rattle.o2_world.specs.Calls.{Effect};
 ghost use Rattle.o2_world.specs.Effect.{effect};
 ghost use Rattle.o2_world.specs.Holders.{process_at};
 ghost use Rattle.o2_world.specs.Known.{known_of};
 ghost use Rattle.o2_world.specs.Run.{before, next_dispatch};
-ghost use Rattle.o2_world.specs.Views.{with_bytes};
-ghost use Rattle.o2_world.specs.World.{Process, Setting, World, is_live as lives_on};
+ghost use Rattle.o2_world.specs.Map.{Map};
+ghost use Rattle.o2_world.specs.World.{Process, Reserve, Segment, Setting, World, is_live as lives_on};
 ghost use Rattle.o2_world.specs.Tied.{IsSound};
 ghost use Rattle.o2_gate.specs.Befores.{IsKnown};
 ghost use Rattle.o2_gate.specs.Gathers.{targets};
 ghost use Rattle.o2_gate.specs.Pointed.{are_ready};
+ghost use Rattle.o2_stands.specs.Moves.{with_running};
+ghost use Rattle.o2_stands.specs.Parts.{Running as RunningThere};
 ghost use Rattle.o2_stands.specs.Stands.{IsSetTo, Stands, StandsIn};
 ghost use Rattle.o2_run.specs.Pieces.{PartHands, counts};
 ghost use Rattle.o2_stepping.specs.Pieces.{RanHands, StepHands};
@@ -32,7 +33,7 @@ ghost use Rattle.o2_space.specs.Acts.{Acts, AreMarkedBehind};
 ghost use Rattle.o2_space.specs.Between.{Steps};
 ghost use Rattle.o2_space.specs.Nexts.{SaysRoom, SaysStep};
 ghost use Rattle.o2_space.specs.Parts.{parts_in};
-ghost use Rattle.o2_space.specs.Stands.{GoTogether, StandsPlainly};
+ghost use Rattle.o2_space.specs.Stands.{GoTogether, StandsCommitted};
 
 use crate::space::{Proc, Space};
 use o2_ends::end;
@@ -58,12 +59,15 @@ impl Space {
         requires most { pid ≤ 64 }
         requires held { IsHeldWell self.old.store self.old.regions }
         requires settled { IsSettled self.old.store self.old.regions }
-        ensures stands { (device : ℕ) (block : ℕ → List ℕ) (w : World) (x : Process) (e : Effect)
-            → StandsIn (parts_in self.old device block)
-            w.processes (with_bytes w.names e.bytes) w.next_name w.reserved
-            → process_at w.processes pid ≡ Some x → lives_on x.state ≡ true
-            → cpu.now ≡ e.cpu → e.state ≡ state
-            → StandsPlainly w pid x e (parts_in self.new device block) }
+        ensures stands { (device : ℕ) (block : ℕ → List ℕ) (ps : List Process) (names : Map Segment) (next : ℕ)
+            (reserved : List Reserve) (x : Process) (r : RunningThere)
+            → StandsIn (parts_in self.old device block) ps names next reserved
+            → process_at ps pid ≡ Some x → lives_on x.state ≡ true
+            → cpu.now ≡ r.cpu → r.state ≡ state
+            → StandsCommitted ps names next reserved pid x r (parts_in self.new device block) }
+        ensures put { lives_on state ≡ true → (device : ℕ) (block : ℕ → List ℕ)
+            → parts_in self.new device block
+            ≡ with_running (parts_in self.old device block) pid (record { cpu = cpu.now; state = state }) }
         ensures together { (device : ℕ) → lives self.old.ends pid ≡ true
             → GoTogether self.old device → GoTogether self.new device }
         ensures set { (device : ℕ) (block : ℕ → List ℕ) (s : Setting)

@@ -1,5 +1,5 @@
 // A call on segments by a process over a store.
-ghost use Rattle.std.specs.Prelude.{◌≡◌, ◌<◌, ◌≤◌, ◌+◌, ◌-◌, ◌^◌, ℕ, List, length, Option, Some, IsTrue, true, false};
+ghost use Rattle.std.specs.Prelude.{◌≡◌, ◌<◌, ◌≤◌, ◌+◌, ◌-◌, ◌^◌, ℕ, IfOk, List, length, Option, Some, IsTrue, true};
 ghost use Rattle.o2_outer.specs.Texts.{Rose};
 ghost use Rattle.o2_isa.specs.View.{bound_registers};
 ghost use Rattle.o2_regions.specs.Lives.{lives};
@@ -10,7 +10,7 @@ ghost use Rattle.o2_segbus.specs.Settled.{IsSettled};
 ghost use Rattle.o2_world.specs.Effect.{effect, single_stepped};
 ghost use Rattle.o2_world.specs.Holders.{process_at};
 ghost use Rattle.o2_world.specs.Run.{before, next_dispatch};
-ghost use Rattle.o2_world.specs.Tied.{IsSound};
+ghost use Rattle.o2_world.specs.Tied.{IsSound, IsTied};
 ghost use Rattle.o2_world.specs.World.{Process, Setting, World};
 ghost use Rattle.o2_gate.specs.Gathers.{asked, targets};
 ghost use Rattle.o2_gate.specs.Pointed.{are_ready};
@@ -19,9 +19,10 @@ ghost use Rattle.o2_stands.specs.Stands.{IsSetTo, Stands};
 ghost use Rattle.o2_run.specs.Pieces.{counts};
 ghost use Rattle.o2_stepping.specs.Pieces.{RanHands};
 ghost use Rattle.o2_stepping.specs.Rooms.{all_names, room_in};
-ghost use Rattle.o2_stepping.specs.Taken.{OnNoStep, OnSwapStop, TakenFor};
+ghost use Rattle.o2_stepping.specs.Taken.{IsSwapStop, OnErr, OnNoStep, OnSink, OnSwapStop, TakenFor};
 ghost use Rattle.o2_stepping.specs.Worlds.{bytes_with};
 ghost use Rattle.o2_space.specs.Acts.{Acts, AreMarkedBehind};
+ghost use Rattle.o2_space.specs.Calls.{Makes, SaysCall, no_registers};
 ghost use Rattle.o2_space.specs.Nexts.{SaysRoom};
 ghost use Rattle.o2_space.specs.Parts.{parts_in};
 ghost use Rattle.o2_space.specs.Stands.{GoTogether};

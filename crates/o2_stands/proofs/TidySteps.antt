@@ -7,14 +7,13 @@ use Rattle.o2_world.specs.declared.types.State.TheVariants.{Live}
 use Rattle.o2_world.specs.World.{World, Setting, Process, Reserve, is_live}
 use Rattle.o2_world.specs.Holders.{process_at}
 use Rattle.o2_world.specs.Changes.{Change, Drops, Finishes, with_change, with_changes}
-use Rattle.o2_world.specs.Known.{holds_index, reserves}
-use Rattle.o2_world.specs.CallParts.{Effect}
+use Rattle.o2_world.specs.Known.{holds_index, reserves, taken_in}
+use Rattle.o2_world.specs.CallParts.{Effect, Before}
 use Rattle.o2_world.specs.Effect.{effect}
 use Rattle.o2_world.specs.Run.{acted, all_changes, before, changed, chosen_step, is_over, next_dispatch, step, worked, working}
 use Rattle.o2_world.specs.Tied.{IsSound}
 use Rattle.o2_world.specs.Moves.{IsFreeIndex, Moves, NoneMoves, OneAliased, OneLocked, OneMade, OneSized, SomeFreed}
-use Rattle.o2_world.proofs.StepMoves.{effect_moves}
-use Rattle.o2_world.proofs.StepSound.{all_fit, next_process, step_sound, worked_is_tied}
+use Rattle.o2_world.proofs.StepSound.{IsOrderly, acted_sound, all_fit, effect_orderly, next_process, worked_is_tied}
 use Rattle.o2_stands.specs.Stands.{IsTidy}
 use Rattle.o2_stands.specs.Tidies.{AreTidyChanges, IsReservedAs}
 use Rattle.o2_stands.proofs.Moves.{tidy_written}
@@ -61,13 +60,10 @@ all_tidy v n e tidies = go (is_live e.state)
 
 -- A step.
 
-module _ (s : Setting) (w : World) (p : Process) (at : process_at w.processes (next_dispatch s w).current ≡ Some p) (live : p.state ≡ Live) (sound : IsSound w) (sound_behind : IsSound (changed w (next_dispatch s w) p (effect (before s w (next_dispatch s w).current p))))
-    (tidy : IsTidy w.processes w.names w.reserved) where
+module _ (s : Setting) (w : World) (p : Process) (at : process_at w.processes (next_dispatch s w).current ≡ Some p) (live : p.state ≡ Live) (sound : IsSound w)
+    (e : Effect) (orderly : IsOrderly (before s w (next_dispatch s w).current p) e) (tidy : IsTidy w.processes w.names w.reserved) where
   abbrev d : Dispatch
   d = next_dispatch s w
-
-  abbrev e : Effect
-  e = effect (before s w d.current p)
 
   abbrev v : World
   v = worked w d p e
@@ -87,20 +83,19 @@ module _ (s : Setting) (w : World) (p : Process) (at : process_at w.processes (n
   pub acted_tidy : let u = changed w d p e in IsTidy u.processes u.names u.reserved
   unfolding changed
   acted_tidy =
-      tidy_behind v (all_changes d.current e) (worked_is_tied s w p at live sound) (all_fit s w p at live sound)
-      (all_tidy v d.current e (moves_tidy s w v d.current p refl e.cpu e.changes (effect_moves (before s w d.current p)))) tidy_now sound_behind.swept
+      tidy_behind v (all_changes d.current e) (worked_is_tied s w p at live sound e orderly) (all_fit s w p at live sound e orderly)
+      (all_tidy v d.current e (moves_tidy s w v d.current p refl e.cpu e.changes orderly.moves)) tidy_now (acted_sound s w p at live sound e orderly).swept
 
 pub step_tidy : (s : Setting) (w : World) → IsSound w → IsTidy w.processes w.names w.reserved → let u = step s w in IsTidy u.processes u.names u.reserved
 unfolding step
-step_tidy s w sound tidy = go (is_over w) refl (step_sound s w sound)
+step_tidy s w sound tidy = go (is_over w) refl
   where
     Tidy : World → Type 0
     Tidy u = IsTidy u.processes u.names u.reserved
 
-    go : (b : Bool) → is_over w ≡ b → IsSound (if is_over w then w else chosen_step s w) → Tidy (if b then w else chosen_step s w)
-    go true over sound_behind = tidy
-    go false runs sound_behind =
+    go : (b : Bool) → is_over w ≡ b → Tidy (if b then w else chosen_step s w)
+    go true over = tidy
+    go false runs =
         let here = next_process s w runs in
-        let runs_on : IsSound (chosen_step s w) = subst (λ (b : Bool). IsSound (if b then w else chosen_step s w)) runs sound_behind in
         subst (λ (o : Option Process). Tidy (acted s w (next_dispatch s w) o)) (sym here.1)
-        (acted_tidy s w here.0 here.1 here.2 sound (subst (λ (o : Option Process). IsSound (acted s w (next_dispatch s w) o)) here.1 runs_on) tidy)
+        (acted_tidy s w here.0 here.1 here.2 sound _ (effect_orderly (before s w (next_dispatch s w).current here.0)) tidy)

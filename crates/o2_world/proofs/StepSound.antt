@@ -8,7 +8,9 @@ use Rattle.o2_world.specs.Holders.{process_at}
 use Rattle.o2_world.specs.Sound.{HasGoodRegisters}
 use Rattle.o2_world.specs.Views.{segment_bytes}
 use Rattle.o2_world.specs.Changes.{Finishes}
-use Rattle.o2_world.specs.Calls.{Effect}
+use Rattle.o2_isa.specs.SegmentLoads.{LoadsByRules}
+use Rattle.o2_world.specs.Calls.{Before, Effect}
+use Rattle.o2_world.specs.Moves.{Moves}
 use Rattle.o2_world.specs.Effect.{effect}
 use Rattle.o2_world.specs.Run.{all_changes, before, changed, worked, working, acted, step, chosen_step, is_over, any_lives, live_flags, next_dispatch}
 use Rattle.o2_world.specs.Tied.{AreFitChanges, IsSound, IsTied}
@@ -30,21 +32,28 @@ next_process s w runs =
     let some = not_over (any_lives w.processes) w.dispatch.budget runs in
     live_process w.processes (live_flags w.processes) (next_dispatch s w).current refl (chosen_lives s.quantum (live_flags w.processes) w.dispatch some.0)
 
-module _ (s : Setting) (w : World) (p : Process) (at : process_at w.processes (next_dispatch s w).current ≡ Some p) (live : p.state ≡ Live) (sound : IsSound w) where
+-- an effect loads segment registers by their rules, keeps the size of each name, and has changes of one of the shapes
+pub record IsOrderly (b : Before) (e : Effect) : Type 0 where
+  pub ruled : LoadsByRules b.view b.cpu e.cpu
+  pub sizes : (q : ℕ) → length (e.bytes q) ≡ length (b.view.bytes q)
+  pub moves : Moves b e.cpu e.changes
+
+pub effect_orderly : (b : Before) → IsOrderly b (effect b)
+effect_orderly b = record { ruled = effect_ruled b; sizes = effect_sizes b; moves = effect_moves b }
+
+module _ (s : Setting) (w : World) (p : Process) (at : process_at w.processes (next_dispatch s w).current ≡ Some p) (live : p.state ≡ Live) (sound : IsSound w)
+    (e : Effect) (orderly : IsOrderly (before s w (next_dispatch s w).current p) e) where
   abbrev d : Dispatch
   d = next_dispatch s w
-
-  abbrev e : Effect
-  e = effect (before s w d.current p)
 
   lives_now : is_live p.state ≡ true
   lives_now = ap is_live live
 
   sizes : (q : ℕ) (x : Segment) → get w.names q ≡ Some x → length (e.bytes q) ≡ length x.bytes
-  sizes q x there = effect_sizes (before s w d.current p) q ∙ ap (λ (o : Option Segment). length (segment_bytes o)) there
+  sizes q x there = orderly.sizes q ∙ ap (λ (o : Option Segment). length (segment_bytes o)) there
 
   good : HasGoodRegisters (working p e)
-  good = good_after w.names p e.cpu (working p e).state (sound.tied.registers (d.current - 1) p (at_place_of w.processes d.current p at) lives_now) (effect_ruled (before s w d.current p))
+  good = good_after w.names p e.cpu (working p e).state (sound.tied.registers (d.current - 1) p (at_place_of w.processes d.current p at) lives_now) orderly.ruled
 
   still : is_live (working p e).state ≡ true
   still = still_live w d p e at lives_now good sizes
@@ -54,7 +63,7 @@ module _ (s : Setting) (w : World) (p : Process) (at : process_at w.processes (n
   worked_is_tied = worked_tied w d p e at lives_now good sizes sound.tied
 
   fit : AreFitChanges (worked w d p e) e.changes
-  fit = moves_fit s w d p e at lives_now still good sizes sound (effect_moves (before s w d.current p))
+  fit = moves_fit s w d p e at lives_now still good sizes sound orderly.moves
 
   pub all_fit : AreFitChanges (worked w d p e) (all_changes d.current e)
   all_fit = go (is_live e.state) refl
@@ -65,8 +74,7 @@ module _ (s : Setting) (w : World) (p : Process) (at : process_at w.processes (n
 
   pub acted_sound : IsSound (changed w d p e)
   acted_sound =
-      let moves = effect_moves (before s w d.current p) in
-      let both = changed_tied w d p e at lives_now good sizes fit (moves_swept s w d p e at lives_now still good sizes sound moves) sound.tied in
+      let both = changed_tied w d p e at lives_now good sizes fit (moves_swept s w d p e at lives_now still good sizes sound orderly.moves) sound.tied in
       record { tied = both.0; swept = both.1 }
 
 pub step_sound : (s : Setting) (w : World) → IsSound w → IsSound (step s w)
@@ -77,4 +85,4 @@ step_sound s w sound = go (is_over w) refl
     go true over = sound
     go false runs =
         let here = next_process s w runs in
-        subst (λ (o : Option Process). IsSound (acted s w (next_dispatch s w) o)) (sym here.1) (acted_sound s w here.0 here.1 here.2 sound)
+        subst (λ (o : Option Process). IsSound (acted s w (next_dispatch s w) o)) (sym here.1) (acted_sound s w here.0 here.1 here.2 sound _ (effect_orderly (before s w (next_dispatch s w).current here.0)))

@@ -1,23 +1,25 @@
 use Rattle.std.proofs.Common.{◌≡◌, [], true, false, ap, sym, ◌∙◌, refl, arith}
+use Rattle.std.proofs.lemmas.Bool.{false≢true}
 use Rattle.o2_world.specs.World.{is_live as lives_on}
 use Rattle.o2_space.specs.declared.space.Proc.{Proc}
 use Rattle.o2_space.specs.Parts.{parts_in, running_at, running_in}
+use Rattle.o2_space.proofs.Alone.{alone_let_go}
 use Rattle.o2_space.proofs.Alike.{ready_as, set_as}
-use Rattle.o2_space.proofs.Commits.{count_put, marked_end, marked_put, now, set_ended, stands_ended, stands_live}
+use Rattle.o2_space.proofs.Commits.{count_put, marked_end, marked_put, now, parts_put, set_ended, stands_ended, stands_live}
 use Rattle.o2_space.proofs.space.Space.commit.Goals as goal
 
 pub returns-then-not-is_live-clause-stands : goal.returns-then-not-is_live-clause-stands
-returns-then-not-is_live-clause-stands c = λ device block w x e stands found live cpu state.
+returns-then-not-is_live-clause-stands c = λ device block ps names next reserved x r stands found live cpu state.
     let m = c.args.self.now in
     let y : Proc = record { cpu = c.args.cpu.now; state = c.args.state } in
-    stands_ended m.procs.items c.args.pid y c.requires.process.0 c.requires.there (parts_in m device block) w x e refl stands found cpu (sym state)
+    stands_ended m.procs.items c.args.pid y c.requires.process.0 c.requires.there (parts_in m device block) ps names next reserved x r refl stands found cpu (sym state)
     c.end.new.store c.end.new.regions c.end.ensures.behind (ap lives_on state ∙ sym c.if-not-is_live.ensures)
 
 pub returns-else-not-is_live-clause-stands : goal.returns-else-not-is_live-clause-stands
-returns-else-not-is_live-clause-stands c = λ device block w x e stands found live cpu state.
+returns-else-not-is_live-clause-stands c = λ device block ps names next reserved x r stands found live cpu state.
     let m = c.args.self.now in
     let y : Proc = record { cpu = c.args.cpu.now; state = c.args.state } in
-    stands_live m.procs.items c.args.pid y c.requires.process.0 c.requires.there (parts_in m device block) w x e refl stands found cpu (sym state)
+    stands_live m.procs.items c.args.pid y c.requires.process.0 c.requires.there (parts_in m device block) ps names next reserved x r refl stands found cpu (sym state)
     (ap lives_on state ∙ sym c.if-not-is_live.ensures) live
 
 pub returns-then-not-is_live-clause-together : goal.returns-then-not-is_live-clause-together
@@ -34,6 +36,7 @@ returns-then-not-is_live-clause-together c = λ device here together.
       numbers = (let a = together.numbers in let b = count_put m.procs.items c.args.pid y c.requires.process.0 c.requires.there in let d = c.end.ensures.maps.processes in omega (arith, a, b, d));
       marked = marked_end m.procs.items c.args.pid y c.requires.process.0 c.requires.there c.end.new.ends (parts_in m device (λ k. [])) refl
           (c.end.ensures.marked (parts_in m device (λ k. [])) (running_in y) dead together.marked);
+      alone = alone_let_go m.regions n c.args.pid (λ i. true) c.end.ensures.maps together.alone;
     }
 
 pub returns-else-not-is_live-clause-together : goal.returns-else-not-is_live-clause-together
@@ -45,6 +48,7 @@ returns-else-not-is_live-clause-together c = λ device here together.
       ready = λ block. ready_as m.store m.regions m.images device block block (running_at m.procs.items) (running_at (now m.procs.items c.args.pid y c.requires.process.0 c.requires.there)) (together.ready block);
       numbers = (let a = together.numbers in let b = count_put m.procs.items c.args.pid y c.requires.process.0 c.requires.there in omega (arith, a, b));
       marked = marked_put m.procs.items c.args.pid y c.requires.process.0 c.requires.there m.ends together.marked (here ∙ sym live);
+      alone = together.alone;
     }
 
 pub returns-then-not-is_live-clause-set : goal.returns-then-not-is_live-clause-set
@@ -59,3 +63,14 @@ returns-else-not-is_live-clause-set c = λ device block s set.
     let m = c.args.self.now in
     let y : Proc = record { cpu = c.args.cpu.now; state = c.args.state } in
     set_as m.store m.regions m.images device block block (running_at m.procs.items) (running_at (now m.procs.items c.args.pid y c.requires.process.0 c.requires.there)) s set
+
+pub returns-then-not-is_live-clause-made : goal.returns-then-not-is_live-clause-made
+returns-then-not-is_live-clause-made c = c.end.ensures.store.made
+
+pub returns-then-not-is_live-clause-put : goal.returns-then-not-is_live-clause-put
+returns-then-not-is_live-clause-put c = λ live device block. absurd (false≢true (c.if-not-is_live.ensures ∙ live))
+
+pub returns-else-not-is_live-clause-put : goal.returns-else-not-is_live-clause-put
+returns-else-not-is_live-clause-put c = λ live device block.
+    let m = c.args.self.now in
+    parts_put m.procs.items c.args.pid (record { cpu = c.args.cpu.now; state = c.args.state }) c.requires.process.0 c.requires.there (parts_in m device block) refl

@@ -14,6 +14,7 @@ use Rattle.o2_stepping.specs.Taken.{OnDone, OnSink, OnSwapStop, Takes}
 use Rattle.o2_stepping.specs.Worlds.{away_of, bytes_with}
 use Rattle.o2_stepping.proofs.Worlds.{same_map}
 use Rattle.o2_space.specs.Parts.{parts_in, running_at}
+use Rattle.o2_space.proofs.Alone.{alone_held}
 use Rattle.o2_space.proofs.Alike.{ready_as}
 use Rattle.o2_space.proofs.Behind.{set_behind, steps_by}
 use Rattle.o2_space.proofs.Nexting.{says_room}
@@ -83,6 +84,7 @@ returns-clause-together g c =
       ready = λ block. ready_as new.store new.regions m.images (S.blocks new.swap) (S.block new.swap) block (λ k. None) (running_at m.procs.items) e.ready;
       numbers = (let a = c.requires.together.numbers in let b = e.shape.holds.processes in omega (arith, a, b));
       marked = c.requires.together.marked;
+      alone = alone_held m.regions new.regions e.shape.holds.held c.requires.together.alone;
     }
 
 pub returns-clause-set : goal.returns-clause-set
@@ -144,3 +146,6 @@ returns-clause-next_room g c = λ text may s w x tells stands set chosen there s
     (g.C.Sink.taken c.args.console.now) (g.C.Sink.taken new.console) (g.R.Sink.taken c.args.report.now) (g.R.Sink.taken new.report) result) is (e.takes_as text may w.input (known_of s w) tells left known))
     (returns-clause-room g c text may s w x tells stands there same left known) (returns-clause-room_in_part g c text may s w x tells stands there same left known)
     (returns-clause-no_room g c s w x tells stands there same) e.swap_stops
+
+pub returns-clause-made : goal.returns-clause-made
+returns-clause-made g c = c.step_in_store-result.ensures.shape.tables.made

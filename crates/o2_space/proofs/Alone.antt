@@ -1,0 +1,17 @@
+-- Nobody holds a run of a huge allocation.
+use Rattle.std.proofs.Common.{◌≡◌, ℕ, ◌&&◌, ◌==◌, Bool, true, false, cond, List, Option, Some, None, ap, sym, ◌∙◌}
+use Rattle.o2_regions.specs.declared.held.Held.{Held}
+use Rattle.o2_regions.specs.Maps.{Maps, held_at}
+use Rattle.o2_ends.specs.LetsGo.{LetsGo}
+use Rattle.o2_segs.specs.Answers.{AreAlone}
+
+pub alone_held : (m n : Maps) → n.held ≡ m.held → AreAlone m → AreAlone n
+alone_held m n same alone = record { each = λ p i h e. alone.each p i h (sym (ap (λ (l : List (Option Held)). held_at (record m { held = l }) p i) same) ∙ e) }
+
+-- less is held where a process lets go
+pub alone_let_go : (m n : Maps) (pid : ℕ) (gone : ℕ → Bool) → LetsGo m n pid gone → AreAlone m → AreAlone n
+alone_let_go m n pid gone lets alone = record { each = λ q i h e. go q i h ((q == pid) && gone i) (sym (lets.held q i) ∙ e) }
+  where
+    go : (q i : ℕ) (h : Held) (b : Bool) → cond b None (held_at m q i) ≡ Some h → h.reserved ≡ 0
+    go q i h true e = absurd (cc)
+    go q i h false e = alone.each q i h e
