@@ -3,7 +3,7 @@ use Rattle.std.proofs.lemmas.Bool.{false≢true}
 use Rattle.o2_world.specs.World.{is_live as lives_on}
 use Rattle.o2_space.specs.declared.space.Proc.{Proc}
 use Rattle.o2_space.specs.Parts.{parts_in, running_at, running_in}
-use Rattle.o2_space.proofs.Alone.{alone_let_go}
+use Rattle.o2_space.proofs.Alone.{alone_let_go, whole_same}
 use Rattle.o2_space.proofs.Alike.{ready_as, set_as}
 use Rattle.o2_space.proofs.Commits.{count_put, marked_end, marked_put, now, parts_put, set_ended, stands_ended, stands_live}
 use Rattle.o2_space.proofs.space.Space.commit.Goals as goal
@@ -37,6 +37,7 @@ returns-then-not-is_live-clause-together c = λ device here together.
       marked = marked_end m.procs.items c.args.pid y c.requires.process.0 c.requires.there c.end.new.ends (parts_in m device (λ k. [])) refl
           (c.end.ensures.marked (parts_in m device (λ k. [])) (running_in y) dead together.marked);
       alone = alone_let_go m.regions n c.args.pid (λ i. true) c.end.ensures.maps together.alone;
+      whole = whole_same m.regions n c.end.ensures.maps.processes c.end.ensures.maps.lengths together.whole;
     }
 
 pub returns-else-not-is_live-clause-together : goal.returns-else-not-is_live-clause-together
@@ -49,6 +50,7 @@ returns-else-not-is_live-clause-together c = λ device here together.
       numbers = (let a = together.numbers in let b = count_put m.procs.items c.args.pid y c.requires.process.0 c.requires.there in omega (arith, a, b));
       marked = marked_put m.procs.items c.args.pid y c.requires.process.0 c.requires.there m.ends together.marked (here ∙ sym live);
       alone = together.alone;
+      whole = together.whole;
     }
 
 pub returns-then-not-is_live-clause-set : goal.returns-then-not-is_live-clause-set

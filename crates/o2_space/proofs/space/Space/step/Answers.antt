@@ -14,7 +14,7 @@ use Rattle.o2_stepping.specs.Taken.{OnDone, OnSink, OnSwapStop, Takes}
 use Rattle.o2_stepping.specs.Worlds.{away_of, bytes_with}
 use Rattle.o2_stepping.proofs.Worlds.{same_map}
 use Rattle.o2_space.specs.Parts.{parts_in, running_at}
-use Rattle.o2_space.proofs.Alone.{alone_held}
+use Rattle.o2_space.proofs.Alone.{alone_held, whole_same}
 use Rattle.o2_space.proofs.Alike.{ready_as}
 use Rattle.o2_space.proofs.Behind.{set_behind, steps_by}
 use Rattle.o2_space.proofs.Nexting.{says_room}
@@ -85,6 +85,7 @@ returns-clause-together g c =
       numbers = (let a = c.requires.together.numbers in let b = e.shape.holds.processes in omega (arith, a, b));
       marked = c.requires.together.marked;
       alone = alone_held m.regions new.regions e.shape.holds.held c.requires.together.alone;
+      whole = whole_same m.regions new.regions e.shape.holds.processes e.shape.holds.lengths c.requires.together.whole;
     }
 
 pub returns-clause-set : goal.returns-clause-set
