@@ -15,6 +15,7 @@ use Rattle.o2_world.specs.Rulings.{full_size}
 use Rattle.o2_gate.specs.declared.gathering.SegmentArguments.{SegmentArguments}
 use Rattle.o2_gate.specs.declared.gathering.SegmentArguments.TheVariants.{Alloc, Realloc, Free, Size, Lock, Unlock, Alias}
 use Rattle.o2_changes.specs.Holding.{KeepsHolds}
+use Rattle.o2_segs.specs.Limits.{KeepsEntries}
 use Rattle.o2_segs.specs.Made.{IsWithNew}
 
 -- what a process holds under a selector
@@ -55,6 +56,16 @@ LeavesHolds (Size selector s o) m n = KeepsHolds m n
 LeavesHolds (Lock selector) m n = Unit {0}
 LeavesHolds (Unlock selector) m n = Unit {0}
 LeavesHolds (Alias selector s o) m n = KeepsHolds m n
+
+-- what a call that has a pointer leaves of what lives: all of it, with its size
+abbrev pub LeavesEntries : SegmentArguments → (s t : Shelf) → Type 0
+LeavesEntries (Alloc size s o flags) m n = KeepsEntries m n
+LeavesEntries (Realloc size selector) m n = Unit {0}
+LeavesEntries (Free selector) m n = Unit {0}
+LeavesEntries (Size selector s o) m n = KeepsEntries m n
+LeavesEntries (Lock selector) m n = Unit {0}
+LeavesEntries (Unlock selector) m n = Unit {0}
+LeavesEntries (Alias selector s o) m n = KeepsEntries m n
 
 -- the value of a call that is done is a word where it is a selector
 abbrev pub HasWord : Roomed → Type 0

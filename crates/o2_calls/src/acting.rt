@@ -21,7 +21,7 @@ ghost use Rattle.o2_segs.specs.Answers.{AnswersRoomed, AreAlone, changes_roomed}
 ghost use Rattle.o2_segs.specs.Limits.{KeepsLimits, made_in};
 ghost use Rattle.o2_segs.specs.Made.{IsStop};
 ghost use Rattle.o2_calls.specs.Acts.{IsOver, MayStop, cpu_of, ruling_of};
-ghost use Rattle.o2_calls.specs.Stops.{IsGivable, LacksRoom, LacksSwap, LeavesHolds};
+ghost use Rattle.o2_calls.specs.Stops.{IsGivable, LacksRoom, LacksSwap, LeavesEntries, LeavesHolds};
 
 use o2_gate::SegmentArguments;
 use o2_image::Images;
@@ -76,6 +76,7 @@ pub fn act<S: SwapDevice>(
         → IsSome (slot_at store.new.entries k)
         → IsSome (place_of store.old k) → IsSome (place_of store.new k) }
     ensures holds { LeavesHolds arguments regions.old regions.new }
+    ensures entries { LeavesEntries arguments store.old store.new }
     ensures no_room { result ≡ Roomed.NoRoom
         → LacksRoom arguments store.old regions.old pid keep.now }
     ensures swap_full { result ≡ Roomed.SwapFull

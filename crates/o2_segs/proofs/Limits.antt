@@ -1,7 +1,8 @@
 -- What single changes leave of how large a store is, and that nobody holds a run.
-use Rattle.std.proofs.Common.{◌≡◌, ℕ, ◌+◌, ◌-◌, ◌<◌, ◌&&◌, ◌==◌, Bool, true, false, cond, List, length, Option, Some, None, ap, refl, sym, ◌∙◌, subst, arith}
+use Rattle.std.proofs.Common.{◌≡◌, ◌≢◌, ℕ, ◌+◌, ◌-◌, ◌<◌, ◌&&◌, ◌==◌, Bool, true, false, cond, List, length, Option, Some, None, IsSome, is_some, ap, refl, sym, ◌∙◌, subst, arith}
 use Rattle.std.proofs.lemmas.List.{length-set}
 use Rattle.o2_entries.specs.declared.Entry.{Entry}
+use Rattle.o2_entries.specs.Tables.{slot_at}
 use Rattle.o2_place.specs.declared.seg_id.SegId.{SegId}
 use Rattle.o2_regions.specs.declared.answer.Roomed.{Roomed}
 use Rattle.o2_regions.specs.declared.answer.Roomed.TheVariants.{Done, NoRoom, SwapFull, SwapFault}
@@ -10,10 +11,11 @@ use Rattle.o2_regions.specs.Maps.{Maps, held_at, less_of, more_of}
 use Rattle.o2_service.specs.Told.{OnlyTables}
 use Rattle.o2_store.specs.Shelf.{Adds, IsShelf, Pictures, Removes, SameTables, Shelf}
 use Rattle.o2_store.specs.Sizes.{Resizes}
+use Rattle.o2_store.proofs.Tables.{slot-set_other}
 use Rattle.o2_changes.specs.Holding.{Goes, Grants, Remains, Sweeps, Takes}
 use Rattle.o2_changes.specs.Segments.{IsNewest, SetsLock}
 use Rattle.o2_segs.specs.Answers.{AreAlone}
-use Rattle.o2_segs.specs.Limits.{KeepsLimits, made_in}
+use Rattle.o2_segs.specs.Limits.{KeepsEntries, KeepsEntry, KeepsLimits, KeepsOthers, made_in}
 use Rattle.o2_segs.specs.Made.{IsStop}
 
 -- Nobody holds a run.
@@ -156,4 +158,45 @@ limits_unmade s t m id is now removes newest made = record {
   count = count_gone s (record t { made = s.made }) id.key removes;
   made = (let last = newest.last in omega (arith, last, made));
   alone = λ a. a;
+}
+
+-- What lives goes on to live.
+
+pub entries_refl : (s : Shelf) → KeepsEntries s s
+entries_refl s = record { each = λ k some. (some, refl, refl) }
+
+pub entries_same : (s t : Shelf) → t ≡ s → KeepsEntries s t
+entries_same s t e = subst (KeepsEntries s) (sym e) (entries_refl s)
+
+pub others_moved : (s t : Shelf) (key : ℕ) → SameTables s t → KeepsOthers s t key
+others_moved s t key tables = record { each = λ k apart some. ((tables.same k).live ∙ some, (tables.same k).age, (tables.same k).size) }
+
+pub others_then : (s t u : Shelf) (key : ℕ) → KeepsOthers s t key → KeepsOthers t u key → KeepsOthers s u key
+others_then s t u key x y = record {
+  each = λ k apart some.
+      (let a = x.each k apart some in
+      let b = y.each k apart a.0 in
+      (b.0, b.1 ∙ a.1, b.2 ∙ a.2));
+}
+
+-- where all others keep their entries
+pub others_same : (s t : Shelf) (key : ℕ) → ((k : ℕ) → k ≢ key → slot_at t.entries k ≡ slot_at s.entries k) → KeepsOthers s t key
+others_same s t key same = record { each = λ k apart some. subst (KeepsEntry (slot_at s.entries k)) (sym (same k apart)) (some, refl, refl) }
+
+-- a new segment has a number that none had
+entries_apart : (s t : Shelf) (id : SegId) (e : Entry) → Adds s t id e → (k : ℕ) → IsSome (slot_at s.entries k) → k ≢ id.key
+entries_apart s t id e adds k some same = let z : false ≡ true = sym (ap is_some (ap (slot_at s.entries) same ∙ adds.vacant)) ∙ some in cc
+
+pub entries_added : (s t : Shelf) (id : SegId) (e : Entry) → Adds s t id e → KeepsEntries s t
+entries_added s t id e adds = record {
+  each = λ k some.
+      subst (KeepsEntry (slot_at s.entries k)) (sym (ap (λ (x : Shelf). slot_at x.entries k) adds.shelf ∙ slot-set_other s.entries id.key k (Some e) (entries_apart s t id e adds k some))) (some, refl, refl);
+}
+
+pub entries_behind : (s t u : Shelf) (id : SegId) (e : Entry) → Adds s t id e → KeepsOthers t u id.key → KeepsEntries s u
+entries_behind s t u id e adds others = record {
+  each = λ k some.
+      (let a = (entries_added s t id e adds).each k some in
+      let b = others.each k (entries_apart s t id e adds k some) a.0 in
+      (b.0, b.1 ∙ a.1, b.2 ∙ a.2));
 }

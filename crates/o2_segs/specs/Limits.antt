@@ -1,9 +1,11 @@
 -- What a call leaves of how large a store is, and of what is held.
-use Rattle.std.specs.Prelude.{◌≡◌, ℕ, ◌+◌, ◌≤◌, length}
+use Rattle.std.specs.Prelude.{◌≡◌, ◌≢◌, ℕ, ◌+◌, ◌≤◌, length, IsSome, Option}
+use Rattle.o2_entries.specs.declared.Entry.{Entry}
+use Rattle.o2_entries.specs.Tables.{slot_at}
 use Rattle.o2_regions.specs.declared.answer.Roomed.{Roomed}
 use Rattle.o2_regions.specs.declared.answer.Roomed.TheVariants.{Done, NoRoom, SwapFull, SwapFault}
 use Rattle.o2_regions.specs.Maps.{Maps}
-use Rattle.o2_store.specs.Shelf.{Shelf}
+use Rattle.o2_store.specs.Shelf.{Shelf, entry_or}
 use Rattle.o2_segs.specs.Answers.{AreAlone}
 
 -- The memory is as large, as many segments may live, at most so many were made, and nobody holds a run of a huge allocation where
@@ -13,6 +15,18 @@ pub record KeepsLimits (s : Shelf) (m : Maps) (t : Shelf) (n : Maps) (more : ℕ
   pub count : length t.entries ≡ length s.entries
   pub made : t.made ≤ s.made + more
   pub alone : AreAlone m → AreAlone n
+
+-- What lives goes on to live under its number, with its age and its size.
+
+abbrev pub KeepsEntry : (old new : Option Entry) → Type 0
+KeepsEntry old new = IsSome new × ((entry_or new).age ≡ (entry_or old).age) × ((entry_or new).size ≡ (entry_or old).size)
+
+pub record KeepsEntries (s t : Shelf) : Type 0 where
+  pub each : (k : ℕ) → IsSome (slot_at s.entries k) → KeepsEntry (slot_at s.entries k) (slot_at t.entries k)
+
+-- all but one
+pub record KeepsOthers (s t : Shelf) (key : ℕ) : Type 0 where
+  pub each : (k : ℕ) → k ≢ key → IsSome (slot_at s.entries k) → KeepsEntry (slot_at s.entries k) (slot_at t.entries k)
 
 -- how many segments a call makes at most: none where it stops
 abbrev pub made_in : Roomed → ℕ

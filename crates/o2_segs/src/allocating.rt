@@ -25,7 +25,7 @@ ghost use Rattle.o2_world.specs.Map.{get};
 ghost use Rattle.o2_world.specs.Rulings.{allocation, full_size};
 ghost use Rattle.o2_world.specs.World.{Process, World};
 ghost use Rattle.o2_segs.specs.Answers.{AnswersRoomed, changes_roomed};
-ghost use Rattle.o2_segs.specs.Limits.{KeepsLimits, made_in};
+ghost use Rattle.o2_segs.specs.Limits.{KeepsEntries, KeepsLimits, KeepsOthers, made_in};
 ghost use Rattle.o2_segs.specs.Made.{IsStop, IsWithNew, MatchesLocked, MatchesWithout, allocation_to, made_by_call, region_for};
 
 use crate::asking::{INVALID_PARAMETER, NOT_ENOUGH_MEMORY, done, refusal, stop_of};
@@ -100,6 +100,7 @@ pub fn alloc_seg<S: SwapDevice>(
     ensures stops { IsStop result → has_bit flags 2 ≡ true }
     ensures holds { KeepsHolds regions.old regions.new }
     ensures limits { KeepsLimits store.old regions.old store.new regions.new (made_in result) }
+    ensures entries { KeepsEntries store.old store.new }
     ensures order { IsInOrder store.new regions.new }
     ensures guards { IsGuarded store.old regions.old → IsGuarded store.new regions.new }
     ensures clean { AreClean store.new (picture images.now) }
@@ -167,6 +168,7 @@ fn allocate<S: SwapDevice>(
     ensures stops { IsStop result → has_bit flags 2 ≡ true }
     ensures holds { KeepsHolds regions.old regions.new }
     ensures limits { KeepsLimits store.old regions.old store.new regions.new (made_in result) }
+    ensures entries { KeepsEntries store.old store.new }
     ensures order { IsInOrder store.new regions.new }
     ensures guards { IsGuarded store.old regions.old → IsGuarded store.new regions.new }
     ensures clean { AreClean store.new (picture images.now) }
@@ -225,6 +227,7 @@ fn lock_new<S: SwapDevice>(
     ensures maps { OnlyTables regions.old regions.new }
     ensures limits { KeepsLimits store.old regions.old store.new regions.new 0 }
     ensures undone { IsSome result → store.new.made < store.old.made }
+    ensures entries { KeepsOthers store.old store.new id.key }
     ensures order { IsInOrder store.new regions.new }
     ensures guards { IsGuarded store.old regions.old → IsGuarded store.new regions.new }
     ensures clean { AreClean store.new (picture images.now) }

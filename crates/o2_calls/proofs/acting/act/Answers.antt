@@ -20,7 +20,7 @@ use Rattle.o2_world.specs.Rulings.{aliasing, freeing, unlocking}
 use Rattle.o2_segs.specs.Answers.{Answers, AnswersRoomed, changes_roomed}
 use Rattle.o2_calls.specs.Acts.{cpu_of, ruling_of}
 use Rattle.o2_calls.specs.Stops.{IsGivable, LacksSwap, LeavesHolds}
-use Rattle.o2_segs.proofs.Limits.{limits_more, limits_same, limits_in}
+use Rattle.o2_segs.proofs.Limits.{limits_more, limits_same, limits_in, entries_same}
 use Rattle.o2_calls.proofs.acting.act.Goals as goal
 
 pub returns-in-Alloc-clause-row : goal.returns-in-Alloc-clause-row
@@ -194,3 +194,9 @@ returns-in-Unlock-clause-limits g c = limits_more c.args.store.now c.unlock_seg.
 
 pub returns-in-Alias-clause-limits : goal.returns-in-Alias-clause-limits
 returns-in-Alias-clause-limits g c = limits_more c.args.store.now c.create_cs_alias.new.store c.args.regions.now c.create_cs_alias.new.regions 0 1 c.create_cs_alias.ensures.limits
+
+pub returns-in-Size-clause-entries : goal.returns-in-Size-clause-entries
+returns-in-Size-clause-entries g c = entries_same c.args.store.now c.size_seg.new.store c.size_seg.ensures.store
+
+pub returns-in-Alias-clause-entries : goal.returns-in-Alias-clause-entries
+returns-in-Alias-clause-entries g c = entries_same c.args.store.now c.create_cs_alias.new.store c.create_cs_alias.ensures.store

@@ -11,7 +11,7 @@ use Rattle.o2_segs.specs.Answers.{AnswersRoomed, changes_roomed}
 use Rattle.o2_segs.proofs.Making.{alloc_refused, alloc_tried, to_none}
 use Rattle.o2_segs.proofs.Resizing.{refusal_moved}
 use Rattle.o2_segs.proofs.Rows.{refusal_answers}
-use Rattle.o2_segs.proofs.Limits.{limits_more, limits_refl}
+use Rattle.o2_segs.proofs.Limits.{entries_refl, limits_more, limits_refl}
 use Rattle.o2_segs.proofs.allocating.alloc_seg.Goals as goal
 
 pub returns-then-flags-gt-FLAGS-clause-matches : goal.returns-then-flags-gt-FLAGS-clause-matches
@@ -56,3 +56,9 @@ returns-then-flags-gt-FLAGS-clause-limits g c = limits_more c.args.store.now c.a
 
 pub returns-in-None-clause-limits : goal.returns-in-None-clause-limits
 returns-in-None-clause-limits g c = limits_more c.args.store.now c.args.store.now c.args.regions.now c.args.regions.now 0 1 (limits_refl c.args.store.now c.args.regions.now)
+
+pub returns-then-flags-gt-FLAGS-clause-entries : goal.returns-then-flags-gt-FLAGS-clause-entries
+returns-then-flags-gt-FLAGS-clause-entries g c = entries_refl c.args.store.now
+
+pub returns-in-None-clause-entries : goal.returns-in-None-clause-entries
+returns-in-None-clause-entries g c = entries_refl c.args.store.now

@@ -11,7 +11,7 @@ use Rattle.o2_segs.proofs.Making.{added_entry, added_map, added_place, done_answ
 use Rattle.o2_segs.proofs.Resizing.{refusal_moved}
 use Rattle.o2_segs.proofs.Stops.{error_none}
 use Rattle.o2_entries.specs.declared.Entry.{Entry}
-use Rattle.o2_segs.proofs.Limits.{limits_added, limits_more, limits_same, limits_then, limits_undone}
+use Rattle.o2_segs.proofs.Limits.{entries_added, entries_behind, entries_same, limits_added, limits_more, limits_same, limits_then, limits_undone}
 use Rattle.o2_segs.proofs.allocating.allocate.Goals as goal
 
 pub returns-then-not-is_locked-clause-answer : goal.returns-then-not-is_locked-clause-answer
@@ -194,3 +194,15 @@ returns-in-None-lock_new-clause-limits g c =
 
 pub returns-in-None-clause-limits : goal.returns-in-None-clause-limits
 returns-in-None-clause-limits g c = limits_more c.args.store.now c.make.new.store c.args.regions.now c.args.regions.now 0 1 (limits_same c.args.store.now c.make.new.store c.args.regions.now c.args.regions.now c.in-None.ensures.none.1 refl)
+
+pub returns-then-not-is_locked-clause-entries : goal.returns-then-not-is_locked-clause-entries
+returns-then-not-is_locked-clause-entries g c = entries_added c.args.store.now c.make.new.store c.in-Some.id _ c.in-Some.ensures.added
+
+pub returns-in-Some-lock_new-clause-entries : goal.returns-in-Some-lock_new-clause-entries
+returns-in-Some-lock_new-clause-entries g c = entries_behind c.args.store.now c.make.new.store c.lock_new.new.store c.in-Some.id _ c.in-Some.ensures.added c.lock_new.ensures.entries
+
+pub returns-in-None-lock_new-clause-entries : goal.returns-in-None-lock_new-clause-entries
+returns-in-None-lock_new-clause-entries g c = entries_behind c.args.store.now c.make.new.store c.lock_new.new.store c.in-Some.id _ c.in-Some.ensures.added c.lock_new.ensures.entries
+
+pub returns-in-None-clause-entries : goal.returns-in-None-clause-entries
+returns-in-None-clause-entries g c = entries_same c.args.store.now c.make.new.store c.in-None.ensures.none.1

@@ -13,7 +13,7 @@ use Rattle.o2_entries.specs.declared.Entry.{Entry}
 use Rattle.o2_store.specs.Shelf.{Shelf, entry_or, place_of}
 use Rattle.o2_store.proofs.Loads.{full_load_but, same_load_but}
 use Rattle.o2_changes.proofs.LocksStand.{locked_entry}
-use Rattle.o2_segs.proofs.Limits.{limits_locked, limits_moved, limits_then, limits_unmade}
+use Rattle.o2_segs.proofs.Limits.{limits_locked, limits_moved, limits_then, limits_unmade, others_moved, others_same, others_then}
 use Rattle.o2_segs.proofs.allocating.lock_new.Goals as goal
 
 pub unmake-requires-clause-live : goal.unmake-requires-clause-live
@@ -116,3 +116,13 @@ returns-in-Some-clause-undone g c = λ some.
     let made = c.unmake.ensures.made in
     let same = c.bring_in.ensures.keeps.tables.made in
     omega (arith, last, made, same))
+
+pub returns-in-Some-clause-entries : goal.returns-in-Some-clause-entries
+returns-in-Some-clause-entries g c =
+    others_then c.args.store.now c.bring_in.new.store c.unmake.new.store c.args.id.key (others_moved c.args.store.now c.bring_in.new.store c.args.id.key c.bring_in.ensures.keeps.tables)
+    (others_same c.bring_in.new.store c.unmake.new.store c.args.id.key c.unmake.ensures.removed.entries)
+
+pub returns-in-None-clause-entries : goal.returns-in-None-clause-entries
+returns-in-None-clause-entries g c =
+    others_then c.args.store.now c.bring_in.new.store c.set_lock.new.store c.args.id.key (others_moved c.args.store.now c.bring_in.new.store c.args.id.key c.bring_in.ensures.keeps.tables)
+    (others_same c.bring_in.new.store c.set_lock.new.store c.args.id.key c.set_lock.ensures.sets.others)
