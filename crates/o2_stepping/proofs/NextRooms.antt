@@ -22,7 +22,7 @@ use Rattle.o2_world.specs.Run.{names_after, next_dispatch, plainly, process_afte
 use Rattle.o2_world.specs.Views.{bytes_in, holds_in, segment_bytes, view_of, with_bytes}
 use Rattle.o2_world.specs.World.{Process, Segment, Setting, Traps, World, is_live}
 use Rattle.o2_world.proofs.MapLemmas.{get-filter, get-map}
-use Rattle.o2_world.proofs.Quiet.{changed_plain, effect_quiet}
+use Rattle.o2_world.proofs.Quiet.{changed_plain}
 use Rattle.o2_world.proofs.Sizes.{effect_sizes}
 use Rattle.o2_gate.specs.Befores.{before_call}
 use Rattle.o2_run.specs.Room.{Fits, behind, is_locked, live_load, load_next, need, room, room_between, room_next, rounded as whole, seated, seated_in, size_of, swap_load, untrapped}
@@ -53,9 +53,9 @@ untrapped_cpu : (b : Before) → (effect b).cpu ≡ (untrapped b).cpu
 unfolding effect
 untrapped_cpu b = flagged (λ (e : Effect). e.cpu) b (untrapped b) refl
 
-untrapped_quiet : (b : Before) → (untrapped b).changes ≡ []
+untrapped_quiet : (b : Before) → (effect b).changes ≡ [] → (untrapped b).changes ≡ []
 unfolding effect
-untrapped_quiet b = sym (flagged (λ (e : Effect). e.changes) b (untrapped b) refl) ∙ effect_quiet b
+untrapped_quiet b quiet = sym (flagged (λ (e : Effect). e.changes) b (untrapped b) refl) ∙ quiet
 
 untrapped_sizes : (b : Before) (n : ℕ) → length ((untrapped b).bytes n) ≡ length (b.view.bytes n)
 unfolding effect
@@ -165,14 +165,15 @@ module _ (p : Parts) (s : Setting) (w : World) (q : Process) (next : IsNext p s 
   abbrev wanted : List ℕ
   wanted = need b names (Some after)
 
-  behind_is : behind w (next_dispatch s w) q b ≡ plainly w (next_dispatch s w) q e
-  behind_is = changed_plain w (next_dispatch s w) q e (untrapped_quiet b)
+  -- behind a step that changes nothing but bytes
+  behind_is : (effect b).changes ≡ [] → behind w (next_dispatch s w) q b ≡ plainly w (next_dispatch s w) q e
+  behind_is quiet = changed_plain w (next_dispatch s w) q e (untrapped_quiet b quiet)
 
-  room_is : room s w ≡ room_between w.names names wanted
+  room_is : (effect b).changes ≡ [] → room s w ≡ room_between w.names names wanted
   unfolding room plainly
-  room_is =
+  room_is quiet =
       ap (room_next s w (next_dispatch s w)) next.chosen
-      ∙ ap (λ (v : World). room_between w.names v.names (need b v.names (process_at v.processes pid))) behind_is
+      ∙ ap (λ (v : World). room_between w.names v.names (need b v.names (process_at v.processes pid))) (behind_is quiet)
       ∙ ap (λ (o : Option Process). room_between w.names names (need b names o)) (put_here w.processes pid q after next.chosen)
 
   less : (n : ℕ) → IsLess (get names n) (get w.names n)
@@ -208,8 +209,9 @@ module _ (p : Parts) (s : Setting) (w : World) (q : Process) (next : IsNext p s 
       by (inl x) = or_front (is_in n (needed_names b)) (is_in n seats) x
       by (inr y) = or_back (is_in n (needed_names b)) (is_in n seats) (seated_behind n y)
 
-  some_wanted : (n : ℕ) → is_in n (needed_names b) ≡ true → is_in n wanted ≡ true
-  some_wanted n h = both_in n (needed_names b) (seated_in names (Some after)) ∙ or_front (is_in n (needed_names b)) (is_in n (seated_in names (Some after))) h
+  -- behind any step
+  some_wanted : (v : Map Segment) (o : Option Process) (n : ℕ) → is_in n (needed_names b) ≡ true → is_in n (need b v o) ≡ true
+  some_wanted v o n h = both_in n (needed_names b) (seated_in v o) ∙ or_front (is_in n (needed_names b)) (is_in n (seated_in v o)) h
 
   -- What they take.
 
@@ -223,17 +225,17 @@ module _ (p : Parts) (s : Setting) (w : World) (q : Process) (next : IsNext p s 
           (size_of (get w.names n)) (size_of (get names n)) (entry p.shelf k).size
           (λ h. ap (λ (m : ℕ). is_in m list) f.2 ∙ among n h) f.1 (less n).lock f.0 (less n).size)
 
-  at_least : (list : List ℕ) → ((n : ℕ) → is_in n list ≡ true → is_in n wanted ≡ true) → AreAtLeast p.shelf w.names names wanted (room_at p.shelf list)
-  at_least list among = record {
+  at_least : (v : Map Segment) (want list : List ℕ) → ((n : ℕ) → is_in n list ≡ true → is_in n want ≡ true) → AreAtLeast p.shelf w.names v want (room_at p.shelf list)
+  at_least v want list among = record {
     none = λ k gone. no_room (nat_lt 0 (entry p.shelf k).attr.lock || is_in (entry p.shelf k).age list) (entry p.shelf k).size (ap (λ (o : Option Entry). (entry_or o).size) gone);
     each = each;
   }
     where
-      each : (n k : ℕ) → key_of p.shelf n ≡ Some k → room_at p.shelf list k ≤ part_of w.names names wanted n
+      each : (n k : ℕ) → key_of p.shelf n ≡ Some k → room_at p.shelf list k ≤ part_of w.names v want n
       each n k key =
           (let f = name_facts p w.processes w.names w.next_name w.reserved next.lawful next.stands n k key in
-          takes_least (nat_lt 0 (entry p.shelf k).attr.lock) (is_in (entry p.shelf k).age list) (is_in n wanted) (is_locked (get w.names n)) (is_locked (get names n))
-          (size_of (get w.names n)) (size_of (get names n)) (entry p.shelf k).size
+          takes_least (nat_lt 0 (entry p.shelf k).attr.lock) (is_in (entry p.shelf k).age list) (is_in n want) (is_locked (get w.names n)) (is_locked (get v n))
+          (size_of (get w.names n)) (size_of (get v n)) (entry p.shelf k).size
           (λ h. among n (ap (λ (m : ℕ). is_in m list) (sym f.2) ∙ h)) f.1 f.0)
 
   names_as : (m : Maps) (c : Cpu) → SameHolds p.maps m → c ≡ (effect b).cpu → all_names b (bound_registers (hold_in m pid) c) ≡ all_names b (bound_registers (hold_in p.maps pid) e.cpu)
@@ -241,29 +243,35 @@ module _ (p : Parts) (s : Setting) (w : World) (q : Process) (next : IsNext p s 
       ap (λ (held : ℕ → Option Hold). all_names b (bound_registers held c)) (same_map p.maps m pid same)
       ∙ ap (λ (d : Cpu). all_names b (bound_registers (hold_in p.maps pid) d)) (is ∙ untrapped_cpu b)
 
-  pub fits : (m : Maps) (c : Cpu) → SameHolds p.maps m → c ≡ (effect b).cpu
+  pub fits : (m : Maps) (c : Cpu) → SameHolds p.maps m → c ≡ (effect b).cpu → (effect b).changes ≡ []
       → room_in p.shelf (all_names b (bound_registers (hold_in m pid) c)) ≤ p.shelf.places.size → Fits true s w
-  fits m c same is fit =
+  fits m c same is quiet fit =
       let list : List ℕ = all_names b (bound_registers (hold_in p.maps pid) e.cpu) in
       let most = room_at_most p w.processes w.names w.next_name w.reserved next.lawful next.stands names wanted (room_at p.shelf list) (at_most list all_wanted) in
       let rooms = ap (room_in p.shelf) (names_as m c same is) in
       let memory = next.set.memory in
-      λ swaps. (let r = room_is in omega (arith, r, most, rooms, fit, memory))
+      λ swaps. (let r = room_is quiet in omega (arith, r, most, rooms, fit, memory))
 
-  pub fits_in_part : (m : Maps) (c : Cpu) → SameHolds p.maps m → c ≡ b.cpu → SameSelectors (effect b).cpu b.cpu
+  pub fits_in_part : (m : Maps) (c : Cpu) → SameHolds p.maps m → c ≡ b.cpu → SameSelectors (effect b).cpu b.cpu → (effect b).changes ≡ []
       → room_in p.shelf (all_names b (bound_registers (hold_in m pid) c)) ≤ p.shelf.places.size → Fits true s w
-  fits_in_part m c same is stay fit =
+  fits_in_part m c same is stay quiet fit =
       let held : ℕ → Option Hold = hold_in m pid in
       let seats = ap (λ (d : Cpu). bound_registers held d) is ∙ sym (registers_same held (effect b).cpu b.cpu stay) in
       let rooms = ap (λ (r : Registers). room_in p.shelf (all_names b r)) seats in
-      fits m (effect b).cpu same refl (omega (arith, rooms, fit))
+      fits m (effect b).cpu same refl quiet (omega (arith, rooms, fit))
 
+  -- also where it changes more than bytes
   pub lacks : p.shelf.places.size < room_in p.shelf (needed_names b) → s.memory < room s w
+  unfolding room
   lacks more =
       let list : List ℕ = needed_names b in
-      let least = room_at_least p w.processes w.names w.next_name w.reserved next.lawful next.stands names wanted (room_at p.shelf list) (at_least list some_wanted) in
+      let v : World = behind w (next_dispatch s w) q b in
+      let want : List ℕ = need b v.names (process_at v.processes pid) in
+      let least =
+          room_at_least p w.processes w.names w.next_name w.reserved next.lawful next.stands v.names want (room_at p.shelf list)
+          (at_least v.names want list (some_wanted v.names (process_at v.processes pid))) in
       let memory = next.set.memory in
-      let r = room_is in
+      let r : room s w ≡ room_between w.names v.names want = ap (room_next s w (next_dispatch s w)) next.chosen in
       omega (arith, r, least, more, memory)
 
   -- What it starts from.

@@ -1,5 +1,5 @@
 // What a step in a store needs is what the world's next step needs.
-ghost use Rattle.std.specs.Prelude.{◌≡◌, ◌<◌, ◌≤◌, true};
+ghost use Rattle.std.specs.Prelude.{◌≡◌, ◌<◌, ◌≤◌, [], true};
 ghost use Rattle.o2_isa.specs.declared.cpu.Cpu.{Cpu as CpuThere};
 ghost use Rattle.o2_isa.specs.Presence.{SameSelectors};
 ghost use Rattle.o2_isa.specs.View.{bound_registers};
@@ -25,17 +25,17 @@ pub fn steps_start_alike()
         before_in (away_of p.shelf p.maps p.images p.device p.block) p.shelf p.maps b.number q.cpu w.input (known_of s w) ≡ b }
 {}
 
-/// Where what a step in a store needed, behind it, is no more than the memory, the world's next step fits, also where a sink
-/// failed in it, which leaves the segment registers as they were; where what it needs is
+/// Where what a step that changes nothing but bytes needed in a store, behind it, is no more than the memory, the world's next
+/// step fits, also where a sink failed in it, which leaves the segment registers as they were; where what any step needs is
 /// more, as far as that is known before it, the room of that step is more than the memory of the setting. Where the store's
 /// load is more than its blocks, and all that lives more than its memory, so it is in the world.
 pub fn rooms_are_those_of_the_world()
     ensures fits { (p : Parts) (s : Setting) (w : World) (q : Process) (m : Maps) (c : CpuThere) → IsNext p s w q
-        → SameHolds p.maps m → let b = next_start s w q in c ≡ (effect b).cpu
+        → SameHolds p.maps m → let b = next_start s w q in c ≡ (effect b).cpu → (effect b).changes ≡ []
         → room_in p.shelf (all_names b (bound_registers (hold_in m b.number) c)) ≤ p.shelf.places.size
         → Fits true s w }
     ensures fits_in_part { (p : Parts) (s : Setting) (w : World) (q : Process) (m : Maps) (c : CpuThere) → IsNext p s w q
-        → SameHolds p.maps m → let b = next_start s w q in c ≡ b.cpu → SameSelectors (effect b).cpu b.cpu
+        → SameHolds p.maps m → let b = next_start s w q in c ≡ b.cpu → SameSelectors (effect b).cpu b.cpu → (effect b).changes ≡ []
         → room_in p.shelf (all_names b (bound_registers (hold_in m b.number) c)) ≤ p.shelf.places.size
         → Fits true s w }
     ensures lacks { (p : Parts) (s : Setting) (w : World) (q : Process) → IsNext p s w q
