@@ -6,3 +6,4 @@ pub mod Rooms
 pub mod Nexting
 pub mod Alone
 pub mod Afters
+pub mod Askings

@@ -1,10 +1,25 @@
-use Rattle.std.proofs.Common.{◌≡◌, ◌==◌, List, [], Bool, false, if◌then◌else◌, length, ap, ◌∙◌, arith, subst}
+use Rattle.std.proofs.Common.{◌≡◌, ◌==◌, ℕ, ◌≤◌, List, [], Bool, true, false, if◌then◌else◌, inr, length, ap, sym, ◌∙◌, arith, subst}
+use Rattle.std.specs.Prelude.{Err}
+use Rattle.o2_outer.specs.Inputs.{left_as}
+use Rattle.o2_outer.specs.Texts.{Rose}
+use Rattle.o2_isa.specs.View.{bound_registers}
 use Rattle.o2_regions.specs.Lives.{lives}
+use Rattle.o2_segbus.specs.Seen.{hold_in, seen}
+use Rattle.o2_gate.specs.Gathers.{targets}
+use Rattle.o2_gate.specs.Pointed.{are_ready}
 use Rattle.o2_world.specs.Effect.{effect}
 use Rattle.o2_world.specs.Run.{before}
+use Rattle.o2_world.specs.Views.{with_bytes}
 use Rattle.o2_world.specs.World.{is_live}
+use Rattle.o2_run.specs.Pieces.{counts}
+use Rattle.o2_run.proofs.Reached.{rose_since}
 use Rattle.o2_stands.specs.Parts.{Running}
+use Rattle.o2_stepping.specs.Rooms.{all_names, room_in}
+use Rattle.o2_space.specs.Nexts.{SaysRoom}
+use Rattle.o2_space.specs.Parts.{parts_in}
 use Rattle.o2_space.specs.declared.space.Proc.{Proc}
+use Rattle.o2_space.proofs.Afters.{plain_after}
+use Rattle.o2_space.proofs.Askings.{acts_from, asked_at, asked_between, asked_room, cause_by, marks_from, part_none, puts_from, ran_between, ran_cause, ran_puts, ran_says, room_kept, stop_same, swap_fault}
 use Rattle.o2_space.proofs.Commits.{lived, process_was}
 use Rattle.o2_space.proofs.space.Space.act.Goals as goal
 
@@ -28,55 +43,34 @@ commit-requires-clause-held g c = (c.step.ensures.together.ready (λ k. [])).hel
 pub commit-requires-clause-settled : goal.commit-requires-clause-settled
 commit-requires-clause-settled g c = (c.step.ensures.together.ready (λ k. [])).settled
 
+pub call-requires-clause-there : goal.call-requires-clause-there
+call-requires-clause-there g c = (let a = c.requires.there in let b = ap (λ v. length v.items) c.step.ensures.procs in omega (arith, a, b))
+
+pub call-requires-clause-most : goal.call-requires-clause-most
+call-requires-clause-most g c =
+    (let a = c.requires.there in let b = c.requires.together.numbers in let d = c.step.ensures.processes in let e = c.step.ensures.most in omega (arith, a, b, d, e))
+
+pub call-requires-clause-live : goal.call-requires-clause-live
+call-requires-clause-live g c = ap (λ (ends : List Bool). lives ends c.args.pid) c.step.ensures.ends ∙ c.requires.live
+
+pub call-requires-clause-made : goal.call-requires-clause-made
+call-requires-clause-made g c = (let a = c.requires.made in let b = c.step.ensures.made in omega (arith, a, b))
+
+pub call-requires-clause-can_step : goal.call-requires-clause-can_step
+call-requires-clause-can_step g c = c.in-Ok-Asked.ensures.next
+
+pub call-requires-clause-aimed : goal.call-requires-clause-aimed
+call-requires-clause-aimed g c =
+    let new = c.step.new in
+    asked_at _ c.in-Ok-Asked.arguments c.in-Ok-Asked.next c.in-Ok-Asked.field-0-is (λ a. are_ready (seen new.self.store new.self.regions c.args.pid new.cpu) (targets a) ≡ true) c.in-Ok-Asked.ensures.aimed
+
+-- A step that isn't taken.
+
 pub returns-in-Err-clause-acts : goal.returns-in-Err-clause-acts
-returns-in-Err-clause-acts g c = λ text may s w x tells stands there left known.
+returns-in-Err-clause-acts g c = λ text may s w x tells stands set sound chosen there left known.
     let y : Proc = c.index.result.now in
     let was = process_was c.args.self.now.procs.items c.args.pid w.processes x c.requires.some c.requires.there (stands.processes c.args.pid) there y c.index.ensures in
     c.in-Err.ensures.steps text may s w x tells stands there (ap (λ (r : Running). r.cpu) was) left known
-
-pub returns-in-Err-clause-no_room : goal.returns-in-Err-clause-no_room
-returns-in-Err-clause-no_room g c = λ s w x tells stands there.
-    let y : Proc = c.index.result.now in
-    let was = process_was c.args.self.now.procs.items c.args.pid w.processes x c.requires.some c.requires.there (stands.processes c.args.pid) there y c.index.ensures in
-    c.in-Err.ensures.no_room s w x tells stands there (ap (λ (r : Running). r.cpu) was)
-
-pub returns-in-Ok-clause-room : goal.returns-in-Ok-clause-room
-returns-in-Ok-clause-room g c = λ text may s w x tells stands there left known.
-    let y : Proc = c.index.result.now in
-    let was = process_was c.args.self.now.procs.items c.args.pid w.processes x c.requires.some c.requires.there (stands.processes c.args.pid) there y c.index.ensures in
-    c.in-Ok.ensures.room text may s w x tells stands there (ap (λ (r : Running). r.cpu) was) left known
-
-pub returns-in-Ok-clause-acts : goal.returns-in-Ok-clause-acts
-returns-in-Ok-clause-acts g c = λ text may s w x tells stands there left known.
-    let S = g.S.SwapDevice in
-    let m = c.args.self.now in
-    let y : Proc = c.index.result.now in
-    let was = process_was m.procs.items c.args.pid w.processes x c.requires.some c.requires.there (stands.processes c.args.pid) there y c.index.ensures in
-    let alive = lived m.procs.items c.args.pid w.processes x c.requires.some c.requires.there (stands.processes c.args.pid) there m.ends c.requires.together.marked c.requires.live in
-    let b = before s w c.args.pid x in
-    let between = c.in-Ok.ensures.steps text may s w x tells stands there (ap (λ (r : Running). r.cpu) was) left known in
-    record {
-      state = between.state;
-      ends = between.ends;
-      puts = between.puts;
-      stands = c.commit.ensures.stands (S.blocks c.step.new.swap) (S.block c.step.new.swap) w x (effect b) between.stands there alive between.cpu between.state;
-      input = between.input;
-      to_console = between.to_console;
-      to_report = between.to_report;
-    }
-
-pub returns-in-Ok-clause-together : goal.returns-in-Ok-clause-together
-returns-in-Ok-clause-together g c =
-    c.commit.ensures.together (g.S.SwapDevice.blocks c.step.new.swap) (ap (λ (ends : List Bool). lives ends c.args.pid) c.step.ensures.ends ∙ c.requires.live) c.step.ensures.together
-
-pub returns-in-Ok-clause-set : goal.returns-in-Ok-clause-set
-returns-in-Ok-clause-set g c = λ s set. c.commit.ensures.set _ _ s (c.step.ensures.set s set)
-
-pub returns-in-Err-clause-room_in_part : goal.returns-in-Err-clause-room_in_part
-returns-in-Err-clause-room_in_part g c = λ text may s w x tells stands there left known.
-    let y : Proc = c.index.result.now in
-    let was = process_was c.args.self.now.procs.items c.args.pid w.processes x c.requires.some c.requires.there (stands.processes c.args.pid) there y c.index.ensures in
-    c.in-Err.ensures.room_in_part text may s w x tells stands there (ap (λ (r : Running). r.cpu) was) left known
 
 pub returns-in-Err-clause-part : goal.returns-in-Err-clause-part
 returns-in-Err-clause-part g c = λ text may s w x tells stands there left known.
@@ -85,21 +79,162 @@ returns-in-Err-clause-part g c = λ text may s w x tells stands there left known
     c.in-Err.ensures.part text may s w x tells stands there (ap (λ (r : Running). r.cpu) was) left known
 
 pub returns-in-Err-clause-next_room : goal.returns-in-Err-clause-next_room
-returns-in-Err-clause-next_room g c = λ text may s w x tells stands set chosen there left known.
+returns-in-Err-clause-next_room g c = λ text may s w x tells stands set sound chosen there left known.
     let y : Proc = c.index.result.now in
     let was = process_was c.args.self.now.procs.items c.args.pid w.processes x c.requires.some c.requires.there (stands.processes c.args.pid) there y c.index.ensures in
     c.in-Err.ensures.next_room text may s w x tells stands set chosen there (ap (λ (r : Running). r.cpu) was) left known
 
-pub returns-in-Ok-clause-next_room : goal.returns-in-Ok-clause-next_room
-returns-in-Ok-clause-next_room g c = λ text may s w x tells stands set chosen there left known.
-    let y : Proc = c.index.result.now in
-    let was = process_was c.args.self.now.procs.items c.args.pid w.processes x c.requires.some c.requires.there (stands.processes c.args.pid) there y c.index.ensures in
-    c.in-Ok.ensures.next_room text may s w x tells stands set chosen there (ap (λ (r : Running). r.cpu) was) left known
+pub returns-in-Err-clause-swap_stops : goal.returns-in-Err-clause-swap_stops
+returns-in-Err-clause-swap_stops g c = swap_fault _ _ _ _ (Err c.in-Err.fault) (λ z. z) c.in-Err.ensures.swap_stops
 
 pub returns-in-Err-clause-marks : goal.returns-in-Err-clause-marks
 returns-in-Err-clause-marks g c = λ n. ap (λ (ends : List Bool). lives ends n) c.step.ensures.ends
 
-pub returns-in-Ok-clause-marks : goal.returns-in-Ok-clause-marks
-returns-in-Ok-clause-marks g c = λ n.
-    let is_so : List Bool → Type 0 = λ ends. lives c.commit.new.self.ends n ≡ (if is_live c.in-Ok.ran.state then lives ends n else (if n == c.args.pid then false else lives ends n)) in
+pub returns-in-Err-clause-made : goal.returns-in-Err-clause-made
+returns-in-Err-clause-made g c = (let a = c.step.ensures.made in omega (arith, a))
+
+-- A step that is done.
+
+pub returns-in-Ok-Ran-clause-acts : goal.returns-in-Ok-Ran-clause-acts
+returns-in-Ok-Ran-clause-acts g c = λ text may s w x tells stands set sound chosen there left known.
+    let S = g.S.SwapDevice in
+    let m = c.args.self.now in
+    let y : Proc = c.index.result.now in
+    let was = process_was m.procs.items c.args.pid w.processes x c.requires.some c.requires.there (stands.processes c.args.pid) there y c.index.ensures in
+    let alive = lived m.procs.items c.args.pid w.processes x c.requires.some c.requires.there (stands.processes c.args.pid) there m.ends c.requires.together.marked c.requires.live in
+    let b = before s w c.args.pid x in
+    let e = effect b in
+    let steps = c.in-Ok-Ran.ensures.steps text may s w x tells stands there (ap (λ (r : Running). r.cpu) was) left known in
+    let between = ran_between _ c.in-Ok-Ran.ran c.in-Ok-Ran.field-0-is b w _ _ _ _ _ _ _ _ steps in
+    record {
+      state = between.state;
+      puts = between.puts;
+      matches = plain_after (parts_in c.commit.new.self (S.blocks c.step.new.swap) (S.block c.step.new.swap)) w c.args.pid x e between.changes
+          (c.commit.ensures.stands (S.blocks c.step.new.swap) (S.block c.step.new.swap) w.processes (with_bytes w.names e.bytes) w.next_name w.reserved x
+          (record { cpu = e.cpu; state = e.state }) between.stands there alive between.cpu between.state);
+      input = between.input;
+      to_console = between.to_console;
+      to_report = between.to_report;
+    }
+
+pub returns-in-Ok-Ran-clause-next_room : goal.returns-in-Ok-Ran-clause-next_room
+returns-in-Ok-Ran-clause-next_room g c = λ text may s w x tells stands set sound chosen there left known.
+    let y : Proc = c.index.result.now in
+    let was = process_was c.args.self.now.procs.items c.args.pid w.processes x c.requires.some c.requires.there (stands.processes c.args.pid) there y c.index.ensures in
+    ran_says _ c.in-Ok-Ran.ran c.in-Ok-Ran.field-0-is _ s w (c.in-Ok-Ran.ensures.next_room text may s w x tells stands set chosen there (ap (λ (r : Running). r.cpu) was) left known)
+
+pub returns-in-Ok-Ran-clause-together : goal.returns-in-Ok-Ran-clause-together
+returns-in-Ok-Ran-clause-together g c =
+    c.commit.ensures.together (g.S.SwapDevice.blocks c.step.new.swap) (ap (λ (ends : List Bool). lives ends c.args.pid) c.step.ensures.ends ∙ c.requires.live) c.step.ensures.together
+
+pub returns-in-Ok-Ran-clause-set : goal.returns-in-Ok-Ran-clause-set
+returns-in-Ok-Ran-clause-set g c = λ s set. c.commit.ensures.set _ _ s (c.step.ensures.set s set)
+
+pub returns-in-Ok-Ran-clause-marks : goal.returns-in-Ok-Ran-clause-marks
+returns-in-Ok-Ran-clause-marks g c = λ n.
+    let is_so : List Bool → Type 0 = λ ends. lives c.commit.new.self.ends n ≡ (if is_live c.in-Ok-Ran.ran.state then lives ends n else (if n == c.args.pid then false else lives ends n)) in
     subst is_so c.step.ensures.ends (c.commit.ensures.marks n)
+
+pub returns-in-Ok-Ran-clause-made : goal.returns-in-Ok-Ran-clause-made
+returns-in-Ok-Ran-clause-made g c = (let a = c.step.ensures.made in let b = c.commit.ensures.made in omega (arith, a, b))
+
+pub returns-in-Ok-Ran-clause-puts : goal.returns-in-Ok-Ran-clause-puts
+returns-in-Ok-Ran-clause-puts g c = ran_puts _ c.in-Ok-Ran.ran c.in-Ok-Ran.field-0-is _ c.in-Ok-Ran.ensures.puts
+
+pub returns-in-Ok-Ran-clause-cause : goal.returns-in-Ok-Ran-clause-cause
+returns-in-Ok-Ran-clause-cause g c = ran_cause _ c.in-Ok-Ran.ran c.in-Ok-Ran.field-0-is _ _ c.in-Ok-Ran.ensures.cause
+
+-- A call on segments that is asked for.
+
+pub returns-in-Ok-Asked-clause-acts : goal.returns-in-Ok-Asked-clause-acts
+returns-in-Ok-Asked-clause-acts g c = λ text may s w x tells stands set sound chosen there left known.
+    let S = g.S.SwapDevice in
+    let I = g.I.Source in
+    let y : Proc = c.index.result.now in
+    let was = process_was c.args.self.now.procs.items c.args.pid w.processes x c.requires.some c.requires.there (stands.processes c.args.pid) there y c.index.ensures in
+    let b = before s w c.args.pid x in
+    let told = c.call.ensures.device.1 tells in
+    let steps = c.in-Ok-Asked.ensures.steps text may s w x told stands there (ap (λ (r : Running). r.cpu) was) left known in
+    let asks = asked_between _ c.in-Ok-Asked.arguments c.in-Ok-Asked.next c.in-Ok-Asked.field-0-is b w _ _ _ _ _ _ _ _ steps in
+    acts_from b w x (parts_in c.call.new.self (S.blocks c.call.new.swap) (S.block c.call.new.swap)) _ c.call.result asks.still.input asks.still.to_console asks.still.to_report
+    (c.call.ensures.acts s w x (left_as text (I.left c.args.input.now) (I.past c.args.input.now)) (g.C.Sink.taken c.args.console.now) tells asks.still.stands (c.step.ensures.set s set) sound chosen there
+    asks.cpu left asks.effect)
+
+pub returns-in-Ok-Asked-clause-still : goal.returns-in-Ok-Asked-clause-still
+returns-in-Ok-Asked-clause-still g c =
+    let new = c.step.new in
+    let args = c.args in
+    let asks = asked_at _ c.in-Ok-Asked.arguments c.in-Ok-Asked.next c.in-Ok-Asked.field-0-is
+        (λ a. (new.cpu ≡ c.index.result.now.cpu) × (new.input ≡ args.input.now) × (new.console ≡ args.console.now) × (new.report ≡ args.report.now)) c.in-Ok-Asked.ensures.asks in
+    stop_same _ _ c.call.result (λ same. (asks.1, asks.2, same ∙ asks.3)) c.call.ensures.still
+
+pub returns-in-Ok-Asked-clause-swap_stops : goal.returns-in-Ok-Asked-clause-swap_stops
+returns-in-Ok-Asked-clause-swap_stops g c =
+    let S = g.S.SwapDevice in
+    swap_fault _ _ (Rose (S.faults c.step.new.swap) (S.faults c.call.new.swap)) (Rose (S.faults c.args.swap.now) (S.faults c.call.new.swap)) c.call.result
+    (λ rose. rose_since _ _ _ c.step.ensures.swap_count rose) c.call.ensures.swap_stops
+
+pub returns-in-Ok-Asked-clause-next_room : goal.returns-in-Ok-Asked-clause-next_room
+returns-in-Ok-Asked-clause-next_room g c = λ text may s w x tells stands set sound chosen there left known.
+    let S = g.S.SwapDevice in
+    let m = c.args.self.now in
+    let new = c.step.new in
+    let pid = c.args.pid in
+    let y : Proc = c.index.result.now in
+    let was = process_was m.procs.items pid w.processes x c.requires.some c.requires.there (stands.processes pid) there y c.index.ensures in
+    let cpu = ap (λ (r : Running). r.cpu) was in
+    let b = before s w pid x in
+    let told = c.call.ensures.device.1 tells in
+    let steps = c.in-Ok-Asked.ensures.steps text may s w x told stands there cpu left known in
+    let asks = asked_between _ c.in-Ok-Asked.arguments c.in-Ok-Asked.next c.in-Ok-Asked.field-0-is b w _ _ _ _ _ _ _ _ steps in
+    let room =
+        asked_room _ c.in-Ok-Asked.arguments c.in-Ok-Asked.next c.in-Ok-Asked.field-0-is (λ z. room_in m.store (all_names b (bound_registers (hold_in m.regions pid) z)) ≤ m.store.places.size) (effect b).cpu b.cpu
+        (c.in-Ok-Asked.ensures.room text may s w x told stands there cpu left known) in
+    subst (λ (n : ℕ). SaysRoom n s w c.call.result) c.step.ensures.device.0
+    (c.call.ensures.next_room s w x tells asks.still.stands (c.step.ensures.set s set) sound chosen there asks.cpu asks.effect
+    (room_kept m.store new.self.store m.regions new.self.regions c.step.ensures.shape b pid b.cpu room))
+
+pub returns-in-Ok-Asked-clause-set : goal.returns-in-Ok-Asked-clause-set
+returns-in-Ok-Asked-clause-set g c = λ s set. c.call.ensures.set s (c.step.ensures.set s set)
+
+pub returns-in-Ok-Asked-clause-marks : goal.returns-in-Ok-Asked-clause-marks
+returns-in-Ok-Asked-clause-marks g c = marks_from c.call.new.self.ends c.args.pid c.call.result c.step.ensures.ends c.call.ensures.marks
+
+pub returns-in-Ok-Asked-clause-count : goal.returns-in-Ok-Asked-clause-count
+returns-in-Ok-Asked-clause-count g c = c.call.ensures.count ∙ ap (λ v. length v.items) c.step.ensures.procs
+
+pub returns-in-Ok-Asked-clause-processes : goal.returns-in-Ok-Asked-clause-processes
+returns-in-Ok-Asked-clause-processes g c = c.call.ensures.processes ∙ c.step.ensures.processes
+
+pub returns-in-Ok-Asked-clause-made : goal.returns-in-Ok-Asked-clause-made
+returns-in-Ok-Asked-clause-made g c = (let a = c.step.ensures.made in let b = c.call.ensures.made in omega (arith, a, b))
+
+pub returns-in-Ok-Asked-clause-avail : goal.returns-in-Ok-Asked-clause-avail
+returns-in-Ok-Asked-clause-avail g c = c.call.ensures.avail ∙ c.step.ensures.avail
+
+pub returns-in-Ok-Asked-clause-device : goal.returns-in-Ok-Asked-clause-device
+returns-in-Ok-Asked-clause-device g c = (c.call.ensures.device.0 ∙ c.step.ensures.device.0, λ told. c.step.ensures.device.1 (c.call.ensures.device.1 told))
+
+pub returns-in-Ok-Asked-clause-cause : goal.returns-in-Ok-Asked-clause-cause
+returns-in-Ok-Asked-clause-cause g c =
+    let R = g.R.Sink in
+    cause_by (Rose (R.faults c.step.new.report) (R.faults c.call.new.report)) _ _ c.call.result (λ rose. inr (rose_since _ _ _ c.step.ensures.report_count rose)) c.call.ensures.cause
+
+pub returns-in-Ok-Asked-clause-report_count : goal.returns-in-Ok-Asked-clause-report_count
+returns-in-Ok-Asked-clause-report_count g c = (let a = c.step.ensures.report_count in let b = c.call.ensures.report_count in omega (arith, a, b))
+
+pub returns-in-Ok-Asked-clause-swap_count : goal.returns-in-Ok-Asked-clause-swap_count
+returns-in-Ok-Asked-clause-swap_count g c = (let a = c.step.ensures.swap_count in let b = c.call.ensures.swap_count in omega (arith, a, b))
+
+pub returns-in-Ok-Asked-clause-puts : goal.returns-in-Ok-Asked-clause-puts
+returns-in-Ok-Asked-clause-puts g c =
+    let C = g.C.Sink in
+    let R = g.R.Sink in
+    let new = c.step.new in
+    let args = c.args in
+    let asks = asked_at _ c.in-Ok-Asked.arguments c.in-Ok-Asked.next c.in-Ok-Asked.field-0-is
+        (λ a. (new.cpu ≡ c.index.result.now.cpu) × (new.input ≡ args.input.now) × (new.console ≡ args.console.now) × (new.report ≡ args.report.now)) c.in-Ok-Asked.ensures.asks in
+    puts_from (R.puts c.call.new.report) c.call.result (ap C.puts asks.2) (ap R.puts asks.3) (c.call.ensures.puts (C.puts args.console.now))
+
+pub returns-in-Ok-Asked-clause-part : goal.returns-in-Ok-Asked-clause-part
+returns-in-Ok-Asked-clause-part g c = λ text may s w x tells stands there left known. part_none (effect (before s w c.args.pid x)) _ c.call.result c.call.ensures.no_sink
