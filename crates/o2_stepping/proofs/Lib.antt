@@ -15,3 +15,4 @@ pub mod Puts
 pub mod Selectors
 pub mod NextRooms
 pub mod Here
+pub mod Replying
