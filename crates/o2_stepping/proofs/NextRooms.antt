@@ -268,8 +268,8 @@ module _ (p : Parts) (s : Setting) (w : World) (q : Process) (next : IsNext p s 
       let v : World = behind w (next_dispatch s w) q b in
       let want : List ℕ = need b v.names (process_at v.processes pid) in
       let least =
-          room_at_least p w.processes w.names w.next_name w.reserved next.lawful next.stands v.names want (room_at p.shelf list)
-          (at_least v.names want list (some_wanted v.names (process_at v.processes pid))) in
+      room_at_least p w.processes w.names w.next_name w.reserved next.lawful next.stands v.names want (room_at p.shelf list)
+      (at_least v.names want list (some_wanted v.names (process_at v.processes pid))) in
       let memory = next.set.memory in
       let r : room s w ≡ room_between w.names v.names want = ap (room_next s w (next_dispatch s w)) next.chosen in
       omega (arith, r, least, more, memory)

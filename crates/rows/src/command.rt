@@ -74,10 +74,33 @@ pub fn command_over(
     console_fails: Fails<'_>,
     report_fails: Fails<'_>,
 ) -> Result<Answer, NoMemory> {
+    command_sized(
+        alloc,
+        words,
+        files,
+        input,
+        takes,
+        console_fails,
+        report_fails,
+        65536,
+    )
+}
+
+/// The same, where the report has room for so many bytes.
+pub fn command_sized(
+    alloc: Global,
+    words: &[&str],
+    files: MemFiles,
+    input: &[u8],
+    takes: &[u64],
+    console_fails: Fails<'_>,
+    report_fails: Fails<'_>,
+    room: usize,
+) -> Result<Answer, NoMemory> {
     let mut files = files;
     let mut input = MemSource::new(Bytes::from_slice(alloc, input)?, takes.to_vec(alloc)?);
     let mut console = MemSink::new(alloc, 4096, console_fails.to_vec(alloc)?)?;
-    let mut report = MemSink::new(alloc, 65536, report_fails.to_vec(alloc)?)?;
+    let mut report = MemSink::new(alloc, room, report_fails.to_vec(alloc)?)?;
     let mut swap = SureSwap::new(alloc, 1)?;
     let list = words_of(alloc, words)?;
     let status = os2run(

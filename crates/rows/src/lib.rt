@@ -18,6 +18,8 @@ mod library_files;
 #[cfg(test)]
 mod machine_files;
 #[cfg(test)]
+mod segment_calls;
+#[cfg(test)]
 mod texts;
 #[cfg(test)]
 mod turns;

@@ -165,7 +165,7 @@ returns-in-Ok-Asked-clause-still g c =
     let new = c.step.new in
     let args = c.args in
     let asks = asked_at _ c.in-Ok-Asked.arguments c.in-Ok-Asked.next c.in-Ok-Asked.field-0-is
-        (λ a. (new.cpu ≡ c.index.result.now.cpu) × (new.input ≡ args.input.now) × (new.console ≡ args.console.now) × (new.report ≡ args.report.now)) c.in-Ok-Asked.ensures.asks in
+    (λ a. (new.cpu ≡ c.index.result.now.cpu) × (new.input ≡ args.input.now) × (new.console ≡ args.console.now) × (new.report ≡ args.report.now)) c.in-Ok-Asked.ensures.asks in
     stop_same _ _ c.call.result (λ same. (asks.1, asks.2, same ∙ asks.3)) c.call.ensures.still
 
 pub returns-in-Ok-Asked-clause-swap_stops : goal.returns-in-Ok-Asked-clause-swap_stops
@@ -188,8 +188,8 @@ returns-in-Ok-Asked-clause-next_room g c = λ text may s w x tells stands set so
     let steps = c.in-Ok-Asked.ensures.steps text may s w x told stands there cpu left known in
     let asks = asked_between _ c.in-Ok-Asked.arguments c.in-Ok-Asked.next c.in-Ok-Asked.field-0-is b w _ _ _ _ _ _ _ _ steps in
     let room =
-        asked_room _ c.in-Ok-Asked.arguments c.in-Ok-Asked.next c.in-Ok-Asked.field-0-is (λ z. room_in m.store (all_names b (bound_registers (hold_in m.regions pid) z)) ≤ m.store.places.size) (effect b).cpu b.cpu
-        (c.in-Ok-Asked.ensures.room text may s w x told stands there cpu left known) in
+    asked_room _ c.in-Ok-Asked.arguments c.in-Ok-Asked.next c.in-Ok-Asked.field-0-is (λ z. room_in m.store (all_names b (bound_registers (hold_in m.regions pid) z)) ≤ m.store.places.size) (effect b).cpu b.cpu
+    (c.in-Ok-Asked.ensures.room text may s w x told stands there cpu left known) in
     subst (λ (n : ℕ). SaysRoom n s w c.call.result) c.step.ensures.device.0
     (c.call.ensures.next_room s w x tells asks.still.stands (c.step.ensures.set s set) sound chosen there asks.cpu asks.effect
     (room_kept m.store new.self.store m.regions new.self.regions c.step.ensures.shape b pid b.cpu room))
@@ -233,7 +233,7 @@ returns-in-Ok-Asked-clause-puts g c =
     let new = c.step.new in
     let args = c.args in
     let asks = asked_at _ c.in-Ok-Asked.arguments c.in-Ok-Asked.next c.in-Ok-Asked.field-0-is
-        (λ a. (new.cpu ≡ c.index.result.now.cpu) × (new.input ≡ args.input.now) × (new.console ≡ args.console.now) × (new.report ≡ args.report.now)) c.in-Ok-Asked.ensures.asks in
+    (λ a. (new.cpu ≡ c.index.result.now.cpu) × (new.input ≡ args.input.now) × (new.console ≡ args.console.now) × (new.report ≡ args.report.now)) c.in-Ok-Asked.ensures.asks in
     puts_from (R.puts c.call.new.report) c.call.result (ap C.puts asks.2) (ap R.puts asks.3) (c.call.ensures.puts (C.puts args.console.now))
 
 pub returns-in-Ok-Asked-clause-part : goal.returns-in-Ok-Asked-clause-part
