@@ -7,3 +7,5 @@ pub mod Nexting
 pub mod Alone
 pub mod Afters
 pub mod Askings
+pub mod Aimed
+pub mod Called

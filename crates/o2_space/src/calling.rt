@@ -4,6 +4,7 @@ ghost use Rattle.o2_outer.specs.Texts.{Rose};
 ghost use Rattle.o2_isa.specs.View.{bound_registers};
 ghost use Rattle.o2_regions.specs.Lives.{lives};
 ghost use Rattle.o2_regions.specs.Maps.{IsProcess};
+ghost use Rattle.o2_segbus.specs.Bus.{registers_of};
 ghost use Rattle.o2_segbus.specs.Frames.{CanStep, KeepsClean, KeepsMaps, KeepsStore};
 ghost use Rattle.o2_segbus.specs.Seen.{AreNamed, hold_in, present_in, seen};
 ghost use Rattle.o2_segbus.specs.Settled.{IsSettled};
@@ -43,6 +44,8 @@ use o2_world::State;
 
 /// The value of a call on segments, said of store and tables.
 fn give_in(bus: &mut SegBus<'_, '_>, arguments: SegmentArguments, answer: &Answer)
+    requires agrees { registers_of bus.old.regions.now bus.old.pid bus.old.registers
+        ≡ bound_registers (hold_in bus.old.regions.now bus.old.pid) no_registers }
     requires ready { are_ready (seen bus.old.store.now bus.old.regions.now bus.old.pid no_registers) (targets arguments) ≡ true }
     requires value { IsValue arguments answer.now.value }
     ensures same_store { bus.new.store.ghost_name ≡ bus.old.store.ghost_name }
@@ -159,6 +162,7 @@ impl Space {
             Roomed::Done(answer) => {
                 lawful(&self.store, &self.regions);
                 give(&mut self.store, &mut self.regions, pid, arguments, &answer);
+                lawful(&self.store, &self.regions);
                 come_back(cpu, arguments, answer.error, next);
                 Ok(answer)
             }

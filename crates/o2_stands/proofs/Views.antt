@@ -56,7 +56,7 @@ module _ (p : Parts) (lawful : AreLawful p.shelf p.maps) where
       (λ j l. let w : j < size = omega (arith, l, is.size) in
       is.bytes j w ∙ (ap (λ (o : Option (ℕ × ℕ)). byte_by p.shelf.memory o (out j) j) at ∙ sym (get-part p.shelf.memory r.0 size j w)))
 
-  bytes_by : (o : Option ℕ) (g : Option Segment) → IsNamed p o g → segment_bytes g ≡ (if present_under p.shelf o then bytes_under p.shelf o else away_under p o)
+  pub bytes_by : (o : Option ℕ) (g : Option Segment) → IsNamed p o g → segment_bytes g ≡ (if present_under p.shelf o then bytes_under p.shelf o else away_under p o)
   bytes_by None None is = refl
   bytes_by (Some k) None is = absurd is
   bytes_by None (Some s) is = absurd is

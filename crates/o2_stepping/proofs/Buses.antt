@@ -17,7 +17,9 @@ use Rattle.o2_world.specs.Effect.{effect}
 use Rattle.o2_run.specs.declared.fault.Fault.{Fault}
 use Rattle.o2_run.specs.Pieces.{Counts, PartHands}
 use Rattle.o2_run.specs.Room.{Pointer, touched}
+use Rattle.o2_gate.specs.declared.gathering.SegmentArguments.{SegmentArguments}
 use Rattle.o2_gate.specs.Befores.{boundless, before_call}
+use Rattle.o2_gate.specs.Replies.{bytes_of}
 use Rattle.o2_gate.specs.Pointed.{ArePresent, are_ready}
 use Rattle.o2_gate.specs.Writes.{HoldsForWriting, WritesHeld}
 use Rattle.o2_stepping.specs.Ran.{Leaves, OnMissed}
@@ -124,3 +126,15 @@ ready_like v w (p ∷ ps) held present bytes =
 pub aimed_there : (a : SegBus) (pid : ℕ) (c : Cpu) (ps : List Pointer) → hold_in a.regions.now a.pid ≡ hold_in a.regions.now pid → are_ready (view_of a) ps ≡ true → are_ready (seen a.store.now a.regions.now pid c) ps ≡ true
 unfolding bus_view seen_with
 aimed_there a pid c ps held ready = sym (ready_like (view_of a) (seen a.store.now a.regions.now pid c) ps held refl refl) ∙ ready
+
+-- and in store and tables as on the bus
+pub aimed_on : (a : SegBus) (c : Cpu) (ps : List Pointer) → are_ready (seen a.store.now a.regions.now a.pid c) ps ≡ true → are_ready (view_of a) ps ≡ true
+unfolding bus_view seen_with
+aimed_on a c ps ready = ready_like (view_of a) (seen a.store.now a.regions.now a.pid c) ps refl refl refl ∙ ready
+
+-- what is written behind a pointer
+pub given_there : (away : ℕ → List ℕ) (a b : SegBus) (x : SegmentArguments) (error value n : ℕ)
+    → (whole (filling away) (view_of b)).bytes n ≡ bytes_of x error value (view_of a).held (whole (filling away) (view_of a)).bytes n
+    → bytes_with away b.store.now n ≡ bytes_of x error value (hold_in a.regions.now a.pid) (bytes_with away a.store.now) n
+unfolding bus_view seen_with
+given_there away a b x error value n e = e
