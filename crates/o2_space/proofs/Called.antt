@@ -2,7 +2,7 @@
 use Rattle.std.proofs.Common.{◌≡◌, ℕ, ◌/◌, ◌<◌, ◌==◌, ◌&&◌, true, false, cond, Bool, List, Option, Some, None, IsSome, is_some, option_map, ap, sym, ◌∙◌, refl, subst, arith}
 use mathlib.Core.Path.{fun_ext}
 use Rattle.o2_conf.specs.Dispatch.{Dispatch}
-use Rattle.o2_entries.proofs.Tables.{within_at}
+use Rattle.o2_store.proofs.Tables.{within_at}
 use Rattle.o2_entries.specs.Tables.{slot_at}
 use Rattle.o2_isa.specs.declared.cpu.Cpu.{Cpu}
 use Rattle.o2_isa.specs.Pointers.{is_ready}

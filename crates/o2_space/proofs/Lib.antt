@@ -9,3 +9,4 @@ pub mod Afters
 pub mod Askings
 pub mod Aimed
 pub mod Called
+pub mod Making

@@ -1,0 +1,254 @@
+use Rattle.std.proofs.Common.{◌≡◌, ℕ, List, [], length, ap, sym, ◌∙◌, refl, arith, subst}
+use Rattle.o2_isa.specs.declared.cpu.Cpu.{Cpu}
+use Rattle.o2_world.specs.declared.types.State.TheVariants.{Live}
+use Rattle.o2_world.specs.Known.{known_of}
+use Rattle.o2_world.specs.Calls.{returned}
+use Rattle.o2_world.specs.Changes.{with_all}
+use Rattle.o2_world.specs.Run.{before, changed}
+use Rattle.o2_swapmap.specs.Piles.{all_of}
+use Rattle.o2_segbus.proofs.Ages.{named_by_age}
+use Rattle.o2_gate.specs.Replies.{words_of}
+use Rattle.o2_segs.specs.Answers.{Answers}
+use Rattle.o2_calls.specs.Acts.{IsOver, cpu_of, ruling_of}
+use Rattle.o2_calls.specs.Tellings.{replied_by}
+use Rattle.o2_stands.specs.Moves.{moved, stepped_to, with_running}
+use Rattle.o2_stands.specs.Parts.{Parts}
+use Rattle.o2_stands.specs.Stands.{Matches, Stands}
+use Rattle.o2_space.specs.Parts.{parts_in, running_at}
+use Rattle.o2_space.proofs.Aimed.{aimed_kept}
+use Rattle.o2_space.proofs.Alone.{alone_held, whole_same}
+use Rattle.o2_space.proofs.Called.{called}
+use Rattle.o2_space.proofs.Making.{kept_named, on_device, process_called, ready_called, ready_given, set_called, stays_at, value_of}
+use Rattle.o2_space.proofs.space.Space.make_call.Goals as goal
+
+pub act-requires-clause-process : goal.act-requires-clause-process
+act-requires-clause-process g c = c.requires.can_step.process
+
+pub act-requires-clause-named : goal.act-requires-clause-named
+act-requires-clause-named g c = c.requires.can_step.named
+
+pub act-requires-clause-order : goal.act-requires-clause-order
+act-requires-clause-order g c = record { held = (c.requires.together.ready (λ k. [])).held; settled = c.requires.can_step.settled; tables = c.requires.together.whole }
+
+pub act-requires-clause-pictures : goal.act-requires-clause-pictures
+act-requires-clause-pictures g c = (c.requires.together.ready (λ k. [])).pictures
+
+pub act-requires-clause-clean : goal.act-requires-clause-clean
+act-requires-clause-clean g c = (c.requires.together.ready (λ k. [])).clean
+
+pub act-requires-clause-device : goal.act-requires-clause-device
+act-requires-clause-device g c = (c.requires.together.ready (λ k. [])).device
+
+pub act-requires-clause-alone : goal.act-requires-clause-alone
+act-requires-clause-alone g c = c.requires.together.alone
+
+pub give-requires-clause-process : goal.give-requires-clause-process
+give-requires-clause-process g c = process_called c.args.self.now.regions c.act.new.regions c.args.pid c.act.ensures.processes c.requires.can_step.process
+
+pub give-requires-clause-named : goal.give-requires-clause-named
+give-requires-clause-named g c =
+    let ready = c.requires.together.ready (λ k. []) in
+    named_by_age c.act.new.store c.act.new.regions (c.act.ensures.guards (record { aged = ready.aged; guarded = ready.guarded })).aged c.act.ensures.order.held.live
+
+pub give-requires-clause-settled : goal.give-requires-clause-settled
+give-requires-clause-settled g c = c.act.ensures.order.settled
+
+pub give-requires-clause-ready : goal.give-requires-clause-ready
+give-requires-clause-ready g c =
+    let m = c.args.self.now in
+    let t = c.act.new.store in
+    let n = c.act.new.regions in
+    let pid = c.args.pid in
+    let ready = c.requires.together.ready (λ k. []) in
+    aimed_kept m.store t m.regions n pid ready.held c.requires.can_step.named (named_by_age t n (c.act.ensures.guards (record { aged = ready.aged; guarded = ready.guarded })).aged c.act.ensures.order.held.live)
+    c.lawful.ensures.inside c.lawful-2.ensures.inside c.args.arguments c.args.cpu.now _ c.act.ensures.holds c.act.ensures.entries
+    (λ k needed slot place. c.act.ensures.kept k (kept_named m.store m.regions pid c.args.cpu.now c.args.arguments _ _ ready.held c.ids.ensures c.call_need.ensures k needed) slot place)
+    c.requires.aimed
+
+pub give-requires-clause-value : goal.give-requires-clause-value
+give-requires-clause-value g c = value_of c.args.arguments c.in-Done.answer c.in-Done.ensures.value
+
+-- A call that stops.
+
+pub returns-in-NoRoom-clause-makes : goal.returns-in-NoRoom-clause-makes
+returns-in-NoRoom-clause-makes g c = λ s w x tells stands set tied there same.
+    let S = g.S.SwapDevice in
+    let m = c.args.self.now in
+    let p : Parts = parts_in m (S.blocks c.args.swap.now) (S.block c.args.swap.now) in
+    on_device (moved p c.act.new.store c.act.new.regions (S.block c.act.new.swap)) (S.blocks c.act.new.swap) (λ (q : Parts). Stands q w) c.act.ensures.device.0
+    (stays_at p w c.act.new.store c.act.new.regions (S.block c.act.new.swap)
+    (c.in-NoRoom.ensures.matches p s w x (record { store = refl; regions = refl; pictures = refl; blocks = refl; lawful = c.lawful.ensures; set = set; stands = stands }) tells there tied) stands)
+
+pub returns-in-NoRoom-clause-together : goal.returns-in-NoRoom-clause-together
+returns-in-NoRoom-clause-together g c =
+    let S = g.S.SwapDevice in
+    let m = c.args.self.now in
+    let e = c.act.ensures in
+    record {
+      ready = λ block.
+          ready_called m.store c.act.new.store m.regions c.act.new.regions m.images (S.blocks c.args.swap.now) block block (running_at m.procs.items) (c.requires.together.ready block)
+          e.order e.guards e.clean e.pictures e.map (S.blocks c.act.new.swap) e.device.0;
+      numbers = (let a = c.requires.together.numbers in let b = e.processes in omega (arith, a, b));
+      marked = c.requires.together.marked;
+      alone = e.limits.alone c.requires.together.alone;
+      whole = e.order.tables;
+    }
+
+pub returns-in-NoRoom-clause-set : goal.returns-in-NoRoom-clause-set
+returns-in-NoRoom-clause-set g c = λ s set.
+    let S = g.S.SwapDevice in
+    let e = c.act.ensures in
+    set_called (parts_in c.args.self.now (S.blocks c.args.swap.now) (S.block c.args.swap.now)) c.act.new.store c.act.new.regions (S.blocks c.act.new.swap) (S.block c.act.new.swap)
+    e.limits.size e.limits.count e.map e.device.0 s set
+
+pub returns-in-NoRoom-clause-made : goal.returns-in-NoRoom-clause-made
+returns-in-NoRoom-clause-made g c = (let a = c.in-NoRoom.ensures.limits.made in omega (arith, a))
+
+pub returns-in-SwapFull-clause-makes : goal.returns-in-SwapFull-clause-makes
+returns-in-SwapFull-clause-makes g c = λ s w x tells stands set tied there same.
+    let S = g.S.SwapDevice in
+    let m = c.args.self.now in
+    let p : Parts = parts_in m (S.blocks c.args.swap.now) (S.block c.args.swap.now) in
+    on_device (moved p c.act.new.store c.act.new.regions (S.block c.act.new.swap)) (S.blocks c.act.new.swap) (λ (q : Parts). Stands q w) c.act.ensures.device.0
+    (stays_at p w c.act.new.store c.act.new.regions (S.block c.act.new.swap)
+    (c.in-SwapFull.ensures.matches p s w x (record { store = refl; regions = refl; pictures = refl; blocks = refl; lawful = c.lawful.ensures; set = set; stands = stands }) tells there tied) stands)
+
+pub returns-in-SwapFull-clause-together : goal.returns-in-SwapFull-clause-together
+returns-in-SwapFull-clause-together g c =
+    let S = g.S.SwapDevice in
+    let m = c.args.self.now in
+    let e = c.act.ensures in
+    record {
+      ready = λ block.
+          ready_called m.store c.act.new.store m.regions c.act.new.regions m.images (S.blocks c.args.swap.now) block block (running_at m.procs.items) (c.requires.together.ready block)
+          e.order e.guards e.clean e.pictures e.map (S.blocks c.act.new.swap) e.device.0;
+      numbers = (let a = c.requires.together.numbers in let b = e.processes in omega (arith, a, b));
+      marked = c.requires.together.marked;
+      alone = e.limits.alone c.requires.together.alone;
+      whole = e.order.tables;
+    }
+
+pub returns-in-SwapFull-clause-set : goal.returns-in-SwapFull-clause-set
+returns-in-SwapFull-clause-set g c = λ s set.
+    let S = g.S.SwapDevice in
+    let e = c.act.ensures in
+    set_called (parts_in c.args.self.now (S.blocks c.args.swap.now) (S.block c.args.swap.now)) c.act.new.store c.act.new.regions (S.blocks c.act.new.swap) (S.block c.act.new.swap)
+    e.limits.size e.limits.count e.map e.device.0 s set
+
+pub returns-in-SwapFull-clause-made : goal.returns-in-SwapFull-clause-made
+returns-in-SwapFull-clause-made g c = (let a = c.in-SwapFull.ensures.limits.made in omega (arith, a))
+
+pub returns-in-SwapFault-clause-makes : goal.returns-in-SwapFault-clause-makes
+returns-in-SwapFault-clause-makes g c = λ s w x tells stands set tied there same.
+    let S = g.S.SwapDevice in
+    let m = c.args.self.now in
+    let p : Parts = parts_in m (S.blocks c.args.swap.now) (S.block c.args.swap.now) in
+    on_device (moved p c.act.new.store c.act.new.regions (S.block c.act.new.swap)) (S.blocks c.act.new.swap) (λ (q : Parts). Stands q w) c.act.ensures.device.0
+    (stays_at p w c.act.new.store c.act.new.regions (S.block c.act.new.swap)
+    (c.in-SwapFault.ensures.matches p s w x (record { store = refl; regions = refl; pictures = refl; blocks = refl; lawful = c.lawful.ensures; set = set; stands = stands }) tells there tied) stands)
+
+pub returns-in-SwapFault-clause-together : goal.returns-in-SwapFault-clause-together
+returns-in-SwapFault-clause-together g c =
+    let S = g.S.SwapDevice in
+    let m = c.args.self.now in
+    let e = c.act.ensures in
+    record {
+      ready = λ block.
+          ready_called m.store c.act.new.store m.regions c.act.new.regions m.images (S.blocks c.args.swap.now) block block (running_at m.procs.items) (c.requires.together.ready block)
+          e.order e.guards e.clean e.pictures e.map (S.blocks c.act.new.swap) e.device.0;
+      numbers = (let a = c.requires.together.numbers in let b = e.processes in omega (arith, a, b));
+      marked = c.requires.together.marked;
+      alone = e.limits.alone c.requires.together.alone;
+      whole = e.order.tables;
+    }
+
+pub returns-in-SwapFault-clause-set : goal.returns-in-SwapFault-clause-set
+returns-in-SwapFault-clause-set g c = λ s set.
+    let S = g.S.SwapDevice in
+    let e = c.act.ensures in
+    set_called (parts_in c.args.self.now (S.blocks c.args.swap.now) (S.block c.args.swap.now)) c.act.new.store c.act.new.regions (S.blocks c.act.new.swap) (S.block c.act.new.swap)
+    e.limits.size e.limits.count e.map e.device.0 s set
+
+pub returns-in-SwapFault-clause-made : goal.returns-in-SwapFault-clause-made
+returns-in-SwapFault-clause-made g c = (let a = c.in-SwapFault.ensures.limits.made in omega (arith, a))
+
+pub returns-in-SwapFault-clause-fault : goal.returns-in-SwapFault-clause-fault
+returns-in-SwapFault-clause-fault g c = c.in-SwapFault.ensures.cause refl
+
+-- A call that is made.
+
+pub returns-in-Done-clause-makes : goal.returns-in-Done-clause-makes
+returns-in-Done-clause-makes g c = λ s w x tells stands set tied there same.
+    let S = g.S.SwapDevice in
+    let m = c.args.self.now in
+    let pid = c.args.pid in
+    let a = c.args.arguments in
+    let t = c.act.new.store in
+    let n = c.act.new.regions in
+    let u = c.give.new.store in
+    let o = c.give.new.regions in
+    let block = S.block c.act.new.swap in
+    let e = c.act.ensures in
+    let p : Parts = parts_in m (S.blocks c.args.swap.now) (S.block c.args.swap.now) in
+    let over : IsOver m.store m.regions m.images (S.block c.args.swap.now) p s w = record { store = refl; regions = refl; pictures = refl; blocks = refl; lawful = c.lawful.ensures; set = set; stands = stands } in
+    let answers = subst (λ (z : Cpu). Answers (ruling_of a (known_of s w) pid z) c.in-Done.answer) same (c.in-Done.ensures.row p s w over) in
+    let behind = replied_by a (before s w pid x) c.args.next in
+    let registers =
+    c.come_back.ensures
+    ∙ (ap (λ (z : Cpu). returned z c.args.next (words_of a) c.in-Done.answer.error) (e.registers p s w over ∙ ap (cpu_of a (known_of s w) pid) same)
+    ∙ ap (λ (k : ℕ). returned (cpu_of a (known_of s w) pid x.cpu) c.args.next (words_of a) k) answers.error) in
+    let matches =
+    subst (λ (z : Cpu). Matches (moved p t n block) (with_all w (ruling_of a (known_of s w) pid z).changes)) same
+    (c.in-Done.ensures.matches p s w x over tells there tied) in
+    let ready =
+    ready_called m.store t m.regions n m.images (S.blocks c.args.swap.now) (S.block c.args.swap.now) block (running_at m.procs.items) (c.requires.together.ready (S.block c.args.swap.now))
+    e.order e.guards e.clean e.pictures e.map (S.blocks c.args.swap.now) refl in
+    let given = c.give.ensures in
+    let good = ready_given t u n o m.images (S.blocks c.args.swap.now) block block (running_at m.procs.items) ready given.store given.maps given.clean given.settled in
+    record {
+      answers = answers;
+      cpu = registers;
+      matches = λ d current.
+          subst (λ (z : Cpu). Matches (with_running (parts_in c.come_back.new.self (S.blocks c.act.new.swap) block) pid (record { cpu = z; state = Live })) (changed w d x behind)) (sym registers)
+          (on_device (stepped_to (moved p t n block) u o) (S.blocks c.act.new.swap) (λ (q : Parts). Matches (with_running q pid (record { cpu = behind.cpu; state = Live })) (changed w d x behind)) e.device.0
+          (called p s w x pid a c.args.next c.lawful.ensures stands there c.args.cpu.now c.requires.aimed t n block c.lawful-2.ensures e.holds c.in-Done.answer.error c.in-Done.answer.value
+          answers.error answers.value matches u o given.bytes given.store given.maps c.lawful-3.ensures.inside good d current));
+    }
+
+pub returns-in-Done-clause-value : goal.returns-in-Done-clause-value
+returns-in-Done-clause-value g c = value_of c.args.arguments c.in-Done.answer c.in-Done.ensures.value
+
+pub returns-in-Done-clause-together : goal.returns-in-Done-clause-together
+returns-in-Done-clause-together g c =
+    let S = g.S.SwapDevice in
+    let m = c.args.self.now in
+    let t = c.act.new.store in
+    let n = c.act.new.regions in
+    let u = c.give.new.store in
+    let o = c.give.new.regions in
+    let e = c.act.ensures in
+    let given = c.give.ensures in
+    record {
+      ready = λ block.
+          ready_given t u n o m.images (S.blocks c.act.new.swap) block block (running_at m.procs.items)
+          (ready_called m.store t m.regions n m.images (S.blocks c.args.swap.now) block block (running_at m.procs.items) (c.requires.together.ready block) e.order e.guards e.clean e.pictures e.map (S.blocks c.act.new.swap) e.device.0)
+          given.store given.maps given.clean given.settled;
+      numbers = (let a = c.requires.together.numbers in let b = e.processes in let d = given.maps.processes in omega (arith, a, b, d));
+      marked = c.requires.together.marked;
+      alone = alone_held n o given.maps.held (e.limits.alone c.requires.together.alone);
+      whole = whole_same n o given.maps.processes given.maps.lengths e.order.tables;
+    }
+
+pub returns-in-Done-clause-set : goal.returns-in-Done-clause-set
+returns-in-Done-clause-set g c = λ s set.
+    let S = g.S.SwapDevice in
+    let e = c.act.ensures in
+    let store = c.give.ensures.store.store in
+    set_called (parts_in c.args.self.now (S.blocks c.args.swap.now) (S.block c.args.swap.now)) c.give.new.store c.give.new.regions (S.blocks c.act.new.swap) (S.block c.act.new.swap)
+    (ap (λ z. z.places.size) store ∙ e.limits.size) (ap (λ z. length z.entries) store ∙ e.limits.count) (ap (λ z. all_of z.swap) store ∙ e.map) e.device.0 s set
+
+pub returns-in-Done-clause-processes : goal.returns-in-Done-clause-processes
+returns-in-Done-clause-processes g c = c.give.ensures.maps.processes ∙ c.act.ensures.processes
+
+pub returns-in-Done-clause-made : goal.returns-in-Done-clause-made
+returns-in-Done-clause-made g c = (let a = c.in-Done.ensures.limits.made in let b = ap (λ z. z.made) c.give.ensures.store.store in omega (arith, a, b))
