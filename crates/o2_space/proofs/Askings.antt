@@ -1,5 +1,5 @@
 -- A step of a process that is done, or that asks for a call on segments, which is then made.
-use Rattle.std.proofs.Common.{◌≡◌, ℕ, ◌≤◌, Bool, true, false, List, Option, ap, sym, subst, arith}
+use Rattle.std.proofs.Common.{◌≡◌, ℕ, ◌≤◌, Bool, true, false, List, Option, ap, sym, refl, subst, arith}
 use Rattle.std.specs.Prelude.{Result, Ok, Err}
 use Rattle.o2_isa.specs.declared.cpu.Cpu.{Cpu}
 use Rattle.o2_isa.specs.View.{bound_registers}
@@ -16,10 +16,11 @@ use Rattle.o2_world.specs.Calls.{Before, Effect}
 use Rattle.o2_world.specs.Effect.{effect}
 use Rattle.o2_world.specs.World.{Process, Setting, World}
 use Rattle.o2_stands.specs.Parts.{Parts}
+use Rattle.o2_stands.specs.Stands.{Stands}
 use Rattle.o2_stepping.specs.Pieces.{HandsWhole, RanHands, StepHands}
 use Rattle.o2_stepping.specs.Rooms.{all_names, room_in}
 use Rattle.o2_stepping.specs.Shapes.{SameShape}
-use Rattle.o2_stepping.specs.Taken.{OnAsks, OnNoStep, OnSink, OnStep, OnSwapStop, SteppedFor, TakenFor}
+use Rattle.o2_stepping.specs.Taken.{IsSwapStop, OnAsks, OnNoStep, OnSink, OnStep, OnSwapStop, SteppedFor, TakenFor}
 use Rattle.o2_stepping.specs.declared.one_step.Ran.{Ran}
 use Rattle.o2_stepping.specs.declared.one_step.Stepped.{Stepped}
 use Rattle.o2_stepping.specs.declared.one_step.Stepped.TheVariants as stepped
@@ -112,3 +113,38 @@ pub part_none : (e : Effect) (n : Counts) (result : Result Ran Fault) → OnSink
 part_none e n (Ok ran) h = tt
 part_none e n (Err fault.Sink) h = absurd h
 part_none e n (Err (fault.Stopped why)) h = tt
+
+-- A call stops for room or for swap alone.
+
+pub stops_stay : (b : Before) (w : World) (x : Process) (p : Parts) (i c r : Option (List ℕ)) (f : Fault) → IsSwapStop f → Stands p w → (let result : Result Ran Fault = Err f in Acts b w x p i i c c r r result)
+stops_stay b w x p i c r fault.Sink is stands = absurd is
+stops_stay b w x p i c r (fault.Stopped stop.Input) is stands = absurd is
+stops_stay b w x p i c r (fault.Stopped stop.NoRoom) is stands = record { stands = stands; input = refl; to_console = refl; to_report = refl }
+stops_stay b w x p i c r (fault.Stopped stop.SwapFull) is stands = record { stands = stands; input = refl; to_console = refl; to_report = refl }
+stops_stay b w x p i c r (fault.Stopped stop.SwapFault) is stands = record { stands = stands; input = refl; to_console = refl; to_report = refl }
+
+pub no_step : (P : Type 0) (f : Fault) → P → (let result : Result Ran Fault = Err f in OnNoStep result P)
+no_step P fault.Sink h = tt
+no_step P (fault.Stopped stop.Input) h = tt
+no_step P (fault.Stopped stop.NoRoom) h = h
+no_step P (fault.Stopped stop.SwapFull) h = h
+no_step P (fault.Stopped stop.SwapFault) h = h
+
+pub not_sink : (f : Fault) → IsSwapStop f → (let result : Result Ran Fault = Err f in OnSink result ⊥)
+not_sink fault.Sink is = absurd is
+not_sink (fault.Stopped why) is = tt
+
+pub not_caused : (P : Type 0) (f : Fault) → IsSwapStop f → (let result : Result Ran Fault = Err f in TakenFor P ⊥ result)
+not_caused P fault.Sink is = absurd is
+not_caused P (fault.Stopped stop.Input) is = absurd is
+not_caused P (fault.Stopped stop.NoRoom) is = tt
+not_caused P (fault.Stopped stop.SwapFull) is = tt
+not_caused P (fault.Stopped stop.SwapFault) is = tt
+
+pub none_put : (c r : ℕ) (f : Fault) → IsSwapStop f → (let result : Result Ran Fault = Err f in RanHands (counts c c r r 0) result)
+none_put c r fault.Sink is = absurd is
+none_put c r (fault.Stopped why) is = record { to_console = omega arith; to_report = omega arith }
+
+-- What a call puts that is made: its lines alone.
+pub told_puts : (c r q : ℕ) (ran : Ran) → ran.tally.bytes ≡ 0 → HandsWhole ran.whole (counts c c r q 0) 0 ran.tally.lines → RanHands (counts c c r q 0) (Ok ran)
+told_puts c r q ran none h = subst (λ (n : ℕ). HandsWhole ran.whole (counts c c r q 0) (puts_of n) ran.tally.lines) (sym none) h

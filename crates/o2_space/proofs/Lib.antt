@@ -10,3 +10,4 @@ pub mod Askings
 pub mod Aimed
 pub mod Called
 pub mod Making
+pub mod Replied
