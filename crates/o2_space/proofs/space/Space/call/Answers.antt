@@ -8,6 +8,7 @@ use Rattle.o2_stands.specs.Stands.{StandsIn}
 use Rattle.o2_space.specs.Parts.{parts_in}
 use Rattle.o2_space.proofs.Commits.{lived}
 use Rattle.o2_space.proofs.Askings.{no_step, none_put, not_caused, not_sink, stops_stay, told_puts}
+use Rattle.o2_space.proofs.Alike.{retold}
 use Rattle.o2_space.proofs.Replied.{acts_live, acts_trapped, alone_known, dead_state_is, orderly_call, then_trapped}
 use Rattle.o2_space.proofs.space.Space.call.Goals as goal
 
@@ -64,11 +65,11 @@ commit-2-requires-clause-process g c =
 
 pub commit-2-requires-clause-held : goal.commit-2-requires-clause-held
 commit-2-requires-clause-held g c =
-    ((c.commit.ensures.together (g.S.SwapDevice.blocks c.make_call.new.swap) (ap (λ (ends : List Bool). lives ends c.args.pid) c.make_call.ensures.ends ∙ c.requires.live) c.make_call.ensures.together).ready (λ k. [])).held
+    ((c.commit.ensures.together (g.S.SwapDevice.blocks c.make_call.new.swap) (ap (λ (ends : List Bool). lives ends c.args.pid) c.make_call.ensures.ends ∙ c.requires.live) (retold c.make_call.ensures.together)).ready (λ k. [])).held
 
 pub commit-2-requires-clause-settled : goal.commit-2-requires-clause-settled
 commit-2-requires-clause-settled g c =
-    ((c.commit.ensures.together (g.S.SwapDevice.blocks c.make_call.new.swap) (ap (λ (ends : List Bool). lives ends c.args.pid) c.make_call.ensures.ends ∙ c.requires.live) c.make_call.ensures.together).ready (λ k. [])).settled
+    ((c.commit.ensures.together (g.S.SwapDevice.blocks c.make_call.new.swap) (ap (λ (ends : List Bool). lives ends c.args.pid) c.make_call.ensures.ends ∙ c.requires.live) (retold c.make_call.ensures.together)).ready (λ k. [])).settled
 
 -- A call that its process outlives.
 
@@ -89,7 +90,7 @@ returns-else-not-is_live-clause-next_room g c = λ s w x tells stands set sound 
 
 pub returns-else-not-is_live-clause-together : goal.returns-else-not-is_live-clause-together
 returns-else-not-is_live-clause-together g c =
-    c.commit.ensures.together (g.S.SwapDevice.blocks c.make_call.new.swap) (ap (λ (ends : List Bool). lives ends c.args.pid) c.make_call.ensures.ends ∙ c.requires.live) c.make_call.ensures.together
+    c.commit.ensures.together (g.S.SwapDevice.blocks c.make_call.new.swap) (ap (λ (ends : List Bool). lives ends c.args.pid) c.make_call.ensures.ends ∙ c.requires.live) (retold c.make_call.ensures.together)
 
 pub returns-else-not-is_live-clause-set : goal.returns-else-not-is_live-clause-set
 returns-else-not-is_live-clause-set g c = λ s set. c.commit.ensures.set _ _ s (c.make_call.ensures.set s set)
@@ -146,7 +147,7 @@ pub returns-then-not-is_live-clause-together : goal.returns-then-not-is_live-cla
 returns-then-not-is_live-clause-together g c =
     let blocks = g.S.SwapDevice.blocks c.make_call.new.swap in
     let live = ap (λ (ends : List Bool). lives ends c.args.pid) c.make_call.ensures.ends ∙ c.requires.live in
-    c.commit-2.ensures.together blocks (c.commit.ensures.marks c.args.pid ∙ live) (c.commit.ensures.together blocks live c.make_call.ensures.together)
+    c.commit-2.ensures.together blocks (c.commit.ensures.marks c.args.pid ∙ live) (c.commit.ensures.together blocks live (retold c.make_call.ensures.together))
 
 pub returns-then-not-is_live-clause-set : goal.returns-then-not-is_live-clause-set
 returns-then-not-is_live-clause-set g c = λ s set. c.commit-2.ensures.set _ _ s (c.commit.ensures.set _ _ s (c.make_call.ensures.set s set))
