@@ -53,6 +53,8 @@ module _ (p : Progress Stored) (m : Opened) (l : LinkedParts) (b : Built) (most 
         settled = is.mapped.settled;
         own = is.mapped.own;
         shared = λ i from low. shared i from low ∙ sym (ranges_reserve l.images i) ∙ sym (any_map i (library_ranges l));
+        tables = is.mapped.tables;
+        alone = λ pid i h e. (is.mapped.held pid i h e).reserved;
         rows = sym (length-map p.starts.items (λ v. v.items)) ∙ come.rows;
         lines = come.lines;
       }

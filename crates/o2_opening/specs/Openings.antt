@@ -1,5 +1,5 @@
 -- What a store, the maps of processes and the first registers stand for, once all processes have started.
-use Rattle.std.specs.Prelude.{◌≡◌, ℕ, ◌+◌, ◌<◌, ◌≤◌, List, length, map, Option, None, is_some, option_map, Result, Ok, Err, slice_get}
+use Rattle.std.specs.Prelude.{◌≡◌, ℕ, ◌+◌, ◌<◌, ◌≤◌, List, length, map, Option, Some, None, is_some, option_map, Result, Ok, Err, slice_get}
 use Rattle.std.specs.List.{list_any}
 use Rattle.o2_base.specs.declared.memory.Fail.{Fail}
 use Rattle.o2_base.specs.declared.memory.Fail.TheVariants.{NoMemory, Bad}
@@ -10,7 +10,8 @@ use Rattle.o2_image.specs.Getters.{nth}
 use Rattle.o2_image.specs.ImageList.{ImageList}
 use Rattle.o2_dynlink.specs.Outcome.{LinkedParts}
 use Rattle.o2_regions.specs.declared.held.Region.TheVariants.{Private, Shared}
-use Rattle.o2_regions.specs.Maps.{IsProcess, held_at, is_reserved}
+use Rattle.o2_regions.specs.declared.held.Held.{Held as HeldThere}
+use Rattle.o2_regions.specs.Maps.{IsProcess, held_at, is_reserved, table_of}
 use Rattle.o2_service.specs.Told.{IsHeldWell}
 use Rattle.o2_store.specs.Pictures.{picture, HasPicture}
 use Rattle.o2_store.specs.Shelf.{AreClean, HasAll, place_of}
@@ -51,6 +52,9 @@ pub record IsOpened (m : Opened) (l : LinkedParts) (b : Built) : Type 0 where
   -- of its own indexes those that a process holds are reserved, and of the shared ones those of the libraries
   pub own : (pid i : ℕ) → IsProcess m.regions pid → 1 ≤ i → i < 4096 → is_reserved m.regions (Private pid) i ≡ is_some (held_at m.regions pid i)
   pub shared : (i : ℕ) → 4096 ≤ i → i < 8192 → is_reserved m.regions Shared i ≡ list_any (is_for_the_run i) (map for_the_run (library_ranges l))
+  -- each process's table has all indexes, and nothing is held in the run of a huge allocation
+  pub tables : (pid : ℕ) → IsProcess m.regions pid → length (table_of m.regions pid) ≡ 8192
+  pub alone : (pid i : ℕ) (h : HeldThere) → held_at m.regions pid i ≡ Some h → h.reserved ≡ 0
   -- the lines of the starts
   pub rows : length m.starts.items ≡ length m.cpus.items
   pub lines : b.lines ≡ lines_from l 1 (map (λ v. v.items) m.starts.items)

@@ -65,6 +65,11 @@ abbrev pub Acts : Before → World → Process → Parts → (left_old left_new 
 Acts b w x p i j c d r q (Ok ran) = ActsAll w b.number x (effect b) ran p j c d r q
 Acts b w x p i j c d r q (Err f) = ActsFault b w p i j c d r q f
 
+-- how many segments a step makes at most: none where it isn't taken
+abbrev pub made_by : {T : Type 0} → Result T Fault → ℕ
+made_by (Ok x) = 1
+made_by (Err f) = 0
+
 -- Who is marked live behind a step of a process: where the step ended it, all but this one that were, and else all that were.
 abbrev pub AreMarkedBehind : (old new : List Bool) → (pid : ℕ) → Result Ran Fault → Type 0
 AreMarkedBehind old new pid (Ok ran) = (n : ℕ) → lives new n ≡ (if is_live ran.state then lives old n else (if n == pid then false else lives old n))

@@ -29,7 +29,7 @@ ghost use Rattle.o2_stepping.specs.Pieces.{RanHands, StepHands};
 ghost use Rattle.o2_stepping.specs.Shapes.{SameShape};
 ghost use Rattle.o2_stepping.specs.Rooms.{all_names, needed_names, room_in};
 ghost use Rattle.o2_stepping.specs.Taken.{OnAsks, OnDone, OnNoStep, OnSink, OnStep, OnSwapStop, SteppedFor, TakenFor};
-ghost use Rattle.o2_space.specs.Acts.{Acts, AreMarkedBehind};
+ghost use Rattle.o2_space.specs.Acts.{Acts, AreMarkedBehind, made_by};
 ghost use Rattle.o2_space.specs.Between.{Steps};
 ghost use Rattle.o2_space.specs.Nexts.{SaysRoom, SaysStep};
 ghost use Rattle.o2_space.specs.Parts.{parts_in};
@@ -259,7 +259,7 @@ impl Space {
         ensures marks { AreMarkedBehind self.old.ends self.new.ends pid result }
         ensures count { length self.new.procs.items ≡ length self.old.procs.items }
         ensures processes { self.new.regions.processes ≡ self.old.regions.processes }
-        ensures made { self.new.store.made ≤ self.old.store.made + 1 }
+        ensures made { self.new.store.made ≤ self.old.store.made + made_by result }
         ensures avail { self.new.services.avail ≡ self.old.services.avail }
         ensures device { (S.blocks swap.new ≡ S.blocks swap.old)
             × (IsTrue (S.told swap.new) → IsTrue (S.told swap.old)) }

@@ -22,7 +22,7 @@ ghost use Rattle.o2_stepping.specs.Pieces.{RanHands};
 ghost use Rattle.o2_stepping.specs.Rooms.{all_names, room_in};
 ghost use Rattle.o2_stepping.specs.Taken.{IsSwapStop, OnErr, OnNoStep, OnSink, OnSwapStop, TakenFor};
 ghost use Rattle.o2_stepping.specs.Worlds.{bytes_with};
-ghost use Rattle.o2_space.specs.Acts.{Acts, AreMarkedBehind};
+ghost use Rattle.o2_space.specs.Acts.{Acts, AreMarkedBehind, made_by};
 ghost use Rattle.o2_space.specs.Calls.{Makes, SaysCall, no_registers};
 ghost use Rattle.o2_space.specs.Nexts.{SaysRoom};
 ghost use Rattle.o2_space.specs.Parts.{parts_in};
@@ -138,7 +138,7 @@ impl Space {
         ensures procs { self.new.procs ≡ self.old.procs }
         ensures ends { self.new.ends ≡ self.old.ends }
         ensures processes { self.new.regions.processes ≡ self.old.regions.processes }
-        ensures made { self.new.store.made ≤ self.old.store.made + 1 }
+        ensures made { self.new.store.made ≤ self.old.store.made + made_by result }
         ensures avail { self.new.services.avail ≡ self.old.services.avail }
         ensures device { (S.blocks swap.new ≡ S.blocks swap.old)
             × (IsTrue (S.told swap.new) → IsTrue (S.told swap.old)) }
@@ -215,7 +215,7 @@ impl Space {
         ensures marks { AreMarkedBehind self.old.ends self.new.ends pid result }
         ensures count { length self.new.procs.items ≡ length self.old.procs.items }
         ensures processes { self.new.regions.processes ≡ self.old.regions.processes }
-        ensures made { self.new.store.made ≤ self.old.store.made + 1 }
+        ensures made { self.new.store.made ≤ self.old.store.made + made_by result }
         ensures avail { self.new.services.avail ≡ self.old.services.avail }
         ensures device { (S.blocks swap.new ≡ S.blocks swap.old)
             × (IsTrue (S.told swap.new) → IsTrue (S.told swap.old)) }
