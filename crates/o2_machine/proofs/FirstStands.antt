@@ -26,7 +26,7 @@ use Rattle.o2_stands.specs.Parts.{Parts, Running, goes_on}
 use Rattle.o2_stands.specs.Stands.{IsReady, IsSetTo, Stands}
 use Rattle.o2_gate.specs.declared.state.State.{State as Services}
 use Rattle.o2_load.specs.Beginnings.{lines_from, program_name}
-use Rattle.o2_load.specs.Loads.{library_ranges}
+use Rattle.o2_load.specs.Loads.{library_ranges, starts_of}
 use Rattle.o2_load.specs.Progresses.{IsStartedAt}
 use Rattle.o2_load.proofs.Openings.{linked_opening_sound}
 use Rattle.o2_opening.specs.declared.opening.Opened.{Opened}
@@ -35,6 +35,9 @@ use Rattle.o2_space.specs.declared.space.Proc.{Proc}
 use Rattle.o2_space.specs.declared.space.Space.{Space}
 use Rattle.o2_space.specs.Parts.{parts_in, running_at, running_in}
 use Rattle.o2_machine.specs.declared.machine.Machine.{Machine}
+use Rattle.o2_machine.proofs.FirstNames.{started_few}
+use Rattle.o2_segs.specs.Answers.{AreAlone}
+use Rattle.o2_space.specs.Stands.{AreWhole}
 use Rattle.o2_machine.specs.Begins.{IsLinked, first_world, opening, opening_in, setting_of, starting}
 use Rattle.o2_machine.specs.GoesOver.{GoesOver}
 use Rattle.o2_machine.specs.StandsFor.{StandsFor}
@@ -85,7 +88,7 @@ module _ (o : Opened) (l : LinkedParts) (b : Built) (c : Conf) (blocks : ℕ) (m
     (first : (s : Setting) (input : List ℕ) (w : World) → IsSettingOf c s → opening_in s l c input ≡ Ok w → IsSound w → StandsFirst o l.images blocks s w)
     (sound : (input : List ℕ) (w : World) → opening l c input ≡ Ok w → IsSound w)
     (space : space_of o l.images procs services m.space) (each : procs ≡ map first_proc o.cpus.items) (avail : services.avail ≡ c.avail)
-    (sched : m.sched ≡ first_schedule c) (budget : m.budget ≡ c.budget) (console : m.console_bytes ≡ 0) (lines : m.lines ≡ length b.lines) where
+    (sched : m.sched ≡ first_schedule c) (budget : m.budget ≡ c.budget) (console : m.console_bytes ≡ 0) (lines : m.lines ≡ length b.lines) (within : IsWithinLimits c) where
   abbrev pub world : List ℕ → World
   world input = first_world l c input b
 
@@ -119,6 +122,7 @@ module _ (o : Opened) (l : LinkedParts) (b : Built) (c : Conf) (blocks : ℕ) (m
   first_stands device same block input = record {
     space = subst (λ (p : Parts). Stands p (world input)) (sym (parts_are device block))
         (stands_over o.store o.regions l.images runs blocks device block (world input) (enough device same) ((stood input).stands block));
+    sound = sound input (world input) (opens input);
     set = subst (λ (p : Parts). IsSetTo p (setting_of c)) (sym (parts_are device block))
         (set_over o.store o.regions l.images runs blocks device block block (setting_of c) same ((stood input).set block));
     flags = all_live o.cpus.items b.processes (λ i. lives_as (slice_get o.cpus.items i) _ (slice_get b.processes i) (opened.places i))
@@ -131,7 +135,7 @@ module _ (o : Opened) (l : LinkedParts) (b : Built) (c : Conf) (blocks : ℕ) (m
     lines = sym lines;
   }
 
-  pub first_goes_on : (device : ℕ) → min c.swap blocks ≤ device → GoesOver m.space m.sched.flags device
+  pub first_goes_on : (device : ℕ) → min c.swap blocks ≤ device → GoesOver m.space m.sched device
   first_goes_on device fits = record {
     together = record {
       ready = λ block.
@@ -142,7 +146,17 @@ module _ (o : Opened) (l : LinkedParts) (b : Built) (c : Conf) (blocks : ℕ) (m
           let d = ap (λ (x : Maps). x.processes) space.1.1.1.0 in
           omega (arith, a, count, processes, d));
       marked = λ n. marks n ∙ ap (λ (x : ℕ → Option Running). goes_on (x n)) (sym runs_are);
+      alone = subst AreAlone (sym space.1.1.1.0) (record { each = opened.alone });
+      whole = subst AreWhole (sym space.1.1.1.0) opened.tables;
     };
+    few =
+        (let names = started_few c.segments (starts_of l 1 c.process) b starts in
+        let next = opened.next in
+        let store = ap (λ (t : Shelf). t.made) space.1.1.0 in
+        let left = ap (λ (x : Schedule). x.dispatch.budget) sched in
+        let a = within.segments.1 in
+        let d = within.budget in
+        omega (arith, names, next, store, left, a, d));
     marked = λ n. marks n ∙ all_go_on o.cpus.items n ∙ ap (λ k. lives (replicate k true) n) count
         ∙ ap (λ (s : Schedule). lives s.flags n) (sym sched);
   } where

@@ -1,3 +1,5 @@
+pub mod Behinds
+pub mod FirstNames
 pub mod Turns
 pub mod Marks
 pub mod StartLines

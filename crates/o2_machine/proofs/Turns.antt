@@ -5,17 +5,19 @@ use Rattle.std.specs.List.{list_any}
 use Rattle.std.proofs.lemmas.Grind.{flat_map-append}
 use Rattle.o2_outer.specs.Texts.{Gains, GainsSome, IsPrefix, Continues}
 use Rattle.o2_outer.proofs.TextLemmas.{continues_by, continues_in_part, gains_some}
-use Rattle.o2_world.specs.World.{World, Setting, Process, is_live}
+use Rattle.o2_world.specs.World.{Line, World, Setting, Process, is_live}
 use Rattle.o2_conf.specs.Dispatch.{Dispatch, counted, lives}
 use Rattle.o2_world.specs.declared.types.State.TheVariants.{Live}
-use Rattle.o2_world.specs.Holders.{process_at, with_process}
+use Rattle.o2_world.specs.Holders.{process_at}
 use Rattle.o2_world.specs.Calls.{Effect}
 use Rattle.o2_world.specs.Effect.{effect, AsksInput}
 use Rattle.o2_world.specs.Text.{lines_text, line_text}
-use Rattle.o2_world.proofs.Quiet.{changed_plain, effect_quiet}
-use Rattle.o2_world.specs.Run.{process_after, before, step, plainly, is_over, IsReadNext, any_lives, live_flags, console, last_line, next_dispatch}
+use Rattle.o2_world.specs.Tied.{IsSound}
+use Rattle.o2_world.proofs.StepMoves.{effect_moves}
+use Rattle.o2_world.proofs.StepSound.{step_sound}
+use Rattle.o2_world.specs.Run.{before, changed, step, is_over, IsReadNext, any_lives, live_flags, console, last_line, next_dispatch, working}
 use Rattle.o2_world.proofs.Budget.{step_runs}
-use Rattle.o2_world.proofs.Flags.{live_process, lives_some, flags_after, flags_ended}
+use Rattle.o2_world.proofs.Flags.{live_process}
 use Rattle.o2_run.specs.Room.{Fits}
 use Rattle.o2_run.specs.Turn.{StepsOn, StepsInPart, IsStopped, IsClosed, IsClosedInPart, Turns, Caused, LineIs, OnRan}
 use Rattle.o2_run.specs.Pieces.{counts, Hands, HandsUpTo, FailedHands, puts_of, step_puts}
@@ -28,11 +30,13 @@ use Rattle.o2_sched.specs.Schedule.{Schedule, next_of, pick_of}
 use Rattle.o2_sched.specs.declared.sched.Pick.TheVariants.{Step, AllEnded, BudgetSpent}
 use Rattle.o2_stepping.specs.Ran.{TakesText}
 use Rattle.o2_stepping.specs.Taken.{OnSwapFault}
-use Rattle.o2_stands.specs.Stands.{IsSetTo, Stands}
+use Rattle.o2_stands.specs.Stands.{IsSetTo, IsTidy, Stands}
+use Rattle.o2_stands.proofs.Matching.{stood_by}
+use Rattle.o2_stands.proofs.TidySteps.{step_tidy}
 use Rattle.o2_space.specs.Acts.{ActsAll, ActsInPart, ActsFault, Stays}
 use Rattle.o2_space.specs.Nexts.{FaultSays}
 use Rattle.o2_space.specs.Parts.{parts_in}
-use Rattle.o2_space.specs.Stands.{StandsAfter}
+use Rattle.o2_space.specs.Stands.{MatchesAfter}
 use Rattle.o2_space.specs.declared.space.Space.{Space}
 use Rattle.o2_machine.specs.Steppeds.{stepped_sched}
 use Rattle.o2_stepping.specs.declared.one_step.Ran.{Ran}
@@ -43,6 +47,7 @@ use Rattle.o2_stepping.specs.Tallies.{IsTally}
 use Rattle.o2_machine.specs.StandsFor.{StandsFor}
 use Rattle.o2_stepping.specs.declared.tally.Tally.{Tally}
 use Rattle.o2_machine.specs.declared.machine.Machine.{Machine}
+use Rattle.o2_machine.proofs.Behinds.{console_behind, dispatch_behind, flags_behind, flags_ended_behind, input_behind, lines_behind}
 
 abbrev pub any_of : Schedule → Bool
 any_of s = list_any (λ (x : Bool). x) s.flags
@@ -101,37 +106,42 @@ module _ (m : Machine) (device : ℕ) (block : ℕ → List ℕ) (s : Setting) (
   runs : is_over w ≡ false
   runs = rw (any_is m w true stands.flags any, stands.dispatch, some) refl
 
-  step_is : step s w ≡ plainly w (next_of m.sched) p made
-  step_is = step_runs s w runs ∙ rw (next_is, at) (changed_plain w (next_of m.sched) p made (effect_quiet (before s w (next_of m.sched).current p)))
+  abbrev behind : World
+  behind = changed w (next_of m.sched) p made
+
+  step_is : step s w ≡ behind
+  step_is = step_runs s w runs ∙ rw (next_is, at) refl
 
   console_of : console (step s w) ≡ console w ++ made.piece
-  unfolding plainly
-  console_of = ap console step_is
+  console_of = ap console step_is ∙ console_behind w (next_of m.sched) p made
 
   input_of : (step s w).input ≡ made.input
-  unfolding plainly
-  input_of = ap (λ (v : World). v.input) step_is
+  input_of = ap (λ (v : World). v.input) step_is ∙ input_behind w (next_of m.sched) p made
 
   lines_of : lines_text (step s w).lines ≡ lines_text w.lines ++ lines_text made.lines
-  unfolding plainly
-  lines_of = ap (λ (v : World). lines_text v.lines) step_is ∙ flat_map-append line_text w.lines made.lines
+  lines_of =
+      ap (λ (v : World). lines_text v.lines) step_is
+      ∙ (ap (λ (l : List Line). lines_text l) (lines_behind w (next_of m.sched) p made) ∙ flat_map-append line_text w.lines made.lines)
 
   -- over what the device is behind the step
   stands_next : (n : Machine) (count : ℕ) (holds : ℕ → List ℕ) (left : Space) (tally : Tally)
-      → StandsAfter w (next_of m.sched).current p made (parts_in left count holds) → IsSetTo (parts_in left count holds) s
-      → n.sched.dispatch ≡ counted (next_of m.sched) → n.sched.quantum ≡ m.sched.quantum → live_flags (with_process w.processes (next_of m.sched).current (process_after p made)) ≡ n.sched.flags
+      → MatchesAfter w (next_of m.sched).current p made (parts_in left count holds) → IsSetTo (parts_in left count holds) s
+      → n.sched.dispatch ≡ counted (next_of m.sched) → n.sched.quantum ≡ m.sched.quantum → live_flags behind.processes ≡ n.sched.flags
       → IsTally made tally → HasCounted m n left tally → StandsFor n count holds s (step s w)
-  unfolding plainly
-  stands_next n count holds left tally space set dispatch quantum flags puts counts = rw step_is (record {
-    space = subst (λ (z : Space). StandsAfter w (next_of m.sched).current p made (parts_in z count holds)) (sym counts.space) space;
+  stands_next n count holds left tally matches set dispatch quantum flags puts counts = subst (λ (v : World). StandsFor n count holds s v) (sym step_is) (record {
+    space =
+        subst (λ (z : Space). Stands (parts_in z count holds) behind) (sym counts.space)
+        (stood_by (parts_in left count holds) behind.processes behind.names behind.next_name behind.reserved (matches (next_of m.sched) refl)
+        (subst (λ (v : World). IsTidy v.processes v.names v.reserved) step_is (step_tidy s w stands.sound stands.space.tidy)));
+    sound = subst (λ (v : World). IsSound v) step_is (step_sound s w stands.sound);
     set = subst (λ (z : Space). IsSetTo (parts_in z count holds) s) (sym counts.space) set;
     flags = flags;
-    dispatch = sym dispatch;
+    dispatch = dispatch_behind w (next_of m.sched) p made ∙ sym dispatch;
     quantum = stands.quantum ∙ sym quantum;
     known = record { avail = stands.known.avail ∙ sym (ap (λ (z : Space). z.services.avail) counts.space ∙ counts.avail) };
     budget = stands.budget ∙ sym counts.budget;
-    console = length-append w.console made.piece ∙ omega (arith, stands.console, puts.bytes, counts.bytes);
-    lines = length-append w.lines made.lines ∙ omega (arith, stands.lines, puts.lines, counts.lines);
+    console = ap (λ (l : List ℕ). length l) (console_behind w (next_of m.sched) p made) ∙ length-append w.console made.piece ∙ omega (arith, stands.console, puts.bytes, counts.bytes);
+    lines = ap (λ (l : List Line). length l) (lines_behind w (next_of m.sched) p made) ∙ length-append w.lines made.lines ∙ omega (arith, stands.lines, puts.lines, counts.lines);
   })
 
   pub steps_in_part : (f : World → Type 0) (j : Option (List ℕ)) → Fits true s w → (j ≡ Some w.input) ⊎ (j ≡ Some made.input) → f w ⊎ f (step s w) → GainsSome c d (λ front. IsPrefix front made.piece) → GainsSome r q (λ front. IsPrefix front (lines_text made.lines))
@@ -165,8 +175,9 @@ module _ (m : Machine) (device : ℕ) (block : ℕ → List ℕ) (s : Setting) (
   bytes_of = ap length console_of ∙ length-append w.console made.piece
 
   lines_length : length (step s w).lines ≡ length w.lines + length made.lines
-  unfolding plainly
-  lines_length = ap (λ (v : World). length v.lines) step_is ∙ length-append w.lines made.lines
+  lines_length =
+      ap (λ (v : World). length v.lines) step_is
+      ∙ (ap (λ (l : List Line). length l) (lines_behind w (next_of m.sched) p made) ∙ length-append w.lines made.lines)
 
   put_is : (bytes : ℕ) → length made.piece ≡ bytes → bytes ≡ length (step s w).console - length w.console
   put_is bytes is = omega (arith, is, bytes_of)
@@ -179,12 +190,12 @@ module _ (m : Machine) (device : ℕ) (block : ℕ → List ℕ) (s : Setting) (
       to_report = omega (arith, h.to_report, lines_is, lines_length);
     }
 
-    pub late_hands : (bytes lines : ℕ) → length made.piece ≡ bytes → length made.lines ≡ lines → Hands (counts a b x y 0) (puts_of bytes) lines → FailedHands s w (counts a b x y (length w.lines))
+    pub late_hands : (bytes lines : ℕ) → length made.piece ≡ bytes → length made.lines ≡ lines → HandsUpTo (counts a b x y 0) (puts_of bytes) 0 lines → FailedHands s w (counts a b x y (length w.lines))
     late_hands bytes lines piece_is lines_is h = record {
       in_step = λ on. record {
         to_console = h.to_console ∙ ap (λ (n : ℕ). a + puts_of n) (put_is bytes piece_is);
-        at_least = omega (arith, h.to_report);
-        at_most = omega (arith, h.to_report, lines_is, lines_length);
+        at_least = omega (arith, h.at_least);
+        at_most = omega (arith, h.at_most, lines_is, lines_length);
       };
       at_end = λ over. let never : true ≡ false = sym over ∙ runs in absurd (cc);
     }
@@ -204,6 +215,7 @@ pub same_space : (n m : Machine) (device count : ℕ) (block holds : ℕ → Lis
     → Stands (parts_in n.space count holds) w → IsSetTo (parts_in n.space count holds) s → StandsFor n count holds s w
 same_space n m device count block holds s w stands same space set = record {
   space = space;
+  sound = stands.sound;
   set = set;
   flags = stands.flags ∙ ap (λ (z : Schedule). z.flags) (sym same.sched);
   dispatch = stands.dispatch ∙ ap (λ (z : Schedule). z.dispatch) (sym same.sched);
@@ -245,29 +257,38 @@ module _ (m : Machine) (device : ℕ) (block : ℕ → List ℕ) (s : Setting) (
     stands_now = StandsFor n count holds s
 
     pub faulted : (i j : Option (List ℕ)) → IsSame m n → i ≡ Some w.input → IsSetTo (parts_in n.space count holds) s
-        → ((p : Process) → process_at w.processes number ≡ Some p → ActsInPart w (effect (before s w number p)) p.cpu (parts_in n.space count holds) i j c d r q)
+        → ((next_dispatch s w).current ≡ number → (p : Process) → process_at w.processes number ≡ Some p → ActsInPart w (effect (before s w number p)) p.cpu (parts_in n.space count holds) i j c d r q)
         → ((next_dispatch s w).current ≡ number → (p : Process) → process_at w.processes number ≡ Some p → Fits true s w)
         → StepsInPart stands_now true s w j c d r q
     faulted i j same left set did room =
-        let all = at_k (λ z p. ActsInPart w (effect (before s w z p)) p.cpu (parts_in n.space count holds) i j c d r q) did in
+        let all = at_k (λ z p. ActsInPart w (effect (before s w z p)) p.cpu (parts_in n.space count holds) i j c d r q) (did current_is) in
         steps_in_part m device block s w here c d r q stands is.any is.some here_is stands_now j (at_k (λ z p. Fits true s w) (room current_is))
         (elim all.input [ inl same_left ↦ inl (same_left ∙ left) | inr took ↦ inr took ])
         (inl (same_space n m device count block holds s w stands same all.stands set)) all.to_console all.to_report all.in_order
 
     module _ (i : Option (List ℕ)) (left : Space) (ran : Ran) (counts : HasCounted m n left ran.tally) (set : IsSetTo (parts_in left count holds) s)
-        (did : (p : Process) → process_at w.processes number ≡ Some p → ActsAll w number p (effect (before s w number p)) ran (parts_in left count holds) i c d r q)
+        (did : (next_dispatch s w).current ≡ number → (p : Process) → process_at w.processes number ≡ Some p → ActsAll w number p (effect (before s w number p)) ran (parts_in left count holds) i c d r q)
         (room : (next_dispatch s w).current ≡ number → (p : Process) → process_at w.processes number ≡ Some p → Fits true s w)
         (sched : n.sched ≡ stepped_sched m.sched number (is_live ran.state)) where
       abbrev e : Effect
       e = effect (before s w k here)
 
       all : ActsAll w k here e ran (parts_in left count holds) i c d r q
-      all = at_k (λ z p. ActsAll w z p (effect (before s w z p)) ran (parts_in left count holds) i c d r q) did
+      all = at_k (λ z p. ActsAll w z p (effect (before s w z p)) ran (parts_in left count holds) i c d r q) (did current_is)
 
-      flags_next : (goes_on : Bool) → is_live e.state ≡ goes_on → live_flags (with_process w.processes k (process_after here e)) ≡ (stepped_sched m.sched number goes_on).flags
-      flags_next true goes = flags_after w.processes m.sched.flags k here e stands.flags (ap (lives m.sched.flags) is.number ∙ live) goes
+      -- it lives as long as the step lasts
+      lasts : is_live (working here e).state ≡ true
+      lasts = go (is_live e.state) refl
+        where
+          go : (b : Bool) → is_live e.state ≡ b → is_live (if b then e.state else here.state) ≡ true
+          go true f = f
+          go false f = ap is_live found_at.2
+
+      flags_next : (goes_on : Bool) → is_live e.state ≡ goes_on → live_flags (changed w (next_of m.sched) here e).processes ≡ (stepped_sched m.sched number goes_on).flags
+      flags_next true goes =
+          flags_behind w (next_of m.sched) here e m.sched.flags stands.flags (ap (lives m.sched.flags) is.number ∙ live) lasts (before s w k here) (effect_moves (before s w k here)) goes
       flags_next false ends =
-          flags_ended w.processes m.sched.flags k here e (lives_some m.sched.flags k (ap (lives m.sched.flags) is.number ∙ live)) stands.flags ends
+          flags_ended_behind w (next_of m.sched) here e m.sched.flags stands.flags (ap (lives m.sched.flags) is.number ∙ live) lasts (before s w k here) (effect_moves (before s w k here)) ends
           ∙ ap (λ (z : ℕ). slice_set m.sched.flags (z - 1) false) is.number
 
       fits : Fits true s w
@@ -275,7 +296,7 @@ module _ (m : Machine) (device : ℕ) (block : ℕ → List ℕ) (s : Setting) (
 
       -- the machine stands for the world after the step
       now : stands_now (step s w)
-      now = stands_next m device block s w here c d r q stands is.any is.some here_is n count holds left ran.tally all.stands set
+      now = stands_next m device block s w here c d r q stands is.any is.some here_is n count holds left ran.tally all.matches set
           (ap (λ (z : Schedule). z.dispatch) sched) (ap (λ (z : Schedule). z.quantum) sched)
           (flags_next (is_live ran.state) (ap is_live all.state) ∙ sym (ap (λ (z : Schedule). z.flags) sched)) all.puts counts
 
@@ -313,21 +334,21 @@ module _ (m : Machine) (device : ℕ) (block : ℕ → List ℕ) (s : Setting) (
 
     -- whatever stop a step answers
     pub stopped_by : (why : Stop) (put : Bool) (i j s_of : Option (List ℕ)) → IsSame m n → i ≡ Some w.input → IsSetTo (parts_in n.space count holds) s
-        → ((p : Process) → process_at w.processes number ≡ Some p → ActsFault (before s w number p) w (parts_in n.space count holds) i j c d r s_of (Stopped why))
+        → ((next_dispatch s w).current ≡ number → (p : Process) → process_at w.processes number ≡ Some p → ActsFault (before s w number p) w (parts_in n.space count holds) i j c d r s_of (Stopped why))
         → ((next_dispatch s w).current ≡ number → (p : Process) → process_at w.processes number ≡ Some p → FaultSays device s w (Stopped why))
         → GainsSome s_of q (λ front. IsPrefix front (stop_line why)) → (put ≡ true → Gains s_of q (stop_line why)) → Turns stands_now true device s w put j c d r q (turn_of why)
     stopped_by Input put i j s_of same left set did says front whole =
-        let all = at_k (λ z p. ActsFault (before s w z p) w (parts_in n.space count holds) i j c d r s_of (Stopped Input)) did in
+        let all = at_k (λ z p. ActsFault (before s w z p) w (parts_in n.space count holds) i j c d r s_of (Stopped Input)) (did current_is) in
         halts Input put i j s_of (reads all.cause) same left set all.still front whole
     stopped_by NoRoom put i j s_of same left set did says front whole =
         halts NoRoom put i j s_of (at_k (λ z p. FaultSays device s w (Stopped NoRoom)) (says current_is)) same left set
-        (at_k (λ z p. ActsFault (before s w z p) w (parts_in n.space count holds) i j c d r s_of (Stopped NoRoom)) did) front whole
+        (at_k (λ z p. ActsFault (before s w z p) w (parts_in n.space count holds) i j c d r s_of (Stopped NoRoom)) (did current_is)) front whole
     stopped_by SwapFull put i j s_of same left set did says front whole =
         halts SwapFull put i j s_of (at_k (λ z p. FaultSays device s w (Stopped SwapFull)) (says current_is)) same left set
-        (at_k (λ z p. ActsFault (before s w z p) w (parts_in n.space count holds) i j c d r s_of (Stopped SwapFull)) did) front whole
+        (at_k (λ z p. ActsFault (before s w z p) w (parts_in n.space count holds) i j c d r s_of (Stopped SwapFull)) (did current_is)) front whole
     stopped_by SwapFault put i j s_of same left set did says front whole =
         halts SwapFault put i j s_of tt same left set
-        (at_k (λ z p. ActsFault (before s w z p) w (parts_in n.space count holds) i j c d r s_of (Stopped SwapFault)) did) front whole
+        (at_k (λ z p. ActsFault (before s w z p) w (parts_in n.space count holds) i j c d r s_of (Stopped SwapFault)) (did current_is)) front whole
 
   -- The puts of a step that is done, whole or not, and of one in which a sink failed.
   module _ (a b x y : ℕ) where
@@ -337,15 +358,15 @@ module _ (m : Machine) (device : ℕ) (block : ℕ → List ℕ) (s : Setting) (
         part_hands m device block s w here c d r q stands is.any is.some here_is a b x y
         (at_k (λ z p. let e : Effect = effect (before s w z p) in HandsUpTo (counts a b x y 0) (puts_of (length e.piece)) 0 (length e.lines)) did)
 
-    module _ (tally : Tally) (did : (p : Process) → process_at w.processes number ≡ Some p → IsTally (effect (before s w number p)) tally) (hands : Hands (counts a b x y 0) (puts_of tally.bytes) tally.lines) where
+    module _ (tally : Tally) (did : (next_dispatch s w).current ≡ number → (p : Process) → process_at w.processes number ≡ Some p → IsTally (effect (before s w number p)) tally) where
       so : IsTally (effect (before s w k here)) tally
-      so = at_k (λ z p. IsTally (effect (before s w z p)) tally) did
+      so = at_k (λ z p. IsTally (effect (before s w z p)) tally) (did current_is)
 
-      pub went_puts : Hands (counts a b x y (length w.lines)) (step_puts w (step s w)) (length (step s w).lines)
-      went_puts = step_hands m device block s w here c d r q stands is.any is.some here_is a b x y tally.bytes tally.lines so.bytes so.lines hands
+      pub went_puts : Hands (counts a b x y 0) (puts_of tally.bytes) tally.lines → Hands (counts a b x y (length w.lines)) (step_puts w (step s w)) (length (step s w).lines)
+      went_puts hands = step_hands m device block s w here c d r q stands is.any is.some here_is a b x y tally.bytes tally.lines so.bytes so.lines hands
 
-      pub late_puts : FailedHands s w (counts a b x y (length w.lines))
-      late_puts = late_hands m device block s w here c d r q stands is.any is.some here_is a b x y tally.bytes tally.lines so.bytes so.lines hands
+      pub late_puts : HandsUpTo (counts a b x y 0) (puts_of tally.bytes) 0 tally.lines → FailedHands s w (counts a b x y (length w.lines))
+      late_puts hands = late_hands m device block s w here c d r q stands is.any is.some here_is a b x y tally.bytes tally.lines so.bytes so.lines hands
 
 -- what caused a step to stop
 pub caused_stop : (sink other input device full : Type 0) (f : Fault) (why : Stop) → f ≡ Stopped why → CauseOf sink input (Unit {0}) (Unit {0}) f → OnSwapFault (Unit {0}) full device f → Caused other input device (turn_of why)

@@ -42,7 +42,7 @@ pub record HasBegun (m : Machine) (l : LinkedParts) (c : Conf) (blocks : ℕ) (r
   pub starts : starting l c ≡ Ok built
   pub stands : (device : ℕ) → min c.swap device ≡ min c.swap blocks → (block : ℕ → List ℕ) (input : List ℕ)
       → StandsFor m device block (setting_of c) (first_world l c input built)
-  pub goes_on : (device : ℕ) → min c.swap blocks ≤ device → GoesOver m.space m.sched.flags device
+  pub goes_on : (device : ℕ) → min c.swap blocks ≤ device → GoesOver m.space m.sched device
   pub fresh : m.last ≡ None
   pub to_report : Gains report_old report_new (lines_text built.lines)
 

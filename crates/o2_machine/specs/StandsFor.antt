@@ -4,6 +4,7 @@ use Rattle.o2_gate.specs.Befores.{IsKnown}
 use Rattle.o2_stands.specs.Stands.{IsSetTo, Stands}
 use Rattle.o2_space.specs.Parts.{parts_in}
 use Rattle.o2_world.specs.Known.{known_of}
+use Rattle.o2_world.specs.Tied.{IsSound}
 use Rattle.o2_world.specs.World.{World, Setting}
 use Rattle.o2_world.specs.Run.{live_flags}
 use Rattle.o2_machine.specs.declared.machine.Machine.{Machine}
@@ -12,6 +13,8 @@ use Rattle.o2_machine.specs.declared.machine.Machine.{Machine}
 pub record StandsFor (m : Machine) (device : ℕ) (block : ℕ → List ℕ) (s : Setting) (w : World) : Type 0 where
   -- store, what each process holds, its registers and its state, and as much memory, names and blocks as the setting says
   pub space : Stands (parts_in m.space device block) w
+  -- what holds of every world of a run
+  pub sound : IsSound w
   pub set : IsSetTo (parts_in m.space device block) s
   pub flags : live_flags w.processes ≡ m.sched.flags
   pub dispatch : w.dispatch ≡ m.sched.dispatch

@@ -183,6 +183,7 @@ fn finish<R: Sink>(
     blocks: u32,
     report: &mut R,
 ) -> Result<Machine, BeginFault>
+    requires within { IsWithinLimits conf.now }
     requires count { length opened.cpus.items ≡ length conf.now.process }
     requires rows { length opened.starts.items ≡ length opened.cpus.items }
     requires few { length conf.now.process ≤ 64 }

@@ -14,11 +14,11 @@ impl Machine {
     pub(crate) fn steps_at_once(&mut self, most: u32) -> u32
         requires most { most ≡ ahead_of self.old.sched }
         requires some { 0 < most }
-        requires device { OverSome (GoesOver self.old.space self.old.sched.flags) }
+        requires device { OverSome (GoesOver self.old.space self.old.sched) }
         ensures steps { (device : ℕ) (block : ℕ → List ℕ) (s : Setting) (w : World)
             → StandsFor self.old device block s w → Slices (StandsFor self.new device block s) true s w result }
-        ensures device { (blocks : ℕ) → GoesOver self.old.space self.old.sched.flags blocks
-            → GoesOver self.new.space self.new.sched.flags blocks }
+        ensures device { (blocks : ℕ) → GoesOver self.old.space self.old.sched blocks
+            → GoesOver self.new.space self.new.sched blocks }
         ensures left { self.new.sched.dispatch.budget + result ≡ self.old.sched.dispatch.budget }
         ensures last { self.new.last ≡ self.old.last }
     {

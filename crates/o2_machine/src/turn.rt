@@ -53,7 +53,7 @@ impl Machine {
     ) -> Option<Last>
         requires pick { pick_of self.old.sched ≡ Pick.Step pid }
         requires live { lives self.old.sched.flags pid ≡ true }
-        requires device { GoesOver self.old.space self.old.sched.flags (S.blocks swap.old) }
+        requires device { GoesOver self.old.space self.old.sched (S.blocks swap.old) }
         ensures turns { IsTrue (S.told swap.new) → (text : Option (List ℕ)) → IsSeenAs text (I.past input.new) → (s : Setting) (w : World)
             → StandsFor self.old (S.blocks swap.old) (S.block swap.old) s w
             → left_as text (I.left input.old) (I.past input.old) ≡ Some w.input
@@ -63,7 +63,7 @@ impl Machine {
             (C.taken console.old) (C.taken console.new) (R.taken report.old) (R.taken report.new) (answer_of result) }
         ensures goes_on { GoesOn (I.past input.old) (I.past input.new) }
         ensures last { self.new.last ≡ self.old.last }
-        ensures device { GoesOver self.new.space self.new.sched.flags (S.blocks swap.new) }
+        ensures device { GoesOver self.new.space self.new.sched (S.blocks swap.new) }
         ensures frame { (S.blocks swap.new ≡ S.blocks swap.old) × (IsTrue (S.told swap.new) → IsTrue (S.told swap.old)) }
         ensures input_count { I.faults input.old ≤ I.faults input.new }
         ensures console_count { C.faults console.old ≤ C.faults console.new }
@@ -105,7 +105,7 @@ impl Machine {
         report: &mut R,
         swap: &mut S,
     ) -> Option<Last>
-        requires device { GoesOver self.old.space self.old.sched.flags (S.blocks swap.old) }
+        requires device { GoesOver self.old.space self.old.sched (S.blocks swap.old) }
         ensures turns { IsTrue (S.told swap.new) → (text : Option (List ℕ)) → IsSeenAs text (I.past input.new) → (s : Setting) (w : World)
             → StandsFor self.old (S.blocks swap.old) (S.block swap.old) s w
             → left_as text (I.left input.old) (I.past input.old) ≡ Some w.input
@@ -115,7 +115,7 @@ impl Machine {
             (C.taken console.old) (C.taken console.new) (R.taken report.old) (R.taken report.new) (answer_of result) }
         ensures goes_on { GoesOn (I.past input.old) (I.past input.new) }
         ensures last { self.new.last ≡ self.old.last }
-        ensures device { GoesOver self.new.space self.new.sched.flags (S.blocks swap.new) }
+        ensures device { GoesOver self.new.space self.new.sched (S.blocks swap.new) }
         ensures frame { (S.blocks swap.new ≡ S.blocks swap.old) × (IsTrue (S.told swap.new) → IsTrue (S.told swap.old)) }
         ensures input_count { I.faults input.old ≤ I.faults input.new }
         ensures console_count { C.faults console.old ≤ C.faults console.new }
@@ -155,7 +155,7 @@ impl Steps for Machine {
 
     ghost stands = { λ m blocks block s w. StandsFor m blocks block s w };
 
-    ghost fits = { λ m blocks. GoesOver m.space m.sched.flags blocks };
+    ghost fits = { λ m blocks. GoesOver m.space m.sched blocks };
 
     ghost swaps = { machine_swaps };
 

@@ -23,7 +23,7 @@ use Rattle.o2_world.specs.Run.{after, any_lives, before, is_over, live_flags, ne
 use Rattle.o2_world.specs.Views.{with_bytes}
 use Rattle.o2_world.proofs.Budget.{budget_after, not_over, step_runs}
 use Rattle.o2_world.proofs.Flags.{flags_after}
-use Rattle.o2_world.proofs.Quiet.{changed_plain, effect_quiet}
+use Rattle.o2_world.proofs.Quiet.{changed_plain}
 use Rattle.o2_run.specs.Room.{Fits}
 use Rattle.o2_run.specs.Slice.{AreSilent, IsSilent}
 use Rattle.o2_stands.specs.Parts.{Parts, Running, running_of}
@@ -36,13 +36,14 @@ use Rattle.o2_stepping.specs.Shapes.{SameShape}
 use Rattle.o2_slices.specs.Slices.{AreSliced, AreSteps, IsStep, IsTry, Seat, quiet}
 use Rattle.o2_stepping.specs.Worlds.{away_of, before_in, bytes_with}
 use Rattle.o2_stepping.specs.declared.one_step.Attempt.TheVariants as attempt
+use Rattle.o2_stepping.specs.declared.one_step.Stepped.TheVariants as stepped
 use Rattle.o2_stepping.proofs.Keeping.{ready_same, try_shape}
 use Rattle.o2_stepping.proofs.NextRooms.{fits}
 use Rattle.o2_stepping.proofs.Rooms.{room_fits, room_same}
 use Rattle.o2_stepping.proofs.Trials.{away_same, together}
 use Rattle.o2_stepping.proofs.Worlds.{away_kept, seen_present, with_kept}
 use Rattle.o2_slices.specs.Laters.{StandsLater, counted_by}
-use Rattle.o2_space.specs.Stands.{StandsAfter}
+use Rattle.o2_space.specs.Stands.{StandsCommitted}
 use Rattle.o2_space.proofs.Alike.{made, ready_as, set_as}
 use Rattle.o2_space.proofs.Behind.{set_behind, stands_unwritten, stands_written}
 use Rattle.o2_space.proofs.Sights.{before_is, bytes_are}
@@ -206,13 +207,13 @@ module _ (pid : ℕ) (images : ImageList) (device : ℕ) (block : ℕ → List �
         let ps = with_process w.processes d.current (if z then worked else ended) in
         StandsIn (parts_at b) ps (if z then with_bytes w.names e.bytes else kept ps (with_bytes w.names e.bytes)) w.next_name (if z then w.reserved else used ps w.reserved)
 
-    behind : StandsAfter w d.current x e (parts_at b)
+    behind : StandsCommitted w.processes (with_bytes w.names e.bytes) w.next_name w.reserved d.current x (record { cpu = e.cpu; state = e.state }) (parts_at b)
     behind =
         subst StandsBy (sym lives_on)
         (subst (λ (n : ℕ). StandsIn (parts_at b) (with_process w.processes n worked) (with_bytes w.names e.bytes) w.next_name w.reserved) (sym chosen) moved)
 
     step_is : step s w ≡ plainly w d x e
-    step_is = step_runs s w runs ∙ (ap (acted s w d) at_current ∙ changed_plain w d x e (effect_quiet (before s w d.current x)))
+    step_is = step_runs s w runs ∙ (ap (acted s w d) at_current ∙ changed_plain w d x e done.changes)
 
     stands_then : Stands (parts_at b) (step s w)
     unfolding plainly
@@ -230,7 +231,7 @@ module _ (pid : ℕ) (images : ImageList) (device : ℕ) (block : ℕ → List �
     all_here : (n : ℕ) → is_in n names ≡ true → present_in b.shelf n ≡ true
     all_here =
         seen_present b.shelf b.maps pid b.cpu names
-        (together away away away a.shelf a.shelf b.shelf a.maps a.maps pid a.cpu w.input (known_of s w) refl b.maps b.cpu (Ok (attempt.Ran quiet)) move.follows.store move.before move.follows.next
+        (together away away away a.shelf a.shelf b.shelf a.maps a.maps pid a.cpu w.input (known_of s w) refl b.maps b.cpu (Ok (attempt.Stepped (stepped.Ran quiet))) move.follows.store move.before move.follows.next
         (λ never. move.present away w.input (known_of s w)))
 
     fits_there : room_in a.shelf names ≤ a.shelf.places.size
@@ -242,7 +243,7 @@ module _ (pid : ℕ) (images : ImageList) (device : ℕ) (block : ℕ → List �
 
     room : Fits true s w
     room =
-        fits (parts_at a) s w x (record { lawful = here.lawful; set = here.set; stands = here.stands; chosen = at_current }) b.maps b.cpu shape.holds done.cpu
+        fits (parts_at a) s w x (record { lawful = here.lawful; set = here.set; stands = here.stands; chosen = at_current }) b.maps b.cpu shape.holds done.cpu done.changes
         (subst (λ (l : List ℕ). room_in a.shelf l ≤ a.shelf.places.size) names_are fits_there)
 
     lives_here : lives (live_flags w.processes) d.current ≡ true

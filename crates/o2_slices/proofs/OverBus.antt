@@ -55,6 +55,7 @@ done_quietly f v w c d number bytes known x r clear done =
       state = refl;
       ends = λ late. absurd (cc);
       puts = record { bytes = refl; lines = refl };
+      changes = refl;
       cpu = refl;
       bytes = λ n. refl;
       input = refl;

@@ -37,6 +37,7 @@ pub fn slice_of(space: &mut Space, pid: u16, most: u32) -> u32
     ensures ends { space.new.ends ≡ space.old.ends }
     ensures count { length space.new.procs.items ≡ length space.old.procs.items }
     ensures avail { space.new.services.avail ≡ space.old.services.avail }
+    ensures made { space.new.store.made ≡ space.old.store.made }
 {
     lawful(&space.store, &space.regions);
     let mut cpu = space.procs[pid as usize - 1].cpu;

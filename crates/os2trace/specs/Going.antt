@@ -5,4 +5,4 @@ use Rattle.o2_outer.specs.declared.sure.SureSwap.{SureSwap}
 use Rattle.o2_outer.specs.Devices.{swap_blocks}
 
 abbrev pub IsGoing : Machine → SureSwap → Type 0
-IsGoing m swap = GoesOver m.space m.sched.flags (swap_blocks swap)
+IsGoing m swap = GoesOver m.space m.sched (swap_blocks swap)

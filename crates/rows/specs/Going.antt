@@ -5,4 +5,4 @@ use Rattle.o2_machine.specs.GoesOver.{GoesOver}
 use Rattle.o2_machine.specs.declared.machine.Machine.{Machine}
 
 abbrev pub IsGoing : Machine → SureSwap → Type 0
-IsGoing m swap = GoesOver m.space m.sched.flags (swap_blocks swap)
+IsGoing m swap = GoesOver m.space m.sched (swap_blocks swap)

@@ -6,6 +6,7 @@ use Rattle.o2_slices.specs.Slices.{Seat, seat}
 use Rattle.o2_space.specs.declared.space.Proc.{Proc}
 use Rattle.o2_slices.specs.Laters.{StandsLater}
 use Rattle.o2_space.specs.Parts.{parts_in, running_at}
+use Rattle.o2_space.proofs.Alone.{alone_held, whole_same}
 use Rattle.o2_space.proofs.Alike.{made, ready_as, set_as}
 use Rattle.o2_space.proofs.Behind.{set_behind}
 use Rattle.o2_space.proofs.Commits.{count_put, marked_put, now}
@@ -57,6 +58,8 @@ returns-clause-together c = λ device together.
           (keeps.ready m.images device block (running_at m.procs.items) (together.ready block));
       numbers = (let a = together.numbers in let b = count_put m.procs.items pid x c.requires.some c.requires.there in let d = keeps.shape.holds.processes in omega (arith, a, b, d));
       marked = marked_put m.procs.items pid x c.requires.some c.requires.there m.ends together.marked c.requires.live;
+      alone = alone_held m.regions new.regions keeps.shape.holds.held together.alone;
+      whole = whole_same m.regions new.regions keeps.shape.holds.processes keeps.shape.holds.lengths together.whole;
     }
 
 pub returns-clause-set : goal.returns-clause-set
@@ -69,3 +72,10 @@ returns-clause-set c = λ device block s set.
     let keeps = sliced_keeps pid c.slice_in_store-done.result (seat m.store m.regions y.cpu) (seat new.store new.regions new.cpu) c.slice_in_store-done.ensures.sliced in
     set_as new.store new.regions m.images device block block (running_at m.procs.items) (running_at (now m.procs.items pid x c.requires.some c.requires.there)) s
     (set_behind (parts_in m device block) new.store new.regions device block keeps.shape s refl set)
+
+pub returns-clause-made : goal.returns-clause-made
+returns-clause-made c =
+    let m = c.args.space.now in
+    let y : Proc = c.index.result.now in
+    let new = c.slice_in_store-done.new in
+    (sliced_keeps c.args.pid c.slice_in_store-done.result (seat m.store m.regions y.cpu) (seat new.store new.regions new.cpu) c.slice_in_store-done.ensures.sliced).shape.tables.made

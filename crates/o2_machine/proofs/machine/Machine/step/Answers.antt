@@ -1,4 +1,4 @@
-use Rattle.std.proofs.Common.{refl, inl, subst, sym, ◌∙◌, ap}
+use Rattle.std.proofs.Common.{refl, inl, subst, sym, ◌∙◌, ap, arith}
 use Rattle.o2_outer.specs.Inputs.{left_as}
 use Rattle.o2_conf.specs.Dispatch.{lives}
 use Rattle.o2_regions.specs.Lives.{lives as is_marked}
@@ -8,8 +8,8 @@ use Rattle.o2_world.specs.World.{is_live}
 use Rattle.o2_run.specs.declared.fault.Fault.{Fault}
 use Rattle.o2_run.proofs.Reached.{rose_since}
 use Rattle.std.specs.Prelude.{length, None, Err, Bool, IsTrue}
-use Rattle.o2_run.specs.Pieces.{counts, PartHands}
-use Rattle.o2_stepping.specs.Pieces.{RanHands}
+use Rattle.o2_run.specs.Pieces.{counts, PartHands, puts_of}
+use Rattle.o2_stepping.specs.Pieces.{HandsWhole, RanHands}
 use Rattle.o2_stepping.specs.declared.one_step.Ran.{Ran}
 use Rattle.o2_sched.specs.Schedule.{Schedule}
 use Rattle.o2_space.specs.Acts.{ActsFault}
@@ -28,6 +28,9 @@ act-requires-clause-some g c = some_number c.args.self.now.sched.flags c.args.pi
 pub act-requires-clause-live : goal.act-requires-clause-live
 act-requires-clause-live g c = c.requires.device.marked c.args.pid ∙ c.requires.live
 
+pub act-requires-clause-made : goal.act-requires-clause-made
+act-requires-clause-made g c = (let f = c.requires.device.few in omega (arith, f))
+
 pub act-requires-clause-together : goal.act-requires-clause-together
 act-requires-clause-together g c = c.requires.device.together
 
@@ -37,12 +40,12 @@ returns-in-Err-Sink-clause-turns g c = λ tells text may s w stands left.
     let new = c.act.new in
     inl (faulted c.args.self.now _ _ s w c.args.pid _ _ _ _ stands c.requires.pick c.requires.live _ (S.blocks new.swap) (S.block new.swap) _ _
     (record { sched = refl; avail = c.act.ensures.avail; budget = refl; bytes = refl; lines = refl }) left (c.act.ensures.set s stands.set)
-    (λ p at. subst (λ (f : Fault). ActsFault (before s w c.args.pid p) w (parts_in new.self (S.blocks new.swap) (S.block new.swap))
+    (λ chosen p at. subst (λ (f : Fault). ActsFault (before s w c.args.pid p) w (parts_in new.self (S.blocks new.swap) (S.block new.swap))
     (left_as text (g.I.Source.left c.args.input.now) (g.I.Source.past c.args.input.now)) (left_as text (g.I.Source.left new.input) (g.I.Source.past new.input))
     (g.C.Sink.taken c.args.console.now) (g.C.Sink.taken new.console) (g.R.Sink.taken c.args.report.now) (g.R.Sink.taken new.report) f) c.in-Err-Sink.field-0-is
-    (c.in-Err-Sink.ensures.acts text may s w p tells stands.space at left stands.known))
+    (c.in-Err-Sink.ensures.acts text may s w p tells stands.space stands.set stands.sound chosen at left stands.known))
     (λ chosen p at. subst (λ (f : Fault). FaultSays (S.blocks c.args.swap.now) s w f) c.in-Err-Sink.field-0-is
-    (c.in-Err-Sink.ensures.next_room text may s w p tells stands.space stands.set chosen at left stands.known)))
+    (c.in-Err-Sink.ensures.next_room text may s w p tells stands.space stands.set stands.sound chosen at left stands.known)))
 
 pub returns-in-Err-Stopped-clause-turns : goal.returns-in-Err-Stopped-clause-turns
 returns-in-Err-Stopped-clause-turns g c = λ tells text may s w stands left.
@@ -51,12 +54,12 @@ returns-in-Err-Stopped-clause-turns g c = λ tells text may s w stands left.
     stopped_by c.args.self.now _ _ s w c.args.pid _ _ _ _ stands c.requires.pick c.requires.live _ (S.blocks new.swap) (S.block new.swap)
     c.in-Err-Stopped.why c.put_stop.result _ _ _
     (record { sched = refl; avail = c.act.ensures.avail; budget = refl; bytes = refl; lines = refl }) left (c.act.ensures.set s stands.set)
-    (λ p at. subst (λ (f : Fault). ActsFault (before s w c.args.pid p) w (parts_in new.self (S.blocks new.swap) (S.block new.swap))
+    (λ chosen p at. subst (λ (f : Fault). ActsFault (before s w c.args.pid p) w (parts_in new.self (S.blocks new.swap) (S.block new.swap))
     (left_as text (g.I.Source.left c.args.input.now) (g.I.Source.past c.args.input.now)) (left_as text (g.I.Source.left new.input) (g.I.Source.past new.input))
     (g.C.Sink.taken c.args.console.now) (g.C.Sink.taken new.console) (g.R.Sink.taken c.args.report.now) (g.R.Sink.taken new.report) f) c.in-Err-Stopped.field-0-is
-    (c.in-Err-Stopped.ensures.acts text may s w p tells stands.space at left stands.known))
+    (c.in-Err-Stopped.ensures.acts text may s w p tells stands.space stands.set stands.sound chosen at left stands.known))
     (λ chosen p at. subst (λ (f : Fault). FaultSays (S.blocks c.args.swap.now) s w f) c.in-Err-Stopped.field-0-is
-    (c.in-Err-Stopped.ensures.next_room text may s w p tells stands.space stands.set chosen at left stands.known))
+    (c.in-Err-Stopped.ensures.next_room text may s w p tells stands.space stands.set stands.sound chosen at left stands.known))
     c.put_stop.ensures.text c.put_stop.ensures.whole
 
 pub returns-then-ran-clause-turns : goal.returns-then-ran-clause-turns
@@ -65,8 +68,8 @@ returns-then-ran-clause-turns g c = λ tells text may s w stands left.
     let new = c.act.new in
     went c.args.self.now _ _ s w c.args.pid _ _ _ _ stands c.requires.pick c.requires.live c.stepped.new.self (S.blocks new.swap) (S.block new.swap) _ new.self c.in-Ok.ran
     (record { space = c.stepped.ensures.space; avail = c.act.ensures.avail; budget = c.stepped.ensures.budget; bytes = c.stepped.ensures.bytes; lines = c.stepped.ensures.lines })
-    (c.act.ensures.set s stands.set) (λ p at. c.in-Ok.ensures.acts text may s w p tells stands.space at left stands.known)
-    (λ chosen p at. c.in-Ok.ensures.next_room text may s w p tells stands.space stands.set chosen at left stands.known) c.stepped.ensures.sched c.if-ran.true
+    (c.act.ensures.set s stands.set) (λ chosen p at. c.in-Ok.ensures.acts text may s w p tells stands.space stands.set stands.sound chosen at left stands.known)
+    (λ chosen p at. c.in-Ok.ensures.next_room text may s w p tells stands.space stands.set stands.sound chosen at left stands.known) c.stepped.ensures.sched c.if-ran.true
 
 pub returns-else-ran-clause-turns : goal.returns-else-ran-clause-turns
 returns-else-ran-clause-turns g c = λ tells text may s w stands left.
@@ -74,8 +77,8 @@ returns-else-ran-clause-turns g c = λ tells text may s w stands left.
     let new = c.act.new in
     inl (late c.args.self.now _ _ s w c.args.pid _ _ _ _ stands c.requires.pick c.requires.live c.stepped.new.self (S.blocks new.swap) (S.block new.swap) _ new.self c.in-Ok.ran
     (record { space = c.stepped.ensures.space; avail = c.act.ensures.avail; budget = c.stepped.ensures.budget; bytes = c.stepped.ensures.bytes; lines = c.stepped.ensures.lines })
-    (c.act.ensures.set s stands.set) (λ p at. c.in-Ok.ensures.acts text may s w p tells stands.space at left stands.known)
-    (λ chosen p at. c.in-Ok.ensures.next_room text may s w p tells stands.space stands.set chosen at left stands.known) c.stepped.ensures.sched c.if-ran.false)
+    (c.act.ensures.set s stands.set) (λ chosen p at. c.in-Ok.ensures.acts text may s w p tells stands.space stands.set stands.sound chosen at left stands.known)
+    (λ chosen p at. c.in-Ok.ensures.next_room text may s w p tells stands.space stands.set stands.sound chosen at left stands.known) c.stepped.ensures.sched c.if-ran.false)
 
 pub returns-in-Err-Stopped-clause-cause : goal.returns-in-Err-Stopped-clause-cause
 returns-in-Err-Stopped-clause-cause g c = caused_stop _ _ _ _ _ _ c.in-Err-Stopped.why c.in-Err-Stopped.field-0-is c.in-Err-Stopped.ensures.cause c.in-Err-Stopped.ensures.swap_stops
@@ -93,12 +96,14 @@ pub returns-in-Err-Sink-clause-device : goal.returns-in-Err-Sink-clause-device
 returns-in-Err-Sink-clause-device g c = record {
   together = c.act.ensures.together;
   marked = λ n. c.in-Err-Sink.ensures.marks n ∙ c.requires.device.marked n;
+  few = (let f = c.requires.device.few in let m = c.in-Err-Sink.ensures.made in omega (arith, f, m));
 }
 
 pub returns-in-Err-Stopped-clause-device : goal.returns-in-Err-Stopped-clause-device
 returns-in-Err-Stopped-clause-device g c = record {
   together = c.act.ensures.together;
   marked = λ n. c.in-Err-Stopped.ensures.marks n ∙ c.requires.device.marked n;
+  few = (let f = c.requires.device.few in let m = c.in-Err-Stopped.ensures.made in omega (arith, f, m));
 }
 
 pub returns-then-ran-clause-device : goal.returns-then-ran-clause-device
@@ -109,6 +114,12 @@ returns-then-ran-clause-device g c =
     record {
       together = subst (λ (z : Space). GoTogether z (g.S.SwapDevice.blocks new.swap)) (sym c.stepped.ensures.space) c.act.ensures.together;
       marked = λ n. ap (λ (z : Space). is_marked z.ends n) c.stepped.ensures.space ∙ marks n ∙ ap (λ (z : Schedule). lives z.flags n) (sym c.stepped.ensures.sched);
+      few =
+          (let f = c.requires.device.few in
+          let m = c.in-Ok.ensures.made in
+          let l = c.stepped.ensures.left in
+          let z = ap (λ (x : Space). x.store.made) c.stepped.ensures.space in
+          omega (arith, f, m, l, z));
     }
 
 pub returns-else-ran-clause-device : goal.returns-else-ran-clause-device
@@ -119,6 +130,12 @@ returns-else-ran-clause-device g c =
     record {
       together = subst (λ (z : Space). GoTogether z (g.S.SwapDevice.blocks new.swap)) (sym c.stepped.ensures.space) c.act.ensures.together;
       marked = λ n. ap (λ (z : Space). is_marked z.ends n) c.stepped.ensures.space ∙ marks n ∙ ap (λ (z : Schedule). lives z.flags n) (sym c.stepped.ensures.sched);
+      few =
+          (let f = c.requires.device.few in
+          let m = c.in-Ok.ensures.made in
+          let l = c.stepped.ensures.left in
+          let z = ap (λ (x : Space). x.store.made) c.stepped.ensures.space in
+          omega (arith, f, m, l, z));
     }
 
 pub returns-in-Err-Sink-clause-puts : goal.returns-in-Err-Sink-clause-puts
@@ -138,9 +155,11 @@ returns-in-Err-Stopped-clause-puts g c = λ tells text may s w stands left.
 pub returns-then-ran-clause-puts : goal.returns-then-ran-clause-puts
 returns-then-ran-clause-puts g c = λ tells text may s w stands left.
     went_puts c.args.self.now _ _ s w c.args.pid None None None None stands c.requires.pick c.requires.live _ _ _ _ c.in-Ok.ran.tally
-    (λ p at. (c.in-Ok.ensures.acts text may s w p tells stands.space at left stands.known).puts) c.in-Ok.ensures.puts
+    (λ chosen p at. (c.in-Ok.ensures.acts text may s w p tells stands.space stands.set stands.sound chosen at left stands.known).puts)
+    (subst (λ (z : Bool). HandsWhole z _ (puts_of c.in-Ok.ran.tally.bytes) c.in-Ok.ran.tally.lines) c.if-ran.true c.in-Ok.ensures.puts)
 
 pub returns-else-ran-clause-puts : goal.returns-else-ran-clause-puts
 returns-else-ran-clause-puts g c = λ tells text may s w stands left.
     late_puts c.args.self.now _ _ s w c.args.pid None None None None stands c.requires.pick c.requires.live _ _ _ _ c.in-Ok.ran.tally
-    (λ p at. (c.in-Ok.ensures.acts text may s w p tells stands.space at left stands.known).puts) c.in-Ok.ensures.puts
+    (λ chosen p at. (c.in-Ok.ensures.acts text may s w p tells stands.space stands.set stands.sound chosen at left stands.known).puts)
+    (subst (λ (z : Bool). HandsWhole z _ (puts_of c.in-Ok.ran.tally.bytes) c.in-Ok.ran.tally.lines) c.if-ran.false c.in-Ok.ensures.puts)

@@ -70,10 +70,12 @@ returns-then-done-gt0-clause-device c = λ blocks goes. record {
   marked = λ n.
       ap (λ (ends : List Bool). is_marked ends n) c.slice_of-done.ensures.ends
       ∙ (goes.marked n ∙ ap (λ (z : Schedule). lives z.flags n) (sym c.take.ensures));
+  few = (let f = goes.few in let b = ap (λ (z : Schedule). z.dispatch.budget) c.take.ensures in let m = c.slice_of-done.ensures.made in omega (arith, f, b, m));
 }
 
 pub returns-else-done-gt0-clause-device : goal.returns-else-done-gt0-clause-device
 returns-else-done-gt0-clause-device c = λ blocks goes. record {
   together = c.slice_of-done.ensures.together blocks goes.together;
   marked = λ n. ap (λ (ends : List Bool). is_marked ends n) c.slice_of-done.ensures.ends ∙ goes.marked n;
+  few = (let f = goes.few in let m = c.slice_of-done.ensures.made in omega (arith, f, m));
 }

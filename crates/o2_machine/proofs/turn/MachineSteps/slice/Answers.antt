@@ -27,4 +27,8 @@ returns-clause-same c = λ last e. absurd (not_stopped c.args.self.now.last last
 
 pub returns-clause-device : goal.returns-clause-device
 returns-clause-device c = λ blocks goes.
-    c.steps_at_once.ensures.device blocks (record { together = goes.together; marked = λ n. goes.marked n ∙ ap (λ (z : Schedule). lives z.flags n) (sym c.ahead-most.ensures.same) })
+    c.steps_at_once.ensures.device blocks (record {
+      together = goes.together;
+      marked = λ n. goes.marked n ∙ ap (λ (z : Schedule). lives z.flags n) (sym c.ahead-most.ensures.same);
+      few = (let f = goes.few in let b = ap (λ (z : Schedule). z.dispatch.budget) c.ahead-most.ensures.same in omega (arith, f, b));
+    })

@@ -7,14 +7,14 @@ use Rattle.os2trace.proofs.follow.Runner.next_process.Goals as goal
 pub returns-in-Step-clause-going : goal.returns-in-Step-clause-going
 returns-in-Step-clause-going c = λ going.
     let runner = c.args.self.now in
-    subst (λ (s : Schedule). GoesOver runner.machine.space s.flags (swap_blocks runner.swap)) (sym c.next.ensures.same) going
+    subst (λ (s : Schedule). GoesOver runner.machine.space s (swap_blocks runner.swap)) (sym c.next.ensures.same) going
 
 pub returns-in-AllEnded-clause-going : goal.returns-in-AllEnded-clause-going
 returns-in-AllEnded-clause-going c = λ going.
     let runner = c.args.self.now in
-    subst (λ (s : Schedule). GoesOver runner.machine.space s.flags (swap_blocks runner.swap)) (sym c.next.ensures.same) going
+    subst (λ (s : Schedule). GoesOver runner.machine.space s (swap_blocks runner.swap)) (sym c.next.ensures.same) going
 
 pub returns-in-BudgetSpent-clause-going : goal.returns-in-BudgetSpent-clause-going
 returns-in-BudgetSpent-clause-going c = λ going.
     let runner = c.args.self.now in
-    subst (λ (s : Schedule). GoesOver runner.machine.space s.flags (swap_blocks runner.swap)) (sym c.next.ensures.same) going
+    subst (λ (s : Schedule). GoesOver runner.machine.space s (swap_blocks runner.swap)) (sym c.next.ensures.same) going
