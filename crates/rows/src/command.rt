@@ -83,10 +83,11 @@ pub fn command_over(
         console_fails,
         report_fails,
         65536,
+        1,
     )
 }
 
-/// The same, where the report has room for so many bytes.
+/// The same, where the report has room for so many bytes and the swap device so many blocks.
 pub fn command_sized(
     alloc: Global,
     words: &[&str],
@@ -96,12 +97,13 @@ pub fn command_sized(
     console_fails: Fails<'_>,
     report_fails: Fails<'_>,
     room: usize,
+    blocks: u32,
 ) -> Result<Answer, NoMemory> {
     let mut files = files;
     let mut input = MemSource::new(Bytes::from_slice(alloc, input)?, takes.to_vec(alloc)?);
     let mut console = MemSink::new(alloc, 4096, console_fails.to_vec(alloc)?)?;
     let mut report = MemSink::new(alloc, room, report_fails.to_vec(alloc)?)?;
-    let mut swap = SureSwap::new(alloc, 1)?;
+    let mut swap = SureSwap::new(alloc, blocks)?;
     let list = words_of(alloc, words)?;
     let status = os2run(
         alloc,

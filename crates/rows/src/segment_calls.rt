@@ -228,6 +228,7 @@ fn run_by(alloc: Global, lines: &str, code: &str) -> Result<Answer, NoMemory> {
         &[],
         &[],
         1048576,
+        64,
     )
 }
 
@@ -306,5 +307,108 @@ fn a_lock_count_ends_at_255(rt: HostRuntime) -> Result<(), Fail> {
     let answer = answer_of(rt.alloc(), code)?;
     let console = console_of(rt.alloc(), "0 0")?;
     assert!(rt; answer.status == 0 && answer.console.taken() == console.as_slice());
+    Ok(())
+}
+
+/// Whether a program of this code comes to this in a memory of 4,096 bytes.
+fn comes_to_in_little(
+    alloc: Global,
+    code: &str,
+    lines: &str,
+    bytes: &str,
+) -> Result<bool, NoMemory> {
+    let answer = run_by(alloc, "memory = 4096\nswap = 64\nsegments = 1024\n", code)?;
+    let mut text = String::new(alloc);
+    write_report(&mut text, lines)?;
+    let report = report_in(alloc, text.as_str())?;
+    let console = console_of(alloc, bytes)?;
+    Ok(answer.is(0, console.as_slice(), report.as_bytes()))
+}
+
+#[test]
+fn the_same_in_little_memory(rt: HostRuntime) -> Result<(), Fail> {
+    let mut count = 0u32;
+    for row in DONE.lines().chain(ERRORS.lines()) {
+        if let Some((code, lines, bytes)) = three(row) {
+            assert!(rt;
+                comes_to_in_little(rt.alloc(), code, lines, bytes)?,
+                "{row}"
+            );
+            count = count.saturating_add(1);
+        }
+    }
+    assert!(rt; count == 27);
+    Ok(())
+}
+
+/// A routine in a segment that is also held as code: called, written to, moved out of memory by others, and called again.
+static MOVED: &str =
+    "5 4 17 0 0 ; x 8E 06 00 00 26 C7 06 00 00 B8 01 26 C7 06 02 00 00 CB ; B 27 17 2 ; x 9A 00 00 2F 00 A3 10 00 26 C6 06 01 00 02 B8 00 00 8E C0 ; 5 D50 17 4 0 ; x 8E 06 04 00 26 C6 06 00 00 01 B8 00 00 8E C0 ; 5 D50 17 6 0 ; x 8E 06 06 00 26 C6 06 00 00 01 B8 00 00 8E C0 9A 00 00 2F 00 A3 12 00";
+
+#[test]
+fn an_alias_is_moved_out_and_called(rt: HostRuntime) -> Result<(), Fail> {
+    // the code takes 176 bytes, data and stack 512, and 3,408 are the rest of the memory
+    let lines =
+        "1 call DosAllocSeg 0004 0017:0000 0000 = 0 0027 / 1 hold 0027 by DosAllocSeg / 1 call DosCreateCSAlias 0027 0017:0002 = 0 002F / 1 hold 002F by DosCreateCSAlias / 1 call DosAllocSeg 0D50 0017:0004 0000 = 0 0037 / 1 hold 0037 by DosAllocSeg / 1 call DosAllocSeg 0D50 0017:0006 0000 = 0 003F / 1 hold 003F by DosAllocSeg";
+    assert!(rt; comes_to_in_little(rt.alloc(), MOVED, lines, "1 0 2 0")?);
+    Ok(())
+}
+
+/// Whether a program of this code is stopped for want of room in a memory of 4,096 bytes, behind these lines.
+fn lacks_room(alloc: Global, code: &str, lines: &str) -> Result<bool, NoMemory> {
+    let answer = run_by(alloc, "memory = 4096\nswap = 64\nsegments = 1024\n", code)?;
+    let mut text = String::new(alloc);
+    text.push_str("4 ")?;
+    text.push_str(lines)?;
+    text.push_str(" / stop room")?;
+    let report = report_in(alloc, text.as_str())?;
+    Ok(answer.is(8, &[], report.as_bytes()))
+}
+
+/// Calls that want more room than there is, and leave all as it was. What isn't locked and isn't needed may have any size.
+static STOPPED: &str = "
+- a segment that begins locked
+5 1001 17 0 4 | |
+- one that gets a new size while it is locked, or while ES names it
+5 10 17 0 4 ; 6 1000 27 | 1 call DosAllocSeg 0010 0017:0000 0004 = 0 0027 / 1 hold 0027 by DosAllocSeg |
+5 10 17 0 0 ; x B8 27 00 8E C0 ; 6 1000 27 | 1 call DosAllocSeg 0010 0017:0000 0000 = 0 0027 / 1 hold 0027 by DosAllocSeg |
+- one that is locked
+5 10 17 0 4 ; A 27 ; 6 1000 27 ; 9 27 | 1 call DosAllocSeg 0010 0017:0000 0004 = 0 0027 / 1 hold 0027 by DosAllocSeg / 1 call DosUnlockSeg 0027 = 0 / 1 call DosReallocSeg 1000 0027 = 0 |
+";
+
+#[test]
+fn calls_that_lack_room(rt: HostRuntime) -> Result<(), Fail> {
+    let mut count = 0u32;
+    for row in STOPPED.lines() {
+        if let Some((code, lines, _)) = three(row) {
+            assert!(rt; lacks_room(rt.alloc(), code, lines)?, "{row}");
+            count = count.saturating_add(1);
+        }
+    }
+    assert!(rt; count == 4);
+    Ok(())
+}
+
+#[test]
+fn a_line_of_a_call_fails(rt: HostRuntime) -> Result<(), Fail> {
+    // the call's own line is put 5, and that of the hold put 6
+    let code = code_of(rt.alloc(), "5 10 17 0 0")?;
+    let line = "1 call DosAllocSeg 0010 0017:0000 0000 = 0 0027\n";
+    for put in [5u64, 6] {
+        let files = one_file(rt.alloc(), b"a.exe", program(rt.alloc(), code.as_slice())?)?;
+        let answer = command(
+            rt.alloc(),
+            &["exe", "a.exe"],
+            files,
+            &[],
+            &[],
+            &[],
+            &[(put, 3)],
+        )?;
+        let mut wanted = report_in(rt.alloc(), "4")?;
+        wanted.push_str(if put == 5 { "1 c" } else { line })?;
+        wanted.push_str(if put == 5 { "" } else { "1 h" })?;
+        assert!(rt; answer.is(7, &[], wanted.as_bytes()), "put {put}");
+    }
     Ok(())
 }
