@@ -29,8 +29,8 @@ fn write_call(code: &mut Vec<u8>, text: &str) -> Result<(), NoMemory> {
 fn code_of(alloc: Global, text: &str) -> Result<Vec<u8>, NoMemory> {
     let mut code = Vec::new(alloc);
     for part in text.split(" ; ") {
-        match part.trim().strip_prefix("x ") {
-            Some(bytes) => {
+        match part.trim().split_once("x ") {
+            Some((_, bytes)) => {
                 for byte in bytes.split_ascii_whitespace() {
                     code.push((hex(byte) % 256) as u8)?;
                 }
@@ -50,7 +50,7 @@ fn write_report(text: &mut String, lines: &str) -> Result<(), NoMemory> {
     text.push_str("4 ")?;
     text.push_str(lines)?;
     text.push_str(" / ")?;
-    text.push_str(if lines.contains(" end trap ") {
+    text.push_str(if lines.split_once(" end trap ").is_some() {
         "all ended"
     } else {
         END
@@ -81,7 +81,7 @@ fn comes_to(alloc: Global, code: &str, lines: &str, bytes: &str) -> Result<bool,
     let mut text = String::new(alloc);
     write_report(&mut text, lines)?;
     let report = report_in(alloc, text.as_str())?;
-    let ends = lines.contains(" end trap ");
+    let ends = lines.split_once(" end trap ").is_some();
     let console = if ends {
         Vec::new(alloc)
     } else {
@@ -251,18 +251,24 @@ fn no_more_segments_than_the_setting_has(rt: HostRuntime) -> Result<(), Fail> {
     Ok(())
 }
 
+/// Writes a hexadecimal digit.
+fn write_digit(text: &mut String, word: u16) -> Result<(), NoMemory> {
+    let digit = (word % 16) as u8;
+    let letter = if digit < 10 {
+        b'0' + digit
+    } else {
+        b'A' + (digit - 10)
+    };
+    text.push(char::from(letter))?;
+    Ok(())
+}
+
 /// Writes a word by four hexadecimal digits.
 fn write_word(text: &mut String, word: u16) -> Result<(), NoMemory> {
-    for place in [12u32, 8, 4, 0] {
-        let digit = ((word >> place) % 16) as u8;
-        let letter = if digit < 10 {
-            b'0' + digit
-        } else {
-            b'A' + (digit - 10)
-        };
-        text.push(char::from(letter))?;
-    }
-    Ok(())
+    write_digit(text, word / 4096)?;
+    write_digit(text, word / 256)?;
+    write_digit(text, word / 16)?;
+    write_digit(text, word)
 }
 
 /// Writes the lines of a call of DosAllocSeg that gives this selector.
@@ -328,13 +334,15 @@ fn comes_to_in_little(
 #[test]
 fn the_same_in_little_memory(rt: HostRuntime) -> Result<(), Fail> {
     let mut count = 0u32;
-    for row in DONE.lines().chain(ERRORS.lines()) {
-        if let Some((code, lines, bytes)) = three(row) {
-            assert!(rt;
-                comes_to_in_little(rt.alloc(), code, lines, bytes)?,
-                "{row}"
-            );
-            count = count.saturating_add(1);
+    for rows in [DONE, ERRORS] {
+        for row in rows.lines() {
+            if let Some((code, lines, bytes)) = three(row) {
+                assert!(rt;
+                    comes_to_in_little(rt.alloc(), code, lines, bytes)?,
+                    "{row}"
+                );
+                count = count.saturating_add(1);
+            }
         }
     }
     assert!(rt; count == 27);
