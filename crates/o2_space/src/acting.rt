@@ -205,8 +205,8 @@ impl Space {
     /// where it ends the process, all that this holds goes.
     ///
     /// Where what it needs doesn't come in, the step isn't taken: `Stop::NoRoom`, `Stop::SwapFull` or `Stop::SwapFault`. Nor is
-    /// it where the input fails, `Stop::Input`, or a sink, `Fault::Sink`. Where the report fails in the line of an exception
-    /// that follows a step, the step is done all the same, and its last line isn't whole.
+    /// it where the input fails, `Stop::Input`, or a sink, `Fault::Sink`. Where the report fails in the line of exception 1
+    /// that follows a step, or in a line of a call on segments, the step is done all the same, and its lines aren't whole.
     pub fn act<I: Source, C: Sink, R: Sink, S: SwapDevice>(
         &mut self,
         pid: u16,

@@ -42,8 +42,8 @@ pub struct Ran {
     pub state: State,
     /// How much it puts.
     pub tally: Tally,
-    /// Whether its last line was put whole. Where a sink failed in the line of exception 1, the step is done all the same, and the
-    /// line counts as put.
+    /// Whether its lines were put whole. Where a sink failed in the line of exception 1, or in one of a call on segments, the step is done
+    /// all the same, and all its lines count as put.
     pub whole: bool,
 }
 
