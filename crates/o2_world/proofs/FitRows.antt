@@ -6,7 +6,7 @@ use Rattle.o2_world.specs.Map.{get}
 use Rattle.o2_world.specs.World.{World, Process, Segment, Held, is_live}
 use Rattle.o2_world.specs.Holders.{process_at}
 use Rattle.o2_world.specs.Views.{with_bytes}
-use Rattle.o2_world.specs.Changes.{Makes, Holds, with_change}
+use Rattle.o2_world.specs.Changes.{Makes, Holds, Names, with_change}
 use Rattle.o2_world.specs.Known.{taken_in, holds_index}
 use Rattle.o2_world.specs.Calls.{Effect}
 use Rattle.o2_world.specs.Rulings.{full_size, made_segment, held_as_code, held_by_call}
@@ -31,7 +31,7 @@ full_is size = go (size % 65536 == 0) refl
     go true is = (omega arith, omega arith)
     go false is = (above_zero (size % 65536) is, below_all size)
 
-made_size : (size flags : ℕ) → HasSize (made_segment size flags)
+pub made_size : (size flags : ℕ) → HasSize (made_segment size flags)
 made_size size flags = subst (λ n. (0 < n) × (n ≤ 65536)) (sym (zeros_length (full_size size))) (full_is size)
 
 pub same : (n : ℕ) → (n == n) ≡ true
@@ -54,28 +54,34 @@ nobody (p ∷ ps) (suc place) i h none e = nobody ps place i h (rest (is_some (g
     rest true b e = absurd (cc)
     rest false b e = e
 
-module _ (w : World) (d : Dispatch) (p : Process) (e : Effect) (size flags i : ℕ) (at : process_at w.processes d.current ≡ Some p) (lives : is_live (working p e).state ≡ true)
-    (is : e.changes ≡ Makes (made_segment size flags) ∷ Holds d.current i (held_by_call w.next_name) ∷ []) (free : 4096 ≤ i → taken_in w 0 i ≡ false) where
-  made : World
-  made = with_change (worked w d p e) (Makes (made_segment size flags))
-
-  fit_hold : IsFitHold (with_change (worked w d p e) (Makes (made_segment size flags))) d.current i (held_by_call w.next_name)
+-- A new segment that isn't clean, held at an index that is free.
+module _ (w : World) (d : Dispatch) (p : Process) (e : Effect) (new : Segment) (i : ℕ) (at : process_at w.processes d.current ≡ Some p) (lives : is_live (working p e).state ≡ true)
+    (dirty : new.clean ≡ false) (free : 4096 ≤ i → taken_in w 0 i ≡ false) where
+  pub fit_hold : IsFitHold (with_change (worked w d p e) (Makes new)) d.current i (held_by_call w.next_name)
   fit_hold = record {
-    lives = ap is_some (if_yes (w.next_name == w.next_name) (Some (made_segment size flags)) (get (with_bytes w.names e.bytes) w.next_name) (same w.next_name));
+    lives = ap is_some (if_yes (w.next_name == w.next_name) (Some new) (get (with_bytes w.names e.bytes) w.next_name) (same w.next_name));
     some = omega arith;
-    clean = λ s g c. absurd (not_clean s (sym (if_yes (w.next_name == w.next_name) (Some (made_segment size flags)) (get (with_bytes w.names e.bytes) w.next_name) (same w.next_name)) ∙ g) c);
+    clean = λ s g c. absurd (not_clean s (sym (if_yes (w.next_name == w.next_name) (Some new) (get (with_bytes w.names e.bytes) w.next_name) (same w.next_name)) ∙ g) c);
     goes_on = λ x there. live_here x (sym (own_at w.processes d.current p (working p e) at) ∙ there);
     one = λ place k big there. absurd (nobody w.processes place i k (either_false (holds_index w.processes i) _ (free big)) (sym (same_at w.processes d.current p (working p e) place i at refl) ∙ there));
   }
     where
-      not_clean : (s : Segment) → Some (made_segment size flags) ≡ Some s → s.clean ≡ true → ⊥
-      not_clean s g c = let z : s ≡ made_segment size flags = cc in let y : false ≡ true = sym (ap (λ (t : Segment). t.clean) z) ∙ c in cc
+      not_clean : (s : Segment) → Some new ≡ Some s → s.clean ≡ true → ⊥
+      not_clean s g c = let z : s ≡ new = cc in let y : false ≡ true = sym dirty ∙ sym (ap (λ (t : Segment). t.clean) z) ∙ c in cc
 
       live_here : (x : Process) → Some (working p e) ≡ Some x → is_live x.state ≡ true
       live_here x g = let z : x ≡ working p e = cc in ap (λ (y : Process). is_live y.state) z ∙ lives
 
-  pub alloc_fit : AreFitChanges (worked w d p e) e.changes
-  alloc_fit = subst (AreFitChanges (worked w d p e)) (sym is) (made_size size flags, (fit_hold, tt))
+  -- with a name, too
+  pub named_fit : (name : List ℕ) → HasSize new → e.changes ≡ Makes new ∷ Holds d.current i (held_by_call w.next_name) ∷ Names name w.next_name ∷ []
+      → AreFitChanges (worked w d p e) e.changes
+  named_fit name sized is = subst (AreFitChanges (worked w d p e)) (sym is) (sized, (fit_hold, (fit_hold.lives, tt)))
+
+pub alloc_fit : (w : World) (d : Dispatch) (p : Process) (e : Effect) (size flags i : ℕ) → process_at w.processes d.current ≡ Some p → is_live (working p e).state ≡ true
+    → e.changes ≡ Makes (made_segment size flags) ∷ Holds d.current i (held_by_call w.next_name) ∷ [] → (4096 ≤ i → taken_in w 0 i ≡ false)
+    → AreFitChanges (worked w d p e) e.changes
+alloc_fit w d p e size flags i at lives is free =
+    subst (AreFitChanges (worked w d p e)) (sym is) (made_size size flags, (fit_hold w d p e (made_segment size flags) i at lives refl free, tt))
 
 -- One hold more of a segment that lives, as code, at an index that is free.
 module _ (w : World) (d : Dispatch) (p : Process) (e : Effect) (name i : ℕ) (at : process_at w.processes d.current ≡ Some p) (lives : is_live (working p e).state ≡ true)

@@ -22,7 +22,9 @@ use Rattle.o2_world.specs.declared.types.Row.{Row}
 use Rattle.o2_world.specs.declared.types.Transfer.{Transfer}
 use Rattle.o2_world.specs.declared.types.SegmentCall.{SegmentCall}
 use Rattle.o2_world.specs.declared.types.SegmentCall.TheVariants.{DosAllocSeg, DosReallocSeg, DosFreeSeg, DosSizeSeg, DosLockSeg, DosUnlockSeg, DosCreateCsAlias}
-use Rattle.o2_world.specs.declared.types.Row.TheVariants.{DosExit, DosGetPid, DosRead, DosWrite, DosMemAvail, OnSegments}
+use Rattle.o2_world.specs.declared.types.SharedCall.{SharedCall}
+use Rattle.o2_world.specs.declared.types.SharedCall.TheVariants.{DosAllocShrSeg, DosGetShrSeg, DosGiveSeg, DosGetSeg}
+use Rattle.o2_world.specs.declared.types.Row.TheVariants.{DosExit, DosGetPid, DosRead, DosWrite, DosMemAvail, OnSegments, OnShared}
 use Rattle.o2_world.specs.declared.types.State.{State}
 use Rattle.o2_world.specs.Map.{Map, get}
 use Rattle.o2_world.specs.World.{World, Setting, Process, Segment, Held, is_live}
@@ -30,6 +32,9 @@ use Rattle.o2_world.specs.Views.{hold_of, holds_in, view_of}
 use Rattle.o2_world.specs.Calls.{Before, Effect, trapped, returned, argument, has_arguments, transfer_of, may_write, may_give, is_console, written, dos_write, dos_exit, told_at, told, may_take, read_from, dos_read, row_of, served_by}
 use Rattle.o2_world.specs.Rulings.{Ruling, aliasing, allocation, sizing}
 use Rattle.o2_world.specs.SegmentCalls.{Written, alloc_args, aliased, allocated, dos_alloc_seg, dos_create_cs_alias, dos_free_seg, dos_lock_seg, dos_realloc_seg, dos_size_seg, dos_unlock_seg, freed, locked, on_segments, reallocated, ruled_at, sized, unlocked, written_long, written_word}
+use Rattle.o2_world.specs.SharedNames.{may_read_text, name_by, text_at}
+use Rattle.o2_world.specs.SharedRulings.{giving, naming, sharing}
+use Rattle.o2_world.specs.SharedCalls.{dos_alloc_shr_seg, dos_get_seg, dos_get_shr_seg, dos_give_seg, give_args, given, got, name_args, named, on_shared, shared_by_name}
 use Rattle.o2_world.specs.Effect.{has_trap_flag, answered, single_stepped, effect}
 use Rattle.o2_world.specs.Run.{before}
 use Rattle.o2_world.specs.Sound.{has_rights, NamesHeld, HasGoodRegisters}
@@ -216,6 +221,40 @@ on_segments_ruled DosCreateCsAlias b next =
     let a : ℕ → ℕ = argument b.view b.cpu in
     picked_ruled b.view b.cpu (has_arguments b.view b.cpu 3) _ _ (kept_ruled b.view b.cpu _ (aliased_keeps b next (a 2) (a 1) (a 0))) (kept_ruled b.view b.cpu _ (traps b 12))
 
+-- The calls that share segments change no segment register.
+
+named_keeps : (b : Before) (next size n m s o : ℕ) → Keeps b.cpu (named b next size n m s o)
+named_keeps b next size n m s o =
+    let r = naming b.known b.number size (name_by (text_at b.view n m)) in
+    either b.cpu (may_read_text b.view n m && may_write b.view s o 2) _ _
+    (ruled_keeps b next 5 (codes "DosAllocShrSeg") (name_args size n m s o) (written_word s o r.value) r) (traps b 13)
+
+shared_keeps : (b : Before) (next n m s o : ℕ) → Keeps b.cpu (shared_by_name b next n m s o)
+shared_keeps b next n m s o =
+    let r = sharing b.known b.number (name_by (text_at b.view n m)) in
+    either b.cpu (may_read_text b.view n m && may_write b.view s o 2) _ _
+    (ruled_keeps b next 4 (codes "DosGetShrSeg") (Far n m ∷ Far s o ∷ []) (written_word s o r.value) r) (traps b 13)
+
+given_keeps : (b : Before) (next selector pid s o : ℕ) → Keeps b.cpu (given b next selector pid s o)
+given_keeps b next selector pid s o =
+    let r = giving b.known b.number selector pid in
+    either b.cpu (may_write b.view s o 2) _ _
+    (ruled_keeps b next 4 (codes "DosGiveSeg") (give_args selector pid s o) (written_word s o r.value) r) (traps b 13)
+
+on_shared_keeps : (call : SharedCall) (b : Before) (next : ℕ) → Keeps b.cpu (on_shared call b next)
+unfolding dos_alloc_shr_seg dos_get_shr_seg dos_give_seg dos_get_seg
+on_shared_keeps DosAllocShrSeg b next =
+    let a : ℕ → ℕ = argument b.view b.cpu in
+    either b.cpu (has_arguments b.view b.cpu 5) _ _ (named_keeps b next (a 4) (a 3) (a 2) (a 1) (a 0)) (traps b 12)
+on_shared_keeps DosGetShrSeg b next =
+    let a : ℕ → ℕ = argument b.view b.cpu in
+    either b.cpu (has_arguments b.view b.cpu 4) _ _ (shared_keeps b next (a 3) (a 2) (a 1) (a 0)) (traps b 12)
+on_shared_keeps DosGiveSeg b next =
+    let a : ℕ → ℕ = argument b.view b.cpu in
+    either b.cpu (has_arguments b.view b.cpu 4) _ _ (given_keeps b next (a 3) (a 2) (a 1) (a 0)) (traps b 12)
+on_shared_keeps DosGetSeg b next =
+    either b.cpu (has_arguments b.view b.cpu 1) _ _ (returns b (got b next (argument b.view b.cpu 0)) next 1 _ refl) (traps b 12)
+
 served_ruled : (row : Option Row) (b : Before) (next : ℕ) → LoadsByRules b.view b.cpu (served_by row b next).cpu
 served_ruled None b next = kept_ruled b.view b.cpu _ (traps b 13)
 served_ruled (Some DosExit) b next = kept_ruled b.view b.cpu _ (exit_keeps b)
@@ -224,6 +263,7 @@ served_ruled (Some DosRead) b next = kept_ruled b.view b.cpu _ (read_keeps b nex
 served_ruled (Some DosWrite) b next = kept_ruled b.view b.cpu _ (write_keeps b next)
 served_ruled (Some DosMemAvail) b next = kept_ruled b.view b.cpu _ (told_keeps b next _ _ _)
 served_ruled (Some (OnSegments call)) b next = on_segments_ruled call b next
+served_ruled (Some (OnShared call)) b next = kept_ruled b.view b.cpu _ (on_shared_keeps call b next)
 
 answered_ruled : (b : Before) (r : Result Machine Stop) → stepped (state b.cpu b.view) ≡ r → LoadsByRules b.view b.cpu (answered b r).cpu
 answered_ruled b (Ok s) e = stepped_ruled outcome.Done s (state b.cpu b.view) e

@@ -1,5 +1,5 @@
--- Behind a hold at an index that was free, all that was held is held, and so is each run of reserved indexes.
-use Rattle.std.proofs.Common.{◌≡◌, ℕ, zero, suc, ◌-◌, ◌<◌, ◌==◌, ◌||◌, Bool, true, false, List, [], ◌∷◌, Option, Some, None, if◌then◌else◌, ap, sym, ◌∙◌, refl, arith, subst}
+-- Behind a hold more, all that was held is held as often at least, and so is each run of reserved indexes.
+use Rattle.std.proofs.Common.{◌≡◌, ℕ, zero, suc, ◌+◌, ◌-◌, ◌<◌, ◌==◌, ◌&&◌, ◌||◌, not, Bool, true, false, List, [], ◌∷◌, Option, Some, None, if◌then◌else◌, ap, sym, ◌∙◌, refl, arith, subst}
 use Rattle.std.specs.Prelude.{slice_get}
 use Rattle.std.specs.List.{list_any}
 use Rattle.std.proofs.lemmas.Bool.{false≢true}
@@ -9,6 +9,7 @@ use Rattle.o2_world.specs.Holders.{is_held, process_at}
 use Rattle.o2_world.specs.Changes.{Holds, holds_run, is_used, more, own_run_held, run_held, runs_from, with_change}
 use Rattle.o2_world.specs.Sound.{held_in, held_of}
 use Rattle.o2_world.specs.Tied.{AreUsed, IsSwept, lives_in}
+use Rattle.o2_world.specs.Moves.{IsAtLeast}
 use Rattle.o2_world.proofs.Holding.{held_by}
 use Rattle.o2_world.proofs.Keeps.{held_found}
 use Rattle.o2_world.proofs.MapLemmas.{found_any, if_yes, if_no}
@@ -88,7 +89,7 @@ own_found : (first i : ℕ) (o : Option Process) (h : Held) → held_of o i ≡ 
 own_found first i None h there runs = absurd (cc)
 own_found first i (Some p) h there runs = run_found first i p.held h there runs
 
-module _ (w : World) (n i : ℕ) (x : Process) (h : Held) (at : process_at w.processes n ≡ Some x) (free : get x.held i ≡ None) where
+module _ (w : World) (n i : ℕ) (x : Process) (h : Held) (at : process_at w.processes n ≡ Some x) where
   abbrev after : List Process
   after = (with_change w (Holds n i h)).processes
 
@@ -110,52 +111,65 @@ module _ (w : World) (n i : ℕ) (x : Process) (h : Held) (at : process_at w.pro
   same : (a : ℕ) → (a == a) ≡ true
   same a = grind arith
 
-  no_some : (k : Held) → ◌≡◌ {A = Option Held} None (Some k) → ⊥
-  no_some k e = cc
-
   -- at the process's own place
-  here : (j : ℕ) → held_in after (n - 1) j ≡ (if i == j then Some h else get x.held j)
+  here : (j : ℕ) → held_in after (n - 1) j ≡ (if i == j then more h (get x.held i) else get x.held j)
   here j =
       after_is (n - 1) j
       ∙ if_yes (n - 1 == n - 1) _ _ (same (n - 1))
       ∙ ap (λ (o : Option Process). held_then (λ (m : Map Held). put i (more h (get m i)) m) o j) (at_place_of w.processes n x at)
       ∙ get-put i j (more h (get x.held i)) x.held
-      ∙ ap (λ (o : Option Held). if i == j then more h o else get x.held j) free
 
   -- what was held is held
-  still : (place j : ℕ) (k : Held) → held_in w.processes place j ≡ Some k → held_in after place j ≡ Some k
+  pub still : (place j : ℕ) (k : Held) → held_in w.processes place j ≡ Some k → (y : Held) × (held_in after place j ≡ Some y) × IsAtLeast k y
   still place j k e = go (place == n - 1) refl
     where
+      as_it_was : IsAtLeast k k
+      as_it_was = record { name = refl; rights = refl; cause = refl; first = refl; reserved = refl; holds = omega arith }
+
       own : place ≡ n - 1 → get x.held j ≡ Some k
       own is = sym (ap (λ (o : Option Process). held_of o j) (ap (slice_get w.processes) is ∙ at_place_of w.processes n x at)) ∙ e
 
-      at_own : (b : Bool) → (i == j) ≡ b → get x.held j ≡ Some k → (if b then Some h else get x.held j) ≡ Some k
-      at_own true is there = absurd (no_some k (sym free ∙ ap (get x.held) (same_number i j is) ∙ there))
-      at_own false is there = there
+      at_own : (b : Bool) → (i == j) ≡ b → get x.held j ≡ Some k
+          → (y : Held) × ((if b then more h (get x.held i) else get x.held j) ≡ Some y) × IsAtLeast k y
+      at_own true is there =
+          (record k { holds = k.holds + h.holds }, ap (more h) (ap (get x.held) (same_number i j is) ∙ there), record { name = refl; rights = refl; cause = refl; first = refl; reserved = refl; holds = omega arith })
+      at_own false is there = (k, there, as_it_was)
 
-      go : (b : Bool) → (place == n - 1) ≡ b → held_in after place j ≡ Some k
+      go : (b : Bool) → (place == n - 1) ≡ b → (y : Held) × (held_in after place j ≡ Some y) × IsAtLeast k y
       go true is =
           let q : place ≡ n - 1 = same_number place (n - 1) is in
-          ap (λ (z : ℕ). held_in after z j) q ∙ here j ∙ at_own (i == j) refl (own q)
-      go false is = after_is place j ∙ if_no (place == n - 1) _ _ is ∙ e
+          let u = at_own (i == j) refl (own q) in
+          (u.0, ap (λ (z : ℕ). held_in after z j) q ∙ here j ∙ u.1, u.2)
+      go false is = (k, after_is place j ∙ if_no (place == n - 1) _ _ is ∙ e, as_it_was)
 
-  new_held : held_in after (n - 1) i ≡ Some h
-  new_held = here i ∙ if_yes (i == i) (Some h) (get x.held i) (same i)
+  new_held : get x.held i ≡ None → held_in after (n - 1) i ≡ Some h
+  new_held free = here i ∙ if_yes (i == i) (more h (get x.held i)) (get x.held i) (same i) ∙ ap (more h) free
 
   still_named : (q : ℕ) → is_held w.processes q ≡ true → is_held after q ≡ true
-  still_named q e = let u = held_by q w.processes e in subst (λ (z : ℕ). is_held after z ≡ true) u.named (held_found after u.place u.index u.hold (still u.place u.index u.hold u.there))
+  still_named q e =
+      let u = held_by q w.processes e in
+      let y = still u.place u.index u.hold u.there in
+      subst (λ (z : ℕ). is_held after z ≡ true) (y.2.name ∙ u.named) (held_found after u.place u.index y.0 y.1)
 
-  new_named : is_held after h.name ≡ true
-  new_named = held_found after (n - 1) i h new_held
+  new_named : get x.held i ≡ None → is_held after h.name ≡ true
+  new_named free = held_found after (n - 1) i h (new_held free)
+
+  still_from : (first : ℕ) (k y : Held) → IsAtLeast k y → runs_from first (Some k) ≡ true → runs_from first (Some y) ≡ true
+  still_from first k y least runs =
+      ap (λ (f : ℕ). (f == first) && not (y.reserved == 0)) least.first ∙ ap (λ (r : ℕ). (k.first == first) && not (r == 0)) least.reserved ∙ runs
 
   still_runs : (first : ℕ) → run_held w.processes first ≡ true → run_held after first ≡ true
-  still_runs first e = let u = run_by first w.processes e in run_found_by first u.place u.index after u.hold (still u.place u.index u.hold u.there) u.runs
+  still_runs first e =
+      let u = run_by first w.processes e in
+      let y = still u.place u.index u.hold u.there in
+      run_found_by first u.place u.index after y.0 y.1 (still_from first u.hold y.0 y.2 u.runs)
 
   still_owns : (r first : ℕ) → (r == 0) ≡ false → own_run_held (process_at w.processes r) first ≡ true → own_run_held (process_at after r) first ≡ true
   still_owns r first region e =
       let u = own_by first (process_at w.processes r) e in
       let was : held_in w.processes (r - 1) u.index ≡ Some u.hold = ap (λ (o : Option Process). held_of o u.index) (sym (if_no (r == 0) None (slice_get w.processes (r - 1)) region)) ∙ u.there in
-      own_found first u.index (process_at after r) u.hold (ap (λ (o : Option Process). held_of o u.index) (if_no (r == 0) None (slice_get after (r - 1)) region) ∙ still (r - 1) u.index u.hold was) u.runs
+      let y = still (r - 1) u.index u.hold was in
+      own_found first u.index (process_at after r) y.0 (ap (λ (o : Option Process). held_of o u.index) (if_no (r == 0) None (slice_get after (r - 1)) region) ∙ y.1) (still_from first u.hold y.0 y.2 u.runs)
 
   still_used : (r : Reserve) → is_used w.processes r ≡ true → is_used after r ≡ true
   still_used r e = go (r.region == 0) refl e
@@ -174,14 +188,18 @@ module _ (w : World) (n i : ℕ) (x : Process) (h : Held) (at : process_at w.pro
   all_used [] u = tt
   all_used (r ∷ rs) u = (still_used r u.0, all_used rs u.1)
 
-  -- where all that lives is held, or is what is held now
-  pub holds_swept : ((q : ℕ) → lives_in w q ≡ true → (q ≡ h.name → ⊥) → is_held w.processes q ≡ true) → AreUsed w.processes w.reserved
-      → IsSwept (with_change w (Holds n i h))
-  holds_swept named used = record { named = λ q lives. go q (q == h.name) refl lives; used = all_used w.reserved used }
+  -- where all that lives is held, or is what is held now at an index that was free
+  pub holds_swept : get x.held i ≡ None → ((q : ℕ) → lives_in w q ≡ true → (q ≡ h.name → ⊥) → is_held w.processes q ≡ true)
+      → AreUsed w.processes w.reserved → IsSwept (with_change w (Holds n i h))
+  holds_swept free named used = record { named = λ q lives. go q (q == h.name) refl lives; used = all_used w.reserved used }
     where
       not_same : (q : ℕ) → (q == h.name) ≡ false → q ≡ h.name → ⊥
       not_same q e f = grind arith
 
       go : (q : ℕ) (b : Bool) → (q == h.name) ≡ b → lives_in w q ≡ true → is_held after q ≡ true
-      go q true is lives = subst (λ (z : ℕ). is_held after z ≡ true) (sym (same_number q h.name is)) new_named
+      go q true is lives = subst (λ (z : ℕ). is_held after z ≡ true) (sym (same_number q h.name is)) (new_named free)
       go q false is lives = still_named q (named q lives (not_same q is))
+
+  -- where all that lives is held
+  pub kept_swept : IsSwept w → IsSwept (with_change w (Holds n i h))
+  kept_swept swept = record { named = λ q lives. still_named q (swept.named q lives); used = all_used w.reserved swept.used }

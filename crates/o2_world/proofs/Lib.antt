@@ -15,7 +15,10 @@ pub mod FitRows
 pub mod FitFrees
 pub mod HoldsSwept
 pub mod OwnChanges
+pub mod Sparing
 pub mod SegmentMoves
+pub mod SharedMoves
+pub mod FitShares
 pub mod StepMoves
 pub mod MovesFit
 pub mod RowsTold

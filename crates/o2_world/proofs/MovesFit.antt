@@ -1,28 +1,33 @@
 -- What a step changes keeps a sound world sound: the changes are fit, and all that lives behind them is held.
-use Rattle.std.proofs.Common.{◌≡◌, ℕ, ◌-◌, ◌<◌, ◌≤◌, ◌==◌, ◌||◌, Bool, true, false, List, [], ◌∷◌, map, length, Option, Some, None, if◌then◌else◌, ap, sym, ◌∙◌, refl, arith, subst}
-use Rattle.std.specs.Prelude.{is_some, nat_lt}
+use Rattle.std.proofs.Common.{◌≡◌, ◌⊎◌, inl, inr, ℕ, ◌-◌, ◌<◌, ◌≤◌, ◌==◌, ◌||◌, Bool, true, false, List, [], ◌∷◌, map, length, Option, Some, None, if◌then◌else◌, ap, sym, ◌∙◌, refl, arith, subst}
+use Rattle.std.specs.Prelude.{is_some, nat_lt, option_map, slice_get}
 use Rattle.std.specs.List.{list_any}
 use Rattle.std.proofs.lemmas.Bool.{false≢true}
 use Rattle.o2_conf.specs.Dispatch.{Dispatch}
 use Rattle.o2_world.specs.Map.{get}
 use Rattle.o2_world.specs.World.{World, Setting, Process, Segment, Held, is_live}
-use Rattle.o2_world.specs.Holders.{process_at}
-use Rattle.o2_world.specs.Changes.{Change, Drops, Holds, Makes, resized, takes, with_change, with_changes, with_segment}
-use Rattle.o2_world.specs.Known.{held_at, holds_index, reserves, taken_in}
+use Rattle.o2_world.specs.Holders.{process_at, with_process}
+use Rattle.o2_world.specs.Views.{with_bytes}
+use Rattle.o2_world.specs.Changes.{Change, Drops, Holds, Makes, Names, resized, takes, with_change, with_changes, with_segment}
+use Rattle.o2_world.specs.Known.{held_at, holds_index, lives_at, reserves, taken_in}
 use Rattle.o2_world.specs.CallParts.{Before, Effect}
+use Rattle.o2_world.specs.Known.{Marks, marks_of}
 use Rattle.o2_world.specs.Rulings.{full_size, held_as_code, held_by_call, made_segment}
+use Rattle.o2_world.specs.SharedRulings.{each_more, shared_segment}
 use Rattle.o2_world.specs.Run.{before, worked, working}
 use Rattle.o2_world.specs.Sound.{held_in, held_of, HasGoodRegisters}
-use Rattle.o2_world.specs.Tied.{AreFitChanges, IsFitDrop, IsSound, IsSwept}
-use Rattle.o2_world.specs.Moves.{IsFreeIndex, IsFreeing, Moves, NoneMoves, OneAliased, OneLocked, OneMade, OneSized, SomeFreed}
-use Rattle.o2_world.proofs.FitRows.{alias_fit, alloc_fit, either_false, full_is, nobody}
+use Rattle.o2_world.specs.Tied.{AreFitChanges, IsFitDrop, IsSound, IsSwept, IsTied}
+use Rattle.o2_world.specs.Moves.{AllMoves, Each, IsShared, IsSharing, OneNamed, OwnMoves, SomeShared, IsFreeIndex, IsFreeing, Moves, NoneMoves, OneAliased, OneLocked, OneMade, OneSized, SomeFreed}
+use Rattle.o2_world.proofs.FitRows.{alias_fit, alloc_fit, either_false, full_is, made_size, named_fit, nobody}
+use Rattle.o2_world.proofs.FitShares.{held_each, share_fit, share_swept, shares_known}
 use Rattle.o2_world.proofs.FitFrees.{drops_fit, each_among, free_fit}
 use Rattle.o2_world.proofs.HoldsSwept.{holds_swept}
-use Rattle.o2_world.proofs.MapLemmas.{if_no}
-use Rattle.o2_world.proofs.Numbers.{at_place_of, number_some}
-use Rattle.o2_world.proofs.StepReach.{own_at}
+use Rattle.o2_world.proofs.MapLemmas.{get-map, if_no}
+use Rattle.o2_world.proofs.Numbers.{at_place_of, number_some, with_is}
+use Rattle.o2_world.proofs.Reached.{set-place}
+use Rattle.o2_world.proofs.StepReach.{own_at, same_at}
 use Rattle.o2_world.proofs.TiedChanges.{lives_same}
-use Rattle.o2_world.proofs.TiedWorld.{worked_swept}
+use Rattle.o2_world.proofs.TiedWorld.{worked_swept, worked_tied}
 
 -- what an index that isn't taken is: nobody's
 free_here : (w : World) (n i : ℕ) (p : Process) → process_at w.processes n ≡ Some p → (r : ℕ) → r ≡ n → taken_in w r i ≡ false → get p.held i ≡ None
@@ -70,6 +75,21 @@ low_or_high P i f g = go (nat_lt i 4096) refl
     go true e = f (low i e)
     go false e = g (high i e)
 
+-- another process, behind a write of one
+other_number_at : (ps : List Process) (n m : ℕ) (p new : Process) → process_at ps n ≡ Some p → (m ≡ n → ⊥) → process_at (with_process ps n new) m ≡ process_at ps m
+other_number_at ps n m p new at other = go (m == 0) refl
+  where
+    apart : (n m : ℕ) → 0 < n → (m == 0) ≡ false → (m ≡ n → ⊥) → (m - 1 == n - 1) ≡ false
+    apart n m some is other = grind arith
+
+    go : (t : Bool) → (m == 0) ≡ t → (if t then None else slice_get (with_process ps n new) (m - 1)) ≡ (if t then None else slice_get ps (m - 1))
+    go true is = refl
+    go false is =
+        let some = number_some ps n p at in
+        ap (λ (qs : List Process). slice_get qs (m - 1)) (with_is ps n new some)
+        ∙ set-place (n - 1) (m - 1) new ps p (at_place_of ps n p at)
+        ∙ if_no (m - 1 == n - 1) (Some new) (slice_get ps (m - 1)) (apart n m some is other)
+
 module _ (s : Setting) (w : World) (d : Dispatch) (p : Process) (e : Effect) (at : process_at w.processes d.current ≡ Some p) (lives : is_live p.state ≡ true)
     (live_now : is_live (working p e).state ≡ true) (good_now : HasGoodRegisters (working p e))
     (sizes : (q : ℕ) (x : Segment) → get w.names q ≡ Some x → length (e.bytes q) ≡ length x.bytes) (sound : IsSound w) where
@@ -115,11 +135,11 @@ module _ (s : Setting) (w : World) (d : Dispatch) (p : Process) (e : Effect) (at
   segment_swept : (n : ℕ) (f : Segment → Segment) → IsSwept (with_segment v n f)
   segment_swept n f = record { named = λ q x. swept.named q (sym (lives_same v.names n q f) ∙ x); used = swept.used }
 
-  made_swept : (size flags i : ℕ) → IsFreeIndex b.known b.number i
-      → IsSwept (with_change (with_change v (Makes (made_segment size flags))) (Holds d.current i (held_by_call w.next_name)))
-  made_swept size flags i free =
-      holds_swept (with_change v (Makes (made_segment size flags))) d.current i (working p e) (held_by_call w.next_name) own (free_in i free)
-      (λ q x other. swept.named q (sym (ap is_some (if_no (w.next_name == q) (Some (made_segment size flags)) (get v.names q) (not_new q other))) ∙ x)) swept.used
+  made_swept : (new : Segment) (i : ℕ) → IsFreeIndex b.known b.number i
+      → IsSwept (with_change (with_change v (Makes new)) (Holds d.current i (held_by_call w.next_name)))
+  made_swept new i free =
+      holds_swept (with_change v (Makes new)) d.current i (working p e) (held_by_call w.next_name) own (free_in i free)
+      (λ q x other. swept.named q (sym (ap is_some (if_no (w.next_name == q) (Some new) (get v.names q) (not_new q other))) ∙ x)) swept.used
     where
       not_new : (q : ℕ) → (q ≡ w.next_name → ⊥) → (w.next_name == q) ≡ false
       not_new q other = go (w.next_name == q) refl
@@ -145,8 +165,70 @@ module _ (s : Setting) (w : World) (d : Dispatch) (p : Process) (e : Effect) (at
   pub moves_swept : Moves b e.cpu e.changes → list_any takes e.changes ≡ false → IsSwept (with_changes v e.changes)
   unfolding with_changes
   moves_swept (NoneMoves is) = subst SweptBy (sym is) (λ _. swept)
-  moves_swept (OneMade size flags i free is) = subst SweptBy (sym is) (λ _. made_swept size flags i free)
+  moves_swept (OneMade size flags i free is) = subst SweptBy (sym is) (λ _. made_swept (made_segment size flags) i free)
   moves_swept (OneSized name size is) = subst SweptBy (sym is) (λ _. segment_swept name (λ (x : Segment). record x { bytes = resized (full_size size) x.bytes }))
   moves_swept (OneLocked name count is) = subst SweptBy (sym is) (λ _. segment_swept name (λ (x : Segment). record x { lock = count }))
   moves_swept (OneAliased index i h there free is) = subst SweptBy (sym is) (λ _. alias_swept h.name i free)
   moves_swept (SomeFreed xs frees is) = subst SweptBy (sym is) (λ none. freed_swept xs none)
+
+  -- What one process gets of what another holds.
+
+  tied : IsTied v
+  tied = worked_tied w d p e at lives good_now sizes sound.tied
+
+  -- what is known of a process's holds is so of the world behind its bytes
+  held_there : (n i : ℕ) (h : Held) → b.known.held n i ≡ Some h → held_in v.processes (n - 1) i ≡ Some h
+  held_there n i h there = same_at w.processes d.current p (working p e) (n - 1) i at refl ∙ go (n == 0) refl there
+    where
+      go : (t : Bool) → (n == 0) ≡ t → held_of (if t then None else slice_get w.processes (n - 1)) i ≡ Some h → held_in w.processes (n - 1) i ≡ Some h
+      go true is f = absurd (cc)
+      go false is f = f
+
+  marked : (o : Option Segment) (m : Marks) → option_map marks_of o ≡ Some m → (x : Segment) × (o ≡ Some x) × (x.shared ≡ m.shared)
+  marked None m f = absurd (cc)
+  marked (Some x) m f = let z : m ≡ marks_of x = cc in (x, refl, sym (ap (λ (y : Marks). y.shared) z))
+
+  shared_there : (n i : ℕ) (s : IsShared b.known n i)
+      → (held_in v.processes (n - 1) i ≡ Some s.held) × ((y : Segment) × (get v.names s.held.name ≡ Some y) × (y.shared ≡ true))
+  shared_there n i s =
+      let x = marked (get w.names s.held.name) s.marks s.segment in (
+        held_there n i s.held s.there,
+        (
+          record x.0 { bytes = e.bytes s.held.name },
+          get-map (λ (q : ℕ) (y : Segment). record y { bytes = e.bytes q }) w.names s.held.name ∙ ap (option_map (λ (y : Segment). record y { bytes = e.bytes s.held.name })) x.1,
+          x.2 ∙ s.shared,
+        ),
+      )
+
+  -- who gets it lives
+  lives_there : (to : ℕ) → (to ≡ b.number) ⊎ (b.known.lives to ≡ true) → (x : Process) × (process_at v.processes to ≡ Some x) × (is_live x.state ≡ true)
+  lives_there to (inl same) = (working p e, ap (process_at v.processes) same ∙ own, live_now)
+  lives_there to (inr so) = go (to == d.current) refl (process_at w.processes to) refl
+    where
+      same_number : (n m : ℕ) → (n == m) ≡ true → n ≡ m
+      same_number n m f = grind arith
+
+      other : (n m : ℕ) → (n == m) ≡ false → n ≡ m → ⊥
+      other n m f g = grind arith
+
+      go : (t : Bool) → (to == d.current) ≡ t → (o : Option Process) → process_at w.processes to ≡ o
+          → (x : Process) × (process_at v.processes to ≡ Some x) × (is_live x.state ≡ true)
+      go true is o f = (working p e, ap (process_at v.processes) (same_number to d.current is) ∙ own, live_now)
+      go false is None f = absurd (false≢true (sym (ap lives_at f) ∙ so))
+      go false is (Some x) f = (x, other_number_at w.processes d.current to p (working p e) at (other to d.current is) ∙ f, sym (ap lives_at f) ∙ so)
+
+  pub all_moves_fit : AllMoves b e.cpu e.changes → AreFitChanges v e.changes
+  all_moves_fit (OwnMoves moves) = moves_fit moves
+  all_moves_fit (OneNamed size i name free is) = named_fit w d p e (shared_segment size) i at live_now refl free.shared name (made_size size 0) is
+  all_moves_fit (SomeShared from to xs shares is) =
+      let x = lives_there to shares.lives in
+      subst (AreFitChanges v) (sym is)
+      (share_fit v b.known from to xs x.0 shares.shared (shares_known v b.known from (shared_there from) xs shares.shared) (x.1, x.2) tied)
+
+  pub all_moves_swept : AllMoves b e.cpu e.changes → list_any takes e.changes ≡ false → IsSwept (with_changes v e.changes)
+  unfolding with_changes
+  all_moves_swept (OwnMoves moves) = moves_swept moves
+  all_moves_swept (OneNamed size i name free is) = subst SweptBy (sym is) (λ _. let s = made_swept (shared_segment size) i free in record { named = s.named; used = s.used })
+  all_moves_swept (SomeShared from to xs shares is) =
+      let x = lives_there to shares.lives in
+      subst SweptBy (sym is) (λ _. share_swept v b.known from to xs x.0 shares.shared (shares_known v b.known from (shared_there from) xs shares.shared) (x.1, x.2) swept)

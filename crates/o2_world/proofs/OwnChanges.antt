@@ -56,7 +56,7 @@ number_other ps n place f other = go (n == 0) refl
     go true is = refl
     go false is = place_other ps (n - 1) place f (past is)
 
-moved_other : (ps : List Process) (p n place : ℕ) (f : Process → Process) → p ≡ n → place + 1 ≢ n
+pub moved_other : (ps : List Process) (p n place : ℕ) (f : Process → Process) → p ≡ n → place + 1 ≢ n
     → slice_get (at_number p f ps) place ≡ slice_get ps place
 moved_other ps p n place f own other = number_other ps p place f (λ e. other (e ∙ own))
 

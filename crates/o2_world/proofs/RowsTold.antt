@@ -11,15 +11,20 @@ use Rattle.o2_world.specs.declared.types.Argument.{Argument}
 use Rattle.o2_world.specs.declared.types.Argument.TheVariants.{Word, Far}
 use Rattle.o2_world.specs.declared.types.State.TheVariants.{Trapped}
 use Rattle.o2_world.specs.declared.types.Row.{Row}
-use Rattle.o2_world.specs.declared.types.Row.TheVariants.{DosExit, DosGetPid, DosRead, DosWrite, DosMemAvail, OnSegments}
+use Rattle.o2_world.specs.declared.types.Row.TheVariants.{DosExit, DosGetPid, DosRead, DosWrite, DosMemAvail, OnSegments, OnShared}
 use Rattle.o2_world.specs.declared.types.SegmentCall.{SegmentCall}
 use Rattle.o2_world.specs.declared.types.SegmentCall.TheVariants.{DosAllocSeg, DosReallocSeg, DosFreeSeg, DosSizeSeg, DosLockSeg, DosUnlockSeg, DosCreateCsAlias}
+use Rattle.o2_world.specs.declared.types.SharedCall.{SharedCall}
+use Rattle.o2_world.specs.declared.types.SharedCall.TheVariants.{DosAllocShrSeg, DosGetShrSeg, DosGiveSeg, DosGetSeg}
 use Rattle.o2_world.specs.declared.types.Transfer.{Transfer}
 use Rattle.o2_world.specs.World.{Line, HoldsBy, DropsBy, Traps, is_live}
 use Rattle.o2_world.specs.Changes.{Change, Makes, Resizes, Locks, Marks, Holds, Drops, Finishes, Reserves, Frees, Names, among, drop_lines_of, hold_lines_of, in_order, key_of, moved_lines}
 use Rattle.o2_world.specs.Calls.{Before, Effect, trapped, argument, has_arguments, transfer_of, may_write, may_give, is_console, written, dos_write, dos_exit, told_at, told, may_take, read_from, dos_read, row_of, served_by}
 use Rattle.o2_world.specs.Rulings.{Ruling, aliasing, allocation, sizing}
 use Rattle.o2_world.specs.SegmentCalls.{Written, alloc_args, aliased, allocated, back, dos_alloc_seg, dos_create_cs_alias, dos_free_seg, dos_lock_seg, dos_realloc_seg, dos_size_seg, dos_unlock_seg, on_segments, ruled_at, sized, written_long, written_word}
+use Rattle.o2_world.specs.SharedNames.{may_read_text, name_by, text_at}
+use Rattle.o2_world.specs.SharedRulings.{giving, naming, sharing}
+use Rattle.o2_world.specs.SharedCalls.{dos_alloc_shr_seg, dos_get_seg, dos_get_shr_seg, dos_give_seg, give_args, given, got, name_args, named, on_shared, shared_by_name}
 use Rattle.o2_world.specs.Effect.{has_trap_flag, answered, single_stepped, effect}
 use Rattle.o2_world.specs.Reach.{came, went, tells_end, Tells}
 use Rattle.o2_world.proofs.Quiet.{exit_quiet, read_quiet, told_quiet, write_quiet}
@@ -213,6 +218,36 @@ on_segments_told DosCreateCsAlias b next =
     let a : ℕ → ℕ = argument b.view b.cpu in
     told_either b.number (has_arguments b.view b.cpu 3) _ _ (aliased_told b next (a 2) (a 1) (a 0)) (trap_told b 12)
 
+named_told : (b : Before) (next size n m s o : ℕ) → IsToldBy b.number (named b next size n m s o)
+named_told b next size n m s o =
+    let r = naming b.known b.number size (name_by (text_at b.view n m)) in
+    told_either b.number (may_read_text b.view n m && may_write b.view s o 2) _ _
+    (ruled_told b next 5 (codes "DosAllocShrSeg") (name_args size n m s o) (written_word s o r.value) r) (trap_told b 13)
+
+shared_told : (b : Before) (next n m s o : ℕ) → IsToldBy b.number (shared_by_name b next n m s o)
+shared_told b next n m s o =
+    let r = sharing b.known b.number (name_by (text_at b.view n m)) in
+    told_either b.number (may_read_text b.view n m && may_write b.view s o 2) _ _
+    (ruled_told b next 4 (codes "DosGetShrSeg") (Far n m ∷ Far s o ∷ []) (written_word s o r.value) r) (trap_told b 13)
+
+given_told : (b : Before) (next selector pid s o : ℕ) → IsToldBy b.number (given b next selector pid s o)
+given_told b next selector pid s o =
+    let r = giving b.known b.number selector pid in
+    told_either b.number (may_write b.view s o 2) _ _ (ruled_told b next 4 (codes "DosGiveSeg") (give_args selector pid s o) (written_word s o r.value) r) (trap_told b 13)
+
+on_shared_told : (call : SharedCall) (b : Before) (next : ℕ) → IsToldBy b.number (on_shared call b next)
+unfolding dos_alloc_shr_seg dos_get_shr_seg dos_give_seg dos_get_seg
+on_shared_told DosAllocShrSeg b next =
+    let a : ℕ → ℕ = argument b.view b.cpu in
+    told_either b.number (has_arguments b.view b.cpu 5) _ _ (named_told b next (a 4) (a 3) (a 2) (a 1) (a 0)) (trap_told b 12)
+on_shared_told DosGetShrSeg b next =
+    let a : ℕ → ℕ = argument b.view b.cpu in
+    told_either b.number (has_arguments b.view b.cpu 4) _ _ (shared_told b next (a 3) (a 2) (a 1) (a 0)) (trap_told b 12)
+on_shared_told DosGiveSeg b next =
+    let a : ℕ → ℕ = argument b.view b.cpu in
+    told_either b.number (has_arguments b.view b.cpu 4) _ _ (given_told b next (a 3) (a 2) (a 1) (a 0)) (trap_told b 12)
+on_shared_told DosGetSeg b next = told_either b.number (has_arguments b.view b.cpu 1) _ _ (back_told b _ _ _ _ _ _ _) (trap_told b 12)
+
 served_told : (row : Option Row) (b : Before) (next : ℕ) → IsToldBy b.number (served_by row b next)
 served_told None b next = trap_told b 13
 served_told (Some DosExit) b next = quiet_told b.number (dos_exit b) (exit_quiet b) (exit_plain b)
@@ -221,6 +256,7 @@ served_told (Some DosRead) b next = quiet_told b.number (dos_read b next) (read_
 served_told (Some DosWrite) b next = quiet_told b.number (dos_write b next) (write_quiet b next) (write_plain b next)
 served_told (Some DosMemAvail) b next = quiet_told b.number _ (told_quiet b next _ _ _) (told_plain b next _ _ _)
 served_told (Some (OnSegments call)) b next = on_segments_told call b next
+served_told (Some (OnShared call)) b next = on_shared_told call b next
 
 answered_told : (b : Before) (r : Result Machine Stop) → IsToldBy b.number (answered b r)
 answered_told b (Ok s) = quiet_told b.number (answered b (Ok s)) refl (record { comes = λ q t. refl; goes = λ q t. refl; ends = λ q. refl })

@@ -45,7 +45,7 @@ zero_is n e = grind arith
 not_zero : (n : ℕ) → (n == 0) ≡ false → n ≡ 0 → ⊥
 not_zero n e f = grind arith
 
-free_by : (k : Known) (n r i : ℕ) → (r ≡ n) ⊎ (r ≡ 0) → free_index k r ≡ Some i → IsFreeIndex k n i
+pub free_by : (k : Known) (n r i : ℕ) → (r ≡ n) ⊎ (r ≡ 0) → free_index k r ≡ Some i → IsFreeIndex k n i
 free_by k n r i which e = go (r == 0) refl e
   where
     own_of : (r ≡ n) ⊎ (r ≡ 0) → (r ≡ 0 → ⊥) → r ≡ n

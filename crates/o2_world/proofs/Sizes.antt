@@ -18,11 +18,16 @@ use Rattle.o2_world.specs.declared.types.Row.{Row}
 use Rattle.o2_world.specs.declared.types.Transfer.{Transfer}
 use Rattle.o2_world.specs.declared.types.SegmentCall.{SegmentCall}
 use Rattle.o2_world.specs.declared.types.SegmentCall.TheVariants.{DosAllocSeg, DosReallocSeg, DosFreeSeg, DosSizeSeg, DosLockSeg, DosUnlockSeg, DosCreateCsAlias}
-use Rattle.o2_world.specs.declared.types.Row.TheVariants.{DosExit, DosGetPid, DosRead, DosWrite, DosMemAvail, OnSegments}
+use Rattle.o2_world.specs.declared.types.SharedCall.{SharedCall}
+use Rattle.o2_world.specs.declared.types.SharedCall.TheVariants.{DosAllocShrSeg, DosGetShrSeg, DosGiveSeg, DosGetSeg}
+use Rattle.o2_world.specs.declared.types.Row.TheVariants.{DosExit, DosGetPid, DosRead, DosWrite, DosMemAvail, OnSegments, OnShared}
 use Rattle.o2_world.specs.World.{is_live}
 use Rattle.o2_world.specs.Calls.{Before, Effect, argument, has_arguments, transfer_of, may_write, may_give, put_at_pointer, word_bytes, is_console, written, dos_write, dos_exit, told_at, told, bytes_with, may_take, read_from, dos_read, row_of, served_by}
 use Rattle.o2_world.specs.Rulings.{Ruling, aliasing, allocation, sizing}
 use Rattle.o2_world.specs.SegmentCalls.{Written, alloc_args, aliased, allocated, dos_alloc_seg, dos_create_cs_alias, dos_free_seg, dos_lock_seg, dos_realloc_seg, dos_size_seg, dos_unlock_seg, on_segments, ruled_at, sized, written_long, written_word}
+use Rattle.o2_world.specs.SharedNames.{may_read_text, name_by, text_at}
+use Rattle.o2_world.specs.SharedRulings.{giving, naming, sharing}
+use Rattle.o2_world.specs.SharedCalls.{dos_alloc_shr_seg, dos_get_seg, dos_get_shr_seg, dos_give_seg, give_args, given, got, name_args, named, on_shared, shared_by_name}
 use Rattle.o2_world.specs.Effect.{has_trap_flag, answered, effect}
 
 same_name : (n m : ℕ) → (n == m) ≡ true → n ≡ m
@@ -225,6 +230,38 @@ on_segments_sizes DosCreateCsAlias b next =
     let a : ℕ → ℕ = argument b.view b.cpu in
     by_test b (has_arguments b.view b.cpu 3) _ _ (λ _. aliased_sizes b next (a 2) (a 1) (a 0)) (stays b.view.bytes)
 
+named_sizes : (b : Before) (next size n m s o : ℕ) → Keeps b (named b next size n m s o)
+named_sizes b next size n m s o =
+    let r = naming b.known b.number size (name_by (text_at b.view n m)) in
+    by_test b (may_read_text b.view n m && may_write b.view s o 2) _ _
+    (λ good. ruled_sizes b next 5 (codes "DosAllocShrSeg") (name_args size n m s o) (written_word s o r.value) r (both (may_read_text b.view n m) (may_write b.view s o 2) good).1)
+    (stays b.view.bytes)
+
+shared_sizes : (b : Before) (next n m s o : ℕ) → Keeps b (shared_by_name b next n m s o)
+shared_sizes b next n m s o =
+    let r = sharing b.known b.number (name_by (text_at b.view n m)) in
+    by_test b (may_read_text b.view n m && may_write b.view s o 2) _ _
+    (λ good. ruled_sizes b next 4 (codes "DosGetShrSeg") (Far n m ∷ Far s o ∷ []) (written_word s o r.value) r (both (may_read_text b.view n m) (may_write b.view s o 2) good).1)
+    (stays b.view.bytes)
+
+given_sizes : (b : Before) (next selector pid s o : ℕ) → Keeps b (given b next selector pid s o)
+given_sizes b next selector pid s o =
+    let r = giving b.known b.number selector pid in
+    by_test b (may_write b.view s o 2) _ _ (λ good. ruled_sizes b next 4 (codes "DosGiveSeg") (give_args selector pid s o) (written_word s o r.value) r good) (stays b.view.bytes)
+
+on_shared_sizes : (call : SharedCall) (b : Before) (next : ℕ) → Keeps b (on_shared call b next)
+unfolding dos_alloc_shr_seg dos_get_shr_seg dos_give_seg dos_get_seg
+on_shared_sizes DosAllocShrSeg b next =
+    let a : ℕ → ℕ = argument b.view b.cpu in
+    by_test b (has_arguments b.view b.cpu 5) _ _ (λ _. named_sizes b next (a 4) (a 3) (a 2) (a 1) (a 0)) (stays b.view.bytes)
+on_shared_sizes DosGetShrSeg b next =
+    let a : ℕ → ℕ = argument b.view b.cpu in
+    by_test b (has_arguments b.view b.cpu 4) _ _ (λ _. shared_sizes b next (a 3) (a 2) (a 1) (a 0)) (stays b.view.bytes)
+on_shared_sizes DosGiveSeg b next =
+    let a : ℕ → ℕ = argument b.view b.cpu in
+    by_test b (has_arguments b.view b.cpu 4) _ _ (λ _. given_sizes b next (a 3) (a 2) (a 1) (a 0)) (stays b.view.bytes)
+on_shared_sizes DosGetSeg b next = by_test b (has_arguments b.view b.cpu 1) _ _ (λ _. stays b.view.bytes) (stays b.view.bytes)
+
 served_sizes : (row : Option Row) (b : Before) (next : ℕ) → Keeps b (served_by row b next)
 served_sizes None b next = stays b.view.bytes
 served_sizes (Some DosExit) b next = exit_sizes b
@@ -233,6 +270,7 @@ served_sizes (Some DosRead) b next = dos_read_sizes b next
 served_sizes (Some DosWrite) b next = write_sizes b next
 served_sizes (Some DosMemAvail) b next = told_sizes b next _ _ _
 served_sizes (Some (OnSegments call)) b next = on_segments_sizes call b next
+served_sizes (Some (OnShared call)) b next = on_shared_sizes call b next
 
 answered_sizes : (b : Before) (r : Result Machine Stop) → stepped (state b.cpu b.view) ≡ r → Keeps b (answered b r)
 answered_sizes b (Ok s) e = stepped_lengths outcome.Done s (state b.cpu b.view) e

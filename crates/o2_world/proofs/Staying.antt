@@ -13,10 +13,10 @@ use Rattle.o2_world.specs.Run.{all_changes, before, changed, worked, acted, step
 use Rattle.o2_world.specs.Moves.{AreOwn}
 use Rattle.o2_world.proofs.Keeps.{other_number}
 use Rattle.o2_world.proofs.OwnChanges.{all_other, all_own, changes_reserved, moves_own}
-use Rattle.o2_world.proofs.StepMoves.{effect_moves}
+use Rattle.o2_world.proofs.StepMoves.{effect_own}
 
 own_changes : (s : Setting) (w : World) (n : ℕ) (p : Process) → let e = effect (before s w n p) in AreOwn n (all_changes n e)
-own_changes s w n p = let b = before s w n p in all_own n (effect b) (moves_own b (effect b).cpu (effect b).changes (effect_moves b))
+own_changes s w n p = let b = before s w n p in all_own n (effect b) (moves_own b (effect b).cpu (effect b).changes (effect_own b))
 
 acted_other : (s : Setting) (w : World) (d : Dispatch) (o : Option Process) (place : ℕ) → place + 1 ≢ d.current
     → slice_get (acted s w d o).processes place ≡ slice_get w.processes place

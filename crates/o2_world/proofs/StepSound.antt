@@ -19,7 +19,7 @@ use Rattle.o2_conf.proofs.Choice.{chosen_lives}
 use Rattle.o2_world.proofs.Flags.{live_process}
 use Rattle.o2_world.proofs.GoodRegisters.{good_after, effect_ruled}
 use Rattle.o2_world.proofs.Numbers.{at_place_of}
-use Rattle.o2_world.proofs.MovesFit.{moves_fit, moves_swept}
+use Rattle.o2_world.proofs.MovesFit.{all_moves_fit, all_moves_swept}
 use Rattle.o2_world.proofs.StepMoves.{effect_moves}
 use Rattle.o2_world.proofs.Sizes.{effect_sizes}
 use Rattle.o2_world.proofs.TiedWorld.{changed_tied, fit_more, still_live, worked_tied}
@@ -63,7 +63,7 @@ module _ (s : Setting) (w : World) (p : Process) (at : process_at w.processes (n
   worked_is_tied = worked_tied w d p e at lives_now good sizes sound.tied
 
   fit : AreFitChanges (worked w d p e) e.changes
-  fit = moves_fit s w d p e at lives_now still good sizes sound orderly.moves
+  fit = all_moves_fit s w d p e at lives_now still good sizes sound orderly.moves
 
   pub all_fit : AreFitChanges (worked w d p e) (all_changes d.current e)
   all_fit = go (is_live e.state) refl
@@ -74,7 +74,7 @@ module _ (s : Setting) (w : World) (p : Process) (at : process_at w.processes (n
 
   pub acted_sound : IsSound (changed w d p e)
   acted_sound =
-      let both = changed_tied w d p e at lives_now good sizes fit (moves_swept s w d p e at lives_now still good sizes sound orderly.moves) sound.tied in
+      let both = changed_tied w d p e at lives_now good sizes fit (all_moves_swept s w d p e at lives_now still good sizes sound orderly.moves) sound.tied in
       record { tied = both.0; swept = both.1 }
 
 pub step_sound : (s : Setting) (w : World) → IsSound w → IsSound (step s w)

@@ -1,5 +1,5 @@
 -- A step keeps what is held told by the lines.
-use Rattle.std.proofs.Common.{◌≡◌, ◌≢◌, ℕ, zero, suc, ◌-◌, ◌<◌, ◌≤◌, ◌/◌, ◌==◌, ◌&&◌, Bool, true, false, List, [], ◌∷◌, map, length, replicate, Option, Some, None, if◌then◌else◌, ap, sym, ◌∙◌, refl, arith, subst}
+use Rattle.std.proofs.Common.{◌≡◌, ◌≢◌, ◌⊎◌, inl, inr, ℕ, zero, suc, ◌-◌, ◌<◌, ◌≤◌, ◌/◌, ◌==◌, ◌&&◌, Bool, true, false, List, [], ◌∷◌, map, length, replicate, Option, Some, None, if◌then◌else◌, ap, sym, ◌∙◌, refl, arith, subst, slice_set}
 use Rattle.std.specs.Prelude.{is_some, slice_get, flat_map}
 use Rattle.std.proofs.lemmas.Bool.{false≢true}
 use Rattle.o2_base.specs.Selectors.{selector_of}
@@ -7,16 +7,18 @@ use Rattle.o2_conf.specs.Dispatch.{Dispatch}
 use Rattle.o2_isa.specs.View.{is_code}
 use Rattle.o2_world.specs.Map.{get, put}
 use Rattle.o2_world.specs.World.{World, Setting, Process, Held, HoldsBy, DropsBy, is_live}
-use Rattle.o2_world.specs.Holders.{process_at}
-use Rattle.o2_world.specs.Changes.{Change, Makes, Resizes, Locks, Marks, Holds, Drops, Finishes, Reserves, Frees, Names, at_number, at_place, fewer, hold_lines_of, with_change}
+use Rattle.o2_world.specs.Holders.{process_at, with_process}
+use Rattle.o2_world.specs.Changes.{Change, Makes, Resizes, Locks, Marks, Holds, Drops, Finishes, Reserves, Frees, Names, at_number, at_place, fewer, hold_lines_of, more, with_change}
+use Rattle.o2_world.specs.Known.{lives_at}
 use Rattle.o2_world.specs.CallParts.{Before, Effect}
 use Rattle.o2_world.specs.Effect.{effect}
 use Rattle.o2_world.specs.Run.{before, worked, working, acted, after, step, chosen_step, is_over, next_dispatch}
 use Rattle.o2_world.specs.Sound.{has_rights, held_in, held_of}
 use Rattle.o2_world.specs.Tied.{IsSound}
 use Rattle.o2_world.specs.Reach.{came, went, one_if, tells_end, holds_of, holds_at, IsThere, CanTellAll, IsTold}
-use Rattle.o2_world.specs.Moves.{AreApart, AreOwn, Each, IsOwn, Moves, NoneMoves, OneAliased, OneLocked, OneMade, OneSized, SomeFreed}
+use Rattle.o2_world.specs.Moves.{AllMoves, OneNamed, OwnMoves, SomeShared, AreApart, AreOwn, Each, IsOwn, Moves, NoneMoves, OneAliased, OneLocked, OneMade, OneSized, SomeFreed}
 use Rattle.o2_world.proofs.FitFrees.{at_each, each_among}
+use Rattle.o2_world.proofs.FitShares.{changes_are, held_each, share, shares_of}
 use Rattle.o2_world.proofs.Numbers.{at_place_of, number_some}
 use Rattle.o2_world.proofs.OwnChanges.{moves_own}
 use Rattle.o2_world.proofs.Reached.{came_append, came_times, moved_came, number_holds, one_told, selector_is, went_times}
@@ -79,36 +81,110 @@ drops_tell w n [] there apart held = tt
 drops_tell w n (i ∷ is) there apart held =
     ((there, held.0), drops_tell (with_change w (Drops n i 1)) n is (still_there w n i there) apart.1 (each_held w n i is there held.0 apart.0 held.1))
 
+set_length : (ps : List Process) (n : ℕ) (x : Process) → length (with_process ps n x) ≡ length ps
+set_length ps n x = go (n == 0)
+  where
+    put_length : (k : ℕ) (qs : List Process) → length (slice_set qs k x) ≡ length qs
+    put_length k [] = refl
+    put_length zero (q ∷ qs) = refl
+    put_length (suc k) (q ∷ qs) = ap suc (put_length k qs)
+
+    go : (b : Bool) → length (if b then ps else slice_set ps (n - 1) x) ≡ length ps
+    go true = refl
+    go false = put_length (n - 1) ps
+
 -- a place that has a process
 below : (ps : List Process) (k : ℕ) (x : Process) → slice_get ps k ≡ Some x → k < length ps
 below [] k x e = absurd (cc)
 below (p ∷ ps) zero x e = omega arith
 below (p ∷ ps) (suc k) x e = let h = below ps k x e in omega (arith, h)
 
--- Changes of one process give no hold to another.
+-- Changes give no hold to a process that isn't among those to whom they give some.
+
+abbrev GivesTo : (ℕ → Type 0) → Change → Type 0
+GivesTo P (Makes g) = Unit {0}
+GivesTo P (Resizes m size) = Unit {0}
+GivesTo P (Locks m count) = Unit {0}
+GivesTo P (Marks m d) = Unit {0}
+GivesTo P (Holds p i h) = P p
+GivesTo P (Drops p i count) = Unit {0}
+GivesTo P (Finishes p state) = Unit {0}
+GivesTo P (Reserves r) = Unit {0}
+GivesTo P (Frees r first) = Unit {0}
+GivesTo P (Names text m) = Unit {0}
+
+abbrev AllGiveTo : (ℕ → Type 0) → List Change → Type 0
+AllGiveTo P [] = Unit {0}
+AllGiveTo P (c ∷ cs) = GivesTo P c × AllGiveTo P cs
+
+own_gives : (P : ℕ → Type 0) (n : ℕ) (c : Change) → P n → IsOwn n c → GivesTo P c
+own_gives P n (Makes g) here own = tt
+own_gives P n (Resizes m size) here own = tt
+own_gives P n (Locks m count) here own = tt
+own_gives P n (Marks m d) here own = tt
+own_gives P n (Holds p i h) here own = subst P (sym own) here
+own_gives P n (Drops p i count) here own = tt
+own_gives P n (Finishes p state) here own = tt
+own_gives P n (Reserves r) here own = tt
+own_gives P n (Frees r first) here own = tt
+own_gives P n (Names text m) here own = tt
+
+all_own_give : (P : ℕ → Type 0) (n : ℕ) (cs : List Change) → P n → AreOwn n cs → AllGiveTo P cs
+all_own_give P n [] here own = tt
+all_own_give P n (c ∷ cs) here own = (own_gives P n c here own.0, all_own_give P n cs here own.1)
+
+gives_more : (P Q : ℕ → Type 0) → ((n : ℕ) → P n → Q n) → (c : Change) → GivesTo P c → GivesTo Q c
+gives_more P Q f (Makes g) give = tt
+gives_more P Q f (Resizes m size) give = tt
+gives_more P Q f (Locks m count) give = tt
+gives_more P Q f (Marks m d) give = tt
+gives_more P Q f (Holds p i h) give = f p give
+gives_more P Q f (Drops p i count) give = tt
+gives_more P Q f (Finishes p state) give = tt
+gives_more P Q f (Reserves r) give = tt
+gives_more P Q f (Frees r first) give = tt
+gives_more P Q f (Names text m) give = tt
+
+give_more : (P Q : ℕ → Type 0) → ((n : ℕ) → P n → Q n) → (cs : List Change) → AllGiveTo P cs → AllGiveTo Q cs
+give_more P Q f [] give = tt
+give_more P Q f (c ∷ cs) give = (gives_more P Q f c give.0, give_more P Q f cs give.1)
+
+shares_give : (P : ℕ → Type 0) (to : ℕ) (ss : List (ℕ × Held)) → P to → AllGiveTo P (shares_of to ss)
+shares_give P to [] here = tt
+shares_give P to (s ∷ ss) here = (here, shares_give P to ss here)
 
 other_comes : (q n : ℕ) (h : Held) (i s : ℕ) (cause : List ℕ) → (q == n) ≡ false → came (replicate h.holds (HoldsBy n (selector_of i) cause)) q s ≡ 0
 other_comes q n h i s cause other = came_times h.holds (HoldsBy n (selector_of i) cause) q s false (ap (λ (b : Bool). one_if (b && (s == selector_of i))) other)
 
-own_comes : (cause : List ℕ) (c : Change) (n q s : ℕ) → IsOwn n c → (q == n) ≡ false → came (hold_lines_of cause c) q s ≡ 0
-own_comes cause (Holds p i h) n q s own other = other_comes q p h i s cause (ap (λ (k : ℕ). q == k) own ∙ other)
-own_comes cause (Makes g) n q s own other = refl
-own_comes cause (Resizes m size) n q s own other = refl
-own_comes cause (Locks m count) n q s own other = refl
-own_comes cause (Marks m d) n q s own other = refl
-own_comes cause (Drops p i count) n q s own other = refl
-own_comes cause (Finishes p state) n q s own other = refl
-own_comes cause (Reserves r) n q s own other = refl
-own_comes cause (Frees r first) n q s own other = refl
-own_comes cause (Names text m) n q s own other = refl
+one_comes : (cause : List ℕ) (c : Change) (q s : ℕ) → GivesTo (λ (p : ℕ). (q == p) ≡ false) c → came (hold_lines_of cause c) q s ≡ 0
+one_comes cause (Holds p i h) q s other = other_comes q p h i s cause other
+one_comes cause (Makes g) q s other = refl
+one_comes cause (Resizes m size) q s other = refl
+one_comes cause (Locks m count) q s other = refl
+one_comes cause (Marks m d) q s other = refl
+one_comes cause (Drops p i count) q s other = refl
+one_comes cause (Finishes p state) q s other = refl
+one_comes cause (Reserves r) q s other = refl
+one_comes cause (Frees r first) q s other = refl
+one_comes cause (Names text m) q s other = refl
 
-none_come : (cause : List ℕ) (cs : List Change) (n q s : ℕ) → AreOwn n cs → (q == n) ≡ false → came (flat_map (hold_lines_of cause) cs) q s ≡ 0
-none_come cause [] n q s own other = refl
-none_come cause (c ∷ cs) n q s own other =
+none_come : (cause : List ℕ) (cs : List Change) (q s : ℕ) → AllGiveTo (λ (p : ℕ). (q == p) ≡ false) cs → came (flat_map (hold_lines_of cause) cs) q s ≡ 0
+none_come cause [] q s other = refl
+none_come cause (c ∷ cs) q s other =
     let a = came_append (hold_lines_of cause c) (flat_map (hold_lines_of cause) cs) q s in
-    let x = own_comes cause c n q s own.0 other in
-    let y = none_come cause cs n q s own.1 other in
+    let x = one_comes cause c q s other.0 in
+    let y = none_come cause cs q s other.1 in
     omega (arith, a, x, y)
+
+-- holds more of a process that is there can be told
+
+there_behind : (w : World) (q n i : ℕ) (h : Held) → IsThere w n → IsThere (with_change w (Holds q i h)) n
+there_behind w q n i h there =
+    (there.0, let l = number_length q (λ (p : Process). record p { held = put i (more h (get p.held i)) p.held }) w.processes in let x = there.1 in omega (arith, l, x))
+
+shares_tell : (w : World) (to : ℕ) (ss : List (ℕ × Held)) → IsThere w to → CanTellAll w (shares_of to ss)
+shares_tell w to [] there = tt
+shares_tell w to (s ∷ ss) there = (there, shares_tell (with_change w (Holds to s.0 (share s.1))) to ss (there_behind w to to s.0 (share s.1) there))
 
 module _ (s : Setting) (w : World) (p : Process) (d : Dispatch) (at : process_at w.processes d.current ≡ Some p) (lives : is_live p.state ≡ true) (sound : IsSound w) (told : IsTold w) where
   abbrev b : Before
@@ -142,21 +218,53 @@ module _ (s : Setting) (w : World) (p : Process) (d : Dispatch) (at : process_at
   there_now : IsThere v d.current
   there_now = (some, let h = below v.processes (d.current - 1) (working p e) (at_place_of v.processes d.current (working p e) (own_at w.processes d.current p (working p e) at)) in let z = some in omega (arith, h, z))
 
-  -- it has not ended: it holds its code
-  goes_on : tells_end w.lines d.current ≡ false
-  goes_on = go (tells_end w.lines d.current) refl
+  -- who lives has not ended: it holds its code
+  lives_on : (n : ℕ) (x : Process) → process_at w.processes n ≡ Some x → is_live x.state ≡ true → tells_end w.lines n ≡ false
+  lives_on n x there live = go (tells_end w.lines n) refl
     where
-      code : (o : Option Held) → get p.held (p.cpu.cs / 8) ≡ o → has_rights is_code o ≡ true → 1 ≤ holds_at w d.current (p.cpu.cs / 8)
-      code None f g = absurd (false≢true g)
-      code (Some h) f g = held_some (p.cpu.cs / 8) h f
+      here : 0 < n
+      here = number_some w.processes n x there
 
-      go : (t : Bool) → tells_end w.lines d.current ≡ t → tells_end w.lines d.current ≡ false
+      code : (o : Option Held) → get x.held (x.cpu.cs / 8) ≡ o → has_rights is_code o ≡ true → 1 ≤ holds_at w n (x.cpu.cs / 8)
+      code None f g = absurd (false≢true g)
+      code (Some h) f g =
+          let y : held_in w.processes (n - 1) (x.cpu.cs / 8) ≡ Some h = ap (λ (o : Option Process). held_of o (x.cpu.cs / 8)) (at_place_of w.processes n x there) ∙ f in
+          let z = (sound.tied.held (n - 1) (x.cpu.cs / 8) h y).1 in
+          let t = number_holds w n (x.cpu.cs / 8) here in
+          let u : holds_of (held_in w.processes (n - 1) (x.cpu.cs / 8)) ≡ h.holds = ap holds_of y in
+          omega (arith, z, t, u)
+
+      go : (t : Bool) → tells_end w.lines n ≡ t → tells_end w.lines n ≡ false
       go true f =
-          let good = sound.tied.registers (d.current - 1) p (at_place_of w.processes d.current p at) lives in
-          let x = code (get p.held (p.cpu.cs / 8)) refl good.cs.1 in
-          let y = told.ended d.current (p.cpu.cs / 8) some f in
-          absurd (omega (arith, x, y))
+          let good = sound.tied.registers (n - 1) x (at_place_of w.processes n x there) live in
+          let y = code (get x.held (x.cpu.cs / 8)) refl good.cs.1 in
+          let z = told.ended n (x.cpu.cs / 8) here f in
+          absurd (omega (arith, y, z))
       go false f = f
+
+  goes_on : tells_end w.lines d.current ≡ false
+  goes_on = lives_on d.current p at lives
+
+  -- who gets what another holds has not ended, and is there
+  shared_on : (to : ℕ) → (to ≡ b.number) ⊎ (b.known.lives to ≡ true) → tells_end w.lines to ≡ false
+  shared_on to (inl same) = ap (tells_end w.lines) same ∙ goes_on
+  shared_on to (inr so) = go (process_at w.processes to) refl
+    where
+      go : (o : Option Process) → process_at w.processes to ≡ o → tells_end w.lines to ≡ false
+      go None f = absurd (false≢true (sym (ap lives_at f) ∙ so))
+      go (Some x) f = lives_on to x f (sym (ap lives_at f) ∙ so)
+
+  shared_there : (to : ℕ) → (to ≡ b.number) ⊎ (b.known.lives to ≡ true) → IsThere v to
+  shared_there to (inl same) = subst (IsThere v) (sym same) there_now
+  shared_there to (inr so) = go (process_at w.processes to) refl
+    where
+      go : (o : Option Process) → process_at w.processes to ≡ o → IsThere v to
+      go None f = absurd (false≢true (sym (ap lives_at f) ∙ so))
+      go (Some x) f =
+          let z = number_some w.processes to x f in
+          let y = below w.processes (to - 1) x (at_place_of w.processes to x f) in
+          let l = set_length w.processes d.current (working p e) in
+          (z, omega (arith, y, l, z))
 
   can_tell : Moves b e.cpu e.changes → CanTellAll v e.changes
   can_tell (NoneMoves is) = subst (CanTellAll v) (sym is) tt
@@ -171,24 +279,47 @@ module _ (s : Setting) (w : World) (p : Process) (d : Dispatch) (at : process_at
       freed j None f g = absurd (false≢true (sym (ap is_some (ap (λ (x : Option Process). held_of x j) at ∙ f)) ∙ g))
       freed j (Some h) f g = held_some j h f
 
+  all_can_tell : AllMoves b e.cpu e.changes → CanTellAll v e.changes
+  all_can_tell (OwnMoves moves) = can_tell moves
+  all_can_tell (OneNamed size i name free is) = subst (CanTellAll v) (sym is) (tt, (there_now, (tt, tt)))
+  all_can_tell (SomeShared from to xs shares is) =
+      subst (CanTellAll v) (sym (is ∙ changes_are b.known from to xs shares.shared)) (shares_tell v to (held_each b.known from xs shares.shared) (shared_there to shares.lives))
+
+  -- holds come to processes alone that have not ended
+  gives : AllMoves b e.cpu e.changes → AllGiveTo (λ (n : ℕ). tells_end w.lines n ≡ false) e.changes
+  gives (OwnMoves moves) = all_own_give (λ (n : ℕ). tells_end w.lines n ≡ false) d.current e.changes goes_on (moves_own b e.cpu e.changes moves)
+  gives (OneNamed size i name free is) = subst (AllGiveTo (λ (n : ℕ). tells_end w.lines n ≡ false)) (sym is) (tt, (goes_on, (tt, tt)))
+  gives (SomeShared from to xs shares is) =
+      subst (AllGiveTo (λ (n : ℕ). tells_end w.lines n ≡ false)) (sym (is ∙ changes_are b.known from to xs shares.shared))
+      (shares_give (λ (n : ℕ). tells_end w.lines n ≡ false) to (held_each b.known from xs shares.shared) (shared_on to shares.lives))
+
   -- a process that has ended gets nothing
   gives_none : (q i : ℕ) → tells_end w.lines q ≡ true → came e.lines q (selector_of i) ≡ 0
-  gives_none q i ended = go (q == d.current) refl
+  gives_none q i ended =
+      t.tells.came_by q (selector_of i)
+      ∙ moved_came t.tells.cause e.changes q (selector_of i)
+      ∙ none_come t.tells.cause e.changes q (selector_of i) (all_others e.changes (gives (effect_moves b)))
     where
-      is_same : (n m : ℕ) → (n == m) ≡ true → n ≡ m
-      is_same n m f = grind arith
-
       t : IsToldBy d.current e
       t = effect_told b
 
-      go : (x : Bool) → (q == d.current) ≡ x → came e.lines q (selector_of i) ≡ 0
-      go true f = absurd (false≢true (sym goes_on ∙ ap (tells_end w.lines) (sym (is_same q d.current f)) ∙ ended))
-      go false f = t.tells.came_by q (selector_of i) ∙ moved_came t.tells.cause e.changes q (selector_of i) ∙ none_come t.tells.cause e.changes d.current q (selector_of i) (moves_own b e.cpu e.changes (effect_moves b)) f
+      is_same : (n m : ℕ) → (n == m) ≡ true → n ≡ m
+      is_same n m f = grind arith
+
+      not_it : (n : ℕ) → tells_end w.lines n ≡ false → (q == n) ≡ false
+      not_it n goes = go (q == n) refl
+        where
+          go : (x : Bool) → (q == n) ≡ x → (q == n) ≡ false
+          go true f = absurd (false≢true (sym goes ∙ ap (tells_end w.lines) (sym (is_same q n f)) ∙ ended))
+          go false f = f
+
+      all_others : (cs : List Change) → AllGiveTo (λ (n : ℕ). tells_end w.lines n ≡ false) cs → AllGiveTo (λ (n : ℕ). (q == n) ≡ false) cs
+      all_others cs give = give_more (λ (n : ℕ). tells_end w.lines n ≡ false) (λ (n : ℕ). (q == n) ≡ false) not_it cs give
 
   pub acted_told : IsTold (acted s w d (Some p))
   acted_told =
       let t : IsToldBy d.current e = effect_told b in
-      told_after_step w d p e at (can_tell (effect_moves b)) t.tells some t.ends gives_none told
+      told_after_step w d p e at (all_can_tell (effect_moves b)) t.tells some t.ends gives_none told
 
 pub step_told : (s : Setting) (w : World) → IsSound w → IsTold w → IsTold (step s w)
 unfolding step

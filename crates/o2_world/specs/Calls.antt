@@ -1,11 +1,12 @@
 -- The calls of DOSCALLS by the OS/2 1.3 Programmer's Reference: for each its pointers in order, its conditions in order, its
--- error number, what it changes, and its line. Those on segments stand in a file of their own.
+-- error number, what it changes, and its line. Those on segments, and those that share them, stand in files
+-- of their own.
 use Rattle.std.specs.Prelude.{ℕ, ◌/◌, ◌%◌, Bool, List, [], ◌∷◌, ◌++◌, length, take, drop, not, if◌then◌else◌, ◌==◌, ◌&&◌, ◌||◌, Option, Some, None, codes}
 use Rattle.o2_world.specs.declared.types.Argument.{Argument}
 use Rattle.o2_world.specs.declared.types.Argument.TheVariants.{Word, Long, Far}
 use Rattle.o2_world.specs.declared.types.Transfer.{Transfer}
 use Rattle.o2_world.specs.declared.types.Row.{Row}
-use Rattle.o2_world.specs.declared.types.Row.TheVariants.{DosExit, DosGetPid, DosRead, DosWrite, DosMemAvail, OnSegments}
+use Rattle.o2_world.specs.declared.types.Row.TheVariants.{DosExit, DosGetPid, DosRead, DosWrite, DosMemAvail, OnSegments, OnShared}
 use Rattle.o2_world.specs.declared.types.State.TheVariants.{Live, Exited}
 use Rattle.o2_world.specs.Map.{get}
 use Rattle.o2_world.specs.World.{Line, Calls, Exits, Ends}
@@ -13,6 +14,7 @@ pub use Rattle.o2_world.specs.CallParts.{Effect, Before, trapped, trap_code, wor
 unfoldable pub use Rattle.o2_world.specs.CallParts.{argument, is_good, range_of, put_at_pointer}
 use Rattle.o2_world.specs.declared.types.SegmentCall.TheVariants.{DosAllocSeg, DosReallocSeg, DosFreeSeg, DosSizeSeg, DosLockSeg, DosUnlockSeg, DosCreateCsAlias}
 use Rattle.o2_world.specs.SegmentCalls.{on_segments}
+use Rattle.o2_world.specs.SharedCalls.{on_shared}
 
 -- A transfer: what DosRead and DosWrite are given.
 abbrev pub transfer_of : (argument : ℕ → ℕ) → Transfer
@@ -197,6 +199,7 @@ served DosRead b next = dos_read b next
 served DosWrite b next = dos_write b next
 served DosMemAvail b next = dos_mem_avail b next
 served (OnSegments call) b next = on_segments call b next
+served (OnShared call) b next = on_shared call b next
 
 -- a number without a row is that of no call: its gate names nothing
 abbrev pub served_by : Option Row → Before → ℕ → Effect
@@ -216,3 +219,15 @@ IsPlain (Some DosRead) = Unit {0}
 IsPlain (Some DosWrite) = Unit {0}
 IsPlain (Some DosMemAvail) = Unit {0}
 IsPlain (Some (OnSegments call)) = ⊥
+IsPlain (Some (OnShared call)) = ⊥
+
+-- the call is none by which processes share segments
+abbrev pub IsUnshared : Option Row → Type 0
+IsUnshared None = Unit {0}
+IsUnshared (Some DosExit) = Unit {0}
+IsUnshared (Some DosGetPid) = Unit {0}
+IsUnshared (Some DosRead) = Unit {0}
+IsUnshared (Some DosWrite) = Unit {0}
+IsUnshared (Some DosMemAvail) = Unit {0}
+IsUnshared (Some (OnSegments call)) = Unit {0}
+IsUnshared (Some (OnShared call)) = ⊥

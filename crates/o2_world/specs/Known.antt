@@ -25,6 +25,8 @@ pub record Known : Type 0 where
   pub taken : (region index : ℕ) → Bool
   pub text : List ℕ → Option ℕ
   pub lives : (process : ℕ) → Bool
+  -- how many processes there are, from 1 on, those that have ended too
+  pub processes : ℕ
   -- how many names live, the most that may, and the next
   pub count : ℕ
   pub most : ℕ
@@ -77,6 +79,7 @@ known_of s w = record {
   taken = taken_in w;
   text = text_name w.texts;
   lives = λ n. lives_at (process_at w.processes n);
+  processes = length w.processes;
   count = live_below w.names w.next_name;
   most = s.segments;
   next = w.next_name;

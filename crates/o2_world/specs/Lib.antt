@@ -8,6 +8,11 @@ pub mod Known
 pub mod CallParts
 pub mod Rulings
 pub mod SegmentCalls
+pub mod SharedNames
+pub mod SharedRulings
+pub mod SharedCalls
+pub mod HugeRulings
+pub mod HugeCalls
 pub mod Calls
 pub mod Moves
 pub mod Bare
@@ -22,5 +27,7 @@ pub mod Tied
 pub mod NewNames
 pub mod Hello
 pub mod SegmentsWorked
+pub mod SharedWorked
+pub mod HugeWorked
 pub mod SharedMarks
 pub mod EndWorked

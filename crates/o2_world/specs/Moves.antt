@@ -1,11 +1,13 @@
 -- What a call may change beside bytes and registers, by its shape.
-use Rattle.std.specs.Prelude.{◌≡◌, ◌≢◌, ℕ, ◌<◌, ◌≤◌, true, false, List, [], ◌∷◌, map, if◌then◌else◌, Some, is_some}
+use Rattle.std.specs.Prelude.{◌⊎◌, ◌≡◌, ◌≢◌, ℕ, ◌<◌, ◌≤◌, true, false, List, [], ◌∷◌, map, if◌then◌else◌, Option, Some, None, is_some}
 use Rattle.o2_isa.specs.declared.cpu.Cpu.{Cpu}
-use Rattle.o2_world.specs.World.{Held}
+use Rattle.o2_world.specs.Map.{get}
+use Rattle.o2_world.specs.World.{Held, Process}
 use Rattle.o2_world.specs.Changes.{Change, Makes, Resizes, Locks, Marks, Holds, Drops, Finishes, Reserves, Frees, Names}
-use Rattle.o2_world.specs.Known.{Known}
+use Rattle.o2_world.specs.Known.{Known, Marks as SegmentMarks}
 use Rattle.o2_world.specs.CallParts.{Before}
 use Rattle.o2_world.specs.Rulings.{full_size, held_as_code, held_by_call, in_use, is_gone, made_segment}
+use Rattle.o2_world.specs.SharedRulings.{each_more, shared_segment}
 
 -- an index that is neither held nor reserved: below 4096 of the process's own region, from there on of the one that all share
 pub record IsFreeIndex (k : Known) (number i : ℕ) : Type 0 where
@@ -32,7 +34,7 @@ pub record IsFreeing (b : Before) (cpu : Cpu) (is : List ℕ) : Type 0 where
   pub ds : cpu.ds ≡ (if is_gone b.known b.number is b.cpu.ds then 0 else b.cpu.ds)
   pub es : cpu.es ≡ (if is_gone b.known b.number is b.cpu.es then 0 else b.cpu.es)
 
--- the changes of a step, and its registers behind it
+-- the changes of a step that are its process's own, and its registers behind it
 pub data Moves (b : Before) (cpu : Cpu) (changes : List Change) : Type 0 where
   NoneMoves : changes ≡ [] → Moves b cpu changes
   -- a new segment, held at a free index
@@ -44,6 +46,29 @@ pub data Moves (b : Before) (cpu : Cpu) (changes : List Change) : Type 0 where
   OneAliased : (index i : ℕ) (held : Held) → b.known.held b.number index ≡ Some held → IsFreeIndex b.known b.number i
       → changes ≡ Holds b.number i (held_as_code held.name) ∷ [] → Moves b cpu changes
   SomeFreed : (is : List ℕ) → IsFreeing b cpu is → changes ≡ map (λ (i : ℕ). Drops b.number i 1) is → Moves b cpu changes
+
+-- a process holds a segment that is shared, under a shared index
+pub record IsShared (k : Known) (process index : ℕ) : Type 0 where
+  pub held : Held
+  pub there : k.held process index ≡ Some held
+  pub high : 4096 ≤ index
+  pub marks : SegmentMarks
+  pub segment : k.segment held.name ≡ Some marks
+  pub shared : marks.shared ≡ true
+
+-- a process gets what another holds under these indexes: all of it is shared, and it is the caller, or lives
+pub record IsSharing (b : Before) (from to : ℕ) (is : List ℕ) : Type 0 where
+  pub shared : Each (IsShared b.known from) is
+  pub lives : (to ≡ b.number) ⊎ (b.known.lives to ≡ true)
+
+-- all changes of a step, those of other processes too, and its registers behind it
+pub data AllMoves (b : Before) (cpu : Cpu) (changes : List Change) : Type 0 where
+  OwnMoves : Moves b cpu changes → AllMoves b cpu changes
+  -- a new segment with a name, held at a free index
+  OneNamed : (size i : ℕ) (name : List ℕ) → IsFreeIndex b.known b.number i
+      → changes ≡ Makes (shared_segment size) ∷ Holds b.number i (held_by_call b.known.next) ∷ Names name b.known.next ∷ [] → AllMoves b cpu changes
+  -- one hold more of each of some shared segments, for a process that may be another one
+  SomeShared : (from to : ℕ) (is : List ℕ) → IsSharing b from to is → changes ≡ each_more b.known from to is → AllMoves b cpu changes
 
 -- a change of no process but this one, and of no reserved index
 abbrev pub IsOwn : ℕ → Change → Type 0
@@ -61,3 +86,44 @@ IsOwn n (Names text name) = Unit {0}
 abbrev pub AreOwn : ℕ → List Change → Type 0
 AreOwn n [] = Unit {0}
 AreOwn n (c ∷ cs) = IsOwn n c × AreOwn n cs
+
+-- a change that takes nothing from any process but this one
+abbrev pub Spares : ℕ → Change → Type 0
+Spares n (Makes s) = Unit {0}
+Spares n (Resizes name size) = Unit {0}
+Spares n (Locks name count) = Unit {0}
+Spares n (Marks name discarded) = Unit {0}
+Spares n (Holds p i h) = Unit {0}
+Spares n (Drops p i count) = p ≡ n
+Spares n (Finishes p state) = p ≡ n
+Spares n (Reserves r) = Unit {0}
+Spares n (Frees region first) = ⊥
+Spares n (Names text name) = Unit {0}
+
+abbrev pub AllSpare : ℕ → List Change → Type 0
+AllSpare n [] = Unit {0}
+AllSpare n (c ∷ cs) = Spares n c × AllSpare n cs
+
+-- what is held goes on to be held as it is, as often at least
+pub record IsAtLeast (old new : Held) : Type 0 where
+  pub name : new.name ≡ old.name
+  pub rights : new.rights ≡ old.rights
+  pub cause : new.cause ≡ old.cause
+  pub first : new.first ≡ old.first
+  pub reserved : new.reserved ≡ old.reserved
+  pub holds : old.holds ≤ new.holds
+
+-- what a process holds it goes on to hold
+pub record GoesOnHolding (old new : Option Held) : Type 0 where
+  pub goes_on : (h : Held) → old ≡ Some h → (k : Held) × (new ≡ Some k) × IsAtLeast h k
+
+-- a process is as it was, but that it may hold more
+pub record IsSpared (old new : Process) : Type 0 where
+  pub all_else : new ≡ record old { held = new.held }
+  pub held : (i : ℕ) → GoesOnHolding (get old.held i) (get new.held i)
+
+abbrev pub AreSpared : Option Process → Option Process → Type 0
+AreSpared None None = Unit {0}
+AreSpared (Some old) (Some new) = IsSpared old new
+AreSpared None (Some new) = ⊥
+AreSpared (Some old) None = ⊥

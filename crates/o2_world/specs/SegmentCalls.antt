@@ -1,18 +1,15 @@
--- The calls of DOSCALLS that make, size, lock, alias, free and give segments.
-use Rattle.std.specs.Prelude.{ℕ, ◌/◌, ◌%◌, not, List, [], ◌∷◌, ◌++◌, if◌then◌else◌, ◌==◌, ◌||◌, Bool, false, Option, Some, None, codes}
-use Rattle.o2_desc.specs.Bits.{has_bit}
+-- The calls of DOSCALLS that make, size, lock, alias and free segments.
+use Rattle.std.specs.Prelude.{ℕ, ◌/◌, ◌%◌, List, [], ◌∷◌, if◌then◌else◌, ◌==◌, codes}
 use Rattle.o2_isa.specs.declared.cpu.Cpu.{Cpu}
 use Rattle.o2_world.specs.declared.types.Argument.{Argument}
 use Rattle.o2_world.specs.declared.types.Argument.TheVariants.{Word, Long, Far}
 use Rattle.o2_world.specs.declared.types.State.TheVariants.{Live}
-use Rattle.o2_world.specs.World.{Held, Calls, ByCall}
-use Rattle.o2_world.specs.Changes.{Change, Holds, moved_lines}
-use Rattle.o2_world.specs.Known.{Marks}
-use Rattle.o2_base.specs.Selectors.{selector_of}
+use Rattle.o2_world.specs.World.{Calls}
+use Rattle.o2_world.specs.Changes.{Change, moved_lines}
 use Rattle.o2_world.specs.declared.types.SegmentCall.{SegmentCall}
 use Rattle.o2_world.specs.declared.types.SegmentCall.TheVariants.{DosAllocSeg, DosReallocSeg, DosFreeSeg, DosSizeSeg, DosLockSeg, DosUnlockSeg, DosCreateCsAlias}
 use Rattle.o2_world.specs.CallParts.{Before, Effect, trapped, returned, argument, has_arguments, may_write, put_at_pointer, word_bytes, long_bytes}
-use Rattle.o2_world.specs.Rulings.{Ruling, aliasing, allocation, freeing, freeing_cpu, held_under, is_later, locking, members, reallocation, sizing, unlocking}
+use Rattle.o2_world.specs.Rulings.{Ruling, aliasing, allocation, freeing, freeing_cpu, locking, reallocation, sizing, unlocking}
 
 -- a call that comes back: error number, values, changes, and the bytes behind its pointers
 abbrev pub back : Before → Cpu → (ℕ → List ℕ) → (name : List ℕ) → List Argument → ℕ → List Argument → List Change → Effect
@@ -136,40 +133,3 @@ on_segments DosSizeSeg b next = dos_size_seg b next
 on_segments DosLockSeg b next = dos_lock_seg b next
 on_segments DosUnlockSeg b next = dos_unlock_seg b next
 on_segments DosCreateCsAlias b next = dos_create_cs_alias b next
-
--- DosGiveSeg(sel, pid, psel): 5 where sel isn't held, has no flag 1, or is in a run but not its first; 303 where pid isn't a
--- process that lives. A hold more of pid, for each member of a run; the selector is written.
-
-abbrev pub has_flag : ℕ → Option Marks → Bool
-has_flag k None = false
-has_flag k (Some m) = has_bit m.flags k
-
-abbrev pub give_args : (selector pid to_selector to_offset : ℕ) → List Argument
-give_args selector pid s o = Word selector ∷ Word pid ∷ Far s o ∷ []
-
--- what another process gets of what this one holds: one hold
-abbrev pub one_more : ℕ → ℕ → Option Held → List Change
-one_more pid i None = []
-one_more pid i (Some h) = Holds pid i (record h { holds = 1; cause = ByCall }) ∷ []
-
-abbrev pub each_more : Before → ℕ → List ℕ → List Change
-each_more b pid [] = []
-each_more b pid (i ∷ is) = one_more pid i (b.known.held b.number i) ++ each_more b pid is
-
-abbrev pub given_of : Before → ℕ → (selector pid s o : ℕ) → Option Held → Effect
-given_of b next selector pid s o None = refused b next 4 (codes "DosGiveSeg") (give_args selector pid s o) 5
-given_of b next selector pid s o (Some h) =
-    if not (has_flag 0 (b.known.segment h.name)) || is_later (selector / 8) h then refused b next 4 (codes "DosGiveSeg") (give_args selector pid s o) 5
-    else (if not (b.known.lives pid) then refused b next 4 (codes "DosGiveSeg") (give_args selector pid s o) 303
-    else back b (returned b.cpu next 4 0) (put_at_pointer b.view.held b.view.bytes s o (word_bytes (selector_of (selector / 8))))
-    (codes "DosGiveSeg") (give_args selector pid s o) 0 (Word (selector_of (selector / 8)) ∷ [])
-    (each_more b pid (members b.known b.number (selector / 8) h)))
-
-abbrev pub given : Before → ℕ → (selector pid s o : ℕ) → Effect
-given b next selector pid s o =
-    if may_write b.view s o 2 then given_of b next selector pid s o (held_under b.known b.number selector) else trapped b 13
-
-unfoldable pub dos_give_seg : Before → ℕ → Effect
-dos_give_seg b next =
-    let a : ℕ → ℕ = argument b.view b.cpu in
-    if has_arguments b.view b.cpu 4 then given b next (a 3) (a 2) (a 1) (a 0) else trapped b 12

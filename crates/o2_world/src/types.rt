@@ -20,6 +20,7 @@ pub enum Row {
     DosWrite,
     DosMemAvail,
     OnSegments(SegmentCall),
+    OnShared(SharedCall),
 }
 
 /// A call that makes, sizes, frees, locks or aliases a segment.
@@ -32,6 +33,23 @@ pub enum SegmentCall {
     DosLockSeg,
     DosUnlockSeg,
     DosCreateCsAlias,
+}
+
+/// A call by which processes share segments.
+#[derive(Clone, Copy, Debug, PartialEq, Eq)]
+pub enum SharedCall {
+    DosAllocShrSeg,
+    DosGetShrSeg,
+    DosGiveSeg,
+    DosGetSeg,
+}
+
+/// A call on a huge allocation, which is a run of selectors.
+#[derive(Clone, Copy, Debug, PartialEq, Eq)]
+pub enum HugeCall {
+    DosAllocHuge,
+    DosReallocHuge,
+    DosGetHugeShift,
 }
 
 /// An argument of a call, or a value that a call wrote, as the report prints it.

@@ -1,0 +1,191 @@
+-- What each call that shares segments changes, by its shape.
+use Rattle.std.proofs.Common.{◌≡◌, ◌⊎◌, inl, inr, ℕ, ◌+◌, ◌<◌, ◌≤◌, ◌==◌, ◌/◌, nat_le, not, ◌&&◌, ◌||◌, Bool, true, false, cond, List, [], ◌∷◌, Option, Some, None, if◌then◌else◌, ap, sym, ◌∙◌, refl, arith, subst}
+use Rattle.std.specs.Prelude.{codes, is_some}
+use Rattle.std.specs.List.{list_any}
+use Rattle.o2_desc.specs.Bits.{has_bit}
+use Rattle.o2_desc.specs.Choice.{IsChosen, chosen}
+use Rattle.o2_desc.proofs.Choices.{chosen_law}
+use Rattle.o2_isa.specs.declared.cpu.Cpu.{Cpu}
+use Rattle.o2_isa.specs.View.{is_local}
+use Rattle.o2_world.specs.declared.types.Argument.{Argument}
+use Rattle.o2_world.specs.declared.types.Argument.TheVariants.{Word, Far}
+use Rattle.o2_world.specs.declared.types.SharedCall.{SharedCall}
+use Rattle.o2_world.specs.declared.types.SharedCall.TheVariants.{DosAllocShrSeg, DosGetShrSeg, DosGiveSeg, DosGetSeg}
+use Rattle.o2_world.specs.World.{Held}
+use Rattle.o2_world.specs.Known.{Known, Marks}
+use Rattle.o2_world.specs.CallParts.{Before, Effect, argument, has_arguments, may_write}
+use Rattle.o2_world.specs.Rulings.{Ruling, free_index, held_under, is_later, members}
+use Rattle.o2_world.specs.SegmentCalls.{Written, ruled_at, written_word}
+use Rattle.o2_world.specs.SharedNames.{may_read_text, name_by, text_at}
+use Rattle.o2_world.specs.SharedRulings.{each_more, getting, getting_at, getting_from, giving, giving_of, held_by, holder, index_of, is_share, is_shared, is_shared_with, lacks_flag, marks_under, naming, naming_at, shared_from, sharing, sharing_at, sharing_from, sharing_of}
+use Rattle.o2_world.specs.SharedCalls.{dos_alloc_shr_seg, dos_get_seg, dos_get_shr_seg, dos_give_seg, give_args, given, name_args, named, on_shared, shared_by_name}
+use Rattle.o2_world.specs.Moves.{AllMoves, Each, IsShared, IsSharing, Moves, NoneMoves, OneNamed, OwnMoves, SomeShared}
+use Rattle.o2_world.proofs.SegmentMoves.{free_by}
+
+pub none : (b : Before) (cpu : Cpu) → AllMoves b cpu []
+none b cpu = OwnMoves (NoneMoves refl)
+
+pub either : (b : Before) (t : Bool) (e f : Effect) → AllMoves b e.cpu e.changes → AllMoves b f.cpu f.changes
+    → AllMoves b (cond t e f).cpu (cond t e f).changes
+either b true e f h k = h
+either b false e f h k = k
+
+rules : (b : Before) (cpu : Cpu) (t : Bool) (r q : Ruling) → AllMoves b cpu r.changes → AllMoves b cpu q.changes → AllMoves b cpu (cond t r q).changes
+rules b cpu true r q h k = h
+rules b cpu false r q h k = k
+
+-- Each of some segments is shared.
+
+both : (a b : Bool) → (a && b) ≡ true → (a ≡ true) × (b ≡ true)
+both true b e = (refl, e)
+both false b e = absurd (cc)
+
+not_false : (a : Bool) → not a ≡ false → a ≡ true
+not_false true e = refl
+not_false false e = absurd (cc)
+
+both_false : (a b : Bool) → (a || b) ≡ false → (a ≡ false) × (b ≡ false)
+both_false true b e = absurd (cc)
+both_false false b e = (refl, e)
+
+at_least : (n m : ℕ) → nat_le n m ≡ true → n ≤ m
+at_least n m e = grind arith
+
+marked : (flag : ℕ) (o : Option Marks) → is_shared_with flag o ≡ true → (m : Marks) × (o ≡ Some m) × (m.shared ≡ true)
+marked flag None e = absurd (cc)
+marked flag (Some m) e = (m, refl, (both m.shared (has_bit m.flags flag) e).0)
+
+held_marks : (k : Known) (flag n i : ℕ) (o : Option Held) → k.held n i ≡ o → 4096 ≤ i → is_shared_with flag (marks_under k o) ≡ true → IsShared k n i
+held_marks k flag n i None at high e = absurd (cc)
+held_marks k flag n i (Some h) at high e =
+    let m = marked flag (k.segment h.name) e in
+    record { held = h; there = at; high = high; marks = m.0; segment = m.1; shared = m.2 }
+
+one_shared : (k : Known) (flag n i : ℕ) → not (nat_le shared_from i && is_shared_with flag (marks_under k (k.held n i))) ≡ false → IsShared k n i
+one_shared k flag n i e =
+    let x = both (nat_le shared_from i) (is_shared_with flag (marks_under k (k.held n i))) (not_false _ e) in
+    held_marks k flag n i (k.held n i) refl (at_least 4096 i x.0) x.1
+
+all_shared : (k : Known) (flag n : ℕ) (is : List ℕ) → lacks_flag k flag n is ≡ false → Each (IsShared k n) is
+all_shared k flag n [] e = tt
+all_shared k flag n (i ∷ is) e =
+    let x = both_false (not (nat_le shared_from i && is_shared_with flag (marks_under k (k.held n i)))) (lacks_flag k flag n is) e in
+    (one_shared k flag n i x.0, all_shared k flag n is x.1)
+
+-- Rulings.
+
+module _ (b : Before) (cpu : Cpu) where
+  abbrev k : Known
+  k = b.known
+
+  at_name : (size : ℕ) (name : List ℕ) (o : Option ℕ) → free_index k 0 ≡ o → AllMoves b cpu (naming_at k b.number size name o).changes
+  at_name size name None e = none b cpu
+  at_name size name (Some i) e = OneNamed size i name (free_by k b.number 0 i (inr refl) e) refl
+
+  naming_moves : (size : ℕ) (o : Option (List ℕ)) → AllMoves b cpu (naming k b.number size o).changes
+  naming_moves size None = none b cpu
+  naming_moves size (Some name) =
+      rules b cpu (is_some (k.text name)) _ _ (none b cpu)
+      (rules b cpu (nat_le k.most k.count) _ _ (none b cpu) (at_name size name (free_index k 0) refl))
+
+  share_here : (q i from : ℕ) (o : Option Held) → k.held from i ≡ o → 4096 ≤ i → is_share k q o ≡ true → IsShared k from i
+  share_here q i from None at high e = absurd (cc)
+  share_here q i from (Some h) at high e = go (k.segment h.name) refl (both (h.name == q) (is_shared (k.segment h.name)) e).1
+    where
+      go : (o : Option Marks) → k.segment h.name ≡ o → is_shared o ≡ true → IsShared k from i
+      go None there s = absurd (cc)
+      go (Some m) there s = record { held = h; there = at; high = high; marks = m; segment = there; shared = s }
+
+  from_moves : (q i : ℕ) (o : Option ℕ) → holder k i ≡ o → 4096 ≤ i → is_share k q (held_by k i o) ≡ true
+      → AllMoves b cpu (sharing_from k b.number i o).changes
+  from_moves q i None at high e = absurd (cc)
+  from_moves q i (Some from) at high e =
+      SomeShared from b.number (i ∷ []) (record { shared = (share_here q i from (k.held from i) refl high e, tt); lives = inl refl }) refl
+
+  place_moves : (q : ℕ) (o : Option ℕ) → index_of k q ≡ o → AllMoves b cpu (sharing_at k b.number o).changes
+  place_moves q None e = none b cpu
+  place_moves q (Some i) e =
+      let taken : ℕ → Bool = λ (i : ℕ). not (is_share k q (held_by k i (holder k i))) in
+      let law : IsChosen taken 4096 8192 1 (Some i) = subst (IsChosen taken 4096 8192 1) e (chosen_law taken 4096 8192 1) in
+      from_moves q i (holder k i) refl law.0.0 (not_false _ (law.0.2 i (omega arith) (omega arith)))
+
+  text_moves : (o : Option ℕ) → AllMoves b cpu (sharing_of k b.number o).changes
+  text_moves None = none b cpu
+  text_moves (Some q) = place_moves q (index_of k q) refl
+
+  sharing_moves : (o : Option (List ℕ)) → AllMoves b cpu (sharing k b.number o).changes
+  sharing_moves None = none b cpu
+  sharing_moves (Some name) = text_moves (k.text name)
+
+  given_moves : (i pid : ℕ) (o : Option Held) → AllMoves b cpu (giving_of k b.number i pid o).changes
+  given_moves i pid None = none b cpu
+  given_moves i pid (Some h) = go (is_later i h || lacks_flag k 0 b.number is) (k.lives pid) refl refl
+    where
+      is : List ℕ
+      is = members k b.number i h
+
+      go : (t l : Bool) → (is_later i h || lacks_flag k 0 b.number (members k b.number i h)) ≡ t → k.lives pid ≡ l
+          → AllMoves b cpu (if t then record { error = 5; value = 0; changes = [] } else (if l then record { error = 0; value = 8 * i + 7; changes = each_more k b.number pid (members k b.number i h) } else record { error = 303; value = 0; changes = [] })).changes
+      go true l e f = none b cpu
+      go false false e f = none b cpu
+      go false true e f =
+          SomeShared b.number pid is (record { shared = all_shared k 0 b.number is (both_false (is_later i h) (lacks_flag k 0 b.number is) e).1; lives = inr f }) refl
+
+  got_moves : (i from : ℕ) (o : Option Held) → AllMoves b cpu (getting_from k b.number i from o).changes
+  got_moves i from None = none b cpu
+  got_moves i from (Some h) = go (is_later i h || lacks_flag k 1 from (members k from i h)) refl
+    where
+      go : (t : Bool) → (is_later i h || lacks_flag k 1 from (members k from i h)) ≡ t
+          → AllMoves b cpu (if t then record { error = 5; value = 0; changes = [] } else record { error = 0; value = 0; changes = each_more k from b.number (members k from i h) }).changes
+      go true e = none b cpu
+      go false e =
+          let is = members k from i h in
+          SomeShared from b.number is (record { shared = all_shared k 1 from is (both_false (is_later i h) (lacks_flag k 1 from is) e).1; lives = inl refl }) refl
+
+  holder_moves : (i : ℕ) (o : Option ℕ) → AllMoves b cpu (getting_at k b.number i o).changes
+  holder_moves i None = none b cpu
+  holder_moves i (Some from) = got_moves i from (k.held from i)
+
+  getting_moves : (s : ℕ) → AllMoves b cpu (getting k b.number s).changes
+  getting_moves s = rules b cpu (is_local s) _ _ (holder_moves (s / 8) (holder k (s / 8))) (none b cpu)
+
+-- The calls.
+
+ruled_moves : (b : Before) (next words : ℕ) (name : List ℕ) (args : List Argument) (t : Written) (r : Ruling)
+    → ((cpu : Cpu) → AllMoves b cpu r.changes) → AllMoves b (ruled_at b next words name args t r).cpu (ruled_at b next words name args t r).changes
+ruled_moves b next words name args t r h = either b (r.error == 0) _ _ (h _) (OwnMoves (NoneMoves refl))
+
+named_moves : (b : Before) (next size n m s o : ℕ) → AllMoves b (named b next size n m s o).cpu (named b next size n m s o).changes
+named_moves b next size n m s o =
+    let r = naming b.known b.number size (name_by (text_at b.view n m)) in
+    either b (may_read_text b.view n m && may_write b.view s o 2) _ _
+    (ruled_moves b next 5 (codes "DosAllocShrSeg") (name_args size n m s o) (written_word s o r.value) r (λ cpu. naming_moves b cpu size (name_by (text_at b.view n m))))
+    (OwnMoves (NoneMoves refl))
+
+shared_moves : (b : Before) (next n m s o : ℕ) → AllMoves b (shared_by_name b next n m s o).cpu (shared_by_name b next n m s o).changes
+shared_moves b next n m s o =
+    let r = sharing b.known b.number (name_by (text_at b.view n m)) in
+    either b (may_read_text b.view n m && may_write b.view s o 2) _ _
+    (ruled_moves b next 4 (codes "DosGetShrSeg") (Far n m ∷ Far s o ∷ []) (written_word s o r.value) r (λ cpu. sharing_moves b cpu (name_by (text_at b.view n m))))
+    (OwnMoves (NoneMoves refl))
+
+gift_moves : (b : Before) (next selector pid s o : ℕ) → AllMoves b (given b next selector pid s o).cpu (given b next selector pid s o).changes
+gift_moves b next selector pid s o =
+    let r = giving b.known b.number selector pid in
+    either b (may_write b.view s o 2) _ _
+    (ruled_moves b next 4 (codes "DosGiveSeg") (give_args selector pid s o) (written_word s o r.value) r (λ cpu. given_moves b cpu (selector / 8) pid (held_under b.known b.number selector)))
+    (OwnMoves (NoneMoves refl))
+
+pub on_shared_moves : (call : SharedCall) (b : Before) (next : ℕ) → AllMoves b (on_shared call b next).cpu (on_shared call b next).changes
+unfolding dos_alloc_shr_seg dos_get_shr_seg dos_give_seg dos_get_seg
+on_shared_moves DosAllocShrSeg b next =
+    let a : ℕ → ℕ = argument b.view b.cpu in
+    either b (has_arguments b.view b.cpu 5) _ _ (named_moves b next (a 4) (a 3) (a 2) (a 1) (a 0)) (OwnMoves (NoneMoves refl))
+on_shared_moves DosGetShrSeg b next =
+    let a : ℕ → ℕ = argument b.view b.cpu in
+    either b (has_arguments b.view b.cpu 4) _ _ (shared_moves b next (a 3) (a 2) (a 1) (a 0)) (OwnMoves (NoneMoves refl))
+on_shared_moves DosGiveSeg b next =
+    let a : ℕ → ℕ = argument b.view b.cpu in
+    either b (has_arguments b.view b.cpu 4) _ _ (gift_moves b next (a 3) (a 2) (a 1) (a 0)) (OwnMoves (NoneMoves refl))
+on_shared_moves DosGetSeg b next =
+    either b (has_arguments b.view b.cpu 1) _ _ (getting_moves b _ (argument b.view b.cpu 0)) (OwnMoves (NoneMoves refl))
