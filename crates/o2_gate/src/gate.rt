@@ -137,5 +137,6 @@ pub fn call<B: Ranges, I: Source, C: Sink, R: Sink>(
         Some(Row::DosWrite) => dos_write(pid, next, cpu, bus, line, console, report),
         Some(Row::DosMemAvail) => dos_mem_avail(pid, next, state.avail, cpu, bus, line, report),
         Some(Row::OnSegments(_)) => unreachable!(),
+        Some(Row::OnShared(_)) => unreachable!(),
     }
 }

@@ -10,14 +10,17 @@ use Rattle.o2_isa.specs.declared.cpu.Stop.{Stop}
 use Rattle.o2_isa.specs.declared.cpu.Stop.TheVariants as stop
 use Rattle.o2_conf.specs.Dispatch.{Dispatch}
 use Rattle.o2_world.specs.declared.types.Row.{Row}
-use Rattle.o2_world.specs.declared.types.Row.TheVariants.{DosExit, DosGetPid, DosRead, DosWrite, DosMemAvail, OnSegments}
+use Rattle.o2_world.specs.declared.types.Row.TheVariants.{DosExit, DosGetPid, DosRead, DosWrite, DosMemAvail, OnSegments, OnShared}
 use Rattle.o2_world.specs.declared.types.SegmentCall.{SegmentCall}
 use Rattle.o2_world.specs.declared.types.SegmentCall.TheVariants.{DosAllocSeg, DosReallocSeg, DosFreeSeg, DosSizeSeg, DosLockSeg, DosUnlockSeg, DosCreateCsAlias}
+use Rattle.o2_world.specs.declared.types.SharedCall.{SharedCall}
+use Rattle.o2_world.specs.declared.types.SharedCall.TheVariants.{DosAllocShrSeg, DosGetShrSeg, DosGiveSeg, DosGetSeg}
 use Rattle.o2_world.specs.Map.{Map, get}
 use Rattle.o2_world.specs.World.{World, Setting, Process, Segment, is_live}
 use Rattle.o2_world.specs.Holders.{process_at}
 use Rattle.o2_world.specs.Views.{view_of}
 use Rattle.o2_world.specs.Calls.{Before, Effect, argument, has_arguments, row_of}
+use Rattle.o2_world.specs.SharedNames.{text_size}
 use Rattle.o2_world.specs.Effect.{answered}
 use Rattle.o2_world.specs.Run.{before, changed, next_dispatch}
 
@@ -59,13 +62,24 @@ segment_pointers DosLockSeg a = []
 segment_pointers DosUnlockSeg a = []
 segment_pointers DosCreateCsAlias a = pointer_at a 0 2 is_writable ∷ []
 
-abbrev pub pointers_of : Row → (ℕ → ℕ) → List Pointer
-pointers_of DosExit a = []
-pointers_of DosGetPid a = pointer_at a 0 6 is_writable ∷ []
-pointers_of DosRead a = pointer_at a 3 (a 2) is_writable ∷ pointer_at a 0 2 is_writable ∷ []
-pointers_of DosWrite a = pointer_at a 3 (a 2) is_readable ∷ pointer_at a 0 2 is_writable ∷ []
-pointers_of DosMemAvail a = pointer_at a 0 4 is_writable ∷ []
-pointers_of (OnSegments call) a = segment_pointers call a
+-- a pointer to a text is for as many bytes as are looked at
+abbrev pub text_pointer : View → (ℕ → ℕ) → (place : ℕ) → Pointer
+text_pointer v a place = pointer_at a place (text_size v (a (place + 1)) (a place)) is_readable
+
+abbrev pub shared_pointers : SharedCall → View → (ℕ → ℕ) → List Pointer
+shared_pointers DosAllocShrSeg v a = text_pointer v a 2 ∷ pointer_at a 0 2 is_writable ∷ []
+shared_pointers DosGetShrSeg v a = text_pointer v a 2 ∷ pointer_at a 0 2 is_writable ∷ []
+shared_pointers DosGiveSeg v a = pointer_at a 0 2 is_writable ∷ []
+shared_pointers DosGetSeg v a = []
+
+abbrev pub pointers_of : Row → View → (ℕ → ℕ) → List Pointer
+pointers_of DosExit v a = []
+pointers_of DosGetPid v a = pointer_at a 0 6 is_writable ∷ []
+pointers_of DosRead v a = pointer_at a 3 (a 2) is_writable ∷ pointer_at a 0 2 is_writable ∷ []
+pointers_of DosWrite v a = pointer_at a 3 (a 2) is_readable ∷ pointer_at a 0 2 is_writable ∷ []
+pointers_of DosMemAvail v a = pointer_at a 0 4 is_writable ∷ []
+pointers_of (OnSegments call) v a = segment_pointers call a
+pointers_of (OnShared call) v a = shared_pointers call v a
 
 -- a selector that passes counts even where the range behind it is refused, and nothing behind a refused pointer does; a range
 -- of no bytes is not looked at
@@ -91,6 +105,12 @@ segment_words DosLockSeg = 1
 segment_words DosUnlockSeg = 1
 segment_words DosCreateCsAlias = 3
 
+abbrev pub shared_words : SharedCall → ℕ
+shared_words DosAllocShrSeg = 5
+shared_words DosGetShrSeg = 4
+shared_words DosGiveSeg = 4
+shared_words DosGetSeg = 1
+
 abbrev pub words_of : Row → ℕ
 words_of DosRead = 6
 words_of DosWrite = 6
@@ -98,12 +118,13 @@ words_of DosExit = 2
 words_of DosGetPid = 2
 words_of DosMemAvail = 2
 words_of (OnSegments call) = segment_words call
+words_of (OnShared call) = shared_words call
 
 abbrev pub call_names : Before → Option Row → List ℕ
 call_names b None = []
 call_names b (Some row) =
     if has_arguments b.view b.cpu (words_of row)
-    then pointed b.view (pointers_of row (argument b.view b.cpu))
+    then pointed b.view (pointers_of row b.view (argument b.view b.cpu))
     else []
 
 abbrev pub gate_names : Before → Result Machine Stop → List ℕ

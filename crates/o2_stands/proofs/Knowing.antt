@@ -52,6 +52,7 @@ module _ (p : Parts) (s : Setting) (w : World) (lawful : AreLawful p.shelf p.map
     taken = λ g i x. stands.taken g i x ∙ ap (λ (r : Region). is_taken p.maps r i) (sym (region_is p.maps g i x));
     text = λ t. refl;
     lives = λ n. lives_on (process_at w.processes n) ∙ ap goes_on (stands.processes n);
+    processes = refl;
     count = count_is p w.processes w.names w.next_name w.reserved lawful stands;
     most = sym set.segments;
     next = stands.made;

@@ -26,9 +26,9 @@ chosen_same : (f g : ℕ → Bool) (low end n : ℕ) → ((j : ℕ) → low ≤ 
 chosen_same f g low end n same =
     one_choice g low end n (chosen f low end n) (chosen g low end n) (agreeing_choice f g low end n (chosen f low end n) same (chosen_law f low end n)) (chosen_law g low end n)
 
-abbrev knows : ((process index : ℕ) → Option Held) → (ℕ → Option Marks) → ((region index : ℕ) → Bool) → (List ℕ → Option ℕ) → (ℕ → Bool) → (count most next avail : ℕ) → Known
-knows held segment taken text lives count most next avail =
-    record { held = held; segment = segment; taken = taken; text = text; lives = lives; count = count; most = most; next = next; avail = avail }
+abbrev knows : ((process index : ℕ) → Option Held) → (ℕ → Option Marks) → ((region index : ℕ) → Bool) → (List ℕ → Option ℕ) → (ℕ → Bool) → ℕ → (count most next avail : ℕ) → Known
+knows held segment taken text lives processes count most next avail =
+    record { held = held; segment = segment; taken = taken; text = text; lives = lives; processes = processes; count = count; most = most; next = next; avail = avail }
 
 module _ (m : Maps) (k l : Known) (same : KnowsAs m k l) where
   abbrev x : Known
@@ -37,14 +37,15 @@ module _ (m : Maps) (k l : Known) (same : KnowsAs m k l) where
   -- but for the indexes that are taken, all that is known is the same
   but_taken : k ≡ x
   but_taken =
-      ap (λ (z : (process index : ℕ) → Option Held). knows z k.segment k.taken k.text k.lives k.count k.most k.next k.avail) (fun_ext (λ n. fun_ext (λ i. same.held n i)))
-      ∙ (ap (λ (z : ℕ → Option Marks). knows l.held z k.taken k.text k.lives k.count k.most k.next k.avail) (fun_ext (λ n. same.segment n))
-      ∙ (ap (λ (z : List ℕ → Option ℕ). knows l.held l.segment k.taken z k.lives k.count k.most k.next k.avail) (fun_ext (λ t. same.text t))
-      ∙ (ap (λ (z : ℕ → Bool). knows l.held l.segment k.taken l.text z k.count k.most k.next k.avail) (fun_ext (λ n. same.lives n))
-      ∙ (ap (λ (z : ℕ). knows l.held l.segment k.taken l.text l.lives z k.most k.next k.avail) same.count
-      ∙ (ap (λ (z : ℕ). knows l.held l.segment k.taken l.text l.lives l.count z k.next k.avail) same.most
-      ∙ (ap (λ (z : ℕ). knows l.held l.segment k.taken l.text l.lives l.count l.most z k.avail) same.next
-      ∙ ap (λ (z : ℕ). knows l.held l.segment k.taken l.text l.lives l.count l.most l.next z) same.avail))))))
+      ap (λ (z : (process index : ℕ) → Option Held). knows z k.segment k.taken k.text k.lives k.processes k.count k.most k.next k.avail) (fun_ext (λ n. fun_ext (λ i. same.held n i)))
+      ∙ (ap (λ (z : ℕ → Option Marks). knows l.held z k.taken k.text k.lives k.processes k.count k.most k.next k.avail) (fun_ext (λ n. same.segment n))
+      ∙ (ap (λ (z : List ℕ → Option ℕ). knows l.held l.segment k.taken z k.lives k.processes k.count k.most k.next k.avail) (fun_ext (λ t. same.text t))
+      ∙ (ap (λ (z : ℕ → Bool). knows l.held l.segment k.taken l.text z k.processes k.count k.most k.next k.avail) (fun_ext (λ n. same.lives n))
+      ∙ (ap (λ (z : ℕ). knows l.held l.segment k.taken l.text l.lives z k.count k.most k.next k.avail) same.processes
+      ∙ (ap (λ (z : ℕ). knows l.held l.segment k.taken l.text l.lives l.processes z k.most k.next k.avail) same.count
+      ∙ (ap (λ (z : ℕ). knows l.held l.segment k.taken l.text l.lives l.processes l.count z k.next k.avail) same.most
+      ∙ (ap (λ (z : ℕ). knows l.held l.segment k.taken l.text l.lives l.processes l.count l.most z k.avail) same.next
+      ∙ ap (λ (z : ℕ). knows l.held l.segment k.taken l.text l.lives l.processes l.count l.most l.next z) same.avail)))))))
 
   pub same_reallocation : (n size s : ℕ) → reallocation k n size s ≡ reallocation l n size s
   same_reallocation n size s = ap (λ (z : Known). reallocation z n size s) but_taken

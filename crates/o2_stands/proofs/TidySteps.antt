@@ -4,17 +4,21 @@ use Rattle.std.specs.List.{list_any}
 use Rattle.o2_conf.specs.Dispatch.{Dispatch}
 use Rattle.o2_isa.specs.declared.cpu.Cpu.{Cpu}
 use Rattle.o2_world.specs.declared.types.State.TheVariants.{Live}
-use Rattle.o2_world.specs.World.{World, Setting, Process, Reserve, is_live}
-use Rattle.o2_world.specs.Holders.{process_at}
-use Rattle.o2_world.specs.Changes.{Change, Drops, Finishes, with_change, with_changes}
+use Rattle.o2_world.specs.World.{World, Setting, Process, Reserve, is_live, Cause, Held, Segment, ByLoad, ByCall, ByAlias}
+use Rattle.o2_world.specs.Holders.{process_at, with_process}
+use Rattle.o2_world.specs.Changes.{Change, Drops, Finishes, with_change, with_changes, Holds}
 use Rattle.o2_world.specs.Known.{holds_index, reserves, taken_in}
 use Rattle.o2_world.specs.CallParts.{Effect, Before}
 use Rattle.o2_world.specs.Effect.{effect}
 use Rattle.o2_world.specs.Run.{acted, all_changes, before, changed, chosen_step, is_over, next_dispatch, step, worked, working}
-use Rattle.o2_world.specs.Tied.{IsSound}
-use Rattle.o2_world.specs.Moves.{IsFreeIndex, Moves, NoneMoves, OneAliased, OneLocked, OneMade, OneSized, SomeFreed}
-use Rattle.o2_world.proofs.StepSound.{IsOrderly, acted_sound, all_fit, effect_orderly, next_process, worked_is_tied}
-use Rattle.o2_stands.specs.Stands.{IsTidy}
+use Rattle.o2_world.specs.Tied.{IsSound, AreFitChanges}
+use Rattle.o2_world.specs.Moves.{IsFreeIndex, Moves, NoneMoves, OneAliased, OneLocked, OneMade, OneSized, SomeFreed, AllMoves, IsShared, OneNamed, OwnMoves, SomeShared, Each}
+use Rattle.o2_world.proofs.StepSound.{IsOrderly, acted_sound, all_fit, effect_orderly, next_process, worked_is_tied, step_sound}
+use Rattle.o2_stands.specs.Stands.{IsTidy, is_by_load}
+use Rattle.o2_world.specs.Sound.{HasGoodRegisters}
+use Rattle.o2_world.specs.Rulings.{by_load}
+use Rattle.o2_world.proofs.FitShares.{changes_are, held_each, share, shares_of}
+use Rattle.o2_world.proofs.StepMoves.{effect_moves}
 use Rattle.o2_stands.specs.Tidies.{AreTidyChanges, IsReservedAs}
 use Rattle.o2_stands.proofs.Moves.{tidy_written}
 use Rattle.o2_stands.proofs.Running.{tidy_same}
@@ -45,6 +49,25 @@ module _ (s : Setting) (w v : World) (n : ℕ) (p : Process) (reserved : v.reser
   moves_tidy cpu cs (OneLocked name count is) = subst (AreTidyChanges v) (sym is) (tt, tt)
   moves_tidy cpu cs (OneAliased index i h there free is) = subst (AreTidyChanges v) (sym is) ((λ high none. not_reserved v i reserved free high), tt)
   moves_tidy cpu cs (SomeFreed xs frees is) = subst (AreTidyChanges v) (sym is) (drops_tidy v n xs)
+
+  same_cause : (c : Cause) → by_load c ≡ false → is_by_load c ≡ false
+  same_cause ByLoad e = e
+  same_cause ByCall e = refl
+  same_cause ByAlias e = refl
+
+  -- what a process gets of what another holds isn't reserved
+  shares_tidy : IsTidy w.processes w.names w.reserved → (u : World) → u.reserved ≡ w.reserved → (from to : ℕ) (xs : List ℕ) (shared : Each (IsShared (before s w n p).known from) xs)
+      → AreTidyChanges u (shares_of to (held_each (before s w n p).known from xs shared))
+  shares_tidy tidy u same from to [] shared = tt
+  shares_tidy tidy u same from to (i ∷ xs) shared =
+      ((λ high none. ap (λ (rs : List Reserve). list_any (reserves 0 i) rs) same ∙ tidy.free from i shared.0.held high shared.0.there (same_cause shared.0.held.cause shared.0.called)),
+      shares_tidy tidy (with_change u (Holds to i (share shared.0.held))) same from to xs shared.1)
+
+  all_moves_tidy : IsTidy w.processes w.names w.reserved → (cpu : Cpu) (cs : List Change) → AllMoves (before s w n p) cpu cs → AreTidyChanges v cs
+  all_moves_tidy tidy cpu cs (OwnMoves moves) = moves_tidy cpu cs moves
+  all_moves_tidy tidy cpu cs (OneNamed size i name free is) = subst (AreTidyChanges v) (sym is) (tt, ((λ high none. not_reserved v i reserved free high), (tt, tt)))
+  all_moves_tidy tidy cpu cs (SomeShared from to xs shares is) =
+      subst (AreTidyChanges v) (sym (is ∙ changes_are (before s w n p).known from to xs shares.shared)) (shares_tidy tidy v reserved from to xs shares.shared)
 
 tidy_more : (v : World) (xs : List Change) (c : Change) → AreTidyChanges v xs → AreTidyChanges (with_changes v xs) (c ∷ []) → AreTidyChanges v (xs ++ c ∷ [])
 unfolding with_changes
@@ -84,7 +107,7 @@ module _ (s : Setting) (w : World) (p : Process) (at : process_at w.processes (n
   unfolding changed
   acted_tidy =
       tidy_behind v (all_changes d.current e) (worked_is_tied s w p at live sound e orderly) (all_fit s w p at live sound e orderly)
-      (all_tidy v d.current e (moves_tidy s w v d.current p refl e.cpu e.changes orderly.moves)) tidy_now (acted_sound s w p at live sound e orderly).swept
+      (all_tidy v d.current e (all_moves_tidy s w v d.current p refl tidy e.cpu e.changes orderly.moves)) tidy_now (acted_sound s w p at live sound e orderly).swept
 
 pub step_tidy : (s : Setting) (w : World) → IsSound w → IsTidy w.processes w.names w.reserved → let u = step s w in IsTidy u.processes u.names u.reserved
 unfolding step

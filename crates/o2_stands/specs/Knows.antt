@@ -12,12 +12,13 @@ use Rattle.o2_world.specs.Known.{Known, Marks, text_name}
 use Rattle.o2_stands.specs.Parts.{Parts, goes_on, held_in}
 use Rattle.o2_stands.specs.Stands.{IsIndex, number_of}
 
--- what the store doesn't have: whether a name is code, whether it is marked discarded, the texts' names, and the number that
--- DosMemAvail gives
+-- what the store doesn't have: whether a name is code, whether it is marked discarded, the texts' names, how many processes there
+-- are, and the number that DosMemAvail gives
 pub record Others : Type 0 where
   pub code : ℕ → Bool
   pub discarded : ℕ → Bool
   pub text : List ℕ → Option ℕ
+  pub processes : ℕ
   pub avail : ℕ
 
 -- the marks of a name whose segment has this number
@@ -44,6 +45,7 @@ known_in p o = record {
   taken = λ region i. is_taken p.maps (region_by region) i;
   text = o.text;
   lives = λ n. goes_on (p.running n);
+  processes = o.processes;
   count = length (live_numbers 0 p.shelf.entries);
   most = length p.shelf.entries;
   next = p.shelf.made;
@@ -64,6 +66,7 @@ others_of s w = record {
   code = λ n. code_of (get w.names n);
   discarded = λ n. discarded_of (get w.names n);
   text = text_name w.texts;
+  processes = length w.processes;
   avail = s.avail;
 }
 
@@ -74,6 +77,7 @@ pub record KnowsAs (m : Maps) (k l : Known) : Type 0 where
   pub taken : (g : Region) (i : ℕ) → IsIndex m g i → k.taken (number_of g) i ≡ l.taken (number_of g) i
   pub text : (t : List ℕ) → k.text t ≡ l.text t
   pub lives : (n : ℕ) → k.lives n ≡ l.lives n
+  pub processes : k.processes ≡ l.processes
   pub count : k.count ≡ l.count
   pub most : k.most ≡ l.most
   pub next : k.next ≡ l.next

@@ -12,11 +12,13 @@ use Rattle.o2_isa.specs.declared.cpu.Stop.TheVariants as stop
 use Rattle.o2_isa.proofs.StepLaws.{step_loads_few}
 use Rattle.o2_place.specs.declared.seg_id.SegId.{SegId}
 use Rattle.o2_world.specs.declared.types.Row.{Row}
-use Rattle.o2_world.specs.declared.types.Row.TheVariants.{DosExit, DosGetPid, DosRead, DosWrite, DosMemAvail, OnSegments}
+use Rattle.o2_world.specs.declared.types.Row.TheVariants.{DosExit, DosGetPid, DosRead, DosWrite, DosMemAvail, OnSegments, OnShared}
 use Rattle.o2_world.specs.declared.types.SegmentCall.{SegmentCall}
 use Rattle.o2_world.specs.declared.types.SegmentCall.TheVariants.{DosAllocSeg, DosReallocSeg, DosFreeSeg, DosSizeSeg, DosLockSeg, DosUnlockSeg, DosCreateCsAlias}
+use Rattle.o2_world.specs.declared.types.SharedCall.{SharedCall}
+use Rattle.o2_world.specs.declared.types.SharedCall.TheVariants.{DosAllocShrSeg, DosGetShrSeg, DosGiveSeg, DosGetSeg}
 use Rattle.o2_world.specs.Calls.{Before, argument, has_arguments, row_of}
-use Rattle.o2_run.specs.Room.{Pointer, call_names, gate_names, passed, pointed, pointers_of, segment_pointers, touched, words_of}
+use Rattle.o2_run.specs.Room.{Pointer, call_names, gate_names, passed, pointed, pointers_of, segment_pointers, shared_pointers, touched, words_of}
 use Rattle.o2_stepping.specs.Rooms.{ages_of, left_in}
 use Rattle.o2_stepping.proofs.Named.{both_in}
 
@@ -49,20 +51,27 @@ few_on_segments DosLockSeg a = omega arith
 few_on_segments DosUnlockSeg a = omega arith
 few_on_segments DosCreateCsAlias a = omega arith
 
-few_pointers : (row : Row) (a : ℕ → ℕ) → length (pointers_of row a) ≤ 2
-few_pointers DosExit a = omega arith
-few_pointers DosGetPid a = omega arith
-few_pointers DosRead a = omega arith
-few_pointers DosWrite a = omega arith
-few_pointers DosMemAvail a = omega arith
-few_pointers (OnSegments call) a = few_on_segments call a
+few_on_shared : (call : SharedCall) (v : View) (a : ℕ → ℕ) → length (shared_pointers call v a) ≤ 2
+few_on_shared DosAllocShrSeg v a = omega arith
+few_on_shared DosGetShrSeg v a = omega arith
+few_on_shared DosGiveSeg v a = omega arith
+few_on_shared DosGetSeg v a = omega arith
+
+few_pointers : (row : Row) (v : View) (a : ℕ → ℕ) → length (pointers_of row v a) ≤ 2
+few_pointers DosExit v a = omega arith
+few_pointers DosGetPid v a = omega arith
+few_pointers DosRead v a = omega arith
+few_pointers DosWrite v a = omega arith
+few_pointers DosMemAvail v a = omega arith
+few_pointers (OnSegments call) v a = few_on_segments call a
+few_pointers (OnShared call) v a = few_on_shared call v a
 
 call_few : (b : Before) (o : Option Row) → length (call_names b o) ≤ 2
 call_few b None = omega arith
 call_few b (Some row) = go (has_arguments b.view b.cpu (words_of row))
   where
-    go : (z : Bool) → length (cond z (pointed b.view (pointers_of row (argument b.view b.cpu))) []) ≤ 2
-    go true = (let a = pointed_few b.view (pointers_of row (argument b.view b.cpu)) in let c = few_pointers row (argument b.view b.cpu) in omega (arith, a, c))
+    go : (z : Bool) → length (cond z (pointed b.view (pointers_of row b.view (argument b.view b.cpu))) []) ≤ 2
+    go true = (let a = pointed_few b.view (pointers_of row b.view (argument b.view b.cpu)) in let c = few_pointers row b.view (argument b.view b.cpu) in omega (arith, a, c))
     go false = omega arith
 
 gate_few : (b : Before) (r : Result Machine Stop) → length (gate_names b r) ≤ 2

@@ -110,7 +110,7 @@ good_after names p c s good ruled =
 
 -- Other services and traps leave the segment registers as they are.
 
-record Keeps (c : Cpu) (e : Effect) : Type 0 where
+pub record Keeps (c : Cpu) (e : Effect) : Type 0 where
   pub selectors : SameSelectors e.cpu c
 
 at_same : (b : Before) (e : Effect) → e.cpu ≡ b.cpu → Keeps b.cpu e
@@ -119,11 +119,11 @@ at_same b e same = record { selectors = subst (λ (c : Cpu). SameSelectors c b.c
 returns : (b : Before) (e : Effect) (next words error : ℕ) → e.cpu ≡ returned b.cpu next words error → Keeps b.cpu e
 returns b e next words error same = record { selectors = subst (λ (c : Cpu). SameSelectors c b.cpu) (sym same) (record { es = refl; cs = refl; ss = refl; ds = refl }) }
 
-either : (c : Cpu) (t : Bool) (e f : Effect) → Keeps c e → Keeps c f → Keeps c (cond t e f)
+pub either : (c : Cpu) (t : Bool) (e f : Effect) → Keeps c e → Keeps c f → Keeps c (cond t e f)
 either c true e f h k = h
 either c false e f h k = k
 
-traps : (b : Before) (vector : ℕ) → Keeps b.cpu (trapped b vector)
+pub traps : (b : Before) (vector : ℕ) → Keeps b.cpu (trapped b vector)
 traps b vector = at_same b (trapped b vector) refl
 
 written_keeps : (b : Before) (next : ℕ) (t : Transfer) → Keeps b.cpu (written b next t)
@@ -158,7 +158,7 @@ told_keeps : (b : Before) (next : ℕ) (name part : List ℕ) (values : List Arg
 unfolding told
 told_keeps b next name part values = either b.cpu (has_arguments b.view b.cpu 2) _ _ (told_at_keeps b next name part values _ _) (traps b 12)
 
-kept_ruled : (v : View) (c : Cpu) (e : Effect) → Keeps c e → LoadsByRules v c e.cpu
+pub kept_ruled : (v : View) (c : Cpu) (e : Effect) → Keeps c e → LoadsByRules v c e.cpu
 kept_ruled v c e k Es = inl k.selectors.es
 kept_ruled v c e k Cs = inl k.selectors.cs
 kept_ruled v c e k Ss = inl k.selectors.ss
@@ -166,10 +166,10 @@ kept_ruled v c e k Ds = inl k.selectors.ds
 
 -- The calls on segments: a free may leave DS and ES null.
 
-ruled_keeps : (b : Before) (next words : ℕ) (name : List ℕ) (args : List Argument) (t : Written) (r : Ruling) → Keeps b.cpu (ruled_at b next words name args t r)
+pub ruled_keeps : (b : Before) (next words : ℕ) (name : List ℕ) (args : List Argument) (t : Written) (r : Ruling) → Keeps b.cpu (ruled_at b next words name args t r)
 ruled_keeps b next words name args t r = either b.cpu (r.error == 0) _ _ (returns b _ next words 0 refl) (returns b _ next words r.error refl)
 
-cleared : (v : View) (t : Bool) (s : ℕ) → ((if t then 0 else s) ≡ s) ⊎ Passes v DataReg (if t then 0 else s)
+pub cleared : (v : View) (t : Bool) (s : ℕ) → ((if t then 0 else s) ≡ s) ⊎ Passes v DataReg (if t then 0 else s)
 unfolding probe_of
 cleared v true s = inr refl
 cleared v false s = inl refl
@@ -195,7 +195,7 @@ aliased_keeps b next selector s o =
     let r = aliasing b.known b.number selector in
     either b.cpu (may_write b.view s o 2) _ _ (ruled_keeps b next 3 (codes "DosCreateCSAlias") (Word selector ∷ Far s o ∷ []) (written_word s o r.value) r) (traps b 13)
 
-picked_ruled : (v : View) (c : Cpu) (t : Bool) (e f : Effect) → LoadsByRules v c e.cpu → LoadsByRules v c f.cpu
+pub picked_ruled : (v : View) (c : Cpu) (t : Bool) (e f : Effect) → LoadsByRules v c e.cpu → LoadsByRules v c f.cpu
     → LoadsByRules v c (cond t e f).cpu
 picked_ruled v c true e f h k = h
 picked_ruled v c false e f h k = k

@@ -68,7 +68,7 @@ or_right : (a b : Bool) → b ≡ true → (a || b) ≡ true
 or_right true b e = refl
 or_right false b e = e
 
-run_found_by : (first place i : ℕ) (ps : List Process) (h : Held) → held_in ps place i ≡ Some h → runs_from first (Some h) ≡ true
+pub run_found_by : (first place i : ℕ) (ps : List Process) (h : Held) → held_in ps place i ≡ Some h → runs_from first (Some h) ≡ true
     → run_held ps first ≡ true
 run_found_by first place i [] h there runs = absurd (cc)
 run_found_by first zero i (p ∷ ps) h there runs = or_left _ _ (run_found first i p.held h there runs)
@@ -85,7 +85,7 @@ own_by : (first : ℕ) (o : Option Process) → own_run_held o first ≡ true �
 own_by first None e = absurd (false≢true e)
 own_by first (Some p) e = let u = run_under first p.held e in record { index = u.index; hold = u.hold; there = u.there; runs = u.runs }
 
-own_found : (first i : ℕ) (o : Option Process) (h : Held) → held_of o i ≡ Some h → runs_from first (Some h) ≡ true → own_run_held o first ≡ true
+pub own_found : (first i : ℕ) (o : Option Process) (h : Held) → held_of o i ≡ Some h → runs_from first (Some h) ≡ true → own_run_held o first ≡ true
 own_found first i None h there runs = absurd (cc)
 own_found first i (Some p) h there runs = run_found first i p.held h there runs
 
@@ -142,7 +142,7 @@ module _ (w : World) (n i : ℕ) (x : Process) (h : Held) (at : process_at w.pro
           (u.0, ap (λ (z : ℕ). held_in after z j) q ∙ here j ∙ u.1, u.2)
       go false is = (k, after_is place j ∙ if_no (place == n - 1) _ _ is ∙ e, as_it_was)
 
-  new_held : get x.held i ≡ None → held_in after (n - 1) i ≡ Some h
+  pub new_held : get x.held i ≡ None → held_in after (n - 1) i ≡ Some h
   new_held free = here i ∙ if_yes (i == i) (more h (get x.held i)) (get x.held i) (same i) ∙ ap (more h) free
 
   still_named : (q : ℕ) → is_held w.processes q ≡ true → is_held after q ≡ true

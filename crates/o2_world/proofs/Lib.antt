@@ -18,10 +18,14 @@ pub mod OwnChanges
 pub mod Sparing
 pub mod SegmentMoves
 pub mod SharedMoves
+pub mod HugeMoves
 pub mod FitShares
+pub mod FitRuns
 pub mod StepMoves
 pub mod MovesFit
+pub mod RunsFit
 pub mod RowsTold
+pub mod HugeRows
 pub mod BareChanges
 pub mod GoodRegisters
 pub mod Keeps

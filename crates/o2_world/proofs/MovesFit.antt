@@ -62,7 +62,7 @@ free_shared w n i p at free = go (get p.held i) refl
     go None e = e
     go (Some h) e = absurd (nobody w.processes (n - 1) i h (either_false (holds_index w.processes i) _ free) (there ∙ e))
 
-low_or_high : (P : Type 0) (i : ℕ) → (i < 4096 → P) → (4096 ≤ i → P) → P
+pub low_or_high : (P : Type 0) (i : ℕ) → (i < 4096 → P) → (4096 ≤ i → P) → P
 low_or_high P i f g = go (nat_lt i 4096) refl
   where
     low : (i : ℕ) → nat_lt i 4096 ≡ true → i < 4096
@@ -99,7 +99,7 @@ module _ (s : Setting) (w : World) (d : Dispatch) (p : Process) (e : Effect) (at
   abbrev v : World
   v = worked w d p e
 
-  own : process_at v.processes d.current ≡ Some (working p e)
+  pub own : process_at v.processes d.current ≡ Some (working p e)
   own = own_at w.processes d.current p (working p e) at
 
   good : HasGoodRegisters p
@@ -108,10 +108,10 @@ module _ (s : Setting) (w : World) (d : Dispatch) (p : Process) (e : Effect) (at
   held_is : (i : ℕ) → b.known.held b.number i ≡ get p.held i
   held_is i = ap (λ (o : Option Process). held_of o i) at
 
-  free_in : (i : ℕ) → IsFreeIndex b.known b.number i → get (working p e).held i ≡ None
+  pub free_in : (i : ℕ) → IsFreeIndex b.known b.number i → get (working p e).held i ≡ None
   free_in i free = low_or_high (get (working p e).held i ≡ None) i (λ low. free_here w d.current i p at d.current refl (free.own low)) (λ high. free_shared w d.current i p at (free.shared high))
 
-  swept : IsSwept v
+  pub swept : IsSwept v
   swept = worked_swept w d p e at lives good_now sizes sound.swept
 
   -- what is held names a live segment
@@ -173,11 +173,11 @@ module _ (s : Setting) (w : World) (d : Dispatch) (p : Process) (e : Effect) (at
 
   -- What one process gets of what another holds.
 
-  tied : IsTied v
+  pub tied : IsTied v
   tied = worked_tied w d p e at lives good_now sizes sound.tied
 
   -- what is known of a process's holds is so of the world behind its bytes
-  held_there : (n i : ℕ) (h : Held) → b.known.held n i ≡ Some h → held_in v.processes (n - 1) i ≡ Some h
+  pub held_there : (n i : ℕ) (h : Held) → b.known.held n i ≡ Some h → held_in v.processes (n - 1) i ≡ Some h
   held_there n i h there = same_at w.processes d.current p (working p e) (n - 1) i at refl ∙ go (n == 0) refl there
     where
       go : (t : Bool) → (n == 0) ≡ t → held_of (if t then None else slice_get w.processes (n - 1)) i ≡ Some h → held_in w.processes (n - 1) i ≡ Some h

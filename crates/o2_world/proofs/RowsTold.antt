@@ -170,21 +170,21 @@ moved_ends cause cs q =
     (ordered_ends (flat_map (hold_lines_of cause) cs) q (all_end (hold_lines_of cause) q (λ c. hold_ends cause c q) cs))
     (ordered_ends (flat_map (drop_lines_of cause) cs) q (all_end (drop_lines_of cause) q (λ c. drop_ends cause c q) cs))
 
-back_told : (b : Before) (cpu : Cpu) (bytes : ℕ → List ℕ) (name : List ℕ) (args : List Argument) (error : ℕ) (values : List Argument) (changes : List Change)
+pub back_told : (b : Before) (cpu : Cpu) (bytes : ℕ → List ℕ) (name : List ℕ) (args : List Argument) (error : ℕ) (values : List Argument) (changes : List Change)
     → IsToldBy b.number (back b cpu bytes name args error values changes)
 back_told b cpu bytes name args error values changes = record {
   tells = record { cause = name; came_by = λ q t. omega arith; went_by = λ q t. omega arith };
   ends = λ q. moved_ends name changes q;
 }
 
-told_either : (n : ℕ) (t : Bool) (e f : Effect) → IsToldBy n e → IsToldBy n f → IsToldBy n (cond t e f)
+pub told_either : (n : ℕ) (t : Bool) (e f : Effect) → IsToldBy n e → IsToldBy n f → IsToldBy n (cond t e f)
 told_either n true e f h k = h
 told_either n false e f h k = k
 
-trap_told : (b : Before) (vector : ℕ) → IsToldBy b.number (trapped b vector)
+pub trap_told : (b : Before) (vector : ℕ) → IsToldBy b.number (trapped b vector)
 trap_told b vector = quiet_told b.number (trapped b vector) refl (traps b vector)
 
-ruled_told : (b : Before) (next words : ℕ) (name : List ℕ) (args : List Argument) (t : Written) (r : Ruling) → IsToldBy b.number (ruled_at b next words name args t r)
+pub ruled_told : (b : Before) (next words : ℕ) (name : List ℕ) (args : List Argument) (t : Written) (r : Ruling) → IsToldBy b.number (ruled_at b next words name args t r)
 ruled_told b next words name args t r = told_either b.number (r.error == 0) _ _ (back_told b _ _ name args 0 _ r.changes) (back_told b _ _ name args r.error [] [])
 
 allocated_told : (b : Before) (next size s o flags : ℕ) → IsToldBy b.number (allocated b next size s o flags)

@@ -59,7 +59,7 @@ free_by k n r i which e = go (r == 0) refl e
         let high = o.below in
         record { own = λ _. subst (λ (m : ℕ). k.taken m i ≡ false) (own_of which (not_zero r is)) o.free; shared = λ from. absurd (omega (arith, high, from)) }
 
-region_is : (n flags : ℕ) → (region_by n flags ≡ n) ⊎ (region_by n flags ≡ 0)
+pub region_is : (n flags : ℕ) → (region_by n flags ≡ n) ⊎ (region_by n flags ≡ 0)
 region_is n flags = go (flags % 4 == 0)
   where
     go : (b : Bool) → ((if b then n else 0) ≡ n) ⊎ ((if b then n else 0) ≡ 0)
@@ -131,11 +131,11 @@ alias_moves b cpu s (Some h) e =
 
 -- Which indexes a free is about.
 
-above : (P Q : ℕ → Type 0) → ((i : ℕ) → P i → Q i) → (is : List ℕ) → Each P is → Each Q is
+pub above : (P Q : ℕ → Type 0) → ((i : ℕ) → P i → Q i) → (is : List ℕ) → Each P is → Each Q is
 above P Q f [] h = tt
 above P Q f (i ∷ is) h = (f i h.0, above P Q f is h.1)
 
-indexes_from : (first n : ℕ) → Each (λ (j : ℕ). first ≤ j) (indexes first n)
+pub indexes_from : (first n : ℕ) → Each (λ (j : ℕ). first ≤ j) (indexes first n)
 indexes_from first zero = tt
 indexes_from first (suc n) = (omega arith, above (λ j. first + 1 ≤ j) (λ j. first ≤ j) (λ j h. omega (arith, h)) (indexes (first + 1) n) (indexes_from (first + 1) n))
 
@@ -155,7 +155,7 @@ apart_kept f (i ∷ is) h = go (f i) (apart_kept f is h.1)
     go true rest = (each_kept (λ (j : ℕ). i ≢ j) f is h.0, rest)
     go false rest = rest
 
-indexes_apart : (first n : ℕ) → AreApart (indexes first n)
+pub indexes_apart : (first n : ℕ) → AreApart (indexes first n)
 indexes_apart first zero = tt
 indexes_apart first (suc n) =
     (above (λ j. first + 1 ≤ j) (λ j. first ≢ j) (λ j h same. omega (arith, h, same)) (indexes (first + 1) n) (indexes_from (first + 1) n), indexes_apart (first + 1) n)

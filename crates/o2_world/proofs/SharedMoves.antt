@@ -14,10 +14,10 @@ use Rattle.o2_world.specs.declared.types.SharedCall.TheVariants.{DosAllocShrSeg,
 use Rattle.o2_world.specs.World.{Held}
 use Rattle.o2_world.specs.Known.{Known, Marks}
 use Rattle.o2_world.specs.CallParts.{Before, Effect, argument, has_arguments, may_write}
-use Rattle.o2_world.specs.Rulings.{Ruling, free_index, held_under, is_later, members}
+use Rattle.o2_world.specs.Rulings.{Ruling, by_load, free_index, held_under, is_later, members}
 use Rattle.o2_world.specs.SegmentCalls.{Written, ruled_at, written_word}
 use Rattle.o2_world.specs.SharedNames.{may_read_text, name_by, text_at}
-use Rattle.o2_world.specs.SharedRulings.{each_more, getting, getting_at, getting_from, giving, giving_of, held_by, holder, index_of, is_share, is_shared, is_shared_with, lacks_flag, marks_under, naming, naming_at, shared_from, sharing, sharing_at, sharing_from, sharing_of}
+use Rattle.o2_world.specs.SharedRulings.{each_more, getting, getting_at, getting_from, giving, giving_of, held_by, holder, index_of, is_share, is_shared, is_shared_with, lacks_flag, marks_by_call, naming, naming_at, shared_from, sharing, sharing_at, sharing_from, sharing_of}
 use Rattle.o2_world.specs.SharedCalls.{dos_alloc_shr_seg, dos_get_seg, dos_get_shr_seg, dos_give_seg, give_args, given, name_args, named, on_shared, shared_by_name}
 use Rattle.o2_world.specs.Moves.{AllMoves, Each, IsShared, IsSharing, Moves, NoneMoves, OneNamed, OwnMoves, SomeShared}
 use Rattle.o2_world.proofs.SegmentMoves.{free_by}
@@ -55,21 +55,23 @@ marked : (flag : ℕ) (o : Option Marks) → is_shared_with flag o ≡ true → 
 marked flag None e = absurd (cc)
 marked flag (Some m) e = (m, refl, (both m.shared (has_bit m.flags flag) e).0)
 
-held_marks : (k : Known) (flag n i : ℕ) (o : Option Held) → k.held n i ≡ o → 4096 ≤ i → is_shared_with flag (marks_under k o) ≡ true → IsShared k n i
+held_marks : (k : Known) (flag n i : ℕ) (o : Option Held) → k.held n i ≡ o → 4096 ≤ i → is_shared_with flag (marks_by_call k o) ≡ true → IsShared k n i
 held_marks k flag n i None at high e = absurd (cc)
-held_marks k flag n i (Some h) at high e =
-    let m = marked flag (k.segment h.name) e in
-    record { held = h; there = at; high = high; marks = m.0; segment = m.1; shared = m.2 }
+held_marks k flag n i (Some h) at high e = go (by_load h.cause) refl e
+  where
+    go : (t : Bool) → by_load h.cause ≡ t → is_shared_with flag (if t then None else k.segment h.name) ≡ true → IsShared k n i
+    go true is f = absurd (cc)
+    go false is f = let m = marked flag (k.segment h.name) f in record { held = h; there = at; high = high; called = is; marks = m.0; segment = m.1; shared = m.2 }
 
-one_shared : (k : Known) (flag n i : ℕ) → not (nat_le shared_from i && is_shared_with flag (marks_under k (k.held n i))) ≡ false → IsShared k n i
+one_shared : (k : Known) (flag n i : ℕ) → not (nat_le shared_from i && is_shared_with flag (marks_by_call k (k.held n i))) ≡ false → IsShared k n i
 one_shared k flag n i e =
-    let x = both (nat_le shared_from i) (is_shared_with flag (marks_under k (k.held n i))) (not_false _ e) in
+    let x = both (nat_le shared_from i) (is_shared_with flag (marks_by_call k (k.held n i))) (not_false _ e) in
     held_marks k flag n i (k.held n i) refl (at_least 4096 i x.0) x.1
 
 all_shared : (k : Known) (flag n : ℕ) (is : List ℕ) → lacks_flag k flag n is ≡ false → Each (IsShared k n) is
 all_shared k flag n [] e = tt
 all_shared k flag n (i ∷ is) e =
-    let x = both_false (not (nat_le shared_from i && is_shared_with flag (marks_under k (k.held n i)))) (lacks_flag k flag n is) e in
+    let x = both_false (not (nat_le shared_from i && is_shared_with flag (marks_by_call k (k.held n i)))) (lacks_flag k flag n is) e in
     (one_shared k flag n i x.0, all_shared k flag n is x.1)
 
 -- Rulings.
@@ -90,11 +92,15 @@ module _ (b : Before) (cpu : Cpu) where
 
   share_here : (q i from : ℕ) (o : Option Held) → k.held from i ≡ o → 4096 ≤ i → is_share k q o ≡ true → IsShared k from i
   share_here q i from None at high e = absurd (cc)
-  share_here q i from (Some h) at high e = go (k.segment h.name) refl (both (h.name == q) (is_shared (k.segment h.name)) e).1
+  share_here q i from (Some h) at high e = by (by_load h.cause) refl (both (h.name == q) (is_shared (marks_by_call k (Some h))) e).1
     where
-      go : (o : Option Marks) → k.segment h.name ≡ o → is_shared o ≡ true → IsShared k from i
-      go None there s = absurd (cc)
-      go (Some m) there s = record { held = h; there = at; high = high; marks = m; segment = there; shared = s }
+      go : by_load h.cause ≡ false → (o : Option Marks) → k.segment h.name ≡ o → is_shared o ≡ true → IsShared k from i
+      go called None there s = absurd (cc)
+      go called (Some m) there s = record { held = h; there = at; high = high; called = called; marks = m; segment = there; shared = s }
+
+      by : (t : Bool) → by_load h.cause ≡ t → is_shared (if t then None else k.segment h.name) ≡ true → IsShared k from i
+      by true is s = absurd (cc)
+      by false is s = go is (k.segment h.name) refl s
 
   from_moves : (q i : ℕ) (o : Option ℕ) → holder k i ≡ o → 4096 ≤ i → is_share k q (held_by k i o) ≡ true
       → AllMoves b cpu (sharing_from k b.number i o).changes

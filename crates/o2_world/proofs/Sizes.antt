@@ -107,10 +107,10 @@ still_writable held f g s offset count k e = go (count == 0) e
 
 -- The rows.
 
-abbrev Keeps : Before → Effect → Type 0
+abbrev pub Keeps : Before → Effect → Type 0
 Keeps b e = KeepsLengths b.view.bytes e.bytes
 
-by_test : (b : Before) (t : Bool) (e f : Effect) → (t ≡ true → Keeps b e) → Keeps b f → Keeps b (cond t e f)
+pub by_test : (b : Before) (t : Bool) (e f : Effect) → (t ≡ true → Keeps b e) → Keeps b f → Keeps b (cond t e f)
 by_test b true e f h k = h refl
 by_test b false e f h k = k
 
@@ -194,7 +194,7 @@ exit_sizes b = by_test b (has_arguments b.view b.cpu 2) _ _ (λ _. stays b.view.
 
 -- the calls on segments change no size of a name that lived before but by their changes, which come behind the bytes
 
-ruled_sizes : (b : Before) (next words : ℕ) (name : List ℕ) (args : List Argument) (t : Written) (r : Ruling)
+pub ruled_sizes : (b : Before) (next words : ℕ) (name : List ℕ) (args : List Argument) (t : Written) (r : Ruling)
     → may_write b.view t.selector t.offset (length t.part) ≡ true → Keeps b (ruled_at b next words name args t r)
 ruled_sizes b next words name args t r good =
     by_test b (r.error == 0) _ _ (λ _. pointer_sizes b.view.held b.view.bytes t.selector t.offset t.part (good_fits b.view t.selector t.offset (length t.part) good)) (stays b.view.bytes)

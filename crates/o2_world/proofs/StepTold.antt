@@ -178,7 +178,7 @@ none_come cause (c ∷ cs) q s other =
 
 -- holds more of a process that is there can be told
 
-there_behind : (w : World) (q n i : ℕ) (h : Held) → IsThere w n → IsThere (with_change w (Holds q i h)) n
+pub there_behind : (w : World) (q n i : ℕ) (h : Held) → IsThere w n → IsThere (with_change w (Holds q i h)) n
 there_behind w q n i h there =
     (there.0, let l = number_length q (λ (p : Process). record p { held = put i (more h (get p.held i)) p.held }) w.processes in let x = there.1 in omega (arith, l, x))
 

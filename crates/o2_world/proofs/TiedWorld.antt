@@ -152,7 +152,7 @@ region_is n m e = grind arith
 same_place : (n : ℕ) → (n == n) ≡ true
 same_place n = grind arith
 
-with_more : (v : World) (xs ys : List Change) → with_changes v (xs ++ ys) ≡ with_changes (with_changes v xs) ys
+pub with_more : (v : World) (xs ys : List Change) → with_changes v (xs ++ ys) ≡ with_changes (with_changes v xs) ys
 unfolding with_changes
 with_more v [] ys = refl
 with_more v (x ∷ xs) ys = with_more (with_change v x) xs ys

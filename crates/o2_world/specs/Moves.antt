@@ -1,13 +1,14 @@
 -- What a call may change beside bytes and registers, by its shape.
-use Rattle.std.specs.Prelude.{◌⊎◌, ◌≡◌, ◌≢◌, ℕ, ◌<◌, ◌≤◌, true, false, List, [], ◌∷◌, map, if◌then◌else◌, Option, Some, None, is_some}
+use Rattle.std.specs.Prelude.{◌⊎◌, ◌≡◌, ◌≢◌, ℕ, ◌<◌, ◌≤◌, true, false, List, [], ◌∷◌, ◌++◌, map, if◌then◌else◌, Option, Some, None, is_some}
 use Rattle.o2_isa.specs.declared.cpu.Cpu.{Cpu}
 use Rattle.o2_world.specs.Map.{get}
 use Rattle.o2_world.specs.World.{Held, Process}
 use Rattle.o2_world.specs.Changes.{Change, Makes, Resizes, Locks, Marks, Holds, Drops, Finishes, Reserves, Frees, Names}
 use Rattle.o2_world.specs.Known.{Known, Marks as SegmentMarks}
 use Rattle.o2_world.specs.CallParts.{Before}
-use Rattle.o2_world.specs.Rulings.{full_size, held_as_code, held_by_call, in_use, is_gone, made_segment}
+use Rattle.o2_world.specs.Rulings.{by_load, full_size, held_as_code, held_by_call, in_use, is_gone, made_segment}
 use Rattle.o2_world.specs.SharedRulings.{each_more, shared_segment}
+use Rattle.o2_world.specs.HugeRulings.{dropped_members, is_unheld, names_one, new_members, resized_members, run_reserve}
 
 -- an index that is neither held nor reserved: below 4096 of the process's own region, from there on of the one that all share
 pub record IsFreeIndex (k : Known) (number i : ℕ) : Type 0 where
@@ -47,11 +48,12 @@ pub data Moves (b : Before) (cpu : Cpu) (changes : List Change) : Type 0 where
       → changes ≡ Holds b.number i (held_as_code held.name) ∷ [] → Moves b cpu changes
   SomeFreed : (is : List ℕ) → IsFreeing b cpu is → changes ≡ map (λ (i : ℕ). Drops b.number i 1) is → Moves b cpu changes
 
--- a process holds a segment that is shared, under a shared index
+-- a process holds a segment that is shared, under a shared index, and that didn't come with a module
 pub record IsShared (k : Known) (process index : ℕ) : Type 0 where
   pub held : Held
   pub there : k.held process index ≡ Some held
   pub high : 4096 ≤ index
+  pub called : by_load held.cause ≡ false
   pub marks : SegmentMarks
   pub segment : k.segment held.name ≡ Some marks
   pub shared : marks.shared ≡ true
@@ -127,3 +129,45 @@ AreSpared None None = Unit {0}
 AreSpared (Some old) (Some new) = IsSpared old new
 AreSpared None (Some new) = ⊥
 AreSpared (Some old) None = ⊥
+
+-- Runs of indexes. A process that is to hold new members of one: the caller, once, where it makes the run; or as often as it holds
+-- a member already.
+pub data IsHolder (b : Before) (p : ℕ × ℕ) : Type 0 where
+  Maker : p.0 ≡ b.number → p.1 ≡ 1 → IsHolder b p
+  Sharer : (index : ℕ) (held : Held) → b.known.held p.0 index ≡ Some held → p.1 ≡ held.holds → IsHolder b p
+
+abbrev pub AreHolders : Before → List (ℕ × ℕ) → Type 0
+AreHolders b [] = Unit {0}
+AreHolders b (p ∷ ps) = IsHolder b p × AreHolders b ps
+
+-- nobody who could hold the index holds it: it is free, or so it is found
+abbrev pub IsOpen : Before → ℕ → Type 0
+IsOpen b i = IsFreeIndex b.known b.number i ⊎ (is_unheld b.known b.number i ≡ true)
+
+-- new members of a run, which is held by its caller and by others
+pub record IsGrowth (b : Before) (holds : ℕ) (others : List (ℕ × ℕ)) (is : List ℕ) : Type 0 where
+  pub holders : AreHolders b ((b.number, holds) ∷ others)
+  pub apart : AreApart is
+  pub open : Each (IsOpen b) is
+
+-- members of a run that go with all holds of the caller
+pub record IsCut (b : Before) (cpu : Cpu) (is : List ℕ) : Type 0 where
+  pub apart : AreApart is
+  pub held : Each (λ (i : ℕ). is_some (b.known.held b.number i) ≡ true) is
+  pub unused : in_use b.cpu is ≡ false
+  pub cs : cpu.cs ≡ b.cpu.cs
+  pub ss : cpu.ss ≡ b.cpu.ss
+  pub ds : cpu.ds ≡ (if names_one b.cpu.ds is then 0 else b.cpu.ds)
+  pub es : cpu.es ≡ (if names_one b.cpu.es is then 0 else b.cpu.es)
+
+-- the changes of a call on a huge allocation, and its registers behind it
+pub data RunMoves (b : Before) (cpu : Cpu) (changes : List Change) : Type 0 where
+  NoRun : changes ≡ [] → RunMoves b cpu changes
+  -- a new run, of one member at least
+  RunMade : (region first count flags i z : ℕ) (is zs : List ℕ) → (region ≡ b.number) ⊎ (region ≡ 0) → 0 < count → IsGrowth b 1 [] (i ∷ is)
+      → changes ≡ new_members b.known.next first count flags ((b.number, 1) ∷ []) (i ∷ is) (z ∷ zs) ++ Reserves (run_reserve region first count) ∷ []
+      → RunMoves b cpu changes
+  -- members of a run get other sizes, new ones come, and others go
+  RunSized : (first count flags holds : ℕ) (others : List (ℕ × ℕ)) (kept sizes is zs gone : List ℕ) → IsGrowth b holds others is → IsCut b cpu gone
+      → changes ≡ resized_members b.known b.number kept sizes ++ (new_members b.known.next first count flags ((b.number, holds) ∷ others) is zs ++ dropped_members b.known b.number gone)
+      → RunMoves b cpu changes

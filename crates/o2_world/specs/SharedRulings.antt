@@ -9,7 +9,7 @@ use Rattle.o2_isa.specs.View.{is_local}
 use Rattle.o2_world.specs.World.{Segment, Held, ByCall}
 use Rattle.o2_world.specs.Changes.{Change, Makes, Holds, Names}
 use Rattle.o2_world.specs.Known.{Known, Marks}
-use Rattle.o2_world.specs.Rulings.{Ruling, refusal, grants, free_index, full_size, held_by_call, held_under, indexes, is_later, made_segment, members}
+use Rattle.o2_world.specs.Rulings.{Ruling, refusal, grants, by_load, free_index, full_size, held_by_call, held_under, indexes, is_later, made_segment, members}
 
 -- the first index that all processes share
 abbrev pub shared_from : ℕ
@@ -39,13 +39,18 @@ abbrev pub marks_under : Known → Option Held → Option Marks
 marks_under k None = None
 marks_under k (Some h) = k.segment h.name
 
+-- of what a call gave alone: what came with a module isn't shared by calls
+abbrev pub marks_by_call : Known → Option Held → Option Marks
+marks_by_call k None = None
+marks_by_call k (Some h) = if by_load h.cause then None else k.segment h.name
+
 abbrev pub is_shared_with : (flag : ℕ) → Option Marks → Bool
 is_shared_with flag None = false
 is_shared_with flag (Some m) = m.shared && has_bit m.flags flag
 
 -- one of these isn't shared, or hasn't the flag: each member of a run must
 abbrev pub lacks_flag : Known → (flag process : ℕ) → List ℕ → Bool
-lacks_flag k flag n is = list_any (λ (i : ℕ). not (nat_le shared_from i && is_shared_with flag (marks_under k (k.held n i)))) is
+lacks_flag k flag n is = list_any (λ (i : ℕ). not (nat_le shared_from i && is_shared_with flag (marks_by_call k (k.held n i)))) is
 
 -- DosAllocShrSeg(size, name, psel): 123 where the text is no name, 183 where the name lives, 8 where no shared index is free, or no
 -- more names may live. A segment of zeros that is shared, without flags, and its name.
@@ -73,7 +78,7 @@ is_shared (Some m) = m.shared
 -- a segment of that name, which is shared
 abbrev pub is_share : Known → (name : ℕ) → Option Held → Bool
 is_share k q None = false
-is_share k q (Some h) = (h.name == q) && is_shared (k.segment h.name)
+is_share k q (Some h) = (h.name == q) && is_shared (marks_by_call k (Some h))
 
 -- the shared index of a name
 abbrev pub index_of : Known → (name : ℕ) → Option ℕ
