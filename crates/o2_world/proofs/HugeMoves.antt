@@ -121,7 +121,7 @@ module _ (b : Before) (cpu : Cpu) (segs part flags : ℕ) where
       (record {
         holders = (Maker refl refl, tt);
         apart = indexes_apart i (suc m.0);
-        open = all_free (λ (j : ℕ). i ≤ j) (λ (j : ℕ). j < i + suc m.0) _ (λ j low high. inl (one_free k n (region_by n flags) count i j (region_is n flags) e low (omega (arith, high, size)))) (indexes i (suc m.0)) from to;
+        free = all_free (λ (j : ℕ). i ≤ j) (λ (j : ℕ). j < i + suc m.0) _ (λ j low high. inl (one_free k n (region_by n flags) count i j (region_is n flags) e low (omega (arith, high, size)))) (indexes i (suc m.0)) from to;
       })
       (ap (λ (x : ℕ). Rattle.o2_world.specs.HugeRulings.new_members k.next i count flags ((n, 1) ∷ []) (indexes i x) (sizes_of segs part) ++ Rattle.o2_world.specs.Changes.Reserves (Rattle.o2_world.specs.HugeRulings.run_reserve (region_by n flags) i count) ∷ []) m.1
       ∙ ap (λ (zs : List ℕ). Rattle.o2_world.specs.HugeRulings.new_members k.next i count flags ((n, 1) ∷ []) (indexes i (suc m.0)) zs ++ Rattle.o2_world.specs.Changes.Reserves (Rattle.o2_world.specs.HugeRulings.run_reserve (region_by n flags) i count) ∷ []) s.2)

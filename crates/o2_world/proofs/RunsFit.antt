@@ -177,8 +177,8 @@ module _ (s : Setting) (w : World) (d : Dispatch) (p : Process) (e : Effect) (at
       by_place big (Some k) f = absurd (open_vacant i (inr unheld) big (d.current - 1) k f)
 
   each_open : {P : ℕ → Type 0} → ((i : ℕ) → IsOpen b i → P i) → (is : List ℕ) → Each (IsOpen b) is → Each P is
-  each_open f [] open = tt
-  each_open {P} f (i ∷ is) open = (f i open.0, each_open {P = P} f is open.1)
+  each_open f [] all = tt
+  each_open {P} f (i ∷ is) all = (f i all.0, each_open {P = P} f is all.1)
 
   -- The reserve of a new run.
 
@@ -213,7 +213,7 @@ module _ (s : Setting) (w : World) (d : Dispatch) (p : Process) (e : Effect) (at
       → AreFitChanges v (new_members w.next_name first count flags ((d.current, 1) ∷ []) (i ∷ is) (z ∷ zs) ++ Reserves (run_reserve region first count) ∷ [])
   made_fit region first count flags i z is zs growth =
       fit_more v (new_members w.next_name first count flags ((d.current, 1) ∷ []) (i ∷ is) (z ∷ zs)) (Reserves (run_reserve region first count) ∷ [])
-      (members_fit first count flags ((d.current, 1) ∷ []) v w.next_name (i ∷ is) (z ∷ zs) refl growth.apart (each_open {P = IsVacant v} open_vacant (i ∷ is) growth.open) (holders_on ((d.current, 1) ∷ []) growth.holders))
+      (members_fit first count flags ((d.current, 1) ∷ []) v w.next_name (i ∷ is) (z ∷ zs) refl growth.apart (each_open {P = IsVacant v} open_vacant (i ∷ is) growth.free) (holders_on ((d.current, 1) ∷ []) growth.holders))
       (tt, tt)
 
   pub made_swept : (region first count flags i z : ℕ) (is zs : List ℕ) → (region ≡ d.current) ⊎ (region ≡ 0) → 0 < count → IsGrowth b 1 [] (i ∷ is)
@@ -222,7 +222,7 @@ module _ (s : Setting) (w : World) (d : Dispatch) (p : Process) (e : Effect) (at
   made_swept region first count flags i z is zs which positive growth =
       let ms : List Change = new_members w.next_name first count flags ((d.current, 1) ∷ []) (i ∷ is) (z ∷ zs) in
       let on = holders_on ((d.current, 1) ∷ []) growth.holders in
-      let left = each_open {P = IsLeft d.current v} open_left (i ∷ is) growth.open in
+      let left = each_open {P = IsLeft d.current v} open_left (i ∷ is) growth.free in
       let behind = members_swept first count flags d.current 1 [] v w.next_name (i ∷ is) (z ∷ zs) refl growth.apart left on v_swept in
       let y = first_held first count flags d.current 1 [] v w.next_name i z is zs left.0 on in
       let used = made_used (with_changes v ms) region first count i y.0 which positive y.1 y.2 y.3 in

@@ -148,7 +148,7 @@ IsOpen b i = IsFreeIndex b.known b.number i ⊎ (is_unheld b.known b.number i �
 pub record IsGrowth (b : Before) (holds : ℕ) (others : List (ℕ × ℕ)) (is : List ℕ) : Type 0 where
   pub holders : AreHolders b ((b.number, holds) ∷ others)
   pub apart : AreApart is
-  pub open : Each (IsOpen b) is
+  pub free : Each (IsOpen b) is
 
 -- members of a run that go with all holds of the caller
 pub record IsCut (b : Before) (cpu : Cpu) (is : List ℕ) : Type 0 where
