@@ -47,7 +47,7 @@ any_at g (j ∷ is) i e h =
     (λ here. or_left (g j) (list_any g is) (ap g (same_number j i here) ∙ h))
     (λ later. or_right (g j) (list_any g is) (any_at g is i later h)) e
 
-none_at : (g : ℕ → Bool) (is : List ℕ) (i : ℕ) → list_any g is ≡ false → is_among is i ≡ true → g i ≡ false
+pub none_at : (g : ℕ → Bool) (is : List ℕ) (i : ℕ) → list_any g is ≡ false → is_among is i ≡ true → g i ≡ false
 none_at g is i none here = go (g i) refl
   where
     go : (b : Bool) → g i ≡ b → g i ≡ false
@@ -73,14 +73,14 @@ either_false : (a b : Bool) → (a || b) ≡ false → (a ≡ false) × (b ≡ f
 either_false true b e = absurd (cc)
 either_false false b e = (refl, e)
 
-other_index : (s i : ℕ) → is_local s ≡ true → is_index s i ≡ false → s / 8 ≢ i
+pub other_index : (s i : ℕ) → is_local s ≡ true → is_index s i ≡ false → s / 8 ≢ i
 other_index s i local none same = grind arith
 
-local_of : (p : Process) (ok : ℕ → Bool) (s : ℕ) → (is_null s ≡ true) ⊎ NamesHeld p ok s → (is_null s ≡ true) ⊎ (is_local s ≡ true)
+pub local_of : (p : Process) (ok : ℕ → Bool) (s : ℕ) → (is_null s ≡ true) ⊎ NamesHeld p ok s → (is_null s ≡ true) ⊎ (is_local s ≡ true)
 local_of p ok s (inl null) = inl null
 local_of p ok s (inr named) = inr named.0
 
-data_other : (s i : ℕ) → (is_null s ≡ true) ⊎ (is_local s ≡ true) → is_index s i ≡ false → (is_null s ≡ true) ⊎ (s / 8 ≢ i)
+pub data_other : (s i : ℕ) → (is_null s ≡ true) ⊎ (is_local s ≡ true) → is_index s i ≡ false → (is_null s ≡ true) ⊎ (s / 8 ≢ i)
 data_other s i (inl null) none = inl null
 data_other s i (inr local) none = inr (other_index s i local none)
 

@@ -24,7 +24,7 @@ same_number n m e = grind arith
 same : (n : ℕ) → (n == n) ≡ true
 same n = grind arith
 
-other_number : (n m : ℕ) → n ≢ m → (n == m) ≡ false
+pub other_number : (n m : ℕ) → n ≢ m → (n == m) ≡ false
 other_number n m other = go (n == m) refl
   where
     go : (b : Bool) → (n == m) ≡ b → (n == m) ≡ false

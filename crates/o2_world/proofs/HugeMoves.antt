@@ -1,6 +1,7 @@
 -- What each call on a huge allocation changes, by its shape.
 use Rattle.std.proofs.Common.{◌≡◌, ◌≢◌, ◌⊎◌, inl, inr, ℕ, zero, suc, ◌+◌, ◌-◌, ◌<◌, ◌≤◌, ◌==◌, ◌/◌, ◌%◌, nat_lt, nat_le, not, ◌&&◌, ◌||◌, Bool, true, false, cond, List, [], ◌∷◌, ◌++◌, length, Option, Some, None, if◌then◌else◌, ap, sym, ◌∙◌, refl, arith, subst}
 use Rattle.std.specs.Prelude.{codes, drop, filter, flat_map, is_some, max, replicate, take}
+use Rattle.o2_desc.specs.Bits.{has_bit}
 use Rattle.o2_desc.specs.Choice.{IsChosen, chosen}
 use Rattle.o2_desc.proofs.Choices.{chosen_law}
 use Rattle.o2_isa.specs.declared.cpu.Cpu.{Cpu}
@@ -9,16 +10,16 @@ use Rattle.o2_world.specs.declared.types.Argument.TheVariants.{Word, Far}
 use Rattle.o2_world.specs.declared.types.HugeCall.{HugeCall}
 use Rattle.o2_world.specs.declared.types.HugeCall.TheVariants.{DosAllocHuge, DosReallocHuge, DosGetHugeShift}
 use Rattle.o2_world.specs.World.{Held}
-use Rattle.o2_world.specs.Changes.{Change}
-use Rattle.o2_world.specs.Known.{Known}
+use Rattle.o2_world.specs.Changes.{Change, Reserves, Resizes}
+use Rattle.o2_world.specs.Known.{Known, Marks}
 use Rattle.o2_world.specs.CallParts.{Before, Effect, argument, has_arguments, may_write, returned}
-use Rattle.o2_world.specs.Rulings.{Ruling, dropped_indexes, held_under, in_use, indexes, is_in_run, members, region_by}
+use Rattle.o2_world.specs.Rulings.{Ruling, dropped_indexes, full_size, held_under, in_use, indexes, is_in_run, members, region_by}
 use Rattle.o2_world.specs.SegmentCalls.{Written, ruled_at, written_word}
-use Rattle.o2_world.specs.SharedRulings.{shared_from}
-use Rattle.o2_world.specs.HugeRulings.{free_run, huge_allocation, huge_at, huge_shift, is_huge_fault, is_unheld, left_in_run, segments_of, sizes_of}
-use Rattle.o2_world.specs.HugeCalls.{allocated_huge, huge_args}
-use Rattle.o2_world.specs.Moves.{AreApart, Each, IsFreeIndex, IsGrowth, Maker, NoRun, RunMade, RunMoves}
-use Rattle.o2_world.proofs.SegmentMoves.{above, indexes_apart, indexes_from, region_is}
+use Rattle.o2_world.specs.SharedRulings.{marks_under, shared_from}
+use Rattle.o2_world.specs.HugeRulings.{all_bytes, all_dropped, all_hold, bytes_of, dropped_members, flags_in, free_run, huge_allocation, huge_at, huge_reallocation, huge_reallocation_of, huge_shift, is_first, is_huge_fault, is_unheld, left_in_run, names_one, new_members, other_shares, resized_members, resized_one, run_changes, run_reserve, run_resized, segments_of, share_of, sizes_of, without}
+use Rattle.o2_world.specs.HugeCalls.{allocated_huge, dos_alloc_huge, dos_get_huge_shift, dos_realloc_huge, huge_args, on_runs, reallocated_huge}
+use Rattle.o2_world.specs.Moves.{AreApart, AreHolders, Each, IsCut, IsFreeIndex, IsGrowth, Maker, NoRun, RunMade, RunMoves, RunSized, Sharer}
+use Rattle.o2_world.proofs.SegmentMoves.{above, apart_kept, held_there, indexes_apart, indexes_from, kept_are, members_apart, members_held, region_is}
 
 either : (b : Before) (t : Bool) (e f : Effect) → RunMoves b e.cpu e.changes → RunMoves b f.cpu f.changes
     → RunMoves b (cond t e f).cpu (cond t e f).changes
@@ -123,11 +124,11 @@ module _ (b : Before) (cpu : Cpu) (segs part flags : ℕ) where
         apart = indexes_apart i (suc m.0);
         free = all_free (λ (j : ℕ). i ≤ j) (λ (j : ℕ). j < i + suc m.0) _ (λ j low high. inl (one_free k n (region_by n flags) count i j (region_is n flags) e low (omega (arith, high, size)))) (indexes i (suc m.0)) from to;
       })
-      (ap (λ (x : ℕ). Rattle.o2_world.specs.HugeRulings.new_members k.next i count flags ((n, 1) ∷ []) (indexes i x) (sizes_of segs part) ++ Rattle.o2_world.specs.Changes.Reserves (Rattle.o2_world.specs.HugeRulings.run_reserve (region_by n flags) i count) ∷ []) m.1
-      ∙ ap (λ (zs : List ℕ). Rattle.o2_world.specs.HugeRulings.new_members k.next i count flags ((n, 1) ∷ []) (indexes i (suc m.0)) zs ++ Rattle.o2_world.specs.Changes.Reserves (Rattle.o2_world.specs.HugeRulings.run_reserve (region_by n flags) i count) ∷ []) s.2)
+      (ap (λ (x : ℕ). new_members k.next i count flags ((n, 1) ∷ []) (indexes i x) (sizes_of segs part) ++ Reserves (run_reserve (region_by n flags) i count) ∷ []) m.1
+      ∙ ap (λ (zs : List ℕ). new_members k.next i count flags ((n, 1) ∷ []) (indexes i (suc m.0)) zs ++ Reserves (run_reserve (region_by n flags) i count) ∷ []) s.2)
 
   faultless : (most : ℕ) → is_huge_fault (segments_of segs part) most flags ≡ false → (segments_of segs part == 0) ≡ false
-  faultless most e = (either_false (segments_of segs part == 0) _ (either_false (Rattle.o2_desc.specs.Bits.has_bit flags 2) _ (either_false (nat_lt 15 flags) _ e).1).1).0
+  faultless most e = (either_false (segments_of segs part == 0) _ (either_false (has_bit flags 2) _ (either_false (nat_lt 15 flags) _ e).1).1).0
 
   pub huge_moves : (most : ℕ) → RunMoves b cpu (huge_allocation k n segs part most flags).changes
   huge_moves most =
@@ -148,3 +149,203 @@ allocated_moves b next segs part s o most flags =
     either b (may_write b.view s o 2) _ _
     (ruled_moves b next 6 (codes "DosAllocHuge") (huge_args segs part s o most flags) (written_word s o r.value) r (λ cpu. huge_moves b cpu segs part flags most))
     (NoRun refl)
+
+-- DosReallocHuge.
+
+-- the indexes of which holds go are those of the members that go
+
+resized_none : (k : Known) (n : ℕ) (is zs : List ℕ) (cs : List Change) → dropped_indexes (resized_members k n is zs ++ cs) ≡ dropped_indexes cs
+resized_none k n [] zs cs = refl
+resized_none k n (i ∷ is) [] cs = refl
+resized_none k n (i ∷ is) (z ∷ zs) cs = one (k.held n i) (marks_under k (k.held n i))
+  where
+    rest : dropped_indexes (resized_members k n is zs ++ cs) ≡ dropped_indexes cs
+    rest = resized_none k n is zs cs
+
+    here : (h : Held) (m : Marks) (b : Bool)
+        → dropped_indexes ((if b then [] else Resizes h.name (full_size z) ∷ []) ++ resized_members k n is zs ++ cs) ≡ dropped_indexes cs
+    here h m true = rest
+    here h m false = rest
+
+    append : (xs : List Change) → (xs ++ resized_members k n is zs) ++ cs ≡ xs ++ (resized_members k n is zs ++ cs)
+    append [] = refl
+    append (x ∷ xs) = ap (λ (ys : List Change). x ∷ ys) (append xs)
+
+    one : (o : Option Held) (m : Option Marks) → dropped_indexes ((resized_one z o m ++ resized_members k n is zs) ++ cs) ≡ dropped_indexes cs
+    one None None = rest
+    one None (Some m) = rest
+    one (Some h) None = rest
+    one (Some h) (Some m) = ap dropped_indexes (append (resized_one z (Some h) (Some m))) ∙ here h m (m.size == full_size z)
+
+holds_none : (name first count i : ℕ) (ps : List (ℕ × ℕ)) (cs : List Change) → dropped_indexes (all_hold name first count i ps ++ cs) ≡ dropped_indexes cs
+holds_none name first count i [] cs = refl
+holds_none name first count i (p ∷ ps) cs = holds_none name first count i ps cs
+
+append_twice : (xs ys zs : List Change) → (xs ++ ys) ++ zs ≡ xs ++ (ys ++ zs)
+append_twice [] ys zs = refl
+append_twice (x ∷ xs) ys zs = ap (λ (cs : List Change). x ∷ cs) (append_twice xs ys zs)
+
+made_none : (name first count flags : ℕ) (ps : List (ℕ × ℕ)) (is zs : List ℕ) (cs : List Change)
+    → dropped_indexes (new_members name first count flags ps is zs ++ cs) ≡ dropped_indexes cs
+made_none name first count flags ps [] zs cs = refl
+made_none name first count flags ps (i ∷ is) [] cs = refl
+made_none name first count flags ps (i ∷ is) (z ∷ zs) cs =
+    ap dropped_indexes (append_twice (all_hold name first count i ps) (new_members (name + 1) first count flags ps is zs) cs)
+    ∙ holds_none name first count i ps (new_members (name + 1) first count flags ps is zs ++ cs)
+    ∙ made_none (name + 1) first count flags ps is zs cs
+
+gone_are : (k : Known) (n : ℕ) (is : List ℕ) → Each (λ (i : ℕ). is_some (k.held n i) ≡ true) is → dropped_indexes (dropped_members k n is) ≡ is
+gone_are k n [] held = refl
+gone_are k n (i ∷ is) held = one (k.held n i) held.0
+  where
+    rest : dropped_indexes (dropped_members k n is) ≡ is
+    rest = gone_are k n is held.1
+
+    one : (o : Option Held) → is_some o ≡ true → dropped_indexes (all_dropped n i o ++ dropped_members k n is) ≡ i ∷ is
+    one None e = absurd (cc)
+    one (Some h) e = ap (λ (js : List ℕ). i ∷ js) rest
+
+each_dropped : (P : ℕ → Type 0) (m : ℕ) (is : List ℕ) → Each P is → Each P (drop m is)
+each_dropped P zero is h = h
+each_dropped P (suc m) [] h = tt
+each_dropped P (suc m) (i ∷ is) h = each_dropped P m is h.1
+
+apart_dropped : (m : ℕ) (is : List ℕ) → AreApart is → AreApart (drop m is)
+apart_dropped zero is h = h
+apart_dropped (suc m) [] h = tt
+apart_dropped (suc m) (i ∷ is) h = apart_dropped m is h.1
+
+-- who holds the run too
+
+share_holds : (b : Before) (first m : ℕ) (o : Option Held) → b.known.held m first ≡ o → AreHolders b (share_of first m o)
+share_holds b first m None e = tt
+share_holds b first m (Some h) e = go (is_first first h)
+  where
+    go : (t : Bool) → AreHolders b (if t then (m, h.holds) ∷ [] else [])
+    go true = (Sharer first h e refl, tt)
+    go false = tt
+
+holders_append : (b : Before) (xs ys : List (ℕ × ℕ)) → AreHolders b xs → AreHolders b ys → AreHolders b (xs ++ ys)
+holders_append b [] ys h k = k
+holders_append b (x ∷ xs) ys h k = (h.0, holders_append b xs ys h.1 k)
+
+all_share : (b : Before) (first : ℕ) (ms : List ℕ) → AreHolders b (flat_map (λ (m : ℕ). if m == b.number then [] else share_of first m (b.known.held m first)) ms)
+all_share b first [] = tt
+all_share b first (m ∷ ms) =
+    holders_append b (if m == b.number then [] else share_of first m (b.known.held m first)) (flat_map (λ (m : ℕ). if m == b.number then [] else share_of first m (b.known.held m first)) ms)
+    (one (m == b.number)) (all_share b first ms)
+  where
+    one : (t : Bool) → AreHolders b (if t then [] else share_of first m (b.known.held m first))
+    one true = tt
+    one false = share_holds b first m (b.known.held m first) refl
+
+others_share : (b : Before) (first : ℕ) → AreHolders b (other_shares b.known b.number first)
+others_share b first = go (nat_le shared_from first)
+  where
+    go : (t : Bool) → AreHolders b (if t then flat_map (λ (m : ℕ). if m == b.number then [] else share_of first m (b.known.held m first)) (indexes 1 b.known.processes) else [])
+    go true = all_share b first (indexes 1 b.known.processes)
+    go false = tt
+
+module _ (b : Before) (next segs part s : ℕ) where
+  abbrev known : Known
+  known = b.known
+
+  -- the registers behind it, by its ruling
+  abbrev behind : Ruling → Cpu → Cpu
+  behind r c = without c (dropped_indexes r.changes)
+
+  abbrev done : Held → List ℕ → Ruling
+  done h is = record { error = 0; value = 0; changes = run_changes known b.number h is (sizes_of segs part) }
+
+  sized_is : (c : Cpu) (h : Held) (is : List ℕ) → c.cs ≡ b.cpu.cs → c.ss ≡ b.cpu.ss → c.ds ≡ b.cpu.ds → c.es ≡ b.cpu.es → known.held b.number h.first ≡ Some h
+      → AreApart is → Each (λ (i : ℕ). is_some (known.held b.number i) ≡ true) is → in_use b.cpu (drop (segments_of segs part) is) ≡ false
+      → RunMoves b (behind (done h is) c) (done h is).changes
+  sized_is c h is cs ss ds es there apart held unused =
+      RunSized h.first h.reserved (flags_in (known.segment h.name)) h.holds (other_shares known b.number h.first) is zs (left_in_run known b.number h) (drop (length is) zs) gone
+      (record {
+        holders = (Sharer h.first h there refl, others_share b h.first);
+        apart = apart_kept (is_unheld known b.number) (indexes h.first h.reserved) (indexes_apart h.first h.reserved);
+        free = above (λ (i : ℕ). is_unheld known b.number i ≡ true) _ (λ i e. inr e) (left_in_run known b.number h) (kept_are (is_unheld known b.number) (indexes h.first h.reserved));
+      })
+      (record {
+        apart = apart_dropped (length zs) is apart;
+        held = gone_held;
+        unused = ap (λ (m : ℕ). in_use b.cpu (drop m is)) (sizes_length segs part) ∙ unused;
+        cs = cs;
+        ss = ss;
+        ds = ap (λ (js : List ℕ). if names_one c.ds js then 0 else c.ds) dropped_are ∙ ap (λ (x : ℕ). if names_one x gone then 0 else x) ds;
+        es = ap (λ (js : List ℕ). if names_one c.es js then 0 else c.es) dropped_are ∙ ap (λ (x : ℕ). if names_one x gone then 0 else x) es;
+      }) refl
+    where
+      zs : List ℕ
+      zs = sizes_of segs part
+
+      gone : List ℕ
+      gone = drop (length (sizes_of segs part)) is
+
+      gone_held : Each (λ (i : ℕ). is_some (known.held b.number i) ≡ true) (drop (length (sizes_of segs part)) is)
+      gone_held = each_dropped (λ (i : ℕ). is_some (known.held b.number i) ≡ true) (length (sizes_of segs part)) is held
+
+      dropped_are : dropped_indexes (run_changes known b.number h is (sizes_of segs part)) ≡ drop (length (sizes_of segs part)) is
+      dropped_are =
+          resized_none known b.number is zs _
+          ∙ made_none known.next h.first h.reserved (flags_in (known.segment h.name)) ((b.number, h.holds) ∷ other_shares known b.number h.first) (left_in_run known b.number h) (drop (length is) zs) (dropped_members known b.number gone)
+          ∙ gone_are known b.number gone gone_held
+
+  run_moves : (error i : ℕ) (h : Held) → known.held b.number i ≡ Some h → is_first i h ≡ true → (is : List ℕ) → AreApart is → Each (λ (j : ℕ). is_some (known.held b.number j) ≡ true) is
+      → let r = run_resized known b.number segs part b.cpu h is in RunMoves b (behind r (returned b.cpu next 3 error)) r.changes
+  run_moves error i h there first is apart held =
+      go (segments_of segs part == 0) (nat_lt h.reserved (segments_of segs part)) (nat_le shared_from h.first && nat_lt (bytes_of segs part) (all_bytes known b.number is) || in_use b.cpu (drop (segments_of segs part) is)) refl
+      (nat_lt known.most (known.count + (segments_of segs part - length is)) || nat_lt (length is + length (left_in_run known b.number h)) (segments_of segs part))
+    where
+      at_first : known.held b.number h.first ≡ Some h
+      at_first = ap (known.held b.number) (same_number h.first i (second (is_in_run h) (h.first == i) first)) ∙ there
+        where
+          same_number : (n m : ℕ) → (n == m) ≡ true → n ≡ m
+          same_number n m e = grind arith
+
+          second : (x y : Bool) → (x && y) ≡ true → y ≡ true
+          second true y e = e
+          second false y e = absurd (cc)
+
+      go : (a c d : Bool) → (nat_le shared_from h.first && nat_lt (bytes_of segs part) (all_bytes known b.number is) || in_use b.cpu (drop (segments_of segs part) is)) ≡ d → (f : Bool)
+          → let r : Ruling = if a then record { error = 87; value = 0; changes = [] } else (if c then record { error = 8; value = 0; changes = [] } else (if d then record { error = 5; value = 0; changes = [] } else (if f then record { error = 8; value = 0; changes = [] } else done h is))) in
+          RunMoves b (behind r (returned b.cpu next 3 error)) r.changes
+      go true c d e f = NoRun refl
+      go false true d e f = NoRun refl
+      go false false true e f = NoRun refl
+      go false false false e true = NoRun refl
+      go false false false e false =
+          sized_is (returned b.cpu next 3 error) h is refl refl refl refl at_first apart held
+          (either_false (nat_le shared_from h.first && nat_lt (bytes_of segs part) (all_bytes known b.number is)) (in_use b.cpu (drop (segments_of segs part) is)) e).1
+
+  held_moves : (error : ℕ) (o : Option Held) → held_under known b.number s ≡ o
+      → let r = huge_reallocation_of known b.number (s / 8) segs part b.cpu o in RunMoves b (behind r (returned b.cpu next 3 error)) r.changes
+  held_moves error None e = NoRun refl
+  held_moves error (Some h) e = go (is_first (s / 8) h) refl
+    where
+      there : known.held b.number (s / 8) ≡ Some h
+      there = held_there known b.number s h e
+
+      go : (t : Bool) → is_first (s / 8) h ≡ t
+          → let r : Ruling = if t then run_resized known b.number segs part b.cpu h (members known b.number (s / 8) h) else record { error = 5; value = 0; changes = [] } in
+          RunMoves b (behind r (returned b.cpu next 3 error)) r.changes
+      go true first = run_moves error (s / 8) h there first (members known b.number (s / 8) h) (members_apart known b.number (s / 8) h) (members_held known b.number (s / 8) h there)
+      go false first = NoRun refl
+
+  reallocated_moves : RunMoves b (reallocated_huge b next segs part s).cpu (reallocated_huge b next segs part s).changes
+  reallocated_moves = held_moves (huge_reallocation known b.number segs part s b.cpu).error (held_under known b.number s) refl
+
+pub on_runs_moves : (call : HugeCall) (b : Before) (next : ℕ) → RunMoves b (on_runs call b next).cpu (on_runs call b next).changes
+unfolding dos_alloc_huge dos_realloc_huge dos_get_huge_shift
+on_runs_moves DosAllocHuge b next =
+    let a : ℕ → ℕ = argument b.view b.cpu in
+    either b (has_arguments b.view b.cpu 6) _ _ (allocated_moves b next (a 5) (a 4) (a 3) (a 2) (a 1) (a 0)) (NoRun refl)
+on_runs_moves DosReallocHuge b next =
+    let a : ℕ → ℕ = argument b.view b.cpu in
+    either b (has_arguments b.view b.cpu 3) _ _ (reallocated_moves b next (a 2) (a 1) (a 0)) (NoRun refl)
+on_runs_moves DosGetHugeShift b next =
+    let a : ℕ → ℕ = argument b.view b.cpu in
+    either b (has_arguments b.view b.cpu 2) _ _
+    (either b (may_write b.view (a 1) (a 0) 2) _ _
+    (ruled_moves b next 2 (codes "DosGetHugeShift") (Far (a 1) (a 0) ∷ []) (written_word (a 1) (a 0) huge_shift) (record { error = 0; value = huge_shift; changes = [] }) (λ cpu. NoRun refl)) (NoRun refl)) (NoRun refl)

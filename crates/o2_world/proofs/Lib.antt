@@ -36,6 +36,7 @@ pub mod OpeningTold
 pub mod Openings
 pub mod StepSound
 pub mod StepTold
+pub mod RunsTold
 pub mod Holding
 pub mod Budget
 pub mod UsesNames

@@ -147,7 +147,7 @@ each_kept P f (i ∷ is) h = go (f i) (each_kept P f is h.1)
     go true rest = (h.0, rest)
     go false rest = rest
 
-apart_kept : (f : ℕ → Bool) (is : List ℕ) → AreApart is → AreApart (filter f is)
+pub apart_kept : (f : ℕ → Bool) (is : List ℕ) → AreApart is → AreApart (filter f is)
 apart_kept f [] h = tt
 apart_kept f (i ∷ is) h = go (f i) (apart_kept f is h.1)
   where
@@ -160,7 +160,7 @@ indexes_apart first zero = tt
 indexes_apart first (suc n) =
     (above (λ j. first + 1 ≤ j) (λ j. first ≢ j) (λ j h same. omega (arith, h, same)) (indexes (first + 1) n) (indexes_from (first + 1) n), indexes_apart (first + 1) n)
 
-kept_are : (f : ℕ → Bool) (is : List ℕ) → Each (λ (j : ℕ). f j ≡ true) (filter f is)
+pub kept_are : (f : ℕ → Bool) (is : List ℕ) → Each (λ (j : ℕ). f j ≡ true) (filter f is)
 kept_are f [] = tt
 kept_are f (i ∷ is) = go (f i) refl (kept_are f is)
   where
@@ -168,14 +168,14 @@ kept_are f (i ∷ is) = go (f i) refl (kept_are f is)
     go true so rest = (so, rest)
     go false so rest = rest
 
-members_apart : (k : Known) (n i : ℕ) (h : Held) → AreApart (members k n i h)
+pub members_apart : (k : Known) (n i : ℕ) (h : Held) → AreApart (members k n i h)
 members_apart k n i h = go (h.reserved == 0)
   where
     go : (b : Bool) → AreApart (cond b (i ∷ []) (filter (λ (j : ℕ). is_some (k.held n j)) (indexes h.first h.reserved)))
     go true = (tt, tt)
     go false = apart_kept (λ (j : ℕ). is_some (k.held n j)) (indexes h.first h.reserved) (indexes_apart h.first h.reserved)
 
-members_held : (k : Known) (n i : ℕ) (h : Held) → k.held n i ≡ Some h → Each (λ (j : ℕ). is_some (k.held n j) ≡ true) (members k n i h)
+pub members_held : (k : Known) (n i : ℕ) (h : Held) → k.held n i ≡ Some h → Each (λ (j : ℕ). is_some (k.held n j) ≡ true) (members k n i h)
 members_held k n i h there = go (h.reserved == 0)
   where
     go : (b : Bool) → Each (λ (j : ℕ). is_some (k.held n j) ≡ true) (cond b (i ∷ []) (filter (λ (j : ℕ). is_some (k.held n j)) (indexes h.first h.reserved)))

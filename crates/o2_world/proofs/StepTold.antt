@@ -35,7 +35,7 @@ place_length k f [] = refl
 place_length zero f (p ∷ ps) = refl
 place_length (suc k) f (p ∷ ps) = ap suc (place_length k f ps)
 
-number_length : (n : ℕ) (f : Process → Process) (ps : List Process) → length (at_number n f ps) ≡ length ps
+pub number_length : (n : ℕ) (f : Process → Process) (ps : List Process) → length (at_number n f ps) ≡ length ps
 number_length n f ps = go (n == 0)
   where
     go : (b : Bool) → length (if b then ps else at_place (n - 1) f ps) ≡ length ps
@@ -94,7 +94,7 @@ set_length ps n x = go (n == 0)
     go false = put_length (n - 1) ps
 
 -- a place that has a process
-below : (ps : List Process) (k : ℕ) (x : Process) → slice_get ps k ≡ Some x → k < length ps
+pub below : (ps : List Process) (k : ℕ) (x : Process) → slice_get ps k ≡ Some x → k < length ps
 below [] k x e = absurd (cc)
 below (p ∷ ps) zero x e = omega arith
 below (p ∷ ps) (suc k) x e = let h = below ps k x e in omega (arith, h)

@@ -17,7 +17,11 @@ ghost use Rattle.o2_world.specs.Calls.{row_of, served_by};
 ghost use Rattle.o2_world.specs.CallParts.{Before};
 ghost use Rattle.o2_world.specs.declared.types.Row.{Row};
 ghost use Rattle.o2_world.specs.Effect.{effect};
-ghost use Rattle.o2_world.specs.Moves.{AllMoves, AllSpare, AreSpared};
+ghost use Rattle.o2_world.specs.Moves.{AllMoves, AllSpare, AreSpared, RunMoves};
+ghost use Rattle.o2_world.specs.declared.types.HugeCall.{HugeCall};
+ghost use Rattle.o2_world.specs.HugeCalls.{on_runs};
+ghost use Rattle.o2_isa.specs.SegmentLoads.{LoadsByRules};
+ghost use Rattle.o2_isa.specs.Sizes.{KeepsLengths};
 ghost use Rattle.std.specs.Prelude.{Option};
 ghost use Rattle.o2_world.specs.Known.{is_for_the_run};
 ghost use Rattle.o2_world.specs.SharedMarks.{shared_marks, some_marks};
@@ -333,6 +337,35 @@ pub fn what_calls_change_is_fit()
         → HasGoodRegisters (working p e)
         → ((q : ℕ) (x : Segment) → get w.names q ≡ Some x → length (e.bytes q) ≡ length x.bytes)
         → IsSound w → AllMoves (before s w d.current p) e.cpu e.changes
+        → list_any takes e.changes ≡ false → IsSwept (with_changes (worked w d p e) e.changes) }
+{}
+
+/// The calls on huge allocations: each loads segment registers by the load rules or leaves them, keeps the size of what lived before,
+/// but for its changes, and tells its changes. What it changes is one of these: nothing; a new run, which is reserved, with members
+/// of which the caller holds each; or of a run the sizes of members, new members for each of its holders, and members that go,
+/// which neither CS nor SS names, with DS and ES 0 where they named one. In a sound world these changes are fit, can be told,
+/// and where none takes a hold all that lives behind them is held, and each run that is reserved.
+pub fn what_huge_calls_change_is_fit()
+    ensures registers { (call : HugeCall) (b : Before) (next : ℕ) → LoadsByRules b.view b.cpu (on_runs call b next).cpu }
+    ensures sizes { (call : HugeCall) (b : Before) (next : ℕ) → KeepsLengths b.view.bytes (on_runs call b next).bytes }
+    ensures lines { (call : HugeCall) (b : Before) (next : ℕ) → Tells (on_runs call b next) }
+    ensures shape { (call : HugeCall) (b : Before) (next : ℕ)
+        → RunMoves b (on_runs call b next).cpu (on_runs call b next).changes }
+    ensures fit { (s : Setting) (w : World) (d : Dispatch) (p : Process) (e : Effect)
+        → process_at w.processes d.current ≡ Some p → is_live p.state ≡ true → is_live (working p e).state ≡ true
+        → HasGoodRegisters (working p e)
+        → ((q : ℕ) (x : Segment) → get w.names q ≡ Some x → length (e.bytes q) ≡ length x.bytes)
+        → IsSound w → RunMoves (before s w d.current p) e.cpu e.changes → AreFitChanges (worked w d p e) e.changes }
+    ensures told { (s : Setting) (w : World) (d : Dispatch) (p : Process) (e : Effect)
+        → process_at w.processes d.current ≡ Some p → is_live p.state ≡ true → is_live (working p e).state ≡ true
+        → HasGoodRegisters (working p e)
+        → ((q : ℕ) (x : Segment) → get w.names q ≡ Some x → length (e.bytes q) ≡ length x.bytes)
+        → IsSound w → RunMoves (before s w d.current p) e.cpu e.changes → CanTellAll (worked w d p e) e.changes }
+    ensures swept { (s : Setting) (w : World) (d : Dispatch) (p : Process) (e : Effect)
+        → process_at w.processes d.current ≡ Some p → is_live p.state ≡ true → is_live (working p e).state ≡ true
+        → HasGoodRegisters (working p e)
+        → ((q : ℕ) (x : Segment) → get w.names q ≡ Some x → length (e.bytes q) ≡ length x.bytes)
+        → IsSound w → RunMoves (before s w d.current p) e.cpu e.changes
         → list_any takes e.changes ≡ false → IsSwept (with_changes (worked w d p e) e.changes) }
 {}
 

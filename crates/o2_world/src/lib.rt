@@ -13,7 +13,7 @@ pub use laws::{
     opening_worlds_are_told, other_processes_stay, reach_holds_along_the_run,
     segment_calls_answer_by_their_rows, segment_calls_tell_their_holds,
     shared_calls_answer_by_their_rows, the_budget_counts_the_steps, what_calls_change_is_fit,
-    what_is_held_is_the_reach_of_the_report, what_is_held_is_told,
+    what_huge_calls_change_is_fit, what_is_held_is_the_reach_of_the_report, what_is_held_is_told,
     what_is_reserved_for_the_run_stays,
 };
 pub use types::{Argument, HugeCall, Made, Row, SegmentCall, SharedCall, State, Transfer};
