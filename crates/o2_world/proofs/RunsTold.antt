@@ -65,10 +65,21 @@ members_tell : (u : World) (name first count flags : ℕ) (ps : List (ℕ × ℕ
 members_tell u name first count flags ps [] zs there = tt
 members_tell u name first count flags ps (i ∷ is) [] there = tt
 members_tell u name first count flags ps (i ∷ is) (z ∷ zs) there =
+    let made : World = with_change u (Makes (made_segment z flags)) in (
+      tt,
+      tell_more made (all_hold name first count i ps) (new_members (name + 1) first count flags ps is zs) (holds_tell made name first count i ps there)
+          (members_tell (with_changes made (all_hold name first count i ps)) (name + 1) first count flags ps is zs (holds_there made name first count i ps ps there)),
+    )
+
+members_there : (u : World) (name first count flags : ℕ) (ps : List (ℕ × ℕ)) (is zs : List ℕ) → AllThere u ps
+    → AllThere (with_changes u (new_members name first count flags ps is zs)) ps
+unfolding with_changes
+members_there u name first count flags ps [] zs there = there
+members_there u name first count flags ps (i ∷ is) [] there = there
+members_there u name first count flags ps (i ∷ is) (z ∷ zs) there =
     let made : World = with_change u (Makes (made_segment z flags)) in
-    (tt,
-    tell_more made (all_hold name first count i ps) (new_members (name + 1) first count flags ps is zs) (holds_tell made name first count i ps there)
-    (members_tell (with_changes made (all_hold name first count i ps)) (name + 1) first count flags ps is zs (holds_there made name first count i ps ps there)))
+    subst (λ (y : World). AllThere y ps) (sym (with_more made (all_hold name first count i ps) (new_members (name + 1) first count flags ps is zs)))
+    (members_there (with_changes made (all_hold name first count i ps)) (name + 1) first count flags ps is zs (holds_there made name first count i ps ps there))
 
 resizes_tell : (u : World) (rs : List (ℕ × ℕ)) → CanTellAll u (resizes_of rs)
 resizes_tell u [] = tt
@@ -123,11 +134,12 @@ drops_tell u n [] there twice enough = tt
 drops_tell u n (g ∷ gs) there twice enough =
     let a = number_holds u n g.0 there.0 in
     let y : holds_of (held_in u.processes (n - 1) g.0) ≡ enough.0.0.holds = ap holds_of enough.0.1 in
-    let l = enough.0.2 in
-    ((there, omega (arith, a, y, l)),
-    drops_tell (with_change u (Drops n g.0 g.1)) n gs
-    (there.0, let m = number_length n (λ (p : Process). record p { held = put g.0 (fewer g.1 (get p.held g.0)) p.held }) u.processes in let x = there.1 in omega (arith, m, x))
-    twice.1 (still_enough u n g.0 g.1 gs twice.0 enough.1))
+    let l = enough.0.2 in (
+      (there, omega (arith, a, y, l)),
+      drops_tell (with_change u (Drops n g.0 g.1)) n gs
+          (there.0, let m = number_length n (λ (p : Process). record p { held = put g.0 (fewer g.1 (get p.held g.0)) p.held }) u.processes in let x = there.1 in omega (arith, m, x))
+          twice.1 (still_enough u n g.0 g.1 gs twice.0 enough.1),
+    )
 
 others_each : (k : Known) (n i : ℕ) (is : List ℕ) → Each (λ (j : ℕ). i ≢ j) is → AreOthers i (drops_each k n is)
 others_each k n i [] apart = tt
@@ -193,23 +205,12 @@ module _ (s : Setting) (w : World) (d : Dispatch) (p : Process) (e : Effect) (at
     go_on = on s w d p e at lives live_now good_now sizes sound first count flags holds others kept zs is sizes_new gone growth
 
     there_now : IsThere (with_changes u ms) d.current
-    there_now = (members_there u w.next_name is sizes_new (on_there u ((d.current, holds) ∷ others) go_on)).0
-      where
-        members_there : (u : World) (name : ℕ) (is zs : List ℕ) → AllThere u ((d.current, holds) ∷ others)
-            → AllThere (with_changes u (new_members name first count flags ((d.current, holds) ∷ others) is zs)) ((d.current, holds) ∷ others)
-        unfolding with_changes
-        members_there u name [] zs there = there
-        members_there u name (i ∷ is) [] there = there
-        members_there u name (i ∷ is) (z ∷ zs) there =
-            let ps : List (ℕ × ℕ) = (d.current, holds) ∷ others in
-            let made : World = with_change u (Makes (made_segment z flags)) in
-            subst (λ (y : World). AllThere y ps) (sym (with_more made (all_hold name first count i ps) (new_members (name + 1) first count flags ps is zs)))
-            (members_there (with_changes made (all_hold name first count i ps)) (name + 1) is zs (holds_there made name first count i ps ps there))
+    there_now = (members_there u w.next_name first count flags ((d.current, holds) ∷ others) is sizes_new (on_there u ((d.current, holds) ∷ others) go_on)).0
 
     enough : (i : ℕ) (h : Held) → b.known.held d.current i ≡ Some h → IsEnough (with_changes u ms) d.current (i, h.holds)
     enough i h there =
         let x : held_in u.processes (d.current - 1) i ≡ Some h =
-            ap (λ (ps : List Process). held_in ps (d.current - 1) i) (resizes_same v rs) ∙ held_there s w d p e at lives live_now good_now sizes sound d.current i h there in
+        ap (λ (ps : List Process). held_in ps (d.current - 1) i) (resizes_same v rs) ∙ held_there s w d p e at lives live_now good_now sizes sound d.current i h there in
         let y = members_still first count flags d.current holds others u w.next_name is sizes_new (d.current - 1) i h go_on x in
         (y.0, y.1, y.2.holds)
 
