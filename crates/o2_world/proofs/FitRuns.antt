@@ -33,15 +33,21 @@ other_number n m other = go (n == m) refl
 
 -- Each of these processes lives, and is to hold something at least once.
 
-pub record GoesOn (u : World) (p : ℕ × ℕ) : Type 0 where
+pub record RunsOn (qs : List Process) (p : ℕ × ℕ) : Type 0 where
   pub process : Process
-  pub there : process_at u.processes p.0 ≡ Some process
+  pub there : process_at qs p.0 ≡ Some process
   pub live : is_live process.state ≡ true
   pub some : 0 < p.1
 
+abbrev pub AllRunOn : List Process → List (ℕ × ℕ) → Type 0
+AllRunOn qs [] = Unit {0}
+AllRunOn qs (p ∷ ps) = RunsOn qs p × AllRunOn qs ps
+
+abbrev pub GoesOn : World → ℕ × ℕ → Type 0
+GoesOn u p = RunsOn u.processes p
+
 abbrev pub AllGoOn : World → List (ℕ × ℕ) → Type 0
-AllGoOn u [] = Unit {0}
-AllGoOn u (p ∷ ps) = GoesOn u p × AllGoOn u ps
+AllGoOn u ps = AllRunOn u.processes ps
 
 -- One hold more.
 module _ (v : World) (p i : ℕ) (h : Held) where
@@ -68,7 +74,7 @@ module _ (v : World) (p i : ℕ) (h : Held) where
       lives true = on.live
       lives false = on.live
 
-      go : (b : Bool) → GoesOn (record v { processes = if b then v.processes else at_place (p - 1) f v.processes }) q
+      go : (b : Bool) → RunsOn (if b then v.processes else at_place (p - 1) f v.processes) q
       go true = on
       go false = record {
         process = if q.0 - 1 == p - 1 then f on.process else on.process;

@@ -18,7 +18,7 @@ use Rattle.o2_world.specs.SegmentCalls.{Written, ruled_at, written_word}
 use Rattle.o2_world.specs.SharedRulings.{marks_under, shared_from}
 use Rattle.o2_world.specs.HugeRulings.{all_bytes, all_dropped, all_hold, bytes_of, dropped_members, flags_in, free_run, huge_allocation, huge_at, huge_reallocation, huge_reallocation_of, huge_shift, is_first, is_huge_fault, is_unheld, left_in_run, names_one, new_members, other_shares, resized_members, resized_one, run_changes, run_reserve, run_resized, segments_of, share_of, sizes_of, without}
 use Rattle.o2_world.specs.HugeCalls.{allocated_huge, dos_alloc_huge, dos_get_huge_shift, dos_realloc_huge, huge_args, on_runs, reallocated_huge}
-use Rattle.o2_world.specs.Moves.{AreApart, AreHolders, Each, IsCut, IsFreeIndex, IsGrowth, Maker, NoRun, RunMade, RunMoves, RunSized, Sharer}
+use Rattle.o2_world.specs.Moves.{AreApart, AreHolders, Each, IsCut, IsFreeIndex, IsGrowth, IsOpen, Maker, NoRun, RunMade, RunMoves, RunSized, Sharer}
 use Rattle.o2_world.proofs.SegmentMoves.{above, apart_kept, held_there, indexes_apart, indexes_from, kept_are, members_apart, members_held, region_is}
 
 either : (b : Before) (t : Bool) (e f : Effect) → RunMoves b e.cpu e.changes → RunMoves b f.cpu f.changes
@@ -90,7 +90,7 @@ sizes_length (suc segs) part = ap suc (sizes_length segs part) ∙ more (part ==
   where
     more : (b : Bool) → suc (if b then segs else segs + 1) ≡ (if b then suc segs else suc segs + 1)
     more true = refl
-    more false = refl
+    more false = omega arith
 
 first_size : (zs : List ℕ) (m : ℕ) → length zs ≡ suc m → (z : ℕ) × (rest : List ℕ) × (zs ≡ z ∷ rest)
 first_size [] m e = absurd (cc)
@@ -122,7 +122,7 @@ module _ (b : Before) (cpu : Cpu) (segs part flags : ℕ) where
       (record {
         holders = (Maker refl refl, tt);
         apart = indexes_apart i (suc m.0);
-        free = all_free (λ (j : ℕ). i ≤ j) (λ (j : ℕ). j < i + suc m.0) _ (λ j low high. inl (one_free k n (region_by n flags) count i j (region_is n flags) e low (omega (arith, high, size)))) (indexes i (suc m.0)) from to;
+        free = all_free (λ (j : ℕ). i ≤ j) (λ (j : ℕ). j < i + suc m.0) (IsOpen b) (λ j low high. inl (one_free k n (region_by n flags) count i j (region_is n flags) e low (omega (arith, high, size)))) (indexes i (suc m.0)) from to;
       })
       (ap (λ (x : ℕ). new_members k.next i count flags ((n, 1) ∷ []) (indexes i x) (sizes_of segs part) ++ Reserves (run_reserve (region_by n flags) i count) ∷ []) m.1
       ∙ ap (λ (zs : List ℕ). new_members k.next i count flags ((n, 1) ∷ []) (indexes i (suc m.0)) zs ++ Reserves (run_reserve (region_by n flags) i count) ∷ []) s.2)
@@ -157,25 +157,23 @@ allocated_moves b next segs part s o most flags =
 resized_none : (k : Known) (n : ℕ) (is zs : List ℕ) (cs : List Change) → dropped_indexes (resized_members k n is zs ++ cs) ≡ dropped_indexes cs
 resized_none k n [] zs cs = refl
 resized_none k n (i ∷ is) [] cs = refl
-resized_none k n (i ∷ is) (z ∷ zs) cs = one (k.held n i) (marks_under k (k.held n i))
+resized_none k n (i ∷ is) (z ∷ zs) cs = one (resized_none k n is zs cs) (k.held n i) (marks_under k (k.held n i))
   where
-    rest : dropped_indexes (resized_members k n is zs ++ cs) ≡ dropped_indexes cs
-    rest = resized_none k n is zs cs
-
-    here : (h : Held) (m : Marks) (b : Bool)
-        → dropped_indexes ((if b then [] else Resizes h.name (full_size z) ∷ []) ++ resized_members k n is zs ++ cs) ≡ dropped_indexes cs
-    here h m true = rest
-    here h m false = rest
-
     append : (xs : List Change) → (xs ++ resized_members k n is zs) ++ cs ≡ xs ++ (resized_members k n is zs ++ cs)
     append [] = refl
     append (x ∷ xs) = ap (λ (ys : List Change). x ∷ ys) (append xs)
 
-    one : (o : Option Held) (m : Option Marks) → dropped_indexes ((resized_one z o m ++ resized_members k n is zs) ++ cs) ≡ dropped_indexes cs
-    one None None = rest
-    one None (Some m) = rest
-    one (Some h) None = rest
-    one (Some h) (Some m) = ap dropped_indexes (append (resized_one z (Some h) (Some m))) ∙ here h m (m.size == full_size z)
+    here : dropped_indexes (resized_members k n is zs ++ cs) ≡ dropped_indexes cs → (h : Held) (b : Bool)
+        → dropped_indexes ((if b then [] else Resizes h.name (full_size z) ∷ []) ++ (resized_members k n is zs ++ cs)) ≡ dropped_indexes cs
+    here rest h true = rest
+    here rest h false = rest
+
+    one : dropped_indexes (resized_members k n is zs ++ cs) ≡ dropped_indexes cs → (o : Option Held) (m : Option Marks)
+        → dropped_indexes ((resized_one z o m ++ resized_members k n is zs) ++ cs) ≡ dropped_indexes cs
+    one rest None None = rest
+    one rest None (Some m) = rest
+    one rest (Some h) None = rest
+    one rest (Some h) (Some m) = ap dropped_indexes (append (resized_one z (Some h) (Some m))) ∙ here rest h (m.size == full_size z)
 
 holds_none : (name first count i : ℕ) (ps : List (ℕ × ℕ)) (cs : List Change) → dropped_indexes (all_hold name first count i ps ++ cs) ≡ dropped_indexes cs
 holds_none name first count i [] cs = refl
@@ -196,14 +194,11 @@ made_none name first count flags ps (i ∷ is) (z ∷ zs) cs =
 
 gone_are : (k : Known) (n : ℕ) (is : List ℕ) → Each (λ (i : ℕ). is_some (k.held n i) ≡ true) is → dropped_indexes (dropped_members k n is) ≡ is
 gone_are k n [] held = refl
-gone_are k n (i ∷ is) held = one (k.held n i) held.0
+gone_are k n (i ∷ is) held = one (gone_are k n is held.1) (k.held n i) held.0
   where
-    rest : dropped_indexes (dropped_members k n is) ≡ is
-    rest = gone_are k n is held.1
-
-    one : (o : Option Held) → is_some o ≡ true → dropped_indexes (all_dropped n i o ++ dropped_members k n is) ≡ i ∷ is
-    one None e = absurd (cc)
-    one (Some h) e = ap (λ (js : List ℕ). i ∷ js) rest
+    one : dropped_indexes (dropped_members k n is) ≡ is → (o : Option Held) → is_some o ≡ true → dropped_indexes (all_dropped n i o ++ dropped_members k n is) ≡ i ∷ is
+    one rest None e = absurd (cc)
+    one rest (Some h) e = ap (λ (js : List ℕ). i ∷ js) rest
 
 each_dropped : (P : ℕ → Type 0) (m : ℕ) (is : List ℕ) → Each P is → Each P (drop m is)
 each_dropped P zero is h = h
@@ -265,7 +260,7 @@ module _ (b : Before) (next segs part s : ℕ) where
       (record {
         holders = (Sharer h.first h there refl, others_share b h.first);
         apart = apart_kept (is_unheld known b.number) (indexes h.first h.reserved) (indexes_apart h.first h.reserved);
-        free = above (λ (i : ℕ). is_unheld known b.number i ≡ true) _ (λ i e. inr e) (left_in_run known b.number h) (kept_are (is_unheld known b.number) (indexes h.first h.reserved));
+        free = above (λ (i : ℕ). is_unheld known b.number i ≡ true) (IsOpen b) (λ i e. inr e) (left_in_run known b.number h) (kept_are (is_unheld known b.number) (indexes h.first h.reserved));
       })
       (record {
         apart = apart_dropped (length zs) is apart;
@@ -295,7 +290,7 @@ module _ (b : Before) (next segs part s : ℕ) where
   run_moves : (error i : ℕ) (h : Held) → known.held b.number i ≡ Some h → is_first i h ≡ true → (is : List ℕ) → AreApart is → Each (λ (j : ℕ). is_some (known.held b.number j) ≡ true) is
       → let r = run_resized known b.number segs part b.cpu h is in RunMoves b (behind r (returned b.cpu next 3 error)) r.changes
   run_moves error i h there first is apart held =
-      go (segments_of segs part == 0) (nat_lt h.reserved (segments_of segs part)) (nat_le shared_from h.first && nat_lt (bytes_of segs part) (all_bytes known b.number is) || in_use b.cpu (drop (segments_of segs part) is)) refl
+      go (segments_of segs part == 0) (nat_lt h.reserved (segments_of segs part)) ((nat_le shared_from h.first && nat_lt (bytes_of segs part) (all_bytes known b.number is)) || in_use b.cpu (drop (segments_of segs part) is)) refl
       (nat_lt known.most (known.count + (segments_of segs part - length is)) || nat_lt (length is + length (left_in_run known b.number h)) (segments_of segs part))
     where
       at_first : known.held b.number h.first ≡ Some h
@@ -308,7 +303,7 @@ module _ (b : Before) (next segs part s : ℕ) where
           second true y e = e
           second false y e = absurd (cc)
 
-      go : (a c d : Bool) → (nat_le shared_from h.first && nat_lt (bytes_of segs part) (all_bytes known b.number is) || in_use b.cpu (drop (segments_of segs part) is)) ≡ d → (f : Bool)
+      go : (a c d : Bool) → ((nat_le shared_from h.first && nat_lt (bytes_of segs part) (all_bytes known b.number is)) || in_use b.cpu (drop (segments_of segs part) is)) ≡ d → (f : Bool)
           → let r : Ruling = if a then record { error = 87; value = 0; changes = [] } else (if c then record { error = 8; value = 0; changes = [] } else (if d then record { error = 5; value = 0; changes = [] } else (if f then record { error = 8; value = 0; changes = [] } else done h is))) in
           RunMoves b (behind r (returned b.cpu next 3 error)) r.changes
       go true c d e f = NoRun refl

@@ -79,8 +79,18 @@ low_or_high P i f g = go (nat_lt i 4096) refl
 other_number_at : (ps : List Process) (n m : ℕ) (p new : Process) → process_at ps n ≡ Some p → (m ≡ n → ⊥) → process_at (with_process ps n new) m ≡ process_at ps m
 other_number_at ps n m p new at other = go (m == 0) refl
   where
-    apart : (n m : ℕ) → 0 < n → (m == 0) ≡ false → (m ≡ n → ⊥) → (m - 1 == n - 1) ≡ false
-    apart n m some is other = grind arith
+    same_number : (n m : ℕ) → (n == m) ≡ true → n ≡ m
+    same_number n m e = grind arith
+
+    positive : (n : ℕ) → (n == 0) ≡ false → 0 < n
+    positive n e = grind arith
+
+    apart : 0 < n → (m == 0) ≡ false → (t : Bool) → (m - 1 == n - 1) ≡ t → (m - 1 == n - 1) ≡ false
+    apart some is false e = e
+    apart some is true e =
+        let x = same_number (m - 1) (n - 1) e in
+        let y = positive m is in
+        absurd (other (omega (arith, some, x, y)))
 
     go : (t : Bool) → (m == 0) ≡ t → (if t then None else slice_get (with_process ps n new) (m - 1)) ≡ (if t then None else slice_get ps (m - 1))
     go true is = refl
@@ -88,7 +98,7 @@ other_number_at ps n m p new at other = go (m == 0) refl
         let some = number_some ps n p at in
         ap (λ (qs : List Process). slice_get qs (m - 1)) (with_is ps n new some)
         ∙ set-place (n - 1) (m - 1) new ps p (at_place_of ps n p at)
-        ∙ if_no (m - 1 == n - 1) (Some new) (slice_get ps (m - 1)) (apart n m some is other)
+        ∙ if_no (m - 1 == n - 1) (Some new) (slice_get ps (m - 1)) (apart some is (m - 1 == n - 1) refl)
 
 module _ (s : Setting) (w : World) (d : Dispatch) (p : Process) (e : Effect) (at : process_at w.processes d.current ≡ Some p) (lives : is_live p.state ≡ true)
     (live_now : is_live (working p e).state ≡ true) (good_now : HasGoodRegisters (working p e))

@@ -39,7 +39,8 @@ second_false false b e = e
 
 none_found : (f : ℕ → Bool) (from count n : ℕ) → is_some (find f (indexes from count)) ≡ false → from ≤ n → n < from + count → f n ≡ false
 none_found f from zero n none low high = absurd (omega (arith, low, high))
-none_found f from (suc count) n none low high = go (f from) refl none (from == n) refl
+none_found f from (suc count) n none low high =
+    go (λ e l. none_found f (from + 1) count n e l (omega (arith, high))) (f from) refl none (from == n) refl
   where
     same_number : (n m : ℕ) → (n == m) ≡ true → n ≡ m
     same_number n m e = grind arith
@@ -47,17 +48,14 @@ none_found f from (suc count) n none low high = go (f from) refl none (from == n
     later : (n m : ℕ) → n ≤ m → (n == m) ≡ false → n + 1 ≤ m
     later n m l e = grind arith
 
-    rest : (b : Bool) → is_some (if b then Some from else find f (indexes (from + 1) count)) ≡ false → is_some (find f (indexes (from + 1) count)) ≡ false
-    rest true e = absurd (cc)
-    rest false e = e
+    parts : (b : Bool) → is_some (if b then Some from else find f (indexes (from + 1) count)) ≡ false → (b ≡ false) × (is_some (find f (indexes (from + 1) count)) ≡ false)
+    parts true e = absurd (cc)
+    parts false e = (refl, e)
 
-    here : (b : Bool) → is_some (if b then Some from else find f (indexes (from + 1) count)) ≡ false → b ≡ false
-    here true e = absurd (cc)
-    here false e = refl
-
-    go : (b : Bool) → f from ≡ b → is_some (if b then Some from else find f (indexes (from + 1) count)) ≡ false → (s : Bool) → (from == n) ≡ s → f n ≡ false
-    go b is e true at = ap f (sym (same_number from n at)) ∙ is ∙ here b e
-    go b is e false at = none_found f (from + 1) count n (rest b e) (later from n low at) (omega (arith, high))
+    go : (is_some (find f (indexes (from + 1) count)) ≡ false → from + 1 ≤ n → f n ≡ false) → (b : Bool) → f from ≡ b
+        → is_some (if b then Some from else find f (indexes (from + 1) count)) ≡ false → (s : Bool) → (from == n) ≡ s → f n ≡ false
+    go further b is e true at = ap f (sym (same_number from n at)) ∙ is ∙ (parts b e).0
+    go further b is e false at = further (parts b e).1 (later from n low at)
 
 no_zero : (n : ℕ) → 0 < n → (n == 0) ≡ true → ⊥
 no_zero n h e = grind arith
@@ -184,14 +182,11 @@ EachDrop P (g ∷ gs) = P g.0 × EachDrop P gs
 
 each_drop : (P : ℕ → Type 0) (k : Known) (n : ℕ) (is : List ℕ) → Each P is → EachDrop P (drops_each k n is)
 each_drop P k n [] all = tt
-each_drop P k n (i ∷ is) all = one (k.held n i)
+each_drop P k n (i ∷ is) all = one (each_drop P k n is all.1) (k.held n i)
   where
-    rest : EachDrop P (drops_each k n is)
-    rest = each_drop P k n is all.1
-
-    one : (o : Option Held) → EachDrop P (drop_one i o ++ drops_each k n is)
-    one None = rest
-    one (Some h) = (all.0, rest)
+    one : EachDrop P (drops_each k n is) → (o : Option Held) → EachDrop P (drop_one i o ++ drops_each k n is)
+    one rest None = rest
+    one rest (Some h) = (all.0, rest)
 
 -- The registers of a process behind changes of what is held.
 

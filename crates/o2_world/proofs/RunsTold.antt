@@ -143,36 +143,27 @@ drops_tell u n (g ∷ gs) there twice enough =
 
 others_each : (k : Known) (n i : ℕ) (is : List ℕ) → Each (λ (j : ℕ). i ≢ j) is → AreOthers i (drops_each k n is)
 others_each k n i [] apart = tt
-others_each k n i (j ∷ is) apart = one (k.held n j)
+others_each k n i (j ∷ is) apart = one (others_each k n i is apart.1) (k.held n j)
   where
-    rest : AreOthers i (drops_each k n is)
-    rest = others_each k n i is apart.1
-
-    one : (o : Option Held) → AreOthers i (drop_one j o ++ drops_each k n is)
-    one None = rest
-    one (Some h) = (apart.0, rest)
+    one : AreOthers i (drops_each k n is) → (o : Option Held) → AreOthers i (drop_one j o ++ drops_each k n is)
+    one rest None = rest
+    one rest (Some h) = (apart.0, rest)
 
 none_twice : (k : Known) (n : ℕ) (is : List ℕ) → AreApart is → NoneTwice (drops_each k n is)
 none_twice k n [] apart = tt
-none_twice k n (i ∷ is) apart = one (k.held n i)
+none_twice k n (i ∷ is) apart = one (none_twice k n is apart.1) (k.held n i)
   where
-    rest : NoneTwice (drops_each k n is)
-    rest = none_twice k n is apart.1
-
-    one : (o : Option Held) → NoneTwice (drop_one i o ++ drops_each k n is)
-    one None = rest
-    one (Some h) = (others_each k n i is apart.0, rest)
+    one : NoneTwice (drops_each k n is) → (o : Option Held) → NoneTwice (drop_one i o ++ drops_each k n is)
+    one rest None = rest
+    one rest (Some h) = (others_each k n i is apart.0, rest)
 
 enough_each : (u : World) (k : Known) (n : ℕ) → ((i : ℕ) (h : Held) → k.held n i ≡ Some h → IsEnough u n (i, h.holds)) → (is : List ℕ) → AreEnough u n (drops_each k n is)
 enough_each u k n has [] = tt
-enough_each u k n has (i ∷ is) = one (k.held n i) refl
+enough_each u k n has (i ∷ is) = one (enough_each u k n has is) (k.held n i) refl
   where
-    rest : AreEnough u n (drops_each k n is)
-    rest = enough_each u k n has is
-
-    one : (o : Option Held) → k.held n i ≡ o → AreEnough u n (drop_one i o ++ drops_each k n is)
-    one None e = rest
-    one (Some h) e = (has i h e, rest)
+    one : AreEnough u n (drops_each k n is) → (o : Option Held) → k.held n i ≡ o → AreEnough u n (drop_one i o ++ drops_each k n is)
+    one rest None e = rest
+    one rest (Some h) e = (has i h e, rest)
 
 module _ (s : Setting) (w : World) (d : Dispatch) (p : Process) (e : Effect) (at : process_at w.processes d.current ≡ Some p) (lives : is_live p.state ≡ true)
     (live_now : is_live (working p e).state ≡ true) (good_now : HasGoodRegisters (working p e))

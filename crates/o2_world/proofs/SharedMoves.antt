@@ -2,6 +2,7 @@
 use Rattle.std.proofs.Common.{◌≡◌, ◌⊎◌, inl, inr, ℕ, ◌+◌, ◌<◌, ◌≤◌, ◌==◌, ◌/◌, nat_le, not, ◌&&◌, ◌||◌, Bool, true, false, cond, List, [], ◌∷◌, Option, Some, None, if◌then◌else◌, ap, sym, ◌∙◌, refl, arith, subst}
 use Rattle.std.specs.Prelude.{codes, is_some}
 use Rattle.std.specs.List.{list_any}
+use Rattle.o2_base.specs.Selectors.{selector_of}
 use Rattle.o2_desc.specs.Bits.{has_bit}
 use Rattle.o2_desc.specs.Choice.{IsChosen, chosen}
 use Rattle.o2_desc.proofs.Choices.{chosen_law}
@@ -14,7 +15,7 @@ use Rattle.o2_world.specs.declared.types.SharedCall.TheVariants.{DosAllocShrSeg,
 use Rattle.o2_world.specs.World.{Held}
 use Rattle.o2_world.specs.Known.{Known, Marks}
 use Rattle.o2_world.specs.CallParts.{Before, Effect, argument, has_arguments, may_write}
-use Rattle.o2_world.specs.Rulings.{Ruling, by_load, free_index, held_under, is_later, members}
+use Rattle.o2_world.specs.Rulings.{Ruling, by_load, free_index, grants, held_under, is_later, members, refusal}
 use Rattle.o2_world.specs.SegmentCalls.{Written, ruled_at, written_word}
 use Rattle.o2_world.specs.SharedNames.{may_read_text, name_by, text_at}
 use Rattle.o2_world.specs.SharedRulings.{each_more, getting, getting_at, getting_from, giving, giving_of, held_by, holder, index_of, is_share, is_shared, is_shared_with, lacks_flag, marks_by_call, naming, naming_at, shared_from, sharing, sharing_at, sharing_from, sharing_of}
@@ -131,7 +132,7 @@ module _ (b : Before) (cpu : Cpu) where
       is = members k b.number i h
 
       go : (t l : Bool) → (is_later i h || lacks_flag k 0 b.number (members k b.number i h)) ≡ t → k.lives pid ≡ l
-          → AllMoves b cpu (if t then record { error = 5; value = 0; changes = [] } else (if l then record { error = 0; value = 8 * i + 7; changes = each_more k b.number pid (members k b.number i h) } else record { error = 303; value = 0; changes = [] })).changes
+          → let r : Ruling = if t then refusal 5 else (if l then grants (selector_of i) (each_more k b.number pid (members k b.number i h)) else refusal 303) in AllMoves b cpu r.changes
       go true l e f = none b cpu
       go false false e f = none b cpu
       go false true e f =
@@ -142,7 +143,7 @@ module _ (b : Before) (cpu : Cpu) where
   got_moves i from (Some h) = go (is_later i h || lacks_flag k 1 from (members k from i h)) refl
     where
       go : (t : Bool) → (is_later i h || lacks_flag k 1 from (members k from i h)) ≡ t
-          → AllMoves b cpu (if t then record { error = 5; value = 0; changes = [] } else record { error = 0; value = 0; changes = each_more k from b.number (members k from i h) }).changes
+          → let r : Ruling = if t then refusal 5 else grants 0 (each_more k from b.number (members k from i h)) in AllMoves b cpu r.changes
       go true e = none b cpu
       go false e =
           let is = members k from i h in

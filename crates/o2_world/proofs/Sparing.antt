@@ -110,25 +110,29 @@ holds_spared ps p i place h = go (p == 0)
     go true = same_spared (slice_get ps place) (slice_get ps place) refl
     go false = subst (AreSpared (slice_get ps place)) (sym (get-place (p - 1) place f ps)) (here (place == p - 1))
 
+moved_spared : (ps qs : List Process) (place : ℕ) → slice_get qs place ≡ slice_get ps place → AreSpared (slice_get ps place) (slice_get qs place)
+moved_spared ps qs place e = same_spared (slice_get ps place) (slice_get qs place) e
+
 one_spared : (w : World) (c : Change) (n place : ℕ) → Spares n c → place + 1 ≢ n
     → AreSpared (slice_get w.processes place) (slice_get (with_change w c).processes place)
-one_spared w (Makes s) n place own other = same_spared _ _ refl
-one_spared w (Resizes m size) n place own other = same_spared _ _ refl
-one_spared w (Locks m count) n place own other = same_spared _ _ refl
-one_spared w (Marks m d) n place own other = same_spared _ _ refl
+one_spared w (Makes s) n place own other = moved_spared w.processes w.processes place refl
+one_spared w (Resizes m size) n place own other = moved_spared w.processes w.processes place refl
+one_spared w (Locks m count) n place own other = moved_spared w.processes w.processes place refl
+one_spared w (Marks m d) n place own other = moved_spared w.processes w.processes place refl
 one_spared w (Holds p i h) n place own other = holds_spared w.processes p i place h
-one_spared w (Drops p i count) n place own other = same_spared _ _ (moved_other w.processes p n place _ own other)
-one_spared w (Finishes p state) n place own other = same_spared _ _ (moved_other w.processes p n place _ own other)
-one_spared w (Reserves r) n place own other = same_spared _ _ refl
+one_spared w (Drops p i count) n place own other = moved_spared w.processes (with_change w (Drops p i count)).processes place (moved_other w.processes p n place _ own other)
+one_spared w (Finishes p state) n place own other = moved_spared w.processes (with_change w (Finishes p state)).processes place (moved_other w.processes p n place _ own other)
+one_spared w (Reserves r) n place own other = moved_spared w.processes w.processes place refl
 one_spared w (Frees r first) n place own other = absurd own
-one_spared w (Names text m) n place own other = same_spared _ _ refl
+one_spared w (Names text m) n place own other = moved_spared w.processes w.processes place refl
 
 changes_spared : (w : World) (cs : List Change) (n place : ℕ) → AllSpare n cs → place + 1 ≢ n
     → AreSpared (slice_get w.processes place) (slice_get (with_changes w cs).processes place)
 unfolding with_changes
-changes_spared w [] n place own other = same_spared _ _ refl
+changes_spared w [] n place own other = moved_spared w.processes w.processes place refl
 changes_spared w (c ∷ cs) n place own other =
-    spared_then _ (slice_get (with_change w c).processes place) _ (one_spared w c n place own.0 other) (changes_spared (with_change w c) cs n place own.1 other)
+    spared_then (slice_get w.processes place) (slice_get (with_change w c).processes place) (slice_get (with_changes (with_change w c) cs).processes place)
+    (one_spared w c n place own.0 other) (changes_spared (with_change w c) cs n place own.1 other)
 
 all_spared : (w : World) (cs : List Change) (n place : ℕ) → AllSpare n cs → place + 1 ≢ n
     → AreSpared (slice_get w.processes place) (slice_get (with_all w cs).processes place)
@@ -153,6 +157,6 @@ pub changed_spared : (w : World) (d : Dispatch) (p : Process) (e : Effect) → A
     → AreSpared (slice_get w.processes place) (slice_get (changed w d p e).processes place)
 unfolding changed
 changed_spared w d p e own place other =
-    spared_then (slice_get w.processes place) (slice_get (worked w d p e).processes place) _
-    (same_spared (slice_get w.processes place) (slice_get (worked w d p e).processes place) (other_number w.processes d.current (working p e) place other))
+    spared_then (slice_get w.processes place) (slice_get (worked w d p e).processes place) (slice_get (with_all (worked w d p e) (all_changes d.current e)).processes place)
+    (moved_spared w.processes (worked w d p e).processes place (other_number w.processes d.current (working p e) place other))
     (all_spared (worked w d p e) (all_changes d.current e) d.current place (all_spare d.current e own) other)

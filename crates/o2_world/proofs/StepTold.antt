@@ -81,17 +81,17 @@ drops_tell w n [] there apart held = tt
 drops_tell w n (i ∷ is) there apart held =
     ((there, held.0), drops_tell (with_change w (Drops n i 1)) n is (still_there w n i there) apart.1 (each_held w n i is there held.0 apart.0 held.1))
 
+put_length : (k : ℕ) (x : Process) (qs : List Process) → length (slice_set qs k x) ≡ length qs
+put_length k x [] = refl
+put_length zero x (q ∷ qs) = refl
+put_length (suc k) x (q ∷ qs) = ap suc (put_length k x qs)
+
 set_length : (ps : List Process) (n : ℕ) (x : Process) → length (with_process ps n x) ≡ length ps
 set_length ps n x = go (n == 0)
   where
-    put_length : (k : ℕ) (qs : List Process) → length (slice_set qs k x) ≡ length qs
-    put_length k [] = refl
-    put_length zero (q ∷ qs) = refl
-    put_length (suc k) (q ∷ qs) = ap suc (put_length k qs)
-
     go : (b : Bool) → length (if b then ps else slice_set ps (n - 1) x) ≡ length ps
     go true = refl
-    go false = put_length (n - 1) ps
+    go false = put_length (n - 1) x ps
 
 -- a place that has a process
 pub below : (ps : List Process) (k : ℕ) (x : Process) → slice_get ps k ≡ Some x → k < length ps

@@ -8,7 +8,7 @@ use Rattle.o2_world.specs.declared.types.Row.TheVariants.{DosExit, DosGetPid, Do
 use Rattle.o2_world.specs.Calls.{Effect}
 use Rattle.o2_gate.specs.Befores.{boundless, before_call}
 use Rattle.o2_gate.specs.Called.{Does}
-use Rattle.o2_gate.proofs.Served.{by_row, not_plain}
+use Rattle.o2_gate.proofs.Served.{by_row, not_plain, not_shared}
 use Rattle.o2_gate.proofs.Named.{names_by_row}
 use Rattle.o2_run.specs.Pieces.{counts, PartHands}
 use Rattle.o2_gate.proofs.Lines.{by_line, told_line, read_line}
@@ -174,3 +174,6 @@ returns-in-Some-DosMemAvail-clause-puts g c = c.dos_mem_avail.ensures.puts _
 
 pub unreachable-requires : goal.unreachable-requires
 unreachable-requires g c = not_plain c.args.service c.row_of.result c.in-Some-OnSegments.field-0 _ c.requires.plain c.row_of.ensures.row c.in-Some-OnSegments.is c.in-Some-OnSegments.field-0-is
+
+pub unreachable-in-Some-OnShared-requires : goal.unreachable-in-Some-OnShared-requires
+unreachable-in-Some-OnShared-requires g c = not_shared c.args.service c.row_of.result c.in-Some-OnShared.field-0 _ c.requires.plain c.row_of.ensures.row c.in-Some-OnShared.is c.in-Some-OnShared.field-0-is

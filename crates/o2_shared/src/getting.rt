@@ -1,0 +1,76 @@
+// DosGetSeg.
+ghost use Rattle.std.specs.Prelude.{◌≡◌, ℕ, ◌+◌, ◌<◌, ◌≤◌, Some, None, is_some, false, IfSome};
+ghost use Rattle.o2_regions.specs.Maps.{IsProcess, held_at};
+ghost use Rattle.o2_segbus.specs.Seen.{AreNamed};
+ghost use Rattle.o2_changes.specs.Order.{IsGuarded, IsInOrder};
+ghost use Rattle.o2_stands.specs.Knows.{Others, known_in};
+ghost use Rattle.o2_stands.specs.Parts.{Parts};
+ghost use Rattle.o2_stands.specs.Stands.{Matches};
+ghost use Rattle.o2_world.specs.Changes.{with_all};
+ghost use Rattle.o2_world.specs.Holders.{process_at};
+ghost use Rattle.o2_world.specs.SharedRulings.{getting};
+ghost use Rattle.o2_world.specs.World.{Process, World};
+ghost use Rattle.o2_segs.specs.Answers.{Answers, AreAlone};
+ghost use Rattle.o2_shared.specs.Shares.{AreFew, ShareOne, holder_among};
+
+use crate::sharing::{is_gettable, share};
+use o2_base::Selector;
+use o2_regions::{Answer, Regions};
+use o2_segs::{ACCESS_DENIED, done, refusal};
+use o2_store::Store;
+
+/// DosGetSeg(sel): the caller holds once more what another process holds under that shared selector. 5 where nobody holds a
+/// gettable segment there. No run of a huge allocation is held.
+pub fn get_seg(store: &mut Store, regions: &mut Regions, pid: u16, sel: u16) -> Answer
+    requires process { IsProcess regions.old pid }
+    requires named { AreNamed store.old regions.old }
+    requires order { IsInOrder store.old regions.old }
+    requires alone { AreAlone regions.old }
+    requires one { ShareOne regions.old }
+    requires few { AreFew regions.old }
+
+    ensures answer { (p : Parts) (o : Others) → p.shelf ≡ store.old → p.maps ≡ regions.old → o.processes ≡ regions.old.processes
+        → Answers (getting (known_in p o) pid sel) result }
+    ensures store { store.new ≡ store.old }
+    ensures processes { regions.new.processes ≡ regions.old.processes }
+    ensures order { IsInOrder store.new regions.new }
+    ensures guards { IsGuarded store.old regions.old → IsGuarded store.new regions.new }
+    ensures matches { (p : Parts) (o : Others) (w : World) (x : Process) → p.shelf ≡ store.old → p.maps ≡ regions.old
+        → o.processes ≡ regions.old.processes → process_at w.processes pid ≡ Some x → IsGuarded store.old regions.old
+        → Matches p w
+        → Matches (record p { maps = regions.new }) (with_all w (getting (known_in p o) pid sel).changes) }
+{
+    let selector = Selector(sel);
+    if !selector.is_local() {
+        return refusal(ACCESS_DENIED);
+    }
+    let index = selector.index();
+    match holder(regions, index) {
+        Some(from) => match regions.held(from, index) {
+            Some(held) => {
+                if !is_gettable(store, index, held) {
+                    return refusal(ACCESS_DENIED);
+                }
+                share(store, regions, from, pid, index, held);
+                done(0)
+            }
+            None => refusal(ACCESS_DENIED),
+        },
+        None => refusal(ACCESS_DENIED),
+    }
+}
+
+// The first process that holds an index.
+fn holder(regions: &Regions, index: u16) -> Option<u16>
+    requires index { index < 8192 }
+    ensures first { result ≡ holder_among regions.now index 1 regions.now.processes }
+    ensures holds { IfSome result (λ n. IsProcess regions.now n) }
+{
+    regions.law();
+    for pid in 1..regions.processes() + 1 {
+        if regions.held(pid, index).is_some() {
+            return Some(pid);
+        }
+    }
+    None
+}

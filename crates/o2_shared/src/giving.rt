@@ -1,0 +1,65 @@
+// DosGiveSeg.
+ghost use Rattle.std.specs.Prelude.{◌≡◌, ℕ, true, Some};
+ghost use Rattle.o2_regions.specs.Lives.{lives};
+ghost use Rattle.o2_regions.specs.Maps.{IsProcess};
+ghost use Rattle.o2_segbus.specs.Seen.{AreNamed};
+ghost use Rattle.o2_changes.specs.Order.{IsGuarded, IsInOrder};
+ghost use Rattle.o2_stands.specs.Knows.{Others, known_in};
+ghost use Rattle.o2_stands.specs.Parts.{Parts};
+ghost use Rattle.o2_stands.specs.Stands.{AreMarked, Matches};
+ghost use Rattle.o2_world.specs.Changes.{with_all};
+ghost use Rattle.o2_world.specs.Holders.{process_at};
+ghost use Rattle.o2_world.specs.SharedRulings.{giving};
+ghost use Rattle.o2_world.specs.World.{Process, World};
+ghost use Rattle.o2_segs.specs.Answers.{Answers, AreAlone};
+ghost use Rattle.o2_shared.specs.Shares.{AreFew, ShareOne};
+
+use crate::sharing::{INVALID_PROCESS, is_giveable, share};
+use o2_base::Selector;
+use o2_regions::{Answer, Ends, Regions};
+use o2_segs::{ACCESS_DENIED, done, held_under, refusal};
+use o2_store::Store;
+
+/// DosGiveSeg(sel, pid, psel): the process `to` holds once more what the caller holds; its value is the same selector. 5 where
+/// the caller holds nothing there, or no giveable segment; 303 where no process `to` lives. No run of a huge allocation is held.
+pub fn give_seg(
+    store: &mut Store,
+    regions: &mut Regions,
+    pid: u16,
+    sel: u16,
+    to: u16,
+    ends: &Ends,
+) -> Answer
+    requires process { IsProcess regions.old pid }
+    requires named { AreNamed store.old regions.old }
+    requires order { IsInOrder store.old regions.old }
+    requires alone { AreAlone regions.old }
+    requires one { ShareOne regions.old }
+    requires few { AreFew regions.old }
+    requires living { (n : ℕ) → lives ends.now n ≡ true → IsProcess regions.old n }
+
+    ensures answer { (p : Parts) (o : Others) → p.shelf ≡ store.old → p.maps ≡ regions.old → AreMarked ends.now p
+        → Answers (giving (known_in p o) pid sel to) result }
+    ensures store { store.new ≡ store.old }
+    ensures processes { regions.new.processes ≡ regions.old.processes }
+    ensures order { IsInOrder store.new regions.new }
+    ensures guards { IsGuarded store.old regions.old → IsGuarded store.new regions.new }
+    ensures matches { (p : Parts) (o : Others) (w : World) (x : Process) → p.shelf ≡ store.old → p.maps ≡ regions.old
+        → AreMarked ends.now p → process_at w.processes to ≡ Some x → IsGuarded store.old regions.old → Matches p w
+        → Matches (record p { maps = regions.new }) (with_all w (giving (known_in p o) pid sel to).changes) }
+{
+    match held_under(regions, pid, sel) {
+        Some(held) => {
+            let index = Selector(sel).index();
+            if !is_giveable(store, index, held) {
+                return refusal(ACCESS_DENIED);
+            }
+            if !ends.is_live(to) {
+                return refusal(INVALID_PROCESS);
+            }
+            share(store, regions, pid, to, index, held);
+            done(u32::from(Selector::local(u32::from(index)).0))
+        }
+        None => refusal(ACCESS_DENIED),
+    }
+}

@@ -1,0 +1,9 @@
+//! The calls of DOSCALLS by which processes share segments, over a store and the tables of what processes hold.
+#![tactic(auto)]
+
+mod getting;
+mod giving;
+mod sharing;
+
+pub use getting::get_seg;
+pub use giving::give_seg;
