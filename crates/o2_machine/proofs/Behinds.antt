@@ -6,7 +6,6 @@ use Rattle.o2_isa.specs.declared.cpu.Cpu.{Cpu}
 use Rattle.o2_world.specs.declared.types.State.{State}
 use Rattle.o2_world.specs.Calls.{Before, Effect}
 use Rattle.o2_world.specs.Changes.{Change, Drops, Finishes, Frees, Holds, Locks, Makes, Marks, Names, Reserves, Resizes, at_number, at_place, swept, takes, with_all, with_change, with_changes}
-use Rattle.o2_world.specs.Holders.{with_process}
 use Rattle.o2_world.specs.Moves.{Moves, NoneMoves, OneAliased, OneLocked, OneMade, OneSized, SomeFreed}
 use Rattle.o2_world.specs.Run.{all_changes, changed, live_flags, worked, working}
 use Rattle.o2_world.specs.World.{Line, Process, World, is_live}

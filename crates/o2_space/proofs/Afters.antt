@@ -1,24 +1,22 @@
 -- The world behind a step, from the parts once registers and state are written back.
-use Rattle.std.proofs.Common.{◌≡◌, ℕ, zero, suc, ◌-◌, ◌==◌, ◌&&◌, Bool, true, false, cond, if◌then◌else◌, List, [], ◌∷◌, ◌++◌, length, Option, Some, None, option_map, slice_set, ap, sym, ◌∙◌, refl, subst, arith}
+use Rattle.std.proofs.Common.{◌≡◌, ℕ, zero, suc, ◌-◌, ◌==◌, ◌&&◌, Bool, true, false, if◌then◌else◌, List, [], ◌∷◌, ◌++◌, Some, None, slice_set, ap, sym, ◌∙◌, refl, subst}
 use Rattle.std.specs.Prelude.{slice_get}
 use Rattle.std.specs.List.{list_any}
 use Rattle.o2_conf.specs.Dispatch.{Dispatch}
-use Rattle.o2_isa.specs.declared.cpu.Cpu.{Cpu}
 use Rattle.o2_world.specs.declared.types.State.{State}
 use Rattle.o2_world.specs.declared.types.State.TheVariants.{Live, Trapped}
-use Rattle.o2_world.specs.World.{Line, Process, Setting, Traps, World, is_live}
+use Rattle.o2_world.specs.World.{Line, Process, Traps, World, is_live}
 use Rattle.o2_world.specs.Holders.{process_at, with_process}
 use Rattle.o2_world.specs.Views.{with_bytes}
 use Rattle.o2_world.specs.Calls.{Before, Effect}
 use Rattle.o2_world.specs.Changes.{Change, Drops, Finishes, Frees, Holds, Locks, Makes, Marks, Names, Reserves, Resizes, at_number, at_place, swept, takes, with_all, with_change, with_changes}
 use Rattle.o2_world.specs.Effect.{has_trap_flag, single_stepped}
-use Rattle.o2_world.specs.Run.{all_changes, before, changed, next_dispatch, plainly, worked, working}
-use Rattle.o2_world.specs.Tied.{IsSound}
+use Rattle.o2_world.specs.Run.{changed, plainly, worked, working}
 use Rattle.o2_world.proofs.Quiet.{changed_plain}
 use Rattle.o2_world.proofs.StepSound.{IsOrderly}
 use Rattle.o2_calls.proofs.Ends.{end_behind}
-use Rattle.o2_stands.specs.Parts.{Parts, Running, running_of}
-use Rattle.o2_stands.specs.Stands.{Matches, MatchesIn, Stands, StandsIn}
+use Rattle.o2_stands.specs.Parts.{Parts}
+use Rattle.o2_stands.specs.Stands.{Matches, MatchesIn}
 use Rattle.o2_stands.proofs.Matching.{matched_by}
 use Rattle.o2_space.specs.Stands.{MatchesAfter, StandsCommitted}
 

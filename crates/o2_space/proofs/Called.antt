@@ -1,5 +1,5 @@
 -- A call on segments of a process, from what it changes and what is then written, in the world that the machine stands for.
-use Rattle.std.proofs.Common.{◌≡◌, ℕ, ◌/◌, ◌<◌, ◌==◌, ◌&&◌, true, false, cond, Bool, List, Option, Some, None, IsSome, is_some, option_map, ap, sym, ◌∙◌, refl, subst, arith}
+use Rattle.std.proofs.Common.{◌≡◌, ℕ, ◌/◌, ◌<◌, ◌==◌, ◌&&◌, true, false, cond, Bool, List, Option, Some, IsSome, option_map, ap, sym, ◌∙◌, refl, subst, arith}
 use mathlib.Core.Path.{fun_ext}
 use Rattle.o2_conf.specs.Dispatch.{Dispatch}
 use Rattle.o2_store.proofs.Tables.{within_at}
@@ -10,7 +10,7 @@ use Rattle.o2_isa.specs.View.{Hold, bound_in, is_writable}
 use Rattle.o2_regions.specs.declared.held.Held.{Held}
 use Rattle.o2_regions.specs.Maps.{Maps}
 use Rattle.o2_store.specs.Shelf.{IsShelf, Shelf, entry}
-use Rattle.o2_segbus.specs.Bus.{AreInside, held_under}
+use Rattle.o2_segbus.specs.Bus.{AreInside}
 use Rattle.o2_segbus.specs.Frames.{KeepsMaps, KeepsStore}
 use Rattle.o2_segbus.specs.Seen.{bytes_in as bytes_there, hold_in, hold_of, key_of, present_in, seen}
 use Rattle.o2_segbus.proofs.Holds.{bound_is, under_at}

@@ -7,7 +7,7 @@ use Rattle.o2_outer.proofs.TextLemmas.{gains_none}
 use Rattle.o2_isa.specs.declared.cpu.Cpu.{Cpu}
 use Rattle.o2_regions.specs.declared.answer.Answer.{Answer}
 use Rattle.o2_regions.specs.declared.held.Held.{Held as HeldThere}
-use Rattle.o2_regions.specs.Maps.{Maps, held_at as held_there}
+use Rattle.o2_regions.specs.Maps.{held_at as held_there}
 use Rattle.o2_world.specs.declared.types.State.{State}
 use Rattle.o2_world.specs.declared.types.State.TheVariants.{Live, Trapped}
 use Rattle.o2_world.specs.Calls.{Before, Effect}

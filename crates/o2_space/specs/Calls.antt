@@ -1,5 +1,5 @@
 -- A call on segments by a process of a space.
-use Rattle.std.specs.Prelude.{◌≡◌, ℕ, Result, Ok, Err}
+use Rattle.std.specs.Prelude.{◌≡◌, ℕ, true, Result, Ok, Err}
 use Rattle.o2_conf.specs.Dispatch.{Dispatch}
 use Rattle.o2_isa.specs.declared.cpu.Cpu.{Cpu}
 use Rattle.o2_regions.specs.declared.answer.Answer.{Answer}

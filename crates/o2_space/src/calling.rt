@@ -6,7 +6,7 @@ ghost use Rattle.o2_regions.specs.Lives.{lives};
 ghost use Rattle.o2_regions.specs.Maps.{IsProcess};
 ghost use Rattle.o2_segbus.specs.Bus.{registers_of};
 ghost use Rattle.o2_segbus.specs.Frames.{CanStep, KeepsClean, KeepsMaps, KeepsStore};
-ghost use Rattle.o2_segbus.specs.Seen.{AreNamed, hold_in, present_in, seen};
+ghost use Rattle.o2_segbus.specs.Seen.{AreNamed, hold_in, seen};
 ghost use Rattle.o2_segbus.specs.Settled.{IsSettled};
 ghost use Rattle.o2_world.specs.Effect.{effect, single_stepped};
 ghost use Rattle.o2_world.specs.Holders.{process_at};

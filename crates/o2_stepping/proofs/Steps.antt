@@ -1,5 +1,5 @@
 -- A step in a store, from its last try.
-use Rattle.std.proofs.Common.{◌≡◌, ℕ, ◌<◌, false, List, Option, ap, ◌∙◌, subst, arith}
+use Rattle.std.proofs.Common.{◌≡◌, ℕ, ◌<◌, List, Option, ap, ◌∙◌, subst, arith}
 use Rattle.std.specs.Prelude.{Result, Ok, Err}
 use mathlib.Core.Path.{fun_ext}
 use Rattle.o2_isa.specs.declared.cpu.Cpu.{Cpu}

@@ -1,7 +1,7 @@
-use Rattle.std.proofs.Common.{◌≡◌, ℕ, List, Option, Some, ap, sym, refl, subst}
+use Rattle.std.proofs.Common.{Some, ap, sym, refl, subst}
 use Rattle.o2_isa.specs.View.{View, Filling, whole}
 use Rattle.o2_world.specs.declared.types.Row.TheVariants.{OnSegments}
-use Rattle.o2_world.specs.Calls.{Effect, trapped}
+use Rattle.o2_world.specs.Calls.{Effect}
 use Rattle.o2_world.specs.Effect.{single_stepped}
 use Rattle.o2_gate.specs.Befores.{boundless, before_call}
 use Rattle.o2_run.specs.Pieces.{counts}

@@ -1,4 +1,4 @@
-use Rattle.std.proofs.Common.{◌≡◌, ◌==◌, ℕ, ◌≤◌, List, [], Bool, true, false, if◌then◌else◌, inr, length, ap, sym, ◌∙◌, arith, subst}
+use Rattle.std.proofs.Common.{◌≡◌, ◌==◌, ℕ, ◌≤◌, List, [], Bool, true, false, if◌then◌else◌, inr, length, ap, ◌∙◌, arith, subst}
 use Rattle.std.specs.Prelude.{Err}
 use Rattle.o2_outer.specs.Inputs.{left_as}
 use Rattle.o2_outer.specs.Texts.{Rose}
@@ -11,7 +11,6 @@ use Rattle.o2_world.specs.Effect.{effect}
 use Rattle.o2_world.specs.Run.{before}
 use Rattle.o2_world.specs.Views.{with_bytes}
 use Rattle.o2_world.specs.World.{is_live}
-use Rattle.o2_run.specs.Pieces.{counts}
 use Rattle.o2_run.proofs.Reached.{rose_since}
 use Rattle.o2_stands.specs.Parts.{Running}
 use Rattle.o2_stepping.specs.Rooms.{all_names, room_in}

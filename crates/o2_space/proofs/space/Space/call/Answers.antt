@@ -1,4 +1,4 @@
-use Rattle.std.proofs.Common.{◌≡◌, ◌==◌, ℕ, List, [], Bool, true, false, if◌then◌else◌, length, ap, sym, ◌∙◌, arith, refl, subst}
+use Rattle.std.proofs.Common.{◌≡◌, ◌==◌, List, [], Bool, false, if◌then◌else◌, length, ap, sym, ◌∙◌, arith, refl, subst}
 use Rattle.o2_regions.specs.Lives.{lives}
 use Rattle.o2_world.specs.declared.types.State.TheVariants.{Trapped}
 use Rattle.o2_world.specs.Run.{before}

@@ -1,4 +1,4 @@
-use Rattle.std.proofs.Common.{◌≡◌, ℕ, List, [], length, ap, sym, ◌∙◌, refl, arith, subst}
+use Rattle.std.proofs.Common.{ℕ, [], length, ap, sym, ◌∙◌, refl, arith, subst}
 use Rattle.o2_isa.specs.declared.cpu.Cpu.{Cpu}
 use Rattle.o2_world.specs.declared.types.State.TheVariants.{Live}
 use Rattle.o2_world.specs.Known.{known_of}
