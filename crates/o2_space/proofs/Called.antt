@@ -23,7 +23,7 @@ use Rattle.o2_world.specs.Known.{known_of}
 use Rattle.o2_world.specs.Map.{get}
 use Rattle.o2_world.specs.Run.{before, changed}
 use Rattle.o2_world.specs.Rulings.{Ruling}
-use Rattle.o2_world.specs.SegmentCalls.{Written}
+use Rattle.o2_world.specs.SegmentCalls.{Written, written_long, written_word}
 use Rattle.o2_world.specs.Views.{bytes_in, holds_in}
 use Rattle.o2_world.specs.World.{Process, Setting, World}
 use Rattle.o2_gate.specs.declared.gathering.SegmentArguments.{SegmentArguments}
@@ -46,6 +46,9 @@ use Rattle.o2_space.proofs.Aimed.{held_by_ready, hold_same, under_of}
 and_left : (a b : Bool) → (a && b) ≡ true → a ≡ true
 and_left true b e = refl
 and_left false b e = cc
+
+some_is : {a b : Written} → Some a ≡ Some b → a ≡ b
+some_is e = cc
 
 -- what a number's segment has is younger than what is made next
 young : (s : Shelf) → IsShelf s → (k : ℕ) → IsSome (slot_at s.entries k) → (entry s k).age < s.made
@@ -82,22 +85,13 @@ module _ (p : Parts) (w : World) (x : Process) (pid : ℕ) (lawful : AreLawful p
 
   written_at : (a : SegmentArguments) (value : ℕ) → LeavesHolds a p.maps n → are_ready (seen p.shelf p.maps pid c) (targets a) ≡ true → (t : Written) → written_of a value ≡ Some t
       → IsAimedAt (holds_in x.held) (hold_in n pid) w.next_name t
-  written_at (Alloc size s o flags) value holds ready t is = subst (λ (z : Written). IsAimedAt (holds_in x.held) (hold_in n pid) w.next_name z) (some_is is) (aimed_at _ o 2 refl holds (and_left _ true ready))
-    where
-      some_is : {a b : Written} → Some a ≡ Some b → a ≡ b
-      some_is e = cc
+  written_at (Alloc size s o flags) value holds ready t is = subst (λ (z : Written). IsAimedAt (holds_in x.held) (hold_in n pid) w.next_name z) (some_is is) (aimed_at (written_word s o value) o 2 refl holds (and_left _ true ready))
   written_at (Realloc size s) value holds ready t is = cc
   written_at (Free s) value holds ready t is = cc
-  written_at (Size y s o) value holds ready t is = subst (λ (z : Written). IsAimedAt (holds_in x.held) (hold_in n pid) w.next_name z) (some_is is) (aimed_at _ o 4 refl holds (and_left _ true ready))
-    where
-      some_is : {a b : Written} → Some a ≡ Some b → a ≡ b
-      some_is e = cc
+  written_at (Size y s o) value holds ready t is = subst (λ (z : Written). IsAimedAt (holds_in x.held) (hold_in n pid) w.next_name z) (some_is is) (aimed_at (written_long s o value) o 4 refl holds (and_left _ true ready))
   written_at (Lock s) value holds ready t is = cc
   written_at (Unlock s) value holds ready t is = cc
-  written_at (Alias y s o) value holds ready t is = subst (λ (z : Written). IsAimedAt (holds_in x.held) (hold_in n pid) w.next_name z) (some_is is) (aimed_at _ o 2 refl holds (and_left _ true ready))
-    where
-      some_is : {a b : Written} → Some a ≡ Some b → a ≡ b
-      some_is e = cc
+  written_at (Alias y s o) value holds ready t is = subst (λ (z : Written). IsAimedAt (holds_in x.held) (hold_in n pid) w.next_name z) (some_is is) (aimed_at (written_word s o value) o 2 refl holds (and_left _ true ready))
 
 -- What a machine that matches a world has in memory are the bytes of that world.
 

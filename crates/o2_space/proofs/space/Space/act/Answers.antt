@@ -1,5 +1,4 @@
 use Rattle.std.proofs.Common.{◌≡◌, ◌==◌, ℕ, ◌≤◌, List, [], Bool, true, false, if◌then◌else◌, inr, length, ap, ◌∙◌, arith, subst}
-use Rattle.std.specs.Prelude.{Err}
 use Rattle.o2_outer.specs.Inputs.{left_as}
 use Rattle.o2_outer.specs.Texts.{Rose}
 use Rattle.o2_isa.specs.View.{bound_registers}
@@ -14,6 +13,7 @@ use Rattle.o2_world.specs.World.{is_live}
 use Rattle.o2_run.proofs.Reached.{rose_since}
 use Rattle.o2_stands.specs.Parts.{Running}
 use Rattle.o2_stepping.specs.Rooms.{all_names, room_in}
+use Rattle.o2_stepping.proofs.Steps.{at_stop}
 use Rattle.o2_space.specs.Nexts.{SaysRoom}
 use Rattle.o2_space.specs.Parts.{parts_in}
 use Rattle.o2_space.specs.declared.space.Proc.{Proc}
@@ -84,7 +84,7 @@ returns-in-Err-clause-next_room g c = λ text may s w x tells stands set sound c
     c.in-Err.ensures.next_room text may s w x tells stands set chosen there (ap (λ (r : Running). r.cpu) was) left known
 
 pub returns-in-Err-clause-swap_stops : goal.returns-in-Err-clause-swap_stops
-returns-in-Err-clause-swap_stops g c = swap_fault _ _ _ _ (Err c.in-Err.fault) (λ z. z) c.in-Err.ensures.swap_stops
+returns-in-Err-clause-swap_stops g c = at_stop _ _ _ (Unit {0}) (Unit {0}) _ c.in-Err.fault (λ z. tt) (λ z. tt) (λ z. z) c.in-Err.ensures.swap_stops
 
 pub returns-in-Err-clause-marks : goal.returns-in-Err-clause-marks
 returns-in-Err-clause-marks g c = λ n. ap (λ (ends : List Bool). lives ends n) c.step.ensures.ends

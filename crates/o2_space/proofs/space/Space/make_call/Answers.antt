@@ -209,7 +209,7 @@ returns-in-Done-clause-makes g c = λ s w x tells stands set tied there same.
       answers = answers;
       cpu = registers;
       matches = λ d current.
-          subst (λ (z : Cpu). Matches (with_running (parts_in c.come_back.new.self (S.blocks c.act.new.swap) block) pid (record { cpu = z; state = Live })) (changed w d x behind)) (sym registers)
+          subst (λ (z : Cpu). Matches (with_running (record (stepped_to (moved p t n block) u o) { device = S.blocks c.act.new.swap }) pid (record { cpu = z; state = Live })) (changed w d x behind)) (sym registers)
           (on_device (stepped_to (moved p t n block) u o) (S.blocks c.act.new.swap) (λ (q : Parts). Matches (with_running q pid (record { cpu = behind.cpu; state = Live })) (changed w d x behind)) e.device.0
           (called p s w x pid a c.args.next c.lawful.ensures stands there c.args.cpu.now c.requires.aimed t n block c.lawful-2.ensures e.holds c.in-Done.answer.error c.in-Done.answer.value
           answers.error answers.value matches u o given.bytes given.store given.maps c.lawful-3.ensures.inside good d current));
