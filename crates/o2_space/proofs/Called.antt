@@ -86,11 +86,11 @@ module _ (p : Parts) (w : World) (x : Process) (pid : ℕ) (lawful : AreLawful p
   written_at : (a : SegmentArguments) (value : ℕ) → LeavesHolds a p.maps n → are_ready (seen p.shelf p.maps pid c) (targets a) ≡ true → (t : Written) → written_of a value ≡ Some t
       → IsAimedAt (holds_in x.held) (hold_in n pid) w.next_name t
   written_at (Alloc size s o flags) value holds ready t is = subst (λ (z : Written). IsAimedAt (holds_in x.held) (hold_in n pid) w.next_name z) (some_is is) (aimed_at (written_word s o value) o 2 refl holds (and_left _ true ready))
-  written_at (Realloc size s) value holds ready t is = cc
-  written_at (Free s) value holds ready t is = cc
+  written_at (Realloc size s) value holds ready t is = absurd (cc)
+  written_at (Free s) value holds ready t is = absurd (cc)
   written_at (Size y s o) value holds ready t is = subst (λ (z : Written). IsAimedAt (holds_in x.held) (hold_in n pid) w.next_name z) (some_is is) (aimed_at (written_long s o value) o 4 refl holds (and_left _ true ready))
-  written_at (Lock s) value holds ready t is = cc
-  written_at (Unlock s) value holds ready t is = cc
+  written_at (Lock s) value holds ready t is = absurd (cc)
+  written_at (Unlock s) value holds ready t is = absurd (cc)
   written_at (Alias y s o) value holds ready t is = subst (λ (z : Written). IsAimedAt (holds_in x.held) (hold_in n pid) w.next_name z) (some_is is) (aimed_at (written_word s o value) o 2 refl holds (and_left _ true ready))
 
 -- What a machine that matches a world has in memory are the bytes of that world.

@@ -19,6 +19,7 @@ use Rattle.o2_world.specs.Run.{all_changes, before, changed, next_dispatch, work
 use Rattle.o2_world.specs.Text.{lines_text}
 use Rattle.o2_world.specs.Tied.{IsSound}
 use Rattle.o2_world.specs.World.{Held, Line, Process, Setting, Traps, World, is_live}
+use Rattle.o2_world.proofs.Flags.{live_is}
 use Rattle.o2_world.proofs.StepSound.{IsOrderly, effect_orderly}
 use Rattle.o2_gate.specs.declared.gathering.SegmentArguments.{SegmentArguments}
 use Rattle.o2_gate.specs.Gathers.{asked}
@@ -77,10 +78,6 @@ flag_set c z e dead = go (has_trap_flag c.flags) refl
 
 pub dead_state_is : (c : Cpu) (z : State) → z ≡ state_behind c → is_live z ≡ false → z ≡ Trapped 1
 dead_state_is c z e dead = e ∙ ap (λ (t : Bool). if t then Trapped 1 else Live) (flag_set c z e dead)
-
-live_is : (z : State) → is_live z ≡ true → z ≡ Live
-live_is Live e = refl
-live_is z e = cc
 
 some_running : (o : Option Process) (r : Running) → option_map running_of o ≡ Some r → (y : Process) × (o ≡ Some y) × (running_of y ≡ r)
 some_running None r e = absurd (cc)
