@@ -124,13 +124,22 @@ def is_alike(code):
 def served(segments, call, source):
     """What a call that has returned wrote, by its line in the report, and for DosRead the bytes of the input."""
     name, words, error, values = re.match(r"\| 1 call (\w+) (.*?) = (\d+)(.*)$", call).groups()
-    if error != "0" or name not in ("DosRead", "DosWrite", "DosGetPID", "DosMemAvail"):
+    if error != "0" or name == "DosExit":
         return
     pointers = [tuple(int(part, 16) for part in word.split(":")) for word in words.split(" ") if ":" in word]
+    first, *others = (int(word, 16) for word in words.split(" ") if ":" not in word)
     numbers = [int(value, 16) for value in values.split()]
-    selector, at = pointers[-1]
-    form = "<I" if name == "DosMemAvail" else f"<{len(numbers)}H"
-    struct.pack_into(form, segments[selector], at, *numbers)
+    if pointers:
+        selector, at = pointers[-1]
+        form = "<I" if name in ("DosMemAvail", "DosSizeSeg") else f"<{len(numbers)}H"
+        struct.pack_into(form, segments[selector], at, *numbers)
+    if name == "DosAllocSeg":
+        segments[numbers[0]] = bytearray(first or 65536)
+    elif name == "DosReallocSeg":
+        selector = others[0] | 7
+        segments[selector] = segments[selector][: first or 65536].ljust(first or 65536, b"\0")
+    elif name == "DosFreeSeg":
+        del segments[first | 7]
     if name == "DosRead":
         selector, at = pointers[0]
         segments[selector][at : at + numbers[0]] = source.read(numbers[0])
