@@ -268,6 +268,44 @@ few_loads b (suc n) (Loads purpose s next p) v h = few_after (suc n) (passed nex
 few_loads b n (Sizes s f) v h = few_loads b n (f (size_at v s)) v (h (size_at v s))
 few_loads b n (Rights s f) v h = few_loads b n (f (rights_at v s)) v (h (rights_at v s))
 
+-- Where a row comes to a gate, it has loaded nothing: its one load is that of the gate.
+
+not_checked : (q : Result ℕ (ℕ × ℕ)) (f : ℕ → Result State Stop) (k next : ℕ) → ((x : ℕ) → f x ≡ Err (stop.Gate k next) → ⊥) → (or_trap q >>= f) ≡ Err (stop.Gate k next) → ⊥
+not_checked (Ok x) f k next h e = h x e
+not_checked (Err d) f k next h e = cc
+
+no_gate : (c : Cpu) (p : Steps) (v : View) (k next : ℕ) → IsRow c 0 p → run p v ≡ Err (stop.Gate k next) → ⊥
+no_gate b (Stops (stop.Miss s)) v k next row e = row
+no_gate b (Stops (stop.Trap n code)) v k next row e = cc
+no_gate b (Stops (stop.Gate g m)) v k next row e = row
+no_gate b (Ends c cs) v k next row e = cc
+no_gate b (Reads r i w f) v k next row e = not_checked (read_of v r i w) _ k next (λ x q. no_gate b (f x) v k next (row x) q) e
+no_gate b (Room r i w p) v k next row e = not_checked (room_of v r i w) _ k next (λ x q. no_gate b p v k next row q) e
+no_gate b (Loads purpose s m p) v k next row e = row
+no_gate b (Sizes s f) v k next row e = no_gate b (f (size_at v s)) v k next (row (size_at v s)) e
+no_gate b (Rights s f) v k next row e = no_gate b (f (rights_at v s)) v k next (row (rights_at v s)) e
+
+none_checked : (q : Result ℕ (ℕ × ℕ)) (f : ℕ → Result State Stop) (g : ℕ → List ℕ) (k next : ℕ) → ((x : ℕ) → f x ≡ Err (stop.Gate k next) → g x ≡ []) → (or_trap q >>= f) ≡ Err (stop.Gate k next)
+    → names_after (or_trap q) g ≡ []
+none_checked (Ok x) f g k next h e = h x e
+none_checked (Err d) f g k next h e = refl
+
+none_passed : (m : ℕ) (a : Loaded) (r : Result State Stop) (ns : List ℕ) (k next : ℕ) → (r ≡ Err (stop.Gate k next) → ⊥) → (passed m a >>= (λ (_ : ℕ). r)) ≡ Err (stop.Gate k next)
+    → names_after (passed m a) (λ (_ : ℕ). ns) ≡ []
+none_passed m loaded.Done r ns k next h e = absurd (h e)
+none_passed m (loaded.Miss t) r ns k next h e = refl
+none_passed m (loaded.Trap n code) r ns k next h e = refl
+none_passed m (loaded.Gate g) r ns k next h e = refl
+
+pub gate_loads_none : (c : Cpu) (p : Steps) (v : View) (k next : ℕ) → IsRow c 1 p → run p v ≡ Err (stop.Gate k next) → loaded_names p v ≡ []
+gate_loads_none b (Stops e) v k next row calls = refl
+gate_loads_none b (Ends c cs) v k next row calls = refl
+gate_loads_none b (Reads r i w f) v k next row calls = none_checked (read_of v r i w) _ _ k next (λ x q. gate_loads_none b (f x) v k next (row x) q) calls
+gate_loads_none b (Room r i w p) v k next row calls = none_checked (room_of v r i w) _ _ k next (λ x q. gate_loads_none b p v k next row q) calls
+gate_loads_none b (Loads purpose s m p) v k next row calls = none_passed m (probe_of v purpose (selector s)) (run p v) _ k next (λ q. no_gate b p v k next row q) calls
+gate_loads_none b (Sizes s f) v k next row calls = gate_loads_none b (f (size_at v s)) v k next (row (size_at v s)) calls
+gate_loads_none b (Rights s f) v k next row calls = gate_loads_none b (f (rights_at v s)) v k next (row (rights_at v s)) calls
+
 -- Where nothing is missed, all that was loaded is present.
 
 low_null : (s : ℕ) → is_null s ≡ true → is_local s ≡ false

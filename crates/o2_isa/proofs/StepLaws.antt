@@ -18,7 +18,7 @@ use Rattle.o2_isa.specs.Steps.{State, Steps, Gives, run, changed}
 use Rattle.o2_isa.specs.Meaning.{meaning}
 use Rattle.o2_isa.specs.Presence.{with_binds, whole_state, unseen, unseen_result, with_unseen, loaded_names, AsWhole, IsMissed, IsRow, is_in}
 use Rattle.o2_isa.specs.Step.{Answers, AsBoundless, seen, steps_at, step_steps, stepped, step_names, outcome_from, is_miss}
-use Rattle.o2_isa.proofs.Alike.{run_whole, run_missed, frame_refl, frame_changed, run_unseen, bound_made, agrees_changed, few_loads, loaded_present}
+use Rattle.o2_isa.proofs.Alike.{run_whole, run_missed, frame_refl, frame_changed, run_unseen, bound_made, agrees_changed, few_loads, gate_loads_none, loaded_present}
 use Rattle.o2_isa.proofs.Endings.{EndsBy, run_ends}
 use Rattle.o2_isa.proofs.Mnemonics.{steps_are_rows}
 
@@ -93,6 +93,10 @@ other_step Need s a b = refl
 pub step_loads_few : (s : State) → length (step_names s) ≤ 1
 unfolding step_names
 step_loads_few s = few_loads s.cpu 1 (step_steps s) s.view (row_of_step s)
+
+pub gate_step_loads_none : (s : State) (k next : ℕ) → stepped s ≡ Err (stop.Gate k next) → step_names s ≡ []
+unfolding stepped step_names
+gate_step_loads_none s k next calls = gate_loads_none s.cpu (step_steps s) s.view k next (row_of_step s) calls
 
 -- a step changes nothing, or completes and ends by changes
 pub stepped_ends : (o : Outcome) (new old : State) → Answers o new old (stepped old) → (new ≡ old) ⊎ EndsBy old.cpu old.view new

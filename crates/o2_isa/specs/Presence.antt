@@ -85,10 +85,11 @@ pub record SameSelectors (c d : Cpu) : Type 0 where
   pub ss : c.ss ≡ d.ss
   pub ds : c.ds ≡ d.ds
 
--- a row of meanings over these registers: it doesn't miss by itself, its writes come before its bindings, its bindings are
+-- a row of meanings over these registers: it neither misses nor calls a service by itself, its writes come before its bindings, its bindings are
 -- the selectors that it leaves, and it has so many loads at most
 abbrev pub IsRow : Cpu → ℕ → Steps → Type 0
 IsRow c n (Stops (stop.Miss s)) = ⊥
+IsRow c n (Stops (stop.Gate service next)) = ⊥
 IsRow c n (Stops _) = Unit {0}
 IsRow c n (Ends d cs) = WritesFirst cs × SameSelectors d (with_binds cs c)
 IsRow c n (Reads r k w f) = (x : ℕ) → IsRow c n (f x)

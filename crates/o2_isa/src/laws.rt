@@ -1,9 +1,9 @@
 // Laws over the meanings of all instructions.
-ghost use Rattle.std.specs.Prelude.{◌≡◌, ◌≤◌, ℕ, Bool, true, false, length, Err};
+ghost use Rattle.std.specs.Prelude.{◌≡◌, ◌≤◌, ℕ, Bool, true, false, [], length, Err};
 ghost use Rattle.o2_base.specs.declared.selector.Selector.{Selector};
 ghost use Rattle.o2_isa.specs.declared.cpu.Cpu.{Cpu};
 ghost use Rattle.o2_isa.specs.declared.cpu.Outcome.{Outcome};
-ghost use Rattle.o2_isa.specs.declared.cpu.Stop.TheVariants.{Miss};
+ghost use Rattle.o2_isa.specs.declared.cpu.Stop.TheVariants.{Gate, Miss};
 ghost use Rattle.o2_isa.specs.declared.instr.Instr.{Instr};
 ghost use Rattle.o2_isa.specs.View.{Filling, Rest, Hidden, IsBound, Agrees, KeepsFrame};
 ghost use Rattle.o2_isa.specs.Steps.{State};
@@ -21,12 +21,13 @@ pub fn rows_are_rows()
 {}
 
 /// Where nothing is missed a step does the same whatever is present, and both views are alike again after its changes; what
-/// is missed isn't present and is one of the names that the step loads.
+/// is missed isn't present and is one of the names that the step loads. A step that comes to a gate loads none.
 pub fn presence_is_invisible()
     ensures boundless { (f : Filling) (o : Outcome) (new old : State) → IsBound old.view → Answers o new old (stepped old) → AsBoundless f o new old }
     ensures missed { (f : Filling) (s : State) (t : Selector) → IsBound s.view → stepped s ≡ Err (Miss t) → IsMissed s.view t (step_names (whole_state f s)) }
     ensures present { (f : Filling) (o : Outcome) (new old : State) → IsBound old.view → Answers o new old (stepped old) → is_miss o ≡ false → (n : ℕ) → is_in n (step_names (whole_state f old)) ≡ true → old.view.present n ≡ true }
     ensures few { (s : State) → length (step_names s) ≤ 1 }
+    ensures gates { (s : State) (service next : ℕ) → stepped s ≡ Err (Gate service next) → step_names s ≡ [] }
 {}
 
 /// What a step leaves as it is: the map, sizes, marks, and what no instruction sees, which doesn't matter either. Each name
