@@ -36,6 +36,7 @@ few_by b next DosCreateCsAlias few = if_no (has_arguments b.view b.cpu 3) _ (tra
 pub too_few : (v : View) (c : Cpu) (call : SegmentCall) → ((f : Filling) → IsBound v → has_arguments (boundless f v) c (segment_words call) ≡ false) → Gathers v c call (Trap 12)
 too_few v c call few = record {
   asks = λ f number next input known bound. few_by (before_call (boundless f v) number c input known) next call (few f bound);
+  points = λ f number input known bound. tt;
   ready = tt;
   gone = tt;
   names = λ number input known bound f. none_there v (call_names (before_call (boundless f v) number c input known) (Some (OnSegments call))) (few_arguments (before_call (boundless f v) number c input known) (OnSegments call) (few f bound));
@@ -57,6 +58,8 @@ record IsRow (v : View) (c : Cpu) (call : SegmentCall) (a : SegmentArguments) : 
 unaimed : (v : View) (c : Cpu) (call : SegmentCall) (a : SegmentArguments) → targets a ≡ [] → ((x : ℕ → ℕ) → segment_pointers call x ≡ []) → IsRow v c call a → Gathers v c call (Good a)
 unaimed v c call a none nowhere is = record {
   asks = is.row;
+  points = λ f number input known bound.
+      no_names (before_call (boundless f v) number c input known) call (is.fits f bound) (nowhere (argument (boundless f v) c)) ∙ sym (ap (pointed (boundless f v)) none);
   ready = ap (are_ready v) none;
   gone = tt;
   names = λ number input known bound f. none_there v (call_names (before_call (boundless f v) number c input known) (Some (OnSegments call))) (no_names (before_call (boundless f v) number c input known) call (is.fits f bound) (nowhere (argument (boundless f v) c)));
@@ -131,18 +134,22 @@ module _ (v : View) (c : Cpu) (call : SegmentCall) (a : SegmentArguments) (s o n
   pub aimed : (result : Gathered) → Aims v (pointer true s o n ∷ []) a result → Gathers v c call result
   aimed (Good x) aims = record {
     asks = λ f number next input known bound. is.good f number next input known bound (write_tells (before_call (boundless f v) number c input known) s o n true (aims.1.good f)) ∙ ap (λ (y : SegmentArguments). asked y (before_call (boundless f v) number c input known) next) (sym aims.0);
+    points = λ f number input known bound.
+        sym (names_are f number input known bound) ∙ (ap (pointed (boundless f v)) (sym is.target) ∙ ap (λ (y : SegmentArguments). pointed (boundless f v) (targets y)) (sym aims.0));
     ready = ap (λ (y : SegmentArguments). are_ready v (targets y)) aims.0 ∙ (ap (are_ready v) is.target ∙ aims.1.ready);
     gone = tt;
     names = λ number input known bound f. there f number input known bound (aims.1.names f);
   }
   aimed (Trap vector) aims = record {
     asks = λ f number next input known bound. is.bad f number next input known bound (write_tells (before_call (boundless f v) number c input known) s o n false (aims.1.good f)) ∙ ap (trapped (before_call (boundless f v) number c input known)) (sym aims.0);
+    points = λ f number input known bound. tt;
     ready = tt;
     gone = tt;
     names = λ number input known bound f. there f number input known bound (aims.1.names f);
   }
   aimed (Missed z) aims = record {
     asks = λ f number next input known bound. tt;
+    points = λ f number input known bound. tt;
     ready = tt;
     gone = aims.away;
     names = λ number input known bound f. subst (IsMissed v z) (names_are f number input known bound) (aims.missed f);

@@ -10,7 +10,7 @@ use Rattle.o2_world.specs.Calls.{Before, Effect, trapped}
 use Rattle.o2_world.specs.Known.{Known}
 use Rattle.o2_world.specs.Rulings.{aliasing, allocation, sizing}
 use Rattle.o2_world.specs.SegmentCalls.{alloc_args, freed, locked, on_segments, reallocated, ruled_at, unlocked, written_long, written_word}
-use Rattle.o2_run.specs.Room.{Pointer, call_names}
+use Rattle.o2_run.specs.Room.{Pointer, call_names, pointed}
 use Rattle.o2_gate.specs.declared.gathering.SegmentArguments.{SegmentArguments}
 use Rattle.o2_gate.specs.declared.gathering.SegmentArguments.TheVariants as given
 use Rattle.o2_gate.specs.declared.gathering.Gathered.{Gathered}
@@ -66,10 +66,17 @@ NamesFor v names (Good a) = (f : Filling) → ArePresent v (names f)
 NamesFor v names (Trap vector) = (f : Filling) → ArePresent v (names f)
 NamesFor v names (Missed s) = (f : Filling) → IsMissed v s (names f)
 
+-- the names that the call passes as pointers are those of its arguments
+abbrev pub Points : Before → SegmentCall → Gathered → Type 0
+Points b call (Good a) = call_names b (Some (OnSegments call)) ≡ pointed b.view (targets a)
+Points b call (Trap vector) = Unit {0}
+Points b call (Missed s) = Unit {0}
+
 -- over a bus with this view: the row by what was found, whatever is absent; the pointer is ready for a write; what is missed is
 -- absent, and is behind the call's pointer, which passes
 pub record Gathers (v : View) (c : Cpu) (call : SegmentCall) (result : Gathered) : Type 0 where
   pub asks : (f : Filling) (number next : ℕ) (input : List ℕ) (known : Known) → IsBound v → Asks (before_call (boundless f v) number c input known) next call result
+  pub points : (f : Filling) (number : ℕ) (input : List ℕ) (known : Known) → IsBound v → Points (before_call (boundless f v) number c input known) call result
   pub ready : AreReady v result
   pub gone : IsGone v result
   pub names : (number : ℕ) (input : List ℕ) (known : Known) → IsBound v

@@ -1,5 +1,5 @@
 -- From what execute gives to what a step is, over the bus's view and the whole one.
-use Rattle.std.proofs.Common.{true, false, ◌≡◌, ◌⊎◌, inl, inr, refl, sym, subst, ap, ◌∙◌, ℕ, ◌+◌, ◌%◌, ◌≤◌, List, length, take}
+use Rattle.std.proofs.Common.{true, false, ◌≡◌, ◌⊎◌, inl, inr, refl, sym, subst, ap, ◌∙◌, ℕ, ◌+◌, ◌%◌, ◌≤◌, List, length, take, []}
 use Rattle.std.specs.Prelude.{Result, Ok, Err, Option, Some, None, drop, Bool, cond}
 use Rattle.std.proofs.lemmas.Bool.{false≢true}
 use Rattle.o2_base.specs.declared.selector.Selector.{Selector}

@@ -146,5 +146,5 @@ module _ (p : Parts) (t : Shelf) (n : Maps) (device : ℕ) (block : ℕ → List
 
     pub steps_by : (b : Before) (cpu : Cpu) (i j c d r u : Option (List ℕ)) (result : Result Stepped Fault) → Takes b (effect b) cpu old new i j c d r u result → Steps b w cpu q i j c d r u result
     steps_by b cpu i j c d r u (Ok (stepped.Ran ran)) x = done (effect b) ran cpu j c d r u x
-    steps_by b cpu i j c d r u (Ok (stepped.Asked a next)) x = record { effect = x.effect; cpu = x.still.cpu; still = still cpu b.cpu i j c d r u x.still }
+    steps_by b cpu i j c d r u (Ok (stepped.Asked a next)) x = record { effect = x.effect; called = x.called; cpu = x.still.cpu; still = still cpu b.cpu i j c d r u x.still }
     steps_by b cpu i j c d r u (Err f) x = faults b cpu i j c d r u f x

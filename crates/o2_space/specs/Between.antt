@@ -10,7 +10,7 @@ use Rattle.o2_world.specs.Effect.{effect, single_stepped}
 use Rattle.o2_gate.specs.declared.gathering.SegmentArguments.{SegmentArguments}
 use Rattle.o2_gate.specs.Gathers.{asked}
 use Rattle.o2_run.specs.declared.fault.Fault.{Fault}
-use Rattle.o2_stepping.specs.Ran.{TakesText}
+use Rattle.o2_stepping.specs.Ran.{IsCallOf, TakesText}
 use Rattle.o2_stepping.specs.Tallies.{IsTally}
 use Rattle.o2_stepping.specs.declared.one_step.Ran.{Ran}
 use Rattle.o2_stepping.specs.declared.one_step.Stepped.{Stepped}
@@ -35,6 +35,7 @@ pub record IsBetween (w : World) (e : Effect) (ran : Ran) (registers : Cpu) (p :
 pub record IsAskedFor (b : Before) (w : World) (a : SegmentArguments) (next : ℕ) (registers : Cpu) (p : Parts)
     (left_old left_new console_old console_new report_old report_new : Option (List ℕ)) : Type 0 where
   pub effect : effect b ≡ single_stepped b (asked a b next)
+  pub called : IsCallOf b a next
   pub cpu : registers ≡ b.cpu
   pub still : Stays w p left_old left_new console_old console_new report_old report_new
 

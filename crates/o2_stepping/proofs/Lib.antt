@@ -16,3 +16,4 @@ pub mod Selectors
 pub mod NextRooms
 pub mod Here
 pub mod Replying
+pub mod Asked

@@ -5,17 +5,24 @@ use Rattle.o2_outer.specs.Texts.{Gains, GainsSome, IsPrefix}
 use Rattle.o2_isa.specs.declared.cpu.Cpu.{Cpu}
 use Rattle.o2_isa.specs.Presence.{IsMissed, SameSelectors}
 use Rattle.o2_isa.specs.View.{View, Filling}
+use Rattle.o2_isa.specs.declared.cpu.Stop.TheVariants.{Gate}
+use Rattle.o2_isa.specs.Step.{stepped}
+use Rattle.o2_isa.specs.Steps.{state}
 use Rattle.o2_world.specs.World.{is_live}
-use Rattle.o2_world.specs.Calls.{Before, Effect}
+use Rattle.o2_world.specs.declared.types.Row.TheVariants.{OnSegments}
+use Rattle.o2_world.specs.declared.types.SegmentCall.{SegmentCall}
+use Rattle.o2_world.specs.Calls.{Before, Effect, row_of}
+use Rattle.o2_world.specs.SegmentCalls.{on_segments}
 use Rattle.o2_world.specs.Effect.{AsksInput, single_stepped}
 use Rattle.o2_world.specs.Text.{lines_text}
 use Rattle.o2_gate.specs.declared.gathering.SegmentArguments.{SegmentArguments}
-use Rattle.o2_gate.specs.Gathers.{asked}
+use Rattle.o2_gate.specs.Gathers.{asked, targets}
 use Rattle.o2_gate.specs.Pointed.{ArePresent}
 use Rattle.o2_run.specs.declared.steps.Stop.TheVariants as stop
 use Rattle.o2_run.specs.declared.fault.Fault.{Fault}
 use Rattle.o2_run.specs.declared.fault.Fault.TheVariants as fault
 use Rattle.o2_run.specs.Faults.{CauseOf}
+use Rattle.o2_run.specs.Room.{call_names, pointed}
 use Rattle.o2_stepping.specs.Tallies.{IsTally}
 use Rattle.o2_stepping.specs.declared.one_step.Ran.{Ran}
 use Rattle.o2_stepping.specs.declared.one_step.Attempt.{Attempt}
@@ -70,10 +77,20 @@ pub record IsInPart (e : Effect) (registers before : Cpu) (old new : ℕ → Lis
   pub selectors : SameSelectors e.cpu before
   pub changes : e.changes ≡ []
 
+-- the step comes to the gate of a call on segments, whose row is that of these arguments, and so are the names that it passes
+pub record IsCallOf (b : Before) (a : SegmentArguments) (next : ℕ) : Type 0 where
+  pub service : ℕ
+  pub call : SegmentCall
+  pub gate : stepped (state b.cpu b.view) ≡ Err (Gate service next)
+  pub row : row_of service ≡ Some (OnSegments call)
+  pub asks : on_segments call b next ≡ asked a b next
+  pub points : call_names b (Some (OnSegments call)) ≡ pointed b.view (targets a)
+
 -- the step is a call on segments with these arguments, whose pointer is good; nothing is changed, taken or put yet
 pub record IsAsked (b : Before) (e : Effect) (a : SegmentArguments) (next : ℕ) (registers : Cpu) (old new : ℕ → List ℕ)
     (left_old left_new console_old console_new report_old report_new : Option (List ℕ)) : Type 0 where
   pub effect : e ≡ single_stepped b (asked a b next)
+  pub called : IsCallOf b a next
   pub still : IsStill registers b.cpu old new left_old left_new console_old console_new report_old report_new
 
 -- a fault; a step stops for its input alone

@@ -1,17 +1,19 @@
 // One step of a process, all but what an end takes from it.
-ghost use Rattle.std.specs.Prelude.{◌≡◌, ◌<◌, ◌≤◌, ◌+◌, ◌^◌, ◌⊎◌, ◌∷◌, [], ℕ, List, Option, Some, true, false};
+ghost use Rattle.std.specs.Prelude.{◌≡◌, ◌<◌, ◌≤◌, ◌+◌, ◌^◌, ◌⊎◌, ◌∷◌, [], ℕ, List, Option, Some, Err, true, false};
 ghost use Rattle.o2_outer.specs.Texts.{Rose};
 ghost use Rattle.o2_outer.specs.Answers.{Takes, OnFailed};
 ghost use Rattle.o2_outer.specs.Inputs.{GoesOn, IsSeenAs, left_as};
 ghost use Rattle.o2_isa.specs.View.{View, Filling, IsBound, KeepsFrame, Agrees, whole};
 ghost use Rattle.o2_isa.specs.Presence.{IsMissed};
+ghost use Rattle.o2_isa.specs.Step.{stepped};
+ghost use Rattle.o2_isa.specs.Steps.{state};
+ghost use Rattle.o2_isa.specs.declared.cpu.Stop.TheVariants.{Gate};
 ghost use Rattle.o2_world.specs.Known.{Known};
 ghost use Rattle.o2_world.specs.World.{Traps};
 ghost use Rattle.o2_world.specs.Text.{lines_text};
 ghost use Rattle.o2_world.specs.Effect.{effect, single_stepped, has_trap_flag as trap_flag_of};
-ghost use Rattle.o2_world.specs.Calls.{Before, Effect, trapped};
+ghost use Rattle.o2_world.specs.Calls.{Before, Effect, row_of, trapped};
 ghost use Rattle.o2_world.specs.SegmentCalls.{on_segments};
-ghost use Rattle.o2_world.specs.declared.types.Row.{Row as RowThere};
 ghost use Rattle.o2_world.specs.declared.types.Row.TheVariants as Rows;
 ghost use Rattle.o2_gate.specs.Befores.{boundless, before_call, IsKnown};
 ghost use Rattle.o2_gate.specs.Pointed.{IsAway, ArePresent, are_ready};
@@ -199,7 +201,8 @@ fn ask<B: Ranges, R: Sink>(
 ) -> Result<Attempt, Fault>
     ensures leaves { (f : Filling) (bytes : List ℕ) (known : Known) (i c : Option (List ℕ)) → IsBound (B.view bus.old) → i ≡ Some bytes
         → let b = before_call (boundless f (B.view bus.old)) pid cpu.now bytes known in
-        Leaves b (single_stepped b (on_segments which b next)) cpu.now (whole f (B.view bus.old)).bytes (whole f (B.view bus.new)).bytes
+        (service : ℕ) → row_of service ≡ Some (Rows.OnSegments which) → stepped (state b.cpu b.view) ≡ Err (Gate service next)
+        → Leaves b (single_stepped b (on_segments which b next)) cpu.now (whole f (B.view bus.old)).bytes (whole f (B.view bus.new)).bytes
         i i c c (R.taken report.old) (R.taken report.new) result }
     ensures same { B.view bus.new ≡ B.view bus.old }
     ensures ready { OnAsked result (λ a. are_ready (B.view bus.old) (targets a) ≡ true) }

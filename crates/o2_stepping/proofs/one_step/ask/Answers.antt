@@ -12,11 +12,19 @@ use Rattle.o2_stepping.proofs.Puts.{no_hands, trap_part}
 use Rattle.o2_stepping.proofs.one_step.ask.Goals as goal
 
 pub returns-in-Good-clause-leaves : goal.returns-in-Good-clause-leaves
-returns-in-Good-clause-leaves g c = λ f input known i d bound left.
+returns-in-Good-clause-leaves g c = λ f input known i d bound left service row gate.
     let v : View = g.B.Bus.view c.args.bus.now in
     let b = before_call (boundless f v) c.args.pid c.args.cpu.now input known in
     record {
       effect = ap (λ (e : Effect). single_stepped b e) (c.in-Good.ensures.gathers.asks f c.args.pid c.args.next input known bound);
+      called = record {
+        service = service;
+        call = c.args.which;
+        gate = gate;
+        row = row;
+        asks = c.in-Good.ensures.gathers.asks f c.args.pid c.args.next input known bound;
+        points = c.in-Good.ensures.gathers.points f c.args.pid input known bound;
+      };
       still = record {
         cpu = refl;
         bytes = whole_same f v (g.B.Bus.view c.gather.new.bus) c.gather.ensures.same;
@@ -36,7 +44,7 @@ pub returns-in-Good-clause-puts : goal.returns-in-Good-clause-puts
 returns-in-Good-clause-puts g c = λ n. no_hands _ _
 
 pub returns-in-Trap-clause-leaves : goal.returns-in-Trap-clause-leaves
-returns-in-Trap-clause-leaves g c = λ f input known i d bound left.
+returns-in-Trap-clause-leaves g c = λ f input known i d bound left service row gate.
     let v : View = g.B.Bus.view c.args.bus.now in
     let new : View = g.B.Bus.view c.gather.new.bus in
     let b = before_call (boundless f v) c.args.pid c.args.cpu.now input known in
@@ -66,7 +74,7 @@ returns-in-Trap-clause-part g c = λ f input known n bound.
     (ap (λ (e : Effect). single_stepped b e) (c.in-Trap.ensures.gathers.asks f c.args.pid c.args.next input known bound)) (c.trap.ensures.part n)
 
 pub returns-in-Missed-clause-leaves : goal.returns-in-Missed-clause-leaves
-returns-in-Missed-clause-leaves g c = λ f input known i d bound left.
+returns-in-Missed-clause-leaves g c = λ f input known i d bound left service row gate.
     record {
       cpu = refl;
       bytes = whole_same f (g.B.Bus.view c.args.bus.now) (g.B.Bus.view c.gather.new.bus) c.gather.ensures.same;

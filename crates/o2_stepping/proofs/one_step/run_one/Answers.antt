@@ -4,6 +4,7 @@ use Rattle.o2_outer.specs.Inputs.{left_as}
 use Rattle.o2_outer.proofs.TextLemmas.{gains_none}
 use Rattle.o2_isa.specs.declared.cpu.Stop.TheVariants as stop
 use Rattle.o2_isa.specs.View.{View, Filling, IsBound, whole, no_hidden}
+use Rattle.o2_isa.specs.Step.{stepped}
 use Rattle.o2_isa.specs.Steps.{State as Machine, state}
 use Rattle.o2_world.specs.Calls.{Effect, serviced, trapped}
 use Rattle.o2_world.specs.Effect.{answered, single_stepped}
@@ -511,7 +512,9 @@ returns-in-Some-clause-leaves_as g c = λ text m f input known bound left same.
     subst (λ (e : Effect). Leaves b e cpu (whole f v).bytes (whole f new).bytes i i d d (g.R.Sink.taken c.args.report.now) (g.R.Sink.taken c.ask.new.report) c.ask.result)
     (sym (asks_by b c.in-Gate.service c.in-Gate.next c.in-Some.which c.in-Some.ensures.some (gate_boundless f v w c.args.cpu.now cpu c.in-Gate.service c.in-Gate.next (c.in-Gate.ensures.boundless f bound))))
     (asks_from f c.args.pid input known c.in-Some.which c.in-Gate.next cpu new i i d d _ _ c.ask.result (state cpu w) (state c.args.cpu.now v) step.1
-    (c.ask.ensures.leaves f input known i d bound_then left))
+    (c.ask.ensures.leaves f input known i d bound_then left c.in-Gate.service c.in-Some.ensures.some
+    (subst (λ (s : Machine). stepped (state s.cpu (boundless f s.view)) ≡ Err (stop.Gate c.in-Gate.service c.in-Gate.next)) (sym step.1)
+    (gate_boundless f v w c.args.cpu.now cpu c.in-Gate.service c.in-Gate.next (c.in-Gate.ensures.boundless f bound)))))
 
 pub returns-in-Some-clause-leaves : goal.returns-in-Some-clause-leaves
 returns-in-Some-clause-leaves g c = λ f input known bound left same. returns-in-Some-clause-leaves_as g c None tt f input known bound left same
