@@ -112,26 +112,37 @@ fn change<S: SwapDevice>(machine: &Machine, swap: &mut S) -> bool
     swap.write(block, &[2u8; 512]) == Dev::Done
 }
 
+/// What is wrong with such a machine, or no text.
+fn wrong_of<S: SwapDevice>(
+    machine: &mut Machine,
+    outside: &mut Outside,
+    swap: &mut S,
+) -> &'static str
+    requires { IsGoing machine.old (S.blocks swap.old) }
+{
+    if !takes(machine, outside, swap, 7) {
+        return "one of the first turns is no step";
+    }
+    if !change(machine, swap) {
+        return "the segment is in memory, or has no blocks";
+    }
+    if !takes(machine, outside, swap, 5) {
+        return "one of the turns behind is no step";
+    }
+    match machine.process(1) {
+        Some((cpu, _, _)) if cpu.ax == 2 => "",
+        _ => "another byte was read",
+    }
+}
+
 /// What is wrong, or no text.
 fn wrong(alloc: Global) -> Result<&'static str, NoMemory> {
     let mut outside = made_outside(alloc)?;
     let mut swap = MemSwap::new(alloc, 2048, Vec::new(alloc))?;
-    let Some(mut machine) = begun(alloc, &mut outside.report, &swap)? else {
-        return Ok("it doesn't begin");
-    };
-    if !takes(&mut machine, &mut outside, &mut swap, 7) {
-        return Ok("one of the first turns is no step");
+    match begun(alloc, &mut outside.report, &swap)? {
+        Some(mut machine) => Ok(wrong_of(&mut machine, &mut outside, &mut swap)),
+        None => Ok("it doesn't begin"),
     }
-    if !change(&machine, &mut swap) {
-        return Ok("the segment is in memory, or has no blocks");
-    }
-    if !takes(&mut machine, &mut outside, &mut swap, 5) {
-        return Ok("one of the turns behind is no step");
-    }
-    Ok(match machine.process(1) {
-        Some((cpu, _, _)) if cpu.ax == 2 => "",
-        _ => "another byte was read",
-    })
 }
 
 #[test]

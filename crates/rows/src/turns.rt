@@ -295,20 +295,33 @@ fn comes_to(machine: &mut Machine, outside: &mut Outside, swap: &mut SureSwap, r
         && machine.process(2).is_none()
 }
 
+/// What is wrong with a machine for a row, or no text.
+fn wrong_of(
+    alloc: Global,
+    machine: &mut Machine,
+    outside: &mut Outside,
+    swap: &mut SureSwap,
+    row: &Row,
+) -> Result<&'static str, NoMemory>
+    requires { IsGoing machine.old swap.old }
+{
+    if !comes_to(machine, outside, swap, row) {
+        return Ok("another answer, other counts, another state or other processes");
+    }
+    if !is_final(alloc, machine, swap, row)? {
+        return Ok("a later turn isn't the same");
+    }
+    Ok("")
+}
+
 /// What is wrong with a row, or no text.
 fn wrong(alloc: Global, row: &Row) -> Result<&'static str, NoMemory> {
     let mut first = made_outside(alloc, row.takes, row.console, row.report)?;
     let mut swap = SureSwap::new(alloc, 1)?;
-    let Some(mut machine) = begun(alloc, row.budget, row.changes, &mut first.report, &swap)? else {
-        return Ok("it doesn't begin");
-    };
-    if !comes_to(&mut machine, &mut first, &mut swap, row) {
-        return Ok("another answer, other counts, another state or other processes");
+    match begun(alloc, row.budget, row.changes, &mut first.report, &swap)? {
+        Some(mut machine) => wrong_of(alloc, &mut machine, &mut first, &mut swap, row),
+        None => Ok("it doesn't begin"),
     }
-    if !is_final(alloc, &mut machine, &mut swap, row)? {
-        return Ok("a later turn isn't the same");
-    }
-    Ok("")
 }
 
 #[test]
