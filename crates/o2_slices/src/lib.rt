@@ -1,7 +1,6 @@
 //! Steps of a process over a store that are done at once, one behind another: from what is in memory, with nothing put or taken.
 #![tactic(auto)]
 
-mod here;
 mod slicing;
 mod steps;
 

@@ -15,13 +15,13 @@ ghost use Rattle.o2_run.specs.Room.{touched};
 ghost use Rattle.o2_stepping.specs.Ran.{IsDone};
 ghost use Rattle.o2_slices.specs.Slices.{AreSliced, IsStep, IsTry, quiet, seat};
 
-use crate::here::{are_here, has_trap_flag};
 use o2_bus::Bus;
 use o2_core::step_one;
 use o2_isa::{Cpu, Outcome};
 use o2_regions::Regions;
 use o2_segbus::SegBus;
 use o2_stands::lawful;
+use o2_stepping::{are_here, has_trap_flag};
 use o2_store::Store;
 
 /// One step, where it is done at once; whether it is. It isn't where it misses a segment, calls a service or raises an exception:

@@ -72,7 +72,8 @@ pub enum Attempt {
 }
 
 /// Whether the trap flag is set.
-pub(crate) fn has_trap_flag(flags: u16) -> bool
+#[inline(always)]
+pub fn has_trap_flag(flags: u16) -> bool
     ensures { result ≡ trap_flag_of flags }
 {
     is_set(flags, Flag::Trap)

@@ -102,7 +102,7 @@ fn is_here(regions: &Regions, pid: u16, sel: u16) -> bool
 
 /// Whether all segments in the segment registers are in memory.
 #[inline(always)]
-pub(crate) fn are_here(regions: &Regions, pid: u16, cpu: &Cpu) -> bool
+pub fn are_here(regions: &Regions, pid: u16, cpu: &Cpu) -> bool
     requires { IsProcess regions.now pid }
     ensures { result ≡ are_here regions.now pid cpu.now }
 {
