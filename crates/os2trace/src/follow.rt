@@ -1,6 +1,6 @@
 // The steps of a run, each with what the processor answers to it, which is asked before it is taken: a step that ends its process
 // leaves nothing to look at. It is asked over a copy of what the process holds.
-ghost use Rattle.std.specs.Prelude.{◌≡◌, ◌≤◌, ◌<◌, length, IfSome};
+ghost use Rattle.std.specs.Prelude.{◌≡◌, ◌≤◌, ◌<◌, length, IfOk, IfSome};
 ghost use Rattle.o2_conf.specs.Limits.{IsWithinLimits};
 ghost use Rattle.o2_open.specs.Loads.{HasEnvironments, IsLinked};
 ghost use Rattle.o2_sched.specs.Schedule.{pick_of};
@@ -15,7 +15,7 @@ use o2_bus::Plain;
 use o2_core::step_plain;
 use o2_desc::Access;
 use o2_isa::Outcome;
-use o2_machine::{Machine, Steps, Turn};
+use o2_machine::{BeginFault, Machine, Steps, Turn};
 use o2_open::Session;
 use o2_outer::{MemSink, Sink, SureSource, SureSwap};
 use o2_place::SegId;
@@ -231,44 +231,53 @@ fn hold(
     plain.hold(alloc, pid, index, name, access)
 }
 
-/// A machine at the front of its run, with the lines of its starts put to the report; none where there is no memory.
-fn front(alloc: Global, session: Session, input: &[u8], report: &mut MemSink) -> Option<Runner>
+/// A machine at the front of its run, with the lines of its starts put to the report; none where a start is refused.
+fn front(
+    alloc: Global,
+    session: Session,
+    input: &[u8],
+    report: &mut MemSink,
+) -> Result<Option<Runner>, NoMemory>
     requires within { IsWithinLimits session.conf }
     requires environments { HasEnvironments session }
     requires linked { IsLinked session.conf session.linked }
-    ensures { IfSome result (λ r. IsGoing r.machine r.swap) }
+    ensures { IfOk result (λ o. IfSome o (λ r. IsGoing r.machine r.swap)) }
 {
     let Session { conf, linked } = session;
-    let Ok(bytes) = Bytes::from_slice(alloc, input) else {
-        return None;
-    };
+    let bytes = Bytes::from_slice(alloc, input)?;
     let Ok(swap) = SureSwap::new(alloc, conf.swap) else {
-        return None;
+        return Err(NoMemory);
     };
     match Machine::begin(alloc, &conf, linked, conf.swap, report) {
-        Err(_) => None,
-        Ok(machine) => Some(Runner {
+        Err(BeginFault::Start(_, _)) => Ok(None),
+        Err(BeginFault::NoMemory) => Err(NoMemory),
+        Err(BeginFault::SinkFault) => Err(NoMemory),
+        Ok(machine) => Ok(Some(Runner {
             machine,
             input: SureSource::new(bytes),
             swap,
             copied: None,
-        }),
+        })),
     }
 }
 
 /// A machine at the front of its run, and the lines of its starts.
-fn started(alloc: Global, session: Session, input: &[u8]) -> Option<(Runner, MemSink)>
+fn started(
+    alloc: Global,
+    session: Session,
+    input: &[u8],
+) -> Result<Option<(Runner, MemSink)>, NoMemory>
     requires within { IsWithinLimits session.conf }
     requires environments { HasEnvironments session }
     requires linked { IsLinked session.conf session.linked }
-    ensures { IfSome result (λ p. IsGoing p.0.machine p.0.swap) }
+    ensures { IfOk result (λ o. IfSome o (λ p. IsGoing p.0.machine p.0.swap)) }
 {
     let Ok(mut report) = sink(alloc, START_ROOM) else {
-        return None;
+        return Err(NoMemory);
     };
-    match front(alloc, session, input, &mut report) {
-        Some(runner) => Some((runner, report)),
-        None => None,
+    match front(alloc, session, input, &mut report)? {
+        Some(runner) => Ok(Some((runner, report))),
+        None => Ok(None),
     }
 }
 
@@ -370,7 +379,10 @@ pub fn follow(
     requires environments { HasEnvironments session }
     requires linked { IsLinked session.conf session.linked }
 {
-    let Some((mut runner, report)) = started(rt.alloc(), session, input) else {
+    let Ok(begun) = started(rt.alloc(), session, input) else {
+        anyhow::bail!("there is no memory");
+    };
+    let Some((mut runner, report)) = begun else {
         eprintln!(rt; "os2trace: it doesn't start: `os2why` with the same words says why")?;
         return Ok(ExitCode::from(REFUSED));
     };
