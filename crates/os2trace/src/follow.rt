@@ -103,49 +103,56 @@ impl Runner {
         Some(id)
     }
 
-    /// The bytes of a segment, none where there is none, or no memory for them.
-    fn bytes(&mut self, alloc: Global, id: SegId) -> Option<Vec<u8>>
+    /// The bytes of a segment, none where there is none.
+    fn bytes(&mut self, alloc: Global, id: SegId) -> Result<Option<Vec<u8>>, AllocError>
         requires going { IsGoing self.old.machine self.old.swap }
         ensures going { IsGoing self.new.machine self.new.swap }
     {
         let machine = &self.machine;
-        match bytes_of(alloc, &machine.space, id, &mut self.swap) {
-            Ok(bytes) => bytes,
-            Err(AllocError) => None,
-        }
+        bytes_of(alloc, &machine.space, id, &mut self.swap)
     }
 
     /// The bytes of an instruction at a place of a segment, ten at most.
-    fn code(&mut self, alloc: Global, process: u16, selector: u16, at: u16) -> ([u8; 10], usize)
+    fn code(
+        &mut self,
+        alloc: Global,
+        process: u16,
+        selector: u16,
+        at: u16,
+    ) -> Result<([u8; 10], usize), AllocError>
         requires going { IsGoing self.old.machine self.old.swap }
         ensures going { IsGoing self.new.machine self.new.swap }
     {
         let Some(id) = self.named(process, Selector(selector)) else {
-            return ([0u8; 10], 0);
+            return Ok(([0u8; 10], 0));
         };
         if let Some(window) = self.machine.space.store.window(id) {
-            return ten_at(window, at);
+            return Ok(ten_at(window, at));
         }
-        match self.bytes(alloc, id) {
-            Some(bytes) => ten_at(bytes.as_slice(), at),
-            None => ([0u8; 10], 0),
+        match self.bytes(alloc, id)? {
+            Some(bytes) => Ok(ten_at(bytes.as_slice(), at)),
+            None => Ok(([0u8; 10], 0)),
         }
     }
 
     /// The step that is next, none at the end of the run.
-    fn before(&mut self, alloc: Global) -> Option<Before>
+    fn before(&mut self, alloc: Global) -> Result<Option<Before>, AllocError>
         requires going { IsGoing self.old.machine self.old.swap }
         ensures going { IsGoing self.new.machine self.new.swap }
     {
-        let process = self.next_process()?;
-        let (cpu, _, _) = self.machine.process(process)?;
-        let (bytes, count) = self.code(alloc, process, cpu.cs, cpu.ip);
-        Some(Before {
+        let Some(process) = self.next_process() else {
+            return Ok(None);
+        };
+        let Some((cpu, _, _)) = self.machine.process(process) else {
+            return Ok(None);
+        };
+        let (bytes, count) = self.code(alloc, process, cpu.cs, cpu.ip)?;
+        Ok(Some(Before {
             process,
             cpu,
             bytes,
             count,
-        })
+        }))
     }
 
     /// A memory in which a process holds what it holds here.
@@ -175,7 +182,7 @@ impl Runner {
         let Some((id, access)) = self.held(process, index) else {
             return Ok(());
         };
-        let Some(bytes) = self.bytes(alloc, id) else {
+        let Some(bytes) = self.bytes(alloc, id)? else {
             return Ok(());
         };
         if !bytes.is_empty() && bytes.len() <= 65536 {
@@ -350,7 +357,7 @@ fn follow_on(rt: &HostRuntime, runner: &mut Runner, choice: Choice) -> anyhow::R
     requires going { IsGoing runner.old.machine runner.old.swap }
 {
     for number in 1..=choice.to.min(1 << 60) {
-        let Some(before) = runner.before(rt.alloc()) else {
+        let Some(before) = runner.before(rt.alloc())? else {
             finish(rt, runner)?;
             return Ok(ExitCode::SUCCESS);
         };
