@@ -147,6 +147,10 @@ def oddities(good):
     odd("the process with a wrong type", second + "arguments = 1\n", "  that is in line 11")
     odd("the process with a wrong length", second.replace('"HELLO"', f'"{"x" * 256}"').replace("x" * 256, "HELLO", 1), "  that is in line 10")
     odd("the process with a zero byte", second + 'environment = ["A=\\u0000"]\n', "  that is in line 11")
+    large = '[[process]]\nmodule = "HELLO"\nenvironment = 1\n'
+    odd("the process with a large environment", good + f'environment = ["{"x" * 65_530}"]\n' + large, "  that is in line 9")
+    odd("the process with long arguments", good + f'arguments = "{"x" * 65_528}"\n' + large, "  that is in line 7")
+    odd("an environment of just the size", good + f'arguments = "{"x" * 65_527}"\n')
     odd("the process without a module", good + "[[process]]\n", "  that is in line 9")
 
 

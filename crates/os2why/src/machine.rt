@@ -211,17 +211,53 @@ fn are_texts(value: &Value) -> bool {
     }
 }
 
-/// Whether a process has this key as it is to be. The size of its environment isn't looked at.
+/// How many bytes a text of a process has, 0 where it has none of this name.
+fn text_size(process: &Table, name: &str) -> usize {
+    match process.get(name).and_then(Value::as_str) {
+        Some(text) => text.len(),
+        None => 0,
+    }
+}
+
+/// How many bytes the environment segment of a process has: its texts with a zero byte each, one more, the module's name with one, and
+/// the arguments with two.
+fn environment_size(process: &Table) -> usize {
+    let mut size = text_size(process, "module")
+        .saturating_add(text_size(process, "arguments"))
+        .saturating_add(4);
+    if let Some(items) = process.get("environment").and_then(Value::as_array) {
+        for item in items {
+            if let Some(text) = item.as_str() {
+                size = size.saturating_add(text.len()).saturating_add(1);
+            }
+        }
+    }
+    size
+}
+
+/// Whether a value is the name of a module.
+fn is_module(value: &Value) -> bool {
+    match value.as_str() {
+        Some(text) => is_text(value) && !text.is_empty() && text.len() <= 255,
+        None => false,
+    }
+}
+
+/// Whether a process has this key as it is to be. What the environment may be hangs on the other two, too.
 fn is_well(process: &Table, key: Key) -> bool {
-    match process.get(member_of(key)) {
-        None => key != Key::ProcessModule,
-        Some(value) => match key {
-            Key::ProcessModule => match value.as_str() {
-                Some(text) => is_text(value) && !text.is_empty() && text.len() <= 255,
-                None => false,
-            },
-            Key::ProcessArguments => is_text(value),
-            _ => are_texts(value),
+    let value = process.get(member_of(key));
+    match key {
+        Key::ProcessModule => match value {
+            Some(value) => is_module(value),
+            None => false,
+        },
+        Key::ProcessArguments => match value {
+            Some(value) => is_text(value),
+            None => true,
+        },
+        _ => match value {
+            Some(value) => are_texts(value) && environment_size(process) <= 65_536,
+            None => environment_size(process) <= 65_536,
         },
     }
 }
