@@ -10,7 +10,7 @@ use Rattle.o2_world.specs.Views.{segment_bytes}
 use Rattle.o2_world.specs.Changes.{Finishes}
 use Rattle.o2_isa.specs.SegmentLoads.{LoadsByRules}
 use Rattle.o2_world.specs.Calls.{Before, Effect}
-use Rattle.o2_world.specs.Moves.{Moves}
+use Rattle.o2_world.specs.Moves.{AllMoves}
 use Rattle.o2_world.specs.Effect.{effect}
 use Rattle.o2_world.specs.Run.{all_changes, before, changed, worked, working, acted, step, chosen_step, is_over, any_lives, live_flags, next_dispatch}
 use Rattle.o2_world.specs.Tied.{AreFitChanges, IsSound, IsTied}
@@ -36,7 +36,7 @@ next_process s w runs =
 pub record IsOrderly (b : Before) (e : Effect) : Type 0 where
   pub ruled : LoadsByRules b.view b.cpu e.cpu
   pub sizes : (q : ℕ) → length (e.bytes q) ≡ length (b.view.bytes q)
-  pub moves : Moves b e.cpu e.changes
+  pub moves : AllMoves b e.cpu e.changes
 
 pub effect_orderly : (b : Before) → IsOrderly b (effect b)
 effect_orderly b = record { ruled = effect_ruled b; sizes = effect_sizes b; moves = effect_moves b }
