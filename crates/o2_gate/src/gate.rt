@@ -65,6 +65,7 @@ pub fn segment_call(service: u16) -> Option<SegmentCall>
         Some(Row::DosWrite) => None,
         Some(Row::DosMemAvail) => None,
         Some(Row::OnSegments(call)) => Some(call),
+        Some(Row::OnShared(_)) => unreachable!(),
     }
 }
 

@@ -175,5 +175,5 @@ returns-in-Some-DosMemAvail-clause-puts g c = c.dos_mem_avail.ensures.puts _
 pub unreachable-requires : goal.unreachable-requires
 unreachable-requires g c = not_plain c.args.service c.row_of.result c.in-Some-OnSegments.field-0 _ c.requires.plain c.row_of.ensures.row c.in-Some-OnSegments.is c.in-Some-OnSegments.field-0-is
 
-pub unreachable-in-Some-OnShared-requires : goal.unreachable-in-Some-OnShared-requires
-unreachable-in-Some-OnShared-requires g c = not_shared c.args.service c.row_of.result c.in-Some-OnShared.field-0 _ c.requires.plain c.row_of.ensures.row c.in-Some-OnShared.is c.in-Some-OnShared.field-0-is
+pub unreachable-requires-in-Some-OnShared : goal.unreachable-requires-in-Some-OnShared
+unreachable-requires-in-Some-OnShared g c = not_shared c.args.service c.row_of.result c.in-Some-OnShared.field-0 _ c.requires.plain c.row_of.ensures.row c.in-Some-OnShared.is c.in-Some-OnShared.field-0-is
