@@ -15,5 +15,5 @@ pub mod Puts
 pub mod Selectors
 pub mod NextRooms
 pub mod Here
-pub mod Replying
+pub mod ReplyLines
 pub mod Asked

@@ -5,7 +5,6 @@ use Rattle.o2_isa.specs.Presence.{SameSelectors}
 use Rattle.o2_world.specs.declared.types.Argument.{Argument}
 use Rattle.o2_world.specs.declared.types.Row.{Row}
 use Rattle.o2_world.specs.declared.types.Row.TheVariants.{DosExit, DosGetPid, DosRead, DosWrite, DosMemAvail, OnSegments, OnShared}
-use Rattle.o2_world.proofs.Rows.{built_is_plain}
 use Rattle.o2_world.specs.Calls.{Before, Effect, argument, dos_exit, dos_read, dos_write, has_arguments, is_console, IsPlain, may_give, may_take, may_write, returned, row_of, served_by, serviced, told, transfer_of}
 
 abbrev Stay : Before → Effect → Type 0

@@ -1,11 +1,14 @@
-use Rattle.std.proofs.Common.{arith, Some, ap, refl, sym, ◌∙◌}
+use Rattle.std.proofs.Common.{arith, Some, ap, refl, sym, ◌∙◌, subst}
+use Rattle.o2_regions.specs.declared.answer.Roomed.{Roomed}
 use Rattle.o2_regions.specs.Maps.{region_of}
+use Rattle.o2_store.specs.Shelf.{Shelf}
 use Rattle.o2_store.proofs.Loads.{added_load}
 use Rattle.o2_changes.specs.Worlds.{new_segment}
 use Rattle.o2_changes.proofs.KeepingHolds.{holds_trans, told_holds}
 use Rattle.o2_world.specs.Changes.{Makes, with_change}
 use Rattle.o2_stands.specs.Knows.{known_in}
 use Rattle.o2_stands.specs.Moves.{moved}
+use Rattle.o2_segs.specs.Limits.{KeepsLimits, made_in}
 use Rattle.o2_segs.specs.Made.{allocation_to}
 use Rattle.o2_segs.proofs.Making.{added_entry, added_map, added_place, done_answers_any, made_locked_by, made_matches, made_plain_by, moved_made, named_apart, named_behind, new_adds, new_name, no_stop, refusal_answers_any, run_same, stop_answers_any, stop_leaves, to_full, to_some}
 use Rattle.o2_segs.proofs.Resizing.{refusal_moved}
@@ -177,7 +180,8 @@ returns-in-None-lock_new-clause-holds g c =
 
 pub returns-then-not-is_locked-clause-limits : goal.returns-then-not-is_locked-clause-limits
 returns-then-not-is_locked-clause-limits g c =
-    limits_then c.args.store.now c.make.new.store c.make.new.store c.args.regions.now c.args.regions.now c.hold_made.new.regions 1 0 (limits_added c.args.store.now c.make.new.store c.args.regions.now c.in-Some.id _ c.in-Some.ensures.added) c.hold_made.ensures.limits
+    subst (λ (r : Roomed). KeepsLimits c.args.store.now c.args.regions.now c.make.new.store c.hold_made.new.regions (made_in r)) (sym c.hold_made.ensures.answer)
+    (limits_then c.args.store.now c.make.new.store c.make.new.store c.args.regions.now c.args.regions.now c.hold_made.new.regions 1 0 (limits_added c.args.store.now c.make.new.store c.args.regions.now c.in-Some.id _ c.in-Some.ensures.added) c.hold_made.ensures.limits)
 
 pub returns-in-Some-lock_new-clause-limits : goal.returns-in-Some-lock_new-clause-limits
 returns-in-Some-lock_new-clause-limits g c =
@@ -189,8 +193,9 @@ returns-in-Some-lock_new-clause-limits g c =
 
 pub returns-in-None-lock_new-clause-limits : goal.returns-in-None-lock_new-clause-limits
 returns-in-None-lock_new-clause-limits g c =
-    limits_then c.args.store.now c.make.new.store c.lock_new.new.store c.args.regions.now c.args.regions.now c.hold_made-in-None-lock_new.new.regions 1 0 (limits_added c.args.store.now c.make.new.store c.args.regions.now c.in-Some.id _ c.in-Some.ensures.added)
-    (limits_then c.make.new.store c.lock_new.new.store c.lock_new.new.store c.args.regions.now c.lock_new.new.regions c.hold_made-in-None-lock_new.new.regions 0 0 c.lock_new.ensures.limits c.hold_made-in-None-lock_new.ensures.limits)
+    subst (λ (r : Roomed). KeepsLimits c.args.store.now c.args.regions.now c.lock_new.new.store c.hold_made-in-None-lock_new.new.regions (made_in r)) (sym c.hold_made-in-None-lock_new.ensures.answer)
+    (limits_then c.args.store.now c.make.new.store c.lock_new.new.store c.args.regions.now c.args.regions.now c.hold_made-in-None-lock_new.new.regions 1 0 (limits_added c.args.store.now c.make.new.store c.args.regions.now c.in-Some.id _ c.in-Some.ensures.added)
+    (limits_then c.make.new.store c.lock_new.new.store c.lock_new.new.store c.args.regions.now c.lock_new.new.regions c.hold_made-in-None-lock_new.new.regions 0 0 c.lock_new.ensures.limits c.hold_made-in-None-lock_new.ensures.limits))
 
 pub returns-in-None-clause-limits : goal.returns-in-None-clause-limits
 returns-in-None-clause-limits g c = limits_more c.args.store.now c.make.new.store c.args.regions.now c.args.regions.now 0 1 (limits_same c.args.store.now c.make.new.store c.args.regions.now c.args.regions.now c.in-None.ensures.none.1 refl)

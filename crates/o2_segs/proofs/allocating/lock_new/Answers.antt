@@ -102,7 +102,7 @@ returns-in-Some-clause-loads g c = λ r e f.
 pub returns-in-Some-clause-limits : goal.returns-in-Some-clause-limits
 returns-in-Some-clause-limits g c =
     limits_then c.args.store.now c.bring_in.new.store c.unmake.new.store c.args.regions.now c.bring_in.new.regions c.bring_in.new.regions 0 0 (limits_moved c.args.store.now c.bring_in.new.store c.args.regions.now c.bring_in.new.regions c.bring_in.ensures.keeps.tables c.bring_in.ensures.maps)
-    (limits_unmade c.bring_in.new.store c.unmake.new.store c.bring_in.new.regions c.args.id c.law.ensures.shelf c.law-2.ensures.shelf c.unmake.ensures.removed
+    (limits_unmade c.bring_in.new.store c.unmake.new.store c.bring_in.new.regions c.args.id c.law.ensures.shelf c.law-in-Some.ensures.shelf c.unmake.ensures.removed
     (newest_still c.args.store.now c.bring_in.new.store c.args.id c.bring_in.ensures.keeps.tables c.requires.newest) c.unmake.ensures.made)
 
 pub returns-in-None-clause-limits : goal.returns-in-None-clause-limits

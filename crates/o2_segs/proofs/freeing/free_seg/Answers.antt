@@ -61,7 +61,7 @@ returns-then-is_kept-clause-limits c = limits_refl c.args.store.now c.args.regio
 
 pub returns-else-is_kept-clause-limits : goal.returns-else-is_kept-clause-limits
 returns-else-is_kept-clause-limits c =
-    limits_dropped c.args.store.now c.let_go-left.new.store c.args.regions.now c.let_go-left.new.regions c.in-Some.held.id c.args.pid c.index-index.result c.law-2.ensures.shelf c.law-3.ensures.shelf
+    limits_dropped c.args.store.now c.let_go-left.new.store c.args.regions.now c.let_go-left.new.regions c.in-Some.held.id c.args.pid c.index-index.result c.law-2.ensures.shelf c.law-in-Some.ensures.shelf
     c.let_go-left.ensures.sweeps c.let_go-left.ensures.takes
 
 pub returns-in-None-clause-limits : goal.returns-in-None-clause-limits

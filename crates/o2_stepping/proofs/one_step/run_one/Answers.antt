@@ -495,8 +495,8 @@ returns-in-Ok-Back-clause-part g c = λ f input known bound left same. returns-i
 
 -- A call on segments.
 
-pub call-requires-clause-plain : goal.call-requires-clause-plain
-call-requires-clause-plain g c = c.in-None.ensures.none refl
+pub call-requires : goal.call-requires
+call-requires g c = record { plain = c.in-None.ensures.none refl }
 
 pub returns-in-Some-clause-leaves_as : goal.returns-in-Some-clause-leaves_as
 returns-in-Some-clause-leaves_as g c = λ text m f input known bound left same.

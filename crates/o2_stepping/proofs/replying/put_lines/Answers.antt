@@ -1,4 +1,4 @@
-use Rattle.o2_stepping.proofs.Replying.{all_put, some_put}
+use Rattle.o2_stepping.proofs.ReplyLines.{all_put, some_put}
 use Rattle.o2_stepping.proofs.replying.put_lines.Goals as goal
 
 pub returns-in-Done-clause-report : goal.returns-in-Done-clause-report

@@ -1,6 +1,6 @@
 use Rattle.std.proofs.Common.{true, false, sym, ◌∙◌, refl}
 use Rattle.o2_gate.specs.Replies.{lines_of}
-use Rattle.o2_stepping.proofs.Replying.{clear_count, clear_report, clear_state, failed_put, failed_then, hands_as, hands_then, late_put, part_put, set_count, set_failed, set_late, set_state, set_whole, whole_then}
+use Rattle.o2_stepping.proofs.ReplyLines.{clear_count, clear_report, clear_state, failed_put, failed_then, hands_as, hands_then, late_put, part_put, set_count, set_failed, set_late, set_state, set_whole, whole_then}
 use Rattle.o2_stepping.proofs.replying.reply.Goals as goal
 
 -- Without the trap flag.
@@ -12,18 +12,18 @@ pub returns-then-not-has_trap_flag-clause-lines : goal.returns-then-not-has_trap
 returns-then-not-has_trap_flag-clause-lines g c =
     let a = c.args in
     clear_count a.pid a.before.now (sym c.has_trap_flag.ensures ∙ c.if-not-has_trap_flag.true) (lines_of a.arguments a.pid a.answer.now.error a.answer.now.value) _
-    (c.line_count.ensures.count a.pid a.answer.now.value)
+    (c.line_count-lines.ensures.count a.pid a.answer.now.value)
 
 pub returns-then-not-has_trap_flag-clause-report : goal.returns-then-not-has_trap_flag-clause-report
 returns-then-not-has_trap_flag-clause-report g c =
     let a = c.args in
-    clear_report a.pid a.before.now (sym c.has_trap_flag.ensures ∙ c.if-not-has_trap_flag.true) (lines_of a.arguments a.pid a.answer.now.error a.answer.now.value) c.put_lines.result _ _
-    c.put_lines.ensures.report
+    clear_report a.pid a.before.now (sym c.has_trap_flag.ensures ∙ c.if-not-has_trap_flag.true) (lines_of a.arguments a.pid a.answer.now.error a.answer.now.value) c.put_lines-whole.result _ _
+    c.put_lines-whole.ensures.report
 
 pub returns-then-not-has_trap_flag-clause-puts : goal.returns-then-not-has_trap_flag-clause-puts
 returns-then-not-has_trap_flag-clause-puts g c = λ z.
     let a = c.args in
-    hands_as c.put_lines.result _ _ _ (c.line_count.ensures.count a.pid a.answer.now.value) (c.put_lines.ensures.puts z)
+    hands_as c.put_lines-whole.result _ _ _ (c.line_count-lines.ensures.count a.pid a.answer.now.value) (c.put_lines-whole.ensures.puts z)
 
 -- With it, where a line of the call failed.
 
@@ -34,18 +34,18 @@ pub returns-then-not-whole-clause-lines : goal.returns-then-not-whole-clause-lin
 returns-then-not-whole-clause-lines g c =
     let a = c.args in
     set_count a.pid a.before.now (sym c.has_trap_flag.ensures ∙ c.if-not-has_trap_flag.false) (lines_of a.arguments a.pid a.answer.now.error a.answer.now.value) _ _
-    (c.line_count.ensures.count a.pid a.answer.now.value) refl
+    (c.line_count-lines.ensures.count a.pid a.answer.now.value) refl
 
 pub returns-then-not-whole-clause-report : goal.returns-then-not-whole-clause-report
 returns-then-not-whole-clause-report g c =
     let a = c.args in
     set_failed a.pid a.before.now (sym c.has_trap_flag.ensures ∙ c.if-not-has_trap_flag.false) (lines_of a.arguments a.pid a.answer.now.error a.answer.now.value) _ _
-    (failed_then c.put_lines.result _ _ _ c.if-not-whole.true c.put_lines.ensures.report)
+    (failed_then c.put_lines-whole.result _ _ _ c.if-not-whole.true c.put_lines-whole.ensures.report)
 
 pub returns-then-not-whole-clause-puts : goal.returns-then-not-whole-clause-puts
 returns-then-not-whole-clause-puts g c = λ z.
     let a = c.args in
-    failed_put z _ _ 0 _ _ _ (sym (c.line_count.ensures.count a.pid a.answer.now.value)) refl (hands_then c.put_lines.result false _ _ c.if-not-whole.true (c.put_lines.ensures.puts z))
+    failed_put z _ _ 0 _ _ _ (sym (c.line_count-lines.ensures.count a.pid a.answer.now.value)) refl (hands_then c.put_lines-whole.result false _ _ c.if-not-whole.true (c.put_lines-whole.ensures.puts z))
 
 -- Where the line of the exception is put, or fails.
 
@@ -56,18 +56,18 @@ pub returns-in-Done-clause-lines : goal.returns-in-Done-clause-lines
 returns-in-Done-clause-lines g c =
     let a = c.args in
     set_count a.pid a.before.now (sym c.has_trap_flag.ensures ∙ c.if-not-has_trap_flag.false) (lines_of a.arguments a.pid a.answer.now.error a.answer.now.value) _ _
-    (c.line_count.ensures.count a.pid a.answer.now.value) refl
+    (c.line_count-lines.ensures.count a.pid a.answer.now.value) refl
 
 pub returns-in-Done-clause-report : goal.returns-in-Done-clause-report
 returns-in-Done-clause-report g c =
     let a = c.args in
     set_whole a.pid a.before.now (sym c.has_trap_flag.ensures ∙ c.if-not-has_trap_flag.false) (lines_of a.arguments a.pid a.answer.now.error a.answer.now.value) _ _ _
-    (whole_then c.put_lines.result _ _ _ c.if-not-whole.false c.put_lines.ensures.report) c.in-Done.ensures.report
+    (whole_then c.put_lines-whole.result _ _ _ c.if-not-whole.false c.put_lines-whole.ensures.report) c.in-Done.ensures.report
 
 pub returns-in-Done-clause-puts : goal.returns-in-Done-clause-puts
 returns-in-Done-clause-puts g c = λ z.
     let a = c.args in
-    late_put z _ _ _ _ _ _ (sym (c.line_count.ensures.count a.pid a.answer.now.value)) refl (hands_then c.put_lines.result true _ _ c.if-not-whole.false (c.put_lines.ensures.puts z)) c.put_trap.ensures.puts
+    late_put z _ _ _ _ _ _ (sym (c.line_count-lines.ensures.count a.pid a.answer.now.value)) refl (hands_then c.put_lines-whole.result true _ _ c.if-not-whole.false (c.put_lines-whole.ensures.puts z)) c.put_trap.ensures.puts
 
 pub returns-in-Failed-clause-state : goal.returns-in-Failed-clause-state
 returns-in-Failed-clause-state g c = set_state c.args.pid c.args.before.now (sym c.has_trap_flag.ensures ∙ c.if-not-has_trap_flag.false)
@@ -76,15 +76,15 @@ pub returns-in-Failed-clause-lines : goal.returns-in-Failed-clause-lines
 returns-in-Failed-clause-lines g c =
     let a = c.args in
     set_count a.pid a.before.now (sym c.has_trap_flag.ensures ∙ c.if-not-has_trap_flag.false) (lines_of a.arguments a.pid a.answer.now.error a.answer.now.value) _ _
-    (c.line_count.ensures.count a.pid a.answer.now.value) refl
+    (c.line_count-lines.ensures.count a.pid a.answer.now.value) refl
 
 pub returns-in-Failed-clause-report : goal.returns-in-Failed-clause-report
 returns-in-Failed-clause-report g c =
     let a = c.args in
     set_late a.pid a.before.now (sym c.has_trap_flag.ensures ∙ c.if-not-has_trap_flag.false) (lines_of a.arguments a.pid a.answer.now.error a.answer.now.value) _ _ _
-    (whole_then c.put_lines.result _ _ _ c.if-not-whole.false c.put_lines.ensures.report) c.in-Failed.ensures.report
+    (whole_then c.put_lines-whole.result _ _ _ c.if-not-whole.false c.put_lines-whole.ensures.report) c.in-Failed.ensures.report
 
 pub returns-in-Failed-clause-puts : goal.returns-in-Failed-clause-puts
 returns-in-Failed-clause-puts g c = λ z.
     let a = c.args in
-    part_put z _ _ _ _ _ _ (sym (c.line_count.ensures.count a.pid a.answer.now.value)) refl (hands_then c.put_lines.result true _ _ c.if-not-whole.false (c.put_lines.ensures.puts z)) c.put_trap.ensures.puts
+    part_put z _ _ _ _ _ _ (sym (c.line_count-lines.ensures.count a.pid a.answer.now.value)) refl (hands_then c.put_lines-whole.result true _ _ c.if-not-whole.false (c.put_lines-whole.ensures.puts z)) c.put_trap.ensures.puts
