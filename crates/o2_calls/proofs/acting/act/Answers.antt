@@ -19,7 +19,7 @@ use Rattle.o2_world.specs.Known.{known_of}
 use Rattle.o2_world.specs.Rulings.{aliasing, freeing, unlocking}
 use Rattle.o2_segs.specs.Answers.{Answers, AnswersRoomed, changes_roomed}
 use Rattle.o2_calls.specs.Acts.{cpu_of, ruling_of}
-use Rattle.o2_calls.specs.Stops.{IsGivable, LacksSwap, LeavesHolds}
+use Rattle.o2_calls.specs.Stops.{IsGivable, LacksSwap, LeavesEntries, LeavesHolds}
 use Rattle.o2_segs.proofs.Limits.{limits_more, limits_same, limits_in, entries_same}
 use Rattle.o2_calls.proofs.acting.act.Goals as goal
 
@@ -196,7 +196,9 @@ pub returns-in-Alias-clause-limits : goal.returns-in-Alias-clause-limits
 returns-in-Alias-clause-limits g c = limits_more c.args.store.now c.create_cs_alias.new.store c.args.regions.now c.create_cs_alias.new.regions 0 1 c.create_cs_alias.ensures.limits
 
 pub returns-in-Size-clause-entries : goal.returns-in-Size-clause-entries
-returns-in-Size-clause-entries g c = entries_same c.args.store.now c.size_seg.new.store c.size_seg.ensures.store
+returns-in-Size-clause-entries g c =
+    subst (λ (a : SegmentArguments). LeavesEntries a c.args.store.now c.size_seg.new.store) (sym c.in-Size.is) (entries_same c.args.store.now c.size_seg.new.store c.size_seg.ensures.store)
 
 pub returns-in-Alias-clause-entries : goal.returns-in-Alias-clause-entries
-returns-in-Alias-clause-entries g c = entries_same c.args.store.now c.create_cs_alias.new.store c.create_cs_alias.ensures.store
+returns-in-Alias-clause-entries g c =
+    subst (λ (a : SegmentArguments). LeavesEntries a c.args.store.now c.create_cs_alias.new.store) (sym c.in-Alias.is) (entries_same c.args.store.now c.create_cs_alias.new.store c.create_cs_alias.ensures.store)
