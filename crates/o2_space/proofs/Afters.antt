@@ -126,7 +126,7 @@ module _ (q : Parts) (w : World) (d : Dispatch) (x : Process) (r : Effect) (ls :
 
   pub trapped_after : (y : Process) → process_at u.processes d.current ≡ Some y
       → StandsCommitted u.processes u.names u.next_name u.reserved d.current y (record { cpu = y.cpu; state = Trapped 1 }) q → Matches q (changed w d x ended)
-  unfolding with_changes
+  unfolding with_changes over
   trapped_after y at stands =
       subst (Matches q) (sym ended_is)
       (let m = matched_by q _ _ _ _ stands in

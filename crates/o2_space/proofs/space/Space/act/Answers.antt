@@ -120,7 +120,7 @@ pub returns-in-Ok-Ran-clause-next_room : goal.returns-in-Ok-Ran-clause-next_room
 returns-in-Ok-Ran-clause-next_room g c = λ text may s w x tells stands set sound chosen there left known.
     let y : Proc = c.index.result.now in
     let was = process_was c.args.self.now.procs.items c.args.pid w.processes x c.requires.some c.requires.there (stands.processes c.args.pid) there y c.index.ensures in
-    ran_says _ c.in-Ok-Ran.ran c.in-Ok-Ran.field-0-is _ s w (c.in-Ok-Ran.ensures.next_room text may s w x tells stands set chosen there (ap (λ (r : Running). r.cpu) was) left known)
+    ran_says _ c.in-Ok-Ran.ran c.in-Ok-Ran.field-0-is (g.S.SwapDevice.blocks c.args.swap.now) s w (c.in-Ok-Ran.ensures.next_room text may s w x tells stands set chosen there (ap (λ (r : Running). r.cpu) was) left known)
 
 pub returns-in-Ok-Ran-clause-together : goal.returns-in-Ok-Ran-clause-together
 returns-in-Ok-Ran-clause-together g c =
@@ -141,7 +141,8 @@ pub returns-in-Ok-Ran-clause-puts : goal.returns-in-Ok-Ran-clause-puts
 returns-in-Ok-Ran-clause-puts g c = ran_puts _ c.in-Ok-Ran.ran c.in-Ok-Ran.field-0-is _ c.in-Ok-Ran.ensures.puts
 
 pub returns-in-Ok-Ran-clause-cause : goal.returns-in-Ok-Ran-clause-cause
-returns-in-Ok-Ran-clause-cause g c = ran_cause _ c.in-Ok-Ran.ran c.in-Ok-Ran.field-0-is _ _ c.in-Ok-Ran.ensures.cause
+returns-in-Ok-Ran-clause-cause g c =
+    ran_cause _ c.in-Ok-Ran.ran c.in-Ok-Ran.field-0-is _ (Rose (g.I.Source.faults c.args.input.now) (g.I.Source.faults c.step.new.input)) c.in-Ok-Ran.ensures.cause
 
 -- A call on segments that is asked for.
 

@@ -55,20 +55,20 @@ commit-requires-clause-held g c = (c.make_call.ensures.together.ready (λ k. [])
 pub commit-requires-clause-settled : goal.commit-requires-clause-settled
 commit-requires-clause-settled g c = (c.make_call.ensures.together.ready (λ k. [])).settled
 
-pub commit-2-requires-clause-there : goal.commit-2-requires-clause-there
-commit-2-requires-clause-there g c =
+pub commit-requires-then-not-is_live-clause-there : goal.commit-requires-then-not-is_live-clause-there
+commit-requires-then-not-is_live-clause-there g c =
     (let a = c.requires.there in let b = ap (λ v. length v.items) c.make_call.ensures.procs in let d = c.commit.ensures.count in omega (arith, a, b, d))
 
-pub commit-2-requires-clause-process : goal.commit-2-requires-clause-process
-commit-2-requires-clause-process g c =
+pub commit-requires-then-not-is_live-clause-process : goal.commit-requires-then-not-is_live-clause-process
+commit-requires-then-not-is_live-clause-process g c =
     (let p = c.requires.can_step.process in (p.0, (let a = p.1 in let b = c.make_call.ensures.processes in let d = c.commit.ensures.processes in omega (arith, a, b, d))))
 
-pub commit-2-requires-clause-held : goal.commit-2-requires-clause-held
-commit-2-requires-clause-held g c =
+pub commit-requires-then-not-is_live-clause-held : goal.commit-requires-then-not-is_live-clause-held
+commit-requires-then-not-is_live-clause-held g c =
     ((c.commit.ensures.together (g.S.SwapDevice.blocks c.make_call.new.swap) (ap (λ (ends : List Bool). lives ends c.args.pid) c.make_call.ensures.ends ∙ c.requires.live) (retold c.make_call.ensures.together)).ready (λ k. [])).held
 
-pub commit-2-requires-clause-settled : goal.commit-2-requires-clause-settled
-commit-2-requires-clause-settled g c =
+pub commit-requires-then-not-is_live-clause-settled : goal.commit-requires-then-not-is_live-clause-settled
+commit-requires-then-not-is_live-clause-settled g c =
     ((c.commit.ensures.together (g.S.SwapDevice.blocks c.make_call.new.swap) (ap (λ (ends : List Bool). lives ends c.args.pid) c.make_call.ensures.ends ∙ c.requires.live) (retold c.make_call.ensures.together)).ready (λ k. [])).settled
 
 -- A call that its process outlives.
@@ -80,9 +80,9 @@ returns-else-not-is_live-clause-acts g c = λ s w x i k tells stands set sound c
     let p : Parts = parts_in m (S.blocks c.args.swap.now) (S.block c.args.swap.now) in
     let made = c.make_call.new in
     let q : Parts = parts_in made.self (S.blocks made.swap) (S.block made.swap) in
-    let told = c.reply.ensures in
+    let told = c.reply-ran.ensures in
     acts_live s w x c.args.pid c.args.arguments c.args.next made.cpu q c.in-Ok.answer (c.in-Ok.ensures.makes s w x tells stands set sound.tied there same)
-    (alone_known p s w stands c.requires.together.alone c.args.pid) c.args.registers same eff _ _ i k c.reply.result (record { state = told.state; bytes = told.bytes; lines = told.lines; report = told.report }) input
+    (alone_known p s w stands c.requires.together.alone c.args.pid) c.args.registers same eff _ _ i k c.reply-ran.result (record { state = told.state; bytes = told.bytes; lines = told.lines; report = told.report }) input
     (sym c.if-not-is_live.ensures) (parts_in c.commit.new.self (S.blocks made.swap) (S.block made.swap)) (c.commit.ensures.put refl (S.blocks made.swap) (S.block made.swap))
 
 pub returns-else-not-is_live-clause-next_room : goal.returns-else-not-is_live-clause-next_room
@@ -108,13 +108,13 @@ pub returns-else-not-is_live-clause-processes : goal.returns-else-not-is_live-cl
 returns-else-not-is_live-clause-processes g c = c.commit.ensures.processes ∙ c.make_call.ensures.processes
 
 pub returns-else-not-is_live-clause-made : goal.returns-else-not-is_live-clause-made
-returns-else-not-is_live-clause-made g c = (let a = c.make_call.ensures.made in let b = c.commit.ensures.made in omega (arith, a, b))
+returns-else-not-is_live-clause-made g c = (let a = c.in-Ok.ensures.made in let b = c.commit.ensures.made in omega (arith, a, b))
 
 pub returns-else-not-is_live-clause-avail : goal.returns-else-not-is_live-clause-avail
 returns-else-not-is_live-clause-avail g c = c.commit.ensures.avail ∙ c.make_call.ensures.avail
 
 pub returns-else-not-is_live-clause-puts : goal.returns-else-not-is_live-clause-puts
-returns-else-not-is_live-clause-puts g c = λ k. told_puts k _ _ c.reply.result c.reply.ensures.bytes (c.reply.ensures.puts k)
+returns-else-not-is_live-clause-puts g c = λ k. told_puts k _ _ c.reply-ran.result c.reply-ran.ensures.bytes (c.reply-ran.ensures.puts k)
 
 -- A call behind which exception 1 ends its process.
 
@@ -126,19 +126,19 @@ returns-then-not-is_live-clause-acts g c = λ s w x i k tells stands set sound c
     let p : Parts = parts_in m (S.blocks c.args.swap.now) (S.block c.args.swap.now) in
     let made = c.make_call.new in
     let q : Parts = parts_in made.self (S.blocks made.swap) (S.block made.swap) in
-    let z : Parts = parts_in c.commit-2.new.self (S.blocks made.swap) (S.block made.swap) in
-    let told = c.reply.ensures in
+    let z : Parts = parts_in c.commit-then-not-is_live.new.self (S.blocks made.swap) (S.block made.swap) in
+    let told = c.reply-ran.ensures in
     let called = c.in-Ok.ensures.makes s w x tells stands set sound.tied there same in
     let alone = alone_known p s w stands c.requires.together.alone pid in
     let alive = lived m.procs.items pid w.processes x c.requires.can_step.process.0 c.requires.there (stands.processes pid) there m.ends c.requires.together.marked c.requires.live in
-    let dead : is_live c.reply.result.state ≡ false = sym c.if-not-is_live.ensures in
+    let dead : is_live c.reply-ran.result.state ≡ false = sym c.if-not-is_live.ensures in
     let put = c.commit.ensures.put refl (S.blocks made.swap) (S.block made.swap) in
-    acts_trapped s w x pid c.args.arguments c.args.next made.cpu q c.in-Ok.answer called alone c.args.registers same eff _ _ i k c.reply.result
+    acts_trapped s w x pid c.args.arguments c.args.next made.cpu q c.in-Ok.answer called alone c.args.registers same eff _ _ i k c.reply-ran.result
     (record { state = told.state; bytes = told.bytes; lines = told.lines; report = told.report }) input dead z
     (then_trapped s w x c.args.arguments c.args.next made.cpu q c.in-Ok.answer z alive sound stands.tidy pid chosen called there (orderly_call (before s w pid x) c.args.arguments c.args.next alone eff)
     (λ v y standing found live.
-    c.commit-2.ensures.stands (S.blocks made.swap) (S.block made.swap) v.processes v.names v.next_name v.reserved y (record { cpu = made.cpu; state = Trapped 1 })
-    (subst (λ (o : Parts). StandsIn o v.processes v.names v.next_name v.reserved) (sym put) standing) found live refl (sym (dead_state_is c.args.registers c.reply.result.state told.state dead))))
+    c.commit-then-not-is_live.ensures.stands (S.blocks made.swap) (S.block made.swap) v.processes v.names v.next_name v.reserved y (record { cpu = made.cpu; state = Trapped 1 })
+    (subst (λ (o : Parts). StandsIn o v.processes v.names v.next_name v.reserved) (sym put) standing) found live refl (sym (dead_state_is c.args.registers c.reply-ran.result.state told.state dead))))
 
 pub returns-then-not-is_live-clause-next_room : goal.returns-then-not-is_live-clause-next_room
 returns-then-not-is_live-clause-next_room g c = λ s w x tells stands set sound chosen there same eff room. c.in-Ok.ensures.room s w x tells stands set sound chosen there same eff room
@@ -147,29 +147,29 @@ pub returns-then-not-is_live-clause-together : goal.returns-then-not-is_live-cla
 returns-then-not-is_live-clause-together g c =
     let blocks = g.S.SwapDevice.blocks c.make_call.new.swap in
     let live = ap (λ (ends : List Bool). lives ends c.args.pid) c.make_call.ensures.ends ∙ c.requires.live in
-    c.commit-2.ensures.together blocks (c.commit.ensures.marks c.args.pid ∙ live) (c.commit.ensures.together blocks live (retold c.make_call.ensures.together))
+    c.commit-then-not-is_live.ensures.together blocks (c.commit.ensures.marks c.args.pid ∙ live) (c.commit.ensures.together blocks live (retold c.make_call.ensures.together))
 
 pub returns-then-not-is_live-clause-set : goal.returns-then-not-is_live-clause-set
-returns-then-not-is_live-clause-set g c = λ s set. c.commit-2.ensures.set _ _ s (c.commit.ensures.set _ _ s (c.make_call.ensures.set s set))
+returns-then-not-is_live-clause-set g c = λ s set. c.commit-then-not-is_live.ensures.set _ _ s (c.commit.ensures.set _ _ s (c.make_call.ensures.set s set))
 
 pub returns-then-not-is_live-clause-marks : goal.returns-then-not-is_live-clause-marks
 returns-then-not-is_live-clause-marks g c = λ n.
     let pid = c.args.pid in
-    let state = c.reply.result.state in
+    let state = c.reply-ran.result.state in
     let was = c.commit.ensures.marks n ∙ ap (λ (ends : List Bool). lives ends n) c.make_call.ensures.ends in
-    c.commit-2.ensures.marks n ∙ ap (λ (z : Bool). if is_live state then z else (if n == pid then false else z)) was
+    c.commit-then-not-is_live.ensures.marks n ∙ ap (λ (z : Bool). if is_live state then z else (if n == pid then false else z)) was
 
 pub returns-then-not-is_live-clause-count : goal.returns-then-not-is_live-clause-count
-returns-then-not-is_live-clause-count g c = c.commit-2.ensures.count ∙ (c.commit.ensures.count ∙ ap (λ v. length v.items) c.make_call.ensures.procs)
+returns-then-not-is_live-clause-count g c = c.commit-then-not-is_live.ensures.count ∙ (c.commit.ensures.count ∙ ap (λ v. length v.items) c.make_call.ensures.procs)
 
 pub returns-then-not-is_live-clause-processes : goal.returns-then-not-is_live-clause-processes
-returns-then-not-is_live-clause-processes g c = c.commit-2.ensures.processes ∙ (c.commit.ensures.processes ∙ c.make_call.ensures.processes)
+returns-then-not-is_live-clause-processes g c = c.commit-then-not-is_live.ensures.processes ∙ (c.commit.ensures.processes ∙ c.make_call.ensures.processes)
 
 pub returns-then-not-is_live-clause-made : goal.returns-then-not-is_live-clause-made
-returns-then-not-is_live-clause-made g c = (let a = c.make_call.ensures.made in let b = c.commit.ensures.made in let d = c.commit-2.ensures.made in omega (arith, a, b, d))
+returns-then-not-is_live-clause-made g c = (let a = c.in-Ok.ensures.made in let b = c.commit.ensures.made in let d = c.commit-then-not-is_live.ensures.made in omega (arith, a, b, d))
 
 pub returns-then-not-is_live-clause-avail : goal.returns-then-not-is_live-clause-avail
-returns-then-not-is_live-clause-avail g c = c.commit-2.ensures.avail ∙ (c.commit.ensures.avail ∙ c.make_call.ensures.avail)
+returns-then-not-is_live-clause-avail g c = c.commit-then-not-is_live.ensures.avail ∙ (c.commit.ensures.avail ∙ c.make_call.ensures.avail)
 
 pub returns-then-not-is_live-clause-puts : goal.returns-then-not-is_live-clause-puts
-returns-then-not-is_live-clause-puts g c = λ k. told_puts k _ _ c.reply.result c.reply.ensures.bytes (c.reply.ensures.puts k)
+returns-then-not-is_live-clause-puts g c = λ k. told_puts k _ _ c.reply-ran.result c.reply-ran.ensures.bytes (c.reply-ran.ensures.puts k)

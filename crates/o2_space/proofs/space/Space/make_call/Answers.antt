@@ -10,6 +10,7 @@ use Rattle.o2_segbus.proofs.Ages.{named_by_age}
 use Rattle.o2_gate.specs.Replies.{words_of}
 use Rattle.o2_segs.specs.Answers.{Answers}
 use Rattle.o2_calls.specs.Acts.{IsOver, cpu_of, ruling_of}
+use Rattle.o2_space.specs.Calls.{no_registers}
 use Rattle.o2_calls.specs.Tellings.{replied_by}
 use Rattle.o2_stands.specs.Moves.{moved, stepped_to, with_running}
 use Rattle.o2_stands.specs.Parts.{Parts}
@@ -61,8 +62,8 @@ give-requires-clause-ready g c =
     let pid = c.args.pid in
     let ready = c.requires.together.ready (λ k. []) in
     aimed_kept m.store t m.regions n pid ready.held c.requires.can_step.named (named_by_age t n (c.act.ensures.guards (record { aged = ready.aged; guarded = ready.guarded })).aged c.act.ensures.order.held.live)
-    c.lawful.ensures.inside c.lawful-2.ensures.inside c.args.arguments c.args.cpu.now _ c.act.ensures.holds c.act.ensures.entries
-    (λ k needed slot place. c.act.ensures.kept k (kept_named m.store m.regions pid c.args.cpu.now c.args.arguments _ _ ready.held c.ids.ensures c.call_need.ensures k needed) slot place)
+    c.lawful.ensures.inside c.lawful-in-Done.ensures.inside c.args.arguments c.args.cpu.now no_registers c.act.ensures.holds c.act.ensures.entries
+    (λ k needed slot place. c.act.ensures.kept k (kept_named m.store m.regions pid c.args.cpu.now c.args.arguments _ _ ready.held c.ids.ensures c.call_need-need.ensures k needed) slot place)
     c.requires.aimed
 
 pub give-requires-clause-value : goal.give-requires-clause-value
@@ -211,8 +212,8 @@ returns-in-Done-clause-makes g c = λ s w x tells stands set tied there same.
       matches = λ d current.
           subst (λ (z : Cpu). Matches (with_running (record (stepped_to (moved p t n block) u o) { device = S.blocks c.act.new.swap }) pid (record { cpu = z; state = Live })) (changed w d x behind)) (sym registers)
           (on_device (stepped_to (moved p t n block) u o) (S.blocks c.act.new.swap) (λ (q : Parts). Matches (with_running q pid (record { cpu = behind.cpu; state = Live })) (changed w d x behind)) e.device.0
-          (called p s w x pid a c.args.next c.lawful.ensures stands there c.args.cpu.now c.requires.aimed t n block c.lawful-2.ensures e.holds c.in-Done.answer.error c.in-Done.answer.value
-          answers.error answers.value matches u o given.bytes given.store given.maps c.lawful-3.ensures.inside good d current));
+          (called p s w x pid a c.args.next c.lawful.ensures stands there c.args.cpu.now c.requires.aimed t n block c.lawful-in-Done.ensures e.holds c.in-Done.answer.error c.in-Done.answer.value
+          answers.error answers.value matches u o given.bytes given.store given.maps c.lawful-in-Done-2.ensures.inside good d current));
     }
 
 pub returns-in-Done-clause-value : goal.returns-in-Done-clause-value
