@@ -1,14 +1,16 @@
 -- What a step leaves of a world beside names, holds and reserved indexes: its texts, its input, its dispatch, and who lives.
-use Rattle.std.proofs.Common.{◌≡◌, ℕ, zero, suc, ◌-◌, ◌<◌, ◌==◌, Bool, true, false, List, [], ◌∷◌, ◌++◌, map, ap, sym, ◌∙◌, refl, subst, arith, slice_set, slice_index_or, if◌then◌else◌}
+use Rattle.std.proofs.Common.{◌≡◌, ℕ, zero, suc, ◌-◌, ◌<◌, ◌==◌, Bool, true, false, List, [], ◌∷◌, ◌++◌, map, Option, Some, None, ap, sym, ◌∙◌, refl, subst, arith, slice_set, slice_index_or, if◌then◌else◌}
 use Rattle.std.specs.List.{list_any}
 use Rattle.o2_conf.specs.Dispatch.{Dispatch, lives}
 use Rattle.o2_isa.specs.declared.cpu.Cpu.{Cpu}
 use Rattle.o2_world.specs.declared.types.State.{State}
 use Rattle.o2_world.specs.Calls.{Before, Effect}
 use Rattle.o2_world.specs.Changes.{Change, Drops, Finishes, Frees, Holds, Locks, Makes, Marks, Names, Reserves, Resizes, at_number, at_place, swept, takes, with_all, with_change, with_changes}
-use Rattle.o2_world.specs.Moves.{Moves, NoneMoves, OneAliased, OneLocked, OneMade, OneSized, SomeFreed}
+use Rattle.o2_world.specs.Known.{Known}
+use Rattle.o2_world.specs.Moves.{AllMoves, Moves, NoneMoves, OneAliased, OneLocked, OneMade, OneNamed, OneSized, OwnMoves, SomeFreed, SomeShared}
 use Rattle.o2_world.specs.Run.{all_changes, changed, live_flags, worked, working}
-use Rattle.o2_world.specs.World.{Line, Process, World, is_live}
+use Rattle.o2_world.specs.SharedRulings.{each_more, one_more}
+use Rattle.o2_world.specs.World.{Held, Line, Process, World, is_live}
 use Rattle.o2_world.proofs.Flags.{lives_some}
 use Rattle.o2_world.proofs.Numbers.{with_is}
 
@@ -119,6 +121,19 @@ moves_end_none b cpu cs (OneLocked name count is) = subst AreNoEnds (sym is) (tt
 moves_end_none b cpu cs (OneAliased index i h there free is) = subst AreNoEnds (sym is) (tt, tt)
 moves_end_none b cpu cs (SomeFreed xs frees is) = subst AreNoEnds (sym is) (drops_end_none b.number xs)
 
+one_end_none : (to i : ℕ) (o : Option Held) (cs : List Change) → AreNoEnds cs → AreNoEnds (one_more to i o ++ cs)
+one_end_none to i None cs none = none
+one_end_none to i (Some h) cs none = (tt, none)
+
+shares_end_none : (k : Known) (from to : ℕ) (is : List ℕ) → AreNoEnds (each_more k from to is)
+shares_end_none k from to [] = tt
+shares_end_none k from to (i ∷ is) = one_end_none to i (k.held from i) (each_more k from to is) (shares_end_none k from to is)
+
+all_end_none : (b : Before) (cpu : Cpu) (cs : List Change) → AllMoves b cpu cs → AreNoEnds cs
+all_end_none b cpu cs (OwnMoves moves) = moves_end_none b cpu cs moves
+all_end_none b cpu cs (OneNamed size i name free is) = subst AreNoEnds (sym is) (tt, (tt, (tt, tt)))
+all_end_none b cpu cs (SomeShared from to xs shares is) = subst AreNoEnds (sym is) (shares_end_none b.known from to xs)
+
 one_lives : (w : World) (c : Change) → IsNoEnd c → live_flags (with_change w c).processes ≡ live_flags w.processes
 one_lives w (Makes s) none = refl
 one_lives w (Resizes n size) none = refl
@@ -172,23 +187,23 @@ module _ (w : World) (d : Dispatch) (p : Process) (e : Effect) (flags : List Boo
       ∙ (ap (λ (fs : List Bool). slice_set fs (d.current - 1) (is_live (working p e).state)) same
       ∙ (ap (slice_set flags (d.current - 1)) live ∙ set_same flags (d.current - 1) here)))
 
-  pub flags_behind : (b : Before) → Moves b e.cpu e.changes → is_live e.state ≡ true → live_flags (changed w d p e).processes ≡ flags
+  pub flags_behind : (b : Before) → AllMoves b e.cpu e.changes → is_live e.state ≡ true → live_flags (changed w d p e).processes ≡ flags
   unfolding changed
   flags_behind b moves goes =
       swept_lives (worked w d p e) (all_changes d.current e)
       ∙ (ap (λ (cs : List Change). live_flags (with_changes (worked w d p e) cs).processes) (by_state (is_live e.state) goes)
-      ∙ (each_lives (worked w d p e) e.changes (moves_end_none b e.cpu e.changes moves) ∙ worked_lives))
+      ∙ (each_lives (worked w d p e) e.changes (all_end_none b e.cpu e.changes moves) ∙ worked_lives))
     where
       by_state : (z : Bool) → z ≡ true → (if z then e.changes else e.changes ++ Finishes d.current e.state ∷ []) ≡ e.changes
       by_state true f = refl
       by_state false f = absurd (cc)
 
-  pub flags_ended_behind : (b : Before) → Moves b e.cpu e.changes → is_live e.state ≡ false → live_flags (changed w d p e).processes ≡ slice_set flags (d.current - 1) false
+  pub flags_ended_behind : (b : Before) → AllMoves b e.cpu e.changes → is_live e.state ≡ false → live_flags (changed w d p e).processes ≡ slice_set flags (d.current - 1) false
   unfolding changed
   flags_ended_behind b moves dead =
       swept_lives (worked w d p e) (all_changes d.current e)
       ∙ (ap (λ (cs : List Change). live_flags (with_changes (worked w d p e) cs).processes) (by_state (is_live e.state) dead)
-      ∙ (then_ends (worked w d p e) e.changes d.current e.state some dead (moves_end_none b e.cpu e.changes moves)
+      ∙ (then_ends (worked w d p e) e.changes d.current e.state some dead (all_end_none b e.cpu e.changes moves)
       ∙ ap (λ (fs : List Bool). slice_set fs (d.current - 1) false) worked_lives))
     where
       by_state : (z : Bool) → z ≡ false → (if z then e.changes else e.changes ++ Finishes d.current e.state ∷ []) ≡ e.changes ++ Finishes d.current e.state ∷ []

@@ -156,10 +156,10 @@ pub returns-then-ran-clause-puts : goal.returns-then-ran-clause-puts
 returns-then-ran-clause-puts g c = λ tells text may s w stands left.
     went_puts c.args.self.now _ _ s w c.args.pid None None None None stands c.requires.pick c.requires.live _ _ _ _ c.in-Ok.ran.tally
     (λ chosen p at. (c.in-Ok.ensures.acts text may s w p tells stands.space stands.set stands.sound chosen at left stands.known).puts)
-    (subst (λ (z : Bool). HandsWhole z _ (puts_of c.in-Ok.ran.tally.bytes) c.in-Ok.ran.tally.lines) c.if-ran.true c.in-Ok.ensures.puts)
+    (subst (λ (z : Bool). HandsWhole z (counts (g.C.Sink.puts c.args.console.now) (g.C.Sink.puts c.act.new.console) (g.R.Sink.puts c.args.report.now) (g.R.Sink.puts c.act.new.report) 0) (puts_of c.in-Ok.ran.tally.bytes) c.in-Ok.ran.tally.lines) c.if-ran.true c.in-Ok.ensures.puts)
 
 pub returns-else-ran-clause-puts : goal.returns-else-ran-clause-puts
 returns-else-ran-clause-puts g c = λ tells text may s w stands left.
     late_puts c.args.self.now _ _ s w c.args.pid None None None None stands c.requires.pick c.requires.live _ _ _ _ c.in-Ok.ran.tally
     (λ chosen p at. (c.in-Ok.ensures.acts text may s w p tells stands.space stands.set stands.sound chosen at left stands.known).puts)
-    (subst (λ (z : Bool). HandsWhole z _ (puts_of c.in-Ok.ran.tally.bytes) c.in-Ok.ran.tally.lines) c.if-ran.false c.in-Ok.ensures.puts)
+    (subst (λ (z : Bool). HandsWhole z (counts (g.C.Sink.puts c.args.console.now) (g.C.Sink.puts c.act.new.console) (g.R.Sink.puts c.args.report.now) (g.R.Sink.puts c.act.new.report) 0) (puts_of c.in-Ok.ran.tally.bytes) c.in-Ok.ran.tally.lines) c.if-ran.false c.in-Ok.ensures.puts)
