@@ -47,13 +47,13 @@ LacksMemory (Alias selector s o) t m pid = ⊥
 abbrev pub LacksSwap : SegmentArguments → Shelf → Maps → (pid : ℕ) → Type 0
 LacksSwap a t m pid = (all_of t.swap < swap_load t) × LacksMemory a t m pid
 
--- what a call that has a pointer leaves of what is held: all of it
+-- what a call leaves of what is held: all of it, but for one that frees
 abbrev pub LeavesHolds : SegmentArguments → (old new : Maps) → Type 0
 LeavesHolds (Alloc size s o flags) m n = KeepsHolds m n
-LeavesHolds (Realloc size selector) m n = Unit {0}
+LeavesHolds (Realloc size selector) m n = KeepsHolds m n
 LeavesHolds (Free selector) m n = Unit {0}
 LeavesHolds (Size selector s o) m n = KeepsHolds m n
-LeavesHolds (Lock selector) m n = Unit {0}
+LeavesHolds (Lock selector) m n = KeepsHolds m n
 LeavesHolds (Unlock selector) m n = Unit {0}
 LeavesHolds (Alias selector s o) m n = KeepsHolds m n
 

@@ -9,6 +9,7 @@ ghost use Rattle.o2_store.specs.Needs.{all_wanted, named_in};
 ghost use Rattle.o2_store.specs.Pictures.{picture, HasPicture};
 ghost use Rattle.o2_store.specs.Shelf.{AreClean, HasAll, entry, entry_of, place_of};
 ghost use Rattle.o2_swapmap.specs.Piles.{all_of};
+ghost use Rattle.o2_changes.specs.Holding.{KeepsHolds};
 ghost use Rattle.o2_changes.specs.Order.{IsGuarded, IsInOrder};
 ghost use Rattle.o2_stands.specs.Stands.{Matches};
 ghost use Rattle.o2_segs.specs.Answers.{AnswersRoomed, changes_roomed};
@@ -35,6 +36,7 @@ use o2_store::Store;
 /// DosLockSeg(sel): a discardable segment that the caller holds is locked once more, at most 255 times. Where it isn't locked
 /// yet, it comes into memory first, together with the segments of `keep` and those that are locked, and only then a stop may come.
 /// 5 where no such segment is held. At a stop no segment, no hold and no lock has changed.
+#[tactic(auto, using(o2_changes::proofs::KeepingHolds::holds_refl))]
 pub fn lock_seg<S: SwapDevice>(
     store: &mut Store,
     regions: &mut Regions,
@@ -59,6 +61,7 @@ pub fn lock_seg<S: SwapDevice>(
         (with_all w (changes_roomed (locking (known_in p o) pid sel) result)) }
     ensures stops { IsStop result
         → IfSome (if is_local sel then held_at regions.old pid (sel / 8) else None) (λ h. (entry store.old h.id.key).attr.lock ≡ 0) }
+    ensures holds { KeepsHolds regions.old regions.new }
     ensures limits { KeepsLimits store.old regions.old store.new regions.new 0 }
     ensures processes { regions.new.processes ≡ regions.old.processes }
     ensures order { IsInOrder store.new regions.new }
@@ -85,6 +88,7 @@ pub fn lock_seg<S: SwapDevice>(
 }
 
 // A live segment is locked once more, where it may be.
+#[tactic(auto, using(o2_changes::proofs::KeepingHolds::holds_refl))]
 fn lock<S: SwapDevice>(
     store: &mut Store,
     regions: &mut Regions,
@@ -106,6 +110,7 @@ fn lock<S: SwapDevice>(
         → Matches p w → Matches (moved p store.new regions.new (S.block swap.new))
         (with_all w (changes_roomed (locking_with id.age (Some m)) result)) }
     ensures stops { IsStop result → (entry store.old id.key).attr.lock ≡ 0 }
+    ensures holds { KeepsHolds regions.old regions.new }
     ensures limits { KeepsLimits store.old regions.old store.new regions.new 0 }
     ensures processes { regions.new.processes ≡ regions.old.processes }
     ensures order { IsInOrder store.new regions.new }

@@ -10,6 +10,7 @@ ghost use Rattle.o2_store.specs.Pictures.{picture, HasPicture};
 ghost use Rattle.o2_store.specs.Shelf.{AreClean, HasAll, entry, entry_of, place_of};
 ghost use Rattle.o2_store.specs.Sizes.{all_wanted_at, stays};
 ghost use Rattle.o2_swapmap.specs.Piles.{all_of};
+ghost use Rattle.o2_changes.specs.Holding.{KeepsHolds};
 ghost use Rattle.o2_changes.specs.Order.{IsGuarded, IsInOrder};
 ghost use Rattle.o2_stands.specs.Stands.{Matches};
 ghost use Rattle.o2_stands.specs.Knows.{Others, known_in};
@@ -71,6 +72,7 @@ fn keeps_its_size(store: &Store, id: SegId, size: u32) -> bool
 /// DosReallocSeg(size, sel): a segment that the caller holds gets another size, 0 for 65,536 bytes; grown bytes are zero. 5 where
 /// it isn't held, is an alias, lies in a run, is clean, or is shared and would shrink. One in memory that is locked or in `keep`
 /// stays there. At a stop no segment has changed.
+#[tactic(auto, using(o2_changes::proofs::KeepingHolds::holds_refl))]
 pub fn realloc_seg<S: SwapDevice>(
     store: &mut Store,
     regions: &mut Regions,
@@ -93,6 +95,7 @@ pub fn realloc_seg<S: SwapDevice>(
         → p.images ≡ images.now → p.block ≡ S.block swap.old → IsTrue (S.told swap.new) → Matches p w
         → Matches (moved p store.new regions.new (S.block swap.new))
         (with_all w (changes_roomed (reallocation (known_in p o) pid size sel) result)) }
+    ensures holds { KeepsHolds regions.old regions.new }
     ensures limits { KeepsLimits store.old regions.old store.new regions.new 0 }
     ensures processes { regions.new.processes ≡ regions.old.processes }
     ensures order { IsInOrder store.new regions.new }

@@ -2,6 +2,7 @@ use Rattle.std.proofs.Common.{◌+◌, ◌<◌, ℕ, Option, Some, IsSome, ap, m
 use Rattle.o2_desc.specs.Bits.{has_bit}
 use Rattle.o2_entries.specs.declared.Attr.{Attr}
 use Rattle.o2_entries.specs.Tables.{slot_at}
+use Rattle.o2_changes.proofs.KeepingHolds.{told_holds}
 use Rattle.o2_changes.proofs.Segmenting.{attr_there}
 use Rattle.o2_service.proofs.Among.{live_same}
 use Rattle.o2_store.specs.Pictures.{picture}
@@ -137,3 +138,9 @@ returns-in-None-stop_of-clause-limits g c =
 
 pub returns-in-None-clause-limits : goal.returns-in-None-clause-limits
 returns-in-None-clause-limits g c = limits_refl c.args.store.now c.args.regions.now
+
+pub returns-in-Some-stop_of-clause-holds : goal.returns-in-Some-stop_of-clause-holds
+returns-in-Some-stop_of-clause-holds g c = told_holds c.args.regions.now c.bring_in.new.regions c.bring_in.ensures.maps
+
+pub returns-in-None-stop_of-clause-holds : goal.returns-in-None-stop_of-clause-holds
+returns-in-None-stop_of-clause-holds g c = told_holds c.args.regions.now c.bring_in.new.regions c.bring_in.ensures.maps

@@ -1,4 +1,5 @@
 use Rattle.std.proofs.Common.{◌≡◌, ◌<◌, ℕ, Option, IfSome, true, ap, subst, sym, ◌∙◌}
+use Rattle.o2_changes.proofs.KeepingHolds.{told_holds}
 use Rattle.o2_stands.specs.Knows.{known_in}
 use Rattle.o2_segs.proofs.Resizing.{keeps, realloc_done, realloc_fixed, realloc_kept, realloc_none, refusal_moved, sized_matches, stopped_matches}
 use Rattle.o2_segs.proofs.Rows.{done_answers, refusal_answers}
@@ -85,3 +86,9 @@ returns-in-None-stop_of-clause-limits g c =
 
 pub returns-in-None-clause-limits : goal.returns-in-None-clause-limits
 returns-in-None-clause-limits g c = limits_refl c.args.store.now c.args.regions.now
+
+pub returns-in-Some-stop_of-clause-holds : goal.returns-in-Some-stop_of-clause-holds
+returns-in-Some-stop_of-clause-holds g c = told_holds c.args.regions.now c.resize.new.regions c.resize.ensures.maps
+
+pub returns-in-None-stop_of-clause-holds : goal.returns-in-None-stop_of-clause-holds
+returns-in-None-stop_of-clause-holds g c = told_holds c.args.regions.now c.resize.new.regions c.resize.ensures.maps
