@@ -57,32 +57,32 @@ untrapped_quiet : (b : Before) → (effect b).changes ≡ [] → (untrapped b).c
 unfolding effect
 untrapped_quiet b quiet = sym (flagged (λ (e : Effect). e.changes) b (untrapped b) refl) ∙ quiet
 
-untrapped_sizes : (b : Before) (n : ℕ) → length ((untrapped b).bytes n) ≡ length (b.view.bytes n)
+pub untrapped_sizes : (b : Before) (n : ℕ) → length ((untrapped b).bytes n) ≡ length (b.view.bytes n)
 unfolding effect
 untrapped_sizes b n = sym (flagged (λ (e : Effect). length (e.bytes n)) b (untrapped b) refl) ∙ effect_sizes b n
 
 -- Behind it a name has gone, or has as many bytes as before and its lock count.
 
-record IsLess (v o : Option Segment) : Type 0 where
-  none : o ≡ None → v ≡ None
-  size : size_of v ≤ size_of o
-  lock : is_locked v ≡ true → is_locked o ≡ true
+pub record IsLess (v o : Option Segment) : Type 0 where
+  pub none : o ≡ None → v ≡ None
+  pub size : size_of v ≤ size_of o
+  pub lock : is_locked v ≡ true → is_locked o ≡ true
 
-less_none : (o : Option Segment) → IsLess None o
+pub less_none : (o : Option Segment) → IsLess None o
 less_none o = record { none = λ e. refl; size = omega arith; lock = λ e. absurd (false≢true e) }
 
 no_some : (s : Segment) → Some s ≡ None → ⊥
 no_some s e = cc
 
-less_written : (o : Option Segment) (bytes : List ℕ) → length bytes ≡ size_of o → IsLess (option_map (λ (s : Segment). record s { bytes = bytes }) o) o
+pub less_written : (o : Option Segment) (bytes : List ℕ) → length bytes ≡ size_of o → IsLess (option_map (λ (s : Segment). record s { bytes = bytes }) o) o
 less_written None bytes l = less_none None
 less_written (Some s) bytes l = record { none = λ e. absurd (no_some s e); size = omega (arith, l); lock = λ e. e }
 
-less_kept : (b : Bool) (v o : Option Segment) → IsLess v o → IsLess (if b then v else None) o
+pub less_kept : (b : Bool) (v o : Option Segment) → IsLess v o → IsLess (if b then v else None) o
 less_kept true v o x = x
 less_kept false v o x = less_none o
 
-bytes_long : (o : Option Segment) → length (segment_bytes o) ≡ size_of o
+pub bytes_long : (o : Option Segment) → length (segment_bytes o) ≡ size_of o
 bytes_long None = refl
 bytes_long (Some s) = refl
 
@@ -104,7 +104,7 @@ names_less ps names e sizes n = go (is_live e.state)
 -- What a name takes against what its number takes.
 
 -- a name that is needed or locked takes no more than a segment that is
-takes_most : (needed was is lock named : Bool) (size other here : ℕ) → (needed ≡ true → named ≡ true) → was ≡ lock → (is ≡ true → was ≡ true) → size ≡ here → other ≤ size
+pub takes_most : (needed was is lock named : Bool) (size other here : ℕ) → (needed ≡ true → named ≡ true) → was ≡ lock → (is ≡ true → was ≡ true) → size ≡ here → other ≤ size
     → (if needed || (was || is) then whole (max size other) else 0) ≤ (if lock || named then rounded here else 0)
 takes_most needed was is lock named size other here f l g e o = go needed refl was refl is refl
   where
@@ -119,7 +119,7 @@ takes_most needed was is lock named size other here f l g e o = go needed refl w
     go false p false q false r = omega arith
 
 -- and no less where all that is needed is
-takes_least : (lock named needed was is : Bool) (size other here : ℕ) → (named ≡ true → needed ≡ true) → was ≡ lock → size ≡ here
+pub takes_least : (lock named needed was is : Bool) (size other here : ℕ) → (named ≡ true → needed ≡ true) → was ≡ lock → size ≡ here
     → (if lock || named then rounded here else 0) ≤ (if needed || (was || is) then whole (max size other) else 0)
 takes_least lock named needed was is size other here f l e = go lock refl named refl
   where
@@ -132,7 +132,7 @@ takes_least lock named needed was is size other here f l e = go lock refl named 
     go false p true q = there (needed || (was || is)) (or_front needed (was || is) (f q))
     go false p false q = omega arith
 
-no_room : (t : Bool) (n : ℕ) → n ≡ 0 → (if t then rounded n else 0) ≡ 0
+pub no_room : (t : Bool) (n : ℕ) → n ≡ 0 → (if t then rounded n else 0) ≡ 0
 no_room true n e = omega (arith, e)
 no_room false n e = refl
 

@@ -1,0 +1,182 @@
+-- What a call on segments leaves of the names before it: none of them grows or gets a lock, or none goes, shrinks or loses its lock.
+use Rattle.std.proofs.Common.{◌≡◌, inl, inr, ℕ, ◌-◌, ◌<◌, ◌≤◌, Bool, true, false, cond, List, [], ◌∷◌, length, map, Option, Some, None, is_some, option_map, ap, sym, ◌∙◌, refl, subst, arith, if◌then◌else◌}
+use Rattle.std.specs.Prelude.{◌==◌, nat_lt, replicate, take}
+use Rattle.std.specs.List.{list_any}
+use Rattle.std.proofs.lemmas.Bool.{cases_lt, eqb-true, false≢true}
+use Rattle.std.proofs.lemmas.List.{length-append, length-replicate, length-take}
+use Rattle.o2_conf.specs.Dispatch.{Dispatch}
+use Rattle.o2_isa.specs.declared.cpu.Cpu.{Cpu}
+use Rattle.o2_run.specs.Room.{is_locked, size_of}
+use Rattle.o2_world.specs.CallParts.{Before, Effect}
+use Rattle.o2_world.specs.Changes.{Change, Drops, resized, swept, takes, with_all, with_change, with_changes}
+use Rattle.o2_world.specs.Holders.{is_held}
+use Rattle.o2_world.specs.Map.{Map, at_key, get}
+use Rattle.o2_world.specs.Moves.{Moves, NoneMoves, OneAliased, OneLocked, OneMade, OneSized, SomeFreed}
+use Rattle.o2_world.specs.Rulings.{full_size, made_segment}
+use Rattle.o2_world.specs.Run.{worked}
+use Rattle.o2_world.specs.World.{Process, Segment, World}
+use Rattle.o2_world.proofs.MapLemmas.{get-at_key, get-filter, get-map}
+use Rattle.o2_stepping.proofs.NextRooms.{IsLess, less_kept}
+
+-- a name is there still, as large and as locked at least
+pub record IsMore (v o : Option Segment) : Type 0 where
+  pub some : is_some o ≡ true → is_some v ≡ true
+  pub size : size_of o ≤ size_of v
+  pub lock : is_locked o ≡ true → is_locked v ≡ true
+
+pub data Remains (old new : Map Segment) : Type 0 where
+  NoneMore : ((n : ℕ) → IsLess (get new n) (get old n)) → Remains old new
+  NoneLess : ((n : ℕ) → IsMore (get new n) (get old n)) → Remains old new
+
+-- A name that is as large and as locked as it was.
+
+record IsAs (v o : Option Segment) : Type 0 where
+  some : is_some v ≡ is_some o
+  size : size_of v ≡ size_of o
+  lock : is_locked v ≡ is_locked o
+
+as_written : (o : Option Segment) (bytes : List ℕ) → length bytes ≡ size_of o → IsAs (option_map (λ (s : Segment). record s { bytes = bytes }) o) o
+as_written None bytes l = record { some = refl; size = refl; lock = refl }
+as_written (Some s) bytes l = record { some = refl; size = l; lock = refl }
+
+none_by : (v o : Option Segment) → is_some v ≡ is_some o → o ≡ None → v ≡ None
+none_by None o e none = refl
+none_by (Some x) o e none = absurd (false≢true (sym (ap is_some none) ∙ sym e))
+
+less_as : (v o : Option Segment) → IsAs v o → IsLess v o
+less_as v o a = record { none = none_by v o a.some; size = (let z = a.size in omega (arith, z)); lock = λ e. sym a.lock ∙ e }
+
+more_as : (v o : Option Segment) → IsAs v o → IsMore v o
+more_as v o a = record { some = λ e. a.some ∙ e; size = (let z = a.size in omega (arith, z)); lock = λ e. a.lock ∙ e }
+
+-- a name that wasn't there
+more_new : (v o : Option Segment) → o ≡ None → IsMore v o
+more_new v o none = record {
+  some = λ e. absurd (false≢true (sym (ap is_some none) ∙ e));
+  size = (let z : size_of o ≡ 0 = ap size_of none in omega (arith, z));
+  lock = λ e. absurd (false≢true (sym (ap is_locked none) ∙ e));
+}
+
+-- A segment with another lock count, or another size.
+
+some_left : (v : Segment) (o : Option Segment) → IsAs (Some v) o → (y : Segment) → o ≡ None → Some y ≡ None
+some_left v o a y none = absurd (false≢true (sym (ap is_some none) ∙ sym a.some))
+
+lock_less : (count : ℕ) (v o : Option Segment) → nat_lt 0 count ≡ false → IsAs v o → IsLess (option_map (λ (s : Segment). record s { lock = count }) v) o
+lock_less count None o none a = less_as None o a
+lock_less count (Some s) o none a = record {
+  none = some_left s o a (record s { lock = count });
+  size = (let z = a.size in omega (arith, z));
+  lock = λ e. absurd (false≢true (sym none ∙ e));
+}
+
+lock_more : (count : ℕ) (v o : Option Segment) → nat_lt 0 count ≡ true → IsAs v o → IsMore (option_map (λ (s : Segment). record s { lock = count }) v) o
+lock_more count None o some a = more_as None o a
+lock_more count (Some s) o some a = record { some = λ e. refl; size = (let z = a.size in omega (arith, z)); lock = λ e. some }
+
+pub resized_size : (size : ℕ) (bytes : List ℕ) → length (resized size bytes) ≡ size
+resized_size size bytes =
+    let a = length-append (take size bytes) (replicate (size - length bytes) 0) in
+    let b : length {A = ℕ} (replicate (size - length bytes) 0) ≡ size - length bytes = length-replicate (size - length bytes) 0 in
+    let c = length-take size bytes in
+    omega (arith, a, b, c)
+
+size_less : (size : ℕ) (v o : Option Segment) → size ≤ size_of o → IsAs v o → IsLess (option_map (λ (s : Segment). record s { bytes = resized size s.bytes }) v) o
+size_less size None o l a = less_as None o a
+size_less size (Some s) o l a = record {
+  none = some_left s o a (record s { bytes = resized size s.bytes });
+  size = (let z = resized_size size s.bytes in omega (arith, z, l));
+  lock = λ e. sym a.lock ∙ e;
+}
+
+size_more : (size : ℕ) (v o : Option Segment) → size_of o ≤ size → IsAs v o → IsMore (option_map (λ (s : Segment). record s { bytes = resized size s.bytes }) v) o
+size_more size None o l a = more_as None o a
+size_more size (Some s) o l a = record {
+  some = λ e. refl;
+  size = (let z = resized_size size s.bytes in omega (arith, z, l));
+  lock = λ e. a.lock ∙ e;
+}
+
+abbrev locked_to : ℕ → Segment → Segment
+locked_to count s = record s { lock = count }
+
+abbrev sized_to : ℕ → Segment → Segment
+sized_to size s = record s { bytes = resized size s.bytes }
+
+-- a segment changed in its place
+by_key : (P : Option Segment → Type 0) (k q : ℕ) (f : Segment → Segment) (m : Map Segment) → (k ≡ q → P (option_map f (get m q))) → P (get m q) → P (get (at_key k f m) q)
+by_key P k q f m here there = subst P (sym (get-at_key k q f m)) (go (k == q) refl)
+  where
+    go : (b : Bool) → (k == q) ≡ b → P (if b then option_map f (get m k) else get m q)
+    go true e = (let same = eqb-true k q e in subst (λ (j : ℕ). P (option_map f (get m j))) (sym same) (here same))
+    go false e = there
+
+-- The changes of a call.
+
+drops_names : (v : World) (n : ℕ) (is : List ℕ) → (with_changes v (map (λ (i : ℕ). Drops n i 1) is)).names ≡ v.names
+unfolding with_changes
+drops_names v n [] = refl
+drops_names v n (i ∷ is) = drops_names (with_change v (Drops n i 1)) n is
+
+module _ (w : World) (d : Dispatch) (x : Process) (e : Effect) (sizes : (n : ℕ) → length (e.bytes n) ≡ size_of (get w.names n)) (new : get w.names w.next_name ≡ None) where
+  abbrev u : World
+  u = worked w d x e
+
+  written : (n : ℕ) → IsAs (get u.names n) (get w.names n)
+  written n =
+      subst (λ (v : Option Segment). IsAs v (get w.names n)) (sym (get-map (λ (k : ℕ) (s : Segment). record s { bytes = e.bytes k }) w.names n))
+      (as_written (get w.names n) (e.bytes n) (sizes n))
+
+  abbrev dropped : ℕ → List ℕ → World
+  dropped p is = with_changes u (map (λ (i : ℕ). Drops p i 1) is)
+
+  freed : (p : ℕ) (is : List ℕ) (n : ℕ) → IsLess (get (with_all u (map (λ (i : ℕ). Drops p i 1) is)).names n) (get w.names n)
+  freed p is n = go (list_any takes (map (λ (i : ℕ). Drops p i 1) is))
+    where
+      before : IsLess (get (dropped p is).names n) (get w.names n)
+      before = subst (λ (names : Map Segment). IsLess (get names n) (get w.names n)) (sym (drops_names u p is)) (less_as (get u.names n) (get w.names n) (written n))
+
+      go : (b : Bool) → IsLess (get (if b then swept (dropped p is) else dropped p is).names n) (get w.names n)
+      go true =
+          subst (λ (o : Option Segment). IsLess o (get w.names n)) (sym (get-filter (is_held (dropped p is).processes) (dropped p is).names n))
+          (less_kept (is_held (dropped p is).processes n) (get (dropped p is).names n) (get w.names n) before)
+      go false = before
+
+  made : (s : Segment) (n : ℕ) → IsMore (if w.next_name == n then Some s else get u.names n) (get w.names n)
+  made s n = go (w.next_name == n) refl
+    where
+      go : (b : Bool) → (w.next_name == n) ≡ b → IsMore (if b then Some s else get u.names n) (get w.names n)
+      go true q = more_new (Some s) (get w.names n) (ap (get w.names) (sym (eqb-true w.next_name n q)) ∙ new)
+      go false q = more_as (get u.names n) (get w.names n) (written n)
+
+  locked : (name count : ℕ) → Remains w.names (at_key name (locked_to count) u.names)
+  locked name count = go (nat_lt 0 count) refl
+    where
+      go : (b : Bool) → nat_lt 0 count ≡ b → Remains w.names (at_key name (locked_to count) u.names)
+      go true some =
+          NoneLess (λ n. by_key (λ o. IsMore o (get w.names n)) name n (locked_to count) u.names
+          (λ q. lock_more count (get u.names n) (get w.names n) some (written n)) (more_as (get u.names n) (get w.names n) (written n)))
+      go false none =
+          NoneMore (λ n. by_key (λ o. IsLess o (get w.names n)) name n (locked_to count) u.names
+          (λ q. lock_less count (get u.names n) (get w.names n) none (written n)) (less_as (get u.names n) (get w.names n) (written n)))
+
+  sized : (name size : ℕ) → Remains w.names (at_key name (sized_to size) u.names)
+  sized name size = elim (cases_lt size (size_of (get w.names name))) [
+    | inl l ↦ NoneMore (λ n. by_key (λ o. IsLess o (get w.names n)) name n (sized_to size) u.names
+        (λ q. (let z = ap (λ (k : ℕ). size_of (get w.names k)) q in size_less size (get u.names n) (get w.names n) (omega (arith, l, z)) (written n)))
+        (less_as (get u.names n) (get w.names n) (written n)))
+    | inr l ↦ NoneLess (λ n. by_key (λ o. IsMore o (get w.names n)) name n (sized_to size) u.names
+        (λ q. (let z = ap (λ (k : ℕ). size_of (get w.names k)) q in size_more size (get u.names n) (get w.names n) (omega (arith, l, z)) (written n)))
+        (more_as (get u.names n) (get w.names n) (written n)))
+  ]
+  abbrev Left : List Change → Type 0
+  Left cs = Remains w.names (with_all u cs).names
+
+  pub remains : (b : Before) (cpu : Cpu) (cs : List Change) → Moves b cpu cs → Left cs
+  unfolding with_changes
+  remains b cpu cs (NoneMoves is) = subst Left (sym is) (NoneMore (λ n. less_as (get u.names n) (get w.names n) (written n)))
+  remains b cpu cs (OneMade size flags i free is) = subst Left (sym is) (NoneLess (made (made_segment size flags)))
+  remains b cpu cs (OneSized name size is) = subst Left (sym is) (sized name (full_size size))
+  remains b cpu cs (OneLocked name count is) = subst Left (sym is) (locked name count)
+  remains b cpu cs (OneAliased index i h there free is) = subst Left (sym is) (NoneMore (λ n. less_as (get u.names n) (get w.names n) (written n)))
+  remains b cpu cs (SomeFreed xs frees is) = subst Left (sym is) (NoneMore (freed b.number xs))

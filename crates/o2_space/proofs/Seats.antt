@@ -1,0 +1,197 @@
+-- The segment registers behind a call on segments name nothing that they didn't name before it.
+use Rattle.std.proofs.Common.{◌≡◌, ◌⊎◌, inl, inr, ℕ, ◌-◌, ◌/◌, ◌&&◌, ◌||◌, Bool, true, false, cond, eqb, List, [], ◌∷◌, ◌++◌, map, Option, Some, None, option_map, ap, sym, ◌∙◌, refl, subst, if◌then◌else◌}
+use Rattle.std.specs.Prelude.{nat_lt}
+use Rattle.std.specs.List.{list_any}
+use Rattle.std.proofs.lemmas.Bool.{eqb-true, false≢true}
+use Rattle.o2_changes.proofs.Worlds.{held_put, number_kept, put_at, with_map}
+use Rattle.o2_isa.specs.declared.cpu.Cpu.{Cpu}
+use Rattle.o2_isa.specs.Presence.{is_in}
+use Rattle.o2_isa.specs.View.{Hold, bound_in, bound_registers, is_local, is_null}
+use Rattle.o2_run.specs.Room.{name_in, seated}
+use Rattle.o2_world.specs.CallParts.{Before}
+use Rattle.o2_world.specs.Changes.{Change, Drops, Holds, at_number, fewer, more, swept, takes, with_all, with_change, with_changes}
+use Rattle.o2_world.specs.Holders.{process_at}
+use Rattle.o2_world.specs.Known.{held_at}
+use Rattle.o2_world.specs.Map.{get}
+use Rattle.o2_world.specs.Moves.{Moves, NoneMoves, OneAliased, OneLocked, OneMade, OneSized, SomeFreed}
+use Rattle.o2_world.specs.Rulings.{held_as_code, held_by_call}
+use Rattle.o2_world.specs.Sound.{HasGoodRegisters, NamesHeld, has_rights}
+use Rattle.o2_world.specs.Views.{hold_of}
+use Rattle.o2_world.specs.World.{Held, Process, World}
+use Rattle.o2_stepping.proofs.Named.{both_in, one_of, or_back, or_front}
+
+-- What is held under an index goes on to have its name, as long as it is held.
+
+pub record KeepsNames (old new : ℕ → Option Held) : Type 0 where
+  pub each : (i : ℕ) (h k : Held) → old i ≡ Some h → new i ≡ Some k → k.name ≡ h.name
+
+some_is : {a b : Held} → Some a ≡ Some b → a ≡ b
+some_is e = cc
+
+none_some : {h : Held} → None ≡ Some h → ⊥
+none_some e = cc
+
+same_names : (old new : ℕ → Option Held) → ((i : ℕ) → new i ≡ old i) → KeepsNames old new
+same_names old new same = record { each = λ i h k was is. ap (λ (x : Held). x.name) (some_is (sym is ∙ (same i ∙ was))) }
+
+right_true : (a b : Bool) → (a && b) ≡ true → b ≡ true
+right_true true b e = e
+right_true false b e = absurd (false≢true e)
+
+more_name : (h a k : Held) (o : Option Held) → o ≡ Some a → more h o ≡ Some k → k.name ≡ a.name
+more_name h a k None was is = absurd (none_some was)
+more_name h a k (Some y) was is = ap (λ (x : Held). x.name) (sym (some_is is)) ∙ ap (λ (x : Held). x.name) (some_is was)
+
+fewer_name : (count : ℕ) (k : Held) (o : Option Held) → fewer count o ≡ Some k → (h : Held) × (o ≡ Some h) × (k.name ≡ h.name)
+fewer_name count k None is = absurd (none_some is)
+fewer_name count k (Some y) is = (y, refl, go (nat_lt count y.holds) is)
+  where
+    go : (b : Bool) → cond b (Some (record y { holds = y.holds - count })) None ≡ Some k → k.name ≡ y.name
+    go true f = ap (λ (x : Held). x.name) (sym (some_is f))
+    go false f = absurd (none_some f)
+
+module _ (ps : List Process) (n : ℕ) (x : Process) (at : process_at ps n ≡ Some x) where
+  -- one hold more
+  holds_names : (i : ℕ) (h : Held) → KeepsNames (held_at ps n) (held_at (at_number n (with_map (put_at i (more h))) ps) n)
+  holds_names i h = record { each = λ j a k was is. go j a k was (eqb n n && eqb j i) refl (sym (held_put ps n n i j (more h) x at) ∙ is) }
+    where
+      go : (j : ℕ) (a k : Held) → held_at ps n j ≡ Some a → (b : Bool) → (eqb n n && eqb j i) ≡ b → cond b (more h (held_at ps n i)) (held_at ps n j) ≡ Some k → k.name ≡ a.name
+      go j a k was true e is = more_name h a k (held_at ps n i) (ap (held_at ps n) (sym (eqb-true j i (right_true (eqb n n) (eqb j i) e))) ∙ was) is
+      go j a k was false e is = ap (λ (y : Held). y.name) (some_is (sym is ∙ was))
+
+  -- one less
+  drop_names : (i j : ℕ) (k : Held) → held_at (at_number n (with_map (put_at i (fewer 1))) ps) n j ≡ Some k → (h : Held) × (held_at ps n j ≡ Some h) × (k.name ≡ h.name)
+  drop_names i j k is = go (eqb n n && eqb j i) refl (sym (held_put ps n n i j (fewer 1) x at) ∙ is)
+    where
+      go : (b : Bool) → (eqb n n && eqb j i) ≡ b → cond b (fewer 1 (held_at ps n i)) (held_at ps n j) ≡ Some k → (h : Held) × (held_at ps n j ≡ Some h) × (k.name ≡ h.name)
+      go true e f =
+          (let r = fewer_name 1 k (held_at ps n i) f in
+          (r.0, ap (held_at ps n) (eqb-true j i (right_true (eqb n n) (eqb j i) e)) ∙ r.1, r.2))
+      go false e f = (k, f, refl)
+
+  still_there : (i : ℕ) → (z : Process) × (process_at (at_number n (with_map (put_at i (fewer 1))) ps) n ≡ Some z)
+  still_there i =
+      some_process (process_at (at_number n (with_map (put_at i (fewer 1))) ps) n) x.cpu
+      (number_kept (λ (p : Process). p.cpu) (put_at i (fewer 1)) (λ p. refl) n n ps ∙ ap (option_map (λ (p : Process). p.cpu)) at)
+    where
+      some_process : (o : Option Process) (c : Cpu) → option_map (λ (p : Process). p.cpu) o ≡ Some c → (z : Process) × (o ≡ Some z)
+      some_process None c e = absurd (cc)
+      some_process (Some z) c e = (z, refl)
+
+drops_names : (v : World) (n : ℕ) (x : Process) → process_at v.processes n ≡ Some x → (is : List ℕ) (j : ℕ) (k : Held)
+    → held_at (with_changes v (map (λ (i : ℕ). Drops n i 1) is)).processes n j ≡ Some k → (h : Held) × (held_at v.processes n j ≡ Some h) × (k.name ≡ h.name)
+unfolding with_changes
+drops_names v n x at [] j k e = (k, e, refl)
+drops_names v n x at (i ∷ is) j k e =
+    let z = still_there v.processes n x at i in
+    let r = drops_names (with_change v (Drops n i 1)) n z.0 z.1 is j k e in
+    let s = drop_names v.processes n x at i j r.0 r.1 in
+    (s.0, s.1, r.2 ∙ s.2)
+
+module _ (u : World) (b : Before) (x : Process) (at : process_at u.processes b.number ≡ Some x) where
+  abbrev Kept : List Change → Type 0
+  Kept cs = KeepsNames (held_at u.processes b.number) (held_at (with_all u cs).processes b.number)
+
+  freed : (is : List ℕ) → Kept (map (λ (i : ℕ). Drops b.number i 1) is)
+  freed is = go (list_any takes (map (λ (i : ℕ). Drops b.number i 1) is))
+    where
+      behind : KeepsNames (held_at u.processes b.number) (held_at (with_changes u (map (λ (i : ℕ). Drops b.number i 1) is)).processes b.number)
+      behind = record {
+        each = λ j h k was is_k.
+            (let r = drops_names u b.number x at is j k is_k in
+            r.2 ∙ ap (λ (y : Held). y.name) (some_is (sym r.1 ∙ was)));
+      }
+
+      go : (t : Bool) → KeepsNames (held_at u.processes b.number)
+          (held_at (if t then swept (with_changes u (map (λ (i : ℕ). Drops b.number i 1) is)) else with_changes u (map (λ (i : ℕ). Drops b.number i 1) is)).processes b.number)
+      go true = behind
+      go false = behind
+
+  -- behind the changes of a call
+  pub names_kept : (cpu : Cpu) (cs : List Change) → Moves b cpu cs → Kept cs
+  unfolding with_changes
+  names_kept cpu cs (NoneMoves is) = subst Kept (sym is) (same_names _ _ (λ i. refl))
+  names_kept cpu cs (OneMade size flags i free is) = subst Kept (sym is) (holds_names u.processes b.number x at i (held_by_call b.known.next))
+  names_kept cpu cs (OneSized name size is) = subst Kept (sym is) (same_names _ _ (λ i. refl))
+  names_kept cpu cs (OneLocked name count is) = subst Kept (sym is) (same_names _ _ (λ i. refl))
+  names_kept cpu cs (OneAliased index i h there free is) = subst Kept (sym is) (holds_names u.processes b.number x at i (held_as_code h.name))
+  names_kept cpu cs (SomeFreed xs frees is) = subst Kept (sym is) (freed xs)
+
+-- What the registers name.
+
+abbrev Names : (ℕ → Option Held) → ℕ → Type 0
+Names held s = (is_null s ≡ true) ⊎ ((h : Held) × (held (s / 8) ≡ Some h))
+
+-- a selector stays, or is cleared
+abbrev Stays : ℕ → ℕ → Type 0
+Stays s z = (z ≡ s) ⊎ (z ≡ 0)
+
+pub record StaySelectors (c e : Cpu) : Type 0 where
+  pub es : Stays c.es e.es
+  pub cs : Stays c.cs e.cs
+  pub ss : Stays c.ss e.ss
+  pub ds : Stays c.ds e.ds
+
+names_held : (p : Process) (ok : ℕ → Bool) (s : ℕ) → NamesHeld p ok s → Names (get p.held) s
+names_held p ok s named = inr (go (get p.held (s / 8)) named.1)
+  where
+    go : (o : Option Held) → has_rights ok o ≡ true → (h : Held) × (o ≡ Some h)
+    go None e = absurd (false≢true e)
+    go (Some h) e = (h, refl)
+
+data_held : (p : Process) (ok : ℕ → Bool) (s : ℕ) → (is_null s ≡ true) ⊎ NamesHeld p ok s → Names (get p.held) s
+data_held p ok s (inl null) = inl null
+data_held p ok s (inr named) = names_held p ok s named
+
+module _ (old new : ℕ → Option Held) (keeps : KeepsNames old new) (q : ℕ) where
+  abbrev Has : (ℕ → Option Held) → ℕ → Type 0
+  Has held s = is_in q (name_in (bound_in (λ i. option_map hold_of (held i)) s)) ≡ true
+
+  by_hold : (o m : Option Held) → ((h k : Held) → o ≡ Some h → m ≡ Some k → k.name ≡ h.name) → (h : Held) → o ≡ Some h
+      → is_in q (name_in (option_map hold_of m)) ≡ true → is_in q (name_in (option_map hold_of o)) ≡ true
+  by_hold None m f h at e = absurd (none_some at)
+  by_hold (Some y) None f h at e = absurd (false≢true e)
+  by_hold (Some y) (Some k) f h at e = subst (λ (name : ℕ). is_in q (name ∷ []) ≡ true) (f y k refl refl) e
+
+  one_kept : (s z : ℕ) → Names old s → Stays s z → Has new z → Has old s
+  one_kept s z names (inr zero) e = absurd (false≢true (subst (λ (y : ℕ). Has new y) zero e))
+  one_kept s z names (inl same) e = go (is_null s) refl (is_local s) (subst (λ (y : ℕ). Has new y) same e)
+    where
+      there : (is_null s ≡ false) → (h : Held) × (old (s / 8) ≡ Some h)
+      there some = by names
+        where
+          by : Names old s → (h : Held) × (old (s / 8) ≡ Some h)
+          by (inl null) = absurd (false≢true (sym some ∙ null))
+          by (inr held) = held
+
+      go : (a : Bool) → is_null s ≡ a → (b : Bool) → is_in q (name_in (cond a None (cond b (option_map hold_of (new (s / 8))) None))) ≡ true
+          → is_in q (name_in (cond a None (cond b (option_map hold_of (old (s / 8))) None))) ≡ true
+      go true null b f = absurd (false≢true f)
+      go false some false f = absurd (false≢true f)
+      go false some true f = (let h = there some in by_hold (old (s / 8)) (new (s / 8)) (λ a k. keeps.each (s / 8) a k) h.0 h.1 f)
+
+  both_kept : (xs ys vs ws : List ℕ) → (is_in q xs ≡ true → is_in q vs ≡ true) → (is_in q ys ≡ true → is_in q ws ≡ true) → is_in q (xs ++ ys) ≡ true → is_in q (vs ++ ws) ≡ true
+  both_kept xs ys vs ws f g e = both_in q vs ws ∙ by (one_of (is_in q xs) (is_in q ys) (sym (both_in q xs ys) ∙ e))
+    where
+      by : (is_in q xs ≡ true) ⊎ (is_in q ys ≡ true) → (is_in q vs || is_in q ws) ≡ true
+      by (inl h) = or_front (is_in q vs) (is_in q ws) (f h)
+      by (inr h) = or_back (is_in q vs) (is_in q ws) (g h)
+
+  abbrev at_selector : (ℕ → Option Held) → ℕ → List ℕ
+  at_selector held s = name_in (bound_in (λ i. option_map hold_of (held i)) s)
+
+  -- where those before it name what is held, or nothing
+  pub seats_kept : (c e : Cpu) → Names old c.es → Names old c.cs → Names old c.ss → Names old c.ds → StaySelectors c e
+      → is_in q (seated (bound_registers (λ i. option_map hold_of (new i)) e)) ≡ true → is_in q (seated (bound_registers (λ i. option_map hold_of (old i)) c)) ≡ true
+  seats_kept c e es cs ss ds stay =
+      both_kept (at_selector new e.es ++ at_selector new e.cs ++ at_selector new e.ss) (at_selector new e.ds) (at_selector old c.es ++ at_selector old c.cs ++ at_selector old c.ss) (at_selector old c.ds)
+      (both_kept (at_selector new e.es ++ at_selector new e.cs) (at_selector new e.ss) (at_selector old c.es ++ at_selector old c.cs) (at_selector old c.ss)
+      (both_kept (at_selector new e.es) (at_selector new e.cs) (at_selector old c.es) (at_selector old c.cs) (one_kept c.es e.es es stay.es) (one_kept c.cs e.cs cs stay.cs))
+      (one_kept c.ss e.ss ss stay.ss))
+      (one_kept c.ds e.ds ds stay.ds)
+
+-- of a process with good registers
+pub seats_of : (x : Process) (new : ℕ → Option Held) (e : Cpu) → HasGoodRegisters x → KeepsNames (get x.held) new → StaySelectors x.cpu e → (q : ℕ)
+    → is_in q (seated (bound_registers (λ i. option_map hold_of (new i)) e)) ≡ true → is_in q (seated (bound_registers (λ i. option_map hold_of (get x.held i)) x.cpu)) ≡ true
+seats_of x new e good keeps stay q =
+    seats_kept (get x.held) new keeps q x.cpu e (data_held x _ x.cpu.es good.es) (names_held x _ x.cpu.cs good.cs) (names_held x _ x.cpu.ss good.ss) (data_held x _ x.cpu.ds good.ds) stay
