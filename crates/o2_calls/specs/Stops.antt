@@ -54,7 +54,7 @@ LeavesHolds (Realloc size selector) m n = KeepsHolds m n
 LeavesHolds (Free selector) m n = Unit {0}
 LeavesHolds (Size selector s o) m n = KeepsHolds m n
 LeavesHolds (Lock selector) m n = KeepsHolds m n
-LeavesHolds (Unlock selector) m n = Unit {0}
+LeavesHolds (Unlock selector) m n = KeepsHolds m n
 LeavesHolds (Alias selector s o) m n = KeepsHolds m n
 
 -- what a call that has a pointer leaves of what lives: all of it, with its size

@@ -149,6 +149,11 @@ returns-in-Size-clause-holds g c =
     subst (λ (a : SegmentArguments). LeavesHolds a c.args.regions.now c.size_seg.new.regions) (sym c.in-Size.is)
     (subst (KeepsHolds c.args.regions.now) (sym c.size_seg.ensures.regions) (holds_refl c.args.regions.now))
 
+pub returns-in-Unlock-clause-holds : goal.returns-in-Unlock-clause-holds
+returns-in-Unlock-clause-holds g c =
+    subst (λ (a : SegmentArguments). LeavesHolds a c.args.regions.now c.unlock_seg.new.regions) (sym c.in-Unlock.is)
+    (subst (KeepsHolds c.args.regions.now) (sym c.unlock_seg.ensures.regions) (holds_refl c.args.regions.now))
+
 pub returns-in-Realloc-clause-swap_full : goal.returns-in-Realloc-clause-swap_full
 returns-in-Realloc-clause-swap_full g c = λ e.
     subst (λ (a : SegmentArguments). LacksSwap a c.args.store.now c.args.regions.now c.args.pid) (sym c.in-Realloc.is) (c.realloc_seg.ensures.load e, c.realloc_seg.ensures.all_load e)
