@@ -41,14 +41,14 @@ seated_same m n pid c same =
     ∙ ap (λ (o : Option Held). pair_of (held_under m pid c.es) ++ pair_of (held_under m pid c.cs) ++ pair_of o ++ pair_of (held_under n pid c.ds)) (under_same m n pid c.ss same)
     ∙ ap (λ (o : Option Held). pair_of (held_under m pid c.es) ++ pair_of (held_under m pid c.cs) ++ pair_of (held_under m pid c.ss) ++ pair_of o) (under_same m n pid c.ds same)
 
-pair_name : (m : Maps) (pid s : ℕ) → ages_of (pair_of (held_under m pid s)) ≡ name_in (bound_in (hold_in m pid) s)
+pub pair_name : (m : Maps) (pid s : ℕ) → ages_of (pair_of (held_under m pid s)) ≡ name_in (bound_in (hold_in m pid) s)
 pair_name m pid s = go (held_under m pid s) ∙ ap name_in (sym (bound_is m pid s))
   where
     go : (o : Option Held) → ages_of (pair_of o) ≡ name_in (option_map (hold_of m pid (s / 8)) o)
     go None = refl
     go (Some h) = refl
 
-joined : (xs ys : List (SegId × ℕ)) (a b : List ℕ) → ages_of xs ≡ a → ages_of ys ≡ b → ages_of (xs ++ ys) ≡ a ++ b
+pub joined : (xs ys : List (SegId × ℕ)) (a b : List ℕ) → ages_of xs ≡ a → ages_of ys ≡ b → ages_of (xs ++ ys) ≡ a ++ b
 joined xs ys a b e f = ages_both xs ys ∙ ap (λ (l : List ℕ). l ++ ages_of ys) e ∙ ap (λ (l : List ℕ). a ++ l) f
 
 pub ages_seated : (m : Maps) (pid : ℕ) (c : Cpu) → ages_of (seated_in m pid c) ≡ seated (bound_registers (hold_in m pid) c)

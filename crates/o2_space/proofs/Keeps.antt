@@ -1,0 +1,275 @@
+-- What a call on segments keeps in memory: the segments in the segment registers, and that behind its pointer.
+use Rattle.std.proofs.Common.{◌≡◌, ◌⊎◌, inl, inr, ℕ, suc, ◌+◌, ◌/◌, ◌==◌, ◌&&◌, ◌||◌, nat_le, not, Bool, true, false, cond, List, [], ◌∷◌, ◌++◌, Option, Some, None, is_some, IsSome, option_map, ap, sym, ◌∙◌, refl, subst, arith, if◌then◌else◌}
+use Rattle.std.specs.Prelude.{length, slice_get}
+use Rattle.std.proofs.lemmas.Bool.{eqb-true, false≢true}
+use Rattle.o2_desc.specs.Bits.{has_bit}
+use Rattle.o2_entries.specs.declared.Entry.{Entry}
+use Rattle.o2_entries.specs.Tables.{slot_at}
+use Rattle.o2_isa.specs.declared.cpu.Cpu.{Cpu}
+use Rattle.o2_isa.specs.declared.cpu.Loaded.TheVariants as loaded
+use Rattle.o2_isa.specs.Pointers.{has_present_range, is_for_es, is_passed, is_ready}
+use Rattle.o2_isa.specs.Presence.{is_in}
+use Rattle.o2_isa.specs.Steps.{selector}
+use Rattle.o2_isa.specs.View.{Hold, View, bound_in, bound_registers, found, is_local, is_null, is_readable, is_writable, probe_of, refused, trap_of, when}
+use Rattle.o2_place.specs.declared.seg_id.SegId.{SegId}
+use Rattle.o2_regions.specs.declared.held.Held.{Held}
+use Rattle.o2_regions.specs.Maps.{Maps, held_at, table_of}
+use Rattle.o2_store.specs.Shelf.{Shelf, aged, entry, entry_of, place_of}
+use Rattle.o2_segbus.specs.Bus.{held_under}
+use Rattle.o2_segbus.specs.Frames.{CanStep}
+use Rattle.o2_segbus.specs.Guards.{AreAged}
+use Rattle.o2_segbus.specs.Seen.{hold_in, hold_of, key_of, present_in, present_under, seen, seen_with}
+use Rattle.o2_segbus.proofs.Holds.{bound_is}
+use Rattle.o2_service.specs.Needs.{AreLive, needs}
+use Rattle.o2_service.specs.Told.{IsHeldWell}
+use Rattle.o2_run.specs.Room.{Pointer, name_in, passed, pointed, seated}
+use Rattle.o2_gate.specs.declared.gathering.SegmentArguments.{SegmentArguments}
+use Rattle.o2_gate.specs.declared.gathering.SegmentArguments.TheVariants.{Alloc, Realloc, Free, Size, Lock, Unlock, Alias}
+use Rattle.o2_gate.specs.Gathers.{targets}
+use Rattle.o2_gate.specs.Pointed.{are_ready, pointer}
+use Rattle.o2_stepping.specs.Rooms.{aimed_in, ages_of, pair_of, seated_in}
+use Rattle.o2_stepping.proofs.Lefts.{ages_both}
+use Rattle.o2_stepping.proofs.Named.{age_is, both_in, key_of_live, needed_at, one_of, or_back, or_front, seated_present}
+use Rattle.o2_stepping.proofs.Rounds.{ages_seated, live_more, live_seated, pair_name}
+use Rattle.o2_space.proofs.Aimed.{live_aimed}
+
+-- Segments of a list, by their names and their numbers.
+
+in_ages : (need : List (SegId × ℕ)) (n : ℕ) → is_in n (ages_of need) ≡ true → (i : ℕ) × (p : SegId × ℕ) × (slice_get need i ≡ Some p) × (p.0.age ≡ n)
+in_ages [] n e = absurd (false≢true e)
+in_ages (p ∷ ps) n e = by (one_of (p.0.age == n) (is_in n (ages_of ps)) e) (in_ages ps n)
+  where
+    by : ((p.0.age == n) ≡ true) ⊎ (is_in n (ages_of ps) ≡ true) → (is_in n (ages_of ps) ≡ true → (i : ℕ) × (q : SegId × ℕ) × (slice_get ps i ≡ Some q) × (q.0.age ≡ n))
+        → (i : ℕ) × (q : SegId × ℕ) × (slice_get (p ∷ ps) i ≡ Some q) × (q.0.age ≡ n)
+    by (inl x) rest = (0, p, refl, eqb-true p.0.age n x)
+    by (inr x) rest = (let r = rest x in (suc r.0, r.1, r.2, r.3))
+
+same_number : (n : ℕ) → (n == n) ≡ true
+same_number n = grind arith
+
+some_is : {a b : SegId × ℕ} → Some a ≡ Some b → a ≡ b
+some_is e = cc
+
+none_some : {X : Type 0} {x : X} → None ≡ Some x → ⊥
+none_some e = cc
+
+number_some : {a b : ℕ} → Some a ≡ Some b → a ≡ b
+number_some e = cc
+
+age_in : (need : List (SegId × ℕ)) (i : ℕ) (p : SegId × ℕ) → slice_get need i ≡ Some p → is_in p.0.age (ages_of need) ≡ true
+age_in [] i p e = absurd (none_some e)
+age_in (q ∷ qs) 0 p e = subst (λ (x : SegId × ℕ). ((q.0.age == x.0.age) || is_in x.0.age (ages_of qs)) ≡ true) (some_is e) (or_front (q.0.age == q.0.age) (is_in q.0.age (ages_of qs)) (same_number q.0.age))
+age_in (q ∷ qs) (suc i) p e = or_back (q.0.age == p.0.age) (is_in p.0.age (ages_of qs)) (age_in qs i p e)
+
+need_at : (need : List (SegId × ℕ)) (i : ℕ) (p : SegId × ℕ) → slice_get need i ≡ Some p → needs need p.0.key ≡ true
+need_at [] i p e = absurd (none_some e)
+need_at (q ∷ qs) 0 p e = subst (λ (x : SegId × ℕ). ((x.0.key == q.0.key) || needs qs x.0.key) ≡ true) (some_is e) (or_front (q.0.key == q.0.key) (needs qs q.0.key) (same_number q.0.key))
+need_at (q ∷ qs) (suc i) p e = or_back (p.0.key == q.0.key) (needs qs p.0.key) (need_at qs i p e)
+
+-- what is needed has one of the names
+pub needs_age : (s : Shelf) (need : List (SegId × ℕ)) (k : ℕ) → AreLive s need → needs need k ≡ true → is_in (entry s k).age (ages_of need) ≡ true
+needs_age s need k live e =
+    let r = needed_at need k e in
+    let p = r.1.0 in
+    let at = r.1.1.0 in
+    let age = age_is s p.0 (live.each r.0 p at) in
+    subst (λ (n : ℕ). is_in n (ages_of need) ≡ true) (sym age ∙ ap (λ (j : ℕ). (entry s j).age) r.1.1.1) (age_in need r.0 p at)
+
+-- A segment with one of the names that stays in memory is there.
+
+slot_some : (s : Shelf) (id : SegId) → IsSome (entry_of s id) → IsSome (slot_at s.entries id.key)
+slot_some s id live = go (slot_at s.entries id.key) refl live
+  where
+    go : (o : Option Entry) → slot_at s.entries id.key ≡ o → is_some (aged id.age o) ≡ true → is_some o ≡ true
+    go None e l = absurd (false≢true l)
+    go (Some x) e l = refl
+
+pub stays_here : (s t : Shelf) (need : List (SegId × ℕ)) → AreAged s → AreAged t → AreLive s need → AreLive t need
+    → ((k : ℕ) → needs need k ≡ true → IsSome (slot_at t.entries k) → IsSome (place_of s k) → IsSome (place_of t k))
+    → (n k : ℕ) → is_in n (ages_of need) ≡ true → present_in s n ≡ true → key_of t n ≡ Some k → IsSome (place_of t k)
+stays_here s t need once now live lives stays n k named present key =
+    let r = in_ages need n named in
+    let id : SegId = r.1.0 in
+    let was : key_of s n ≡ Some id.key = ap (key_of s) (sym r.3) ∙ key_of_live s once id (live.each r.0 r.1 r.2) in
+    let is : key_of t n ≡ Some id.key = ap (key_of t) (sym r.3) ∙ key_of_live t now id (lives.each r.0 r.1 r.2) in
+    let same : id.key ≡ k = number_some (sym is ∙ key) in
+    subst (λ (j : ℕ). IsSome (place_of t j)) same
+    (stays id.key (need_at need r.0 r.1 r.2) (slot_some t id (lives.each r.0 r.1 r.2)) (ap (present_under s) (sym was) ∙ present))
+
+-- What goes on to be held lives on.
+
+pub well_kept : (t : Shelf) (m o : Maps) → ((pid i : ℕ) (h : Held) → held_at m pid i ≡ Some h → held_at o pid i ≡ Some h) → IsHeldWell t o → (s : Shelf) → IsHeldWell s m → IsHeldWell t m
+well_kept t m o keeps well s was = record { live = λ pid i h e. well.live pid i h (keeps pid i h e); inside = was.inside }
+
+-- Names behind a pointer.
+
+pointed_in : (v : View) (p : Pointer) (q : ℕ) → is_in q (pointed v (p ∷ [])) ≡ true → is_in q (name_in (bound_in v.held p.selector)) ≡ true
+pointed_in v p q e = go (p.count == 0) (bound_in v.held p.selector) e
+  where
+    hold : (h : Hold) (ok fits : Bool) → is_in q (if ok then h.name ∷ (if fits then [] else []) else []) ≡ true → is_in q (h.name ∷ []) ≡ true
+    hold h true true f = f
+    hold h true false f = f
+    hold h false fits f = absurd (false≢true f)
+
+    go : (z : Bool) (o : Option Hold) → is_in q (if z then [] else passed v o p []) ≡ true → is_in q (name_in o) ≡ true
+    go true o f = absurd (false≢true f)
+    go false None f = absurd (false≢true f)
+    go false (Some h) f = hold h (is_for_es v p.selector && p.good h.rights) (nat_le (p.offset + p.count) (length (v.bytes h.name))) f
+
+-- a selector that names what can be written may be loaded into ES
+
+bits_read : (a b c : Bool) → (a && not b && c) ≡ true → (a && (not b || c)) ≡ true
+bits_read true false c e = refl
+bits_read true true c e = absurd (false≢true e)
+bits_read false b c e = absurd (false≢true e)
+
+writable_reads : (access : ℕ) → is_writable access ≡ true → is_readable access ≡ true
+writable_reads access e = bits_read (has_bit access 4) (has_bit access 3) (has_bit access 1) e
+
+hold_is : {a b : Hold} → Some a ≡ Some b → a ≡ b
+hold_is e = cc
+
+is_es : (v : View) (z : ℕ) (h : Hold) → ((n : ℕ) → v.discarded n ≡ false) → bound_in v.held z ≡ Some h → is_writable h.rights ≡ true → is_for_es v z ≡ true
+unfolding probe_of
+is_es v z h kept bound good = go (is_null z) (found v z) bound
+  where
+    passes : (r d p : Bool) → r ≡ true → d ≡ false → is_passed (cond r (cond d (trap_of 11 z) (cond p loaded.Done (loaded.Miss (selector z)))) (refused z)) ≡ true
+    passes true true p e f = absurd (false≢true (sym f))
+    passes true false true e f = refl
+    passes true false false e f = refl
+    passes false d p e f = absurd (false≢true e)
+
+    go : (n : Bool) (o : Option Hold) → cond n None o ≡ Some h → is_passed (cond n loaded.Done (when v 11 z is_readable o)) ≡ true
+    go true o e = refl
+    go false None e = absurd (none_some e)
+    go false (Some y) e =
+        passes (is_readable y.rights) (v.discarded y.name) (v.present y.name) (ap (λ (x : Hold). is_readable x.rights) (hold_is e) ∙ writable_reads h.rights good) (kept y.name)
+
+left_true : (a b : Bool) → (a && b) ≡ true → a ≡ true
+left_true true b e = refl
+left_true false b e = absurd (false≢true e)
+
+right_true : (a b : Bool) → (a && b) ≡ true → b ≡ true
+right_true true b e = e
+right_true false b e = absurd (false≢true e)
+
+-- What the registers and the pointer of a call name.
+
+module _ (s : Shelf) (m : Maps) (pid : ℕ) (c : Cpu) where
+  -- the segment behind a pointer that is ready is there, and may be written
+  record IsAimed (z n : ℕ) : Type 0 where
+    hold : Hold
+    bound : bound_in (hold_in m pid) z ≡ Some hold
+    rights : is_writable hold.rights ≡ true
+    present : present_in s hold.name ≡ true
+    named : is_in n (hold.name ∷ []) ≡ true
+
+  aimed_by : (z o count n : ℕ) → (count == 0) ≡ false → is_ready is_writable (seen s m pid c) z o count ≡ true → is_in n (name_in (bound_in (hold_in m pid) z)) ≡ true → IsAimed z n
+  unfolding is_ready seen_with
+  aimed_by z o count n some ready named = go (one_of (count == 0) (has_present_range is_writable (seen s m pid c) o count (bound_in (hold_in m pid) z)) ready)
+    where
+      by : (q : Option Hold) → bound_in (hold_in m pid) z ≡ q → has_present_range is_writable (seen s m pid c) o count q ≡ true → is_in n (name_in q) ≡ true → IsAimed z n
+      by None e x f = absurd (false≢true x)
+      by (Some h) e x f = record {
+        hold = h;
+        bound = e;
+        rights = left_true (is_writable h.rights) _ (right_true (present_in s h.name) _ x);
+        present = left_true (present_in s h.name) _ x;
+        named = f;
+      }
+
+      go : ((count == 0) ≡ true) ⊎ (has_present_range is_writable (seen s m pid c) o count (bound_in (hold_in m pid) z) ≡ true) → IsAimed z n
+      go (inl e) = absurd (false≢true (sym some ∙ e))
+      go (inr x) = by (bound_in (hold_in m pid) z) refl x named
+
+  aged_pair : (z n : ℕ) → is_in n (ages_of (pair_of (held_under m pid z))) ≡ true → is_in n (name_in (bound_in (hold_in m pid) z)) ≡ true
+  aged_pair z n e = subst (λ (ns : List ℕ). is_in n ns ≡ true) (pair_name m pid z) e
+
+  same_name : (a n : ℕ) → is_in n (a ∷ []) ≡ true → a ≡ n
+  same_name a n e = go (one_of (a == n) false e)
+    where
+      go : ((a == n) ≡ true) ⊎ (false ≡ true) → a ≡ n
+      go (inl x) = eqb-true a n x
+      go (inr x) = absurd (false≢true x)
+
+  aimed_there : (z n : ℕ) → IsAimed z n → present_in s n ≡ true
+  aimed_there z n x = subst (λ (k : ℕ). present_in s k ≡ true) (same_name x.hold.name n x.named) x.present
+
+  module _ (v : View) (held : v.held ≡ hold_in m pid) (kept : (n : ℕ) → v.discarded n ≡ false) where
+    aimed_passes : (z o count n : ℕ) → (count == 0) ≡ false → IsAimed z n → is_in n (pointed v (pointer true z o count ∷ [])) ≡ true
+    aimed_passes z o count n some x =
+        subst (λ (b : Bool). is_in n (if b then [] else passed v (bound_in v.held z) (pointer true z o count) []) ≡ true) (sym some)
+        (subst (λ (q : Option Hold). is_in n (passed v q (pointer true z o count) []) ≡ true) (sym bound)
+        (pass (is_for_es v z) (is_writable x.hold.rights) (nat_le (o + count) (length (v.bytes x.hold.name))) (is_es v z x.hold kept bound x.rights) x.rights))
+      where
+        bound : bound_in v.held z ≡ Some x.hold
+        bound = ap (λ (f : ℕ → Option Hold). bound_in f z) held ∙ x.bound
+
+        pass : (es ok fits : Bool) → es ≡ true → ok ≡ true → is_in n (if es && ok then x.hold.name ∷ (if fits then [] else []) else []) ≡ true
+        pass true true true e f = x.named
+        pass true true false e f = x.named
+        pass true false fits e f = absurd (false≢true f)
+        pass false ok fits e f = absurd (false≢true e)
+
+    one_passes : (z o count n : ℕ) → (count == 0) ≡ false → are_ready (seen s m pid c) (pointer true z o count ∷ []) ≡ true → is_in n (ages_of (pair_of (held_under m pid z))) ≡ true
+        → is_in n (pointed v (pointer true z o count ∷ [])) ≡ true
+    one_passes z o count n some ready named =
+        aimed_passes z o count n some (aimed_by z o count n some (left_true (is_ready is_writable (seen s m pid c) z o count) true ready) (aged_pair z n named))
+
+    -- behind the pointer of a call is what it keeps in memory for it
+    pub passes_for : (a : SegmentArguments) (n : ℕ) → are_ready (seen s m pid c) (targets a) ≡ true → is_in n (ages_of (aimed_in m pid a)) ≡ true → is_in n (pointed v (targets a)) ≡ true
+    passes_for (Alloc size z o flags) n ready e = one_passes z o 2 n refl ready e
+    passes_for (Realloc size z) n ready e = absurd (false≢true e)
+    passes_for (Free z) n ready e = absurd (false≢true e)
+    passes_for (Size y z o) n ready e = one_passes z o 4 n refl ready e
+    passes_for (Lock z) n ready e = absurd (false≢true e)
+    passes_for (Unlock z) n ready e = absurd (false≢true e)
+    passes_for (Alias y z o) n ready e = one_passes z o 2 n refl ready e
+
+    kept_for : (z o count n : ℕ) → is_in n (pointed v (pointer true z o count ∷ [])) ≡ true → is_in n (ages_of (pair_of (held_under m pid z))) ≡ true
+    kept_for z o count n e =
+        subst (λ (ns : List ℕ). is_in n ns ≡ true) (sym (pair_name m pid z))
+        (subst (λ (f : ℕ → Option Hold). is_in n (name_in (bound_in f z)) ≡ true) held (pointed_in v (pointer true z o count) n e))
+
+    pub keeps_for : (a : SegmentArguments) (n : ℕ) → is_in n (pointed v (targets a)) ≡ true → is_in n (ages_of (aimed_in m pid a)) ≡ true
+    keeps_for (Alloc size z o flags) n e = kept_for z o 2 n e
+    keeps_for (Realloc size z) n e = absurd (false≢true e)
+    keeps_for (Free z) n e = absurd (false≢true e)
+    keeps_for (Size y z o) n e = kept_for z o 4 n e
+    keeps_for (Lock z) n e = absurd (false≢true e)
+    keeps_for (Unlock z) n e = absurd (false≢true e)
+    keeps_for (Alias y z o) n e = kept_for z o 2 n e
+
+  there_for : (a : SegmentArguments) (n : ℕ) → are_ready (seen s m pid c) (targets a) ≡ true → is_in n (ages_of (aimed_in m pid a)) ≡ true → present_in s n ≡ true
+  there_for (Alloc size z o flags) n ready e = aimed_there z n (aimed_by z o 2 n refl (left_true _ true ready) (aged_pair z n e))
+  there_for (Realloc size z) n ready e = absurd (false≢true e)
+  there_for (Free z) n ready e = absurd (false≢true e)
+  there_for (Size y z o) n ready e = aimed_there z n (aimed_by z o 4 n refl (left_true _ true ready) (aged_pair z n e))
+  there_for (Lock z) n ready e = absurd (false≢true e)
+  there_for (Unlock z) n ready e = absurd (false≢true e)
+  there_for (Alias y z o) n ready e = aimed_there z n (aimed_by z o 2 n refl (left_true _ true ready) (aged_pair z n e))
+
+  abbrev need : SegmentArguments → List (SegId × ℕ)
+  need a = seated_in m pid c ++ aimed_in m pid a
+
+  pub ages_need : (a : SegmentArguments) → ages_of (need a) ≡ seated (bound_registers (hold_in m pid) c) ++ ages_of (aimed_in m pid a)
+  ages_need a = ages_both (seated_in m pid c) (aimed_in m pid a) ∙ ap (λ (ns : List ℕ). ns ++ ages_of (aimed_in m pid a)) (ages_seated m pid c)
+
+  pub live_need : (a : SegmentArguments) → (t : Shelf) → IsHeldWell t m → AreLive t (need a)
+  live_need a t well = live_more t (seated_in m pid c) (aimed_in m pid a) (live_seated t m pid c well) (live_aimed t m pid a well)
+
+  -- all of it is in memory before the call
+  pub need_present : (a : SegmentArguments) → CanStep s m pid c → are_ready (seen s m pid c) (targets a) ≡ true → (n : ℕ) → is_in n (ages_of (need a)) ≡ true → present_in s n ≡ true
+  unfolding seen_with
+  need_present a step ready n e =
+      by (one_of (is_in n seats) (is_in n aimed) (sym (both_in n seats aimed) ∙ (ap (is_in n) (sym (ages_need a)) ∙ e)))
+    where
+      seats : List ℕ
+      seats = seated (bound_registers (hold_in m pid) c)
+
+      aimed : List ℕ
+      aimed = ages_of (aimed_in m pid a)
+
+      by : (is_in n (seated (bound_registers (hold_in m pid) c)) ≡ true) ⊎ (is_in n (ages_of (aimed_in m pid a)) ≡ true) → present_in s n ≡ true
+      by (inl x) = seated_present (present_in s) (bound_registers (hold_in m pid) c) step.bound n x
+      by (inr x) = there_for a n ready x
