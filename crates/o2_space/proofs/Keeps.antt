@@ -1,8 +1,7 @@
 -- What a call on segments keeps in memory: the segments in the segment registers, and that behind its pointer.
-use Rattle.std.proofs.Common.{◌≡◌, ◌⊎◌, inl, inr, ℕ, suc, ◌+◌, ◌/◌, ◌==◌, ◌&&◌, ◌||◌, nat_le, not, Bool, true, false, cond, List, [], ◌∷◌, ◌++◌, Option, Some, None, is_some, IsSome, option_map, ap, sym, ◌∙◌, refl, subst, arith, if◌then◌else◌}
+use Rattle.std.proofs.Common.{◌≡◌, ◌⊎◌, inl, inr, ℕ, zero, suc, ◌+◌, ◌/◌, ◌==◌, ◌&&◌, ◌||◌, nat_le, not, Bool, true, false, cond, List, [], ◌∷◌, ◌++◌, Option, Some, None, is_some, IsSome, option_map, ap, sym, ◌∙◌, refl, subst, arith, if◌then◌else◌}
 use Rattle.std.specs.Prelude.{length, slice_get}
 use Rattle.std.proofs.lemmas.Bool.{eqb-true, false≢true}
-use Rattle.o2_desc.specs.Bits.{has_bit}
 use Rattle.o2_entries.specs.declared.Entry.{Entry}
 use Rattle.o2_entries.specs.Tables.{slot_at}
 use Rattle.o2_isa.specs.declared.cpu.Cpu.{Cpu}
@@ -58,12 +57,12 @@ number_some e = cc
 
 age_in : (need : List (SegId × ℕ)) (i : ℕ) (p : SegId × ℕ) → slice_get need i ≡ Some p → is_in p.0.age (ages_of need) ≡ true
 age_in [] i p e = absurd (none_some e)
-age_in (q ∷ qs) 0 p e = subst (λ (x : SegId × ℕ). ((q.0.age == x.0.age) || is_in x.0.age (ages_of qs)) ≡ true) (some_is e) (or_front (q.0.age == q.0.age) (is_in q.0.age (ages_of qs)) (same_number q.0.age))
+age_in (q ∷ qs) zero p e = subst (λ (x : SegId × ℕ). ((q.0.age == x.0.age) || is_in x.0.age (ages_of qs)) ≡ true) (some_is e) (or_front (q.0.age == q.0.age) (is_in q.0.age (ages_of qs)) (same_number q.0.age))
 age_in (q ∷ qs) (suc i) p e = or_back (q.0.age == p.0.age) (is_in p.0.age (ages_of qs)) (age_in qs i p e)
 
 need_at : (need : List (SegId × ℕ)) (i : ℕ) (p : SegId × ℕ) → slice_get need i ≡ Some p → needs need p.0.key ≡ true
 need_at [] i p e = absurd (none_some e)
-need_at (q ∷ qs) 0 p e = subst (λ (x : SegId × ℕ). ((x.0.key == q.0.key) || needs qs x.0.key) ≡ true) (some_is e) (or_front (q.0.key == q.0.key) (needs qs q.0.key) (same_number q.0.key))
+need_at (q ∷ qs) zero p e = subst (λ (x : SegId × ℕ). ((x.0.key == q.0.key) || needs qs x.0.key) ≡ true) (some_is e) (or_front (q.0.key == q.0.key) (needs qs q.0.key) (same_number q.0.key))
 need_at (q ∷ qs) (suc i) p e = or_back (p.0.key == q.0.key) (needs qs p.0.key) (need_at qs i p e)
 
 -- what is needed has one of the names
@@ -118,13 +117,8 @@ pointed_in v p q e = go (p.count == 0) (bound_in v.held p.selector) e
 
 -- a selector that names what can be written may be loaded into ES
 
-bits_read : (a b c : Bool) → (a && not b && c) ≡ true → (a && (not b || c)) ≡ true
-bits_read true false c e = refl
-bits_read true true c e = absurd (false≢true e)
-bits_read false b c e = absurd (false≢true e)
-
 writable_reads : (access : ℕ) → is_writable access ≡ true → is_readable access ≡ true
-writable_reads access e = bits_read (has_bit access 4) (has_bit access 3) (has_bit access 1) e
+writable_reads access e = grind arith
 
 hold_is : {a b : Hold} → Some a ≡ Some b → a ≡ b
 hold_is e = cc
