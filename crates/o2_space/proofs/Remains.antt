@@ -97,14 +97,14 @@ size_more size (Some s) o l a = record {
   lock = λ e. a.lock ∙ e;
 }
 
-abbrev locked_to : ℕ → Segment → Segment
+abbrev pub locked_to : ℕ → Segment → Segment
 locked_to count s = record s { lock = count }
 
-abbrev sized_to : ℕ → Segment → Segment
+abbrev pub sized_to : ℕ → Segment → Segment
 sized_to size s = record s { bytes = resized size s.bytes }
 
 -- a segment changed in its place
-by_key : (P : Option Segment → Type 0) (k q : ℕ) (f : Segment → Segment) (m : Map Segment) → (k ≡ q → P (option_map f (get m q))) → P (get m q) → P (get (at_key k f m) q)
+pub by_key : (P : Option Segment → Type 0) (k q : ℕ) (f : Segment → Segment) (m : Map Segment) → (k ≡ q → P (option_map f (get m q))) → P (get m q) → P (get (at_key k f m) q)
 by_key P k q f m here there = subst P (sym (get-at_key k q f m)) (go (k == q) refl)
   where
     go : (b : Bool) → (k == q) ≡ b → P (if b then option_map f (get m k) else get m q)
@@ -130,7 +130,7 @@ module _ (w : World) (d : Dispatch) (x : Process) (e : Effect) (sizes : (n : ℕ
   abbrev dropped : ℕ → List ℕ → World
   dropped p is = with_changes u (map (λ (i : ℕ). Drops p i 1) is)
 
-  freed : (p : ℕ) (is : List ℕ) (n : ℕ) → IsLess (get (with_all u (map (λ (i : ℕ). Drops p i 1) is)).names n) (get w.names n)
+  pub freed : (p : ℕ) (is : List ℕ) (n : ℕ) → IsLess (get (with_all u (map (λ (i : ℕ). Drops p i 1) is)).names n) (get w.names n)
   freed p is n = go (list_any takes (map (λ (i : ℕ). Drops p i 1) is))
     where
       before : IsLess (get (dropped p is).names n) (get w.names n)

@@ -1,0 +1,286 @@
+-- The room of the world's next step that is a call on segments: it fits where the call is made.
+use Rattle.std.proofs.Common.{◌≡◌, ◌⊎◌, inl, inr, ℕ, ◌-◌, ◌/◌, ◌<◌, ◌≤◌, ◌==◌, ◌||◌, Bool, true, false, cond, List, [], ◌∷◌, ◌++◌, length, map, Option, Some, None, is_some, IsSome, ap, sym, ◌∙◌, refl, subst, arith, if◌then◌else◌}
+use Rattle.std.specs.Prelude.{max, nat_lt}
+use Rattle.std.proofs.lemmas.Bool.{false≢true}
+use mathlib.Core.Path.{fun_ext}
+use Rattle.o2_conf.specs.Dispatch.{Dispatch}
+use Rattle.o2_isa.specs.declared.cpu.Cpu.{Cpu}
+use Rattle.o2_isa.specs.Presence.{is_in}
+use Rattle.o2_isa.specs.View.{Hold, bound_registers}
+use Rattle.o2_regions.specs.Maps.{Maps}
+use Rattle.o2_store.specs.Shelf.{entry, place_of}
+use Rattle.o2_store.proofs.Tables.{locked_at, within_at}
+use Rattle.o2_segbus.specs.Seen.{hold_in, key_of}
+use Rattle.o2_changes.specs.Holding.{KeepsHolds}
+use Rattle.o2_world.specs.Calls.{Before, Effect}
+use Rattle.o2_world.specs.Changes.{Change, Drops, with_all}
+use Rattle.o2_world.specs.Holders.{process_at}
+use Rattle.o2_world.specs.Known.{Known, held_at, known_of}
+use Rattle.o2_world.specs.Map.{Map, get}
+use Rattle.o2_world.specs.Moves.{Moves}
+use Rattle.o2_world.specs.Rulings.{Ruling, by_load, dropped_indexes, freeing, freeing_of, grants, held_under, in_use, is_gone, is_later, members, refusal}
+use Rattle.o2_world.specs.Run.{changed, next_dispatch, worked, working}
+use Rattle.o2_world.specs.Sound.{HasGoodRegisters, held_of}
+use Rattle.o2_world.specs.Tied.{IsSound}
+use Rattle.o2_world.specs.Views.{holds_in, view_of}
+use Rattle.o2_world.specs.World.{Held, Process, Segment, Setting, World, is_live}
+use Rattle.o2_world.proofs.Numbers.{at_place_of}
+use Rattle.o2_world.proofs.SegmentMoves.{on_segments_moves}
+use Rattle.o2_gate.specs.declared.gathering.SegmentArguments.{SegmentArguments}
+use Rattle.o2_gate.specs.declared.gathering.SegmentArguments.TheVariants.{Alloc, Realloc, Free, Size, Lock, Unlock, Alias}
+use Rattle.o2_run.specs.Room.{Fits, behind, is_locked, need, room, room_between, room_next, seated, seated_in, size_of, untrapped}
+use Rattle.o2_calls.specs.Acts.{ruling_of}
+use Rattle.o2_calls.specs.Stops.{LeavesHolds}
+use Rattle.o2_calls.specs.Tellings.{HoldsAlone, replied_by}
+use Rattle.o2_calls.proofs.Overs.{none_next}
+use Rattle.o2_calls.proofs.Replies.{asked_is}
+use Rattle.o2_stands.specs.Parts.{Parts}
+use Rattle.o2_stands.specs.Stands.{AreLawful, IsNamed, StandsIn}
+use Rattle.o2_stands.specs.Sums.{AreAllHere, AreAtMost, part_of}
+use Rattle.o2_stands.proofs.Rooms.{found_at, name_facts, room_at_most, room_most}
+use Rattle.o2_stands.proofs.Views.{process_holds}
+use Rattle.o2_stands.proofs.Worlds.{put_here}
+use Rattle.o2_stepping.specs.Nexts.{IsNext, next_start}
+use Rattle.o2_stepping.specs.Ran.{IsCallOf}
+use Rattle.o2_stepping.specs.Rooms.{needed_names, room_at, room_in}
+use Rattle.o2_stepping.proofs.Asked.{untrapped_asked}
+use Rattle.o2_stepping.proofs.Named.{both_in, one_of, or_back, or_front}
+use Rattle.o2_stepping.proofs.NextRooms.{IsLess, bytes_long, takes_most, untrapped_sizes}
+use Rattle.o2_space.proofs.Remains.{IsMore, NoneLess, NoneMore, Remains, freed, remains}
+use Rattle.o2_space.proofs.Seats.{KeepsNames, StaySelectors, names_kept, seats_of}
+use Rattle.o2_space.proofs.Sides.{room_from_behind}
+
+-- What a free changes.
+
+free_changes : (k : Known) (n z : ℕ) (c : Cpu) → (is : List ℕ) × ((freeing k n z c).changes ≡ map (λ (i : ℕ). Drops n i 1) is)
+free_changes k n z c = go (held_under k n z)
+  where
+    by_tests : (is : List ℕ) (t u : Bool) → (js : List ℕ) × ((cond t (refusal 5) (cond u (refusal 5) (grants 0 (map (λ (i : ℕ). Drops n i 1) is)))).changes ≡ map (λ (i : ℕ). Drops n i 1) js)
+    by_tests is true u = ([], refl)
+    by_tests is false true = ([], refl)
+    by_tests is false false = (is, refl)
+
+    go : (o : Option Held) → (is : List ℕ) × ((freeing_of k n z c o).changes ≡ map (λ (i : ℕ). Drops n i 1) is)
+    go None = ([], refl)
+    go (Some h) = by_tests (members k n (z / 8) h) (by_load h.cause || is_later (z / 8) h) (in_use c (members k n (z / 8) h))
+
+-- all other calls leave what is held
+frees_or_keeps : (a : SegmentArguments) (m n : Maps) → LeavesHolds a m n → ((z : ℕ) × (a ≡ Free z)) ⊎ KeepsHolds m n
+frees_or_keeps (Alloc size s o flags) m n h = inr h
+frees_or_keeps (Realloc size z) m n h = inr h
+frees_or_keeps (Free z) m n h = inl (z, refl)
+frees_or_keeps (Size y s o) m n h = inr h
+frees_or_keeps (Lock z) m n h = inr h
+frees_or_keeps (Unlock z) m n h = inr h
+frees_or_keeps (Alias y s o) m n h = inr h
+
+-- The registers behind a call.
+
+cleared : (t : Bool) (z : ℕ) → ((if t then 0 else z) ≡ z) ⊎ ((if t then 0 else z) ≡ 0)
+cleared true z = inr refl
+cleared false z = inl refl
+
+selectors_stay : (a : SegmentArguments) (b : Before) (next : ℕ) → StaySelectors b.cpu (replied_by a b next).cpu
+selectors_stay (Alloc size s o flags) b next = record { es = inl refl; cs = inl refl; ss = inl refl; ds = inl refl }
+selectors_stay (Realloc size z) b next = record { es = inl refl; cs = inl refl; ss = inl refl; ds = inl refl }
+selectors_stay (Free z) b next =
+    let is : List ℕ = dropped_indexes (freeing b.known b.number z b.cpu).changes in
+    record {
+      es = cleared (is_gone b.known b.number is b.cpu.es) b.cpu.es;
+      cs = inl refl;
+      ss = inl refl;
+      ds = cleared (is_gone b.known b.number is b.cpu.ds) b.cpu.ds;
+    }
+selectors_stay (Size y s o) b next = record { es = inl refl; cs = inl refl; ss = inl refl; ds = inl refl }
+selectors_stay (Lock z) b next = record { es = inl refl; cs = inl refl; ss = inl refl; ds = inl refl }
+selectors_stay (Unlock z) b next = record { es = inl refl; cs = inl refl; ss = inl refl; ds = inl refl }
+selectors_stay (Alias y s o) b next = record { es = inl refl; cs = inl refl; ss = inl refl; ds = inl refl }
+
+lock_above : (k : ℕ) → nat_lt 0 k ≡ true → 0 < k
+lock_above k e = grind arith
+
+-- The next step of a world that is a call.
+
+module _ (p : Parts) (s : Setting) (w : World) (x : Process) (next : IsNext p s w x) (live : is_live x.state ≡ true) (sound : IsSound w) (a : SegmentArguments) (following : ℕ)
+    (call : IsCallOf (next_start s w x) a following) (alone : (i : ℕ) → HoldsAlone (known_of s w) (next_dispatch s w).current i) where
+  abbrev pub d : Dispatch
+  d = next_dispatch s w
+
+  abbrev pub b : Before
+  b = next_start s w x
+
+  abbrev pub e : Effect
+  e = replied_by a b following
+
+  abbrev pub u : World
+  u = worked w d x e
+
+  -- the world behind it
+  abbrev pub v : World
+  v = changed w d x e
+
+  abbrev pub want : List ℕ
+  want = need b v.names (process_at v.processes d.current)
+
+  effect_is : untrapped b ≡ e
+  effect_is = untrapped_asked b a following call ∙ asked_is b following a alone
+
+  pub behind_is : behind w d x b ≡ v
+  behind_is = ap (changed w d x) effect_is
+
+  pub room_is : room s w ≡ room_between w.names v.names want
+  unfolding room
+  room_is =
+      ap (room_next s w d) next.chosen
+      ∙ ap (λ (z : World). room_between w.names z.names (need b z.names (process_at z.processes d.current))) behind_is
+
+  pub world_is : v ≡ with_all u e.changes
+  unfolding changed
+  world_is = refl
+
+  moves : Moves b e.cpu e.changes
+  moves = subst (λ (f : Effect). Moves b f.cpu f.changes) (call.asks ∙ asked_is b following a alone) (on_segments_moves call.call b following)
+
+  pub sizes : (n : ℕ) → length (e.bytes n) ≡ size_of (get w.names n)
+  sizes n = ap (λ (f : Effect). length (f.bytes n)) (sym effect_is) ∙ (untrapped_sizes b n ∙ bytes_long (get w.names n))
+
+  pub new : get w.names w.next_name ≡ None
+  new = none_next w sound.tied
+
+  left : Remains w.names v.names
+  left = subst (λ (z : World). Remains w.names z.names) (sym world_is) (remains w d x e sizes new b e.cpu e.changes moves)
+
+  freed_less : (z : ℕ) → a ≡ Free z → (n : ℕ) → IsLess (get v.names n) (get w.names n)
+  freed_less z is n =
+      let f = free_changes b.known b.number z b.cpu in
+      let cs : e.changes ≡ map (λ (i : ℕ). Drops b.number i 1) f.0 = ap (λ (y : SegmentArguments). (ruling_of y b.known b.number b.cpu).changes) is ∙ f.1 in
+      subst (λ (q : World). IsLess (get q.names n) (get w.names n)) (sym world_is)
+      (subst (λ (xs : List Change). IsLess (get (with_all u xs).names n) (get w.names n)) (sym cs) (freed w d x e sizes new b.number f.0 n))
+
+  pub holds : holds_in x.held ≡ hold_in p.maps d.current
+  holds = fun_ext (process_holds p w.processes w.names w.next_name w.reserved next.lawful next.stands d.current x next.chosen)
+
+  -- What it needs is needed before it.
+
+  good : HasGoodRegisters x
+  good = sound.tied.registers (d.current - 1) x (at_place_of w.processes d.current x next.chosen) live
+
+  working_there : process_at u.processes b.number ≡ Some (working x e)
+  working_there = put_here w.processes d.current x (working x e) next.chosen
+
+  kept_by : (y : Process) → process_at v.processes d.current ≡ Some y → KeepsNames (get x.held) (get y.held)
+  kept_by y there =
+      let keeps = subst (λ (z : World). KeepsNames (held_at u.processes b.number) (held_at z.processes b.number)) (sym world_is) (names_kept u b (working x e) working_there e.cpu e.changes moves) in
+      record {
+        each = λ i h k was is.
+            keeps.each i h k (ap (λ (o : Option Process). held_of o i) working_there ∙ was) (ap (λ (o : Option Process). held_of o i) there ∙ is);
+      }
+
+  seats : (y : Process) → process_at v.processes d.current ≡ Some y → y.cpu ≡ e.cpu → (q : ℕ)
+      → is_in q (seated_in v.names (process_at v.processes d.current)) ≡ true → is_in q (seated b.view.registers) ≡ true
+  seats y there cpu q h = by (is_live y.state) (subst (λ (o : Option Process). is_in q (seated_in v.names o) ≡ true) there h)
+    where
+      by : (t : Bool) → is_in q (if t then seated (view_of v.names y).registers else []) ≡ true → is_in q (seated b.view.registers) ≡ true
+      by true f =
+          seats_of x (get y.held) e.cpu good (kept_by y there) (selectors_stay a b following) q
+          (subst (λ (c : Cpu). is_in q (seated (bound_registers (holds_in y.held) c)) ≡ true) cpu f)
+      by false f = absurd (false≢true f)
+
+  wanted : (y : Process) → process_at v.processes d.current ≡ Some y → y.cpu ≡ e.cpu → (q : ℕ) → is_in q want ≡ true → is_in q (needed_names b) ≡ true
+  wanted y there cpu q h =
+      by (one_of (is_in q (needed_names b)) (is_in q behind_it) (sym (both_in q (needed_names b) behind_it) ∙ h))
+    where
+      behind_it : List ℕ
+      behind_it = seated_in v.names (process_at v.processes d.current)
+
+      by : (is_in q (needed_names b) ≡ true) ⊎ (is_in q (seated_in v.names (process_at v.processes d.current)) ≡ true) → is_in q (needed_names b) ≡ true
+      by (inl f) = f
+      by (inr f) = both_in q (seated b.view.registers) _ ∙ or_front (is_in q (seated b.view.registers)) _ (seats y there cpu q f)
+
+  -- and what is needed before it is needed
+  pub needed_wanted : (q : ℕ) → is_in q (needed_names b) ≡ true → is_in q want ≡ true
+  needed_wanted q h =
+      both_in q (needed_names b) (seated_in v.names (process_at v.processes d.current))
+      ∙ or_front (is_in q (needed_names b)) (is_in q (seated_in v.names (process_at v.processes d.current))) h
+
+  -- Where no name grows or gets a lock.
+
+  fits_before : (list : List ℕ) → ((q : ℕ) → is_in q want ≡ true → is_in q list ≡ true) → ((n : ℕ) → IsLess (get v.names n) (get w.names n)) → room_in p.shelf list ≤ p.shelf.places.size → Fits true s w
+  fits_before list among less fit =
+      let at_most : AreAtMost p.shelf w.names v.names want (room_at p.shelf list) = record { within = record { none = λ n. (less n).none }; each = each } in
+      let most = room_at_most p w.processes w.names w.next_name w.reserved next.lawful next.stands v.names want (room_at p.shelf list) at_most in
+      let memory = next.set.memory in
+      λ swaps. (let r = room_is in omega (arith, r, most, fit, memory))
+    where
+      each : (n k : ℕ) → key_of p.shelf n ≡ Some k → part_of w.names v.names want n ≤ room_at p.shelf list k
+      each n k key =
+          (let f = name_facts p w.processes w.names w.next_name w.reserved next.lawful next.stands n k key in
+          takes_most (is_in n want) (is_locked (get w.names n)) (is_locked (get v.names n)) (nat_lt 0 (entry p.shelf k).attr.lock) (is_in (entry p.shelf k).age list)
+          (size_of (get w.names n)) (size_of (get v.names n)) (entry p.shelf k).size
+          (λ h. ap (λ (m : ℕ). is_in m list) f.2 ∙ among n h) f.1 (less n).lock f.0 (less n).size)
+
+  -- Where none goes, shrinks or loses its lock, and all that it needs is in memory behind it.
+
+  module _ (q : Parts) (lawful : AreLawful q.shelf q.maps) (standing : StandsIn q v.processes v.names v.next_name v.reserved) (same : q.shelf.places.size ≡ p.shelf.places.size)
+      (more : (n : ℕ) → IsMore (get v.names n) (get w.names n)) (here : (n k : ℕ) → key_of q.shelf n ≡ Some k → is_in n want ≡ true → IsSome (place_of q.shelf k)) where
+    facts : (n k : ℕ) → key_of q.shelf n ≡ Some k → (size_of (get v.names n) ≡ (entry q.shelf k).size) × (is_locked (get v.names n) ≡ nat_lt 0 (entry q.shelf k).attr.lock) × ((entry q.shelf k).age ≡ n)
+    facts n k key = name_facts q v.processes v.names v.next_name v.reserved lawful standing n k key
+
+    young : (n : ℕ) → is_some (get v.names n) ≡ true → n < q.shelf.made
+    young n some = go (key_of q.shelf n) refl (get v.names n) refl (standing.segments n)
+      where
+        go : (o : Option ℕ) → key_of q.shelf n ≡ o → (g : Option Segment) → get v.names n ≡ g → IsNamed q o g → n < q.shelf.made
+        go None f None g is = absurd (false≢true (sym (ap is_some g) ∙ some))
+        go None f (Some y) g is = absurd is
+        go (Some k) f g h is =
+            (let found = found_at q.shelf n k f in
+            let below = (lawful.shelf.each k (within_at q.shelf.entries k found.0)).young found.0 in
+            let age = found.1 in
+            omega (arith, below, age))
+
+    all_here : AreAllHere q.shelf v.names w.names want
+    all_here = record {
+      grows = record {
+        within = record { none = λ n none. none_before n none };
+        sizes = λ n k key. (let f = facts n k key in let a = f.0 in let l = (more n).size in omega (arith, a, l));
+      };
+      here = λ n k key e. by n k key (one_of (is_in n want) (is_locked (get w.names n)) e);
+    }
+      where
+        none_before : (n : ℕ) → get v.names n ≡ None → get w.names n ≡ None
+        none_before n none = go (get w.names n) refl
+          where
+            go : (o : Option Segment) → get w.names n ≡ o → o ≡ None
+            go None e = refl
+            go (Some y) e = absurd (false≢true (sym (ap is_some none) ∙ (more n).some (ap is_some e)))
+
+        by : (n k : ℕ) → key_of q.shelf n ≡ Some k → (is_in n want ≡ true) ⊎ (is_locked (get w.names n) ≡ true) → IsSome (place_of q.shelf k)
+        by n k key (inl needed) = here n k key needed
+        by n k key (inr locked) = locked_at q.shelf k lawful.shelf (lock_above (entry q.shelf k).attr.lock (sym (facts n k key).1 ∙ (more n).lock locked))
+
+    fits_behind : Fits true s w
+    fits_behind =
+        let turned = room_from_behind w.names v.names q.shelf.made next.stands.tidy.once standing.tidy.once (λ n some. (more n).some some) young want in
+        let most = room_most q v.processes v.names v.next_name v.reserved lawful standing w.names want all_here in
+        let memory = next.set.memory in
+        λ swaps. (let r = room_is in omega (arith, r, turned, most, same, memory))
+
+  -- By what the call leaves.
+
+  pub fits_call : (y : Process) → process_at v.processes d.current ≡ Some y → y.cpu ≡ e.cpu
+      → (list : List ℕ) → ((n : ℕ) → is_in n (needed_names b) ≡ true → is_in n list ≡ true) → room_in p.shelf list ≤ p.shelf.places.size
+      → (q : Parts) → AreLawful q.shelf q.maps → StandsIn q v.processes v.names v.next_name v.reserved → q.shelf.places.size ≡ p.shelf.places.size
+      → (n : Maps) → LeavesHolds a p.maps n
+      → (KeepsHolds p.maps n → (m k : ℕ) → key_of q.shelf m ≡ Some k → is_in m (needed_names b) ≡ true → IsSome (place_of q.shelf k)) → Fits true s w
+  fits_call y there cpu list among fit q lawful standing same n leaves here = by (frees_or_keeps a p.maps n leaves)
+    where
+      before : ((m : ℕ) → IsLess (get v.names m) (get w.names m)) → Fits true s w
+      before less = fits_before list (λ m h. among m (wanted y there cpu m h)) less fit
+
+      by : ((z : ℕ) × (a ≡ Free z)) ⊎ KeepsHolds p.maps n → Fits true s w
+      by (inl frees) = before (freed_less frees.0 frees.1)
+      by (inr keeps) = by_names left
+        where
+          by_names : Remains w.names v.names → Fits true s w
+          by_names (NoneMore less) = before less
+          by_names (NoneLess more) = fits_behind q lawful standing same more (λ m k key h. here keeps m k key (wanted y there cpu m h))
