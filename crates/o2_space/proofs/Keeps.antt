@@ -13,19 +13,21 @@ use Rattle.o2_isa.specs.View.{Hold, View, bound_in, bound_registers, found, is_l
 use Rattle.o2_place.specs.declared.seg_id.SegId.{SegId}
 use Rattle.o2_regions.specs.declared.held.Held.{Held}
 use Rattle.o2_regions.specs.Maps.{Maps, held_at, table_of}
+use Rattle.o2_store.specs.Needs.{is_named, named_in}
 use Rattle.o2_store.specs.Shelf.{Shelf, aged, entry, entry_of, place_of}
 use Rattle.o2_segbus.specs.Bus.{held_under}
 use Rattle.o2_segbus.specs.Frames.{CanStep}
 use Rattle.o2_segbus.specs.Guards.{AreAged}
 use Rattle.o2_segbus.specs.Seen.{hold_in, hold_of, key_of, present_in, present_under, seen, seen_with}
 use Rattle.o2_segbus.proofs.Holds.{bound_is}
-use Rattle.o2_service.specs.Needs.{AreLive, needs}
+use Rattle.o2_service.specs.Needs.{AreLive, needs, segments_of}
 use Rattle.o2_service.specs.Told.{IsHeldWell}
 use Rattle.o2_run.specs.Room.{Pointer, name_in, passed, pointed, seated}
 use Rattle.o2_gate.specs.declared.gathering.SegmentArguments.{SegmentArguments}
 use Rattle.o2_gate.specs.declared.gathering.SegmentArguments.TheVariants.{Alloc, Realloc, Free, Size, Lock, Unlock, Alias}
 use Rattle.o2_gate.specs.Gathers.{targets}
 use Rattle.o2_gate.specs.Pointed.{are_ready, pointer}
+use Rattle.o2_changes.proofs.Keys.{has_is}
 use Rattle.o2_stepping.specs.Rooms.{aimed_in, ages_of, pair_of, seated_in}
 use Rattle.o2_stepping.proofs.Lefts.{ages_both}
 use Rattle.o2_stepping.proofs.Named.{age_is, both_in, key_of_live, needed_at, one_of, or_back, or_front, seated_present}
@@ -55,24 +57,32 @@ none_some e = cc
 number_some : {a b : ℕ} → Some a ≡ Some b → a ≡ b
 number_some e = cc
 
-age_in : (need : List (SegId × ℕ)) (i : ℕ) (p : SegId × ℕ) → slice_get need i ≡ Some p → is_in p.0.age (ages_of need) ≡ true
-age_in [] i p e = absurd (none_some e)
-age_in (q ∷ qs) zero p e = subst (λ (x : SegId × ℕ). ((q.0.age == x.0.age) || is_in x.0.age (ages_of qs)) ≡ true) (some_is e) (or_front (q.0.age == q.0.age) (is_in q.0.age (ages_of qs)) (same_number q.0.age))
-age_in (q ∷ qs) (suc i) p e = or_back (q.0.age == p.0.age) (is_in p.0.age (ages_of qs)) (age_in qs i p e)
-
 need_at : (need : List (SegId × ℕ)) (i : ℕ) (p : SegId × ℕ) → slice_get need i ≡ Some p → needs need p.0.key ≡ true
 need_at [] i p e = absurd (none_some e)
 need_at (q ∷ qs) zero p e = subst (λ (x : SegId × ℕ). ((x.0.key == q.0.key) || needs qs x.0.key) ≡ true) (some_is e) (or_front (q.0.key == q.0.key) (needs qs q.0.key) (same_number q.0.key))
 need_at (q ∷ qs) (suc i) p e = or_back (p.0.key == q.0.key) (needs qs p.0.key) (need_at qs i p e)
 
--- what is needed has one of the names
-pub needs_age : (s : Shelf) (need : List (SegId × ℕ)) (k : ℕ) → AreLive s need → needs need k ≡ true → is_in (entry s k).age (ages_of need) ≡ true
-needs_age s need k live e =
-    let r = needed_at need k e in
-    let p = r.1.0 in
-    let at = r.1.1.0 in
-    let age = age_is s p.0 (live.each r.0 p at) in
-    subst (λ (n : ℕ). is_in n (ages_of need) ≡ true) (sym age ∙ ap (λ (j : ℕ). (entry s j).age) r.1.1.1) (age_in need r.0 p at)
+left_true : (a b : Bool) → (a && b) ≡ true → a ≡ true
+left_true true b e = refl
+left_true false b e = absurd (false≢true e)
+
+right_true : (a b : Bool) → (a && b) ≡ true → b ≡ true
+right_true true b e = e
+right_true false b e = absurd (false≢true e)
+
+-- a number that is named has one of the names
+pub named_age : (s : Shelf) (need : List (SegId × ℕ)) (k : ℕ) → named_in s.entries (segments_of need) k ≡ true → is_in (entry s k).age (ages_of need) ≡ true
+named_age s [] k e = absurd (false≢true e)
+named_age s (p ∷ ps) k e = by (one_of (is_named s.entries p.0 && k == p.0.key) (named_in s.entries (segments_of ps) k) e) (named_age s ps k)
+  where
+    by : ((is_named s.entries p.0 && k == p.0.key) ≡ true) ⊎ (named_in s.entries (segments_of ps) k ≡ true) → (named_in s.entries (segments_of ps) k ≡ true → is_in (entry s k).age (ages_of ps) ≡ true)
+        → ((p.0.age == (entry s k).age) || is_in (entry s k).age (ages_of ps)) ≡ true
+    by (inl x) rest =
+        (let same = eqb-true k p.0.key (right_true (is_named s.entries p.0) (k == p.0.key) x) in
+        let age = (has_is (slot_at s.entries p.0.key) p.0.age (left_true (is_named s.entries p.0) (k == p.0.key) x)).1 in
+        let n : (entry s k).age ≡ p.0.age = ap (λ (j : ℕ). (entry s j).age) same ∙ age in
+        or_front (p.0.age == (entry s k).age) (is_in (entry s k).age (ages_of ps)) (subst (λ (m : ℕ). (p.0.age == m) ≡ true) (sym n) (same_number p.0.age)))
+    by (inr x) rest = or_back (p.0.age == (entry s k).age) (is_in (entry s k).age (ages_of ps)) (rest x)
 
 -- A segment with one of the names that stays in memory is there.
 
@@ -138,14 +148,6 @@ is_es v z h kept bound good = go (is_null z) (found v z) bound
     go false None e = absurd (none_some e)
     go false (Some y) e =
         passes (is_readable y.rights) (v.discarded y.name) (v.present y.name) (ap (λ (x : Hold). is_readable x.rights) (hold_is e) ∙ writable_reads h.rights good) (kept y.name)
-
-left_true : (a b : Bool) → (a && b) ≡ true → a ≡ true
-left_true true b e = refl
-left_true false b e = absurd (false≢true e)
-
-right_true : (a b : Bool) → (a && b) ≡ true → b ≡ true
-right_true true b e = e
-right_true false b e = absurd (false≢true e)
 
 -- What the registers and the pointer of a call name.
 

@@ -127,6 +127,9 @@ module _ (w : World) (d : Dispatch) (x : Process) (e : Effect) (sizes : (n : ℕ
       subst (λ (v : Option Segment). IsAs v (get w.names n)) (sym (get-map (λ (k : ℕ) (s : Segment). record s { bytes = e.bytes k }) w.names n))
       (as_written (get w.names n) (e.bytes n) (sizes n))
 
+  pub written_some : (n : ℕ) → is_some (get u.names n) ≡ is_some (get w.names n)
+  written_some n = (written n).some
+
   abbrev dropped : ℕ → List ℕ → World
   dropped p is = with_changes u (map (λ (i : ℕ). Drops p i 1) is)
 
