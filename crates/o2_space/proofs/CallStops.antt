@@ -141,11 +141,11 @@ under_there p s w stands n z = go (is_local z)
     go true = stands.held n (z / 8)
     go false = refl
 
-record IsThere (m : Maps) (n z name : ℕ) : Type 0 where
-  held : HeldThere
-  under : held_by m n z ≡ Some held
-  at : held_there m n (z / 8) ≡ Some held
-  named : held.id.age ≡ name
+pub record IsThere (m : Maps) (n z name : ℕ) : Type 0 where
+  pub held : HeldThere
+  pub under : held_by m n z ≡ Some held
+  pub at : held_there m n (z / 8) ≡ Some held
+  pub named : held.id.age ≡ name
 
 there_by : (p : Parts) (s : Setting) (w : World) → Stands p w → (n z : ℕ) (h : Held) → held_under (known_of s w) n z ≡ Some h → IsThere p.maps n z h.name
 there_by p s w stands n z h under = go (held_by p.maps n z) refl (sym (under_there p s w stands n z) ∙ under)
@@ -158,7 +158,7 @@ there_by p s w stands n z h under = go (held_by p.maps n z) refl (sym (under_the
     go None f g = absurd (none_held g)
     go (Some y) f g = record { held = y; under = f; at = at_index (is_local z) (held_there p.maps n (z / 8)) y f; named = some_name g }
 
-of_some : {X : Type 0} (P : X → Type 0) (o : Option X) (x : X) → o ≡ Some x → IfSome o P → P x
+pub of_some : {X : Type 0} (P : X → Type 0) (o : Option X) (x : X) → o ≡ Some x → IfSome o P → P x
 of_some P o x is h = subst (λ q. IfSome q P) is h
 
 -- What numbers weigh.
@@ -335,6 +335,13 @@ module _ (p : Parts) (s : Setting) (w : World) (x : Process) (next : IsNext p s 
 
   held_live : (z name : ℕ) (h : IsThere p.maps pid z name) → IsSome (slot_at p.shelf.entries h.held.id.key)
   held_live z name h = (live_id p.shelf h.held.id (well.live pid (z / 8) h.held h.at)).0
+
+  -- what gets a size is held
+  pub size_held : (size z : ℕ) → (reallocation (known_of s w) pid size z).error ≡ 0 → (h : HeldThere) × (held_by p.maps pid z ≡ Some h)
+  size_held size z none =
+      let l = size_is (known_of s w) pid size z none in
+      let h = there_by p s w next.stands pid z l.held l.under in
+      (h.held, h.under)
 
   -- the names behind it
   names_are : (cs : List Change) → (e p s w x next live sound a following call alone).changes ≡ cs → behind_it.names ≡ (with_all before_it cs).names

@@ -1,0 +1,239 @@
+-- Where a call on segments stops for want of room, or of room and of swap blocks, the world lacks it.
+use Rattle.std.proofs.Common.{◌≡◌, ◌≢◌, ◌⊎◌, inl, inr, ℕ, ◌+◌, ◌<◌, ◌≤◌, ◌==◌, ◌||◌, Bool, true, false, List, ◌++◌, length, Option, Some, None, IfSome, ap, sym, ◌∙◌, refl, subst, arith, if◌then◌else◌}
+use Rattle.std.specs.Prelude.{max, nat_lt}
+use Rattle.std.proofs.lemmas.Bool.{eqb-true, false≢true, ne_eqb}
+use Rattle.o2_entries.specs.declared.Entry.{Entry}
+use Rattle.o2_isa.specs.declared.cpu.Cpu.{Cpu}
+use Rattle.o2_isa.specs.Presence.{is_in}
+use Rattle.o2_isa.specs.View.{Hold, Registers, bound_registers}
+use Rattle.o2_place.specs.declared.seg_id.SegId.{SegId}
+use Rattle.o2_place.specs.Layout.{over}
+use Rattle.o2_place.proofs.Sums.{over-le}
+use Rattle.o2_regions.specs.declared.held.Held.{Held}
+use Rattle.o2_regions.specs.Maps.{Maps}
+use Rattle.o2_store.specs.Loads.{live_load, live_load_at, memory_load, memory_load_at, swap_load as store_swap}
+use Rattle.o2_store.specs.Needs.{all_wanted, named_in, wanted}
+use Rattle.o2_store.specs.Shelf.{Shelf, entry, entry_or, rounded}
+use Rattle.o2_store.specs.Sizes.{all_wanted_at, stays, wanted_at}
+use Rattle.o2_swapmap.specs.Piles.{all_of}
+use Rattle.o2_segbus.specs.Seen.{hold_in, key_of, seen}
+use Rattle.o2_service.specs.Needs.{segments_of}
+use Rattle.o2_world.specs.Calls.{Before}
+use Rattle.o2_world.specs.Holders.{process_at}
+use Rattle.o2_world.specs.Known.{known_of}
+use Rattle.o2_world.specs.Map.{Map, get}
+use Rattle.o2_world.specs.Rulings.{full_size}
+use Rattle.o2_world.specs.Run.{next_dispatch}
+use Rattle.o2_world.specs.Tied.{IsSound}
+use Rattle.o2_world.specs.World.{Process, Segment, Setting, World, is_live}
+use Rattle.o2_gate.specs.declared.gathering.SegmentArguments.{SegmentArguments}
+use Rattle.o2_gate.specs.declared.gathering.SegmentArguments.TheVariants.{Alloc, Realloc, Free, Size, Lock, Unlock, Alias}
+use Rattle.o2_gate.specs.Gathers.{targets}
+use Rattle.o2_gate.specs.Pointed.{are_ready}
+use Rattle.o2_run.specs.Room.{is_locked, larger, live_load as world_live, load_between, load_next, of_both, pointed, room, room_between, rounded as whole, seated, size_of, swap_load, touched}
+use Rattle.o2_run.specs.Stops.{IsSwapFull}
+use Rattle.o2_segs.specs.Made.{IsWithNew, new_entry}
+use Rattle.o2_calls.specs.Acts.{MayStop, ruling_of}
+use Rattle.o2_calls.specs.Stops.{LacksMemory, LacksRoom, LacksSwap, held_by}
+use Rattle.o2_calls.specs.Tellings.{HoldsAlone}
+use Rattle.o2_stands.specs.Parts.{Parts}
+use Rattle.o2_stands.specs.Sums.{AreAtLeast, counts, part_of}
+use Rattle.o2_stands.proofs.Rooms.{room_at_least, swap_is}
+use Rattle.o2_stepping.specs.Nexts.{IsNext, next_start}
+use Rattle.o2_stepping.specs.Ran.{IsCallOf}
+use Rattle.o2_stepping.specs.Rooms.{aimed_in, ages_of, needed_names, seated_in}
+use Rattle.o2_stepping.proofs.Asked.{touched_asked}
+use Rattle.o2_stepping.proofs.Named.{both_in, one_of, or_back, or_front}
+use Rattle.o2_stepping.proofs.NextRooms.{full, no_room, takes_least}
+use Rattle.o2_space.proofs.CallRooms.{behind_is, holds, needed_wanted, room_is, v, want}
+use Rattle.o2_space.proofs.CallStops.{at_most, counted_larger, facts, lock_over, make_over, named_was, new_over, of_some, part_least, size_held, size_over, sized_least, slot_here, slot_other, same_size, there}
+use Rattle.o2_space.proofs.Keeps.{ages_need, named_age, passes_for}
+use Rattle.o2_space.proofs.Sides.{in_old, load_room}
+
+same_key : (k key : ℕ) (f : ℕ → ℕ) → (k == key) ≡ true → f k ≤ f key
+same_key k key f e = (let q = ap f (eqb-true k key e) in omega (arith, q))
+
+module _ (p : Parts) (s : Setting) (w : World) (x : Process) (next : IsNext p s w x) (live : is_live x.state ≡ true) (sound : IsSound w) (a : SegmentArguments) (following : ℕ)
+    (call : IsCallOf (next_start s w x) a following) (alone : (i : ℕ) → HoldsAlone (known_of s w) (next_dispatch s w).current i) where
+  abbrev pid : ℕ
+  pid = (next_dispatch s w).current
+
+  abbrev b : Before
+  b = next_start s w x
+
+  abbrev behind : Map Segment
+  behind = (v p s w x next live sound a following call alone).names
+
+  abbrev wants : List ℕ
+  wants = want p s w x next live sound a following call alone
+
+  -- Room.
+
+  module _ (c : Cpu) (same : c ≡ x.cpu) (ready : are_ready (seen p.shelf p.maps pid c) (targets a) ≡ true) where
+    abbrev kept : List (SegId × ℕ)
+    kept = seated_in p.maps pid c ++ aimed_in p.maps pid a
+
+    -- what the call keeps in memory the step needs
+    kept_needed : (n : ℕ) → is_in n (ages_of kept) ≡ true → is_in n (needed_names b) ≡ true
+    kept_needed n e =
+        both_in n (seated b.view.registers) (touched b)
+        ∙ by (one_of (is_in n seats) (is_in n aimed) (sym (both_in n seats aimed) ∙ (ap (is_in n) (sym (ages_need p.shelf p.maps pid c a)) ∙ e)))
+      where
+        seats : List ℕ
+        seats = seated (bound_registers (hold_in p.maps pid) c)
+
+        aimed : List ℕ
+        aimed = ages_of (aimed_in p.maps pid a)
+
+        by : (is_in n (seated (bound_registers (hold_in p.maps pid) c)) ≡ true) ⊎ (is_in n (ages_of (aimed_in p.maps pid a)) ≡ true) → (is_in n (seated b.view.registers) || is_in n (touched b)) ≡ true
+        by (inl h) =
+            or_front (is_in n (seated b.view.registers)) (is_in n (touched b))
+            (subst (λ (f : ℕ → Option Hold). is_in n (seated (bound_registers f x.cpu)) ≡ true) (sym (holds p s w x next live sound a following call alone))
+            (subst (λ (r : Cpu). is_in n (seated (bound_registers (hold_in p.maps pid) r)) ≡ true) same h))
+        by (inr h) =
+            or_back (is_in n (seated b.view.registers)) (is_in n (touched b))
+            (ap (is_in n) (touched_asked b a following call)
+            ∙ passes_for p.shelf p.maps pid c b.view (holds p s w x next live sound a following call alone) (λ k. refl) a n ready h)
+
+    named_wanted : (n k : ℕ) → key_of p.shelf n ≡ Some k → named_in p.shelf.entries (segments_of kept) k ≡ true → is_in n wants ≡ true
+    named_wanted n k key named =
+        let f = facts p s w x next live sound a following call alone n k key in
+        needed_wanted p s w x next live sound a following call alone n (kept_needed n (ap (λ (m : ℕ). is_in m (ages_of kept)) (sym f.2) ∙ named_age p.shelf kept k named))
+
+    abbrev stay_weight : ℕ → ℕ
+    stay_weight k = if nat_lt 0 (entry p.shelf k).attr.lock || named_in p.shelf.entries (segments_of kept) k then rounded (entry p.shelf k).size else 0
+
+    stays_least : AreAtLeast p.shelf w.names behind wants stay_weight
+    stays_least = record {
+      none = λ k gone. no_room (nat_lt 0 (entry p.shelf k).attr.lock || named_in p.shelf.entries (segments_of kept) k) (entry p.shelf k).size (ap (λ (o : Option Entry). (entry_or o).size) gone);
+      each = λ n k key.
+          (let f = facts p s w x next live sound a following call alone n k key in
+          takes_least (nat_lt 0 (entry p.shelf k).attr.lock) (named_in p.shelf.entries (segments_of kept) k) (is_in n wants) (is_locked (get w.names n)) (is_locked (get behind n))
+          (size_of (get w.names n)) (size_of (get behind n)) (entry p.shelf k).size (named_wanted n k key) f.1 f.0);
+    }
+
+    more_than : (n : ℕ) → p.shelf.places.size < n → n ≤ room_between w.names behind wants → s.memory < room s w
+    more_than n above below =
+        (let r = room_is p s w x next live sound a following call alone in
+        let memory = next.set.memory in
+        omega (arith, above, below, r, memory))
+
+    lacks_for : (z : SegmentArguments) → a ≡ z → (ruling_of z (known_of s w) pid x.cpu).error ≡ 0 → MayStop z → LacksRoom z p.shelf p.maps pid (segments_of kept) → s.memory < room s w
+    lacks_for (Alloc size o f flags) is none may lacks =
+        let t = lacks.store in
+        let id = lacks.id in
+        let made = make_over p s w x next live sound a following call alone wants stay_weight stays_least size o f flags is none may in
+        let most =
+        new_over p.shelf t id (full_size size) flags lacks.adds (wanted t id.key (segments_of kept)) stay_weight others (rounded (full_size size)) here in
+        let whole_size = same_size p.shelf t id (full_size size) flags lacks.adds in
+        let more = lacks.holds in
+        more_than (all_wanted t id.key (segments_of kept)) (omega (arith, more, whole_size)) (omega (arith, made, most))
+      where
+        others : (k : ℕ) → k ≢ lacks.id.key → wanted lacks.store lacks.id.key (segments_of kept) k ≤ stay_weight k
+        others k other =
+            (let slot = slot_other p.shelf lacks.store lacks.id (full_size size) flags lacks.adds k other in
+            let a1 = ap (λ (o : Option Entry). if nat_lt 0 (entry_or o).attr.lock || (k == lacks.id.key || named_in lacks.store.entries (segments_of kept) k) then rounded (entry_or o).size else 0) slot in
+            let a2 = ap (λ (t : Bool). if nat_lt 0 (entry p.shelf k).attr.lock || (k == lacks.id.key || t) then rounded (entry p.shelf k).size else 0) (named_was p.shelf lacks.store lacks.id (full_size size) flags lacks.adds (segments_of kept) k other) in
+            let a3 = ap (λ (t : Bool). if nat_lt 0 (entry p.shelf k).attr.lock || (t || named_in p.shelf.entries (segments_of kept) k) then rounded (entry p.shelf k).size else 0) (ne_eqb k lacks.id.key other) in
+            omega (arith, a1, a2, a3))
+
+        here : wanted lacks.store lacks.id.key (segments_of kept) lacks.id.key ≤ rounded (full_size size)
+        here =
+            (let slot = slot_here p.shelf lacks.store lacks.id (full_size size) flags lacks.adds in
+            let size_is = ap (λ (o : Option Entry). rounded (entry_or o).size) slot in
+            let l = at_most (nat_lt 0 (entry lacks.store lacks.id.key).attr.lock || (lacks.id.key == lacks.id.key || named_in lacks.store.entries (segments_of kept) lacks.id.key)) (rounded (entry lacks.store lacks.id.key).size) in
+            omega (arith, size_is, l))
+    lacks_for (Realloc size z) is none may lacks =
+        let held = size_held p s w x next live sound a following call alone size z none in
+        let h = held.0 in
+        let both = of_some (λ y. (stays p.shelf y.id.key (segments_of kept) ≡ true) × (p.shelf.places.size < all_wanted_at p.shelf y.id.key (segments_of kept) (full_size size))) (held_by p.maps pid z) h held.1 lacks in
+        let sized =
+        size_over p s w x next live sound a following call alone wants stay_weight stays_least size z is none h held.1
+        (λ n key. counted n h.id.key key (one_of (nat_lt 0 (entry p.shelf h.id.key).attr.lock) (named_in p.shelf.entries (segments_of kept) h.id.key) both.0)) in
+        let most =
+        over-le (wanted_at p.shelf h.id.key (segments_of kept) (full_size size)) (λ k. if k == h.id.key then rounded (full_size size) else stay_weight k) (length p.shelf.entries)
+        (λ k l. sized_least (nat_lt 0 (entry p.shelf k).attr.lock) (k == h.id.key) (named_in p.shelf.entries (segments_of kept) k) (rounded (entry p.shelf k).size) (rounded (full_size size))) in
+        more_than (all_wanted_at p.shelf h.id.key (segments_of kept) (full_size size)) both.1 (omega (arith, sized, most))
+      where
+        counted : (n k : ℕ) → key_of p.shelf n ≡ Some k → (nat_lt 0 (entry p.shelf k).attr.lock ≡ true) ⊎ (named_in p.shelf.entries (segments_of kept) k ≡ true) → counts w.names behind wants n ≡ true
+        counted n k key (inl locked) =
+            or_back (is_in n wants) _ (or_front (is_locked (get w.names n)) (is_locked (get behind n)) ((facts p s w x next live sound a following call alone n k key).1 ∙ locked))
+        counted n k key (inr named) = or_front (is_in n wants) _ (named_wanted n k key named)
+    lacks_for (Free z) is none may lacks = absurd lacks
+    lacks_for (Size y z o) is none may lacks = absurd lacks
+    lacks_for (Lock z) is none may lacks =
+        let l = lock_over p s w x next live sound a following call alone wants stay_weight stays_least z is none in
+        let h = l.1 in
+        let key = h.held.id.key in
+        let more = of_some (λ y. p.shelf.places.size < all_wanted p.shelf y.id.key (segments_of kept)) (held_by p.maps pid z) h.held h.under lacks in
+        let most = over-le (wanted p.shelf key (segments_of kept)) (λ k. if k == key then rounded (entry p.shelf key).size else stay_weight k) (length p.shelf.entries)
+        (λ k b. part_least (nat_lt 0 (entry p.shelf k).attr.lock) (k == key) (named_in p.shelf.entries (segments_of kept) k) (rounded (entry p.shelf k).size) (rounded (entry p.shelf key).size)
+        (same_key k key (λ j. rounded (entry p.shelf j).size))) in
+        let below = l.2 in
+        more_than (all_wanted p.shelf key (segments_of kept)) more (omega (arith, below, most))
+    lacks_for (Unlock z) is none may lacks = absurd lacks
+    lacks_for (Alias y z o) is none may lacks = absurd lacks
+
+    pub lacks_call : (ruling_of a (known_of s w) pid x.cpu).error ≡ 0 → MayStop a → LacksRoom a p.shelf p.maps pid (segments_of kept) → s.memory < room s w
+    lacks_call none may lacks = lacks_for a refl none may lacks
+
+  -- Swap: all that lives counts.
+
+  abbrev all : List ℕ
+  all = of_both w.names behind
+
+  loads_least : AreAtLeast p.shelf w.names behind all (memory_load p.shelf)
+  loads_least = record {
+    none = λ k gone. (let z : (entry p.shelf k).size ≡ 0 = ap (λ (o : Option Entry). (entry_or o).size) gone in omega (arith, z));
+    each = λ n k key.
+        (let size = (facts p s w x next live sound a following call alone n k key).0 in
+        counted_larger (counts w.names behind all n) (memory_load p.shelf k) (larger w.names behind n) (or_front (is_in n all) _ (in_old w.names behind n (there p s w x next live sound a following call alone n k key)))
+        (omega (arith, size)));
+  }
+
+  live_is : world_live s w ≡ load_between w.names behind
+  unfolding world_live
+  live_is =
+      ap (load_next s w (next_dispatch s w)) next.chosen
+      ∙ ap (λ (z : World). load_between w.names z.names) (behind_is p s w x next live sound a following call alone)
+
+  full_by : (all_of p.shelf.swap < store_swap p.shelf) → (n : ℕ) → p.shelf.places.size < n → n ≤ room_between w.names behind all → IsSwapFull p.device s w
+  full_by lacks n above below =
+      let blocks = next.set.blocks in
+      let memory = next.set.memory in
+      let load : swap_load w ≡ store_swap p.shelf = swap_is p w.processes w.names w.next_name w.reserved next.lawful next.stands in
+      let live_all = live_is in
+      let rooms = load_room w.names behind in
+      record { swap = omega (arith, blocks, load, lacks); memory = omega (arith, memory, live_all, rooms, above, below) }
+
+  full_for : (z : SegmentArguments) → a ≡ z → (ruling_of z (known_of s w) pid x.cpu).error ≡ 0 → MayStop z → LacksSwap z p.shelf p.maps pid → IsSwapFull p.device s w
+  full_for (Alloc size o f flags) is none may lacks =
+      let t = lacks.1.store in
+      let id = lacks.1.id in
+      let made = make_over p s w x next live sound a following call alone all (memory_load p.shelf) loads_least size o f flags is none may in
+      let most = new_over p.shelf t id (full_size size) flags lacks.1.adds (memory_load t) (memory_load p.shelf) others (rounded (full_size size)) here in
+      let whole_size = same_size p.shelf t id (full_size size) flags lacks.1.adds in
+      let more = lacks.1.holds in
+      full_by lacks.0 (live_load t) (omega (arith, more, whole_size)) (omega (arith, made, most))
+    where
+      others : (k : ℕ) → k ≢ lacks.1.id.key → memory_load lacks.1.store k ≤ memory_load p.shelf k
+      others k other = (let slot = ap (λ (o : Option Entry). rounded (entry_or o).size) (slot_other p.shelf lacks.1.store lacks.1.id (full_size size) flags lacks.1.adds k other) in omega (arith, slot))
+
+      here : memory_load lacks.1.store lacks.1.id.key ≤ rounded (full_size size)
+      here = (let slot = ap (λ (o : Option Entry). rounded (entry_or o).size) (slot_here p.shelf lacks.1.store lacks.1.id (full_size size) flags lacks.1.adds) in omega (arith, slot))
+  full_for (Realloc size z) is none may lacks =
+      let held = size_held p s w x next live sound a following call alone size z none in
+      let h = held.0 in
+      let more = of_some (λ y. p.shelf.places.size < live_load_at p.shelf y.id.key (full_size size)) (held_by p.maps pid z) h held.1 lacks.1 in
+      let sized =
+      size_over p s w x next live sound a following call alone all (memory_load p.shelf) loads_least size z is none h held.1
+      (λ n key. or_front (is_in n all) _ (in_old w.names behind n (there p s w x next live sound a following call alone n h.id.key key))) in
+      full_by lacks.0 (live_load_at p.shelf h.id.key (full_size size)) more sized
+  full_for (Free z) is none may lacks = absurd lacks.1
+  full_for (Size y z o) is none may lacks = absurd lacks.1
+  full_for (Lock z) is none may lacks = full p s w next.lawful next.set next.stands lacks
+  full_for (Unlock z) is none may lacks = absurd lacks.1
+  full_for (Alias y z o) is none may lacks = absurd lacks.1
+
+  pub full_call : (ruling_of a (known_of s w) pid x.cpu).error ≡ 0 → MayStop a → LacksSwap a p.shelf p.maps pid → IsSwapFull p.device s w
+  full_call none may lacks = full_for a refl none may lacks
