@@ -11,3 +11,11 @@ pub mod Aimed
 pub mod Called
 pub mod Making
 pub mod Replied
+pub mod Sides
+pub mod Remains
+pub mod Seats
+pub mod Keeps
+pub mod CallRooms
+pub mod CallStops
+pub mod CallLacks
+pub mod CallSays

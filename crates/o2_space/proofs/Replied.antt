@@ -79,14 +79,14 @@ flag_set c z e dead = go (has_trap_flag c.flags) refl
 pub dead_state_is : (c : Cpu) (z : State) → z ≡ state_behind c → is_live z ≡ false → z ≡ Trapped 1
 dead_state_is c z e dead = e ∙ ap (λ (t : Bool). if t then Trapped 1 else Live) (flag_set c z e dead)
 
-some_running : (o : Option Process) (r : Running) → option_map running_of o ≡ Some r → (y : Process) × (o ≡ Some y) × (running_of y ≡ r)
+pub some_running : (o : Option Process) (r : Running) → option_map running_of o ≡ Some r → (y : Process) × (o ≡ Some y) × (running_of y ≡ r)
 some_running None r e = absurd (cc)
 some_running (Some y) r e = (y, refl, some_is e)
   where
     some_is : {a b : Running} → Some a ≡ Some b → a ≡ b
     some_is f = cc
 
-equal_self : (n : ℕ) → (n == n) ≡ true
+pub equal_self : (n : ℕ) → (n == n) ≡ true
 equal_self n = grind arith
 
 module _ (s : Setting) (w : World) (x : Process) (pid : ℕ) (a : SegmentArguments) (next : ℕ) (cpu : Cpu) (p : Parts) (answer : Answer) (called : IsCalled s w pid x a next cpu p answer)

@@ -12,13 +12,14 @@ ghost use Rattle.o2_world.specs.Effect.{effect, single_stepped};
 ghost use Rattle.o2_world.specs.Holders.{process_at};
 ghost use Rattle.o2_world.specs.Run.{before, next_dispatch};
 ghost use Rattle.o2_world.specs.Tied.{IsSound, IsTied};
-ghost use Rattle.o2_world.specs.World.{Process, Setting, World};
+ghost use Rattle.o2_world.specs.World.{Process, Setting, World, is_live as lives_on};
 ghost use Rattle.o2_gate.specs.Gathers.{asked, targets};
 ghost use Rattle.o2_gate.specs.Pointed.{are_ready};
 ghost use Rattle.o2_gate.specs.Replies.{IsValue, bytes_of};
 ghost use Rattle.o2_stands.specs.Stands.{IsSetTo, Stands};
 ghost use Rattle.o2_run.specs.Pieces.{counts};
 ghost use Rattle.o2_stepping.specs.Pieces.{RanHands};
+ghost use Rattle.o2_stepping.specs.Ran.{IsCallOf};
 ghost use Rattle.o2_stepping.specs.Rooms.{all_names, room_in};
 ghost use Rattle.o2_stepping.specs.Taken.{IsSwapStop, OnErr, OnNoStep, OnSink, OnSwapStop, TakenFor};
 ghost use Rattle.o2_stepping.specs.Worlds.{bytes_with};
@@ -124,8 +125,9 @@ impl Space {
         ensures room { (s : Setting) (w : World) (x : Process) → IsTrue (S.told swap.new)
             → Stands (parts_in self.old (S.blocks swap.old) (S.block swap.old)) w
             → IsSetTo (parts_in self.old (S.blocks swap.old) (S.block swap.old)) s → IsSound w
-            → (next_dispatch s w).current ≡ pid → process_at w.processes pid ≡ Some x → cpu.old ≡ x.cpu
-            → let b = before s w pid x in effect b ≡ single_stepped b (asked arguments b next)
+            → (next_dispatch s w).current ≡ pid → process_at w.processes pid ≡ Some x
+            → lives_on x.state ≡ true → cpu.old ≡ x.cpu
+            → let b = before s w pid x in IsCallOf b arguments next
             → room_in self.old.store (all_names b (bound_registers (hold_in self.old.regions pid) b.cpu)) ≤ self.old.store.places.size
             → SaysCall (S.blocks swap.old) s w result }
         ensures stops { OnErr result (λ f. IsSwapStop f) }
@@ -202,7 +204,7 @@ impl Space {
             → Stands (parts_in self.old (S.blocks swap.old) (S.block swap.old)) w
             → IsSetTo (parts_in self.old (S.blocks swap.old) (S.block swap.old)) s → IsSound w
             → (next_dispatch s w).current ≡ pid → process_at w.processes pid ≡ Some x → registers ≡ x.cpu
-            → let b = before s w pid x in effect b ≡ single_stepped b (asked arguments b next)
+            → let b = before s w pid x in IsCallOf b arguments next
             → room_in self.old.store (all_names b (bound_registers (hold_in self.old.regions pid) b.cpu)) ≤ self.old.store.places.size
             → SaysRoom (S.blocks swap.old) s w result }
         ensures still { OnNoStep result (report.new ≡ report.old) }

@@ -191,7 +191,7 @@ returns-in-Ok-Asked-clause-next_room g c = λ text may s w x tells stands set so
     asked_room _ c.in-Ok-Asked.arguments c.in-Ok-Asked.next c.in-Ok-Asked.field-0-is (λ z. room_in m.store (all_names b (bound_registers (hold_in m.regions pid) z)) ≤ m.store.places.size) (effect b).cpu b.cpu
     (c.in-Ok-Asked.ensures.room text may s w x told stands there cpu left known) in
     subst (λ (n : ℕ). SaysRoom n s w c.call.result) c.step.ensures.device.0
-    (c.call.ensures.next_room s w x tells asks.still.stands (c.step.ensures.set s set) sound chosen there asks.cpu asks.effect
+    (c.call.ensures.next_room s w x tells asks.still.stands (c.step.ensures.set s set) sound chosen there asks.cpu asks.called
     (room_kept m.store new.self.store m.regions new.self.regions c.step.ensures.shape b pid b.cpu room))
 
 pub returns-in-Ok-Asked-clause-set : goal.returns-in-Ok-Asked-clause-set

@@ -21,7 +21,10 @@ returns-in-Err-clause-acts g c = λ s w x i k tells stands set sound chosen ther
     (c.in-Err.ensures.makes s w x tells stands set sound.tied there same)
 
 pub returns-in-Err-clause-next_room : goal.returns-in-Err-clause-next_room
-returns-in-Err-clause-next_room g c = λ s w x tells stands set sound chosen there same eff room. c.in-Err.ensures.room s w x tells stands set sound chosen there same eff room
+returns-in-Err-clause-next_room g c = λ s w x tells stands set sound chosen there same call room.
+    let m = c.args.self.now in
+    let alive = lived m.procs.items c.args.pid w.processes x c.requires.can_step.process.0 c.requires.there (stands.processes c.args.pid) there m.ends c.requires.together.marked c.requires.live in
+    c.in-Err.ensures.room s w x tells stands set sound chosen there alive same call room
 
 pub returns-in-Err-clause-still : goal.returns-in-Err-clause-still
 returns-in-Err-clause-still g c = no_step _ c.in-Err.fault refl
@@ -86,7 +89,10 @@ returns-else-not-is_live-clause-acts g c = λ s w x i k tells stands set sound c
     (sym c.if-not-is_live.ensures) (parts_in c.commit.new.self (S.blocks made.swap) (S.block made.swap)) (c.commit.ensures.put refl (S.blocks made.swap) (S.block made.swap))
 
 pub returns-else-not-is_live-clause-next_room : goal.returns-else-not-is_live-clause-next_room
-returns-else-not-is_live-clause-next_room g c = λ s w x tells stands set sound chosen there same eff room. c.in-Ok.ensures.room s w x tells stands set sound chosen there same eff room
+returns-else-not-is_live-clause-next_room g c = λ s w x tells stands set sound chosen there same call room.
+    let m = c.args.self.now in
+    let alive = lived m.procs.items c.args.pid w.processes x c.requires.can_step.process.0 c.requires.there (stands.processes c.args.pid) there m.ends c.requires.together.marked c.requires.live in
+    c.in-Ok.ensures.room s w x tells stands set sound chosen there alive same call room
 
 pub returns-else-not-is_live-clause-together : goal.returns-else-not-is_live-clause-together
 returns-else-not-is_live-clause-together g c =
@@ -141,7 +147,10 @@ returns-then-not-is_live-clause-acts g c = λ s w x i k tells stands set sound c
     (subst (λ (o : Parts). StandsIn o v.processes v.names v.next_name v.reserved) (sym put) standing) found live refl (sym (dead_state_is c.args.registers c.reply-ran.result.state told.state dead))))
 
 pub returns-then-not-is_live-clause-next_room : goal.returns-then-not-is_live-clause-next_room
-returns-then-not-is_live-clause-next_room g c = λ s w x tells stands set sound chosen there same eff room. c.in-Ok.ensures.room s w x tells stands set sound chosen there same eff room
+returns-then-not-is_live-clause-next_room g c = λ s w x tells stands set sound chosen there same call room.
+    let m = c.args.self.now in
+    let alive = lived m.procs.items c.args.pid w.processes x c.requires.can_step.process.0 c.requires.there (stands.processes c.args.pid) there m.ends c.requires.together.marked c.requires.live in
+    c.in-Ok.ensures.room s w x tells stands set sound chosen there alive same call room
 
 pub returns-then-not-is_live-clause-together : goal.returns-then-not-is_live-clause-together
 returns-then-not-is_live-clause-together g c =

@@ -19,6 +19,9 @@ use Rattle.o2_space.specs.Parts.{parts_in, running_at}
 use Rattle.o2_space.proofs.Aimed.{aimed_kept}
 use Rattle.o2_space.proofs.Alone.{alone_held, whole_same}
 use Rattle.o2_space.proofs.Called.{called}
+use Rattle.o2_service.specs.Needs.{segments_of}
+use Rattle.o2_space.proofs.CallSays.{fits_at, full_at, lacks_at}
+use Rattle.o2_space.proofs.Replied.{alone_known}
 use Rattle.o2_space.proofs.Making.{kept_named, on_device, process_called, ready_called, ready_given, set_called, stays_at, value_of}
 use Rattle.o2_space.proofs.space.Space.make_call.Goals as goal
 
@@ -80,6 +83,15 @@ returns-in-NoRoom-clause-makes g c = λ s w x tells stands set tied there same.
     (stays_at p w c.act.new.store c.act.new.regions (S.block c.act.new.swap)
     (c.in-NoRoom.ensures.matches p s w x (record { store = refl; regions = refl; pictures = refl; blocks = refl; lawful = c.lawful.ensures; set = set; stands = stands }) tells there tied) stands)
 
+pub returns-in-NoRoom-clause-room : goal.returns-in-NoRoom-clause-room
+returns-in-NoRoom-clause-room g c = λ s w x tells stands set sound chosen there live same call room.
+    let S = g.S.SwapDevice in
+    let p : Parts = parts_in c.args.self.now (S.blocks c.args.swap.now) (S.block c.args.swap.now) in
+    lacks_at p s w x c.lawful.ensures set stands live sound c.args.arguments c.args.next c.args.cpu.now same _ c.args.pid chosen
+    (record { there = there; call = call; alone = alone_known p s w stands c.requires.together.alone c.args.pid; step = c.requires.can_step; ready = c.requires.aimed; keeps = c.ids.ensures ∙ ap segments_of c.call_need.ensures })
+    (c.in-NoRoom.ensures.row p s w (record { store = refl; regions = refl; pictures = refl; blocks = refl; lawful = c.lawful.ensures; set = set; stands = stands }))
+    (c.in-NoRoom.ensures.stops tt) (c.in-NoRoom.ensures.no_room refl)
+
 pub returns-in-NoRoom-clause-together : goal.returns-in-NoRoom-clause-together
 returns-in-NoRoom-clause-together g c =
     let S = g.S.SwapDevice in
@@ -113,6 +125,15 @@ returns-in-SwapFull-clause-makes g c = λ s w x tells stands set tied there same
     on_device (moved p c.act.new.store c.act.new.regions (S.block c.act.new.swap)) (S.blocks c.act.new.swap) (λ (q : Parts). Stands q w) c.act.ensures.device.0
     (stays_at p w c.act.new.store c.act.new.regions (S.block c.act.new.swap)
     (c.in-SwapFull.ensures.matches p s w x (record { store = refl; regions = refl; pictures = refl; blocks = refl; lawful = c.lawful.ensures; set = set; stands = stands }) tells there tied) stands)
+
+pub returns-in-SwapFull-clause-room : goal.returns-in-SwapFull-clause-room
+returns-in-SwapFull-clause-room g c = λ s w x tells stands set sound chosen there live same call room.
+    let S = g.S.SwapDevice in
+    let p : Parts = parts_in c.args.self.now (S.blocks c.args.swap.now) (S.block c.args.swap.now) in
+    full_at p s w x c.lawful.ensures set stands live sound c.args.arguments c.args.next c.args.cpu.now same _ c.args.pid chosen
+    (record { there = there; call = call; alone = alone_known p s w stands c.requires.together.alone c.args.pid; step = c.requires.can_step; ready = c.requires.aimed; keeps = c.ids.ensures ∙ ap segments_of c.call_need.ensures })
+    (c.in-SwapFull.ensures.row p s w (record { store = refl; regions = refl; pictures = refl; blocks = refl; lawful = c.lawful.ensures; set = set; stands = stands }))
+    (c.in-SwapFull.ensures.stops tt) (c.in-SwapFull.ensures.swap_full refl)
 
 pub returns-in-SwapFull-clause-together : goal.returns-in-SwapFull-clause-together
 returns-in-SwapFull-clause-together g c =
@@ -253,3 +274,14 @@ returns-in-Done-clause-processes g c = c.give.ensures.maps.processes ∙ c.act.e
 
 pub returns-in-Done-clause-made : goal.returns-in-Done-clause-made
 returns-in-Done-clause-made g c = (let a = c.in-Done.ensures.limits.made in let b = ap (λ z. z.made) c.give.ensures.store.store in omega (arith, a, b))
+
+pub returns-in-Done-clause-room : goal.returns-in-Done-clause-room
+returns-in-Done-clause-room g c = λ s w x tells stands set sound chosen there live same call room.
+    let S = g.S.SwapDevice in
+    let p : Parts = parts_in c.args.self.now (S.blocks c.args.swap.now) (S.block c.args.swap.now) in
+    let q : Parts = parts_in (record c.args.self.now { store = c.give.new.store; regions = c.give.new.regions }) (S.blocks c.act.new.swap) (S.block c.act.new.swap) in
+    let e = c.act.ensures in
+    fits_at p s w x c.lawful.ensures set stands live sound c.args.arguments c.args.next c.args.cpu.now same _ c.args.pid chosen
+    (record { there = there; call = call; alone = alone_known p s w stands c.requires.together.alone c.args.pid; step = c.requires.can_step; ready = c.requires.aimed; keeps = c.ids.ensures ∙ ap segments_of c.call_need.ensures })
+    c.act.new.store c.act.new.regions e.holds e.limits.size q c.lawful-3.ensures (record { kept = e.kept; store = c.give.ensures.store; maps = c.give.ensures.maps }) _ c.in-Done.answer
+    (returns-in-Done-clause-makes g c s w x tells stands set sound.tied there same) room
