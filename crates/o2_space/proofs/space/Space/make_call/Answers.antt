@@ -88,7 +88,7 @@ returns-in-NoRoom-clause-room g c = λ s w x tells stands set sound chosen there
     let S = g.S.SwapDevice in
     let p : Parts = parts_in c.args.self.now (S.blocks c.args.swap.now) (S.block c.args.swap.now) in
     lacks_at p s w x c.lawful.ensures set stands live sound c.args.arguments c.args.next c.args.cpu.now same _ c.args.pid chosen
-    (record { there = there; call = call; alone = alone_known p s w stands c.requires.together.alone c.args.pid; step = c.requires.can_step; ready = c.requires.aimed; keeps = c.ids.ensures ∙ ap segments_of c.call_need.ensures })
+    (record { there = there; call = call; alone = alone_known p s w stands c.requires.together.alone c.args.pid; step = c.requires.can_step; ready = c.requires.aimed; keeps = c.ids.ensures ∙ ap segments_of c.call_need-need.ensures })
     (c.in-NoRoom.ensures.row p s w (record { store = refl; regions = refl; pictures = refl; blocks = refl; lawful = c.lawful.ensures; set = set; stands = stands }))
     (c.in-NoRoom.ensures.stops tt) (c.in-NoRoom.ensures.no_room refl)
 
@@ -131,7 +131,7 @@ returns-in-SwapFull-clause-room g c = λ s w x tells stands set sound chosen the
     let S = g.S.SwapDevice in
     let p : Parts = parts_in c.args.self.now (S.blocks c.args.swap.now) (S.block c.args.swap.now) in
     full_at p s w x c.lawful.ensures set stands live sound c.args.arguments c.args.next c.args.cpu.now same _ c.args.pid chosen
-    (record { there = there; call = call; alone = alone_known p s w stands c.requires.together.alone c.args.pid; step = c.requires.can_step; ready = c.requires.aimed; keeps = c.ids.ensures ∙ ap segments_of c.call_need.ensures })
+    (record { there = there; call = call; alone = alone_known p s w stands c.requires.together.alone c.args.pid; step = c.requires.can_step; ready = c.requires.aimed; keeps = c.ids.ensures ∙ ap segments_of c.call_need-need.ensures })
     (c.in-SwapFull.ensures.row p s w (record { store = refl; regions = refl; pictures = refl; blocks = refl; lawful = c.lawful.ensures; set = set; stands = stands }))
     (c.in-SwapFull.ensures.stops tt) (c.in-SwapFull.ensures.swap_full refl)
 
@@ -282,6 +282,6 @@ returns-in-Done-clause-room g c = λ s w x tells stands set sound chosen there l
     let q : Parts = parts_in (record c.args.self.now { store = c.give.new.store; regions = c.give.new.regions }) (S.blocks c.act.new.swap) (S.block c.act.new.swap) in
     let e = c.act.ensures in
     fits_at p s w x c.lawful.ensures set stands live sound c.args.arguments c.args.next c.args.cpu.now same _ c.args.pid chosen
-    (record { there = there; call = call; alone = alone_known p s w stands c.requires.together.alone c.args.pid; step = c.requires.can_step; ready = c.requires.aimed; keeps = c.ids.ensures ∙ ap segments_of c.call_need.ensures })
-    c.act.new.store c.act.new.regions e.holds e.limits.size q c.lawful-3.ensures (record { kept = e.kept; store = c.give.ensures.store; maps = c.give.ensures.maps }) _ c.in-Done.answer
+    (record { there = there; call = call; alone = alone_known p s w stands c.requires.together.alone c.args.pid; step = c.requires.can_step; ready = c.requires.aimed; keeps = c.ids.ensures ∙ ap segments_of c.call_need-need.ensures })
+    c.act.new.store c.act.new.regions e.holds e.limits.size q c.lawful-in-Done-2.ensures (record { kept = e.kept; store = c.give.ensures.store; maps = c.give.ensures.maps }) _ c.in-Done.answer
     (returns-in-Done-clause-makes g c s w x tells stands set sound.tied there same) room
