@@ -1,25 +1,21 @@
 -- Where a call on segments stops for want of room, or of room and of swap blocks, the world lacks it.
-use Rattle.std.proofs.Common.{◌≡◌, ◌≢◌, ◌⊎◌, inl, inr, ℕ, ◌+◌, ◌<◌, ◌≤◌, ◌==◌, ◌||◌, Bool, true, false, List, ◌++◌, length, Option, Some, None, IfSome, ap, sym, ◌∙◌, refl, subst, arith, if◌then◌else◌}
-use Rattle.std.specs.Prelude.{max, nat_lt}
-use Rattle.std.proofs.lemmas.Bool.{eqb-true, false≢true, ne_eqb}
+use Rattle.std.proofs.Common.{◌≡◌, ◌≢◌, ◌⊎◌, inl, inr, ℕ, ◌<◌, ◌≤◌, ◌==◌, ◌||◌, Bool, true, List, ◌++◌, length, Option, Some, ap, sym, ◌∙◌, refl, subst, arith, if◌then◌else◌}
+use Rattle.std.specs.Prelude.{nat_lt}
+use Rattle.std.proofs.lemmas.Bool.{eqb-true, ne_eqb}
 use Rattle.o2_entries.specs.declared.Entry.{Entry}
 use Rattle.o2_isa.specs.declared.cpu.Cpu.{Cpu}
 use Rattle.o2_isa.specs.Presence.{is_in}
-use Rattle.o2_isa.specs.View.{Hold, Registers, bound_registers}
+use Rattle.o2_isa.specs.View.{Hold, bound_registers}
 use Rattle.o2_place.specs.declared.seg_id.SegId.{SegId}
-use Rattle.o2_place.specs.Layout.{over}
 use Rattle.o2_place.proofs.Sums.{over-le}
-use Rattle.o2_regions.specs.declared.held.Held.{Held}
-use Rattle.o2_regions.specs.Maps.{Maps}
-use Rattle.o2_store.specs.Loads.{live_load, live_load_at, memory_load, memory_load_at, swap_load as store_swap}
+use Rattle.o2_store.specs.Loads.{live_load, live_load_at, memory_load, swap_load as store_swap}
 use Rattle.o2_store.specs.Needs.{all_wanted, named_in, wanted}
-use Rattle.o2_store.specs.Shelf.{Shelf, entry, entry_or, rounded}
+use Rattle.o2_store.specs.Shelf.{entry, entry_or, rounded}
 use Rattle.o2_store.specs.Sizes.{all_wanted_at, stays, wanted_at}
 use Rattle.o2_swapmap.specs.Piles.{all_of}
 use Rattle.o2_segbus.specs.Seen.{hold_in, key_of, seen}
 use Rattle.o2_service.specs.Needs.{segments_of}
 use Rattle.o2_world.specs.Calls.{Before}
-use Rattle.o2_world.specs.Holders.{process_at}
 use Rattle.o2_world.specs.Known.{known_of}
 use Rattle.o2_world.specs.Map.{Map, get}
 use Rattle.o2_world.specs.Rulings.{full_size}
@@ -30,15 +26,14 @@ use Rattle.o2_gate.specs.declared.gathering.SegmentArguments.{SegmentArguments}
 use Rattle.o2_gate.specs.declared.gathering.SegmentArguments.TheVariants.{Alloc, Realloc, Free, Size, Lock, Unlock, Alias}
 use Rattle.o2_gate.specs.Gathers.{targets}
 use Rattle.o2_gate.specs.Pointed.{are_ready}
-use Rattle.o2_run.specs.Room.{is_locked, larger, live_load as world_live, load_between, load_next, of_both, pointed, room, room_between, rounded as whole, seated, size_of, swap_load, touched}
+use Rattle.o2_run.specs.Room.{is_locked, larger, live_load as world_live, load_between, load_next, of_both, room, room_between, seated, size_of, swap_load, touched}
 use Rattle.o2_run.specs.Stops.{IsSwapFull}
-use Rattle.o2_segs.specs.Made.{IsWithNew, new_entry}
 use Rattle.o2_calls.specs.Acts.{MayStop, ruling_of}
-use Rattle.o2_calls.specs.Stops.{LacksMemory, LacksRoom, LacksSwap, held_by}
+use Rattle.o2_calls.specs.Stops.{LacksRoom, LacksSwap, held_by}
 use Rattle.o2_calls.specs.Tellings.{HoldsAlone}
 use Rattle.o2_stands.specs.Parts.{Parts}
-use Rattle.o2_stands.specs.Sums.{AreAtLeast, counts, part_of}
-use Rattle.o2_stands.proofs.Rooms.{room_at_least, swap_is}
+use Rattle.o2_stands.specs.Sums.{AreAtLeast, counts}
+use Rattle.o2_stands.proofs.Rooms.{swap_is}
 use Rattle.o2_stepping.specs.Nexts.{IsNext, next_start}
 use Rattle.o2_stepping.specs.Ran.{IsCallOf}
 use Rattle.o2_stepping.specs.Rooms.{aimed_in, ages_of, needed_names, seated_in}

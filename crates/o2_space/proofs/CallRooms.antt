@@ -1,12 +1,12 @@
 -- The room of the world's next step that is a call on segments: it fits where the call is made.
-use Rattle.std.proofs.Common.{◌≡◌, ◌⊎◌, inl, inr, ℕ, ◌-◌, ◌/◌, ◌<◌, ◌≤◌, ◌==◌, ◌||◌, Bool, true, false, cond, List, [], ◌∷◌, ◌++◌, length, map, Option, Some, None, is_some, IsSome, ap, sym, ◌∙◌, refl, subst, arith, if◌then◌else◌}
-use Rattle.std.specs.Prelude.{max, nat_lt}
+use Rattle.std.proofs.Common.{◌≡◌, ◌⊎◌, inl, inr, ℕ, ◌-◌, ◌/◌, ◌<◌, ◌≤◌, ◌||◌, Bool, true, false, cond, List, [], length, map, Option, Some, None, is_some, IsSome, ap, sym, ◌∙◌, refl, subst, arith, if◌then◌else◌}
+use Rattle.std.specs.Prelude.{nat_lt}
 use Rattle.std.proofs.lemmas.Bool.{false≢true}
 use mathlib.Core.Path.{fun_ext}
 use Rattle.o2_conf.specs.Dispatch.{Dispatch}
 use Rattle.o2_isa.specs.declared.cpu.Cpu.{Cpu}
 use Rattle.o2_isa.specs.Presence.{is_in}
-use Rattle.o2_isa.specs.View.{Hold, bound_registers}
+use Rattle.o2_isa.specs.View.{bound_registers}
 use Rattle.o2_regions.specs.Maps.{Maps}
 use Rattle.o2_store.specs.Shelf.{entry, place_of}
 use Rattle.o2_store.proofs.Tables.{locked_at, within_at}
@@ -16,9 +16,9 @@ use Rattle.o2_world.specs.Calls.{Before, Effect}
 use Rattle.o2_world.specs.Changes.{Change, Drops, with_all}
 use Rattle.o2_world.specs.Holders.{process_at}
 use Rattle.o2_world.specs.Known.{Known, held_at, known_of}
-use Rattle.o2_world.specs.Map.{Map, get}
+use Rattle.o2_world.specs.Map.{get}
 use Rattle.o2_world.specs.Moves.{Moves}
-use Rattle.o2_world.specs.Rulings.{Ruling, by_load, dropped_indexes, freeing, freeing_of, grants, held_under, in_use, is_gone, is_later, members, refusal}
+use Rattle.o2_world.specs.Rulings.{by_load, dropped_indexes, freeing, freeing_of, grants, held_under, in_use, is_gone, is_later, members, refusal}
 use Rattle.o2_world.specs.Run.{changed, next_dispatch, worked, working}
 use Rattle.o2_world.specs.Sound.{HasGoodRegisters, held_of}
 use Rattle.o2_world.specs.Tied.{IsSound}
@@ -44,7 +44,7 @@ use Rattle.o2_stepping.specs.Nexts.{IsNext, next_start}
 use Rattle.o2_stepping.specs.Ran.{IsCallOf}
 use Rattle.o2_stepping.specs.Rooms.{needed_names, room_at, room_in}
 use Rattle.o2_stepping.proofs.Asked.{untrapped_asked}
-use Rattle.o2_stepping.proofs.Named.{both_in, one_of, or_back, or_front}
+use Rattle.o2_stepping.proofs.Named.{both_in, one_of, or_front}
 use Rattle.o2_stepping.proofs.NextRooms.{IsLess, bytes_long, takes_most, untrapped_sizes}
 use Rattle.o2_space.proofs.Remains.{IsMore, NoneLess, NoneMore, Remains, freed, remains}
 use Rattle.o2_space.proofs.Seats.{KeepsNames, StaySelectors, names_kept, seats_of}

@@ -1,5 +1,5 @@
 -- What a call on segments says of the room and the loads of the world's next step, by what the machine is before it and behind it.
-use Rattle.std.proofs.Common.{◌≡◌, ◌⊎◌, inl, inr, ℕ, ◌<◌, ◌≤◌, ◌==◌, ◌||◌, Bool, true, List, ◌++◌, Option, Some, IsSome, cond, ap, sym, ◌∙◌, refl, subst}
+use Rattle.std.proofs.Common.{◌≡◌, ◌⊎◌, inl, inr, ℕ, ◌<◌, ◌≤◌, ◌||◌, Bool, true, List, ◌++◌, Option, Some, IsSome, cond, ap, sym, ◌∙◌, refl, subst}
 use Rattle.o2_conf.specs.Dispatch.{Dispatch}
 use Rattle.o2_entries.specs.Tables.{slot_at}
 use Rattle.o2_isa.specs.declared.cpu.Cpu.{Cpu}
@@ -12,7 +12,7 @@ use Rattle.o2_regions.specs.Maps.{Maps, held_at}
 use Rattle.o2_store.specs.Needs.{named_in}
 use Rattle.o2_store.specs.Shelf.{Shelf, place_of}
 use Rattle.o2_segbus.specs.Frames.{CanStep, KeepsMaps, KeepsStore}
-use Rattle.o2_segbus.specs.Seen.{hold_in, key_of, present_in, seen}
+use Rattle.o2_segbus.specs.Seen.{hold_in, seen}
 use Rattle.o2_service.specs.Needs.{needs, segments_of}
 use Rattle.o2_service.proofs.Among.{named_needed}
 use Rattle.o2_changes.specs.Holding.{KeepsHolds}

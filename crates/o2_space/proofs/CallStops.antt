@@ -1,7 +1,7 @@
 -- What lacks where a call on segments stops lacks in the world.
-use Rattle.std.proofs.Common.{◌≡◌, ◌≢◌, ◌⊎◌, inl, inr, ℕ, ◌+◌, ◌/◌, ◌<◌, ◌≤◌, ◌==◌, ◌&&◌, ◌||◌, not, Bool, true, false, cond, eqb, List, [], ◌∷◌, ◌++◌, length, min, Option, Some, None, is_some, IsSome, IfSome, option_map, ap, sym, ◌∙◌, refl, subst, arith, if◌then◌else◌}
-use Rattle.std.specs.Prelude.{max, nat_le, nat_lt, replicate}
-use Rattle.std.proofs.lemmas.Bool.{cases_eq, eqb-true, false≢true, ne_eqb}
+use Rattle.std.proofs.Common.{◌≡◌, ◌≢◌, inl, inr, ℕ, ◌+◌, ◌/◌, ◌<◌, ◌≤◌, ◌==◌, ◌&&◌, ◌||◌, Bool, true, false, cond, eqb, List, [], ◌∷◌, length, min, Option, Some, None, is_some, IsSome, IfSome, option_map, ap, sym, ◌∙◌, refl, subst, arith, if◌then◌else◌}
+use Rattle.std.specs.Prelude.{max, nat_le, nat_lt}
+use Rattle.std.proofs.lemmas.Bool.{cases_eq, eqb-true, false≢true}
 use Rattle.std.proofs.lemmas.List.{length-replicate, length-set}
 use Rattle.o2_entries.specs.declared.Entry.{Entry}
 use Rattle.o2_entries.specs.Tables.{slot_at}
@@ -12,31 +12,27 @@ use Rattle.o2_place.specs.Layout.{over}
 use Rattle.o2_place.proofs.Sums.{only, over-add, over-le, over-only}
 use Rattle.o2_regions.specs.declared.held.Held.{Held as HeldThere}
 use Rattle.o2_regions.specs.Maps.{Maps, held_at as held_there}
-use Rattle.o2_store.specs.Loads.{live_load, live_load_at, memory_load, swap_load as store_swap}
-use Rattle.o2_store.specs.Needs.{all_wanted, has_age, is_named, named_in, wanted}
-use Rattle.o2_store.specs.Shelf.{Adds, Shelf, entry, entry_of, entry_or, rounded}
-use Rattle.o2_store.specs.Sizes.{all_wanted_at, stays}
+use Rattle.o2_store.specs.Needs.{has_age, is_named, named_in}
+use Rattle.o2_store.specs.Shelf.{Adds, Shelf, entry, rounded}
 use Rattle.o2_store.proofs.Tables.{slot-set_other, slot-set_same}
-use Rattle.o2_swapmap.specs.Piles.{all_of}
-use Rattle.o2_segbus.specs.Seen.{hold_in, key_of, seen}
-use Rattle.o2_service.specs.Needs.{segments_of}
+use Rattle.o2_segbus.specs.Seen.{key_of}
 use Rattle.o2_service.specs.Told.{IsHeldWell}
 use Rattle.o2_world.specs.Calls.{Before}
 use Rattle.o2_world.specs.Changes.{Change, Holds, Locks, Makes, Resizes, with_all, with_changes}
 use Rattle.o2_world.specs.Known.{Known, Marks, held_at, known_of}
 use Rattle.o2_world.specs.Map.{Map, at_key, get}
-use Rattle.o2_world.specs.Rulings.{Ruling, allocation, allocation_at, free_index, full_size, grants, held_by_call, held_under, is_alias, is_discardable, is_in_run, keeps_its_size, locking, locking_of, locking_with, made_segment, reallocation, reallocation_of, reallocation_with, refusal, region_by}
+use Rattle.o2_world.specs.Rulings.{allocation, allocation_at, free_index, full_size, grants, held_by_call, held_under, is_alias, is_discardable, is_in_run, keeps_its_size, locking, locking_of, locking_with, made_segment, reallocation, reallocation_of, reallocation_with, refusal, region_by}
 use Rattle.o2_world.specs.Run.{next_dispatch}
 use Rattle.o2_world.specs.Tied.{IsSound}
 use Rattle.o2_world.specs.World.{Held, Process, Segment, Setting, World, is_live}
 use Rattle.o2_world.proofs.MapLemmas.{get-at_key}
 use Rattle.o2_ends.proofs.Letting.{live_id}
 use Rattle.o2_gate.specs.declared.gathering.SegmentArguments.{SegmentArguments}
-use Rattle.o2_gate.specs.declared.gathering.SegmentArguments.TheVariants.{Alloc, Realloc, Free, Size, Lock, Unlock, Alias}
-use Rattle.o2_run.specs.Room.{is_locked, larger, load_between, of_both, room_between, rounded as whole, size_of}
-use Rattle.o2_segs.specs.Made.{IsWithNew, new_entry}
+use Rattle.o2_gate.specs.declared.gathering.SegmentArguments.TheVariants.{Alloc, Realloc, Lock}
+use Rattle.o2_run.specs.Room.{is_locked, larger, room_between, rounded as whole, size_of}
+use Rattle.o2_segs.specs.Made.{new_entry}
 use Rattle.o2_calls.specs.Acts.{MayStop, ruling_of}
-use Rattle.o2_calls.specs.Stops.{LacksMemory, LacksRoom, LacksSwap, held_by}
+use Rattle.o2_calls.specs.Stops.{held_by}
 use Rattle.o2_calls.specs.Tellings.{HoldsAlone}
 use Rattle.o2_stands.specs.Parts.{Parts, held_in, held_of}
 use Rattle.o2_stands.specs.Stands.{AreLawful, IsNamed, Stands}
@@ -44,11 +40,10 @@ use Rattle.o2_stands.specs.Sums.{AreAtLeast, counts, part_of}
 use Rattle.o2_stands.proofs.Rooms.{name_facts}
 use Rattle.o2_stepping.specs.Nexts.{IsNext, next_start}
 use Rattle.o2_stepping.specs.Ran.{IsCallOf}
-use Rattle.o2_stepping.proofs.Named.{age_is, or_back, or_front}
-use Rattle.o2_stepping.proofs.NextRooms.{no_room, takes_least}
-use Rattle.o2_space.proofs.CallRooms.{behind_is, e, holds, needed_wanted, new, room_is, sizes, u, v, want, world_is}
+use Rattle.o2_stepping.proofs.Named.{age_is, or_back}
+use Rattle.o2_space.proofs.CallRooms.{e, new, sizes, u, v, want, world_is}
 use Rattle.o2_space.proofs.Remains.{locked_to, resized_size, sized_to, written_some}
-use Rattle.o2_space.proofs.Sides.{in_old, load_room, room_with_new, room_without_new}
+use Rattle.o2_space.proofs.Sides.{room_with_new, room_without_new}
 
 -- What a call that comes to no error changes.
 
@@ -359,19 +354,22 @@ module _ (p : Parts) (s : Setting) (w : World) (x : Process) (next : IsNext p s 
         let l = lock_is (known_of s w) pid z none in
         let name = l.held.name in
         let h = there_by p s w next.stands pid z l.held l.under in
-        let names = names_are (Locks name l.count ∷ []) (changes_are (Lock z) is ∙ l.is) in
-        (name, h, top_least p w next.lawful next.stands behind_it.names list base least h.held.id.key (rounded (entry p.shelf h.held.id.key).size) (held_live z name h)
-        (λ n key.
-        (let same = held_name z name h n key in
-        let locked : is_locked (get behind_it.names name) ≡ true =
-        ap (λ (m : Map Segment). is_locked (get m name)) names
-        ∙ (ap is_locked (at_same name (locked_to l.count) before_it.names)
-        ∙ lock_there l.count (get before_it.names name) l.some (still_there name (subst (λ (k : ℕ). is_some (get w.names k) ≡ true) (sym same) (there n h.held.id.key key)))) in
-        let locked_n : is_locked (get behind_it.names n) ≡ true = subst (λ (k : ℕ). is_locked (get behind_it.names k) ≡ true) same locked in
-        let size = (facts n h.held.id.key key).0 in
-        counted_larger (counts w.names behind_it.names list n) (rounded (entry p.shelf h.held.id.key).size) (larger w.names behind_it.names n)
-        (or_back (is_in n list) _ (or_back (is_locked (get w.names n)) (is_locked (get behind_it.names n)) locked_n))
-        (omega (arith, size)))))
+        let names = names_are (Locks name l.count ∷ []) (changes_are (Lock z) is ∙ l.is) in (
+          name,
+          h,
+          top_least p w next.lawful next.stands behind_it.names list base least h.held.id.key (rounded (entry p.shelf h.held.id.key).size) (held_live z name h)
+              (λ n key.
+              (let same = held_name z name h n key in
+              let locked : is_locked (get behind_it.names name) ≡ true =
+              ap (λ (m : Map Segment). is_locked (get m name)) names
+              ∙ (ap is_locked (at_same name (locked_to l.count) before_it.names)
+              ∙ lock_there l.count (get before_it.names name) l.some (still_there name (subst (λ (k : ℕ). is_some (get w.names k) ≡ true) (sym same) (there n h.held.id.key key)))) in
+              let locked_n : is_locked (get behind_it.names n) ≡ true = subst (λ (k : ℕ). is_locked (get behind_it.names k) ≡ true) same locked in
+              let size = (facts n h.held.id.key key).0 in
+              counted_larger (counts w.names behind_it.names list n) (rounded (entry p.shelf h.held.id.key).size) (larger w.names behind_it.names n)
+              (or_back (is_in n list) _ (or_back (is_locked (get w.names n)) (is_locked (get behind_it.names n)) locked_n))
+              (omega (arith, size)))),
+        )
 
     -- a segment that gets a size, and counts
     pub size_over : (size z : ℕ) → a ≡ Realloc size z → (reallocation (known_of s w) pid size z).error ≡ 0 → (h : HeldThere) → held_by p.maps pid z ≡ Some h

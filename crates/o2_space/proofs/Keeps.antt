@@ -1,5 +1,5 @@
 -- What a call on segments keeps in memory: the segments in the segment registers, and that behind its pointer.
-use Rattle.std.proofs.Common.{◌≡◌, ◌⊎◌, inl, inr, ℕ, zero, suc, ◌+◌, ◌/◌, ◌==◌, ◌&&◌, ◌||◌, nat_le, not, Bool, true, false, cond, List, [], ◌∷◌, ◌++◌, Option, Some, None, is_some, IsSome, option_map, ap, sym, ◌∙◌, refl, subst, arith, if◌then◌else◌}
+use Rattle.std.proofs.Common.{◌≡◌, ◌⊎◌, inl, inr, ℕ, zero, suc, ◌+◌, ◌==◌, ◌&&◌, ◌||◌, nat_le, Bool, true, false, cond, List, [], ◌∷◌, ◌++◌, Option, Some, None, is_some, IsSome, ap, sym, ◌∙◌, refl, subst, arith, if◌then◌else◌}
 use Rattle.std.specs.Prelude.{length, slice_get}
 use Rattle.std.proofs.lemmas.Bool.{eqb-true, false≢true}
 use Rattle.o2_entries.specs.declared.Entry.{Entry}
@@ -9,17 +9,16 @@ use Rattle.o2_isa.specs.declared.cpu.Loaded.TheVariants as loaded
 use Rattle.o2_isa.specs.Pointers.{has_present_range, is_for_es, is_passed, is_ready}
 use Rattle.o2_isa.specs.Presence.{is_in}
 use Rattle.o2_isa.specs.Steps.{selector}
-use Rattle.o2_isa.specs.View.{Hold, View, bound_in, bound_registers, found, is_local, is_null, is_readable, is_writable, probe_of, refused, trap_of, when}
+use Rattle.o2_isa.specs.View.{Hold, View, bound_in, bound_registers, found, is_null, is_readable, is_writable, probe_of, refused, trap_of, when}
 use Rattle.o2_place.specs.declared.seg_id.SegId.{SegId}
 use Rattle.o2_regions.specs.declared.held.Held.{Held}
-use Rattle.o2_regions.specs.Maps.{Maps, held_at, table_of}
+use Rattle.o2_regions.specs.Maps.{Maps, held_at}
 use Rattle.o2_store.specs.Needs.{is_named, named_in}
 use Rattle.o2_store.specs.Shelf.{Shelf, aged, entry, entry_of, place_of}
 use Rattle.o2_segbus.specs.Bus.{held_under}
 use Rattle.o2_segbus.specs.Frames.{CanStep}
 use Rattle.o2_segbus.specs.Guards.{AreAged}
-use Rattle.o2_segbus.specs.Seen.{hold_in, hold_of, key_of, present_in, present_under, seen, seen_with}
-use Rattle.o2_segbus.proofs.Holds.{bound_is}
+use Rattle.o2_segbus.specs.Seen.{hold_in, key_of, present_in, present_under, seen, seen_with}
 use Rattle.o2_service.specs.Needs.{AreLive, needs, segments_of}
 use Rattle.o2_service.specs.Told.{IsHeldWell}
 use Rattle.o2_run.specs.Room.{Pointer, name_in, passed, pointed, seated}
@@ -30,7 +29,7 @@ use Rattle.o2_gate.specs.Pointed.{are_ready, pointer}
 use Rattle.o2_changes.proofs.Keys.{has_is}
 use Rattle.o2_stepping.specs.Rooms.{aimed_in, ages_of, pair_of, seated_in}
 use Rattle.o2_stepping.proofs.Lefts.{ages_both}
-use Rattle.o2_stepping.proofs.Named.{age_is, both_in, key_of_live, needed_at, one_of, or_back, or_front, seated_present}
+use Rattle.o2_stepping.proofs.Named.{both_in, key_of_live, one_of, or_back, or_front, seated_present}
 use Rattle.o2_stepping.proofs.Rounds.{ages_seated, live_more, live_seated, pair_name}
 use Rattle.o2_space.proofs.Aimed.{live_aimed}
 

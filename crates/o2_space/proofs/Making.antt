@@ -1,5 +1,5 @@
 -- What a call on segments leaves of a space, and what it asks for.
-use Rattle.std.proofs.Common.{◌≡◌, ℕ, ◌+◌, true, List, [], ◌++◌, length, Option, None, ap, sym, ◌∙◌, refl, subst, arith}
+use Rattle.std.proofs.Common.{◌≡◌, ℕ, true, List, [], ◌++◌, length, Option, None, ap, sym, ◌∙◌, refl, subst, arith}
 use Rattle.std.specs.Prelude.{min}
 use Rattle.o2_image.specs.ImageList.{ImageList}
 use Rattle.o2_isa.specs.declared.cpu.Cpu.{Cpu}

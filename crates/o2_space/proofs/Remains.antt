@@ -1,5 +1,5 @@
 -- What a call on segments leaves of the names before it: none of them grows or gets a lock, or none goes, shrinks or loses its lock.
-use Rattle.std.proofs.Common.{◌≡◌, inl, inr, ℕ, ◌-◌, ◌<◌, ◌≤◌, Bool, true, false, cond, List, [], ◌∷◌, length, map, Option, Some, None, is_some, option_map, ap, sym, ◌∙◌, refl, subst, arith, if◌then◌else◌}
+use Rattle.std.proofs.Common.{◌≡◌, inl, inr, ℕ, ◌-◌, ◌≤◌, Bool, true, false, List, [], ◌∷◌, length, map, Option, Some, None, is_some, option_map, ap, sym, ◌∙◌, refl, subst, arith, if◌then◌else◌}
 use Rattle.std.specs.Prelude.{◌==◌, nat_lt, replicate, take}
 use Rattle.std.specs.List.{list_any}
 use Rattle.std.proofs.lemmas.Bool.{cases_lt, eqb-true, false≢true}
@@ -172,6 +172,7 @@ module _ (w : World) (d : Dispatch) (x : Process) (e : Effect) (sizes : (n : ℕ
         (λ q. (let z = ap (λ (k : ℕ). size_of (get w.names k)) q in size_more size (get u.names n) (get w.names n) (omega (arith, l, z)) (written n)))
         (more_as (get u.names n) (get w.names n) (written n)))
   ]
+
   abbrev Left : List Change → Type 0
   Left cs = Remains w.names (with_all u cs).names
 

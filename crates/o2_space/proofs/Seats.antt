@@ -6,10 +6,10 @@ use Rattle.std.proofs.lemmas.Bool.{eqb-true, false≢true}
 use Rattle.o2_changes.proofs.Worlds.{held_put, number_kept, put_at, with_map}
 use Rattle.o2_isa.specs.declared.cpu.Cpu.{Cpu}
 use Rattle.o2_isa.specs.Presence.{is_in}
-use Rattle.o2_isa.specs.View.{Hold, bound_in, bound_registers, is_local, is_null}
+use Rattle.o2_isa.specs.View.{bound_in, bound_registers, is_local, is_null}
 use Rattle.o2_run.specs.Room.{name_in, seated}
 use Rattle.o2_world.specs.CallParts.{Before}
-use Rattle.o2_world.specs.Changes.{Change, Drops, Holds, at_number, fewer, more, swept, takes, with_all, with_change, with_changes}
+use Rattle.o2_world.specs.Changes.{Change, Drops, at_number, fewer, more, swept, takes, with_all, with_change, with_changes}
 use Rattle.o2_world.specs.Holders.{process_at}
 use Rattle.o2_world.specs.Known.{held_at}
 use Rattle.o2_world.specs.Map.{get}

@@ -5,4 +5,3 @@ use Rattle.o2_space.proofs.calling.give.Goals as goal
 
 pub new-bus-requires-clause-bound : goal.new-bus-requires-clause-bound
 new-bus-requires-clause-bound c = (may_step c.args.store.now c.args.regions.now c.args.pid c.requires.named c.requires.settled no_registers c.requires.process refl).bound
-
