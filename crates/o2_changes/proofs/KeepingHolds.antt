@@ -1,5 +1,5 @@
 -- What stays held, and where segments stay, behind single changes.
-use Rattle.std.proofs.Common.{◌≡◌, ℕ, ◌&&◌, ◌∙◌, Option, Some, None, is_some, IsSome, true, false, eqb, inl, inr, ap, sym, refl, Bool, subst}
+use Rattle.std.proofs.Common.{◌≡◌, ℕ, ◌&&◌, ◌∙◌, Option, Some, None, is_some, IsSome, true, false, eqb, inl, inr, ap, sym, refl, subst}
 use Rattle.std.proofs.lemmas.Bool.{cases_eq, cond-false}
 use Rattle.o2_entries.specs.Tables.{slot_at}
 use Rattle.o2_place.specs.declared.seg_id.SegId.{SegId}

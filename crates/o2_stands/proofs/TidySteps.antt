@@ -4,21 +4,18 @@ use Rattle.std.specs.List.{list_any}
 use Rattle.o2_conf.specs.Dispatch.{Dispatch}
 use Rattle.o2_isa.specs.declared.cpu.Cpu.{Cpu}
 use Rattle.o2_world.specs.declared.types.State.TheVariants.{Live}
-use Rattle.o2_world.specs.World.{World, Setting, Process, Reserve, is_live, Cause, Held, Segment, ByLoad, ByCall, ByAlias}
-use Rattle.o2_world.specs.Holders.{process_at, with_process}
+use Rattle.o2_world.specs.World.{World, Setting, Process, Reserve, is_live, Cause, ByLoad, ByCall, ByAlias}
+use Rattle.o2_world.specs.Holders.{process_at}
 use Rattle.o2_world.specs.Changes.{Change, Drops, Finishes, with_change, with_changes, Holds}
-use Rattle.o2_world.specs.Known.{holds_index, reserves, taken_in}
-use Rattle.o2_world.specs.CallParts.{Effect, Before}
-use Rattle.o2_world.specs.Effect.{effect}
+use Rattle.o2_world.specs.Known.{holds_index, reserves}
+use Rattle.o2_world.specs.CallParts.{Effect}
 use Rattle.o2_world.specs.Run.{acted, all_changes, before, changed, chosen_step, is_over, next_dispatch, step, worked, working}
-use Rattle.o2_world.specs.Tied.{IsSound, AreFitChanges}
+use Rattle.o2_world.specs.Tied.{IsSound}
 use Rattle.o2_world.specs.Moves.{IsFreeIndex, Moves, NoneMoves, OneAliased, OneLocked, OneMade, OneSized, SomeFreed, AllMoves, IsShared, OneNamed, OwnMoves, SomeShared, Each}
-use Rattle.o2_world.proofs.StepSound.{IsOrderly, acted_sound, all_fit, effect_orderly, next_process, worked_is_tied, step_sound}
+use Rattle.o2_world.proofs.StepSound.{IsOrderly, acted_sound, all_fit, effect_orderly, next_process, worked_is_tied}
 use Rattle.o2_stands.specs.Stands.{IsTidy, is_by_load}
-use Rattle.o2_world.specs.Sound.{HasGoodRegisters}
 use Rattle.o2_world.specs.Rulings.{by_load}
 use Rattle.o2_world.proofs.FitShares.{changes_are, held_each, share, shares_of}
-use Rattle.o2_world.proofs.StepMoves.{effect_moves}
 use Rattle.o2_stands.specs.Tidies.{AreTidyChanges, IsReservedAs}
 use Rattle.o2_stands.proofs.Moves.{tidy_written}
 use Rattle.o2_stands.proofs.Running.{tidy_same}

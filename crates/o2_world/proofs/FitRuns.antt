@@ -1,14 +1,14 @@
 -- New members of a run of indexes are fit, and leave all that lives held.
-use Rattle.std.proofs.Common.{◌≡◌, ◌≢◌, ◌⊎◌, inl, inr, ℕ, zero, suc, ◌+◌, ◌-◌, ◌<◌, ◌≤◌, ◌==◌, ◌&&◌, not, Bool, true, false, List, [], ◌∷◌, ◌++◌, Option, Some, None, if◌then◌else◌, ap, sym, ◌∙◌, refl, arith, subst}
+use Rattle.std.proofs.Common.{◌≡◌, ◌≢◌, inl, ℕ, ◌+◌, ◌-◌, ◌<◌, ◌≤◌, ◌==◌, Bool, true, false, List, [], ◌∷◌, Option, Some, None, if◌then◌else◌, ap, sym, ◌∙◌, refl, arith, subst}
 use Rattle.std.specs.Prelude.{is_some, slice_get, option_map}
 use Rattle.o2_world.specs.Map.{Map, get, put}
 use Rattle.o2_world.specs.World.{World, Process, Segment, Held, is_live}
-use Rattle.o2_world.specs.Holders.{is_held, process_at}
-use Rattle.o2_world.specs.Changes.{Change, Holds, Makes, at_number, at_place, more, with_change, with_changes}
+use Rattle.o2_world.specs.Holders.{process_at}
+use Rattle.o2_world.specs.Changes.{Change, Holds, Makes, at_place, more, with_change, with_changes}
 use Rattle.o2_world.specs.Rulings.{made_segment}
 use Rattle.o2_world.specs.Sound.{held_in, held_of}
 use Rattle.o2_world.specs.HugeRulings.{all_hold, held_in_run, new_members}
-use Rattle.o2_world.specs.Tied.{AreFitChanges, AreOne, IsFitHold, IsSwept, lives_in}
+use Rattle.o2_world.specs.Tied.{AreFitChanges, IsSwept}
 use Rattle.o2_world.specs.Moves.{AreApart, Each, IsAtLeast}
 use Rattle.o2_world.proofs.FitRows.{made_size}
 use Rattle.o2_world.proofs.FitShares.{least_of}

@@ -1,16 +1,15 @@
 -- What a process gets of what another holds is fit, and leaves all that lives held.
-use Rattle.std.proofs.Common.{◌≡◌, ◌⊎◌, inl, inr, ℕ, zero, suc, ◌-◌, ◌<◌, ◌≤◌, ◌==◌, Bool, true, false, List, [], ◌∷◌, ◌++◌, Option, Some, None, ap, sym, ◌∙◌, refl, arith, subst, if◌then◌else◌}
+use Rattle.std.proofs.Common.{◌≡◌, inl, inr, ℕ, ◌-◌, ◌<◌, ◌==◌, true, List, [], ◌∷◌, ◌++◌, Option, Some, ap, sym, ◌∙◌, refl, arith, subst}
 use Rattle.std.specs.Prelude.{is_some, slice_get, option_map}
-use Rattle.std.specs.List.{list_any}
 use Rattle.std.proofs.lemmas.Bool.{false≢true}
-use Rattle.o2_world.specs.Map.{Map, get, put}
+use Rattle.o2_world.specs.Map.{get, put}
 use Rattle.o2_world.specs.World.{World, Process, Segment, Held, ByCall, is_live}
 use Rattle.o2_world.specs.Holders.{process_at}
-use Rattle.o2_world.specs.Changes.{Change, Holds, more, takes, with_change, with_changes}
+use Rattle.o2_world.specs.Changes.{Change, Holds, more, with_change, with_changes}
 use Rattle.o2_world.specs.Known.{Known}
-use Rattle.o2_world.specs.Sound.{held_in, held_of}
+use Rattle.o2_world.specs.Sound.{held_in}
 use Rattle.o2_world.specs.SharedRulings.{each_more, one_more}
-use Rattle.o2_world.specs.Tied.{AreFitChanges, AreOne, IsFitHold, IsOwnData, IsSwept, IsTied, lives_in}
+use Rattle.o2_world.specs.Tied.{AreFitChanges, AreOne, IsFitHold, IsSwept, IsTied}
 use Rattle.o2_world.specs.Moves.{Each, IsAtLeast, IsShared}
 use Rattle.o2_world.proofs.HoldsSwept.{kept_swept, still}
 use Rattle.o2_world.proofs.MapLemmas.{if_yes}

@@ -1,12 +1,12 @@
 -- What each call on a huge allocation changes, by its shape.
-use Rattle.std.proofs.Common.{◌≡◌, ◌≢◌, ◌⊎◌, inl, inr, ℕ, zero, suc, ◌+◌, ◌-◌, ◌<◌, ◌≤◌, ◌==◌, ◌/◌, ◌%◌, nat_lt, nat_le, not, ◌&&◌, ◌||◌, Bool, true, false, cond, List, [], ◌∷◌, ◌++◌, length, Option, Some, None, if◌then◌else◌, ap, sym, ◌∙◌, refl, arith, subst}
-use Rattle.std.specs.Prelude.{codes, drop, filter, flat_map, is_some, max, replicate, take}
+use Rattle.std.proofs.Common.{◌≡◌, ◌⊎◌, inl, inr, ℕ, zero, suc, ◌+◌, ◌-◌, ◌<◌, ◌≤◌, ◌==◌, ◌/◌, nat_lt, nat_le, ◌&&◌, ◌||◌, Bool, true, false, cond, List, [], ◌∷◌, ◌++◌, length, Option, Some, None, if◌then◌else◌, ap, ◌∙◌, refl, arith, subst}
+use Rattle.std.specs.Prelude.{codes, drop, flat_map, is_some, max}
 use Rattle.o2_desc.specs.Bits.{has_bit}
 use Rattle.o2_desc.specs.Choice.{IsChosen, chosen}
 use Rattle.o2_desc.proofs.Choices.{chosen_law}
 use Rattle.o2_isa.specs.declared.cpu.Cpu.{Cpu}
 use Rattle.o2_world.specs.declared.types.Argument.{Argument}
-use Rattle.o2_world.specs.declared.types.Argument.TheVariants.{Word, Far}
+use Rattle.o2_world.specs.declared.types.Argument.TheVariants.{Far}
 use Rattle.o2_world.specs.declared.types.HugeCall.{HugeCall}
 use Rattle.o2_world.specs.declared.types.HugeCall.TheVariants.{DosAllocHuge, DosReallocHuge, DosGetHugeShift}
 use Rattle.o2_world.specs.World.{Held}
@@ -18,7 +18,7 @@ use Rattle.o2_world.specs.SegmentCalls.{Written, ruled_at, written_word}
 use Rattle.o2_world.specs.SharedRulings.{marks_under, shared_from}
 use Rattle.o2_world.specs.HugeRulings.{all_bytes, all_dropped, all_hold, bytes_of, dropped_members, flags_in, free_run, huge_allocation, huge_at, huge_reallocation, huge_reallocation_of, huge_shift, is_first, is_huge_fault, is_unheld, left_in_run, names_one, new_members, other_shares, resized_members, resized_one, run_changes, run_reserve, run_resized, segments_of, share_of, sizes_of, without}
 use Rattle.o2_world.specs.HugeCalls.{allocated_huge, dos_alloc_huge, dos_get_huge_shift, dos_realloc_huge, huge_args, on_runs, reallocated_huge}
-use Rattle.o2_world.specs.Moves.{AreApart, AreHolders, Each, IsCut, IsFreeIndex, IsGrowth, IsOpen, Maker, NoRun, RunMade, RunMoves, RunSized, Sharer}
+use Rattle.o2_world.specs.Moves.{AreApart, AreHolders, Each, IsFreeIndex, IsOpen, Maker, NoRun, RunMade, RunMoves, RunSized, Sharer}
 use Rattle.o2_world.proofs.SegmentMoves.{above, apart_kept, held_there, indexes_apart, indexes_from, kept_are, members_apart, members_held, region_is}
 
 either : (b : Before) (t : Bool) (e f : Effect) → RunMoves b e.cpu e.changes → RunMoves b f.cpu f.changes

@@ -1,19 +1,18 @@
 -- The calls on huge allocations: the registers that they leave, the sizes of what lived before, and their lines.
-use Rattle.std.proofs.Common.{◌≡◌, ℕ, ◌==◌, List, [], ◌∷◌, if◌then◌else◌, refl}
+use Rattle.std.proofs.Common.{ℕ, [], ◌∷◌, refl}
 use Rattle.std.specs.Prelude.{codes}
 use Rattle.o2_isa.specs.declared.instr.Sreg.TheVariants.{Es, Cs, Ss, Ds}
 use Rattle.o2_isa.specs.SegmentLoads.{LoadsByRules}
 use Rattle.o2_isa.specs.Sizes.{KeepsLengths}
 use Rattle.o2_isa.proofs.Sizes.{stays}
 use Rattle.std.proofs.Common.{inl}
-use Rattle.o2_world.specs.declared.types.Argument.{Argument}
-use Rattle.o2_world.specs.declared.types.Argument.TheVariants.{Word, Far}
+use Rattle.o2_world.specs.declared.types.Argument.TheVariants.{Far}
 use Rattle.o2_world.specs.declared.types.HugeCall.{HugeCall}
 use Rattle.o2_world.specs.declared.types.HugeCall.TheVariants.{DosAllocHuge, DosReallocHuge, DosGetHugeShift}
-use Rattle.o2_world.specs.CallParts.{Before, Effect, argument, has_arguments, may_write}
+use Rattle.o2_world.specs.CallParts.{Before, argument, has_arguments, may_write}
 use Rattle.o2_world.specs.SegmentCalls.{written_word}
 use Rattle.o2_world.specs.HugeRulings.{huge_allocation, huge_shift}
-use Rattle.o2_world.specs.HugeCalls.{allocated_huge, dos_alloc_huge, dos_get_huge_shift, dos_realloc_huge, huge_args, on_runs, reallocated_huge, shift_told}
+use Rattle.o2_world.specs.HugeCalls.{dos_alloc_huge, dos_get_huge_shift, dos_realloc_huge, huge_args, on_runs, reallocated_huge}
 use Rattle.o2_world.proofs.GoodRegisters.{cleared, either, kept_ruled, picked_ruled, ruled_keeps, traps}
 use Rattle.o2_world.proofs.Sizes.{by_test, ruled_sizes}
 use Rattle.o2_world.proofs.RowsTold.{IsToldBy, back_told, ruled_told, told_either, trap_told}

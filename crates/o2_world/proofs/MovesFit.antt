@@ -7,19 +7,18 @@ use Rattle.o2_conf.specs.Dispatch.{Dispatch}
 use Rattle.o2_world.specs.Map.{get}
 use Rattle.o2_world.specs.World.{World, Setting, Process, Segment, Held, is_live}
 use Rattle.o2_world.specs.Holders.{process_at, with_process}
-use Rattle.o2_world.specs.Views.{with_bytes}
-use Rattle.o2_world.specs.Changes.{Change, Drops, Holds, Makes, Names, resized, takes, with_change, with_changes, with_segment}
+use Rattle.o2_world.specs.Changes.{Change, Drops, Holds, Makes, resized, takes, with_change, with_changes, with_segment}
 use Rattle.o2_world.specs.Known.{held_at, holds_index, lives_at, reserves, taken_in}
 use Rattle.o2_world.specs.CallParts.{Before, Effect}
 use Rattle.o2_world.specs.Known.{Marks, marks_of}
 use Rattle.o2_world.specs.Rulings.{full_size, held_as_code, held_by_call, made_segment}
-use Rattle.o2_world.specs.SharedRulings.{each_more, shared_segment}
+use Rattle.o2_world.specs.SharedRulings.{shared_segment}
 use Rattle.o2_world.specs.Run.{before, worked, working}
 use Rattle.o2_world.specs.Sound.{held_in, held_of, HasGoodRegisters}
 use Rattle.o2_world.specs.Tied.{AreFitChanges, IsFitDrop, IsSound, IsSwept, IsTied}
-use Rattle.o2_world.specs.Moves.{AllMoves, Each, IsShared, IsSharing, OneNamed, OwnMoves, SomeShared, IsFreeIndex, IsFreeing, Moves, NoneMoves, OneAliased, OneLocked, OneMade, OneSized, SomeFreed}
+use Rattle.o2_world.specs.Moves.{AllMoves, IsShared, OneNamed, OwnMoves, SomeShared, IsFreeIndex, IsFreeing, Moves, NoneMoves, OneAliased, OneLocked, OneMade, OneSized, SomeFreed}
 use Rattle.o2_world.proofs.FitRows.{alias_fit, alloc_fit, either_false, full_is, made_size, named_fit, nobody}
-use Rattle.o2_world.proofs.FitShares.{held_each, share_fit, share_swept, shares_known}
+use Rattle.o2_world.proofs.FitShares.{share_fit, share_swept, shares_known}
 use Rattle.o2_world.proofs.FitFrees.{drops_fit, each_among, free_fit}
 use Rattle.o2_world.proofs.HoldsSwept.{holds_swept}
 use Rattle.o2_world.proofs.MapLemmas.{get-map, if_no}

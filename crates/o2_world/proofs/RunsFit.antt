@@ -7,9 +7,9 @@ use Rattle.o2_conf.specs.Dispatch.{Dispatch}
 use Rattle.o2_isa.specs.declared.cpu.Cpu.{Cpu}
 use Rattle.o2_isa.specs.View.{is_local, is_null, is_readable}
 use Rattle.o2_world.specs.Map.{Map, get, put}
-use Rattle.o2_world.specs.World.{World, Setting, Process, Reserve, Segment, Held, is_live}
+use Rattle.o2_world.specs.World.{World, Setting, Process, Segment, Held, is_live}
 use Rattle.o2_world.specs.Holders.{process_at}
-use Rattle.o2_world.specs.Changes.{Change, Drops, Holds, Makes, Reserves, Resizes, at_number, at_place, fewer, is_used, more, own_run_held, resized, run_held, runs_from, takes, with_change, with_changes}
+use Rattle.o2_world.specs.Changes.{Change, Drops, Holds, Makes, Reserves, Resizes, at_number, at_place, fewer, is_used, more, own_run_held, resized, runs_from, takes, with_change, with_changes}
 use Rattle.o2_world.specs.Known.{Known, Marks, held_at, holds_index}
 use Rattle.o2_world.specs.CallParts.{Before, Effect}
 use Rattle.o2_world.specs.Rulings.{full_size, indexes, is_index, made_segment}

@@ -1,6 +1,6 @@
 -- The lines of a call on a huge allocation can tell its changes.
-use Rattle.std.proofs.Common.{◌≡◌, ◌≢◌, ℕ, zero, suc, ◌+◌, ◌-◌, ◌<◌, ◌≤◌, ◌==◌, Bool, true, false, List, [], ◌∷◌, ◌++◌, length, Option, Some, None, if◌then◌else◌, ap, sym, ◌∙◌, refl, arith, subst}
-use Rattle.std.specs.Prelude.{is_some, slice_get}
+use Rattle.std.proofs.Common.{◌≡◌, ◌≢◌, ℕ, ◌+◌, ◌-◌, ◌≤◌, ◌==◌, Bool, true, false, List, [], ◌∷◌, ◌++◌, length, Option, Some, None, if◌then◌else◌, ap, sym, ◌∙◌, refl, arith, subst}
+use Rattle.std.specs.Prelude.{slice_get}
 use Rattle.o2_conf.specs.Dispatch.{Dispatch}
 use Rattle.o2_world.specs.Map.{Map, get, put}
 use Rattle.o2_world.specs.World.{World, Setting, Process, Segment, Held, is_live}
@@ -13,9 +13,9 @@ use Rattle.o2_world.specs.Run.{before, worked, working}
 use Rattle.o2_world.specs.Sound.{held_in, held_of, HasGoodRegisters}
 use Rattle.o2_world.specs.HugeRulings.{all_hold, dropped_members, held_in_run, new_members, resized_members, run_reserve}
 use Rattle.o2_world.specs.Tied.{IsSound}
-use Rattle.o2_world.specs.Reach.{CanTellAll, IsThere, holds_at, holds_of}
-use Rattle.o2_world.specs.Moves.{AreApart, Each, IsAtLeast, IsCut, IsGrowth, NoRun, RunMade, RunMoves, RunSized}
-use Rattle.o2_world.proofs.FitRuns.{AllGoOn, GoesOn, members_still, other_number}
+use Rattle.o2_world.specs.Reach.{CanTellAll, IsThere, holds_of}
+use Rattle.o2_world.specs.Moves.{AreApart, Each, IsCut, IsGrowth, NoRun, RunMade, RunMoves, RunSized}
+use Rattle.o2_world.proofs.FitRuns.{AllGoOn, members_still, other_number}
 use Rattle.o2_world.proofs.MapLemmas.{if_no}
 use Rattle.o2_world.proofs.MovesFit.{held_there}
 use Rattle.o2_world.proofs.Numbers.{at_place_of, number_some}

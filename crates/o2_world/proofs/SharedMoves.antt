@@ -1,15 +1,14 @@
 -- What each call that shares segments changes, by its shape.
-use Rattle.std.proofs.Common.{◌≡◌, ◌⊎◌, inl, inr, ℕ, ◌+◌, ◌<◌, ◌≤◌, ◌==◌, ◌/◌, nat_le, not, ◌&&◌, ◌||◌, Bool, true, false, cond, List, [], ◌∷◌, Option, Some, None, if◌then◌else◌, ap, sym, ◌∙◌, refl, arith, subst}
+use Rattle.std.proofs.Common.{◌≡◌, inl, inr, ℕ, ◌≤◌, ◌==◌, ◌/◌, nat_le, not, ◌&&◌, ◌||◌, Bool, true, false, cond, List, [], ◌∷◌, Option, Some, None, if◌then◌else◌, refl, arith, subst}
 use Rattle.std.specs.Prelude.{codes, is_some}
-use Rattle.std.specs.List.{list_any}
 use Rattle.o2_base.specs.Selectors.{selector_of}
 use Rattle.o2_desc.specs.Bits.{has_bit}
-use Rattle.o2_desc.specs.Choice.{IsChosen, chosen}
+use Rattle.o2_desc.specs.Choice.{IsChosen}
 use Rattle.o2_desc.proofs.Choices.{chosen_law}
 use Rattle.o2_isa.specs.declared.cpu.Cpu.{Cpu}
 use Rattle.o2_isa.specs.View.{is_local}
 use Rattle.o2_world.specs.declared.types.Argument.{Argument}
-use Rattle.o2_world.specs.declared.types.Argument.TheVariants.{Word, Far}
+use Rattle.o2_world.specs.declared.types.Argument.TheVariants.{Far}
 use Rattle.o2_world.specs.declared.types.SharedCall.{SharedCall}
 use Rattle.o2_world.specs.declared.types.SharedCall.TheVariants.{DosAllocShrSeg, DosGetShrSeg, DosGiveSeg, DosGetSeg}
 use Rattle.o2_world.specs.World.{Held}
@@ -20,7 +19,7 @@ use Rattle.o2_world.specs.SegmentCalls.{Written, ruled_at, written_word}
 use Rattle.o2_world.specs.SharedNames.{may_read_text, name_by, text_at}
 use Rattle.o2_world.specs.SharedRulings.{each_more, getting, getting_at, getting_from, giving, giving_of, held_by, holder, index_of, is_share, is_shared, is_shared_with, lacks_flag, marks_by_call, naming, naming_at, shared_from, sharing, sharing_at, sharing_from, sharing_of}
 use Rattle.o2_world.specs.SharedCalls.{dos_alloc_shr_seg, dos_get_seg, dos_get_shr_seg, dos_give_seg, give_args, given, name_args, named, on_shared, shared_by_name}
-use Rattle.o2_world.specs.Moves.{AllMoves, Each, IsShared, IsSharing, Moves, NoneMoves, OneNamed, OwnMoves, SomeShared}
+use Rattle.o2_world.specs.Moves.{AllMoves, Each, IsShared, NoneMoves, OneNamed, OwnMoves, SomeShared}
 use Rattle.o2_world.proofs.SegmentMoves.{free_by}
 
 pub none : (b : Before) (cpu : Cpu) → AllMoves b cpu []

@@ -27,7 +27,7 @@ use Rattle.o2_world.specs.Rulings.{Ruling, aliasing, allocation, sizing}
 use Rattle.o2_world.specs.SegmentCalls.{Written, alloc_args, aliased, allocated, dos_alloc_seg, dos_create_cs_alias, dos_free_seg, dos_lock_seg, dos_realloc_seg, dos_size_seg, dos_unlock_seg, on_segments, ruled_at, sized, written_long, written_word}
 use Rattle.o2_world.specs.SharedNames.{may_read_text, name_by, text_at}
 use Rattle.o2_world.specs.SharedRulings.{giving, naming, sharing}
-use Rattle.o2_world.specs.SharedCalls.{dos_alloc_shr_seg, dos_get_seg, dos_get_shr_seg, dos_give_seg, give_args, given, got, name_args, named, on_shared, shared_by_name}
+use Rattle.o2_world.specs.SharedCalls.{dos_alloc_shr_seg, dos_get_seg, dos_get_shr_seg, dos_give_seg, give_args, given, name_args, named, on_shared, shared_by_name}
 use Rattle.o2_world.specs.Effect.{has_trap_flag, answered, effect}
 
 same_name : (n m : ℕ) → (n == m) ≡ true → n ≡ m

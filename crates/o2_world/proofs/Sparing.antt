@@ -1,21 +1,18 @@
 -- What a call leaves of other processes: all that they are, and what they hold, as often at least.
-use Rattle.std.proofs.Common.{◌≡◌, ◌≢◌, ℕ, zero, suc, ◌+◌, ◌-◌, ◌<◌, ◌≤◌, ◌==◌, Bool, true, false, List, [], ◌∷◌, ◌++◌, Option, Some, None, if◌then◌else◌, ap, sym, ◌∙◌, refl, arith, subst}
+use Rattle.std.proofs.Common.{◌≡◌, ◌≢◌, ℕ, ◌+◌, ◌-◌, ◌==◌, Bool, true, false, List, [], ◌∷◌, ◌++◌, Option, Some, None, if◌then◌else◌, ap, sym, ◌∙◌, refl, arith, subst}
 use Rattle.std.specs.Prelude.{slice_get, option_map}
 use Rattle.std.specs.List.{list_any}
 use Rattle.o2_conf.specs.Dispatch.{Dispatch}
 use Rattle.o2_isa.specs.declared.cpu.Cpu.{Cpu}
-use Rattle.o2_world.specs.Map.{Map, get, put}
+use Rattle.o2_world.specs.Map.{get, put}
 use Rattle.o2_world.specs.World.{World, Process, Held, is_live}
-use Rattle.o2_world.specs.Holders.{process_at}
 use Rattle.o2_world.specs.Changes.{Change, Makes, Resizes, Locks, Marks, Holds, Drops, Finishes, Reserves, Frees, Names, at_number, at_place, more, swept, takes, with_all, with_change, with_changes}
 use Rattle.o2_world.specs.CallParts.{Before, Effect}
 use Rattle.o2_world.specs.Run.{all_changes, changed, worked, working}
-use Rattle.o2_world.specs.SharedRulings.{each_more}
-use Rattle.o2_world.specs.Moves.{AllMoves, AllSpare, AreOwn, AreSpared, GoesOnHolding, IsAtLeast, IsOwn, IsSpared, OneNamed, OwnMoves, SomeShared, Spares}
+use Rattle.o2_world.specs.Moves.{AllMoves, AllSpare, AreOwn, AreSpared, IsAtLeast, IsOwn, IsSpared, OneNamed, OwnMoves, SomeShared, Spares}
 use Rattle.o2_world.proofs.FitShares.{changes_are, held_each, least_of, shares_of}
 use Rattle.o2_world.proofs.Keeps.{other_number}
 use Rattle.o2_world.proofs.OwnChanges.{moved_other, moves_own}
-use Rattle.o2_world.proofs.Numbers.{changed_is}
 use Rattle.o2_world.proofs.Reached.{get-place, get-put}
 use Rattle.o2_world.proofs.MapLemmas.{if_no, if_yes}
 

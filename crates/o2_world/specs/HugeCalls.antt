@@ -1,6 +1,5 @@
 -- The calls of DOSCALLS on huge allocations.
-use Rattle.std.specs.Prelude.{ℕ, List, [], ◌∷◌, ◌==◌, drop, if◌then◌else◌, codes, Option, Some, None}
-use Rattle.o2_isa.specs.declared.cpu.Cpu.{Cpu}
+use Rattle.std.specs.Prelude.{ℕ, List, [], ◌∷◌, if◌then◌else◌, codes}
 use Rattle.o2_world.specs.declared.types.Argument.{Argument}
 use Rattle.o2_world.specs.declared.types.Argument.TheVariants.{Word, Far}
 use Rattle.o2_world.specs.declared.types.HugeCall.{HugeCall}

@@ -1,7 +1,7 @@
 -- What the calls of DOSCALLS on huge allocations come to, by what is known of the machine. A huge allocation is a run of indexes
 -- that are reserved together as long as somebody holds one of them; its first ones are held, each a segment of 65,536 bytes, but
 -- for the last one, which may have fewer.
-use Rattle.std.specs.Prelude.{ℕ, zero, suc, ◌+◌, ◌-◌, ◌*◌, ◌/◌, ◌%◌, Bool, true, false, not, List, [], ◌∷◌, ◌++◌, length, take, drop, map, filter, flat_map, replicate, max, if◌then◌else◌, ◌==◌, nat_le, nat_lt, ◌&&◌, ◌||◌, Option, Some, None, is_some}
+use Rattle.std.specs.Prelude.{ℕ, ◌+◌, ◌-◌, ◌*◌, ◌/◌, Bool, false, not, List, [], ◌∷◌, ◌++◌, length, drop, filter, flat_map, replicate, max, if◌then◌else◌, ◌==◌, nat_le, nat_lt, ◌&&◌, ◌||◌, Option, Some, None, is_some}
 use Rattle.std.specs.List.{list_any}
 use Rattle.o2_base.specs.Selectors.{selector_of}
 use Rattle.o2_desc.specs.Bits.{has_bit, writable_data}

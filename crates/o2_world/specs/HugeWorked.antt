@@ -1,13 +1,10 @@
 -- Rows of the calls on huge allocations, as the definitions compute them for two processes.
 use Rattle.std.specs.Prelude.{ℕ, List, [], ◌∷◌, Option, Some, None}
-use Rattle.o2_isa.specs.declared.cpu.Cpu.{Cpu}
-use Rattle.o2_world.specs.World.{World, Process, Setting}
+use Rattle.o2_world.specs.World.{World, Process}
 use Rattle.o2_world.specs.Holders.{process_at, with_process}
 use Rattle.o2_world.specs.CallParts.{Before, Effect}
 use Rattle.o2_world.specs.HugeCalls.{allocated_huge, reallocated_huge, shift_told}
-use Rattle.o2_world.specs.Run.{before}
 use Rattle.o2_world.specs.SharedWorked.{calls_of, two_sharers}
-use Rattle.o2_world.specs.Hello.{hello_setting}
 
 -- the calls by their arguments, with values at 52 of the data
 abbrev pub huges : (segs part most flags : ℕ) → Before → Effect

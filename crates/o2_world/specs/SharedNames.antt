@@ -1,5 +1,5 @@
 -- The names by which processes share segments, as texts, and the text behind a pointer.
-use Rattle.std.specs.Prelude.{ℕ, zero, suc, ◌+◌, Bool, not, List, [], ◌∷◌, ◌++◌, length, take, drop, map, codes, if◌then◌else◌, ◌==◌, nat_le, nat_lt, ◌&&◌, Option, Some, None, option_map}
+use Rattle.std.specs.Prelude.{ℕ, zero, suc, ◌+◌, Bool, List, [], ◌∷◌, ◌++◌, length, take, drop, map, codes, if◌then◌else◌, ◌==◌, nat_le, nat_lt, ◌&&◌, Option, Some, None, option_map}
 use Rattle.std.specs.Char.{to_ascii_lowercase}
 use Rattle.std.specs.List.{list_all}
 use Rattle.o2_isa.specs.View.{View, Hold, bound_in}

@@ -1,6 +1,6 @@
 -- What the calls of DOSCALLS that share segments between processes come to, by what is known of the machine. A segment is shared
 -- where it stands under an index that all processes share, and is marked so.
-use Rattle.std.specs.Prelude.{ℕ, ◌+◌, ◌/◌, Bool, true, false, not, List, [], ◌∷◌, ◌++◌, find, if◌then◌else◌, ◌==◌, nat_le, nat_lt, ◌&&◌, ◌||◌, Option, Some, None, is_some}
+use Rattle.std.specs.Prelude.{ℕ, ◌/◌, Bool, true, false, not, List, [], ◌∷◌, ◌++◌, find, if◌then◌else◌, ◌==◌, nat_le, ◌&&◌, ◌||◌, Option, Some, None, is_some}
 use Rattle.std.specs.List.{list_any}
 use Rattle.o2_base.specs.Selectors.{selector_of}
 use Rattle.o2_desc.specs.Bits.{has_bit}
@@ -9,7 +9,7 @@ use Rattle.o2_isa.specs.View.{is_local}
 use Rattle.o2_world.specs.World.{Segment, Held, ByCall}
 use Rattle.o2_world.specs.Changes.{Change, Makes, Holds, Names}
 use Rattle.o2_world.specs.Known.{Known, Marks}
-use Rattle.o2_world.specs.Rulings.{Ruling, refusal, grants, by_load, free_index, full_size, held_by_call, held_under, indexes, is_later, made_segment, members}
+use Rattle.o2_world.specs.Rulings.{Ruling, refusal, grants, by_load, free_index, held_by_call, held_under, indexes, is_later, made_segment, members}
 
 -- the first index that all processes share
 abbrev pub shared_from : ℕ

@@ -1,5 +1,5 @@
 -- Rows of the calls that share segments, as the definitions compute them for two processes of one program, whose data has names.
-use Rattle.std.specs.Prelude.{ℕ, false, List, [], ◌∷◌, ◌++◌, codes, drop, map, replicate, get_or, Option, Some, None}
+use Rattle.std.specs.Prelude.{ℕ, false, List, [], ◌∷◌, ◌++◌, codes, drop, map, replicate, get_or}
 use Rattle.o2_desc.specs.Bits.{readable_code, writable_data}
 use Rattle.o2_world.specs.declared.types.State.TheVariants.{Exited}
 use Rattle.o2_world.specs.World.{World, Reserve}
