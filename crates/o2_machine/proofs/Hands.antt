@@ -1,5 +1,5 @@
 -- The puts of a turn that ends the run.
-use Rattle.std.proofs.Common.{◌≡◌, ℕ, ◌+◌, Bool, true, false, List, length, ap, sym, ◌∙◌, refl, arith, ◌==◌}
+use Rattle.std.proofs.Common.{◌≡◌, ℕ, ◌+◌, true, false, List, length, ap, sym, ◌∙◌, refl, arith, ◌==◌}
 use Rattle.o2_world.specs.World.{World, Setting}
 use Rattle.o2_world.specs.Run.{is_over}
 use Rattle.o2_conf.specs.Dispatch.{Dispatch}

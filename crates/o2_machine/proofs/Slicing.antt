@@ -1,5 +1,5 @@
 -- Steps of a turn that are done at once, as steps of the world.
-use Rattle.std.proofs.Common.{◌≡◌, ℕ, zero, suc, ◌+◌, ◌-◌, ◌<◌, ◌≤◌, ◌==◌, ◌&&◌, nat_lt, if◌then◌else◌, Bool, true, false, List, length, ap, sym, ◌∙◌, refl, subst, arith}
+use Rattle.std.proofs.Common.{◌≡◌, ℕ, zero, suc, ◌-◌, ◌<◌, ◌≤◌, ◌==◌, ◌&&◌, nat_lt, if◌then◌else◌, Bool, true, false, List, length, ap, sym, ◌∙◌, refl, subst, arith}
 use Rattle.std.specs.Prelude.{Option, Some, None, is_some, min}
 use Rattle.std.proofs.lemmas.Bool.{false≢true}
 use Rattle.o2_conf.specs.Dispatch.{Dispatch, live_script, lives, started}

@@ -32,7 +32,10 @@ pub(crate) fn is_giveable(store: &Store, index: u16, held: Held) -> bool
     ensures { result ≡ (nat_le 4096 index && (not (by_load (cause_of held.cause)) && ((entry store.now held.id.key).attr.shared && has_bit (entry store.now held.id.key).attr.flags 0))) }
 {
     match store.attr(held.id) {
-        Some(attr) => SHARED <= index && is_called(held.cause) && attr.shared && attr.flags & GIVEABLE != 0,
+        Some(attr) => SHARED <= index
+            && is_called(held.cause)
+            && attr.shared
+            && attr.flags & GIVEABLE != 0,
         None => false,
     }
 }
@@ -43,7 +46,10 @@ pub(crate) fn is_gettable(store: &Store, index: u16, held: Held) -> bool
     ensures { result ≡ (nat_le 4096 index && (not (by_load (cause_of held.cause)) && ((entry store.now held.id.key).attr.shared && has_bit (entry store.now held.id.key).attr.flags 1))) }
 {
     match store.attr(held.id) {
-        Some(attr) => SHARED <= index && is_called(held.cause) && attr.shared && attr.flags & GETTABLE != 0,
+        Some(attr) => SHARED <= index
+            && is_called(held.cause)
+            && attr.shared
+            && attr.flags & GETTABLE != 0,
         None => false,
     }
 }
@@ -60,7 +66,14 @@ fn is_called(cause: Cause) -> bool
 }
 
 /// A process holds once more what another one holds under a shared index.
-pub(crate) fn share(store: &Store, regions: &mut Regions, from: u16, to: u16, index: u16, held: Held)
+pub(crate) fn share(
+    store: &Store,
+    regions: &mut Regions,
+    from: u16,
+    to: u16,
+    index: u16,
+    held: Held,
+)
     requires from { IsProcess regions.old from }
     requires to { IsProcess regions.old to }
     requires high { 4096 ≤ index }

@@ -56,9 +56,10 @@ module _ (s : Setting) (w v : World) (n : ℕ) (p : Process) (reserved : v.reser
   shares_tidy : IsTidy w.processes w.names w.reserved → (u : World) → u.reserved ≡ w.reserved → (from to : ℕ) (xs : List ℕ) (shared : Each (IsShared (before s w n p).known from) xs)
       → AreTidyChanges u (shares_of to (held_each (before s w n p).known from xs shared))
   shares_tidy tidy u same from to [] shared = tt
-  shares_tidy tidy u same from to (i ∷ xs) shared =
-      ((λ high none. ap (λ (rs : List Reserve). list_any (reserves 0 i) rs) same ∙ tidy.free from i shared.0.held high shared.0.there (same_cause shared.0.held.cause shared.0.called)),
-      shares_tidy tidy (with_change u (Holds to i (share shared.0.held))) same from to xs shared.1)
+  shares_tidy tidy u same from to (i ∷ xs) shared = (
+    (λ high none. ap (λ (rs : List Reserve). list_any (reserves 0 i) rs) same ∙ tidy.free from i shared.0.held high shared.0.there (same_cause shared.0.held.cause shared.0.called)),
+    shares_tidy tidy (with_change u (Holds to i (share shared.0.held))) same from to xs shared.1,
+  )
 
   all_moves_tidy : IsTidy w.processes w.names w.reserved → (cpu : Cpu) (cs : List Change) → AllMoves (before s w n p) cpu cs → AreTidyChanges v cs
   all_moves_tidy tidy cpu cs (OwnMoves moves) = moves_tidy cpu cs moves

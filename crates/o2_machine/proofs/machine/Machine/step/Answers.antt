@@ -7,7 +7,7 @@ use Rattle.o2_world.specs.Run.{before}
 use Rattle.o2_world.specs.World.{is_live}
 use Rattle.o2_run.specs.declared.fault.Fault.{Fault}
 use Rattle.o2_run.proofs.Reached.{rose_since}
-use Rattle.std.specs.Prelude.{length, None, Err, Bool, IsTrue}
+use Rattle.std.specs.Prelude.{length, None, Err, Bool}
 use Rattle.o2_run.specs.Pieces.{counts, PartHands, puts_of}
 use Rattle.o2_stepping.specs.Pieces.{HandsWhole, RanHands}
 use Rattle.o2_stepping.specs.declared.one_step.Ran.{Ran}

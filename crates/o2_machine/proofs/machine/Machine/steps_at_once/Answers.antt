@@ -1,4 +1,4 @@
-use Rattle.std.proofs.Common.{◌≡◌, ◌<◌, ◌≤◌, ap, sym, ◌∙◌, refl, subst, arith, Bool, List, length}
+use Rattle.std.proofs.Common.{◌≤◌, ap, sym, ◌∙◌, refl, subst, arith, Bool, List}
 use Rattle.o2_conf.proofs.Choice.{lives_within}
 use Rattle.o2_conf.specs.Dispatch.{lives}
 use Rattle.o2_regions.specs.Lives.{lives as is_marked}

@@ -1,4 +1,4 @@
-use Rattle.std.proofs.Common.{◌≡◌, ap, sym, ◌∙◌, refl, arith}
+use Rattle.std.proofs.Common.{ap, sym, ◌∙◌, refl, arith}
 use Rattle.o2_conf.specs.Dispatch.{lives}
 use Rattle.o2_sched.specs.Schedule.{Schedule}
 use Rattle.o2_machine.proofs.Slicing.{not_stopped}
