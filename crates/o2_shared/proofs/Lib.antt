@@ -1,1 +1,3 @@
+pub mod Folding
+pub mod Holders
 pub mod Shares

@@ -1,9 +1,12 @@
 -- What processes share: what is asked of the maps, and what one process gets of another.
-use Rattle.std.specs.Prelude.{◌≡◌, ℕ, zero, suc, ◌+◌, ◌-◌, ◌<◌, ◌≤◌, ◌^◌, Option, Some, None, is_some, if◌then◌else◌}
-use Rattle.o2_regions.specs.declared.held.Cause.{Cause}
-use Rattle.o2_regions.specs.declared.held.Cause.TheVariants.{Loaded, Called, Alias}
+use Rattle.std.specs.Prelude.{◌≡◌, ℕ, ◌+◌, ◌<◌, ◌≤◌, ◌^◌, ◌&&◌, Bool, not, nat_le, find, Option, Some, is_some}
+use Rattle.o2_desc.specs.Bits.{has_bit}
+use Rattle.o2_regions.specs.declared.held.Cause.TheVariants.{Loaded, Called}
 use Rattle.o2_regions.specs.declared.held.Held.{Held}
 use Rattle.o2_regions.specs.Maps.{Maps, held_at, holds_of}
+use Rattle.o2_store.specs.Shelf.{Shelf, entry}
+use Rattle.o2_world.specs.Rulings.{by_load, indexes}
+use Rattle.o2_stands.specs.Parts.{cause_of}
 
 -- under a shared index all that a call gave is one segment
 pub record ShareOne (m : Maps) : Type 0 where
@@ -17,7 +20,14 @@ pub record AreFew (m : Maps) : Type 0 where
 abbrev pub share_of : Held → Held
 share_of h = record { id = h.id; holds = 1; cause = Called; first = h.first; reserved = h.reserved }
 
--- the first of so many processes from a number on that holds an index
-abbrev pub holder_among : Maps → (index from count : ℕ) → Option ℕ
-holder_among m i from zero = None
-holder_among m i from (suc count) = if is_some (held_at m from i) then Some from else holder_among m i (from + 1) count
+-- whether a segment is shared and has a flag, of those that calls gave under shared indexes: 0 is that of a giveable segment, and
+-- 1 that of a gettable one
+abbrev pub may_share : (flag index : ℕ) → (loaded shared : Bool) → (flags : ℕ) → Bool
+may_share flag i loaded shared flags = nat_le 4096 i && (not loaded && (shared && has_bit flags flag))
+
+abbrev pub is_shareable : Shelf → (flag index : ℕ) → Held → Bool
+is_shareable s flag i h = may_share flag i (by_load (cause_of h.cause)) (entry s h.id.key).attr.shared (entry s h.id.key).attr.flags
+
+-- the first process that holds an index
+abbrev pub holder_in : Maps → (index : ℕ) → Option ℕ
+holder_in m i = find (λ (n : ℕ). is_some (held_at m n i)) (indexes 1 m.processes)

@@ -1,6 +1,6 @@
 // DosGetSeg.
-ghost use Rattle.std.specs.Prelude.{◌≡◌, ℕ, ◌+◌, ◌<◌, ◌≤◌, Some, None, is_some, false, IfSome};
-ghost use Rattle.o2_regions.specs.Maps.{IsProcess, held_at};
+ghost use Rattle.std.specs.Prelude.{◌≡◌, Some};
+ghost use Rattle.o2_regions.specs.Maps.{IsProcess};
 ghost use Rattle.o2_segbus.specs.Seen.{AreNamed};
 ghost use Rattle.o2_changes.specs.Order.{IsGuarded, IsInOrder};
 ghost use Rattle.o2_stands.specs.Knows.{Others, known_in};
@@ -11,9 +11,10 @@ ghost use Rattle.o2_world.specs.Holders.{process_at};
 ghost use Rattle.o2_world.specs.SharedRulings.{getting};
 ghost use Rattle.o2_world.specs.World.{Process, World};
 ghost use Rattle.o2_segs.specs.Answers.{Answers, AreAlone};
-ghost use Rattle.o2_shared.specs.Shares.{AreFew, ShareOne, holder_among};
+ghost use Rattle.o2_segs.specs.Limits.{KeepsLimits};
+ghost use Rattle.o2_shared.specs.Shares.{AreFew, ShareOne};
 
-use crate::sharing::{is_gettable, share};
+use crate::sharing::{first_held, is_gettable, share};
 use o2_base::Selector;
 use o2_regions::{Answer, Regions};
 use o2_segs::{ACCESS_DENIED, done, refusal};
@@ -32,12 +33,12 @@ pub fn get_seg(store: &mut Store, regions: &mut Regions, pid: u16, sel: u16) -> 
     ensures answer { (p : Parts) (o : Others) → p.shelf ≡ store.old → p.maps ≡ regions.old → o.processes ≡ regions.old.processes
         → Answers (getting (known_in p o) pid sel) result }
     ensures store { store.new ≡ store.old }
+    ensures limits { KeepsLimits store.old regions.old store.new regions.new 0 }
     ensures processes { regions.new.processes ≡ regions.old.processes }
     ensures order { IsInOrder store.new regions.new }
     ensures guards { IsGuarded store.old regions.old → IsGuarded store.new regions.new }
     ensures matches { (p : Parts) (o : Others) (w : World) (x : Process) → p.shelf ≡ store.old → p.maps ≡ regions.old
-        → o.processes ≡ regions.old.processes → process_at w.processes pid ≡ Some x → IsGuarded store.old regions.old
-        → Matches p w
+        → o.processes ≡ regions.old.processes → process_at w.processes pid ≡ Some x → Matches p w
         → Matches (record p { maps = regions.new }) (with_all w (getting (known_in p o) pid sel).changes) }
 {
     let selector = Selector(sel);
@@ -45,32 +46,14 @@ pub fn get_seg(store: &mut Store, regions: &mut Regions, pid: u16, sel: u16) -> 
         return refusal(ACCESS_DENIED);
     }
     let index = selector.index();
-    match holder(regions, index) {
-        Some(from) => match regions.held(from, index) {
-            Some(held) => {
-                if !is_gettable(store, index, held) {
-                    return refusal(ACCESS_DENIED);
-                }
-                share(store, regions, from, pid, index, held);
-                done(0)
+    match first_held(regions, index) {
+        Some((from, held)) => {
+            if !is_gettable(store, index, held) {
+                return refusal(ACCESS_DENIED);
             }
-            None => refusal(ACCESS_DENIED),
-        },
+            share(store, regions, from, pid, index, held);
+            done(0)
+        }
         None => refusal(ACCESS_DENIED),
     }
-}
-
-// The first process that holds an index.
-fn holder(regions: &Regions, index: u16) -> Option<u16>
-    requires index { index < 8192 }
-    ensures first { result ≡ holder_among regions.now index 1 regions.now.processes }
-    ensures holds { IfSome result (λ n. IsProcess regions.now n) }
-{
-    regions.law();
-    for pid in 1..regions.processes() + 1 {
-        if regions.held(pid, index).is_some() {
-            return Some(pid);
-        }
-    }
-    None
 }

@@ -1,5 +1,5 @@
 // DosGiveSeg.
-ghost use Rattle.std.specs.Prelude.{◌≡◌, ℕ, true, Some};
+ghost use Rattle.std.specs.Prelude.{◌≡◌, ℕ, true};
 ghost use Rattle.o2_regions.specs.Lives.{lives};
 ghost use Rattle.o2_regions.specs.Maps.{IsProcess};
 ghost use Rattle.o2_segbus.specs.Seen.{AreNamed};
@@ -8,13 +8,13 @@ ghost use Rattle.o2_stands.specs.Knows.{Others, known_in};
 ghost use Rattle.o2_stands.specs.Parts.{Parts};
 ghost use Rattle.o2_stands.specs.Stands.{AreMarked, Matches};
 ghost use Rattle.o2_world.specs.Changes.{with_all};
-ghost use Rattle.o2_world.specs.Holders.{process_at};
 ghost use Rattle.o2_world.specs.SharedRulings.{giving};
-ghost use Rattle.o2_world.specs.World.{Process, World};
+ghost use Rattle.o2_world.specs.World.{World};
 ghost use Rattle.o2_segs.specs.Answers.{Answers, AreAlone};
+ghost use Rattle.o2_segs.specs.Limits.{KeepsLimits};
 ghost use Rattle.o2_shared.specs.Shares.{AreFew, ShareOne};
 
-use crate::sharing::{INVALID_PROCESS, is_giveable, share};
+use crate::sharing::{INVALID_PROCESS, is_giveable, selector_at, share};
 use o2_base::Selector;
 use o2_regions::{Answer, Ends, Regions};
 use o2_segs::{ACCESS_DENIED, done, held_under, refusal};
@@ -41,11 +41,12 @@ pub fn give_seg(
     ensures answer { (p : Parts) (o : Others) → p.shelf ≡ store.old → p.maps ≡ regions.old → AreMarked ends.now p
         → Answers (giving (known_in p o) pid sel to) result }
     ensures store { store.new ≡ store.old }
+    ensures limits { KeepsLimits store.old regions.old store.new regions.new 0 }
     ensures processes { regions.new.processes ≡ regions.old.processes }
     ensures order { IsInOrder store.new regions.new }
     ensures guards { IsGuarded store.old regions.old → IsGuarded store.new regions.new }
-    ensures matches { (p : Parts) (o : Others) (w : World) (x : Process) → p.shelf ≡ store.old → p.maps ≡ regions.old
-        → AreMarked ends.now p → process_at w.processes to ≡ Some x → IsGuarded store.old regions.old → Matches p w
+    ensures matches { (p : Parts) (o : Others) (w : World) → p.shelf ≡ store.old → p.maps ≡ regions.old
+        → AreMarked ends.now p → Matches p w
         → Matches (record p { maps = regions.new }) (with_all w (giving (known_in p o) pid sel to).changes) }
 {
     match held_under(regions, pid, sel) {
@@ -58,7 +59,7 @@ pub fn give_seg(
                 return refusal(INVALID_PROCESS);
             }
             share(store, regions, pid, to, index, held);
-            done(u32::from(Selector::local(u32::from(index)).0))
+            done(selector_at(index))
         }
         None => refusal(ACCESS_DENIED),
     }

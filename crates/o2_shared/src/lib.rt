@@ -3,7 +3,11 @@
 
 mod getting;
 mod giving;
+mod names;
+mod naming;
 mod sharing;
+mod text;
 
 pub use getting::get_seg;
 pub use giving::give_seg;
+pub use names::Shared;

@@ -1,41 +1,50 @@
 // A process gets what another one holds.
-ghost use Rattle.std.specs.Prelude.{◌≡◌, ℕ, ◌+◌, ◌<◌, ◌≤◌, ◌^◌, ◌&&◌, nat_le, not, IfSome, IsSome, Some};
-ghost use Rattle.o2_desc.specs.Bits.{has_bit};
+ghost use Rattle.std.specs.Prelude.{◌≡◌, ℕ, ◌+◌, ◌<◌, ◌≤◌, ◌^◌, ◌&&◌, nat_le, not, IfSome, IsSome, Some, None};
+ghost use Rattle.std.specs.Option.{IfNone};
+ghost use Rattle.o2_base.specs.Selectors.{selector_of};
 ghost use Rattle.o2_regions.specs.Maps.{IsProcess, held_at, holds_of};
 ghost use Rattle.o2_segbus.specs.Settled.{descriptor_at};
-ghost use Rattle.o2_store.specs.Shelf.{entry, entry_of};
+ghost use Rattle.o2_store.specs.Shelf.{entry_of};
+ghost use Rattle.o2_changes.specs.Holding.{Grants};
 ghost use Rattle.o2_changes.specs.Order.{IsGuarded, IsInOrder};
 ghost use Rattle.o2_changes.specs.Worlds.{MatchesHold};
+ghost use Rattle.o2_segs.specs.Limits.{KeepsLimits};
 ghost use Rattle.o2_stands.specs.Parts.{cause_of};
 ghost use Rattle.o2_world.specs.Rulings.{by_load};
-ghost use Rattle.o2_shared.specs.Shares.{share_of};
+ghost use Rattle.o2_shared.specs.Shares.{holder_in, is_shareable, share_of};
 
+use o2_base::Selector;
 use o2_changes::hold_more;
 use o2_regions::{Cause, Held, Regions};
-use o2_store::Store;
+use o2_store::{Attr, Store};
 
 /// ERROR_INVALID_PROCID: no process of that number lives.
 pub(crate) const INVALID_PROCESS: u16 = 303;
 
 /// The first index that all processes share.
-const SHARED: u16 = 4096;
+pub(crate) const SHARED: u16 = 4096;
 
 /// The flag of a segment that may be given, as a bit.
-pub(crate) const GIVEABLE: u8 = 1;
+const GIVEABLE: u8 = 1;
 
 /// The flag of a segment that may be got, as a bit.
-pub(crate) const GETTABLE: u8 = 2;
+const GETTABLE: u8 = 2;
+
+/// The selector of an index, as a value.
+pub(crate) fn selector_at(index: u16) -> u32
+    requires { index < 8192 }
+    ensures { result ≡ selector_of index }
+{
+    u32::from(Selector::local(u32::from(index)).0)
+}
 
 /// Whether what is held at an index is a segment that a call made, that is shared and that is giveable.
 pub(crate) fn is_giveable(store: &Store, index: u16, held: Held) -> bool
     requires live { IsSome (entry_of store.now held.id) }
-    ensures { result ≡ (nat_le 4096 index && (not (by_load (cause_of held.cause)) && ((entry store.now held.id.key).attr.shared && has_bit (entry store.now held.id.key).attr.flags 0))) }
+    ensures { result ≡ is_shareable store.now 0 index held }
 {
     match store.attr(held.id) {
-        Some(attr) => SHARED <= index
-            && is_called(held.cause)
-            && attr.shared
-            && attr.flags & GIVEABLE != 0,
+        Some(attr) => is_given(attr, index, held.cause, attr.flags / GIVEABLE % 2 == 1),
         None => false,
     }
 }
@@ -43,15 +52,19 @@ pub(crate) fn is_giveable(store: &Store, index: u16, held: Held) -> bool
 /// Whether what is held at an index is a segment that a call made, that is shared and that is gettable.
 pub(crate) fn is_gettable(store: &Store, index: u16, held: Held) -> bool
     requires live { IsSome (entry_of store.now held.id) }
-    ensures { result ≡ (nat_le 4096 index && (not (by_load (cause_of held.cause)) && ((entry store.now held.id.key).attr.shared && has_bit (entry store.now held.id.key).attr.flags 1))) }
+    ensures { result ≡ is_shareable store.now 1 index held }
 {
     match store.attr(held.id) {
-        Some(attr) => SHARED <= index
-            && is_called(held.cause)
-            && attr.shared
-            && attr.flags & GETTABLE != 0,
+        Some(attr) => is_given(attr, index, held.cause, attr.flags / GETTABLE % 2 == 1),
         None => false,
     }
+}
+
+// Whether a segment of these attributes, which has a flag or not, is shared, and a call gave it under a shared index.
+fn is_given(attr: Attr, index: u16, cause: Cause, has_flag: bool) -> bool
+    ensures { result ≡ (nat_le 4096 index && (not (by_load (cause_of cause)) && (attr.shared && has_flag))) }
+{
+    SHARED <= index && is_called(cause) && attr.shared && has_flag
 }
 
 // Whether a hold didn't come with a module.
@@ -65,15 +78,25 @@ fn is_called(cause: Cause) -> bool
     }
 }
 
+/// The first process that holds an index, and what it holds there.
+pub(crate) fn first_held(regions: &Regions, index: u16) -> Option<(u16, Held)>
+    requires index { index < 8192 }
+    ensures none { IfNone result (holder_in regions.now index ≡ None) }
+    ensures first { IfSome result (λ f. holder_in regions.now index ≡ Some f.0) }
+    ensures held { IfSome result (λ f. held_at regions.now f.0 index ≡ Some f.1) }
+    ensures process { IfSome result (λ f. IsProcess regions.now f.0) }
+{
+    regions.law();
+    for pid in 1..regions.processes() + 1 {
+        if let Some(held) = regions.held(pid, index) {
+            return Some((pid, held));
+        }
+    }
+    None
+}
+
 /// A process holds once more what another one holds under a shared index.
-pub(crate) fn share(
-    store: &Store,
-    regions: &mut Regions,
-    from: u16,
-    to: u16,
-    index: u16,
-    held: Held,
-)
+pub(crate) fn share(store: &Store, regions: &mut Regions, from: u16, to: u16, index: u16, held: Held)
     requires from { IsProcess regions.old from }
     requires to { IsProcess regions.old to }
     requires high { 4096 ≤ index }
@@ -84,6 +107,8 @@ pub(crate) fn share(
     requires live { IsSome (entry_of store.now held.id) }
     requires order { IsInOrder store.now regions.old }
 
+    ensures grants { Grants regions.old regions.new to index (share_of held) (descriptor_at regions.old from index).access }
+    ensures limits { KeepsLimits store.now regions.old store.now regions.new 0 }
     ensures order { IsInOrder store.now regions.new }
     ensures guards { IsGuarded store.now regions.old → IsGuarded store.now regions.new }
     ensures processes { regions.new.processes ≡ regions.old.processes }
