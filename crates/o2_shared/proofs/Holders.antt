@@ -1,30 +1,19 @@
 -- What a process gets of another, over a store.
-use Rattle.std.proofs.Common.{◌≡◌, ℕ, suc, ◌+◌, ◌-◌, ◌<◌, ◌≤◌, ◌==◌, ◌&&◌, not, nat_le, nat_lt, Bool, true, false, cond, List, [], ◌∷◌, Option, Some, None, IsSome, IfSome, is_some, option_map, ap, sym, ◌∙◌, refl, subst, arith}
+use Rattle.std.proofs.Common.{◌≡◌, ℕ, suc, ◌+◌, ◌-◌, ◌<◌, ◌≤◌, ◌==◌, ◌&&◌, nat_lt, Bool, true, false, cond, List, [], ◌∷◌, Option, Some, None, ap, sym, ◌∙◌, refl, arith}
 use Rattle.std.specs.Prelude.{find}
-use Rattle.std.proofs.lemmas.Bool.{and_parts, cond-false, cond-true}
+use Rattle.std.proofs.lemmas.Bool.{and_parts, cond-false, eqb-true}
 use Rattle.std.proofs.lemmas.Bool.Decides.{nat_tests}
-use Rattle.o2_desc.specs.declared.descriptor.Descriptor.{Descriptor}
-use Rattle.o2_desc.specs.Bits.{has_bit, is_writable, rights_of}
-use Rattle.o2_entries.specs.declared.Attr.{Attr}
-use Rattle.o2_entries.specs.declared.Entry.{Entry}
-use Rattle.o2_place.specs.declared.seg_id.SegId.{SegId}
-use Rattle.o2_regions.specs.declared.held.Cause.{Cause}
-use Rattle.o2_regions.specs.declared.held.Cause.TheVariants.{Loaded, Called, Alias}
 use Rattle.o2_regions.specs.declared.held.Held.{Held}
-use Rattle.o2_regions.specs.declared.held.Region.{Region}
 use Rattle.o2_regions.specs.declared.held.Region.TheVariants.{Private, Shared}
-use Rattle.o2_regions.specs.Kept.{AreKept}
-use Rattle.o2_regions.specs.Maps.{Maps, descriptor_of, held_at, is_reserved, region_of, table_of}
-use Rattle.o2_segbus.specs.Settled.{descriptor_at}
-use Rattle.o2_store.specs.Shelf.{Shelf, entry, entry_of}
-use Rattle.o2_changes.specs.Holding.{Grants, IsGuard}
-use Rattle.o2_changes.specs.Order.{IsGuarded}
+use Rattle.o2_regions.specs.Maps.{Maps, held_at, more_of, region_of}
+use Rattle.o2_store.specs.Shelf.{Shelf}
+use Rattle.o2_changes.specs.Holding.{Grants}
 use Rattle.o2_segs.specs.Limits.{KeepsLimits}
 use Rattle.o2_segs.proofs.Limits.{limits_held}
-use Rattle.o2_segs.proofs.Selecting.{entry_is}
-use Rattle.o2_stands.specs.Parts.{cause_of}
-use Rattle.o2_world.specs.Rulings.{by_load, indexes}
-use Rattle.o2_shared.specs.Shares.{ShareOne, holder_in, is_shareable, may_share, share_of}
+use Rattle.o2_world.specs.Rulings.{indexes}
+use Rattle.o2_shared.specs.declared.names.Name.{Name}
+use Rattle.o2_shared.specs.Shares.{StillHolds, share_of}
+use Rattle.o2_shared.specs.Texts.{AreInPlace}
 
 -- Each process has a shared index in the shared region.
 
@@ -41,6 +30,51 @@ share_limits s m n from to i access h at grants = record {
   count = refl;
   made = omega arith;
   alone = λ alone. (limits_held s m n to i access (share_of h) (alone.each from i h at) grants).alone alone;
+}
+
+-- who holds something behind a hold more holds the same there as before, or gets it
+share_either : (m n : Maps) (from to i access q j : ℕ) (h x : Held) → held_at m from i ≡ Some h → Grants m n to i (share_of h) access → held_at n q j ≡ Some x → (k : ℕ) × ((y : Held) × (held_at m k j ≡ Some y) × (y.id ≡ x.id))
+share_either m n from to i access q j h x at grants e = go ((q == to) && (j == i)) refl (sym (grants.held q j) ∙ e)
+  where
+    more : (o : Option Held) → held_at m to i ≡ o → more_of o (share_of h) ≡ Some x → j ≡ i → (k : ℕ) × ((y : Held) × (held_at m k j ≡ Some y) × (y.id ≡ x.id))
+    more None is f same = (from, (h, ap (held_at m from) same ∙ at, let z : share_of h ≡ x = cc in ap (λ (y : Held). y.id) z))
+    more (Some was) is f same = (to, (was, ap (held_at m to) same ∙ is, let z : record was { holds = was.holds + 1 } ≡ x = cc in ap (λ (y : Held). y.id) z))
+
+    go : (b : Bool) → ((q == to) && (j == i)) ≡ b → cond b (more_of (held_at m to i) (share_of h)) (held_at m q j) ≡ Some x → (k : ℕ) × ((y : Held) × (held_at m k j ≡ Some y) × (y.id ≡ x.id))
+    go true is f = more (held_at m to i) refl f (eqb-true j i (and_parts (q == to) (j == i) is).1)
+    go false is f = (q, (x, f, refl))
+
+-- and who held something holds it still
+share_still : (m n : Maps) (to i access q j : ℕ) (h y : Held) → Grants m n to i (share_of h) access → held_at m q j ≡ Some y → (x : Held) × (held_at n q j ≡ Some x) × (x.id ≡ y.id) × (y.holds ≤ x.holds)
+share_still m n to i access q j h y grants e = go ((q == to) && (j == i)) refl (grants.held q j)
+  where
+    go : (b : Bool) → ((q == to) && (j == i)) ≡ b → held_at n q j ≡ cond b (more_of (held_at m to i) (share_of h)) (held_at m q j) → (x : Held) × (held_at n q j ≡ Some x) × (x.id ≡ y.id) × (y.holds ≤ x.holds)
+    go true is f =
+        let a = and_parts (q == to) (j == i) is in
+        let there : held_at m to i ≡ Some y = sym (ap (λ (k : ℕ). held_at m k j) (eqb-true q to a.0) ∙ ap (held_at m to) (eqb-true j i a.1)) ∙ e in
+        (record y { holds = y.holds + 1 }, f ∙ ap (λ (o : Option Held). more_of o (share_of h)) there, refl, omega arith)
+    go false is f = (y, f ∙ e, refl, omega arith)
+
+pub still_shared : (m n : Maps) (to i access : ℕ) (h : Held) → Grants m n to i (share_of h) access → StillHolds m n
+still_shared m n to i access h grants = record { held = λ q j y e. share_still m n to i access q j h y grants e; rights = grants.rights }
+
+pub still_refl : (m : Maps) → StillHolds m m
+still_refl m = record { held = λ q j h e. (h, e, refl, omega arith); rights = λ q j some. refl }
+
+-- each named segment is held where it was
+pub share_places : (s : Shelf) (m n : Maps) (names : List (Option Name)) (from to i access : ℕ) (h : Held) → held_at m from i ≡ Some h → Grants m n to i (share_of h) access → AreInPlace s m names → AreInPlace s n names
+share_places s m n names from to i access h at grants places = record {
+  held = λ place k named. (let was = places.held place k named in
+      let still = share_still m n to i access was.process (4096 + place) h was.held grants was.there in
+      record {
+        process = was.process;
+        held = still.0;
+        there = still.1;
+        same = still.2 ∙ was.same;
+        only = λ q j x e same. (let b = share_either m n from to i access q j h x at grants e in was.only b.0 j b.1.0 b.1.1 (b.1.2 ∙ same));
+      });
+  once = places.once;
+  older = places.older;
 }
 
 -- The first process that holds an index.

@@ -28,7 +28,7 @@ use Rattle.o2_shared.specs.Shares.{holder_in, is_shareable, may_share, share_of}
 use Rattle.o2_shared.proofs.Holders.{find_same}
 
 -- what holds of a machine's store and maps, of those that they are
-at_both : (p : Parts) (s : Shelf) (m : Maps) (P : Shelf → Maps → Type 0) → p.shelf ≡ s → p.maps ≡ m → P p.shelf p.maps → P s m
+pub at_both : (p : Parts) (s : Shelf) (m : Maps) (P : Shelf → Maps → Type 0) → p.shelf ≡ s → p.maps ≡ m → P p.shelf p.maps → P s m
 at_both p s m P es em x = subst (λ (y : Shelf). P y m) es (subst (P p.shelf) em x)
 
 -- Of a segment alone.

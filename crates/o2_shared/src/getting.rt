@@ -1,5 +1,5 @@
 // DosGetSeg.
-ghost use Rattle.std.specs.Prelude.{◌≡◌, Some};
+ghost use Rattle.std.specs.Prelude.{◌≡◌, List, Option, Some};
 ghost use Rattle.o2_regions.specs.Maps.{IsProcess};
 ghost use Rattle.o2_segbus.specs.Seen.{AreNamed};
 ghost use Rattle.o2_changes.specs.Order.{IsGuarded, IsInOrder};
@@ -12,7 +12,9 @@ ghost use Rattle.o2_world.specs.SharedRulings.{getting};
 ghost use Rattle.o2_world.specs.World.{Process, World};
 ghost use Rattle.o2_segs.specs.Answers.{Answers, AreAlone};
 ghost use Rattle.o2_segs.specs.Limits.{KeepsLimits};
-ghost use Rattle.o2_shared.specs.Shares.{AreFew, ShareOne};
+ghost use Rattle.o2_shared.specs.declared.names.Name.{Name};
+ghost use Rattle.o2_shared.specs.Shares.{AreFew, ShareOne, StillHolds};
+ghost use Rattle.o2_shared.specs.Texts.{AreInPlace};
 
 use crate::sharing::{first_held, is_gettable, share};
 use o2_base::Selector;
@@ -22,6 +24,7 @@ use o2_store::Store;
 
 /// DosGetSeg(sel): the caller holds once more what another process holds under that shared selector. 5 where nobody holds a
 /// gettable segment there. No run of a huge allocation is held.
+#[tactic(auto, using(crate::proofs::Holders::still_refl))]
 pub fn get_seg(store: &mut Store, regions: &mut Regions, pid: u16, sel: u16) -> Answer
     requires process { IsProcess regions.old pid }
     requires named { AreNamed store.old regions.old }
@@ -33,8 +36,11 @@ pub fn get_seg(store: &mut Store, regions: &mut Regions, pid: u16, sel: u16) -> 
     ensures answer { (p : Parts) (o : Others) → p.shelf ≡ store.old → p.maps ≡ regions.old → o.processes ≡ regions.old.processes
         → Answers (getting (known_in p o) pid sel) result }
     ensures store { store.new ≡ store.old }
+    ensures still { StillHolds regions.old regions.new }
     ensures limits { KeepsLimits store.old regions.old store.new regions.new 0 }
     ensures processes { regions.new.processes ≡ regions.old.processes }
+    ensures places { (names : List (Option Name)) → AreInPlace store.old regions.old names
+        → AreInPlace store.new regions.new names }
     ensures order { IsInOrder store.new regions.new }
     ensures guards { IsGuarded store.old regions.old → IsGuarded store.new regions.new }
     ensures matches { (p : Parts) (o : Others) (w : World) (x : Process) → p.shelf ≡ store.old → p.maps ≡ regions.old

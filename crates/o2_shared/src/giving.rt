@@ -1,5 +1,5 @@
 // DosGiveSeg.
-ghost use Rattle.std.specs.Prelude.{◌≡◌, ℕ, true};
+ghost use Rattle.std.specs.Prelude.{◌≡◌, ℕ, List, Option, true};
 ghost use Rattle.o2_regions.specs.Lives.{lives};
 ghost use Rattle.o2_regions.specs.Maps.{IsProcess};
 ghost use Rattle.o2_segbus.specs.Seen.{AreNamed};
@@ -12,7 +12,9 @@ ghost use Rattle.o2_world.specs.SharedRulings.{giving};
 ghost use Rattle.o2_world.specs.World.{World};
 ghost use Rattle.o2_segs.specs.Answers.{Answers, AreAlone};
 ghost use Rattle.o2_segs.specs.Limits.{KeepsLimits};
-ghost use Rattle.o2_shared.specs.Shares.{AreFew, ShareOne};
+ghost use Rattle.o2_shared.specs.declared.names.Name.{Name};
+ghost use Rattle.o2_shared.specs.Shares.{AreFew, ShareOne, StillHolds};
+ghost use Rattle.o2_shared.specs.Texts.{AreInPlace};
 
 use crate::sharing::{INVALID_PROCESS, is_giveable, selector_at, share};
 use o2_base::Selector;
@@ -22,6 +24,7 @@ use o2_store::Store;
 
 /// DosGiveSeg(sel, pid, psel): the process `to` holds once more what the caller holds; its value is the same selector. 5 where
 /// the caller holds nothing there, or no giveable segment; 303 where no process `to` lives. No run of a huge allocation is held.
+#[tactic(auto, using(crate::proofs::Holders::still_refl))]
 pub fn give_seg(
     store: &mut Store,
     regions: &mut Regions,
@@ -41,8 +44,11 @@ pub fn give_seg(
     ensures answer { (p : Parts) (o : Others) → p.shelf ≡ store.old → p.maps ≡ regions.old → AreMarked ends.now p
         → Answers (giving (known_in p o) pid sel to) result }
     ensures store { store.new ≡ store.old }
+    ensures still { StillHolds regions.old regions.new }
     ensures limits { KeepsLimits store.old regions.old store.new regions.new 0 }
     ensures processes { regions.new.processes ≡ regions.old.processes }
+    ensures places { (names : List (Option Name)) → AreInPlace store.old regions.old names
+        → AreInPlace store.new regions.new names }
     ensures order { IsInOrder store.new regions.new }
     ensures guards { IsGuarded store.old regions.old → IsGuarded store.new regions.new }
     ensures matches { (p : Parts) (o : Others) (w : World) → p.shelf ≡ store.old → p.maps ≡ regions.old

@@ -1,5 +1,5 @@
 // The names of shared segments.
-ghost use Rattle.std.specs.Prelude.{◌≡◌, ℕ, ◌-◌, ◌<◌, ◌≤◌, List, length, replicate, IfOk, Some, None, Option, slice_set};
+ghost use Rattle.std.specs.Prelude.{◌≡◌, ℕ, ◌-◌, ◌<◌, ◌≤◌, List, length, replicate, IfOk, IfSome, Some, None, Option, slice_set};
 ghost use Rattle.o2_world.specs.SharedNames.{folded};
 ghost use Rattle.o2_shared.specs.Texts.{found_from, live_in};
 
@@ -53,9 +53,17 @@ impl Shared {
         Ok(Shared { names })
     }
 
+    /// What is true of every value: each shared index has a name or none.
+    pub fn law(&self)
+        ensures { length self.now ≡ 4096 }
+    {
+        let _names = &self.names;
+    }
+
     /// The index and the live segment of a name, whose ASCII letters may be of either case; none exactly where none has it.
     pub fn find(&self, store: &Store, name: &[u8]) -> Option<(u16, SegId)>
-        ensures { result ≡ found_from store.now (folded name.now) self.now 4096 }
+        ensures found { result ≡ found_from store.now (folded name.now) self.now 4096 }
+        ensures index { IfSome result (λ f. (4096 ≤ f.0) × (f.0 < 8192)) }
     {
         for place in 0..INDEXES {
             if let Some(id) = live_segment(&self.names[place as usize], store, name) {

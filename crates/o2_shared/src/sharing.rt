@@ -1,5 +1,5 @@
 // A process gets what another one holds.
-ghost use Rattle.std.specs.Prelude.{◌≡◌, ℕ, ◌+◌, ◌<◌, ◌≤◌, ◌^◌, ◌&&◌, nat_le, not, IfSome, IsSome, Some, None};
+ghost use Rattle.std.specs.Prelude.{◌≡◌, ℕ, ◌+◌, ◌<◌, ◌≤◌, ◌^◌, ◌&&◌, nat_le, not, IfSome, IsSome, List, Option, Some, None};
 ghost use Rattle.std.specs.Option.{IfNone};
 ghost use Rattle.o2_base.specs.Selectors.{selector_of};
 ghost use Rattle.o2_regions.specs.Maps.{IsProcess, held_at, holds_of};
@@ -11,10 +11,13 @@ ghost use Rattle.o2_changes.specs.Worlds.{MatchesHold};
 ghost use Rattle.o2_segs.specs.Limits.{KeepsLimits};
 ghost use Rattle.o2_stands.specs.Parts.{cause_of};
 ghost use Rattle.o2_world.specs.Rulings.{by_load};
-ghost use Rattle.o2_shared.specs.Shares.{holder_in, is_shareable, share_of};
+ghost use Rattle.o2_shared.specs.declared.names.Name.{Name};
+ghost use Rattle.o2_shared.specs.Shares.{StillHolds, holder_in, is_share_of, is_shareable, share_of};
+ghost use Rattle.o2_shared.specs.Texts.{AreInPlace};
 
 use o2_base::Selector;
 use o2_changes::hold_more;
+use o2_place::SegId;
 use o2_regions::{Cause, Held, Regions};
 use o2_store::{Attr, Store};
 
@@ -56,6 +59,17 @@ pub(crate) fn is_gettable(store: &Store, index: u16, held: Held) -> bool
 {
     match store.attr(held.id) {
         Some(attr) => is_given(attr, index, held.cause, attr.flags / GETTABLE % 2 == 1),
+        None => false,
+    }
+}
+
+/// Whether what is held is the segment of a name, which a call made and which is shared.
+pub(crate) fn is_named(store: &Store, held: Held, id: SegId) -> bool
+    requires live { IsSome (entry_of store.now held.id) }
+    ensures { result ≡ is_share_of store.now id.age held }
+{
+    match store.attr(held.id) {
+        Some(attr) => held.id.age == id.age && is_called(held.cause) && attr.shared,
         None => false,
     }
 }
@@ -108,7 +122,10 @@ pub(crate) fn share(store: &Store, regions: &mut Regions, from: u16, to: u16, in
     requires order { IsInOrder store.now regions.old }
 
     ensures grants { Grants regions.old regions.new to index (share_of held) (descriptor_at regions.old from index).access }
+    ensures still { StillHolds regions.old regions.new }
     ensures limits { KeepsLimits store.now regions.old store.now regions.new 0 }
+    ensures places { (names : List (Option Name)) → AreInPlace store.now regions.old names
+        → AreInPlace store.now regions.new names }
     ensures order { IsInOrder store.now regions.new }
     ensures guards { IsGuarded store.now regions.old → IsGuarded store.now regions.new }
     ensures processes { regions.new.processes ≡ regions.old.processes }
