@@ -102,10 +102,10 @@ named_matches p w x s t m n id pid size full i name r is age same live hold at q
 
 -- a name has 128 bytes at most
 pub name_short : (text : List ℕ) → is_name text ≡ true → length text ≤ 128
-name_short text e = at_most (length text) (and_parts (nat_le (length text) 128) _ (and_parts (nat_lt 10 (length text)) _ (and_parts _ _ e).1).1).0
+name_short text e = at_most (length text) 128 (and_parts (nat_le (length text) 128) _ (and_parts (nat_lt 10 (length text)) _ (and_parts _ _ e).1).1).0
   where
-    at_most : (n : ℕ) → nat_le n 128 ≡ true → n ≤ 128
-    at_most n t = grind arith
+    at_most : (n most : ℕ) → nat_le n most ≡ true → n ≤ most
+    at_most n most t = grind arith
 
 -- a text that is looked up is known or not
 pub text_known : (s : Shelf) (names : List (Option Name)) (look : List ℕ → Option ℕ) (text : List ℕ) (r : Option (ℕ × SegId)) → AreTexts s names look → r ≡ found_from s text names 4096 → is_some r ≡ true → IsSome (look text)

@@ -99,8 +99,12 @@ give_is p o s m pid sel to i h index es em named alone e =
     (give_here p o pid sel to h) named alone e)
 
 -- by both tests
-pub give_refused : (r done dead : Ruling) (may lives : Bool) → r ≡ (if not may then refusal 5 else (if lives then done else dead)) → may ≡ false → r ≡ refusal 5
+give_refused : (r done dead : Ruling) (may lives : Bool) → r ≡ (if not may then refusal 5 else (if lives then done else dead)) → may ≡ false → r ≡ refusal 5
 give_refused r done dead may lives is e = is ∙ ap (λ (b : Bool). cond (not b) (refusal 5) (cond lives done dead)) e
+
+pub give_kept : (p : Parts) (o : Others) (s : Shelf) (m : Maps) (pid sel to i : ℕ) (h : HeldThere) → i ≡ sel / 8 → p.shelf ≡ s → p.maps ≡ m → AreNamed s m → AreAlone m → under m pid sel ≡ Some h → is_shareable s 0 i h ≡ false → giving (known_in p o) pid sel to ≡ refusal 5
+give_kept p o s m pid sel to i h index es em named alone e may =
+    give_refused (giving (known_in p o) pid sel to) (shared_to (selector_of i) to i (held_of m pid i h)) (refusal 303) (is_shareable s 0 i h) (goes_on (p.running to)) (give_is p o s m pid sel to i h index es em named alone e) may
 
 pub give_dead : (r done dead : Ruling) (may lives : Bool) → r ≡ (if not may then refusal 5 else (if lives then done else dead)) → may ≡ true → lives ≡ false → r ≡ dead
 give_dead r done dead may lives is e f = is ∙ ap (λ (b : Bool). cond (not b) (refusal 5) (cond lives done dead)) e ∙ ap (λ (b : Bool). cond b done dead) f

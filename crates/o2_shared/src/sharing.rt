@@ -110,7 +110,14 @@ pub(crate) fn first_held(regions: &Regions, index: u16) -> Option<(u16, Held)>
 }
 
 /// A process holds once more what another one holds under a shared index.
-pub(crate) fn share(store: &Store, regions: &mut Regions, from: u16, to: u16, index: u16, held: Held)
+pub(crate) fn share(
+    store: &Store,
+    regions: &mut Regions,
+    from: u16,
+    to: u16,
+    index: u16,
+    held: Held,
+)
     requires from { IsProcess regions.old from }
     requires to { IsProcess regions.old to }
     requires high { 4096 ≤ index }

@@ -2,18 +2,18 @@ use Rattle.std.proofs.Common.{ℕ, ◌≡◌, Some, ◌∙◌, subst, sym}
 use Rattle.o2_regions.specs.Maps.{held_at}
 use Rattle.o2_segs.proofs.Rows.{done_answers, refusal_answers, refusal_maps}
 use Rattle.o2_segs.proofs.Selecting.{under_held}
-use Rattle.o2_shared.proofs.Shares.{give_dead, give_done, give_is, give_none, give_refused, share_matches, there_by, value_is}
+use Rattle.o2_shared.proofs.Shares.{give_dead, give_done, give_is, give_kept, give_none, share_matches, there_by, value_is}
 use Rattle.o2_shared.proofs.giving.give_seg.Goals as goal
 
 pub returns-then-not-is_giveable-clause-answer : goal.returns-then-not-is_giveable-clause-answer
 returns-then-not-is_giveable-clause-answer c = λ p o es em marked.
-    (let g = give_is p o c.args.store.now c.args.regions.now c.args.pid c.args.sel c.args.to c.index-index.result c.in-Some.held c.index-index.ensures es em c.requires.named c.requires.alone (sym c.in-Some.ensures) in
-    refusal_answers _ 5 c.refusal.result (give_refused _ _ _ _ _ g (sym c.if-not-is_giveable.ensures)) c.refusal.ensures)
+    refusal_answers _ 5 c.refusal.result
+    (give_kept p o c.args.store.now c.args.regions.now c.args.pid c.args.sel c.args.to c.index-index.result c.in-Some.held c.index-index.ensures es em c.requires.named c.requires.alone (sym c.in-Some.ensures) (sym c.if-not-is_giveable.ensures)) c.refusal.ensures
 
 pub returns-then-not-is_giveable-clause-matches : goal.returns-then-not-is_giveable-clause-matches
 returns-then-not-is_giveable-clause-matches c = λ p o w es em marked q.
-    (let g = give_is p o c.args.store.now c.args.regions.now c.args.pid c.args.sel c.args.to c.index-index.result c.in-Some.held c.index-index.ensures es em c.requires.named c.requires.alone (sym c.in-Some.ensures) in
-    refusal_maps p c.args.regions.now w _ 5 em (give_refused _ _ _ _ _ g (sym c.if-not-is_giveable.ensures)) q)
+    refusal_maps p c.args.regions.now w _ 5 em
+    (give_kept p o c.args.store.now c.args.regions.now c.args.pid c.args.sel c.args.to c.index-index.result c.in-Some.held c.index-index.ensures es em c.requires.named c.requires.alone (sym c.in-Some.ensures) (sym c.if-not-is_giveable.ensures)) q
 
 pub returns-then-not-is_live-clause-answer : goal.returns-then-not-is_live-clause-answer
 returns-then-not-is_live-clause-answer c = λ p o es em marked.
