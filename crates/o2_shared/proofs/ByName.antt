@@ -1,21 +1,19 @@
 -- What the row of a name that is looked up comes to over a store.
-use Rattle.std.proofs.Common.{◌≡◌, ℕ, ◌+◌, ◌<◌, ◌≤◌, ◌==◌, ◌&&◌, not, Bool, true, false, cond, List, [], ◌∷◌, ◌++◌, Option, Some, None, option_map, ap, sym, ◌∙◌, refl, subst, arith}
+use Rattle.std.proofs.Common.{◌≡◌, ℕ, ◌+◌, ◌<◌, ◌≤◌, ◌==◌, ◌&&◌, not, Bool, true, false, cond, List, [], ◌++◌, Option, Some, None, option_map, ap, sym, ◌∙◌, refl, subst, arith}
 use Rattle.std.proofs.lemmas.Bool.{and_parts, cond-false, cond-true, eqb-true, not-false}
 use Rattle.o2_base.specs.Selectors.{selector_of}
-use Rattle.o2_desc.specs.Choice.{IsChosen, IsRun, chosen}
 use Rattle.o2_desc.proofs.Choices.{chosen_law, one_choice}
 use Rattle.o2_place.specs.declared.seg_id.SegId.{SegId}
 use Rattle.o2_regions.specs.declared.held.Held.{Held as HeldThere}
 use Rattle.o2_regions.specs.Maps.{Maps, held_at as held_there}
 use Rattle.o2_segbus.specs.Seen.{AreNamed, key_of}
 use Rattle.o2_store.specs.Shelf.{Shelf, entry}
-use Rattle.o2_stands.specs.Knows.{Others, known_in, marks_under}
+use Rattle.o2_stands.specs.Knows.{Others, known_in}
 use Rattle.o2_stands.specs.Parts.{Parts, cause_of, held_in, held_of}
-use Rattle.o2_world.specs.World.{Held}
-use Rattle.o2_world.specs.Known.{Known, Marks}
-use Rattle.o2_world.specs.Rulings.{Ruling, by_load, grants, refusal}
+use Rattle.o2_world.specs.Known.{Known}
+use Rattle.o2_world.specs.Rulings.{by_load, grants, refusal}
 use Rattle.o2_world.specs.SharedNames.{folded, is_name, name_by}
-use Rattle.o2_world.specs.SharedRulings.{each_more, held_by, holder, index_of, is_share, is_shared, marks_by_call, one_more, sharing, sharing_at, sharing_from, sharing_of}
+use Rattle.o2_world.specs.SharedRulings.{held_by, holder, index_of, is_share, is_shared, one_more, sharing, sharing_at, sharing_from, sharing_of}
 use Rattle.o2_segs.proofs.Selecting.{marks_are}
 use Rattle.o2_shared.specs.declared.names.Name.{Name}
 use Rattle.o2_shared.specs.Shares.{holder_in, is_share_of}

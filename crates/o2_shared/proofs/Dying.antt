@@ -1,5 +1,5 @@
 -- A text dies with its segment, in a world as among the names that are kept.
-use Rattle.std.proofs.Common.{◌≡◌, ℕ, zero, suc, ◌+◌, ◌-◌, ◌<◌, ◌≤◌, ◌⊎◌, inl, inr, Bool, true, false, cond, List, [], ◌∷◌, Option, Some, None, IsSome, is_some, option_map, get_or, if◌then◌else◌, ap, sym, ◌∙◌, refl, subst, arith}
+use Rattle.std.proofs.Common.{◌≡◌, ℕ, zero, suc, ◌+◌, ◌-◌, ◌<◌, inl, inr, Bool, true, false, cond, List, [], ◌∷◌, Option, Some, None, IsSome, is_some, option_map, get_or, if◌then◌else◌, ap, sym, ◌∙◌, refl, subst, arith}
 use Rattle.std.proofs.lemmas.Bool.{false_from_ne_true}
 use Rattle.o2_place.specs.declared.seg_id.SegId.{SegId}
 use Rattle.o2_regions.specs.declared.held.Cause.{Cause}
@@ -15,16 +15,16 @@ use Rattle.o2_stands.specs.Parts.{Parts, cause_of, held_in as held_here, held_of
 use Rattle.o2_stands.specs.Stands.{IsNamed as IsNamedAs, IsTidy, Matches}
 use Rattle.o2_world.specs.Map.{get}
 use Rattle.o2_world.specs.Changes.{told_of}
-use Rattle.o2_world.specs.Holders.{is_held, process_at}
+use Rattle.o2_world.specs.Holders.{is_held}
 use Rattle.o2_world.specs.Known.{held_at, same_text, text_name}
 use Rattle.o2_world.specs.Sound.{held_in, held_of as held_by}
-use Rattle.o2_world.specs.Tied.{AreOne, IsOwnData, IsTied}
-use Rattle.o2_world.specs.World.{Cause as CauseOf, Held, Process, Segment, World, ByLoad}
+use Rattle.o2_world.specs.Tied.{AreOne, IsTied}
+use Rattle.o2_world.specs.World.{Held, Process, Segment, World, ByLoad}
 use Rattle.o2_world.proofs.Numbers.{process_is}
 use Rattle.o2_segs.proofs.Selecting.{named_live}
 use Rattle.o2_shared.specs.declared.names.Name.{Name}
 use Rattle.o2_shared.specs.Shares.{ShareOne}
-use Rattle.o2_shared.specs.Texts.{AreInPlace, AreOnce, AreTexts, IsBehind, IsNamed, age_of, found_from, name_in}
+use Rattle.o2_shared.specs.Texts.{AreInPlace, AreOnce, AreTexts, IsBehind, IsNamed, age_of, found_from}
 use Rattle.o2_shared.proofs.ByName.{one_segment}
 use Rattle.o2_shared.proofs.Finding.{IsFound, found_is, found_none, same_is}
 
@@ -167,8 +167,10 @@ held_from ps (suc n) i h e = ap (λ (o : Option Process). held_by o i) (sym (pro
 
 pub tied_one : (p : Parts) (w : World) → IsTied w → Matches p w → ShareOne p.maps
 unfolding held_here
-tied_one p w tied q = record { one = λ a b i h k high x y called. go a b i h k x y called
-    (tied.one (a - 1) (b - 1) i (held_of p.maps a i h) (held_of p.maps b i k) high (held_from w.processes a i (held_of p.maps a i h) (q.held a i ∙ ap (option_map (held_of p.maps a i)) x)) (held_from w.processes b i (held_of p.maps b i k) (q.held b i ∙ ap (option_map (held_of p.maps b i)) y))) }
+tied_one p w tied q = record {
+  one = λ a b i h k high x y called. go a b i h k x y called
+      (tied.one (a - 1) (b - 1) i (held_of p.maps a i h) (held_of p.maps b i k) high (held_from w.processes a i (held_of p.maps a i h) (q.held a i ∙ ap (option_map (held_of p.maps a i)) x)) (held_from w.processes b i (held_of p.maps b i k) (q.held b i ∙ ap (option_map (held_of p.maps b i)) y)));
+}
   where
     go : (a b i : ℕ) (h k : HeldThere) → held_there p.maps a i ≡ Some h → held_there p.maps b i ≡ Some k → (h.cause ≡ Loaded → ⊥) → AreOne w.names (held_of p.maps a i h) (held_of p.maps b i k) → k.id ≡ h.id
     go a b i h k x y called (inl same) = one_segment p.shelf p.maps b i a i k h q.ready.named y x (sym same)

@@ -1,12 +1,12 @@
 -- What is found among the names, and what a new name leaves.
-use Rattle.std.proofs.Common.{◌≡◌, ◌≢◌, ℕ, zero, suc, ◌+◌, ◌<◌, ◌≤◌, ◌==◌, ◌&&◌, Bool, true, false, cond, List, [], ◌∷◌, Option, Some, None, IsSome, is_some, length, get_or, set, drop, eqb, refl, sym, ap, ◌∙◌, subst, arith}
-use Rattle.std.proofs.lemmas.Bool.{and_left, and_parts, cond-false, cond-true, eq-eqb, eqb-true, false_from_ne_true}
+use Rattle.std.proofs.Common.{◌≡◌, ℕ, zero, suc, ◌+◌, ◌<◌, ◌==◌, ◌&&◌, Bool, true, false, cond, List, [], ◌∷◌, Option, Some, None, IsSome, is_some, length, get_or, set, drop, refl, sym, ap, ◌∙◌, subst, arith}
+use Rattle.std.proofs.lemmas.Bool.{and_parts, cond-false, cond-true, eq-eqb, eqb-true, false_from_ne_true}
 use Rattle.std.proofs.lemmas.List.{at_drop_more}
 use Rattle.o2_place.specs.declared.seg_id.SegId.{SegId}
 use Rattle.o2_store.specs.Shelf.{Shelf, entry_of}
 use Rattle.o2_world.specs.Known.{same_text}
 use Rattle.o2_shared.specs.declared.names.Name.{Name}
-use Rattle.o2_shared.specs.Texts.{IsNamed, age_of, found_from, found_or, live_in, name_in}
+use Rattle.o2_shared.specs.Texts.{IsNamed, age_of, found_from, found_or, live_in}
 
 -- Texts.
 

@@ -1,7 +1,7 @@
 -- Texts with folded letters, byte by byte.
-use Rattle.std.proofs.Common.{◌≡◌, ℕ, suc, ◌+◌, ◌<◌, ◌≤◌, ◌==◌, ◌&&◌, Bool, true, false, List, [], ◌∷◌, ◌++◌, length, take, drop, map, get_or, set, refl, sym, ap, ◌∙◌, arith}
+use Rattle.std.proofs.Common.{◌≡◌, ℕ, suc, ◌+◌, ◌<◌, ◌≤◌, ◌==◌, ◌&&◌, Bool, true, false, List, [], ◌∷◌, ◌++◌, length, take, drop, get_or, set, refl, sym, ap, ◌∙◌, arith}
 use Rattle.std.proofs.lemmas.Bool.{and_right, ne_eqb, eq-eqb}
-use Rattle.std.proofs.lemmas.List.{drop_more, get_or-map, get_or-take, length-drop, length-map, length-set, length-take-le, map_more, take_all, take_more_set}
+use Rattle.std.proofs.lemmas.List.{drop_more, get_or-map, get_or-take, length-drop, length-map, length-take-le, map_more, take_all, take_more_set}
 use Rattle.std.specs.Char.{to_ascii_lowercase}
 use Rattle.o2_world.specs.Known.{same_text}
 use Rattle.o2_world.specs.SharedNames.{folded}

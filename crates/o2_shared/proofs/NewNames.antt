@@ -1,5 +1,5 @@
 -- What the row of a new name comes to, and what a new name leaves of the names.
-use Rattle.std.proofs.Common.{◌≡◌, ◌≢◌, ℕ, ◌+◌, ◌-◌, ◌<◌, ◌≤◌, ◌&&◌, ◌||◌, ◌==◌, ◌⊎◌, inl, inr, Bool, true, false, cond, eqb, nat_le, nat_lt, List, [], ◌∷◌, length, get_or, set, Option, Some, None, IsSome, is_some, ap, sym, ◌∙◌, refl, subst, arith}
+use Rattle.std.proofs.Common.{◌≡◌, ◌≢◌, ℕ, ◌+◌, ◌<◌, ◌≤◌, ◌&&◌, ◌==◌, ◌⊎◌, inl, inr, Bool, true, false, cond, eqb, nat_le, nat_lt, List, [], ◌∷◌, length, get_or, set, Option, Some, None, IsSome, is_some, ap, sym, ◌∙◌, refl, subst, arith}
 use Rattle.std.proofs.lemmas.Bool.{and_from, and_parts, cases_eq, cond-false, cond-true, eq-eqb, eqb-true, false_from_ne_true, ne_eqb, or_parts}
 use Rattle.std.proofs.lemmas.Bool.Decides.{nat_tests}
 use Rattle.std.proofs.lemmas.List.{get_or-set_other, get_or-set_same}
@@ -12,10 +12,10 @@ use Rattle.o2_entries.proofs.Numbers.{listed-lt}
 use Rattle.o2_place.specs.declared.seg_id.SegId.{SegId}
 use Rattle.o2_regions.specs.declared.held.Held.{Held}
 use Rattle.o2_regions.specs.declared.held.Region.{Region}
-use Rattle.o2_regions.specs.declared.held.Region.TheVariants.{Private, Shared}
+use Rattle.o2_regions.specs.declared.held.Region.TheVariants.{Shared}
 use Rattle.o2_regions.specs.Kept.{AreKept}
 use Rattle.o2_regions.specs.Maps.{Maps, end_of, first_of, held_at, is_held, is_of, is_reserved, is_taken, more_of, region_of}
-use Rattle.o2_store.specs.Shelf.{Shelf, Adds, aged, entry, entry_of}
+use Rattle.o2_store.specs.Shelf.{Shelf, Adds, aged, entry_of}
 use Rattle.o2_store.proofs.Tables.{slot-set_other, slot-set_same}
 use Rattle.o2_changes.specs.Holding.{Grants, IsUnheld, KeepsHolds}
 use Rattle.o2_changes.specs.Worlds.{MatchesHold, new_segment}
@@ -29,9 +29,8 @@ use Rattle.o2_world.specs.Known.{Known, same_text, text_name}
 use Rattle.o2_world.specs.Rulings.{Ruling, free_index, full_size, grants, held_by_call, refusal}
 use Rattle.o2_world.specs.SharedNames.{folded, is_name, name_by}
 use Rattle.o2_world.specs.SharedRulings.{naming, naming_at, shared_segment}
-use Rattle.o2_world.specs.World.{Process, Segment, World}
+use Rattle.o2_world.specs.World.{Process, World}
 use Rattle.o2_segs.specs.Made.{made_by_call}
-use Rattle.o2_segs.proofs.Making.{added_entry}
 use Rattle.o2_shared.specs.declared.names.Name.{Name}
 use Rattle.o2_shared.specs.Shares.{naming_to}
 use Rattle.o2_shared.specs.Texts.{AreInPlace, AreTexts, IsHeldOnly, IsNamed, age_of, found_from}
@@ -100,12 +99,12 @@ named_matches p w x s t m n id pid size full i name r is age same live hold at q
 
 -- The texts.
 
+at_most : (n most : ℕ) → nat_le n most ≡ true → n ≤ most
+at_most n most t = grind arith
+
 -- a name has 128 bytes at most
 pub name_short : (text : List ℕ) → is_name text ≡ true → length text ≤ 128
 name_short text e = at_most (length text) 128 (and_parts (nat_le (length text) 128) _ (and_parts (nat_lt 10 (length text)) _ (and_parts _ _ e).1).1).0
-  where
-    at_most : (n most : ℕ) → nat_le n most ≡ true → n ≤ most
-    at_most n most t = grind arith
 
 -- a text that is looked up is known or not
 pub text_known : (s : Shelf) (names : List (Option Name)) (look : List ℕ → Option ℕ) (text : List ℕ) (r : Option (ℕ × SegId)) → AreTexts s names look → r ≡ found_from s text names 4096 → is_some r ≡ true → IsSome (look text)

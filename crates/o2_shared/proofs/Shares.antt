@@ -1,5 +1,5 @@
 -- What the rows of gifts come to over a store, of a segment alone.
-use Rattle.std.proofs.Common.{◌≡◌, ℕ, ◌/◌, ◌≤◌, ◌==◌, ◌&&◌, ◌||◌, not, nat_le, Bool, true, false, cond, List, [], ◌∷◌, ◌++◌, Option, Some, None, if◌then◌else◌, option_map, filter, is_some, ap, sym, ◌∙◌, refl, subst}
+use Rattle.std.proofs.Common.{◌≡◌, ℕ, ◌/◌, ◌==◌, ◌&&◌, ◌||◌, not, nat_le, Bool, true, false, cond, List, [], ◌∷◌, ◌++◌, Option, Some, None, if◌then◌else◌, option_map, filter, is_some, ap, sym, ◌∙◌, refl, subst}
 use Rattle.std.specs.Prelude.{find}
 use Rattle.std.proofs.lemmas.Bool.{cond-true, cond-false, eq-eqb}
 use Rattle.o2_base.specs.Selectors.{selector_of}
@@ -10,7 +10,7 @@ use Rattle.o2_regions.specs.declared.held.Held.{Held as HeldThere}
 use Rattle.o2_regions.specs.Maps.{Maps, held_at as held_there}
 use Rattle.o2_segbus.specs.Seen.{AreNamed}
 use Rattle.o2_segbus.specs.Settled.{descriptor_at}
-use Rattle.o2_store.specs.Shelf.{Shelf, entry}
+use Rattle.o2_store.specs.Shelf.{Shelf}
 use Rattle.o2_changes.specs.Order.{IsGuarded}
 use Rattle.o2_changes.specs.Worlds.{MatchesHold}
 use Rattle.o2_world.specs.World.{Held, Process, World, ByCall}
@@ -20,7 +20,7 @@ use Rattle.o2_world.specs.Changes.{Change, Holds, with_all, with_changes}
 use Rattle.o2_world.specs.Rulings.{Ruling, by_load, grants, indexes, is_later, members, refusal}
 use Rattle.o2_world.specs.SharedRulings.{each_more, getting, getting_at, getting_from, giving, giving_of, holder, is_shared_with, lacks_flag, marks_by_call, one_more, shared_from}
 use Rattle.o2_stands.specs.Knows.{Others, known_in, marks_under}
-use Rattle.o2_stands.specs.Parts.{Parts, Running, cause_of, goes_on, held_in, held_of, running_of}
+use Rattle.o2_stands.specs.Parts.{Parts, goes_on, held_in, held_of, running_of}
 use Rattle.o2_stands.specs.Stands.{Matches}
 use Rattle.o2_segs.specs.Answers.{AreAlone}
 use Rattle.o2_segs.proofs.Selecting.{marks_are, under, under_held, under_is}

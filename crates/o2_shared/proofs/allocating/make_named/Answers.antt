@@ -1,5 +1,4 @@
-use Rattle.std.proofs.Common.{◌≡◌, ℕ, ◌+◌, ◌-◌, ◌<◌, List, Option, Some, length, set, true, refl, ap, sym, ◌∙◌, subst, arith}
-use Rattle.o2_entries.specs.declared.Attr.{Attr}
+use Rattle.std.proofs.Common.{◌≡◌, ◌+◌, ◌-◌, ◌<◌, List, Option, Some, length, set, true, refl, ap, sym, ◌∙◌, subst, arith}
 use Rattle.o2_entries.specs.declared.Entry.{Entry}
 use Rattle.o2_regions.specs.Maps.{Maps}
 use Rattle.o2_store.specs.Shelf.{Shelf}

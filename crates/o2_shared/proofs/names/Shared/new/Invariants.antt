@@ -1,4 +1,4 @@
-use Rattle.std.proofs.Common.{◌≡◌, ◌≤◌, ℕ, None, replicate}
+use Rattle.std.proofs.Common.{◌≡◌, ◌≤◌, None, replicate}
 use Rattle.std.specs.Vec.{vec_capacity}
 use Rattle.o2_shared.proofs.names.Shared.new.Given as goal
 

@@ -1,5 +1,5 @@
 use Rattle.std.proofs.Common.{arith, sym, ◌∙◌}
-use Rattle.o2_shared.proofs.Folding.{same_end, same_length, same_more, same_not}
+use Rattle.o2_shared.proofs.Folding.{same_length, same_more, same_not}
 use Rattle.o2_shared.proofs.text.Text.is.Goals as goal
 
 pub returns-then-self-text : goal.returns-then-self-text
