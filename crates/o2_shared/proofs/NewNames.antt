@@ -33,7 +33,7 @@ use Rattle.o2_world.specs.World.{Process, World}
 use Rattle.o2_segs.specs.Made.{made_by_call}
 use Rattle.o2_shared.specs.declared.names.Name.{Name}
 use Rattle.o2_shared.specs.Shares.{naming_to}
-use Rattle.o2_shared.specs.Texts.{AreInPlace, AreTexts, IsHeldOnly, IsNamed, age_of, found_from}
+use Rattle.o2_shared.specs.Texts.{AreInPlace, AreOnce, AreTexts, IsHeldOnly, IsNamed, age_of, found_from}
 use Rattle.o2_shared.proofs.Finding.{found_none, put_name}
 use Rattle.o2_shared.proofs.Holders.{shared_region}
 
@@ -132,6 +132,15 @@ named_texts t names w pid size i made value name r is behind = subst (λ (x : Ru
 pub texts_none : (s : Shelf) (names : List (Option Name)) (w : World) (r : Ruling) (error : ℕ) → r ≡ refusal error → AreTexts s names (text_name w.texts) → AreTexts s names (text_name (with_all w r.changes).texts)
 unfolding with_changes
 texts_none s names w r error is was = subst (λ (x : Ruling). AreTexts s names (text_name (with_all w x.changes).texts)) (sym is) was
+
+-- no text stands twice behind it
+pub once_none : (w : World) (r : Ruling) (error : ℕ) → r ≡ refusal error → AreOnce w.texts → AreOnce (with_all w r.changes).texts
+unfolding with_changes
+once_none w r error is once = subst (λ (x : Ruling). AreOnce (with_all w x.changes).texts) (sym is) once
+
+pub named_once : (w : World) (pid size i made value : ℕ) (name : List ℕ) (r : Ruling) → r ≡ grants value (named_changes pid size i made name) → text_name w.texts name ≡ None → AreOnce w.texts → AreOnce (with_all w r.changes).texts
+unfolding with_changes
+named_once w pid size i made value name r is new once = subst (λ (x : Ruling). AreOnce (with_all w x.changes).texts) (sym is) (new, once)
 
 -- A new segment has a name.
 module _ (s t : Shelf) (m n : Maps) (id : SegId) (e : Entry) (names : List (Option Name)) (place pid i : ℕ) (name : List ℕ) (adds : Adds s t id e) (made : e.age ≡ s.made) (places : AreInPlace s m names) (index : i ≡ 4096 + place) (long : place < length names)

@@ -24,7 +24,7 @@ ghost use Rattle.o2_segs.specs.Answers.{Answers};
 ghost use Rattle.o2_segs.specs.Limits.{KeepsEntries, KeepsLimits};
 ghost use Rattle.o2_segs.specs.Made.{made_by_call};
 ghost use Rattle.o2_shared.specs.Shares.{naming_to};
-ghost use Rattle.o2_shared.specs.Texts.{AreInPlace, AreTexts, found_from};
+ghost use Rattle.o2_shared.specs.Texts.{AreInPlace, AreOnce, AreTexts, found_from};
 
 use crate::names::Shared;
 use crate::naming::is_name;
@@ -70,6 +70,9 @@ pub fn alloc_shr_seg(
         → AreTexts store.old names.old o.text → AreTexts store.old names.old (text_name w.texts)
         → AreTexts store.new names.new
         (text_name (with_all w (naming (known_in p o) pid size (name_by (Some name.now))).changes).texts) }
+    ensures once { (p : Parts) (o : Others) (w : World) → p.shelf ≡ store.old → p.maps ≡ regions.old
+        → AreTexts store.old names.old o.text → AreTexts store.old names.old (text_name w.texts) → AreOnce w.texts
+        → AreOnce (with_all w (naming (known_in p o) pid size (name_by (Some name.now))).changes).texts }
     ensures places { AreInPlace store.new regions.new names.new }
     ensures holds { KeepsHolds regions.old regions.new }
     ensures limits { KeepsLimits store.old regions.old store.new regions.new 1 }
@@ -132,6 +135,9 @@ fn make_named(
         → AreTexts store.old names.old (text_name w.texts)
         → AreTexts store.new names.new
         (text_name (with_all w (naming_to (known_in p o) pid size (folded name.now) (Some index)).changes).texts) }
+    ensures once { (p : Parts) (o : Others) (w : World) → p.shelf ≡ store.old
+        → AreTexts store.old names.old (text_name w.texts) → AreOnce w.texts
+        → AreOnce (with_all w (naming_to (known_in p o) pid size (folded name.now) (Some index)).changes).texts }
     ensures places { AreInPlace store.new regions.new names.new }
     ensures holds { KeepsHolds regions.old regions.new }
     ensures limits { KeepsLimits store.old regions.old store.new regions.new 1 }

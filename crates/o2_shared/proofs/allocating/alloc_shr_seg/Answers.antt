@@ -8,8 +8,8 @@ use Rattle.o2_world.specs.SharedNames.{folded}
 use Rattle.o2_segs.specs.Answers.{Answers}
 use Rattle.o2_segs.proofs.Limits.{entries_refl, limits_more, limits_refl}
 use Rattle.o2_segs.proofs.Rows.{refusal_answers, refusal_matches}
-use Rattle.o2_shared.specs.Texts.{AreTexts}
-use Rattle.o2_shared.proofs.NewNames.{found_nothing, name_short, naming_bad, naming_known, naming_new, text_known, text_new, texts_none, to_none}
+use Rattle.o2_shared.specs.Texts.{AreOnce, AreTexts}
+use Rattle.o2_shared.proofs.NewNames.{found_nothing, name_short, naming_bad, naming_known, naming_new, once_none, text_known, text_new, texts_none, to_none}
 use Rattle.o2_shared.proofs.allocating.alloc_shr_seg.Goals as goal
 
 pub returns-then-not-is_name-clause-answer : goal.returns-then-not-is_name-clause-answer
@@ -95,3 +95,23 @@ returns-in-None-clause-limits c = limits_more c.args.store.now c.args.store.now 
 
 pub returns-in-None-clause-entries : goal.returns-in-None-clause-entries
 returns-in-None-clause-entries c = entries_refl c.args.store.now
+
+pub returns-then-not-is_name-clause-once : goal.returns-then-not-is_name-clause-once
+returns-then-not-is_name-clause-once c = λ p o w es em texts was once. once_none w _ 123 (naming_bad (known_in p o) c.args.pid c.args.size c.args.name.now (sym c.if-not-is_name.ensures)) once
+
+pub returns-then-is_some-clause-once : goal.returns-then-is_some-clause-once
+returns-then-is_some-clause-once c = λ p o w es em texts was once.
+    once_none w _ 183
+    (naming_known (known_in p o) c.args.pid c.args.size c.args.name.now (sym c.if-not-is_name.ensures) (text_known c.args.store.now c.args.names.now o.text (folded c.args.name.now) c.find.result texts c.find.ensures.found (sym c.if-is_some.ensures))) once
+
+pub returns-in-Some-clause-once : goal.returns-in-Some-clause-once
+returns-in-Some-clause-once c = λ p o w es em texts was once.
+    subst (λ (r : Ruling). AreOnce (with_all w r.changes).texts)
+    (sym (naming_new p o c.args.regions.now c.args.pid c.args.size c.args.name.now _ (sym c.if-not-is_name.ensures) (text_new c.args.store.now c.args.names.now o.text (folded c.args.name.now) texts (found_nothing c.find.result _ c.find.ensures.found (sym c.if-is_some.ensures))) em c.in-Some.ensures.lowest))
+    (c.make_named.ensures.once p o w es was once)
+
+pub returns-in-None-clause-once : goal.returns-in-None-clause-once
+returns-in-None-clause-once c = λ p o w es em texts was once.
+    once_none w _ 8
+    (naming_new p o c.args.regions.now c.args.pid c.args.size c.args.name.now None (sym c.if-not-is_name.ensures) (text_new c.args.store.now c.args.names.now o.text (folded c.args.name.now) texts (found_nothing c.find.result _ c.find.ensures.found (sym c.if-is_some.ensures))) em c.in-None.ensures.lowest
+    ∙ to_none (known_in p o) c.args.pid c.args.size (folded c.args.name.now)) once

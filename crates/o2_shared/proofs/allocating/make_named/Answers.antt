@@ -14,7 +14,7 @@ use Rattle.o2_segs.proofs.Rows.{done_answers, refusal_answers, refusal_matches}
 use Rattle.o2_shared.specs.declared.names.Name.{Name}
 use Rattle.o2_shared.specs.Shares.{naming_to}
 use Rattle.o2_shared.specs.Texts.{AreInPlace, AreTexts}
-use Rattle.o2_shared.proofs.NewNames.{named_matches, named_texts, new_places, new_texts, texts_none, to_full, to_some}
+use Rattle.o2_shared.proofs.NewNames.{named_matches, named_once, named_texts, new_places, new_texts, once_none, text_new, texts_none, to_full, to_some}
 use Rattle.o2_shared.proofs.Shares.{value_is}
 use Rattle.o2_shared.proofs.allocating.make_named.Goals as goal
 
@@ -94,3 +94,11 @@ returns-in-None-clause-limits c = limits_more c.args.store.now c.make.new.store 
 
 pub returns-in-None-clause-entries : goal.returns-in-None-clause-entries
 returns-in-None-clause-entries c = entries_same c.args.store.now c.make.new.store c.in-None.ensures.none.1
+
+pub returns-in-Some-clause-once : goal.returns-in-Some-clause-once
+returns-in-Some-clause-once c = λ p o w es was once.
+    named_once w c.args.pid c.args.size c.args.index c.in-Some.id.age _ (folded c.args.name.now) _ (to_some p o c.args.store.now c.make.new.store c.in-Some.id _ c.args.pid c.args.size c.args.index (folded c.args.name.now) es c.in-Some.ensures.added)
+    (text_new c.args.store.now c.args.names.now (text_name w.texts) (folded c.args.name.now) was c.requires.new) once
+
+pub returns-in-None-clause-once : goal.returns-in-None-clause-once
+returns-in-None-clause-once c = λ p o w es was once. once_none w _ 8 (to_full p o c.args.store.now c.args.pid c.args.size c.args.index (folded c.args.name.now) es c.in-None.ensures.none.0) once
