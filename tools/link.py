@@ -5,8 +5,9 @@ nasm -f obj writes them.
 usage: tools/link.py -o FILE [-m MODULE] [--stack BYTES] [--heap BYTES] OBJECT ..
 
 Segments of one name and class that are public are put behind one another, and the segments of a group make one segment of the
-executable. The group DGROUP is the automatic data segment; without one it is the only segment of data. A segment of the kind `stack`
-is no bytes of the file: its length is the stack's, unless --stack gives another. The classes that end in CODE are code.
+executable. The group DGROUP is the automatic data segment; without one it is the only segment of data. Data outside of it is far
+data: segments of their own, which the program reaches by their selectors. A segment of the kind `stack` is no bytes of the file: its length is
+the stack's, unless --stack gives another. The classes that end in CODE are code.
 
 A name that no object has is an import: by the record that nasm writes for `import NAME MODULE [ORDINAL]`, or from DOSCALLS by its name where
 that begins with Dos. MODULE is FILE's name in capitals where -m gives none.
