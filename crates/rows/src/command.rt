@@ -97,13 +97,13 @@ pub fn command_sized(
     console_fails: Fails<'_>,
     report_fails: Fails<'_>,
     room: usize,
-    blocks: u32,
+    blocks: u16,
 ) -> Result<Answer, NoMemory> {
     let mut files = files;
     let mut input = MemSource::new(Bytes::from_slice(alloc, input)?, takes.to_vec(alloc)?);
     let mut console = MemSink::new(alloc, 4096, console_fails.to_vec(alloc)?)?;
     let mut report = MemSink::new(alloc, room, report_fails.to_vec(alloc)?)?;
-    let mut swap = SureSwap::new(alloc, blocks)?;
+    let mut swap = SureSwap::new(alloc, u32::from(blocks))?;
     let list = words_of(alloc, words)?;
     let status = os2run(
         alloc,
