@@ -1,0 +1,2 @@
+pub mod BenchReads
+pub mod Settings

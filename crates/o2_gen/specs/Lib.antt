@@ -1,0 +1,4 @@
+pub mod BenchCode
+pub mod BenchFile
+pub mod BenchModule
+pub mod BenchSetting
