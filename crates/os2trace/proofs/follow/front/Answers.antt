@@ -4,5 +4,5 @@ use Rattle.os2trace.proofs.follow.front.Goals as goal
 
 pub returns : goal.returns
 returns c =
-    let device = swap_blocks c.in-Ok-new.swap in
-    c.in-Ok-begin.ensures.begins.goes_on device (let same = c.in-Ok-new.ensures in omega (arith, same))
+    let device = swap_blocks c.in-Ok.swap in
+    c.in-Ok-begin.ensures.begins.goes_on device (let same = c.in-Ok.ensures in omega (arith, same))
