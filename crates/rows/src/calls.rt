@@ -1,10 +1,10 @@
 // What the calls of the services print, over an input that may fail.
 
-use crate::command::{Answer, Fails, add_file, command, one_file};
-use crate::hello::{changed, report_of};
-use crate::instructions::program;
-use crate::texts::{changes_in, report_in, two};
 use o2_base::NoMemory;
+use o2_rows::{
+    Answer, Fails, add_file, changed, changes_in, command, one_file, program, report_in, report_of,
+    two,
+};
 use std::alloc::Global;
 use std::test::Fail;
 

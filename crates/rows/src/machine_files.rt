@@ -1,10 +1,11 @@
 // Machine files: several processes, their turns and slices, budgets and faults.
 
-use crate::command::{Answer, add_file, command, command_over, one_file};
-use crate::hello::{HELLO, LINES, report_of};
-use crate::texts::{line_of, lines_in, two};
 use o2_base::{Bytes, NoMemory};
 use o2_outer::MemFiles;
+use o2_rows::{
+    Answer, HELLO, LINES, add_file, command, command_over, line_of, lines_in, one_file, report_of,
+    two,
+};
 use std::alloc::Global;
 use std::test::Fail;
 

@@ -1,10 +1,8 @@
 // Libraries: what processes hold of them, whose their data is, and what `check` says of a machine file.
 
-use crate::command::{Answer, Fails, add_file, command};
-use crate::hello::HELLO;
 use crate::library_files::{CALLER, COUNTER, LAST, MSG, OUTER, SMALL, THROUGH, USER};
-use crate::texts::{changes_in, lines_in, three, two};
 use o2_base::{Bytes, NoMemory};
+use o2_rows::{Answer, Fails, HELLO, add_file, changes_in, command, lines_in, three, two};
 use std::alloc::Global;
 use std::test::Fail;
 

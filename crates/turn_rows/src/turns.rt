@@ -1,14 +1,13 @@
 // Machines turn by turn: what they count, and that a stop or an end is final.
 
 ghost use Rattle.std.specs.Prelude.{IfOk, IfSome};
-ghost use Rattle.rows.specs.Going.{IsGoing};
+ghost use Rattle.turn_rows.specs.Going.{IsGoing};
 
-use crate::command::{Fails, add_file};
-use crate::hello::changed;
 use o2_base::{Bytes, NoMemory};
 use o2_machine::{Machine, Steps, Turn};
 use o2_open::{Session, open};
 use o2_outer::{MemFiles, MemSink, MemSource, SureSwap, SwapDevice};
+use o2_rows::{Fails, add_file, changed};
 use o2_words::Verb;
 use std::alloc::Global;
 use std::test::Fail;

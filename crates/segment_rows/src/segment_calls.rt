@@ -3,11 +3,11 @@
 // A program of two segments pushes the arguments of each call and names its gate; SS and DS are 0017, with 512 bytes, and the first new
 // segment has the selector 0027. Behind its code it writes the 16 bytes from DS:0010 on to the console, and ends.
 
-use crate::command::{Answer, add_file, command, command_sized, one_file};
-use crate::instructions::program;
-use crate::texts::{hex, report_in, three, write_lines};
 use o2_base::{Bytes, NoMemory};
 use o2_outer::MemFiles;
+use o2_rows::{
+    Answer, add_file, command, command_sized, hex, one_file, program, report_in, three, write_lines,
+};
 use std::alloc::Global;
 use std::process::Abort;
 use std::test::Fail;

@@ -1,0 +1,5 @@
+//! Rows of instructions: programs of one or a few, with what they leave.
+#![tactic(auto)]
+
+#[cfg(test)]
+mod instructions;

@@ -1,0 +1,12 @@
+//! What the crates of rows share: whole commands over files, an input and sinks in memory, and programs and texts for them.
+#![tactic(auto)]
+
+mod commands;
+mod hello;
+mod programs;
+mod texts;
+
+pub use commands::{Answer, Fails, add_file, command, command_over, command_sized, one_file};
+pub use hello::{HELLO, LINES, changed, report_of};
+pub use programs::program;
+pub use texts::{changes_in, hex, line_of, lines_in, report_in, three, two, write_lines};
