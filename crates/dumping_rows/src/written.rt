@@ -126,7 +126,7 @@ fn a_machine_without_segments(rt: HostRuntime) -> Result<(), test::Fail> {
 }
 
 /// How many segments of an image lie where, and whether their bytes are those that were put in.
-#[derive(Debug, PartialEq, Eq)]
+#[derive(Clone, Copy, Debug, PartialEq, Eq)]
 struct Seen {
     zeros: u32,
     memory: u32,

@@ -5,6 +5,7 @@ use o2_regions::Regions;
 use o2_store::Store;
 
 /// What a core image is made of.
+#[derive(Drop)]
 pub struct Parts<'a> {
     /// The segments, in memory and out of it.
     pub store: &'a Store,
