@@ -7,13 +7,14 @@ use Rattle.std.proofs.lemmas.Bool.Decides.{nat_tests}
 use Rattle.o2_desc.specs.declared.descriptor.Descriptor.{Descriptor}
 use Rattle.o2_dump.specs.declared.parts.Held.{Held}
 use Rattle.o2_dumping.specs.Told.{all_held, descriptor_at, held_from, held_told, hold_told, numbers, place_among}
+use Rattle.o2_dumping.proofs.Holding.{all_from}
 use Rattle.o2_regions.specs.declared.held.Held.{Held as HeldThere}
 use Rattle.o2_regions.specs.Maps.{Maps, held_at}
 use Rattle.o2_store.specs.Shelf.{Shelf}
 use Rattle.o2_dump_worlds.specs.StandsFor.{held_under}
 
 module _ (s : Shelf) (d : ℕ → Descriptor) (o : ℕ → Option HeldThere) where
-  pub abbrev listed : ℕ → HeldThere → Held
+  abbrev pub listed : ℕ → HeldThere → Held
   listed i h = record { index = i; descriptor = d i; segment = place_among (numbers s) h.id.key; holds = h.holds }
 
   abbrev at_index : ℕ → List Held
@@ -56,12 +57,19 @@ listed_at s m pid i h = listed s (descriptor_at m pid) (held_at m pid) i h
 past_all : (m : Maps) (pid i : ℕ) → 8192 ≤ i → held_at m pid i ≡ None
 past_all m pid i l = cond-false (nat_lt i 8192) _ None (grind (arith, nat_tests))
 
+from_is : (s : Shelf) (m : Maps) (pid n i : ℕ) → i < n → held_under (held_from s m pid 0 n) i ≡ option_map (listed_at s m pid i) (held_at m pid i)
+unfolding held_from held_told
+from_is s m pid n i l = among s (descriptor_at m pid) (held_at m pid) n 0 i (omega arith) (omega (arith, l))
+
+from_past : (s : Shelf) (m : Maps) (pid n i : ℕ) → n ≤ i → held_under (held_from s m pid 0 n) i ≡ None
+unfolding held_from held_told
+from_past s m pid n i l = behind s (descriptor_at m pid) (held_at m pid) n 0 i (omega (arith, l))
+
 -- what is listed for an index of a process
 pub listed_is : (s : Shelf) (m : Maps) (pid i : ℕ) → held_under (all_held s m pid) i ≡ option_map (listed_at s m pid i) (held_at m pid i)
-unfolding all_held held_from held_told
-listed_is s m pid i = elim (cases_lt i 8192) [
-  | inl l ↦ among s (descriptor_at m pid) (held_at m pid) 8192 0 i (omega arith) (omega (arith, l))
-  | inr l ↦
-      (behind s (descriptor_at m pid) (held_at m pid) 8192 0 i (omega (arith, l))
-      ∙ ap (option_map (listed_at s m pid i)) (sym (past_all m pid i l)))
-]
+listed_is s m pid i =
+    ap (λ (z : List Held). held_under z i) (sym (all_from s m pid 8192 refl))
+    ∙ elim (cases_lt i 8192) [
+      | inl l ↦ from_is s m pid 8192 i l
+      | inr l ↦ from_past s m pid 8192 i l ∙ ap (option_map (listed_at s m pid i)) (sym (past_all m pid i l))
+    ]

@@ -2,4 +2,4 @@ use Rattle.o2_dump_worlds.proofs.Standing.{image_stands}
 use Rattle.o2_dump_worlds.proofs.laws.images_stand_for_worlds.Goals as goal
 
 pub returns : goal.returns
-returns p s w done = image_stands p s w done
+returns c = image_stands
