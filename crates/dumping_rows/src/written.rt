@@ -154,7 +154,7 @@ fn look(seen: &mut Seen, place: &Place, bytes: &Bytes, byte: u8) {
 }
 
 /// What an image shows.
-fn seen(alloc: Global, core: &Core) -> Result<Seen, NoMemory> {
+fn what_is_seen(alloc: Global, core: &Core) -> Result<Seen, NoMemory> {
     let mut seen = Seen {
         zeros: 0,
         memory: 0,
@@ -190,7 +190,7 @@ fn segments_wherever_they_lie(rt: HostRuntime) -> Result<(), test::Fail> {
         swap: 1,
         same: 4,
     };
-    assert_eq!(rt; seen(rt.alloc(), &core)?, wanted);
+    assert_eq!(rt; what_is_seen(rt.alloc(), &core)?, wanted);
     assert_eq!(rt; core.segments.as_slice().len(), 4);
     Ok(())
 }
