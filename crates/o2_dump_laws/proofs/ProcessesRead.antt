@@ -147,7 +147,7 @@ unfolding steps
 no_more f a = refl
 
 process_length : (p : Process) → length (process_bytes p) ≡ 38 + length (flat_map held_bytes p.held)
-process_length p = refl
+process_length p = length-append (front_of p) (flat_map held_bytes p.held)
 
 pub processes_run : (ps : List Process) (file : List ℕ) (a b : ℕ) (rest : List ℕ) (segments least : ℕ) (found : List Process) → segments < 2 ^ 32 → AreProcessesWhole segments least ps
     → StandsAt file a (flat_map process_bytes ps ++ rest) → b ≡ a + length (flat_map process_bytes ps)

@@ -36,7 +36,7 @@ module _ (file : List ℕ) (p q : ℕ) (b : Block) (rest : List ℕ) (blocks : �
   room =
       let e : length file ≡ q + length (block_bytes b ++ rest) = file_length file q _ at in
       let f : length (block_bytes b ++ rest) ≡ length (block_bytes b) + length rest = length-append (block_bytes b) rest in
-      let g : length (block_bytes b) ≡ 4 + length b.bytes = refl in
+      let g : length (block_bytes b) ≡ 4 + length b.bytes = length-append (long b.number) b.bytes in
       omega (arith, e, f, g, whole_b.size)
 
   checks : all_hold (block_checks file blocks found p own q) ≡ Ok tt
@@ -65,7 +65,7 @@ blocks_run (b ∷ bs) file p q rest blocks found own whole at next =
     let tail = flat_map block_bytes bs ++ rest in
     let regroup : (block_bytes b ++ flat_map block_bytes bs) ++ rest ≡ block_bytes b ++ tail = append_assoc (block_bytes b) (flat_map block_bytes bs) rest in
     let here : StandsAt file q (block_bytes b ++ tail) = record { front = at.front; splits = at.splits ∙ ap (λ (z : List ℕ). at.front ++ z) regroup; place = at.place } in
-    let size : length (block_bytes b) ≡ 516 = (let g : length (block_bytes b) ≡ 4 + length b.bytes = refl in omega (arith, g, whole.0.size)) in
+    let size : length (block_bytes b) ≡ 516 = (let g : length (block_bytes b) ≡ 4 + length b.bytes = length-append (long b.number) b.bytes in omega (arith, g, whole.0.size)) in
     let there : StandsAt file (q + 516) tail = stands_next file q (q + 516) _ (block_bytes b) _ here refl (omega (arith, size)) in
     let more : length (own ++ b ∷ []) ≡ length own + 1 = length-append own (b ∷ []) in
     let behind : next_block p (own ++ b ∷ []) ≡ q + 516 = omega (arith, next, more) in
@@ -77,7 +77,7 @@ blocks_length : (bs : List Block) (blocks : ℕ) (found : List SegmentEntry) (ow
 blocks_length [] blocks found own whole = refl
 blocks_length (b ∷ bs) blocks found own whole =
     let more : length (block_bytes b ++ flat_map block_bytes bs) ≡ length (block_bytes b) + length (flat_map block_bytes bs) = length-append (block_bytes b) (flat_map block_bytes bs) in
-    let g : length (block_bytes b) ≡ 4 + length b.bytes = refl in
+    let g : length (block_bytes b) ≡ 4 + length b.bytes = length-append (long b.number) b.bytes in
     let rest : length (flat_map block_bytes bs) ≡ 516 * length bs = blocks_length bs blocks found (own ++ b ∷ []) whole.1 in
     omega (arith, more, g, whole.0.size, rest)
 
@@ -86,7 +86,7 @@ place_length Zeros memory blocks found size kept whole = refl
 place_length (Image m k) memory blocks found size kept whole = refl
 place_length (Memory base) memory blocks found size kept whole = refl
 place_length (Swap bs) memory blocks found size kept whole =
-    let e : length (place_bytes (Swap bs)) ≡ 4 + length (flat_map block_bytes bs) = refl in
+    let e : length (place_bytes (Swap bs)) ≡ 4 + length (flat_map block_bytes bs) = length-append (long (length bs)) (flat_map block_bytes bs) in
     omega (arith, e, blocks_length bs blocks found [] whole.1)
 
 -- ---- one segment
@@ -178,11 +178,11 @@ module _ (file : List ℕ) (p : ℕ) (e : SegmentEntry) (rest : List ℕ) (memor
   behind_front : StandsAt file (p + 12) (place_bytes e.place ++ rest)
   behind_front = stands_next file p (p + 12) _ (front_of e) _ at (append_assoc (front_of e) (place_bytes e.place) rest) refl
 
-  room : p + 12 ≤ length file
-  room = let x : length file ≡ p + 12 + length (place_bytes e.place ++ rest) = file_length file (p + 12) _ behind_front in omega (arith, x)
+  entry_room : p + 12 ≤ length file
+  entry_room = let x : length file ≡ p + 12 + length (place_bytes e.place ++ rest) = file_length file (p + 12) _ behind_front in omega (arith, x)
 
-  checks : all_hold (entry_checks file p) ≡ Ok tt
-  checks =
+  entry_holds : all_hold (entry_checks file p) ≡ Ok tt
+  entry_holds =
       let sized : (nat_le 1 (long_at file p) && nat_le (long_at file p) 65536) ≡ true = rw size_is (both_true _ _ (at_most 1 e.size ok.some) (at_most e.size 65536 ok.most)) in
       let within : nat_le (long_at file (p + 4)) (long_at file p) ≡ true = rw (kept_is, size_is) (at_most e.kept e.size ok.kept) in
       let small : nat_le (byte_at file (p + 10)) 1 ≡ true = rw clean_is (at_most (bit e.clean) 1 (small_bit e.clean)) in
@@ -190,14 +190,14 @@ module _ (file : List ℕ) (p : ℕ) (e : SegmentEntry) (rest : List ℕ) (memor
       ap (λ (z : ℕ). is_place z (long_at file (p + 4)) (long_at file p)) place_number_is
       ∙ (ap (λ (z : ℕ). is_place (place_number e.place) z (long_at file p)) kept_is
       ∙ (ap (λ (z : ℕ). is_place (place_number e.place) e.kept z) size_is ∙ ok.fits)) in
-      eight_hold _ _ _ _ _ _ _ _ (fits_in file p 4 (omega (arith, room))) sized (fits_in file (p + 4) 4 (omega (arith, room))) within
-      (fits_in file (p + 8) 3 (omega (arith, room))) small (fits_in file (p + 11) 1 (omega (arith, room))) fits
+      eight_hold _ _ _ _ _ _ _ _ (fits_in file p 4 (omega (arith, entry_room))) sized (fits_in file (p + 4) 4 (omega (arith, entry_room))) within
+      (fits_in file (p + 8) 3 (omega (arith, entry_room))) small (fits_in file (p + 11) 1 (omega (arith, entry_room))) fits
 
   entry_is : entry_of file memory blocks found p ≡ Ok e
   unfolding entry_of
   entry_is =
       let few : blocks_for e.kept < 2 ^ 32 = omega (arith, ok.kept, ok.most) in
-      goes_on _ tt _ _ checks
+      goes_on _ tt _ _ entry_holds
       (goes_on _ _ _ _ (place_is file p rest memory blocks found e.size e.kept size_is kept_is few e.place place_number_is ok.place behind_front)
       (ap Ok (as_entry _ _ _ _ _ _ e size_is kept_is flags_are lock_is (ap (λ (z : ℕ). z == 1) clean_is ∙ bit_back e.clean) refl)))
 
@@ -205,7 +205,7 @@ module _ (file : List ℕ) (p : ℕ) (e : SegmentEntry) (rest : List ℕ) (memor
   unfolding segment_step
   segment_step_is q reaches =
       let long_place : length (place_bytes e.place) ≡ place_len e.place = place_length e.place memory blocks found e.size e.kept ok.place in
-      let whole_length : length (segment_bytes e) ≡ 12 + length (place_bytes e.place) = refl in
+      let whole_length : length (segment_bytes e) ≡ 12 + length (place_bytes e.place) = length-append (front_of e) (place_bytes e.place) in
       let ends : p + 12 + place_len e.place ≡ q = omega (arith, reaches, long_place, whole_length) in
       goes_on _ _ _ _ entry_is (ap (λ (z : ℕ). let r : SegmentsSoFar = record { found = found ++ e ∷ []; place = z } in Ok r) ends)
 

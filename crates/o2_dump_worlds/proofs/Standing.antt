@@ -96,7 +96,7 @@ module _ (p : Parts) (m : Maps) (c : Core) (same : c.segments ≡ map (segment_t
       let b = stands_at p.shelf h.id.key a.0 in
       record {
         entry = segment_told p.shelf p.block h.id.key;
-        there =
+        found =
             ap (λ (z : List SegmentEntry). slice_get z (place_among (numbers p.shelf) h.id.key)) same
             ∙ (told_at p.shelf p.block (place_among (numbers p.shelf) h.id.key) b.0
             ∙ ap (λ (n : ℕ). Some (segment_told p.shelf p.block n)) b.1);

@@ -85,7 +85,7 @@ pub record Describes (e : SegmentEntry) (rights : ℕ) (d : Descriptor) : Type 0
 -- what is held is a segment of the image, by its number, with as many holds as in the world and the rights that it has there
 pub record IsHold (c : Core) (name : ℕ → ℕ) (h : HeldThere) (k : Held) : Type 0 where
   pub entry : SegmentEntry
-  pub there : slice_get c.segments h.segment ≡ Some entry
+  pub found : slice_get c.segments h.segment ≡ Some entry
   pub named : name h.segment ≡ k.name
   pub holds : h.holds ≡ k.holds
   pub descriptor : Describes entry k.rights h.descriptor
