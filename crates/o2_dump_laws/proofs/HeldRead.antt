@@ -1,19 +1,18 @@
 -- What a process holds is read back.
-use Rattle.std.proofs.Common.{◌≡◌, ℕ, zero, suc, ◌+◌, ◌*◌, ◌/◌, ◌%◌, ◌<◌, ◌≤◌, ◌^◌, Bool, true, false, not, List, [], ◌∷◌, ◌++◌, length, get_or, Result, Ok, refl, sym, ap, ◌∙◌, append_assoc, append-nil, arith}
+use Rattle.std.proofs.Common.{◌≡◌, ℕ, suc, ◌+◌, ◌*◌, ◌/◌, ◌%◌, ◌<◌, ◌≤◌, ◌^◌, true, not, List, [], ◌∷◌, ◌++◌, length, get_or, Result, Ok, refl, sym, ap, ◌∙◌, append_assoc, append-nil, arith}
 use Rattle.std.specs.Prelude.{flat_map, nat_le, nat_lt, ◌==◌, ◌&&◌}
 use Rattle.std.proofs.lemmas.Bool.Decides.{nat_tests}
 use Rattle.std.proofs.lemmas.Nat.{from_le_bytes-to_le_bytes_4}
 use Rattle.o2_desc.specs.declared.descriptor.Descriptor.{Descriptor}
 use Rattle.o2_ne.specs.Words.{byte_at, long_at, word_at}
-use Rattle.o2_ne.specs.Checks.{all_hold, ◌>>=◌}
+use Rattle.o2_ne.specs.Checks.{all_hold}
 use Rattle.o2_ne.specs.Steps.{steps}
 use Rattle.o2_dump.specs.declared.fault.CoreFault.{CoreFault}
 use Rattle.o2_dump.specs.declared.parts.Held.{Held}
 use Rattle.o2_dump.specs.CoreBytes.{held_bytes}
-use Rattle.o2_dump.specs.FileFields.{descriptor_at}
 use Rattle.o2_dump.specs.ProcessEntries.{HeldSoFar, held_at, held_checks, held_step}
 use Rattle.o2_dump_laws.specs.Whole.{AreHeldWhole, IsHeldWhole}
-use Rattle.o2_dump_laws.proofs.Fields.{StandsAt, at_most, below, byte_at_is, eight_hold, file_length, fits_in, goes_on, long_is, passes, stands_next, word_is}
+use Rattle.o2_dump_laws.proofs.Fields.{StandsAt, at_most, below, byte_at_is, eight_hold, file_length, fits_in, long_is, passes, stands_next, word_is}
 
 base_joins : (n : ℕ) → n < 2 ^ 24 → n % 256 + 256 * (n / 256 % 256) + 65536 * (n / 65536) ≡ n
 base_joins n h = omega (arith, from_le_bytes-to_le_bytes_4 n (omega arith))

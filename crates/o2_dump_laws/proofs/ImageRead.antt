@@ -1,10 +1,9 @@
 -- An image is read back.
-use Rattle.std.proofs.Common.{◌≡◌, ℕ, ◌+◌, ◌<◌, ◌≤◌, ◌^◌, Bool, true, List, [], ◌∷◌, ◌++◌, length, take, min, Result, Ok, refl, sym, ap, ◌∙◌, append_assoc, append-nil, length-append, eq-eqb, arith}
-use Rattle.std.specs.Prelude.{bytes_eq, codes, flat_map, ◌==◌}
+use Rattle.std.proofs.Common.{◌≡◌, ℕ, ◌+◌, true, List, [], ◌∷◌, ◌++◌, length, take, min, Ok, refl, ap, ◌∙◌, append_assoc, eq-eqb, arith}
+use Rattle.std.specs.Prelude.{bytes_eq, codes, flat_map}
 use Rattle.o2_ne.specs.Words.{long_at, string_at}
-use Rattle.o2_ne.specs.Checks.{all_hold, ◌>>=◌}
+use Rattle.o2_ne.specs.Checks.{all_hold}
 use Rattle.o2_ne.specs.Steps.{steps}
-use Rattle.o2_dump.specs.declared.fault.CoreFault.{CoreFault}
 use Rattle.o2_dump.specs.declared.parts.Process.{Process}
 use Rattle.o2_dump.specs.declared.parts.SegmentEntry.{SegmentEntry}
 use Rattle.o2_dump.specs.declared.reader.Core.{Core}

@@ -1,9 +1,9 @@
 -- Processes are read back.
-use Rattle.std.proofs.Common.{◌≡◌, ℕ, zero, suc, ◌+◌, ◌*◌, ◌/◌, ◌%◌, ◌<◌, ◌≤◌, ◌^◌, Bool, true, false, List, [], ◌∷◌, ◌++◌, length, get_or, Result, Ok, refl, sym, ap, ◌∙◌, append_assoc, append-nil, length-append, arith}
-use Rattle.std.specs.Prelude.{flat_map, nat_le, nat_lt}
+use Rattle.std.proofs.Common.{◌≡◌, ℕ, suc, ◌+◌, ◌<◌, ◌≤◌, ◌^◌, true, List, [], ◌∷◌, ◌++◌, length, Result, Ok, refl, sym, ap, ◌∙◌, append_assoc, append-nil, length-append, arith}
+use Rattle.std.specs.Prelude.{flat_map, nat_le}
 use Rattle.o2_isa.specs.declared.cpu.Cpu.{Cpu}
-use Rattle.o2_ne.specs.Words.{byte_at, long_at, word_at}
-use Rattle.o2_ne.specs.Checks.{all_hold, ◌>>=◌}
+use Rattle.o2_ne.specs.Words.{long_at, word_at}
+use Rattle.o2_ne.specs.Checks.{all_hold}
 use Rattle.o2_ne.specs.Steps.{steps}
 use Rattle.o2_dump.specs.declared.fault.CoreFault.{CoreFault}
 use Rattle.o2_dump.specs.declared.parts.Held.{Held}
@@ -12,9 +12,9 @@ use Rattle.o2_dump.specs.declared.parts.State.{State}
 use Rattle.o2_dump.specs.declared.parts.State.TheVariants.{Live, Exited, Trapped}
 use Rattle.o2_dump.specs.CoreBytes.{held_bytes, long, process_bytes, register_bytes, state_number, word}
 use Rattle.o2_dump.specs.FileFields.{registers_at}
-use Rattle.o2_dump.specs.ProcessEntries.{HeldSoFar, ProcessesSoFar, held_of, held_step, process_at, process_checks, process_step, state_of}
+use Rattle.o2_dump.specs.ProcessEntries.{ProcessesSoFar, held_of, held_step, process_checks, process_step, state_of}
 use Rattle.o2_dump_laws.specs.Whole.{AreProcessesWhole, IsProcessWhole}
-use Rattle.o2_dump_laws.proofs.Fields.{StandsAt, at_most, file_length, fits_in, five_hold, goes_on, long_is, passes, stands_next, word_is}
+use Rattle.o2_dump_laws.proofs.Fields.{StandsAt, at_most, file_length, fits_in, five_hold, goes_on, long_is, stands_next, word_is}
 use Rattle.o2_dump_laws.proofs.HeldRead.{held_run, least_behind}
 
 same_state : (s : State) → state_of (state_number s) ≡ s

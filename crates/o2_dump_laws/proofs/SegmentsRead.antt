@@ -1,7 +1,6 @@
 -- Segments are read back.
-use Rattle.std.proofs.Common.{◌≡◌, ℕ, zero, suc, ◌+◌, ◌*◌, ◌/◌, ◌%◌, ◌<◌, ◌≤◌, ◌^◌, Bool, true, false, List, [], ◌∷◌, ◌++◌, length, take, drop, get_or, Result, Ok, refl, sym, ap, ◌∙◌, append_assoc, append-nil, length-append, eq-eqb, subst, arith}
-use Rattle.std.specs.Prelude.{flat_map, nat_le, nat_lt, ◌==◌, ◌&&◌}
-use Rattle.std.proofs.lemmas.Bool.Decides.{nat_tests}
+use Rattle.std.proofs.Common.{◌≡◌, ℕ, suc, ◌+◌, ◌*◌, ◌<◌, ◌≤◌, ◌^◌, Bool, true, false, List, [], ◌∷◌, ◌++◌, length, Result, Ok, refl, sym, ap, ◌∙◌, append_assoc, append-nil, length-append, eq-eqb, arith}
+use Rattle.std.specs.Prelude.{flat_map, nat_le, ◌==◌, ◌&&◌}
 use Rattle.o2_ne.specs.Words.{byte_at, long_at, string_at, word_at}
 use Rattle.o2_ne.specs.Checks.{all_hold, ◌>>=◌}
 use Rattle.o2_ne.specs.Steps.{steps}
@@ -10,8 +9,8 @@ use Rattle.o2_dump.specs.declared.parts.Block.{Block}
 use Rattle.o2_dump.specs.declared.parts.Place.{Place}
 use Rattle.o2_dump.specs.declared.parts.Place.TheVariants.{Zeros, Image, Memory, Swap}
 use Rattle.o2_dump.specs.declared.parts.SegmentEntry.{SegmentEntry}
-use Rattle.o2_dump.specs.CoreBytes.{bit, block_bytes, long, place_bytes, place_number, segment_bytes, word}
-use Rattle.o2_dump.specs.SegmentEntries.{SegmentsSoFar, block_at, block_checks, block_step, blocks_for, count_at, count_checks, entry_at, entry_checks, entry_of, image_at, is_block, is_place, is_range, memory_at, memory_checks, next_block, place_at, place_len, segment_step, swap_at}
+use Rattle.o2_dump.specs.CoreBytes.{bit, block_bytes, long, place_bytes, place_number, segment_bytes}
+use Rattle.o2_dump.specs.SegmentEntries.{SegmentsSoFar, block_at, block_checks, block_step, blocks_for, count_at, entry_checks, entry_of, image_at, is_block, is_place, is_range, memory_at, next_block, place_at, place_len, segment_step, swap_at}
 use Rattle.o2_dump_laws.specs.Whole.{AreBlocksWhole, AreSegmentsWhole, IsBlockWhole, IsPlaceWhole, IsSegmentWhole}
 use Rattle.o2_dump_laws.proofs.Fields.{StandsAt, at_most, byte_at_is, eight_hold, file_length, both_true, fits_in, goes_on, long_is, one_holds, passes, stands_next, string_is, three_hold, two_hold, word_is}
 

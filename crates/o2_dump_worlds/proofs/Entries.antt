@@ -1,28 +1,26 @@
 -- Each segment of an image is one of the world.
-use Rattle.std.proofs.Common.{◌≡◌, ℕ, zero, suc, ◌+◌, ◌/◌, ◌%◌, ◌<◌, ◌≤◌, List, [], ◌∷◌, length, get_or, Bool, true, false, cond, Option, Some, None, IsSome, is_some, eqb, refl, sym, ap, ◌∙◌, map, option_map, subst, arith, inl, inr}
+use Rattle.std.proofs.Common.{◌≡◌, ℕ, ◌+◌, ◌/◌, ◌%◌, ◌<◌, ◌≤◌, List, length, get_or, Bool, true, false, cond, Option, Some, None, IsSome, is_some, refl, sym, ap, ◌∙◌, map, option_map, subst, arith, inl, inr}
 use Rattle.std.specs.Prelude.{nat_lt, slice_get, ◌==◌}
 use Rattle.std.proofs.lemmas.Bool.{cases_lt, cond-true, cond-false, false≢true}
 use Rattle.std.proofs.lemmas.Bool.Decides.{nat_tests}
 use Rattle.std.proofs.lemmas.List.{get_or-map, get_or_past, length-map}
-use Rattle.std.proofs.lemmas.Option.{get_or_from_slice_get, slice_get-get_or, slice_get-map, slice_get_within}
+use Rattle.std.proofs.lemmas.Option.{slice_get-get_or, slice_get-map, slice_get_within}
 use Rattle.o2_dump.specs.declared.parts.Block.{Block}
-use Rattle.o2_dump.specs.declared.parts.Place.TheVariants.{Memory, Swap}
+use Rattle.o2_dump.specs.declared.parts.Place.TheVariants.{Swap}
 use Rattle.o2_dump.specs.declared.parts.SegmentEntry.{SegmentEntry}
 use Rattle.o2_dumping.specs.Told.{block_told, blocks_told, entry_told, numbers, place_among, place_told, segment_told}
 use Rattle.o2_dumping.proofs.Lists.{is_place}
 use Rattle.o2_entries.specs.declared.Entry.{Entry}
 use Rattle.o2_entries.specs.Tables.{slot_at}
-use Rattle.o2_entries.proofs.Numbers.{at_rank, below_rank, from_rank, listed_lives, rank, rank-le, rises}
+use Rattle.o2_entries.proofs.Numbers.{at_rank, below_rank, from_rank, listed_lives, rank, rank-le}
 use Rattle.o2_segbus.specs.Seen.{key_of}
-use Rattle.o2_segbus.proofs.Ages.{aged_key}
 use Rattle.o2_stands.specs.Parts.{Parts}
-use Rattle.o2_stands.specs.Stands.{IsNamed as IsNamedThere, IsSegment as IsSegmentThere}
-use Rattle.o2_stands.proofs.Rooms.{found_at}
+use Rattle.o2_stands.specs.Stands.{IsNamed as IsNamedThere}
 use Rattle.o2_store.specs.declared.brought.Place.{Place as PlaceThere}
 use Rattle.o2_store.specs.declared.brought.Place.TheVariants as there
 use Rattle.o2_store.specs.Pictures.{picture}
-use Rattle.o2_store.specs.Shelf.{IsSegmentAt, IsShelf, Pictures, Shelf, blocks_for, byte_in, entry, entry_or, kept_of, out_byte, place_of, shown_at, shown_out, source_byte as source_there, stored_byte}
-use Rattle.o2_swapmap.specs.Piles.{Blocks, blocks_of}
+use Rattle.o2_store.specs.Shelf.{IsSegmentAt, IsShelf, Pictures, Shelf, blocks_for, byte_in, entry, kept_of, out_byte, place_of, shown_out, source_byte as source_there, stored_byte}
+use Rattle.o2_swapmap.specs.Piles.{blocks_of}
 use Rattle.o2_world.specs.World.{Segment}
 use Rattle.o2_dump_worlds.specs.StandsFor.{IsNamed, IsSegment, base_of, byte_of, has_blocks, no_block, source_byte}
 

@@ -1,5 +1,5 @@
 -- The image of a machine stands for the world that the machine stands for.
-use Rattle.std.proofs.Common.{◌≡◌, ℕ, zero, suc, ◌+◌, ◌-◌, ◌<◌, ◌≤◌, List, [], ◌∷◌, length, get_or, Bool, true, false, Option, Some, None, IsSome, is_some, cond, refl, sym, ap, ◌∙◌, map, option_map, subst, arith, inl, inr}
+use Rattle.std.proofs.Common.{◌≡◌, ℕ, suc, ◌+◌, ◌<◌, List, [], ◌∷◌, length, get_or, Bool, true, false, Option, Some, None, IsSome, is_some, cond, refl, sym, ap, ◌∙◌, map, option_map, subst, arith, inl, inr}
 use Rattle.std.specs.Prelude.{slice_get, ◌==◌}
 use Rattle.std.proofs.lemmas.Bool.{cases_lt, eqb-true, false≢true}
 use Rattle.std.proofs.lemmas.List.{length-map}
@@ -24,20 +24,18 @@ use Rattle.o2_stands.specs.Parts.{Parts, held_in, held_of}
 use Rattle.o2_stands.specs.Stands.{AreLawful, IsNamed as IsNamedThere, IsSetTo, Stands}
 use Rattle.o2_stands.proofs.Rooms.{found_at}
 use Rattle.o2_stands.proofs.Worlds.{number_is}
-use Rattle.o2_store.specs.declared.brought.Place.{Place as PlaceThere}
 use Rattle.o2_store.specs.declared.brought.Place.TheVariants as there
 use Rattle.o2_store.specs.Pictures.{picture}
-use Rattle.o2_store.specs.Shelf.{Shelf, aged, entry, entry_of, entry_or, place_of, shown_at, shown_out}
+use Rattle.o2_store.specs.Shelf.{Shelf, aged, entry, entry_of, entry_or, place_of, shown_out}
 use Rattle.o2_swapmap.specs.Piles.{all_of}
 use Rattle.o2_world.specs.declared.types.State.{State}
 use Rattle.o2_world.specs.declared.types.State.TheVariants.{Live, Exited, Trapped}
-use Rattle.o2_world.specs.Holders.{process_at}
 use Rattle.o2_world.specs.Known.{held_at as held_world}
-use Rattle.o2_world.specs.Map.{Map, get}
+use Rattle.o2_world.specs.Map.{get}
 use Rattle.o2_world.specs.Sound.{held_of as held_by}
 use Rattle.o2_world.specs.World.{Held, Process, Segment, Setting, World}
 use Rattle.o2_dump_worlds.specs.Rows.{number_shown, row_of}
-use Rattle.o2_dump_worlds.specs.StandsFor.{AreProcesses, AreSegments, Describes, ImageStandsFor, IsHeldAs, IsHold, IsNamed, IsProcess, base_of, code_shown, held_under, start_of, state_shown}
+use Rattle.o2_dump_worlds.specs.StandsFor.{AreProcesses, AreSegments, Describes, ImageStandsFor, IsHeldAs, IsHold, IsNamed, base_of, held_under, start_of, state_shown}
 use Rattle.o2_dump_worlds.proofs.Entries.{lives, named_is, stands_at, told_at, told_is, within}
 use Rattle.o2_dump_worlds.proofs.Holding.{listed_at, listed_is}
 
@@ -133,16 +131,17 @@ processes_are : (c : Core) (name : ℕ → ℕ) (s : Shelf) (m : Maps) (n : ℕ)
     → AreProcesses c name n (processes_from s m n (map row_of qs)) qs
 unfolding process_told
 processes_are c name s m n [] held = tt
-processes_are c name s m n (q ∷ qs) held =
-    (record {
-      number = refl;
-      state = state_is q.state;
-      code = refl;
-      registers = refl;
-      held = λ i. (let z : n + 0 ≡ n = omega arith in subst (λ (k : ℕ). IsHeldAs c name (held_under (all_held s m k) i) (get q.held i)) z (held 0 q refl i));
-    },
-    processes_are c name s m (n + 1) qs
-    (λ k x e i. let z : n + suc k ≡ n + 1 + k = omega arith in subst (λ (j : ℕ). IsHeldAs c name (held_under (all_held s m j) i) (get x.held i)) z (held (suc k) x e i)))
+processes_are c name s m n (q ∷ qs) held = (
+  record {
+    number = refl;
+    state = state_is q.state;
+    code = refl;
+    registers = refl;
+    held = λ i. (let z : n + 0 ≡ n = omega arith in subst (λ (k : ℕ). IsHeldAs c name (held_under (all_held s m k) i) (get q.held i)) z (held 0 q refl i));
+  },
+  processes_are c name s m (n + 1) qs
+      (λ k x e i. let z : n + suc k ≡ n + 1 + k = omega arith in subst (λ (j : ℕ). IsHeldAs c name (held_under (all_held s m j) i) (get x.held i)) z (held (suc k) x e i)),
+)
 
 -- ---- segments
 
