@@ -1,4 +1,4 @@
-"""Core images, as docs/machine.md and crates/o2_dump/README.md have them: bytes from segments, memory and processes."""
+"""Core images, as docs/machine.md and crates/o2_dump/README.md have them: bytes from segments, memory and processes, and back."""
 import struct
 
 REGISTERS = ("ax", "cx", "dx", "bx", "sp", "bp", "si", "di", "ip", "flags", "cs", "ds", "es", "ss")
@@ -50,3 +50,110 @@ def small():
         process(1, 0, 0, first, ax=1, sp=510, ip=16, flags=2, cs=0x17, ds=0x1F, ss=0x1F),
         process(2, 2, 13, second, ip=7, flags=2, cs=0x17, ds=0x1F, ss=0x1F),
     ], 1000, 28)
+
+
+class Refused(Exception):
+    """Why a file is no core image, as os2core says it."""
+
+
+class Entry:
+    """A segment of an image that was read. Its place is as `segment` has it, and its bytes are known but where they stay with an image."""
+
+    def __init__(self, size, kept, flags, lock, clean, place, content):
+        self.size, self.kept, self.flags, self.lock, self.clean, self.place = size, kept, flags, lock, clean, place
+        self.bytes = None if content is None else content[:kept] + bytes(size - kept)
+
+
+class Read:
+    """An image, read by the rules of its format; faults come in the order of the bytes."""
+
+    def __init__(self, file):
+        self.file, self.at = file, 0
+        if file[:8] != b"OS2CORE1"[: len(file)]:
+            raise Refused("it doesn't begin with OS2CORE1")
+        self.number(8)
+        size, self.blocks, segments, processes = (self.number(4) for _ in range(4))
+        self.steps, self.console = self.number(8), self.number(8)
+        self.size, self.ranges, self.used, self.segments = size, [], set(), []
+        for _ in range(segments):
+            self.segments.append(self.segment())
+        self.memory = self.bytes(size)
+        for entry in self.segments:
+            if entry.place and entry.place[0] == "memory":
+                entry.bytes = self.memory[entry.place[1] :][: entry.size]
+        self.processes, last = {}, -1
+        for _ in range(processes):
+            last = self.process(last)
+        self.bad(self.at, self.number(4) != int.from_bytes(b"END!", "little"))
+        if self.at < len(file):
+            raise Refused(f"it goes on behind its end at {self.at:X}h")
+
+    def bytes(self, count):
+        if self.at + count > len(self.file):
+            raise Refused(f"it ends at {len(self.file):X}h, within a field")
+        self.at += count
+        return self.file[self.at - count : self.at]
+
+    def number(self, count):
+        return int.from_bytes(self.bytes(count), "little")
+
+    def bad(self, place, is_bad):
+        if is_bad:
+            raise Refused(f"what begins at {place:X}h is bad")
+
+    def segment(self):
+        start = self.at
+        size = self.number(4)
+        self.bad(start, not 1 <= size <= 65536)
+        kept = self.number(4)
+        self.bad(start, kept > size)
+        flags, lock, clean = self.number(1), self.number(1), self.number(1)
+        self.bad(start, clean > 1)
+        kind = self.number(1)
+        self.bad(start, kind > 3 or kind == 0 and kept > 0 or kind == 2 and kept < size)
+        place, content = None, b""
+        if kind == 1:
+            place, content = ("image", self.number(2), self.number(2)), None
+        elif kind == 2:
+            base = self.number(4)
+            top = base + (size + 15) // 16 * 16
+            self.bad(start, top > self.size or any(base < other_top and other < top for other, other_top in self.ranges))
+            self.ranges.append((base, top))
+            place = ("memory", base)
+        elif kind == 3:
+            count = self.number(4)
+            self.bad(start, count != (kept + 511) // 512)
+            held = [self.block(start) for _ in range(count)]
+            place, content = ("swap", held), b"".join(bytes_ for _, bytes_ in held)
+        return Entry(size, kept, flags, lock, clean, place, content)
+
+    def block(self, start):
+        number = self.number(4)
+        self.bad(start, number >= self.blocks or number in self.used)
+        self.used.add(number)
+        return number, self.bytes(512)
+
+    def process(self, last):
+        """Its state, its code, its registers by name, and by index what it holds: limit, base, access byte, segment and holds."""
+        start = self.at
+        number = self.number(2)
+        self.bad(start, number <= last)
+        state = self.number(2)
+        self.bad(start, state > 2)
+        code = self.number(2)
+        registers = {name: self.number(2) for name in REGISTERS}
+        entries, before = {}, -1
+        for _ in range(self.number(4)):
+            start = self.at
+            index = self.number(2)
+            self.bad(start, index <= before)
+            before = index
+            limit, base, access = self.number(2), self.number(3), self.number(1)
+            self.bad(start, self.number(2) != 0)
+            segment = self.number(4)
+            self.bad(start, segment >= len(self.segments))
+            holds = self.number(4)
+            self.bad(start, holds == 0)
+            entries[index] = (limit, base, access, segment, holds)
+        self.processes[number] = (state, code, registers, entries)
+        return number

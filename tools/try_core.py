@@ -42,80 +42,11 @@ process 2 was ended by exception 13
 """
 
 
-class Refused(Exception):
-    pass
-
-
 def judged(file):
-    """Why a file is no core image, as os2core says it, or None. Faults come in the order of the bytes."""
-    at = 0
-
-    def number(count):
-        nonlocal at
-        if at + count > len(file):
-            raise Refused(f"it ends at {len(file):X}h, within a field")
-        at += count
-        return int.from_bytes(file[at - count : at], "little")
-
-    def bad(place, is_bad):
-        if is_bad:
-            raise Refused(f"what begins at {place:X}h is bad")
-
+    """Why a file is no core image, as os2core says it, or None."""
     try:
-        if file[:8] != b"OS2CORE1"[: len(file)]:
-            raise Refused("it doesn't begin with OS2CORE1")
-        number(8)
-        memory, blocks, segments, processes = (number(4) for _ in range(4))
-        number(8), number(8)
-        ranges, used = [], set()
-        for _ in range(segments):
-            place = at
-            size = number(4)
-            bad(place, not 1 <= size <= 65536)
-            kept = number(4)
-            bad(place, kept > size)
-            number(2)
-            bad(place, number(1) > 1)
-            kind = number(1)
-            bad(place, kind > 3 or kind == 0 and kept > 0 or kind == 2 and kept < size)
-            if kind == 1:
-                number(4)
-            elif kind == 2:
-                base = number(4)
-                top = base + (size + 15) // 16 * 16
-                bad(place, top > memory or any(base < other_top and other < top for other, other_top in ranges))
-                ranges.append((base, top))
-            elif kind == 3:
-                count = number(4)
-                bad(place, count != (kept + 511) // 512)
-                for _ in range(count):
-                    block = number(4)
-                    bad(place, block >= blocks or block in used)
-                    used.add(block)
-                    number(512)
-        number(memory)
-        last = -1
-        for _ in range(processes):
-            place = at
-            told = number(2)
-            bad(place, told <= last)
-            last = told
-            bad(place, number(2) > 2)
-            number(30)
-            index_before = -1
-            for _ in range(number(4)):
-                place = at
-                index = number(2)
-                bad(place, index <= index_before)
-                index_before = index
-                number(6)
-                bad(place, number(2) != 0)
-                bad(place, number(4) >= segments)
-                bad(place, number(4) == 0)
-        bad(at, number(4) != int.from_bytes(b"END!", "little"))
-        if at < len(file):
-            raise Refused(f"it goes on behind its end at {at:X}h")
-    except Refused as why:
+        core_image.Read(file)
+    except core_image.Refused as why:
         return str(why)
     return None
 
