@@ -48,6 +48,7 @@ fn put<C: Sink, S: SwapDevice>(
     requires process { IsProcess regions.now 1 }
     requires settled { IsSettled store.now regions.now }
     requires device { all_of store.now.swap ≤ S.blocks swap.old }
+    ensures { S.blocks swap.new ≡ S.blocks swap.old }
 {
     let processes = [(CPU, 1, 7)];
     let parts = Parts {

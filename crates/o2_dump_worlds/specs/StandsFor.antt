@@ -47,6 +47,13 @@ has_blocks (Image m k) = false
 has_blocks (Memory base) = false
 has_blocks (Swap bs) = true
 
+-- its kept bytes are those of an image, and so not in the core image
+abbrev pub stays : Place → Bool
+stays Zeros = false
+stays (Image m k) = true
+stays (Memory base) = false
+stays (Swap bs) = false
+
 -- an entry is a segment of the world: its size, its bytes and its marks. One that is locked is in memory, and a clean one has no blocks
 pub record IsSegment (pic : Pictures) (memory : List ℕ) (e : SegmentEntry) (s : Segment) : Type 0 where
   pub size : length s.bytes ≡ e.size

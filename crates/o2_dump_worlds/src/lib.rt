@@ -3,4 +3,4 @@
 
 mod laws;
 
-pub use laws::images_stand_for_worlds;
+pub use laws::{images_stand_for_worlds, segments_are_read};
