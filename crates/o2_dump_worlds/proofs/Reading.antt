@@ -51,12 +51,15 @@ right_at xs ys i l =
     let e : i ≡ length xs + (i - length xs) = omega arith in
     ap (λ (z : ℕ). get_or (xs ++ ys) z 0) e ∙ get_or-append-add xs ys (i - length xs) 0
 
-zeros_at : (n i : ℕ) → get_or (replicate n 0) i 0 ≡ 0
+abbrev zeros : ℕ → List ℕ
+zeros n = replicate n 0
+
+zeros_at : (n i : ℕ) → get_or (zeros n) i 0 ≡ 0
 zeros_at zero i = refl
 zeros_at (suc n) zero = refl
 zeros_at (suc n) (suc i) = zeros_at n i
 
-zeros_long : (n : ℕ) → length (replicate n 0) ≡ n
+zeros_long : (n : ℕ) → length (zeros n) ≡ n
 zeros_long zero = refl
 zeros_long (suc n) = let a = zeros_long n in omega (arith, a)
 
@@ -128,11 +131,11 @@ kept_are pic memory blocks found size kept (Swap bs) ok fits away =
     }
 
 -- kept bytes, and zeros behind them
-filled_at : (ks : List ℕ) (kept size j x : ℕ) → length ks ≡ kept → (j < kept → get_or ks j 0 ≡ x) → get_or (ks ++ replicate (size - length ks) 0) j 0 ≡ cond (nat_lt j kept) x 0
+filled_at : (ks : List ℕ) (kept size j x : ℕ) → length ks ≡ kept → (j < kept → get_or ks j 0 ≡ x) → get_or (ks ++ zeros (size - length ks)) j 0 ≡ cond (nat_lt j kept) x 0
 filled_at ks kept size j x long at = elim (cases_lt j kept) [
-  | inl l ↦ left_at ks (replicate (size - length ks) 0) j (omega (arith, long, l)) ∙ (at l ∙ sym (cond-true (nat_lt j kept) x 0 (grind (arith, nat_tests))))
+  | inl l ↦ left_at ks (zeros (size - length ks)) j (omega (arith, long, l)) ∙ (at l ∙ sym (cond-true (nat_lt j kept) x 0 (grind (arith, nat_tests))))
   | inr l ↦
-      (right_at ks (replicate (size - length ks) 0) j (omega (arith, long, l))
+      (right_at ks (zeros (size - length ks)) j (omega (arith, long, l))
       ∙ (zeros_at (size - length ks) (j - length ks) ∙ sym (cond-false (nat_lt j kept) x 0 (grind (arith, nat_tests)))))
 ]
 
@@ -140,8 +143,8 @@ bytes_are : (pic : Pictures) (memory : List ℕ) (blocks : ℕ) (found : List Se
     → stays e.place ≡ false → IsSegment pic memory e x → bytes_of memory e ≡ x.bytes
 bytes_are pic memory blocks found e x ok away is =
     let kept : AreKept pic memory e.kept e.place = kept_are pic memory blocks found e.size e.kept e.place ok.place ok.fits away in
-    let long : length (kept_bytes memory e.kept e.place ++ replicate (e.size - length (kept_bytes memory e.kept e.place)) 0) ≡ e.size =
-    omega (arith, length-append (kept_bytes memory e.kept e.place) (replicate (e.size - length (kept_bytes memory e.kept e.place)) 0), zeros_long (e.size - length (kept_bytes memory e.kept e.place)), kept.long, ok.kept) in
+    let long : length (kept_bytes memory e.kept e.place ++ zeros (e.size - length (kept_bytes memory e.kept e.place))) ≡ e.size =
+    omega (arith, length-append (kept_bytes memory e.kept e.place) (zeros (e.size - length (kept_bytes memory e.kept e.place))), zeros_long (e.size - length (kept_bytes memory e.kept e.place)), kept.long, ok.kept) in
     ext_get_or 0 (bytes_of memory e) x.bytes (long ∙ sym is.size)
     (λ j l.
     filled_at (kept_bytes memory e.kept e.place) e.kept e.size j (source_byte pic memory e.place j) kept.long (kept.at j)

@@ -1,5 +1,5 @@
 -- An image, part by part.
-use Rattle.std.proofs.Common.{◌≡◌, ℕ, ◌+◌, List, [], ◌∷◌, ◌++◌, length, map, refl, sym, ap, ◌∙◌, append_assoc, add-one, suc}
+use Rattle.std.proofs.Common.{◌≡◌, ℕ, ◌+◌, List, [], ◌∷◌, ◌++◌, length, refl, ap, ◌∙◌, append_assoc, suc}
 use Rattle.std.specs.Prelude.{codes, flat_map}
 use Rattle.std.proofs.lemmas.List.{length-map}
 use Rattle.o2_regions.specs.Maps.{Maps}
@@ -7,7 +7,7 @@ use Rattle.o2_store.specs.Shelf.{Shelf}
 use Rattle.o2_dump.specs.CoreBytes.{core_bytes, head_bytes, long, process_bytes, quad, segment_bytes}
 use Rattle.o2_dumping.specs.Told.{Row, core_told, numbers, processes_from, segment_told, segments_told}
 
-many_processes : (s : Shelf) (m : Maps) (pid : ℕ) (ps : List Row) → length (processes_from s m pid ps) ≡ length ps
+pub many_processes : (s : Shelf) (m : Maps) (pid : ℕ) (ps : List Row) → length (processes_from s m pid ps) ≡ length ps
 many_processes s m pid [] = refl
 many_processes s m pid (p ∷ ps) = ap (λ (n : ℕ). suc n) (many_processes s m (pid + 1) ps)
 

@@ -4,3 +4,7 @@ pub mod Holding
 pub mod Segmenting
 pub mod Imaging
 pub mod Settling
+pub mod Fitting
+pub mod SegmentsWhole
+pub mod ProcessesWhole
+pub mod ImageWhole

@@ -1,5 +1,5 @@
 -- How a text is put in parts, and what a device keeps that is read.
-use Rattle.std.proofs.Common.{◌≡◌, ℕ, ◌+◌, ◌≤◌, List, [], ◌++◌, Option, Bool, IsTrue, ◌-◌, ◌^◌, min, refl, sym, ap, ◌∙◌, append_assoc, append-nil, subst, arith}
+use Rattle.std.proofs.Common.{◌≡◌, ℕ, ◌+◌, ◌≤◌, List, [], ◌++◌, Option, Bool, ◌-◌, ◌^◌, min, refl, sym, ap, ◌∙◌, append_assoc, append-nil, subst, arith}
 use Rattle.o2_outer.specs.declared.sink.Put.{Put}
 use Rattle.o2_outer.specs.declared.sink.Put.TheVariants as put
 use Rattle.o2_outer.specs.Texts.{Gains, GainsSome, IsPrefix, Rose}

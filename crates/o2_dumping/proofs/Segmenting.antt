@@ -1,17 +1,17 @@
 -- Segments and their blocks, part by part.
-use Rattle.std.proofs.Common.{◌≡◌, ℕ, zero, suc, ◌+◌, ◌/◌, ◌<◌, List, [], ◌∷◌, ◌++◌, length, drop, get_or, Bool, true, false, Option, Some, None, IsSome, is_some, eqb, refl, sym, ap, ◌∙◌, append_assoc, append-nil, map, option_map, subst, arith}
-use Rattle.std.specs.Prelude.{flat_map, slice_get, if◌then◌else◌, ◌==◌}
+use Rattle.std.proofs.Common.{◌≡◌, ℕ, zero, suc, ◌+◌, ◌<◌, List, [], ◌∷◌, ◌++◌, length, drop, get_or, true, Option, Some, None, IsSome, eqb, refl, sym, ap, ◌∙◌, append_assoc, append-nil, map, option_map, subst, arith}
+use Rattle.std.specs.Prelude.{flat_map, slice_get}
 use Rattle.std.proofs.lemmas.Bool.Decides.{nat_tests}
 use Rattle.std.proofs.lemmas.List.{length-map}
-use Rattle.std.proofs.lemmas.Option.{slice_get_within, get_or_from_slice_get, slice_get-get_or}
+use Rattle.std.proofs.lemmas.Option.{get_or_from_slice_get, slice_get-get_or}
 use Rattle.o2_entries.specs.declared.Entry.{Entry}
-use Rattle.o2_entries.specs.Tables.{live_numbers, slot_at}
+use Rattle.o2_entries.specs.Tables.{slot_at}
 use Rattle.o2_entries.proofs.Numbers.{listed_lives}
 use Rattle.o2_place.specs.declared.seg_id.SegId.{SegId}
 use Rattle.o2_swapmap.specs.Piles.{Blocks as BlocksThere, blocks_of}
 use Rattle.o2_store.specs.declared.brought.Place.{Place as PlaceThere}
 use Rattle.o2_store.specs.declared.brought.Place.TheVariants as there
-use Rattle.o2_store.specs.Shelf.{IsShelf, Shelf, block_of, blocks_for, entry, entry_of, entry_or, kept_of, numbered, place_of, shown_at, shown_out}
+use Rattle.o2_store.specs.Shelf.{IsShelf, Shelf, block_of, blocks_for, entry_of, entry_or, kept_of, numbered, place_of, shown_at, shown_out}
 use Rattle.o2_store.proofs.Tables.{aged_is}
 use Rattle.o2_dump.specs.declared.parts.Block.{Block}
 use Rattle.o2_dump.specs.CoreBytes.{bit, block_bytes, long, place_bytes, place_number, segment_bytes, word}

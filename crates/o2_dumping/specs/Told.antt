@@ -1,6 +1,6 @@
 -- What a core image tells of a machine over a store: its memory as it is, its segments by rising number, and its processes. A
 -- segment's number in the image is its place among the numbers that have one, and not its own number.
-use Rattle.std.specs.Prelude.{ℕ, ◌+◌, ◌==◌, List, [], ◌∷◌, ◌++◌, length, map, flat_map, nat_lt, count_by, Option, Some, None, slice_index_or}
+use Rattle.std.specs.Prelude.{ℕ, ◌+◌, List, [], ◌∷◌, map, flat_map, nat_lt, count_by, Option, Some, None, slice_index_or}
 use Rattle.std.specs.List.{range_with_len}
 use Rattle.o2_desc.specs.declared.descriptor.Descriptor.{Descriptor}
 use Rattle.o2_desc.specs.Bytes.{empty}

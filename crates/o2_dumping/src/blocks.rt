@@ -5,6 +5,7 @@ ghost use Rattle.o2_outer.specs.Answers.{Takes, OnFailed};
 ghost use Rattle.o2_swapmap.specs.Piles.{all_of, blocks_of};
 ghost use Rattle.o2_store.specs.Shelf.{entry_of};
 ghost use Rattle.o2_dump.specs.CoreBytes.{block_bytes, long};
+ghost use Rattle.o2_dumping.specs.Fits.{AreLong};
 ghost use Rattle.o2_dumping.specs.Puts.{HasCauses, IsRead, Writes};
 ghost use Rattle.o2_dumping.specs.Told.{block_told, blocks_told};
 
@@ -31,6 +32,7 @@ fn put_block<C: Sink, S: SwapDevice>(number: u32, console: &mut C, swap: &mut S)
     requires { number < S.blocks swap.old }
     ensures text { IsTrue (S.told swap.new) → Writes (C.taken console.old) (C.taken console.new)
         (block_bytes (block_told (S.block swap.old) number)) result }
+    ensures long { IsTrue (S.told swap.new) → result ≡ Wrote.Done → length (S.block swap.old number) ≡ 512 }
     ensures read { IsRead (S.blocks swap.old) (S.blocks swap.new)
         (S.told swap.old) (S.told swap.new) (S.block swap.old) (S.block swap.new) }
     ensures causes { HasCauses (C.faults console.old) (C.faults console.new)
@@ -74,6 +76,8 @@ pub(crate) fn put_blocks<C: Sink, S: SwapDevice>(
     requires device { all_of store.now.swap ≤ S.blocks swap.old }
     ensures text { IsTrue (S.told swap.new) → Writes (C.taken console.old) (C.taken console.new)
         (flat_map block_bytes (blocks_told store.now (S.block swap.old) id.key)) result }
+    ensures long { IsTrue (S.told swap.new) → result ≡ Wrote.Done
+        → AreLong (S.block swap.old) (blocks_of store.now.swap id.key) count }
     ensures read { IsRead (S.blocks swap.old) (S.blocks swap.new)
         (S.told swap.old) (S.told swap.new) (S.block swap.old) (S.block swap.new) }
     ensures causes { HasCauses (C.faults console.old) (C.faults console.new)

@@ -1,5 +1,5 @@
 // A piece of an image before it is put.
-ghost use Rattle.std.specs.Prelude.{◌≡◌, ◌+◌, ◌<◌, ◌≤◌, ◌++◌, ◌∷◌, [], List, ℕ, length, take};
+ghost use Rattle.std.specs.Prelude.{◌≡◌, ◌+◌, ◌<◌, ◌≤◌, ◌^◌, ◌++◌, ◌∷◌, [], List, ℕ, length, take};
 ghost use Rattle.o2_dump.specs.CoreBytes.{word, long, quad};
 
 use std::marker::Model;
@@ -61,6 +61,7 @@ impl Piece {
     // Adds a number in two bytes.
     pub(crate) fn push_word(&mut self, n: u16)
         requires { length self.old + 2 ≤ 64 }
+        ensures fits { n < 2 ^ 16 }
         ensures text { self.new ≡ self.old ++ word n }
         ensures len { length self.new ≡ length self.old + 2 }
     {
@@ -70,6 +71,7 @@ impl Piece {
     // Adds a number in four bytes.
     pub(crate) fn push_long(&mut self, n: u32)
         requires { length self.old + 4 ≤ 64 }
+        ensures fits { n < 2 ^ 32 }
         ensures text { self.new ≡ self.old ++ long n }
         ensures len { length self.new ≡ length self.old + 4 }
     {
@@ -79,6 +81,7 @@ impl Piece {
     // Adds a number in eight bytes.
     pub(crate) fn push_quad(&mut self, n: u64)
         requires { length self.old + 8 ≤ 64 }
+        ensures fits { n < 2 ^ 64 }
         ensures text { self.new ≡ self.old ++ quad n }
         ensures len { length self.new ≡ length self.old + 8 }
     {

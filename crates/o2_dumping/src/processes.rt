@@ -1,13 +1,15 @@
 // The processes of an image.
-ghost use Rattle.std.specs.Prelude.{◌≡◌, ℕ, ◌+◌, ◌<◌, ◌≤◌, ◌^◌, ◌++◌, length, flat_map, Some};
+ghost use Rattle.std.specs.Prelude.{◌≡◌, ℕ, ◌+◌, ◌<◌, ◌≤◌, ◌^◌, ◌++◌, length, flat_map, slice_get, Some};
 ghost use Rattle.o2_outer.specs.Texts.{Rose};
 ghost use Rattle.o2_outer.specs.Answers.{Takes, OnFailed};
 ghost use Rattle.o2_store.specs.Shelf.{Shelf};
-ghost use Rattle.o2_regions.specs.Maps.{IsProcess};
+ghost use Rattle.o2_regions.specs.Maps.{IsProcess, held_at};
 ghost use Rattle.o2_dump.specs.CoreBytes.{held_bytes, process_bytes, register_bytes, word, long};
 ghost use Rattle.o2_dump.specs.ProcessEntries.{state_of};
+ghost use Rattle.o2_dump_laws.specs.Whole.{AreWords};
 ghost use Rattle.o2_dump.specs.CoreBytes.{state_number};
-ghost use Rattle.o2_dumping.specs.Told.{all_held, descriptor_at, held_told, hold_told, process_told, processes_from};
+ghost use Rattle.o2_dumping.specs.Fits.{IsFitHold, IsFitRow};
+ghost use Rattle.o2_dumping.specs.Told.{all_held, descriptor_at, held_told, hold_told, process_told, processes_from, Row};
 
 use crate::piece::Piece;
 use crate::places::place_among;
@@ -23,8 +25,9 @@ const INDEXES: u16 = 8192;
 // What is held at an index, with its descriptor.
 fn hold_piece(store: &Store, index: u16, descriptor: &Descriptor, held: &Held) -> Piece
     requires { descriptor.now.base < 2 ^ 24 }
-    ensures { result
+    ensures text { result
         ≡ flat_map held_bytes (hold_told store.now index descriptor.now (Some held.now)) }
+    ensures fits { held.now.holds < 2 ^ 32 }
 {
     let mut piece = Piece::new();
     piece.push_word(index);
@@ -41,6 +44,7 @@ fn put_hold<C: Sink>(store: &Store, regions: &Regions, pid: u16, index: u16, con
     requires base { (descriptor_at regions.now pid index).base < 2 ^ 24 }
     ensures text { Takes (C.taken console.old) (C.taken console.new)
         (flat_map held_bytes (held_told store.now regions.now pid index)) result }
+    ensures fits { IsFitHold (held_at regions.now pid index) }
     ensures count { C.faults console.old ≤ C.faults console.new }
     ensures cause { OnFailed result (Rose (C.faults console.old) (C.faults console.new)) }
 {
@@ -76,6 +80,7 @@ fn put_holds<C: Sink>(store: &Store, regions: &Regions, pid: u16, console: &mut 
     requires base { (i : ℕ) → (descriptor_at regions.now pid i).base < 2 ^ 24 }
     ensures text { Takes (C.taken console.old) (C.taken console.new)
         (flat_map held_bytes (all_held store.now regions.now pid)) result }
+    ensures fits { result ≡ Put.Done → (i : ℕ) → i < 8192 → IsFitHold (held_at regions.now pid i) }
     ensures count { C.faults console.old ≤ C.faults console.new }
     ensures cause { OnFailed result (Rose (C.faults console.old) (C.faults console.new)) }
 {
@@ -92,6 +97,7 @@ fn put_holds<C: Sink>(store: &Store, regions: &Regions, pid: u16, console: &mut 
 fn push_registers(piece: &mut Piece, cpu: &Cpu)
     requires { length piece.old + 28 ≤ 64 }
     ensures text { piece.new ≡ piece.old ++ register_bytes cpu.now }
+    ensures fits { AreWords cpu.now }
     ensures len { length piece.new ≡ length piece.old + 28 }
 {
     for register in [
@@ -104,8 +110,9 @@ fn push_registers(piece: &mut Piece, cpu: &Cpu)
 
 // What is told of a process in front of what it holds.
 fn process_piece(pid: u16, row: &(Cpu, u16, u16), held: u32) -> Piece
-    ensures { result ≡ word pid ++ word (state_number (state_of row.now.1)) ++ word row.now.2
+    ensures text { result ≡ word pid ++ word (state_number (state_of row.now.1)) ++ word row.now.2
         ++ register_bytes row.now.0 ++ long held }
+    ensures fits { IsFitRow row.now }
 {
     let (cpu, state, code) = *row;
     let mut piece = Piece::new();
@@ -129,6 +136,8 @@ fn put_process<C: Sink>(
     requires base { (i : ℕ) → (descriptor_at regions.now pid i).base < 2 ^ 24 }
     ensures text { Takes (C.taken console.old) (C.taken console.new)
         (process_bytes (process_told store.now regions.now pid row.now)) result }
+    ensures row { IsFitRow row.now }
+    ensures fits { result ≡ Put.Done → (i : ℕ) → i < 8192 → IsFitHold (held_at regions.now pid i) }
     ensures count { C.faults console.old ≤ C.faults console.new }
     ensures cause { OnFailed result (Rose (C.faults console.old) (C.faults console.new)) }
 {
@@ -151,6 +160,9 @@ pub(crate) fn put_processes<C: Sink>(
     requires base { (pid i : ℕ) → (descriptor_at regions.now pid i).base < 2 ^ 24 }
     ensures text { Takes (C.taken console.old) (C.taken console.new)
         (flat_map process_bytes (processes_from store.now regions.now 1 rows.now)) result }
+    ensures rows { result ≡ Put.Done → (k : ℕ) (p : Row) → slice_get rows.now k ≡ Some p → IsFitRow p }
+    ensures fits { result ≡ Put.Done → (k i : ℕ) → k < length rows.now → i < 8192
+        → IsFitHold (held_at regions.now (k + 1) i) }
     ensures count { C.faults console.old ≤ C.faults console.new }
     ensures cause { OnFailed result (Rose (C.faults console.old) (C.faults console.new)) }
 {

@@ -1,8 +1,9 @@
 // The segments of an image.
-ghost use Rattle.std.specs.Prelude.{◌≡◌, ℕ, ◌+◌, ◌<◌, ◌≤◌, ◌/◌, ◌++◌, length, flat_map, IsTrue, IsSome, option_map, slice_index};
+ghost use Rattle.std.specs.Prelude.{◌≡◌, ℕ, ◌+◌, ◌<◌, ◌≤◌, ◌/◌, ◌++◌, length, flat_map, IsTrue, IsSome, option_map, slice_index, slice_index_or};
 ghost use Rattle.o2_swapmap.specs.Piles.{all_of, blocks_of};
 ghost use Rattle.o2_store.specs.Shelf.{entry_of, place_of};
 ghost use Rattle.o2_dump.specs.CoreBytes.{segment_bytes};
+ghost use Rattle.o2_dumping.specs.Fits.{FitsAt, IsFitPlace};
 ghost use Rattle.o2_dumping.specs.Fronts.{place_front, segment_front, shown_number, shown_of};
 ghost use Rattle.o2_dumping.specs.Puts.{HasCauses, IsRead, Writes};
 ghost use Rattle.o2_dumping.specs.Told.{numbers, segment_told, segments_told};
@@ -46,7 +47,8 @@ fn place_number(place: Place) -> u8
 // Adds what is told of a place, with the number of blocks where it is in blocks.
 fn push_place(piece: &mut Piece, place: Place, blocks: u32)
     requires { length piece.old + 4 ≤ 64 }
-    ensures { piece.new ≡ piece.old ++ place_front place blocks }
+    ensures text { piece.new ≡ piece.old ++ place_front place blocks }
+    ensures fits { IsFitPlace place }
 {
     match place {
         Place::Zeros => {}
@@ -61,7 +63,8 @@ fn push_place(piece: &mut Piece, place: Place, blocks: u32)
 
 // A segment's entry up to its blocks.
 fn segment_piece(shown: &Shown, blocks: u32) -> Piece
-    ensures { result ≡ segment_front shown.now blocks }
+    ensures text { result ≡ segment_front shown.now blocks }
+    ensures fits { IsFitPlace shown.now.place }
 {
     let mut piece = Piece::new();
     piece.push_long(shown.size);
@@ -85,6 +88,7 @@ fn put_segment<C: Sink, S: SwapDevice>(
     requires device { all_of store.now.swap ≤ S.blocks swap.old }
     ensures text { IsTrue (S.told swap.new) → Writes (C.taken console.old) (C.taken console.new)
         (segment_bytes (segment_told store.now (S.block swap.old) id.key)) result }
+    ensures fits { IsTrue (S.told swap.new) → result ≡ Wrote.Done → FitsAt store.now (S.block swap.old) id.key }
     ensures read { IsRead (S.blocks swap.old) (S.blocks swap.new)
         (S.told swap.old) (S.told swap.new) (S.block swap.old) (S.block swap.new) }
     ensures causes { HasCauses (C.faults console.old) (C.faults console.new)
@@ -129,6 +133,8 @@ pub(crate) fn put_segments<C: Sink, S: SwapDevice>(
     requires { all_of store.now.swap ≤ S.blocks swap.old }
     ensures text { IsTrue (S.told swap.new) → Writes (C.taken console.old) (C.taken console.new)
         (flat_map segment_bytes (segments_told store.now (S.block swap.old))) result }
+    ensures fits { IsTrue (S.told swap.new) → result ≡ Wrote.Done → (k : ℕ) → k < length (numbers store.now)
+        → FitsAt store.now (S.block swap.old) (slice_index_or (numbers store.now) k 0) }
     ensures read { IsRead (S.blocks swap.old) (S.blocks swap.new)
         (S.told swap.old) (S.told swap.new) (S.block swap.old) (S.block swap.new) }
     ensures causes { HasCauses (C.faults console.old) (C.faults console.new)

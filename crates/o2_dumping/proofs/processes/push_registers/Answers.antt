@@ -1,4 +1,4 @@
-use Rattle.std.proofs.Common.{arith, ◌≡◌, ◌∷◌, []}
+use Rattle.std.proofs.Common.{arith, ◌≡◌}
 use Rattle.o2_dump.specs.CoreBytes.{word}
 use Rattle.o2_dumping.proofs.Lists.{pushed}
 use Rattle.o2_dumping.proofs.processes.push_registers.Goals as goal

@@ -1,4 +1,4 @@
-use Rattle.std.proofs.Common.{[], ap, sym}
+use Rattle.std.proofs.Common.{ap, sym}
 use Rattle.std.specs.Prelude.{flat_map}
 use Rattle.o2_outer.proofs.TextLemmas.{gains_none}
 use Rattle.o2_outer.specs.declared.sink.Put.TheVariants as put
@@ -15,4 +15,4 @@ pub returns-in-Some-descriptor-clause-text : goal.returns-in-Some-descriptor-cla
 returns-in-Some-descriptor-clause-text g c =
     takes_as _ _ _ _ c.put.result
     (sym (ap (flat_map held_bytes) (hold_some c.args.store.now c.args.regions.now c.args.pid c.args.index c.in-Some.held c.in-Some-descriptor.descriptor c.in-Some.ensures.held c.in-Some-descriptor.ensures)))
-    (rw (c.as_slice.ensures, c.hold_piece-piece.ensures) at c.put.ensures.takes)
+    (rw (c.as_slice.ensures, c.hold_piece-piece.ensures.text) at c.put.ensures.takes)
