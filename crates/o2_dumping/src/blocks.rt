@@ -32,7 +32,8 @@ fn put_block<C: Sink, S: SwapDevice>(number: u32, console: &mut C, swap: &mut S)
     requires { number < S.blocks swap.old }
     ensures text { IsTrue (S.told swap.new) → Writes (C.taken console.old) (C.taken console.new)
         (block_bytes (block_told (S.block swap.old) number)) result }
-    ensures long { IsTrue (S.told swap.new) → result ≡ Wrote.Done → length (S.block swap.old number) ≡ 512 }
+    ensures long { IsTrue (S.told swap.new) → result ≡ Wrote.Done
+        → length (S.block swap.old number) ≡ 512 }
     ensures read { IsRead (S.blocks swap.old) (S.blocks swap.new)
         (S.told swap.old) (S.told swap.new) (S.block swap.old) (S.block swap.new) }
     ensures causes { HasCauses (C.faults console.old) (C.faults console.new)

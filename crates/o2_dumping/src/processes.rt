@@ -160,7 +160,8 @@ pub(crate) fn put_processes<C: Sink>(
     requires base { (pid i : ℕ) → (descriptor_at regions.now pid i).base < 2 ^ 24 }
     ensures text { Takes (C.taken console.old) (C.taken console.new)
         (flat_map process_bytes (processes_from store.now regions.now 1 rows.now)) result }
-    ensures rows { result ≡ Put.Done → (k : ℕ) (p : Row) → slice_get rows.now k ≡ Some p → IsFitRow p }
+    ensures rows { result ≡ Put.Done → (k : ℕ) (p : Row) → slice_get rows.now k ≡ Some p
+        → IsFitRow p }
     ensures fits { result ≡ Put.Done → (k i : ℕ) → k < length rows.now → i < 8192
         → IsFitHold (held_at regions.now (k + 1) i) }
     ensures count { C.faults console.old ≤ C.faults console.new }

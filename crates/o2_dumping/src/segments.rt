@@ -88,7 +88,8 @@ fn put_segment<C: Sink, S: SwapDevice>(
     requires device { all_of store.now.swap ≤ S.blocks swap.old }
     ensures text { IsTrue (S.told swap.new) → Writes (C.taken console.old) (C.taken console.new)
         (segment_bytes (segment_told store.now (S.block swap.old) id.key)) result }
-    ensures fits { IsTrue (S.told swap.new) → result ≡ Wrote.Done → FitsAt store.now (S.block swap.old) id.key }
+    ensures fits { IsTrue (S.told swap.new) → result ≡ Wrote.Done
+        → FitsAt store.now (S.block swap.old) id.key }
     ensures read { IsRead (S.blocks swap.old) (S.blocks swap.new)
         (S.told swap.old) (S.told swap.new) (S.block swap.old) (S.block swap.new) }
     ensures causes { HasCauses (C.faults console.old) (C.faults console.new)
@@ -133,7 +134,8 @@ pub(crate) fn put_segments<C: Sink, S: SwapDevice>(
     requires { all_of store.now.swap ≤ S.blocks swap.old }
     ensures text { IsTrue (S.told swap.new) → Writes (C.taken console.old) (C.taken console.new)
         (flat_map segment_bytes (segments_told store.now (S.block swap.old))) result }
-    ensures fits { IsTrue (S.told swap.new) → result ≡ Wrote.Done → (k : ℕ) → k < length (numbers store.now)
+    ensures fits { IsTrue (S.told swap.new) → result ≡ Wrote.Done
+        → (k : ℕ) → k < length (numbers store.now)
         → FitsAt store.now (S.block swap.old) (slice_index_or (numbers store.now) k 0) }
     ensures read { IsRead (S.blocks swap.old) (S.blocks swap.new)
         (S.told swap.old) (S.told swap.new) (S.block swap.old) (S.block swap.new) }

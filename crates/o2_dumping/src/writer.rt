@@ -51,7 +51,8 @@ fn put_behind<C: Sink>(machine: &Parts<'_>, console: &mut C) -> Put
         ++ (flat_map process_bytes
         (processes_from machine.now.store.now machine.now.regions.now 1 machine.now.processes.now)
         ++ codes "END!")) result }
-    ensures rows { result ≡ Put.Done → (k : ℕ) (p : Row) → slice_get machine.now.processes.now k ≡ Some p → IsFitRow p }
+    ensures rows { result ≡ Put.Done → (k : ℕ) (p : Row)
+        → slice_get machine.now.processes.now k ≡ Some p → IsFitRow p }
     ensures fits { result ≡ Put.Done → (k i : ℕ) → k < length machine.now.processes.now → i < 8192
         → IsFitHold (held_at machine.now.regions.now (k + 1) i) }
     ensures count { C.faults console.old ≤ C.faults console.new }
@@ -69,8 +70,8 @@ fn put_behind<C: Sink>(machine: &Parts<'_>, console: &mut C) -> Put
 }
 
 /// Puts the core image of a machine to a console, piece by piece. It takes no memory, and reads the blocks of segments one by one.
-/// At a fault of the console or of the device a front of the image was put. A whole image is read back as what was told, where all that is
-/// held lives and the machine has as many blocks as the store knows.
+/// At a fault of the console or of the device a front of the image was put. A whole image is read back as what was told, where all
+/// that is held lives and the machine has as many blocks as the store knows.
 pub fn write<C: Sink, S: SwapDevice>(machine: &Parts<'_>, console: &mut C, swap: &mut S) -> Wrote
     requires processes { length machine.now.processes.now ≤ machine.now.regions.now.processes }
     requires settled { IsSettled machine.now.store.now machine.now.regions.now }
@@ -80,9 +81,11 @@ pub fn write<C: Sink, S: SwapDevice>(machine: &Parts<'_>, console: &mut C, swap:
         (core_bytes (core_told machine.now.store.now machine.now.regions.now machine.now.processes.now
         (S.block swap.old) machine.now.blocks machine.now.steps machine.now.console)) result }
     ensures read_back { IsHeldWell machine.now.store.now machine.now.regions.now
-        → all_of machine.now.store.now.swap ≤ machine.now.blocks → IsTrue (S.told swap.new) → result ≡ Wrote.Done
-        → (c : Core) → c ≡ core_told machine.now.store.now machine.now.regions.now machine.now.processes.now
-        (S.block swap.old) machine.now.blocks machine.now.steps machine.now.console → core_of (core_bytes c) ≡ Ok c }
+        → all_of machine.now.store.now.swap ≤ machine.now.blocks
+        → IsTrue (S.told swap.new) → result ≡ Wrote.Done → (c : Core)
+        → c ≡ core_told machine.now.store.now machine.now.regions.now machine.now.processes.now
+        (S.block swap.old) machine.now.blocks machine.now.steps machine.now.console
+        → core_of (core_bytes c) ≡ Ok c }
     ensures read { IsRead (S.blocks swap.old) (S.blocks swap.new)
         (S.told swap.old) (S.told swap.new) (S.block swap.old) (S.block swap.new) }
     ensures causes { HasCauses (C.faults console.old) (C.faults console.new)
