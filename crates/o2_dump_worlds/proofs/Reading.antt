@@ -1,6 +1,6 @@
 -- What the reader gives of a segment is what the world has of it.
 use Rattle.std.proofs.Common.{◌≡◌, ℕ, zero, suc, ◌+◌, ◌-◌, ◌*◌, ◌/◌, ◌%◌, ◌<◌, ◌≤◌, List, [], ◌∷◌, ◌++◌, length, take, drop, replicate, get_or, Bool, true, false, cond, ◌&&◌, Option, Some, None, refl, sym, ap, ◌∙◌, option_map, subst, arith, inl, inr, length-append}
-use Rattle.std.specs.Prelude.{nat_le, nat_lt, slice_get, ◌==◌}
+use Rattle.std.specs.Prelude.{nat_le, nat_lt, slice_get}
 use Rattle.std.proofs.lemmas.Bool.{cases_lt, cond-true, cond-false, eqb-true, false≢true}
 use Rattle.std.proofs.lemmas.Bool.Decides.{nat_tests}
 use Rattle.std.proofs.lemmas.List.{ext_get_or, get_or-append-add}
@@ -11,12 +11,12 @@ use Rattle.o2_dump.specs.declared.parts.SegmentEntry.{SegmentEntry}
 use Rattle.o2_dump.specs.declared.reader.Core.{Core}
 use Rattle.o2_dump.specs.CoreBytes.{place_number}
 use Rattle.o2_dump.specs.CoreImage.{bytes_of, joined, kept_bytes, segment_bytes}
-use Rattle.o2_dump.specs.SegmentEntries.{is_free, is_place, is_range, rounded}
+use Rattle.o2_dump.specs.SegmentEntries.{is_free, is_place, rounded}
 use Rattle.o2_dump_laws.specs.Whole.{AreBlocksWhole, AreSegmentsWhole, IsPlaceWhole, IsSegmentWhole, IsWhole}
 use Rattle.o2_store.specs.Shelf.{Pictures}
 use Rattle.o2_world.specs.Map.{get}
 use Rattle.o2_world.specs.World.{Segment, Setting, World}
-use Rattle.o2_dump_worlds.specs.StandsFor.{ImageStandsFor, IsNamed, IsSegment, byte_of, no_block, source_byte, stays}
+use Rattle.o2_dump_worlds.specs.StandsFor.{ImageStandsFor, IsNamed, IsSegment, no_block, source_byte, stays}
 
 -- ---- parts of lists
 
