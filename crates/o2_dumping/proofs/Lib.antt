@@ -1,0 +1,10 @@
+pub mod Putting
+pub mod Lists
+pub mod Holding
+pub mod Segmenting
+pub mod Imaging
+pub mod Settling
+pub mod Fitting
+pub mod SegmentsWhole
+pub mod ProcessesWhole
+pub mod ImageWhole

@@ -1,0 +1,4 @@
+pub mod Told
+pub mod Puts
+pub mod Fronts
+pub mod Fits
