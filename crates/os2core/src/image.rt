@@ -1,0 +1,61 @@
+// The image of a file.
+
+use o2_base::{Fail, NoMemory};
+use o2_dump::{Core, CoreFault};
+use o2_outer::{Fetch, Files, FolderFiles};
+use o2_tool::file_name;
+use std::fmt;
+
+/// What a file came to.
+#[derive(Drop)]
+pub enum Opened {
+    /// It is a core image.
+    Core(Core),
+    /// It is none.
+    Refused(CoreFault),
+    /// It has more bytes than any core image.
+    TooLong,
+    /// It isn't there.
+    NoFile,
+    /// It can't be read.
+    Failed,
+    /// There is no memory.
+    NoMemory,
+}
+
+/// How many bytes a file has at most: more than the image of a machine with all the memory, blocks and segments that a machine file
+/// may ask for.
+const MOST: u32 = 67_108_864;
+
+/// The image in the file of this name.
+pub fn open(rt: &HostRuntime, word: &str) -> anyhow::Result<Opened> {
+    let name = file_name(rt.alloc(), word)?;
+    let mut files = FolderFiles::new(rt);
+    let file = match files.fetch(rt.alloc(), &name, MOST) {
+        Fetch::Got(file) => file,
+        Fetch::NoFile => return Ok(Opened::NoFile),
+        Fetch::TooLong => return Ok(Opened::TooLong),
+        Fetch::Failed => return Ok(Opened::Failed),
+        Fetch::NoMemory => return Ok(Opened::NoMemory),
+    };
+    match Core::read(rt.alloc(), file.as_slice()) {
+        Ok(core) => Ok(Opened::Core(core)),
+        Err(Fail::Bad(fault)) => Ok(Opened::Refused(fault)),
+        Err(Fail::NoMemory) => Ok(Opened::NoMemory),
+    }
+}
+
+/// Why a file is refused, as a sentence.
+#[derive(Clone, Copy)]
+pub struct Reason(pub CoreFault);
+
+impl fmt::Display for Reason {
+    fn fmt<W: fmt::Write>(&self, f: &mut fmt::Formatter<W>) -> fmt::Result {
+        match self.0 {
+            CoreFault::NotCore => f.write_str("it doesn't begin with OS2CORE1"),
+            CoreFault::Truncated(at) => write!(f, "it ends at {at:X}h, within a field"),
+            CoreFault::BadEntry(at) => write!(f, "what begins at {at:X}h is bad"),
+            CoreFault::TooLong(at) => write!(f, "it goes on behind its end at {at:X}h"),
+        }
+    }
+}
