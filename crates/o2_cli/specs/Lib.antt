@@ -1,7 +1,10 @@
+pub mod Opening
+pub mod Unseen
 pub mod Statuses
 pub mod StatusTexts
+pub mod BenchTexts
+pub mod Ends
 pub mod Top
 pub mod Checks
 pub mod RunTexts
 pub mod Done
-pub mod BenchTexts
