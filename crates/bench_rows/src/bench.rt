@@ -103,9 +103,11 @@ fn is_as_told(alloc: Global, row: &str) -> Result<bool, NoMemory> {
         &mut report,
         &mut swap,
     );
-    Ok(u64::from(number(&status)) == number_at(row, 5)
-        && is_line(console.taken(), field(row, 6), number(&status) == 0)
-        && is_report(report.taken(), field(row, 7), field(row, 8)))
+    Ok(
+        u64::from(number(&status)) == number_at(row, 5)
+            && is_line(console.taken(), field(row, 6), number(&status) == 0)
+            && is_report(report.taken(), field(row, 7), field(row, 8)),
+    )
 }
 
 #[test]

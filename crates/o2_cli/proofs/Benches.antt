@@ -1,5 +1,5 @@
 -- The run of a bench, by what its machine began with.
-use Rattle.std.proofs.Common.{◌≡◌, ℕ, ◌+◌, [], length, List, Option, Some, ap, sym, refl, subst, inl, inr, ◌⊎◌}
+use Rattle.std.proofs.Common.{◌≡◌, ℕ, ◌+◌, [], length, List, Option, Some, None, ap, ◌∙◌, sym, refl, subst, inl, inr}
 use Rattle.std.specs.Prelude.{Ok, Err}
 use Rattle.o2_words.specs.declared.words.Verb.TheVariants.{Bench}
 use Rattle.o2_world.specs.World.{World, Setting}
@@ -11,7 +11,7 @@ use Rattle.o2_run.specs.declared.fault.Fault.{Fault}
 use Rattle.o2_run.specs.declared.fault.Fault.TheVariants.{Sink, Stopped}
 use Rattle.o2_run.specs.Pieces.{counts}
 use Rattle.o2_run.specs.Ended.{EndsAs, HasTexts}
-use Rattle.o2_run.proofs.Reached.{part_from, stopped_from, whole_from}
+use Rattle.o2_run.proofs.Reached.{part_from}
 use Rattle.o2_machine.specs.declared.last.Last.{Last}
 use Rattle.o2_machine.specs.declared.last.Last.TheVariants.{AllEnded, BudgetSpent, SinkFault, Stopped as LastStopped}
 use Rattle.o2_machine.specs.Lasts.{last_lines, machine_swaps, stopped_of}
@@ -20,9 +20,10 @@ use Rattle.o2_cli.specs.declared.status.Status.{Status}
 use Rattle.o2_cli.specs.declared.status.Status.TheVariants as status
 use Rattle.o2_cli.specs.Opening.{StartsWith}
 use Rattle.o2_cli.specs.Unseen.{Written, IsOver}
-use Rattle.o2_cli.specs.BenchTexts.{bench_line, HasLine, HasLineFront, InRun, AtLine}
+use Rattle.o2_cli.specs.BenchTexts.{bench_line, bench_text, HasLine, HasLineFront, InRun, AtLine}
 use Rattle.o2_cli.specs.RunTexts.{FailsToBegin, ShowsRun, StopsRun}
 use Rattle.o2_cli.specs.Statuses.{status_of}
+use Rattle.o2_cli.proofs.Earlier.{earlier_stop, earlier_whole}
 use Rattle.o2_cli.proofs.Runs.{start_of, has_started, in_opening}
 
 -- where it has no first step
@@ -49,7 +50,7 @@ fails_bench count s blocks i c r q e k before now status.SwapFault f = absurd f
 -- behind the start: the report's count rose since then, and the lines of the start were put before
 module _ (s : Session) (blocks : ℕ) (i j r q : Option (List ℕ)) (since : Type 0) (x y z : ℕ) (stands : Setting → World → Type 0) where
   module _ (e : Type 0) (later : since → e) (count : ℕ) (c : Option (List ℕ)) (k : ℕ) where
-    abbrev Faulted : Fault → Type 0
+    abbrev pub Faulted : Fault → Type 0
     Faulted f = (input : List ℕ) → i ≡ Some input
         → StartsWith s input (λ o. (y ≡ x + length o.world.lines)
         × ((written : Written) × HasTexts (stands o.setting) machine_swaps blocks o.setting o.world j (Some []) (Some written.bytes) r q since (counts 0 written.pieces y z (length o.world.lines)) (Err f)))
@@ -62,7 +63,7 @@ module _ (s : Session) (blocks : ℕ) (i j r q : Option (List ℕ)) (since : Typ
           starts = o.starts;
           runs = record {
             written = o.runs.1.0;
-            run = stopped_from machine_swaps blocks o.start.setting o.start.world why j (Some []) (Some o.runs.1.0.bytes) r q since e later 0 o.runs.1.0.pieces x y z (length o.start.world.lines) o.runs.0 o.runs.1.1.0;
+            run = earlier_stop machine_swaps o.start.setting o.start.world j (Some []) (Some o.runs.1.0.bytes) r q 0 o.runs.1.0.pieces x y z (length o.start.world.lines) o.runs.0 blocks why since e later o.runs.1.1.0;
             behind = record { same = refl; none_put = refl };
           };
         }
@@ -87,7 +88,7 @@ module _ (s : Session) (blocks : ℕ) (i j r q : Option (List ℕ)) (since : Typ
     faulted_bench f answer is ran = subst (λ (a : Status). ShowsRun (Bench count) s blocks i j c c r q e (counts k k x z 0) a) (sym is) (by_fault f ran)
 
   -- where its run is over
-  abbrev Over : List ℕ → Type 0
+  abbrev pub Over : List ℕ → Type 0
   Over input =
       StartsWith s input (λ o. (y ≡ x + length o.world.lines)
       × ((written : Written) × HasTexts (stands o.setting) machine_swaps blocks o.setting o.world j (Some []) (Some written.bytes) r q since (counts 0 written.pieces y z (length o.world.lines)) (Ok tt)))
@@ -99,7 +100,7 @@ module _ (s : Session) (blocks : ℕ) (i j r q : Option (List ℕ)) (since : Typ
     starts = o.starts;
     runs = record {
       written = o.runs.1.0;
-      run = whole_from machine_swaps o.start.setting o.start.world j (Some []) (Some o.runs.1.0.bytes) r q 0 o.runs.1.0.pieces x y z (length o.start.world.lines) o.runs.0 o.runs.1.1.0;
+      run = earlier_whole machine_swaps o.start.setting o.start.world j (Some []) (Some o.runs.1.0.bytes) r q 0 o.runs.1.0.pieces x y z (length o.start.world.lines) o.runs.0 o.runs.1.1.0;
       behind = behind o.start.setting _ o.runs.1.1.1;
     };
   }
@@ -114,6 +115,11 @@ module _ (s : Session) (blocks : ℕ) (i j r q : Option (List ℕ)) (since : Typ
     bench_cut line = λ input left.
         let o = over_with k l (λ t w. HasLineFront (bench_line count t w) c d (counts k l x z 0)) (λ t w h. record { gains = line t w h; at_once = at_once }) input (ran input left) in
         record { start = o.start; starts = o.starts; runs = AtLine o.runs }
+
+-- the same numbers give the same line
+pub line_is : (count a b l x y z : ℕ) → a ≡ x → b ≡ y → l ≡ z → bench_text count a b l ≡ bench_text count x y z
+line_is count a b l x y z first second third =
+    ap (λ (n : ℕ). bench_text count n b l) first ∙ ap (λ (n : ℕ). bench_text count x n l) second ∙ ap (λ (n : ℕ). bench_text count x y n) third
 
 -- behind the end of a run its last line is counted
 pub has_last_line : (last : Option Last) → EndsAs (stopped_of last) (Ok tt) → last_lines last ≡ 1

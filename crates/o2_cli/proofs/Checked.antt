@@ -5,8 +5,8 @@ use Rattle.std.specs.Prelude.{Err, Ok, String, slice_get}
 use Rattle.std.specs.declared.alloc.Global.{Global}
 use Rattle.o2_words.specs.declared.words.Verb.{Verb}
 use Rattle.o2_words.specs.declared.words.Verb.TheVariants.{Exe, Run, Check, Bench}
-use Rattle.o2_words.specs.Words.{IsCommandFor, IsOperand, verb_text}
-use Rattle.o2_words.proofs.Verbs.{one_verb}
+use Rattle.o2_words.specs.Words.{IsCommandFor, verb_text}
+use Rattle.o2_words.proofs.Verbs.{one_command}
 use Rattle.o2_image.specs.Getters.{nth}
 use Rattle.o2_image.specs.ImageList.{ImageList, Resolution}
 use Rattle.o2_image.specs.Parts.{Parts}
@@ -18,7 +18,7 @@ use Rattle.o2_open.specs.Loads.{Contents, Fails, Refuses as OpenRefuses, loaded}
 use Rattle.o2_run.specs.Pieces.{Counts}
 use Rattle.o2_cli.specs.declared.status.Status.{Status}
 use Rattle.o2_cli.specs.declared.status.Status.TheVariants as status
-use Rattle.o2_cli.specs.Top.{Possible, IsCheck, IsFirst, Refuses, Shows, OnTried}
+use Rattle.o2_cli.specs.Top.{Possible, IsBench, IsCheck, IsFirst, Refuses, Shows, OnTried}
 use Rattle.o2_cli.specs.Statuses.{status_by}
 use Rattle.o2_cli.specs.Checks.{module_line, with_line, module_lines, IsUnstarted, ShowsLines, Checks, ChecksFile}
 use Rattle.o2_cli.proofs.Runs.{load_started}
@@ -72,7 +72,11 @@ module _ (words : List (String Global)) (v w : Verb) (name other : List ℕ) (on
   name_is = ap second_word (sym one.two ∙ two.two)
 
   pub verb_is : v ≡ w
-  verb_is = one_verb v w name (ap first_word (sym one.two ∙ two.two)) one.is_operand (subst (λ (text : List ℕ). IsOperand w text) (sym name_is) two.is_operand)
+  verb_is = one_command words v w name other one two
+
+-- the verb of a bench
+pub bench_is : (words : List (String Global)) (v : Verb) (name : List ℕ) → IsCommandFor words v name → IsBench words → (n : ℕ) × (v ≡ Bench n)
+bench_is words v name command bench = (bench.0, verb_is words v (Bench bench.0) name bench.1 command bench.2)
 
 -- a command of another verb is no check
 pub no_check : (words : List (String Global)) (v : Verb) (name : List ℕ) → IsCommandFor words v name → ((v ≡ Check) → ⊥) → IsCheck words → ⊥

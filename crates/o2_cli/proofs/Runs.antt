@@ -74,7 +74,7 @@ in_opening s b input j c r q left g k x y least most = record {
 }
 
 -- what a session's run shows where it has no first step
-fails_run : (s : Session) (blocks : ℕ) (i c r q : Option (List ℕ)) (e : Type 0) (k before now : ℕ) (answer : Status) → FailsToBegin s r q before now answer
+pub fails_run : (s : Session) (blocks : ℕ) (i c r q : Option (List ℕ)) (e : Type 0) (k before now : ℕ) (answer : Status) → FailsToBegin s r q before now answer
     → ShowsRun Run s blocks i i c c r q e (counts k k before now 0) answer
 fails_run s blocks i c r q e k before now status.SinkFault f = λ input left. record {
   start = start_of s input f.0.built;
@@ -92,6 +92,50 @@ fails_run s blocks i c r q e k before now status.InputFault f = absurd f
 fails_run s blocks i c r q e k before now status.NoRoom f = absurd f
 fails_run s blocks i c r q e k before now status.SwapFull f = absurd f
 fails_run s blocks i c r q e k before now status.SwapFault f = absurd f
+
+-- what its status says of the counts: only a sink may have failed
+module _ (s : Session) (r q : Option (List ℕ)) (before now : ℕ) (P Q : Type 0) where
+  pub begin_input : (answer : Status) → FailsToBegin s r q before now answer → OnInputFault answer P
+  begin_input status.SinkFault h = tt
+  begin_input status.NoMemory h = tt
+  begin_input (status.BadModule n f) h = tt
+  begin_input status.InputFault h = absurd h
+  begin_input status.SwapFault h = tt
+  begin_input status.Fine h = tt
+  begin_input status.BadWords h = tt
+  begin_input (status.NoFile n) h = tt
+  begin_input (status.BadMachine f) h = tt
+  begin_input status.FileFault h = tt
+  begin_input status.NoRoom h = tt
+  begin_input status.SwapFull h = tt
+
+  pub begin_swap : (answer : Status) → FailsToBegin s r q before now answer → OnSwapFault answer P
+  begin_swap status.SinkFault h = tt
+  begin_swap status.NoMemory h = tt
+  begin_swap (status.BadModule n f) h = tt
+  begin_swap status.InputFault h = tt
+  begin_swap status.SwapFault h = absurd h
+  begin_swap status.Fine h = tt
+  begin_swap status.BadWords h = tt
+  begin_swap (status.NoFile n) h = tt
+  begin_swap (status.BadMachine f) h = tt
+  begin_swap status.FileFault h = tt
+  begin_swap status.NoRoom h = tt
+  begin_swap status.SwapFull h = tt
+
+  pub begin_sink : (answer : Status) → OnSinkFault answer Q → OnSinkFault answer (P ⊎ Q)
+  begin_sink status.SinkFault h = inr h
+  begin_sink status.NoMemory h = tt
+  begin_sink (status.BadModule n f) h = tt
+  begin_sink status.InputFault h = tt
+  begin_sink status.SwapFault h = tt
+  begin_sink status.Fine h = tt
+  begin_sink status.BadWords h = tt
+  begin_sink (status.NoFile n) h = tt
+  begin_sink (status.BadMachine f) h = tt
+  begin_sink status.FileFault h = tt
+  begin_sink status.NoRoom h = tt
+  begin_sink status.SwapFull h = tt
 
 -- a refusal of a start, as it is told
 begin_refused_by : (s : Session) (r q : Option (List ℕ)) (before now : ℕ) (pid : ℕ) (fault : ModuleFault) (answer : OpenFault) → q ≡ r
@@ -142,7 +186,7 @@ untouched words may blocks i c r z n fault answer is = subst (λ (a : Status). S
 
 -- what a run with a fault shows: the report's count rose behind the start, and the lines of the start were put before
 module _ (s : Session) (blocks : ℕ) (i j c d r q : Option (List ℕ)) (e : Type 0) (u v x y z : ℕ) (stands : Setting → World → Type 0) (since : Type 0) (later : since → e) where
-  abbrev Faulted : Fault → Type 0
+  abbrev pub Faulted : Fault → Type 0
   Faulted f = (input : List ℕ) → i ≡ Some input
       → StartsWith s input (λ o. (y ≡ x + length o.world.lines) × HasTexts (stands o.setting) machine_swaps blocks o.setting o.world j c d r q since (counts u v y z (length o.world.lines)) (Err f))
 
@@ -213,6 +257,11 @@ shown_either verb s blocks i j c d r q e n answer (inl exe) t = subst (λ (v : V
     as_exe (status.BadMachine f) t = absurd t
     as_exe status.FileFault t = absurd t
 shown_either verb s blocks i j c d r q e n answer (inr run) t = subst (λ (v : Verb). ShowsRun v s blocks i j c d r q e n answer) (sym run) t
+
+-- and what it shows as a bench
+pub shown_bench : (verb : Verb) (count : ℕ) (s : Session) (blocks : ℕ) (i j c d r q : Option (List ℕ)) (e : Type 0) (n : Counts) (answer : Status) → verb ≡ Bench count
+    → ShowsRun (Bench count) s blocks i j c d r q e n answer → ShowsRun verb s blocks i j c d r q e n answer
+shown_bench verb count s blocks i j c d r q e n answer is t = subst (λ (v : Verb). ShowsRun v s blocks i j c d r q e n answer) (sym is) t
 
 -- a refusal of a command that starts
 first_of : (verb : Verb) (contents : Contents) (name input : List ℕ) (f : OpenFault) → ((verb ≡ Check) → ⊥) → opened verb contents name input ≡ Err f → IsFirst verb contents name input f

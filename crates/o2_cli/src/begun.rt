@@ -39,7 +39,6 @@ pub(crate) fn begun<R: Sink>(
         return Err(Status::NoMemory);
     };
     match Machine::begin(alloc, &conf, linked, blocks, report) {
-        Ok(machine) => Ok(machine),
         Err(BeginFault::NoMemory) => Err(Status::NoMemory),
         Err(BeginFault::SinkFault) => Err(Status::SinkFault),
         Err(BeginFault::Start(pid, fault)) => Err(Status::from(refused_start(
@@ -49,5 +48,6 @@ pub(crate) fn begun<R: Sink>(
             pid,
             fault,
         ))),
+        Ok(machine) => Ok(machine),
     }
 }

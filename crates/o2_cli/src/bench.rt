@@ -62,12 +62,7 @@ fn set_line(line: &mut LineBuffer, count: u16, steps: u64, bytes: u64, lines: u1
 }
 
 /// Puts the line of a bench whose run is over.
-fn put_line<C: Sink>(
-    line: &mut LineBuffer,
-    count: u16,
-    machine: &Machine,
-    console: &mut C,
-) -> Put
+fn put_line<C: Sink>(line: &mut LineBuffer, count: u16, machine: &Machine, console: &mut C) -> Put
     requires { last_lines machine.now.last ≡ 1 }
     ensures text { (device : ℕ) (block : ℕ → List ℕ) (s : Setting) (w : World) → StandsFor machine.now device block s w
         → Takes (C.taken console.old) (C.taken console.new) (bench_line count s w) result }

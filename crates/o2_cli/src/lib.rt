@@ -1,8 +1,8 @@
 //! The top call: the words of a command, the files that it names, and the run.
 #![tactic(auto)]
 
-mod bench;
 mod begun;
+mod bench;
 mod in_memory;
 mod lines;
 mod messages;

@@ -12,8 +12,8 @@ ghost use Rattle.o2_cli.specs.Checks.{Checks, IsUnstarted, ShowsLines};
 ghost use Rattle.o2_cli.specs.Done.{Completes, CompletesCheck};
 
 use crate::Status;
-use crate::bench::bench_session;
 use crate::begun::begun;
+use crate::bench::bench_session;
 use crate::lines::lines;
 use o2_base::Bytes;
 use o2_open::{Session, open};
@@ -101,10 +101,10 @@ pub fn os2run<F: Files, I: Source, C: Sink, R: Sink, S: SwapDevice>(
         Err(fault) => Status::from(fault),
         Ok(session) => match command.verb {
             Verb::Check => check_session(alloc, &session, console),
-            Verb::Exe | Verb::Run => run_session(alloc, session, input, console, report, swap),
             Verb::Bench(count) => {
                 bench_session(alloc, session, count, input, console, report, swap)
             }
+            Verb::Exe | Verb::Run => run_session(alloc, session, input, console, report, swap),
         },
     }
 }

@@ -11,9 +11,8 @@ ghost use Rattle.o2_conf.specs.Alone.{exe_setting};
 ghost use Rattle.o2_conf.specs.Limits.{IsWithinLimits};
 ghost use Rattle.o2_conf.specs.Environments.{environment_bytes};
 
-use crate::bench;
 use crate::files::{bad_module, machine, module, modules};
-use crate::{OpenFault, Session};
+use crate::{OpenFault, Session, bench};
 use o2_base::{Bytes, Fail, ModuleFault, NoMemory};
 use o2_conf::Conf;
 use o2_dynlink::{LinkFault, Linked, link};

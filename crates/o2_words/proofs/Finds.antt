@@ -43,3 +43,10 @@ pub is_there : (found : Option (Text × Option Text)) (word other name : Text) (
     → option_map (λ s. s.now) given ≡ file → IsSome given
 is_there found word other name file None at is e = absurd (none-some name (e ∙ ap (option_and_then (λ (p : Text × Option Text). p.1)) (sym at ∙ is)))
 is_there found word other name file (Some s) at is e = refl
+
+-- two ways to find one row
+pub word_is : (found : Option (Text × Option Text)) (word other : Text) (text name : Option Text) → found ≡ Some (word, text) → found ≡ Some (other, name) → word ≡ other
+word_is found word other text name at is = ap (λ (o : Option (Text × Option Text)). unwrap_or (option_map (λ p. p.0) o) word) (sym at ∙ is)
+
+pub operand_is : (found : Option (Text × Option Text)) (word other text name : Text) → found ≡ Some (word, Some text) → found ≡ Some (other, Some name) → text ≡ name
+operand_is found word other text name at is = ap (λ (o : Option (Text × Option Text)). unwrap_or (option_and_then (λ (p : Text × Option Text). p.1) o) text) (sym at ∙ is)

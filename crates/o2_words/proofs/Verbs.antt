@@ -1,12 +1,13 @@
 -- The word of a verb tells it, and behind `bench` the number that is its operand.
 use Rattle.std.proofs.Common.{◌≡◌, ◌∙◌, ℕ, zero, suc, ◌<◌, ◌≤◌, ◌^◌, List, [], ◌∷◌, Option, Some, None, Result, Ok, Err, Bool, true, false, refl, ap, sym, subst, arith, length, get_or, decimal}
-use Rattle.std.specs.Prelude.{IsSome, MatchOption, nat_lt}
+use Rattle.std.specs.Prelude.{IsSome, MatchOption, String, nat_lt, result_unwrap_or}
+use Rattle.std.specs.declared.alloc.Global.{Global}
 use Rattle.std.specs.Str.Parse.{ParsesUnsigned, IsNumeral, digits_value, without_leading_plus}
 use Rattle.std.proofs.lemmas.Bool.{ltb-true, ltb-false}
 use Rattle.std.proofs.lemmas.Fmt.{decimal_injective, decimal-digits_value, decimal_digit, first_decimal, parse-decimal}
 use Rattle.std.proofs.lemmas.Result.{OkIff-at_ok}
 use Rattle.std.proofs.lemmas.Str.Parse.{numerals_by_value, tells_digits, without_leading_plus_none}
-use Rattle.o2_words.specs.Words.{IsCount, IsName, IsOperand, verb_text}
+use Rattle.o2_words.specs.Words.{HasCount, IsCommandFor, IsCount, IsName, IsOperand, verb_text}
 use Rattle.o2_words.specs.declared.words.Verb.{Verb}
 use Rattle.o2_words.specs.declared.words.Verb.TheVariants.{Exe, Run, Check, Bench}
 
@@ -68,6 +69,15 @@ pub is_found : (word text : List ℕ) (r : Option Verb) → Finds word text r �
 is_found word text None none v e f = absurd (none v e f)
 is_found word text (Some w) found v e f = refl
 
+pub found_as : (word text : List ℕ) (r : Option Verb) → Finds word text r → (v : Verb) → r ≡ Some v → (word ≡ verb_text v) × IsOperand v text
+found_as word text r found v is = subst (λ (o : Option Verb). Finds word text o) is found
+
+pub has_count : (v : Verb) (text : List ℕ) → IsOperand v text → HasCount v
+has_count Exe text f = tt
+has_count Run text f = tt
+has_count Check text f = tt
+has_count (Bench count) text f = (f.some, f.few)
+
 -- no verb has any other word
 pub no_verb : (word : List ℕ) → (word ≡ verb_text Exe → ⊥) → (word ≡ verb_text Run → ⊥) → (word ≡ verb_text Check → ⊥) → (word ≡ verb_text (Bench 1) → ⊥)
     → (v : Verb) → word ≡ verb_text v → ⊥
@@ -115,6 +125,30 @@ module _ {E : Type 0} where
       let small : digits_value 10 text < 2 ^ 16 = subst (λ (t : List ℕ). digits_value 10 t < 2 ^ 16) unsigned read.0.1 in
       let little : 2 ^ 16 < 2 ^ 64 = omega arith in
       let digits : decimal (digits_value 10 text) ≡ text =
-          decimal-digits_value (numerals_by_value _ tells_digits) text numeral.1 numeral.0 (λ zero. omega (arith, above, zero)) (omega (arith, small, little)) in
+      decimal-digits_value (numerals_by_value _ tells_digits) text numeral.1 numeral.0 (λ zero. omega (arith, above, zero)) (omega (arith, small, little)) in
       let is_text : text ≡ decimal count = sym digits ∙ ap decimal (sym value) in
       record { some = at_least_one count text is_text above; few = few; digits = is_text }
+
+abbrev first_word : List (List ℕ) → List ℕ
+first_word [] = []
+first_word (w ∷ ws) = w
+
+abbrev second_word : List (List ℕ) → List ℕ
+second_word [] = []
+second_word (w ∷ ws) = first_word ws
+
+-- words are one command
+pub one_command : (words : List (String Global)) (v w : Verb) (text other : List ℕ) → IsCommandFor words v text → IsCommandFor words w other → v ≡ w
+one_command words v w text other f g =
+    let same : text ≡ other = ap second_word (sym f.two ∙ g.two) in
+    one_verb v w text (ap first_word (sym f.two ∙ g.two)) f.is_operand (subst (λ (t : List ℕ). IsOperand w t) (sym same) g.is_operand)
+
+-- a number that is read is one such number, and no other
+module _ {E : Type 0} where
+  pub too_large : (text : List ℕ) (count n : ℕ) (r : Result ℕ E) → ParsesUnsigned 16 10 text r → r ≡ Ok n → 64 < n → IsCount text count → ⊥
+  too_large text count n r h is large f =
+      let same : count ≡ n = ap (λ (x : Result ℕ E). result_unwrap_or x 0) (sym (count_read text count r h f) ∙ is) in
+      absurd (omega (arith, f.few, same, large))
+
+  pub unread : (text : List ℕ) (count : ℕ) (r : Result ℕ E) (e : E) → ParsesUnsigned 16 10 text r → r ≡ Err e → IsCount text count → ⊥
+  unread text count r e h err f = let clash : ◌≡◌ {A = Result ℕ E} (Ok count) (Err e) = sym (count_read text count r h f) ∙ err in absurd (cc)

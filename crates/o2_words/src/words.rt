@@ -25,14 +25,20 @@ pub struct Command<'a> {
     pub operand: &'a str,
 }
 
-// The verb, where the operand is the name of a file: it isn't empty and doesn't begin with a dash.
+fn is_name(name: &[u8]) -> bool
+    ensures { IsTrue result ↔ IsName name.now }
+{
+    match name {
+        [] => false,
+        [first, ..] => *first != b'-',
+    }
+}
+
+// The verb, where the operand is the name of a file.
 fn of_file(verb: Verb, name: &[u8]) -> Option<Verb>
     ensures { MatchOption result (IsName name.now → ⊥) (λ v. (v ≡ verb) × IsName name.now) }
 {
-    match name {
-        [] | [b'-', ..] => None,
-        _ => Some(verb),
-    }
+    if is_name(name) { Some(verb) } else { None }
 }
 
 // Whether a word begins with a byte above the digit zero.
@@ -40,8 +46,8 @@ fn begins_above_zero(word: &[u8]) -> bool
     ensures { result ≡ nat_lt 48 (get_or word.now 0 0) }
 {
     match word {
-        [] => false,
         [first, ..] => *first > b'0',
+        [] => false,
     }
 }
 

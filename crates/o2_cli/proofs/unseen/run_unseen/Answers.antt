@@ -12,14 +12,15 @@ use Rattle.o2_cli.proofs.unseen.run_unseen.Goals as goal
 pub returns-clause-texts : goal.returns-clause-texts
 returns-clause-texts g c = λ fresh tells text may s w r stands left none gains.
     let a = c.args in
-    let b = c.run.new in
-    (record { bytes = dropped_bytes b.programs; pieces = dropped_puts b.programs },
-    subst (λ (n : ℕ). HasTexts (StandsFor b.machine (g.S.SwapDevice.blocks b.swap) (g.S.SwapDevice.block b.swap) s) machine_swaps (g.S.SwapDevice.blocks a.swap.now) s w
-    (left_as text (g.I.Source.left b.input) (g.I.Source.past b.input)) (Some []) (Some (dropped_bytes b.programs)) r (g.R.Sink.taken b.report)
-    (Rose (g.R.Sink.faults a.report.now) (g.R.Sink.faults b.report))
-    (counts n (dropped_puts b.programs) (g.R.Sink.puts a.report.now) (g.R.Sink.puts b.report) (length w.lines)) c.run.result)
-    c.new-programs.ensures.puts
-    (c.run.ensures.texts fresh tells text may s w (Some []) r stands left (empty_gains _ _ c.new-programs.ensures.empty none) gains))
+    let b = c.run.new in (
+      record { bytes = dropped_bytes b.programs; pieces = dropped_puts b.programs },
+      subst (λ (n : ℕ). HasTexts (StandsFor b.machine (g.S.SwapDevice.blocks b.swap) (g.S.SwapDevice.block b.swap) s) machine_swaps (g.S.SwapDevice.blocks a.swap.now) s w
+          (left_as text (g.I.Source.left b.input) (g.I.Source.past b.input)) (Some []) (Some (dropped_bytes b.programs)) r (g.R.Sink.taken b.report)
+          (Rose (g.R.Sink.faults a.report.now) (g.R.Sink.faults b.report))
+          (counts n (dropped_puts b.programs) (g.R.Sink.puts a.report.now) (g.R.Sink.puts b.report) (length w.lines)) c.run.result)
+          c.new-programs.ensures.puts
+          (c.run.ensures.texts fresh tells text may s w (Some []) r stands left (empty_gains _ _ c.new-programs.ensures.empty none) gains),
+    )
 
 pub returns-clause-cause : goal.returns-clause-cause
 returns-clause-cause g c = λ fresh. report_caused c.run.result _ _ _ _ (c.run.ensures.cause fresh)
