@@ -1,6 +1,7 @@
 -- The word of a verb tells it, and behind `bench` the number that is its operand.
 use Rattle.std.proofs.Common.{◌≡◌, ◌∙◌, ℕ, zero, suc, ◌<◌, ◌≤◌, ◌^◌, List, [], ◌∷◌, Option, Some, None, Result, Ok, Err, Bool, true, false, refl, ap, sym, subst, arith, length, get_or, decimal}
-use Rattle.std.specs.Prelude.{IsSome, MatchOption, String, nat_lt, result_unwrap_or}
+use Rattle.std.specs.Prelude.{IsSome, MatchOption, String, nat_lt}
+use Rattle.std.specs.Result.{result_unwrap_or}
 use Rattle.std.specs.declared.alloc.Global.{Global}
 use Rattle.std.specs.Str.Parse.{ParsesUnsigned, IsNumeral, digits_value, without_leading_plus}
 use Rattle.std.proofs.lemmas.Bool.{ltb-true, ltb-false}

@@ -8,3 +8,6 @@ open_bench-requires-clause-some g c = (subst (λ (v : Verb). HasCount v) c.in-Be
 
 pub open_bench-requires-clause-few : goal.open_bench-requires-clause-few
 open_bench-requires-clause-few g c = (subst (λ (v : Verb). HasCount v) c.in-Bench.is c.requires.count).1
+
+pub returns-in-Bench-clause-refuses : goal.returns-in-Bench-clause-refuses
+returns-in-Bench-clause-refuses g c = c.open_bench.ensures.refuses _
