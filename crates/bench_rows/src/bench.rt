@@ -16,9 +16,9 @@ static BENCHES: &str = "
 65;16384;0;0;0;1;;0;
 01;16384;0;0;0;1;;0;
 4;0;0;0;0;9;;*;stop swap full
-4;100;0;0;0;9;;*;stop swap full
+4;8;0;0;0;9;;*;stop swap full
 4;16384;0;0;1;10;;*;stop swap fault
-4;16384;0;0;2000;10;;*;stop swap fault
+4;16384;0;0;200;10;;*;stop swap fault
 1;16384;1;0;0;7;bench;24;all ended
 1;16384;2;0;0;0;bench 1: 1927 steps, 1 console bytes, 24 report lines;24;all ended
 4;16384;0;1;0;7;;0;

@@ -1,5 +1,5 @@
 -- What keeps a command from being done: a refusal, a fault, or a step that hasn't what it needs.
-use Rattle.std.proofs.Common.{inl, inr, ◌≡◌, ◌≤◌, ◌<◌, ℕ, Bool, true, false, cond, arith, List, [], ◌∷◌, map, Option, Some, None, subst, refl}
+use Rattle.std.proofs.Common.{inl, inr, ◌≡◌, ◌≤◌, ◌<◌, ℕ, Bool, true, false, cond, arith, List, [], ◌∷◌, map, Option, Some, None, subst, sym, refl}
 use Rattle.std.proofs.lemmas.List.Sums.{sum_by-cons}
 use Rattle.std.specs.Prelude.{Ok, Err, Result, String, filter, sum}
 use Rattle.std.specs.declared.alloc.Global.{Global}
@@ -15,17 +15,21 @@ use Rattle.o2_run.specs.Room.{room, live_load, room_next, load_next, room_betwee
 use Rattle.o2_run.specs.Stops.{IsSwapFull, StopsFor}
 use Rattle.o2_run.specs.declared.steps.Stop.{Stop}
 use Rattle.o2_run.specs.declared.steps.Stop.TheVariants.{NoRoom, SwapFull}
-use Rattle.o2_run.specs.Pieces.{Counts}
+use Rattle.o2_outer.specs.Texts.{Rose}
+use Rattle.o2_run.specs.Pieces.{Counts, counts}
 use Rattle.o2_open.specs.declared.session.Session.{Session}
 use Rattle.o2_open.specs.declared.fault.OpenFault.{OpenFault}
-use Rattle.o2_open.specs.Loads.{Contents, loaded}
+use Rattle.o2_open.specs.declared.fault.OpenFault.TheVariants as open_fault
+use Rattle.o2_open.specs.Loads.{Contents, Fails, Refuses as OpenRefuses, loaded}
 use Rattle.o2_cli.specs.declared.status.Status.{Status}
 use Rattle.o2_cli.specs.declared.status.Status.TheVariants as status
 use Rattle.o2_cli.specs.Top.{IsCheck, IsFirst, IsRefused, Opened, Opens, Refuses, Shows, Possible, opened, OnFileFault, OnInputFault, OnSinkFault, OnSwapFault}
 use Rattle.o2_cli.specs.Ends.{HasStop}
 use Rattle.o2_cli.specs.Checks.{Checks}
 use Rattle.o2_cli.specs.Done.{HasAmple, Completes, CompletesCheck}
-use Rattle.o2_cli.proofs.Checked.{name_is, verb_is}
+use Rattle.o2_cli.specs.Statuses.{status_by}
+use Rattle.o2_cli.proofs.Checked.{name_is, refused_open, verb_is}
+use Rattle.o2_cli.proofs.Runs.{untouched}
 
 -- What is needed or locked is a part of what lives.
 
@@ -147,3 +151,43 @@ module _ (words : List (String Global)) (may : Possible) (files input sink devic
   check_completes c d status.NoRoom refuses checks f h = λ contents name s is command links nf ns. checks name command
   check_completes c d status.SwapFull refuses checks f h = λ contents name s is command links nf ns. checks name command
   check_completes c d status.SwapFault refuses checks f h = λ contents name s is command links nf ns. checks name command
+
+-- what keeps a command from opening has a fault of the files for its cause, if any
+module _ (P : Type 0) where
+  no_input : (f : OpenFault) → OnInputFault (status_by f) P
+  no_input (open_fault.NoFile n) = tt
+  no_input (open_fault.BadMachine f) = tt
+  no_input (open_fault.BadModule n f) = tt
+  no_input open_fault.FileFault = tt
+  no_input open_fault.NoMemory = tt
+
+  no_sink : (f : OpenFault) → OnSinkFault (status_by f) P
+  no_sink (open_fault.NoFile n) = tt
+  no_sink (open_fault.BadMachine f) = tt
+  no_sink (open_fault.BadModule n f) = tt
+  no_sink open_fault.FileFault = tt
+  no_sink open_fault.NoMemory = tt
+
+  no_swap : (f : OpenFault) → OnSwapFault (status_by f) P
+  no_swap (open_fault.NoFile n) = tt
+  no_swap (open_fault.BadMachine f) = tt
+  no_swap (open_fault.BadModule n f) = tt
+  no_swap open_fault.FileFault = tt
+  no_swap open_fault.NoMemory = tt
+
+files_rose : (before now : ℕ) (f : OpenFault) → OpenRefuses before now f → OnFileFault (status_by f) (Rose before now)
+files_rose before now (open_fault.NoFile n) h = tt
+files_rose before now (open_fault.BadMachine f) h = tt
+files_rose before now (open_fault.BadModule n f) h = tt
+files_rose before now open_fault.FileFault h = h
+files_rose before now open_fault.NoMemory h = tt
+
+pub open_completes : (words : List (String Global)) (may : Possible) (before now : ℕ) (input sink device : Type 0) (blocks : ℕ) (i : Option (List ℕ)) (verb : Verb) (name : List ℕ) → IsCommandFor words verb name
+    → (f : OpenFault) (answer : Status) → answer ≡ status_by f → ((contents : Contents) → may contents → Fails f (loaded verb contents name)) → OpenRefuses before now f
+    → Completes words may blocks i (Rose before now) input sink device answer
+open_completes words may before now input sink device blocks i verb name command f answer is fails refuses =
+    subst (λ (a : Status). Completes words may blocks i (Rose before now) input sink device a) (sym is)
+    (completes words may (Rose before now) input sink device blocks i i None None None None (Unit {0}) (counts 0 0 0 0 0) (status_by f)
+    (refused_open words may verb name command f (status_by f) refl fails)
+    (untouched words may blocks i None None (Unit {0}) (counts 0 0 0 0 0) f (status_by f) refl)
+    (files_rose before now f refuses) (no_input input f) (no_sink sink f) (no_swap device f))

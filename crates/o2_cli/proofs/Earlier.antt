@@ -7,10 +7,10 @@ use Rattle.o2_run.specs.declared.steps.Stop.{Stop}
 use Rattle.o2_run.specs.Ended.{HasStoppedTexts, HasWholeRun}
 use Rattle.o2_run.specs.Pieces.{Hands, counts, pieces}
 
-earlier_hands : (c d r q z ahead : ℕ) → q ≡ r + ahead → (done lines : ℕ) → Hands (counts c d q z ahead) done lines → Hands (counts c d r z 0) done lines
+pub earlier_hands : (c d r q z ahead : ℕ) → q ≡ r + ahead → (done lines : ℕ) → Hands (counts c d q z ahead) done lines → Hands (counts c d r z 0) done lines
 earlier_hands c d r q z ahead put done lines h = record { to_console = h.to_console; to_report = omega (arith, put, h.to_report) }
 
-or_later : (A F G : Type 0) → (F → G) → A ⊎ F → A ⊎ G
+pub or_later : (A F G : Type 0) → (F → G) → A ⊎ F → A ⊎ G
 or_later A F G later (inl a) = inl a
 or_later A F G later (inr f) = inr (later f)
 

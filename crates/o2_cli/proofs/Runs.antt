@@ -94,7 +94,7 @@ fails_run s blocks i c r q e k before now status.SwapFull f = absurd f
 fails_run s blocks i c r q e k before now status.SwapFault f = absurd f
 
 -- what its status says of the counts: only a sink may have failed
-module _ (s : Session) (r q : Option (List ℕ)) (before now : ℕ) (P Q : Type 0) where
+module _ (s : Session) (r q : Option (List ℕ)) (before now : ℕ) (P : Type 0) where
   pub begin_input : (answer : Status) → FailsToBegin s r q before now answer → OnInputFault answer P
   begin_input status.SinkFault h = tt
   begin_input status.NoMemory h = tt
@@ -123,19 +123,19 @@ module _ (s : Session) (r q : Option (List ℕ)) (before now : ℕ) (P Q : Type 
   begin_swap status.NoRoom h = tt
   begin_swap status.SwapFull h = tt
 
-  pub begin_sink : (answer : Status) → OnSinkFault answer Q → OnSinkFault answer (P ⊎ Q)
-  begin_sink status.SinkFault h = inr h
-  begin_sink status.NoMemory h = tt
-  begin_sink (status.BadModule n f) h = tt
-  begin_sink status.InputFault h = tt
-  begin_sink status.SwapFault h = tt
-  begin_sink status.Fine h = tt
-  begin_sink status.BadWords h = tt
-  begin_sink (status.NoFile n) h = tt
-  begin_sink (status.BadMachine f) h = tt
-  begin_sink status.FileFault h = tt
-  begin_sink status.NoRoom h = tt
-  begin_sink status.SwapFull h = tt
+pub begin_sink : (P Q : Type 0) (answer : Status) → OnSinkFault answer Q → OnSinkFault answer (P ⊎ Q)
+begin_sink P Q status.SinkFault h = inr h
+begin_sink P Q status.NoMemory h = tt
+begin_sink P Q (status.BadModule n f) h = tt
+begin_sink P Q status.InputFault h = tt
+begin_sink P Q status.SwapFault h = tt
+begin_sink P Q status.Fine h = tt
+begin_sink P Q status.BadWords h = tt
+begin_sink P Q (status.NoFile n) h = tt
+begin_sink P Q (status.BadMachine f) h = tt
+begin_sink P Q status.FileFault h = tt
+begin_sink P Q status.NoRoom h = tt
+begin_sink P Q status.SwapFull h = tt
 
 -- a refusal of a start, as it is told
 begin_refused_by : (s : Session) (r q : Option (List ℕ)) (before now : ℕ) (pid : ℕ) (fault : ModuleFault) (answer : OpenFault) → q ≡ r

@@ -12,7 +12,8 @@ use Rattle.o2_cli.specs.declared.status.Status.TheVariants as status
 use Rattle.o2_open.specs.declared.fault.OpenFault.{OpenFault}
 use Rattle.o2_open.specs.declared.fault.OpenFault.TheVariants as open_fault
 use Rattle.o2_open.specs.Loads.{Contents, loaded}
-pub use Rattle.o2_cli.specs.Opening.{Opened, opened, refusal, started, with_setting}
+pub use Rattle.o2_cli.specs.Opening.{Opened, opened, refusal, with_setting}
+unfoldable pub use Rattle.o2_cli.specs.Opening.{started}
 use Rattle.o2_cli.specs.Ends.{HasEnd, HasPart, HasStop}
 
 -- which contents the files may have

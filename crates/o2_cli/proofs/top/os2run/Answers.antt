@@ -2,7 +2,7 @@ use Rattle.std.proofs.Common.{None, Some, ◌∙◌, subst, sym}
 use Rattle.o2_words.specs.declared.words.Verb.{Verb}
 use Rattle.o2_words.specs.Words.{IsCommandFor}
 use Rattle.o2_cli.proofs.Checked.{bench_is, texts_of_check, untried}
-use Rattle.o2_cli.proofs.Completed.{completes}
+use Rattle.o2_cli.proofs.Completed.{completes, open_completes}
 use Rattle.o2_cli.proofs.Runs.{benches_not_checks, no_file_fault, refused, runs_not_checks, shown, shown_bench, shown_either, untouched}
 use Rattle.o2_cli.proofs.top.os2run.Goals as goal
 
@@ -111,3 +111,9 @@ returns-in-Bench-clause-benches_unread g c = λ bench.
 pub returns-clause-benches_unread : goal.returns-clause-benches_unread
 returns-clause-benches_unread g c = λ bench.
     let is = bench_is c.args.words.now c.in-Ok.command.verb _ c.in-Ok.ensures.exact bench in c.open.ensures.unread is.0 is.1
+
+pub returns-in-Err-clause-complete : goal.returns-in-Err-clause-complete
+returns-in-Err-clause-complete g c = λ tells text may.
+    open_completes c.args.words.now (g.F.Files.may_hold c.open.new.files) _ _ _ _ _ _ _ c.in-Ok.command.verb c.in-Ok-from_slice.name
+    (subst (λ name. IsCommandFor c.args.words.now c.in-Ok.command.verb name) (sym (c.in-Ok-from_slice.ensures ∙ c.as_bytes.ensures.value)) c.in-Ok.ensures.exact)
+    c.in-Err.fault c.from.result c.from.ensures (λ contents is. c.in-Err.ensures.exact contents is) c.in-Err.ensures.refuses

@@ -11,13 +11,13 @@ pub returns-in-Err-clause-texts : goal.returns-in-Err-clause-texts
 returns-in-Err-clause-texts g c = λ tells text may. fails_run c.args.session _ _ _ _ _ _ _ _ _ c.in-Err.status c.in-Err.ensures.failed
 
 pub returns-in-Err-clause-input_fault : goal.returns-in-Err-clause-input_fault
-returns-in-Err-clause-input_fault g c = begin_input c.args.session _ _ _ _ _ _ c.in-Err.status c.in-Err.ensures.failed
+returns-in-Err-clause-input_fault g c = begin_input c.args.session _ _ _ _ _ c.in-Err.status c.in-Err.ensures.failed
 
 pub returns-in-Err-clause-sink_fault : goal.returns-in-Err-clause-sink_fault
-returns-in-Err-clause-sink_fault g c = begin_sink c.args.session _ _ _ _ _ _ c.in-Err.status c.in-Err.ensures.sink_fault
+returns-in-Err-clause-sink_fault g c = begin_sink _ _ c.in-Err.status c.in-Err.ensures.sink_fault
 
 pub returns-in-Err-clause-swap_fault : goal.returns-in-Err-clause-swap_fault
-returns-in-Err-clause-swap_fault g c = begin_swap c.args.session _ _ _ _ _ _ c.in-Err.status c.in-Err.ensures.failed
+returns-in-Err-clause-swap_fault g c = begin_swap c.args.session _ _ _ _ _ c.in-Err.status c.in-Err.ensures.failed
 
 pub returns-clause-refused : goal.returns-clause-refused
 returns-clause-refused g c = no_refusal c.args.session c.in-Err-run.why _ c.from.ensures

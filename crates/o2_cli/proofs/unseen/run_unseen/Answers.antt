@@ -13,11 +13,11 @@ pub returns-clause-texts : goal.returns-clause-texts
 returns-clause-texts g c = λ fresh tells text may s w r stands left none gains.
     let a = c.args in
     let b = c.run.new in (
-      record { bytes = dropped_bytes b.programs; pieces = dropped_puts b.programs },
+      record { bytes = dropped_bytes b.console; pieces = dropped_puts b.console },
       subst (λ (n : ℕ). HasTexts (StandsFor b.machine (g.S.SwapDevice.blocks b.swap) (g.S.SwapDevice.block b.swap) s) machine_swaps (g.S.SwapDevice.blocks a.swap.now) s w
-          (left_as text (g.I.Source.left b.input) (g.I.Source.past b.input)) (Some []) (Some (dropped_bytes b.programs)) r (g.R.Sink.taken b.report)
+          (left_as text (g.I.Source.left b.input) (g.I.Source.past b.input)) (Some []) (Some (dropped_bytes b.console)) r (g.R.Sink.taken b.report)
           (Rose (g.R.Sink.faults a.report.now) (g.R.Sink.faults b.report))
-          (counts n (dropped_puts b.programs) (g.R.Sink.puts a.report.now) (g.R.Sink.puts b.report) (length w.lines)) c.run.result)
+          (counts n (dropped_puts b.console) (g.R.Sink.puts a.report.now) (g.R.Sink.puts b.report) (length w.lines)) c.run.result)
           c.new-programs.ensures.puts
           (c.run.ensures.texts fresh tells text may s w (Some []) r stands left (empty_gains _ _ c.new-programs.ensures.empty none) gains),
     )
