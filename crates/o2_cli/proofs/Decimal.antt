@@ -1,5 +1,5 @@
 -- The decimal digits of a number below 2 ^ 128, by its last digit.
-use Rattle.std.proofs.Common.{◌≡◌, ℕ, ◌+◌, ◌/◌, ◌%◌, ◌^◌, ◌<◌, ◌≤◌, List, [], ◌∷◌, ◌++◌, append_assoc, refl, length, decimal, ap, ◌∙◌, length-append, lit<, arith}
+use Rattle.std.proofs.Common.{◌≡◌, ℕ, ◌+◌, ◌/◌, ◌%◌, ◌^◌, ◌<◌, ◌≤◌, [], ◌∷◌, ◌++◌, length, decimal, ap, ◌∙◌, length-append, lit<, arith}
 use Rattle.std.proofs.lemmas.Fmt.{decimal_step_wide, decimal_digit, length-decimal-le_wide}
 
 wide : (n : ℕ) → n < 2 ^ 128 → n < 10 ^ 64
@@ -19,7 +19,3 @@ length_more n h s = ap length (decimal_more n h s) ∙ length-append (decimal (n
 
 pub length_most : (n : ℕ) → n < 2 ^ 128 → length (decimal n) ≤ 39
 length_most n h = let less : 2 ^ 128 < 10 ^ 39 = lit< tt in length-decimal-le_wide 39 n (lit< tt) (omega (arith, h, less)) (wide n h)
-
--- a text behind a text, four times
-pub parts : (p a b c d e f g h : List ℕ) → (((p ++ (a ++ b)) ++ (c ++ d)) ++ (e ++ f)) ++ (g ++ h) ≡ p ++ (a ++ (b ++ (c ++ (d ++ (e ++ (f ++ (g ++ h)))))))
-parts p a b c d e f g h = simp append_assoc refl

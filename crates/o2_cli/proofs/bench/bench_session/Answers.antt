@@ -1,4 +1,5 @@
 use Rattle.std.proofs.Common.{Option, List, ℕ, length, ap, refl}
+use Rattle.o2_outer.specs.Texts.{Rose}
 use Rattle.o2_run.proofs.Reached.{rose_since}
 use Rattle.o2_world.specs.World.{Setting}
 use Rattle.o2_machine.specs.Lasts.{stopped_of}
@@ -46,8 +47,8 @@ pub returns-in-Done-clause-texts : goal.returns-in-Done-clause-texts
 returns-in-Done-clause-texts g c = λ tells text may.
     let s = c.args.session in
     let begun = c.in-Ok-begun.ensures.begins in
-    bench_done s _ _ _ _ _ _ _ _ _ (λ (t : Setting). StandsFor c.run_unseen.new.machine (g.S.SwapDevice.blocks c.run_unseen.new.swap) (g.S.SwapDevice.block c.run_unseen.new.swap) t)
-    _ c.args.count _ _ _ _ c.put_line.ensures.puts (λ input left.
+    bench_done s (g.S.SwapDevice.blocks c.args.swap.now) _ _ _ _ (Rose (g.R.Sink.faults c.begun.new.report) (g.R.Sink.faults c.run_unseen.new.report)) _ _ _ (λ (t : Setting). StandsFor c.run_unseen.new.machine (g.S.SwapDevice.blocks c.run_unseen.new.swap) (g.S.SwapDevice.block c.run_unseen.new.swap) t)
+    (Unit {0}) c.args.count _ _ _ _ c.put_line.ensures.puts (λ input left.
     let w = first_world s.linked s.conf input begun.built in
     record {
       start = start_of s input begun.built;
@@ -62,8 +63,8 @@ pub returns-clause-texts : goal.returns-clause-texts
 returns-clause-texts g c = λ tells text may.
     let s = c.args.session in
     let begun = c.in-Ok-begun.ensures.begins in
-    bench_cut s _ _ _ _ _ _ _ _ _ (λ (t : Setting). StandsFor c.run_unseen.new.machine (g.S.SwapDevice.blocks c.run_unseen.new.swap) (g.S.SwapDevice.block c.run_unseen.new.swap) t)
-    _ c.args.count _ _ _ _ c.put_line.ensures.puts (λ input left.
+    bench_cut s (g.S.SwapDevice.blocks c.args.swap.now) _ _ _ _ (Rose (g.R.Sink.faults c.begun.new.report) (g.R.Sink.faults c.run_unseen.new.report)) _ _ _ (λ (t : Setting). StandsFor c.run_unseen.new.machine (g.S.SwapDevice.blocks c.run_unseen.new.swap) (g.S.SwapDevice.block c.run_unseen.new.swap) t)
+    (Unit {0}) c.args.count _ _ _ _ c.put_line.ensures.puts (λ input left.
     let w = first_world s.linked s.conf input begun.built in
     record {
       start = start_of s input begun.built;
