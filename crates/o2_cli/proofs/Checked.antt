@@ -4,8 +4,9 @@ use Rattle.std.proofs.lemmas.List.{append_assoc}
 use Rattle.std.specs.Prelude.{Err, Ok, String, slice_get}
 use Rattle.std.specs.declared.alloc.Global.{Global}
 use Rattle.o2_words.specs.declared.words.Verb.{Verb}
-use Rattle.o2_words.specs.declared.words.Verb.TheVariants.{Exe, Run, Check}
+use Rattle.o2_words.specs.declared.words.Verb.TheVariants.{Exe, Run, Check, Bench}
 use Rattle.o2_words.specs.Words.{IsCommandFor, verb_text}
+use Rattle.o2_words.proofs.Verbs.{one_command}
 use Rattle.o2_image.specs.Getters.{nth}
 use Rattle.o2_image.specs.ImageList.{ImageList, Resolution}
 use Rattle.o2_image.specs.Parts.{Parts}
@@ -17,7 +18,7 @@ use Rattle.o2_open.specs.Loads.{Contents, Fails, Refuses as OpenRefuses, loaded}
 use Rattle.o2_run.specs.Pieces.{Counts}
 use Rattle.o2_cli.specs.declared.status.Status.{Status}
 use Rattle.o2_cli.specs.declared.status.Status.TheVariants as status
-use Rattle.o2_cli.specs.Top.{Possible, IsCheck, IsFirst, Refuses, Shows, OnTried}
+use Rattle.o2_cli.specs.Top.{Possible, IsBench, IsCheck, IsFirst, Refuses, Shows, OnTried}
 use Rattle.o2_cli.specs.Statuses.{status_by}
 use Rattle.o2_cli.specs.Checks.{module_line, with_line, module_lines, IsUnstarted, ShowsLines, Checks, ChecksFile}
 use Rattle.o2_cli.proofs.Runs.{load_started}
@@ -57,32 +58,25 @@ abbrev second_word : List (List ℕ) → List ℕ
 second_word [] = []
 second_word (w ∷ ws) = first_word ws
 
--- the other verbs have three letters
-is_check : (v : Verb) → verb_text v ≡ verb_text Check → v ≡ Check
-is_check Exe e = let size : 3 ≡ 5 = ap length e in absurd (omega (arith, size))
-is_check Run e = let size : 3 ≡ 5 = ap length e in absurd (omega (arith, size))
-is_check Check e = refl
-
--- the first letters tell the others apart
+-- the first letters tell verbs apart
 abbrev first_letter : List ℕ → ℕ
 first_letter [] = 0
 first_letter (x ∷ xs) = x
 
-one_verb : (v w : Verb) → verb_text v ≡ verb_text w → v ≡ w
-one_verb Exe Exe e = refl
-one_verb Exe Run e = let letter : 101 ≡ 114 = ap first_letter e in absurd (omega (arith, letter))
-one_verb Run Exe e = let letter : 114 ≡ 101 = ap first_letter e in absurd (omega (arith, letter))
-one_verb Run Run e = refl
-one_verb v Check e = is_check v e
-one_verb Check Exe e = sym (is_check Exe (sym e))
-one_verb Check Run e = sym (is_check Run (sym e))
+is_check : (v : Verb) → verb_text v ≡ verb_text Check → v ≡ Check
+is_check Check e = refl
+is_check v e = let letter : first_letter (verb_text v) ≡ 99 = ap first_letter e in absurd (omega (arith, letter))
 
 module _ (words : List (String Global)) (v w : Verb) (name other : List ℕ) (one : IsCommandFor words v name) (two : IsCommandFor words w other) where
   pub name_is : name ≡ other
   name_is = ap second_word (sym one.two ∙ two.two)
 
   pub verb_is : v ≡ w
-  verb_is = one_verb v w (ap first_word (sym one.two ∙ two.two))
+  verb_is = one_command words v w name other one two
+
+-- the verb of a bench
+pub bench_is : (words : List (String Global)) (v : Verb) (name : List ℕ) → IsCommandFor words v name → IsBench words → (n : ℕ) × (v ≡ Bench n)
+bench_is words v name command bench = (bench.0, verb_is words v (Bench bench.0) name bench.1 command bench.2)
 
 -- a command of another verb is no check
 pub no_check : (words : List (String Global)) (v : Verb) (name : List ℕ) → IsCommandFor words v name → ((v ≡ Check) → ⊥) → IsCheck words → ⊥
@@ -93,6 +87,7 @@ first_fault : (verb : Verb) (contents : Contents) (name input : List ℕ) (f : O
 first_fault Exe contents name input f e = ap (load_started input) e
 first_fault Run contents name input f e = ap (load_started input) e
 first_fault Check contents name input f e = e
+first_fault (Bench count) contents name input f e = ap (load_started input) e
 
 module _ (words : List (String Global)) (may : Possible) (verb : Verb) (name : List ℕ) (command : IsCommandFor words verb name) where
   refused_by : (f : OpenFault) → ((contents : Contents) → may contents → Fails f (loaded verb contents name)) → Refuses words may (status_by f)

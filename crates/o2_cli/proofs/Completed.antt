@@ -1,28 +1,35 @@
 -- What keeps a command from being done: a refusal, a fault, or a step that hasn't what it needs.
-use Rattle.std.proofs.Common.{inl, inr, ◌≡◌, ◌≤◌, ◌<◌, ℕ, Bool, true, false, cond, arith, List, [], ◌∷◌, map, Option, Some, None, subst, refl}
+use Rattle.std.proofs.Common.{inl, inr, ◌≡◌, ◌≤◌, ◌<◌, ℕ, Bool, true, false, cond, arith, List, [], ◌∷◌, map, Option, Some, None, subst, sym, refl}
 use Rattle.std.proofs.lemmas.List.Sums.{sum_by-cons}
 use Rattle.std.specs.Prelude.{Ok, Err, Result, String, filter, sum}
 use Rattle.std.specs.declared.alloc.Global.{Global}
 use Rattle.o2_words.specs.declared.words.Verb.{Verb}
-use Rattle.o2_words.specs.declared.words.Verb.TheVariants.{Exe, Run, Check}
+use Rattle.o2_words.specs.declared.words.Verb.TheVariants.{Exe, Run, Check, Bench}
 use Rattle.o2_words.specs.Words.{IsCommandFor}
 use Rattle.o2_conf.specs.Dispatch.{Dispatch}
 use Rattle.o2_world.specs.Map.{Map}
 use Rattle.o2_world.specs.World.{World, Setting, Segment, Process}
 use Rattle.o2_world.specs.Holders.{process_at}
-use Rattle.o2_world.specs.Run.{after, before, next_dispatch}
+use Rattle.o2_world.specs.Run.{IsBelowLast, after, before, next_dispatch}
 use Rattle.o2_run.specs.Room.{room, live_load, room_next, load_next, room_between, load_between, of_both, behind, need}
-use Rattle.o2_run.specs.Stops.{IsSwapFull}
-use Rattle.o2_run.specs.Pieces.{Counts}
+use Rattle.o2_run.specs.Stops.{IsSwapFull, StopsFor}
+use Rattle.o2_run.specs.declared.steps.Stop.{Stop}
+use Rattle.o2_run.specs.declared.steps.Stop.TheVariants.{NoRoom, SwapFull}
+use Rattle.o2_outer.specs.Texts.{Rose}
+use Rattle.o2_run.specs.Pieces.{Counts, counts}
 use Rattle.o2_open.specs.declared.session.Session.{Session}
 use Rattle.o2_open.specs.declared.fault.OpenFault.{OpenFault}
-use Rattle.o2_open.specs.Loads.{Contents, loaded}
+use Rattle.o2_open.specs.declared.fault.OpenFault.TheVariants as open_fault
+use Rattle.o2_open.specs.Loads.{Contents, Fails, Refuses as OpenRefuses, loaded}
 use Rattle.o2_cli.specs.declared.status.Status.{Status}
 use Rattle.o2_cli.specs.declared.status.Status.TheVariants as status
 use Rattle.o2_cli.specs.Top.{IsCheck, IsFirst, IsRefused, Opened, Opens, Refuses, Shows, Possible, opened, OnFileFault, OnInputFault, OnSinkFault, OnSwapFault}
+use Rattle.o2_cli.specs.Ends.{HasStop}
 use Rattle.o2_cli.specs.Checks.{Checks}
 use Rattle.o2_cli.specs.Done.{HasAmple, Completes, CompletesCheck}
-use Rattle.o2_cli.proofs.Checked.{name_is, verb_is}
+use Rattle.o2_cli.specs.Statuses.{status_by}
+use Rattle.o2_cli.proofs.Checked.{name_is, refused_open, verb_is}
+use Rattle.o2_cli.proofs.Runs.{untouched}
 
 -- What is needed or locked is a part of what lives.
 
@@ -58,6 +65,14 @@ no_full_swap : (blocks : ℕ) (s : Setting) (w : World) → HasAmple blocks s w 
 no_full_swap blocks s w (inl live) full = absurd (omega (arith, live, full.memory))
 no_full_swap blocks s w (inr fits) full = absurd (omega (arith, fits.1, full.swap))
 
+-- where a command's run stops, and why
+stopped_at : (verb : Verb) (blocks : ℕ) (o : Opened) (why : Stop) (j c d r q : Option (List ℕ)) (e : Type 0) (n : Counts) → HasStop verb blocks o why j c d r q e n
+    → (k : ℕ) × IsBelowLast o.setting o.world k × StopsFor blocks o.setting (after o.setting o.world k) why
+stopped_at Exe blocks o why j c d r q e n t = (t.steps, t.below, t.cause)
+stopped_at Run blocks o why j c d r q e n t = (t.steps, t.below, t.cause)
+stopped_at Check blocks o why j c d r q e n t = absurd t
+stopped_at (Bench count) blocks o why j c d r q e n t = (t.run.steps, t.run.below, t.run.cause)
+
 -- What opens isn't refused.
 
 opens_or : (verb : Verb) (contents : Contents) (name text : List ℕ) (f : OpenFault) (o : Opened) → ((verb ≡ Check) → ⊥)
@@ -65,6 +80,7 @@ opens_or : (verb : Verb) (contents : Contents) (name text : List ℕ) (f : OpenF
 opens_or Exe contents name text f o runs ok err = absurd (cc)
 opens_or Run contents name text f o runs ok err = absurd (cc)
 opens_or Check contents name text f o runs ok err = runs refl
+opens_or (Bench count) contents name text f o runs ok err = absurd (cc)
 
 links_or : (contents : Contents) (name : List ℕ) (f : OpenFault) (s : Session) → loaded Check contents name ≡ Ok s → loaded Check contents name ≡ Err f → ⊥
 links_or contents name f s ok err = absurd (cc)
@@ -79,7 +95,7 @@ module _ (words : List (String Global)) (may : Possible) (contents : Contents) (
       subst (λ (v : Verb). IsFirst v contents name text f) (verb_is words r.verb verb r.name name r.command command)
       (subst (λ (n : List ℕ). IsFirst r.verb contents n text f) (name_is words r.verb verb r.name name r.command command) (r.refused contents text is))
 
-  unrefused : (text : List ℕ) (P : Opened → Type 0) (f : OpenFault) → IsRefused words may f → (IsCheck words → ⊥) → Opens words contents text P → ⊥
+  unrefused : (text : List ℕ) (P : Verb → Opened → Type 0) (f : OpenFault) → IsRefused words may f → (IsCheck words → ⊥) → Opens words contents text P → ⊥
   unrefused text P f r runs o =
       opens_or o.verb contents o.name text f o.start
       (λ check. runs (o.name, subst (λ (v : Verb). IsCommandFor words v o.name) check o.command))
@@ -89,14 +105,15 @@ module _ (words : List (String Global)) (may : Possible) (contents : Contents) (
   unrefused_check name s f r command links = links_or contents name f s links (refused_as Check name [] f command r)
 
   -- what a command opens is one setting and one world
-  one_start : (text : List ℕ) (P Q : Opened → Type 0) (a : Opens words contents text P) (b : Opens words contents text Q) → a.start ≡ b.start
+  one_start : (text : List ℕ) (P Q : Verb → Opened → Type 0) (a : Opens words contents text P) (b : Opens words contents text Q) → a.start ≡ b.start
   one_start text P Q a b =
       same_start (opened b.verb contents b.name text) a.start b.start
       (subst (λ (v : Verb). opened v contents b.name text ≡ Ok a.start) (verb_is words a.verb b.verb a.name b.name a.command b.command)
       (subst (λ (n : List ℕ). opened a.verb contents n text ≡ Ok a.start) (name_is words a.verb b.verb a.name b.name a.command b.command) a.opens)) b.opens
 
-  unstopped : (text : List ℕ) (P Q : Opened → Type 0) → Opens words contents text P → Opens words contents text Q → ((o : Opened) → P o → Q o → ⊥) → ⊥
-  unstopped text P Q a b clash = clash b.start (subst P (one_start text P Q a b) a.runs) b.runs
+  unstopped : (text : List ℕ) (P Q : Verb → Opened → Type 0) → Opens words contents text P → Opens words contents text Q → ((v : Verb) (o : Opened) → P v o → Q v o → ⊥) → ⊥
+  unstopped text P Q a b clash =
+      clash b.verb b.start (subst (λ (v : Verb). P v b.start) (verb_is words a.verb b.verb a.name b.name a.command b.command) (subst (λ (o : Opened). P a.verb o) (one_start text P Q a b) a.runs)) b.runs
 
 module _ (words : List (String Global)) (may : Possible) (files input sink device : Type 0) where
   pub completes : (blocks : ℕ) (i j c d r q : Option (List ℕ)) (e : Type 0) (n : Counts) (answer : Status)
@@ -115,10 +132,10 @@ module _ (words : List (String Global)) (may : Possible) (files input sink devic
   completes blocks i j c d r q e n status.SwapFault refuses shows f g h k = λ runs contents text is left o nf ni ns nd. nd k
   completes blocks i j c d r q e n status.NoRoom refuses shows f g h k = λ runs contents text is left o nf ni ns nd.
       unstopped words may contents is text _ _ (shows runs contents text is left) o
-      (λ start stops ample. no_stop_for_room blocks start.setting (after start.setting start.world stops.steps) (ample stops.steps stops.below) stops.cause)
+      (λ verb start stops ample. let at = stopped_at verb blocks start NoRoom j c d r q e n stops in no_stop_for_room blocks start.setting (after start.setting start.world at.0) (ample at.0 at.1) at.2)
   completes blocks i j c d r q e n status.SwapFull refuses shows f g h k = λ runs contents text is left o nf ni ns nd.
       unstopped words may contents is text _ _ (shows runs contents text is left) o
-      (λ start stops ample. no_full_swap blocks start.setting (after start.setting start.world stops.steps) (ample stops.steps stops.below) stops.cause)
+      (λ verb start stops ample. let at = stopped_at verb blocks start SwapFull j c d r q e n stops in no_full_swap blocks start.setting (after start.setting start.world at.0) (ample at.0 at.1) at.2)
 
   pub check_completes : (c d : Option (List ℕ)) (answer : Status) → Refuses words may answer → Checks words may c d answer
       → OnFileFault answer files → OnSinkFault answer sink → CompletesCheck words may files sink answer
@@ -134,3 +151,43 @@ module _ (words : List (String Global)) (may : Possible) (files input sink devic
   check_completes c d status.NoRoom refuses checks f h = λ contents name s is command links nf ns. checks name command
   check_completes c d status.SwapFull refuses checks f h = λ contents name s is command links nf ns. checks name command
   check_completes c d status.SwapFault refuses checks f h = λ contents name s is command links nf ns. checks name command
+
+-- what keeps a command from opening has a fault of the files for its cause, if any
+module _ (P : Type 0) where
+  no_input : (f : OpenFault) → OnInputFault (status_by f) P
+  no_input (open_fault.NoFile n) = tt
+  no_input (open_fault.BadMachine f) = tt
+  no_input (open_fault.BadModule n f) = tt
+  no_input open_fault.FileFault = tt
+  no_input open_fault.NoMemory = tt
+
+  no_sink : (f : OpenFault) → OnSinkFault (status_by f) P
+  no_sink (open_fault.NoFile n) = tt
+  no_sink (open_fault.BadMachine f) = tt
+  no_sink (open_fault.BadModule n f) = tt
+  no_sink open_fault.FileFault = tt
+  no_sink open_fault.NoMemory = tt
+
+  no_swap : (f : OpenFault) → OnSwapFault (status_by f) P
+  no_swap (open_fault.NoFile n) = tt
+  no_swap (open_fault.BadMachine f) = tt
+  no_swap (open_fault.BadModule n f) = tt
+  no_swap open_fault.FileFault = tt
+  no_swap open_fault.NoMemory = tt
+
+files_rose : (before now : ℕ) (f : OpenFault) → OpenRefuses before now f → OnFileFault (status_by f) (Rose before now)
+files_rose before now (open_fault.NoFile n) h = tt
+files_rose before now (open_fault.BadMachine f) h = tt
+files_rose before now (open_fault.BadModule n f) h = tt
+files_rose before now open_fault.FileFault h = h
+files_rose before now open_fault.NoMemory h = tt
+
+pub open_completes : (words : List (String Global)) (may : Possible) (before now : ℕ) (input sink device : Type 0) (blocks : ℕ) (i : Option (List ℕ)) (verb : Verb) (name : List ℕ) → IsCommandFor words verb name
+    → (f : OpenFault) (answer : Status) → answer ≡ status_by f → ((contents : Contents) → may contents → Fails f (loaded verb contents name)) → OpenRefuses before now f
+    → Completes words may blocks i (Rose before now) input sink device answer
+open_completes words may before now input sink device blocks i verb name command f answer is fails refuses =
+    subst (λ (a : Status). Completes words may blocks i (Rose before now) input sink device a) (sym is)
+    (completes words may (Rose before now) input sink device blocks i i None None None None (Unit {0}) (counts 0 0 0 0 0) (status_by f)
+    (refused_open words may verb name command f (status_by f) refl fails)
+    (untouched words may blocks i None None (Unit {0}) (counts 0 0 0 0 0) f (status_by f) refl)
+    (files_rose before now f refuses) (no_input input f) (no_sink sink f) (no_swap device f))

@@ -4,13 +4,14 @@ use Rattle.std.specs.Prelude.{Bool, IsTrue, Result, Ok, Err, String, min}
 use Rattle.std.specs.declared.alloc.Global.{Global}
 use Rattle.o2_base.specs.declared.faults.ModuleFault.{ModuleFault}
 use Rattle.o2_words.specs.declared.words.Verb.{Verb}
-use Rattle.o2_words.specs.declared.words.Verb.TheVariants.{Exe, Run, Check}
+use Rattle.o2_words.specs.declared.words.Verb.TheVariants.{Exe, Run, Check, Bench}
 use Rattle.o2_words.specs.Words.{IsCommandFor}
 use Rattle.o2_world.specs.World.{World, Setting}
 use Rattle.o2_world.specs.Starts.{Built, where_started}
 use Rattle.o2_world.specs.Run.{InOpening, console}
 use Rattle.o2_world.specs.Text.{lines_text}
 use Rattle.o2_outer.specs.Texts.{Gains, GainsSome, IsPrefix}
+use Rattle.o2_run.specs.declared.steps.Stop.{Stop}
 use Rattle.o2_run.specs.declared.steps.Stop.TheVariants.{Input, NoRoom, SwapFull, SwapFault}
 use Rattle.o2_run.specs.declared.fault.Fault.{Fault}
 use Rattle.o2_run.specs.declared.fault.Fault.TheVariants.{Sink, Stopped}
@@ -30,9 +31,10 @@ use Rattle.o2_cli.specs.declared.status.Status.TheVariants as status
 use Rattle.o2_open.specs.declared.fault.OpenFault.{OpenFault}
 use Rattle.o2_open.specs.declared.fault.OpenFault.TheVariants as open_fault
 use Rattle.o2_open.specs.Loads.{Contents, Tells, loaded, start_refusal, under, ◌>>=◌}
-use Rattle.o2_cli.specs.Top.{OnFileFault, Refuses as TopRefuses, OnInputFault, OnSinkFault, OnSwapFault, Opened, Possible, IsFirst, Opens, Shows, opened, started, with_setting, refusal}
+use Rattle.o2_cli.specs.Top.{OnFileFault, Refuses as TopRefuses, OnInputFault, OnSinkFault, OnSwapFault, Opened, Possible, IsFirst, Opens, Shows, opened, started}
 use Rattle.o2_cli.specs.Statuses.{status_by, status_of}
-use Rattle.o2_cli.specs.RunTexts.{StartsWith, FaultsRun, ShowsRun, RefusesRun}
+use Rattle.o2_cli.specs.Opening.{StartsWith, refusal, with_setting}
+use Rattle.o2_cli.specs.RunTexts.{FailsToBegin, StopsRun, ShowsRun, RefusesRun}
 
 -- the whole opening, from what is reserved for the run and what the starts come to
 abbrev pub opened_from : Session → List (ℕ × ℕ) → List ℕ → Result Built (ℕ × ModuleFault) → Result Opened OpenFault
@@ -71,17 +73,82 @@ in_opening s b input j c r q left g k x y least most = record {
   hands = record { to_console = omega arith; at_least = omega (arith, least); at_most = no_more x y (length b.lines) most };
 }
 
--- a refusal of a start, as it is told
-refused_by : (s : Session) (blocks : ℕ) (i c r q : Option (List ℕ)) (z : Type 0) (n : Counts) (pid : ℕ) (fault : ModuleFault) (answer : OpenFault) → starting s.linked s.conf ≡ Err (pid, fault) → q ≡ r → Tells answer (start_refusal s.conf s.linked.programs pid fault) → ShowsRun s blocks i i c c r q z n (status_by answer)
-refused_by s blocks i c r q z n pid fault open_fault.NoMemory e same t = record { input = refl; console = refl; report = same }
-refused_by s blocks i c r q z n pid fault (open_fault.BadModule name f) e same t = record { input = refl; console = refl; report = same }
-refused_by s blocks i c r q z n pid fault (open_fault.NoFile name) e same t = absurd (cc)
-refused_by s blocks i c r q z n pid fault (open_fault.BadMachine f) e same t = absurd (cc)
-refused_by s blocks i c r q z n pid fault open_fault.FileFault e same t = absurd (cc)
+-- what a session's run shows where it has no first step
+pub fails_run : (s : Session) (blocks : ℕ) (i c r q : Option (List ℕ)) (e : Type 0) (k before now : ℕ) (answer : Status) → FailsToBegin s r q before now answer
+    → ShowsRun Run s blocks i i c c r q e (counts k k before now 0) answer
+fails_run s blocks i c r q e k before now status.SinkFault f = λ input left. record {
+  start = start_of s input f.0.built;
+  starts = has_started s input f.0.built f.0.starts;
+  runs = in_opening s f.0.built input i c r q left f.0.to_report k before now f.1 f.2;
+}
+fails_run s blocks i c r q e k before now status.NoMemory f = record { input = refl; console = refl; report = f }
+fails_run s blocks i c r q e k before now (status.BadModule name fault) f = record { input = refl; console = refl; report = f }
+fails_run s blocks i c r q e k before now status.Fine f = absurd f
+fails_run s blocks i c r q e k before now status.BadWords f = absurd f
+fails_run s blocks i c r q e k before now (status.NoFile name) f = absurd f
+fails_run s blocks i c r q e k before now (status.BadMachine fault) f = absurd f
+fails_run s blocks i c r q e k before now status.FileFault f = absurd f
+fails_run s blocks i c r q e k before now status.InputFault f = absurd f
+fails_run s blocks i c r q e k before now status.NoRoom f = absurd f
+fails_run s blocks i c r q e k before now status.SwapFull f = absurd f
+fails_run s blocks i c r q e k before now status.SwapFault f = absurd f
 
-pub refused_texts : (s : Session) (blocks : ℕ) (i c r q : Option (List ℕ)) (z : Type 0) (n : Counts) (pid : ℕ) (fault : ModuleFault) (answer : OpenFault) (told : Status) → told ≡ status_by answer
-    → starting s.linked s.conf ≡ Err (pid, fault) → q ≡ r → Tells answer (start_refusal s.conf s.linked.programs pid fault) → ShowsRun s blocks i i c c r q z n told
-refused_texts s blocks i c r q z n pid fault answer told is e same t = subst (λ (a : Status). ShowsRun s blocks i i c c r q z n a) (sym is) (refused_by s blocks i c r q z n pid fault answer e same t)
+-- what its status says of the counts: only a sink may have failed
+module _ (s : Session) (r q : Option (List ℕ)) (before now : ℕ) (P : Type 0) where
+  pub begin_input : (answer : Status) → FailsToBegin s r q before now answer → OnInputFault answer P
+  begin_input status.SinkFault h = tt
+  begin_input status.NoMemory h = tt
+  begin_input (status.BadModule n f) h = tt
+  begin_input status.InputFault h = absurd h
+  begin_input status.SwapFault h = tt
+  begin_input status.Fine h = tt
+  begin_input status.BadWords h = tt
+  begin_input (status.NoFile n) h = tt
+  begin_input (status.BadMachine f) h = tt
+  begin_input status.FileFault h = tt
+  begin_input status.NoRoom h = tt
+  begin_input status.SwapFull h = tt
+
+  pub begin_swap : (answer : Status) → FailsToBegin s r q before now answer → OnSwapFault answer P
+  begin_swap status.SinkFault h = tt
+  begin_swap status.NoMemory h = tt
+  begin_swap (status.BadModule n f) h = tt
+  begin_swap status.InputFault h = tt
+  begin_swap status.SwapFault h = absurd h
+  begin_swap status.Fine h = tt
+  begin_swap status.BadWords h = tt
+  begin_swap (status.NoFile n) h = tt
+  begin_swap (status.BadMachine f) h = tt
+  begin_swap status.FileFault h = tt
+  begin_swap status.NoRoom h = tt
+  begin_swap status.SwapFull h = tt
+
+pub begin_sink : (P Q : Type 0) (answer : Status) → OnSinkFault answer Q → OnSinkFault answer (P ⊎ Q)
+begin_sink P Q status.SinkFault h = inr h
+begin_sink P Q status.NoMemory h = tt
+begin_sink P Q (status.BadModule n f) h = tt
+begin_sink P Q status.InputFault h = tt
+begin_sink P Q status.SwapFault h = tt
+begin_sink P Q status.Fine h = tt
+begin_sink P Q status.BadWords h = tt
+begin_sink P Q (status.NoFile n) h = tt
+begin_sink P Q (status.BadMachine f) h = tt
+begin_sink P Q status.FileFault h = tt
+begin_sink P Q status.NoRoom h = tt
+begin_sink P Q status.SwapFull h = tt
+
+-- a refusal of a start, as it is told
+begin_refused_by : (s : Session) (r q : Option (List ℕ)) (before now : ℕ) (pid : ℕ) (fault : ModuleFault) (answer : OpenFault) → q ≡ r
+    → Tells answer (start_refusal s.conf s.linked.programs pid fault) → FailsToBegin s r q before now (status_by answer)
+begin_refused_by s r q before now pid fault open_fault.NoMemory same t = same
+begin_refused_by s r q before now pid fault (open_fault.BadModule name f) same t = same
+begin_refused_by s r q before now pid fault (open_fault.NoFile name) same t = absurd (cc)
+begin_refused_by s r q before now pid fault (open_fault.BadMachine f) same t = absurd (cc)
+begin_refused_by s r q before now pid fault open_fault.FileFault same t = absurd (cc)
+
+pub begin_refused : (s : Session) (r q : Option (List ℕ)) (before now : ℕ) (pid : ℕ) (fault : ModuleFault) (answer : OpenFault) (told : Status) → told ≡ status_by answer → q ≡ r
+    → Tells answer (start_refusal s.conf s.linked.programs pid fault) → FailsToBegin s r q before now told
+begin_refused s r q before now pid fault answer told is same t = subst (λ (a : Status). FailsToBegin s r q before now a) (sym is) (begin_refused_by s r q before now pid fault answer same t)
 
 -- and as the first refusal of the run
 start_refused_by : (s : Session) (pid : ℕ) (fault : ModuleFault) (answer : OpenFault) → starting s.linked s.conf ≡ Err (pid, fault) → Tells answer (start_refusal s.conf s.linked.programs pid fault) → RefusesRun s (status_by answer)
@@ -117,27 +184,27 @@ untouched_by words may blocks i c r z n open_fault.NoMemory = record { input = r
 pub untouched : (words : List (String Global)) (may : Possible) (blocks : ℕ) (i c r : Option (List ℕ)) (z : Type 0) (n : Counts) (fault : OpenFault) (answer : Status) → answer ≡ status_by fault → Shows words may blocks i i c c r r z n answer
 untouched words may blocks i c r z n fault answer is = subst (λ (a : Status). Shows words may blocks i i c c r r z n a) (sym is) (untouched_by words may blocks i c r z n fault)
 
--- what a run with a fault shows, and the causes of its status
-module _ (s : Session) (blocks : ℕ) (i j c d r q : Option (List ℕ)) (e : Type 0) (n : Counts) where
-  pub faulted_shows : (f : Fault) (answer : Status) → answer ≡ status_of f → FaultsRun s blocks i j c d r q e n f → ShowsRun s blocks i j c d r q e n answer
-  faulted_shows f answer is t = subst (λ (a : Status). ShowsRun s blocks i j c d r q e n a) (sym is) (by_fault f t) where
-    by_fault : (f : Fault) → FaultsRun s blocks i j c d r q e n f → ShowsRun s blocks i j c d r q e n (status_of f)
-    by_fault Sink t = t
-    by_fault (Stopped Input) t = t
-    by_fault (Stopped NoRoom) t = t
-    by_fault (Stopped SwapFull) t = t
-    by_fault (Stopped SwapFault) t = t
+-- what a run with a fault shows: the report's count rose behind the start, and the lines of the start were put before
+module _ (s : Session) (blocks : ℕ) (i j c d r q : Option (List ℕ)) (e : Type 0) (u v x y z : ℕ) (stands : Setting → World → Type 0) (since : Type 0) (later : since → e) where
+  abbrev pub Faulted : Fault → Type 0
+  Faulted f = (input : List ℕ) → i ≡ Some input
+      → StartsWith s input (λ o. (y ≡ x + length o.world.lines) × HasTexts (stands o.setting) machine_swaps blocks o.setting o.world j c d r q since (counts u v y z (length o.world.lines)) (Err f))
 
--- from the start on: the report's count rose behind that, and the lines of the start were put before
-module _ (s : Session) (blocks : ℕ) (i j c d r q : Option (List ℕ)) (e : Type 0) (u v x y z : ℕ) where
-  pub faulted_run : (stands : Setting → World → Type 0) (since : Type 0) → (since → e) → (f : Fault)
-      → ((input : List ℕ) → i ≡ Some input → StartsWith s input (λ o. (y ≡ x + length o.world.lines) × HasTexts (stands o.setting) machine_swaps blocks o.setting o.world j c d r q since (counts u v y z (length o.world.lines)) (Err f)))
-      → FaultsRun s blocks i j c d r q e (counts u v x z 0) f
-  faulted_run stands since later Sink ran = λ input left.
-      let o = ran input left in record { start = o.start; starts = o.starts; runs = part_from machine_swaps o.start.setting o.start.world j c d r q u v x y z (length o.start.world.lines) o.runs.0 o.runs.1.0 }
-  faulted_run stands since later (Stopped why) ran = λ input left.
+  faulted_stop : (why : Stop) → Faulted (Stopped why) → StopsRun Run s blocks i j c d r q e (counts u v x z 0) why
+  faulted_stop why ran = λ input left.
       let o = ran input left in
       record { start = o.start; starts = o.starts; runs = stopped_from machine_swaps blocks o.start.setting o.start.world why j c d r q since e later u v x y z (length o.start.world.lines) o.runs.0 o.runs.1.0 }
+
+  by_fault : (f : Fault) → Faulted f → ShowsRun Run s blocks i j c d r q e (counts u v x z 0) (status_of f)
+  by_fault Sink ran = λ input left.
+      let o = ran input left in record { start = o.start; starts = o.starts; runs = part_from machine_swaps o.start.setting o.start.world j c d r q u v x y z (length o.start.world.lines) o.runs.0 o.runs.1.0 }
+  by_fault (Stopped Input) ran = faulted_stop Input ran
+  by_fault (Stopped NoRoom) ran = faulted_stop NoRoom ran
+  by_fault (Stopped SwapFull) ran = faulted_stop SwapFull ran
+  by_fault (Stopped SwapFault) ran = faulted_stop SwapFault ran
+
+  pub faulted_run : (f : Fault) (answer : Status) → answer ≡ status_of f → Faulted f → ShowsRun Run s blocks i j c d r q e (counts u v x z 0) answer
+  faulted_run f answer is ran = subst (λ (a : Status). ShowsRun Run s blocks i j c d r q e (counts u v x z 0) a) (sym is) (by_fault f ran)
 
 pub input_status : (f : Fault) (sink input device : Type 0) → CauseOf sink input (Unit {0}) device f → OnInputFault (status_of f) input
 input_status Sink sink input device h = tt
@@ -168,19 +235,48 @@ pub runs_not_checks : (verb : Verb) → (verb ≡ Exe) ⊎ (verb ≡ Run) → ve
 runs_not_checks verb (inl exe) check = let same : Exe ≡ Check = sym exe ∙ check in absurd (cc)
 runs_not_checks verb (inr run) check = let same : Run ≡ Check = sym run ∙ check in absurd (cc)
 
+pub benches_not_checks : (verb : Verb) (count : ℕ) → verb ≡ Bench count → verb ≡ Check → ⊥
+benches_not_checks verb count bench check = let same : Bench count ≡ Check = sym bench ∙ check in absurd (cc)
+
+-- what a session's run shows as `run`, it shows as `exe`
+pub shown_either : (verb : Verb) (s : Session) (blocks : ℕ) (i j c d r q : Option (List ℕ)) (e : Type 0) (n : Counts) (answer : Status) → (verb ≡ Exe) ⊎ (verb ≡ Run)
+    → ShowsRun Run s blocks i j c d r q e n answer → ShowsRun verb s blocks i j c d r q e n answer
+shown_either verb s blocks i j c d r q e n answer (inl exe) t = subst (λ (v : Verb). ShowsRun v s blocks i j c d r q e n answer) (sym exe) (as_exe answer t)
+  where
+    as_exe : (answer : Status) → ShowsRun Run s blocks i j c d r q e n answer → ShowsRun Exe s blocks i j c d r q e n answer
+    as_exe status.Fine t = t
+    as_exe status.SinkFault t = t
+    as_exe status.InputFault t = t
+    as_exe status.NoRoom t = t
+    as_exe status.SwapFull t = t
+    as_exe status.SwapFault t = t
+    as_exe status.NoMemory t = t
+    as_exe (status.BadModule n f) t = t
+    as_exe status.BadWords t = absurd t
+    as_exe (status.NoFile n) t = absurd t
+    as_exe (status.BadMachine f) t = absurd t
+    as_exe status.FileFault t = absurd t
+shown_either verb s blocks i j c d r q e n answer (inr run) t = subst (λ (v : Verb). ShowsRun v s blocks i j c d r q e n answer) (sym run) t
+
+-- and what it shows as a bench
+pub shown_bench : (verb : Verb) (count : ℕ) (s : Session) (blocks : ℕ) (i j c d r q : Option (List ℕ)) (e : Type 0) (n : Counts) (answer : Status) → verb ≡ Bench count
+    → ShowsRun (Bench count) s blocks i j c d r q e n answer → ShowsRun verb s blocks i j c d r q e n answer
+shown_bench verb count s blocks i j c d r q e n answer is t = subst (λ (v : Verb). ShowsRun v s blocks i j c d r q e n answer) (sym is) t
+
 -- a refusal of a command that starts
 first_of : (verb : Verb) (contents : Contents) (name input : List ℕ) (f : OpenFault) → ((verb ≡ Check) → ⊥) → opened verb contents name input ≡ Err f → IsFirst verb contents name input f
 first_of Exe contents name input f starts e = e
 first_of Run contents name input f starts e = e
 first_of Check contents name input f starts e = absurd (starts refl)
+first_of (Bench count) contents name input f starts e = e
 
 module _ (words : List (String Global)) (may : Possible) (blocks : ℕ) (i j c d r q : Option (List ℕ)) (e : Type 0) (n : Counts) (verb : Verb) (name : List ℕ) (s : Session) (command : IsCommandFor words verb name)
     (loads : (contents : Contents) → may contents → loaded verb contents name ≡ Ok s) where
-  opens : (contents : Contents) (input : List ℕ) (P : Opened → Type 0) → may contents → StartsWith s input P → Opens words contents input P
+  opens : (contents : Contents) (input : List ℕ) (P : Verb → Opened → Type 0) → may contents → StartsWith s input (P verb) → Opens words contents input P
   opens contents input P is st = record { verb = verb; name = name; command = command; start = st.start; opens = ap (load_started input) (loads contents is) ∙ st.starts; runs = st.runs }
 
   -- what a session's run shows is what its command shows
-  pub shown : (answer : Status) → ShowsRun s blocks i j c d r q e n answer → Shows words may blocks i j c d r q e n answer
+  pub shown : (answer : Status) → ShowsRun verb s blocks i j c d r q e n answer → Shows words may blocks i j c d r q e n answer
   shown status.Fine t = λ runs contents input is left. opens contents input _ is (t input left)
   shown status.SinkFault t = λ runs contents input is left. opens contents input _ is (t input left)
   shown status.InputFault t = λ runs contents input is left. opens contents input _ is (t input left)

@@ -32,7 +32,7 @@ abbrev pub Completes : List (String Global) → Possible → (blocks : ℕ) → 
     → (files input sink device : Type 0) → Status → Type 0
 Completes words may blocks left files input sink device result =
     (IsCheck words → ⊥) → (contents : Contents) (text : List ℕ) → may contents → left ≡ Some text
-    → Opens words contents text (IsAmple blocks)
+    → Opens words contents text (λ verb. IsAmple blocks)
     → (files → ⊥) → (input → ⊥) → (sink → ⊥) → (device → ⊥) → IsDone result
 
 -- `check`: what it names is read and linked, and neither files nor sink had a fault

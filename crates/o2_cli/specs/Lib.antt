@@ -1,5 +1,9 @@
+pub mod Opening
+pub mod Unseen
 pub mod Statuses
 pub mod StatusTexts
+pub mod BenchTexts
+pub mod Ends
 pub mod Top
 pub mod Checks
 pub mod RunTexts

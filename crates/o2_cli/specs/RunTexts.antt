@@ -1,48 +1,42 @@
 -- What the run of a session comes to.
-use Rattle.std.specs.Prelude.{◌≡◌, ℕ, List, Option, Some, Ok, Err}
+use Rattle.std.specs.Prelude.{◌≡◌, ◌≤◌, ◌+◌, ℕ, List, length, Option, Some, Ok, Err}
+use Rattle.o2_words.specs.declared.words.Verb.{Verb}
 use Rattle.o2_run.specs.Pieces.{Counts}
-use Rattle.o2_run.specs.Ended.{HasWholeRun, HasStoppedTexts, HasPartRun}
-use Rattle.o2_run.specs.declared.fault.Fault.{Fault}
-use Rattle.o2_run.specs.declared.fault.Fault.TheVariants.{Sink, Stopped}
 use Rattle.o2_run.specs.declared.steps.Stop.{Stop}
 use Rattle.o2_run.specs.declared.steps.Stop.TheVariants.{Input, NoRoom, SwapFull, SwapFault}
-use Rattle.o2_machine.specs.Lasts.{machine_swaps}
+use Rattle.o2_machine.specs.Begins.{HasBegunInPart}
 use Rattle.o2_open.specs.declared.session.Session.{Session}
 use Rattle.o2_cli.specs.declared.status.Status.{Status}
 use Rattle.o2_cli.specs.declared.status.Status.TheVariants as status
 use Rattle.o2_open.specs.declared.fault.OpenFault.TheVariants.{BadModule}
-use Rattle.o2_cli.specs.Top.{Opened, started, IsUntouched}
-
--- its processes start, and P holds of its setting and of the world before the first step
-pub record StartsWith (s : Session) (input : List ℕ) (P : Opened → Type 0) : Type 0 where
-  pub start : Opened
-  pub starts : started s input ≡ Ok start
-  pub runs : P start
+use Rattle.o2_cli.specs.Ends.{HasEnd, HasPart, HasStop}
+use Rattle.o2_cli.specs.Opening.{StartsWith}
+use Rattle.o2_cli.specs.Top.{started, IsUntouched}
 
 -- its run is stopped so, before a step
-abbrev pub StopsRun : Session → (blocks : ℕ)
+abbrev pub StopsRun : Verb → Session → (blocks : ℕ)
     → (left_old left_new console_old console_new report_old report_new : Option (List ℕ)) → (fault : Type 0) → (puts : Counts) → Stop → Type 0
-StopsRun s blocks i j c d r q e n why = (input : List ℕ) → i ≡ Some input
-    → StartsWith s input (λ o. HasStoppedTexts machine_swaps blocks o.setting o.world why j c d r q e n)
+StopsRun verb s blocks i j c d r q e n why = (input : List ℕ) → i ≡ Some input → StartsWith s input (λ o. HasStop verb blocks o why j c d r q e n)
 
--- its run has this fault
-abbrev pub FaultsRun : Session → (blocks : ℕ)
-    → (left_old left_new console_old console_new report_old report_new : Option (List ℕ)) → (fault : Type 0) → (puts : Counts) → Fault → Type 0
-FaultsRun s blocks i j c d r q e n Sink = (input : List ℕ) → i ≡ Some input → StartsWith s input (λ o. HasPartRun machine_swaps o.setting o.world j c d r q n)
-FaultsRun s blocks i j c d r q e n (Stopped why) = StopsRun s blocks i j c d r q e n why
-
--- what its run shows, by the status, where the device has so many blocks
-abbrev pub ShowsRun : Session → (blocks : ℕ)
+-- what its run shows as this command, by the status, where the device has so many blocks
+abbrev pub ShowsRun : Verb → Session → (blocks : ℕ)
     → (left_old left_new console_old console_new report_old report_new : Option (List ℕ)) → (fault : Type 0) → (puts : Counts) → Status → Type 0
-ShowsRun s blocks i j c d r q e n status.Fine = (input : List ℕ) → i ≡ Some input → StartsWith s input (λ o. HasWholeRun machine_swaps o.setting o.world j c d r q n)
-ShowsRun s blocks i j c d r q e n status.SinkFault = (input : List ℕ) → i ≡ Some input → StartsWith s input (λ o. HasPartRun machine_swaps o.setting o.world j c d r q n)
-ShowsRun s blocks i j c d r q e n status.InputFault = StopsRun s blocks i j c d r q e n Input
-ShowsRun s blocks i j c d r q e n status.NoRoom = StopsRun s blocks i j c d r q e n NoRoom
-ShowsRun s blocks i j c d r q e n status.SwapFull = StopsRun s blocks i j c d r q e n SwapFull
-ShowsRun s blocks i j c d r q e n status.SwapFault = StopsRun s blocks i j c d r q e n SwapFault
-ShowsRun s blocks i j c d r q e n status.NoMemory = IsUntouched i j c d r q
-ShowsRun s blocks i j c d r q e n (status.BadModule name fault) = IsUntouched i j c d r q
-ShowsRun s blocks i j c d r q e n _ = ⊥
+ShowsRun verb s blocks i j c d r q e n status.Fine = (input : List ℕ) → i ≡ Some input → StartsWith s input (λ o. HasEnd verb o j c d r q n)
+ShowsRun verb s blocks i j c d r q e n status.SinkFault = (input : List ℕ) → i ≡ Some input → StartsWith s input (λ o. HasPart verb o j c d r q n)
+ShowsRun verb s blocks i j c d r q e n status.InputFault = StopsRun verb s blocks i j c d r q e n Input
+ShowsRun verb s blocks i j c d r q e n status.NoRoom = StopsRun verb s blocks i j c d r q e n NoRoom
+ShowsRun verb s blocks i j c d r q e n status.SwapFull = StopsRun verb s blocks i j c d r q e n SwapFull
+ShowsRun verb s blocks i j c d r q e n status.SwapFault = StopsRun verb s blocks i j c d r q e n SwapFault
+ShowsRun verb s blocks i j c d r q e n status.NoMemory = IsUntouched i j c d r q
+ShowsRun verb s blocks i j c d r q e n (status.BadModule name fault) = IsUntouched i j c d r q
+ShowsRun verb s blocks i j c d r q e n _ = ⊥
+
+-- where it has no first step: a front of the starts' lines is put, or nothing; the report was handed as many pieces
+abbrev pub FailsToBegin : Session → (report_old report_new : Option (List ℕ)) → (before now : ℕ) → Status → Type 0
+FailsToBegin s r q before now status.SinkFault = (part : HasBegunInPart s.linked s.conf r q) × (before ≤ now) × (now ≤ before + length part.built.lines)
+FailsToBegin s r q before now status.NoMemory = q ≡ r
+FailsToBegin s r q before now (status.BadModule name fault) = q ≡ r
+FailsToBegin s r q before now _ = ⊥
 
 -- what a run refuses: the start of a process, and nothing else
 abbrev pub RefusesRun : Session → Status → Type 0

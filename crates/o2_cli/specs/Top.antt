@@ -1,43 +1,20 @@
 -- What each status says of the words, the files, the input and both texts.
 use Rattle.std.specs.Prelude.{◌≡◌, ℕ, List, Option, Some, String, Result, Ok, Err}
 use Rattle.std.specs.declared.alloc.Global.{Global}
-use Rattle.o2_base.specs.declared.faults.ModuleFault.{ModuleFault}
 use Rattle.o2_words.specs.declared.words.Verb.{Verb}
-use Rattle.o2_words.specs.declared.words.Verb.TheVariants.{Exe, Run, Check}
+use Rattle.o2_words.specs.declared.words.Verb.TheVariants.{Bench, Check}
 use Rattle.o2_words.specs.Words.{IsCommand, IsCommandFor}
-use Rattle.o2_world.specs.World.{World, Setting}
 use Rattle.o2_run.specs.Pieces.{Counts}
-use Rattle.o2_run.specs.Ended.{HasWholeRun, HasStoppedTexts, HasPartRun}
 use Rattle.o2_run.specs.declared.steps.Stop.{Stop}
 use Rattle.o2_run.specs.declared.steps.Stop.TheVariants.{Input, NoRoom, SwapFull, SwapFault}
-use Rattle.o2_machine.specs.Lasts.{machine_swaps}
-use Rattle.o2_open.specs.declared.session.Session.{Session}
 use Rattle.o2_cli.specs.declared.status.Status.{Status}
 use Rattle.o2_cli.specs.declared.status.Status.TheVariants as status
 use Rattle.o2_open.specs.declared.fault.OpenFault.{OpenFault}
 use Rattle.o2_open.specs.declared.fault.OpenFault.TheVariants as open_fault
-use Rattle.o2_open.specs.Loads.{Contents, loaded, start_refusal, under, ◌>>=◌}
-use Rattle.o2_machine.specs.Begins.{setting_of, opening}
-
--- what a command runs from: its setting, and the world before the first step
-pub record Opened : Type 0 where
-  pub setting : Setting
-  pub world : World
-
-abbrev pub with_setting : Session → World → Result Opened OpenFault
-with_setting s w = Ok (record { setting = setting_of s.conf; world = w })
-
--- a start that is refused
-abbrev pub refusal : Session → ℕ × ModuleFault → OpenFault
-refusal s f = start_refusal s.conf s.linked.programs f.0 f.1
-
--- all processes of a session start, with this input
-unfoldable pub started : Session → List ℕ → Result Opened OpenFault
-started s input = under (refusal s) (opening s.linked s.conf input) >>= with_setting s
-
--- what the command runs, or its first refusal: of the machine file, of each module in its order, of linking, of each start
-abbrev pub opened : Verb → Contents → List ℕ → List ℕ → Result Opened OpenFault
-opened verb contents name input = loaded verb contents name >>= (λ s. started s input)
+use Rattle.o2_open.specs.Loads.{Contents, loaded}
+pub use Rattle.o2_cli.specs.Opening.{Opened, opened, refusal, with_setting}
+unfoldable pub use Rattle.o2_cli.specs.Opening.{started}
+use Rattle.o2_cli.specs.Ends.{HasEnd, HasPart, HasStop}
 
 -- which contents the files may have
 abbrev pub Possible : Type 1
@@ -51,11 +28,14 @@ holding contents = λ (other : Contents). other ≡ contents
 abbrev pub IsCheck : List (String Global) → Type 0
 IsCheck words = (name : List ℕ) × IsCommandFor words Check name
 
+-- the words ask for a bench, which fetches nothing
+abbrev pub IsBench : List (String Global) → Type 0
+IsBench words = (count : ℕ) × (operand : List ℕ) × IsCommandFor words (Bench count) operand
+
 -- the first refusal of a command; that of `check` is of the machine file, of a module or of linking, and never of a start
 abbrev pub IsFirst : Verb → Contents → List ℕ → List ℕ → OpenFault → Type 0
-IsFirst Exe contents name input f = opened Exe contents name input ≡ Err f
-IsFirst Run contents name input f = opened Run contents name input ≡ Err f
 IsFirst Check contents name input f = loaded Check contents name ≡ Err f
+IsFirst verb contents name input f = opened verb contents name input ≡ Err f
 
 -- the words are a command that is refused so
 pub record IsRefused (words : List (String Global)) (may : Possible) (f : OpenFault) : Type 0 where
@@ -79,17 +59,17 @@ Refuses words may status.InputFault = IsCommand words
 Refuses words may status.SinkFault = IsCommand words
 Refuses words may status.NoMemory = IsCommand words
 
--- where a program runs: the command opens, and P holds of the setting and of the world before the first step
-pub record Opens (words : List (String Global)) (contents : Contents) (input : List ℕ) (P : Opened → Type 0) : Type 0 where
+-- where programs run: the command opens, and P holds of its verb, of the setting and of the world before the first step
+pub record Opens (words : List (String Global)) (contents : Contents) (input : List ℕ) (P : Verb → Opened → Type 0) : Type 0 where
   pub verb : Verb
   pub name : List ℕ
   pub command : IsCommandFor words verb name
   pub start : Opened
   pub opens : opened verb contents name input ≡ Ok start
-  pub runs : P start
+  pub runs : P verb start
 
 -- over all files that may be, and whatever the input tells, but for `check`
-abbrev pub Runs : List (String Global) → Possible → Option (List ℕ) → (Opened → Type 0) → Type 0
+abbrev pub Runs : List (String Global) → Possible → Option (List ℕ) → (Verb → Opened → Type 0) → Type 0
 Runs words may left P = (IsCheck words → ⊥) → (contents : Contents) (input : List ℕ) → may contents → left ≡ Some input → Opens words contents input P
 
 -- nothing was written, and the input is as before
@@ -101,14 +81,14 @@ pub record IsUntouched (left_old left_new console_old console_new report_old rep
 -- the run is stopped so, before a step
 abbrev pub Stops : List (String Global) → Possible → (blocks : ℕ)
     → (left_old left_new console_old console_new report_old report_new : Option (List ℕ)) → (fault : Type 0) → (puts : Counts) → Stop → Type 0
-Stops words may blocks i j c d r q e n why = Runs words may i (λ o. HasStoppedTexts machine_swaps blocks o.setting o.world why j c d r q e n)
+Stops words may blocks i j c d r q e n why = Runs words may i (λ verb o. HasStop verb blocks o why j c d r q e n)
 
--- both texts, their puts and the input, by the status: those of the boundless machine, or fronts of them; `fault` says that the
--- report failed, and `blocks` how many blocks the device has
+-- both texts, their puts and the input, by the status: what the command shows of the boundless machine's run, or a front of it; `fault`
+-- says that the report failed, and `blocks` how many blocks the device has
 abbrev pub Shows : List (String Global) → Possible → (blocks : ℕ)
     → (left_old left_new console_old console_new report_old report_new : Option (List ℕ)) → (fault : Type 0) → (puts : Counts) → Status → Type 0
-Shows words may blocks i j c d r q e n status.Fine = Runs words may i (λ o. HasWholeRun machine_swaps o.setting o.world j c d r q n)
-Shows words may blocks i j c d r q e n status.SinkFault = Runs words may i (λ o. HasPartRun machine_swaps o.setting o.world j c d r q n)
+Shows words may blocks i j c d r q e n status.Fine = Runs words may i (λ verb o. HasEnd verb o j c d r q n)
+Shows words may blocks i j c d r q e n status.SinkFault = Runs words may i (λ verb o. HasPart verb o j c d r q n)
 Shows words may blocks i j c d r q e n status.InputFault = Stops words may blocks i j c d r q e n Input
 Shows words may blocks i j c d r q e n status.NoRoom = Stops words may blocks i j c d r q e n NoRoom
 Shows words may blocks i j c d r q e n status.SwapFull = Stops words may blocks i j c d r q e n SwapFull

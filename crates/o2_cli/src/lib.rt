@@ -1,12 +1,15 @@
 //! The top call: the words of a command, the files that it names, and the run.
 #![tactic(auto)]
 
+mod begun;
+mod bench;
 mod in_memory;
 mod lines;
 mod messages;
 mod on_system;
 mod status;
 mod top;
+mod unseen;
 
 pub use in_memory::os2run_in_memory;
 pub use messages::{number, text};

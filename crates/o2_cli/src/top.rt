@@ -5,23 +5,26 @@ ghost use Rattle.o2_open.specs.Loads.{Contents, HasEnvironments, IsLinked};
 ghost use Rattle.o2_outer.specs.Texts.{Rose};
 ghost use Rattle.o2_outer.specs.Inputs.{GoesOn, MayBe, rest_of, IsSeenAs, left_as};
 ghost use Rattle.o2_run.specs.Pieces.{counts};
-ghost use Rattle.o2_cli.specs.Top.{IsCheck, Refuses, Shows, OnFileFault, OnInputFault, OnSinkFault, OnSwapFault, OnTried, OnUnrun};
+ghost use Rattle.o2_cli.specs.Top.{IsBench, IsCheck, Refuses, Shows, OnFileFault, OnInputFault, OnSinkFault, OnSwapFault, OnTried, OnUnrun};
+ghost use Rattle.o2_words.specs.declared.words.Verb.TheVariants.{Run};
 ghost use Rattle.o2_cli.specs.RunTexts.{ShowsRun, RefusesRun};
 ghost use Rattle.o2_cli.specs.Checks.{Checks, IsUnstarted, ShowsLines};
 ghost use Rattle.o2_cli.specs.Done.{Completes, CompletesCheck};
 
 use crate::Status;
+use crate::begun::begun;
+use crate::bench::bench_session;
 use crate::lines::lines;
-use o2_base::{Bytes, NoMemory};
-use o2_machine::{BeginFault, Machine};
-use o2_open::{Session, open, program_places, refused_start};
+use o2_base::Bytes;
+use o2_open::{Session, open};
 use o2_outer::{Files, Put, Sink, Source, SwapDevice};
 use o2_run::run;
 use o2_words::{Verb, command, is_command};
 use std::alloc::Global;
 
 /// Runs a command. What it writes is what the boundless machine's run shows, or where a sink or the input fails a front
-/// of it; `check` starts nothing, and writes a line for each module. Where a command is refused, nothing is written.
+/// of it; `bench` writes a line of its run to the console; `check` starts nothing, and writes a line for each module. Where a
+/// command is refused, nothing is written.
 #[tactic(auto, using(o2_outer::proofs::Inputs::goes_same, o2_outer::proofs::Inputs::may_be_given))]
 pub fn os2run<F: Files, I: Source, C: Sink, R: Sink, S: SwapDevice>(
     alloc: Global,
@@ -36,7 +39,7 @@ pub fn os2run<F: Files, I: Source, C: Sink, R: Sink, S: SwapDevice>(
     ensures refused { Refuses words.now (F.may_hold files.new) result }
     // Both texts are those of the boundless machine over all files that agree with what was fetched, or fronts of them, where each
     // block that was read had what was written to it last; each line of the report is one put, and so is the piece for the console
-    // of each step that has one.
+    // of each step that has one. Of a bench the console gains its line alone, by one put, where the run is over.
     ensures texts { IsTrue (S.told swap.new) → Shows words.now (F.may_hold files.new) (S.blocks swap.old)
         (I.left input.old) (I.left input.new) (C.taken console.old) (C.taken console.new)
         (R.taken report.old) (R.taken report.new) (Rose (R.faults report.old) (R.faults report.new))
@@ -72,6 +75,7 @@ pub fn os2run<F: Files, I: Source, C: Sink, R: Sink, S: SwapDevice>(
     ensures same_console { OnUnrun result (console.new ≡ console.old) }
     ensures same_report { OnUnrun result (report.new ≡ report.old) }
     ensures same_swap { OnUnrun result (swap.new ≡ swap.old) }
+    ensures benches_unread { IsBench words.now → files.new ≡ files.old }
     ensures checks_unswapped { IsCheck words.now → swap.new ≡ swap.old }
     // Files that agree with what was fetched agreed with what was fetched before, and a device whose reads all gave what was written
     // had none before that didn't.
@@ -90,13 +94,16 @@ pub fn os2run<F: Files, I: Source, C: Sink, R: Sink, S: SwapDevice>(
     let Ok(command) = command(alloc, words) else {
         return Status::NoMemory;
     };
-    let Ok(name) = Bytes::from_slice(alloc, command.file.as_bytes()) else {
+    let Ok(name) = Bytes::from_slice(alloc, command.operand.as_bytes()) else {
         return Status::NoMemory;
     };
     match open(alloc, command.verb, files, &name) {
         Err(fault) => Status::from(fault),
         Ok(session) => match command.verb {
             Verb::Check => check_session(alloc, &session, console),
+            Verb::Bench(count) => {
+                bench_session(alloc, session, count, input, console, report, swap)
+            }
             Verb::Exe | Verb::Run => run_session(alloc, session, input, console, report, swap),
         },
     }
@@ -141,7 +148,7 @@ fn run_session<I: Source, C: Sink, R: Sink, S: SwapDevice>(
     ensures refused { RefusesRun session result }
     // However the input is seen: by what it tells, or as a text that the whole of it may be.
     ensures texts { IsTrue (S.told swap.new) → (text : Option (List ℕ)) → IsSeenAs text (I.past input.new)
-        → ShowsRun session (S.blocks swap.old)
+        → ShowsRun Run session (S.blocks swap.old)
         (left_as text (I.left input.old) (I.past input.old)) (left_as text (I.left input.new) (I.past input.new))
         (C.taken console.old) (C.taken console.new)
         (R.taken report.old) (R.taken report.new) (Rose (R.faults report.old) (R.faults report.new))
@@ -151,20 +158,8 @@ fn run_session<I: Source, C: Sink, R: Sink, S: SwapDevice>(
     ensures sink_fault { OnSinkFault result (Rose (C.faults console.old) (C.faults console.new) ⊎ Rose (R.faults report.old) (R.faults report.new)) }
     ensures swap_fault { OnSwapFault result (Rose (S.faults swap.old) (S.faults swap.new)) }
 {
-    let Session { conf, linked } = session;
-    let Ok(places) = program_places(alloc, &linked) else {
-        return Status::NoMemory;
-    };
-    match Machine::begin(alloc, &conf, linked, swap.count(), report) {
-        Err(BeginFault::NoMemory) => Status::NoMemory,
-        Err(BeginFault::SinkFault) => Status::SinkFault,
-        Err(BeginFault::Start(pid, fault)) => Status::from(refused_start(
-            alloc,
-            &conf,
-            places.as_slice(),
-            pid,
-            fault,
-        )),
+    match begun(alloc, session, swap.count(), report) {
+        Err(status) => status,
         Ok(mut machine) => match run(&mut machine, input, console, report, swap) {
             Ok(()) => Status::Fine,
             Err(why) => Status::from(why),

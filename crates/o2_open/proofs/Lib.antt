@@ -1,3 +1,4 @@
 pub mod Telling
 pub mod Stepping
 pub mod Unstarted
+pub mod Benches

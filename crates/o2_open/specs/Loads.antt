@@ -7,11 +7,13 @@ use Rattle.o2_base.specs.declared.faults.ModuleFault.TheVariants.{NoModule, OutO
 use Rattle.o2_base.specs.declared.faults.Which.TheVariants.{FileLength}
 use Rattle.o2_outer.specs.Texts.{Rose}
 use Rattle.o2_words.specs.declared.words.Verb.{Verb}
-use Rattle.o2_words.specs.declared.words.Verb.TheVariants.{Exe, Run, Check}
+use Rattle.o2_words.specs.declared.words.Verb.TheVariants.{Exe, Run, Check, Bench}
 use Rattle.o2_conf.specs.declared.conf.Conf.{Conf}
 use Rattle.o2_conf.specs.Setting.{setting}
 use Rattle.o2_conf.specs.Environments.{environment_bytes}
 use Rattle.o2_conf.specs.Alone.{exe_setting}
+use Rattle.o2_gen.specs.BenchModule.{bench_module}
+use Rattle.o2_gen.specs.BenchSetting.{bench_setting}
 use Rattle.o2_image.specs.Parts.{Parts}
 use Rattle.o2_image.specs.Modules.{module_of}
 use Rattle.o2_image.specs.Getters.{nth, nth_list}
@@ -87,11 +89,16 @@ exe_loaded contents name = module_in contents name >>= (λ m. linked_in (exe_set
 abbrev pub run_loaded : Contents → List ℕ → Result Session OpenFault
 run_loaded contents name = machine_in contents name >>= (λ c. modules_in contents c.modules [] >>= linked_in c)
 
+-- what `bench` opens: its own module, by its own setting
+abbrev pub bench_loaded : (count : ℕ) → Result Session OpenFault
+bench_loaded count = linked_in (bench_setting count) (bench_module ∷ [])
+
 -- what a command opens, or its first refusal
 unfoldable pub loaded : Verb → Contents → List ℕ → Result Session OpenFault
 loaded Exe contents name = exe_loaded contents name
 loaded Run contents name = run_loaded contents name
 loaded Check contents name = run_loaded contents name
+loaded (Bench count) contents name = bench_loaded count
 
 -- What a function that loads gives, seen by view: what is loaded, or its refusal, or there was no memory, or the files failed.
 abbrev pub Fails : {Y : Type 0} → OpenFault → Result Y OpenFault → Type 0

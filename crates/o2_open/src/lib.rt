@@ -1,6 +1,7 @@
 //! What a command opens: the machine file, the modules that it names, and what links them; or why it opens nothing.
 #![tactic(auto)]
 
+mod bench;
 mod fault;
 mod files;
 mod opening;

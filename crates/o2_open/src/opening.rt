@@ -1,16 +1,18 @@
 // Opening what a command runs.
 ghost use Rattle.std.specs.Prelude.{◌≡◌, ◌≤◌, ℕ, All, IfOk, IfErr, length, map, unwrap_or, [], ◌∷◌};
 ghost use Rattle.o2_open.specs.declared.fault.OpenFault.TheVariants as open_fault;
-ghost use Rattle.o2_open.specs.Loads.{Contents, Loads, Tells, Refuses, under, asked, link_refusal, linked_in, HasEnvironments, IsLinked, start_refusal, exe_loaded, run_loaded, loaded};
+ghost use Rattle.o2_open.specs.Loads.{Contents, Loads, Tells, Refuses, under, asked, link_refusal, linked_in, HasEnvironments, IsLinked, start_refusal, exe_loaded, run_loaded, bench_loaded, loaded};
 ghost use Rattle.o2_dynlink.specs.Linking.{linked_of};
 ghost use Rattle.o2_image.specs.Getters.{nth, nth_list};
 ghost use Rattle.o2_image.specs.Whole.{IsRunnable};
+ghost use Rattle.o2_words.specs.Words.{HasCount};
+ghost use Rattle.o2_words.specs.declared.words.Verb.TheVariants.{Bench};
 ghost use Rattle.o2_conf.specs.Alone.{exe_setting};
 ghost use Rattle.o2_conf.specs.Limits.{IsWithinLimits};
 ghost use Rattle.o2_conf.specs.Environments.{environment_bytes};
 
 use crate::files::{bad_module, machine, module, modules};
-use crate::{OpenFault, Session};
+use crate::{OpenFault, Session, bench};
 use o2_base::{Bytes, Fail, ModuleFault, NoMemory};
 use o2_conf::Conf;
 use o2_dynlink::{LinkFault, Linked, link};
@@ -155,8 +157,24 @@ fn open_run<F: Files>(alloc: Global, files: &mut F, name: &Bytes) -> Result<Sess
     linked(alloc, conf, modules)
 }
 
-/// What a command opens. The first refusal is the answer: of the machine file, of each module in its order, of linking. Want of
-/// memory may come at any point.
+/// What `bench` opens: its own module, as so many processes. It reads no file.
+fn open_bench(alloc: Global, count: u16) -> Result<Session, OpenFault>
+    requires some { 1 ≤ count }
+    requires few { count ≤ 64 }
+    ensures exact { Loads (λ s. s) result (bench_loaded count) }
+    ensures within { IfOk result (λ s. IsWithinLimits s.conf) }
+    ensures environments { IfOk result HasEnvironments }
+    ensures linked { IfOk result (λ s. IsLinked s.conf s.linked) }
+    ensures refuses { (faults : ℕ) → IfErr result (Refuses faults faults) }
+{
+    let conf = bench::setting(alloc, count)?;
+    let program = bench::program(alloc)?;
+    let modules = only(alloc, program)?;
+    linked(alloc, conf, modules)
+}
+
+/// What a command opens, by its verb and the name of its file; a bench opens what it makes itself. The first refusal is the answer:
+/// of the machine file, of each module in its order, of linking. Want of memory may come at any point.
 #[tactic(auto, unfolding(crate::specs::Loads::loaded))]
 pub fn open<F: Files>(
     alloc: Global,
@@ -164,6 +182,8 @@ pub fn open<F: Files>(
     files: &mut F,
     name: &Bytes,
 ) -> Result<Session, OpenFault>
+    // a bench has 1 to 64 processes
+    requires count { HasCount verb }
     // exactly what the definition says, over all files that would have given what came
     ensures exact { (contents : Contents) → F.may_hold files.new contents → Loads (λ s. s) result (loaded verb contents name.now) }
     // the setting is within its limits
@@ -175,11 +195,14 @@ pub fn open<F: Files>(
     ensures refuses { IfErr result (Refuses (F.faults files.old) (F.faults files.new)) }
     ensures earlier { (contents : Contents) → F.may_hold files.new contents → F.may_hold files.old contents }
     ensures count { F.faults files.old ≤ F.faults files.new }
+    // a bench fetches nothing
+    ensures unread { (n : ℕ) → verb ≡ Bench n → files.new ≡ files.old }
 {
     match verb {
         Verb::Exe => open_exe(alloc, files, name),
         Verb::Run => open_run(alloc, files, name),
         Verb::Check => open_run(alloc, files, name),
+        Verb::Bench(count) => open_bench(alloc, count),
     }
 }
 

@@ -1,2 +1,3 @@
 mod Finds
 mod Walks
+pub mod Verbs

@@ -6,10 +6,11 @@ use Rattle.std.specs.Str.{bytes_eq}
 use Rattle.clap.specs.Lexer.{long_of, short_of}
 use Rattle.clap.specs.Words.{Text, is_simple, subcommand_of, takes}
 use Rattle.clap.proofs.OnLiterals.{clap_on_literals}
-use Rattle.o2_words.specs.Grammar.{file_in, program_app}
-use Rattle.o2_words.specs.Words.{IsName, verb_text}
+use Rattle.o2_words.specs.Grammar.{operand_in, program_app}
+use Rattle.o2_words.proofs.Verbs.{count_is_name}
+use Rattle.o2_words.specs.Words.{IsName, IsOperand, verb_text}
 use Rattle.o2_words.specs.declared.words.Verb.{Verb}
-use Rattle.o2_words.specs.declared.words.Verb.TheVariants.{Exe, Run, Check}
+use Rattle.o2_words.specs.declared.words.Verb.TheVariants.{Exe, Run, Check, Bench}
 
 pub simple : is_simple program_app ≡ true
 unfolding clap_on_literals
@@ -28,14 +29,23 @@ pub plain : (name : Text) → IsName name → IsPlain name
 plain [] h = absurd h
 plain (x ∷ xs) h = plain_first x xs (grind (arith, common_steps))
 
+-- and so is each operand: a number begins with a digit
+pub plain_operand : (verb : Verb) (text : Text) → IsOperand verb text → IsPlain text
+plain_operand Exe text h = plain text h
+plain_operand Run text h = plain text h
+plain_operand Check text h = plain text h
+plain_operand (Bench count) text h = plain text (count_is_name text count h)
+
 pub taken : (verb : Verb) (name : Text) → IsPlain name → takes program_app (verb_text verb ∷ name ∷ []) ≡ true
 unfolding clap_on_literals
 taken Exe name p = rw (p.dashes, p.long, p.short) refl
 taken Run name p = rw (p.dashes, p.long, p.short) refl
 taken Check name p = rw (p.dashes, p.long, p.short) refl
+taken (Bench count) name p = rw (p.dashes, p.long, p.short) refl
 
-pub file_met : (verb : Verb) (name : Text) → IsPlain name → file_in (subcommand_of program_app (verb_text verb ∷ name ∷ [])) ≡ Some (verb_text verb, Some name)
+pub operand_met : (verb : Verb) (name : Text) → IsPlain name → operand_in (subcommand_of program_app (verb_text verb ∷ name ∷ [])) ≡ Some (verb_text verb, Some name)
 unfolding clap_on_literals
-file_met Exe name p = rw (p.dashes, p.long, p.short) refl
-file_met Run name p = rw (p.dashes, p.long, p.short) refl
-file_met Check name p = rw (p.dashes, p.long, p.short) refl
+operand_met Exe name p = rw (p.dashes, p.long, p.short) refl
+operand_met Run name p = rw (p.dashes, p.long, p.short) refl
+operand_met Check name p = rw (p.dashes, p.long, p.short) refl
+operand_met (Bench count) name p = rw (p.dashes, p.long, p.short) refl

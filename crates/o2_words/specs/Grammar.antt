@@ -3,18 +3,18 @@ use Rattle.std.specs.Prelude.{◌≡◌, ℕ, List, [], ◌∷◌, Option, Some,
 use Rattle.clap.specs.Words.{App, Row, Rule, Text, first_of, new_rule, subcommand_rows_of, with_subcommand}
 use Rattle.clap.specs.Simple.{new_shape}
 use Rattle.clap.specs.declared.parser.matches.ArgMatches.{ArgMatches}
-use Rattle.o2_words.specs.Words.{verb_text}
+use Rattle.o2_words.specs.Words.{IsOperand, verb_text}
 use Rattle.o2_words.specs.declared.words.Verb.{Verb}
 
 -- one required text
-abbrev pub file_rule : Rule
-file_rule = record (new_rule (codes "FILE")) { required = true }
+abbrev pub operand_rule : Rule
+operand_rule = record (new_rule (codes "OPERAND")) { required = true }
 
 -- a command with that text alone, and no help or version of its own
-abbrev pub file_app : Text → App
-file_app name = record {
+abbrev pub operand_app : Text → App
+operand_app name = record {
   top = record (new_shape name) {
-    rules = file_rule ∷ [];
+    rules = operand_rule ∷ [];
     disable_help_flag = true;
     disable_version_flag = true;
   };
@@ -34,22 +34,24 @@ bare_app = record {
   subs = [];
 }
 
--- the same with a subcommand for each verb that starts processes
+-- the same with a subcommand for each verb that runs what a file says
 abbrev pub starting_app : App
 starting_app =
-    with_subcommand (with_subcommand bare_app (file_app (codes "exe")).top) (file_app (codes "run")).top
+    with_subcommand (with_subcommand bare_app (operand_app (codes "exe")).top) (operand_app (codes "run")).top
 
 -- the same with a subcommand for each verb
 abbrev pub program_app : App
-program_app = with_subcommand starting_app (file_app (codes "check")).top
+program_app =
+    with_subcommand (with_subcommand starting_app (operand_app (codes "check")).top) (operand_app (codes "bench")).top
 
--- the subcommand with its file, where there is one
-abbrev pub file_in : Option (Text × List Row) → Option (Text × Option Text)
-file_in = option_map (λ p. (p.0, first_of (codes "FILE") p.1))
+-- the subcommand with its operand, where there is one
+abbrev pub operand_in : Option (Text × List Row) → Option (Text × Option Text)
+operand_in = option_map (λ p. (p.0, first_of (codes "OPERAND") p.1))
 
--- what was found is this verb with this name
+-- what was found is this verb with this operand
 abbrev pub IsFound : ArgMatches → Verb → List ℕ → Type 0
-IsFound m verb name = file_in (subcommand_rows_of m) ≡ Some (verb_text verb, Some name)
+IsFound m verb operand = operand_in (subcommand_rows_of m) ≡ Some (verb_text verb, Some operand)
 
+-- a verb was found with an operand that it may have
 abbrev pub HasFound : ArgMatches → Type 0
-HasFound m = (verb : Verb) × (name : List ℕ) × IsFound m verb name
+HasFound m = (verb : Verb) × (operand : List ℕ) × IsFound m verb operand × IsOperand verb operand

@@ -3,8 +3,8 @@ ghost use Rattle.std.specs.Prelude.{◌≡◌, ℕ, List, IfErr, IfOk, false};
 ghost use Rattle.clap.specs.Words.{app_of, kind_of};
 ghost use Rattle.clap.specs.declared.builder.command.Command.TheViews.{out-Command};
 ghost use Rattle.clap.specs.declared.error.kind.ErrorKind.TheVariants.{OutOfMemory};
-ghost use Rattle.o2_words.specs.Words.{IsCommand, IsCommandFor};
-ghost use Rattle.o2_words.specs.Grammar.{HasFound, IsFound, bare_app, file_app, program_app, starting_app};
+ghost use Rattle.o2_words.specs.Words.{HasCount, IsCommand, IsCommandFor, IsOperand};
+ghost use Rattle.o2_words.specs.Grammar.{HasFound, IsFound, operand_app, program_app, starting_app};
 ghost use Rattle.o2_words.specs.declared.words.Verb.{Verb};
 
 use crate::words::{Command, Verb, verb_of};
@@ -12,18 +12,18 @@ use clap::{Arg, ArgMatches, Error};
 use o2_base::NoMemory;
 use std::alloc::{AllocError, Global};
 
-// The subcommand of this name, with a file as its only argument.
-fn with_file<'a>(alloc: Global, name: &'a str) -> Result<clap::Command<'a>, AllocError>
-    ensures app { IfOk result (λ c. app_of c ≡ file_app name.entry.now) }
+// The subcommand of this name, with an operand as its only argument.
+fn with_operand<'a>(alloc: Global, name: &'a str) -> Result<clap::Command<'a>, AllocError>
+    ensures app { IfOk result (λ c. app_of c ≡ operand_app name.entry.now) }
     ensures local { IfOk result (λ c. (out-Command c).has_globals ≡ false) }
 {
     clap::Command::new(alloc, name)
         .disable_help_flag(true)
         .disable_version_flag(true)
-        .arg(Arg::new(alloc, "FILE").required(true))
+        .arg(Arg::new(alloc, "OPERAND").required(true))
 }
 
-// The program, with a subcommand for each verb that starts processes.
+// The program, with a subcommand for each verb that runs what a file says.
 fn starting<'a>(alloc: Global) -> Result<clap::Command<'a>, AllocError>
     ensures { IfOk result (λ c. app_of c ≡ starting_app) }
 {
@@ -33,22 +33,24 @@ fn starting<'a>(alloc: Global) -> Result<clap::Command<'a>, AllocError>
         .disable_help_subcommand(true)
         .disable_version_flag(true)
         .subcommand_required(true)
-        .subcommand(with_file(alloc, "exe")?)?
-        .subcommand(with_file(alloc, "run")?)
+        .subcommand(with_operand(alloc, "exe")?)?
+        .subcommand(with_operand(alloc, "run")?)
 }
 
 // The program, with a subcommand for each verb.
 fn program<'a>(alloc: Global) -> Result<clap::Command<'a>, AllocError>
     ensures { IfOk result (λ c. app_of c ≡ program_app) }
 {
-    starting(alloc)?.subcommand(with_file(alloc, "check")?)
+    starting(alloc)?
+        .subcommand(with_operand(alloc, "check")?)?
+        .subcommand(with_operand(alloc, "bench")?)
 }
 
 // What `clap` finds in the words of a command. Memory is the only thing that it can want.
 fn parse<'a>(alloc: Global, words: &'a [String]) -> Result<ArgMatches<'a>, Error>
     requires { IsCommand words.now }
-    ensures ok { IfOk result (λ m. (verb : Verb) → (name : List ℕ) → IsCommandFor words.now verb name
-        → IsFound m verb name) }
+    ensures ok { IfOk result (λ m. (verb : Verb) → (operand : List ℕ) → IsCommandFor words.now verb operand
+        → IsFound m verb operand) }
     ensures err { IfErr result (λ e. kind_of e ≡ OutOfMemory) }
 {
     program(alloc)?.try_get_matches_from(words)
@@ -57,18 +59,21 @@ fn parse<'a>(alloc: Global, words: &'a [String]) -> Result<ArgMatches<'a>, Error
 // The command in what `clap` found.
 fn read<'a>(matches: &ArgMatches<'a>) -> Command<'a>
     requires { HasFound matches.now }
-    ensures { IsFound matches.now result.verb result.file.now }
+    ensures found { IsFound matches.now result.verb result.operand.now }
+    ensures is_operand { IsOperand result.verb result.operand.now }
+    ensures count { HasCount result.verb }
 {
     let (word, found) = matches.subcommand().unwrap();
-    let verb = verb_of(word.as_bytes()).unwrap();
-    let file = found.get_str("FILE").unwrap();
-    Command { verb, file }
+    let operand = found.get_str("OPERAND").unwrap();
+    let verb = verb_of(word.as_bytes(), operand).unwrap();
+    Command { verb, operand }
 }
 
 /// The command that the words are. The words are taken apart by `clap`, which fails only for want of memory here.
 pub fn command<'a>(alloc: Global, words: &'a [String]) -> Result<Command<'a>, NoMemory>
     requires { IsCommand words.now }
-    ensures { IfOk result (λ c. IsCommandFor words.now c.verb c.file.now) }
+    ensures exact { IfOk result (λ c. IsCommandFor words.now c.verb c.operand.now) }
+    ensures count { IfOk result (λ c. HasCount c.verb) }
 {
     let Ok(matches) = parse(alloc, words) else {
         return Err(NoMemory);

@@ -1,9 +1,9 @@
 // What the words of a command say, and whether they are one.
-ghost use Rattle.std.specs.Prelude.{◌≡◌, ◌≢◌, ◌↔◌, IsTrue, MatchOption};
-ghost use Rattle.o2_words.specs.Words.{IsCommand, IsName, verb_text};
+ghost use Rattle.std.specs.Prelude.{◌≡◌, ◌↔◌, ℕ, IsTrue, MatchOption, get_or, nat_lt};
+ghost use Rattle.o2_words.specs.Words.{IsCommand, IsCount, IsName, IsOperand, verb_text};
 ghost use Rattle.o2_words.specs.declared.words.Verb.{Verb};
 
-/// What a command does with its file.
+/// What a command does.
 #[derive(Clone, Copy, Debug, PartialEq, Eq)]
 pub enum Verb {
     /// `exe FILE` runs an executable on the machine of the defaults.
@@ -12,15 +12,17 @@ pub enum Verb {
     Run,
     /// `check FILE` reads and links what a machine file names, and runs nothing.
     Check,
+    /// `bench N` runs so many processes of the bench's executable, 1 to 64.
+    Bench(u16),
 }
 
-/// A command: what it does, and with which file.
+/// A command: what it does, and with what.
 #[derive(Clone, Copy, Debug, PartialEq, Eq)]
 pub struct Command<'a> {
     /// What it does.
     pub verb: Verb,
-    /// The name of its file: not empty, and without a dash at its front.
-    pub file: &'a str,
+    /// The name of its file, which isn't empty and has no dash at its front; of a bench the number of its processes.
+    pub operand: &'a str,
 }
 
 fn is_name(name: &[u8]) -> bool
@@ -32,29 +34,76 @@ fn is_name(name: &[u8]) -> bool
     }
 }
 
-/// The verb that the word stands for.
-pub(crate) fn verb_of(word: &[u8]) -> Option<Verb>
-    ensures { MatchOption result ((verb : Verb) → word.now ≢ verb_text verb)
-        (λ verb. word.now ≡ verb_text verb) }
+// The verb, where the operand is the name of a file.
+fn of_file(verb: Verb, name: &[u8]) -> Option<Verb>
+    ensures { MatchOption result (IsName name.now → ⊥) (λ v. (v ≡ verb) × IsName name.now) }
+{
+    if is_name(name) { Some(verb) } else { None }
+}
+
+// Whether a word begins with a byte above the digit zero.
+fn begins_above_zero(word: &[u8]) -> bool
+    ensures { result ≡ nat_lt 48 (get_or word.now 0 0) }
+{
+    match word {
+        [first, ..] => *first > b'0',
+        [] => false,
+    }
+}
+
+/// The number from 1 to 64 that a word is, in decimal without leading zeros.
+fn count_of(word: &str) -> Option<u16>
+    ensures { MatchOption result ((count : ℕ) → IsCount word.now count → ⊥) (IsCount word.now) }
+{
+    if !begins_above_zero(word.as_bytes()) {
+        return None;
+    }
+    let Ok(count) = word.parse::<u16>() else {
+        return None;
+    };
+    if count > 64 {
+        return None;
+    }
+    Some(count)
+}
+
+// The verb of a bench, where the operand is such a number.
+fn of_count(word: &str) -> Option<Verb>
+    ensures { MatchOption result ((count : ℕ) → IsCount word.now count → ⊥)
+        (λ v. (count : ℕ) × (v ≡ Verb.Bench count) × IsCount word.now count) }
+{
+    match count_of(word) {
+        Some(count) => Some(Verb::Bench(count)),
+        None => None,
+    }
+}
+
+/// The verb that the word stands for, with this operand.
+pub(crate) fn verb_of(word: &[u8], operand: &str) -> Option<Verb>
+    ensures { MatchOption result ((verb : Verb) → word.now ≡ verb_text verb → IsOperand verb operand.now → ⊥)
+        (λ verb. (word.now ≡ verb_text verb) × IsOperand verb operand.now) }
 {
     if word == b"exe".as_slice() {
-        Some(Verb::Exe)
+        of_file(Verb::Exe, operand.as_bytes())
     } else if word == b"run".as_slice() {
-        Some(Verb::Run)
+        of_file(Verb::Run, operand.as_bytes())
     } else if word == b"check".as_slice() {
-        Some(Verb::Check)
+        of_file(Verb::Check, operand.as_bytes())
+    } else if word == b"bench".as_slice() {
+        of_count(operand)
     } else {
         None
     }
 }
 
-/// Whether the words after the program's name are a command: two of them, of which the first is `exe`, `run` or
-/// `check`, and the second isn't empty and doesn't begin with `-`. It takes no memory.
+/// Whether the words after the program's name are a command. There are two of them. The first is `exe`, `run` or `check`,
+/// and the second isn't empty and doesn't begin with `-`; or they are `bench` and a decimal number from 1 to 64 without
+/// leading zeros. It takes no memory.
 pub fn is_command(words: &[String]) -> bool
     ensures { IsTrue result ↔ IsCommand words.now }
 {
     match words {
-        [verb, file] => verb_of(verb.as_bytes()).is_some() && is_name(file.as_bytes()),
+        [verb, operand] => verb_of(verb.as_bytes(), operand.as_str()).is_some(),
         _ => false,
     }
 }

@@ -1,6 +1,8 @@
 // Runs what os2run runs, and shows each step: `os2trace exe FILE`, `os2trace run FILE`.
 #![tactic(auto)]
 
+ghost use Rattle.o2_words.specs.Words.{HasCount};
+
 mod command;
 mod follow;
 mod reading;
@@ -31,7 +33,9 @@ fn whole_input(rt: &HostRuntime) -> anyhow::Result<Vec<u8>> {
 }
 
 /// Traces what the command opens.
-fn trace(rt: &HostRuntime, verb: Verb, found: &ArgMatches<'_>) -> anyhow::Result<ExitCode> {
+fn trace(rt: &HostRuntime, verb: Verb, found: &ArgMatches<'_>) -> anyhow::Result<ExitCode>
+    requires { HasCount verb }
+{
     let Some(choice) = wish(found) else {
         eprintln!(rt; "os2trace: a selector is a hexadecimal number from 1 to FFFF, as 000F")?;
         return Ok(ExitCode::from(MISUSED));

@@ -2,6 +2,7 @@
 ghost use Rattle.std.specs.Prelude.{◌≡◌, ℕ, List, Option, Some, map};
 ghost use Rattle.o2_conf.specs.Environments.{environment_bytes};
 ghost use Rattle.o2_conf.specs.Limits.{IsWithinLimits};
+ghost use Rattle.o2_words.specs.Words.{HasCount};
 ghost use Rattle.o2_open.specs.Loads.{Contents, HasEnvironments, IsLinked};
 ghost use Rattle.o2_machine.specs.Begins.{Begins};
 ghost use Rattle.o2_cli.specs.Top.{opened, started};
@@ -57,6 +58,7 @@ pub fn refusal<F: Files>(
     files: &mut F,
     name: &Bytes,
 ) -> Option<OpenFault>
+    requires { HasCount verb }
     // it opens exactly where the opening of os2run does, and is refused as that is
     ensures { (contents : Contents) (input : List ℕ) → F.may_hold files.new contents
         → Judges result (opened verb contents name.now input) }

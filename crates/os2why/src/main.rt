@@ -1,6 +1,8 @@
 // Says why a program isn't run: `os2why exe FILE`, `os2why run FILE`, `os2why imports FILE..`. It runs nothing.
 #![tactic(auto)]
 
+ghost use Rattle.o2_words.specs.Words.{HasCount};
+
 mod command;
 mod context;
 mod imports;
@@ -40,7 +42,9 @@ fn context_of(
 }
 
 /// Says what the command in this file comes to.
-fn say(rt: &HostRuntime, verb: Verb, file: &str) -> anyhow::Result<ExitCode> {
+fn say(rt: &HostRuntime, verb: Verb, file: &str) -> anyhow::Result<ExitCode>
+    requires { HasCount verb }
+{
     let name = file_name(rt.alloc(), file)?;
     let mut files = FolderFiles::new(rt);
     let refusal = judge::refusal(rt.alloc(), verb, &mut files, &name);

@@ -4,13 +4,13 @@ use o2_words::{Command, Verb, command, is_command};
 use std::alloc::Global;
 use std::test::Fail;
 
-/// Words that are a command, its verb and its file.
+/// Words that are a command, its verb and its operand.
 static COMMANDS: &str =
-    "exe;x|run;x|exe;exe|exe;run|run;help|exe;my file.exe|exe; -x|run;a=b|exe;=|run;x--help|exe;größe.exe|run;機械.toml|exe;\u{2212}x|exe;a,b\n@c|check;x|check;check|run;check";
+    "exe;x|run;x|exe;exe|exe;run|run;help|exe;my file.exe|exe; -x|run;a=b|exe;=|run;x--help|exe;größe.exe|run;機械.toml|exe;\u{2212}x|exe;a,b\n@c|check;x|check;check|run;check|bench;1|bench;9|bench;10|bench;64";
 
 /// Words that are none; a dot is no word at all.
 static OTHERS: &str =
-    ".|exe|run|x|exe;x;y|run;x;y|exe;run;x|exe;-x|run;-x|exe;-|exe;--|exe;--;x|exe;|run;|;x|EXE;x|Run;x|exe ;x|ex;x|check|check;|check;-x|check;x;y|chec;x|bench;1|dump;x|exe;--help|run;--version|help;exe|--help;x|x;exe";
+    ".|exe|run|x|exe;x;y|run;x;y|exe;run;x|exe;-x|run;-x|exe;-|exe;--|exe;--;x|exe;|run;|;x|EXE;x|Run;x|exe ;x|ex;x|check|check;|check;-x|check;x;y|chec;x|dump;x|exe;--help|run;--version|help;exe|--help;x|x;exe|bench|bench;0|bench;65|bench;00|bench;01|bench;001|bench;+1|bench;-1|bench; 1|bench;1 |bench;1;2|bench;x|bench;|bench;100|bench;65537|bench;1x|bench;0x1|bench;\u{0661}|Bench;1|1;bench";
 
 /// The words as the program has them.
 fn owned(alloc: Global, row: &str) -> Result<Vec<String>, NoMemory> {
@@ -24,18 +24,19 @@ fn owned(alloc: Global, row: &str) -> Result<Vec<String>, NoMemory> {
     Ok(list)
 }
 
-fn verb_of(word: &str) -> Verb {
+fn verb_of(word: &str, operand: &str) -> Verb {
     match word {
         "exe" => Verb::Exe,
         "run" => Verb::Run,
+        "bench" => Verb::Bench(operand.parse().unwrap_or(0)),
         _ => Verb::Check,
     }
 }
 
-/// Whether a command has the verb and the file of its words.
+/// Whether a command has the verb and the operand of its words.
 fn is_of(found: &Command<'_>, row: &str) -> bool {
     match row.split_once(';') {
-        Some((verb, file)) => found.verb == verb_of(verb) && found.file == file,
+        Some((verb, operand)) => found.verb == verb_of(verb, operand) && found.operand == operand,
         None => false,
     }
 }
@@ -50,7 +51,7 @@ fn words_of_a_command(rt: HostRuntime) -> Result<(), Fail> {
         assert!(rt; is_of(&found, row), "of {row:?}");
         count = count.saturating_add(1);
     }
-    assert!(rt; count == 17);
+    assert!(rt; count == 21);
     Ok(())
 }
 
@@ -62,7 +63,7 @@ fn other_words(rt: HostRuntime) -> Result<(), Fail> {
         assert!(rt; !is_command(list.as_slice()), "of {row:?}");
         count = count.saturating_add(1);
     }
-    assert!(rt; count == 31);
+    assert!(rt; count == 50);
     Ok(())
 }
 
