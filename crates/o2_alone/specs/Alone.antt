@@ -20,5 +20,5 @@ before_it number = record nothing_built { processes = replicate (number - 1) end
 
 -- the world before the first step of its run alone, or why its start is refused: `reserved` are the indexes of all libraries of the
 -- machine file, as in the run of all
-abbrev pub alone : Setting → (reserved : List (ℕ × ℕ)) → (input : List ℕ) → (number : ℕ) → Start → Result World (ℕ × ModuleFault)
-alone s reserved input number start = where_started reserved [] s.budget input (started_as s.segments number start (before_it number))
+abbrev pub opening_alone : Setting → (reserved : List (ℕ × ℕ)) → (input : List ℕ) → (number : ℕ) → Start → Result World (ℕ × ModuleFault)
+opening_alone s reserved input number start = where_started reserved [] s.budget input (started_as s.segments number start (before_it number))
