@@ -4,3 +4,4 @@ pub mod Top
 pub mod Checks
 pub mod RunTexts
 pub mod Done
+pub mod BenchTexts
