@@ -1,23 +1,19 @@
 -- When a process keeps to itself: neither does it come to what other processes have, nor they to what it has.
-use Rattle.std.specs.Prelude.{◌≡◌, ◌≢◌, ◌⊎◌, ℕ, ◌<◌, ◌≤◌, ◌%◌, Bool, true, false, not, List, Option, Some, None, Result, Ok, Err, nat_le, ◌==◌, ◌&&◌}
+use Rattle.std.specs.Prelude.{◌≡◌, ◌≢◌, ◌⊎◌, ℕ, ◌<◌, ◌≤◌, Bool, true, false, Option, Some, None, ◌==◌, ◌&&◌}
 use Rattle.std.specs.List.{list_any}
-use Rattle.o2_isa.specs.declared.cpu.Stop.{Stop}
-use Rattle.o2_isa.specs.declared.cpu.Stop.TheVariants as stop
-use Rattle.o2_isa.specs.Steps.{State as Machine, state}
-use Rattle.o2_isa.specs.Step.{stepped}
 use Rattle.o2_world.specs.declared.types.Row.{Row}
-use Rattle.o2_world.specs.declared.types.Row.TheVariants.{DosExit, DosGetPid, DosRead, DosWrite, DosMemAvail, OnSegments}
+use Rattle.o2_world.specs.declared.types.Row.TheVariants.{DosExit, DosGetPid, DosRead, DosWrite, DosMemAvail, OnSegments, OnShared}
 use Rattle.o2_world.specs.declared.types.SegmentCall.{SegmentCall}
 use Rattle.o2_world.specs.declared.types.SegmentCall.TheVariants.{DosAllocSeg, DosReallocSeg, DosFreeSeg, DosSizeSeg, DosLockSeg, DosUnlockSeg, DosCreateCsAlias}
 use Rattle.o2_world.specs.Map.{get}
 use Rattle.o2_world.specs.World.{World, Setting, Segment, Held}
 use Rattle.o2_world.specs.Changes.{Change, Makes, Resizes, Locks, Marks, Holds, Drops, Finishes, Reserves, Frees, Names}
 use Rattle.o2_world.specs.Known.{held_at}
-use Rattle.o2_world.specs.Calls.{row_of}
-use Rattle.o2_world.specs.CallParts.{Before, argument}
+use Rattle.o2_world.specs.CallParts.{Before}
 use Rattle.o2_world.specs.Effect.{effect}
 use Rattle.o2_world.specs.Run.{after}
 use Rattle.o2_alone.specs.Events.{next_before, own_steps}
+use Rattle.o2_alone.specs.Renaming.{asks_for_room, call_of, is_for_others, is_full}
 
 -- What it holds.
 
@@ -54,27 +50,17 @@ IsUngiven s w number = (b : Before) → next_before s w ≡ Some b → b.number 
 
 -- What it calls.
 
-abbrev pub called_by : Result Machine Stop → Option Row
-called_by (Ok s) = None
-called_by (Err (stop.Trap vector code)) = None
-called_by (Err (stop.Gate service next)) = row_of service
-called_by (Err (stop.Miss s)) = None
+-- a call that tells of other processes, or that they can tell: of the input that all read, or of the region that all share, which
+-- a segment for others (flags 1 and 2) has a selector of
+abbrev pub meets_by : Before → SegmentCall → Bool
+meets_by b DosAllocSeg = is_for_others b
+meets_by b DosReallocSeg = false
+meets_by b DosFreeSeg = false
+meets_by b DosSizeSeg = false
+meets_by b DosLockSeg = false
+meets_by b DosUnlockSeg = false
+meets_by b DosCreateCsAlias = false
 
--- the call that a step makes
-abbrev pub call_of : Before → Option Row
-call_of b = called_by (stepped (state b.cpu b.view))
-
--- a segment that may be given or got by others (flags 1 and 2) has a selector of the region that all share
-abbrev pub is_for_others : Before → SegmentCall → Bool
-is_for_others b DosAllocSeg = not (argument b.view b.cpu 0 % 4 == 0)
-is_for_others b DosReallocSeg = false
-is_for_others b DosFreeSeg = false
-is_for_others b DosSizeSeg = false
-is_for_others b DosLockSeg = false
-is_for_others b DosUnlockSeg = false
-is_for_others b DosCreateCsAlias = false
-
--- a call that tells of other processes, or that they can tell: of the input that all read, or of the region that all share
 abbrev pub meets : Before → Option Row → Bool
 meets b None = false
 meets b (Some DosExit) = false
@@ -82,35 +68,36 @@ meets b (Some DosGetPid) = false
 meets b (Some DosRead) = true
 meets b (Some DosWrite) = false
 meets b (Some DosMemAvail) = false
-meets b (Some (OnSegments call)) = is_for_others b call
+meets b (Some (OnSegments call)) = meets_by b call
+meets b (Some (OnShared call)) = true
 
 -- where the next step is its own, it makes no such call
 abbrev pub IsQuiet : Setting → World → (number : ℕ) → Type 0
 IsQuiet s w number = (b : Before) → next_before s w ≡ Some b → b.number ≡ number → meets b (call_of b) ≡ false
 
--- a call that makes a segment
-abbrev pub makes_one : Option Row → Bool
-makes_one None = false
-makes_one (Some DosExit) = false
-makes_one (Some DosGetPid) = false
-makes_one (Some DosRead) = false
-makes_one (Some DosWrite) = false
-makes_one (Some DosMemAvail) = false
-makes_one (Some (OnSegments DosAllocSeg)) = true
-makes_one (Some (OnSegments DosReallocSeg)) = false
-makes_one (Some (OnSegments DosFreeSeg)) = false
-makes_one (Some (OnSegments DosSizeSeg)) = false
-makes_one (Some (OnSegments DosLockSeg)) = false
-makes_one (Some (OnSegments DosUnlockSeg)) = false
-makes_one (Some (OnSegments DosCreateCsAlias)) = false
+-- a DosAllocSeg is answered 8, as no more segments may live
+abbrev pub lacks_by : Before → SegmentCall → Bool
+lacks_by b DosAllocSeg = asks_for_room b && is_full b.known
+lacks_by b DosReallocSeg = false
+lacks_by b DosFreeSeg = false
+lacks_by b DosSizeSeg = false
+lacks_by b DosLockSeg = false
+lacks_by b DosUnlockSeg = false
+lacks_by b DosCreateCsAlias = false
 
--- the step makes a segment, where no more may live
-abbrev pub lacks_room : Before → Bool
-lacks_room b = makes_one (call_of b) && nat_le b.known.most b.known.count
+abbrev pub lacks_room : Before → Option Row → Bool
+lacks_room b None = false
+lacks_room b (Some DosExit) = false
+lacks_room b (Some DosGetPid) = false
+lacks_room b (Some DosRead) = false
+lacks_room b (Some DosWrite) = false
+lacks_room b (Some DosMemAvail) = false
+lacks_room b (Some (OnSegments call)) = lacks_by b call
+lacks_room b (Some (OnShared call)) = false
 
--- where the next step is its own and makes a segment, one more may live
-abbrev pub MayMake : Setting → World → (number : ℕ) → Type 0
-MayMake s w number = (b : Before) → next_before s w ≡ Some b → b.number ≡ number → lacks_room b ≡ false
+-- where the next step is its own, no call is answered so
+abbrev pub HasRoom : Setting → World → (number : ℕ) → Type 0
+HasRoom s w number = (b : Before) → next_before s w ≡ Some b → b.number ≡ number → lacks_room b (call_of b) ≡ false
 
 -- Over the first k steps of the run that begins in w, and over as many steps of its run alone as it does itself there.
 pub record KeepsToItself (s : Setting) (w alone : World) (number k : ℕ) : Type 0 where
@@ -118,5 +105,5 @@ pub record KeepsToItself (s : Setting) (w alone : World) (number k : ℕ) : Type
   pub apart : (j : ℕ) → j ≤ k → IsApart (after s w j) number
   pub ungiven : (j : ℕ) → j < k → IsUngiven s (after s w j) number
   pub quiet : (j : ℕ) → j < k → IsQuiet s (after s w j) number
-  pub room : (j : ℕ) → j < k → MayMake s (after s w j) number
-  pub room_alone : (j : ℕ) → j < own_steps s w number k → MayMake s (after s alone j) number
+  pub room : (j : ℕ) → j < k → HasRoom s (after s w j) number
+  pub room_alone : (j : ℕ) → j < own_steps s w number k → HasRoom s (after s alone j) number

@@ -1,0 +1,4 @@
+pub mod RenamedViews
+pub mod RenamedRulings
+pub mod RenamedCalls
+pub mod RenamedSteps
