@@ -88,7 +88,7 @@ unfolding is_good
 good_same t ok s offset count =
     ap (λ (b : Bool). (count == 0) || (b && has_range t.view.bytes ok offset count (bound_in t.view.held s))) (ap is_passed (probe_renamed t.names t.one.view t.view t.views DataReg s))
     ∙ ap (λ (b : Bool). (count == 0) || (is_for_es t.one.view s && b))
-    (ap (has_range t.view.bytes ok offset count) (bound_renamed t.names t.one.view t.view t.views s) ∙ by_hold (bound_in t.one.view.held s) (bound_is_in t.one.view.held s))
+    (ap (has_range t.view.bytes ok offset count) (bound_renamed t.names t.one.view.held t.view.held t.views.held s) ∙ by_hold (bound_in t.one.view.held s) (bound_is_in t.one.view.held s))
   where
     by_hold : (x : Option Hold) → ((h : Hold) → x ≡ Some h → IsIn t.one.view.held h)
         → has_range t.view.bytes ok offset count (option_map (renamed_hold t.names) x) ≡ has_range t.one.view.bytes ok offset count x
@@ -104,7 +104,7 @@ put_same : (t : Twins) (bytes others : ℕ → List ℕ) (s offset : ℕ) (part 
     → SameBytes t.names t.one.view.held (put_at_pointer t.one.view.held bytes s offset part) (put_at_pointer t.view.held others s offset part)
 unfolding put_at_pointer
 put_same t bytes others s offset part same h hi =
-    ap (λ (x : Option Hold). put_in others offset part x (t.names h.name)) (bound_renamed t.names t.one.view t.view t.views s) ∙ by_hold (bound_in t.one.view.held s) (bound_is_in t.one.view.held s)
+    ap (λ (x : Option Hold). put_in others offset part x (t.names h.name)) (bound_renamed t.names t.one.view.held t.view.held t.views.held s) ∙ by_hold (bound_in t.one.view.held s) (bound_is_in t.one.view.held s)
   where
     by_hold : (x : Option Hold) → ((g : Hold) → x ≡ Some g → IsIn t.one.view.held g)
         → put_in others offset part (option_map (renamed_hold t.names) x) (t.names h.name) ≡ put_in bytes offset part x h.name
@@ -117,7 +117,7 @@ range_same : (t : Twins) (s offset count : ℕ) → range_of t.view.held t.view.
 unfolding range_of
 range_same t s offset count =
     ap (λ (bs : List ℕ). cond (count == 0) [] bs)
-    (ap (range_in t.view.bytes offset count) (bound_renamed t.names t.one.view t.view t.views s) ∙ by_hold (bound_in t.one.view.held s) (bound_is_in t.one.view.held s))
+    (ap (range_in t.view.bytes offset count) (bound_renamed t.names t.one.view.held t.view.held t.views.held s) ∙ by_hold (bound_in t.one.view.held s) (bound_is_in t.one.view.held s))
   where
     by_hold : (x : Option Hold) → ((h : Hold) → x ≡ Some h → IsIn t.one.view.held h)
         → range_in t.view.bytes offset count (option_map (renamed_hold t.names) x) ≡ range_in t.one.view.bytes offset count x

@@ -31,19 +31,23 @@ same_test f held apart g h gi hi = go (f h.name == f g.name) (h.name == g.name) 
 
 -- What is looked up.
 
-pub found_renamed : (f : Renaming) (v o : View) → IsRenamedView f v o → (s : ℕ) → found o s ≡ option_map (renamed_hold f) (found v s)
-found_renamed f v o same s = go (is_local s)
+-- two maps that are alike but for the numbers of names
+abbrev pub SameMap : Renaming → (held others : ℕ → Option Hold) → Type 0
+SameMap f held others = (i : ℕ) → others i ≡ option_map (renamed_hold f) (held i)
+
+pub found_renamed : (f : Renaming) (held others : ℕ → Option Hold) → SameMap f held others → (s : ℕ) → found_in others s ≡ option_map (renamed_hold f) (found_in held s)
+found_renamed f held others same s = go (is_local s)
   where
-    go : (b : Bool) → cond b (o.held (s / 8)) None ≡ option_map (renamed_hold f) (cond b (v.held (s / 8)) None)
-    go true = same.held (s / 8)
+    go : (b : Bool) → cond b (others (s / 8)) None ≡ option_map (renamed_hold f) (cond b (held (s / 8)) None)
+    go true = same (s / 8)
     go false = refl
 
-pub bound_renamed : (f : Renaming) (v o : View) → IsRenamedView f v o → (s : ℕ) → bound_in o.held s ≡ option_map (renamed_hold f) (bound_in v.held s)
-bound_renamed f v o same s = go (is_null s)
+pub bound_renamed : (f : Renaming) (held others : ℕ → Option Hold) → SameMap f held others → (s : ℕ) → bound_in others s ≡ option_map (renamed_hold f) (bound_in held s)
+bound_renamed f held others same s = go (is_null s)
   where
-    go : (b : Bool) → cond b None (found o s) ≡ option_map (renamed_hold f) (cond b None (found v s))
+    go : (b : Bool) → cond b None (found_in others s) ≡ option_map (renamed_hold f) (cond b None (found_in held s))
     go true = refl
-    go false = found_renamed f v o same s
+    go false = found_renamed f held others same s
 
 pub found_is_in : (held : ℕ → Option Hold) (s : ℕ) (h : Hold) → found_in held s ≡ Some h → IsIn held h
 found_is_in held s h e = go (is_local s) e
@@ -136,10 +140,10 @@ probe_renamed f v o same p s = go p
     there h e = found_is_in v.held s h e
 
     passing : (absent : ℕ) (ok : ℕ → Bool) → when o absent s ok (found o s) ≡ when v absent s ok (found v s)
-    passing absent ok = ap (when o absent s ok) (found_renamed f v o same s) ∙ when_renamed f v o same absent s ok (found v s) there
+    passing absent ok = ap (when o absent s ok) (found_renamed f v.held o.held same.held s) ∙ when_renamed f v o same absent s ok (found v s) there
 
     calling : called o s (found o s) ≡ called v s (found v s)
-    calling = ap (called o s) (found_renamed f v o same s) ∙ called_renamed f v o same s (found v s) there
+    calling = ap (called o s) (found_renamed f v.held o.held same.held s) ∙ called_renamed f v o same s (found v s) there
 
     go : (p : Purpose) → probe_of o p (selector s) ≡ probe_of v p (selector s)
     go DataReg = ap (λ (l : Loaded). cond (is_null s) loaded.Done l) (passing 11 is_readable)
@@ -150,7 +154,7 @@ probe_renamed f v o same p s = go p
 
 size_renamed : (f : Renaming) (v o : View) → IsRenamedView f v o → (s : ℕ) → size_at o s ≡ size_at v s
 unfolding size_at
-size_renamed f v o same s = ap (option_map (λ (h : Hold). o.size h.name)) (found_renamed f v o same s) ∙ by_hold (found v s) (found_is_in v.held s)
+size_renamed f v o same s = ap (option_map (λ (h : Hold). o.size h.name)) (found_renamed f v.held o.held same.held s) ∙ by_hold (found v s) (found_is_in v.held s)
   where
     by_hold : (x : Option Hold) → ((h : Hold) → x ≡ Some h → IsIn v.held h)
         → option_map (λ (h : Hold). o.size h.name) (option_map (renamed_hold f) x) ≡ option_map (λ (h : Hold). v.size h.name) x
@@ -160,7 +164,7 @@ size_renamed f v o same s = ap (option_map (λ (h : Hold). o.size h.name)) (foun
 rights_renamed : (f : Renaming) (v o : View) → IsRenamedView f v o → (s : ℕ) → rights_at o s ≡ rights_at v s
 unfolding rights_at
 rights_renamed f v o same s =
-    ap (λ (x : Option Hold). rights_or_gate x (gate_at o s)) (found_renamed f v o same s)
+    ap (λ (x : Option Hold). rights_or_gate x (gate_at o s)) (found_renamed f v.held o.held same.held s)
     ∙ (by_hold (found v s) ∙ ap (rights_or_gate (found v s)) (gate_renamed f v o same s))
   where
     by_hold : (x : Option Hold) → rights_or_gate (option_map (renamed_hold f) x) (gate_at o s) ≡ rights_or_gate x (gate_at o s)
@@ -185,7 +189,7 @@ unfolding bind
 bind_renamed f v o r s same = record {
   held = same.held;
   gate = same.gate;
-  registers = λ q. put_register (λ x y. y ≡ option_map (renamed_hold f) x) v.registers o.registers r q (bound_in v.held s) (bound_in o.held s) (bound_renamed f v o same s) same.registers;
+  registers = λ q. put_register (λ x y. y ≡ option_map (renamed_hold f) x) v.registers o.registers r q (bound_in v.held s) (bound_in o.held s) (bound_renamed f v.held o.held same.held s) same.registers;
   bound = λ q. put_register (λ x y. (h : Hold) → x ≡ Some h → IsIn v.held h) v.registers o.registers r q (bound_in v.held s) (bound_in o.held s) (bound_is_in v.held s) same.bound;
   size = same.size;
   present = same.present;
