@@ -65,11 +65,11 @@ trapped_renamed t vector = record { cpu = refl; state = refl; bytes = t.views.by
 word_same : (t : Twins) (i : ℕ) → word_of t.view t.one.cpu i ≡ word_of t.one.view t.one.cpu i
 word_same t i = read_renamed t.names t.one.view t.view t.views Ss ((t.one.cpu.sp + 2 * i) % 65536) WordWide
 
-arguments_same : (t : Twins) → argument t.view t.one.cpu ≡ argument t.one.view t.one.cpu
+pub arguments_same : (t : Twins) → argument t.view t.one.cpu ≡ argument t.one.view t.one.cpu
 unfolding argument
 arguments_same t = fun_ext (λ (i : ℕ). ap (λ (r : Result ℕ (ℕ × ℕ)). result_unwrap_or r 0) (word_same t i))
 
-has_same : (t : Twins) (n : ℕ) → has_arguments t.view t.one.cpu n ≡ has_arguments t.one.view t.one.cpu n
+pub has_same : (t : Twins) (n : ℕ) → has_arguments t.view t.one.cpu n ≡ has_arguments t.one.view t.one.cpu n
 has_same t zero = refl
 has_same t (suc n) =
     ap (λ (b : Bool). b && is_ok (word_of t.view t.one.cpu n)) (has_same t n)
@@ -83,7 +83,7 @@ with_arguments t n g h same =
     subst (λ (a : ℕ → ℕ). Does t (cond (has_arguments t.one.view t.one.cpu n) (g (argument t.one.view t.one.cpu)) (trapped t.one 12)) (cond (has_arguments t.view t.one.cpu n) (h a) (trapped (other t) 12))) (sym (arguments_same t))
     (tested t (has_arguments t.one.view t.one.cpu n) (has_arguments t.view t.one.cpu n) (g (argument t.one.view t.one.cpu)) (h (argument t.one.view t.one.cpu)) (trapped t.one 12) (trapped (other t) 12) (has_same t n) same (trapped_renamed t 12))
 
-good_same : (t : Twins) (ok : ℕ → Bool) (s offset count : ℕ) → is_good ok t.view s offset count ≡ is_good ok t.one.view s offset count
+pub good_same : (t : Twins) (ok : ℕ → Bool) (s offset count : ℕ) → is_good ok t.view s offset count ≡ is_good ok t.one.view s offset count
 unfolding is_good
 good_same t ok s offset count =
     ap (λ (b : Bool). (count == 0) || (b && has_range t.view.bytes ok offset count (bound_in t.view.held s))) (ap is_passed (probe_renamed t.names t.one.view t.view t.views DataReg s))

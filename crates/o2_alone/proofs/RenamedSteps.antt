@@ -11,6 +11,7 @@ use Rattle.o2_isa.specs.Step.{stepped}
 use Rattle.o2_isa.proofs.StepLaws.{stepped_frame}
 use Rattle.o2_world.specs.declared.types.Row.{Row}
 use Rattle.o2_world.specs.declared.types.State.{State}
+use Rattle.o2_world.specs.declared.types.State.TheVariants.{Trapped}
 use Rattle.o2_world.specs.World.{Line, Traps, is_live}
 use Rattle.o2_world.specs.Calls.{Before, Effect, row_of, served_by}
 use Rattle.o2_world.specs.Effect.{has_trap_flag, answered, single_stepped, effect}
@@ -19,11 +20,11 @@ use Rattle.o2_alone.proofs.RenamedViews.{stepped_renamed}
 use Rattle.o2_alone.proofs.RenamedCalls.{Twins, other, Does, either, trapped_renamed, served_renamed}
 
 -- the same process with the same registers
-abbrev twins_of : (f : Renaming) (b o : Before) → IsRenamed f b o → Twins
+abbrev pub twins_of : (f : Renaming) (b o : Before) → IsRenamed f b o → Twins
 twins_of f b o same = record { names = f; one = b; view = o.view; known = o.known; input = o.input; views = same.view; knows = same.known }
 
 -- what holds of the twin holds of what is renamed
-of_twin : (f : Renaming) (b o : Before) (same : IsRenamed f b o) (P : Before → Type 0) → P (other (twins_of f b o same)) → P o
+pub of_twin : (f : Renaming) (b o : Before) (same : IsRenamed f b o) (P : Before → Type 0) → P (other (twins_of f b o same)) → P o
 of_twin f b o same P p =
     subst (λ (n : ℕ). P (record { number = n; cpu = o.cpu; view = o.view; known = o.known; input = o.input })) (sym same.number)
     (subst (λ (c : Cpu). P (record { number = b.number; cpu = c; view = o.view; known = o.known; input = o.input })) (sym same.cpu) p)
@@ -33,10 +34,14 @@ pub call_renamed : (f : Renaming) (row : Option Row) (b o : Before) (next : ℕ)
 call_renamed f row b o next same =
     of_twin f b o same (λ o. IsAskedAlike row b o → IsRenamedEffect f b o (served_by row b next) (served_by row o next)) (served_renamed row (twins_of f b o same) next)
 
+-- with exception 1 behind it
+abbrev trapped_behind : Before → Effect → Effect
+trapped_behind b e = record e { state = Trapped 1; lines = e.lines ++ Traps b.number 1 b.cpu.cs b.cpu.ip ∷ [] }
+
 single_renamed : (t : Twins) (e d : Effect) → Does t e d → Does t (single_stepped t.one e) (single_stepped (other t) d)
 single_renamed t e d same =
-    subst (λ (s : State). Does t (single_stepped t.one e) (cond (has_trap_flag t.one.cpu.flags && is_live s) _ d)) (sym same.state)
-    (either t (has_trap_flag t.one.cpu.flags && is_live e.state) _ _ e d
+    subst (λ (s : State). Does t (single_stepped t.one e) (cond (has_trap_flag t.one.cpu.flags && is_live s) (trapped_behind (other t) d) d)) (sym same.state)
+    (either t (has_trap_flag t.one.cpu.flags && is_live e.state) (trapped_behind t.one e) (trapped_behind (other t) d) e d
     (λ _. record {
       cpu = same.cpu;
       state = refl;

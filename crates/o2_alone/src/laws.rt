@@ -9,6 +9,8 @@ ghost use Rattle.o2_world.specs.CallParts.{Before};
 ghost use Rattle.o2_world.specs.Calls.{served_by};
 ghost use Rattle.o2_world.specs.Effect.{effect};
 ghost use Rattle.o2_world.specs.Changes.{Change, moved_lines};
+ghost use Rattle.o2_world.specs.World.{World, Setting};
+ghost use Rattle.o2_alone.specs.Isolation.{BeginsAlike, IsIsolatedFrom};
 ghost use Rattle.o2_alone.specs.Renaming.{Renaming, IsRenamed, IsRenamedEffect, IsRenamedView, IsRenamedResult, IsAskedAlike, call_of, renamed_changes};
 
 /// An instruction never depends on where a segment is: over two views with other numbers for the names that the process holds, and
@@ -33,4 +35,11 @@ pub fn calls_depend_on_no_name()
 pub fn steps_depend_on_no_name()
     ensures { (f : Renaming) (b other : Before) → IsRenamed f b other → IsAskedAlike (call_of b) b other
         → IsRenamedEffect f b other (effect b) (effect other) }
+{}
+
+/// From two worlds on in which a process is alike but for the numbers of its segments, and of which the second has no other process
+/// that lives: for as long as it keeps to itself, its events are the first events of its run alone, with the same registers,
+/// console pieces and lines, and behind them it holds the same, with the same bytes behind each selector.
+pub fn who_keeps_to_itself_runs_as_alone()
+    ensures { (s : Setting) (w alone : World) (number : ℕ) → BeginsAlike number w alone → IsIsolatedFrom s w alone number }
 {}
