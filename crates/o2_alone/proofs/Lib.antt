@@ -9,3 +9,6 @@ pub mod Alikes
 pub mod OwnSteps
 pub mod OtherSteps
 pub mod Isolated
+pub mod CommonSegments
+pub mod StartsAlike
+pub mod OpenedAlike
