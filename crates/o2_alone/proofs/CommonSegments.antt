@@ -38,10 +38,13 @@ from_append modules (x ∷ xs) ys h k = (h.0, from_append modules xs ys h.1 k)
 module_from : (modules : ℕ → Loaded) (m : Loaded) (n : ℕ) (ss : List LoadedSegment) → modules m.place ≡ m
     → ((k : ℕ) (x : LoadedSegment) → slice_get ss k ≡ Some x → nth_loaded (n + k) m.segments ≡ Some x) → AreFrom modules (module_holdings m n ss)
 module_from modules m n [] is there = tt
-module_from modules m n (x ∷ ss) is there = (one, module_from modules m (n + 1) ss is (λ k y e. subst (λ (i : ℕ). nth_loaded i m.segments ≡ Some y) (omega arith) (there (suc k) y e)))
+module_from modules m n (x ∷ ss) is there = (one, module_from modules m (n + 1) ss is (λ k y e. subst (λ (i : ℕ). nth_loaded i m.segments ≡ Some y) (one_on k) (there (suc k) y e)))
   where
     at_number : nth_loaded n m.segments ≡ Some x
-    at_number = subst (λ (i : ℕ). nth_loaded i m.segments ≡ Some x) (omega arith) (there 0 x refl)
+    at_number = let same : n + 0 ≡ n = omega arith in subst (λ (i : ℕ). nth_loaded i m.segments ≡ Some x) same (there 0 x refl)
+
+    one_on : (k : ℕ) → n + suc k ≡ n + 1 + k
+    one_on k = omega arith
 
     one : IsFrom modules (holding_of m n x)
     one common = ap (λ (l : Loaded). segment_or_none l n (nth_loaded n l.segments)) is ∙ ap (segment_or_none m n) at_number
@@ -54,7 +57,7 @@ whole_module modules m is = module_from modules m 1 m.segments is (λ k x e. num
       where
         go : (b : Bool) → b ≡ false → cond b None (slice_get m.segments (1 + k - 1)) ≡ Some x
         go true is = absurd (cc)
-        go false is = subst (λ (i : ℕ). slice_get m.segments i ≡ Some x) (omega arith) e
+        go false is = let same : k ≡ 1 + k - 1 = omega arith in subst (λ (i : ℕ). slice_get m.segments i ≡ Some x) same e
 
 libraries_from : (modules : ℕ → Loaded) (ms : List Loaded) → All (λ (m : Loaded). modules m.place ≡ m) ms → AreFrom modules (library_holdings ms)
 libraries_from modules [] over = tt

@@ -1,6 +1,6 @@
 -- The world before the first step of a run, and that of the run of one process alone: the process is alike in both.
 use Rattle.std.proofs.Common.{◌≡◌, ◌≢◌, ◌⊎◌, inl, inr, refl, sym, ◌∙◌, ap, subst, ℕ, zero, suc, ◌+◌, ◌-◌, ◌/◌, ◌<◌, ◌≤◌, ◌==◌, ◌&&◌, ◌||◌, Bool, true, false, cond, List, [], ◌∷◌, ◌++◌, length, map, arith}
-use Rattle.std.specs.Prelude.{Option, Some, None, option_map, is_some, not, fold, replicate, slice_get, nat_lt, Result, Ok, Err}
+use Rattle.std.specs.Prelude.{Option, Some, None, option_map, is_some, not, fold, replicate, slice_get, nat_le, nat_lt, Result, Ok, Err}
 use Rattle.std.specs.List.{All, list_any}
 use Rattle.std.proofs.lemmas.Bool.{eq-eqb, eqb-true}
 use Rattle.std.proofs.lemmas.List.Elements.{All-head, All-tail}
@@ -125,7 +125,8 @@ settled_next names place p pid s b settled =
 -- A start that isn't refused.
 
 record HasStarted (most pid : ℕ) (s : Start) (b next : Built) : Type 0 where
-  checked : start_check s.program ≡ Ok tt
+  unit : Unit {0}
+  checked : start_check s.program ≡ Ok unit
   room : nat_lt most (with_holdings b (holdings pid s)).next_name ≡ false
   is : next ≡ with_started pid s (with_holdings b (holdings pid s))
 
@@ -139,13 +140,13 @@ has_started most pid s b next = by_check (start_check s.program) refl
     built_in (Ok x) = x
     built_in (Err fault) = next
 
-    by_room : (t : Bool) → start_check s.program ≡ Ok tt → nat_lt most c.next_name ≡ t → cond t (Err (pid, NoSegment)) (Ok (with_started pid s c)) ≡ Ok next → HasStarted most pid s b next
-    by_room true check is e = absurd (cc)
-    by_room false check is e = record { checked = check; room = is; is = sym (ap built_in e) }
+    by_room : (u : Unit {0}) (t : Bool) → start_check s.program ≡ Ok u → nat_lt most c.next_name ≡ t → cond t (Err (pid, NoSegment)) (Ok (with_started pid s c)) ≡ Ok next → HasStarted most pid s b next
+    by_room u true check is e = absurd (cc)
+    by_room u false check is e = record { unit = u; checked = check; room = is; is = sym (ap built_in e) }
 
     by_check : (r : Result (Unit {0}) ModuleFault) → start_check s.program ≡ r → where_checked pid r (within_names most pid s c) ≡ Ok next → HasStarted most pid s b next
     by_check (Err fault) is e = absurd (cc)
-    by_check (Ok u) is e = by_room (nat_lt most c.next_name) is refl e
+    by_check (Ok u) is e = by_room u (nat_lt most c.next_name) is refl e
 
 refused_stays : (most : ℕ) (starts : List Start) (fault : ℕ × ModuleFault) (last : Built) → fold (next_started most) (Err fault) starts ≡ Ok last → ⊥
 refused_stays most [] fault last e = cc
@@ -161,9 +162,10 @@ one_start : (most : ℕ) (s : Start) (starts : List Start) (b last : Built) → 
 one_start most s starts b last e =
     let pid : ℕ = length b.processes + 1 in
     let next = not_refused most starts (started_as most pid s b) last e in
-    let started = has_started most pid s b next.0 next.1 in
-    (subst (HasStarted most pid s b) started.is started,
-    ap (λ (x : Built). fold (next_started most) (Ok x) starts) (sym started.is) ∙ (ap (λ (r : Result Built (ℕ × ModuleFault)). fold (next_started most) r starts) (sym next.1) ∙ e))
+    let started = has_started most pid s b next.0 next.1 in (
+      subst (HasStarted most pid s b) started.is started,
+      ap (λ (x : Built). fold (next_started most) (Ok x) starts) (sym started.is) ∙ (ap (λ (r : Result Built (ℕ × ModuleFault)). fold (next_started most) r starts) (sym next.1) ∙ e),
+    )
 
 -- later starts leave what has started
 settled_last : (most : ℕ) (names : Map Segment) (place : ℕ) (p : Process) (starts : List Start) (b last : Built) → IsSettled names place p b
@@ -207,7 +209,8 @@ first_pairs number b none = record {
 -- Where the process starts among others.
 record StartsAmong (modules : ℕ → Loaded) (most number : ℕ) (start : Start) (last : Built) : Type 0 where
   among : Built
-  checked : start_check start.program ≡ Ok tt
+  unit : Unit {0}
+  checked : start_check start.program ≡ Ok unit
   room : nat_lt most among.next_name ≡ false
   alike : Alike modules among (with_holdings (before_it number) (holdings number start))
   settled : IsSettled among.names (number - 1) (first_process start among.held) last
@@ -217,10 +220,13 @@ starts_among : (modules : ℕ → Loaded) (most number : ℕ) (start : Start) (s
 starts_among modules most number start [] k b last ready over fit e at is = absurd (cc)
 starts_among modules most number start (s ∷ starts) zero b last ready over fit e at is =
     subst (λ (s : Start). StartsAmong modules most number s last) (some_is s start (Some s) refl at)
-    (subst (λ (pid : ℕ). StartsAmong modules most pid s last) (let same : length b.processes + 0 + 1 ≡ number = is in omega (arith, same)) here)
+    (subst (λ (pid : ℕ). StartsAmong modules most pid s last) (same_pid is) here)
   where
     pid : ℕ
     pid = length b.processes + 1
+
+    same_pid : length b.processes + 0 + 1 ≡ number → length b.processes + 1 ≡ number
+    same_pid is = omega (arith, is)
 
     c : Built
     c = with_holdings b (holdings pid s)
@@ -229,10 +235,11 @@ starts_among modules most number start (s ∷ starts) zero b last ready over fit
     here =
         let one = one_start most s starts b last e in
         let both = all_alike modules (holdings pid s) b (before_it pid) (holdings_from modules pid s (All-head (IsOver modules) s starts over))
-            (starts_apart pid s tt one.0.checked (All-head IsFitProgram s starts fit)) (free_at_first b.held (holdings pid s) ready.nothing)
-            (record { names = λ (n : ℕ). 0; pairs = first_pairs pid b ready.nothing; kept = ready.kept }) in
+        (starts_apart pid s one.0.unit one.0.checked (All-head IsFitProgram s starts fit)) (free_at_first b.held (holdings pid s) ready.nothing)
+        (record { names = λ (n : ℕ). 0; pairs = first_pairs pid b ready.nothing; kept = ready.kept }) in
         record {
           among = c;
+          unit = one.0.unit;
           checked = one.0.checked;
           room = one.0.room;
           alike = both;
@@ -280,6 +287,12 @@ good_too f p q cpu held good =
     by_case s (inl null) = inl null
     by_case s (inr named) = inr (named_too f p (record q { cpu = p.cpu }) is_readable s held named)
 
+-- what is held alone stands for something that is held among others
+record IsTwin (f : Renaming) (p : Process) (i : ℕ) (k : Held) : Type 0 where
+  hold : Held
+  there : get p.held i ≡ Some hold
+  is : renamed_held f hold ≡ k
+
 -- what a world alone has
 record HasOnly (f : Renaming) (number : ℕ) (p : Process) (a : World) : Type 0 where
   others : (place : ℕ) (x : Process) → place + 1 ≢ number → slice_get a.processes place ≡ Some x → (x.held ≡ []) × (is_live x.state ≡ false)
@@ -301,15 +314,10 @@ module _ (f : Renaming) (number : ℕ) (w a : World) (like : IsLike f number w a
   at_a : slice_get a.processes (number - 1) ≡ Some q
   at_a = at_place_of a.processes number q like.there_too
 
-  record IsTwin (i : ℕ) (k : Held) : Type 0 where
-    hold : Held
-    there : get p.held i ≡ Some hold
-    is : renamed_held f hold ≡ k
-
-  twin_of : (i : ℕ) (k : Held) → get q.held i ≡ Some k → IsTwin i k
+  twin_of : (i : ℕ) (k : Held) → get q.held i ≡ Some k → IsTwin f p i k
   twin_of i k e = go (get p.held i) refl (sym (like.held i) ∙ e)
     where
-      go : (o : Option Held) → get p.held i ≡ o → option_map (renamed_held f) o ≡ Some k → IsTwin i k
+      go : (o : Option Held) → get p.held i ≡ o → option_map (renamed_held f) o ≡ Some k → IsTwin f p i k
       go None there e = absurd (cc)
       go (Some h) there e = record { hold = h; there = there; is = some_is (renamed_held f h) k (Some (renamed_held f h)) refl e }
 
@@ -328,10 +336,10 @@ module _ (f : Renaming) (number : ℕ) (w a : World) (like : IsLike f number w a
           let none = (only.others place x other at).0 in
           absurd (let no : ◌≡◌ {A = Option Held} None (Some k) = ap (λ (m : Map Held). get m i) (sym none) ∙ e in cc)
 
-  segment_of_twin : (i : ℕ) (k : Held) (t : IsTwin i k) → get a.names k.name ≡ get w.names t.hold.name
+  segment_of_twin : (i : ℕ) (k : Held) (t : IsTwin f p i k) → get a.names k.name ≡ get w.names t.hold.name
   segment_of_twin i k t = ap (λ (h : Held). get a.names h.name) (sym t.is) ∙ like.segment i t.hold t.there
 
-  held_w : (i : ℕ) (k : Held) (t : IsTwin i k) → held_in w.processes (number - 1) i ≡ Some t.hold
+  held_w : (i : ℕ) (k : Held) (t : IsTwin f p i k) → held_in w.processes (number - 1) i ≡ Some t.hold
   held_w i k t = ap (λ (o : Option Process). held_of o i) at_w ∙ t.there
 
   tied_alone : IsTied a
@@ -349,8 +357,8 @@ module _ (f : Renaming) (number : ℕ) (w a : World) (like : IsLike f number w a
         ap (λ (h : Held). is_writable h.rights) (sym t.is) ∙ sound.tied.clean (number - 1) i t.hold z (held_w i k t) (sym (segment_of_twin i k t) ∙ there) clean;
     one = λ place other i h k big e u. inl (ap (λ (h : Held). h.name) (some_is h k (get q.held i) (holder place i h e) (holder other i k u)));
     texts = subst (AreLive a.names) (sym only.texts) tt;
-    ended = λ place x at dead. by_ended (place_is place (place + 1 == number) refl) x at dead;
-    registers = λ place x at lives. by_live (place_is place (place + 1 == number) refl) x at lives;
+    ended = λ place x at dead. by_ended place (place_is place (place + 1 == number) refl) x at dead;
+    registers = λ place x at lives. by_live place (place_is place (place + 1 == number) refl) x at lives;
   }
     where
       is_twin : (place : ℕ) (x : Process) → place ≡ number - 1 → slice_get a.processes place ≡ Some x → q ≡ x
@@ -359,13 +367,13 @@ module _ (f : Renaming) (number : ℕ) (w a : World) (like : IsLike f number w a
       alive : is_live q.state ≡ true
       alive = ap is_live like.state ∙ live
 
-      by_ended : {place : ℕ} → (place ≡ number - 1) ⊎ (place + 1 ≢ number) → (x : Process) → slice_get a.processes place ≡ Some x → is_live x.state ≡ false → x.held ≡ []
-      by_ended {place} (inl is) x at dead = absurd (let no : true ≡ false = sym alive ∙ (ap (λ (x : Process). is_live x.state) (is_twin place x is at) ∙ dead) in cc)
-      by_ended {place} (inr other) x at dead = (only.others place x other at).0
+      by_ended : (place : ℕ) → (place ≡ number - 1) ⊎ (place + 1 ≢ number) → (x : Process) → slice_get a.processes place ≡ Some x → is_live x.state ≡ false → x.held ≡ []
+      by_ended place (inl is) x at dead = absurd (let no : true ≡ false = sym alive ∙ (ap (λ (x : Process). is_live x.state) (is_twin place x is at) ∙ dead) in cc)
+      by_ended place (inr other) x at dead = (only.others place x other at).0
 
-      by_live : {place : ℕ} → (place ≡ number - 1) ⊎ (place + 1 ≢ number) → (x : Process) → slice_get a.processes place ≡ Some x → is_live x.state ≡ true → HasGoodRegisters x
-      by_live {place} (inl is) x at lives = subst HasGoodRegisters (is_twin place x is at) (good_too f p q like.cpu like.held (sound.tied.registers (number - 1) p at_w live))
-      by_live {place} (inr other) x at lives = absurd (let no : true ≡ false = sym lives ∙ (only.others place x other at).1 in cc)
+      by_live : (place : ℕ) → (place ≡ number - 1) ⊎ (place + 1 ≢ number) → (x : Process) → slice_get a.processes place ≡ Some x → is_live x.state ≡ true → HasGoodRegisters x
+      by_live place (inl is) x at lives = subst HasGoodRegisters (is_twin place x is at) (good_too f p q like.cpu like.held (sound.tied.registers (number - 1) p at_w live))
+      by_live place (inr other) x at lives = absurd (let no : true ≡ false = sym lives ∙ (only.others place x other at).1 in cc)
 
   pub sound_too : IsSound a
   sound_too = record {
@@ -405,7 +413,7 @@ none_reserved : (number i : ℕ) (rs : List (ℕ × ℕ)) → 0 < number → lis
 none_reserved number i [] some = refl
 none_reserved number i (r ∷ rs) some =
     let other : (0 == number) ≡ false = grind arith in
-    ap (λ (b : Bool). (b && _) || list_any (reserves number i) (map for_the_run rs)) other ∙ none_reserved number i rs some
+    ap (λ (b : Bool). (b && (nat_le r.0 i && nat_lt i (r.0 + r.1))) || list_any (reserves number i) (map for_the_run rs)) other ∙ none_reserved number i rs some
 
 all_used : (ps : List Process) (rs : List (ℕ × ℕ)) → AreUsed ps (map for_the_run rs)
 all_used ps [] = tt

@@ -83,15 +83,18 @@ module _ (b : Before) where
     where
       by_marks : (o : Option SegmentMarks) → b.known.segment h.name ≡ o → AreOfOwn b (reallocation_with h.name (full_size size) o).changes
       by_marks None is = tt
-      by_marks (Some m) is = rules (keeps_its_size (full_size size) m) _ _ tt (λ changes. (record {
-        index = s / 8;
-        hold = h;
-        there = held_there b.known b.number s h e;
-        named = refl;
-        marks = m;
-        segment = is;
-        good = not_clean m.clean (m.shared && nat_lt (full_size size) m.size) changes;
-      }, tt))
+      by_marks (Some m) is = rules (keeps_its_size (full_size size) m) _ _ tt (λ changes. (
+        record {
+          index = s / 8;
+          hold = h;
+          there = held_there b.known b.number s h e;
+          named = refl;
+          marks = m;
+          segment = is;
+          good = not_clean m.clean (m.shared && nat_lt (full_size size) m.size) changes;
+        },
+        tt,
+      ))
 
   drops_own : (is : List ℕ) → AreOfOwn b (map (λ (i : ℕ). Drops b.number i 1) is)
   drops_own [] = tt

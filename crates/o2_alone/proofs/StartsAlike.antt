@@ -344,10 +344,10 @@ module _ (modules : ℕ → Loaded) (b c : Built) (h : Holding) (from : IsFrom m
     kept = kept_named modules b.names b.next_name b.made h from kept;
   }
     where
-      abbrev g : Renaming
+      g : Renaming
       g = updated f b.next_name c.next_name
 
-      abbrev after : Map Held
+      after : Map Held
       after = (h.index, held_by_load b.next_name h.rights) ∷ b.held
 
       old_is : (made : List Made) → ((place number n : ℕ) → name_in b.made place number ≡ Some n → name_in made place number ≡ Some n)
@@ -376,10 +376,13 @@ module _ (modules : ℕ → Loaded) (b c : Built) (h : Holding) (from : IsFrom m
             where
               by_case : (name_in c.made place number ≡ Some y) ⊎ IsLast there place number y → (n : ℕ) × (name_in (b.made ++ here ∷ []) place number ≡ Some n) × (g n ≡ y) × IsNamedIn after n
               by_case (inl old) = old_is (b.made ++ here ∷ []) (λ p k n u. made_stays b.made here p k n u) place number y old
-              by_case (inr last) =
-                  (b.next_name, subst (λ (p : ℕ). name_in (b.made ++ here ∷ []) p number ≡ Some b.next_name) last.place_is
-                  (subst (λ (k : ℕ). name_in (b.made ++ here ∷ []) h.place k ≡ Some b.next_name) last.number_is (made_comes b.made here (none common).0)),
-                  updated_new f b.next_name c.next_name ∙ last.name_is, new_in b.held h.index (held_by_load b.next_name h.rights))
+              by_case (inr last) = (
+                b.next_name,
+                subst (λ (p : ℕ). name_in (b.made ++ here ∷ []) p number ≡ Some b.next_name) last.place_is
+                    (subst (λ (k : ℕ). name_in (b.made ++ here ∷ []) h.place k ≡ Some b.next_name) last.number_is (made_comes b.made here (none common).0)),
+                updated_new f b.next_name c.next_name ∙ last.name_is,
+                new_in b.held h.index (held_by_load b.next_name h.rights),
+              )
 
       back_is : (place number n : ℕ) → name_in (made_with b.made h b.next_name) place number ≡ Some n → IsNamedIn after n → name_in (made_with c.made h c.next_name) place number ≡ Some (g n)
       back_is place number n = go h.common refl
@@ -403,10 +406,10 @@ module _ (modules : ℕ → Loaded) (b c : Built) (h : Holding) (from : IsFrom m
     kept = kept;
   }
     where
-      abbrev g : Renaming
+      g : Renaming
       g = updated f m c.next_name
 
-      abbrev after : Map Held
+      after : Map Held
       after = (h.index, held_by_load m h.rights) ∷ b.held
 
       unheld : IsNamedIn b.held m → ⊥
@@ -428,9 +431,12 @@ module _ (modules : ℕ → Loaded) (b c : Built) (h : Holding) (from : IsFrom m
               by_case : (name_in c.made place number ≡ Some y) ⊎ IsLast there place number y → (n : ℕ) × (name_in b.made place number ≡ Some n) × (g n ≡ y) × IsNamedIn after n
               by_case (inl old) =
                   old_made f b c h pairs fresh m b.names b.next_name b.made unheld (λ q e. refl) (kept.made_of h.place h.number m is ∙ ap (λ (z : Segment). Some z) (from common)) more place number y old (λ n u. u)
-              by_case (inr last) =
-                  (m, subst (λ (p : ℕ). name_in b.made p number ≡ Some m) last.place_is (subst (λ (k : ℕ). name_in b.made h.place k ≡ Some m) last.number_is is),
-                  updated_new f m c.next_name ∙ last.name_is, new_in b.held h.index (held_by_load m h.rights))
+              by_case (inr last) = (
+                m,
+                subst (λ (p : ℕ). name_in b.made p number ≡ Some m) last.place_is (subst (λ (k : ℕ). name_in b.made h.place k ≡ Some m) last.number_is is),
+                updated_new f m c.next_name ∙ last.name_is,
+                new_in b.held h.index (held_by_load m h.rights),
+              )
 
       back_is : (place number n : ℕ) → name_in b.made place number ≡ Some n → IsNamedIn after n → name_in (made_with c.made h c.next_name) place number ≡ Some (g n)
       back_is place number n e a = go h.common common

@@ -171,15 +171,15 @@ module _ (f : Renaming) (number : ℕ) (some : 0 < number) (mine : ℕ → Type 
       ∙ (ap (λ (o : Option Held). cond (i == j) (h o) (get t.twin.held j)) (t.held i)
       ∙ (ap (λ (o : Option Held). cond (i == j) (h (option_map (renamed_held f) (get t.one.held i))) o) (t.held j)
       ∙ (pick (i == j) (get t.one.held i) (get t.one.held j) ∙ ap (option_map (renamed_held f)) (sym (get-put i j (g (get t.one.held i)) t.one.held))))))
-      (λ (j : ℕ). subst (AreOf mine) (sym (get-put i j (g (get t.one.held i)) t.one.held)) (pick_mine (i == j) (of (get t.one.held i) (t.named i)) (t.named j)))
+      (λ (j : ℕ). subst (AreOf mine) (sym (get-put i j (g (get t.one.held i)) t.one.held)) (pick_mine (i == j) (g (get t.one.held i)) (get t.one.held j) (of (get t.one.held i) (t.named i)) (t.named j)))
     where
       pick : (b : Bool) (x y : Option Held) → cond b (h (option_map (renamed_held f) x)) (option_map (renamed_held f) y) ≡ option_map (renamed_held f) (cond b (g x) y)
       pick true x y = same x
       pick false x y = refl
 
-      pick_mine : (b : Bool) {x y : Option Held} → AreOf mine x → AreOf mine y → AreOf mine (cond b x y)
-      pick_mine true p q = p
-      pick_mine false p q = q
+      pick_mine : (b : Bool) (x y : Option Held) → AreOf mine x → AreOf mine y → AreOf mine (cond b x y)
+      pick_mine true x y p q = p
+      pick_mine false x y p q = q
 
   twin_change : (c : Change) (w a : World) → IsMine number mine c → Twins w a → Twins (with_change w c) (with_change a (renamed_change f c))
   twin_change (Makes s) w a m t = twin_makes s w a t

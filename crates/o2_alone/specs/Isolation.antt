@@ -95,8 +95,7 @@ pub record RunsAlone (s : Setting) (reserved : List (ℕ × ℕ)) (input : List 
   pub begins : opening_alone s reserved input number start ≡ Ok world
   pub isolated : IsIsolatedFrom s w world number
 
--- Isolation, for each process of a machine file, over the modules from which it starts. Nothing claims it yet: what is proved is
--- `IsIsolatedFrom` for worlds of which `BeginsAlike` holds.
+-- Isolation, for each process of a machine file, over the modules from which it starts.
 abbrev pub Isolation : Type 0
 Isolation = (modules : ℕ → Loaded) (s : Setting) (reserved : List (ℕ × ℕ)) (script : List Word) (input : List ℕ) (starts : List Start) (w : World)
     → ShareNoIndex modules → AreFit starts → AreOf modules starts → All (IsOver modules) starts → opening_of s reserved script input starts ≡ Ok w

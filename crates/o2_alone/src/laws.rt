@@ -10,7 +10,7 @@ ghost use Rattle.o2_world.specs.Calls.{served_by};
 ghost use Rattle.o2_world.specs.Effect.{effect};
 ghost use Rattle.o2_world.specs.Changes.{Change, moved_lines};
 ghost use Rattle.o2_world.specs.World.{World, Setting};
-ghost use Rattle.o2_alone.specs.Isolation.{BeginsAlike, IsIsolatedFrom};
+ghost use Rattle.o2_alone.specs.Isolation.{BeginsAlike, IsIsolatedFrom, Isolation};
 ghost use Rattle.o2_alone.specs.Renaming.{Renaming, IsRenamed, IsRenamedEffect, IsRenamedView, IsRenamedResult, IsAskedAlike, call_of, renamed_changes};
 
 /// An instruction never depends on where a segment is: over two views with other numbers for the names that the process holds, and
@@ -42,4 +42,10 @@ pub fn steps_depend_on_no_name()
 /// console pieces and lines, and behind them it holds the same, with the same bytes behind each selector.
 pub fn who_keeps_to_itself_runs_as_alone()
     ensures { (s : Setting) (w alone : World) (number : ℕ) → BeginsAlike number w alone → IsIsolatedFrom s w alone number }
+{}
+
+/// Isolation. Each process of a machine file has a run alone, with its number and without the others. Where it keeps to itself up to some step of the run,
+/// its events up to there are the first events of its run alone: the same console pieces, lines and registers, and the same bytes behind each selector.
+pub fn strangers_do_not_feel_one_another()
+    ensures { Isolation }
 {}
