@@ -323,12 +323,12 @@ module _ (s : Setting) (w alone : World) (number : ℕ) (alike : BeginsAlike num
         begins = subst (λ (n : ℕ). BeginsAlike number (after s w (suc k)) (after s alone n)) (sym is) begins;
       }
 
+  first_follows : Follows s w alone number 0
+  unfolding events
+  first_follows = record { same_events = refl; begins = alike }
+
   follows : (k : ℕ) → KeepsToItself s w alone number k → Follows s w alone number k
-  follows zero keeps = first
-    where
-      first : Follows s w alone number 0
-      unfolding events
-      first = record { same_events = refl; begins = alike }
+  follows zero keeps = first_follows
   follows (suc k) keeps =
       let so_far = follows k (shorter k (never_fewer k) keeps) in
       next_follows k so_far

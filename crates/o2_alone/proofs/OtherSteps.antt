@@ -81,10 +81,10 @@ fixed_changes b [] v own fixed = fixed
 fixed_changes b (c ∷ cs) v own fixed = fixed_changes b cs (with_change v c) own.1 (fixed_change b c v own.0 fixed)
 
 fixed_end : (b : Before) (number : ℕ) (e : Effect) (v : World) → AreOfOwn b e.changes → AreFixed v.names → AreFixed (with_changes v (all_changes number e)).names
+unfolding with_changes
 fixed_end b number e v own fixed = go (is_live e.state)
   where
     more : (cs : List Change) (v : World) → AreOfOwn b cs → AreFixed v.names → AreFixed (with_changes v (cs ++ Finishes number e.state ∷ [])).names
-    unfolding with_changes
     more [] v own fixed = fixed
     more (c ∷ cs) v own fixed = more cs (with_change v c) own.1 (fixed_change b c v own.0 fixed)
 
