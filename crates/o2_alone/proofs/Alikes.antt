@@ -117,6 +117,25 @@ module _ (f : Renaming) (number : ℕ) (w a : World) (like : IsLike f number w a
           let two = extended_high f w.next_name a.next_name n far in
           omega (arith, one, two, same, high, far)
 
+-- with further numbers for the names that come
+pub record IsFurther (number : ℕ) (w a : World) : Type 0 where
+  pub names : Renaming
+  pub like : IsLike names number w a
+  pub range : IsRange names (IsSpokenOf like.process w.next_name) w.next_name a.next_name
+  pub next : names w.next_name ≡ a.next_name
+
+pub go_further : (f : Renaming) (number : ℕ) (w a : World) → IsLike f number w a → IsTied w → IsTied a → IsFurther number w a
+unfolding further_like
+go_further f number w a like tied tied_alone = record {
+  names = further f number w a like tied tied_alone;
+  like = further_like f number w a like tied tied_alone;
+  range = spoken_range f number w a like tied tied_alone;
+  next = next_is;
+}
+  where
+    next_is : extended f w.next_name a.next_name w.next_name ≡ a.next_name
+    next_is = let new = extended_high f w.next_name a.next_name w.next_name (omega arith) in omega (arith, new)
+
 -- Both befores.
 
 record IsHold (o : Option Held) (h : Hold) : Type 0 where

@@ -30,7 +30,7 @@ use Rattle.o2_alone.specs.Renaming.{Renaming, renamed_held, call_of, IsRenamedEf
 use Rattle.o2_alone.specs.Events.{Event, chosen_before, event_by, event_list, event_of, events, events_of, next_before, own_steps}
 use Rattle.o2_alone.specs.Keeping.{HasRoom, IsApart, IsQuiet, KeepsToItself}
 use Rattle.o2_alone.specs.Isolation.{AreFixed, BeginsAlike, IsAlone, IsIsolated, IsLike, IsSame, bytes_behind, held_bytes, nameless}
-use Rattle.o2_alone.proofs.Alikes.{asked_alike, extended_high, further, further_like, same_before}
+use Rattle.o2_alone.proofs.Alikes.{IsFurther, asked_alike, go_further, same_before}
 use Rattle.o2_alone.proofs.OtherSteps.{fixed_step, other_step}
 use Rattle.o2_alone.proofs.OwnSteps.{own_step}
 use Rattle.o2_alone.proofs.RenamedSteps.{effect_renamed}
@@ -137,11 +137,11 @@ same_event f b o e x number same =
 
 events_append : (number : ℕ) (xs ys : List Event) → events_of number (xs ++ ys) ≡ events_of number xs ++ events_of number ys
 events_append number [] ys = refl
-events_append number (x ∷ xs) ys = go (x.process == number)
+events_append number (x ∷ xs) ys = go (x.process == number) (events_append number xs ys)
   where
-    go : (b : Bool) → cond b (x ∷ events_of number (xs ++ ys)) (events_of number (xs ++ ys)) ≡ cond b (x ∷ events_of number xs) (events_of number xs) ++ events_of number ys
-    go true = ap (λ (es : List Event). x ∷ es) (events_append number xs ys)
-    go false = events_append number xs ys
+    go : (b : Bool) → events_of number (xs ++ ys) ≡ events_of number xs ++ events_of number ys → cond b (x ∷ events_of number (xs ++ ys)) (events_of number (xs ++ ys)) ≡ cond b (x ∷ events_of number xs) (events_of number xs) ++ events_of number ys
+    go true rest = ap (λ (es : List Event). x ∷ es) rest
+    go false rest = rest
 
 only_own : (number : ℕ) (x : Event) → x.process ≡ number → events_of number (x ∷ []) ≡ x ∷ []
 only_own number x is = if_yes (x.process == number) (x ∷ []) [] (eq-eqb x.process number is)
@@ -151,7 +151,7 @@ not_own number x is = if_no (x.process == number) (x ∷ []) [] is
 
 -- A step.
 
-data Moved (s : Setting) (number : ℕ) (v u : World) : Type 0 where
+pub data Moved (s : Setting) (number : ℕ) (v u : World) : Type 0 where
   -- it isn't the process's
   Stays : events_of number (event_list (next_before s v)) ≡ [] → BeginsAlike number (step s v) u → Moved s number v u
   -- it is, and the next one of its run alone is the same
@@ -165,11 +165,14 @@ module _ (s : Setting) (number : ℕ) (v u : World) (alike : BeginsAlike number 
   abbrev c : Dispatch
   c = next_dispatch s u
 
+  abbrev far : IsFurther number v u
+  far = go_further alike.names number v u alike.like alike.sound.tied alike.sound_alone.tied
+
   abbrev p : Process
-  p = alike.like.process
+  p = far.like.process
 
   abbrev q : Process
-  q = alike.like.twin
+  q = far.like.twin
 
   other_moves : is_over v ≡ false → (r : Process) → process_at v.processes d.current ≡ Some r → (d.current == number) ≡ false → Moved s number v u
   other_moves runs r at other =
@@ -191,13 +194,13 @@ module _ (s : Setting) (number : ℕ) (v u : World) (alike : BeginsAlike number 
       some = (not_over (any_lives v.processes) v.dispatch.budget runs).1
 
       next : NextAlone s number u q
-      next = next_alone s number u q alike.is_alone alike.like.there_too (alike.like.state ∙ live) (let most = alike.budget in omega (arith, most, some))
+      next = next_alone s number u q alike.is_alone far.like.there_too (far.like.state ∙ live) (let most = alike.budget in omega (arith, most, some))
 
       at : process_at v.processes d.current ≡ Some p
-      at = ap (λ (n : ℕ). process_at v.processes n) current ∙ alike.like.there
+      at = ap (λ (n : ℕ). process_at v.processes n) current ∙ far.like.there
 
       at_alone : process_at u.processes c.current ≡ Some q
-      at_alone = ap (λ (n : ℕ). process_at u.processes n) next.current ∙ alike.like.there_too
+      at_alone = ap (λ (n : ℕ). process_at u.processes n) next.current ∙ far.like.there_too
 
       one : Before
       one = before s v number p
@@ -215,15 +218,12 @@ module _ (s : Setting) (number : ℕ) (v u : World) (alike : BeginsAlike number 
       one_event = ap (λ (o : Option Before). events_of number (event_list o)) next_one ∙ only_own number (event_of one) refl
 
       g : Renaming
-      g = further alike.names number v u alike.like alike.sound.tied alike.sound_alone.tied
+      g = far.names
 
       renamed : IsRenamedEffect g one two (effect one) (effect two)
       renamed =
-          let same = same_before s g number v u (further_like alike.names number v u alike.like alike.sound.tied alike.sound_alone.tied) next_name in
+          let same = same_before s g number v u far.like far.next in
           effect_renamed g one two same (asked_alike g one two same (quiet one next_one refl) (room one next_one refl) (room_alone (event_of one) one_event two next_two refl))
-        where
-          next_name : g v.next_name ≡ u.next_name
-          next_name = extended_high alike.names v.next_name u.next_name v.next_name (omega arith) ∙ omega arith
 
       two_event : event_list (next_before s u) ≡ event_of one ∷ []
       two_event = ap event_list next_two ∙ ap (λ (x : Event). x ∷ []) (same_event g one two (effect one) (effect two) refl renamed)
@@ -233,7 +233,7 @@ module _ (s : Setting) (number : ℕ) (v u : World) (alike : BeginsAlike number 
         names = g;
         like = subst (λ (z : World). IsLike g number z (step s u)) (sym (step_is s v p runs at))
             (subst (λ (z : World). IsLike g number (changed v d p (effect (before s v d.current p))) z) (sym (step_is s u q next.runs at_alone))
-            (own_step s alike.names number v u alike.like alike.sound.tied alike.sound_alone.tied d c current next.current renamed));
+            (own_step s number v u far alike.sound.tied alike.sound_alone.tied d c current next.current renamed));
         sound = step_sound s v alike.sound;
         sound_alone = step_sound s u alike.sound_alone;
         fixed = subst (λ (z : World). AreFixed z.names) (sym (step_is s v p runs at)) (fixed_step s v d p alike.fixed);
@@ -248,7 +248,7 @@ module _ (s : Setting) (number : ℕ) (v u : World) (alike : BeginsAlike number 
       by_number runs true is =
           let here = next_process s v runs in
           let current = eqb-true d.current number is in
-          let same = some_is here.0 p (process_at v.processes number) (ap (λ (n : ℕ). process_at v.processes n) (sym current) ∙ here.1) alike.like.there in
+          let same = some_is here.0 p (process_at v.processes number) (ap (λ (n : ℕ). process_at v.processes n) (sym current) ∙ here.1) far.like.there in
           own_moves runs (ap (λ (x : Process). x.state) (sym same) ∙ here.2) current
       by_number runs false is = let here = next_process s v runs in other_moves runs here.0 here.1 is
 

@@ -140,7 +140,7 @@ has_started most pid s b next = by_check (start_check s.program) refl
     built_in (Ok x) = x
     built_in (Err fault) = next
 
-    by_room : (u : Unit {0}) (t : Bool) → start_check s.program ≡ Ok u → nat_lt most c.next_name ≡ t → cond t (Err (pid, NoSegment)) (Ok (with_started pid s c)) ≡ Ok next → HasStarted most pid s b next
+    by_room : (u : Unit {0}) (t : Bool) → start_check s.program ≡ Ok u → nat_lt most c.next_name ≡ t → cond {A = Result Built (ℕ × ModuleFault)} t (Err (pid, NoSegment)) (Ok (with_started pid s c)) ≡ Ok next → HasStarted most pid s b next
     by_room u true check is e = absurd (cc)
     by_room u false check is e = record { unit = u; checked = check; room = is; is = sym (ap built_in e) }
 
@@ -294,7 +294,7 @@ record IsTwin (f : Renaming) (p : Process) (i : ℕ) (k : Held) : Type 0 where
   is : renamed_held f hold ≡ k
 
 -- what a world alone has
-record HasOnly (f : Renaming) (number : ℕ) (p : Process) (a : World) : Type 0 where
+pub record HasOnly (f : Renaming) (number : ℕ) (p : Process) (a : World) : Type 0 where
   others : (place : ℕ) (x : Process) → place + 1 ≢ number → slice_get a.processes place ≡ Some x → (x.held ≡ []) × (is_live x.state ≡ false)
   named : (q : ℕ) → is_some (get a.names q) ≡ true → (m : ℕ) × IsNamedIn p.held m × (f m ≡ q)
   below : (q : ℕ) → is_some (get a.names q) ≡ true → q < a.next_name

@@ -65,15 +65,15 @@ fixed_change : (b : Before) (c : Change) (v : World) → IsOfOwn b c → AreFixe
 fixed_change b (Makes s) v own fixed q =
     subst IsFixed (sym (get-put v.next_name q (Some s) v.names))
     (fixed_pick (v.next_name == q) (Some s) (get v.names q) (λ z e. fixed_some s z e (λ is. absurd (let no : true ≡ false = sym is ∙ own in cc))) (fixed q))
-fixed_change b (Resizes n size) v own fixed = fixed_at_key v.names n (λ (s : Segment). record s { bytes = resized size s.bytes }) (λ x. refl) (λ x. refl) fixed
-fixed_change b (Locks n count) v own fixed = fixed_at_key v.names n (λ (s : Segment). record s { lock = count }) (λ x. refl) (λ x. refl) fixed
-fixed_change b (Marks n discarded) v own fixed = absurd own
-fixed_change b (Holds p i h) v own fixed = fixed
-fixed_change b (Drops p i count) v own fixed = fixed
-fixed_change b (Finishes p state) v own fixed = fixed
-fixed_change b (Reserves r) v own fixed = fixed
-fixed_change b (Frees region at) v own fixed = fixed
-fixed_change b (Names text name) v own fixed = fixed
+fixed_change b (Resizes n size) v own fixed q = fixed_at_key v.names n (λ (s : Segment). record s { bytes = resized size s.bytes }) (λ x. refl) (λ x. refl) fixed q
+fixed_change b (Locks n count) v own fixed q = fixed_at_key v.names n (λ (s : Segment). record s { lock = count }) (λ x. refl) (λ x. refl) fixed q
+fixed_change b (Marks n discarded) v own fixed q = absurd own
+fixed_change b (Holds p i h) v own fixed q = fixed q
+fixed_change b (Drops p i count) v own fixed q = fixed q
+fixed_change b (Finishes p state) v own fixed q = fixed q
+fixed_change b (Reserves r) v own fixed q = fixed q
+fixed_change b (Frees region at) v own fixed q = fixed q
+fixed_change b (Names text name) v own fixed q = fixed q
 
 fixed_changes : (b : Before) (cs : List Change) (v : World) → AreOfOwn b cs → AreFixed v.names → AreFixed (with_changes v cs).names
 unfolding with_changes
@@ -94,7 +94,7 @@ fixed_end b number e v own fixed = go (is_live e.state)
 
 fixed_swept : (b : Bool) (v : World) → AreFixed v.names → AreFixed (cond b (swept v) v).names
 fixed_swept true v fixed q = subst IsFixed (sym (get-filter (is_held v.processes) v.names q)) (fixed_pick (is_held v.processes q) (get v.names q) None (fixed q) (λ z e. absurd (cc)))
-fixed_swept false v fixed = fixed
+fixed_swept false v fixed q = fixed q
 
 pub fixed_step : (s : Setting) (w : World) (d : Dispatch) (p : Process) → AreFixed w.names → AreFixed (changed w d p (effect (before s w d.current p))).names
 unfolding changed
@@ -320,4 +320,4 @@ module _ (s : Setting) (w : World) (tied : IsTied w) (fixed : AreFixed w.names) 
             where
               by_apart : (is_clean (get w.names h.name) ≡ true) ⊎ IsOfNoOther w number h.name → (x.clean ≡ true) ⊎ ((i : ℕ) (g : Held) → held_at w.processes d.current i ≡ Some g → g.name ≢ h.name)
               by_apart (inl clean) = inl (ap is_clean (sym some) ∙ clean)
-              by_apart (inr no) = inr (λ j g there. no d.current j g other there)
+              by_apart (inr nobody) = inr (λ j g there. nobody d.current j g other there)

@@ -19,7 +19,7 @@ use Rattle.o2_world.specs.Known.{Known, Marks as SegmentMarks}
 use Rattle.o2_world.specs.CallParts.{Before, Effect, argument, has_arguments, may_write}
 use Rattle.o2_world.specs.Rulings.{Ruling, refusal, held_under, free_index, allocation, allocation_at, region_by, is_alias, is_in_run, full_size, reallocation_of, reallocation_with, keeps_its_size, members, is_later, in_use, by_load, freeing_of, freeing_with, sizing, sizing_of, sizing_with, is_discardable, locking_of, locking_with, unlocking_of, unlocking_with, aliasing, aliasing_of, aliasing_at}
 use Rattle.o2_world.specs.SegmentCalls.{ruled_at, Written, written_word, written_long, alloc_args, dos_alloc_seg, dos_realloc_seg, dos_free_seg, dos_size_seg, dos_lock_seg, dos_unlock_seg, dos_create_cs_alias, on_segments}
-use Rattle.o2_world.specs.Calls.{served_by, row_of, IsUnshared}
+use Rattle.o2_world.specs.Calls.{dos_exit, dos_get_pid, dos_mem_avail, dos_read, dos_write, served_by, row_of, IsUnshared}
 use Rattle.o2_world.specs.Effect.{has_trap_flag, answered, single_stepped, effect}
 use Rattle.o2_world.proofs.Quiet.{exit_quiet, read_quiet, told_quiet, write_quiet}
 use Rattle.o2_world.proofs.Rows.{built_is_unshared}
@@ -186,11 +186,11 @@ module _ (b : Before) where
 
   served_own : (row : Option Row) (next : ℕ) → IsUnshared row → AreOfOwn b (served_by row b next).changes
   served_own None next unshared = tt
-  served_own (Some DosExit) next unshared = nothing _ (exit_quiet b)
-  served_own (Some DosGetPid) next unshared = nothing _ (told_quiet b next _ _ _)
-  served_own (Some DosRead) next unshared = nothing _ (read_quiet b next)
-  served_own (Some DosWrite) next unshared = nothing _ (write_quiet b next)
-  served_own (Some DosMemAvail) next unshared = nothing _ (told_quiet b next _ _ _)
+  served_own (Some DosExit) next unshared = nothing (dos_exit b) (exit_quiet b)
+  served_own (Some DosGetPid) next unshared = nothing (dos_get_pid b next) (told_quiet b next _ _ _)
+  served_own (Some DosRead) next unshared = nothing (dos_read b next) (read_quiet b next)
+  served_own (Some DosWrite) next unshared = nothing (dos_write b next) (write_quiet b next)
+  served_own (Some DosMemAvail) next unshared = nothing (dos_mem_avail b next) (told_quiet b next _ _ _)
   served_own (Some (OnSegments call)) next unshared = on_segments_own call next
   served_own (Some (OnShared call)) next unshared = absurd unshared
 

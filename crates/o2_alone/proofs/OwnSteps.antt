@@ -26,19 +26,19 @@ use Rattle.o2_world.proofs.StepReach.{own_at}
 use Rattle.o2_alone.specs.Renaming.{Renaming, renamed_held, renamed_change, renamed_changes, IsRenamedEffect}
 use Rattle.o2_alone.specs.Isolation.{IsLike}
 use Rattle.o2_alone.proofs.OwnNames.{AreOfOwn, IsOfOwn, effect_of_own}
-use Rattle.o2_alone.proofs.Alikes.{IsHeldName, IsSpokenOf, further, further_like, spoken_range, lives_here}
+use Rattle.o2_alone.proofs.Alikes.{IsFurther, IsSpokenOf}
 use Rattle.o2_alone.proofs.Twins.{AreMine, AreTwins, IsMine, IsRange, any_takes_same, renamed_append, twin_changes}
 
 -- What nobody holds goes, and what the process holds stays.
 
 none_left : (p g : Reserve → Bool) (rs : List Reserve) → list_any g rs ≡ false → list_any g (filter p rs) ≡ false
 none_left p g [] e = e
-none_left p g (r ∷ rs) e = go (g r) (p r) refl e
+none_left p g (r ∷ rs) e = go (g r) (p r) refl e (none_left p g rs)
   where
-    go : (x y : Bool) → g r ≡ x → (x || list_any g rs) ≡ false → list_any g (cond y (r ∷ filter p rs) (filter p rs)) ≡ false
-    go true y is e = absurd (cc)
-    go false true is e = ap (λ (b : Bool). b || list_any g (filter p rs)) is ∙ none_left p g rs e
-    go false false is e = none_left p g rs e
+    go : (x y : Bool) → g r ≡ x → (x || list_any g rs) ≡ false → (list_any g rs ≡ false → list_any g (filter p rs) ≡ false) → list_any g (cond y (r ∷ filter p rs) (filter p rs)) ≡ false
+    go true y is e rest = absurd (cc)
+    go false true is e rest = ap (λ (b : Bool). b || list_any g (filter p rs)) is ∙ rest e
+    go false false is e rest = rest e
 
 pub unreserved_behind : (b : Bool) (g : Reserve → Bool) (v : World) → list_any g v.reserved ≡ false → list_any g (cond b (swept v) v).reserved ≡ false
 unreserved_behind true g v e = none_left (is_used v.processes) g v.reserved e
@@ -130,16 +130,19 @@ own_reserved s w d number p =
     let b = before s w number p in
     changes_reserved (worked w d p (effect b)) (all_changes number (effect b)) number (all_own number (effect b) (moves_own b (effect b).cpu (effect b).changes (effect_own b)))
 
-module _ (s : Setting) (f : Renaming) (number : ℕ) (w a : World) (like : IsLike f number w a) (tied : IsTied w) (tied_alone : IsTied a)
+module _ (s : Setting) (number : ℕ) (w a : World) (further : IsFurther number w a) (tied : IsTied w) (tied_alone : IsTied a)
     (d c : Dispatch) (is : d.current ≡ number) (is_too : c.current ≡ number) where
+  abbrev g : Renaming
+  g = further.names
+
+  abbrev like : IsLike g number w a
+  like = further.like
+
   abbrev p : Process
   p = like.process
 
   abbrev q : Process
   q = like.twin
-
-  abbrev g : Renaming
-  g = further f number w a like tied tied_alone
 
   abbrev mine : ℕ → Type 0
   mine = IsSpokenOf p w.next_name
@@ -150,11 +153,8 @@ module _ (s : Setting) (f : Renaming) (number : ℕ) (w a : World) (like : IsLik
   abbrev two : Before
   two = before s a number q
 
-  range : IsRange g mine w.next_name a.next_name
-  range = spoken_range f number w a like tied tied_alone
-
-  far : IsLike g number w a
-  far = further_like f number w a like tied tied_alone
+  abbrev range : IsRange g mine w.next_name a.next_name
+  range = further.range
 
   module _ (same : IsRenamedEffect g one two (effect one) (effect two)) where
     abbrev e : Effect
@@ -180,7 +180,7 @@ module _ (s : Setting) (f : Renaming) (number : ℕ) (w a : World) (like : IsLik
         by_name (inl h) =
             subst (λ (n : ℕ). put_bytes (x.bytes (g n)) (get a.names (g n)) ≡ put_bytes (e.bytes n) (get w.names n)) h.named
             (ap (λ (bs : List ℕ). put_bytes bs (get a.names (g h.hold.name))) (same.bytes (hold_of h.hold) (h.index, ap (λ (o : Option Held). option_map hold_of o) h.there))
-            ∙ ap (put_bytes (e.bytes h.hold.name)) (far.segment h.index h.hold h.there))
+            ∙ ap (put_bytes (e.bytes h.hold.name)) (like.segment h.index h.hold h.there))
         by_name (inr high) =
             ap (put_bytes (x.bytes (g n))) (none_above a tied_alone (g n) (let there = range.fresh n high in omega (arith, there)))
             ∙ sym (ap (put_bytes (e.bytes n)) (none_above w tied n high))
@@ -193,7 +193,7 @@ module _ (s : Setting) (f : Renaming) (number : ℕ) (w a : World) (like : IsLik
       there_too = put_at a c q (working q x) is_too like.there_too;
       cpu = same.cpu;
       state = working_state;
-      held = far.held;
+      held = like.held;
       named = λ (i : ℕ) (h : Held) there. inl (record { index = i; hold = h; there = there; named = refl });
       segment = same_segment;
       low = omega arith;

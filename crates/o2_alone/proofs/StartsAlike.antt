@@ -43,25 +43,25 @@ count_past p m zero low = refl
 count_past p m (suc n) low =
     let ih = count_past p m n (omega (arith, low)) in
     let other : (n == m) ≡ false = grind arith in
-    let same = ap (λ (b : Bool). cond (b || p n) 1 0) other in
+    let same = ap {B = ℕ} (λ (b : Bool). cond (b || p n) 1 0) other in
     omega (arith, ih, same)
 
 count_one : (p : ℕ → Bool) (m n : ℕ) → m < n → p m ≡ false → count_below (or_this m p) n ≡ count_below p n + 1
-count_one p m zero low no = absurd (omega (arith, low))
-count_one p m (suc n) low no = go (n == m) refl
+count_one p m zero low none_yet = absurd (omega (arith, low))
+count_one p m (suc n) low none_yet = go (n == m) refl (λ lower. count_one p m n lower none_yet)
   where
-    go : (b : Bool) → (n == m) ≡ b → count_below (or_this m p) n + cond ((n == m) || p n) 1 0 ≡ count_below p n + cond (p n) 1 0 + 1
-    go true is =
+    go : (b : Bool) → (n == m) ≡ b → (m < n → count_below (or_this m p) n ≡ count_below p n + 1) → count_below (or_this m p) n + cond ((n == m) || p n) 1 0 ≡ count_below p n + cond (p n) 1 0 + 1
+    go true is rest =
         let same : n ≡ m = eqb-true n m is in
         let past = count_past p m n (omega (arith, same)) in
-        let new = ap (λ (b : Bool). cond (b || p n) 1 0) is in
-        let none = ap (λ (k : ℕ). cond (p k) 1 0) same ∙ ap (λ (b : Bool). cond b 1 0) no in
+        let new = ap {B = ℕ} (λ (b : Bool). cond (b || p n) 1 0) is in
+        let none = ap {B = ℕ} (λ (k : ℕ). cond (p k) 1 0) same ∙ ap {B = ℕ} (λ (b : Bool). cond b 1 0) none_yet in
         omega (arith, past, new, none)
-    go false is =
+    go false is rest =
         let other : n ≢ m = λ same. absurd (let no : true ≡ false = sym (eq-eqb n m same) ∙ is in cc) in
-        let lower : m < n = smaller other in
-        let ih = count_one p m n lower no in
-        let old = ap (λ (b : Bool). cond (b || p n) 1 0) is in
+        let lower = smaller other in
+        let ih = rest lower in
+        let old = ap {B = ℕ} (λ (b : Bool). cond (b || p n) 1 0) is in
         omega (arith, ih, old)
       where
         smaller : n ≢ m → m < n
@@ -242,46 +242,46 @@ module _ (f : Renaming) (b c : Built) (h : Holding) (pairs : ArePairs f b c) (fr
 
 -- A segment that alone has already: both hold it under one index more.
 module _ (f : Renaming) (b c : Built) (h : Holding) (pairs : ArePairs f b c) (fresh : get b.held h.index ≡ None) (m : ℕ) (is_in : IsNamedIn b.held m) where
-  abbrev x : Held
-  x = held_by_load m h.rights
+  abbrev again : Held
+  again = held_by_load m h.rights
 
-  abbrev after : Map Held
-  after = (h.index, x) ∷ b.held
+  abbrev more_held : Map Held
+  more_held = (h.index, again) ∷ b.held
 
   -- it stands for one that was held already
-  as_before : (i : ℕ) (k : Held) → get after i ≡ Some k → (j : ℕ) × (l : Held) × (get b.held j ≡ Some l) × (l.name ≡ k.name)
-  as_before i k e = go (was_in b.held h.index i x k e)
+  as_before : (i : ℕ) (k : Held) → get more_held i ≡ Some k → (j : ℕ) × (l : Held) × (get b.held j ≡ Some l) × (l.name ≡ k.name)
+  as_before i k e = go (was_in b.held h.index i again k e)
     where
-      go : ((h.index ≡ i) × (x ≡ k)) ⊎ (get b.held i ≡ Some k) → (j : ℕ) × (l : Held) × (get b.held j ≡ Some l) × (l.name ≡ k.name)
+      go : ((h.index ≡ i) × (again ≡ k)) ⊎ (get b.held i ≡ Some k) → (j : ℕ) × (l : Held) × (get b.held j ≡ Some l) × (l.name ≡ k.name)
       go (inl same) = (is_in.index, is_in.hold, is_in.there, is_in.named ∙ ap (λ (k : Held). k.name) same.1)
       go (inr was) = (i, k, was, refl)
 
   pub held_again : ArePairs f (holds b h m) (holds c h (f m))
   held_again = record {
-    held = λ (i : ℕ). again (h.index == i) i;
+    held = λ (i : ℕ). at_index (h.index == i) i;
     segment = λ (i : ℕ) (k : Held) e. let o = as_before i k e in subst (λ (n : ℕ). get c.names (f n) ≡ get b.names n) o.3 (pairs.segment o.0 o.1 o.2);
     lives = λ (i : ℕ) (k : Held) e. let o = as_before i k e in subst (λ (n : ℕ). is_some (get b.names n) ≡ true) o.3 (pairs.lives o.0 o.1 o.2);
     apart = λ (i j : ℕ) (k l : Held) e u same.
         let o = as_before i k e in
         let p = as_before j l u in
         sym o.3 ∙ (pairs.apart o.0 p.0 o.1 p.1 o.2 p.2 (ap f o.3 ∙ (same ∙ ap f (sym p.3))) ∙ p.3);
-    made = λ place number y e. let was = pairs.made place number y e in (was.0, was.1, was.2, still_in b.held h.index was.0 x fresh was.3);
+    made = λ place number y e. let was = pairs.made place number y e in (was.0, was.1, was.2, still_in b.held h.index was.0 again fresh was.3);
     back = λ place number n e a. pairs.back place number n e (was_named n a);
-    names = λ q e. let was = pairs.names q e in (was.0, still_in b.held h.index was.0 x fresh was.1, was.2);
+    names = λ q e. let was = pairs.names q e in (was.0, still_in b.held h.index was.0 again fresh was.1, was.2);
     below = pairs.below;
     spoken = pairs.spoken;
-    truly = λ n e. still_in b.held h.index n x fresh (pairs.truly n e);
+    truly = λ n e. still_in b.held h.index n again fresh (pairs.truly n e);
     counted = pairs.counted;
   }
     where
-      again : (t : Bool) (i : ℕ) → cond t (Some (held_by_load (f m) h.rights)) (get c.held i) ≡ option_map (renamed_held f) (cond t (Some x) (get b.held i))
-      again true i = refl
-      again false i = pairs.held i
+      at_index : (t : Bool) (i : ℕ) → cond t (Some (held_by_load (f m) h.rights)) (get c.held i) ≡ option_map (renamed_held f) (cond t (Some again) (get b.held i))
+      at_index true i = refl
+      at_index false i = pairs.held i
 
-      was_named : (n : ℕ) → IsNamedIn after n → IsNamedIn b.held n
-      was_named n a = go (named_was b.held h.index n x a)
+      was_named : (n : ℕ) → IsNamedIn more_held n → IsNamedIn b.held n
+      was_named n a = go (named_was b.held h.index n again a)
         where
-          go : (x.name ≡ n) ⊎ IsNamedIn b.held n → IsNamedIn b.held n
+          go : (again.name ≡ n) ⊎ IsNamedIn b.held n → IsNamedIn b.held n
           go (inl same) = subst (IsNamedIn b.held) same is_in
           go (inr was) = was
 
@@ -326,7 +326,7 @@ module _ (modules : ℕ → Loaded) (b c : Built) (h : Holding) (from : IsFrom m
       let one = count_one pairs.spoken b.next_name (b.next_name + 1) (omega arith) (unspoken b.next_name next_unheld) in
       let all = pairs.counted in
       let last = count_after pairs.spoken b.next_name in
-      let none = ap (λ (t : Bool). cond t 1 0) (unspoken b.next_name next_unheld) in
+      let none = ap {B = ℕ} (λ (t : Bool). cond t 1 0) (unspoken b.next_name next_unheld) in
       omega (arith, one, all, last, none)
     where
       count_after : (p : ℕ → Bool) (n : ℕ) → count_below p (n + 1) ≡ count_below p n + cond (p n) 1 0
@@ -425,8 +425,8 @@ module _ (modules : ℕ → Loaded) (b c : Built) (h : Holding) (from : IsFrom m
       made_is place number y = go h.common common
         where
           go : (t : Bool) → t ≡ true → name_in (cond t (c.made ++ there ∷ []) c.made) place number ≡ Some y → (n : ℕ) × (name_in b.made place number ≡ Some n) × (g n ≡ y) × IsNamedIn after n
-          go false no e = cc
-          go true yes e = by_case (made_split c.made there place number y e)
+          go false never e = cc
+          go true always e = by_case (made_split c.made there place number y e)
             where
               by_case : (name_in c.made place number ≡ Some y) ⊎ IsLast there place number y → (n : ℕ) × (name_in b.made place number ≡ Some n) × (g n ≡ y) × IsNamedIn after n
               by_case (inl old) =
@@ -451,8 +451,8 @@ module _ (modules : ℕ → Loaded) (b c : Built) (h : Holding) (from : IsFrom m
               (pairs.back place number n e was ∙ ap (λ (i : ℕ). Some i) (sym (updated_old f m c.next_name n (λ same. unheld (subst (IsNamedIn b.held) same was)))))
 
           go : (t : Bool) → t ≡ true → name_in (cond t (c.made ++ there ∷ []) c.made) place number ≡ Some (g n)
-          go false no = cc
-          go true yes = by_case (named_was b.held h.index n (held_by_load m h.rights) a)
+          go false never = cc
+          go true always = by_case (named_was b.held h.index n (held_by_load m h.rights) a)
 
   -- by what is found
   one_alike : Alike modules (with_holding b h) (with_holding c h)

@@ -39,9 +39,15 @@ both : (a b : Bool) → (a && b) ≡ true → (a ≡ true) × (b ≡ true)
 both true b e = (refl, e)
 both false b e = absurd (cc)
 
+nothing_between : (xs ys : List ℕ) → xs ++ [] ++ ys ≡ xs ++ ys
+nothing_between [] ys = refl
+nothing_between (x ∷ xs) ys = ap (λ (zs : List ℕ). x ∷ zs) (nothing_between xs ys)
+
 put_nothing : (bytes : List ℕ) (at : ℕ) (part : List ℕ) → part ≡ [] → put_part bytes at part ≡ bytes
 put_nothing bytes at part e =
-    ap (λ (xs : List ℕ). put_part bytes at xs) e ∙ (ap (λ (k : ℕ). take at bytes ++ drop k bytes) (omega arith) ∙ take-append-drop at bytes)
+    let same : at + 0 ≡ at = omega arith in
+    ap (λ (xs : List ℕ). put_part bytes at xs) e
+    ∙ (nothing_between (take at bytes) (drop (at + 0) bytes) ∙ (ap (λ (k : ℕ). take at bytes ++ drop k bytes) same ∙ take-append-drop at bytes))
 
 put_elsewhere : (held : ℕ → Option Hold) (bytes others : ℕ → List ℕ) (s offset count : ℕ) (part : List ℕ) (n : ℕ) (es : Bool) → IsUnwritten held n
     → ((count == 0) || (es && has_range others is_writable offset count (bound_in held s))) ≡ true → ((count == 0) ≡ true → part ≡ [])
@@ -99,13 +105,16 @@ module _ (b : Before) (n : ℕ) (unwritten : IsUnwritten b.view.held n) where
   unfolding dos_read
   read_keeps next = by_test (has_arguments b.view b.cpu 6) _ _ (λ _. reads (transfer_of (argument b.view b.cpu))) refl
     where
+      good_both : (t : Transfer) → may_take b t ≡ true → (may_write b.view t.selector t.offset t.count ≡ true) × (may_write b.view t.done_selector t.done_offset 2 ≡ true)
+      good_both t good = both (may_write b.view t.selector t.offset t.count) (may_write b.view t.done_selector t.done_offset 2) good
+
       reads : (t : Transfer) → Keeps (read_from b next t)
       reads t =
           let got = take t.count b.input in
           by_test (may_take b t) _ _
           (λ good. by_test (t.handle == 0) _ _
-          (λ _. pointer (put_at_pointer b.view.held b.view.bytes t.selector t.offset got) t.done_selector t.done_offset 2 (word_bytes (length got)) (both _ _ good).1 (λ z. absurd (cc))
-          ∙ pointer b.view.bytes t.selector t.offset t.count got (both _ _ good).0 (no_take t.count b.input)) refl) refl
+          (λ _. pointer (put_at_pointer b.view.held b.view.bytes t.selector t.offset got) t.done_selector t.done_offset 2 (word_bytes (length got)) (good_both t good).1 (λ z. absurd (cc))
+          ∙ pointer b.view.bytes t.selector t.offset t.count got (good_both t good).0 (no_take t.count b.input)) refl) refl
 
   exit_keeps : Keeps (dos_exit b)
   unfolding dos_exit
