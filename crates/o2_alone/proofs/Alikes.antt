@@ -1,13 +1,12 @@
 -- What a step of a process starts from in two worlds in which it is alike.
-use Rattle.std.proofs.Common.{◌≡◌, ◌⊎◌, inl, inr, refl, sym, ◌∙◌, ap, subst, ℕ, ◌+◌, ◌-◌, ◌<◌, ◌≤◌, ◌==◌, ◌&&◌, ◌||◌, Bool, true, false, cond, List, [], length, arith}
+use Rattle.std.proofs.Common.{◌≡◌, ◌⊎◌, inl, inr, refl, sym, ◌∙◌, ap, subst, ℕ, ◌+◌, ◌-◌, ◌<◌, ◌≤◌, ◌==◌, ◌&&◌, ◌||◌, Bool, true, false, cond, List, length, arith}
 use Rattle.std.specs.Prelude.{Option, Some, None, option_map, is_some, nat_lt, not, Result, Ok, Err}
 use Rattle.std.specs.List.{list_any}
 use Rattle.o2_isa.specs.declared.cpu.Cpu.{Cpu}
 use Rattle.o2_isa.specs.declared.cpu.Stop.{Stop}
-use Rattle.o2_isa.specs.declared.cpu.Stop.TheVariants as stop
 use Rattle.o2_isa.specs.declared.instr.Sreg.{Sreg}
 use Rattle.o2_isa.specs.declared.instr.Sreg.TheVariants.{Es, Cs, Ss, Ds}
-use Rattle.o2_isa.specs.View.{View, Hold, in_register, bound_registers, is_writable}
+use Rattle.o2_isa.specs.View.{Hold, in_register, bound_registers, is_writable}
 use Rattle.o2_isa.specs.Steps.{State as Machine, state}
 use Rattle.o2_isa.specs.Step.{stepped}
 use Rattle.o2_world.specs.declared.types.Row.{Row}
@@ -16,16 +15,15 @@ use Rattle.o2_world.specs.declared.types.SegmentCall.{SegmentCall}
 use Rattle.o2_world.specs.declared.types.SegmentCall.TheVariants.{DosAllocSeg, DosReallocSeg, DosFreeSeg, DosSizeSeg, DosLockSeg, DosUnlockSeg, DosCreateCsAlias}
 use Rattle.o2_world.specs.Map.{get}
 use Rattle.o2_world.specs.World.{World, Setting, Process, Segment, Held}
-use Rattle.o2_world.specs.Holders.{process_at}
-use Rattle.o2_world.specs.Sound.{held_in, held_of}
+use Rattle.o2_world.specs.Sound.{held_of}
 use Rattle.o2_world.specs.Tied.{IsTied, lives_in}
 use Rattle.o2_world.specs.Views.{hold_of, holds_in, bytes_in, segment_bytes, view_of}
-use Rattle.o2_world.specs.Known.{Known, known_of, held_at, holds_index, marks_of, reserves, taken_in}
+use Rattle.o2_world.specs.Known.{known_of, held_at, holds_index, marks_of, reserves, taken_in}
 use Rattle.o2_world.specs.CallParts.{Before, argument, has_arguments, may_write}
 use Rattle.o2_world.specs.Run.{before}
 use Rattle.o2_world.proofs.MapLemmas.{if_yes, if_no}
 use Rattle.o2_world.proofs.Numbers.{number_some, at_place_of, not_zero}
-use Rattle.o2_alone.specs.Renaming.{Renaming, renamed_hold, renamed_held, IsIn, IsRenamedView, IsRenamedKnown, IsRenamed, IsRenamedResult, IsAskedAlike, IsRuledAlike, asks_for_room, call_of, called_by, is_for_others, is_full}
+use Rattle.o2_alone.specs.Renaming.{Renaming, renamed_hold, renamed_held, IsIn, IsRenamedView, IsRenamedKnown, IsRenamed, IsRenamedResult, IsAskedAlike, IsRuledAlike, asks_for_room, call_of, called_by, is_full}
 use Rattle.o2_alone.specs.Keeping.{lacks_room, meets}
 use Rattle.o2_alone.specs.Isolation.{IsLike}
 use Rattle.o2_alone.proofs.RenamedViews.{bound_renamed, bound_is_in, stepped_renamed}

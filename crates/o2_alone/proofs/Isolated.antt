@@ -1,6 +1,6 @@
 -- Where a process keeps to itself, its run among others is its run alone, from worlds in which it is alike.
-use Rattle.std.proofs.Common.{◌≡◌, ◌≢◌, refl, sym, ◌∙◌, ap, subst, ℕ, zero, suc, ◌+◌, ◌-◌, ◌<◌, ◌≤◌, ◌==◌, ◌&&◌, ◌||◌, Bool, true, false, cond, List, [], ◌∷◌, ◌++◌, length, arith}
-use Rattle.std.specs.Prelude.{Option, Some, None, option_map, slice_get, filter, not, nat_lt, map}
+use Rattle.std.proofs.Common.{◌≡◌, refl, sym, ◌∙◌, ap, subst, ℕ, zero, suc, ◌+◌, ◌-◌, ◌<◌, ◌≤◌, ◌==◌, ◌&&◌, ◌||◌, Bool, true, false, cond, List, [], ◌∷◌, ◌++◌, length, arith}
+use Rattle.std.specs.Prelude.{Option, Some, None, option_map, slice_get, not, nat_lt}
 use Rattle.std.specs.List.{list_any}
 use Rattle.std.proofs.lemmas.Bool.{eq-eqb, eqb-true}
 use Rattle.o2_conf.specs.declared.script.Word.{Word}
@@ -9,16 +9,15 @@ use Rattle.o2_conf.specs.Dispatch.{Dispatch, counted, dispatched, live_script, l
 use Rattle.o2_isa.specs.declared.cpu.Cpu.{Cpu}
 use Rattle.o2_world.specs.declared.types.State.{State}
 use Rattle.o2_world.specs.declared.types.State.TheVariants.{Live}
-use Rattle.o2_world.specs.Map.{Map, get}
+use Rattle.o2_world.specs.Map.{get}
 use Rattle.o2_world.specs.World.{World, Setting, Process, Segment, Held, Line, is_live}
 use Rattle.o2_world.specs.Holders.{process_at}
 use Rattle.o2_world.specs.Sound.{held_of}
-use Rattle.o2_world.specs.Tied.{IsSound}
 use Rattle.o2_world.specs.Views.{segment_bytes}
 use Rattle.o2_world.specs.Known.{held_at, lives_at}
 use Rattle.o2_world.specs.CallParts.{Before, Effect}
 use Rattle.o2_world.specs.Effect.{effect}
-use Rattle.o2_world.specs.Run.{acted, after, all_changes, any_lives, before, changed, chosen_step, is_over, live_flags, next_dispatch, step, worked}
+use Rattle.o2_world.specs.Run.{acted, after, all_changes, any_lives, before, changed, is_over, live_flags, next_dispatch, step, worked}
 use Rattle.o2_world.proofs.Budget.{not_over, step_runs}
 use Rattle.o2_world.proofs.Keeps.{over_stays, some_is}
 use Rattle.o2_world.proofs.MapLemmas.{if_no, if_yes}
@@ -26,10 +25,10 @@ use Rattle.o2_world.proofs.Numbers.{number_some, at_place_of}
 use Rattle.o2_world.proofs.OwnChanges.{all_dispatch}
 use Rattle.o2_world.proofs.StepSound.{next_process, step_sound}
 use Rattle.o2_world.proofs.Staying.{step_other}
-use Rattle.o2_alone.specs.Renaming.{Renaming, renamed_held, call_of, IsRenamedEffect}
+use Rattle.o2_alone.specs.Renaming.{Renaming, renamed_held, IsRenamedEffect}
 use Rattle.o2_alone.specs.Events.{Event, chosen_before, event_by, event_list, event_of, events, events_of, next_before, own_steps}
 use Rattle.o2_alone.specs.Keeping.{HasRoom, IsApart, IsQuiet, KeepsToItself}
-use Rattle.o2_alone.specs.Isolation.{AreFixed, BeginsAlike, IsAlone, IsIsolated, IsLike, IsSame, bytes_behind, held_bytes, nameless}
+use Rattle.o2_alone.specs.Isolation.{AreFixed, BeginsAlike, IsAlone, IsIsolated, IsLike, IsSame, held_bytes, nameless}
 use Rattle.o2_alone.proofs.Alikes.{IsFurther, asked_alike, go_further, same_before}
 use Rattle.o2_alone.proofs.OtherSteps.{fixed_step, other_step}
 use Rattle.o2_alone.proofs.OwnSteps.{own_step}

@@ -1,6 +1,6 @@
 -- The world before the first step of a run, and that of the run of one process alone: the process is alike in both.
-use Rattle.std.proofs.Common.{◌≡◌, ◌≢◌, ◌⊎◌, inl, inr, refl, sym, ◌∙◌, ap, subst, ℕ, zero, suc, ◌+◌, ◌-◌, ◌/◌, ◌<◌, ◌≤◌, ◌==◌, ◌&&◌, ◌||◌, Bool, true, false, cond, List, [], ◌∷◌, ◌++◌, length, map, arith}
-use Rattle.std.specs.Prelude.{Option, Some, None, option_map, is_some, not, fold, replicate, slice_get, nat_le, nat_lt, Result, Ok, Err}
+use Rattle.std.proofs.Common.{◌≡◌, ◌≢◌, ◌⊎◌, inl, inr, refl, sym, ◌∙◌, ap, subst, ℕ, zero, suc, ◌+◌, ◌-◌, ◌/◌, ◌<◌, ◌==◌, ◌&&◌, ◌||◌, Bool, true, false, cond, List, [], ◌∷◌, ◌++◌, length, map, arith}
+use Rattle.std.specs.Prelude.{Option, Some, None, option_map, is_some, fold, replicate, slice_get, nat_le, nat_lt, Result, Ok, Err}
 use Rattle.std.specs.List.{All, list_any}
 use Rattle.std.proofs.lemmas.Bool.{eq-eqb, eqb-true}
 use Rattle.std.proofs.lemmas.List.Elements.{All-head, All-tail}
@@ -11,22 +11,19 @@ use Rattle.o2_desc.specs.Bits.{has_bit}
 use Rattle.o2_isa.specs.declared.cpu.Cpu.{Cpu}
 use Rattle.o2_isa.specs.View.{is_code, is_null, is_readable, is_writable}
 use Rattle.o2_world.specs.Map.{Map, get}
-use Rattle.o2_world.specs.World.{World, Setting, Process, Segment, Held, Reserve, is_live}
-use Rattle.o2_world.specs.Holders.{is_held, process_at}
+use Rattle.o2_world.specs.World.{World, Setting, Process, Segment, Held, is_live}
+use Rattle.o2_world.specs.Holders.{is_held}
 use Rattle.o2_world.specs.Known.{lives_at, reserves}
 use Rattle.o2_world.specs.Sound.{HasGoodRegisters, NamesHeld, has_rights, held_in, held_of}
-use Rattle.o2_world.specs.Starts.{Loaded, Start, Holding, Built, holdings, nothing_built, segment_of, named, holds, holds_as, name_in, with_holding, with_holdings, first_process, start_check, with_started, within_names, where_checked, started_as, next_started, all_started, for_the_run, world_of, where_started, opening_of}
-use Rattle.o2_world.specs.FitStarts.{ShareNoIndex, AreFit, AreOf}
-use Rattle.o2_world.specs.Tied.{AreLive, AreUsed, IsSound, IsSwept, IsTied}
-use Rattle.o2_world.proofs.HoldingMaps.{AreApart, indexes_of}
+use Rattle.o2_world.specs.Starts.{Loaded, Start, Holding, Built, holdings, nothing_built, segment_of, named, holds_as, name_in, with_holding, with_holdings, first_process, start_check, with_started, within_names, where_checked, started_as, next_started, all_started, for_the_run, world_of, where_started, opening_of}
+use Rattle.o2_world.specs.Tied.{AreLive, AreUsed, IsSound, IsTied}
 use Rattle.o2_world.proofs.Keeps.{held_found, some_is}
-use Rattle.o2_world.proofs.MapLemmas.{if_yes}
 use Rattle.o2_world.proofs.Numbers.{at_place_of, process_is}
 use Rattle.o2_world.proofs.Openings.{opening_sound}
-use Rattle.o2_world.proofs.OpeningSound.{IsFitProgram, SoFar, all_so_far, apart as starts_apart, free_at_first, opened}
+use Rattle.o2_world.proofs.OpeningSound.{IsFitProgram, all_so_far, apart as starts_apart, free_at_first, opened}
 use Rattle.o2_alone.specs.Renaming.{Renaming, renamed_held}
 use Rattle.o2_alone.specs.Alone.{before_it, ended, opening_alone}
-use Rattle.o2_alone.specs.Isolation.{AreFixed, BeginsAlike, IsAlone, IsLike, IsOver, Isolation, RunsAlone}
+use Rattle.o2_alone.specs.Isolation.{AreFixed, BeginsAlike, IsLike, IsOver, Isolation}
 use Rattle.o2_alone.proofs.CommonSegments.{AreFrom, AreKept, IsFrom, below_next, holdings_from, kept_named, old_name}
 use Rattle.o2_alone.proofs.StartsAlike.{Alike, ArePairs, IsNamedIn, all_alike, count_below, count_most}
 use Rattle.o2_alone.proofs.Isolated.{is_isolated}

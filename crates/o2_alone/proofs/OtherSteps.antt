@@ -1,24 +1,23 @@
 -- A step of another process leaves a process that keeps to itself as it is. And behind each step what never changes isn't discardable.
-use Rattle.std.proofs.Common.{◌≡◌, ◌≢◌, ◌⊎◌, inl, inr, refl, sym, ◌∙◌, ap, subst, ℕ, ◌+◌, ◌-◌, ◌<◌, ◌≤◌, ◌==◌, Bool, true, false, cond, List, [], ◌∷◌, ◌++◌, arith}
+use Rattle.std.proofs.Common.{◌≡◌, ◌≢◌, ◌⊎◌, inl, inr, refl, sym, ◌∙◌, ap, subst, ℕ, ◌+◌, ◌-◌, ◌<◌, ◌==◌, Bool, true, false, cond, List, [], ◌∷◌, ◌++◌, arith}
 use Rattle.std.specs.Prelude.{Option, Some, None, option_map, is_some, slice_get, not}
 use Rattle.std.specs.List.{list_any}
 use Rattle.std.proofs.lemmas.Bool.{eqb-true}
 use Rattle.o2_conf.specs.Dispatch.{Dispatch}
 use Rattle.o2_desc.specs.Bits.{has_bit, is_writable}
-use Rattle.o2_isa.specs.declared.cpu.Cpu.{Cpu}
 use Rattle.o2_isa.specs.declared.instr.Sreg.{Sreg}
 use Rattle.o2_isa.specs.declared.instr.Sreg.TheVariants.{Es, Cs, Ss, Ds}
-use Rattle.o2_isa.specs.View.{Hold, in_register, bound_registers}
-use Rattle.o2_world.specs.Map.{Map, at_key, get, put}
+use Rattle.o2_isa.specs.View.{Hold, in_register}
+use Rattle.o2_world.specs.Map.{Map, at_key, get}
 use Rattle.o2_world.specs.World.{World, Setting, Process, Segment, Held, Reserve, is_live}
-use Rattle.o2_world.specs.Holders.{is_held, process_at, with_process}
+use Rattle.o2_world.specs.Holders.{is_held, process_at}
 use Rattle.o2_world.specs.Sound.{held_in, held_of}
 use Rattle.o2_world.specs.Tied.{IsTied}
-use Rattle.o2_world.specs.Views.{hold_of, holds_in, bytes_in, segment_bytes, with_bytes}
+use Rattle.o2_world.specs.Views.{hold_of, holds_in, segment_bytes, with_bytes}
 use Rattle.o2_world.specs.Known.{Marks as SegmentMarks, held_at, marks_of, reserves}
 use Rattle.o2_world.specs.CallParts.{Before, Effect}
 use Rattle.o2_world.specs.Rulings.{is_discardable}
-use Rattle.o2_world.specs.Changes.{Change, Makes, Resizes, Locks, Marks, Holds, Drops, Finishes, Reserves, Frees, Names, resized, swept, takes, with_all, with_change, with_changes}
+use Rattle.o2_world.specs.Changes.{Change, Makes, Resizes, Locks, Marks, Holds, Drops, Finishes, Reserves, Frees, Names, resized, swept, takes, with_change, with_changes}
 use Rattle.o2_world.specs.Effect.{effect}
 use Rattle.o2_world.specs.Moves.{AreOwn}
 use Rattle.o2_world.specs.Run.{all_changes, before, changed, worked, working}

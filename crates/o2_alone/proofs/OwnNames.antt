@@ -1,8 +1,7 @@
 -- What a step changes, by names: each is one that its process holds, or the next one.
-use Rattle.std.proofs.Common.{◌≡◌, ◌⊎◌, inl, inr, refl, sym, ap, subst, ℕ, ◌/◌, ◌==◌, ◌&&◌, ◌||◌, Bool, true, false, cond, List, [], ◌∷◌}
-use Rattle.std.specs.Prelude.{Option, Some, None, Result, Ok, Err, not, map, min, nat_le, nat_lt, codes}
-use Rattle.o2_desc.specs.Bits.{has_bit, is_writable}
-use Rattle.o2_isa.specs.declared.cpu.Cpu.{Cpu}
+use Rattle.std.proofs.Common.{◌≡◌, ◌⊎◌, inl, inr, refl, sym, subst, ℕ, ◌/◌, ◌==◌, ◌&&◌, ◌||◌, Bool, true, false, cond, List, [], ◌∷◌}
+use Rattle.std.specs.Prelude.{Option, Some, None, Result, Ok, Err, not, map, nat_le, nat_lt, codes}
+use Rattle.o2_desc.specs.Bits.{is_writable}
 use Rattle.o2_isa.specs.declared.cpu.Stop.{Stop}
 use Rattle.o2_isa.specs.declared.cpu.Stop.TheVariants as stop
 use Rattle.o2_isa.specs.Steps.{State as Machine, state}
@@ -15,9 +14,9 @@ use Rattle.o2_world.specs.declared.types.SegmentCall.{SegmentCall}
 use Rattle.o2_world.specs.declared.types.SegmentCall.TheVariants.{DosAllocSeg, DosReallocSeg, DosFreeSeg, DosSizeSeg, DosLockSeg, DosUnlockSeg, DosCreateCsAlias}
 use Rattle.o2_world.specs.World.{Held, is_live}
 use Rattle.o2_world.specs.Changes.{Change, Makes, Resizes, Locks, Marks, Holds, Drops, Finishes, Reserves, Frees, Names}
-use Rattle.o2_world.specs.Known.{Known, Marks as SegmentMarks}
+use Rattle.o2_world.specs.Known.{Marks as SegmentMarks}
 use Rattle.o2_world.specs.CallParts.{Before, Effect, argument, has_arguments, may_write}
-use Rattle.o2_world.specs.Rulings.{Ruling, refusal, held_under, free_index, allocation, allocation_at, region_by, is_alias, is_in_run, full_size, reallocation_of, reallocation_with, keeps_its_size, members, is_later, in_use, by_load, freeing_of, freeing_with, sizing, sizing_of, sizing_with, is_discardable, locking_of, locking_with, unlocking_of, unlocking_with, aliasing, aliasing_of, aliasing_at}
+use Rattle.o2_world.specs.Rulings.{Ruling, refusal, held_under, free_index, allocation, allocation_at, region_by, is_alias, is_in_run, full_size, reallocation_of, reallocation_with, keeps_its_size, members, is_later, in_use, by_load, freeing_of, sizing, sizing_of, sizing_with, is_discardable, locking_of, locking_with, unlocking_of, unlocking_with, aliasing, aliasing_of, aliasing_at}
 use Rattle.o2_world.specs.SegmentCalls.{ruled_at, Written, written_word, written_long, alloc_args, dos_alloc_seg, dos_realloc_seg, dos_free_seg, dos_size_seg, dos_lock_seg, dos_unlock_seg, dos_create_cs_alias, on_segments}
 use Rattle.o2_world.specs.Calls.{dos_exit, dos_get_pid, dos_mem_avail, dos_read, dos_write, served_by, row_of, IsUnshared}
 use Rattle.o2_world.specs.Effect.{has_trap_flag, answered, single_stepped, effect}

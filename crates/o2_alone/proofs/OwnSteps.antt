@@ -1,21 +1,19 @@
 -- A step of the process itself, in two worlds in which it is alike: it is alike in both behind it.
-use Rattle.std.proofs.Common.{◌≡◌, ◌⊎◌, inl, inr, refl, sym, ◌∙◌, ap, subst, ℕ, ◌+◌, ◌-◌, ◌<◌, ◌≤◌, ◌||◌, Bool, true, false, cond, List, [], ◌∷◌, ◌++◌, arith}
+use Rattle.std.proofs.Common.{◌≡◌, ◌⊎◌, inl, inr, refl, sym, ◌∙◌, ap, subst, ℕ, ◌-◌, ◌≤◌, ◌||◌, Bool, true, false, cond, List, [], ◌∷◌, ◌++◌, arith}
 use Rattle.std.specs.Prelude.{Option, Some, None, option_map, is_some, filter}
 use Rattle.std.specs.List.{list_any}
 use Rattle.o2_conf.specs.Dispatch.{Dispatch}
-use Rattle.o2_isa.specs.View.{Hold}
 use Rattle.o2_world.specs.declared.types.State.{State}
-use Rattle.o2_world.specs.Map.{Map, get}
+use Rattle.o2_world.specs.Map.{get}
 use Rattle.o2_world.specs.World.{World, Setting, Process, Segment, Held, Reserve, is_live}
-use Rattle.o2_world.specs.Holders.{is_held, kept, process_at, with_process}
+use Rattle.o2_world.specs.Holders.{is_held, process_at, with_process}
 use Rattle.o2_world.specs.Sound.{held_of}
-use Rattle.o2_world.specs.Tied.{IsTied, lives_in}
-use Rattle.o2_world.specs.Views.{hold_of, holds_in, with_bytes}
-use Rattle.o2_world.specs.Known.{held_at, reserves}
+use Rattle.o2_world.specs.Tied.{IsTied}
+use Rattle.o2_world.specs.Views.{hold_of, with_bytes}
+use Rattle.o2_world.specs.Known.{reserves}
 use Rattle.o2_world.specs.CallParts.{Before, Effect}
-use Rattle.o2_world.specs.Changes.{Change, Makes, Resizes, Locks, Marks, Holds, Drops, Finishes, Reserves, Frees, Names, is_used, swept, takes, used, with_all, with_changes}
+use Rattle.o2_world.specs.Changes.{Change, Makes, Resizes, Locks, Marks, Holds, Drops, Finishes, Reserves, Frees, Names, is_used, swept, takes, with_all, with_changes}
 use Rattle.o2_world.specs.Effect.{effect}
-use Rattle.o2_world.specs.Moves.{AreOwn}
 use Rattle.o2_world.specs.Run.{all_changes, before, changed, worked, working}
 use Rattle.o2_world.proofs.MapLemmas.{get-filter, get-map, if_yes}
 use Rattle.o2_world.proofs.Keeps.{held_found}
@@ -23,7 +21,7 @@ use Rattle.o2_world.proofs.Numbers.{number_some, at_place_of}
 use Rattle.o2_world.proofs.OwnChanges.{all_own, changes_reserved, moves_own}
 use Rattle.o2_world.proofs.StepMoves.{effect_own}
 use Rattle.o2_world.proofs.StepReach.{own_at}
-use Rattle.o2_alone.specs.Renaming.{Renaming, renamed_held, renamed_change, renamed_changes, IsRenamedEffect}
+use Rattle.o2_alone.specs.Renaming.{Renaming, renamed_held, renamed_changes, IsRenamedEffect}
 use Rattle.o2_alone.specs.Isolation.{IsLike}
 use Rattle.o2_alone.proofs.OwnNames.{AreOfOwn, IsOfOwn, effect_of_own}
 use Rattle.o2_alone.proofs.Alikes.{IsFurther, IsSpokenOf}

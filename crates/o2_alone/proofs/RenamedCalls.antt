@@ -1,6 +1,6 @@
 -- Each call does the same with other numbers for names: a line for each row.
-use Rattle.std.proofs.Common.{◌≡◌, refl, sym, ◌∙◌, ap, subst, ℕ, zero, suc, ◌+◌, ◌*◌, ◌/◌, ◌%◌, Bool, true, false, cond, ◌==◌, ◌&&◌, ◌||◌, List, [], ◌∷◌, ◌++◌, length}
-use Rattle.std.specs.Prelude.{Option, Some, None, option_map, Result, Ok, Err, is_ok, not, nat_le, nat_lt, take, drop, codes}
+use Rattle.std.proofs.Common.{◌≡◌, refl, sym, ◌∙◌, ap, subst, ℕ, zero, suc, ◌+◌, ◌*◌, ◌/◌, ◌%◌, Bool, true, false, cond, ◌==◌, ◌&&◌, ◌||◌, List, [], ◌∷◌, length}
+use Rattle.std.specs.Prelude.{Option, Some, None, option_map, Result, is_ok, nat_le, nat_lt, take, drop, codes}
 use Rattle.std.specs.Result.{result_unwrap_or}
 use mathlib.Core.Path.{fun_ext}
 use Rattle.o2_isa.specs.declared.instr.Sreg.TheVariants.{Ss}
@@ -17,15 +17,15 @@ use Rattle.o2_world.specs.declared.types.Row.{Row}
 use Rattle.o2_world.specs.declared.types.Row.TheVariants.{DosExit, DosGetPid, DosRead, DosWrite, DosMemAvail, OnSegments, OnShared}
 use Rattle.o2_world.specs.declared.types.SegmentCall.{SegmentCall}
 use Rattle.o2_world.specs.declared.types.SegmentCall.TheVariants.{DosAllocSeg, DosReallocSeg, DosFreeSeg, DosSizeSeg, DosLockSeg, DosUnlockSeg, DosCreateCsAlias}
-use Rattle.o2_world.specs.declared.types.State.TheVariants.{Live, Exited}
+use Rattle.o2_world.specs.declared.types.State.TheVariants.{Exited}
 use Rattle.o2_world.specs.World.{Line, Calls, Exits, Ends}
 use Rattle.o2_world.specs.Changes.{Change}
 use Rattle.o2_world.specs.Known.{Known}
-use Rattle.o2_world.specs.CallParts.{Before, Effect, trapped, word_of, argument, has_arguments, word_bytes, long_bytes, returned, may_read, may_write}
-use Rattle.o2_world.specs.Rulings.{Ruling, allocation, aliasing, freeing, freeing_cpu, locking, reallocation, sizing, unlocking}
-use Rattle.o2_world.specs.SegmentCalls.{back, refused, ruled, ruled_at, Written, written_word, written_long, alloc_args, allocated, dos_alloc_seg, reallocated, dos_realloc_seg, freed, dos_free_seg, sized, dos_size_seg, locked, dos_lock_seg, unlocked, dos_unlock_seg, aliased, dos_create_cs_alias, on_segments}
-use Rattle.o2_world.specs.Calls.{transfer_of, transfer_line, not_transferred, with_done, is_console, may_give, gives, written, dos_write, dos_exit, told_at, told, pid_bytes, dos_get_pid, dos_mem_avail, bytes_with, may_take, read_with, read_from, dos_read, served_by}
-use Rattle.o2_alone.specs.Renaming.{Renaming, renamed_hold, renamed_changes, renamed_ruling, IsIn, SameBytes, IsRenamedView, IsRenamedKnown, IsRenamedEffect, IsAskedAlike, MakesAlike, asks_for_room, is_for_others, is_full}
+use Rattle.o2_world.specs.CallParts.{Before, Effect, trapped, word_of, argument, has_arguments, word_bytes, long_bytes, returned, may_write}
+use Rattle.o2_world.specs.Rulings.{Ruling, freeing, freeing_cpu}
+use Rattle.o2_world.specs.SegmentCalls.{back, ruled, ruled_at, Written, written_word, written_long, alloc_args, allocated, dos_alloc_seg, reallocated, dos_realloc_seg, freed, dos_free_seg, sized, dos_size_seg, locked, dos_lock_seg, unlocked, dos_unlock_seg, aliased, dos_create_cs_alias, on_segments}
+use Rattle.o2_world.specs.Calls.{transfer_of, not_transferred, is_console, may_give, gives, written, dos_write, dos_exit, told_at, told, pid_bytes, dos_mem_avail, may_take, read_with, read_from, dos_read, served_by}
+use Rattle.o2_alone.specs.Renaming.{Renaming, renamed_hold, renamed_changes, renamed_ruling, IsIn, SameBytes, IsRenamedView, IsRenamedKnown, IsRenamedEffect, IsAskedAlike, MakesAlike, asks_for_room}
 use Rattle.o2_alone.proofs.RenamedViews.{same_test, bound_renamed, bound_is_in, read_renamed, probe_renamed}
 use Rattle.o2_alone.proofs.RenamedRulings.{moved_renamed, allocation_renamed, reallocation_renamed, freeing_renamed, freeing_cpu_renamed, sizing_renamed, locking_renamed, unlocking_renamed, aliasing_renamed}
 

@@ -12,7 +12,7 @@ use Rattle.o2_world.proofs.HoldingMaps.{AreApart, indexes_of}
 use Rattle.o2_world.proofs.Keeps.{some_is}
 use Rattle.o2_world.proofs.OpeningSound.{AreFree, beside, free_head, free_tail}
 use Rattle.o2_alone.specs.Renaming.{Renaming, renamed_held}
-use Rattle.o2_alone.proofs.CommonSegments.{AreFrom, AreKept, IsFrom, IsLast, below_next, kept_named, made_comes, made_lives, made_split, made_stays, new_name, old_name, segment_by}
+use Rattle.o2_alone.proofs.CommonSegments.{AreFrom, AreKept, IsFrom, IsLast, below_next, kept_named, made_comes, made_lives, made_split, made_stays, new_name, old_name}
 
 -- a name is held under some index
 pub record IsNamedIn (held : Map Held) (n : ℕ) : Type 0 where

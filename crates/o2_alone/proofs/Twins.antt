@@ -1,13 +1,12 @@
 -- Two worlds in which a process is alike but for the numbers of names: through each change of a step of its own they stay so.
 use Rattle.std.proofs.Common.{◌≡◌, refl, sym, ◌∙◌, ap, subst, ℕ, ◌+◌, ◌-◌, ◌<◌, ◌≤◌, ◌==◌, ◌||◌, Bool, true, false, cond, List, [], ◌∷◌, ◌++◌, arith}
-use Rattle.std.specs.Prelude.{Option, Some, None, option_map, slice_get, map, nat_lt, take, replicate, length}
+use Rattle.std.specs.Prelude.{Option, Some, None, option_map, slice_get, nat_lt}
 use Rattle.std.specs.List.{list_any}
 use Rattle.std.proofs.lemmas.Bool.{eq-eqb, eqb-true}
-use Rattle.o2_world.specs.declared.types.State.{State}
-use Rattle.o2_world.specs.Map.{Map, at_key, get, put}
+use Rattle.o2_world.specs.Map.{Map, get, put}
 use Rattle.o2_world.specs.World.{World, Process, Segment, Held}
 use Rattle.o2_world.specs.Holders.{process_at}
-use Rattle.o2_world.specs.Changes.{Change, Makes, Resizes, Locks, Marks, Holds, Drops, Finishes, Reserves, Frees, Names, at_number, at_place, more, fewer, resized, with_change, with_changes, with_segment, with_held, takes}
+use Rattle.o2_world.specs.Changes.{Change, Makes, Resizes, Locks, Marks, Holds, Drops, Finishes, Reserves, Frees, Names, at_number, more, fewer, resized, with_change, with_changes, with_segment, with_held, takes}
 use Rattle.o2_world.proofs.MapLemmas.{get-at_key, if_yes}
 use Rattle.o2_world.proofs.Numbers.{process_is, at_place_of, changed_is}
 use Rattle.o2_world.proofs.Reached.{get-put, get-place}

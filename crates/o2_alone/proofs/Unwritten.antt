@@ -1,5 +1,5 @@
 -- A step writes no name but those that its process holds as data that can be written.
-use Rattle.std.proofs.Common.{◌≡◌, ◌≢◌, ◌⊎◌, inl, inr, refl, sym, ◌∙◌, ap, subst, ℕ, ◌+◌, Bool, true, false, cond, ◌==◌, ◌&&◌, ◌||◌, List, [], ◌∷◌, ◌++◌, length, arith}
+use Rattle.std.proofs.Common.{◌≡◌, ◌≢◌, ◌⊎◌, inl, inr, refl, sym, ◌∙◌, ap, ℕ, ◌+◌, Bool, true, false, cond, ◌==◌, ◌&&◌, ◌||◌, List, [], ◌∷◌, ◌++◌, length, arith}
 use Rattle.std.specs.Prelude.{Option, Some, None, Result, Ok, Err, take, drop, nat_le, codes}
 use Rattle.std.proofs.lemmas.Bool.{eqb-true}
 use Rattle.std.proofs.lemmas.List.{take-append-drop}
@@ -8,7 +8,7 @@ use Rattle.o2_isa.specs.declared.cpu.Stop.{Stop}
 use Rattle.o2_isa.specs.declared.cpu.Stop.TheVariants as stop
 use Rattle.o2_isa.specs.declared.instr.Sreg.{Sreg}
 use Rattle.o2_isa.specs.Parts.{put_part}
-use Rattle.o2_isa.specs.View.{View, Hold, in_register, is_writable, bound_in}
+use Rattle.o2_isa.specs.View.{Hold, in_register, is_writable, bound_in}
 use Rattle.o2_isa.specs.Pointers.{is_for_es, has_range, is_good, put_in, put_at_pointer}
 use Rattle.o2_isa.specs.Writes.{HoldsAsWritable}
 use Rattle.o2_isa.specs.Steps.{State as Machine, state}
@@ -24,8 +24,8 @@ use Rattle.o2_world.specs.declared.types.SegmentCall.TheVariants.{DosAllocSeg, D
 use Rattle.o2_world.specs.World.{is_live}
 use Rattle.o2_world.specs.CallParts.{Before, Effect, argument, has_arguments, word_bytes, may_write}
 use Rattle.o2_world.specs.Rulings.{Ruling, allocation, aliasing, sizing}
-use Rattle.o2_world.specs.SegmentCalls.{ruled_at, Written, written_word, written_long, alloc_args, allocated, dos_alloc_seg, dos_realloc_seg, dos_free_seg, sized, dos_size_seg, dos_lock_seg, dos_unlock_seg, aliased, dos_create_cs_alias, on_segments}
-use Rattle.o2_world.specs.Calls.{transfer_of, is_console, may_give, written, dos_write, dos_exit, told_at, told, bytes_with, may_take, read_from, dos_read, served_by, row_of, IsUnshared}
+use Rattle.o2_world.specs.SegmentCalls.{ruled_at, Written, written_word, written_long, alloc_args, dos_alloc_seg, dos_realloc_seg, dos_free_seg, dos_size_seg, dos_lock_seg, dos_unlock_seg, dos_create_cs_alias, on_segments}
+use Rattle.o2_world.specs.Calls.{transfer_of, is_console, may_give, dos_write, dos_exit, told, may_take, read_from, dos_read, served_by, row_of, IsUnshared}
 use Rattle.o2_world.specs.Effect.{has_trap_flag, answered, single_stepped, effect}
 use Rattle.o2_world.proofs.Rows.{built_is_unshared}
 use Rattle.o2_alone.specs.Renaming.{IsIn}

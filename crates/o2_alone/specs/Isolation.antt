@@ -1,5 +1,5 @@
 -- Isolation: where a process keeps to itself, its run among others is its run alone.
-use Rattle.std.specs.Prelude.{◌≡◌, ◌≢◌, ℕ, ◌+◌, ◌-◌, ◌<◌, ◌≤◌, true, false, List, [], Option, Some, None, option_map, slice_get, Result, Ok}
+use Rattle.std.specs.Prelude.{◌≡◌, ◌≢◌, ℕ, ◌+◌, ◌-◌, ◌<◌, ◌≤◌, true, false, List, [], Option, Some, None, option_map, slice_get, Ok}
 use Rattle.std.specs.List.{All, list_any}
 use Rattle.o2_conf.specs.declared.script.Word.{Word}
 use Rattle.o2_desc.specs.Bits.{has_bit}

@@ -1,6 +1,6 @@
 -- Other numbers for names. What a step does goes by what its process holds, by the bytes and marks of that, and by which indexes are taken,
 -- and not by the numbers that its segments have in the world.
-use Rattle.std.specs.Prelude.{◌≡◌, ℕ, ◌%◌, ◌==◌, ◌&&◌, Bool, true, false, not, nat_le, nat_lt, List, map, Option, Some, None, option_map, Result, Ok, Err}
+use Rattle.std.specs.Prelude.{◌≡◌, ℕ, ◌%◌, ◌==◌, ◌&&◌, Bool, true, not, nat_le, nat_lt, List, map, Option, Some, None, option_map, Result, Ok, Err}
 use Rattle.o2_isa.specs.declared.cpu.Stop.{Stop}
 use Rattle.o2_isa.specs.declared.cpu.Stop.TheVariants as stop
 use Rattle.o2_isa.specs.declared.instr.Sreg.{Sreg}
