@@ -1,5 +1,5 @@
 -- When a process keeps to itself: neither does it come to what other processes have, nor they to what it has.
-use Rattle.std.specs.Prelude.{◌≡◌, ◌≢◌, ◌⊎◌, ℕ, ◌<◌, ◌≤◌, Bool, true, false, Option, Some, None, ◌==◌, ◌&&◌}
+use Rattle.std.specs.Prelude.{◌≡◌, ◌≢◌, ◌⊎◌, ℕ, ◌<◌, Bool, true, false, Option, Some, None, ◌==◌, ◌&&◌}
 use Rattle.std.specs.List.{list_any}
 use Rattle.o2_world.specs.declared.types.Row.{Row}
 use Rattle.o2_world.specs.declared.types.Row.TheVariants.{DosExit, DosGetPid, DosRead, DosWrite, DosMemAvail, OnSegments, OnShared}
@@ -101,8 +101,8 @@ HasRoom s w number = (b : Before) → next_before s w ≡ Some b → b.number �
 
 -- Over the first k steps of the run that begins in w, and over as many steps of its run alone as it does itself there.
 pub record KeepsToItself (s : Setting) (w alone : World) (number k : ℕ) : Type 0 where
-  -- before the first step and behind each, whosever it is
-  pub apart : (j : ℕ) → j ≤ k → IsApart (after s w j) number
+  -- before each step, whosever it is
+  pub apart : (j : ℕ) → j < k → IsApart (after s w j) number
   pub ungiven : (j : ℕ) → j < k → IsUngiven s (after s w j) number
   pub quiet : (j : ℕ) → j < k → IsQuiet s (after s w j) number
   pub room : (j : ℕ) → j < k → HasRoom s (after s w j) number

@@ -1,5 +1,5 @@
 // Laws on processes among others.
-ghost use Rattle.std.specs.Prelude.{◌≡◌, ℕ, List, Option};
+ghost use Rattle.std.specs.Prelude.{◌≡◌, ℕ, List, [], ◌∷◌, Option, codes, true};
 ghost use Rattle.o2_isa.specs.declared.cpu.Cpu.{Cpu};
 ghost use Rattle.o2_isa.specs.View.{View};
 ghost use Rattle.o2_isa.specs.Steps.{state};
@@ -10,6 +10,11 @@ ghost use Rattle.o2_world.specs.Calls.{served_by};
 ghost use Rattle.o2_world.specs.Effect.{effect};
 ghost use Rattle.o2_world.specs.Changes.{Change, moved_lines};
 ghost use Rattle.o2_world.specs.World.{World, Setting};
+ghost use Rattle.o2_world.specs.Run.{after, is_over};
+ghost use Rattle.o2_world.specs.Starts.{Start, opening_of};
+ghost use Rattle.o2_alone.specs.Alone.{opening_alone};
+ghost use Rattle.o2_alone.specs.Events.{events, events_of};
+ghost use Rattle.o2_alone.specs.Worked.{in_turns, pieces, second_alone, two_hellos};
 ghost use Rattle.o2_alone.specs.Isolation.{BeginsAlike, IsIsolatedFrom, Isolation};
 ghost use Rattle.o2_alone.specs.Renaming.{Renaming, IsRenamed, IsRenamedEffect, IsRenamedView, IsRenamedResult, IsAskedAlike, call_of, renamed_changes};
 
@@ -48,4 +53,14 @@ pub fn who_keeps_to_itself_runs_as_alone()
 /// its events up to there are the first events of its run alone: the same console pieces, lines and registers, and the same bytes behind each selector.
 pub fn strangers_do_not_feel_one_another()
     ensures { Isolation }
+{}
+
+/// Two processes that write `hello`, in turns of three steps: the second has the ten events of its run alone, and has written `hello` by then.
+/// The only process of a machine without a script has its run for its run alone.
+pub fn hello_runs_as_alone()
+    ensures second { events_of 2 (events in_turns two_hellos 20) ≡ events in_turns second_alone 10 }
+    ensures written { pieces (events in_turns second_alone 10) ≡ codes "hello" }
+    ensures over { is_over (after in_turns second_alone 10) ≡ true }
+    ensures only { (s : Setting) (reserved : List (ℕ × ℕ)) (input : List ℕ) (start : Start)
+        → opening_alone s reserved input 1 start ≡ opening_of s reserved [] input (start ∷ []) }
 {}
