@@ -12,4 +12,3 @@ pub mod Isolated
 pub mod CommonSegments
 pub mod StartsAlike
 pub mod OpenedAlike
-pub mod Traces

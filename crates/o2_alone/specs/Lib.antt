@@ -3,4 +3,3 @@ pub mod Events
 pub mod Alone
 pub mod Keeping
 pub mod Isolation
-pub mod Worked

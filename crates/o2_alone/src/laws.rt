@@ -1,5 +1,5 @@
 // Laws on processes among others.
-ghost use Rattle.std.specs.Prelude.{◌≡◌, ℕ, List, [], ◌∷◌, Option, codes, true};
+ghost use Rattle.std.specs.Prelude.{◌≡◌, ℕ, List, [], ◌∷◌, Option};
 ghost use Rattle.o2_isa.specs.declared.cpu.Cpu.{Cpu};
 ghost use Rattle.o2_isa.specs.View.{View};
 ghost use Rattle.o2_isa.specs.Steps.{state};
@@ -10,11 +10,8 @@ ghost use Rattle.o2_world.specs.Calls.{served_by};
 ghost use Rattle.o2_world.specs.Effect.{effect};
 ghost use Rattle.o2_world.specs.Changes.{Change, moved_lines};
 ghost use Rattle.o2_world.specs.World.{World, Setting};
-ghost use Rattle.o2_world.specs.Run.{after, is_over};
 ghost use Rattle.o2_world.specs.Starts.{Start, opening_of};
 ghost use Rattle.o2_alone.specs.Alone.{opening_alone};
-ghost use Rattle.o2_alone.specs.Events.{events, events_of};
-ghost use Rattle.o2_alone.specs.Worked.{in_turns, pieces, second_alone, two_hellos};
 ghost use Rattle.o2_alone.specs.Isolation.{BeginsAlike, IsIsolatedFrom, Isolation};
 ghost use Rattle.o2_alone.specs.Renaming.{Renaming, IsRenamed, IsRenamedEffect, IsRenamedView, IsRenamedResult, IsAskedAlike, call_of, renamed_changes};
 
@@ -30,7 +27,8 @@ pub fn instructions_depend_on_no_name()
 /// same changes of the same segments. A DosRead goes by the input too, and a DosAllocSeg by whether one more segment may live and,
 /// for a segment that others may have, by which indexes of the region that all share are taken. The lines of a change have no number of a name.
 pub fn calls_depend_on_no_name()
-    ensures rows { (f : Renaming) (row : Option Row) (b other : Before) (next : ℕ) → IsRenamed f b other → IsAskedAlike row b other
+    ensures rows { (f : Renaming) (row : Option Row) (b other : Before) (next : ℕ)
+        → IsRenamed f b other → IsAskedAlike row b other
         → IsRenamedEffect f b other (served_by row b next) (served_by row other next) }
     ensures lines { (f : Renaming) (cause : List ℕ) (changes : List Change)
         → moved_lines cause (renamed_changes f changes) ≡ moved_lines cause changes }
@@ -38,7 +36,8 @@ pub fn calls_depend_on_no_name()
 
 /// So a step of a process, an instruction or a call, depends on the numbers of its segments in nothing.
 pub fn steps_depend_on_no_name()
-    ensures { (f : Renaming) (b other : Before) → IsRenamed f b other → IsAskedAlike (call_of b) b other
+    ensures { (f : Renaming) (b other : Before)
+        → IsRenamed f b other → IsAskedAlike (call_of b) b other
         → IsRenamedEffect f b other (effect b) (effect other) }
 {}
 
@@ -46,21 +45,19 @@ pub fn steps_depend_on_no_name()
 /// that lives: for as long as it keeps to itself, its events are the first events of its run alone, with the same registers,
 /// console pieces and lines, and behind them it holds the same, with the same bytes behind each selector.
 pub fn who_keeps_to_itself_runs_as_alone()
-    ensures { (s : Setting) (w alone : World) (number : ℕ) → BeginsAlike number w alone → IsIsolatedFrom s w alone number }
+    ensures { (s : Setting) (w alone : World) (number : ℕ)
+        → BeginsAlike number w alone → IsIsolatedFrom s w alone number }
 {}
 
-/// Isolation. Each process of a machine file has a run alone, with its number and without the others. Where it keeps to itself up to some step of the run,
-/// its events up to there are the first events of its run alone: the same console pieces, lines and registers, and the same bytes behind each selector.
+/// Isolation. Each process of a machine file has a run alone, with its number and without the others. Where it keeps to itself up
+/// to some step of the run, its events up to there are the first events of its run alone: the same console pieces, lines and
+/// registers, and the same bytes behind each selector.
 pub fn strangers_do_not_feel_one_another()
     ensures { Isolation }
 {}
 
-/// Two processes that write `hello`, in turns of three steps: the second has the ten events of its run alone, and has written `hello` by then.
 /// The only process of a machine without a script has its run for its run alone.
-pub fn hello_runs_as_alone()
-    ensures second { events_of 2 (events in_turns two_hellos 20) ≡ events in_turns second_alone 10 }
-    ensures written { pieces (events in_turns second_alone 10) ≡ codes "hello" }
-    ensures over { is_over (after in_turns second_alone 10) ≡ true }
-    ensures only { (s : Setting) (reserved : List (ℕ × ℕ)) (input : List ℕ) (start : Start)
+pub fn the_only_process_runs_alone()
+    ensures { (s : Setting) (reserved : List (ℕ × ℕ)) (input : List ℕ) (start : Start)
         → opening_alone s reserved input 1 start ≡ opening_of s reserved [] input (start ∷ []) }
 {}

@@ -1,6 +1,6 @@
 -- The starts of linked modules are all over one table of modules, so isolation holds for them.
-use Rattle.std.proofs.Common.{◌≡◌, refl, ap, subst, ℕ, zero, suc, ◌+◌, ◌-◌, ◌<◌, ◌==◌, Bool, true, false, cond, List, [], ◌∷◌, map, length, arith}
-use Rattle.std.specs.Prelude.{Option, Some, None, slice_get, slice_index_or, Result, Ok}
+use Rattle.std.proofs.Common.{◌≡◌, refl, ap, ℕ, zero, suc, ◌+◌, ◌-◌, ◌<◌, List, [], ◌∷◌, map, arith}
+use Rattle.std.specs.Prelude.{Option, Some, None, slice_get, Ok}
 use Rattle.std.specs.List.{All}
 use Rattle.o2_conf.specs.declared.conf.Conf.{Conf}
 use Rattle.o2_conf.specs.declared.process.Process.{Process}

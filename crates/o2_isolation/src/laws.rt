@@ -17,9 +17,11 @@ ghost use Rattle.o2_alone.specs.Isolation.{RunsAlone};
 /// without the others. Where it keeps to itself up to some step of the run of all, its events up to there are the first events of its run
 /// alone: the same console pieces, lines and registers, and the same bytes behind each selector.
 pub fn linked_processes_do_not_feel_one_another()
-    ensures { (s : Setting) (script : List Word) (input : List ℕ) (ms : List Parts) (c : Conf) (l : LinkedParts) (w : World)
+    ensures { (s : Setting) (script : List Word) (input : List ℕ)
+        (ms : List Parts) (c : Conf) (l : LinkedParts) (w : World)
         → All IsRunnable ms → All HasEnvironment c.process → linked_of ms c ≡ Ok l
         → opening_of s (library_ranges l) script input (starts_of l 1 c.process) ≡ Ok w
-        → (number : ℕ) (start : Start) → 0 < number → slice_get (starts_of l 1 c.process) (number - 1) ≡ Some start
+        → (number : ℕ) (start : Start) → 0 < number
+        → slice_get (starts_of l 1 c.process) (number - 1) ≡ Some start
         → RunsAlone s (library_ranges l) input number start w }
 {}
