@@ -1,0 +1,14 @@
+pub mod RenamedViews
+pub mod RenamedRulings
+pub mod RenamedCalls
+pub mod RenamedSteps
+pub mod Unwritten
+pub mod OwnNames
+pub mod Twins
+pub mod Alikes
+pub mod OwnSteps
+pub mod OtherSteps
+pub mod Isolated
+pub mod CommonSegments
+pub mod StartsAlike
+pub mod OpenedAlike

@@ -1,0 +1,5 @@
+pub mod Renaming
+pub mod Events
+pub mod Alone
+pub mod Keeping
+pub mod Isolation
