@@ -1,6 +1,6 @@
 // Modules cut and changed at each byte: each is refused by its name, with nothing written, or runs.
 
-use crate::files::{COUNTER, Files, HELLO, MIX, SMALL, add_file, file_of, mixed_files};
+use crate::files::{COUNTER, Files, HELLO, MIX, SMALL, add_file, add_text, file_of, mixed_files};
 use crate::runs::{Answer, Failing, run};
 use o2_base::{ModuleFault, NoMemory};
 use o2_cli::{Status, number};
@@ -24,33 +24,37 @@ fn whole_of(alloc: Global, which: Which) -> Result<Vec<u8>, NoMemory> {
     }
 }
 
-/// HELLO in one file.
-fn hello_files(alloc: Global, file: Vec<u8>) -> Result<Files, NoMemory> {
+/// One process of HELLO, of 100 steps at most.
+static ALONE: &str = "memory = 65536
+swap = 64
+segments = 100
+budget = 100
+quantum = 100
+modules = [\"hello.exe\"]
+process = [{ module = \"HELLO\" }]
+";
+
+/// `a.toml` of that process, and `hello.exe`.
+fn alone_files(alloc: Global, file: Vec<u8>) -> Result<Files, NoMemory> {
     let mut files = Vec::new(alloc);
+    add_text(alloc, &mut files, "a.toml", ALONE, "")?;
     add_file(alloc, &mut files, "hello.exe", file)?;
     Ok(files)
 }
 
-/// The run of a module that has these bytes, with the others as they are.
-fn run_with(alloc: Global, which: Which, file: Vec<u8>) -> Result<Answer, NoMemory> {
+/// The files of a run of a module that has these bytes, with the others as they are.
+fn files_with(alloc: Global, which: Which, file: Vec<u8>) -> Result<Files, NoMemory> {
     match which {
-        Which::Hello => run(
-            alloc,
-            "exe hello.exe",
-            hello_files(alloc, file)?,
-            Failing::Nothing,
-        ),
-        Which::Mix => {
-            let counter = file_of(alloc, COUNTER)?;
-            let files = mixed_files(alloc, SMALL, file, counter)?;
-            run(alloc, "run a.toml", files, Failing::Nothing)
-        }
-        Which::Counter => {
-            let mix = file_of(alloc, MIX)?;
-            let files = mixed_files(alloc, SMALL, mix, file)?;
-            run(alloc, "run a.toml", files, Failing::Nothing)
-        }
+        Which::Hello => alone_files(alloc, file),
+        Which::Mix => mixed_files(alloc, SMALL, file, file_of(alloc, COUNTER)?),
+        Which::Counter => mixed_files(alloc, SMALL, file_of(alloc, MIX)?, file),
     }
+}
+
+/// That run.
+fn run_with(alloc: Global, which: Which, file: Vec<u8>) -> Result<Answer, NoMemory> {
+    let files = files_with(alloc, which, file)?;
+    run(alloc, "run a.toml", files, Failing::Nothing)
 }
 
 /// The name of its file.
@@ -149,7 +153,7 @@ fn is_named(answer: &Answer) -> bool {
     let Status::BadModule(name, _) = &answer.status else {
         return false;
     };
-    ["hello.exe", "mix.exe", "counter.dll", "MIX"]
+    ["hello.exe", "mix.exe", "counter.dll", "HELLO", "MIX"]
         .iter()
         .any(|it| name.as_slice() == it.as_bytes())
 }
