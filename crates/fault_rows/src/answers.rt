@@ -111,7 +111,7 @@ fn comes_to(alloc: Global, words: &str, rest: &str) -> Result<bool, NoMemory> {
 }
 
 #[test]
-fn each_status_but_that_of_no_memory(rt: HostRuntime) -> Result<(), Fail> {
+fn each_status_is_met_with_ample_memory(rt: HostRuntime) -> Result<(), Fail> {
     let mut count = 0u32;
     for row in STATUSES.lines() {
         if let Some((words, rest)) = row.split_once(" | ") {
@@ -150,7 +150,7 @@ all ended
 ";
 
 #[test]
-fn each_service(rt: HostRuntime) -> Result<(), Fail> {
+fn each_service_is_done_with_ample_memory(rt: HostRuntime) -> Result<(), Fail> {
     let mut files = Vec::new(rt.alloc());
     add_file(
         rt.alloc(),
