@@ -3,6 +3,7 @@ use Rattle.o2_words.specs.declared.words.Verb.{Verb}
 use Rattle.o2_words.specs.Words.{IsCommandFor}
 use Rattle.o2_cli.proofs.Checked.{texts_of_check, untried}
 use Rattle.o2_cli.proofs.Completed.{completes}
+use Rattle.o2_cli.proofs.Memory.{memory_first, none_put}
 use Rattle.o2_cli.proofs.Runs.{no_file_fault, refused, runs_not_checks, shown, untouched}
 use Rattle.o2_cli.proofs.top.os2run.Goals as goal
 
@@ -62,3 +63,6 @@ returns-clause-complete g c = λ tells text may.
     (λ contents is. c.in-Ok-open.ensures.exact contents is) c.run_session.result (c.run_session.ensures.texts tells text may))
     (no_file_fault c.in-Ok-open.session _ c.run_session.result c.run_session.ensures.refused)
     c.run_session.ensures.input_fault c.run_session.ensures.sink_fault c.run_session.ensures.swap_fault
+
+pub returns-clause-memory_first : goal.returns-clause-memory_first
+returns-clause-memory_first g c = memory_first g.R.Sink.puts g.C.Sink.puts _ _ _ _ c.run_session.result c.run_session.ensures.same_report c.run_session.ensures.same_console
