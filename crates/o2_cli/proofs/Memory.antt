@@ -1,16 +1,9 @@
 -- Want of memory is told where nothing was put.
 use Rattle.std.proofs.Common.{inl, inr, ◌≡◌, ◌<◌, ◌⊎◌, ℕ, arith, ap}
-use Rattle.o2_open.specs.declared.fault.OpenFault.{OpenFault}
 use Rattle.o2_cli.specs.declared.status.Status.{Status}
 use Rattle.o2_cli.specs.declared.status.Status.TheVariants as status
-use Rattle.o2_cli.specs.Statuses.{status_by}
 use Rattle.o2_cli.specs.Top.{OnUnrun}
 use Rattle.o2_cli.specs.Done.{HasMemory}
-
--- no count is less than itself
-pub none_put : (a b : ℕ) → (a < a) ⊎ (b < b) → ⊥
-none_put a b (inl more) = absurd (omega (arith, more))
-none_put a b (inr more) = absurd (omega (arith, more))
 
 same_counts : (a b c d : ℕ) → b ≡ a → d ≡ c → (a < b) ⊎ (c < d) → ⊥
 same_counts a b c d first second (inl more) = absurd (omega (arith, first, more))

@@ -3,7 +3,7 @@ use Rattle.o2_words.specs.declared.words.Verb.{Verb}
 use Rattle.o2_words.specs.Words.{IsCommandFor}
 use Rattle.o2_cli.proofs.Checked.{texts_of_check, untried}
 use Rattle.o2_cli.proofs.Completed.{completes}
-use Rattle.o2_cli.proofs.Memory.{memory_first, none_put}
+use Rattle.o2_cli.proofs.Memory.{memory_first}
 use Rattle.o2_cli.proofs.Runs.{no_file_fault, refused, runs_not_checks, shown, untouched}
 use Rattle.o2_cli.proofs.top.os2run.Goals as goal
 
