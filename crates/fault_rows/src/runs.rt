@@ -17,47 +17,39 @@ pub enum Failing {
     Swap(u64),
 }
 
-fn one<T: Drop>(alloc: Global, it: Option<T>) -> Result<Vec<T>, NoMemory> {
-    let mut list = Vec::new(alloc);
-    if let Some(it) = it {
-        list.push(it)?;
-    }
-    Ok(list)
+/// The call of each device that fails, or 0 where none does.
+#[derive(Clone, Copy)]
+struct Calls {
+    fetch: u64,
+    take: u64,
+    console: (u64, usize),
+    report: (u64, usize),
+    swap: u64,
 }
 
+const NONE: Calls = Calls {
+    fetch: 0,
+    take: 0,
+    console: (0, 0),
+    report: (0, 0),
+    swap: 0,
+};
+
 impl Failing {
-    fn fetch(self) -> Option<u64> {
+    fn calls(self) -> Calls {
         match self {
-            Failing::Fetch(k) => Some(k),
-            _ => None,
-        }
-    }
-
-    fn take(self) -> Option<u64> {
-        match self {
-            Failing::Take(k) => Some(k),
-            _ => None,
-        }
-    }
-
-    fn console(self) -> Option<(u64, usize)> {
-        match self {
-            Failing::Console(k, taken) => Some((k, taken)),
-            _ => None,
-        }
-    }
-
-    fn report(self) -> Option<(u64, usize)> {
-        match self {
-            Failing::Report(k, taken) => Some((k, taken)),
-            _ => None,
-        }
-    }
-
-    fn swap(self) -> Option<u64> {
-        match self {
-            Failing::Swap(k) => Some(k),
-            _ => None,
+            Failing::Nothing => NONE,
+            Failing::Fetch(fetch) => Calls { fetch, ..NONE },
+            Failing::Take(take) => Calls { take, ..NONE },
+            Failing::Console(call, taken) => Calls {
+                console: (call, taken),
+                ..NONE
+            },
+            Failing::Report(call, taken) => Calls {
+                report: (call, taken),
+                ..NONE
+            },
+            Failing::Swap(swap) => Calls { swap, ..NONE },
         }
     }
 }
@@ -105,13 +97,14 @@ fn words_of(alloc: Global, words: &str) -> Result<Vec<String>, NoMemory> {
 
 /// What a command comes to over these files, the input and 64 blocks, where this call fails.
 pub fn run(alloc: Global, words: &str, files: Files, failing: Failing) -> Result<Answer, NoMemory> {
+    let calls = failing.calls();
     let words = words_of(alloc, words)?;
-    let mut files = MemFiles::new(files, one(alloc, failing.fetch())?);
+    let mut files = MemFiles::new(files, vec![in alloc; calls.fetch]?);
     let input = Bytes::from_slice(alloc, INPUT.as_bytes())?;
-    let mut input = MemSource::new(input, one(alloc, failing.take())?);
-    let mut console = MemSink::new(alloc, 4096, one(alloc, failing.console())?)?;
-    let mut report = MemSink::new(alloc, 65536, one(alloc, failing.report())?)?;
-    let mut swap = MemSwap::new(alloc, 64, one(alloc, failing.swap())?)?;
+    let mut input = MemSource::new(input, vec![in alloc; calls.take]?);
+    let mut console = MemSink::new(alloc, 4096, vec![in alloc; calls.console]?)?;
+    let mut report = MemSink::new(alloc, 65536, vec![in alloc; calls.report]?)?;
+    let mut swap = MemSwap::new(alloc, 64, vec![in alloc; calls.swap]?)?;
     let status = os2run(
         alloc,
         words.as_slice(),
