@@ -21,19 +21,18 @@ B8 1F 00 8E C0 26 C6 06 00 00 01 31 C0 8E C0 B8 27 00 8E C0 31 C0 8E C0 B8 1F 00
 /// The index of the first of the two.
 const FIRST: u16 = 3;
 
-/// The machine of its process over a device.
-fn begun<S: SwapDevice>(
+const KEYS: &str = "memory = 20480\nswap = 2048\nbudget = 100";
+
+/// The machine of its process, with these keys, over a device.
+pub fn begun<S: SwapDevice>(
     alloc: Global,
+    keys: &str,
     report: &mut MemSink,
     swap: &S,
 ) -> Result<Option<Machine>, NoMemory>
     ensures { IfOk result (λ m. IfSome m (λ m. IsGoing m (S.blocks swap.now))) }
 {
-    let files = files_of(
-        alloc,
-        READ_AGAIN,
-        "memory = 20480\nswap = 2048\nbudget = 100",
-    )?;
+    let files = files_of(alloc, READ_AGAIN, keys)?;
     let mut files = MemFiles::new(files, Vec::new(alloc));
     let name = Bytes::from_slice(alloc, b"a.toml")?;
     let Ok(session) = open(alloc, Verb::Run, &mut files, &name) else {
@@ -48,13 +47,14 @@ fn begun<S: SwapDevice>(
 
 /// What a machine goes to.
 #[derive(Drop)]
-struct Outside {
-    input: MemSource,
-    console: MemSink,
-    report: MemSink,
+pub struct Outside {
+    pub input: MemSource,
+    pub console: MemSink,
+    pub report: MemSink,
 }
 
-fn made_outside(alloc: Global) -> Result<Outside, NoMemory> {
+/// No input and empty sinks.
+pub fn made_outside(alloc: Global) -> Result<Outside, NoMemory> {
     Ok(Outside {
         input: MemSource::new(Bytes::new(Vec::new(alloc)), Vec::new(alloc)),
         console: MemSink::new(alloc, 4096, Vec::new(alloc))?,
@@ -139,7 +139,7 @@ fn wrong_of<S: SwapDevice>(
 fn wrong(alloc: Global) -> Result<&'static str, NoMemory> {
     let mut outside = made_outside(alloc)?;
     let mut swap = MemSwap::new(alloc, 2048, Vec::new(alloc))?;
-    match begun(alloc, &mut outside.report, &swap)? {
+    match begun(alloc, KEYS, &mut outside.report, &swap)? {
         Some(mut machine) => Ok(wrong_of(&mut machine, &mut outside, &mut swap)),
         None => Ok("it doesn't begin"),
     }

@@ -8,6 +8,8 @@ mod faults;
 #[cfg(test)]
 mod files;
 #[cfg(test)]
+mod finals;
+#[cfg(test)]
 mod memories;
 #[cfg(test)]
 mod turns;

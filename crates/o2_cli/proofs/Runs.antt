@@ -1,6 +1,6 @@
 -- The run of a session, by what its machine began with.
 use Rattle.std.proofs.Common.{inr, ◌⊎◌, ◌≡◌, ◌≤◌, ℕ, ◌+◌, arith, length, List, Option, Some, ap, sym, ◌∙◌, refl, append-nil, inl, subst}
-use Rattle.std.specs.Prelude.{Bool, IsTrue, Result, Ok, Err, String, min}
+use Rattle.std.specs.Prelude.{Result, Ok, Err, String, min}
 use Rattle.std.specs.declared.alloc.Global.{Global}
 use Rattle.o2_base.specs.declared.faults.ModuleFault.{ModuleFault}
 use Rattle.o2_words.specs.declared.words.Verb.{Verb}

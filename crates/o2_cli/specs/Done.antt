@@ -27,6 +27,11 @@ IsDone status.Fine = Unit {0}
 IsDone status.NoMemory = Unit {0}
 IsDone _ = ⊥
 
+-- it isn't for want of memory
+abbrev pub HasMemory : Status → Type 0
+HasMemory status.NoMemory = ⊥
+HasMemory _ = Unit {0}
+
 -- a command that runs: it opens, each step has what it needs, and neither files, input, sinks nor device had a fault
 abbrev pub Completes : List (String Global) → Possible → (blocks : ℕ) → (left : Option (List ℕ))
     → (files input sink device : Type 0) → Status → Type 0

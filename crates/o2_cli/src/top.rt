@@ -1,5 +1,5 @@
 // The top call.
-ghost use Rattle.std.specs.Prelude.{◌≡◌, ◌≤◌, ◌+◌, ◌⊎◌, ℕ, List, Option, Some, IsTrue};
+ghost use Rattle.std.specs.Prelude.{◌≡◌, ◌≤◌, ◌<◌, ◌+◌, ◌⊎◌, ℕ, List, Option, Some, IsTrue};
 ghost use Rattle.o2_conf.specs.Limits.{IsWithinLimits};
 ghost use Rattle.o2_open.specs.Loads.{Contents, HasEnvironments, IsLinked};
 ghost use Rattle.o2_outer.specs.Texts.{Rose};
@@ -9,7 +9,7 @@ ghost use Rattle.o2_cli.specs.Top.{IsBench, IsCheck, Refuses, Shows, OnFileFault
 ghost use Rattle.o2_words.specs.declared.words.Verb.TheVariants.{Run};
 ghost use Rattle.o2_cli.specs.RunTexts.{ShowsRun, RefusesRun};
 ghost use Rattle.o2_cli.specs.Checks.{Checks, IsUnstarted, ShowsLines};
-ghost use Rattle.o2_cli.specs.Done.{Completes, CompletesCheck};
+ghost use Rattle.o2_cli.specs.Done.{Completes, CompletesCheck, HasMemory};
 
 use crate::Status;
 use crate::begun::begun;
@@ -70,6 +70,9 @@ pub fn os2run<F: Files, I: Source, C: Sink, R: Sink, S: SwapDevice>(
         (Rose (S.faults swap.old) (S.faults swap.new)) result }
     ensures check_complete { CompletesCheck words.now (F.may_hold files.new) (Rose (F.faults files.old) (F.faults files.new))
         (Rose (C.faults console.old) (C.faults console.new) ⊎ Rose (R.faults report.old) (R.faults report.new)) result }
+    // Want of memory is told only before the first step, and before the lines of the starts, which are put in front of it: where a
+    // line or a piece was put, or tried, the status is another one.
+    ensures memory_first { (R.puts report.old < R.puts report.new) ⊎ (C.puts console.old < C.puts console.new) → HasMemory result }
     // Where nothing ran, the input, both sinks and the device are as they were, whatever they tell.
     ensures same_input { OnUnrun result (input.new ≡ input.old) }
     ensures same_console { OnUnrun result (console.new ≡ console.old) }

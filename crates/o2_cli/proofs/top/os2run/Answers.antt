@@ -3,6 +3,7 @@ use Rattle.o2_words.specs.declared.words.Verb.{Verb}
 use Rattle.o2_words.specs.Words.{IsCommandFor}
 use Rattle.o2_cli.proofs.Checked.{bench_is, texts_of_check, untried}
 use Rattle.o2_cli.proofs.Completed.{completes, open_completes}
+use Rattle.o2_cli.proofs.Memory.{memory_first}
 use Rattle.o2_cli.proofs.Runs.{benches_not_checks, no_file_fault, refused, runs_not_checks, shown, shown_bench, shown_either, untouched}
 use Rattle.o2_cli.proofs.top.os2run.Goals as goal
 
@@ -117,3 +118,9 @@ returns-in-Err-clause-complete g c = λ tells text may.
     open_completes c.args.words.now (g.F.Files.may_hold c.open.new.files) _ _ _ _ _ _ _ c.in-Ok.command.verb c.in-Ok-from_slice.name
     (subst (λ name. IsCommandFor c.args.words.now c.in-Ok.command.verb name) (sym (c.in-Ok-from_slice.ensures ∙ c.as_bytes.ensures.value)) c.in-Ok.ensures.exact)
     c.in-Err.fault c.from.result c.from.ensures (λ contents is. c.in-Err.ensures.exact contents is) c.in-Err.ensures.refuses
+
+pub returns-clause-memory_first : goal.returns-clause-memory_first
+returns-clause-memory_first g c = memory_first g.R.Sink.puts g.C.Sink.puts _ _ _ _ c.run_session.result c.run_session.ensures.same_report c.run_session.ensures.same_console
+
+pub returns-in-Bench-clause-memory_first : goal.returns-in-Bench-clause-memory_first
+returns-in-Bench-clause-memory_first g c = memory_first g.R.Sink.puts g.C.Sink.puts _ _ _ _ c.bench_session.result c.bench_session.ensures.same_report c.bench_session.ensures.same_console
