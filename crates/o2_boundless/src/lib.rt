@@ -1,7 +1,17 @@
 //! The boundless machine's world as a value, and the calls of DOSCALLS on it, run row by row.
 #![tactic(auto)]
 
+mod call;
+mod changing;
+mod choosing;
+mod look;
+mod outcome;
+mod own_rows;
 mod parts;
+mod pointing;
+mod rulings;
+mod segment_rows;
+mod working;
 mod world;
 
 pub use parts::{Held, How, Process, Reserve, Segment};

@@ -68,7 +68,7 @@ fn copied_names(
     Ok(copy)
 }
 
-fn copied_processes(alloc: Global, processes: &[Process]) -> Result<Vec<Process>, NoMemory>
+pub(crate) fn copied_processes(alloc: Global, processes: &[Process]) -> Result<Vec<Process>, NoMemory>
     ensures { IfOk result (λ v. v.items ≡ processes.now) }
 {
     let mut copy = Vec::new(alloc);
@@ -79,7 +79,7 @@ fn copied_processes(alloc: Global, processes: &[Process]) -> Result<Vec<Process>
     Ok(copy)
 }
 
-fn copied_reserves(alloc: Global, reserves: &[Reserve]) -> Result<Vec<Reserve>, NoMemory>
+pub(crate) fn copied_reserves(alloc: Global, reserves: &[Reserve]) -> Result<Vec<Reserve>, NoMemory>
     ensures { IfOk result (λ v. v.items ≡ reserves.now) }
 {
     let mut copy = Vec::new(alloc);
@@ -89,7 +89,7 @@ fn copied_reserves(alloc: Global, reserves: &[Reserve]) -> Result<Vec<Reserve>, 
     Ok(copy)
 }
 
-fn copied_texts(alloc: Global, texts: &[(Bytes, u64)]) -> Result<Vec<(Bytes, u64)>, NoMemory>
+pub(crate) fn copied_texts(alloc: Global, texts: &[(Bytes, u64)]) -> Result<Vec<(Bytes, u64)>, NoMemory>
     ensures { IfOk result (λ v. v.items ≡ texts.now) }
 {
     let mut copy = Vec::new(alloc);

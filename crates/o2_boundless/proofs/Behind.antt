@@ -1,0 +1,66 @@
+-- What a call does, as an effect, leaves the world of that effect.
+use Rattle.std.proofs.Common.{◌≡◌, ℕ, ◌++◌, List, [], ◌∷◌, Option, Some, None, refl, ap, sym, ◌∙◌}
+use Rattle.std.specs.Prelude.{if◌then◌else◌}
+use Rattle.o2_isa.specs.declared.cpu.Cpu.{Cpu}
+use Rattle.o2_world.specs.declared.types.State.{State}
+use Rattle.o2_world.specs.World.{Process, is_live}
+use Rattle.o2_world.specs.declared.types.Row.{Row}
+use Rattle.o2_world.specs.Changes.{Change, Finishes, with_all}
+use Rattle.o2_world.specs.Run.{all_changes}
+use Rattle.o2_world.specs.CallParts.{Effect}
+use Rattle.o2_world.specs.Views.{bytes_in, holds_in}
+use Rattle.o2_world.specs.Text.{lines_text}
+use Rattle.o2_boundless.specs.declared.outcome.Outcome.{Outcome}
+use Rattle.o2_boundless.specs.Shown.{Shown, before_call}
+use Rattle.o2_boundless.specs.Outcomes.{IsOutcome, written, worked_slowly}
+use Rattle.o2_boundless.specs.Edits.{changes_of}
+use Rattle.o2_boundless.specs.Worked.{worked_from, worked_by}
+use Rattle.o2_boundless.specs.Called.{effect_by, behind_effect, behind_by, answer_of, answer_by}
+
+same_worked : (v : Shown) (n : ℕ) (p : Process) (c d : Cpu) (s t : State) (f g : ℕ → List ℕ) (i j k l m o : List ℕ) → c ≡ d → s ≡ t → f ≡ g → i ≡ j → k ≡ l → m ≡ o
+    → worked_from v n p c s f i k m ≡ worked_from v n p d t g j l o
+same_worked v n p c d s t f g i j k l m o a b e h q r =
+    ap (λ c. worked_from v n p c s f i k m) a
+    ∙ (ap (λ s. worked_from v n p d s f i k m) b
+    ∙ (ap (λ f. worked_from v n p d t f i k m) e
+    ∙ (ap (λ i. worked_from v n p d t g i k m) h
+    ∙ (ap (λ k. worked_from v n p d t g j k m) q
+    ∙ ap (λ m. worked_from v n p d t g j l m) r))))
+
+pub worked_is : (v : Shown) (n : ℕ) (p : Process) (x : Outcome) (e : Effect) → IsOutcome (before_call v n p) x e
+    → worked_by v n p x ≡ record v { world = worked_slowly v.world n p e; report = v.report ++ lines_text e.lines }
+worked_is v n p x e o = same_worked v n p x.cpu e.cpu x.state e.state (written (holds_in p.held) x.writes.items (bytes_in v.world.names)) e.bytes _ e.input x.piece.items e.piece x.lines.items (lines_text e.lines) o.cpu o.state o.bytes o.input o.piece o.lines
+
+changes_by : ℕ → State → List Change → List Change
+changes_by n s cs = if is_live s then cs else cs ++ Finishes n s ∷ []
+
+after_by : Shown → List Change → Shown
+after_by w cs = record w { world = with_all w.world cs }
+
+pub behind_is : (v : Shown) (n : ℕ) (p : Process) (x : Outcome) (e : Effect) (w u : Shown) (cs : List Change) → IsOutcome (before_call v n p) x e → w ≡ worked_by v n p x
+    → cs ≡ (if is_live x.state then changes_of x.edits.items else changes_of x.edits.items ++ Finishes n x.state ∷ [])
+    → u ≡ record w { world = with_all w.world cs } → u ≡ behind_effect v n p e
+unfolding changes_by after_by
+behind_is v n p x e w u cs o f g h =
+    h
+    ∙ (ap (λ w. after_by w cs) (f ∙ worked_is v n p x e o)
+    ∙ ap (λ cs. after_by (record v { world = worked_slowly v.world n p e; report = v.report ++ lines_text e.lines }) cs)
+    (g ∙ (ap (λ s. changes_by n s (changes_of x.edits.items)) o.state ∙ ap (changes_by n e.state) o.changes)))
+
+pub ruleset behind = behind_is
+
+pub answer_is : (x : Outcome) (v : Shown) (n : ℕ) (p : Process) (e : Effect) → IsOutcome (before_call v n p) x e → (if is_live x.state then x.cpu.ax else 0) ≡ answer_of e
+answer_is x v n p e o = ap (λ s. if is_live s then x.cpu.ax else 0) o.state ∙ ap (λ c. if is_live e.state then c.ax else 0) o.cpu
+
+-- a call of a process and a row that there are
+pub call_is : (v : Shown) (n : ℕ) (args : List ℕ) (o : Option Process) (r : Option Row) (p : Process) (row : Row) (w : Shown) → Some p ≡ o → Some row ≡ r
+    → w ≡ behind_effect v n p (effect_by v n p row args) → w ≡ behind_by v n args o r
+call_is v n args o r p row w e f h = h ∙ (ap (λ o. behind_by v n args o (Some row)) e ∙ ap (behind_by v n args o) f)
+
+pub error_is : (v : Shown) (n : ℕ) (args : List ℕ) (o : Option Process) (r : Option Row) (p : Process) (row : Row) (a : ℕ) → Some p ≡ o → Some row ≡ r
+    → a ≡ answer_of (effect_by v n p row args) → a ≡ answer_by v n args o r
+error_is v n args o r p row a e f h = h ∙ (ap (λ o. answer_by v n args o (Some row)) e ∙ ap (answer_by v n args o) f)
+
+pub ruleset called = (call_is, error_is)
+
+pub ruleset answered = answer_is

@@ -1,0 +1,5 @@
+use Rattle.o2_boundless.proofs.Rows.{pointed_word}
+use Rattle.o2_boundless.proofs.world.World.alloc_seg.Goals as goal
+
+pub returns : goal.returns
+returns c = pointed_word _ c.pointed.result _ _ _ _ _ _ c.in_ok-reply.reply c.in_ok-verdict.verdict _ c.in_ok-reply.ensures c.in_ok-verdict.ensures c.pointed.ensures
