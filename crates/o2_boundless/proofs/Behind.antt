@@ -1,6 +1,7 @@
 -- What a call does, as an effect, leaves the world of that effect.
-use Rattle.std.proofs.Common.{◌≡◌, ℕ, ◌++◌, List, [], ◌∷◌, Option, Some, None, refl, ap, sym, ◌∙◌}
+use Rattle.std.proofs.Common.{◌≡◌, ℕ, ◌++◌, zero, suc, get_or, replicate, List, [], ◌∷◌, Option, Some, None, refl, ap, sym, ◌∙◌}
 use Rattle.std.specs.Prelude.{if◌then◌else◌}
+use mathlib.Core.Path.{fun_ext}
 use Rattle.o2_isa.specs.declared.cpu.Cpu.{Cpu}
 use Rattle.o2_world.specs.declared.types.State.{State}
 use Rattle.o2_world.specs.World.{Process, is_live}
@@ -15,7 +16,7 @@ use Rattle.o2_boundless.specs.Shown.{Shown, before_call}
 use Rattle.o2_boundless.specs.Outcomes.{IsOutcome, written, worked_slowly}
 use Rattle.o2_boundless.specs.Edits.{changes_of}
 use Rattle.o2_boundless.specs.Worked.{worked_from, worked_by}
-use Rattle.o2_boundless.specs.Called.{effect_by, behind_effect, behind_by, answer_of, answer_by}
+use Rattle.o2_boundless.specs.Called.{effect_by, row_with, behind_effect, behind_by, answer_of, answer_by}
 
 same_worked : (v : Shown) (n : ℕ) (p : Process) (c d : Cpu) (s t : State) (f g : ℕ → List ℕ) (i j k l m o : List ℕ) → c ≡ d → s ≡ t → f ≡ g → i ≡ j → k ≡ l → m ≡ o
     → worked_from v n p c s f i k m ≡ worked_from v n p d t g j l o
@@ -52,14 +53,37 @@ pub ruleset behind = behind_is
 pub answer_is : (x : Outcome) (v : Shown) (n : ℕ) (p : Process) (e : Effect) → IsOutcome (before_call v n p) x e → (if is_live x.state then x.cpu.ax else 0) ≡ answer_of e
 answer_is x v n p e o = ap (λ s. if is_live s then x.cpu.ax else 0) o.state ∙ ap (λ c. if is_live e.state then c.ax else 0) o.cpu
 
--- a call of a process and a row that there are
-pub call_is : (v : Shown) (n : ℕ) (args : List ℕ) (o : Option Process) (r : Option Row) (p : Process) (row : Row) (w : Shown) → Some p ≡ o → Some row ≡ r
-    → w ≡ behind_effect v n p (effect_by v n p row args) → w ≡ behind_by v n args o r
-call_is v n args o r p row w e f h = h ∙ (ap (λ o. behind_by v n args o (Some row)) e ∙ ap (behind_by v n args o) f)
+-- zeros behind the arguments change none
 
-pub error_is : (v : Shown) (n : ℕ) (args : List ℕ) (o : Option Process) (r : Option Row) (p : Process) (row : Row) (a : ℕ) → Some p ≡ o → Some row ≡ r
-    → a ≡ answer_of (effect_by v n p row args) → a ≡ answer_by v n args o r
-error_is v n args o r p row a e f h = h ∙ (ap (λ o. answer_by v n args o (Some row)) e ∙ ap (answer_by v n args o) f)
+zero_at : (n i : ℕ) → get_or (replicate n 0) i 0 ≡ 0
+zero_at zero i = refl
+zero_at (suc n) zero = refl
+zero_at (suc n) (suc i) = zero_at n i
+
+pad_at : (args : List ℕ) (n i : ℕ) → get_or (args ++ replicate n 0) i 0 ≡ get_or args i 0
+pad_at [] n i = zero_at n i
+pad_at (a ∷ args) n zero = refl
+pad_at (a ∷ args) n (suc i) = pad_at args n i
+
+padded_is : (v : Shown) (n : ℕ) (p : Process) (row : Row) (args all : List ℕ) → all ≡ args ++ replicate 6 0 → effect_by v n p row all ≡ effect_by v n p row args
+padded_is v n p row args all e =
+    ap (effect_by v n p row) e
+    ∙ ap (λ (a : ℕ → ℕ). row_with row (before_call v n p) p.cpu.ip a) (fun_ext (pad_at args 6))
+
+-- a call of a process and a row that there are
+pub call_is : (v : Shown) (n : ℕ) (args all : List ℕ) (o : Option Process) (r : Option Row) (p : Process) (row : Row) (w : Shown) → Some p ≡ o → Some row ≡ r → all ≡ args ++ replicate 6 0
+    → w ≡ behind_effect v n p (effect_by v n p row all) → w ≡ behind_by v n args o r
+call_is v n args all o r p row w e f a h =
+    h
+    ∙ (ap (behind_effect v n p) (padded_is v n p row args all a)
+    ∙ (ap (λ o. behind_by v n args o (Some row)) e ∙ ap (behind_by v n args o) f))
+
+pub error_is : (v : Shown) (n : ℕ) (args all : List ℕ) (o : Option Process) (r : Option Row) (p : Process) (row : Row) (x : ℕ) → Some p ≡ o → Some row ≡ r → all ≡ args ++ replicate 6 0
+    → x ≡ answer_of (effect_by v n p row all) → x ≡ answer_by v n args o r
+error_is v n args all o r p row x e f a h =
+    h
+    ∙ (ap answer_of (padded_is v n p row args all a)
+    ∙ (ap (λ o. answer_by v n args o (Some row)) e ∙ ap (answer_by v n args o) f))
 
 pub ruleset called = (call_is, error_is)
 

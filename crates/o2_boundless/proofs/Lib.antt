@@ -9,3 +9,4 @@ pub mod Writing
 pub mod Telling
 pub mod Rows
 pub mod Behind
+pub mod Kept

@@ -20,6 +20,25 @@ use Rattle.o2_world.specs.Text.{lines_text}
 use Rattle.o2_boundless.specs.Shown.{Shown, before_call}
 use Rattle.o2_boundless.specs.Outcomes.{worked_slowly}
 
+-- how many words a row's arguments have
+abbrev pub words_of : Row → ℕ
+words_of DosExit = 2
+words_of DosGetPid = 2
+words_of DosRead = 6
+words_of DosWrite = 6
+words_of DosMemAvail = 2
+words_of (OnSegments DosAllocSeg) = 4
+words_of (OnSegments DosReallocSeg) = 2
+words_of (OnSegments DosFreeSeg) = 1
+words_of (OnSegments DosSizeSeg) = 3
+words_of (OnSegments DosLockSeg) = 1
+words_of (OnSegments DosUnlockSeg) = 1
+words_of (OnSegments DosCreateCsAlias) = 3
+words_of (OnShared DosAllocShrSeg) = 5
+words_of (OnShared DosGetShrSeg) = 4
+words_of (OnShared DosGiveSeg) = 4
+words_of (OnShared DosGetSeg) = 1
+
 -- DosExit with its arguments
 abbrev pub exited : Before → (action code : ℕ) → Effect
 exited b action code = record {

@@ -1,5 +1,6 @@
 // A call of a process.
-ghost use Rattle.std.specs.Prelude.{◌≡◌, true, IfOk, OnErr, OnOk, slice_index};
+ghost use Rattle.std.specs.Prelude.{◌≡◌, ◌≤◌, ◌++◌, true, IfOk, OnErr, OnOk, length, replicate, slice_index};
+ghost use Rattle.o2_world.specs.declared.types.Row.TheVariants.{OnSegments};
 ghost use Rattle.o2_world.specs.Calls.{row_of};
 ghost use Rattle.o2_world.specs.Known.{lives_at};
 ghost use Rattle.o2_world.specs.Holders.{process_at};
@@ -37,14 +38,14 @@ fn row_of(service: u16) -> Option<Row>
     }
 }
 
-/// An argument, and 0 behind the last one.
-fn word(args: &[u16], place: usize) -> u16
-    ensures { result ≡ slice_index args.now place }
+/// The arguments, and zeros behind them, so that there are six at least.
+fn padded(alloc: Global, args: &[u16]) -> Result<Vec<u16>, NoMemory>
+    ensures { IfOk result (λ v. v.items ≡ args.now ++ replicate 6 0) }
 {
-    match args.get(place) {
-        Some(word) => *word,
-        None => 0,
-    }
+    let mut all = Vec::from_slice(alloc, args)?;
+    let zeros = vec![in alloc; 0; 6]?;
+    all.extend_from_slice(&zeros)?;
+    Ok(all)
 }
 
 impl World {
@@ -57,17 +58,18 @@ impl World {
         call: SegmentCall,
         a: &[u16],
     ) -> Result<Outcome, NoMemory>
+        requires { 6 ≤ length a.now }
         ensures { IfOk result (λ x. IsOutcome (before_call self.now n process.now) x (effect_by self.now n process.now (OnSegments call) a.now)) }
     {
         match call {
-            SegmentCall::DosAllocSeg => self.alloc_seg(alloc, n, process, word(a, 0), word(a, 1), word(a, 2), word(a, 3)),
-            SegmentCall::DosReallocSeg => self.realloc_seg(alloc, n, process, word(a, 0), word(a, 1)),
-            SegmentCall::DosFreeSeg => self.free_seg(alloc, n, process, word(a, 0)),
-            SegmentCall::DosSizeSeg => self.size_seg(alloc, n, process, word(a, 0), word(a, 1), word(a, 2)),
-            SegmentCall::DosLockSeg => self.lock_seg(alloc, n, process, word(a, 0)),
-            SegmentCall::DosUnlockSeg => self.unlock_seg(alloc, n, process, word(a, 0)),
+            SegmentCall::DosAllocSeg => self.alloc_seg(alloc, n, process, a[0], a[1], a[2], a[3]),
+            SegmentCall::DosReallocSeg => self.realloc_seg(alloc, n, process, a[0], a[1]),
+            SegmentCall::DosFreeSeg => self.free_seg(alloc, n, process, a[0]),
+            SegmentCall::DosSizeSeg => self.size_seg(alloc, n, process, a[0], a[1], a[2]),
+            SegmentCall::DosLockSeg => self.lock_seg(alloc, n, process, a[0]),
+            SegmentCall::DosUnlockSeg => self.unlock_seg(alloc, n, process, a[0]),
             SegmentCall::DosCreateCsAlias => {
-                self.create_cs_alias(alloc, n, process, word(a, 0), word(a, 1), word(a, 2))
+                self.create_cs_alias(alloc, n, process, a[0], a[1], a[2])
             }
         }
     }
@@ -80,14 +82,15 @@ impl World {
         row: Row,
         a: &[u16],
     ) -> Result<Outcome, NoMemory>
+        requires { 6 ≤ length a.now }
         ensures { IfOk result (λ x. IsOutcome (before_call self.now n process.now) x (effect_by self.now n process.now row a.now)) }
     {
         match row {
-            Row::DosExit => exit(alloc, n, process, word(a, 0), word(a, 1)),
-            Row::DosGetPid => self.get_pid(alloc, n, process, word(a, 0), word(a, 1)),
+            Row::DosExit => exit(alloc, n, process, a[0], a[1]),
+            Row::DosGetPid => self.get_pid(alloc, n, process, a[0], a[1]),
             Row::DosRead => self.read(alloc, n, process, &transfer_by(a)),
             Row::DosWrite => self.write(alloc, n, process, &transfer_by(a)),
-            Row::DosMemAvail => self.mem_avail(alloc, n, process, word(a, 0), word(a, 1)),
+            Row::DosMemAvail => self.mem_avail(alloc, n, process, a[0], a[1]),
             Row::OnSegments(call) => self.on_segments(alloc, n, process, call, a),
             Row::OnShared(_) => Err(NoMemory),
         }
@@ -154,7 +157,7 @@ impl World {
         let Some(row) = row_of(service) else {
             return Err(NoMemory);
         };
-        self.called_by(alloc, pid, process, row, args)
+        self.called_by(alloc, pid, process, row, &padded(alloc, args)?)
     }
 
     #[tactic(auto, using(crate::proofs::Behind::answered))]
@@ -166,6 +169,7 @@ impl World {
         row: Row,
         args: &[u16],
     ) -> Result<(World, u16), NoMemory>
+        requires { 6 ≤ length args.now }
         ensures world { IfOk result (λ r. r.0 ≡ behind_effect self.now n process.now (effect_by self.now n process.now row args.now)) }
         ensures error { IfOk result (λ r. r.1 ≡ answer_of (effect_by self.now n process.now row args.now)) }
     {
@@ -177,14 +181,15 @@ impl World {
 }
 
 fn transfer_by(a: &[u16]) -> Transfer
+    requires { 6 ≤ length a.now }
     ensures { result ≡ transfer_by (slice_index a.now) }
 {
     Transfer {
-        handle: word(a, 0),
-        selector: word(a, 1),
-        offset: word(a, 2),
-        count: word(a, 3),
-        done_selector: word(a, 4),
-        done_offset: word(a, 5),
+        handle: a[0],
+        selector: a[1],
+        offset: a[2],
+        count: a[3],
+        done_selector: a[4],
+        done_offset: a[5],
     }
 }

@@ -4,6 +4,7 @@
 mod call;
 mod changing;
 mod choosing;
+mod laws;
 mod look;
 mod outcome;
 mod own_rows;
@@ -14,5 +15,6 @@ mod segment_rows;
 mod working;
 mod world;
 
+pub use laws::a_call_is_that_of_a_step;
 pub use parts::{Held, How, Process, Reserve, Segment};
 pub use world::World;

@@ -1,5 +1,6 @@
 // The rows of the calls of a process itself, its input and its console.
 ghost use Rattle.std.specs.Prelude.{◌≡◌, ◌∷◌, [], ◌≤◌, IfOk, length, take};
+ghost use Rattle.o2_world.specs.declared.types.Argument.TheVariants.{Word, Far};
 ghost use Rattle.o2_world.specs.World.{Calls};
 ghost use Rattle.o2_world.specs.CallParts.{Before, returned, word_bytes};
 ghost use Rattle.o2_world.specs.Calls.{read_from, written as transferred};
