@@ -44,6 +44,7 @@ pub struct Reply {
 }
 
 /// The line of a call.
+#[derive(Drop)]
 pub(crate) struct Named<'a> {
     pub number: u16,
     pub name: &'a [u8],

@@ -12,6 +12,7 @@ use crate::outcome::{Named, Outcome, returned, trapped};
 use crate::pointing::{Write, may_read, may_write, range};
 use crate::{Process, World};
 use o2_base::NoMemory;
+use o2_isa::Cpu;
 use o2_report::{LineBuffer, set_calls, set_ends, set_exits};
 use o2_world::{Argument, State, Transfer};
 use std::alloc::Global;
