@@ -10,3 +10,4 @@ pub mod Telling
 pub mod Rows
 pub mod Behind
 pub mod Kept
+pub mod OwnRows

@@ -7,3 +7,5 @@ pub mod Verdicts
 pub mod Outcomes
 pub mod Called
 pub mod Worked
+pub mod Plain
+pub mod Bare

@@ -1,16 +1,19 @@
 // The rows of the calls of a process itself, its input and its console.
-ghost use Rattle.std.specs.Prelude.{◌≡◌, ◌∷◌, [], ◌≤◌, IfOk, length, take};
-ghost use Rattle.o2_world.specs.declared.types.Argument.TheVariants.{Word, Far};
+ghost use Rattle.std.specs.Prelude.{◌≡◌, ◌∷◌, [], ◌≤◌, ◌/◌, ◌%◌, ◌==◌, ◌&&◌, IfOk, codes, length, take, drop, if◌then◌else◌};
+ghost use Rattle.o2_isa.specs.Pointers.{may_read as reads, may_write as writes_to};
+ghost use Rattle.o2_world.specs.declared.types.Argument.TheVariants.{Word, Long, Far};
 ghost use Rattle.o2_world.specs.World.{Calls};
-ghost use Rattle.o2_world.specs.CallParts.{Before, returned, word_bytes};
-ghost use Rattle.o2_world.specs.Calls.{read_from, written as transferred};
+ghost use Rattle.o2_world.specs.CallParts.{Before, word_bytes, long_bytes};
+ghost use Rattle.o2_world.specs.Views.{view_of};
+ghost use Rattle.o2_world.specs.Calls.{read_from, read_with, gives, is_console, not_transferred, pid_bytes, written as transferred};
 ghost use Rattle.o2_boundless.specs.Shown.{before_call};
 ghost use Rattle.o2_boundless.specs.Outcomes.{IsOutcome, plain};
+ghost use Rattle.o2_boundless.specs.Plain.{WritesOne, WritesTwo, told_good};
 ghost use Rattle.o2_boundless.specs.Called.{exited, pid_told, avail_told};
 
 use crate::outcome::{Named, Outcome, returned, trapped};
 use crate::pointing::{Write, may_read, may_write, range};
-use crate::{Process, World};
+use crate::{Process, Segment, World};
 use o2_base::NoMemory;
 use o2_isa::Cpu;
 use o2_report::{LineBuffer, set_calls, set_ends, set_exits};
@@ -42,8 +45,16 @@ pub(crate) fn exit(
     })
 }
 
-fn one_write(alloc: Global, selector: u16, offset: u16, part: Vec<u8>) -> Result<Vec<Write>, NoMemory>
-    ensures { IfOk result (λ v. v.items ≡ (record { selector = selector; offset = offset; part = part }) ∷ []) }
+// Writes.
+
+#[tactic(auto, using(crate::proofs::OwnRows::one))]
+fn one_write(
+    alloc: Global,
+    selector: u16,
+    offset: u16,
+    part: Vec<u8>,
+) -> Result<Vec<Write>, NoMemory>
+    ensures { IfOk result (λ v. WritesOne v.items selector offset part.items) }
 {
     let mut writes = Vec::new(alloc);
     writes.push(Write {
@@ -51,6 +62,16 @@ fn one_write(alloc: Global, selector: u16, offset: u16, part: Vec<u8>) -> Result
         offset,
         part,
     })?;
+    Ok(writes)
+}
+
+#[tactic(auto, using(crate::proofs::OwnRows::two))]
+fn two_writes(alloc: Global, first: Write, second: Write) -> Result<Vec<Write>, NoMemory>
+    ensures { IfOk result (λ v. WritesTwo v.items first second) }
+{
+    let mut writes = Vec::new(alloc);
+    writes.push(first)?;
+    writes.push(second)?;
     Ok(writes)
 }
 
@@ -92,7 +113,107 @@ fn plainly(
     })
 }
 
+// DosGetPID(pinfo), DosMemAvail(psize)
+
+/// A call with a good pointer behind which it writes these bytes.
+fn told_good(
+    alloc: Global,
+    number: u16,
+    cpu: &Cpu,
+    name: &[u8],
+    selector: u16,
+    offset: u16,
+    part: Vec<u8>,
+    values: &[Argument],
+) -> Result<Outcome, NoMemory>
+    requires short_name { length name.now ≤ 20 }
+    requires few_values { length values.now ≤ 4 }
+    ensures { IfOk result (λ x. (b : Before) → b.number ≡ number → b.cpu ≡ cpu.now → IsOutcome b x
+        (told_good b name.now part.items values.now selector offset)) }
+{
+    let args = [Argument::Far(selector, offset)];
+    let call = Named {
+        number,
+        name,
+        args: &args,
+    };
+    let writes = one_write(alloc, selector, offset, part)?;
+    let after = returned(cpu, 2, 0);
+    let piece = Vec::new(alloc);
+    plainly(alloc, &call, after, writes, 0, piece, 0, values)
+}
+
+fn pid_bytes(alloc: Global, number: u16) -> Result<Vec<u8>, NoMemory>
+    ensures { IfOk result (λ v. v.items ≡ pid_bytes number) }
+{
+    Ok(vec![in alloc; (number % 256) as u8, (number / 256) as u8, 1, 0, 0, 0]?)
+}
+
+fn long_bytes(alloc: Global, number: u32) -> Result<Vec<u8>, NoMemory>
+    ensures { IfOk result (λ v. v.items ≡ long_bytes number) }
+{
+    let low = number % 65536;
+    let high = number / 65536;
+    Ok(vec![
+        in alloc;
+        (low % 256) as u8,
+        (low / 256) as u8,
+        (high % 256) as u8,
+        (high / 256) as u8
+    ]?)
+}
+
+fn pid_good(
+    alloc: Global,
+    number: u16,
+    cpu: &Cpu,
+    selector: u16,
+    offset: u16,
+) -> Result<Outcome, NoMemory>
+    ensures { IfOk result (λ x. (b : Before) → b.number ≡ number → b.cpu ≡ cpu.now → IsOutcome b x
+        (told_good b (codes "DosGetPID") (pid_bytes number) (Word number ∷ Word 1 ∷ Word 0 ∷ []) selector offset)) }
+{
+    let part = pid_bytes(alloc, number)?;
+    let values = [Argument::Word(number), Argument::Word(1), Argument::Word(0)];
+    told_good(
+        alloc,
+        number,
+        cpu,
+        b"DosGetPID",
+        selector,
+        offset,
+        part,
+        &values,
+    )
+}
+
+fn avail_good(
+    alloc: Global,
+    number: u16,
+    cpu: &Cpu,
+    avail: u32,
+    selector: u16,
+    offset: u16,
+) -> Result<Outcome, NoMemory>
+    ensures { IfOk result (λ x. (b : Before) → b.number ≡ number → b.cpu ≡ cpu.now → IsOutcome b x
+        (told_good b (codes "DosMemAvail") (long_bytes avail) (Long (avail / 65536) (avail % 65536) ∷ []) selector offset)) }
+{
+    let part = long_bytes(alloc, avail)?;
+    let values = [Argument::Long((avail / 65536) as u16, (avail % 65536) as u16)];
+    told_good(
+        alloc,
+        number,
+        cpu,
+        b"DosMemAvail",
+        selector,
+        offset,
+        part,
+        &values,
+    )
+}
+
 impl World {
+    #[tactic(auto, using(crate::proofs::Rows::tests))]
     pub(crate) fn get_pid(
         &self,
         alloc: Global,
@@ -101,25 +222,17 @@ impl World {
         selector: u16,
         offset: u16,
     ) -> Result<Outcome, NoMemory>
-        ensures { IfOk result (λ x. let b = before_call self.now number process.now in
-            IsOutcome b x (pid_told b b.cpu.ip selector offset)) }
+        ensures { IfOk result (λ x. IsOutcome (before_call self.now number process.now) x
+            (pid_told (before_call self.now number process.now) process.now.cpu.ip selector offset)) }
     {
-        if !may_write(&self.names, process, selector, offset, 6) {
-            return trapped(alloc, number, &process.cpu, 13);
+        if may_write(&self.names, process, selector, offset, 6) {
+            pid_good(alloc, number, &process.cpu, selector, offset)
+        } else {
+            trapped(alloc, number, &process.cpu, 13)
         }
-        let args = [Argument::Far(selector, offset)];
-        let call = Named {
-            number,
-            name: b"DosGetPID",
-            args: &args,
-        };
-        let part = vec![in alloc; (number % 256) as u8, (number / 256) as u8, 1, 0, 0, 0]?;
-        let writes = one_write(alloc, selector, offset, part)?;
-        let values = [Argument::Word(number), Argument::Word(1), Argument::Word(0)];
-        let after = returned(&process.cpu, 2, 0);
-        plainly(alloc, &call, after, writes, 0, Vec::new(alloc), 0, &values)
     }
 
+    #[tactic(auto, using(crate::proofs::Rows::tests))]
     pub(crate) fn mem_avail(
         &self,
         alloc: Global,
@@ -128,166 +241,85 @@ impl World {
         selector: u16,
         offset: u16,
     ) -> Result<Outcome, NoMemory>
-        ensures { IfOk result (λ x. let b = before_call self.now number process.now in
-            IsOutcome b x (avail_told b b.cpu.ip selector offset)) }
+        ensures { IfOk result (λ x. IsOutcome (before_call self.now number process.now) x
+            (avail_told (before_call self.now number process.now) process.now.cpu.ip selector offset)) }
     {
-        if !may_write(&self.names, process, selector, offset, 4) {
-            return trapped(alloc, number, &process.cpu, 13);
+        if may_write(&self.names, process, selector, offset, 4) {
+            avail_good(
+                alloc,
+                number,
+                &process.cpu,
+                self.avail,
+                selector,
+                offset,
+            )
+        } else {
+            trapped(alloc, number, &process.cpu, 13)
         }
-        let args = [Argument::Far(selector, offset)];
-        let call = Named {
-            number,
-            name: b"DosMemAvail",
-            args: &args,
-        };
-        let low = self.avail % 65536;
-        let high = self.avail / 65536;
-        let part = vec![
-            in alloc;
-            (low % 256) as u8,
-            (low / 256) as u8,
-            (high % 256) as u8,
-            (high / 256) as u8
-        ]?;
-        let writes = one_write(alloc, selector, offset, part)?;
-        let values = [Argument::Long(high as u16, low as u16)];
-        let after = returned(&process.cpu, 2, 0);
-        plainly(alloc, &call, after, writes, 0, Vec::new(alloc), 0, &values)
-    }
-
-    /// A transfer that is refused: nothing changes but AX and the stack.
-    fn not_transferred(
-        alloc: Global,
-        call: &Named,
-        process: &Process,
-        done: u16,
-    ) -> Result<Outcome, NoMemory>
-        requires short_name { length call.now.name.now ≤ 20 }
-        requires few_args { length call.now.args.now ≤ 12 }
-        ensures { IfOk result (λ x. (b : Before) → b.number ≡ call.now.number → b.cpu ≡ process.now.cpu → IsOutcome b x
-            (plain b (returned b.cpu b.cpu.ip 6 6) [] 0 [] (Calls b.number call.now.name.now call.now.args.now 6 (Word done ∷ [])))) }
-    {
-        let after = returned(&process.cpu, 6, 6);
-        plainly(
-            alloc,
-            call,
-            after,
-            Vec::new(alloc),
-            0,
-            Vec::new(alloc),
-            6,
-            &[Argument::Word(done)],
-        )
-    }
-
-    pub(crate) fn write(
-        &self,
-        alloc: Global,
-        number: u16,
-        process: &Process,
-        t: &Transfer,
-    ) -> Result<Outcome, NoMemory>
-        ensures { IfOk result (λ x. let b = before_call self.now number process.now in
-            IsOutcome b x (transferred b b.cpu.ip t.now)) }
-    {
-        let args = transfer_args(t);
-        let call = Named {
-            number,
-            name: b"DosWrite",
-            args: &args,
-        };
-        if !(may_read(&self.names, process, t.selector, t.offset, t.count)
-            && may_write(&self.names, process, t.done_selector, t.done_offset, 2))
-        {
-            return trapped(alloc, number, &process.cpu, 13);
-        }
-        if !(t.handle == 1 || t.handle == 2) {
-            return World::not_transferred(alloc, &call, process, t.count);
-        }
-        let piece = range(
-            alloc,
-            &self.names,
-            process,
-            t.selector,
-            t.offset,
-            t.count,
-        )?;
-        let done = word_bytes(alloc, t.count)?;
-        let writes = one_write(alloc, t.done_selector, t.done_offset, done)?;
-        let after = returned(&process.cpu, 6, 0);
-        plainly(
-            alloc,
-            &call,
-            after,
-            writes,
-            0,
-            piece,
-            0,
-            &[Argument::Word(t.count)],
-        )
-    }
-
-    pub(crate) fn read(
-        &self,
-        alloc: Global,
-        number: u16,
-        process: &Process,
-        t: &Transfer,
-    ) -> Result<Outcome, NoMemory>
-        ensures { IfOk result (λ x. let b = before_call self.now number process.now in
-            IsOutcome b x (read_from b b.cpu.ip t.now)) }
-    {
-        let args = transfer_args(t);
-        let call = Named {
-            number,
-            name: b"DosRead",
-            args: &args,
-        };
-        if !(may_write(&self.names, process, t.selector, t.offset, t.count)
-            && may_write(&self.names, process, t.done_selector, t.done_offset, 2))
-        {
-            return trapped(alloc, number, &process.cpu, 13);
-        }
-        if t.handle != 0 {
-            return World::not_transferred(alloc, &call, process, 0);
-        }
-        let got = Vec::from_slice(alloc, front(self.input.as_slice(), t.count))?;
-        let count = got.len() as u16;
-        let done = word_bytes(alloc, count)?;
-        let writes = two_writes(
-            alloc,
-            Write {
-                selector: t.selector,
-                offset: t.offset,
-                part: got,
-            },
-            Write {
-                selector: t.done_selector,
-                offset: t.done_offset,
-                part: done,
-            },
-        )?;
-        let after = returned(&process.cpu, 6, 0);
-        plainly(
-            alloc,
-            &call,
-            after,
-            writes,
-            t.count as usize,
-            Vec::new(alloc),
-            0,
-            &[Argument::Word(count)],
-        )
     }
 }
 
-fn two_writes(alloc: Global, first: Write, second: Write) -> Result<Vec<Write>, NoMemory>
-    ensures { IfOk result (λ v. v.items ≡ first ∷ second ∷ []) }
+// DosWrite(handle, buffer, count, pdone), DosRead(handle, buffer, count, pdone)
+
+fn transfer_args(t: &Transfer) -> [Argument; 4]
+    ensures { result ≡ Word t.now.handle ∷ Far t.now.selector t.now.offset ∷ Word t.now.count ∷ Far t.now.done_selector t.now.done_offset ∷ [] }
 {
-    let mut writes = Vec::new(alloc);
-    writes.push(first)?;
-    writes.push(second)?;
-    Ok(writes)
+    [
+        Argument::Word(t.handle),
+        Argument::Far(t.selector, t.offset),
+        Argument::Word(t.count),
+        Argument::Far(t.done_selector, t.done_offset),
+    ]
+}
+
+/// A transfer that is refused: nothing changes but AX and the stack.
+fn not_transferred(
+    alloc: Global,
+    number: u16,
+    cpu: &Cpu,
+    name: &[u8],
+    t: &Transfer,
+    done: u16,
+) -> Result<Outcome, NoMemory>
+    requires { length name.now ≤ 20 }
+    ensures { IfOk result (λ x. (b : Before) → b.number ≡ number → b.cpu ≡ cpu.now → IsOutcome b x
+        (not_transferred name.now b b.cpu.ip t.now done)) }
+{
+    let args = transfer_args(t);
+    let call = Named {
+        number,
+        name,
+        args: &args,
+    };
+    let values = [Argument::Word(done)];
+    let after = returned(cpu, 6, 6);
+    let writes = Vec::new(alloc);
+    let piece = Vec::new(alloc);
+    plainly(alloc, &call, after, writes, 0, piece, 6, &values)
+}
+
+fn gives(
+    alloc: Global,
+    names: &[(u64, Segment)],
+    number: u16,
+    process: &Process,
+    t: &Transfer,
+) -> Result<Outcome, NoMemory>
+    ensures { IfOk result (λ x. (b : Before) → b.number ≡ number → b.cpu ≡ process.now.cpu → b.view ≡ view_of names.now process.now
+        → IsOutcome b x (gives b b.cpu.ip t.now)) }
+{
+    let args = transfer_args(t);
+    let call = Named {
+        number,
+        name: b"DosWrite",
+        args: &args,
+    };
+    let values = [Argument::Word(t.count)];
+    let after = returned(&process.cpu, 6, 0);
+    let piece = range(alloc, names, process, t.selector, t.offset, t.count)?;
+    let done = word_bytes(alloc, t.count)?;
+    let writes = one_write(alloc, t.done_selector, t.done_offset, done)?;
+    plainly(alloc, &call, after, writes, 0, piece, 0, &values)
 }
 
 #[tactic(auto, using(std::proofs::lemmas::List::take_all))]
@@ -302,14 +334,146 @@ fn front(bytes: &[u8], count: u16) -> &[u8]
     }
 }
 
-fn transfer_args(t: &Transfer) -> [Argument; 4]
-    ensures { result ≡ Word t.now.handle ∷ Far t.now.selector t.now.offset ∷ Word t.now.count ∷ Far t.now.done_selector t.now.done_offset ∷ [] }
+fn takes(
+    alloc: Global,
+    input: &[u8],
+    number: u16,
+    cpu: &Cpu,
+    t: &Transfer,
+) -> Result<Outcome, NoMemory>
+    ensures { IfOk result (λ x. (b : Before) → b.number ≡ number → b.cpu ≡ cpu.now → b.input ≡ input.now
+        → IsOutcome b x (read_with b b.cpu.ip t.now (take t.now.count b.input) (drop t.now.count b.input))) }
 {
-    [
-        Argument::Word(t.handle),
-        Argument::Far(t.selector, t.offset),
-        Argument::Word(t.count),
-        Argument::Far(t.done_selector, t.done_offset),
-    ]
+    let args = transfer_args(t);
+    let call = Named {
+        number,
+        name: b"DosRead",
+        args: &args,
+    };
+    let got = front(input, t.count);
+    let count = got.len() as u16;
+    let values = [Argument::Word(count)];
+    let after = returned(cpu, 6, 0);
+    let done = word_bytes(alloc, count)?;
+    let first = Write {
+        selector: t.selector,
+        offset: t.offset,
+        part: Vec::from_slice(alloc, got)?,
+    };
+    let second = Write {
+        selector: t.done_selector,
+        offset: t.done_offset,
+        part: done,
+    };
+    let writes = two_writes(alloc, first, second)?;
+    let piece = Vec::new(alloc);
+    plainly(
+        alloc,
+        &call,
+        after,
+        writes,
+        t.count as usize,
+        piece,
+        0,
+        &values,
+    )
 }
 
+fn is_console(handle: u16) -> bool
+    ensures { result ≡ is_console handle }
+{
+    handle == 1 || handle == 2
+}
+
+/// Both pointers of a DosWrite are good.
+fn may_give(names: &[(u64, Segment)], process: &Process, t: &Transfer) -> bool
+    ensures { result ≡ (reads (view_of names.now process.now) t.now.selector t.now.offset t.now.count
+        && writes_to (view_of names.now process.now) t.now.done_selector t.now.done_offset 2) }
+{
+    may_read(names, process, t.selector, t.offset, t.count)
+        && may_write(names, process, t.done_selector, t.done_offset, 2)
+}
+
+/// Both pointers of a DosRead are good.
+fn may_take(names: &[(u64, Segment)], process: &Process, t: &Transfer) -> bool
+    ensures { result ≡ (writes_to (view_of names.now process.now) t.now.selector t.now.offset t.now.count
+        && writes_to (view_of names.now process.now) t.now.done_selector t.now.done_offset 2) }
+{
+    may_write(names, process, t.selector, t.offset, t.count)
+        && may_write(names, process, t.done_selector, t.done_offset, 2)
+}
+
+#[tactic(auto, using(crate::proofs::Rows::tests))]
+fn written(
+    alloc: Global,
+    names: &[(u64, Segment)],
+    number: u16,
+    process: &Process,
+    t: &Transfer,
+) -> Result<Outcome, NoMemory>
+    ensures { IfOk result (λ x. (b : Before) → b.number ≡ number → b.cpu ≡ process.now.cpu → b.view ≡ view_of names.now process.now
+        → IsOutcome b x (if is_console t.now.handle then gives b b.cpu.ip t.now else not_transferred (codes "DosWrite") b b.cpu.ip t.now t.now.count)) }
+{
+    if is_console(t.handle) {
+        gives(alloc, names, number, process, t)
+    } else {
+        not_transferred(alloc, number, &process.cpu, b"DosWrite", t, t.count)
+    }
+}
+
+#[tactic(auto, using(crate::proofs::Rows::tests))]
+fn taken(
+    alloc: Global,
+    input: &[u8],
+    number: u16,
+    cpu: &Cpu,
+    t: &Transfer,
+) -> Result<Outcome, NoMemory>
+    ensures { IfOk result (λ x. (b : Before) → b.number ≡ number → b.cpu ≡ cpu.now → b.input ≡ input.now
+        → IsOutcome b x (if t.now.handle == 0 then read_with b b.cpu.ip t.now (take t.now.count b.input) (drop t.now.count b.input)
+        else not_transferred (codes "DosRead") b b.cpu.ip t.now 0)) }
+{
+    if t.handle == 0 {
+        takes(alloc, input, number, cpu, t)
+    } else {
+        not_transferred(alloc, number, cpu, b"DosRead", t, 0)
+    }
+}
+
+impl World {
+    #[tactic(auto, using(crate::proofs::Rows::tests))]
+    pub(crate) fn write(
+        &self,
+        alloc: Global,
+        number: u16,
+        process: &Process,
+        t: &Transfer,
+    ) -> Result<Outcome, NoMemory>
+        ensures { IfOk result (λ x. IsOutcome (before_call self.now number process.now) x
+            (transferred (before_call self.now number process.now) process.now.cpu.ip t.now)) }
+    {
+        if may_give(&self.names, process, t) {
+            written(alloc, &self.names, number, process, t)
+        } else {
+            trapped(alloc, number, &process.cpu, 13)
+        }
+    }
+
+    #[tactic(auto, using(crate::proofs::Rows::tests))]
+    pub(crate) fn read(
+        &self,
+        alloc: Global,
+        number: u16,
+        process: &Process,
+        t: &Transfer,
+    ) -> Result<Outcome, NoMemory>
+        ensures { IfOk result (λ x. IsOutcome (before_call self.now number process.now) x
+            (read_from (before_call self.now number process.now) process.now.cpu.ip t.now)) }
+    {
+        if may_take(&self.names, process, t) {
+            taken(alloc, self.input.as_slice(), number, &process.cpu, t)
+        } else {
+            trapped(alloc, number, &process.cpu, 13)
+        }
+    }
+}

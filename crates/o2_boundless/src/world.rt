@@ -1,5 +1,6 @@
 // The world, and its copies.
 ghost use Rattle.std.specs.Prelude.{◌≡◌, IfOk};
+ghost use Rattle.o2_boundless.specs.Bare.{bare_world};
 
 use crate::{Process, Reserve, Segment};
 use o2_base::{Bytes, NoMemory};
@@ -101,6 +102,29 @@ pub(crate) fn copied_texts(alloc: Global, texts: &[(Bytes, u64)]) -> Result<Vec<
 }
 
 impl World {
+    /// A world without processes, in which so many names may live, with the number that DosMemAvail gives.
+    pub fn new(alloc: Global, segments: u32, avail: u32) -> Result<World, NoMemory>
+        ensures { IfOk result (λ w. w ≡ bare_world segments avail) }
+    {
+        Ok(World {
+            names: Vec::new(alloc),
+            next_name: 0,
+            processes: Vec::new(alloc),
+            reserved: Vec::new(alloc),
+            texts: Vec::new(alloc),
+            input: Bytes::new(Vec::new(alloc)),
+            console: Bytes::new(Vec::new(alloc)),
+            lines: Bytes::new(Vec::new(alloc)),
+            script: Script::new(Vec::new(alloc)),
+            current: 0,
+            left: 0,
+            turn: 0,
+            budget: 0,
+            segments,
+            avail,
+        })
+    }
+
     /// A copy.
     pub fn copy(&self, alloc: Global) -> Result<World, NoMemory>
         ensures { IfOk result (λ w. w ≡ self.now) }
