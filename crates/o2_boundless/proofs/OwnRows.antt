@@ -44,44 +44,44 @@ told_row (Ok x) n c cpu name part piece values s o ws d w p h = λ b e f. let i 
   lines = i.lines;
 }
 
-pub not_row : (r : Result Outcome NoMemory) (n : ℕ) (c cpu : Cpu) (name piece : List ℕ) (t : Transfer) (done : ℕ) (ws : List Write)
-    → cpu ≡ returned c c.ip 6 6 → ws ≡ [] → piece ≡ []
-    → IfOk r (λ x. (a : Before) → a.number ≡ n → IsOutcome a x (plain a cpu ws 0 piece (Calls a.number name (args_of t) 6 (Word done ∷ []))))
+pub not_row : (r : Result Outcome NoMemory) (n : ℕ) (c cpu : Cpu) (name piece : List ℕ) (args : List Argument) (t : Transfer) (done : ℕ) (ws : List Write)
+    → cpu ≡ returned c c.ip 6 6 → ws ≡ [] → piece ≡ [] → args ≡ args_of t
+    → IfOk r (λ x. (a : Before) → a.number ≡ n → IsOutcome a x (plain a cpu ws 0 piece (Calls a.number name args 6 (Word done ∷ []))))
     → IfOk r (λ x. (b : Before) → b.number ≡ n → b.cpu ≡ c → IsOutcome b x (not_transferred name b b.cpu.ip t done))
-not_row (Err e) n c cpu name piece t done ws d w p h = tt
-not_row (Ok x) n c cpu name piece t done ws d w p h = λ b e f. let i = h b e in record {
+not_row (Err e) n c cpu name piece args t done ws d w p g h = tt
+not_row (Ok x) n c cpu name piece args t done ws d w p g h = λ b e f. let i = h b e in record {
   cpu = i.cpu ∙ (d ∙ ap (λ (q : Cpu). returned q q.ip 6 6) (sym f));
   state = i.state;
   bytes = i.bytes ∙ ap (λ l. written b.view.held l b.view.bytes) w;
   changes = i.changes;
   input = i.input;
   piece = i.piece ∙ p;
-  lines = i.lines;
+  lines = i.lines ∙ ap (λ (ys : List Argument). lines_text (Calls b.number name ys 6 (Word done ∷ []) ∷ [])) g;
 }
 
-pub gives_row : (r : Result Outcome NoMemory) (n : ℕ) (q : Process) (names : Map Segment) (cpu : Cpu) (piece part : List ℕ) (t : Transfer) (ws : List Write)
+pub gives_row : (r : Result Outcome NoMemory) (n : ℕ) (q : Process) (names : Map Segment) (cpu : Cpu) (piece part : List ℕ) (args : List Argument) (t : Transfer) (ws : List Write)
     → cpu ≡ returned q.cpu q.cpu.ip 6 0 → WritesOne ws t.done_selector t.done_offset part → part ≡ word_bytes t.count
-    → piece ≡ range_of (holds_in q.held) (bytes_in names) t.selector t.offset t.count
-    → IfOk r (λ x. (a : Before) → a.number ≡ n → IsOutcome a x (plain a cpu ws 0 piece (Calls a.number (codes "DosWrite") (args_of t) 0 (Word t.count ∷ []))))
+    → piece ≡ range_of (holds_in q.held) (bytes_in names) t.selector t.offset t.count → args ≡ args_of t
+    → IfOk r (λ x. (a : Before) → a.number ≡ n → IsOutcome a x (plain a cpu ws 0 piece (Calls a.number (codes "DosWrite") args 0 (Word t.count ∷ []))))
     → IfOk r (λ x. (b : Before) → b.number ≡ n → b.cpu ≡ q.cpu → b.view ≡ view_of names q → IsOutcome b x (gives b b.cpu.ip t))
-gives_row (Err e) n q names cpu piece part t ws d w k p h = tt
-gives_row (Ok x) n q names cpu piece part t ws d w k p h = λ b e f g. let i = h b e in record {
+gives_row (Err e) n q names cpu piece part args t ws d w k p m h = tt
+gives_row (Ok x) n q names cpu piece part args t ws d w k p m h = λ b e f g. let i = h b e in record {
   cpu = i.cpu ∙ (d ∙ ap (λ (c : Cpu). returned c c.ip 6 0) (sym f));
   state = i.state;
   bytes = i.bytes ∙ (w b.view.held b.view.bytes ∙ ap (put_at_pointer b.view.held b.view.bytes t.done_selector t.done_offset) k);
   changes = i.changes;
   input = i.input;
   piece = i.piece ∙ (p ∙ ap (λ v. range_of v.held v.bytes t.selector t.offset t.count) (sym g));
-  lines = i.lines;
+  lines = i.lines ∙ ap (λ (ys : List Argument). lines_text (Calls b.number (codes "DosWrite") ys 0 (Word t.count ∷ []) ∷ [])) m;
 }
 
-pub takes_row : (r : Result Outcome NoMemory) (n : ℕ) (c cpu : Cpu) (input got piece : List ℕ) (count : ℕ) (t : Transfer) (ws : List Write) (w u : Write)
+pub takes_row : (r : Result Outcome NoMemory) (n : ℕ) (c cpu : Cpu) (input got piece : List ℕ) (count : ℕ) (args : List Argument) (t : Transfer) (ws : List Write) (w u : Write)
     → cpu ≡ returned c c.ip 6 0 → got ≡ take t.count input → count ≡ length got → piece ≡ [] → WritesTwo ws w u
-    → w.selector ≡ t.selector → w.offset ≡ t.offset → w.part.items ≡ got → u.selector ≡ t.done_selector → u.offset ≡ t.done_offset → u.part.items ≡ word_bytes count
-    → IfOk r (λ x. (a : Before) → a.number ≡ n → IsOutcome a x (plain a cpu ws t.count piece (Calls a.number (codes "DosRead") (args_of t) 0 (Word count ∷ []))))
+    → w.selector ≡ t.selector → w.offset ≡ t.offset → w.part.items ≡ got → u.selector ≡ t.done_selector → u.offset ≡ t.done_offset → u.part.items ≡ word_bytes count → args ≡ args_of t
+    → IfOk r (λ x. (a : Before) → a.number ≡ n → IsOutcome a x (plain a cpu ws t.count piece (Calls a.number (codes "DosRead") args 0 (Word count ∷ []))))
     → IfOk r (λ x. (b : Before) → b.number ≡ n → b.cpu ≡ c → b.input ≡ input → IsOutcome b x (read_with b b.cpu.ip t (take t.count b.input) (drop t.count b.input)))
-takes_row (Err e) n c cpu input got piece count t ws w u d g l p z ws1 wo wp us uo up h = tt
-takes_row (Ok x) n c cpu input got piece count t ws w u d g l p z ws1 wo wp us uo up h = λ b e f k.
+takes_row (Err e) n c cpu input got piece count args t ws w u d g l p z ws1 wo wp us uo up q h = tt
+takes_row (Ok x) n c cpu input got piece count args t ws w u d g l p z ws1 wo wp us uo up q h = λ b e f k.
     let i = h b e in
     let all : got ≡ take t.count b.input = g ∙ ap (take t.count) (sym k) in
     let many : count ≡ length (take t.count b.input) = l ∙ ap length all in
@@ -93,11 +93,11 @@ takes_row (Ok x) n c cpu input got piece count t ws w u d g l p z ws1 wo wp us u
     ∙ (ap (λ o. put_at_pointer b.view.held (put_at_pointer b.view.held b.view.bytes t.selector t.offset (take t.count b.input)) t.done_selector o u.part.items) uo
     ∙ ap (put_at_pointer b.view.held (put_at_pointer b.view.held b.view.bytes t.selector t.offset (take t.count b.input)) t.done_selector t.done_offset) (up ∙ ap word_bytes many))) in
     record {
-      cpu = i.cpu ∙ (d ∙ ap (λ (q : Cpu). returned q q.ip 6 0) (sym f));
+      cpu = i.cpu ∙ (d ∙ ap (λ (r : Cpu). returned r r.ip 6 0) (sym f));
       state = i.state;
       bytes = i.bytes ∙ (z b.view.held b.view.bytes ∙ second);
       changes = i.changes;
       input = i.input;
       piece = i.piece ∙ p;
-      lines = i.lines ∙ ap (λ (m : ℕ). lines_text (Calls b.number (codes "DosRead") (args_of t) 0 (Word m ∷ []) ∷ [])) many;
+      lines = i.lines ∙ (ap (λ (ys : List Argument). lines_text (Calls b.number (codes "DosRead") ys 0 (Word count ∷ []) ∷ [])) q ∙ ap (λ (m : ℕ). lines_text (Calls b.number (codes "DosRead") (args_of t) 0 (Word m ∷ []) ∷ [])) many);
     }

@@ -30,6 +30,16 @@ written_more held ws bytes n k w h at =
 
 pub ruleset writing = written_more
 
+-- a write more, as a loop makes it
+pub behind_more : (held : ℕ → Option Hold) (ws : List Write) (bytes : ℕ → List ℕ) (n k : ℕ) (w : Write) (old new : List ℕ) (behind : Bool) → k < length ws → w ≡ get_or ws k w
+    → old ≡ written held (take k ws) bytes n → behind ≡ is_behind (bound_in held w.selector) n
+    → new ≡ (if behind then put_part old w.offset w.part.items else old) → new ≡ written held (take (k + 1) ws) bytes n
+behind_more held ws bytes n k w old new behind h at o b e =
+    e
+    ∙ (ap (λ (c : Bool). if c then put_part old w.offset w.part.items else old) b
+    ∙ (ap (λ (xs : List ℕ). if is_behind (bound_in held w.selector) n then put_part xs w.offset w.part.items else xs) o
+    ∙ sym (written_more held ws bytes n k w h at)))
+
 pub with_bytes_more : (names : Map Segment) (bytes : ℕ → List ℕ) (k : ℕ) (e : ℕ × Segment) → k < length names → e ≡ get_or names k e
     → with_bytes (take (k + 1) names) bytes ≡ with_bytes (take k names) bytes ++ (e.0, record e.1 { bytes = bytes e.0 }) ∷ []
 with_bytes_more names bytes k e h at =

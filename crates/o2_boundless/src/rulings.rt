@@ -1,11 +1,11 @@
 // What the calls on segments come to: error number, value and changes.
-ghost use Rattle.std.specs.Prelude.{◌≡◌, ◌≤◌, ◌<◌, ◌||◌, ◌∷◌, [], ℕ, IfOk, IfSome, is_some, map};
+ghost use Rattle.std.specs.Prelude.{◌≡◌, ◌≤◌, ◌<◌, ◌||◌, ◌∷◌, ◌++◌, [], ℕ, IfOk, IfSome, is_some, map};
 ghost use Rattle.std.specs.Option.{option_copied};
 ghost use Rattle.o2_base.specs.Selectors.{selector_of};
 ghost use Rattle.o2_desc.specs.Bits.{has_bit};
 ghost use Rattle.o2_isa.specs.View.{is_local, is_null};
 ghost use Rattle.o2_world.specs.Changes.{Drops};
-ghost use Rattle.o2_world.specs.Rulings.{refusal, grants, held_under, free_index, full_size, made_segment, held_by_call, region_by, allocation_at, allocation, is_alias, is_in_run, keeps_its_size, reallocation_with, reallocation_of, reallocation, members, is_later, is_index, in_use, by_load, is_last, is_gone, freed_cpu, freeing_with, freeing_of, freeing, freeing_cpu, dropped_indexes, sizing_with, sizing_of, sizing, is_discardable, locking_with, locking_of, locking, unlocking_with, unlocking_of, unlocking, held_as_code, aliasing_at, aliasing_of, aliasing};
+ghost use Rattle.o2_world.specs.Rulings.{refusal, grants, held_under, free_index, full_size, made_segment, held_by_call, region_by, allocation_at, allocation, is_alias, is_in_run, keeps_its_size, reallocation_with, reallocation_of, reallocation, members, is_later, is_index, in_use, by_load, is_last, is_gone, freed_cpu, freeing_with, freeing_of, freeing, freeing_cpu, dropped_by, dropped_indexes, sizing_with, sizing_of, sizing, is_discardable, locking_with, locking_of, locking, unlocking_with, unlocking_of, unlocking, held_as_code, aliasing_at, aliasing_of, aliasing};
 ghost use Rattle.o2_world.specs.Known.{marks_of};
 ghost use Rattle.o2_boundless.specs.Shown.{known_by};
 ghost use Rattle.o2_boundless.specs.Edits.{change_of, changes_of};
@@ -335,6 +335,23 @@ fn freeing_with(
     Ok(grants(0, drops(alloc, number, indexes)?))
 }
 
+#[tactic(auto, using(crate::proofs::Lists::dropped))]
+fn put_dropped(indexes: &mut Vec<u16>, edit: &Edit) -> Result<(), NoMemory>
+    ensures { IfOk result (λ _. indexes.new.items ≡ indexes.old.items ++ dropped_by (change_of edit.now) []) }
+{
+    match edit {
+        Edit::Drops(_, index, _) => indexes.push(*index)?,
+        Edit::Makes(_) => {}
+        Edit::Resizes(_, _) => {}
+        Edit::Locks(_, _) => {}
+        Edit::Holds(_, _, _) => {}
+        Edit::Finishes(_, _) => {}
+        Edit::Reserves(_) => {}
+        Edit::Names(_, _) => {}
+    }
+    Ok(())
+}
+
 /// The indexes of which holds go.
 #[tactic(auto, using(crate::proofs::Lists::dropped))]
 pub(crate) fn dropped_indexes(alloc: Global, edits: &[Edit]) -> Result<Vec<u16>, NoMemory>
@@ -342,16 +359,7 @@ pub(crate) fn dropped_indexes(alloc: Global, edits: &[Edit]) -> Result<Vec<u16>,
 {
     let mut indexes = Vec::new(alloc);
     for edit in edits {
-        match edit {
-            Edit::Drops(_, index, _) => indexes.push(*index)?,
-            Edit::Makes(_) => {}
-            Edit::Resizes(_, _) => {}
-            Edit::Locks(_, _) => {}
-            Edit::Holds(_, _, _) => {}
-            Edit::Finishes(_, _) => {}
-            Edit::Reserves(_) => {}
-            Edit::Names(_, _) => {}
-        }
+        put_dropped(&mut indexes, edit)?;
     }
     Ok(indexes)
 }
