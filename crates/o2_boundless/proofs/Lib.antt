@@ -11,3 +11,4 @@ pub mod Rows
 pub mod Behind
 pub mod Kept
 pub mod OwnRows
+pub mod Walks

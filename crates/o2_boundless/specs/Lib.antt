@@ -9,3 +9,4 @@ pub mod Called
 pub mod Worked
 pub mod Plain
 pub mod Bare
+pub mod Sharing

@@ -12,6 +12,7 @@ mod parts;
 mod pointing;
 mod rulings;
 mod segment_rows;
+mod sharing;
 mod working;
 mod world;
 

@@ -1,0 +1,5 @@
+//! Rows of `o2_boundless`: calls with what they answer and tell.
+#![tactic(auto)]
+
+#[cfg(test)]
+mod calls;
