@@ -16,7 +16,7 @@ use Rattle.o2_boundless.specs.Shown.{Shown, before_call}
 use Rattle.o2_boundless.specs.Outcomes.{IsOutcome, written, worked_slowly}
 use Rattle.o2_boundless.specs.Edits.{changes_of}
 use Rattle.o2_boundless.specs.Worked.{worked_from, worked_by}
-use Rattle.o2_boundless.specs.Called.{effect_by, row_with, behind_effect, behind_by, answer_of, answer_by}
+use Rattle.o2_boundless.specs.Called.{effect_by, with_row, behind_effect, behind_by, answer_of, answer_by}
 
 same_worked : (v : Shown) (n : ℕ) (p : Process) (c d : Cpu) (s t : State) (f g : ℕ → List ℕ) (i j k l m o : List ℕ) → c ≡ d → s ≡ t → f ≡ g → i ≡ j → k ≡ l → m ≡ o
     → worked_from v n p c s f i k m ≡ worked_from v n p d t g j l o
@@ -65,25 +65,25 @@ pad_at [] n i = zero_at n i
 pad_at (a ∷ args) n zero = refl
 pad_at (a ∷ args) n (suc i) = pad_at args n i
 
-padded_is : (v : Shown) (n : ℕ) (p : Process) (row : Row) (args all : List ℕ) → all ≡ args ++ replicate 6 0 → effect_by v n p row all ≡ effect_by v n p row args
+padded_is : (v : Shown) (n : ℕ) (p : Process) (row : Option Row) (args all : List ℕ) → all ≡ args ++ replicate 6 0 → effect_by v n p row all ≡ effect_by v n p row args
 padded_is v n p row args all e =
     ap (effect_by v n p row) e
-    ∙ ap (λ (a : ℕ → ℕ). row_with row (before_call v n p) p.cpu.ip a) (fun_ext (pad_at args 6))
+    ∙ ap (λ (a : ℕ → ℕ). with_row row (before_call v n p) p.cpu.ip a) (fun_ext (pad_at args 6))
 
--- a call of a process and a row that there are
-pub call_is : (v : Shown) (n : ℕ) (args all : List ℕ) (o : Option Process) (r : Option Row) (p : Process) (row : Row) (w : Shown) → Some p ≡ o → Some row ≡ r → all ≡ args ++ replicate 6 0
-    → w ≡ behind_effect v n p (effect_by v n p row all) → w ≡ behind_by v n args o r
-call_is v n args all o r p row w e f a h =
+-- a call of a process that there is
+pub call_is : (v : Shown) (n : ℕ) (args all : List ℕ) (o : Option Process) (r s : Option Row) (p : Process) (w : Shown) → Some p ≡ o → s ≡ r → all ≡ args ++ replicate 6 0
+    → w ≡ behind_effect v n p (effect_by v n p s all) → w ≡ behind_by v n args r o
+call_is v n args all o r s p w e f a h =
     h
-    ∙ (ap (behind_effect v n p) (padded_is v n p row args all a)
-    ∙ (ap (λ o. behind_by v n args o (Some row)) e ∙ ap (behind_by v n args o) f))
+    ∙ (ap (behind_effect v n p) (padded_is v n p s args all a)
+    ∙ (ap (λ r. behind_by v n args r (Some p)) f ∙ ap (behind_by v n args r) e))
 
-pub error_is : (v : Shown) (n : ℕ) (args all : List ℕ) (o : Option Process) (r : Option Row) (p : Process) (row : Row) (x : ℕ) → Some p ≡ o → Some row ≡ r → all ≡ args ++ replicate 6 0
-    → x ≡ answer_of (effect_by v n p row all) → x ≡ answer_by v n args o r
-error_is v n args all o r p row x e f a h =
+pub error_is : (v : Shown) (n : ℕ) (args all : List ℕ) (o : Option Process) (r s : Option Row) (p : Process) (x : ℕ) → Some p ≡ o → s ≡ r → all ≡ args ++ replicate 6 0
+    → x ≡ answer_of (effect_by v n p s all) → x ≡ answer_by v n args r o
+error_is v n args all o r s p x e f a h =
     h
-    ∙ (ap answer_of (padded_is v n p row args all a)
-    ∙ (ap (λ o. answer_by v n args o (Some row)) e ∙ ap (answer_by v n args o) f))
+    ∙ (ap answer_of (padded_is v n p s args all a)
+    ∙ (ap (λ r. answer_by v n args r (Some p)) f ∙ ap (answer_by v n args r) e))
 
 pub ruleset called = (call_is, error_is)
 

@@ -1,7 +1,7 @@
 -- What a call leaves is what a step with this effect leaves, but for dispatch and lines; and a row with its arguments is the row that
 -- reads them from the stack.
 use Rattle.std.proofs.Common.{◌≡◌, ℕ, ◌-◌, Bool, true, false, List, [], ◌∷◌, refl, ap, sym, ◌∙◌}
-use Rattle.std.specs.Prelude.{if◌then◌else◌}
+use Rattle.std.specs.Prelude.{if◌then◌else◌, Option, Some, None}
 use Rattle.std.specs.List.{list_any}
 use Rattle.o2_conf.specs.Dispatch.{Dispatch}
 use Rattle.o2_world.specs.declared.types.Row.{Row}
@@ -11,12 +11,12 @@ use Rattle.o2_world.specs.declared.types.SharedCall.TheVariants.{DosAllocShrSeg,
 use Rattle.o2_world.specs.World.{World, Line, Process}
 use Rattle.o2_world.specs.Changes.{Change, Makes, Resizes, Locks, Marks, Holds, Drops, Finishes, Reserves, Frees, Names, takes, swept, with_all, with_change, with_changes}
 use Rattle.o2_world.specs.CallParts.{Before, Effect, argument, has_arguments}
-use Rattle.o2_world.specs.Calls.{served, dos_write, dos_exit, dos_read, told}
+use Rattle.o2_world.specs.Calls.{served, served_by, dos_write, dos_exit, dos_read, told}
 use Rattle.o2_world.specs.SegmentCalls.{dos_alloc_seg, dos_realloc_seg, dos_free_seg, dos_size_seg, dos_lock_seg, dos_unlock_seg, dos_create_cs_alias}
 use Rattle.o2_world.specs.SharedCalls.{dos_alloc_shr_seg, dos_get_shr_seg, dos_give_seg, dos_get_seg}
 use Rattle.o2_world.specs.Run.{changed, worked, all_changes}
 use Rattle.o2_boundless.specs.Shown.{Shown}
-use Rattle.o2_boundless.specs.Called.{behind_effect, row_with, words_of}
+use Rattle.o2_boundless.specs.Called.{behind_effect, row_with, with_row, words_by, words_of}
 
 -- a world with this dispatch and these lines
 told_with : Dispatch → List Line → World → World
@@ -77,3 +77,7 @@ row_is_served (OnShared DosGetShrSeg) b next a h e = rw (h, e 0, e 1, e 2, e 3) 
 row_is_served (OnShared DosGiveSeg) b next a h e = rw (h, e 0, e 1, e 2, e 3) refl
 row_is_served (OnShared DosGetSeg) b next a h e = rw (h, e 0) refl
 
+pub row_is_serviced : (row : Option Row) (b : Before) (next : ℕ) (a : ℕ → ℕ) → has_arguments b.view b.cpu (words_by row) ≡ true
+    → ((i : ℕ) → a i ≡ argument b.view b.cpu (words_by row - 1 - i)) → with_row row b next a ≡ served_by row b next
+row_is_serviced None b next a h e = refl
+row_is_serviced (Some row) b next a h e = row_is_served row b next a h e

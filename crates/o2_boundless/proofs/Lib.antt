@@ -11,4 +11,3 @@ pub mod Rows
 pub mod Behind
 pub mod Kept
 pub mod OwnRows
-pub mod Walks

@@ -9,7 +9,7 @@ use Rattle.o2_world.specs.declared.types.SharedCall.TheVariants.{DosAllocShrSeg,
 use Rattle.o2_world.specs.declared.types.State.TheVariants.{Live, Exited}
 use Rattle.o2_world.specs.declared.types.Transfer.{Transfer}
 use Rattle.o2_world.specs.World.{World, Process, Exits, Ends, is_live}
-use Rattle.o2_world.specs.CallParts.{Before, Effect, long_bytes, returned}
+use Rattle.o2_world.specs.CallParts.{Before, Effect, long_bytes, returned, trapped}
 use Rattle.o2_world.specs.Calls.{pid_bytes, read_from, row_of, told_at, written as transferred}
 use Rattle.o2_world.specs.SegmentCalls.{aliased, allocated, freed, locked, reallocated, sized, unlocked}
 use Rattle.o2_world.specs.SharedCalls.{given, got, named, shared_by_name}
@@ -79,9 +79,18 @@ row_with (OnShared DosGetShrSeg) b next a = shared_by_name b next (a 0) (a 1) (a
 row_with (OnShared DosGiveSeg) b next a = given b next (a 0) (a 1) (a 2) (a 3)
 row_with (OnShared DosGetSeg) b next a = got b next (a 0)
 
+-- the row of a number; one without a row is that of no call, and its gate names nothing
+abbrev pub with_row : Option Row → Before → ℕ → (ℕ → ℕ) → Effect
+with_row None b next a = trapped b 13
+with_row (Some row) b next a = row_with row b next a
+
+abbrev pub words_by : Option Row → ℕ
+words_by None = 0
+words_by (Some row) = words_of row
+
 -- what a call of process n does, whose IP stays
-abbrev pub effect_by : Shown → ℕ → Process → Row → List ℕ → Effect
-effect_by v n p row args = row_with row (before_call v n p) p.cpu.ip (slice_index args)
+abbrev pub effect_by : Shown → ℕ → Process → Option Row → List ℕ → Effect
+effect_by v n p row args = with_row row (before_call v n p) p.cpu.ip (slice_index args)
 
 -- the world behind an effect
 abbrev pub behind_effect : Shown → ℕ → Process → Effect → Shown
@@ -91,19 +100,17 @@ behind_effect v n p e = record v { world = with_all (worked_slowly v.world n p e
 abbrev pub answer_of : Effect → ℕ
 answer_of e = if is_live e.state then e.cpu.ax else 0
 
-abbrev pub behind_by : Shown → ℕ → List ℕ → Option Process → Option Row → Shown
-behind_by v n args (Some p) (Some row) = behind_effect v n p (effect_by v n p row args)
-behind_by v n args None row = v
-behind_by v n args (Some p) None = v
+abbrev pub behind_by : Shown → ℕ → List ℕ → Option Row → Option Process → Shown
+behind_by v n args row (Some p) = behind_effect v n p (effect_by v n p row args)
+behind_by v n args row None = v
 
-abbrev pub answer_by : Shown → ℕ → List ℕ → Option Process → Option Row → ℕ
-answer_by v n args (Some p) (Some row) = answer_of (effect_by v n p row args)
-answer_by v n args None row = 0
-answer_by v n args (Some p) None = 0
+abbrev pub answer_by : Shown → ℕ → List ℕ → Option Row → Option Process → ℕ
+answer_by v n args row (Some p) = answer_of (effect_by v n p row args)
+answer_by v n args row None = 0
 
 -- the world behind a call, and what it answers
 abbrev pub behind_call : Shown → (number service : ℕ) → List ℕ → Shown
-behind_call v n service args = behind_by v n args (process_at v.world.processes n) (row_of service)
+behind_call v n service args = behind_by v n args (row_of service) (process_at v.world.processes n)
 
 abbrev pub answer : Shown → (number service : ℕ) → List ℕ → ℕ
-answer v n service args = answer_by v n args (process_at v.world.processes n) (row_of service)
+answer v n service args = answer_by v n args (row_of service) (process_at v.world.processes n)

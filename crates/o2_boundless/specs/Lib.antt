@@ -9,4 +9,3 @@ pub mod Called
 pub mod Worked
 pub mod Plain
 pub mod Bare
-pub mod Sharing

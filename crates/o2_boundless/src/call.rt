@@ -1,5 +1,5 @@
 // A call of a process.
-ghost use Rattle.std.specs.Prelude.{◌≡◌, ◌≤◌, ◌++◌, true, IfOk, OnErr, OnOk, length, replicate, slice_index};
+ghost use Rattle.std.specs.Prelude.{◌≡◌, ◌≤◌, ◌++◌, true, IfOk, OnErr, OnOk, Some, length, replicate, slice_index};
 ghost use Rattle.o2_world.specs.declared.types.Row.TheVariants.{OnSegments};
 ghost use Rattle.o2_world.specs.Calls.{row_of};
 ghost use Rattle.o2_world.specs.Known.{lives_at};
@@ -10,7 +10,7 @@ ghost use Rattle.o2_boundless.specs.Outcomes.{IsOutcome};
 ghost use Rattle.o2_boundless.specs.Called.{transfer_by, effect_by, behind_effect, answer_of, behind_call, answer};
 
 use crate::look::{is_alive, process_of};
-use crate::outcome::Outcome;
+use crate::outcome::{Outcome, trapped};
 use crate::own_rows::exit;
 use crate::working::{all_edits, is_live};
 use crate::{Process, World};
@@ -59,7 +59,7 @@ impl World {
         a: &[u16],
     ) -> Result<Outcome, NoMemory>
         requires { 6 ≤ length a.now }
-        ensures { IfOk result (λ x. IsOutcome (before_call self.now n process.now) x (effect_by self.now n process.now (OnSegments call) a.now)) }
+        ensures { IfOk result (λ x. IsOutcome (before_call self.now n process.now) x (effect_by self.now n process.now (Some (OnSegments call)) a.now)) }
     {
         match call {
             SegmentCall::DosAllocSeg => self.alloc_seg(alloc, n, process, a[0], a[1], a[2], a[3]),
@@ -83,7 +83,7 @@ impl World {
         a: &[u16],
     ) -> Result<Outcome, NoMemory>
         requires { 6 ≤ length a.now }
-        ensures { IfOk result (λ x. IsOutcome (before_call self.now n process.now) x (effect_by self.now n process.now row a.now)) }
+        ensures { IfOk result (λ x. IsOutcome (before_call self.now n process.now) x (effect_by self.now n process.now (Some row) a.now)) }
     {
         match row {
             Row::DosExit => exit(alloc, n, process, a[0], a[1]),
@@ -93,6 +93,24 @@ impl World {
             Row::DosMemAvail => self.mem_avail(alloc, n, process, a[0], a[1]),
             Row::OnSegments(call) => self.on_segments(alloc, n, process, call, a),
             Row::OnShared(_) => Err(NoMemory),
+        }
+    }
+
+    /// A number without a row is that of no call.
+    fn outcome_of(
+        &self,
+        alloc: Global,
+        n: u16,
+        process: &Process,
+        row: Option<Row>,
+        a: &[u16],
+    ) -> Result<Outcome, NoMemory>
+        requires { 6 ≤ length a.now }
+        ensures { IfOk result (λ x. IsOutcome (before_call self.now n process.now) x (effect_by self.now n process.now row a.now)) }
+    {
+        match row {
+            Some(row) => self.outcome(alloc, n, process, row, a),
+            None => trapped(alloc, n, &process.cpu, 13),
         }
     }
 
@@ -120,9 +138,9 @@ impl World {
     }
 
     /// A call of a process, with its arguments in the order in which a program pushes them, of which those that are missing
-    /// are 0; the registers are those at the call, and IP stays. It answers the error number, and 0 where the process ended. Without memory the world stays as it is; that is
-    /// answered too where a number grows past what no machine reaches: holds of an index past 2^32 - 1, the next name past 2^64 - 1, an
-    /// index past 8191.
+    /// are 0; the registers are those at the call, and IP stays. A service that isn't built ends the process by exception 13. It answers
+    /// the error number, and 0 where the process ended. Without memory the world stays as it is; that is answered too where a number
+    /// grows past what no machine reaches: holds of an index past 2^32 - 1, the next name past 2^64 - 1, an index past 8191.
     pub fn call(
         &mut self,
         alloc: Global,
@@ -154,10 +172,8 @@ impl World {
         let Some(process) = process_of(&self.processes, pid) else {
             return Err(NoMemory);
         };
-        let Some(row) = row_of(service) else {
-            return Err(NoMemory);
-        };
-        self.called_by(alloc, pid, process, row, &padded(alloc, args)?)
+        let args = padded(alloc, args)?;
+        self.called_by(alloc, pid, process, row_of(service), &args)
     }
 
     #[tactic(auto, using(crate::proofs::Behind::answered))]
@@ -166,15 +182,19 @@ impl World {
         alloc: Global,
         n: u16,
         process: &Process,
-        row: Row,
+        row: Option<Row>,
         args: &[u16],
     ) -> Result<(World, u16), NoMemory>
         requires { 6 ≤ length args.now }
         ensures world { IfOk result (λ r. r.0 ≡ behind_effect self.now n process.now (effect_by self.now n process.now row args.now)) }
         ensures error { IfOk result (λ r. r.1 ≡ answer_of (effect_by self.now n process.now row args.now)) }
     {
-        let outcome = self.outcome(alloc, n, process, row, args)?;
-        let error = if is_live(outcome.state) { outcome.cpu.ax } else { 0 };
+        let outcome = self.outcome_of(alloc, n, process, row, args)?;
+        let error = if is_live(outcome.state) {
+            outcome.cpu.ax
+        } else {
+            0
+        };
         let next = self.behind(alloc, n, process, outcome)?;
         Ok((next, error))
     }

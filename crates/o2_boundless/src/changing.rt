@@ -259,7 +259,12 @@ impl World {
                 lock_in(&mut self.names, *name, *count);
                 Ok(())
             }
-            Edit::Holds(process, index, held) => hold_at(&mut self.processes, *process, *index, held),
+            Edit::Holds(process, index, held) => hold_at(
+                &mut self.processes,
+                *process,
+                *index,
+                held,
+            ),
             Edit::Drops(process, index, count) => {
                 drop_at(&mut self.processes, *process, *index, *count)
             }

@@ -77,7 +77,12 @@ impl World {
             return None;
         }
         let count = count as u16;
-        self.first_open(region, count, low as u16, (end + 1 - (low + count as u32)) as u16)
+        self.first_open(
+            region,
+            count,
+            low as u16,
+            (end + 1 - (low + count as u32)) as u16,
+        )
     }
 
     /// A free index of a region.

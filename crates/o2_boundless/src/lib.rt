@@ -12,7 +12,6 @@ mod parts;
 mod pointing;
 mod rulings;
 mod segment_rows;
-mod sharing;
 mod working;
 mod world;
 

@@ -2,13 +2,12 @@
 ghost use Rattle.std.specs.Prelude.{◌≡◌, ◌≤◌, is_some, find};
 ghost use Rattle.std.specs.Option.{option_copied};
 ghost use Rattle.o2_world.specs.Map.{get};
-ghost use Rattle.o2_boundless.specs.Keys.{has_key, has_text};
+ghost use Rattle.o2_boundless.specs.Keys.{has_key};
 ghost use Rattle.o2_world.specs.Holders.{names_it, holds_name, is_held, process_at};
-ghost use Rattle.o2_world.specs.Known.{held_at, holds_index, reserves, lives_at, live_below, text_name, same_text};
+ghost use Rattle.o2_world.specs.Known.{held_at, holds_index, reserves, lives_at, live_below};
 ghost use Rattle.o2_world.specs.Changes.{runs_from, holds_run, run_held, own_run_held, is_used};
 
 use crate::{Held, Process, Reserve, Segment};
-use o2_base::Bytes;
 use o2_world::State;
 
 fn pair_of(names: &[(u64, Segment)], name: u64) -> Option<&(u64, Segment)>
@@ -208,31 +207,4 @@ pub(crate) fn live_below(names: &[(u64, Segment)], number: u64) -> u64
         }
     }
     count
-}
-
-/// Whether two texts are the same.
-#[tactic(auto, using(crate::proofs::Lookups::same_texts))]
-fn same_text(one: &[u8], other: &[u8]) -> bool
-    ensures { result ≡ same_text one.now other.now }
-{
-    one == other
-}
-
-fn pair_with<'a>(texts: &'a [(Bytes, u64)], text: &[u8]) -> Option<&'a (Bytes, u64)>
-    ensures { option_copied result ≡ find (has_text text.now) texts.now }
-{
-    texts
-        .iter()
-        .find(|pair| same_text(pair.0.as_slice(), text))
-}
-
-/// The name of a text.
-#[tactic(auto, using(crate::proofs::Lookups::lookups))]
-pub(crate) fn name_of(texts: &[(Bytes, u64)], text: &[u8]) -> Option<u64>
-    ensures { result ≡ text_name texts.now text.now }
-{
-    match pair_with(texts, text) {
-        Some(pair) => Some(pair.1),
-        None => None,
-    }
 }

@@ -75,11 +75,7 @@ fn put_in_order(pairs: &mut Vec<(u16, u16)>, pair: (u16, u16)) -> Result<(), NoM
 }
 
 #[tactic(auto, using(crate::proofs::Telling::replicated))]
-fn put_times(
-    pairs: &mut Vec<(u16, u16)>,
-    pair: (u16, u16),
-    count: u32,
-) -> Result<(), NoMemory>
+fn put_times(pairs: &mut Vec<(u16, u16)>, pair: (u16, u16), count: u32) -> Result<(), NoMemory>
     ensures { IfOk result (λ _. (rest : List (ℕ × ℕ)) → pairs.old.items ≡ ordered rest → pairs.new.items ≡ ordered (replicate count pair ++ rest)) }
 {
     let mut k = 0;
@@ -95,10 +91,18 @@ fn moves(came: bool, edit: &Edit) -> (u16, u16, u32)
 {
     match edit {
         Edit::Holds(process, index, held) => {
-            if came { (*process, *index, held.holds) } else { (0, 0, 0) }
+            if came {
+                (*process, *index, held.holds)
+            } else {
+                (0, 0, 0)
+            }
         }
         Edit::Drops(process, index, count) => {
-            if came { (0, 0, 0) } else { (*process, *index, *count) }
+            if came {
+                (0, 0, 0)
+            } else {
+                (*process, *index, *count)
+            }
         }
         Edit::Makes(_) => (0, 0, 0),
         Edit::Resizes(_, _) => (0, 0, 0),
@@ -308,12 +312,11 @@ pub(crate) fn written_long(
 {
     let low = value % 65536;
     let high = value / 65536;
-    let part = vec![
-        in alloc;
+    let part = vec![in alloc;
         (low % 256) as u8,
         (low / 256) as u8,
         (high % 256) as u8,
-        (high / 256) as u8
+        (high / 256) as u8,
     ]?;
     let shown = Argument::Long(high as u16, low as u16);
     Ok(Reply {

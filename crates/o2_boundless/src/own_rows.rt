@@ -154,12 +154,11 @@ fn long_bytes(alloc: Global, number: u32) -> Result<Vec<u8>, NoMemory>
 {
     let low = number % 65536;
     let high = number / 65536;
-    Ok(vec![
-        in alloc;
+    Ok(vec![in alloc;
         (low % 256) as u8,
         (low / 256) as u8,
         (high % 256) as u8,
-        (high / 256) as u8
+        (high / 256) as u8,
     ]?)
 }
 
@@ -245,14 +244,7 @@ impl World {
             (avail_told (before_call self.now number process.now) process.now.cpu.ip selector offset)) }
     {
         if may_write(&self.names, process, selector, offset, 4) {
-            avail_good(
-                alloc,
-                number,
-                &process.cpu,
-                self.avail,
-                selector,
-                offset,
-            )
+            avail_good(alloc, number, &process.cpu, self.avail, selector, offset)
         } else {
             trapped(alloc, number, &process.cpu, 13)
         }

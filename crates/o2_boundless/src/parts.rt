@@ -39,8 +39,13 @@ impl Model for Segment {
     ghost Value = { SegmentThere };
 
     ghost view = { λ s. record {
-        bytes = s.bytes.items; clean = s.clean; code = s.code; flags = s.flags; lock = s.lock; shared = s.shared;
-        discarded = s.discarded
+      bytes = s.bytes.items;
+      clean = s.clean;
+      code = s.code;
+      flags = s.flags;
+      lock = s.lock;
+      shared = s.shared;
+      discarded = s.discarded;
     } };
 
     ghost invariant = { λ s. length s.bytes.items ≤ 65536 };
@@ -96,7 +101,12 @@ impl Model for Held {
     ghost Value = { HeldThere };
 
     ghost view = { λ h. record {
-        name = h.name; rights = h.rights; holds = h.holds; cause = cause_of h.how; first = h.first; reserved = h.reserved
+      name = h.name;
+      rights = h.rights;
+      holds = h.holds;
+      cause = cause_of h.how;
+      first = h.first;
+      reserved = h.reserved;
     } };
 }
 
@@ -173,7 +183,12 @@ impl Model for Process {
     ghost Value = { ProcessThere };
 
     ghost view = { λ p. record {
-        cpu = p.cpu; state = p.state; held = p.held.items; place = p.place; parent = p.parent; environment = p.environment
+      cpu = p.cpu;
+      state = p.state;
+      held = p.held.items;
+      place = p.place;
+      parent = p.parent;
+      environment = p.environment;
     } };
 }
 

@@ -173,12 +173,7 @@ fn is_behind(held: &[(u16, Held)], selector: u16, name: u64) -> bool
     is_name(bound(held, selector), name)
 }
 
-fn put_behind(
-    alloc: Global,
-    behind: bool,
-    bytes: &[u8],
-    write: &Write,
-) -> Result<Vec<u8>, NoMemory>
+fn put_behind(alloc: Global, behind: bool, bytes: &[u8], write: &Write) -> Result<Vec<u8>, NoMemory>
     ensures { IfOk result (λ v. v.items ≡ (if behind then put_part bytes.now write.now.offset write.now.part.items else bytes.now)) }
 {
     if behind {

@@ -321,12 +321,7 @@ fn drops(alloc: Global, number: u16, indexes: &[u16]) -> Result<Vec<Edit>, NoMem
     Ok(edits)
 }
 
-fn freeing_with(
-    alloc: Global,
-    number: u16,
-    cpu: &Cpu,
-    indexes: &[u16],
-) -> Result<Verdict, NoMemory>
+fn freeing_with(alloc: Global, number: u16, cpu: &Cpu, indexes: &[u16]) -> Result<Verdict, NoMemory>
     ensures { IfOk result (λ v. ruling_of v ≡ freeing_with number cpu.now indexes.now) }
 {
     if in_use(cpu, indexes) {
@@ -492,11 +487,7 @@ impl World {
 
 // DosLockSeg(sel), DosUnlockSeg(sel)
 
-fn locking_with(
-    alloc: Global,
-    name: u64,
-    segment: Option<&Segment>,
-) -> Result<Verdict, NoMemory>
+fn locking_with(alloc: Global, name: u64, segment: Option<&Segment>) -> Result<Verdict, NoMemory>
     ensures { IfOk result (λ v. ruling_of v ≡ locking_with name (marks_in (option_copied segment.entry))) }
 {
     match segment {
@@ -505,17 +496,17 @@ fn locking_with(
             if !is_discardable(segment) {
                 return Ok(refusal(alloc, 5));
             }
-            let count = if segment.lock < 255 { segment.lock + 1 } else { 255 };
+            let count = if segment.lock < 255 {
+                segment.lock + 1
+            } else {
+                255
+            };
             Ok(grants(0, one(alloc, Edit::Locks(name, count))?))
         }
     }
 }
 
-fn unlocking_with(
-    alloc: Global,
-    name: u64,
-    segment: Option<&Segment>,
-) -> Result<Verdict, NoMemory>
+fn unlocking_with(alloc: Global, name: u64, segment: Option<&Segment>) -> Result<Verdict, NoMemory>
     ensures { IfOk result (λ v. ruling_of v ≡ unlocking_with name (marks_in (option_copied segment.entry))) }
 {
     match segment {
@@ -527,7 +518,11 @@ fn unlocking_with(
             if segment.lock == 0 {
                 return Ok(refusal(alloc, 158));
             }
-            let count = if segment.lock < 255 { segment.lock - 1 } else { segment.lock };
+            let count = if segment.lock < 255 {
+                segment.lock - 1
+            } else {
+                segment.lock
+            };
             Ok(grants(0, one(alloc, Edit::Locks(name, count))?))
         }
     }

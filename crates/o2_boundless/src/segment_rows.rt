@@ -198,4 +198,3 @@ impl World {
         self.pointed(alloc, process, &call, 3, 2, reply, verdict)
     }
 }
-

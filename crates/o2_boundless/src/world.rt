@@ -45,20 +45,24 @@ impl Model for World {
     ghost Value = { Shown };
 
     ghost view = { λ w. record {
-        world = record {
-            names = w.names.items; next_name = w.next_name; processes = w.processes.items; reserved = w.reserved.items;
-            texts = w.texts.items; input = w.input;
-            dispatch = record { script = w.script; current = w.current; left = w.left; turn = w.turn; budget = w.budget };
-            console = w.console; lines = []
-        };
-        report = w.lines; segments = w.segments; avail = w.avail
+      world = record {
+        names = w.names.items;
+        next_name = w.next_name;
+        processes = w.processes.items;
+        reserved = w.reserved.items;
+        texts = w.texts.items;
+        input = w.input;
+        dispatch = record { script = w.script; current = w.current; left = w.left; turn = w.turn; budget = w.budget };
+        console = w.console;
+        lines = [];
+      };
+      report = w.lines;
+      segments = w.segments;
+      avail = w.avail;
     } };
 }
 
-fn copied_names(
-    alloc: Global,
-    names: &[(u64, Segment)],
-) -> Result<Vec<(u64, Segment)>, NoMemory>
+fn copied_names(alloc: Global, names: &[(u64, Segment)]) -> Result<Vec<(u64, Segment)>, NoMemory>
     ensures { IfOk result (λ v. v.items ≡ names.now) }
 {
     let mut copy = Vec::new(alloc);
@@ -69,7 +73,10 @@ fn copied_names(
     Ok(copy)
 }
 
-pub(crate) fn copied_processes(alloc: Global, processes: &[Process]) -> Result<Vec<Process>, NoMemory>
+pub(crate) fn copied_processes(
+    alloc: Global,
+    processes: &[Process],
+) -> Result<Vec<Process>, NoMemory>
     ensures { IfOk result (λ v. v.items ≡ processes.now) }
 {
     let mut copy = Vec::new(alloc);
@@ -90,7 +97,10 @@ pub(crate) fn copied_reserves(alloc: Global, reserves: &[Reserve]) -> Result<Vec
     Ok(copy)
 }
 
-pub(crate) fn copied_texts(alloc: Global, texts: &[(Bytes, u64)]) -> Result<Vec<(Bytes, u64)>, NoMemory>
+pub(crate) fn copied_texts(
+    alloc: Global,
+    texts: &[(Bytes, u64)],
+) -> Result<Vec<(Bytes, u64)>, NoMemory>
     ensures { IfOk result (λ v. v.items ≡ texts.now) }
 {
     let mut copy = Vec::new(alloc);
