@@ -1,10 +1,7 @@
 // Calls of one process, one behind another.
-ghost use Rattle.std.specs.Prelude.{◌≤◌, length};
-
+use crate::opening::{process, segment};
 use o2_base::{Bytes, NoMemory};
-use o2_boundless::{Held, How, Process, Segment, World};
-use o2_isa::Cpu;
-use o2_world::State;
+use o2_boundless::World;
 use std::alloc::Global;
 use std::test::Fail;
 
@@ -57,73 +54,18 @@ static REPORT: &str = "1 call DosAllocSeg 0000 0017:0000 0000 = 0 0027
 1 end trap 13 at 000F:0100
 ";
 
-fn segment(alloc: Global, bytes: &[u8]) -> Result<Segment, NoMemory>
-    requires { length bytes.now ≤ 65536 }
-{
-    let bytes = Vec::from_slice(alloc, bytes)?;
-    Ok(Segment {
-        bytes,
-        clean: false,
-        code: false,
-        flags: 0,
-        lock: 0,
-        shared: false,
-        discarded: false,
-    })
-}
-
-fn held(name: u64, rights: u8) -> Held {
-    Held {
-        name,
-        rights,
-        holds: 1,
-        how: How::Load,
-        first: 0,
-        reserved: 0,
-    }
-}
-
-/// A process with code, 16 bytes of data and an environment, under the indexes 1 to 3.
-fn process(alloc: Global) -> Result<Process, NoMemory> {
-    let mut all = Vec::new(alloc);
-    all.push((1, held(0, 0xFA)))?;
-    all.push((2, held(1, 0xF2)))?;
-    all.push((3, held(2, 0xF2)))?;
-    Ok(Process {
-        cpu: Cpu {
-            ax: 0,
-            cx: 0,
-            dx: 0,
-            bx: 0,
-            sp: 0,
-            bp: 0,
-            si: 0,
-            di: 0,
-            ip: 0x100,
-            flags: 2,
-            cs: 0xF,
-            ds: 0x17,
-            es: 0,
-            ss: 0x17,
-        },
-        state: State::Live,
-        held: all,
-        place: 1,
-        parent: 0,
-        environment: 0x1F,
-    })
-}
-
+/// A world of one process with code, 16 bytes of data and an environment, under the indexes 1 to 3.
 fn world(alloc: Global) -> Result<World, NoMemory> {
     let mut world = World::new(alloc, 100, 0x1234_5678)?;
-    let code = segment(alloc, b"code")?;
+    let code = segment(alloc, b"code", 4, false)?;
     world.names.push((0, code))?;
-    let data = segment(alloc, b"hello, world ...")?;
+    let data = segment(alloc, b"hello, world ...", 16, false)?;
     world.names.push((1, data))?;
-    let environment = segment(alloc, b"\0\0")?;
+    let environment = segment(alloc, b"", 2, false)?;
     world.names.push((2, environment))?;
     world.next_name = 3;
-    let process = process(alloc)?;
+    let mut process = process(alloc, 1, 0)?;
+    process.cpu.ip = 0x100;
     world.processes.push(process)?;
     world.input = Bytes::from_slice(alloc, b"abc")?;
     Ok(world)
@@ -171,6 +113,19 @@ fn calls_answer_and_tell(rt: HostRuntime) -> Result<(), Fail> {
     assert_eq!(rt; world.lines.as_slice(), REPORT.as_bytes());
     assert_eq!(rt; world.console.as_slice(), b"...".as_slice());
     assert_eq!(rt; world.input.len(), 0);
+    assert!(rt; !world.lives(1));
+    Ok(())
+}
+
+#[test]
+fn a_number_without_a_row_ends_its_process(rt: HostRuntime) -> Result<(), Fail> {
+    let mut world = world(rt.alloc())?;
+    let answer = called(rt.alloc(), &mut world, "1F 1 2")?;
+    assert_eq!(rt; answer, Some(0));
+    assert_eq!(rt;
+        world.lines.as_slice(),
+        b"1 end trap 13 at 000F:0100\n".as_slice()
+    );
     assert!(rt; !world.lives(1));
     Ok(())
 }

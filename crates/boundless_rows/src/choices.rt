@@ -1,4 +1,6 @@
 // What calls are given: words, selectors and pointers, chosen by what a process holds.
+ghost use Rattle.std.specs.Prelude.{◌≤◌};
+
 use crate::sequence::{Sequence, Word, number};
 use o2_boundless::Held;
 use o2_isa::Cpu;
@@ -34,8 +36,10 @@ pub struct Place {
 }
 
 impl Place {
-    /// A selector of it.
-    pub fn selector(&self) -> u16 {
+    /// A selector of it, with all low bits.
+    pub fn selector(&self) -> u16
+        ensures { 7 ≤ result }
+    {
         (self.index % 8192) * 8 + 7
     }
 }

@@ -20,7 +20,7 @@ pub const AVAIL: u32 = 0x1234_5678;
 pub static NAMES: [&str; 2] = ["CAL", "CBL"];
 
 /// A segment of a module, or an environment: these bytes, and zeros behind them.
-fn segment(alloc: Global, front: &[u8], size: u16, is_code: bool) -> Result<Segment, NoMemory> {
+pub fn segment(alloc: Global, front: &[u8], size: u16, is_code: bool) -> Result<Segment, NoMemory> {
     let mut bytes = vec![in alloc; 0; usize::from(size)]?;
     for (to, from) in bytes.iter_mut().zip(front) {
         *to = *from;
@@ -68,7 +68,7 @@ fn start(place: u16) -> Cpu {
 }
 
 /// A process at this place, whose three segments have names from this one on.
-fn process(alloc: Global, place: u16, name: u64) -> Result<Process, NoMemory> {
+pub fn process(alloc: Global, place: u16, name: u64) -> Result<Process, NoMemory> {
     let mut all = Vec::new(alloc);
     all.push((1, held(name, 0xFA)))?;
     all.push((2, held(name.saturating_add(1), 0xF2)))?;

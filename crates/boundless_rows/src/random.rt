@@ -34,6 +34,11 @@ const AVAILABLE: u16 = 19;
 /// How long a code may be before its last calls.
 const LONG: usize = 0x5000;
 
+/// How many bytes one DosWrite takes of a segment.
+fn first_bytes(size: usize) -> u16 {
+    if size < 65_536 { size as u16 } else { 65_535 }
+}
+
 impl Sequence {
     fn push_pointer(&mut self, process: u16, pointer: Pointer) -> Result<(), NoMemory> {
         self.push(process, pointer.selector)?;
@@ -176,7 +181,7 @@ impl Sequence {
                     self.push(process, number(1))?;
                     self.push(process, number(place.selector()))?;
                     self.push(process, number(0))?;
-                    self.push(process, number(place.size.min(65_535) as u16))?;
+                    self.push(process, number(first_bytes(place.size)))?;
                     self.push(process, number(0x17))?;
                     self.push(process, number(0))?;
                     self.call(alloc, process, WRITE)?;

@@ -131,7 +131,7 @@ impl Sequence {
 
     fn set_byte(&mut self, name: u64, at: u16, byte: u8) {
         for k in 0..self.world.names.len() {
-            if self.world.names[k].0 == name {
+            if k < self.world.names.len() && self.world.names[k].0 == name {
                 poke(&mut self.world.names[k].1, at, byte);
             }
         }
