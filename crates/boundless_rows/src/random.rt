@@ -126,7 +126,7 @@ impl Sequence {
     }
 
     /// Loads DS or ES with 0, or with something that the process holds.
-    fn load_any(&mut self, process: u16) -> Result<(), NoMemory> {
+    fn load_any(&mut self, alloc: Global, process: u16) -> Result<(), NoMemory> {
         let into_ds = self.dice.once_in(2);
         let low = self.dice.roll(4);
         let selector = match self.any_held(process) {
@@ -139,7 +139,7 @@ impl Sequence {
             }
             None => low,
         };
-        self.load(process, into_ds, selector)
+        self.load(alloc, process, into_ds, selector)
     }
 
     /// Locks one selector up to 255 and beyond, and unlocks it.
@@ -163,7 +163,7 @@ impl Sequence {
             72..=79 => self.to_pointer(alloc, process, ALIAS, 2),
             80..=84 => self.transfer(alloc, process, false),
             85..=91 => self.transfer(alloc, process, true),
-            92..=97 => self.load_any(process),
+            92..=97 => self.load_any(alloc, process),
             98 => self.tells(alloc, process, GET_PID, 6),
             _ => self.tells(alloc, process, AVAILABLE, 4),
         }

@@ -33,9 +33,8 @@ pub struct Sequence {
     /// The code of each process.
     pub codes: Vec<Vec<u8>>,
     pub script: String,
-    /// The arguments that are pushed, and the steps since the last slice.
+    /// The arguments that are pushed for the next call.
     args: Vec<u16>,
-    steps: u32,
     /// How many calls there are, and which of them the world misses; 0 for none.
     pub calls: u32,
     misses: u32,
@@ -90,7 +89,6 @@ impl Sequence {
             codes,
             script,
             args: Vec::new(alloc),
-            steps: 0,
             calls: 0,
             misses,
         })
@@ -160,12 +158,17 @@ impl Sequence {
         self.set_cpu(process, cpu);
         self.set_top(process, cpu.sp, word.value);
         self.args.push(word.value)?;
-        self.steps = self.steps.saturating_add(1);
         Ok(())
     }
 
-    /// Loads DS, or ES, with a selector that may be loaded.
-    pub fn load(&mut self, process: u16, into_ds: bool, selector: u16) -> Result<(), NoMemory> {
+    /// Loads DS, or ES, with a selector that may be loaded: a slice of two steps.
+    pub fn load(
+        &mut self,
+        alloc: Global,
+        process: u16,
+        into_ds: bool,
+        selector: u16,
+    ) -> Result<(), NoMemory> {
         let Some(mut cpu) = self.cpu(process) else {
             return Ok(());
         };
@@ -180,8 +183,7 @@ impl Sequence {
             cpu.es = selector;
         }
         self.set_cpu(process, cpu);
-        self.steps = self.steps.saturating_add(2);
-        Ok(())
+        write_slice(alloc, &mut self.script, process, 2)
     }
 
     /// The world behind a call with the arguments that are pushed.
@@ -204,14 +206,8 @@ impl Sequence {
         let gate = (service % 64) * 8 + 0x83;
         self.write(process, &[0x9A, 0, 0])?;
         self.write(process, &gate.to_le_bytes())?;
-        self.answer(alloc, process, service)?;
-        write_slice(
-            alloc,
-            &mut self.script,
-            process,
-            self.steps.saturating_add(1),
-        )?;
-        self.steps = 0;
-        Ok(())
+        let steps = (self.args.len() % 65_536) as u32 + 1;
+        write_slice(alloc, &mut self.script, process, steps)?;
+        self.answer(alloc, process, service)
     }
 }

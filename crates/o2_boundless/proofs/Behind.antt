@@ -55,7 +55,7 @@ answer_is x v n p e o = ap (λ s. if is_live s then x.cpu.ax else 0) o.state ∙
 
 -- zeros behind the arguments change none
 
-zero_at : (n i : ℕ) → get_or (replicate n 0) i 0 ≡ 0
+zero_at : (n i : ℕ) → get_or (replicate n zero) i zero ≡ zero
 zero_at zero i = refl
 zero_at (suc n) zero = refl
 zero_at (suc n) (suc i) = zero_at n i

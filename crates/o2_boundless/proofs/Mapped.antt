@@ -9,6 +9,10 @@ pub keyed_more : {X : Type 0} (k : ℕ) (f : X → X) (xs ys : Map X) (i : ℕ) 
     → set ys i (keyed k f e) ≡ map (keyed k f) (take (i + 1) xs) ++ drop (i + 1) xs
 keyed_more k f xs ys i e within is at = map_over_more (keyed k f) xs ys i e within is at
 
+pub keyed_set : {X : Type 0} (k : ℕ) (f : X → X) (xs ys : Map X) (i : ℕ) (e d : ℕ × X) → i < length xs → ys ≡ map (keyed k f) (take i xs) ++ drop i xs → e ≡ get_or ys i e → d ≡ keyed k f e
+    → set ys i d ≡ map (keyed k f) (take (i + 1) xs) ++ drop (i + 1) xs
+keyed_set k f xs ys i e d within is at q = ap (set ys i) q ∙ keyed_more k f xs ys i e within is at
+
 pub keyed_all : {X : Type 0} (k : ℕ) (f : X → X) (xs : Map X) (n : ℕ) → n ≡ length xs → map (keyed k f) (take n xs) ++ drop n xs ≡ at_key k f xs
 keyed_all k f xs n e =
     rw (take_all n xs (omega (arith, e)), drop_all n xs (omega (arith, e)), append-nil (map (keyed k f) xs)) refl

@@ -12,6 +12,7 @@ ghost use Rattle.o2_boundless.specs.Called.{transfer_by, effect_by, behind_effec
 use crate::look::{is_alive, process_of};
 use crate::outcome::{Outcome, trapped};
 use crate::own_rows::exit;
+use crate::pointing::registers;
 use crate::working::{all_edits, is_live};
 use crate::{Process, World};
 use o2_base::NoMemory;
@@ -110,7 +111,7 @@ impl World {
     {
         match row {
             Some(row) => self.outcome(alloc, n, process, row, a),
-            None => trapped(alloc, n, &process.cpu, 13),
+            None => trapped(alloc, n, &registers(process), 13),
         }
     }
 

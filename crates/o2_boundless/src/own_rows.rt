@@ -8,12 +8,12 @@ ghost use Rattle.o2_world.specs.Views.{view_of};
 ghost use Rattle.o2_world.specs.Calls.{read_from, read_with, gives, is_console, not_transferred, pid_bytes, written as transferred};
 ghost use Rattle.o2_boundless.specs.Shown.{before_call};
 ghost use Rattle.o2_boundless.specs.Outcomes.{IsOutcome, plain};
-ghost use Rattle.o2_boundless.specs.Plain.{WritesOne, WritesTwo, told_good};
+ghost use Rattle.o2_boundless.specs.Plain.{WritesOne, WritesTwo, WritesRead, told_good};
 ghost use Rattle.o2_boundless.specs.Called.{exited, pid_told, avail_told};
 
 use crate::outcome::{Named, Outcome, returned, trapped};
-use crate::pointing::{Write, may_read, may_write, range};
-use crate::{Process, Segment, World};
+use crate::pointing::{Write, registers};
+use crate::{Process, World};
 use o2_base::NoMemory;
 use o2_isa::Cpu;
 use o2_report::{LineBuffer, set_calls, set_ends, set_exits};
@@ -212,7 +212,6 @@ fn avail_good(
 }
 
 impl World {
-    #[tactic(auto, using(crate::proofs::Rows::tests))]
     pub(crate) fn get_pid(
         &self,
         alloc: Global,
@@ -224,14 +223,14 @@ impl World {
         ensures { IfOk result (λ x. IsOutcome (before_call self.now number process.now) x
             (pid_told (before_call self.now number process.now) process.now.cpu.ip selector offset)) }
     {
-        if may_write(&self.names, process, selector, offset, 6) {
-            pid_good(alloc, number, &process.cpu, selector, offset)
+        let cpu = registers(process);
+        if self.may_write(process, selector, offset, 6) {
+            pid_good(alloc, number, &cpu, selector, offset)
         } else {
-            trapped(alloc, number, &process.cpu, 13)
+            trapped(alloc, number, &cpu, 13)
         }
     }
 
-    #[tactic(auto, using(crate::proofs::Rows::tests))]
     pub(crate) fn mem_avail(
         &self,
         alloc: Global,
@@ -243,11 +242,18 @@ impl World {
         ensures { IfOk result (λ x. IsOutcome (before_call self.now number process.now) x
             (avail_told (before_call self.now number process.now) process.now.cpu.ip selector offset)) }
     {
-        if may_write(&self.names, process, selector, offset, 4) {
-            avail_good(alloc, number, &process.cpu, self.avail, selector, offset)
+        let cpu = registers(process);
+        if self.may_write(process, selector, offset, 4) {
+            avail_good(alloc, number, &cpu, self.available(), selector, offset)
         } else {
-            trapped(alloc, number, &process.cpu, 13)
+            trapped(alloc, number, &cpu, 13)
         }
+    }
+
+    fn available(&self) -> u32
+        ensures { result ≡ self.now.avail }
+    {
+        self.avail
     }
 }
 
@@ -290,28 +296,32 @@ fn not_transferred(
     plainly(alloc, &call, after, writes, 0, piece, 6, &values)
 }
 
-fn gives(
-    alloc: Global,
-    names: &[(u64, Segment)],
-    number: u16,
-    process: &Process,
-    t: &Transfer,
-) -> Result<Outcome, NoMemory>
-    ensures { IfOk result (λ x. (b : Before) → b.number ≡ number → b.cpu ≡ process.now.cpu → b.view ≡ view_of names.now process.now
-        → IsOutcome b x (gives b b.cpu.ip t.now)) }
-{
-    let args = transfer_args(t);
-    let call = Named {
-        number,
-        name: b"DosWrite",
-        args: &args,
-    };
-    let values = [Argument::Word(t.count)];
-    let after = returned(&process.cpu, 6, 0);
-    let piece = range(alloc, names, process, t.selector, t.offset, t.count)?;
-    let done = word_bytes(alloc, t.count)?;
-    let writes = one_write(alloc, t.done_selector, t.done_offset, done)?;
-    plainly(alloc, &call, after, writes, 0, piece, 0, &values)
+impl World {
+    /// A DosWrite with good pointers to the console.
+    fn gives(
+        &self,
+        alloc: Global,
+        number: u16,
+        process: &Process,
+        t: &Transfer,
+    ) -> Result<Outcome, NoMemory>
+        ensures { IfOk result (λ x. IsOutcome (before_call self.now number process.now) x
+            (gives (before_call self.now number process.now) process.now.cpu.ip t.now)) }
+    {
+        let args = transfer_args(t);
+        let call = Named {
+            number,
+            name: b"DosWrite",
+            args: &args,
+        };
+        let values = [Argument::Word(t.count)];
+        let cpu = registers(process);
+        let after = returned(&cpu, 6, 0);
+        let piece = self.range(alloc, process, t.selector, t.offset, t.count)?;
+        let done = word_bytes(alloc, t.count)?;
+        let writes = one_write(alloc, t.done_selector, t.done_offset, done)?;
+        plainly(alloc, &call, after, writes, 0, piece, 0, &values)
+    }
 }
 
 #[tactic(auto, using(std::proofs::lemmas::List::take_all))]
@@ -326,6 +336,53 @@ fn front(bytes: &[u8], count: u16) -> &[u8]
     }
 }
 
+#[tactic(auto, using(crate::proofs::OwnRows::two_read))]
+fn read_writes(alloc: Global, t: &Transfer, got: &[u8]) -> Result<Vec<Write>, NoMemory>
+    requires { length got.now ≤ 65535 }
+    ensures { IfOk result (λ v. WritesRead v.items t.now got.now) }
+{
+    let part = Vec::from_slice(alloc, got)?;
+    let done = word_bytes(alloc, got.len() as u16)?;
+    let first = Write {
+        selector: t.selector,
+        offset: t.offset,
+        part,
+    };
+    let second = Write {
+        selector: t.done_selector,
+        offset: t.done_offset,
+        part: done,
+    };
+    two_writes(alloc, first, second)
+}
+
+/// A DosRead with good pointers that got these bytes.
+fn got_bytes(
+    alloc: Global,
+    got: &[u8],
+    number: u16,
+    cpu: &Cpu,
+    t: &Transfer,
+) -> Result<Outcome, NoMemory>
+    requires { length got.now ≤ 65535 }
+    ensures { IfOk result (λ x. (b : Before) → b.number ≡ number → b.cpu ≡ cpu.now
+        → IsOutcome b x (read_with b b.cpu.ip t.now got.now (drop t.now.count b.input))) }
+{
+    let args = transfer_args(t);
+    let call = Named {
+        number,
+        name: b"DosRead",
+        args: &args,
+    };
+    let count = got.len() as u16;
+    let values = [Argument::Word(count)];
+    let after = returned(cpu, 6, 0);
+    let writes = read_writes(alloc, t, got)?;
+    let piece = Vec::new(alloc);
+    let read = t.count as usize;
+    plainly(alloc, &call, after, writes, read, piece, 0, &values)
+}
+
 fn takes(
     alloc: Global,
     input: &[u8],
@@ -336,39 +393,8 @@ fn takes(
     ensures { IfOk result (λ x. (b : Before) → b.number ≡ number → b.cpu ≡ cpu.now → b.input ≡ input.now
         → IsOutcome b x (read_with b b.cpu.ip t.now (take t.now.count b.input) (drop t.now.count b.input))) }
 {
-    let args = transfer_args(t);
-    let call = Named {
-        number,
-        name: b"DosRead",
-        args: &args,
-    };
     let got = front(input, t.count);
-    let count = got.len() as u16;
-    let values = [Argument::Word(count)];
-    let after = returned(cpu, 6, 0);
-    let done = word_bytes(alloc, count)?;
-    let first = Write {
-        selector: t.selector,
-        offset: t.offset,
-        part: Vec::from_slice(alloc, got)?,
-    };
-    let second = Write {
-        selector: t.done_selector,
-        offset: t.done_offset,
-        part: done,
-    };
-    let writes = two_writes(alloc, first, second)?;
-    let piece = Vec::new(alloc);
-    plainly(
-        alloc,
-        &call,
-        after,
-        writes,
-        t.count as usize,
-        piece,
-        0,
-        &values,
-    )
+    got_bytes(alloc, got, number, cpu, t)
 }
 
 fn is_console(handle: u16) -> bool
@@ -377,63 +403,68 @@ fn is_console(handle: u16) -> bool
     handle == 1 || handle == 2
 }
 
-/// Both pointers of a DosWrite are good.
-fn may_give(names: &[(u64, Segment)], process: &Process, t: &Transfer) -> bool
-    ensures { result ≡ (reads (view_of names.now process.now) t.now.selector t.now.offset t.now.count
-        && writes_to (view_of names.now process.now) t.now.done_selector t.now.done_offset 2) }
-{
-    may_read(names, process, t.selector, t.offset, t.count)
-        && may_write(names, process, t.done_selector, t.done_offset, 2)
-}
-
-/// Both pointers of a DosRead are good.
-fn may_take(names: &[(u64, Segment)], process: &Process, t: &Transfer) -> bool
-    ensures { result ≡ (writes_to (view_of names.now process.now) t.now.selector t.now.offset t.now.count
-        && writes_to (view_of names.now process.now) t.now.done_selector t.now.done_offset 2) }
-{
-    may_write(names, process, t.selector, t.offset, t.count)
-        && may_write(names, process, t.done_selector, t.done_offset, 2)
-}
-
-#[tactic(auto, using(crate::proofs::Rows::tests))]
-fn written(
-    alloc: Global,
-    names: &[(u64, Segment)],
-    number: u16,
-    process: &Process,
-    t: &Transfer,
-) -> Result<Outcome, NoMemory>
-    ensures { IfOk result (λ x. (b : Before) → b.number ≡ number → b.cpu ≡ process.now.cpu → b.view ≡ view_of names.now process.now
-        → IsOutcome b x (if is_console t.now.handle then gives b b.cpu.ip t.now else not_transferred (codes "DosWrite") b b.cpu.ip t.now t.now.count)) }
-{
-    if is_console(t.handle) {
-        gives(alloc, names, number, process, t)
-    } else {
-        not_transferred(alloc, number, &process.cpu, b"DosWrite", t, t.count)
-    }
-}
-
-#[tactic(auto, using(crate::proofs::Rows::tests))]
-fn taken(
-    alloc: Global,
-    input: &[u8],
-    number: u16,
-    cpu: &Cpu,
-    t: &Transfer,
-) -> Result<Outcome, NoMemory>
-    ensures { IfOk result (λ x. (b : Before) → b.number ≡ number → b.cpu ≡ cpu.now → b.input ≡ input.now
-        → IsOutcome b x (if t.now.handle == 0 then read_with b b.cpu.ip t.now (take t.now.count b.input) (drop t.now.count b.input)
-        else not_transferred (codes "DosRead") b b.cpu.ip t.now 0)) }
-{
-    if t.handle == 0 {
-        takes(alloc, input, number, cpu, t)
-    } else {
-        not_transferred(alloc, number, cpu, b"DosRead", t, 0)
-    }
-}
-
 impl World {
-    #[tactic(auto, using(crate::proofs::Rows::tests))]
+    /// Both pointers of a DosWrite are good.
+    fn may_give(&self, process: &Process, t: &Transfer) -> bool
+        ensures { result ≡ (reads (view_of self.now.world.names process.now) t.now.selector t.now.offset t.now.count
+            && writes_to (view_of self.now.world.names process.now) t.now.done_selector t.now.done_offset 2) }
+    {
+        self.may_read(process, t.selector, t.offset, t.count)
+            && self.may_write(process, t.done_selector, t.done_offset, 2)
+    }
+
+    /// Both pointers of a DosRead are good.
+    fn may_take(&self, process: &Process, t: &Transfer) -> bool
+        ensures { result ≡ (writes_to (view_of self.now.world.names process.now) t.now.selector t.now.offset t.now.count
+            && writes_to (view_of self.now.world.names process.now) t.now.done_selector t.now.done_offset 2) }
+    {
+        self.may_write(process, t.selector, t.offset, t.count)
+            && self.may_write(process, t.done_selector, t.done_offset, 2)
+    }
+
+    fn left(&self) -> &[u8]
+        ensures { result.now ≡ self.now.world.input }
+    {
+        self.input.as_slice()
+    }
+
+    fn written(
+        &self,
+        alloc: Global,
+        number: u16,
+        process: &Process,
+        t: &Transfer,
+    ) -> Result<Outcome, NoMemory>
+        ensures { IfOk result (λ x. let b = before_call self.now number process.now in IsOutcome b x
+            (if is_console t.now.handle then gives b process.now.cpu.ip t.now else not_transferred (codes "DosWrite") b process.now.cpu.ip t.now t.now.count)) }
+    {
+        if is_console(t.handle) {
+            self.gives(alloc, number, process, t)
+        } else {
+            let cpu = registers(process);
+            not_transferred(alloc, number, &cpu, b"DosWrite", t, t.count)
+        }
+    }
+
+    fn taken(
+        &self,
+        alloc: Global,
+        number: u16,
+        process: &Process,
+        t: &Transfer,
+    ) -> Result<Outcome, NoMemory>
+        ensures { IfOk result (λ x. let b = before_call self.now number process.now in IsOutcome b x
+            (if t.now.handle == 0 then read_with b process.now.cpu.ip t.now (take t.now.count b.input) (drop t.now.count b.input)
+            else not_transferred (codes "DosRead") b process.now.cpu.ip t.now 0)) }
+    {
+        let cpu = registers(process);
+        if t.handle == 0 {
+            takes(alloc, self.left(), number, &cpu, t)
+        } else {
+            not_transferred(alloc, number, &cpu, b"DosRead", t, 0)
+        }
+    }
+
     pub(crate) fn write(
         &self,
         alloc: Global,
@@ -444,14 +475,13 @@ impl World {
         ensures { IfOk result (λ x. IsOutcome (before_call self.now number process.now) x
             (transferred (before_call self.now number process.now) process.now.cpu.ip t.now)) }
     {
-        if may_give(&self.names, process, t) {
-            written(alloc, &self.names, number, process, t)
+        if self.may_give(process, t) {
+            self.written(alloc, number, process, t)
         } else {
-            trapped(alloc, number, &process.cpu, 13)
+            trapped(alloc, number, &registers(process), 13)
         }
     }
 
-    #[tactic(auto, using(crate::proofs::Rows::tests))]
     pub(crate) fn read(
         &self,
         alloc: Global,
@@ -462,10 +492,10 @@ impl World {
         ensures { IfOk result (λ x. IsOutcome (before_call self.now number process.now) x
             (read_from (before_call self.now number process.now) process.now.cpu.ip t.now)) }
     {
-        if may_take(&self.names, process, t) {
-            taken(alloc, self.input.as_slice(), number, &process.cpu, t)
+        if self.may_take(process, t) {
+            self.taken(alloc, number, process, t)
         } else {
-            trapped(alloc, number, &process.cpu, 13)
+            trapped(alloc, number, &registers(process), 13)
         }
     }
 }

@@ -9,9 +9,10 @@ ghost use Rattle.o2_boundless.specs.Outcomes.{written, is_behind, reaches};
 
 use crate::look::{held_under, segment_of};
 use crate::rulings::{is_local, is_null};
-use crate::{Held, Process, Segment};
+use crate::{Held, Process, Segment, World};
 use o2_base::NoMemory;
 use o2_desc::Access;
+use o2_isa::Cpu;
 use std::alloc::Global;
 
 /// Bytes that a call writes behind a pointer.
@@ -67,7 +68,7 @@ fn reaches(
 
 /// Whether a pointer is good to write through.
 #[tactic(auto, using(crate::proofs::Pointers::good))]
-pub(crate) fn may_write(
+fn may_write(
     names: &[(u64, Segment)],
     process: &Process,
     selector: u16,
@@ -81,7 +82,7 @@ pub(crate) fn may_write(
 
 /// Whether a pointer is good to read through.
 #[tactic(auto, using(crate::proofs::Pointers::good))]
-pub(crate) fn may_read(
+fn may_read(
     names: &[(u64, Segment)],
     process: &Process,
     selector: u16,
@@ -91,6 +92,49 @@ pub(crate) fn may_read(
     ensures { result ≡ may_read (view_of names.now process.now) selector offset count }
 {
     count == 0 || reaches(names, false, offset, count, bound(&process.held, selector))
+}
+
+impl World {
+    /// Whether a pointer of a process is good to write through.
+    pub(crate) fn may_write(
+        &self,
+        process: &Process,
+        selector: u16,
+        offset: u16,
+        count: u16,
+    ) -> bool
+        ensures { result ≡ may_write (view_of self.now.world.names process.now) selector offset count }
+    {
+        may_write(&self.names, process, selector, offset, count)
+    }
+
+    /// Whether a pointer of a process is good to read through.
+    pub(crate) fn may_read(&self, process: &Process, selector: u16, offset: u16, count: u16) -> bool
+        ensures { result ≡ may_read (view_of self.now.world.names process.now) selector offset count }
+    {
+        may_read(&self.names, process, selector, offset, count)
+    }
+
+    /// The bytes of a range of a process, which lies in its segment.
+    pub(crate) fn range(
+        &self,
+        alloc: Global,
+        process: &Process,
+        selector: u16,
+        offset: u16,
+        count: u16,
+    ) -> Result<Vec<u8>, NoMemory>
+        ensures { IfOk result (λ v. v.items ≡ range_of (holds_in process.now.held) (bytes_in self.now.world.names) selector offset count) }
+    {
+        range(alloc, &self.names, process, selector, offset, count)
+    }
+}
+
+/// The registers of a process.
+pub(crate) fn registers(process: &Process) -> Cpu
+    ensures { result ≡ process.now.cpu }
+{
+    process.cpu
 }
 
 fn copied_bytes(alloc: Global, segment: Option<&Segment>) -> Result<Vec<u8>, NoMemory>
@@ -121,7 +165,7 @@ fn part_of(alloc: Global, bytes: &[u8], offset: u16, count: u16) -> Result<Vec<u
 
 /// The bytes of a range, which lies in its segment.
 #[tactic(auto, unfolding(o2_isa::specs::Pointers::range_of), using(crate::proofs::Pointers::ranges))]
-pub(crate) fn range(
+fn range(
     alloc: Global,
     names: &[(u64, Segment)],
     process: &Process,

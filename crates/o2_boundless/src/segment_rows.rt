@@ -8,7 +8,7 @@ ghost use Rattle.o2_boundless.specs.Outcomes.{IsOutcome, written_by, pointed};
 use crate::outcome::{
     Named, Outcome, Reply, back, returned, ruled, ruled_at, trapped, written_long, written_word,
 };
-use crate::pointing::may_write;
+use crate::pointing::registers;
 use crate::rulings::{Verdict, dropped_indexes};
 use crate::{Process, World};
 use o2_base::NoMemory;
@@ -17,7 +17,6 @@ use std::alloc::Global;
 
 impl World {
     /// A call with a pointer behind which it writes its value, by what it comes to.
-    #[tactic(auto, using(crate::proofs::Rows::tests))]
     fn pointed(
         &self,
         alloc: Global,
@@ -33,10 +32,11 @@ impl World {
         ensures { IfOk result (λ x. IsOutcome (before_call self.now call.now.number process.now) x
             (pointed (before_call self.now call.now.number process.now) words count call.now.name.now call.now.args.now (written_by reply) (ruling_of verdict))) }
     {
-        if may_write(&self.names, process, reply.selector, reply.offset, count) {
-            ruled_at(alloc, call, &process.cpu, words, reply, verdict)
+        let cpu = registers(process);
+        if self.may_write(process, reply.selector, reply.offset, count) {
+            ruled_at(alloc, call, &cpu, words, reply, verdict)
         } else {
-            trapped(alloc, call.number, &process.cpu, 13)
+            trapped(alloc, call.number, &cpu, 13)
         }
     }
 
@@ -86,7 +86,7 @@ impl World {
             name: b"DosReallocSeg",
             args: &args,
         };
-        ruled(alloc, &call, &process.cpu, 2, verdict)
+        ruled(alloc, &call, &registers(process), 2, verdict)
     }
 
     pub(crate) fn free_seg(
@@ -99,9 +99,10 @@ impl World {
         ensures { IfOk result (λ x. let b = before_call self.now number process.now in
             IsOutcome b x (freed b b.cpu.ip selector)) }
     {
-        let verdict = self.freeing(alloc, number, selector, &process.cpu)?;
+        let cpu = registers(process);
+        let verdict = self.freeing(alloc, number, selector, &cpu)?;
         let dropped = dropped_indexes(alloc, &verdict.edits)?;
-        let after = returned(&process.cpu, 1, verdict.error);
+        let after = returned(&cpu, 1, verdict.error);
         let after = self.freed_cpu(number, &dropped, &after);
         let args = [Argument::Word(selector)];
         let call = Named {
@@ -152,7 +153,7 @@ impl World {
             name: b"DosLockSeg",
             args: &args,
         };
-        ruled(alloc, &call, &process.cpu, 1, verdict)
+        ruled(alloc, &call, &registers(process), 1, verdict)
     }
 
     pub(crate) fn unlock_seg(
@@ -172,7 +173,7 @@ impl World {
             name: b"DosUnlockSeg",
             args: &args,
         };
-        ruled(alloc, &call, &process.cpu, 1, verdict)
+        ruled(alloc, &call, &registers(process), 1, verdict)
     }
 
     pub(crate) fn create_cs_alias(
