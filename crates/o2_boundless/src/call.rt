@@ -1,5 +1,6 @@
 // A call of a process.
 ghost use Rattle.std.specs.Prelude.{◌≡◌, ◌≤◌, ◌++◌, true, IfOk, OnErr, OnOk, Some, length, replicate, slice_index};
+ghost use Rattle.std.specs.Option.{option_copied};
 ghost use Rattle.o2_world.specs.declared.types.Row.TheVariants.{OnSegments};
 ghost use Rattle.o2_world.specs.Calls.{row_of};
 ghost use Rattle.o2_world.specs.Known.{lives_at};
@@ -115,7 +116,6 @@ impl World {
         }
     }
 
-    #[tactic(auto, using(crate::proofs::Behind::behind))]
     fn behind(
         &self,
         alloc: Global,
@@ -159,7 +159,12 @@ impl World {
         Ok(error)
     }
 
-    #[tactic(auto, using(crate::proofs::Behind::called))]
+    fn process(&self, pid: u16) -> Option<&Process>
+        ensures { option_copied result ≡ process_at self.now.world.processes pid }
+    {
+        process_of(&self.processes, pid)
+    }
+
     fn called(
         &self,
         alloc: Global,
@@ -170,7 +175,7 @@ impl World {
         ensures world { IfOk result (λ r. r.0 ≡ behind_call self.now pid service args.now) }
         ensures error { IfOk result (λ r. r.1 ≡ answer self.now pid service args.now) }
     {
-        let Some(process) = process_of(&self.processes, pid) else {
+        let Some(process) = self.process(pid) else {
             return Err(NoMemory);
         };
         let args = padded(alloc, args)?;

@@ -1,18 +1,15 @@
 // The world behind what a call does.
 ghost use Rattle.std.specs.Prelude.{◌≡◌, ◌++◌, ◌∷◌, [], IfOk, drop, if◌then◌else◌};
 ghost use Rattle.o2_world.specs.World.{is_live};
-ghost use Rattle.o2_world.specs.Holders.{with_process};
 ghost use Rattle.o2_world.specs.Changes.{Finishes};
 ghost use Rattle.o2_boundless.specs.Edits.{changes_of};
-ghost use Rattle.o2_boundless.specs.Worked.{with_state, worked_by};
+ghost use Rattle.o2_boundless.specs.Worked.{with_state, with_writes, with_worker, with_input, with_console, with_report, worked_by};
 
 use crate::changing::Edit;
 use crate::outcome::Outcome;
-use crate::pointing::with_writes;
-use crate::world::{copied_processes, copied_reserves, copied_texts};
+use crate::pointing::{Write, with_writes};
 use crate::{Process, World};
 use o2_base::{Bytes, NoMemory};
-use o2_conf::Script;
 use o2_isa::Cpu;
 use o2_world::State;
 use std::alloc::Global;
@@ -62,21 +59,6 @@ fn with_state(
     Ok(after)
 }
 
-fn with_process(
-    alloc: Global,
-    processes: &[Process],
-    number: u16,
-    process: Process,
-) -> Result<Vec<Process>, NoMemory>
-    ensures { IfOk result (λ v. v.items ≡ with_process processes.now number process) }
-{
-    let mut all = copied_processes(alloc, processes)?;
-    if number != 0 && number as usize <= all.len() {
-        all[number as usize - 1] = process;
-    }
-    Ok(all)
-}
-
 /// All changes: where the process has ended, that comes behind them.
 #[tactic(auto, using(crate::proofs::Lists::drops))]
 pub(crate) fn all_edits(
@@ -93,6 +75,47 @@ pub(crate) fn all_edits(
 }
 
 impl World {
+    fn write_behind(
+        &mut self,
+        alloc: Global,
+        process: &Process,
+        writes: &[Write],
+    ) -> Result<(), NoMemory>
+        ensures { IfOk result (λ _. self.new ≡ with_writes process.now.held writes.now self.old) }
+    {
+        self.names = with_writes(alloc, &self.names, &process.held, writes)?;
+        Ok(())
+    }
+
+    fn put_process(&mut self, number: u16, process: Process)
+        ensures { self.new ≡ with_worker number process self.old }
+    {
+        if number != 0 && number as usize <= self.processes.len() {
+            self.processes[number as usize - 1] = process;
+        }
+    }
+
+    fn take_input(&mut self, alloc: Global, count: usize) -> Result<(), NoMemory>
+        ensures { IfOk result (λ _. self.new ≡ with_input (drop count self.old.world.input) self.old) }
+    {
+        self.input = Bytes::from_slice(alloc, rest(self.input.as_slice(), count))?;
+        Ok(())
+    }
+
+    fn add_piece(&mut self, alloc: Global, piece: &[u8]) -> Result<(), NoMemory>
+        ensures { IfOk result (λ _. self.new ≡ with_console (self.old.world.console ++ piece.now) self.old) }
+    {
+        self.console = joined(alloc, self.console.as_slice(), piece)?;
+        Ok(())
+    }
+
+    fn add_lines(&mut self, alloc: Global, lines: &[u8]) -> Result<(), NoMemory>
+        ensures { IfOk result (λ _. self.new ≡ with_report (self.old.report ++ lines.now) self.old) }
+    {
+        self.lines = joined(alloc, self.lines.as_slice(), lines)?;
+        Ok(())
+    }
+
     /// The world as what a call does leaves it, before its changes.
     pub(crate) fn worked(
         &self,
@@ -103,31 +126,13 @@ impl World {
     ) -> Result<World, NoMemory>
         ensures { IfOk result (λ w. w ≡ worked_by self.now number process.now outcome.now) }
     {
-        let names = with_writes(alloc, &self.names, &process.held, &outcome.writes)?;
+        let mut world = self.copy(alloc)?;
+        world.write_behind(alloc, process, &outcome.writes)?;
         let after = with_state(alloc, process, &outcome.cpu, outcome.state)?;
-        let processes = with_process(alloc, &self.processes, number, after)?;
-        let reserved = copied_reserves(alloc, &self.reserved)?;
-        let texts = copied_texts(alloc, &self.texts)?;
-        let input = Bytes::from_slice(alloc, rest(self.input.as_slice(), outcome.read))?;
-        let console = joined(alloc, self.console.as_slice(), &outcome.piece)?;
-        let lines = joined(alloc, self.lines.as_slice(), &outcome.lines)?;
-        let script = self.script.to_vec(alloc)?;
-        Ok(World {
-            names,
-            next_name: self.next_name,
-            processes,
-            reserved,
-            texts,
-            input,
-            console,
-            lines,
-            script: Script::new(script),
-            current: self.current,
-            left: self.left,
-            turn: self.turn,
-            budget: self.budget,
-            segments: self.segments,
-            avail: self.avail,
-        })
+        world.put_process(number, after);
+        world.take_input(alloc, outcome.read)?;
+        world.add_piece(alloc, &outcome.piece)?;
+        world.add_lines(alloc, &outcome.lines)?;
+        Ok(world)
     }
 }

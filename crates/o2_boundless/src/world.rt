@@ -73,10 +73,7 @@ fn copied_names(alloc: Global, names: &[(u64, Segment)]) -> Result<Vec<(u64, Seg
     Ok(copy)
 }
 
-pub(crate) fn copied_processes(
-    alloc: Global,
-    processes: &[Process],
-) -> Result<Vec<Process>, NoMemory>
+fn copied_processes(alloc: Global, processes: &[Process]) -> Result<Vec<Process>, NoMemory>
     ensures { IfOk result (λ v. v.items ≡ processes.now) }
 {
     let mut copy = Vec::new(alloc);
@@ -87,7 +84,7 @@ pub(crate) fn copied_processes(
     Ok(copy)
 }
 
-pub(crate) fn copied_reserves(alloc: Global, reserves: &[Reserve]) -> Result<Vec<Reserve>, NoMemory>
+fn copied_reserves(alloc: Global, reserves: &[Reserve]) -> Result<Vec<Reserve>, NoMemory>
     ensures { IfOk result (λ v. v.items ≡ reserves.now) }
 {
     let mut copy = Vec::new(alloc);
@@ -97,10 +94,7 @@ pub(crate) fn copied_reserves(alloc: Global, reserves: &[Reserve]) -> Result<Vec
     Ok(copy)
 }
 
-pub(crate) fn copied_texts(
-    alloc: Global,
-    texts: &[(Bytes, u64)],
-) -> Result<Vec<(Bytes, u64)>, NoMemory>
+fn copied_texts(alloc: Global, texts: &[(Bytes, u64)]) -> Result<Vec<(Bytes, u64)>, NoMemory>
     ensures { IfOk result (λ v. v.items ≡ texts.now) }
 {
     let mut copy = Vec::new(alloc);
