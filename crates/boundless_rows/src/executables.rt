@@ -86,7 +86,7 @@ fn write_keys(alloc: Global, text: &mut String, keys: &Keys<'_>) -> Result<(), N
     write_number(alloc, text, "memory = ", keys.memory)?;
     write_number(alloc, text, "segments = ", keys.segments)?;
     write_number(alloc, text, "avail = ", AVAIL)?;
-    text.push_str("swap = 8192\nquantum = 1\nbudget = 1000000\nscript = [")?;
+    text.push_str("swap = 2048\nquantum = 1\nbudget = 1000000\nscript = [")?;
     text.push_str(keys.script)?;
     text.push_str("]\nmodules = [")?;
     Ok(())

@@ -7,6 +7,9 @@ use o2_cli::{number, os2run};
 use o2_outer::{MemFiles, MemSink, MemSource, MemSwap};
 use std::alloc::Global;
 
+/// A memory for sixteen segments of 65,536 bytes, in paragraphs of 16.
+const AMPLE: u32 = 65_536;
+
 /// What a run came to.
 #[derive(Drop)]
 struct Answer {
@@ -28,7 +31,7 @@ fn run_files(alloc: Global, files: Vec<(Bytes, Bytes)>, input: &[u8]) -> Result<
     let mut input = MemSource::new(Bytes::from_slice(alloc, input)?, Vec::new(alloc));
     let mut console = MemSink::new(alloc, 4_194_304, Vec::new(alloc))?;
     let mut report = MemSink::new(alloc, 1_048_576, Vec::new(alloc))?;
-    let mut swap = MemSwap::new(alloc, 8192, Vec::new(alloc))?;
+    let mut swap = MemSwap::new(alloc, 2048, Vec::new(alloc))?;
     let words = words(alloc)?;
     let status = os2run(
         alloc,
@@ -139,19 +142,19 @@ fn closer(
     Ok(None)
 }
 
-/// The least memory of the program, between 4,080 bytes and 4,194,304, in paragraphs, found by runs in smaller and larger ones; nothing
-/// where one of these runs isn't that of the sequence's world.
+/// The least memory of the program, in paragraphs, found by runs in smaller and larger ones than it; nothing where one of these runs isn't
+/// that of the sequence's world.
 pub fn least(alloc: Global, sequence: &Sequence) -> Result<Option<Between>, NoMemory> {
     let report = report_of(alloc, sequence)?;
-    let ample = run(alloc, sequence, 4_194_304)?;
+    let ample = run(alloc, sequence, AMPLE * 16)?;
     if !ample.is_whole(sequence.world.console.as_slice(), &report) {
         return Ok(None);
     }
     let mut between = Between {
         small: 255,
-        large: 262_144,
+        large: AMPLE,
     };
-    for _ in 0..18 {
+    for _ in 0..16 {
         if between.large.saturating_sub(between.small) > 1 {
             match closer(alloc, sequence, &report, between)? {
                 Some(next) => between = next,
