@@ -1,5 +1,5 @@
 -- What a call does, as an effect, leaves the world of that effect.
-use Rattle.std.proofs.Common.{◌≡◌, ℕ, ◌++◌, zero, suc, drop, get_or, replicate, List, [], ◌∷◌, Option, Some, None, Result, Ok, Err, refl, ap, sym, ◌∙◌}
+use Rattle.std.proofs.Common.{◌≡◌, ℕ, ◌++◌, zero, suc, drop, get_or, replicate, List, [], ◌∷◌, Option, Some, Result, Ok, Err, refl, ap, ◌∙◌}
 use Rattle.std.specs.Prelude.{if◌then◌else◌}
 use Rattle.std.specs.Result.{IfOk}
 use mathlib.Core.Path.{fun_ext}
@@ -8,7 +8,6 @@ use Rattle.o2_world.specs.declared.types.State.{State}
 use Rattle.o2_world.specs.World.{Process, is_live}
 use Rattle.o2_world.specs.declared.types.Row.{Row}
 use Rattle.o2_world.specs.Changes.{Change, Finishes, with_all}
-use Rattle.o2_world.specs.Run.{all_changes}
 use Rattle.o2_world.specs.CallParts.{Effect}
 use Rattle.o2_world.specs.Views.{bytes_in, holds_in}
 use Rattle.o2_world.specs.Text.{lines_text}

@@ -1,12 +1,11 @@
 -- Lists of changes and of indexes, one item more.
 use Rattle.std.proofs.Common.{◌≡◌, ℕ, zero, suc, ◌+◌, ◌<◌, Bool, true, false, List, [], ◌∷◌, ◌++◌, length, map, filter, take, get_or, Option, refl, ap, sym, ◌∙◌, arith, add-one, cond}
-use Rattle.std.specs.Prelude.{is_some, if◌then◌else◌}
+use Rattle.std.specs.Prelude.{if◌then◌else◌}
 use Rattle.std.proofs.lemmas.List.{map-append, take_more, append-nil}
 use Rattle.std.proofs.lemmas.List.Elements.{filter-append}
 use Rattle.o2_world.specs.Changes.{Change, Drops}
 use Rattle.o2_world.specs.Rulings.{indexes, dropped_by, dropped_indexes}
 use Rattle.o2_boundless.specs.declared.changing.Edit.{Edit}
-use Rattle.o2_boundless.specs.declared.changing.Edit.TheVariants as edit
 use Rattle.o2_boundless.specs.Edits.{change_of, changes_of}
 
 pub changes_of-push : (es : List Edit) (e : Edit) → changes_of (es ++ e ∷ []) ≡ changes_of es ++ change_of e ∷ []

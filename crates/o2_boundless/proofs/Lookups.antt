@@ -1,5 +1,5 @@
 -- Look-ups in maps are those of the first pair that passes a test.
-use Rattle.std.proofs.Common.{◌≡◌, ℕ, ◌+◌, Bool, true, false, List, [], ◌∷◌, Option, Some, None, find, option_map, eqb, refl, ap, ◌∙◌, sym, arith, add-one}
+use Rattle.std.proofs.Common.{◌≡◌, ℕ, ◌+◌, Bool, true, false, [], ◌∷◌, Option, Some, None, find, option_map, refl, ap, ◌∙◌, sym, add-one}
 use Rattle.std.specs.Prelude.{if◌then◌else◌, ◌==◌, is_some}
 use Rattle.o2_boundless.specs.Keys.{has_key}
 use Rattle.o2_world.specs.Map.{Map, get}

@@ -1,9 +1,8 @@
 -- The rows that change nothing but bytes, from what their parts say.
-use Rattle.std.proofs.Common.{◌≡◌, ℕ, Bool, List, [], ◌∷◌, codes, length, take, drop, Result, Ok, Err, refl, ap, sym, subst, ◌∙◌}
+use Rattle.std.proofs.Common.{◌≡◌, ℕ, List, [], ◌∷◌, codes, length, take, drop, Result, Ok, Err, refl, ap, sym, subst, ◌∙◌}
 use Rattle.std.specs.Result.{IfOk}
 use Rattle.o2_base.specs.declared.memory.NoMemory.{NoMemory}
 use Rattle.o2_isa.specs.declared.cpu.Cpu.{Cpu}
-use Rattle.o2_isa.specs.View.{Hold}
 use Rattle.o2_isa.specs.Pointers.{put_at_pointer, range_of}
 use Rattle.o2_world.specs.declared.types.Argument.{Argument}
 use Rattle.o2_world.specs.declared.types.Argument.TheVariants.{Word, Far}
@@ -11,7 +10,7 @@ use Rattle.o2_world.specs.declared.types.Transfer.{Transfer}
 use Rattle.o2_world.specs.World.{Calls, Segment, Process}
 use Rattle.o2_world.specs.Map.{Map}
 use Rattle.o2_world.specs.Views.{view_of, holds_in, bytes_in}
-use Rattle.o2_world.specs.CallParts.{Before, Effect, returned, word_bytes}
+use Rattle.o2_world.specs.CallParts.{Before, returned, word_bytes}
 use Rattle.o2_world.specs.Calls.{gives, not_transferred, read_with}
 use Rattle.o2_world.specs.Text.{lines_text}
 use Rattle.o2_boundless.specs.declared.pointing.Write.{Write}

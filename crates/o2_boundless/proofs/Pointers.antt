@@ -1,13 +1,10 @@
 -- When a pointer is good, by what its selector is bound to.
-use Rattle.std.proofs.Common.{◌≡◌, ℕ, ◌+◌, Bool, true, false, List, [], Option, Some, None, length, take, drop, refl, ap, sym, ◌∙◌, arith}
-use Rattle.std.specs.Prelude.{◌==◌, ◌&&◌, ◌||◌, nat_le, if◌then◌else◌, option_map}
+use Rattle.std.proofs.Common.{◌≡◌, ℕ, ◌+◌, Bool, true, false, List, [], Option, Some, None, length, take, drop, refl, ap, sym, ◌∙◌}
+use Rattle.std.specs.Prelude.{◌==◌, ◌&&◌, ◌||◌, nat_le, if◌then◌else◌}
 use Rattle.o2_isa.specs.declared.cpu.Cpu.{Cpu}
-use Rattle.o2_isa.specs.declared.cpu.Loaded.{Loaded}
 use Rattle.o2_isa.specs.declared.cpu.Loaded.TheVariants as loaded
-use Rattle.o2_isa.specs.declared.cpu.Purpose.TheVariants.{DataReg}
-use Rattle.o2_isa.specs.View.{View, Hold, is_null, is_local, is_readable, is_writable, bound_in, found_in, probe_of, refused}
-use Rattle.o2_isa.specs.Pointers.{is_good, is_for_es, is_passed, has_range, range_of, range_in}
-use Rattle.o2_isa.specs.Steps.{selector}
+use Rattle.o2_isa.specs.View.{Hold, is_null, is_readable, is_writable, bound_in, found_in, probe_of, refused}
+use Rattle.o2_isa.specs.Pointers.{is_good, is_for_es, is_passed, range_of}
 use Rattle.o2_world.specs.World.{Segment, Held, Process}
 use Rattle.o2_world.specs.Map.{Map, get}
 use Rattle.o2_boundless.specs.Outcomes.{reaches}

@@ -1,12 +1,12 @@
 -- The lines of holds, as pairs in order.
-use Rattle.std.proofs.Common.{◌≡◌, ℕ, zero, suc, ◌+◌, ◌-◌, ◌*◌, ◌<◌, ◌≤◌, Bool, true, false, List, [], ◌∷◌, ◌++◌, length, map, take, drop, replicate, get_or, refl, ap, sym, ◌∙◌, arith, add-one, drop-cons, append_assoc}
+use Rattle.std.proofs.Common.{◌≡◌, ℕ, zero, suc, ◌+◌, ◌<◌, Bool, true, false, List, [], ◌∷◌, ◌++◌, length, map, take, drop, replicate, get_or, refl, ap, sym, ◌∙◌, arith, add-one, append_assoc}
 use Rattle.std.specs.Prelude.{nat_le, if◌then◌else◌, flat_map}
 use Rattle.std.specs.List.{insert}
 use Rattle.std.proofs.lemmas.List.{map-append, take_more, drop_more, take_all, drop_all, append-nil}
 use Rattle.std.proofs.lemmas.Grind.{flat_map-append}
 use Rattle.o2_base.specs.Selectors.{selector_of}
-use Rattle.o2_world.specs.World.{Line, HoldsBy, DropsBy}
-use Rattle.o2_world.specs.Changes.{Change, Makes, Resizes, Locks, Marks, Holds, Drops, Finishes, Reserves, Frees, Names, key_of, among, in_order, hold_lines_of, drop_lines_of, moved_lines}
+use Rattle.o2_world.specs.World.{Line}
+use Rattle.o2_world.specs.Changes.{Change, Makes, Resizes, Locks, Marks, Holds, Drops, Finishes, Reserves, Frees, Names, among, in_order, hold_lines_of, drop_lines_of, moved_lines}
 use Rattle.o2_world.specs.Text.{line_text, lines_text}
 use Rattle.o2_boundless.specs.declared.changing.Edit.{Edit}
 use Rattle.o2_boundless.specs.Edits.{change_of, changes_of}

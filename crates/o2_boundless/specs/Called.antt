@@ -1,15 +1,14 @@
 -- The calls with arguments in the order in which a program pushes them, and the world behind them.
 use Rattle.std.specs.Prelude.{ℕ, ◌/◌, ◌%◌, List, [], ◌∷◌, ◌++◌, codes, slice_index, if◌then◌else◌, Option, Some, None}
-use Rattle.o2_isa.specs.declared.cpu.Cpu.{Cpu}
 use Rattle.o2_world.specs.declared.types.Argument.TheVariants.{Word, Long}
 use Rattle.o2_world.specs.declared.types.Row.{Row}
 use Rattle.o2_world.specs.declared.types.Row.TheVariants.{DosExit, DosGetPid, DosRead, DosWrite, DosMemAvail, OnSegments, OnShared}
 use Rattle.o2_world.specs.declared.types.SegmentCall.TheVariants.{DosAllocSeg, DosReallocSeg, DosFreeSeg, DosSizeSeg, DosLockSeg, DosUnlockSeg, DosCreateCsAlias}
 use Rattle.o2_world.specs.declared.types.SharedCall.TheVariants.{DosAllocShrSeg, DosGetShrSeg, DosGiveSeg, DosGetSeg}
-use Rattle.o2_world.specs.declared.types.State.TheVariants.{Live, Exited}
+use Rattle.o2_world.specs.declared.types.State.TheVariants.{Exited}
 use Rattle.o2_world.specs.declared.types.Transfer.{Transfer}
-use Rattle.o2_world.specs.World.{World, Process, Exits, Ends, is_live}
-use Rattle.o2_world.specs.CallParts.{Before, Effect, long_bytes, returned, trapped}
+use Rattle.o2_world.specs.World.{Process, Exits, Ends, is_live}
+use Rattle.o2_world.specs.CallParts.{Before, Effect, long_bytes, trapped}
 use Rattle.o2_world.specs.Calls.{pid_bytes, read_from, row_of, told_at, written as transferred}
 use Rattle.o2_world.specs.SegmentCalls.{aliased, allocated, freed, locked, reallocated, sized, unlocked}
 use Rattle.o2_world.specs.SharedCalls.{given, got, named, shared_by_name}

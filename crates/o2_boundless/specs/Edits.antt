@@ -1,5 +1,5 @@
 -- Changes of a world as values of the code, and what each means.
-use Rattle.std.specs.Prelude.{ℕ, ◌==◌, List, map, if◌then◌else◌}
+use Rattle.std.specs.Prelude.{List, map}
 use Rattle.o2_world.specs.Changes.{Change, Makes, Resizes, Locks, Holds, Drops, Finishes, Reserves, Names}
 use Rattle.o2_boundless.specs.declared.changing.Edit.{Edit}
 use Rattle.o2_boundless.specs.declared.changing.Edit.TheVariants as edit

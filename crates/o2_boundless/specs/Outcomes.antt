@@ -1,23 +1,22 @@
 -- What a call does, as a value of the code: what it writes behind pointers, one write after the other, and its lines as bytes.
-use Rattle.std.specs.Prelude.{◌≡◌, ℕ, ◌+◌, ◌*◌, Bool, true, false, List, [], ◌∷◌, drop, replicate, flat_map, map, length, nat_le, not, if◌then◌else◌, ◌==◌, ◌&&◌, ◌||◌, Option, Some, None}
+use Rattle.std.specs.Prelude.{◌≡◌, ℕ, ◌+◌, ◌*◌, Bool, false, List, [], ◌∷◌, drop, replicate, flat_map, length, nat_le, not, if◌then◌else◌, ◌==◌, ◌&&◌, ◌||◌, Option, Some, None}
 use Rattle.o2_base.specs.Selectors.{selector_of}
 use Rattle.o2_isa.specs.declared.cpu.Cpu.{Cpu}
 use Rattle.o2_isa.specs.View.{Hold, is_readable, is_writable}
 use Rattle.o2_isa.specs.Pointers.{may_write, put_at_pointer}
 use Rattle.o2_world.specs.declared.types.Argument.{Argument}
 use Rattle.o2_world.specs.declared.types.State.TheVariants.{Live}
-use Rattle.o2_world.specs.World.{World, Line, HoldsBy, DropsBy, Process, is_live}
-use Rattle.o2_world.specs.Changes.{Change, Makes, Resizes, Locks, Marks, Holds, Drops, Finishes, Reserves, Frees, Names, with_all}
+use Rattle.o2_world.specs.World.{World, Line, HoldsBy, DropsBy, Process}
+use Rattle.o2_world.specs.Changes.{Change, Makes, Resizes, Locks, Marks, Holds, Drops, Finishes, Reserves, Frees, Names}
 use Rattle.o2_world.specs.CallParts.{Before, Effect, trapped}
 use Rattle.o2_world.specs.SegmentCalls.{Written, ruled_at}
 use Rattle.o2_world.specs.Rulings.{Ruling}
-use Rattle.o2_world.specs.Run.{all_changes, worked}
+use Rattle.o2_world.specs.Run.{worked}
 use Rattle.o2_world.specs.Text.{lines_text}
 use Rattle.o2_boundless.specs.declared.pointing.Write.{Write}
 use Rattle.o2_boundless.specs.declared.outcome.Outcome.{Outcome}
 use Rattle.o2_boundless.specs.declared.outcome.Reply.{Reply}
 use Rattle.o2_boundless.specs.Edits.{changes_of}
-use Rattle.o2_boundless.specs.Shown.{Shown}
 
 -- the bytes of all names after writes
 abbrev pub written : (ℕ → Option Hold) → List Write → (ℕ → List ℕ) → ℕ → List ℕ

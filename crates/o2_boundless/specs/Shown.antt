@@ -1,6 +1,6 @@
 -- The world of the boundless machine as it is run: the lines are the bytes of the report, and it has the two numbers of the
 -- setting that calls go by.
-use Rattle.std.specs.Prelude.{ℕ, List, [], ◌++◌}
+use Rattle.std.specs.Prelude.{ℕ, List}
 use Rattle.o2_world.specs.World.{World, Setting, Process}
 use Rattle.o2_world.specs.Known.{Known, known_of}
 use Rattle.o2_world.specs.CallParts.{Before}

@@ -1,6 +1,5 @@
 -- What a call comes to, as a value of the code.
-use Rattle.std.specs.Prelude.{ℕ, List, option_map, Option, Bool, ◌&&◌}
-use Rattle.std.specs.Option.{option_copied}
+use Rattle.std.specs.Prelude.{ℕ, option_map, Option, Bool, ◌&&◌}
 use Rattle.o2_world.specs.World.{Segment}
 use Rattle.o2_world.specs.Known.{Known, Marks, marks_of}
 use Rattle.o2_world.specs.Rulings.{Ruling, is_index, is_last}

@@ -1,4 +1,4 @@
-use Rattle.std.proofs.Common.{◌≡◌, ◌≤◌, ℕ, length, drop}
+use Rattle.std.proofs.Common.{◌≡◌, ◌≤◌, length, drop}
 use Rattle.o2_boundless.specs.Edits.{changes_of}
 use Rattle.o2_boundless.specs.Outcomes.{pairs_of, ordered}
 use Rattle.o2_boundless.proofs.outcome.moved.Given as goal

@@ -1,5 +1,4 @@
 use Rattle.std.proofs.Common.{codes, ◌∷◌, [], sym, ◌∙◌}
-use Rattle.std.specs.Prelude.{◌/◌, ◌%◌}
 use Rattle.o2_world.specs.declared.types.Argument.TheVariants.{Word}
 use Rattle.o2_world.specs.CallParts.{Before, trapped}
 use Rattle.o2_world.specs.Calls.{pid_bytes}

@@ -1,6 +1,5 @@
 use Rattle.std.proofs.Common.{sym, ◌∙◌}
-use Rattle.o2_world.specs.CallParts.{Before, trapped, may_write}
-use Rattle.o2_world.specs.Views.{view_of}
+use Rattle.o2_world.specs.CallParts.{Before, trapped}
 use Rattle.o2_world.specs.SegmentCalls.{ruled_at}
 use Rattle.o2_boundless.specs.Shown.{before_call}
 use Rattle.o2_boundless.specs.Verdicts.{ruling_of}

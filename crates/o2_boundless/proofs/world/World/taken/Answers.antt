@@ -1,4 +1,4 @@
-use Rattle.std.proofs.Common.{codes, sym, ◌∙◌}
+use Rattle.std.proofs.Common.{codes, sym}
 use Rattle.std.proofs.lemmas.Bool.{eq-eqb, ne_eqb}
 use Rattle.o2_world.specs.CallParts.{Before}
 use Rattle.o2_world.specs.Calls.{not_transferred}
