@@ -1,0 +1,125 @@
+// The opening world of processes that hold their code, their data and their environment alone.
+use o2_base::{Bytes, NoMemory};
+use o2_boundless::{Held, How, Process, Segment, World};
+use o2_isa::Cpu;
+use o2_world::State;
+use std::alloc::Global;
+
+/// How many bytes a segment of code has. The first ones are those of `FRONT`, and what comes behind them is never read by a call.
+pub const CODE: u16 = 0x6000;
+
+/// JMP over 14 bytes.
+pub static FRONT: &[u8; 16] = b"\xEB\x0Efrom the code!";
+
+/// How many bytes the data has, of which the last 512 are the stack.
+pub const DATA: u16 = 528;
+
+pub const AVAIL: u32 = 0x1234_5678;
+
+/// The names of the modules, each of one process.
+pub static NAMES: [&str; 2] = ["CAL", "CBL"];
+
+/// A segment of a module, or an environment: these bytes, and zeros behind them.
+pub fn segment(alloc: Global, front: &[u8], size: u16, is_code: bool) -> Result<Segment, NoMemory> {
+    let mut bytes = vec![in alloc; 0; usize::from(size)]?;
+    for (to, from) in bytes.iter_mut().zip(front) {
+        *to = *from;
+    }
+    Ok(Segment {
+        bytes,
+        clean: is_code,
+        code: is_code,
+        flags: 0,
+        lock: 0,
+        shared: false,
+        discarded: false,
+    })
+}
+
+fn held(name: u64, rights: u8) -> Held {
+    Held {
+        name,
+        rights,
+        holds: 1,
+        how: How::Load,
+        first: 0,
+        reserved: 0,
+    }
+}
+
+/// The registers at the start of the process of a module at this place of the machine file, from 1.
+fn start(place: u16) -> Cpu {
+    Cpu {
+        ax: 0x1F,
+        cx: DATA,
+        dx: 512,
+        bx: 1,
+        sp: DATA,
+        bp: 0,
+        si: 0,
+        di: place,
+        ip: 0,
+        flags: 0x202,
+        cs: 0xF,
+        ds: 0x17,
+        es: 0,
+        ss: 0x17,
+    }
+}
+
+/// A process at this place, whose three segments have names from this one on.
+pub fn process(alloc: Global, place: u16, name: u64) -> Result<Process, NoMemory> {
+    let mut all = Vec::new(alloc);
+    all.push((1, held(name, 0xFA)))?;
+    all.push((2, held(name.saturating_add(1), 0xF2)))?;
+    all.push((3, held(name.saturating_add(2), 0xF2)))?;
+    Ok(Process {
+        cpu: start(place),
+        state: State::Live,
+        held: all,
+        place,
+        parent: 0,
+        environment: 0x1F,
+    })
+}
+
+/// The name of the first segment of a process.
+pub fn first_name(process: u16) -> u64 {
+    3 * u64::from(process).saturating_sub(1)
+}
+
+/// Adds the process of a number, which is at the same place of the machine file.
+fn add_process(alloc: Global, world: &mut World, number: u16, name: &str) -> Result<(), NoMemory> {
+    let first = first_name(number);
+    let code = segment(alloc, FRONT, CODE, true)?;
+    world.names.push((first, code))?;
+    let data = segment(alloc, b"", DATA, false)?;
+    world.names.push((first.saturating_add(1), data))?;
+    let mut text = [0; 7];
+    for (to, from) in text[1..4].iter_mut().zip(name.as_bytes()) {
+        *to = *from;
+    }
+    let environment = segment(alloc, &text, 7, false)?;
+    world.names.push((first.saturating_add(2), environment))?;
+    world.next_name = first.saturating_add(3);
+    let process = process(alloc, number, first)?;
+    world.processes.push(process)?;
+    Ok(())
+}
+
+/// The world before the first step of so many processes, in which so many names may live, with this input.
+pub fn opening(
+    alloc: Global,
+    processes: usize,
+    segments: u32,
+    input: &[u8],
+) -> Result<World, NoMemory> {
+    let mut world = World::new(alloc, segments, AVAIL)?;
+    let mut number = 1;
+    for name in NAMES.iter().take(processes) {
+        add_process(alloc, &mut world, number, name)?;
+        number = number.saturating_add(1);
+    }
+    world.input = Bytes::from_slice(alloc, input)?;
+    Ok(world)
+}

@@ -1,0 +1,13 @@
+pub mod Lookups
+pub mod Mapped
+pub mod Places
+pub mod Folded
+pub mod Lists
+pub mod Indexes
+pub mod Pointers
+pub mod Writing
+pub mod Telling
+pub mod Rows
+pub mod Behind
+pub mod Kept
+pub mod OwnRows

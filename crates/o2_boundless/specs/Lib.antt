@@ -1,0 +1,11 @@
+pub mod Causes
+pub mod Shown
+pub mod Keys
+pub mod Edits
+pub mod Pairs
+pub mod Verdicts
+pub mod Outcomes
+pub mod Called
+pub mod Worked
+pub mod Plain
+pub mod Bare

@@ -1,0 +1,282 @@
+// Ranges behind the pointers that a call is given.
+ghost use Rattle.std.specs.Prelude.{◌≡◌, ◌+◌, ℕ, length, take, drop, nat_le, option_map, IfOk, if◌then◌else◌};
+ghost use Rattle.std.specs.Option.{option_copied};
+ghost use Rattle.o2_isa.specs.View.{bound_in};
+ghost use Rattle.o2_isa.specs.Pointers.{may_read, may_write, range_of};
+ghost use Rattle.o2_isa.specs.Parts.{put_part};
+ghost use Rattle.o2_world.specs.Views.{view_of, hold_of, holds_in, segment_bytes, bytes_in, with_bytes};
+ghost use Rattle.o2_boundless.specs.Outcomes.{written, is_behind, reaches};
+
+use crate::look::{held_under, segment_of};
+use crate::rulings::{is_local, is_null};
+use crate::{Held, Process, Segment, World};
+use o2_base::NoMemory;
+use o2_desc::Access;
+use o2_isa::Cpu;
+use std::alloc::Global;
+
+/// Bytes that a call writes behind a pointer.
+#[derive(Drop)]
+pub struct Write {
+    pub selector: u16,
+    pub offset: u16,
+    pub part: Vec<u8>,
+}
+
+/// What a segment register with this selector holds.
+pub(crate) fn bound(held: &[(u16, Held)], selector: u16) -> Option<&Held>
+    ensures { option_map hold_of (option_copied result) ≡ bound_in (holds_in held.now) selector }
+{
+    if is_null(selector) || !is_local(selector) {
+        None
+    } else {
+        held_under(held, selector / 8)
+    }
+}
+
+/// Whether so many bytes from an offset on are those of a name.
+#[tactic(auto, using(crate::proofs::Pointers::bytes))]
+fn has_bytes(names: &[(u64, Segment)], name: u64, offset: u16, count: u16) -> bool
+    ensures { result ≡ nat_le (offset + count) (length (bytes_in names.now name)) }
+{
+    let end = offset as usize + count as usize;
+    match segment_of(names, name) {
+        None => end == 0,
+        Some(segment) => end <= segment.size(),
+    }
+}
+
+/// Whether so many bytes from an offset on lie in what is held, which may be written, or else read.
+fn reaches(
+    names: &[(u64, Segment)],
+    writes: bool,
+    offset: u16,
+    count: u16,
+    held: Option<&Held>,
+) -> bool
+    ensures { result ≡ reaches (bytes_in names.now) writes offset count (option_map hold_of (option_copied held.entry)) }
+{
+    match held {
+        None => false,
+        Some(held) => {
+            Access(held.rights).is_readable()
+                && ((!writes || Access(held.rights).is_writable())
+                    && has_bytes(names, held.name, offset, count))
+        }
+    }
+}
+
+/// Whether a pointer is good to write through.
+#[tactic(auto, using(crate::proofs::Pointers::good))]
+fn may_write(
+    names: &[(u64, Segment)],
+    process: &Process,
+    selector: u16,
+    offset: u16,
+    count: u16,
+) -> bool
+    ensures { result ≡ may_write (view_of names.now process.now) selector offset count }
+{
+    count == 0 || reaches(names, true, offset, count, bound(&process.held, selector))
+}
+
+/// Whether a pointer is good to read through.
+#[tactic(auto, using(crate::proofs::Pointers::good))]
+fn may_read(
+    names: &[(u64, Segment)],
+    process: &Process,
+    selector: u16,
+    offset: u16,
+    count: u16,
+) -> bool
+    ensures { result ≡ may_read (view_of names.now process.now) selector offset count }
+{
+    count == 0 || reaches(names, false, offset, count, bound(&process.held, selector))
+}
+
+impl World {
+    /// Whether a pointer of a process is good to write through.
+    pub(crate) fn may_write(
+        &self,
+        process: &Process,
+        selector: u16,
+        offset: u16,
+        count: u16,
+    ) -> bool
+        ensures { result ≡ may_write (view_of self.now.world.names process.now) selector offset count }
+    {
+        may_write(&self.names, process, selector, offset, count)
+    }
+
+    /// Whether a pointer of a process is good to read through.
+    pub(crate) fn may_read(&self, process: &Process, selector: u16, offset: u16, count: u16) -> bool
+        ensures { result ≡ may_read (view_of self.now.world.names process.now) selector offset count }
+    {
+        may_read(&self.names, process, selector, offset, count)
+    }
+
+    /// The bytes of a range of a process, which lies in its segment.
+    pub(crate) fn range(
+        &self,
+        alloc: Global,
+        process: &Process,
+        selector: u16,
+        offset: u16,
+        count: u16,
+    ) -> Result<Vec<u8>, NoMemory>
+        ensures { IfOk result (λ v. v.items ≡ range_of (holds_in process.now.held) (bytes_in self.now.world.names) selector offset count) }
+    {
+        range(alloc, &self.names, process, selector, offset, count)
+    }
+}
+
+/// The registers of a process.
+pub(crate) fn registers(process: &Process) -> Cpu
+    ensures { result ≡ process.now.cpu }
+{
+    process.cpu
+}
+
+fn copied_bytes(alloc: Global, segment: Option<&Segment>) -> Result<Vec<u8>, NoMemory>
+    ensures { IfOk result (λ v. v.items ≡ segment_bytes (option_copied segment.entry)) }
+{
+    match segment {
+        None => Ok(Vec::new(alloc)),
+        Some(segment) => Ok(Vec::from_slice(alloc, &segment.bytes)?),
+    }
+}
+
+fn bytes_of(alloc: Global, names: &[(u64, Segment)], name: u64) -> Result<Vec<u8>, NoMemory>
+    ensures { IfOk result (λ v. v.items ≡ bytes_in names.now name) }
+{
+    copied_bytes(alloc, segment_of(names, name))
+}
+
+fn part_of(alloc: Global, bytes: &[u8], offset: u16, count: u16) -> Result<Vec<u8>, NoMemory>
+    ensures { IfOk result (λ v. v.items ≡ take count (drop offset bytes.now)) }
+{
+    let from = offset as usize;
+    let to = from + count as usize;
+    if to > bytes.len() {
+        return Err(NoMemory);
+    }
+    Ok(Vec::from_slice(alloc, &bytes[from..to])?)
+}
+
+/// The bytes of a range, which lies in its segment.
+#[tactic(auto, unfolding(o2_isa::specs::Pointers::range_of), using(crate::proofs::Pointers::ranges))]
+fn range(
+    alloc: Global,
+    names: &[(u64, Segment)],
+    process: &Process,
+    selector: u16,
+    offset: u16,
+    count: u16,
+) -> Result<Vec<u8>, NoMemory>
+    ensures { IfOk result (λ v. v.items ≡ range_of (holds_in process.now.held) (bytes_in names.now) selector offset count) }
+{
+    if count == 0 {
+        return Ok(Vec::new(alloc));
+    }
+    match bound(&process.held, selector) {
+        None => Ok(Vec::new(alloc)),
+        Some(held) => {
+            let bytes = bytes_of(alloc, names, held.name)?;
+            part_of(alloc, &bytes, offset, count)
+        }
+    }
+}
+
+// Writes.
+
+fn put_part(alloc: Global, bytes: &[u8], at: u16, part: &[u8]) -> Result<Vec<u8>, NoMemory>
+    ensures { IfOk result (λ v. v.items ≡ put_part bytes.now at part.now) }
+{
+    let from = at as usize;
+    if from > bytes.len() || part.len() > bytes.len() - from {
+        return Err(NoMemory);
+    }
+    let mut after = Vec::from_slice(alloc, &bytes[..from])?;
+    after.extend_from_slice(part)?;
+    after.extend_from_slice(&bytes[from + part.len()..])?;
+    Ok(after)
+}
+
+fn is_name(held: Option<&Held>, name: u64) -> bool
+    ensures { result ≡ is_behind (option_map hold_of (option_copied held.entry)) name }
+{
+    match held {
+        None => false,
+        Some(held) => name == held.name,
+    }
+}
+
+fn is_behind(held: &[(u16, Held)], selector: u16, name: u64) -> bool
+    ensures { result ≡ is_behind (bound_in (holds_in held.now) selector) name }
+{
+    is_name(bound(held, selector), name)
+}
+
+fn put_behind(alloc: Global, behind: bool, bytes: &[u8], write: &Write) -> Result<Vec<u8>, NoMemory>
+    ensures { IfOk result (λ v. v.items ≡ (if behind then put_part bytes.now write.now.offset write.now.part.items else bytes.now)) }
+{
+    if behind {
+        put_part(alloc, bytes, write.offset, &write.part)
+    } else {
+        Ok(Vec::from_slice(alloc, bytes)?)
+    }
+}
+
+#[tactic(auto, using(crate::proofs::Writing::writing))]
+fn bytes_after(
+    alloc: Global,
+    names: &[(u64, Segment)],
+    held: &[(u16, Held)],
+    writes: &[Write],
+    name: u64,
+) -> Result<Vec<u8>, NoMemory>
+    ensures { IfOk result (λ v. v.items ≡ written (holds_in held.now) writes.now (bytes_in names.now) name) }
+{
+    let mut bytes = bytes_of(alloc, names, name)?;
+    for write in writes {
+        let behind = is_behind(held, write.selector, name);
+        bytes = put_behind(alloc, behind, &bytes, write)?;
+    }
+    Ok(bytes)
+}
+
+fn with(segment: &Segment, bytes: Vec<u8>) -> Result<Segment, NoMemory>
+    ensures { IfOk result (λ s. s ≡ record segment.now { bytes = bytes.items }) }
+{
+    if bytes.len() > 65536 {
+        return Err(NoMemory);
+    }
+    Ok(Segment {
+        bytes,
+        clean: segment.clean,
+        code: segment.code,
+        flags: segment.flags,
+        lock: segment.lock,
+        shared: segment.shared,
+        discarded: segment.discarded,
+    })
+}
+
+/// The names behind writes.
+#[tactic(auto, using(crate::proofs::Writing::rewriting, std::proofs::lemmas::Grind::common_steps))]
+pub(crate) fn with_writes(
+    alloc: Global,
+    names: &[(u64, Segment)],
+    held: &[(u16, Held)],
+    writes: &[Write],
+) -> Result<Vec<(u64, Segment)>, NoMemory>
+    ensures { IfOk result (λ v. v.items ≡ with_bytes names.now (written (holds_in held.now) writes.now (bytes_in names.now))) }
+{
+    let mut after = Vec::new(alloc);
+    for pair in names {
+        let bytes = bytes_after(alloc, names, held, writes, pair.0)?;
+        let segment = with(&pair.1, bytes)?;
+        after.push((pair.0, segment))?;
+    }
+    Ok(after)
+}
