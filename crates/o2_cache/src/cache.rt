@@ -1,5 +1,5 @@
 // Decoded instructions, each kept with the bytes that it was decoded from.
-ghost use Rattle.std.specs.Prelude.{◌≡◌, ◌<◌, length};
+ghost use Rattle.std.specs.Prelude.{◌≡◌, ◌<◌, ◌≤◌, length, take};
 ghost use Rattle.std.proofs.Props.{props};
 ghost use Rattle.o2_isa.specs.Reading.{decoded};
 
@@ -7,22 +7,26 @@ use o2_base::NoMemory;
 use o2_decode::{Decoded, decode};
 use std::alloc::Global;
 
-/// Ten bytes, and what they spell.
+/// Some bytes, and what they spell. Behind them anything may stand.
 #[derive(Clone, Copy)]
 struct Line {
     bytes: [u8; 10],
+    count: u8,
     spelled: Decoded,
-    ghost is_decoded: { spelled ≡ decoded bytes } by { Prim.hlevel props },
+    ghost is_decoded: { spelled ≡ decoded (take count bytes) } by { Prim.hlevel props },
 }
 
-/// The line of these bytes.
+/// The line of the first bytes of these, so many.
 #[inline(never)]
-fn line_of(bytes: &[u8; 10]) -> Line
-    ensures { result.bytes ≡ bytes.now }
+fn line_of(bytes: &[u8; 10], count: usize) -> Line
+    requires { count ≤ 10 }
+    ensures bytes { result.bytes ≡ bytes.now }
+    ensures count { result.count ≡ count }
 {
     Line {
         bytes: *bytes,
-        spelled: decode(bytes),
+        count: count as u8,
+        spelled: decode(&bytes[..count]),
     }
 }
 
@@ -37,8 +41,8 @@ fn place_of(selector: u16, ip: u16) -> usize
     (ip.wrapping_add((selector / 8).wrapping_mul(1021)) % 4096) as usize
 }
 
-/// Instructions that were decoded before, in 4,096 lines. A line has ten bytes and what they spell, until it is filled again.
-/// The bytes are compared whenever a line is asked for, so it doesn't matter what was written, moved or swapped since.
+/// Instructions that were decoded before, in 4,096 lines. A line has up to ten bytes and what they spell, until it is filled
+/// again. The bytes are compared whenever a line is asked for, so it doesn't matter what was written, moved or swapped since.
 #[derive(Drop)]
 pub struct DecodeCache {
     lines: Vec<Line>,
@@ -48,21 +52,22 @@ pub struct DecodeCache {
 impl DecodeCache {
     /// A cache, all of whose lines are of ten zeros. It takes no memory later on.
     pub fn new(alloc: Global) -> Result<DecodeCache, NoMemory> {
-        let zeros = line_of(&[0u8; 10]);
+        let zeros = line_of(&[0u8; 10], 10);
         let lines = vec![in alloc; zeros; LINES]?;
         Ok(DecodeCache { lines })
     }
 
-    /// What these ten bytes, at an offset of the segment of a selector, spell.
+    /// What the first bytes of these spell, so many, which stand at an offset of the segment of a selector.
     #[inline(always)]
-    pub fn decoded(&mut self, selector: u16, ip: u16, bytes: &[u8; 10]) -> &Decoded
-        ensures { result.now ≡ decoded bytes.now }
+    pub fn decoded(&mut self, selector: u16, ip: u16, bytes: &[u8; 10], count: usize) -> &Decoded
+        requires { count ≤ 10 }
+        ensures { result.now ≡ decoded (take count bytes.now) }
     {
         let place = place_of(selector, ip);
-        if self.lines[place].bytes == *bytes {
+        if self.lines[place].count as usize == count && self.lines[place].bytes == *bytes {
             return &self.lines[place].spelled;
         }
-        self.lines[place] = line_of(bytes);
+        self.lines[place] = line_of(bytes, count);
         &self.lines[place].spelled
     }
 }

@@ -11,7 +11,6 @@ ghost use Rattle.o2_isa.specs.Step.{Answers, AsBoundless, steps_at, stepped, ste
 
 use crate::DecodeCache;
 use o2_bus::{Bus, Cpu, Outcome};
-use o2_core::step_one;
 use o2_isa::{Decoded, Group, Instr, instruction_group};
 
 /// One instruction, by its group.
@@ -56,16 +55,14 @@ fn step_decoded<B: Bus>(cpu: &mut Cpu, bus: &mut B, spelled: &Decoded) -> Outcom
 fn one_step<B: Bus>(cpu: &mut Cpu, bus: &mut B, cache: &mut DecodeCache) -> Outcome
     ensures { Answers result (state cpu.new (B.view bus.new)) (state cpu.old (B.view bus.old)) (stepped (state cpu.old (B.view bus.old))) }
 {
-    let mut bytes = [0u8; 10];
-    if bus.fetch(cpu.ip, &mut bytes) < 10 {
-        return step_one(cpu, bus);
-    }
-    let spelled = cache.decoded(cpu.cs, cpu.ip, &bytes);
+    let mut bytes = [0, 0, 0, 0, 0, 0, 0, 0, 0, 0];
+    let count = bus.fetch(cpu.ip, &mut bytes);
+    let spelled = cache.decoded(cpu.cs, cpu.ip, &bytes, count);
     step_decoded(cpu, bus, spelled)
 }
 
-/// One instruction, or one repetition of a string instruction, as `step_one` makes it. Where CS has ten bytes from IP on, they
-/// are decoded only where the cache doesn't know them.
+/// One instruction, or one repetition of a string instruction, as `step_one` of `o2_core` makes it. The bytes at CS:IP are decoded
+/// only where the cache doesn't know them.
 #[inline(always)]
 pub fn step_cached<B: Bus>(cpu: &mut Cpu, bus: &mut B, cache: &mut DecodeCache) -> Outcome
     ensures step { Answers result (state cpu.new (B.view bus.new)) (state cpu.old (B.view bus.old)) (stepped (state cpu.old (B.view bus.old))) }
