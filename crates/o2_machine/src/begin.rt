@@ -18,6 +18,7 @@ ghost use Rattle.o2_machine.specs.Readies.{first_proc, first_schedule};
 use crate::fault::BeginFault;
 use crate::machine::Machine;
 use o2_base::{Fail, NoMemory};
+use o2_cache::DecodeCache;
 use o2_conf::Conf;
 use o2_dynlink::Linked;
 use o2_gate::State as Services;
@@ -37,6 +38,7 @@ struct Front {
     procs: Vec<Proc>,
     sched: Sched,
     services: Services,
+    cache: DecodeCache,
     line: LineBuffer,
 }
 
@@ -77,11 +79,13 @@ fn prepared(alloc: Global, conf: &Conf, cpus: &[Cpu]) -> Result<Front, NoMemory>
     let procs = first_procs(alloc, cpus)?;
     let sched = Sched::make(alloc, conf)?;
     let services = Services::new(alloc, conf.avail)?;
+    let cache = DecodeCache::new(alloc)?;
     let line = LineBuffer::new(alloc)?;
     Ok(Front {
         procs,
         sched,
         services,
+        cache,
         line,
     })
 }
@@ -98,6 +102,7 @@ fn assemble(front: Front, conf: &Conf, opened: Opened, images: Images, lines: u1
       regions = opened.regions;
       images = images;
       services = front.services;
+      cache = front.cache;
     } }
     ensures sched { result.sched ≡ front.sched }
     ensures budget { result.budget ≡ conf.now.budget }
@@ -109,6 +114,7 @@ fn assemble(front: Front, conf: &Conf, opened: Opened, images: Images, lines: u1
         procs,
         sched,
         services,
+        cache,
         ..
     } = front;
     let Opened {
@@ -125,6 +131,7 @@ fn assemble(front: Front, conf: &Conf, opened: Opened, images: Images, lines: u1
             regions,
             images,
             services,
+            cache,
         },
         sched,
         budget: conf.budget,

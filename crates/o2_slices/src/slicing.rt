@@ -41,7 +41,14 @@ pub fn slice_of(space: &mut Space, pid: u16, most: u32) -> u32
 {
     lawful(&space.store, &space.regions);
     let mut cpu = space.procs[pid as usize - 1].cpu;
-    let done = slice_in_store(pid, &mut cpu, &mut space.store, &mut space.regions, most);
+    let done = slice_in_store(
+        pid,
+        &mut cpu,
+        &mut space.store,
+        &mut space.regions,
+        &mut space.cache,
+        most,
+    );
     space.procs[pid as usize - 1] = Proc {
         cpu,
         state: State::Live,

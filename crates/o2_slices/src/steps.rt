@@ -16,7 +16,7 @@ ghost use Rattle.o2_stepping.specs.Ran.{IsDone};
 ghost use Rattle.o2_slices.specs.Slices.{AreSliced, IsStep, IsTry, quiet, seat};
 
 use o2_bus::Bus;
-use o2_core::step_one;
+use o2_cache::{DecodeCache, step_cached};
 use o2_isa::{Cpu, Outcome};
 use o2_regions::Regions;
 use o2_segbus::SegBus;
@@ -27,7 +27,7 @@ use o2_store::Store;
 /// One step, where it is done at once; whether it is. It isn't where it misses a segment, calls a service or raises an exception:
 /// registers and bytes are then as before.
 #[inline(always)]
-fn done_at_once<B: Bus>(cpu: &mut Cpu, bus: &mut B) -> bool
+fn done_at_once<B: Bus>(cpu: &mut Cpu, bus: &mut B, cache: &mut DecodeCache) -> bool
     requires clear { trap_flag_of cpu.old.flags ≡ false }
     ensures done { result ≡ true → (f : Filling) (number : ℕ) (bytes : List ℕ) (known : Known)
         (console report : Option (List ℕ)) → IsBound (B.view bus.old)
@@ -40,7 +40,7 @@ fn done_at_once<B: Bus>(cpu: &mut Cpu, bus: &mut B) -> bool
     ensures writes { WritesData (B.view bus.old) (B.view bus.new) }
     ensures agrees { Agrees cpu.old (B.view bus.old) → Agrees cpu.new (B.view bus.new) }
 {
-    match step_one(cpu, bus) {
+    match step_cached(cpu, bus, cache) {
         Outcome::Done => true,
         _ => false,
     }
@@ -48,7 +48,7 @@ fn done_at_once<B: Bus>(cpu: &mut Cpu, bus: &mut B) -> bool
 
 /// The same over the bus of a store, said of store and tables.
 #[inline(always)]
-fn step_in(pid: u16, cpu: &mut Cpu, bus: &mut SegBus<'_, '_>) -> bool
+fn step_in(pid: u16, cpu: &mut Cpu, bus: &mut SegBus<'_, '_>, cache: &mut DecodeCache) -> bool
     requires clear { trap_flag_of cpu.old.flags ≡ false }
     requires process { IsProcess bus.old.regions.now pid }
     requires holds { hold_in bus.old.regions.now bus.old.pid ≡ hold_in bus.old.regions.now pid }
@@ -65,14 +65,20 @@ fn step_in(pid: u16, cpu: &mut Cpu, bus: &mut SegBus<'_, '_>) -> bool
     ensures agrees { registers_of bus.new.regions.now bus.new.pid bus.new.registers
         ≡ bound_registers (hold_in bus.new.regions.now bus.new.pid) cpu.new }
 {
-    let done = done_at_once(cpu, bus);
+    let done = done_at_once(cpu, bus, cache);
     bus.store.law();
     lawful(bus.store, bus.regions);
     done
 }
 
 /// So many steps over the bus at most; how many are done.
-fn steps_in(pid: u16, cpu: &mut Cpu, bus: &mut SegBus<'_, '_>, most: u32) -> u32
+fn steps_in(
+    pid: u16,
+    cpu: &mut Cpu,
+    bus: &mut SegBus<'_, '_>,
+    cache: &mut DecodeCache,
+    most: u32,
+) -> u32
     requires process { IsProcess bus.old.regions.now pid }
     requires holds { hold_in bus.old.regions.now bus.old.pid ≡ hold_in bus.old.regions.now pid }
     requires agrees { registers_of bus.old.regions.now bus.old.pid bus.old.registers
@@ -85,7 +91,7 @@ fn steps_in(pid: u16, cpu: &mut Cpu, bus: &mut SegBus<'_, '_>, most: u32) -> u32
 {
     let mut done = 0u32;
     'steps: while done < most && !has_trap_flag(cpu.flags) {
-        if !step_in(pid, cpu, bus) {
+        if !step_in(pid, cpu, bus, cache) {
             return done;
         }
         done += 1;
@@ -95,23 +101,31 @@ fn steps_in(pid: u16, cpu: &mut Cpu, bus: &mut SegBus<'_, '_>, most: u32) -> u32
 
 /// Such steps over store and tables, where what the segment registers name is in memory. Their descriptors are looked up once for
 /// all these steps.
-fn slice_here(pid: u16, cpu: &mut Cpu, store: &mut Store, regions: &mut Regions, most: u32) -> u32
+fn slice_here(
+    pid: u16,
+    cpu: &mut Cpu,
+    store: &mut Store,
+    regions: &mut Regions,
+    cache: &mut DecodeCache,
+    most: u32,
+) -> u32
     requires ready { CanStep store.old regions.old pid cpu.old }
     ensures sliced { AreSliced pid result (seat store.old regions.old cpu.old) (seat store.new regions.new cpu.new) }
     ensures within { result ≤ most }
 {
     let mut bus = SegBus::new(store, regions, pid, cpu);
-    steps_in(pid, cpu, &mut bus, most)
+    steps_in(pid, cpu, &mut bus, cache, most)
 }
 
 /// So many steps of process `pid` at most, over what is in memory, one behind another; how many are done. They end before a step
 /// that isn't done at once, as it misses a segment, calls a service or raises an exception, and where the trap flag is set.
-/// There are none where a segment register names what is out of memory.
+/// There are none where a segment register names what is out of memory. What the cache knows isn't decoded anew.
 pub fn slice_in_store(
     pid: u16,
     cpu: &mut Cpu,
     store: &mut Store,
     regions: &mut Regions,
+    cache: &mut DecodeCache,
     most: u32,
 ) -> u32
     requires process { IsProcess regions.old pid }
@@ -123,5 +137,5 @@ pub fn slice_in_store(
     if !are_here(regions, pid, cpu) {
         return 0;
     }
-    slice_here(pid, cpu, store, regions, most)
+    slice_here(pid, cpu, store, regions, cache, most)
 }

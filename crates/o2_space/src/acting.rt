@@ -191,6 +191,7 @@ impl Space {
             &mut self.store,
             &mut self.regions,
             &self.images,
+            &mut self.cache,
             &mut self.services,
             input,
             console,

@@ -1,5 +1,6 @@
 // The processes and their segments.
 
+use o2_cache::DecodeCache;
 use o2_gate::State as Services;
 use o2_image::Images;
 use o2_isa::Cpu;
@@ -29,4 +30,6 @@ pub struct Space {
     pub images: Images,
     /// What the services work on beside the segments.
     pub services: Services,
+    /// Instructions that were decoded before.
+    pub cache: DecodeCache,
 }

@@ -25,6 +25,7 @@ use crate::in_store::step_as_needed;
 use crate::one_step::{Attempt, Stepped};
 use crate::seats::are_here;
 use crate::trying::try_step;
+use o2_cache::DecodeCache;
 use o2_gate::State as Services;
 use o2_image::Images;
 use o2_isa::Cpu;
@@ -46,6 +47,7 @@ pub fn step_in_store<S: SwapDevice, I: Source, C: Sink, R: Sink>(
     store: &mut Store,
     regions: &mut Regions,
     images: &Images,
+    cache: &mut DecodeCache,
     services: &mut Services,
     input: &mut I,
     console: &mut C,
@@ -119,10 +121,12 @@ pub fn step_in_store<S: SwapDevice, I: Source, C: Sink, R: Sink>(
 {
     if !are_here(regions, pid, cpu) {
         return step_as_needed(
-            pid, cpu, store, regions, images, services, input, console, report, swap,
+            pid, cpu, store, regions, images, cache, services, input, console, report, swap,
         );
     }
-    match try_step(pid, cpu, store, regions, services, input, console, report) {
+    match try_step(
+        pid, cpu, store, regions, cache, services, input, console, report,
+    ) {
         Err(fault) => {
             store.law();
             Err(fault)
@@ -132,7 +136,7 @@ pub fn step_in_store<S: SwapDevice, I: Source, C: Sink, R: Sink>(
             Ok(stepped)
         }
         Ok(Attempt::Missed(_)) => step_as_needed(
-            pid, cpu, store, regions, images, services, input, console, report, swap,
+            pid, cpu, store, regions, images, cache, services, input, console, report, swap,
         ),
     }
 }

@@ -28,6 +28,7 @@ ghost use Rattle.o2_stepping.specs.Worlds.{away_of, before_in, bytes_with, parts
 use crate::one_step::{Attempt, Stepped};
 use crate::seats::{add_missed, seats};
 use crate::trying::try_step;
+use o2_cache::DecodeCache;
 use o2_gate::State as Services;
 use o2_image::Images;
 use o2_isa::Cpu;
@@ -116,6 +117,7 @@ fn serve_and_try<S: SwapDevice, I: Source, C: Sink, R: Sink>(
     store: &mut Store,
     regions: &mut Regions,
     images: &Images,
+    cache: &mut DecodeCache,
     services: &mut Services,
     input: &mut I,
     console: &mut C,
@@ -183,7 +185,9 @@ fn serve_and_try<S: SwapDevice, I: Source, C: Sink, R: Sink>(
         Ok(()) => {}
         Err(fault) => return Err(fault),
     }
-    try_step(pid, cpu, store, regions, services, input, console, report)
+    try_step(
+        pid, cpu, store, regions, cache, services, input, console, report,
+    )
 }
 
 /// One step of process `pid`, all but what an end takes from it, over a store: what it needs comes into memory together, as far
@@ -197,6 +201,7 @@ pub(crate) fn step_as_needed<S: SwapDevice, I: Source, C: Sink, R: Sink>(
     store: &mut Store,
     regions: &mut Regions,
     images: &Images,
+    cache: &mut DecodeCache,
     services: &mut Services,
     input: &mut I,
     console: &mut C,
@@ -271,7 +276,7 @@ pub(crate) fn step_as_needed<S: SwapDevice, I: Source, C: Sink, R: Sink>(
     let mut need = seats(regions, pid, cpu);
     'tries: loop {
         match serve_and_try(
-            &need, pid, cpu, store, regions, images, services, input, console, report, swap,
+            &need, pid, cpu, store, regions, images, cache, services, input, console, report, swap,
         ) {
             Err(fault) => {
                 store.law();

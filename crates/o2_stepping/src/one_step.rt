@@ -29,7 +29,7 @@ use crate::tally::Tally;
 use o2_alu::is_set;
 use o2_base::Selector;
 use o2_bus::Ranges;
-use o2_core::step_one;
+use o2_cache::{DecodeCache, step_cached};
 use o2_gate::{Called, Gathered, SegmentArguments, State as Services, call, gather, segment_call};
 use o2_isa::{Cpu, Flag, Outcome};
 use o2_outer::{Put, Sink, Source};
@@ -233,6 +233,7 @@ pub fn run_one<B: Ranges, I: Source, C: Sink, R: Sink>(
     pid: u16,
     cpu: &mut Cpu,
     bus: &mut B,
+    cache: &mut DecodeCache,
     services: &mut Services,
     input: &mut I,
     console: &mut C,
@@ -287,7 +288,7 @@ pub fn run_one<B: Ranges, I: Source, C: Sink, R: Sink>(
         (counts (C.puts console.old) (C.puts console.new) (R.puts report.old) (R.puts report.new) 0) result }
 {
     let before = *cpu;
-    match step_one(cpu, bus) {
+    match step_cached(cpu, bus, cache) {
         Outcome::Done => {
             let tally = Tally { bytes: 0, lines: 0 };
             outlived(pid, &before, tally, &mut services.line, report)

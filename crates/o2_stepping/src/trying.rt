@@ -14,6 +14,7 @@ ghost use Rattle.o2_run.specs.Pieces.{counts};
 ghost use Rattle.o2_stepping.specs.Pieces.{AttemptHands};
 
 use crate::one_step::{Attempt, run_one};
+use o2_cache::DecodeCache;
 use o2_gate::State as Services;
 use o2_isa::Cpu;
 use o2_outer::{Sink, Source};
@@ -28,6 +29,7 @@ fn try_in<I: Source, C: Sink, R: Sink>(
     pid: u16,
     cpu: &mut Cpu,
     bus: &mut SegBus<'_, '_>,
+    cache: &mut DecodeCache,
     services: &mut Services,
     input: &mut I,
     console: &mut C,
@@ -59,7 +61,7 @@ fn try_in<I: Source, C: Sink, R: Sink>(
         (I.past input.old) (I.past input.new)
         (counts (C.puts console.old) (C.puts console.new) (R.puts report.old) (R.puts report.new) 0) result }
 {
-    run_one(pid, cpu, bus, services, input, console, report)
+    run_one(pid, cpu, bus, cache, services, input, console, report)
 }
 
 /// One try of a step of process `pid`, all but what an end takes from it, over what is in memory. Where a segment is missed,
@@ -73,6 +75,7 @@ pub(crate) fn try_step<I: Source, C: Sink, R: Sink>(
     cpu: &mut Cpu,
     store: &mut Store,
     regions: &mut Regions,
+    cache: &mut DecodeCache,
     services: &mut Services,
     input: &mut I,
     console: &mut C,
@@ -102,5 +105,5 @@ pub(crate) fn try_step<I: Source, C: Sink, R: Sink>(
         (counts (C.puts console.old) (C.puts console.new) (R.puts report.old) (R.puts report.new) 0) result }
 {
     let mut bus = SegBus::new(store, regions, pid, cpu);
-    try_in(pid, cpu, &mut bus, services, input, console, report)
+    try_in(pid, cpu, &mut bus, cache, services, input, console, report)
 }

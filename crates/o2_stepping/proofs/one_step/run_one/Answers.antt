@@ -39,9 +39,9 @@ use Rattle.o2_stepping.proofs.one_step.run_one.Goals as goal
 pub returns-in-Done-clause-leaves_as : goal.returns-in-Done-clause-leaves_as
 returns-in-Done-clause-leaves_as g c = λ text m f input known bound left same.
     let v : View = g.B.Bus.view c.args.bus.now in
-    let w : View = g.B.Bus.view c.step_one.new.bus in
+    let w : View = g.B.Bus.view c.step_cached.new.bus in
     let b = before_call (boundless f v) c.args.pid c.args.cpu.now input known in
-    let cpu = c.step_one.new.cpu in
+    let cpu = c.step_cached.new.cpu in
     let r : Result Machine stop.the_data = Ok (state cpu (boundless f w)) in
     subst (λ (e : Effect). Leaves b e cpu (whole f v).bytes (whole f w).bytes (left_as text (g.I.Source.left c.args.input.now) (g.I.Source.past c.args.input.now))
     (left_as text (g.I.Source.left c.args.input.now) (g.I.Source.past c.args.input.now)) (g.C.Sink.taken c.args.console.now) (g.C.Sink.taken c.args.console.now)
@@ -56,9 +56,9 @@ returns-in-Done-clause-leaves g c = λ f input known bound left same. returns-in
 pub returns-in-Trap-clause-leaves_as : goal.returns-in-Trap-clause-leaves_as
 returns-in-Trap-clause-leaves_as g c = λ text m f input known bound left same.
     let v : View = g.B.Bus.view c.args.bus.now in
-    let w : View = g.B.Bus.view c.step_one.new.bus in
+    let w : View = g.B.Bus.view c.step_cached.new.bus in
     let b = before_call (boundless f v) c.args.pid c.args.cpu.now input known in
-    let cpu = c.step_one.new.cpu in
+    let cpu = c.step_cached.new.cpu in
     let step = c.in-Trap.ensures.step in
     let registers = ap (λ (s : Machine). s.cpu) step.1 in
     let bytes = whole_same f v w (ap (λ (s : Machine). s.view) step.1) in
@@ -76,7 +76,7 @@ returns-in-Miss-clause-leaves_as g c = λ text m f input known bound left same.
     let step = c.in-Miss.ensures.step in
     record {
       cpu = ap (λ (s : Machine). s.cpu) step.1;
-      bytes = whole_same f (g.B.Bus.view c.args.bus.now) (g.B.Bus.view c.step_one.new.bus) (ap (λ (s : Machine). s.view) step.1);
+      bytes = whole_same f (g.B.Bus.view c.args.bus.now) (g.B.Bus.view c.step_cached.new.bus) (ap (λ (s : Machine). s.view) step.1);
       input = refl;
       to_console = refl;
       to_report = refl;
@@ -93,18 +93,18 @@ returns-in-Miss-clause-away g c = λ bound.
 pub returns-in-Ok-Back-clause-leaves_as : goal.returns-in-Ok-Back-clause-leaves_as
 returns-in-Ok-Back-clause-leaves_as g c = λ text m f input known bound left same.
     let v : View = g.B.Bus.view c.args.bus.now in
-    let w : View = g.B.Bus.view c.step_one.new.bus in
+    let w : View = g.B.Bus.view c.step_cached.new.bus in
     let new : View = g.B.Bus.view c.call.new.bus in
     let b = before_call (boundless f v) c.args.pid c.args.cpu.now input known in
     let step = c.in-Gate.ensures.step in
     let bound_then : IsBound w = subst (λ (s : Machine). IsBound s.view) (sym step.1) bound in
-    let does = moved f c.args.pid input known c.in-Gate.service c.in-Gate.next c.call.new.cpu new _ _ _ _ _ _ (Ok c.in-Ok-Back.field-0) (state c.step_one.new.cpu w) (state c.args.cpu.now v) step.1
+    let does = moved f c.args.pid input known c.in-Gate.service c.in-Gate.next c.call.new.cpu new _ _ _ _ _ _ (Ok c.in-Ok-Back.field-0) (state c.step_cached.new.cpu w) (state c.args.cpu.now v) step.1
     (c.in-Ok-Back.ensures.does text m f input known bound_then left (record { avail = same.avail })) in
     let made = by_answer f c.args.pid input known c.in-Gate.service c.in-Gate.next c.call.new.cpu new _ _ _ _ _ _ v c.args.cpu.now c.in-Ok-Back.field-0 (called.Back c.in-Ok-Back.bytes) c.in-Ok-Back.field-0-is does in
     subst (λ (e : Effect). Leaves b e c.call.new.cpu (whole f v).bytes (whole f new).bytes (left_as text (g.I.Source.left c.args.input.now) (g.I.Source.past c.args.input.now))
     (left_as text (g.I.Source.left c.call.new.input) (g.I.Source.past c.call.new.input)) (g.C.Sink.taken c.args.console.now) (g.C.Sink.taken c.call.new.console)
     (g.R.Sink.taken c.args.report.now) (g.R.Sink.taken c.outlived-in-Ok-Back.new.report) c.outlived-in-Ok-Back.result)
-    (sym (effect_by b (Err (stop.Gate c.in-Gate.service c.in-Gate.next)) (gate_boundless f v w c.args.cpu.now c.step_one.new.cpu c.in-Gate.service c.in-Gate.next (c.in-Gate.ensures.boundless f bound))))
+    (sym (effect_by b (Err (stop.Gate c.in-Gate.service c.in-Gate.next)) (gate_boundless f v w c.args.cpu.now c.step_cached.new.cpu c.in-Gate.service c.in-Gate.next (c.in-Gate.ensures.boundless f bound))))
     (c.outlived-in-Ok-Back.ensures.leaves f b (serviced b c.in-Gate.service c.in-Gate.next) c.call.new.cpu (whole f v).bytes new
     (left_as text (g.I.Source.left c.args.input.now) (g.I.Source.past c.args.input.now)) _ _ _ _ refl refl made (served_quiet (row_of c.in-Gate.service) b c.in-Gate.next (c.in-None.ensures.none refl)))
 
@@ -114,12 +114,12 @@ returns-in-Ok-Back-clause-leaves g c = λ f input known bound left same. returns
 pub returns-in-Ok-Trap-clause-leaves_as : goal.returns-in-Ok-Trap-clause-leaves_as
 returns-in-Ok-Trap-clause-leaves_as g c = λ text m f input known bound left same.
     let v : View = g.B.Bus.view c.args.bus.now in
-    let w : View = g.B.Bus.view c.step_one.new.bus in
+    let w : View = g.B.Bus.view c.step_cached.new.bus in
     let new : View = g.B.Bus.view c.call.new.bus in
     let b = before_call (boundless f v) c.args.pid c.args.cpu.now input known in
     let step = c.in-Gate.ensures.step in
     let bound_then : IsBound w = subst (λ (s : Machine). IsBound s.view) (sym step.1) bound in
-    let does = moved f c.args.pid input known c.in-Gate.service c.in-Gate.next c.call.new.cpu new _ _ _ _ _ _ (Ok c.in-Ok-Trap.field-0) (state c.step_one.new.cpu w) (state c.args.cpu.now v) step.1
+    let does = moved f c.args.pid input known c.in-Gate.service c.in-Gate.next c.call.new.cpu new _ _ _ _ _ _ (Ok c.in-Ok-Trap.field-0) (state c.step_cached.new.cpu w) (state c.args.cpu.now v) step.1
     (c.in-Ok-Trap.ensures.does text m f input known bound_then left (record { avail = same.avail })) in
     let vector = c.in-Ok-Trap.vector in
     let t = by_answer f c.args.pid input known c.in-Gate.service c.in-Gate.next c.call.new.cpu new _ _ _ _ _ _ v c.args.cpu.now c.in-Ok-Trap.field-0 (called.Trap vector _) c.in-Ok-Trap.field-0-is does in
@@ -130,7 +130,7 @@ returns-in-Ok-Trap-clause-leaves_as g c = λ text m f input known bound left sam
     (left_as text (g.I.Source.left c.args.input.now) (g.I.Source.past c.args.input.now)) j (g.C.Sink.taken c.args.console.now) d r
     (g.R.Sink.taken c.trap-in-Ok-Trap.new.report) c.trap-in-Ok-Trap.result in
     let one = single_stepped b (trapped b vector) in
-    let eff = effect_by b (Err (stop.Gate c.in-Gate.service c.in-Gate.next)) (gate_boundless f v w c.args.cpu.now c.step_one.new.cpu c.in-Gate.service c.in-Gate.next (c.in-Gate.ensures.boundless f bound))
+    let eff = effect_by b (Err (stop.Gate c.in-Gate.service c.in-Gate.next)) (gate_boundless f v w c.args.cpu.now c.step_cached.new.cpu c.in-Gate.service c.in-Gate.next (c.in-Gate.ensures.boundless f bound))
     ∙ ap (λ (e : Effect). single_stepped b e) t.effect in
     subst (λ (e : Effect). P e (left_as text (g.I.Source.left c.call.new.input) (g.I.Source.past c.call.new.input)) (g.C.Sink.taken c.call.new.console) (g.R.Sink.taken c.args.report.now)) (sym eff)
     (subst (λ (j : Option (List ℕ)). P one j (g.C.Sink.taken c.call.new.console) (g.R.Sink.taken c.args.report.now)) (sym t.untouched.input)
@@ -143,12 +143,12 @@ returns-in-Ok-Trap-clause-leaves g c = λ f input known bound left same. returns
 pub returns-in-Ok-Exited-clause-leaves_as : goal.returns-in-Ok-Exited-clause-leaves_as
 returns-in-Ok-Exited-clause-leaves_as g c = λ text m f input known bound left same.
     let v : View = g.B.Bus.view c.args.bus.now in
-    let w : View = g.B.Bus.view c.step_one.new.bus in
+    let w : View = g.B.Bus.view c.step_cached.new.bus in
     let new : View = g.B.Bus.view c.call.new.bus in
     let b = before_call (boundless f v) c.args.pid c.args.cpu.now input known in
     let step = c.in-Gate.ensures.step in
     let bound_then : IsBound w = subst (λ (s : Machine). IsBound s.view) (sym step.1) bound in
-    let does = moved f c.args.pid input known c.in-Gate.service c.in-Gate.next c.call.new.cpu new _ _ _ _ _ _ (Ok c.in-Ok-Exited.field-0) (state c.step_one.new.cpu w) (state c.args.cpu.now v) step.1
+    let does = moved f c.args.pid input known c.in-Gate.service c.in-Gate.next c.call.new.cpu new _ _ _ _ _ _ (Ok c.in-Ok-Exited.field-0) (state c.step_cached.new.cpu w) (state c.args.cpu.now v) step.1
     (c.in-Ok-Exited.ensures.does text m f input known bound_then left (record { avail = same.avail })) in
     let made = by_answer f c.args.pid input known c.in-Gate.service c.in-Gate.next c.call.new.cpu new _ _ _ _ _ _ v c.args.cpu.now c.in-Ok-Exited.field-0 (called.Exited c.in-Ok-Exited.code) c.in-Ok-Exited.field-0-is does in
     let ends : State = Exited c.in-Ok-Exited.code in
@@ -157,7 +157,7 @@ returns-in-Ok-Exited-clause-leaves_as g c = λ text m f input known bound left s
     subst (λ (y : Effect). IsDone y (record { state = ends; tally = tally; whole = true }) c.call.new.cpu (whole f new).bytes
     (left_as text (g.I.Source.left c.call.new.input) (g.I.Source.past c.call.new.input)) (g.C.Sink.taken c.args.console.now) (g.C.Sink.taken c.call.new.console)
     (g.R.Sink.taken c.args.report.now) (g.R.Sink.taken c.call.new.report))
-    (sym (effect_by b (Err (stop.Gate c.in-Gate.service c.in-Gate.next)) (gate_boundless f v w c.args.cpu.now c.step_one.new.cpu c.in-Gate.service c.in-Gate.next (c.in-Gate.ensures.boundless f bound))
+    (sym (effect_by b (Err (stop.Gate c.in-Gate.service c.in-Gate.next)) (gate_boundless f v w c.args.cpu.now c.step_cached.new.cpu c.in-Gate.service c.in-Gate.next (c.in-Gate.ensures.boundless f bound))
     ∙ ended_stays b e (ap is_live made.state)))
     (done_by f e ends tally c.call.new.cpu new _ _ _ _ _ (served_quiet (row_of c.in-Gate.service) b c.in-Gate.next (c.in-None.ensures.none refl)) made)
 
@@ -167,11 +167,11 @@ returns-in-Ok-Exited-clause-leaves g c = λ f input known bound left same. retur
 pub returns-in-Ok-Missed-clause-leaves_as : goal.returns-in-Ok-Missed-clause-leaves_as
 returns-in-Ok-Missed-clause-leaves_as g c = λ text m f input known bound left same.
     let v : View = g.B.Bus.view c.args.bus.now in
-    let w : View = g.B.Bus.view c.step_one.new.bus in
+    let w : View = g.B.Bus.view c.step_cached.new.bus in
     let new : View = g.B.Bus.view c.call.new.bus in
     let step = c.in-Gate.ensures.step in
     let bound_then : IsBound w = subst (λ (s : Machine). IsBound s.view) (sym step.1) bound in
-    let does = moved f c.args.pid input known c.in-Gate.service c.in-Gate.next c.call.new.cpu new _ _ _ _ _ _ (Ok c.in-Ok-Missed.field-0) (state c.step_one.new.cpu w) (state c.args.cpu.now v) step.1
+    let does = moved f c.args.pid input known c.in-Gate.service c.in-Gate.next c.call.new.cpu new _ _ _ _ _ _ (Ok c.in-Ok-Missed.field-0) (state c.step_cached.new.cpu w) (state c.args.cpu.now v) step.1
     (c.in-Ok-Missed.ensures.does text m f input known bound_then left (record { avail = same.avail })) in
     still_of f c.call.new.cpu c.args.cpu.now v new _ _ _ _ _ _
     (by_answer f c.args.pid input known c.in-Gate.service c.in-Gate.next c.call.new.cpu new _ _ _ _ _ _ v c.args.cpu.now c.in-Ok-Missed.field-0 (called.Missed c.in-Ok-Missed.sel) c.in-Ok-Missed.field-0-is does)
@@ -182,18 +182,18 @@ returns-in-Ok-Missed-clause-leaves g c = λ f input known bound left same. retur
 pub returns-in-Ok-Missed-clause-away : goal.returns-in-Ok-Missed-clause-away
 returns-in-Ok-Missed-clause-away g c = λ bound.
     subst (λ (s : Machine). IsAway s.view c.in-Ok-Missed.sel) c.in-Gate.ensures.step.1
-    (missed_by (g.B.Bus.view c.step_one.new.bus) c.in-Ok-Missed.field-0 c.in-Ok-Missed.sel c.in-Ok-Missed.field-0-is c.in-Ok-Missed.ensures.away)
+    (missed_by (g.B.Bus.view c.step_cached.new.bus) c.in-Ok-Missed.field-0 c.in-Ok-Missed.sel c.in-Ok-Missed.field-0-is c.in-Ok-Missed.ensures.away)
 
 pub returns-in-Err-clause-leaves_as : goal.returns-in-Err-clause-leaves_as
 returns-in-Err-clause-leaves_as g c = λ text m f input known bound left same.
     let v : View = g.B.Bus.view c.args.bus.now in
-    let w : View = g.B.Bus.view c.step_one.new.bus in
+    let w : View = g.B.Bus.view c.step_cached.new.bus in
     let new : View = g.B.Bus.view c.call.new.bus in
     let step = c.in-Gate.ensures.step in
     let bound_then : IsBound w = subst (λ (s : Machine). IsBound s.view) (sym step.1) bound in
     fault_by f c.args.pid input known c.in-Gate.service c.in-Gate.next c.call.new.cpu new _ _ _ _ _ _ v c.args.cpu.now c.in-Err.fault (c.in-None.ensures.none refl)
-    (gate_boundless f v w c.args.cpu.now c.step_one.new.cpu c.in-Gate.service c.in-Gate.next (c.in-Gate.ensures.boundless f bound)) c.in-Err.ensures.input_service
-    (moved f c.args.pid input known c.in-Gate.service c.in-Gate.next c.call.new.cpu new _ _ _ _ _ _ (Err c.in-Err.fault) (state c.step_one.new.cpu w) (state c.args.cpu.now v) step.1
+    (gate_boundless f v w c.args.cpu.now c.step_cached.new.cpu c.in-Gate.service c.in-Gate.next (c.in-Gate.ensures.boundless f bound)) c.in-Err.ensures.input_service
+    (moved f c.args.pid input known c.in-Gate.service c.in-Gate.next c.call.new.cpu new _ _ _ _ _ _ (Err c.in-Err.fault) (state c.step_cached.new.cpu w) (state c.args.cpu.now v) step.1
     (c.in-Err.ensures.does text m f input known bound_then left (record { avail = same.avail })))
 
 pub returns-in-Err-clause-leaves : goal.returns-in-Err-clause-leaves
@@ -201,28 +201,28 @@ returns-in-Err-clause-leaves g c = λ f input known bound left same. returns-in-
 
 pub returns-in-Ok-Back-clause-frame : goal.returns-in-Ok-Back-clause-frame
 returns-in-Ok-Back-clause-frame g c =
-    frame_then (g.B.Bus.view c.args.bus.now) (g.B.Bus.view c.step_one.new.bus) (g.B.Bus.view c.call.new.bus) c.step_one.ensures.frame
-    (frame_by (g.B.Bus.view c.step_one.new.bus) (g.B.Bus.view c.call.new.bus) c.call.ensures.frame)
+    frame_then (g.B.Bus.view c.args.bus.now) (g.B.Bus.view c.step_cached.new.bus) (g.B.Bus.view c.call.new.bus) c.step_cached.ensures.frame
+    (frame_by (g.B.Bus.view c.step_cached.new.bus) (g.B.Bus.view c.call.new.bus) c.call.ensures.frame)
 
 pub returns-in-Ok-Exited-clause-frame : goal.returns-in-Ok-Exited-clause-frame
 returns-in-Ok-Exited-clause-frame g c =
-    frame_then (g.B.Bus.view c.args.bus.now) (g.B.Bus.view c.step_one.new.bus) (g.B.Bus.view c.call.new.bus) c.step_one.ensures.frame
-    (frame_by (g.B.Bus.view c.step_one.new.bus) (g.B.Bus.view c.call.new.bus) c.call.ensures.frame)
+    frame_then (g.B.Bus.view c.args.bus.now) (g.B.Bus.view c.step_cached.new.bus) (g.B.Bus.view c.call.new.bus) c.step_cached.ensures.frame
+    (frame_by (g.B.Bus.view c.step_cached.new.bus) (g.B.Bus.view c.call.new.bus) c.call.ensures.frame)
 
 pub returns-in-Ok-Trap-clause-frame : goal.returns-in-Ok-Trap-clause-frame
 returns-in-Ok-Trap-clause-frame g c =
-    frame_then (g.B.Bus.view c.args.bus.now) (g.B.Bus.view c.step_one.new.bus) (g.B.Bus.view c.call.new.bus) c.step_one.ensures.frame
-    (frame_by (g.B.Bus.view c.step_one.new.bus) (g.B.Bus.view c.call.new.bus) c.call.ensures.frame)
+    frame_then (g.B.Bus.view c.args.bus.now) (g.B.Bus.view c.step_cached.new.bus) (g.B.Bus.view c.call.new.bus) c.step_cached.ensures.frame
+    (frame_by (g.B.Bus.view c.step_cached.new.bus) (g.B.Bus.view c.call.new.bus) c.call.ensures.frame)
 
 pub returns-in-Ok-Missed-clause-frame : goal.returns-in-Ok-Missed-clause-frame
 returns-in-Ok-Missed-clause-frame g c =
-    frame_then (g.B.Bus.view c.args.bus.now) (g.B.Bus.view c.step_one.new.bus) (g.B.Bus.view c.call.new.bus) c.step_one.ensures.frame
-    (frame_by (g.B.Bus.view c.step_one.new.bus) (g.B.Bus.view c.call.new.bus) c.call.ensures.frame)
+    frame_then (g.B.Bus.view c.args.bus.now) (g.B.Bus.view c.step_cached.new.bus) (g.B.Bus.view c.call.new.bus) c.step_cached.ensures.frame
+    (frame_by (g.B.Bus.view c.step_cached.new.bus) (g.B.Bus.view c.call.new.bus) c.call.ensures.frame)
 
 pub returns-in-Err-clause-frame : goal.returns-in-Err-clause-frame
 returns-in-Err-clause-frame g c =
-    frame_then (g.B.Bus.view c.args.bus.now) (g.B.Bus.view c.step_one.new.bus) (g.B.Bus.view c.call.new.bus) c.step_one.ensures.frame
-    (frame_by (g.B.Bus.view c.step_one.new.bus) (g.B.Bus.view c.call.new.bus) c.call.ensures.frame)
+    frame_then (g.B.Bus.view c.args.bus.now) (g.B.Bus.view c.step_cached.new.bus) (g.B.Bus.view c.call.new.bus) c.step_cached.ensures.frame
+    (frame_by (g.B.Bus.view c.step_cached.new.bus) (g.B.Bus.view c.call.new.bus) c.call.ensures.frame)
 
 pub returns-in-Done-clause-away : goal.returns-in-Done-clause-away
 returns-in-Done-clause-away g c = λ bound. none_missed c.outlived.result _ c.outlived.ensures.done
@@ -257,127 +257,127 @@ returns-in-Ok-Trap-clause-missed g c = λ f input known bound. none_missed c.tra
 pub returns-in-Ok-Missed-clause-missed : goal.returns-in-Ok-Missed-clause-missed
 returns-in-Ok-Missed-clause-missed g c = λ f input known bound.
     let v : View = g.B.Bus.view c.args.bus.now in
-    let w : View = g.B.Bus.view c.step_one.new.bus in
+    let w : View = g.B.Bus.view c.step_cached.new.bus in
     let step = c.in-Gate.ensures.step in
     let bound_then : IsBound w = subst (λ (s : Machine). IsBound s.view) (sym step.1) bound in
     call_missed f v c.args.cpu.now c.args.pid input known c.in-Gate.service c.in-Gate.next
-    (gate_boundless f v w c.args.cpu.now c.step_one.new.cpu c.in-Gate.service c.in-Gate.next (c.in-Gate.ensures.boundless f bound)) c.in-Ok-Missed.sel
-    (told_by c.args.pid input known c.in-Gate.service c.in-Ok-Missed.field-0 (called.Missed c.in-Ok-Missed.sel) (state c.step_one.new.cpu w) (state c.args.cpu.now v)
+    (gate_boundless f v w c.args.cpu.now c.step_cached.new.cpu c.in-Gate.service c.in-Gate.next (c.in-Gate.ensures.boundless f bound)) c.in-Ok-Missed.sel
+    (told_by c.args.pid input known c.in-Gate.service c.in-Ok-Missed.field-0 (called.Missed c.in-Ok-Missed.sel) (state c.step_cached.new.cpu w) (state c.args.cpu.now v)
     c.in-Ok-Missed.field-0-is step.1 (c.in-Ok-Missed.ensures.names input known bound_then) f)
 
 pub returns-in-Done-clause-present : goal.returns-in-Done-clause-present
 returns-in-Done-clause-present g c = λ f input known bound never.
     let v : View = g.B.Bus.view c.args.bus.now in
-    let w : View = g.B.Bus.view c.step_one.new.bus in
-    touched_present f v c.args.cpu.now c.args.pid input known (Ok (state c.step_one.new.cpu (boundless f w)))
-    (done_boundless f v w c.args.cpu.now c.step_one.new.cpu (c.in-Done.ensures.boundless f bound)) refl (c.in-Done.ensures.present f bound refl)
+    let w : View = g.B.Bus.view c.step_cached.new.bus in
+    touched_present f v c.args.cpu.now c.args.pid input known (Ok (state c.step_cached.new.cpu (boundless f w)))
+    (done_boundless f v w c.args.cpu.now c.step_cached.new.cpu (c.in-Done.ensures.boundless f bound)) refl (c.in-Done.ensures.present f bound refl)
 
 pub returns-in-Trap-clause-present : goal.returns-in-Trap-clause-present
 returns-in-Trap-clause-present g c = λ f input known bound never.
     let v : View = g.B.Bus.view c.args.bus.now in
-    let w : View = g.B.Bus.view c.step_one.new.bus in
+    let w : View = g.B.Bus.view c.step_cached.new.bus in
     touched_present f v c.args.cpu.now c.args.pid input known (Err (stop.Trap c.in-Trap.vector c.in-Trap.field-1))
-    (trap_boundless f v w c.args.cpu.now c.step_one.new.cpu c.in-Trap.vector c.in-Trap.field-1 (c.in-Trap.ensures.boundless f bound)) refl (c.in-Trap.ensures.present f bound refl)
+    (trap_boundless f v w c.args.cpu.now c.step_cached.new.cpu c.in-Trap.vector c.in-Trap.field-1 (c.in-Trap.ensures.boundless f bound)) refl (c.in-Trap.ensures.present f bound refl)
 
 pub returns-in-Ok-Back-clause-present : goal.returns-in-Ok-Back-clause-present
 returns-in-Ok-Back-clause-present g c = λ f input known bound never.
     let v : View = g.B.Bus.view c.args.bus.now in
-    let w : View = g.B.Bus.view c.step_one.new.bus in
+    let w : View = g.B.Bus.view c.step_cached.new.bus in
     let step = c.in-Gate.ensures.step in
     let bound_then : IsBound w = subst (λ (s : Machine). IsBound s.view) (sym step.1) bound in
     call_present f v c.args.cpu.now c.args.pid input known c.in-Gate.service c.in-Gate.next
-    (gate_boundless f v w c.args.cpu.now c.step_one.new.cpu c.in-Gate.service c.in-Gate.next (c.in-Gate.ensures.boundless f bound)) (c.in-Gate.ensures.present f bound refl)
-    (told_by c.args.pid input known c.in-Gate.service c.in-Ok-Back.field-0 (called.Back c.in-Ok-Back.bytes) (state c.step_one.new.cpu w) (state c.args.cpu.now v)
+    (gate_boundless f v w c.args.cpu.now c.step_cached.new.cpu c.in-Gate.service c.in-Gate.next (c.in-Gate.ensures.boundless f bound)) (c.in-Gate.ensures.present f bound refl)
+    (told_by c.args.pid input known c.in-Gate.service c.in-Ok-Back.field-0 (called.Back c.in-Ok-Back.bytes) (state c.step_cached.new.cpu w) (state c.args.cpu.now v)
     c.in-Ok-Back.field-0-is step.1 (c.in-Ok-Back.ensures.names input known bound_then) f)
 
 pub returns-in-Ok-Exited-clause-present : goal.returns-in-Ok-Exited-clause-present
 returns-in-Ok-Exited-clause-present g c = λ f input known bound never.
     let v : View = g.B.Bus.view c.args.bus.now in
-    let w : View = g.B.Bus.view c.step_one.new.bus in
+    let w : View = g.B.Bus.view c.step_cached.new.bus in
     let step = c.in-Gate.ensures.step in
     let bound_then : IsBound w = subst (λ (s : Machine). IsBound s.view) (sym step.1) bound in
     call_present f v c.args.cpu.now c.args.pid input known c.in-Gate.service c.in-Gate.next
-    (gate_boundless f v w c.args.cpu.now c.step_one.new.cpu c.in-Gate.service c.in-Gate.next (c.in-Gate.ensures.boundless f bound)) (c.in-Gate.ensures.present f bound refl)
-    (told_by c.args.pid input known c.in-Gate.service c.in-Ok-Exited.field-0 (called.Exited c.in-Ok-Exited.code) (state c.step_one.new.cpu w) (state c.args.cpu.now v)
+    (gate_boundless f v w c.args.cpu.now c.step_cached.new.cpu c.in-Gate.service c.in-Gate.next (c.in-Gate.ensures.boundless f bound)) (c.in-Gate.ensures.present f bound refl)
+    (told_by c.args.pid input known c.in-Gate.service c.in-Ok-Exited.field-0 (called.Exited c.in-Ok-Exited.code) (state c.step_cached.new.cpu w) (state c.args.cpu.now v)
     c.in-Ok-Exited.field-0-is step.1 (c.in-Ok-Exited.ensures.names input known bound_then) f)
 
 pub returns-in-Ok-Trap-clause-present : goal.returns-in-Ok-Trap-clause-present
 returns-in-Ok-Trap-clause-present g c = λ f input known bound never.
     let v : View = g.B.Bus.view c.args.bus.now in
-    let w : View = g.B.Bus.view c.step_one.new.bus in
+    let w : View = g.B.Bus.view c.step_cached.new.bus in
     let step = c.in-Gate.ensures.step in
     let bound_then : IsBound w = subst (λ (s : Machine). IsBound s.view) (sym step.1) bound in
     call_present f v c.args.cpu.now c.args.pid input known c.in-Gate.service c.in-Gate.next
-    (gate_boundless f v w c.args.cpu.now c.step_one.new.cpu c.in-Gate.service c.in-Gate.next (c.in-Gate.ensures.boundless f bound)) (c.in-Gate.ensures.present f bound refl)
-    (told_by c.args.pid input known c.in-Gate.service c.in-Ok-Trap.field-0 (called.Trap c.in-Ok-Trap.vector _) (state c.step_one.new.cpu w) (state c.args.cpu.now v)
+    (gate_boundless f v w c.args.cpu.now c.step_cached.new.cpu c.in-Gate.service c.in-Gate.next (c.in-Gate.ensures.boundless f bound)) (c.in-Gate.ensures.present f bound refl)
+    (told_by c.args.pid input known c.in-Gate.service c.in-Ok-Trap.field-0 (called.Trap c.in-Ok-Trap.vector _) (state c.step_cached.new.cpu w) (state c.args.cpu.now v)
     c.in-Ok-Trap.field-0-is step.1 (c.in-Ok-Trap.ensures.names input known bound_then) f)
 
 pub returns-in-Err-clause-present : goal.returns-in-Err-clause-present
 returns-in-Err-clause-present g c = λ f input known bound never.
     let v : View = g.B.Bus.view c.args.bus.now in
-    let w : View = g.B.Bus.view c.step_one.new.bus in
+    let w : View = g.B.Bus.view c.step_cached.new.bus in
     let step = c.in-Gate.ensures.step in
     let bound_then : IsBound w = subst (λ (s : Machine). IsBound s.view) (sym step.1) bound in
     call_present f v c.args.cpu.now c.args.pid input known c.in-Gate.service c.in-Gate.next
-    (gate_boundless f v w c.args.cpu.now c.step_one.new.cpu c.in-Gate.service c.in-Gate.next (c.in-Gate.ensures.boundless f bound)) (c.in-Gate.ensures.present f bound refl)
-    (told_before c.args.pid input known c.in-Gate.service (Err c.in-Err.fault) (state c.step_one.new.cpu w) (state c.args.cpu.now v)
+    (gate_boundless f v w c.args.cpu.now c.step_cached.new.cpu c.in-Gate.service c.in-Gate.next (c.in-Gate.ensures.boundless f bound)) (c.in-Gate.ensures.present f bound refl)
+    (told_before c.args.pid input known c.in-Gate.service (Err c.in-Err.fault) (state c.step_cached.new.cpu w) (state c.args.cpu.now v)
     step.1 (c.in-Err.ensures.names input known bound_then) f)
 
 -- What it writes, and the segment registers.
 
 pub returns-in-Done-clause-writes : goal.returns-in-Done-clause-writes
-returns-in-Done-clause-writes g c = λ agrees. writes_data (g.B.Bus.view c.args.bus.now) (g.B.Bus.view c.step_one.new.bus) c.args.cpu.now agrees c.step_one.ensures.writes
+returns-in-Done-clause-writes g c = λ agrees. writes_data (g.B.Bus.view c.args.bus.now) (g.B.Bus.view c.step_cached.new.bus) c.args.cpu.now agrees c.step_cached.ensures.writes
 
 pub returns-in-Trap-clause-writes : goal.returns-in-Trap-clause-writes
-returns-in-Trap-clause-writes g c = λ agrees. writes_data (g.B.Bus.view c.args.bus.now) (g.B.Bus.view c.step_one.new.bus) c.args.cpu.now agrees c.step_one.ensures.writes
+returns-in-Trap-clause-writes g c = λ agrees. writes_data (g.B.Bus.view c.args.bus.now) (g.B.Bus.view c.step_cached.new.bus) c.args.cpu.now agrees c.step_cached.ensures.writes
 
 pub returns-in-Miss-clause-writes : goal.returns-in-Miss-clause-writes
-returns-in-Miss-clause-writes g c = λ agrees. writes_data (g.B.Bus.view c.args.bus.now) (g.B.Bus.view c.step_one.new.bus) c.args.cpu.now agrees c.step_one.ensures.writes
+returns-in-Miss-clause-writes g c = λ agrees. writes_data (g.B.Bus.view c.args.bus.now) (g.B.Bus.view c.step_cached.new.bus) c.args.cpu.now agrees c.step_cached.ensures.writes
 
 pub returns-in-Ok-Back-clause-writes : goal.returns-in-Ok-Back-clause-writes
 returns-in-Ok-Back-clause-writes g c = λ agrees.
-    writes_then (g.B.Bus.view c.args.bus.now) (g.B.Bus.view c.step_one.new.bus) (g.B.Bus.view c.call.new.bus) c.step_one.ensures.frame.held
-    (writes_data (g.B.Bus.view c.args.bus.now) (g.B.Bus.view c.step_one.new.bus) c.args.cpu.now agrees c.step_one.ensures.writes) c.call.ensures.writes
+    writes_then (g.B.Bus.view c.args.bus.now) (g.B.Bus.view c.step_cached.new.bus) (g.B.Bus.view c.call.new.bus) c.step_cached.ensures.frame.held
+    (writes_data (g.B.Bus.view c.args.bus.now) (g.B.Bus.view c.step_cached.new.bus) c.args.cpu.now agrees c.step_cached.ensures.writes) c.call.ensures.writes
 
 pub returns-in-Ok-Back-clause-agrees : goal.returns-in-Ok-Back-clause-agrees
 returns-in-Ok-Back-clause-agrees g c = λ agrees.
-    agrees_then c.step_one.new.cpu c.call.new.cpu (g.B.Bus.view c.step_one.new.bus) (g.B.Bus.view c.call.new.bus) c.call.ensures.frame c.call.ensures.selectors (c.step_one.ensures.agrees agrees)
+    agrees_then c.step_cached.new.cpu c.call.new.cpu (g.B.Bus.view c.step_cached.new.bus) (g.B.Bus.view c.call.new.bus) c.call.ensures.frame c.call.ensures.selectors (c.step_cached.ensures.agrees agrees)
 
 pub returns-in-Ok-Exited-clause-writes : goal.returns-in-Ok-Exited-clause-writes
 returns-in-Ok-Exited-clause-writes g c = λ agrees.
-    writes_then (g.B.Bus.view c.args.bus.now) (g.B.Bus.view c.step_one.new.bus) (g.B.Bus.view c.call.new.bus) c.step_one.ensures.frame.held
-    (writes_data (g.B.Bus.view c.args.bus.now) (g.B.Bus.view c.step_one.new.bus) c.args.cpu.now agrees c.step_one.ensures.writes) c.call.ensures.writes
+    writes_then (g.B.Bus.view c.args.bus.now) (g.B.Bus.view c.step_cached.new.bus) (g.B.Bus.view c.call.new.bus) c.step_cached.ensures.frame.held
+    (writes_data (g.B.Bus.view c.args.bus.now) (g.B.Bus.view c.step_cached.new.bus) c.args.cpu.now agrees c.step_cached.ensures.writes) c.call.ensures.writes
 
 pub returns-in-Ok-Exited-clause-agrees : goal.returns-in-Ok-Exited-clause-agrees
 returns-in-Ok-Exited-clause-agrees g c = λ agrees.
-    agrees_then c.step_one.new.cpu c.call.new.cpu (g.B.Bus.view c.step_one.new.bus) (g.B.Bus.view c.call.new.bus) c.call.ensures.frame c.call.ensures.selectors (c.step_one.ensures.agrees agrees)
+    agrees_then c.step_cached.new.cpu c.call.new.cpu (g.B.Bus.view c.step_cached.new.bus) (g.B.Bus.view c.call.new.bus) c.call.ensures.frame c.call.ensures.selectors (c.step_cached.ensures.agrees agrees)
 
 pub returns-in-Ok-Trap-clause-writes : goal.returns-in-Ok-Trap-clause-writes
 returns-in-Ok-Trap-clause-writes g c = λ agrees.
-    writes_then (g.B.Bus.view c.args.bus.now) (g.B.Bus.view c.step_one.new.bus) (g.B.Bus.view c.call.new.bus) c.step_one.ensures.frame.held
-    (writes_data (g.B.Bus.view c.args.bus.now) (g.B.Bus.view c.step_one.new.bus) c.args.cpu.now agrees c.step_one.ensures.writes) c.call.ensures.writes
+    writes_then (g.B.Bus.view c.args.bus.now) (g.B.Bus.view c.step_cached.new.bus) (g.B.Bus.view c.call.new.bus) c.step_cached.ensures.frame.held
+    (writes_data (g.B.Bus.view c.args.bus.now) (g.B.Bus.view c.step_cached.new.bus) c.args.cpu.now agrees c.step_cached.ensures.writes) c.call.ensures.writes
 
 pub returns-in-Ok-Trap-clause-agrees : goal.returns-in-Ok-Trap-clause-agrees
 returns-in-Ok-Trap-clause-agrees g c = λ agrees.
-    agrees_then c.step_one.new.cpu c.call.new.cpu (g.B.Bus.view c.step_one.new.bus) (g.B.Bus.view c.call.new.bus) c.call.ensures.frame c.call.ensures.selectors (c.step_one.ensures.agrees agrees)
+    agrees_then c.step_cached.new.cpu c.call.new.cpu (g.B.Bus.view c.step_cached.new.bus) (g.B.Bus.view c.call.new.bus) c.call.ensures.frame c.call.ensures.selectors (c.step_cached.ensures.agrees agrees)
 
 pub returns-in-Ok-Missed-clause-writes : goal.returns-in-Ok-Missed-clause-writes
 returns-in-Ok-Missed-clause-writes g c = λ agrees.
-    writes_then (g.B.Bus.view c.args.bus.now) (g.B.Bus.view c.step_one.new.bus) (g.B.Bus.view c.call.new.bus) c.step_one.ensures.frame.held
-    (writes_data (g.B.Bus.view c.args.bus.now) (g.B.Bus.view c.step_one.new.bus) c.args.cpu.now agrees c.step_one.ensures.writes) c.call.ensures.writes
+    writes_then (g.B.Bus.view c.args.bus.now) (g.B.Bus.view c.step_cached.new.bus) (g.B.Bus.view c.call.new.bus) c.step_cached.ensures.frame.held
+    (writes_data (g.B.Bus.view c.args.bus.now) (g.B.Bus.view c.step_cached.new.bus) c.args.cpu.now agrees c.step_cached.ensures.writes) c.call.ensures.writes
 
 pub returns-in-Ok-Missed-clause-agrees : goal.returns-in-Ok-Missed-clause-agrees
 returns-in-Ok-Missed-clause-agrees g c = λ agrees.
-    agrees_then c.step_one.new.cpu c.call.new.cpu (g.B.Bus.view c.step_one.new.bus) (g.B.Bus.view c.call.new.bus) c.call.ensures.frame c.call.ensures.selectors (c.step_one.ensures.agrees agrees)
+    agrees_then c.step_cached.new.cpu c.call.new.cpu (g.B.Bus.view c.step_cached.new.bus) (g.B.Bus.view c.call.new.bus) c.call.ensures.frame c.call.ensures.selectors (c.step_cached.ensures.agrees agrees)
 
 pub returns-in-Err-clause-writes : goal.returns-in-Err-clause-writes
 returns-in-Err-clause-writes g c = λ agrees.
-    writes_then (g.B.Bus.view c.args.bus.now) (g.B.Bus.view c.step_one.new.bus) (g.B.Bus.view c.call.new.bus) c.step_one.ensures.frame.held
-    (writes_data (g.B.Bus.view c.args.bus.now) (g.B.Bus.view c.step_one.new.bus) c.args.cpu.now agrees c.step_one.ensures.writes) c.call.ensures.writes
+    writes_then (g.B.Bus.view c.args.bus.now) (g.B.Bus.view c.step_cached.new.bus) (g.B.Bus.view c.call.new.bus) c.step_cached.ensures.frame.held
+    (writes_data (g.B.Bus.view c.args.bus.now) (g.B.Bus.view c.step_cached.new.bus) c.args.cpu.now agrees c.step_cached.ensures.writes) c.call.ensures.writes
 
 pub returns-in-Err-clause-agrees : goal.returns-in-Err-clause-agrees
 returns-in-Err-clause-agrees g c = λ agrees.
-    agrees_then c.step_one.new.cpu c.call.new.cpu (g.B.Bus.view c.step_one.new.bus) (g.B.Bus.view c.call.new.bus) c.call.ensures.frame c.call.ensures.selectors (c.step_one.ensures.agrees agrees)
+    agrees_then c.step_cached.new.cpu c.call.new.cpu (g.B.Bus.view c.step_cached.new.bus) (g.B.Bus.view c.call.new.bus) c.call.ensures.frame c.call.ensures.selectors (c.step_cached.ensures.agrees agrees)
 
 -- Nothing is changed where a segment is missed.
 
@@ -435,7 +435,7 @@ returns-in-Trap-clause-part_as g c = λ text m f input known bound left same.
     let v : View = g.B.Bus.view c.args.bus.now in
     let b = before_call (boundless f v) c.args.pid c.args.cpu.now input known in
     trap_part b _ c.in-Trap.vector _ c.trap.result
-    (effect_by b (Err (stop.Trap c.in-Trap.vector c.in-Trap.field-1)) (trap_boundless f v (g.B.Bus.view c.step_one.new.bus) c.args.cpu.now c.step_one.new.cpu c.in-Trap.vector c.in-Trap.field-1 (c.in-Trap.ensures.boundless f bound)))
+    (effect_by b (Err (stop.Trap c.in-Trap.vector c.in-Trap.field-1)) (trap_boundless f v (g.B.Bus.view c.step_cached.new.bus) c.args.cpu.now c.step_cached.new.cpu c.in-Trap.vector c.in-Trap.field-1 (c.in-Trap.ensures.boundless f bound)))
     (c.trap.ensures.part _)
 
 pub returns-in-Trap-clause-part : goal.returns-in-Trap-clause-part
@@ -444,17 +444,17 @@ returns-in-Trap-clause-part g c = λ f input known bound left same. returns-in-T
 pub returns-in-Ok-Trap-clause-part_as : goal.returns-in-Ok-Trap-clause-part_as
 returns-in-Ok-Trap-clause-part_as g c = λ text m f input known bound left same.
     let v : View = g.B.Bus.view c.args.bus.now in
-    let w : View = g.B.Bus.view c.step_one.new.bus in
+    let w : View = g.B.Bus.view c.step_cached.new.bus in
     let b = before_call (boundless f v) c.args.pid c.args.cpu.now input known in
     let step = c.in-Gate.ensures.step in
     let bound_then : IsBound w = subst (λ (s : Machine). IsBound s.view) (sym step.1) bound in
-    let does = moved f c.args.pid input known c.in-Gate.service c.in-Gate.next c.call.new.cpu (g.B.Bus.view c.call.new.bus) _ _ _ _ _ _ (Ok c.in-Ok-Trap.field-0) (state c.step_one.new.cpu w) (state c.args.cpu.now v) step.1
+    let does = moved f c.args.pid input known c.in-Gate.service c.in-Gate.next c.call.new.cpu (g.B.Bus.view c.call.new.bus) _ _ _ _ _ _ (Ok c.in-Ok-Trap.field-0) (state c.step_cached.new.cpu w) (state c.args.cpu.now v) step.1
     (c.in-Ok-Trap.ensures.does text m f input known bound_then left (record { avail = same.avail })) in
     let vector = c.in-Ok-Trap.vector in
     let t = by_answer f c.args.pid input known c.in-Gate.service c.in-Gate.next c.call.new.cpu (g.B.Bus.view c.call.new.bus) _ _ _ _ _ _ v c.args.cpu.now c.in-Ok-Trap.field-0 (called.Trap vector _) c.in-Ok-Trap.field-0-is does in
     behind (λ (n : Counts). PartHands (effect b) n c.trap-in-Ok-Trap.result) _ _ _ _ _ (trap_hands _ c.in-Ok-Trap.field-0 c.in-Ok-Trap.ensures.puts _ _ c.in-Ok-Trap.field-0-is)
     (trap_part b _ vector _ c.trap-in-Ok-Trap.result
-    (effect_by b (Err (stop.Gate c.in-Gate.service c.in-Gate.next)) (gate_boundless f v w c.args.cpu.now c.step_one.new.cpu c.in-Gate.service c.in-Gate.next (c.in-Gate.ensures.boundless f bound))
+    (effect_by b (Err (stop.Gate c.in-Gate.service c.in-Gate.next)) (gate_boundless f v w c.args.cpu.now c.step_cached.new.cpu c.in-Gate.service c.in-Gate.next (c.in-Gate.ensures.boundless f bound))
     ∙ ap (λ (e : Effect). single_stepped b e) t.effect)
     (c.trap-in-Ok-Trap.ensures.part _))
 
@@ -464,7 +464,7 @@ returns-in-Ok-Trap-clause-part g c = λ f input known bound left same. returns-i
 pub returns-in-Err-clause-part_as : goal.returns-in-Err-clause-part_as
 returns-in-Err-clause-part_as g c = λ text m f input known bound left same.
     let v : View = g.B.Bus.view c.args.bus.now in
-    let w : View = g.B.Bus.view c.step_one.new.bus in
+    let w : View = g.B.Bus.view c.step_cached.new.bus in
     let b = before_call (boundless f v) c.args.pid c.args.cpu.now input known in
     let step = c.in-Gate.ensures.step in
     let bound_then : IsBound w = subst (λ (s : Machine). IsBound s.view) (sym step.1) bound in
@@ -473,7 +473,7 @@ returns-in-Err-clause-part_as g c = λ text m f input known bound left same.
     let part = subst (λ (s : Machine). PartHands (serviced (before_call (boundless f s.view) c.args.pid s.cpu input known) c.in-Gate.service c.in-Gate.next) n fails) step.1
     (c.in-Err.ensures.part f input known bound_then (record { avail = same.avail })) in
     fault_part b (serviced b c.in-Gate.service c.in-Gate.next) _ n c.in-Err.fault
-    (effect_by b (Err (stop.Gate c.in-Gate.service c.in-Gate.next)) (gate_boundless f v w c.args.cpu.now c.step_one.new.cpu c.in-Gate.service c.in-Gate.next (c.in-Gate.ensures.boundless f bound))) part
+    (effect_by b (Err (stop.Gate c.in-Gate.service c.in-Gate.next)) (gate_boundless f v w c.args.cpu.now c.step_cached.new.cpu c.in-Gate.service c.in-Gate.next (c.in-Gate.ensures.boundless f bound))) part
 
 pub returns-in-Err-clause-part : goal.returns-in-Err-clause-part
 returns-in-Err-clause-part g c = λ f input known bound left same. returns-in-Err-clause-part_as g c None tt f input known bound left same
@@ -501,9 +501,9 @@ call-requires g c = record { plain = c.in-None.ensures.none refl }
 pub returns-in-Some-clause-leaves_as : goal.returns-in-Some-clause-leaves_as
 returns-in-Some-clause-leaves_as g c = λ text m f input known bound left same.
     let v : View = g.B.Bus.view c.args.bus.now in
-    let w : View = g.B.Bus.view c.step_one.new.bus in
+    let w : View = g.B.Bus.view c.step_cached.new.bus in
     let new : View = g.B.Bus.view c.ask.new.bus in
-    let cpu = c.step_one.new.cpu in
+    let cpu = c.step_cached.new.cpu in
     let b = before_call (boundless f v) c.args.pid c.args.cpu.now input known in
     let i = left_as text (g.I.Source.left c.args.input.now) (g.I.Source.past c.args.input.now) in
     let d = g.C.Sink.taken c.args.console.now in
@@ -525,23 +525,23 @@ returns-in-Some-clause-away g c = λ bound. subst (λ (s : Machine). OnMissed c.
 pub returns-in-Some-clause-missed : goal.returns-in-Some-clause-missed
 returns-in-Some-clause-missed g c = λ f input known bound.
     let v : View = g.B.Bus.view c.args.bus.now in
-    let w : View = g.B.Bus.view c.step_one.new.bus in
+    let w : View = g.B.Bus.view c.step_cached.new.bus in
     let step = c.in-Gate.ensures.step in
     let bound_then : IsBound w = subst (λ (s : Machine). IsBound s.view) (sym step.1) bound in
     asked_missed c.args.pid input known c.in-Some.which f v c.args.cpu.now c.in-Gate.service c.in-Gate.next
-    (gate_boundless f v w c.args.cpu.now c.step_one.new.cpu c.in-Gate.service c.in-Gate.next (c.in-Gate.ensures.boundless f bound)) c.in-Some.ensures.some c.ask.result
-    (asked_before c.args.pid input known c.in-Some.which c.ask.result (state c.step_one.new.cpu w) (state c.args.cpu.now v) step.1 (c.ask.ensures.names input known bound_then))
+    (gate_boundless f v w c.args.cpu.now c.step_cached.new.cpu c.in-Gate.service c.in-Gate.next (c.in-Gate.ensures.boundless f bound)) c.in-Some.ensures.some c.ask.result
+    (asked_before c.args.pid input known c.in-Some.which c.ask.result (state c.step_cached.new.cpu w) (state c.args.cpu.now v) step.1 (c.ask.ensures.names input known bound_then))
 
 pub returns-in-Some-clause-present : goal.returns-in-Some-clause-present
 returns-in-Some-clause-present g c = λ f input known bound never.
     let v : View = g.B.Bus.view c.args.bus.now in
-    let w : View = g.B.Bus.view c.step_one.new.bus in
+    let w : View = g.B.Bus.view c.step_cached.new.bus in
     let step = c.in-Gate.ensures.step in
     let bound_then : IsBound w = subst (λ (s : Machine). IsBound s.view) (sym step.1) bound in
     asked_present c.args.pid input known c.in-Some.which f v c.args.cpu.now c.in-Gate.service c.in-Gate.next
-    (gate_boundless f v w c.args.cpu.now c.step_one.new.cpu c.in-Gate.service c.in-Gate.next (c.in-Gate.ensures.boundless f bound)) c.in-Some.ensures.some c.ask.result never
+    (gate_boundless f v w c.args.cpu.now c.step_cached.new.cpu c.in-Gate.service c.in-Gate.next (c.in-Gate.ensures.boundless f bound)) c.in-Some.ensures.some c.ask.result never
     (c.in-Gate.ensures.present f bound refl)
-    (asked_before c.args.pid input known c.in-Some.which c.ask.result (state c.step_one.new.cpu w) (state c.args.cpu.now v) step.1 (c.ask.ensures.names input known bound_then))
+    (asked_before c.args.pid input known c.in-Some.which c.ask.result (state c.step_cached.new.cpu w) (state c.args.cpu.now v) step.1 (c.ask.ensures.names input known bound_then))
 
 pub returns-in-Some-clause-still : goal.returns-in-Some-clause-still
 returns-in-Some-clause-still g c =
@@ -552,15 +552,15 @@ pub returns-in-Some-clause-ready : goal.returns-in-Some-clause-ready
 returns-in-Some-clause-ready g c = subst (λ (s : Machine). OnAsked c.ask.result (λ a. are_ready s.view (targets a) ≡ true)) c.in-Gate.ensures.step.1 c.ask.ensures.ready
 
 pub returns-in-Some-clause-frame : goal.returns-in-Some-clause-frame
-returns-in-Some-clause-frame g c = subst (λ (v : View). KeepsFrame (g.B.Bus.view c.args.bus.now) v) (sym c.ask.ensures.same) c.step_one.ensures.frame
+returns-in-Some-clause-frame g c = subst (λ (v : View). KeepsFrame (g.B.Bus.view c.args.bus.now) v) (sym c.ask.ensures.same) c.step_cached.ensures.frame
 
 pub returns-in-Some-clause-writes : goal.returns-in-Some-clause-writes
 returns-in-Some-clause-writes g c = λ agrees.
     subst (λ (v : View). WritesHeld (g.B.Bus.view c.args.bus.now) v) (sym c.ask.ensures.same)
-    (writes_data (g.B.Bus.view c.args.bus.now) (g.B.Bus.view c.step_one.new.bus) c.args.cpu.now agrees c.step_one.ensures.writes)
+    (writes_data (g.B.Bus.view c.args.bus.now) (g.B.Bus.view c.step_cached.new.bus) c.args.cpu.now agrees c.step_cached.ensures.writes)
 
 pub returns-in-Some-clause-agrees : goal.returns-in-Some-clause-agrees
-returns-in-Some-clause-agrees g c = λ agrees. subst (λ (v : View). Agrees c.step_one.new.cpu v) (sym c.ask.ensures.same) (c.step_one.ensures.agrees agrees)
+returns-in-Some-clause-agrees g c = λ agrees. subst (λ (v : View). Agrees c.step_cached.new.cpu v) (sym c.ask.ensures.same) (c.step_cached.ensures.agrees agrees)
 
 pub returns-in-Some-clause-cause : goal.returns-in-Some-clause-cause
 returns-in-Some-clause-cause g c = wider_cause _ _ _ _ c.ask.result inr (λ never. absurd never) c.ask.ensures.cause
@@ -571,13 +571,13 @@ returns-in-Some-clause-puts g c = c.ask.ensures.puts _
 pub returns-in-Some-clause-part_as : goal.returns-in-Some-clause-part_as
 returns-in-Some-clause-part_as g c = λ text m f input known bound left same.
     let v : View = g.B.Bus.view c.args.bus.now in
-    let w : View = g.B.Bus.view c.step_one.new.bus in
+    let w : View = g.B.Bus.view c.step_cached.new.bus in
     let b = before_call (boundless f v) c.args.pid c.args.cpu.now input known in
     let step = c.in-Gate.ensures.step in
     let bound_then : IsBound w = subst (λ (s : Machine). IsBound s.view) (sym step.1) bound in
     let n = counts (g.C.Sink.puts c.args.console.now) (g.C.Sink.puts c.args.console.now) (g.R.Sink.puts c.args.report.now) (g.R.Sink.puts c.ask.new.report) 0 in
     subst (λ (e : Effect). PartHands e n c.ask.result)
-    (sym (asks_by b c.in-Gate.service c.in-Gate.next c.in-Some.which c.in-Some.ensures.some (gate_boundless f v w c.args.cpu.now c.step_one.new.cpu c.in-Gate.service c.in-Gate.next (c.in-Gate.ensures.boundless f bound))))
+    (sym (asks_by b c.in-Gate.service c.in-Gate.next c.in-Some.which c.in-Some.ensures.some (gate_boundless f v w c.args.cpu.now c.step_cached.new.cpu c.in-Gate.service c.in-Gate.next (c.in-Gate.ensures.boundless f bound))))
     (subst (λ (s : Machine). let z = before_call (boundless f s.view) c.args.pid s.cpu input known in PartHands (single_stepped z (on_segments c.in-Some.which z c.in-Gate.next)) n c.ask.result) step.1
     (c.ask.ensures.part f input known _ bound_then))
 
