@@ -22,7 +22,7 @@ static BENCHES: &str = "
 1;16384;1;0;0;7;bench;24;all ended
 1;16384;2;0;0;0;bench 1: 1927 steps, 1 console bytes, 24 report lines;24;all ended
 4;16384;0;1;0;7;;0;
-4;16384;0;17;0;7;;16;4 hold 0017 by load
+4;16384;0;17;0;7;;16;4 hold 001F by load
 4;16384;0;93;0;7;;92;*
 1;16384;0;24;0;7;;23;1 end exit 0
 ";

@@ -1,5 +1,5 @@
 -- The word of a verb tells it, and behind `bench` the number that is its operand.
-use Rattle.std.proofs.Common.{◌≡◌, ◌∙◌, ℕ, zero, suc, ◌<◌, ◌≤◌, ◌^◌, List, [], ◌∷◌, Option, Some, None, Result, Ok, Err, Bool, true, false, refl, ap, sym, subst, arith, length, get_or, decimal}
+use Rattle.std.proofs.Common.{◌≡◌, ◌∙◌, ℕ, zero, suc, ◌<◌, ◌≤◌, ◌^◌, List, [], ◌∷◌, Option, Some, None, Result, Ok, Err, true, false, refl, ap, sym, subst, arith, get_or, decimal}
 use Rattle.std.specs.Prelude.{IsSome, MatchOption, String, nat_lt}
 use Rattle.std.specs.Result.{result_unwrap_or}
 use Rattle.std.specs.declared.alloc.Global.{Global}

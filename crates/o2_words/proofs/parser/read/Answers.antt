@@ -1,7 +1,6 @@
-use Rattle.std.proofs.Common.{◌≡◌, ◌∙◌, rules, List, ℕ, Option, Some, option_map, sym, ap, subst}
+use Rattle.std.proofs.Common.{◌∙◌, List, ℕ, Option, Some, option_map, sym, ap, subst}
 use Rattle.clap.specs.Words.{Text}
-use Rattle.o2_words.specs.Words.{IsOperand, verb_text}
-use Rattle.o2_words.specs.Grammar.{operand_in}
+use Rattle.o2_words.specs.Words.{IsOperand}
 use Rattle.o2_words.proofs.Finds.{is_there, operand_is, shown, word_is}
 use Rattle.o2_words.proofs.Verbs.{found_as, has_count, is_found}
 use Rattle.o2_words.proofs.parser.read.Goals as goal

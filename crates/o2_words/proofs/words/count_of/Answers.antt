@@ -1,4 +1,4 @@
-use Rattle.std.proofs.Common.{◌≡◌, ◌∙◌, ℕ, List, ap, sym, get_or}
+use Rattle.std.proofs.Common.{◌∙◌, ℕ, List, ap, sym, get_or}
 use Rattle.std.specs.Prelude.{nat_lt}
 use Rattle.o2_words.proofs.Verbs.{is_count, no_zero, too_large, unread}
 use Rattle.o2_words.proofs.words.count_of.Goals as goal
