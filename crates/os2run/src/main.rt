@@ -12,6 +12,7 @@ use o2_cli::{Status, number, os2run_on_system, text};
 use o2_outer::{FileSwap, FolderFiles, Put, Sink, StderrSink, StdinSource, StdoutSink};
 use std::alloc::Global;
 use std::env;
+use std::fs::{File, OpenOptions};
 use std::io::{Error, ErrorKind};
 use std::process::ExitCode;
 
@@ -72,7 +73,20 @@ fn tell(rt: &HostRuntime, status: &Status) {
     }
 }
 
+/// Opens the root folder, once for each standard stream. A stream that is closed has its place taken by that, which can neither be read
+/// nor written, so it is a fault, and no file that is opened later, as the swap file, is taken for it.
+fn placeholders(rt: &HostRuntime) -> [Option<File>; 3] {
+    let mut options = OpenOptions::new();
+    options.read(true);
+    [
+        options.open(rt, "/").ok(),
+        options.open(rt, "/").ok(),
+        options.open(rt, "/").ok(),
+    ]
+}
+
 fn main(rt: HostRuntime) -> ExitCode {
+    let _placeholders = placeholders(&rt);
     let status = match run(&rt) {
         Ok(status) => status,
         Err(NoMemory) => Status::NoMemory,
