@@ -12,3 +12,4 @@ pub mod Isolated
 pub mod CommonSegments
 pub mod StartsAlike
 pub mod OpenedAlike
+pub mod Traces

@@ -3,3 +3,4 @@ pub mod Events
 pub mod Alone
 pub mod Keeping
 pub mod Isolation
+pub mod Worked

@@ -1,5 +1,5 @@
 // Laws on processes among others.
-ghost use Rattle.std.specs.Prelude.{◌≡◌, ℕ, List, [], ◌∷◌, Option};
+ghost use Rattle.std.specs.Prelude.{◌≡◌, ℕ, List, [], ◌∷◌, Option, codes};
 ghost use Rattle.o2_isa.specs.declared.cpu.Cpu.{Cpu};
 ghost use Rattle.o2_isa.specs.View.{View};
 ghost use Rattle.o2_isa.specs.Steps.{state};
@@ -11,6 +11,8 @@ ghost use Rattle.o2_world.specs.Effect.{effect};
 ghost use Rattle.o2_world.specs.Changes.{Change, moved_lines};
 ghost use Rattle.o2_world.specs.World.{World, Setting};
 ghost use Rattle.o2_world.specs.Starts.{Start, opening_of};
+ghost use Rattle.o2_alone.specs.Events.{events, events_of};
+ghost use Rattle.o2_alone.specs.Worked.{hello_pointers, in_turns, pieces, pointers, second_alone, two_hellos};
 ghost use Rattle.o2_alone.specs.Alone.{opening_alone};
 ghost use Rattle.o2_alone.specs.Isolation.{BeginsAlike, IsIsolatedFrom, Isolation};
 ghost use Rattle.o2_alone.specs.Renaming.{Renaming, IsRenamed, IsRenamedEffect, IsRenamedView, IsRenamedResult, IsAskedAlike, call_of, renamed_changes};
@@ -60,4 +62,12 @@ pub fn strangers_do_not_feel_one_another()
 pub fn the_only_process_runs_alone()
     ensures { (s : Setting) (reserved : List (ℕ × ℕ)) (input : List ℕ) (start : Start)
         → opening_alone s reserved input 1 start ≡ opening_of s reserved [] input (start ∷ []) }
+{}
+
+/// Two processes that write `hello`, in turns of three steps: the second takes the ten steps that it takes alone, and writes `hello`.
+pub fn two_hellos_run_as_alone()
+    ensures among { pointers (events_of 2 (events in_turns two_hellos 20)) ≡ hello_pointers }
+    ensures alone { pointers (events in_turns second_alone 10) ≡ hello_pointers }
+    ensures written { pieces (events_of 2 (events in_turns two_hellos 20)) ≡ codes "hello" }
+    ensures written_alone { pieces (events in_turns second_alone 10) ≡ codes "hello" }
 {}

@@ -6,6 +6,6 @@ mod laws;
 
 pub use laws::{
     calls_depend_on_no_name, instructions_depend_on_no_name, steps_depend_on_no_name,
-    strangers_do_not_feel_one_another, the_only_process_runs_alone,
+    strangers_do_not_feel_one_another, the_only_process_runs_alone, two_hellos_run_as_alone,
     who_keeps_to_itself_runs_as_alone,
 };
