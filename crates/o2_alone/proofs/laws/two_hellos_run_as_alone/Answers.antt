@@ -1,5 +1,5 @@
 -- Runs of programs that write `hello`, computed from their definition.
-use Rattle.std.proofs.Common.{◌≡◌, refl, ◌∙◌, ap, ℕ, List}
+use Rattle.std.proofs.Common.{◌≡◌, refl, ◌∙◌, ap, List}
 use Rattle.std.specs.Prelude.{codes}
 use Rattle.o2_isa.specs.View.{built_gates, probe_of, bind, read_of, room_of, poke, size_at, fetched}
 use Rattle.o2_isa.specs.Registers.{reg16}
