@@ -7,7 +7,7 @@ use crate::widths::half_size;
 use o2_isa::{Flag, Width};
 
 /// The place of a flag in the flags word, from 0 at the lowest bit.
-#[inline]
+#[inline(always)]
 pub fn bit_number(flag: Flag) -> u8
     ensures { result ≡ flag_number flag }
 {
@@ -15,7 +15,7 @@ pub fn bit_number(flag: Flag) -> u8
 }
 
 /// The flags word with one flag put, all other bits as they are.
-#[inline]
+#[inline(always)]
 pub fn with_flag(f: u16, flag: Flag, on: bool) -> u16
     ensures { result ≡ put f flag on }
 {
@@ -36,7 +36,7 @@ pub fn with_flag(f: u16, flag: Flag, on: bool) -> u16
 }
 
 /// Whether a flag is set.
-#[inline]
+#[inline(always)]
 pub fn is_set(f: u16, flag: Flag) -> bool
     ensures { result ≡ is_set_of f flag }
 {
@@ -57,7 +57,7 @@ pub fn is_set(f: u16, flag: Flag) -> bool
     shifted % 2 == 1
 }
 
-#[inline]
+#[inline(always)]
 #[tactic(auto, unfolding(o2_isa::specs::Flags::is_even))]
 fn is_even_parity(r: u16) -> bool
     ensures { result ≡ is_even r }
@@ -66,7 +66,7 @@ fn is_even_parity(r: u16) -> bool
 }
 
 /// SF, ZF and PF as the result `r` says.
-#[inline]
+#[inline(always)]
 #[tactic(auto, unfolding(o2_isa::specs::Flags::with_szp))]
 pub fn szp(w: Width, r: u16, f: u16) -> u16
     ensures { result ≡ with_szp w r f }
@@ -77,7 +77,7 @@ pub fn szp(w: Width, r: u16, f: u16) -> u16
 }
 
 /// CF, AF and OF put.
-#[inline]
+#[inline(always)]
 #[tactic(auto, unfolding(o2_isa::specs::Flags::with_carries))]
 pub fn carries(f: u16, carry: bool, auxiliary: bool, overflow: bool) -> u16
     ensures { result ≡ with_carries f carry auxiliary overflow }

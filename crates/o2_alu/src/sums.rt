@@ -10,7 +10,7 @@ use crate::widths::{half_size, is_outside, signed_value, size};
 use o2_isa::{BinaryOp, Flag, LogicOp, UnaryOp, Width};
 
 /// A carry as a number.
-#[inline]
+#[inline(always)]
 #[tactic(auto, unfolding(o2_isa::specs::Sums::bit))]
 pub fn bit_of(carry: bool) -> u16
     ensures value { result ≡ bit carry }
@@ -19,7 +19,7 @@ pub fn bit_of(carry: bool) -> u16
     if carry { 1 } else { 0 }
 }
 
-#[inline]
+#[inline(always)]
 #[tactic(auto, unfolding(o2_isa::specs::Sums::sum_value, o2_isa::specs::Sums::sum_carries))]
 fn sum(w: Width, a: u16, b: u16, carry: bool) -> (u16, bool)
     ensures value { result.0 ≡ sum_value w a b carry }
@@ -30,7 +30,7 @@ fn sum(w: Width, a: u16, b: u16, carry: bool) -> (u16, bool)
     ((sum % size(w)) as u16, size(w) <= sum)
 }
 
-#[inline]
+#[inline(always)]
 #[tactic(auto, unfolding(o2_isa::specs::Sums::sum_adjusts))]
 fn sum_adjust(a: u16, b: u16, carry: bool) -> bool
     ensures { result ≡ sum_adjusts a b carry }
@@ -38,7 +38,7 @@ fn sum_adjust(a: u16, b: u16, carry: bool) -> bool
     16 <= a % 16 + b % 16 + bit_of(carry)
 }
 
-#[inline]
+#[inline(always)]
 fn signed_sum(w: Width, a: u16, b: u16, carry: bool) -> i64
     requires left { IsOfWidth w a }
     requires right { IsOfWidth w b }
@@ -47,7 +47,7 @@ fn signed_sum(w: Width, a: u16, b: u16, carry: bool) -> i64
     signed_value(w, a) + signed_value(w, b) + bit_of(carry) as i64
 }
 
-#[inline]
+#[inline(always)]
 #[tactic(auto, unfolding(o2_isa::specs::Sums::sum_overflows))]
 fn sum_overflow(w: Width, a: u16, b: u16, carry: bool) -> bool
     requires left { IsOfWidth w a }
@@ -58,7 +58,7 @@ fn sum_overflow(w: Width, a: u16, b: u16, carry: bool) -> bool
 }
 
 /// ADD and, with CF for `carry`, ADC: the sum and the flags word.
-#[inline]
+#[inline(always)]
 #[tactic(auto, unfolding(o2_isa::specs::Sums::add_of))]
 pub fn add(w: Width, a: u16, b: u16, carry: bool, f: u16) -> (u16, u16)
     requires left { IsOfWidth w a }
@@ -76,7 +76,7 @@ pub fn add(w: Width, a: u16, b: u16, carry: bool, f: u16) -> (u16, u16)
     (r, szp(w, r, f))
 }
 
-#[inline]
+#[inline(always)]
 #[tactic(auto, unfolding(o2_isa::specs::Sums::difference_value))]
 fn difference(w: Width, a: u16, b: u16, borrow: bool) -> u16
     requires left { IsOfWidth w a }
@@ -87,7 +87,7 @@ fn difference(w: Width, a: u16, b: u16, borrow: bool) -> u16
     ((a as u32 + size(w) - b as u32 - bit_of(borrow) as u32) % size(w)) as u16
 }
 
-#[inline]
+#[inline(always)]
 #[tactic(auto, unfolding(o2_isa::specs::Sums::difference_borrows))]
 fn borrows(a: u16, b: u16, borrow: bool) -> bool
     ensures { result ≡ difference_borrows a b borrow }
@@ -95,7 +95,7 @@ fn borrows(a: u16, b: u16, borrow: bool) -> bool
     (a as u32) < b as u32 + bit_of(borrow) as u32
 }
 
-#[inline]
+#[inline(always)]
 fn signed_difference(w: Width, a: u16, b: u16, borrow: bool) -> i64
     requires left { IsOfWidth w a }
     requires right { IsOfWidth w b }
@@ -104,7 +104,7 @@ fn signed_difference(w: Width, a: u16, b: u16, borrow: bool) -> i64
     signed_value(w, a) - signed_value(w, b) - bit_of(borrow) as i64
 }
 
-#[inline]
+#[inline(always)]
 #[tactic(auto, unfolding(o2_isa::specs::Sums::difference_overflows))]
 fn difference_overflow(w: Width, a: u16, b: u16, borrow: bool) -> bool
     requires left { IsOfWidth w a }
@@ -115,7 +115,7 @@ fn difference_overflow(w: Width, a: u16, b: u16, borrow: bool) -> bool
 }
 
 /// SUB, CMP and, with CF for `borrow`, SBB: the difference and the flags word.
-#[inline]
+#[inline(always)]
 #[tactic(auto, unfolding(o2_isa::specs::Sums::sub_of))]
 pub fn sub(w: Width, a: u16, b: u16, borrow: bool, f: u16) -> (u16, u16)
     requires left { IsOfWidth w a }
@@ -134,6 +134,7 @@ pub fn sub(w: Width, a: u16, b: u16, borrow: bool, f: u16) -> (u16, u16)
 }
 
 /// INC: one more, and the flags word with CF as it is.
+#[inline(always)]
 #[tactic(auto, unfolding(o2_isa::specs::Sums::increment_of))]
 pub fn increment(w: Width, a: u16, f: u16) -> (u16, u16)
     requires { IsOfWidth w a }
@@ -147,6 +148,7 @@ pub fn increment(w: Width, a: u16, f: u16) -> (u16, u16)
 }
 
 /// DEC: one less, and the flags word with CF as it is.
+#[inline(always)]
 #[tactic(auto, unfolding(o2_isa::specs::Sums::decrement_of))]
 pub fn decrement(w: Width, a: u16, f: u16) -> (u16, u16)
     requires { IsOfWidth w a }
@@ -160,6 +162,7 @@ pub fn decrement(w: Width, a: u16, f: u16) -> (u16, u16)
 }
 
 /// NEG: the number with the other sign, and the flags word.
+#[inline(always)]
 #[tactic(auto, unfolding(o2_isa::specs::Sums::negate_of))]
 pub fn negate(w: Width, a: u16, f: u16) -> (u16, u16)
     requires { IsOfWidth w a }
@@ -172,6 +175,7 @@ pub fn negate(w: Width, a: u16, f: u16) -> (u16, u16)
 }
 
 /// NOT: each bit turned over. It changes no flag.
+#[inline(always)]
 #[tactic(auto, unfolding(o2_isa::specs::Sums::complement_of))]
 pub fn complement(w: Width, a: u16) -> u16
     requires { IsOfWidth w a }
@@ -181,7 +185,7 @@ pub fn complement(w: Width, a: u16) -> u16
     (size(w) - 1 - a as u32) as u16
 }
 
-#[inline]
+#[inline(always)]
 #[tactic(auto, using(crate::proofs::Bounds::or_fits, crate::proofs::Bounds::xor_fits))]
 fn logic_result(op: LogicOp, w: Width, a: u16, b: u16) -> u16
     requires left { IsOfWidth w a }
@@ -197,6 +201,7 @@ fn logic_result(op: LogicOp, w: Width, a: u16, b: u16) -> u16
 }
 
 /// AND, OR and XOR: the result and the flags word. TEST gives the flags word of AND.
+#[inline(always)]
 #[tactic(auto, unfolding(o2_isa::specs::Sums::logic_of))]
 pub fn logic(op: LogicOp, w: Width, a: u16, b: u16, f: u16) -> (u16, u16)
     requires left { IsOfWidth w a }
@@ -211,6 +216,7 @@ pub fn logic(op: LogicOp, w: Width, a: u16, b: u16, f: u16) -> (u16, u16)
 }
 
 /// ADD, ADC, SUB, SBB, CMP, AND, TEST, OR and XOR: the result and the flags word.
+#[inline(always)]
 #[tactic(auto, unfolding(o2_isa::specs::Alu::binary_of))]
 pub fn binary(op: BinaryOp, w: Width, a: u16, b: u16, f: u16) -> (u16, u16)
     requires left { IsOfWidth w a }
@@ -230,6 +236,7 @@ pub fn binary(op: BinaryOp, w: Width, a: u16, b: u16, f: u16) -> (u16, u16)
 }
 
 /// INC, DEC, NEG and NOT: the result and the flags word.
+#[inline(always)]
 #[tactic(auto, unfolding(o2_isa::specs::Alu::unary_of))]
 pub fn unary(op: UnaryOp, w: Width, a: u16, f: u16) -> (u16, u16)
     requires { IsOfWidth w a }

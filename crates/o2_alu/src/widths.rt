@@ -6,7 +6,7 @@ ghost use Rattle.o2_isa.specs.Widths.{modulus, half, IsOfWidth, IsOfTwice, signe
 use o2_isa::Width;
 
 /// How many numbers the width has.
-#[inline]
+#[inline(always)]
 pub fn size(w: Width) -> u32
     ensures { result ≡ modulus w }
 {
@@ -17,7 +17,7 @@ pub fn size(w: Width) -> u32
 }
 
 /// The place value of the top bit.
-#[inline]
+#[inline(always)]
 pub fn half_size(w: Width) -> u32
     ensures { result ≡ half w }
 {
@@ -27,7 +27,7 @@ pub fn half_size(w: Width) -> u32
     }
 }
 
-#[inline]
+#[inline(always)]
 #[tactic(auto, unfolding(o2_isa::specs::Widths::signed_modulo))]
 fn signed_below(m: u64, x: u32) -> i64
     requires below { x < m }
@@ -46,7 +46,7 @@ fn signed_below(m: u64, x: u32) -> i64
 }
 
 /// The signed number that `x` is in two's complement.
-#[inline]
+#[inline(always)]
 #[tactic(auto, unfolding(o2_isa::specs::Widths::signed))]
 pub fn signed_value(w: Width, x: u16) -> i64
     requires { IsOfWidth w x }
@@ -61,7 +61,7 @@ pub fn signed_value(w: Width, x: u16) -> i64
 }
 
 /// The signed number that `x` is in two's complement of twice the width.
-#[inline]
+#[inline(always)]
 #[tactic(auto, unfolding(o2_isa::specs::Widths::signed_of_twice))]
 pub fn signed_value_of_twice(w: Width, x: u32) -> i64
     requires { IsOfTwice w x }
@@ -72,7 +72,7 @@ pub fn signed_value_of_twice(w: Width, x: u32) -> i64
 }
 
 /// The number from 0 that is `z` modulo `m`.
-#[inline]
+#[inline(always)]
 #[tactic(auto, unfolding(o2_isa::specs::Widths::residue))]
 pub fn wrapped(m: u64, z: i64) -> u32
     requires some { 0 < m }
@@ -89,7 +89,7 @@ pub fn wrapped(m: u64, z: i64) -> u32
 }
 
 /// Whether `z` is no signed number of the width.
-#[inline]
+#[inline(always)]
 #[tactic(auto, unfolding(o2_isa::specs::Widths::overflows))]
 pub fn is_outside(w: Width, z: i64) -> bool
     ensures value { result ≡ overflows w z }

@@ -26,6 +26,7 @@ pub fn check_unlocked(i: &Instr) -> Result<(), Stop>
 }
 
 /// A byte or word through a segment register, or a trap.
+#[inline(always)]
 pub fn read<B: Bus>(bus: &B, reg: Sreg, off: u16, width: Width) -> Result<u16, Stop>
     ensures value { result ≡ or_trap (read_of (B.view bus.now) reg off width) }
     ensures fits { IfOk result (λ x. IsOfWidth width x) }
@@ -37,6 +38,7 @@ pub fn read<B: Bus>(bus: &B, reg: Sreg, off: u16, width: Width) -> Result<u16, S
 }
 
 /// Whether there is room for a write, or a trap.
+#[inline(always)]
 pub fn room<B: Bus>(bus: &B, reg: Sreg, off: u16, width: Width) -> Result<(), Stop>
     ensures trap { SameCheck result (or_trap (room_of (B.view bus.now) reg off width)) }
     ensures room { OnOk result (IsOk (room_of (B.view bus.now) reg off width)) }
@@ -48,6 +50,7 @@ pub fn room<B: Bus>(bus: &B, reg: Sreg, off: u16, width: Width) -> Result<(), St
 }
 
 /// The load rules and the present test, as a check. `next` is the IP to which a service returns.
+#[inline(always)]
 pub fn check_load<B: Bus>(bus: &mut B, purpose: Purpose, sel: u16, next: u16) -> Result<(), Stop>
     ensures check { SameCheck result (passed next (probe_of (B.view bus.old) purpose (selector sel))) }
     ensures loadable { OnOk result (is_loadable (B.view bus.old) (selector sel) ≡ true) }
@@ -62,6 +65,7 @@ pub fn check_load<B: Bus>(bus: &mut B, purpose: Purpose, sel: u16, next: u16) ->
 }
 
 /// Whether an IP lies in the segment that a selector names, or trap 13.
+#[inline(always)]
 pub fn check_target<B: Bus>(bus: &B, cs: u16, ip: u16) -> Result<(), Stop>
     ensures { SameCheck result (target (size_at (B.view bus.now) cs) ip) }
 {
@@ -78,7 +82,7 @@ pub fn check_target<B: Bus>(bus: &B, cs: u16, ip: u16) -> Result<(), Stop>
 }
 
 /// What of a value the width has room for.
-#[inline]
+#[inline(always)]
 pub(crate) fn narrowed(width: Width, x: u16) -> u16
     ensures value { result ≡ narrow width x }
     ensures of_width { IsOfWidth width result }
@@ -91,6 +95,7 @@ pub(crate) fn narrowed(width: Width, x: u16) -> u16
 }
 
 /// The value of an operand: 0 where there is none.
+#[inline(always)]
 pub fn value<B: Bus>(cpu: &Cpu, bus: &B, width: Width, arg: &Arg) -> Result<u16, Stop>
     ensures { result ≡ value_of (state cpu.now (B.view bus.now)) width arg.now }
 {
@@ -105,6 +110,7 @@ pub fn value<B: Bus>(cpu: &Cpu, bus: &B, width: Width, arg: &Arg) -> Result<u16,
 }
 
 /// Puts a value into a register or memory operand; any other keeps all as it is.
+#[inline(always)]
 pub fn store<B: Bus>(
     cpu: &mut Cpu,
     bus: &mut B,

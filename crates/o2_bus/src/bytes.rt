@@ -69,7 +69,11 @@ pub fn first_bytes(bytes: &[u8], at: usize, into: &mut [u8; 10]) -> usize
     if bytes.len() <= at {
         return 0;
     }
-    let count = (bytes.len() - at).min(10);
+    if 10 <= bytes.len() - at {
+        into.copy_from_slice(&bytes[at..at + 10]);
+        return 10;
+    }
+    let count = bytes.len() - at;
     into[..count].copy_from_slice(&bytes[at..at + count]);
     count
 }

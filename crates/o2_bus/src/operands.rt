@@ -10,7 +10,7 @@ use crate::registers::{set_byte_register, set_word_register};
 use o2_isa::{Arg, Cpu, Stop, Width};
 
 /// The value of an operand as a number of the width: 0 where there is none.
-#[inline]
+#[inline(always)]
 pub fn operand<B: Bus>(cpu: &Cpu, bus: &B, width: Width, arg: &Arg) -> Result<u16, Stop>
     ensures value { result ≡ taken_of (state cpu.now (B.view bus.now)) width arg.now }
     ensures fits { IfOk result (λ x. IsOfWidth width x) }
@@ -20,7 +20,7 @@ pub fn operand<B: Bus>(cpu: &Cpu, bus: &B, width: Width, arg: &Arg) -> Result<u1
 }
 
 /// Puts a value into a register; any other operand keeps all as it is.
-#[inline]
+#[inline(always)]
 #[tactic(auto, unfolding(o2_isa::specs::Finishing::placed))]
 pub fn place(cpu: &mut Cpu, arg: &Arg, x: u16)
     ensures { cpu.new ≡ placed cpu.old arg.now x }
@@ -33,7 +33,7 @@ pub fn place(cpu: &mut Cpu, arg: &Arg, x: u16)
 }
 
 /// Puts a result into a register or into memory, and then the flags word and IP. Where there is no room, all stays.
-#[inline]
+#[inline(always)]
 #[tactic(auto, using(o2_isa::proofs::FinishRuns::run_finishing))]
 pub fn finish<B: Bus>(
     cpu: &mut Cpu,

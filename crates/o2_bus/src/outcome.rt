@@ -5,6 +5,7 @@ ghost use Rattle.o2_isa.specs.Step.{outcome_from};
 use o2_isa::{Outcome, Stop};
 
 /// Done, or why the instruction doesn't complete.
+#[inline(always)]
 pub fn outcome_of(done: Result<(), Stop>) -> Outcome
     ensures { result ≡ outcome_from done }
 {

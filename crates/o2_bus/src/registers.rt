@@ -5,6 +5,7 @@ ghost use Rattle.o2_isa.specs.Widths.{IsOfWidth};
 
 use o2_isa::{Cpu, Ea, Sreg, Width};
 
+#[inline(always)]
 #[tactic(auto, unfolding(o2_isa::specs::Registers::reg16))]
 pub fn word_register(cpu: &Cpu, n: u8) -> u16
     ensures { result ≡ reg16 cpu.now n }
@@ -21,6 +22,7 @@ pub fn word_register(cpu: &Cpu, n: u8) -> u16
     }
 }
 
+#[inline(always)]
 #[tactic(auto, unfolding(o2_isa::specs::Registers::with_reg16))]
 pub fn set_word_register(cpu: &mut Cpu, n: u8, value: u16)
     ensures { cpu.new ≡ with_reg16 cpu.old n value }
@@ -37,6 +39,7 @@ pub fn set_word_register(cpu: &mut Cpu, n: u8, value: u16)
     }
 }
 
+#[inline(always)]
 #[tactic(auto, unfolding(o2_isa::specs::Registers::reg8))]
 pub fn byte_register(cpu: &Cpu, n: u8) -> u16
     ensures { result ≡ reg8 cpu.now n }
@@ -48,6 +51,7 @@ pub fn byte_register(cpu: &Cpu, n: u8) -> u16
     }
 }
 
+#[inline(always)]
 #[tactic(auto, unfolding(o2_isa::specs::Registers::with_reg8))]
 pub fn set_byte_register(cpu: &mut Cpu, n: u8, value: u16)
     requires { value < 256 }
@@ -87,6 +91,7 @@ pub fn set_accumulator(width: Width, cpu: &mut Cpu, value: u16)
     }
 }
 
+#[inline(always)]
 pub fn segment_register(cpu: &Cpu, reg: Sreg) -> u16
     ensures { result ≡ sreg cpu.now reg }
 {
@@ -98,6 +103,7 @@ pub fn segment_register(cpu: &Cpu, reg: Sreg) -> u16
     }
 }
 
+#[inline(always)]
 pub fn set_segment_register(cpu: &mut Cpu, reg: Sreg, value: u16)
     ensures { cpu.new ≡ with_sreg cpu.old reg value }
 {
@@ -109,6 +115,7 @@ pub fn set_segment_register(cpu: &mut Cpu, reg: Sreg, value: u16)
     }
 }
 
+#[inline(always)]
 #[tactic(auto, unfolding(o2_isa::specs::Registers::offset_of))]
 pub fn offset(cpu: &Cpu, ea: &Ea) -> u16
     ensures { result ≡ offset_of cpu.now ea.now }
