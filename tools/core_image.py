@@ -74,9 +74,10 @@ class Read:
         self.number(8)
         size, self.blocks, segments, processes = (self.number(4) for _ in range(4))
         self.steps, self.console = self.number(8), self.number(8)
-        self.size, self.ranges, self.used, self.segments = size, [], set(), []
+        self.size, self.ranges, self.used, self.segments, self.blocks_at = size, [], set(), [], []
         for _ in range(segments):
             self.segments.append(self.segment())
+        self.memory_at = self.at
         self.memory = self.bytes(size)
         for entry in self.segments:
             if entry.place and entry.place[0] == "memory":
@@ -131,6 +132,7 @@ class Read:
         number = self.number(4)
         self.bad(start, number >= self.blocks or number in self.used)
         self.used.add(number)
+        self.blocks_at.append(self.at)
         return number, self.bytes(512)
 
     def process(self, last):

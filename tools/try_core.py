@@ -1,8 +1,11 @@
-"""Core images: what os2core shows of one, and for what it refuses damaged ones, against a reader of its own."""
+"""Core images: what os2core shows of one, and for what it refuses damaged ones, against a reader of its own; and the lesson on them."""
 import os
+import re
+import shutil
 import subprocess
 
 import core_image
+import core_shown
 import trying
 from core_image import segment
 from trying import check_words, program, said, wrong
@@ -134,15 +137,73 @@ def check_difference():
     lines = text.splitlines()
     wanted = ["- 1000 steps", "+ 1001 steps", "- segment 1: 20 bytes, 20 kept, flags 01h, lock 0; memory 000040h",
               "+ segment 1: 256 bytes, 256 kept, flags 01h, lock 2; memory 000100h", "- process 1 lives"]
-    if status or any(line not in lines for line in wanted) or "- 28 console bytes" in lines:
+    cores = []
+    for name in ("small.core", "other.core"):
+        with open(name, "rb") as file:
+            cores.append(core_image.Read(file.read()))
+    whole = list(core_shown.difference_lines(*cores))
+    if status or any(line not in lines for line in wanted) or "- 28 console bytes" in lines or lines != whole:
         wrong(f"os2core difference: status {status}, {text!r}; wanted {wanted!r} among its lines")
 
 
 def check_picture():
-    """Each segment in memory and each block in use has a rectangle with its number."""
+    """Each segment in memory and each block in use has a rectangle with its number, which stands in it where it is wide enough; and each row
+    its address."""
     trying.count()
     status, text = said("os2core", "svg", "small.core")
+    written = re.findall(r"<text [^>]*>([^<]*)</text>", text)
+    wanted = [f"{64 * row:06X}h" for row in range(16)] + ["1", "3", "3", "3", "3", "blocks", "2", "2"]
+    if written != wanted:
+        wrong(f"os2core svg: {written}; wanted {wanted}")
     found = [line for line in text.splitlines() if "<title>" in line]
     for title, many in (("segment 1, ", 1), ("segment 3, ", 4), ("segment 2, block 0", 1), ("segment 2, block 2", 1)):
         if status or sum(f"<title>{title}" in line for line in found) != many:
             wrong(f"os2core svg: status {status}, {title} isn't drawn {many} times: {text!r}")
+
+
+def commands_of(page):
+    """The commands of a page behind `$`, with what stands below each in its block."""
+    found, inside, blanks = [], False, 0
+    with open(os.path.join(trying.ROOT, page), encoding="utf-8") as file:
+        for line in file.read().splitlines():
+            if line.startswith("    $ "):
+                found.append((line[6:], []))
+                inside, blanks = True, 0
+            elif line.startswith("    ") and inside:
+                found[-1][1].extend([""] * blanks + [line[4:]])
+                blanks = 0
+            elif line:
+                inside = False
+            else:
+                blanks += 1
+    return found
+
+
+def check_lesson():
+    """What README and the lesson on core images show is what the commands there write, and the lesson's pictures are those that they make."""
+    lesson = os.path.join("docs", "guide", "11-images.md")
+    shutil.copytree(os.path.join(trying.ROOT, "examples"), "examples")
+    os.makedirs("crates/os2core/out")
+    os.symlink(program("os2run"), "os2run")
+    os.symlink(program("os2core"), "crates/os2core/out/os2core")
+    for page, count in ((lesson, 8), ("README.md", 3)):
+        where, commands = ".", commands_of(page)
+        if len(commands) != count:
+            wrong(f"{page} has {len(commands)} commands; wanted {count}")
+        for command, wanted in commands:
+            if command.startswith("cd "):
+                where = command[3:]
+                continue
+            trying.count()
+            run = subprocess.run(["sh", "-c", command], cwd=where, stdin=subprocess.DEVNULL, stdout=subprocess.PIPE, stderr=subprocess.DEVNULL, text=True)
+            if run.returncode or run.stdout.rstrip().splitlines() != wanted:
+                wrong(f"{page}, {command}: status {run.returncode}, {run.stdout!r}")
+    with open(os.path.join(trying.ROOT, lesson), encoding="utf-8") as file:
+        pictures = re.findall(r"\]\((\w+\.svg)\)", file.read())
+    if len(pictures) != 2:
+        wrong(f"{lesson} has {len(pictures)} pictures")
+    for name in pictures:
+        trying.count()
+        with open(os.path.join(trying.ROOT, "docs", "guide", name), "rb") as kept, open(os.path.join("examples", "memory", name), "rb") as made:
+            if kept.read() != made.read():
+                wrong(f"docs/guide/{name} isn't what the lesson's commands make")

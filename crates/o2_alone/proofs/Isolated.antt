@@ -1,5 +1,5 @@
 -- Where a process keeps to itself, its run among others is its run alone, from worlds in which it is alike.
-use Rattle.std.proofs.Common.{◌≡◌, refl, sym, ◌∙◌, ap, subst, ℕ, zero, suc, ◌+◌, ◌-◌, ◌<◌, ◌≤◌, ◌==◌, ◌&&◌, ◌||◌, Bool, true, false, cond, List, [], ◌∷◌, ◌++◌, length, arith}
+use Rattle.std.proofs.Common.{◌≡◌, ◌≢◌, refl, sym, ◌∙◌, ap, subst, ℕ, zero, suc, ◌+◌, ◌-◌, ◌<◌, ◌≤◌, ◌==◌, ◌&&◌, ◌||◌, Bool, true, false, cond, List, [], ◌∷◌, ◌++◌, length, arith}
 use Rattle.std.specs.Prelude.{Option, Some, None, option_map, slice_get, not, nat_lt}
 use Rattle.std.specs.List.{list_any}
 use Rattle.std.proofs.lemmas.Bool.{eq-eqb, eqb-true}
@@ -17,6 +17,7 @@ use Rattle.o2_world.specs.Views.{segment_bytes}
 use Rattle.o2_world.specs.Known.{held_at, lives_at}
 use Rattle.o2_world.specs.CallParts.{Before, Effect}
 use Rattle.o2_world.specs.Effect.{effect}
+use Rattle.o2_world.specs.Moves.{AreSpared}
 use Rattle.o2_world.specs.Run.{acted, after, all_changes, any_lives, before, changed, is_over, live_flags, next_dispatch, step, worked}
 use Rattle.o2_world.proofs.Budget.{not_over, step_runs}
 use Rattle.o2_world.proofs.Keeps.{over_stays, some_is}
@@ -24,13 +25,14 @@ use Rattle.o2_world.proofs.MapLemmas.{if_no, if_yes}
 use Rattle.o2_world.proofs.Numbers.{number_some, at_place_of}
 use Rattle.o2_world.proofs.OwnChanges.{all_dispatch}
 use Rattle.o2_world.proofs.StepSound.{next_process, step_sound}
-use Rattle.o2_world.proofs.Staying.{step_other}
-use Rattle.o2_alone.specs.Renaming.{Renaming, renamed_held, IsRenamedEffect}
+use Rattle.o2_world.proofs.Staying.{step_spared}
+use Rattle.o2_alone.specs.Renaming.{Renaming, call_of, renamed_held, IsRenamedEffect}
 use Rattle.o2_alone.specs.Events.{Event, chosen_before, event_by, event_list, event_of, events, events_of, next_before, own_steps}
-use Rattle.o2_alone.specs.Keeping.{HasRoom, IsApart, IsQuiet, KeepsToItself}
+use Rattle.o2_alone.specs.Keeping.{HasRoom, IsApart, IsQuiet, IsUngiven, KeepsToItself}
 use Rattle.o2_alone.specs.Isolation.{AreFixed, BeginsAlike, IsAlone, IsIsolated, IsLike, IsSame, held_bytes, nameless}
 use Rattle.o2_alone.proofs.Alikes.{IsFurther, asked_alike, go_further, same_before}
 use Rattle.o2_alone.proofs.OtherSteps.{fixed_step, other_step}
+use Rattle.o2_alone.proofs.OwnNames.{quiet_unshared}
 use Rattle.o2_alone.proofs.OwnSteps.{own_step}
 use Rattle.o2_alone.proofs.RenamedSteps.{effect_renamed}
 
@@ -114,11 +116,20 @@ next_alone s number u q alone at live some = record { runs = runs; current = by_
         let dead = alone.others (c.current - 1) (λ same. absurd (let no : true ≡ false = sym (eq-eqb c.current number (sym past ∙ same)) ∙ is in cc)) in
         absurd (let no : true ≡ false = sym (ap is_live here.2) ∙ (sym (ap lives_at at_place) ∙ dead) in cc)
 
+-- a process that is as it was but for what it holds lives where it lived
+lives_spared : (o p : Option Process) → AreSpared o p → lives_at p ≡ lives_at o
+lives_spared None None spared = refl
+lives_spared None (Some y) spared = absurd spared
+lives_spared (Some x) None spared = absurd spared
+lives_spared (Some x) (Some y) spared = ap (λ (z : Process). is_live z.state) spared.all_else
+
 still_alone : (s : Setting) (number : ℕ) (u : World) (q : Process) → is_over u ≡ false → process_at u.processes (next_dispatch s u).current ≡ Some q → (next_dispatch s u).current ≡ number
     → IsAlone number u → IsAlone number (step s u)
 still_alone s number u q runs at current alone = record {
   script = ap (λ (d : Dispatch). d.script) (step_dispatch s u q runs at) ∙ no_script s.quantum (live_flags u.processes) u.dispatch alone.script;
-  others = λ (place : ℕ) other. ap lives_at (step_other s u place (λ same. other (same ∙ current))) ∙ alone.others place other;
+  others = λ (place : ℕ) other.
+      lives_spared (slice_get u.processes place) (slice_get (step s u).processes place) (step_spared s u place (λ same. other (same ∙ current)))
+      ∙ alone.others place other;
 }
 
 -- Events.
@@ -156,7 +167,7 @@ pub data Moved (s : Setting) (number : ℕ) (v u : World) : Type 0 where
   -- it is, and the next one of its run alone is the same
   Goes : (x : Event) → events_of number (event_list (next_before s v)) ≡ x ∷ [] → event_list (next_before s u) ≡ x ∷ [] → BeginsAlike number (step s v) (step s u) → Moved s number v u
 
-module _ (s : Setting) (number : ℕ) (v u : World) (alike : BeginsAlike number v u) (apart : IsApart v number) (quiet : IsQuiet s v number) (room : HasRoom s v number)
+module _ (s : Setting) (number : ℕ) (v u : World) (alike : BeginsAlike number v u) (apart : IsApart v number) (ungiven : IsUngiven s v number) (quiet : IsQuiet s v number) (room : HasRoom s v number)
     (room_alone : (x : Event) → events_of number (event_list (next_before s v)) ≡ x ∷ [] → HasRoom s u number) where
   abbrev d : Dispatch
   d = next_dispatch s v
@@ -178,13 +189,16 @@ module _ (s : Setting) (number : ℕ) (v u : World) (alike : BeginsAlike number 
       Stays (ap (λ (o : Option Before). events_of number (event_list o)) (next_is s v r runs at) ∙ not_own number (event_of (before s v d.current r)) other) (record {
         names = alike.names;
         like = subst (λ (z : World). IsLike alike.names number z u) (sym (step_is s v r runs at))
-            (other_step s v alike.sound.tied alike.fixed d r at alike.names number u alike.sound_alone.tied alike.like apart (λ same. absurd (let no : true ≡ false = sym (eq-eqb d.current number same) ∙ other in cc)));
+            (other_step s v alike.sound.tied alike.fixed d r at alike.names number u alike.sound_alone.tied alike.like apart away (ungiven (before s v d.current r) (next_is s v r runs at) away));
         sound = step_sound s v alike.sound;
         sound_alone = alike.sound_alone;
         fixed = subst (λ (z : World). AreFixed z.names) (sym (step_is s v r runs at)) (fixed_step s v d r alike.fixed);
         is_alone = alike.is_alone;
         budget = let less = step_budget s v r runs at in let most = alike.budget in omega (arith, less, most);
       })
+    where
+      away : d.current ≢ number
+      away same = absurd (let no : true ≡ false = sym (eq-eqb d.current number same) ∙ other in cc)
 
   own_moves : is_over v ≡ false → p.state ≡ Live → d.current ≡ number → Moved s number v u
   own_moves runs live current = Goes (event_of one) one_event two_event begins
@@ -232,7 +246,7 @@ module _ (s : Setting) (number : ℕ) (v u : World) (alike : BeginsAlike number 
         names = g;
         like = subst (λ (z : World). IsLike g number z (step s u)) (sym (step_is s v p runs at))
             (subst (λ (z : World). IsLike g number (changed v d p (effect (before s v d.current p))) z) (sym (step_is s u q next.runs at_alone))
-            (own_step s number v u far alike.sound.tied alike.sound_alone.tied d c current next.current renamed));
+            (own_step s number v u far alike.sound.tied alike.sound_alone.tied d c current next.current renamed (quiet_unshared one (call_of one) (quiet one next_one refl))));
         sound = step_sound s v alike.sound;
         sound_alone = step_sound s u alike.sound_alone;
         fixed = subst (λ (z : World). AreFixed z.names) (sym (step_is s v p runs at)) (fixed_step s v d p alike.fixed);
@@ -331,7 +345,7 @@ module _ (s : Setting) (w alone : World) (number : ℕ) (alike : BeginsAlike num
   follows (suc k) keeps =
       let so_far = follows k (shorter k (never_fewer k) keeps) in
       next_follows k so_far
-      (moves s number (after s w k) (after s alone (own k)) so_far.begins (keeps.apart k (omega arith)) (keeps.quiet k (omega arith)) (keeps.room k (omega arith))
+      (moves s number (after s w k) (after s alone (own k)) so_far.begins (keeps.apart k (omega arith)) (keeps.ungiven k (omega arith)) (keeps.quiet k (omega arith)) (keeps.room k (omega arith))
       (λ x one. keeps.room_alone (own k) (let more = count_next k (x ∷ []) one ∙ one_more (events_of number (events s w k)) x in omega (arith, more))))
 
 -- what is alike is the same but for the numbers of names

@@ -4,6 +4,7 @@ pub mod RenamedCalls
 pub mod RenamedSteps
 pub mod Unwritten
 pub mod OwnNames
+pub mod AnyNames
 pub mod Twins
 pub mod Alikes
 pub mod OwnSteps

@@ -1,4 +1,4 @@
--- A step of another process leaves a process that keeps to itself as it is. And behind each step what never changes isn't discardable.
+-- A step of another process that gives it nothing leaves a process that keeps to itself as it is. And behind each step what never changes isn't discardable.
 use Rattle.std.proofs.Common.{◌≡◌, ◌≢◌, ◌⊎◌, inl, inr, refl, sym, ◌∙◌, ap, subst, ℕ, ◌+◌, ◌-◌, ◌<◌, ◌==◌, Bool, true, false, cond, List, [], ◌∷◌, ◌++◌, arith}
 use Rattle.std.specs.Prelude.{Option, Some, None, option_map, is_some, slice_get, not}
 use Rattle.std.specs.List.{list_any}
@@ -19,22 +19,25 @@ use Rattle.o2_world.specs.CallParts.{Before, Effect}
 use Rattle.o2_world.specs.Rulings.{is_discardable}
 use Rattle.o2_world.specs.Changes.{Change, Makes, Resizes, Locks, Marks, Holds, Drops, Finishes, Reserves, Frees, Names, resized, swept, takes, with_change, with_changes}
 use Rattle.o2_world.specs.Effect.{effect}
-use Rattle.o2_world.specs.Moves.{AreOwn}
 use Rattle.o2_world.specs.Run.{all_changes, before, changed, worked, working}
+use Rattle.o2_world.specs.Giving.{gives}
 use Rattle.o2_world.proofs.MapLemmas.{get-at_key, get-filter, get-map, if_no}
 use Rattle.o2_world.proofs.Keeps.{other_number}
 use Rattle.o2_world.proofs.Numbers.{number_some, at_place_of, process_is}
-use Rattle.o2_world.proofs.OwnChanges.{all_other, all_own, moves_own}
+use Rattle.o2_world.proofs.OwnChanges.{LeavePlace, all_leave, all_other}
 use Rattle.o2_world.proofs.Reached.{get-put}
-use Rattle.o2_world.proofs.StepMoves.{effect_own}
+use Rattle.o2_world.proofs.Sparing.{moves_spare, spare_place}
+use Rattle.o2_world.proofs.Staying.{step_reserved}
+use Rattle.o2_world.proofs.StepMoves.{effect_moves}
 use Rattle.o2_alone.specs.Renaming.{Renaming, IsIn}
 use Rattle.o2_alone.specs.Keeping.{IsApart, IsOfNoOther, is_clean}
 use Rattle.o2_alone.specs.Isolation.{AreFixed, IsLike}
 use Rattle.o2_alone.proofs.RenamedViews.{bound_is_in}
 use Rattle.o2_alone.proofs.Unwritten.{IsUnwritten, effect_keeps}
-use Rattle.o2_alone.proofs.OwnNames.{AreOfOwn, IsOfOwn, IsOwnName, effect_of_own, may_change}
+use Rattle.o2_alone.proofs.OwnNames.{IsOwnName, may_change}
+use Rattle.o2_alone.proofs.AnyNames.{AreOfAny, IsOfAny, effect_of_any}
 use Rattle.o2_alone.proofs.Alikes.{lives_here, low_here}
-use Rattle.o2_alone.proofs.OwnSteps.{kept_here, own_reserved, unreserved_behind}
+use Rattle.o2_alone.proofs.OwnSteps.{kept_here, unreserved_behind}
 
 -- Segments that never change aren't discardable.
 
@@ -60,7 +63,7 @@ fixed_at_key : (names : Map Segment) (n : ℕ) (g : Segment → Segment) → ((x
 fixed_at_key names n g clean flags fixed q =
     subst IsFixed (sym (get-at_key n q g names)) (fixed_pick (n == q) (option_map g (get names n)) (get names q) (fixed_map g (get names n) clean flags (fixed n)) (fixed q))
 
-fixed_change : (b : Before) (c : Change) (v : World) → IsOfOwn b c → AreFixed v.names → AreFixed (with_change v c).names
+fixed_change : (b : Before) (c : Change) (v : World) → IsOfAny b c → AreFixed v.names → AreFixed (with_change v c).names
 fixed_change b (Makes s) v own fixed q =
     subst IsFixed (sym (get-put v.next_name q (Some s) v.names))
     (fixed_pick (v.next_name == q) (Some s) (get v.names q) (λ z e. fixed_some s z e (λ is. absurd (let no : true ≡ false = sym is ∙ own in cc))) (fixed q))
@@ -74,16 +77,16 @@ fixed_change b (Reserves r) v own fixed q = fixed q
 fixed_change b (Frees region at) v own fixed q = fixed q
 fixed_change b (Names text name) v own fixed q = fixed q
 
-fixed_changes : (b : Before) (cs : List Change) (v : World) → AreOfOwn b cs → AreFixed v.names → AreFixed (with_changes v cs).names
+fixed_changes : (b : Before) (cs : List Change) (v : World) → AreOfAny b cs → AreFixed v.names → AreFixed (with_changes v cs).names
 unfolding with_changes
 fixed_changes b [] v own fixed = fixed
 fixed_changes b (c ∷ cs) v own fixed = fixed_changes b cs (with_change v c) own.1 (fixed_change b c v own.0 fixed)
 
-fixed_end : (b : Before) (number : ℕ) (e : Effect) (v : World) → AreOfOwn b e.changes → AreFixed v.names → AreFixed (with_changes v (all_changes number e)).names
+fixed_end : (b : Before) (number : ℕ) (e : Effect) (v : World) → AreOfAny b e.changes → AreFixed v.names → AreFixed (with_changes v (all_changes number e)).names
 unfolding with_changes
 fixed_end b number e v own fixed = go (is_live e.state)
   where
-    more : (cs : List Change) (v : World) → AreOfOwn b cs → AreFixed v.names → AreFixed (with_changes v (cs ++ Finishes number e.state ∷ [])).names
+    more : (cs : List Change) (v : World) → AreOfAny b cs → AreFixed v.names → AreFixed (with_changes v (cs ++ Finishes number e.state ∷ [])).names
     more [] v own fixed = fixed
     more (c ∷ cs) v own fixed = more cs (with_change v c) own.1 (fixed_change b c v own.0 fixed)
 
@@ -101,7 +104,7 @@ fixed_step s w d p fixed =
     let b = before s w d.current p in
     let e = effect b in
     fixed_swept (list_any takes (all_changes d.current e)) (with_changes (worked w d p e) (all_changes d.current e))
-    (fixed_end b d.current e (worked w d p e) (effect_of_own b)
+    (fixed_end b d.current e (worked w d p e) (effect_of_any b)
     (λ (q : ℕ). subst IsFixed (sym (get-map (λ (k : ℕ) (z : Segment). record z { bytes = e.bytes k }) w.names q)) (fixed_map (λ (z : Segment). record z { bytes = e.bytes q }) (get w.names q) (λ x. refl) (λ x. refl) (fixed q))))
 
 -- Changes that leave a name alone.
@@ -240,11 +243,11 @@ module _ (s : Setting) (w : World) (tied : IsTied w) (fixed : AreFixed w.names) 
         by_case (inl clean) = never clean (ap ok (sym (marks_same m own.marks is own.segment)) ∙ own.good)
         by_case (inr other) = other own.index own.hold own.there (own.named ∙ is)
 
-    leaves : (cs : List Change) → AreOfOwn b cs → LeaveName n cs
+    leaves : (cs : List Change) → AreOfAny b cs → LeaveName n cs
     leaves [] own = tt
     leaves (c ∷ cs) own = (one c own.0, leaves cs own.1)
       where
-        one : (c : Change) → IsOfOwn b c → LeavesName n c
+        one : (c : Change) → IsOfAny b c → LeavesName n c
         one (Makes z) o = tt
         one (Resizes m size) o = own_name may_change m o (λ clean may. not_clean x.clean may clean)
         one (Locks m count) o = own_name is_discardable m o (λ clean may. absurd (let no : true ≡ false = sym may ∙ fixed n x there clean in cc))
@@ -263,13 +266,13 @@ module _ (s : Setting) (w : World) (tied : IsTied w) (fixed : AreFixed w.names) 
         ∙ (ap (λ (bs : List ℕ). Some (record x { bytes = bs })) same_bytes ∙ sym there))
 
     changed_same : get v.names n ≡ get w.names n
-    changed_same = leaves_all n (all_changes d.current e) (worked w d r e) low (leaves_end n d.current e (leaves e.changes (effect_of_own b))) ∙ worked_same
+    changed_same = leaves_all n (all_changes d.current e) (worked w d r e) low (leaves_end n d.current e (leaves e.changes (effect_of_any b))) ∙ worked_same
 
-  other_process : (number : ℕ) → 0 < number → d.current ≢ number → process_at v.processes number ≡ process_at w.processes number
-  other_process number some other =
+  other_process : (number : ℕ) → 0 < number → d.current ≢ number → list_any (gives number) e.changes ≡ false → process_at v.processes number ≡ process_at w.processes number
+  other_process number some other none =
       process_is v.processes number some
       ∙ (by_sweep (list_any takes (all_changes d.current e))
-      ∙ (all_other (worked w d r e) (all_changes d.current e) d.current (number - 1) own past
+      ∙ (all_other (worked w d r e) (all_changes d.current e) (number - 1) leave
       ∙ (other_number w.processes d.current (working r e) (number - 1) past ∙ sym (process_is w.processes number some))))
     where
       by_sweep : (t : Bool) → slice_get v.processes (number - 1) ≡ slice_get (cond t (swept v) v).processes (number - 1)
@@ -279,12 +282,16 @@ module _ (s : Setting) (w : World) (tied : IsTied w) (fixed : AreFixed w.names) 
       past : number - 1 + 1 ≢ d.current
       past is = other (sym is ∙ omega (arith, some))
 
-      own : AreOwn d.current (all_changes d.current e)
-      own = all_own d.current e (moves_own b e.cpu e.changes (effect_own b))
+      back : number - 1 + 1 ≡ number
+      back = omega (arith, some)
 
-  pub other_step : (f : Renaming) (number : ℕ) (a : World) → IsTied a → (like : IsLike f number w a) → IsApart w number → d.current ≢ number → IsLike f number (changed w d r e) a
+      leave : LeavePlace (number - 1) (all_changes d.current e)
+      leave = all_leave (number - 1) d.current e
+          (spare_place d.current (number - 1) e.changes past (moves_spare b e.cpu e.changes (effect_moves b)) (ap (λ (n : ℕ). list_any (gives n) e.changes) back ∙ none)) past
+
+  pub other_step : (f : Renaming) (number : ℕ) (a : World) → IsTied a → (like : IsLike f number w a) → IsApart w number → d.current ≢ number → list_any (gives number) e.changes ≡ false → IsLike f number (changed w d r e) a
   unfolding changed
-  other_step f number a tied_alone like apart other = record {
+  other_step f number a tied_alone like apart other none = record {
     process = like.process;
     twin = like.twin;
     there = by_sweep (list_any takes (all_changes d.current e)) ∙ stays;
@@ -295,12 +302,12 @@ module _ (s : Setting) (w : World) (tied : IsTied w) (fixed : AreFixed w.names) 
     segment = λ (i : ℕ) (h : Held) is. like.segment i h is ∙ sym (kept_here (list_any takes (all_changes d.current e)) v number like.process i h stays is ∙ same i h is);
     apart = like.apart;
     unreserved = λ (i : ℕ). unreserved_behind (list_any takes (all_changes d.current e)) (reserves number i) v
-        (ap (λ (rs : List Reserve). list_any (reserves number i) rs) (own_reserved s w d d.current r) ∙ like.unreserved i);
+        (ap (λ (rs : List Reserve). list_any (reserves number i) rs) (step_reserved s w d d.current r) ∙ like.unreserved i);
     unreserved_too = like.unreserved_too;
   }
     where
       stays : process_at v.processes number ≡ Some like.process
-      stays = other_process number (number_some w.processes number like.process like.there) other ∙ like.there
+      stays = other_process number (number_some w.processes number like.process like.there) other none ∙ like.there
 
       by_sweep : (t : Bool) → process_at (cond t (swept v) v).processes number ≡ process_at v.processes number
       by_sweep true = refl

@@ -1,4 +1,4 @@
--- What a step changes, by names: each is one that its process holds, or the next one.
+-- What a step that shares no segment changes, by names: each is one that its process holds, or the next one.
 use Rattle.std.proofs.Common.{◌≡◌, ◌⊎◌, inl, inr, refl, sym, subst, ℕ, ◌/◌, ◌==◌, ◌&&◌, ◌||◌, Bool, true, false, cond, List, [], ◌∷◌}
 use Rattle.std.specs.Prelude.{Option, Some, None, Result, Ok, Err, not, map, nat_le, nat_lt, codes}
 use Rattle.o2_desc.specs.Bits.{is_writable}
@@ -18,11 +18,12 @@ use Rattle.o2_world.specs.Known.{Marks as SegmentMarks}
 use Rattle.o2_world.specs.CallParts.{Before, Effect, argument, has_arguments, may_write}
 use Rattle.o2_world.specs.Rulings.{Ruling, refusal, held_under, free_index, allocation, allocation_at, region_by, is_alias, is_in_run, full_size, reallocation_of, reallocation_with, keeps_its_size, members, is_later, in_use, by_load, freeing_of, sizing, sizing_of, sizing_with, is_discardable, locking_of, locking_with, unlocking_of, unlocking_with, aliasing, aliasing_of, aliasing_at}
 use Rattle.o2_world.specs.SegmentCalls.{ruled_at, Written, written_word, written_long, alloc_args, dos_alloc_seg, dos_realloc_seg, dos_free_seg, dos_size_seg, dos_lock_seg, dos_unlock_seg, dos_create_cs_alias, on_segments}
-use Rattle.o2_world.specs.Calls.{dos_exit, dos_get_pid, dos_mem_avail, dos_read, dos_write, served_by, row_of, IsUnshared}
+use Rattle.o2_world.specs.Calls.{dos_exit, dos_get_pid, dos_mem_avail, dos_read, dos_write, served_by, row_of}
 use Rattle.o2_world.specs.Effect.{has_trap_flag, answered, single_stepped, effect}
 use Rattle.o2_world.proofs.Quiet.{exit_quiet, read_quiet, told_quiet, write_quiet}
-use Rattle.o2_world.proofs.Rows.{built_is_unshared}
 use Rattle.o2_world.proofs.SegmentMoves.{held_there}
+use Rattle.o2_alone.specs.Renaming.{call_of, called_by}
+use Rattle.o2_alone.specs.Keeping.{meets}
 
 -- a name that the process holds, of a segment with such marks
 pub record IsOwnName (b : Before) (ok : SegmentMarks → Bool) (n : ℕ) : Type 0 where
@@ -54,6 +55,28 @@ IsOfOwn b (Names text name) = ⊥
 abbrev pub AreOfOwn : Before → List Change → Type 0
 AreOfOwn b [] = Unit {0}
 AreOfOwn b (c ∷ cs) = IsOfOwn b c × AreOfOwn b cs
+
+-- a call by which no segment is shared
+abbrev pub IsUnshared : Option Row → Type 0
+IsUnshared None = Unit {0}
+IsUnshared (Some DosExit) = Unit {0}
+IsUnshared (Some DosGetPid) = Unit {0}
+IsUnshared (Some DosRead) = Unit {0}
+IsUnshared (Some DosWrite) = Unit {0}
+IsUnshared (Some DosMemAvail) = Unit {0}
+IsUnshared (Some (OnSegments call)) = Unit {0}
+IsUnshared (Some (OnShared call)) = ⊥
+
+-- one that tells nothing of other processes, and of which they can tell nothing, shares none
+pub quiet_unshared : (b : Before) (row : Option Row) → meets b row ≡ false → IsUnshared row
+quiet_unshared b None quiet = tt
+quiet_unshared b (Some DosExit) quiet = tt
+quiet_unshared b (Some DosGetPid) quiet = tt
+quiet_unshared b (Some DosRead) quiet = tt
+quiet_unshared b (Some DosWrite) quiet = tt
+quiet_unshared b (Some DosMemAvail) quiet = tt
+quiet_unshared b (Some (OnSegments call)) quiet = tt
+quiet_unshared b (Some (OnShared call)) quiet = cc
 
 module _ (b : Before) where
   -- Rulings.
@@ -183,7 +206,7 @@ module _ (b : Before) where
   nothing : (e : Effect) → e.changes ≡ [] → AreOfOwn b e.changes
   nothing e is = subst (AreOfOwn b) (sym is) tt
 
-  served_own : (row : Option Row) (next : ℕ) → IsUnshared row → AreOfOwn b (served_by row b next).changes
+  pub served_own : (row : Option Row) (next : ℕ) → IsUnshared row → AreOfOwn b (served_by row b next).changes
   served_own None next unshared = tt
   served_own (Some DosExit) next unshared = nothing (dos_exit b) (exit_quiet b)
   served_own (Some DosGetPid) next unshared = nothing (dos_get_pid b next) (told_quiet b next _ _ _)
@@ -193,15 +216,15 @@ module _ (b : Before) where
   served_own (Some (OnSegments call)) next unshared = on_segments_own call next
   served_own (Some (OnShared call)) next unshared = absurd unshared
 
-  answered_own : (r : Result Machine Stop) → AreOfOwn b (answered b r).changes
-  answered_own (Ok s) = tt
-  answered_own (Err (stop.Trap vector code)) = tt
-  answered_own (Err (stop.Gate service next)) = served_own (row_of service) next (built_is_unshared service)
-  answered_own (Err (stop.Miss s)) = tt
+  answered_own : (r : Result Machine Stop) → IsUnshared (called_by r) → AreOfOwn b (answered b r).changes
+  answered_own (Ok s) unshared = tt
+  answered_own (Err (stop.Trap vector code)) unshared = tt
+  answered_own (Err (stop.Gate service next)) unshared = served_own (row_of service) next unshared
+  answered_own (Err (stop.Miss s)) unshared = tt
 
   single_own : (e : Effect) → AreOfOwn b e.changes → AreOfOwn b (single_stepped b e).changes
   single_own e h = either (has_trap_flag b.cpu.flags && is_live e.state) _ e h h
 
-  pub effect_of_own : AreOfOwn b (effect b).changes
+  pub effect_of_own : IsUnshared (call_of b) → AreOfOwn b (effect b).changes
   unfolding effect
-  effect_of_own = single_own (answered b (stepped (state b.cpu b.view))) (answered_own (stepped (state b.cpu b.view)))
+  effect_of_own unshared = single_own (answered b (stepped (state b.cpu b.view))) (answered_own (stepped (state b.cpu b.view)) unshared)

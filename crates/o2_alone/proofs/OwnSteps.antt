@@ -1,4 +1,4 @@
--- A step of the process itself, in two worlds in which it is alike: it is alike in both behind it.
+-- A step of the process itself by which it shares nothing, in two worlds in which it is alike: it is alike in both behind it.
 use Rattle.std.proofs.Common.{◌≡◌, ◌⊎◌, inl, inr, refl, sym, ◌∙◌, ap, subst, ℕ, ◌-◌, ◌≤◌, ◌||◌, Bool, true, false, cond, List, [], ◌∷◌, ◌++◌, arith}
 use Rattle.std.specs.Prelude.{Option, Some, None, option_map, is_some, filter}
 use Rattle.std.specs.List.{list_any}
@@ -18,12 +18,11 @@ use Rattle.o2_world.specs.Run.{all_changes, before, changed, worked, working}
 use Rattle.o2_world.proofs.MapLemmas.{get-filter, get-map, if_yes}
 use Rattle.o2_world.proofs.Keeps.{held_found}
 use Rattle.o2_world.proofs.Numbers.{number_some, at_place_of}
-use Rattle.o2_world.proofs.OwnChanges.{all_own, changes_reserved, moves_own}
-use Rattle.o2_world.proofs.StepMoves.{effect_own}
 use Rattle.o2_world.proofs.StepReach.{own_at}
-use Rattle.o2_alone.specs.Renaming.{Renaming, renamed_held, renamed_changes, IsRenamedEffect}
+use Rattle.o2_world.proofs.Staying.{step_reserved}
+use Rattle.o2_alone.specs.Renaming.{Renaming, call_of, renamed_held, renamed_changes, IsRenamedEffect}
 use Rattle.o2_alone.specs.Isolation.{IsLike}
-use Rattle.o2_alone.proofs.OwnNames.{AreOfOwn, IsOfOwn, effect_of_own}
+use Rattle.o2_alone.proofs.OwnNames.{AreOfOwn, IsOfOwn, IsUnshared, effect_of_own}
 use Rattle.o2_alone.proofs.Alikes.{IsFurther, IsSpokenOf}
 use Rattle.o2_alone.proofs.Twins.{AreMine, AreTwins, IsMine, IsRange, any_takes_same, renamed_append, twin_changes}
 
@@ -122,12 +121,6 @@ all_renamed f number e x state changes =
     go true = refl
     go false = sym (renamed_append f e.changes (Finishes number e.state ∷ []))
 
-pub own_reserved : (s : Setting) (w : World) (d : Dispatch) (number : ℕ) (p : Process) → let e = effect (before s w number p) in
-    (with_changes (worked w d p e) (all_changes number e)).reserved ≡ w.reserved
-own_reserved s w d number p =
-    let b = before s w number p in
-    changes_reserved (worked w d p (effect b)) (all_changes number (effect b)) number (all_own number (effect b) (moves_own b (effect b).cpu (effect b).changes (effect_own b)))
-
 module _ (s : Setting) (number : ℕ) (w a : World) (further : IsFurther number w a) (tied : IsTied w) (tied_alone : IsTied a)
     (d c : Dispatch) (is : d.current ≡ number) (is_too : c.current ≡ number) where
   abbrev g : Renaming
@@ -154,7 +147,7 @@ module _ (s : Setting) (number : ℕ) (w a : World) (further : IsFurther number 
   abbrev range : IsRange g mine w.next_name a.next_name
   range = further.range
 
-  module _ (same : IsRenamedEffect g one two (effect one) (effect two)) where
+  module _ (same : IsRenamedEffect g one two (effect one) (effect two)) (unshared : IsUnshared (call_of one)) where
     abbrev e : Effect
     e = effect one
 
@@ -199,7 +192,7 @@ module _ (s : Setting) (number : ℕ) (w a : World) (further : IsFurther number 
     }
 
     all_are_mine : AreMine number mine (all_changes number e)
-    all_are_mine = all_mine number mine e (mine_changes one mine e.changes known (range.above w.next_name (omega arith)) (effect_of_own one))
+    all_are_mine = all_mine number mine e (mine_changes one mine e.changes known (range.above w.next_name (omega arith)) (effect_of_own one unshared))
       where
         known : (i : ℕ) (h : Held) → one.known.held number i ≡ Some h → mine h.name
         known i h there = inl (record { index = i; hold = h; there = sym (ap (λ (o : Option Process). held_of o i) like.there) ∙ there; named = refl })
@@ -218,8 +211,8 @@ module _ (s : Setting) (number : ℕ) (w a : World) (further : IsFurther number 
         let u : World = with_changes (worked a c q x) (all_changes number x) in
         subst (λ (b : Bool). IsLike g number (with_all (worked w d p e) (all_changes number e)) (cond b (swept u) u)) (sym same_sweep)
         (twins_alike g number mine w.next_name a.next_name v u (list_any takes (all_changes number e)) range ends
-        (λ (i : ℕ). ap (λ (rs : List Reserve). list_any (reserves number i) rs) (own_reserved s w d number p) ∙ like.unreserved i)
-        (λ (i : ℕ). ap (λ (rs : List Reserve). list_any (reserves number i) rs) (own_reserved s a c number q) ∙ like.unreserved_too i))
+        (λ (i : ℕ). ap (λ (rs : List Reserve). list_any (reserves number i) rs) (step_reserved s w d number p) ∙ like.unreserved i)
+        (λ (i : ℕ). ap (λ (rs : List Reserve). list_any (reserves number i) rs) (step_reserved s a c number q) ∙ like.unreserved_too i))
 
     pub own_step : IsLike g number (changed w d p (effect (before s w d.current p))) (changed a c q (effect (before s a c.current q)))
     unfolding changed

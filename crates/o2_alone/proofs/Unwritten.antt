@@ -21,13 +21,17 @@ use Rattle.o2_world.specs.declared.types.Row.{Row}
 use Rattle.o2_world.specs.declared.types.Row.TheVariants.{DosExit, DosGetPid, DosRead, DosWrite, DosMemAvail, OnSegments, OnShared}
 use Rattle.o2_world.specs.declared.types.SegmentCall.{SegmentCall}
 use Rattle.o2_world.specs.declared.types.SegmentCall.TheVariants.{DosAllocSeg, DosReallocSeg, DosFreeSeg, DosSizeSeg, DosLockSeg, DosUnlockSeg, DosCreateCsAlias}
+use Rattle.o2_world.specs.declared.types.SharedCall.{SharedCall}
+use Rattle.o2_world.specs.declared.types.SharedCall.TheVariants.{DosAllocShrSeg, DosGetShrSeg, DosGiveSeg, DosGetSeg}
 use Rattle.o2_world.specs.World.{is_live}
 use Rattle.o2_world.specs.CallParts.{Before, Effect, argument, has_arguments, word_bytes, may_write}
 use Rattle.o2_world.specs.Rulings.{Ruling, allocation, aliasing, sizing}
 use Rattle.o2_world.specs.SegmentCalls.{ruled_at, Written, written_word, written_long, alloc_args, dos_alloc_seg, dos_realloc_seg, dos_free_seg, dos_size_seg, dos_lock_seg, dos_unlock_seg, dos_create_cs_alias, on_segments}
-use Rattle.o2_world.specs.Calls.{transfer_of, is_console, may_give, dos_write, dos_exit, told, may_take, read_from, dos_read, served_by, row_of, IsUnshared}
+use Rattle.o2_world.specs.SharedNames.{may_read_text, name_by, text_at}
+use Rattle.o2_world.specs.SharedRulings.{giving, naming, sharing}
+use Rattle.o2_world.specs.SharedCalls.{dos_alloc_shr_seg, dos_get_shr_seg, dos_give_seg, dos_get_seg, give_args, name_args, on_shared}
+use Rattle.o2_world.specs.Calls.{transfer_of, is_console, may_give, dos_write, dos_exit, told, may_take, read_from, dos_read, served_by, row_of}
 use Rattle.o2_world.specs.Effect.{has_trap_flag, answered, single_stepped, effect}
-use Rattle.o2_world.proofs.Rows.{built_is_unshared}
 use Rattle.o2_alone.specs.Renaming.{IsIn}
 use Rattle.o2_alone.proofs.RenamedViews.{bound_is_in}
 
@@ -143,16 +147,37 @@ module _ (b : Before) (n : ℕ) (unwritten : IsUnwritten b.view.held n) where
       let r = aliasing b.known b.number (a 2) in
       by_test (has_arguments b.view b.cpu 3) _ _ (λ _. by_test (may_write b.view (a 1) (a 0) 2) _ _ (λ good. ruled_keeps next 3 (codes "DosCreateCSAlias") (Word (a 2) ∷ Far (a 1) (a 0) ∷ []) (written_word (a 1) (a 0) r.value) r good) refl) refl
 
-  -- a row is one of a number, so it is none of the calls by which processes share segments
-  served_keeps : (row : Option Row) (next : ℕ) → IsUnshared row → Keeps (served_by row b next)
-  served_keeps None next unshared = refl
-  served_keeps (Some DosExit) next unshared = exit_keeps
-  served_keeps (Some DosGetPid) next unshared = told_keeps next _ _ _
-  served_keeps (Some DosRead) next unshared = read_keeps next
-  served_keeps (Some DosWrite) next unshared = write_keeps next
-  served_keeps (Some DosMemAvail) next unshared = told_keeps next _ _ _
-  served_keeps (Some (OnSegments call)) next unshared = on_segments_keeps call next
-  served_keeps (Some (OnShared call)) next unshared = absurd unshared
+  on_shared_keeps : (call : SharedCall) (next : ℕ) → Keeps (on_shared call b next)
+  unfolding dos_alloc_shr_seg dos_get_shr_seg dos_give_seg dos_get_seg
+  on_shared_keeps DosAllocShrSeg next =
+      let a : ℕ → ℕ = argument b.view b.cpu in
+      let r = naming b.known b.number (a 4) (name_by (text_at b.view (a 3) (a 2))) in
+      by_test (has_arguments b.view b.cpu 5) _ _
+      (λ _. by_test (may_read_text b.view (a 3) (a 2) && may_write b.view (a 1) (a 0) 2) _ _
+      (λ good. ruled_keeps next 5 (codes "DosAllocShrSeg") (name_args (a 4) (a 3) (a 2) (a 1) (a 0)) (written_word (a 1) (a 0) r.value) r (both _ _ good).1) refl) refl
+  on_shared_keeps DosGetShrSeg next =
+      let a : ℕ → ℕ = argument b.view b.cpu in
+      let r = sharing b.known b.number (name_by (text_at b.view (a 3) (a 2))) in
+      by_test (has_arguments b.view b.cpu 4) _ _
+      (λ _. by_test (may_read_text b.view (a 3) (a 2) && may_write b.view (a 1) (a 0) 2) _ _
+      (λ good. ruled_keeps next 4 (codes "DosGetShrSeg") (Far (a 3) (a 2) ∷ Far (a 1) (a 0) ∷ []) (written_word (a 1) (a 0) r.value) r (both _ _ good).1) refl) refl
+  on_shared_keeps DosGiveSeg next =
+      let a : ℕ → ℕ = argument b.view b.cpu in
+      let r = giving b.known b.number (a 3) (a 2) in
+      by_test (has_arguments b.view b.cpu 4) _ _
+      (λ _. by_test (may_write b.view (a 1) (a 0) 2) _ _
+      (λ good. ruled_keeps next 4 (codes "DosGiveSeg") (give_args (a 3) (a 2) (a 1) (a 0)) (written_word (a 1) (a 0) r.value) r good) refl) refl
+  on_shared_keeps DosGetSeg next = by_test (has_arguments b.view b.cpu 1) _ _ (λ _. refl) refl
+
+  served_keeps : (row : Option Row) (next : ℕ) → Keeps (served_by row b next)
+  served_keeps None next = refl
+  served_keeps (Some DosExit) next = exit_keeps
+  served_keeps (Some DosGetPid) next = told_keeps next _ _ _
+  served_keeps (Some DosRead) next = read_keeps next
+  served_keeps (Some DosWrite) next = write_keeps next
+  served_keeps (Some DosMemAvail) next = told_keeps next _ _ _
+  served_keeps (Some (OnSegments call)) next = on_segments_keeps call next
+  served_keeps (Some (OnShared call)) next = on_shared_keeps call next
 
   single_keeps : (e : Effect) → Keeps e → Keeps (single_stepped b e)
   single_keeps e k = by_test (has_trap_flag b.cpu.flags && is_live e.state) _ e (λ _. k) k
@@ -165,7 +190,7 @@ module _ (b : Before) (n : ℕ) (unwritten : IsUnwritten b.view.held n) where
         by_write (inl same) = same
         by_write (inr held) = absurd (unwritten held.hold (bound held.register held.hold held.there) held.writable held.named)
     answered_keeps (Err (stop.Trap vector code)) e = refl
-    answered_keeps (Err (stop.Gate service next)) e = served_keeps (row_of service) next (built_is_unshared service)
+    answered_keeps (Err (stop.Gate service next)) e = served_keeps (row_of service) next
     answered_keeps (Err (stop.Miss s)) e = refl
 
     pub effect_keeps : (effect b).bytes n ≡ b.view.bytes n

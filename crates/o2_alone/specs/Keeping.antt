@@ -1,5 +1,5 @@
 -- When a process keeps to itself: neither does it come to what other processes have, nor they to what it has.
-use Rattle.std.specs.Prelude.{◌≡◌, ◌≢◌, ◌⊎◌, ℕ, ◌<◌, Bool, true, false, Option, Some, None, ◌==◌, ◌&&◌}
+use Rattle.std.specs.Prelude.{◌≡◌, ◌≢◌, ◌⊎◌, ℕ, ◌<◌, Bool, true, false, Option, Some, None, ◌&&◌}
 use Rattle.std.specs.List.{list_any}
 use Rattle.o2_world.specs.declared.types.Row.{Row}
 use Rattle.o2_world.specs.declared.types.Row.TheVariants.{DosExit, DosGetPid, DosRead, DosWrite, DosMemAvail, OnSegments, OnShared}
@@ -7,11 +7,11 @@ use Rattle.o2_world.specs.declared.types.SegmentCall.{SegmentCall}
 use Rattle.o2_world.specs.declared.types.SegmentCall.TheVariants.{DosAllocSeg, DosReallocSeg, DosFreeSeg, DosSizeSeg, DosLockSeg, DosUnlockSeg, DosCreateCsAlias}
 use Rattle.o2_world.specs.Map.{get}
 use Rattle.o2_world.specs.World.{World, Setting, Segment, Held}
-use Rattle.o2_world.specs.Changes.{Change, Makes, Resizes, Locks, Marks, Holds, Drops, Finishes, Reserves, Frees, Names}
 use Rattle.o2_world.specs.Known.{held_at}
 use Rattle.o2_world.specs.CallParts.{Before}
 use Rattle.o2_world.specs.Effect.{effect}
 use Rattle.o2_world.specs.Run.{after}
+use Rattle.o2_world.specs.Giving.{gives}
 use Rattle.o2_alone.specs.Events.{next_before, own_steps}
 use Rattle.o2_alone.specs.Renaming.{asks_for_room, call_of, is_for_others, is_full}
 
@@ -30,19 +30,6 @@ abbrev pub IsApart : World → (number : ℕ) → Type 0
 IsApart w number = (i : ℕ) (h : Held) → held_at w.processes number i ≡ Some h → (is_clean (get w.names h.name) ≡ true) ⊎ IsOfNoOther w number h.name
 
 -- What it is given.
-
--- a change by which this process holds more
-abbrev pub gives : ℕ → Change → Bool
-gives number (Makes s) = false
-gives number (Resizes name size) = false
-gives number (Locks name count) = false
-gives number (Marks name discarded) = false
-gives number (Holds p i h) = p == number
-gives number (Drops p i count) = false
-gives number (Finishes p state) = false
-gives number (Reserves r) = false
-gives number (Frees region first) = false
-gives number (Names text name) = false
 
 -- the next step is its own, or gives it nothing
 abbrev pub IsUngiven : Setting → World → (number : ℕ) → Type 0

@@ -85,6 +85,10 @@ pub fn is_built(number: u16) -> bool
         || number == 9
         || number == 10
         || number == 11
+        || number == 12
+        || number == 13
+        || number == 14
+        || number == 15
         || number == 19
 }
 

@@ -4,6 +4,7 @@ pub mod Places
 pub mod Folded
 pub mod Lists
 pub mod Indexes
+pub mod Walks
 pub mod Pointers
 pub mod Writing
 pub mod Telling

@@ -9,7 +9,7 @@ use Rattle.o2_world.specs.declared.types.Argument.{Argument}
 use Rattle.o2_world.specs.declared.types.Argument.TheVariants.{Word}
 use Rattle.o2_world.specs.World.{Held}
 use Rattle.o2_world.specs.Known.{Known}
-use Rattle.o2_world.specs.CallParts.{Before, Effect, returned}
+use Rattle.o2_world.specs.CallParts.{Before, Effect, returned, trapped}
 use Rattle.o2_world.specs.Rulings.{Ruling, freeing, freeing_of, freed_cpu, held_under, dropped_indexes}
 use Rattle.o2_world.specs.SegmentCalls.{Written, written_word, written_long, ruled, ruled_at, back, freed}
 use Rattle.o2_boundless.specs.declared.rulings.Verdict.{Verdict}
@@ -19,6 +19,7 @@ use Rattle.o2_boundless.specs.declared.changing.Edit.{Edit}
 use Rattle.o2_boundless.specs.Edits.{changes_of}
 use Rattle.o2_boundless.specs.Verdicts.{ruling_of}
 use Rattle.o2_boundless.specs.Outcomes.{IsOutcome, written_by, pointed}
+use Rattle.o2_boundless.specs.Sharing.{texted}
 
 pub passed : (b : Before) (x : Outcome) (t : Bool) (e f : Effect) → t ≡ true → IsOutcome b x e → IsOutcome b x (if t then e else f)
 passed b x t e f h o = rw h o
@@ -111,3 +112,26 @@ freed_row b (Ok x) s cpu verdict is f d g h =
     let Q : Ruling → Type 0 = λ v. IsOutcome b x (freed_by b s v (dropped_indexes v.changes)) in
     let R : Ruling → Type 0 = λ v. IsOutcome b x (freed_by b s u (dropped_indexes v.changes)) in
     subst R (sym (freeing_returned b.known b.number s b.cpu b.cpu.ip 1 u.error)) (subst Q f (subst I d (subst C g (h b refl))))
+
+-- a call with a text that is found, and with a pointer behind which it writes its value
+pub texted_word : (b : Before) (r : Result Outcome NoMemory) (g good : Bool) (words : ℕ) (name : List ℕ) (args : List Argument) (s o : ℕ) (reply : Reply) (verdict : Verdict) (u : Ruling)
+    → written_by reply ≡ written_word s o verdict.value → ruling_of verdict ≡ u → g ≡ good
+    → IfOk r (λ x. IsOutcome b x (texted b g words name args (written_by reply) (ruling_of verdict)))
+    → IfOk r (λ x. IsOutcome b x (texted b good words name args (written_word s o u.value) u))
+texted_word b r g good words name args s o reply verdict u e f k h =
+    let G : Bool → Type 0 = λ t. IfOk r (λ x. IsOutcome b x (texted b t words name args (written_word s o u.value) u)) in
+    let P : Written → Type 0 = λ t. IfOk r (λ x. IsOutcome b x (texted b g words name args t (ruling_of verdict))) in
+    let Q : Ruling → Type 0 = λ v. IfOk r (λ x. IsOutcome b x (texted b g words name args (written_word s o v.value) v)) in
+    subst G k (subst Q f (subst P e h))
+
+pub texted_good : (b : Before) (r : Result Outcome NoMemory) (good : Bool) (words : ℕ) (name : List ℕ) (args : List Argument) (t : Written) (u : Ruling) → good ≡ true
+    → IfOk r (λ x. IsOutcome b x (pointed b words 2 name args t u)) → IfOk r (λ x. IsOutcome b x (texted b good words name args t u))
+texted_good b r good words name args t u is h =
+    let G : Bool → Type 0 = λ g. IfOk r (λ x. IsOutcome b x (texted b g words name args t u)) in
+    subst G (sym is) h
+
+pub texted_bad : (b : Before) (r : Result Outcome NoMemory) (good : Bool) (words : ℕ) (name : List ℕ) (args : List Argument) (t : Written) (u : Ruling) → good ≡ false
+    → IfOk r (λ x. IsOutcome b x (trapped b 13)) → IfOk r (λ x. IsOutcome b x (texted b good words name args t u))
+texted_bad b r good words name args t u is h =
+    let G : Bool → Type 0 = λ g. IfOk r (λ x. IsOutcome b x (texted b g words name args t u)) in
+    subst G (sym is) h

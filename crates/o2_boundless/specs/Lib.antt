@@ -4,6 +4,7 @@ pub mod Keys
 pub mod Edits
 pub mod Pairs
 pub mod Verdicts
+pub mod Sharing
 pub mod Outcomes
 pub mod Called
 pub mod Worked

@@ -1,7 +1,7 @@
 // A call of a process.
 ghost use Rattle.std.specs.Prelude.{◌≡◌, ◌≤◌, ◌++◌, true, IfOk, OnErr, OnOk, Some, length, replicate, slice_index};
 ghost use Rattle.std.specs.Option.{option_copied};
-ghost use Rattle.o2_world.specs.declared.types.Row.TheVariants.{OnSegments};
+ghost use Rattle.o2_world.specs.declared.types.Row.TheVariants.{OnSegments, OnShared};
 ghost use Rattle.o2_world.specs.Calls.{row_of};
 ghost use Rattle.o2_world.specs.Known.{lives_at};
 ghost use Rattle.o2_world.specs.Holders.{process_at};
@@ -17,7 +17,7 @@ use crate::pointing::registers;
 use crate::working::{all_edits, is_live};
 use crate::{Process, World};
 use o2_base::NoMemory;
-use o2_world::{Row, SegmentCall, Transfer};
+use o2_world::{Row, SegmentCall, SharedCall, Transfer};
 use std::alloc::Global;
 
 fn row_of(service: u16) -> Option<Row>
@@ -35,6 +35,10 @@ fn row_of(service: u16) -> Option<Row>
         9 => Some(Row::OnSegments(SegmentCall::DosLockSeg)),
         10 => Some(Row::OnSegments(SegmentCall::DosUnlockSeg)),
         11 => Some(Row::OnSegments(SegmentCall::DosCreateCsAlias)),
+        12 => Some(Row::OnShared(SharedCall::DosAllocShrSeg)),
+        13 => Some(Row::OnShared(SharedCall::DosGetShrSeg)),
+        14 => Some(Row::OnShared(SharedCall::DosGiveSeg)),
+        15 => Some(Row::OnShared(SharedCall::DosGetSeg)),
         19 => Some(Row::DosMemAvail),
         _ => None,
     }
@@ -76,6 +80,30 @@ impl World {
         }
     }
 
+    /// A call by which processes share segments, with its arguments.
+    fn on_shared(
+        &self,
+        alloc: Global,
+        n: u16,
+        process: &Process,
+        call: SharedCall,
+        a: &[u16],
+    ) -> Result<Outcome, NoMemory>
+        requires { 6 ≤ length a.now }
+        ensures { IfOk result (λ x. IsOutcome (before_call self.now n process.now) x (effect_by self.now n process.now (Some (OnShared call)) a.now)) }
+    {
+        match call {
+            SharedCall::DosAllocShrSeg => {
+                self.alloc_shr_seg(alloc, n, process, a[0], a[1], a[2], a[3], a[4])
+            }
+            SharedCall::DosGetShrSeg => {
+                self.get_shr_seg(alloc, n, process, a[0], a[1], a[2], a[3])
+            }
+            SharedCall::DosGiveSeg => self.give_seg(alloc, n, process, a[0], a[1], a[2], a[3]),
+            SharedCall::DosGetSeg => self.get_seg(alloc, n, process, a[0]),
+        }
+    }
+
     fn outcome(
         &self,
         alloc: Global,
@@ -94,7 +122,7 @@ impl World {
             Row::DosWrite => self.write(alloc, n, process, &transfer_by(a)),
             Row::DosMemAvail => self.mem_avail(alloc, n, process, a[0], a[1]),
             Row::OnSegments(call) => self.on_segments(alloc, n, process, call, a),
-            Row::OnShared(_) => Err(NoMemory),
+            Row::OnShared(call) => self.on_shared(alloc, n, process, call, a),
         }
     }
 

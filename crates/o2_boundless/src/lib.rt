@@ -6,12 +6,15 @@ mod changing;
 mod choosing;
 mod laws;
 mod look;
+mod naming;
 mod outcome;
 mod own_rows;
 mod parts;
 mod pointing;
 mod rulings;
 mod segment_rows;
+mod shared_rows;
+mod sharing;
 mod working;
 mod world;
 

@@ -146,7 +146,11 @@ fn copied_bytes(alloc: Global, segment: Option<&Segment>) -> Result<Vec<u8>, NoM
     }
 }
 
-fn bytes_of(alloc: Global, names: &[(u64, Segment)], name: u64) -> Result<Vec<u8>, NoMemory>
+pub(crate) fn bytes_of(
+    alloc: Global,
+    names: &[(u64, Segment)],
+    name: u64,
+) -> Result<Vec<u8>, NoMemory>
     ensures { IfOk result (λ v. v.items ≡ bytes_in names.now name) }
 {
     copied_bytes(alloc, segment_of(names, name))

@@ -17,7 +17,7 @@ use std::alloc::Global;
 
 impl World {
     /// A call with a pointer behind which it writes its value, by what it comes to.
-    fn pointed(
+    pub(crate) fn pointed(
         &self,
         alloc: Global,
         process: &Process,

@@ -1,30 +1,32 @@
 // Decoded instructions, each kept with the bytes that it was decoded from.
-ghost use Rattle.std.specs.Prelude.{◌≡◌, ◌<◌, ◌≤◌, length, take};
+ghost use Rattle.std.specs.Prelude.{◌≡◌, ◌<◌, ◌≤◌, ◌++◌, length, take};
+ghost use Rattle.std.specs.Int.{to_le_bytes, w16, w64};
 ghost use Rattle.std.proofs.Props.{props};
 ghost use Rattle.o2_isa.specs.Reading.{decoded};
 
+use crate::bytes::{TenBytes, ten_bytes};
 use o2_base::NoMemory;
 use o2_decode::{Decoded, decode};
 use std::alloc::Global;
 
-/// Some bytes, and what they spell. Behind them anything may stand.
+/// Some bytes, and what they spell. Behind them anything may stand. What is compared stands first.
 #[derive(Clone, Copy)]
 struct Line {
-    bytes: [u8; 10],
+    bytes: TenBytes,
     count: u8,
     spelled: Decoded,
-    ghost is_decoded: { spelled ≡ decoded (take count bytes) } by { Prim.hlevel props },
+    ghost is_decoded: { spelled ≡ decoded (take count (to_le_bytes w64 bytes.first ++ to_le_bytes w16 bytes.last)) } by { Prim.hlevel props },
 }
 
 /// The line of the first bytes of these, so many.
 #[inline(never)]
 fn line_of(bytes: &[u8; 10], count: usize) -> Line
     requires { count ≤ 10 }
-    ensures bytes { result.bytes ≡ bytes.now }
+    ensures bytes { to_le_bytes w64 result.bytes.first ++ to_le_bytes w16 result.bytes.last ≡ bytes.now }
     ensures count { result.count ≡ count }
 {
     Line {
-        bytes: *bytes,
+        bytes: ten_bytes(bytes),
         count: count as u8,
         spelled: decode(&bytes[..count]),
     }
@@ -64,7 +66,12 @@ impl DecodeCache {
         ensures { result.now ≡ decoded (take count bytes.now) }
     {
         let place = place_of(selector, ip);
-        if self.lines[place].count as usize == count && self.lines[place].bytes == *bytes {
+        let wanted = ten_bytes(bytes);
+        let line = &self.lines[place];
+        if line.bytes.first == wanted.first
+            && line.bytes.last == wanted.last
+            && line.count as usize == count
+        {
             return &self.lines[place].spelled;
         }
         self.lines[place] = line_of(bytes, count);

@@ -1,6 +1,7 @@
 //! Instructions that were decoded before, and steps by them.
 #![tactic(auto)]
 
+mod bytes;
 mod cache;
 mod step;
 

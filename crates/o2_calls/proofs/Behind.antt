@@ -149,11 +149,46 @@ pub bytes_point : (next : ℕ) (cs : List Change) (f g : ℕ → List ℕ) (n : 
 bytes_point next [] f g n e = e
 bytes_point next (c ∷ cs) f g n e = bytes_point (next_behind next c) cs (changed_bytes next c f) (changed_bytes next c g) n (one_point next c f g n e)
 
--- What a call that writes may change: it makes a segment and holds it, or holds one more.
+-- changes that only hold
+abbrev pub IsHold : Change → Type 0
+IsHold (Makes s) = ⊥
+IsHold (Resizes name size) = ⊥
+IsHold (Locks name count) = ⊥
+IsHold (Marks name discarded) = ⊥
+IsHold (Holds p i h) = Unit {0}
+IsHold (Drops p i count) = ⊥
+IsHold (Finishes p state) = ⊥
+IsHold (Reserves r) = ⊥
+IsHold (Frees region first) = ⊥
+IsHold (Names text name) = ⊥
+
+abbrev pub AreHolds : List Change → Type 0
+AreHolds [] = Unit {0}
+AreHolds (c ∷ cs) = IsHold c × AreHolds cs
+
+hold_bytes : (next : ℕ) (c : Change) (f : ℕ → List ℕ) (n : ℕ) → IsHold c → changed_bytes next c f n ≡ f n
+hold_bytes next (Makes s) f n is = absurd is
+hold_bytes next (Resizes name size) f n is = absurd is
+hold_bytes next (Locks name count) f n is = absurd is
+hold_bytes next (Marks name discarded) f n is = absurd is
+hold_bytes next (Holds p i h) f n is = refl
+hold_bytes next (Drops p i count) f n is = absurd is
+hold_bytes next (Finishes p state) f n is = absurd is
+hold_bytes next (Reserves r) f n is = absurd is
+hold_bytes next (Frees region first) f n is = absurd is
+hold_bytes next (Names text name) f n is = absurd is
+
+holds_bytes : (next : ℕ) (cs : List Change) (f : ℕ → List ℕ) (n : ℕ) → AreHolds cs → all_bytes next cs f n ≡ f n
+holds_bytes next [] f n are = refl
+holds_bytes next (c ∷ cs) f n are = holds_bytes (next_behind next c) cs (changed_bytes next c f) n are.1 ∙ hold_bytes next c f n are.0
+
+-- What a call that writes may change: it makes a segment and holds it, perhaps with a name, or holds more.
 pub data IsGiving (cs : List Change) : Type 0 where
   GivesNone : cs ≡ [] → IsGiving cs
   GivesNew : (s : Segment) (p i : ℕ) (h : Held) → cs ≡ Makes s ∷ Holds p i h ∷ [] → IsGiving cs
   GivesHold : (p i : ℕ) (h : Held) → cs ≡ Holds p i h ∷ [] → IsGiving cs
+  GivesNamed : (s : Segment) (p i : ℕ) (h : Held) (text : List ℕ) (name : ℕ) → cs ≡ Makes s ∷ Holds p i h ∷ Names text name ∷ [] → IsGiving cs
+  GivesHolds : AreHolds cs → IsGiving cs
 
 written_new : (next : ℕ) (bytes : List ℕ) (f : ℕ → List ℕ) (offset : ℕ) (part : List ℕ) (h : Hold) (n : ℕ) → next ≢ h.name
     → cond (next == n) bytes (put_in f offset part (Some h) n) ≡ put_in (λ (k : ℕ). cond (next == k) bytes (f k)) offset part (Some h) n
@@ -174,6 +209,10 @@ through next cs f offset part h n (GivesNew s p i x e) apart =
     subst (λ (ds : List Change). all_bytes next ds (put_in f offset part (Some h)) n ≡ put_in (all_bytes next ds f) offset part (Some h) n) (sym e) (written_new next s.bytes f offset part h n apart)
 through next cs f offset part h n (GivesHold p i x e) apart =
     subst (λ (ds : List Change). all_bytes next ds (put_in f offset part (Some h)) n ≡ put_in (all_bytes next ds f) offset part (Some h) n) (sym e) refl
+through next cs f offset part h n (GivesNamed s p i x text name e) apart =
+    subst (λ (ds : List Change). all_bytes next ds (put_in f offset part (Some h)) n ≡ put_in (all_bytes next ds f) offset part (Some h) n) (sym e) (written_new next s.bytes f offset part h n apart)
+through next cs f offset part h n (GivesHolds are) apart =
+    holds_bytes next cs (put_in f offset part (Some h)) n are ∙ ap (λ (x : List ℕ). if n == h.name then put_part x offset part else x) (sym (holds_bytes next cs f n are))
 
 module _ (held now : ℕ → Option Hold) (next : ℕ) (cs : List Change) (f : ℕ → List ℕ) (n : ℕ) where
   aimed : (t : Written) → IsGiving cs → IsAimedAt held now next t
@@ -224,6 +263,22 @@ IsNoEnd (Names text name) = Unit {0}
 abbrev pub AreNoEnds : List Change → Type 0
 AreNoEnds [] = Unit {0}
 AreNoEnds (c ∷ cs) = IsNoEnd c × AreNoEnds cs
+
+hold_no_end : (c : Change) → IsHold c → IsNoEnd c
+hold_no_end (Makes s) is = absurd is
+hold_no_end (Resizes name size) is = absurd is
+hold_no_end (Locks name count) is = absurd is
+hold_no_end (Marks name discarded) is = absurd is
+hold_no_end (Holds p i h) is = tt
+hold_no_end (Drops p i count) is = absurd is
+hold_no_end (Finishes p state) is = absurd is
+hold_no_end (Reserves r) is = absurd is
+hold_no_end (Frees region first) is = absurd is
+hold_no_end (Names text name) is = absurd is
+
+pub holds_go_on : (cs : List Change) → AreHolds cs → AreNoEnds cs
+holds_go_on [] are = tt
+holds_go_on (c ∷ cs) are = (hold_no_end c are.0, holds_go_on cs are.1)
 
 runs_place : (k : ℕ) (f : Process → Process) → ((x : Process) → running_of (f x) ≡ running_of x) → (ps : List Process) (j : ℕ)
     → option_map running_of (slice_get (at_place k f ps) j) ≡ option_map running_of (slice_get ps j)

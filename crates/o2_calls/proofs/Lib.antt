@@ -7,3 +7,6 @@ pub mod Shapes
 pub mod Answered
 pub mod Givable
 pub mod Ends
+pub mod SharesTold
+pub mod SharedOver
+pub mod CallsTold

@@ -11,12 +11,13 @@ use Rattle.o2_world.specs.Changes.{Change, moved_lines}
 use Rattle.o2_world.specs.Rulings.{Ruling, dropped_indexes, freed_cpu, freeing, freeing_cpu, freeing_of, held_under}
 use Rattle.o2_world.specs.SegmentCalls.{Written, ruled, ruled_at, written_long, written_word}
 use Rattle.o2_gate.specs.declared.gathering.SegmentArguments.{SegmentArguments}
-use Rattle.o2_gate.specs.declared.gathering.SegmentArguments.TheVariants.{Alloc, Realloc, Free, Size, Lock, Unlock, Alias}
+use Rattle.o2_gate.specs.declared.gathering.SegmentArguments.TheVariants.{Alloc, Realloc, Free, Size, Lock, Unlock, Alias, Shared}
 use Rattle.o2_gate.specs.Gathers.{asked}
 use Rattle.o2_gate.specs.Replies.{args_of, bytes_by, lines_of, moved_by, name_of, values_by, words_of, written_of}
 use Rattle.o2_calls.specs.Acts.{ruling_of}
 use Rattle.o2_calls.specs.Tellings.{HoldsAlone, Tells, replied, replied_by}
-use Rattle.o2_calls.proofs.Tellings.{ruling_tells}
+use Rattle.o2_calls.proofs.CallsTold.{ruling_tells}
+use Rattle.o2_calls.proofs.SharesTold.{shares_are}
 
 -- the effect of a call with these parts
 with_lines : (cpu : Cpu) (bytes : ℕ → List ℕ) (changes : List Change) (input : List ℕ) (lines : List Line) → Effect
@@ -93,7 +94,7 @@ module _ (b : Before) (next : ℕ) where
   freed_is selector r c tells =
       ap (λ (ls : List Line). with_lines c b.view.bytes r.changes b.input (Calls b.number (codes "DosFreeSeg") (Word selector ∷ []) r.error [] ∷ ls)) tells.lines
 
-  pub asked_is : (a : SegmentArguments) → ((i : ℕ) → HoldsAlone b.known b.number i) → asked a b next ≡ replied_by a b next
+  pub asked_is : (a : SegmentArguments) → ((m i : ℕ) → HoldsAlone b.known m i) → asked a b next ≡ replied_by a b next
   unfolding with_lines
   asked_is a alone = go a (ruling_tells b.known b.number a b.cpu alone)
     where
@@ -109,3 +110,4 @@ module _ (b : Before) (next : ℕ) where
       go (Lock selector) tells = ruled_is (Lock selector) (ruling_of (Lock selector) b.known b.number b.cpu) tells refl
       go (Unlock selector) tells = ruled_is (Unlock selector) (ruling_of (Unlock selector) b.known b.number b.cpu) tells refl
       go (Alias selector s o) tells = ruled_at_is (Alias selector s o) (ruling_of (Alias selector s o) b.known b.number b.cpu) tells (written_word s o (ruling_of (Alias selector s o) b.known b.number b.cpu).value) refl
+      go (Shared x) tells = shares_are x b next alone

@@ -1,17 +1,24 @@
 -- The shapes of what calls on segments change.
-use Rattle.std.proofs.Common.{◌≡◌, ℕ, ◌/◌, ◌==◌, ◌||◌, not, nat_lt, nat_le, Bool, true, false, cond, List, [], ◌∷◌, Option, Some, None, map, refl, subst, sym}
+use Rattle.std.proofs.Common.{◌≡◌, ◌++◌, is_some, ℕ, ◌/◌, ◌==◌, ◌||◌, not, nat_lt, nat_le, Bool, true, false, cond, List, [], ◌∷◌, Option, Some, None, map, refl, subst, sym}
 use Rattle.o2_desc.specs.Bits.{is_writable}
 use Rattle.o2_isa.specs.declared.cpu.Cpu.{Cpu}
 use Rattle.o2_world.specs.World.{Held}
 use Rattle.o2_world.specs.Changes.{Change, Drops}
 use Rattle.o2_world.specs.Known.{Known, Marks}
 use Rattle.o2_world.specs.Rulings.{Ruling, aliasing_at, aliasing_of, allocation, allocation_at, by_load, free_index, freeing_of, full_size, held_as_code, held_by_call, held_under, in_use, is_alias, is_discardable, is_in_run, is_later, keeps_its_size, locking_of, locking_with, made_segment, members, reallocation_of, reallocation_with, region_by, sizing_of, unlocking_of, unlocking_with}
+use Rattle.o2_world.specs.SharedNames.{name_by}
+use Rattle.o2_world.specs.SharedRulings.{each_more, getting_at, getting_from, giving_of, holder, index_of, lacks_flag, naming, naming_at, one_more, shared_segment, sharing, sharing_at, sharing_from, sharing_of}
+use Rattle.o2_isa.specs.View.{is_local}
 use Rattle.o2_gate.specs.declared.gathering.SegmentArguments.{SegmentArguments}
-use Rattle.o2_gate.specs.declared.gathering.SegmentArguments.TheVariants.{Alloc, Realloc, Free, Size, Lock, Unlock, Alias}
+use Rattle.o2_gate.specs.declared.sharing.SharedArguments.{SharedArguments}
+use Rattle.o2_gate.specs.declared.sharing.SharedArguments.TheVariants.{Name, Share, Give, Get}
+use Rattle.o2_gate.specs.SharedReplies.{text_of}
+use Rattle.o2_gate.specs.declared.gathering.SegmentArguments.TheVariants.{Alloc, Realloc, Free, Size, Lock, Unlock, Alias, Shared}
 use Rattle.o2_world.specs.SegmentCalls.{Written}
 use Rattle.o2_gate.specs.Replies.{written_of}
 use Rattle.o2_calls.specs.Acts.{ruling_of}
-use Rattle.o2_calls.proofs.Behind.{AreNoEnds, GivesHold, GivesNew, GivesNone, IsGiving}
+use Rattle.o2_calls.specs.SharedActs.{shared_ruling}
+use Rattle.o2_calls.proofs.Behind.{AreHolds, AreNoEnds, GivesHold, GivesHolds, GivesNamed, GivesNew, GivesNone, IsGiving, holds_go_on}
 use Rattle.o2_calls.proofs.Rulings.{sizing_still}
 
 -- by a test, or by a refusal
@@ -40,6 +47,61 @@ pub alias_gives : (k : Known) (n index : ℕ) (o : Option Held) → IsGiving (al
 alias_gives k n index None = GivesNone refl
 alias_gives k n index (Some h) = either IsGiving (nat_le 4096 index || (not (is_writable h.rights) || is_in_run h)) _ _ (GivesNone refl) (alias_at n h.name (free_index k n))
 
+-- So does one by which processes share segments.
+
+more_holds : (k : Known) (from to : ℕ) (is : List ℕ) → AreHolds (each_more k from to is)
+more_holds k from to [] = tt
+more_holds k from to (i ∷ is) = go (k.held from i) (more_holds k from to is)
+  where
+    go : (o : Option Held) → AreHolds (each_more k from to is) → AreHolds (one_more to i o ++ each_more k from to is)
+    go None rest = rest
+    go (Some h) rest = (tt, rest)
+
+named_at : (k : Known) (n size : ℕ) (name : List ℕ) (index : Option ℕ) → IsGiving (naming_at k n size name index).changes
+named_at k n size name None = GivesNone refl
+named_at k n size name (Some i) = GivesNamed (shared_segment size) n i (held_by_call k.next) name k.next refl
+
+named : (k : Known) (n size : ℕ) (name : Option (List ℕ)) → IsGiving (naming k n size name).changes
+named k n size None = GivesNone refl
+named k n size (Some name) =
+    either IsGiving (is_some (k.text name)) _ _ (GivesNone refl) (either IsGiving (nat_le k.most k.count) _ _ (GivesNone refl) (named_at k n size name (free_index k 0)))
+
+share_from : (k : Known) (n i : ℕ) (from : Option ℕ) → IsGiving (sharing_from k n i from).changes
+share_from k n i None = GivesNone refl
+share_from k n i (Some from) = GivesHolds (more_holds k from n (i ∷ []))
+
+share_at : (k : Known) (n : ℕ) (i : Option ℕ) → IsGiving (sharing_at k n i).changes
+share_at k n None = GivesNone refl
+share_at k n (Some i) = share_from k n i (holder k i)
+
+share_of : (k : Known) (n : ℕ) (q : Option ℕ) → IsGiving (sharing_of k n q).changes
+share_of k n None = GivesNone refl
+share_of k n (Some q) = share_at k n (index_of k q)
+
+shares : (k : Known) (n : ℕ) (name : Option (List ℕ)) → IsGiving (sharing k n name).changes
+shares k n None = GivesNone refl
+shares k n (Some name) = share_of k n (k.text name)
+
+give_of : (k : Known) (n i to : ℕ) (o : Option Held) → IsGiving (giving_of k n i to o).changes
+give_of k n i to None = GivesNone refl
+give_of k n i to (Some h) =
+    either IsGiving (is_later i h || lacks_flag k 0 n (members k n i h)) _ _ (GivesNone refl)
+    (either IsGiving (k.lives to) _ _ (GivesHolds (more_holds k n to (members k n i h))) (GivesNone refl))
+
+get_from : (k : Known) (n i from : ℕ) (o : Option Held) → IsGiving (getting_from k n i from o).changes
+get_from k n i from None = GivesNone refl
+get_from k n i from (Some h) = either IsGiving (is_later i h || lacks_flag k 1 from (members k from i h)) _ _ (GivesNone refl) (GivesHolds (more_holds k from n (members k from i h)))
+
+get_at : (k : Known) (n i : ℕ) (from : Option ℕ) → IsGiving (getting_at k n i from).changes
+get_at k n i None = GivesNone refl
+get_at k n i (Some from) = get_from k n i from (k.held from i)
+
+pub shared_gives : (a : SharedArguments) (k : Known) (n : ℕ) → IsGiving (shared_ruling a k n).changes
+shared_gives (Name size t s o) k n = named k n size (name_by (text_of t))
+shared_gives (Share t s o) k n = shares k n (name_by (text_of t))
+shared_gives (Give selector to s o) k n = give_of k n (selector / 8) to (held_under k n selector)
+shared_gives (Get selector) k n = either IsGiving (is_local selector) _ _ (get_at k n (selector / 8) (holder k (selector / 8))) (GivesNone refl)
+
 -- No call ends a process.
 
 drops_go_on : (n : ℕ) (is : List ℕ) → AreNoEnds (map (λ (i : ℕ). Drops n i 1) is)
@@ -50,6 +112,8 @@ giving_goes_on : (cs : List Change) → IsGiving cs → AreNoEnds cs
 giving_goes_on cs (GivesNone e) = subst AreNoEnds (sym e) tt
 giving_goes_on cs (GivesNew s p i h e) = subst AreNoEnds (sym e) (tt, (tt, tt))
 giving_goes_on cs (GivesHold p i h e) = subst AreNoEnds (sym e) (tt, tt)
+giving_goes_on cs (GivesNamed s p i h text name e) = subst AreNoEnds (sym e) (tt, (tt, (tt, tt)))
+giving_goes_on cs (GivesHolds are) = holds_go_on cs are
 
 resize_goes_on : (name size : ℕ) (o : Option Marks) → AreNoEnds (reallocation_with name size o).changes
 resize_goes_on name size None = tt
@@ -89,6 +153,7 @@ calls_go_on (Size selector s o) k n c = giving_goes_on _ (size_gives k n selecto
 calls_go_on (Lock selector) k n c = locking_goes_on k (held_under k n selector)
 calls_go_on (Unlock selector) k n c = unlocking_goes_on k (held_under k n selector)
 calls_go_on (Alias selector s o) k n c = giving_goes_on _ (alias_gives k n (selector / 8) (held_under k n selector))
+calls_go_on (Shared a) k n c = giving_goes_on _ (shared_gives a k n)
 
 -- a call that writes a value gives
 pub valued_gives : (a : SegmentArguments) (k : Known) (n : ℕ) (c : Cpu) (value : ℕ) (z : Written) → written_of a value ≡ Some z → IsGiving (ruling_of a k n c).changes
@@ -99,3 +164,4 @@ valued_gives (Size selector s o) k n c value z e = size_gives k n selector
 valued_gives (Lock selector) k n c value z e = absurd (cc)
 valued_gives (Unlock selector) k n c value z e = absurd (cc)
 valued_gives (Alias selector s o) k n c value z e = alias_gives k n (selector / 8) (held_under k n selector)
+valued_gives (Shared a) k n c value z e = shared_gives a k n

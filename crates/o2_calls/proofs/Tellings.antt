@@ -14,9 +14,8 @@ use Rattle.o2_world.specs.Rulings.{Ruling, aliasing_at, aliasing_of, allocation,
 use Rattle.o2_world.proofs.SegmentMoves.{held_there}
 use Rattle.o2_gate.specs.declared.gathering.SegmentArguments.{SegmentArguments}
 use Rattle.o2_gate.specs.declared.gathering.SegmentArguments.TheVariants.{Alloc, Realloc, Free, Size, Lock, Unlock, Alias}
-use Rattle.o2_gate.specs.Replies.{IsValue, moved_by, name_of}
+use Rattle.o2_gate.specs.Replies.{moved_by, name_of}
 use Rattle.o2_gate.proofs.Replied.{none_moved}
-use Rattle.o2_calls.specs.Acts.{ruling_of}
 use Rattle.o2_calls.specs.Tellings.{HoldsAlone, Tells}
 
 either : (n : ℕ) (a : SegmentArguments) (b : Bool) (r q : Ruling) → Tells n a r → Tells n a q → Tells n a (cond b r q)
@@ -26,7 +25,7 @@ either n a false r q h k = k
 -- an error
 refuses : (n : ℕ) (a : SegmentArguments) (k : ℕ) → k ≢ 0 → Tells n a (refusal k)
 unfolding moved_lines
-refuses n a k some = record { lines = sym (none_moved a n k 0 some); none = λ e. refl; value = λ e. absurd (some e) }
+refuses n a k some = record { lines = sym (none_moved a n k 0 some); none = λ e. refl }
 
 five : (n : ℕ) (a : SegmentArguments) → Tells n a (refusal 5)
 five n a = refuses n a 5 (λ e. omega (arith, e))
@@ -38,31 +37,29 @@ eight n a = refuses n a 8 (λ e. omega (arith, e))
 record IsQuiet (a : SegmentArguments) (value : ℕ) (changes : List Change) : Type 0 where
   none : (n : ℕ) → moved_by a n 0 value ≡ []
   still : moved_lines (name_of a) changes ≡ []
-  fits : IsValue a value
 
 quietly : (n : ℕ) (a : SegmentArguments) (value : ℕ) (changes : List Change) → IsQuiet a value changes → Tells n a (grants value changes)
 quietly n a value changes q = record {
   lines = q.still ∙ sym (q.none n);
   none = λ e. absurd (e refl);
-  value = λ e. q.fits;
 }
 
 -- The index of a new selector is one of the table.
 
-below_end : (taken : ℕ → Bool) (low end i : ℕ) → chosen taken low end 1 ≡ Some i → i < end
+pub below_end : (taken : ℕ → Bool) (low end i : ℕ) → chosen taken low end 1 ≡ Some i → i < end
 below_end taken low end i e =
     let law : IsChosen taken low end 1 (Some i) = subst (IsChosen taken low end 1) e (chosen_law taken low end 1) in
     let a = law.0.1 in
     omega (arith, a)
 
-index_below : (k : Known) (region i : ℕ) → free_index k region ≡ Some i → i < 8192
+pub index_below : (k : Known) (region i : ℕ) → free_index k region ≡ Some i → i < 8192
 index_below k region i e = go (region == 0) e
   where
     go : (b : Bool) → (if b then chosen (k.taken 0) 4096 8192 1 else chosen (k.taken region) 1 4096 1) ≡ Some i → i < 8192
     go true f = below_end (k.taken 0) 4096 8192 i f
     go false f = let l = below_end (k.taken region) 1 4096 i f in omega (arith, l)
 
-word_of : (i : ℕ) → i < 8192 → selector_of i ≤ 65535
+pub word_of : (i : ℕ) → i < 8192 → selector_of i ≤ 65535
 word_of i l = omega (arith, l)
 
 -- A value that is a selector is a word.
@@ -92,9 +89,9 @@ module _ (k : Known) (n : ℕ) where
   alloc_at : (size s o flags region : ℕ) (index : Option ℕ) → free_index k region ≡ index → Tells n (Alloc size s o flags) (allocation_at k n size flags index)
   unfolding moved_lines
   alloc_at size s o flags region None e = eight n (Alloc size s o flags)
-  alloc_at size s o flags region (Some i) e = record { lines = refl; none = λ f. absurd (f refl); value = λ f. word_of i (index_below k region i e) }
+  alloc_at size s o flags region (Some i) e = record { lines = refl; none = λ f. absurd (f refl) }
 
-  allocs : (size s o flags : ℕ) → Tells n (Alloc size s o flags) (allocation k n size flags)
+  pub allocs : (size s o flags : ℕ) → Tells n (Alloc size s o flags) (allocation k n size flags)
   allocs size s o flags =
       either n (Alloc size s o flags) (nat_lt 15 flags) _ _ (refuses n (Alloc size s o flags) 87 (λ e. omega (arith, e)))
       (either n (Alloc size s o flags) (nat_le k.most k.count) _ _ (eight n (Alloc size s o flags)) (alloc_at size s o flags (region_by n flags) (free_index k (region_by n flags)) refl))
@@ -104,9 +101,9 @@ module _ (k : Known) (n : ℕ) where
   resizes size selector name wanted None = five n (Realloc size selector)
   resizes size selector name wanted (Some m) =
       either n (Realloc size selector) (keeps_its_size wanted m) _ _ (five n (Realloc size selector))
-      (quietly n (Realloc size selector) 0 (Resizes name wanted ∷ []) (record { none = λ p. refl; still = refl; fits = tt }))
+      (quietly n (Realloc size selector) 0 (Resizes name wanted ∷ []) (record { none = λ p. refl; still = refl }))
 
-  reallocs : (size selector : ℕ) (o : Option Held) → Tells n (Realloc size selector) (reallocation_of k (full_size size) o)
+  pub reallocs : (size selector : ℕ) (o : Option Held) → Tells n (Realloc size selector) (reallocation_of k (full_size size) o)
   reallocs size selector None = five n (Realloc size selector)
   reallocs size selector (Some h) =
       either n (Realloc size selector) (is_alias h.cause || is_in_run h) _ _ (five n (Realloc size selector)) (resizes size selector h.name (full_size size) (k.segment h.name))
@@ -114,12 +111,12 @@ module _ (k : Known) (n : ℕ) where
   frees_with : (c : Cpu) (selector : ℕ) (is : List ℕ) → is ≡ selector / 8 ∷ [] → Tells n (Free selector) (freeing_with n c is)
   unfolding moved_lines
   frees_with c selector is same = subst (λ (js : List ℕ). Tells n (Free selector) (freeing_with n c js)) (sym same)
-      (either n (Free selector) (in_use c (selector / 8 ∷ [])) _ _ (five n (Free selector)) (record { lines = refl; none = λ f. absurd (f refl); value = λ f. tt }))
+      (either n (Free selector) (in_use c (selector / 8 ∷ [])) _ _ (five n (Free selector)) (record { lines = refl; none = λ f. absurd (f refl) }))
 
   one_member : (i : ℕ) (h : Held) → h.reserved ≡ 0 → members k n i h ≡ i ∷ []
   one_member i h e = ap (λ (r : ℕ). if r == 0 then i ∷ [] else filter (λ (j : ℕ). is_some (k.held n j)) (indexes h.first r)) e
 
-  frees : (c : Cpu) (selector : ℕ) (o : Option Held) → held_under k n selector ≡ o → HoldsAlone k n (selector / 8) → Tells n (Free selector) (freeing_of k n selector c o)
+  pub frees : (c : Cpu) (selector : ℕ) (o : Option Held) → held_under k n selector ≡ o → HoldsAlone k n (selector / 8) → Tells n (Free selector) (freeing_of k n selector c o)
   frees c selector None e alone = five n (Free selector)
   frees c selector (Some h) e alone =
       either n (Free selector) (by_load h.cause || is_later (selector / 8) h) _ _ (five n (Free selector))
@@ -128,9 +125,9 @@ module _ (k : Known) (n : ℕ) where
   sizes_with : (selector s o : ℕ) (m : Option Marks) → Tells n (Size selector s o) (sizing_with m)
   unfolding moved_lines
   sizes_with selector s o None = five n (Size selector s o)
-  sizes_with selector s o (Some m) = quietly n (Size selector s o) m.size [] (record { none = λ p. refl; still = refl; fits = tt })
+  sizes_with selector s o (Some m) = quietly n (Size selector s o) m.size [] (record { none = λ p. refl; still = refl })
 
-  sizes : (selector s o : ℕ) (h : Option Held) → Tells n (Size selector s o) (sizing_of k h)
+  pub sizes : (selector s o : ℕ) (h : Option Held) → Tells n (Size selector s o) (sizing_of k h)
   sizes selector s o None = five n (Size selector s o)
   sizes selector s o (Some h) = sizes_with selector s o (k.segment h.name)
 
@@ -139,15 +136,15 @@ module _ (k : Known) (n : ℕ) where
   locks_with selector name None = five n (Lock selector)
   locks_with selector name (Some m) =
       either n (Lock selector) (is_discardable m) _ _
-      (quietly n (Lock selector) 0 (Locks name (min (m.lock + 1) 255) ∷ []) (record { none = λ p. refl; still = refl; fits = tt })) (five n (Lock selector))
+      (quietly n (Lock selector) 0 (Locks name (min (m.lock + 1) 255) ∷ []) (record { none = λ p. refl; still = refl })) (five n (Lock selector))
 
-  locks : (selector : ℕ) (o : Option Held) → Tells n (Lock selector) (locking_of k o)
+  pub locks : (selector : ℕ) (o : Option Held) → Tells n (Lock selector) (locking_of k o)
   locks selector None = five n (Lock selector)
   locks selector (Some h) = locks_with selector h.name (k.segment h.name)
 
   less_lock : (selector name count : ℕ) → Tells n (Unlock selector) (grants 0 (Locks name count ∷ []))
   unfolding moved_lines
-  less_lock selector name count = quietly n (Unlock selector) 0 (Locks name count ∷ []) (record { none = λ p. refl; still = refl; fits = tt })
+  less_lock selector name count = quietly n (Unlock selector) 0 (Locks name count ∷ []) (record { none = λ p. refl; still = refl })
 
   unlocks_with : (selector name : ℕ) (o : Option Marks) → Tells n (Unlock selector) (unlocking_with name o)
   unlocks_with selector name None = five n (Unlock selector)
@@ -155,25 +152,16 @@ module _ (k : Known) (n : ℕ) where
       either n (Unlock selector) (is_discardable m) _ _
       (either n (Unlock selector) (m.lock == 0) _ _ (refuses n (Unlock selector) 158 (λ e. omega (arith, e))) (less_lock selector name _)) (five n (Unlock selector))
 
-  unlocks : (selector : ℕ) (o : Option Held) → Tells n (Unlock selector) (unlocking_of k o)
+  pub unlocks : (selector : ℕ) (o : Option Held) → Tells n (Unlock selector) (unlocking_of k o)
   unlocks selector None = five n (Unlock selector)
   unlocks selector (Some h) = unlocks_with selector h.name (k.segment h.name)
 
   alias_at : (selector s o name : ℕ) (index : Option ℕ) → free_index k n ≡ index → Tells n (Alias selector s o) (aliasing_at n name index)
   unfolding moved_lines
   alias_at selector s o name None e = eight n (Alias selector s o)
-  alias_at selector s o name (Some i) e = record { lines = refl; none = λ f. absurd (f refl); value = λ f. word_of i (index_below k n i e) }
+  alias_at selector s o name (Some i) e = record { lines = refl; none = λ f. absurd (f refl) }
 
-  aliases : (selector s o : ℕ) (h : Option Held) → Tells n (Alias selector s o) (aliasing_of k n (selector / 8) h)
+  pub aliases : (selector s o : ℕ) (h : Option Held) → Tells n (Alias selector s o) (aliasing_of k n (selector / 8) h)
   aliases selector s o None = five n (Alias selector s o)
   aliases selector s o (Some h) =
       either n (Alias selector s o) (nat_le 4096 (selector / 8) || (not (is_writable h.rights) || is_in_run h)) _ _ (five n (Alias selector s o)) (alias_at selector s o h.name (free_index k n) refl)
-
-  pub ruling_tells : (a : SegmentArguments) (c : Cpu) → ((i : ℕ) → HoldsAlone k n i) → Tells n a (ruling_of a k n c)
-  ruling_tells (Alloc size s o flags) c alone = allocs size s o flags
-  ruling_tells (Realloc size selector) c alone = reallocs size selector (held_under k n selector)
-  ruling_tells (Free selector) c alone = frees c selector (held_under k n selector) refl (alone (selector / 8))
-  ruling_tells (Size selector s o) c alone = sizes selector s o (held_under k n selector)
-  ruling_tells (Lock selector) c alone = locks selector (held_under k n selector)
-  ruling_tells (Unlock selector) c alone = unlocks selector (held_under k n selector)
-  ruling_tells (Alias selector s o) c alone = aliases selector s o (held_under k n selector)

@@ -9,8 +9,9 @@ use Rattle.o2_world.specs.World.{Setting, World}
 use Rattle.o2_world.specs.Known.{Known}
 use Rattle.o2_world.specs.Rulings.{Ruling, aliasing, allocation, freeing, freeing_cpu, locking, reallocation, sizing, unlocking}
 use Rattle.o2_gate.specs.declared.gathering.SegmentArguments.{SegmentArguments}
-use Rattle.o2_gate.specs.declared.gathering.SegmentArguments.TheVariants.{Alloc, Realloc, Free, Size, Lock, Unlock, Alias}
+use Rattle.o2_gate.specs.declared.gathering.SegmentArguments.TheVariants.{Alloc, Realloc, Free, Size, Lock, Unlock, Alias, Shared}
 use Rattle.o2_stands.specs.Parts.{Parts}
+use Rattle.o2_calls.specs.SharedActs.{shared_ruling}
 use Rattle.o2_stands.specs.Stands.{AreLawful, IsSetTo, Stands}
 
 -- error, value and changes of the call by a process with these registers
@@ -22,6 +23,7 @@ ruling_of (Size selector s o) k n c = sizing k n selector
 ruling_of (Lock selector) k n c = locking k n selector
 ruling_of (Unlock selector) k n c = unlocking k n selector
 ruling_of (Alias selector s o) k n c = aliasing k n selector
+ruling_of (Shared a) k n c = shared_ruling a k n
 
 -- the registers behind it, as far as the call itself changes them: a free clears DS and ES
 abbrev pub cpu_of : SegmentArguments → Known → (number : ℕ) → Cpu → Cpu
@@ -32,6 +34,7 @@ cpu_of (Size selector s o) k n c = c
 cpu_of (Lock selector) k n c = c
 cpu_of (Unlock selector) k n c = c
 cpu_of (Alias selector s o) k n c = c
+cpu_of (Shared a) k n c = c
 
 -- only a call that sizes or locks may stop
 abbrev pub MayStop : SegmentArguments → Type 0
@@ -42,6 +45,7 @@ MayStop (Size selector s o) = ⊥
 MayStop (Lock selector) = Unit {0}
 MayStop (Unlock selector) = ⊥
 MayStop (Alias selector s o) = ⊥
+MayStop (Shared a) = ⊥
 
 -- A machine with this store, these maps, images and blocks has what the setting says and stands for the world.
 pub record IsOver (shelf : Shelf) (maps : Maps) (images : ImageList) (block : ℕ → List ℕ) (p : Parts) (s : Setting) (w : World) : Type 0 where

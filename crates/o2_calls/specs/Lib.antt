@@ -2,3 +2,4 @@ pub mod Acts
 pub mod Stops
 pub mod Tellings
 pub mod Seen
+pub mod SharedActs

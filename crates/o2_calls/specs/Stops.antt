@@ -13,9 +13,10 @@ use Rattle.o2_store.specs.Sizes.{all_wanted_at, stays}
 use Rattle.o2_swapmap.specs.Piles.{all_of}
 use Rattle.o2_world.specs.Rulings.{full_size}
 use Rattle.o2_gate.specs.declared.gathering.SegmentArguments.{SegmentArguments}
-use Rattle.o2_gate.specs.declared.gathering.SegmentArguments.TheVariants.{Alloc, Realloc, Free, Size, Lock, Unlock, Alias}
+use Rattle.o2_gate.specs.declared.gathering.SegmentArguments.TheVariants.{Alloc, Realloc, Free, Size, Lock, Unlock, Alias, Shared}
 use Rattle.o2_changes.specs.Holding.{KeepsHolds}
 use Rattle.o2_segs.specs.Limits.{KeepsEntries}
+use Rattle.o2_shared.specs.Shares.{StillHolds}
 use Rattle.o2_segs.specs.Made.{IsWithNew}
 
 -- what a process holds under a selector
@@ -32,6 +33,7 @@ LacksRoom (Size selector s o) t m pid keep = ⊥
 LacksRoom (Lock selector) t m pid keep = IfSome (held_by m pid selector) (λ h. t.places.size < all_wanted t h.id.key keep)
 LacksRoom (Unlock selector) t m pid keep = ⊥
 LacksRoom (Alias selector s o) t m pid keep = ⊥
+LacksRoom (Shared a) t m pid keep = ⊥
 
 -- what lives, with the new segment or the new size, is more than the memory
 abbrev pub LacksMemory : SegmentArguments → Shelf → Maps → (pid : ℕ) → Type 0
@@ -42,12 +44,13 @@ LacksMemory (Size selector s o) t m pid = ⊥
 LacksMemory (Lock selector) t m pid = t.places.size < live_load t
 LacksMemory (Unlock selector) t m pid = ⊥
 LacksMemory (Alias selector s o) t m pid = ⊥
+LacksMemory (Shared a) t m pid = ⊥
 
 -- and what isn't clean may need more blocks than there are
 abbrev pub LacksSwap : SegmentArguments → Shelf → Maps → (pid : ℕ) → Type 0
 LacksSwap a t m pid = (all_of t.swap < swap_load t) × LacksMemory a t m pid
 
--- what a call leaves of what is held: all of it, but for one that frees
+-- what a call leaves of what is held: all of it, but for one that frees; one that shares may hold it once more
 abbrev pub LeavesHolds : SegmentArguments → (old new : Maps) → Type 0
 LeavesHolds (Alloc size s o flags) m n = KeepsHolds m n
 LeavesHolds (Realloc size selector) m n = KeepsHolds m n
@@ -56,6 +59,7 @@ LeavesHolds (Size selector s o) m n = KeepsHolds m n
 LeavesHolds (Lock selector) m n = KeepsHolds m n
 LeavesHolds (Unlock selector) m n = KeepsHolds m n
 LeavesHolds (Alias selector s o) m n = KeepsHolds m n
+LeavesHolds (Shared a) m n = StillHolds m n
 
 -- what a call that has a pointer leaves of what lives: all of it, with its size
 abbrev pub LeavesEntries : SegmentArguments → (s t : Shelf) → Type 0
@@ -66,6 +70,7 @@ LeavesEntries (Size selector s o) m n = KeepsEntries m n
 LeavesEntries (Lock selector) m n = Unit {0}
 LeavesEntries (Unlock selector) m n = Unit {0}
 LeavesEntries (Alias selector s o) m n = KeepsEntries m n
+LeavesEntries (Shared a) m n = KeepsEntries m n
 
 -- the value of a call that is done is a word where it is a selector
 abbrev pub HasWord : Roomed → Type 0
@@ -82,3 +87,4 @@ IsGivable (Size selector s o) x = Unit {0}
 IsGivable (Lock selector) x = Unit {0}
 IsGivable (Unlock selector) x = Unit {0}
 IsGivable (Alias selector s o) x = HasWord x
+IsGivable (Shared a) x = HasWord x

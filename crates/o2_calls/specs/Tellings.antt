@@ -8,18 +8,17 @@ use Rattle.o2_world.specs.Changes.{moved_lines}
 use Rattle.o2_world.specs.Known.{Known}
 use Rattle.o2_world.specs.Rulings.{Ruling}
 use Rattle.o2_gate.specs.declared.gathering.SegmentArguments.{SegmentArguments}
-use Rattle.o2_gate.specs.Replies.{IsValue, bytes_of, lines_of, moved_by, name_of, words_of}
+use Rattle.o2_gate.specs.Replies.{bytes_of, lines_of, moved_by, name_of, words_of}
 use Rattle.o2_calls.specs.Acts.{cpu_of, ruling_of}
 
 -- what process n holds at the index isn't in the run of a huge allocation
 abbrev pub HoldsAlone : Known → (n i : ℕ) → Type 0
 HoldsAlone k n i = (h : Held) → k.held n i ≡ Some h → h.reserved ≡ 0
 
--- the lines of what it changes are those of the reply; at an error it changes nothing, and else its value can be written
+-- the lines of what it changes are those of the reply; at an error it changes nothing
 pub record Tells (n : ℕ) (a : SegmentArguments) (r : Ruling) : Type 0 where
   pub lines : moved_lines (name_of a) r.changes ≡ moved_by a n r.error r.value
   pub none : r.error ≢ 0 → r.changes ≡ []
-  pub value : r.error ≡ 0 → IsValue a r.value
 
 -- what a call comes to by its ruling and its registers: the value behind its pointer, and its lines
 abbrev pub replied : SegmentArguments → Before → (next : ℕ) → Ruling → Cpu → Effect

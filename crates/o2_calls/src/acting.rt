@@ -18,19 +18,25 @@ ghost use Rattle.o2_world.specs.Known.{known_of};
 ghost use Rattle.o2_world.specs.Tied.{IsTied};
 ghost use Rattle.o2_world.specs.World.{Process, Setting, World};
 ghost use Rattle.o2_segs.specs.Answers.{AnswersRoomed, AreAlone, changes_roomed};
-ghost use Rattle.o2_segs.specs.Limits.{KeepsLimits, made_in};
+ghost use Rattle.o2_segs.specs.Limits.{KeepsLimitsBy, made_in};
+ghost use Rattle.o2_regions.specs.Lives.{lives};
+ghost use Rattle.o2_shared.specs.Shares.{AreFew, ShareOne};
+ghost use Rattle.o2_shared.specs.Texts.{AreInPlace};
+ghost use Rattle.o2_calls.specs.SharedActs.{LeavesSpelled, Spells};
 ghost use Rattle.o2_segs.specs.Made.{IsStop};
 ghost use Rattle.o2_calls.specs.Acts.{IsOver, MayStop, cpu_of, ruling_of};
 ghost use Rattle.o2_calls.specs.Stops.{IsGivable, LacksRoom, LacksSwap, LeavesEntries, LeavesHolds};
 
+use crate::sharing::share;
 use o2_gate::SegmentArguments;
 use o2_image::Images;
 use o2_isa::Cpu;
 use o2_locks::{lock_seg, unlock_seg};
 use o2_outer::SwapDevice;
 use o2_place::SegId;
-use o2_regions::{Regions, Roomed};
+use o2_regions::{Ends, Regions, Roomed};
 use o2_segs::{alloc_seg, create_cs_alias, free_seg, realloc_seg, size_seg};
+use o2_shared::Shared;
 use o2_store::Store;
 
 /// A call on segments by process `pid`, with these registers and arguments, where its pointer is good. What it answers is the
@@ -43,6 +49,8 @@ pub fn act<S: SwapDevice>(
     cpu: &mut Cpu,
     store: &mut Store,
     regions: &mut Regions,
+    names: &mut Shared,
+    ends: &Ends,
     keep: &[SegId],
     images: &Images,
     swap: &mut S,
@@ -55,20 +63,32 @@ pub fn act<S: SwapDevice>(
     requires clean { AreClean store.old (picture images.now) }
     requires device { all_of store.old.swap ≤ S.blocks swap.old }
     requires alone { AreAlone regions.old }
+    requires one { ShareOne regions.old }
+    requires few { AreFew regions.old }
+    requires living { (n : ℕ) → lives ends.now n ≡ true → IsProcess regions.old n }
+    requires places { AreInPlace store.old regions.old names.old }
 
     // The row of the call in the world for which the machine stands.
     ensures row { (p : Parts) (s : Setting) (w : World)
         → IsOver store.old regions.old images.now (S.block swap.old) p s w
+        → Spells store.old regions.old names.old ends.now p w
         → AnswersRoomed (ruling_of arguments (known_of s w) pid cpu.old) result }
     ensures registers { (p : Parts) (s : Setting) (w : World)
         → IsOver store.old regions.old images.now (S.block swap.old) p s w
+        → Spells store.old regions.old names.old ends.now p w
         → cpu.new ≡ cpu_of arguments (known_of s w) pid cpu.old }
     ensures matches { (p : Parts) (s : Setting) (w : World) (x : Process)
         → IsOver store.old regions.old images.now (S.block swap.old) p s w
+        → Spells store.old regions.old names.old ends.now p w
         → IsTrue (S.told swap.new)
         → process_at w.processes pid ≡ Some x → IsTied w
         → Matches (moved p store.new regions.new (S.block swap.new))
         (with_all w (changes_roomed (ruling_of arguments (known_of s w) pid cpu.old) result)) }
+    ensures spells { (p : Parts) (s : Setting) (w : World)
+        → IsOver store.old regions.old images.now (S.block swap.old) p s w
+        → Spells store.old regions.old names.old ends.now p w
+        → LeavesSpelled arguments store.new names.old names.new
+        (with_all w (ruling_of arguments (known_of s w) pid cpu.old).changes) }
     ensures stops { IsStop result → MayStop arguments }
 
     // What is to be kept stays in memory, and what the call writes through stays held; why it stops.
@@ -84,7 +104,8 @@ pub fn act<S: SwapDevice>(
 
     // What the calls of store, service and bus ask for goes on to hold.
     ensures processes { regions.new.processes ≡ regions.old.processes }
-    ensures limits { KeepsLimits store.old regions.old store.new regions.new (made_in result) }
+    ensures limits { KeepsLimitsBy store.old regions.old store.new regions.new (made_in result) (made_in result) }
+    ensures places { AreInPlace store.new regions.new names.new }
     ensures value { IsGivable arguments result }
     ensures order { IsInOrder store.new regions.new }
     ensures guards { IsGuarded store.old regions.old → IsGuarded store.new regions.new }
@@ -125,5 +146,8 @@ pub fn act<S: SwapDevice>(
             to_selector: _,
             to_offset: _,
         } => Roomed::Done(create_cs_alias(store, regions, pid, selector)),
+        SegmentArguments::Shared(shared) => {
+            Roomed::Done(share(&shared, pid, store, regions, names, ends))
+        }
     }
 }

@@ -3,7 +3,9 @@ ghost use Rattle.std.specs.Prelude.{◌≡◌, ℕ, List, ◌++◌, ◌∷◌, [
 ghost use Rattle.o2_conf.specs.Dispatch.{Dispatch};
 ghost use Rattle.o2_isa.specs.declared.cpu.Cpu.{Cpu as CpuThere};
 ghost use Rattle.o2_gate.specs.declared.gathering.SegmentArguments.{SegmentArguments as ArgumentsThere};
+ghost use Rattle.o2_gate.specs.declared.sharing.SharedArguments.{SharedArguments as SharedThere};
 ghost use Rattle.o2_gate.specs.Gathers.{asked};
+ghost use Rattle.o2_gate.specs.SharedReplies.{asked_shared};
 ghost use Rattle.o2_regions.specs.Maps.{Maps};
 ghost use Rattle.o2_segbus.specs.Bus.{AreInside};
 ghost use Rattle.o2_segbus.specs.Frames.{KeepsMaps, KeepsStore};
@@ -21,16 +23,27 @@ ghost use Rattle.o2_world.specs.declared.types.State.{State as StateThere};
 ghost use Rattle.o2_world.specs.declared.types.State.TheVariants as State;
 ghost use Rattle.o2_calls.specs.Seen.{Gives};
 ghost use Rattle.o2_calls.specs.Acts.{ruling_of};
+ghost use Rattle.o2_calls.specs.SharedActs.{SharesTell, shared_replied, shared_ruling};
 ghost use Rattle.o2_calls.specs.Tellings.{HoldsAlone, Tells, replied_by};
 
 /// A call on segments whose pointer is good comes back with the error number of its ruling: the value behind its pointer, its
-/// registers and its lines are those of `give_value`, `come_back` and `put_reply` of `o2_gate`, and its changes are the ruling's. It supposes that its
-/// process holds no run of a huge allocation.
+/// registers and its lines are those of `give_value`, `come_back` and `put_reply` of `o2_gate`, and its changes are the ruling's. It supposes that
+/// nobody holds a run of a huge allocation.
 pub fn calls_come_back_by_their_rulings()
-    ensures effect { (a : ArgumentsThere) (b : Before) (next : ℕ) → ((i : ℕ) → HoldsAlone b.known b.number i)
+    ensures effect { (a : ArgumentsThere) (b : Before) (next : ℕ) → ((n i : ℕ) → HoldsAlone b.known n i)
         → asked a b next ≡ replied_by a b next }
-    ensures tells { (a : ArgumentsThere) (k : Known) (n : ℕ) (c : CpuThere) → ((i : ℕ) → HoldsAlone k n i)
+    ensures tells { (a : ArgumentsThere) (k : Known) (n : ℕ) (c : CpuThere) → ((m i : ℕ) → HoldsAlone k m i)
         → Tells n a (ruling_of a k n c) }
+{}
+
+/// A call by which processes share segments whose pointers are good comes back with the error number of its ruling: the value
+/// behind its pointer, its registers and its lines are those that its arguments tell, and its changes are the ruling's. It
+/// supposes that nobody holds a run of a huge allocation.
+pub fn shares_come_back_by_their_rulings()
+    ensures effect { (a : SharedThere) (b : Before) (next : ℕ) → ((n i : ℕ) → HoldsAlone b.known n i)
+        → asked_shared a b next ≡ shared_replied a b next }
+    ensures tells { (a : SharedThere) (k : Known) (n : ℕ) → ((m i : ℕ) → HoldsAlone k m i)
+        → SharesTell n a (shared_ruling a k n) }
 {}
 
 /// A call whose changes are made, and whose value is then written behind its pointer, is seen: a machine that matches the world with

@@ -3,6 +3,11 @@
 
 mod acting;
 mod laws;
+mod sharing;
 
 pub use acting::act;
-pub use laws::{an_end_sweeps_once, calls_come_back_by_their_rulings, what_a_call_gives_is_seen};
+pub use laws::{
+    an_end_sweeps_once, calls_come_back_by_their_rulings, shares_come_back_by_their_rulings,
+    what_a_call_gives_is_seen,
+};
+pub use sharing::share;

@@ -1,16 +1,15 @@
 -- The run of a bench, by what its machine began with.
 use Rattle.std.proofs.Common.{◌≡◌, ℕ, ◌+◌, [], length, List, Option, Some, None, ap, ◌∙◌, sym, refl, subst, inl, inr}
-use Rattle.std.specs.Prelude.{Ok, Err}
+use Rattle.std.specs.Prelude.{Bool, Ok, Err}
 use Rattle.o2_words.specs.declared.words.Verb.TheVariants.{Bench}
 use Rattle.o2_world.specs.World.{World, Setting}
 use Rattle.o2_outer.specs.Texts.{Gains, GainsSome, IsPrefix}
 use Rattle.o2_run.specs.declared.steps.Stop.{Stop}
 use Rattle.o2_run.specs.declared.steps.Stop.TheVariants.{Input, NoRoom, SwapFull, SwapFault}
-use Rattle.o2_run.specs.declared.steps.Turn.TheVariants as turn
 use Rattle.o2_run.specs.declared.fault.Fault.{Fault}
 use Rattle.o2_run.specs.declared.fault.Fault.TheVariants.{Sink, Stopped}
 use Rattle.o2_run.specs.Pieces.{counts}
-use Rattle.o2_run.specs.Ended.{EndsAs, HasTexts}
+use Rattle.o2_run.specs.Ended.{EndsAs}
 use Rattle.o2_run.proofs.Reached.{part_from}
 use Rattle.o2_machine.specs.declared.last.Last.{Last}
 use Rattle.o2_machine.specs.declared.last.Last.TheVariants.{AllEnded, BudgetSpent, SinkFault, Stopped as LastStopped}
@@ -19,6 +18,7 @@ use Rattle.o2_open.specs.declared.session.Session.{Session}
 use Rattle.o2_cli.specs.declared.status.Status.{Status}
 use Rattle.o2_cli.specs.declared.status.Status.TheVariants as status
 use Rattle.o2_cli.specs.Opening.{StartsWith}
+use Rattle.o2_cli.specs.Lined.{HasLined}
 use Rattle.o2_cli.specs.Unseen.{Written, IsOver}
 use Rattle.o2_cli.specs.BenchTexts.{bench_line, bench_text, HasLine, HasLineFront, InRun, AtLine}
 use Rattle.o2_cli.specs.RunTexts.{FailsToBegin, ShowsRun, StopsRun}
@@ -48,12 +48,12 @@ fails_bench count s blocks i c r q e k before now status.SwapFull f = absurd f
 fails_bench count s blocks i c r q e k before now status.SwapFault f = absurd f
 
 -- behind the start: the report's count rose since then, and the lines of the start were put before
-module _ (s : Session) (blocks : ℕ) (i j r q : Option (List ℕ)) (since : Type 0) (x y z : ℕ) (stands : Setting → World → Type 0) where
+module _ (s : Session) (blocks : ℕ) (i j r q : Option (List ℕ)) (since : Type 0) (x y z : ℕ) (put : Bool) (stands : Setting → World → Type 0) where
   module _ (e : Type 0) (later : since → e) (count : ℕ) (c : Option (List ℕ)) (k : ℕ) where
     abbrev pub Faulted : Fault → Type 0
     Faulted f = (input : List ℕ) → i ≡ Some input
         → StartsWith s input (λ o. (y ≡ x + length o.world.lines)
-        × ((written : Written) × HasTexts (stands o.setting) machine_swaps blocks o.setting o.world j (Some []) (Some written.bytes) r q since (counts 0 written.pieces y z (length o.world.lines)) (Err f)))
+        × ((written : Written) × HasLined (stands o.setting) machine_swaps blocks o.setting o.world j (Some []) (Some written.bytes) r q since (counts 0 written.pieces y z (length o.world.lines)) put (Err f)))
 
     bench_stop : (why : Stop) → Faulted (Stopped why) → StopsRun (Bench count) s blocks i j c c r q e (counts k k x z 0) why
     bench_stop why ran = λ input left.
@@ -91,7 +91,7 @@ module _ (s : Session) (blocks : ℕ) (i j r q : Option (List ℕ)) (since : Typ
   abbrev pub Over : List ℕ → Type 0
   Over input =
       StartsWith s input (λ o. (y ≡ x + length o.world.lines)
-      × ((written : Written) × HasTexts (stands o.setting) machine_swaps blocks o.setting o.world j (Some []) (Some written.bytes) r q since (counts 0 written.pieces y z (length o.world.lines)) (Ok tt)))
+      × ((written : Written) × HasLined (stands o.setting) machine_swaps blocks o.setting o.world j (Some []) (Some written.bytes) r q since (counts 0 written.pieces y z (length o.world.lines)) put (Ok tt)))
 
   over_with : (k l : ℕ) (P : Setting → World → Type 0) → ((t : Setting) (w : World) → stands t w → P t w) → (input : List ℕ) → Over input
       → StartsWith s input (λ o. IsOver o j r q (counts k l x z 0) (P o.setting))

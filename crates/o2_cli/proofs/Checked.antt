@@ -1,10 +1,10 @@
 -- The lines of linked modules, one after the other, and what `check` shows and refuses by what it opened.
-use Rattle.std.proofs.Common.{◌≡◌, ℕ, zero, suc, ◌+◌, List, [], ◌∷◌, ◌++◌, take, map, length, Option, Some, None, option_map, ap, sym, ◌∙◌, refl, subst, arith, append-nil, add-one}
+use Rattle.std.proofs.Common.{◌≡◌, ℕ, zero, suc, ◌+◌, List, [], ◌∷◌, ◌++◌, take, map, Option, Some, None, option_map, ap, sym, ◌∙◌, refl, subst, arith, append-nil, add-one}
 use Rattle.std.proofs.lemmas.List.{append_assoc}
 use Rattle.std.specs.Prelude.{Err, Ok, String, slice_get}
 use Rattle.std.specs.declared.alloc.Global.{Global}
 use Rattle.o2_words.specs.declared.words.Verb.{Verb}
-use Rattle.o2_words.specs.declared.words.Verb.TheVariants.{Exe, Run, Check, Bench}
+use Rattle.o2_words.specs.declared.words.Verb.TheVariants.{Exe, Run, Check, Dump, Bench}
 use Rattle.o2_words.specs.Words.{IsCommandFor, verb_text}
 use Rattle.o2_words.proofs.Verbs.{one_command}
 use Rattle.o2_image.specs.Getters.{nth}
@@ -87,6 +87,7 @@ first_fault : (verb : Verb) (contents : Contents) (name input : List ℕ) (f : O
 first_fault Exe contents name input f e = ap (load_started input) e
 first_fault Run contents name input f e = ap (load_started input) e
 first_fault Check contents name input f e = e
+first_fault Dump contents name input f e = ap (load_started input) e
 first_fault (Bench count) contents name input f e = ap (load_started input) e
 
 module _ (words : List (String Global)) (may : Possible) (verb : Verb) (name : List ℕ) (command : IsCommandFor words verb name) where

@@ -4,7 +4,7 @@ use Rattle.std.proofs.lemmas.List.Sums.{sum_by-cons}
 use Rattle.std.specs.Prelude.{Ok, Err, Result, String, filter, sum}
 use Rattle.std.specs.declared.alloc.Global.{Global}
 use Rattle.o2_words.specs.declared.words.Verb.{Verb}
-use Rattle.o2_words.specs.declared.words.Verb.TheVariants.{Exe, Run, Check, Bench}
+use Rattle.o2_words.specs.declared.words.Verb.TheVariants.{Exe, Run, Check, Dump, Bench}
 use Rattle.o2_words.specs.Words.{IsCommandFor}
 use Rattle.o2_conf.specs.Dispatch.{Dispatch}
 use Rattle.o2_world.specs.Map.{Map}
@@ -25,6 +25,7 @@ use Rattle.o2_cli.specs.declared.status.Status.{Status}
 use Rattle.o2_cli.specs.declared.status.Status.TheVariants as status
 use Rattle.o2_cli.specs.Top.{IsCheck, IsFirst, IsRefused, Opened, Opens, Refuses, Shows, Possible, opened, OnFileFault, OnInputFault, OnSinkFault, OnSwapFault}
 use Rattle.o2_cli.specs.Ends.{HasStop}
+use Rattle.o2_cli.specs.DumpTexts.{IsForRoom}
 use Rattle.o2_cli.specs.Checks.{Checks}
 use Rattle.o2_cli.specs.Done.{HasAmple, Completes, CompletesCheck}
 use Rattle.o2_cli.specs.Statuses.{status_by}
@@ -66,12 +67,15 @@ no_full_swap blocks s w (inl live) full = absurd (omega (arith, live, full.memor
 no_full_swap blocks s w (inr fits) full = absurd (omega (arith, fits.1, full.swap))
 
 -- where a command's run stops, and why
-stopped_at : (verb : Verb) (blocks : ℕ) (o : Opened) (why : Stop) (j c d r q : Option (List ℕ)) (e : Type 0) (n : Counts) → HasStop verb blocks o why j c d r q e n
+stopped_at : (verb : Verb) (blocks : ℕ) (o : Opened) (why : Stop) → IsForRoom why → (j c d r q : Option (List ℕ)) (e : Type 0) (n : Counts) → HasStop verb blocks o why j c d r q e n
     → (k : ℕ) × IsBelowLast o.setting o.world k × StopsFor blocks o.setting (after o.setting o.world k) why
-stopped_at Exe blocks o why j c d r q e n t = (t.steps, t.below, t.cause)
-stopped_at Run blocks o why j c d r q e n t = (t.steps, t.below, t.cause)
-stopped_at Check blocks o why j c d r q e n t = absurd t
-stopped_at (Bench count) blocks o why j c d r q e n t = (t.run.steps, t.run.below, t.run.cause)
+stopped_at Exe blocks o why room j c d r q e n t = (t.steps, t.below, t.cause)
+stopped_at Run blocks o why room j c d r q e n t = (t.steps, t.below, t.cause)
+stopped_at Check blocks o why room j c d r q e n t = absurd t
+stopped_at Dump blocks o NoRoom room j c d r q e n t = (t.run.steps, t.run.below, t.run.cause)
+stopped_at Dump blocks o SwapFull room j c d r q e n t = (t.run.steps, t.run.below, t.run.cause)
+stopped_at Dump blocks o why room j c d r q e n t = absurd room
+stopped_at (Bench count) blocks o why room j c d r q e n t = (t.run.steps, t.run.below, t.run.cause)
 
 -- What opens isn't refused.
 
@@ -80,6 +84,7 @@ opens_or : (verb : Verb) (contents : Contents) (name text : List ℕ) (f : OpenF
 opens_or Exe contents name text f o runs ok err = absurd (cc)
 opens_or Run contents name text f o runs ok err = absurd (cc)
 opens_or Check contents name text f o runs ok err = runs refl
+opens_or Dump contents name text f o runs ok err = absurd (cc)
 opens_or (Bench count) contents name text f o runs ok err = absurd (cc)
 
 links_or : (contents : Contents) (name : List ℕ) (f : OpenFault) (s : Session) → loaded Check contents name ≡ Ok s → loaded Check contents name ≡ Err f → ⊥
@@ -132,10 +137,10 @@ module _ (words : List (String Global)) (may : Possible) (files input sink devic
   completes blocks i j c d r q e n status.SwapFault refuses shows f g h k = λ runs contents text is left o nf ni ns nd. nd k
   completes blocks i j c d r q e n status.NoRoom refuses shows f g h k = λ runs contents text is left o nf ni ns nd.
       unstopped words may contents is text _ _ (shows runs contents text is left) o
-      (λ verb start stops ample. let at = stopped_at verb blocks start NoRoom j c d r q e n stops in no_stop_for_room blocks start.setting (after start.setting start.world at.0) (ample at.0 at.1) at.2)
+      (λ verb start stops ample. let at = stopped_at verb blocks start NoRoom tt j c d r q e n stops in no_stop_for_room blocks start.setting (after start.setting start.world at.0) (ample at.0 at.1) at.2)
   completes blocks i j c d r q e n status.SwapFull refuses shows f g h k = λ runs contents text is left o nf ni ns nd.
       unstopped words may contents is text _ _ (shows runs contents text is left) o
-      (λ verb start stops ample. let at = stopped_at verb blocks start SwapFull j c d r q e n stops in no_full_swap blocks start.setting (after start.setting start.world at.0) (ample at.0 at.1) at.2)
+      (λ verb start stops ample. let at = stopped_at verb blocks start SwapFull tt j c d r q e n stops in no_full_swap blocks start.setting (after start.setting start.world at.0) (ample at.0 at.1) at.2)
 
   pub check_completes : (c d : Option (List ℕ)) (answer : Status) → Refuses words may answer → Checks words may c d answer
       → OnFileFault answer files → OnSinkFault answer sink → CompletesCheck words may files sink answer

@@ -4,7 +4,7 @@ use Rattle.std.specs.Prelude.{Result, Ok, Err, String, min}
 use Rattle.std.specs.declared.alloc.Global.{Global}
 use Rattle.o2_base.specs.declared.faults.ModuleFault.{ModuleFault}
 use Rattle.o2_words.specs.declared.words.Verb.{Verb}
-use Rattle.o2_words.specs.declared.words.Verb.TheVariants.{Exe, Run, Check, Bench}
+use Rattle.o2_words.specs.declared.words.Verb.TheVariants.{Exe, Run, Check, Dump, Bench}
 use Rattle.o2_words.specs.Words.{IsCommandFor}
 use Rattle.o2_world.specs.World.{World, Setting}
 use Rattle.o2_world.specs.Starts.{Built, where_started}
@@ -238,6 +238,9 @@ runs_not_checks verb (inr run) check = let same : Run ≡ Check = sym run ∙ ch
 pub benches_not_checks : (verb : Verb) (count : ℕ) → verb ≡ Bench count → verb ≡ Check → ⊥
 benches_not_checks verb count bench check = let same : Bench count ≡ Check = sym bench ∙ check in absurd (cc)
 
+pub dumps_not_checks : (verb : Verb) → verb ≡ Dump → verb ≡ Check → ⊥
+dumps_not_checks verb dump check = let same : Dump ≡ Check = sym dump ∙ check in absurd (cc)
+
 -- what a session's run shows as `run`, it shows as `exe`
 pub shown_either : (verb : Verb) (s : Session) (blocks : ℕ) (i j c d r q : Option (List ℕ)) (e : Type 0) (n : Counts) (answer : Status) → (verb ≡ Exe) ⊎ (verb ≡ Run)
     → ShowsRun Run s blocks i j c d r q e n answer → ShowsRun verb s blocks i j c d r q e n answer
@@ -263,11 +266,17 @@ pub shown_bench : (verb : Verb) (count : ℕ) (s : Session) (blocks : ℕ) (i j 
     → ShowsRun (Bench count) s blocks i j c d r q e n answer → ShowsRun verb s blocks i j c d r q e n answer
 shown_bench verb count s blocks i j c d r q e n answer is t = subst (λ (v : Verb). ShowsRun v s blocks i j c d r q e n answer) (sym is) t
 
+-- and as a dump
+pub shown_dump : (verb : Verb) (s : Session) (blocks : ℕ) (i j c d r q : Option (List ℕ)) (e : Type 0) (n : Counts) (answer : Status) → verb ≡ Dump
+    → ShowsRun Dump s blocks i j c d r q e n answer → ShowsRun verb s blocks i j c d r q e n answer
+shown_dump verb s blocks i j c d r q e n answer is t = subst (λ (v : Verb). ShowsRun v s blocks i j c d r q e n answer) (sym is) t
+
 -- a refusal of a command that starts
 first_of : (verb : Verb) (contents : Contents) (name input : List ℕ) (f : OpenFault) → ((verb ≡ Check) → ⊥) → opened verb contents name input ≡ Err f → IsFirst verb contents name input f
 first_of Exe contents name input f starts e = e
 first_of Run contents name input f starts e = e
 first_of Check contents name input f starts e = absurd (starts refl)
+first_of Dump contents name input f starts e = e
 first_of (Bench count) contents name input f starts e = e
 
 module _ (words : List (String Global)) (may : Possible) (blocks : ℕ) (i j c d r q : Option (List ℕ)) (e : Type 0) (n : Counts) (verb : Verb) (name : List ℕ) (s : Session) (command : IsCommandFor words verb name)

@@ -1,5 +1,5 @@
 -- What a run says whose programs write to a sink that drops what it takes.
-use Rattle.std.proofs.Common.{◌≡◌, ◌≤◌, ◌⊎◌, ◌+◌, ◌^◌, ℕ, List, [], ◌++◌, Option, Some, ap, sym, ◌∙◌, append-nil, arith, inl, inr}
+use Rattle.std.proofs.Common.{◌≡◌, ◌⊎◌, ℕ, List, [], ◌++◌, Option, Some, ap, sym, ◌∙◌, append-nil, arith, inl, inr}
 use Rattle.std.specs.Prelude.{Result, Ok, Err, unwrap_or}
 use Rattle.o2_outer.specs.Texts.{Gains, Rose}
 use Rattle.o2_run.specs.declared.fault.Fault.{Fault}

@@ -2,7 +2,9 @@ pub mod Opening
 pub mod Unseen
 pub mod Statuses
 pub mod StatusTexts
+pub mod Lined
 pub mod BenchTexts
+pub mod DumpTexts
 pub mod Ends
 pub mod Top
 pub mod Checks

@@ -1,5 +1,5 @@
 -- What the run of a session comes to.
-use Rattle.std.specs.Prelude.{◌≡◌, ◌≤◌, ◌+◌, ℕ, List, length, Option, Some, Ok, Err}
+use Rattle.std.specs.Prelude.{◌≡◌, ◌≤◌, ◌+◌, ℕ, List, length, Option, Some, Err}
 use Rattle.o2_words.specs.declared.words.Verb.{Verb}
 use Rattle.o2_run.specs.Pieces.{Counts}
 use Rattle.o2_run.specs.declared.steps.Stop.{Stop}
@@ -21,8 +21,8 @@ StopsRun verb s blocks i j c d r q e n why = (input : List ℕ) → i ≡ Some i
 -- what its run shows as this command, by the status, where the device has so many blocks
 abbrev pub ShowsRun : Verb → Session → (blocks : ℕ)
     → (left_old left_new console_old console_new report_old report_new : Option (List ℕ)) → (fault : Type 0) → (puts : Counts) → Status → Type 0
-ShowsRun verb s blocks i j c d r q e n status.Fine = (input : List ℕ) → i ≡ Some input → StartsWith s input (λ o. HasEnd verb o j c d r q n)
-ShowsRun verb s blocks i j c d r q e n status.SinkFault = (input : List ℕ) → i ≡ Some input → StartsWith s input (λ o. HasPart verb o j c d r q n)
+ShowsRun verb s blocks i j c d r q e n status.Fine = (input : List ℕ) → i ≡ Some input → StartsWith s input (λ o. HasEnd verb blocks o j c d r q n)
+ShowsRun verb s blocks i j c d r q e n status.SinkFault = (input : List ℕ) → i ≡ Some input → StartsWith s input (λ o. HasPart verb blocks o j c d r q e n)
 ShowsRun verb s blocks i j c d r q e n status.InputFault = StopsRun verb s blocks i j c d r q e n Input
 ShowsRun verb s blocks i j c d r q e n status.NoRoom = StopsRun verb s blocks i j c d r q e n NoRoom
 ShowsRun verb s blocks i j c d r q e n status.SwapFull = StopsRun verb s blocks i j c d r q e n SwapFull

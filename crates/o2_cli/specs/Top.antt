@@ -1,5 +1,5 @@
 -- What each status says of the words, the files, the input and both texts.
-use Rattle.std.specs.Prelude.{◌≡◌, ℕ, List, Option, Some, String, Result, Ok, Err}
+use Rattle.std.specs.Prelude.{◌≡◌, ℕ, List, Option, Some, String, Ok, Err}
 use Rattle.std.specs.declared.alloc.Global.{Global}
 use Rattle.o2_words.specs.declared.words.Verb.{Verb}
 use Rattle.o2_words.specs.declared.words.Verb.TheVariants.{Bench, Check}
@@ -87,8 +87,8 @@ Stops words may blocks i j c d r q e n why = Runs words may i (λ verb o. HasSto
 -- says that the report failed, and `blocks` how many blocks the device has
 abbrev pub Shows : List (String Global) → Possible → (blocks : ℕ)
     → (left_old left_new console_old console_new report_old report_new : Option (List ℕ)) → (fault : Type 0) → (puts : Counts) → Status → Type 0
-Shows words may blocks i j c d r q e n status.Fine = Runs words may i (λ verb o. HasEnd verb o j c d r q n)
-Shows words may blocks i j c d r q e n status.SinkFault = Runs words may i (λ verb o. HasPart verb o j c d r q n)
+Shows words may blocks i j c d r q e n status.Fine = Runs words may i (λ verb o. HasEnd verb blocks o j c d r q n)
+Shows words may blocks i j c d r q e n status.SinkFault = Runs words may i (λ verb o. HasPart verb blocks o j c d r q e n)
 Shows words may blocks i j c d r q e n status.InputFault = Stops words may blocks i j c d r q e n Input
 Shows words may blocks i j c d r q e n status.NoRoom = Stops words may blocks i j c d r q e n NoRoom
 Shows words may blocks i j c d r q e n status.SwapFull = Stops words may blocks i j c d r q e n SwapFull

@@ -14,6 +14,7 @@ ghost use Rattle.o2_cli.specs.Done.{Completes, CompletesCheck, HasMemory};
 use crate::Status;
 use crate::begun::begun;
 use crate::bench::bench_session;
+use crate::dump::dump_session;
 use crate::lines::lines;
 use o2_base::Bytes;
 use o2_open::{Session, open};
@@ -39,7 +40,8 @@ pub fn os2run<F: Files, I: Source, C: Sink, R: Sink, S: SwapDevice>(
     ensures refused { Refuses words.now (F.may_hold files.new) result }
     // Both texts are those of the boundless machine over all files that agree with what was fetched, or fronts of them, where each
     // block that was read had what was written to it last; each line of the report is one put, and so is the piece for the console
-    // of each step that has one. Of a bench the console gains its line alone, by one put, where the run is over.
+    // of each step that has one. Of a bench the console gains its line alone, by one put, where the run is over; of a dump a core image
+    // that stands for the world at its end, or for that of a stop for room or for swap whose line was put.
     ensures texts { IsTrue (S.told swap.new) → Shows words.now (F.may_hold files.new) (S.blocks swap.old)
         (I.left input.old) (I.left input.new) (C.taken console.old) (C.taken console.new)
         (R.taken report.old) (R.taken report.new) (Rose (R.faults report.old) (R.faults report.new))
@@ -104,6 +106,7 @@ pub fn os2run<F: Files, I: Source, C: Sink, R: Sink, S: SwapDevice>(
         Err(fault) => Status::from(fault),
         Ok(session) => match command.verb {
             Verb::Check => check_session(alloc, &session, console),
+            Verb::Dump => dump_session(alloc, session, input, console, report, swap),
             Verb::Bench(count) => {
                 bench_session(alloc, session, count, input, console, report, swap)
             }

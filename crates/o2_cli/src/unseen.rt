@@ -4,19 +4,21 @@ ghost use Rattle.o2_outer.specs.Inputs.{GoesOn, IsSeenAs, left_as};
 ghost use Rattle.o2_outer.specs.Texts.{Gains, Rose};
 ghost use Rattle.o2_world.specs.Text.{lines_text};
 ghost use Rattle.o2_world.specs.World.{Setting, World};
-ghost use Rattle.o2_run.specs.Ended.{EndsAs, HasTexts};
+ghost use Rattle.o2_run.specs.Ended.{EndsAs};
 ghost use Rattle.o2_run.specs.Faults.{Caused};
 ghost use Rattle.o2_run.specs.Pieces.{counts};
 ghost use Rattle.o2_machine.specs.GoesOver.{GoesOver};
-ghost use Rattle.o2_machine.specs.Lasts.{machine_swaps, stopped_of};
+ghost use Rattle.o2_machine.specs.Lasts.{machine_swaps, put_of, stopped_of};
 ghost use Rattle.o2_machine.specs.StandsFor.{StandsFor};
+ghost use Rattle.o2_cli.specs.Lined.{HasLined};
 ghost use Rattle.o2_cli.specs.Unseen.{Written};
 
+use crate::lined::run_lined;
 use o2_machine::Machine;
 use o2_outer::{NoSink, Sink, Source, SwapDevice};
-use o2_run::{Fault, run};
+use o2_run::Fault;
 
-/// Runs a machine to its end or its stop. What its programs write is counted by the machine, and goes nowhere.
+/// Runs a machine to its end or its stop, and tells whether a stop line was put whole. What its programs write is counted by the machine, and goes nowhere.
 pub(crate) fn run_unseen<I: Source, R: Sink, S: SwapDevice>(
     machine: &mut Machine,
     input: &mut I,
@@ -28,10 +30,10 @@ pub(crate) fn run_unseen<I: Source, R: Sink, S: SwapDevice>(
         → (s : Setting) (w : World) (r : Option (List ℕ)) → StandsFor machine.old (S.blocks swap.old) (S.block swap.old) s w
         → left_as text (I.left input.old) (I.past input.old) ≡ Some w.input
         → w.console ≡ [] → Gains r (R.taken report.old) (lines_text w.lines)
-        → (z : Written) × HasTexts (StandsFor machine.new (S.blocks swap.new) (S.block swap.new) s) machine_swaps (S.blocks swap.old) s w
+        → (z : Written) × HasLined (StandsFor machine.new (S.blocks swap.new) (S.block swap.new) s) machine_swaps (S.blocks swap.old) s w
         (left_as text (I.left input.new) (I.past input.new))
         (Some []) (Some z.bytes) r (R.taken report.new) (Rose (R.faults report.old) (R.faults report.new))
-        (counts 0 z.pieces (R.puts report.old) (R.puts report.new) (length w.lines)) result }
+        (counts 0 z.pieces (R.puts report.old) (R.puts report.new) (length w.lines)) (put_of machine.new.last) result }
     ensures goes_on { GoesOn (I.past input.old) (I.past input.new) }
     ensures stopped { EndsAs (stopped_of machine.new.last) result }
     ensures device { GoesOver machine.new.space machine.new.sched (S.blocks swap.new) }
@@ -46,5 +48,5 @@ pub(crate) fn run_unseen<I: Source, R: Sink, S: SwapDevice>(
         (Rose (I.faults input.old) (I.faults input.new)) (Unit {0}) (Rose (S.faults swap.old) (S.faults swap.new)) result }
 {
     let mut programs = NoSink::new();
-    run(machine, input, &mut programs, report, swap)
+    run_lined(machine, input, &mut programs, report, swap)
 }

@@ -33,7 +33,7 @@ few_by b next DosLockSeg few = if_no (has_arguments b.view b.cpu 1) _ (trapped b
 few_by b next DosUnlockSeg few = if_no (has_arguments b.view b.cpu 1) _ (trapped b 12) few
 few_by b next DosCreateCsAlias few = if_no (has_arguments b.view b.cpu 3) _ (trapped b 12) few
 
-pub too_few : (v : View) (c : Cpu) (call : SegmentCall) → ((f : Filling) → IsBound v → has_arguments (boundless f v) c (segment_words call) ≡ false) → Gathers v c call (Trap 12)
+pub too_few : (v : View) (c : Cpu) (call : SegmentCall) → ((f : Filling) → IsBound v → has_arguments (boundless f v) c (segment_words call) ≡ false) → Gathers v c (OnSegments call) (Trap 12)
 too_few v c call few = record {
   asks = λ f number next input known bound. few_by (before_call (boundless f v) number c input known) next call (few f bound);
   points = λ f number input known bound. tt;
@@ -55,7 +55,7 @@ record IsRow (v : View) (c : Cpu) (call : SegmentCall) (a : SegmentArguments) : 
   row : (f : Filling) (number next : ℕ) (input : List ℕ) (known : Known) → IsBound v
       → let b = before_call (boundless f v) number c input known in on_segments call b next ≡ asked a b next
 
-unaimed : (v : View) (c : Cpu) (call : SegmentCall) (a : SegmentArguments) → targets a ≡ [] → ((x : ℕ → ℕ) → segment_pointers call x ≡ []) → IsRow v c call a → Gathers v c call (Good a)
+unaimed : (v : View) (c : Cpu) (call : SegmentCall) (a : SegmentArguments) → targets a ≡ [] → ((x : ℕ → ℕ) → segment_pointers call x ≡ []) → IsRow v c call a → Gathers v c (OnSegments call) (Good a)
 unaimed v c call a none nowhere is = record {
   asks = is.row;
   points = λ f number input known bound.
@@ -84,13 +84,13 @@ module _ (v : View) (c : Cpu) (s : ℕ) (found : (f : Filling) → IsBound v →
   unfolding dos_unlock_seg
   unlock_row b next fits is = rw (fits, is) refl
 
-  pub free_gathers : Gathers v c DosFreeSeg (Good (given.Free s))
+  pub free_gathers : Gathers v c (OnSegments DosFreeSeg) (Good (given.Free s))
   free_gathers = unaimed v c DosFreeSeg (given.Free s) refl (λ x. refl) (record { fits = λ f bound. (one f bound).0; row = λ f number next input known bound. free_row (before_call (boundless f v) number c input known) next (one f bound).0 (one f bound).1 })
 
-  pub lock_gathers : Gathers v c DosLockSeg (Good (given.Lock s))
+  pub lock_gathers : Gathers v c (OnSegments DosLockSeg) (Good (given.Lock s))
   lock_gathers = unaimed v c DosLockSeg (given.Lock s) refl (λ x. refl) (record { fits = λ f bound. (one f bound).0; row = λ f number next input known bound. lock_row (before_call (boundless f v) number c input known) next (one f bound).0 (one f bound).1 })
 
-  pub unlock_gathers : Gathers v c DosUnlockSeg (Good (given.Unlock s))
+  pub unlock_gathers : Gathers v c (OnSegments DosUnlockSeg) (Good (given.Unlock s))
   unlock_gathers = unaimed v c DosUnlockSeg (given.Unlock s) refl (λ x. refl) (record { fits = λ f bound. (one f bound).0; row = λ f number next input known bound. unlock_row (before_call (boundless f v) number c input known) next (one f bound).0 (one f bound).1 })
 
 module _ (v : View) (c : Cpu) (size s : ℕ) (found : (f : Filling) → IsBound v → ◌≡◌ {A = Option (ℕ × ℕ)} (Some (size, s)) (if has_arguments (boundless f v) c 2 then Some (argument (boundless f v) c 1, argument (boundless f v) c 0) else None)) where
@@ -105,7 +105,7 @@ module _ (v : View) (c : Cpu) (size s : ℕ) (found : (f : Filling) → IsBound 
   unfolding dos_realloc_seg
   realloc_row b next fits first last = rw (fits, first, last) refl
 
-  pub realloc_gathers : Gathers v c DosReallocSeg (Good (given.Realloc size s))
+  pub realloc_gathers : Gathers v c (OnSegments DosReallocSeg) (Good (given.Realloc size s))
   realloc_gathers = unaimed v c DosReallocSeg (given.Realloc size s) refl (λ x. refl) (record { fits = λ f bound. (two f bound).0; row = λ f number next input known bound. realloc_row (before_call (boundless f v) number c input known) next (two f bound).0 (two f bound).1 (two f bound).2 })
 
 -- Calls with a pointer.
@@ -131,7 +131,7 @@ module _ (v : View) (c : Cpu) (call : SegmentCall) (a : SegmentArguments) (s o n
       → ArePresent v (call_names (before_call (boundless f v) number c input known) (Some (OnSegments call)))
   there f number input known bound h = subst (ArePresent v) (names_are f number input known bound) h
 
-  pub aimed : (result : Gathered) → Aims v (pointer true s o n ∷ []) a result → Gathers v c call result
+  pub aimed : (result : Gathered) → Aims v (pointer true s o n ∷ []) a result → Gathers v c (OnSegments call) result
   aimed (Good x) aims = record {
     asks = λ f number next input known bound. is.good f number next input known bound (write_tells (before_call (boundless f v) number c input known) s o n true (aims.1.good f)) ∙ ap (λ (y : SegmentArguments). asked y (before_call (boundless f v) number c input known) next) (sym aims.0);
     points = λ f number input known bound.
@@ -186,7 +186,7 @@ module _ (v : View) (c : Cpu) (sel s o : ℕ) (found : (f : Filling) → IsBound
   pointer_is : (n : ℕ) (f : Filling) → IsBound v → (pointer_at (argument (boundless f v) c) 0 n is_writable ∷ []) ≡ pointer true s o n ∷ []
   pointer_is n f bound = let t = three f bound in ap (λ (x : ℕ). pointer true x (argument (boundless f v) c 0) n ∷ []) (sym t.2) ∙ ap (λ (x : ℕ). pointer true s x n ∷ []) (sym t.3)
 
-  pub size_gathers : (result : Gathered) → Aims v (pointer true s o 4 ∷ []) (given.Size sel s o) result → Gathers v c DosSizeSeg result
+  pub size_gathers : (result : Gathered) → Aims v (pointer true s o 4 ∷ []) (given.Size sel s o) result → Gathers v c (OnSegments DosSizeSeg) result
   size_gathers = aimed v c DosSizeSeg (given.Size sel s o) s o 4 (record {
     target = refl;
     fits = λ f bound. (three f bound).0;
@@ -195,7 +195,7 @@ module _ (v : View) (c : Cpu) (sel s o : ℕ) (found : (f : Filling) → IsBound
     bad = λ f number next input known bound bad. let t = three f bound in size_row (before_call (boundless f v) number c input known) next t.0 t.1 t.2 t.3 ∙ bad_size (before_call (boundless f v) number c input known) next bad;
   })
 
-  pub alias_gathers : (result : Gathered) → Aims v (pointer true s o 2 ∷ []) (given.Alias sel s o) result → Gathers v c DosCreateCsAlias result
+  pub alias_gathers : (result : Gathered) → Aims v (pointer true s o 2 ∷ []) (given.Alias sel s o) result → Gathers v c (OnSegments DosCreateCsAlias) result
   alias_gathers = aimed v c DosCreateCsAlias (given.Alias sel s o) s o 2 (record {
     target = refl;
     fits = λ f bound. (three f bound).0;
@@ -229,7 +229,7 @@ module _ (v : View) (c : Cpu) (size s o flags : ℕ)
   alloc_pointer : (f : Filling) → IsBound v → (pointer_at (argument (boundless f v) c) 1 2 is_writable ∷ []) ≡ pointer true s o 2 ∷ []
   alloc_pointer f bound = let t = four f bound in ap (λ (x : ℕ). pointer true x (argument (boundless f v) c 1) 2 ∷ []) (sym t.2) ∙ ap (λ (x : ℕ). pointer true s x 2 ∷ []) (sym t.3)
 
-  pub alloc_gathers : (result : Gathered) → Aims v (pointer true s o 2 ∷ []) (given.Alloc size s o flags) result → Gathers v c DosAllocSeg result
+  pub alloc_gathers : (result : Gathered) → Aims v (pointer true s o 2 ∷ []) (given.Alloc size s o flags) result → Gathers v c (OnSegments DosAllocSeg) result
   alloc_gathers = aimed v c DosAllocSeg (given.Alloc size s o flags) s o 2 (record {
     target = refl;
     fits = λ f bound. (four f bound).0;

@@ -256,7 +256,7 @@ module _ (n : ℕ) (w : View) (p : Pointer) (qs : List Pointer) where
   first_in m true false e = e
   first_in m false r e = absurd (cc)
 
-  names_first : (z : Bool) (o : Option Hold) → is_in n (cond z [] (passed w o p [])) ≡ true → is_in n (cond z rest_of (passed w o p rest_of)) ≡ true
+  pub names_first : (z : Bool) (o : Option Hold) → is_in n (cond z [] (passed w o p [])) ≡ true → is_in n (cond z rest_of (passed w o p rest_of)) ≡ true
   names_first true o e = absurd (cc)
   names_first false None e = absurd (cc)
   names_first false (Some h) e = first_in h.name (is_for_es w p.selector && p.good h.rights) (nat_le (p.offset + p.count) (length (w.bytes h.name))) e
@@ -297,7 +297,7 @@ module _ (n : ℕ) (w : View) (p : Pointer) (qs : List Pointer) where
   stop_hold None q here = here
   stop_hold (Some h) q here = stop_in h.name (is_for_es w p.selector) (p.good h.rights) (nat_le (p.offset + p.count) (length (w.bytes h.name))) q here
 
-  names_stop : (z : Bool) → ((z || (is_for_es w p.selector && has_range w.bytes p.good p.offset p.count (bound_in w.held p.selector))) && true) ≡ false
+  pub names_stop : (z : Bool) → ((z || (is_for_es w p.selector && has_range w.bytes p.good p.offset p.count (bound_in w.held p.selector))) && true) ≡ false
       → is_in n (cond z rest_of (passed w (bound_in w.held p.selector) p rest_of)) ≡ true → is_in n (cond z [] (passed w (bound_in w.held p.selector) p [])) ≡ true
   names_stop true q here = absurd (cc)
   names_stop false q here = stop_hold (bound_in w.held p.selector) (plain _ q) here

@@ -13,3 +13,7 @@ pub mod Writing
 pub mod Lines
 pub mod Arguments
 pub mod Replied
+pub mod Texts
+pub mod TextTests
+pub mod GatheredShares
+pub mod BothTests

@@ -4,7 +4,7 @@ use Rattle.o2_isa.specs.View.{Hold}
 use Rattle.o2_world.specs.SegmentCalls.{Written}
 use Rattle.o2_world.proofs.MapLemmas.{if_no}
 use Rattle.o2_gate.specs.declared.gathering.SegmentArguments.{SegmentArguments}
-use Rattle.o2_gate.specs.declared.gathering.SegmentArguments.TheVariants.{Alloc, Realloc, Free, Size, Lock, Unlock, Alias}
+use Rattle.o2_gate.specs.declared.gathering.SegmentArguments.TheVariants.{Alloc, Realloc, Free, Size, Lock, Unlock, Alias, Shared}
 use Rattle.o2_gate.specs.Replies.{bytes_by, moved_by}
 
 not_none : (n : ℕ) → (n ≡ 0 → ⊥) → (n == 0) ≡ false
@@ -22,3 +22,4 @@ none_moved (Size selector s o) number error value some = refl
 none_moved (Lock selector) number error value some = refl
 none_moved (Unlock selector) number error value some = refl
 none_moved (Alias selector s o) number error value some = if_no (error == 0) _ [] (not_none error some)
+none_moved (Shared a) number error value some = if_no (error == 0) _ [] (not_none error some)

@@ -4,8 +4,7 @@ use Rattle.o2_world.specs.declared.types.Row.{Row}
 use Rattle.o2_world.specs.declared.types.Row.TheVariants.{OnSegments, OnShared}
 use Rattle.o2_world.specs.declared.types.SegmentCall.{SegmentCall}
 use Rattle.o2_world.specs.declared.types.SharedCall.{SharedCall}
-use Rattle.o2_world.specs.Calls.{Before, Effect, IsPlain, IsUnshared, row_of, served, served_by, serviced}
-use Rattle.o2_world.proofs.Rows.{built_is_unshared}
+use Rattle.o2_world.specs.Calls.{Before, Effect, IsPlain, row_of, served, served_by, serviced}
 
 pub by_row : (P : Effect → Type 0) (b : Before) (service next : ℕ) (o : Option Row) (found row : Row) → o ≡ row_of service → o ≡ Some found → found ≡ row → P (served row b next) → P (serviced b service next)
 by_row P b service next o found row e f is h = subst (λ (r : Option Row). P (served_by r b next)) (sym (ap Some is) ∙ sym f ∙ e) h
@@ -20,7 +19,3 @@ is_plain service o r row plain found e is = subst IsPlain (sym (ap Some is) ∙ 
 -- and none that shares segments
 pub not_shared : (service : ℕ) (o : Option Row) (r : Row) (call : SharedCall) → IsPlain (row_of service) → o ≡ row_of service → o ≡ Some r → r ≡ OnShared call → ⊥
 not_shared service o r call plain found e is = subst IsPlain (sym found ∙ e ∙ ap Some is) plain
-
--- no service that is built shares segments
-pub none_shares : (service : ℕ) (o : Option Row) (r : Row) (call : SharedCall) → o ≡ row_of service → o ≡ Some r → r ≡ OnShared call → ⊥
-none_shares service o r call found e is = subst IsUnshared (sym found ∙ e ∙ ap Some is) (built_is_unshared service)

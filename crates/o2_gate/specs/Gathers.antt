@@ -4,18 +4,21 @@ use Rattle.o2_isa.specs.declared.cpu.Cpu.{Cpu}
 use Rattle.o2_isa.specs.View.{View, Filling, IsBound}
 use Rattle.o2_isa.specs.Presence.{IsMissed}
 use Rattle.o2_world.specs.declared.types.Argument.TheVariants.{Word, Far}
-use Rattle.o2_world.specs.declared.types.Row.TheVariants.{OnSegments}
-use Rattle.o2_world.specs.declared.types.SegmentCall.{SegmentCall}
-use Rattle.o2_world.specs.Calls.{Before, Effect, trapped}
+use Rattle.o2_world.specs.declared.types.Row.{Row}
+use Rattle.o2_world.specs.declared.types.Row.TheVariants.{OnSegments, OnShared}
+use Rattle.o2_world.specs.Calls.{Before, Effect, served, trapped}
 use Rattle.o2_world.specs.Known.{Known}
 use Rattle.o2_world.specs.Rulings.{aliasing, allocation, sizing}
-use Rattle.o2_world.specs.SegmentCalls.{alloc_args, freed, locked, on_segments, reallocated, ruled_at, unlocked, written_long, written_word}
+use Rattle.o2_world.specs.SegmentCalls.{alloc_args, freed, locked, reallocated, ruled_at, unlocked, written_long, written_word}
 use Rattle.o2_run.specs.Room.{Pointer, call_names, pointed}
 use Rattle.o2_gate.specs.declared.gathering.SegmentArguments.{SegmentArguments}
 use Rattle.o2_gate.specs.declared.gathering.SegmentArguments.TheVariants as given
+use Rattle.o2_gate.specs.declared.gathering.AskedCall.{AskedCall}
+use Rattle.o2_gate.specs.declared.gathering.AskedCall.TheVariants as called
 use Rattle.o2_gate.specs.declared.gathering.Gathered.{Gathered}
 use Rattle.o2_gate.specs.declared.gathering.Gathered.TheVariants.{Good, Trap, Missed}
 use Rattle.o2_gate.specs.Befores.{boundless, before_call}
+use Rattle.o2_gate.specs.SharedReplies.{asked_shared, shared_targets}
 use Rattle.o2_gate.specs.Pointed.{ArePresent, IsAway, IsBadTest, IsGoodTest, IsMissedTest, are_ready, pointer}
 
 -- the call with these arguments, whose pointer is good
@@ -33,6 +36,7 @@ asked (given.Unlock selector) b next = unlocked b next selector
 asked (given.Alias selector s o) b next =
     let r = aliasing b.known b.number selector in
     ruled_at b next 3 (codes "DosCreateCSAlias") (Word selector ∷ Far s o ∷ []) (written_word s o r.value) r
+asked (given.Shared a) b next = asked_shared a b next
 
 -- its pointers
 abbrev pub targets : SegmentArguments → List Pointer
@@ -43,12 +47,18 @@ targets (given.Size selector s o) = pointer true s o 4 ∷ []
 targets (given.Lock selector) = []
 targets (given.Unlock selector) = []
 targets (given.Alias selector s o) = pointer true s o 2 ∷ []
+targets (given.Shared a) = shared_targets a
+
+-- the row of a call that isn't made over the bus
+abbrev pub row_for : AskedCall → Row
+row_for (called.Segments call) = OnSegments call
+row_for (called.Shared call) = OnShared call
 
 -- what the row of the call is then: that of its arguments, or an exception
-abbrev pub Asks : Before → (next : ℕ) → SegmentCall → Gathered → Type 0
-Asks b next call (Good a) = on_segments call b next ≡ asked a b next
-Asks b next call (Trap vector) = on_segments call b next ≡ trapped b vector
-Asks b next call (Missed s) = Unit {0}
+abbrev pub Asks : Before → (next : ℕ) → Row → Gathered → Type 0
+Asks b next row (Good a) = served row b next ≡ asked a b next
+Asks b next row (Trap vector) = served row b next ≡ trapped b vector
+Asks b next row (Missed s) = Unit {0}
 
 abbrev pub AreReady : View → Gathered → Type 0
 AreReady v (Good a) = are_ready v (targets a) ≡ true
@@ -67,20 +77,20 @@ NamesFor v names (Trap vector) = (f : Filling) → ArePresent v (names f)
 NamesFor v names (Missed s) = (f : Filling) → IsMissed v s (names f)
 
 -- the names that the call passes as pointers are those of its arguments
-abbrev pub Points : Before → SegmentCall → Gathered → Type 0
-Points b call (Good a) = call_names b (Some (OnSegments call)) ≡ pointed b.view (targets a)
-Points b call (Trap vector) = Unit {0}
-Points b call (Missed s) = Unit {0}
+abbrev pub Points : Before → Row → Gathered → Type 0
+Points b row (Good a) = call_names b (Some row) ≡ pointed b.view (targets a)
+Points b row (Trap vector) = Unit {0}
+Points b row (Missed s) = Unit {0}
 
 -- over a bus with this view: the row by what was found, whatever is absent; the pointer is ready for a write; what is missed is
 -- absent, and is behind the call's pointer, which passes
-pub record Gathers (v : View) (c : Cpu) (call : SegmentCall) (result : Gathered) : Type 0 where
-  pub asks : (f : Filling) (number next : ℕ) (input : List ℕ) (known : Known) → IsBound v → Asks (before_call (boundless f v) number c input known) next call result
-  pub points : (f : Filling) (number : ℕ) (input : List ℕ) (known : Known) → IsBound v → Points (before_call (boundless f v) number c input known) call result
+pub record Gathers (v : View) (c : Cpu) (row : Row) (result : Gathered) : Type 0 where
+  pub asks : (f : Filling) (number next : ℕ) (input : List ℕ) (known : Known) → IsBound v → Asks (before_call (boundless f v) number c input known) next row result
+  pub points : (f : Filling) (number : ℕ) (input : List ℕ) (known : Known) → IsBound v → Points (before_call (boundless f v) number c input known) row result
   pub ready : AreReady v result
   pub gone : IsGone v result
   pub names : (number : ℕ) (input : List ℕ) (known : Known) → IsBound v
-      → NamesFor v (λ f. call_names (before_call (boundless f v) number c input known) (Some (OnSegments call))) result
+      → NamesFor v (λ f. call_names (before_call (boundless f v) number c input known) (Some row)) result
 
 -- arguments with pointers that were tested
 abbrev pub Aims : View → List Pointer → SegmentArguments → Gathered → Type 0

@@ -6,3 +6,5 @@ pub mod Gathers
 pub mod Replies
 pub mod Writes
 pub mod Pieces
+pub mod SharedReplies
+pub mod Texts

@@ -2,13 +2,14 @@
 use Rattle.std.specs.Prelude.{ℕ, ◌/◌, ◌≤◌, ◌==◌, List, [], ◌∷◌, Option, Some, None, if◌then◌else◌, codes}
 use Rattle.o2_base.specs.Selectors.{selector_of}
 use Rattle.o2_isa.specs.View.{Hold}
-use Rattle.o2_isa.specs.Pointers.{put_at_pointer}
 use Rattle.o2_world.specs.declared.types.Argument.{Argument}
 use Rattle.o2_world.specs.declared.types.Argument.TheVariants.{Word, Far}
 use Rattle.o2_world.specs.World.{Line, HoldsBy, DropsBy, Calls}
 use Rattle.o2_world.specs.SegmentCalls.{Written, alloc_args, written_long, written_word}
 use Rattle.o2_gate.specs.declared.gathering.SegmentArguments.{SegmentArguments}
-use Rattle.o2_gate.specs.declared.gathering.SegmentArguments.TheVariants.{Alloc, Realloc, Free, Size, Lock, Unlock, Alias}
+use Rattle.o2_gate.specs.SharedReplies.{IsSharedValue, shared_args, shared_moved, shared_name, shared_words, shared_written}
+pub use Rattle.o2_gate.specs.SharedReplies.{bytes_by, values_by}
+use Rattle.o2_gate.specs.declared.gathering.SegmentArguments.TheVariants.{Alloc, Realloc, Free, Size, Lock, Unlock, Alias, Shared}
 
 abbrev pub name_of : SegmentArguments → List ℕ
 name_of (Alloc size s o flags) = codes "DosAllocSeg"
@@ -18,6 +19,7 @@ name_of (Size selector s o) = codes "DosSizeSeg"
 name_of (Lock selector) = codes "DosLockSeg"
 name_of (Unlock selector) = codes "DosUnlockSeg"
 name_of (Alias selector s o) = codes "DosCreateCSAlias"
+name_of (Shared a) = shared_name a
 
 -- how many words its arguments take
 abbrev pub words_of : SegmentArguments → ℕ
@@ -28,6 +30,7 @@ words_of (Size selector s o) = 3
 words_of (Lock selector) = 1
 words_of (Unlock selector) = 1
 words_of (Alias selector s o) = 3
+words_of (Shared a) = shared_words a
 
 -- its arguments as its line has them
 abbrev pub args_of : SegmentArguments → List Argument
@@ -38,6 +41,7 @@ args_of (Size selector s o) = Word selector ∷ Far s o ∷ []
 args_of (Lock selector) = Word selector ∷ []
 args_of (Unlock selector) = Word selector ∷ []
 args_of (Alias selector s o) = Word selector ∷ Far s o ∷ []
+args_of (Shared a) = shared_args a
 
 -- what it writes behind its pointer where there is no error
 abbrev pub written_of : SegmentArguments → (value : ℕ) → Option Written
@@ -48,16 +52,9 @@ written_of (Size selector s o) value = Some (written_long s o value)
 written_of (Lock selector) value = None
 written_of (Unlock selector) value = None
 written_of (Alias selector s o) value = Some (written_word s o value)
+written_of (Shared a) value = shared_written a value
 
 -- The values of its line, the bytes behind it, and its lines: at an error nothing is written, and no hold came or went.
-
-abbrev pub values_by : (error : ℕ) → Option Written → List Argument
-values_by error None = []
-values_by error (Some t) = if error == 0 then t.shown ∷ [] else []
-
-abbrev pub bytes_by : (error : ℕ) → Option Written → (ℕ → Option Hold) → (ℕ → List ℕ) → ℕ → List ℕ
-bytes_by error None held bytes = bytes
-bytes_by error (Some t) held bytes = if error == 0 then put_at_pointer held bytes t.selector t.offset t.part else bytes
 
 abbrev pub bytes_of : SegmentArguments → (error value : ℕ) → (ℕ → Option Hold) → (ℕ → List ℕ) → ℕ → List ℕ
 bytes_of a error value = bytes_by error (written_of a value)
@@ -74,6 +71,7 @@ moved_by (Size selector s o) number error value = []
 moved_by (Lock selector) number error value = []
 moved_by (Unlock selector) number error value = []
 moved_by (Alias selector s o) number error value = if error == 0 then HoldsBy number value (codes "DosCreateCSAlias") ∷ [] else []
+moved_by (Shared a) number error value = shared_moved a number error value
 
 abbrev pub lines_of : SegmentArguments → (number error value : ℕ) → List Line
 lines_of a number error value = call_line a number error value ∷ moved_by a number error value
@@ -87,3 +85,4 @@ IsValue (Size selector s o) value = Unit {0}
 IsValue (Lock selector) value = Unit {0}
 IsValue (Unlock selector) value = Unit {0}
 IsValue (Alias selector s o) value = value ≤ 65535
+IsValue (Shared a) value = IsSharedValue a value

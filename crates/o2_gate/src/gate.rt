@@ -10,6 +10,7 @@ ghost use Rattle.o2_world.specs.Known.{Known};
 ghost use Rattle.o2_world.specs.Calls.{serviced, row_of as number_row, IsPlain};
 ghost use Rattle.o2_gate.specs.Befores.{boundless, before_call, IsKnown};
 ghost use Rattle.o2_gate.specs.Called.{Does, OnMissed};
+ghost use Rattle.o2_gate.specs.Gathers.{row_for};
 ghost use Rattle.o2_gate.specs.Pointed.{IsAway};
 ghost use Rattle.o2_gate.specs.Names.{TellsNames};
 ghost use Rattle.o2_run.specs.Room.{call_names};
@@ -18,6 +19,7 @@ ghost use Rattle.o2_gate.specs.Pieces.{CallHands};
 ghost use Rattle.o2_run.specs.Pieces.{counts, PartHands};
 
 use crate::exit::dos_exit;
+use crate::gathering::AskedCall;
 use crate::mem_avail::dos_mem_avail;
 use crate::pid::dos_get_pid;
 use crate::read::dos_read;
@@ -27,7 +29,7 @@ use o2_bus::Ranges;
 use o2_isa::Cpu;
 use o2_outer::{Sink, Source};
 use o2_run::Fault;
-use o2_world::{Row, SegmentCall};
+use o2_world::{Row, SegmentCall, SharedCall};
 
 /// The row of a service, where it has one.
 fn row_of(service: u16) -> Option<Row>
@@ -47,14 +49,18 @@ fn row_of(service: u16) -> Option<Row>
         9 => Some(Row::OnSegments(SegmentCall::DosLockSeg)),
         10 => Some(Row::OnSegments(SegmentCall::DosUnlockSeg)),
         11 => Some(Row::OnSegments(SegmentCall::DosCreateCsAlias)),
+        12 => Some(Row::OnShared(SharedCall::DosAllocShrSeg)),
+        13 => Some(Row::OnShared(SharedCall::DosGetShrSeg)),
+        14 => Some(Row::OnShared(SharedCall::DosGiveSeg)),
+        15 => Some(Row::OnShared(SharedCall::DosGetSeg)),
         19 => Some(Row::DosMemAvail),
         _ => None,
     }
 }
 
-/// The call on segments that a service is, where it is one.
-pub fn segment_call(service: u16) -> Option<SegmentCall>
-    ensures some { IfSome result (λ call. number_row service ≡ Some (Row.OnSegments call)) }
+/// The call that a service is, where it isn't made over the bus.
+pub fn asked_call(service: u16) -> Option<AskedCall>
+    ensures some { IfSome result (λ call. number_row service ≡ Some (row_for call)) }
     ensures none { result ≡ None → IsPlain (number_row service) }
 {
     match row_of(service) {
@@ -64,8 +70,8 @@ pub fn segment_call(service: u16) -> Option<SegmentCall>
         Some(Row::DosRead) => None,
         Some(Row::DosWrite) => None,
         Some(Row::DosMemAvail) => None,
-        Some(Row::OnSegments(call)) => Some(call),
-        Some(Row::OnShared(_)) => unreachable!(),
+        Some(Row::OnSegments(call)) => Some(AskedCall::Segments(call)),
+        Some(Row::OnShared(call)) => Some(AskedCall::Shared(call)),
     }
 }
 

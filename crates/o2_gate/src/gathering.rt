@@ -1,15 +1,19 @@
 // What a call on segments is given: its arguments, and whether its pointer is good. Nothing is changed yet.
 ghost use Rattle.std.specs.Prelude.{◌≡◌, ◌∷◌, [], true};
+ghost use Rattle.o2_world.specs.declared.types.Row.TheVariants.{OnSegments, OnShared};
 ghost use Rattle.o2_world.specs.declared.types.SegmentCall.TheVariants as segments;
-ghost use Rattle.o2_gate.specs.Gathers.{Aims, Gathers};
+ghost use Rattle.o2_world.specs.declared.types.SharedCall.TheVariants as shared;
+ghost use Rattle.o2_gate.specs.Gathers.{Aims, Gathers, row_for};
 ghost use Rattle.o2_gate.specs.Pointed.{pointer};
 
 use crate::pointer::{Pointed, test};
-use crate::stack::{four_arguments, one_argument, three_arguments, two_arguments};
+use crate::sharing::SharedArguments;
+use crate::stack::{five_arguments, four_arguments, one_argument, three_arguments, two_arguments};
+use crate::text::{ReadText, read_both};
 use o2_base::Selector;
-use o2_bus::Bus;
+use o2_bus::{Bus, Ranges};
 use o2_isa::Cpu;
-use o2_world::SegmentCall;
+use o2_world::{SegmentCall, SharedCall};
 
 /// The arguments of a call on segments. Where a value is wanted, its selector and offset.
 #[derive(Clone, Copy, Debug, PartialEq, Eq)]
@@ -37,6 +41,17 @@ pub enum SegmentArguments {
         to_selector: u16,
         to_offset: u16,
     },
+    /// Of a call by which processes share segments.
+    Shared(SharedArguments),
+}
+
+/// A call that isn't made over the bus: it changes what processes hold, or segments, or reads more of them than the process sees.
+#[derive(Clone, Copy, Debug, PartialEq, Eq)]
+pub enum AskedCall {
+    /// On segments.
+    Segments(SegmentCall),
+    /// By which processes share segments.
+    Shared(SharedCall),
 }
 
 /// What the arguments of a call on segments come to.
@@ -70,7 +85,7 @@ fn aim<B: Bus>(
 
 fn gather_alloc<B: Bus>(cpu: &Cpu, bus: &mut B) -> Gathered
     ensures same { B.view bus.new ≡ B.view bus.old }
-    ensures gathers { Gathers (B.view bus.old) cpu.now segments.DosAllocSeg result }
+    ensures gathers { Gathers (B.view bus.old) cpu.now (OnSegments segments.DosAllocSeg) result }
 {
     match four_arguments(bus, cpu) {
         None => Gathered::Trap(12),
@@ -87,7 +102,7 @@ fn gather_alloc<B: Bus>(cpu: &Cpu, bus: &mut B) -> Gathered
 }
 
 fn gather_realloc<B: Bus>(cpu: &Cpu, bus: &B) -> Gathered
-    ensures gathers { Gathers (B.view bus.now) cpu.now segments.DosReallocSeg result }
+    ensures gathers { Gathers (B.view bus.now) cpu.now (OnSegments segments.DosReallocSeg) result }
 {
     match two_arguments(bus, cpu) {
         None => Gathered::Trap(12),
@@ -96,7 +111,7 @@ fn gather_realloc<B: Bus>(cpu: &Cpu, bus: &B) -> Gathered
 }
 
 fn gather_free<B: Bus>(cpu: &Cpu, bus: &B) -> Gathered
-    ensures gathers { Gathers (B.view bus.now) cpu.now segments.DosFreeSeg result }
+    ensures gathers { Gathers (B.view bus.now) cpu.now (OnSegments segments.DosFreeSeg) result }
 {
     match one_argument(bus, cpu) {
         None => Gathered::Trap(12),
@@ -106,7 +121,7 @@ fn gather_free<B: Bus>(cpu: &Cpu, bus: &B) -> Gathered
 
 fn gather_size<B: Bus>(cpu: &Cpu, bus: &mut B) -> Gathered
     ensures same { B.view bus.new ≡ B.view bus.old }
-    ensures gathers { Gathers (B.view bus.old) cpu.now segments.DosSizeSeg result }
+    ensures gathers { Gathers (B.view bus.old) cpu.now (OnSegments segments.DosSizeSeg) result }
 {
     match three_arguments(bus, cpu) {
         None => Gathered::Trap(12),
@@ -122,7 +137,7 @@ fn gather_size<B: Bus>(cpu: &Cpu, bus: &mut B) -> Gathered
 }
 
 fn gather_lock<B: Bus>(cpu: &Cpu, bus: &B) -> Gathered
-    ensures gathers { Gathers (B.view bus.now) cpu.now segments.DosLockSeg result }
+    ensures gathers { Gathers (B.view bus.now) cpu.now (OnSegments segments.DosLockSeg) result }
 {
     match one_argument(bus, cpu) {
         None => Gathered::Trap(12),
@@ -131,7 +146,7 @@ fn gather_lock<B: Bus>(cpu: &Cpu, bus: &B) -> Gathered
 }
 
 fn gather_unlock<B: Bus>(cpu: &Cpu, bus: &B) -> Gathered
-    ensures gathers { Gathers (B.view bus.now) cpu.now segments.DosUnlockSeg result }
+    ensures gathers { Gathers (B.view bus.now) cpu.now (OnSegments segments.DosUnlockSeg) result }
 {
     match one_argument(bus, cpu) {
         None => Gathered::Trap(12),
@@ -141,7 +156,7 @@ fn gather_unlock<B: Bus>(cpu: &Cpu, bus: &B) -> Gathered
 
 fn gather_alias<B: Bus>(cpu: &Cpu, bus: &mut B) -> Gathered
     ensures same { B.view bus.new ≡ B.view bus.old }
-    ensures gathers { Gathers (B.view bus.old) cpu.now segments.DosCreateCsAlias result }
+    ensures gathers { Gathers (B.view bus.old) cpu.now (OnSegments segments.DosCreateCsAlias) result }
 {
     match three_arguments(bus, cpu) {
         None => Gathered::Trap(12),
@@ -156,11 +171,10 @@ fn gather_alias<B: Bus>(cpu: &Cpu, bus: &mut B) -> Gathered
     }
 }
 
-/// The arguments of a call on segments by the process whose segments the bus shows, as far as it can go without a change: what
-/// the call does then is said by the arguments alone, whatever is absent.
-pub fn gather<B: Bus>(call: SegmentCall, cpu: &Cpu, bus: &mut B) -> Gathered
+/// The arguments of a call on segments.
+fn gather_segments<B: Bus>(call: SegmentCall, cpu: &Cpu, bus: &mut B) -> Gathered
     ensures same { B.view bus.new ≡ B.view bus.old }
-    ensures gathers { Gathers (B.view bus.old) cpu.now call result }
+    ensures gathers { Gathers (B.view bus.old) cpu.now (OnSegments call) result }
 {
     match call {
         SegmentCall::DosAllocSeg => gather_alloc(cpu, bus),
@@ -170,5 +184,102 @@ pub fn gather<B: Bus>(call: SegmentCall, cpu: &Cpu, bus: &mut B) -> Gathered
         SegmentCall::DosLockSeg => gather_lock(cpu, bus),
         SegmentCall::DosUnlockSeg => gather_unlock(cpu, bus),
         SegmentCall::DosCreateCsAlias => gather_alias(cpu, bus),
+    }
+}
+
+fn gather_name<B: Ranges>(cpu: &Cpu, bus: &mut B) -> Gathered
+    ensures same { B.view bus.new ≡ B.view bus.old }
+    ensures gathers { Gathers (B.view bus.old) cpu.now (OnShared shared.DosAllocShrSeg) result }
+{
+    match five_arguments(bus, cpu) {
+        None => Gathered::Trap(12),
+        Some((size, selector, offset, to_selector, to_offset)) => {
+            match read_both(bus, selector, offset, to_selector, to_offset) {
+                ReadText::Good(text) => {
+                    Gathered::Good(SegmentArguments::Shared(SharedArguments::Name {
+                        size,
+                        text,
+                        to_selector,
+                        to_offset,
+                    }))
+                }
+                ReadText::Bad => Gathered::Trap(13),
+                ReadText::Missed(sel) => Gathered::Missed(sel),
+            }
+        }
+    }
+}
+
+fn gather_share<B: Ranges>(cpu: &Cpu, bus: &mut B) -> Gathered
+    ensures same { B.view bus.new ≡ B.view bus.old }
+    ensures gathers { Gathers (B.view bus.old) cpu.now (OnShared shared.DosGetShrSeg) result }
+{
+    match four_arguments(bus, cpu) {
+        None => Gathered::Trap(12),
+        Some((selector, offset, to_selector, to_offset)) => {
+            match read_both(bus, selector, offset, to_selector, to_offset) {
+                ReadText::Good(text) => {
+                    Gathered::Good(SegmentArguments::Shared(SharedArguments::Share {
+                        text,
+                        to_selector,
+                        to_offset,
+                    }))
+                }
+                ReadText::Bad => Gathered::Trap(13),
+                ReadText::Missed(sel) => Gathered::Missed(sel),
+            }
+        }
+    }
+}
+
+fn gather_give<B: Bus>(cpu: &Cpu, bus: &mut B) -> Gathered
+    ensures same { B.view bus.new ≡ B.view bus.old }
+    ensures gathers { Gathers (B.view bus.old) cpu.now (OnShared shared.DosGiveSeg) result }
+{
+    match four_arguments(bus, cpu) {
+        None => Gathered::Trap(12),
+        Some((selector, to, to_selector, to_offset)) => {
+            let arguments = SegmentArguments::Shared(SharedArguments::Give {
+                selector,
+                to,
+                to_selector,
+                to_offset,
+            });
+            aim(bus, arguments, to_selector, to_offset, 2)
+        }
+    }
+}
+
+fn gather_get<B: Bus>(cpu: &Cpu, bus: &B) -> Gathered
+    ensures gathers { Gathers (B.view bus.now) cpu.now (OnShared shared.DosGetSeg) result }
+{
+    match one_argument(bus, cpu) {
+        None => Gathered::Trap(12),
+        Some(selector) => Gathered::Good(SegmentArguments::Shared(SharedArguments::Get(selector))),
+    }
+}
+
+/// The arguments of a call by which processes share segments.
+fn gather_shared<B: Ranges>(call: SharedCall, cpu: &Cpu, bus: &mut B) -> Gathered
+    ensures same { B.view bus.new ≡ B.view bus.old }
+    ensures gathers { Gathers (B.view bus.old) cpu.now (OnShared call) result }
+{
+    match call {
+        SharedCall::DosAllocShrSeg => gather_name(cpu, bus),
+        SharedCall::DosGetShrSeg => gather_share(cpu, bus),
+        SharedCall::DosGiveSeg => gather_give(cpu, bus),
+        SharedCall::DosGetSeg => gather_get(cpu, bus),
+    }
+}
+
+/// The arguments of a call by the process whose segments the bus shows, as far as it can go without a change: what the call does
+/// then is said by the arguments alone, whatever is absent.
+pub fn gather<B: Ranges>(call: AskedCall, cpu: &Cpu, bus: &mut B) -> Gathered
+    ensures same { B.view bus.new ≡ B.view bus.old }
+    ensures gathers { Gathers (B.view bus.old) cpu.now (row_for call) result }
+{
+    match call {
+        AskedCall::Segments(call) => gather_segments(call, cpu, bus),
+        AskedCall::Shared(call) => gather_shared(call, cpu, bus),
     }
 }

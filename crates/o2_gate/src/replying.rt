@@ -15,6 +15,7 @@ ghost use Rattle.o2_gate.specs.Writes.{WritesHeld};
 
 use crate::gathering::SegmentArguments;
 use crate::pointer::store;
+use crate::sharing::{put_share, set_shared, shared_words, store_shared};
 use crate::stack::give_back;
 use o2_base::Selector;
 use o2_bus::Ranges;
@@ -26,7 +27,7 @@ use o2_world::Argument;
 /// How many words the arguments of a call take.
 fn words(arguments: SegmentArguments) -> u16
     ensures words { result ≡ words_of arguments }
-    ensures few { result ≤ 4 }
+    ensures few { result ≤ 5 }
 {
     match arguments {
         SegmentArguments::Alloc { .. } => 4,
@@ -36,11 +37,12 @@ fn words(arguments: SegmentArguments) -> u16
         SegmentArguments::Lock(_) => 1,
         SegmentArguments::Unlock(_) => 1,
         SegmentArguments::Alias { .. } => 3,
+        SegmentArguments::Shared(shared) => shared_words(&shared),
     }
 }
 
 /// Writes a word behind a pointer that was found good.
-fn store_word<B: Ranges>(bus: &mut B, selector: u16, offset: u16, word: u16)
+pub(crate) fn store_word<B: Ranges>(bus: &mut B, selector: u16, offset: u16, word: u16)
     requires { is_ready is_writable (B.view bus.old) selector offset 2 ≡ true }
     ensures bytes { (f : Filling) (n : ℕ) → (whole f (B.view bus.new)).bytes n
         ≡ put_at_pointer (B.view bus.old).held (whole f (B.view bus.old)).bytes
@@ -102,11 +104,12 @@ fn store_value<B: Ranges>(bus: &mut B, arguments: SegmentArguments, value: u32)
             to_selector,
             to_offset,
         } => store_word(bus, to_selector, to_offset, value as u16),
+        SegmentArguments::Shared(shared) => store_shared(bus, &shared, value),
     }
 }
 
 /// The line of a call without a value.
-fn set_bare(line: &mut LineBuffer, pid: u16, name: &[u8], args: &[Argument], error: u16)
+pub(crate) fn set_bare(line: &mut LineBuffer, pid: u16, name: &[u8], args: &[Argument], error: u16)
     requires short_name { length name.now ≤ 20 }
     requires few_args { length args.now ≤ 12 }
     ensures { line.new ≡ line_text (Calls pid name.now args.now error []) }
@@ -115,7 +118,7 @@ fn set_bare(line: &mut LineBuffer, pid: u16, name: &[u8], args: &[Argument], err
 }
 
 /// The line of a call with a value, which it has where there is no error.
-fn set_valued(
+pub(crate) fn set_valued(
     line: &mut LineBuffer,
     pid: u16,
     name: &[u8],
@@ -195,11 +198,12 @@ fn set_reply(line: &mut LineBuffer, pid: u16, arguments: SegmentArguments, error
             let shown = Argument::Word(value as u16);
             set_valued(line, pid, b"DosCreateCSAlias", &args, error, shown);
         }
+        SegmentArguments::Shared(shared) => set_shared(line, pid, &shared, error, value),
     }
 }
 
 /// Puts the line of a hold that came, by one put.
-fn put_hold<R: Sink>(
+pub(crate) fn put_hold<R: Sink>(
     line: &mut LineBuffer,
     pid: u16,
     selector: u16,
@@ -237,7 +241,7 @@ fn put_drop<R: Sink>(
 }
 
 /// The selector of the same index with privilege level 3.
-fn own_selector(selector: u16) -> u16
+pub(crate) fn own_selector(selector: u16) -> u16
     ensures { result ≡ selector_of (selector / 8) }
 {
     let index = Selector(selector).index();
@@ -276,6 +280,7 @@ fn put_change<R: Sink>(
         SegmentArguments::Alias { .. } => {
             put_hold(line, pid, value as u16, b"DosCreateCSAlias", report)
         }
+        SegmentArguments::Shared(shared) => put_share(line, pid, &shared, value, report),
     }
 }
 

@@ -1,5 +1,5 @@
 -- What a step leaves of a world beside names, holds and reserved indexes: its texts, its input, its dispatch, and who lives.
-use Rattle.std.proofs.Common.{◌≡◌, ℕ, zero, suc, ◌-◌, ◌<◌, ◌==◌, Bool, true, false, List, [], ◌∷◌, ◌++◌, map, Option, Some, None, ap, sym, ◌∙◌, refl, subst, arith, slice_set, slice_index_or, if◌then◌else◌}
+use Rattle.std.proofs.Common.{◌≡◌, ℕ, zero, suc, ◌-◌, ◌<◌, ◌≤◌, ◌==◌, Bool, true, false, List, [], ◌∷◌, ◌++◌, map, Option, Some, None, ap, sym, ◌∙◌, refl, subst, arith, slice_set, slice_index_or, if◌then◌else◌}
 use Rattle.std.specs.List.{list_any}
 use Rattle.o2_conf.specs.Dispatch.{Dispatch, lives}
 use Rattle.o2_isa.specs.declared.cpu.Cpu.{Cpu}
@@ -7,6 +7,9 @@ use Rattle.o2_world.specs.declared.types.State.{State}
 use Rattle.o2_world.specs.Calls.{Before, Effect}
 use Rattle.o2_world.specs.Changes.{Change, Drops, Finishes, Frees, Holds, Locks, Makes, Marks, Names, Reserves, Resizes, at_number, at_place, swept, takes, with_all, with_change, with_changes}
 use Rattle.o2_world.specs.Known.{Known}
+use Rattle.o2_regions.specs.Maps.{Maps}
+use Rattle.o2_segs.specs.Sharing.{AreHeldAtMost}
+use Rattle.o2_shared.specs.Shares.{AreFew}
 use Rattle.o2_world.specs.Moves.{AllMoves, Moves, NoneMoves, OneAliased, OneLocked, OneMade, OneNamed, OneSized, OwnMoves, SomeFreed, SomeShared}
 use Rattle.o2_world.specs.Run.{all_changes, changed, live_flags, worked, working}
 use Rattle.o2_world.specs.SharedRulings.{each_more, one_more}
@@ -209,3 +212,7 @@ module _ (w : World) (d : Dispatch) (p : Process) (e : Effect) (flags : List Boo
       by_state : (z : Bool) → z ≡ false → (if z then e.changes else e.changes ++ Finishes d.current e.state ∷ []) ≡ e.changes ++ Finishes d.current e.state ∷ []
       by_state true f = absurd (cc)
       by_state false f = refl
+
+-- what no hold exceeds leaves room for one hold more of each
+pub few_left : (m : Maps) (most : ℕ) → most ≤ 4294967290 → AreHeldAtMost m most → AreFew m
+few_left m most few held = record { few = λ p i. (let h = held.each p i in omega (arith, h, few)) }

@@ -12,7 +12,8 @@ use Rattle.o2_dynlink.specs.Outcome.{LinkedParts}
 use Rattle.o2_image.specs.Getters.{nth}
 use Rattle.o2_image.specs.ImageList.{ImageList}
 use Rattle.o2_isa.specs.declared.cpu.Cpu.{Cpu}
-use Rattle.o2_regions.specs.Maps.{Maps}
+use Rattle.o2_regions.specs.declared.held.Held.{Held as HeldThere}
+use Rattle.o2_regions.specs.Maps.{Maps, held_at, holds_of}
 use Rattle.o2_store.specs.Shelf.{Shelf}
 use Rattle.o2_regions.specs.Lives.{lives as is_marked}
 use Rattle.o2_swapmap.specs.Piles.{all_of}
@@ -37,6 +38,12 @@ use Rattle.o2_space.specs.Parts.{parts_in, running_at, running_in}
 use Rattle.o2_machine.specs.declared.machine.Machine.{Machine}
 use Rattle.o2_machine.proofs.FirstNames.{started_few}
 use Rattle.o2_segs.specs.Answers.{AreAlone}
+use Rattle.o2_segs.specs.Sharing.{AreHeldAtMost, ShareOne}
+use Rattle.o2_calls.specs.SharedActs.{AreSpelled}
+use Rattle.o2_shared.specs.declared.names.Name.{Name}
+use Rattle.o2_shared.specs.Texts.{AreInPlace, AreOnce, age_of, found_from}
+use Rattle.o2_world.specs.Known.{text_name}
+use Rattle.o2_shared.proofs.Staying.{none_in_place}
 use Rattle.o2_space.specs.Stands.{AreWhole}
 use Rattle.o2_machine.specs.Begins.{IsLinked, first_world, opening, opening_in, setting_of, starting}
 use Rattle.o2_machine.specs.GoesOver.{GoesOver}
@@ -77,6 +84,17 @@ lives_as (Some c) holds None is = absurd is
 lives_as None holds (Some p) is = absurd is
 lives_as None holds None is = refl
 
+-- where no segment is named, none is kept
+none_found : (t : Shelf) (n i : ℕ) (text : List ℕ) → found_from t text (replicate n None) i ≡ None
+none_found t zero i text = refl
+none_found t (suc n) i text = none_found t n (i + 1) text
+
+none_spelled : (t : Shelf) (w : World) (n : ℕ) → w.texts ≡ [] → AreSpelled t (replicate n None) w
+none_spelled t w n none = record {
+  texts = record { each = λ text. ap (λ ts. text_name ts text) none ∙ ap age_of (sym (none_found t n 4096 text)) };
+  once = subst AreOnce (sym none) tt;
+}
+
 -- the space of what has opened, with its images
 abbrev pub space_of : Opened → ImageList → List Proc → Services → Space → Type 0
 space_of o images procs services m =
@@ -87,7 +105,7 @@ module _ (o : Opened) (l : LinkedParts) (b : Built) (c : Conf) (blocks : ℕ) (m
     (processes : o.regions.processes ≡ length c.process) (swap : all_of o.store.swap ≡ min c.swap blocks)
     (first : (s : Setting) (input : List ℕ) (w : World) → IsSettingOf c s → opening_in s l c input ≡ Ok w → IsSound w → StandsFirst o l.images blocks s w)
     (sound : (input : List ℕ) (w : World) → opening l c input ≡ Ok w → IsSound w)
-    (space : space_of o l.images procs services m.space) (each : procs ≡ map first_proc o.cpus.items) (avail : services.avail ≡ c.avail)
+    (space : space_of o l.images procs services m.space) (bare : m.space.names ≡ replicate 4096 None) (each : procs ≡ map first_proc o.cpus.items) (avail : services.avail ≡ c.avail)
     (sched : m.sched ≡ first_schedule c) (budget : m.budget ≡ c.budget) (console : m.console_bytes ≡ 0) (lines : m.lines ≡ length b.lines) (within : IsWithinLimits c) where
   abbrev pub world : List ℕ → World
   world input = first_world l c input b
@@ -130,6 +148,7 @@ module _ (o : Opened) (l : LinkedParts) (b : Built) (c : Conf) (blocks : ℕ) (m
     dispatch = ap (λ (s : Schedule). s.dispatch) (sym sched);
     quantum = ap (λ (s : Schedule). s.quantum) (sym sched);
     known = record { avail = sym (ap (λ (z : Services). z.avail) space.1.1.1.1.1 ∙ avail) };
+    spells = subst (λ (l : List (Option Name)). AreSpelled m.space.store l (world input)) (sym bare) (none_spelled m.space.store (world input) 4096 refl);
     budget = sym budget;
     console = sym console;
     lines = sym lines;
@@ -148,7 +167,11 @@ module _ (o : Opened) (l : LinkedParts) (b : Built) (c : Conf) (blocks : ℕ) (m
       marked = λ n. marks n ∙ ap (λ (x : ℕ → Option Running). goes_on (x n)) (sym runs_are);
       alone = subst AreAlone (sym space.1.1.1.0) (record { each = opened.alone });
       whole = subst AreWhole (sym space.1.1.1.0) opened.tables;
+      one = subst ShareOne (sym space.1.1.1.0) (record { one = λ p q i h k high a d called. absurd (called (opened.loaded p i h a)) });
+      places = subst (AreInPlace m.space.store m.space.regions) (sym bare) (none_in_place m.space.store m.space.regions 4096);
     };
+    budget = (let left = ap (λ (x : Schedule). x.dispatch.budget) sched in let d = within.budget in omega (arith, left, d));
+    held = subst (λ (r : Maps). AreHeldAtMost r (4294967290 - m.sched.dispatch.budget)) (sym space.1.1.1.0) (record { each = λ p i. held_once p i (held_at o.regions p i) refl });
     few =
         (let names = started_few c.segments (starts_of l 1 c.process) b starts in
         let next = opened.next in
@@ -162,6 +185,10 @@ module _ (o : Opened) (l : LinkedParts) (b : Built) (c : Conf) (blocks : ℕ) (m
   } where
     marks : (n : ℕ) → is_marked m.space.ends n ≡ goes_on (runs n)
     marks n = ap (λ (xs : List Bool). is_marked xs n) space.1.0 ∙ (stood []).marked (λ k. []) n
+
+    held_once : (p i : ℕ) (h : Option HeldThere) → held_at o.regions p i ≡ h → holds_of h ≤ 4294967290 - m.sched.dispatch.budget
+    held_once p i None e = omega arith
+    held_once p i (Some h) e = (let once = opened.once p i h e in let left = ap (λ (x : Schedule). x.dispatch.budget) sched in let d = within.budget in omega (arith, once, left, d))
 
 -- as many lines as the starts have
 pub lines_counted : {X : Type 0} (row : X → List ℕ) (l : LinkedParts) (pid : ℕ) (xs : List X) → length (lines_from l pid (map row xs)) ≡ sum_by (λ x. length (row x) + 1) xs

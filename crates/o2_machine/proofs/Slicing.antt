@@ -6,9 +6,12 @@ use Rattle.o2_conf.specs.Dispatch.{Dispatch, live_script, lives, started}
 use Rattle.o2_run.specs.Slice.{AreSilent, Slices}
 use Rattle.o2_sched.specs.Schedule.{Schedule, ahead_of, next_of}
 use Rattle.o2_slices.specs.Laters.{StandsLater, counted_by}
+use Rattle.o2_calls.specs.SharedActs.{AreSpelled}
 use Rattle.o2_space.specs.Parts.{parts_in}
 use Rattle.o2_space.specs.declared.space.Space.{Space}
+use Rattle.o2_space.proofs.Spelling.{spelled_by, spelled_shape, spelled_to}
 use Rattle.o2_stands.specs.Stands.{IsSetTo, Stands}
+use Rattle.o2_store.specs.Shelf.{SameTables}
 use Rattle.o2_world.specs.World.{Line, Setting, World}
 use Rattle.o2_world.specs.Run.{after, is_over, next_dispatch}
 use Rattle.o2_world.specs.Tied.{IsSound}
@@ -90,7 +93,7 @@ module _ (m : Machine) (device : ℕ) (block : ℕ → List ℕ) (s : Setting) (
 
   -- the machine behind them
   module _ (n : Machine) (left : Space) (k : ℕ) (later : StandsLater (parts_in left device block) s w k) (set : IsSetTo (parts_in left device block) s) (avail : left.services.avail ≡ m.space.services.avail)
-      (space : n.space ≡ left) (budget : n.budget ≡ m.budget) (bytes : n.console_bytes ≡ m.console_bytes) (lines : n.lines ≡ m.lines) where
+      (names : left.names ≡ m.space.names) (tables : SameTables m.space.store left.store) (space : n.space ≡ left) (budget : n.budget ≡ m.budget) (bytes : n.console_bytes ≡ m.console_bytes) (lines : n.lines ≡ m.lines) where
     now_at : n.sched.dispatch ≡ (after s w k).dispatch → n.sched.flags ≡ m.sched.flags → n.sched.quantum ≡ m.sched.quantum → StandsFor n device block s (after s w k)
     now_at dispatch flags quantum = record {
       space = subst (λ (z : Space). Stands (parts_in z device block) (after s w k)) (sym space) later.stands;
@@ -100,6 +103,9 @@ module _ (m : Machine) (device : ℕ) (block : ℕ → List ℕ) (s : Setting) (
       dispatch = sym dispatch;
       quantum = stands.quantum ∙ sym quantum;
       known = record { avail = stands.known.avail ∙ sym (ap (λ (z : Space). z.services.avail) space ∙ avail) };
+      spells = subst (λ (z : Space). AreSpelled z.store z.names (after s w k)) (sym space)
+          (spelled_by left.store m.space.names left.names (after s w k) names
+          (spelled_to left.store m.space.names w (after s w k) later.texts (spelled_shape m.space.store left.store tables m.space.names w stands.spells)));
       budget = stands.budget ∙ sym budget;
       console = ap (λ (l : List ℕ). length l) (console_stays s w k later.silent) ∙ (stands.console ∙ sym bytes);
       lines = ap (λ (l : List Line). length l) (lines_stay s w k later.silent) ∙ (stands.lines ∙ sym lines);

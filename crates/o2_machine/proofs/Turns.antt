@@ -1,6 +1,6 @@
 -- What a turn does to the world that the machine stands for.
 use Rattle.std.proofs.Common.{◌≡◌, ℕ, ◌+◌, ◌-◌, ◌⊎◌, Bool, true, false, not, List, [], ◌∷◌, ◌++◌, Option, Some, ap, sym, ◌∙◌, refl, inl, inr, ◌==◌, if◌then◌else◌, subst, slice_set, length, length-append, arith}
-use Rattle.std.specs.Prelude.{codes}
+use Rattle.std.specs.Prelude.{codes, Ok}
 use Rattle.std.specs.List.{list_any}
 use Rattle.std.proofs.lemmas.Grind.{flat_map-append}
 use Rattle.o2_outer.specs.Texts.{Gains, GainsSome, IsPrefix, Continues}
@@ -33,7 +33,8 @@ use Rattle.o2_stepping.specs.Taken.{OnSwapFault}
 use Rattle.o2_stands.specs.Stands.{IsSetTo, IsTidy, Stands}
 use Rattle.o2_stands.proofs.Matching.{stood_by}
 use Rattle.o2_stands.proofs.TidySteps.{step_tidy}
-use Rattle.o2_space.specs.Acts.{ActsAll, ActsInPart, ActsFault, Stays}
+use Rattle.o2_calls.specs.SharedActs.{AreSpelled}
+use Rattle.o2_space.specs.Acts.{ActsAll, ActsInPart, ActsFault, SpellsBehind, Stays}
 use Rattle.o2_space.specs.Nexts.{FaultSays}
 use Rattle.o2_space.specs.Parts.{parts_in}
 use Rattle.o2_space.specs.Stands.{MatchesAfter}
@@ -125,10 +126,10 @@ module _ (m : Machine) (device : ℕ) (block : ℕ → List ℕ) (s : Setting) (
 
   -- over what the device is behind the step
   stands_next : (n : Machine) (count : ℕ) (holds : ℕ → List ℕ) (left : Space) (tally : Tally)
-      → MatchesAfter w (next_of m.sched).current p made (parts_in left count holds) → IsSetTo (parts_in left count holds) s
+      → MatchesAfter w (next_of m.sched).current p made (parts_in left count holds) → IsSetTo (parts_in left count holds) s → AreSpelled left.store left.names behind
       → n.sched.dispatch ≡ counted (next_of m.sched) → n.sched.quantum ≡ m.sched.quantum → live_flags behind.processes ≡ n.sched.flags
       → IsTally made tally → HasCounted m n left tally → StandsFor n count holds s (step s w)
-  stands_next n count holds left tally matches set dispatch quantum flags puts counts = subst (λ (v : World). StandsFor n count holds s v) (sym step_is) (record {
+  stands_next n count holds left tally matches set spells dispatch quantum flags puts counts = subst (λ (v : World). StandsFor n count holds s v) (sym step_is) (record {
     space =
         subst (λ (z : Space). Stands (parts_in z count holds) behind) (sym counts.space)
         (stood_by (parts_in left count holds) behind.processes behind.names behind.next_name behind.reserved (matches (next_of m.sched) refl)
@@ -139,6 +140,7 @@ module _ (m : Machine) (device : ℕ) (block : ℕ → List ℕ) (s : Setting) (
     dispatch = dispatch_behind w (next_of m.sched) p made ∙ sym dispatch;
     quantum = stands.quantum ∙ sym quantum;
     known = record { avail = stands.known.avail ∙ sym (ap (λ (z : Space). z.services.avail) counts.space ∙ counts.avail) };
+    spells = subst (λ (z : Space). AreSpelled z.store z.names behind) (sym counts.space) spells;
     budget = stands.budget ∙ sym counts.budget;
     console = ap (λ (l : List ℕ). length l) (console_behind w (next_of m.sched) p made) ∙ length-append w.console made.piece ∙ omega (arith, stands.console, puts.bytes, counts.bytes);
     lines = ap (λ (l : List Line). length l) (lines_behind w (next_of m.sched) p made) ∙ length-append w.lines made.lines ∙ omega (arith, stands.lines, puts.lines, counts.lines);
@@ -212,8 +214,8 @@ module _ (m : Machine) (device : ℕ) (block : ℕ → List ℕ) (s : Setting) (
 
 -- for the same world, over what the device is behind a turn that did no step
 pub same_space : (n m : Machine) (device count : ℕ) (block holds : ℕ → List ℕ) (s : Setting) (w : World) → StandsFor m device block s w → IsSame m n
-    → Stands (parts_in n.space count holds) w → IsSetTo (parts_in n.space count holds) s → StandsFor n count holds s w
-same_space n m device count block holds s w stands same space set = record {
+    → Stands (parts_in n.space count holds) w → IsSetTo (parts_in n.space count holds) s → AreSpelled n.space.store n.space.names w → StandsFor n count holds s w
+same_space n m device count block holds s w stands same space set spells = record {
   space = space;
   sound = stands.sound;
   set = set;
@@ -221,6 +223,7 @@ same_space n m device count block holds s w stands same space set = record {
   dispatch = stands.dispatch ∙ ap (λ (z : Schedule). z.dispatch) (sym same.sched);
   quantum = stands.quantum ∙ ap (λ (z : Schedule). z.quantum) (sym same.sched);
   known = record { avail = stands.known.avail ∙ sym same.avail };
+  spells = spells;
   budget = stands.budget ∙ sym same.budget;
   console = stands.console ∙ sym same.bytes;
   lines = stands.lines ∙ sym same.lines;
@@ -259,16 +262,18 @@ module _ (m : Machine) (device : ℕ) (block : ℕ → List ℕ) (s : Setting) (
     pub faulted : (i j : Option (List ℕ)) → IsSame m n → i ≡ Some w.input → IsSetTo (parts_in n.space count holds) s
         → ((next_dispatch s w).current ≡ number → (p : Process) → process_at w.processes number ≡ Some p → ActsInPart w (effect (before s w number p)) p.cpu (parts_in n.space count holds) i j c d r q)
         → ((next_dispatch s w).current ≡ number → (p : Process) → process_at w.processes number ≡ Some p → Fits true s w)
+        → ((next_dispatch s w).current ≡ number → (p : Process) → process_at w.processes number ≡ Some p → AreSpelled n.space.store n.space.names w)
         → StepsInPart stands_now true s w j c d r q
-    faulted i j same left set did room =
+    faulted i j same left set did room spelt =
         let all = at_k (λ z p. ActsInPart w (effect (before s w z p)) p.cpu (parts_in n.space count holds) i j c d r q) (did current_is) in
         steps_in_part m device block s w here c d r q stands is.any is.some here_is stands_now j (at_k (λ z p. Fits true s w) (room current_is))
         (elim all.input [ inl same_left ↦ inl (same_left ∙ left) | inr took ↦ inr took ])
-        (inl (same_space n m device count block holds s w stands same all.stands set)) all.to_console all.to_report all.in_order
+        (inl (same_space n m device count block holds s w stands same all.stands set (at_k (λ z p. AreSpelled n.space.store n.space.names w) (spelt current_is)))) all.to_console all.to_report all.in_order
 
     module _ (i : Option (List ℕ)) (left : Space) (ran : Ran) (counts : HasCounted m n left ran.tally) (set : IsSetTo (parts_in left count holds) s)
         (did : (next_dispatch s w).current ≡ number → (p : Process) → process_at w.processes number ≡ Some p → ActsAll w number p (effect (before s w number p)) ran (parts_in left count holds) i c d r q)
         (room : (next_dispatch s w).current ≡ number → (p : Process) → process_at w.processes number ≡ Some p → Fits true s w)
+        (spelt : (next_dispatch s w).current ≡ number → (p : Process) → process_at w.processes number ≡ Some p → SpellsBehind (before s w number p) w p left.store left.names (Ok ran))
         (sched : n.sched ≡ stepped_sched m.sched number (is_live ran.state)) where
       abbrev e : Effect
       e = effect (before s w k here)
@@ -297,6 +302,7 @@ module _ (m : Machine) (device : ℕ) (block : ℕ → List ℕ) (s : Setting) (
       -- the machine stands for the world after the step
       now : stands_now (step s w)
       now = stands_next m device block s w here c d r q stands is.any is.some here_is n count holds left ran.tally all.matches set
+          (at_k (λ z p. SpellsBehind (before s w z p) w p left.store left.names (Ok ran)) (spelt current_is) (next_of m.sched) refl)
           (ap (λ (z : Schedule). z.dispatch) sched) (ap (λ (z : Schedule). z.quantum) sched)
           (flags_next (is_live ran.state) (ap is_live all.state) ∙ sym (ap (λ (z : Schedule). z.flags) sched)) all.puts counts
 
@@ -310,12 +316,12 @@ module _ (m : Machine) (device : ℕ) (block : ℕ → List ℕ) (s : Setting) (
 
     -- no step is done: the machine stands for the world before it, and there is a cause in that world
     halts : (why : Stop) (put : Bool) (i j s_of : Option (List ℕ)) → StopsFor device s w why → IsSame m n → i ≡ Some w.input → IsSetTo (parts_in n.space count holds) s
-        → Stays w (parts_in n.space count holds) i j c d r s_of → GainsSome s_of q (λ front. IsPrefix front (stop_line why)) → (put ≡ true → Gains s_of q (stop_line why))
+        → Stays w (parts_in n.space count holds) i j c d r s_of → AreSpelled n.space.store n.space.names w → GainsSome s_of q (λ front. IsPrefix front (stop_line why)) → (put ≡ true → Gains s_of q (stop_line why))
         → IsStopped stands_now device s w why put j c d r q
-    halts why put i j s_of cause same left set all front whole = record {
+    halts why put i j s_of cause same left set all spells front whole = record {
       runs = runs m device block s w here c d r q stands is.any is.some here_is;
       cause = cause;
-      stands = same_space n m device count block holds s w stands same all.stands set;
+      stands = same_space n m device count block holds s w stands same all.stands set spells;
       input = all.input ∙ left;
       to_console = all.to_console;
       to_report = continues_in_part (stop_line why) (lines_text w.lines) r q (subst (λ (z : Option (List ℕ)). GainsSome z q (λ front. IsPrefix front (stop_line why))) all.to_report front);
@@ -336,19 +342,20 @@ module _ (m : Machine) (device : ℕ) (block : ℕ → List ℕ) (s : Setting) (
     pub stopped_by : (why : Stop) (put : Bool) (i j s_of : Option (List ℕ)) → IsSame m n → i ≡ Some w.input → IsSetTo (parts_in n.space count holds) s
         → ((next_dispatch s w).current ≡ number → (p : Process) → process_at w.processes number ≡ Some p → ActsFault (before s w number p) w (parts_in n.space count holds) i j c d r s_of (Stopped why))
         → ((next_dispatch s w).current ≡ number → (p : Process) → process_at w.processes number ≡ Some p → FaultSays device s w (Stopped why))
+        → ((next_dispatch s w).current ≡ number → (p : Process) → process_at w.processes number ≡ Some p → AreSpelled n.space.store n.space.names w)
         → GainsSome s_of q (λ front. IsPrefix front (stop_line why)) → (put ≡ true → Gains s_of q (stop_line why)) → Turns stands_now true device s w put j c d r q (turn_of why)
-    stopped_by Input put i j s_of same left set did says front whole =
+    stopped_by Input put i j s_of same left set did says spelt front whole =
         let all = at_k (λ z p. ActsFault (before s w z p) w (parts_in n.space count holds) i j c d r s_of (Stopped Input)) (did current_is) in
-        halts Input put i j s_of (reads all.cause) same left set all.still front whole
-    stopped_by NoRoom put i j s_of same left set did says front whole =
+        halts Input put i j s_of (reads all.cause) same left set all.still (at_k (λ z p. AreSpelled n.space.store n.space.names w) (spelt current_is)) front whole
+    stopped_by NoRoom put i j s_of same left set did says spelt front whole =
         halts NoRoom put i j s_of (at_k (λ z p. FaultSays device s w (Stopped NoRoom)) (says current_is)) same left set
-        (at_k (λ z p. ActsFault (before s w z p) w (parts_in n.space count holds) i j c d r s_of (Stopped NoRoom)) (did current_is)) front whole
-    stopped_by SwapFull put i j s_of same left set did says front whole =
+        (at_k (λ z p. ActsFault (before s w z p) w (parts_in n.space count holds) i j c d r s_of (Stopped NoRoom)) (did current_is)) (at_k (λ z p. AreSpelled n.space.store n.space.names w) (spelt current_is)) front whole
+    stopped_by SwapFull put i j s_of same left set did says spelt front whole =
         halts SwapFull put i j s_of (at_k (λ z p. FaultSays device s w (Stopped SwapFull)) (says current_is)) same left set
-        (at_k (λ z p. ActsFault (before s w z p) w (parts_in n.space count holds) i j c d r s_of (Stopped SwapFull)) (did current_is)) front whole
-    stopped_by SwapFault put i j s_of same left set did says front whole =
+        (at_k (λ z p. ActsFault (before s w z p) w (parts_in n.space count holds) i j c d r s_of (Stopped SwapFull)) (did current_is)) (at_k (λ z p. AreSpelled n.space.store n.space.names w) (spelt current_is)) front whole
+    stopped_by SwapFault put i j s_of same left set did says spelt front whole =
         halts SwapFault put i j s_of tt same left set
-        (at_k (λ z p. ActsFault (before s w z p) w (parts_in n.space count holds) i j c d r s_of (Stopped SwapFault)) (did current_is)) front whole
+        (at_k (λ z p. ActsFault (before s w z p) w (parts_in n.space count holds) i j c d r s_of (Stopped SwapFault)) (did current_is)) (at_k (λ z p. AreSpelled n.space.store n.space.names w) (spelt current_is)) front whole
 
   -- The puts of a step that is done, whole or not, and of one in which a sink failed.
   module _ (a b x y : ℕ) where
@@ -400,6 +407,7 @@ module _ (m n : Machine) (device : ℕ) (block : ℕ → List ℕ) (s : Setting)
   stays : stands_still w
   stays = same_space n m device device block block s w stands same
       (subst (λ (z : Space). Stands (parts_in z device block) w) (sym space) stands.space) (subst (λ (z : Space). IsSetTo (parts_in z device block) s) (sym space) stands.set)
+      (subst (λ (z : Space). AreSpelled z.store z.names w) (sym space) stands.spells)
 
   closed : (lives : Bool) (text : List ℕ) → any_lives w.processes ≡ lives → is_over w ≡ true → last_line w ≡ text → Gains r q text → IsClosed stands_still w lives i c c r q
   closed lives text by over last g = record { over = over; by = by; stands = stays; input = left; to_console = refl; to_report = rw last (continues_by text (lines_text w.lines) r q g) }

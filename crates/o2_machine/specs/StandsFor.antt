@@ -1,5 +1,6 @@
--- The machine stands for a world, whatever its texts and its input are.
+-- The machine stands for a world, whatever its console, its report and its input are.
 use Rattle.std.specs.Prelude.{◌≡◌, ℕ, List, length}
+use Rattle.o2_calls.specs.SharedActs.{AreSpelled}
 use Rattle.o2_gate.specs.Befores.{IsKnown}
 use Rattle.o2_stands.specs.Stands.{IsSetTo, Stands}
 use Rattle.o2_space.specs.Parts.{parts_in}
@@ -20,6 +21,8 @@ pub record StandsFor (m : Machine) (device : ℕ) (block : ℕ → List ℕ) (s 
   pub dispatch : w.dispatch ≡ m.sched.dispatch
   pub quantum : s.quantum ≡ m.sched.quantum
   pub known : IsKnown (known_of s w) m.space.services
+  -- the names that are kept of shared segments are those of the texts
+  pub spells : AreSpelled m.space.store m.space.names w
   pub budget : s.budget ≡ m.budget
   -- as many bytes and lines are counted as both texts have, without the last line
   pub console : length w.console ≡ m.console_bytes

@@ -1,5 +1,5 @@
 // How a machine begins: its processes start, and the lines of their starts are put.
-ghost use Rattle.std.specs.Prelude.{◌≡◌, ◌≤◌, ◌+◌, ◌^◌, ℕ, List, length, map, min, sum_by, IfOk, Ok, None};
+ghost use Rattle.std.specs.Prelude.{◌≡◌, ◌≤◌, ◌+◌, ◌^◌, ℕ, List, length, map, min, sum_by, IfOk, Ok, None, replicate};
 ghost use Rattle.o2_conf.specs.Limits.{IsWithinLimits};
 ghost use Rattle.o2_conf.specs.Environments.{environment_bytes};
 ghost use Rattle.o2_image.specs.ImageList.{Exists};
@@ -28,6 +28,7 @@ use o2_opening::{Opened, open};
 use o2_outer::{Put, Sink};
 use o2_report::{LineBuffer, put_start};
 use o2_sched::Sched;
+use o2_shared::Shared;
 use o2_space::{Proc, Space};
 use o2_world::State;
 use std::alloc::Global;
@@ -39,6 +40,7 @@ struct Front {
     sched: Sched,
     services: Services,
     cache: DecodeCache,
+    names: Shared,
     line: LineBuffer,
 }
 
@@ -75,17 +77,20 @@ fn prepared(alloc: Global, conf: &Conf, cpus: &[Cpu]) -> Result<Front, NoMemory>
     ensures procs { IfOk result (λ f. f.procs.items ≡ map first_proc cpus.now) }
     ensures sched { IfOk result (λ f. f.sched ≡ first_schedule conf.now) }
     ensures avail { IfOk result (λ f. f.services.avail ≡ conf.now.avail) }
+    ensures names { IfOk result (λ f. f.names ≡ replicate 4096 None) }
 {
     let procs = first_procs(alloc, cpus)?;
     let sched = Sched::make(alloc, conf)?;
     let services = Services::new(alloc, conf.avail)?;
     let cache = DecodeCache::new(alloc)?;
+    let names = Shared::new(alloc)?;
     let line = LineBuffer::new(alloc)?;
     Ok(Front {
         procs,
         sched,
         services,
         cache,
+        names,
         line,
     })
 }
@@ -100,6 +105,7 @@ fn assemble(front: Front, conf: &Conf, opened: Opened, images: Images, lines: u1
       ends = opened.ends;
       store = opened.store;
       regions = opened.regions;
+      names = front.names;
       images = images;
       services = front.services;
       cache = front.cache;
@@ -115,6 +121,7 @@ fn assemble(front: Front, conf: &Conf, opened: Opened, images: Images, lines: u1
         sched,
         services,
         cache,
+        names,
         ..
     } = front;
     let Opened {
@@ -129,6 +136,7 @@ fn assemble(front: Front, conf: &Conf, opened: Opened, images: Images, lines: u1
             ends,
             store,
             regions,
+            names,
             images,
             services,
             cache,

@@ -7,7 +7,7 @@ use Rattle.o2_base.specs.declared.faults.ModuleFault.TheVariants.{NoModule, OutO
 use Rattle.o2_base.specs.declared.faults.Which.TheVariants.{FileLength}
 use Rattle.o2_outer.specs.Texts.{Rose}
 use Rattle.o2_words.specs.declared.words.Verb.{Verb}
-use Rattle.o2_words.specs.declared.words.Verb.TheVariants.{Exe, Run, Check, Bench}
+use Rattle.o2_words.specs.declared.words.Verb.TheVariants.{Exe, Run, Check, Dump, Bench}
 use Rattle.o2_conf.specs.declared.conf.Conf.{Conf}
 use Rattle.o2_conf.specs.Setting.{setting}
 use Rattle.o2_conf.specs.Environments.{environment_bytes}
@@ -85,7 +85,7 @@ start_refusal c programs pid fault = open_fault.BadModule (nth_list c.modules (u
 abbrev pub exe_loaded : Contents → List ℕ → Result Session OpenFault
 exe_loaded contents name = module_in contents name >>= (λ m. linked_in (exe_setting name m.names.own) (m ∷ []))
 
--- what `run` and `check` open: a machine file, and the modules that it names
+-- what `run`, `check` and `dump` open: a machine file, and the modules that it names
 abbrev pub run_loaded : Contents → List ℕ → Result Session OpenFault
 run_loaded contents name = machine_in contents name >>= (λ c. modules_in contents c.modules [] >>= linked_in c)
 
@@ -98,6 +98,7 @@ unfoldable pub loaded : Verb → Contents → List ℕ → Result Session OpenFa
 loaded Exe contents name = exe_loaded contents name
 loaded Run contents name = run_loaded contents name
 loaded Check contents name = run_loaded contents name
+loaded Dump contents name = run_loaded contents name
 loaded (Bench count) contents name = bench_loaded count
 
 -- What a function that loads gives, seen by view: what is loaded, or its refusal, or there was no memory, or the files failed.

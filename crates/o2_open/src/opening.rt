@@ -142,7 +142,7 @@ fn open_exe<F: Files>(alloc: Global, files: &mut F, name: &Bytes) -> Result<Sess
     linked(alloc, conf, modules)
 }
 
-/// What `run` and `check` open: a machine file, and the modules that it names.
+/// What `run`, `check` and `dump` open: a machine file, and the modules that it names.
 fn open_run<F: Files>(alloc: Global, files: &mut F, name: &Bytes) -> Result<Session, OpenFault>
     ensures exact { (contents : Contents) → F.may_hold files.new contents → Loads (λ s. s) result (run_loaded contents name.now) }
     ensures within { IfOk result (λ s. IsWithinLimits s.conf) }
@@ -202,6 +202,7 @@ pub fn open<F: Files>(
         Verb::Exe => open_exe(alloc, files, name),
         Verb::Run => open_run(alloc, files, name),
         Verb::Check => open_run(alloc, files, name),
+        Verb::Dump => open_run(alloc, files, name),
         Verb::Bench(count) => open_bench(alloc, count),
     }
 }

@@ -55,6 +55,8 @@ module _ (p : Progress Stored) (m : Opened) (l : LinkedParts) (b : Built) (most 
         shared = λ i from low. shared i from low ∙ sym (ranges_reserve l.images i) ∙ sym (any_map i (library_ranges l));
         tables = is.mapped.tables;
         alone = λ pid i h e. (is.mapped.held pid i h e).reserved;
+        loaded = λ pid i h e. (is.mapped.held pid i h e).cause;
+        once = λ pid i h e. (is.mapped.held pid i h e).holds;
         rows = sym (length-map p.starts.items (λ v. v.items)) ∙ come.rows;
         lines = come.lines;
       }

@@ -10,6 +10,7 @@ use Rattle.o2_image.specs.Getters.{nth}
 use Rattle.o2_image.specs.ImageList.{ImageList}
 use Rattle.o2_dynlink.specs.Outcome.{LinkedParts}
 use Rattle.o2_regions.specs.declared.held.Region.TheVariants.{Private, Shared}
+use Rattle.o2_regions.specs.declared.held.Cause.TheVariants.{Loaded}
 use Rattle.o2_regions.specs.declared.held.Held.{Held as HeldThere}
 use Rattle.o2_regions.specs.Maps.{IsProcess, held_at, is_reserved, table_of}
 use Rattle.o2_service.specs.Told.{IsHeldWell}
@@ -55,6 +56,9 @@ pub record IsOpened (m : Opened) (l : LinkedParts) (b : Built) : Type 0 where
   -- each process's table has all indexes, and nothing is held in the run of a huge allocation
   pub tables : (pid : ℕ) → IsProcess m.regions pid → length (table_of m.regions pid) ≡ 8192
   pub alone : (pid i : ℕ) (h : HeldThere) → held_at m.regions pid i ≡ Some h → h.reserved ≡ 0
+  -- all is held once, by load
+  pub loaded : (pid i : ℕ) (h : HeldThere) → held_at m.regions pid i ≡ Some h → h.cause ≡ Loaded
+  pub once : (pid i : ℕ) (h : HeldThere) → held_at m.regions pid i ≡ Some h → h.holds ≡ 1
   -- the lines of the starts
   pub rows : length m.starts.items ≡ length m.cpus.items
   pub lines : b.lines ≡ lines_from l 1 (map (λ v. v.items) m.starts.items)

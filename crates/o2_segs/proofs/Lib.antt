@@ -4,3 +4,4 @@ pub mod Stops
 pub mod Resizing
 pub mod Making
 pub mod Limits
+pub mod Sharing

@@ -1,5 +1,5 @@
 -- What single changes leave of how large a store is, and that nobody holds a run.
-use Rattle.std.proofs.Common.{◌≡◌, ◌≢◌, ℕ, ◌+◌, ◌-◌, ◌<◌, ◌&&◌, ◌==◌, Bool, true, false, cond, List, length, Option, Some, None, IsSome, is_some, ap, refl, sym, ◌∙◌, subst, arith}
+use Rattle.std.proofs.Common.{◌≡◌, ◌≢◌, ℕ, ◌+◌, ◌-◌, ◌&&◌, ◌==◌, Bool, true, false, cond, List, length, Option, Some, None, IsSome, is_some, ap, refl, sym, ◌∙◌, subst, arith}
 use Rattle.std.proofs.lemmas.List.{length-set}
 use Rattle.o2_entries.specs.declared.Entry.{Entry}
 use Rattle.o2_entries.specs.Tables.{slot_at}
@@ -9,14 +9,15 @@ use Rattle.o2_regions.specs.declared.answer.Roomed.TheVariants.{Done, NoRoom, Sw
 use Rattle.o2_regions.specs.declared.held.Held.{Held}
 use Rattle.o2_regions.specs.Maps.{Maps, held_at, less_of, more_of}
 use Rattle.o2_service.specs.Told.{OnlyTables}
-use Rattle.o2_store.specs.Shelf.{Adds, IsShelf, Pictures, Removes, SameTables, Shelf}
+use Rattle.o2_store.specs.Shelf.{Adds, IsShelf, Pictures, Removes, SameTables, Shelf, entry_of, entry_or}
 use Rattle.o2_store.specs.Sizes.{Resizes}
 use Rattle.o2_store.proofs.Tables.{slot-set_other}
 use Rattle.o2_changes.specs.Holding.{Goes, Grants, Remains, Sweeps, Takes}
 use Rattle.o2_changes.specs.Segments.{IsNewest, SetsLock}
 use Rattle.o2_segs.specs.Answers.{AreAlone}
-use Rattle.o2_segs.specs.Limits.{KeepsEntries, KeepsEntry, KeepsLimits, KeepsOthers, made_in}
+use Rattle.o2_segs.specs.Limits.{IsUndone, KeepsEntries, KeepsEntry, KeepsLimits, KeepsLimitsBy, KeepsOthers, made_in}
 use Rattle.o2_segs.specs.Made.{IsStop}
+use Rattle.o2_segs.proofs.Sharing.{IsNewHold, added_lived, aged_there, few_as, few_more, few_then, gone_lived, held_few, held_shares, held_told, less_few, less_shares, lived_but, lived_tables, shares_as, shares_refl, shares_then}
 
 -- Nobody holds a run.
 
@@ -35,7 +36,7 @@ alone_taken m n pid i takes alone = record { each = λ q j h e. go q j h ((q == 
     go q j h true e = less (held_at m pid i) h (alone.each pid i) e
     go q j h false e = alone.each q j h e
 
-alone_granted : (m n : Maps) (pid i access : ℕ) (h : Held) → h.reserved ≡ 0 → Grants m n pid i h access → AreAlone m → AreAlone n
+pub alone_granted : (m n : Maps) (pid i access : ℕ) (h : Held) → h.reserved ≡ 0 → Grants m n pid i h access → AreAlone m → AreAlone n
 alone_granted m n pid i access h one grants alone = record { each = λ q j k e. go q j k ((q == pid) && (j == i)) (sym (grants.held q j) ∙ e) }
   where
     more : (o : Option Held) (k : Held) → ((x : Held) → o ≡ Some x → x.reserved ≡ 0) → more_of o h ≡ Some k → k.reserved ≡ 0
@@ -56,7 +57,15 @@ alone_told m n only alone = record { each = λ q j h e. alone.each q j h (sym (a
 -- The limits.
 
 pub limits_refl : (s : Shelf) (m : Maps) → KeepsLimits s m s m 0
-limits_refl s m = record { size = refl; count = refl; made = omega arith; alone = λ a. a }
+limits_refl s m = record {
+  size = refl;
+  count = refl;
+  made = omega arith;
+  grows = omega arith;
+  alone = λ a. a;
+  few = λ k some. few_as m m (λ q j. refl) k;
+  shares = shares_refl s m s.made;
+}
 
 pub limits_same : (s t : Shelf) (m n : Maps) → t ≡ s → n ≡ m → KeepsLimits s m t n 0
 limits_same s t m n es em = subst (λ (x : Shelf). KeepsLimits s m x n 0) (sym es) (subst (λ (x : Maps). KeepsLimits s m s x 0) (sym em) (limits_refl s m))
@@ -66,11 +75,22 @@ limits_then s t u m n o a b x y = record {
   size = y.size ∙ x.size;
   count = y.count ∙ x.count;
   made = (let p = x.made in let q = y.made in omega (arith, p, q));
+  grows = (let p = x.grows in let q = y.grows in omega (arith, p, q));
   alone = λ was. y.alone (x.alone was);
+  few = few_then m n o x.few y.few;
+  shares = shares_then s t u m n o s.made t.made s.made (omega arith) x.grows x.shares y.shares;
 }
 
 pub limits_more : (s t : Shelf) (m n : Maps) (a b : ℕ) → KeepsLimits s m t n a → KeepsLimits s m t n (a + b)
-limits_more s t m n a b x = record { size = x.size; count = x.count; made = (let p = x.made in omega (arith, p)); alone = x.alone }
+limits_more s t m n a b x = record {
+  size = x.size;
+  count = x.count;
+  made = (let p = x.made in omega (arith, p));
+  grows = x.grows;
+  alone = x.alone;
+  few = x.few;
+  shares = x.shares;
+}
 
 -- whether it stops or not
 pub limits_in : (s t : Shelf) (m n : Maps) (r : Roomed) → KeepsLimits s m t n 0 → KeepsLimits s m t n (made_in r)
@@ -79,13 +99,34 @@ limits_in s t m n NoRoom x = x
 limits_in s t m n SwapFull x = x
 limits_in s t m n SwapFault x = x
 
+-- where more may be held
+pub limits_by : (s t : Shelf) (m n : Maps) (more : ℕ) → KeepsLimits s m t n more → KeepsLimitsBy s m t n more 1
+limits_by s t m n more x = record {
+  size = x.size;
+  count = x.count;
+  made = x.made;
+  grows = x.grows;
+  alone = x.alone;
+  few = λ k some most. few_more n (k + 0) (k + 1) (omega arith) (x.few k some most);
+  shares = x.shares;
+}
+
+pub limits_none : (s : Shelf) (m : Maps) → KeepsLimitsBy s m s m 0 1
+limits_none s m = limits_by s s m m 0 (limits_refl s m)
+
+pub limits_one : (s : Shelf) (m : Maps) → KeepsLimits s m s m 1
+limits_one s m = limits_more s s m m 0 1 (limits_refl s m)
+
 -- a call that stops has unmade its segment
-pub limits_undone : (s t u : Shelf) (m n o : Maps) (r : Roomed) → IsStop r → t.made ≡ s.made + 1 → u.made < t.made → KeepsLimits s m t n 1 → KeepsLimits t n u o 0 → KeepsLimits s m u o (made_in r)
-limits_undone s t u m n o r stop one less x y = subst (λ (k : ℕ). KeepsLimits s m u o k) (sym (none r stop)) (record {
+pub limits_undone : (s t u : Shelf) (m n o : Maps) (r : Roomed) → IsStop r → t.made ≡ s.made + 1 → KeepsLimits s m t n 1 → IsUndone t n u o → KeepsLimits s m u o (made_in r)
+limits_undone s t u m n o r stop one x y = subst (λ (k : ℕ). KeepsLimits s m u o k) (sym (none r stop)) (record {
   size = y.size ∙ x.size;
   count = y.count ∙ x.count;
-  made = omega (arith, one, less);
+  made = (let p = y.made in omega (arith, one, p));
+  grows = (let p = y.made in omega (arith, one, p));
   alone = λ was. y.alone (x.alone was);
+  few = few_then m n o x.few y.few;
+  shares = shares_then s t u m n o s.made u.made s.made (omega arith) (let p = y.made in omega (arith, one, p)) x.shares y.shares;
 })
   where
     none : (r : Roomed) → IsStop r → made_in r ≡ 0
@@ -100,23 +141,34 @@ limits_moved s t m n tables only = record {
   size = tables.size;
   count = tables.count;
   made = (let e = tables.made in omega (arith, e));
+  grows = (let e = tables.made in omega (arith, e));
   alone = alone_told m n only;
+  few = λ k some. few_as m n (held_told m n only) k;
+  shares = shares_as m n (held_told m n only) s t s.made (λ id old alive. lived_tables s t tables id alive);
 }
 
-pub limits_added : (s t : Shelf) (m : Maps) (id : SegId) (e : Entry) → Adds s t id e → KeepsLimits s m t m 1
-limits_added s t m id e adds = record {
+pub limits_added : (s t : Shelf) (m : Maps) (id : SegId) (e : Entry) → e.age ≡ s.made → Adds s t id e → KeepsLimits s m t m 1
+limits_added s t m id e young adds = record {
   size = ap (λ (x : Shelf). x.places.size) adds.shelf;
   count = ap (λ (x : Shelf). length x.entries) adds.shelf ∙ length-set s.entries id.key (Some e);
   made = (let made : t.made ≡ s.made + 1 = ap (λ (x : Shelf). x.made) adds.shelf in omega (arith, made));
+  grows = (let made : t.made ≡ s.made + 1 = ap (λ (x : Shelf). x.made) adds.shelf in omega (arith, made));
   alone = λ a. a;
+  few = λ k some. few_as m m (λ q j. refl) k;
+  shares = shares_as m m (λ q j. refl) s t s.made (added_lived s t id e adds young);
 }
 
-pub limits_locked : (s t : Shelf) (m : Maps) (id : SegId) (lock : ℕ) → SetsLock s t id lock → KeepsLimits s m t m 0
-limits_locked s t m id lock sets = record {
+pub limits_locked : (s t : Shelf) (m : Maps) (id : SegId) (lock : ℕ) → IsSome (entry_of s id) → SetsLock s t id lock → KeepsLimits s m t m 0
+limits_locked s t m id lock live sets = record {
   size = ap (λ (x : Shelf). x.places.size) sets.shelf;
   count = sets.count;
   made = (let made : t.made ≡ s.made = ap (λ (x : Shelf). x.made) sets.shelf in omega (arith, made));
+  grows = (let made : t.made ≡ s.made = ap (λ (x : Shelf). x.made) sets.shelf in omega (arith, made));
   alone = λ a. a;
+  few = λ k some. few_as m m (λ q j. refl) k;
+  shares = shares_as m m (λ q j. refl) s t s.made
+      (λ w old alive. lived_but s t id.key (λ k apart. (ap is_some (sets.others k apart), ap (λ (o : Option Entry). (entry_or o).age) (sets.others k apart)))
+      (ap is_some sets.here ∙ sym (aged_there id.age (slot_at s.entries id.key) live)) (ap (λ (o : Option Entry). (entry_or o).age) sets.here) w alive);
 }
 
 pub limits_sized : (told : Bool) (pic : Pictures) (s t : Shelf) (before after : ℕ → List ℕ) (m n : Maps) (key size : ℕ) → Resizes told pic s before t after key size → OnlyTables m n → KeepsLimits s m t n 0
@@ -124,11 +176,24 @@ limits_sized told pic s t before after m n key size sized only = record {
   size = sized.whole;
   count = sized.count;
   made = (let e = sized.made in omega (arith, e));
+  grows = (let e = sized.made in omega (arith, e));
   alone = alone_told m n only;
+  few = λ k some. few_as m n (held_told m n only) k;
+  shares = shares_as m n (held_told m n only) s t s.made
+      (λ id old alive. lived_but s t key (λ k apart. ((sized.same k apart).live, (sized.same k apart).age)) sized.here.live sized.here.age id alive);
 }
 
-pub limits_held : (s : Shelf) (m n : Maps) (pid i access : ℕ) (h : Held) → h.reserved ≡ 0 → Grants m n pid i h access → KeepsLimits s m s n 0
-limits_held s m n pid i access h one grants = record { size = refl; count = refl; made = omega arith; alone = alone_granted m n pid i access h one grants }
+-- a segment is held where nothing was
+pub limits_held : (s : Shelf) (m n : Maps) (pid i access : ℕ) (h : Held) → h.reserved ≡ 0 → h.holds ≡ 1 → IsNewHold m pid i h.id → Grants m n pid i h access → KeepsLimits s m s n 0
+limits_held s m n pid i access h one once new grants = record {
+  size = refl;
+  count = refl;
+  made = omega arith;
+  grows = omega arith;
+  alone = alone_granted m n pid i access h one grants;
+  few = held_few s m n pid i access h once new grants;
+  shares = held_shares s m n pid i access h once new grants;
+}
 
 -- where both are stores
 whole_gone : (s t : Shelf) (key : ℕ) → IsShelf s → IsShelf t → Removes s t key → t.places.size ≡ s.places.size
@@ -137,27 +202,30 @@ whole_gone s t key is now removes = now.memory ∙ ap (λ (x : Shelf). length x.
 count_gone : (s t : Shelf) (key : ℕ) → Removes s t key → length t.entries ≡ length s.entries
 count_gone s t key removes = ap (λ (x : Shelf). length x.entries) removes.shelf ∙ length-set s.entries key None
 
-pub limits_dropped : (s t : Shelf) (m n : Maps) (id : SegId) (pid i : ℕ) → IsShelf s → IsShelf t → Sweeps s t n id → Takes m n pid i → KeepsLimits s m t n 0
-limits_dropped s t m n id pid i is now (Goes none removes) takes = record {
-  size = whole_gone s t id.key is now removes;
-  count = count_gone s t id.key removes;
-  made = (let made : t.made ≡ s.made = ap (λ (x : Shelf). x.made) removes.shelf in omega (arith, made));
+whole_swept : (s t : Shelf) (m : Maps) (id : SegId) → IsShelf s → IsShelf t → Sweeps s t m id → (t.places.size ≡ s.places.size) × (length t.entries ≡ length s.entries) × (t.made ≡ s.made)
+whole_swept s t m id is now (Goes none removes) = (whole_gone s t id.key is now removes, count_gone s t id.key removes, ap (λ (x : Shelf). x.made) removes.shelf)
+whole_swept s t m id is now (Remains q j held same) = (ap (λ (x : Shelf). x.places.size) same, ap (λ (x : Shelf). length x.entries) same, ap (λ (x : Shelf). x.made) same)
+
+pub limits_dropped : (s t : Shelf) (m n : Maps) (pid i : ℕ) (h : Held) → IsShelf s → IsShelf t → held_at m pid i ≡ Some h → Sweeps s t n h.id → Takes m n pid i → KeepsLimits s m t n 0
+limits_dropped s t m n pid i h is now at sweeps takes = record {
+  size = (whole_swept s t n h.id is now sweeps).0;
+  count = (whole_swept s t n h.id is now sweeps).1;
+  made = (let e = (whole_swept s t n h.id is now sweeps).2 in omega (arith, e));
+  grows = (let e = (whole_swept s t n h.id is now sweeps).2 in omega (arith, e));
   alone = alone_taken m n pid i takes;
-}
-limits_dropped s t m n id pid i is now (Remains q j held same) takes = record {
-  size = ap (λ (x : Shelf). x.places.size) same;
-  count = ap (λ (x : Shelf). length x.entries) same;
-  made = (let made : t.made ≡ s.made = ap (λ (x : Shelf). x.made) same in omega (arith, made));
-  alone = alone_taken m n pid i takes;
+  few = less_few s t m n h.id pid i h at refl sweeps takes;
+  shares = less_shares s t m n h.id pid i h at refl sweeps takes;
 }
 
--- a segment that was made last is unmade
-pub limits_unmade : (s t : Shelf) (m : Maps) (id : SegId) → IsShelf s → IsShelf t → Removes s (record t { made = s.made }) id.key → IsNewest s id → t.made ≡ id.age → KeepsLimits s m t m 0
-limits_unmade s t m id is now removes newest made = record {
-  size = now.memory ∙ ap (λ (x : Shelf). length x.memory) removes.shelf ∙ sym is.memory;
-  count = count_gone s (record t { made = s.made }) id.key removes;
-  made = (let last = newest.last in omega (arith, last, made));
-  alone = λ a. a;
+-- a segment that was made last, and moved, is unmade
+pub undone_made : (s t u : Shelf) (m n : Maps) (id : SegId) → SameTables s t → OnlyTables m n → IsShelf t → IsShelf u → Removes t (record u { made = t.made }) id.key → IsNewest t id → u.made ≡ id.age → IsUndone s m u n
+undone_made s t u m n id tables only is now removes newest made = record {
+  size = now.memory ∙ ap (λ (x : Shelf). length x.memory) removes.shelf ∙ sym is.memory ∙ tables.size;
+  count = count_gone t (record u { made = t.made }) id.key removes ∙ tables.count;
+  made = (let last = newest.last in let e = tables.made in omega (arith, last, made, e));
+  alone = alone_told m n only;
+  few = λ k some. few_as m n (held_told m n only) k;
+  shares = shares_as m n (held_told m n only) s u u.made (λ w old alive. lived_tables s t tables w (gone_lived t (record u { made = t.made }) id.key removes w alive));
 }
 
 -- What lives goes on to live.

@@ -7,14 +7,31 @@ use Rattle.o2_regions.specs.declared.answer.Roomed.TheVariants.{Done, NoRoom, Sw
 use Rattle.o2_regions.specs.Maps.{Maps}
 use Rattle.o2_store.specs.Shelf.{Shelf, entry_or}
 use Rattle.o2_segs.specs.Answers.{AreAlone}
+use Rattle.o2_segs.specs.Sharing.{AreHeldAtMost, KeepsShares}
 
 -- The memory is as large, as many segments may live, at most so many were made, and nobody holds a run of a huge allocation where
--- nobody did.
-pub record KeepsLimits (s : Shelf) (m : Maps) (t : Shelf) (n : Maps) (more : ℕ) : Type 0 where
+-- nobody did; nothing is held more often than before but for so many holds; and what processes share stays as it was.
+pub record KeepsLimitsBy (s : Shelf) (m : Maps) (t : Shelf) (n : Maps) (more holds : ℕ) : Type 0 where
   pub size : t.places.size ≡ s.places.size
   pub count : length t.entries ≡ length s.entries
   pub made : t.made ≤ s.made + more
+  pub grows : s.made ≤ t.made
   pub alone : AreAlone m → AreAlone n
+  pub few : (k : ℕ) → 1 ≤ k → AreHeldAtMost m k → AreHeldAtMost n (k + holds)
+  pub shares : KeepsShares s m t n s.made
+
+-- where nothing is held more often
+abbrev pub KeepsLimits : (s : Shelf) (m : Maps) (t : Shelf) (n : Maps) (more : ℕ) → Type 0
+KeepsLimits s m t n more = KeepsLimitsBy s m t n more 0
+
+-- a segment that was made last is unmade: nothing that was there before it has changed
+pub record IsUndone (s : Shelf) (m : Maps) (t : Shelf) (n : Maps) : Type 0 where
+  pub size : t.places.size ≡ s.places.size
+  pub count : length t.entries ≡ length s.entries
+  pub made : s.made ≡ t.made + 1
+  pub alone : AreAlone m → AreAlone n
+  pub few : (k : ℕ) → 1 ≤ k → AreHeldAtMost m k → AreHeldAtMost n (k + 0)
+  pub shares : KeepsShares s m t n t.made
 
 -- What lives goes on to live under its number, with its age and its size.
 

@@ -18,6 +18,7 @@ ghost use Rattle.o2_world.specs.Rulings.{aliasing};
 ghost use Rattle.o2_world.specs.World.{Process, World};
 ghost use Rattle.o2_segs.specs.Answers.{Answers, alias_of};
 ghost use Rattle.o2_segs.specs.Limits.{KeepsLimits};
+ghost use Rattle.o2_segs.specs.Sharing.{IsHeldLow};
 
 use crate::asking::{ACCESS_DENIED, NOT_ENOUGH_MEMORY, SHARED, done, held_under, refusal};
 use o2_base::Selector;
@@ -88,6 +89,7 @@ fn has_no_alias(regions: &Regions, pid: u16, sel: u16, held: Held) -> bool
 fn alias(store: &Store, regions: &mut Regions, pid: u16, id: SegId) -> Answer
     requires process { IsProcess regions.old pid }
     requires live { IsSome (entry_of store.now id) }
+    requires own { IsHeldLow regions.old id }
     requires order { IsInOrder store.now regions.old }
 
     ensures full { chosen (is_taken regions.old (Region.Private pid)) 1 4096 1 ≡ None
@@ -109,6 +111,7 @@ fn alias(store: &Store, regions: &mut Regions, pid: u16, id: SegId) -> Answer
                 first: 0,
                 reserved: 0,
             };
+            regions.law();
             hold_new(store, regions, pid, index, held, Access::READABLE_CODE.0);
             done(u32::from(Selector::local(u32::from(index)).0))
         }

@@ -25,7 +25,7 @@ ghost use Rattle.o2_world.specs.Map.{get};
 ghost use Rattle.o2_world.specs.Rulings.{allocation, full_size};
 ghost use Rattle.o2_world.specs.World.{Process, World};
 ghost use Rattle.o2_segs.specs.Answers.{AnswersRoomed, changes_roomed};
-ghost use Rattle.o2_segs.specs.Limits.{KeepsEntries, KeepsLimits, KeepsOthers, made_in};
+ghost use Rattle.o2_segs.specs.Limits.{IsUndone, KeepsEntries, KeepsLimits, KeepsOthers, made_in};
 ghost use Rattle.o2_segs.specs.Made.{IsStop, IsWithNew, MatchesLocked, MatchesWithout, allocation_to, made_by_call, region_for};
 
 use crate::asking::{INVALID_PARAMETER, NOT_ENOUGH_MEMORY, done, refusal, stop_of};
@@ -225,8 +225,8 @@ fn lock_new<S: SwapDevice>(
     ensures live { result ≡ None → IsSome (entry_of store.new id) }
     ensures plain { result ≡ None → (entry store.new id.key).attr.clean ≡ (entry store.old id.key).attr.clean }
     ensures maps { OnlyTables regions.old regions.new }
-    ensures limits { KeepsLimits store.old regions.old store.new regions.new 0 }
-    ensures undone { IsSome result → store.new.made < store.old.made }
+    ensures limits { result ≡ None → KeepsLimits store.old regions.old store.new regions.new 0 }
+    ensures undone { IsSome result → IsUndone store.old regions.old store.new regions.new }
     ensures entries { KeepsOthers store.old store.new id.key }
     ensures order { IsInOrder store.new regions.new }
     ensures guards { IsGuarded store.old regions.old → IsGuarded store.new regions.new }
@@ -266,6 +266,7 @@ fn hold_made(store: &Store, regions: &mut Regions, pid: u16, index: u16, id: Seg
     requires free { IsRun (is_taken regions.old (region_of pid index)) (first_of (region_of pid index)) (end_of (region_of pid index)) 1 index }
     requires live { IsSome (entry_of store.now id) }
     requires plain { (entry store.now id.key).attr.clean ≡ false }
+    requires unheld { IsUnheld regions.old id }
     requires order { IsInOrder store.now regions.old }
 
     ensures answer { result ≡ Roomed.Done (record { error = 0; value = selector_of index }) }
@@ -282,6 +283,7 @@ fn hold_made(store: &Store, regions: &mut Regions, pid: u16, index: u16, id: Seg
         first: 0,
         reserved: 0,
     };
+    regions.law();
     hold_new(store, regions, pid, index, held, Access::WRITABLE_DATA.0);
     Roomed::Done(done(u32::from(Selector::local(u32::from(index)).0)))
 }

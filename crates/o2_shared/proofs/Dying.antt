@@ -58,7 +58,7 @@ told_once ps (e ∷ es) once = go (is_held ps e.1) (told_once ps es once.1)
 -- The names that are kept.
 
 module _ (s u : Shelf) (m : Maps) (names : List (Option Name)) (places : AreInPlace s m names) (behind : IsBehind s u) where
-  lived : (place : ℕ) (k : Name) → IsNamed u names place k → IsNamed s names place k
+  pub lived : (place : ℕ) (k : Name) → IsNamed u names place k → IsNamed s names place k
   lived place k named = record { there = named.there; lives = behind.lived k.id (places.older place k named.there) named.lives }
 
   none_dies : (t : List ℕ) → found_from s t names 4096 ≡ None → found_from u t names 4096 ≡ None

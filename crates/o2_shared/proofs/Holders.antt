@@ -3,13 +3,17 @@ use Rattle.std.proofs.Common.{◌≡◌, ℕ, suc, ◌+◌, ◌-◌, ◌<◌, �
 use Rattle.std.specs.Prelude.{find}
 use Rattle.std.proofs.lemmas.Bool.{and_parts, cond-false, eqb-true}
 use Rattle.std.proofs.lemmas.Bool.Decides.{nat_tests}
+use Rattle.o2_place.specs.declared.seg_id.SegId.{SegId}
+use Rattle.o2_regions.specs.declared.held.Cause.TheVariants.{Loaded}
 use Rattle.o2_regions.specs.declared.held.Held.{Held}
 use Rattle.o2_regions.specs.declared.held.Region.TheVariants.{Private, Shared}
-use Rattle.o2_regions.specs.Maps.{Maps, held_at, more_of, region_of}
+use Rattle.o2_regions.specs.Maps.{Maps, held_at, holds_of, more_of, region_of}
 use Rattle.o2_store.specs.Shelf.{Shelf}
 use Rattle.o2_changes.specs.Holding.{Grants}
-use Rattle.o2_segs.specs.Limits.{KeepsLimits}
-use Rattle.o2_segs.proofs.Limits.{limits_held}
+use Rattle.o2_segs.specs.Answers.{AreAlone}
+use Rattle.o2_segs.specs.Limits.{KeepsLimitsBy}
+use Rattle.o2_segs.specs.Sharing.{AreHeldAtMost, IsHeldOnly, ShareOne}
+use Rattle.o2_segs.proofs.Limits.{alone_granted}
 use Rattle.o2_world.specs.Rulings.{indexes}
 use Rattle.o2_shared.specs.declared.names.Name.{Name}
 use Rattle.o2_shared.specs.Shares.{StillHolds, share_of}
@@ -23,26 +27,18 @@ shared_region pid i high = cond-false (nat_lt i 4096) (Private pid) Shared (abov
     above : (i : ℕ) → 4096 ≤ i → nat_lt i 4096 ≡ false
     above i high = grind (arith, nat_tests)
 
--- nobody holds a run where nobody did
-pub share_limits : (s : Shelf) (m n : Maps) (from to i access : ℕ) (h : Held) → held_at m from i ≡ Some h → Grants m n to i (share_of h) access → KeepsLimits s m s n 0
-share_limits s m n from to i access h at grants = record {
-  size = refl;
-  count = refl;
-  made = omega arith;
-  alone = λ alone. (limits_held s m n to i access (share_of h) (alone.each from i h at) grants).alone alone;
-}
-
 -- who holds something behind a hold more holds the same there as before, or gets it
-share_either : (m n : Maps) (from to i access q j : ℕ) (h x : Held) → held_at m from i ≡ Some h → Grants m n to i (share_of h) access → held_at n q j ≡ Some x → (k : ℕ) × ((y : Held) × (held_at m k j ≡ Some y) × (y.id ≡ x.id))
-share_either m n from to i access q j h x at grants e = go ((q == to) && (j == i)) refl (sym (grants.held q j) ∙ e)
+share_either : (m n : Maps) (from to i access q j : ℕ) (h x : Held) → held_at m from i ≡ Some h → (h.cause ≡ Loaded → ⊥) → Grants m n to i (share_of h) access → held_at n q j ≡ Some x
+    → (k : ℕ) × ((y : Held) × (held_at m k j ≡ Some y) × (y.id ≡ x.id) × (y.cause ≡ Loaded → x.cause ≡ Loaded))
+share_either m n from to i access q j h x at called grants e = go ((q == to) && (j == i)) refl (sym (grants.held q j) ∙ e)
   where
-    more : (o : Option Held) → held_at m to i ≡ o → more_of o (share_of h) ≡ Some x → j ≡ i → (k : ℕ) × ((y : Held) × (held_at m k j ≡ Some y) × (y.id ≡ x.id))
-    more None is f same = (from, (h, ap (held_at m from) same ∙ at, let z : share_of h ≡ x = cc in ap (λ (y : Held). y.id) z))
-    more (Some was) is f same = (to, (was, ap (held_at m to) same ∙ is, let z : record was { holds = was.holds + 1 } ≡ x = cc in ap (λ (y : Held). y.id) z))
+    more : (o : Option Held) → held_at m to i ≡ o → more_of o (share_of h) ≡ Some x → j ≡ i → (k : ℕ) × ((y : Held) × (held_at m k j ≡ Some y) × (y.id ≡ x.id) × (y.cause ≡ Loaded → x.cause ≡ Loaded))
+    more None is f same = (from, (h, ap (held_at m from) same ∙ at, let z : share_of h ≡ x = cc in ap (λ (y : Held). y.id) z, λ c. absurd (called c)))
+    more (Some was) is f same = (let z : record was { holds = was.holds + 1 } ≡ x = cc in (to, (was, ap (held_at m to) same ∙ is, ap (λ (y : Held). y.id) z, λ c. sym (ap (λ (y : Held). y.cause) z) ∙ c)))
 
-    go : (b : Bool) → ((q == to) && (j == i)) ≡ b → cond b (more_of (held_at m to i) (share_of h)) (held_at m q j) ≡ Some x → (k : ℕ) × ((y : Held) × (held_at m k j ≡ Some y) × (y.id ≡ x.id))
+    go : (b : Bool) → ((q == to) && (j == i)) ≡ b → cond b (more_of (held_at m to i) (share_of h)) (held_at m q j) ≡ Some x → (k : ℕ) × ((y : Held) × (held_at m k j ≡ Some y) × (y.id ≡ x.id) × (y.cause ≡ Loaded → x.cause ≡ Loaded))
     go true is f = more (held_at m to i) refl f (eqb-true j i (and_parts (q == to) (j == i) is).1)
-    go false is f = (q, (x, f, refl))
+    go false is f = (q, (x, f, refl, λ c. c))
 
 -- and who held something holds it still
 share_still : (m n : Maps) (to i access q j : ℕ) (h y : Held) → Grants m n to i (share_of h) access → held_at m q j ≡ Some y → (x : Held) × (held_at n q j ≡ Some x) × (x.id ≡ y.id) × (y.holds ≤ x.holds)
@@ -61,21 +57,56 @@ still_shared m n to i access h grants = record { held = λ q j y e. share_still 
 pub still_refl : (m : Maps) → StillHolds m m
 still_refl m = record { held = λ q j h e. (h, e, refl, omega arith); rights = λ q j some. refl }
 
--- each named segment is held where it was
-pub share_places : (s : Shelf) (m n : Maps) (names : List (Option Name)) (from to i access : ℕ) (h : Held) → held_at m from i ≡ Some h → Grants m n to i (share_of h) access → AreInPlace s m names → AreInPlace s n names
-share_places s m n names from to i access h at grants places = record {
-  held = λ place k named. (let was = places.held place k named in
-      let still = share_still m n to i access was.process (4096 + place) h was.held grants was.there in
+-- A process holds once more what another one holds, by a call.
+module _ (s : Shelf) (m n : Maps) (from to i access : ℕ) (h : Held) (at : held_at m from i ≡ Some h) (called : h.cause ≡ Loaded → ⊥) (grants : Grants m n to i (share_of h) access) where
+  share_one : ShareOne m → ShareOne n
+  share_one w = record {
+    one = λ p q j x y high a b by_call.
+        (let c = share_either m n from to i access p j h x at called grants a in
+        let d = share_either m n from to i access q j h y at called grants b in
+        sym d.1.2 ∙ w.one c.0 d.0 j c.1.0 d.1.0 high c.1.1 d.1.1 (λ e. by_call (c.1.3 e)) ∙ c.1.2);
+  }
+
+  share_only : (j : ℕ) (id : SegId) → IsHeldOnly m j id → IsHeldOnly n j id
+  share_only j id was =
+      let still = share_still m n to i access was.process j h was.held grants was.there in
       record {
         process = was.process;
         held = still.0;
         there = still.1;
         same = still.2 ∙ was.same;
-        only = λ q j x e same. (let b = share_either m n from to i access q j h x at grants e in was.only b.0 j b.1.0 b.1.1 (b.1.2 ∙ same));
-      });
-  once = places.once;
-  older = places.older;
-}
+        only = λ q l x e same. (let b = share_either m n from to i access q l h x at called grants e in was.only b.0 l b.1.0 b.1.1 (b.1.2 ∙ same));
+      }
+
+  share_few : (k : ℕ) → 1 ≤ k → AreHeldAtMost m k → AreHeldAtMost n (k + 1)
+  share_few k some most = record { each = λ q j. go q j ((q == to) && (j == i)) (grants.held q j) }
+    where
+      more : (o : Option Held) → holds_of o ≤ k → holds_of (more_of o (share_of h)) ≤ k + 1
+      more None l = omega (arith, some)
+      more (Some was) l = omega (arith, l)
+
+      go : (q j : ℕ) (b : Bool) → held_at n q j ≡ cond b (more_of (held_at m to i) (share_of h)) (held_at m q j) → holds_of (held_at n q j) ≤ k + 1
+      go q j true e = (let a : holds_of (held_at n q j) ≡ holds_of (more_of (held_at m to i) (share_of h)) = ap holds_of e in let b = more (held_at m to i) (most.each to i) in omega (arith, a, b))
+      go q j false e = (let a : holds_of (held_at n q j) ≡ holds_of (held_at m q j) = ap holds_of e in let b = most.each q j in omega (arith, a, b))
+
+  -- nobody holds a run where nobody did
+  share_alone : AreAlone m → AreAlone n
+  share_alone alone = alone_granted m n to i access (share_of h) (alone.each from i h at) grants alone
+
+  pub share_limits : KeepsLimitsBy s m s n 0 1
+  share_limits = record {
+    size = refl;
+    count = refl;
+    made = omega arith;
+    grows = omega arith;
+    alone = share_alone;
+    few = share_few;
+    shares = record { one = share_one; lived = λ id old alive. alive; only = λ j id high old alive was. share_only j id was };
+  }
+
+  -- each named segment is held where it was
+  pub share_places : (names : List (Option Name)) → AreInPlace s m names → AreInPlace s n names
+  share_places names places = record { held = λ place k named. share_only (4096 + place) k.id (places.held place k named); once = places.once; older = places.older }
 
 -- The first process that holds an index.
 

@@ -5,3 +5,4 @@ pub mod Folding
 pub mod Holders
 pub mod NewNames
 pub mod Shares
+pub mod Staying

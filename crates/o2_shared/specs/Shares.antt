@@ -1,7 +1,7 @@
 -- What processes share: what is asked of the maps, and what one process gets of another.
 use Rattle.std.specs.Prelude.{◌≡◌, ℕ, ◌+◌, ◌<◌, ◌≤◌, ◌^◌, ◌==◌, ◌&&◌, Bool, not, nat_le, if◌then◌else◌, find, List, Option, Some, IsSome, is_some}
 use Rattle.o2_desc.specs.Bits.{has_bit}
-use Rattle.o2_regions.specs.declared.held.Cause.TheVariants.{Loaded, Called}
+use Rattle.o2_regions.specs.declared.held.Cause.TheVariants.{Called}
 use Rattle.o2_regions.specs.declared.held.Held.{Held}
 use Rattle.o2_regions.specs.Maps.{Maps, held_at, holds_of}
 use Rattle.o2_store.specs.Shelf.{Shelf, entry}
@@ -10,10 +10,7 @@ use Rattle.o2_world.specs.Rulings.{Ruling, by_load, indexes, refusal}
 use Rattle.o2_world.specs.SharedRulings.{naming_at}
 use Rattle.o2_changes.specs.Holding.{rights_at}
 use Rattle.o2_stands.specs.Parts.{cause_of}
-
--- under a shared index all that a call gave is one segment
-pub record ShareOne (m : Maps) : Type 0 where
-  pub one : (p q i : ℕ) (h k : Held) → 4096 ≤ i → held_at m p i ≡ Some h → held_at m q i ≡ Some k → (h.cause ≡ Loaded → ⊥) → k.id ≡ h.id
+pub use Rattle.o2_segs.specs.Sharing.{ShareOne}
 
 -- each may be held once more
 pub record AreFew (m : Maps) : Type 0 where

@@ -2,11 +2,11 @@
 -- under it, or nothing. A name counts as long as its segment lives.
 use Rattle.std.specs.Prelude.{◌≡◌, ℕ, ◌+◌, ◌<◌, ◌&&◌, List, [], ◌∷◌, Option, Some, None, IsSome, is_some, if◌then◌else◌, slice_index_or}
 use Rattle.o2_place.specs.declared.seg_id.SegId.{SegId}
-use Rattle.o2_regions.specs.declared.held.Held.{Held}
-use Rattle.o2_regions.specs.Maps.{Maps, held_at}
+use Rattle.o2_regions.specs.Maps.{Maps}
 use Rattle.o2_store.specs.Shelf.{Shelf, entry_of}
 use Rattle.o2_world.specs.Known.{same_text, text_name}
 use Rattle.o2_shared.specs.declared.names.Name.{Name}
+pub use Rattle.o2_segs.specs.Sharing.{IsHeldOnly}
 
 -- the segment of a name, where it has the text and the segment lives
 abbrev pub live_in : Shelf → List ℕ → Option Name → Option SegId
@@ -39,14 +39,6 @@ pub record AreTexts (s : Shelf) (names : List (Option Name)) (text : List ℕ �
 pub record IsNamed (s : Shelf) (names : List (Option Name)) (place : ℕ) (k : Name) : Type 0 where
   pub there : slice_index_or names place None ≡ Some k
   pub lives : IsSome (entry_of s k.id)
-
--- A segment is held at an index, and nowhere else.
-pub record IsHeldOnly (m : Maps) (index : ℕ) (id : SegId) : Type 0 where
-  pub process : ℕ
-  pub held : Held
-  pub there : held_at m process index ≡ Some held
-  pub same : held.id ≡ id
-  pub only : (pid i : ℕ) (h : Held) → held_at m pid i ≡ Some h → h.id ≡ id → i ≡ index
 
 -- A named segment that lives is held under the shared index of its name alone, and no two of them have one text. What was named
 -- is older than what is made next.

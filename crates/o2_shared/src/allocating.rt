@@ -5,7 +5,7 @@ ghost use Rattle.o2_desc.specs.Choice.{IsRun};
 ghost use Rattle.o2_image.specs.ImageList.{ImageList};
 ghost use Rattle.o2_regions.specs.Maps.{IsProcess, is_taken};
 ghost use Rattle.o2_store.specs.Pictures.{HasPicture};
-ghost use Rattle.o2_store.specs.Shelf.{AreClean, HasAll, Pictures, entry, entry_of};
+ghost use Rattle.o2_store.specs.Shelf.{AreClean, HasAll, Pictures, entry, entry_of, place_of};
 ghost use Rattle.o2_swapmap.specs.Piles.{all_of};
 ghost use Rattle.o2_changes.specs.Holding.{Grants, KeepsHolds};
 ghost use Rattle.o2_changes.specs.Order.{IsGuarded, IsInOrder};
@@ -46,7 +46,7 @@ const ALREADY_EXISTS: u16 = 183;
 /// be written under a shared selector, and its name; its value is that selector. The text is that up to a zero, or 129 bytes
 /// where none of them is one. 123 where it is no name, 183 where a segment of that name lives, 8 where no shared index is free,
 /// or no more segments may live.
-#[tactic(auto, using(o2_changes::proofs::KeepingHolds::holds_refl))]
+#[tactic(auto, using(o2_changes::proofs::KeepingHolds::holds_refl, o2_segs::proofs::Limits::limits_one))]
 pub fn alloc_shr_seg(
     store: &mut Store,
     regions: &mut Regions,
@@ -62,6 +62,7 @@ pub fn alloc_shr_seg(
 
     ensures answer { (p : Parts) (o : Others) → p.shelf ≡ store.old → p.maps ≡ regions.old → AreTexts store.old names.old o.text
         → Answers (naming (known_in p o) pid size (name_by (Some name.now))) result }
+    ensures word { result.value ≤ 65535 }
     ensures matches { (p : Parts) (o : Others) (w : World) (x : Process) → p.shelf ≡ store.old → p.maps ≡ regions.old
         → AreTexts store.old names.old o.text → process_at w.processes pid ≡ Some x → Matches p w
         → Matches (record p { shelf = store.new; maps = regions.new })
@@ -77,6 +78,7 @@ pub fn alloc_shr_seg(
     ensures holds { KeepsHolds regions.old regions.new }
     ensures limits { KeepsLimits store.old regions.old store.new regions.new 1 }
     ensures entries { KeepsEntries store.old store.new }
+    ensures kept { (k : ℕ) → IsSome (place_of store.old k) → IsSome (place_of store.new k) }
     ensures order { IsInOrder store.new regions.new }
     ensures guards { IsGuarded store.old regions.old → IsGuarded store.new regions.new }
     ensures clean { (pic : Pictures) → AreClean store.old pic → AreClean store.new pic }
@@ -107,7 +109,7 @@ fn full_size(size: u16) -> u32
 }
 
 // A new segment is held at a shared index that is free, and has a name that no segment has.
-#[tactic(auto, using(o2_changes::proofs::KeepingHolds::holds_refl))]
+#[tactic(auto, using(o2_changes::proofs::KeepingHolds::holds_refl, o2_segs::proofs::Limits::limits_one))]
 fn make_named(
     store: &mut Store,
     regions: &mut Regions,
@@ -127,6 +129,7 @@ fn make_named(
 
     ensures answer { (p : Parts) (o : Others) → p.shelf ≡ store.old
         → Answers (naming_to (known_in p o) pid size (folded name.now) (Some index)) result }
+    ensures word { result.value ≤ 65535 }
     ensures matches { (p : Parts) (o : Others) (w : World) (x : Process) → p.shelf ≡ store.old → p.maps ≡ regions.old
         → process_at w.processes pid ≡ Some x → Matches p w
         → Matches (record p { shelf = store.new; maps = regions.new })
@@ -142,6 +145,7 @@ fn make_named(
     ensures holds { KeepsHolds regions.old regions.new }
     ensures limits { KeepsLimits store.old regions.old store.new regions.new 1 }
     ensures entries { KeepsEntries store.old store.new }
+    ensures kept { (k : ℕ) → IsSome (place_of store.old k) → IsSome (place_of store.new k) }
     ensures order { IsInOrder store.new regions.new }
     ensures guards { IsGuarded store.old regions.old → IsGuarded store.new regions.new }
     ensures clean { (pic : Pictures) → AreClean store.old pic → AreClean store.new pic }

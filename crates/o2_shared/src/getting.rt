@@ -1,5 +1,5 @@
 // DosGetSeg.
-ghost use Rattle.std.specs.Prelude.{◌≡◌, List, Option, Some};
+ghost use Rattle.std.specs.Prelude.{◌≡◌, ◌≤◌, List, Option, Some};
 ghost use Rattle.o2_regions.specs.Maps.{IsProcess};
 ghost use Rattle.o2_segbus.specs.Seen.{AreNamed};
 ghost use Rattle.o2_changes.specs.Order.{IsGuarded, IsInOrder};
@@ -11,7 +11,7 @@ ghost use Rattle.o2_world.specs.Holders.{process_at};
 ghost use Rattle.o2_world.specs.SharedRulings.{getting};
 ghost use Rattle.o2_world.specs.World.{Process, World};
 ghost use Rattle.o2_segs.specs.Answers.{Answers, AreAlone};
-ghost use Rattle.o2_segs.specs.Limits.{KeepsLimits};
+ghost use Rattle.o2_segs.specs.Limits.{KeepsLimitsBy};
 ghost use Rattle.o2_shared.specs.declared.names.Name.{Name};
 ghost use Rattle.o2_shared.specs.Shares.{AreFew, ShareOne, StillHolds};
 ghost use Rattle.o2_shared.specs.Texts.{AreInPlace};
@@ -24,7 +24,7 @@ use o2_store::Store;
 
 /// DosGetSeg(sel): the caller holds once more what another process holds under that shared selector. 5 where nobody holds a
 /// gettable segment there. No run of a huge allocation is held.
-#[tactic(auto, using(crate::proofs::Holders::still_refl))]
+#[tactic(auto, using(crate::proofs::Holders::still_refl, o2_segs::proofs::Limits::limits_none))]
 pub fn get_seg(store: &mut Store, regions: &mut Regions, pid: u16, sel: u16) -> Answer
     requires process { IsProcess regions.old pid }
     requires named { AreNamed store.old regions.old }
@@ -35,9 +35,10 @@ pub fn get_seg(store: &mut Store, regions: &mut Regions, pid: u16, sel: u16) -> 
 
     ensures answer { (p : Parts) (o : Others) → p.shelf ≡ store.old → p.maps ≡ regions.old → o.processes ≡ regions.old.processes
         → Answers (getting (known_in p o) pid sel) result }
+    ensures word { result.value ≤ 65535 }
     ensures store { store.new ≡ store.old }
     ensures still { StillHolds regions.old regions.new }
-    ensures limits { KeepsLimits store.old regions.old store.new regions.new 0 }
+    ensures limits { KeepsLimitsBy store.old regions.old store.new regions.new 0 1 }
     ensures processes { regions.new.processes ≡ regions.old.processes }
     ensures places { (names : List (Option Name)) → AreInPlace store.old regions.old names
         → AreInPlace store.new regions.new names }

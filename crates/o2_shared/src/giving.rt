@@ -1,5 +1,5 @@
 // DosGiveSeg.
-ghost use Rattle.std.specs.Prelude.{◌≡◌, ℕ, List, Option, true};
+ghost use Rattle.std.specs.Prelude.{◌≡◌, ◌≤◌, ℕ, List, Option, true};
 ghost use Rattle.o2_regions.specs.Lives.{lives};
 ghost use Rattle.o2_regions.specs.Maps.{IsProcess};
 ghost use Rattle.o2_segbus.specs.Seen.{AreNamed};
@@ -11,7 +11,7 @@ ghost use Rattle.o2_world.specs.Changes.{with_all};
 ghost use Rattle.o2_world.specs.SharedRulings.{giving};
 ghost use Rattle.o2_world.specs.World.{World};
 ghost use Rattle.o2_segs.specs.Answers.{Answers, AreAlone};
-ghost use Rattle.o2_segs.specs.Limits.{KeepsLimits};
+ghost use Rattle.o2_segs.specs.Limits.{KeepsLimitsBy};
 ghost use Rattle.o2_shared.specs.declared.names.Name.{Name};
 ghost use Rattle.o2_shared.specs.Shares.{AreFew, ShareOne, StillHolds};
 ghost use Rattle.o2_shared.specs.Texts.{AreInPlace};
@@ -24,7 +24,7 @@ use o2_store::Store;
 
 /// DosGiveSeg(sel, pid, psel): the process `to` holds once more what the caller holds; its value is the same selector. 5 where
 /// the caller holds nothing there, or no giveable segment; 303 where no process `to` lives. No run of a huge allocation is held.
-#[tactic(auto, using(crate::proofs::Holders::still_refl))]
+#[tactic(auto, using(crate::proofs::Holders::still_refl, o2_segs::proofs::Limits::limits_none))]
 pub fn give_seg(
     store: &mut Store,
     regions: &mut Regions,
@@ -43,9 +43,10 @@ pub fn give_seg(
 
     ensures answer { (p : Parts) (o : Others) → p.shelf ≡ store.old → p.maps ≡ regions.old → AreMarked ends.now p
         → Answers (giving (known_in p o) pid sel to) result }
+    ensures word { result.value ≤ 65535 }
     ensures store { store.new ≡ store.old }
     ensures still { StillHolds regions.old regions.new }
-    ensures limits { KeepsLimits store.old regions.old store.new regions.new 0 }
+    ensures limits { KeepsLimitsBy store.old regions.old store.new regions.new 0 1 }
     ensures processes { regions.new.processes ≡ regions.old.processes }
     ensures places { (names : List (Option Name)) → AreInPlace store.old regions.old names
         → AreInPlace store.new regions.new names }

@@ -1,5 +1,5 @@
 // What holds of the segments that processes share, where a machine matches a world.
-ghost use Rattle.std.specs.Prelude.{ℕ, List, Option};
+ghost use Rattle.std.specs.Prelude.{◌≤◌, ℕ, List, Option};
 ghost use Rattle.o2_regions.specs.Maps.{Maps};
 ghost use Rattle.o2_segbus.specs.Guards.{AreAged};
 ghost use Rattle.o2_store.specs.Shelf.{Shelf};
@@ -9,6 +9,7 @@ ghost use Rattle.o2_world.specs.Changes.{told_of};
 ghost use Rattle.o2_world.specs.Known.{text_name};
 ghost use Rattle.o2_world.specs.Tied.{IsTied};
 ghost use Rattle.o2_world.specs.World.{World};
+ghost use Rattle.o2_segs.specs.Sharing.{KeepsShares};
 ghost use Rattle.o2_shared.specs.declared.names.Name.{Name};
 ghost use Rattle.o2_shared.specs.Shares.{ShareOne};
 ghost use Rattle.o2_shared.specs.Texts.{AreInPlace, AreOnce, AreTexts, IsBehind};
@@ -25,4 +26,10 @@ pub fn texts_die_with_their_segments()
         → AreAged s → AreInPlace s m names → IsBehind s p.shelf → AreTexts s names (text_name texts) → AreOnce texts
         → IsTidy w.processes w.names w.reserved → Matches p w
         → AreTexts p.shelf names (text_name (told_of w.processes texts)) × AreOnce (told_of w.processes texts) }
+{}
+
+/// Names stay in place where each segment that is held at a shared index alone goes on to be held so as long as it lives.
+pub fn names_stay_in_place()
+    ensures { (s t : Shelf) (m n : Maps) (names : List (Option Name))
+        → AreInPlace s m names → KeepsShares s m t n s.made → s.made ≤ t.made → AreInPlace t n names }
 {}

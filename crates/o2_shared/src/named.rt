@@ -13,7 +13,7 @@ ghost use Rattle.o2_world.specs.SharedNames.{name_by};
 ghost use Rattle.o2_world.specs.SharedRulings.{index_of, sharing, sharing_at};
 ghost use Rattle.o2_world.specs.World.{Process, World};
 ghost use Rattle.o2_segs.specs.Answers.{Answers, AreAlone};
-ghost use Rattle.o2_segs.specs.Limits.{KeepsLimits};
+ghost use Rattle.o2_segs.specs.Limits.{KeepsLimitsBy};
 ghost use Rattle.o2_shared.specs.declared.names.Name.{Name};
 ghost use Rattle.o2_shared.specs.Shares.{AreFew, ShareOne, StillHolds, is_share_of};
 ghost use Rattle.o2_shared.specs.Texts.{AreInPlace, AreTexts, IsHeldOnly};
@@ -33,7 +33,7 @@ const FILE_NOT_FOUND: u16 = 2;
 /// DosGetShrSeg(name, psel): the caller holds once more the segment that has a name; its value is the segment's shared selector.
 /// The text is that up to a zero, or 129 bytes where none of them is one. 123 where it is no name, 2 where no segment of that
 /// name lives. No run of a huge allocation is held.
-#[tactic(auto, using(crate::proofs::Holders::still_refl))]
+#[tactic(auto, using(crate::proofs::Holders::still_refl, o2_segs::proofs::Limits::limits_none))]
 pub fn get_shr_seg(
     store: &mut Store,
     regions: &mut Regions,
@@ -52,11 +52,12 @@ pub fn get_shr_seg(
     ensures answer { (p : Parts) (o : Others) → p.shelf ≡ store.old → p.maps ≡ regions.old
         → o.processes ≡ regions.old.processes → AreTexts store.old names.old o.text
         → Answers (sharing (known_in p o) pid (name_by (Some name.now))) result }
+    ensures word { result.value ≤ 65535 }
     ensures store { store.new ≡ store.old }
     ensures names { names.new ≡ names.old }
     ensures places { AreInPlace store.new regions.new names.new }
     ensures still { StillHolds regions.old regions.new }
-    ensures limits { KeepsLimits store.old regions.old store.new regions.new 0 }
+    ensures limits { KeepsLimitsBy store.old regions.old store.new regions.new 0 1 }
     ensures processes { regions.new.processes ≡ regions.old.processes }
     ensures order { IsInOrder store.new regions.new }
     ensures guards { IsGuarded store.old regions.old → IsGuarded store.new regions.new }
@@ -76,7 +77,7 @@ pub fn get_shr_seg(
 }
 
 // A process holds once more what is held under a shared index, where that is the segment of a name, which is held there alone.
-#[tactic(auto, using(crate::proofs::Holders::still_refl))]
+#[tactic(auto, using(crate::proofs::Holders::still_refl, o2_segs::proofs::Limits::limits_none))]
 fn share_named(store: &Store, regions: &mut Regions, pid: u16, index: u16, id: SegId) -> Answer
     requires process { IsProcess regions.old pid }
     requires first { 4096 ≤ index }
@@ -91,10 +92,11 @@ fn share_named(store: &Store, regions: &mut Regions, pid: u16, index: u16, id: S
     ensures answer { (p : Parts) (o : Others) → p.shelf ≡ store.now → p.maps ≡ regions.old
         → o.processes ≡ regions.old.processes
         → Answers (sharing_at (known_in p o) pid (index_of (known_in p o) id.age)) result }
+    ensures word { result.value ≤ 65535 }
     ensures places { (names : List (Option Name)) → AreInPlace store.now regions.old names
         → AreInPlace store.now regions.new names }
     ensures still { StillHolds regions.old regions.new }
-    ensures limits { KeepsLimits store.now regions.old store.now regions.new 0 }
+    ensures limits { KeepsLimitsBy store.now regions.old store.now regions.new 0 1 }
     ensures processes { regions.new.processes ≡ regions.old.processes }
     ensures order { IsInOrder store.now regions.new }
     ensures guards { IsGuarded store.now regions.old → IsGuarded store.now regions.new }

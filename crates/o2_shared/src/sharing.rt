@@ -8,7 +8,7 @@ ghost use Rattle.o2_store.specs.Shelf.{entry_of};
 ghost use Rattle.o2_changes.specs.Holding.{Grants};
 ghost use Rattle.o2_changes.specs.Order.{IsGuarded, IsInOrder};
 ghost use Rattle.o2_changes.specs.Worlds.{MatchesHold};
-ghost use Rattle.o2_segs.specs.Limits.{KeepsLimits};
+ghost use Rattle.o2_segs.specs.Limits.{KeepsLimitsBy};
 ghost use Rattle.o2_stands.specs.Parts.{cause_of};
 ghost use Rattle.o2_world.specs.Rulings.{by_load};
 ghost use Rattle.o2_shared.specs.declared.names.Name.{Name};
@@ -123,6 +123,7 @@ pub(crate) fn share(
     requires high { 4096 ≤ index }
     requires index { index < 8192 }
     requires held { held_at regions.old from index ≡ Some held }
+    requires called { held.cause ≡ Cause.Loaded → ⊥ }
     requires same { IfSome (held_at regions.old to index) (λ h. h.id ≡ held.id) }
     requires few { holds_of (held_at regions.old to index) + 1 < 2 ^ 32 }
     requires live { IsSome (entry_of store.now held.id) }
@@ -130,7 +131,7 @@ pub(crate) fn share(
 
     ensures grants { Grants regions.old regions.new to index (share_of held) (descriptor_at regions.old from index).access }
     ensures still { StillHolds regions.old regions.new }
-    ensures limits { KeepsLimits store.now regions.old store.now regions.new 0 }
+    ensures limits { KeepsLimitsBy store.now regions.old store.now regions.new 0 1 }
     ensures places { (names : List (Option Name)) → AreInPlace store.now regions.old names
         → AreInPlace store.now regions.new names }
     ensures order { IsInOrder store.now regions.new }

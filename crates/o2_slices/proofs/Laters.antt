@@ -15,11 +15,11 @@ use Rattle.o2_world.specs.declared.types.State.TheVariants.{Live}
 use Rattle.o2_world.specs.declared.types.State.{State}
 use Rattle.o2_world.specs.World.{Line, Process, Setting, World, is_live}
 use Rattle.o2_world.specs.Calls.{Before, Effect}
-use Rattle.o2_world.specs.Changes.{used}
+use Rattle.o2_world.specs.Changes.{told_of, used}
 use Rattle.o2_world.specs.Effect.{effect}
 use Rattle.o2_world.specs.Holders.{kept, process_at, with_process}
 use Rattle.o2_world.specs.Known.{known_of}
-use Rattle.o2_world.specs.Run.{after, any_lives, before, is_over, live_flags, next_dispatch, plainly, acted, step}
+use Rattle.o2_world.specs.Run.{after, any_lives, before, is_over, live_flags, next_dispatch, plainly, process_after, acted, step}
 use Rattle.o2_world.specs.Views.{with_bytes}
 use Rattle.o2_world.proofs.Budget.{budget_after, not_over, step_runs}
 use Rattle.o2_world.proofs.Flags.{flags_after}
@@ -58,6 +58,7 @@ pub record IsAt (p : Parts) (s : Setting) (w : World) : Type 0 where
 record IsNextAt (p : Parts) (s : Setting) (w : World) : Type 0 where
   at : IsAt p s (step s w)
   silent : IsSilent true s w
+  texts : (step s w).texts ≡ w.texts
   flags : live_flags (step s w).processes ≡ live_flags w.processes
   dispatch : (step s w).dispatch ≡ counted (next_dispatch s w)
 
@@ -65,6 +66,7 @@ record IsNextAt (p : Parts) (s : Setting) (w : World) : Type 0 where
 record IsLaterAt (p : Parts) (s : Setting) (w : World) (k : ℕ) : Type 0 where
   at : IsAt p s (after s w k)
   silent : AreSilent true s w k
+  texts : (after s w k).texts ≡ w.texts
   flags : live_flags (after s w k).processes ≡ live_flags w.processes
   dispatch : 0 < k → (after s w k).dispatch ≡ counted_by k (next_dispatch s w)
   next : next_dispatch s (after s w k) ≡ counted_by k (next_dispatch s w)
@@ -100,8 +102,8 @@ counts_none d = ap (λ (l : ℕ). record d { left = l; budget = d.budget - 0 }) 
 over_not : (flags : List Bool) (n : ℕ) → list_any (λ (b : Bool). b) flags ≡ true → 0 < n → (not (list_any (λ (b : Bool). b) flags) || (n == 0)) ≡ false
 over_not flags n any h = rw any (grind arith)
 
-goes_on_with : (b : Bool) (x y : Dispatch) → b ≡ true → (if b then x else y) ≡ x
-goes_on_with b x y e = rw e refl
+goes_on_with : {A : Type 0} (b : Bool) (x y : A) → b ≡ true → (if b then x else y) ≡ x
+goes_on_with {A} b x y e = rw e refl
 
 -- a turn that has steps left goes on
 stays_turn : (quantum : ℕ) (flags : List Bool) (d : Dispatch) → 0 < d.left → lives flags d.current ≡ true → dispatched quantum flags d ≡ d
@@ -262,6 +264,10 @@ module _ (pid : ℕ) (images : ImageList) (device : ℕ) (block : ℕ → List �
     unfolding plainly
     then_lines = ap (λ (v : World). v.lines) step_is ∙ (ap (λ (l : List Line). w.lines ++ l) (nothing e.lines done.puts.lines) ∙ append-nil w.lines)
 
+    then_texts : (step s w).texts ≡ w.texts
+    unfolding plainly
+    then_texts = ap (λ (v : World). v.texts) step_is ∙ goes_on_with (is_live e.state) w.texts (told_of (with_process w.processes d.current (process_after x e)) w.texts) lives_on
+
     then_dispatch : (step s w).dispatch ≡ counted d
     unfolding plainly
     then_dispatch = ap (λ (v : World). v.dispatch) step_is
@@ -278,6 +284,7 @@ module _ (pid : ℕ) (images : ImageList) (device : ℕ) (block : ℕ → List �
         lawful = move.follows.lawful;
       };
       silent = record { runs = runs; room = room; input = then_input; console = then_console; lines = then_lines };
+      texts = then_texts;
       flags = then_flags;
       dispatch = then_dispatch;
     }
@@ -320,6 +327,7 @@ module _ (pid : ℕ) (images : ImageList) (device : ℕ) (block : ℕ → List �
     step_later k m b h move turn budget = record {
       at = one.at;
       silent = λ j below. (let P : ℕ → Type 0 = λ i. IsSilent true s (after s w i) in below_more P k h.silent one.silent j (omega (arith, below)));
+      texts = one.texts ∙ h.texts;
       flags = flags_now;
       dispatch = λ some. counted_now;
       next =
@@ -348,6 +356,7 @@ module _ (pid : ℕ) (images : ImageList) (device : ℕ) (block : ℕ → List �
     steps_later zero a b same here turn budget = record {
       at = subst (λ (z : Seat). IsAt (parts_at z) s w) same here;
       silent = λ j below. absurd (omega (arith, below));
+      texts = refl;
       flags = refl;
       dispatch = λ some. absurd (omega (arith, some));
       next = sym (counts_none (next_dispatch s w));
@@ -356,7 +365,7 @@ module _ (pid : ℕ) (images : ImageList) (device : ℕ) (block : ℕ → List �
         step_later k steps.0 b (steps_later k a steps.0 steps.1.0 here (omega (arith, turn)) (omega (arith, budget))) steps.1.1 turn budget
 
     pub sliced_later : (k : ℕ) (a b : Seat) → AreSliced pid k a b → IsAt (parts_at a) s w → k < (next_dispatch s w).left → k ≤ w.dispatch.budget → StandsLater (parts_at b) s w k
-    sliced_later k a b sliced here turn budget = record { stands = (last_at sliced.behind).stands; silent = h.silent; flags = h.flags; dispatch = h.dispatch } where
+    sliced_later k a b sliced here turn budget = record { stands = (last_at sliced.behind).stands; silent = h.silent; texts = h.texts; flags = h.flags; dispatch = h.dispatch } where
       h : IsLaterAt (parts_at sliced.last) s w k
       h = steps_later k a sliced.last sliced.steps here turn budget
 

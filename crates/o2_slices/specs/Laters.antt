@@ -11,9 +11,11 @@ use Rattle.o2_world.specs.Run.{after, live_flags, next_dispatch}
 abbrev pub counted_by : ℕ → Dispatch → Dispatch
 counted_by k d = record d { left = d.left - k; budget = d.budget - k }
 
--- the parts stand for the world k steps later: they put nothing, took nothing and fitted, and are counted; all that lived live on
+-- the parts stand for the world k steps later: they put nothing, took nothing, named nothing and fitted, and are counted; all that lived
+-- live on
 pub record StandsLater (p : Parts) (s : Setting) (w : World) (k : ℕ) : Type 0 where
   pub stands : Stands p (after s w k)
   pub silent : AreSilent true s w k
+  pub texts : (after s w k).texts ≡ w.texts
   pub flags : live_flags (after s w k).processes ≡ live_flags w.processes
   pub dispatch : 0 < k → (after s w k).dispatch ≡ counted_by k (next_dispatch s w)

@@ -3,8 +3,10 @@ ghost use Rattle.std.specs.Prelude.{◌≡◌, ◌<◌, ◌≤◌, ℕ, List, le
 ghost use Rattle.o2_regions.specs.Lives.{lives};
 ghost use Rattle.o2_run.specs.Slice.{OverSome};
 ghost use Rattle.o2_stands.specs.Stands.{IsSetTo, Stands};
+ghost use Rattle.o2_store.specs.Shelf.{SameTables};
 ghost use Rattle.o2_world.specs.Run.{is_over, next_dispatch};
 ghost use Rattle.o2_world.specs.World.{Setting, World};
+ghost use Rattle.o2_segs.specs.Sharing.{AreHeldAtMost};
 ghost use Rattle.o2_slices.specs.Laters.{StandsLater};
 ghost use Rattle.o2_space.specs.Parts.{parts_in};
 ghost use Rattle.o2_space.specs.Stands.{GoTogether};
@@ -38,6 +40,10 @@ pub fn slice_of(space: &mut Space, pid: u16, most: u32) -> u32
     ensures count { length space.new.procs.items ≡ length space.old.procs.items }
     ensures avail { space.new.services.avail ≡ space.old.services.avail }
     ensures made { space.new.store.made ≡ space.old.store.made }
+    // The same segments live, and the same names are kept.
+    ensures names { space.new.names ≡ space.old.names }
+    ensures tables { SameTables space.old.store space.new.store }
+    ensures held { (k : ℕ) → AreHeldAtMost space.old.regions k → AreHeldAtMost space.new.regions k }
 {
     lawful(&space.store, &space.regions);
     let mut cpu = space.procs[pid as usize - 1].cpu;

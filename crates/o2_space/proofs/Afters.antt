@@ -9,7 +9,7 @@ use Rattle.o2_world.specs.World.{Line, Process, Traps, World, is_live}
 use Rattle.o2_world.specs.Holders.{process_at, with_process}
 use Rattle.o2_world.specs.Views.{with_bytes}
 use Rattle.o2_world.specs.Calls.{Before, Effect}
-use Rattle.o2_world.specs.Changes.{Change, Drops, Finishes, Frees, Holds, Locks, Makes, Marks, Names, Reserves, Resizes, at_number, at_place, swept, takes, with_all, with_change, with_changes}
+use Rattle.o2_world.specs.Changes.{Change, Drops, Finishes, Frees, Holds, Locks, Makes, Marks, Names, Reserves, Resizes, at_number, at_place, swept, takes, told_of, with_all, with_change, with_changes}
 use Rattle.o2_world.specs.Effect.{has_trap_flag, single_stepped}
 use Rattle.o2_world.specs.Run.{changed, plainly, worked, working}
 use Rattle.o2_world.proofs.Quiet.{changed_plain}
@@ -132,3 +132,8 @@ module _ (q : Parts) (w : World) (d : Dispatch) (x : Process) (r : Effect) (ls :
       (let m = matched_by q _ _ _ _ stands in
       subst (λ (ps : List Process). MatchesIn q ps (swept (record u { processes = ps })).names u.next_name (swept (record u { processes = ps })).reserved)
       (sym (number_is u.processes d.current y over at)) m)
+
+  -- texts of names that nobody holds go
+  pub trapped_texts : (changed w d x ended).texts ≡ told_of (changed w d x ended).processes u.texts
+  unfolding with_changes
+  trapped_texts = subst (λ (z : World). z.texts ≡ told_of z.processes u.texts) (sym ended_is) refl

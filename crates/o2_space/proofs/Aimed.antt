@@ -1,31 +1,39 @@
 -- The pointer of a call on segments goes on to be good behind what the call changes, and its segment stays in memory.
-use Rattle.std.proofs.Common.{◌≡◌, ◌⊎◌, inl, inr, ℕ, ◌+◌, ◌/◌, ◌==◌, ◌&&◌, ◌||◌, nat_le, Bool, true, false, cond, length, Option, Some, None, IsSome, is_some, ap, sym, ◌∙◌, refl, subst, arith}
+use Rattle.std.proofs.Common.{◌≡◌, ◌++◌, ◌∷◌, [], ◌⊎◌, inl, inr, ℕ, ◌+◌, ◌/◌, ◌==◌, ◌&&◌, ◌||◌, nat_le, Bool, true, false, cond, length, Option, Some, None, IsSome, is_some, ap, sym, ◌∙◌, refl, subst, arith}
 use Rattle.std.specs.Prelude.{option_map}
 use Rattle.std.proofs.lemmas.Bool.{false≢true}
 use Rattle.o2_phys.proofs.Parts.{length-part}
 use Rattle.o2_isa.specs.declared.cpu.Cpu.{Cpu}
 use Rattle.o2_isa.specs.Pointers.{has_present_range, is_ready}
-use Rattle.o2_isa.specs.View.{Hold, bound_in, is_local, is_null, is_writable}
+use Rattle.o2_isa.specs.View.{Hold, bound_in, is_local, is_null, is_readable, is_writable}
 use Rattle.o2_regions.specs.declared.held.Held.{Held}
 use Rattle.o2_regions.specs.Maps.{Maps, held_at}
 use Rattle.o2_entries.specs.Tables.{slot_at}
 use Rattle.o2_store.specs.Shelf.{Shelf, entry, place_of}
 use Rattle.o2_segbus.specs.Bus.{AreInside, held_under}
+use Rattle.o2_desc.specs.Bits.{rights_of}
+use Rattle.o2_segbus.specs.Settled.{descriptor_at}
 use Rattle.o2_segbus.specs.Seen.{AreNamed, bytes_from, bytes_in, bytes_under, hold_in, hold_of, key_of, present_in, present_under, seen, seen_with}
 use Rattle.o2_segbus.proofs.Holds.{bound_is, under_at}
 use Rattle.o2_service.specs.Needs.{AreLive, needs}
 use Rattle.o2_service.specs.Told.{IsHeldWell}
-use Rattle.o2_changes.specs.Holding.{KeepsHolds}
+use Rattle.o2_place.specs.declared.seg_id.SegId.{SegId}
+use Rattle.o2_shared.specs.Shares.{StillHolds}
+use Rattle.o2_calls.proofs.SharedOver.{keeps_still}
+use Rattle.o2_gate.specs.declared.sharing.SharedArguments.TheVariants.{Name, Share, Give, Get}
+use Rattle.o2_gate.specs.declared.text.TextArgument.{TextArgument}
+use Rattle.o2_gate.specs.SharedReplies.{text_target}
 use Rattle.o2_ends.proofs.Letting.{live_id}
 use Rattle.o2_segs.specs.Limits.{KeepsEntries}
 use Rattle.o2_gate.specs.declared.gathering.SegmentArguments.{SegmentArguments}
-use Rattle.o2_gate.specs.declared.gathering.SegmentArguments.TheVariants.{Alloc, Realloc, Free, Size, Lock, Unlock, Alias}
+use Rattle.o2_gate.specs.declared.gathering.SegmentArguments.TheVariants.{Alloc, Realloc, Free, Size, Lock, Unlock, Alias, Shared}
 use Rattle.o2_gate.specs.Gathers.{targets}
-use Rattle.o2_gate.specs.Pointed.{are_ready}
+use Rattle.o2_gate.specs.Pointed.{are_ready, pointer}
 use Rattle.o2_calls.specs.Stops.{LeavesEntries, LeavesHolds}
 use Rattle.o2_stepping.specs.Rooms.{aimed_in, pair_of}
+use Rattle.o2_stepping.proofs.Bringing.{needs_both}
 use Rattle.o2_stepping.proofs.Named.{one_of, or_back, or_front}
-use Rattle.o2_stepping.proofs.Rounds.{live_pair}
+use Rattle.o2_stepping.proofs.Rounds.{live_more, live_pair}
 
 -- What a conjunction says.
 
@@ -45,18 +53,20 @@ none_some e = cc
 
 -- What is held under a selector goes on to be held.
 
-under_kept : (m n : Maps) (pid z : ℕ) (h : Held) → ((h : Held) → held_at m pid (z / 8) ≡ Some h → held_at n pid (z / 8) ≡ Some h) → held_under m pid z ≡ Some h → held_under n pid z ≡ Some h
-under_kept m n pid z h keeps e = go (is_null z) (is_local z) e
+under_still : (m n : Maps) (pid z : ℕ) (h : Held) → StillHolds m n → held_under m pid z ≡ Some h → (k : Held) × (held_under n pid z ≡ Some k) × (k.id ≡ h.id)
+under_still m n pid z h holds e = go (is_null z) (is_local z) e
   where
-    go : (a b : Bool) → cond a None (cond b (held_at m pid (z / 8)) None) ≡ Some h → cond a None (cond b (held_at n pid (z / 8)) None) ≡ Some h
+    go : (a b : Bool) → cond a None (cond b (held_at m pid (z / 8)) None) ≡ Some h → (k : Held) × (cond a None (cond b (held_at n pid (z / 8)) None) ≡ Some k) × (k.id ≡ h.id)
     go true b f = absurd (none_some f)
     go false false f = absurd (none_some f)
-    go false true f = keeps h f
+    go false true f = (let x = holds.held pid (z / 8) h f in (x.0, x.1, x.2))
 
-pub under_of : (m n : Maps) (pid z : ℕ) (h : Held) → KeepsHolds m n → held_under m pid z ≡ Some h → held_under n pid z ≡ Some h
-under_of m n pid z h holds e = under_kept m n pid z h (holds.held pid (z / 8)) e
+pub under_of : (m n : Maps) (pid z : ℕ) (h : Held) → StillHolds m n → held_under m pid z ≡ Some h → option_map (hold_of n pid (z / 8)) (held_under n pid z) ≡ Some (hold_of n pid (z / 8) h)
+under_of m n pid z h holds e =
+    let x = under_still m n pid z h holds e in
+    ap (option_map (hold_of n pid (z / 8))) x.1 ∙ ap (λ (id : SegId). Some (record { name = id.age; rights = rights_of (descriptor_at n pid (z / 8)).access })) x.2
 
-pub hold_same : (m n : Maps) (pid i : ℕ) (h : Held) → KeepsHolds m n → held_at m pid i ≡ Some h → hold_of n pid i h ≡ hold_of m pid i h
+pub hold_same : (m n : Maps) (pid i : ℕ) (h : Held) → StillHolds m n → held_at m pid i ≡ Some h → hold_of n pid i h ≡ hold_of m pid i h
 hold_same m n pid i h holds e = ap (λ (r : ℕ). record { name = h.id.age; rights = r }) (holds.rights pid i (ap is_some e))
 
 -- the bytes of a segment in memory are as many as its size says
@@ -68,7 +78,7 @@ long u inside k some = go (place_of u k) refl some
     go (Some r) e x = length-part u.memory r.0 (entry u k).size (inside.within k r.0 r.1 e)
 
 module _ (s t : Shelf) (m n : Maps) (pid : ℕ) (well : IsHeldWell s m) (named : AreNamed s m) (now : AreNamed t n) (inside : AreInside s) (within : AreInside t) where
-  module _ (z : ℕ) (holds : KeepsHolds m n) (entries : KeepsEntries s t) (stays : (k : ℕ) → needs (pair_of (held_under m pid z)) k ≡ true → IsSome (slot_at t.entries k) → IsSome (place_of s k) → IsSome (place_of t k)) where
+  module _ (z : ℕ) (holds : StillHolds m n) (entries : KeepsEntries s t) (stays : (k : ℕ) → needs (pair_of (held_under m pid z)) k ≡ true → IsSome (slot_at t.entries k) → IsSome (place_of s k) → IsSome (place_of t k)) where
     module _ (h : Held) (under : held_under m pid z ≡ Some h) where
       at : held_at m pid (z / 8) ≡ Some h
       at = under_at m pid z h under
@@ -83,7 +93,7 @@ module _ (s t : Shelf) (m n : Maps) (pid : ℕ) (well : IsHeldWell s m) (named :
       key_was = named pid (z / 8) h at
 
       key_is : key_of t h.id.age ≡ Some key
-      key_is = now pid (z / 8) h (holds.held pid (z / 8) h at)
+      key_is = (let x = holds.held pid (z / 8) h at in subst (λ (id : SegId). key_of t id.age ≡ Some id.key) x.2 (now pid (z / 8) x.0 x.1))
 
       needed : needs (pair_of (held_under m pid z)) key ≡ true
       needed = ap (λ (o : Option Held). needs (pair_of o) key) under ∙ same key
@@ -104,52 +114,72 @@ module _ (s t : Shelf) (m n : Maps) (pid : ℕ) (well : IsHeldWell s m) (named :
           ∙ ((entries.each key slot).2
           ∙ (sym (long s inside key (here x)) ∙ ap (λ (o : Option ℕ). length (bytes_under s o)) (sym key_was))))
 
-      range_kept : (a b : Cpu) (o c : ℕ) → has_present_range is_writable (seen s m pid a) o c (Some (hold_of m pid (z / 8) h)) ≡ true
-          → has_present_range is_writable (seen t n pid b) o c (Some (hold_of n pid (z / 8) h)) ≡ true
+      range_kept : (test : ℕ → Bool) (a b : Cpu) (o c : ℕ) → has_present_range test (seen s m pid a) o c (Some (hold_of m pid (z / 8) h)) ≡ true
+          → has_present_range test (seen t n pid b) o c (Some (hold_of n pid (z / 8) h)) ≡ true
       unfolding seen_with
-      range_kept a b o c x =
-          let ok : Bool = is_writable (hold_of m pid (z / 8) h).rights in
+      range_kept test a b o c x =
+          let ok : Bool = test (hold_of m pid (z / 8) h).rights in
           let fits : Bool = nat_le (o + c) (length (bytes_in s h.id.age)) in
           let present = left_of (present_in s h.id.age) (ok && fits) x in
           let rest = right_of (present_in s h.id.age) (ok && fits) x in
-          all_of (present_in t h.id.age) (is_writable (hold_of n pid (z / 8) h).rights) (nat_le (o + c) (length (bytes_in t h.id.age)))
+          all_of (present_in t h.id.age) (test (hold_of n pid (z / 8) h).rights) (nat_le (o + c) (length (bytes_in t h.id.age)))
           (ap (present_under t) key_is ∙ there present)
-          (ap (λ (x : Hold). is_writable x.rights) (hold_same m n pid (z / 8) h holds at) ∙ left_of ok fits rest)
+          (ap (λ (x : Hold). test x.rights) (hold_same m n pid (z / 8) h holds at) ∙ left_of ok fits rest)
           (ap (nat_le (o + c)) (same_length present) ∙ right_of ok fits rest)
 
-    pub pointer_kept : (a b : Cpu) (o c : ℕ) → is_ready is_writable (seen s m pid a) z o c ≡ true → is_ready is_writable (seen t n pid b) z o c ≡ true
+    pub pointer_kept : (test : ℕ → Bool) (a b : Cpu) (o c : ℕ) → is_ready test (seen s m pid a) z o c ≡ true → is_ready test (seen t n pid b) z o c ≡ true
     unfolding is_ready seen_with
-    pointer_kept a b o c x = go (one_of (c == 0) (has_present_range is_writable (seen s m pid a) o c (bound_in (hold_in m pid) z)) x)
+    pointer_kept test a b o c x = go (one_of (c == 0) (has_present_range test (seen s m pid a) o c (bound_in (hold_in m pid) z)) x)
       where
-        by : (q : Option Held) → held_under m pid z ≡ q → has_present_range is_writable (seen s m pid a) o c (option_map (hold_of m pid (z / 8)) q) ≡ true
-            → has_present_range is_writable (seen t n pid b) o c (bound_in (hold_in n pid) z) ≡ true
+        by : (q : Option Held) → held_under m pid z ≡ q → has_present_range test (seen s m pid a) o c (option_map (hold_of m pid (z / 8)) q) ≡ true
+            → has_present_range test (seen t n pid b) o c (bound_in (hold_in n pid) z) ≡ true
         by None e y = absurd (false≢true y)
         by (Some h) e y =
-            subst (λ (q : Option Hold). has_present_range is_writable (seen t n pid b) o c q ≡ true)
-            (sym (bound_is n pid z ∙ ap (option_map (hold_of n pid (z / 8))) (under_of m n pid z h holds e)))
-            (range_kept h e a b o c y)
+            subst (λ (q : Option Hold). has_present_range test (seen t n pid b) o c q ≡ true)
+            (sym (bound_is n pid z ∙ under_of m n pid z h holds e))
+            (range_kept h e test a b o c y)
 
-        go : ((c == 0) ≡ true) ⊎ (has_present_range is_writable (seen s m pid a) o c (bound_in (hold_in m pid) z) ≡ true)
-            → ((c == 0) || has_present_range is_writable (seen t n pid b) o c (bound_in (hold_in n pid) z)) ≡ true
-        go (inl e) = or_front (c == 0) (has_present_range is_writable (seen t n pid b) o c (bound_in (hold_in n pid) z)) e
+        go : ((c == 0) ≡ true) ⊎ (has_present_range test (seen s m pid a) o c (bound_in (hold_in m pid) z) ≡ true)
+            → ((c == 0) || has_present_range test (seen t n pid b) o c (bound_in (hold_in n pid) z)) ≡ true
+        go (inl e) = or_front (c == 0) (has_present_range test (seen t n pid b) o c (bound_in (hold_in n pid) z)) e
         go (inr y) =
-            or_back (c == 0) (has_present_range is_writable (seen t n pid b) o c (bound_in (hold_in n pid) z))
-            (by (held_under m pid z) refl (subst (λ (q : Option Hold). has_present_range is_writable (seen s m pid a) o c q ≡ true) (bound_is m pid z) y))
+            or_back (c == 0) (has_present_range test (seen t n pid b) o c (bound_in (hold_in n pid) z))
+            (by (held_under m pid z) refl (subst (λ (q : Option Hold). has_present_range test (seen s m pid a) o c q ≡ true) (bound_is m pid z) y))
+
+  -- that of a text, and that of a word
+  two_kept : (x : TextArgument) (z o : ℕ) (a b : Cpu) → StillHolds m n → KeepsEntries s t
+      → ((k : ℕ) → needs (pair_of (held_under m pid x.selector) ++ pair_of (held_under m pid z)) k ≡ true → IsSome (slot_at t.entries k) → IsSome (place_of s k) → IsSome (place_of t k))
+      → are_ready (seen s m pid a) (text_target x ∷ pointer true z o 2 ∷ []) ≡ true → are_ready (seen t n pid b) (text_target x ∷ pointer true z o 2 ∷ []) ≡ true
+  two_kept x z o a b holds entries stays ready =
+      let first = pair_of (held_under m pid x.selector) in
+      let second = pair_of (held_under m pid z) in
+      let count = (text_target x).count in
+      all_of (is_ready is_readable (seen t n pid b) x.selector x.offset count) (is_ready is_writable (seen t n pid b) z o 2) true
+      (pointer_kept x.selector holds entries (λ k need. stays k (needs_both first second k ∙ or_front (needs first k) (needs second k) need)) is_readable a b x.offset count
+      (left_of (is_ready is_readable (seen s m pid a) x.selector x.offset count) (is_ready is_writable (seen s m pid a) z o 2 && true) ready))
+      (pointer_kept z holds entries (λ k need. stays k (needs_both first second k ∙ or_back (needs first k) (needs second k) need)) is_writable a b o 2
+      (left_of (is_ready is_writable (seen s m pid a) z o 2) true (right_of (is_ready is_readable (seen s m pid a) x.selector x.offset count) (is_ready is_writable (seen s m pid a) z o 2 && true) ready)))
+      refl
 
   -- by the arguments of the call
   pub aimed_kept : (x : SegmentArguments) (a b : Cpu) → LeavesHolds x m n → LeavesEntries x s t
       → ((k : ℕ) → needs (aimed_in m pid x) k ≡ true → IsSome (slot_at t.entries k) → IsSome (place_of s k) → IsSome (place_of t k))
       → are_ready (seen s m pid a) (targets x) ≡ true → are_ready (seen t n pid b) (targets x) ≡ true
   aimed_kept (Alloc size z o flags) a b holds entries stays ready =
-      all_of (is_ready is_writable (seen t n pid b) z o 2) true true (pointer_kept z holds entries stays a b o 2 (left_of (is_ready is_writable (seen s m pid a) z o 2) true ready)) refl refl
+      all_of (is_ready is_writable (seen t n pid b) z o 2) true true (pointer_kept z (keeps_still m n holds) entries stays is_writable a b o 2 (left_of (is_ready is_writable (seen s m pid a) z o 2) true ready)) refl refl
   aimed_kept (Realloc size z) a b holds entries stays ready = refl
   aimed_kept (Free z) a b holds entries stays ready = refl
   aimed_kept (Size y z o) a b holds entries stays ready =
-      all_of (is_ready is_writable (seen t n pid b) z o 4) true true (pointer_kept z holds entries stays a b o 4 (left_of (is_ready is_writable (seen s m pid a) z o 4) true ready)) refl refl
+      all_of (is_ready is_writable (seen t n pid b) z o 4) true true (pointer_kept z (keeps_still m n holds) entries stays is_writable a b o 4 (left_of (is_ready is_writable (seen s m pid a) z o 4) true ready)) refl refl
   aimed_kept (Lock z) a b holds entries stays ready = refl
   aimed_kept (Unlock z) a b holds entries stays ready = refl
   aimed_kept (Alias y z o) a b holds entries stays ready =
-      all_of (is_ready is_writable (seen t n pid b) z o 2) true true (pointer_kept z holds entries stays a b o 2 (left_of (is_ready is_writable (seen s m pid a) z o 2) true ready)) refl refl
+      all_of (is_ready is_writable (seen t n pid b) z o 2) true true (pointer_kept z (keeps_still m n holds) entries stays is_writable a b o 2 (left_of (is_ready is_writable (seen s m pid a) z o 2) true ready)) refl refl
+  aimed_kept (Shared (Name size x z o)) a b holds entries stays ready = two_kept x z o a b holds entries stays ready
+  aimed_kept (Shared (Share x z o)) a b holds entries stays ready = two_kept x z o a b holds entries stays ready
+  aimed_kept (Shared (Give y to z o)) a b holds entries stays ready =
+      all_of (is_ready is_writable (seen t n pid b) z o 2) true true (pointer_kept z holds entries stays is_writable a b o 2 (left_of (is_ready is_writable (seen s m pid a) z o 2) true ready)) refl refl
+  aimed_kept (Shared (Get z)) a b holds entries stays ready = refl
 
 -- What a ready pointer names is held.
 
@@ -175,3 +205,7 @@ live_aimed s m pid (Size y z o) well = live_pair s m pid z well
 live_aimed s m pid (Lock z) well = record { each = λ i p e. absurd (none_some e) }
 live_aimed s m pid (Unlock z) well = record { each = λ i p e. absurd (none_some e) }
 live_aimed s m pid (Alias y z o) well = live_pair s m pid z well
+live_aimed s m pid (Shared (Name size x z o)) well = live_more s (pair_of (held_under m pid x.selector)) (pair_of (held_under m pid z)) (live_pair s m pid x.selector well) (live_pair s m pid z well)
+live_aimed s m pid (Shared (Share x z o)) well = live_more s (pair_of (held_under m pid x.selector)) (pair_of (held_under m pid z)) (live_pair s m pid x.selector well) (live_pair s m pid z well)
+live_aimed s m pid (Shared (Give y to z o)) well = live_pair s m pid z well
+live_aimed s m pid (Shared (Get z)) well = record { each = λ i p e. absurd (none_some e) }

@@ -23,7 +23,7 @@ use Rattle.o2_world.specs.Run.{next_dispatch}
 use Rattle.o2_world.specs.Tied.{IsSound}
 use Rattle.o2_world.specs.World.{Process, Segment, Setting, World, is_live}
 use Rattle.o2_gate.specs.declared.gathering.SegmentArguments.{SegmentArguments}
-use Rattle.o2_gate.specs.declared.gathering.SegmentArguments.TheVariants.{Alloc, Realloc, Free, Size, Lock, Unlock, Alias}
+use Rattle.o2_gate.specs.declared.gathering.SegmentArguments.TheVariants.{Alloc, Realloc, Free, Size, Lock, Unlock, Alias, Shared}
 use Rattle.o2_gate.specs.Gathers.{targets}
 use Rattle.o2_gate.specs.Pointed.{are_ready}
 use Rattle.o2_run.specs.Room.{is_locked, larger, live_load as world_live, load_between, load_next, of_both, room, room_between, seated, size_of, swap_load, touched}
@@ -49,7 +49,7 @@ same_key : (k key : ℕ) (f : ℕ → ℕ) → (k == key) ≡ true → f k ≤ f
 same_key k key f e = (let q = ap f (eqb-true k key e) in omega (arith, q))
 
 module _ (p : Parts) (s : Setting) (w : World) (x : Process) (next : IsNext p s w x) (live : is_live x.state ≡ true) (sound : IsSound w) (a : SegmentArguments) (following : ℕ)
-    (call : IsCallOf (next_start s w x) a following) (alone : (i : ℕ) → HoldsAlone (known_of s w) (next_dispatch s w).current i) where
+    (call : IsCallOf (next_start s w x) a following) (alone : (m i : ℕ) → HoldsAlone (known_of s w) m i) where
   abbrev pid : ℕ
   pid = (next_dispatch s w).current
 
@@ -64,7 +64,7 @@ module _ (p : Parts) (s : Setting) (w : World) (x : Process) (next : IsNext p s 
 
   -- Room.
 
-  module _ (c : Cpu) (same : c ≡ x.cpu) (ready : are_ready (seen p.shelf p.maps pid c) (targets a) ≡ true) where
+  module _ (c : Cpu) (same : c ≡ x.cpu) (ready : are_ready (seen p.shelf p.maps pid c) (targets a) ≡ true) (stops : MayStop a) where
     abbrev kept : List (SegId × ℕ)
     kept = seated_in p.maps pid c ++ aimed_in p.maps pid a
 
@@ -88,7 +88,7 @@ module _ (p : Parts) (s : Setting) (w : World) (x : Process) (next : IsNext p s 
         by (inr h) =
             or_back (is_in n (seated b.view.registers)) (is_in n (touched b))
             (ap (is_in n) (touched_asked b a following call)
-            ∙ passes_for p.shelf p.maps pid c b.view (holds p s w x next live sound a following call alone) (λ k. refl) a n ready h)
+            ∙ passes_for p.shelf p.maps pid c b.view (holds p s w x next live sound a following call alone) (λ k. refl) a stops n ready h)
 
     named_wanted : (n k : ℕ) → key_of p.shelf n ≡ Some k → named_in p.shelf.entries (segments_of kept) k ≡ true → is_in n wants ≡ true
     named_wanted n k key named =
@@ -168,9 +168,10 @@ module _ (p : Parts) (s : Setting) (w : World) (x : Process) (next : IsNext p s 
         more_than (all_wanted p.shelf key (segments_of kept)) more (omega (arith, below, most))
     lacks_for (Unlock z) is none may lacks = absurd lacks
     lacks_for (Alias y z o) is none may lacks = absurd lacks
+    lacks_for (Shared y) is none may lacks = absurd lacks
 
-    pub lacks_call : (ruling_of a (known_of s w) pid x.cpu).error ≡ 0 → MayStop a → LacksRoom a p.shelf p.maps pid (segments_of kept) → s.memory < room s w
-    lacks_call none may lacks = lacks_for a refl none may lacks
+    pub lacks_call : (ruling_of a (known_of s w) pid x.cpu).error ≡ 0 → LacksRoom a p.shelf p.maps pid (segments_of kept) → s.memory < room s w
+    lacks_call none lacks = lacks_for a refl none stops lacks
 
   -- Swap: all that lives counts.
 
@@ -229,6 +230,7 @@ module _ (p : Parts) (s : Setting) (w : World) (x : Process) (next : IsNext p s 
   full_for (Lock z) is none may lacks = full p s w next.lawful next.set next.stands lacks
   full_for (Unlock z) is none may lacks = absurd lacks.1
   full_for (Alias y z o) is none may lacks = absurd lacks.1
+  full_for (Shared y) is none may lacks = absurd lacks.1
 
   pub full_call : (ruling_of a (known_of s w) pid x.cpu).error ≡ 0 → MayStop a → LacksSwap a p.shelf p.maps pid → IsSwapFull p.device s w
   full_call none may lacks = full_for a refl none may lacks

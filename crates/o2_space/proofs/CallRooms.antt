@@ -11,13 +11,14 @@ use Rattle.o2_regions.specs.Maps.{Maps}
 use Rattle.o2_store.specs.Shelf.{entry, place_of}
 use Rattle.o2_store.proofs.Tables.{locked_at, within_at}
 use Rattle.o2_segbus.specs.Seen.{hold_in, key_of}
-use Rattle.o2_changes.specs.Holding.{KeepsHolds}
+use Rattle.o2_shared.specs.Shares.{StillHolds}
+use Rattle.o2_calls.proofs.SharedOver.{keeps_still}
 use Rattle.o2_world.specs.Calls.{Before, Effect}
 use Rattle.o2_world.specs.Changes.{Change, Drops, with_all}
 use Rattle.o2_world.specs.Holders.{process_at}
 use Rattle.o2_world.specs.Known.{Known, held_at, known_of}
 use Rattle.o2_world.specs.Map.{get}
-use Rattle.o2_world.specs.Moves.{Moves}
+use Rattle.o2_world.specs.Moves.{AllMoves}
 use Rattle.o2_world.specs.Rulings.{by_load, dropped_indexes, freeing, freeing_of, grants, held_under, in_use, is_gone, is_later, members, refusal}
 use Rattle.o2_world.specs.Run.{changed, next_dispatch, worked, working}
 use Rattle.o2_world.specs.Sound.{HasGoodRegisters, held_of}
@@ -25,9 +26,10 @@ use Rattle.o2_world.specs.Tied.{IsSound}
 use Rattle.o2_world.specs.Views.{holds_in, view_of}
 use Rattle.o2_world.specs.World.{Held, Process, Segment, Setting, World, is_live}
 use Rattle.o2_world.proofs.Numbers.{at_place_of}
-use Rattle.o2_world.proofs.SegmentMoves.{on_segments_moves}
+use Rattle.o2_world.proofs.StepMoves.{served_moves}
 use Rattle.o2_gate.specs.declared.gathering.SegmentArguments.{SegmentArguments}
-use Rattle.o2_gate.specs.declared.gathering.SegmentArguments.TheVariants.{Alloc, Realloc, Free, Size, Lock, Unlock, Alias}
+use Rattle.o2_gate.specs.declared.gathering.SegmentArguments.TheVariants.{Alloc, Realloc, Free, Size, Lock, Unlock, Alias, Shared}
+use Rattle.o2_gate.specs.Gathers.{row_for}
 use Rattle.o2_run.specs.Room.{Fits, behind, is_locked, need, room, room_between, room_next, seated, seated_in, size_of, untrapped}
 use Rattle.o2_calls.specs.Acts.{ruling_of}
 use Rattle.o2_calls.specs.Stops.{LeavesHolds}
@@ -46,8 +48,8 @@ use Rattle.o2_stepping.specs.Rooms.{needed_names, room_at, room_in}
 use Rattle.o2_stepping.proofs.Asked.{untrapped_asked}
 use Rattle.o2_stepping.proofs.Named.{both_in, one_of, or_front}
 use Rattle.o2_stepping.proofs.NextRooms.{IsLess, bytes_long, takes_most, untrapped_sizes}
-use Rattle.o2_space.proofs.Remains.{IsMore, NoneLess, NoneMore, Remains, freed, remains}
-use Rattle.o2_space.proofs.Seats.{KeepsNames, StaySelectors, names_kept, seats_of}
+use Rattle.o2_space.proofs.Remains.{IsMore, NoneLess, NoneMore, Remains, all_remains, freed}
+use Rattle.o2_space.proofs.Seats.{KeepsNames, StaySelectors, all_names_kept, seats_of}
 use Rattle.o2_space.proofs.Sides.{room_from_behind}
 
 -- What a free changes.
@@ -65,14 +67,15 @@ free_changes k n z c = go (held_under k n z)
     go (Some h) = by_tests (members k n (z / 8) h) (by_load h.cause || is_later (z / 8) h) (in_use c (members k n (z / 8) h))
 
 -- all other calls leave what is held
-frees_or_keeps : (a : SegmentArguments) (m n : Maps) → LeavesHolds a m n → ((z : ℕ) × (a ≡ Free z)) ⊎ KeepsHolds m n
-frees_or_keeps (Alloc size s o flags) m n h = inr h
-frees_or_keeps (Realloc size z) m n h = inr h
+frees_or_keeps : (a : SegmentArguments) (m n : Maps) → LeavesHolds a m n → ((z : ℕ) × (a ≡ Free z)) ⊎ StillHolds m n
+frees_or_keeps (Alloc size s o flags) m n h = inr (keeps_still m n h)
+frees_or_keeps (Realloc size z) m n h = inr (keeps_still m n h)
 frees_or_keeps (Free z) m n h = inl (z, refl)
-frees_or_keeps (Size y s o) m n h = inr h
-frees_or_keeps (Lock z) m n h = inr h
-frees_or_keeps (Unlock z) m n h = inr h
-frees_or_keeps (Alias y s o) m n h = inr h
+frees_or_keeps (Size y s o) m n h = inr (keeps_still m n h)
+frees_or_keeps (Lock z) m n h = inr (keeps_still m n h)
+frees_or_keeps (Unlock z) m n h = inr (keeps_still m n h)
+frees_or_keeps (Alias y s o) m n h = inr (keeps_still m n h)
+frees_or_keeps (Shared a) m n h = inr h
 
 -- The registers behind a call.
 
@@ -95,6 +98,7 @@ selectors_stay (Size y s o) b next = record { es = inl refl; cs = inl refl; ss =
 selectors_stay (Lock z) b next = record { es = inl refl; cs = inl refl; ss = inl refl; ds = inl refl }
 selectors_stay (Unlock z) b next = record { es = inl refl; cs = inl refl; ss = inl refl; ds = inl refl }
 selectors_stay (Alias y s o) b next = record { es = inl refl; cs = inl refl; ss = inl refl; ds = inl refl }
+selectors_stay (Shared a) b next = record { es = inl refl; cs = inl refl; ss = inl refl; ds = inl refl }
 
 lock_above : (k : ℕ) → nat_lt 0 k ≡ true → 0 < k
 lock_above k e = grind arith
@@ -102,7 +106,7 @@ lock_above k e = grind arith
 -- The next step of a world that is a call.
 
 module _ (p : Parts) (s : Setting) (w : World) (x : Process) (next : IsNext p s w x) (live : is_live x.state ≡ true) (sound : IsSound w) (a : SegmentArguments) (following : ℕ)
-    (call : IsCallOf (next_start s w x) a following) (alone : (i : ℕ) → HoldsAlone (known_of s w) (next_dispatch s w).current i) where
+    (call : IsCallOf (next_start s w x) a following) (alone : (m i : ℕ) → HoldsAlone (known_of s w) m i) where
   abbrev pub d : Dispatch
   d = next_dispatch s w
 
@@ -138,8 +142,8 @@ module _ (p : Parts) (s : Setting) (w : World) (x : Process) (next : IsNext p s 
   unfolding changed
   world_is = refl
 
-  moves : Moves b e.cpu e.changes
-  moves = subst (λ (f : Effect). Moves b f.cpu f.changes) (call.asks ∙ asked_is b following a alone) (on_segments_moves call.call b following)
+  moves : AllMoves b e.cpu e.changes
+  moves = subst (λ (f : Effect). AllMoves b f.cpu f.changes) (call.asks ∙ asked_is b following a alone) (served_moves (Some (row_for call.call)) b following)
 
   pub sizes : (n : ℕ) → length (e.bytes n) ≡ size_of (get w.names n)
   sizes n = ap (λ (f : Effect). length (f.bytes n)) (sym effect_is) ∙ (untrapped_sizes b n ∙ bytes_long (get w.names n))
@@ -148,7 +152,7 @@ module _ (p : Parts) (s : Setting) (w : World) (x : Process) (next : IsNext p s 
   new = none_next w sound.tied
 
   left : Remains w.names v.names
-  left = subst (λ (z : World). Remains w.names z.names) (sym world_is) (remains w d x e sizes new b e.cpu e.changes moves)
+  left = subst (λ (z : World). Remains w.names z.names) (sym world_is) (all_remains w d x e sizes new b e.cpu e.changes moves)
 
   freed_less : (z : ℕ) → a ≡ Free z → (n : ℕ) → IsLess (get v.names n) (get w.names n)
   freed_less z is n =
@@ -170,7 +174,7 @@ module _ (p : Parts) (s : Setting) (w : World) (x : Process) (next : IsNext p s 
 
   kept_by : (y : Process) → process_at v.processes d.current ≡ Some y → KeepsNames (get x.held) (get y.held)
   kept_by y there =
-      let keeps = subst (λ (z : World). KeepsNames (held_at u.processes b.number) (held_at z.processes b.number)) (sym world_is) (names_kept u b (working x e) working_there e.cpu e.changes moves) in
+      let keeps = subst (λ (z : World). KeepsNames (held_at u.processes b.number) (held_at z.processes b.number)) (sym world_is) (all_names_kept u b (working x e) working_there e.cpu e.changes moves) in
       record {
         each = λ i h k was is.
             keeps.each i h k (ap (λ (o : Option Process). held_of o i) working_there ∙ was) (ap (λ (o : Option Process). held_of o i) there ∙ is);
@@ -271,13 +275,13 @@ module _ (p : Parts) (s : Setting) (w : World) (x : Process) (next : IsNext p s 
       → (list : List ℕ) → ((n : ℕ) → is_in n (needed_names b) ≡ true → is_in n list ≡ true) → room_in p.shelf list ≤ p.shelf.places.size
       → (q : Parts) → AreLawful q.shelf q.maps → StandsIn q v.processes v.names v.next_name v.reserved → q.shelf.places.size ≡ p.shelf.places.size
       → (n : Maps) → LeavesHolds a p.maps n
-      → (KeepsHolds p.maps n → (m k : ℕ) → key_of q.shelf m ≡ Some k → is_in m (needed_names b) ≡ true → IsSome (place_of q.shelf k)) → Fits true s w
+      → (StillHolds p.maps n → (m k : ℕ) → key_of q.shelf m ≡ Some k → is_in m (needed_names b) ≡ true → IsSome (place_of q.shelf k)) → Fits true s w
   fits_call y there cpu list among fit q lawful standing same n leaves here = by (frees_or_keeps a p.maps n leaves)
     where
       before : ((m : ℕ) → IsLess (get v.names m) (get w.names m)) → Fits true s w
       before less = fits_before list (λ m h. among m (wanted y there cpu m h)) less fit
 
-      by : ((z : ℕ) × (a ≡ Free z)) ⊎ KeepsHolds p.maps n → Fits true s w
+      by : ((z : ℕ) × (a ≡ Free z)) ⊎ StillHolds p.maps n → Fits true s w
       by (inl frees) = before (freed_less frees.0 frees.1)
       by (inr keeps) = by_names left
         where

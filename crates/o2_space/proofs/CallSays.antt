@@ -15,7 +15,7 @@ use Rattle.o2_segbus.specs.Frames.{CanStep, KeepsMaps, KeepsStore}
 use Rattle.o2_segbus.specs.Seen.{hold_in, seen}
 use Rattle.o2_service.specs.Needs.{needs, segments_of}
 use Rattle.o2_service.proofs.Among.{named_needed}
-use Rattle.o2_changes.specs.Holding.{KeepsHolds}
+use Rattle.o2_shared.specs.Shares.{StillHolds}
 use Rattle.o2_world.specs.declared.types.State.TheVariants.{Live}
 use Rattle.o2_world.specs.Calls.{Before, Effect}
 use Rattle.o2_world.specs.Effect.{effect, single_stepped}
@@ -62,7 +62,7 @@ pub record IsKept (s : Shelf) (m : Maps) (keep : List SegId) (n : Maps) (t u : S
   pub maps : KeepsMaps n o
 
 module _ (p : Parts) (s : Setting) (w : World) (x : Process) (next : IsNext p s w x) (live : is_live x.state ≡ true) (sound : IsSound w) (a : SegmentArguments) (following : ℕ)
-    (call : IsCallOf (next_start s w x) a following) (alone : (i : ℕ) → HoldsAlone (known_of s w) (next_dispatch s w).current i)
+    (call : IsCallOf (next_start s w x) a following) (alone : (m i : ℕ) → HoldsAlone (known_of s w) m i)
     (c : Cpu) (same : c ≡ x.cpu) (step : CanStep p.shelf p.maps (next_dispatch s w).current c) (ready : are_ready (seen p.shelf p.maps (next_dispatch s w).current c) (targets a) ≡ true) where
   abbrev d : Dispatch
   d = next_dispatch s w
@@ -97,8 +97,8 @@ module _ (p : Parts) (s : Setting) (w : World) (x : Process) (next : IsNext p s 
           (keeps_for p.shelf p.maps d.current c b.view (holds p s w x next live sound a following call alone) (λ k. refl) a n
           (ap (is_in n) (sym (touched_asked b a following call)) ∙ behind))
 
-  held_still : (n o : Maps) → KeepsHolds p.maps n → o.held ≡ n.held → (pid i : ℕ) (h : Held) → held_at p.maps pid i ≡ Some h → held_at o pid i ≡ Some h
-  held_still n o keeps held pid i h is = ap (λ (l : List (Option Held)). held_at (record n { held = l }) pid i) held ∙ keeps.held pid i h is
+  held_still : (n o : Maps) → StillHolds p.maps n → o.held ≡ n.held → (pid i : ℕ) (h : Held) → held_at p.maps pid i ≡ Some h → (k : Held) × (held_at o pid i ≡ Some k) × (k.id ≡ h.id)
+  held_still n o keeps held pid i h is = (let x = keeps.held pid i h is in (x.0, ap (λ (l : List (Option Held)). held_at (record n { held = l }) pid i) held ∙ x.1, x.2))
 
   fits : (keep : List SegId) → keep ≡ segments_of needed → (t : Shelf) (n : Maps) → LeavesHolds a p.maps n → t.places.size ≡ p.shelf.places.size
       → (q : Parts) → AreLawful q.shelf q.maps → IsKept p.shelf p.maps keep n t q.shelf q.maps
@@ -137,7 +137,7 @@ module _ (p : Parts) (s : Setting) (w : World) (x : Process) (lawful : AreLawful
   pub record IsTurn (n : ℕ) : Type 0 where
     pub there : process_at w.processes n ≡ Some x
     pub call : IsCallOf (before s w n x) a following
-    pub alone : (i : ℕ) → HoldsAlone (known_of s w) n i
+    pub alone : (m i : ℕ) → HoldsAlone (known_of s w) m i
     pub step : CanStep p.shelf p.maps n c
     pub ready : are_ready (seen p.shelf p.maps n c) (targets a) ≡ true
     pub keeps : keep ≡ segments_of (seated_in p.maps n c ++ aimed_in p.maps n a)
@@ -160,8 +160,8 @@ module _ (p : Parts) (s : Setting) (w : World) (x : Process) (lawful : AreLawful
   lacks_at n chosen =
       subst (λ (i : ℕ). IsTurn i → (ruling_of a (known_of s w) i c).error ≡ 0 → MayStop a → LacksRoom a p.shelf p.maps i keep → s.memory < room s w) chosen
       (λ turn none may lacks.
-      lacks_call p s w x (next_of turn.there) live sound a following turn.call turn.alone c same turn.ready
-      (subst (λ (r : Cpu). (ruling_of a (known_of s w) (next_dispatch s w).current r).error ≡ 0) same none) may
+      lacks_call p s w x (next_of turn.there) live sound a following turn.call turn.alone c same turn.ready may
+      (subst (λ (r : Cpu). (ruling_of a (known_of s w) (next_dispatch s w).current r).error ≡ 0) same none)
       (subst (λ (ids : List SegId). LacksRoom a p.shelf p.maps (next_dispatch s w).current ids) turn.keeps lacks))
 
   pub full_at : (n : ℕ) → (next_dispatch s w).current ≡ n → IsTurn n → (ruling_of a (known_of s w) n c).error ≡ 0 → MayStop a → LacksSwap a p.shelf p.maps n → IsSwapFull p.device s w

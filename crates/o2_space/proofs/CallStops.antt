@@ -290,7 +290,7 @@ put_same n y m = ap (λ (t : Bool). if t then Some y else get m n) (equal n)
 -- The next step of a world that is a call, which stops.
 
 module _ (p : Parts) (s : Setting) (w : World) (x : Process) (next : IsNext p s w x) (live : is_live x.state ≡ true) (sound : IsSound w) (a : SegmentArguments) (following : ℕ)
-    (call : IsCallOf (next_start s w x) a following) (alone : (i : ℕ) → HoldsAlone (known_of s w) (next_dispatch s w).current i) where
+    (call : IsCallOf (next_start s w x) a following) (alone : (m i : ℕ) → HoldsAlone (known_of s w) m i) where
   abbrev pid : ℕ
   pid = (next_dispatch s w).current
 

@@ -14,7 +14,8 @@ use Rattle.o2_segbus.specs.Bus.{AreInside}
 use Rattle.o2_segbus.specs.Frames.{KeepsMaps, KeepsStore}
 use Rattle.o2_segbus.specs.Seen.{bytes_in as bytes_there, hold_in, hold_of, key_of, present_in, seen}
 use Rattle.o2_segbus.proofs.Holds.{bound_is, under_at}
-use Rattle.o2_changes.specs.Holding.{KeepsHolds}
+use Rattle.o2_shared.specs.Shares.{StillHolds}
+use Rattle.o2_calls.proofs.SharedOver.{keeps_still}
 use Rattle.o2_ends.proofs.Letting.{live_id}
 use Rattle.o2_world.specs.declared.types.State.TheVariants.{Live}
 use Rattle.o2_world.specs.Changes.{with_all}
@@ -27,9 +28,12 @@ use Rattle.o2_world.specs.SegmentCalls.{Written, written_long, written_word}
 use Rattle.o2_world.specs.Views.{bytes_in, holds_in}
 use Rattle.o2_world.specs.World.{Process, Setting, World}
 use Rattle.o2_gate.specs.declared.gathering.SegmentArguments.{SegmentArguments}
-use Rattle.o2_gate.specs.declared.gathering.SegmentArguments.TheVariants.{Alloc, Realloc, Free, Size, Lock, Unlock, Alias}
+use Rattle.o2_gate.specs.declared.gathering.SegmentArguments.TheVariants.{Alloc, Realloc, Free, Size, Lock, Unlock, Alias, Shared}
 use Rattle.o2_gate.specs.Gathers.{targets}
 use Rattle.o2_gate.specs.Pointed.{are_ready}
+use Rattle.o2_gate.specs.declared.sharing.SharedArguments.{SharedArguments}
+use Rattle.o2_gate.specs.declared.sharing.SharedArguments.TheVariants.{Name, Share, Give, Get}
+use Rattle.o2_gate.specs.SharedReplies.{shared_targets, shared_written}
 use Rattle.o2_gate.specs.Replies.{bytes_of, written_of}
 use Rattle.o2_calls.specs.Acts.{ruling_of}
 use Rattle.o2_calls.specs.Seen.{Gives, IsAimedAt}
@@ -47,6 +51,10 @@ and_left : (a b : Bool) → (a && b) ≡ true → a ≡ true
 and_left true b e = refl
 and_left false b e = cc
 
+and_right : (a b : Bool) → (a && b) ≡ true → b ≡ true
+and_right true b e = e
+and_right false b e = cc
+
 some_is : {a b : Written} → Some a ≡ Some b → a ≡ b
 some_is e = cc
 
@@ -60,7 +68,7 @@ module _ (p : Parts) (w : World) (x : Process) (pid : ℕ) (lawful : AreLawful p
   holds_are : holds_in x.held ≡ hold_in p.maps pid
   holds_are = fun_ext (process_holds p w.processes w.names w.next_name w.reserved lawful stands pid x at)
 
-  aimed_at : (t : Written) (o count : ℕ) → (count == 0) ≡ false → KeepsHolds p.maps n → is_ready is_writable (seen p.shelf p.maps pid c) t.selector o count ≡ true
+  aimed_at : (t : Written) (o count : ℕ) → (count == 0) ≡ false → StillHolds p.maps n → is_ready is_writable (seen p.shelf p.maps pid c) t.selector o count ≡ true
       → IsAimedAt (holds_in x.held) (hold_in n pid) w.next_name t
   aimed_at t o count some holds ready =
       let found = held_by_ready p.shelf p.maps pid c t.selector o count some ready in
@@ -74,7 +82,7 @@ module _ (p : Parts) (w : World) (x : Process) (pid : ℕ) (lawful : AreLawful p
             ∙ (bound_is p.maps pid t.selector ∙ ap (option_map (hold_of p.maps pid i)) found.1);
         still =
             bound_is n pid t.selector
-            ∙ (ap (option_map (hold_of n pid i)) (under_of p.maps n pid t.selector h holds found.1) ∙ ap (λ (z : Hold). Some z) (hold_same p.maps n pid i h holds here));
+            ∙ (under_of p.maps n pid t.selector h holds found.1 ∙ ap (λ (z : Hold). Some z) (hold_same p.maps n pid i h holds here));
         apart = λ same.
             (let live = live_id p.shelf h.id (stands.ready.held.live pid i h here) in
             let age = ap (λ z. z.age) live.1 in
@@ -83,15 +91,23 @@ module _ (p : Parts) (w : World) (x : Process) (pid : ℕ) (lawful : AreLawful p
             omega (arith, same, age, below, made));
       }
 
+  shared_at : (a : SharedArguments) (value : ℕ) → StillHolds p.maps n → are_ready (seen p.shelf p.maps pid c) (shared_targets a) ≡ true → (t : Written) → shared_written a value ≡ Some t
+      → IsAimedAt (holds_in x.held) (hold_in n pid) w.next_name t
+  shared_at (Name size y s o) value holds ready t is = subst (λ (z : Written). IsAimedAt (holds_in x.held) (hold_in n pid) w.next_name z) (some_is is) (aimed_at (written_word s o value) o 2 refl holds (and_left _ true (and_right _ _ ready)))
+  shared_at (Share y s o) value holds ready t is = subst (λ (z : Written). IsAimedAt (holds_in x.held) (hold_in n pid) w.next_name z) (some_is is) (aimed_at (written_word s o value) o 2 refl holds (and_left _ true (and_right _ _ ready)))
+  shared_at (Give y to s o) value holds ready t is = subst (λ (z : Written). IsAimedAt (holds_in x.held) (hold_in n pid) w.next_name z) (some_is is) (aimed_at (written_word s o value) o 2 refl holds (and_left _ true ready))
+  shared_at (Get s) value holds ready t is = absurd (cc)
+
   written_at : (a : SegmentArguments) (value : ℕ) → LeavesHolds a p.maps n → are_ready (seen p.shelf p.maps pid c) (targets a) ≡ true → (t : Written) → written_of a value ≡ Some t
       → IsAimedAt (holds_in x.held) (hold_in n pid) w.next_name t
-  written_at (Alloc size s o flags) value holds ready t is = subst (λ (z : Written). IsAimedAt (holds_in x.held) (hold_in n pid) w.next_name z) (some_is is) (aimed_at (written_word s o value) o 2 refl holds (and_left _ true ready))
+  written_at (Alloc size s o flags) value holds ready t is = subst (λ (z : Written). IsAimedAt (holds_in x.held) (hold_in n pid) w.next_name z) (some_is is) (aimed_at (written_word s o value) o 2 refl (keeps_still p.maps n holds) (and_left _ true ready))
   written_at (Realloc size s) value holds ready t is = absurd (cc)
   written_at (Free s) value holds ready t is = absurd (cc)
-  written_at (Size y s o) value holds ready t is = subst (λ (z : Written). IsAimedAt (holds_in x.held) (hold_in n pid) w.next_name z) (some_is is) (aimed_at (written_long s o value) o 4 refl holds (and_left _ true ready))
+  written_at (Size y s o) value holds ready t is = subst (λ (z : Written). IsAimedAt (holds_in x.held) (hold_in n pid) w.next_name z) (some_is is) (aimed_at (written_long s o value) o 4 refl (keeps_still p.maps n holds) (and_left _ true ready))
   written_at (Lock s) value holds ready t is = absurd (cc)
   written_at (Unlock s) value holds ready t is = absurd (cc)
-  written_at (Alias y s o) value holds ready t is = subst (λ (z : Written). IsAimedAt (holds_in x.held) (hold_in n pid) w.next_name z) (some_is is) (aimed_at (written_word s o value) o 2 refl holds (and_left _ true ready))
+  written_at (Shared a) value holds ready t is = shared_at a value holds ready t is
+  written_at (Alias y s o) value holds ready t is = subst (λ (z : Written). IsAimedAt (holds_in x.held) (hold_in n pid) w.next_name z) (some_is is) (aimed_at (written_word s o value) o 2 refl (keeps_still p.maps n holds) (and_left _ true ready))
 
 -- What a machine that matches a world has in memory are the bytes of that world.
 

@@ -23,11 +23,17 @@ use Rattle.o2_service.specs.Needs.{AreLive, needs, segments_of}
 use Rattle.o2_service.specs.Told.{IsHeldWell}
 use Rattle.o2_run.specs.Room.{Pointer, name_in, passed, pointed, seated}
 use Rattle.o2_gate.specs.declared.gathering.SegmentArguments.{SegmentArguments}
-use Rattle.o2_gate.specs.declared.gathering.SegmentArguments.TheVariants.{Alloc, Realloc, Free, Size, Lock, Unlock, Alias}
+use Rattle.o2_gate.specs.declared.gathering.SegmentArguments.TheVariants.{Alloc, Realloc, Free, Size, Lock, Unlock, Alias, Shared}
+use Rattle.o2_gate.specs.declared.sharing.SharedArguments.{SharedArguments}
+use Rattle.o2_gate.specs.declared.sharing.SharedArguments.TheVariants.{Name, Share, Give, Get}
+use Rattle.o2_gate.specs.declared.text.TextArgument.{TextArgument}
+use Rattle.o2_gate.specs.SharedReplies.{shared_targets, text_target}
 use Rattle.o2_gate.specs.Gathers.{targets}
 use Rattle.o2_gate.specs.Pointed.{are_ready, pointer}
+use Rattle.o2_world.specs.SharedNames.{looked_at}
+use Rattle.o2_calls.specs.Acts.{MayStop}
 use Rattle.o2_changes.proofs.Keys.{has_is}
-use Rattle.o2_stepping.specs.Rooms.{aimed_in, ages_of, pair_of, seated_in}
+use Rattle.o2_stepping.specs.Rooms.{aimed_in, ages_of, pair_of, seated_in, shared_aimed}
 use Rattle.o2_stepping.proofs.Lefts.{ages_both}
 use Rattle.o2_stepping.proofs.Named.{both_in, key_of_live, one_of, or_back, or_front, seated_present}
 use Rattle.o2_stepping.proofs.Rounds.{ages_seated, live_more, live_seated, pair_name}
@@ -106,23 +112,42 @@ stays_here s t need once now live lives stays n k named present key =
 
 -- What goes on to be held lives on.
 
-pub well_kept : (t : Shelf) (m o : Maps) → ((pid i : ℕ) (h : Held) → held_at m pid i ≡ Some h → held_at o pid i ≡ Some h) → IsHeldWell t o → (s : Shelf) → IsHeldWell s m → IsHeldWell t m
-well_kept t m o keeps well s was = record { live = λ pid i h e. well.live pid i h (keeps pid i h e); inside = was.inside }
+pub well_kept : (t : Shelf) (m o : Maps) → ((pid i : ℕ) (h : Held) → held_at m pid i ≡ Some h → (k : Held) × (held_at o pid i ≡ Some k) × (k.id ≡ h.id)) → IsHeldWell t o → (s : Shelf) → IsHeldWell s m → IsHeldWell t m
+well_kept t m o keeps well s was = record { live = λ pid i h e. (let x = keeps pid i h e in subst (λ (id : SegId). IsSome (entry_of t id)) x.2 (well.live pid i x.0 x.1)); inside = was.inside }
 
--- Names behind a pointer.
+-- Names behind a pointer, and behind those that are looked at next.
 
-pointed_in : (v : View) (p : Pointer) (q : ℕ) → is_in q (pointed v (p ∷ [])) ≡ true → is_in q (name_in (bound_in v.held p.selector)) ≡ true
-pointed_in v p q e = go (p.count == 0) (bound_in v.held p.selector) e
+pointed_in : (v : View) (p : Pointer) (ps : List Pointer) (q : ℕ) → is_in q (pointed v (p ∷ ps)) ≡ true → (is_in q (name_in (bound_in v.held p.selector)) ≡ true) ⊎ (is_in q (pointed v ps) ≡ true)
+pointed_in v p ps q e = go (p.count == 0) (bound_in v.held p.selector) e
   where
-    hold : (h : Hold) (ok fits : Bool) → is_in q (if ok then h.name ∷ (if fits then [] else []) else []) ≡ true → is_in q (h.name ∷ []) ≡ true
-    hold h true true f = f
-    hold h true false f = f
+    front : (h : Hold) (fits : Bool) → ((h.name == q) ≡ true) ⊎ (is_in q (if fits then pointed v ps else []) ≡ true) → (is_in q (h.name ∷ []) ≡ true) ⊎ (is_in q (pointed v ps) ≡ true)
+    front h fits (inl f) = inl (or_front (h.name == q) false f)
+    front h true (inr f) = inr f
+    front h false (inr f) = absurd (false≢true f)
+
+    hold : (h : Hold) (ok fits : Bool) → is_in q (if ok then h.name ∷ (if fits then pointed v ps else []) else []) ≡ true → (is_in q (h.name ∷ []) ≡ true) ⊎ (is_in q (pointed v ps) ≡ true)
+    hold h true fits f = front h fits (one_of (h.name == q) (is_in q (if fits then pointed v ps else [])) f)
     hold h false fits f = absurd (false≢true f)
 
-    go : (z : Bool) (o : Option Hold) → is_in q (if z then [] else passed v o p []) ≡ true → is_in q (name_in o) ≡ true
-    go true o f = absurd (false≢true f)
+    go : (z : Bool) (o : Option Hold) → is_in q (if z then pointed v ps else passed v o p (pointed v ps)) ≡ true → (is_in q (name_in o) ≡ true) ⊎ (is_in q (pointed v ps) ≡ true)
+    go true o f = inr f
     go false None f = absurd (false≢true f)
     go false (Some h) f = hold h (is_for_es v p.selector && p.good h.rights) (nat_le (p.offset + p.count) (length (v.bytes h.name))) f
+
+-- of a text some bytes are looked at
+text_some : (x : TextArgument) → ((text_target x).count == 0) ≡ false
+text_some x = go x.bytes
+  where
+    past : (k : ℕ) → (suc k == 0) ≡ false
+    past k = grind arith
+
+    by : (b : Bool) (k : ℕ) → ((if b then 1 else suc k) == 0) ≡ false
+    by true k = refl
+    by false k = past k
+
+    go : (xs : List ℕ) → (looked_at 129 xs == 0) ≡ false
+    go [] = refl
+    go (y ∷ xs) = by (y == 0) (looked_at 128 xs)
 
 -- a selector that names what can be written may be loaded into ES
 
@@ -151,29 +176,29 @@ is_es v z h kept bound good = go (is_null z) (found v z) bound
 -- What the registers and the pointer of a call name.
 
 module _ (s : Shelf) (m : Maps) (pid : ℕ) (c : Cpu) where
-  -- the segment behind a pointer that is ready is there, and may be written
-  record IsAimed (z n : ℕ) : Type 0 where
+  -- the segment behind a pointer that is ready is there, and has its rights
+  record IsAimed (test : ℕ → Bool) (z n : ℕ) : Type 0 where
     hold : Hold
     bound : bound_in (hold_in m pid) z ≡ Some hold
-    rights : is_writable hold.rights ≡ true
+    rights : test hold.rights ≡ true
     present : present_in s hold.name ≡ true
     named : is_in n (hold.name ∷ []) ≡ true
 
-  aimed_by : (z o count n : ℕ) → (count == 0) ≡ false → is_ready is_writable (seen s m pid c) z o count ≡ true → is_in n (name_in (bound_in (hold_in m pid) z)) ≡ true → IsAimed z n
+  aimed_by : (test : ℕ → Bool) (z o count n : ℕ) → (count == 0) ≡ false → is_ready test (seen s m pid c) z o count ≡ true → is_in n (name_in (bound_in (hold_in m pid) z)) ≡ true → IsAimed test z n
   unfolding is_ready seen_with
-  aimed_by z o count n some ready named = go (one_of (count == 0) (has_present_range is_writable (seen s m pid c) o count (bound_in (hold_in m pid) z)) ready)
+  aimed_by test z o count n some ready named = go (one_of (count == 0) (has_present_range test (seen s m pid c) o count (bound_in (hold_in m pid) z)) ready)
     where
-      by : (q : Option Hold) → bound_in (hold_in m pid) z ≡ q → has_present_range is_writable (seen s m pid c) o count q ≡ true → is_in n (name_in q) ≡ true → IsAimed z n
+      by : (q : Option Hold) → bound_in (hold_in m pid) z ≡ q → has_present_range test (seen s m pid c) o count q ≡ true → is_in n (name_in q) ≡ true → IsAimed test z n
       by None e x f = absurd (false≢true x)
       by (Some h) e x f = record {
         hold = h;
         bound = e;
-        rights = left_true (is_writable h.rights) _ (right_true (present_in s h.name) _ x);
+        rights = left_true (test h.rights) _ (right_true (present_in s h.name) _ x);
         present = left_true (present_in s h.name) _ x;
         named = f;
       }
 
-      go : ((count == 0) ≡ true) ⊎ (has_present_range is_writable (seen s m pid c) o count (bound_in (hold_in m pid) z) ≡ true) → IsAimed z n
+      go : ((count == 0) ≡ true) ⊎ (has_present_range test (seen s m pid c) o count (bound_in (hold_in m pid) z) ≡ true) → IsAimed test z n
       go (inl e) = absurd (false≢true (sym some ∙ e))
       go (inr x) = by (bound_in (hold_in m pid) z) refl x named
 
@@ -187,11 +212,19 @@ module _ (s : Shelf) (m : Maps) (pid : ℕ) (c : Cpu) where
       go (inl x) = eqb-true a n x
       go (inr x) = absurd (false≢true x)
 
-  aimed_there : (z n : ℕ) → IsAimed z n → present_in s n ≡ true
-  aimed_there z n x = subst (λ (k : ℕ). present_in s k ≡ true) (same_name x.hold.name n x.named) x.present
+  aimed_there : (test : ℕ → Bool) (z n : ℕ) → IsAimed test z n → present_in s n ≡ true
+  aimed_there test z n x = subst (λ (k : ℕ). present_in s k ≡ true) (same_name x.hold.name n x.named) x.present
+
+  -- that of a text, and that of a word
+  two_pairs : (x : TextArgument) (z n : ℕ) → is_in n (ages_of (pair_of (held_under m pid x.selector) ++ pair_of (held_under m pid z))) ≡ true
+      → (is_in n (ages_of (pair_of (held_under m pid x.selector))) ≡ true) ⊎ (is_in n (ages_of (pair_of (held_under m pid z))) ≡ true)
+  two_pairs x z n e =
+      let first = pair_of (held_under m pid x.selector) in
+      let second = pair_of (held_under m pid z) in
+      one_of (is_in n (ages_of first)) (is_in n (ages_of second)) (sym (both_in n (ages_of first) (ages_of second)) ∙ (ap (is_in n) (sym (ages_both first second)) ∙ e))
 
   module _ (v : View) (held : v.held ≡ hold_in m pid) (kept : (n : ℕ) → v.discarded n ≡ false) where
-    aimed_passes : (z o count n : ℕ) → (count == 0) ≡ false → IsAimed z n → is_in n (pointed v (pointer true z o count ∷ [])) ≡ true
+    aimed_passes : (z o count n : ℕ) → (count == 0) ≡ false → IsAimed is_writable z n → is_in n (pointed v (pointer true z o count ∷ [])) ≡ true
     aimed_passes z o count n some x =
         subst (λ (b : Bool). is_in n (if b then [] else passed v (bound_in v.held z) (pointer true z o count) []) ≡ true) (sym some)
         (subst (λ (q : Option Hold). is_in n (passed v q (pointer true z o count) []) ≡ true) (sym bound)
@@ -209,22 +242,49 @@ module _ (s : Shelf) (m : Maps) (pid : ℕ) (c : Cpu) where
     one_passes : (z o count n : ℕ) → (count == 0) ≡ false → are_ready (seen s m pid c) (pointer true z o count ∷ []) ≡ true → is_in n (ages_of (pair_of (held_under m pid z))) ≡ true
         → is_in n (pointed v (pointer true z o count ∷ [])) ≡ true
     one_passes z o count n some ready named =
-        aimed_passes z o count n some (aimed_by z o count n some (left_true (is_ready is_writable (seen s m pid c) z o count) true ready) (aged_pair z n named))
+        aimed_passes z o count n some (aimed_by is_writable z o count n some (left_true (is_ready is_writable (seen s m pid c) z o count) true ready) (aged_pair z n named))
 
-    -- behind the pointer of a call is what it keeps in memory for it
-    pub passes_for : (a : SegmentArguments) (n : ℕ) → are_ready (seen s m pid c) (targets a) ≡ true → is_in n (ages_of (aimed_in m pid a)) ≡ true → is_in n (pointed v (targets a)) ≡ true
-    passes_for (Alloc size z o flags) n ready e = one_passes z o 2 n refl ready e
-    passes_for (Realloc size z) n ready e = absurd (false≢true e)
-    passes_for (Free z) n ready e = absurd (false≢true e)
-    passes_for (Size y z o) n ready e = one_passes z o 4 n refl ready e
-    passes_for (Lock z) n ready e = absurd (false≢true e)
-    passes_for (Unlock z) n ready e = absurd (false≢true e)
-    passes_for (Alias y z o) n ready e = one_passes z o 2 n refl ready e
+    -- behind the pointer of a call that may stop is what it keeps in memory for it
+    pub passes_for : (a : SegmentArguments) → MayStop a → (n : ℕ) → are_ready (seen s m pid c) (targets a) ≡ true → is_in n (ages_of (aimed_in m pid a)) ≡ true → is_in n (pointed v (targets a)) ≡ true
+    passes_for (Alloc size z o flags) may n ready e = one_passes z o 2 n refl ready e
+    passes_for (Realloc size z) may n ready e = absurd (false≢true e)
+    passes_for (Free z) may n ready e = absurd may
+    passes_for (Size y z o) may n ready e = absurd may
+    passes_for (Lock z) may n ready e = absurd (false≢true e)
+    passes_for (Unlock z) may n ready e = absurd may
+    passes_for (Alias y z o) may n ready e = absurd may
+    passes_for (Shared a) may n ready e = absurd may
+
+    -- the segment that a selector names
+    named_for : (z n : ℕ) → is_in n (name_in (bound_in v.held z)) ≡ true → is_in n (ages_of (pair_of (held_under m pid z))) ≡ true
+    named_for z n e =
+        subst (λ (ns : List ℕ). is_in n ns ≡ true) (sym (pair_name m pid z))
+        (subst (λ (f : ℕ → Option Hold). is_in n (name_in (bound_in f z)) ≡ true) held e)
 
     kept_for : (z o count n : ℕ) → is_in n (pointed v (pointer true z o count ∷ [])) ≡ true → is_in n (ages_of (pair_of (held_under m pid z))) ≡ true
-    kept_for z o count n e =
-        subst (λ (ns : List ℕ). is_in n ns ≡ true) (sym (pair_name m pid z))
-        (subst (λ (f : ℕ → Option Hold). is_in n (name_in (bound_in f z)) ≡ true) held (pointed_in v (pointer true z o count) n e))
+    kept_for z o count n e = by (pointed_in v (pointer true z o count) [] n e)
+      where
+        by : (is_in n (name_in (bound_in v.held z)) ≡ true) ⊎ (is_in n (pointed v []) ≡ true) → is_in n (ages_of (pair_of (held_under m pid z))) ≡ true
+        by (inl f) = named_for z n f
+        by (inr f) = absurd (false≢true f)
+
+    both_ages : (first second : List (SegId × ℕ)) (n : ℕ) → (is_in n (ages_of first) ≡ true) ⊎ (is_in n (ages_of second) ≡ true) → is_in n (ages_of (first ++ second)) ≡ true
+    both_ages first second n (inl e) = ap (is_in n) (ages_both first second) ∙ (both_in n (ages_of first) (ages_of second) ∙ or_front (is_in n (ages_of first)) (is_in n (ages_of second)) e)
+    both_ages first second n (inr e) = ap (is_in n) (ages_both first second) ∙ (both_in n (ages_of first) (ages_of second) ∙ or_back (is_in n (ages_of first)) (is_in n (ages_of second)) e)
+
+    both_for : (x : TextArgument) (z o n : ℕ) → is_in n (pointed v (text_target x ∷ pointer true z o 2 ∷ [])) ≡ true → is_in n (ages_of (pair_of (held_under m pid x.selector) ++ pair_of (held_under m pid z))) ≡ true
+    both_for x z o n e = by (pointed_in v (text_target x) (pointer true z o 2 ∷ []) n e)
+      where
+        by : (is_in n (name_in (bound_in v.held x.selector)) ≡ true) ⊎ (is_in n (pointed v (pointer true z o 2 ∷ [])) ≡ true)
+            → is_in n (ages_of (pair_of (held_under m pid x.selector) ++ pair_of (held_under m pid z))) ≡ true
+        by (inl f) = both_ages (pair_of (held_under m pid x.selector)) (pair_of (held_under m pid z)) n (inl (named_for x.selector n f))
+        by (inr f) = both_ages (pair_of (held_under m pid x.selector)) (pair_of (held_under m pid z)) n (inr (kept_for z o 2 n f))
+
+    shared_for : (a : SharedArguments) (n : ℕ) → is_in n (pointed v (shared_targets a)) ≡ true → is_in n (ages_of (shared_aimed m pid a)) ≡ true
+    shared_for (Name size x z o) n e = both_for x z o n e
+    shared_for (Share x z o) n e = both_for x z o n e
+    shared_for (Give y to z o) n e = kept_for z o 2 n e
+    shared_for (Get z) n e = absurd (false≢true e)
 
     pub keeps_for : (a : SegmentArguments) (n : ℕ) → is_in n (pointed v (targets a)) ≡ true → is_in n (ages_of (aimed_in m pid a)) ≡ true
     keeps_for (Alloc size z o flags) n e = kept_for z o 2 n e
@@ -234,15 +294,34 @@ module _ (s : Shelf) (m : Maps) (pid : ℕ) (c : Cpu) where
     keeps_for (Lock z) n e = absurd (false≢true e)
     keeps_for (Unlock z) n e = absurd (false≢true e)
     keeps_for (Alias y z o) n e = kept_for z o 2 n e
+    keeps_for (Shared a) n e = shared_for a n e
+
+  word_there : (z o count n : ℕ) → (count == 0) ≡ false → is_ready is_writable (seen s m pid c) z o count ≡ true → is_in n (ages_of (pair_of (held_under m pid z))) ≡ true → present_in s n ≡ true
+  word_there z o count n some ready e = aimed_there is_writable z n (aimed_by is_writable z o count n some ready (aged_pair z n e))
+
+  both_there : (x : TextArgument) (z o n : ℕ) → are_ready (seen s m pid c) (text_target x ∷ pointer true z o 2 ∷ []) ≡ true
+      → is_in n (ages_of (pair_of (held_under m pid x.selector) ++ pair_of (held_under m pid z))) ≡ true → present_in s n ≡ true
+  both_there x z o n ready e = by (two_pairs x z n e)
+    where
+      by : (is_in n (ages_of (pair_of (held_under m pid x.selector))) ≡ true) ⊎ (is_in n (ages_of (pair_of (held_under m pid z))) ≡ true) → present_in s n ≡ true
+      by (inl f) = aimed_there is_readable x.selector n (aimed_by is_readable x.selector x.offset (text_target x).count n (text_some x) (left_true _ _ ready) (aged_pair x.selector n f))
+      by (inr f) = word_there z o 2 n refl (left_true _ true (right_true (is_ready is_readable (seen s m pid c) x.selector x.offset (text_target x).count) _ ready)) f
+
+  shared_there : (a : SharedArguments) (n : ℕ) → are_ready (seen s m pid c) (shared_targets a) ≡ true → is_in n (ages_of (shared_aimed m pid a)) ≡ true → present_in s n ≡ true
+  shared_there (Name size x z o) n ready e = both_there x z o n ready e
+  shared_there (Share x z o) n ready e = both_there x z o n ready e
+  shared_there (Give y to z o) n ready e = word_there z o 2 n refl (left_true _ true ready) e
+  shared_there (Get z) n ready e = absurd (false≢true e)
 
   there_for : (a : SegmentArguments) (n : ℕ) → are_ready (seen s m pid c) (targets a) ≡ true → is_in n (ages_of (aimed_in m pid a)) ≡ true → present_in s n ≡ true
-  there_for (Alloc size z o flags) n ready e = aimed_there z n (aimed_by z o 2 n refl (left_true _ true ready) (aged_pair z n e))
+  there_for (Alloc size z o flags) n ready e = word_there z o 2 n refl (left_true _ true ready) e
   there_for (Realloc size z) n ready e = absurd (false≢true e)
   there_for (Free z) n ready e = absurd (false≢true e)
-  there_for (Size y z o) n ready e = aimed_there z n (aimed_by z o 4 n refl (left_true _ true ready) (aged_pair z n e))
+  there_for (Size y z o) n ready e = word_there z o 4 n refl (left_true _ true ready) e
   there_for (Lock z) n ready e = absurd (false≢true e)
   there_for (Unlock z) n ready e = absurd (false≢true e)
-  there_for (Alias y z o) n ready e = aimed_there z n (aimed_by z o 2 n refl (left_true _ true ready) (aged_pair z n e))
+  there_for (Alias y z o) n ready e = word_there z o 2 n refl (left_true _ true ready) e
+  there_for (Shared a) n ready e = shared_there a n ready e
 
   abbrev need : SegmentArguments → List (SegId × ℕ)
   need a = seated_in m pid c ++ aimed_in m pid a

@@ -19,3 +19,6 @@ pub mod CallRooms
 pub mod CallStops
 pub mod CallLacks
 pub mod CallSays
+pub mod SharedKept
+pub mod Spelling
+pub mod SpelledCalls

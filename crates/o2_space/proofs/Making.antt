@@ -1,5 +1,5 @@
 -- What a call on segments leaves of a space, and what it asks for.
-use Rattle.std.proofs.Common.{◌≡◌, ℕ, true, List, [], ◌++◌, length, Option, None, ap, sym, ◌∙◌, refl, subst, arith}
+use Rattle.std.proofs.Common.{◌≡◌, ◌≤◌, ℕ, true, List, [], ◌++◌, length, Option, None, ap, sym, ◌∙◌, refl, subst, arith}
 use Rattle.std.specs.Prelude.{min}
 use Rattle.o2_image.specs.ImageList.{ImageList}
 use Rattle.o2_isa.specs.declared.cpu.Cpu.{Cpu}
@@ -21,7 +21,10 @@ use Rattle.o2_changes.specs.Order.{IsGuarded, IsInOrder}
 use Rattle.o2_world.specs.Changes.{with_all, with_changes}
 use Rattle.o2_world.specs.World.{Setting, World}
 use Rattle.o2_gate.specs.declared.gathering.SegmentArguments.{SegmentArguments}
-use Rattle.o2_gate.specs.declared.gathering.SegmentArguments.TheVariants.{Alloc, Realloc, Free, Size, Lock, Unlock, Alias}
+use Rattle.o2_gate.specs.declared.gathering.SegmentArguments.TheVariants.{Alloc, Realloc, Free, Size, Lock, Unlock, Alias, Shared}
+use Rattle.o2_gate.specs.declared.sharing.SharedArguments.{SharedArguments}
+use Rattle.o2_gate.specs.declared.sharing.SharedArguments.TheVariants.{Name, Share, Give, Get}
+use Rattle.o2_gate.specs.SharedReplies.{IsSharedValue}
 use Rattle.o2_gate.specs.Replies.{IsValue}
 use Rattle.o2_calls.specs.Stops.{IsGivable}
 use Rattle.o2_stands.specs.Moves.{moved}
@@ -39,6 +42,12 @@ use Rattle.o2_space.proofs.Behind.{after}
 
 -- A value that is given is a word where it is a selector.
 
+shared_value : (a : SharedArguments) (value : ℕ) → value ≤ 65535 → IsSharedValue a value
+shared_value (Name size t s o) value h = h
+shared_value (Share t s o) value h = h
+shared_value (Give selector to s o) value h = h
+shared_value (Get selector) value h = tt
+
 pub value_of : (a : SegmentArguments) (x : Answer) → IsGivable a (Done x) → IsValue a x.value
 value_of (Alloc size s o flags) x h = h
 value_of (Realloc size s) x h = tt
@@ -47,6 +56,7 @@ value_of (Size y s o) x h = tt
 value_of (Lock s) x h = tt
 value_of (Unlock s) x h = tt
 value_of (Alias y s o) x h = h
+value_of (Shared a) x h = shared_value a x.value h
 
 -- What is behind the pointer is among what is kept in memory.
 

@@ -1,20 +1,22 @@
 -- What a call on segments leaves of the names before it: none of them grows or gets a lock, or none goes, shrinks or loses its lock.
-use Rattle.std.proofs.Common.{◌≡◌, inl, inr, ℕ, ◌-◌, ◌≤◌, Bool, true, false, List, [], ◌∷◌, length, map, Option, Some, None, is_some, option_map, ap, sym, ◌∙◌, refl, subst, arith, if◌then◌else◌}
+use Rattle.std.proofs.Common.{◌≡◌, inl, inr, ℕ, ◌-◌, ◌≤◌, Bool, true, false, List, [], ◌∷◌, ◌++◌, length, map, Option, Some, None, is_some, option_map, ap, sym, ◌∙◌, refl, subst, arith, if◌then◌else◌}
 use Rattle.std.specs.Prelude.{◌==◌, nat_lt, replicate, take}
 use Rattle.std.specs.List.{list_any}
-use Rattle.std.proofs.lemmas.Bool.{cases_lt, eqb-true, false≢true}
+use Rattle.std.proofs.lemmas.Bool.{cases_lt, cond-false, eqb-true, false≢true}
 use Rattle.std.proofs.lemmas.List.{length-append, length-replicate, length-take}
 use Rattle.o2_conf.specs.Dispatch.{Dispatch}
 use Rattle.o2_isa.specs.declared.cpu.Cpu.{Cpu}
 use Rattle.o2_run.specs.Room.{is_locked, size_of}
 use Rattle.o2_world.specs.CallParts.{Before, Effect}
-use Rattle.o2_world.specs.Changes.{Change, Drops, resized, swept, takes, with_all, with_change, with_changes}
+use Rattle.o2_world.specs.Changes.{Change, Drops, Holds, resized, swept, takes, with_all, with_change, with_changes}
 use Rattle.o2_world.specs.Holders.{is_held}
 use Rattle.o2_world.specs.Map.{Map, at_key, get}
-use Rattle.o2_world.specs.Moves.{Moves, NoneMoves, OneAliased, OneLocked, OneMade, OneSized, SomeFreed}
+use Rattle.o2_world.specs.Moves.{AllMoves, Moves, NoneMoves, OneAliased, OneLocked, OneMade, OneNamed, OneSized, OwnMoves, SomeFreed, SomeShared}
 use Rattle.o2_world.specs.Rulings.{full_size, made_segment}
 use Rattle.o2_world.specs.Run.{worked}
-use Rattle.o2_world.specs.World.{Process, Segment, World}
+use Rattle.o2_world.specs.Known.{Known}
+use Rattle.o2_world.specs.SharedRulings.{each_more, one_more, shared_segment}
+use Rattle.o2_world.specs.World.{ByCall, Held, Process, Segment, World}
 use Rattle.o2_world.proofs.MapLemmas.{get-at_key, get-filter, get-map}
 use Rattle.o2_stepping.proofs.NextRooms.{IsLess, less_kept}
 
@@ -118,6 +120,17 @@ unfolding with_changes
 drops_names v n [] = refl
 drops_names v n (i ∷ is) = drops_names (with_change v (Drops n i 1)) n is
 
+-- holds of what others hold
+pub more_names : (k : Known) (from to : ℕ) (is : List ℕ) (v : World) → (list_any takes (each_more k from to is) ≡ false) × ((with_changes v (each_more k from to is)).names ≡ v.names)
+unfolding with_changes
+more_names k from to [] v = (refl, refl)
+more_names k from to (i ∷ is) v = go (k.held from i) (more_names k from to is)
+  where
+    go : (o : Option Held) → ((u : World) → (list_any takes (each_more k from to is) ≡ false) × ((with_changes u (each_more k from to is)).names ≡ u.names))
+        → (list_any takes (one_more to i o ++ each_more k from to is) ≡ false) × ((with_changes v (one_more to i o ++ each_more k from to is)).names ≡ v.names)
+    go None rest = rest v
+    go (Some h) rest = rest (with_change v (Holds to i (record h { holds = 1; cause = ByCall })))
+
 module _ (w : World) (d : Dispatch) (x : Process) (e : Effect) (sizes : (n : ℕ) → length (e.bytes n) ≡ size_of (get w.names n)) (new : get w.names w.next_name ≡ None) where
   abbrev u : World
   u = worked w d x e
@@ -176,7 +189,7 @@ module _ (w : World) (d : Dispatch) (x : Process) (e : Effect) (sizes : (n : ℕ
   abbrev Left : List Change → Type 0
   Left cs = Remains w.names (with_all u cs).names
 
-  pub remains : (b : Before) (cpu : Cpu) (cs : List Change) → Moves b cpu cs → Left cs
+  remains : (b : Before) (cpu : Cpu) (cs : List Change) → Moves b cpu cs → Left cs
   unfolding with_changes
   remains b cpu cs (NoneMoves is) = subst Left (sym is) (NoneMore (λ n. less_as (get u.names n) (get w.names n) (written n)))
   remains b cpu cs (OneMade size flags i free is) = subst Left (sym is) (NoneLess (made (made_segment size flags)))
@@ -184,3 +197,16 @@ module _ (w : World) (d : Dispatch) (x : Process) (e : Effect) (sizes : (n : ℕ
   remains b cpu cs (OneLocked name count is) = subst Left (sym is) (locked name count)
   remains b cpu cs (OneAliased index i h there free is) = subst Left (sym is) (NoneMore (λ n. less_as (get u.names n) (get w.names n) (written n)))
   remains b cpu cs (SomeFreed xs frees is) = subst Left (sym is) (NoneMore (freed b.number xs))
+
+  -- where a process holds more of what is shared
+  shared : (k : Known) (from to : ℕ) (is : List ℕ) → Left (each_more k from to is)
+  shared k from to is =
+      let more = more_names k from to is u in
+      let same : (with_all u (each_more k from to is)).names ≡ u.names = ap (λ (v : World). v.names) (cond-false (list_any takes (each_more k from to is)) (swept (with_changes u (each_more k from to is))) (with_changes u (each_more k from to is)) more.0) ∙ more.1 in
+      subst (λ (names : Map Segment). Remains w.names names) (sym same) (NoneMore (λ n. less_as (get u.names n) (get w.names n) (written n)))
+
+  pub all_remains : (b : Before) (cpu : Cpu) (cs : List Change) → AllMoves b cpu cs → Left cs
+  unfolding with_changes
+  all_remains b cpu cs (OwnMoves moves) = remains b cpu cs moves
+  all_remains b cpu cs (OneNamed size i name free is) = subst Left (sym is) (NoneLess (made (shared_segment size)))
+  all_remains b cpu cs (SomeShared from to xs shares is) = subst Left (sym is) (shared b.known from to xs)

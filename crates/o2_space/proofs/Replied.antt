@@ -25,7 +25,10 @@ use Rattle.o2_gate.specs.declared.gathering.SegmentArguments.{SegmentArguments}
 use Rattle.o2_gate.specs.Gathers.{asked}
 use Rattle.o2_gate.specs.Replies.{lines_of}
 use Rattle.o2_segs.specs.Answers.{AreAlone}
+use Rattle.o2_shared.specs.declared.names.Name.{Name}
+use Rattle.o2_store.specs.Shelf.{Shelf}
 use Rattle.o2_calls.specs.Acts.{ruling_of}
+use Rattle.o2_calls.specs.SharedActs.{AreSpelled}
 use Rattle.o2_calls.specs.Tellings.{HoldsAlone, replied_by}
 use Rattle.o2_calls.proofs.Replies.{asked_is}
 use Rattle.o2_stands.specs.Moves.{with_running}
@@ -90,7 +93,7 @@ pub equal_self : (n : ℕ) → (n == n) ≡ true
 equal_self n = grind arith
 
 module _ (s : Setting) (w : World) (x : Process) (pid : ℕ) (a : SegmentArguments) (next : ℕ) (cpu : Cpu) (p : Parts) (answer : Answer) (called : IsCalled s w pid x a next cpu p answer)
-    (alone : (i : ℕ) → HoldsAlone (known_of s w) pid i) (registers : Cpu) (same : registers ≡ x.cpu)
+    (alone : (m i : ℕ) → HoldsAlone (known_of s w) m i) (registers : Cpu) (same : registers ≡ x.cpu)
     (eff : let b = before s w pid x in effect b ≡ single_stepped b (asked a b next)) (r q i c : Option (List ℕ)) (ran : Ran) (told : IsTold pid registers a answer.error answer.value r q ran)
     (input : i ≡ Some w.input) where
   abbrev b : Before
@@ -165,6 +168,19 @@ module _ (s : Setting) (w : World) (x : Process) (pid : ℕ) (a : SegmentArgumen
         to_report = subst (λ (l : List Line). TakesText ran.whole r q (lines_text l)) (with_trap dead) told.report;
       })
 
+  -- the names that are kept, where they are those behind the call
+
+  pub spells_live : is_live ran.state ≡ true → (t : Shelf) (names : List (Option Name)) → ((d : Dispatch) → d.current ≡ pid → AreSpelled t names (changed w d x e))
+      → (d : Dispatch) → d.current ≡ pid → AreSpelled t names (changed w d x (effect b))
+  spells_live live t names all d current = subst (λ (f : Effect). AreSpelled t names (changed w d x f)) (sym (live_effect live)) (all d current)
+
+  pub spells_trapped : is_live ran.state ≡ false → (z : Parts) (names : List (Option Name))
+      → (((d : Dispatch) → d.current ≡ pid → Matches z (changed w d x trapped_effect)) → (d : Dispatch) → d.current ≡ pid → AreSpelled z.shelf names (changed w d x trapped_effect))
+      → ((d : Dispatch) → d.current ≡ pid → Matches z (changed w d x (effect b))) → (d : Dispatch) → d.current ≡ pid → AreSpelled z.shelf names (changed w d x (effect b))
+  spells_trapped dead z names by matches =
+      subst (λ (f : Effect). (d : Dispatch) → d.current ≡ pid → AreSpelled z.shelf names (changed w d x f)) (sym (dead_effect dead))
+      (by (subst (λ (f : Effect). (d : Dispatch) → d.current ≡ pid → Matches z (changed w d x f)) (dead_effect dead) matches))
+
 -- Whose turn was next doesn't matter.
 
 module _ (z : Dispatch) where
@@ -237,5 +253,5 @@ module _ (s : Setting) (w : World) (x : Process) (a : SegmentArguments) (next : 
   then_trapped pid chosen = subst (ThenTrapped s w x a next cpu p answer z) chosen at_current
 
 -- a step that is a call is orderly, whatever its effect is told by
-pub orderly_call : (b : Before) (a : SegmentArguments) (next : ℕ) → ((i : ℕ) → HoldsAlone b.known b.number i) → effect b ≡ single_stepped b (asked a b next) → IsOrderly b (single_stepped b (replied_by a b next))
+pub orderly_call : (b : Before) (a : SegmentArguments) (next : ℕ) → ((m i : ℕ) → HoldsAlone b.known m i) → effect b ≡ single_stepped b (asked a b next) → IsOrderly b (single_stepped b (replied_by a b next))
 orderly_call b a next alone eff = subst (λ (e : Effect). IsOrderly b e) (eff ∙ ap (single_stepped b) (asked_is b next a alone)) (effect_orderly b)

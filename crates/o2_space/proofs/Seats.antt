@@ -1,6 +1,6 @@
 -- The segment registers behind a call on segments name nothing that they didn't name before it.
-use Rattle.std.proofs.Common.{◌≡◌, ◌⊎◌, inl, inr, ℕ, ◌-◌, ◌/◌, ◌&&◌, ◌||◌, Bool, true, false, cond, eqb, List, [], ◌∷◌, ◌++◌, map, Option, Some, None, option_map, ap, sym, ◌∙◌, refl, subst, if◌then◌else◌}
-use Rattle.std.specs.Prelude.{nat_lt}
+use Rattle.std.proofs.Common.{◌≡◌, ◌⊎◌, inl, inr, ℕ, ◌+◌, ◌-◌, ◌/◌, ◌&&◌, ◌||◌, Bool, true, false, cond, eqb, List, [], ◌∷◌, ◌++◌, map, Option, Some, None, option_map, ap, sym, ◌∙◌, refl, subst, arith, if◌then◌else◌}
+use Rattle.std.specs.Prelude.{◌==◌, nat_lt, slice_get}
 use Rattle.std.specs.List.{list_any}
 use Rattle.std.proofs.lemmas.Bool.{eqb-true, false≢true}
 use Rattle.o2_changes.proofs.Worlds.{held_put, number_kept, put_at, with_map}
@@ -9,15 +9,18 @@ use Rattle.o2_isa.specs.Presence.{is_in}
 use Rattle.o2_isa.specs.View.{bound_in, bound_registers, is_local, is_null}
 use Rattle.o2_run.specs.Room.{name_in, seated}
 use Rattle.o2_world.specs.CallParts.{Before}
-use Rattle.o2_world.specs.Changes.{Change, Drops, at_number, fewer, more, swept, takes, with_all, with_change, with_changes}
+use Rattle.o2_world.specs.Changes.{Change, Drops, Holds, at_number, at_place, fewer, more, swept, takes, with_all, with_change, with_changes}
 use Rattle.o2_world.specs.Holders.{process_at}
-use Rattle.o2_world.specs.Known.{held_at}
-use Rattle.o2_world.specs.Map.{get}
-use Rattle.o2_world.specs.Moves.{Moves, NoneMoves, OneAliased, OneLocked, OneMade, OneSized, SomeFreed}
+use Rattle.o2_world.specs.Known.{Known, held_at}
+use Rattle.o2_world.specs.Map.{get, put}
+use Rattle.o2_world.specs.Moves.{AllMoves, Moves, NoneMoves, OneAliased, OneLocked, OneMade, OneNamed, OneSized, OwnMoves, SomeFreed, SomeShared}
 use Rattle.o2_world.specs.Rulings.{held_as_code, held_by_call}
-use Rattle.o2_world.specs.Sound.{HasGoodRegisters, NamesHeld, has_rights}
+use Rattle.o2_world.specs.SharedRulings.{each_more, one_more}
+use Rattle.o2_world.specs.Sound.{HasGoodRegisters, NamesHeld, has_rights, held_of}
 use Rattle.o2_world.specs.Views.{hold_of}
-use Rattle.o2_world.specs.World.{Held, Process, World}
+use Rattle.o2_world.specs.World.{ByCall, Held, Process, World}
+use Rattle.o2_world.proofs.MapLemmas.{if_no, if_yes}
+use Rattle.o2_world.proofs.Reached.{get-place, get-put}
 use Rattle.o2_stepping.proofs.Named.{both_in, one_of, or_back, or_front}
 
 -- What is held under an index goes on to have its name, as long as it is held.
@@ -88,6 +91,65 @@ drops_names v n x at (i ∷ is) j k e =
     let s = drop_names v.processes n x at i j r.0 r.1 in
     (s.0, s.1, r.2 ∙ s.2)
 
+-- What is held under an index goes on to be held, with its name, where a process holds more.
+
+record StillNamed (old new : ℕ → Option Held) : Type 0 where
+  each : (i : ℕ) (h : Held) → old i ≡ Some h → (k : Held) × (new i ≡ Some k) × (k.name ≡ h.name)
+
+still_named : (old new : ℕ → Option Held) → StillNamed old new → KeepsNames old new
+still_named old new still = record { each = λ i h k was is. (let r = still.each i h was in ap (λ (x : Held). x.name) (some_is (sym is ∙ r.1)) ∙ r.2) }
+
+still_then : (old new last : ℕ → Option Held) → StillNamed old new → StillNamed new last → StillNamed old last
+still_then old new last a b = record { each = λ i h was. (let r = a.each i h was in let s = b.each i r.0 r.1 in (s.0, s.1, s.2 ∙ r.2)) }
+
+abbrev holds_more : ℕ → Held → Process → Process
+holds_more i h p = record p { held = put i (more h (get p.held i)) p.held }
+
+more_still : (i j : ℕ) (h a : Held) (p : Process) → get p.held j ≡ Some a → (k : Held) × (get (holds_more i h p).held j ≡ Some k) × (k.name ≡ a.name)
+more_still i j h a p was = go (i == j) refl
+  where
+    number_is : (m n : ℕ) → (m == n) ≡ true → m ≡ n
+    number_is m n e = grind arith
+
+    more_of : (o : Option Held) → o ≡ Some a → (k : Held) × (more h o ≡ Some k) × (k.name ≡ a.name)
+    more_of None e = absurd (none_some e)
+    more_of (Some y) e = (record y { holds = y.holds + h.holds }, refl, ap (λ (x : Held). x.name) (some_is e))
+
+    go : (b : Bool) → (i == j) ≡ b → (k : Held) × (get (holds_more i h p).held j ≡ Some k) × (k.name ≡ a.name)
+    go true e =
+        (let r = more_of (get p.held i) (ap (get p.held) (number_is i j e) ∙ was) in
+        (r.0, get-put i j (more h (get p.held i)) p.held ∙ (if_yes (i == j) _ _ e ∙ r.1), r.2))
+    go false e = (a, get-put i j (more h (get p.held i)) p.held ∙ (if_no (i == j) _ _ e ∙ was), refl)
+
+-- of whichever process
+gets_still : (ps : List Process) (n to i : ℕ) (h : Held) → StillNamed (held_at ps n) (held_at (at_number to (holds_more i h) ps) n)
+gets_still ps n to i h = record { each = λ j a was. at (n == 0) (to == 0) j a was }
+  where
+    of : (o : Option Process) (c : Bool) (j : ℕ) (a : Held) → held_of o j ≡ Some a → (k : Held) × (held_of (cond c (option_map (holds_more i h) o) o) j ≡ Some k) × (k.name ≡ a.name)
+    of None c j a was = absurd (none_some was)
+    of (Some p) true j a was = more_still i j h a p was
+    of (Some p) false j a was = (a, was, refl)
+
+    at : (b c : Bool) (j : ℕ) (a : Held) → held_of (cond b None (slice_get ps (n - 1))) j ≡ Some a
+        → (k : Held) × (held_of (cond b None (slice_get (cond c ps (at_place (to - 1) (holds_more i h) ps)) (n - 1))) j ≡ Some k) × (k.name ≡ a.name)
+    at true c j a was = absurd (none_some was)
+    at false true j a was = (a, was, refl)
+    at false false j a was =
+        (let r = of (slice_get ps (n - 1)) (n - 1 == to - 1) j a was in
+        (r.0, ap (λ (o : Option Process). held_of o j) (get-place (to - 1) (n - 1) (holds_more i h) ps) ∙ r.1, r.2))
+
+shares_still : (k : Known) (from to : ℕ) (is : List ℕ) (v : World) (n : ℕ) → StillNamed (held_at v.processes n) (held_at (with_changes v (each_more k from to is)).processes n)
+unfolding with_changes
+shares_still k from to [] v n = record { each = λ j a was. (a, was, refl) }
+shares_still k from to (i ∷ is) v n = go (k.held from i) (λ u. shares_still k from to is u n)
+  where
+    go : (o : Option Held) → ((u : World) → StillNamed (held_at u.processes n) (held_at (with_changes u (each_more k from to is)).processes n))
+        → StillNamed (held_at v.processes n) (held_at (with_changes v (one_more to i o ++ each_more k from to is)).processes n)
+    go None rest = rest v
+    go (Some h) rest =
+        let one : Held = record h { holds = 1; cause = ByCall } in
+        still_then (held_at v.processes n) (held_at (at_number to (holds_more i one) v.processes) n) _ (gets_still v.processes n to i one) (rest (with_change v (Holds to i one)))
+
 module _ (u : World) (b : Before) (x : Process) (at : process_at u.processes b.number ≡ Some x) where
   abbrev Kept : List Change → Type 0
   Kept cs = KeepsNames (held_at u.processes b.number) (held_at (with_all u cs).processes b.number)
@@ -108,7 +170,7 @@ module _ (u : World) (b : Before) (x : Process) (at : process_at u.processes b.n
       go false = behind
 
   -- behind the changes of a call
-  pub names_kept : (cpu : Cpu) (cs : List Change) → Moves b cpu cs → Kept cs
+  names_kept : (cpu : Cpu) (cs : List Change) → Moves b cpu cs → Kept cs
   unfolding with_changes
   names_kept cpu cs (NoneMoves is) = subst Kept (sym is) (same_names _ _ (λ i. refl))
   names_kept cpu cs (OneMade size flags i free is) = subst Kept (sym is) (holds_names u.processes b.number x at i (held_by_call b.known.next))
@@ -116,6 +178,23 @@ module _ (u : World) (b : Before) (x : Process) (at : process_at u.processes b.n
   names_kept cpu cs (OneLocked name count is) = subst Kept (sym is) (same_names _ _ (λ i. refl))
   names_kept cpu cs (OneAliased index i h there free is) = subst Kept (sym is) (holds_names u.processes b.number x at i (held_as_code h.name))
   names_kept cpu cs (SomeFreed xs frees is) = subst Kept (sym is) (freed xs)
+
+  shared : (k : Known) (from to : ℕ) (is : List ℕ) → Kept (each_more k from to is)
+  shared k from to is = go (list_any takes (each_more k from to is))
+    where
+      behind : KeepsNames (held_at u.processes b.number) (held_at (with_changes u (each_more k from to is)).processes b.number)
+      behind = still_named _ _ (shares_still k from to is u b.number)
+
+      go : (t : Bool) → KeepsNames (held_at u.processes b.number)
+          (held_at (if t then swept (with_changes u (each_more k from to is)) else with_changes u (each_more k from to is)).processes b.number)
+      go true = behind
+      go false = behind
+
+  pub all_names_kept : (cpu : Cpu) (cs : List Change) → AllMoves b cpu cs → Kept cs
+  unfolding with_changes
+  all_names_kept cpu cs (OwnMoves moves) = names_kept cpu cs moves
+  all_names_kept cpu cs (OneNamed size i name free is) = subst Kept (sym is) (holds_names u.processes b.number x at i (held_by_call b.known.next))
+  all_names_kept cpu cs (SomeShared from to xs shares is) = subst Kept (sym is) (shared b.known from to xs)
 
 -- What the registers name.
 

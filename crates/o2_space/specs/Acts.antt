@@ -1,13 +1,18 @@
 -- What one step of a process does to the machine and to both sinks, by its answer, for the effect that it has in the world.
 use Rattle.std.specs.Prelude.{◌≡◌, ◌⊎◌, ◌==◌, ℕ, Bool, false, List, if◌then◌else◌, Option, Some, Result, Ok, Err}
+use Rattle.o2_conf.specs.Dispatch.{Dispatch}
 use Rattle.o2_outer.specs.Texts.{Gains, GainsSome, IsPrefix}
 use Rattle.o2_isa.specs.declared.cpu.Cpu.{Cpu}
 use Rattle.o2_isa.specs.Presence.{SameSelectors}
 use Rattle.o2_regions.specs.Lives.{lives}
+use Rattle.o2_store.specs.Shelf.{Shelf}
 use Rattle.o2_world.specs.World.{Process, World, is_live}
 use Rattle.o2_world.specs.Text.{lines_text}
 use Rattle.o2_world.specs.Calls.{Before, Effect}
 use Rattle.o2_world.specs.Effect.{AsksInput, effect}
+use Rattle.o2_world.specs.Run.{changed}
+use Rattle.o2_shared.specs.declared.names.Name.{Name}
+use Rattle.o2_calls.specs.SharedActs.{AreSpelled}
 use Rattle.o2_run.specs.declared.steps.Stop.TheVariants as stop
 use Rattle.o2_run.specs.declared.fault.Fault.{Fault}
 use Rattle.o2_run.specs.declared.fault.Fault.TheVariants as fault
@@ -74,3 +79,8 @@ made_by (Err f) = 0
 abbrev pub AreMarkedBehind : (old new : List Bool) → (pid : ℕ) → Result Ran Fault → Type 0
 AreMarkedBehind old new pid (Ok ran) = (n : ℕ) → lives new n ≡ (if is_live ran.state then lives old n else (if n == pid then false else lives old n))
 AreMarkedBehind old new pid (Err f) = (n : ℕ) → lives new n ≡ lives old n
+
+-- The names of shared segments that are kept behind a step of a process are those of the world's texts there.
+abbrev pub SpellsBehind : Before → World → Process → Shelf → List (Option Name) → Result Ran Fault → Type 0
+SpellsBehind b w x t names (Ok ran) = (d : Dispatch) → d.current ≡ b.number → AreSpelled t names (changed w d x (effect b))
+SpellsBehind b w x t names (Err f) = AreSpelled t names w

@@ -1,5 +1,5 @@
 -- A call on segments by a process of a space.
-use Rattle.std.specs.Prelude.{◌≡◌, ℕ, true, Result, Ok, Err}
+use Rattle.std.specs.Prelude.{◌≡◌, ℕ, true, List, Option, Result, Ok, Err}
 use Rattle.o2_conf.specs.Dispatch.{Dispatch}
 use Rattle.o2_isa.specs.declared.cpu.Cpu.{Cpu}
 use Rattle.o2_regions.specs.declared.answer.Answer.{Answer}
@@ -10,8 +10,11 @@ use Rattle.o2_world.specs.World.{Process, Setting, World}
 use Rattle.o2_gate.specs.declared.gathering.SegmentArguments.{SegmentArguments}
 use Rattle.o2_run.specs.declared.fault.Fault.{Fault}
 use Rattle.o2_run.specs.Room.{Fits}
+use Rattle.o2_shared.specs.declared.names.Name.{Name}
+use Rattle.o2_store.specs.Shelf.{Shelf}
 use Rattle.o2_segs.specs.Answers.{Answers}
 use Rattle.o2_calls.specs.Acts.{ruling_of}
+use Rattle.o2_calls.specs.SharedActs.{LeavesSpelled}
 use Rattle.o2_calls.specs.Tellings.{replied_by}
 use Rattle.o2_stands.specs.Moves.{with_running}
 use Rattle.o2_stands.specs.Parts.{Parts}
@@ -38,3 +41,8 @@ Makes s w number x a next registers p (Err f) = Stands p w
 abbrev pub SaysCall : (device : ℕ) → Setting → World → Result Answer Fault → Type 0
 SaysCall device s w (Ok answer) = Fits true s w
 SaysCall device s w (Err f) = FaultSays device s w f
+
+-- What is left of the names of shared segments that were kept, in the world with the changes of the call; at a fault all of them.
+abbrev pub MakesNames : SegmentArguments → Shelf → (old new : List (Option Name)) → World → Result Answer Fault → Type 0
+MakesNames a t old new w (Ok answer) = LeavesSpelled a t old new w
+MakesNames a t old new w (Err f) = new ≡ old

@@ -1,5 +1,5 @@
 -- What is true of a space between two steps, and the world that it stands for behind a step.
-use Rattle.std.specs.Prelude.{◌≡◌, ℕ, ◌≤◌, if◌then◌else◌, List, [], length}
+use Rattle.std.specs.Prelude.{◌≡◌, ℕ, if◌then◌else◌, List, [], length}
 use Rattle.o2_conf.specs.Dispatch.{Dispatch}
 use Rattle.o2_world.specs.Calls.{Effect}
 use Rattle.o2_world.specs.Changes.{used}
@@ -9,6 +9,8 @@ use Rattle.o2_world.specs.Run.{changed}
 use Rattle.o2_world.specs.World.{Process, Reserve, Segment, World, is_live}
 use Rattle.o2_regions.specs.Maps.{IsProcess, Maps, table_of}
 use Rattle.o2_segs.specs.Answers.{AreAlone}
+use Rattle.o2_segs.specs.Sharing.{ShareOne}
+use Rattle.o2_shared.specs.Texts.{AreInPlace}
 use Rattle.o2_stands.specs.Parts.{Parts, Running}
 use Rattle.o2_stands.specs.Stands.{AreMarked, IsReady, Matches, StandsIn}
 use Rattle.o2_space.specs.Parts.{parts_in}
@@ -19,14 +21,17 @@ abbrev pub AreWhole : Maps → Type 0
 AreWhole m = (pid : ℕ) → IsProcess m pid → length (table_of m pid) ≡ 8192
 
 -- The parts go together, over a device of so many blocks: the calls of the store, of the service and of the bus may be made,
--- whatever the blocks hold; each process is one of the tables; those that live are marked so; nobody holds a run of a huge
--- allocation; and each process has a whole table.
+-- whatever the blocks hold; each process is one of the tables, of which no others are; those that live are marked so; nobody holds a
+-- run of a huge allocation; each process has a whole table; under a shared index is one segment; and the names of shared segments
+-- are in place.
 pub record GoTogether (m : Space) (device : ℕ) : Type 0 where
   pub ready : (block : ℕ → List ℕ) → IsReady (parts_in m device block)
-  pub numbers : length m.procs.items ≤ m.regions.processes
+  pub numbers : length m.procs.items ≡ m.regions.processes
   pub marked : AreMarked m.ends (parts_in m device (λ n. []))
   pub alone : AreAlone m.regions
   pub whole : AreWhole m.regions
+  pub one : ShareOne m.regions
+  pub places : AreInPlace m.store m.regions m.names
 
 -- The parts stand for these processes, names and reserved indexes once a process has these registers and this state: where it has
 -- ended, it holds nothing, and what nobody holds is gone.

@@ -29,7 +29,11 @@ ghost use Rattle.o2_stepping.specs.Pieces.{RanHands, StepHands};
 ghost use Rattle.o2_stepping.specs.Shapes.{SameShape};
 ghost use Rattle.o2_stepping.specs.Rooms.{all_names, needed_names, room_in};
 ghost use Rattle.o2_stepping.specs.Taken.{OnAsks, OnDone, OnNoStep, OnSink, OnStep, OnSwapStop, SteppedFor, TakenFor};
-ghost use Rattle.o2_space.specs.Acts.{Acts, AreMarkedBehind, made_by};
+ghost use Rattle.o2_segs.specs.Sharing.{AreHeldAtMost};
+ghost use Rattle.o2_shared.specs.Shares.{AreFew};
+ghost use Rattle.o2_shared.specs.Texts.{IsBehind};
+ghost use Rattle.o2_calls.specs.SharedActs.{AreSpelled};
+ghost use Rattle.o2_space.specs.Acts.{Acts, AreMarkedBehind, SpellsBehind, made_by};
 ghost use Rattle.o2_space.specs.Between.{Steps};
 ghost use Rattle.o2_space.specs.Nexts.{SaysRoom, SaysStep};
 ghost use Rattle.o2_space.specs.Parts.{parts_in};
@@ -78,6 +82,9 @@ impl Space {
         ensures count { length self.new.procs.items ≡ length self.old.procs.items }
         ensures processes { self.new.regions.processes ≡ self.old.regions.processes }
         ensures made { self.new.store.made ≡ self.old.store.made }
+        ensures held { (k : ℕ) → AreHeldAtMost self.old.regions k → AreHeldAtMost self.new.regions k }
+        ensures names { self.new.names ≡ self.old.names }
+        ensures behind { IsBehind self.old.store self.new.store }
         ensures avail { self.new.services.avail ≡ self.old.services.avail }
     {
         self.procs[pid as usize - 1] = Proc { cpu: *cpu, state };
@@ -159,6 +166,8 @@ impl Space {
         ensures procs { self.new.procs ≡ self.old.procs }
         ensures ends { self.new.ends ≡ self.old.ends }
         ensures made { self.new.store.made ≡ self.old.store.made }
+        ensures held { (k : ℕ) → AreHeldAtMost self.old.regions k → AreHeldAtMost self.new.regions k }
+        ensures names { self.new.names ≡ self.old.names }
         ensures shape { SameShape self.old.store self.old.regions self.new.store self.new.regions }
         ensures processes { self.new.regions.processes ≡ self.old.regions.processes }
         ensures most { self.new.regions.processes ≤ 64 }
@@ -221,19 +230,29 @@ impl Space {
         requires live { lives self.old.ends pid ≡ true }
         requires together { GoTogether self.old (S.blocks swap.old) }
         requires made { self.old.store.made < 2 ^ 64 - 1 }
+        requires few { AreFew self.old.regions }
 
-        // From a machine that stands for a world, the step of the boundless machine; or it stands for the same world. However the
-        // input is seen: by what it tells, or as a text that the whole of it may be.
+        // From a machine that stands for a world, and keeps the names of its texts, the step of the boundless machine; or it stands for
+        // the same world. However the input is seen: by what it tells, or as a text that the whole of it may be.
         ensures acts { (text : Option (List ℕ)) → IsSeenAs text (I.past input.new)
             → (s : Setting) (w : World) (x : Process) → IsTrue (S.told swap.new)
             → Stands (parts_in self.old (S.blocks swap.old) (S.block swap.old)) w
             → IsSetTo (parts_in self.old (S.blocks swap.old) (S.block swap.old)) s → IsSound w
             → (next_dispatch s w).current ≡ pid → process_at w.processes pid ≡ Some x
             → left_as text (I.left input.old) (I.past input.old) ≡ Some w.input → IsKnown (known_of s w) self.old.services
+            → AreSpelled self.old.store self.old.names w
             → Acts (before s w pid x) w x (parts_in self.new (S.blocks swap.new) (S.block swap.new))
             (left_as text (I.left input.old) (I.past input.old))
             (left_as text (I.left input.new) (I.past input.new)) (C.taken console.old) (C.taken console.new)
             (R.taken report.old) (R.taken report.new) result }
+        ensures spells { (text : Option (List ℕ)) → IsSeenAs text (I.past input.new)
+            → (s : Setting) (w : World) (x : Process) → IsTrue (S.told swap.new)
+            → Stands (parts_in self.old (S.blocks swap.old) (S.block swap.old)) w
+            → IsSetTo (parts_in self.old (S.blocks swap.old) (S.block swap.old)) s → IsSound w
+            → (next_dispatch s w).current ≡ pid → process_at w.processes pid ≡ Some x
+            → left_as text (I.left input.old) (I.past input.old) ≡ Some w.input → IsKnown (known_of s w) self.old.services
+            → AreSpelled self.old.store self.old.names w
+            → SpellsBehind (before s w pid x) w x self.new.store self.new.names result }
         ensures still { OnNoStep result
             ((input.new ≡ input.old) × (console.new ≡ console.old) × (report.new ≡ report.old)) }
         ensures goes_on { GoesOn (I.past input.old) (I.past input.new) }
@@ -249,6 +268,7 @@ impl Space {
             → IsSetTo (parts_in self.old (S.blocks swap.old) (S.block swap.old)) s → IsSound w
             → (next_dispatch s w).current ≡ pid → process_at w.processes pid ≡ Some x
             → left_as text (I.left input.old) (I.past input.old) ≡ Some w.input → IsKnown (known_of s w) self.old.services
+            → AreSpelled self.old.store self.old.names w
             → SaysRoom (S.blocks swap.old) s w result }
 
         // The parts go on to go together, whatever the device gives, and what a setting fixes stays. Who is marked live stays so, but
@@ -261,6 +281,8 @@ impl Space {
         ensures count { length self.new.procs.items ≡ length self.old.procs.items }
         ensures processes { self.new.regions.processes ≡ self.old.regions.processes }
         ensures made { self.new.store.made ≤ self.old.store.made + made_by result }
+        ensures held { (k : ℕ) → 1 ≤ k → AreHeldAtMost self.old.regions k
+            → AreHeldAtMost self.new.regions (k + made_by result) }
         ensures avail { self.new.services.avail ≡ self.old.services.avail }
         ensures device { (S.blocks swap.new ≡ S.blocks swap.old)
             × (IsTrue (S.told swap.new) → IsTrue (S.told swap.old)) }

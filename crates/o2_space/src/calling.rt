@@ -23,8 +23,15 @@ ghost use Rattle.o2_stepping.specs.Ran.{IsCallOf};
 ghost use Rattle.o2_stepping.specs.Rooms.{all_names, room_in};
 ghost use Rattle.o2_stepping.specs.Taken.{IsSwapStop, OnErr, OnNoStep, OnSink, OnSwapStop, TakenFor};
 ghost use Rattle.o2_stepping.specs.Worlds.{bytes_with};
-ghost use Rattle.o2_space.specs.Acts.{Acts, AreMarkedBehind, made_by};
-ghost use Rattle.o2_space.specs.Calls.{Makes, SaysCall, no_registers};
+ghost use Rattle.o2_world.specs.Changes.{with_all};
+ghost use Rattle.o2_world.specs.Known.{known_of};
+ghost use Rattle.o2_segs.specs.Sharing.{AreHeldAtMost};
+ghost use Rattle.o2_shared.specs.Shares.{AreFew};
+ghost use Rattle.o2_shared.specs.Texts.{IsBehind};
+ghost use Rattle.o2_calls.specs.Acts.{ruling_of};
+ghost use Rattle.o2_calls.specs.SharedActs.{AreSpelled};
+ghost use Rattle.o2_space.specs.Acts.{Acts, AreMarkedBehind, SpellsBehind, made_by};
+ghost use Rattle.o2_space.specs.Calls.{Makes, MakesNames, SaysCall, no_registers};
 ghost use Rattle.o2_space.specs.Nexts.{SaysRoom};
 ghost use Rattle.o2_space.specs.Parts.{parts_in};
 ghost use Rattle.o2_space.specs.Stands.{GoTogether};
@@ -115,21 +122,30 @@ impl Space {
     ) -> Result<Answer, Fault>
         requires together { GoTogether self.old (S.blocks swap.old) }
         requires made { self.old.store.made < 2 ^ 64 - 1 }
+        requires few { AreFew self.old.regions }
         requires can_step { CanStep self.old.store self.old.regions pid cpu.old }
         requires aimed { are_ready (seen self.old.store self.old.regions pid cpu.old) (targets arguments) ≡ true }
         ensures makes { (s : Setting) (w : World) (x : Process) → IsTrue (S.told swap.new)
             → Stands (parts_in self.old (S.blocks swap.old) (S.block swap.old)) w
             → IsSetTo (parts_in self.old (S.blocks swap.old) (S.block swap.old)) s → IsTied w
             → process_at w.processes pid ≡ Some x → cpu.old ≡ x.cpu
+            → AreSpelled self.old.store self.old.names w
             → Makes s w pid x arguments next cpu.new (parts_in self.new (S.blocks swap.new) (S.block swap.new)) result }
         ensures room { (s : Setting) (w : World) (x : Process) → IsTrue (S.told swap.new)
             → Stands (parts_in self.old (S.blocks swap.old) (S.block swap.old)) w
             → IsSetTo (parts_in self.old (S.blocks swap.old) (S.block swap.old)) s → IsSound w
             → (next_dispatch s w).current ≡ pid → process_at w.processes pid ≡ Some x
-            → lives_on x.state ≡ true → cpu.old ≡ x.cpu
+            → lives_on x.state ≡ true → cpu.old ≡ x.cpu → AreSpelled self.old.store self.old.names w
             → let b = before s w pid x in IsCallOf b arguments next
             → room_in self.old.store (all_names b (bound_registers (hold_in self.old.regions pid) b.cpu)) ≤ self.old.store.places.size
             → SaysCall (S.blocks swap.old) s w result }
+        ensures spells { (s : Setting) (w : World) (x : Process)
+            → Stands (parts_in self.old (S.blocks swap.old) (S.block swap.old)) w
+            → IsSetTo (parts_in self.old (S.blocks swap.old) (S.block swap.old)) s
+            → cpu.old ≡ x.cpu → AreSpelled self.old.store self.old.names w
+            → MakesNames arguments self.new.store self.old.names self.new.names
+            (with_all w (ruling_of arguments (known_of s w) pid x.cpu).changes) result }
+        ensures behind { IsBehind self.old.store self.new.store }
         ensures stops { OnErr result (λ f. IsSwapStop f) }
         ensures fault { OnSwapStop result (Unit {0}) (Unit {0}) (Rose (S.faults swap.old) (S.faults swap.new)) }
         ensures value { IfOk result (λ a. IsValue arguments a.value) }
@@ -141,6 +157,8 @@ impl Space {
         ensures ends { self.new.ends ≡ self.old.ends }
         ensures processes { self.new.regions.processes ≡ self.old.regions.processes }
         ensures made { self.new.store.made ≤ self.old.store.made + made_by result }
+        ensures held { (k : ℕ) → 1 ≤ k → AreHeldAtMost self.old.regions k
+            → AreHeldAtMost self.new.regions (k + made_by result) }
         ensures avail { self.new.services.avail ≡ self.old.services.avail }
         ensures device { (S.blocks swap.new ≡ S.blocks swap.old)
             × (IsTrue (S.told swap.new) → IsTrue (S.told swap.old)) }
@@ -154,6 +172,8 @@ impl Space {
             cpu,
             &mut self.store,
             &mut self.regions,
+            &mut self.names,
+            &self.ends,
             need.ids(),
             &self.images,
             swap,
@@ -190,13 +210,14 @@ impl Space {
         requires live { lives self.old.ends pid ≡ true }
         requires together { GoTogether self.old (S.blocks swap.old) }
         requires made { self.old.store.made < 2 ^ 64 - 1 }
+        requires few { AreFew self.old.regions }
         requires can_step { CanStep self.old.store self.old.regions pid registers }
         requires aimed { are_ready (seen self.old.store self.old.regions pid registers) (targets arguments) ≡ true }
         ensures acts { (s : Setting) (w : World) (x : Process) (i c : Option (List ℕ)) → IsTrue (S.told swap.new)
             → Stands (parts_in self.old (S.blocks swap.old) (S.block swap.old)) w
             → IsSetTo (parts_in self.old (S.blocks swap.old) (S.block swap.old)) s → IsSound w
             → (next_dispatch s w).current ≡ pid → process_at w.processes pid ≡ Some x
-            → registers ≡ x.cpu → i ≡ Some w.input
+            → registers ≡ x.cpu → i ≡ Some w.input → AreSpelled self.old.store self.old.names w
             → let b = before s w pid x in effect b ≡ single_stepped b (asked arguments b next)
             → Acts b w x (parts_in self.new (S.blocks swap.new) (S.block swap.new))
             i i c c (R.taken report.old) (R.taken report.new) result }
@@ -204,9 +225,17 @@ impl Space {
             → Stands (parts_in self.old (S.blocks swap.old) (S.block swap.old)) w
             → IsSetTo (parts_in self.old (S.blocks swap.old) (S.block swap.old)) s → IsSound w
             → (next_dispatch s w).current ≡ pid → process_at w.processes pid ≡ Some x → registers ≡ x.cpu
+            → AreSpelled self.old.store self.old.names w
             → let b = before s w pid x in IsCallOf b arguments next
             → room_in self.old.store (all_names b (bound_registers (hold_in self.old.regions pid) b.cpu)) ≤ self.old.store.places.size
             → SaysRoom (S.blocks swap.old) s w result }
+        ensures spells { (s : Setting) (w : World) (x : Process) → IsTrue (S.told swap.new)
+            → Stands (parts_in self.old (S.blocks swap.old) (S.block swap.old)) w
+            → IsSetTo (parts_in self.old (S.blocks swap.old) (S.block swap.old)) s → IsSound w
+            → (next_dispatch s w).current ≡ pid → process_at w.processes pid ≡ Some x
+            → registers ≡ x.cpu → AreSpelled self.old.store self.old.names w
+            → let b = before s w pid x in effect b ≡ single_stepped b (asked arguments b next)
+            → SpellsBehind b w x self.new.store self.new.names result }
         ensures still { OnNoStep result (report.new ≡ report.old) }
         ensures no_sink { OnSink result ⊥ }
         ensures swap_stops { OnSwapStop result (Unit {0}) (Unit {0}) (Rose (S.faults swap.old) (S.faults swap.new)) }
@@ -218,6 +247,8 @@ impl Space {
         ensures count { length self.new.procs.items ≡ length self.old.procs.items }
         ensures processes { self.new.regions.processes ≡ self.old.regions.processes }
         ensures made { self.new.store.made ≤ self.old.store.made + made_by result }
+        ensures held { (k : ℕ) → 1 ≤ k → AreHeldAtMost self.old.regions k
+            → AreHeldAtMost self.new.regions (k + made_by result) }
         ensures avail { self.new.services.avail ≡ self.old.services.avail }
         ensures device { (S.blocks swap.new ≡ S.blocks swap.old)
             × (IsTrue (S.told swap.new) → IsTrue (S.told swap.old)) }

@@ -5,6 +5,7 @@ use o2_gate::State as Services;
 use o2_image::Images;
 use o2_isa::Cpu;
 use o2_regions::{Ends, Regions};
+use o2_shared::Shared;
 use o2_store::Store;
 use o2_world::State;
 
@@ -26,6 +27,8 @@ pub struct Space {
     pub store: Store,
     /// What each process holds, and its descriptors.
     pub regions: Regions,
+    /// The names of the segments that processes share.
+    pub names: Shared,
     /// The images of modules and environments.
     pub images: Images,
     /// What the services work on beside the segments.

@@ -22,7 +22,7 @@ agreeing_choice : (f g : ℕ → Bool) (low end n : ℕ) (o : Option ℕ) → ((
 agreeing_choice f g low end n None same none = λ j run. none j (agreeing_run g f low end n j (λ k a b. sym (same k a b)) run)
 agreeing_choice f g low end n (Some i) same is = (agreeing_run f g low end n i same is.0, λ j less run. is.1 j less (agreeing_run g f low end n j (λ k a b. sym (same k a b)) run))
 
-chosen_same : (f g : ℕ → Bool) (low end n : ℕ) → ((j : ℕ) → low ≤ j → j < end → f j ≡ g j) → chosen f low end n ≡ chosen g low end n
+pub chosen_same : (f g : ℕ → Bool) (low end n : ℕ) → ((j : ℕ) → low ≤ j → j < end → f j ≡ g j) → chosen f low end n ≡ chosen g low end n
 chosen_same f g low end n same =
     one_choice g low end n (chosen f low end n) (chosen g low end n) (agreeing_choice f g low end n (chosen f low end n) same (chosen_law f low end n)) (chosen_law g low end n)
 
@@ -35,7 +35,7 @@ module _ (m : Maps) (k l : Known) (same : KnowsAs m k l) where
   x = record l { taken = k.taken }
 
   -- but for the indexes that are taken, all that is known is the same
-  but_taken : k ≡ x
+  pub but_taken : k ≡ record l { taken = k.taken }
   but_taken =
       ap (λ (z : (process index : ℕ) → Option Held). knows z k.segment k.taken k.text k.lives k.processes k.count k.most k.next k.avail) (fun_ext (λ n. fun_ext (λ i. same.held n i)))
       ∙ (ap (λ (z : ℕ → Option Marks). knows l.held z k.taken k.text k.lives k.processes k.count k.most k.next k.avail) (fun_ext (λ n. same.segment n))

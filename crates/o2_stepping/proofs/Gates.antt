@@ -13,10 +13,9 @@ use Rattle.o2_isa.specs.Step.{stepped, AsBoundless}
 use Rattle.o2_isa.proofs.StepLaws.{answers_unseen}
 use Rattle.o2_world.specs.Known.{Known}
 use Rattle.o2_world.specs.declared.types.Row.{Row}
-use Rattle.o2_world.specs.declared.types.Row.TheVariants.{OnSegments}
-use Rattle.o2_world.specs.declared.types.SegmentCall.{SegmentCall}
-use Rattle.o2_world.specs.Calls.{Before, Effect, IsPlain, row_of, served_by, serviced, asks}
-use Rattle.o2_world.specs.SegmentCalls.{on_segments}
+use Rattle.o2_gate.specs.declared.gathering.AskedCall.{AskedCall}
+use Rattle.o2_gate.specs.Gathers.{row_for}
+use Rattle.o2_world.specs.Calls.{Before, Effect, IsPlain, row_of, served, served_by, serviced, asks}
 use Rattle.o2_world.specs.Effect.{effect, single_stepped}
 use Rattle.o2_world.proofs.Quiet.{served_quiet}
 use Rattle.o2_gate.specs.declared.gathering.SegmentArguments.{SegmentArguments}
@@ -122,18 +121,18 @@ missed_of P x s is holds = subst (λ (y : Called). OnMissed (Ok y) P) is holds
 
 -- A call on segments that is asked for, from the machine before the far CALL.
 
-module _ (f : Filling) (number : ℕ) (input : List ℕ) (known : Known) (call : SegmentCall) (next : ℕ) (cpu : Cpu) (new : View) (i j c d r q : Option (List ℕ)) where
+module _ (f : Filling) (number : ℕ) (input : List ℕ) (known : Known) (call : AskedCall) (next : ℕ) (cpu : Cpu) (new : View) (i j c d r q : Option (List ℕ)) where
   abbrev pub asks_at : Result Attempt Fault → Machine → Type 0
   asks_at answer s =
       let b = before_call (boundless f s.view) number s.cpu input known in
-      Leaves b (single_stepped b (on_segments call b next)) cpu (whole f s.view).bytes (whole f new).bytes i j c d r q answer
+      Leaves b (single_stepped b (served (row_for call) b next)) cpu (whole f s.view).bytes (whole f new).bytes i j c d r q answer
 
   pub asks_from : (answer : Result Attempt Fault) (s t : Machine) → s ≡ t → asks_at answer s → asks_at answer t
   asks_from answer s t same = subst (asks_at answer) same
 
 -- the service by its row
-pub asks_by : (b : Before) (service next : ℕ) (call : SegmentCall) → row_of service ≡ Some (OnSegments call) → stepped (state b.cpu b.view) ≡ Err (stop.Gate service next)
-    → effect b ≡ single_stepped b (on_segments call b next)
+pub asks_by : (b : Before) (service next : ℕ) (call : AskedCall) → row_of service ≡ Some (row_for call) → stepped (state b.cpu b.view) ≡ Err (stop.Gate service next)
+    → effect b ≡ single_stepped b (served (row_for call) b next)
 asks_by b service next call row calls = effect_by b (Err (stop.Gate service next)) calls ∙ ap (λ (o : Option Row). single_stepped b (served_by o b next)) row
 
 -- Attempts.

@@ -10,7 +10,7 @@ use Rattle.o2_world.specs.Effect.{has_trap_flag}
 use Rattle.o2_world.specs.Text.{line_text, lines_text}
 use Rattle.o2_world.specs.World.{Line, Traps}
 use Rattle.o2_gate.specs.declared.gathering.SegmentArguments.{SegmentArguments}
-use Rattle.o2_gate.specs.declared.gathering.SegmentArguments.TheVariants.{Alloc, Realloc, Free, Size, Lock, Unlock, Alias}
+use Rattle.o2_gate.specs.declared.gathering.SegmentArguments.TheVariants.{Alloc, Realloc, Free, Size, Lock, Unlock, Alias, Shared}
 use Rattle.o2_gate.specs.Replies.{lines_of}
 use Rattle.o2_run.specs.Pieces.{Counts, counts}
 use Rattle.o2_stepping.specs.Pieces.{HandsWhole}
@@ -27,6 +27,7 @@ two_lines (Size selector s o) pid error value e = absurd (cc)
 two_lines (Lock selector) pid error value e = absurd (cc)
 two_lines (Unlock selector) pid error value e = absurd (cc)
 two_lines (Alias selector s o) pid error value e = rw e refl
+two_lines (Shared a) pid error value e = rw e refl
 
 pub one_line : (a : SegmentArguments) (pid error value : ℕ) → (moves a && (error == 0)) ≡ false → 1 ≡ length (lines_of a pid error value)
 one_line (Alloc size s o flags) pid error value e = rw e refl
@@ -36,6 +37,7 @@ one_line (Size selector s o) pid error value e = refl
 one_line (Lock selector) pid error value e = refl
 one_line (Unlock selector) pid error value e = refl
 one_line (Alias selector s o) pid error value e = rw e refl
+one_line (Shared a) pid error value e = rw e refl
 
 -- They are put, and nothing more.
 

@@ -20,8 +20,8 @@ use Rattle.o2_isa.specs.Step.{steps_at, stepped, step_names}
 use Rattle.o2_isa.proofs.Alike.{read_unseen}
 use Rattle.o2_world.specs.Known.{Known}
 use Rattle.o2_world.specs.declared.types.Row.{Row}
-use Rattle.o2_world.specs.declared.types.Row.TheVariants.{OnSegments}
-use Rattle.o2_world.specs.declared.types.SegmentCall.{SegmentCall}
+use Rattle.o2_gate.specs.declared.gathering.AskedCall.{AskedCall}
+use Rattle.o2_gate.specs.Gathers.{row_for}
 use Rattle.o2_world.specs.Calls.{Before, row_of}
 use Rattle.o2_run.specs.Room.{touched, gate_names, call_names}
 use Rattle.o2_gate.specs.Befores.{boundless, before_call}
@@ -176,14 +176,14 @@ module _ (number : ℕ) (input : List ℕ) (known : Known) (service : ℕ) where
 
 -- What a call on segments that is asked for tells of its names.
 
-module _ (number : ℕ) (input : List ℕ) (known : Known) (which : SegmentCall) where
+module _ (number : ℕ) (input : List ℕ) (known : Known) (which : AskedCall) where
   abbrev pub TellsAsked : Machine → Result Attempt Fault → Type 0
-  TellsAsked s r = TellsTried s.view (λ f. call_names (before_call (boundless f s.view) number s.cpu input known) (Some (OnSegments which))) r
+  TellsAsked s r = TellsTried s.view (λ f. call_names (before_call (boundless f s.view) number s.cpu input known) (Some (row_for which))) r
 
   pub asked_before : (r : Result Attempt Fault) (s t : Machine) → s ≡ t → TellsAsked s r → TellsAsked t r
   asked_before r s t same = subst (λ (x : Machine). TellsAsked x r) same
 
-  module _ (f : Filling) (v : View) (c : Cpu) (service next : ℕ) (calls : stepped (state c (boundless f v)) ≡ Err (stop.Gate service next)) (row : row_of service ≡ Some (OnSegments which)) where
+  module _ (f : Filling) (v : View) (c : Cpu) (service next : ℕ) (calls : stepped (state c (boundless f v)) ≡ Err (stop.Gate service next)) (row : row_of service ≡ Some (row_for which)) where
     abbrev b : Before
     b = start f v c number input known
 
@@ -193,7 +193,7 @@ module _ (number : ℕ) (input : List ℕ) (known : Known) (which : SegmentCall)
     asked_missed (Ok (attempt.Stepped x)) tells = tt
     asked_missed (Err x) tells = tt
 
-    present_by : ArePresent v (step_names (whole_state f (state c v))) → ArePresent v (call_names b (Some (OnSegments which))) → ArePresent v (touched b)
+    present_by : ArePresent v (step_names (whole_state f (state c v))) → ArePresent v (call_names b (Some (row_for which))) → ArePresent v (touched b)
     present_by here names = call_present f v c number input known service next calls here (subst (λ (o : Option Row). ArePresent v (call_names b o)) (sym row) names)
 
     pub asked_present : (r : Result Attempt Fault) → is_missed r ≡ false → ArePresent v (step_names (whole_state f (state c v))) → TellsAsked (state c v) r → ArePresent v (touched b)

@@ -9,14 +9,12 @@ use Rattle.o2_isa.specs.declared.cpu.Stop.TheVariants.{Gate}
 use Rattle.o2_isa.specs.Step.{stepped}
 use Rattle.o2_isa.specs.Steps.{state}
 use Rattle.o2_world.specs.World.{is_live}
-use Rattle.o2_world.specs.declared.types.Row.TheVariants.{OnSegments}
-use Rattle.o2_world.specs.declared.types.SegmentCall.{SegmentCall}
-use Rattle.o2_world.specs.Calls.{Before, Effect, row_of}
-use Rattle.o2_world.specs.SegmentCalls.{on_segments}
+use Rattle.o2_gate.specs.declared.gathering.AskedCall.{AskedCall}
+use Rattle.o2_world.specs.Calls.{Before, Effect, row_of, served}
 use Rattle.o2_world.specs.Effect.{AsksInput, single_stepped}
 use Rattle.o2_world.specs.Text.{lines_text}
 use Rattle.o2_gate.specs.declared.gathering.SegmentArguments.{SegmentArguments}
-use Rattle.o2_gate.specs.Gathers.{asked, targets}
+use Rattle.o2_gate.specs.Gathers.{asked, row_for, targets}
 use Rattle.o2_gate.specs.Pointed.{ArePresent}
 use Rattle.o2_run.specs.declared.steps.Stop.TheVariants as stop
 use Rattle.o2_run.specs.declared.fault.Fault.{Fault}
@@ -80,11 +78,11 @@ pub record IsInPart (e : Effect) (registers before : Cpu) (old new : ℕ → Lis
 -- the step comes to the gate of a call on segments, whose row is that of these arguments, and so are the names that it passes
 pub record IsCallOf (b : Before) (a : SegmentArguments) (next : ℕ) : Type 0 where
   pub service : ℕ
-  pub call : SegmentCall
+  pub call : AskedCall
   pub gate : stepped (state b.cpu b.view) ≡ Err (Gate service next)
-  pub row : row_of service ≡ Some (OnSegments call)
-  pub asks : on_segments call b next ≡ asked a b next
-  pub points : call_names b (Some (OnSegments call)) ≡ pointed b.view (targets a)
+  pub row : row_of service ≡ Some (row_for call)
+  pub asks : served (row_for call) b next ≡ asked a b next
+  pub points : call_names b (Some (row_for call)) ≡ pointed b.view (targets a)
 
 -- the step is a call on segments with these arguments, whose pointer is good; nothing is changed, taken or put yet
 pub record IsAsked (b : Before) (e : Effect) (a : SegmentArguments) (next : ℕ) (registers : Cpu) (old new : ℕ → List ℕ)

@@ -6,7 +6,7 @@ use Rattle.o2_world.specs.declared.types.State.TheVariants.{Live, Trapped}
 use Rattle.o2_world.specs.Effect.{has_trap_flag}
 use Rattle.o2_world.specs.World.{Line, Traps}
 use Rattle.o2_gate.specs.declared.gathering.SegmentArguments.{SegmentArguments}
-use Rattle.o2_gate.specs.declared.gathering.SegmentArguments.TheVariants.{Alloc, Realloc, Free, Size, Lock, Unlock, Alias}
+use Rattle.o2_gate.specs.declared.gathering.SegmentArguments.TheVariants.{Alloc, Realloc, Free, Size, Lock, Unlock, Alias, Shared}
 
 -- where the trap flag was set before it, exception 1 follows
 abbrev pub state_behind : Cpu → State
@@ -24,3 +24,4 @@ moves (Size selector s o) = false
 moves (Lock selector) = false
 moves (Unlock selector) = false
 moves (Alias selector s o) = true
+moves (Shared a) = true

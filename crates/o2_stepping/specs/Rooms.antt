@@ -13,7 +13,9 @@ use Rattle.o2_store.specs.Shelf.{Shelf, entry, rounded}
 use Rattle.o2_segbus.specs.Bus.{held_under}
 use Rattle.o2_world.specs.Calls.{Before}
 use Rattle.o2_gate.specs.declared.gathering.SegmentArguments.{SegmentArguments}
-use Rattle.o2_gate.specs.declared.gathering.SegmentArguments.TheVariants.{Alloc, Realloc, Free, Size, Lock, Unlock, Alias}
+use Rattle.o2_gate.specs.declared.sharing.SharedArguments.{SharedArguments}
+use Rattle.o2_gate.specs.declared.sharing.SharedArguments.TheVariants.{Name, Share, Give, Get}
+use Rattle.o2_gate.specs.declared.gathering.SegmentArguments.TheVariants.{Alloc, Realloc, Free, Size, Lock, Unlock, Alias, Shared}
 use Rattle.o2_run.specs.Room.{seated, touched}
 
 -- the names that a step needs, as far as they are known before it: those in the segment registers, and those that it touches
@@ -38,6 +40,13 @@ abbrev pub seated_in : Maps → ℕ → Cpu → List (SegId × ℕ)
 seated_in m pid c =
     pair_of (held_under m pid c.es) ++ pair_of (held_under m pid c.cs) ++ pair_of (held_under m pid c.ss) ++ pair_of (held_under m pid c.ds)
 
+-- those behind the pointers of a call by which processes share segments
+abbrev pub shared_aimed : Maps → ℕ → SharedArguments → List (SegId × ℕ)
+shared_aimed m pid (Name size t s o) = pair_of (held_under m pid t.selector) ++ pair_of (held_under m pid s)
+shared_aimed m pid (Share t s o) = pair_of (held_under m pid t.selector) ++ pair_of (held_under m pid s)
+shared_aimed m pid (Give selector to s o) = pair_of (held_under m pid s)
+shared_aimed m pid (Get selector) = []
+
 -- that behind the pointer of a call on segments
 abbrev pub aimed_in : Maps → ℕ → SegmentArguments → List (SegId × ℕ)
 aimed_in m pid (Alloc size s o flags) = pair_of (held_under m pid s)
@@ -47,6 +56,7 @@ aimed_in m pid (Size selector s o) = pair_of (held_under m pid s)
 aimed_in m pid (Lock selector) = []
 aimed_in m pid (Unlock selector) = []
 aimed_in m pid (Alias selector s o) = pair_of (held_under m pid s)
+aimed_in m pid (Shared a) = shared_aimed m pid a
 
 -- the names that a step needed, behind it: those that it needed before, and those in its segment registers
 abbrev pub all_names : Before → (after : Registers) → List ℕ

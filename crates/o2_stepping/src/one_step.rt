@@ -12,12 +12,10 @@ ghost use Rattle.o2_world.specs.Known.{Known};
 ghost use Rattle.o2_world.specs.World.{Traps};
 ghost use Rattle.o2_world.specs.Text.{lines_text};
 ghost use Rattle.o2_world.specs.Effect.{effect, single_stepped, has_trap_flag as trap_flag_of};
-ghost use Rattle.o2_world.specs.Calls.{Before, Effect, row_of, trapped};
-ghost use Rattle.o2_world.specs.SegmentCalls.{on_segments};
-ghost use Rattle.o2_world.specs.declared.types.Row.TheVariants as Rows;
+ghost use Rattle.o2_world.specs.Calls.{Before, Effect, row_of, served, trapped};
 ghost use Rattle.o2_gate.specs.Befores.{boundless, before_call, IsKnown};
 ghost use Rattle.o2_gate.specs.Pointed.{IsAway, ArePresent, are_ready};
-ghost use Rattle.o2_gate.specs.Gathers.{targets};
+ghost use Rattle.o2_gate.specs.Gathers.{row_for, targets};
 ghost use Rattle.o2_run.specs.Room.{call_names, touched};
 ghost use Rattle.o2_gate.specs.Called.{IsMade};
 ghost use Rattle.o2_gate.specs.Writes.{WritesHeld};
@@ -30,12 +28,14 @@ use o2_alu::is_set;
 use o2_base::Selector;
 use o2_bus::Ranges;
 use o2_cache::{DecodeCache, step_cached};
-use o2_gate::{Called, Gathered, SegmentArguments, State as Services, call, gather, segment_call};
+use o2_gate::{
+    AskedCall, Called, Gathered, SegmentArguments, State as Services, asked_call, call, gather,
+};
 use o2_isa::{Cpu, Flag, Outcome};
 use o2_outer::{Put, Sink, Source};
 use o2_report::{LineBuffer, set_traps};
 use o2_run::Fault;
-use o2_world::{SegmentCall, State};
+use o2_world::State;
 
 /// A step that is done.
 #[derive(Clone, Copy, Debug, PartialEq, Eq)]
@@ -192,7 +192,7 @@ pub fn absent<R: Sink>(
 /// What a call on segments by process `pid` asks for, over a bus whose registers are those of `cpu`: its arguments, where they lie in
 /// SS and its pointer is good. An exception ends the process; nothing else is changed.
 fn ask<B: Ranges, R: Sink>(
-    which: SegmentCall,
+    which: AskedCall,
     next: u16,
     pid: u16,
     cpu: &Cpu,
@@ -202,22 +202,22 @@ fn ask<B: Ranges, R: Sink>(
 ) -> Result<Attempt, Fault>
     ensures leaves { (f : Filling) (bytes : List ℕ) (known : Known) (i c : Option (List ℕ)) → IsBound (B.view bus.old) → i ≡ Some bytes
         → let b = before_call (boundless f (B.view bus.old)) pid cpu.now bytes known in
-        (service : ℕ) → row_of service ≡ Some (Rows.OnSegments which) → stepped (state b.cpu b.view) ≡ Err (Gate service next)
-        → Leaves b (single_stepped b (on_segments which b next)) cpu.now (whole f (B.view bus.old)).bytes (whole f (B.view bus.new)).bytes
+        (service : ℕ) → row_of service ≡ Some (row_for which) → stepped (state b.cpu b.view) ≡ Err (Gate service next)
+        → Leaves b (single_stepped b (served (row_for which) b next)) cpu.now (whole f (B.view bus.old)).bytes (whole f (B.view bus.new)).bytes
         i i c c (R.taken report.old) (R.taken report.new) result }
     ensures same { B.view bus.new ≡ B.view bus.old }
     ensures ready { OnAsked result (λ a. are_ready (B.view bus.old) (targets a) ≡ true) }
     ensures away { OnMissed result (λ s. IsAway (B.view bus.old) s) }
     ensures names { (bytes : List ℕ) (known : Known) → IsBound (B.view bus.old)
         → TellsTried (B.view bus.old)
-        (λ f. call_names (before_call (boundless f (B.view bus.old)) pid cpu.now bytes known) (Some (Rows.OnSegments which))) result }
+        (λ f. call_names (before_call (boundless f (B.view bus.old)) pid cpu.now bytes known) (Some (row_for which))) result }
     ensures undone { OnUndone result (report.new ≡ report.old) }
     ensures count { R.faults report.old ≤ R.faults report.new }
     ensures cause { AttemptFor (Rose (R.faults report.old) (R.faults report.new)) ⊥ result }
     ensures puts { (c : ℕ) → AttemptHands (counts c c (R.puts report.old) (R.puts report.new) 0) result }
     ensures part { (f : Filling) (bytes : List ℕ) (known : Known) (c : ℕ) → IsBound (B.view bus.old)
         → let b = before_call (boundless f (B.view bus.old)) pid cpu.now bytes known in
-        PartHands (single_stepped b (on_segments which b next)) (counts c c (R.puts report.old) (R.puts report.new) 0) result }
+        PartHands (single_stepped b (served (row_for which) b next)) (counts c c (R.puts report.old) (R.puts report.new) 0) result }
 {
     match gather(which, cpu, bus) {
         Gathered::Good(arguments) => Ok(Attempt::Stepped(Stepped::Asked { arguments, next })),
@@ -295,7 +295,7 @@ pub fn run_one<B: Ranges, I: Source, C: Sink, R: Sink>(
         }
         Outcome::Trap(vector, _) => trap(pid, vector, cpu, &mut services.line, report),
         Outcome::Miss(sel) => Ok(Attempt::Missed(sel)),
-        Outcome::Gate { service, next } => match segment_call(service) {
+        Outcome::Gate { service, next } => match asked_call(service) {
             Some(which) => ask(which, next, pid, cpu, bus, &mut services.line, report),
             None => match call(
                 service, next, pid, cpu, bus, services, input, console, report,

@@ -29,6 +29,7 @@ fn moves(arguments: SegmentArguments) -> bool
         SegmentArguments::Lock(_) => false,
         SegmentArguments::Unlock(_) => false,
         SegmentArguments::Alias { .. } => true,
+        SegmentArguments::Shared(_) => true,
     }
 }
 

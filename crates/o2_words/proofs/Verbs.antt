@@ -10,7 +10,7 @@ use Rattle.std.proofs.lemmas.Result.{OkIff-at_ok}
 use Rattle.std.proofs.lemmas.Str.Parse.{numerals_by_value, tells_digits, without_leading_plus_none}
 use Rattle.o2_words.specs.Words.{HasCount, IsCommandFor, IsCount, IsName, IsOperand, verb_text}
 use Rattle.o2_words.specs.declared.words.Verb.{Verb}
-use Rattle.o2_words.specs.declared.words.Verb.TheVariants.{Exe, Run, Check, Bench}
+use Rattle.o2_words.specs.declared.words.Verb.TheVariants.{Exe, Run, Check, Dump, Bench}
 
 abbrev first_letter : List ℕ → ℕ
 first_letter [] = 0
@@ -26,6 +26,7 @@ pub one_verb : (v w : Verb) (text : List ℕ) → verb_text v ≡ verb_text w �
 one_verb Exe Exe text e f g = refl
 one_verb Run Run text e f g = refl
 one_verb Check Check text e f g = refl
+one_verb Dump Dump text e f g = refl
 one_verb (Bench m) (Bench n) text e f g = ap (λ (k : ℕ). Bench k) (one_count text m n f g)
 one_verb v w text e f g = let letter : first_letter (verb_text v) ≡ first_letter (verb_text w) = ap first_letter e in absurd (omega (arith, letter))
 
@@ -39,6 +40,7 @@ no_file : (v w : Verb) (text : List ℕ) → OfFile v → verb_text v ≡ verb_t
 no_file Exe Exe text of e none f = none f
 no_file Run Run text of e none f = none f
 no_file Check Check text of e none f = none f
+no_file Dump Dump text of e none f = none f
 no_file (Bench m) w text of e none f = absurd of
 no_file v w text of e none f = let letter : first_letter (verb_text v) ≡ first_letter (verb_text w) = ap first_letter e in absurd (omega (arith, letter))
 
@@ -50,6 +52,7 @@ named_operand : (v : Verb) (text : List ℕ) → OfFile v → IsName text → Is
 named_operand Exe text of n = n
 named_operand Run text of n = n
 named_operand Check text of n = n
+named_operand Dump text of n = n
 named_operand (Bench m) text of n = absurd of
 
 abbrev pub Finds : (word text : List ℕ) → Option Verb → Type 0
@@ -77,15 +80,17 @@ pub has_count : (v : Verb) (text : List ℕ) → IsOperand v text → HasCount v
 has_count Exe text f = tt
 has_count Run text f = tt
 has_count Check text f = tt
+has_count Dump text f = tt
 has_count (Bench count) text f = (f.some, f.few)
 
 -- no verb has any other word
-pub no_verb : (word : List ℕ) → (word ≡ verb_text Exe → ⊥) → (word ≡ verb_text Run → ⊥) → (word ≡ verb_text Check → ⊥) → (word ≡ verb_text (Bench 1) → ⊥)
+pub no_verb : (word : List ℕ) → (word ≡ verb_text Exe → ⊥) → (word ≡ verb_text Run → ⊥) → (word ≡ verb_text Check → ⊥) → (word ≡ verb_text Dump → ⊥) → (word ≡ verb_text (Bench 1) → ⊥)
     → (v : Verb) → word ≡ verb_text v → ⊥
-no_verb word e r c b Exe is = e is
-no_verb word e r c b Run is = r is
-no_verb word e r c b Check is = c is
-no_verb word e r c b (Bench n) is = b is
+no_verb word e r c d b Exe is = e is
+no_verb word e r c d b Run is = r is
+no_verb word e r c d b Check is = c is
+no_verb word e r c d b Dump is = d is
+no_verb word e r c d b (Bench n) is = b is
 
 -- the number of a bench, as it is read
 

@@ -10,7 +10,7 @@ use Rattle.o2_words.specs.Grammar.{operand_in, program_app}
 use Rattle.o2_words.proofs.Verbs.{count_is_name}
 use Rattle.o2_words.specs.Words.{IsName, IsOperand, verb_text}
 use Rattle.o2_words.specs.declared.words.Verb.{Verb}
-use Rattle.o2_words.specs.declared.words.Verb.TheVariants.{Exe, Run, Check, Bench}
+use Rattle.o2_words.specs.declared.words.Verb.TheVariants.{Exe, Run, Check, Dump, Bench}
 
 pub simple : is_simple program_app ≡ true
 unfolding clap_on_literals
@@ -34,6 +34,7 @@ pub plain_operand : (verb : Verb) (text : Text) → IsOperand verb text → IsPl
 plain_operand Exe text h = plain text h
 plain_operand Run text h = plain text h
 plain_operand Check text h = plain text h
+plain_operand Dump text h = plain text h
 plain_operand (Bench count) text h = plain text (count_is_name text count h)
 
 pub taken : (verb : Verb) (name : Text) → IsPlain name → takes program_app (verb_text verb ∷ name ∷ []) ≡ true
@@ -41,6 +42,7 @@ unfolding clap_on_literals
 taken Exe name p = rw (p.dashes, p.long, p.short) refl
 taken Run name p = rw (p.dashes, p.long, p.short) refl
 taken Check name p = rw (p.dashes, p.long, p.short) refl
+taken Dump name p = rw (p.dashes, p.long, p.short) refl
 taken (Bench count) name p = rw (p.dashes, p.long, p.short) refl
 
 pub operand_met : (verb : Verb) (name : Text) → IsPlain name → operand_in (subcommand_of program_app (verb_text verb ∷ name ∷ [])) ≡ Some (verb_text verb, Some name)
@@ -48,4 +50,5 @@ unfolding clap_on_literals
 operand_met Exe name p = rw (p.dashes, p.long, p.short) refl
 operand_met Run name p = rw (p.dashes, p.long, p.short) refl
 operand_met Check name p = rw (p.dashes, p.long, p.short) refl
+operand_met Dump name p = rw (p.dashes, p.long, p.short) refl
 operand_met (Bench count) name p = rw (p.dashes, p.long, p.short) refl

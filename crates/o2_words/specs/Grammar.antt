@@ -42,7 +42,7 @@ starting_app =
 -- the same with a subcommand for each verb
 abbrev pub program_app : App
 program_app =
-    with_subcommand (with_subcommand starting_app (operand_app (codes "check")).top) (operand_app (codes "bench")).top
+    with_subcommand (with_subcommand (with_subcommand starting_app (operand_app (codes "check")).top) (operand_app (codes "bench")).top) (operand_app (codes "dump")).top
 
 -- the subcommand with its operand, where there is one
 abbrev pub operand_in : Option (Text × List Row) → Option (Text × Option Text)

@@ -2,13 +2,14 @@
 use Rattle.std.specs.Prelude.{◌≡◌, ◌≢◌, ◌≤◌, ℕ, List, [], ◌∷◌, String, string_bytes, codes, decimal, map}
 use Rattle.std.specs.declared.alloc.Global.{Global}
 use Rattle.o2_words.specs.declared.words.Verb.{Verb}
-use Rattle.o2_words.specs.declared.words.Verb.TheVariants.{Exe, Run, Check, Bench}
+use Rattle.o2_words.specs.declared.words.Verb.TheVariants.{Exe, Run, Check, Dump, Bench}
 
 -- the word that stands for what is done
 abbrev pub verb_text : Verb → List ℕ
 verb_text Exe = codes "exe"
 verb_text Run = codes "run"
 verb_text Check = codes "check"
+verb_text Dump = codes "dump"
 verb_text (Bench count) = codes "bench"
 
 -- the name of a file: it isn't empty and doesn't begin with a dash (45)
@@ -27,6 +28,7 @@ abbrev pub IsOperand : Verb → List ℕ → Type 0
 IsOperand Exe text = IsName text
 IsOperand Run text = IsName text
 IsOperand Check text = IsName text
+IsOperand Dump text = IsName text
 IsOperand (Bench count) text = IsCount text count
 
 -- the number in a verb is one that a bench may have

@@ -43,7 +43,8 @@ fn program<'a>(alloc: Global) -> Result<clap::Command<'a>, AllocError>
 {
     starting(alloc)?
         .subcommand(with_operand(alloc, "check")?)?
-        .subcommand(with_operand(alloc, "bench")?)
+        .subcommand(with_operand(alloc, "bench")?)?
+        .subcommand(with_operand(alloc, "dump")?)
 }
 
 // What `clap` finds in the words of a command. Memory is the only thing that it can want.

@@ -12,6 +12,8 @@ pub enum Verb {
     Run,
     /// `check FILE` reads and links what a machine file names, and runs nothing.
     Check,
+    /// `dump FILE` runs what a machine file says, and writes the core image of its machine.
+    Dump,
     /// `bench N` runs so many processes of the bench's executable, 1 to 64.
     Bench(u16),
 }
@@ -89,6 +91,8 @@ pub(crate) fn verb_of(word: &[u8], operand: &str) -> Option<Verb>
         of_file(Verb::Run, operand.as_bytes())
     } else if word == b"check".as_slice() {
         of_file(Verb::Check, operand.as_bytes())
+    } else if word == b"dump".as_slice() {
+        of_file(Verb::Dump, operand.as_bytes())
     } else if word == b"bench".as_slice() {
         of_count(operand)
     } else {
@@ -96,7 +100,7 @@ pub(crate) fn verb_of(word: &[u8], operand: &str) -> Option<Verb>
     }
 }
 
-/// Whether the words after the program's name are a command. There are two of them. The first is `exe`, `run` or `check`,
+/// Whether the words after the program's name are a command. There are two of them. The first is `exe`, `run`, `check` or `dump`,
 /// and the second isn't empty and doesn't begin with `-`; or they are `bench` and a decimal number from 1 to 64 without
 /// leading zeros. It takes no memory.
 pub fn is_command(words: &[String]) -> bool

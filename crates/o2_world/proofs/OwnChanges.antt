@@ -1,4 +1,4 @@
--- What changes of one process leave as it is: the dispatch, other processes, and what is reserved for the whole run.
+-- What changes leave as it is: the dispatch, processes that get and lose nothing, and what is reserved for the whole run.
 use Rattle.std.proofs.Common.{◌≡◌, ◌≢◌, ℕ, zero, suc, ◌+◌, ◌-◌, ◌<◌, ◌==◌, Bool, true, false, List, [], ◌∷◌, ◌++◌, map, if◌then◌else◌, ap, sym, ◌∙◌, refl, arith, subst}
 use Rattle.std.specs.Prelude.{slice_get}
 use Rattle.std.specs.List.{list_any}
@@ -36,7 +36,7 @@ swept_dispatch false w = refl
 pub all_dispatch : (w : World) (cs : List Change) → (with_all w cs).dispatch ≡ w.dispatch
 all_dispatch w cs = swept_dispatch (list_any takes cs) (with_changes w cs) ∙ changes_dispatch w cs
 
--- Other processes.
+-- Processes that get and lose nothing.
 
 place_other : (ps : List Process) (k place : ℕ) (f : Process → Process) → place ≢ k → slice_get (at_place k f ps) place ≡ slice_get ps place
 place_other [] k place f other = refl
@@ -60,50 +60,106 @@ pub moved_other : (ps : List Process) (p n place : ℕ) (f : Process → Process
     → slice_get (at_number p f ps) place ≡ slice_get ps place
 moved_other ps p n place f own other = number_other ps p place f (λ e. other (e ∙ own))
 
-one_other : (w : World) (c : Change) (n place : ℕ) → IsOwn n c → place + 1 ≢ n → slice_get (with_change w c).processes place ≡ slice_get w.processes place
-one_other w (Makes s) n place own other = refl
-one_other w (Resizes m size) n place own other = refl
-one_other w (Locks m count) n place own other = refl
-one_other w (Marks m d) n place own other = refl
-one_other w (Holds p i h) n place own other = moved_other w.processes p n place _ own other
-one_other w (Drops p i count) n place own other = moved_other w.processes p n place _ own other
-one_other w (Finishes p state) n place own other = moved_other w.processes p n place _ own other
-one_other w (Reserves r) n place own other = absurd own
-one_other w (Frees r first) n place own other = absurd own
-one_other w (Names text m) n place own other = refl
+-- a change that leaves the process at this place as it is
+abbrev pub LeavesPlace : ℕ → Change → Type 0
+LeavesPlace place (Makes s) = Unit {0}
+LeavesPlace place (Resizes m size) = Unit {0}
+LeavesPlace place (Locks m count) = Unit {0}
+LeavesPlace place (Marks m d) = Unit {0}
+LeavesPlace place (Holds p i h) = place + 1 ≢ p
+LeavesPlace place (Drops p i count) = place + 1 ≢ p
+LeavesPlace place (Finishes p state) = place + 1 ≢ p
+LeavesPlace place (Reserves r) = Unit {0}
+LeavesPlace place (Frees r first) = Unit {0}
+LeavesPlace place (Names text m) = Unit {0}
 
-changes_other : (w : World) (cs : List Change) (n place : ℕ) → AreOwn n cs → place + 1 ≢ n
-    → slice_get (with_changes w cs).processes place ≡ slice_get w.processes place
+abbrev pub LeavePlace : ℕ → List Change → Type 0
+LeavePlace place [] = Unit {0}
+LeavePlace place (c ∷ cs) = LeavesPlace place c × LeavePlace place cs
+
+one_other : (w : World) (c : Change) (place : ℕ) → LeavesPlace place c → slice_get (with_change w c).processes place ≡ slice_get w.processes place
+one_other w (Makes s) place leaves = refl
+one_other w (Resizes m size) place leaves = refl
+one_other w (Locks m count) place leaves = refl
+one_other w (Marks m d) place leaves = refl
+one_other w (Holds p i h) place leaves = number_other w.processes p place _ leaves
+one_other w (Drops p i count) place leaves = number_other w.processes p place _ leaves
+one_other w (Finishes p state) place leaves = number_other w.processes p place _ leaves
+one_other w (Reserves r) place leaves = refl
+one_other w (Frees r first) place leaves = refl
+one_other w (Names text m) place leaves = refl
+
+changes_other : (w : World) (cs : List Change) (place : ℕ) → LeavePlace place cs → slice_get (with_changes w cs).processes place ≡ slice_get w.processes place
 unfolding with_changes
-changes_other w [] n place own other = refl
-changes_other w (c ∷ cs) n place own other = changes_other (with_change w c) cs n place own.1 other ∙ one_other w c n place own.0 other
+changes_other w [] place leave = refl
+changes_other w (c ∷ cs) place leave = changes_other (with_change w c) cs place leave.1 ∙ one_other w c place leave.0
 
 swept_other : (b : Bool) (w : World) (place : ℕ) → slice_get (if b then swept w else w).processes place ≡ slice_get w.processes place
 swept_other true w place = refl
 swept_other false w place = refl
 
-pub all_other : (w : World) (cs : List Change) (n place : ℕ) → AreOwn n cs → place + 1 ≢ n
-    → slice_get (with_all w cs).processes place ≡ slice_get w.processes place
-all_other w cs n place own other = swept_other (list_any takes cs) (with_changes w cs) place ∙ changes_other w cs n place own other
+pub all_other : (w : World) (cs : List Change) (place : ℕ) → LeavePlace place cs → slice_get (with_all w cs).processes place ≡ slice_get w.processes place
+all_other w cs place leave = swept_other (list_any takes cs) (with_changes w cs) place ∙ changes_other w cs place leave
+
+leave_more : (place : ℕ) (xs : List Change) (c : Change) → LeavePlace place xs → LeavesPlace place c → LeavePlace place (xs ++ c ∷ [])
+leave_more place [] c leave one = (one, tt)
+leave_more place (x ∷ xs) c leave one = (leave.0, leave_more place xs c leave.1 one)
+
+-- with the end of the process behind them
+pub all_leave : (place n : ℕ) (e : Effect) → LeavePlace place e.changes → place + 1 ≢ n → LeavePlace place (all_changes n e)
+all_leave place n e leave other = go (is_live e.state)
+  where
+    go : (b : Bool) → LeavePlace place (if b then e.changes else e.changes ++ Finishes n e.state ∷ [])
+    go true = leave
+    go false = leave_more place e.changes (Finishes n e.state) leave other
 
 -- Reserved indexes.
 
-one_reserved : (w : World) (c : Change) (n : ℕ) → IsOwn n c → (with_change w c).reserved ≡ w.reserved
-one_reserved w (Makes s) n own = refl
-one_reserved w (Resizes m size) n own = refl
-one_reserved w (Locks m count) n own = refl
-one_reserved w (Marks m d) n own = refl
-one_reserved w (Holds p i h) n own = refl
-one_reserved w (Drops p i count) n own = refl
-one_reserved w (Finishes p state) n own = refl
-one_reserved w (Reserves r) n own = absurd own
-one_reserved w (Frees r first) n own = absurd own
-one_reserved w (Names text m) n own = refl
+-- a change of no reserved index
+abbrev pub LeavesReserves : Change → Type 0
+LeavesReserves (Makes s) = Unit {0}
+LeavesReserves (Resizes m size) = Unit {0}
+LeavesReserves (Locks m count) = Unit {0}
+LeavesReserves (Marks m d) = Unit {0}
+LeavesReserves (Holds p i h) = Unit {0}
+LeavesReserves (Drops p i count) = Unit {0}
+LeavesReserves (Finishes p state) = Unit {0}
+LeavesReserves (Reserves r) = ⊥
+LeavesReserves (Frees r first) = ⊥
+LeavesReserves (Names text m) = Unit {0}
 
-pub changes_reserved : (w : World) (cs : List Change) (n : ℕ) → AreOwn n cs → (with_changes w cs).reserved ≡ w.reserved
+abbrev pub LeaveReserves : List Change → Type 0
+LeaveReserves [] = Unit {0}
+LeaveReserves (c ∷ cs) = LeavesReserves c × LeaveReserves cs
+
+one_reserved : (w : World) (c : Change) → LeavesReserves c → (with_change w c).reserved ≡ w.reserved
+one_reserved w (Makes s) leaves = refl
+one_reserved w (Resizes m size) leaves = refl
+one_reserved w (Locks m count) leaves = refl
+one_reserved w (Marks m d) leaves = refl
+one_reserved w (Holds p i h) leaves = refl
+one_reserved w (Drops p i count) leaves = refl
+one_reserved w (Finishes p state) leaves = refl
+one_reserved w (Reserves r) leaves = absurd leaves
+one_reserved w (Frees r first) leaves = absurd leaves
+one_reserved w (Names text m) leaves = refl
+
+pub changes_reserved : (w : World) (cs : List Change) → LeaveReserves cs → (with_changes w cs).reserved ≡ w.reserved
 unfolding with_changes
-changes_reserved w [] n own = refl
-changes_reserved w (c ∷ cs) n own = changes_reserved (with_change w c) cs n own.1 ∙ one_reserved w c n own.0
+changes_reserved w [] leave = refl
+changes_reserved w (c ∷ cs) leave = changes_reserved (with_change w c) cs leave.1 ∙ one_reserved w c leave.0
+
+reserves_more : (xs : List Change) (c : Change) → LeaveReserves xs → LeavesReserves c → LeaveReserves (xs ++ c ∷ [])
+reserves_more [] c leave one = (one, tt)
+reserves_more (x ∷ xs) c leave one = (leave.0, reserves_more xs c leave.1 one)
+
+-- with the end of the process behind them
+pub all_reserves : (n : ℕ) (e : Effect) → LeaveReserves e.changes → LeaveReserves (all_changes n e)
+all_reserves n e leave = go (is_live e.state)
+  where
+    go : (b : Bool) → LeaveReserves (if b then e.changes else e.changes ++ Finishes n e.state ∷ [])
+    go true = leave
+    go false = reserves_more e.changes (Finishes n e.state) leave tt
 
 -- The changes of a call are those of its process.
 
@@ -118,15 +174,3 @@ moves_own b cpu cs (OneSized name size is) = subst (AreOwn b.number) (sym is) (t
 moves_own b cpu cs (OneLocked name count is) = subst (AreOwn b.number) (sym is) (tt, tt)
 moves_own b cpu cs (OneAliased index i h there free is) = subst (AreOwn b.number) (sym is) (refl, tt)
 moves_own b cpu cs (SomeFreed xs frees is) = subst (AreOwn b.number) (sym is) (drops_own b.number xs)
-
-own_more : (n : ℕ) (xs : List Change) (c : Change) → AreOwn n xs → IsOwn n c → AreOwn n (xs ++ c ∷ [])
-own_more n [] c own one = (one, tt)
-own_more n (x ∷ xs) c own one = (own.0, own_more n xs c own.1 one)
-
--- with the end of the process behind them
-pub all_own : (n : ℕ) (e : Effect) → AreOwn n e.changes → AreOwn n (all_changes n e)
-all_own n e own = go (is_live e.state)
-  where
-    go : (b : Bool) → AreOwn n (if b then e.changes else e.changes ++ Finishes n e.state ∷ [])
-    go true = own
-    go false = own_more n e.changes (Finishes n e.state) own refl

@@ -1,7 +1,8 @@
 -- What a call leaves of other processes: all that they are, and what they hold, as often at least.
-use Rattle.std.proofs.Common.{◌≡◌, ◌≢◌, ℕ, ◌+◌, ◌-◌, ◌==◌, Bool, true, false, List, [], ◌∷◌, ◌++◌, Option, Some, None, if◌then◌else◌, ap, sym, ◌∙◌, refl, arith, subst}
+use Rattle.std.proofs.Common.{◌≡◌, ◌≢◌, ℕ, ◌+◌, ◌-◌, ◌==◌, ◌||◌, Bool, true, false, List, [], ◌∷◌, ◌++◌, Option, Some, None, if◌then◌else◌, ap, sym, ◌∙◌, refl, arith, subst}
 use Rattle.std.specs.Prelude.{slice_get, option_map}
 use Rattle.std.specs.List.{list_any}
+use Rattle.std.proofs.lemmas.Bool.{eq-eqb}
 use Rattle.o2_conf.specs.Dispatch.{Dispatch}
 use Rattle.o2_isa.specs.declared.cpu.Cpu.{Cpu}
 use Rattle.o2_world.specs.Map.{get, put}
@@ -9,10 +10,11 @@ use Rattle.o2_world.specs.World.{World, Process, Held, is_live}
 use Rattle.o2_world.specs.Changes.{Change, Makes, Resizes, Locks, Marks, Holds, Drops, Finishes, Reserves, Frees, Names, at_number, at_place, more, swept, takes, with_all, with_change, with_changes}
 use Rattle.o2_world.specs.CallParts.{Before, Effect}
 use Rattle.o2_world.specs.Run.{all_changes, changed, worked, working}
+use Rattle.o2_world.specs.Giving.{gives}
 use Rattle.o2_world.specs.Moves.{AllMoves, AllSpare, AreOwn, AreSpared, IsAtLeast, IsOwn, IsSpared, OneNamed, OwnMoves, SomeShared, Spares}
 use Rattle.o2_world.proofs.FitShares.{changes_are, held_each, least_of, shares_of}
 use Rattle.o2_world.proofs.Keeps.{other_number}
-use Rattle.o2_world.proofs.OwnChanges.{moved_other, moves_own}
+use Rattle.o2_world.proofs.OwnChanges.{LeavePlace, LeaveReserves, LeavesPlace, LeavesReserves, moved_other, moves_own}
 use Rattle.o2_world.proofs.Reached.{get-place, get-put}
 use Rattle.o2_world.proofs.MapLemmas.{if_no, if_yes}
 
@@ -44,6 +46,58 @@ moves_spare b cpu cs (OneNamed size i name free is) = subst (AllSpare b.number) 
 moves_spare b cpu cs (SomeShared from to xs shares is) =
     subst (AllSpare b.number) (sym (is ∙ changes_are b.known from to xs shares.shared)) (shares_spare b.number to (held_each b.known from xs shares.shared))
 
+-- What calls leave.
+
+both_false : (a b : Bool) → (a || b) ≡ false → (a ≡ false) × (b ≡ false)
+both_false true b e = absurd (cc)
+both_false false b e = (refl, e)
+
+-- a process to which they give nothing
+spares_place : (n place : ℕ) (c : Change) → place + 1 ≢ n → Spares n c → gives (place + 1) c ≡ false → LeavesPlace place c
+spares_place n place (Makes s) other own none = tt
+spares_place n place (Resizes m size) other own none = tt
+spares_place n place (Locks m count) other own none = tt
+spares_place n place (Marks m d) other own none = tt
+spares_place n place (Holds p i h) other own none = λ same. absurd (let no : true ≡ false = sym (eq-eqb p (place + 1) (sym same)) ∙ none in cc)
+spares_place n place (Drops p i count) other own none = λ same. other (same ∙ own)
+spares_place n place (Finishes p state) other own none = λ same. other (same ∙ own)
+spares_place n place (Reserves r) other own none = tt
+spares_place n place (Frees r first) other own none = tt
+spares_place n place (Names text m) other own none = tt
+
+pub spare_place : (n place : ℕ) (cs : List Change) → place + 1 ≢ n → AllSpare n cs → list_any (gives (place + 1)) cs ≡ false → LeavePlace place cs
+spare_place n place [] other own none = tt
+spare_place n place (c ∷ cs) other own none =
+    let x = both_false (gives (place + 1) c) (list_any (gives (place + 1)) cs) none in
+    (spares_place n place c other own.0 x.0, spare_place n place cs other own.1 x.1)
+
+own_reserves : (n : ℕ) (c : Change) → IsOwn n c → LeavesReserves c
+own_reserves n (Makes s) own = tt
+own_reserves n (Resizes m size) own = tt
+own_reserves n (Locks m count) own = tt
+own_reserves n (Marks m d) own = tt
+own_reserves n (Holds p i h) own = tt
+own_reserves n (Drops p i count) own = tt
+own_reserves n (Finishes p state) own = tt
+own_reserves n (Reserves r) own = own
+own_reserves n (Frees r first) own = own
+own_reserves n (Names text m) own = tt
+
+all_own_reserves : (n : ℕ) (cs : List Change) → AreOwn n cs → LeaveReserves cs
+all_own_reserves n [] own = tt
+all_own_reserves n (c ∷ cs) own = (own_reserves n c own.0, all_own_reserves n cs own.1)
+
+shares_reserve : (to : ℕ) (ss : List (ℕ × Held)) → LeaveReserves (shares_of to ss)
+shares_reserve to [] = tt
+shares_reserve to (s ∷ ss) = (tt, shares_reserve to ss)
+
+-- all reserved indexes
+pub moves_reserve : (b : Before) (cpu : Cpu) (cs : List Change) → AllMoves b cpu cs → LeaveReserves cs
+moves_reserve b cpu cs (OwnMoves moves) = all_own_reserves b.number cs (moves_own b cpu cs moves)
+moves_reserve b cpu cs (OneNamed size i name free is) = subst LeaveReserves (sym is) (tt, (tt, (tt, tt)))
+moves_reserve b cpu cs (SomeShared from to xs shares is) =
+    subst LeaveReserves (sym (is ∙ changes_are b.known from to xs shares.shared)) (shares_reserve to (held_each b.known from xs shares.shared))
+
 -- The world.
 
 same_hold : (h : Held) → IsAtLeast h h
@@ -52,7 +106,7 @@ same_hold h = record { name = refl; rights = refl; cause = refl; first = refl; r
 same_process : (x : Process) → IsSpared x x
 same_process x = record { all_else = refl; held = λ i. record { goes_on = λ h e. (h, e, same_hold h) } }
 
-same_spared : (o p : Option Process) → p ≡ o → AreSpared o p
+pub same_spared : (o p : Option Process) → p ≡ o → AreSpared o p
 same_spared None None e = tt
 same_spared (Some x) (Some y) e = let z : y ≡ x = cc in subst (IsSpared x) (sym z) (same_process x)
 same_spared None (Some y) e = absurd (let z : ◌≡◌ {A = Option Process} (Some y) None = e in cc)

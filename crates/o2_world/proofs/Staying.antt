@@ -10,30 +10,53 @@ use Rattle.o2_world.specs.Calls.{Effect}
 use Rattle.o2_world.specs.Effect.{effect}
 use Rattle.o2_world.specs.Holders.{process_at}
 use Rattle.o2_world.specs.Run.{all_changes, before, changed, worked, acted, step, chosen_step, is_over, next_dispatch}
-use Rattle.o2_world.specs.Moves.{AreOwn}
+use Rattle.o2_world.specs.Giving.{GivesNothing, gives}
+use Rattle.o2_world.specs.Moves.{AreSpared}
 use Rattle.o2_world.proofs.Keeps.{other_number}
-use Rattle.o2_world.proofs.OwnChanges.{all_other, all_own, changes_reserved, moves_own}
-use Rattle.o2_world.proofs.StepMoves.{effect_own}
+use Rattle.o2_world.proofs.OwnChanges.{all_leave, all_other, all_reserves, changes_reserved}
+use Rattle.o2_world.proofs.Sparing.{changed_spared, moves_reserve, moves_spare, same_spared, spare_place}
+use Rattle.o2_world.proofs.StepMoves.{effect_moves}
 
-own_changes : (s : Setting) (w : World) (n : ℕ) (p : Process) → let e = effect (before s w n p) in AreOwn n (all_changes n e)
-own_changes s w n p = let b = before s w n p in all_own n (effect b) (moves_own b (effect b).cpu (effect b).changes (effect_own b))
+-- Other processes.
+
+acted_spared : (s : Setting) (w : World) (d : Dispatch) (o : Option Process) (place : ℕ) → place + 1 ≢ d.current
+    → AreSpared (slice_get w.processes place) (slice_get (acted s w d o).processes place)
+acted_spared s w d None place other = same_spared (slice_get w.processes place) (slice_get w.processes place) refl
+acted_spared s w d (Some p) place other =
+    let b = before s w d.current p in
+    changed_spared w d p (effect b) (moves_spare b (effect b).cpu (effect b).changes (effect_moves b)) place other
+
+-- what another process is and holds stays, but that it may hold more
+pub step_spared : (s : Setting) (w : World) (place : ℕ) → place + 1 ≢ (next_dispatch s w).current
+    → AreSpared (slice_get w.processes place) (slice_get (step s w).processes place)
+unfolding step
+step_spared s w place other = go (is_over w)
+  where
+    go : (b : Bool) → AreSpared (slice_get w.processes place) (slice_get (if b then w else chosen_step s w).processes place)
+    go true = same_spared (slice_get w.processes place) (slice_get w.processes place) refl
+    go false = acted_spared s w (next_dispatch s w) (process_at w.processes (next_dispatch s w).current) place other
 
 acted_other : (s : Setting) (w : World) (d : Dispatch) (o : Option Process) (place : ℕ) → place + 1 ≢ d.current
+    → ((p : Process) → o ≡ Some p → list_any (gives (place + 1)) (effect (before s w d.current p)).changes ≡ false)
     → slice_get (acted s w d o).processes place ≡ slice_get w.processes place
 unfolding changed
-acted_other s w d None place other = refl
-acted_other s w d (Some p) place other =
-    let e : Effect = effect (before s w d.current p) in
-    all_other (worked w d p e) (all_changes d.current e) d.current place (own_changes s w d.current p) other ∙ other_number w.processes d.current _ place other
+acted_other s w d None place other none = refl
+acted_other s w d (Some p) place other none =
+    let b = before s w d.current p in
+    let e : Effect = effect b in
+    all_other (worked w d p e) (all_changes d.current e) place
+    (all_leave place d.current e (spare_place d.current place e.changes other (moves_spare b e.cpu e.changes (effect_moves b)) (none p refl)) other)
+    ∙ other_number w.processes d.current _ place other
 
-pub step_other : (s : Setting) (w : World) (place : ℕ) → place + 1 ≢ (next_dispatch s w).current
+-- one to which the step gives nothing is as it was
+pub step_other : (s : Setting) (w : World) (place : ℕ) → place + 1 ≢ (next_dispatch s w).current → GivesNothing s w (place + 1)
     → slice_get (step s w).processes place ≡ slice_get w.processes place
 unfolding step
-step_other s w place other = go (is_over w)
+step_other s w place other none = go (is_over w)
   where
     go : (b : Bool) → slice_get (if b then w else chosen_step s w).processes place ≡ slice_get w.processes place
     go true = refl
-    go false = acted_other s w (next_dispatch s w) _ place other
+    go false = acted_other s w (next_dispatch s w) (process_at w.processes (next_dispatch s w).current) place other none
 
 -- What is reserved for the whole run.
 
@@ -68,6 +91,13 @@ by_sweep : (w : World) (i : ℕ) (b : Bool) → list_any (is_for_the_run i) w.re
 by_sweep w i true e = any_used w.processes i w.reserved e
 by_sweep w i false e = e
 
+-- what a step of process n changes, with the end of the process behind it, leaves each reserved index
+pub step_reserved : (s : Setting) (w : World) (d : Dispatch) (n : ℕ) (p : Process)
+    → let e = effect (before s w n p) in (with_changes (worked w d p e) (all_changes n e)).reserved ≡ w.reserved
+step_reserved s w d n p =
+    let b = before s w n p in
+    changes_reserved (worked w d p (effect b)) (all_changes n (effect b)) (all_reserves n (effect b) (moves_reserve b (effect b).cpu (effect b).changes (effect_moves b)))
+
 acted_stays : (s : Setting) (w : World) (d : Dispatch) (o : Option Process) (i : ℕ) → list_any (is_for_the_run i) w.reserved ≡ true
     → list_any (is_for_the_run i) (acted s w d o).reserved ≡ true
 unfolding changed
@@ -76,7 +106,7 @@ acted_stays s w d (Some p) i e =
     let f : Effect = effect (before s w d.current p) in
     let v : World = with_changes (worked w d p f) (all_changes d.current f) in
     by_sweep v i (list_any takes (all_changes d.current f))
-    (ap (λ (rs : List Reserve). list_any (is_for_the_run i) rs) (changes_reserved (worked w d p f) (all_changes d.current f) d.current (own_changes s w d.current p)) ∙ e)
+    (ap (λ (rs : List Reserve). list_any (is_for_the_run i) rs) (step_reserved s w d d.current p) ∙ e)
 
 pub step_stays : (s : Setting) (w : World) (i : ℕ) → list_any (is_for_the_run i) w.reserved ≡ true
     → list_any (is_for_the_run i) (step s w).reserved ≡ true

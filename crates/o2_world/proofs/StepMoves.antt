@@ -8,52 +8,20 @@ use Rattle.o2_isa.specs.Step.{stepped}
 use Rattle.o2_world.specs.declared.types.Row.{Row}
 use Rattle.o2_world.specs.declared.types.Row.TheVariants.{DosExit, DosGetPid, DosRead, DosWrite, DosMemAvail, OnSegments, OnShared}
 use Rattle.o2_world.specs.World.{is_live}
-use Rattle.o2_world.specs.Calls.{Before, Effect, IsUnshared, row_of, served_by}
+use Rattle.o2_world.specs.Calls.{Before, Effect, row_of, served_by}
 use Rattle.o2_world.specs.Effect.{answered, effect, has_trap_flag, single_stepped}
-use Rattle.o2_world.specs.Moves.{AllMoves, Moves, NoneMoves, OwnMoves}
+use Rattle.o2_world.specs.Moves.{AllMoves, NoneMoves, OwnMoves}
 use Rattle.o2_world.proofs.Quiet.{exit_quiet, read_quiet, told_quiet, write_quiet}
-use Rattle.o2_world.proofs.Rows.{built_is_unshared}
 use Rattle.o2_world.proofs.SegmentMoves.{on_segments_moves}
 use Rattle.o2_world.proofs.SharedMoves.{either, on_shared_moves}
 
--- the changes of a call by which no segment is shared are its process's own
-pub served_own : (row : Option Row) (b : Before) (next : ℕ) → IsUnshared row → Moves b (served_by row b next).cpu (served_by row b next).changes
-served_own None b next unshared = NoneMoves refl
-served_own (Some DosExit) b next unshared = NoneMoves (exit_quiet b)
-served_own (Some DosGetPid) b next unshared = NoneMoves (told_quiet b next _ _ _)
-served_own (Some DosRead) b next unshared = NoneMoves (read_quiet b next)
-served_own (Some DosWrite) b next unshared = NoneMoves (write_quiet b next)
-served_own (Some DosMemAvail) b next unshared = NoneMoves (told_quiet b next _ _ _)
-served_own (Some (OnSegments call)) b next unshared = on_segments_moves call b next
-served_own (Some (OnShared call)) b next unshared = absurd unshared
-
-answered_own : (b : Before) (r : Result Machine Stop) → Moves b (answered b r).cpu (answered b r).changes
-answered_own b (Ok s) = NoneMoves refl
-answered_own b (Err (stop.Trap vector code)) = NoneMoves refl
-answered_own b (Err (stop.Gate service next)) = served_own (row_of service) b next (built_is_unshared service)
-answered_own b (Err (stop.Miss s)) = NoneMoves refl
-
-either_own : (b : Before) (t : Bool) (e f : Effect) → Moves b e.cpu e.changes → Moves b f.cpu f.changes
-    → Moves b (cond t e f).cpu (cond t e f).changes
-either_own b true e f h k = h
-either_own b false e f h k = k
-
-single_own : (b : Before) (e : Effect) → Moves b e.cpu e.changes → Moves b (single_stepped b e).cpu (single_stepped b e).changes
-single_own b e h = either_own b (has_trap_flag b.cpu.flags && is_live e.state) _ e h h
-
-pub effect_own : (b : Before) → Moves b (effect b).cpu (effect b).changes
-unfolding effect
-effect_own b = single_own b (answered b (stepped (state b.cpu b.view))) (answered_own b (stepped (state b.cpu b.view)))
-
--- all calls
-
 pub served_moves : (row : Option Row) (b : Before) (next : ℕ) → AllMoves b (served_by row b next).cpu (served_by row b next).changes
-served_moves None b next = OwnMoves (served_own None b next tt)
-served_moves (Some DosExit) b next = OwnMoves (served_own (Some DosExit) b next tt)
-served_moves (Some DosGetPid) b next = OwnMoves (served_own (Some DosGetPid) b next tt)
-served_moves (Some DosRead) b next = OwnMoves (served_own (Some DosRead) b next tt)
-served_moves (Some DosWrite) b next = OwnMoves (served_own (Some DosWrite) b next tt)
-served_moves (Some DosMemAvail) b next = OwnMoves (served_own (Some DosMemAvail) b next tt)
+served_moves None b next = OwnMoves (NoneMoves refl)
+served_moves (Some DosExit) b next = OwnMoves (NoneMoves (exit_quiet b))
+served_moves (Some DosGetPid) b next = OwnMoves (NoneMoves (told_quiet b next _ _ _))
+served_moves (Some DosRead) b next = OwnMoves (NoneMoves (read_quiet b next))
+served_moves (Some DosWrite) b next = OwnMoves (NoneMoves (write_quiet b next))
+served_moves (Some DosMemAvail) b next = OwnMoves (NoneMoves (told_quiet b next _ _ _))
 served_moves (Some (OnSegments call)) b next = OwnMoves (on_segments_moves call b next)
 served_moves (Some (OnShared call)) b next = on_shared_moves call b next
 

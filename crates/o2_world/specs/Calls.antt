@@ -13,6 +13,7 @@ use Rattle.o2_world.specs.World.{Line, Calls, Exits, Ends}
 pub use Rattle.o2_world.specs.CallParts.{Effect, Before, trapped, trap_code, word_of, has_arguments, word_bytes, long_bytes, returned, may_read, may_write}
 unfoldable pub use Rattle.o2_world.specs.CallParts.{argument, is_good, range_of, put_at_pointer}
 use Rattle.o2_world.specs.declared.types.SegmentCall.TheVariants.{DosAllocSeg, DosReallocSeg, DosFreeSeg, DosSizeSeg, DosLockSeg, DosUnlockSeg, DosCreateCsAlias}
+use Rattle.o2_world.specs.declared.types.SharedCall.TheVariants.{DosAllocShrSeg, DosGetShrSeg, DosGiveSeg, DosGetSeg}
 use Rattle.o2_world.specs.SegmentCalls.{on_segments}
 use Rattle.o2_world.specs.SharedCalls.{on_shared}
 
@@ -186,6 +187,7 @@ rows =
     (1, DosExit) ∷ (2, DosGetPid) ∷ (3, DosRead) ∷ (4, DosWrite) ∷
     (5, OnSegments DosAllocSeg) ∷ (6, OnSegments DosReallocSeg) ∷ (7, OnSegments DosFreeSeg) ∷ (8, OnSegments DosSizeSeg) ∷
     (9, OnSegments DosLockSeg) ∷ (10, OnSegments DosUnlockSeg) ∷ (11, OnSegments DosCreateCsAlias) ∷
+    (12, OnShared DosAllocShrSeg) ∷ (13, OnShared DosGetShrSeg) ∷ (14, OnShared DosGiveSeg) ∷ (15, OnShared DosGetSeg) ∷
     (19, DosMemAvail) ∷ []
 
 abbrev pub row_of : ℕ → Option Row
@@ -220,14 +222,3 @@ IsPlain (Some DosWrite) = Unit {0}
 IsPlain (Some DosMemAvail) = Unit {0}
 IsPlain (Some (OnSegments call)) = ⊥
 IsPlain (Some (OnShared call)) = ⊥
-
--- the call is none by which processes share segments
-abbrev pub IsUnshared : Option Row → Type 0
-IsUnshared None = Unit {0}
-IsUnshared (Some DosExit) = Unit {0}
-IsUnshared (Some DosGetPid) = Unit {0}
-IsUnshared (Some DosRead) = Unit {0}
-IsUnshared (Some DosWrite) = Unit {0}
-IsUnshared (Some DosMemAvail) = Unit {0}
-IsUnshared (Some (OnSegments call)) = Unit {0}
-IsUnshared (Some (OnShared call)) = ⊥

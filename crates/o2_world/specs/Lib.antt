@@ -18,6 +18,7 @@ pub mod Moves
 pub mod Bare
 pub mod Effect
 pub mod Run
+pub mod Giving
 pub mod Opening
 pub mod Starts
 pub mod FitStarts

@@ -18,6 +18,7 @@ ghost use Rattle.o2_world.specs.CallParts.{Before};
 ghost use Rattle.o2_world.specs.declared.types.Row.{Row};
 ghost use Rattle.o2_world.specs.Effect.{effect};
 ghost use Rattle.o2_world.specs.Moves.{AllMoves, AllSpare, AreSpared, RunMoves};
+ghost use Rattle.o2_world.specs.Giving.{GivesNothing};
 ghost use Rattle.o2_world.specs.declared.types.HugeCall.{HugeCall};
 ghost use Rattle.o2_world.specs.HugeCalls.{on_runs};
 ghost use Rattle.o2_isa.specs.SegmentLoads.{LoadsByRules};
@@ -101,10 +102,13 @@ pub fn a_run_that_is_over_stays()
     ensures { (s : Setting) (w : World) → is_over w ≡ true → step s w ≡ w }
 {}
 
-/// A step changes no process but the one that is chosen.
+/// A step takes nothing from a process but the one that is chosen: of all others registers, state, place, parent and environment
+/// stay, and what they hold they go on to hold, as often at least. One to which the step gives nothing is as it was.
 pub fn other_processes_stay()
-    ensures { (s : Setting) (w : World) (place : ℕ) → place + 1 ≢ (next_dispatch s w).current
-        → slice_get (step s w).processes place ≡ slice_get w.processes place }
+    ensures spares { (s : Setting) (w : World) (place : ℕ) → place + 1 ≢ (next_dispatch s w).current
+        → AreSpared (slice_get w.processes place) (slice_get (step s w).processes place) }
+    ensures stays { (s : Setting) (w : World) (place : ℕ) → place + 1 ≢ (next_dispatch s w).current
+        → GivesNothing s w (place + 1) → slice_get (step s w).processes place ≡ slice_get w.processes place }
 {}
 
 /// No call takes anything from a process but its own: of all others registers, state, place, parent and environment stay, and

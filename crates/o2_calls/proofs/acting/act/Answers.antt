@@ -2,7 +2,7 @@
 use Rattle.std.proofs.Common.{ℕ, Option, IsSome, ap, refl, sym, subst, ◌≡◌}
 use Rattle.o2_regions.specs.declared.answer.Roomed.TheVariants.{Done}
 use Rattle.o2_regions.specs.Maps.{Maps}
-use Rattle.o2_gate.specs.declared.gathering.SegmentArguments.TheVariants.{Alloc, Realloc, Free, Size, Lock, Unlock, Alias}
+use Rattle.o2_gate.specs.declared.gathering.SegmentArguments.TheVariants.{Alloc, Realloc, Free, Size, Lock, Unlock, Alias, Shared}
 use Rattle.o2_stands.specs.Knows.{known_in, others_of}
 use Rattle.o2_stands.proofs.Matching.{matched_by}
 use Rattle.o2_calls.proofs.Givable.{alias_givable, alloc_givable, no_others, some_parts}
@@ -21,88 +21,91 @@ use Rattle.o2_segs.specs.Answers.{Answers, AnswersRoomed, changes_roomed}
 use Rattle.o2_calls.specs.Acts.{cpu_of, ruling_of}
 use Rattle.o2_calls.specs.Stops.{IsGivable, LacksSwap, LeavesEntries, LeavesHolds}
 use Rattle.o2_segs.proofs.Limits.{limits_more, limits_same, limits_in, entries_same}
+use Rattle.o2_shared.proofs.Staying.{stay_in_place}
+use Rattle.o2_calls.specs.SharedActs.{LeavesSpelled}
+use Rattle.o2_calls.proofs.SharedOver.{limits_by_made}
 use Rattle.o2_calls.proofs.acting.act.Goals as goal
 
 pub returns-in-Alloc-clause-row : goal.returns-in-Alloc-clause-row
-returns-in-Alloc-clause-row g c = λ p s w over.
+returns-in-Alloc-clause-row g c = λ p s w over spells.
     subst (λ (a : SegmentArguments). AnswersRoomed (ruling_of a (known_of s w) c.args.pid c.args.cpu.now) c.alloc_seg.result) (sym c.in-Alloc.is)
     (row_by _ _ _ _ p s w over c.args.pid c.requires.process (Alloc c.in-Alloc.size 0 0 c.in-Alloc.flags) c.args.cpu.now c.alloc_seg.result (c.alloc_seg.ensures.answer p (others_of s w) over.store over.regions))
 
 pub returns-in-Alloc-clause-matches : goal.returns-in-Alloc-clause-matches
-returns-in-Alloc-clause-matches g c = λ p s w x over told at tied.
+returns-in-Alloc-clause-matches g c = λ p s w x over spells told at tied.
     subst (λ (a : SegmentArguments). Matches (moved p c.alloc_seg.new.store c.alloc_seg.new.regions (g.S.SwapDevice.block c.alloc_seg.new.swap)) (with_all w (changes_roomed (ruling_of a (known_of s w) c.args.pid c.args.cpu.now) c.alloc_seg.result))) (sym c.in-Alloc.is)
     (behind_by _ _ _ _ p s w over c.args.pid c.requires.process (Alloc c.in-Alloc.size 0 0 c.in-Alloc.flags) c.args.cpu.now c.alloc_seg.result _
     (c.alloc_seg.ensures.matches p (others_of s w) w x over.store over.regions over.pictures over.blocks told at (none_next w tied) (matched_by p w.processes w.names w.next_name w.reserved over.stands)))
 
 pub returns-in-Realloc-clause-row : goal.returns-in-Realloc-clause-row
-returns-in-Realloc-clause-row g c = λ p s w over.
+returns-in-Realloc-clause-row g c = λ p s w over spells.
     subst (λ (a : SegmentArguments). AnswersRoomed (ruling_of a (known_of s w) c.args.pid c.args.cpu.now) c.realloc_seg.result) (sym c.in-Realloc.is)
     (row_by _ _ _ _ p s w over c.args.pid c.requires.process (Realloc c.in-Realloc.size c.in-Realloc.selector) c.args.cpu.now c.realloc_seg.result (c.realloc_seg.ensures.answer p (others_of s w) over.store over.regions))
 
 pub returns-in-Realloc-clause-matches : goal.returns-in-Realloc-clause-matches
-returns-in-Realloc-clause-matches g c = λ p s w x over told at tied.
+returns-in-Realloc-clause-matches g c = λ p s w x over spells told at tied.
     subst (λ (a : SegmentArguments). Matches (moved p c.realloc_seg.new.store c.realloc_seg.new.regions (g.S.SwapDevice.block c.realloc_seg.new.swap)) (with_all w (changes_roomed (ruling_of a (known_of s w) c.args.pid c.args.cpu.now) c.realloc_seg.result))) (sym c.in-Realloc.is)
     (behind_by _ _ _ _ p s w over c.args.pid c.requires.process (Realloc c.in-Realloc.size c.in-Realloc.selector) c.args.cpu.now c.realloc_seg.result _
     (c.realloc_seg.ensures.matches p (others_of s w) w over.store over.regions over.pictures over.blocks told (matched_by p w.processes w.names w.next_name w.reserved over.stands)))
 
 pub returns-in-Free-clause-row : goal.returns-in-Free-clause-row
-returns-in-Free-clause-row g c = λ p s w over.
+returns-in-Free-clause-row g c = λ p s w over spells.
     subst (λ (a : SegmentArguments). Answers (ruling_of a (known_of s w) c.args.pid c.args.cpu.now) c.free_seg.result) (sym c.in-Free.is)
     (row_by _ _ _ _ p s w over c.args.pid c.requires.process (Free c.in-Free.selector) c.args.cpu.now (Done c.free_seg.result) (c.free_seg.ensures.answer p (others_of s w) over.store over.regions))
 
 pub returns-in-Free-clause-registers : goal.returns-in-Free-clause-registers
-returns-in-Free-clause-registers g c = λ p s w over.
+returns-in-Free-clause-registers g c = λ p s w over spells.
     subst (λ (a : SegmentArguments). c.free_seg.new.cpu ≡ cpu_of a (known_of s w) c.args.pid c.args.cpu.now) (sym c.in-Free.is)
     (cpu_by _ _ _ _ p s w over c.args.pid c.requires.process (Free c.in-Free.selector) c.args.cpu.now c.free_seg.new.cpu (c.free_seg.ensures.registers p (others_of s w) over.store over.regions))
 
 pub returns-in-Free-clause-matches : goal.returns-in-Free-clause-matches
-returns-in-Free-clause-matches g c = λ p s w x over told at tied.
+returns-in-Free-clause-matches g c = λ p s w x over spells told at tied.
     subst (λ (a : SegmentArguments). Matches (moved p c.free_seg.new.store c.free_seg.new.regions (g.S.SwapDevice.block c.args.swap.now)) (with_all w (ruling_of a (known_of s w) c.args.pid c.args.cpu.now).changes)) (sym c.in-Free.is)
     (behind_by _ _ _ _ p s w over c.args.pid c.requires.process (Free c.in-Free.selector) c.args.cpu.now (Done c.free_seg.result) _
     (unmoved _ _ _ _ p s w over c.args.pid c.requires.process _ _ (with_all w (freeing (known_in p (others_of s w)) c.args.pid c.in-Free.selector c.args.cpu.now).changes)
     (c.free_seg.ensures.matches p (others_of s w) w x over.store over.regions at (loses _ _ _ _ p s w over c.args.pid c.requires.process c.in-Free.selector c.args.cpu.now) (matched_by p w.processes w.names w.next_name w.reserved over.stands))))
 
 pub returns-in-Size-clause-row : goal.returns-in-Size-clause-row
-returns-in-Size-clause-row g c = λ p s w over.
+returns-in-Size-clause-row g c = λ p s w over spells.
     subst (λ (a : SegmentArguments). Answers (ruling_of a (known_of s w) c.args.pid c.args.cpu.now) c.size_seg.result) (sym c.in-Size.is)
     (row_by _ _ _ _ p s w over c.args.pid c.requires.process (Size c.in-Size.selector 0 0) c.args.cpu.now (Done c.size_seg.result) (c.size_seg.ensures.answer p (others_of s w) over.store over.regions))
 
 pub returns-in-Size-clause-matches : goal.returns-in-Size-clause-matches
-returns-in-Size-clause-matches g c = λ p s w x over told at tied.
+returns-in-Size-clause-matches g c = λ p s w x over spells told at tied.
     subst (λ (a : SegmentArguments). Matches (moved p c.size_seg.new.store c.size_seg.new.regions (g.S.SwapDevice.block c.args.swap.now)) (with_all w (ruling_of a (known_of s w) c.args.pid c.args.cpu.now).changes)) (sym c.in-Size.is)
     (behind_by _ _ _ _ p s w over c.args.pid c.requires.process (Size c.in-Size.selector 0 0) c.args.cpu.now (Done c.size_seg.result) _
     (sized_only _ _ _ _ p s w over c.args.pid c.requires.process c.in-Size.selector _ _ c.size_seg.ensures.store c.size_seg.ensures.regions))
 
 pub returns-in-Lock-clause-row : goal.returns-in-Lock-clause-row
-returns-in-Lock-clause-row g c = λ p s w over.
+returns-in-Lock-clause-row g c = λ p s w over spells.
     subst (λ (a : SegmentArguments). AnswersRoomed (ruling_of a (known_of s w) c.args.pid c.args.cpu.now) c.lock_seg.result) (sym c.in-Lock.is)
     (row_by _ _ _ _ p s w over c.args.pid c.requires.process (Lock c.in-Lock.selector) c.args.cpu.now c.lock_seg.result (c.lock_seg.ensures.answer p (others_of s w) over.store over.regions))
 
 pub returns-in-Lock-clause-matches : goal.returns-in-Lock-clause-matches
-returns-in-Lock-clause-matches g c = λ p s w x over told at tied.
+returns-in-Lock-clause-matches g c = λ p s w x over spells told at tied.
     subst (λ (a : SegmentArguments). Matches (moved p c.lock_seg.new.store c.lock_seg.new.regions (g.S.SwapDevice.block c.lock_seg.new.swap)) (with_all w (changes_roomed (ruling_of a (known_of s w) c.args.pid c.args.cpu.now) c.lock_seg.result))) (sym c.in-Lock.is)
     (behind_by _ _ _ _ p s w over c.args.pid c.requires.process (Lock c.in-Lock.selector) c.args.cpu.now c.lock_seg.result _
     (c.lock_seg.ensures.matches p (others_of s w) w over.store over.regions over.pictures over.blocks told (matched_by p w.processes w.names w.next_name w.reserved over.stands)))
 
 pub returns-in-Unlock-clause-row : goal.returns-in-Unlock-clause-row
-returns-in-Unlock-clause-row g c = λ p s w over.
+returns-in-Unlock-clause-row g c = λ p s w over spells.
     subst (λ (a : SegmentArguments). Answers (ruling_of a (known_of s w) c.args.pid c.args.cpu.now) c.unlock_seg.result) (sym c.in-Unlock.is)
     (row_by _ _ _ _ p s w over c.args.pid c.requires.process (Unlock c.in-Unlock.selector) c.args.cpu.now (Done c.unlock_seg.result) (c.unlock_seg.ensures.answer p (others_of s w) over.store over.regions))
 
 pub returns-in-Unlock-clause-matches : goal.returns-in-Unlock-clause-matches
-returns-in-Unlock-clause-matches g c = λ p s w x over told at tied.
+returns-in-Unlock-clause-matches g c = λ p s w x over spells told at tied.
     subst (λ (a : SegmentArguments). Matches (moved p c.unlock_seg.new.store c.unlock_seg.new.regions (g.S.SwapDevice.block c.args.swap.now)) (with_all w (ruling_of a (known_of s w) c.args.pid c.args.cpu.now).changes)) (sym c.in-Unlock.is)
     (behind_by _ _ _ _ p s w over c.args.pid c.requires.process (Unlock c.in-Unlock.selector) c.args.cpu.now (Done c.unlock_seg.result) _
     (store_only _ _ _ _ p s w over c.args.pid c.requires.process _ _ (with_all w (unlocking (known_in p (others_of s w)) c.args.pid c.in-Unlock.selector).changes) c.unlock_seg.ensures.regions
     (c.unlock_seg.ensures.matches p (others_of s w) w over.store over.regions (matched_by p w.processes w.names w.next_name w.reserved over.stands))))
 
 pub returns-in-Alias-clause-row : goal.returns-in-Alias-clause-row
-returns-in-Alias-clause-row g c = λ p s w over.
+returns-in-Alias-clause-row g c = λ p s w over spells.
     subst (λ (a : SegmentArguments). Answers (ruling_of a (known_of s w) c.args.pid c.args.cpu.now) c.create_cs_alias.result) (sym c.in-Alias.is)
     (row_by _ _ _ _ p s w over c.args.pid c.requires.process (Alias c.in-Alias.selector 0 0) c.args.cpu.now (Done c.create_cs_alias.result) (c.create_cs_alias.ensures.answer p (others_of s w) over.store over.regions))
 
 pub returns-in-Alias-clause-matches : goal.returns-in-Alias-clause-matches
-returns-in-Alias-clause-matches g c = λ p s w x over told at tied.
+returns-in-Alias-clause-matches g c = λ p s w x over spells told at tied.
     subst (λ (a : SegmentArguments). Matches (moved p c.create_cs_alias.new.store c.create_cs_alias.new.regions (g.S.SwapDevice.block c.args.swap.now)) (with_all w (ruling_of a (known_of s w) c.args.pid c.args.cpu.now).changes)) (sym c.in-Alias.is)
     (behind_by _ _ _ _ p s w over c.args.pid c.requires.process (Alias c.in-Alias.selector 0 0) c.args.cpu.now (Done c.create_cs_alias.result) _
     (maps_only _ _ _ _ p s w over c.args.pid c.requires.process _ _ (with_all w (aliasing (known_in p (others_of s w)) c.args.pid c.in-Alias.selector).changes) c.create_cs_alias.ensures.store
@@ -183,22 +186,22 @@ pub returns-in-Alias-clause-processes : goal.returns-in-Alias-clause-processes
 returns-in-Alias-clause-processes g c = c.create_cs_alias.ensures.holds.processes
 
 pub returns-in-Realloc-clause-limits : goal.returns-in-Realloc-clause-limits
-returns-in-Realloc-clause-limits g c = limits_in c.args.store.now c.realloc_seg.new.store c.args.regions.now c.realloc_seg.new.regions c.realloc_seg.result c.realloc_seg.ensures.limits
+returns-in-Realloc-clause-limits g c = limits_by_made c.args.store.now c.realloc_seg.new.store c.args.regions.now c.realloc_seg.new.regions c.realloc_seg.result (limits_in c.args.store.now c.realloc_seg.new.store c.args.regions.now c.realloc_seg.new.regions c.realloc_seg.result c.realloc_seg.ensures.limits)
 
 pub returns-in-Free-clause-limits : goal.returns-in-Free-clause-limits
-returns-in-Free-clause-limits g c = limits_more c.args.store.now c.free_seg.new.store c.args.regions.now c.free_seg.new.regions 0 1 c.free_seg.ensures.limits
+returns-in-Free-clause-limits g c = limits_by_made c.args.store.now c.free_seg.new.store c.args.regions.now c.free_seg.new.regions (Done c.free_seg.result) (limits_more c.args.store.now c.free_seg.new.store c.args.regions.now c.free_seg.new.regions 0 1 c.free_seg.ensures.limits)
 
 pub returns-in-Size-clause-limits : goal.returns-in-Size-clause-limits
-returns-in-Size-clause-limits g c = limits_more c.args.store.now c.size_seg.new.store c.args.regions.now c.size_seg.new.regions 0 1 (limits_same c.args.store.now c.size_seg.new.store c.args.regions.now c.size_seg.new.regions c.size_seg.ensures.store c.size_seg.ensures.regions)
+returns-in-Size-clause-limits g c = limits_by_made c.args.store.now c.size_seg.new.store c.args.regions.now c.size_seg.new.regions (Done c.size_seg.result) (limits_more c.args.store.now c.size_seg.new.store c.args.regions.now c.size_seg.new.regions 0 1 (limits_same c.args.store.now c.size_seg.new.store c.args.regions.now c.size_seg.new.regions c.size_seg.ensures.store c.size_seg.ensures.regions))
 
 pub returns-in-Lock-clause-limits : goal.returns-in-Lock-clause-limits
-returns-in-Lock-clause-limits g c = limits_in c.args.store.now c.lock_seg.new.store c.args.regions.now c.lock_seg.new.regions c.lock_seg.result c.lock_seg.ensures.limits
+returns-in-Lock-clause-limits g c = limits_by_made c.args.store.now c.lock_seg.new.store c.args.regions.now c.lock_seg.new.regions c.lock_seg.result (limits_in c.args.store.now c.lock_seg.new.store c.args.regions.now c.lock_seg.new.regions c.lock_seg.result c.lock_seg.ensures.limits)
 
 pub returns-in-Unlock-clause-limits : goal.returns-in-Unlock-clause-limits
-returns-in-Unlock-clause-limits g c = limits_more c.args.store.now c.unlock_seg.new.store c.args.regions.now c.unlock_seg.new.regions 0 1 c.unlock_seg.ensures.limits
+returns-in-Unlock-clause-limits g c = limits_by_made c.args.store.now c.unlock_seg.new.store c.args.regions.now c.unlock_seg.new.regions (Done c.unlock_seg.result) (limits_more c.args.store.now c.unlock_seg.new.store c.args.regions.now c.unlock_seg.new.regions 0 1 c.unlock_seg.ensures.limits)
 
 pub returns-in-Alias-clause-limits : goal.returns-in-Alias-clause-limits
-returns-in-Alias-clause-limits g c = limits_more c.args.store.now c.create_cs_alias.new.store c.args.regions.now c.create_cs_alias.new.regions 0 1 c.create_cs_alias.ensures.limits
+returns-in-Alias-clause-limits g c = limits_by_made c.args.store.now c.create_cs_alias.new.store c.args.regions.now c.create_cs_alias.new.regions (Done c.create_cs_alias.result) (limits_more c.args.store.now c.create_cs_alias.new.store c.args.regions.now c.create_cs_alias.new.regions 0 1 c.create_cs_alias.ensures.limits)
 
 pub returns-in-Size-clause-entries : goal.returns-in-Size-clause-entries
 returns-in-Size-clause-entries g c =
@@ -207,3 +210,85 @@ returns-in-Size-clause-entries g c =
 pub returns-in-Alias-clause-entries : goal.returns-in-Alias-clause-entries
 returns-in-Alias-clause-entries g c =
     subst (λ (a : SegmentArguments). LeavesEntries a c.args.store.now c.create_cs_alias.new.store) (sym c.in-Alias.is) (entries_same c.args.store.now c.create_cs_alias.new.store c.create_cs_alias.ensures.store)
+
+pub returns-in-Alloc-clause-limits : goal.returns-in-Alloc-clause-limits
+returns-in-Alloc-clause-limits g c = limits_by_made c.args.store.now c.alloc_seg.new.store c.args.regions.now c.alloc_seg.new.regions c.alloc_seg.result c.alloc_seg.ensures.limits
+
+pub returns-in-Alloc-clause-places : goal.returns-in-Alloc-clause-places
+returns-in-Alloc-clause-places g c = (let k = c.alloc_seg.ensures.limits in stay_in_place c.args.store.now c.alloc_seg.new.store c.args.regions.now c.alloc_seg.new.regions c.args.names.now c.requires.places k.shares k.grows)
+
+pub returns-in-Alloc-clause-spells : goal.returns-in-Alloc-clause-spells
+returns-in-Alloc-clause-spells g c = λ p s w over spells. subst (λ (a : SegmentArguments). LeavesSpelled a c.alloc_seg.new.store c.args.names.now c.args.names.now (with_all w (ruling_of a (known_of s w) c.args.pid c.args.cpu.now).changes)) (sym c.in-Alloc.is) refl
+
+pub returns-in-Realloc-clause-places : goal.returns-in-Realloc-clause-places
+returns-in-Realloc-clause-places g c = (let k = c.realloc_seg.ensures.limits in stay_in_place c.args.store.now c.realloc_seg.new.store c.args.regions.now c.realloc_seg.new.regions c.args.names.now c.requires.places k.shares k.grows)
+
+pub returns-in-Realloc-clause-spells : goal.returns-in-Realloc-clause-spells
+returns-in-Realloc-clause-spells g c = λ p s w over spells. subst (λ (a : SegmentArguments). LeavesSpelled a c.realloc_seg.new.store c.args.names.now c.args.names.now (with_all w (ruling_of a (known_of s w) c.args.pid c.args.cpu.now).changes)) (sym c.in-Realloc.is) refl
+
+pub returns-in-Free-clause-places : goal.returns-in-Free-clause-places
+returns-in-Free-clause-places g c = (let k = c.free_seg.ensures.limits in stay_in_place c.args.store.now c.free_seg.new.store c.args.regions.now c.free_seg.new.regions c.args.names.now c.requires.places k.shares k.grows)
+
+pub returns-in-Free-clause-spells : goal.returns-in-Free-clause-spells
+returns-in-Free-clause-spells g c = λ p s w over spells. subst (λ (a : SegmentArguments). LeavesSpelled a c.free_seg.new.store c.args.names.now c.args.names.now (with_all w (ruling_of a (known_of s w) c.args.pid c.args.cpu.now).changes)) (sym c.in-Free.is) refl
+
+pub returns-in-Size-clause-places : goal.returns-in-Size-clause-places
+returns-in-Size-clause-places g c = (let k = (limits_same c.args.store.now c.size_seg.new.store c.args.regions.now c.size_seg.new.regions c.size_seg.ensures.store c.size_seg.ensures.regions) in stay_in_place c.args.store.now c.size_seg.new.store c.args.regions.now c.size_seg.new.regions c.args.names.now c.requires.places k.shares k.grows)
+
+pub returns-in-Size-clause-spells : goal.returns-in-Size-clause-spells
+returns-in-Size-clause-spells g c = λ p s w over spells. subst (λ (a : SegmentArguments). LeavesSpelled a c.size_seg.new.store c.args.names.now c.args.names.now (with_all w (ruling_of a (known_of s w) c.args.pid c.args.cpu.now).changes)) (sym c.in-Size.is) refl
+
+pub returns-in-Lock-clause-places : goal.returns-in-Lock-clause-places
+returns-in-Lock-clause-places g c = (let k = c.lock_seg.ensures.limits in stay_in_place c.args.store.now c.lock_seg.new.store c.args.regions.now c.lock_seg.new.regions c.args.names.now c.requires.places k.shares k.grows)
+
+pub returns-in-Lock-clause-spells : goal.returns-in-Lock-clause-spells
+returns-in-Lock-clause-spells g c = λ p s w over spells. subst (λ (a : SegmentArguments). LeavesSpelled a c.lock_seg.new.store c.args.names.now c.args.names.now (with_all w (ruling_of a (known_of s w) c.args.pid c.args.cpu.now).changes)) (sym c.in-Lock.is) refl
+
+pub returns-in-Unlock-clause-places : goal.returns-in-Unlock-clause-places
+returns-in-Unlock-clause-places g c = (let k = c.unlock_seg.ensures.limits in stay_in_place c.args.store.now c.unlock_seg.new.store c.args.regions.now c.unlock_seg.new.regions c.args.names.now c.requires.places k.shares k.grows)
+
+pub returns-in-Unlock-clause-spells : goal.returns-in-Unlock-clause-spells
+returns-in-Unlock-clause-spells g c = λ p s w over spells. subst (λ (a : SegmentArguments). LeavesSpelled a c.unlock_seg.new.store c.args.names.now c.args.names.now (with_all w (ruling_of a (known_of s w) c.args.pid c.args.cpu.now).changes)) (sym c.in-Unlock.is) refl
+
+pub returns-in-Alias-clause-places : goal.returns-in-Alias-clause-places
+returns-in-Alias-clause-places g c = (let k = c.create_cs_alias.ensures.limits in stay_in_place c.args.store.now c.create_cs_alias.new.store c.args.regions.now c.create_cs_alias.new.regions c.args.names.now c.requires.places k.shares k.grows)
+
+pub returns-in-Alias-clause-spells : goal.returns-in-Alias-clause-spells
+returns-in-Alias-clause-spells g c = λ p s w over spells. subst (λ (a : SegmentArguments). LeavesSpelled a c.create_cs_alias.new.store c.args.names.now c.args.names.now (with_all w (ruling_of a (known_of s w) c.args.pid c.args.cpu.now).changes)) (sym c.in-Alias.is) refl
+
+pub returns-in-Shared-clause-row : goal.returns-in-Shared-clause-row
+returns-in-Shared-clause-row g c = λ p s w over spells.
+    subst (λ (a : SegmentArguments). Answers (ruling_of a (known_of s w) c.args.pid c.args.cpu.now) c.share.result) (sym c.in-Shared.is)
+    (c.share.ensures.row c.args.images.now (g.S.SwapDevice.block c.args.swap.now) p s w over spells)
+
+pub returns-in-Shared-clause-registers : goal.returns-in-Shared-clause-registers
+returns-in-Shared-clause-registers g c = λ p s w over spells. subst (λ (a : SegmentArguments). c.args.cpu.now ≡ cpu_of a (known_of s w) c.args.pid c.args.cpu.now) (sym c.in-Shared.is) refl
+
+pub returns-in-Shared-clause-matches : goal.returns-in-Shared-clause-matches
+returns-in-Shared-clause-matches g c = λ p s w x over spells told at tied.
+    subst (λ (a : SegmentArguments). Matches (moved p c.share.new.store c.share.new.regions (g.S.SwapDevice.block c.args.swap.now)) (with_all w (ruling_of a (known_of s w) c.args.pid c.args.cpu.now).changes)) (sym c.in-Shared.is)
+    (unmoved _ _ _ _ p s w over c.args.pid c.requires.process _ _ (with_all w (ruling_of (Shared c.in-Shared.shared) (known_of s w) c.args.pid c.args.cpu.now).changes)
+    (c.share.ensures.matches c.args.images.now (g.S.SwapDevice.block c.args.swap.now) p s w x over spells at))
+
+pub returns-in-Shared-clause-spells : goal.returns-in-Shared-clause-spells
+returns-in-Shared-clause-spells g c = λ p s w over spells.
+    subst (λ (a : SegmentArguments). LeavesSpelled a c.share.new.store c.args.names.now c.share.new.names (with_all w (ruling_of a (known_of s w) c.args.pid c.args.cpu.now).changes)) (sym c.in-Shared.is)
+    (c.share.ensures.spells c.args.images.now (g.S.SwapDevice.block c.args.swap.now) p s w over spells)
+
+pub returns-in-Shared-clause-kept : goal.returns-in-Shared-clause-kept
+returns-in-Shared-clause-kept g c = λ k named live here. c.share.ensures.kept k here
+
+pub returns-in-Shared-clause-holds : goal.returns-in-Shared-clause-holds
+returns-in-Shared-clause-holds g c = subst (λ (a : SegmentArguments). LeavesHolds a c.args.regions.now c.share.new.regions) (sym c.in-Shared.is) c.share.ensures.still
+
+pub returns-in-Shared-clause-entries : goal.returns-in-Shared-clause-entries
+returns-in-Shared-clause-entries g c = subst (λ (a : SegmentArguments). LeavesEntries a c.args.store.now c.share.new.store) (sym c.in-Shared.is) c.share.ensures.entries
+
+pub returns-in-Shared-clause-value : goal.returns-in-Shared-clause-value
+returns-in-Shared-clause-value g c = subst (λ (a : SegmentArguments). IsGivable a (Done c.share.result)) (sym c.in-Shared.is) c.share.ensures.word
+
+pub returns-in-Shared-clause-clean : goal.returns-in-Shared-clause-clean
+returns-in-Shared-clause-clean g c = c.share.ensures.clean (picture c.args.images.now) c.requires.clean
+
+pub returns-in-Shared-clause-pictures : goal.returns-in-Shared-clause-pictures
+returns-in-Shared-clause-pictures g c = c.share.ensures.pictures c.args.images.now c.requires.pictures

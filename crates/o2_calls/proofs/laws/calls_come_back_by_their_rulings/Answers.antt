@@ -1,5 +1,5 @@
 use Rattle.o2_calls.proofs.Replies.{asked_is}
-use Rattle.o2_calls.proofs.Tellings.{ruling_tells}
+use Rattle.o2_calls.proofs.CallsTold.{ruling_tells}
 use Rattle.o2_calls.proofs.laws.calls_come_back_by_their_rulings.Goals as goal
 
 pub returns-clause-effect : goal.returns-clause-effect

@@ -1,11 +1,13 @@
-use Rattle.std.proofs.Common.{Option, List, ℕ, length, ap, refl}
+use Rattle.std.proofs.Common.{ap, inr, refl}
+use Rattle.std.specs.Prelude.{Err}
 use Rattle.o2_outer.specs.Texts.{Rose}
 use Rattle.o2_run.proofs.Reached.{rose_since}
 use Rattle.o2_world.specs.World.{Setting}
-use Rattle.o2_machine.specs.Lasts.{stopped_of}
+use Rattle.o2_machine.specs.Lasts.{put_of, stopped_of}
 use Rattle.o2_machine.specs.StandsFor.{StandsFor}
 use Rattle.o2_machine.specs.Begins.{setting_of, first_world}
 use Rattle.o2_cli.proofs.Runs.{begin_input, begin_sink, begin_swap, has_started, no_refusal, stands_over, start_of}
+use Rattle.o2_cli.proofs.ImageStatuses.{run_sink, run_unrun}
 use Rattle.o2_cli.proofs.Benches.{bench_cut, bench_done, fails_bench, faulted_bench, has_last_line}
 use Rattle.o2_cli.proofs.bench.bench_session.Goals as goal
 
@@ -31,7 +33,7 @@ pub returns-in-Err-run_unseen-clause-texts : goal.returns-in-Err-run_unseen-clau
 returns-in-Err-run_unseen-clause-texts g c = λ tells text may.
     let s = c.args.session in
     let begun = c.in-Ok-begun.ensures.begins in
-    faulted_bench s _ _ _ _ _ _ _ _ _ (λ (t : Setting). StandsFor c.run_unseen.new.machine (g.S.SwapDevice.blocks c.run_unseen.new.swap) (g.S.SwapDevice.block c.run_unseen.new.swap) t)
+    faulted_bench s _ _ _ _ _ _ _ _ _ _ (λ (t : Setting). StandsFor c.run_unseen.new.machine (g.S.SwapDevice.blocks c.run_unseen.new.swap) (g.S.SwapDevice.block c.run_unseen.new.swap) t)
     _ (rose_since _ _ _ c.in-Ok-begun.ensures.count) c.args.count _ _ c.in-Err-run_unseen.why _ c.from.ensures (λ input left.
     let w = first_world s.linked s.conf input begun.built in
     record {
@@ -43,11 +45,24 @@ returns-in-Err-run_unseen-clause-texts g c = λ tells text may.
       );
     })
 
+pub returns-in-Err-run_unseen-clause-same_input : goal.returns-in-Err-run_unseen-clause-same_input
+returns-in-Err-run_unseen-clause-same_input g c = run_unrun (Err c.in-Err-run_unseen.why) _ c.from.ensures _
+
+pub returns-in-Err-run_unseen-clause-same_report : goal.returns-in-Err-run_unseen-clause-same_report
+returns-in-Err-run_unseen-clause-same_report g c = run_unrun (Err c.in-Err-run_unseen.why) _ c.from.ensures _
+
+pub returns-in-Err-run_unseen-clause-same_swap : goal.returns-in-Err-run_unseen-clause-same_swap
+returns-in-Err-run_unseen-clause-same_swap g c = run_unrun (Err c.in-Err-run_unseen.why) _ c.from.ensures _
+
+pub returns-in-Err-run_unseen-clause-sink_fault : goal.returns-in-Err-run_unseen-clause-sink_fault
+returns-in-Err-run_unseen-clause-sink_fault g c =
+    run_sink (Err c.in-Err-run_unseen.why) _ c.from.ensures _ _ _ (c.in-Err-run_unseen.ensures.cause (ap stopped_of c.in-Ok-begun.ensures.begins.fresh)) _ (λ rose. inr (rose_since _ _ _ c.in-Ok-begun.ensures.count rose))
+
 pub returns-in-Done-clause-texts : goal.returns-in-Done-clause-texts
 returns-in-Done-clause-texts g c = λ tells text may.
     let s = c.args.session in
     let begun = c.in-Ok-begun.ensures.begins in
-    bench_done s (g.S.SwapDevice.blocks c.args.swap.now) _ _ _ _ (Rose (g.R.Sink.faults c.begun.new.report) (g.R.Sink.faults c.run_unseen.new.report)) _ _ _ (λ (t : Setting). StandsFor c.run_unseen.new.machine (g.S.SwapDevice.blocks c.run_unseen.new.swap) (g.S.SwapDevice.block c.run_unseen.new.swap) t)
+    bench_done s (g.S.SwapDevice.blocks c.args.swap.now) _ _ _ _ (Rose (g.R.Sink.faults c.begun.new.report) (g.R.Sink.faults c.run_unseen.new.report)) _ _ _ (put_of c.run_unseen.new.machine.last) (λ (t : Setting). StandsFor c.run_unseen.new.machine (g.S.SwapDevice.blocks c.run_unseen.new.swap) (g.S.SwapDevice.block c.run_unseen.new.swap) t)
     (Unit {0}) c.args.count _ _ _ _ c.put_line.ensures.puts (λ input left.
     let w = first_world s.linked s.conf input begun.built in
     record {
@@ -63,7 +78,7 @@ pub returns-clause-texts : goal.returns-clause-texts
 returns-clause-texts g c = λ tells text may.
     let s = c.args.session in
     let begun = c.in-Ok-begun.ensures.begins in
-    bench_cut s (g.S.SwapDevice.blocks c.args.swap.now) _ _ _ _ (Rose (g.R.Sink.faults c.begun.new.report) (g.R.Sink.faults c.run_unseen.new.report)) _ _ _ (λ (t : Setting). StandsFor c.run_unseen.new.machine (g.S.SwapDevice.blocks c.run_unseen.new.swap) (g.S.SwapDevice.block c.run_unseen.new.swap) t)
+    bench_cut s (g.S.SwapDevice.blocks c.args.swap.now) _ _ _ _ (Rose (g.R.Sink.faults c.begun.new.report) (g.R.Sink.faults c.run_unseen.new.report)) _ _ _ (put_of c.run_unseen.new.machine.last) (λ (t : Setting). StandsFor c.run_unseen.new.machine (g.S.SwapDevice.blocks c.run_unseen.new.swap) (g.S.SwapDevice.block c.run_unseen.new.swap) t)
     (Unit {0}) c.args.count _ _ _ _ c.put_line.ensures.puts (λ input left.
     let w = first_world s.linked s.conf input begun.built in
     record {

@@ -4,7 +4,7 @@ use Rattle.o2_words.specs.Words.{IsCommandFor}
 use Rattle.o2_cli.proofs.Checked.{bench_is, texts_of_check, untried}
 use Rattle.o2_cli.proofs.Completed.{completes, open_completes}
 use Rattle.o2_cli.proofs.Memory.{memory_first}
-use Rattle.o2_cli.proofs.Runs.{benches_not_checks, no_file_fault, refused, runs_not_checks, shown, shown_bench, shown_either, untouched}
+use Rattle.o2_cli.proofs.Runs.{benches_not_checks, dumps_not_checks, no_file_fault, refused, runs_not_checks, shown, shown_bench, shown_dump, shown_either, untouched}
 use Rattle.o2_cli.proofs.top.os2run.Goals as goal
 
 pub returns-clause-texts : goal.returns-clause-texts
@@ -124,3 +124,43 @@ returns-clause-memory_first g c = memory_first g.R.Sink.puts g.C.Sink.puts _ _ _
 
 pub returns-in-Bench-clause-memory_first : goal.returns-in-Bench-clause-memory_first
 returns-in-Bench-clause-memory_first g c = memory_first g.R.Sink.puts g.C.Sink.puts _ _ _ _ c.bench_session.result c.bench_session.ensures.same_report c.bench_session.ensures.same_console
+
+pub returns-in-Dump-clause-texts : goal.returns-in-Dump-clause-texts
+returns-in-Dump-clause-texts g c = λ tells.
+    shown c.args.words.now (g.F.Files.may_hold c.open.new.files) _ _ _ _ _ _ _ _ _ c.in-Ok.command.verb c.in-Ok-from_slice.name c.in-Ok-open.session
+    (subst (λ name. IsCommandFor c.args.words.now c.in-Ok.command.verb name) (sym (c.in-Ok-from_slice.ensures ∙ c.as_bytes.ensures.value)) c.in-Ok.ensures.exact)
+    (λ contents is. c.in-Ok-open.ensures.exact contents is) c.dump_session.result (shown_dump c.in-Ok.command.verb c.in-Ok-open.session _ _ _ _ _ _ _ _ _ c.dump_session.result c.in-Dump.is (c.dump_session.ensures.texts tells None tt))
+
+pub returns-in-Dump-clause-untold_texts : goal.returns-in-Dump-clause-untold_texts
+returns-in-Dump-clause-untold_texts g c = λ tells text may.
+    shown c.args.words.now (g.F.Files.may_hold c.open.new.files) _ _ _ _ _ _ _ _ _ c.in-Ok.command.verb c.in-Ok-from_slice.name c.in-Ok-open.session
+    (subst (λ name. IsCommandFor c.args.words.now c.in-Ok.command.verb name) (sym (c.in-Ok-from_slice.ensures ∙ c.as_bytes.ensures.value)) c.in-Ok.ensures.exact)
+    (λ contents is. c.in-Ok-open.ensures.exact contents is) c.dump_session.result (shown_dump c.in-Ok.command.verb c.in-Ok-open.session _ _ _ _ _ _ _ _ _ c.dump_session.result c.in-Dump.is (c.dump_session.ensures.texts tells (Some text) may))
+
+pub returns-in-Dump-clause-refused : goal.returns-in-Dump-clause-refused
+returns-in-Dump-clause-refused g c =
+    refused c.args.words.now (g.F.Files.may_hold c.open.new.files) c.in-Ok.command.verb c.in-Ok-from_slice.name c.in-Ok-open.session
+    (subst (λ name. IsCommandFor c.args.words.now c.in-Ok.command.verb name) (sym (c.in-Ok-from_slice.ensures ∙ c.as_bytes.ensures.value)) c.in-Ok.ensures.exact)
+    (λ contents is. c.in-Ok-open.ensures.exact contents is) (dumps_not_checks c.in-Ok.command.verb c.in-Dump.is) c.dump_session.result c.dump_session.ensures.refused
+
+pub returns-in-Dump-clause-file_fault : goal.returns-in-Dump-clause-file_fault
+returns-in-Dump-clause-file_fault g c = no_file_fault c.in-Ok-open.session _ c.dump_session.result c.dump_session.ensures.refused
+
+pub returns-in-Dump-clause-complete : goal.returns-in-Dump-clause-complete
+returns-in-Dump-clause-complete g c = λ tells text may.
+    completes c.args.words.now (g.F.Files.may_hold c.open.new.files) _ _ _ _ _ _ _ _ _ _ _ _ _ c.dump_session.result
+    (refused c.args.words.now (g.F.Files.may_hold c.open.new.files) c.in-Ok.command.verb c.in-Ok-from_slice.name c.in-Ok-open.session
+    (subst (λ name. IsCommandFor c.args.words.now c.in-Ok.command.verb name) (sym (c.in-Ok-from_slice.ensures ∙ c.as_bytes.ensures.value)) c.in-Ok.ensures.exact)
+    (λ contents is. c.in-Ok-open.ensures.exact contents is) (dumps_not_checks c.in-Ok.command.verb c.in-Dump.is) c.dump_session.result c.dump_session.ensures.refused)
+    (shown c.args.words.now (g.F.Files.may_hold c.open.new.files) _ _ _ _ _ _ _ _ _ c.in-Ok.command.verb c.in-Ok-from_slice.name c.in-Ok-open.session
+    (subst (λ name. IsCommandFor c.args.words.now c.in-Ok.command.verb name) (sym (c.in-Ok-from_slice.ensures ∙ c.as_bytes.ensures.value)) c.in-Ok.ensures.exact)
+    (λ contents is. c.in-Ok-open.ensures.exact contents is) c.dump_session.result (shown_dump c.in-Ok.command.verb c.in-Ok-open.session _ _ _ _ _ _ _ _ _ c.dump_session.result c.in-Dump.is (c.dump_session.ensures.texts tells text may)))
+    (no_file_fault c.in-Ok-open.session _ c.dump_session.result c.dump_session.ensures.refused)
+    c.dump_session.ensures.input_fault c.dump_session.ensures.sink_fault c.dump_session.ensures.swap_fault
+
+pub returns-in-Dump-clause-benches_unread : goal.returns-in-Dump-clause-benches_unread
+returns-in-Dump-clause-benches_unread g c = λ bench.
+    let is = bench_is c.args.words.now c.in-Ok.command.verb _ c.in-Ok.ensures.exact bench in c.open.ensures.unread is.0 is.1
+
+pub returns-in-Dump-clause-memory_first : goal.returns-in-Dump-clause-memory_first
+returns-in-Dump-clause-memory_first g c = memory_first g.R.Sink.puts g.C.Sink.puts _ _ _ _ c.dump_session.result c.dump_session.ensures.same_report c.dump_session.ensures.same_console

@@ -18,6 +18,7 @@ use Rattle.o2_segs.proofs.Making.{moved_made}
 use Rattle.o2_locks.proofs.Rows.{lock_done, lock_plain, locked_matches, none_less}
 use Rattle.o2_store.specs.Shelf.{Shelf, entry, entry_of, place_of}
 use Rattle.o2_regions.specs.Maps.{Maps}
+use Rattle.o2_segs.proofs.Sharing.{alive_tables}
 use Rattle.o2_segs.proofs.Limits.{limits_locked, limits_moved, limits_refl, limits_then}
 use Rattle.o2_locks.proofs.locking.lock.Goals as goal
 
@@ -126,7 +127,7 @@ pub returns-then-not-is_discardable-clause-limits : goal.returns-then-not-is_dis
 returns-then-not-is_discardable-clause-limits g c = limits_refl c.args.store.now c.args.regions.now
 
 pub returns-then-attr-gt0-clause-limits : goal.returns-then-attr-gt0-clause-limits
-returns-then-attr-gt0-clause-limits g c = limits_locked c.args.store.now c.set_lock.new.store c.args.regions.now c.args.id _ c.set_lock.ensures.sets
+returns-then-attr-gt0-clause-limits g c = limits_locked c.args.store.now c.set_lock.new.store c.args.regions.now c.args.id _ c.requires.live c.set_lock.ensures.sets
 
 pub returns-in-Some-stop_of-clause-limits : goal.returns-in-Some-stop_of-clause-limits
 returns-in-Some-stop_of-clause-limits g c = limits_moved c.args.store.now c.bring_in.new.store c.args.regions.now c.bring_in.new.regions c.bring_in.ensures.keeps.tables c.bring_in.ensures.maps
@@ -134,7 +135,7 @@ returns-in-Some-stop_of-clause-limits g c = limits_moved c.args.store.now c.brin
 pub returns-in-None-stop_of-clause-limits : goal.returns-in-None-stop_of-clause-limits
 returns-in-None-stop_of-clause-limits g c =
     limits_then c.args.store.now c.bring_in.new.store c.set_lock-in-None-stop_of.new.store c.args.regions.now c.bring_in.new.regions c.bring_in.new.regions 0 0 (limits_moved c.args.store.now c.bring_in.new.store c.args.regions.now c.bring_in.new.regions c.bring_in.ensures.keeps.tables c.bring_in.ensures.maps)
-    (limits_locked c.bring_in.new.store c.set_lock-in-None-stop_of.new.store c.bring_in.new.regions c.args.id _ c.set_lock-in-None-stop_of.ensures.sets)
+    (limits_locked c.bring_in.new.store c.set_lock-in-None-stop_of.new.store c.bring_in.new.regions c.args.id _ (alive_tables c.args.store.now c.bring_in.new.store c.bring_in.ensures.keeps.tables c.args.id c.requires.live) c.set_lock-in-None-stop_of.ensures.sets)
 
 pub returns-in-None-clause-limits : goal.returns-in-None-clause-limits
 returns-in-None-clause-limits g c = limits_refl c.args.store.now c.args.regions.now

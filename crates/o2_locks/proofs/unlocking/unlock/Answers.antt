@@ -72,7 +72,7 @@ pub returns-then-attr-eq0-clause-limits : goal.returns-then-attr-eq0-clause-limi
 returns-then-attr-eq0-clause-limits c = limits_refl c.args.store.now c.args.regions.now
 
 pub returns-else-attr-eq0-clause-limits : goal.returns-else-attr-eq0-clause-limits
-returns-else-attr-eq0-clause-limits c = limits_locked c.args.store.now c.set_lock.new.store c.args.regions.now c.args.id _ c.set_lock.ensures.sets
+returns-else-attr-eq0-clause-limits c = limits_locked c.args.store.now c.set_lock.new.store c.args.regions.now c.args.id _ c.requires.live c.set_lock.ensures.sets
 
 pub returns-in-None-clause-limits : goal.returns-in-None-clause-limits
 returns-in-None-clause-limits c = limits_refl c.args.store.now c.args.regions.now

@@ -19,9 +19,9 @@ returns-in-Done-clause-begins g c = λ b e is.
     record {
       built = b;
       starts = e;
-      stands = first_stands c.args.opened l b c.args.conf.now c.args.blocks m front.procs.items front.services is e c.requires.count c.requires.processes c.requires.swap c.requires.stands c.requires.sound space each
+      stands = first_stands c.args.opened l b c.args.conf.now c.args.blocks m front.procs.items front.services is e c.requires.count c.requires.processes c.requires.swap c.requires.stands c.requires.sound space (ap (λ x. x.names) z ∙ c.in-Ok.ensures.names) each
           c.in-Ok.ensures.avail (c.assemble.ensures.sched ∙ c.in-Ok.ensures.sched) c.assemble.ensures.budget c.assemble.ensures.console lines c.requires.within;
-      goes_on = first_goes_on c.args.opened l b c.args.conf.now c.args.blocks m front.procs.items front.services is e c.requires.count c.requires.processes c.requires.swap c.requires.stands c.requires.sound space each
+      goes_on = first_goes_on c.args.opened l b c.args.conf.now c.args.blocks m front.procs.items front.services is e c.requires.count c.requires.processes c.requires.swap c.requires.stands c.requires.sound space (ap (λ x. x.names) z ∙ c.in-Ok.ensures.names) each
           c.in-Ok.ensures.avail (c.assemble.ensures.sched ∙ c.in-Ok.ensures.sched) c.assemble.ensures.budget c.assemble.ensures.console lines c.requires.within;
       fresh = c.assemble.ensures.fresh;
       to_report = subst (λ (z : List Line). Gains (g.R.Sink.taken c.args.report.now) (g.R.Sink.taken c.put_starts.new.report) (lines_text z))

@@ -1,6 +1,7 @@
 use Rattle.std.proofs.Common.{true, sym}
 use Rattle.o2_segs.proofs.Rows.{alias_all_answers, alias_all_matches, alias_none, alias_refused, at_maps, at_rights, refusal_answers, refusal_maps}
 use Rattle.o2_segs.proofs.Limits.{limits_refl}
+use Rattle.o2_segs.proofs.Sharing.{low_under}
 use Rattle.o2_segs.proofs.aliasing.create_cs_alias.Goals as goal
 
 pub returns-then-has_no_alias-clause-answer : goal.returns-then-has_no_alias-clause-answer
@@ -34,3 +35,7 @@ returns-then-has_no_alias-clause-limits c = limits_refl c.args.store.now c.args.
 
 pub returns-in-None-clause-limits : goal.returns-in-None-clause-limits
 returns-in-None-clause-limits c = limits_refl c.args.store.now c.args.regions.now
+
+pub alias-requires-clause-own : goal.alias-requires-clause-own
+alias-requires-clause-own c =
+    low_under c.args.regions.now c.args.pid c.args.sel c.in-Some.held _ (sym c.in-Some.ensures) (sym c.if-has_no_alias.ensures)

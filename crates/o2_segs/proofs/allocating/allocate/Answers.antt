@@ -14,6 +14,7 @@ use Rattle.o2_segs.proofs.Making.{added_entry, added_map, added_place, done_answ
 use Rattle.o2_segs.proofs.Resizing.{refusal_moved}
 use Rattle.o2_segs.proofs.Stops.{error_none}
 use Rattle.o2_entries.specs.declared.Entry.{Entry}
+use Rattle.o2_segs.proofs.Sharing.{unheld_told}
 use Rattle.o2_segs.proofs.Limits.{entries_added, entries_behind, entries_same, limits_added, limits_more, limits_same, limits_then, limits_undone}
 use Rattle.o2_segs.proofs.allocating.allocate.Goals as goal
 
@@ -181,7 +182,7 @@ returns-in-None-lock_new-clause-holds g c =
 pub returns-then-not-is_locked-clause-limits : goal.returns-then-not-is_locked-clause-limits
 returns-then-not-is_locked-clause-limits g c =
     subst (λ (r : Roomed). KeepsLimits c.args.store.now c.args.regions.now c.make.new.store c.hold_made.new.regions (made_in r)) (sym c.hold_made.ensures.answer)
-    (limits_then c.args.store.now c.make.new.store c.make.new.store c.args.regions.now c.args.regions.now c.hold_made.new.regions 1 0 (limits_added c.args.store.now c.make.new.store c.args.regions.now c.in-Some.id _ c.in-Some.ensures.added) c.hold_made.ensures.limits)
+    (limits_then c.args.store.now c.make.new.store c.make.new.store c.args.regions.now c.args.regions.now c.hold_made.new.regions 1 0 (limits_added c.args.store.now c.make.new.store c.args.regions.now c.in-Some.id _ refl c.in-Some.ensures.added) c.hold_made.ensures.limits)
 
 pub returns-in-Some-lock_new-clause-limits : goal.returns-in-Some-lock_new-clause-limits
 returns-in-Some-lock_new-clause-limits g c =
@@ -189,13 +190,13 @@ returns-in-Some-lock_new-clause-limits g c =
     let t = c.make.new.store in
     let adds = c.in-Some.ensures.added in
     limits_undone s t c.lock_new.new.store c.args.regions.now c.args.regions.now c.lock_new.new.regions c.in-Some-lock_new.stop (c.in-Some-lock_new.ensures.without c.in-Some-lock_new.stop refl).0
-    (ap (λ (x : Shelf). x.made) adds.shelf) (c.in-Some-lock_new.ensures.undone refl) (limits_added s t c.args.regions.now c.in-Some.id _ adds) c.lock_new.ensures.limits
+    (ap (λ (x : Shelf). x.made) adds.shelf) (limits_added s t c.args.regions.now c.in-Some.id _ refl adds) (c.in-Some-lock_new.ensures.undone refl)
 
 pub returns-in-None-lock_new-clause-limits : goal.returns-in-None-lock_new-clause-limits
 returns-in-None-lock_new-clause-limits g c =
     subst (λ (r : Roomed). KeepsLimits c.args.store.now c.args.regions.now c.lock_new.new.store c.hold_made-in-None-lock_new.new.regions (made_in r)) (sym c.hold_made-in-None-lock_new.ensures.answer)
-    (limits_then c.args.store.now c.make.new.store c.lock_new.new.store c.args.regions.now c.args.regions.now c.hold_made-in-None-lock_new.new.regions 1 0 (limits_added c.args.store.now c.make.new.store c.args.regions.now c.in-Some.id _ c.in-Some.ensures.added)
-    (limits_then c.make.new.store c.lock_new.new.store c.lock_new.new.store c.args.regions.now c.lock_new.new.regions c.hold_made-in-None-lock_new.new.regions 0 0 c.lock_new.ensures.limits c.hold_made-in-None-lock_new.ensures.limits))
+    (limits_then c.args.store.now c.make.new.store c.lock_new.new.store c.args.regions.now c.args.regions.now c.hold_made-in-None-lock_new.new.regions 1 0 (limits_added c.args.store.now c.make.new.store c.args.regions.now c.in-Some.id _ refl c.in-Some.ensures.added)
+    (limits_then c.make.new.store c.lock_new.new.store c.lock_new.new.store c.args.regions.now c.lock_new.new.regions c.hold_made-in-None-lock_new.new.regions 0 0 (c.in-None-lock_new.ensures.limits refl) c.hold_made-in-None-lock_new.ensures.limits))
 
 pub returns-in-None-clause-limits : goal.returns-in-None-clause-limits
 returns-in-None-clause-limits g c = limits_more c.args.store.now c.make.new.store c.args.regions.now c.args.regions.now 0 1 (limits_same c.args.store.now c.make.new.store c.args.regions.now c.args.regions.now c.in-None.ensures.none.1 refl)
@@ -211,3 +212,6 @@ returns-in-None-lock_new-clause-entries g c = entries_behind c.args.store.now c.
 
 pub returns-in-None-clause-entries : goal.returns-in-None-clause-entries
 returns-in-None-clause-entries g c = entries_same c.args.store.now c.make.new.store c.in-None.ensures.none.1
+
+pub hold_made-requires-in-None-lock_new-clause-unheld : goal.hold_made-requires-in-None-lock_new-clause-unheld
+hold_made-requires-in-None-lock_new-clause-unheld g c = unheld_told c.args.regions.now c.lock_new.new.regions c.in-Some.id c.lock_new.ensures.maps c.in-Some.ensures.unheld

@@ -13,7 +13,8 @@ use Rattle.o2_entries.specs.declared.Entry.{Entry}
 use Rattle.o2_store.specs.Shelf.{Shelf, entry_or, place_of}
 use Rattle.o2_store.proofs.Loads.{full_load_but, same_load_but}
 use Rattle.o2_changes.proofs.LocksStand.{locked_entry}
-use Rattle.o2_segs.proofs.Limits.{limits_locked, limits_moved, limits_then, limits_unmade, others_moved, others_same, others_then}
+use Rattle.o2_segs.proofs.Sharing.{alive_tables}
+use Rattle.o2_segs.proofs.Limits.{limits_locked, limits_moved, limits_then, undone_made, others_moved, others_same, others_then}
 use Rattle.o2_segs.proofs.allocating.lock_new.Goals as goal
 
 pub unmake-requires-clause-live : goal.unmake-requires-clause-live
@@ -100,22 +101,17 @@ returns-in-Some-clause-loads g c = λ r e f.
     (omega (arith, l, m, c.bring_in.ensures.map), (c.bring_in.ensures.loads full).1))
 
 pub returns-in-Some-clause-limits : goal.returns-in-Some-clause-limits
-returns-in-Some-clause-limits g c =
-    limits_then c.args.store.now c.bring_in.new.store c.unmake.new.store c.args.regions.now c.bring_in.new.regions c.bring_in.new.regions 0 0 (limits_moved c.args.store.now c.bring_in.new.store c.args.regions.now c.bring_in.new.regions c.bring_in.ensures.keeps.tables c.bring_in.ensures.maps)
-    (limits_unmade c.bring_in.new.store c.unmake.new.store c.bring_in.new.regions c.args.id c.law.ensures.shelf c.law-in-Some.ensures.shelf c.unmake.ensures.removed
-    (newest_still c.args.store.now c.bring_in.new.store c.args.id c.bring_in.ensures.keeps.tables c.requires.newest) c.unmake.ensures.made)
+returns-in-Some-clause-limits g c = λ none. absurd (cc)
 
 pub returns-in-None-clause-limits : goal.returns-in-None-clause-limits
-returns-in-None-clause-limits g c =
+returns-in-None-clause-limits g c = λ none.
     limits_then c.args.store.now c.bring_in.new.store c.set_lock.new.store c.args.regions.now c.bring_in.new.regions c.bring_in.new.regions 0 0 (limits_moved c.args.store.now c.bring_in.new.store c.args.regions.now c.bring_in.new.regions c.bring_in.ensures.keeps.tables c.bring_in.ensures.maps)
-    (limits_locked c.bring_in.new.store c.set_lock.new.store c.bring_in.new.regions c.args.id 1 c.set_lock.ensures.sets)
+    (limits_locked c.bring_in.new.store c.set_lock.new.store c.bring_in.new.regions c.args.id 1 (alive_tables c.args.store.now c.bring_in.new.store c.bring_in.ensures.keeps.tables c.args.id c.requires.live) c.set_lock.ensures.sets)
 
 pub returns-in-Some-clause-undone : goal.returns-in-Some-clause-undone
 returns-in-Some-clause-undone g c = λ some.
-    (let last = (newest_still c.args.store.now c.bring_in.new.store c.args.id c.bring_in.ensures.keeps.tables c.requires.newest).last in
-    let made = c.unmake.ensures.made in
-    let same = c.bring_in.ensures.keeps.tables.made in
-    omega (arith, last, made, same))
+    undone_made c.args.store.now c.bring_in.new.store c.unmake.new.store c.args.regions.now c.bring_in.new.regions c.args.id c.bring_in.ensures.keeps.tables c.bring_in.ensures.maps c.law.ensures.shelf c.law-in-Some.ensures.shelf c.unmake.ensures.removed
+    (newest_still c.args.store.now c.bring_in.new.store c.args.id c.bring_in.ensures.keeps.tables c.requires.newest) c.unmake.ensures.made
 
 pub returns-in-Some-clause-entries : goal.returns-in-Some-clause-entries
 returns-in-Some-clause-entries g c =

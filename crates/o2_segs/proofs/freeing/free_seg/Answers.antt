@@ -61,7 +61,8 @@ returns-then-is_kept-clause-limits c = limits_refl c.args.store.now c.args.regio
 
 pub returns-else-is_kept-clause-limits : goal.returns-else-is_kept-clause-limits
 returns-else-is_kept-clause-limits c =
-    limits_dropped c.args.store.now c.let_go-left.new.store c.args.regions.now c.let_go-left.new.regions c.in-Some.held.id c.args.pid c.index-index.result c.law-2.ensures.shelf c.law-in-Some.ensures.shelf
+    limits_dropped c.args.store.now c.let_go-left.new.store c.args.regions.now c.let_go-left.new.regions c.args.pid c.index-index.result c.in-Some.held c.law-2.ensures.shelf c.law-in-Some.ensures.shelf
+    (subst (λ (j : ℕ). held_at c.args.regions.now c.args.pid j ≡ Some c.in-Some.held) (sym c.index-index.ensures) (under_held c.args.regions.now c.args.pid c.args.sel c.in-Some.held (sym c.in-Some.ensures)).1)
     c.let_go-left.ensures.sweeps c.let_go-left.ensures.takes
 
 pub returns-in-None-clause-limits : goal.returns-in-None-clause-limits

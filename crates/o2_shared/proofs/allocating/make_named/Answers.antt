@@ -1,7 +1,7 @@
-use Rattle.std.proofs.Common.{◌≡◌, ◌+◌, ◌-◌, ◌<◌, List, Option, Some, length, set, true, refl, ap, sym, ◌∙◌, subst, arith}
+use Rattle.std.proofs.Common.{◌≡◌, IsSome, ◌+◌, ◌-◌, ◌<◌, List, Option, Some, length, set, true, refl, ap, sym, ◌∙◌, subst, arith}
 use Rattle.o2_entries.specs.declared.Entry.{Entry}
 use Rattle.o2_regions.specs.Maps.{Maps}
-use Rattle.o2_store.specs.Shelf.{Shelf}
+use Rattle.o2_store.specs.Shelf.{Shelf, place_of}
 use Rattle.o2_changes.specs.Worlds.{new_segment}
 use Rattle.o2_stands.specs.Knows.{known_in}
 use Rattle.o2_stands.specs.Stands.{Matches}
@@ -9,12 +9,13 @@ use Rattle.o2_world.specs.Changes.{Makes, with_all, with_change}
 use Rattle.o2_world.specs.Known.{text_name}
 use Rattle.o2_world.specs.SharedNames.{folded}
 use Rattle.o2_segs.proofs.Limits.{entries_added, entries_same, limits_added, limits_held, limits_more, limits_same, limits_then}
-use Rattle.o2_segs.proofs.Making.{added_entry, added_map, new_name}
+use Rattle.o2_segs.proofs.Making.{added_entry, added_place, added_map, new_name}
+use Rattle.o2_segs.proofs.Sharing.{new_made}
 use Rattle.o2_segs.proofs.Rows.{done_answers, refusal_answers, refusal_matches}
 use Rattle.o2_shared.specs.declared.names.Name.{Name}
 use Rattle.o2_shared.specs.Shares.{naming_to}
 use Rattle.o2_shared.specs.Texts.{AreInPlace, AreTexts}
-use Rattle.o2_shared.proofs.NewNames.{named_matches, named_once, named_texts, new_places, new_texts, once_none, text_new, texts_none, to_full, to_some}
+use Rattle.o2_shared.proofs.NewNames.{named_matches, named_once, named_texts, new_places, new_texts, once_none, run_shared, text_new, texts_none, to_full, to_some}
 use Rattle.o2_shared.proofs.Shares.{value_is}
 use Rattle.o2_shared.proofs.allocating.make_named.Goals as goal
 
@@ -62,8 +63,8 @@ returns-in-Some-clause-places c =
 
 pub returns-in-Some-clause-limits : goal.returns-in-Some-clause-limits
 returns-in-Some-clause-limits c =
-    limits_then c.args.store.now c.make.new.store c.make.new.store c.args.regions.now c.args.regions.now c.hold_named.new.regions 1 0 (limits_added c.args.store.now c.make.new.store c.args.regions.now c.in-Some.id _ c.in-Some.ensures.added)
-    (limits_held c.make.new.store c.args.regions.now c.hold_named.new.regions c.args.pid c.args.index _ _ refl c.hold_named.ensures.grants)
+    limits_then c.args.store.now c.make.new.store c.make.new.store c.args.regions.now c.args.regions.now c.hold_named.new.regions 1 0 (limits_added c.args.store.now c.make.new.store c.args.regions.now c.in-Some.id _ refl c.in-Some.ensures.added)
+    (limits_held c.make.new.store c.args.regions.now c.hold_named.new.regions c.args.pid c.args.index _ _ refl refl (new_made c.args.regions.now c.args.pid c.args.index c.in-Some.id c.law.ensures (run_shared c.args.regions.now c.args.pid c.args.index c.requires.free) c.in-Some.ensures.unheld) c.hold_named.ensures.grants)
 
 pub returns-in-Some-clause-entries : goal.returns-in-Some-clause-entries
 returns-in-Some-clause-entries c = entries_added c.args.store.now c.make.new.store c.in-Some.id _ c.in-Some.ensures.added
@@ -102,3 +103,9 @@ returns-in-Some-clause-once c = λ p o w es was once.
 
 pub returns-in-None-clause-once : goal.returns-in-None-clause-once
 returns-in-None-clause-once c = λ p o w es was once. once_none w _ 8 (to_full p o c.args.store.now c.args.pid c.args.size c.args.index (folded c.args.name.now) es c.in-None.ensures.none.0) once
+
+pub returns-in-Some-clause-kept : goal.returns-in-Some-clause-kept
+returns-in-Some-clause-kept c = λ k here. added_place c.args.store.now c.make.new.store c.in-Some.id _ k c.in-Some.ensures.added here
+
+pub returns-in-None-clause-kept : goal.returns-in-None-clause-kept
+returns-in-None-clause-kept c = λ k here. subst (λ (x : Shelf). IsSome (place_of x k)) (sym c.in-None.ensures.none.1) here

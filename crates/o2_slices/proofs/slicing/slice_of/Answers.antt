@@ -6,6 +6,8 @@ use Rattle.o2_slices.specs.Slices.{Seat, seat}
 use Rattle.o2_space.specs.declared.space.Proc.{Proc}
 use Rattle.o2_slices.specs.Laters.{StandsLater}
 use Rattle.o2_space.specs.Parts.{parts_in, running_at}
+use Rattle.o2_shared.proofs.Staying.{stay_in_place}
+use Rattle.o2_space.proofs.SharedKept.{few_as, shape_grows, shape_shares}
 use Rattle.o2_space.proofs.Alone.{alone_held, whole_same}
 use Rattle.o2_space.proofs.Alike.{made, ready_as, set_as}
 use Rattle.o2_space.proofs.Behind.{set_behind}
@@ -60,6 +62,8 @@ returns-clause-together c = λ device together.
       marked = marked_put m.procs.items pid x c.requires.some c.requires.there m.ends together.marked c.requires.live;
       alone = alone_held m.regions new.regions keeps.shape.holds.held together.alone;
       whole = whole_same m.regions new.regions keeps.shape.holds.processes keeps.shape.holds.lengths together.whole;
+      one = (shape_shares m.store new.store m.regions new.regions keeps.shape).one together.one;
+      places = stay_in_place m.store new.store m.regions new.regions m.names together.places (shape_shares m.store new.store m.regions new.regions keeps.shape) (shape_grows m.store new.store m.regions new.regions keeps.shape);
     }
 
 pub returns-clause-set : goal.returns-clause-set
@@ -79,3 +83,17 @@ returns-clause-made c =
     let y : Proc = c.index.result.now in
     let new = c.slice_in_store-done.new in
     (sliced_keeps c.args.pid c.slice_in_store-done.result (seat m.store m.regions y.cpu) (seat new.store new.regions new.cpu) c.slice_in_store-done.ensures.sliced).shape.tables.made
+
+pub returns-clause-held : goal.returns-clause-held
+returns-clause-held c =
+    let m = c.args.space.now in
+    let new = c.slice_in_store-done.new in
+    let keeps = sliced_keeps c.args.pid c.slice_in_store-done.result (seat m.store m.regions c.index.result.now.cpu) (seat new.store new.regions new.cpu) c.slice_in_store-done.ensures.sliced in
+    few_as m.regions new.regions keeps.shape.holds.held
+
+pub returns-clause-tables : goal.returns-clause-tables
+returns-clause-tables c =
+    let m = c.args.space.now in
+    let y : Proc = c.index.result.now in
+    let new = c.slice_in_store-done.new in
+    (sliced_keeps c.args.pid c.slice_in_store-done.result (seat m.store m.regions y.cpu) (seat new.store new.regions new.cpu) c.slice_in_store-done.ensures.sliced).shape.tables

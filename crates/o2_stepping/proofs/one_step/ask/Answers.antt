@@ -1,6 +1,6 @@
 use Rattle.std.proofs.Common.{Some, ap, sym, refl, subst}
+use Rattle.o2_gate.specs.Gathers.{row_for}
 use Rattle.o2_isa.specs.View.{View, Filling, whole}
-use Rattle.o2_world.specs.declared.types.Row.TheVariants.{OnSegments}
 use Rattle.o2_world.specs.Calls.{Effect}
 use Rattle.o2_world.specs.Effect.{single_stepped}
 use Rattle.o2_gate.specs.Befores.{boundless, before_call}
@@ -61,7 +61,7 @@ returns-in-Trap-clause-away g c = none_missed c.trap.result _ c.trap.ensures.don
 
 pub returns-in-Trap-clause-names : goal.returns-in-Trap-clause-names
 returns-in-Trap-clause-names g c = λ input known bound.
-    all_tell (g.B.Bus.view c.args.bus.now) (λ (f : Filling). call_names (before_call (boundless f (g.B.Bus.view c.args.bus.now)) c.args.pid c.args.cpu.now input known) (Some (OnSegments c.args.which)))
+    all_tell (g.B.Bus.view c.args.bus.now) (λ (f : Filling). call_names (before_call (boundless f (g.B.Bus.view c.args.bus.now)) c.args.pid c.args.cpu.now input known) (Some (row_for c.args.which)))
     c.trap.result c.trap.ensures.done (c.in-Trap.ensures.gathers.names c.args.pid input known bound)
 
 pub returns-in-Trap-clause-undone : goal.returns-in-Trap-clause-undone

@@ -6,7 +6,7 @@ use Rattle.o2_isa.specs.declared.cpu.Stop.TheVariants as stop
 use Rattle.o2_isa.specs.View.{View, Filling, IsBound, whole, no_hidden}
 use Rattle.o2_isa.specs.Step.{stepped}
 use Rattle.o2_isa.specs.Steps.{State as Machine, state}
-use Rattle.o2_world.specs.Calls.{Effect, serviced, trapped}
+use Rattle.o2_world.specs.Calls.{Effect, served, serviced, trapped}
 use Rattle.o2_world.specs.Effect.{answered, single_stepped}
 use Rattle.o2_world.specs.World.{is_live}
 use Rattle.o2_world.specs.declared.types.State.{State}
@@ -18,10 +18,9 @@ use Rattle.o2_stepping.specs.Ran.{Leaves, IsDone}
 use Rattle.o2_stepping.specs.declared.tally.Tally.{Tally}
 use Rattle.o2_stepping.proofs.Leaving.{effect_by, done_by, ended_stays}
 use Rattle.o2_world.specs.Calls.{row_of}
-use Rattle.o2_world.specs.SegmentCalls.{on_segments}
 use Rattle.o2_world.proofs.Quiet.{served_quiet}
 use Rattle.o2_isa.specs.View.{Agrees, KeepsFrame}
-use Rattle.o2_gate.specs.Gathers.{targets}
+use Rattle.o2_gate.specs.Gathers.{row_for, targets}
 use Rattle.o2_gate.specs.Pointed.{are_ready}
 use Rattle.o2_gate.specs.Writes.{WritesHeld}
 use Rattle.o2_stepping.specs.Ran.{OnAsked, OnMissed}
@@ -578,7 +577,7 @@ returns-in-Some-clause-part_as g c = λ text m f input known bound left same.
     let n = counts (g.C.Sink.puts c.args.console.now) (g.C.Sink.puts c.args.console.now) (g.R.Sink.puts c.args.report.now) (g.R.Sink.puts c.ask.new.report) 0 in
     subst (λ (e : Effect). PartHands e n c.ask.result)
     (sym (asks_by b c.in-Gate.service c.in-Gate.next c.in-Some.which c.in-Some.ensures.some (gate_boundless f v w c.args.cpu.now c.step_cached.new.cpu c.in-Gate.service c.in-Gate.next (c.in-Gate.ensures.boundless f bound))))
-    (subst (λ (s : Machine). let z = before_call (boundless f s.view) c.args.pid s.cpu input known in PartHands (single_stepped z (on_segments c.in-Some.which z c.in-Gate.next)) n c.ask.result) step.1
+    (subst (λ (s : Machine). let z = before_call (boundless f s.view) c.args.pid s.cpu input known in PartHands (single_stepped z (served (row_for c.in-Some.which) z c.in-Gate.next)) n c.ask.result) step.1
     (c.ask.ensures.part f input known _ bound_then))
 
 pub returns-in-Some-clause-part : goal.returns-in-Some-clause-part

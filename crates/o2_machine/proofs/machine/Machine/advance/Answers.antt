@@ -21,7 +21,7 @@ returns-in-Failed-put-clause-turns g c = λ tells text may s w stands left.
 
 pub returns-in-Step-clause-turns : goal.returns-in-Step-clause-turns
 returns-in-Step-clause-turns g c = λ tells text may s w stands left.
-    c.step.ensures.turns tells text may s w (same_space _ c.args.self.now _ _ _ _ s w stands (record { sched = c.next.ensures.same; avail = refl; budget = refl; bytes = refl; lines = refl }) stands.space stands.set) left
+    c.step.ensures.turns tells text may s w (same_space _ c.args.self.now _ _ _ _ s w stands (record { sched = c.next.ensures.same; avail = refl; budget = refl; bytes = refl; lines = refl }) stands.space stands.set stands.spells) left
 
 pub returns-in-Done-clause-puts : goal.returns-in-Done-clause-puts
 returns-in-Done-clause-puts g c = λ tells text may s w stands left. one_line _ _ _ _ c.in-Done.ensures.puts
@@ -37,4 +37,4 @@ returns-in-Failed-put-clause-puts g c = λ tells text may s w stands left. faile
 
 pub returns-in-Step-clause-puts : goal.returns-in-Step-clause-puts
 returns-in-Step-clause-puts g c = λ tells text may s w stands left.
-    c.step.ensures.puts tells text may s w (same_space _ c.args.self.now _ _ _ _ s w stands (record { sched = c.next.ensures.same; avail = refl; budget = refl; bytes = refl; lines = refl }) stands.space stands.set) left
+    c.step.ensures.puts tells text may s w (same_space _ c.args.self.now _ _ _ _ s w stands (record { sched = c.next.ensures.same; avail = refl; budget = refl; bytes = refl; lines = refl }) stands.space stands.set stands.spells) left

@@ -1,4 +1,4 @@
-use Rattle.std.proofs.Common.{refl, inl, subst, sym, ◌∙◌, ap, arith}
+use Rattle.std.proofs.Common.{◌+◌, ◌-◌, refl, inl, subst, sym, ◌∙◌, ap, arith}
 use Rattle.o2_outer.specs.Inputs.{left_as}
 use Rattle.o2_conf.specs.Dispatch.{lives}
 use Rattle.o2_regions.specs.Lives.{lives as is_marked}
@@ -17,6 +17,9 @@ use Rattle.o2_space.specs.Nexts.{FaultSays}
 use Rattle.o2_space.specs.Parts.{parts_in}
 use Rattle.o2_space.specs.Stands.{GoTogether}
 use Rattle.o2_space.specs.declared.space.Space.{Space}
+use Rattle.o2_segs.specs.Sharing.{AreHeldAtMost}
+use Rattle.o2_segs.proofs.Sharing.{few_more}
+use Rattle.o2_machine.proofs.Behinds.{few_left}
 use Rattle.o2_machine.proofs.Hands.{stop_line_put, by_stop}
 use Rattle.o2_machine.proofs.Marks.{marked_next, some_number}
 use Rattle.o2_machine.proofs.Turns.{faulted, went, late, stopped_by, caused_stop, line_of_stop, left_at_stop, failed_puts, went_puts, late_puts}
@@ -31,6 +34,9 @@ act-requires-clause-live g c = c.requires.device.marked c.args.pid ∙ c.require
 pub act-requires-clause-made : goal.act-requires-clause-made
 act-requires-clause-made g c = (let f = c.requires.device.few in omega (arith, f))
 
+pub act-requires-clause-few : goal.act-requires-clause-few
+act-requires-clause-few g c = few_left c.args.self.now.space.regions (4294967290 - c.args.self.now.sched.dispatch.budget) (omega arith) c.requires.device.held
+
 pub act-requires-clause-together : goal.act-requires-clause-together
 act-requires-clause-together g c = c.requires.device.together
 
@@ -43,9 +49,10 @@ returns-in-Err-Sink-clause-turns g c = λ tells text may s w stands left.
     (λ chosen p at. subst (λ (f : Fault). ActsFault (before s w c.args.pid p) w (parts_in new.self (S.blocks new.swap) (S.block new.swap))
     (left_as text (g.I.Source.left c.args.input.now) (g.I.Source.past c.args.input.now)) (left_as text (g.I.Source.left new.input) (g.I.Source.past new.input))
     (g.C.Sink.taken c.args.console.now) (g.C.Sink.taken new.console) (g.R.Sink.taken c.args.report.now) (g.R.Sink.taken new.report) f) c.in-Err-Sink.field-0-is
-    (c.in-Err-Sink.ensures.acts text may s w p tells stands.space stands.set stands.sound chosen at left stands.known))
+    (c.in-Err-Sink.ensures.acts text may s w p tells stands.space stands.set stands.sound chosen at left stands.known stands.spells))
     (λ chosen p at. subst (λ (f : Fault). FaultSays (S.blocks c.args.swap.now) s w f) c.in-Err-Sink.field-0-is
-    (c.in-Err-Sink.ensures.next_room text may s w p tells stands.space stands.set stands.sound chosen at left stands.known)))
+    (c.in-Err-Sink.ensures.next_room text may s w p tells stands.space stands.set stands.sound chosen at left stands.known stands.spells))
+    (λ chosen p at. c.in-Err-Sink.ensures.spells text may s w p tells stands.space stands.set stands.sound chosen at left stands.known stands.spells))
 
 pub returns-in-Err-Stopped-clause-turns : goal.returns-in-Err-Stopped-clause-turns
 returns-in-Err-Stopped-clause-turns g c = λ tells text may s w stands left.
@@ -57,9 +64,10 @@ returns-in-Err-Stopped-clause-turns g c = λ tells text may s w stands left.
     (λ chosen p at. subst (λ (f : Fault). ActsFault (before s w c.args.pid p) w (parts_in new.self (S.blocks new.swap) (S.block new.swap))
     (left_as text (g.I.Source.left c.args.input.now) (g.I.Source.past c.args.input.now)) (left_as text (g.I.Source.left new.input) (g.I.Source.past new.input))
     (g.C.Sink.taken c.args.console.now) (g.C.Sink.taken new.console) (g.R.Sink.taken c.args.report.now) (g.R.Sink.taken new.report) f) c.in-Err-Stopped.field-0-is
-    (c.in-Err-Stopped.ensures.acts text may s w p tells stands.space stands.set stands.sound chosen at left stands.known))
+    (c.in-Err-Stopped.ensures.acts text may s w p tells stands.space stands.set stands.sound chosen at left stands.known stands.spells))
     (λ chosen p at. subst (λ (f : Fault). FaultSays (S.blocks c.args.swap.now) s w f) c.in-Err-Stopped.field-0-is
-    (c.in-Err-Stopped.ensures.next_room text may s w p tells stands.space stands.set stands.sound chosen at left stands.known))
+    (c.in-Err-Stopped.ensures.next_room text may s w p tells stands.space stands.set stands.sound chosen at left stands.known stands.spells))
+    (λ chosen p at. c.in-Err-Stopped.ensures.spells text may s w p tells stands.space stands.set stands.sound chosen at left stands.known stands.spells)
     c.put_stop.ensures.text c.put_stop.ensures.whole
 
 pub returns-then-ran-clause-turns : goal.returns-then-ran-clause-turns
@@ -68,8 +76,9 @@ returns-then-ran-clause-turns g c = λ tells text may s w stands left.
     let new = c.act.new in
     went c.args.self.now _ _ s w c.args.pid _ _ _ _ stands c.requires.pick c.requires.live c.stepped.new.self (S.blocks new.swap) (S.block new.swap) _ new.self c.in-Ok.ran
     (record { space = c.stepped.ensures.space; avail = c.act.ensures.avail; budget = c.stepped.ensures.budget; bytes = c.stepped.ensures.bytes; lines = c.stepped.ensures.lines })
-    (c.act.ensures.set s stands.set) (λ chosen p at. c.in-Ok.ensures.acts text may s w p tells stands.space stands.set stands.sound chosen at left stands.known)
-    (λ chosen p at. c.in-Ok.ensures.next_room text may s w p tells stands.space stands.set stands.sound chosen at left stands.known) c.stepped.ensures.sched c.if-ran.true
+    (c.act.ensures.set s stands.set) (λ chosen p at. c.in-Ok.ensures.acts text may s w p tells stands.space stands.set stands.sound chosen at left stands.known stands.spells)
+    (λ chosen p at. c.in-Ok.ensures.next_room text may s w p tells stands.space stands.set stands.sound chosen at left stands.known stands.spells)
+    (λ chosen p at. c.in-Ok.ensures.spells text may s w p tells stands.space stands.set stands.sound chosen at left stands.known stands.spells) c.stepped.ensures.sched c.if-ran.true
 
 pub returns-else-ran-clause-turns : goal.returns-else-ran-clause-turns
 returns-else-ran-clause-turns g c = λ tells text may s w stands left.
@@ -77,8 +86,9 @@ returns-else-ran-clause-turns g c = λ tells text may s w stands left.
     let new = c.act.new in
     inl (late c.args.self.now _ _ s w c.args.pid _ _ _ _ stands c.requires.pick c.requires.live c.stepped.new.self (S.blocks new.swap) (S.block new.swap) _ new.self c.in-Ok.ran
     (record { space = c.stepped.ensures.space; avail = c.act.ensures.avail; budget = c.stepped.ensures.budget; bytes = c.stepped.ensures.bytes; lines = c.stepped.ensures.lines })
-    (c.act.ensures.set s stands.set) (λ chosen p at. c.in-Ok.ensures.acts text may s w p tells stands.space stands.set stands.sound chosen at left stands.known)
-    (λ chosen p at. c.in-Ok.ensures.next_room text may s w p tells stands.space stands.set stands.sound chosen at left stands.known) c.stepped.ensures.sched c.if-ran.false)
+    (c.act.ensures.set s stands.set) (λ chosen p at. c.in-Ok.ensures.acts text may s w p tells stands.space stands.set stands.sound chosen at left stands.known stands.spells)
+    (λ chosen p at. c.in-Ok.ensures.next_room text may s w p tells stands.space stands.set stands.sound chosen at left stands.known stands.spells)
+    (λ chosen p at. c.in-Ok.ensures.spells text may s w p tells stands.space stands.set stands.sound chosen at left stands.known stands.spells) c.stepped.ensures.sched c.if-ran.false)
 
 pub returns-in-Err-Stopped-clause-cause : goal.returns-in-Err-Stopped-clause-cause
 returns-in-Err-Stopped-clause-cause g c = caused_stop _ _ _ _ _ _ c.in-Err-Stopped.why c.in-Err-Stopped.field-0-is c.in-Err-Stopped.ensures.cause c.in-Err-Stopped.ensures.swap_stops
@@ -97,6 +107,8 @@ returns-in-Err-Sink-clause-device g c = record {
   together = c.act.ensures.together;
   marked = λ n. c.in-Err-Sink.ensures.marks n ∙ c.requires.device.marked n;
   few = (let f = c.requires.device.few in let m = c.in-Err-Sink.ensures.made in omega (arith, f, m));
+  budget = c.requires.device.budget;
+  held = few_more _ _ _ (omega arith) (c.in-Err-Sink.ensures.held (4294967290 - c.args.self.now.sched.dispatch.budget) (let b = c.requires.device.budget in omega (arith, b)) c.requires.device.held);
 }
 
 pub returns-in-Err-Stopped-clause-device : goal.returns-in-Err-Stopped-clause-device
@@ -104,6 +116,8 @@ returns-in-Err-Stopped-clause-device g c = record {
   together = c.act.ensures.together;
   marked = λ n. c.in-Err-Stopped.ensures.marks n ∙ c.requires.device.marked n;
   few = (let f = c.requires.device.few in let m = c.in-Err-Stopped.ensures.made in omega (arith, f, m));
+  budget = c.requires.device.budget;
+  held = few_more _ _ _ (omega arith) (c.in-Err-Stopped.ensures.held (4294967290 - c.args.self.now.sched.dispatch.budget) (let b = c.requires.device.budget in omega (arith, b)) c.requires.device.held);
 }
 
 pub returns-then-ran-clause-device : goal.returns-then-ran-clause-device
@@ -120,6 +134,10 @@ returns-then-ran-clause-device g c =
           let l = c.stepped.ensures.left in
           let z = ap (λ (x : Space). x.store.made) c.stepped.ensures.space in
           omega (arith, f, m, l, z));
+      budget = (let f = c.requires.device.budget in let l = c.stepped.ensures.left in omega (arith, f, l));
+      held = subst (λ (z : Space). AreHeldAtMost z.regions (4294967290 - c.stepped.new.self.sched.dispatch.budget)) (sym c.stepped.ensures.space)
+          (few_more new.self.regions (4294967290 - old.sched.dispatch.budget + 1) (4294967290 - c.stepped.new.self.sched.dispatch.budget) (let l = c.stepped.ensures.left in let b = c.requires.device.budget in omega (arith, l, b))
+          (c.in-Ok.ensures.held (4294967290 - old.sched.dispatch.budget) (let b = c.requires.device.budget in omega (arith, b)) c.requires.device.held));
     }
 
 pub returns-else-ran-clause-device : goal.returns-else-ran-clause-device
@@ -136,6 +154,10 @@ returns-else-ran-clause-device g c =
           let l = c.stepped.ensures.left in
           let z = ap (λ (x : Space). x.store.made) c.stepped.ensures.space in
           omega (arith, f, m, l, z));
+      budget = (let f = c.requires.device.budget in let l = c.stepped.ensures.left in omega (arith, f, l));
+      held = subst (λ (z : Space). AreHeldAtMost z.regions (4294967290 - c.stepped.new.self.sched.dispatch.budget)) (sym c.stepped.ensures.space)
+          (few_more new.self.regions (4294967290 - old.sched.dispatch.budget + 1) (4294967290 - c.stepped.new.self.sched.dispatch.budget) (let l = c.stepped.ensures.left in let b = c.requires.device.budget in omega (arith, l, b))
+          (c.in-Ok.ensures.held (4294967290 - old.sched.dispatch.budget) (let b = c.requires.device.budget in omega (arith, b)) c.requires.device.held));
     }
 
 pub returns-in-Err-Sink-clause-puts : goal.returns-in-Err-Sink-clause-puts
@@ -155,11 +177,11 @@ returns-in-Err-Stopped-clause-puts g c = λ tells text may s w stands left.
 pub returns-then-ran-clause-puts : goal.returns-then-ran-clause-puts
 returns-then-ran-clause-puts g c = λ tells text may s w stands left.
     went_puts c.args.self.now _ _ s w c.args.pid None None None None stands c.requires.pick c.requires.live _ _ _ _ c.in-Ok.ran.tally
-    (λ chosen p at. (c.in-Ok.ensures.acts text may s w p tells stands.space stands.set stands.sound chosen at left stands.known).puts)
+    (λ chosen p at. (c.in-Ok.ensures.acts text may s w p tells stands.space stands.set stands.sound chosen at left stands.known stands.spells).puts)
     (subst (λ (z : Bool). HandsWhole z (counts (g.C.Sink.puts c.args.console.now) (g.C.Sink.puts c.act.new.console) (g.R.Sink.puts c.args.report.now) (g.R.Sink.puts c.act.new.report) 0) (puts_of c.in-Ok.ran.tally.bytes) c.in-Ok.ran.tally.lines) c.if-ran.true c.in-Ok.ensures.puts)
 
 pub returns-else-ran-clause-puts : goal.returns-else-ran-clause-puts
 returns-else-ran-clause-puts g c = λ tells text may s w stands left.
     late_puts c.args.self.now _ _ s w c.args.pid None None None None stands c.requires.pick c.requires.live _ _ _ _ c.in-Ok.ran.tally
-    (λ chosen p at. (c.in-Ok.ensures.acts text may s w p tells stands.space stands.set stands.sound chosen at left stands.known).puts)
+    (λ chosen p at. (c.in-Ok.ensures.acts text may s w p tells stands.space stands.set stands.sound chosen at left stands.known stands.spells).puts)
     (subst (λ (z : Bool). HandsWhole z (counts (g.C.Sink.puts c.args.console.now) (g.C.Sink.puts c.act.new.console) (g.R.Sink.puts c.args.report.now) (g.R.Sink.puts c.act.new.report) 0) (puts_of c.in-Ok.ran.tally.bytes) c.in-Ok.ran.tally.lines) c.if-ran.false c.in-Ok.ensures.puts)

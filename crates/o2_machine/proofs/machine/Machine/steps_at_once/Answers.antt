@@ -3,6 +3,7 @@ use Rattle.o2_conf.proofs.Choice.{lives_within}
 use Rattle.o2_conf.specs.Dispatch.{lives}
 use Rattle.o2_regions.specs.Lives.{lives as is_marked}
 use Rattle.o2_sched.specs.Schedule.{Schedule}
+use Rattle.o2_segs.proofs.Sharing.{few_more}
 use Rattle.o2_machine.proofs.Marks.{some_number}
 use Rattle.o2_machine.proofs.Slicing.{budget_left, chosen_is, is_begun, none_done, runs_on, some_steps, turn_left}
 use Rattle.o2_machine.proofs.machine.Machine.steps_at_once.Goals as goal
@@ -50,7 +51,7 @@ returns-then-done-gt0-clause-steps c = λ device block s w stands.
     let later = e.later device block s w stands.space stands.set (runs_on m device block s w c.args.most stands begun c.requires.some)
     (chosen_is m device block s w c.args.most stands begun c.requires.some ∙ sym c.current.ensures)
     (turn_left m device block s w c.args.most stands begun c.requires.some) (budget_left m device block s w c.args.most stands begun c.requires.some) in
-    some_steps m device block s w c.args.most stands begun c.requires.some _ c.slice_of-done.new.space c.slice_of-done.result later (e.set device block s stands.set) e.avail refl refl refl refl
+    some_steps m device block s w c.args.most stands begun c.requires.some _ c.slice_of-done.new.space c.slice_of-done.result later (e.set device block s stands.set) e.avail e.names e.tables refl refl refl refl
     (omega (arith, c.if-done-gt0.true)) c.take.ensures
 
 pub returns-else-done-gt0-clause-steps : goal.returns-else-done-gt0-clause-steps
@@ -61,7 +62,7 @@ returns-else-done-gt0-clause-steps c = λ device block s w stands.
     let later = e.later device block s w stands.space stands.set (runs_on m device block s w c.args.most stands begun c.requires.some)
     (chosen_is m device block s w c.args.most stands begun c.requires.some ∙ sym c.current.ensures)
     (turn_left m device block s w c.args.most stands begun c.requires.some) (budget_left m device block s w c.args.most stands begun c.requires.some) in
-    none_done m device block s w c.args.most stands begun c.requires.some _ c.slice_of-done.new.space c.slice_of-done.result later (e.set device block s stands.set) e.avail refl refl refl refl
+    none_done m device block s w c.args.most stands begun c.requires.some _ c.slice_of-done.new.space c.slice_of-done.result later (e.set device block s stands.set) e.avail e.names e.tables refl refl refl refl
     (omega (arith, c.if-done-gt0.false)) refl
 
 pub returns-then-done-gt0-clause-device : goal.returns-then-done-gt0-clause-device
@@ -71,6 +72,8 @@ returns-then-done-gt0-clause-device c = λ blocks goes. record {
       ap (λ (ends : List Bool). is_marked ends n) c.slice_of-done.ensures.ends
       ∙ (goes.marked n ∙ ap (λ (z : Schedule). lives z.flags n) (sym c.take.ensures));
   few = (let f = goes.few in let b = ap (λ (z : Schedule). z.dispatch.budget) c.take.ensures in let m = c.slice_of-done.ensures.made in omega (arith, f, b, m));
+  budget = (let f = goes.budget in let b = ap (λ (z : Schedule). z.dispatch.budget) c.take.ensures in omega (arith, f, b));
+  held = few_more _ _ _ (let b = ap (λ (z : Schedule). z.dispatch.budget) c.take.ensures in omega (arith, b)) (c.slice_of-done.ensures.held _ goes.held);
 }
 
 pub returns-else-done-gt0-clause-device : goal.returns-else-done-gt0-clause-device
@@ -78,4 +81,6 @@ returns-else-done-gt0-clause-device c = λ blocks goes. record {
   together = c.slice_of-done.ensures.together blocks goes.together;
   marked = λ n. ap (λ (ends : List Bool). is_marked ends n) c.slice_of-done.ensures.ends ∙ goes.marked n;
   few = (let f = goes.few in let m = c.slice_of-done.ensures.made in omega (arith, f, m));
+  budget = goes.budget;
+  held = c.slice_of-done.ensures.held _ goes.held;
 }

@@ -1,6 +1,7 @@
 use Rattle.std.proofs.Common.{ap, sym, ◌∙◌, refl, arith}
 use Rattle.o2_conf.specs.Dispatch.{lives}
 use Rattle.o2_sched.specs.Schedule.{Schedule}
+use Rattle.o2_segs.proofs.Sharing.{few_more}
 use Rattle.o2_machine.proofs.Slicing.{not_stopped}
 use Rattle.o2_machine.proofs.Turns.{same_space}
 use Rattle.o2_machine.proofs.turn.MachineSteps.slice.Goals as goal
@@ -11,7 +12,7 @@ returns-then-is_some-clause-steps c = λ device block s w stands. record { silen
 pub returns-then-most-eq0-clause-steps : goal.returns-then-most-eq0-clause-steps
 returns-then-most-eq0-clause-steps c = λ device block s w stands. record {
   silent = λ j below. absurd (omega (arith, below));
-  stands = same_space _ c.args.self.now _ _ _ _ s w stands (record { sched = c.ahead-most.ensures.same; avail = refl; budget = refl; bytes = refl; lines = refl }) stands.space stands.set;
+  stands = same_space _ c.args.self.now _ _ _ _ s w stands (record { sched = c.ahead-most.ensures.same; avail = refl; budget = refl; bytes = refl; lines = refl }) stands.space stands.set stands.spells;
 }
 
 pub returns-then-most-eq0-clause-same : goal.returns-then-most-eq0-clause-same
@@ -20,7 +21,7 @@ returns-then-most-eq0-clause-same c = λ last e. absurd (not_stopped c.args.self
 pub returns-clause-steps : goal.returns-clause-steps
 returns-clause-steps c = λ device block s w stands.
     c.steps_at_once.ensures.steps device block s w
-    (same_space _ c.args.self.now _ _ _ _ s w stands (record { sched = c.ahead-most.ensures.same; avail = refl; budget = refl; bytes = refl; lines = refl }) stands.space stands.set)
+    (same_space _ c.args.self.now _ _ _ _ s w stands (record { sched = c.ahead-most.ensures.same; avail = refl; budget = refl; bytes = refl; lines = refl }) stands.space stands.set stands.spells)
 
 pub returns-clause-same : goal.returns-clause-same
 returns-clause-same c = λ last e. absurd (not_stopped c.args.self.now.last last (sym c.is_some.ensures ∙ c.if-is_some.false) e)
@@ -31,4 +32,6 @@ returns-clause-device c = λ blocks goes.
       together = goes.together;
       marked = λ n. goes.marked n ∙ ap (λ (z : Schedule). lives z.flags n) (sym c.ahead-most.ensures.same);
       few = (let f = goes.few in let b = ap (λ (z : Schedule). z.dispatch.budget) c.ahead-most.ensures.same in omega (arith, f, b));
+      budget = (let f = goes.budget in let b = ap (λ (z : Schedule). z.dispatch.budget) c.ahead-most.ensures.same in omega (arith, f, b));
+      held = few_more _ _ _ (let b = ap (λ (z : Schedule). z.dispatch.budget) c.ahead-most.ensures.same in omega (arith, b)) goes.held;
     })

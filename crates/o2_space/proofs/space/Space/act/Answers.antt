@@ -1,4 +1,4 @@
-use Rattle.std.proofs.Common.{◌≡◌, ◌==◌, ℕ, ◌≤◌, List, [], Bool, true, false, if◌then◌else◌, inr, length, ap, ◌∙◌, arith, subst}
+use Rattle.std.proofs.Common.{◌+◌, ◌≡◌, ◌==◌, ℕ, ◌≤◌, List, [], Bool, true, false, if◌then◌else◌, inr, length, ap, ◌∙◌, arith, subst}
 use Rattle.o2_outer.specs.Inputs.{left_as}
 use Rattle.o2_outer.specs.Texts.{Rose}
 use Rattle.o2_isa.specs.View.{bound_registers}
@@ -7,7 +7,7 @@ use Rattle.o2_segbus.specs.Seen.{hold_in, seen}
 use Rattle.o2_gate.specs.Gathers.{targets}
 use Rattle.o2_gate.specs.Pointed.{are_ready}
 use Rattle.o2_world.specs.Effect.{effect}
-use Rattle.o2_world.specs.Run.{before}
+use Rattle.o2_world.specs.Run.{before, changed}
 use Rattle.o2_world.specs.Views.{with_bytes}
 use Rattle.o2_world.specs.World.{is_live}
 use Rattle.o2_run.proofs.Reached.{rose_since}
@@ -17,6 +17,10 @@ use Rattle.o2_stepping.proofs.Steps.{at_stop}
 use Rattle.o2_space.specs.Nexts.{SaysRoom}
 use Rattle.o2_space.specs.Parts.{parts_in}
 use Rattle.o2_space.specs.declared.space.Proc.{Proc}
+use Rattle.o2_segs.proofs.Sharing.{few_more}
+use Rattle.o2_space.proofs.SharedKept.{held_few}
+use Rattle.o2_space.proofs.SpelledCalls.{plain_spelled}
+use Rattle.o2_space.proofs.Spelling.{spelled_by, spelled_shape}
 use Rattle.o2_space.proofs.Afters.{plain_after}
 use Rattle.o2_space.proofs.Askings.{acts_from, asked_at, asked_between, asked_room, cause_by, marks_from, part_none, puts_from, ran_between, ran_cause, ran_puts, ran_says, room_kept, stop_same, swap_fault}
 use Rattle.o2_space.proofs.Commits.{lived, process_was}
@@ -63,10 +67,13 @@ call-requires-clause-aimed g c =
     let new = c.step.new in
     asked_at _ c.in-Ok-Asked.arguments c.in-Ok-Asked.next c.in-Ok-Asked.field-0-is (λ a. are_ready (seen new.self.store new.self.regions c.args.pid new.cpu) (targets a) ≡ true) c.in-Ok-Asked.ensures.aimed
 
+pub call-requires-clause-few : goal.call-requires-clause-few
+call-requires-clause-few g c = held_few c.args.self.now.regions c.step.new.self.regions c.step.ensures.shape.holds.held c.requires.few
+
 -- A step that isn't taken.
 
 pub returns-in-Err-clause-acts : goal.returns-in-Err-clause-acts
-returns-in-Err-clause-acts g c = λ text may s w x tells stands set sound chosen there left known.
+returns-in-Err-clause-acts g c = λ text may s w x tells stands set sound chosen there left known spelled.
     let y : Proc = c.index.result.now in
     let was = process_was c.args.self.now.procs.items c.args.pid w.processes x c.requires.some c.requires.there (stands.processes c.args.pid) there y c.index.ensures in
     c.in-Err.ensures.steps text may s w x tells stands there (ap (λ (r : Running). r.cpu) was) left known
@@ -78,7 +85,7 @@ returns-in-Err-clause-part g c = λ text may s w x tells stands there left known
     c.in-Err.ensures.part text may s w x tells stands there (ap (λ (r : Running). r.cpu) was) left known
 
 pub returns-in-Err-clause-next_room : goal.returns-in-Err-clause-next_room
-returns-in-Err-clause-next_room g c = λ text may s w x tells stands set sound chosen there left known.
+returns-in-Err-clause-next_room g c = λ text may s w x tells stands set sound chosen there left known spelled.
     let y : Proc = c.index.result.now in
     let was = process_was c.args.self.now.procs.items c.args.pid w.processes x c.requires.some c.requires.there (stands.processes c.args.pid) there y c.index.ensures in
     c.in-Err.ensures.next_room text may s w x tells stands set chosen there (ap (λ (r : Running). r.cpu) was) left known
@@ -95,7 +102,7 @@ returns-in-Err-clause-made g c = (let a = c.step.ensures.made in omega (arith, a
 -- A step that is done.
 
 pub returns-in-Ok-Ran-clause-acts : goal.returns-in-Ok-Ran-clause-acts
-returns-in-Ok-Ran-clause-acts g c = λ text may s w x tells stands set sound chosen there left known.
+returns-in-Ok-Ran-clause-acts g c = λ text may s w x tells stands set sound chosen there left known spelled.
     let S = g.S.SwapDevice in
     let m = c.args.self.now in
     let y : Proc = c.index.result.now in
@@ -117,7 +124,7 @@ returns-in-Ok-Ran-clause-acts g c = λ text may s w x tells stands set sound cho
     }
 
 pub returns-in-Ok-Ran-clause-next_room : goal.returns-in-Ok-Ran-clause-next_room
-returns-in-Ok-Ran-clause-next_room g c = λ text may s w x tells stands set sound chosen there left known.
+returns-in-Ok-Ran-clause-next_room g c = λ text may s w x tells stands set sound chosen there left known spelled.
     let y : Proc = c.index.result.now in
     let was = process_was c.args.self.now.procs.items c.args.pid w.processes x c.requires.some c.requires.there (stands.processes c.args.pid) there y c.index.ensures in
     ran_says _ c.in-Ok-Ran.ran c.in-Ok-Ran.field-0-is (g.S.SwapDevice.blocks c.args.swap.now) s w (c.in-Ok-Ran.ensures.next_room text may s w x tells stands set chosen there (ap (λ (r : Running). r.cpu) was) left known)
@@ -147,7 +154,7 @@ returns-in-Ok-Ran-clause-cause g c =
 -- A call on segments that is asked for.
 
 pub returns-in-Ok-Asked-clause-acts : goal.returns-in-Ok-Asked-clause-acts
-returns-in-Ok-Asked-clause-acts g c = λ text may s w x tells stands set sound chosen there left known.
+returns-in-Ok-Asked-clause-acts g c = λ text may s w x tells stands set sound chosen there left known spelled.
     let S = g.S.SwapDevice in
     let I = g.I.Source in
     let y : Proc = c.index.result.now in
@@ -158,7 +165,9 @@ returns-in-Ok-Asked-clause-acts g c = λ text may s w x tells stands set sound c
     let asks = asked_between _ c.in-Ok-Asked.arguments c.in-Ok-Asked.next c.in-Ok-Asked.field-0-is b w _ _ _ _ _ _ _ _ steps in
     acts_from b w x (parts_in c.call.new.self (S.blocks c.call.new.swap) (S.block c.call.new.swap)) _ c.call.result asks.still.input asks.still.to_console asks.still.to_report
     (c.call.ensures.acts s w x (left_as text (I.left c.args.input.now) (I.past c.args.input.now)) (g.C.Sink.taken c.args.console.now) tells asks.still.stands (c.step.ensures.set s set) sound chosen there
-    asks.cpu left asks.effect)
+    asks.cpu left
+    (spelled_by c.step.new.self.store c.args.self.now.names c.step.new.self.names w c.step.ensures.names (spelled_shape c.args.self.now.store c.step.new.self.store c.step.ensures.shape.tables c.args.self.now.names w spelled))
+    asks.effect)
 
 pub returns-in-Ok-Asked-clause-still : goal.returns-in-Ok-Asked-clause-still
 returns-in-Ok-Asked-clause-still g c =
@@ -175,7 +184,7 @@ returns-in-Ok-Asked-clause-swap_stops g c =
     (λ rose. rose_since _ _ _ c.step.ensures.swap_count rose) c.call.ensures.swap_stops
 
 pub returns-in-Ok-Asked-clause-next_room : goal.returns-in-Ok-Asked-clause-next_room
-returns-in-Ok-Asked-clause-next_room g c = λ text may s w x tells stands set sound chosen there left known.
+returns-in-Ok-Asked-clause-next_room g c = λ text may s w x tells stands set sound chosen there left known spelled.
     let S = g.S.SwapDevice in
     let m = c.args.self.now in
     let new = c.step.new in
@@ -191,7 +200,9 @@ returns-in-Ok-Asked-clause-next_room g c = λ text may s w x tells stands set so
     asked_room _ c.in-Ok-Asked.arguments c.in-Ok-Asked.next c.in-Ok-Asked.field-0-is (λ z. room_in m.store (all_names b (bound_registers (hold_in m.regions pid) z)) ≤ m.store.places.size) (effect b).cpu b.cpu
     (c.in-Ok-Asked.ensures.room text may s w x told stands there cpu left known) in
     subst (λ (n : ℕ). SaysRoom n s w c.call.result) c.step.ensures.device.0
-    (c.call.ensures.next_room s w x tells asks.still.stands (c.step.ensures.set s set) sound chosen there asks.cpu asks.called
+    (c.call.ensures.next_room s w x tells asks.still.stands (c.step.ensures.set s set) sound chosen there asks.cpu
+    (spelled_by c.step.new.self.store c.args.self.now.names c.step.new.self.names w c.step.ensures.names (spelled_shape c.args.self.now.store c.step.new.self.store c.step.ensures.shape.tables c.args.self.now.names w spelled))
+    asks.called
     (room_kept m.store new.self.store m.regions new.self.regions c.step.ensures.shape b pid b.cpu room))
 
 pub returns-in-Ok-Asked-clause-set : goal.returns-in-Ok-Asked-clause-set
@@ -238,3 +249,48 @@ returns-in-Ok-Asked-clause-puts g c =
 
 pub returns-in-Ok-Asked-clause-part : goal.returns-in-Ok-Asked-clause-part
 returns-in-Ok-Asked-clause-part g c = λ text may s w x tells stands there left known. part_none (effect (before s w c.args.pid x)) _ c.call.result c.call.ensures.no_sink
+
+pub returns-in-Err-clause-held : goal.returns-in-Err-clause-held
+returns-in-Err-clause-held g c = λ k some most. few_more c.step.new.self.regions k (k + 0) (omega arith) (c.step.ensures.held k most)
+
+pub returns-in-Ok-Ran-clause-held : goal.returns-in-Ok-Ran-clause-held
+returns-in-Ok-Ran-clause-held g c = λ k some most. few_more c.commit.new.self.regions k (k + 1) (omega arith) (c.commit.ensures.held k (c.step.ensures.held k most))
+
+pub returns-in-Ok-Asked-clause-held : goal.returns-in-Ok-Asked-clause-held
+returns-in-Ok-Asked-clause-held g c = λ k some most. c.call.ensures.held k some (c.step.ensures.held k most)
+
+-- The names that are kept.
+
+pub returns-in-Err-clause-spells : goal.returns-in-Err-clause-spells
+returns-in-Err-clause-spells g c = λ text may s w x tells stands set sound chosen there left known spelled.
+    spelled_by c.step.new.self.store c.args.self.now.names c.step.new.self.names w c.step.ensures.names (spelled_shape c.args.self.now.store c.step.new.self.store c.step.ensures.shape.tables c.args.self.now.names w spelled)
+
+pub returns-in-Ok-Ran-clause-spells : goal.returns-in-Ok-Ran-clause-spells
+returns-in-Ok-Ran-clause-spells g c = λ text may s w x tells stands set sound chosen there left known spelled.
+    let S = g.S.SwapDevice in
+    let m = c.args.self.now in
+    let pid = c.args.pid in
+    let stepped = c.step.new.self in
+    let last = c.commit.new.self in
+    let y : Proc = c.index.result.now in
+    let was = process_was m.procs.items pid w.processes x c.requires.some c.requires.there (stands.processes pid) there y c.index.ensures in
+    let alive = lived m.procs.items pid w.processes x c.requires.some c.requires.there (stands.processes pid) there m.ends c.requires.together.marked c.requires.live in
+    let steps = c.in-Ok-Ran.ensures.steps text may s w x tells stands there (ap (λ (r : Running). r.cpu) was) left known in
+    let between = ran_between _ c.in-Ok-Ran.ran c.in-Ok-Ran.field-0-is (before s w pid x) w _ _ _ _ _ _ _ _ steps in
+    let acts = returns-in-Ok-Ran-clause-acts g c text may s w x tells stands set sound chosen there left known spelled in
+    λ d current.
+    spelled_by last.store stepped.names last.names (changed w d x (effect (before s w pid x))) c.commit.ensures.names
+    (plain_spelled s w x alive sound stands.tidy stepped.store stepped.regions stepped.names (parts_in last (S.blocks c.step.new.swap) (S.block c.step.new.swap))
+    (c.step.ensures.together.ready (λ k. [])).aged c.step.ensures.together.places c.commit.ensures.behind
+    (spelled_by c.step.new.self.store c.args.self.now.names c.step.new.self.names w c.step.ensures.names (spelled_shape c.args.self.now.store c.step.new.self.store c.step.ensures.shape.tables c.args.self.now.names w spelled)) pid chosen there between.changes acts.matches d current)
+
+pub returns-in-Ok-Asked-clause-spells : goal.returns-in-Ok-Asked-clause-spells
+returns-in-Ok-Asked-clause-spells g c = λ text may s w x tells stands set sound chosen there left known spelled.
+    let y : Proc = c.index.result.now in
+    let was = process_was c.args.self.now.procs.items c.args.pid w.processes x c.requires.some c.requires.there (stands.processes c.args.pid) there y c.index.ensures in
+    let b = before s w c.args.pid x in
+    let told = c.call.ensures.device.1 tells in
+    let steps = c.in-Ok-Asked.ensures.steps text may s w x told stands there (ap (λ (r : Running). r.cpu) was) left known in
+    let asks = asked_between _ c.in-Ok-Asked.arguments c.in-Ok-Asked.next c.in-Ok-Asked.field-0-is b w _ _ _ _ _ _ _ _ steps in
+    c.call.ensures.spells s w x tells asks.still.stands (c.step.ensures.set s set) sound chosen there asks.cpu
+    (spelled_by c.step.new.self.store c.args.self.now.names c.step.new.self.names w c.step.ensures.names (spelled_shape c.args.self.now.store c.step.new.self.store c.step.ensures.shape.tables c.args.self.now.names w spelled)) asks.effect

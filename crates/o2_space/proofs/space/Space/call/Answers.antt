@@ -1,7 +1,11 @@
-use Rattle.std.proofs.Common.{◌≡◌, ◌==◌, List, [], Bool, false, if◌then◌else◌, length, ap, sym, ◌∙◌, arith, refl, subst}
+use Rattle.std.proofs.Common.{◌+◌, ◌≡◌, ◌==◌, List, [], Some, None, Bool, false, if◌then◌else◌, length, ap, sym, ◌∙◌, arith, refl, subst}
 use Rattle.o2_regions.specs.Lives.{lives}
 use Rattle.o2_world.specs.declared.types.State.TheVariants.{Trapped}
-use Rattle.o2_world.specs.Run.{before}
+use Rattle.o2_shared.specs.Texts.{IsBehind}
+use Rattle.o2_store.specs.Shelf.{Shelf}
+use Rattle.o2_world.specs.Effect.{effect}
+use Rattle.o2_world.specs.Run.{before, changed}
+use Rattle.o2_calls.specs.SharedActs.{AreSpelled}
 use Rattle.o2_world.specs.World.{is_live}
 use Rattle.o2_stands.specs.Parts.{Parts}
 use Rattle.o2_stands.specs.Stands.{StandsIn}
@@ -9,22 +13,24 @@ use Rattle.o2_space.specs.Parts.{parts_in}
 use Rattle.o2_space.proofs.Commits.{lived}
 use Rattle.o2_space.proofs.Askings.{no_step, none_put, not_caused, not_sink, stops_stay, told_puts}
 use Rattle.o2_space.proofs.Alike.{retold}
-use Rattle.o2_space.proofs.Replied.{acts_live, acts_trapped, alone_known, dead_state_is, orderly_call, then_trapped}
+use Rattle.o2_space.proofs.Replied.{acts_live, acts_trapped, alone_known, dead_state_is, orderly_call, spells_live, spells_trapped, then_trapped}
+use Rattle.o2_space.proofs.SpelledCalls.{called_spelled, trapped_spelled}
+use Rattle.o2_space.proofs.Spelling.{spelled_by, spelled_still}
 use Rattle.o2_space.proofs.space.Space.call.Goals as goal
 
 -- A call that stops.
 
 pub returns-in-Err-clause-acts : goal.returns-in-Err-clause-acts
-returns-in-Err-clause-acts g c = λ s w x i k tells stands set sound chosen there same input eff.
+returns-in-Err-clause-acts g c = λ s w x i k tells stands set sound chosen there same input spelled eff.
     let S = g.S.SwapDevice in
     stops_stay (before s w c.args.pid x) w x (parts_in c.make_call.new.self (S.blocks c.make_call.new.swap) (S.block c.make_call.new.swap)) i k _ c.in-Err.fault c.in-Err.ensures.stops
-    (c.in-Err.ensures.makes s w x tells stands set sound.tied there same)
+    (c.in-Err.ensures.makes s w x tells stands set sound.tied there same spelled)
 
 pub returns-in-Err-clause-next_room : goal.returns-in-Err-clause-next_room
-returns-in-Err-clause-next_room g c = λ s w x tells stands set sound chosen there same call room.
+returns-in-Err-clause-next_room g c = λ s w x tells stands set sound chosen there same spelled call room.
     let m = c.args.self.now in
     let alive = lived m.procs.items c.args.pid w.processes x c.requires.can_step.process.0 c.requires.there (stands.processes c.args.pid) there m.ends c.requires.together.marked c.requires.live in
-    c.in-Err.ensures.room s w x tells stands set sound chosen there alive same call room
+    c.in-Err.ensures.room s w x tells stands set sound chosen there alive same spelled call room
 
 pub returns-in-Err-clause-still : goal.returns-in-Err-clause-still
 returns-in-Err-clause-still g c = no_step _ c.in-Err.fault refl
@@ -77,22 +83,22 @@ commit-requires-then-not-is_live-clause-settled g c =
 -- A call that its process outlives.
 
 pub returns-else-not-is_live-clause-acts : goal.returns-else-not-is_live-clause-acts
-returns-else-not-is_live-clause-acts g c = λ s w x i k tells stands set sound chosen there same input eff.
+returns-else-not-is_live-clause-acts g c = λ s w x i k tells stands set sound chosen there same input spelled eff.
     let S = g.S.SwapDevice in
     let m = c.args.self.now in
     let p : Parts = parts_in m (S.blocks c.args.swap.now) (S.block c.args.swap.now) in
     let made = c.make_call.new in
     let q : Parts = parts_in made.self (S.blocks made.swap) (S.block made.swap) in
     let told = c.reply-ran.ensures in
-    acts_live s w x c.args.pid c.args.arguments c.args.next made.cpu q c.in-Ok.answer (c.in-Ok.ensures.makes s w x tells stands set sound.tied there same)
-    (alone_known p s w stands c.requires.together.alone c.args.pid) c.args.registers same eff _ _ i k c.reply-ran.result (record { state = told.state; bytes = told.bytes; lines = told.lines; report = told.report }) input
+    acts_live s w x c.args.pid c.args.arguments c.args.next made.cpu q c.in-Ok.answer (c.in-Ok.ensures.makes s w x tells stands set sound.tied there same spelled)
+    (alone_known p s w stands c.requires.together.alone) c.args.registers same eff _ _ i k c.reply-ran.result (record { state = told.state; bytes = told.bytes; lines = told.lines; report = told.report }) input
     (sym c.if-not-is_live.ensures) (parts_in c.commit.new.self (S.blocks made.swap) (S.block made.swap)) (c.commit.ensures.put refl (S.blocks made.swap) (S.block made.swap))
 
 pub returns-else-not-is_live-clause-next_room : goal.returns-else-not-is_live-clause-next_room
-returns-else-not-is_live-clause-next_room g c = λ s w x tells stands set sound chosen there same call room.
+returns-else-not-is_live-clause-next_room g c = λ s w x tells stands set sound chosen there same spelled call room.
     let m = c.args.self.now in
     let alive = lived m.procs.items c.args.pid w.processes x c.requires.can_step.process.0 c.requires.there (stands.processes c.args.pid) there m.ends c.requires.together.marked c.requires.live in
-    c.in-Ok.ensures.room s w x tells stands set sound chosen there alive same call room
+    c.in-Ok.ensures.room s w x tells stands set sound chosen there alive same spelled call room
 
 pub returns-else-not-is_live-clause-together : goal.returns-else-not-is_live-clause-together
 returns-else-not-is_live-clause-together g c =
@@ -125,7 +131,7 @@ returns-else-not-is_live-clause-puts g c = λ k. told_puts k _ _ c.reply-ran.res
 -- A call behind which exception 1 ends its process.
 
 pub returns-then-not-is_live-clause-acts : goal.returns-then-not-is_live-clause-acts
-returns-then-not-is_live-clause-acts g c = λ s w x i k tells stands set sound chosen there same input eff.
+returns-then-not-is_live-clause-acts g c = λ s w x i k tells stands set sound chosen there same input spelled eff.
     let S = g.S.SwapDevice in
     let m = c.args.self.now in
     let pid = c.args.pid in
@@ -134,8 +140,8 @@ returns-then-not-is_live-clause-acts g c = λ s w x i k tells stands set sound c
     let q : Parts = parts_in made.self (S.blocks made.swap) (S.block made.swap) in
     let z : Parts = parts_in c.commit-then-not-is_live.new.self (S.blocks made.swap) (S.block made.swap) in
     let told = c.reply-ran.ensures in
-    let called = c.in-Ok.ensures.makes s w x tells stands set sound.tied there same in
-    let alone = alone_known p s w stands c.requires.together.alone pid in
+    let called = c.in-Ok.ensures.makes s w x tells stands set sound.tied there same spelled in
+    let alone = alone_known p s w stands c.requires.together.alone in
     let alive = lived m.procs.items pid w.processes x c.requires.can_step.process.0 c.requires.there (stands.processes pid) there m.ends c.requires.together.marked c.requires.live in
     let dead : is_live c.reply-ran.result.state ≡ false = sym c.if-not-is_live.ensures in
     let put = c.commit.ensures.put refl (S.blocks made.swap) (S.block made.swap) in
@@ -147,10 +153,10 @@ returns-then-not-is_live-clause-acts g c = λ s w x i k tells stands set sound c
     (subst (λ (o : Parts). StandsIn o v.processes v.names v.next_name v.reserved) (sym put) standing) found live refl (sym (dead_state_is c.args.registers c.reply-ran.result.state told.state dead))))
 
 pub returns-then-not-is_live-clause-next_room : goal.returns-then-not-is_live-clause-next_room
-returns-then-not-is_live-clause-next_room g c = λ s w x tells stands set sound chosen there same call room.
+returns-then-not-is_live-clause-next_room g c = λ s w x tells stands set sound chosen there same spelled call room.
     let m = c.args.self.now in
     let alive = lived m.procs.items c.args.pid w.processes x c.requires.can_step.process.0 c.requires.there (stands.processes c.args.pid) there m.ends c.requires.together.marked c.requires.live in
-    c.in-Ok.ensures.room s w x tells stands set sound chosen there alive same call room
+    c.in-Ok.ensures.room s w x tells stands set sound chosen there alive same spelled call room
 
 pub returns-then-not-is_live-clause-together : goal.returns-then-not-is_live-clause-together
 returns-then-not-is_live-clause-together g c =
@@ -182,3 +188,78 @@ returns-then-not-is_live-clause-avail g c = c.commit-then-not-is_live.ensures.av
 
 pub returns-then-not-is_live-clause-puts : goal.returns-then-not-is_live-clause-puts
 returns-then-not-is_live-clause-puts g c = λ k. told_puts k _ _ c.reply-ran.result c.reply-ran.ensures.bytes (c.reply-ran.ensures.puts k)
+
+pub returns-else-not-is_live-clause-held : goal.returns-else-not-is_live-clause-held
+returns-else-not-is_live-clause-held g c = λ k some most. c.commit.ensures.held (k + 1) (c.in-Ok.ensures.held k some most)
+
+pub returns-then-not-is_live-clause-held : goal.returns-then-not-is_live-clause-held
+returns-then-not-is_live-clause-held g c = λ k some most. c.commit-then-not-is_live.ensures.held (k + 1) (c.commit.ensures.held (k + 1) (c.in-Ok.ensures.held k some most))
+
+pub returns-in-Err-clause-held : goal.returns-in-Err-clause-held
+returns-in-Err-clause-held g c = λ k some most. c.in-Err.ensures.held k some most
+
+-- The names that are kept.
+
+pub returns-in-Err-clause-spells : goal.returns-in-Err-clause-spells
+returns-in-Err-clause-spells g c = λ s w x tells stands set sound chosen there same spelled eff.
+    let S = g.S.SwapDevice in
+    let m = c.args.self.now in
+    let made = c.make_call.new in
+    let p : Parts = parts_in made.self (S.blocks made.swap) (S.block made.swap) in
+    spelled_by made.self.store m.names made.self.names w (c.in-Err.ensures.spells s w x stands set same spelled)
+    (spelled_still m.store m.regions m.names p w (c.requires.together.ready (λ k. [])).aged c.requires.together.places c.make_call.ensures.behind spelled
+    (c.in-Err.ensures.makes s w x tells stands set sound.tied there same spelled) sound)
+
+pub returns-else-not-is_live-clause-spells : goal.returns-else-not-is_live-clause-spells
+returns-else-not-is_live-clause-spells g c = λ s w x tells stands set sound chosen there same spelled eff.
+    let S = g.S.SwapDevice in
+    let m = c.args.self.now in
+    let pid = c.args.pid in
+    let a = c.args.arguments in
+    let next = c.args.next in
+    let p : Parts = parts_in m (S.blocks c.args.swap.now) (S.block c.args.swap.now) in
+    let made = c.make_call.new in
+    let q : Parts = parts_in made.self (S.blocks made.swap) (S.block made.swap) in
+    let told = c.reply-ran.ensures in
+    let called = c.in-Ok.ensures.makes s w x tells stands set sound.tied there same spelled in
+    let alone = alone_known p s w stands c.requires.together.alone in
+    let alive = lived m.procs.items pid w.processes x c.requires.can_step.process.0 c.requires.there (stands.processes pid) there m.ends c.requires.together.marked c.requires.live in
+    let behind =
+    called_spelled s w x alive sound stands.tidy a next m.store m.regions made.cpu q c.in-Ok.answer m.names made.self.names (c.requires.together.ready (λ k. [])).aged c.requires.together.places
+    c.make_call.ensures.behind spelled pid chosen there (orderly_call (before s w pid x) a next alone eff) called (c.in-Ok.ensures.spells s w x stands set same spelled) in
+    let store = ap (λ (z : Parts). z.shelf) (c.commit.ensures.put refl (S.blocks made.swap) (S.block made.swap)) in
+    λ d current.
+    spelled_by c.commit.new.self.store made.self.names c.commit.new.self.names (changed w d x (effect (before s w pid x))) c.commit.ensures.names
+    (subst (λ (z : Shelf). AreSpelled z made.self.names (changed w d x (effect (before s w pid x)))) (sym store)
+    (spells_live s w x pid a next made.cpu q c.in-Ok.answer called alone c.args.registers same eff _ _ (Some w.input) None c.reply-ran.result
+    (record { state = told.state; bytes = told.bytes; lines = told.lines; report = told.report }) refl (sym c.if-not-is_live.ensures) made.self.store made.self.names behind d current))
+
+pub returns-then-not-is_live-clause-spells : goal.returns-then-not-is_live-clause-spells
+returns-then-not-is_live-clause-spells g c = λ s w x tells stands set sound chosen there same spelled eff.
+    let S = g.S.SwapDevice in
+    let m = c.args.self.now in
+    let pid = c.args.pid in
+    let a = c.args.arguments in
+    let next = c.args.next in
+    let p : Parts = parts_in m (S.blocks c.args.swap.now) (S.block c.args.swap.now) in
+    let made = c.make_call.new in
+    let q : Parts = parts_in made.self (S.blocks made.swap) (S.block made.swap) in
+    let last = c.commit-then-not-is_live.new.self in
+    let z : Parts = parts_in last (S.blocks made.swap) (S.block made.swap) in
+    let told = c.reply-ran.ensures in
+    let called = c.in-Ok.ensures.makes s w x tells stands set sound.tied there same spelled in
+    let alone = alone_known p s w stands c.requires.together.alone in
+    let alive = lived m.procs.items pid w.processes x c.requires.can_step.process.0 c.requires.there (stands.processes pid) there m.ends c.requires.together.marked c.requires.live in
+    let orderly = orderly_call (before s w pid x) a next alone eff in
+    let behind =
+    called_spelled s w x alive sound stands.tidy a next m.store m.regions made.cpu q c.in-Ok.answer m.names made.self.names (c.requires.together.ready (λ k. [])).aged c.requires.together.places
+    c.make_call.ensures.behind spelled pid chosen there orderly called (c.in-Ok.ensures.spells s w x stands set same spelled) in
+    let store = ap (λ (y : Parts). y.shelf) (c.commit.ensures.put refl (S.blocks made.swap) (S.block made.swap)) in
+    let gone = subst (λ (y : Shelf). IsBehind y last.store) store c.commit-then-not-is_live.ensures.behind in
+    let acts = returns-then-not-is_live-clause-acts g c s w x (Some w.input) None tells stands set sound chosen there same refl spelled eff in
+    λ d current.
+    spelled_by last.store made.self.names last.names (changed w d x (effect (before s w pid x))) (c.commit-then-not-is_live.ensures.names ∙ c.commit.ensures.names)
+    (spells_trapped s w x pid a next made.cpu q c.in-Ok.answer called alone c.args.registers same eff _ _ (Some w.input) None c.reply-ran.result
+    (record { state = told.state; bytes = told.bytes; lines = told.lines; report = told.report }) refl (sym c.if-not-is_live.ensures) z made.self.names
+    (λ matches. trapped_spelled s w x alive sound stands.tidy a next made.self.store made.self.regions made.self.names z (c.make_call.ensures.together.ready (λ k. [])).aged c.make_call.ensures.together.places gone
+    pid chosen there orderly behind matches) acts.matches d current)

@@ -4,6 +4,8 @@ use Rattle.o2_world.specs.World.{is_live as lives_on}
 use Rattle.o2_space.specs.declared.space.Proc.{Proc}
 use Rattle.o2_space.specs.Parts.{parts_in, running_at, running_in}
 use Rattle.o2_space.proofs.Alone.{alone_let_go, whole_same}
+use Rattle.o2_shared.proofs.Staying.{stay_in_place}
+use Rattle.o2_space.proofs.SharedKept.{ended_few, ended_lived, ended_shares}
 use Rattle.o2_space.proofs.Alike.{ready_as, set_as}
 use Rattle.o2_space.proofs.Commits.{count_put, marked_end, marked_put, now, parts_put, set_ended, stands_ended, stands_live}
 use Rattle.o2_space.proofs.space.Space.commit.Goals as goal
@@ -38,6 +40,8 @@ returns-then-not-is_live-clause-together c = λ device here together.
           (c.end.ensures.marked (parts_in m device (λ k. [])) (running_in y) dead together.marked);
       alone = alone_let_go m.regions n c.args.pid (λ i. true) c.end.ensures.maps together.alone;
       whole = whole_same m.regions n c.end.ensures.maps.processes c.end.ensures.maps.lengths together.whole;
+      one = (ended_shares m.store t m.regions n c.args.pid c.end.ensures.maps c.end.ensures.store).one together.one;
+      places = stay_in_place m.store t m.regions n m.names together.places (ended_shares m.store t m.regions n c.args.pid c.end.ensures.maps c.end.ensures.store) (let e = c.end.ensures.store.made in omega (arith, e));
     }
 
 pub returns-else-not-is_live-clause-together : goal.returns-else-not-is_live-clause-together
@@ -51,6 +55,8 @@ returns-else-not-is_live-clause-together c = λ device here together.
       marked = marked_put m.procs.items c.args.pid y c.requires.process.0 c.requires.there m.ends together.marked (here ∙ sym live);
       alone = together.alone;
       whole = together.whole;
+      one = together.one;
+      places = together.places;
     }
 
 pub returns-then-not-is_live-clause-set : goal.returns-then-not-is_live-clause-set
@@ -76,3 +82,14 @@ pub returns-else-not-is_live-clause-put : goal.returns-else-not-is_live-clause-p
 returns-else-not-is_live-clause-put c = λ live device block.
     let m = c.args.self.now in
     parts_put m.procs.items c.args.pid (record { cpu = c.args.cpu.now; state = c.args.state }) c.requires.process.0 c.requires.there (parts_in m device block) refl
+
+pub returns-then-not-is_live-clause-held : goal.returns-then-not-is_live-clause-held
+returns-then-not-is_live-clause-held c = ended_few c.args.self.now.store c.end.new.store c.args.self.now.regions c.end.new.regions c.args.pid c.end.ensures.maps c.end.ensures.store
+
+pub returns-then-not-is_live-clause-behind : goal.returns-then-not-is_live-clause-behind
+returns-then-not-is_live-clause-behind c = record {
+  lived = λ id old alive. ended_lived c.args.self.now.store c.end.new.store c.args.self.now.regions c.end.new.regions c.args.pid c.end.ensures.maps c.end.ensures.store id alive;
+}
+
+pub returns-else-not-is_live-clause-behind : goal.returns-else-not-is_live-clause-behind
+returns-else-not-is_live-clause-behind c = record { lived = λ id old alive. alive }

@@ -1,4 +1,4 @@
-use Rattle.std.proofs.Common.{ℕ, [], length, ap, sym, ◌∙◌, refl, arith, subst}
+use Rattle.std.proofs.Common.{◌+◌, ℕ, [], length, ap, sym, ◌∙◌, refl, arith, subst}
 use Rattle.o2_isa.specs.declared.cpu.Cpu.{Cpu}
 use Rattle.o2_world.specs.declared.types.State.TheVariants.{Live}
 use Rattle.o2_world.specs.Known.{known_of}
@@ -16,6 +16,10 @@ use Rattle.o2_stands.specs.Moves.{moved, stepped_to, with_running}
 use Rattle.o2_stands.specs.Parts.{Parts}
 use Rattle.o2_stands.specs.Stands.{Matches, Stands}
 use Rattle.o2_space.specs.Parts.{parts_in, running_at}
+use Rattle.o2_shared.proofs.Staying.{stay_in_place}
+use Rattle.o2_space.proofs.SharedKept.{few_as, given_grows, given_shares, living_are, spells_of}
+use Rattle.o2_space.proofs.Spelling.{leaves_written, stops_unnamed}
+use Rattle.o2_calls.specs.SharedActs.{LeavesSpelled}
 use Rattle.o2_space.proofs.Aimed.{aimed_kept}
 use Rattle.o2_space.proofs.Alone.{alone_held, whole_same}
 use Rattle.o2_space.proofs.Called.{called}
@@ -46,6 +50,18 @@ act-requires-clause-device g c = (c.requires.together.ready (λ k. [])).device
 pub act-requires-clause-alone : goal.act-requires-clause-alone
 act-requires-clause-alone g c = c.requires.together.alone
 
+pub act-requires-clause-one : goal.act-requires-clause-one
+act-requires-clause-one g c = c.requires.together.one
+
+pub act-requires-clause-few : goal.act-requires-clause-few
+act-requires-clause-few g c = c.requires.few
+
+pub act-requires-clause-living : goal.act-requires-clause-living
+act-requires-clause-living g c = (let m = c.args.self.now in living_are m.procs.items m.regions m.ends c.requires.together.numbers c.requires.together.marked)
+
+pub act-requires-clause-places : goal.act-requires-clause-places
+act-requires-clause-places g c = c.requires.together.places
+
 pub give-requires-clause-process : goal.give-requires-clause-process
 give-requires-clause-process g c = process_called c.args.self.now.regions c.act.new.regions c.args.pid c.act.ensures.processes c.requires.can_step.process
 
@@ -75,21 +91,23 @@ give-requires-clause-value g c = value_of c.args.arguments c.in-Done.answer c.in
 -- A call that stops.
 
 pub returns-in-NoRoom-clause-makes : goal.returns-in-NoRoom-clause-makes
-returns-in-NoRoom-clause-makes g c = λ s w x tells stands set tied there same.
+returns-in-NoRoom-clause-makes g c = λ s w x tells stands set tied there same spelled.
     let S = g.S.SwapDevice in
     let m = c.args.self.now in
     let p : Parts = parts_in m (S.blocks c.args.swap.now) (S.block c.args.swap.now) in
     on_device (moved p c.act.new.store c.act.new.regions (S.block c.act.new.swap)) (S.blocks c.act.new.swap) (λ (q : Parts). Stands q w) c.act.ensures.device.0
     (stays_at p w c.act.new.store c.act.new.regions (S.block c.act.new.swap)
-    (c.in-NoRoom.ensures.matches p s w x (record { store = refl; regions = refl; pictures = refl; blocks = refl; lawful = c.lawful.ensures; set = set; stands = stands }) tells there tied) stands)
+    (c.in-NoRoom.ensures.matches p s w x (record { store = refl; regions = refl; pictures = refl; blocks = refl; lawful = c.lawful.ensures; set = set; stands = stands })
+    (spells_of c.args.self.now (g.S.SwapDevice.blocks c.args.swap.now) (g.S.SwapDevice.block c.args.swap.now) w c.requires.together stands spelled) tells there tied) stands)
 
 pub returns-in-NoRoom-clause-room : goal.returns-in-NoRoom-clause-room
-returns-in-NoRoom-clause-room g c = λ s w x tells stands set sound chosen there live same call room.
+returns-in-NoRoom-clause-room g c = λ s w x tells stands set sound chosen there live same spelled call room.
     let S = g.S.SwapDevice in
     let p : Parts = parts_in c.args.self.now (S.blocks c.args.swap.now) (S.block c.args.swap.now) in
     lacks_at p s w x c.lawful.ensures set stands live sound c.args.arguments c.args.next c.args.cpu.now same _ c.args.pid chosen
-    (record { there = there; call = call; alone = alone_known p s w stands c.requires.together.alone c.args.pid; step = c.requires.can_step; ready = c.requires.aimed; keeps = c.ids.ensures ∙ ap segments_of c.call_need-need.ensures })
-    (c.in-NoRoom.ensures.row p s w (record { store = refl; regions = refl; pictures = refl; blocks = refl; lawful = c.lawful.ensures; set = set; stands = stands }))
+    (record { there = there; call = call; alone = alone_known p s w stands c.requires.together.alone; step = c.requires.can_step; ready = c.requires.aimed; keeps = c.ids.ensures ∙ ap segments_of c.call_need-need.ensures })
+    (c.in-NoRoom.ensures.row p s w (record { store = refl; regions = refl; pictures = refl; blocks = refl; lawful = c.lawful.ensures; set = set; stands = stands })
+    (spells_of c.args.self.now (g.S.SwapDevice.blocks c.args.swap.now) (g.S.SwapDevice.block c.args.swap.now) w c.requires.together stands spelled))
     (c.in-NoRoom.ensures.stops tt) (c.in-NoRoom.ensures.no_room refl)
 
 pub returns-in-NoRoom-clause-together : goal.returns-in-NoRoom-clause-together
@@ -105,6 +123,8 @@ returns-in-NoRoom-clause-together g c =
       marked = c.requires.together.marked;
       alone = e.limits.alone c.requires.together.alone;
       whole = e.order.tables;
+      one = e.limits.shares.one c.requires.together.one;
+      places = e.places;
     }
 
 pub returns-in-NoRoom-clause-set : goal.returns-in-NoRoom-clause-set
@@ -118,21 +138,23 @@ pub returns-in-NoRoom-clause-made : goal.returns-in-NoRoom-clause-made
 returns-in-NoRoom-clause-made g c = (let a = c.in-NoRoom.ensures.limits.made in omega (arith, a))
 
 pub returns-in-SwapFull-clause-makes : goal.returns-in-SwapFull-clause-makes
-returns-in-SwapFull-clause-makes g c = λ s w x tells stands set tied there same.
+returns-in-SwapFull-clause-makes g c = λ s w x tells stands set tied there same spelled.
     let S = g.S.SwapDevice in
     let m = c.args.self.now in
     let p : Parts = parts_in m (S.blocks c.args.swap.now) (S.block c.args.swap.now) in
     on_device (moved p c.act.new.store c.act.new.regions (S.block c.act.new.swap)) (S.blocks c.act.new.swap) (λ (q : Parts). Stands q w) c.act.ensures.device.0
     (stays_at p w c.act.new.store c.act.new.regions (S.block c.act.new.swap)
-    (c.in-SwapFull.ensures.matches p s w x (record { store = refl; regions = refl; pictures = refl; blocks = refl; lawful = c.lawful.ensures; set = set; stands = stands }) tells there tied) stands)
+    (c.in-SwapFull.ensures.matches p s w x (record { store = refl; regions = refl; pictures = refl; blocks = refl; lawful = c.lawful.ensures; set = set; stands = stands })
+    (spells_of c.args.self.now (g.S.SwapDevice.blocks c.args.swap.now) (g.S.SwapDevice.block c.args.swap.now) w c.requires.together stands spelled) tells there tied) stands)
 
 pub returns-in-SwapFull-clause-room : goal.returns-in-SwapFull-clause-room
-returns-in-SwapFull-clause-room g c = λ s w x tells stands set sound chosen there live same call room.
+returns-in-SwapFull-clause-room g c = λ s w x tells stands set sound chosen there live same spelled call room.
     let S = g.S.SwapDevice in
     let p : Parts = parts_in c.args.self.now (S.blocks c.args.swap.now) (S.block c.args.swap.now) in
     full_at p s w x c.lawful.ensures set stands live sound c.args.arguments c.args.next c.args.cpu.now same _ c.args.pid chosen
-    (record { there = there; call = call; alone = alone_known p s w stands c.requires.together.alone c.args.pid; step = c.requires.can_step; ready = c.requires.aimed; keeps = c.ids.ensures ∙ ap segments_of c.call_need-need.ensures })
-    (c.in-SwapFull.ensures.row p s w (record { store = refl; regions = refl; pictures = refl; blocks = refl; lawful = c.lawful.ensures; set = set; stands = stands }))
+    (record { there = there; call = call; alone = alone_known p s w stands c.requires.together.alone; step = c.requires.can_step; ready = c.requires.aimed; keeps = c.ids.ensures ∙ ap segments_of c.call_need-need.ensures })
+    (c.in-SwapFull.ensures.row p s w (record { store = refl; regions = refl; pictures = refl; blocks = refl; lawful = c.lawful.ensures; set = set; stands = stands })
+    (spells_of c.args.self.now (g.S.SwapDevice.blocks c.args.swap.now) (g.S.SwapDevice.block c.args.swap.now) w c.requires.together stands spelled))
     (c.in-SwapFull.ensures.stops tt) (c.in-SwapFull.ensures.swap_full refl)
 
 pub returns-in-SwapFull-clause-together : goal.returns-in-SwapFull-clause-together
@@ -148,6 +170,8 @@ returns-in-SwapFull-clause-together g c =
       marked = c.requires.together.marked;
       alone = e.limits.alone c.requires.together.alone;
       whole = e.order.tables;
+      one = e.limits.shares.one c.requires.together.one;
+      places = e.places;
     }
 
 pub returns-in-SwapFull-clause-set : goal.returns-in-SwapFull-clause-set
@@ -161,13 +185,14 @@ pub returns-in-SwapFull-clause-made : goal.returns-in-SwapFull-clause-made
 returns-in-SwapFull-clause-made g c = (let a = c.in-SwapFull.ensures.limits.made in omega (arith, a))
 
 pub returns-in-SwapFault-clause-makes : goal.returns-in-SwapFault-clause-makes
-returns-in-SwapFault-clause-makes g c = λ s w x tells stands set tied there same.
+returns-in-SwapFault-clause-makes g c = λ s w x tells stands set tied there same spelled.
     let S = g.S.SwapDevice in
     let m = c.args.self.now in
     let p : Parts = parts_in m (S.blocks c.args.swap.now) (S.block c.args.swap.now) in
     on_device (moved p c.act.new.store c.act.new.regions (S.block c.act.new.swap)) (S.blocks c.act.new.swap) (λ (q : Parts). Stands q w) c.act.ensures.device.0
     (stays_at p w c.act.new.store c.act.new.regions (S.block c.act.new.swap)
-    (c.in-SwapFault.ensures.matches p s w x (record { store = refl; regions = refl; pictures = refl; blocks = refl; lawful = c.lawful.ensures; set = set; stands = stands }) tells there tied) stands)
+    (c.in-SwapFault.ensures.matches p s w x (record { store = refl; regions = refl; pictures = refl; blocks = refl; lawful = c.lawful.ensures; set = set; stands = stands })
+    (spells_of c.args.self.now (g.S.SwapDevice.blocks c.args.swap.now) (g.S.SwapDevice.block c.args.swap.now) w c.requires.together stands spelled) tells there tied) stands)
 
 pub returns-in-SwapFault-clause-together : goal.returns-in-SwapFault-clause-together
 returns-in-SwapFault-clause-together g c =
@@ -182,6 +207,8 @@ returns-in-SwapFault-clause-together g c =
       marked = c.requires.together.marked;
       alone = e.limits.alone c.requires.together.alone;
       whole = e.order.tables;
+      one = e.limits.shares.one c.requires.together.one;
+      places = e.places;
     }
 
 pub returns-in-SwapFault-clause-set : goal.returns-in-SwapFault-clause-set
@@ -200,7 +227,7 @@ returns-in-SwapFault-clause-fault g c = c.in-SwapFault.ensures.cause refl
 -- A call that is made.
 
 pub returns-in-Done-clause-makes : goal.returns-in-Done-clause-makes
-returns-in-Done-clause-makes g c = λ s w x tells stands set tied there same.
+returns-in-Done-clause-makes g c = λ s w x tells stands set tied there same spelled.
     let S = g.S.SwapDevice in
     let m = c.args.self.now in
     let pid = c.args.pid in
@@ -213,15 +240,16 @@ returns-in-Done-clause-makes g c = λ s w x tells stands set tied there same.
     let e = c.act.ensures in
     let p : Parts = parts_in m (S.blocks c.args.swap.now) (S.block c.args.swap.now) in
     let over : IsOver m.store m.regions m.images (S.block c.args.swap.now) p s w = record { store = refl; regions = refl; pictures = refl; blocks = refl; lawful = c.lawful.ensures; set = set; stands = stands } in
-    let answers = subst (λ (z : Cpu). Answers (ruling_of a (known_of s w) pid z) c.in-Done.answer) same (c.in-Done.ensures.row p s w over) in
+    let spells = spells_of m (S.blocks c.args.swap.now) (S.block c.args.swap.now) w c.requires.together stands spelled in
+    let answers = subst (λ (z : Cpu). Answers (ruling_of a (known_of s w) pid z) c.in-Done.answer) same (c.in-Done.ensures.row p s w over spells) in
     let behind = replied_by a (before s w pid x) c.args.next in
     let registers =
     c.come_back.ensures
-    ∙ (ap (λ (z : Cpu). returned z c.args.next (words_of a) c.in-Done.answer.error) (e.registers p s w over ∙ ap (cpu_of a (known_of s w) pid) same)
+    ∙ (ap (λ (z : Cpu). returned z c.args.next (words_of a) c.in-Done.answer.error) (e.registers p s w over spells ∙ ap (cpu_of a (known_of s w) pid) same)
     ∙ ap (λ (k : ℕ). returned (cpu_of a (known_of s w) pid x.cpu) c.args.next (words_of a) k) answers.error) in
     let matches =
     subst (λ (z : Cpu). Matches (moved p t n block) (with_all w (ruling_of a (known_of s w) pid z).changes)) same
-    (c.in-Done.ensures.matches p s w x over tells there tied) in
+    (c.in-Done.ensures.matches p s w x over spells tells there tied) in
     let ready =
     ready_called m.store t m.regions n m.images (S.blocks c.args.swap.now) (S.block c.args.swap.now) block (running_at m.procs.items) (c.requires.together.ready (S.block c.args.swap.now))
     e.order e.guards e.clean e.pictures e.map (S.blocks c.args.swap.now) refl in
@@ -259,6 +287,8 @@ returns-in-Done-clause-together g c =
       marked = c.requires.together.marked;
       alone = alone_held n o given.maps.held (e.limits.alone c.requires.together.alone);
       whole = whole_same n o given.maps.processes given.maps.lengths e.order.tables;
+      one = (given_shares t u n o given.store given.maps).one (e.limits.shares.one c.requires.together.one);
+      places = stay_in_place t u n o c.act.new.names e.places (given_shares t u n o given.store given.maps) (given_grows t u given.store);
     }
 
 pub returns-in-Done-clause-set : goal.returns-in-Done-clause-set
@@ -276,12 +306,82 @@ pub returns-in-Done-clause-made : goal.returns-in-Done-clause-made
 returns-in-Done-clause-made g c = (let a = c.in-Done.ensures.limits.made in let b = ap (λ z. z.made) c.give.ensures.store.store in omega (arith, a, b))
 
 pub returns-in-Done-clause-room : goal.returns-in-Done-clause-room
-returns-in-Done-clause-room g c = λ s w x tells stands set sound chosen there live same call room.
+returns-in-Done-clause-room g c = λ s w x tells stands set sound chosen there live same spelled call room.
     let S = g.S.SwapDevice in
     let p : Parts = parts_in c.args.self.now (S.blocks c.args.swap.now) (S.block c.args.swap.now) in
     let q : Parts = parts_in (record c.args.self.now { store = c.give.new.store; regions = c.give.new.regions }) (S.blocks c.act.new.swap) (S.block c.act.new.swap) in
     let e = c.act.ensures in
     fits_at p s w x c.lawful.ensures set stands live sound c.args.arguments c.args.next c.args.cpu.now same _ c.args.pid chosen
-    (record { there = there; call = call; alone = alone_known p s w stands c.requires.together.alone c.args.pid; step = c.requires.can_step; ready = c.requires.aimed; keeps = c.ids.ensures ∙ ap segments_of c.call_need-need.ensures })
+    (record { there = there; call = call; alone = alone_known p s w stands c.requires.together.alone; step = c.requires.can_step; ready = c.requires.aimed; keeps = c.ids.ensures ∙ ap segments_of c.call_need-need.ensures })
     c.act.new.store c.act.new.regions e.holds e.limits.size q c.lawful-in-Done-2.ensures (record { kept = e.kept; store = c.give.ensures.store; maps = c.give.ensures.maps }) _ c.in-Done.answer
-    (returns-in-Done-clause-makes g c s w x tells stands set sound.tied there same) room
+    (returns-in-Done-clause-makes g c s w x tells stands set sound.tied there same spelled) room
+
+pub returns-in-NoRoom-clause-held : goal.returns-in-NoRoom-clause-held
+returns-in-NoRoom-clause-held g c = c.in-NoRoom.ensures.limits.few
+
+pub returns-in-SwapFull-clause-held : goal.returns-in-SwapFull-clause-held
+returns-in-SwapFull-clause-held g c = c.in-SwapFull.ensures.limits.few
+
+pub returns-in-SwapFault-clause-held : goal.returns-in-SwapFault-clause-held
+returns-in-SwapFault-clause-held g c = c.in-SwapFault.ensures.limits.few
+
+pub returns-in-Done-clause-held : goal.returns-in-Done-clause-held
+returns-in-Done-clause-held g c = λ k some most. few_as c.act.new.regions c.give.new.regions c.give.ensures.maps.held (k + 1) (c.in-Done.ensures.limits.few k some most)
+
+pub returns-in-NoRoom-clause-spells : goal.returns-in-NoRoom-clause-spells
+returns-in-NoRoom-clause-spells g c = λ s w x stands set same spelled.
+    let S = g.S.SwapDevice in
+    let m = c.args.self.now in
+    let p : Parts = parts_in m (S.blocks c.args.swap.now) (S.block c.args.swap.now) in
+    stops_unnamed c.args.arguments (c.in-NoRoom.ensures.stops tt) c.act.new.store m.names c.act.new.names (with_all w (ruling_of c.args.arguments (known_of s w) c.args.pid c.args.cpu.now).changes)
+    (c.act.ensures.spells p s w (record { store = refl; regions = refl; pictures = refl; blocks = refl; lawful = c.lawful.ensures; set = set; stands = stands })
+    (spells_of m (S.blocks c.args.swap.now) (S.block c.args.swap.now) w c.requires.together stands spelled))
+
+pub returns-in-NoRoom-clause-behind : goal.returns-in-NoRoom-clause-behind
+returns-in-NoRoom-clause-behind g c = record { lived = c.act.ensures.limits.shares.lived }
+
+pub returns-in-SwapFull-clause-spells : goal.returns-in-SwapFull-clause-spells
+returns-in-SwapFull-clause-spells g c = λ s w x stands set same spelled.
+    let S = g.S.SwapDevice in
+    let m = c.args.self.now in
+    let p : Parts = parts_in m (S.blocks c.args.swap.now) (S.block c.args.swap.now) in
+    stops_unnamed c.args.arguments (c.in-SwapFull.ensures.stops tt) c.act.new.store m.names c.act.new.names (with_all w (ruling_of c.args.arguments (known_of s w) c.args.pid c.args.cpu.now).changes)
+    (c.act.ensures.spells p s w (record { store = refl; regions = refl; pictures = refl; blocks = refl; lawful = c.lawful.ensures; set = set; stands = stands })
+    (spells_of m (S.blocks c.args.swap.now) (S.block c.args.swap.now) w c.requires.together stands spelled))
+
+pub returns-in-SwapFull-clause-behind : goal.returns-in-SwapFull-clause-behind
+returns-in-SwapFull-clause-behind g c = record { lived = c.act.ensures.limits.shares.lived }
+
+pub returns-in-SwapFault-clause-spells : goal.returns-in-SwapFault-clause-spells
+returns-in-SwapFault-clause-spells g c = λ s w x stands set same spelled.
+    let S = g.S.SwapDevice in
+    let m = c.args.self.now in
+    let p : Parts = parts_in m (S.blocks c.args.swap.now) (S.block c.args.swap.now) in
+    stops_unnamed c.args.arguments (c.in-SwapFault.ensures.stops tt) c.act.new.store m.names c.act.new.names (with_all w (ruling_of c.args.arguments (known_of s w) c.args.pid c.args.cpu.now).changes)
+    (c.act.ensures.spells p s w (record { store = refl; regions = refl; pictures = refl; blocks = refl; lawful = c.lawful.ensures; set = set; stands = stands })
+    (spells_of m (S.blocks c.args.swap.now) (S.block c.args.swap.now) w c.requires.together stands spelled))
+
+pub returns-in-SwapFault-clause-behind : goal.returns-in-SwapFault-clause-behind
+returns-in-SwapFault-clause-behind g c = record { lived = c.act.ensures.limits.shares.lived }
+
+pub returns-in-Done-clause-spells : goal.returns-in-Done-clause-spells
+returns-in-Done-clause-spells g c = λ s w x stands set same spelled.
+    let S = g.S.SwapDevice in
+    let m = c.args.self.now in
+    let a = c.args.arguments in
+    let t = c.act.new.store in
+    let names = c.act.new.names in
+    let p : Parts = parts_in m (S.blocks c.args.swap.now) (S.block c.args.swap.now) in
+    leaves_written a t c.give.new.store c.give.ensures.store m.names names (with_all w (ruling_of a (known_of s w) c.args.pid x.cpu).changes)
+    (subst (λ (z : Cpu). LeavesSpelled a t m.names names (with_all w (ruling_of a (known_of s w) c.args.pid z).changes)) same
+    (c.act.ensures.spells p s w (record { store = refl; regions = refl; pictures = refl; blocks = refl; lawful = c.lawful.ensures; set = set; stands = stands })
+    (spells_of m (S.blocks c.args.swap.now) (S.block c.args.swap.now) w c.requires.together stands spelled)))
+
+pub returns-in-Done-clause-behind : goal.returns-in-Done-clause-behind
+returns-in-Done-clause-behind g c = record {
+  lived = λ id old alive.
+      (let e = c.act.ensures in
+      let given = c.give.ensures in
+      let grows = e.limits.grows in
+      e.limits.shares.lived id old ((given_shares c.act.new.store c.give.new.store c.act.new.regions c.give.new.regions given.store given.maps).lived id (omega (arith, old, grows)) alive));
+}

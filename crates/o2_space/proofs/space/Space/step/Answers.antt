@@ -14,7 +14,9 @@ use Rattle.o2_stepping.specs.Taken.{OnDone, OnSink, OnSwapStop, Takes}
 use Rattle.o2_stepping.specs.Worlds.{away_of, bytes_with}
 use Rattle.o2_stepping.proofs.Worlds.{same_map}
 use Rattle.o2_space.specs.Parts.{parts_in, running_at}
+use Rattle.o2_shared.proofs.Staying.{stay_in_place}
 use Rattle.o2_space.proofs.Alone.{alone_held, whole_same}
+use Rattle.o2_space.proofs.SharedKept.{few_as, shape_grows, shape_shares}
 use Rattle.o2_space.proofs.Alike.{ready_as}
 use Rattle.o2_space.proofs.Behind.{set_behind, steps_by}
 use Rattle.o2_space.proofs.Nexting.{says_room}
@@ -86,6 +88,8 @@ returns-clause-together g c =
       marked = c.requires.together.marked;
       alone = alone_held m.regions new.regions e.shape.holds.held c.requires.together.alone;
       whole = whole_same m.regions new.regions e.shape.holds.processes e.shape.holds.lengths c.requires.together.whole;
+      one = (shape_shares m.store new.store m.regions new.regions e.shape).one c.requires.together.one;
+      places = stay_in_place m.store new.store m.regions new.regions m.names c.requires.together.places (shape_shares m.store new.store m.regions new.regions e.shape) (shape_grows m.store new.store m.regions new.regions e.shape);
     }
 
 pub returns-clause-set : goal.returns-clause-set
@@ -150,3 +154,6 @@ returns-clause-next_room g c = λ text may s w x tells stands set chosen there s
 
 pub returns-clause-made : goal.returns-clause-made
 returns-clause-made g c = c.step_in_store-result.ensures.shape.tables.made
+
+pub returns-clause-held : goal.returns-clause-held
+returns-clause-held g c = few_as c.args.self.now.regions c.step_in_store-result.new.regions c.step_in_store-result.ensures.shape.holds.held

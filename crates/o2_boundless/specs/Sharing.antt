@@ -1,0 +1,31 @@
+-- Who holds an index, and which segments are shared, each as a test of one index; and a call that is given a text.
+use Rattle.std.specs.Prelude.{ℕ, Bool, not, List, length, find, nat_le, ◌&&◌, if◌then◌else◌, Option, is_some}
+use Rattle.o2_world.specs.declared.types.Argument.{Argument}
+use Rattle.o2_world.specs.World.{Process}
+use Rattle.o2_world.specs.CallParts.{Before, Effect, may_write, trapped}
+use Rattle.o2_world.specs.Known.{Known, held_at, same_text}
+use Rattle.o2_world.specs.Rulings.{Ruling, indexes}
+use Rattle.o2_world.specs.SegmentCalls.{Written, ruled_at}
+use Rattle.o2_world.specs.SharedRulings.{held_by, holder, is_share, is_shared_with, marks_by_call, shared_from}
+
+abbrev pub holder_among : List Process → (index : ℕ) → Option ℕ
+holder_among ps i = find (λ (n : ℕ). is_some (held_at ps n i)) (indexes 1 (length ps))
+
+abbrev pub lacks_at : Known → (flag process index : ℕ) → Bool
+lacks_at k flag n i = not (nat_le shared_from i && is_shared_with flag (marks_by_call k (k.held n i)))
+
+-- the first that holds the index holds there a shared segment of this name
+abbrev pub is_share_at : Known → (name index : ℕ) → Bool
+is_share_at k q i = is_share k q (held_by k i (holder k i))
+
+abbrev pub is_no_share : Known → (name index : ℕ) → Bool
+is_no_share k q i = not (is_share_at k q i)
+
+-- a text is that of a pair
+abbrev pub has_text : List ℕ → List ℕ × ℕ → Bool
+has_text text t = same_text t.0 text
+
+-- a call with a pointer to a text, which is good or isn't, and one behind which it writes its value, by its ruling
+abbrev pub texted : Before → (good : Bool) → (words : ℕ) → (name : List ℕ) → List Argument → Written → Ruling → Effect
+texted b good words name args t r =
+    if good && may_write b.view t.selector t.offset 2 then ruled_at b b.cpu.ip words name args t r else trapped b 13

@@ -1,0 +1,111 @@
+use Rattle.std.proofs.Common.{Some, IsSome, ap, refl, sym, subst}
+use Rattle.o2_gate.specs.declared.sharing.SharedArguments.{SharedArguments}
+use Rattle.o2_gate.specs.declared.sharing.SharedArguments.TheVariants.{Name, Share, Give, Get}
+use Rattle.o2_gate.specs.SharedReplies.{text_of}
+use Rattle.o2_store.specs.Shelf.{Shelf, place_of}
+use Rattle.o2_stands.specs.Knows.{known_in, others_of}
+use Rattle.o2_stands.specs.Stands.{Matches}
+use Rattle.o2_world.specs.Changes.{with_all}
+use Rattle.o2_world.specs.Known.{known_of}
+use Rattle.o2_world.specs.Rulings.{Ruling}
+use Rattle.o2_world.specs.SharedNames.{name_by}
+use Rattle.o2_world.specs.SharedRulings.{getting, giving, naming, sharing}
+use Rattle.o2_segs.specs.Answers.{Answers}
+use Rattle.o2_segs.proofs.Limits.{limits_by}
+use Rattle.o2_calls.specs.SharedActs.{AreSpelled, shared_ruling}
+use Rattle.o2_calls.proofs.SharedOver.{get_texts, give_texts, keeps_still, limits_by_more, maps_now, matches_now, rule_by, share_texts, spelled_same}
+use Rattle.o2_calls.proofs.sharing.share.Goals as goal
+
+pub returns-in-Name-clause-row : goal.returns-in-Name-clause-row
+returns-in-Name-clause-row c = λ images block p s w over spells.
+    subst (λ (a : SharedArguments). Answers (shared_ruling a (known_of s w) c.args.pid) c.alloc_shr_seg.result) (sym c.in-Name.is)
+    (rule_by _ _ images block p s w over c.args.pid (λ (r : Ruling). Answers r c.alloc_shr_seg.result) (Name c.in-Name.size c.in-Name.text 0 0) _ (ap (naming (known_in p (others_of s w)) c.args.pid c.in-Name.size) c.text.ensures) (c.alloc_shr_seg.ensures.answer p (others_of s w) over.store over.regions spells.texts))
+
+pub returns-in-Name-clause-matches : goal.returns-in-Name-clause-matches
+returns-in-Name-clause-matches c = λ images block p s w x over spells at.
+    subst (λ (a : SharedArguments). Matches (record p { shelf = c.alloc_shr_seg.new.store; maps = c.alloc_shr_seg.new.regions }) (with_all w (shared_ruling a (known_of s w) c.args.pid).changes)) (sym c.in-Name.is)
+    (rule_by _ _ images block p s w over c.args.pid (λ (r : Ruling). Matches (record p { shelf = c.alloc_shr_seg.new.store; maps = c.alloc_shr_seg.new.regions }) (with_all w r.changes)) (Name c.in-Name.size c.in-Name.text 0 0) _ (ap (naming (known_in p (others_of s w)) c.args.pid c.in-Name.size) c.text.ensures) (c.alloc_shr_seg.ensures.matches p (others_of s w) w x over.store over.regions spells.texts at (matches_now _ _ images block p s w over c.args.pid)))
+
+pub returns-in-Name-clause-spells : goal.returns-in-Name-clause-spells
+returns-in-Name-clause-spells c = λ images block p s w over spells.
+    subst (λ (a : SharedArguments). AreSpelled c.alloc_shr_seg.new.store c.alloc_shr_seg.new.names (with_all w (shared_ruling a (known_of s w) c.args.pid).changes)) (sym c.in-Name.is)
+    (rule_by _ _ images block p s w over c.args.pid (λ (r : Ruling). AreSpelled c.alloc_shr_seg.new.store c.alloc_shr_seg.new.names (with_all w r.changes)) (Name c.in-Name.size c.in-Name.text 0 0) _ (ap (naming (known_in p (others_of s w)) c.args.pid c.in-Name.size) c.text.ensures)
+    (record {
+      texts = c.alloc_shr_seg.ensures.texts p (others_of s w) w over.store over.regions spells.texts spells.texts;
+      once = c.alloc_shr_seg.ensures.once p (others_of s w) w over.store over.regions spells.texts spells.texts spells.once;
+    }))
+
+pub returns-in-Name-clause-limits : goal.returns-in-Name-clause-limits
+returns-in-Name-clause-limits c = limits_by c.args.store.now c.alloc_shr_seg.new.store c.args.regions.now c.alloc_shr_seg.new.regions 1 c.alloc_shr_seg.ensures.limits
+
+pub returns-in-Name-clause-still : goal.returns-in-Name-clause-still
+returns-in-Name-clause-still c = keeps_still c.args.regions.now c.alloc_shr_seg.new.regions c.alloc_shr_seg.ensures.holds
+
+pub returns-in-Name-clause-processes : goal.returns-in-Name-clause-processes
+returns-in-Name-clause-processes c = c.alloc_shr_seg.ensures.holds.processes
+
+pub returns-in-Share-clause-row : goal.returns-in-Share-clause-row
+returns-in-Share-clause-row c = λ images block p s w over spells.
+    subst (λ (a : SharedArguments). Answers (shared_ruling a (known_of s w) c.args.pid) c.get_shr_seg.result) (sym c.in-Share.is)
+    (rule_by _ _ images block p s w over c.args.pid (λ (r : Ruling). Answers r c.get_shr_seg.result) (Share c.in-Share.text 0 0) _ (ap (sharing (known_in p (others_of s w)) c.args.pid) c.text-in-Share.ensures) (c.get_shr_seg.ensures.answer p (others_of s w) over.store over.regions spells.processes spells.texts))
+
+pub returns-in-Share-clause-matches : goal.returns-in-Share-clause-matches
+returns-in-Share-clause-matches c = λ images block p s w x over spells at.
+    subst (λ (a : SharedArguments). Matches (record p { shelf = c.get_shr_seg.new.store; maps = c.get_shr_seg.new.regions }) (with_all w (shared_ruling a (known_of s w) c.args.pid).changes)) (sym c.in-Share.is)
+    (rule_by _ _ images block p s w over c.args.pid (λ (r : Ruling). Matches (record p { shelf = c.get_shr_seg.new.store; maps = c.get_shr_seg.new.regions }) (with_all w r.changes)) (Share c.in-Share.text 0 0) _ (ap (sharing (known_in p (others_of s w)) c.args.pid) c.text-in-Share.ensures)
+    (maps_now p c.args.store.now c.get_shr_seg.new.store c.get_shr_seg.new.regions (with_all w (sharing (known_in p (others_of s w)) c.args.pid (name_by (Some c.text-in-Share.result.now))).changes) over.store c.get_shr_seg.ensures.store (c.get_shr_seg.ensures.matches p (others_of s w) w x over.store over.regions spells.processes spells.texts at (matches_now _ _ images block p s w over c.args.pid))))
+
+pub returns-in-Share-clause-spells : goal.returns-in-Share-clause-spells
+returns-in-Share-clause-spells c = λ images block p s w over spells.
+    subst (λ (a : SharedArguments). AreSpelled c.get_shr_seg.new.store c.get_shr_seg.new.names (with_all w (shared_ruling a (known_of s w) c.args.pid).changes)) (sym c.in-Share.is)
+    (spelled_same c.args.store.now c.get_shr_seg.new.store c.args.regions.now c.args.names.now c.get_shr_seg.new.names c.args.ends.now p w (with_all w (shared_ruling (Share c.in-Share.text 0 0) (known_of s w) c.args.pid).changes) spells c.get_shr_seg.ensures.store c.get_shr_seg.ensures.names (share_texts w (known_of s w) c.args.pid (name_by (text_of c.in-Share.text))))
+
+pub returns-in-Share-clause-limits : goal.returns-in-Share-clause-limits
+returns-in-Share-clause-limits c = limits_by_more c.args.store.now c.get_shr_seg.new.store c.args.regions.now c.get_shr_seg.new.regions c.get_shr_seg.ensures.limits
+
+pub returns-in-Give-clause-row : goal.returns-in-Give-clause-row
+returns-in-Give-clause-row c = λ images block p s w over spells.
+    subst (λ (a : SharedArguments). Answers (shared_ruling a (known_of s w) c.args.pid) c.give_seg.result) (sym c.in-Give.is)
+    (rule_by _ _ images block p s w over c.args.pid (λ (r : Ruling). Answers r c.give_seg.result) (Give c.in-Give.selector c.in-Give.to 0 0) _ (refl) (c.give_seg.ensures.answer p (others_of s w) over.store over.regions spells.marked))
+
+pub returns-in-Give-clause-matches : goal.returns-in-Give-clause-matches
+returns-in-Give-clause-matches c = λ images block p s w x over spells at.
+    subst (λ (a : SharedArguments). Matches (record p { shelf = c.give_seg.new.store; maps = c.give_seg.new.regions }) (with_all w (shared_ruling a (known_of s w) c.args.pid).changes)) (sym c.in-Give.is)
+    (rule_by _ _ images block p s w over c.args.pid (λ (r : Ruling). Matches (record p { shelf = c.give_seg.new.store; maps = c.give_seg.new.regions }) (with_all w r.changes)) (Give c.in-Give.selector c.in-Give.to 0 0) _ (refl)
+    (maps_now p c.args.store.now c.give_seg.new.store c.give_seg.new.regions (with_all w (giving (known_in p (others_of s w)) c.args.pid c.in-Give.selector c.in-Give.to).changes) over.store c.give_seg.ensures.store (c.give_seg.ensures.matches p (others_of s w) w over.store over.regions spells.marked (matches_now _ _ images block p s w over c.args.pid))))
+
+pub returns-in-Give-clause-spells : goal.returns-in-Give-clause-spells
+returns-in-Give-clause-spells c = λ images block p s w over spells.
+    subst (λ (a : SharedArguments). AreSpelled c.give_seg.new.store c.args.names.now (with_all w (shared_ruling a (known_of s w) c.args.pid).changes)) (sym c.in-Give.is)
+    (spelled_same c.args.store.now c.give_seg.new.store c.args.regions.now c.args.names.now c.args.names.now c.args.ends.now p w (with_all w (shared_ruling (Give c.in-Give.selector c.in-Give.to 0 0) (known_of s w) c.args.pid).changes) spells c.give_seg.ensures.store refl (give_texts w (known_of s w) c.args.pid c.in-Give.selector c.in-Give.to))
+
+pub returns-in-Give-clause-limits : goal.returns-in-Give-clause-limits
+returns-in-Give-clause-limits c = limits_by_more c.args.store.now c.give_seg.new.store c.args.regions.now c.give_seg.new.regions c.give_seg.ensures.limits
+
+pub returns-in-Get-clause-row : goal.returns-in-Get-clause-row
+returns-in-Get-clause-row c = λ images block p s w over spells.
+    subst (λ (a : SharedArguments). Answers (shared_ruling a (known_of s w) c.args.pid) c.get_seg.result) (sym c.in-Get.is)
+    (rule_by _ _ images block p s w over c.args.pid (λ (r : Ruling). Answers r c.get_seg.result) (Get c.in-Get.selector) _ (refl) (c.get_seg.ensures.answer p (others_of s w) over.store over.regions spells.processes))
+
+pub returns-in-Get-clause-matches : goal.returns-in-Get-clause-matches
+returns-in-Get-clause-matches c = λ images block p s w x over spells at.
+    subst (λ (a : SharedArguments). Matches (record p { shelf = c.get_seg.new.store; maps = c.get_seg.new.regions }) (with_all w (shared_ruling a (known_of s w) c.args.pid).changes)) (sym c.in-Get.is)
+    (rule_by _ _ images block p s w over c.args.pid (λ (r : Ruling). Matches (record p { shelf = c.get_seg.new.store; maps = c.get_seg.new.regions }) (with_all w r.changes)) (Get c.in-Get.selector) _ (refl)
+    (maps_now p c.args.store.now c.get_seg.new.store c.get_seg.new.regions (with_all w (getting (known_in p (others_of s w)) c.args.pid c.in-Get.selector).changes) over.store c.get_seg.ensures.store (c.get_seg.ensures.matches p (others_of s w) w x over.store over.regions spells.processes at (matches_now _ _ images block p s w over c.args.pid))))
+
+pub returns-in-Get-clause-spells : goal.returns-in-Get-clause-spells
+returns-in-Get-clause-spells c = λ images block p s w over spells.
+    subst (λ (a : SharedArguments). AreSpelled c.get_seg.new.store c.args.names.now (with_all w (shared_ruling a (known_of s w) c.args.pid).changes)) (sym c.in-Get.is)
+    (spelled_same c.args.store.now c.get_seg.new.store c.args.regions.now c.args.names.now c.args.names.now c.args.ends.now p w (with_all w (shared_ruling (Get c.in-Get.selector) (known_of s w) c.args.pid).changes) spells c.get_seg.ensures.store refl (get_texts w (known_of s w) c.args.pid c.in-Get.selector))
+
+pub returns-in-Get-clause-limits : goal.returns-in-Get-clause-limits
+returns-in-Get-clause-limits c = limits_by_more c.args.store.now c.get_seg.new.store c.args.regions.now c.get_seg.new.regions c.get_seg.ensures.limits
+
+pub returns-in-Share-clause-kept : goal.returns-in-Share-clause-kept
+returns-in-Share-clause-kept c = λ k here. subst (λ (x : Shelf). IsSome (place_of x k)) (sym c.get_shr_seg.ensures.store) here
+
+pub returns-in-Give-clause-kept : goal.returns-in-Give-clause-kept
+returns-in-Give-clause-kept c = λ k here. subst (λ (x : Shelf). IsSome (place_of x k)) (sym c.give_seg.ensures.store) here
+
+pub returns-in-Get-clause-kept : goal.returns-in-Get-clause-kept
+returns-in-Get-clause-kept c = λ k here. subst (λ (x : Shelf). IsSome (place_of x k)) (sym c.get_seg.ensures.store) here

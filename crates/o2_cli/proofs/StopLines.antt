@@ -1,0 +1,65 @@
+-- How a run ends, with the fate of its stop line.
+use Rattle.std.proofs.Common.{◌≡◌, ℕ, ◌+◌, ◌<◌, Bool, true, false, List, ◌++◌, Option, ◌⊎◌, inl, inr, Err, ◌∙◌, refl, arith, below_more, length, subst}
+use Rattle.o2_outer.specs.Texts.{Gains, Continues}
+use Rattle.o2_world.specs.World.{World, Setting}
+use Rattle.o2_world.specs.Text.{lines_text}
+use Rattle.o2_world.specs.Run.{after, is_over}
+use Rattle.o2_run.specs.Turn.{IsStopped, Turns, LineIs}
+use Rattle.o2_run.specs.Faults.{fault_turn}
+use Rattle.o2_run.specs.Stops.{StopsFor, stop_line}
+use Rattle.o2_run.specs.Pieces.{counts, Hands, TurnHands, pieces}
+use Rattle.o2_run.specs.Ended.{HasReached}
+use Rattle.o2_run.specs.declared.fault.Fault.{Fault}
+use Rattle.o2_run.specs.declared.fault.Fault.TheVariants.{Sink, Stopped}
+use Rattle.o2_run.specs.declared.steps.Turn.{Turn}
+use Rattle.o2_run.specs.declared.steps.Stop.{Stop}
+use Rattle.o2_run.specs.declared.steps.Stop.TheVariants.{Input, NoRoom, SwapFull, SwapFault}
+use Rattle.o2_run.proofs.Reached.{hands_last, stopped_anyhow}
+use Rattle.o2_cli.specs.Lined.{HasLined, IsPut}
+
+either : (put : Bool) (A B : Type 0) → IsPut put A B → A ⊎ B
+either true A B h = inl h
+either false A B h = inr h
+
+module _ (before_it now : World → Type 0) (swaps : Bool) (blocks : ℕ) (s : Setting) (w : World) (i l c d e r q p : Option (List ℕ)) (u v x y z o ahead : ℕ) where
+  runs_to : (k : ℕ) → ((j : ℕ) → j < k → is_over (after s w j) ≡ false) → is_over (after s w k) ≡ false → (j : ℕ) → j < k + 1 → is_over (after s w j) ≡ false
+  runs_to k before now = let P : ℕ → Type 0 = λ j. is_over (after s w j) ≡ false in below_more P k before now
+
+  put_told : (k : ℕ) (why : Stop) (put : Bool) (fault : Type 0) → (put ≡ true → Continues q p (lines_text (after s w k).lines) (lines_text (after s w k).lines ++ stop_line why)) → (put ≡ false → fault)
+      → Gains r q (lines_text (after s w k).lines) → IsPut put (Gains r p (lines_text (after s w k).lines ++ stop_line why)) fault
+  put_told k why true fault whole failed gains = λ t x. whole refl t (gains t x)
+  put_told k why false fault whole failed gains = failed refl
+
+  lined_stop : (count : ℕ) → count ≡ blocks → (h : HasReached before_it swaps s w i c d r q (counts u v y z ahead)) (why : Stop) (put : Bool) (since : Type 0) → (put ≡ false → since) → IsStopped now count s (after s w h.steps) why put l d e q p
+      → Hands (counts v x z o (length (after s w h.steps).lines)) 0 (length (after s w h.steps).lines + 1) → HasLined now swaps blocks s w l c e r p since (counts u x y o ahead) put (Err (Stopped why))
+  lined_stop count same h why put since failed stop puts = (
+    record {
+      steps = h.steps;
+      below = λ j le. runs_to h.steps h.runs stop.runs j (omega (arith, le));
+      room = h.room;
+      cause = subst (λ (n : ℕ). StopsFor n s (after s w h.steps) why) same stop.cause;
+      input = stop.input;
+      to_console = λ t x. stop.to_console ∙ h.to_console t x;
+      to_report = λ t x. stop.to_report t (h.to_report t x);
+      whole = either put _ _ (put_told h.steps why put since stop.whole failed h.to_report);
+      hands = hands_last u v x y z o ahead (length (after s w h.steps).lines) (pieces s w h.steps) _ h.hands puts;
+    },
+    stop.stands,
+    put_told h.steps why put since stop.whole failed h.to_report,
+  )
+
+  lined : (f : Fault) (count : ℕ) → count ≡ blocks → (h : HasReached before_it swaps s w i c d r q (counts u v y z ahead)) (put : Bool) (fault since : Type 0) → (fault → since) → LineIs put fault (fault_turn f)
+      → Turns now swaps count s (after s w h.steps) put l d e q p (fault_turn f) → TurnHands s (after s w h.steps) (counts v x z o (length (after s w h.steps).lines)) (fault_turn f)
+      → HasLined now swaps blocks s w l c e r p since (counts u x y o ahead) put (Err f)
+  lined Sink count same h put fault since later line turns puts = stopped_anyhow before_it now swaps blocks s w i l c d e r q p u v x y z o ahead h turns puts since
+  lined (Stopped Input) count same h put fault since later line turns puts = lined_stop count same h Input put since (λ e. later (line e)) turns puts
+  lined (Stopped NoRoom) count same h put fault since later line turns puts = lined_stop count same h NoRoom put since (λ e. later (line e)) turns puts
+  lined (Stopped SwapFull) count same h put fault since later line turns puts = lined_stop count same h SwapFull put since (λ e. later (line e)) turns puts
+  lined (Stopped SwapFault) count same h put fault since later line turns puts = lined_stop count same h SwapFault put since (λ e. later (line e)) turns puts
+
+  -- by the answer of the last turn
+  pub lined_by : (t : Turn) (f : Fault) → t ≡ fault_turn f → (count : ℕ) → count ≡ blocks → (h : HasReached before_it swaps s w i c d r q (counts u v y z ahead)) (put : Bool) (fault since : Type 0) → (fault → since) → LineIs put fault t
+      → Turns now swaps count s (after s w h.steps) put l d e q p t → TurnHands s (after s w h.steps) (counts v x z o (length (after s w h.steps).lines)) t → HasLined now swaps blocks s w l c e r p since (counts u x y o ahead) put (Err f)
+  lined_by t f is count same h put fault since later line turns puts =
+      lined f count same h put fault since later (subst (λ (a : Turn). LineIs put fault a) is line)
+      (subst (λ (a : Turn). Turns now swaps count s (after s w h.steps) put l d e q p a) is turns) (subst (λ (a : Turn). TurnHands s (after s w h.steps) (counts v x z o (length (after s w h.steps).lines)) a) is puts)

@@ -1,0 +1,70 @@
+use Rattle.std.proofs.Common.{arith, length, ap, ◌∙◌, sym}
+use Rattle.std.proofs.lemmas.Result.{err_from_is_err_and}
+use Rattle.o2_outer.proofs.Inputs.{goes_then, seen_before}
+use Rattle.o2_run.specs.Turn.{stopped_by}
+use Rattle.o2_run.proofs.Reached.{ran_by, closed_by, rose_since}
+use Rattle.o2_run.proofs.Sliced.{sliced}
+use Rattle.o2_run.proofs.Answered.{gives, ran_is, end_is, fault_is, ends_with, ends_at, cause_of, either_rose}
+use Rattle.o2_cli.proofs.StopLines.{lined_by}
+use Rattle.o2_cli.proofs.lined.run_lined.Goals as goal
+
+pub slice-requires : goal.slice-requires
+slice-requires g c = record { device = record { blocks = g.S.SwapDevice.blocks c.steps.swap; over = c.steps.invariant.device } }
+
+pub turn-requires : goal.turn-requires
+turn-requires g c = record { device = c.slice.ensures.device _ c.steps.invariant.device }
+
+pub steps-preserved : goal.steps-preserved
+steps-preserved g c =
+    let is = ran_is c.turn.result (gives _ _ _ c.in_ok-more.ensures c.if-not-more.false) in
+    record {
+      fresh = λ n. c.turn.ensures.stops ∙ ap stopped_by is;
+      device = c.turn.ensures.device;
+      goes_on = goes_then _ _ _ c.steps.invariant.goes_on c.turn.ensures.goes_on;
+      reached = λ n tells text may s w a b stands input to_console to_report.
+          let before = c.steps.invariant.reached n (c.turn.ensures.swap_told tells) text (seen_before text _ _ c.turn.ensures.goes_on may) s w a b stands input to_console to_report in
+          let h = sliced _ s w _ _ _ _ _ _ _ _ c.slice.result before (c.slice.ensures.steps _ _ s _ before.stands) in
+          ran_by _ _ _ (g.S.SwapDevice.blocks c.steps.swap) s w _ _ _ _ _ _ _ _ _ _ _ _ _ _ (length w.lines) c.turn.result is _ h _ (c.turn.ensures.turns (c.slice.ensures.stops ∙ c.steps.invariant.fresh n) tells text may s _ h.stands h.input) (c.turn.ensures.puts (c.slice.ensures.stops ∙ c.steps.invariant.fresh n) tells text may s _ h.stands h.input);
+      input_count = omega (arith, c.steps.invariant.input_count, c.turn.ensures.input_count);
+      console_count = omega (arith, c.steps.invariant.console_count, c.turn.ensures.console_count);
+      report_count = omega (arith, c.steps.invariant.report_count, c.turn.ensures.report_count);
+      swap_count = omega (arith, c.steps.invariant.swap_count, c.turn.ensures.swap_count);
+      swap_blocks = c.turn.ensures.swap_blocks ∙ c.steps.invariant.swap_blocks;
+      swap_told = λ w. c.steps.invariant.swap_told (c.turn.ensures.swap_told w);
+    }
+
+pub returns-then-not-more-clause-texts : goal.returns-then-not-more-clause-texts
+returns-then-not-more-clause-texts g c = λ n tells text may s w a b stands input to_console to_report.
+    let before = c.steps.invariant.reached n (c.turn.ensures.swap_told tells) text (seen_before text _ _ c.turn.ensures.goes_on may) s w a b stands input to_console to_report in
+    let h = sliced _ s w _ _ _ _ _ _ _ _ c.slice.result before (c.slice.ensures.steps _ _ s _ before.stands) in
+    closed_by _ _ _ (g.S.SwapDevice.blocks c.args.swap.now) s w _ _ _ _ _ _ _ _ _ _ _ _ _ _ (length w.lines) c.turn.result (end_is c.turn.result (gives _ _ _ c.in_ok-more.ensures c.if-not-more.true)) _ h _ (Unit {0})
+    (c.turn.ensures.turns (c.slice.ensures.stops ∙ c.steps.invariant.fresh n) tells text may s _ h.stands h.input) (c.turn.ensures.puts (c.slice.ensures.stops ∙ c.steps.invariant.fresh n) tells text may s _ h.stands h.input)
+
+pub returns-then-not-more-clause-stopped : goal.returns-then-not-more-clause-stopped
+returns-then-not-more-clause-stopped g c = ends_at _ c.turn.result (gives _ _ _ c.in_ok-more.ensures c.if-not-more.true) c.turn.ensures.stops
+
+pub returns-in_err-more-clause-texts : goal.returns-in_err-more-clause-texts
+returns-in_err-more-clause-texts g c = λ n tells text may s w a b stands input to_console to_report.
+    let p = err_from_is_err_and c.from_residual.result c.from_residual.ensures.1 in
+    let fresh = c.slice.ensures.stops ∙ c.steps.invariant.fresh n in
+    let before = c.steps.invariant.reached n (c.turn.ensures.swap_told tells) text (seen_before text _ _ c.turn.ensures.goes_on may) s w a b stands input to_console to_report in
+    let h = sliced _ s w _ _ _ _ _ _ _ _ c.slice.result before (c.slice.ensures.steps _ _ s _ before.stands) in
+    rw (p.1, p.2) (lined_by _ _ _ (g.S.SwapDevice.blocks c.args.swap.now) s w _ _ _ _ _ _ _ _ _ _ _ _ _ _ (length w.lines) c.turn.result _ (fault_is c.turn.result _ (sym c.in_err-more.ensures)) _ c.steps.invariant.swap_blocks h _ _ _
+    (rose_since _ _ _ c.steps.invariant.report_count) (c.turn.ensures.line fresh) (c.turn.ensures.turns fresh tells text may s _ h.stands h.input) (c.turn.ensures.puts fresh tells text may s _ h.stands h.input))
+
+pub returns-in_err-more-clause-stopped : goal.returns-in_err-more-clause-stopped
+returns-in_err-more-clause-stopped g c =
+    let p = err_from_is_err_and c.from_residual.result c.from_residual.ensures.1 in
+    rw (p.1, p.2) (ends_with _ c.turn.result _ (sym c.in_err-more.ensures) c.turn.ensures.stops)
+
+pub returns-in_err-more-clause-cause : goal.returns-in_err-more-clause-cause
+returns-in_err-more-clause-cause g c = λ n.
+    let p = err_from_is_err_and c.from_residual.result c.from_residual.ensures.1 in
+    rw (p.1, p.2) (cause_of _ _ _ _ _ _ (either_rose _ _ _ _ _ _ c.steps.invariant.console_count c.steps.invariant.report_count) (rose_since _ _ _ c.steps.invariant.input_count) (rose_since _ _ _ c.steps.invariant.swap_count)
+    c.turn.result _ (sym c.in_err-more.ensures) (c.turn.ensures.cause (c.slice.ensures.stops ∙ c.steps.invariant.fresh n)))
+
+pub returns-then-not-more-clause-goes_on : goal.returns-then-not-more-clause-goes_on
+returns-then-not-more-clause-goes_on g c = goes_then _ _ _ c.steps.invariant.goes_on c.turn.ensures.goes_on
+
+pub returns-in_err-more-clause-goes_on : goal.returns-in_err-more-clause-goes_on
+returns-in_err-more-clause-goes_on g c = goes_then _ _ _ c.steps.invariant.goes_on c.turn.ensures.goes_on

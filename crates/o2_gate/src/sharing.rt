@@ -1,0 +1,176 @@
+// The calls by which processes share segments: their arguments, their values and their lines.
+ghost use Rattle.std.specs.Prelude.{◌≡◌, ◌≤◌, ◌∷◌, [], ℕ, true, length};
+ghost use Rattle.o2_outer.specs.Texts.{Rose};
+ghost use Rattle.o2_outer.specs.Answers.{Takes, OnFailed, Puts};
+ghost use Rattle.o2_isa.specs.View.{Filling, whole};
+ghost use Rattle.o2_isa.specs.Pointers.{KeepsAllButBytes};
+ghost use Rattle.o2_world.specs.Text.{line_text, lines_text};
+ghost use Rattle.o2_gate.specs.Pointed.{are_ready};
+ghost use Rattle.o2_gate.specs.SharedReplies.{IsSharedValue, holder_of, shared_bytes, shared_line, shared_moved, shared_name, shared_targets, shared_under, shared_words};
+ghost use Rattle.o2_gate.specs.Writes.{WritesHeld};
+
+use crate::replying::{own_selector, put_hold, set_bare, set_valued, store_word};
+use crate::text::TextArgument;
+use o2_bus::Ranges;
+use o2_outer::{Put, Sink};
+use o2_report::LineBuffer;
+use o2_world::Argument;
+
+/// The arguments of a call by which processes share segments. Where a value is wanted, its selector and offset.
+#[derive(Clone, Copy, Debug, PartialEq, Eq)]
+pub enum SharedArguments {
+    /// DosAllocShrSeg.
+    Name {
+        size: u16,
+        text: TextArgument,
+        to_selector: u16,
+        to_offset: u16,
+    },
+    /// DosGetShrSeg.
+    Share {
+        text: TextArgument,
+        to_selector: u16,
+        to_offset: u16,
+    },
+    /// DosGiveSeg.
+    Give {
+        selector: u16,
+        to: u16,
+        to_selector: u16,
+        to_offset: u16,
+    },
+    /// DosGetSeg.
+    Get(u16),
+}
+
+/// How many words the arguments take.
+pub(crate) fn shared_words(arguments: &SharedArguments) -> u16
+    ensures words { result ≡ shared_words arguments.now }
+    ensures few { result ≤ 5 }
+{
+    match arguments {
+        SharedArguments::Name { .. } => 5,
+        SharedArguments::Share { .. } => 4,
+        SharedArguments::Give { .. } => 4,
+        SharedArguments::Get(_) => 1,
+    }
+}
+
+/// Writes the value of a call that came to no error, where it has a pointer.
+pub(crate) fn store_shared<B: Ranges>(bus: &mut B, arguments: &SharedArguments, value: u32)
+    requires ready { are_ready (B.view bus.old) (shared_targets arguments.now) ≡ true }
+    requires value { IsSharedValue arguments.now value }
+    ensures bytes { (f : Filling) (n : ℕ) → (whole f (B.view bus.new)).bytes n
+        ≡ shared_bytes arguments.now 0 value (B.view bus.old).held (whole f (B.view bus.old)).bytes n }
+    ensures frame { KeepsAllButBytes (B.view bus.old) (B.view bus.new) }
+    ensures writes { WritesHeld (B.view bus.old) (B.view bus.new) }
+{
+    match arguments {
+        SharedArguments::Name {
+            to_selector,
+            to_offset,
+            ..
+        } => store_word(bus, *to_selector, *to_offset, value as u16),
+        SharedArguments::Share {
+            to_selector,
+            to_offset,
+            ..
+        } => store_word(bus, *to_selector, *to_offset, value as u16),
+        SharedArguments::Give {
+            to_selector,
+            to_offset,
+            ..
+        } => store_word(bus, *to_selector, *to_offset, value as u16),
+        SharedArguments::Get(_) => {}
+    }
+}
+
+/// The line of the call.
+pub(crate) fn set_shared(
+    line: &mut LineBuffer,
+    pid: u16,
+    arguments: &SharedArguments,
+    error: u16,
+    value: u32,
+)
+    requires value { IsSharedValue arguments.now value }
+    ensures { line.new ≡ line_text (shared_line arguments.now pid error value) }
+{
+    match arguments {
+        SharedArguments::Name {
+            size,
+            text,
+            to_selector,
+            to_offset,
+        } => {
+            let args = [
+                Argument::Word(*size),
+                Argument::Far(text.selector, text.offset),
+                Argument::Far(*to_selector, *to_offset),
+            ];
+            let shown = Argument::Word(value as u16);
+            set_valued(line, pid, b"DosAllocShrSeg", &args, error, shown);
+        }
+        SharedArguments::Share {
+            text,
+            to_selector,
+            to_offset,
+        } => {
+            let args = [
+                Argument::Far(text.selector, text.offset),
+                Argument::Far(*to_selector, *to_offset),
+            ];
+            let shown = Argument::Word(value as u16);
+            set_valued(line, pid, b"DosGetShrSeg", &args, error, shown);
+        }
+        SharedArguments::Give {
+            selector,
+            to,
+            to_selector,
+            to_offset,
+        } => {
+            let args = [
+                Argument::Word(*selector),
+                Argument::Word(*to),
+                Argument::Far(*to_selector, *to_offset),
+            ];
+            let shown = Argument::Word(value as u16);
+            set_valued(line, pid, b"DosGiveSeg", &args, error, shown);
+        }
+        SharedArguments::Get(selector) => {
+            let args = [Argument::Word(*selector)];
+            set_bare(line, pid, b"DosGetSeg", &args, error);
+        }
+    }
+}
+
+/// Puts the line of the hold that came by a call without an error.
+pub(crate) fn put_share<R: Sink>(
+    line: &mut LineBuffer,
+    pid: u16,
+    arguments: &SharedArguments,
+    value: u32,
+    report: &mut R,
+) -> Put
+    requires value { IsSharedValue arguments.now value }
+    ensures report { Takes (R.taken report.old) (R.taken report.new)
+        (lines_text (shared_moved arguments.now pid 0 value)) result }
+    ensures puts { Puts (R.puts report.old) (R.puts report.new)
+        (length (shared_moved arguments.now pid 0 value)) result }
+    ensures count { R.faults report.old ≤ R.faults report.new }
+    ensures cause { OnFailed result (Rose (R.faults report.old) (R.faults report.new)) }
+{
+    match arguments {
+        SharedArguments::Name { .. } => {
+            put_hold(line, pid, value as u16, b"DosAllocShrSeg", report)
+        }
+        SharedArguments::Share { .. } => put_hold(line, pid, value as u16, b"DosGetShrSeg", report),
+        SharedArguments::Give { to, .. } => {
+            put_hold(line, *to, value as u16, b"DosGiveSeg", report)
+        }
+        SharedArguments::Get(selector) => {
+            let own = own_selector(*selector);
+            put_hold(line, pid, own, b"DosGetSeg", report)
+        }
+    }
+}
