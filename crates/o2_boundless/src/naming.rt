@@ -48,9 +48,7 @@ fn same_text(one: &[u8], other: &[u8]) -> bool
 fn pair_named<'a>(texts: &'a [(Bytes, u64)], text: &[u8]) -> Option<&'a (Bytes, u64)>
     ensures { option_copied result ≡ find (has_text text.now) texts.now }
 {
-    texts
-        .iter()
-        .find(|pair| same_text(pair.0.as_slice(), text))
+    texts.iter().find(|pair| same_text(pair.0.as_slice(), text))
 }
 
 /// The name of a text.

@@ -20,10 +20,7 @@ use std::alloc::Global;
 
 /// The first process that holds an index, by its number.
 #[tactic(auto, using(crate::proofs::Walks::holders))]
-fn holder(
-    processes: &[Process],
-    index: u16,
-) -> Result<Option<u16>, NoMemory>
+fn holder(processes: &[Process], index: u16) -> Result<Option<u16>, NoMemory>
     ensures { IfOk result (λ n. n ≡ holder_among processes.now index) }
 {
     if processes.len() > 65535 {
@@ -83,7 +80,11 @@ fn is_shared_with(gettable: bool, segment: Option<&Segment>) -> bool
         None => false,
         Some(segment) => {
             segment.shared
-                && (if gettable { segment.flags / 2 % 2 == 1 } else { segment.flags % 2 == 1 })
+                && (if gettable {
+                    segment.flags / 2 % 2 == 1
+                } else {
+                    segment.flags % 2 == 1
+                })
         }
     }
 }
@@ -281,12 +282,7 @@ impl World {
         }
     }
 
-    fn sharing_of(
-        &self,
-        alloc: Global,
-        number: u16,
-        name: Option<u64>,
-    ) -> Result<Verdict, NoMemory>
+    fn sharing_of(&self, alloc: Global, number: u16, name: Option<u64>) -> Result<Verdict, NoMemory>
         ensures { IfOk result (λ v. ruling_of v ≡ sharing_of (known_by self.now) number name) }
     {
         match name {
