@@ -1,12 +1,20 @@
-"""Programs made at random that call on segments, for tools/check_memory: what each must write, and how much memory each step needs."""
+"""Programs made at random that call on segments, for tools/check_memory and tools/check_dumps: what each must write, and how much memory
+each step needs."""
 import ne
 
-SEGMENT_CALLS = {
-    "DosAllocSeg": 5, "DosReallocSeg": 6, "DosFreeSeg": 7, "DosSizeSeg": 8, "DosLockSeg": 9, "DosUnlockSeg": 10, "DosCreateCSAlias": 11,
-}
-CODE, DATA, ENVIRONMENT = 1, 2, 3
+CODE, DATA, TEXTS, ENVIRONMENT = 1, 2, 3, 4
+SHARED = 4096
 STACK, FRONT = 512, 256
 RETF = 0xCB
+# What LAR tells of a segment that can be written, and of one that can be executed and read.
+RIGHTS = {"data": 0xF300, "alias": 0xFB00, "code": 0xFB00}
+
+# Texts by which a segment may be shared, of which some are the same but for capitals; texts that are no names; and one without a zero
+# behind it, at the end of its segment.
+LONGEST = b"\\SHAREMEM\\" + bytes(range(0x21, 0x7F)) + bytes(range(0x40, 0x58))
+NAMES = [b"\\SHAREMEM\\A", b"\\sharemem\\a", b"\\ShareMem\\b.txt", b"\\SHAREMEM\\B.TXT", b"\\SHAREMEM\\@", b"\\SHAREMEM\\`", LONGEST, LONGEST.swapcase()]
+NO_NAMES = [b"", b"\\SHAREMEM\\", LONGEST + b"!", b"\\SHAREMEM\\A B", b"\\SHAREMEM\\\x7f", b"\\SHAREMEM\\\xc1", b"\\SHAREMEN\\A", b"SHAREMEM\\A"]
+ENDLESS = b"\\SHAREMEM\\C"
 
 
 def whole(n):
@@ -14,15 +22,23 @@ def whole(n):
     return -(-n // 16) * 16
 
 
+def name_of(text):
+    """The name that a text is, with small letters, or None."""
+    front, rest = text[:10].lower(), text[10:]
+    is_name = front == b"\\sharemem\\" and 1 <= len(rest) <= 118 and all(0x21 <= byte <= 0x7E for byte in rest)
+    return text.lower() if is_name else None
+
+
 class Segment:
-    def __init__(self, size, flags=0, is_code=False):
-        self.bytes, self.flags, self.is_code = bytearray(size), flags, is_code
+    def __init__(self, content, flags=0, is_code=False):
+        """Some bytes, or so many zeros."""
+        self.bytes, self.flags, self.is_code = bytearray(content), flags, is_code
         self.lock = 1 if flags & 4 else 0
 
 
 class Hold:
     def __init__(self, segment, kind, by_load=False):
-        self.segment, self.kind, self.by_load = segment, kind, by_load
+        self.segment, self.kind, self.by_load, self.count = segment, kind, by_load, 1
 
 
 class Trap(Exception):
@@ -35,12 +51,16 @@ class Process:
     def __init__(self, dice, machine, pid):
         self.dice, self.machine, self.pid, self.name = dice, machine, pid, f"P{pid}"
         self.code, self.steps, self.live = bytearray(), [], True
+        self.texts = [*NAMES, *NO_NAMES]
+        dice.shuffle(self.texts)
+        self.texts.append(ENDLESS)
         self.held = {
             CODE: Hold(Segment(0, is_code=True), "code", True),
             DATA: Hold(Segment(FRONT + STACK), "data", True),
-            ENVIRONMENT: Hold(Segment(len(self.name) + 4), "data", True),
+            TEXTS: Hold(Segment(b"\0".join(self.texts)), "data", True),
+            ENVIRONMENT: Hold(Segment(b"\0" + self.name.encode("ascii") + b"\0\0\0"), "data", True),
         }
-        self.cs, self.ds, self.es, self.bx, self.ax = 8 * CODE + 7, 8 * DATA + 7, 0, 1, 0
+        self.cs, self.ds, self.es, self.bx, self.ax, self.cx = 8 * CODE + 7, 8 * DATA + 7, 0, 1, 0, 0
         self.actions = dice.randint(5, 60)
 
     # What a step does. Each adds to `touched` what it needs beside the segment registers, and to `lines` and `piece` what it writes.
@@ -61,7 +81,7 @@ class Process:
         try:
             act()
         except Trap:
-            self.lines.append(f"end trap 13 at {8 * CODE + 7:04X}:{at:04X}")
+            self.lines.append(f"{self.pid} end trap 13 at {8 * CODE + 7:04X}:{at:04X}")
             self.end()
 
     def end(self):
@@ -114,20 +134,38 @@ class Process:
             raise Trap
         return hold.segment.bytes
 
+    def text(self, selector, at):
+        """The text behind a pointer, up to its zero; without a zero among its first 129 bytes these."""
+        hold = self.under(selector)
+        if not hold:
+            raise Trap
+        self.touched.append(hold.segment)
+        front = bytes(hold.segment.bytes[at : at + 129])
+        if 0 not in front and len(front) < 129:
+            raise Trap
+        return front.split(b"\0")[0]
+
     def back(self, name, shown, error, value=None, moved=()):
+        """The lines of a call that comes back; what it moves are holds and drops of an index, of this process or another."""
         self.ax = error
-        self.lines.append(f"call {name} {shown} = {error}" + (f" {value}" if value and not error else ""))
+        self.lines.append(f"{self.pid} call {name} {shown} = {error}" + (f" {value}" if value and not error else ""))
         if not error:
-            self.lines += [f"{what} {8 * index + 7:04X} by {name}" for what, index in moved]
+            self.lines += [f"{(of or [self.pid])[0]} {what} {8 * index + 7:04X} by {name}" for what, index, *of in moved]
 
     def free_index(self, shared):
         taken = self.machine.shared() if shared else self.held
-        return next((i for i in (range(4096, 8192) if shared else range(1, 4096)) if i not in taken), None)
+        return next((i for i in (range(SHARED, 8192) if shared else range(1, SHARED)) if i not in taken), None)
+
+    def hold_more(self, index, segment):
+        if index in self.held:
+            self.held[index].count += 1
+        else:
+            self.held[index] = Hold(segment, "data")
 
     def alloc(self, size, selector, at, flags):
         put = self.pointer(selector, at, 2, True)
         index = self.free_index(flags & 3)
-        full = len(self.machine.names()) >= self.machine.segments or index is None
+        full = self.machine.is_full() or index is None
         error = 87 if flags > 15 else 8 if full else 0
         value = 8 * (index or 0) + 7
         if not error:
@@ -137,7 +175,7 @@ class Process:
 
     def realloc(self, size, selector):
         hold, full = self.under(selector), size or 65536
-        refused = not hold or hold.kind != "data" or hold.segment.is_code or hold.segment.flags & 3 and full < len(hold.segment.bytes)
+        refused = not hold or hold.kind != "data" or selector >> 3 >= SHARED and full < len(hold.segment.bytes)
         if not refused:
             del hold.segment.bytes[full:]
             hold.segment.bytes.extend(bytes(full - len(hold.segment.bytes)))
@@ -147,8 +185,10 @@ class Process:
         hold, index = self.under(selector), selector >> 3
         error = 5 if not hold or hold.by_load else 0
         if not error:
-            del self.held[index]
-            self.ds, self.es = (0 if it & 4 and it >> 3 == index else it for it in (self.ds, self.es))
+            hold.count -= 1
+            if not hold.count:
+                del self.held[index]
+                self.ds, self.es = (0 if it & 4 and it >> 3 == index else it for it in (self.ds, self.es))
         self.back("DosFreeSeg", f"{selector:04X}", error, None, [("drop", index)])
 
     def size(self, selector, other, at):
@@ -174,7 +214,7 @@ class Process:
 
     def alias(self, selector, other, at):
         put, hold, index = self.pointer(other, at, 2, True), self.under(selector), self.free_index(False)
-        error = 5 if not hold or selector >> 3 >= 4096 or hold.kind != "data" else 8 if index is None else 0
+        error = 5 if not hold or selector >> 3 >= SHARED or hold.kind != "data" else 8 if index is None else 0
         value = 8 * (index or 0) + 7
         if not error:
             put[at : at + 2] = value.to_bytes(2, "little")
@@ -185,10 +225,10 @@ class Process:
         piece = bytes(self.pointer(selector, at, count, False)[at : at + count])
         self.pointer(other, to, 2, True)[to : to + 2] = count.to_bytes(2, "little")
         self.piece, self.ax = piece, 0
-        self.lines.append(f"call DosWrite 0001 {selector:04X}:{at:04X} {count:04X} {other:04X}:{to:04X} = 0 {count:04X}")
+        self.lines.append(f"{self.pid} call DosWrite 0001 {selector:04X}:{at:04X} {count:04X} {other:04X}:{to:04X} = 0 {count:04X}")
 
     def exit(self):
-        self.lines += [f"call DosExit 0001 {self.bx:04X}", f"end exit {self.bx}"]
+        self.lines += [f"{self.pid} call DosExit 0001 {self.bx:04X}", f"{self.pid} end exit {self.bx}"]
         self.end()
 
     # What is chosen.
@@ -209,7 +249,7 @@ class Process:
     def any(self, indexes):
         """A selector of one of these indexes, with low bits by chance, or one under which nothing may be held."""
         if not indexes or self.dice.random() < 0.08:
-            return self.dice.choice([0, 3, 0xA3, 0x23, 8 * self.dice.randrange(4, 9) + 7, 0x8007 + 8 * self.dice.randrange(4)])
+            return self.dice.choice([0, 3, 0xA3, 0x23, 8 * self.dice.randrange(5, 10) + 7, 0x8007 + 8 * self.dice.randrange(4)])
         return 8 * self.dice.choice(indexes) + self.dice.choice([7, 7, 7, 4, 5, 6])
 
     def made(self, *kinds):
@@ -246,16 +286,21 @@ class Process:
             self.emit("53")
             self.emit("9A00008B00", self.exit)
             return
-        chosen = [self.choose_alloc, self.choose_alloc, self.choose_realloc, self.choose_free, self.choose_size, self.choose_lock,
-                  self.choose_unlock, self.choose_alias, self.choose_load, self.choose_load, self.choose_null, self.choose_put,
-                  self.choose_put, self.choose_add, self.choose_count, self.choose_write, self.choose_go]
-        self.dice.choice(chosen)()
+        self.dice.choice(self.choices())()
         if not self.steps:
             self.emit("90")
 
+    def choices(self):
+        return [self.choose_alloc, self.choose_alloc, self.choose_realloc, self.choose_free, self.choose_size, self.choose_lock,
+                self.choose_unlock, self.choose_alias, self.choose_load, self.choose_load, self.choose_null, self.choose_put,
+                self.choose_put, self.choose_add, self.choose_count, self.choose_write, self.choose_go]
+
+    def new_flags(self):
+        dice = self.dice
+        return dice.choice([0, 0, 0, 4, 4, 8, 1, 2, 3, dice.randrange(16), dice.randrange(16, 65536) if dice.random() < 0.2 else 5])
+
     def choose_alloc(self):
-        size, (selector, at) = self.new_size(), self.target(2)
-        flags = self.dice.choice([0, 0, 0, 4, 4, 8, 1, 2, 3, self.dice.randrange(16), self.dice.randrange(16, 65536) if self.dice.random() < 0.2 else 5])
+        size, (selector, at), flags = self.new_size(), self.target(2), self.new_flags()
         self.call(5, lambda: self.alloc(size, selector, at, flags), size, selector, at, flags)
 
     def choose_realloc(self):
@@ -263,11 +308,11 @@ class Process:
         self.call(6, lambda: self.realloc(size, selector), size, selector)
 
     def choose_free(self):
-        selector = self.any([*self.made(), *self.made(), *self.made(), CODE, DATA, ENVIRONMENT])
+        selector = self.any([*self.made(), *self.made(), *self.made(), CODE, DATA, TEXTS, ENVIRONMENT])
         self.call(7, lambda: self.free(selector), selector)
 
     def choose_size(self):
-        selector, (other, at) = self.any([*self.made(), DATA, ENVIRONMENT]), self.target(4)
+        selector, (other, at) = self.any([*self.made(), DATA, TEXTS, ENVIRONMENT]), self.target(4)
         self.call(8, lambda: self.size(selector, other, at), selector, other, at)
 
     def choose_lock(self):
@@ -284,7 +329,7 @@ class Process:
 
     def choose_load(self):
         register, text = self.dice.choice([("es", "8EC0"), ("es", "8EC0"), ("ds", "8ED8")])
-        selector = self.any([*self.made(), *self.made(), DATA, CODE])
+        selector = self.any([*self.made(), *self.made(), DATA, TEXTS, CODE])
         if not self.under(selector) and self.dice.random() < 0.7:
             return
         self.emit("B8" + self.word(selector))
@@ -324,7 +369,7 @@ class Process:
             self.emit("9A0000" + self.word(selector), lambda: self.go(selector))
             self.steps.append((0, lambda: self.go(8 * CODE + 7)))
             return
-        own = [index for index in self.made("data") if index < 4096]
+        own = [index for index in self.made("data") if index < SHARED]
         if own:
             selector = 8 * self.dice.choice(own) + 7
             self.emit("B8" + self.word(selector))
@@ -335,21 +380,187 @@ class Process:
     def file(self):
         rows = [f"module {self.name}", f"stack {STACK}", "start 1:0000", f"segment {CODE} code size={self.whole_code}"]
         rows += [f"{at:04X}  {self.code[at : at + 16].hex(' ').upper()}" for at in range(0, len(self.code), 16)]
-        return ne.Listing("\n".join([*rows, f"segment {DATA} data size={FRONT} auto"])).file()
+        rows += [f"segment {DATA} data size={FRONT} auto", f"segment {TEXTS} data"]
+        texts = b"\0".join(self.texts)
+        rows += [f"{at:04X}  {texts[at : at + 16].hex(' ').upper()}" for at in range(0, len(texts), 16)]
+        return ne.Listing("\n".join(rows)).file()
 
     def start(self):
-        return [f"start {self.name}", *(f"hold {8 * index + 7:04X} by load" for index in (CODE, DATA, ENVIRONMENT))]
+        holds = (f"hold {8 * index + 7:04X} by load" for index in (CODE, DATA, TEXTS, ENVIRONMENT))
+        return [f"{self.pid} {line}" for line in (f"start {self.name}", *holds)]
+
+
+class Sharer(Process):
+    """A process that shares segments with others, too: by name, by gift and by asking for them."""
+
+    # What a step does.
+
+    def name_segment(self, size, front, offset, selector, at):
+        name, put = name_of(self.text(front, offset)), self.pointer(selector, at, 2, True)
+        index = self.free_index(True)
+        full = self.machine.is_full() or index is None
+        error = 123 if name is None else 183 if self.machine.named(name) else 8 if full else 0
+        value = 8 * (index or 0) + 7
+        if not error:
+            put[at : at + 2] = value.to_bytes(2, "little")
+            self.held[index] = Hold(Segment(size or 65536), "data")
+            self.machine.texts[name] = self.held[index].segment
+        shown = f"{size:04X} {front:04X}:{offset:04X} {selector:04X}:{at:04X}"
+        self.back("DosAllocShrSeg", shown, error, f"{value:04X}", [("hold", index)])
+
+    def get_named(self, front, offset, selector, at):
+        name, put = name_of(self.text(front, offset)), self.pointer(selector, at, 2, True)
+        index = name and self.machine.named(name)
+        error = 123 if name is None else 0 if index else 2
+        value = 8 * (index or 0) + 7
+        if not error:
+            put[at : at + 2] = value.to_bytes(2, "little")
+            self.hold_more(index, self.machine.texts[name])
+        self.back("DosGetShrSeg", f"{front:04X}:{offset:04X} {selector:04X}:{at:04X}", error, f"{value:04X}", [("hold", index)])
+
+    def give(self, selector, number, other, at):
+        put, hold, to, index = self.pointer(other, at, 2, True), self.under(selector), self.machine.living(number), selector >> 3
+        error = 5 if not hold or index < SHARED or not hold.segment.flags & 1 else 0 if to else 303
+        value = 8 * index + 7
+        if not error:
+            put[at : at + 2] = value.to_bytes(2, "little")
+            to.hold_more(index, hold.segment)
+        self.back("DosGiveSeg", f"{selector:04X} {number:04X} {other:04X}:{at:04X}", error, f"{value:04X}", [("hold", index, number)])
+
+    def get(self, selector):
+        index = selector >> 3
+        segment = self.machine.under(index) if selector & 4 and index >= SHARED else None
+        error = 0 if segment and segment.flags & 2 else 5
+        if not error:
+            self.hold_more(index, segment)
+        self.back("DosGetSeg", f"{selector:04X}", error, None, [("hold", index)])
+
+    def move(self, source, target):
+        byte = self.byte(self.ds, source, False).bytes[source]
+        self.byte(self.es, target, True).bytes[target] = byte
+
+    def probe(self, selector):
+        """LAR of a selector, which tells whether the process could load it."""
+        hold = self.under(selector)
+        self.cx, self.asked = RIGHTS[hold.kind] if hold else 0, (selector, self.machine.told)
+
+    def keep(self, at):
+        self.held[DATA].segment.bytes[at : at + 2] = self.cx.to_bytes(2, "little")
+
+    def show(self, at, other, to):
+        """Writes what was kept: who asked, of which selector, behind how many lines, and where in the console the answer stands."""
+        place = self.machine.written
+        self.write(8 * DATA + 7, at, 2, other, to)
+        self.machine.probes.append((self.pid, *self.asked, place))
+
+    # What is chosen.
+
+    def choices(self):
+        shares = [self.choose_name, self.choose_named, self.choose_give, self.choose_get, self.choose_probe, self.choose_post, self.choose_look]
+        return [*super().choices(), *shares, *shares, self.choose_free, self.choose_copy]
+
+    def new_flags(self):
+        return self.dice.choice([super().new_flags(), 1, 2, 3, self.dice.randrange(16)])
+
+    def some_text(self):
+        """A pointer to a text: one of the program's own, mostly a name, or one that was copied."""
+        dice = self.dice
+        copies = [(8 * index + 7, at) for index, segment, at in self.copies if index in self.held and self.held[index].segment is segment]
+        if copies and dice.random() < 0.4:
+            return dice.choice(copies)
+        if dice.random() < 0.03:
+            selector = self.any(self.made())
+            return selector, self.place(selector, 1)
+        kind = dice.random()
+        text = ENDLESS if kind < 0.01 else dice.choice(NO_NAMES if kind < 0.15 else NAMES)
+        return 8 * TEXTS + dice.choice([7, 7, 4, 5, 6]), self.where(text)
+
+    copies = ()
+
+    def where(self, text):
+        """Where one of the program's texts stands, as the program begins."""
+        return sum(len(it) + 1 for it in self.texts[: self.texts.index(text)])
+
+    def choose_name(self):
+        size, (front, offset), (selector, at) = self.new_size(), self.some_text(), self.target(2)
+        self.call(12, lambda: self.name_segment(size, front, offset, selector, at), size, front, offset, selector, at)
+
+    def choose_named(self):
+        (front, offset), (selector, at) = self.some_text(), self.target(2)
+        self.call(13, lambda: self.get_named(front, offset, selector, at), front, offset, selector, at)
+
+    def choose_give(self):
+        shared = [index for index in self.held if index >= SHARED]
+        giveable = [index for index in shared if self.held[index].segment.flags & 1]
+        selector, (other, at) = self.any([*giveable, *giveable, *giveable, *shared, *self.made()]), self.target(2)
+        count, living = len(self.machine.modules), [it.pid for it in self.machine.modules if it.live]
+        number = self.dice.choice([*living, *living, *range(1, count + 1), 0, count + 1, self.dice.randrange(65536)])
+        self.call(14, lambda: self.give(selector, number, other, at), selector, number, other, at)
+
+    def choose_get(self):
+        selector = self.any([*sorted(self.machine.shared()), *self.made()])
+        self.call(15, lambda: self.get(selector), selector)
+
+    def choose_probe(self):
+        selector, at, (other, to) = self.any([*sorted(self.machine.shared()), *self.held]) | 4, self.place(8 * DATA + 7, 2), self.target(2)
+        self.emit("31C9")
+        self.emit("B8" + self.word(selector))
+        self.emit("0F02C8", lambda: self.probe(selector))
+        if at + 2 <= FRONT:
+            self.emit("36890E" + self.word(at), lambda: self.keep(at))
+            self.call(4, lambda: self.show(at, other, to), 1, 8 * DATA + 7, at, 2, other, to)
+
+    def front(self):
+        """One of the shared segments that are held, and its first bytes, which are put and looked at more often than others."""
+        shared = [index for index in self.held if index >= SHARED]
+        index = self.dice.choice(shared) if shared else None
+        return index and 8 * index + 7, index and min(8, len(self.held[index].segment.bytes))
+
+    def choose_post(self):
+        selector, count = self.front()
+        if selector:
+            at, byte = self.dice.randrange(count), self.dice.randrange(256)
+            self.emit("B8" + self.word(selector))
+            self.emit("8EC0", lambda: self.load("es", selector))
+            self.emit("26C606" + self.word(at) + f"{byte:02X}", lambda: self.put(at, byte))
+
+    def choose_look(self):
+        selector, count = self.front()
+        if selector:
+            other, to = self.target(2)
+            self.call(4, lambda: self.write(selector, 0, count, other, to), 1, selector, 0, count, other, to)
+
+    def choose_copy(self):
+        """Copies a text to a segment that a call has made."""
+        text = self.dice.choice([*NAMES, *NO_NAMES])
+        made = [index for index in self.made("data") if len(self.held[index].segment.bytes) > len(text)]
+        if made:
+            index = self.dice.choice(made)
+            at, source = self.place(8 * index + 7, len(text) + 1), self.where(text)
+            self.emit("B8" + self.word(8 * index + 7))
+            self.emit("8EC0", lambda: self.load("es", 8 * index + 7))
+            self.emit("B8" + self.word(8 * TEXTS + 7))
+            self.emit("8ED8", lambda: self.load("ds", 8 * TEXTS + 7))
+            for code, value in (("B9", len(text) + 1), ("BE", source), ("BF", at)):
+                self.emit(code + self.word(value))
+            self.steps += [(len(self.code), lambda k=k: self.move(source + k, at + k)) for k in range(len(text) + 1)]
+            self.code += bytes.fromhex("F3A4")
+            self.copies = [*self.copies, (index, self.held[index].segment, at)]
 
 
 class Callers:
     """Processes in turns, each with a program of its own, and all that the boundless machine writes of them, step by step."""
 
+    FEWEST, MOST, KIND = 1, 3, Process
+
     def __init__(self, dice):
-        count = dice.randint(1, 3)
-        self.modules = [Process(dice, self, pid) for pid in range(1, count + 1)]
-        self.segments = 3 * count + dice.choice([0, 1, 2, 4, 8, 100, 100, 100])
+        count = dice.randint(self.FEWEST, self.MOST)
+        self.texts, self.probes, self.reaches, self.written = {}, [], [], 0
+        self.modules = [self.KIND(dice, self, pid) for pid in range(1, count + 1)]
+        self.segments = 4 * count + dice.choice([0, 1, 2, 4, 8, 100, 100, 100])
         self.quantum = dice.choice([1, 1, 2, 7, 1000])
-        self.opening = [f"{it.pid} {line}" for it in self.modules for line in it.start()]
+        self.opening = [line for it in self.modules for line in it.start()]
+        self.told, self.standing = len(self.opening), self.stand()
         steps = list(self.turns())
         for it in self.modules:
             it.whole_code = max(len(it.code), dice.choice([0, 1000, 20000]))
@@ -360,8 +571,31 @@ class Callers:
     def names(self):
         return list({id(hold.segment): hold.segment for it in self.modules for hold in it.held.values()}.values())
 
+    def stand(self):
+        """Each segment but code with its size and its lock count, which calls and ends alone change: steps that have lines."""
+        return {id(segment): (segment, len(segment.bytes), segment.lock) for segment in self.names() if not segment.is_code}
+
+    def is_full(self):
+        return len(self.names()) >= self.segments
+
     def shared(self):
-        return {index for it in self.modules for index in it.held if index >= 4096}
+        return {index for it in self.modules for index in it.held if index >= SHARED}
+
+    def living(self, number):
+        """The process of this number, where it lives."""
+        return next((it for it in self.modules if it.live and it.pid == number), None)
+
+    def under(self, index):
+        """The segment that somebody holds under a shared index."""
+        return next((it.held[index].segment for it in self.modules if index in it.held), None)
+
+    def named(self, name):
+        """The index of the segment that has a name, which goes with its last hold."""
+        return next((index for index in self.shared() if self.under(index) is self.texts.get(name)), None)
+
+    def reach(self):
+        """How often each process that lives holds what."""
+        return {(it.pid, 8 * index + 7): hold.count for it in self.modules for index, hold in it.held.items()}
 
     def turns(self):
         """Each step: its process, who lives, and without the code its room, lines, piece, and the loads of it."""
@@ -374,20 +608,21 @@ class Callers:
 
     def step(self, it):
         live = [other.pid for other in self.modules if other.live]
-        old = {id(segment): (segment, len(segment.bytes), segment.lock) for segment in self.names() if not segment.is_code}
-        blocks = sum(-(-size // 512) for _, size, _ in old.values())
-        need = it.seats()
+        old, need = self.standing, it.seats()
         it.take()
         need += it.touched + it.seats()
-        new = {id(segment): (segment, len(segment.bytes), segment.lock) for segment in self.names() if not segment.is_code}
-        load = room = 0
-        for name in {**old, **new}:
-            sides = [side[name] for side in (old, new) if name in side]
-            most = whole(max(size for _, size, _ in sides))
-            load += most
-            if any(lock for _, _, lock in sides) or any(segment is sides[0][0] for segment in need):
-                room += most
-        return it.pid, live, room, [f"{it.pid} {line}" for line in it.lines], it.piece, load, blocks
+        if it.lines:
+            self.standing = self.stand()
+        sides = [old, self.standing] if it.lines else [old]
+        most = {name: whole(max(side[name][1] for side in sides if name in side)) for side in sides for name in side}
+        counted = {id(segment) for segment in need} | {name for side in sides for name, (_, _, lock) in side.items() if lock}
+        room, load = sum(most[name] for name in counted if name in most), sum(most.values())
+        blocks = sum(-(-size // 512) for _, size, _ in old.values())
+        self.told += len(it.lines)
+        self.written += len(it.piece)
+        if it.lines and self.told % 16 == 0:
+            self.reaches.append((self.told, self.reach()))
+        return it.pid, live, room, it.lines, it.piece, load, blocks
 
     def text(self, memory, swap):
         keys = f"memory = {memory}\nswap = {swap}\nsegments = {self.segments}\nbudget = 1000000\nquantum = {self.quantum}\n"
