@@ -444,6 +444,9 @@ class Sharer(Process):
         hold = self.under(selector)
         self.cx, self.asked = RIGHTS[hold.kind] if hold else 0, (selector, self.machine.told)
 
+    def tell_register(self, register):
+        self.cx = getattr(self, register)
+
     def keep(self, at):
         self.held[DATA].segment.bytes[at : at + 2] = self.cx.to_bytes(2, "little")
 
@@ -457,7 +460,7 @@ class Sharer(Process):
 
     def choices(self):
         shares = [self.choose_name, self.choose_named, self.choose_give, self.choose_get, self.choose_probe, self.choose_post, self.choose_look]
-        return [*super().choices(), *shares, *shares, self.choose_free, self.choose_copy]
+        return [*super().choices(), *shares, *shares, self.choose_free, self.choose_let_go, self.choose_let_go, self.choose_copy]
 
     def new_flags(self):
         return self.dice.choice([super().new_flags(), 1, 2, 3, self.dice.randrange(16)])
@@ -529,6 +532,15 @@ class Sharer(Process):
         if selector:
             other, to = self.target(2)
             self.call(4, lambda: self.write(selector, 0, count, other, to), 1, selector, 0, count, other, to)
+
+    def choose_let_go(self):
+        """Frees what DS or ES names, and writes to the console what the register has then."""
+        (register, text), at, (other, to) = self.dice.choice([("ds", "8CD9"), ("es", "8CC1")]), self.dice.randrange(FRONT - 1), self.target(2)
+        selector = getattr(self, register)
+        self.call(7, lambda: self.free(selector), selector)
+        self.emit(text, lambda: self.tell_register(register))
+        self.emit("36890E" + self.word(at), lambda: self.keep(at))
+        self.call(4, lambda: self.write(8 * DATA + 7, at, 2, other, to), 1, 8 * DATA + 7, at, 2, other, to)
 
     def choose_copy(self):
         """Copies a text to a segment that a call has made."""
