@@ -15,7 +15,9 @@ use Rattle.o2_world.specs.Rulings.{full_size}
 use Rattle.o2_gate.specs.declared.gathering.SegmentArguments.{SegmentArguments}
 use Rattle.o2_gate.specs.declared.gathering.SegmentArguments.TheVariants.{Alloc, Realloc, Free, Size, Lock, Unlock, Alias, Shared}
 use Rattle.o2_changes.specs.Holding.{KeepsHolds}
+use Rattle.o2_segs.specs.Answers.{IsUnrefused}
 use Rattle.o2_segs.specs.Limits.{KeepsEntries}
+use Rattle.o2_calls.specs.Acts.{MayStop}
 use Rattle.o2_shared.specs.Shares.{StillHolds}
 use Rattle.o2_segs.specs.Made.{IsWithNew}
 
@@ -49,6 +51,12 @@ LacksMemory (Shared a) t m pid = ⊥
 -- and what isn't clean may need more blocks than there are
 abbrev pub LacksSwap : SegmentArguments → Shelf → Maps → (pid : ℕ) → Type 0
 LacksSwap a t m pid = (all_of t.swap < swap_load t) × LacksMemory a t m pid
+
+-- A call came to no error, and what lives with its change is more than the memory.
+pub record IsShort (a : SegmentArguments) (t : Shelf) (m : Maps) (pid : ℕ) (result : Roomed) : Type 0 where
+  pub unrefused : IsUnrefused result
+  pub stops : MayStop a
+  pub lacks : LacksMemory a t m pid
 
 -- what a call leaves of what is held: all of it, but for one that frees; one that shares may hold it once more
 abbrev pub LeavesHolds : SegmentArguments → (old new : Maps) → Type 0

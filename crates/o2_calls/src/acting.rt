@@ -1,5 +1,5 @@
 // A call on segments over a store and the tables of what processes hold.
-ghost use Rattle.std.specs.Prelude.{◌≡◌, ℕ, ◌-◌, ◌<◌, ◌≤◌, ◌^◌, IsSome, IsTrue, Some, true};
+ghost use Rattle.std.specs.Prelude.{◌≡◌, ℕ, ◌-◌, ◌<◌, ◌≤◌, ◌^◌, IsSome, IsTrue, Some, true, ◌⊎◌};
 ghost use Rattle.o2_entries.specs.Tables.{slot_at};
 ghost use Rattle.o2_outer.specs.Texts.{Rose};
 ghost use Rattle.o2_regions.specs.Maps.{IsProcess};
@@ -25,7 +25,8 @@ ghost use Rattle.o2_shared.specs.Texts.{AreInPlace};
 ghost use Rattle.o2_calls.specs.SharedActs.{LeavesSpelled, Spells};
 ghost use Rattle.o2_segs.specs.Made.{IsStop};
 ghost use Rattle.o2_calls.specs.Acts.{IsOver, MayStop, cpu_of, ruling_of};
-ghost use Rattle.o2_calls.specs.Stops.{IsGivable, LacksRoom, LacksSwap, LeavesEntries, LeavesHolds};
+ghost use Rattle.o2_calls.specs.Stops.{IsGivable, LacksRoom, LacksSwap, LeavesEntries, LeavesHolds, IsShort};
+ghost use Rattle.o2_store.specs.Idle.{IsIdle, NoneTaken};
 
 use crate::sharing::share;
 use o2_gate::SegmentArguments;
@@ -116,6 +117,9 @@ pub fn act<S: SwapDevice>(
         × (IsTrue (S.told swap.new) → IsTrue (S.told swap.old)) }
     ensures faults { S.faults swap.old ≤ S.faults swap.new }
     ensures cause { result ≡ Roomed.SwapFault → Rose (S.faults swap.old) (S.faults swap.new) }
+    // Where nothing is in swap blocks, the device isn't touched, unless all that lives with what the call changes doesn't fit the memory.
+    ensures idle { NoneTaken store.old.swap → IsIdle store.new swap.old swap.new
+        ⊎ IsShort arguments store.old regions.old pid result }
 {
     match arguments {
         SegmentArguments::Alloc {

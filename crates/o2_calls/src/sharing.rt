@@ -20,6 +20,7 @@ ghost use Rattle.o2_shared.specs.Shares.{AreFew, ShareOne, StillHolds};
 ghost use Rattle.o2_shared.specs.Texts.{AreInPlace};
 ghost use Rattle.o2_calls.specs.Acts.{IsOver};
 ghost use Rattle.o2_calls.specs.SharedActs.{AreSpelled, Spells, shared_ruling};
+ghost use Rattle.o2_store.specs.Idle.{NoneTaken};
 
 use o2_gate::SharedArguments;
 use o2_regions::{Answer, Ends, Regions};
@@ -74,6 +75,7 @@ pub fn share(
     ensures pictures { (images : ImageList) → HasAll (HasPicture images) store.old
         → HasAll (HasPicture images) store.new }
     ensures map { all_of store.new.swap ≡ all_of store.old.swap }
+    ensures unused { NoneTaken store.old.swap → NoneTaken store.new.swap }
 {
     match arguments {
         SharedArguments::Name { size, text, .. } => {

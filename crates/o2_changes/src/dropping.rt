@@ -9,6 +9,7 @@ ghost use Rattle.o2_changes.specs.Holding.{FreesIndex, IsUnheld, KeepsPlaces, Sw
 ghost use Rattle.o2_changes.specs.Order.{IsGuarded, IsInOrder};
 ghost use Rattle.o2_changes.specs.Worlds.{MatchesDrop};
 ghost use Rattle.o2_swapmap.specs.Piles.{all_of};
+ghost use Rattle.o2_store.specs.Idle.{NoneTaken};
 
 use crate::holding::region_of;
 use o2_place::SegId;
@@ -110,6 +111,7 @@ pub fn sweep(store: &mut Store, regions: &Regions, id: SegId)
     ensures sweeps { Sweeps store.old store.new regions.now id }
     ensures places { KeepsPlaces store.old store.new }
     ensures map { all_of store.new.swap ≡ all_of store.old.swap }
+    ensures unused { NoneTaken store.old.swap → NoneTaken store.new.swap }
     ensures order { IsInOrder store.new regions.now }
     ensures guards { IsGuarded store.old regions.now → IsGuarded store.new regions.now }
     ensures clean { (pic : Pictures) → AreClean store.old pic → AreClean store.new pic }
@@ -139,6 +141,7 @@ pub fn let_go(store: &mut Store, regions: &mut Regions, pid: u16, index: u16, he
     ensures processes { regions.new.processes ≡ regions.old.processes }
     ensures order { IsInOrder store.new regions.new }
     ensures map { all_of store.new.swap ≡ all_of store.old.swap }
+    ensures unused { NoneTaken store.old.swap → NoneTaken store.new.swap }
     ensures guards { IsGuarded store.old regions.old → IsGuarded store.new regions.new }
     ensures clean { (pic : Pictures) → AreClean store.old pic → AreClean store.new pic }
     ensures pictures { (images : ImageList) → HasAll (HasPicture images) store.old

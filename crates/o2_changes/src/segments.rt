@@ -16,6 +16,7 @@ ghost use Rattle.o2_changes.specs.Holding.{IsUnheld};
 ghost use Rattle.o2_changes.specs.Order.{IsGuarded, IsInOrder};
 ghost use Rattle.o2_changes.specs.Segments.{IsNewest, SetsLock};
 ghost use Rattle.o2_changes.specs.Worlds.{MatchesLock, MatchesMake, MatchesMove, MatchesSize, MatchesUnmake, new_segment};
+ghost use Rattle.o2_store.specs.Idle.{Idles, NoneTaken};
 
 use o2_image::Images;
 use o2_outer::SwapDevice;
@@ -73,6 +74,7 @@ pub fn unmake(store: &mut Store, regions: &Regions, id: SegId)
     ensures removed { Removes store.old (record store.new { made = store.old.made }) id.key }
     ensures made { store.new.made ≡ id.age }
     ensures map { all_of store.new.swap ≡ all_of store.old.swap }
+    ensures unused { NoneTaken store.old.swap → NoneTaken store.new.swap }
     ensures clean { (pic : Pictures) → AreClean store.old pic → AreClean store.new pic }
     ensures pictures { (images : ImageList) → HasAll (HasPicture images) store.old
         → HasAll (HasPicture images) store.new }
@@ -148,6 +150,8 @@ pub fn bring_in<S: SwapDevice>(
     ensures faults { S.faults swap.old ≤ S.faults swap.new }
     ensures cause { result ≡ Brought.SwapFault → Rose (S.faults swap.old) (S.faults swap.new) }
     ensures never { result ≡ Brought.Stale → ⊥ }
+    // Where nothing is in swap blocks and all that lives fits the memory, the device isn't touched.
+    ensures idle { Idles (live_load store.old) store.old store.new swap.old swap.new }
 {
     bring(id, keep, store, regions, images, swap)
 }
@@ -198,6 +202,8 @@ pub fn resize<S: SwapDevice>(
     ensures faults { S.faults swap.old ≤ S.faults swap.new }
     ensures cause { result ≡ Brought.SwapFault → Rose (S.faults swap.old) (S.faults swap.new) }
     ensures never { result ≡ Brought.Stale → ⊥ }
+    // Where nothing is in swap blocks and all that lives, with the new size, fits the memory, the device isn't touched.
+    ensures idle { Idles (live_load_at store.old id.key size) store.old store.new swap.old swap.new }
 {
     store.law();
     let answer = store.resize(id, size, keep, images, swap);

@@ -18,7 +18,7 @@ use Rattle.o2_open.specs.declared.session.Session.{Session}
 use Rattle.o2_cli.specs.declared.status.Status.{Status}
 use Rattle.o2_cli.specs.declared.status.Status.TheVariants as status
 use Rattle.o2_cli.specs.Opening.{StartsWith}
-use Rattle.o2_cli.specs.Lined.{HasLined}
+use Rattle.o2_run.specs.Lined.{HasLined}
 use Rattle.o2_cli.specs.Unseen.{Written, IsOver}
 use Rattle.o2_cli.specs.BenchTexts.{bench_line, bench_text, HasLine, HasLineFront, InRun, AtLine}
 use Rattle.o2_cli.specs.RunTexts.{FailsToBegin, ShowsRun, StopsRun}

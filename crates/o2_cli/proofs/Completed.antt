@@ -58,16 +58,16 @@ rooms_live : (s : Setting) (w : World) → room s w ≤ live_load s w
 unfolding room live_load
 rooms_live s w = next_le s w (next_dispatch s w) (process_at w.processes (next_dispatch s w).current)
 
-no_stop_for_room : (blocks : ℕ) (s : Setting) (w : World) → HasAmple blocks s w → s.memory < room s w → ⊥
+pub no_stop_for_room : (blocks : ℕ) (s : Setting) (w : World) → HasAmple blocks s w → s.memory < room s w → ⊥
 no_stop_for_room blocks s w (inl live) above = let part = rooms_live s w in absurd (omega (arith, live, part, above))
 no_stop_for_room blocks s w (inr fits) above = absurd (omega (arith, fits.0, above))
 
-no_full_swap : (blocks : ℕ) (s : Setting) (w : World) → HasAmple blocks s w → IsSwapFull blocks s w → ⊥
+pub no_full_swap : (blocks : ℕ) (s : Setting) (w : World) → HasAmple blocks s w → IsSwapFull blocks s w → ⊥
 no_full_swap blocks s w (inl live) full = absurd (omega (arith, live, full.memory))
 no_full_swap blocks s w (inr fits) full = absurd (omega (arith, fits.1, full.swap))
 
 -- where a command's run stops, and why
-stopped_at : (verb : Verb) (blocks : ℕ) (o : Opened) (why : Stop) → IsForRoom why → (j c d r q : Option (List ℕ)) (e : Type 0) (n : Counts) → HasStop verb blocks o why j c d r q e n
+pub stopped_at : (verb : Verb) (blocks : ℕ) (o : Opened) (why : Stop) → IsForRoom why → (j c d r q : Option (List ℕ)) (e : Type 0) (n : Counts) → HasStop verb blocks o why j c d r q e n
     → (k : ℕ) × IsBelowLast o.setting o.world k × StopsFor blocks o.setting (after o.setting o.world k) why
 stopped_at Exe blocks o why room j c d r q e n t = (t.steps, t.below, t.cause)
 stopped_at Run blocks o why room j c d r q e n t = (t.steps, t.below, t.cause)
@@ -90,7 +90,7 @@ opens_or (Bench count) contents name text f o runs ok err = absurd (cc)
 links_or : (contents : Contents) (name : List ℕ) (f : OpenFault) (s : Session) → loaded Check contents name ≡ Ok s → loaded Check contents name ≡ Err f → ⊥
 links_or contents name f s ok err = absurd (cc)
 
-same_start : (r : Result Opened OpenFault) (a b : Opened) → r ≡ Ok a → r ≡ Ok b → a ≡ b
+pub same_start : (r : Result Opened OpenFault) (a b : Opened) → r ≡ Ok a → r ≡ Ok b → a ≡ b
 same_start r a b x y = cc
 
 module _ (words : List (String Global)) (may : Possible) (contents : Contents) (is : may contents) where
@@ -116,7 +116,7 @@ module _ (words : List (String Global)) (may : Possible) (contents : Contents) (
       (subst (λ (v : Verb). opened v contents b.name text ≡ Ok a.start) (verb_is words a.verb b.verb a.name b.name a.command b.command)
       (subst (λ (n : List ℕ). opened a.verb contents n text ≡ Ok a.start) (name_is words a.verb b.verb a.name b.name a.command b.command) a.opens)) b.opens
 
-  unstopped : (text : List ℕ) (P Q : Verb → Opened → Type 0) → Opens words contents text P → Opens words contents text Q → ((v : Verb) (o : Opened) → P v o → Q v o → ⊥) → ⊥
+  pub unstopped : (text : List ℕ) (P Q : Verb → Opened → Type 0) → Opens words contents text P → Opens words contents text Q → ((v : Verb) (o : Opened) → P v o → Q v o → ⊥) → ⊥
   unstopped text P Q a b clash =
       clash b.verb b.start (subst (λ (v : Verb). P v b.start) (verb_is words a.verb b.verb a.name b.name a.command b.command) (subst (λ (o : Opened). P a.verb o) (one_start text P Q a b) a.runs)) b.runs
 

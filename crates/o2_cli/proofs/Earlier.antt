@@ -30,6 +30,7 @@ module _ (swaps : Bool) (s : Setting) (w : World) (l c e r p : Option (List ℕ)
       below = t.below;
       room = t.room;
       cause = t.cause;
+      fits = t.fits;
       input = t.input;
       to_console = t.to_console;
       to_report = t.to_report;

@@ -18,6 +18,7 @@ use Rattle.o2_dumping.specs.declared.parts.Wrote.{Wrote}
 use Rattle.o2_dumping.specs.declared.parts.Wrote.TheVariants as wrote
 use Rattle.o2_dumping.specs.Puts.{Writes}
 use Rattle.o2_dumping.specs.Told.{Row, core_told}
+use Rattle.o2_dump_laws.specs.Whole.{IsWhole}
 use Rattle.o2_dump_worlds.specs.Rows.{number_shown, row_of}
 use Rattle.o2_dump_worlds.specs.StandsFor.{ImageStandsFor, code_shown}
 use Rattle.o2_dump_worlds.proofs.Standing.{image_stands}
@@ -105,13 +106,13 @@ module _ (m : Machine) (device : ℕ) (block : ℕ → List ℕ) (s : Setting) (
         subst (λ (x : Core). ImageStandsFor (picture m.space.images) s device (steps_done s w) x w) (sym told_is)
         (image_stands (parts_in m.space device block) s w (steps_done s w) lawful_there stands.space stands.set)
 
-    image_is : IsImageOf device s w (core_bytes told)
-    image_is = record { core = told; pictures = picture m.space.images; stands = stands_there; bytes = refl }
+    image_is : IsImageOf (picture m.space.images) device s w (core_bytes told)
+    image_is = record { core = told; stands = stands_there; bytes = refl }
 
     -- what is written of the image
-    pub gains_image : (old new : Option (List ℕ)) (result : Wrote) → Writes old new (core_bytes told) result → (result ≡ wrote.Done → core_of (core_bytes told) ≡ Ok told)
-        → GainsByWrote device s w old new result
+    pub gains_image : (old new : Option (List ℕ)) (result : Wrote) → Writes old new (core_bytes told) result → (result ≡ wrote.Done → IsWhole told × (core_of (core_bytes told) ≡ Ok told))
+        → GainsByWrote (picture m.space.images) device s w old new result
     unfolding image_is
-    gains_image old new wrote.Done writes read = λ t is. (core_bytes told, writes t is, record { image_of = image_is; read = read refl })
+    gains_image old new wrote.Done writes read = λ t is. (core_bytes told, writes t is, record { image_of = image_is; whole = (read refl).0; read = (read refl).1 })
     gains_image old new wrote.SinkFault writes read = λ t is. let g = writes t is in (g.0, g.1, (core_bytes told, image_is, g.2))
     gains_image old new wrote.SwapFault writes read = λ t is. let g = writes t is in (g.0, g.1, (core_bytes told, image_is, g.2))

@@ -41,7 +41,7 @@ abbrev pub opened_from : Session → List (ℕ × ℕ) → List ℕ → Result B
 opened_from s reserved input r = under (refusal s) (where_started reserved s.conf.script s.conf.budget input r) >>= with_setting s
 
 abbrev pub start_of : Session → List ℕ → Built → Opened
-start_of s input b = record { setting = setting_of s.conf; world = first_world s.linked s.conf input b }
+start_of s input b = record { setting = setting_of s.conf; world = first_world s.linked s.conf input b; images = s.linked.images }
 
 pub has_started : (s : Session) (input : List ℕ) (b : Built) → starting s.linked s.conf ≡ Ok b → started s input ≡ Ok (start_of s input b)
 unfolding started

@@ -6,6 +6,7 @@ use Rattle.o2_words.specs.Words.{IsCommandFor}
 use Rattle.o2_world.specs.World.{World, Setting}
 use Rattle.o2_world.specs.Run.{after, IsBelowLast}
 use Rattle.o2_run.specs.Room.{room, swap_load, live_load}
+use Rattle.o2_run.specs.Ended.{AllFitRun}
 use Rattle.o2_open.specs.declared.session.Session.{Session}
 use Rattle.o2_open.specs.Loads.{Contents, loaded}
 use Rattle.o2_cli.specs.declared.status.Status.{Status}
@@ -20,6 +21,10 @@ HasAmple blocks s w = (live_load s w ≤ s.memory) ⊎ ((room s w ≤ s.memory) 
 -- each step of the run has
 abbrev pub IsAmple : (blocks : ℕ) → Opened → Type 0
 IsAmple blocks o = (k : ℕ) → IsBelowLast o.setting o.world k → HasAmple blocks o.setting (after o.setting o.world k)
+
+-- all that lives fits the memory before and behind each step of the run
+abbrev pub AllFit : Opened → Type 0
+AllFit o = AllFitRun o.setting o.world
 
 -- it is done, or there was no memory
 abbrev pub IsDone : Status → Type 0
@@ -45,3 +50,16 @@ abbrev pub CompletesCheck : List (String Global) → Possible → (files sink : 
 CompletesCheck words may files sink result =
     (contents : Contents) (name : List ℕ) (s : Session) → may contents → IsCommandFor words Check name
     → loaded Check contents name ≡ Ok s → (files → ⊥) → (sink → ⊥) → IsDone result
+
+-- a command that runs, and whose segments are never more than its memory has place for: it opens, and all that lives fits at each step
+abbrev pub InMemory : List (String Global) → Possible → (left : Option (List ℕ)) → Type 0 → Type 0
+InMemory words may left P =
+    (IsCheck words → ⊥) → (contents : Contents) (text : List ℕ) → may contents → left ≡ Some text
+    → Opens words contents text (λ verb. AllFit) → P
+
+-- it isn't for room or for swap, nor for a fault of the device, but where the count of these stands at its end
+abbrev pub IsUnswapped : (at_end : Type 0) → Status → Type 0
+IsUnswapped at_end status.NoRoom = ⊥
+IsUnswapped at_end status.SwapFull = ⊥
+IsUnswapped at_end status.SwapFault = at_end
+IsUnswapped at_end _ = Unit {0}

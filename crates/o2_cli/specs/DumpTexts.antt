@@ -7,6 +7,8 @@ use Rattle.o2_dumping.specs.declared.parts.Wrote.{Wrote}
 use Rattle.o2_dumping.specs.declared.parts.Wrote.TheVariants as wrote
 use Rattle.o2_dump_worlds.specs.StandsFor.{ImageStandsFor}
 use Rattle.o2_outer.specs.Texts.{Gains, GainsSome, IsPrefix}
+use Rattle.o2_dump_laws.specs.Whole.{IsWhole}
+use Rattle.o2_store.specs.Pictures.{picture}
 use Rattle.o2_store.specs.Shelf.{Pictures}
 use Rattle.o2_world.specs.World.{World, Setting}
 use Rattle.o2_world.specs.Run.{steps_done}
@@ -22,30 +24,30 @@ use Rattle.o2_cli.specs.Unseen.{IsQuiet, IsOver, IsPart, IsStopped}
 
 -- A core image stands for a world of a run: its bytes are those of a core that stands for the world, over a device of so many blocks.
 -- Its segments and processes are the world's, and it has as many steps and console bytes. What is kept of a segment whose bytes stay
--- with a module or with the machine file isn't in the image: it is that of some pictures, one byte for each of their bytes.
-pub record IsImageOf (device : ℕ) (s : Setting) (w : World) (image : List ℕ) : Type 0 where
+-- with a module or with the machine file isn't in the image: it is that of these pictures, one byte for each of their bytes.
+pub record IsImageOf (pic : Pictures) (device : ℕ) (s : Setting) (w : World) (image : List ℕ) : Type 0 where
   pub core : Core
-  pub pictures : Pictures
-  pub stands : ImageStandsFor pictures s device (steps_done s w) core w
+  pub stands : ImageStandsFor pic s device (steps_done s w) core w
   pub bytes : image ≡ core_bytes core
 
--- a whole one, of which the reader gives that core
-pub record IsWholeImage (device : ℕ) (s : Setting) (w : World) (image : List ℕ) : Type 0 where
-  pub image_of : IsImageOf device s w image
+-- a whole one: its fields fit, it keeps the rules of the format, and the reader gives that core
+pub record IsWholeImage (pic : Pictures) (device : ℕ) (s : Setting) (w : World) (image : List ℕ) : Type 0 where
+  pub image_of : IsImageOf pic device s w image
+  pub whole : IsWhole image_of.core
   pub read : core_of image ≡ Ok image_of.core
 
 -- the console gains such an image, or a front of one
-abbrev pub GainsImage : (device : ℕ) → Setting → World → (console_old console_new : Option (List ℕ)) → Type 0
-GainsImage device s w c d = GainsSome c d (IsWholeImage device s w)
+abbrev pub GainsImage : Pictures → (device : ℕ) → Setting → World → (console_old console_new : Option (List ℕ)) → Type 0
+GainsImage pic device s w c d = GainsSome c d (IsWholeImage pic device s w)
 
-abbrev pub GainsFront : (device : ℕ) → Setting → World → (console_old console_new : Option (List ℕ)) → Type 0
-GainsFront device s w c d = GainsSome c d (λ front. (image : List ℕ) × IsImageOf device s w image × IsPrefix front image)
+abbrev pub GainsFront : Pictures → (device : ℕ) → Setting → World → (console_old console_new : Option (List ℕ)) → Type 0
+GainsFront pic device s w c d = GainsSome c d (λ front. (image : List ℕ) × IsImageOf pic device s w image × IsPrefix front image)
 
 -- by what its writing came to
-abbrev pub GainsByWrote : (device : ℕ) → Setting → World → (console_old console_new : Option (List ℕ)) → Wrote → Type 0
-GainsByWrote device s w c d wrote.Done = GainsImage device s w c d
-GainsByWrote device s w c d wrote.SinkFault = GainsFront device s w c d
-GainsByWrote device s w c d wrote.SwapFault = GainsFront device s w c d
+abbrev pub GainsByWrote : Pictures → (device : ℕ) → Setting → World → (console_old console_new : Option (List ℕ)) → Wrote → Type 0
+GainsByWrote pic device s w c d wrote.Done = GainsImage pic device s w c d
+GainsByWrote pic device s w c d wrote.SinkFault = GainsFront pic device s w c d
+GainsByWrote pic device s w c d wrote.SwapFault = GainsFront pic device s w c d
 
 -- the stop line is put behind the lines of this world
 abbrev pub HasStopLine : Stop → World → (report_old report_new : Option (List ℕ)) → Type 0
@@ -53,14 +55,14 @@ HasStopLine why w r q = Gains r q (lines_text w.lines ++ stop_line why)
 
 -- the run is over, and the image is put
 abbrev pub HasDumpRun : (blocks : ℕ) → Opened → (left console_old console_new report_old report_new : Option (List ℕ)) → Counts → Type 0
-HasDumpRun blocks o j c d r q n = IsOver o j r q n (λ w. GainsImage blocks o.setting w c d)
+HasDumpRun blocks o j c d r q n = IsOver o j r q n (λ w. GainsImage (picture o.images) blocks o.setting w c d)
 
 -- behind a stop line comes the image; where the put of that line failed nothing comes
-pub data IsDumped (blocks : ℕ) (s : Setting) (why : Stop) (console_old console_new report_old report_new : Option (List ℕ)) (fault : Type 0) (puts : Counts)
+pub data IsDumped (pic : Pictures) (blocks : ℕ) (s : Setting) (why : Stop) (console_old console_new report_old report_new : Option (List ℕ)) (fault : Type 0) (puts : Counts)
     (w : World) : Type 0 where
-  Told : HasStopLine why w report_old report_new → GainsImage blocks s w console_old console_new
-      → IsDumped blocks s why console_old console_new report_old report_new fault puts w
-  Untold : fault → IsQuiet console_old console_new puts → IsDumped blocks s why console_old console_new report_old report_new fault puts w
+  Told : HasStopLine why w report_old report_new → GainsImage pic blocks s w console_old console_new
+      → IsDumped pic blocks s why console_old console_new report_old report_new fault puts w
+  Untold : fault → IsQuiet console_old console_new puts → IsDumped pic blocks s why console_old console_new report_old report_new fault puts w
 
 -- the stops behind which an image is put
 abbrev pub IsForRoom : Stop → Type 0
@@ -72,11 +74,11 @@ IsForRoom SwapFault = ⊥
 -- the image isn't finished, behind the end of the run or behind the line of its stop: the report has no further line
 pub data IsUnfinished (blocks : ℕ) (o : Opened) (left console_old console_new report_old report_new : Option (List ℕ)) (fault : Type 0)
     (puts : Counts) : Type 0 where
-  AtEnd : IsOver o left report_old report_new puts (λ w. GainsFront blocks o.setting w console_old console_new)
+  AtEnd : IsOver o left report_old report_new puts (λ w. GainsFront (picture o.images) blocks o.setting w console_old console_new)
       → IsUnfinished blocks o left console_old console_new report_old report_new fault puts
   AtStop : (why : Stop) → IsForRoom why
       → IsStopped blocks o why left report_old report_new fault puts
-      (λ w. HasStopLine why w report_old report_new × GainsFront blocks o.setting w console_old console_new)
+      (λ w. HasStopLine why w report_old report_new × GainsFront (picture o.images) blocks o.setting w console_old console_new)
       → IsUnfinished blocks o left console_old console_new report_old report_new fault puts
 
 -- a sink failed: the report in the run, or the console at the image
@@ -99,8 +101,8 @@ pub data HasDumpFault (blocks : ℕ) (o : Opened) (left console_old console_new 
 abbrev pub HasDumpStop : (blocks : ℕ) → Opened → Stop → (left console_old console_new report_old report_new : Option (List ℕ)) → (fault : Type 0)
     → Counts → Type 0
 HasDumpStop blocks o Input j c d r q e n = IsStopped blocks o Input j r q e n (λ w. IsQuiet c d n)
-HasDumpStop blocks o NoRoom j c d r q e n = IsStopped blocks o NoRoom j r q e n (IsDumped blocks o.setting NoRoom c d r q e n)
-HasDumpStop blocks o SwapFull j c d r q e n = IsStopped blocks o SwapFull j r q e n (IsDumped blocks o.setting SwapFull c d r q e n)
+HasDumpStop blocks o NoRoom j c d r q e n = IsStopped blocks o NoRoom j r q e n (IsDumped (picture o.images) blocks o.setting NoRoom c d r q e n)
+HasDumpStop blocks o SwapFull j c d r q e n = IsStopped blocks o SwapFull j r q e n (IsDumped (picture o.images) blocks o.setting SwapFull c d r q e n)
 HasDumpStop blocks o SwapFault j c d r q e n = HasDumpFault blocks o j c d r q e n
 
 -- whether an image is put behind a run, by the fate of its stop line

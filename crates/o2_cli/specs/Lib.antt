@@ -2,7 +2,6 @@ pub mod Opening
 pub mod Unseen
 pub mod Statuses
 pub mod StatusTexts
-pub mod Lined
 pub mod BenchTexts
 pub mod DumpTexts
 pub mod Ends
@@ -10,3 +9,4 @@ pub mod Top
 pub mod Checks
 pub mod RunTexts
 pub mod Done
+pub mod Reaches

@@ -1,6 +1,7 @@
 -- What a command runs from.
 use Rattle.std.specs.Prelude.{◌≡◌, ℕ, List, Result, Ok}
 use Rattle.o2_base.specs.declared.faults.ModuleFault.{ModuleFault}
+use Rattle.o2_image.specs.ImageList.{ImageList}
 use Rattle.o2_words.specs.declared.words.Verb.{Verb}
 use Rattle.o2_world.specs.World.{World, Setting}
 use Rattle.o2_machine.specs.Begins.{setting_of, opening}
@@ -8,13 +9,14 @@ use Rattle.o2_open.specs.declared.fault.OpenFault.{OpenFault}
 use Rattle.o2_open.specs.declared.session.Session.{Session}
 use Rattle.o2_open.specs.Loads.{Contents, loaded, start_refusal, under, ◌>>=◌}
 
--- its setting, and the world before the first step
+-- its setting, the world before the first step, and the images of its modules and environments
 pub record Opened : Type 0 where
   pub setting : Setting
   pub world : World
+  pub images : ImageList
 
 abbrev pub with_setting : Session → World → Result Opened OpenFault
-with_setting s w = Ok (record { setting = setting_of s.conf; world = w })
+with_setting s w = Ok (record { setting = setting_of s.conf; world = w; images = s.linked.images })
 
 -- a start that is refused
 abbrev pub refusal : Session → ℕ × ModuleFault → OpenFault

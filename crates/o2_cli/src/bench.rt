@@ -13,6 +13,8 @@ ghost use Rattle.o2_words.specs.declared.words.Verb.TheVariants.{Bench};
 ghost use Rattle.o2_cli.specs.BenchTexts.{bench_line, bench_text};
 ghost use Rattle.o2_cli.specs.RunTexts.{RefusesRun, ShowsRun};
 ghost use Rattle.o2_cli.specs.Top.{OnInputFault, OnSinkFault, OnSwapFault, OnUnrun};
+ghost use Rattle.o2_cli.specs.Done.{AllFit};
+ghost use Rattle.o2_cli.specs.Opening.{StartsWith};
 
 use crate::Status;
 use crate::begun::begun;
@@ -112,6 +114,9 @@ pub(crate) fn bench_session<I: Source, C: Sink, R: Sink, S: SwapDevice>(
     ensures input_fault { OnInputFault result (Rose (I.faults input.old) (I.faults input.new)) }
     ensures sink_fault { OnSinkFault result (Rose (C.faults console.old) (C.faults console.new) ⊎ Rose (R.faults report.old) (R.faults report.new)) }
     ensures swap_fault { OnSwapFault result (Rose (S.faults swap.old) (S.faults swap.new)) }
+    // Where all that lives fits the memory at each step, the device is neither read nor written.
+    ensures idle { IsTrue (S.told swap.old) → (text : Option (List ℕ)) → IsSeenAs text (I.past input.new) → (seen : List ℕ)
+        → left_as text (I.left input.old) (I.past input.old) ≡ Some seen → StartsWith session seen AllFit → swap.new ≡ swap.old }
 {
     let Ok(mut line) = LineBuffer::new(alloc) else {
         return Status::NoMemory;

@@ -15,6 +15,10 @@ ghost use Rattle.o2_cli.specs.DumpTexts.{GainsByWrote, is_dumped};
 ghost use Rattle.o2_cli.specs.RunTexts.{RefusesRun, ShowsRun};
 ghost use Rattle.o2_cli.specs.Statuses.{status_of_image, status_of_run};
 ghost use Rattle.o2_cli.specs.Top.{OnInputFault, OnSinkFault, OnSwapFault, OnUnrun};
+ghost use Rattle.o2_cli.specs.Done.{AllFit};
+ghost use Rattle.o2_cli.specs.Opening.{StartsWith};
+ghost use Rattle.o2_store.specs.Idle.{NoneTaken};
+ghost use Rattle.o2_store.specs.Pictures.{picture};
 
 use crate::Status;
 use crate::begun::begun;
@@ -71,9 +75,10 @@ fn put_image<C: Sink, S: SwapDevice>(
     requires device { GoesOver machine.now.space machine.now.sched (S.blocks swap.old) }
     ensures text { IsTrue (S.told swap.new) → (s : Setting) (w : World) → blocks ≡ min s.swap (S.blocks swap.old)
         → StandsFor machine.now (S.blocks swap.old) (S.block swap.old) s w
-        → GainsByWrote (S.blocks swap.old) s w (C.taken console.old) (C.taken console.new) result }
+        → GainsByWrote (picture machine.now.space.images) (S.blocks swap.old) s w (C.taken console.old) (C.taken console.new) result }
     ensures read { IsRead (S.blocks swap.old) (S.blocks swap.new)
         (S.told swap.old) (S.told swap.new) (S.block swap.old) (S.block swap.new) }
+    ensures idle { NoneTaken machine.now.space.store.swap → swap.new ≡ swap.old }
     ensures causes { HasCauses (C.faults console.old) (C.faults console.new)
         (S.faults swap.old) (S.faults swap.new) result }
 {
@@ -156,6 +161,9 @@ pub(crate) fn dump_session<I: Source, C: Sink, R: Sink, S: SwapDevice>(
     ensures input_fault { OnInputFault result (Rose (I.faults input.old) (I.faults input.new)) }
     ensures sink_fault { OnSinkFault result (Rose (C.faults console.old) (C.faults console.new) ⊎ Rose (R.faults report.old) (R.faults report.new)) }
     ensures swap_fault { OnSwapFault result (Rose (S.faults swap.old) (S.faults swap.new)) }
+    // Where all that lives fits the memory at each step, the device is neither read nor written.
+    ensures idle { IsTrue (S.told swap.old) → (text : Option (List ℕ)) → IsSeenAs text (I.past input.new) → (seen : List ℕ)
+        → left_as text (I.left input.old) (I.past input.old) ≡ Some seen → StartsWith session seen AllFit → swap.new ≡ swap.old }
 {
     let Ok(mut rows) = Vec::with_capacity(alloc, usize::from(MOST_PROCESSES)) else {
         return Status::NoMemory;

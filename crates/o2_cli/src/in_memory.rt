@@ -1,12 +1,12 @@
 // The top call over files in memory and a device that always tells.
-ghost use Rattle.std.specs.Prelude.{◌⊎◌, ℕ, List, Option, Some, IsTrue};
+ghost use Rattle.std.specs.Prelude.{◌⊎◌, ℕ, List, Option, Some, IsTrue, ◌≡◌};
 ghost use Rattle.o2_outer.specs.Contents.{file_in};
 ghost use Rattle.o2_outer.specs.Inputs.{IsSeenAs, MayBe, left_as, rest_of};
 ghost use Rattle.o2_outer.specs.Plans.{mem_files, mem_fetch_faults};
 ghost use Rattle.o2_outer.specs.Texts.{Rose};
 ghost use Rattle.o2_run.specs.Pieces.{counts};
 ghost use Rattle.o2_cli.specs.Checks.{Checks};
-ghost use Rattle.o2_cli.specs.Done.{Completes, CompletesCheck};
+ghost use Rattle.o2_cli.specs.Done.{Completes, CompletesCheck, InMemory, IsUnswapped};
 ghost use Rattle.o2_cli.specs.Top.{Refuses, Shows, holding};
 
 use crate::{Status, os2run};
@@ -47,6 +47,9 @@ pub fn os2run_in_memory<I: Source, C: Sink, R: Sink, S: SwapDevice>(
     ensures check_complete { CompletesCheck words.now (holding (file_in (mem_files files.old)))
         (Rose (mem_fetch_faults files.old) (mem_fetch_faults files.new))
         (Rose (C.faults console.old) (C.faults console.new) ⊎ Rose (R.faults report.old) (R.faults report.new)) result }
+    ensures ample { (text : Option (List ℕ)) → IsSeenAs text (I.past input.new)
+        → InMemory words.now (holding (file_in (mem_files files.old))) (left_as text (I.left input.old) (I.past input.old))
+        ((swap.new ≡ swap.old) × IsUnswapped (Rose (S.faults swap.old) (S.faults swap.old)) result) }
 {
     os2run(alloc, words, files, input, console, report, swap)
 }

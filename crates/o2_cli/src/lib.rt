@@ -5,7 +5,6 @@ mod begun;
 mod bench;
 mod dump;
 mod in_memory;
-mod lined;
 mod lines;
 mod messages;
 mod on_system;

@@ -1,5 +1,5 @@
 // The top call over the files of a system and a swap device in one of them.
-ghost use Rattle.std.specs.Prelude.{◌⊎◌, ℕ, List, Option, Some, IsTrue};
+ghost use Rattle.std.specs.Prelude.{◌⊎◌, ℕ, List, Option, Some, IsTrue, ◌≡◌};
 ghost use Rattle.o2_outer.specs.Accesses.{all_agree};
 ghost use Rattle.o2_outer.specs.Fetches.{AreOver};
 ghost use Rattle.o2_outer.specs.Inputs.{MayBe, rest_of};
@@ -8,7 +8,7 @@ ghost use Rattle.o2_outer.specs.Texts.{Rose};
 ghost use Rattle.o2_open.specs.Loads.{Contents};
 ghost use Rattle.o2_run.specs.Pieces.{counts};
 ghost use Rattle.o2_cli.specs.Checks.{Checks};
-ghost use Rattle.o2_cli.specs.Done.{Completes, CompletesCheck};
+ghost use Rattle.o2_cli.specs.Done.{Completes, CompletesCheck, InMemory, IsUnswapped};
 ghost use Rattle.o2_cli.specs.Top.{Refuses, Shows};
 
 use crate::{Status, os2run};
@@ -45,6 +45,9 @@ pub fn os2run_on_system<F: rt::Files + Drop, I: Source, C: Sink, R: Sink>(
     ensures check_complete { CompletesCheck words.now (λ (contents : Contents). AreOver contents (folder_fetches files.new))
         (Rose (folder_faults files.old) (folder_faults files.new))
         (Rose (C.faults console.old) (C.faults console.new) ⊎ Rose (R.faults report.old) (R.faults report.new)) result }
+    ensures ample { IsTrue (all_agree (swap_history swap.old)) → (text : List ℕ) → MayBe text (I.past input.new)
+        → InMemory words.now (λ (contents : Contents). AreOver contents (folder_fetches files.new)) (Some (rest_of text (I.past input.old)))
+        ((swap.new ≡ swap.old) × IsUnswapped (Rose (swap_faults swap.old) (swap_faults swap.old)) result) }
 {
     os2run(alloc, words, files, input, console, report, swap)
 }

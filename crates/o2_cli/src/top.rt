@@ -6,10 +6,12 @@ ghost use Rattle.o2_outer.specs.Texts.{Rose};
 ghost use Rattle.o2_outer.specs.Inputs.{GoesOn, MayBe, rest_of, IsSeenAs, left_as};
 ghost use Rattle.o2_run.specs.Pieces.{counts};
 ghost use Rattle.o2_cli.specs.Top.{IsBench, IsCheck, Refuses, Shows, OnFileFault, OnInputFault, OnSinkFault, OnSwapFault, OnTried, OnUnrun};
+ghost use Rattle.o2_cli.specs.Reaches.{Reaches};
 ghost use Rattle.o2_words.specs.declared.words.Verb.TheVariants.{Run};
 ghost use Rattle.o2_cli.specs.RunTexts.{ShowsRun, RefusesRun};
 ghost use Rattle.o2_cli.specs.Checks.{Checks, IsUnstarted, ShowsLines};
-ghost use Rattle.o2_cli.specs.Done.{Completes, CompletesCheck, HasMemory};
+ghost use Rattle.o2_cli.specs.Done.{Completes, CompletesCheck, HasMemory, AllFit, InMemory, IsUnswapped};
+ghost use Rattle.o2_cli.specs.Opening.{StartsWith};
 
 use crate::Status;
 use crate::begun::begun;
@@ -56,6 +58,9 @@ pub fn os2run<F: Files, I: Source, C: Sink, R: Sink, S: SwapDevice>(
         (counts (C.puts console.old) (C.puts console.new) (R.puts report.old) (R.puts report.new) 0) result }
     ensures some_text { MayBe (I.past input.new).given (I.past input.new) }
     ensures goes_on { GoesOn (I.past input.old) (I.past input.new) }
+    // Behind each step of what ran, each process holds what is under each selector as often as the report's lines tell: a process
+    // reaches a segment exactly while its loads, allocations, gifts and gets outnumber its frees.
+    ensures reach { Reaches words.now (F.may_hold files.new) result }
     // Of `check` the console gains the line of each linked module, or a front of the lines, and nothing else is touched; no
     // module is refused for a stack, an entry point or the number of segments.
     ensures lines { Checks words.now (F.may_hold files.new) (C.taken console.old) (C.taken console.new) result }
@@ -72,6 +77,10 @@ pub fn os2run<F: Files, I: Source, C: Sink, R: Sink, S: SwapDevice>(
         (Rose (S.faults swap.old) (S.faults swap.new)) result }
     ensures check_complete { CompletesCheck words.now (F.may_hold files.new) (Rose (F.faults files.old) (F.faults files.new))
         (Rose (C.faults console.old) (C.faults console.new) ⊎ Rose (R.faults report.old) (R.faults report.new)) result }
+    // Where all that lives fits the memory at each step, the device is neither read nor written, and no stop is for room or for swap.
+    ensures ample { IsTrue (S.told swap.old) → (text : Option (List ℕ)) → IsSeenAs text (I.past input.new)
+        → InMemory words.now (F.may_hold files.new) (left_as text (I.left input.old) (I.past input.old))
+        ((swap.new ≡ swap.old) × IsUnswapped (Rose (S.faults swap.old) (S.faults swap.old)) result) }
     // Want of memory is told only before the first step, and before the lines of the starts, which are put in front of it: where a
     // line or a piece was put, or tried, the status is another one.
     ensures memory_first { (R.puts report.old < R.puts report.new) ⊎ (C.puts console.old < C.puts console.new) → HasMemory result }
@@ -163,6 +172,9 @@ fn run_session<I: Source, C: Sink, R: Sink, S: SwapDevice>(
     ensures input_fault { OnInputFault result (Rose (I.faults input.old) (I.faults input.new)) }
     ensures sink_fault { OnSinkFault result (Rose (C.faults console.old) (C.faults console.new) ⊎ Rose (R.faults report.old) (R.faults report.new)) }
     ensures swap_fault { OnSwapFault result (Rose (S.faults swap.old) (S.faults swap.new)) }
+    // Where all that lives fits the memory at each step, the device is neither read nor written.
+    ensures idle { IsTrue (S.told swap.old) → (text : Option (List ℕ)) → IsSeenAs text (I.past input.new) → (seen : List ℕ)
+        → left_as text (I.left input.old) (I.past input.old) ≡ Some seen → StartsWith session seen AllFit → swap.new ≡ swap.old }
 {
     match begun(alloc, session, swap.count(), report) {
         Err(status) => status,

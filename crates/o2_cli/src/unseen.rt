@@ -4,19 +4,19 @@ ghost use Rattle.o2_outer.specs.Inputs.{GoesOn, IsSeenAs, left_as};
 ghost use Rattle.o2_outer.specs.Texts.{Gains, Rose};
 ghost use Rattle.o2_world.specs.Text.{lines_text};
 ghost use Rattle.o2_world.specs.World.{Setting, World};
-ghost use Rattle.o2_run.specs.Ended.{EndsAs};
+ghost use Rattle.o2_run.specs.Ended.{EndsAs, AllFitRun};
 ghost use Rattle.o2_run.specs.Faults.{Caused};
 ghost use Rattle.o2_run.specs.Pieces.{counts};
 ghost use Rattle.o2_machine.specs.GoesOver.{GoesOver};
 ghost use Rattle.o2_machine.specs.Lasts.{machine_swaps, put_of, stopped_of};
 ghost use Rattle.o2_machine.specs.StandsFor.{StandsFor};
-ghost use Rattle.o2_cli.specs.Lined.{HasLined};
+ghost use Rattle.o2_run.specs.Lined.{HasLined};
 ghost use Rattle.o2_cli.specs.Unseen.{Written};
+ghost use Rattle.o2_store.specs.Idle.{NoneTaken};
 
-use crate::lined::run_lined;
 use o2_machine::Machine;
 use o2_outer::{NoSink, Sink, Source, SwapDevice};
-use o2_run::Fault;
+use o2_run::{Fault, run};
 
 /// Runs a machine to its end or its stop, and tells whether a stop line was put whole. What its programs write is counted by the machine, and goes nowhere.
 pub(crate) fn run_unseen<I: Source, R: Sink, S: SwapDevice>(
@@ -37,8 +37,13 @@ pub(crate) fn run_unseen<I: Source, R: Sink, S: SwapDevice>(
     ensures goes_on { GoesOn (I.past input.old) (I.past input.new) }
     ensures stopped { EndsAs (stopped_of machine.new.last) result }
     ensures device { GoesOver machine.new.space machine.new.sched (S.blocks swap.new) }
+    ensures images { machine.new.space.images ≡ machine.old.space.images }
     ensures swap_blocks { S.blocks swap.new ≡ S.blocks swap.old }
     ensures swap_told { IsTrue (S.told swap.new) → IsTrue (S.told swap.old) }
+    ensures idle { stopped_of machine.old.last ≡ None → IsTrue (S.told swap.old) → (text : Option (List ℕ)) → IsSeenAs text (I.past input.new)
+        → (s : Setting) (w : World) → StandsFor machine.old (S.blocks swap.old) (S.block swap.old) s w
+        → left_as text (I.left input.old) (I.past input.old) ≡ Some w.input → NoneTaken machine.old.space.store.swap
+        → AllFitRun s w → (swap.new ≡ swap.old) × NoneTaken machine.new.space.store.swap }
 
     // A fault is told only where a count rose.
     ensures input_count { I.faults input.old ≤ I.faults input.new }
@@ -48,5 +53,5 @@ pub(crate) fn run_unseen<I: Source, R: Sink, S: SwapDevice>(
         (Rose (I.faults input.old) (I.faults input.new)) (Unit {0}) (Rose (S.faults swap.old) (S.faults swap.new)) result }
 {
     let mut programs = NoSink::new();
-    run_lined(machine, input, &mut programs, report, swap)
+    run(machine, input, &mut programs, report, swap)
 }

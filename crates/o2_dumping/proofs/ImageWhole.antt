@@ -47,7 +47,9 @@ pub image_back : (s : Shelf) (m : Maps) (rows : List Row) (block : ℕ → List 
     → ((pid i : ℕ) → (descriptor_at m pid i).base < 2 ^ 24) → all_of s.swap ≤ blocks → blocks < 2 ^ 32 → done < 2 ^ 64 → console < 2 ^ 64 → length rows ≤ m.processes
     → ((k : ℕ) (p : Row) → slice_get rows k ≡ Some p → IsFitRow p) → ((k i : ℕ) → k < length rows → i < 8192 → IsFitHold (held_at m (k + 1) i))
     → ((k : ℕ) → k < length (numbers s) → FitsAt s block (get_or (numbers s) k 0)) → (c : Core) → c ≡ core_told s m rows block blocks done console
-    → core_of (core_bytes c) ≡ Ok c
+    → IsWhole c × (core_of (core_bytes c) ≡ Ok c)
 image_back s m rows block blocks done console law maps settled held low enough few less small count fit fits places c is =
-    subst (λ (x : Core). core_of (core_bytes x) ≡ Ok x) (sym is)
-    (image_is (core_told s m rows block blocks done console) (image_whole s m rows block blocks done console law maps settled held low enough few less small count fit fits places))
+    subst (λ (x : Core). IsWhole x × (core_of (core_bytes x) ≡ Ok x)) (sym is) (whole, image_is (core_told s m rows block blocks done console) whole)
+  where
+    whole : IsWhole (core_told s m rows block blocks done console)
+    whole = image_whole s m rows block blocks done console law maps settled held low enough few less small count fit fits places

@@ -1,5 +1,5 @@
 // The swap blocks of a segment.
-ghost use Rattle.std.specs.Prelude.{◌≡◌, ℕ, ◌<◌, ◌≤◌, ◌++◌, length, flat_map, slice_index, IsSome, IsTrue};
+ghost use Rattle.std.specs.Prelude.{◌≡◌, ℕ, ◌<◌, ◌≤◌, ◌++◌, length, flat_map, slice_index, IsSome, IsTrue, []};
 ghost use Rattle.o2_outer.specs.Texts.{Rose};
 ghost use Rattle.o2_outer.specs.Answers.{Takes, OnFailed};
 ghost use Rattle.o2_swapmap.specs.Piles.{all_of, blocks_of};
@@ -81,6 +81,7 @@ pub(crate) fn put_blocks<C: Sink, S: SwapDevice>(
         → AreLong (S.block swap.old) (blocks_of store.now.swap id.key) count }
     ensures read { IsRead (S.blocks swap.old) (S.blocks swap.new)
         (S.told swap.old) (S.told swap.new) (S.block swap.old) (S.block swap.new) }
+    ensures unread { blocks_of store.now.swap id.key ≡ [] → swap.new ≡ swap.old }
     ensures causes { HasCauses (C.faults console.old) (C.faults console.new)
         (S.faults swap.old) (S.faults swap.new) result }
 {

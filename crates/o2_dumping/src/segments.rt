@@ -7,6 +7,7 @@ ghost use Rattle.o2_dumping.specs.Fits.{FitsAt, IsFitPlace};
 ghost use Rattle.o2_dumping.specs.Fronts.{place_front, segment_front, shown_number, shown_of};
 ghost use Rattle.o2_dumping.specs.Puts.{HasCauses, IsRead, Writes};
 ghost use Rattle.o2_dumping.specs.Told.{numbers, segment_told, segments_told};
+ghost use Rattle.o2_store.specs.Idle.{NoneTaken};
 
 use crate::blocks::put_blocks;
 use crate::parts::Wrote;
@@ -92,6 +93,7 @@ fn put_segment<C: Sink, S: SwapDevice>(
         → FitsAt store.now (S.block swap.old) id.key }
     ensures read { IsRead (S.blocks swap.old) (S.blocks swap.new)
         (S.told swap.old) (S.told swap.new) (S.block swap.old) (S.block swap.new) }
+    ensures idle { NoneTaken store.now.swap → swap.new ≡ swap.old }
     ensures causes { HasCauses (C.faults console.old) (C.faults console.new)
         (S.faults swap.old) (S.faults swap.new) result }
 {
@@ -139,6 +141,7 @@ pub(crate) fn put_segments<C: Sink, S: SwapDevice>(
         → FitsAt store.now (S.block swap.old) (slice_index_or (numbers store.now) k 0) }
     ensures read { IsRead (S.blocks swap.old) (S.blocks swap.new)
         (S.told swap.old) (S.told swap.new) (S.block swap.old) (S.block swap.new) }
+    ensures idle { NoneTaken store.now.swap → swap.new ≡ swap.old }
     ensures causes { HasCauses (C.faults console.old) (C.faults console.new)
         (S.faults swap.old) (S.faults swap.new) result }
 {

@@ -7,11 +7,13 @@ ghost use Rattle.o2_segbus.specs.Settled.{IsSettled};
 ghost use Rattle.o2_dump.specs.CoreBytes.{core_bytes, long, process_bytes, quad};
 ghost use Rattle.o2_dump.specs.declared.reader.Core.{Core};
 ghost use Rattle.o2_dump.specs.CoreImage.{core_of};
+ghost use Rattle.o2_dump_laws.specs.Whole.{IsWhole};
 ghost use Rattle.o2_regions.specs.Maps.{held_at};
 ghost use Rattle.o2_service.specs.Told.{IsHeldWell};
 ghost use Rattle.o2_dumping.specs.Fits.{IsFitHold, IsFitRow};
 ghost use Rattle.o2_dumping.specs.Puts.{HasCauses, IsRead, Writes};
 ghost use Rattle.o2_dumping.specs.Told.{core_told, descriptor_at, numbers, processes_from, Row};
+ghost use Rattle.o2_store.specs.Idle.{NoneTaken};
 
 use crate::parts::{Parts, Wrote};
 use crate::piece::Piece;
@@ -85,9 +87,11 @@ pub fn write<C: Sink, S: SwapDevice>(machine: &Parts<'_>, console: &mut C, swap:
         → IsTrue (S.told swap.new) → result ≡ Wrote.Done → (c : Core)
         → c ≡ core_told machine.now.store.now machine.now.regions.now machine.now.processes.now
         (S.block swap.old) machine.now.blocks machine.now.steps machine.now.console
-        → core_of (core_bytes c) ≡ Ok c }
+        → IsWhole c × (core_of (core_bytes c) ≡ Ok c) }
     ensures read { IsRead (S.blocks swap.old) (S.blocks swap.new)
         (S.told swap.old) (S.told swap.new) (S.block swap.old) (S.block swap.new) }
+    // Where no segment has blocks the device isn't read.
+    ensures idle { NoneTaken machine.now.store.now.swap → swap.new ≡ swap.old }
     ensures causes { HasCauses (C.faults console.old) (C.faults console.new)
         (S.faults swap.old) (S.faults swap.new) result }
 {

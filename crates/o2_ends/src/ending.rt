@@ -10,6 +10,7 @@ ghost use Rattle.o2_stands.specs.Parts.{Parts, Running};
 ghost use Rattle.o2_stands.specs.Stands.{AreMarked};
 ghost use Rattle.o2_ends.specs.Ended.{StandsBehind};
 ghost use Rattle.o2_ends.specs.LetsGo.{LetsGo, Sheds};
+ghost use Rattle.o2_store.specs.Idle.{NoneTaken};
 
 use crate::drops::{drop_all, release};
 use o2_regions::{Ends, Regions};
@@ -25,6 +26,7 @@ fn let_go_at(pid: u16, index: u16, store: &mut Store, regions: &mut Regions)
     requires held { IsHeldWell store.old regions.old }
     ensures maps { LetsGo regions.old regions.new pid (λ i. i == index) }
     ensures store { Sheds store.old regions.old store.new regions.new }
+    ensures unused { NoneTaken store.old.swap → NoneTaken store.new.swap }
 {
     store.law();
     regions.law();
@@ -49,6 +51,7 @@ pub fn let_go(pid: u16, store: &mut Store, regions: &mut Regions)
     requires settled { IsSettled store.old regions.old }
     ensures maps { LetsGo regions.old regions.new pid (λ i. true) }
     ensures store { Sheds store.old regions.old store.new regions.new }
+    ensures unused { NoneTaken store.old.swap → NoneTaken store.new.swap }
     ensures behind { StandsBehind pid store.old regions.old store.new regions.new }
 {
     store.law();
@@ -72,6 +75,7 @@ pub fn end(pid: u16, store: &mut Store, regions: &mut Regions, ends: &mut Ends)
         → AreMarked ends.new (with_running p pid r) }
     ensures maps { LetsGo regions.old regions.new pid (λ i. true) }
     ensures store { Sheds store.old regions.old store.new regions.new }
+    ensures unused { NoneTaken store.old.swap → NoneTaken store.new.swap }
     ensures behind { StandsBehind pid store.old regions.old store.new regions.new }
 {
     ends.end(pid);

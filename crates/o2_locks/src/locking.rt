@@ -1,5 +1,5 @@
 // DosLockSeg.
-ghost use Rattle.std.specs.Prelude.{◌≡◌, ℕ, ◌<◌, ◌≤◌, ◌/◌, IsTrue, None, Some, IfSome, IsSome, true, if◌then◌else◌};
+ghost use Rattle.std.specs.Prelude.{◌≡◌, ℕ, ◌<◌, ◌≤◌, ◌/◌, IsTrue, None, Some, IfSome, IsSome, true, if◌then◌else◌, ◌⊎◌};
 ghost use Rattle.o2_isa.specs.View.{is_local};
 ghost use Rattle.o2_outer.specs.Texts.{Rose};
 ghost use Rattle.o2_regions.specs.Maps.{IsProcess, held_at};
@@ -12,7 +12,7 @@ ghost use Rattle.o2_swapmap.specs.Piles.{all_of};
 ghost use Rattle.o2_changes.specs.Holding.{KeepsHolds};
 ghost use Rattle.o2_changes.specs.Order.{IsGuarded, IsInOrder};
 ghost use Rattle.o2_stands.specs.Stands.{Matches};
-ghost use Rattle.o2_segs.specs.Answers.{AnswersRoomed, changes_roomed};
+ghost use Rattle.o2_segs.specs.Answers.{AnswersRoomed, changes_roomed, IsUnrefused};
 ghost use Rattle.o2_segs.specs.Limits.{KeepsLimits};
 ghost use Rattle.o2_segs.specs.Made.{IsStop};
 ghost use Rattle.o2_stands.specs.Knows.{Others, known_in};
@@ -23,6 +23,7 @@ ghost use Rattle.o2_world.specs.Known.{Marks};
 ghost use Rattle.o2_world.specs.Rulings.{locking, locking_with};
 ghost use Rattle.o2_world.specs.World.{World};
 ghost use Rattle.o2_locks.specs.Marked.{IsMarked};
+ghost use Rattle.o2_store.specs.Idle.{IsIdle, NoneTaken};
 
 use crate::unlocking::is_discardable;
 use o2_changes::{bring_in, set_lock};
@@ -80,6 +81,9 @@ pub fn lock_seg<S: SwapDevice>(
         × (store.old.places.size < live_load store.old) }
     ensures faults { S.faults swap.old ≤ S.faults swap.new }
     ensures cause { result ≡ Roomed.SwapFault → Rose (S.faults swap.old) (S.faults swap.new) }
+    // Where nothing is in swap blocks, the device isn't touched, unless all that lives doesn't fit the memory.
+    ensures idle { NoneTaken store.old.swap → IsIdle store.new swap.old swap.new
+        ⊎ (IsUnrefused result × (store.old.places.size < live_load store.old)) }
 {
     match held_under(regions, pid, sel) {
         Some(held) => lock(store, regions, held.id, keep, images, swap),
@@ -128,6 +132,8 @@ fn lock<S: SwapDevice>(
         × (store.old.places.size < live_load store.old) }
     ensures faults { S.faults swap.old ≤ S.faults swap.new }
     ensures cause { result ≡ Roomed.SwapFault → Rose (S.faults swap.old) (S.faults swap.new) }
+    ensures idle { NoneTaken store.old.swap → IsIdle store.new swap.old swap.new
+        ⊎ (IsUnrefused result × (store.old.places.size < live_load store.old)) }
 {
     store.law();
     match store.attr(id) {

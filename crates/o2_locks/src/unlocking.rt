@@ -19,6 +19,7 @@ ghost use Rattle.o2_world.specs.Known.{Marks};
 ghost use Rattle.o2_world.specs.Rulings.{unlocking, unlocking_with};
 ghost use Rattle.o2_world.specs.World.{World};
 ghost use Rattle.o2_locks.specs.Marked.{IsMarked};
+ghost use Rattle.o2_store.specs.Idle.{NoneTaken};
 
 use o2_changes::set_lock;
 use o2_place::SegId;
@@ -71,6 +72,7 @@ pub fn unlock_seg(store: &mut Store, regions: &mut Regions, pid: u16, sel: u16) 
     ensures pictures { (images : ImageList) → HasAll (HasPicture images) store.old
         → HasAll (HasPicture images) store.new }
     ensures map { all_of store.new.swap ≡ all_of store.old.swap }
+    ensures unused { NoneTaken store.old.swap → NoneTaken store.new.swap }
     ensures matches { (p : Parts) (o : Others) (w : World) → p.shelf ≡ store.old
         → p.maps ≡ regions.old → Matches p w → Matches (record p { shelf = store.new })
         (with_all w (unlocking (known_in p o) pid sel).changes) }
@@ -96,6 +98,7 @@ fn unlock(store: &mut Store, regions: &Regions, id: SegId) -> Answer
     ensures pictures { (images : ImageList) → HasAll (HasPicture images) store.old
         → HasAll (HasPicture images) store.new }
     ensures map { all_of store.new.swap ≡ all_of store.old.swap }
+    ensures unused { NoneTaken store.old.swap → NoneTaken store.new.swap }
     ensures matches { (m : Marks) (p : Parts) (w : World) → IsMarked (entry store.old id.key).attr m → p.shelf ≡ store.old
         → p.maps ≡ regions.now → Matches p w → Matches (record p { shelf = store.new })
         (with_all w (unlocking_with id.age (Some m)).changes) }

@@ -21,6 +21,7 @@ use Rattle.o2_world.specs.World.{Held, Process, HoldsBy, Setting, World, is_live
 use Rattle.o2_world.specs.Opening.{start_lines}
 use Rattle.o2_world.specs.Run.{live_flags}
 use Rattle.o2_world.specs.Starts.{Built, where_started}
+use Rattle.o2_world.specs.Reach.{IsTold}
 use Rattle.o2_world.specs.Tied.{IsSound}
 use Rattle.o2_sched.specs.Schedule.{Schedule}
 use Rattle.o2_stands.specs.Parts.{Parts, Running, goes_on}
@@ -29,7 +30,7 @@ use Rattle.o2_gate.specs.declared.state.State.{State as Services}
 use Rattle.o2_load.specs.Beginnings.{lines_from, program_name}
 use Rattle.o2_load.specs.Loads.{library_ranges, starts_of}
 use Rattle.o2_load.specs.Progresses.{IsStartedAt}
-use Rattle.o2_load.proofs.Openings.{linked_opening_sound}
+use Rattle.o2_load.proofs.Openings.{linked_opening_sound, linked_opening_told}
 use Rattle.o2_opening.specs.declared.opening.Opened.{Opened}
 use Rattle.o2_opening.specs.Openings.{IsOpened, IsSettingOf, StandsFirst, first_running}
 use Rattle.o2_space.specs.declared.space.Proc.{Proc}
@@ -55,6 +56,10 @@ use Rattle.o2_machine.proofs.Marks.{all_go_on}
 -- the first world of linked modules is sound
 pub first_sound : (l : LinkedParts) (c : Conf) → IsWithinLimits c → IsLinked c l → (input : List ℕ) (w : World) → opening l c input ≡ Ok w → IsSound w
 first_sound l c within linked input w opens = linked_opening_sound (setting_of c) (library_ranges l) c.script input linked.0 c l w linked.1.0 within.environments linked.1.1 opens
+
+-- and what is held in it is what its lines tell
+pub first_told : (l : LinkedParts) (c : Conf) → IsLinked c l → (input : List ℕ) (w : World) → opening l c input ≡ Ok w → IsTold w
+first_told l c linked input w opens = linked_opening_told (setting_of c) (library_ranges l) c.script input linked.0 c l w linked.1.0 linked.1.1 opens
 
 -- registers and states
 
@@ -104,7 +109,7 @@ module _ (o : Opened) (l : LinkedParts) (b : Built) (c : Conf) (blocks : ℕ) (m
     (opened : IsOpened o l b) (starts : starting l c ≡ Ok b) (count : length o.cpus.items ≡ length c.process)
     (processes : o.regions.processes ≡ length c.process) (swap : all_of o.store.swap ≡ min c.swap blocks)
     (first : (s : Setting) (input : List ℕ) (w : World) → IsSettingOf c s → opening_in s l c input ≡ Ok w → IsSound w → StandsFirst o l.images blocks s w)
-    (sound : (input : List ℕ) (w : World) → opening l c input ≡ Ok w → IsSound w)
+    (sound : (input : List ℕ) (w : World) → opening l c input ≡ Ok w → IsSound w) (told : (input : List ℕ) (w : World) → opening l c input ≡ Ok w → IsTold w)
     (space : space_of o l.images procs services m.space) (bare : m.space.names ≡ replicate 4096 None) (each : procs ≡ map first_proc o.cpus.items) (avail : services.avail ≡ c.avail)
     (sched : m.sched ≡ first_schedule c) (budget : m.budget ≡ c.budget) (console : m.console_bytes ≡ 0) (lines : m.lines ≡ length b.lines) (within : IsWithinLimits c) where
   abbrev pub world : List ℕ → World
@@ -141,6 +146,7 @@ module _ (o : Opened) (l : LinkedParts) (b : Built) (c : Conf) (blocks : ℕ) (m
     space = subst (λ (p : Parts). Stands p (world input)) (sym (parts_are device block))
         (stands_over o.store o.regions l.images runs blocks device block (world input) (enough device same) ((stood input).stands block));
     sound = sound input (world input) (opens input);
+    told = told input (world input) (opens input);
     set = subst (λ (p : Parts). IsSetTo p (setting_of c)) (sym (parts_are device block))
         (set_over o.store o.regions l.images runs blocks device block block (setting_of c) same ((stood input).set block));
     flags = all_live o.cpus.items b.processes (λ i. lives_as (slice_get o.cpus.items i) _ (slice_get b.processes i) (opened.places i))

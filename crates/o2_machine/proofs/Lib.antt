@@ -8,3 +8,4 @@ pub mod FirstStands
 pub mod Hands
 pub mod StartPuts
 pub mod Slicing
+pub mod Reaching

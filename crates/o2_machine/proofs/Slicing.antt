@@ -14,9 +14,7 @@ use Rattle.o2_stands.specs.Stands.{IsSetTo, Stands}
 use Rattle.o2_store.specs.Shelf.{SameTables}
 use Rattle.o2_world.specs.World.{Line, Setting, World}
 use Rattle.o2_world.specs.Run.{after, is_over, next_dispatch}
-use Rattle.o2_world.specs.Tied.{IsSound}
-use Rattle.o2_world.proofs.StepSound.{step_sound}
-use Rattle.o2_world.proofs.StepTold.{along}
+use Rattle.o2_world.proofs.StepTold.{told_along}
 use Rattle.o2_run.specs.declared.steps.Turn.{Turn}
 use Rattle.o2_machine.specs.Lasts.{stopped_of}
 use Rattle.o2_machine.specs.StandsFor.{StandsFor}
@@ -97,7 +95,8 @@ module _ (m : Machine) (device : ℕ) (block : ℕ → List ℕ) (s : Setting) (
     now_at : n.sched.dispatch ≡ (after s w k).dispatch → n.sched.flags ≡ m.sched.flags → n.sched.quantum ≡ m.sched.quantum → StandsFor n device block s (after s w k)
     now_at dispatch flags quantum = record {
       space = subst (λ (z : Space). Stands (parts_in z device block) (after s w k)) (sym space) later.stands;
-      sound = along {P = λ (v : World). IsSound v} s (λ v sound. step_sound s v sound) w stands.sound k;
+      sound = (told_along s w stands.sound stands.told k).0;
+      told = (told_along s w stands.sound stands.told k).1;
       set = subst (λ (z : Space). IsSetTo (parts_in z device block) s) (sym space) set;
       flags = later.flags ∙ (stands.flags ∙ sym flags);
       dispatch = sym dispatch;

@@ -15,13 +15,15 @@ use Rattle.o2_world.specs.Text.{lines_text, line_text}
 use Rattle.o2_world.specs.Tied.{IsSound}
 use Rattle.o2_world.proofs.StepMoves.{effect_moves}
 use Rattle.o2_world.proofs.StepSound.{step_sound}
+use Rattle.o2_world.proofs.StepTold.{step_told}
+use Rattle.o2_world.specs.Reach.{IsTold}
 use Rattle.o2_world.specs.Run.{before, changed, step, is_over, IsReadNext, any_lives, live_flags, console, last_line, next_dispatch, working}
 use Rattle.o2_world.proofs.Budget.{step_runs}
 use Rattle.o2_world.proofs.Flags.{live_process}
 use Rattle.o2_run.specs.Room.{Fits}
 use Rattle.o2_run.specs.Turn.{StepsOn, StepsInPart, IsStopped, IsClosed, IsClosedInPart, Turns, Caused, LineIs, OnRan}
 use Rattle.o2_run.specs.Pieces.{counts, Hands, HandsUpTo, FailedHands, puts_of, step_puts}
-use Rattle.o2_run.specs.Stops.{StopsFor, stop_line}
+use Rattle.o2_run.specs.Stops.{StopFits, StopsFor, stop_line}
 use Rattle.o2_run.specs.declared.steps.Stop.{Stop}
 use Rattle.o2_run.specs.declared.steps.Stop.TheVariants.{Input, NoRoom, SwapFull, SwapFault}
 use Rattle.o2_run.specs.declared.steps.Turn.{Turn}
@@ -135,6 +137,7 @@ module _ (m : Machine) (device : ℕ) (block : ℕ → List ℕ) (s : Setting) (
         (stood_by (parts_in left count holds) behind.processes behind.names behind.next_name behind.reserved (matches (next_of m.sched) refl)
         (subst (λ (v : World). IsTidy v.processes v.names v.reserved) step_is (step_tidy s w stands.sound stands.space.tidy)));
     sound = subst (λ (v : World). IsSound v) step_is (step_sound s w stands.sound);
+    told = subst (λ (v : World). IsTold v) step_is (step_told s w stands.sound stands.told);
     set = subst (λ (z : Space). IsSetTo (parts_in z count holds) s) (sym counts.space) set;
     flags = flags;
     dispatch = dispatch_behind w (next_of m.sched) p made ∙ sym dispatch;
@@ -218,6 +221,7 @@ pub same_space : (n m : Machine) (device count : ℕ) (block holds : ℕ → Lis
 same_space n m device count block holds s w stands same space set spells = record {
   space = space;
   sound = stands.sound;
+  told = stands.told;
   set = set;
   flags = stands.flags ∙ ap (λ (z : Schedule). z.flags) (sym same.sched);
   dispatch = stands.dispatch ∙ ap (λ (z : Schedule). z.dispatch) (sym same.sched);
@@ -253,6 +257,10 @@ module _ (m : Machine) (device : ℕ) (block : ℕ → List ℕ) (s : Setting) (
   -- what is said of the process of this number is so of it
   at_k : (P : ℕ → Process → Type 0) → ((p : Process) → process_at w.processes number ≡ Some p → P number p) → P k here
   at_k P did = subst (λ (z : ℕ). (p : Process) → process_at w.processes z ≡ Some p → P z p) (sym is.number) did here here_is
+
+  -- what follows of whichever process is next is so
+  pub of_next : (X : Type 0) → (is_over w ≡ false → (next_dispatch s w).current ≡ number → (p : Process) → process_at w.processes number ≡ Some p → X) → X
+  of_next X did = at_k (λ z p. X) (did (runs m device block s w here c d r q stands is.any is.some here_is) current_is)
 
   -- over what the device is behind it
   module _ (n : Machine) (count : ℕ) (holds : ℕ → List ℕ) where
@@ -315,12 +323,13 @@ module _ (m : Machine) (device : ℕ) (block : ℕ → List ℕ) (s : Setting) (
           (subst (λ (z : Bool). TakesText z r q (lines_text e.lines)) part all.to_report) (inr all.to_console)
 
     -- no step is done: the machine stands for the world before it, and there is a cause in that world
-    halts : (why : Stop) (put : Bool) (i j s_of : Option (List ℕ)) → StopsFor device s w why → IsSame m n → i ≡ Some w.input → IsSetTo (parts_in n.space count holds) s
+    halts : (why : Stop) (put : Bool) (i j s_of : Option (List ℕ)) → StopsFor device s w why → StopFits true s w why → IsSame m n → i ≡ Some w.input → IsSetTo (parts_in n.space count holds) s
         → Stays w (parts_in n.space count holds) i j c d r s_of → AreSpelled n.space.store n.space.names w → GainsSome s_of q (λ front. IsPrefix front (stop_line why)) → (put ≡ true → Gains s_of q (stop_line why))
-        → IsStopped stands_now device s w why put j c d r q
-    halts why put i j s_of cause same left set all spells front whole = record {
+        → IsStopped stands_now true device s w why put j c d r q
+    halts why put i j s_of cause fit same left set all spells front whole = record {
       runs = runs m device block s w here c d r q stands is.any is.some here_is;
       cause = cause;
+      fits = fit;
       stands = same_space n m device count block holds s w stands same all.stands set spells;
       input = all.input ∙ left;
       to_console = all.to_console;
@@ -346,15 +355,15 @@ module _ (m : Machine) (device : ℕ) (block : ℕ → List ℕ) (s : Setting) (
         → GainsSome s_of q (λ front. IsPrefix front (stop_line why)) → (put ≡ true → Gains s_of q (stop_line why)) → Turns stands_now true device s w put j c d r q (turn_of why)
     stopped_by Input put i j s_of same left set did says spelt front whole =
         let all = at_k (λ z p. ActsFault (before s w z p) w (parts_in n.space count holds) i j c d r s_of (Stopped Input)) (did current_is) in
-        halts Input put i j s_of (reads all.cause) same left set all.still (at_k (λ z p. AreSpelled n.space.store n.space.names w) (spelt current_is)) front whole
+        halts Input put i j s_of (reads all.cause) (at_k (λ z p. FaultSays device s w (Stopped Input)) (says current_is)) same left set all.still (at_k (λ z p. AreSpelled n.space.store n.space.names w) (spelt current_is)) front whole
     stopped_by NoRoom put i j s_of same left set did says spelt front whole =
-        halts NoRoom put i j s_of (at_k (λ z p. FaultSays device s w (Stopped NoRoom)) (says current_is)) same left set
+        halts NoRoom put i j s_of (at_k (λ z p. FaultSays device s w (Stopped NoRoom)) (says current_is)) tt same left set
         (at_k (λ z p. ActsFault (before s w z p) w (parts_in n.space count holds) i j c d r s_of (Stopped NoRoom)) (did current_is)) (at_k (λ z p. AreSpelled n.space.store n.space.names w) (spelt current_is)) front whole
     stopped_by SwapFull put i j s_of same left set did says spelt front whole =
-        halts SwapFull put i j s_of (at_k (λ z p. FaultSays device s w (Stopped SwapFull)) (says current_is)) same left set
+        halts SwapFull put i j s_of (at_k (λ z p. FaultSays device s w (Stopped SwapFull)) (says current_is)) tt same left set
         (at_k (λ z p. ActsFault (before s w z p) w (parts_in n.space count holds) i j c d r s_of (Stopped SwapFull)) (did current_is)) (at_k (λ z p. AreSpelled n.space.store n.space.names w) (spelt current_is)) front whole
     stopped_by SwapFault put i j s_of same left set did says spelt front whole =
-        halts SwapFault put i j s_of tt same left set
+        halts SwapFault put i j s_of tt tt same left set
         (at_k (λ z p. ActsFault (before s w z p) w (parts_in n.space count holds) i j c d r s_of (Stopped SwapFault)) (did current_is)) (at_k (λ z p. AreSpelled n.space.store n.space.names w) (spelt current_is)) front whole
 
   -- The puts of a step that is done, whole or not, and of one in which a sink failed.
@@ -436,17 +445,17 @@ module _ (m n : Machine) (device : ℕ) (block : ℕ → List ℕ) (s : Setting)
   spent_in_part pick g = let both = some_lives pick in closed_in_part _ (rw (both.0, both.1) refl) (rw (both.0, both.1) refl) g
 
 -- what a machine stands for doesn't depend on the answer that it keeps
-stop_moves : (f g : World → Type 0) → ((w : World) → f w → g w) → (blocks : ℕ) (s : Setting) (w : World) (put : Bool) (i c d r q : Option (List ℕ)) (why : Stop) → IsStopped f blocks s w why put i c d r q → IsStopped g blocks s w why put i c d r q
-stop_moves f g h blocks s w put i c d r q why x = record { runs = x.runs; cause = x.cause; stands = h w x.stands; input = x.input; to_console = x.to_console; to_report = x.to_report; whole = x.whole }
+stop_moves : (f g : World → Type 0) → ((w : World) → f w → g w) → (swaps : Bool) (blocks : ℕ) (s : Setting) (w : World) (put : Bool) (i c d r q : Option (List ℕ)) (why : Stop) → IsStopped f swaps blocks s w why put i c d r q → IsStopped g swaps blocks s w why put i c d r q
+stop_moves f g h swaps blocks s w put i c d r q why x = record { runs = x.runs; cause = x.cause; fits = x.fits; stands = h w x.stands; input = x.input; to_console = x.to_console; to_report = x.to_report; whole = x.whole }
 
 turns_move : (f g : World → Type 0) → ((w : World) → f w → g w) → (swaps : Bool) (blocks : ℕ) (s : Setting) (w : World) (put : Bool) (i c d r q : Option (List ℕ)) (t : Turn) → Turns f swaps blocks s w put i c d r q t → Turns g swaps blocks s w put i c d r q t
 turns_move f g h swaps blocks s w put i c d r q turn.Ran x = record { runs = x.runs; room = x.room; input = x.input; stands = h (step s w) x.stands; to_console = x.to_console; to_report = x.to_report }
 turns_move f g h swaps blocks s w put i c d r q turn.AllEnded x = record { over = x.over; by = x.by; stands = h w x.stands; input = x.input; to_console = x.to_console; to_report = x.to_report }
 turns_move f g h swaps blocks s w put i c d r q turn.BudgetSpent x = record { over = x.over; by = x.by; stands = h w x.stands; input = x.input; to_console = x.to_console; to_report = x.to_report }
-turns_move f g h swaps blocks s w put i c d r q turn.InputFault x = stop_moves f g h blocks s w put i c d r q Input x
-turns_move f g h swaps blocks s w put i c d r q turn.NoRoom x = stop_moves f g h blocks s w put i c d r q NoRoom x
-turns_move f g h swaps blocks s w put i c d r q turn.SwapFull x = stop_moves f g h blocks s w put i c d r q SwapFull x
-turns_move f g h swaps blocks s w put i c d r q turn.SwapFault x = stop_moves f g h blocks s w put i c d r q SwapFault x
+turns_move f g h swaps blocks s w put i c d r q turn.InputFault x = stop_moves f g h swaps blocks s w put i c d r q Input x
+turns_move f g h swaps blocks s w put i c d r q turn.NoRoom x = stop_moves f g h swaps blocks s w put i c d r q NoRoom x
+turns_move f g h swaps blocks s w put i c d r q turn.SwapFull x = stop_moves f g h swaps blocks s w put i c d r q SwapFull x
+turns_move f g h swaps blocks s w put i c d r q turn.SwapFault x = stop_moves f g h swaps blocks s w put i c d r q SwapFault x
 turns_move f g h swaps blocks s w put i c d r q turn.SinkFault (inl x) = inl (record { runs = x.runs; room = x.room; input = x.input; stands = either x.stands; to_console = x.to_console; to_report = x.to_report; in_order = x.in_order }) where
   either : f w ⊎ f (step s w) → g w ⊎ g (step s w)
   either (inl y) = inl (h w y)

@@ -5,6 +5,7 @@ use Rattle.o2_conf.specs.declared.conf.Conf.{Conf}
 pub use Rattle.o2_dynlink.specs.Linking.{IsLinked}
 use Rattle.o2_dynlink.specs.Outcome.{LinkedParts}
 use Rattle.o2_outer.specs.Texts.{Gains, GainsSome, IsPrefix}
+use Rattle.o2_store.specs.Idle.{NoneTaken}
 use Rattle.o2_world.specs.World.{World, Setting}
 use Rattle.o2_world.specs.Text.{lines_text}
 use Rattle.o2_world.specs.Starts.{Built, all_started, world_of, opening_of}
@@ -36,13 +37,15 @@ opening l c input = opening_in (setting_of c) l c input
 
 -- All processes have started, and the lines of their starts are put. The machine is made for `blocks` blocks of its device, or for
 -- as many as the setting has, where these are fewer. It stands for the first world over each device of which that leaves as many,
--- whatever they hold, and goes on over each device that has as many.
+-- whatever they hold, and goes on over each device that has as many. It has nothing in its blocks.
 pub record HasBegun (m : Machine) (l : LinkedParts) (c : Conf) (blocks : ℕ) (report_old report_new : Option (List ℕ)) : Type 0 where
   pub built : Built
   pub starts : starting l c ≡ Ok built
   pub stands : (device : ℕ) → min c.swap device ≡ min c.swap blocks → (block : ℕ → List ℕ) (input : List ℕ)
       → StandsFor m device block (setting_of c) (first_world l c input built)
   pub goes_on : (device : ℕ) → min c.swap blocks ≤ device → GoesOver m.space m.sched device
+  pub unused : NoneTaken m.space.store.swap
+  pub images : m.space.images ≡ l.images
   pub fresh : m.last ≡ None
   pub to_report : Gains report_old report_new (lines_text built.lines)
 

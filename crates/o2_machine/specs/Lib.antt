@@ -5,3 +5,4 @@ pub mod StandsFor
 pub mod Begins
 pub mod Readies
 pub mod Shown
+pub mod Reaches

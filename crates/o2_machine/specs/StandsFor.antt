@@ -5,6 +5,7 @@ use Rattle.o2_gate.specs.Befores.{IsKnown}
 use Rattle.o2_stands.specs.Stands.{IsSetTo, Stands}
 use Rattle.o2_space.specs.Parts.{parts_in}
 use Rattle.o2_world.specs.Known.{known_of}
+use Rattle.o2_world.specs.Reach.{IsTold}
 use Rattle.o2_world.specs.Tied.{IsSound}
 use Rattle.o2_world.specs.World.{World, Setting}
 use Rattle.o2_world.specs.Run.{live_flags}
@@ -16,6 +17,8 @@ pub record StandsFor (m : Machine) (device : ℕ) (block : ℕ → List ℕ) (s 
   pub space : Stands (parts_in m.space device block) w
   -- what holds of every world of a run
   pub sound : IsSound w
+  -- what is held is what the lines of the report tell
+  pub told : IsTold w
   pub set : IsSetTo (parts_in m.space device block) s
   pub flags : live_flags w.processes ≡ m.sched.flags
   pub dispatch : w.dispatch ≡ m.sched.dispatch

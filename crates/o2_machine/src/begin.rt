@@ -7,6 +7,7 @@ ghost use Rattle.o2_outer.specs.Texts.{Rose};
 ghost use Rattle.o2_outer.specs.Answers.{Takes, Puts, OnFailed};
 ghost use Rattle.o2_swapmap.specs.Piles.{all_of};
 ghost use Rattle.o2_world.specs.Text.{lines_text};
+ghost use Rattle.o2_world.specs.Reach.{IsTold};
 ghost use Rattle.o2_world.specs.Tied.{IsSound};
 ghost use Rattle.o2_world.specs.World.{Setting, World};
 ghost use Rattle.o2_load.specs.Beginnings.{lines_from, program_name};
@@ -14,6 +15,7 @@ ghost use Rattle.o2_world.specs.Starts.{Built};
 ghost use Rattle.o2_opening.specs.Openings.{IsOpened, IsSettingOf, StandsFirst};
 ghost use Rattle.o2_machine.specs.Begins.{Begins, BeginPuts, IsLinked, OnSinkFault, OnUnbegun, opening, opening_in, starting};
 ghost use Rattle.o2_machine.specs.Readies.{first_proc, first_schedule};
+ghost use Rattle.o2_store.specs.Idle.{NoneTaken};
 
 use crate::fault::BeginFault;
 use crate::machine::Machine;
@@ -205,9 +207,11 @@ fn finish<R: Sink>(
     requires there { length conf.now.process ≤ length linked.programs }
     requires processes { opened.regions.processes ≡ length conf.now.process }
     requires swap { all_of opened.store.swap ≡ min conf.now.swap blocks }
+    requires unused { NoneTaken opened.store.swap }
     requires stands { (s : Setting) (input : List ℕ) (w : World) → IsSettingOf conf.now s
         → opening_in s linked conf.now input ≡ Ok w → IsSound w → StandsFirst opened linked.images blocks s w }
     requires sound { (input : List ℕ) (w : World) → opening linked conf.now input ≡ Ok w → IsSound w }
+    requires told { (input : List ℕ) (w : World) → opening linked conf.now input ≡ Ok w → IsTold w }
     ensures begins { (b : Built) → starting linked conf.now ≡ Ok b → IsOpened opened linked b
         → Begins linked conf.now blocks (R.taken report.old) (R.taken report.new) result }
     ensures puts { (b : Built) → IsOpened opened linked b → BeginPuts (R.puts report.old) (R.puts report.new) (length b.lines) result }

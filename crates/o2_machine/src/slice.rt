@@ -5,6 +5,7 @@ ghost use Rattle.o2_run.specs.Slice.{OverSome, Slices};
 ghost use Rattle.o2_world.specs.World.{Setting, World};
 ghost use Rattle.o2_machine.specs.GoesOver.{GoesOver};
 ghost use Rattle.o2_machine.specs.StandsFor.{StandsFor};
+ghost use Rattle.o2_store.specs.Idle.{NoneTaken};
 
 use crate::machine::Machine;
 use o2_slices::slice_of;
@@ -21,6 +22,8 @@ impl Machine {
             → GoesOver self.new.space self.new.sched blocks }
         ensures left { self.new.sched.dispatch.budget + result ≡ self.old.sched.dispatch.budget }
         ensures last { self.new.last ≡ self.old.last }
+        ensures images { self.new.space.images ≡ self.old.space.images }
+        ensures idle { NoneTaken self.old.space.store.swap → NoneTaken self.new.space.store.swap }
     {
         let done = slice_of(&mut self.space, self.sched.current(), most);
         if done > 0 {

@@ -12,6 +12,9 @@ ghost use Rattle.o2_world.specs.World.{is_live as lives_on};
 ghost use Rattle.o2_machine.specs.GoesOver.{GoesOver};
 ghost use Rattle.o2_machine.specs.StandsFor.{StandsFor};
 ghost use Rattle.o2_run.specs.Pieces.{counts, TurnHands};
+ghost use Rattle.o2_store.specs.Idle.{IsIdle, NoneTaken};
+ghost use Rattle.o2_run.specs.Room.{AllFits};
+ghost use Rattle.o2_world.specs.Run.{is_over};
 
 use crate::last::{Last, answer};
 use crate::machine::Machine;
@@ -32,6 +35,7 @@ impl Machine {
         ensures space { self.new.space ≡ self.old.space }
         ensures budget { self.new.budget ≡ self.old.budget }
         ensures last { self.new.last ≡ self.old.last }
+        ensures images { self.new.space.images ≡ self.old.space.images }
         ensures left { self.new.sched.dispatch.budget < self.old.sched.dispatch.budget }
     {
         self.sched.stepped();
@@ -63,8 +67,13 @@ impl Machine {
             (C.taken console.old) (C.taken console.new) (R.taken report.old) (R.taken report.new) (answer_of result) }
         ensures goes_on { GoesOn (I.past input.old) (I.past input.new) }
         ensures last { self.new.last ≡ self.old.last }
+        ensures images { self.new.space.images ≡ self.old.space.images }
         ensures device { GoesOver self.new.space self.new.sched (S.blocks swap.new) }
         ensures frame { (S.blocks swap.new ≡ S.blocks swap.old) × (IsTrue (S.told swap.new) → IsTrue (S.told swap.old)) }
+        ensures idle { IsTrue (S.told swap.old) → (text : Option (List ℕ)) → IsSeenAs text (I.past input.new) → (s : Setting) (w : World)
+            → StandsFor self.old (S.blocks swap.old) (S.block swap.old) s w
+            → left_as text (I.left input.old) (I.past input.old) ≡ Some w.input → (is_over w ≡ false → AllFits s w)
+            → NoneTaken self.old.space.store.swap → IsIdle self.new.space.store swap.old swap.new }
         ensures input_count { I.faults input.old ≤ I.faults input.new }
         ensures console_count { C.faults console.old ≤ C.faults console.new }
         ensures report_count { R.faults report.old ≤ R.faults report.new }
@@ -115,8 +124,13 @@ impl Machine {
             (C.taken console.old) (C.taken console.new) (R.taken report.old) (R.taken report.new) (answer_of result) }
         ensures goes_on { GoesOn (I.past input.old) (I.past input.new) }
         ensures last { self.new.last ≡ self.old.last }
+        ensures images { self.new.space.images ≡ self.old.space.images }
         ensures device { GoesOver self.new.space self.new.sched (S.blocks swap.new) }
         ensures frame { (S.blocks swap.new ≡ S.blocks swap.old) × (IsTrue (S.told swap.new) → IsTrue (S.told swap.old)) }
+        ensures idle { IsTrue (S.told swap.old) → (text : Option (List ℕ)) → IsSeenAs text (I.past input.new) → (s : Setting) (w : World)
+            → StandsFor self.old (S.blocks swap.old) (S.block swap.old) s w
+            → left_as text (I.left input.old) (I.past input.old) ≡ Some w.input → (is_over w ≡ false → AllFits s w)
+            → NoneTaken self.old.space.store.swap → IsIdle self.new.space.store swap.old swap.new }
         ensures input_count { I.faults input.old ≤ I.faults input.new }
         ensures console_count { C.faults console.old ≤ C.faults console.new }
         ensures report_count { R.faults report.old ≤ R.faults report.new }
@@ -149,11 +163,17 @@ impl Machine {
 }
 
 impl Steps for Machine {
+    ghost use Rattle.o2_image.specs.ImageList.{ImageList};
     ghost use Rattle.o2_machine.specs.Lasts.{stopped_of, put_of, machine_swaps};
     ghost use Rattle.o2_machine.specs.GoesOver.{GoesOver};
     ghost use Rattle.o2_machine.specs.StandsFor.{StandsFor};
+    ghost use Rattle.o2_store.specs.Idle.{NoneTaken};
 
     ghost stands = { λ m blocks block s w. StandsFor m blocks block s w };
+
+    ghost Fixed = { ImageList };
+
+    ghost fixed = { λ m. m.space.images };
 
     ghost fits = { λ m blocks. GoesOver m.space m.sched blocks };
 
@@ -164,6 +184,8 @@ impl Steps for Machine {
     ghost stopped = { λ m. stopped_of m.last };
 
     ghost line_put = { λ m. put_of m.last };
+
+    ghost none_swapped = { λ m. NoneTaken m.space.store.swap };
 
     #[tactic(auto, using(o2_outer::proofs::Inputs::goes_same))]
     fn turn<I: Source, C: Sink, R: Sink, S: SwapDevice>(

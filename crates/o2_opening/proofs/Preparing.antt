@@ -15,6 +15,7 @@ use Rattle.o2_regions.specs.declared.held.Region.TheVariants.{Private, Shared}
 use Rattle.o2_regions.specs.Maps.{Maps, IsProcess, held_at, is_reserved, nothing, with_reserved}
 use Rattle.o2_regions.proofs.Keeps.{made}
 use Rattle.o2_regions.proofs.Wholes.{is_nothing}
+use Rattle.o2_store.specs.Idle.{NoneTaken}
 use Rattle.o2_store.specs.Shelf.{Shelf, place_of}
 use Rattle.o2_segbus.specs.Settled.{IsSettledAt, descriptor_at}
 use Rattle.o2_opening.specs.declared.stored.Stored.{Stored}
@@ -43,7 +44,7 @@ lengths_first : (n w pid : ℕ) → 1 ≤ pid → pid ≤ n → length (get_or (
 lengths_first n w zero some most = absurd (omega (arith, some))
 lengths_first n w (suc k) some most = ap (λ (xs : List Descriptor). length xs) (get_or-replicate n k (replicate w empty) [] (omega (arith, most))) ∙ length-replicate w empty
 
-module _ (s : Shelf) (r : Maps) (n used : ℕ) (slots : (k : ℕ) → slot_at s.entries k ≡ None) (made_none : s.made ≡ 0) (out : (k : ℕ) → place_of s k ≡ None)
+module _ (s : Shelf) (r : Maps) (n used : ℕ) (slots : (k : ℕ) → slot_at s.entries k ≡ None) (made_none : s.made ≡ 0) (out : (k : ℕ) → place_of s k ≡ None) (unused : NoneTaken s.swap)
     (maps : r ≡ with_reserved (nothing n) Shared 4096 used true) (unheld : (pid i : ℕ) → held_at r pid i ≡ None)
     (own : (pid i : ℕ) → IsProcess r pid → is_reserved r (Private pid) i ≡ false) where
   no_segments : AreStored s []
@@ -54,6 +55,7 @@ module _ (s : Shelf) (r : Maps) (n used : ℕ) (slots : (k : ℕ) → slot_at s.
     there = λ k id e. absurd (no_id e);
     back = λ k e at. let none : None ≡ Some e = sym (slots k) ∙ at in absurd (cc);
     out = out;
+    unused = unused;
   }
     where
       no_id : {id : SegId} → ◌≡◌ {A = Option SegId} None (Some id) → ⊥
@@ -119,12 +121,12 @@ holds_none : (m : Maps) (pid i : ℕ) → held_at m pid i ≡ None → held_in m
 unfolding held_in
 holds_none m pid i none = ap (option_map (held_of m pid i)) none
 
-pub prepared_by : (l : LinkedParts) (v : Stored) (n used : ℕ) → ((k : ℕ) → slot_at v.store.entries k ≡ None) → v.store.made ≡ 0 → ((k : ℕ) → place_of v.store k ≡ None)
+pub prepared_by : (l : LinkedParts) (v : Stored) (n used : ℕ) → ((k : ℕ) → slot_at v.store.entries k ≡ None) → v.store.made ≡ 0 → ((k : ℕ) → place_of v.store k ≡ None) → NoneTaken v.store.swap
     → v.regions ≡ with_reserved (nothing n) Shared 4096 used true → ((pid i : ℕ) → held_at v.regions pid i ≡ None)
     → ((pid i : ℕ) → IsProcess v.regions pid → is_reserved v.regions (Private pid) i ≡ false) → v.ids.items ≡ []
     → length l.programs ≡ n → used ≡ library_indexes (modules_of l.images) → ((i : ℕ) → is_reserved v.regions Shared i ≡ (nat_le 4096 i && nat_lt i (4096 + library_indexes (modules_of l.images)))) → IsPrepared l v
-prepared_by l v n used slots made_none out maps unheld own ids count is_used shared =
-    let both = starting v.store v.regions n used slots made_none out maps unheld own l v.ids.items ids count is_used shared in
+prepared_by l v n used slots made_none out unused maps unheld own ids count is_used shared =
+    let both = starting v.store v.regions n used slots made_none out unused maps unheld own l v.ids.items ids count is_used shared in
     let begun : IsStarting v = record { stored = both.0; mapped = both.1 } in
     record {
       starting = begun;
@@ -136,10 +138,10 @@ prepared_by l v n used slots made_none out maps unheld own ids count is_used sha
       ready = record {
         whole = begun;
         made = λ k d less. absurd (omega (arith, less));
-        own = λ pid i there some low. own_may v.store v.regions n used slots made_none out maps unheld own l v.ids.items ids count is_used shared pid i there some low;
+        own = λ pid i there some low. own_may v.store v.regions n used slots made_none out unused maps unheld own l v.ids.items ids count is_used shared pid i there some low;
         shared = λ pid place k i p there which library at.
             (let in_range = library_index (modules_of l.images) place k i p which library at in
-            shared_may v.store v.regions n used slots made_none out maps unheld own l v.ids.items ids count is_used shared pid i there in_range.0 in_range.1);
+            shared_may v.store v.regions n used slots made_none out unused maps unheld own l v.ids.items ids count is_used shared pid i there in_range.0 in_range.1);
       };
       shared = shared;
     }

@@ -13,6 +13,8 @@ use Rattle.o2_entries.proofs.Numbers.{rank, listed-add, rank-le, listed-le, list
 use Rattle.o2_image.specs.ImageList.{ImageList, image_front}
 use Rattle.o2_place.specs.declared.seg_id.SegId.{SegId}
 use Rattle.o2_store.specs.Pictures.{picture, HasPicture}
+use Rattle.o2_store.specs.Idle.{NoneTaken}
+use Rattle.o2_swapmap.specs.Piles.{Blocks}
 use Rattle.o2_store.specs.Shelf.{Shelf, IsShelf, Adds, Pictures, aged, byte_at, entry, entry_of, entry_or, place_of}
 use Rattle.o2_store.proofs.Tables.{slot-set_same, slot-set_other}
 use Rattle.o2_store.proofs.Painting.{front_at}
@@ -114,6 +116,7 @@ module _ (s t : Shelf) (ids : List SegId) (id : SegId) (e : Entry) (is : AreStor
       | inr other ↦ id_kept ids id (record { key = k; age = f.age }) f.age (is.back k f (sym (slot_there k other) ∙ at))
     ];
     out = λ k. ap (λ (z : Shelf). place_of z k) adds.shelf ∙ is.out k;
+    unused = subst (λ (m : Blocks). NoneTaken m) (sym (ap (λ (z : Shelf). z.swap) adds.shelf)) is.unused;
   }
     where
       id_is : (x : SegId) (k age : ℕ) → x.key ≡ k → x.age ≡ age → ◌≡◌ {A = SegId} x (record { key = k; age = age })

@@ -8,6 +8,7 @@ use Rattle.o2_regions.specs.declared.held.Cause.TheVariants.{Loaded}
 use Rattle.o2_regions.specs.declared.held.Held.{Held as HeldThere}
 use Rattle.o2_regions.specs.declared.held.Region.TheVariants.{Private, Shared}
 use Rattle.o2_regions.specs.Maps.{Maps, IsProcess, held_at, is_reserved, table_of}
+use Rattle.o2_store.specs.Idle.{NoneTaken}
 use Rattle.o2_store.specs.Pictures.{HasPicture}
 use Rattle.o2_store.specs.Shelf.{Shelf, entry, entry_of, place_of}
 use Rattle.o2_segbus.specs.Settled.{IsSettled}
@@ -56,7 +57,7 @@ pub record IsLoaded (ids : List SegId) (h : HeldThere) : Type 0 where
   pub first : h.first ≡ 0
   pub reserved : h.reserved ≡ 0
 
--- The store has the segments of the names and no others, each under its age, from an image, and out of memory.
+-- The store has the segments of the names and no others, each under its age, from an image, and out of memory. Nothing is in swap blocks.
 pub record AreStored (s : Shelf) (ids : List SegId) : Type 0 where
   pub made : s.made ≡ length ids
   pub live : length (live_numbers 0 s.entries) ≡ length ids
@@ -64,6 +65,7 @@ pub record AreStored (s : Shelf) (ids : List SegId) : Type 0 where
   pub there : (n : ℕ) (id : SegId) → slice_get ids n ≡ Some id → IsSome (entry_of s id)
   pub back : (k : ℕ) (e : Entry) → slot_at s.entries k ≡ Some e → slice_get ids e.age ≡ Some (record { key = k; age = e.age })
   pub out : (k : ℕ) → place_of s k ≡ None
+  pub unused : NoneTaken s.swap
 
 -- The descriptors agree with the store, each process's table has all indexes, and of its own indexes those that it holds are
 -- reserved.

@@ -11,6 +11,7 @@ ghost use Rattle.o2_world.specs.Tied.{IsSound};
 ghost use Rattle.o2_load.specs.Loads.{library_ranges, starts_of};
 ghost use Rattle.o2_opening.specs.Starting.{IsPrepared};
 ghost use Rattle.o2_opening.specs.Openings.{IsSettingOf, OpensAll, StandsFirst};
+ghost use Rattle.o2_store.specs.Idle.{NoneTaken};
 
 use crate::reserving::reserve_libraries;
 use crate::stored::Stored;
@@ -99,6 +100,7 @@ pub fn open(
     ensures memory { IfOk result (λ m. m.store.places.size ≡ conf.now.memory) }
     ensures segments { IfOk result (λ m. length m.store.entries ≡ conf.now.segments) }
     ensures blocks { IfOk result (λ m. all_of m.store.swap ≡ min conf.now.swap device) }
+    ensures unused { IfOk result (λ m. NoneTaken m.store.swap) }
     ensures processes { IfOk result (λ m. m.regions.processes ≡ length conf.now.process) }
     ensures count { IfOk result (λ m. length m.cpus.items ≡ length conf.now.process) }
 {

@@ -1,10 +1,10 @@
 -- What a swap device over a file was asked for, the last first, and what its blocks hold by that.
-use Rattle.std.specs.Prelude.{ℕ, Bool, true, List, [], ◌∷◌, if◌then◌else◌, ◌==◌, ◌&&◌}
+use Rattle.std.specs.Prelude.{ℕ, Bool, true, false, List, [], ◌∷◌, if◌then◌else◌, ◌==◌, ◌&&◌}
 use Rattle.std.specs.Str.{bytes_eq}
 use Rattle.o2_outer.specs.declared.swap.Dev.{Dev}
 use Rattle.o2_outer.specs.declared.swap.Dev.TheVariants as dev
-use Rattle.o2_outer.specs.declared.file_swap.Access.{Access}
-use Rattle.o2_outer.specs.declared.file_swap.Access.TheVariants.{Read, Written, Lost}
+use Rattle.o2_outer.specs.declared.access.Access.{Access}
+use Rattle.o2_outer.specs.declared.access.Access.TheVariants.{Read, Written, Lost}
 
 -- a block, what was done with it, and the bytes
 abbrev pub Accessed : Type 0
@@ -20,6 +20,17 @@ held Lost bytes before = []
 abbrev pub content : List Accessed → ℕ → List ℕ
 content [] b = []
 content (a ∷ rest) b = if a.0 == b then held a.1.0 a.1.1 (content rest b) else content rest b
+
+-- whether a block is known behind an access of it: behind a write that was done, but not behind one that failed
+abbrev pub knows : Access → (before : Bool) → Bool
+knows Read before = before
+knows Written before = true
+knows Lost before = false
+
+-- it was written, and no write of it has failed since
+abbrev pub is_known : List Accessed → ℕ → Bool
+is_known [] b = false
+is_known (a ∷ rest) b = if a.0 == b then knows a.1.0 (is_known rest b) else is_known rest b
 
 -- a read gave what its block held
 abbrev pub agrees : Access → (bytes before : List ℕ) → Bool

@@ -63,7 +63,7 @@ folder_fetches f = f.fetches.items
 
 -- what was done with the blocks of a file so far
 abbrev pub swap_history : {R F D : Type 0} → FileSwap R F D → List Accessed
-swap_history s = s.history.items
+swap_history s = s.noted.history.items
 
 abbrev pub swap_faults : {R F D : Type 0} → FileSwap R F D → ℕ
 swap_faults s = s.faults

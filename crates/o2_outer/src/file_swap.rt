@@ -3,7 +3,7 @@ ghost use Rattle.std.specs.Prelude.{◌≡◌, ◌≤◌, []};
 ghost use Rattle.o2_outer.specs.Texts.{Rose, risen};
 ghost use Rattle.o2_outer.specs.Streams.{swap_history, swap_faults};
 
-use crate::history::History;
+use crate::noted::Noted;
 use crate::reading::read_on;
 use crate::streams::write_whole;
 use crate::{Dev, Put, SwapDevice};
@@ -20,21 +20,14 @@ const BLOCKS: u32 = 65_536;
 /// How many bytes a block has.
 const BLOCK: u64 = 512;
 
-/// What was done with a block.
-enum Access {
-    Read,
-    Written,
-    /// A write failed, so nobody knows what it holds.
-    Lost,
-}
-
 /// Blocks in the file `os2run.swp`, which is made, empty, at the first use. A block holds what was written last, and it tells whether
-/// each read gave that. Each error of the system, and a block of which the file has less than the whole, is a fault.
+/// each read gave that. Each error of the system is a fault, and so is a read of a block that wasn't written or whose last write failed,
+/// and of one of which the file has less than the whole: so a read gives other bytes only where the file changes by itself.
 #[derive(Drop)]
 pub struct FileSwap<R: rt::Files + Drop> {
     system: R,
     file: Option<R::File>,
-    history: History<u32, Access, [u8; 512]>,
+    noted: Noted,
     faults: u64,
 }
 
@@ -47,7 +40,7 @@ impl<R: rt::Files + Drop> FileSwap<R> {
         FileSwap {
             system,
             file: None,
-            history: History::new(),
+            noted: Noted::new(),
             faults: 0,
         }
     }
@@ -55,7 +48,7 @@ impl<R: rt::Files + Drop> FileSwap<R> {
     /// Opens the file where it isn't open, and tells whether it is.
     fn open(&mut self) -> bool
         ensures faults { self.new.faults ≡ self.old.faults }
-        ensures history { self.new.history ≡ self.old.history }
+        ensures noted { self.new.noted ≡ self.old.noted }
     {
         if self.file.is_some() {
             return true;
@@ -77,7 +70,7 @@ impl<R: rt::Files + Drop> FileSwap<R> {
         ensures later { self.old.faults ≤ self.new.faults }
         ensures rose { Rose self.old.faults self.new.faults }
         ensures counts { self.new.faults ≡ risen self.old.faults }
-        ensures history { self.new.history ≡ self.old.history }
+        ensures noted { self.new.noted ≡ self.old.noted }
     {
         self.faults = self.faults.saturating_add(1);
         Dev::Failed
@@ -86,7 +79,7 @@ impl<R: rt::Files + Drop> FileSwap<R> {
     /// Reads a block from the open file, and tells whether it has the whole.
     fn reads(&mut self, i: u32, into: &mut [u8; 512]) -> bool
         ensures faults { self.new.faults ≡ self.old.faults }
-        ensures history { self.new.history ≡ self.old.history }
+        ensures noted { self.new.noted ≡ self.old.noted }
     {
         let Some(file) = &mut self.file else {
             return false;
@@ -98,7 +91,7 @@ impl<R: rt::Files + Drop> FileSwap<R> {
     /// Writes a block to the open file, and tells whether it was taken whole.
     fn writes(&mut self, i: u32, from: &[u8; 512]) -> bool
         ensures faults { self.new.faults ≡ self.old.faults }
-        ensures history { self.new.history ≡ self.old.history }
+        ensures noted { self.new.noted ≡ self.old.noted }
     {
         let Some(file) = &mut self.file else {
             return false;
@@ -108,9 +101,9 @@ impl<R: rt::Files + Drop> FileSwap<R> {
 }
 
 impl<R: rt::Files + Drop> SwapDevice for FileSwap<R> {
-    ghost use Rattle.std.specs.Prelude.{◌≢◌, ◌<◌, ◌∷◌, ℕ, IsTrue};
+    ghost use Rattle.std.specs.Prelude.{◌≢◌, ◌<◌, ◌∷◌, ℕ, IsTrue, false};
     ghost use Rattle.o2_outer.specs.Answers.{HasCause, CountsDev};
-    ghost use Rattle.o2_outer.specs.Accesses.{all_agree, content, with_read, with_write};
+    ghost use Rattle.o2_outer.specs.Accesses.{all_agree, content, is_known, with_read, with_write};
     ghost use Rattle.o2_outer.specs.Streams.{swap_history, swap_faults};
 
     ghost blocks = { λ _. 65536 };
@@ -135,11 +128,12 @@ impl<R: rt::Files + Drop> SwapDevice for FileSwap<R> {
             → into.new ≡ content (swap_history self.old) i }
         ensures cause { HasCause (swap_faults self.old) (swap_faults self.new) result }
         ensures counts { CountsDev (swap_faults self.old) (swap_faults self.new) result }
+        ensures unknown { is_known (swap_history self.old) i ≡ false → result ≡ Dev.Failed }
     {
-        if !(self.open() && self.reads(i, into)) {
+        if !(self.noted.knows(i) && self.open() && self.reads(i, into)) {
             return self.fault();
         }
-        self.history = self.history.and(&i, &Access::Read, into);
+        self.noted.read(i, into);
         Dev::Done
     }
 
@@ -154,10 +148,10 @@ impl<R: rt::Files + Drop> SwapDevice for FileSwap<R> {
         ensures counts { CountsDev (swap_faults self.old) (swap_faults self.new) result }
     {
         if !(self.open() && self.writes(i, from)) {
-            self.history = self.history.and(&i, &Access::Lost, from);
+            self.noted.lost(i, from);
             return self.fault();
         }
-        self.history = self.history.and(&i, &Access::Written, from);
+        self.noted.written(i, from);
         Dev::Done
     }
 }

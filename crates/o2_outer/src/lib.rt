@@ -1,6 +1,7 @@
 //! What lies outside the machine: files, an input, sinks and a swap device, each with a count of its faults.
 #![tactic(auto)]
 
+mod access;
 mod blocks;
 mod file_swap;
 mod files;
@@ -12,6 +13,7 @@ mod mem_sink;
 mod mem_source;
 mod mem_swap;
 mod no_sink;
+mod noted;
 mod plan;
 mod reading;
 mod sink;

@@ -194,6 +194,14 @@ impl Regions {
         self.reserved.lowest_clear(base(region), first_index(region), end_index(region), count)
     }
 
+    /// Whether an index of a region is reserved.
+    pub fn is_reserved(&self, region: Region, index: u16) -> bool
+        requires { IsRegion self.now region }
+        ensures { result ≡ is_reserved self.now region index }
+    {
+        index < end_index(region) && self.reserved.get(base(region) + index as usize)
+    }
+
     /// Reserves `count` indexes of a region from `first` on, which are neither held nor reserved.
     pub fn reserve(&mut self, region: Region, first: u16, count: u16)
         requires region { IsRegion self.old region }
@@ -205,12 +213,11 @@ impl Regions {
             .fill(base(region) + first as usize, count as usize, true);
     }
 
-    /// `count` indexes of a region from `first` on, which are reserved and which nobody holds, are no longer reserved.
+    /// `count` indexes of a region from `first` on, which nobody holds, are no longer reserved.
     pub fn release(&mut self, region: Region, first: u16, count: u16)
         requires region { IsRegion self.old region }
         requires from { first_of region ≤ first }
         requires to { first + count ≤ end_of region }
-        requires reserved { (i : ℕ) → first ≤ i → i < first + count → is_reserved self.old region i ≡ true }
         requires unheld { (i : ℕ) → first ≤ i → i < first + count → is_held self.old region i ≡ false }
         ensures { self.new ≡ with_reserved self.old region first count false }
     {

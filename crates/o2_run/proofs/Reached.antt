@@ -3,7 +3,7 @@ use Rattle.std.proofs.Common.{◌≡◌, ℕ, suc, ◌+◌, ◌<◌, ◌≤◌, 
 use Rattle.o2_outer.specs.Texts.{Rose, Gains, Continues}
 use Rattle.o2_world.specs.World.{World, Setting}
 use Rattle.o2_world.specs.Text.{lines_text}
-use Rattle.o2_world.specs.Run.{any_lives, after, is_over, last_line, report, HasPartTexts, InOpening, Between, AtLastLine}
+use Rattle.o2_world.specs.Run.{IsBelowLast, any_lives, after, is_over, last_line, report, HasPartTexts, InOpening, Between, AtLastLine}
 use Rattle.o2_run.specs.Room.{Fits}
 use Rattle.o2_run.specs.Turn.{StepsOn, StepsInPart, IsClosed, IsClosedInPart, IsStopped, Turns, LineIs}
 use Rattle.o2_run.specs.Faults.{fault_turn}
@@ -27,6 +27,10 @@ no_last w e = neither (not (any_lives w.processes)) (w.dispatch.budget == 0) _ _
 
 report_so_far : (w : World) → is_over w ≡ false → report w ≡ lines_text w.lines
 report_so_far w e = ap (λ x. lines_text w.lines ++ x) (no_last w e) ∙ append-nil (lines_text w.lines)
+
+-- a step that isn't behind the end is one of the run
+pub below_with : (s : Setting) (w : World) (k : ℕ) → ((j : ℕ) → j < k → is_over (after s w j) ≡ false) → is_over (after s w k) ≡ false → IsBelowLast s w k
+below_with s w k before now = λ j le. let P : ℕ → Type 0 = λ i. is_over (after s w i) ≡ false in below_more P k before now j (omega (arith, le))
 
 -- puts behind puts: what was handed so far are the lines ahead of what follows
 module _ (c d e r q p ahead so_far : ℕ) where
@@ -84,36 +88,6 @@ module _ (before_it now : World → Type 0) (swaps : Bool) (blocks : ℕ) (s : S
   unfolding closed_texts
   closed h lives end puts since = (closed_texts h lives end puts, end.stands)
 
-  -- the stop line is whole, or the report failed
-  line_or : (k : ℕ) (why : Stop) (put : Bool) (fault : Type 0) → (t : Bool) → t ≡ put → (put ≡ true → Continues q p (lines_text (after s w k).lines) (lines_text (after s w k).lines ++ stop_line why)) → (put ≡ false → fault)
-      → Gains r q (lines_text (after s w k).lines) → Gains r p (lines_text (after s w k).lines ++ stop_line why) ⊎ fault
-  line_or k why put fault true is whole failed gains = inl (λ t x. whole (sym is) t (gains t x))
-  line_or k why put fault false is whole failed gains = inr (failed (sym is))
-
-  stopped_texts : (h : HasReached before_it swaps s w i c d r q (counts u v y z ahead)) (why : Stop) (put : Bool) (since : Type 0) → (put ≡ false → since) → IsStopped now blocks s (after s w h.steps) why put l d e q p
-      → Hands (counts v x z o (length (after s w h.steps).lines)) 0 (length (after s w h.steps).lines + 1) → HasStoppedTexts swaps blocks s w why l c e r p since (counts u x y o ahead)
-  stopped_texts h why put since failed stop puts = record {
-    steps = h.steps;
-    below = λ j le. runs_to h.steps h.runs stop.runs j (omega (arith, le));
-    room = h.room;
-    cause = stop.cause;
-    input = stop.input;
-    to_console = λ t x. stop.to_console ∙ h.to_console t x;
-    to_report = λ t x. stop.to_report t (h.to_report t x);
-    whole = line_or h.steps why put since put refl stop.whole failed h.to_report;
-    hands = hands_last u v x y z o ahead (length (after s w h.steps).lines) (pieces s w h.steps) _ h.hands puts;
-  }
-
-  pub stopped_before : (h : HasReached before_it swaps s w i c d r q (counts u v y z ahead)) (why : Stop) (put : Bool) (since : Type 0) → (put ≡ false → since) → IsStopped now blocks s (after s w h.steps) why put l d e q p
-      → Hands (counts v x z o (length (after s w h.steps).lines)) 0 (length (after s w h.steps).lines + 1) → HasTexts now swaps blocks s w l c e r p since (counts u x y o ahead) (Err (Stopped why))
-  unfolding stopped_texts
-  stopped_before h why put since failed stop puts = (stopped_texts h why put since failed stop puts, stop.stands)
-
-  -- the same, where the device's blocks are counted at an earlier time
-  pub stopped_with : (count : ℕ) → count ≡ blocks → (h : HasReached before_it swaps s w i c d r q (counts u v y z ahead)) (why : Stop) (put : Bool) (since : Type 0) → (put ≡ false → since) → IsStopped now count s (after s w h.steps) why put l d e q p
-      → Hands (counts v x z o (length (after s w h.steps).lines)) 0 (length (after s w h.steps).lines + 1) → HasTexts now swaps blocks s w l c e r p since (counts u x y o ahead) (Err (Stopped why))
-  stopped_with count same h why put since failed stop puts = stopped_before h why put since failed (subst (λ n. IsStopped now n s (after s w h.steps) why put l d e q p) same stop) puts
-
   part_texts : (h : HasReached before_it swaps s w i c d r q (counts u v y z ahead)) → StepsInPart now swaps s (after s w h.steps) l d e q p → HasPartTexts s w c e r p
   part_texts h part = Between h.steps (λ j le. runs_to h.steps h.runs part.runs j (omega (arith, le)))
       (λ t x. part.to_console t (h.to_console t x))
@@ -137,23 +111,6 @@ module _ (before_it now : World → Type 0) (swaps : Bool) (blocks : ℕ) (s : S
       (record { texts = part_texts h part; room = λ j below. fits_to h.steps h.room part.room j (omega (arith, below)); input = part.input; hands = hands_up_to u v x y z o ahead (length (after s w h.steps).lines) (pieces s w h.steps) _ _ _ h.hands (puts.in_step part.runs) }, part.stands)
   stopped_anyhow h (inr end) puts since =
       (record { texts = last_texts h end; room = h.room; input = inl end.input; hands = hands_last u v x y z o ahead (length (after s w h.steps).lines) (pieces s w h.steps) _ h.hands (puts.at_end end.over) }, inl end.stands)
-
-  -- by the fault with which the run ends
-  pub faulted : (f : Fault) (count : ℕ) → count ≡ blocks → (h : HasReached before_it swaps s w i c d r q (counts u v y z ahead)) (put : Bool) (fault since : Type 0) → (fault → since) → LineIs put fault (fault_turn f)
-      → Turns now swaps count s (after s w h.steps) put l d e q p (fault_turn f) → TurnHands s (after s w h.steps) (counts v x z o (length (after s w h.steps).lines)) (fault_turn f)
-      → HasTexts now swaps blocks s w l c e r p since (counts u x y o ahead) (Err f)
-  faulted Sink count same h put fault since later line turns puts = stopped_anyhow h turns puts since
-  faulted (Stopped Input) count same h put fault since later line turns puts = stopped_with count same h Input put since (λ e. later (line e)) turns puts
-  faulted (Stopped NoRoom) count same h put fault since later line turns puts = stopped_with count same h NoRoom put since (λ e. later (line e)) turns puts
-  faulted (Stopped SwapFull) count same h put fault since later line turns puts = stopped_with count same h SwapFull put since (λ e. later (line e)) turns puts
-  faulted (Stopped SwapFault) count same h put fault since later line turns puts = stopped_with count same h SwapFault put since (λ e. later (line e)) turns puts
-
-  -- by the answer of the last turn
-  pub faulted_by : (t : Turn) (f : Fault) → t ≡ fault_turn f → (count : ℕ) → count ≡ blocks → (h : HasReached before_it swaps s w i c d r q (counts u v y z ahead)) (put : Bool) (fault since : Type 0) → (fault → since) → LineIs put fault t
-      → Turns now swaps count s (after s w h.steps) put l d e q p t → TurnHands s (after s w h.steps) (counts v x z o (length (after s w h.steps).lines)) t → HasTexts now swaps blocks s w l c e r p since (counts u x y o ahead) (Err f)
-  faulted_by t f is count same h put fault since later line turns puts =
-      faulted f count same h put fault since later (subst (λ (a : Turn). LineIs put fault a) is line)
-      (subst (λ (a : Turn). Turns now swaps count s (after s w h.steps) put l d e q p a) is turns) (subst (λ (a : Turn). TurnHands s (after s w h.steps) (counts v x z o (length (after s w h.steps).lines)) a) is puts)
 
   pub closed_by : (t : Turn) → (t ≡ AllEnded) ⊎ (t ≡ BudgetSpent) → (count : ℕ) (h : HasReached before_it swaps s w i c d r q (counts u v y z ahead)) (put : Bool) (since : Type 0) → Turns now swaps count s (after s w h.steps) put l d e q p t → TurnHands s (after s w h.steps) (counts v x z o (length (after s w h.steps).lines)) t
       → HasTexts now swaps blocks s w l c e r p since (counts u x y o ahead) (Ok tt)
@@ -199,6 +156,7 @@ stopped_from swaps blocks s w why l c e r p fault since later u v x y z ahead pu
   below = t.below;
   room = t.room;
   cause = t.cause;
+  fits = t.fits;
   input = t.input;
   to_console = t.to_console;
   to_report = t.to_report;

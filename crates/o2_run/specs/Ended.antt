@@ -4,8 +4,8 @@ use Rattle.o2_outer.specs.Texts.{Gains, GainsBetween}
 use Rattle.o2_world.specs.World.{World, Setting}
 use Rattle.o2_world.specs.Text.{lines_text}
 use Rattle.o2_world.specs.Run.{HasWholeTexts, HasPartTexts, InOpening, Between, AtLastLine, after, is_over, console, IsBelowLast}
-use Rattle.o2_run.specs.Room.{Fits}
-use Rattle.o2_run.specs.Stops.{stop_line, StopsFor}
+use Rattle.o2_run.specs.Room.{AllFits, Fits}
+use Rattle.o2_run.specs.Stops.{stop_line, StopFits, StopsFor}
 use Rattle.o2_run.specs.Faults.{fault_turn}
 use Rattle.o2_run.specs.Pieces.{Counts, Hands, HandsUpTo, pieces}
 use Rattle.o2_run.specs.declared.fault.Fault.{Fault}
@@ -19,6 +19,10 @@ use Rattle.o2_run.specs.declared.steps.Turn.TheVariants as turn
 abbrev pub FitsBelow : (swaps : Bool) → Setting → World → ℕ → Type 0
 FitsBelow swaps s w k = (j : ℕ) → j < k → Fits swaps s (after s w j)
 
+-- all that lives before or behind a step fits the memory, for each step of a run
+abbrev pub AllFitRun : Setting → World → Type 0
+AllFitRun s w = (k : ℕ) → IsBelowLast s w k → AllFits s (after s w k)
+
 -- a run that stops before its step k, for which it had the first cause: the lines so far, and the stop line, or where the
 -- report failed a front of it; each line is one put
 pub record HasStoppedTexts (swaps : Bool) (blocks : ℕ) (s : Setting) (w : World) (why : Stop)
@@ -27,6 +31,7 @@ pub record HasStoppedTexts (swaps : Bool) (blocks : ℕ) (s : Setting) (w : Worl
   pub below : IsBelowLast s w steps
   pub room : FitsBelow swaps s w steps
   pub cause : StopsFor blocks s (after s w steps) why
+  pub fits : StopFits swaps s (after s w steps) why
   pub input : left ≡ Some (after s w steps).input
   pub to_console : Gains console_old console_new (console (after s w steps))
   pub to_report : GainsBetween report_old report_new (lines_text (after s w steps).lines)

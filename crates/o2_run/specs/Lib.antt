@@ -4,4 +4,5 @@ pub mod Stops
 pub mod Pieces
 pub mod Turn
 pub mod Ended
+pub mod Lined
 pub mod Slice

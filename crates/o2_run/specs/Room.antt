@@ -208,3 +208,7 @@ live_load s w = let d = next_dispatch s w in load_next s w d (process_at w.proce
 -- A machine that swaps keeps its segments in the memory of its setting, and takes no step whose room that doesn't have.
 abbrev pub Fits : (swaps : Bool) → Setting → World → Type 0
 Fits swaps s w = swaps ≡ true → room s w ≤ s.memory
+
+-- all that lives before or behind the next step fits the memory
+abbrev pub AllFits : Setting → World → Type 0
+AllFits s w = live_load s w ≤ s.memory

@@ -1,8 +1,8 @@
 -- Why a run stops short of its end, and the line that it then ends with.
-use Rattle.std.specs.Prelude.{ℕ, ◌<◌, List, [], ◌++◌, ◌∷◌, codes, min}
+use Rattle.std.specs.Prelude.{ℕ, ◌<◌, Bool, List, [], ◌++◌, ◌∷◌, codes, min}
 use Rattle.o2_world.specs.World.{World, Setting}
 use Rattle.o2_world.specs.Run.{IsReadNext}
-use Rattle.o2_run.specs.Room.{room, swap_load, live_load}
+use Rattle.o2_run.specs.Room.{Fits, room, swap_load, live_load}
 use Rattle.o2_run.specs.declared.steps.Stop.{Stop}
 use Rattle.o2_run.specs.declared.steps.Stop.TheVariants.{Input, NoRoom, SwapFull, SwapFault}
 
@@ -28,3 +28,10 @@ StopsFor blocks s w Input = IsReadNext s w
 StopsFor blocks s w NoRoom = s.memory < room s w
 StopsFor blocks s w SwapFull = IsSwapFull blocks s w
 StopsFor blocks s w SwapFault = Unit {0}
+
+-- A machine asks the input only where the room of the step that asks fits its memory, so where that fails it fits, too.
+abbrev pub StopFits : (swaps : Bool) → Setting → World → Stop → Type 0
+StopFits swaps s w Input = Fits swaps s w
+StopFits swaps s w NoRoom = Unit {0}
+StopFits swaps s w SwapFull = Unit {0}
+StopFits swaps s w SwapFault = Unit {0}

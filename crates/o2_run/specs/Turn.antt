@@ -5,7 +5,7 @@ use Rattle.o2_world.specs.World.{World, Setting}
 use Rattle.o2_world.specs.Text.{lines_text}
 use Rattle.o2_world.specs.Run.{step, any_lives, is_over, console, report}
 use Rattle.o2_run.specs.Room.{Fits}
-use Rattle.o2_run.specs.Stops.{stop_line, StopsFor}
+use Rattle.o2_run.specs.Stops.{stop_line, StopFits, StopsFor}
 use Rattle.o2_run.specs.Faults.{CauseOf, OnFault, fault_of, stop_of}
 use Rattle.o2_run.specs.declared.steps.Stop.{Stop}
 use Rattle.o2_run.specs.declared.steps.Stop.TheVariants as stop
@@ -53,10 +53,11 @@ pub record IsClosedInPart (stands_now : World → Type 0) (w : World) (left cons
   pub to_report : ContinuesBetween report_old report_new (lines_text w.lines) (report w)
 
 -- a stop before the step: the stop line is put, or where the report failed a front of it
-pub record IsStopped (stands_now : World → Type 0) (blocks : ℕ) (s : Setting) (w : World) (why : Stop) (put : Bool)
+pub record IsStopped (stands_now : World → Type 0) (swaps : Bool) (blocks : ℕ) (s : Setting) (w : World) (why : Stop) (put : Bool)
     (left console_old console_new report_old report_new : Option (List ℕ)) : Type 0 where
   pub runs : is_over w ≡ false
   pub cause : StopsFor blocks s w why
+  pub fits : StopFits swaps s w why
   pub stands : stands_now w
   pub input : left ≡ Some w.input
   pub to_console : console_new ≡ console_old
@@ -70,11 +71,11 @@ abbrev pub Turns : (World → Type 0) → (swaps : Bool) → (blocks : ℕ) → 
 Turns f swaps blocks s w put i c d r q turn.Ran = StepsOn f swaps s w i c d r q
 Turns f swaps blocks s w put i c d r q turn.AllEnded = IsClosed f w false i c d r q
 Turns f swaps blocks s w put i c d r q turn.BudgetSpent = IsClosed f w true i c d r q
-Turns f swaps blocks s w put i c d r q turn.InputFault = IsStopped f blocks s w stop.Input put i c d r q
+Turns f swaps blocks s w put i c d r q turn.InputFault = IsStopped f swaps blocks s w stop.Input put i c d r q
 Turns f swaps blocks s w put i c d r q turn.SinkFault = StepsInPart f swaps s w i c d r q ⊎ IsClosedInPart f w i c d r q
-Turns f swaps blocks s w put i c d r q turn.NoRoom = IsStopped f blocks s w stop.NoRoom put i c d r q
-Turns f swaps blocks s w put i c d r q turn.SwapFull = IsStopped f blocks s w stop.SwapFull put i c d r q
-Turns f swaps blocks s w put i c d r q turn.SwapFault = IsStopped f blocks s w stop.SwapFault put i c d r q
+Turns f swaps blocks s w put i c d r q turn.NoRoom = IsStopped f swaps blocks s w stop.NoRoom put i c d r q
+Turns f swaps blocks s w put i c d r q turn.SwapFull = IsStopped f swaps blocks s w stop.SwapFull put i c d r q
+Turns f swaps blocks s w put i c d r q turn.SwapFault = IsStopped f swaps blocks s w stop.SwapFault put i c d r q
 
 -- the answer that is final
 abbrev pub stopped_by : Turn → Option Turn

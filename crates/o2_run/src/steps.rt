@@ -7,6 +7,8 @@ ghost use Rattle.o2_run.specs.declared.steps.Turn.{Turn};
 ghost use Rattle.o2_run.specs.Turn.{Turns, LineIs, Caused, OnRan, stopped_by, is_for_swap};
 ghost use Rattle.o2_run.specs.Pieces.{counts, TurnHands};
 ghost use Rattle.o2_run.specs.Slice.{OverSome, Slices};
+ghost use Rattle.o2_world.specs.Run.{is_over};
+ghost use Rattle.o2_run.specs.Room.{AllFits};
 
 use o2_outer::{Sink, Source, SwapDevice};
 
@@ -49,6 +51,11 @@ pub trait Steps {
     /// The settings and worlds that it stands for, over a device of so many blocks, which hold this.
     ghost stands: { Self → (blocks : ℕ) → (ℕ → List ℕ) → Setting → World → Type 0 };
 
+    /// What is the same behind each turn.
+    ghost Fixed: { Type 0 };
+
+    ghost fixed: { Self → Fixed };
+
     /// Whether it keeps its segments in the memory of its setting, and swaps them. One that doesn't leaves the device as it is.
     ghost swaps: { Bool };
 
@@ -63,6 +70,9 @@ pub trait Steps {
 
     /// Whether its stop line was put whole.
     ghost line_put: { Self → Bool };
+
+    /// That it keeps nothing in blocks of its device.
+    ghost none_swapped: { Self → Type 0 };
 
     /// One step, or the last line, or a stop line. After the first answer other than `Ran` each turn gives that answer and
     /// touches nothing.
@@ -89,6 +99,7 @@ pub trait Steps {
             → left_as text (I.left input.old) (I.past input.old) ≡ Some w.input
             → TurnHands s w (counts (C.puts console.old) (C.puts console.new) (R.puts report.old) (R.puts report.new) (length w.lines)) result }
         ensures stops { stopped self.new ≡ stopped_by result }
+        ensures fixed { fixed self.new ≡ fixed self.old }
         ensures device { fits self.new (S.blocks swap.new) }
 
         // A stop or an end is final.
@@ -104,6 +115,11 @@ pub trait Steps {
         ensures no_swap_stop { swaps ≡ false → stopped self.old ≡ None → is_for_swap result ≡ false }
         ensures swap_blocks { S.blocks swap.new ≡ S.blocks swap.old }
         ensures swap_told { IsTrue (S.told swap.new) → IsTrue (S.told swap.old) }
+        // Where it keeps nothing in blocks, and all that lives fits its memory, the device is neither read nor written.
+        ensures idle { stopped self.old ≡ None → IsTrue (S.told swap.old) → (text : Option (List ℕ)) → IsSeenAs text (I.past input.new)
+            → (s : Setting) (w : World) → stands self.old (S.blocks swap.old) (S.block swap.old) s w
+            → left_as text (I.left input.old) (I.past input.old) ≡ Some w.input → none_swapped self.old
+            → (is_over w ≡ false → AllFits s w) → (swap.new ≡ swap.old) × none_swapped self.new }
 
         // A fault is told only where a count rose in the turn that first tells it.
         ensures input_count { I.faults input.old ≤ I.faults input.new }
@@ -126,8 +142,10 @@ pub trait Steps {
             → stands self.old blocks block s w
             → Slices (stands self.new blocks block s) swaps s w result }
         ensures stops { stopped self.new ≡ stopped self.old }
+        ensures fixed { fixed self.new ≡ fixed self.old }
         ensures device { (blocks : ℕ) → fits self.old blocks → fits self.new blocks }
         ensures left { left self.new + result ≡ left self.old }
+        ensures idle { none_swapped self.old → none_swapped self.new }
 
         // Behind a stop or an end there is none.
         ensures same { (t : Turn) → stopped self.old ≡ Some t → self.new ≡ self.old };

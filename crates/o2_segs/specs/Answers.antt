@@ -46,3 +46,10 @@ stop_of BroughtNoRoom = Some NoRoom
 stop_of BroughtSwapFull = Some SwapFull
 stop_of BroughtSwapFault = Some SwapFault
 stop_of Stale = None
+
+-- a call came to no error: it is done, or it stopped
+abbrev pub IsUnrefused : Roomed → Type 0
+IsUnrefused (Done a) = a.error ≡ 0
+IsUnrefused NoRoom = Unit {0}
+IsUnrefused SwapFull = Unit {0}
+IsUnrefused SwapFault = Unit {0}

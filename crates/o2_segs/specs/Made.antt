@@ -1,5 +1,5 @@
 -- A segment that a call makes.
-use Rattle.std.specs.Prelude.{◌≡◌, ℕ, ◌%◌, ◌==◌, ◌||◌, Bool, false, IsTrue, List, Option, None, nat_le, if◌then◌else◌}
+use Rattle.std.specs.Prelude.{◌≡◌, ℕ, ◌<◌, ◌%◌, ◌==◌, ◌||◌, Bool, true, false, IsTrue, List, Option, None, nat_le, if◌then◌else◌}
 use Rattle.o2_desc.specs.Bits.{has_bit}
 use Rattle.o2_entries.specs.declared.Entry.{Entry}
 use Rattle.o2_image.specs.ImageList.{ImageList}
@@ -11,6 +11,7 @@ use Rattle.o2_regions.specs.declared.held.Held.{Held}
 use Rattle.o2_regions.specs.declared.held.Region.{Region}
 use Rattle.o2_regions.specs.declared.held.Region.TheVariants.{Private, Shared}
 use Rattle.o2_regions.specs.Maps.{Maps}
+use Rattle.o2_store.specs.Loads.{live_load}
 use Rattle.o2_store.specs.Shelf.{Shelf, Adds}
 use Rattle.o2_world.specs.Map.{get}
 use Rattle.o2_world.specs.World.{Segment, World}
@@ -20,6 +21,7 @@ use Rattle.o2_world.specs.Rulings.{Ruling, allocation_at, refusal}
 use Rattle.o2_stands.specs.Moves.{moved}
 use Rattle.o2_stands.specs.Parts.{Parts}
 use Rattle.o2_stands.specs.Stands.{Matches}
+use Rattle.o2_segs.specs.Answers.{IsUnrefused}
 
 -- a segment as its maker holds it
 abbrev pub made_by_call : SegId → Held
@@ -60,3 +62,9 @@ pub record MatchesLocked (s t : Shelf) (old new : Maps) (images : ImageList) (to
 pub record MatchesWithout (s t : Shelf) (old new : Maps) (images : ImageList) (told : Bool) (before after : ℕ → List ℕ) (id : SegId) : Type 0 where
   pub world : (p : Parts) (w : World) (segment : Segment) → p.shelf ≡ s → p.maps ≡ old → p.images ≡ images → p.block ≡ before → IsTrue told → id.age ≡ w.next_name
       → get w.names w.next_name ≡ None → Matches p (with_change w (Makes segment)) → Matches (moved p t new after) w
+
+-- a call came to no error, and made a segment to be locked with which all that lives is more than the memory
+pub record IsShortWithNew (s : Shelf) (size flags : ℕ) (result : Roomed) : Type 0 where
+  pub unrefused : IsUnrefused result
+  pub locked : has_bit flags 2 ≡ true
+  pub short : IsWithNew s size flags (λ t id. t.places.size < live_load t)

@@ -1,5 +1,5 @@
 // DosAllocSeg.
-ghost use Rattle.std.specs.Prelude.{◌≡◌, ◌≢◌, ℕ, ◌-◌, ◌<◌, ◌≤◌, ◌^◌, ◌||◌, IsSome, IsTrue, Some, None, false, true};
+ghost use Rattle.std.specs.Prelude.{◌≡◌, ◌≢◌, ℕ, ◌-◌, ◌<◌, ◌≤◌, ◌^◌, ◌||◌, IsSome, IsTrue, Some, None, false, true, ◌⊎◌};
 ghost use Rattle.o2_base.specs.Selectors.{selector_of};
 ghost use Rattle.o2_desc.specs.Bits.{has_bit, writable_data};
 ghost use Rattle.o2_desc.specs.Choice.{IsRun};
@@ -26,7 +26,8 @@ ghost use Rattle.o2_world.specs.Rulings.{allocation, full_size};
 ghost use Rattle.o2_world.specs.World.{Process, World};
 ghost use Rattle.o2_segs.specs.Answers.{AnswersRoomed, changes_roomed};
 ghost use Rattle.o2_segs.specs.Limits.{IsUndone, KeepsEntries, KeepsLimits, KeepsOthers, made_in};
-ghost use Rattle.o2_segs.specs.Made.{IsStop, IsWithNew, MatchesLocked, MatchesWithout, allocation_to, made_by_call, region_for};
+ghost use Rattle.o2_segs.specs.Made.{IsStop, IsWithNew, MatchesLocked, MatchesWithout, allocation_to, made_by_call, region_for, IsShortWithNew};
+ghost use Rattle.o2_store.specs.Idle.{Idles, IsIdle, NoneTaken};
 
 use crate::asking::{INVALID_PARAMETER, NOT_ENOUGH_MEMORY, done, refusal, stop_of};
 use crate::reallocating::full_size;
@@ -117,6 +118,10 @@ pub fn alloc_seg<S: SwapDevice>(
         × IsWithNew store.old (full_size size) flags (λ t id. t.places.size < live_load t) }
     ensures faults { S.faults swap.old ≤ S.faults swap.new }
     ensures cause { result ≡ Roomed.SwapFault → Rose (S.faults swap.old) (S.faults swap.new) }
+    // Where nothing is in swap blocks, the device isn't touched, unless the segment is to be locked and all that lives with it
+    // doesn't fit the memory.
+    ensures idle { NoneTaken store.old.swap → IsIdle store.new swap.old swap.new
+        ⊎ IsShortWithNew store.old (full_size size) flags result }
 {
     if FLAGS < flags {
         return Roomed::Done(refusal(INVALID_PARAMETER));
@@ -185,6 +190,8 @@ fn allocate<S: SwapDevice>(
         × IsWithNew store.old (full_size size) flags (λ t id. t.places.size < live_load t) }
     ensures faults { S.faults swap.old ≤ S.faults swap.new }
     ensures cause { result ≡ Roomed.SwapFault → Rose (S.faults swap.old) (S.faults swap.new) }
+    ensures idle { NoneTaken store.old.swap → IsIdle store.new swap.old swap.new
+        ⊎ IsShortWithNew store.old (full_size size) flags result }
 {
     match make(store, regions, full_size(size), flags, is_shared(flags)) {
         Some(id) => {
@@ -245,6 +252,7 @@ fn lock_new<S: SwapDevice>(
         × (store.old.places.size < live_load store.old) }
     ensures faults { S.faults swap.old ≤ S.faults swap.new }
     ensures cause { (r : Roomed) → result ≡ Some r → r ≡ Roomed.SwapFault → Rose (S.faults swap.old) (S.faults swap.new) }
+    ensures idle { Idles (live_load store.old) store.old store.new swap.old swap.new }
 {
     match stop_of(bring_in(store, regions, id, keep, images, swap)) {
         Some(stop) => {

@@ -18,6 +18,7 @@ ghost use Rattle.o2_world.specs.Rulings.{by_load, freeing, freeing_cpu, is_index
 ghost use Rattle.o2_world.specs.World.{Process, World};
 ghost use Rattle.o2_segs.specs.Answers.{Answers, AreAlone};
 ghost use Rattle.o2_segs.specs.Limits.{KeepsLimits};
+ghost use Rattle.o2_store.specs.Idle.{NoneTaken};
 
 use crate::asking::{ACCESS_DENIED, done, held_under, refusal};
 use o2_base::Selector;
@@ -54,6 +55,7 @@ pub fn free_seg(
     ensures pictures { (images : ImageList) → HasAll (HasPicture images) store.old
         → HasAll (HasPicture images) store.new }
     ensures map { all_of store.new.swap ≡ all_of store.old.swap }
+    ensures unused { NoneTaken store.old.swap → NoneTaken store.new.swap }
     ensures matches { (p : Parts) (o : Others) (w : World) (x : Process) → p.shelf ≡ store.old
         → p.maps ≡ regions.old → process_at w.processes pid ≡ Some x
         → ((freeing (known_in p o) pid sel cpu.old).error ≡ 0 → LosesOne w pid (sel / 8))

@@ -1,5 +1,5 @@
 // DosReallocSeg.
-ghost use Rattle.std.specs.Prelude.{◌≡◌, ℕ, ◌<◌, ◌≤◌, ◌/◌, ◌==◌, ◌&&◌, ◌||◌, nat_lt, not, None, IfSome, IsSome, IsTrue, true, if◌then◌else◌};
+ghost use Rattle.std.specs.Prelude.{◌≡◌, ℕ, ◌<◌, ◌≤◌, ◌/◌, ◌==◌, ◌&&◌, ◌||◌, nat_lt, not, None, IfSome, IsSome, IsTrue, true, if◌then◌else◌, ◌⊎◌};
 ghost use Rattle.o2_isa.specs.View.{is_local};
 ghost use Rattle.o2_outer.specs.Texts.{Rose};
 ghost use Rattle.o2_regions.specs.Maps.{IsProcess, held_at};
@@ -19,8 +19,9 @@ ghost use Rattle.o2_stands.specs.Parts.{Parts, cause_of};
 ghost use Rattle.o2_world.specs.Changes.{with_all};
 ghost use Rattle.o2_world.specs.Rulings.{full_size, is_alias, reallocation};
 ghost use Rattle.o2_world.specs.World.{World};
-ghost use Rattle.o2_segs.specs.Answers.{AnswersRoomed, changes_roomed};
+ghost use Rattle.o2_segs.specs.Answers.{AnswersRoomed, changes_roomed, IsUnrefused};
 ghost use Rattle.o2_segs.specs.Limits.{KeepsLimits};
+ghost use Rattle.o2_store.specs.Idle.{IsIdle, NoneTaken};
 
 use crate::asking::{ACCESS_DENIED, done, held_under, refusal, stop_of};
 use o2_changes::resize;
@@ -116,6 +117,10 @@ pub fn realloc_seg<S: SwapDevice>(
     ensures load { result ≡ Roomed.SwapFull → all_of store.old.swap < swap_load store.old }
     ensures faults { S.faults swap.old ≤ S.faults swap.new }
     ensures cause { result ≡ Roomed.SwapFault → Rose (S.faults swap.old) (S.faults swap.new) }
+    // Where nothing is in swap blocks, the device isn't touched, unless all that lives with the new size doesn't fit the memory.
+    ensures idle { NoneTaken store.old.swap → IsIdle store.new swap.old swap.new
+        ⊎ (IsUnrefused result × IfSome (if is_local sel then held_at regions.old pid (sel / 8) else None)
+        (λ h. store.old.places.size < live_load_at store.old h.id.key (full_size size))) }
 {
     match held_under(regions, pid, sel) {
         Some(held) => {

@@ -11,6 +11,7 @@ ghost use Rattle.o2_store.specs.Pictures.{picture, HasPicture};
 ghost use Rattle.o2_store.specs.Leaving.{IsStuck};
 ghost use Rattle.o2_store.specs.Shelf.{AreClean, HasAll, IsFull, KeepsAll, Pictures, SameTables, entry, entry_of, place_of, rounded};
 ghost use Rattle.o2_service.specs.Told.{Follows, IsHeldWell};
+ghost use Rattle.o2_store.specs.Idle.{Idles, IsIdle, NoneTaken};
 
 use crate::settling::{settle_moved, settle_slid};
 use o2_image::Images;
@@ -97,6 +98,8 @@ fn make_room<S: SwapDevice>(
 
     ensures room { result ≡ Brought.Here
         → used store.new.places.ranges + rounded (entry store.new id.key).size ≤ store.new.places.size }
+    ensures idle { used store.old.places.ranges + rounded (entry store.old id.key).size ≤ store.old.places.size
+        → (store.new ≡ store.old) × (swap.new ≡ swap.old) }
     ensures loads { result ≡ Brought.SwapFull
         → (all_of store.old.swap < swap_load store.old)
         × (store.old.places.size < live_load store.old) }
@@ -124,6 +127,7 @@ fn make_gap(id: SegId, store: &mut Store, regions: &mut Regions)
     ensures keeps { (told : Bool) (pic : Pictures) (block : ℕ → List ℕ) → KeepsAll told pic store.old block store.new block }
     ensures clean { (pic : Pictures) → AreClean store.old pic → AreClean store.new pic }
     ensures map { all_of store.new.swap ≡ all_of store.old.swap }
+    ensures blocks { store.new.swap ≡ store.old.swap }
     ensures follows { Follows regions.old store.new regions.new }
     ensures presence { (k : ℕ) → is_some (place_of store.new k) ≡ is_some (place_of store.old k) }
 
@@ -169,6 +173,7 @@ fn fill_gap<S: SwapDevice>(
     ensures faults { S.faults swap.old ≤ S.faults swap.new }
     ensures cause { result ≡ Brought.SwapFault → Rose (S.faults swap.old) (S.faults swap.new) }
     ensures never { (result ≡ Brought.NoRoom → ⊥) × (result ≡ Brought.Stale → ⊥) × (result ≡ Brought.SwapFull → ⊥) }
+    ensures idle { NoneTaken store.old.swap → IsIdle store.new swap.old swap.new }
 {
     store.law();
     let answer = store.bring_to_gap(id, images, swap);
@@ -213,7 +218,9 @@ fn bring_in<S: SwapDevice>(
     ensures faults { S.faults swap.old ≤ S.faults swap.new }
     ensures cause { result ≡ Brought.SwapFault → Rose (S.faults swap.old) (S.faults swap.new) }
     ensures never { (result ≡ Brought.NoRoom → ⊥) × (result ≡ Brought.Stale → ⊥) }
+    ensures idle { Idles (live_load store.old) store.old store.new swap.old swap.new }
 {
+    store.law();
     match make_room(id, keep, store, regions, swap) {
         Brought::Here => {
             make_gap(id, store, regions);
@@ -263,6 +270,8 @@ pub fn bring<S: SwapDevice>(
     ensures faults { S.faults swap.old ≤ S.faults swap.new }
     ensures cause { result ≡ Brought.SwapFault → Rose (S.faults swap.old) (S.faults swap.new) }
     ensures never { result ≡ Brought.Stale → ⊥ }
+    // Where nothing is in swap blocks and all that lives fits the memory, the device isn't touched.
+    ensures idle { Idles (live_load store.old) store.old store.new swap.old swap.new }
 {
     if store.base(id).is_some() {
         return Brought::Here;

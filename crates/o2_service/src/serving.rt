@@ -9,6 +9,7 @@ ghost use Rattle.o2_store.specs.Shelf.{AreClean, HasAll, KeepsAll, entry, entry_
 ghost use Rattle.o2_service.specs.Needs.{AreLive, ArePresent, OnlyNeededComes, Stays, all_needed, needs};
 ghost use Rattle.o2_service.specs.Learned.{AreUnused};
 ghost use Rattle.o2_service.specs.Told.{Follows, IsHeldWell, OnlyTables};
+ghost use Rattle.o2_store.specs.Idle.{Idles};
 
 use crate::amount::{amount, are_here};
 use crate::bringing::bring;
@@ -81,6 +82,8 @@ pub fn serve<S: SwapDevice>(
         × (store.old.places.size < live_load store.old) }
     ensures faults { S.faults swap.old ≤ S.faults swap.new }
     ensures cause { result ≡ Served.SwapFault → Rose (S.faults swap.old) (S.faults swap.new) }
+    // Where nothing is in swap blocks and all that lives fits the memory, the device isn't touched.
+    ensures idle { Idles (live_load store.old) store.old store.new swap.old swap.new }
 {
     store.law();
     if are_here(need.pairs(), store) {
@@ -137,6 +140,7 @@ fn bring_all<S: SwapDevice>(
         × (store.old.places.size < live_load store.old) }
     ensures faults { S.faults swap.old ≤ S.faults swap.new }
     ensures cause { result ≡ Served.SwapFault → Rose (S.faults swap.old) (S.faults swap.new) }
+    ensures idle { Idles (live_load store.old) store.old store.new swap.old swap.new }
 {
     store.law();
     let pairs = need.pairs();
@@ -198,6 +202,7 @@ fn bring_one<S: SwapDevice>(
         × (store.old.places.size < live_load store.old) }
     ensures faults { S.faults swap.old ≤ S.faults swap.new }
     ensures cause { result ≡ Served.SwapFault → Rose (S.faults swap.old) (S.faults swap.new) }
+    ensures idle { Idles (live_load store.old) store.old store.new swap.old swap.new }
 {
     match bring(id, need.ids(), store, regions, images, swap) {
         Brought::Here => Served::Here,

@@ -25,6 +25,7 @@ ghost use Rattle.o2_segs.specs.Limits.{KeepsEntries, KeepsLimits};
 ghost use Rattle.o2_segs.specs.Made.{made_by_call};
 ghost use Rattle.o2_shared.specs.Shares.{naming_to};
 ghost use Rattle.o2_shared.specs.Texts.{AreInPlace, AreOnce, AreTexts, found_from};
+ghost use Rattle.o2_store.specs.Idle.{NoneTaken};
 
 use crate::names::Shared;
 use crate::naming::is_name;
@@ -85,6 +86,7 @@ pub fn alloc_shr_seg(
     ensures pictures { (images : ImageList) → HasAll (HasPicture images) store.old
         → HasAll (HasPicture images) store.new }
     ensures map { all_of store.new.swap ≡ all_of store.old.swap }
+    ensures unused { NoneTaken store.old.swap → NoneTaken store.new.swap }
 {
     if !is_name(name) {
         return refusal(INVALID_NAME);
@@ -152,6 +154,7 @@ fn make_named(
     ensures pictures { (images : ImageList) → HasAll (HasPicture images) store.old
         → HasAll (HasPicture images) store.new }
     ensures map { all_of store.new.swap ≡ all_of store.old.swap }
+    ensures unused { NoneTaken store.old.swap → NoneTaken store.new.swap }
 {
     regions.law();
     names.law();

@@ -5,6 +5,7 @@ use mathlib.Core.Path.{fun_ext}
 use Rattle.o2_image.specs.ImageList.{ImageList}
 use Rattle.o2_regions.specs.Lives.{lives}
 use Rattle.o2_store.specs.Pictures.{picture}
+use Rattle.o2_store.specs.Shelf.{Shelf}
 use Rattle.o2_world.specs.declared.types.State.{State}
 use Rattle.o2_world.specs.declared.types.State.TheVariants.{Live}
 use Rattle.o2_world.proofs.Flags.{live_is}
@@ -62,14 +63,16 @@ module _ (procs : List Proc) (pid : ℕ) (some : 1 ≤ pid) (there : pid ≤ len
 pub record Keeps (a b : Seat) : Type 0 where
   pub shape : SameShape a.shelf a.maps b.shelf b.maps
   pub ready : (images : ImageList) (device : ℕ) (block : ℕ → List ℕ) (r : ℕ → Option Running) → IsReady (made a.shelf a.maps images device block r) → IsReady (made b.shelf b.maps images device block r)
+  pub swap : b.shelf.swap ≡ a.shelf.swap
 
 keeps_same : (a : Seat) → Keeps a a
-keeps_same a = record { shape = shape_refl a.shelf a.maps; ready = λ images device block r x. x }
+keeps_same a = record { shape = shape_refl a.shelf a.maps; ready = λ images device block r x. x; swap = refl }
 
 keeps_then : (a b c : Seat) → Keeps a b → Keeps b c → Keeps a c
 keeps_then a b c x y = record {
   shape = shape_trans a.shelf b.shelf c.shelf a.maps b.maps c.maps x.shape y.shape;
   ready = λ images device block r z. y.ready images device block r (x.ready images device block r z);
+  swap = y.swap ∙ x.swap;
 }
 
 follows_keeps : (pid : ℕ) (a b : Seat) → Follows pid a b → Keeps a b
@@ -81,6 +84,7 @@ follows_keeps pid a b f =
           ready_as b.shelf b.maps images device block block (λ k. None) r
           (ready_same images a.shelf b.shelf a.maps b.maps device device block block (ready_as a.shelf a.maps images device block block r (λ k. None) x) shape refl f.next.settled
           (f.clean.clean (picture images) x.aged x.guarded x.clean));
+      swap = ap (λ (z : Shelf). z.swap) f.store.store;
     }
 
 steps_keep : (pid k : ℕ) (a b : Seat) → AreSteps pid k a b → Keeps a b

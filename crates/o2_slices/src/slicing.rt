@@ -39,7 +39,9 @@ pub fn slice_of(space: &mut Space, pid: u16, most: u32) -> u32
     ensures ends { space.new.ends ≡ space.old.ends }
     ensures count { length space.new.procs.items ≡ length space.old.procs.items }
     ensures avail { space.new.services.avail ≡ space.old.services.avail }
+    ensures images { space.new.images ≡ space.old.images }
     ensures made { space.new.store.made ≡ space.old.store.made }
+    ensures blocks { space.new.store.swap ≡ space.old.store.swap }
     // The same segments live, and the same names are kept.
     ensures names { space.new.names ≡ space.old.names }
     ensures tables { SameTables space.old.store space.new.store }

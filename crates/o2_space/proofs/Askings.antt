@@ -20,7 +20,7 @@ use Rattle.o2_stands.specs.Stands.{Stands}
 use Rattle.o2_stepping.specs.Pieces.{HandsWhole, RanHands, StepHands}
 use Rattle.o2_stepping.specs.Rooms.{all_names, room_in}
 use Rattle.o2_stepping.specs.Shapes.{SameShape}
-use Rattle.o2_stepping.specs.Taken.{IsSwapStop, OnAsks, OnNoStep, OnSink, OnStep, OnSwapStop, SteppedFor, TakenFor}
+use Rattle.o2_stepping.specs.Taken.{IsSwapStop, OnAsks, OnNoStep, OnBegun, OnStep, OnSwapStop, SteppedFor, TakenFor}
 use Rattle.o2_stepping.specs.declared.one_step.Ran.{Ran}
 use Rattle.o2_stepping.specs.declared.one_step.Stepped.{Stepped}
 use Rattle.o2_stepping.specs.declared.one_step.Stepped.TheVariants as stepped
@@ -109,7 +109,7 @@ cause_by P Q R (Err (fault.Stopped stop.NoRoom)) f h = tt
 cause_by P Q R (Err (fault.Stopped stop.SwapFull)) f h = tt
 cause_by P Q R (Err (fault.Stopped stop.SwapFault)) f h = tt
 
-pub part_none : (e : Effect) (n : Counts) (result : Result Ran Fault) → OnSink result ⊥ → PartHands e n result
+pub part_none : (e : Effect) (n : Counts) (result : Result Ran Fault) → OnBegun result ⊥ → PartHands e n result
 part_none e n (Ok ran) h = tt
 part_none e n (Err fault.Sink) h = absurd h
 part_none e n (Err (fault.Stopped why)) h = tt
@@ -130,9 +130,12 @@ no_step P (fault.Stopped stop.NoRoom) h = h
 no_step P (fault.Stopped stop.SwapFull) h = h
 no_step P (fault.Stopped stop.SwapFault) h = h
 
-pub not_sink : (f : Fault) → IsSwapStop f → (let result : Result Ran Fault = Err f in OnSink result ⊥)
-not_sink fault.Sink is = absurd is
-not_sink (fault.Stopped why) is = tt
+pub not_begun : (f : Fault) → IsSwapStop f → (let result : Result Ran Fault = Err f in OnBegun result ⊥)
+not_begun fault.Sink is = absurd is
+not_begun (fault.Stopped stop.Input) is = absurd is
+not_begun (fault.Stopped stop.NoRoom) is = tt
+not_begun (fault.Stopped stop.SwapFull) is = tt
+not_begun (fault.Stopped stop.SwapFault) is = tt
 
 pub not_caused : (P : Type 0) (f : Fault) → IsSwapStop f → (let result : Result Ran Fault = Err f in TakenFor P ⊥ result)
 not_caused P fault.Sink is = absurd is

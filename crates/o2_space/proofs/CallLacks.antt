@@ -29,7 +29,7 @@ use Rattle.o2_gate.specs.Pointed.{are_ready}
 use Rattle.o2_run.specs.Room.{is_locked, larger, live_load as world_live, load_between, load_next, of_both, room, room_between, seated, size_of, swap_load, touched}
 use Rattle.o2_run.specs.Stops.{IsSwapFull}
 use Rattle.o2_calls.specs.Acts.{MayStop, ruling_of}
-use Rattle.o2_calls.specs.Stops.{LacksRoom, LacksSwap, held_by}
+use Rattle.o2_calls.specs.Stops.{LacksMemory, LacksRoom, LacksSwap, held_by}
 use Rattle.o2_calls.specs.Tellings.{HoldsAlone}
 use Rattle.o2_stands.specs.Parts.{Parts}
 use Rattle.o2_stands.specs.Sums.{AreAtLeast, counts}
@@ -39,7 +39,7 @@ use Rattle.o2_stepping.specs.Ran.{IsCallOf}
 use Rattle.o2_stepping.specs.Rooms.{aimed_in, ages_of, needed_names, seated_in}
 use Rattle.o2_stepping.proofs.Asked.{touched_asked}
 use Rattle.o2_stepping.proofs.Named.{both_in, one_of, or_back, or_front}
-use Rattle.o2_stepping.proofs.NextRooms.{full, no_room, takes_least}
+use Rattle.o2_stepping.proofs.NextRooms.{live_least, no_room, takes_least}
 use Rattle.o2_space.proofs.CallRooms.{behind_is, holds, needed_wanted, room_is, v, want}
 use Rattle.o2_space.proofs.CallStops.{at_most, counted_larger, facts, lock_over, make_over, named_was, new_over, of_some, part_least, size_held, size_over, sized_least, slot_here, slot_other, same_size, there}
 use Rattle.o2_space.proofs.Keeps.{ages_need, named_age, passes_for}
@@ -193,44 +193,52 @@ module _ (p : Parts) (s : Setting) (w : World) (x : Process) (next : IsNext p s 
       ap (load_next s w (next_dispatch s w)) next.chosen
       ∙ ap (λ (z : World). load_between w.names z.names) (behind_is p s w x next live sound a following call alone)
 
-  full_by : (all_of p.shelf.swap < store_swap p.shelf) → (n : ℕ) → p.shelf.places.size < n → n ≤ room_between w.names behind all → IsSwapFull p.device s w
-  full_by lacks n above below =
-      let blocks = next.set.blocks in
+  short_by : (n : ℕ) → p.shelf.places.size < n → n ≤ room_between w.names behind all → s.memory < world_live s w
+  short_by n above below =
       let memory = next.set.memory in
-      let load : swap_load w ≡ store_swap p.shelf = swap_is p w.processes w.names w.next_name w.reserved next.lawful next.stands in
       let live_all = live_is in
       let rooms = load_room w.names behind in
-      record { swap = omega (arith, blocks, load, lacks); memory = omega (arith, memory, live_all, rooms, above, below) }
+      omega (arith, memory, live_all, rooms, above, below)
 
-  full_for : (z : SegmentArguments) → a ≡ z → (ruling_of z (known_of s w) pid x.cpu).error ≡ 0 → MayStop z → LacksSwap z p.shelf p.maps pid → IsSwapFull p.device s w
-  full_for (Alloc size o f flags) is none may lacks =
-      let t = lacks.1.store in
-      let id = lacks.1.id in
+  short_for : (z : SegmentArguments) → a ≡ z → (ruling_of z (known_of s w) pid x.cpu).error ≡ 0 → MayStop z → LacksMemory z p.shelf p.maps pid → s.memory < world_live s w
+  short_for (Alloc size o f flags) is none may lacks =
+      let t = lacks.store in
+      let id = lacks.id in
       let made = make_over p s w x next live sound a following call alone all (memory_load p.shelf) loads_least size o f flags is none may in
-      let most = new_over p.shelf t id (full_size size) flags lacks.1.adds (memory_load t) (memory_load p.shelf) others (rounded (full_size size)) here in
-      let whole_size = same_size p.shelf t id (full_size size) flags lacks.1.adds in
-      let more = lacks.1.holds in
-      full_by lacks.0 (live_load t) (omega (arith, more, whole_size)) (omega (arith, made, most))
+      let most = new_over p.shelf t id (full_size size) flags lacks.adds (memory_load t) (memory_load p.shelf) others (rounded (full_size size)) here in
+      let whole_size = same_size p.shelf t id (full_size size) flags lacks.adds in
+      let more = lacks.holds in
+      short_by (live_load t) (omega (arith, more, whole_size)) (omega (arith, made, most))
     where
-      others : (k : ℕ) → k ≢ lacks.1.id.key → memory_load lacks.1.store k ≤ memory_load p.shelf k
-      others k other = (let slot = ap (λ (o : Option Entry). rounded (entry_or o).size) (slot_other p.shelf lacks.1.store lacks.1.id (full_size size) flags lacks.1.adds k other) in omega (arith, slot))
+      others : (k : ℕ) → k ≢ lacks.id.key → memory_load lacks.store k ≤ memory_load p.shelf k
+      others k other = (let slot = ap (λ (o : Option Entry). rounded (entry_or o).size) (slot_other p.shelf lacks.store lacks.id (full_size size) flags lacks.adds k other) in omega (arith, slot))
 
-      here : memory_load lacks.1.store lacks.1.id.key ≤ rounded (full_size size)
-      here = (let slot = ap (λ (o : Option Entry). rounded (entry_or o).size) (slot_here p.shelf lacks.1.store lacks.1.id (full_size size) flags lacks.1.adds) in omega (arith, slot))
-  full_for (Realloc size z) is none may lacks =
+      here : memory_load lacks.store lacks.id.key ≤ rounded (full_size size)
+      here = (let slot = ap (λ (o : Option Entry). rounded (entry_or o).size) (slot_here p.shelf lacks.store lacks.id (full_size size) flags lacks.adds) in omega (arith, slot))
+  short_for (Realloc size z) is none may lacks =
       let held = size_held p s w x next live sound a following call alone size z none in
       let h = held.0 in
-      let more = of_some (λ y. p.shelf.places.size < live_load_at p.shelf y.id.key (full_size size)) (held_by p.maps pid z) h held.1 lacks.1 in
+      let more = of_some (λ y. p.shelf.places.size < live_load_at p.shelf y.id.key (full_size size)) (held_by p.maps pid z) h held.1 lacks in
       let sized =
       size_over p s w x next live sound a following call alone all (memory_load p.shelf) loads_least size z is none h held.1
       (λ n key. or_front (is_in n all) _ (in_old w.names behind n (there p s w x next live sound a following call alone n h.id.key key))) in
-      full_by lacks.0 (live_load_at p.shelf h.id.key (full_size size)) more sized
-  full_for (Free z) is none may lacks = absurd lacks.1
-  full_for (Size y z o) is none may lacks = absurd lacks.1
-  full_for (Lock z) is none may lacks = full p s w next.lawful next.set next.stands lacks
-  full_for (Unlock z) is none may lacks = absurd lacks.1
-  full_for (Alias y z o) is none may lacks = absurd lacks.1
-  full_for (Shared y) is none may lacks = absurd lacks.1
+      short_by (live_load_at p.shelf h.id.key (full_size size)) more sized
+  short_for (Free z) is none may lacks = absurd lacks
+  short_for (Size y z o) is none may lacks = absurd lacks
+  short_for (Lock z) is none may lacks =
+      (let live_all = live_least p s w next.lawful next.set next.stands in
+      let memory = next.set.memory in
+      omega (arith, live_all, memory, lacks))
+  short_for (Unlock z) is none may lacks = absurd lacks
+  short_for (Alias y z o) is none may lacks = absurd lacks
+  short_for (Shared y) is none may lacks = absurd lacks
+
+  pub short_call : (ruling_of a (known_of s w) pid x.cpu).error ≡ 0 → MayStop a → LacksMemory a p.shelf p.maps pid → s.memory < world_live s w
+  short_call none may lacks = short_for a refl none may lacks
 
   pub full_call : (ruling_of a (known_of s w) pid x.cpu).error ≡ 0 → MayStop a → LacksSwap a p.shelf p.maps pid → IsSwapFull p.device s w
-  full_call none may lacks = full_for a refl none may lacks
+  full_call none may lacks =
+      let blocks = next.set.blocks in
+      let load : swap_load w ≡ store_swap p.shelf = swap_is p w.processes w.names w.next_name w.reserved next.lawful next.stands in
+      let more = lacks.0 in
+      record { swap = omega (arith, blocks, load, more); memory = short_call none may lacks.1 }

@@ -7,6 +7,10 @@ use Rattle.o2_isa.specs.Presence.{is_in}
 use Rattle.o2_isa.specs.View.{Hold, bound_registers}
 use Rattle.o2_place.specs.declared.seg_id.SegId.{SegId}
 use Rattle.o2_regions.specs.declared.answer.Answer.{Answer}
+use Rattle.o2_regions.specs.declared.answer.Roomed.{Roomed}
+use Rattle.o2_regions.specs.declared.answer.Roomed.TheVariants.{Done, NoRoom, SwapFull, SwapFault}
+use Rattle.o2_segs.specs.Answers.{AnswersRoomed, IsUnrefused}
+use Rattle.o2_world.specs.Rulings.{Ruling}
 use Rattle.o2_regions.specs.declared.held.Held.{Held}
 use Rattle.o2_regions.specs.Maps.{Maps, held_at}
 use Rattle.o2_store.specs.Needs.{named_in}
@@ -28,10 +32,10 @@ use Rattle.o2_world.proofs.Flags.{live_is}
 use Rattle.o2_gate.specs.declared.gathering.SegmentArguments.{SegmentArguments}
 use Rattle.o2_gate.specs.Gathers.{asked, targets}
 use Rattle.o2_gate.specs.Pointed.{are_ready}
-use Rattle.o2_run.specs.Room.{Fits, room, seated, touched}
+use Rattle.o2_run.specs.Room.{Fits, live_load, room, seated, touched}
 use Rattle.o2_run.specs.Stops.{IsSwapFull}
 use Rattle.o2_calls.specs.Acts.{MayStop, ruling_of}
-use Rattle.o2_calls.specs.Stops.{LacksRoom, LacksSwap, LeavesHolds}
+use Rattle.o2_calls.specs.Stops.{LacksMemory, LacksRoom, LacksSwap, LeavesHolds}
 use Rattle.o2_calls.specs.Tellings.{HoldsAlone, replied_by}
 use Rattle.o2_stands.specs.Moves.{with_running}
 use Rattle.o2_stands.specs.Parts.{Parts, Running}
@@ -45,7 +49,7 @@ use Rattle.o2_stepping.proofs.Asked.{touched_asked, untrapped_asked}
 use Rattle.o2_stepping.proofs.Named.{both_in, one_of, or_back, or_front}
 use Rattle.o2_space.specs.Calls.{IsCalled}
 use Rattle.o2_space.proofs.Afters.{orderly_before}
-use Rattle.o2_space.proofs.CallLacks.{full_call, lacks_call}
+use Rattle.o2_space.proofs.CallLacks.{full_call, lacks_call, short_call}
 use Rattle.o2_space.proofs.CallRooms.{fits_call, holds}
 use Rattle.o2_space.proofs.Keeps.{ages_need, keeps_for, live_need, need_present, stays_here, well_kept}
 use Rattle.o2_space.proofs.Replied.{equal_self, orderly_call, some_running}
@@ -170,3 +174,17 @@ module _ (p : Parts) (s : Setting) (w : World) (x : Process) (lawful : AreLawful
       (λ turn none may lacks.
       full_call p s w x (next_of turn.there) live sound a following turn.call turn.alone
       (subst (λ (r : Cpu). (ruling_of a (known_of s w) (next_dispatch s w).current r).error ≡ 0) same none) may lacks)
+
+  pub short_at : (n : ℕ) → (next_dispatch s w).current ≡ n → IsTurn n → (ruling_of a (known_of s w) n c).error ≡ 0 → MayStop a → LacksMemory a p.shelf p.maps n → s.memory < live_load s w
+  short_at n chosen =
+      subst (λ (i : ℕ). IsTurn i → (ruling_of a (known_of s w) i c).error ≡ 0 → MayStop a → LacksMemory a p.shelf p.maps i → s.memory < live_load s w) chosen
+      (λ turn none may lacks.
+      short_call p s w x (next_of turn.there) live sound a following turn.call turn.alone
+      (subst (λ (r : Cpu). (ruling_of a (known_of s w) (next_dispatch s w).current r).error ≡ 0) same none) may lacks)
+
+-- a call that came to no error has none by its ruling
+pub unrefused_error : (r : Ruling) (x : Roomed) → AnswersRoomed r x → IsUnrefused x → r.error ≡ 0
+unrefused_error r (Done a) answers none = sym answers.error ∙ none
+unrefused_error r NoRoom answers none = answers
+unrefused_error r SwapFull answers none = answers
+unrefused_error r SwapFault answers none = answers

@@ -16,10 +16,11 @@ use Rattle.o2_world.specs.World.{Process, Setting, World}
 use Rattle.o2_stands.specs.Parts.{Parts}
 use Rattle.o2_stepping.specs.Nexts.{IsNext}
 use Rattle.o2_stepping.specs.Rooms.{all_names, needed_names, room_in}
-use Rattle.o2_stepping.specs.Taken.{OnSink, OnStep, OnSwapStop, Takes}
+use Rattle.o2_stepping.specs.Taken.{OnBegun, OnStep, OnSwapStop, Takes}
 use Rattle.o2_stepping.specs.declared.one_step.Stepped.{Stepped}
 use Rattle.o2_stepping.specs.declared.one_step.Stepped.TheVariants as stepped
 use Rattle.o2_stepping.proofs.Keeping.{holds_refl}
+use Rattle.o2_stepping.proofs.Reading.{reads_quietly}
 use Rattle.o2_stepping.proofs.NextRooms.{fits, fits_in_part, full, lacks}
 use Rattle.o2_space.specs.Nexts.{SaysStep}
 
@@ -31,7 +32,7 @@ module _ (p : Parts) (s : Setting) (w : World) (x : Process) (next : IsNext p s 
   Says result n =
       Takes (starts_at n) (effect (starts_at n)) cpu old new i j c d r u result
       → OnStep result (λ z. room_in p.shelf (all_names (starts_at n) (bound_registers (hold_in p.maps n) z)) ≤ p.shelf.places.size) (effect (starts_at n)).cpu (starts_at n).cpu
-      → OnSink result (room_in p.shelf (all_names (starts_at n) (bound_registers (hold_in p.maps n) (starts_at n).cpu)) ≤ p.shelf.places.size)
+      → OnBegun result (room_in p.shelf (all_names (starts_at n) (bound_registers (hold_in p.maps n) (starts_at n).cpu)) ≤ p.shelf.places.size)
       → OnSwapStop result (p.shelf.places.size < room_in p.shelf (needed_names (starts_at n))) (Unit {0}) (Unit {0})
       → OnSwapStop result (Unit {0}) ((all_of p.shelf.swap < swap_load p.shelf) × (p.shelf.places.size < live_load p.shelf)) R
       → SaysStep p.device s w result
@@ -40,7 +41,7 @@ module _ (p : Parts) (s : Setting) (w : World) (x : Process) (next : IsNext p s 
   at_current (Ok (stepped.Ran ran)) = λ takes done part more stops. fits p s w x next p.maps (effect (starts_at (next_dispatch s w).current)).cpu (holds_refl p.maps) refl takes.changes done
   at_current (Ok (stepped.Asked a following)) = λ takes done part more stops. tt
   at_current (Err fault.Sink) = λ takes done part more stops. fits_in_part p s w x next p.maps x.cpu (holds_refl p.maps) refl takes.selectors takes.changes part
-  at_current (Err (fault.Stopped stop.Input)) = λ takes done part more stops. tt
+  at_current (Err (fault.Stopped stop.Input)) = λ takes done part more stops. (let q = reads_quietly (starts_at (next_dispatch s w).current) takes.cause in fits_in_part p s w x next p.maps x.cpu (holds_refl p.maps) refl q.selectors q.changes part)
   at_current (Err (fault.Stopped stop.NoRoom)) = λ takes done part more stops. lacks p s w x next more
   at_current (Err (fault.Stopped stop.SwapFull)) = λ takes done part more stops. full p s w next.lawful next.set next.stands stops
   at_current (Err (fault.Stopped stop.SwapFault)) = λ takes done part more stops. tt

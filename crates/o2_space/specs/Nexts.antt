@@ -12,12 +12,12 @@ use Rattle.o2_world.specs.World.{Setting, World}
 
 abbrev pub FaultSays : (device : ℕ) → Setting → World → Fault → Type 0
 FaultSays device s w fault.Sink = Fits true s w
-FaultSays device s w (fault.Stopped stop.Input) = Unit {0}
+FaultSays device s w (fault.Stopped stop.Input) = Fits true s w
 FaultSays device s w (fault.Stopped stop.NoRoom) = s.memory < room s w
 FaultSays device s w (fault.Stopped stop.SwapFull) = IsSwapFull device s w
 FaultSays device s w (fault.Stopped stop.SwapFault) = Unit {0}
 
--- it fits where it is taken, or begun; what lacks at a stop for want of room or of swap lacks in the world
+-- it fits where it is taken, or begun, as it is where a sink or the input fails in it; what lacks at a stop for want of room or of swap lacks in the world
 abbrev pub SaysRoom : (device : ℕ) → Setting → World → Result Ran Fault → Type 0
 SaysRoom device s w (Ok ran) = Fits true s w
 SaysRoom device s w (Err f) = FaultSays device s w f

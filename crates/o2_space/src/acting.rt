@@ -28,7 +28,7 @@ ghost use Rattle.o2_run.specs.Pieces.{PartHands, counts};
 ghost use Rattle.o2_stepping.specs.Pieces.{RanHands, StepHands};
 ghost use Rattle.o2_stepping.specs.Shapes.{SameShape};
 ghost use Rattle.o2_stepping.specs.Rooms.{all_names, needed_names, room_in};
-ghost use Rattle.o2_stepping.specs.Taken.{OnAsks, OnDone, OnNoStep, OnSink, OnStep, OnSwapStop, SteppedFor, TakenFor};
+ghost use Rattle.o2_stepping.specs.Taken.{OnAsks, OnDone, OnNoStep, OnBegun, OnStep, OnSwapStop, SteppedFor, TakenFor};
 ghost use Rattle.o2_segs.specs.Sharing.{AreHeldAtMost};
 ghost use Rattle.o2_shared.specs.Shares.{AreFew};
 ghost use Rattle.o2_shared.specs.Texts.{IsBehind};
@@ -38,6 +38,8 @@ ghost use Rattle.o2_space.specs.Between.{Steps};
 ghost use Rattle.o2_space.specs.Nexts.{SaysRoom, SaysStep};
 ghost use Rattle.o2_space.specs.Parts.{parts_in};
 ghost use Rattle.o2_space.specs.Stands.{GoTogether, StandsCommitted};
+ghost use Rattle.o2_store.specs.Idle.{IsIdle, NoneTaken};
+ghost use Rattle.o2_run.specs.Room.{AllFits};
 
 use crate::space::{Proc, Space};
 use o2_ends::end;
@@ -86,6 +88,8 @@ impl Space {
         ensures names { self.new.names ≡ self.old.names }
         ensures behind { IsBehind self.old.store self.new.store }
         ensures avail { self.new.services.avail ≡ self.old.services.avail }
+        ensures images { self.new.images ≡ self.old.images }
+        ensures unused { NoneTaken self.old.store.swap → NoneTaken self.new.store.swap }
     {
         self.procs[pid as usize - 1] = Proc { cpu: *cpu, state };
         if !is_live(state) {
@@ -139,7 +143,7 @@ impl Space {
             → process_at w.processes pid ≡ Some x → cpu.old ≡ x.cpu
             → left_as text (I.left input.old) (I.past input.old) ≡ Some w.input → IsKnown (known_of s w) self.old.services
             → let b = before s w pid x in
-            OnSink result (room_in self.old.store
+            OnBegun result (room_in self.old.store
             (all_names b (bound_registers (hold_in self.old.regions pid) b.cpu))
             ≤ self.old.store.places.size) }
         ensures no_room { (s : Setting) (w : World) (x : Process) → IsTrue (S.told swap.new)
@@ -151,6 +155,10 @@ impl Space {
             ((all_of self.old.store.swap < swap_load self.old.store)
             × (self.old.store.places.size < live_load self.old.store))
             (Rose (S.faults swap.old) (S.faults swap.new)) }
+        ensures idle { (s : Setting) (w : World)
+            → Stands (parts_in self.old (S.blocks swap.old) (S.block swap.old)) w
+            → IsSetTo (parts_in self.old (S.blocks swap.old) (S.block swap.old)) s → AllFits s w
+            → NoneTaken self.old.store.swap → IsIdle self.new.store swap.old swap.new }
         ensures next_room { (text : Option (List ℕ)) → IsSeenAs text (I.past input.new)
             → (s : Setting) (w : World) (x : Process) → IsTrue (S.told swap.new)
             → Stands (parts_in self.old (S.blocks swap.old) (S.block swap.old)) w
@@ -172,6 +180,7 @@ impl Space {
         ensures processes { self.new.regions.processes ≡ self.old.regions.processes }
         ensures most { self.new.regions.processes ≤ 64 }
         ensures avail { self.new.services.avail ≡ self.old.services.avail }
+        ensures images { self.new.images ≡ self.old.images }
         ensures device { (S.blocks swap.new ≡ S.blocks swap.old)
             × (IsTrue (S.told swap.new) → IsTrue (S.told swap.old)) }
         ensures cause { SteppedFor
@@ -261,7 +270,7 @@ impl Space {
         ensures swap_stops { OnSwapStop result (Unit {0}) (Unit {0})
             (Rose (S.faults swap.old) (S.faults swap.new)) }
         // The room of the world's next step, where it is one of this process, is at most the memory where it is taken, and also where a
-        // sink fails in it; it is more than the memory at NoRoom. At SwapFull what swapping has to hold exceeds blocks and memory.
+        // sink or the input fails in it; it is more than the memory at NoRoom. At SwapFull what swapping has to hold exceeds blocks and memory.
         ensures next_room { (text : Option (List ℕ)) → IsSeenAs text (I.past input.new)
             → (s : Setting) (w : World) (x : Process) → IsTrue (S.told swap.new)
             → Stands (parts_in self.old (S.blocks swap.old) (S.block swap.old)) w
@@ -270,6 +279,15 @@ impl Space {
             → left_as text (I.left input.old) (I.past input.old) ≡ Some w.input → IsKnown (known_of s w) self.old.services
             → AreSpelled self.old.store self.old.names w
             → SaysRoom (S.blocks swap.old) s w result }
+        // Where nothing is in swap blocks and all that lives in the world's next step fits the memory, the device isn't touched.
+        ensures idle { (text : Option (List ℕ)) → IsSeenAs text (I.past input.new)
+            → (s : Setting) (w : World) (x : Process) → IsTrue (S.told swap.old)
+            → Stands (parts_in self.old (S.blocks swap.old) (S.block swap.old)) w
+            → IsSetTo (parts_in self.old (S.blocks swap.old) (S.block swap.old)) s → IsSound w
+            → (next_dispatch s w).current ≡ pid → process_at w.processes pid ≡ Some x
+            → left_as text (I.left input.old) (I.past input.old) ≡ Some w.input → IsKnown (known_of s w) self.old.services
+            → AreSpelled self.old.store self.old.names w → AllFits s w
+            → NoneTaken self.old.store.swap → IsIdle self.new.store swap.old swap.new }
 
         // The parts go on to go together, whatever the device gives, and what a setting fixes stays. Who is marked live stays so, but
         // for the process, where its step ended it.
@@ -284,6 +302,7 @@ impl Space {
         ensures held { (k : ℕ) → 1 ≤ k → AreHeldAtMost self.old.regions k
             → AreHeldAtMost self.new.regions (k + made_by result) }
         ensures avail { self.new.services.avail ≡ self.old.services.avail }
+        ensures images { self.new.images ≡ self.old.images }
         ensures device { (S.blocks swap.new ≡ S.blocks swap.old)
             × (IsTrue (S.told swap.new) → IsTrue (S.told swap.old)) }
 

@@ -21,7 +21,7 @@ ghost use Rattle.o2_run.specs.Pieces.{counts};
 ghost use Rattle.o2_stepping.specs.Pieces.{RanHands};
 ghost use Rattle.o2_stepping.specs.Ran.{IsCallOf};
 ghost use Rattle.o2_stepping.specs.Rooms.{all_names, room_in};
-ghost use Rattle.o2_stepping.specs.Taken.{IsSwapStop, OnErr, OnNoStep, OnSink, OnSwapStop, TakenFor};
+ghost use Rattle.o2_stepping.specs.Taken.{IsSwapStop, OnErr, OnNoStep, OnBegun, OnSwapStop, TakenFor};
 ghost use Rattle.o2_stepping.specs.Worlds.{bytes_with};
 ghost use Rattle.o2_world.specs.Changes.{with_all};
 ghost use Rattle.o2_world.specs.Known.{known_of};
@@ -35,6 +35,8 @@ ghost use Rattle.o2_space.specs.Calls.{Makes, MakesNames, SaysCall, no_registers
 ghost use Rattle.o2_space.specs.Nexts.{SaysRoom};
 ghost use Rattle.o2_space.specs.Parts.{parts_in};
 ghost use Rattle.o2_space.specs.Stands.{GoTogether};
+ghost use Rattle.o2_store.specs.Idle.{IsIdle, NoneTaken};
+ghost use Rattle.o2_run.specs.Room.{AllFits};
 
 use crate::acting::is_live;
 use crate::space::Space;
@@ -139,6 +141,13 @@ impl Space {
             → let b = before s w pid x in IsCallOf b arguments next
             → room_in self.old.store (all_names b (bound_registers (hold_in self.old.regions pid) b.cpu)) ≤ self.old.store.places.size
             → SaysCall (S.blocks swap.old) s w result }
+        ensures idle { (s : Setting) (w : World) (x : Process)
+            → Stands (parts_in self.old (S.blocks swap.old) (S.block swap.old)) w
+            → IsSetTo (parts_in self.old (S.blocks swap.old) (S.block swap.old)) s → IsSound w
+            → (next_dispatch s w).current ≡ pid → process_at w.processes pid ≡ Some x
+            → lives_on x.state ≡ true → cpu.old ≡ x.cpu → AreSpelled self.old.store self.old.names w
+            → IsCallOf (before s w pid x) arguments next → AllFits s w
+            → NoneTaken self.old.store.swap → IsIdle self.new.store swap.old swap.new }
         ensures spells { (s : Setting) (w : World) (x : Process)
             → Stands (parts_in self.old (S.blocks swap.old) (S.block swap.old)) w
             → IsSetTo (parts_in self.old (S.blocks swap.old) (S.block swap.old)) s
@@ -160,6 +169,7 @@ impl Space {
         ensures held { (k : ℕ) → 1 ≤ k → AreHeldAtMost self.old.regions k
             → AreHeldAtMost self.new.regions (k + made_by result) }
         ensures avail { self.new.services.avail ≡ self.old.services.avail }
+        ensures images { self.new.images ≡ self.old.images }
         ensures device { (S.blocks swap.new ≡ S.blocks swap.old)
             × (IsTrue (S.told swap.new) → IsTrue (S.told swap.old)) }
         ensures swap_count { S.faults swap.old ≤ S.faults swap.new }
@@ -229,6 +239,13 @@ impl Space {
             → let b = before s w pid x in IsCallOf b arguments next
             → room_in self.old.store (all_names b (bound_registers (hold_in self.old.regions pid) b.cpu)) ≤ self.old.store.places.size
             → SaysRoom (S.blocks swap.old) s w result }
+        ensures idle { (s : Setting) (w : World) (x : Process)
+            → Stands (parts_in self.old (S.blocks swap.old) (S.block swap.old)) w
+            → IsSetTo (parts_in self.old (S.blocks swap.old) (S.block swap.old)) s → IsSound w
+            → (next_dispatch s w).current ≡ pid → process_at w.processes pid ≡ Some x → registers ≡ x.cpu
+            → AreSpelled self.old.store self.old.names w
+            → IsCallOf (before s w pid x) arguments next → AllFits s w
+            → NoneTaken self.old.store.swap → IsIdle self.new.store swap.old swap.new }
         ensures spells { (s : Setting) (w : World) (x : Process) → IsTrue (S.told swap.new)
             → Stands (parts_in self.old (S.blocks swap.old) (S.block swap.old)) w
             → IsSetTo (parts_in self.old (S.blocks swap.old) (S.block swap.old)) s → IsSound w
@@ -237,7 +254,7 @@ impl Space {
             → let b = before s w pid x in effect b ≡ single_stepped b (asked arguments b next)
             → SpellsBehind b w x self.new.store self.new.names result }
         ensures still { OnNoStep result (report.new ≡ report.old) }
-        ensures no_sink { OnSink result ⊥ }
+        ensures not_begun { OnBegun result ⊥ }
         ensures swap_stops { OnSwapStop result (Unit {0}) (Unit {0}) (Rose (S.faults swap.old) (S.faults swap.new)) }
         ensures together { GoTogether self.new (S.blocks swap.new) }
         ensures set { (s : Setting)
@@ -250,6 +267,7 @@ impl Space {
         ensures held { (k : ℕ) → 1 ≤ k → AreHeldAtMost self.old.regions k
             → AreHeldAtMost self.new.regions (k + made_by result) }
         ensures avail { self.new.services.avail ≡ self.old.services.avail }
+        ensures images { self.new.images ≡ self.old.images }
         ensures device { (S.blocks swap.new ≡ S.blocks swap.old)
             × (IsTrue (S.told swap.new) → IsTrue (S.told swap.old)) }
         ensures cause { TakenFor (Rose (R.faults report.old) (R.faults report.new)) ⊥ result }

@@ -12,6 +12,7 @@ pub mod Trials
 pub mod Rounds
 pub mod Steps
 pub mod Puts
+pub mod Reading
 pub mod Selectors
 pub mod NextRooms
 pub mod Here

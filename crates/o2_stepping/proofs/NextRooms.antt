@@ -305,7 +305,7 @@ module _ (p : Parts) (s : Setting) (w : World) (q : Process) (next : IsNext p s 
 -- A store whose swap is full.
 
 module _ (p : Parts) (s : Setting) (w : World) (lawful : AreLawful p.shelf p.maps) (set : IsSetTo p s) (stands : Stands p w) where
-  live_least : store_live p.shelf ≤ live_load s w
+  pub live_least : store_live p.shelf ≤ live_load s w
   unfolding live_load
   live_least = go (process_at w.processes (next_dispatch s w).current)
     where

@@ -21,7 +21,7 @@ use Rattle.o2_store.proofs.Loads.{same_live_load, same_swap_load}
 use Rattle.o2_stepping.specs.Shapes.{SameShape}
 use Rattle.o2_gate.specs.declared.gathering.SegmentArguments.{SegmentArguments}
 use Rattle.o2_stepping.specs.Ran.{OnAsked, OnAsking, OnMissed, OnUndone, StepFor, StepLeaves}
-use Rattle.o2_stepping.specs.Taken.{OnAsks, OnDone, OnRan, OnSink, OnSinkFault, OnSwapFault, OnSwapStop, Takes, TriedFor, Tries}
+use Rattle.o2_stepping.specs.Taken.{OnAsks, OnDone, OnRan, OnBegun, OnBegunFault, OnSwapFault, OnSwapStop, Takes, TriedFor, Tries}
 use Rattle.o2_stepping.specs.Worlds.{before_in, bytes_with, world_view}
 use Rattle.o2_stepping.specs.declared.one_step.Attempt.{Attempt}
 use Rattle.o2_stepping.specs.declared.one_step.Attempt.TheVariants as attempt
@@ -80,10 +80,13 @@ missed_then P x s is h = subst (λ (z : Attempt). OnUndone (Ok z) P) is h
 pub ran_at : (P : Type 0) (x : Attempt) (r : Stepped) → x ≡ attempt.Stepped r → OnRan (Ok x) P → P
 ran_at P x r is h = subst (λ (z : Attempt). OnRan (Ok z) P) is h
 
--- what holds where a sink failed
-pub at_sink : (P Q : Type 0) (f : Fault) → (P → Q) → OnSinkFault f P → OnSinkFault f Q
-at_sink P Q fault.Sink g h = g h
-at_sink P Q (fault.Stopped why) g h = tt
+-- what holds where a sink failed, or the input
+pub at_begun : (P Q : Type 0) (f : Fault) → (P → Q) → OnBegunFault f P → OnBegunFault f Q
+at_begun P Q fault.Sink g h = g h
+at_begun P Q (fault.Stopped stop.Input) g h = g h
+at_begun P Q (fault.Stopped stop.NoRoom) g h = tt
+at_begun P Q (fault.Stopped stop.SwapFull) g h = tt
+at_begun P Q (fault.Stopped stop.SwapFault) g h = tt
 
 -- at a stop, what holds of it
 pub at_stop : (P Q R A B C : Type 0) (f : Fault) → (P → A) → (Q → B) → (R → C) → OnSwapFault P Q R f → OnSwapFault A B C f
@@ -98,9 +101,9 @@ pub on_done : (P Q : Type 0) (r : Result Stepped Fault) → (P → Q) → OnDone
 on_done P Q (Ok ran) g h = g h
 on_done P Q (Err f) g h = tt
 
-pub on_sink : (P Q : Type 0) (r : Result Stepped Fault) → (P → Q) → OnSink r P → OnSink r Q
-on_sink P Q (Ok ran) g h = tt
-on_sink P Q (Err f) g h = at_sink P Q f g h
+pub on_begun : (P Q : Type 0) (r : Result Stepped Fault) → (P → Q) → OnBegun r P → OnBegun r Q
+on_begun P Q (Ok ran) g h = tt
+on_begun P Q (Err f) g h = at_begun P Q f g h
 
 pub on_stop : (P Q R A B C : Type 0) (r : Result Stepped Fault) → (P → A) → (Q → B) → (R → C) → OnSwapStop r P Q R → OnSwapStop r A B C
 on_stop P Q R A B C (Ok ran) p q r h = tt

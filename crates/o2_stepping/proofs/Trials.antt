@@ -28,7 +28,7 @@ use Rattle.o2_run.specs.Room.{seated, touched}
 use Rattle.o2_run.specs.Faults.{CauseOf}
 use Rattle.o2_stepping.specs.Ran.{AttemptFor, IsStill, Leaves, OnMissed, is_missed}
 use Rattle.o2_stepping.specs.Rooms.{IsWanted, ages_of, all_names, needed_names}
-use Rattle.o2_stepping.specs.Taken.{IsSwapStop, OnRan, OnSink, OnSinkFault, OnSwapFault, OnSwapStop, TakesFault, TriedFor, Tries}
+use Rattle.o2_stepping.specs.Taken.{IsSwapStop, OnRan, OnBegun, OnBegunFault, OnSwapFault, OnSwapStop, TakesFault, TriedFor, Tries}
 use Rattle.o2_stepping.specs.Worlds.{before_in, bytes_with, world_view}
 use Rattle.o2_stepping.specs.declared.one_step.Attempt.{Attempt}
 use Rattle.o2_stepping.specs.declared.one_step.Attempt.TheVariants as attempt
@@ -144,17 +144,23 @@ module _ (a b d : ℕ → List ℕ) (s t u : Shelf) (m n : Maps) (pid : ℕ) (c 
 
   pub together_in_part : (o : Maps) (new : Cpu) (result : Result Attempt Fault) → KeepsStore t u → CanStep t n pid c → CanStep u o pid new
       → (is_missed result ≡ false → ArePresent (seen t n pid c) (touched (before_in b t n pid c bytes known)))
-      → OnSink result (ArePresent (seen u o pid new) (all_names (before_in a s m pid c bytes known) (bound_registers (hold_in o pid) new)))
+      → OnBegun result (ArePresent (seen u o pid new) (all_names (before_in a s m pid c bytes known) (bound_registers (hold_in o pid) new)))
   unfolding seen_with
   together_in_part o new (Ok x) keeps before after names = tt
-  together_in_part o new (Err (fault.Stopped why)) keeps before after names = tt
+  together_in_part o new (Err (fault.Stopped stop.Input)) keeps before after names = λ k e. all_present o new keeps before after (names refl) k e
+  together_in_part o new (Err (fault.Stopped stop.NoRoom)) keeps before after names = tt
+  together_in_part o new (Err (fault.Stopped stop.SwapFull)) keeps before after names = tt
+  together_in_part o new (Err (fault.Stopped stop.SwapFault)) keeps before after names = tt
   together_in_part o new (Err fault.Sink) keeps before after names = λ k e. all_present o new keeps before after (names refl) k e
 
 -- At a stop for want of room or of the swap device.
 
-pub no_sink : (P : Type 0) (f : Fault) → IsSwapStop f → OnSinkFault f P
-no_sink P fault.Sink s = absurd s
-no_sink P (fault.Stopped why) s = tt
+pub not_begun : (P : Type 0) (f : Fault) → IsSwapStop f → OnBegunFault f P
+not_begun P fault.Sink s = absurd s
+not_begun P (fault.Stopped stop.Input) s = absurd s
+not_begun P (fault.Stopped stop.NoRoom) s = tt
+not_begun P (fault.Stopped stop.SwapFull) s = tt
+not_begun P (fault.Stopped stop.SwapFault) s = tt
 
 pub no_step : (P : Type 0) (f : Fault) → P → OnSwapFault P P P f
 no_step P fault.Sink p = tt

@@ -70,14 +70,17 @@ abbrev pub OnSwapStop : {T : Type 0} → Result T Fault → (no_room swap_full s
 OnSwapStop (Ok x) room full device = Unit {0}
 OnSwapStop (Err f) room full device = OnSwapFault room full device f
 
--- what holds where a sink failed
-abbrev pub OnSinkFault : Fault → Type 0 → Type 0
-OnSinkFault fault.Sink P = P
-OnSinkFault (fault.Stopped why) P = Unit {0}
+-- what holds where a sink failed in the step, or the input
+abbrev pub OnBegunFault : Fault → Type 0 → Type 0
+OnBegunFault fault.Sink P = P
+OnBegunFault (fault.Stopped stop.Input) P = P
+OnBegunFault (fault.Stopped stop.NoRoom) P = Unit {0}
+OnBegunFault (fault.Stopped stop.SwapFull) P = Unit {0}
+OnBegunFault (fault.Stopped stop.SwapFault) P = Unit {0}
 
-abbrev pub OnSink : {T : Type 0} → Result T Fault → Type 0 → Type 0
-OnSink (Ok x) P = Unit {0}
-OnSink (Err f) P = OnSinkFault f P
+abbrev pub OnBegun : {T : Type 0} → Result T Fault → Type 0 → Type 0
+OnBegun (Ok x) P = Unit {0}
+OnBegun (Err f) P = OnBegunFault f P
 
 -- what holds at each of these stops
 abbrev pub OnNoStep : {T : Type 0} → Result T Fault → Type 0 → Type 0

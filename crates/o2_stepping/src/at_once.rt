@@ -18,8 +18,9 @@ ghost use Rattle.o2_run.specs.Pieces.{PartHands, counts};
 ghost use Rattle.o2_stepping.specs.Pieces.{StepHands};
 ghost use Rattle.o2_stepping.specs.Rooms.{all_names, needed_names, room_in};
 ghost use Rattle.o2_stepping.specs.Shapes.{SameShape};
-ghost use Rattle.o2_stepping.specs.Taken.{OnAsks, OnDone, OnNoStep, OnSink, OnSwapStop, SteppedFor, Takes};
+ghost use Rattle.o2_stepping.specs.Taken.{OnAsks, OnDone, OnNoStep, OnBegun, OnSwapStop, SteppedFor, Takes};
 ghost use Rattle.o2_stepping.specs.Worlds.{away_of, before_in, bytes_with, parts_of};
+ghost use Rattle.o2_store.specs.Idle.{Idles};
 
 use crate::in_store::step_as_needed;
 use crate::one_step::{Attempt, Stepped};
@@ -90,13 +91,15 @@ pub fn step_in_store<S: SwapDevice, I: Source, C: Sink, R: Sink>(
         OnDone result (room_in store.old (all_names b (bound_registers (hold_in regions.new pid) cpu.new)) ≤ store.old.places.size) }
     ensures room_in_part { (bytes : List ℕ) (known : Known) → IsTrue (S.told swap.new)
         → let b = before_in (away_of store.old regions.old images.now (S.blocks swap.old) (S.block swap.old)) store.old regions.old pid cpu.old bytes known in
-        OnSink result (room_in store.old (all_names b (bound_registers (hold_in regions.new pid) cpu.new)) ≤ store.old.places.size) }
+        OnBegun result (room_in store.old (all_names b (bound_registers (hold_in regions.new pid) cpu.new)) ≤ store.old.places.size) }
     ensures no_room { (bytes : List ℕ) (known : Known) → IsTrue (S.told swap.new)
         → let b = before_in (away_of store.old regions.old images.now (S.blocks swap.old) (S.block swap.old)) store.old regions.old pid cpu.old bytes known in
         OnSwapStop result (store.old.places.size < room_in store.old (needed_names b)) (Unit {0}) (Unit {0}) }
     ensures swap_stops { OnSwapStop result (Unit {0})
         ((all_of store.old.swap < swap_load store.old) × (store.old.places.size < live_load store.old))
         (Rose (S.faults swap.old) (S.faults swap.new)) }
+    // Where nothing is in swap blocks and all that lives fits the memory, the device isn't touched.
+    ensures idle { Idles (live_load store.old) store.old store.new swap.old swap.new }
 
     // Each segment keeps its size and its attributes, each process what it holds, and all goes on to agree.
     ensures shape { SameShape store.old regions.old store.new regions.new }

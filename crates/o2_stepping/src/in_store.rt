@@ -22,8 +22,9 @@ ghost use Rattle.o2_stepping.specs.Pieces.{AttemptHands, StepHands};
 ghost use Rattle.o2_stepping.specs.Ran.{OnAsked, OnMissed, OnUndone};
 ghost use Rattle.o2_stepping.specs.Rooms.{AreNeeded, IsWanted, ages_of, all_names, needed_names, room_in, seated_in};
 ghost use Rattle.o2_stepping.specs.Shapes.{SameShape};
-ghost use Rattle.o2_stepping.specs.Taken.{IsSwapStop, OnAsks, OnDone, OnErr, OnNoStep, OnRan, OnSink, OnSwapStop, SteppedFor, Takes, TriedFor, Tries};
+ghost use Rattle.o2_stepping.specs.Taken.{IsSwapStop, OnAsks, OnDone, OnErr, OnNoStep, OnRan, OnBegun, OnSwapStop, SteppedFor, Takes, TriedFor, Tries};
 ghost use Rattle.o2_stepping.specs.Worlds.{away_of, before_in, bytes_with, parts_of};
+ghost use Rattle.o2_store.specs.Idle.{Idles};
 
 use crate::one_step::{Attempt, Stepped};
 use crate::seats::{add_missed, seats};
@@ -65,6 +66,7 @@ fn bring<S: SwapDevice>(
         → (all_of store.old.swap < swap_load store.old) × (store.old.places.size < live_load store.old) }
     ensures cause { result ≡ Served.SwapFault → Rose (S.faults swap.old) (S.faults swap.new) }
     ensures count { S.faults swap.old ≤ S.faults swap.new }
+    ensures idle { Idles (live_load store.old) store.old store.new swap.old swap.new }
 {
     store.law();
     let served = serve(need, store, regions, images, swap);
@@ -99,6 +101,7 @@ fn bring_in<S: SwapDevice>(
         (Rose (S.faults swap.old) (S.faults swap.new)) }
     ensures kind { OnErr result (λ f. IsSwapStop f) }
     ensures count { S.faults swap.old ≤ S.faults swap.new }
+    ensures idle { Idles (live_load store.old) store.old store.new swap.old swap.new }
 {
     match bring(need, pid, cpu, store, regions, images, swap) {
         Served::Here => Ok(()),
@@ -148,7 +151,7 @@ fn serve_and_try<S: SwapDevice, I: Source, C: Sink, R: Sink>(
         OnRan result (ArePresent (seen store.new regions.new pid cpu.new) (all_names b (bound_registers (hold_in regions.new pid) cpu.new))) }
     ensures in_part { (bytes : List ℕ) (known : Known) → IsTrue (S.told swap.new)
         → let b = before_in (away_of store.old regions.old images.now (S.blocks swap.old) (S.block swap.old)) store.old regions.old pid cpu.old bytes known in
-        OnSink result (ArePresent (seen store.new regions.new pid cpu.new) (all_names b (bound_registers (hold_in regions.new pid) cpu.new))) }
+        OnBegun result (ArePresent (seen store.new regions.new pid cpu.new) (all_names b (bound_registers (hold_in regions.new pid) cpu.new))) }
     ensures still { OnUndone result ((cpu.new ≡ cpu.old)
         × (input.new ≡ input.old) × (console.new ≡ console.old) × (report.new ≡ report.old)) }
     ensures same { IsTrue (S.told swap.new) → OnUndone result ((n : ℕ)
@@ -168,6 +171,7 @@ fn serve_and_try<S: SwapDevice, I: Source, C: Sink, R: Sink>(
     ensures causes { OnSwapStop result (store.old.places.size < all_needed store.old need.now)
         ((all_of store.old.swap < swap_load store.old) × (store.old.places.size < live_load store.old))
         (Rose (S.faults swap.old) (S.faults swap.new)) }
+    ensures idle { Idles (live_load store.old) store.old store.new swap.old swap.new }
     ensures cause { TriedFor (Rose (C.faults console.old) (C.faults console.new) ⊎ Rose (R.faults report.old) (R.faults report.new))
         (Rose (I.faults input.old) (I.faults input.new)) result }
     ensures input_count { I.faults input.old ≤ I.faults input.new }
@@ -244,13 +248,14 @@ pub(crate) fn step_as_needed<S: SwapDevice, I: Source, C: Sink, R: Sink>(
         OnDone result (room_in store.old (all_names b (bound_registers (hold_in regions.new pid) cpu.new)) ≤ store.old.places.size) }
     ensures room_in_part { (bytes : List ℕ) (known : Known) → IsTrue (S.told swap.new)
         → let b = before_in (away_of store.old regions.old images.now (S.blocks swap.old) (S.block swap.old)) store.old regions.old pid cpu.old bytes known in
-        OnSink result (room_in store.old (all_names b (bound_registers (hold_in regions.new pid) cpu.new)) ≤ store.old.places.size) }
+        OnBegun result (room_in store.old (all_names b (bound_registers (hold_in regions.new pid) cpu.new)) ≤ store.old.places.size) }
     ensures no_room { (bytes : List ℕ) (known : Known) → IsTrue (S.told swap.new)
         → let b = before_in (away_of store.old regions.old images.now (S.blocks swap.old) (S.block swap.old)) store.old regions.old pid cpu.old bytes known in
         OnSwapStop result (store.old.places.size < room_in store.old (needed_names b)) (Unit {0}) (Unit {0}) }
     ensures swap_stops { OnSwapStop result (Unit {0})
         ((all_of store.old.swap < swap_load store.old) × (store.old.places.size < live_load store.old))
         (Rose (S.faults swap.old) (S.faults swap.new)) }
+    ensures idle { Idles (live_load store.old) store.old store.new swap.old swap.new }
 
     // Each segment keeps its size and its attributes, each process what it holds, and all goes on to agree.
     ensures shape { SameShape store.old regions.old store.new regions.new }

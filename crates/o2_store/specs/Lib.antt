@@ -1,3 +1,4 @@
+pub mod Idle
 pub mod Leaving
 pub mod Lending
 pub mod Loads

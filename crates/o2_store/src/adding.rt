@@ -7,6 +7,7 @@ ghost use Rattle.o2_place.specs.Layout.{Changes};
 ghost use Rattle.o2_swapmap.specs.Piles.{OnlyOf, all_of};
 ghost use Rattle.o2_store.specs.Shelf.{Shelf, Adds, place_of, entry_of, entry, byte_at, Pictures, AreClean, Removes, FollowsLock};
 ghost use Rattle.o2_place.specs.Marks.{mark_of};
+ghost use Rattle.o2_store.specs.Idle.{NoneTaken};
 
 use crate::store::{Store, locked_part};
 use o2_entries::{Attr, Entry};
@@ -106,6 +107,7 @@ impl Store {
         ensures stale { result ≡ false → self.new ≡ self.old }
         ensures removed { result ≡ true → Removes self.old self.new id.key }
         ensures map { all_of self.new.swap ≡ all_of self.old.swap }
+        ensures unused { NoneTaken self.old.swap → NoneTaken self.new.swap }
     {
         let Some(entry) = self.find(id) else {
             return false;

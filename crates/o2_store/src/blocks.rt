@@ -1,5 +1,5 @@
 // Segments' bytes go to swap blocks and come back.
-ghost use Rattle.std.specs.Prelude.{◌≡◌, ◌≢◌, ◌⊎◌, ℕ, ◌+◌, ◌-◌, ◌*◌, ◌<◌, ◌≤◌, ◌^◌, length, slice_index, IsTrue};
+ghost use Rattle.std.specs.Prelude.{◌≡◌, ◌≢◌, ◌⊎◌, ℕ, ◌+◌, ◌-◌, ◌*◌, ◌<◌, ◌≤◌, ◌^◌, length, slice_index, IsTrue, []};
 ghost use Rattle.o2_outer.specs.Answers.{HasCause};
 ghost use Rattle.o2_swapmap.specs.Piles.{blocks_of, all_of};
 ghost use Rattle.o2_store.specs.Shelf.{blocks_for, stored_byte, IsOther};
@@ -75,6 +75,7 @@ pub(crate) fn read_in<S: SwapDevice>(
     requires device { all_of map.now ≤ S.blocks swap.old }
     ensures device { (S.blocks swap.new ≡ S.blocks swap.old) × (IsTrue (S.told swap.new) → IsTrue (S.told swap.old)) }
     ensures same { IsTrue (S.told swap.new) → (b : ℕ) → S.block swap.new b ≡ S.block swap.old b }
+    ensures none { blocks_of map.now key ≡ [] → swap.new ≡ swap.old }
     ensures length { length phys.new ≡ length phys.old }
     ensures outside { (i : ℕ) → (i < at) ⊎ (at + kept ≤ i) → slice_index phys.new i ≡ slice_index phys.old i }
     ensures read { IsTrue (S.told swap.new) → result ≡ Dev.Done → (j : ℕ) → j < kept → slice_index phys.new (at + j) ≡ stored_byte map.now (S.block swap.old) key j }

@@ -11,6 +11,7 @@ ghost use Rattle.o2_store.specs.Leaving.{WritesOut, Evicts, TakesVictim};
 ghost use Rattle.o2_store.specs.Loads.{swap_load, live_load};
 ghost use Rattle.o2_store.specs.Needs.{has, all_need, named_in, all_wanted};
 ghost use Rattle.o2_store.specs.Pictures.{picture, HasPicture};
+ghost use Rattle.o2_store.specs.Idle.{Idles, IsIdle, NoneTaken};
 
 use crate::brought::Brought;
 use crate::keys::collect;
@@ -80,6 +81,7 @@ impl Store {
         ensures none { (k : ℕ) → place_of self.old k ≡ None → place_of self.new k ≡ None }
         ensures evicts { Evicts self.old self.new }
         ensures enough { used self.old.places.ranges + len ≤ self.old.places.size → self.new ≡ self.old }
+        ensures idle { used self.old.places.ranges + len ≤ self.old.places.size → swap.new ≡ swap.old }
         ensures room { result ≡ Brought.Here → used self.new.places.ranges + len ≤ self.new.places.size }
         ensures short { (result ≡ Brought.Here → ⊥) → self.new.places.size < used self.new.places.ranges + len }
         ensures no_room { result ≡ Brought.NoRoom → (k : ℕ) → IsSome (place_of self.new k) → (entry self.new k).attr.lock ≡ 0 → IsKept self.new.keys k }
@@ -132,6 +134,7 @@ impl Store {
         ensures faults { S.faults swap.old ≤ S.faults swap.new }
         ensures cause { result ≡ Brought.SwapFault → Rose (S.faults swap.old) (S.faults swap.new) }
         ensures never { (result ≡ Brought.NoRoom → ⊥) × (result ≡ Brought.Stale → ⊥) }
+        ensures idle { Idles (live_load self.old) self.old self.new swap.old swap.new }
     {
         self.law();
         if self.range_of(key).is_some() {
@@ -176,6 +179,7 @@ impl Store {
         ensures faults { S.faults swap.old ≤ S.faults swap.new }
         ensures cause { result ≡ Brought.SwapFault → Rose (S.faults swap.old) (S.faults swap.new) }
         ensures never { (result ≡ Brought.NoRoom → ⊥) × (result ≡ Brought.Stale → ⊥) × (result ≡ Brought.SwapFull → ⊥) }
+        ensures idle { NoneTaken self.old.swap → IsIdle self.new swap.old swap.new }
     {
         if self.place_in(key, len, images, swap) {
             return Brought::Here;
@@ -225,6 +229,8 @@ impl Store {
             → (all_of self.old.swap < swap_load self.old) × (self.old.places.size < live_load self.old) }
         ensures faults { S.faults swap.old ≤ S.faults swap.new }
         ensures cause { result ≡ Brought.SwapFault → Rose (S.faults swap.old) (S.faults swap.new) }
+        // Where nothing is in swap blocks and all that lives fits the memory, the device isn't touched.
+        ensures idle { Idles (live_load self.old) self.old self.new swap.old swap.new }
     {
         self.law();
         if self.find(id).is_none() {

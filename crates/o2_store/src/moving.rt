@@ -8,6 +8,7 @@ ghost use Rattle.o2_place.specs.Layout.{Changes, IsFree, used};
 ghost use Rattle.o2_swapmap.specs.Piles.{all_of};
 ghost use Rattle.o2_store.specs.Pictures.{picture, HasPicture};
 ghost use Rattle.o2_store.specs.Shelf.{Shelf, Pictures, KeepsAll, AreClean, place_of, entry, rounded, out_byte, IsMoved, Tells, HasAll, SameTables};
+ghost use Rattle.o2_store.specs.Idle.{NoneTaken, IsIdle};
 
 use crate::blocks::read_in;
 use crate::store::Store;
@@ -66,6 +67,7 @@ impl Store {
         ensures outside { (i : ℕ) → (i < at) ⊎ (at + (entry self.old key).size ≤ i) → slice_index self.new.memory i ≡ slice_index self.old.memory i }
         ensures read { Tells (S.told swap.new) (entry self.old key).image → result ≡ Dev.Done → (j : ℕ) → j < (entry self.old key).size → slice_index self.new.memory (at + j) ≡ out_byte self.old (picture images.now) (S.block swap.old) key j }
         ensures cause { HasCause (S.faults swap.old) (S.faults swap.new) result }
+        ensures idle { NoneTaken self.old.swap → swap.new ≡ swap.old }
     {
         self.law();
         let Some(entry) = self.entries.get(key) else {
@@ -139,6 +141,7 @@ impl Store {
             → (k : ℕ) → k ≢ key → place_of self.new k ≡ place_of self.old k }
         ensures faults { S.faults swap.old ≤ S.faults swap.new }
         ensures cause { result ≡ false → Rose (S.faults swap.old) (S.faults swap.new) }
+        ensures idle { NoneTaken self.old.swap → IsIdle self.new swap.old swap.new }
     {
         self.law();
         let at = self.make_fit(len);

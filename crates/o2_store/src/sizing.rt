@@ -12,6 +12,7 @@ ghost use Rattle.o2_store.specs.Loads.{swap_load, live_load_at};
 ghost use Rattle.o2_store.specs.Needs.{has, all_need, named_in};
 ghost use Rattle.o2_store.specs.Pictures.{picture};
 ghost use Rattle.o2_store.specs.Sizes.{Resizes, KeepsStarts, stays, all_wanted_at};
+ghost use Rattle.o2_store.specs.Idle.{Idles, NoneTaken};
 
 use crate::brought::Brought;
 use crate::fitting::refit;
@@ -31,6 +32,7 @@ impl Store {
         ensures resizes { (told : Bool) (pic : Pictures) (block : ℕ → List ℕ) → Resizes told pic self.old block self.new block key size }
         ensures clean { (pic : Pictures) → AreClean self.old pic → AreClean self.new pic }
         ensures map { all_of self.new.swap ≡ all_of self.old.swap }
+        ensures unused { NoneTaken self.old.swap → NoneTaken self.new.swap }
         ensures presence { (k : ℕ) → is_some (place_of self.new k) ≡ is_some (place_of self.old k) }
         ensures others { (k : ℕ) → k ≢ key → slot_at self.new.entries k ≡ slot_at self.old.entries k }
         ensures in_place { rounded size ≤ rounded (entry self.old key).size → KeepsStarts self.old.places self.new.places }
@@ -70,6 +72,7 @@ impl Store {
         ensures faults { S.faults swap.old ≤ S.faults swap.new }
         ensures cause { result ≡ Brought.SwapFault → Rose (S.faults swap.old) (S.faults swap.new) }
         ensures never { (result ≡ Brought.NoRoom → ⊥) × (result ≡ Brought.Stale → ⊥) }
+        ensures idle { Idles (live_load_at self.old key size) self.old self.new swap.old swap.new }
     {
         self.law();
         let growth = ((size + 15) / 16 * 16).saturating_sub(self.rounded_size(key));
@@ -121,6 +124,7 @@ impl Store {
             → (entry self.old k).attr.clean ≡ false → IsWrittenOut self.old self.new k }
         ensures in_place { rounded size ≤ rounded (entry self.old key).size → KeepsStarts self.old.places self.new.places }
         ensures never { result ≡ Brought.Stale → ⊥ }
+        ensures idle { Idles (live_load_at self.old key size) self.old self.new swap.old swap.new }
     {
         self.law();
         let need = self.list_keys(key, keep) + u64::from((size + 15) / 16 * 16);
@@ -179,6 +183,8 @@ impl Store {
             × (self.old.places.size < live_load_at self.old id.key size) }
         ensures faults { S.faults swap.old ≤ S.faults swap.new }
         ensures cause { result ≡ Brought.SwapFault → Rose (S.faults swap.old) (S.faults swap.new) }
+        // Where nothing is in swap blocks and all that lives, with the new size, fits the memory, the device isn't touched.
+        ensures idle { Idles (live_load_at self.old id.key size) self.old self.new swap.old swap.new }
     {
         self.law();
         if self.find(id).is_none() {
@@ -237,6 +243,7 @@ impl Store {
             → (entry self.old k).attr.clean ≡ false → IsWrittenOut self.old self.new k }
         ensures in_place { rounded size ≤ rounded (entry self.old key).size → KeepsStarts self.old.places self.new.places }
         ensures never { (result ≡ Brought.NoRoom → ⊥) × (result ≡ Brought.Stale → ⊥) }
+        ensures idle { Idles (live_load_at self.old key size) self.old self.new swap.old swap.new }
     {
         self.law();
         let growth = ((size + 15) / 16 * 16).saturating_sub(self.rounded_size(key));

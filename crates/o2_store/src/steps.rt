@@ -8,6 +8,7 @@ ghost use Rattle.o2_store.specs.Needs.{all_wanted};
 ghost use Rattle.o2_store.specs.Pictures.{picture, HasPicture};
 ghost use Rattle.o2_store.specs.Shelf.{AreClean, HasAll, KeepsAll, entry, entry_of, place_of, rounded};
 ghost use Rattle.o2_swapmap.specs.Piles.{all_of};
+ghost use Rattle.o2_store.specs.Idle.{NoneTaken, IsIdle};
 
 use crate::brought::Brought;
 use crate::store::Store;
@@ -93,6 +94,7 @@ impl Store {
         ensures faults { S.faults swap.old ≤ S.faults swap.new }
         ensures cause { result ≡ Brought.SwapFault → Rose (S.faults swap.old) (S.faults swap.new) }
         ensures never { (result ≡ Brought.NoRoom → ⊥) × (result ≡ Brought.Stale → ⊥) × (result ≡ Brought.SwapFull → ⊥) }
+        ensures idle { NoneTaken self.old.swap → IsIdle self.new swap.old swap.new }
     {
         let len = self.rounded_size(id.key);
         self.come_in(id.key, len, images, swap)

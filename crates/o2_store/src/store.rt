@@ -4,6 +4,7 @@ ghost use Rattle.o2_entries.specs.Tables.{slot_at};
 ghost use Rattle.o2_place.specs.Layout.{IsFree, used, len_of, over};
 ghost use Rattle.o2_swapmap.specs.Piles.{NoneTwice, all_of, blocks_of, free};
 ghost use Rattle.o2_store.specs.Shelf.{Shelf, IsShelf, place_of, entry_of, all_locked, locked_need, entry_or, rounded};
+ghost use Rattle.o2_store.specs.Idle.{NoneTaken};
 
 use o2_base::NoMemory;
 use o2_entries::{Entries, Entry};
@@ -52,6 +53,7 @@ impl Store {
         ensures count { IfOk result (λ s. length s.entries ≡ segments) }
         ensures size { IfOk result (λ s. s.places.size ≡ memory) }
         ensures map { IfOk result (λ s. all_of s.swap ≡ blocks) }
+        ensures unused { IfOk result (λ s. NoneTaken s.swap) }
         ensures out { IfOk result (λ s. (k : ℕ) → place_of s k ≡ None) }
         ensures made { IfOk result (λ s. s.made ≡ 0) }
     {

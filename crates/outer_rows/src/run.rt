@@ -89,6 +89,10 @@ impl Steps for Halting {
 
     ghost stands = { λ m blocks block s w. ⊥ };
 
+    ghost Fixed = { Unit {0} };
+
+    ghost fixed = { λ m. tt };
+
     ghost fits = { λ m blocks. Unit {0} };
 
     ghost swaps = { true };
@@ -98,6 +102,8 @@ impl Steps for Halting {
     ghost stopped = { λ m. option_map (λ p. turn_of p.0) m.last };
 
     ghost line_put = { λ m. unwrap_or (option_map (λ p. p.1) m.last) false };
+
+    ghost none_swapped = { λ m. Unit {0} };
 
     #[tactic(auto, using(o2_outer::proofs::Inputs::goes_same))]
     fn turn<I: Source, C: Sink, R: Sink, S: SwapDevice>(

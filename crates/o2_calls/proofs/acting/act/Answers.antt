@@ -1,5 +1,5 @@
 -- Each call is its row.
-use Rattle.std.proofs.Common.{ℕ, Option, IsSome, ap, refl, sym, subst, ◌≡◌}
+use Rattle.std.proofs.Common.{inl, inr, ℕ, Option, IsSome, ap, refl, sym, subst, ◌≡◌}
 use Rattle.o2_regions.specs.declared.answer.Roomed.TheVariants.{Done}
 use Rattle.o2_regions.specs.Maps.{Maps}
 use Rattle.o2_gate.specs.declared.gathering.SegmentArguments.TheVariants.{Alloc, Realloc, Free, Size, Lock, Unlock, Alias, Shared}
@@ -19,11 +19,12 @@ use Rattle.o2_world.specs.Known.{known_of}
 use Rattle.o2_world.specs.Rulings.{aliasing, freeing, unlocking}
 use Rattle.o2_segs.specs.Answers.{Answers, AnswersRoomed, changes_roomed}
 use Rattle.o2_calls.specs.Acts.{cpu_of, ruling_of}
-use Rattle.o2_calls.specs.Stops.{IsGivable, LacksSwap, LeavesEntries, LeavesHolds}
+use Rattle.o2_calls.specs.Stops.{IsGivable, IsShort, LacksSwap, LeavesEntries, LeavesHolds}
 use Rattle.o2_segs.proofs.Limits.{limits_more, limits_same, limits_in, entries_same}
 use Rattle.o2_shared.proofs.Staying.{stay_in_place}
 use Rattle.o2_calls.specs.SharedActs.{LeavesSpelled}
 use Rattle.o2_calls.proofs.SharedOver.{limits_by_made}
+use Rattle.o2_store.specs.Idle.{NoneTaken}
 use Rattle.o2_calls.proofs.acting.act.Goals as goal
 
 pub returns-in-Alloc-clause-row : goal.returns-in-Alloc-clause-row
@@ -292,3 +293,39 @@ returns-in-Shared-clause-clean g c = c.share.ensures.clean (picture c.args.image
 
 pub returns-in-Shared-clause-pictures : goal.returns-in-Shared-clause-pictures
 returns-in-Shared-clause-pictures g c = c.share.ensures.pictures c.args.images.now c.requires.pictures
+
+pub returns-in-Alloc-clause-idle : goal.returns-in-Alloc-clause-idle
+returns-in-Alloc-clause-idle g c = λ none.
+    elim (c.alloc_seg.ensures.idle none) [
+      | inl i ↦ inl i
+      | inr short ↦ inr (subst (λ (a : SegmentArguments). IsShort a c.args.store.now c.args.regions.now c.args.pid c.alloc_seg.result) (sym c.in-Alloc.is) (record { unrefused = short.unrefused; stops = short.locked; lacks = short.short }))
+    ]
+
+pub returns-in-Realloc-clause-idle : goal.returns-in-Realloc-clause-idle
+returns-in-Realloc-clause-idle g c = λ none.
+    elim (c.realloc_seg.ensures.idle none) [
+      | inl i ↦ inl i
+      | inr short ↦ inr (subst (λ (a : SegmentArguments). IsShort a c.args.store.now c.args.regions.now c.args.pid c.realloc_seg.result) (sym c.in-Realloc.is) (record { unrefused = short.0; stops = tt; lacks = short.1 }))
+    ]
+
+pub returns-in-Lock-clause-idle : goal.returns-in-Lock-clause-idle
+returns-in-Lock-clause-idle g c = λ none.
+    elim (c.lock_seg.ensures.idle none) [
+      | inl i ↦ inl i
+      | inr short ↦ inr (subst (λ (a : SegmentArguments). IsShort a c.args.store.now c.args.regions.now c.args.pid c.lock_seg.result) (sym c.in-Lock.is) (record { unrefused = short.0; stops = tt; lacks = short.1 }))
+    ]
+
+pub returns-in-Free-clause-idle : goal.returns-in-Free-clause-idle
+returns-in-Free-clause-idle g c = λ none. inl (record { device = refl; none = c.free_seg.ensures.unused none })
+
+pub returns-in-Size-clause-idle : goal.returns-in-Size-clause-idle
+returns-in-Size-clause-idle g c = λ none. inl (record { device = refl; none = subst (λ (x : Shelf). NoneTaken x.swap) (sym c.size_seg.ensures.store) none })
+
+pub returns-in-Unlock-clause-idle : goal.returns-in-Unlock-clause-idle
+returns-in-Unlock-clause-idle g c = λ none. inl (record { device = refl; none = c.unlock_seg.ensures.unused none })
+
+pub returns-in-Alias-clause-idle : goal.returns-in-Alias-clause-idle
+returns-in-Alias-clause-idle g c = λ none. inl (record { device = refl; none = subst (λ (x : Shelf). NoneTaken x.swap) (sym c.create_cs_alias.ensures.store) none })
+
+pub returns-in-Shared-clause-idle : goal.returns-in-Shared-clause-idle
+returns-in-Shared-clause-idle g c = λ none. inl (record { device = refl; none = c.share.ensures.unused none })

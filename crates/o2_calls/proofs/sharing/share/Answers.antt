@@ -14,6 +14,7 @@ use Rattle.o2_segs.specs.Answers.{Answers}
 use Rattle.o2_segs.proofs.Limits.{limits_by}
 use Rattle.o2_calls.specs.SharedActs.{AreSpelled, shared_ruling}
 use Rattle.o2_calls.proofs.SharedOver.{get_texts, give_texts, keeps_still, limits_by_more, maps_now, matches_now, rule_by, share_texts, spelled_same}
+use Rattle.o2_store.specs.Idle.{NoneTaken}
 use Rattle.o2_calls.proofs.sharing.share.Goals as goal
 
 pub returns-in-Name-clause-row : goal.returns-in-Name-clause-row
@@ -109,3 +110,12 @@ returns-in-Give-clause-kept c = λ k here. subst (λ (x : Shelf). IsSome (place_
 
 pub returns-in-Get-clause-kept : goal.returns-in-Get-clause-kept
 returns-in-Get-clause-kept c = λ k here. subst (λ (x : Shelf). IsSome (place_of x k)) (sym c.get_seg.ensures.store) here
+
+pub returns-in-Share-clause-unused : goal.returns-in-Share-clause-unused
+returns-in-Share-clause-unused c = λ none. subst (λ (x : Shelf). NoneTaken x.swap) (sym c.get_shr_seg.ensures.store) none
+
+pub returns-in-Give-clause-unused : goal.returns-in-Give-clause-unused
+returns-in-Give-clause-unused c = λ none. subst (λ (x : Shelf). NoneTaken x.swap) (sym c.give_seg.ensures.store) none
+
+pub returns-in-Get-clause-unused : goal.returns-in-Get-clause-unused
+returns-in-Get-clause-unused c = λ none. subst (λ (x : Shelf). NoneTaken x.swap) (sym c.get_seg.ensures.store) none

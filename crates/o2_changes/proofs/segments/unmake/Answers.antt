@@ -9,6 +9,7 @@ use Rattle.o2_changes.proofs.Freeing.{swept_order}
 use Rattle.o2_changes.proofs.Guarding.{removed_guards}
 use Rattle.o2_changes.proofs.MakesStand.{gone_newest, made_clean_any, unmade_age, unmade_guards, unmade_order}
 use Rattle.o2_changes.proofs.Matching.{unmake_matches}
+use Rattle.o2_store.specs.Idle.{NoneTaken}
 use Rattle.o2_changes.proofs.segments.unmake.Goals as goal
 
 pub unmake-requires-clause-some : goal.unmake-requires-clause-some
@@ -71,3 +72,6 @@ pub returns-clause-pictures : goal.returns-clause-pictures
 returns-clause-pictures c = λ images was.
     subst (λ (x : Shelf). HasAll (HasPicture images) x) (sym c.unmake.ensures)
     (removed_pictures c.args.store.now c.remove.new.self c.args.id.key (HasPicture images) (c.remove.ensures.removed (c.remove.ensures.live.1 c.requires.live)) was)
+
+pub returns-clause-unused : goal.returns-clause-unused
+returns-clause-unused c = λ none. subst (λ (x : Shelf). NoneTaken x.swap) (sym c.unmake.ensures) (c.remove.ensures.unused none)

@@ -6,6 +6,7 @@ use Rattle.o2_world.specs.World.{Setting}
 use Rattle.o2_machine.specs.Lasts.{put_of, stopped_of}
 use Rattle.o2_machine.specs.StandsFor.{StandsFor}
 use Rattle.o2_machine.specs.Begins.{setting_of, first_world}
+use Rattle.o2_cli.proofs.Ample.{fits_from}
 use Rattle.o2_cli.proofs.Runs.{begin_input, begin_sink, begin_swap, has_started, no_refusal, stands_over, start_of}
 use Rattle.o2_cli.proofs.ImageStatuses.{run_sink, run_unrun}
 use Rattle.o2_cli.proofs.Benches.{bench_cut, bench_done, fails_bench, faulted_bench, has_last_line}
@@ -89,3 +90,24 @@ returns-clause-texts g c = λ tells text may.
         c.in-Ok-run_unseen.ensures.texts (ap stopped_of begun.fresh) tells text may (setting_of s.conf) w _ (stands_over _ _ _ _ _ _ begun _ c.count.ensures _ input) left refl begun.to_report,
       );
     }) (λ t w st. c.in-Failed.ensures.text _ _ t w st)
+
+pub returns-in-Err-clause-idle : goal.returns-in-Err-clause-idle
+returns-in-Err-clause-idle g c = λ tells text may input left fits. refl
+
+pub returns-in-Err-run_unseen-clause-idle : goal.returns-in-Err-run_unseen-clause-idle
+returns-in-Err-run_unseen-clause-idle g c = λ tells text may input left fits.
+    let s = c.args.session in
+    let begun = c.in-Ok-begun.ensures.begins in
+    (c.run_unseen.ensures.idle (ap stopped_of begun.fresh) tells text may (setting_of s.conf) (first_world s.linked s.conf input begun.built) (stands_over _ _ _ _ _ _ begun _ c.count.ensures _ input) left begun.unused (fits_from s input begun.built begun.starts fits)).0
+
+pub returns-in-Done-clause-idle : goal.returns-in-Done-clause-idle
+returns-in-Done-clause-idle g c = λ tells text may input left fits.
+    let s = c.args.session in
+    let begun = c.in-Ok-begun.ensures.begins in
+    (c.run_unseen.ensures.idle (ap stopped_of begun.fresh) tells text may (setting_of s.conf) (first_world s.linked s.conf input begun.built) (stands_over _ _ _ _ _ _ begun _ c.count.ensures _ input) left begun.unused (fits_from s input begun.built begun.starts fits)).0
+
+pub returns-clause-idle : goal.returns-clause-idle
+returns-clause-idle g c = λ tells text may input left fits.
+    let s = c.args.session in
+    let begun = c.in-Ok-begun.ensures.begins in
+    (c.run_unseen.ensures.idle (ap stopped_of begun.fresh) tells text may (setting_of s.conf) (first_world s.linked s.conf input begun.built) (stands_over _ _ _ _ _ _ begun _ c.count.ensures _ input) left begun.unused (fits_from s input begun.built begun.starts fits)).0

@@ -1,10 +1,13 @@
 use Rattle.std.proofs.Common.{ℕ, ◌∙◌, ap, inr, min, refl, subst, sym}
+use Rattle.o2_image.specs.ImageList.{ImageList}
 use Rattle.o2_outer.specs.Texts.{Rose}
+use Rattle.o2_store.specs.Pictures.{picture}
 use Rattle.o2_run.proofs.Reached.{rose_since}
 use Rattle.o2_machine.specs.Begins.{first_world, setting_of}
 use Rattle.o2_machine.specs.Lasts.{put_of, stopped_of}
 use Rattle.o2_machine.specs.StandsFor.{StandsFor}
 use Rattle.o2_cli.specs.DumpTexts.{GainsByWrote, is_dumped}
+use Rattle.o2_cli.proofs.Ample.{fits_from}
 use Rattle.o2_cli.proofs.Runs.{begin_input, begin_sink, begin_swap, stands_over}
 use Rattle.o2_cli.proofs.Dumps.{fails_dump, with_image, without_image}
 use Rattle.o2_cli.proofs.ImageStatuses.{before_causes, image_input, image_refusal, image_sink, image_swap, image_unrun, run_input, run_refusal, run_sink, run_swap, run_unrun}
@@ -32,8 +35,9 @@ returns-then-is_dumped-clause-texts g c = λ tells text may.
     (c.in-Ok-begun.ensures.puts begun.built begun.starts) (put_of c.run_unseen-ended.new.machine.last)
     (StandsFor c.run_unseen-ended.new.machine (g.S.SwapDevice.blocks c.run_unseen-ended.new.swap) (g.S.SwapDevice.block c.run_unseen-ended.new.swap) (setting_of s.conf))
     c.run_unseen-ended.result c.put_image-wrote.result c.status_of_run-whole.result _ c.status_of_run-whole.ensures c.status_of_image.ensures (ap (is_dumped c.run_unseen-ended.result) (sym c.line_put.ensures) ∙ sym c.is_dumped.ensures ∙ c.if-is_dumped.true) (λ v st.
-    subst (λ (n : ℕ). GainsByWrote n (setting_of s.conf) v (g.C.Sink.taken c.args.console.now) (g.C.Sink.taken c.put_image-wrote.new.console) c.put_image-wrote.result) same
-    (c.put_image-wrote.ensures.text tells (setting_of s.conf) v (c.min-blocks.ensures ∙ ap (min s.conf.swap) (c.count-device.ensures ∙ sym same)) st)) (λ input left.
+    subst (λ (n : ℕ). GainsByWrote (picture s.linked.images) n (setting_of s.conf) v (g.C.Sink.taken c.args.console.now) (g.C.Sink.taken c.put_image-wrote.new.console) c.put_image-wrote.result) same
+    (subst (λ (l : ImageList). GainsByWrote (picture l) (g.S.SwapDevice.blocks c.run_unseen-ended.new.swap) (setting_of s.conf) v (g.C.Sink.taken c.args.console.now) (g.C.Sink.taken c.put_image-wrote.new.console) c.put_image-wrote.result) (c.run_unseen-ended.ensures.images ∙ begun.images)
+    (c.put_image-wrote.ensures.text tells (setting_of s.conf) v (c.min-blocks.ensures ∙ ap (min s.conf.swap) (c.count-device.ensures ∙ sym same)) st))) (λ input left.
     c.run_unseen-ended.ensures.texts (ap stopped_of begun.fresh) (c.put_image-wrote.ensures.read.earlier tells) text may (setting_of s.conf) (first_world s.linked s.conf input begun.built) _ (stands_over _ _ _ _ _ _ begun _ c.count-device.ensures _ input) left refl begun.to_report)
 
 pub returns-clause-texts : goal.returns-clause-texts
@@ -96,3 +100,19 @@ returns-then-is_dumped-clause-swap_fault g c =
 
 pub returns-clause-swap_fault : goal.returns-clause-swap_fault
 returns-clause-swap_fault g c = run_swap c.run_unseen-ended.result c.status_of_run-whole.result c.status_of_run-whole.ensures _ _ _ (c.run_unseen-ended.ensures.cause (ap stopped_of c.in-Ok-begun.ensures.begins.fresh)) _ (λ rose. rose)
+
+pub returns-in-Err-clause-idle : goal.returns-in-Err-clause-idle
+returns-in-Err-clause-idle g c = λ tells text may input left fits. refl
+
+pub returns-then-is_dumped-clause-idle : goal.returns-then-is_dumped-clause-idle
+returns-then-is_dumped-clause-idle g c = λ tells text may input left fits.
+    let s = c.args.session in
+    let begun = c.in-Ok-begun.ensures.begins in
+    let still = (c.run_unseen-ended.ensures.idle (ap stopped_of begun.fresh) tells text may (setting_of s.conf) (first_world s.linked s.conf input begun.built) (stands_over _ _ _ _ _ _ begun _ c.count-device.ensures _ input) left begun.unused (fits_from s input begun.built begun.starts fits)) in
+    c.put_image-wrote.ensures.idle still.1 ∙ still.0
+
+pub returns-clause-idle : goal.returns-clause-idle
+returns-clause-idle g c = λ tells text may input left fits.
+    let s = c.args.session in
+    let begun = c.in-Ok-begun.ensures.begins in
+    (c.run_unseen-ended.ensures.idle (ap stopped_of begun.fresh) tells text may (setting_of s.conf) (first_world s.linked s.conf input begun.built) (stands_over _ _ _ _ _ _ begun _ c.count-device.ensures _ input) left begun.unused (fits_from s input begun.built begun.starts fits)).0

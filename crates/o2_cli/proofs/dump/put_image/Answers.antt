@@ -1,5 +1,6 @@
 use Rattle.std.proofs.Common.{◌≤◌, [], ap, ◌∙◌, arith, refl, sym, subst}
 use Rattle.o2_regions.specs.Maps.{Maps}
+use Rattle.o2_store.specs.Idle.{NoneTaken}
 use Rattle.o2_store.specs.Shelf.{Shelf}
 use Rattle.o2_segbus.specs.Settled.{IsSettled}
 use Rattle.o2_service.specs.Told.{IsHeldWell}
@@ -37,3 +38,6 @@ returns-clause-text g c = λ tells s w is st.
     (subst (λ (x : Shelf). IsHeldWell x c.regions-regions.result.now) (sym c.store-store.ensures)
     (subst (λ (m : Maps). IsHeldWell c.args.machine.now.space.store m) (sym c.regions-regions.ensures) (c.requires.device.together.ready (λ n. [])).held))
     (omega (arith, same, is, st.set.blocks)) tells done _ refl)
+
+pub returns-clause-idle : goal.returns-clause-idle
+returns-clause-idle g c = λ none. c.write.ensures.idle (subst (λ (s : Shelf). NoneTaken s.swap) (sym c.store-store.ensures) none)

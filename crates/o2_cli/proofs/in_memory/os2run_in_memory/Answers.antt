@@ -7,7 +7,7 @@ use Rattle.o2_outer.specs.Texts.{Rose}
 use Rattle.o2_open.specs.Loads.{Contents}
 use Rattle.o2_run.specs.Pieces.{counts}
 use Rattle.o2_cli.specs.Checks.{Checks}
-use Rattle.o2_cli.specs.Done.{Completes, CompletesCheck}
+use Rattle.o2_cli.specs.Done.{Completes, CompletesCheck, InMemory, IsUnswapped}
 use Rattle.o2_cli.specs.Top.{Refuses, Shows, holding}
 use Rattle.o2_cli.proofs.in_memory.os2run_in_memory.Goals as goal
 
@@ -60,3 +60,12 @@ returns-clause-check_complete g c =
     subst (λ (f : Contents). CompletesCheck a.words.now (holding f) (Rose (mem_fetch_faults a.files.now) (mem_fetch_faults b.files))
     (Rose (g.C.Sink.faults a.console.now) (g.C.Sink.faults b.console) ⊎ Rose (g.R.Sink.faults a.report.now) (g.R.Sink.faults b.report)) c.os2run.result) e
     c.os2run.ensures.check_complete
+
+pub returns-clause-ample : goal.returns-clause-ample
+returns-clause-ample g c = λ text may.
+    let e : file_in (mem_files c.os2run.new.files) ≡ file_in (mem_files c.args.files.now) = c.os2run.ensures.files_earlier (file_in (mem_files c.os2run.new.files)) refl in
+    let a = c.args in
+    let b = c.os2run.new in
+    subst (λ (f : Contents). InMemory a.words.now (holding f) (left_as text (g.I.Source.left a.input.now) (g.I.Source.past a.input.now))
+    ((b.swap ≡ a.swap.now) × IsUnswapped (Rose (g.S.SwapDevice.faults a.swap.now) (g.S.SwapDevice.faults a.swap.now)) c.os2run.result)) e
+    (c.os2run.ensures.ample (c.requires.tells a.swap.now) text may)

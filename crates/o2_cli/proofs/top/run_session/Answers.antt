@@ -1,9 +1,12 @@
-use Rattle.std.proofs.Common.{length, ap}
+use Rattle.std.proofs.Common.{length, ap, refl}
+use Rattle.std.specs.Prelude.{Err}
 use Rattle.o2_run.proofs.Reached.{rose_since, whole_from}
 use Rattle.o2_world.specs.World.{Setting}
-use Rattle.o2_machine.specs.Lasts.{machine_swaps, stopped_of}
+use Rattle.o2_machine.specs.Lasts.{machine_swaps, put_of, stopped_of}
 use Rattle.o2_machine.specs.StandsFor.{StandsFor}
 use Rattle.o2_machine.specs.Begins.{setting_of, first_world}
+use Rattle.o2_cli.proofs.Ample.{fits_from}
+use Rattle.o2_run.proofs.StopLines.{texts_of_lined}
 use Rattle.o2_cli.proofs.Runs.{begin_input, begin_sink, begin_swap, fails_run, faulted_run, has_started, no_refusal, nothing_yet, stands_over, start_of}
 use Rattle.o2_cli.proofs.top.run_session.Goals as goal
 
@@ -43,5 +46,25 @@ returns-clause-texts g c = λ tells text may.
     record {
       start = start_of s input begun.built;
       starts = has_started s input begun.built begun.starts;
-      runs = (c.in-Ok.ensures.puts begun.built begun.starts, c.in-Err-run.ensures.texts (ap stopped_of begun.fresh) tells text may (setting_of s.conf) w _ _ (stands_over _ _ _ _ _ _ begun _ c.count.ensures _ input) left (nothing_yet s begun.built input _) begun.to_report);
+      runs = (
+        c.in-Ok.ensures.puts begun.built begun.starts,
+        texts_of_lined (StandsFor c.run.new.machine (g.S.SwapDevice.blocks c.run.new.swap) (g.S.SwapDevice.block c.run.new.swap) (setting_of s.conf)) machine_swaps _ (setting_of s.conf) w _ _ _ _ _ _ _
+            (put_of c.run.new.machine.last) (Err c.in-Err-run.why)
+            (c.in-Err-run.ensures.texts (ap stopped_of begun.fresh) tells text may (setting_of s.conf) w _ _ (stands_over _ _ _ _ _ _ begun _ c.count.ensures _ input) left (nothing_yet s begun.built input _) begun.to_report),
+      );
     })
+
+pub returns-in-Err-clause-idle : goal.returns-in-Err-clause-idle
+returns-in-Err-clause-idle g c = λ tells text may input left fits. refl
+
+pub returns-in-Ok-run-clause-idle : goal.returns-in-Ok-run-clause-idle
+returns-in-Ok-run-clause-idle g c = λ tells text may input left fits.
+    let s = c.args.session in
+    let begun = c.in-Ok.ensures.begins in
+    (c.run.ensures.idle (ap stopped_of begun.fresh) tells text may (setting_of s.conf) (first_world s.linked s.conf input begun.built) (stands_over _ _ _ _ _ _ begun _ c.count.ensures _ input) left begun.unused (fits_from s input begun.built begun.starts fits)).0
+
+pub returns-clause-idle : goal.returns-clause-idle
+returns-clause-idle g c = λ tells text may input left fits.
+    let s = c.args.session in
+    let begun = c.in-Ok.ensures.begins in
+    (c.run.ensures.idle (ap stopped_of begun.fresh) tells text may (setting_of s.conf) (first_world s.linked s.conf input begun.built) (stands_over _ _ _ _ _ _ begun _ c.count.ensures _ input) left begun.unused (fits_from s input begun.built begun.starts fits)).0

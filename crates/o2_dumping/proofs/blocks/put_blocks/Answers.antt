@@ -1,4 +1,4 @@
-use Rattle.std.proofs.Common.{arith, refl}
+use Rattle.std.proofs.Common.{ap, arith, length, refl}
 use Rattle.o2_swapmap.specs.Piles.{blocks_of}
 use Rattle.o2_dumping.proofs.Segmenting.{blocks_left}
 use Rattle.o2_dumping.proofs.Fitting.{long_more}
@@ -16,6 +16,7 @@ returns-in_default g c = record {
   long = λ told done. absurd (c.in_default.not-Done done);
   read = read_more _ _ _ _ _ _ _ _ _ c.loop-k.invariant.read c.put_block.ensures.read;
   causes = since _ _ _ _ _ _ _ c.loop-k.invariant.sinks c.loop-k.invariant.swaps c.put_block.ensures.causes;
+  unread = λ none. let empty = ap length none in absurd (omega (arith, c.requires.count, empty));
 }
 
 pub loop-k-preserved : goal.loop-k-preserved
@@ -33,4 +34,5 @@ loop-k-preserved g c = record {
   read = read_more _ _ _ _ _ _ _ _ _ c.loop-k.invariant.read c.put_block.ensures.read;
   sinks = omega (arith, c.loop-k.invariant.sinks, c.put_block.ensures.causes.sinks);
   swaps = omega (arith, c.loop-k.invariant.swaps, c.put_block.ensures.causes.swaps);
+  unread = λ none. let empty = ap length none in absurd (omega (arith, c.requires.count, empty));
 }

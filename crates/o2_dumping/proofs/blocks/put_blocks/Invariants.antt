@@ -1,4 +1,4 @@
-use Rattle.std.proofs.Common.{◌≤◌, drop, map, IsTrue}
+use Rattle.std.proofs.Common.{◌≡◌, ◌≤◌, [], drop, map, IsTrue}
 use Rattle.std.specs.Prelude.{flat_map}
 use Rattle.o2_swapmap.specs.Piles.{blocks_of}
 use Rattle.o2_dump.specs.CoreBytes.{block_bytes}
@@ -17,4 +17,5 @@ invariant-loop-k g l = record {
       (g.S.SwapDevice.block l.fn.swap) (g.S.SwapDevice.block l.swap);
   sinks : g.C.Sink.faults l.fn.console ≤ g.C.Sink.faults l.console;
   swaps : g.S.SwapDevice.faults l.fn.swap ≤ g.S.SwapDevice.faults l.swap;
+  unread : blocks_of l.store.swap l.id.key ≡ [] → l.swap ≡ l.fn.swap;
 }

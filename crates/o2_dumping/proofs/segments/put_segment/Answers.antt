@@ -3,6 +3,8 @@ use Rattle.o2_outer.specs.declared.sink.Put.TheVariants as put
 use Rattle.o2_outer.proofs.TextLemmas.{gains_none}
 use Rattle.o2_store.specs.declared.brought.Place.{Place}
 use Rattle.o2_store.specs.Shelf.{blocks_for}
+use Rattle.o2_store.proofs.Idling.{none_at}
+use Rattle.o2_service.proofs.Amounts.{live_within}
 use Rattle.o2_dumping.specs.Fronts.{segment_front}
 use Rattle.o2_dumping.specs.Told.{blocks_told}
 use Rattle.o2_dumping.proofs.Segmenting.{behind, segment_parts}
@@ -66,3 +68,7 @@ pub returns-in-Blocks-clause-fits : goal.returns-in-Blocks-clause-fits
 returns-in-Blocks-clause-fits g c = λ told done.
     fits_blocks c.args.store.now (g.S.SwapDevice.block c.args.swap.now) c.args.id c.in-Some.shown c.law.ensures.shelf c.in-Some.ensures c.segment_piece-piece.ensures.fits c.in-Blocks.is
     (c.put_blocks.ensures.long told done)
+
+pub returns-in-Blocks-clause-idle : goal.returns-in-Blocks-clause-idle
+returns-in-Blocks-clause-idle g c = λ none.
+    c.put_blocks.ensures.unread (none_at c.args.store.now c.args.id.key c.law.ensures.shelf (live_within c.args.store.now c.args.id c.requires.live) none)

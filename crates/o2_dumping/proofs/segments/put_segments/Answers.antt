@@ -1,4 +1,4 @@
-use Rattle.std.proofs.Common.{arith, refl}
+use Rattle.std.proofs.Common.{arith, refl, ◌∙◌}
 use Rattle.o2_dumping.proofs.Segmenting.{segments_left}
 use Rattle.o2_dumping.proofs.Fitting.{fits_more}
 use Rattle.o2_dumping.proofs.Putting.{more_put, part_written, read_more, since}
@@ -15,6 +15,7 @@ returns-in_default g c = record {
   fits = λ told done. absurd (c.in_default.not-Done done);
   read = read_more _ _ _ _ _ _ _ _ _ c.loop-k.invariant.read c.put_segment.ensures.read;
   causes = since _ _ _ _ _ _ _ c.loop-k.invariant.sinks c.loop-k.invariant.swaps c.put_segment.ensures.causes;
+  idle = λ none. c.put_segment.ensures.idle none ∙ c.loop-k.invariant.idle none;
 }
 
 pub loop-k-preserved : goal.loop-k-preserved
@@ -32,4 +33,5 @@ loop-k-preserved g c = record {
   read = read_more _ _ _ _ _ _ _ _ _ c.loop-k.invariant.read c.put_segment.ensures.read;
   sinks = omega (arith, c.loop-k.invariant.sinks, c.put_segment.ensures.causes.sinks);
   swaps = omega (arith, c.loop-k.invariant.swaps, c.put_segment.ensures.causes.swaps);
+  idle = λ none. c.put_segment.ensures.idle none ∙ c.loop-k.invariant.idle none;
 }

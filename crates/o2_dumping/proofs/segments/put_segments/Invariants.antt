@@ -1,5 +1,6 @@
-use Rattle.std.proofs.Common.{ℕ, ◌<◌, ◌≤◌, get_or, drop, map, IsTrue}
+use Rattle.std.proofs.Common.{◌≡◌, ℕ, ◌<◌, ◌≤◌, get_or, drop, map, IsTrue}
 use Rattle.std.specs.Prelude.{flat_map}
+use Rattle.o2_store.specs.Idle.{NoneTaken}
 use Rattle.o2_dump.specs.CoreBytes.{segment_bytes}
 use Rattle.o2_dumping.specs.Fits.{FitsAt}
 use Rattle.o2_dumping.specs.Puts.{IsPutBut, IsRead}
@@ -16,4 +17,5 @@ invariant-loop-k g l = record {
       (g.S.SwapDevice.block l.fn.swap) (g.S.SwapDevice.block l.swap);
   sinks : g.C.Sink.faults l.fn.console ≤ g.C.Sink.faults l.console;
   swaps : g.S.SwapDevice.faults l.fn.swap ≤ g.S.SwapDevice.faults l.swap;
+  idle : NoneTaken l.store.swap → l.swap ≡ l.fn.swap;
 }

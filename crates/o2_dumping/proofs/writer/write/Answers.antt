@@ -24,6 +24,7 @@ returns-in_default g c = record {
   read_back = λ held enough told done. absurd (c.in_default.not-Done done);
   read = c.put_segments.ensures.read;
   causes = since _ _ _ _ _ _ _ c.in-Done.ensures.count (omega arith) c.put_segments.ensures.causes;
+  idle = c.put_segments.ensures.idle;
 }
 
 pub put_behind-requires-clause-base : goal.put_behind-requires-clause-base

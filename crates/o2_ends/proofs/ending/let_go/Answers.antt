@@ -35,6 +35,7 @@ loop-index-preserved c =
       maps = lets_more l m n pid c.loop-index.from at x.low x.clear i.bare i.maps e.maps;
       store = sheds_more c.args.store.now c.loop-index.store c.let_go_at.new.store l m n
           (gone_not l m pid (λ j. nat_lt j c.loop-index.from) i.maps) (has_before m n pid _ e.maps) i.store e.store;
+      unused = λ none. e.unused (i.unused none);
       held = held_behind c.loop-index.store c.let_go_at.new.store m n pid _ i.held e.maps e.store;
       bare = empty_behind m n pid _ i.bare e.maps;
     }

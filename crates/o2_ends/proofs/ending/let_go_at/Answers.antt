@@ -3,6 +3,7 @@ use Rattle.o2_store.specs.Shelf.{Shelf}
 use Rattle.o2_ends.specs.LetsGo.{LetsGo, Sheds}
 use Rattle.o2_ends.proofs.Holders.{nobody_by, somebody_by}
 use Rattle.o2_ends.proofs.Letting.{lets_one, sheds_none, sheds_one}
+use Rattle.o2_store.specs.Idle.{NoneTaken}
 use Rattle.o2_ends.proofs.ending.let_go_at.Goals as goal
 use Rattle.o2_ends.proofs.ending.let_go_at.Goals.{else-is_none, then-is_none}
 
@@ -32,4 +33,11 @@ returns-clause-store c =
       | else-is_none x ↦
           subst (λ (t : Shelf). Sheds s m t n) (sym x.store-is)
           (sheds_none s m n pid i h at w (somebody_by n h.id c.holder.result c.is_none.result c.holder.ensures c.is_none.ensures x.if-is_none.false))
+    ]
+
+pub returns-clause-unused : goal.returns-clause-unused
+returns-clause-unused c = λ none.
+    elim c.if-is_none.branch [
+      | then-is_none x ↦ subst (λ (t : Shelf). NoneTaken t.swap) (sym x.store-is) (x.remove.ensures.unused none)
+      | else-is_none x ↦ subst (λ (t : Shelf). NoneTaken t.swap) (sym x.store-is) none
     ]

@@ -1,4 +1,4 @@
-use Rattle.std.proofs.Common.{◌+◌, ◌<◌, ℕ, Option, Some, IsSome, ap, min, refl, sym, subst, ◌∙◌}
+use Rattle.std.proofs.Common.{◌+◌, ◌<◌, inl, inr, ℕ, Option, Some, IsSome, ap, min, refl, sym, subst, ◌∙◌}
 use Rattle.o2_desc.specs.Bits.{has_bit}
 use Rattle.o2_entries.specs.declared.Attr.{Attr}
 use Rattle.o2_entries.specs.Tables.{slot_at}
@@ -20,6 +20,10 @@ use Rattle.o2_store.specs.Shelf.{Shelf, entry, entry_of, place_of}
 use Rattle.o2_regions.specs.Maps.{Maps}
 use Rattle.o2_segs.proofs.Sharing.{alive_tables}
 use Rattle.o2_segs.proofs.Limits.{limits_locked, limits_moved, limits_refl, limits_then}
+use Rattle.o2_store.specs.Idle.{NoneTaken}
+use Rattle.o2_store.proofs.Idling.{idle_or}
+use Rattle.o2_segs.proofs.Idling.{unrefused_by}
+use Rattle.o2_regions.specs.declared.answer.Answer.{Answer}
 use Rattle.o2_locks.proofs.locking.lock.Goals as goal
 
 pub returns-then-not-is_discardable-clause-answer : goal.returns-then-not-is_discardable-clause-answer
@@ -145,3 +149,20 @@ returns-in-Some-stop_of-clause-holds g c = told_holds c.args.regions.now c.bring
 
 pub returns-in-None-stop_of-clause-holds : goal.returns-in-None-stop_of-clause-holds
 returns-in-None-stop_of-clause-holds g c = told_holds c.args.regions.now c.bring_in.new.regions c.bring_in.ensures.maps
+
+pub returns-then-not-is_discardable-clause-idle : goal.returns-then-not-is_discardable-clause-idle
+returns-then-not-is_discardable-clause-idle g c = λ none. inl (record { device = refl; none = none })
+
+pub returns-in-Some-stop_of-clause-idle : goal.returns-in-Some-stop_of-clause-idle
+returns-in-Some-stop_of-clause-idle g c = λ none.
+    elim (idle_or _ c.args.store.now c.bring_in.new.store _ _ c.bring_in.ensures.idle none) [
+      | inl i ↦ inl i
+      | inr more ↦ inr (unrefused_by c.bring_in.result c.in-Some-stop_of.stop c.in-Some-stop_of.ensures, more)
+    ]
+
+pub returns-in-None-stop_of-clause-idle : goal.returns-in-None-stop_of-clause-idle
+returns-in-None-stop_of-clause-idle g c = λ none.
+    elim (idle_or _ c.args.store.now c.bring_in.new.store _ _ c.bring_in.ensures.idle none) [
+      | inl i ↦ inl (record { device = i.device; none = subst NoneTaken (sym (ap (λ (x : Shelf). x.swap) c.set_lock-in-None-stop_of.ensures.sets.shelf)) i.none })
+      | inr more ↦ inr (ap (λ (x : Answer). x.error) c.done-in-None-stop_of.ensures, more)
+    ]

@@ -1,5 +1,7 @@
 use Rattle.std.proofs.Common.{◌+◌, List, map, length, sum_by, arith, ap, sym, ◌∙◌, subst}
 use Rattle.o2_outer.specs.Texts.{Gains, GainsSome, IsPrefix}
+use Rattle.o2_store.specs.Idle.{NoneTaken}
+use Rattle.o2_store.specs.Shelf.{Shelf}
 use Rattle.o2_world.specs.World.{Line}
 use Rattle.o2_world.specs.Text.{lines_text}
 use Rattle.o2_load.specs.Beginnings.{lines_from}
@@ -19,10 +21,12 @@ returns-in-Done-clause-begins g c = λ b e is.
     record {
       built = b;
       starts = e;
-      stands = first_stands c.args.opened l b c.args.conf.now c.args.blocks m front.procs.items front.services is e c.requires.count c.requires.processes c.requires.swap c.requires.stands c.requires.sound space (ap (λ x. x.names) z ∙ c.in-Ok.ensures.names) each
+      stands = first_stands c.args.opened l b c.args.conf.now c.args.blocks m front.procs.items front.services is e c.requires.count c.requires.processes c.requires.swap c.requires.stands c.requires.sound c.requires.told space (ap (λ x. x.names) z ∙ c.in-Ok.ensures.names) each
           c.in-Ok.ensures.avail (c.assemble.ensures.sched ∙ c.in-Ok.ensures.sched) c.assemble.ensures.budget c.assemble.ensures.console lines c.requires.within;
-      goes_on = first_goes_on c.args.opened l b c.args.conf.now c.args.blocks m front.procs.items front.services is e c.requires.count c.requires.processes c.requires.swap c.requires.stands c.requires.sound space (ap (λ x. x.names) z ∙ c.in-Ok.ensures.names) each
+      goes_on = first_goes_on c.args.opened l b c.args.conf.now c.args.blocks m front.procs.items front.services is e c.requires.count c.requires.processes c.requires.swap c.requires.stands c.requires.sound c.requires.told space (ap (λ x. x.names) z ∙ c.in-Ok.ensures.names) each
           c.in-Ok.ensures.avail (c.assemble.ensures.sched ∙ c.in-Ok.ensures.sched) c.assemble.ensures.budget c.assemble.ensures.console lines c.requires.within;
+      unused = subst (λ (st : Shelf). NoneTaken st.swap) (sym (ap (λ x. x.store) z)) c.requires.unused;
+      images = ap (λ x. x.images) z ∙ c.into_images.ensures.value;
       fresh = c.assemble.ensures.fresh;
       to_report = subst (λ (z : List Line). Gains (g.R.Sink.taken c.args.report.now) (g.R.Sink.taken c.put_starts.new.report) (lines_text z))
           (ap (λ xs. lines_from l 1 (map (λ v. v.items) xs)) c.deref-3.ensures.value ∙ sym is.lines) c.in-Done.ensures.report;

@@ -1,6 +1,8 @@
-use Rattle.std.proofs.Common.{◌≤◌, ◌&&◌, ◌∙◌, nat_le, Bool, ap, sym, arith, ℕ, List, length}
+use Rattle.std.proofs.Common.{◌≤◌, ◌&&◌, ◌∙◌, nat_le, Bool, ap, sym, subst, arith, ℕ, List, length}
 use Rattle.o2_conf.specs.declared.process.Process.{Process}
 use Rattle.o2_regions.specs.Lives.{lives}
+use Rattle.o2_store.specs.Idle.{NoneTaken}
+use Rattle.o2_store.specs.Shelf.{Shelf}
 use Rattle.o2_world.specs.Starts.{all_started}
 use Rattle.o2_load.specs.Loads.{starts_of}
 use Rattle.o2_opening.proofs.Outcomes.{all_opened, blocks_are, memory_is, processes_are, segments_are}
@@ -52,3 +54,6 @@ returns-clause-stands c = λ s input w set opens sound.
     opened_stands c.over_store.result c.args.linked.now opened.0 c.args.conf.now c.args.device opened.1.1 c.over_store.ensures.kept (returns-clause-memory c) (returns-clause-segments c) (returns-clause-blocks c)
     (λ n. ap (λ (xs : List Bool). lives xs n) c.over_store.ensures.ends ∙ c.in_ok-ends.ensures n ∙ ap (λ (ps : List Process). nat_le 1 n && nat_le n (length ps)) c.as_slice.ensures)
     (ap (λ v. length v.items) c.over_store.ensures.cpus ∙ c.in_ok-progress.ensures.count ∙ ap (λ (ps : List Process). length ps) c.as_slice-2.ensures) opened.1.0 s input w set opens sound
+
+pub returns-clause-unused : goal.returns-clause-unused
+returns-clause-unused c = subst (λ (s : Shelf). NoneTaken s.swap) (sym c.over_store.ensures.store) c.in_ok-progress.ensures.whole.stored.unused

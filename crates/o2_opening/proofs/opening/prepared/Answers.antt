@@ -10,7 +10,7 @@ pub returns-clause-prepared : goal.returns-clause-prepared
 returns-clause-prepared c =
     let used : ℕ = library_indexes (modules_of c.args.linked.now.images) in
     let exact = c.reserve_libraries.ensures.exact in
-    prepared_by c.args.linked.now _ (length c.as_slice.result.now) used c.in_ok-store.ensures.empty c.in_ok-store.ensures.made c.in_ok-store.ensures.out
+    prepared_by c.args.linked.now _ (length c.as_slice.result.now) used c.in_ok-store.ensures.empty c.in_ok-store.ensures.made c.in_ok-store.ensures.out c.in_ok-store.ensures.unused
     (exact ∙ ap (λ (m : Maps). with_reserved m Shared 4096 used true) c.in_ok-regions.ensures.nothing) (λ pid i. ap (λ (m : Maps). held_at m pid i) exact ∙ c.in_ok-regions.ensures.unheld pid i)
     c.reserve_libraries.ensures.own c.new-2.ensures.items (c.requires.processes ∙ ap length (sym c.as_slice.ensures)) refl c.reserve_libraries.ensures.shared
 

@@ -1,8 +1,9 @@
-use Rattle.std.proofs.Common.{arith, length, ap, ◌∙◌, sym}
+use Rattle.std.proofs.Common.{None, IsTrue, arith, length, ap, ◌∙◌, sym, subst}
 use Rattle.std.proofs.lemmas.Result.{err_from_is_err_and}
 use Rattle.o2_outer.proofs.Inputs.{goes_then, seen_before}
 use Rattle.o2_run.specs.Turn.{stopped_by}
-use Rattle.o2_run.proofs.Reached.{ran_by, closed_by, faulted_by, rose_since}
+use Rattle.o2_run.proofs.Reached.{below_with, gains_untold, ran_by, closed_by, rose_since}
+use Rattle.o2_run.proofs.StopLines.{lined_by}
 use Rattle.o2_run.proofs.Sliced.{sliced}
 use Rattle.o2_run.proofs.Answered.{gives, ran_is, end_is, fault_is, ends_with, ends_at, cause_of, either_rose, for_input}
 use Rattle.o2_run.proofs.whole.run.Goals as goal
@@ -29,8 +30,17 @@ steps-preserved g c =
       report_count = omega (arith, c.steps.invariant.report_count, c.turn.ensures.report_count);
       swap_count = omega (arith, c.steps.invariant.swap_count, c.turn.ensures.swap_count);
       swap_blocks = c.turn.ensures.swap_blocks ∙ c.steps.invariant.swap_blocks;
+      fixed = c.turn.ensures.fixed ∙ (c.slice.ensures.fixed ∙ c.steps.invariant.fixed);
       swap_told = λ w. c.steps.invariant.swap_told (c.turn.ensures.swap_told w);
       unswapped = λ e. c.turn.ensures.unswapped e ∙ c.steps.invariant.unswapped e;
+      idle = λ n tells text may s w stands input none fits.
+          let S = g.S.SwapDevice in
+          let still = c.steps.invariant.idle n tells text (seen_before text _ _ c.turn.ensures.goes_on may) s w stands input none fits in
+          let told : IsTrue (S.told c.steps.swap) = subst (λ z. IsTrue (S.told z)) (sym still.0) tells in
+          let before = c.steps.invariant.reached n told text (seen_before text _ _ c.turn.ensures.goes_on may) s w None None stands input (gains_untold _ _) (gains_untold _ _) in
+          let h = sliced _ s w _ _ _ _ _ _ _ _ c.slice.result before (c.slice.ensures.steps _ _ s _ before.stands) in
+          let turned = c.turn.ensures.idle (c.slice.ensures.stops ∙ c.steps.invariant.fresh n) told text may s _ h.stands h.input (c.slice.ensures.idle still.1) (λ on. fits h.steps (below_with s w h.steps h.runs on)) in
+          (turned.0 ∙ still.0, turned.1);
     }
 
 pub returns-then-not-more-clause-texts : goal.returns-then-not-more-clause-texts
@@ -49,7 +59,7 @@ returns-in_err-more-clause-texts g c = λ n tells text may s w a b stands input 
     let fresh = c.slice.ensures.stops ∙ c.steps.invariant.fresh n in
     let before = c.steps.invariant.reached n (c.turn.ensures.swap_told tells) text (seen_before text _ _ c.turn.ensures.goes_on may) s w a b stands input to_console to_report in
     let h = sliced _ s w _ _ _ _ _ _ _ _ c.slice.result before (c.slice.ensures.steps _ _ s _ before.stands) in
-    rw (p.1, p.2) (faulted_by _ _ _ (g.S.SwapDevice.blocks c.args.swap.now) s w _ _ _ _ _ _ _ _ _ _ _ _ _ _ (length w.lines) c.turn.result _ (fault_is c.turn.result _ (sym c.in_err-more.ensures)) _ c.steps.invariant.swap_blocks h _ _ _
+    rw (p.1, p.2) (lined_by _ _ _ (g.S.SwapDevice.blocks c.args.swap.now) s w _ _ _ _ _ _ _ _ _ _ _ _ _ _ (length w.lines) c.turn.result _ (fault_is c.turn.result _ (sym c.in_err-more.ensures)) _ c.steps.invariant.swap_blocks h _ _ _
     (rose_since _ _ _ c.steps.invariant.report_count) (c.turn.ensures.line fresh) (c.turn.ensures.turns fresh tells text may s _ h.stands h.input) (c.turn.ensures.puts fresh tells text may s _ h.stands h.input))
 
 pub returns-in_err-more-clause-stopped : goal.returns-in_err-more-clause-stopped
@@ -73,3 +83,23 @@ returns-then-not-more-clause-goes_on g c = goes_then _ _ _ c.steps.invariant.goe
 
 pub returns-in_err-more-clause-goes_on : goal.returns-in_err-more-clause-goes_on
 returns-in_err-more-clause-goes_on g c = goes_then _ _ _ c.steps.invariant.goes_on c.turn.ensures.goes_on
+
+pub returns-then-not-more-clause-idle : goal.returns-then-not-more-clause-idle
+returns-then-not-more-clause-idle g c = λ n tells text may s w stands input none fits.
+    let S = g.S.SwapDevice in
+    let still = c.steps.invariant.idle n tells text (seen_before text _ _ c.turn.ensures.goes_on may) s w stands input none fits in
+    let told : IsTrue (S.told c.steps.swap) = subst (λ z. IsTrue (S.told z)) (sym still.0) tells in
+    let before = c.steps.invariant.reached n told text (seen_before text _ _ c.turn.ensures.goes_on may) s w None None stands input (gains_untold _ _) (gains_untold _ _) in
+    let h = sliced _ s w _ _ _ _ _ _ _ _ c.slice.result before (c.slice.ensures.steps _ _ s _ before.stands) in
+    let turned = c.turn.ensures.idle (c.slice.ensures.stops ∙ c.steps.invariant.fresh n) told text may s _ h.stands h.input (c.slice.ensures.idle still.1) (λ on. fits h.steps (below_with s w h.steps h.runs on)) in
+    (turned.0 ∙ still.0, turned.1)
+
+pub returns-in_err-more-clause-idle : goal.returns-in_err-more-clause-idle
+returns-in_err-more-clause-idle g c = λ n tells text may s w stands input none fits.
+    let S = g.S.SwapDevice in
+    let still = c.steps.invariant.idle n tells text (seen_before text _ _ c.turn.ensures.goes_on may) s w stands input none fits in
+    let told : IsTrue (S.told c.steps.swap) = subst (λ z. IsTrue (S.told z)) (sym still.0) tells in
+    let before = c.steps.invariant.reached n told text (seen_before text _ _ c.turn.ensures.goes_on may) s w None None stands input (gains_untold _ _) (gains_untold _ _) in
+    let h = sliced _ s w _ _ _ _ _ _ _ _ c.slice.result before (c.slice.ensures.steps _ _ s _ before.stands) in
+    let turned = c.turn.ensures.idle (c.slice.ensures.stops ∙ c.steps.invariant.fresh n) told text may s _ h.stands h.input (c.slice.ensures.idle still.1) (λ on. fits h.steps (below_with s w h.steps h.runs on)) in
+    (turned.0 ∙ still.0, turned.1)

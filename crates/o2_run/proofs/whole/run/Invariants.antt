@@ -5,7 +5,7 @@ use Rattle.o2_world.specs.World.{World, Setting}
 use Rattle.o2_world.specs.Text.{lines_text}
 use Rattle.o2_world.specs.Run.{console}
 use Rattle.o2_run.specs.Pieces.{counts}
-use Rattle.o2_run.specs.Ended.{HasReached}
+use Rattle.o2_run.specs.Ended.{AllFitRun, HasReached}
 use Rattle.o2_run.proofs.whole.run.Given as goal
 
 abbrev pub invariant-steps : goal.invariant-steps
@@ -23,8 +23,12 @@ invariant-steps g l = record {
   report_count : g.R.Sink.faults l.fn.report ≤ g.R.Sink.faults l.report;
   swap_count : g.S.SwapDevice.faults l.fn.swap ≤ g.S.SwapDevice.faults l.swap;
   swap_blocks : g.S.SwapDevice.blocks l.swap ≡ g.S.SwapDevice.blocks l.fn.swap;
+  fixed : g.M.Steps.fixed l.machine ≡ g.M.Steps.fixed l.fn.machine;
   swap_told : IsTrue (g.S.SwapDevice.told l.swap) → IsTrue (g.S.SwapDevice.told l.fn.swap);
   unswapped : g.M.Steps.swaps ≡ false → l.swap ≡ l.fn.swap;
+  idle : g.M.Steps.stopped l.fn.machine ≡ None → IsTrue (g.S.SwapDevice.told l.fn.swap) → (text : Option (List ℕ)) → IsSeenAs text (g.I.Source.past l.input) → (s : Setting) (w : World) → g.M.Steps.stands l.fn.machine (g.S.SwapDevice.blocks l.fn.swap) (g.S.SwapDevice.block l.fn.swap) s w
+      → left_as text (g.I.Source.left l.fn.input) (g.I.Source.past l.fn.input) ≡ Some w.input → g.M.Steps.none_swapped l.fn.machine
+      → AllFitRun s w → (l.swap ≡ l.fn.swap) × g.M.Steps.none_swapped l.machine;
 }
 
 abbrev pub decreases-steps : goal.decreases-steps

@@ -1,4 +1,4 @@
-use Rattle.std.proofs.Common.{◌≡◌, ℕ, Option, Some, None, sym, subst, ◌∙◌}
+use Rattle.std.proofs.Common.{◌≡◌, inl, refl, ℕ, Option, Some, None, sym, subst, ◌∙◌}
 use Rattle.o2_stands.specs.Stands.{Matches}
 use Rattle.o2_regions.specs.Maps.{end_of, first_of, is_taken}
 use Rattle.o2_regions.specs.declared.held.Region.{Region}
@@ -62,3 +62,12 @@ returns-then-flags-gt-FLAGS-clause-entries g c = entries_refl c.args.store.now
 
 pub returns-in-None-clause-entries : goal.returns-in-None-clause-entries
 returns-in-None-clause-entries g c = entries_refl c.args.store.now
+
+pub returns-then-flags-gt-FLAGS-clause-idle : goal.returns-then-flags-gt-FLAGS-clause-idle
+returns-then-flags-gt-FLAGS-clause-idle g c = λ none. inl (record { device = refl; none = none })
+
+pub returns-in-Some-clause-idle : goal.returns-in-Some-clause-idle
+returns-in-Some-clause-idle g c = c.allocate.ensures.idle
+
+pub returns-in-None-clause-idle : goal.returns-in-None-clause-idle
+returns-in-None-clause-idle g c = λ none. inl (record { device = refl; none = none })

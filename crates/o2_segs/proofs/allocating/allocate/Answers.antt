@@ -1,4 +1,4 @@
-use Rattle.std.proofs.Common.{arith, Some, ap, refl, sym, ◌∙◌, subst}
+use Rattle.std.proofs.Common.{arith, inl, inr, Some, ap, refl, sym, ◌∙◌, subst}
 use Rattle.o2_regions.specs.declared.answer.Roomed.{Roomed}
 use Rattle.o2_regions.specs.Maps.{region_of}
 use Rattle.o2_store.specs.Shelf.{Shelf}
@@ -16,6 +16,9 @@ use Rattle.o2_segs.proofs.Stops.{error_none}
 use Rattle.o2_entries.specs.declared.Entry.{Entry}
 use Rattle.o2_segs.proofs.Sharing.{unheld_told}
 use Rattle.o2_segs.proofs.Limits.{entries_added, entries_behind, entries_same, limits_added, limits_more, limits_same, limits_then, limits_undone}
+use Rattle.o2_store.specs.Idle.{NoneTaken}
+use Rattle.o2_store.proofs.Idling.{idle_or}
+use Rattle.o2_segs.proofs.Idling.{unrefused_stop, unrefused_done}
 use Rattle.o2_segs.proofs.allocating.allocate.Goals as goal
 
 pub returns-then-not-is_locked-clause-answer : goal.returns-then-not-is_locked-clause-answer
@@ -215,3 +218,47 @@ returns-in-None-clause-entries g c = entries_same c.args.store.now c.make.new.st
 
 pub hold_made-requires-in-None-lock_new-clause-unheld : goal.hold_made-requires-in-None-lock_new-clause-unheld
 hold_made-requires-in-None-lock_new-clause-unheld g c = unheld_told c.args.regions.now c.lock_new.new.regions c.in-Some.id c.lock_new.ensures.maps c.in-Some.ensures.unheld
+
+pub returns-then-not-is_locked-clause-idle : goal.returns-then-not-is_locked-clause-idle
+returns-then-not-is_locked-clause-idle g c = λ none. inl (record { device = refl; none = subst NoneTaken (sym (ap (λ (x : Shelf). x.swap) c.in-Some.ensures.added.shelf)) none })
+
+pub returns-in-None-clause-idle : goal.returns-in-None-clause-idle
+returns-in-None-clause-idle g c = λ none. inl (record { device = refl; none = subst (λ (x : Shelf). NoneTaken x.swap) (sym c.in-None.ensures.none.1) none })
+
+pub returns-in-Some-lock_new-clause-idle : goal.returns-in-Some-lock_new-clause-idle
+returns-in-Some-lock_new-clause-idle g c = λ none.
+    (let s = c.args.store.now in
+    let t = c.make.new.store in
+    let adds = c.in-Some.ensures.added in
+    elim (idle_or _ t c.lock_new.new.store _ _ c.lock_new.ensures.idle (subst NoneTaken (sym (ap (λ (x : Shelf). x.swap) adds.shelf)) none)) [
+      | inl i ↦ inl i
+      | inr more ↦ inr (record {
+        unrefused = unrefused_stop c.in-Some-lock_new.stop (c.in-Some-lock_new.ensures.without c.in-Some-lock_new.stop refl).0;
+        locked = sym c.if-not-is_locked.ensures;
+        short = record {
+          store = t;
+          id = c.in-Some.id;
+          adds = new_adds s t c.in-Some.id c.args.size c.args.flags c.full_size.result c.is_shared.result c.full_size.ensures.size c.is_shared.ensures adds;
+          holds = more;
+        };
+      })
+    ])
+
+pub returns-in-None-lock_new-clause-idle : goal.returns-in-None-lock_new-clause-idle
+returns-in-None-lock_new-clause-idle g c = λ none.
+    (let s = c.args.store.now in
+    let t = c.make.new.store in
+    let adds = c.in-Some.ensures.added in
+    elim (idle_or _ t c.lock_new.new.store _ _ c.lock_new.ensures.idle (subst NoneTaken (sym (ap (λ (x : Shelf). x.swap) adds.shelf)) none)) [
+      | inl i ↦ inl i
+      | inr more ↦ inr (record {
+        unrefused = unrefused_done c.hold_made-in-None-lock_new.result _ c.hold_made-in-None-lock_new.ensures.answer refl;
+        locked = sym c.if-not-is_locked.ensures;
+        short = record {
+          store = t;
+          id = c.in-Some.id;
+          adds = new_adds s t c.in-Some.id c.args.size c.args.flags c.full_size.result c.is_shared.result c.full_size.ensures.size c.is_shared.ensures adds;
+          holds = more;
+        };
+      })
+    ])

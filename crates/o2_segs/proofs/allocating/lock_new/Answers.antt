@@ -15,6 +15,7 @@ use Rattle.o2_store.proofs.Loads.{full_load_but, same_load_but}
 use Rattle.o2_changes.proofs.LocksStand.{locked_entry}
 use Rattle.o2_segs.proofs.Sharing.{alive_tables}
 use Rattle.o2_segs.proofs.Limits.{limits_locked, limits_moved, limits_then, undone_made, others_moved, others_same, others_then}
+use Rattle.o2_store.specs.Idle.{NoneTaken}
 use Rattle.o2_segs.proofs.allocating.lock_new.Goals as goal
 
 pub unmake-requires-clause-live : goal.unmake-requires-clause-live
@@ -122,3 +123,13 @@ pub returns-in-None-clause-entries : goal.returns-in-None-clause-entries
 returns-in-None-clause-entries g c =
     others_then c.args.store.now c.bring_in.new.store c.set_lock.new.store c.args.id.key (others_moved c.args.store.now c.bring_in.new.store c.args.id.key c.bring_in.ensures.keeps.tables)
     (others_same c.bring_in.new.store c.set_lock.new.store c.args.id.key c.set_lock.ensures.sets.others)
+
+pub returns-in-Some-clause-idle : goal.returns-in-Some-clause-idle
+returns-in-Some-clause-idle g c = λ none load.
+    (let i = c.bring_in.ensures.idle none load in
+    record { device = i.device; none = c.unmake.ensures.unused i.none })
+
+pub returns-in-None-clause-idle : goal.returns-in-None-clause-idle
+returns-in-None-clause-idle g c = λ none load.
+    (let i = c.bring_in.ensures.idle none load in
+    record { device = i.device; none = subst NoneTaken (sym (ap (λ (x : Shelf). x.swap) c.set_lock.ensures.sets.shelf)) i.none })

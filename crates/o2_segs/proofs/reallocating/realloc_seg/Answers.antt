@@ -1,4 +1,4 @@
-use Rattle.std.proofs.Common.{◌≡◌, ◌<◌, ℕ, Option, IfSome, true, ap, subst, sym, ◌∙◌}
+use Rattle.std.proofs.Common.{◌≡◌, ◌<◌, inl, inr, refl, ℕ, Option, IfSome, true, ap, subst, sym, ◌∙◌}
 use Rattle.o2_changes.proofs.KeepingHolds.{told_holds}
 use Rattle.o2_stands.specs.Knows.{known_in}
 use Rattle.o2_segs.proofs.Resizing.{keeps, realloc_done, realloc_fixed, realloc_kept, realloc_none, refusal_moved, sized_matches, stopped_matches}
@@ -10,6 +10,9 @@ use Rattle.o2_store.specs.Sizes.{all_wanted_at, stays}
 use Rattle.o2_world.specs.Rulings.{full_size, reallocation}
 use Rattle.o2_regions.specs.Maps.{Maps}
 use Rattle.o2_segs.proofs.Limits.{limits_moved, limits_refl, limits_sized}
+use Rattle.o2_store.proofs.Idling.{idle_or}
+use Rattle.o2_segs.proofs.Idling.{unrefused_by}
+use Rattle.o2_regions.specs.declared.answer.Answer.{Answer}
 use Rattle.o2_segs.proofs.reallocating.realloc_seg.Goals as goal
 
 pub returns-then-is_fixed-clause-answer : goal.returns-then-is_fixed-clause-answer
@@ -92,3 +95,36 @@ returns-in-Some-stop_of-clause-holds g c = told_holds c.args.regions.now c.resiz
 
 pub returns-in-None-stop_of-clause-holds : goal.returns-in-None-stop_of-clause-holds
 returns-in-None-stop_of-clause-holds g c = told_holds c.args.regions.now c.resize.new.regions c.resize.ensures.maps
+
+pub returns-then-is_fixed-clause-idle : goal.returns-then-is_fixed-clause-idle
+returns-then-is_fixed-clause-idle g c = λ none. inl (record { device = refl; none = none })
+
+pub returns-then-keeps_its_size-clause-idle : goal.returns-then-keeps_its_size-clause-idle
+returns-then-keeps_its_size-clause-idle g c = λ none. inl (record { device = refl; none = none })
+
+pub returns-in-None-clause-idle : goal.returns-in-None-clause-idle
+returns-in-None-clause-idle g c = λ none. inl (record { device = refl; none = none })
+
+pub returns-in-Some-stop_of-clause-idle : goal.returns-in-Some-stop_of-clause-idle
+returns-in-Some-stop_of-clause-idle g c = λ none.
+    (let s = c.args.store.now in
+    elim (idle_or _ s c.resize.new.store _ _ c.resize.ensures.idle none) [
+      | inl i ↦ inl i
+      | inr more ↦ inr (
+        unrefused_by c.resize.result c.in-Some-stop_of.stop c.in-Some-stop_of.ensures,
+        subst (λ (y : Option Held). IfSome y (λ h. s.places.size < live_load_at s h.id.key (full_size c.args.size))) c.in-Some.ensures
+            (subst (λ (n : ℕ). s.places.size < live_load_at s c.in-Some.held.id.key n) c.full_size-bytes.ensures.size more),
+      )
+    ])
+
+pub returns-in-None-stop_of-clause-idle : goal.returns-in-None-stop_of-clause-idle
+returns-in-None-stop_of-clause-idle g c = λ none.
+    (let s = c.args.store.now in
+    elim (idle_or _ s c.resize.new.store _ _ c.resize.ensures.idle none) [
+      | inl i ↦ inl i
+      | inr more ↦ inr (
+        ap (λ (x : Answer). x.error) c.done.ensures,
+        subst (λ (y : Option Held). IfSome y (λ h. s.places.size < live_load_at s h.id.key (full_size c.args.size))) c.in-Some.ensures
+            (subst (λ (n : ℕ). s.places.size < live_load_at s c.in-Some.held.id.key n) c.full_size-bytes.ensures.size more),
+      )
+    ])

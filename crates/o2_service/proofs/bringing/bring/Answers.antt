@@ -1,6 +1,7 @@
 use Rattle.std.proofs.Common.{◌≡◌, ◌≢◌, ◌<◌, ◌≤◌, ◌∙◌, ap, arith, ℕ, None, IsSome, refl, subst, sym, true}
 use Rattle.o2_entries.specs.Tables.{slot_at}
 use Rattle.o2_swapmap.specs.Piles.{all_of}
+use Rattle.o2_store.specs.Idle.{NoneTaken}
 use Rattle.o2_store.specs.Loads.{live_load, swap_load}
 use Rattle.o2_store.specs.Needs.{all_wanted, named_in}
 use Rattle.o2_store.specs.Pictures.{picture, HasPicture}
@@ -34,6 +35,7 @@ returns-then-not-fits g c =
       stuck = λ r. absurd cc;
       faults = omega arith;
       cause = λ r. absurd cc;
+      idle = λ none load. record { device = refl; none = subst (λ (z : Shelf). NoneTaken z.swap) (sym e) none };
       never = λ r. cc;
     }
 
@@ -76,5 +78,6 @@ returns g c =
       stuck = λ r. let k = q.stuck r in record { full = k.full; out = k.out; same = k.same ∙ ap (λ (z : Shelf). slot_at z.entries c.args.id.key) e };
       faults = q.faults;
       cause = q.cause;
+      idle = λ none load. q.idle (subst (λ (z : Shelf). NoneTaken z.swap) (sym e) none) (subst (λ (z : Shelf). live_load z ≤ z.places.size) (sym e) load);
       never = q.never.1;
     }

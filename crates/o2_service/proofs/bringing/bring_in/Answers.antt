@@ -1,7 +1,9 @@
 use Rattle.std.proofs.Common.{◌≡◌, ◌∙◌, ap, is_some, inl, inr, ℕ, None, rules, subst, sym, arith}
 use Rattle.std.proofs.lemmas.Bool.{cases_eq, false≢true}
 use Rattle.o2_store.specs.Pictures.{picture}
-use Rattle.o2_store.specs.Shelf.{KeepsAll, SameTables, place_of}
+use Rattle.o2_store.specs.Idle.{NoneTaken}
+use Rattle.o2_store.specs.Shelf.{KeepsAll, SameTables, Shelf, place_of}
+use Rattle.o2_store.proofs.Loads.{out_load}
 use Rattle.o2_store.proofs.Keeping.{keeps_trans, tables_trans, keeps_later}
 use Rattle.o2_service.proofs.Among.{live_same}
 use Rattle.o2_service.proofs.Movings.{follows_trans, not_there}
@@ -23,6 +25,10 @@ returns-in_default g c =
       stuck = λ x. record { full = r.full x; out = r.none c.args.id.key c.requires.out; same = r.entry };
       faults = r.faults;
       cause = r.cause;
+      idle = λ none load.
+          (let l = out_load c.args.store.now c.args.id.key c.law.ensures.shelf c.law.ensures.sum c.requires.out in
+          let same = r.idle (omega (arith, l, load)) in
+          record { device = same.1; none = subst (λ (z : Shelf). NoneTaken z.swap) (sym same.0) none });
       never = r.never;
     }
 
@@ -91,5 +97,10 @@ returns-in-Here g c =
       stuck = λ x. absurd (f.never.2 x);
       faults = omega (arith, r.faults, f.faults);
       cause = search rules;
+      idle = λ none load.
+          (let l = out_load s c.args.id.key c.law.ensures.shelf c.law.ensures.sum c.requires.out in
+          let same = r.idle (omega (arith, l, load)) in
+          let now = f.idle (subst NoneTaken (sym (q.blocks ∙ ap (λ (z : Shelf). z.swap) same.0)) none) in
+          record { device = now.device ∙ same.1; none = now.none });
       never = (f.never.0, f.never.1);
     }

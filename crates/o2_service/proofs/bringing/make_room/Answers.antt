@@ -1,4 +1,6 @@
-use Rattle.std.proofs.Common.{◌∙◌, refl, arith, rules}
+use Rattle.std.proofs.Common.{◌+◌, ◌∙◌, ap, refl, arith, rules}
+use Rattle.o2_place.specs.Layout.{used}
+use Rattle.o2_store.specs.Shelf.{Shelf, entry, rounded}
 use Rattle.o2_store.proofs.Keeping.{keeps_refl, keeps_trans, same_tables, tables_trans, keeps_later}
 use Rattle.o2_store.proofs.Choosing.{same_named, same_wanted}
 use Rattle.o2_service.proofs.Among.{live_same, loads_after}
@@ -16,6 +18,7 @@ loop-id-init g c = record {
   follows = follows_refl c.args.store.now c.args.regions.now c.requires.held c.requires.settled;
   kept = λ k n. refl;
   none = λ k n. n;
+  idle = λ l. (refl, refl);
   entry = refl;
   faults = omega arith;
 }
@@ -52,6 +55,10 @@ loop-id-preserved g c =
       follows = follows_trans c.args.regions.now c.loop-id.regions v.new.regions t u i.follows e.follows;
       kept = λ k n. e.kept k (same_named s t c.args.keep.now k i.tables ∙ n) ∙ i.kept k n;
       none = λ k n. e.none k (i.none k n);
+      idle = λ l. absurd
+          (let w = ap (λ (x : Shelf). used x.places.ranges + rounded (entry x c.args.id.key).size) (i.idle l).0 in
+          let z = ap (λ (x : Shelf). x.places.size) (i.idle l).0 in
+          omega (arith, w, z, l, c.lacks_room.ensures));
       entry = e.entry ∙ i.entry;
       faults = omega (arith, i.faults, e.faults);
     }
@@ -82,6 +89,10 @@ returns-then-not-matches g c =
       room = search rules;
       loads = λ q. loads_after s t i.tables i.map (e.loads q);
       full = e.full;
+      idle = λ l. absurd
+          (let w = ap (λ (x : Shelf). used x.places.ranges + rounded (entry x c.args.id.key).size) (i.idle l).0 in
+          let z = ap (λ (x : Shelf). x.places.size) (i.idle l).0 in
+          omega (arith, w, z, l, c.lacks_room.ensures));
       faults = omega (arith, i.faults, e.faults);
       cause = search rules;
       never = e.never;

@@ -1,8 +1,9 @@
-use Rattle.std.proofs.Common.{◌≡◌, ◌≤◌, ℕ, length, None, true, IsTrue}
+use Rattle.std.proofs.Common.{◌≡◌, ◌+◌, ◌≤◌, ℕ, length, None, true, IsTrue}
 use Rattle.o2_entries.specs.Tables.{slot_at}
 use Rattle.o2_swapmap.specs.Piles.{all_of}
+use Rattle.o2_place.specs.Layout.{used}
 use Rattle.o2_store.specs.Needs.{named_in}
-use Rattle.o2_store.specs.Shelf.{AreClean, KeepsAll, Pictures, SameTables, place_of}
+use Rattle.o2_store.specs.Shelf.{AreClean, KeepsAll, Pictures, SameTables, entry, place_of, rounded}
 use Rattle.o2_service.specs.Told.{Follows}
 use Rattle.o2_service.proofs.bringing.make_room.Given as goal
 
@@ -17,6 +18,7 @@ invariant-loop-id g l = let S = g.S.SwapDevice in record {
   follows : Follows l.initial.regions l.store l.regions;
   kept : (k : ℕ) → named_in l.initial.store.entries l.keep k ≡ true → place_of l.store k ≡ place_of l.initial.store k;
   none : (k : ℕ) → place_of l.initial.store k ≡ None → place_of l.store k ≡ None;
+  idle : used l.initial.store.places.ranges + rounded (entry l.initial.store l.id.key).size ≤ l.initial.store.places.size → (l.store ≡ l.initial.store) × (l.swap ≡ l.initial.swap);
   entry : slot_at l.store.entries l.id.key ≡ slot_at l.initial.store.entries l.id.key;
   faults : S.faults l.initial.swap ≤ S.faults l.swap;
 }

@@ -3,6 +3,7 @@ use Rattle.std.proofs.lemmas.Option.{slice_get-get_or}
 use Rattle.o2_place.specs.declared.seg_id.SegId.{SegId}
 use Rattle.o2_store.specs.Pictures.{picture}
 use Rattle.o2_store.proofs.Keeping.{keeps_refl, keeps_trans, tables_trans, locked_stay, keeps_later}
+use Rattle.o2_store.proofs.Loads.{same_live_load}
 use Rattle.o2_service.proofs.Among.{all_live_same, loads_after, needs_at, only_refl, only_trans, present_more, same_needed, stays_refl, stays_trans}
 use Rattle.o2_service.proofs.Movings.{follows_refl, follows_trans}
 use Rattle.o2_service.proofs.serving.bring_all.Goals as goal
@@ -21,6 +22,7 @@ loop-k-init g c = record {
   here = record { each = λ i p l e. absurd (omega (arith, l)) };
   fits = c.requires.fits;
   follows = follows_refl c.args.store.now c.args.regions.now c.requires.held c.requires.settled;
+  idle = λ none load. record { device = refl; none = none };
   faults = omega arith;
 }
 
@@ -63,6 +65,11 @@ returns-in_default g c =
       here = λ q. absurd (c.in_default.not-Here q);
       never = e.never;
       loads = λ q. loads_after s t i.keeps.tables i.map (e.loads q);
+      idle = λ none load.
+          (let before = i.idle none load in
+          let size = i.keeps.tables.size in
+          let now = e.idle before.none (omega (arith, load, size, same_live_load s t i.keeps.tables)) in
+          record { device = now.device ∙ before.device; none = now.none });
       faults = omega (arith, i.faults, e.faults);
       cause = search rules;
     }
@@ -96,5 +103,10 @@ loop-k-preserved g c =
       only = only_trans need s t u i.only e.only;
       here = present_more t u need k (get_or need k d) i.here e.stays (slice_get-get_or need k d l) (rw c.pairs-pairs.ensures.pairs at (e.here c.in-Here.is));
       fits = omega (arith, n, q.size, i.fits);
+      idle = λ none load.
+          (let before = i.idle none load in
+          let size = i.keeps.tables.size in
+          let now = e.idle before.none (omega (arith, load, size, same_live_load s t i.keeps.tables)) in
+          record { device = now.device ∙ before.device; none = now.none });
       faults = omega (arith, i.faults, e.faults);
     }

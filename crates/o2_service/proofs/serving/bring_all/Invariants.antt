@@ -1,5 +1,7 @@
 use Rattle.std.proofs.Common.{◌≡◌, ◌≤◌, IsTrue}
 use Rattle.o2_swapmap.specs.Piles.{all_of}
+use Rattle.o2_store.specs.Idle.{Idles}
+use Rattle.o2_store.specs.Loads.{live_load}
 use Rattle.o2_store.specs.Pictures.{picture, HasPicture}
 use Rattle.o2_store.specs.Shelf.{AreClean, HasAll, KeepsAll}
 use Rattle.o2_service.specs.Needs.{AreLive, ArePresent, OnlyNeededComes, Stays, all_needed}
@@ -22,5 +24,6 @@ invariant-loop-k g l =
       here : ArePresent l.store l.need l.k;
       fits : all_needed l.store l.need ≤ l.store.places.size;
       follows : Follows l.initial.regions l.store l.regions;
+      idle : Idles (live_load l.initial.store) l.initial.store l.store l.initial.swap l.swap;
       faults : S.faults l.initial.swap ≤ S.faults l.swap;
     }

@@ -1,6 +1,8 @@
 use Rattle.std.proofs.Common.{◌≤◌, ◌∙◌, ap, sym, subst, is_some}
 use Rattle.o2_swapmap.specs.Piles.{all_of}
 use Rattle.std.proofs.lemmas.Bool.{false≢true}
+use Rattle.o2_store.specs.Idle.{NoneTaken}
+use Rattle.o2_store.specs.Loads.{live_load}
 use Rattle.o2_store.specs.Pictures.{picture, HasPicture}
 use Rattle.o2_store.specs.Shelf.{Shelf, HasAll}
 use Rattle.o2_service.proofs.Fitting.{all_present}
@@ -54,3 +56,8 @@ returns-clause-clear g c = λ k n o r. c.bring_all.ensures.follows.unused c.lear
 pub returns-then-are_here-clause-clear : goal.returns-then-are_here-clause-clear
 returns-then-are_here-clause-clear g c = λ k n o r.
     absurd (false≢true (sym (ap is_some o) ∙ all_present c.args.store.now c.args.need.now k (rw c.pairs.ensures.pairs at (c.are_here.ensures.here c.if-are_here.true)) n))
+
+pub returns-clause-idle : goal.returns-clause-idle
+returns-clause-idle g c = λ none load.
+    (let e = c.learn.ensures.learned.rest in
+    c.bring_all.ensures.idle (subst (λ (z : Shelf). NoneTaken z.swap) (sym e) none) (subst (λ (z : Shelf). live_load z ≤ z.places.size) (sym e) load))

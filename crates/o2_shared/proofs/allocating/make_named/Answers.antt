@@ -17,6 +17,7 @@ use Rattle.o2_shared.specs.Shares.{naming_to}
 use Rattle.o2_shared.specs.Texts.{AreInPlace, AreTexts}
 use Rattle.o2_shared.proofs.NewNames.{named_matches, named_once, named_texts, new_places, new_texts, once_none, run_shared, text_new, texts_none, to_full, to_some}
 use Rattle.o2_shared.proofs.Shares.{value_is}
+use Rattle.o2_store.specs.Idle.{NoneTaken}
 use Rattle.o2_shared.proofs.allocating.make_named.Goals as goal
 
 pub hold_named-requires-clause-plain : goal.hold_named-requires-clause-plain
@@ -109,3 +110,9 @@ returns-in-Some-clause-kept c = λ k here. added_place c.args.store.now c.make.n
 
 pub returns-in-None-clause-kept : goal.returns-in-None-clause-kept
 returns-in-None-clause-kept c = λ k here. subst (λ (x : Shelf). IsSome (place_of x k)) (sym c.in-None.ensures.none.1) here
+
+pub returns-in-Some-clause-unused : goal.returns-in-Some-clause-unused
+returns-in-Some-clause-unused c = λ none. subst NoneTaken (sym (ap (λ (x : Shelf). x.swap) c.in-Some.ensures.added.shelf)) none
+
+pub returns-in-None-clause-unused : goal.returns-in-None-clause-unused
+returns-in-None-clause-unused c = λ none. subst (λ (x : Shelf). NoneTaken x.swap) (sym c.in-None.ensures.none.1) none

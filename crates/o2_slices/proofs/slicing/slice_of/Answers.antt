@@ -97,3 +97,10 @@ returns-clause-tables c =
     let y : Proc = c.index.result.now in
     let new = c.slice_in_store-done.new in
     (sliced_keeps c.args.pid c.slice_in_store-done.result (seat m.store m.regions y.cpu) (seat new.store new.regions new.cpu) c.slice_in_store-done.ensures.sliced).shape.tables
+
+pub returns-clause-blocks : goal.returns-clause-blocks
+returns-clause-blocks c =
+    let m = c.args.space.now in
+    let y : Proc = c.index.result.now in
+    let new = c.slice_in_store-done.new in
+    (sliced_keeps c.args.pid c.slice_in_store-done.result (seat m.store m.regions y.cpu) (seat new.store new.regions new.cpu) c.slice_in_store-done.ensures.sliced).swap

@@ -10,7 +10,7 @@ use Rattle.o2_outer.specs.Texts.{Rose}
 use Rattle.o2_run.specs.Pieces.{Counts, counts, PartHands}
 use Rattle.o2_stepping.specs.Pieces.{StepHands}
 use Rattle.o2_stepping.specs.Rooms.{all_names, needed_names, room_in}
-use Rattle.o2_stepping.specs.Taken.{OnDone, OnSink, OnSwapStop}
+use Rattle.o2_stepping.specs.Taken.{OnDone, OnBegun, OnSwapStop}
 use Rattle.o2_store.specs.Loads.{live_load, swap_load}
 use Rattle.o2_swapmap.specs.Piles.{all_of}
 use Rattle.o2_stepping.specs.Worlds.{away_of, before_in, bytes_with}
@@ -19,9 +19,11 @@ use Rattle.o2_stepping.proofs.Here.{may_step}
 use Rattle.o2_stepping.proofs.Keeping.{ready_same, shape_trans, try_shape}
 use Rattle.o2_stepping.proofs.Puts.{part_fault, ran_fault, ran_hands}
 use Rattle.o2_stepping.proofs.Rooms.{room_fits, room_same}
-use Rattle.o2_stepping.proofs.Steps.{asked_at, asks_at, at_sink, counts_from, full_then, map_asks, missed_then, on_done, on_sink, on_stop, ran_at, ran_cause, ran_tries, said_first, takes_from}
+use Rattle.o2_stepping.proofs.Steps.{asked_at, asks_at, at_begun, counts_from, full_then, map_asks, missed_then, on_done, on_begun, on_stop, ran_at, ran_cause, ran_tries, said_first, takes_from}
 use Rattle.o2_stepping.proofs.Trials.{away_same, never_stops, together, together_in_part, tried, tried_for}
 use Rattle.o2_stepping.proofs.Worlds.{away_kept, seen_present, view_same, with_kept}
+use Rattle.o2_store.proofs.Idling.{idle_still, idle_then}
+use Rattle.o2_store.specs.Shelf.{Shelf}
 use Rattle.o2_stepping.proofs.at_once.step_in_store.Goals as goal
 
 pub try_step-requires : goal.try_step-requires
@@ -178,7 +180,7 @@ returns-in-Err-clause-room_in_part g c = λ bytes known tells.
     let ready = returns-in-Err-clause-ready g c in
     let same = room_same s t names w.tables in
     let size = w.tables.size in
-    at_sink (ArePresent (seen t n pid c.try_step.new.cpu) names) (room_in s names ≤ s.places.size) c.in-Err.fault
+    at_begun (ArePresent (seen t n pid c.try_step.new.cpu) names) (room_in s names ≤ s.places.size) c.in-Err.fault
     (λ here.
     (let fits = room_fits t names c.law.ensures.shelf ready.aged (seen_present t n pid c.try_step.new.cpu names here) c.law.ensures.sum c.law.ensures.room in
     omega (arith, fits, same, size)))
@@ -308,8 +310,8 @@ returns-in-Ok-Missed-clause-room_in_part g c = λ bytes known tells.
     let z : Before = before_in a s m pid cpu bytes known in
     let same = room_same s t (names z) w.tables in
     let size = w.tables.size in
-    on_sink (room_in t (names z) ≤ t.places.size) (room_in s (names z) ≤ s.places.size) c.step_as_needed-in-Ok-Missed.result (λ fits. (omega (arith, fits, same, size)))
-    (said_first a b s t m n pid cpu bytes known view bytes_same (λ x f. OnSink c.step_as_needed-in-Ok-Missed.result (room_in t (names x) ≤ t.places.size)) c.try_step.new.cpu still.0
+    on_begun (room_in t (names z) ≤ t.places.size) (room_in s (names z) ≤ s.places.size) c.step_as_needed-in-Ok-Missed.result (λ fits. (omega (arith, fits, same, size)))
+    (said_first a b s t m n pid cpu bytes known view bytes_same (λ x f. OnBegun c.step_as_needed-in-Ok-Missed.result (room_in t (names x) ≤ t.places.size)) c.try_step.new.cpu still.0
     (c.step_as_needed-in-Ok-Missed.ensures.room_in_part bytes known tells))
 
 pub returns-in-Ok-Missed-clause-no_room : goal.returns-in-Ok-Missed-clause-no_room
@@ -405,3 +407,16 @@ pub returns-in-Ok-Missed-clause-asks : goal.returns-in-Ok-Missed-clause-asks
 returns-in-Ok-Missed-clause-asks g c =
     let still = missed_then _ c.in-Ok-Missed.field-0 c.in-Ok-Missed.field-0-0 c.in-Ok-Missed.field-0-is c.in-Ok-Missed.ensures.still in
     map_asks _ _ c.step_as_needed-in-Ok-Missed.result (λ a p. (p.0 ∙ still.0, p.1 ∙ still.1, p.2 ∙ still.2, p.3 ∙ still.3)) c.step_as_needed-in-Ok-Missed.ensures.asks
+
+pub returns-in-Err-clause-idle : goal.returns-in-Err-clause-idle
+returns-in-Err-clause-idle g c = λ none load. idle_still c.args.store.now c.try_step.new.store _ (ap (λ (x : Shelf). x.swap) c.try_step.ensures.store.store) none
+
+pub returns-in-Ok-Stepped-clause-idle : goal.returns-in-Ok-Stepped-clause-idle
+returns-in-Ok-Stepped-clause-idle g c = λ none load. idle_still c.args.store.now c.try_step.new.store _ (ap (λ (x : Shelf). x.swap) c.try_step.ensures.store.store) none
+
+pub returns-in-Ok-Missed-clause-idle : goal.returns-in-Ok-Missed-clause-idle
+returns-in-Ok-Missed-clause-idle g c =
+    let s = c.args.store.now in
+    let t = c.try_step.new.store in
+    idle_then s t c.step_as_needed-in-Ok-Missed.new.store _ _ _ (try_shape s t c.args.regions.now c.try_step.new.regions c.try_step.ensures.store c.try_step.ensures.maps).tables
+    (λ none load. idle_still s t _ (ap (λ (x : Shelf). x.swap) c.try_step.ensures.store.store) none) c.step_as_needed-in-Ok-Missed.ensures.idle

@@ -1,12 +1,14 @@
-use Rattle.std.proofs.Common.{ℕ, List, ◌∙◌, refl}
+use Rattle.std.proofs.Common.{ℕ, List, ap, sym, subst, ◌∙◌, refl}
 use Rattle.o2_world.specs.Effect.{effect}
 use Rattle.o2_run.specs.Pieces.{counts}
 use Rattle.o2_stepping.specs.Worlds.{away_of, before_in}
 use Rattle.o2_stepping.proofs.Gates.{map_undone}
 use Rattle.o2_stepping.proofs.Keeping.{held_stays, marks_hold, ready_same, shape_trans, try_shape}
 use Rattle.o2_stepping.proofs.Puts.{stop_hands}
-use Rattle.o2_stepping.proofs.Trials.{away_same, map_missed, never_stops, no_cause, no_sink, no_step, on_ran, part_first, stays_still, stop_part, together, together_in_part, tried, tried_for, wanted}
+use Rattle.o2_stepping.proofs.Trials.{away_same, map_missed, never_stops, no_cause, not_begun, no_step, on_ran, part_first, stays_still, stop_part, together, together_in_part, tried, tried_for, wanted}
 use Rattle.o2_stepping.proofs.Worlds.{away_kept, view_same, with_kept}
+use Rattle.o2_store.specs.Idle.{NoneTaken}
+use Rattle.o2_store.specs.Shelf.{Shelf}
 use Rattle.o2_stepping.proofs.in_store.serve_and_try.Goals as goal
 
 pub returns-in-Err-clause-tries : goal.returns-in-Err-clause-tries
@@ -71,7 +73,7 @@ returns-clause-together g c = λ bytes known tells.
     c.try_step.ensures.store (c.in-Ok.ensures.can_step refl) c.try_step.ensures.next (c.try_step.ensures.over.present b bytes known)
 
 pub returns-in-Err-clause-in_part : goal.returns-in-Err-clause-in_part
-returns-in-Err-clause-in_part g c = λ bytes known tells. no_sink _ c.in-Err.fault c.in-Err.ensures.kind
+returns-in-Err-clause-in_part g c = λ bytes known tells. not_begun _ c.in-Err.fault c.in-Err.ensures.kind
 
 pub returns-clause-in_part : goal.returns-clause-in_part
 returns-clause-in_part g c = λ bytes known tells.
@@ -143,3 +145,8 @@ returns-clause-part g c = λ text may bytes known tells left same.
     part_first a b b s t u c.args.regions.now c.bring_in.new.regions c.args.pid c.args.cpu.now bytes known view
     (counts (g.C.Sink.puts c.args.console.now) (g.C.Sink.puts c.try_step.new.console) (g.R.Sink.puts c.args.report.now) (g.R.Sink.puts c.try_step.new.report) 0) c.try_step.result
     (c.try_step.ensures.part.part text may b bytes known left same)
+
+pub returns-clause-idle : goal.returns-clause-idle
+returns-clause-idle g c = λ none load.
+    let i = c.bring_in.ensures.idle none load in
+    record { device = i.device; none = subst NoneTaken (sym (ap (λ (x : Shelf). x.swap) c.try_step.ensures.store.store)) i.none }

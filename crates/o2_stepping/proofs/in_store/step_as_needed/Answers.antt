@@ -26,9 +26,10 @@ use Rattle.o2_run.specs.Pieces.{Counts, counts, Hands, PartHands}
 use Rattle.o2_stepping.specs.Pieces.{StepHands}
 use Rattle.o2_stepping.specs.declared.one_step.Stepped.{Stepped}
 use Rattle.o2_stepping.proofs.Puts.{missed_hands, part_fault, ran_fault, ran_hands}
-use Rattle.o2_stepping.proofs.Steps.{asked_at, asks_at, at_sink, at_stop, counts_from, first_from, full_then, map_asking, missed_at, missed_then, part_from, ran_at, ran_cause, ran_tries, tries_from}
+use Rattle.o2_stepping.proofs.Steps.{asked_at, asks_at, at_begun, at_stop, counts_from, first_from, full_then, map_asking, missed_at, missed_then, part_from, ran_at, ran_cause, ran_tries, tries_from}
 use Rattle.o2_stepping.proofs.Rooms.{room_fits, room_same}
 use Rattle.o2_stepping.proofs.Worlds.{registers_are, seen_present, view_same}
+use Rattle.o2_store.proofs.Idling.{idle_then}
 use Rattle.o2_stepping.proofs.in_store.step_as_needed.Goals as goal
 
 pub tries-init : goal.tries-init
@@ -53,6 +54,7 @@ tries-init g c =
       told = λ w. w;
       faults = omega arith;
       bytes = λ tells k. refl;
+      idle = λ none load. record { device = refl; none = none };
       live = subst (λ (x : List (SegId × ℕ)). AreLive s x) (sym e) (live_seated s m pid cpu c.requires.ready.held);
       seats = subst (λ (x : List (SegId × ℕ)). AreNeeded x (seated_in m pid cpu)) (sym e) (needed_all (seated_in m pid cpu));
       sizes = λ k. ap (λ (x : List (SegId × ℕ)). size_in x k) e ∙ none_seated m pid cpu k;
@@ -109,6 +111,7 @@ tries-preserved g c =
       told = λ w. i.told (e.device.1 w);
       faults = omega (arith, i.faults, e.swap_count);
       bytes = λ tells k. missed_then _ x0 sel is (e.same tells) k ∙ i.bytes (e.device.1 tells) k;
+      idle = idle_then s t u _ _ _ i.shape.tables i.idle e.idle;
       live = subst (λ (x : List (SegId × ℕ)). AreLive u x) (sym added) (live_more u old more (all_live_same t u old e.shape.tables i.live) (live_pair u o pid sel.0 e.ready.held));
       seats = subst (λ (x : List (SegId × ℕ)). AreNeeded x (seated_in o pid d)) (sym added)
           (needed_more old more (seated_in o pid d)
@@ -292,7 +295,7 @@ returns-in-Err-clause-room_in_part g c = λ bytes known tells.
     let size = w.tables.size in
     let first = first_from a b s t m n pid cpu bytes known (view_same a b s t m n pid cpu i.shape.tables i.shape.holds (i.bytes (c.in-Err.ensures.device.1 tells))) (i.bytes (c.in-Err.ensures.device.1 tells)) c.tries.cpu i.cpu in
     let start : Before = before_in b t n pid c.tries.cpu bytes known in
-    at_sink (ArePresent (seen u o pid d) (all_names start (bound_registers (hold_in o pid) d))) (room_in s names ≤ s.places.size) c.in-Err.fault
+    at_begun (ArePresent (seen u o pid d) (all_names start (bound_registers (hold_in o pid) d))) (room_in s names ≤ s.places.size) c.in-Err.fault
     (λ x.
     (let here = subst (λ (y : Before). ArePresent (seen u o pid d) (all_names y (bound_registers (hold_in o pid) d))) first x in
     let fits = room_fits u names c.law.ensures.shelf e.ready.aged (seen_present u o pid d names here) c.law.ensures.sum c.law.ensures.room in
@@ -419,3 +422,12 @@ returns-in-Ok-Stepped-clause-asks g c =
 
 pub returns-in-Ok-Stepped-clause-aimed : goal.returns-in-Ok-Stepped-clause-aimed
 returns-in-Ok-Stepped-clause-aimed g c = asked_at _ c.in-Ok-Stepped.field-0 c.in-Ok-Stepped.stepped c.in-Ok-Stepped.field-0-is c.in-Ok-Stepped.ensures.aimed
+
+pub returns-in-Err-clause-idle : goal.returns-in-Err-clause-idle
+returns-in-Err-clause-idle g c = idle_then c.args.store.now c.tries.store c.serve_and_try.new.store _ _ _ c.tries.invariant.shape.tables c.tries.invariant.idle c.in-Err.ensures.idle
+
+pub returns-in-Ok-Stepped-clause-idle : goal.returns-in-Ok-Stepped-clause-idle
+returns-in-Ok-Stepped-clause-idle g c = idle_then c.args.store.now c.tries.store c.serve_and_try.new.store _ _ _ c.tries.invariant.shape.tables c.tries.invariant.idle c.in-Ok-Stepped.ensures.idle
+
+pub returns-then-not-add_missed-clause-idle : goal.returns-then-not-add_missed-clause-idle
+returns-then-not-add_missed-clause-idle g c = idle_then c.args.store.now c.tries.store c.serve_and_try.new.store _ _ _ c.tries.invariant.shape.tables c.tries.invariant.idle c.in-Ok-Missed.ensures.idle

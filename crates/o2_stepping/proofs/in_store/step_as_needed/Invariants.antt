@@ -8,6 +8,8 @@ use Rattle.o2_run.specs.Room.{touched}
 use Rattle.o2_stepping.specs.Rooms.{AreNeeded, ages_of, left_in, needed_names, seated_in}
 use Rattle.o2_stepping.specs.Shapes.{SameShape}
 use Rattle.o2_stepping.specs.Worlds.{away_of, before_in, bytes_with, parts_of}
+use Rattle.o2_store.specs.Idle.{Idles}
+use Rattle.o2_store.specs.Loads.{live_load}
 use Rattle.o2_stepping.proofs.in_store.step_as_needed.Given as goal
 
 abbrev pub invariant-tries : goal.invariant-tries
@@ -26,6 +28,7 @@ invariant-tries g l =
       faults : S.faults l.fn.swap ≤ S.faults l.swap;
       bytes : IsTrue (S.told l.swap) → (n : ℕ) → bytes_with (away_of l.store l.regions l.images (S.blocks l.swap) (S.block l.swap)) l.store n
           ≡ bytes_with (away_of l.fn.store l.fn.regions l.images (S.blocks l.fn.swap) (S.block l.fn.swap)) l.fn.store n;
+      idle : Idles (live_load l.fn.store) l.fn.store l.store l.fn.swap l.swap;
       live : AreLive l.store l.need;
       seats : AreNeeded l.need (seated_in l.regions l.pid l.cpu);
       sizes : (k : ℕ) → size_in l.need k ≡ 0;

@@ -1,4 +1,4 @@
-use Rattle.std.proofs.Common.{◌≡◌, ◌+◌, ◌-◌, ◌*◌, ◌<◌, ◌≤◌, length, take, get_or, arith, ◌∙◌, min}
+use Rattle.std.proofs.Common.{◌≡◌, ◌+◌, ◌-◌, ◌*◌, ◌<◌, ◌≤◌, length, take, get_or, arith, ◌∙◌, ap, min}
 use Rattle.std.proofs.lemmas.List.{length-take-le}
 use Rattle.o2_swapmap.specs.Piles.{blocks_of}
 use Rattle.o2_phys.proofs.Parts.{length-with_part}
@@ -17,6 +17,7 @@ loop-k-preserved g c =
     let l : length ys ≡ c.min-n.result = length-take-le c.min-n.result c.read.new.into (omega (arith, c.read.array_long)) in
     let w : c.args.at + c.args.kept ≤ length c.loop-k.phys = omega (arith, i.size_of_memory) in
     record {
+      untouched = λ e. absurd (let z = ap length e in omega (arith, few, z));
       blocks = c.read.ensures.blocks ∙ i.blocks;
       told = λ t. i.told (c.read.ensures.earlier t);
       faults = omega (arith, i.faults, c.read.ensures.cause.later);

@@ -1,9 +1,11 @@
-use Rattle.std.proofs.Common.{◌≡◌, ◌≤◌, ◌<◌, ◌+◌, ◌*◌, ◌⊎◌, ℕ, length, slice_index, IsTrue}
+use Rattle.std.proofs.Common.{◌≡◌, ◌≤◌, ◌<◌, ◌+◌, ◌*◌, ◌⊎◌, ℕ, [], length, slice_index, IsTrue}
+use Rattle.o2_swapmap.specs.Piles.{blocks_of}
 use Rattle.o2_store.specs.Shelf.{stored_byte}
 use Rattle.o2_store.proofs.blocks.read_in.Given as goal
 
 abbrev pub invariant-loop-k : goal.invariant-loop-k
 invariant-loop-k g l = let S = g.S.SwapDevice in record {
+  untouched : blocks_of l.map l.key ≡ [] → l.swap ≡ l.initial.swap;
   blocks : S.blocks l.swap ≡ S.blocks l.initial.swap;
   told : IsTrue (S.told l.swap) → IsTrue (S.told l.initial.swap);
   faults : S.faults l.initial.swap ≤ S.faults l.swap;

@@ -38,3 +38,19 @@ returns-in-Failed-put-clause-puts g c = λ tells text may s w stands left. faile
 pub returns-in-Step-clause-puts : goal.returns-in-Step-clause-puts
 returns-in-Step-clause-puts g c = λ tells text may s w stands left.
     c.step.ensures.puts tells text may s w (same_space _ c.args.self.now _ _ _ _ s w stands (record { sched = c.next.ensures.same; avail = refl; budget = refl; bytes = refl; lines = refl }) stands.space stands.set stands.spells) left
+
+pub returns-in-Done-clause-idle : goal.returns-in-Done-clause-idle
+returns-in-Done-clause-idle g c = λ tells text may s w stands left fits none. record { device = refl; none = none }
+
+pub returns-in-Failed-clause-idle : goal.returns-in-Failed-clause-idle
+returns-in-Failed-clause-idle g c = λ tells text may s w stands left fits none. record { device = refl; none = none }
+
+pub returns-in-Done-put-clause-idle : goal.returns-in-Done-put-clause-idle
+returns-in-Done-put-clause-idle g c = λ tells text may s w stands left fits none. record { device = refl; none = none }
+
+pub returns-in-Failed-put-clause-idle : goal.returns-in-Failed-put-clause-idle
+returns-in-Failed-put-clause-idle g c = λ tells text may s w stands left fits none. record { device = refl; none = none }
+
+pub returns-in-Step-clause-idle : goal.returns-in-Step-clause-idle
+returns-in-Step-clause-idle g c = λ tells text may s w stands left fits none.
+    c.step.ensures.idle tells text may s w (same_space _ c.args.self.now _ _ _ _ s w stands (record { sched = c.next.ensures.same; avail = refl; budget = refl; bytes = refl; lines = refl }) stands.space stands.set stands.spells) left fits none

@@ -22,7 +22,8 @@ use Rattle.o2_segs.proofs.Sharing.{few_more}
 use Rattle.o2_machine.proofs.Behinds.{few_left}
 use Rattle.o2_machine.proofs.Hands.{stop_line_put, by_stop}
 use Rattle.o2_machine.proofs.Marks.{marked_next, some_number}
-use Rattle.o2_machine.proofs.Turns.{faulted, went, late, stopped_by, caused_stop, line_of_stop, left_at_stop, failed_puts, went_puts, late_puts}
+use Rattle.o2_store.specs.Idle.{IsIdle}
+use Rattle.o2_machine.proofs.Turns.{of_next, faulted, went, late, stopped_by, caused_stop, line_of_stop, left_at_stop, failed_puts, went_puts, late_puts}
 use Rattle.o2_machine.proofs.machine.Machine.step.Goals as goal
 
 pub act-requires-clause-some : goal.act-requires-clause-some
@@ -185,3 +186,25 @@ returns-else-ran-clause-puts g c = λ tells text may s w stands left.
     late_puts c.args.self.now _ _ s w c.args.pid None None None None stands c.requires.pick c.requires.live _ _ _ _ c.in-Ok.ran.tally
     (λ chosen p at. (c.in-Ok.ensures.acts text may s w p tells stands.space stands.set stands.sound chosen at left stands.known stands.spells).puts)
     (subst (λ (z : Bool). HandsWhole z (counts (g.C.Sink.puts c.args.console.now) (g.C.Sink.puts c.act.new.console) (g.R.Sink.puts c.args.report.now) (g.R.Sink.puts c.act.new.report) 0) (puts_of c.in-Ok.ran.tally.bytes) c.in-Ok.ran.tally.lines) c.if-ran.false c.in-Ok.ensures.puts)
+
+pub returns-in-Err-Sink-clause-idle : goal.returns-in-Err-Sink-clause-idle
+returns-in-Err-Sink-clause-idle g c = λ tells text may s w stands left fits none.
+    of_next c.args.self.now _ _ s w c.args.pid None None None None stands c.requires.pick c.requires.live _
+    (λ on chosen p at. c.act.ensures.idle text may s w p tells stands.space stands.set stands.sound chosen at left stands.known stands.spells (fits on) none)
+
+pub returns-in-Err-Stopped-clause-idle : goal.returns-in-Err-Stopped-clause-idle
+returns-in-Err-Stopped-clause-idle g c = λ tells text may s w stands left fits none.
+    of_next c.args.self.now _ _ s w c.args.pid None None None None stands c.requires.pick c.requires.live _
+    (λ on chosen p at. c.act.ensures.idle text may s w p tells stands.space stands.set stands.sound chosen at left stands.known stands.spells (fits on) none)
+
+pub returns-then-ran-clause-idle : goal.returns-then-ran-clause-idle
+returns-then-ran-clause-idle g c = λ tells text may s w stands left fits none.
+    subst (λ (z : Space). IsIdle z.store c.args.swap.now c.act.new.swap) (sym c.stepped.ensures.space)
+    (of_next c.args.self.now _ _ s w c.args.pid None None None None stands c.requires.pick c.requires.live _
+    (λ on chosen p at. c.act.ensures.idle text may s w p tells stands.space stands.set stands.sound chosen at left stands.known stands.spells (fits on) none))
+
+pub returns-else-ran-clause-idle : goal.returns-else-ran-clause-idle
+returns-else-ran-clause-idle g c = λ tells text may s w stands left fits none.
+    subst (λ (z : Space). IsIdle z.store c.args.swap.now c.act.new.swap) (sym c.stepped.ensures.space)
+    (of_next c.args.self.now _ _ s w c.args.pid None None None None stands c.requires.pick c.requires.live _
+    (λ on chosen p at. c.act.ensures.idle text may s w p tells stands.space stands.set stands.sound chosen at left stands.known stands.spells (fits on) none))

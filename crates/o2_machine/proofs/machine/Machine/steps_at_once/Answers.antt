@@ -4,6 +4,8 @@ use Rattle.o2_conf.specs.Dispatch.{lives}
 use Rattle.o2_regions.specs.Lives.{lives as is_marked}
 use Rattle.o2_sched.specs.Schedule.{Schedule}
 use Rattle.o2_segs.proofs.Sharing.{few_more}
+use Rattle.o2_store.specs.Idle.{NoneTaken}
+use Rattle.o2_swapmap.specs.Piles.{Blocks}
 use Rattle.o2_machine.proofs.Marks.{some_number}
 use Rattle.o2_machine.proofs.Slicing.{budget_left, chosen_is, is_begun, none_done, runs_on, some_steps, turn_left}
 use Rattle.o2_machine.proofs.machine.Machine.steps_at_once.Goals as goal
@@ -84,3 +86,9 @@ returns-else-done-gt0-clause-device c = λ blocks goes. record {
   budget = goes.budget;
   held = c.slice_of-done.ensures.held _ goes.held;
 }
+
+pub returns-then-done-gt0-clause-idle : goal.returns-then-done-gt0-clause-idle
+returns-then-done-gt0-clause-idle c = λ none. subst (λ (m : Blocks). NoneTaken m) (sym c.slice_of-done.ensures.blocks) none
+
+pub returns-else-done-gt0-clause-idle : goal.returns-else-done-gt0-clause-idle
+returns-else-done-gt0-clause-idle c = λ none. subst (λ (m : Blocks). NoneTaken m) (sym c.slice_of-done.ensures.blocks) none

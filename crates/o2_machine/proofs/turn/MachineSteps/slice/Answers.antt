@@ -35,3 +35,6 @@ returns-clause-device c = λ blocks goes.
       budget = (let f = goes.budget in let b = ap (λ (z : Schedule). z.dispatch.budget) c.ahead-most.ensures.same in omega (arith, f, b));
       held = few_more _ _ _ (let b = ap (λ (z : Schedule). z.dispatch.budget) c.ahead-most.ensures.same in omega (arith, b)) goes.held;
     })
+
+pub returns-clause-idle : goal.returns-clause-idle
+returns-clause-idle c = λ none. c.steps_at_once.ensures.idle none

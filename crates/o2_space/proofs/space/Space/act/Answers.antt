@@ -1,4 +1,5 @@
-use Rattle.std.proofs.Common.{◌+◌, ◌≡◌, ◌==◌, ℕ, ◌≤◌, List, [], Bool, true, false, if◌then◌else◌, inr, length, ap, ◌∙◌, arith, subst}
+use Rattle.std.proofs.Common.{◌+◌, ◌≡◌, ◌==◌, ℕ, ◌≤◌, List, [], Bool, true, false, if◌then◌else◌, inr, length, ap, sym, ◌∙◌, arith, subst}
+use Rattle.std.specs.Prelude.{IsTrue}
 use Rattle.o2_outer.specs.Inputs.{left_as}
 use Rattle.o2_outer.specs.Texts.{Rose}
 use Rattle.o2_isa.specs.View.{bound_registers}
@@ -248,7 +249,7 @@ returns-in-Ok-Asked-clause-puts g c =
     puts_from (R.puts c.call.new.report) c.call.result (ap C.puts asks.2) (ap R.puts asks.3) (c.call.ensures.puts (C.puts args.console.now))
 
 pub returns-in-Ok-Asked-clause-part : goal.returns-in-Ok-Asked-clause-part
-returns-in-Ok-Asked-clause-part g c = λ text may s w x tells stands there left known. part_none (effect (before s w c.args.pid x)) _ c.call.result c.call.ensures.no_sink
+returns-in-Ok-Asked-clause-part g c = λ text may s w x tells stands there left known. part_none (effect (before s w c.args.pid x)) _ c.call.result c.call.ensures.not_begun
 
 pub returns-in-Err-clause-held : goal.returns-in-Err-clause-held
 returns-in-Err-clause-held g c = λ k some most. few_more c.step.new.self.regions k (k + 0) (omega arith) (c.step.ensures.held k most)
@@ -294,3 +295,29 @@ returns-in-Ok-Asked-clause-spells g c = λ text may s w x tells stands set sound
     let asks = asked_between _ c.in-Ok-Asked.arguments c.in-Ok-Asked.next c.in-Ok-Asked.field-0-is b w _ _ _ _ _ _ _ _ steps in
     c.call.ensures.spells s w x tells asks.still.stands (c.step.ensures.set s set) sound chosen there asks.cpu
     (spelled_by c.step.new.self.store c.args.self.now.names c.step.new.self.names w c.step.ensures.names (spelled_shape c.args.self.now.store c.step.new.self.store c.step.ensures.shape.tables c.args.self.now.names w spelled)) asks.effect
+
+-- The device.
+
+pub returns-in-Err-clause-idle : goal.returns-in-Err-clause-idle
+returns-in-Err-clause-idle g c = λ text may s w x tells stands set sound chosen there left known spelled fit none.
+    c.step.ensures.idle s w stands set fit none
+
+pub returns-in-Ok-Ran-clause-idle : goal.returns-in-Ok-Ran-clause-idle
+returns-in-Ok-Ran-clause-idle g c = λ text may s w x tells stands set sound chosen there left known spelled fit none.
+    let i = c.step.ensures.idle s w stands set fit none in
+    record { device = i.device; none = c.commit.ensures.unused i.none }
+
+pub returns-in-Ok-Asked-clause-idle : goal.returns-in-Ok-Asked-clause-idle
+returns-in-Ok-Asked-clause-idle g c = λ text may s w x tells stands set sound chosen there left known spelled fit none.
+    let S = g.S.SwapDevice in
+    let m = c.args.self.now in
+    let i = c.step.ensures.idle s w stands set fit none in
+    let y : Proc = c.index.result.now in
+    let was = process_was m.procs.items c.args.pid w.processes x c.requires.some c.requires.there (stands.processes c.args.pid) there y c.index.ensures in
+    let told = subst (λ (d : _). IsTrue (S.told d)) (sym i.device) tells in
+    let steps = c.in-Ok-Asked.ensures.steps text may s w x told stands there (ap (λ (r : Running). r.cpu) was) left known in
+    let asks = asked_between _ c.in-Ok-Asked.arguments c.in-Ok-Asked.next c.in-Ok-Asked.field-0-is (before s w c.args.pid x) w _ _ _ _ _ _ _ _ steps in
+    let j = c.call.ensures.idle s w x asks.still.stands (c.step.ensures.set s set) sound chosen there asks.cpu
+    (spelled_by c.step.new.self.store c.args.self.now.names c.step.new.self.names w c.step.ensures.names (spelled_shape c.args.self.now.store c.step.new.self.store c.step.ensures.shape.tables c.args.self.now.names w spelled))
+    asks.called fit i.none in
+    record { device = j.device ∙ i.device; none = j.none }

@@ -11,7 +11,7 @@ use Rattle.o2_stands.specs.Parts.{Parts}
 use Rattle.o2_stands.specs.Stands.{StandsIn}
 use Rattle.o2_space.specs.Parts.{parts_in}
 use Rattle.o2_space.proofs.Commits.{lived}
-use Rattle.o2_space.proofs.Askings.{no_step, none_put, not_caused, not_sink, stops_stay, told_puts}
+use Rattle.o2_space.proofs.Askings.{no_step, none_put, not_caused, not_begun, stops_stay, told_puts}
 use Rattle.o2_space.proofs.Alike.{retold}
 use Rattle.o2_space.proofs.Replied.{acts_live, acts_trapped, alone_known, dead_state_is, orderly_call, spells_live, spells_trapped, then_trapped}
 use Rattle.o2_space.proofs.SpelledCalls.{called_spelled, trapped_spelled}
@@ -35,8 +35,8 @@ returns-in-Err-clause-next_room g c = λ s w x tells stands set sound chosen the
 pub returns-in-Err-clause-still : goal.returns-in-Err-clause-still
 returns-in-Err-clause-still g c = no_step _ c.in-Err.fault refl
 
-pub returns-in-Err-clause-no_sink : goal.returns-in-Err-clause-no_sink
-returns-in-Err-clause-no_sink g c = not_sink c.in-Err.fault c.in-Err.ensures.stops
+pub returns-in-Err-clause-not_begun : goal.returns-in-Err-clause-not_begun
+returns-in-Err-clause-not_begun g c = not_begun c.in-Err.fault c.in-Err.ensures.stops
 
 pub returns-in-Err-clause-marks : goal.returns-in-Err-clause-marks
 returns-in-Err-clause-marks g c = λ n. ap (λ (ends : List Bool). lives ends n) c.make_call.ensures.ends
@@ -263,3 +263,25 @@ returns-then-not-is_live-clause-spells g c = λ s w x tells stands set sound cho
     (record { state = told.state; bytes = told.bytes; lines = told.lines; report = told.report }) refl (sym c.if-not-is_live.ensures) z made.self.names
     (λ matches. trapped_spelled s w x alive sound stands.tidy a next made.self.store made.self.regions made.self.names z (c.make_call.ensures.together.ready (λ k. [])).aged c.make_call.ensures.together.places gone
     pid chosen there orderly behind matches) acts.matches d current)
+
+-- The device.
+
+pub returns-in-Err-clause-idle : goal.returns-in-Err-clause-idle
+returns-in-Err-clause-idle g c = λ s w x stands set sound chosen there same spelled call fit none.
+    let m = c.args.self.now in
+    let alive = lived m.procs.items c.args.pid w.processes x c.requires.can_step.process.0 c.requires.there (stands.processes c.args.pid) there m.ends c.requires.together.marked c.requires.live in
+    c.make_call.ensures.idle s w x stands set sound chosen there alive same spelled call fit none
+
+pub returns-else-not-is_live-clause-idle : goal.returns-else-not-is_live-clause-idle
+returns-else-not-is_live-clause-idle g c = λ s w x stands set sound chosen there same spelled call fit none.
+    let m = c.args.self.now in
+    let alive = lived m.procs.items c.args.pid w.processes x c.requires.can_step.process.0 c.requires.there (stands.processes c.args.pid) there m.ends c.requires.together.marked c.requires.live in
+    let i = c.make_call.ensures.idle s w x stands set sound chosen there alive same spelled call fit none in
+    record { device = i.device; none = c.commit.ensures.unused i.none }
+
+pub returns-then-not-is_live-clause-idle : goal.returns-then-not-is_live-clause-idle
+returns-then-not-is_live-clause-idle g c = λ s w x stands set sound chosen there same spelled call fit none.
+    let m = c.args.self.now in
+    let alive = lived m.procs.items c.args.pid w.processes x c.requires.can_step.process.0 c.requires.there (stands.processes c.args.pid) there m.ends c.requires.together.marked c.requires.live in
+    let i = c.make_call.ensures.idle s w x stands set sound chosen there alive same spelled call fit none in
+    record { device = i.device; none = c.commit-then-not-is_live.ensures.unused (c.commit.ensures.unused i.none) }

@@ -93,3 +93,9 @@ returns-then-not-is_live-clause-behind c = record {
 
 pub returns-else-not-is_live-clause-behind : goal.returns-else-not-is_live-clause-behind
 returns-else-not-is_live-clause-behind c = record { lived = λ id old alive. alive }
+
+pub returns-then-not-is_live-clause-unused : goal.returns-then-not-is_live-clause-unused
+returns-then-not-is_live-clause-unused c = c.end.ensures.unused
+
+pub returns-else-not-is_live-clause-unused : goal.returns-else-not-is_live-clause-unused
+returns-else-not-is_live-clause-unused c = λ none. none

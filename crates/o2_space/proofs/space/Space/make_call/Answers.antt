@@ -1,4 +1,4 @@
-use Rattle.std.proofs.Common.{◌+◌, ℕ, [], length, ap, sym, ◌∙◌, refl, arith, subst}
+use Rattle.std.proofs.Common.{◌+◌, inl, inr, ℕ, [], length, ap, sym, ◌∙◌, refl, arith, subst}
 use Rattle.o2_isa.specs.declared.cpu.Cpu.{Cpu}
 use Rattle.o2_world.specs.declared.types.State.TheVariants.{Live}
 use Rattle.o2_world.specs.Known.{known_of}
@@ -24,9 +24,11 @@ use Rattle.o2_space.proofs.Aimed.{aimed_kept}
 use Rattle.o2_space.proofs.Alone.{alone_held, whole_same}
 use Rattle.o2_space.proofs.Called.{called}
 use Rattle.o2_service.specs.Needs.{segments_of}
-use Rattle.o2_space.proofs.CallSays.{fits_at, full_at, lacks_at}
+use Rattle.o2_space.proofs.CallSays.{fits_at, full_at, lacks_at, short_at, unrefused_error}
 use Rattle.o2_space.proofs.Replied.{alone_known}
 use Rattle.o2_space.proofs.Making.{kept_named, on_device, process_called, ready_called, ready_given, set_called, stays_at, value_of}
+use Rattle.o2_store.specs.Idle.{NoneTaken}
+use Rattle.o2_store.specs.Shelf.{Shelf}
 use Rattle.o2_space.proofs.space.Space.make_call.Goals as goal
 
 pub act-requires-clause-process : goal.act-requires-clause-process
@@ -385,3 +387,67 @@ returns-in-Done-clause-behind g c = record {
       let grows = e.limits.grows in
       e.limits.shares.lived id old ((given_shares c.act.new.store c.give.new.store c.act.new.regions c.give.new.regions given.store given.maps).lived id (omega (arith, old, grows)) alive));
 }
+
+pub returns-in-NoRoom-clause-idle : goal.returns-in-NoRoom-clause-idle
+returns-in-NoRoom-clause-idle g c = λ s w x stands set sound chosen there live same spelled call fit none.
+    let S = g.S.SwapDevice in
+    let p : Parts = parts_in c.args.self.now (S.blocks c.args.swap.now) (S.block c.args.swap.now) in
+    elim (c.act.ensures.idle none) [
+      | inl i ↦ i
+      | inr short ↦ absurd
+          (let more = short_at p s w x c.lawful.ensures set stands live sound c.args.arguments c.args.next c.args.cpu.now same _ c.args.pid chosen
+          (record { there = there; call = call; alone = alone_known p s w stands c.requires.together.alone; step = c.requires.can_step; ready = c.requires.aimed; keeps = c.ids.ensures ∙ ap segments_of c.call_need-need.ensures })
+          (unrefused_error (ruling_of c.args.arguments (known_of s w) c.args.pid c.args.cpu.now) c.act.result
+          (c.act.ensures.row p s w (record { store = refl; regions = refl; pictures = refl; blocks = refl; lawful = c.lawful.ensures; set = set; stands = stands })
+          (spells_of c.args.self.now (S.blocks c.args.swap.now) (S.block c.args.swap.now) w c.requires.together stands spelled)) short.unrefused)
+          short.stops short.lacks in
+          omega (arith, more, fit))
+    ]
+
+pub returns-in-SwapFull-clause-idle : goal.returns-in-SwapFull-clause-idle
+returns-in-SwapFull-clause-idle g c = λ s w x stands set sound chosen there live same spelled call fit none.
+    let S = g.S.SwapDevice in
+    let p : Parts = parts_in c.args.self.now (S.blocks c.args.swap.now) (S.block c.args.swap.now) in
+    elim (c.act.ensures.idle none) [
+      | inl i ↦ i
+      | inr short ↦ absurd
+          (let more = short_at p s w x c.lawful.ensures set stands live sound c.args.arguments c.args.next c.args.cpu.now same _ c.args.pid chosen
+          (record { there = there; call = call; alone = alone_known p s w stands c.requires.together.alone; step = c.requires.can_step; ready = c.requires.aimed; keeps = c.ids.ensures ∙ ap segments_of c.call_need-need.ensures })
+          (unrefused_error (ruling_of c.args.arguments (known_of s w) c.args.pid c.args.cpu.now) c.act.result
+          (c.act.ensures.row p s w (record { store = refl; regions = refl; pictures = refl; blocks = refl; lawful = c.lawful.ensures; set = set; stands = stands })
+          (spells_of c.args.self.now (S.blocks c.args.swap.now) (S.block c.args.swap.now) w c.requires.together stands spelled)) short.unrefused)
+          short.stops short.lacks in
+          omega (arith, more, fit))
+    ]
+
+pub returns-in-SwapFault-clause-idle : goal.returns-in-SwapFault-clause-idle
+returns-in-SwapFault-clause-idle g c = λ s w x stands set sound chosen there live same spelled call fit none.
+    let S = g.S.SwapDevice in
+    let p : Parts = parts_in c.args.self.now (S.blocks c.args.swap.now) (S.block c.args.swap.now) in
+    elim (c.act.ensures.idle none) [
+      | inl i ↦ i
+      | inr short ↦ absurd
+          (let more = short_at p s w x c.lawful.ensures set stands live sound c.args.arguments c.args.next c.args.cpu.now same _ c.args.pid chosen
+          (record { there = there; call = call; alone = alone_known p s w stands c.requires.together.alone; step = c.requires.can_step; ready = c.requires.aimed; keeps = c.ids.ensures ∙ ap segments_of c.call_need-need.ensures })
+          (unrefused_error (ruling_of c.args.arguments (known_of s w) c.args.pid c.args.cpu.now) c.act.result
+          (c.act.ensures.row p s w (record { store = refl; regions = refl; pictures = refl; blocks = refl; lawful = c.lawful.ensures; set = set; stands = stands })
+          (spells_of c.args.self.now (S.blocks c.args.swap.now) (S.block c.args.swap.now) w c.requires.together stands spelled)) short.unrefused)
+          short.stops short.lacks in
+          omega (arith, more, fit))
+    ]
+
+pub returns-in-Done-clause-idle : goal.returns-in-Done-clause-idle
+returns-in-Done-clause-idle g c = λ s w x stands set sound chosen there live same spelled call fit none.
+    let S = g.S.SwapDevice in
+    let p : Parts = parts_in c.args.self.now (S.blocks c.args.swap.now) (S.block c.args.swap.now) in
+    elim (c.act.ensures.idle none) [
+      | inl i ↦ record { device = i.device; none = subst NoneTaken (sym (ap (λ (z : Shelf). z.swap) c.give.ensures.store.store)) i.none }
+      | inr short ↦ absurd
+          (let more = short_at p s w x c.lawful.ensures set stands live sound c.args.arguments c.args.next c.args.cpu.now same _ c.args.pid chosen
+          (record { there = there; call = call; alone = alone_known p s w stands c.requires.together.alone; step = c.requires.can_step; ready = c.requires.aimed; keeps = c.ids.ensures ∙ ap segments_of c.call_need-need.ensures })
+          (unrefused_error (ruling_of c.args.arguments (known_of s w) c.args.pid c.args.cpu.now) c.act.result
+          (c.act.ensures.row p s w (record { store = refl; regions = refl; pictures = refl; blocks = refl; lawful = c.lawful.ensures; set = set; stands = stands })
+          (spells_of c.args.self.now (S.blocks c.args.swap.now) (S.block c.args.swap.now) w c.requires.together stands spelled)) short.unrefused)
+          short.stops short.lacks in
+          omega (arith, more, fit))
+    ]

@@ -10,7 +10,7 @@ use Rattle.o2_world.specs.Run.{before}
 use Rattle.o2_stands.specs.Parts.{Parts}
 use Rattle.o2_run.specs.Pieces.{Counts, PartHands, counts}
 use Rattle.o2_stepping.specs.Rooms.{all_names, needed_names, room_in}
-use Rattle.o2_stepping.specs.Taken.{OnDone, OnSink, OnSwapStop, Takes}
+use Rattle.o2_stepping.specs.Taken.{OnDone, OnBegun, OnSwapStop, Takes}
 use Rattle.o2_stepping.specs.Worlds.{away_of, bytes_with}
 use Rattle.o2_stepping.proofs.Worlds.{same_map}
 use Rattle.o2_space.specs.Parts.{parts_in, running_at}
@@ -22,6 +22,7 @@ use Rattle.o2_space.proofs.Behind.{set_behind, steps_by}
 use Rattle.o2_space.proofs.Nexting.{says_room}
 use Rattle.o2_space.proofs.Rooms.{on_stop, room_by, room_in_part_by}
 use Rattle.o2_space.proofs.Sights.{before_is}
+use Rattle.o2_stepping.proofs.NextRooms.{live_least}
 use Rattle.o2_space.proofs.space.Space.step.Goals as goal
 
 pub step_in_store-result-requires-clause-ready : goal.step_in_store-result-requires-clause-ready
@@ -121,7 +122,7 @@ returns-clause-room_in_part g c = λ text may s w x tells stands there same left
     room_in_part_by m.store b (effect b) (hold_in new.regions pid) (hold_in m.regions pid) new.cpu old_bytes new_bytes _ _ _ _ _ _ result (same_map m.regions new.regions pid e.shape.holds)
     (subst (λ (z : Before). Takes z (effect z) new.cpu old_bytes new_bytes (left_as text (g.I.Source.left c.args.input.now) (g.I.Source.past c.args.input.now)) (left_as text (g.I.Source.left new.input) (g.I.Source.past new.input))
     (g.C.Sink.taken c.args.console.now) (g.C.Sink.taken new.console) (g.R.Sink.taken c.args.report.now) (g.R.Sink.taken new.report) result) is (e.takes_as text may w.input (known_of s w) tells left known))
-    (subst (λ (z : Before). OnSink result (room_in m.store (all_names z (bound_registers (hold_in new.regions pid) new.cpu)) ≤ m.store.places.size)) is (e.room_in_part w.input (known_of s w) tells))
+    (subst (λ (z : Before). OnBegun result (room_in m.store (all_names z (bound_registers (hold_in new.regions pid) new.cpu)) ≤ m.store.places.size)) is (e.room_in_part w.input (known_of s w) tells))
 
 pub returns-clause-part : goal.returns-clause-part
 returns-clause-part g c = λ text may s w x tells stands there same left known.
@@ -157,3 +158,10 @@ returns-clause-made g c = c.step_in_store-result.ensures.shape.tables.made
 
 pub returns-clause-held : goal.returns-clause-held
 returns-clause-held g c = few_as c.args.self.now.regions c.step_in_store-result.new.regions c.step_in_store-result.ensures.shape.holds.held
+
+pub returns-clause-idle : goal.returns-clause-idle
+returns-clause-idle g c = λ s w stands set fit none.
+    let S = g.S.SwapDevice in
+    let least = live_least (parts_in c.args.self.now (S.blocks c.args.swap.now) (S.block c.args.swap.now)) s w c.lawful.ensures set stands in
+    let memory = set.memory in
+    c.step_in_store-result.ensures.idle none (omega (arith, least, memory, fit))

@@ -8,6 +8,8 @@ use Rattle.o2_store.proofs.Keeping.{keys_keep, keys_clean, locked_stay}
 use Rattle.o2_store.proofs.Collecting.{need_wanted}
 use Rattle.o2_store.proofs.Leaving.{keys_written}
 use Rattle.o2_store.proofs.Loads.{full_load, out_load, same_swap_load, same_live_load}
+use Rattle.o2_store.specs.Idle.{NoneTaken}
+use Rattle.o2_store.specs.Loads.{live_load}
 use Rattle.o2_store.proofs.store.Store.bring.Goals as goal
 
 pub returns-then-is_none-clause-locked : goal.returns-then-is_none-clause-locked
@@ -58,3 +60,8 @@ returns-clause-loads g c = λ e.
     let m : all_of u.swap ≡ all_of s.swap = r.ensures.map ∙ ap (λ (x : Shelf). all_of x.swap) k in
     let n : rounded (entry u c.args.id.key).size ≡ rounded (entry c.list_keys-need.new.self c.args.id.key).size = ap rounded (r.ensures.tables.same c.args.id.key).size in
     (omega (arith, a, m, same_swap_load s u q), omega (arith, b, f.1, n, q.size, same_live_load s u q)))
+
+pub returns-clause-idle : goal.returns-clause-idle
+returns-clause-idle g c = λ none load.
+    (let e = c.list_keys-need.ensures.shelf in
+    c.bring_key-answer.ensures.idle (subst (λ (x : Shelf). NoneTaken x.swap) (sym e) none) (subst (λ (x : Shelf). live_load x ≤ x.places.size) (sym e) load))

@@ -1,4 +1,4 @@
-use Rattle.std.proofs.Common.{◌≡◌, ◌<◌, ◌≤◌, ◌+◌, length, ap, ◌∙◌, None, is_some, arith, rules, true}
+use Rattle.std.proofs.Common.{◌≡◌, ◌<◌, ◌≤◌, ◌+◌, length, ap, sym, subst, ◌∙◌, None, is_some, arith, rules, true}
 use Rattle.o2_place.specs.Layout.{used}
 use Rattle.o2_store.specs.Pictures.{picture}
 use Rattle.o2_store.specs.Needs.{has, all_need}
@@ -7,6 +7,8 @@ use Rattle.o2_store.proofs.Tables.{within_at}
 use Rattle.o2_store.proofs.Keeping.{keeps_later, keeps_trans}
 use Rattle.o2_store.proofs.Collecting.{kept_has, need_exceeds, same_need}
 use Rattle.o2_store.proofs.Leaving.{some_not_none, written_in}
+use Rattle.o2_store.specs.Idle.{NoneTaken}
+use Rattle.o2_store.proofs.Loads.{out_load}
 use Rattle.o2_store.proofs.store.Store.bring_key.Goals as goal
 
 pub returns-in-Here-clause-keeps : goal.returns-in-Here-clause-keeps
@@ -40,6 +42,15 @@ returns-in-Here-clause-written g c =
     let v = c.evict_until-answer in
     written_in c.args.self.now v.new.self c.come_in.new.self v.ensures.evicts.written c.come_in.ensures.entries c.come_in.ensures.others
 
+pub returns-in-Here-clause-idle : goal.returns-in-Here-clause-idle
+returns-in-Here-clause-idle g c = λ none load.
+    (let s = c.args.self.now in
+    let v = c.evict_until-answer in
+    let out : place_of s c.args.key ≡ None = search rules in
+    let l : used s.places.ranges + c.rounded_size-len.result ≤ s.places.size = omega (arith, load, out_load s c.args.key c.law.ensures.shelf c.law.ensures.sum out, c.rounded_size-len.ensures.value) in
+    let i = c.come_in.ensures.idle (subst (λ (x : Shelf). NoneTaken x.swap) (sym (v.ensures.enough l)) none) in
+    record { device = i.device ∙ v.ensures.idle l; none = i.none })
+
 pub returns-in_default : goal.returns-in_default
 returns-in_default g c =
     let S = g.S.SwapDevice in
@@ -63,6 +74,12 @@ returns-in_default g c =
       kept = λ k h i. ap is_some (v.ensures.kept k (kept_has s.keys k h)) ∙ i;
       still = λ q k i. absurd
           (let l : used s.places.ranges + c.rounded_size-len.result ≤ s.places.size = omega (arith, q, c.rounded_size-len.ensures.value) in
+          let e = v.ensures.enough l in
+          let f : used t.places.ranges ≡ used s.places.ranges = ap (λ (x : Shelf). used x.places.ranges) e in
+          let z : t.places.size ≡ s.places.size = ap (λ (x : Shelf). x.places.size) e in
+          omega (arith, l, f, z, v.ensures.short c.in_default.not-Here));
+      idle = λ none load. absurd
+          (let l : used s.places.ranges + c.rounded_size-len.result ≤ s.places.size = omega (arith, load, out_load s key c.law.ensures.shelf c.law.ensures.sum (search rules), c.rounded_size-len.ensures.value) in
           let e = v.ensures.enough l in
           let f : used t.places.ranges ≡ used s.places.ranges = ap (λ (x : Shelf). used x.places.ranges) e in
           let z : t.places.size ≡ s.places.size = ap (λ (x : Shelf). x.places.size) e in

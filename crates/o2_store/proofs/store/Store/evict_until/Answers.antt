@@ -54,5 +54,10 @@ loop-self-preserved g c =
       none = search rules;
       evicts = evicts_trans s t v.new.self i.tables i.evicts v.ensures.evicts;
       enough = λ q. absurd (let e = ap (λ (x : Shelf). used x.places.ranges) (i.enough q) in let f = ap (λ (x : Shelf). x.places.size) (i.enough q) in omega (arith, e, f, q, c.is_short.ensures));
+      untouched = λ q. absurd (let e = ap (λ (x : Shelf). used x.places.ranges) (i.enough q) in let f = ap (λ (x : Shelf). x.places.size) (i.enough q) in omega (arith, e, f, q, c.is_short.ensures));
       faults = omega (arith, i.faults, v.ensures.faults);
     }
+
+pub returns-then-not-matches-clause-idle : goal.returns-then-not-matches-clause-idle
+returns-then-not-matches-clause-idle g c = λ q.
+    absurd (let i = c.loop-self.invariant in let e = ap (λ (x : Shelf). used x.places.ranges) (i.enough q) in let f = ap (λ (x : Shelf). x.places.size) (i.enough q) in omega (arith, e, f, q, c.is_short.ensures))

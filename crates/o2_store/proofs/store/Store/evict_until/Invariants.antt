@@ -20,6 +20,7 @@ invariant-loop-self g l = let S = g.S.SwapDevice in record {
   none : (k : ℕ) → place_of l.initial.self k ≡ None → place_of l.self k ≡ None;
   evicts : Evicts l.initial.self l.self;
   enough : used l.initial.self.places.ranges + l.len ≤ l.initial.self.places.size → l.self ≡ l.initial.self;
+  untouched : used l.initial.self.places.ranges + l.len ≤ l.initial.self.places.size → l.swap ≡ l.initial.swap;
   faults : S.faults l.initial.swap ≤ S.faults l.swap;
 }
 

@@ -4,6 +4,7 @@ use Rattle.o2_entries.specs.declared.Entry.{Entry}
 use Rattle.o2_entries.specs.Tables.{slot_at}
 use Rattle.o2_store.specs.Shelf.{Shelf, entry_or, rounded}
 use Rattle.o2_store.proofs.Tables.{aged_is, within_at, need_is, relocked, IsShelf-remove, removes_is, slot-set_same}
+use Rattle.o2_store.proofs.Idling.{none_given}
 use Rattle.o2_store.proofs.store.Store.remove.Goals as goal
 
 pub overflow_sub-self : goal.overflow_sub-self
@@ -35,3 +36,8 @@ returns-clause-removed c =
     let s : Shelf = record { memory = i.phys; places = i.places; turns = i.clock; swap = i.swap; entries = i.entries; made = i.made; keys = i.keys.items } in
     let h = c.self.invariant.0 in
     λ e. rw (← c.self.view_is, c.remove.ensures) (removes_is s c.take.new.self c.leave.new.self c.give.new.self c.args.id.key h c.take.ensures.taken c.give.ensures.only c.give.ensures.kept)
+
+pub returns-clause-unused : goal.returns-clause-unused
+returns-clause-unused c =
+    let i = c.self.inside in
+    rw (← c.self.view_is) (none_given i.swap c.give.new.self c.args.id.key 0 c.give.ensures.only c.give.ensures.kept)

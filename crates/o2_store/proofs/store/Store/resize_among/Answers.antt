@@ -8,6 +8,7 @@ use Rattle.o2_store.proofs.Loads.{full_load, sized_load, same_swap_load, same_lo
 use Rattle.o2_store.proofs.Tables.{within_at}
 use Rattle.o2_store.proofs.Collecting.{kept_has, need_holds, same_need}
 use Rattle.o2_store.proofs.Grown.{resizes_after}
+use Rattle.o2_store.specs.Idle.{NoneTaken}
 use Rattle.o2_store.proofs.store.Store.resize_among.Goals as goal
 
 pub returns-in-Here-clause-resized : goal.returns-in-Here-clause-resized
@@ -30,6 +31,14 @@ returns-in-Here-clause-in_place g c = λ q.
     let l : used s.places.ranges + c.saturating_sub-growth.result ≤ s.places.size = omega (arith, q, c.saturating_sub-growth.ensures, c.rounded_size.ensures.value, c.law.ensures.room) in
     let e = c.evict_until-answer.ensures.enough l in
     λ k. c.set_size.ensures.in_place (subst (λ (x : Shelf). rounded c.args.size ≤ rounded (entry x c.args.key).size) (sym e) q) k ∙ ap (λ (x : Shelf). start_in x.places k) e)
+
+pub returns-in-Here-clause-idle : goal.returns-in-Here-clause-idle
+returns-in-Here-clause-idle g c = λ none load.
+    (let s = c.args.self.now in
+    let v = c.evict_until-answer in
+    let b = sized_load s c.args.key c.args.size c.law.ensures.shelf c.law.ensures.sum (within_at s.entries c.args.key c.requires.live) in
+    let l : used s.places.ranges + c.saturating_sub-growth.result ≤ s.places.size = omega (arith, b, load, c.saturating_sub-growth.ensures, c.rounded_size.ensures.value, c.law.ensures.room) in
+    record { device = v.ensures.idle l; none = c.set_size.ensures.unused (subst (λ (x : Shelf). NoneTaken x.swap) (sym (v.ensures.enough l)) none) })
 
 pub returns-in_default : goal.returns-in_default
 returns-in_default g c =
@@ -55,6 +64,13 @@ returns-in_default g c =
           let z : t.places.size ≡ s.places.size = ap (λ (x : Shelf). x.places.size) e in
           omega (arith, l, f, z, v.ensures.short c.in_default.not-Here));
       full = λ e. (v.ensures.full e, omega (arith, v.ensures.short c.in_default.not-Here, grow, was, c.law-2.ensures.room));
+      idle = λ none load. absurd
+          (let b = sized_load s key c.args.size c.law.ensures.shelf c.law.ensures.sum (within_at s.entries key c.requires.live) in
+          let l : used s.places.ranges + c.saturating_sub-growth.result ≤ s.places.size = omega (arith, b, load, grow, was, c.law.ensures.room) in
+          let e = v.ensures.enough l in
+          let f : used t.places.ranges ≡ used s.places.ranges = ap (λ (x : Shelf). used x.places.ranges) e in
+          let z : t.places.size ≡ s.places.size = ap (λ (x : Shelf). x.places.size) e in
+          omega (arith, l, f, z, v.ensures.short c.in_default.not-Here));
       loads = λ e.
           (let h = c.law-2.ensures.shelf in
           let l : key < length t.entries = omega (arith, v.ensures.tables.count, within_at s.entries key c.requires.live) in

@@ -1,9 +1,11 @@
-use Rattle.std.proofs.Common.{◌≡◌, ap, arith}
+use Rattle.std.proofs.Common.{◌≡◌, ◌≤◌, ap, sym, subst, arith}
 use Rattle.o2_store.specs.Shelf.{Shelf, entry, rounded}
 use Rattle.o2_store.proofs.Tables.{sized_at, within_at}
 use Rattle.o2_store.proofs.Keeping.{keys_keep, keys_clean}
 use Rattle.o2_store.proofs.Collecting.{need_wanted, need_bound, wanted_change}
 use Rattle.o2_store.proofs.Grown.{keys_resize}
+use Rattle.o2_store.specs.Idle.{NoneTaken}
+use Rattle.o2_store.specs.Loads.{live_load_at}
 use Rattle.o2_store.proofs.store.Store.resize_kept.Goals as goal
 
 pub overflow_add-need : goal.overflow_add-need
@@ -52,3 +54,8 @@ returns-clause-always_no_room g c =
     let z : t.places.size ≡ s.places.size = ap (λ (x : Shelf). x.places.size) e in
     let r : rounded (entry t c.args.key).size ≡ rounded (entry s c.args.key).size = ap (λ (x : Shelf). rounded (entry x c.args.key).size) e in
     λ q. absurd (omega (arith, q, n, w, z, r, c.list_keys.ensures.need, c.from.ensures, c.from-2.ensures, c.rounded_size.ensures.value, c.memory_size.ensures, c.if-memory_size-from.false))
+
+pub returns-clause-idle : goal.returns-clause-idle
+returns-clause-idle g c = λ none load.
+    (let e = c.list_keys.ensures.shelf in
+    c.resize_among.ensures.idle (subst (λ (x : Shelf). NoneTaken x.swap) (sym e) none) (subst (λ (x : Shelf). live_load_at x c.args.key c.args.size ≤ x.places.size) (sym e) load))

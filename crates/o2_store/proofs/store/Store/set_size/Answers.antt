@@ -6,6 +6,7 @@ use Rattle.o2_swapmap.specs.Piles.{blocks_of}
 use Rattle.o2_store.specs.Shelf.{Shelf, locked_need, blocks_for}
 use Rattle.o2_store.proofs.Tables.{within_at, need_is, relocked, slot-set_same, all_small}
 use Rattle.o2_store.proofs.Grown.{at_size, Grows, IsShelf-grown, resizes_is, clean_grown, fit_presence}
+use Rattle.o2_store.proofs.Idling.{none_given}
 use Rattle.o2_store.proofs.store.Store.set_size.Goals as goal
 
 pub overflow_sub-self : goal.overflow_sub-self
@@ -93,3 +94,8 @@ pub returns-clause-presence : goal.returns-clause-presence
 returns-clause-presence c =
     let i = c.self.inside in
     rw (← c.self.view_is) (λ k. fit_presence i.phys i.places c.refit.new.phys c.refit.new.places c.args.key c.in-Some.old.size c.args.size k c.refit.ensures.refits)
+
+pub returns-clause-unused : goal.returns-clause-unused
+returns-clause-unused c =
+    let i = c.self.inside in
+    rw (← c.self.view_is) (none_given i.swap c.give.new.self c.args.key _ c.give.ensures.only c.give.ensures.kept)

@@ -7,15 +7,16 @@ use Rattle.o2_world.specs.Run.{after, is_over}
 use Rattle.o2_run.specs.Turn.{IsStopped, Turns, LineIs}
 use Rattle.o2_run.specs.Faults.{fault_turn}
 use Rattle.o2_run.specs.Stops.{StopsFor, stop_line}
-use Rattle.o2_run.specs.Pieces.{counts, Hands, TurnHands, pieces}
-use Rattle.o2_run.specs.Ended.{HasReached}
+use Rattle.o2_run.specs.Pieces.{Counts, counts, Hands, TurnHands, pieces}
+use Rattle.std.specs.Prelude.{Result, Ok}
+use Rattle.o2_run.specs.Ended.{HasReached, HasTexts}
 use Rattle.o2_run.specs.declared.fault.Fault.{Fault}
 use Rattle.o2_run.specs.declared.fault.Fault.TheVariants.{Sink, Stopped}
 use Rattle.o2_run.specs.declared.steps.Turn.{Turn}
 use Rattle.o2_run.specs.declared.steps.Stop.{Stop}
 use Rattle.o2_run.specs.declared.steps.Stop.TheVariants.{Input, NoRoom, SwapFull, SwapFault}
 use Rattle.o2_run.proofs.Reached.{hands_last, stopped_anyhow}
-use Rattle.o2_cli.specs.Lined.{HasLined, IsPut}
+use Rattle.o2_run.specs.Lined.{HasLined, IsPut}
 
 either : (put : Bool) (A B : Type 0) → IsPut put A B → A ⊎ B
 either true A B h = inl h
@@ -30,7 +31,7 @@ module _ (before_it now : World → Type 0) (swaps : Bool) (blocks : ℕ) (s : S
   put_told k why true fault whole failed gains = λ t x. whole refl t (gains t x)
   put_told k why false fault whole failed gains = failed refl
 
-  lined_stop : (count : ℕ) → count ≡ blocks → (h : HasReached before_it swaps s w i c d r q (counts u v y z ahead)) (why : Stop) (put : Bool) (since : Type 0) → (put ≡ false → since) → IsStopped now count s (after s w h.steps) why put l d e q p
+  lined_stop : (count : ℕ) → count ≡ blocks → (h : HasReached before_it swaps s w i c d r q (counts u v y z ahead)) (why : Stop) (put : Bool) (since : Type 0) → (put ≡ false → since) → IsStopped now swaps count s (after s w h.steps) why put l d e q p
       → Hands (counts v x z o (length (after s w h.steps).lines)) 0 (length (after s w h.steps).lines + 1) → HasLined now swaps blocks s w l c e r p since (counts u x y o ahead) put (Err (Stopped why))
   lined_stop count same h why put since failed stop puts = (
     record {
@@ -38,6 +39,7 @@ module _ (before_it now : World → Type 0) (swaps : Bool) (blocks : ℕ) (s : S
       below = λ j le. runs_to h.steps h.runs stop.runs j (omega (arith, le));
       room = h.room;
       cause = subst (λ (n : ℕ). StopsFor n s (after s w h.steps) why) same stop.cause;
+      fits = stop.fits;
       input = stop.input;
       to_console = λ t x. stop.to_console ∙ h.to_console t x;
       to_report = λ t x. stop.to_report t (h.to_report t x);
@@ -63,3 +65,10 @@ module _ (before_it now : World → Type 0) (swaps : Bool) (blocks : ℕ) (s : S
   lined_by t f is count same h put fault since later line turns puts =
       lined f count same h put fault since later (subst (λ (a : Turn). LineIs put fault a) is line)
       (subst (λ (a : Turn). Turns now swaps count s (after s w h.steps) put l d e q p a) is turns) (subst (λ (a : Turn). TurnHands s (after s w h.steps) (counts v x z o (length (after s w h.steps).lines)) a) is puts)
+
+-- without the fate of its line
+pub texts_of_lined : (f : World → Type 0) (swaps : Bool) (blocks : ℕ) (s : Setting) (w : World) (i c d r q : Option (List ℕ)) (e : Type 0) (n : Counts) (put : Bool) (x : Result (Unit {0}) Fault)
+    → HasLined f swaps blocks s w i c d r q e n put x → HasTexts f swaps blocks s w i c d r q e n x
+texts_of_lined f swaps blocks s w i c d r q e n put (Ok x) h = h
+texts_of_lined f swaps blocks s w i c d r q e n put (Err Sink) h = h
+texts_of_lined f swaps blocks s w i c d r q e n put (Err (Stopped why)) h = (h.0, h.1)
