@@ -1,9 +1,11 @@
 // What an instruction asks of the segments of its process.
-ghost use Rattle.std.specs.Prelude.{◌≡◌, ◌<◌, ◌≤◌, ℕ, true, length, take, drop, IsOk, IfOk};
+ghost use Rattle.std.specs.Prelude.{◌≡◌, ◌<◌, ◌≤◌, ℕ, true, length, take, drop, IsOk, IfOk, IfNone, IfSome};
 ghost use Rattle.o2_isa.specs.declared.instr.Width.TheVariants.{Byte};
+ghost use Rattle.o2_bus.specs.Tens.{ten_of};
 ghost use Rattle.o2_isa.specs.Sizes.{IsSized};
 ghost use Rattle.o2_isa.specs.View.{View, probe_of, is_loadable, bind, read_of, room_of, poke, size_at, rights_at, fetched, SameRoom};
 
+use crate::TenBytes;
 use o2_base::Selector;
 use o2_isa::{Loaded, Purpose, Sreg, Width};
 
@@ -30,6 +32,11 @@ pub trait Bus {
         ensures within { result ≤ 10 }
         ensures bytes { take result into.new ≡ fetched (view self.now) ip }
         ensures rest { drop result into.new ≡ drop result into.old };
+
+    /// The ten bytes that CS has from `ip` on. None exactly where there are fewer.
+    fn ten(&self, ip: u16) -> Option<TenBytes>
+        ensures some { IfSome result (λ t. ten_of t ≡ fetched (view self.now) ip) }
+        ensures none { IfNone result (length (fetched (view self.now) ip) < 10) };
 
     /// The load rules, and then the present test. Accessed bits alone may change, and the view has none.
     fn probe(&mut self, purpose: Purpose, sel: Selector) -> Loaded

@@ -6,6 +6,7 @@ ghost use Rattle.o2_isa.specs.View.{outside, width_len, value_at, put_at};
 use o2_isa::{Sreg, Width};
 
 /// The exception, with its error code, of an access outside the segment in a register: 12 through SS, and 13 through the others.
+#[inline(always)]
 pub fn outside_of(reg: Sreg) -> (u8, u16)
     ensures { result ≡ outside reg }
 {
@@ -18,7 +19,7 @@ pub fn outside_of(reg: Sreg) -> (u8, u16)
 }
 
 /// How many bytes a byte or word has.
-#[inline]
+#[inline(always)]
 pub fn len_of(width: Width) -> u32
     ensures value { result ≡ width_len width }
     ensures small { result ≤ 2 }
@@ -30,7 +31,7 @@ pub fn len_of(width: Width) -> u32
 }
 
 /// The byte or word at a place, low byte first.
-#[inline]
+#[inline(always)]
 pub fn value_in(bytes: &[u8], at: usize, width: Width) -> u16
     requires room { at + width_len width ≤ length bytes.now }
     ensures value { result ≡ value_at bytes.now at width }
@@ -43,7 +44,7 @@ pub fn value_in(bytes: &[u8], at: usize, width: Width) -> u16
 }
 
 /// Puts a byte or word at a place, low byte first.
-#[inline]
+#[inline(always)]
 pub fn put_in(bytes: &mut [u8], at: usize, width: Width, value: u16)
     requires room { at + width_len width ≤ length bytes.old }
     requires fits { width ≡ Width.Byte → value < 256 }

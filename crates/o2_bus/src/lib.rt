@@ -16,6 +16,7 @@ mod plain_ranges;
 mod ranges;
 mod registers;
 mod segment;
+mod ten_bytes;
 
 pub use access::{check_load, check_target, check_unlocked, read, room, store, value};
 pub use bus::{Bus, Caches};
@@ -32,3 +33,4 @@ pub use registers::{
     accumulator, byte_register, offset, segment_register, set_accumulator, set_byte_register,
     set_segment_register, set_word_register, word_register,
 };
+pub use ten_bytes::TenBytes;

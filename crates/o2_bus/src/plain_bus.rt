@@ -9,7 +9,7 @@ ghost use Rattle.o2_bus.specs.Plain.{hold_of, held_in, bus_view, view_in, regist
 use crate::bytes::{first_bytes, len_of, outside_of, put_in, value_in};
 use crate::loading::{LoadTarget, load_by, service, shown};
 use crate::segment::Segment;
-use crate::{Bus, Grant, Plain};
+use crate::{Bus, Grant, Plain, TenBytes};
 use o2_base::Selector;
 use o2_desc::Access;
 use o2_isa::{Cpu, Loaded, Purpose, Sreg, Width};
@@ -196,6 +196,14 @@ impl Bus for PlainBus<'_> {
         match self.holds.cs {
             Some(grant) => first_bytes(self.plain.bytes(grant.name), ip as usize, into),
             None => 0,
+        }
+    }
+
+    #[tactic(auto, unfolding(crate::specs::Plain::bus_view, o2_isa::specs::View::fetched))]
+    fn ten(&self, ip: u16) -> Option<TenBytes> {
+        match self.holds.cs {
+            Some(grant) => TenBytes::at(self.plain.bytes(grant.name), ip),
+            None => None,
         }
     }
 

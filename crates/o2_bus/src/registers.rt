@@ -67,7 +67,7 @@ pub fn set_byte_register(cpu: &mut Cpu, n: u8, value: u16)
 }
 
 /// AL or AX.
-#[inline]
+#[inline(always)]
 #[tactic(auto, unfolding(o2_isa::specs::Registers::reg8))]
 pub fn accumulator(width: Width, cpu: &Cpu) -> u16
     ensures value { result ≡ accumulator_of width cpu.now }
@@ -80,7 +80,7 @@ pub fn accumulator(width: Width, cpu: &Cpu) -> u16
 }
 
 /// Puts an element into AL or AX.
-#[inline]
+#[inline(always)]
 pub fn set_accumulator(width: Width, cpu: &mut Cpu, value: u16)
     requires { IsOfWidth width value }
     ensures { cpu.new ≡ with_accumulator width cpu.old value }

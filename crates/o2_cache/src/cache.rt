@@ -1,11 +1,11 @@
 // Decoded instructions, each kept with the bytes that it was decoded from.
-ghost use Rattle.std.specs.Prelude.{◌≡◌, ◌<◌, ◌≤◌, ◌++◌, length, take};
-ghost use Rattle.std.specs.Int.{to_le_bytes, w16, w64};
+ghost use Rattle.std.specs.Prelude.{◌≡◌, ◌<◌, ◌≤◌, length, take};
 ghost use Rattle.std.proofs.Props.{props};
+ghost use Rattle.o2_bus.specs.Tens.{ten_of};
 ghost use Rattle.o2_isa.specs.Reading.{decoded};
 
-use crate::bytes::{TenBytes, ten_bytes};
 use o2_base::NoMemory;
+use o2_bus::TenBytes;
 use o2_decode::{Decoded, decode};
 use std::alloc::Global;
 
@@ -15,20 +15,19 @@ struct Line {
     bytes: TenBytes,
     count: u8,
     spelled: Decoded,
-    ghost is_decoded: { spelled ≡ decoded (take count (to_le_bytes w64 bytes.first ++ to_le_bytes w16 bytes.last)) } by { Prim.hlevel props },
+    ghost is_decoded: { spelled ≡ decoded (take count (ten_of bytes)) } by { Prim.hlevel props },
 }
 
 /// The line of the first bytes of these, so many.
-#[inline(never)]
-fn line_of(bytes: &[u8; 10], count: usize) -> Line
+fn line_of(bytes: TenBytes, count: u8) -> Line
     requires { count ≤ 10 }
-    ensures bytes { to_le_bytes w64 result.bytes.first ++ to_le_bytes w16 result.bytes.last ≡ bytes.now }
+    ensures bytes { result.bytes ≡ bytes }
     ensures count { result.count ≡ count }
 {
     Line {
-        bytes: ten_bytes(bytes),
-        count: count as u8,
-        spelled: decode(&bytes[..count]),
+        bytes,
+        count,
+        spelled: decode(&bytes.to_bytes()[..count as usize]),
     }
 }
 
@@ -54,27 +53,54 @@ pub struct DecodeCache {
 impl DecodeCache {
     /// A cache, all of whose lines are of ten zeros. It takes no memory later on.
     pub fn new(alloc: Global) -> Result<DecodeCache, NoMemory> {
-        let zeros = line_of(&[0u8; 10], 10);
+        let zeros = line_of(TenBytes { first: 0, last: 0 }, 10);
         let lines = vec![in alloc; zeros; LINES]?;
         Ok(DecodeCache { lines })
     }
 
-    /// What the first bytes of these spell, so many, which stand at an offset of the segment of a selector.
-    #[inline(always)]
-    pub fn decoded(&mut self, selector: u16, ip: u16, bytes: &[u8; 10], count: usize) -> &Decoded
-        requires { count ≤ 10 }
-        ensures { result.now ≡ decoded (take count bytes.now) }
+    /// What the first bytes of these spell, so many. The line at this place has it from now on.
+    // On its own, since a function pays as it begins for the room of a line that it may have to make.
+    #[cold]
+    #[inline(never)]
+    fn filled_anew(&mut self, place: usize, bytes: TenBytes, count: u8) -> &Decoded
+        requires place { place < 4096 }
+        requires count { count ≤ 10 }
+        ensures { result.now ≡ decoded (take count (ten_of bytes)) }
     {
-        let place = place_of(selector, ip);
-        let wanted = ten_bytes(bytes);
-        let line = &self.lines[place];
-        if line.bytes.first == wanted.first
-            && line.bytes.last == wanted.last
-            && line.count as usize == count
-        {
-            return &self.lines[place].spelled;
-        }
         self.lines[place] = line_of(bytes, count);
         &self.lines[place].spelled
+    }
+
+    /// What the first bytes of these spell, so many, which stand at an offset of the segment of a selector.
+    #[inline(always)]
+    #[tactic(auto, unfolding(o2_bus::specs::Tens::ten_of))]
+    fn looked_up(&mut self, selector: u16, ip: u16, bytes: TenBytes, count: u8) -> &Decoded
+        requires { count ≤ 10 }
+        ensures { result.now ≡ decoded (take count (ten_of bytes)) }
+    {
+        let place = place_of(selector, ip);
+        let line = &self.lines[place];
+        if line.bytes.first == bytes.first && line.bytes.last == bytes.last && line.count == count {
+            return &self.lines[place].spelled;
+        }
+        self.filled_anew(place, bytes, count)
+    }
+
+    /// What ten bytes spell, which stand at an offset of the segment of a selector.
+    #[inline(always)]
+    #[tactic(auto, unfolding(o2_bus::specs::Tens::ten_of))]
+    pub fn ten(&mut self, selector: u16, ip: u16, bytes: TenBytes) -> &Decoded
+        ensures { result.now ≡ decoded (ten_of bytes) }
+    {
+        self.looked_up(selector, ip, bytes, 10)
+    }
+
+    /// What the first bytes of these spell, so many, which stand at an offset of the segment of a selector, at its end.
+    #[cold]
+    pub fn fewer(&mut self, selector: u16, ip: u16, bytes: TenBytes, count: u8) -> &Decoded
+        requires { count ≤ 10 }
+        ensures { result.now ≡ decoded (take count (ten_of bytes)) }
+    {
+        self.looked_up(selector, ip, bytes, count)
     }
 }

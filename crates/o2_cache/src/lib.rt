@@ -1,7 +1,6 @@
 //! Instructions that were decoded before, and steps by them.
 #![tactic(auto)]
 
-mod bytes;
 mod cache;
 mod step;
 

@@ -2,62 +2,44 @@
 ghost use Rattle.std.specs.Prelude.{◌≡◌, ℕ, true, false};
 ghost use Rattle.o2_isa.specs.Reading.{decoded};
 ghost use Rattle.o2_isa.specs.View.{Filling, IsBound, KeepsFrame, Agrees, fetched};
-ghost use Rattle.o2_isa.specs.Steps.{run, state};
-ghost use Rattle.o2_isa.specs.Meaning.{meaning};
+ghost use Rattle.o2_isa.specs.Steps.{state};
 ghost use Rattle.o2_isa.specs.Presence.{whole_state, is_in};
 ghost use Rattle.o2_isa.specs.Sizes.{KeepsLengths};
 ghost use Rattle.o2_isa.specs.Writes.{WritesData};
-ghost use Rattle.o2_isa.specs.Step.{Answers, AsBoundless, steps_at, stepped, step_names, is_miss};
+ghost use Rattle.o2_isa.specs.Step.{Answers, AsBoundless, stepped, step_names, is_miss};
 
 use crate::DecodeCache;
-use o2_bus::{Bus, Cpu, Outcome};
-use o2_isa::{Decoded, Group, Instr, instruction_group};
+use o2_bus::{Bus, Cpu, Outcome, TenBytes};
+use o2_core::step_decoded;
+use o2_isa::Decoded;
 
-/// One instruction, by its group.
-#[inline(always)]
-fn execute<B: Bus>(cpu: &mut Cpu, bus: &mut B, i: &Instr, next: u16) -> Outcome
-    ensures { Answers result (state cpu.new (B.view bus.new)) (state cpu.old (B.view bus.old)) (meaning (state cpu.old (B.view bus.old)) i.now next) }
+/// What the bytes at CS:IP spell, where there may be fewer than ten.
+#[cold]
+#[inline(never)]
+fn spelled_at_end<'c, B: Bus>(cpu: &Cpu, bus: &B, cache: &'c mut DecodeCache) -> &'c Decoded
+    ensures { result.now ≡ decoded (fetched (B.view bus.now) cpu.now.ip) }
 {
-    match instruction_group(i.op) {
-        Group::Data => o2_exec_data::execute(cpu, bus, i, next),
-        Group::Flow => o2_exec_flow::execute(cpu, bus, i, next),
-        Group::Strings => o2_exec_string::execute(cpu, bus, i, next),
-    }
+    let mut bytes = [0, 0, 0, 0, 0, 0, 0, 0, 0, 0];
+    let count = bus.fetch(cpu.ip, &mut bytes);
+    cache.fewer(cpu.cs, cpu.ip, TenBytes::of(&bytes), count as u8)
 }
 
-// What was decoded is executed where it stands.
+/// What the bytes at CS:IP spell.
 #[inline(always)]
-#[tactic(auto, unfolding(o2_isa::specs::Meaning::meaning))]
-fn finished<B: Bus>(cpu: &mut Cpu, bus: &mut B, spelled: &Decoded) -> Outcome
-    ensures { Answers result (state cpu.new (B.view bus.new)) (state cpu.old (B.view bus.old)) (run (steps_at cpu.old spelled.now) (B.view bus.old)) }
+fn spelled<'c, B: Bus>(cpu: &Cpu, bus: &B, cache: &'c mut DecodeCache) -> &'c Decoded
+    ensures { result.now ≡ decoded (fetched (B.view bus.now) cpu.now.ip) }
 {
-    match spelled {
-        Decoded::One(i, n) => {
-            let next = cpu.ip.wrapping_add(*n as u16);
-            execute(cpu, bus, i, next)
-        }
-        Decoded::Invalid => Outcome::Trap(6, 0),
-        _ => Outcome::Trap(13, 0),
+    match bus.ten(cpu.ip) {
+        Some(bytes) => cache.ten(cpu.cs, cpu.ip, bytes),
+        None => spelled_at_end(cpu, bus, cache),
     }
-}
-
-// `spelled` is what the bytes at CS:IP spell.
-#[inline(always)]
-#[tactic(auto, unfolding(o2_isa::specs::Step::stepped))]
-fn step_decoded<B: Bus>(cpu: &mut Cpu, bus: &mut B, spelled: &Decoded) -> Outcome
-    requires { spelled.now ≡ decoded (fetched (B.view bus.old) cpu.old.ip) }
-    ensures { Answers result (state cpu.new (B.view bus.new)) (state cpu.old (B.view bus.old)) (stepped (state cpu.old (B.view bus.old))) }
-{
-    finished(cpu, bus, spelled)
 }
 
 #[inline(always)]
 fn one_step<B: Bus>(cpu: &mut Cpu, bus: &mut B, cache: &mut DecodeCache) -> Outcome
     ensures { Answers result (state cpu.new (B.view bus.new)) (state cpu.old (B.view bus.old)) (stepped (state cpu.old (B.view bus.old))) }
 {
-    let mut bytes = [0, 0, 0, 0, 0, 0, 0, 0, 0, 0];
-    let count = bus.fetch(cpu.ip, &mut bytes);
-    let spelled = cache.decoded(cpu.cs, cpu.ip, &bytes, count);
+    let spelled = spelled(cpu, bus, cache);
     step_decoded(cpu, bus, spelled)
 }
 

@@ -1,6 +1,7 @@
 // One step over any bus.
 ghost use Rattle.std.specs.Prelude.{◌≡◌, ◌≤◌, ℕ, true, false, length};
-ghost use Rattle.o2_isa.specs.View.{Filling, IsBound, KeepsFrame, Agrees};
+ghost use Rattle.o2_isa.specs.Reading.{decoded};
+ghost use Rattle.o2_isa.specs.View.{Filling, IsBound, KeepsFrame, Agrees, fetched};
 ghost use Rattle.o2_isa.specs.Steps.{run, state, State};
 ghost use Rattle.o2_isa.specs.Meaning.{meaning};
 ghost use Rattle.o2_isa.specs.Presence.{whole_state, is_in};
@@ -13,6 +14,7 @@ use o2_decode::decode;
 use o2_isa::{Decoded, Group, Instr, instruction_group};
 
 /// One instruction, by its group.
+#[inline(always)]
 fn execute<B: Bus>(cpu: &mut Cpu, bus: &mut B, i: &Instr, next: u16) -> Outcome
     ensures { Answers result (state cpu.new (B.view bus.new)) (state cpu.old (B.view bus.old)) (meaning (state cpu.old (B.view bus.old)) i.now next) }
 {
@@ -26,10 +28,10 @@ fn execute<B: Bus>(cpu: &mut Cpu, bus: &mut B, i: &Instr, next: u16) -> Outcome
 // What was decoded is executed where it stands: a copy would cost as much as the step.
 #[inline(always)]
 #[tactic(auto, unfolding(o2_isa::specs::Meaning::meaning))]
-fn finished<B: Bus>(cpu: &mut Cpu, bus: &mut B, decoded: &Decoded) -> Outcome
-    ensures { Answers result (state cpu.new (B.view bus.new)) (state cpu.old (B.view bus.old)) (run (steps_at cpu.old decoded.now) (B.view bus.old)) }
+fn finished<B: Bus>(cpu: &mut Cpu, bus: &mut B, spelled: &Decoded) -> Outcome
+    ensures { Answers result (state cpu.new (B.view bus.new)) (state cpu.old (B.view bus.old)) (run (steps_at cpu.old spelled.now) (B.view bus.old)) }
 {
-    match decoded {
+    match spelled {
         Decoded::One(i, n) => {
             let next = cpu.ip.wrapping_add(*n as u16);
             execute(cpu, bus, i, next)
@@ -39,15 +41,24 @@ fn finished<B: Bus>(cpu: &mut Cpu, bus: &mut B, decoded: &Decoded) -> Outcome
     }
 }
 
+/// One step whose bytes at CS:IP are decoded already: what they spell, where it stands. Whoever decodes them, the step is the same.
 #[inline(always)]
 #[tactic(auto, unfolding(o2_isa::specs::Step::stepped))]
+pub fn step_decoded<B: Bus>(cpu: &mut Cpu, bus: &mut B, spelled: &Decoded) -> Outcome
+    requires { spelled.now ≡ decoded (fetched (B.view bus.old) cpu.old.ip) }
+    ensures { Answers result (state cpu.new (B.view bus.new)) (state cpu.old (B.view bus.old)) (stepped (state cpu.old (B.view bus.old))) }
+{
+    finished(cpu, bus, spelled)
+}
+
+#[inline(always)]
 fn one_step<B: Bus>(cpu: &mut Cpu, bus: &mut B) -> Outcome
     ensures { Answers result (state cpu.new (B.view bus.new)) (state cpu.old (B.view bus.old)) (stepped (state cpu.old (B.view bus.old))) }
 {
     let mut bytes = [0u8; 10];
     let count = bus.fetch(cpu.ip, &mut bytes);
-    let decoded = decode(&bytes[..count]);
-    finished(cpu, bus, &decoded)
+    let spelled = decode(&bytes[..count]);
+    step_decoded(cpu, bus, &spelled)
 }
 
 /// One instruction, or one repetition of a string instruction.

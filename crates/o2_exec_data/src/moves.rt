@@ -1,7 +1,7 @@
 // MOV, XCHG, XLAT, CBW and CWD.
 ghost use Rattle.std.specs.Prelude.{◌≡◌};
 ghost use Rattle.o2_isa.specs.Steps.{Gives, state, run};
-ghost use Rattle.o2_isa.specs.DataMoves.{mov, mov_sreg, mov_into, exchanging, xchg, xlat, cbw, cwd};
+ghost use Rattle.o2_isa.specs.DataMoves.{mov as mov_steps, mov_sreg, mov_into, exchanging, xchg, xlat, cbw, cwd};
 
 use crate::pointers::load_selector;
 use o2_bus::{Bus, place, read, store, value};
@@ -21,18 +21,29 @@ fn execute_mov_sreg<B: Bus>(
     load_selector(cpu, bus, reg, x, next)
 }
 
+/// MOV but for a segment register's, as one of this width.
+#[inline(always)]
 #[tactic(auto, using(o2_isa::proofs::Runs::run_valued, o2_isa::proofs::Runs::run_storing), unfolding(o2_isa::specs::DataMoves::mov_into))]
-fn execute_mov_into<B: Bus>(cpu: &mut Cpu, bus: &mut B, i: &Instr, next: u16) -> Result<(), Stop>
-    ensures { Gives result (state cpu.new (B.view bus.new)) (state cpu.old (B.view bus.old)) (run (mov_into cpu.old i.now next) (B.view bus.old)) }
+fn mov<B: Bus>(cpu: &mut Cpu, bus: &mut B, width: Width, i: &Instr, next: u16) -> Result<(), Stop>
+    ensures { Gives result (state cpu.new (B.view bus.new)) (state cpu.old (B.view bus.old)) (run (mov_into cpu.old (record i.now { width = width }) next) (B.view bus.old)) }
 {
-    let x = value(cpu, bus, i.width, &i.right)?;
-    store(cpu, bus, i.width, &i.left, x)?;
+    let x = value(cpu, bus, width, &i.right)?;
+    store(cpu, bus, width, &i.left, x)?;
     cpu.ip = next;
     Ok(())
 }
 
+fn execute_mov_into<B: Bus>(cpu: &mut Cpu, bus: &mut B, i: &Instr, next: u16) -> Result<(), Stop>
+    ensures { Gives result (state cpu.new (B.view bus.new)) (state cpu.old (B.view bus.old)) (run (mov_into cpu.old i.now next) (B.view bus.old)) }
+{
+    match i.width {
+        Width::Word => mov(cpu, bus, Width::Word, i, next),
+        Width::Byte => mov(cpu, bus, Width::Byte, i, next),
+    }
+}
+
 pub fn execute_mov<B: Bus>(cpu: &mut Cpu, bus: &mut B, i: &Instr, next: u16) -> Result<(), Stop>
-    ensures { Gives result (state cpu.new (B.view bus.new)) (state cpu.old (B.view bus.old)) (run (mov cpu.old i.now i.now.left next) (B.view bus.old)) }
+    ensures { Gives result (state cpu.new (B.view bus.new)) (state cpu.old (B.view bus.old)) (run (mov_steps cpu.old i.now i.now.left next) (B.view bus.old)) }
 {
     match i.left {
         Arg::S(reg) => execute_mov_sreg(cpu, bus, reg, &i.right, next),

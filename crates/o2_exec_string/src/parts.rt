@@ -6,6 +6,7 @@ use o2_alu::is_set;
 use o2_isa::{Cpu, Flag, Rep, Width};
 
 /// An index one element on: up, or down with DF.
+#[inline(always)]
 #[tactic(auto, unfolding(o2_isa::specs::StringRows::moved))]
 pub fn index_after(flags: u16, width: Width, index: u16) -> u16
     ensures { result ≡ moved flags width index }
@@ -22,6 +23,7 @@ pub fn index_after(flags: u16, width: Width, index: u16) -> u16
 }
 
 /// SI goes on by an element.
+#[inline(always)]
 pub fn move_source(cpu: &mut Cpu, width: Width)
     ensures { cpu.new ≡ source_moved width cpu.old }
 {
@@ -29,6 +31,7 @@ pub fn move_source(cpu: &mut Cpu, width: Width)
 }
 
 /// DI goes on by an element.
+#[inline(always)]
 pub fn move_target(cpu: &mut Cpu, width: Width)
     ensures { cpu.new ≡ target_moved width cpu.old }
 {
@@ -36,6 +39,7 @@ pub fn move_target(cpu: &mut Cpu, width: Width)
 }
 
 /// Whether a comparison with these flags ends the repetition.
+#[inline(always)]
 fn is_ended(rep: Rep, flags: u16) -> bool
     ensures { result ≡ ends_by_zero rep flags }
 {
@@ -46,6 +50,7 @@ fn is_ended(rep: Rep, flags: u16) -> bool
     }
 }
 
+#[inline(always)]
 fn count(cpu: &mut Cpu, ends: bool, next: u16)
     ensures { cpu.new ≡ counted ends cpu.old next }
 {
@@ -57,6 +62,7 @@ fn count(cpu: &mut Cpu, ends: bool, next: u16)
 
 /// After one repetition: with a repeat prefix CX falls by 1, and IP moves on where CX is 0 or a comparison ends it; without
 /// one IP moves on.
+#[inline(always)]
 #[tactic(auto, unfolding(o2_isa::specs::StringRows::repeated))]
 pub fn repeat(cpu: &mut Cpu, rep: Rep, compares: bool, next: u16)
     ensures { cpu.new ≡ repeated rep compares cpu.old next }
@@ -71,6 +77,7 @@ pub fn repeat(cpu: &mut Cpu, rep: Rep, compares: bool, next: u16)
 }
 
 /// Whether a repeat prefix has nothing left to do.
+#[inline(always)]
 pub fn is_over(rep: Rep, cx: u16) -> bool
     ensures { result ≡ is_over_of rep cx }
 {

@@ -1,5 +1,5 @@
 -- The load rules over descriptors are those of the view.
-use Rattle.std.proofs.Common.{◌≡◌, ◌+◌, ◌%◌, refl, sym, ap, ◌∙◌, ℕ, Bool, true, false, cond, ◌==◌, ◌||◌}
+use Rattle.std.proofs.Common.{◌≡◌, ◌+◌, ◌%◌, refl, sym, ap, subst, ◌∙◌, ℕ, Bool, true, false, cond, ◌==◌, ◌||◌}
 use Rattle.std.specs.Prelude.{Option, Some, None, option_map}
 use Rattle.std.specs.Borrow.{GName}
 use Rattle.std.proofs.lemmas.Bool.{false≢true}
@@ -15,12 +15,13 @@ use Rattle.o2_regions.specs.Maps.{Maps}
 use Rattle.o2_store.specs.Shelf.{Shelf}
 use Rattle.o2_segbus.specs.declared.registers.SegmentRegisters.{SegmentRegisters}
 use Rattle.o2_segbus.specs.Settled.{IsSettled}
-use Rattle.o2_segbus.specs.Seen.{AreNamed, hold_in, present_in, seen_with}
-use Rattle.o2_segbus.specs.Bus.{bus_view, IsLoaded}
+use Rattle.o2_segbus.specs.Registers.{IsCodeSize}
+use Rattle.o2_segbus.specs.Seen.{AreNamed, hold_in, present_in, seen_with, size_in, size_under}
+use Rattle.o2_segbus.specs.Bus.{AreInside, AreLoaded, bus_view, IsLoaded}
 use Rattle.o2_bus.specs.Loads.{tested, called_by, rules_of, service_at}
 use Rattle.o2_segbus.specs.Words.{named_descriptor, loaded_descriptor, target_of, rights_by}
 use Rattle.o2_segbus.proofs.Bits.{readable_by, writable_by, code_by, present_by, shown_by}
-use Rattle.o2_segbus.proofs.Holds.{Matches, HasHold, matched, loaded_is}
+use Rattle.o2_segbus.proofs.Holds.{IsPart, part_is, Matches, HasHold, matched, loaded_is}
 
 -- a view that shows what is in memory, and marks nothing discarded
 record Shows (s : Shelf) (v : View) : Type 0 where
@@ -81,6 +82,19 @@ pub size_view : (g t : GName) (s : Shelf) (m : Maps) (pid : ℕ) (x : SegmentReg
     → option_map (λ (y : Descriptor). y.limit + 1) (named_descriptor m pid sel) ≡ size_at (bus_view g t s m pid x) sel
 unfolding size_at bus_view seen_with
 size_view g t s m pid x sel n q = sized s (bus_view g t s m pid x) (named_descriptor m pid sel) (found_in (hold_in m pid) sel) (λ y k e. e.size) (matched s m pid sel n q)
+
+-- the size of the segment in CS, by its hidden part
+pub code_size_view : (g t : GName) (s : Shelf) (m : Maps) (pid : ℕ) (x : SegmentRegisters) (sel size : ℕ) → AreInside s → AreNamed s m → AreLoaded s m pid x → IsCodeSize x sel size
+    → Some size ≡ size_at (bus_view g t s m pid x) sel
+unfolding size_at bus_view seen_with
+code_size_view g t s m pid x sel size i n l c =
+    ap Some c.size ∙ subst (λ (k : ℕ). Some (x.cs.descriptor.limit + 1) ≡ option_map (λ (h : Hold). size_in s h.name) (found_in (hold_in m pid) k)) (sym c.selector)
+    (go (is_null x.cs.selector) (found_in (hold_in m pid) x.cs.selector) (part_is s m pid x.cs i n l.cs))
+  where
+    go : (b : Bool) (o : Option Hold) → IsPart s x.cs.descriptor (cond b None o) → Some (x.cs.descriptor.limit + 1) ≡ option_map (λ (h : Hold). size_in s h.name) o
+    go true o q = absurd (false≢true (subst (λ (a : ℕ). is_present a ≡ true) q c.present))
+    go false None q = absurd (false≢true (subst (λ (a : ℕ). is_present a ≡ true) q c.present))
+    go false (Some h) q = ap Some (q.size ∙ sym (ap (size_under s) q.named))
 
 rights : (s : Shelf) (d : Option Descriptor) (h : Option Hold) (k : Option ℕ) → Matches s d h → rights_by d k ≡ rights_or_gate h k
 rights s None None None q = refl

@@ -1,23 +1,37 @@
 // Accesses to memory through the descriptor in a register.
-ghost use Rattle.std.specs.Prelude.{◌≡◌, ◌+◌, ◌≤◌, ◌<◌, ◌^◌, ℕ, length, take, drop, IfOk, true};
+ghost use Rattle.std.specs.Prelude.{◌≡◌, ◌+◌, ◌≤◌, ◌<◌, ◌^◌, ℕ, length, take, drop, IfNone, IfOk, IfSome, true};
+ghost use Rattle.o2_bus.specs.Tens.{ten_of};
 ghost use Rattle.o2_isa.specs.declared.instr.Width.TheVariants.{Byte};
 ghost use Rattle.o2_isa.specs.View.{is_readable, width_len, put_at, SameRoom};
 ghost use Rattle.o2_phys.specs.Bytes.{part, with_part};
 ghost use Rattle.o2_segbus.specs.Words.{read_by, room_by, bytes_by, IsInside};
 
-use o2_bus::{first_bytes, len_of, outside_of, put_in, value_in};
+use o2_bus::{TenBytes, first_bytes, len_of, outside_of, put_in, value_in};
 use o2_desc::{Access, Descriptor};
 use o2_isa::{Sreg, Width};
 use o2_store::Store;
 
+/// How many bytes a byte or word has behind its first one.
+#[inline(always)]
+fn behind_first(width: Width) -> u32
+    ensures value { result + 1 ≡ width_len width }
+    ensures few { result ≤ 1 }
+{
+    match width {
+        Width::Byte => 0,
+        Width::Word => 1,
+    }
+}
+
 /// Whether a byte or word may be written through a descriptor; if not, the exception and its error code.
+#[inline(always)]
 pub(crate) fn room(d: &Descriptor, reg: Sreg, off: u16, width: Width) -> Result<(), (u8, u16)>
     ensures { SameRoom result (room_by d.now reg off width) }
 {
     if !Access(d.access).is_writable() {
         return Err((13, 0));
     }
-    if off as u32 + len_of(width) <= d.limit as u32 + 1 {
+    if off as u32 + behind_first(width) <= d.limit as u32 {
         Ok(())
     } else {
         Err(outside_of(reg))
@@ -25,6 +39,7 @@ pub(crate) fn room(d: &Descriptor, reg: Sreg, off: u16, width: Width) -> Result<
 }
 
 /// The byte or word at an offset of the segment of a descriptor, or the exception and its error code.
+#[inline(always)]
 pub(crate) fn read(
     memory: &[u8],
     d: &Descriptor,
@@ -39,7 +54,7 @@ pub(crate) fn read(
     if !Access(d.access).is_readable() {
         return Err((13, 0));
     }
-    if off as u32 + len_of(width) <= d.limit as u32 + 1 {
+    if off as u32 + behind_first(width) <= d.limit as u32 {
         Ok(value_in(memory, d.base as usize + off as usize, width))
     } else {
         Err(outside_of(reg))
@@ -61,7 +76,22 @@ pub(crate) fn front(memory: &[u8], d: &Descriptor, ip: u16, into: &mut [u8; 10])
     first_bytes(bytes, ip as usize, into)
 }
 
+/// The ten bytes from an offset on, and none exactly where there are fewer.
+#[inline(always)]
+pub(crate) fn ten(memory: &[u8], d: &Descriptor, ip: u16) -> Option<TenBytes>
+    requires inside { IsInside memory.now d.now }
+    ensures some { IfSome result (λ t. ten_of t ≡ take 10 (drop ip (bytes_by memory.now d.now))) }
+    ensures none { IfNone result (length (take 10 (drop ip (bytes_by memory.now d.now))) < 10) }
+{
+    if !Access(d.access).is_present() {
+        return None;
+    }
+    let bytes = &memory[d.base as usize..d.base as usize + (d.limit as usize + 1)];
+    TenBytes::at(bytes, ip)
+}
+
 /// Writes a byte or word to an address of the memory.
+#[inline(always)]
 pub(crate) fn write(store: &mut Store, at: u32, width: Width, value: u16)
     requires room { at + width_len width ≤ length store.old.memory }
     requires fits { width ≡ Width.Byte → value < 256 }

@@ -4,13 +4,13 @@ ghost use Rattle.o2_isa.specs.declared.instr.Width.TheVariants.{Byte};
 ghost use Rattle.o2_segbus.specs.Bus.{bus_view};
 ghost use Rattle.o2_segbus.specs.Sized.{seg_sized};
 
-use crate::access::{front, read, room, write};
+use crate::access::{front, read, room, ten, write};
 use crate::marking::mark_named;
-use crate::registers::{descriptor_in, with_register};
-use crate::rules::{loaded, named, target};
+use crate::registers::{code_size, descriptor_in, set_register};
+use crate::rules::{loaded, named, size_named, target};
 use crate::{SegBus, SegmentRegister};
 use o2_base::Selector;
-use o2_bus::{Bus, load_by, service, shown};
+use o2_bus::{Bus, TenBytes, load_by, service, shown};
 use o2_desc::Access;
 use o2_isa::{Loaded, Purpose, Sreg, Width};
 
@@ -21,6 +21,11 @@ impl Bus for SegBus<'_, '_> {
 
     fn fetch(&self, ip: u16, into: &mut [u8; 10]) -> usize {
         front(self.store.memory(), &self.registers.cs.descriptor, ip, into)
+    }
+
+    #[inline(always)]
+    fn ten(&self, ip: u16) -> Option<TenBytes> {
+        ten(self.store.memory(), &self.registers.cs.descriptor, ip)
     }
 
     fn probe(&mut self, purpose: Purpose, sel: Selector) -> Loaded {
@@ -36,19 +41,22 @@ impl Bus for SegBus<'_, '_> {
             selector: sel.0,
             descriptor,
         };
-        self.registers = with_register(self.registers, reg, register);
+        set_register(&mut self.registers, reg, register);
     }
 
+    #[inline(always)]
     fn read(&self, reg: Sreg, off: u16, width: Width) -> Result<u16, (u8, u16)> {
         let descriptor = descriptor_in(&self.registers, reg);
-        read(self.store.memory(), &descriptor, reg, off, width)
+        read(self.store.memory(), descriptor, reg, off, width)
     }
 
+    #[inline(always)]
     fn room(&self, reg: Sreg, off: u16, width: Width) -> Result<(), (u8, u16)> {
         let descriptor = descriptor_in(&self.registers, reg);
-        room(&descriptor, reg, off, width)
+        room(descriptor, reg, off, width)
     }
 
+    #[inline(always)]
     fn write(&mut self, reg: Sreg, off: u16, width: Width, value: u16) {
         self.store.law();
         let descriptor = descriptor_in(&self.registers, reg);
@@ -56,9 +64,9 @@ impl Bus for SegBus<'_, '_> {
     }
 
     fn size_of(&self, sel: Selector) -> Option<u32> {
-        match named(self.regions, self.pid, sel.0) {
-            Some(descriptor) => Some(descriptor.limit as u32 + 1),
-            None => None,
+        match code_size(&self.registers, sel.0) {
+            Some(size) => Some(size),
+            None => size_named(self.regions, self.pid, sel.0),
         }
     }
 

@@ -13,6 +13,7 @@ use o2_regions::Regions;
 use o2_store::Store;
 
 /// The segment registers of a processor, with the descriptors that their selectors name.
+#[inline(always)]
 fn registers_for(regions: &Regions, pid: u16, cpu: &Cpu) -> SegmentRegisters
     requires { IsProcess regions.now pid }
     ensures { result ≡ opened_registers regions.now pid cpu.now }
@@ -40,6 +41,7 @@ fn registers_for(regions: &Regions, pid: u16, cpu: &Cpu) -> SegmentRegisters
 impl<'s, 'r> SegBus<'s, 'r> {
     /// The bus of a process whose processor has these registers. The descriptors agree with the store, each held segment is
     /// live, and what the segment registers name is in memory.
+    #[inline(always)]
     pub fn new(
         store: &'s mut Store,
         regions: &'r mut Regions,

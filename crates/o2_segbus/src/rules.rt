@@ -1,5 +1,5 @@
 // Descriptors that selectors name, and what loads ask of them.
-ghost use Rattle.std.specs.Prelude.{◌≡◌, ◌<◌, ◌≤◌, ℕ, option_map};
+ghost use Rattle.std.specs.Prelude.{◌≡◌, ◌+◌, ◌<◌, ◌≤◌, ℕ, option_map};
 ghost use Rattle.o2_regions.specs.Maps.{IsProcess};
 ghost use Rattle.o2_segbus.specs.Words.{named_descriptor, loaded_descriptor, target_of};
 
@@ -21,6 +21,7 @@ pub(crate) fn named(regions: &Regions, pid: u16, sel: u16) -> Option<Descriptor>
 }
 
 /// The hidden part of a register after the load of a selector.
+#[inline(always)]
 pub(crate) fn loaded(regions: &Regions, pid: u16, sel: u16) -> Descriptor
     requires { IsProcess regions.now pid }
     ensures { result ≡ loaded_descriptor regions.now pid sel }
@@ -31,6 +32,17 @@ pub(crate) fn loaded(regions: &Regions, pid: u16, sel: u16) -> Descriptor
     match named(regions, pid, sel) {
         Some(descriptor) => descriptor,
         None => Descriptor::EMPTY,
+    }
+}
+
+/// The size of the segment that a selector names in a process's table.
+pub(crate) fn size_named(regions: &Regions, pid: u16, sel: u16) -> Option<u32>
+    requires { IsProcess regions.now pid }
+    ensures { result ≡ option_map (λ d. d.limit + 1) (named_descriptor regions.now pid sel) }
+{
+    match named(regions, pid, sel) {
+        Some(descriptor) => Some(descriptor.limit as u32 + 1),
+        None => None,
     }
 }
 

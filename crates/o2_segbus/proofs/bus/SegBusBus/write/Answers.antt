@@ -18,7 +18,7 @@ overflow_add-descriptor c =
 
 pub write-requires-clause-room : goal.write-requires-clause-room
 write-requires-clause-room c =
-    write_inside c.args.self.now.store.now c.descriptor_in-descriptor.result _ c.args.off c.args.width
+    write_inside c.args.self.now.store.now c.descriptor_in-descriptor.result.now _ c.args.off c.args.width
     (subst (λ (d : Descriptor). CanWrite c.args.self.now.store.now d (in_register (registers_of c.args.self.now.regions.now c.args.self.now.pid c.args.self.now.registers) c.args.reg) c.args.off c.args.width) (sym c.descriptor_in-descriptor.ensures)
     (room_says c.args.self.now.store.ghost_name c.args.self.now.regions.ghost_name c.args.self.now.store.now c.args.self.now.regions.now
     c.args.self.now.pid c.args.self.now.registers c.args.reg c.args.off c.args.width c.args.self.now.inside c.args.self.now.named
@@ -28,7 +28,7 @@ pub invariant_of-self : goal.invariant_of-self
 invariant_of-self c =
     record {
       process = c.args.self.now.process;
-      inside = subst (λ (s : Shelf). AreInside s) (sym c.write.ensures) (inside_after c.args.self.now.store.now (c.descriptor_in-descriptor.result.base + c.args.off) c.args.width c.args.value c.args.self.now.inside);
+      inside = subst (λ (s : Shelf). AreInside s) (sym c.write.ensures) (inside_after c.args.self.now.store.now (c.descriptor_in-descriptor.result.now.base + c.args.off) c.args.width c.args.value c.args.self.now.inside);
       named = subst (λ (s : Shelf). AreNamed s c.args.self.now.regions.now) (sym c.write.ensures) (named_after c.args.self.now.store.now _ c.args.self.now.regions.now c.args.self.now.named);
       settled = subst (λ (s : Shelf). IsSettled s c.args.self.now.regions.now) (sym c.write.ensures) c.args.self.now.settled;
       loaded = subst (λ (s : Shelf). AreLoaded s c.args.self.now.regions.now c.args.self.now.pid c.args.self.now.registers) (sym c.write.ensures) (loaded_after c.args.self.now.store.now _ c.args.self.now.regions.now c.args.self.now.pid c.args.self.now.registers c.args.self.now.loaded);

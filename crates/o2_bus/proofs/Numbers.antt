@@ -1,5 +1,5 @@
 -- Ten bytes, as the number of the first eight and the number of the last two.
-use Rattle.std.proofs.Common.{◌≡◌, ℕ, zero, suc, ◌<◌, List, [], ◌∷◌, ◌++◌, get_or, refl, arith}
+use Rattle.std.proofs.Common.{◌≡◌, ℕ, zero, suc, ◌<◌, [], ◌∷◌, ◌++◌, get_or, refl, arith}
 use Rattle.std.proofs.lemmas.Nat.{le_bytes_2, le_bytes_8}
 use Rattle.std.specs.Int.{to_le_bytes, from_le_bytes, w16, w64}
 
