@@ -1,5 +1,5 @@
 -- What a step of a process starts from in two worlds in which it is alike.
-use Rattle.std.proofs.Common.{◌≡◌, ◌⊎◌, inl, inr, refl, sym, ◌∙◌, ap, subst, ℕ, ◌+◌, ◌-◌, ◌<◌, ◌≤◌, ◌==◌, ◌&&◌, ◌||◌, Bool, true, false, cond, List, length, arith}
+use Rattle.std.proofs.Common.{◌≡◌, ◌⊎◌, inl, inr, refl, sym, ◌∙◌, ap, subst, ℕ, ◌+◌, ◌-◌, ◌<◌, ◌≤◌, ◌/◌, ◌==◌, ◌&&◌, ◌||◌, Bool, true, false, cond, List, length, arith}
 use Rattle.std.specs.Prelude.{Option, Some, None, option_map, is_some, nat_lt, not, Result, Ok, Err}
 use Rattle.std.specs.List.{list_any}
 use Rattle.o2_isa.specs.declared.cpu.Cpu.{Cpu}
@@ -10,9 +10,13 @@ use Rattle.o2_isa.specs.View.{Hold, in_register, bound_registers, is_writable}
 use Rattle.o2_isa.specs.Steps.{State as Machine, state}
 use Rattle.o2_isa.specs.Step.{stepped}
 use Rattle.o2_world.specs.declared.types.Row.{Row}
-use Rattle.o2_world.specs.declared.types.Row.TheVariants.{DosExit, DosGetPid, DosRead, DosWrite, DosMemAvail, OnSegments, OnShared}
+use Rattle.o2_world.specs.declared.types.Row.TheVariants.{DosExit, DosGetPid, DosRead, DosWrite, DosMemAvail, OnSegments, OnShared, OnRuns}
 use Rattle.o2_world.specs.declared.types.SegmentCall.{SegmentCall}
 use Rattle.o2_world.specs.declared.types.SegmentCall.TheVariants.{DosAllocSeg, DosReallocSeg, DosFreeSeg, DosSizeSeg, DosLockSeg, DosUnlockSeg, DosCreateCsAlias}
+use Rattle.o2_world.specs.declared.types.HugeCall.{HugeCall}
+use Rattle.o2_world.specs.declared.types.HugeCall.TheVariants.{DosAllocHuge, DosReallocHuge, DosGetHugeShift}
+use Rattle.o2_world.specs.Rulings.{held_under, members}
+use Rattle.o2_world.specs.HugeRulings.{is_huge_fault, segments_of}
 use Rattle.o2_world.specs.Map.{get}
 use Rattle.o2_world.specs.World.{World, Setting, Process, Segment, Held}
 use Rattle.o2_world.specs.Sound.{held_of}
@@ -23,11 +27,14 @@ use Rattle.o2_world.specs.CallParts.{Before, argument, has_arguments, may_write}
 use Rattle.o2_world.specs.Run.{before}
 use Rattle.o2_world.proofs.MapLemmas.{if_yes, if_no}
 use Rattle.o2_world.proofs.Numbers.{number_some, at_place_of, not_zero}
-use Rattle.o2_alone.specs.Renaming.{Renaming, renamed_hold, renamed_held, IsIn, IsRenamedView, IsRenamedKnown, IsRenamed, IsRenamedResult, IsAskedAlike, IsRuledAlike, asks_for_room, call_of, called_by, is_full}
-use Rattle.o2_alone.specs.Keeping.{lacks_room, meets}
+use Rattle.o2_alone.specs.Renaming.{Renaming, renamed_hold, renamed_held, IsIn, IsRenamedView, IsRenamedKnown, IsRenamed, IsRenamedResult, IsAskedAlike, IsRunAlike, IsRuledAlike, AreNumberedAlike, asks_for_members_of, asks_for_room, asks_for_run, comes_to_room, is_full_for, new_segments, resized_run, run_segments, call_of, called_by, is_full}
+use Rattle.o2_alone.specs.Keeping.{lacks_members, lacks_room, meets, reaches_shared}
 use Rattle.o2_alone.specs.Isolation.{IsLike}
 use Rattle.o2_alone.proofs.RenamedViews.{bound_renamed, bound_is_in, stepped_renamed}
-use Rattle.o2_alone.proofs.RenamedCalls.{arguments_same, good_same, has_same}
+use Rattle.o2_alone.proofs.RenamedCalls.{Twins, arguments_same, good_same, has_same, other}
+use Rattle.o2_alone.proofs.RenamedRulings.{members_renamed, under_renamed}
+use Rattle.o2_alone.proofs.RenamedRuns.{comes_renamed}
+use Rattle.o2_alone.proofs.OwnReserves.{same_reserved}
 use Rattle.o2_alone.proofs.RenamedSteps.{of_twin, twins_of}
 use Rattle.o2_alone.proofs.Twins.{IsRange}
 
@@ -81,8 +88,7 @@ module _ (f : Renaming) (number : ℕ) (w a : World) (like : IsLike f number w a
     held = λ (i : ℕ). like.held i ∙ by_hold (get like.process.held i) (further_held i);
     segment = λ (i : ℕ) (h : Held) e. ap (λ (n : ℕ). get a.names n) (further_held i h e) ∙ like.segment i h e;
     apart = λ (i j : ℕ) (g h : Held) e k same. like.apart i j g h e k (sym (further_held i g e) ∙ (same ∙ further_held j h k));
-    unreserved = like.unreserved;
-    unreserved_too = like.unreserved_too;
+    reserved = like.reserved;
   }
     where
       by_hold : (o : Option Held) → ((h : Held) → o ≡ Some h → further h.name ≡ f h.name) → option_map (renamed_held f) o ≡ option_map (renamed_held further) o
@@ -148,14 +154,9 @@ from_hold (Some k) h e = record { held = k; there = refl; name = name_of (hold_o
     name_of : (g h : Hold) → Some g ≡ Some h → g.name ≡ h.name
     name_of g h e = cc
 
-or_none : (a b : Bool) → b ≡ false → (a || b) ≡ a
-or_none true b e = refl
-or_none false b e = e
-
-pub taken_own : (v : World) (number i : ℕ) → 0 < number → list_any (reserves number i) v.reserved ≡ false → taken_in v number i ≡ is_some (held_at v.processes number i)
-taken_own v number i some none =
-    or_none (cond (number == 0) (holds_index v.processes i) (is_some (held_at v.processes number i))) (list_any (reserves number i) v.reserved) none
-    ∙ if_no (number == 0) (holds_index v.processes i) (is_some (held_at v.processes number i)) (not_zero number some)
+taken_own : (v : World) (number i : ℕ) → 0 < number → taken_in v number i ≡ (is_some (held_at v.processes number i) || list_any (reserves number i) v.reserved)
+taken_own v number i some =
+    ap (λ (b : Bool). b || list_any (reserves number i) v.reserved) (if_no (number == 0) (holds_index v.processes i) (is_some (held_at v.processes number i)) (not_zero number some))
 
 module _ (s : Setting) (f : Renaming) (number : ℕ) (w a : World) (like : IsLike f number w a) (next : f w.next_name ≡ a.next_name) where
   abbrev p : Process
@@ -226,8 +227,10 @@ module _ (s : Setting) (f : Renaming) (number : ℕ) (w a : World) (like : IsLik
   same_known = record {
     held = same_held;
     segment = λ (h : Held) there. ap (λ (o : Option Segment). option_map marks_of o) (like.segment there.0 h (sym (held_here there.0) ∙ there.1));
-    taken = λ (i : ℕ). taken_own a number i some (like.unreserved_too i)
-        ∙ (ap (λ (o : Option Held). is_some o) (same_held i) ∙ (by_hold (held_at w.processes number i) ∙ sym (taken_own w number i some (like.unreserved i))));
+    taken = λ (i : ℕ). taken_own a number i some
+        ∙ (ap (λ (o : Option Held). is_some o || list_any (reserves number i) a.reserved) (same_held i)
+        ∙ (ap (λ (b : Bool). b || list_any (reserves number i) a.reserved) (by_hold (held_at w.processes number i))
+        ∙ (ap (λ (b : Bool). is_some (held_at w.processes number i) || b) (same_reserved number i w.reserved a.reserved like.reserved) ∙ sym (taken_own w number i some))));
     next = sym next;
     avail = refl;
   }
@@ -265,9 +268,40 @@ second_false : (a b : Bool) → (a && b) ≡ false → a ≡ true → b ≡ fals
 second_false true b e f = e
 second_false false b e f = absurd (cc)
 
-pub asked_alike : (f : Renaming) (b o : Before) → IsRenamed f b o → meets b (call_of b) ≡ false → lacks_room b (call_of b) ≡ false → lacks_room o (call_of o) ≡ false
-    → IsAskedAlike (call_of b) b o
-asked_alike f b o same quiet room room_too = by_row (call_of b) quiet room (subst (λ (row : Option Row). lacks_room o row ≡ false) (call_same f b o same) room_too)
+-- the same of a call on a huge allocation
+asks_run_same : (f : Renaming) (b o : Before) → IsRenamed f b o → asks_for_run o ≡ asks_for_run b
+asks_run_same f b o same = of_twin f b o same (λ (o : Before). asks_for_run o ≡ asks_for_run b)
+    (ap (λ (a : ℕ → ℕ). has_arguments o.view b.cpu 6 && (may_write o.view (a 3) (a 2) 2 && not (is_huge_fault (segments_of (a 5) (a 4)) (a 1) (a 0)))) (arguments_same (twins_of f b o same))
+    ∙ (ap (λ (t : Bool). t && (may_write o.view (c 3) (c 2) 2 && not (is_huge_fault (segments_of (c 5) (c 4)) (c 1) (c 0)))) (has_same (twins_of f b o same) 6)
+    ∙ ap (λ (t : Bool). has_arguments b.view b.cpu 6 && (t && not (is_huge_fault (segments_of (c 5) (c 4)) (c 1) (c 0)))) (good_same (twins_of f b o same) is_writable (c 3) (c 2) 2)))
+  where
+    c : ℕ → ℕ
+    c = argument b.view b.cpu
+
+run_segments_same : (f : Renaming) (b o : Before) → IsRenamed f b o → run_segments o ≡ run_segments b
+run_segments_same f b o same = of_twin f b o same (λ (o : Before). run_segments o ≡ run_segments b) (ap (λ (a : ℕ → ℕ). segments_of (a 5) (a 4)) (arguments_same (twins_of f b o same)))
+
+-- what a DosReallocHuge lacks there is what it lacks here
+lacks_same : (f : Renaming) (b o : Before) → IsRenamed f b o → (h : Held) → resized_run b ≡ Some h → lacks_members o (resized_run o) ≡ (asks_for_members_of b h && is_full_for (new_segments b h) o.known)
+lacks_same f b o same h under = of_twin f b o same (λ (o : Before). lacks_members o (resized_run o) ≡ (asks_for_members_of b h && is_full_for (new_segments b h) o.known))
+    (ap (lacks_members (other t)) (ap (λ (a : ℕ → ℕ). held_under o.known n (a 0)) (arguments_same t) ∙ (under_renamed f n b.known o.known same.known (c 0) ∙ ap (option_map (renamed_held f)) under))
+    ∙ (ap (λ (a : ℕ → ℕ). (has_arguments o.view b.cpu 3 && comes_to_room o.known n (a 0 / 8) (a 2) (a 1) b.cpu (renamed_held f h)) && is_full_for (segments_of (a 2) (a 1) - length (members o.known n (a 0 / 8) (renamed_held f h))) o.known) (arguments_same t)
+    ∙ (ap (λ (u : Bool). (u && comes_to_room o.known n (c 0 / 8) (c 2) (c 1) b.cpu (renamed_held f h)) && is_full_for (segments_of (c 2) (c 1) - length (members o.known n (c 0 / 8) (renamed_held f h))) o.known) (has_same t 3)
+    ∙ (ap (λ (u : Bool). (has_arguments b.view b.cpu 3 && u) && is_full_for (segments_of (c 2) (c 1) - length (members o.known n (c 0 / 8) (renamed_held f h))) o.known) (comes_renamed f n b.known o.known same.known (c 2) (c 1) (c 0 / 8) b.cpu h)
+    ∙ ap (λ (is : List ℕ). (has_arguments b.view b.cpu 3 && comes_to_room b.known n (c 0 / 8) (c 2) (c 1) b.cpu h) && is_full_for (segments_of (c 2) (c 1) - length is) o.known) (members_renamed f n b.known o.known same.known (c 0 / 8) h)))))
+  where
+    t : Twins
+    t = twins_of f b o same
+
+    n : ℕ
+    n = b.number
+
+    c : ℕ → ℕ
+    c = argument b.view b.cpu
+
+pub asked_alike : (f : Renaming) (b o : Before) → IsRenamed f b o → AreNumberedAlike f b.known o.known → meets b (call_of b) ≡ false → lacks_room b (call_of b) ≡ false → lacks_room o (call_of o) ≡ false
+    → IsAskedAlike f (call_of b) b o
+asked_alike f b o same numbered quiet room room_too = by_row (call_of b) quiet room (subst (λ (row : Option Row). lacks_room o row ≡ false) (call_same f b o same) room_too)
   where
     by_call : (call : SegmentCall) → meets b (Some (OnSegments call)) ≡ false → lacks_room b (Some (OnSegments call)) ≡ false → lacks_room o (Some (OnSegments call)) ≡ false → IsRuledAlike call b o
     by_call DosAllocSeg quiet room room_too = record {
@@ -281,7 +315,23 @@ asked_alike f b o same quiet room room_too = by_row (call_of b) quiet room (subs
     by_call DosUnlockSeg quiet room room_too = tt
     by_call DosCreateCsAlias quiet room room_too = tt
 
-    by_row : (row : Option Row) → meets b row ≡ false → lacks_room b row ≡ false → lacks_room o row ≡ false → IsAskedAlike row b o
+    by_run : (call : HugeCall) → meets b (Some (OnRuns call)) ≡ false → lacks_room b (Some (OnRuns call)) ≡ false → lacks_room o (Some (OnRuns call)) ≡ false → IsRunAlike f call b o
+    by_run DosAllocHuge quiet room room_too = record {
+      names = numbered;
+      room = λ asks. ap (λ (m : ℕ). is_full_for m o.known) (sym (run_segments_same f b o same))
+          ∙ (second_false (asks_for_run o) (is_full_for (run_segments o) o.known) room_too (asks_run_same f b o same ∙ asks) ∙ sym (second_false (asks_for_run b) (is_full_for (run_segments b) b.known) room asks));
+      shared = λ others. absurd (let no : true ≡ false = sym others ∙ quiet in cc);
+    }
+    by_run DosReallocHuge quiet room room_too = record {
+      names = numbered;
+      own = λ h under. ap reaches_shared (sym under) ∙ quiet;
+      room = λ h under asks.
+          second_false (asks_for_members_of b h) (is_full_for (new_segments b h) o.known) (sym (lacks_same f b o same h under) ∙ room_too) asks
+          ∙ sym (second_false (asks_for_members_of b h) (is_full_for (new_segments b h) b.known) (ap (lacks_members b) (sym under) ∙ room) asks);
+    }
+    by_run DosGetHugeShift quiet room room_too = tt
+
+    by_row : (row : Option Row) → meets b row ≡ false → lacks_room b row ≡ false → lacks_room o row ≡ false → IsAskedAlike f row b o
     by_row None quiet room room_too = tt
     by_row (Some DosExit) quiet room room_too = tt
     by_row (Some DosGetPid) quiet room room_too = tt
@@ -290,3 +340,4 @@ asked_alike f b o same quiet room room_too = by_row (call_of b) quiet room (subs
     by_row (Some DosMemAvail) quiet room room_too = tt
     by_row (Some (OnSegments call)) quiet room room_too = by_call call quiet room room_too
     by_row (Some (OnShared call)) quiet room room_too = absurd (cc)
+    by_row (Some (OnRuns call)) quiet room room_too = by_run call quiet room room_too

@@ -1,6 +1,6 @@
 -- What any step changes, by names: it sizes and locks what its process holds, and what it makes may change.
-use Rattle.std.proofs.Common.{◌≡◌, refl, ℕ, ◌/◌, ◌==◌, ◌&&◌, ◌||◌, Bool, true, false, cond, List, [], ◌∷◌, ◌++◌}
-use Rattle.std.specs.Prelude.{Option, Some, None, Result, Ok, Err, codes, is_some, nat_le}
+use Rattle.std.proofs.Common.{◌≡◌, ◌⊎◌, refl, ℕ, ◌+◌, ◌-◌, ◌/◌, ◌==◌, ◌&&◌, ◌||◌, Bool, true, false, cond, List, [], ◌∷◌, ◌++◌, length}
+use Rattle.std.specs.Prelude.{Option, Some, None, Result, Ok, Err, codes, drop, is_some, nat_le, nat_lt}
 use Rattle.o2_isa.specs.declared.cpu.Stop.{Stop}
 use Rattle.o2_isa.specs.declared.cpu.Stop.TheVariants as stop
 use Rattle.o2_isa.specs.View.{is_local}
@@ -9,31 +9,36 @@ use Rattle.o2_isa.specs.Step.{stepped}
 use Rattle.o2_world.specs.declared.types.Argument.{Argument}
 use Rattle.o2_world.specs.declared.types.Argument.TheVariants.{Far}
 use Rattle.o2_world.specs.declared.types.Row.{Row}
-use Rattle.o2_world.specs.declared.types.Row.TheVariants.{DosExit, DosGetPid, DosRead, DosWrite, DosMemAvail, OnSegments, OnShared}
+use Rattle.o2_world.specs.declared.types.Row.TheVariants.{DosExit, DosGetPid, DosRead, DosWrite, DosMemAvail, OnSegments, OnShared, OnRuns}
 use Rattle.o2_world.specs.declared.types.SharedCall.{SharedCall}
 use Rattle.o2_world.specs.declared.types.SharedCall.TheVariants.{DosAllocShrSeg, DosGetShrSeg, DosGiveSeg, DosGetSeg}
-use Rattle.o2_world.specs.World.{Held, is_live}
+use Rattle.o2_world.specs.declared.types.HugeCall.{HugeCall}
+use Rattle.o2_world.specs.declared.types.HugeCall.TheVariants.{DosAllocHuge, DosReallocHuge, DosGetHugeShift}
+use Rattle.o2_world.specs.World.{ByCall, Held, is_live}
 use Rattle.o2_world.specs.Changes.{Change, Makes, Resizes, Locks, Marks, Holds, Drops, Finishes, Reserves, Frees, Names}
 use Rattle.o2_world.specs.CallParts.{Before, Effect, argument, has_arguments, may_write}
-use Rattle.o2_world.specs.Rulings.{Ruling, free_index, held_under, is_discardable, is_later, members}
+use Rattle.o2_world.specs.Rulings.{Ruling, free_index, held_by_call, held_under, in_use, is_discardable, is_in_run, is_later, members, refusal}
 use Rattle.o2_world.specs.SegmentCalls.{Written, ruled_at, written_word}
 use Rattle.o2_world.specs.SharedNames.{may_read_text, name_by, text_at}
-use Rattle.o2_world.specs.SharedRulings.{each_more, getting, getting_at, getting_from, giving, giving_of, holder, index_of, lacks_flag, naming, naming_at, one_more, sharing, sharing_at, sharing_from, sharing_of}
+use Rattle.o2_world.specs.SharedRulings.{shared_from, each_more, getting, getting_at, getting_from, giving, giving_of, holder, index_of, lacks_flag, naming, naming_at, one_more, sharing, sharing_at, sharing_from, sharing_of}
 use Rattle.o2_world.specs.SharedCalls.{dos_alloc_shr_seg, dos_get_seg, dos_get_shr_seg, dos_give_seg, give_args, name_args, on_shared}
+use Rattle.o2_world.specs.HugeRulings.{all_bytes, all_hold, bytes_of, dropped_members, flags_in, held_in_run, huge_reallocation_of, is_first, left_in_run, new_members, other_shares, resized_members, run_changes, run_resized, segments_of, sizes_of}
+use Rattle.o2_world.specs.HugeCalls.{dos_realloc_huge, on_runs}
+use Rattle.o2_world.proofs.SegmentMoves.{held_there}
 use Rattle.o2_world.specs.Calls.{row_of, served_by}
 use Rattle.o2_world.specs.Effect.{has_trap_flag, answered, single_stepped, effect}
-use Rattle.o2_alone.proofs.OwnNames.{AreOfOwn, IsOfOwn, IsOwnName, may_change, served_own}
+use Rattle.o2_alone.proofs.OwnNames.{AreOfOwn, IsGoodAlias, IsOfOwn, IsOwnName, RunsMayChange, dropped_own, may_change, members_may, no_alias, on_runs_own, served_own, sizes_own}
 
 abbrev pub IsOfAny : Before → Change → Type 0
 IsOfAny b (Makes s) = s.clean ≡ false
 IsOfAny b (Resizes n size) = IsOwnName b may_change n
 IsOfAny b (Locks n count) = IsOwnName b is_discardable n
 IsOfAny b (Marks n discarded) = ⊥
-IsOfAny b (Holds p i h) = Unit {0}
+IsOfAny b (Holds p i h) = IsGoodAlias b h
 IsOfAny b (Drops p i count) = Unit {0}
 IsOfAny b (Finishes p state) = Unit {0}
-IsOfAny b (Reserves r) = Unit {0}
-IsOfAny b (Frees region first) = Unit {0}
+IsOfAny b (Reserves r) = (r.region ≡ b.number) ⊎ (r.region ≡ 0)
+IsOfAny b (Frees region first) = ⊥
 IsOfAny b (Names text name) = Unit {0}
 
 abbrev pub AreOfAny : Before → List Change → Type 0
@@ -46,11 +51,11 @@ module _ (b : Before) where
   own_one (Resizes n size) own = own
   own_one (Locks n count) own = own
   own_one (Marks n discarded) own = own
-  own_one (Holds p i h) own = tt
+  own_one (Holds p i h) own = own.1.1
   own_one (Drops p i count) own = tt
   own_one (Finishes p state) own = tt
-  own_one (Reserves r) own = tt
-  own_one (Frees region first) own = tt
+  own_one (Reserves r) own = own
+  own_one (Frees region first) own = own
   own_one (Names text name) own = tt
 
   own_any : (cs : List Change) → AreOfOwn b cs → AreOfAny b cs
@@ -65,7 +70,7 @@ module _ (b : Before) where
 
   one_any : (to i : ℕ) (o : Option Held) (cs : List Change) → AreOfAny b cs → AreOfAny b (one_more to i o ++ cs)
   one_any to i None cs rest = rest
-  one_any to i (Some h) cs rest = (tt, rest)
+  one_any to i (Some h) cs rest = (no_alias b (record h { holds = 1; cause = ByCall }) refl, rest)
 
   each_any : (from to : ℕ) (is : List ℕ) → AreOfAny b (each_more b.known from to is)
   each_any from to [] = tt
@@ -78,7 +83,7 @@ module _ (b : Before) where
     where
       at_index : (o : Option ℕ) → AreOfAny b (naming_at b.known b.number size name o).changes
       at_index None = tt
-      at_index (Some i) = (refl, (tt, (tt, tt)))
+      at_index (Some i) = (refl, (no_alias b (held_by_call b.known.next) refl, (tt, tt)))
 
   sharing_any : (o : Option (List ℕ)) → AreOfAny b (sharing b.known b.number o).changes
   sharing_any None = tt
@@ -142,28 +147,80 @@ module _ (b : Before) where
       either (has_arguments b.view b.cpu 4) _ _ (either (may_write b.view (a 1) (a 0) 2) _ _ (ruled_any next 4 (codes "DosGiveSeg") (give_args (a 3) (a 2) (a 1) (a 0)) (written_word (a 1) (a 0) r.value) r (giving_any (a 3 / 8) (a 2) (held_under b.known b.number (a 3)))) tt) tt
   on_shared_any DosGetSeg next = either (has_arguments b.view b.cpu 1) _ _ (getting_any (argument b.view b.cpu 0)) tt
 
+  -- Huge allocations.
+
+  append_any : (xs ys : List Change) → AreOfAny b xs → AreOfAny b ys → AreOfAny b (xs ++ ys)
+  append_any [] ys h k = k
+  append_any (x ∷ xs) ys h k = (h.0, append_any xs ys h.1 k)
+
+  holds_any : (name first count i : ℕ) (ps : List (ℕ × ℕ)) → AreOfAny b (all_hold name first count i ps)
+  holds_any name first count i [] = tt
+  holds_any name first count i (p ∷ ps) = (no_alias b (held_in_run name first count p.1) refl, holds_any name first count i ps)
+
+  new_any : (first count flags : ℕ) (ps : List (ℕ × ℕ)) (is zs : List ℕ) (name : ℕ) → AreOfAny b (new_members name first count flags ps is zs)
+  new_any first count flags ps [] zs name = tt
+  new_any first count flags ps (i ∷ is) [] name = tt
+  new_any first count flags ps (i ∷ is) (z ∷ zs) name =
+      (refl, append_any (all_hold name first count i ps) (new_members (name + 1) first count flags ps is zs) (holds_any name first count i ps) (new_any first count flags ps is zs (name + 1)))
+
+  resized_any : RunsMayChange b → (segs part s : ℕ) (o : Option Held) → held_under b.known b.number s ≡ o → AreOfAny b (huge_reallocation_of b.known b.number (s / 8) segs part b.cpu o).changes
+  resized_any may segs part s None e = tt
+  resized_any may segs part s (Some h) e = first (is_first (s / 8) h) refl
+    where
+      is : List ℕ
+      is = members b.known b.number (s / 8) h
+
+      in_run : (t : Bool) → (t && (h.first == s / 8)) ≡ true → t ≡ true
+      in_run true g = refl
+      in_run false g = g
+
+      granted : is_in_run h ≡ true → AreOfAny b (run_changes b.known b.number h is (sizes_of segs part))
+      granted run =
+          append_any (resized_members b.known b.number is (sizes_of segs part)) _
+          (own_any (resized_members b.known b.number is (sizes_of segs part)) (sizes_own b is (sizes_of segs part) (members_may b may (s / 8) h (held_there b.known b.number s h e) run)))
+          (append_any (new_members b.known.next h.first h.reserved (flags_in (b.known.segment h.name)) ((b.number, h.holds) ∷ other_shares b.known b.number h.first) (left_in_run b.known b.number h) (drop (length is) (sizes_of segs part))) _
+          (new_any h.first h.reserved (flags_in (b.known.segment h.name)) ((b.number, h.holds) ∷ other_shares b.known b.number h.first) (left_in_run b.known b.number h) (drop (length is) (sizes_of segs part)) b.known.next)
+          (own_any (dropped_members b.known b.number (drop (length (sizes_of segs part)) is)) (dropped_own b (drop (length (sizes_of segs part)) is))))
+
+      first : (t : Bool) → is_first (s / 8) h ≡ t → AreOfAny b (cond t (run_resized b.known b.number segs part b.cpu h is) (refusal 5)).changes
+      first false f = tt
+      first true f =
+          rules (segments_of segs part == 0) _ _ tt
+          (rules (nat_lt h.reserved (segments_of segs part)) _ _ tt
+          (rules ((nat_le shared_from h.first && nat_lt (bytes_of segs part) (all_bytes b.known b.number is)) || in_use b.cpu (drop (segments_of segs part) is)) _ _ tt
+          (rules (nat_lt b.known.most (b.known.count + (segments_of segs part - length is)) || nat_lt (length is + length (left_in_run b.known b.number h)) (segments_of segs part)) _ _ tt (granted (in_run (is_in_run h) f)))))
+
+  on_runs_any : RunsMayChange b → (call : HugeCall) (next : ℕ) → AreOfAny b (on_runs call b next).changes
+  unfolding dos_realloc_huge
+  on_runs_any may DosAllocHuge next = own_any (on_runs DosAllocHuge b next).changes (on_runs_own b may DosAllocHuge next tt)
+  on_runs_any may DosReallocHuge next =
+      let a : ℕ → ℕ = argument b.view b.cpu in
+      either (has_arguments b.view b.cpu 3) _ _ (resized_any may (a 2) (a 1) (a 0) (held_under b.known b.number (a 0)) refl) tt
+  on_runs_any may DosGetHugeShift next = own_any (on_runs DosGetHugeShift b next).changes (on_runs_own b may DosGetHugeShift next tt)
+
   unshared : (row : Option Row) (next : ℕ) → AreOfOwn b (served_by row b next).changes → AreOfAny b (served_by row b next).changes
   unshared row next own = own_any (served_by row b next).changes own
 
-  served_any : (row : Option Row) (next : ℕ) → AreOfAny b (served_by row b next).changes
-  served_any None next = unshared None next (served_own b None next tt)
-  served_any (Some DosExit) next = unshared (Some DosExit) next (served_own b (Some DosExit) next tt)
-  served_any (Some DosGetPid) next = unshared (Some DosGetPid) next (served_own b (Some DosGetPid) next tt)
-  served_any (Some DosRead) next = unshared (Some DosRead) next (served_own b (Some DosRead) next tt)
-  served_any (Some DosWrite) next = unshared (Some DosWrite) next (served_own b (Some DosWrite) next tt)
-  served_any (Some DosMemAvail) next = unshared (Some DosMemAvail) next (served_own b (Some DosMemAvail) next tt)
-  served_any (Some (OnSegments call)) next = unshared (Some (OnSegments call)) next (served_own b (Some (OnSegments call)) next tt)
-  served_any (Some (OnShared call)) next = on_shared_any call next
+  served_any : RunsMayChange b → (row : Option Row) (next : ℕ) → AreOfAny b (served_by row b next).changes
+  served_any may None next = unshared None next (served_own b may None next tt)
+  served_any may (Some DosExit) next = unshared (Some DosExit) next (served_own b may (Some DosExit) next tt)
+  served_any may (Some DosGetPid) next = unshared (Some DosGetPid) next (served_own b may (Some DosGetPid) next tt)
+  served_any may (Some DosRead) next = unshared (Some DosRead) next (served_own b may (Some DosRead) next tt)
+  served_any may (Some DosWrite) next = unshared (Some DosWrite) next (served_own b may (Some DosWrite) next tt)
+  served_any may (Some DosMemAvail) next = unshared (Some DosMemAvail) next (served_own b may (Some DosMemAvail) next tt)
+  served_any may (Some (OnSegments call)) next = unshared (Some (OnSegments call)) next (served_own b may (Some (OnSegments call)) next tt)
+  served_any may (Some (OnShared call)) next = on_shared_any call next
+  served_any may (Some (OnRuns call)) next = on_runs_any may call next
 
-  answered_any : (r : Result Machine Stop) → AreOfAny b (answered b r).changes
-  answered_any (Ok s) = tt
-  answered_any (Err (stop.Trap vector code)) = tt
-  answered_any (Err (stop.Gate service next)) = served_any (row_of service) next
-  answered_any (Err (stop.Miss s)) = tt
+  answered_any : RunsMayChange b → (r : Result Machine Stop) → AreOfAny b (answered b r).changes
+  answered_any may (Ok s) = tt
+  answered_any may (Err (stop.Trap vector code)) = tt
+  answered_any may (Err (stop.Gate service next)) = served_any may (row_of service) next
+  answered_any may (Err (stop.Miss s)) = tt
 
   single_any : (e : Effect) → AreOfAny b e.changes → AreOfAny b (single_stepped b e).changes
   single_any e h = either (has_trap_flag b.cpu.flags && is_live e.state) _ e h h
 
-  pub effect_of_any : AreOfAny b (effect b).changes
+  pub effect_of_any : RunsMayChange b → AreOfAny b (effect b).changes
   unfolding effect
-  effect_of_any = single_any (answered b (stepped (state b.cpu b.view))) (answered_any (stepped (state b.cpu b.view)))
+  effect_of_any may = single_any (answered b (stepped (state b.cpu b.view))) (answered_any may (stepped (state b.cpu b.view)))

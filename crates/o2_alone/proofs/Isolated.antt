@@ -29,10 +29,11 @@ use Rattle.o2_world.proofs.Staying.{step_spared}
 use Rattle.o2_alone.specs.Renaming.{Renaming, call_of, renamed_held, IsRenamedEffect}
 use Rattle.o2_alone.specs.Events.{Event, chosen_before, event_by, event_list, event_of, events, events_of, next_before, own_steps}
 use Rattle.o2_alone.specs.Keeping.{HasRoom, IsApart, IsQuiet, IsUngiven, KeepsToItself}
-use Rattle.o2_alone.specs.Isolation.{AreFixed, BeginsAlike, IsAlone, IsIsolated, IsLike, IsSame, held_bytes, nameless}
+use Rattle.o2_alone.specs.Isolation.{AreFixed, AreLoadsApart, BeginsAlike, IsAlone, IsIsolated, IsLike, IsSame, held_bytes, nameless}
 use Rattle.o2_alone.proofs.Alikes.{IsFurther, asked_alike, go_further, same_before}
 use Rattle.o2_alone.proofs.OtherSteps.{fixed_step, other_step}
-use Rattle.o2_alone.proofs.OwnNames.{quiet_unshared}
+use Rattle.o2_alone.proofs.OwnNames.{RunsMayChange, quiet_unshared}
+use Rattle.o2_alone.proofs.LoadsApart.{apart_step, runs_may}
 use Rattle.o2_alone.proofs.OwnSteps.{own_step}
 use Rattle.o2_alone.proofs.RenamedSteps.{effect_renamed}
 
@@ -184,15 +185,19 @@ module _ (s : Setting) (number : ℕ) (v u : World) (alike : BeginsAlike number 
   abbrev q : Process
   q = far.like.twin
 
+  may : (n : ℕ) (r : Process) → RunsMayChange (before s v n r)
+  may n r = runs_may s v n r alike.loads
+
   other_moves : is_over v ≡ false → (r : Process) → process_at v.processes d.current ≡ Some r → (d.current == number) ≡ false → Moved s number v u
   other_moves runs r at other =
       Stays (ap (λ (o : Option Before). events_of number (event_list o)) (next_is s v r runs at) ∙ not_own number (event_of (before s v d.current r)) other) (record {
         names = alike.names;
         like = subst (λ (z : World). IsLike alike.names number z u) (sym (step_is s v r runs at))
-            (other_step s v alike.sound.tied alike.fixed d r at alike.names number u alike.sound_alone.tied alike.like apart away (ungiven (before s v d.current r) (next_is s v r runs at) away));
+            (other_step s v alike.sound.tied alike.fixed d r at (may d.current r) alike.names number u alike.sound_alone.tied alike.like alike.sound.swept.used apart away (ungiven (before s v d.current r) (next_is s v r runs at) away));
         sound = step_sound s v alike.sound;
         sound_alone = alike.sound_alone;
-        fixed = subst (λ (z : World). AreFixed z.names) (sym (step_is s v r runs at)) (fixed_step s v d r alike.fixed);
+        fixed = subst (λ (z : World). AreFixed z.names) (sym (step_is s v r runs at)) (fixed_step s v d r (may d.current r) alike.fixed);
+        loads = subst AreLoadsApart (sym (step_is s v r runs at)) (apart_step s v d r at alike.sound.tied alike.loads);
         is_alone = alike.is_alone;
         budget = let less = step_budget s v r runs at in let most = alike.budget in omega (arith, less, most);
       })
@@ -233,10 +238,13 @@ module _ (s : Setting) (number : ℕ) (v u : World) (alike : BeginsAlike number 
       g : Renaming
       g = far.names
 
+      numbered : (j : ℕ) → u.next_name + j ≡ g (v.next_name + j)
+      numbered j = (let is = far.range.fresh (v.next_name + j) (omega arith) in omega (arith, is))
+
       renamed : IsRenamedEffect g one two (effect one) (effect two)
       renamed =
           let same = same_before s g number v u far.like far.next in
-          effect_renamed g one two same (asked_alike g one two same (quiet one next_one refl) (room one next_one refl) (room_alone (event_of one) one_event two next_two refl))
+          effect_renamed g one two same (asked_alike g one two same numbered (quiet one next_one refl) (room one next_one refl) (room_alone (event_of one) one_event two next_two refl))
 
       two_event : event_list (next_before s u) ≡ event_of one ∷ []
       two_event = ap event_list next_two ∙ ap (λ (x : Event). x ∷ []) (same_event g one two (effect one) (effect two) refl renamed)
@@ -246,10 +254,11 @@ module _ (s : Setting) (number : ℕ) (v u : World) (alike : BeginsAlike number 
         names = g;
         like = subst (λ (z : World). IsLike g number z (step s u)) (sym (step_is s v p runs at))
             (subst (λ (z : World). IsLike g number (changed v d p (effect (before s v d.current p))) z) (sym (step_is s u q next.runs at_alone))
-            (own_step s number v u far alike.sound.tied alike.sound_alone.tied d c current next.current renamed (quiet_unshared one (call_of one) (quiet one next_one refl))));
+            (own_step s number v u far alike.sound.tied alike.sound_alone.tied d c current next.current renamed (quiet_unshared one (call_of one) (quiet one next_one refl)) (may number p)));
         sound = step_sound s v alike.sound;
         sound_alone = step_sound s u alike.sound_alone;
-        fixed = subst (λ (z : World). AreFixed z.names) (sym (step_is s v p runs at)) (fixed_step s v d p alike.fixed);
+        fixed = subst (λ (z : World). AreFixed z.names) (sym (step_is s v p runs at)) (fixed_step s v d p (may d.current p) alike.fixed);
+        loads = subst AreLoadsApart (sym (step_is s v p runs at)) (apart_step s v d p at alike.sound.tied alike.loads);
         is_alone = still_alone s number u q next.runs at_alone next.current alike.is_alone;
         budget = let less = step_budget s v p runs at in let few = step_budget s u q next.runs at_alone in let most = alike.budget in omega (arith, less, few, most);
       }

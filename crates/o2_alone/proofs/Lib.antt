@@ -1,5 +1,8 @@
 pub mod RenamedViews
 pub mod RenamedRulings
+pub mod RenamedRuns
+pub mod OwnReserves
+pub mod LoadsApart
 pub mod RenamedCalls
 pub mod RenamedSteps
 pub mod Unwritten

@@ -1,7 +1,7 @@
 -- The world before the first step of a run, and that of the run of one process alone: the process is alike in both.
-use Rattle.std.proofs.Common.{◌≡◌, ◌≢◌, ◌⊎◌, inl, inr, refl, sym, ◌∙◌, ap, subst, ℕ, zero, suc, ◌+◌, ◌-◌, ◌/◌, ◌<◌, ◌==◌, ◌&&◌, ◌||◌, Bool, true, false, cond, List, [], ◌∷◌, ◌++◌, length, map, arith}
-use Rattle.std.specs.Prelude.{Option, Some, None, option_map, is_some, fold, replicate, slice_get, nat_le, nat_lt, Result, Ok, Err}
-use Rattle.std.specs.List.{All, list_any}
+use Rattle.std.proofs.Common.{◌≡◌, ◌≢◌, ◌⊎◌, inl, inr, refl, sym, ◌∙◌, ap, subst, ℕ, zero, suc, ◌+◌, ◌-◌, ◌/◌, ◌<◌, ◌==◌, Bool, true, false, cond, List, [], ◌∷◌, ◌++◌, length, map, arith}
+use Rattle.std.specs.Prelude.{Option, Some, None, option_map, not, is_some, fold, replicate, slice_get, nat_lt, Result, Ok, Err}
+use Rattle.std.specs.List.{All}
 use Rattle.std.proofs.lemmas.Bool.{eq-eqb, eqb-true}
 use Rattle.std.proofs.lemmas.List.Elements.{All-head, All-tail}
 use Rattle.o2_base.specs.declared.faults.ModuleFault.{ModuleFault}
@@ -11,19 +11,21 @@ use Rattle.o2_desc.specs.Bits.{has_bit}
 use Rattle.o2_isa.specs.declared.cpu.Cpu.{Cpu}
 use Rattle.o2_isa.specs.View.{is_code, is_null, is_readable, is_writable}
 use Rattle.o2_world.specs.Map.{Map, get}
-use Rattle.o2_world.specs.World.{World, Setting, Process, Segment, Held, is_live}
+use Rattle.o2_world.specs.World.{ByLoad, Cause, World, Setting, Process, Segment, Held, is_live}
+use Rattle.o2_world.specs.Opening.{held_by_load}
+use Rattle.o2_world.specs.Rulings.{by_load}
 use Rattle.o2_world.specs.Holders.{is_held}
-use Rattle.o2_world.specs.Known.{lives_at, reserves}
+use Rattle.o2_world.specs.Known.{held_at, lives_at}
 use Rattle.o2_world.specs.Sound.{HasGoodRegisters, NamesHeld, has_rights, held_in, held_of}
 use Rattle.o2_world.specs.Starts.{Loaded, Start, Holding, Built, holdings, nothing_built, segment_of, named, holds_as, name_in, with_holding, with_holdings, first_process, start_check, with_started, within_names, where_checked, started_as, next_started, all_started, for_the_run, world_of, where_started, opening_of}
 use Rattle.o2_world.specs.Tied.{AreLive, AreUsed, IsSound, IsTied}
 use Rattle.o2_world.proofs.Keeps.{held_found, some_is}
 use Rattle.o2_world.proofs.Numbers.{at_place_of, process_is}
 use Rattle.o2_world.proofs.Openings.{opening_sound}
-use Rattle.o2_world.proofs.OpeningSound.{IsFitProgram, all_so_far, apart as starts_apart, free_at_first, opened}
+use Rattle.o2_world.proofs.OpeningSound.{IsFitProgram, Keeps, behind, either_of, all_so_far, apart as starts_apart, free_at_first, opened}
 use Rattle.o2_alone.specs.Renaming.{Renaming, renamed_held}
 use Rattle.o2_alone.specs.Alone.{before_it, ended, opening_alone}
-use Rattle.o2_alone.specs.Isolation.{AreFixed, BeginsAlike, IsLike, IsOver, Isolation}
+use Rattle.o2_alone.specs.Isolation.{AreFixed, AreLoadsApart, own_reserves, BeginsAlike, IsLike, IsOver, Isolation}
 use Rattle.o2_alone.proofs.CommonSegments.{AreFrom, AreKept, IsFrom, below_next, holdings_from, kept_named, old_name}
 use Rattle.o2_alone.proofs.StartsAlike.{Alike, ArePairs, IsNamedIn, all_alike, count_below, count_most}
 use Rattle.o2_alone.proofs.Isolated.{is_isolated}
@@ -404,13 +406,65 @@ opened_fixed s reserved script input starts w e =
     opened (λ (w : World). AreFixed w.names) (λ (b : Built). AreFixed b.names) reserved script s.budget input (fold (next_started s.segments) (Ok nothing_built) starts) w (λ b fixed. fixed)
     (all_so_far (λ (b : Built). AreFixed b.names) (λ (s : Start). Unit {0}) s.segments starts (Ok nothing_built) (λ b s u is q fixed. fixed_all (holdings (length b.processes + 1) s) b fixed) (λ k d low. tt) (λ q z e. absurd (cc))) e
 
--- Reserved indexes before the first step are of the region that all share.
+-- All that is held before the first step is held by load, and in no run.
 
-none_reserved : (number i : ℕ) (rs : List (ℕ × ℕ)) → 0 < number → list_any (reserves number i) (map for_the_run rs) ≡ false
-none_reserved number i [] some = refl
-none_reserved number i (r ∷ rs) some =
-    let other : (0 == number) ≡ false = grind arith in
-    ap (λ (b : Bool). (b && (nat_le r.0 i && nat_lt i (r.0 + r.1))) || list_any (reserves number i) (map for_the_run rs)) other ∙ none_reserved number i rs some
+record AreLoads (b : Built) : Type 0 where
+  held : (place i : ℕ) (h : Held) → held_in b.processes place i ≡ Some h → (h.cause ≡ ByLoad) × (h.reserved ≡ 0)
+  so_far : (i : ℕ) (h : Held) → get b.held i ≡ Some h → (h.cause ≡ ByLoad) × (h.reserved ≡ 0)
+
+load_more : (m : Map Held) (i : ℕ) (x : Held) → x.cause ≡ ByLoad → x.reserved ≡ 0 → ((j : ℕ) (h : Held) → get m j ≡ Some h → (h.cause ≡ ByLoad) × (h.reserved ≡ 0)) → (j : ℕ) (h : Held) → get ((i, x) ∷ m) j ≡ Some h
+    → (h.cause ≡ ByLoad) × (h.reserved ≡ 0)
+load_more m i x load alone old j h e = go (i == j) e
+  where
+    go : (t : Bool) → cond t (Some x) (get m j) ≡ Some h → (h.cause ≡ ByLoad) × (h.reserved ≡ 0)
+    go true f = (let same : x ≡ h = cc in (ap (λ (y : Held). y.cause) (sym same) ∙ load, ap (λ (y : Held). y.reserved) (sym same) ∙ alone))
+    go false f = old j h f
+
+holding_loads : (b : Built) (h : Holding) (o : Option ℕ) → AreLoads b → AreLoads (holds_as b h o)
+holding_loads b h (Some name) x = record { held = x.held; so_far = load_more b.held h.index (held_by_load name h.rights) refl refl x.so_far }
+holding_loads b h None x = record { held = x.held; so_far = load_more b.held h.index (held_by_load b.next_name h.rights) refl refl x.so_far }
+
+holdings_load : (hs : List Holding) (b : Built) → AreLoads b → AreLoads (with_holdings b hs)
+holdings_load [] b x = x
+holdings_load (h ∷ hs) b x = holdings_load hs (with_holding b h) (holding_loads b h (cond h.common (name_in b.made h.place h.number) None) x)
+
+no_hold : (h : Held) → ◌≡◌ {A = Option Held} None (Some h) → ⊥
+no_hold h e = cc
+
+started_loads : Keeps AreLoads (λ (s : Start). Unit {0})
+started_loads b s u checked fit x =
+    let c : Built = with_holdings b (holdings (length b.processes + 1) s) in
+    let y = holdings_load (holdings (length b.processes + 1) s) b x in
+    record { held = λ place i h e. either_of (behind c.processes _ place i h e) (y.held place i h) (y.so_far i h); so_far = λ i h e. absurd (no_hold h e) }
+
+opening_loads : (s : Setting) (reserved : List (ℕ × ℕ)) (script : List Word) (input : List ℕ) (starts : List Start) (w : World)
+    → opening_of s reserved script input starts ≡ Ok w → (place i : ℕ) (h : Held) → held_in w.processes place i ≡ Some h → (h.cause ≡ ByLoad) × (h.reserved ≡ 0)
+unfolding all_started
+opening_loads s reserved script input starts w e =
+    opened (λ (x : World). (place i : ℕ) (h : Held) → held_in x.processes place i ≡ Some h → (h.cause ≡ ByLoad) × (h.reserved ≡ 0)) AreLoads reserved script s.budget input (fold (next_started s.segments) (Ok nothing_built) starts) w (λ b x. x.held)
+    (all_so_far AreLoads (λ (x : Start). Unit {0}) s.segments starts (Ok nothing_built) started_loads (λ k d l. tt) (record { held = λ place i h f. absurd (no_hold h f); so_far = λ i h f. absurd (no_hold h f) })) e
+
+opened_apart : (s : Setting) (reserved : List (ℕ × ℕ)) (script : List Word) (input : List ℕ) (starts : List Start) (w : World) → opening_of s reserved script input starts ≡ Ok w → AreLoadsApart w
+opened_apart s reserved script input starts w e = record {
+  clean = λ n i h there called. absurd (by_cause h.cause (loads n i h there).0 called);
+  runs = λ n i h there run. absurd (no_run h.reserved (loads n i h there).1 run);
+}
+  where
+    to_place : (ps : List Process) (n i : ℕ) (h : Held) → held_at ps n i ≡ Some h → held_in ps (n - 1) i ≡ Some h
+    to_place ps n i h e = go (n == 0) e
+      where
+        go : (b : Bool) → held_of (cond b None (slice_get ps (n - 1))) i ≡ Some h → held_of (slice_get ps (n - 1)) i ≡ Some h
+        go true q = absurd (no_hold h q)
+        go false q = q
+
+    loads : (n i : ℕ) (h : Held) → held_at w.processes n i ≡ Some h → (h.cause ≡ ByLoad) × (h.reserved ≡ 0)
+    loads n i h there = opening_loads s reserved script input starts w e (n - 1) i h (to_place w.processes n i h there)
+
+    by_cause : (c : Cause) → c ≡ ByLoad → by_load c ≡ false → ⊥
+    by_cause c e f = (let no : true ≡ false = sym (ap by_load e) ∙ f in cc)
+
+    no_run : (c : ℕ) → c ≡ 0 → not (c == 0) ≡ true → ⊥
+    no_run c e f = (let z : (c == 0) ≡ true = grind arith in let no : false ≡ true = sym (ap not z) ∙ f in cc)
 
 all_used : (ps : List Process) (rs : List (ℕ × ℕ)) → AreUsed ps (map for_the_run rs)
 all_used ps [] = tt
@@ -488,8 +542,7 @@ isolation modules s reserved script input starts w apart fit of over e number st
       segment = λ (i : ℕ) (h : Held) there.
           st.alike.pairs.segment i h there ∙ (sym (st.settled.same h.name (st.alike.pairs.lives i h there)) ∙ ap (λ (v : World). get v.names h.name) (sym o.is));
       apart = st.alike.pairs.apart;
-      unreserved = λ (i : ℕ). ap (λ (v : World). list_any (reserves number i) v.reserved) o.is ∙ none_reserved number i reserved some;
-      unreserved_too = λ (i : ℕ). none_reserved number i reserved some;
+      reserved = sym (ap (λ (v : World). own_reserves number v.reserved) o.is);
     }
 
     sound : IsSound w
@@ -515,6 +568,7 @@ isolation modules s reserved script input starts w apart fit of over e number st
       sound = sound;
       sound_alone = sound_too st.alike.names number w alone like sound refl only;
       fixed = opened_fixed s reserved script input starts w e;
+      loads = opened_apart s reserved script input starts w e;
       is_alone = record { script = refl; others = λ place other. dead place other (slice_get alone.processes place) refl };
       budget = let same = ap (λ (v : World). v.dispatch.budget) o.is in omega (arith, same);
     }

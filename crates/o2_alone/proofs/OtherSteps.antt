@@ -9,12 +9,12 @@ use Rattle.o2_isa.specs.declared.instr.Sreg.{Sreg}
 use Rattle.o2_isa.specs.declared.instr.Sreg.TheVariants.{Es, Cs, Ss, Ds}
 use Rattle.o2_isa.specs.View.{Hold, in_register}
 use Rattle.o2_world.specs.Map.{Map, at_key, get}
-use Rattle.o2_world.specs.World.{World, Setting, Process, Segment, Held, Reserve, is_live}
+use Rattle.o2_world.specs.World.{World, Setting, Process, Segment, Held, is_live}
 use Rattle.o2_world.specs.Holders.{is_held, process_at}
 use Rattle.o2_world.specs.Sound.{held_in, held_of}
-use Rattle.o2_world.specs.Tied.{IsTied}
+use Rattle.o2_world.specs.Tied.{AreUsed, IsTied}
 use Rattle.o2_world.specs.Views.{hold_of, holds_in, segment_bytes, with_bytes}
-use Rattle.o2_world.specs.Known.{Marks as SegmentMarks, held_at, marks_of, reserves}
+use Rattle.o2_world.specs.Known.{Marks as SegmentMarks, held_at, marks_of}
 use Rattle.o2_world.specs.CallParts.{Before, Effect}
 use Rattle.o2_world.specs.Rulings.{is_discardable}
 use Rattle.o2_world.specs.Changes.{Change, Makes, Resizes, Locks, Marks, Holds, Drops, Finishes, Reserves, Frees, Names, resized, swept, takes, with_change, with_changes}
@@ -27,17 +27,17 @@ use Rattle.o2_world.proofs.Numbers.{number_some, at_place_of, process_is}
 use Rattle.o2_world.proofs.OwnChanges.{LeavePlace, all_leave, all_other}
 use Rattle.o2_world.proofs.Reached.{get-put}
 use Rattle.o2_world.proofs.Sparing.{moves_spare, spare_place}
-use Rattle.o2_world.proofs.Staying.{step_reserved}
 use Rattle.o2_world.proofs.StepMoves.{effect_moves}
 use Rattle.o2_alone.specs.Renaming.{Renaming, IsIn}
 use Rattle.o2_alone.specs.Keeping.{IsApart, IsOfNoOther, is_clean}
-use Rattle.o2_alone.specs.Isolation.{AreFixed, IsLike}
+use Rattle.o2_alone.specs.Isolation.{AreFixed, IsLike, own_reserves}
 use Rattle.o2_alone.proofs.RenamedViews.{bound_is_in}
 use Rattle.o2_alone.proofs.Unwritten.{IsUnwritten, effect_keeps}
-use Rattle.o2_alone.proofs.OwnNames.{IsOwnName, may_change}
+use Rattle.o2_alone.proofs.OwnNames.{IsOwnName, RunsMayChange, may_change}
 use Rattle.o2_alone.proofs.AnyNames.{AreOfAny, IsOfAny, effect_of_any}
 use Rattle.o2_alone.proofs.Alikes.{lives_here, low_here}
-use Rattle.o2_alone.proofs.OwnSteps.{kept_here, unreserved_behind}
+use Rattle.o2_alone.proofs.OwnSteps.{kept_here}
+use Rattle.o2_alone.proofs.OwnReserves.{stays_left}
 
 -- Segments that never change aren't discardable.
 
@@ -98,14 +98,55 @@ fixed_swept : (b : Bool) (v : World) → AreFixed v.names → AreFixed (cond b (
 fixed_swept true v fixed q = subst IsFixed (sym (get-filter (is_held v.processes) v.names q)) (fixed_pick (is_held v.processes q) (get v.names q) None (fixed q) (λ z e. absurd (cc)))
 fixed_swept false v fixed q = fixed q
 
-pub fixed_step : (s : Setting) (w : World) (d : Dispatch) (p : Process) → AreFixed w.names → AreFixed (changed w d p (effect (before s w d.current p))).names
+pub fixed_step : (s : Setting) (w : World) (d : Dispatch) (p : Process) → RunsMayChange (before s w d.current p) → AreFixed w.names → AreFixed (changed w d p (effect (before s w d.current p))).names
 unfolding changed
-fixed_step s w d p fixed =
+fixed_step s w d p may fixed =
     let b = before s w d.current p in
     let e = effect b in
     fixed_swept (list_any takes (all_changes d.current e)) (with_changes (worked w d p e) (all_changes d.current e))
-    (fixed_end b d.current e (worked w d p e) (effect_of_any b)
+    (fixed_end b d.current e (worked w d p e) (effect_of_any b may)
     (λ (q : ℕ). subst IsFixed (sym (get-map (λ (k : ℕ) (z : Segment). record z { bytes = e.bytes k }) w.names q)) (fixed_map (λ (z : Segment). record z { bytes = e.bytes q }) (get w.names q) (λ x. refl) (λ x. refl) (fixed q))))
+
+-- Changes of others leave what is reserved of a process's own region.
+
+own_one : (b : Before) (number : ℕ) (c : Change) (v : World) → 0 < number → b.number ≢ number → IsOfAny b c → own_reserves number (with_change v c).reserved ≡ own_reserves number v.reserved
+own_one b number (Makes s) v some other own = refl
+own_one b number (Resizes n size) v some other own = refl
+own_one b number (Locks n count) v some other own = refl
+own_one b number (Marks n discarded) v some other own = refl
+own_one b number (Holds p i h) v some other own = refl
+own_one b number (Drops p i count) v some other own = refl
+own_one b number (Finishes p state) v some other own = refl
+own_one b number (Reserves r) v some other own = ap (λ (t : Bool). cond t (r ∷ own_reserves number v.reserved) (own_reserves number v.reserved)) (of_other own)
+  where
+    of_other : (r.region ≡ b.number) ⊎ (r.region ≡ 0) → (r.region == number) ≡ false
+    of_other (inl is) = go (r.region == number) refl
+      where
+        go : (t : Bool) → (r.region == number) ≡ t → (r.region == number) ≡ false
+        go false e = e
+        go true e = absurd (other (sym is ∙ eqb-true r.region number e))
+    of_other (inr is) = zero_other r.region number is some
+      where
+        zero_other : (m n : ℕ) → m ≡ 0 → 0 < n → (m == n) ≡ false
+        zero_other m n e l = grind arith
+own_one b number (Frees region at) v some other own = absurd own
+own_one b number (Names text name) v some other own = refl
+
+own_end : (b : Before) (number : ℕ) (e : Effect) (v : World) → 0 < number → b.number ≢ number → AreOfAny b e.changes → own_reserves number (with_changes v (all_changes b.number e)).reserved ≡ own_reserves number v.reserved
+unfolding with_changes
+own_end b number e v some other own = go (is_live e.state)
+  where
+    all : (cs : List Change) (v : World) → AreOfAny b cs → own_reserves number (with_changes v cs).reserved ≡ own_reserves number v.reserved
+    all [] v own = refl
+    all (c ∷ cs) v own = all cs (with_change v c) own.1 ∙ own_one b number c v some other own.0
+
+    more : (cs : List Change) (v : World) → AreOfAny b cs → own_reserves number (with_changes v (cs ++ Finishes b.number e.state ∷ [])).reserved ≡ own_reserves number v.reserved
+    more [] v own = refl
+    more (c ∷ cs) v own = more cs (with_change v c) own.1 ∙ own_one b number c v some other own.0
+
+    go : (t : Bool) → own_reserves number (with_changes v (cond t e.changes (e.changes ++ Finishes b.number e.state ∷ []))).reserved ≡ own_reserves number v.reserved
+    go true = all e.changes v own
+    go false = more e.changes v own
 
 -- Changes that leave a name alone.
 
@@ -187,7 +228,7 @@ not_clean true e f = cc
 not_clean false e f = cc
 
 -- A step of another process.
-module _ (s : Setting) (w : World) (tied : IsTied w) (fixed : AreFixed w.names) (d : Dispatch) (r : Process) (at : process_at w.processes d.current ≡ Some r) where
+module _ (s : Setting) (w : World) (tied : IsTied w) (fixed : AreFixed w.names) (d : Dispatch) (r : Process) (at : process_at w.processes d.current ≡ Some r) (may : RunsMayChange (before s w d.current r)) where
   abbrev b : Before
   b = before s w d.current r
 
@@ -266,7 +307,7 @@ module _ (s : Setting) (w : World) (tied : IsTied w) (fixed : AreFixed w.names) 
         ∙ (ap (λ (bs : List ℕ). Some (record x { bytes = bs })) same_bytes ∙ sym there))
 
     changed_same : get v.names n ≡ get w.names n
-    changed_same = leaves_all n (all_changes d.current e) (worked w d r e) low (leaves_end n d.current e (leaves e.changes (effect_of_any b))) ∙ worked_same
+    changed_same = leaves_all n (all_changes d.current e) (worked w d r e) low (leaves_end n d.current e (leaves e.changes (effect_of_any b may))) ∙ worked_same
 
   other_process : (number : ℕ) → 0 < number → d.current ≢ number → list_any (gives number) e.changes ≡ false → process_at v.processes number ≡ process_at w.processes number
   other_process number some other none =
@@ -289,9 +330,9 @@ module _ (s : Setting) (w : World) (tied : IsTied w) (fixed : AreFixed w.names) 
       leave = all_leave (number - 1) d.current e
           (spare_place d.current (number - 1) e.changes past (moves_spare b e.cpu e.changes (effect_moves b)) (ap (λ (n : ℕ). list_any (gives n) e.changes) back ∙ none)) past
 
-  pub other_step : (f : Renaming) (number : ℕ) (a : World) → IsTied a → (like : IsLike f number w a) → IsApart w number → d.current ≢ number → list_any (gives number) e.changes ≡ false → IsLike f number (changed w d r e) a
+  pub other_step : (f : Renaming) (number : ℕ) (a : World) → IsTied a → (like : IsLike f number w a) → AreUsed w.processes w.reserved → IsApart w number → d.current ≢ number → list_any (gives number) e.changes ≡ false → IsLike f number (changed w d r e) a
   unfolding changed
-  other_step f number a tied_alone like apart other none = record {
+  other_step f number a tied_alone like used apart other none = record {
     process = like.process;
     twin = like.twin;
     there = by_sweep (list_any takes (all_changes d.current e)) ∙ stays;
@@ -301,13 +342,22 @@ module _ (s : Setting) (w : World) (tied : IsTied w) (fixed : AreFixed w.names) 
     held = like.held;
     segment = λ (i : ℕ) (h : Held) is. like.segment i h is ∙ sym (kept_here (list_any takes (all_changes d.current e)) v number like.process i h stays is ∙ same i h is);
     apart = like.apart;
-    unreserved = λ (i : ℕ). unreserved_behind (list_any takes (all_changes d.current e)) (reserves number i) v
-        (ap (λ (rs : List Reserve). list_any (reserves number i) rs) (step_reserved s w d d.current r) ∙ like.unreserved i);
-    unreserved_too = like.unreserved_too;
+    reserved = sym (left (list_any takes (all_changes d.current e)));
   }
     where
+      some : 0 < number
+      some = number_some w.processes number like.process like.there
+
       stays : process_at v.processes number ≡ Some like.process
       stays = other_process number (number_some w.processes number like.process like.there) other none ∙ like.there
+
+      -- of its region nothing comes
+      left_all : own_reserves number v.reserved ≡ own_reserves number w.reserved
+      left_all = own_end b number e (worked w d r e) some other (effect_of_any b may)
+
+      left : (t : Bool) → own_reserves number (cond t (swept v) v).reserved ≡ own_reserves number a.reserved
+      left true = stays_left number w.processes v.processes like.process w.reserved v.reserved some like.there stays used left_all ∙ sym like.reserved
+      left false = left_all ∙ sym like.reserved
 
       by_sweep : (t : Bool) → process_at (cond t (swept v) v).processes number ≡ process_at v.processes number
       by_sweep true = refl

@@ -1,6 +1,6 @@
 -- What a step that shares no segment changes, by names: each is one that its process holds, or the next one.
-use Rattle.std.proofs.Common.{◌≡◌, ◌⊎◌, inl, inr, refl, sym, subst, ℕ, ◌/◌, ◌==◌, ◌&&◌, ◌||◌, Bool, true, false, cond, List, [], ◌∷◌}
-use Rattle.std.specs.Prelude.{Option, Some, None, Result, Ok, Err, not, map, nat_le, nat_lt, codes}
+use Rattle.std.proofs.Common.{◌≡◌, ◌⊎◌, inl, inr, refl, sym, ◌∙◌, subst, ℕ, zero, suc, ◌+◌, ◌-◌, ◌<◌, ◌≤◌, ◌/◌, ◌==◌, ◌&&◌, ◌||◌, Bool, true, false, cond, List, [], ◌∷◌, ◌++◌, filter, length, arith}
+use Rattle.std.specs.Prelude.{Option, Some, None, Result, Ok, Err, not, map, max, drop, is_some, nat_le, nat_lt, codes}
 use Rattle.o2_desc.specs.Bits.{is_writable}
 use Rattle.o2_isa.specs.declared.cpu.Stop.{Stop}
 use Rattle.o2_isa.specs.declared.cpu.Stop.TheVariants as stop
@@ -9,21 +9,48 @@ use Rattle.o2_isa.specs.Step.{stepped}
 use Rattle.o2_world.specs.declared.types.Argument.{Argument}
 use Rattle.o2_world.specs.declared.types.Argument.TheVariants.{Word, Far}
 use Rattle.o2_world.specs.declared.types.Row.{Row}
-use Rattle.o2_world.specs.declared.types.Row.TheVariants.{DosExit, DosGetPid, DosRead, DosWrite, DosMemAvail, OnSegments, OnShared}
+use Rattle.o2_world.specs.declared.types.Row.TheVariants.{DosExit, DosGetPid, DosRead, DosWrite, DosMemAvail, OnSegments, OnShared, OnRuns}
 use Rattle.o2_world.specs.declared.types.SegmentCall.{SegmentCall}
 use Rattle.o2_world.specs.declared.types.SegmentCall.TheVariants.{DosAllocSeg, DosReallocSeg, DosFreeSeg, DosSizeSeg, DosLockSeg, DosUnlockSeg, DosCreateCsAlias}
-use Rattle.o2_world.specs.World.{Held, is_live}
+use Rattle.o2_world.specs.declared.types.HugeCall.{HugeCall}
+use Rattle.o2_world.specs.declared.types.HugeCall.TheVariants.{DosAllocHuge, DosReallocHuge, DosGetHugeShift}
+use Rattle.o2_world.specs.World.{ByAlias, ByCall, Cause, Held, is_live}
 use Rattle.o2_world.specs.Changes.{Change, Makes, Resizes, Locks, Marks, Holds, Drops, Finishes, Reserves, Frees, Names}
 use Rattle.o2_world.specs.Known.{Marks as SegmentMarks}
 use Rattle.o2_world.specs.CallParts.{Before, Effect, argument, has_arguments, may_write}
-use Rattle.o2_world.specs.Rulings.{Ruling, refusal, held_under, free_index, allocation, allocation_at, region_by, is_alias, is_in_run, full_size, reallocation_of, reallocation_with, keeps_its_size, members, is_later, in_use, by_load, freeing_of, sizing, sizing_of, sizing_with, is_discardable, locking_of, locking_with, unlocking_of, unlocking_with, aliasing, aliasing_of, aliasing_at}
+use Rattle.o2_world.specs.Rulings.{Ruling, refusal, held_under, free_index, allocation, allocation_at, held_by_call, region_by, is_alias, is_in_run, full_size, reallocation_of, reallocation_with, keeps_its_size, members, indexes, is_later, in_use, by_load, freeing_of, sizing, sizing_of, sizing_with, is_discardable, locking_of, locking_with, unlocking_of, unlocking_with, aliasing, aliasing_of, aliasing_at}
 use Rattle.o2_world.specs.SegmentCalls.{ruled_at, Written, written_word, written_long, alloc_args, dos_alloc_seg, dos_realloc_seg, dos_free_seg, dos_size_seg, dos_lock_seg, dos_unlock_seg, dos_create_cs_alias, on_segments}
 use Rattle.o2_world.specs.Calls.{dos_exit, dos_get_pid, dos_mem_avail, dos_read, dos_write, served_by, row_of}
 use Rattle.o2_world.specs.Effect.{has_trap_flag, answered, single_stepped, effect}
 use Rattle.o2_world.proofs.Quiet.{exit_quiet, read_quiet, told_quiet, write_quiet}
-use Rattle.o2_world.proofs.SegmentMoves.{held_there}
-use Rattle.o2_alone.specs.Renaming.{call_of, called_by}
-use Rattle.o2_alone.specs.Keeping.{meets}
+use Rattle.o2_world.specs.SharedRulings.{marks_under, shared_from}
+use Rattle.o2_world.specs.HugeRulings.{all_bytes, all_dropped, bytes_of, dropped_members, flags_in, free_run, held_in_run, huge_allocation, huge_at, huge_reallocation_of, huge_shift, is_first, is_huge_fault, left_in_run, new_members, other_shares, resized_members, resized_one, run_changes, run_resized, segments_of, sizes_of}
+use Rattle.o2_world.specs.HugeCalls.{dos_alloc_huge, dos_get_huge_shift, dos_realloc_huge, huge_args, on_runs}
+use Rattle.o2_world.specs.Moves.{Each}
+use Rattle.o2_world.proofs.SegmentMoves.{held_there, indexes_from, region_is}
+use Rattle.o2_alone.proofs.RenamedRuns.{no_other}
+use Rattle.o2_alone.specs.Renaming.{call_of, called_by, resized_run}
+use Rattle.o2_alone.specs.Keeping.{meets, reaches_shared}
+
+pub indexes_to : (first n : ℕ) → Each (λ (j : ℕ). j < first + n) (indexes first n)
+indexes_to first zero = tt
+indexes_to first (suc n) = (omega arith, weaker (indexes (first + 1) n) (indexes_to (first + 1) n))
+  where
+    weaker : (is : List ℕ) → Each (λ (j : ℕ). j < first + 1 + n) is → Each (λ (j : ℕ). j < first + suc n) is
+    weaker [] all = tt
+    weaker (i ∷ is) all = (let l = all.0 in omega (arith, l), weaker is all.1)
+
+pub both_each : (P Q R : ℕ → Type 0) → ((j : ℕ) → P j → Q j → R j) → (is : List ℕ) → Each P is → Each Q is → Each R is
+both_each P Q R f [] p q = tt
+both_each P Q R f (i ∷ is) p q = (f i p.0 q.0, both_each P Q R f is p.1 q.1)
+
+pub each_kept : (P : ℕ → Type 0) (g : ℕ → Bool) (is : List ℕ) → Each P is → Each P (filter g is)
+each_kept P g [] all = tt
+each_kept P g (i ∷ is) all = go (g i) (each_kept P g is all.1)
+  where
+    go : (t : Bool) → Each P (filter g is) → Each P (cond t (i ∷ filter g is) (filter g is))
+    go true rest = (all.0, rest)
+    go false rest = rest
 
 -- a name that the process holds, of a segment with such marks
 pub record IsOwnName (b : Before) (ok : SegmentMarks → Bool) (n : ℕ) : Type 0 where
@@ -40,15 +67,41 @@ may_change m = not m.clean
 
 -- Segments that may change get other sizes, and those that are discardable other lock counts. The process holds more of what it holds, or
 -- of what it makes.
+-- a segment that the process holds as data that can be written
+pub record IsWritableName (b : Before) (n : ℕ) : Type 0 where
+  pub index : ℕ
+  pub hold : Held
+  pub there : b.known.held b.number index ≡ Some hold
+  pub named : hold.name ≡ n
+  pub writable : is_writable hold.rights ≡ true
+
+-- only that gets an alias
+abbrev pub IsGoodAlias : Before → Held → Type 0
+IsGoodAlias b h = h.cause ≡ ByAlias → IsWritableName b h.name
+
+called_alias : (c : Cause) → c ≡ ByCall → c ≡ ByAlias → ⊥
+called_alias c e f = no (sym e ∙ f)
+  where
+    no : ◌≡◌ {A = Cause} ByCall ByAlias → ⊥
+    no e = cc
+
+pub no_alias : (b : Before) (h : Held) → h.cause ≡ ByCall → IsGoodAlias b h
+no_alias b h e f = absurd (called_alias h.cause e f)
+
+-- what the process holds in the stretch of a run may change
+abbrev pub RunsMayChange : Before → Type 0
+RunsMayChange b = (i j : ℕ) (h g : Held) (m : SegmentMarks) → b.known.held b.number i ≡ Some h → is_in_run h ≡ true → h.first ≤ j → j < h.first + h.reserved → b.known.held b.number j ≡ Some g
+    → b.known.segment g.name ≡ Some m → may_change m ≡ true
+
 abbrev pub IsOfOwn : Before → Change → Type 0
 IsOfOwn b (Makes s) = s.clean ≡ false
 IsOfOwn b (Resizes n size) = IsOwnName b may_change n
 IsOfOwn b (Locks n count) = IsOwnName b is_discardable n
 IsOfOwn b (Marks n discarded) = ⊥
-IsOfOwn b (Holds p i h) = (p ≡ b.number) × ((h.name ≡ b.known.next) ⊎ ((index : ℕ) × (hold : Held) × (b.known.held b.number index ≡ Some hold) × (hold.name ≡ h.name)))
+IsOfOwn b (Holds p i h) = (p ≡ b.number) × (((b.known.next ≤ h.name) ⊎ ((index : ℕ) × (hold : Held) × (b.known.held b.number index ≡ Some hold) × (hold.name ≡ h.name))) × IsGoodAlias b h)
 IsOfOwn b (Drops p i count) = p ≡ b.number
 IsOfOwn b (Finishes p state) = ⊥
-IsOfOwn b (Reserves r) = ⊥
+IsOfOwn b (Reserves r) = (r.region ≡ b.number) ⊎ (r.region ≡ 0)
 IsOfOwn b (Frees region first) = ⊥
 IsOfOwn b (Names text name) = ⊥
 
@@ -57,18 +110,24 @@ AreOfOwn b [] = Unit {0}
 AreOfOwn b (c ∷ cs) = IsOfOwn b c × AreOfOwn b cs
 
 -- a call by which no segment is shared
-abbrev pub IsUnshared : Option Row → Type 0
-IsUnshared None = Unit {0}
-IsUnshared (Some DosExit) = Unit {0}
-IsUnshared (Some DosGetPid) = Unit {0}
-IsUnshared (Some DosRead) = Unit {0}
-IsUnshared (Some DosWrite) = Unit {0}
-IsUnshared (Some DosMemAvail) = Unit {0}
-IsUnshared (Some (OnSegments call)) = Unit {0}
-IsUnshared (Some (OnShared call)) = ⊥
+abbrev pub IsOwnRun : Before → HugeCall → Type 0
+IsOwnRun b DosAllocHuge = Unit {0}
+IsOwnRun b DosReallocHuge = reaches_shared (resized_run b) ≡ false
+IsOwnRun b DosGetHugeShift = Unit {0}
+
+abbrev pub IsUnshared : Before → Option Row → Type 0
+IsUnshared b None = Unit {0}
+IsUnshared b (Some DosExit) = Unit {0}
+IsUnshared b (Some DosGetPid) = Unit {0}
+IsUnshared b (Some DosRead) = Unit {0}
+IsUnshared b (Some DosWrite) = Unit {0}
+IsUnshared b (Some DosMemAvail) = Unit {0}
+IsUnshared b (Some (OnSegments call)) = Unit {0}
+IsUnshared b (Some (OnShared call)) = ⊥
+IsUnshared b (Some (OnRuns call)) = IsOwnRun b call
 
 -- one that tells nothing of other processes, and of which they can tell nothing, shares none
-pub quiet_unshared : (b : Before) (row : Option Row) → meets b row ≡ false → IsUnshared row
+pub quiet_unshared : (b : Before) (row : Option Row) → meets b row ≡ false → IsUnshared b row
 quiet_unshared b None quiet = tt
 quiet_unshared b (Some DosExit) quiet = tt
 quiet_unshared b (Some DosGetPid) quiet = tt
@@ -77,6 +136,9 @@ quiet_unshared b (Some DosWrite) quiet = tt
 quiet_unshared b (Some DosMemAvail) quiet = tt
 quiet_unshared b (Some (OnSegments call)) quiet = tt
 quiet_unshared b (Some (OnShared call)) quiet = cc
+quiet_unshared b (Some (OnRuns DosAllocHuge)) quiet = tt
+quiet_unshared b (Some (OnRuns DosReallocHuge)) quiet = quiet
+quiet_unshared b (Some (OnRuns DosGetHugeShift)) quiet = tt
 
 module _ (b : Before) where
   -- Rulings.
@@ -93,7 +155,7 @@ module _ (b : Before) where
     where
       at_index : (o : Option ℕ) → AreOfOwn b (allocation_at b.known b.number size flags o).changes
       at_index None = tt
-      at_index (Some i) = (refl, ((refl, inl refl), tt))
+      at_index (Some i) = (refl, ((refl, (inl (omega arith), no_alias b (held_by_call b.known.next) refl)), tt))
 
   not_clean : (a c : Bool) → (a || c) ≡ false → not a ≡ true
   not_clean true c e = cc
@@ -161,11 +223,132 @@ module _ (b : Before) where
 
   alias_own : (s : ℕ) (o : Option Held) → held_under b.known b.number s ≡ o → AreOfOwn b (aliasing_of b.known b.number (s / 8) o).changes
   alias_own s None e = tt
-  alias_own s (Some h) e = rules (nat_le 4096 (s / 8) || (not (is_writable h.rights) || is_in_run h)) _ _ tt (λ _. at_index (free_index b.known b.number))
+  alias_own s (Some h) e = rules (nat_le 4096 (s / 8) || (not (is_writable h.rights) || is_in_run h)) _ _ tt (λ good. at_index (writes (nat_le 4096 (s / 8)) (is_writable h.rights) (is_in_run h) good) (free_index b.known b.number))
     where
-      at_index : (o : Option ℕ) → AreOfOwn b (aliasing_at b.number h.name o).changes
+      there : b.known.held b.number (s / 8) ≡ Some h
+      there = held_there b.known b.number s h e
+
+      writes : (x y z : Bool) → (x || (not y || z)) ≡ false → y ≡ true
+      writes true y z f = cc
+      writes false true z f = refl
+      writes false false z f = cc
+
+      at_index : is_writable h.rights ≡ true → (o : Option ℕ) → AreOfOwn b (aliasing_at b.number h.name o).changes
+      at_index good None = tt
+      at_index good (Some i) = ((refl, (inr (s / 8, h, there, refl), λ _. record { index = s / 8; hold = h; there = there; named = refl; writable = good })), tt)
+
+  -- Huge allocations.
+
+  append_own : (xs ys : List Change) → AreOfOwn b xs → AreOfOwn b ys → AreOfOwn b (xs ++ ys)
+  append_own [] ys h k = k
+  append_own (x ∷ xs) ys h k = (h.0, append_own xs ys h.1 k)
+
+  new_own : (first count flags times : ℕ) (is zs : List ℕ) (name : ℕ) → b.known.next ≤ name → AreOfOwn b (new_members name first count flags ((b.number, times) ∷ []) is zs)
+  new_own first count flags times [] zs name low = tt
+  new_own first count flags times (i ∷ is) [] name low = tt
+  new_own first count flags times (i ∷ is) (z ∷ zs) name low =
+      (refl, ((refl, (inl low, no_alias b (held_in_run name first count times) refl)), new_own first count flags times is zs (name + 1) (omega (arith, low))))
+
+  huge_own : (segs part most flags : ℕ) → AreOfOwn b (huge_allocation b.known b.number segs part most flags).changes
+  huge_own segs part most flags =
+      rules (is_huge_fault (segments_of segs part) most flags) _ _ tt
+      (λ _. rules (nat_lt b.known.most (b.known.count + segments_of segs part)) _ _ tt (λ _. at_index (free_run b.known (region_by b.number flags) (max (segments_of segs part) most))))
+    where
+      at_index : (o : Option ℕ) → AreOfOwn b (huge_at b.known b.number segs part (max (segments_of segs part) most) flags o).changes
       at_index None = tt
-      at_index (Some i) = ((refl, inr (s / 8, h, held_there b.known b.number s h e, refl)), tt)
+      at_index (Some i) =
+          append_own (new_members b.known.next i (max (segments_of segs part) most) flags ((b.number, 1) ∷ []) (indexes i (segments_of segs part)) (sizes_of segs part)) _
+          (new_own i (max (segments_of segs part) most) flags 1 (indexes i (segments_of segs part)) (sizes_of segs part) b.known.next (omega arith)) (region_is b.number flags, tt)
+
+  -- the sizes of what may change
+  pub sizes_own : (is zs : List ℕ) → Each (λ (i : ℕ). (g : Held) (m : SegmentMarks) → b.known.held b.number i ≡ Some g → b.known.segment g.name ≡ Some m → may_change m ≡ true) is
+      → AreOfOwn b (resized_members b.known b.number is zs)
+  sizes_own [] zs may = tt
+  sizes_own (i ∷ is) [] may = tt
+  sizes_own (i ∷ is) (z ∷ zs) may =
+      append_own (resized_one z (b.known.held b.number i) (marks_under b.known (b.known.held b.number i))) (resized_members b.known b.number is zs) (one (b.known.held b.number i) refl) (sizes_own is zs may.1)
+    where
+      named : (h : Held) → b.known.held b.number i ≡ Some h → (o : Option SegmentMarks) → b.known.segment h.name ≡ o → AreOfOwn b (resized_one z (Some h) o)
+      named h at None is = tt
+      named h at (Some m) is = pick (m.size == full_size z)
+        where
+          pick : (t : Bool) → AreOfOwn b (cond t [] (Resizes h.name (full_size z) ∷ []))
+          pick true = tt
+          pick false = (record { index = i; hold = h; there = at; named = refl; marks = m; segment = is; good = may.0 h m at is }, tt)
+
+      one : (o : Option Held) → b.known.held b.number i ≡ o → AreOfOwn b (resized_one z o (marks_under b.known o))
+      one None at = tt
+      one (Some h) at = named h at (b.known.segment h.name) refl
+
+  pub dropped_own : (is : List ℕ) → AreOfOwn b (dropped_members b.known b.number is)
+  dropped_own [] = tt
+  dropped_own (i ∷ is) = append_own (all_dropped b.number i (b.known.held b.number i)) (dropped_members b.known b.number is) (one (b.known.held b.number i)) (dropped_own is)
+    where
+      one : (o : Option Held) → AreOfOwn b (all_dropped b.number i o)
+      one None = tt
+      one (Some h) = (refl, tt)
+
+  pub members_may : RunsMayChange b → (s : ℕ) (h : Held) → b.known.held b.number s ≡ Some h → is_in_run h ≡ true
+      → Each (λ (i : ℕ). (g : Held) (m : SegmentMarks) → b.known.held b.number i ≡ Some g → b.known.segment g.name ≡ Some m → may_change m ≡ true) (members b.known b.number s h)
+  members_may may s h at run =
+      subst (λ (t : Bool). Each May (cond t (s ∷ []) (filter (λ (i : ℕ). is_some (b.known.held b.number i)) (indexes h.first h.reserved)))) (sym (some_reserved h.reserved run))
+      (each_kept May (λ (i : ℕ). is_some (b.known.held b.number i)) (indexes h.first h.reserved)
+      (both_each (λ (j : ℕ). h.first ≤ j) (λ (j : ℕ). j < h.first + h.reserved) May (λ j low high g m there is. may s j h g m at run low high there is) (indexes h.first h.reserved) (indexes_from h.first h.reserved) (indexes_to h.first h.reserved)))
+    where
+      May : ℕ → Type 0
+      May i = (g : Held) (m : SegmentMarks) → b.known.held b.number i ≡ Some g → b.known.segment g.name ≡ Some m → may_change m ≡ true
+
+      some_reserved : (c : ℕ) → not (c == 0) ≡ true → (c == 0) ≡ false
+      some_reserved c e = grind arith
+
+  resized_own : RunsMayChange b → (segs part s : ℕ) (o : Option Held) → held_under b.known b.number s ≡ o → reaches_shared o ≡ false → AreOfOwn b (huge_reallocation_of b.known b.number (s / 8) segs part b.cpu o).changes
+  resized_own may segs part s None e own = tt
+  resized_own may segs part s (Some h) e own = first (is_first (s / 8) h) refl
+    where
+      is : List ℕ
+      is = members b.known b.number (s / 8) h
+
+      there : b.known.held b.number (s / 8) ≡ Some h
+      there = held_there b.known b.number s h e
+
+      in_run : is_first (s / 8) h ≡ true → is_in_run h ≡ true
+      in_run f = go (is_in_run h) f
+        where
+          go : (t : Bool) → (t && (h.first == s / 8)) ≡ true → t ≡ true
+          go true g = refl
+          go false g = g
+
+      low : is_in_run h ≡ true → nat_le shared_from h.first ≡ false
+      low run = by (h.first + h.reserved) h.first h.reserved (second (is_in_run h) (nat_lt 4096 (h.first + h.reserved)) run own) (above h.reserved run)
+        where
+          second : (x y : Bool) → x ≡ true → (x && y) ≡ false → y ≡ false
+          second true y f g = g
+          second false y f g = cc
+
+          above : (c : ℕ) → not (c == 0) ≡ true → 0 < c
+          above c f = grind arith
+
+          by : (t x c : ℕ) → nat_lt 4096 (x + c) ≡ false → 0 < c → nat_le 4096 x ≡ false
+          by t x c f g = grind arith
+
+      granted : is_in_run h ≡ true → AreOfOwn b (run_changes b.known b.number h is (sizes_of segs part))
+      granted run =
+          append_own (resized_members b.known b.number is (sizes_of segs part)) _ (sizes_own is (sizes_of segs part) (members_may may (s / 8) h there run))
+          (append_own (new_members b.known.next h.first h.reserved (flags_in (b.known.segment h.name)) ((b.number, h.holds) ∷ other_shares b.known b.number h.first) (left_in_run b.known b.number h) (drop (length is) (sizes_of segs part))) _
+          (subst (λ (ps : List (ℕ × ℕ)). AreOfOwn b (new_members b.known.next h.first h.reserved (flags_in (b.known.segment h.name)) ((b.number, h.holds) ∷ ps) (left_in_run b.known b.number h) (drop (length is) (sizes_of segs part)))) (sym none_other)
+          (new_own h.first h.reserved (flags_in (b.known.segment h.name)) h.holds (left_in_run b.known b.number h) (drop (length is) (sizes_of segs part)) b.known.next (omega arith)))
+          (dropped_own (drop (length (sizes_of segs part)) is)))
+        where
+          none_other : other_shares b.known b.number h.first ≡ []
+          none_other = no_other b.known b.number h.first (low run)
+
+      first : (t : Bool) → is_first (s / 8) h ≡ t → AreOfOwn b (cond t (run_resized b.known b.number segs part b.cpu h is) (refusal 5)).changes
+      first false f = tt
+      first true f =
+          rules (segments_of segs part == 0) _ _ tt
+          (λ _. rules (nat_lt h.reserved (segments_of segs part)) _ _ tt
+          (λ _. rules ((nat_le shared_from h.first && nat_lt (bytes_of segs part) (all_bytes b.known b.number is)) || in_use b.cpu (drop (segments_of segs part) is)) _ _ tt
+          (λ _. rules (nat_lt b.known.most (b.known.count + (segments_of segs part - length is)) || nat_lt (length is + length (left_in_run b.known b.number h)) (segments_of segs part)) _ _ tt (λ _. granted (in_run f)))))
 
   -- Calls.
 
@@ -203,28 +386,44 @@ module _ (b : Before) where
       let r = aliasing b.known b.number (a 2) in
       either (has_arguments b.view b.cpu 3) _ _ (either (may_write b.view (a 1) (a 0) 2) _ _ (ruled_own next 3 (codes "DosCreateCSAlias") (Word (a 2) ∷ Far (a 1) (a 0) ∷ []) (written_word (a 1) (a 0) r.value) r (alias_own (a 2) (held_under b.known b.number (a 2)) refl)) tt) tt
 
+  pub on_runs_own : RunsMayChange b → (call : HugeCall) (next : ℕ) → IsOwnRun b call → AreOfOwn b (on_runs call b next).changes
+  unfolding dos_alloc_huge dos_realloc_huge dos_get_huge_shift
+  on_runs_own may DosAllocHuge next own =
+      let a : ℕ → ℕ = argument b.view b.cpu in
+      let r = huge_allocation b.known b.number (a 5) (a 4) (a 1) (a 0) in
+      either (has_arguments b.view b.cpu 6) _ _
+      (either (may_write b.view (a 3) (a 2) 2) _ _ (ruled_own next 6 (codes "DosAllocHuge") (huge_args (a 5) (a 4) (a 3) (a 2) (a 1) (a 0)) (written_word (a 3) (a 2) r.value) r (huge_own (a 5) (a 4) (a 1) (a 0))) tt) tt
+  on_runs_own may DosReallocHuge next own =
+      let a : ℕ → ℕ = argument b.view b.cpu in
+      either (has_arguments b.view b.cpu 3) _ _ (resized_own may (a 2) (a 1) (a 0) (held_under b.known b.number (a 0)) refl own) tt
+  on_runs_own may DosGetHugeShift next own =
+      let a : ℕ → ℕ = argument b.view b.cpu in
+      either (has_arguments b.view b.cpu 2) _ _
+      (either (may_write b.view (a 1) (a 0) 2) _ _ (ruled_own next 2 (codes "DosGetHugeShift") (Far (a 1) (a 0) ∷ []) (written_word (a 1) (a 0) huge_shift) (record { error = 0; value = huge_shift; changes = [] }) tt) tt) tt
+
   nothing : (e : Effect) → e.changes ≡ [] → AreOfOwn b e.changes
   nothing e is = subst (AreOfOwn b) (sym is) tt
 
-  pub served_own : (row : Option Row) (next : ℕ) → IsUnshared row → AreOfOwn b (served_by row b next).changes
-  served_own None next unshared = tt
-  served_own (Some DosExit) next unshared = nothing (dos_exit b) (exit_quiet b)
-  served_own (Some DosGetPid) next unshared = nothing (dos_get_pid b next) (told_quiet b next _ _ _)
-  served_own (Some DosRead) next unshared = nothing (dos_read b next) (read_quiet b next)
-  served_own (Some DosWrite) next unshared = nothing (dos_write b next) (write_quiet b next)
-  served_own (Some DosMemAvail) next unshared = nothing (dos_mem_avail b next) (told_quiet b next _ _ _)
-  served_own (Some (OnSegments call)) next unshared = on_segments_own call next
-  served_own (Some (OnShared call)) next unshared = absurd unshared
+  pub served_own : RunsMayChange b → (row : Option Row) (next : ℕ) → IsUnshared b row → AreOfOwn b (served_by row b next).changes
+  served_own may None next unshared = tt
+  served_own may (Some DosExit) next unshared = nothing (dos_exit b) (exit_quiet b)
+  served_own may (Some DosGetPid) next unshared = nothing (dos_get_pid b next) (told_quiet b next _ _ _)
+  served_own may (Some DosRead) next unshared = nothing (dos_read b next) (read_quiet b next)
+  served_own may (Some DosWrite) next unshared = nothing (dos_write b next) (write_quiet b next)
+  served_own may (Some DosMemAvail) next unshared = nothing (dos_mem_avail b next) (told_quiet b next _ _ _)
+  served_own may (Some (OnSegments call)) next unshared = on_segments_own call next
+  served_own may (Some (OnShared call)) next unshared = absurd unshared
+  served_own may (Some (OnRuns call)) next unshared = on_runs_own may call next unshared
 
-  answered_own : (r : Result Machine Stop) → IsUnshared (called_by r) → AreOfOwn b (answered b r).changes
-  answered_own (Ok s) unshared = tt
-  answered_own (Err (stop.Trap vector code)) unshared = tt
-  answered_own (Err (stop.Gate service next)) unshared = served_own (row_of service) next unshared
-  answered_own (Err (stop.Miss s)) unshared = tt
+  answered_own : RunsMayChange b → (r : Result Machine Stop) → IsUnshared b (called_by r) → AreOfOwn b (answered b r).changes
+  answered_own may (Ok s) unshared = tt
+  answered_own may (Err (stop.Trap vector code)) unshared = tt
+  answered_own may (Err (stop.Gate service next)) unshared = served_own may (row_of service) next unshared
+  answered_own may (Err (stop.Miss s)) unshared = tt
 
   single_own : (e : Effect) → AreOfOwn b e.changes → AreOfOwn b (single_stepped b e).changes
   single_own e h = either (has_trap_flag b.cpu.flags && is_live e.state) _ e h h
 
-  pub effect_of_own : IsUnshared (call_of b) → AreOfOwn b (effect b).changes
+  pub effect_of_own : RunsMayChange b → IsUnshared b (call_of b) → AreOfOwn b (effect b).changes
   unfolding effect
-  effect_of_own unshared = single_own (answered b (stepped (state b.cpu b.view))) (answered_own (stepped (state b.cpu b.view)) unshared)
+  effect_of_own may unshared = single_own (answered b (stepped (state b.cpu b.view))) (answered_own may (stepped (state b.cpu b.view)) unshared)

@@ -1,45 +1,31 @@
 -- A step of the process itself by which it shares nothing, in two worlds in which it is alike: it is alike in both behind it.
-use Rattle.std.proofs.Common.{◌≡◌, ◌⊎◌, inl, inr, refl, sym, ◌∙◌, ap, subst, ℕ, ◌-◌, ◌≤◌, ◌||◌, Bool, true, false, cond, List, [], ◌∷◌, ◌++◌, arith}
-use Rattle.std.specs.Prelude.{Option, Some, None, option_map, is_some, filter}
+use Rattle.std.proofs.Common.{◌≡◌, ◌⊎◌, inl, inr, refl, sym, ◌∙◌, ap, subst, ℕ, ◌-◌, ◌≤◌, Bool, true, false, cond, List, [], ◌∷◌, ◌++◌, arith}
+use Rattle.std.specs.Prelude.{Option, Some, None, option_map, is_some}
 use Rattle.std.specs.List.{list_any}
 use Rattle.o2_conf.specs.Dispatch.{Dispatch}
 use Rattle.o2_world.specs.declared.types.State.{State}
 use Rattle.o2_world.specs.Map.{get}
-use Rattle.o2_world.specs.World.{World, Setting, Process, Segment, Held, Reserve, is_live}
+use Rattle.o2_world.specs.World.{World, Setting, Process, Segment, Held, is_live}
 use Rattle.o2_world.specs.Holders.{is_held, process_at, with_process}
 use Rattle.o2_world.specs.Sound.{held_of}
 use Rattle.o2_world.specs.Tied.{IsTied}
 use Rattle.o2_world.specs.Views.{hold_of, with_bytes}
-use Rattle.o2_world.specs.Known.{reserves}
 use Rattle.o2_world.specs.CallParts.{Before, Effect}
-use Rattle.o2_world.specs.Changes.{Change, Makes, Resizes, Locks, Marks, Holds, Drops, Finishes, Reserves, Frees, Names, is_used, swept, takes, with_all, with_changes}
+use Rattle.o2_world.specs.Changes.{Change, Makes, Resizes, Locks, Marks, Holds, Drops, Finishes, Reserves, Frees, Names, swept, takes, with_all, with_changes}
 use Rattle.o2_world.specs.Effect.{effect}
 use Rattle.o2_world.specs.Run.{all_changes, before, changed, worked, working}
 use Rattle.o2_world.proofs.MapLemmas.{get-filter, get-map, if_yes}
 use Rattle.o2_world.proofs.Keeps.{held_found}
 use Rattle.o2_world.proofs.Numbers.{number_some, at_place_of}
 use Rattle.o2_world.proofs.StepReach.{own_at}
-use Rattle.o2_world.proofs.Staying.{step_reserved}
 use Rattle.o2_alone.specs.Renaming.{Renaming, call_of, renamed_held, renamed_changes, IsRenamedEffect}
-use Rattle.o2_alone.specs.Isolation.{IsLike}
-use Rattle.o2_alone.proofs.OwnNames.{AreOfOwn, IsOfOwn, IsUnshared, effect_of_own}
+use Rattle.o2_alone.specs.Isolation.{IsLike, own_reserves}
+use Rattle.o2_alone.proofs.OwnNames.{AreOfOwn, IsOfOwn, IsUnshared, RunsMayChange, effect_of_own}
+use Rattle.o2_alone.proofs.OwnReserves.{twins_left}
 use Rattle.o2_alone.proofs.Alikes.{IsFurther, IsSpokenOf}
 use Rattle.o2_alone.proofs.Twins.{AreMine, AreTwins, IsMine, IsRange, any_takes_same, renamed_append, twin_changes}
 
 -- What nobody holds goes, and what the process holds stays.
-
-none_left : (p g : Reserve → Bool) (rs : List Reserve) → list_any g rs ≡ false → list_any g (filter p rs) ≡ false
-none_left p g [] e = e
-none_left p g (r ∷ rs) e = go (g r) (p r) refl e (none_left p g rs)
-  where
-    go : (x y : Bool) → g r ≡ x → (x || list_any g rs) ≡ false → (list_any g rs ≡ false → list_any g (filter p rs) ≡ false) → list_any g (cond y (r ∷ filter p rs) (filter p rs)) ≡ false
-    go true y is e rest = absurd (cc)
-    go false true is e rest = ap (λ (b : Bool). b || list_any g (filter p rs)) is ∙ rest e
-    go false false is e rest = rest e
-
-pub unreserved_behind : (b : Bool) (g : Reserve → Bool) (v : World) → list_any g v.reserved ≡ false → list_any g (cond b (swept v) v).reserved ≡ false
-unreserved_behind true g v e = none_left (is_used v.processes) g v.reserved e
-unreserved_behind false g v e = e
 
 pub kept_here : (b : Bool) (v : World) (number : ℕ) (p : Process) (i : ℕ) (h : Held) → process_at v.processes number ≡ Some p → get p.held i ≡ Some h
     → get (cond b (swept v) v).names h.name ≡ get v.names h.name
@@ -55,9 +41,8 @@ same_processes false v number = refl
 
 -- twins are alike, with what nobody holds in both or gone from both
 twins_alike : (f : Renaming) (number : ℕ) (mine : ℕ → Type 0) (first other : ℕ) (v u : World) (b : Bool) → IsRange f mine first other → AreTwins f number mine first other v u
-    → ((i : ℕ) → list_any (reserves number i) v.reserved ≡ false) → ((i : ℕ) → list_any (reserves number i) u.reserved ≡ false)
     → IsLike f number (cond b (swept v) v) (cond b (swept u) u)
-twins_alike f number mine first other v u b range t none none_too = record {
+twins_alike f number mine first other v u b range t = record {
   process = t.one;
   twin = t.twin;
   there = same_processes b v number ∙ t.there;
@@ -69,9 +54,12 @@ twins_alike f number mine first other v u b range t none none_too = record {
       kept_here b u number t.twin i (renamed_held f h) t.there_too (t.held i ∙ ap (option_map (renamed_held f)) e)
       ∙ (t.segment h.name (t.named i h e) ∙ sym (kept_here b v number t.one i h t.there e));
   apart = λ (i j : ℕ) (g h : Held) e k same. range.apart g.name h.name (t.named i g e) (t.named j h k) same;
-  unreserved = λ (i : ℕ). unreserved_behind b (reserves number i) v (none i);
-  unreserved_too = λ (i : ℕ). unreserved_behind b (reserves number i) u (none_too i);
+  reserved = left b;
 }
+  where
+    left : (b : Bool) → own_reserves number (cond b (swept u) u).reserved ≡ own_reserves number (cond b (swept v) v).reserved
+    left true = twins_left f number v.processes u.processes t.one t.twin v.reserved u.reserved (number_some v.processes number t.one t.there) t.there t.there_too t.held t.reserved
+    left false = t.reserved
 
 none_above : (v : World) → IsTied v → (n : ℕ) → v.next_name ≤ n → get v.names n ≡ None
 none_above v tied n high = go (get v.names n) refl
@@ -81,7 +69,7 @@ none_above v tied n high = go (get v.names n) refl
     go (Some x) e = absurd (let low = tied.below n (ap (λ (o : Option Segment). is_some o) e) in omega (arith, low, high))
 
 -- the changes of a step of the process are such as go through
-mine_changes : (b : Before) (mine : ℕ → Type 0) (cs : List Change) → ((i : ℕ) (h : Held) → b.known.held b.number i ≡ Some h → mine h.name) → mine b.known.next → AreOfOwn b cs → AreMine b.number mine cs
+mine_changes : (b : Before) (mine : ℕ → Type 0) (cs : List Change) → ((i : ℕ) (h : Held) → b.known.held b.number i ≡ Some h → mine h.name) → ((m : ℕ) → b.known.next ≤ m → mine m) → AreOfOwn b cs → AreMine b.number mine cs
 mine_changes b mine [] held next own = tt
 mine_changes b mine (c ∷ cs) held next own = (one c own.0, mine_changes b mine cs held next own.1)
   where
@@ -90,14 +78,14 @@ mine_changes b mine (c ∷ cs) held next own = (one c own.0, mine_changes b mine
     one (Resizes n size) o = subst mine o.named (held o.index o.hold o.there)
     one (Locks n count) o = subst mine o.named (held o.index o.hold o.there)
     one (Marks n discarded) o = absurd o
-    one (Holds p i h) o = (o.0, by_name o.1)
+    one (Holds p i h) o = (o.0, by_name o.1.0)
       where
-        by_name : (h.name ≡ b.known.next) ⊎ ((index : ℕ) × (hold : Held) × (b.known.held b.number index ≡ Some hold) × (hold.name ≡ h.name)) → mine h.name
-        by_name (inl is) = subst mine (sym is) next
+        by_name : (b.known.next ≤ h.name) ⊎ ((index : ℕ) × (hold : Held) × (b.known.held b.number index ≡ Some hold) × (hold.name ≡ h.name)) → mine h.name
+        by_name (inl low) = next h.name low
         by_name (inr x) = subst mine x.3 (held x.0 x.1 x.2)
     one (Drops p i count) o = o
     one (Finishes p state) o = absurd o
-    one (Reserves r) o = absurd o
+    one (Reserves r) o = tt
     one (Frees region at) o = absurd o
     one (Names text name) o = absurd o
 
@@ -147,7 +135,7 @@ module _ (s : Setting) (number : ℕ) (w a : World) (further : IsFurther number 
   abbrev range : IsRange g mine w.next_name a.next_name
   range = further.range
 
-  module _ (same : IsRenamedEffect g one two (effect one) (effect two)) (unshared : IsUnshared (call_of one)) where
+  module _ (same : IsRenamedEffect g one two (effect one) (effect two)) (unshared : IsUnshared one (call_of one)) (may : RunsMayChange one) where
     abbrev e : Effect
     e = effect one
 
@@ -189,10 +177,11 @@ module _ (s : Setting) (number : ℕ) (w a : World) (further : IsFurther number 
       segment = same_segment;
       low = omega arith;
       next = omega arith;
+      reserved = like.reserved;
     }
 
     all_are_mine : AreMine number mine (all_changes number e)
-    all_are_mine = all_mine number mine e (mine_changes one mine e.changes known (range.above w.next_name (omega arith)) (effect_of_own one unshared))
+    all_are_mine = all_mine number mine e (mine_changes one mine e.changes known range.above (effect_of_own one may unshared))
       where
         known : (i : ℕ) (h : Held) → one.known.held number i ≡ Some h → mine h.name
         known i h there = inl (record { index = i; hold = h; there = sym (ap (λ (o : Option Process). held_of o i) like.there) ∙ there; named = refl })
@@ -210,9 +199,7 @@ module _ (s : Setting) (number : ℕ) (w a : World) (further : IsFurther number 
         let v : World = with_changes (worked w d p e) (all_changes number e) in
         let u : World = with_changes (worked a c q x) (all_changes number x) in
         subst (λ (b : Bool). IsLike g number (with_all (worked w d p e) (all_changes number e)) (cond b (swept u) u)) (sym same_sweep)
-        (twins_alike g number mine w.next_name a.next_name v u (list_any takes (all_changes number e)) range ends
-        (λ (i : ℕ). ap (λ (rs : List Reserve). list_any (reserves number i) rs) (step_reserved s w d number p) ∙ like.unreserved i)
-        (λ (i : ℕ). ap (λ (rs : List Reserve). list_any (reserves number i) rs) (step_reserved s a c number q) ∙ like.unreserved_too i))
+        (twins_alike g number mine w.next_name a.next_name v u (list_any takes (all_changes number e)) range ends)
 
     pub own_step : IsLike g number (changed w d p (effect (before s w d.current p))) (changed a c q (effect (before s a c.current q)))
     unfolding changed

@@ -14,20 +14,26 @@ use Rattle.o2_world.specs.declared.types.Argument.{Argument}
 use Rattle.o2_world.specs.declared.types.Argument.TheVariants.{Word, Long, Far}
 use Rattle.o2_world.specs.declared.types.Transfer.{Transfer}
 use Rattle.o2_world.specs.declared.types.Row.{Row}
-use Rattle.o2_world.specs.declared.types.Row.TheVariants.{DosExit, DosGetPid, DosRead, DosWrite, DosMemAvail, OnSegments, OnShared}
+use Rattle.o2_world.specs.declared.types.Row.TheVariants.{DosExit, DosGetPid, DosRead, DosWrite, DosMemAvail, OnSegments, OnShared, OnRuns}
 use Rattle.o2_world.specs.declared.types.SegmentCall.{SegmentCall}
 use Rattle.o2_world.specs.declared.types.SegmentCall.TheVariants.{DosAllocSeg, DosReallocSeg, DosFreeSeg, DosSizeSeg, DosLockSeg, DosUnlockSeg, DosCreateCsAlias}
+use Rattle.o2_world.specs.declared.types.HugeCall.{HugeCall}
+use Rattle.o2_world.specs.declared.types.HugeCall.TheVariants.{DosAllocHuge, DosReallocHuge, DosGetHugeShift}
 use Rattle.o2_world.specs.declared.types.State.TheVariants.{Exited}
 use Rattle.o2_world.specs.World.{Line, Calls, Exits, Ends}
 use Rattle.o2_world.specs.Changes.{Change}
 use Rattle.o2_world.specs.Known.{Known}
 use Rattle.o2_world.specs.CallParts.{Before, Effect, trapped, word_of, argument, has_arguments, word_bytes, long_bytes, returned, may_write}
-use Rattle.o2_world.specs.Rulings.{Ruling, freeing, freeing_cpu}
+use Rattle.o2_world.specs.Rulings.{Ruling, dropped_indexes, freeing, freeing_cpu}
+use Rattle.o2_world.specs.HugeRulings.{huge_reallocation, huge_shift, is_huge_fault, segments_of, without}
+use Rattle.o2_world.specs.HugeCalls.{allocated_huge, dos_alloc_huge, dos_get_huge_shift, dos_realloc_huge, huge_args, on_runs, reallocated_huge, shift_told}
+use Rattle.o2_world.proofs.SegmentMoves.{held_there}
 use Rattle.o2_world.specs.SegmentCalls.{back, ruled, ruled_at, Written, written_word, written_long, alloc_args, allocated, dos_alloc_seg, reallocated, dos_realloc_seg, freed, dos_free_seg, sized, dos_size_seg, locked, dos_lock_seg, unlocked, dos_unlock_seg, aliased, dos_create_cs_alias, on_segments}
 use Rattle.o2_world.specs.Calls.{transfer_of, not_transferred, is_console, may_give, gives, written, dos_write, dos_exit, told_at, told, pid_bytes, dos_mem_avail, may_take, read_with, read_from, dos_read, served_by}
-use Rattle.o2_alone.specs.Renaming.{Renaming, renamed_hold, renamed_changes, renamed_ruling, IsIn, SameBytes, IsRenamedView, IsRenamedKnown, IsRenamedEffect, IsAskedAlike, MakesAlike, asks_for_room}
+use Rattle.o2_alone.specs.Renaming.{Renaming, renamed_hold, renamed_changes, renamed_ruling, IsIn, SameBytes, IsRenamedView, IsRenamedKnown, IsRenamedEffect, AllocatesAlike, IsAskedAlike, IsRunAlike, MakesAlike, ResizesAlike, asks_for_room, asks_for_run, comes_to_room}
 use Rattle.o2_alone.proofs.RenamedViews.{same_test, bound_renamed, bound_is_in, read_renamed, probe_renamed}
-use Rattle.o2_alone.proofs.RenamedRulings.{moved_renamed, allocation_renamed, reallocation_renamed, freeing_renamed, freeing_cpu_renamed, sizing_renamed, locking_renamed, unlocking_renamed, aliasing_renamed}
+use Rattle.o2_alone.proofs.RenamedRulings.{dropped_renamed, moved_renamed, allocation_renamed, reallocation_renamed, freeing_renamed, freeing_cpu_renamed, sizing_renamed, locking_renamed, unlocking_renamed, aliasing_renamed}
+use Rattle.o2_alone.proofs.RenamedRuns.{huge_allocation_renamed, huge_reallocation_renamed}
 
 -- what a step starts from, and the same with other numbers for names
 pub record Twins : Type 0 where
@@ -323,7 +329,7 @@ alias_renamed t next =
     a : ℕ → ℕ
     a = argument t.one.view t.one.cpu
 
-segment_call_renamed : (call : SegmentCall) (t : Twins) (next : ℕ) → IsAskedAlike (Some (OnSegments call)) t.one (other t) → Does t (on_segments call t.one next) (on_segments call (other t) next)
+segment_call_renamed : (call : SegmentCall) (t : Twins) (next : ℕ) → IsAskedAlike t.names (Some (OnSegments call)) t.one (other t) → Does t (on_segments call t.one next) (on_segments call (other t) next)
 segment_call_renamed DosAllocSeg t next alike = alloc_renamed t next alike
 segment_call_renamed DosReallocSeg t next alike = realloc_renamed t next
 segment_call_renamed DosFreeSeg t next alike = free_renamed t next
@@ -332,7 +338,68 @@ segment_call_renamed DosLockSeg t next alike = lock_renamed t next
 segment_call_renamed DosUnlockSeg t next alike = unlock_renamed t next
 segment_call_renamed DosCreateCsAlias t next alike = alias_renamed t next
 
-pub served_renamed : (row : Option Row) (t : Twins) (next : ℕ) → IsAskedAlike row t.one (other t) → Does t (served_by row t.one next) (served_by row (other t) next)
+-- Calls on huge allocations.
+
+huge_alloc_renamed : (t : Twins) (next : ℕ) → AllocatesAlike t.names t.one (other t) → Does t (dos_alloc_huge t.one next) (dos_alloc_huge (other t) next)
+unfolding dos_alloc_huge
+huge_alloc_renamed t next alike =
+    with_arguments t 6 (λ a. allocated_huge t.one next (a 5) (a 4) (a 3) (a 2) (a 1) (a 0)) (λ a. allocated_huge (other t) next (a 5) (a 4) (a 3) (a 2) (a 1) (a 0))
+    (λ has. writing t (a 3) (a 2) 2 _ _ (λ good. ruled_at_renamed t next 6 (codes "DosAllocHuge") (huge_args (a 5) (a 4) (a 3) (a 2) (a 1) (a 0)) (written_word (a 3) (a 2)) _ _
+    (huge_allocation_renamed t.names t.one.number t.one.known t.known t.knows alike.names (a 5) (a 4) (a 1) (a 0) (λ sound. alike.room (asks has good sound)) alike.shared)))
+  where
+    a : ℕ → ℕ
+    a = argument t.one.view t.one.cpu
+
+    asks : has_arguments t.one.view t.one.cpu 6 ≡ true → may_write t.one.view (a 3) (a 2) 2 ≡ true → is_huge_fault (segments_of (a 5) (a 4)) (a 1) (a 0) ≡ false → asks_for_run t.one ≡ true
+    asks has good sound = rw (has, good, sound) refl
+
+huge_realloc_renamed : (t : Twins) (next : ℕ) → ResizesAlike t.names t.one (other t) → Does t (dos_realloc_huge t.one next) (dos_realloc_huge (other t) next)
+unfolding dos_realloc_huge
+huge_realloc_renamed t next alike =
+    with_arguments t 3 (λ a. reallocated_huge t.one next (a 2) (a 1) (a 0)) (λ a. reallocated_huge (other t) next (a 2) (a 1) (a 0)) (λ has. resizes has)
+  where
+    a : ℕ → ℕ
+    a = argument t.one.view t.one.cpu
+
+    r : Ruling
+    r = huge_reallocation t.one.known t.one.number (a 2) (a 1) (a 0) t.one.cpu
+
+    args : List Argument
+    args = Word (a 2) ∷ Word (a 1) ∷ Word (a 0) ∷ []
+
+    come_back : (q : Ruling) → q ≡ renamed_ruling t.names r
+        → Does t (reallocated_huge t.one next (a 2) (a 1) (a 0)) (back (other t) (without (returned t.one.cpu next 3 q.error) (dropped_indexes q.changes)) t.view.bytes (codes "DosReallocHuge") args q.error [] q.changes)
+    come_back q is =
+        subst (λ (q : Ruling). Does t (reallocated_huge t.one next (a 2) (a 1) (a 0)) (back (other t) (without (returned t.one.cpu next 3 q.error) (dropped_indexes q.changes)) t.view.bytes (codes "DosReallocHuge") args q.error [] q.changes)) (sym is)
+        (subst (λ (is : List ℕ). Does t (reallocated_huge t.one next (a 2) (a 1) (a 0)) (back (other t) (without (returned t.one.cpu next 3 r.error) is) t.view.bytes (codes "DosReallocHuge") args r.error [] (renamed_changes t.names r.changes))) (sym (dropped_renamed t.names r.changes))
+        (back_renamed t (without (returned t.one.cpu next 3 r.error) (dropped_indexes r.changes)) t.one.view.bytes t.view.bytes (codes "DosReallocHuge") args r.error [] r.changes t.views.bytes))
+
+    both : (x y : Bool) → x ≡ true → y ≡ true → (x && y) ≡ true
+    both true y e g = g
+    both false y e g = e
+
+    resizes : has_arguments t.one.view t.one.cpu 3 ≡ true → Does t (reallocated_huge t.one next (a 2) (a 1) (a 0)) (reallocated_huge (other t) next (a 2) (a 1) (a 0))
+    resizes has =
+        come_back (huge_reallocation t.known t.one.number (a 2) (a 1) (a 0) t.one.cpu)
+        (huge_reallocation_renamed t.names t.one.number t.one.known t.known t.knows alike.names (a 2) (a 1) (a 0) t.one.cpu alike.own
+        (λ h under comes. alike.room h under (both (has_arguments t.one.view t.one.cpu 3) (comes_to_room t.one.known t.one.number (a 0 / 8) (a 2) (a 1) t.one.cpu h) has comes))
+        (λ h under. held_there t.one.known t.one.number (a 0) h under))
+
+shift_renamed : (t : Twins) (next : ℕ) → Does t (dos_get_huge_shift t.one next) (dos_get_huge_shift (other t) next)
+unfolding dos_get_huge_shift
+shift_renamed t next =
+    with_arguments t 2 (λ a. shift_told t.one next (a 1) (a 0)) (λ a. shift_told (other t) next (a 1) (a 0))
+    (λ _. writing t (a 1) (a 0) 2 _ _ (λ _. ruled_at_renamed t next 2 (codes "DosGetHugeShift") (Far (a 1) (a 0) ∷ []) (written_word (a 1) (a 0)) (record { error = 0; value = huge_shift; changes = [] }) (record { error = 0; value = huge_shift; changes = [] }) refl))
+  where
+    a : ℕ → ℕ
+    a = argument t.one.view t.one.cpu
+
+run_call_renamed : (call : HugeCall) (t : Twins) (next : ℕ) → IsRunAlike t.names call t.one (other t) → Does t (on_runs call t.one next) (on_runs call (other t) next)
+run_call_renamed DosAllocHuge t next alike = huge_alloc_renamed t next alike
+run_call_renamed DosReallocHuge t next alike = huge_realloc_renamed t next alike
+run_call_renamed DosGetHugeShift t next alike = shift_renamed t next
+
+pub served_renamed : (row : Option Row) (t : Twins) (next : ℕ) → IsAskedAlike t.names row t.one (other t) → Does t (served_by row t.one next) (served_by row (other t) next)
 served_renamed None t next alike = trapped_renamed t 13
 served_renamed (Some DosExit) t next alike = exit_renamed t
 served_renamed (Some DosGetPid) t next alike = told_renamed t next (codes "DosGetPID") (pid_bytes t.one.number) (Word t.one.number ∷ Word 1 ∷ Word 0 ∷ [])
@@ -341,3 +408,4 @@ served_renamed (Some DosWrite) t next alike = write_renamed t next
 served_renamed (Some DosMemAvail) t next alike = mem_avail_renamed t next
 served_renamed (Some (OnSegments call)) t next alike = segment_call_renamed call t next alike
 served_renamed (Some (OnShared call)) t next alike = absurd alike
+served_renamed (Some (OnRuns call)) t next alike = run_call_renamed call t next alike

@@ -63,7 +63,7 @@ moved_renamed f cause cs =
     ap (λ (ls : List Line). in_order ls ++ in_order (flat_map (drop_lines_of cause) (renamed_changes f cs))) (flat_renamed f (hold_lines_of cause) (renamed_holds f cause) cs)
     ∙ ap (λ (ls : List Line). in_order (flat_map (hold_lines_of cause) cs) ++ in_order ls) (flat_renamed f (drop_lines_of cause) (renamed_drops f cause) cs)
 
-dropped_renamed : (f : Renaming) (cs : List Change) → dropped_indexes (renamed_changes f cs) ≡ dropped_indexes cs
+pub dropped_renamed : (f : Renaming) (cs : List Change) → dropped_indexes (renamed_changes f cs) ≡ dropped_indexes cs
 dropped_renamed f [] = refl
 dropped_renamed f (c ∷ cs) = renamed_dropped f c (dropped_indexes (renamed_changes f cs)) ∙ ap (dropped_by c) (dropped_renamed f cs)
 
@@ -73,11 +73,11 @@ drops_renamed f n (i ∷ is) = ap (λ (cs : List Change). Drops n i 1 ∷ cs) (d
 
 -- Parts of rulings.
 
-either : (f : Renaming) (b : Bool) (x y p q : Ruling) → p ≡ renamed_ruling f x → q ≡ renamed_ruling f y → cond b p q ≡ renamed_ruling f (cond b x y)
+pub either : (f : Renaming) (b : Bool) (x y p q : Ruling) → p ≡ renamed_ruling f x → q ≡ renamed_ruling f y → cond b p q ≡ renamed_ruling f (cond b x y)
 either f true x y p q h k = h
 either f false x y p q h k = k
 
-under_renamed : (f : Renaming) (n : ℕ) (k o : Known) → IsRenamedKnown f n k o → (s : ℕ) → held_under o n s ≡ option_map (renamed_held f) (held_under k n s)
+pub under_renamed : (f : Renaming) (n : ℕ) (k o : Known) → IsRenamedKnown f n k o → (s : ℕ) → held_under o n s ≡ option_map (renamed_held f) (held_under k n s)
 under_renamed f n k o same s = go (is_local s)
   where
     go : (b : Bool) → cond b (o.held n (s / 8)) None ≡ option_map (renamed_held f) (cond b (k.held n (s / 8)) None)
@@ -153,7 +153,7 @@ reallocation_renamed f n k o same size s = by_held f n k o same s (reallocation_
         either f (is_alias h.cause || is_in_run h) (refusal 5) (reallocation_with h.name (full_size size) (k.segment h.name)) (refusal 5) (reallocation_with (f h.name) (full_size size) (o.segment (f h.name))) refl
         (ap (reallocation_with (f h.name) (full_size size)) (marks h refl) ∙ by_marks h.name (k.segment h.name))
 
-is_some_renamed : (f : Renaming) (x : Option Held) → is_some (option_map (renamed_held f) x) ≡ is_some x
+pub is_some_renamed : (f : Renaming) (x : Option Held) → is_some (option_map (renamed_held f) x) ≡ is_some x
 is_some_renamed f None = refl
 is_some_renamed f (Some h) = refl
 
@@ -161,7 +161,7 @@ is_last_renamed : (f : Renaming) (x : Option Held) → is_last (option_map (rena
 is_last_renamed f None = refl
 is_last_renamed f (Some h) = refl
 
-members_renamed : (f : Renaming) (n : ℕ) (k o : Known) → IsRenamedKnown f n k o → (index : ℕ) (h : Held) → members o n index (renamed_held f h) ≡ members k n index h
+pub members_renamed : (f : Renaming) (n : ℕ) (k o : Known) → IsRenamedKnown f n k o → (index : ℕ) (h : Held) → members o n index (renamed_held f h) ≡ members k n index h
 members_renamed f n k o same index h =
     ap (λ (t : ℕ → Bool). cond (h.reserved == 0) (index ∷ []) (filter t (indexes h.first h.reserved)))
     (fun_ext (λ (i : ℕ). ap (λ (x : Option Held). is_some x) (same.held i) ∙ is_some_renamed f (k.held n i)))

@@ -29,10 +29,10 @@ of_twin f b o same P p =
     subst (λ (n : ℕ). P (record { number = n; cpu = o.cpu; view = o.view; known = o.known; input = o.input })) (sym same.number)
     (subst (λ (c : Cpu). P (record { number = b.number; cpu = c; view = o.view; known = o.known; input = o.input })) (sym same.cpu) p)
 
-pub call_renamed : (f : Renaming) (row : Option Row) (b o : Before) (next : ℕ) → IsRenamed f b o → IsAskedAlike row b o
+pub call_renamed : (f : Renaming) (row : Option Row) (b o : Before) (next : ℕ) → IsRenamed f b o → IsAskedAlike f row b o
     → IsRenamedEffect f b o (served_by row b next) (served_by row o next)
 call_renamed f row b o next same =
-    of_twin f b o same (λ o. IsAskedAlike row b o → IsRenamedEffect f b o (served_by row b next) (served_by row o next)) (served_renamed row (twins_of f b o same) next)
+    of_twin f b o same (λ o. IsAskedAlike f row b o → IsRenamedEffect f b o (served_by row b next) (served_by row o next)) (served_renamed row (twins_of f b o same) next)
 
 -- with exception 1 behind it
 abbrev trapped_behind : Before → Effect → Effect
@@ -52,7 +52,7 @@ single_renamed t e d same =
       lines = ap (λ (ls : List Line). ls ++ Traps t.one.number 1 t.one.cpu.cs t.one.cpu.ip ∷ []) same.lines;
     }) same)
 
-answered_renamed : (t : Twins) (r q : Result Machine Stop) → stepped (state t.one.cpu t.one.view) ≡ r → IsRenamedResult t.names r q → IsAskedAlike (called_by r) t.one (other t)
+answered_renamed : (t : Twins) (r q : Result Machine Stop) → stepped (state t.one.cpu t.one.view) ≡ r → IsRenamedResult t.names r q → IsAskedAlike t.names (called_by r) t.one (other t)
     → Does t (answered t.one r) (answered (other t) q)
 answered_renamed t (Ok s) (Ok z) is same alike = record {
   cpu = same.cpu;
@@ -67,17 +67,17 @@ answered_renamed t (Ok s) (Err e) is same alike = absurd same
 answered_renamed t (Err d) (Ok z) is same alike = absurd same
 answered_renamed t (Err d) (Err e) is same alike = subst (λ (e : Stop). Does t (answered t.one (Err d)) (answered (other t) (Err e))) (sym same) (stops d alike)
   where
-    stops : (d : Stop) → IsAskedAlike (called_by (Err d)) t.one (other t) → Does t (answered t.one (Err d)) (answered (other t) (Err d))
+    stops : (d : Stop) → IsAskedAlike t.names (called_by (Err d)) t.one (other t) → Does t (answered t.one (Err d)) (answered (other t) (Err d))
     stops (stop.Trap vector code) alike = trapped_renamed t vector
     stops (stop.Gate service next) alike = served_renamed (row_of service) t next alike
     stops (stop.Miss s) alike = trapped_renamed t 11
 
-twin_steps : (t : Twins) → IsAskedAlike (call_of t.one) t.one (other t) → Does t (effect t.one) (effect (other t))
+twin_steps : (t : Twins) → IsAskedAlike t.names (call_of t.one) t.one (other t) → Does t (effect t.one) (effect (other t))
 unfolding effect
 twin_steps t alike =
     single_renamed t _ _
     (answered_renamed t (stepped (state t.one.cpu t.one.view)) (stepped (state t.one.cpu t.view)) refl (stepped_renamed t.names t.one.cpu t.one.view t.view t.views) alike)
 
-pub effect_renamed : (f : Renaming) (b o : Before) → IsRenamed f b o → IsAskedAlike (call_of b) b o → IsRenamedEffect f b o (effect b) (effect o)
+pub effect_renamed : (f : Renaming) (b o : Before) → IsRenamed f b o → IsAskedAlike f (call_of b) b o → IsRenamedEffect f b o (effect b) (effect o)
 effect_renamed f b o same =
-    of_twin f b o same (λ o. IsAskedAlike (call_of b) b o → IsRenamedEffect f b o (effect b) (effect o)) (twin_steps (twins_of f b o same))
+    of_twin f b o same (λ o. IsAskedAlike f (call_of b) b o → IsRenamedEffect f b o (effect b) (effect o)) (twin_steps (twins_of f b o same))

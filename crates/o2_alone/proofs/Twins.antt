@@ -4,13 +4,14 @@ use Rattle.std.specs.Prelude.{Option, Some, None, option_map, slice_get, nat_lt}
 use Rattle.std.specs.List.{list_any}
 use Rattle.std.proofs.lemmas.Bool.{eq-eqb, eqb-true}
 use Rattle.o2_world.specs.Map.{Map, get, put}
-use Rattle.o2_world.specs.World.{World, Process, Segment, Held}
+use Rattle.o2_world.specs.World.{World, Process, Reserve, Segment, Held}
 use Rattle.o2_world.specs.Holders.{process_at}
 use Rattle.o2_world.specs.Changes.{Change, Makes, Resizes, Locks, Marks, Holds, Drops, Finishes, Reserves, Frees, Names, at_number, more, fewer, resized, with_change, with_changes, with_segment, with_held, takes}
 use Rattle.o2_world.proofs.MapLemmas.{get-at_key, if_yes}
 use Rattle.o2_world.proofs.Numbers.{process_is, at_place_of, changed_is}
 use Rattle.o2_world.proofs.Reached.{get-put, get-place}
 use Rattle.o2_alone.specs.Renaming.{Renaming, renamed_held, renamed_change, renamed_changes}
+use Rattle.o2_alone.specs.Isolation.{own_reserves}
 
 -- What a put of a name under an index leaves of a name.
 
@@ -65,6 +66,7 @@ pub record AreTwins (f : Renaming) (number : ℕ) (mine : ℕ → Type 0) (first
   pub segment : (n : ℕ) → mine n → get a.names (f n) ≡ get w.names n
   pub low : first ≤ w.next_name
   pub next : a.next_name ≡ other + (w.next_name - first)
+  pub reserved : own_reserves number a.reserved ≡ own_reserves number w.reserved
 
 -- a change of the process, and of names that are spoken of
 abbrev pub IsMine : ℕ → (ℕ → Type 0) → Change → Type 0
@@ -75,7 +77,7 @@ IsMine number mine (Marks n discarded) = mine n
 IsMine number mine (Holds p i h) = (p ≡ number) × mine h.name
 IsMine number mine (Drops p i count) = p ≡ number
 IsMine number mine (Finishes p state) = p ≡ number
-IsMine number mine (Reserves r) = ⊥
+IsMine number mine (Reserves r) = Unit {0}
 IsMine number mine (Frees region at) = ⊥
 IsMine number mine (Names text name) = Unit {0}
 
@@ -120,6 +122,7 @@ module _ (f : Renaming) (number : ℕ) (some : 0 < number) (mine : ℕ → Type 
         ∙ (ap (λ (o : Option Segment). cond (w.next_name == n) (Some s) o) (t.segment n mn) ∙ sym (get-put w.next_name n (Some s) w.names)));
     low = let low = t.low in omega (arith, low);
     next = let low = t.low in let next = t.next in omega (arith, low, next);
+    reserved = t.reserved;
   }
     where
       next_is : a.next_name ≡ f w.next_name
@@ -141,6 +144,7 @@ module _ (f : Renaming) (number : ℕ) (some : 0 < number) (mine : ℕ → Type 
         ∙ (ap (λ (o : Option Segment). cond (m == n) (option_map g (get w.names m)) o) (t.segment n mn) ∙ sym (get-at_key m n g w.names))));
     low = t.low;
     next = t.next;
+    reserved = t.reserved;
   }
 
   twin_process : (g h : Process → Process) (w a : World) (t : Twins w a) → (h t.twin).cpu ≡ (g t.one).cpu → (h t.twin).state ≡ (g t.one).state
@@ -158,6 +162,7 @@ module _ (f : Renaming) (number : ℕ) (some : 0 < number) (mine : ℕ → Type 
     segment = t.segment;
     low = t.low;
     next = t.next;
+    reserved = t.reserved;
   }
 
   -- another thing under one index
@@ -193,7 +198,20 @@ module _ (f : Renaming) (number : ℕ) (some : 0 < number) (mine : ℕ → Type 
   twin_change (Finishes p state) w a m t =
       subst (λ (p : ℕ). Twins (with_change w (Finishes p state)) (with_change a (Finishes p state))) (sym m)
       (twin_process (λ (x : Process). record x { state = state; held = [] }) (λ (x : Process). record x { state = state; held = [] }) w a t t.cpu refl (λ i. refl) (λ i h e. cc))
-  twin_change (Reserves r) w a m t = absurd m
+  twin_change (Reserves r) w a m t = record {
+    one = t.one;
+    twin = t.twin;
+    there = t.there;
+    there_too = t.there_too;
+    cpu = t.cpu;
+    state = t.state;
+    held = t.held;
+    named = t.named;
+    segment = t.segment;
+    low = t.low;
+    next = t.next;
+    reserved = ap (λ (rs : List Reserve). cond (r.region == number) (r ∷ rs) rs) t.reserved;
+  }
   twin_change (Frees region at) w a m t = absurd m
   twin_change (Names text name) w a m t = record {
     one = t.one;
@@ -207,6 +225,7 @@ module _ (f : Renaming) (number : ℕ) (some : 0 < number) (mine : ℕ → Type 
     segment = t.segment;
     low = t.low;
     next = t.next;
+    reserved = t.reserved;
   }
 
   pub twin_changes : (cs : List Change) (w a : World) → AreMine number mine cs → Twins w a → Twins (with_changes w cs) (with_changes a (renamed_changes f cs))

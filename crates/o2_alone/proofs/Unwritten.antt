@@ -18,11 +18,13 @@ use Rattle.o2_world.specs.declared.types.Argument.{Argument}
 use Rattle.o2_world.specs.declared.types.Argument.TheVariants.{Word, Far}
 use Rattle.o2_world.specs.declared.types.Transfer.{Transfer}
 use Rattle.o2_world.specs.declared.types.Row.{Row}
-use Rattle.o2_world.specs.declared.types.Row.TheVariants.{DosExit, DosGetPid, DosRead, DosWrite, DosMemAvail, OnSegments, OnShared}
+use Rattle.o2_world.specs.declared.types.Row.TheVariants.{DosExit, DosGetPid, DosRead, DosWrite, DosMemAvail, OnSegments, OnShared, OnRuns}
 use Rattle.o2_world.specs.declared.types.SegmentCall.{SegmentCall}
 use Rattle.o2_world.specs.declared.types.SegmentCall.TheVariants.{DosAllocSeg, DosReallocSeg, DosFreeSeg, DosSizeSeg, DosLockSeg, DosUnlockSeg, DosCreateCsAlias}
 use Rattle.o2_world.specs.declared.types.SharedCall.{SharedCall}
 use Rattle.o2_world.specs.declared.types.SharedCall.TheVariants.{DosAllocShrSeg, DosGetShrSeg, DosGiveSeg, DosGetSeg}
+use Rattle.o2_world.specs.declared.types.HugeCall.{HugeCall}
+use Rattle.o2_world.specs.declared.types.HugeCall.TheVariants.{DosAllocHuge, DosReallocHuge, DosGetHugeShift}
 use Rattle.o2_world.specs.World.{is_live}
 use Rattle.o2_world.specs.CallParts.{Before, Effect, argument, has_arguments, word_bytes, may_write}
 use Rattle.o2_world.specs.Rulings.{Ruling, allocation, aliasing, sizing}
@@ -30,6 +32,8 @@ use Rattle.o2_world.specs.SegmentCalls.{ruled_at, Written, written_word, written
 use Rattle.o2_world.specs.SharedNames.{may_read_text, name_by, text_at}
 use Rattle.o2_world.specs.SharedRulings.{giving, naming, sharing}
 use Rattle.o2_world.specs.SharedCalls.{dos_alloc_shr_seg, dos_get_shr_seg, dos_give_seg, dos_get_seg, give_args, name_args, on_shared}
+use Rattle.o2_world.specs.HugeRulings.{huge_allocation, huge_shift}
+use Rattle.o2_world.specs.HugeCalls.{dos_alloc_huge, dos_get_huge_shift, dos_realloc_huge, huge_args, on_runs}
 use Rattle.o2_world.specs.Calls.{transfer_of, is_console, may_give, dos_write, dos_exit, told, may_take, read_from, dos_read, served_by, row_of}
 use Rattle.o2_world.specs.Effect.{has_trap_flag, answered, single_stepped, effect}
 use Rattle.o2_alone.specs.Renaming.{IsIn}
@@ -169,6 +173,21 @@ module _ (b : Before) (n : ℕ) (unwritten : IsUnwritten b.view.held n) where
       (λ good. ruled_keeps next 4 (codes "DosGiveSeg") (give_args (a 3) (a 2) (a 1) (a 0)) (written_word (a 1) (a 0) r.value) r good) refl) refl
   on_shared_keeps DosGetSeg next = by_test (has_arguments b.view b.cpu 1) _ _ (λ _. refl) refl
 
+  on_runs_keeps : (call : HugeCall) (next : ℕ) → Keeps (on_runs call b next)
+  unfolding dos_alloc_huge dos_realloc_huge dos_get_huge_shift
+  on_runs_keeps DosAllocHuge next =
+      let a : ℕ → ℕ = argument b.view b.cpu in
+      let r = huge_allocation b.known b.number (a 5) (a 4) (a 1) (a 0) in
+      by_test (has_arguments b.view b.cpu 6) _ _
+      (λ _. by_test (may_write b.view (a 3) (a 2) 2) _ _
+      (λ good. ruled_keeps next 6 (codes "DosAllocHuge") (huge_args (a 5) (a 4) (a 3) (a 2) (a 1) (a 0)) (written_word (a 3) (a 2) r.value) r good) refl) refl
+  on_runs_keeps DosReallocHuge next = by_test (has_arguments b.view b.cpu 3) _ _ (λ _. refl) refl
+  on_runs_keeps DosGetHugeShift next =
+      let a : ℕ → ℕ = argument b.view b.cpu in
+      by_test (has_arguments b.view b.cpu 2) _ _
+      (λ _. by_test (may_write b.view (a 1) (a 0) 2) _ _
+      (λ good. ruled_keeps next 2 (codes "DosGetHugeShift") (Far (a 1) (a 0) ∷ []) (written_word (a 1) (a 0) huge_shift) (record { error = 0; value = huge_shift; changes = [] }) good) refl) refl
+
   served_keeps : (row : Option Row) (next : ℕ) → Keeps (served_by row b next)
   served_keeps None next = refl
   served_keeps (Some DosExit) next = exit_keeps
@@ -178,6 +197,7 @@ module _ (b : Before) (n : ℕ) (unwritten : IsUnwritten b.view.held n) where
   served_keeps (Some DosMemAvail) next = told_keeps next _ _ _
   served_keeps (Some (OnSegments call)) next = on_segments_keeps call next
   served_keeps (Some (OnShared call)) next = on_shared_keeps call next
+  served_keeps (Some (OnRuns call)) next = on_runs_keeps call next
 
   single_keeps : (e : Effect) → Keeps e → Keeps (single_stepped b e)
   single_keeps e k = by_test (has_trap_flag b.cpu.flags && is_live e.state) _ e (λ _. k) k

@@ -1,12 +1,13 @@
 -- Isolation: where a process keeps to itself, its run among others is its run alone.
-use Rattle.std.specs.Prelude.{◌≡◌, ◌≢◌, ℕ, ◌+◌, ◌-◌, ◌<◌, ◌≤◌, true, false, List, [], Option, Some, None, option_map, slice_get, Ok}
-use Rattle.std.specs.List.{All, list_any}
+use Rattle.std.specs.Prelude.{◌≡◌, ◌≢◌, ◌⊎◌, ℕ, ◌+◌, ◌-◌, ◌<◌, ◌≤◌, ◌==◌, true, false, List, [], filter, Option, Some, None, option_map, slice_get, Ok}
+use Rattle.std.specs.List.{All}
 use Rattle.o2_conf.specs.declared.script.Word.{Word}
 use Rattle.o2_desc.specs.Bits.{has_bit}
 use Rattle.o2_world.specs.Map.{Map, get}
-use Rattle.o2_world.specs.World.{World, Setting, Process, Segment, Held}
+use Rattle.o2_world.specs.World.{World, Setting, Process, Reserve, Segment, Held}
 use Rattle.o2_world.specs.Views.{bytes_in}
-use Rattle.o2_world.specs.Known.{held_at, lives_at, reserves}
+use Rattle.o2_world.specs.Known.{held_at, lives_at}
+use Rattle.o2_world.specs.Rulings.{by_load, is_in_run}
 use Rattle.o2_world.specs.Holders.{process_at}
 use Rattle.o2_world.specs.Starts.{Loaded, Start, opening_of}
 use Rattle.o2_world.specs.FitStarts.{ShareNoIndex, AreFit, AreOf}
@@ -15,7 +16,7 @@ use Rattle.o2_world.specs.Run.{after}
 use Rattle.o2_alone.specs.Renaming.{Renaming, renamed_held}
 use Rattle.o2_alone.specs.Events.{events, events_of, own_steps}
 use Rattle.o2_alone.specs.Alone.{opening_alone}
-use Rattle.o2_alone.specs.Keeping.{KeepsToItself}
+use Rattle.o2_alone.specs.Keeping.{KeepsToItself, is_clean}
 
 -- What is the same in both runs.
 
@@ -45,8 +46,12 @@ pub record IsIsolated (s : Setting) (w alone : World) (number k : ℕ) : Type 0 
 
 -- Two worlds from which both runs begin.
 
+-- what is reserved of a process's own region
+abbrev pub own_reserves : (number : ℕ) → List Reserve → List Reserve
+own_reserves number rs = filter (λ (r : Reserve). r.region == number) rs
+
 -- A process in two worlds, with other numbers for the names that it holds: the same registers and state, and under each index the same
--- rights, holds and segment. No index of its own region is reserved.
+-- rights, holds and segment. Of its own region the same indexes are reserved, by the same stretches.
 pub record IsLike (f : Renaming) (number : ℕ) (w other : World) : Type 0 where
   pub process : Process
   pub twin : Process
@@ -57,8 +62,7 @@ pub record IsLike (f : Renaming) (number : ℕ) (w other : World) : Type 0 where
   pub held : (i : ℕ) → get twin.held i ≡ option_map (renamed_held f) (get process.held i)
   pub segment : (i : ℕ) (h : Held) → get process.held i ≡ Some h → get other.names (f h.name) ≡ get w.names h.name
   pub apart : (i j : ℕ) (g h : Held) → get process.held i ≡ Some g → get process.held j ≡ Some h → f g.name ≡ f h.name → g.name ≡ h.name
-  pub unreserved : (i : ℕ) → list_any (reserves number i) w.reserved ≡ false
-  pub unreserved_too : (i : ℕ) → list_any (reserves number i) other.reserved ≡ false
+  pub reserved : own_reserves number other.reserved ≡ own_reserves number w.reserved
 
 -- no other process lives, and no word of a script is left
 pub record IsAlone (number : ℕ) (w : World) : Type 0 where
@@ -69,12 +73,24 @@ pub record IsAlone (number : ℕ) (w : World) : Type 0 where
 abbrev pub AreFixed : Map Segment → Type 0
 AreFixed names = (n : ℕ) (s : Segment) → get names n ≡ Some s → s.clean ≡ true → has_bit s.flags 2 ≡ false
 
+-- A hold of a run: its stretch lies in one region, and nobody for whom an index of it is the same holds that by load.
+pub record IsRunApart (w : World) (n i : ℕ) (h : Held) : Type 0 where
+  pub region : h.first < 4096 → h.first + h.reserved ≤ 4096
+  pub shared : 4096 ≤ i → 4096 ≤ h.first
+  pub loads : (m j : ℕ) (g : Held) → (m ≡ n) ⊎ (4096 ≤ j) → h.first ≤ j → j < h.first + h.reserved → held_at w.processes m j ≡ Some g → by_load g.cause ≡ false
+
+-- what never changes is held by load, and what is held by load lies in no run
+pub record AreLoadsApart (w : World) : Type 0 where
+  pub clean : (n i : ℕ) (h : Held) → held_at w.processes n i ≡ Some h → by_load h.cause ≡ false → is_clean (get w.names h.name) ≡ false
+  pub runs : (n i : ℕ) (h : Held) → held_at w.processes n i ≡ Some h → is_in_run h ≡ true → IsRunApart w n i h
+
 pub record BeginsAlike (number : ℕ) (w alone : World) : Type 0 where
   pub names : Renaming
   pub like : IsLike names number w alone
   pub sound : IsSound w
   pub sound_alone : IsSound alone
   pub fixed : AreFixed w.names
+  pub loads : AreLoadsApart w
   pub is_alone : IsAlone number alone
   pub budget : w.dispatch.budget ≤ alone.dispatch.budget
 

@@ -2,9 +2,11 @@
 use Rattle.std.specs.Prelude.{◌≡◌, ◌≢◌, ◌⊎◌, ℕ, ◌<◌, Bool, true, false, Option, Some, None, ◌&&◌}
 use Rattle.std.specs.List.{list_any}
 use Rattle.o2_world.specs.declared.types.Row.{Row}
-use Rattle.o2_world.specs.declared.types.Row.TheVariants.{DosExit, DosGetPid, DosRead, DosWrite, DosMemAvail, OnSegments, OnShared}
+use Rattle.o2_world.specs.declared.types.Row.TheVariants.{DosExit, DosGetPid, DosRead, DosWrite, DosMemAvail, OnSegments, OnShared, OnRuns}
 use Rattle.o2_world.specs.declared.types.SegmentCall.{SegmentCall}
 use Rattle.o2_world.specs.declared.types.SegmentCall.TheVariants.{DosAllocSeg, DosReallocSeg, DosFreeSeg, DosSizeSeg, DosLockSeg, DosUnlockSeg, DosCreateCsAlias}
+use Rattle.o2_world.specs.declared.types.HugeCall.{HugeCall}
+use Rattle.o2_world.specs.declared.types.HugeCall.TheVariants.{DosAllocHuge, DosReallocHuge, DosGetHugeShift}
 use Rattle.o2_world.specs.Map.{get}
 use Rattle.o2_world.specs.World.{World, Setting, Segment, Held}
 use Rattle.o2_world.specs.Known.{held_at}
@@ -13,7 +15,7 @@ use Rattle.o2_world.specs.Effect.{effect}
 use Rattle.o2_world.specs.Run.{after}
 use Rattle.o2_world.specs.Giving.{gives}
 use Rattle.o2_alone.specs.Events.{next_before, own_steps}
-use Rattle.o2_alone.specs.Renaming.{asks_for_room, call_of, is_for_others, is_full}
+use Rattle.o2_alone.specs.Renaming.{asks_for_members_of, asks_for_room, asks_for_run, call_of, is_for_others, is_full, is_full_for, is_shared_run, new_segments, resized_run, run_segments}
 
 -- What it holds.
 
@@ -48,6 +50,16 @@ meets_by b DosLockSeg = false
 meets_by b DosUnlockSeg = false
 meets_by b DosCreateCsAlias = false
 
+-- a run with indexes of that region is resized
+abbrev pub reaches_shared : Option Held → Bool
+reaches_shared None = false
+reaches_shared (Some h) = is_shared_run h
+
+abbrev pub meets_by_run : Before → HugeCall → Bool
+meets_by_run b DosAllocHuge = is_for_others b
+meets_by_run b DosReallocHuge = reaches_shared (resized_run b)
+meets_by_run b DosGetHugeShift = false
+
 abbrev pub meets : Before → Option Row → Bool
 meets b None = false
 meets b (Some DosExit) = false
@@ -57,6 +69,7 @@ meets b (Some DosWrite) = false
 meets b (Some DosMemAvail) = false
 meets b (Some (OnSegments call)) = meets_by b call
 meets b (Some (OnShared call)) = true
+meets b (Some (OnRuns call)) = meets_by_run b call
 
 -- where the next step is its own, it makes no such call
 abbrev pub IsQuiet : Setting → World → (number : ℕ) → Type 0
@@ -72,6 +85,16 @@ lacks_by b DosLockSeg = false
 lacks_by b DosUnlockSeg = false
 lacks_by b DosCreateCsAlias = false
 
+-- a call on a huge allocation too
+abbrev pub lacks_members : Before → Option Held → Bool
+lacks_members b None = false
+lacks_members b (Some h) = asks_for_members_of b h && is_full_for (new_segments b h) b.known
+
+abbrev pub lacks_by_run : Before → HugeCall → Bool
+lacks_by_run b DosAllocHuge = asks_for_run b && is_full_for (run_segments b) b.known
+lacks_by_run b DosReallocHuge = lacks_members b (resized_run b)
+lacks_by_run b DosGetHugeShift = false
+
 abbrev pub lacks_room : Before → Option Row → Bool
 lacks_room b None = false
 lacks_room b (Some DosExit) = false
@@ -81,6 +104,7 @@ lacks_room b (Some DosWrite) = false
 lacks_room b (Some DosMemAvail) = false
 lacks_room b (Some (OnSegments call)) = lacks_by b call
 lacks_room b (Some (OnShared call)) = false
+lacks_room b (Some (OnRuns call)) = lacks_by_run b call
 
 -- where the next step is its own, no call is answered so
 abbrev pub HasRoom : Setting → World → (number : ℕ) → Type 0

@@ -1,6 +1,7 @@
 -- Other numbers for names. What a step does goes by what its process holds, by the bytes and marks of that, and by which indexes are taken,
 -- and not by the numbers that its segments have in the world.
-use Rattle.std.specs.Prelude.{◌≡◌, ℕ, ◌%◌, ◌==◌, ◌&&◌, Bool, true, not, nat_le, nat_lt, List, map, Option, Some, None, option_map, Result, Ok, Err}
+use Rattle.std.specs.Prelude.{◌≡◌, ℕ, ◌+◌, ◌-◌, ◌/◌, ◌%◌, ◌==◌, ◌&&◌, ◌||◌, Bool, true, false, not, nat_le, nat_lt, List, length, drop, map, Option, Some, None, option_map, Result, Ok, Err}
+use Rattle.o2_isa.specs.declared.cpu.Cpu.{Cpu}
 use Rattle.o2_isa.specs.declared.cpu.Stop.{Stop}
 use Rattle.o2_isa.specs.declared.cpu.Stop.TheVariants as stop
 use Rattle.o2_isa.specs.declared.instr.Sreg.{Sreg}
@@ -8,15 +9,19 @@ use Rattle.o2_isa.specs.View.{View, Hold, in_register}
 use Rattle.o2_isa.specs.Steps.{State as Machine, state}
 use Rattle.o2_isa.specs.Step.{stepped}
 use Rattle.o2_world.specs.declared.types.Row.{Row}
-use Rattle.o2_world.specs.declared.types.Row.TheVariants.{DosExit, DosGetPid, DosRead, DosWrite, DosMemAvail, OnSegments, OnShared}
+use Rattle.o2_world.specs.declared.types.Row.TheVariants.{DosExit, DosGetPid, DosRead, DosWrite, DosMemAvail, OnSegments, OnShared, OnRuns}
 use Rattle.o2_world.specs.declared.types.SegmentCall.{SegmentCall}
 use Rattle.o2_world.specs.declared.types.SegmentCall.TheVariants.{DosAllocSeg, DosReallocSeg, DosFreeSeg, DosSizeSeg, DosLockSeg, DosUnlockSeg, DosCreateCsAlias}
+use Rattle.o2_world.specs.declared.types.HugeCall.{HugeCall}
+use Rattle.o2_world.specs.declared.types.HugeCall.TheVariants.{DosAllocHuge, DosReallocHuge, DosGetHugeShift}
 use Rattle.o2_world.specs.World.{Held}
 use Rattle.o2_world.specs.Changes.{Change, Makes, Resizes, Locks, Marks, Holds, Drops, Finishes, Reserves, Frees, Names}
 use Rattle.o2_world.specs.Known.{Known}
 use Rattle.o2_world.specs.CallParts.{Before, Effect, argument, has_arguments, may_write}
 use Rattle.o2_world.specs.Calls.{row_of}
-use Rattle.o2_world.specs.Rulings.{Ruling}
+use Rattle.o2_world.specs.Rulings.{Ruling, held_under, in_use, is_in_run, members}
+use Rattle.o2_world.specs.SharedRulings.{shared_from}
+use Rattle.o2_world.specs.HugeRulings.{all_bytes, bytes_of, is_first, is_huge_fault, segments_of}
 
 abbrev pub Renaming : Type 0
 Renaming = ℕ → ℕ
@@ -114,16 +119,78 @@ IsRuledAlike DosLockSeg b other = Unit {0}
 IsRuledAlike DosUnlockSeg b other = Unit {0}
 IsRuledAlike DosCreateCsAlias b other = Unit {0}
 
+-- Huge allocations.
+
+-- names that come one after the other are numbered so in both
+abbrev pub AreNumberedAlike : Renaming → (k other : Known) → Type 0
+AreNumberedAlike f k other = (j : ℕ) → other.next + j ≡ f (k.next + j)
+
+-- so many more segments may not live
+abbrev pub is_full_for : (count : ℕ) → Known → Bool
+is_full_for count k = nat_lt k.most (k.count + count)
+
+-- a DosAllocHuge comes to the question whether so many more segments may live: its arguments, its pointer, its sizes and its flags are good
+abbrev pub asks_for_run : Before → Bool
+asks_for_run b =
+    let a : ℕ → ℕ = argument b.view b.cpu in
+    has_arguments b.view b.cpu 6 && (may_write b.view (a 3) (a 2) 2 && not (is_huge_fault (segments_of (a 5) (a 4)) (a 1) (a 0)))
+
+abbrev pub run_segments : Before → ℕ
+run_segments b = segments_of (argument b.view b.cpu 5) (argument b.view b.cpu 4)
+
+pub record AllocatesAlike (f : Renaming) (b other : Before) : Type 0 where
+  pub names : AreNumberedAlike f b.known other.known
+  pub room : asks_for_run b ≡ true → is_full_for (run_segments b) other.known ≡ is_full_for (run_segments b) b.known
+  pub shared : is_for_others b ≡ true → (i : ℕ) → other.known.taken 0 i ≡ b.known.taken 0 i
+
+-- a DosReallocHuge of this run comes to that question too: all conditions that come first are met
+abbrev pub comes_to_room : Known → (number index segs part : ℕ) → Cpu → Held → Bool
+comes_to_room k n i segs part c h =
+    let is = members k n i h in
+    let m = segments_of segs part in
+    is_first i h && (not (m == 0) && (not (nat_lt h.reserved m)
+    && not ((nat_le shared_from h.first && nat_lt (bytes_of segs part) (all_bytes k n is)) || in_use c (drop m is))))
+
+-- what it is to resize
+abbrev pub resized_run : Before → Option Held
+resized_run b = held_under b.known b.number (argument b.view b.cpu 0)
+
+-- a run with indexes of the region that all share
+abbrev pub is_shared_run : Held → Bool
+is_shared_run h = is_in_run h && nat_lt 4096 (h.first + h.reserved)
+
+abbrev pub asks_for_members_of : Before → Held → Bool
+asks_for_members_of b h =
+    let a : ℕ → ℕ = argument b.view b.cpu in
+    has_arguments b.view b.cpu 3 && comes_to_room b.known b.number (a 0 / 8) (a 2) (a 1) b.cpu h
+
+-- how many segments come
+abbrev pub new_segments : Before → Held → ℕ
+new_segments b h =
+    let a : ℕ → ℕ = argument b.view b.cpu in
+    segments_of (a 2) (a 1) - length (members b.known b.number (a 0 / 8) h)
+
+pub record ResizesAlike (f : Renaming) (b other : Before) : Type 0 where
+  pub names : AreNumberedAlike f b.known other.known
+  pub own : (h : Held) → resized_run b ≡ Some h → is_shared_run h ≡ false
+  pub room : (h : Held) → resized_run b ≡ Some h → asks_for_members_of b h ≡ true → is_full_for (new_segments b h) other.known ≡ is_full_for (new_segments b h) b.known
+
+abbrev pub IsRunAlike : Renaming → HugeCall → Before → Before → Type 0
+IsRunAlike f DosAllocHuge b other = AllocatesAlike f b other
+IsRunAlike f DosReallocHuge b other = ResizesAlike f b other
+IsRunAlike f DosGetHugeShift b other = Unit {0}
+
 -- Of the calls by which processes share segments nothing is said: they go by what other processes hold.
-abbrev pub IsAskedAlike : Option Row → Before → Before → Type 0
-IsAskedAlike None b other = Unit {0}
-IsAskedAlike (Some DosExit) b other = Unit {0}
-IsAskedAlike (Some DosGetPid) b other = Unit {0}
-IsAskedAlike (Some DosRead) b other = other.input ≡ b.input
-IsAskedAlike (Some DosWrite) b other = Unit {0}
-IsAskedAlike (Some DosMemAvail) b other = Unit {0}
-IsAskedAlike (Some (OnSegments call)) b other = IsRuledAlike call b other
-IsAskedAlike (Some (OnShared call)) b other = ⊥
+abbrev pub IsAskedAlike : Renaming → Option Row → Before → Before → Type 0
+IsAskedAlike f None b other = Unit {0}
+IsAskedAlike f (Some DosExit) b other = Unit {0}
+IsAskedAlike f (Some DosGetPid) b other = Unit {0}
+IsAskedAlike f (Some DosRead) b other = other.input ≡ b.input
+IsAskedAlike f (Some DosWrite) b other = Unit {0}
+IsAskedAlike f (Some DosMemAvail) b other = Unit {0}
+IsAskedAlike f (Some (OnSegments call)) b other = IsRuledAlike call b other
+IsAskedAlike f (Some (OnShared call)) b other = ⊥
+IsAskedAlike f (Some (OnRuns call)) b other = IsRunAlike f call b other
 
 -- What calls and steps come to.
 

@@ -30,7 +30,7 @@ pub fn instructions_depend_on_no_name()
 /// for a segment that others may have, by which indexes of the region that all share are taken. The lines of a change have no number of a name.
 pub fn calls_depend_on_no_name()
     ensures rows { (f : Renaming) (row : Option Row) (b other : Before) (next : ℕ)
-        → IsRenamed f b other → IsAskedAlike row b other
+        → IsRenamed f b other → IsAskedAlike f row b other
         → IsRenamedEffect f b other (served_by row b next) (served_by row other next) }
     ensures lines { (f : Renaming) (cause : List ℕ) (changes : List Change)
         → moved_lines cause (renamed_changes f changes) ≡ moved_lines cause changes }
@@ -39,7 +39,7 @@ pub fn calls_depend_on_no_name()
 /// So a step of a process, an instruction or a call, depends on the numbers of its segments in nothing.
 pub fn steps_depend_on_no_name()
     ensures { (f : Renaming) (b other : Before)
-        → IsRenamed f b other → IsAskedAlike (call_of b) b other
+        → IsRenamed f b other → IsAskedAlike f (call_of b) b other
         → IsRenamedEffect f b other (effect b) (effect other) }
 {}
 

@@ -89,6 +89,9 @@ pub fn is_built(number: u16) -> bool
         || number == 13
         || number == 14
         || number == 15
+        || number == 16
+        || number == 17
+        || number == 18
         || number == 19
 }
 

@@ -5,15 +5,17 @@ use Rattle.std.specs.Prelude.{if◌then◌else◌, Option, Some, None}
 use Rattle.std.specs.List.{list_any}
 use Rattle.o2_conf.specs.Dispatch.{Dispatch}
 use Rattle.o2_world.specs.declared.types.Row.{Row}
-use Rattle.o2_world.specs.declared.types.Row.TheVariants.{DosExit, DosGetPid, DosRead, DosWrite, DosMemAvail, OnSegments, OnShared}
+use Rattle.o2_world.specs.declared.types.Row.TheVariants.{DosExit, DosGetPid, DosRead, DosWrite, DosMemAvail, OnSegments, OnShared, OnRuns}
 use Rattle.o2_world.specs.declared.types.SegmentCall.TheVariants.{DosAllocSeg, DosReallocSeg, DosFreeSeg, DosSizeSeg, DosLockSeg, DosUnlockSeg, DosCreateCsAlias}
 use Rattle.o2_world.specs.declared.types.SharedCall.TheVariants.{DosAllocShrSeg, DosGetShrSeg, DosGiveSeg, DosGetSeg}
+use Rattle.o2_world.specs.declared.types.HugeCall.TheVariants.{DosAllocHuge, DosReallocHuge, DosGetHugeShift}
 use Rattle.o2_world.specs.World.{World, Line, Process}
 use Rattle.o2_world.specs.Changes.{Change, Makes, Resizes, Locks, Marks, Holds, Drops, Finishes, Reserves, Frees, Names, takes, swept, with_all, with_change, with_changes}
 use Rattle.o2_world.specs.CallParts.{Before, Effect, argument, has_arguments}
 use Rattle.o2_world.specs.Calls.{served, served_by, dos_write, dos_exit, dos_read, told}
 use Rattle.o2_world.specs.SegmentCalls.{dos_alloc_seg, dos_realloc_seg, dos_free_seg, dos_size_seg, dos_lock_seg, dos_unlock_seg, dos_create_cs_alias}
 use Rattle.o2_world.specs.SharedCalls.{dos_alloc_shr_seg, dos_get_shr_seg, dos_give_seg, dos_get_seg}
+use Rattle.o2_world.specs.HugeCalls.{dos_alloc_huge, dos_realloc_huge, dos_get_huge_shift}
 use Rattle.o2_world.specs.Run.{changed, worked, all_changes}
 use Rattle.o2_boundless.specs.Shown.{Shown}
 use Rattle.o2_boundless.specs.Called.{behind_effect, row_with, with_row, words_by, words_of}
@@ -59,7 +61,7 @@ call_is_step v n p e = all_keep v.world.dispatch [] (worked v.world (record v.wo
 
 pub row_is_served : (row : Row) (b : Before) (next : ℕ) (a : ℕ → ℕ) → has_arguments b.view b.cpu (words_of row) ≡ true
     → ((i : ℕ) → a i ≡ argument b.view b.cpu (words_of row - 1 - i)) → row_with row b next a ≡ served row b next
-unfolding dos_write dos_exit dos_read told dos_alloc_seg dos_realloc_seg dos_free_seg dos_size_seg dos_lock_seg dos_unlock_seg dos_create_cs_alias dos_alloc_shr_seg dos_get_shr_seg dos_give_seg dos_get_seg
+unfolding dos_write dos_exit dos_read told dos_alloc_seg dos_realloc_seg dos_free_seg dos_size_seg dos_lock_seg dos_unlock_seg dos_create_cs_alias dos_alloc_shr_seg dos_get_shr_seg dos_give_seg dos_get_seg dos_alloc_huge dos_realloc_huge dos_get_huge_shift
 row_is_served DosExit b next a h e = rw (h, e 0, e 1) refl
 row_is_served DosGetPid b next a h e = rw (h, e 0, e 1) refl
 row_is_served DosRead b next a h e = rw (h, e 0, e 1, e 2, e 3, e 4, e 5) refl
@@ -76,6 +78,9 @@ row_is_served (OnShared DosAllocShrSeg) b next a h e = rw (h, e 0, e 1, e 2, e 3
 row_is_served (OnShared DosGetShrSeg) b next a h e = rw (h, e 0, e 1, e 2, e 3) refl
 row_is_served (OnShared DosGiveSeg) b next a h e = rw (h, e 0, e 1, e 2, e 3) refl
 row_is_served (OnShared DosGetSeg) b next a h e = rw (h, e 0) refl
+row_is_served (OnRuns DosAllocHuge) b next a h e = rw (h, e 0, e 1, e 2, e 3, e 4, e 5) refl
+row_is_served (OnRuns DosReallocHuge) b next a h e = rw (h, e 0, e 1, e 2) refl
+row_is_served (OnRuns DosGetHugeShift) b next a h e = rw (h, e 0, e 1) refl
 
 pub row_is_serviced : (row : Option Row) (b : Before) (next : ℕ) (a : ℕ → ℕ) → has_arguments b.view b.cpu (words_by row) ≡ true
     → ((i : ℕ) → a i ≡ argument b.view b.cpu (words_by row - 1 - i)) → with_row row b next a ≡ served_by row b next

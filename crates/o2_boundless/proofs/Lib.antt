@@ -12,3 +12,4 @@ pub mod Rows
 pub mod Behind
 pub mod Kept
 pub mod OwnRows
+pub mod Runs

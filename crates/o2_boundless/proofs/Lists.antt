@@ -41,6 +41,8 @@ indexes-push first (suc n) =
     let b : first + suc n ≡ first + 1 + n = omega arith in
     rw (a, b) (ap (λ is. first ∷ is) (indexes-push (first + 1) n))
 
+pub ruleset rising = (indexes-push)
+
 pub filter-push : {X : Type 0} (p : X → Bool) (xs : List X) (x : X) → filter p (xs ++ x ∷ []) ≡ filter p xs ++ (if p x then x ∷ [] else [])
 filter-push p xs x = filter-append p xs (x ∷ [])
 

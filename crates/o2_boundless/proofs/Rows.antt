@@ -11,6 +11,8 @@ use Rattle.o2_world.specs.World.{Held}
 use Rattle.o2_world.specs.Known.{Known}
 use Rattle.o2_world.specs.CallParts.{Before, Effect, returned, trapped}
 use Rattle.o2_world.specs.Rulings.{Ruling, freeing, freeing_of, freed_cpu, held_under, dropped_indexes}
+use Rattle.o2_world.specs.HugeCalls.{reallocated_huge}
+use Rattle.o2_world.specs.HugeRulings.{huge_reallocation, without}
 use Rattle.o2_world.specs.SegmentCalls.{Written, written_word, written_long, ruled, ruled_at, back, freed}
 use Rattle.o2_boundless.specs.declared.rulings.Verdict.{Verdict}
 use Rattle.o2_boundless.specs.declared.outcome.Outcome.{Outcome}
@@ -112,6 +114,24 @@ freed_row b (Ok x) s cpu verdict is f d g h =
     let Q : Ruling → Type 0 = λ v. IsOutcome b x (freed_by b s v (dropped_indexes v.changes)) in
     let R : Ruling → Type 0 = λ v. IsOutcome b x (freed_by b s u (dropped_indexes v.changes)) in
     subst R (sym (freeing_returned b.known b.number s b.cpu b.cpu.ip 1 u.error)) (subst Q f (subst I d (subst C g (h b refl))))
+
+-- the row of DosReallocHuge by its ruling
+rehuged_by : Before → (segs part s : ℕ) → Ruling → List ℕ → Effect
+rehuged_by b segs part s u is =
+    back b (without (returned b.cpu b.cpu.ip 3 u.error) is) b.view.bytes (codes "DosReallocHuge") (Word segs ∷ Word part ∷ Word s ∷ []) u.error [] u.changes
+
+pub rehuged_row : (b : Before) (r : Result Outcome NoMemory) (segs part s : ℕ) (cpu : Cpu) (verdict : Verdict) (is : List ℕ)
+    → ruling_of verdict ≡ huge_reallocation b.known b.number segs part s b.cpu → is ≡ dropped_indexes (changes_of verdict.edits.items)
+    → cpu ≡ without (returned b.cpu b.cpu.ip 3 verdict.error) is
+    → IfOk r (λ x. (a : Before) → a.number ≡ b.number → IsOutcome a x (back a cpu a.view.bytes (codes "DosReallocHuge") (Word segs ∷ Word part ∷ Word s ∷ []) verdict.error [] (changes_of verdict.edits.items)))
+    → IfOk r (λ x. IsOutcome b x (reallocated_huge b b.cpu.ip segs part s))
+unfolding rehuged_by
+rehuged_row b (Err e) segs part s cpu verdict is f d g h = tt
+rehuged_row b (Ok x) segs part s cpu verdict is f d g h =
+    let C : Cpu → Type 0 = λ c. IsOutcome b x (back b c b.view.bytes (codes "DosReallocHuge") (Word segs ∷ Word part ∷ Word s ∷ []) verdict.error [] (changes_of verdict.edits.items)) in
+    let I : List ℕ → Type 0 = λ js. IsOutcome b x (rehuged_by b segs part s (ruling_of verdict) js) in
+    let Q : Ruling → Type 0 = λ v. IsOutcome b x (rehuged_by b segs part s v (dropped_indexes v.changes)) in
+    subst Q f (subst I d (subst C g (h b refl)))
 
 -- a call with a text that is found, and with a pointer behind which it writes its value
 pub texted_word : (b : Before) (r : Result Outcome NoMemory) (g good : Bool) (words : ℕ) (name : List ℕ) (args : List Argument) (s o : ℕ) (reply : Reply) (verdict : Verdict) (u : Ruling)

@@ -2,9 +2,10 @@
 use Rattle.std.specs.Prelude.{ℕ, ◌/◌, ◌%◌, List, [], ◌∷◌, ◌++◌, codes, slice_index, if◌then◌else◌, Option, Some, None}
 use Rattle.o2_world.specs.declared.types.Argument.TheVariants.{Word, Long}
 use Rattle.o2_world.specs.declared.types.Row.{Row}
-use Rattle.o2_world.specs.declared.types.Row.TheVariants.{DosExit, DosGetPid, DosRead, DosWrite, DosMemAvail, OnSegments, OnShared}
+use Rattle.o2_world.specs.declared.types.Row.TheVariants.{DosExit, DosGetPid, DosRead, DosWrite, DosMemAvail, OnSegments, OnShared, OnRuns}
 use Rattle.o2_world.specs.declared.types.SegmentCall.TheVariants.{DosAllocSeg, DosReallocSeg, DosFreeSeg, DosSizeSeg, DosLockSeg, DosUnlockSeg, DosCreateCsAlias}
 use Rattle.o2_world.specs.declared.types.SharedCall.TheVariants.{DosAllocShrSeg, DosGetShrSeg, DosGiveSeg, DosGetSeg}
+use Rattle.o2_world.specs.declared.types.HugeCall.TheVariants.{DosAllocHuge, DosReallocHuge, DosGetHugeShift}
 use Rattle.o2_world.specs.declared.types.State.TheVariants.{Exited}
 use Rattle.o2_world.specs.declared.types.Transfer.{Transfer}
 use Rattle.o2_world.specs.World.{Process, Exits, Ends, is_live}
@@ -12,6 +13,7 @@ use Rattle.o2_world.specs.CallParts.{Before, Effect, long_bytes, trapped}
 use Rattle.o2_world.specs.Calls.{pid_bytes, read_from, row_of, told_at, written as transferred}
 use Rattle.o2_world.specs.SegmentCalls.{aliased, allocated, freed, locked, reallocated, sized, unlocked}
 use Rattle.o2_world.specs.SharedCalls.{given, got, named, shared_by_name}
+use Rattle.o2_world.specs.HugeCalls.{allocated_huge, reallocated_huge, shift_told}
 use Rattle.o2_world.specs.Changes.{with_all}
 use Rattle.o2_world.specs.Holders.{process_at}
 use Rattle.o2_world.specs.Run.{all_changes}
@@ -37,6 +39,9 @@ words_of (OnShared DosAllocShrSeg) = 5
 words_of (OnShared DosGetShrSeg) = 4
 words_of (OnShared DosGiveSeg) = 4
 words_of (OnShared DosGetSeg) = 1
+words_of (OnRuns DosAllocHuge) = 6
+words_of (OnRuns DosReallocHuge) = 3
+words_of (OnRuns DosGetHugeShift) = 2
 
 -- DosExit with its arguments
 abbrev pub exited : Before → (action code : ℕ) → Effect
@@ -77,6 +82,9 @@ row_with (OnShared DosAllocShrSeg) b next a = named b next (a 0) (a 1) (a 2) (a 
 row_with (OnShared DosGetShrSeg) b next a = shared_by_name b next (a 0) (a 1) (a 2) (a 3)
 row_with (OnShared DosGiveSeg) b next a = given b next (a 0) (a 1) (a 2) (a 3)
 row_with (OnShared DosGetSeg) b next a = got b next (a 0)
+row_with (OnRuns DosAllocHuge) b next a = allocated_huge b next (a 0) (a 1) (a 2) (a 3) (a 4) (a 5)
+row_with (OnRuns DosReallocHuge) b next a = reallocated_huge b next (a 0) (a 1) (a 2)
+row_with (OnRuns DosGetHugeShift) b next a = shift_told b next (a 0) (a 1)
 
 -- the row of a number; one without a row is that of no call, and its gate names nothing
 abbrev pub with_row : Option Row → Before → ℕ → (ℕ → ℕ) → Effect

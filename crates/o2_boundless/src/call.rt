@@ -1,7 +1,7 @@
 // A call of a process.
 ghost use Rattle.std.specs.Prelude.{◌≡◌, ◌≤◌, ◌++◌, true, IfOk, OnErr, OnOk, Some, length, replicate, slice_index};
 ghost use Rattle.std.specs.Option.{option_copied};
-ghost use Rattle.o2_world.specs.declared.types.Row.TheVariants.{OnSegments, OnShared};
+ghost use Rattle.o2_world.specs.declared.types.Row.TheVariants.{OnRuns, OnSegments, OnShared};
 ghost use Rattle.o2_world.specs.Calls.{row_of};
 ghost use Rattle.o2_world.specs.Known.{lives_at};
 ghost use Rattle.o2_world.specs.Holders.{process_at};
@@ -17,7 +17,7 @@ use crate::pointing::registers;
 use crate::working::{all_edits, is_live};
 use crate::{Process, World};
 use o2_base::NoMemory;
-use o2_world::{Row, SegmentCall, SharedCall, Transfer};
+use o2_world::{HugeCall, Row, SegmentCall, SharedCall, Transfer};
 use std::alloc::Global;
 
 fn row_of(service: u16) -> Option<Row>
@@ -39,6 +39,9 @@ fn row_of(service: u16) -> Option<Row>
         13 => Some(Row::OnShared(SharedCall::DosGetShrSeg)),
         14 => Some(Row::OnShared(SharedCall::DosGiveSeg)),
         15 => Some(Row::OnShared(SharedCall::DosGetSeg)),
+        16 => Some(Row::OnRuns(HugeCall::DosAllocHuge)),
+        17 => Some(Row::OnRuns(HugeCall::DosReallocHuge)),
+        18 => Some(Row::OnRuns(HugeCall::DosGetHugeShift)),
         19 => Some(Row::DosMemAvail),
         _ => None,
     }
@@ -104,6 +107,27 @@ impl World {
         }
     }
 
+    /// A call on a huge allocation, with its arguments.
+    fn on_runs(
+        &self,
+        alloc: Global,
+        n: u16,
+        process: &Process,
+        call: HugeCall,
+        a: &[u16],
+    ) -> Result<Outcome, NoMemory>
+        requires { 6 ≤ length a.now }
+        ensures { IfOk result (λ x. IsOutcome (before_call self.now n process.now) x (effect_by self.now n process.now (Some (OnRuns call)) a.now)) }
+    {
+        match call {
+            HugeCall::DosAllocHuge => {
+                self.alloc_huge(alloc, n, process, a[0], a[1], a[2], a[3], a[4], a[5])
+            }
+            HugeCall::DosReallocHuge => self.realloc_huge(alloc, n, process, a[0], a[1], a[2]),
+            HugeCall::DosGetHugeShift => self.get_huge_shift(alloc, n, process, a[0], a[1]),
+        }
+    }
+
     fn outcome(
         &self,
         alloc: Global,
@@ -123,6 +147,7 @@ impl World {
             Row::DosMemAvail => self.mem_avail(alloc, n, process, a[0], a[1]),
             Row::OnSegments(call) => self.on_segments(alloc, n, process, call, a),
             Row::OnShared(call) => self.on_shared(alloc, n, process, call, a),
+            Row::OnRuns(call) => self.on_runs(alloc, n, process, call, a),
         }
     }
 

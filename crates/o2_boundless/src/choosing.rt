@@ -70,6 +70,7 @@ impl World {
     pub(crate) fn free_run(&self, region: u16, count: u32) -> Option<u16>
         requires { 1 ≤ count }
         ensures index { result ≡ free_run (known_by self.now) region count }
+        ensures few { IfSome result (λ i. count ≤ 4096) }
         ensures local { IfSome result (λ i. i < 8192) }
     {
         let (low, end) = if region == 0 { (4096, 8192) } else { (1, 4096) };

@@ -4,6 +4,8 @@
 mod call;
 mod changing;
 mod choosing;
+mod huge;
+mod huge_rows;
 mod laws;
 mod look;
 mod naming;

@@ -79,13 +79,13 @@ pub(crate) fn is_local(selector: u16) -> bool
     selector / 4 % 2 == 1
 }
 
-fn is_index(selector: u16, index: u16) -> bool
+pub(crate) fn is_index(selector: u16, index: u16) -> bool
     ensures { result ≡ is_index selector index }
 {
     !is_null(selector) && (is_local(selector) && selector / 8 == index)
 }
 
-fn in_use(cpu: &Cpu, indexes: &[u16]) -> bool
+pub(crate) fn in_use(cpu: &Cpu, indexes: &[u16]) -> bool
     ensures { result ≡ in_use cpu.now indexes.now }
 {
     indexes

@@ -20,7 +20,7 @@ use std::alloc::Global;
 
 /// The first process that holds an index, by its number.
 #[tactic(auto, using(crate::proofs::Walks::holders))]
-fn holder(processes: &[Process], index: u16) -> Result<Option<u16>, NoMemory>
+pub(crate) fn holder(processes: &[Process], index: u16) -> Result<Option<u16>, NoMemory>
     ensures { IfOk result (λ n. n ≡ holder_among processes.now index) }
 {
     if processes.len() > 65535 {

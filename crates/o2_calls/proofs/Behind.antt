@@ -1,5 +1,5 @@
 -- The bytes of names and the registers of processes behind the changes of a call.
-use Rattle.std.proofs.Common.{◌≡◌, ◌≢◌, ℕ, zero, suc, ◌+◌, ◌-◌, ◌==◌, Bool, true, false, cond, if◌then◌else◌, List, [], ◌∷◌, Option, Some, None, is_some, option_map, ap, refl, sym, ◌∙◌, subst, arith}
+use Rattle.std.proofs.Common.{◌≡◌, ◌≢◌, ℕ, zero, suc, ◌+◌, ◌-◌, ◌<◌, ◌==◌, Bool, true, false, cond, if◌then◌else◌, List, [], ◌∷◌, ◌++◌, Option, Some, None, is_some, option_map, ap, refl, sym, ◌∙◌, subst, arith}
 use Rattle.std.specs.Prelude.{slice_get}
 use Rattle.std.specs.List.{list_any}
 use Rattle.o2_isa.specs.View.{Hold, bound_in}
@@ -182,13 +182,35 @@ holds_bytes : (next : ℕ) (cs : List Change) (f : ℕ → List ℕ) (n : ℕ) �
 holds_bytes next [] f n are = refl
 holds_bytes next (c ∷ cs) f n are = holds_bytes (next_behind next c) cs (changed_bytes next c f) n are.1 ∙ hold_bytes next c f n are.0
 
--- What a call that writes may change: it makes a segment and holds it, perhaps with a name, or holds more.
+-- changes that make, hold or reserve
+abbrev pub IsGift : Change → Type 0
+IsGift (Makes s) = Unit {0}
+IsGift (Resizes name size) = ⊥
+IsGift (Locks name count) = ⊥
+IsGift (Marks name discarded) = ⊥
+IsGift (Holds p i h) = Unit {0}
+IsGift (Drops p i count) = ⊥
+IsGift (Finishes p state) = ⊥
+IsGift (Reserves r) = Unit {0}
+IsGift (Frees region first) = ⊥
+IsGift (Names text name) = ⊥
+
+abbrev pub AreGifts : List Change → Type 0
+AreGifts [] = Unit {0}
+AreGifts (c ∷ cs) = IsGift c × AreGifts cs
+
+pub gifts_append : (xs ys : List Change) → AreGifts xs → AreGifts ys → AreGifts (xs ++ ys)
+gifts_append [] ys front back = back
+gifts_append (x ∷ xs) ys front back = (front.0, gifts_append xs ys front.1 back)
+
+-- What a call that writes may change: it makes a segment and holds it, perhaps with a name, or holds more, or makes a run.
 pub data IsGiving (cs : List Change) : Type 0 where
   GivesNone : cs ≡ [] → IsGiving cs
   GivesNew : (s : Segment) (p i : ℕ) (h : Held) → cs ≡ Makes s ∷ Holds p i h ∷ [] → IsGiving cs
   GivesHold : (p i : ℕ) (h : Held) → cs ≡ Holds p i h ∷ [] → IsGiving cs
   GivesNamed : (s : Segment) (p i : ℕ) (h : Held) (text : List ℕ) (name : ℕ) → cs ≡ Makes s ∷ Holds p i h ∷ Names text name ∷ [] → IsGiving cs
   GivesHolds : AreHolds cs → IsGiving cs
+  GivesRun : AreGifts cs → IsGiving cs
 
 written_new : (next : ℕ) (bytes : List ℕ) (f : ℕ → List ℕ) (offset : ℕ) (part : List ℕ) (h : Hold) (n : ℕ) → next ≢ h.name
     → cond (next == n) bytes (put_in f offset part (Some h) n) ≡ put_in (λ (k : ℕ). cond (next == k) bytes (f k)) offset part (Some h) n
@@ -201,18 +223,56 @@ written_new next bytes f offset part h n apart = go (next == n) (n == h.name) re
     go false true e d = refl
     go false false e d = refl
 
--- a write before such changes, and behind them
-through : (next : ℕ) (cs : List Change) (f : ℕ → List ℕ) (offset : ℕ) (part : List ℕ) (h : Hold) (n : ℕ) → IsGiving cs → next ≢ h.name
+-- a write before a gift, and behind it
+
+not_next : (next name : ℕ) → name < next → next ≢ name
+not_next next name less same = omega (arith, less, same)
+
+gift_through : (next : ℕ) (c : Change) (f : ℕ → List ℕ) (offset : ℕ) (part : List ℕ) (h : Hold) (n : ℕ) → IsGift c → h.name < next
+    → changed_bytes next c (put_in f offset part (Some h)) n ≡ put_in (changed_bytes next c f) offset part (Some h) n
+gift_through next (Makes s) f offset part h n is older = written_new next s.bytes f offset part h n (not_next next h.name older)
+gift_through next (Resizes name size) f offset part h n is older = absurd is
+gift_through next (Locks name count) f offset part h n is older = absurd is
+gift_through next (Marks name discarded) f offset part h n is older = absurd is
+gift_through next (Holds p i x) f offset part h n is older = refl
+gift_through next (Drops p i count) f offset part h n is older = absurd is
+gift_through next (Finishes p state) f offset part h n is older = absurd is
+gift_through next (Reserves r) f offset part h n is older = refl
+gift_through next (Frees region first) f offset part h n is older = absurd is
+gift_through next (Names text name) f offset part h n is older = absurd is
+
+still_older : (next name : ℕ) (c : Change) → IsGift c → name < next → name < next_behind next c
+still_older next name (Makes s) is less = omega (arith, less)
+still_older next name (Resizes n size) is less = absurd is
+still_older next name (Locks n count) is less = absurd is
+still_older next name (Marks n discarded) is less = absurd is
+still_older next name (Holds p i h) is less = less
+still_older next name (Drops p i count) is less = absurd is
+still_older next name (Finishes p state) is less = absurd is
+still_older next name (Reserves r) is less = less
+still_older next name (Frees region first) is less = absurd is
+still_older next name (Names text n) is less = absurd is
+
+gifts_through : (next : ℕ) (cs : List Change) (f : ℕ → List ℕ) (offset : ℕ) (part : List ℕ) (h : Hold) (n : ℕ) → AreGifts cs → h.name < next
     → all_bytes next cs (put_in f offset part (Some h)) n ≡ put_in (all_bytes next cs f) offset part (Some h) n
-through next cs f offset part h n (GivesNone e) apart = subst (λ (ds : List Change). all_bytes next ds (put_in f offset part (Some h)) n ≡ put_in (all_bytes next ds f) offset part (Some h) n) (sym e) refl
-through next cs f offset part h n (GivesNew s p i x e) apart =
-    subst (λ (ds : List Change). all_bytes next ds (put_in f offset part (Some h)) n ≡ put_in (all_bytes next ds f) offset part (Some h) n) (sym e) (written_new next s.bytes f offset part h n apart)
-through next cs f offset part h n (GivesHold p i x e) apart =
+gifts_through next [] f offset part h n are older = refl
+gifts_through next (c ∷ cs) f offset part h n are older =
+    bytes_point (next_behind next c) cs (changed_bytes next c (put_in f offset part (Some h))) (put_in (changed_bytes next c f) offset part (Some h)) n (gift_through next c f offset part h n are.0 older)
+    ∙ gifts_through (next_behind next c) cs (changed_bytes next c f) offset part h n are.1 (still_older next h.name c are.0 older)
+
+-- a write before such changes, and behind them
+through : (next : ℕ) (cs : List Change) (f : ℕ → List ℕ) (offset : ℕ) (part : List ℕ) (h : Hold) (n : ℕ) → IsGiving cs → h.name < next
+    → all_bytes next cs (put_in f offset part (Some h)) n ≡ put_in (all_bytes next cs f) offset part (Some h) n
+through next cs f offset part h n (GivesNone e) older = subst (λ (ds : List Change). all_bytes next ds (put_in f offset part (Some h)) n ≡ put_in (all_bytes next ds f) offset part (Some h) n) (sym e) refl
+through next cs f offset part h n (GivesNew s p i x e) older =
+    subst (λ (ds : List Change). all_bytes next ds (put_in f offset part (Some h)) n ≡ put_in (all_bytes next ds f) offset part (Some h) n) (sym e) (written_new next s.bytes f offset part h n (not_next next h.name older))
+through next cs f offset part h n (GivesHold p i x e) older =
     subst (λ (ds : List Change). all_bytes next ds (put_in f offset part (Some h)) n ≡ put_in (all_bytes next ds f) offset part (Some h) n) (sym e) refl
-through next cs f offset part h n (GivesNamed s p i x text name e) apart =
-    subst (λ (ds : List Change). all_bytes next ds (put_in f offset part (Some h)) n ≡ put_in (all_bytes next ds f) offset part (Some h) n) (sym e) (written_new next s.bytes f offset part h n apart)
-through next cs f offset part h n (GivesHolds are) apart =
+through next cs f offset part h n (GivesNamed s p i x text name e) older =
+    subst (λ (ds : List Change). all_bytes next ds (put_in f offset part (Some h)) n ≡ put_in (all_bytes next ds f) offset part (Some h) n) (sym e) (written_new next s.bytes f offset part h n (not_next next h.name older))
+through next cs f offset part h n (GivesHolds are) older =
     holds_bytes next cs (put_in f offset part (Some h)) n are ∙ ap (λ (x : List ℕ). if n == h.name then put_part x offset part else x) (sym (holds_bytes next cs f n are))
+through next cs f offset part h n (GivesRun are) older = gifts_through next cs f offset part h n are older
 
 module _ (held now : ℕ → Option Hold) (next : ℕ) (cs : List Change) (f : ℕ → List ℕ) (n : ℕ) where
   aimed : (t : Written) → IsGiving cs → IsAimedAt held now next t
@@ -220,7 +280,7 @@ module _ (held now : ℕ → Option Hold) (next : ℕ) (cs : List Change) (f : �
   unfolding put_at_pointer
   aimed t gives a =
       bytes_point next cs (put_in f t.offset t.part (bound_in held t.selector)) (put_in f t.offset t.part (Some a.hold)) n (ap (λ (o : Option Hold). put_in f t.offset t.part o n) a.was)
-      ∙ (through next cs f t.offset t.part a.hold n gives a.apart
+      ∙ (through next cs f t.offset t.part a.hold n gives a.older
       ∙ ap (λ (o : Option Hold). put_in (all_bytes next cs f) t.offset t.part o n) (sym a.still))
 
   -- the value of a call, where it has one
@@ -279,6 +339,22 @@ hold_no_end (Names text name) is = absurd is
 pub holds_go_on : (cs : List Change) → AreHolds cs → AreNoEnds cs
 holds_go_on [] are = tt
 holds_go_on (c ∷ cs) are = (hold_no_end c are.0, holds_go_on cs are.1)
+
+gift_no_end : (c : Change) → IsGift c → IsNoEnd c
+gift_no_end (Makes s) is = tt
+gift_no_end (Resizes name size) is = absurd is
+gift_no_end (Locks name count) is = absurd is
+gift_no_end (Marks name discarded) is = absurd is
+gift_no_end (Holds p i h) is = tt
+gift_no_end (Drops p i count) is = absurd is
+gift_no_end (Finishes p state) is = absurd is
+gift_no_end (Reserves r) is = tt
+gift_no_end (Frees region first) is = absurd is
+gift_no_end (Names text name) is = absurd is
+
+pub gifts_go_on : (cs : List Change) → AreGifts cs → AreNoEnds cs
+gifts_go_on [] are = tt
+gifts_go_on (c ∷ cs) are = (gift_no_end c are.0, gifts_go_on cs are.1)
 
 runs_place : (k : ℕ) (f : Process → Process) → ((x : Process) → running_of (f x) ≡ running_of x) → (ps : List Process) (j : ℕ)
     → option_map running_of (slice_get (at_place k f ps) j) ≡ option_map running_of (slice_get ps j)

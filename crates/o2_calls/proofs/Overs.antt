@@ -1,26 +1,27 @@
 -- A machine that stands for a world, before and behind a call.
-use Rattle.std.proofs.Common.{◌≡◌, ℕ, ◌/◌, List, [], Option, Some, None, is_some, refl, sym, ap, ◌∙◌, subst, arith}
+use Rattle.std.proofs.Common.{◌≡◌, ℕ, ◌/◌, false, List, [], Option, Some, None, is_some, refl, sym, ap, ◌∙◌, subst, arith}
 use Rattle.o2_image.specs.ImageList.{ImageList}
 use Rattle.o2_isa.specs.declared.cpu.Cpu.{Cpu}
 use Rattle.o2_regions.specs.declared.answer.Roomed.{Roomed}
 use Rattle.o2_regions.specs.Maps.{Maps, IsProcess}
 use Rattle.o2_store.specs.Shelf.{Shelf}
 use Rattle.o2_world.specs.Changes.{Change, with_all, with_changes}
-use Rattle.o2_world.specs.Known.{known_of}
+use Rattle.o2_world.specs.Known.{held_at, known_of}
 use Rattle.o2_world.specs.Map.{get}
-use Rattle.o2_world.specs.Rulings.{Ruling, freeing, sizing}
+use Rattle.o2_world.specs.Rulings.{Ruling, freeing, is_in_run, sizing}
 use Rattle.o2_world.specs.Tied.{IsTied}
-use Rattle.o2_world.specs.World.{Segment, Setting, World}
+use Rattle.o2_world.specs.World.{Held, Segment, Setting, World}
 use Rattle.o2_gate.specs.declared.gathering.SegmentArguments.{SegmentArguments}
 use Rattle.o2_stands.specs.Knows.{KnowsAs, Others, known_in, others_of}
 use Rattle.o2_stands.specs.Moves.{moved}
 use Rattle.o2_stands.specs.Parts.{Parts}
-use Rattle.o2_stands.specs.Stands.{Matches}
+use Rattle.o2_stands.specs.Stands.{Matches, is_by_load}
 use Rattle.o2_stands.proofs.Knowing.{known_is}
 use Rattle.o2_stands.proofs.Matching.{matched_by}
 use Rattle.o2_changes.specs.Worlds.{LosesOne}
 use Rattle.o2_changes.proofs.Losing.{loses_one}
 use Rattle.o2_segs.specs.Answers.{AnswersRoomed, changes_roomed}
+use Rattle.o2_segs.specs.Members.{MayLose}
 use Rattle.o2_calls.specs.Acts.{IsOver, cpu_of, ruling_of}
 use Rattle.o2_calls.proofs.Rulings.{is_freed, same_cpu, same_ruling, sizing_still}
 
@@ -32,7 +33,7 @@ none_next w tied = go (get w.names w.next_name) refl
     go None e = e
     go (Some s) e = absurd (let low = tied.below w.next_name (ap is_some e) in omega (arith, low))
 
-nothing : (w : World) → with_all w [] ≡ w
+pub nothing : (w : World) → with_all w [] ≡ w
 unfolding with_changes
 nothing w = refl
 
@@ -78,7 +79,12 @@ module _ (sh : Shelf) (m : Maps) (images : ImageList) (block : ℕ → List ℕ)
       subst (λ (cs : List Change). Matches (moved p t n block) (with_all w cs)) (sym (sizing_still (known_in p o) pid selector))
       (subst (λ (u : World). Matches (moved p t n block) u) (sym (nothing w)) (store_only t n w regions (subst (λ (z : Shelf). Matches (record p { shelf = z }) w) (over.store ∙ sym store) matches)))
 
-  pub loses : (selector : ℕ) (c : Cpu) → (freeing (known_in p o) pid selector c).error ≡ 0 → LosesOne w pid (selector / 8)
-  loses selector c zero =
-      let f = is_freed (known_in p o) pid selector c zero in
-      loses_one w pid (selector / 8) f.held (let l = process.0 in omega (arith, l)) over.stands.tidy (over.stands.held pid (selector / 8) ∙ f.there) f.called
+  pub loses : (selector : ℕ) (c : Cpu) → (freeing (known_in p o) pid selector c).error ≡ 0 → MayLose w pid (selector / 8)
+  loses selector c zero = record { alone = λ h there alone. one h there alone; run = λ h there run. over.stands.tidy }
+    where
+      one : (h : Held) → held_at w.processes pid (selector / 8) ≡ Some h → is_in_run h ≡ false → LosesOne w pid (selector / 8)
+      one h there alone =
+          let f = is_freed (known_in p o) pid selector c zero in
+          let z : Some f.held ≡ Some h = sym (over.stands.held pid (selector / 8) ∙ f.there) ∙ there in
+          let y : f.held ≡ h = cc in
+          loses_one w pid (selector / 8) h (let l = process.0 in omega (arith, l)) over.stands.tidy there alone (ap (λ (x : Held). is_by_load x.cause) (sym y) ∙ f.called)

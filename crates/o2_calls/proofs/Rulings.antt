@@ -7,11 +7,12 @@ use Rattle.o2_world.specs.World.{Cause, Held, ByLoad, ByCall, ByAlias}
 use Rattle.o2_world.specs.Known.{Known, Marks}
 use Rattle.o2_world.specs.Rulings.{by_load, freeing, freeing_of, freeing_with, held_under, is_later, members, refusal, sizing, sizing_of, sizing_with}
 use Rattle.o2_gate.specs.declared.gathering.SegmentArguments.{SegmentArguments}
-use Rattle.o2_gate.specs.declared.gathering.SegmentArguments.TheVariants.{Alloc, Realloc, Free, Size, Lock, Unlock, Alias, Shared}
+use Rattle.o2_gate.specs.declared.gathering.SegmentArguments.TheVariants.{Alloc, Realloc, Free, Size, Lock, Unlock, Alias, Shared, Huge}
 use Rattle.o2_stands.specs.Knows.{KnowsAs}
 use Rattle.o2_stands.specs.Stands.{is_by_load}
 use Rattle.o2_stands.proofs.Ruled.{same_aliasing, same_allocation, same_freeing, same_freeing_cpu, same_locking, same_reallocation, same_sizing, same_unlocking}
 use Rattle.o2_calls.specs.Acts.{cpu_of, ruling_of}
+use Rattle.o2_calls.proofs.RunsOver.{same_huge, same_huge_cpu}
 use Rattle.o2_calls.proofs.SharedOver.{same_shared}
 
 -- They go by what is known.
@@ -26,6 +27,7 @@ module _ (m : Maps) (k l : Known) (same : KnowsAs m k l) (n : ℕ) (process : Is
   same_ruling (Unlock selector) = same_unlocking m k l same n selector
   same_ruling (Alias selector s o) = same_aliasing m k l same n selector process
   same_ruling (Shared a) = same_shared m k l same a n
+  same_ruling (Huge a) = same_huge m k l same a n c process
 
   pub same_cpu : (a : SegmentArguments) → cpu_of a k n c ≡ cpu_of a l n c
   same_cpu (Alloc size s o flags) = refl
@@ -36,6 +38,7 @@ module _ (m : Maps) (k l : Known) (same : KnowsAs m k l) (n : ℕ) (process : Is
   same_cpu (Unlock selector) = refl
   same_cpu (Alias selector s o) = refl
   same_cpu (Shared a) = refl
+  same_cpu (Huge a) = same_huge_cpu m k l same a n c
 
 -- A size is told without a change.
 

@@ -10,16 +10,18 @@ use Rattle.o2_world.specs.SharedNames.{name_by}
 use Rattle.o2_world.specs.SharedRulings.{each_more, getting_at, getting_from, giving_of, holder, index_of, lacks_flag, naming, naming_at, one_more, shared_segment, sharing, sharing_at, sharing_from, sharing_of}
 use Rattle.o2_isa.specs.View.{is_local}
 use Rattle.o2_gate.specs.declared.gathering.SegmentArguments.{SegmentArguments}
+use Rattle.o2_gate.specs.declared.huge.HugeArguments.TheVariants as huge
 use Rattle.o2_gate.specs.declared.sharing.SharedArguments.{SharedArguments}
 use Rattle.o2_gate.specs.declared.sharing.SharedArguments.TheVariants.{Name, Share, Give, Get}
 use Rattle.o2_gate.specs.SharedReplies.{text_of}
-use Rattle.o2_gate.specs.declared.gathering.SegmentArguments.TheVariants.{Alloc, Realloc, Free, Size, Lock, Unlock, Alias, Shared}
+use Rattle.o2_gate.specs.declared.gathering.SegmentArguments.TheVariants.{Alloc, Realloc, Free, Size, Lock, Unlock, Alias, Shared, Huge}
 use Rattle.o2_world.specs.SegmentCalls.{Written}
 use Rattle.o2_gate.specs.Replies.{written_of}
 use Rattle.o2_calls.specs.Acts.{ruling_of}
 use Rattle.o2_calls.specs.SharedActs.{shared_ruling}
-use Rattle.o2_calls.proofs.Behind.{AreHolds, AreNoEnds, GivesHold, GivesHolds, GivesNamed, GivesNew, GivesNone, IsGiving, holds_go_on}
+use Rattle.o2_calls.proofs.Behind.{AreHolds, AreNoEnds, GivesHold, GivesHolds, GivesNamed, GivesNew, GivesNone, GivesRun, IsGiving, gifts_go_on, holds_go_on}
 use Rattle.o2_calls.proofs.Rulings.{sizing_still}
+use Rattle.o2_calls.proofs.RunsOver.{run_gives, runs_go_on}
 
 -- by a test, or by a refusal
 either : (P : List Change → Type 0) (b : Bool) (r q : Ruling) → P r.changes → P q.changes → P (cond b r q).changes
@@ -114,6 +116,7 @@ giving_goes_on cs (GivesNew s p i h e) = subst AreNoEnds (sym e) (tt, (tt, tt))
 giving_goes_on cs (GivesHold p i h e) = subst AreNoEnds (sym e) (tt, tt)
 giving_goes_on cs (GivesNamed s p i h text name e) = subst AreNoEnds (sym e) (tt, (tt, (tt, tt)))
 giving_goes_on cs (GivesHolds are) = holds_go_on cs are
+giving_goes_on cs (GivesRun are) = gifts_go_on cs are
 
 resize_goes_on : (name size : ℕ) (o : Option Marks) → AreNoEnds (reallocation_with name size o).changes
 resize_goes_on name size None = tt
@@ -154,6 +157,7 @@ calls_go_on (Lock selector) k n c = locking_goes_on k (held_under k n selector)
 calls_go_on (Unlock selector) k n c = unlocking_goes_on k (held_under k n selector)
 calls_go_on (Alias selector s o) k n c = giving_goes_on _ (alias_gives k n (selector / 8) (held_under k n selector))
 calls_go_on (Shared a) k n c = giving_goes_on _ (shared_gives a k n)
+calls_go_on (Huge a) k n c = runs_go_on a k n c
 
 -- a call that writes a value gives
 pub valued_gives : (a : SegmentArguments) (k : Known) (n : ℕ) (c : Cpu) (value : ℕ) (z : Written) → written_of a value ≡ Some z → IsGiving (ruling_of a k n c).changes
@@ -165,3 +169,6 @@ valued_gives (Lock selector) k n c value z e = absurd (cc)
 valued_gives (Unlock selector) k n c value z e = absurd (cc)
 valued_gives (Alias selector s o) k n c value z e = alias_gives k n (selector / 8) (held_under k n selector)
 valued_gives (Shared a) k n c value z e = shared_gives a k n
+valued_gives (Huge (huge.Alloc segs part s o most flags)) k n c value z e = run_gives k n segs part most flags
+valued_gives (Huge (huge.Realloc segs part selector)) k n c value z e = absurd (cc)
+valued_gives (Huge (huge.Shift s o)) k n c value z e = GivesNone refl

@@ -10,7 +10,7 @@ use Rattle.o2_regions.specs.Maps.{Maps}
 use Rattle.o2_store.specs.Shelf.{Shelf}
 use Rattle.o2_isa.specs.View.{is_local}
 use Rattle.o2_world.specs.Changes.{Holds, swept, takes, with_all, with_change, with_changes}
-use Rattle.o2_world.specs.Known.{Known, Marks, known_of, text_name}
+use Rattle.o2_world.specs.Known.{Known, known_of, text_name}
 use Rattle.o2_world.specs.Rulings.{Ruling, free_index, grants, held_under, is_later, members, refusal}
 use Rattle.o2_world.specs.SharedRulings.{each_more, getting, getting_at, getting_from, giving, giving_of, holder, index_of, lacks_flag, naming, naming_at, one_more, sharing, sharing_at, sharing_from, sharing_of}
 use Rattle.o2_world.specs.World.{ByCall, Held, Setting, World}
@@ -30,7 +30,7 @@ use Rattle.o2_segs.proofs.Limits.{limits_by}
 use Rattle.o2_shared.specs.declared.names.Name.{Name as NameThere}
 use Rattle.o2_shared.specs.Shares.{StillHolds}
 use Rattle.o2_shared.specs.Texts.{AreOnce, AreTexts}
-use Rattle.o2_calls.specs.Acts.{IsOver}
+use Rattle.o2_calls.specs.Acts.{IsOver, most_made}
 use Rattle.o2_calls.specs.SharedActs.{AreSpelled, Spells, shared_ruling}
 
 -- The rulings go by what is known.
@@ -145,20 +145,22 @@ spelled_same s t m names after ends p w u x store same texts = record {
 pub keeps_still : (m n : Maps) → KeepsHolds m n → StillHolds m n
 keeps_still m n keeps = record { held = λ q j h e. (h, keeps.held q j h e, refl, omega arith); rights = keeps.rights }
 
-pub limits_by_more : (s t : Shelf) (m n : Maps) → KeepsLimitsBy s m t n 0 1 → KeepsLimitsBy s m t n 1 1
-limits_by_more s t m n x = record {
+pub limits_to : (s t : Shelf) (m n : Maps) (more most : ℕ) → more ≤ most → KeepsLimitsBy s m t n more 1 → KeepsLimitsBy s m t n most 1
+limits_to s t m n more most less x = record {
   size = x.size;
   count = x.count;
-  made = (let p = x.made in omega (arith, p));
+  made = (let p = x.made in omega (arith, p, less));
   grows = x.grows;
-  alone = x.alone;
   few = x.few;
   shares = x.shares;
 }
 
+pub limits_by_more : (s t : Shelf) (m n : Maps) → KeepsLimitsBy s m t n 0 1 → KeepsLimitsBy s m t n 1 1
+limits_by_more s t m n x = limits_to s t m n 0 1 (omega arith) x
+
 -- where what is made may be held
-pub limits_by_made : (s t : Shelf) (m n : Maps) (r : Roomed) → KeepsLimits s m t n (made_in r) → KeepsLimitsBy s m t n (made_in r) (made_in r)
-limits_by_made s t m n (Done a) x = limits_by s t m n 1 x
+pub limits_by_made : (s t : Shelf) (m n : Maps) (r : Roomed) → KeepsLimits s m t n (made_in r) → KeepsLimitsBy s m t n (most_made r) (made_in r)
+limits_by_made s t m n (Done a) x = limits_to s t m n 1 4096 (omega arith) (limits_by s t m n 1 x)
 limits_by_made s t m n NoRoom x = x
 limits_by_made s t m n SwapFull x = x
 limits_by_made s t m n SwapFault x = x

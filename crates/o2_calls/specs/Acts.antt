@@ -5,12 +5,15 @@ use Rattle.o2_image.specs.ImageList.{ImageList}
 use Rattle.o2_isa.specs.declared.cpu.Cpu.{Cpu}
 use Rattle.o2_regions.specs.Maps.{Maps}
 use Rattle.o2_store.specs.Shelf.{Shelf}
+use Rattle.o2_regions.specs.declared.answer.Roomed.{Roomed}
+use Rattle.o2_regions.specs.declared.answer.Roomed.TheVariants.{Done, NoRoom, SwapFull, SwapFault}
 use Rattle.o2_world.specs.World.{Setting, World}
 use Rattle.o2_world.specs.Known.{Known}
 use Rattle.o2_world.specs.Rulings.{Ruling, aliasing, allocation, freeing, freeing_cpu, locking, reallocation, sizing, unlocking}
 use Rattle.o2_gate.specs.declared.gathering.SegmentArguments.{SegmentArguments}
-use Rattle.o2_gate.specs.declared.gathering.SegmentArguments.TheVariants.{Alloc, Realloc, Free, Size, Lock, Unlock, Alias, Shared}
+use Rattle.o2_gate.specs.declared.gathering.SegmentArguments.TheVariants.{Alloc, Realloc, Free, Size, Lock, Unlock, Alias, Shared, Huge}
 use Rattle.o2_stands.specs.Parts.{Parts}
+use Rattle.o2_calls.specs.HugeActs.{MaySize, huge_cpu, huge_ruling}
 use Rattle.o2_calls.specs.SharedActs.{shared_ruling}
 use Rattle.o2_stands.specs.Stands.{AreLawful, IsSetTo, Stands}
 
@@ -24,8 +27,9 @@ ruling_of (Lock selector) k n c = locking k n selector
 ruling_of (Unlock selector) k n c = unlocking k n selector
 ruling_of (Alias selector s o) k n c = aliasing k n selector
 ruling_of (Shared a) k n c = shared_ruling a k n
+ruling_of (Huge a) k n c = huge_ruling a k n c
 
--- the registers behind it, as far as the call itself changes them: a free clears DS and ES
+-- the registers behind it, as far as the call itself changes them: what frees, or cuts a run, clears DS and ES
 abbrev pub cpu_of : SegmentArguments → Known → (number : ℕ) → Cpu → Cpu
 cpu_of (Alloc size s o flags) k n c = c
 cpu_of (Realloc size selector) k n c = c
@@ -35,6 +39,21 @@ cpu_of (Lock selector) k n c = c
 cpu_of (Unlock selector) k n c = c
 cpu_of (Alias selector s o) k n c = c
 cpu_of (Shared a) k n c = c
+cpu_of (Huge a) k n c = huge_cpu a k n c
+
+-- a stop leaves them
+abbrev pub cpu_behind : SegmentArguments → Known → (number : ℕ) → Cpu → Roomed → Cpu
+cpu_behind a k n c (Done x) = cpu_of a k n c
+cpu_behind a k n c NoRoom = c
+cpu_behind a k n c SwapFull = c
+cpu_behind a k n c SwapFault = c
+
+-- how many segments a call makes at most: none where it stops, and no more than a region has indexes
+abbrev pub most_made : Roomed → ℕ
+most_made (Done x) = 4096
+most_made NoRoom = 0
+most_made SwapFull = 0
+most_made SwapFault = 0
 
 -- only a call that sizes or locks may stop
 abbrev pub MayStop : SegmentArguments → Type 0
@@ -46,6 +65,7 @@ MayStop (Lock selector) = Unit {0}
 MayStop (Unlock selector) = ⊥
 MayStop (Alias selector s o) = ⊥
 MayStop (Shared a) = ⊥
+MayStop (Huge a) = MaySize a
 
 -- A machine with this store, these maps, images and blocks has what the setting says and stands for the world.
 pub record IsOver (shelf : Shelf) (maps : Maps) (images : ImageList) (block : ℕ → List ℕ) (p : Parts) (s : Setting) (w : World) : Type 0 where

@@ -3,3 +3,5 @@ pub mod Stops
 pub mod Tellings
 pub mod Seen
 pub mod SharedActs
+pub mod HugeActs
+pub mod Noted

@@ -1,5 +1,5 @@
 -- What a call on segments writes, as it is seen of a store.
-use Rattle.std.specs.Prelude.{◌≡◌, ◌≢◌, ℕ, true, List, Option, Some, is_some, if◌then◌else◌}
+use Rattle.std.specs.Prelude.{◌≡◌, ℕ, ◌<◌, true, List, Option, Some, is_some, if◌then◌else◌}
 use Rattle.o2_isa.specs.View.{Hold, bound_in}
 use Rattle.o2_segbus.specs.Seen.{bytes_in, hold_in, present_in}
 use Rattle.o2_store.specs.Shelf.{Shelf}
@@ -16,12 +16,12 @@ use Rattle.o2_stands.specs.Parts.{Parts}
 abbrev pub bytes_with : (away : ℕ → List ℕ) → Shelf → ℕ → List ℕ
 bytes_with away s n = if present_in s n then bytes_in s n else away n
 
--- A pointer's segment is held before the call and behind it, and isn't a new one.
+-- A pointer's segment is held before the call and behind it, and is older than new ones.
 pub record IsAimedAt (held now : ℕ → Option Hold) (next : ℕ) (t : Written) : Type 0 where
   pub hold : Hold
   pub was : bound_in held t.selector ≡ Some hold
   pub still : bound_in now t.selector ≡ Some hold
-  pub apart : next ≢ hold.name
+  pub older : hold.name < next
 
 -- The store of a machine behind the changes of a call of a process, once the value is written, by the world `u` with these changes:
 -- the pointer goes on to name what it named, and the bytes in memory are those that the call leaves there.

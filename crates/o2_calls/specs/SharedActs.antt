@@ -1,21 +1,17 @@
 -- What a call by which processes share segments comes to in the world that a machine stands for.
-use Rattle.std.specs.Prelude.{◌≡◌, ◌≢◌, ℕ, Bool, List, [], Option, length}
+use Rattle.std.specs.Prelude.{◌≡◌, ℕ, Bool, List, Option, length}
 use Rattle.o2_regions.specs.Maps.{Maps}
 use Rattle.o2_store.specs.Shelf.{Shelf}
-use Rattle.o2_world.specs.declared.types.State.TheVariants.{Live}
-use Rattle.o2_world.specs.Calls.{Before, Effect, returned}
-use Rattle.o2_world.specs.Changes.{moved_lines}
 use Rattle.o2_world.specs.Known.{Known, text_name}
 use Rattle.o2_world.specs.Rulings.{Ruling}
 use Rattle.o2_world.specs.SharedNames.{name_by}
 use Rattle.o2_world.specs.SharedRulings.{getting, giving, naming, sharing}
 use Rattle.o2_world.specs.World.{World}
 use Rattle.o2_gate.specs.declared.gathering.SegmentArguments.{SegmentArguments}
-use Rattle.o2_gate.specs.declared.gathering.SegmentArguments.TheVariants.{Alloc, Realloc, Free, Size, Lock, Unlock, Alias, Shared}
+use Rattle.o2_gate.specs.declared.gathering.SegmentArguments.TheVariants.{Alloc, Realloc, Free, Size, Lock, Unlock, Alias, Shared, Huge}
 use Rattle.o2_gate.specs.declared.sharing.SharedArguments.{SharedArguments}
 use Rattle.o2_gate.specs.declared.sharing.SharedArguments.TheVariants.{Name, Share, Give, Get}
-use Rattle.o2_gate.specs.SharedReplies.{shared_bytes, shared_line, shared_moved, shared_name, shared_words, text_of}
-use Rattle.std.specs.Prelude.{◌∷◌}
+use Rattle.o2_gate.specs.SharedReplies.{text_of}
 use Rattle.o2_stands.specs.Parts.{Parts}
 use Rattle.o2_stands.specs.Stands.{AreMarked}
 use Rattle.o2_shared.specs.declared.names.Name.{Name as NameThere}
@@ -41,27 +37,6 @@ pub record AreSpelled (s : Shelf) (names : List (Option NameThere)) (w : World) 
   pub texts : AreTexts s names (text_name w.texts)
   pub once : AreOnce w.texts
 
--- The lines of what the ruling changes are those of the reply; at an error it changes nothing.
-pub record SharesTell (n : ℕ) (a : SharedArguments) (r : Ruling) : Type 0 where
-  pub lines : moved_lines (shared_name a) r.changes ≡ shared_moved a n r.error r.value
-  pub none : r.error ≢ 0 → r.changes ≡ []
-
--- what a call comes to by its ruling: the value behind its pointer, and its lines
-abbrev pub shared_reply : SharedArguments → Before → (next : ℕ) → Ruling → Effect
-shared_reply a b next r = record {
-  cpu = returned b.cpu next (shared_words a) r.error;
-  state = Live;
-  bytes = shared_bytes a r.error r.value b.view.held b.view.bytes;
-  changes = r.changes;
-  input = b.input;
-  piece = [];
-  lines = shared_line a b.number r.error r.value ∷ shared_moved a b.number r.error r.value;
-}
-
--- the call with these arguments, whose pointers are good
-abbrev pub shared_replied : SharedArguments → Before → (next : ℕ) → Effect
-shared_replied a b next = shared_reply a b next (shared_ruling a b.known b.number)
-
 -- what a call leaves of the names that are kept: all of them, but for one by which processes share segments
 abbrev pub LeavesSpelled : SegmentArguments → Shelf → (old new : List (Option NameThere)) → World → Type 0
 LeavesSpelled (Alloc size s o flags) t old new w = new ≡ old
@@ -72,3 +47,4 @@ LeavesSpelled (Lock selector) t old new w = new ≡ old
 LeavesSpelled (Unlock selector) t old new w = new ≡ old
 LeavesSpelled (Alias selector s o) t old new w = new ≡ old
 LeavesSpelled (Shared a) t old new w = AreSpelled t new w
+LeavesSpelled (Huge a) t old new w = new ≡ old

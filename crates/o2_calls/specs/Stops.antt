@@ -1,5 +1,6 @@
 -- Why a call on segments stops, said of the store before it.
-use Rattle.std.specs.Prelude.{◌≡◌, ℕ, ◌<◌, ◌≤◌, ◌/◌, List, Option, None, IfSome, true, if◌then◌else◌}
+use Rattle.std.specs.Prelude.{◌≡◌, ◌⊎◌, ℕ, ◌<◌, ◌≤◌, ◌/◌, List, Option, None, IfSome, true, if◌then◌else◌}
+use Rattle.std.specs.List.{list_any}
 use Rattle.o2_isa.specs.View.{is_local}
 use Rattle.o2_place.specs.declared.seg_id.SegId.{SegId}
 use Rattle.o2_regions.specs.declared.answer.Roomed.{Roomed}
@@ -13,7 +14,14 @@ use Rattle.o2_store.specs.Sizes.{all_wanted_at, stays}
 use Rattle.o2_swapmap.specs.Piles.{all_of}
 use Rattle.o2_world.specs.Rulings.{full_size}
 use Rattle.o2_gate.specs.declared.gathering.SegmentArguments.{SegmentArguments}
-use Rattle.o2_gate.specs.declared.gathering.SegmentArguments.TheVariants.{Alloc, Realloc, Free, Size, Lock, Unlock, Alias, Shared}
+use Rattle.o2_gate.specs.declared.gathering.SegmentArguments.TheVariants.{Alloc, Realloc, Free, Size, Lock, Unlock, Alias, Shared, Huge}
+use Rattle.o2_gate.specs.declared.huge.HugeArguments.{HugeArguments}
+use Rattle.o2_gate.specs.declared.huge.HugeArguments.TheVariants as huge
+use Rattle.o2_isa.specs.declared.cpu.Cpu.{Cpu}
+use Rattle.o2_world.specs.Changes.{takes}
+use Rattle.o2_world.specs.HugeRulings.{huge_reallocation}
+use Rattle.o2_world.specs.Known.{Known}
+use Rattle.o2_calls.specs.HugeActs.{SizesOne}
 use Rattle.o2_changes.specs.Holding.{KeepsHolds}
 use Rattle.o2_segs.specs.Answers.{IsUnrefused}
 use Rattle.o2_segs.specs.Limits.{KeepsEntries}
@@ -36,6 +44,7 @@ LacksRoom (Lock selector) t m pid keep = IfSome (held_by m pid selector) (λ h. 
 LacksRoom (Unlock selector) t m pid keep = ⊥
 LacksRoom (Alias selector s o) t m pid keep = ⊥
 LacksRoom (Shared a) t m pid keep = ⊥
+LacksRoom (Huge a) t m pid keep = Unit {0}
 
 -- what lives, with the new segment or the new size, is more than the memory
 abbrev pub LacksMemory : SegmentArguments → Shelf → Maps → (pid : ℕ) → Type 0
@@ -47,16 +56,51 @@ LacksMemory (Lock selector) t m pid = t.places.size < live_load t
 LacksMemory (Unlock selector) t m pid = ⊥
 LacksMemory (Alias selector s o) t m pid = ⊥
 LacksMemory (Shared a) t m pid = ⊥
+LacksMemory (Huge a) t m pid = Unit {0}
 
 -- and what isn't clean may need more blocks than there are
 abbrev pub LacksSwap : SegmentArguments → Shelf → Maps → (pid : ℕ) → Type 0
 LacksSwap a t m pid = (all_of t.swap < swap_load t) × LacksMemory a t m pid
 
+-- it came to no error; of a call on a run this is said where its world is at hand
+abbrev pub IsUnrefusedBy : SegmentArguments → Roomed → Type 0
+IsUnrefusedBy (Huge a) r = Unit {0}
+IsUnrefusedBy a r = IsUnrefused r
+
 -- A call came to no error, and what lives with its change is more than the memory.
 pub record IsShort (a : SegmentArguments) (t : Shelf) (m : Maps) (pid : ℕ) (result : Roomed) : Type 0 where
-  pub unrefused : IsUnrefused result
+  pub unrefused : IsUnrefusedBy a result
   pub stops : MayStop a
   pub lacks : LacksMemory a t m pid
+
+-- of a call that sizes a run: the member that gets another size, together with what is to be kept and what is locked, is more than the
+-- memory; or all that lives with it is
+abbrev pub LacksRun : SegmentArguments → Shelf → Known → (pid : ℕ) → Cpu → (keep : List SegId) → Roomed → Type 0
+LacksRun (Huge a) t k pid c keep NoRoom = SizesOne a t k pid c (λ id size. (stays t id.key keep ≡ true) × (t.places.size < all_wanted_at t id.key keep size))
+LacksRun (Huge a) t k pid c keep SwapFull = SizesOne a t k pid c (λ id size. t.places.size < live_load_at t id.key size)
+LacksRun a t k pid c keep r = Unit {0}
+
+-- where it comes to no error, what lives with the member of its new size is more than the memory
+abbrev pub LacksRunMemory : SegmentArguments → Shelf → Known → (pid : ℕ) → Cpu → Type 0
+LacksRunMemory (Huge a) t k pid c = SizesOne a t k pid c (λ id size. t.places.size < live_load_at t id.key size)
+LacksRunMemory a t k pid c = Unit {0}
+
+-- what a run is sized to keeps all holds, but where the call cuts it
+abbrev pub LeavesRunHolds : SegmentArguments → (old new : Maps) → Known → (pid : ℕ) → Cpu → Type 0
+LeavesRunHolds (Huge (huge.Realloc segs part selector)) m n k pid c =
+    KeepsHolds m n ⊎ (list_any takes (huge_reallocation k pid segs part selector c).changes ≡ true)
+LeavesRunHolds a m n k pid c = Unit {0}
+
+-- a call that cuts a run may take holds
+abbrev pub LeavesRun : HugeArguments → (old new : Maps) → Type 0
+LeavesRun (huge.Alloc segs part s o most flags) m n = KeepsHolds m n
+LeavesRun (huge.Realloc segs part selector) m n = Unit {0}
+LeavesRun (huge.Shift s o) m n = KeepsHolds m n
+
+abbrev pub LeavesRunEntries : HugeArguments → (s t : Shelf) → Type 0
+LeavesRunEntries (huge.Alloc segs part s o most flags) m n = KeepsEntries m n
+LeavesRunEntries (huge.Realloc segs part selector) m n = Unit {0}
+LeavesRunEntries (huge.Shift s o) m n = KeepsEntries m n
 
 -- what a call leaves of what is held: all of it, but for one that frees; one that shares may hold it once more
 abbrev pub LeavesHolds : SegmentArguments → (old new : Maps) → Type 0
@@ -68,6 +112,7 @@ LeavesHolds (Lock selector) m n = KeepsHolds m n
 LeavesHolds (Unlock selector) m n = KeepsHolds m n
 LeavesHolds (Alias selector s o) m n = KeepsHolds m n
 LeavesHolds (Shared a) m n = StillHolds m n
+LeavesHolds (Huge a) m n = LeavesRun a m n
 
 -- what a call that has a pointer leaves of what lives: all of it, with its size
 abbrev pub LeavesEntries : SegmentArguments → (s t : Shelf) → Type 0
@@ -79,6 +124,7 @@ LeavesEntries (Lock selector) m n = Unit {0}
 LeavesEntries (Unlock selector) m n = Unit {0}
 LeavesEntries (Alias selector s o) m n = KeepsEntries m n
 LeavesEntries (Shared a) m n = KeepsEntries m n
+LeavesEntries (Huge a) m n = LeavesRunEntries a m n
 
 -- the value of a call that is done is a word where it is a selector
 abbrev pub HasWord : Roomed → Type 0
@@ -86,6 +132,11 @@ HasWord (Done x) = x.value ≤ 65535
 HasWord NoRoom = Unit {0}
 HasWord SwapFull = Unit {0}
 HasWord SwapFault = Unit {0}
+
+abbrev pub IsRunGivable : HugeArguments → Roomed → Type 0
+IsRunGivable (huge.Alloc segs part s o most flags) x = HasWord x
+IsRunGivable (huge.Realloc segs part selector) x = Unit {0}
+IsRunGivable (huge.Shift s o) x = HasWord x
 
 abbrev pub IsGivable : SegmentArguments → Roomed → Type 0
 IsGivable (Alloc size s o flags) x = HasWord x
@@ -96,3 +147,4 @@ IsGivable (Lock selector) x = Unit {0}
 IsGivable (Unlock selector) x = Unit {0}
 IsGivable (Alias selector s o) x = HasWord x
 IsGivable (Shared a) x = HasWord x
+IsGivable (Huge a) x = IsRunGivable a x

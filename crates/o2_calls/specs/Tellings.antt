@@ -1,26 +1,15 @@
 -- What a ruling tells of a call on segments: its lines, and the value that it writes.
-use Rattle.std.specs.Prelude.{◌≡◌, ◌≢◌, ℕ, [], Some}
+use Rattle.std.specs.Prelude.{ℕ, [], ◌∷◌}
 use Rattle.o2_isa.specs.declared.cpu.Cpu.{Cpu}
 use Rattle.o2_world.specs.declared.types.State.TheVariants.{Live}
-use Rattle.o2_world.specs.World.{Held}
 use Rattle.o2_world.specs.Calls.{Before, Effect, returned}
 use Rattle.o2_world.specs.Changes.{moved_lines}
-use Rattle.o2_world.specs.Known.{Known}
 use Rattle.o2_world.specs.Rulings.{Ruling}
 use Rattle.o2_gate.specs.declared.gathering.SegmentArguments.{SegmentArguments}
-use Rattle.o2_gate.specs.Replies.{bytes_of, lines_of, moved_by, name_of, words_of}
+use Rattle.o2_gate.specs.Replies.{bytes_of, call_line, name_of, words_of}
 use Rattle.o2_calls.specs.Acts.{cpu_of, ruling_of}
 
--- what process n holds at the index isn't in the run of a huge allocation
-abbrev pub HoldsAlone : Known → (n i : ℕ) → Type 0
-HoldsAlone k n i = (h : Held) → k.held n i ≡ Some h → h.reserved ≡ 0
-
--- the lines of what it changes are those of the reply; at an error it changes nothing
-pub record Tells (n : ℕ) (a : SegmentArguments) (r : Ruling) : Type 0 where
-  pub lines : moved_lines (name_of a) r.changes ≡ moved_by a n r.error r.value
-  pub none : r.error ≢ 0 → r.changes ≡ []
-
--- what a call comes to by its ruling and its registers: the value behind its pointer, and its lines
+-- what a call comes to by its ruling and its registers: the value behind its pointer, its line, and those of what it changes
 abbrev pub replied : SegmentArguments → Before → (next : ℕ) → Ruling → Cpu → Effect
 replied a b next r c = record {
   cpu = returned c next (words_of a) r.error;
@@ -29,7 +18,7 @@ replied a b next r c = record {
   changes = r.changes;
   input = b.input;
   piece = [];
-  lines = lines_of a b.number r.error r.value;
+  lines = call_line a b.number r.error r.value ∷ moved_lines (name_of a) r.changes;
 }
 
 -- the call with these arguments, whose pointer is good

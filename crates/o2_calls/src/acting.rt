@@ -1,5 +1,5 @@
 // A call on segments over a store and the tables of what processes hold.
-ghost use Rattle.std.specs.Prelude.{◌≡◌, ℕ, ◌-◌, ◌<◌, ◌≤◌, ◌^◌, IsSome, IsTrue, Some, true, ◌⊎◌};
+ghost use Rattle.std.specs.Prelude.{◌≡◌, ℕ, ◌+◌, ◌-◌, ◌<◌, ◌≤◌, ◌^◌, IsSome, IsTrue, Some, true, ◌⊎◌};
 ghost use Rattle.o2_entries.specs.Tables.{slot_at};
 ghost use Rattle.o2_outer.specs.Texts.{Rose};
 ghost use Rattle.o2_regions.specs.Maps.{IsProcess};
@@ -17,17 +17,18 @@ ghost use Rattle.o2_world.specs.Holders.{process_at};
 ghost use Rattle.o2_world.specs.Known.{known_of};
 ghost use Rattle.o2_world.specs.Tied.{IsTied};
 ghost use Rattle.o2_world.specs.World.{Process, Setting, World};
-ghost use Rattle.o2_segs.specs.Answers.{AnswersRoomed, AreAlone, changes_roomed};
+ghost use Rattle.o2_segs.specs.Answers.{AnswersRoomed, changes_roomed};
 ghost use Rattle.o2_segs.specs.Limits.{KeepsLimitsBy, made_in};
 ghost use Rattle.o2_regions.specs.Lives.{lives};
 ghost use Rattle.o2_shared.specs.Shares.{AreFew, ShareOne};
 ghost use Rattle.o2_shared.specs.Texts.{AreInPlace};
 ghost use Rattle.o2_calls.specs.SharedActs.{LeavesSpelled, Spells};
 ghost use Rattle.o2_segs.specs.Made.{IsStop};
-ghost use Rattle.o2_calls.specs.Acts.{IsOver, MayStop, cpu_of, ruling_of};
-ghost use Rattle.o2_calls.specs.Stops.{IsGivable, LacksRoom, LacksSwap, LeavesEntries, LeavesHolds, IsShort};
+ghost use Rattle.o2_calls.specs.Acts.{IsOver, MayStop, cpu_behind, ruling_of, most_made};
+ghost use Rattle.o2_calls.specs.Stops.{IsGivable, IsShort, LacksRoom, LacksRun, LacksRunMemory, LacksSwap, LeavesEntries, LeavesHolds, LeavesRunHolds};
 ghost use Rattle.o2_store.specs.Idle.{IsIdle, NoneTaken};
 
+use crate::runs::act_on_run;
 use crate::sharing::share;
 use o2_gate::SegmentArguments;
 use o2_image::Images;
@@ -58,12 +59,11 @@ pub fn act<S: SwapDevice>(
 ) -> Roomed
     requires process { IsProcess regions.old pid }
     requires named { AreNamed store.old regions.old }
-    requires made { store.old.made < 2 ^ 64 - 1 }
+    requires made { store.old.made + 4096 < 2 ^ 64 }
     requires order { IsInOrder store.old regions.old }
     requires pictures { HasAll (HasPicture images.now) store.old }
     requires clean { AreClean store.old (picture images.now) }
     requires device { all_of store.old.swap ≤ S.blocks swap.old }
-    requires alone { AreAlone regions.old }
     requires one { ShareOne regions.old }
     requires few { AreFew regions.old }
     requires living { (n : ℕ) → lives ends.now n ≡ true → IsProcess regions.old n }
@@ -77,7 +77,7 @@ pub fn act<S: SwapDevice>(
     ensures registers { (p : Parts) (s : Setting) (w : World)
         → IsOver store.old regions.old images.now (S.block swap.old) p s w
         → Spells store.old regions.old names.old ends.now p w
-        → cpu.new ≡ cpu_of arguments (known_of s w) pid cpu.old }
+        → cpu.new ≡ cpu_behind arguments (known_of s w) pid cpu.old result }
     ensures matches { (p : Parts) (s : Setting) (w : World) (x : Process)
         → IsOver store.old regions.old images.now (S.block swap.old) p s w
         → Spells store.old regions.old names.old ends.now p w
@@ -102,10 +102,24 @@ pub fn act<S: SwapDevice>(
         → LacksRoom arguments store.old regions.old pid keep.now }
     ensures swap_full { result ≡ Roomed.SwapFull
         → LacksSwap arguments store.old regions.old pid }
+    // The same of a call that sizes a run, and what it leaves of holds, by the world.
+    ensures run_holds { (p : Parts) (s : Setting) (w : World)
+        → IsOver store.old regions.old images.now (S.block swap.old) p s w
+        → Spells store.old regions.old names.old ends.now p w
+        → LeavesRunHolds arguments regions.old regions.new (known_of s w) pid cpu.old }
+    ensures run_lacks { (p : Parts) (s : Setting) (w : World)
+        → IsOver store.old regions.old images.now (S.block swap.old) p s w
+        → Spells store.old regions.old names.old ends.now p w
+        → LacksRun arguments store.old (known_of s w) pid cpu.old keep.now result }
+    ensures run_short { (p : Parts) (s : Setting) (w : World)
+        → IsOver store.old regions.old images.now (S.block swap.old) p s w
+        → Spells store.old regions.old names.old ends.now p w
+        → NoneTaken store.old.swap → IsIdle store.new swap.old swap.new
+        ⊎ LacksRunMemory arguments store.old (known_of s w) pid cpu.old }
 
     // What the calls of store, service and bus ask for goes on to hold.
     ensures processes { regions.new.processes ≡ regions.old.processes }
-    ensures limits { KeepsLimitsBy store.old regions.old store.new regions.new (made_in result) (made_in result) }
+    ensures limits { KeepsLimitsBy store.old regions.old store.new regions.new (most_made result) (made_in result) }
     ensures places { AreInPlace store.new regions.new names.new }
     ensures value { IsGivable arguments result }
     ensures order { IsInOrder store.new regions.new }
@@ -152,6 +166,9 @@ pub fn act<S: SwapDevice>(
         } => Roomed::Done(create_cs_alias(store, regions, pid, selector)),
         SegmentArguments::Shared(shared) => {
             Roomed::Done(share(&shared, pid, store, regions, names, ends))
+        }
+        SegmentArguments::Huge(huge) => {
+            act_on_run(&huge, pid, cpu, store, regions, keep, images, swap)
         }
     }
 }

@@ -14,7 +14,7 @@ ghost use Rattle.o2_world.specs.Changes.{with_all};
 ghost use Rattle.o2_world.specs.Holders.{process_at};
 ghost use Rattle.o2_world.specs.Known.{known_of};
 ghost use Rattle.o2_world.specs.World.{Process, Setting, World};
-ghost use Rattle.o2_segs.specs.Answers.{Answers, AreAlone};
+ghost use Rattle.o2_segs.specs.Answers.{Answers};
 ghost use Rattle.o2_segs.specs.Limits.{KeepsEntries, KeepsLimitsBy};
 ghost use Rattle.o2_shared.specs.Shares.{AreFew, ShareOne, StillHolds};
 ghost use Rattle.o2_shared.specs.Texts.{AreInPlace};
@@ -42,7 +42,6 @@ pub fn share(
     requires named { AreNamed store.old regions.old }
     requires made { store.old.made < 2 ^ 64 - 1 }
     requires order { IsInOrder store.old regions.old }
-    requires alone { AreAlone regions.old }
     requires one { ShareOne regions.old }
     requires few { AreFew regions.old }
     requires living { (n : ℕ) → lives ends.now n ≡ true → IsProcess regions.old n }

@@ -20,7 +20,7 @@ use Rattle.o2_store.specs.Pictures.{picture}
 use Rattle.o2_store.specs.Shelf.{Shelf, Adds, HasAll, IsShelf, KeepsAll, Removes, SameTables, entry, entry_of, entry_or}
 use Rattle.o2_store.specs.Sizes.{Resizes}
 use Rattle.o2_store.proofs.Tables.{slot-set_other}
-use Rattle.o2_changes.specs.Holding.{Grants, IsUnheld, Takes}
+use Rattle.o2_changes.specs.Holding.{Grants, IsUnheld, Takes, TakesSome}
 use Rattle.o2_changes.specs.Order.{IsGuarded, IsInOrder}
 use Rattle.o2_changes.specs.Segments.{SetsLock}
 use Rattle.o2_swapmap.specs.Piles.{all_of}
@@ -29,6 +29,7 @@ use Rattle.o2_changes.proofs.Freeing.{keys_apart}
 use Rattle.o2_changes.proofs.HoldsStand.{granted_guarded}
 use Rattle.o2_changes.proofs.LocksStand.{locked_aged, locked_entry}
 use Rattle.o2_changes.proofs.SizesMatch.{each, sized_aged}
+use Rattle.o2_changes.proofs.Taking.{takes_some}
 
 -- where nobody holds more and no segment turns clean
 still_guarded : (s t : Shelf) (m : Maps) → ((q j : ℕ) (h : Held) → held_at m q j ≡ Some h → (entry t h.id.key).attr.clean ≡ (entry s h.id.key).attr.clean) → AreGuarded s m → AreGuarded t m
@@ -86,7 +87,10 @@ pub granted_guards : (s : Shelf) (m n : Maps) (pid i access : ℕ) (h : Held) �
 granted_guards s m n pid i access h g same guard was = record { aged = was.aged; guarded = granted_guarded s m n pid i access h g same guard was.guarded }
 
 pub dropped_guards : (s : Shelf) (m n : Maps) (pid i : ℕ) → Takes m n pid i → IsGuarded s m → IsGuarded s n
-dropped_guards s m n pid i d g = record { aged = g.aged; guarded = dropped_guarded s s m n pid i d (λ q j y e. refl) g.guarded }
+dropped_guards s m n pid i d g = record { aged = g.aged; guarded = dropped_guarded s s m n pid i 1 (takes_some m n pid i d) (λ q j y e. refl) g.guarded }
+
+pub lost_guards : (s : Shelf) (m n : Maps) (pid i count : ℕ) → TakesSome m n pid i count → IsGuarded s m → IsGuarded s n
+lost_guards s m n pid i count d g = record { aged = g.aged; guarded = dropped_guarded s s m n pid i count d (λ q j y e. refl) g.guarded }
 
 -- reserved indexes guard nothing
 pub reserved_guards : (s : Shelf) (m n : Maps) → n ≡ record m { reserved = n.reserved } → IsGuarded s m → IsGuarded s n

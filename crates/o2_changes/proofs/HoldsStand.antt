@@ -25,7 +25,8 @@ use Rattle.o2_changes.specs.Worlds.{held_as}
 use Rattle.o2_changes.proofs.Named.{named_maps}
 use Rattle.o2_changes.proofs.Settling.{Here, Other, pair_is}
 use Rattle.o2_changes.proofs.Taken.{held_apart, held_region, pair_hit}
-use Rattle.o2_changes.proofs.Worlds.{held_put, index_held, number_kept, put_at}
+use Rattle.o2_stands.proofs.Puts.{held_put, number_kept, put_at}
+use Rattle.o2_changes.proofs.Worlds.{index_held}
 
 mapped : (m : Maps) (q j : ℕ) → is_some (held_in m q j) ≡ is_some (held_there m q j)
 unfolding held_in

@@ -6,6 +6,7 @@ pub mod Segmenting
 pub mod Worlds
 pub mod Taken
 pub mod Keys
+pub mod Taking
 pub mod HoldsStand
 pub mod DropsStand
 pub mod LocksStand
@@ -17,3 +18,4 @@ pub mod SizesMatch
 pub mod Losing
 pub mod Guarding
 pub mod KeepingHolds
+pub mod FreeingRuns

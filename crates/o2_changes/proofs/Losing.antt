@@ -1,42 +1,44 @@
 -- A tidy world may lose a hold of a segment alone.
-use Rattle.std.proofs.Common.{◌≡◌, ℕ, ◌<◌, ◌≤◌, ◌==◌, ◌&&◌, ◌||◌, ◌+◌, nat_le, nat_lt, Bool, true, false, List, [], ◌∷◌, Some, if◌then◌else◌, refl, sym, ◌∙◌, arith}
-use Rattle.std.specs.List.{list_any}
-use Rattle.o2_regions.specs.declared.held.Region.TheVariants.{Private, Shared}
-use Rattle.o2_world.specs.Changes.{Drops, with_change}
-use Rattle.o2_world.specs.Known.{held_at, reserves}
-use Rattle.o2_world.specs.World.{Held, Reserve, World}
-use Rattle.o2_stands.specs.Stands.{AllStay, IsTidy, is_by_load, number_of}
-use Rattle.o2_stands.proofs.Tidying.{and_parts, used_all}
+use Rattle.std.proofs.Common.{◌≡◌, ℕ, ◌<◌, ◌==◌, false, Option, Some, None, refl, sym, ap, ◌∙◌}
+use Rattle.std.proofs.lemmas.Bool.{cond-false, false≢true}
+use Rattle.o2_world.specs.Changes.{Drops, fewer, with_change}
+use Rattle.o2_world.specs.Holders.{process_at}
+use Rattle.o2_world.specs.Known.{held_at}
+use Rattle.o2_world.specs.Rulings.{is_in_run}
+use Rattle.o2_world.specs.Sound.{held_of}
+use Rattle.o2_world.specs.World.{Held, Process, World}
+use Rattle.o2_stands.specs.Stands.{IsTidy, is_by_load}
+use Rattle.o2_stands.proofs.Reserved.{and_parts, stay_still, used_all}
+use Rattle.o2_stands.proofs.Used.{IsUsedBy, used_by, used_found}
 use Rattle.o2_changes.specs.Worlds.{LosesOne}
+use Rattle.o2_changes.proofs.Settling.{Here, IsPair, Other, pair_is}
+use Rattle.o2_stands.proofs.Puts.{held_put}
 
-same_number : (n m : ℕ) → (n == m) ≡ true → n ≡ m
-same_number n m e = grind arith
+none_some : (h : Held) → ◌≡◌ {A = Option Held} None (Some h) → ⊥
+none_some h e = cc
 
--- what stays is of the shared region
-other_region : (n i : ℕ) (rs : List Reserve) → 0 < n → AllStay rs → list_any (reserves n i) rs ≡ false
-other_region n i [] some all = refl
-other_region n i (r ∷ rs) some all = go (r.region == n) refl (other_region n i rs some all.1)
-  where
-    zero : r.region ≡ 0
-    zero = same_number r.region 0 (and_parts (r.region == 0) r.stays all.0).0
+module _ (w : World) (n i : ℕ) (h : Held) (held : held_at w.processes n i ≡ Some h) (alone : is_in_run h ≡ false) where
+  -- a member of a run is held still
+  still : (x : Process) → process_at w.processes n ≡ Some x → (region first : ℕ) → IsUsedBy w.processes region first → IsUsedBy (with_change w (Drops n i 1)).processes region first
+  still x at region first u = record { number = u.number; index = u.index; hold = u.hold; there = go (pair_is u.number u.index n i); runs = u.runs; own = u.own }
+    where
+      go : IsPair u.number u.index n i → held_at (with_change w (Drops n i 1)).processes u.number u.index ≡ Some u.hold
+      go (Other apart e) = held_put w.processes n u.number i u.index (fewer 1) x at ∙ (cond-false _ (fewer 1 (held_at w.processes n i)) (held_at w.processes u.number u.index) e ∙ u.there)
+      go (Here same also e) =
+          let z : Some h ≡ Some u.hold = sym held ∙ (ap (λ (b : ℕ). held_at w.processes b i) (sym same) ∙ (ap (held_at w.processes u.number) (sym also) ∙ u.there)) in
+          let y : h ≡ u.hold = cc in
+          absurd (false≢true (sym alone ∙ (ap is_in_run y ∙ (and_parts (u.hold.first == first) (is_in_run u.hold) u.runs).1)))
 
-    not_zero : (k : ℕ) → 0 < k → k ≡ 0 → ⊥
-    not_zero k h e = omega (arith, h, e)
+  used_still : (o : Option Process) → process_at w.processes n ≡ o → (region first : ℕ) → IsUsedBy w.processes region first → IsUsedBy (with_change w (Drops n i 1)).processes region first
+  used_still None at region first u = absurd (none_some h (sym (ap (λ (o : Option Process). held_of o i) at) ∙ held))
+  used_still (Some x) at region first u = still x at region first u
 
-    go : (b : Bool) → (r.region == n) ≡ b → list_any (reserves n i) rs ≡ false → ((b && (nat_le r.first i && nat_lt i (r.first + r.count))) || list_any (reserves n i) rs) ≡ false
-    go true e rest = absurd (not_zero n some (sym (same_number r.region n e) ∙ zero))
-    go false e rest = rest
-
-pub loses_one : (w : World) (n i : ℕ) (h : Held) → 0 < n → IsTidy w.processes w.names w.reserved → held_at w.processes n i ≡ Some h → is_by_load h.cause ≡ false → LosesOne w n i
-loses_one w n i h some tidy held called = record {
+pub loses_one : (w : World) (n i : ℕ) (h : Held) → 0 < n → IsTidy w.processes w.names w.reserved → held_at w.processes n i ≡ Some h → is_in_run h ≡ false → is_by_load h.cause ≡ false → LosesOne w n i
+loses_one w n i h some tidy held alone called = record {
   named = tidy.used;
-  free = go (nat_lt i 4096) refl;
-  reserved = used_all (with_change w (Drops n i 1)).processes w.reserved tidy.stay;
+  free = tidy.free n i h held alone (λ high. called);
+  reserved = used_all (with_change w (Drops n i 1)).processes w.reserved
+      (stay_still w.processes (with_change w (Drops n i 1)).processes
+      (λ r goes e. used_found (with_change w (Drops n i 1)).processes r (used_still w n i h held alone (process_at w.processes n) refl r.region r.first (used_by w.processes r goes e)))
+      w.reserved tidy.stay);
 }
-  where
-    high : (i : ℕ) → nat_lt i 4096 ≡ false → 4096 ≤ i
-    high i e = grind arith
-
-    go : (b : Bool) → nat_lt i 4096 ≡ b → list_any (reserves (number_of (if b then Private n else Shared)) i) w.reserved ≡ false
-    go true e = other_region n i w.reserved some tidy.stay
-    go false e = tidy.free n i h (high i e) held called

@@ -16,18 +16,18 @@ use Rattle.o2_store.specs.Pictures.{picture}
 use Rattle.o2_store.specs.Shelf.{Shelf, Adds, AreClean, IsShelf, KeepsAll, Pictures, byte_at, entry, entry_of, entry_or}
 use Rattle.o2_store.proofs.Tables.{slot-set_same}
 use Rattle.o2_swapmap.specs.Piles.{all_of}
-use Rattle.o2_world.specs.World.{Process, World}
-use Rattle.o2_world.specs.Holders.{process_at}
+use Rattle.o2_world.specs.World.{Process, Reserve, World}
+use Rattle.o2_world.specs.Holders.{kept, process_at}
 use Rattle.o2_world.specs.Changes.{Drops, Holds, Locks, Makes, with_all, with_change, with_changes}
 use Rattle.o2_world.proofs.TiedChanges.{zeros_length}
 use Rattle.o2_stands.specs.Moves.{moved}
 use Rattle.o2_stands.specs.Parts.{Parts}
-use Rattle.o2_stands.specs.Stands.{IsSegment, Matches}
-use Rattle.o2_changes.specs.Holding.{FreesIndex, Grants, Sweeps, Takes, TakesIndex}
+use Rattle.o2_stands.specs.Stands.{IsSegment, Matches, MatchesIn}
+use Rattle.o2_changes.specs.Holding.{FreesIndex, Grants, Sweeps, Takes, TakesIndex, TakesSome}
 use Rattle.o2_changes.specs.Order.{IsInOrder}
 use Rattle.o2_changes.specs.Segments.{IsNewest, SetsLock}
-use Rattle.o2_changes.specs.Worlds.{LosesOne, MatchesMake, held_as, new_segment}
-use Rattle.o2_changes.proofs.DropsStand.{drops_stand}
+use Rattle.o2_changes.specs.Worlds.{LosesOne, LosesSome, MatchesMake, held_as, lost, new_segment}
+use Rattle.o2_changes.proofs.DropsStand.{drops_stand, taken_freed, taken_kept}
 use Rattle.o2_changes.proofs.HoldsStand.{holds_stand, region_same}
 use Rattle.o2_changes.proofs.LocksStand.{locks_match}
 use Rattle.o2_changes.proofs.MakesStand.{made_clean, made_pictures, makes_match, new_newest, new_unheld, unmade_match}
@@ -42,6 +42,7 @@ use Rattle.o2_changes.proofs.SizesMatch.{sizes_match}
 use Rattle.o2_store.specs.Sizes.{Resizes}
 use Rattle.o2_world.specs.Changes.{Resizes as ResizesChange}
 use Rattle.o2_changes.proofs.Taken.{held_apart}
+use Rattle.o2_changes.proofs.Taking.{takes_some}
 
 pub holds_match : (s : Shelf) (m n : Maps) (pid i access : ℕ) (h : HeldThere) → Grants m n pid i h access → 0 < h.holds → IfSome (held_there m pid i) (λ y. y.id ≡ h.id) → AreKept m → AreKept n → IsProcess m pid → TakesIndex m n pid i → IsInOrder s n
     → (p : Parts) (w : World) (x : Process) → p.shelf ≡ s → p.maps ≡ m → process_at w.processes pid ≡ Some x
@@ -75,9 +76,22 @@ pub let_go_matches : (s t : Shelf) (m a n : Maps) (pid i : ℕ) (h : HeldThere) 
     → (p : Parts) (w : World) (x : Process) → p.shelf ≡ s → p.maps ≡ m → process_at w.processes pid ≡ Some x → LosesOne w pid i → Matches p w → Matches (record p { shelf = t; maps = n }) (with_all w (Drops pid i 1 ∷ []))
 unfolding with_changes
 let_go_matches s t m a n pid i h there shelf k kn takes reserved frees is before order map sweeps p w x es em at loses q =
-    drops_stand p w t n pid i h x (subst (λ (y : Maps). Takes y n pid i) (sym em) (takes_behind m a n pid i takes is)) (ap (λ (y : Maps). held_there y pid i) em ∙ there) at q loses
-    (subst IsShelf (sym es) shelf) (subst AreKept (sym em) k) kn (subst (λ (y : Maps). FreesIndex y n pid i) (sym em) (frees_behind m a n pid i takes reserved frees)) (subst (λ (y : Shelf). IsInOrder y n) (sym es) before) order
-    (map ∙ ap (λ (y : Shelf). all_of y.swap) (sym es)) (subst (λ (y : Shelf). Sweeps y t n h.id) (sym es) sweeps)
+    let d : TakesSome p.maps n pid i 1 = takes_some p.maps n pid i (subst (λ (y : Maps). Takes y n pid i) (sym em) (takes_behind m a n pid i takes is)) in
+    let at_first : held_there p.maps pid i ≡ Some h = ap (λ (y : Maps). held_there y pid i) em ∙ there in
+    subst (λ (rs : List Reserve). MatchesIn (record p { shelf = t; maps = n }) (with_change w (Drops pid i 1)).processes (kept (with_change w (Drops pid i 1)).processes w.names) w.next_name rs) (sym loses.reserved)
+    (drops_stand p w t n pid i 1 h x d at_first at q loses.named (subst IsShelf (sym es) shelf)
+    (taken_freed p w t n pid i 1 h x d at_first at q loses.named (subst AreKept (sym em) k) kn (subst (λ (y : Maps). FreesIndex y n pid i) (sym em) (frees_behind m a n pid i takes reserved frees)) loses.free)
+    (subst (λ (y : Shelf). IsInOrder y n) (sym es) before) order (map ∙ ap (λ (y : Shelf). all_of y.swap) (sym es)) (subst (λ (y : Shelf). Sweeps y t n h.id) (sym es) sweeps))
+
+pub lose_matches : (s t : Shelf) (m n : Maps) (pid i count : ℕ) (h : HeldThere) → held_there m pid i ≡ Some h → IsShelf s → AreKept m → AreKept n → TakesSome m n pid i count → n.reserved ≡ m.reserved
+    → IsInOrder s n → IsInOrder t n → all_of t.swap ≡ all_of s.swap → Sweeps s t n h.id
+    → (p : Parts) (w : World) (x : Process) → p.shelf ≡ s → p.maps ≡ m → process_at w.processes pid ≡ Some x → LosesSome w pid i → Matches p w → Matches (record p { shelf = t; maps = n }) (lost w pid i count)
+lose_matches s t m n pid i count h there shelf k kn takes reserved before order map sweeps p w x es em at loses q =
+    let d : TakesSome p.maps n pid i count = subst (λ (y : Maps). TakesSome y n pid i count) (sym em) takes in
+    let at_first : held_there p.maps pid i ≡ Some h = ap (λ (y : Maps). held_there y pid i) em ∙ there in
+    drops_stand p w t n pid i count h x d at_first at q loses.named (subst IsShelf (sym es) shelf)
+    (taken_kept p w t n pid i count h x d at_first at q loses.named (subst AreKept (sym em) k) kn (reserved ∙ ap (λ (y : Maps). y.reserved) (sym em)) loses.covered)
+    (subst (λ (y : Shelf). IsInOrder y n) (sym es) before) order (map ∙ ap (λ (y : Shelf). all_of y.swap) (sym es)) (subst (λ (y : Shelf). Sweeps y t n h.id) (sym es) sweeps)
 
 pub move_matches : (s t : Shelf) (m n : Maps) (images : ImageList) (told : Bool) (before after : ℕ → List ℕ) → KeepsAll told (picture images) s before t after → OnlyTables m n → AreClean t (picture images) → IsInOrder t n → all_of t.swap ≡ all_of s.swap
     → (p : Parts) (w : World) → p.shelf ≡ s → p.maps ≡ m → p.images ≡ images → p.block ≡ before → IsTrue told → Matches p w → Matches (moved p t n after) w

@@ -1,5 +1,5 @@
 -- A process holds a segment more often, or less.
-use Rattle.std.specs.Prelude.{◌≡◌, ℕ, ◌<◌, ◌≤◌, ◌&&◌, ◌||◌, ◌==◌, true, false, Some, None, IsSome, if◌then◌else◌}
+use Rattle.std.specs.Prelude.{◌≡◌, ℕ, ◌-◌, ◌<◌, ◌≤◌, ◌&&◌, ◌||◌, ◌==◌, nat_le, nat_lt, not, true, false, Option, Some, None, IsSome, if◌then◌else◌}
 use Rattle.o2_desc.specs.Bits.{is_writable, rights_of}
 use Rattle.o2_entries.specs.Tables.{slot_at}
 use Rattle.o2_place.specs.declared.seg_id.SegId.{SegId}
@@ -45,10 +45,27 @@ pub record Takes (old new : Maps) (pid i : ℕ) : Type 0 where
   pub held : (q j : ℕ) → held_at new q j ≡ (if (q == pid) && (j == i) then less_of (held_at old pid i) else held_at old q j)
   pub rights : (q j : ℕ) → IsSome (held_at new q j) → rights_at new q j ≡ rights_at old q j
 
+-- what is held at an index with so many holds less there
+abbrev pub less_by : ℕ → Option Held → Option Held
+less_by count None = None
+less_by count (Some was) = if was.holds - count == 0 then None else Some (record was { holds = was.holds - count })
+
+-- a process holds so many holds less at an index; all else that is held stays
+pub record TakesSome (old new : Maps) (pid i count : ℕ) : Type 0 where
+  pub processes : new.processes ≡ old.processes
+  pub held : (q j : ℕ) → held_at new q j ≡ (if (q == pid) && (j == i) then less_by count (held_at old pid i) else held_at old q j)
+  pub rights : (q j : ℕ) → IsSome (held_at new q j) → rights_at new q j ≡ rights_at old q j
+
 -- an index may be chosen again where nobody of its region holds it any more, and of all others the same may
 abbrev pub FreesIndex : Maps → Maps → ℕ → ℕ → Type 0
 FreesIndex old new pid i = (g : Region) (j : ℕ) → IsRegion old g → first_of g ≤ j → j < end_of g
     → is_taken new g j ≡ (if same_region g (region_of pid i) && (j == i) then is_held new g j else is_taken old g j)
+
+-- Where nobody of its region holds the first index of a run, each of its indexes that nobody holds may be chosen again, up to the one
+-- before its end; and of all others the same may.
+abbrev pub FreesRun : Maps → Maps → (pid first end : ℕ) → Type 0
+FreesRun old new pid first end = (g : Region) (j : ℕ) → IsRegion old g → first_of g ≤ j → j < end_of g
+    → is_taken new g j ≡ (if not (is_held old (region_of pid first) first) && (same_region g (region_of pid j) && (nat_le first j && nat_lt j end)) then is_held new g j else is_taken old g j)
 
 -- each segment that goes on to live stays where it is
 abbrev pub KeepsPlaces : Shelf → Shelf → Type 0

@@ -9,7 +9,7 @@ use Rattle.o2_regions.specs.Maps.{Maps, region_of}
 use Rattle.o2_store.specs.Shelf.{Shelf, entry}
 use Rattle.o2_world.specs.Map.{get}
 use Rattle.o2_world.specs.World.{Held, Process, Segment, World}
-use Rattle.o2_world.specs.Holders.{is_held, process_at}
+use Rattle.o2_world.specs.Holders.{is_held, kept, process_at}
 use Rattle.o2_world.specs.Known.{reserves}
 use Rattle.o2_world.specs.Changes.{Drops, Holds, Locks, Makes, Resizes, used, with_all, with_change}
 use Rattle.o2_stands.specs.Moves.{moved}
@@ -27,6 +27,15 @@ pub record LosesOne (w : World) (pid i : ℕ) : Type 0 where
   pub free : list_any (reserves (number_of (region_of pid i)) i) w.reserved ≡ false
   pub reserved : used (with_change w (Drops pid i 1)).processes w.reserved ≡ w.reserved
 
+-- So many holds of a member of a run may go from a world, whose index stays reserved: each of its names is held.
+pub record LosesSome (w : World) (pid i : ℕ) : Type 0 where
+  pub named : (q : ℕ) → is_some (get w.names q) ≡ true → is_held w.processes q ≡ true
+  pub covered : list_any (reserves (number_of (region_of pid i)) i) w.reserved ≡ true
+
+-- a world with so many holds less, and without the names that nobody holds any more
+abbrev pub lost : World → (pid i count : ℕ) → World
+lost w pid i count = let v = with_change w (Drops pid i count) in record v { names = kept v.processes v.names }
+
 -- The tables match a world with a hold more, where they matched it.
 pub record MatchesHold (s : Shelf) (old new : Maps) (pid i : ℕ) (h : HeldThere) (access : ℕ) : Type 0 where
   pub world : (p : Parts) (w : World) (x : Process) → p.shelf ≡ s → p.maps ≡ old → process_at w.processes pid ≡ Some x
@@ -37,6 +46,11 @@ pub record MatchesHold (s : Shelf) (old new : Maps) (pid i : ℕ) (h : HeldThere
 pub record MatchesDrop (s t : Shelf) (old new : Maps) (pid i : ℕ) : Type 0 where
   pub world : (p : Parts) (w : World) (x : Process) → p.shelf ≡ s → p.maps ≡ old → process_at w.processes pid ≡ Some x
       → LosesOne w pid i → Matches p w → Matches (record p { shelf = t; maps = new }) (with_all w (Drops pid i 1 ∷ []))
+
+-- store and tables match a world with so many holds of a member of a run less, and without its segment where these were the last ones
+pub record MatchesLoss (s t : Shelf) (old new : Maps) (pid i count : ℕ) : Type 0 where
+  pub world : (p : Parts) (w : World) (x : Process) → p.shelf ≡ s → p.maps ≡ old → process_at w.processes pid ≡ Some x
+      → LosesSome w pid i → Matches p w → Matches (record p { shelf = t; maps = new }) (lost w pid i count)
 
 -- the store matches a world in which a segment is locked so often
 pub record MatchesLock (s t : Shelf) (m : Maps) (id : SegId) (lock : ℕ) : Type 0 where

@@ -1,11 +1,11 @@
 // A process holds a segment less often, and what nobody holds any more goes.
-ghost use Rattle.std.specs.Prelude.{◌≡◌, ◌≢◌, ℕ, ◌-◌, ◌<◌, Some, None, IsSome, is_some, true, false};
+ghost use Rattle.std.specs.Prelude.{◌≡◌, ◌≢◌, ℕ, ◌-◌, ◌<◌, ◌≤◌, Some, None, IsSome, is_some, true, false};
 ghost use Rattle.o2_regions.specs.declared.held.Held.{Held as HeldThere};
-ghost use Rattle.o2_regions.specs.Maps.{IsProcess, held_at, is_held, is_of, is_reserved, region_of, some_holds};
+ghost use Rattle.o2_regions.specs.Maps.{IsProcess, held_at, is_held, is_of, region_of, some_holds};
 ghost use Rattle.o2_image.specs.ImageList.{ImageList};
 ghost use Rattle.o2_store.specs.Pictures.{HasPicture};
 ghost use Rattle.o2_store.specs.Shelf.{AreClean, HasAll, Pictures, entry_of};
-ghost use Rattle.o2_changes.specs.Holding.{FreesIndex, IsUnheld, KeepsPlaces, Sweeps, Takes};
+ghost use Rattle.o2_changes.specs.Holding.{FreesIndex, FreesRun, IsUnheld, KeepsPlaces, Sweeps, Takes};
 ghost use Rattle.o2_changes.specs.Order.{IsGuarded, IsInOrder};
 ghost use Rattle.o2_changes.specs.Worlds.{MatchesDrop};
 ghost use Rattle.o2_swapmap.specs.Piles.{all_of};
@@ -70,12 +70,11 @@ fn is_index_held(regions: &Regions, pid: u16, index: u16) -> bool
     }
 }
 
-/// An index that is reserved, and that nobody of its region holds any more, may be chosen again. One that is held stays
-/// reserved. It isn't reserved for more than those who held it. Index 0 is in no region.
+/// An index that nobody of its region holds any more may be chosen again. One that is held stays reserved. It isn't reserved for
+/// more than those who held it. Index 0 is in no region.
 pub fn free_index(store: &Store, regions: &mut Regions, pid: u16, index: u16)
     requires process { IsProcess regions.old pid }
     requires index { index < 8192 }
-    requires reserved { is_reserved regions.old (region_of pid index) index ≡ true }
     requires order { IsInOrder store.now regions.old }
 
     ensures frees { FreesIndex regions.old regions.new pid index }
@@ -90,6 +89,28 @@ pub fn free_index(store: &Store, regions: &mut Regions, pid: u16, index: u16)
         return;
     }
     regions.release(region_of(pid, index), index, 1);
+}
+
+/// The indexes of a run from `first` to the one before `end` may be chosen again where nobody of its region holds them, if
+/// nobody holds the first one.
+pub fn free_run(store: &Store, regions: &mut Regions, pid: u16, first: u16, end: u16)
+    requires process { IsProcess regions.old pid }
+    requires end { end ≤ 8192 }
+    requires order { IsInOrder store.now regions.old }
+
+    ensures frees { FreesRun regions.old regions.new pid first end }
+    ensures tables { regions.new ≡ record regions.old { reserved = regions.new.reserved } }
+    ensures order { IsInOrder store.now regions.new }
+{
+    if end <= first {
+        return;
+    }
+    if is_index_held(regions, pid, first) {
+        return;
+    }
+    for index in first..end {
+        free_index(store, regions, pid, index);
+    }
 }
 
 /// Whether nobody holds a segment.

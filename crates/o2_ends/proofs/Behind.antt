@@ -17,8 +17,8 @@ use Rattle.o2_regions.specs.declared.held.Region.{Region}
 use Rattle.o2_regions.specs.declared.held.Region.TheVariants.{Private, Shared}
 use Rattle.o2_regions.specs.Kept.{AreKept}
 use Rattle.o2_regions.specs.Lives.{lives}
-use Rattle.o2_regions.specs.Maps.{Maps, held_at, is_held as is_held_in, is_reserved, is_taken, some_holds}
-use Rattle.o2_regions.proofs.Reserves.{held_reserved, is_shared}
+use Rattle.o2_regions.specs.Maps.{IsProcess, Maps, held_at, is_held as is_held_in, is_reserved, is_taken, some_holds}
+use Rattle.o2_regions.proofs.Reserves.{held_reserved, held_shared as shared_held, holder_in, unheld_shared}
 use Rattle.o2_segbus.specs.Guards.{AreAged}
 use Rattle.o2_segbus.specs.Seen.{key_of}
 use Rattle.o2_segbus.specs.Settled.{Describes, IsSettled, IsSettledAt, descriptor_at}
@@ -28,23 +28,30 @@ use Rattle.o2_store.specs.Pictures.{picture}
 use Rattle.o2_store.specs.Shelf.{AreClean, IsShelf, Pictures, Shelf, entry, entry_or, numbered, out_byte, place_of, source_byte}
 use Rattle.o2_swapmap.specs.Piles.{Blocks}
 use Rattle.o2_world.specs.Holders.{is_held, kept, process_at, with_process}
-use Rattle.o2_world.specs.Changes.{used}
+use Rattle.o2_world.specs.Changes.{is_used, used}
+use Rattle.o2_world.specs.Rulings.{is_in_run}
+use Rattle.o2_stands.specs.Runs.{IsInStretch}
 use Rattle.o2_world.specs.Known.{held_at as world_held, holds_index, reserves}
 use Rattle.o2_world.specs.Map.{Map, get}
 use Rattle.o2_world.specs.World.{Held as WorldHeld, Process, Reserve, Segment, is_live}
 use Rattle.o2_stands.specs.Parts.{Parts, Running, cause_of, goes_on, held_in, held_of, running_of}
-use Rattle.o2_stands.specs.Stands.{AreMarked, IsIndex, IsNamed, IsReady, IsSegment, IsTidy, StandsIn, is_by_load, number_of, taken_by}
+use Rattle.o2_stands.specs.Stands.{AreMarked, IsIndex, IsNamed, IsReady, IsSegment, StandsIn, is_by_load, number_of, region_at, taken_by}
 use Rattle.o2_stands.specs.Moves.{stepped_to, with_running}
 use Rattle.o2_stands.proofs.Moves.{index_same}
 use Rattle.o2_stands.proofs.Rooms.{found_at}
 use Rattle.o2_ends.specs.Ended.{StandsBehind}
-use Rattle.o2_ends.specs.LetsGo.{KeepsSegment, LetsGo, Sheds, is_free, is_loaded, not_by_load, some_has}
+use Rattle.o2_ends.specs.LetsGo.{FreesAll, IsAloneLeft, IsRunLeft, KeepsSegment, LetsGo, Sheds, is_loaded, some_has}
 use Rattle.o2_ends.proofs.Holders.{has_there, holder_of, id_same, some_is}
-use Rattle.o2_ends.proofs.Letting.{held_before, held_behind, live_id, some_all}
+use Rattle.o2_ends.proofs.Letting.{held_before, held_behind, live_id}
+use Rattle.o2_ends.proofs.Somes.{some_all}
+use Rattle.o2_ends.proofs.Stretches.{gone_member, other_same, own_free, used_holder}
 use Rattle.o2_stands.proofs.Running.{running_put, running_ready}
 use Rattle.o2_stands.proofs.Worlds.{holds_of, name_held}
-use Rattle.o2_ends.proofs.Worlds.{absorbed, held_here, held_other, kept_is, or_right, private_taken, run_reserves, tidy_behind}
-use Rattle.o2_stands.proofs.Tidying.{used_all}
+use Rattle.o2_ends.proofs.Worlds.{absorbed, held_here, held_other, kept_is, or_right, run_reserves, tidy_behind}
+use Rattle.o2_stands.proofs.Matching.{matched_by}
+use Rattle.o2_stands.proofs.Reserved.{any_left_false}
+use Rattle.o2_stands.proofs.RunSteps.{high_region, stretch_reserves}
+use Rattle.o2_stands.proofs.RunsSeen.{runs_seen}
 use Rattle.o2_changes.proofs.Worlds.{index_held}
 
 none_some : {X : Type 0} (x : X) → None ≡ Some x → ⊥
@@ -184,6 +191,39 @@ in_back n q i x e = go (held_at n q i) refl e
     go None f g = absurd (none_some x g)
     go (Some h) f g = record { hold = h; there = f; name = ap (λ (y : WorldHeld). y.name) (some_is (held_of n q i h) x g) }
 
+-- what a world holds by the maps
+record IsBack (n : Maps) (q i : ℕ) (x : WorldHeld) : Type 0 where
+  hold : Held
+  there : held_at n q i ≡ Some hold
+  is : held_of n q i hold ≡ x
+
+back_in : (n : Maps) (q i : ℕ) (x : WorldHeld) → held_in n q i ≡ Some x → IsBack n q i x
+unfolding held_in
+back_in n q i x e = go (held_at n q i) refl e
+  where
+    go : (o : Option Held) → held_at n q i ≡ o → option_map (held_of n q i) o ≡ Some x → IsBack n q i x
+    go None f g = absurd (none_some x g)
+    go (Some h) f g = record { hold = h; there = f; is = some_is (held_of n q i h) x g }
+
+-- who holds a shared index, and nobody
+somebody_holds : (m : Maps) (q i : ℕ) → AreKept m → is_some (held_at m q i) ≡ true → some_holds m i m.processes ≡ true
+somebody_holds m q i kept e = go (some_holds m i m.processes) refl
+  where
+    process : (o : Option Held) → held_at m q i ≡ o → is_some o ≡ true → IsProcess m q
+    process None f s = absurd (false≢true s)
+    process (Some h) f s = (holder_in m q i h kept f).0
+
+    go : (b : Bool) → some_holds m i m.processes ≡ b → b ≡ true
+    go true f = refl
+    go false f = (let p = process (held_at m q i) refl e in absurd (false≢true (sym (unheld_shared m i m.processes q f p.0 p.1) ∙ e)))
+
+nobody_holds : (m : Maps) (i : ℕ) → ((q : ℕ) → is_some (held_at m q i) ≡ true → ⊥) → some_holds m i m.processes ≡ false
+nobody_holds m i none = go (some_holds m i m.processes) refl
+  where
+    go : (b : Bool) → some_holds m i m.processes ≡ b → b ≡ false
+    go true f = (let x = shared_held m i m.processes f in absurd (none x.0 x.1))
+    go false f = refl
+
 -- a cause of a world is by load where that of the maps is
 by_load : (c : Cause) → is_by_load (cause_of c) ≡ is_loaded c
 by_load Loaded = refl
@@ -193,7 +233,7 @@ by_load Alias = refl
 taken_is : (m : Maps) (g : Region) (i : ℕ) → AreKept m → IsIndex m g i → is_taken m g i ≡ is_reserved m g i
 taken_is m g i kept x = absorbed (is_held_in m g i) (is_reserved m g i) (λ e. held_reserved m g i kept x.from x.to e)
 
-module _ (p : Parts) (s : Shelf) (m : Maps) (t : Shelf) (n : Maps) (pid : ℕ) (shelf : IsShelf s) (old : AreKept m) (new : AreKept n) (w : LetsGo m n pid (λ i. true)) (d : Sheds s m t n)
+module _ (p : Parts) (s : Shelf) (m : Maps) (t : Shelf) (n : Maps) (pid : ℕ) (shelf : IsShelf s) (old : AreKept m) (new : AreKept n) (w : LetsGo m n pid (λ i. true)) (d : Sheds s m t n) (frees : FreesAll m n pid)
     (ps : List Process) (names : Map Segment) (next : ℕ) (reserved : List Reserve) (x q : Process) (stands : StandsIn (stepped_to p s m) ps names next reserved)
     (there : process_at ps pid ≡ Some x) (none : q.held ≡ []) where
   abbrev qs : List Process
@@ -325,78 +365,141 @@ module _ (p : Parts) (s : Shelf) (m : Maps) (t : Shelf) (n : Maps) (pid : ℕ) (
 
   -- Indexes.
 
+  abbrev there_in : (i : ℕ) (h : Held) → held_at m pid i ≡ Some h → world_held ps pid i ≡ Some (held_of m pid i h)
+  there_in i h e = stands.held pid i ∙ in_some m pid i h e
+
+  -- a shared index that nobody holds any more
+  module _ (i : ℕ) (y : IsIndex m Shared i) (free : some_holds n i n.processes ≡ false) where
+    abbrev Used : Bool
+    Used = list_any (reserves 0 i) (used qs reserved)
+
+    abbrev Was : Bool
+    Was = list_any (reserves 0 i) reserved
+
+    was_some : holds_index ps i ≡ some_holds m i m.processes
+    was_some = index_held ps m i old (λ a. ap is_some (stands.held a i) ∙ some_in m a i)
+
+    reserved_was : (holds_index ps i || Was) ≡ is_reserved m Shared i
+    reserved_was = stands.taken Shared i y ∙ taken_is m Shared i old y
+
+    zero_region : region_at pid i ≡ 0
+    zero_region = high_region pid i y.from
+
+    -- what is used still was reserved
+    was_used : Used ≡ true → Was ≡ true
+    was_used e = go Was refl
+      where
+        go : (b : Bool) → Was ≡ b → Was ≡ true
+        go true f = f
+        go false f = absurd (false≢true (sym (any_left_false (reserves 0 i) (is_used qs) reserved f) ∙ e))
+
+    no_alone : Was ≡ true → IsAloneLeft m n pid i → ⊥
+    no_alone e a =
+        false≢true (sym (ap (λ (g : ℕ). list_any (reserves g i) reserved) (sym zero_region)
+        ∙ stands.tidy.free pid i (held_of m pid i a.hold) (there_in i a.hold a.there) (ap not (eq-eqb a.hold.reserved 0 a.alone)) (λ high. by_load a.hold.cause ∙ a.called)) ∙ e)
+
+    no_run : Used ≡ true → IsRunLeft m n pid i → ⊥
+    no_run e r =
+        let h = used_holder ps names reserved pid x q there none stands.tidy r.index i (held_of m pid r.index r.hold) (there_in r.index r.hold r.member.there) (ap not (ne_eqb r.hold.reserved 0 r.member.run)) r.covers y.from e in
+        false≢true (sym r.first ∙ somebody_holds n h.0 r.hold.first new (sym (some_in n h.0 r.hold.first) ∙ (ap is_some (sym (holds h.0 r.hold.first)) ∙ h.1)))
+
+    stays_reserved : Used ≡ true → is_reserved n Shared i ≡ true
+    stays_reserved e =
+        frees.other i y (no_alone (was_used e)) (no_run e)
+        ∙ (sym reserved_was ∙ or_right (holds_index ps i) Was (was_used e))
+
+    run_left : Was ≡ true → Used ≡ false → is_reserved n Shared i ≡ false
+    run_left e f =
+        let g = gone_member ps names reserved pid x q there none stands.tidy i e f in
+        let z = back_in m pid g.index g.hold (sym (stands.held pid g.index) ∙ g.there) in
+        let is = z.is in
+        frees.run (runs_seen (stepped_to p s m) ps names next reserved old (matched_by (stepped_to p s m) ps names next reserved stands) stands.tidy) i y
+        (record {
+          index = g.index;
+          hold = z.hold;
+          member = record { there = z.there; run = not_zero z.hold.reserved (ap (λ (h : WorldHeld). is_in_run h) is ∙ g.run) };
+          covers = subst (λ (h : WorldHeld). IsInStretch h i) (sym is) g.covers;
+          first = nobody_holds n z.hold.first (λ a some. g.nobody a (ap (λ (k : ℕ). is_some (world_held qs a k)) (sym (ap (λ (h : WorldHeld). h.first) is)) ∙ (ap is_some (holds a z.hold.first) ∙ (some_in n a z.hold.first ∙ some))));
+          left = free;
+        })
+      where
+        not_zero : (c : ℕ) → not (c == 0) ≡ true → c ≢ 0
+        not_zero c e z = false≢true (sym (ap not (eq-eqb c 0 z)) ∙ e)
+
+    none_left : Was ≡ false → Used ≡ false → is_reserved n Shared i ≡ false
+    none_left e f = by_hold (held_at m pid i) refl
+      where
+        by_hold : (o : Option Held) → held_at m pid i ≡ o → is_reserved n Shared i ≡ false
+        by_hold None g = frees.fewer i y (sym reserved_was ∙ (ap (λ (b : Bool). holds_index ps i || b) e ∙ or_false (was_some ∙ (sym (some_all m n i w.processes same) ∙ free))))
+          where
+            or_false : {b : Bool} → b ≡ false → (b || false) ≡ false
+            or_false z = ap (λ (b : Bool). b || false) z
+
+            same : (a : ℕ) → held_at n a i ≡ held_at m a i
+            same a = elim (cases_eq a pid) [
+              | inl here ↦ ap (λ (b : ℕ). held_at n b i) here ∙ (nothing i ∙ sym (ap (λ (b : ℕ). held_at m b i) here ∙ g))
+              | inr apart ↦ other_held a i apart
+            ]
+        by_hold (Some h) g = by_run (h.reserved == 0) refl
+          where
+            by_cause : h.reserved ≡ 0 → (c : Bool) → is_loaded h.cause ≡ c → is_reserved n Shared i ≡ false
+            by_cause alone false u = frees.alone i y (record { hold = h; there = g; alone = alone; called = u; left = free })
+            by_cause alone true u =
+                absurd (false≢true (sym e ∙ run_reserves reserved i (stands.tidy.shared pid i (held_of m pid i h) y.from (there_in i h g) (by_load h.cause ∙ u))))
+
+            by_run : (c : Bool) → (h.reserved == 0) ≡ c → is_reserved n Shared i ≡ false
+            by_run true u = by_cause (let z : h.reserved ≡ 0 = grind arith in z) (is_loaded h.cause) refl
+            by_run false u =
+                let k = held_of m pid i h in
+                let run : is_in_run k ≡ true = ap not u in
+                let inside = stands.tidy.runs.stretches.inside pid i k (record { there = there_in i h g; run = run }) in
+                absurd (false≢true (sym e ∙ (ap (λ (r : ℕ). list_any (reserves r i) reserved) (sym zero_region)
+                ∙ stretch_reserves (region_at pid i) h.first h.reserved i reserved (stands.tidy.run pid i k (there_in i h g) run) inside.0 inside.1)))
+
+    pub shared_is : Used ≡ is_reserved n Shared i
+    shared_is = go Used refl Was refl
+      where
+        go : (b : Bool) → Used ≡ b → (c : Bool) → Was ≡ c → Used ≡ is_reserved n Shared i
+        go true e c f = e ∙ sym (stays_reserved e)
+        go false e true f = e ∙ sym (run_left f e)
+        go false e false f = e ∙ sym (none_left f e)
+
   taken : (g : Region) (i : ℕ) → IsIndex n g i → taken_by qs (used qs reserved) (number_of g) i ≡ is_taken n g i
-  taken g i y =
-      ap (λ (rs : List Reserve). taken_by qs rs (number_of g) i) (used_all qs reserved stands.tidy.stay)
-      ∙ (by_region g (index_same m n g i w.processes y)
-      ∙ (sym (w.reserved g i (index_same m n g i w.processes y))
-      ∙ sym (taken_is n g i new y)))
+  taken Shared i y = ap (λ (b : Bool). b || list_any (reserves 0 i) (used qs reserved)) now ∙ go (some_holds n i n.processes) refl
     where
-      before : (g : Region) → IsIndex m g i → taken_by ps reserved (number_of g) i ≡ is_reserved m g i
-      before g z = stands.taken g i z ∙ taken_is m g i old z
+      now : holds_index qs i ≡ some_holds n i n.processes
+      now = index_held qs n i new (λ a. ap is_some (holds a i) ∙ some_in n a i)
 
-      by_region : (g : Region) → IsIndex m g i → taken_by qs reserved (number_of g) i ≡ (if true && is_free n pid g i (held_at m pid i) then false else is_reserved m g i)
-      by_region Shared z = by_hold (held_at m pid i) refl
-        where
-          now : holds_index qs i ≡ some_holds n i n.processes
-          now = index_held qs n i new (λ a. ap is_some (holds a i) ∙ some_in n a i)
+      go : (b : Bool) → some_holds n i n.processes ≡ b → (b || list_any (reserves 0 i) (used qs reserved)) ≡ (b || is_reserved n Shared i)
+      go true e = refl
+      go false e = shared_is i (index_same m n Shared i w.processes y) e
+  taken (Private a) i y =
+      ap (λ (b : Bool). (if b then holds_index qs i else is_some (world_held qs a i)) || list_any (reserves a i) (used qs reserved)) (above a some)
+      ∙ (ap (λ (b : Bool). b || list_any (reserves a i) (used qs reserved)) (ap is_some (holds a i) ∙ some_in n a i)
+      ∙ elim (cases_eq a pid) [
+        | inl same ↦
+            ap (λ (b : Bool). is_some (held_at n a i) || b)
+            (ap (λ (b : ℕ). list_any (reserves b i) (used qs reserved)) same
+            ∙ (own_free ps names reserved pid x q there none stands.tidy i (let e = same in omega (arith, some, e))
+            ∙ sym (frees.own a i z ∙ ap (λ (b : Bool). if b then false else is_reserved m (Private a) i) (eq-eqb a pid same))))
+        | inr apart ↦
+            ap (λ (b : Bool). is_some (held_at n a i) || b) (other_same ps names reserved pid x q there none stands.tidy a i apart some)
+            ∙ (ap (λ (o : Option Held). is_some o || list_any (reserves a i) reserved) (other_held a i apart)
+            ∙ (ap (λ (b : Bool). b || list_any (reserves a i) reserved) (sym (ap is_some (stands.held a i) ∙ some_in m a i))
+            ∙ (ap (λ (b : Bool). (if b then holds_index ps i else is_some (world_held ps a i)) || list_any (reserves a i) reserved) (sym (above a some))
+            ∙ (stands.taken (Private a) i z
+            ∙ (ap (λ (o : Option Held). is_some o || is_reserved m (Private a) i) (sym (other_held a i apart))
+            ∙ ap (λ (b : Bool). is_some (held_at n a i) || b) (sym (frees.own a i z ∙ ap (λ (b : Bool). if b then false else is_reserved m (Private a) i) (ne_eqb a pid apart))))))))
+      ])
+    where
+      z : IsIndex m (Private a) i
+      z = index_same m n (Private a) i w.processes y
 
-          was : holds_index ps i ≡ some_holds m i m.processes
-          was = index_held ps m i old (λ a. ap is_some (stands.held a i) ∙ some_in m a i)
+      some : 0 < a
+      some = (let b = z.region.0 in omega (arith, b))
 
-          -- where it held something there
-          marked : (h : Held) → held_at m pid i ≡ Some h → is_reserved m Shared i ≡ true
-          marked h e = ap (λ (r : Region). is_reserved m r i) (sym (is_shared pid i z.from)) ∙ old.covered pid i h e
-
-          held_there : (h : Held) → held_at m pid i ≡ Some h → world_held ps pid i ≡ Some (held_of m pid i h)
-          held_there h e = stands.held pid i ∙ in_some m pid i h e
-
-          by_cause : (h : Held) → held_at m pid i ≡ Some h → (load held : Bool) → is_loaded h.cause ≡ load → some_holds n i n.processes ≡ held
-              → (holds_index qs i || list_any (reserves 0 i) reserved) ≡ cond (not load && not held) false (is_reserved m Shared i)
-          by_cause h e true held f g =
-              or_right (holds_index qs i) (list_any (reserves 0 i) reserved)
-              (run_reserves reserved i (stands.tidy.shared pid i (held_of m pid i h) z.from (held_there h e) (by_load h.cause ∙ f)))
-              ∙ sym (marked h e)
-          by_cause h e false true f g = ap (λ (b : Bool). b || list_any (reserves 0 i) reserved) (now ∙ g) ∙ sym (marked h e)
-          by_cause h e false false f g =
-              ap (λ (b : Bool). b || list_any (reserves 0 i) reserved) (now ∙ g)
-              ∙ stands.tidy.free pid i (held_of m pid i h) z.from (held_there h e) (by_load h.cause ∙ f)
-
-          by_hold : (o : Option Held) → held_at m pid i ≡ o
-              → (holds_index qs i || list_any (reserves 0 i) reserved) ≡ cond (not_by_load o && not (some_holds n i n.processes)) false (is_reserved m Shared i)
-          by_hold (Some h) e = by_cause h e (is_loaded h.cause) (some_holds n i n.processes) refl refl
-          by_hold None e = ap (λ (b : Bool). b || list_any (reserves 0 i) reserved) (now ∙ (some_all m n i w.processes same ∙ sym was)) ∙ before Shared z
-            where
-              same : (a : ℕ) → held_at n a i ≡ held_at m a i
-              same a = elim (cases_eq a pid) [
-                | inl here ↦ ap (λ (b : ℕ). held_at n b i) here ∙ (nothing i ∙ sym (ap (λ (b : ℕ). held_at m b i) here ∙ e))
-                | inr apart ↦ other_held a i apart
-              ]
-      by_region (Private a) z =
-          private_taken qs reserved a i z.region.0 stands.tidy.stay
-          ∙ (ap is_some (holds a i) ∙ (some_in n a i ∙ elim (cases_eq a pid) [
-            | inl same ↦
-                ap is_some (ap (λ (b : ℕ). held_at n b i) same ∙ nothing i)
-                ∙ (sym (ends (is_some (held_at m pid i)) (is_reserved m (Private a) i) (was same)) ∙ ap (λ (b : Bool). if is_some (held_at m pid i) && b then false else is_reserved m (Private a) i) (sym (eq-eqb a pid same)))
-            | inr apart ↦
-                ap is_some (other_held a i apart)
-                ∙ (sym (some_in m a i) ∙ (ap is_some (sym (stands.held a i)) ∙ (sym (private_taken ps reserved a i z.region.0 stands.tidy.stay) ∙ (before (Private a) z
-                ∙ (idle (is_some (held_at m pid i)) (is_reserved m (Private a) i)
-                ∙ ap (λ (b : Bool). if is_some (held_at m pid i) && b then false else is_reserved m (Private a) i) (sym (ne_eqb a pid apart)))))))
-          ]))
-        where
-          was : a ≡ pid → is_reserved m (Private a) i ≡ is_some (held_at m pid i)
-          was same =
-              sym (before (Private a) z)
-              ∙ (private_taken ps reserved a i z.region.0 stands.tidy.stay ∙ (ap is_some (stands.held a i) ∙ (some_in m a i ∙ ap (λ (b : ℕ). is_some (held_at m b i)) same)))
-
-          ends : (b r : Bool) → r ≡ b → (if b && true then false else r) ≡ false
-          ends true r e = refl
-          ends false r e = e
-
-          idle : (b r : Bool) → r ≡ (if b && false then false else r)
-          idle true r = refl
-          idle false r = refl
+      above : (a : ℕ) → 0 < a → (a == 0) ≡ false
+      above a s = grind arith
 
   pub stands_behind : StandsIn behind qs (kept qs names) next (used qs reserved)
   stands_behind = record {
@@ -406,13 +509,13 @@ module _ (p : Parts) (s : Shelf) (m : Maps) (t : Shelf) (n : Maps) (pid : ℕ) (
     processes = running_put (stepped_to p t n) ps pid x q there stands.processes;
     held = holds;
     taken = taken;
-    tidy = subst (λ (rs : List Reserve). IsTidy qs (kept qs names) rs) (sym (used_all qs reserved stands.tidy.stay)) (tidy_behind ps names reserved pid x q there none stands.tidy);
+    tidy = tidy_behind ps names reserved pid x q there none stands.tidy;
   }
 
-pub behind_all : (s : Shelf) (m : Maps) (t : Shelf) (n : Maps) (pid : ℕ) → IsShelf s → AreKept m → AreKept n → LetsGo m n pid (λ i. true) → Sheds s m t n → StandsBehind pid s m t n
-behind_all s m t n pid shelf old new w d = record {
+pub behind_all : (s : Shelf) (m : Maps) (t : Shelf) (n : Maps) (pid : ℕ) → IsShelf s → AreKept m → AreKept n → LetsGo m n pid (λ i. true) → Sheds s m t n → FreesAll m n pid → StandsBehind pid s m t n
+behind_all s m t n pid shelf old new w d frees = record {
   ready = λ p r. ready_behind p s m t n pid shelf w d r;
-  stands = λ p ps names next reserved x q stands there none dead. stands_behind p s m t n pid shelf old new w d ps names next reserved x q stands there none;
+  stands = λ p ps names next reserved x q stands there none dead. stands_behind p s m t n pid shelf old new w d frees ps names next reserved x q stands there none;
 }
 
 -- the marks of who lives

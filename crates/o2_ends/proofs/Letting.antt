@@ -1,24 +1,20 @@
 -- What a process lets go of, index by index, comes to all that it held.
-use Rattle.std.proofs.Common.{◌≡◌, ◌≢◌, ℕ, zero, suc, ◌+◌, ◌<◌, ◌≤◌, inl, inr, Bool, true, false, cond, not, ◌&&◌, ◌||◌, List, length, set, Option, Some, None, is_some, IsSome, refl, sym, ap, ◌∙◌, subst, arith}
-use Rattle.std.specs.Prelude.{nat_lt, ◌==◌, if◌then◌else◌}
-use Rattle.std.proofs.lemmas.Bool.{cases_eq, cases_lt, false≢true, eq-eqb, ne_eqb}
+use Rattle.std.proofs.Common.{◌≡◌, ◌≢◌, ℕ, ◌+◌, ◌<◌, ◌≤◌, inl, inr, Bool, true, false, cond, ◌&&◌, ◌||◌, length, set, Option, Some, None, is_some, IsSome, refl, sym, ap, ◌∙◌, subst, arith}
+use Rattle.std.specs.Prelude.{nat_lt, ◌==◌}
+use Rattle.std.proofs.lemmas.Bool.{cases_eq, cases_lt, false≢true, eq-eqb}
 use Rattle.std.proofs.lemmas.List.{get_or_past, get_or-set_same, length-set}
 use Rattle.o2_desc.specs.Bytes.{empty}
 use Rattle.o2_entries.specs.declared.Entry.{Entry}
 use Rattle.o2_entries.specs.Tables.{slot_at}
 use Rattle.o2_place.specs.declared.seg_id.SegId.{SegId}
 use Rattle.o2_regions.specs.declared.held.Held.{Held}
-use Rattle.o2_regions.specs.declared.held.Region.{Region}
-use Rattle.o2_regions.specs.declared.held.Region.TheVariants.{Private, Shared}
-use Rattle.o2_regions.specs.Maps.{Maps, held_at, is_reserved, some_holds, table_of}
+use Rattle.o2_regions.specs.Maps.{Maps, held_at, table_of}
 use Rattle.o2_segbus.specs.Settled.{IsSettled, IsSettledAt, descriptor_at}
 use Rattle.o2_service.specs.Told.{IsHeldWell}
 use Rattle.o2_store.specs.Shelf.{Removes, Shelf, aged, entry_of, entry_or, numbered}
 use Rattle.o2_swapmap.specs.Piles.{all_of}
-use Rattle.o2_stands.specs.Stands.{IsIndex}
-use Rattle.o2_stands.proofs.Moves.{index_same}
 use Rattle.o2_ends.specs.Drops.{Empties}
-use Rattle.o2_ends.specs.LetsGo.{Frees, KeepsSegment, LetsGo, Sheds, is_free, is_left, is_loaded, not_by_load, some_has}
+use Rattle.o2_ends.specs.LetsGo.{KeepsSegment, LetsGo, Sheds, some_has}
 use Rattle.o2_ends.proofs.Holders.{IsHolder, has_there, holder_of, some_is}
 
 none_some : {X : Type 0} (x : X) → None ≡ Some x → ⊥
@@ -69,58 +65,13 @@ id_live s id i e = is_aged (slot_at s.entries id.key) id.age i (ap (λ (x : SegI
 
 -- One index.
 
--- the same hold an index
-pub some_as : (m n : Maps) (i k : ℕ) → ((q : ℕ) → held_at n q i ≡ held_at m q i) → some_holds n i k ≡ some_holds m i k
-unfolding some_holds
-some_as m n i zero same = refl
-some_as m n i (suc k) same =
-    ap (λ (o : Option Held). is_some o || some_holds n i k) (same (k + 1))
-    ∙ ap (λ (b : Bool). is_some (held_at m (k + 1) i) || b) (some_as m n i k same)
-
-pub some_all : (m n : Maps) (i : ℕ) → n.processes ≡ m.processes → ((q : ℕ) → held_at n q i ≡ held_at m q i) → some_holds n i n.processes ≡ some_holds m i m.processes
-some_all m n i processes same = ap (some_holds n i) processes ∙ some_as m n i m.processes same
-
-pub free_none : (n : Maps) (pid : ℕ) (g : Region) (i : ℕ) → is_free n pid g i None ≡ false
-free_none n pid (Private q) i = refl
-free_none n pid Shared i = refl
-
-pub lets_one : (m mid n : Maps) (pid i : ℕ) (h : Held) → held_at m pid i ≡ Some h → Empties m mid pid i → Frees mid n pid i h.cause → LetsGo m n pid (λ j. j == i)
-lets_one m mid n pid i h at d r = record {
-  processes = ap (λ (x : Maps). x.processes) r.maps ∙ d.processes;
-  held = λ q j. ap (λ (x : Maps). held_at x q j) r.maps ∙ d.held q j;
-  described = λ q j. ap (λ (x : Maps). descriptor_at x q j) r.maps ∙ d.described q j;
-  lengths = λ q. ap (λ (x : Maps). length (table_of x q)) r.maps ∙ d.lengths q;
-  reserved = reserved;
+pub lets_one : (m mid n : Maps) (pid i : ℕ) → Empties m mid pid i → n ≡ record mid { reserved = n.reserved } → LetsGo m n pid (λ j. j == i)
+lets_one m mid n pid i d is = record {
+  processes = ap (λ (x : Maps). x.processes) is ∙ d.processes;
+  held = λ q j. ap (λ (x : Maps). held_at x q j) is ∙ d.held q j;
+  described = λ q j. ap (λ (x : Maps). descriptor_at x q j) is ∙ d.described q j;
+  lengths = λ q. ap (λ (x : Maps). length (table_of x q)) is ∙ d.lengths q;
 }
-  where
-    before : (g : Region) (j : ℕ) → is_reserved mid g j ≡ is_reserved m g j
-    before g j = ap (λ (z : List Bool). is_reserved (record mid { reserved = z }) g j) d.reserved
-
-    -- where something was held there
-    some : (j : ℕ) (b : Bool) → ((j == i) && b) ≡ ((j == i) && (is_some (held_at m pid j) && b))
-    some j b = elim (cases_eq j i) [
-      | inl same ↦ rw (eq-eqb j i same) (ap (λ (o : Option Held). is_some o && b) (sym (ap (held_at m pid) same ∙ at)))
-      | inr other ↦ rw (ne_eqb j i other) refl
-    ]
-
-    left : (j : ℕ) → ((j == i) && is_left mid i h.cause) ≡ ((j == i) && (not_by_load (held_at m pid j) && not (some_holds n j n.processes)))
-    left j = elim (cases_eq j i) [
-      | inl same ↦ rw (eq-eqb j i same)
-          (ap (λ (b : Bool). not (is_loaded h.cause) && not b) (sym (some_all mid n i (ap (λ (x : Maps). x.processes) r.maps) (λ q. ap (λ (x : Maps). held_at x q i) r.maps)))
-          ∙ (ap (λ (o : Option Held). not_by_load o && not (some_holds n i n.processes)) (sym (ap (held_at m pid) same ∙ at))
-          ∙ ap (λ (k : ℕ). not_by_load (held_at m pid j) && not (some_holds n k n.processes)) (sym same)))
-      | inr other ↦ rw (ne_eqb j i other) refl
-    ]
-
-    reserved : (g : Region) (j : ℕ) → IsIndex m g j → is_reserved n g j ≡ (if (j == i) && is_free n pid g j (held_at m pid j) then false else is_reserved m g j)
-    reserved (Private q) j x =
-        r.own q j (index_same mid m (Private q) j (sym d.processes) x)
-        ∙ (ap (λ (b : Bool). if (j == i) && (q == pid) then false else b) (before (Private q) j)
-        ∙ ap (λ (b : Bool). if b then false else is_reserved m (Private q) j) (some j (q == pid)))
-    reserved Shared j x =
-        r.shared j (index_same mid m Shared j (sym d.processes) x)
-        ∙ (ap (λ (b : Bool). if (j == i) && is_left mid i h.cause then false else b) (before Shared j)
-        ∙ ap (λ (b : Bool). if b then false else is_reserved m Shared j) (left j))
 
 -- The store with that index let go.
 
@@ -208,7 +159,6 @@ lets_none m pid = record {
   held = λ q i. none (q == pid) (nat_lt i 0) None (held_at m q i) (low i);
   described = λ q i. none (q == pid) (nat_lt i 0) empty (descriptor_at m q i) (low i);
   lengths = λ q. refl;
-  reserved = λ g i x. unfreed (nat_lt i 0) (is_free m pid g i (held_at m pid i)) (is_reserved m g i) (low i);
 }
   where
     low : (i : ℕ) → nat_lt i 0 ≡ false
@@ -218,10 +168,6 @@ lets_none m pid = record {
     none true true a x e = absurd (false≢true (sym e))
     none true false a x e = refl
     none false c a x e = refl
-
-    unfreed : (a b r : Bool) → a ≡ false → r ≡ cond (a && b) false r
-    unfreed true b r e = absurd (false≢true (sym e))
-    unfreed false b r e = refl
 
 below_next : (i from : ℕ) → nat_lt i (from + 1) ≡ (nat_lt i from || (i == from))
 below_next i from = grind arith
@@ -265,42 +211,7 @@ module _ (l m n : Maps) (pid from at : ℕ) (before : from ≤ at) (clear : (i :
     described = λ q i. joined (q == pid) (nat_lt i from) (i == at) (nat_lt i (at + 1)) empty (descriptor_at l q i) (descriptor_at m q i) (descriptor_at n q i) (v.described q i) (w.described q i)
         (λ own c a b. bare q i (own_held q i own (between i c a b))) (low i) (reached i);
     lengths = λ q. w.lengths q ∙ v.lengths q;
-    reserved = λ g i x.
-        unfree (nat_lt i from) (i == at) (nat_lt i (at + 1)) (is_free m pid g i (held_at l pid i)) (is_free n pid g i (held_at m pid i)) (is_free n pid g i (held_at l pid i))
-        (is_reserved l g i) (is_reserved m g i) (is_reserved n g i) (v.reserved g i x) (w.reserved g i (index_same m l g i (sym v.processes) x))
-        (λ b. free_same g i (held_at l pid i) b) (λ a. ap (is_free n pid g i) (own_same i a))
-        (λ c a b. ap (is_free n pid g i) (sym (own_same i a) ∙ between i c a b) ∙ free_none n pid g i) (low i) (reached i) (apart i);
   }
-    where
-      -- what the process held there is still held, where it isn't behind
-      own_same : (i : ℕ) → nat_lt i from ≡ false → held_at m pid i ≡ held_at l pid i
-      own_same i a =
-          v.held pid i
-          ∙ (ap (λ (b : Bool). if b && nat_lt i from then None else held_at l pid i) (eq-eqb pid pid refl)
-          ∙ ap (λ (b : Bool). if b then None else held_at l pid i) a)
-
-      -- another index is left as much as before
-      free_same : (g : Region) (i : ℕ) (o : Option Held) → (i == at) ≡ false → is_free m pid g i o ≡ is_free n pid g i o
-      free_same (Private q) i o b = refl
-      free_same Shared i o b = ap (λ (z : Bool). not_by_load o && not z) (sym (some_all m n i w.processes (λ q. w.held q i ∙ (ap (λ (z : Bool). if (q == pid) && z then None else held_at m q i) b ∙ none (q == pid) (held_at m q i)))))
-        where
-          none : (b : Bool) (x : Option Held) → cond (b && false) None x ≡ x
-          none true x = refl
-          none false x = refl
-
-      apart : (i : ℕ) → nat_lt i from ≡ true → (i == at) ≡ true → ⊥
-      apart i a b = (let x : i < from = grind arith in let y : i ≡ at = grind arith in omega (arith, x, y, before))
-
-      unfree : (a b c F G H r s t : Bool) → s ≡ cond (a && F) false r → t ≡ cond (b && G) false s
-          → (b ≡ false → F ≡ H) → (a ≡ false → G ≡ H) → (c ≡ true → a ≡ false → b ≡ false → H ≡ false) → (a ≡ true → c ≡ true) → (b ≡ true → c ≡ true) → (a ≡ true → b ≡ true → ⊥)
-          → t ≡ cond (c && H) false r
-      unfree true true c F G H r s t e f g h k u v x = absurd (x refl refl)
-      unfree true false true F G H r s t e f g h k u v x = f ∙ (e ∙ ap (λ (z : Bool). cond z false r) (g refl))
-      unfree true false false F G H r s t e f g h k u v x = absurd (false≢true (u refl))
-      unfree false true true F G H r s t e f g h k u v x = f ∙ (ap (λ (z : Bool). cond G false z) e ∙ ap (λ (z : Bool). cond z false r) (h refl))
-      unfree false true false F G H r s t e f g h k u v x = absurd (false≢true (v refl))
-      unfree false false true F G H r s t e f g h k u v x = f ∙ (e ∙ ap (λ (z : Bool). cond z false r) (sym (k refl refl refl)))
-      unfree false false false F G H r s t e f g h k u v x = f ∙ e
 
 -- nothing is held behind them
 pub lets_all : (l m : Maps) (pid from : ℕ) → ((i : ℕ) → from ≤ i → held_at m pid i ≡ None) → AreEmpty m → LetsGo l m pid (λ i. nat_lt i from) → LetsGo l m pid (λ i. true)
@@ -309,7 +220,6 @@ lets_all l m pid from clear bare v = record {
   held = λ q i. go (q == pid) (nat_lt i from) None (held_at l q i) (held_at m q i) (v.held q i) (λ own high. held q i own high);
   described = λ q i. go (q == pid) (nat_lt i from) empty (descriptor_at l q i) (descriptor_at m q i) (v.described q i) (λ own high. bare q i (held q i own high));
   lengths = v.lengths;
-  reserved = λ g i x. v.reserved g i x ∙ free (nat_lt i from) (is_free m pid g i (held_at l pid i)) (is_reserved l g i) (λ high. ap (is_free m pid g i) (was i high) ∙ free_none m pid g i);
 }
   where
     behind : (i : ℕ) → nat_lt i from ≡ false → from ≤ i
@@ -318,23 +228,19 @@ lets_all l m pid from clear bare v = record {
     held : (q i : ℕ) → (q == pid) ≡ true → nat_lt i from ≡ false → held_at m q i ≡ None
     held q i own high = (let x : q ≡ pid = grind arith in ap (λ (a : ℕ). held_at m a i) x ∙ clear i (behind i high))
 
-    and_false : (b : Bool) → (b && false) ≡ false
-    and_false true = refl
-    and_false false = refl
-
-    was : (i : ℕ) → nat_lt i from ≡ false → held_at l pid i ≡ None
-    was i high =
-        (let e : ((pid == pid) && nat_lt i from) ≡ false = ap (λ (b : Bool). (pid == pid) && b) high ∙ and_false (pid == pid) in
-        sym (ap (λ (b : Bool). cond b None (held_at l pid i)) e) ∙ (sym (v.held pid i) ∙ clear i (behind i high)))
-
     go : {X : Type 0} (own a : Bool) (none old new : X) → new ≡ cond (own && a) none old → (own ≡ true → a ≡ false → new ≡ none) → new ≡ cond (own && true) none old
     go false a none old new e f = e
     go true true none old new e f = e
     go true false none old new e f = f refl refl
 
-    free : (a F r : Bool) → (a ≡ false → F ≡ false) → cond (a && F) false r ≡ cond (true && F) false r
-    free true F r f = refl
-    free false F r f = ap (λ (z : Bool). cond z false r) (sym (f refl))
+-- what is reserved is nothing to it
+pub lets_same : (l m n : Maps) (pid : ℕ) (gone : ℕ → Bool) → n ≡ record m { reserved = n.reserved } → LetsGo l m pid gone → LetsGo l n pid gone
+lets_same l m n pid gone is v = record {
+  processes = ap (λ (x : Maps). x.processes) is ∙ v.processes;
+  held = λ q j. ap (λ (x : Maps). held_at x q j) is ∙ v.held q j;
+  described = λ q j. ap (λ (x : Maps). descriptor_at x q j) is ∙ v.described q j;
+  lengths = λ q. ap (λ (x : Maps). length (table_of x q)) is ∙ v.lengths q;
+}
 
 -- What is let go of the store in one step and then in another.
 
@@ -383,6 +289,23 @@ sheds_more s t u l m n down up v w = record {
         let i = same_number s t k (v.same k z) in
         let g = w.gone k (subst (λ (id : SegId). some_has m id ≡ true) (sym i) e) (subst (λ (id : SegId). some_has n id ≡ false) (sym i) lost) in
         false≢true (ap is_some (sym g) ∙ x)))
+
+-- what is reserved is nothing to it
+pub sheds_same : (s t : Shelf) (l m n : Maps) → n ≡ record m { reserved = n.reserved } → Sheds s l t m → Sheds s l t n
+sheds_same s t l m n is w = record {
+  memory = w.memory;
+  size = w.size;
+  count = w.count;
+  made = w.made;
+  map = w.map;
+  same = w.same;
+  left = λ k x y. w.left k x (sym (has (numbered s k)) ∙ y);
+  other = w.other;
+  gone = λ k sure lost. w.gone k sure (sym (has (numbered s k)) ∙ lost);
+}
+  where
+    has : (id : SegId) → some_has n id ≡ some_has m id
+    has id = ap (λ (x : Maps). some_has x id) is
 
 -- what is held behind is held well
 pub held_behind : (s t : Shelf) (m n : Maps) (pid : ℕ) (gone : ℕ → Bool) → IsHeldWell s m → LetsGo m n pid gone → Sheds s m t n → IsHeldWell t n

@@ -1,6 +1,9 @@
 pub mod Holders
+pub mod Somes
 pub mod Dropping
 pub mod Next
 pub mod Letting
+pub mod Freed
 pub mod Worlds
+pub mod Stretches
 pub mod Behind

@@ -46,10 +46,10 @@ too_few_shared v c call few = record {
 }
 
 -- A row with these pointers, by the test of them.
-record IsPointed (v : View) (c : Cpu) (row : Row) (ps : View → List Pointer) : Type 0 where
-  fits : (f : Filling) → IsBound v → has_arguments (boundless f v) c (words_of row) ≡ true
-  points : (f : Filling) → IsBound v → pointers_of row (boundless f v) (argument (boundless f v) c) ≡ ps (boundless f v)
-  bad : (f : Filling) (number next : ℕ) (input : List ℕ) (known : Known) → IsBound v → are_good (boundless f v) (ps (boundless f v)) ≡ false
+pub record IsPointed (v : View) (c : Cpu) (row : Row) (ps : View → List Pointer) : Type 0 where
+  pub fits : (f : Filling) → IsBound v → has_arguments (boundless f v) c (words_of row) ≡ true
+  pub points : (f : Filling) → IsBound v → pointers_of row (boundless f v) (argument (boundless f v) c) ≡ ps (boundless f v)
+  pub bad : (f : Filling) (number next : ℕ) (input : List ℕ) (known : Known) → IsBound v → are_good (boundless f v) (ps (boundless f v)) ≡ false
       → let b = before_call (boundless f v) number c input known in served row b next ≡ trapped b 13
 
 module _ (v : View) (c : Cpu) (row : Row) (ps : View → List Pointer) (is : IsPointed v c row ps) where
@@ -58,7 +58,7 @@ module _ (v : View) (c : Cpu) (row : Row) (ps : View → List Pointer) (is : IsP
       sym (ap (λ (t : Bool). if t then pointed (boundless f v) (pointers_of row (boundless f v) (argument (boundless f v) c)) else []) (is.fits f bound)
       ∙ ap (pointed (boundless f v)) (is.points f bound))
 
-  good_gathers : (a : SegmentArguments) → ((f : Filling) (number next : ℕ) (input : List ℕ) (known : Known) → IsBound v → let b = before_call (boundless f v) number c input known in served row b next ≡ asked_by a b next)
+  pub good_gathers : (a : SegmentArguments) → ((f : Filling) (number next : ℕ) (input : List ℕ) (known : Known) → IsBound v → let b = before_call (boundless f v) number c input known in served row b next ≡ asked_by a b next)
       → are_ready v (targets a) ≡ true → ((f : Filling) → ps (boundless f v) ≡ targets a) → ((f : Filling) → ArePresent v (pointed (boundless f v) (ps (boundless f v)))) → Gathers v c row (Good a)
   good_gathers a asks ready same present = record {
     asks = asks;
@@ -68,7 +68,7 @@ module _ (v : View) (c : Cpu) (row : Row) (ps : View → List Pointer) (is : IsP
     names = λ number input known bound f. subst (ArePresent v) (names_are f number input known bound) (present f);
   }
 
-  bad_gathers : ((f : Filling) → are_good (boundless f v) (ps (boundless f v)) ≡ false) → ((f : Filling) → ArePresent v (pointed (boundless f v) (ps (boundless f v)))) → Gathers v c row (Trap 13)
+  pub bad_gathers : ((f : Filling) → are_good (boundless f v) (ps (boundless f v)) ≡ false) → ((f : Filling) → ArePresent v (pointed (boundless f v) (ps (boundless f v)))) → Gathers v c row (Trap 13)
   bad_gathers bad present = record {
     asks = λ f number next input known bound. is.bad f number next input known bound (bad f);
     points = λ f number input known bound. tt;
@@ -77,7 +77,7 @@ module _ (v : View) (c : Cpu) (row : Row) (ps : View → List Pointer) (is : IsP
     names = λ number input known bound f. subst (ArePresent v) (names_are f number input known bound) (present f);
   }
 
-  missed_gathers : (sel : Selector) → IsAway v sel → ((f : Filling) → IsMissed v sel (pointed (boundless f v) (ps (boundless f v)))) → Gathers v c row (Missed sel)
+  pub missed_gathers : (sel : Selector) → IsAway v sel → ((f : Filling) → IsMissed v sel (pointed (boundless f v) (ps (boundless f v)))) → Gathers v c row (Missed sel)
   missed_gathers sel away missed = record {
     asks = λ f number next input known bound. tt;
     points = λ f number input known bound. tt;
@@ -93,11 +93,11 @@ text_same v s o t p x is f =
     ∙ ap (λ (k : ℕ). pointer false k o (looked_at 129 x.bytes) ∷ pointer true t p 2 ∷ []) (sym is.selector_is)
     ∙ ap (λ (k : ℕ). pointer false x.selector k (looked_at 129 x.bytes) ∷ pointer true t p 2 ∷ []) (sym is.offset_is)
 
-plain : (b : Bool) → (b && true) ≡ true → b ≡ true
+pub plain : (b : Bool) → (b && true) ≡ true → b ≡ true
 plain true e = refl
 plain false e = absurd (let z : false ≡ true = e in cc)
 
-plain_not : (b : Bool) → (b && true) ≡ false → b ≡ false
+pub plain_not : (b : Bool) → (b && true) ≡ false → b ≡ false
 plain_not true e = absurd (let z : true ≡ false = e in cc)
 plain_not false e = refl
 

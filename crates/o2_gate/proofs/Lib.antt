@@ -17,3 +17,5 @@ pub mod Texts
 pub mod TextTests
 pub mod GatheredShares
 pub mod BothTests
+pub mod MovedLines
+pub mod GatheredRuns

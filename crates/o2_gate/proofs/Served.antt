@@ -1,7 +1,8 @@
 -- A service is that of its row.
 use Rattle.std.proofs.Common.{◌≡◌, ℕ, Option, Some, ap, sym, ◌∙◌, subst}
 use Rattle.o2_world.specs.declared.types.Row.{Row}
-use Rattle.o2_world.specs.declared.types.Row.TheVariants.{OnSegments, OnShared}
+use Rattle.o2_world.specs.declared.types.Row.TheVariants.{OnRuns, OnSegments, OnShared}
+use Rattle.o2_world.specs.declared.types.HugeCall.{HugeCall}
 use Rattle.o2_world.specs.declared.types.SegmentCall.{SegmentCall}
 use Rattle.o2_world.specs.declared.types.SharedCall.{SharedCall}
 use Rattle.o2_world.specs.Calls.{Before, Effect, IsPlain, row_of, served, served_by, serviced}
@@ -19,3 +20,7 @@ is_plain service o r row plain found e is = subst IsPlain (sym (ap Some is) ∙ 
 -- and none that shares segments
 pub not_shared : (service : ℕ) (o : Option Row) (r : Row) (call : SharedCall) → IsPlain (row_of service) → o ≡ row_of service → o ≡ Some r → r ≡ OnShared call → ⊥
 not_shared service o r call plain found e is = subst IsPlain (sym found ∙ e ∙ ap Some is) plain
+
+-- nor on huge allocations
+pub not_on_runs : (service : ℕ) (o : Option Row) (r : Row) (call : HugeCall) → IsPlain (row_of service) → o ≡ row_of service → o ≡ Some r → r ≡ OnRuns call → ⊥
+not_on_runs service o r call plain found e is = subst IsPlain (sym found ∙ e ∙ ap Some is) plain

@@ -5,7 +5,7 @@ use Rattle.o2_isa.specs.View.{View, Filling, IsBound}
 use Rattle.o2_isa.specs.Presence.{IsMissed}
 use Rattle.o2_world.specs.declared.types.Argument.TheVariants.{Word, Far}
 use Rattle.o2_world.specs.declared.types.Row.{Row}
-use Rattle.o2_world.specs.declared.types.Row.TheVariants.{OnSegments, OnShared}
+use Rattle.o2_world.specs.declared.types.Row.TheVariants.{OnRuns, OnSegments, OnShared}
 use Rattle.o2_world.specs.Calls.{Before, Effect, served, trapped}
 use Rattle.o2_world.specs.Known.{Known}
 use Rattle.o2_world.specs.Rulings.{aliasing, allocation, sizing}
@@ -18,6 +18,7 @@ use Rattle.o2_gate.specs.declared.gathering.AskedCall.TheVariants as called
 use Rattle.o2_gate.specs.declared.gathering.Gathered.{Gathered}
 use Rattle.o2_gate.specs.declared.gathering.Gathered.TheVariants.{Good, Trap, Missed}
 use Rattle.o2_gate.specs.Befores.{boundless, before_call}
+use Rattle.o2_gate.specs.HugeReplies.{asked_huge, huge_targets}
 use Rattle.o2_gate.specs.SharedReplies.{asked_shared, shared_targets}
 use Rattle.o2_gate.specs.Pointed.{ArePresent, IsAway, IsBadTest, IsGoodTest, IsMissedTest, are_ready, pointer}
 
@@ -37,6 +38,7 @@ asked (given.Alias selector s o) b next =
     let r = aliasing b.known b.number selector in
     ruled_at b next 3 (codes "DosCreateCSAlias") (Word selector ∷ Far s o ∷ []) (written_word s o r.value) r
 asked (given.Shared a) b next = asked_shared a b next
+asked (given.Huge a) b next = asked_huge a b next
 
 -- its pointers
 abbrev pub targets : SegmentArguments → List Pointer
@@ -48,11 +50,13 @@ targets (given.Lock selector) = []
 targets (given.Unlock selector) = []
 targets (given.Alias selector s o) = pointer true s o 2 ∷ []
 targets (given.Shared a) = shared_targets a
+targets (given.Huge a) = huge_targets a
 
 -- the row of a call that isn't made over the bus
 abbrev pub row_for : AskedCall → Row
 row_for (called.Segments call) = OnSegments call
 row_for (called.Shared call) = OnShared call
+row_for (called.Runs call) = OnRuns call
 
 -- what the row of the call is then: that of its arguments, or an exception
 abbrev pub Asks : Before → (next : ℕ) → Row → Gathered → Type 0

@@ -8,3 +8,5 @@ pub mod Writes
 pub mod Pieces
 pub mod SharedReplies
 pub mod Texts
+pub mod HugeReplies
+pub mod MovedLines

@@ -1,15 +1,17 @@
 -- How a call on segments comes back, by its arguments, its error number and its value.
-use Rattle.std.specs.Prelude.{ℕ, ◌/◌, ◌≤◌, ◌==◌, List, [], ◌∷◌, Option, Some, None, if◌then◌else◌, codes}
-use Rattle.o2_base.specs.Selectors.{selector_of}
+use Rattle.std.specs.Prelude.{ℕ, ◌≤◌, List, [], ◌∷◌, Option, Some, None, codes}
 use Rattle.o2_isa.specs.View.{Hold}
 use Rattle.o2_world.specs.declared.types.Argument.{Argument}
 use Rattle.o2_world.specs.declared.types.Argument.TheVariants.{Word, Far}
-use Rattle.o2_world.specs.World.{Line, HoldsBy, DropsBy, Calls}
+use Rattle.o2_world.specs.World.{Line, Calls}
 use Rattle.o2_world.specs.SegmentCalls.{Written, alloc_args, written_long, written_word}
 use Rattle.o2_gate.specs.declared.gathering.SegmentArguments.{SegmentArguments}
-use Rattle.o2_gate.specs.SharedReplies.{IsSharedValue, shared_args, shared_moved, shared_name, shared_words, shared_written}
+use Rattle.o2_gate.specs.declared.moves.Block.{Block}
+use Rattle.o2_gate.specs.HugeReplies.{IsHugeValue, args_of_huge, huge_name, huge_words, huge_written}
+use Rattle.o2_gate.specs.MovedLines.{all_lines}
+use Rattle.o2_gate.specs.SharedReplies.{IsSharedValue, shared_args, shared_name, shared_words, shared_written}
 pub use Rattle.o2_gate.specs.SharedReplies.{bytes_by, values_by}
-use Rattle.o2_gate.specs.declared.gathering.SegmentArguments.TheVariants.{Alloc, Realloc, Free, Size, Lock, Unlock, Alias, Shared}
+use Rattle.o2_gate.specs.declared.gathering.SegmentArguments.TheVariants.{Alloc, Realloc, Free, Size, Lock, Unlock, Alias, Shared, Huge}
 
 abbrev pub name_of : SegmentArguments → List ℕ
 name_of (Alloc size s o flags) = codes "DosAllocSeg"
@@ -20,6 +22,7 @@ name_of (Lock selector) = codes "DosLockSeg"
 name_of (Unlock selector) = codes "DosUnlockSeg"
 name_of (Alias selector s o) = codes "DosCreateCSAlias"
 name_of (Shared a) = shared_name a
+name_of (Huge a) = huge_name a
 
 -- how many words its arguments take
 abbrev pub words_of : SegmentArguments → ℕ
@@ -31,6 +34,7 @@ words_of (Lock selector) = 1
 words_of (Unlock selector) = 1
 words_of (Alias selector s o) = 3
 words_of (Shared a) = shared_words a
+words_of (Huge a) = huge_words a
 
 -- its arguments as its line has them
 abbrev pub args_of : SegmentArguments → List Argument
@@ -42,6 +46,7 @@ args_of (Lock selector) = Word selector ∷ []
 args_of (Unlock selector) = Word selector ∷ []
 args_of (Alias selector s o) = Word selector ∷ Far s o ∷ []
 args_of (Shared a) = shared_args a
+args_of (Huge a) = args_of_huge a
 
 -- what it writes behind its pointer where there is no error
 abbrev pub written_of : SegmentArguments → (value : ℕ) → Option Written
@@ -53,8 +58,9 @@ written_of (Lock selector) value = None
 written_of (Unlock selector) value = None
 written_of (Alias selector s o) value = Some (written_word s o value)
 written_of (Shared a) value = shared_written a value
+written_of (Huge a) value = huge_written a value
 
--- The values of its line, the bytes behind it, and its lines: at an error nothing is written, and no hold came or went.
+-- The values of its line, the bytes behind it, and its lines: at an error nothing is written.
 
 abbrev pub bytes_of : SegmentArguments → (error value : ℕ) → (ℕ → Option Hold) → (ℕ → List ℕ) → ℕ → List ℕ
 bytes_of a error value = bytes_by error (written_of a value)
@@ -62,19 +68,9 @@ bytes_of a error value = bytes_by error (written_of a value)
 abbrev pub call_line : SegmentArguments → (number error value : ℕ) → Line
 call_line a number error value = Calls number (name_of a) (args_of a) error (values_by error (written_of a value))
 
--- the line of a hold that came, or of one that went
-abbrev pub moved_by : SegmentArguments → (number error value : ℕ) → List Line
-moved_by (Alloc size s o flags) number error value = if error == 0 then HoldsBy number value (codes "DosAllocSeg") ∷ [] else []
-moved_by (Realloc size selector) number error value = []
-moved_by (Free selector) number error value = if error == 0 then DropsBy number (selector_of (selector / 8)) (codes "DosFreeSeg") ∷ [] else []
-moved_by (Size selector s o) number error value = []
-moved_by (Lock selector) number error value = []
-moved_by (Unlock selector) number error value = []
-moved_by (Alias selector s o) number error value = if error == 0 then HoldsBy number value (codes "DosCreateCSAlias") ∷ [] else []
-moved_by (Shared a) number error value = shared_moved a number error value
-
-abbrev pub lines_of : SegmentArguments → (number error value : ℕ) → List Line
-lines_of a number error value = call_line a number error value ∷ moved_by a number error value
+-- its own line, and behind it those of all that came or went
+abbrev pub lines_of : SegmentArguments → (number error value : ℕ) → List Block → List Line
+lines_of a number error value moved = call_line a number error value ∷ all_lines (name_of a) moved
 
 -- a value that is a selector is a word
 abbrev pub IsValue : SegmentArguments → ℕ → Type 0
@@ -86,3 +82,4 @@ IsValue (Lock selector) value = Unit {0}
 IsValue (Unlock selector) value = Unit {0}
 IsValue (Alias selector s o) value = value ≤ 65535
 IsValue (Shared a) value = IsSharedValue a value
+IsValue (Huge a) value = IsHugeValue a value

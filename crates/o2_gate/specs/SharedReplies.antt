@@ -1,7 +1,6 @@
 -- A call by which processes share segments: its arguments, and how it comes back.
-use Rattle.std.specs.Prelude.{◌≡◌, ℕ, ◌+◌, ◌/◌, ◌≤◌, ◌==◌, false, true, List, [], ◌∷◌, Option, Some, None, if◌then◌else◌, codes}
+use Rattle.std.specs.Prelude.{◌≡◌, ℕ, ◌+◌, ◌≤◌, ◌==◌, false, true, List, [], ◌∷◌, Option, Some, None, if◌then◌else◌, codes}
 use Rattle.o2_base.specs.declared.selector.Selector.{Selector}
-use Rattle.o2_base.specs.Selectors.{selector_of}
 use Rattle.o2_isa.specs.View.{View, Filling, Hold, is_readable}
 use Rattle.o2_isa.specs.Presence.{IsMissed}
 use Rattle.o2_isa.specs.Pointers.{is_good, put_at_pointer}
@@ -12,7 +11,7 @@ use Rattle.o2_world.specs.SegmentCalls.{Written, ruled_at, written_word}
 use Rattle.o2_world.specs.SharedCalls.{give_args, got, name_args}
 use Rattle.o2_world.specs.SharedNames.{before_zero, looked_at, name_by, name_most, text_at, text_size}
 use Rattle.o2_world.specs.SharedRulings.{giving, naming, sharing}
-use Rattle.o2_world.specs.World.{Line, Calls, HoldsBy}
+use Rattle.o2_world.specs.World.{Line, Calls}
 use Rattle.o2_run.specs.Room.{Pointer, pointed}
 use Rattle.o2_gate.specs.declared.sharing.SharedArguments.{SharedArguments}
 use Rattle.o2_gate.specs.declared.sharing.SharedArguments.TheVariants.{Name, Share, Give, Get}
@@ -127,25 +126,8 @@ shared_written (Share t s o) value = Some (written_word s o value)
 shared_written (Give selector pid s o) value = Some (written_word s o value)
 shared_written (Get selector) value = None
 
--- who holds more behind it
-abbrev pub holder_of : SharedArguments → (number : ℕ) → ℕ
-holder_of (Name size t s o) number = number
-holder_of (Share t s o) number = number
-holder_of (Give selector pid s o) number = pid
-holder_of (Get selector) number = number
-
--- and under which selector
-abbrev pub shared_under : SharedArguments → (value : ℕ) → ℕ
-shared_under (Name size t s o) value = value
-shared_under (Share t s o) value = value
-shared_under (Give selector pid s o) value = value
-shared_under (Get selector) value = selector_of (selector / 8)
-
 abbrev pub shared_line : SharedArguments → (number error value : ℕ) → Line
 shared_line a number error value = Calls number (shared_name a) (shared_args a) error (values_by error (shared_written a value))
-
-abbrev pub shared_moved : SharedArguments → (number error value : ℕ) → List Line
-shared_moved a number error value = if error == 0 then HoldsBy (holder_of a number) (shared_under a value) (shared_name a) ∷ [] else []
 
 abbrev pub shared_bytes : SharedArguments → (error value : ℕ) → (ℕ → Option Hold) → (ℕ → List ℕ) → ℕ → List ℕ
 shared_bytes a error value = bytes_by error (shared_written a value)

@@ -29,7 +29,7 @@ use o2_bus::Ranges;
 use o2_isa::Cpu;
 use o2_outer::{Sink, Source};
 use o2_run::Fault;
-use o2_world::{Row, SegmentCall, SharedCall};
+use o2_world::{HugeCall, Row, SegmentCall, SharedCall};
 
 /// The row of a service, where it has one.
 fn row_of(service: u16) -> Option<Row>
@@ -53,6 +53,9 @@ fn row_of(service: u16) -> Option<Row>
         13 => Some(Row::OnShared(SharedCall::DosGetShrSeg)),
         14 => Some(Row::OnShared(SharedCall::DosGiveSeg)),
         15 => Some(Row::OnShared(SharedCall::DosGetSeg)),
+        16 => Some(Row::OnRuns(HugeCall::DosAllocHuge)),
+        17 => Some(Row::OnRuns(HugeCall::DosReallocHuge)),
+        18 => Some(Row::OnRuns(HugeCall::DosGetHugeShift)),
         19 => Some(Row::DosMemAvail),
         _ => None,
     }
@@ -72,6 +75,7 @@ pub fn asked_call(service: u16) -> Option<AskedCall>
         Some(Row::DosMemAvail) => None,
         Some(Row::OnSegments(call)) => Some(AskedCall::Segments(call)),
         Some(Row::OnShared(call)) => Some(AskedCall::Shared(call)),
+        Some(Row::OnRuns(call)) => Some(AskedCall::Runs(call)),
     }
 }
 
@@ -145,5 +149,6 @@ pub fn call<B: Ranges, I: Source, C: Sink, R: Sink>(
         Some(Row::DosMemAvail) => dos_mem_avail(pid, next, state.avail, cpu, bus, line, report),
         Some(Row::OnSegments(_)) => unreachable!(),
         Some(Row::OnShared(_)) => unreachable!(),
+        Some(Row::OnRuns(_)) => unreachable!(),
     }
 }

@@ -1,19 +1,23 @@
 // What a call on segments is given: its arguments, and whether its pointer is good. Nothing is changed yet.
 ghost use Rattle.std.specs.Prelude.{◌≡◌, ◌∷◌, [], true};
-ghost use Rattle.o2_world.specs.declared.types.Row.TheVariants.{OnSegments, OnShared};
+ghost use Rattle.o2_world.specs.declared.types.Row.TheVariants.{OnRuns, OnSegments, OnShared};
+ghost use Rattle.o2_world.specs.declared.types.HugeCall.TheVariants as huge;
 ghost use Rattle.o2_world.specs.declared.types.SegmentCall.TheVariants as segments;
 ghost use Rattle.o2_world.specs.declared.types.SharedCall.TheVariants as shared;
 ghost use Rattle.o2_gate.specs.Gathers.{Aims, Gathers, row_for};
 ghost use Rattle.o2_gate.specs.Pointed.{pointer};
 
+use crate::huge::HugeArguments;
 use crate::pointer::{Pointed, test};
 use crate::sharing::SharedArguments;
-use crate::stack::{five_arguments, four_arguments, one_argument, three_arguments, two_arguments};
+use crate::stack::{
+    five_arguments, four_arguments, one_argument, six_arguments, three_arguments, two_arguments,
+};
 use crate::text::{ReadText, read_both};
 use o2_base::Selector;
 use o2_bus::{Bus, Ranges};
 use o2_isa::Cpu;
-use o2_world::{SegmentCall, SharedCall};
+use o2_world::{HugeCall, SegmentCall, SharedCall};
 
 /// The arguments of a call on segments. Where a value is wanted, its selector and offset.
 #[derive(Clone, Copy, Debug, PartialEq, Eq)]
@@ -43,6 +47,8 @@ pub enum SegmentArguments {
     },
     /// Of a call by which processes share segments.
     Shared(SharedArguments),
+    /// Of a call on a huge allocation.
+    Huge(HugeArguments),
 }
 
 /// A call that isn't made over the bus: it changes what processes hold, or segments, or reads more of them than the process sees.
@@ -52,6 +58,8 @@ pub enum AskedCall {
     Segments(SegmentCall),
     /// By which processes share segments.
     Shared(SharedCall),
+    /// On a huge allocation.
+    Runs(HugeCall),
 }
 
 /// What the arguments of a call on segments come to.
@@ -272,6 +280,69 @@ fn gather_shared<B: Ranges>(call: SharedCall, cpu: &Cpu, bus: &mut B) -> Gathere
     }
 }
 
+fn gather_huge<B: Bus>(cpu: &Cpu, bus: &mut B) -> Gathered
+    ensures same { B.view bus.new ≡ B.view bus.old }
+    ensures gathers { Gathers (B.view bus.old) cpu.now (OnRuns huge.DosAllocHuge) result }
+{
+    match six_arguments(bus, cpu) {
+        None => Gathered::Trap(12),
+        Some((segs, part, to_selector, to_offset, most, flags)) => {
+            let arguments = SegmentArguments::Huge(HugeArguments::Alloc {
+                segs,
+                part,
+                to_selector,
+                to_offset,
+                most,
+                flags,
+            });
+            aim(bus, arguments, to_selector, to_offset, 2)
+        }
+    }
+}
+
+fn gather_rehuge<B: Bus>(cpu: &Cpu, bus: &B) -> Gathered
+    ensures gathers { Gathers (B.view bus.now) cpu.now (OnRuns huge.DosReallocHuge) result }
+{
+    match three_arguments(bus, cpu) {
+        None => Gathered::Trap(12),
+        Some((segs, part, selector)) => {
+            Gathered::Good(SegmentArguments::Huge(HugeArguments::Realloc {
+                segs,
+                part,
+                selector,
+            }))
+        }
+    }
+}
+
+fn gather_shift<B: Bus>(cpu: &Cpu, bus: &mut B) -> Gathered
+    ensures same { B.view bus.new ≡ B.view bus.old }
+    ensures gathers { Gathers (B.view bus.old) cpu.now (OnRuns huge.DosGetHugeShift) result }
+{
+    match two_arguments(bus, cpu) {
+        None => Gathered::Trap(12),
+        Some((to_selector, to_offset)) => {
+            let arguments = SegmentArguments::Huge(HugeArguments::Shift {
+                to_selector,
+                to_offset,
+            });
+            aim(bus, arguments, to_selector, to_offset, 2)
+        }
+    }
+}
+
+/// The arguments of a call on a huge allocation.
+fn gather_runs<B: Bus>(call: HugeCall, cpu: &Cpu, bus: &mut B) -> Gathered
+    ensures same { B.view bus.new ≡ B.view bus.old }
+    ensures gathers { Gathers (B.view bus.old) cpu.now (OnRuns call) result }
+{
+    match call {
+        HugeCall::DosAllocHuge => gather_huge(cpu, bus),
+        HugeCall::DosReallocHuge => gather_rehuge(cpu, bus),
+        HugeCall::DosGetHugeShift => gather_shift(cpu, bus),
+    }
+}
+
 /// The arguments of a call by the process whose segments the bus shows, as far as it can go without a change: what the call does
 /// then is said by the arguments alone, whatever is absent.
 pub fn gather<B: Ranges>(call: AskedCall, cpu: &Cpu, bus: &mut B) -> Gathered
@@ -281,5 +352,6 @@ pub fn gather<B: Ranges>(call: AskedCall, cpu: &Cpu, bus: &mut B) -> Gathered
     match call {
         AskedCall::Segments(call) => gather_segments(call, cpu, bus),
         AskedCall::Shared(call) => gather_shared(call, cpu, bus),
+        AskedCall::Runs(call) => gather_runs(call, cpu, bus),
     }
 }

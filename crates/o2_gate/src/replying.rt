@@ -1,21 +1,23 @@
 // How a call on segments comes back: its value, its registers and its lines.
-ghost use Rattle.std.specs.Prelude.{◌≡◌, ◌≤◌, ◌+◌, ◌/◌, ◌==◌, ◌∷◌, [], ℕ, true, length, if◌then◌else◌};
-ghost use Rattle.o2_base.specs.Selectors.{selector_of};
+ghost use Rattle.std.specs.Prelude.{◌≡◌, ◌<◌, ◌≤◌, ◌+◌, ◌==◌, ◌∷◌, [], ℕ, true, length, if◌then◌else◌};
 ghost use Rattle.o2_outer.specs.Texts.{Rose};
 ghost use Rattle.o2_outer.specs.Answers.{Takes, Puts, OnFailed};
 ghost use Rattle.o2_isa.specs.View.{Filling, is_writable, whole};
 ghost use Rattle.o2_isa.specs.Pointers.{is_ready, put_at_pointer, KeepsAllButBytes};
 ghost use Rattle.o2_world.specs.Calls.{long_bytes, returned, word_bytes};
 ghost use Rattle.o2_world.specs.Text.{line_text, lines_text};
-ghost use Rattle.o2_world.specs.World.{Calls, HoldsBy, DropsBy};
+ghost use Rattle.o2_world.specs.World.{Calls};
 ghost use Rattle.o2_gate.specs.Gathers.{targets};
 ghost use Rattle.o2_gate.specs.Pointed.{are_ready};
-ghost use Rattle.o2_gate.specs.Replies.{IsValue, bytes_of, call_line, lines_of, moved_by, words_of};
+ghost use Rattle.o2_gate.specs.MovedLines.{AreInside, all_lines, block_lines, line_at, lines_at};
+ghost use Rattle.o2_gate.specs.Replies.{IsValue, bytes_of, call_line, lines_of, name_of, words_of};
 ghost use Rattle.o2_gate.specs.Writes.{WritesHeld};
 
 use crate::gathering::SegmentArguments;
+use crate::huge::{HugeArguments, huge_words, set_huge, store_huge};
+use crate::moves::{Block, Moves};
 use crate::pointer::store;
-use crate::sharing::{put_share, set_shared, shared_words, store_shared};
+use crate::sharing::{SharedArguments, set_shared, shared_words, store_shared};
 use crate::stack::give_back;
 use o2_base::Selector;
 use o2_bus::Ranges;
@@ -27,7 +29,7 @@ use o2_world::Argument;
 /// How many words the arguments of a call take.
 fn words(arguments: SegmentArguments) -> u16
     ensures words { result ≡ words_of arguments }
-    ensures few { result ≤ 5 }
+    ensures few { result ≤ 6 }
 {
     match arguments {
         SegmentArguments::Alloc { .. } => 4,
@@ -38,6 +40,7 @@ fn words(arguments: SegmentArguments) -> u16
         SegmentArguments::Unlock(_) => 1,
         SegmentArguments::Alias { .. } => 3,
         SegmentArguments::Shared(shared) => shared_words(&shared),
+        SegmentArguments::Huge(huge) => huge_words(&huge),
     }
 }
 
@@ -105,6 +108,7 @@ fn store_value<B: Ranges>(bus: &mut B, arguments: SegmentArguments, value: u32)
             to_offset,
         } => store_word(bus, to_selector, to_offset, value as u16),
         SegmentArguments::Shared(shared) => store_shared(bus, &shared, value),
+        SegmentArguments::Huge(huge) => store_huge(bus, &huge, value),
     }
 }
 
@@ -199,136 +203,147 @@ fn set_reply(line: &mut LineBuffer, pid: u16, arguments: SegmentArguments, error
             set_valued(line, pid, b"DosCreateCSAlias", &args, error, shown);
         }
         SegmentArguments::Shared(shared) => set_shared(line, pid, &shared, error, value),
+        SegmentArguments::Huge(huge) => set_huge(line, pid, &huge, error, value),
     }
 }
 
-/// Puts the line of a hold that came, by one put.
-pub(crate) fn put_hold<R: Sink>(
+/// Puts the line of one hold of an index, by one put.
+fn put_line<R: Sink>(
     line: &mut LineBuffer,
-    pid: u16,
-    selector: u16,
     cause: &[u8],
+    block: &Block,
+    index: u16,
     report: &mut R,
 ) -> Put
-    requires { length cause.now ≤ 20 }
+    requires name { length cause.now ≤ 20 }
+    requires index { index < 8192 }
     ensures report { Takes (R.taken report.old) (R.taken report.new)
-        (lines_text (HoldsBy pid selector cause.now ∷ [])) result }
+        (lines_text (line_at cause.now block.now index ∷ [])) result }
     ensures puts { R.puts report.new ≡ R.puts report.old + 1 }
     ensures count { R.faults report.old ≤ R.faults report.new }
     ensures cause { OnFailed result (Rose (R.faults report.old) (R.faults report.new)) }
 {
-    set_holds(line, pid, selector, cause);
+    let selector = Selector::local(u32::from(index)).0;
+    if block.came {
+        set_holds(line, block.process, selector, cause);
+    } else {
+        set_drops(line, block.process, selector, cause);
+    }
     report.put(line.as_slice())
 }
 
-/// Puts the line of a hold that went, by one put.
-fn put_drop<R: Sink>(
+/// Puts the lines of all holds of an index that came or went, each by a put of its own.
+fn put_index<R: Sink>(
     line: &mut LineBuffer,
-    pid: u16,
-    selector: u16,
     cause: &[u8],
+    block: &Block,
+    index: u16,
     report: &mut R,
 ) -> Put
-    requires { length cause.now ≤ 20 }
+    requires name { length cause.now ≤ 20 }
+    requires index { index < 8192 }
     ensures report { Takes (R.taken report.old) (R.taken report.new)
-        (lines_text (DropsBy pid selector cause.now ∷ [])) result }
-    ensures puts { R.puts report.new ≡ R.puts report.old + 1 }
-    ensures count { R.faults report.old ≤ R.faults report.new }
-    ensures cause { OnFailed result (Rose (R.faults report.old) (R.faults report.new)) }
-{
-    set_drops(line, pid, selector, cause);
-    report.put(line.as_slice())
-}
-
-/// The selector of the same index with privilege level 3.
-pub(crate) fn own_selector(selector: u16) -> u16
-    ensures { result ≡ selector_of (selector / 8) }
-{
-    let index = Selector(selector).index();
-    Selector::local(u32::from(index)).0
-}
-
-/// Puts the line of what a call on segments that came to no error holds more or less, where it does.
-#[tactic(auto, using(o2_outer::proofs::TextLemmas::gains_none, o2_outer::proofs::TextLemmas::puts_none))]
-fn put_change<R: Sink>(
-    line: &mut LineBuffer,
-    pid: u16,
-    arguments: SegmentArguments,
-    value: u32,
-    report: &mut R,
-) -> Put
-    requires value { IsValue arguments value }
-    ensures report { Takes (R.taken report.old) (R.taken report.new)
-        (lines_text (moved_by arguments pid 0 value)) result }
+        (lines_text (lines_at cause.now block.now index)) result }
     ensures puts { Puts (R.puts report.old) (R.puts report.new)
-        (length (moved_by arguments pid 0 value)) result }
+        (length (lines_at cause.now block.now index)) result }
     ensures count { R.faults report.old ≤ R.faults report.new }
     ensures cause { OnFailed result (Rose (R.faults report.old) (R.faults report.new)) }
+{
+    for _time in 0..block.holds {
+        match put_line(line, cause, block, index, report) {
+            Put::Done => {}
+            Put::Failed => return Put::Failed,
+        }
+    }
+    Put::Done
+}
+
+/// Puts the lines of a block.
+fn put_block<R: Sink>(line: &mut LineBuffer, cause: &[u8], block: &Block, report: &mut R) -> Put
+    requires name { length cause.now ≤ 20 }
+    requires inside { block.now.index + block.now.count ≤ 8192 }
+    ensures report { Takes (R.taken report.old) (R.taken report.new)
+        (lines_text (block_lines cause.now block.now)) result }
+    ensures puts { Puts (R.puts report.old) (R.puts report.new)
+        (length (block_lines cause.now block.now)) result }
+    ensures count { R.faults report.old ≤ R.faults report.new }
+    ensures cause { OnFailed result (Rose (R.faults report.old) (R.faults report.new)) }
+{
+    for place in 0..block.count {
+        match put_index(line, cause, block, block.index + place, report) {
+            Put::Done => {}
+            Put::Failed => return Put::Failed,
+        }
+    }
+    Put::Done
+}
+
+/// Puts the lines of all blocks.
+fn put_blocks<R: Sink>(line: &mut LineBuffer, cause: &[u8], blocks: &[Block], report: &mut R) -> Put
+    requires name { length cause.now ≤ 20 }
+    requires inside { AreInside blocks.now }
+    ensures report { Takes (R.taken report.old) (R.taken report.new)
+        (lines_text (all_lines cause.now blocks.now)) result }
+    ensures puts { Puts (R.puts report.old) (R.puts report.new)
+        (length (all_lines cause.now blocks.now)) result }
+    ensures count { R.faults report.old ≤ R.faults report.new }
+    ensures cause { OnFailed result (Rose (R.faults report.old) (R.faults report.new)) }
+{
+    for block in blocks {
+        match put_block(line, cause, block, report) {
+            Put::Done => {}
+            Put::Failed => return Put::Failed,
+        }
+    }
+    Put::Done
+}
+
+/// The name of a call, which its lines have.
+fn name(arguments: SegmentArguments) -> &'static [u8]
+    ensures name { result.now ≡ name_of arguments }
+    ensures few { length result.now ≤ 20 }
 {
     match arguments {
-        SegmentArguments::Alloc { .. } => {
-            put_hold(line, pid, value as u16, b"DosAllocSeg", report)
-        }
-        SegmentArguments::Realloc { .. } => Put::Done,
-        SegmentArguments::Free(selector) => {
-            let own = own_selector(selector);
-            put_drop(line, pid, own, b"DosFreeSeg", report)
-        }
-        SegmentArguments::Size { .. } => Put::Done,
-        SegmentArguments::Lock(_) => Put::Done,
-        SegmentArguments::Unlock(_) => Put::Done,
-        SegmentArguments::Alias { .. } => {
-            put_hold(line, pid, value as u16, b"DosCreateCSAlias", report)
-        }
-        SegmentArguments::Shared(shared) => put_share(line, pid, &shared, value, report),
+        SegmentArguments::Alloc { .. } => b"DosAllocSeg",
+        SegmentArguments::Realloc { .. } => b"DosReallocSeg",
+        SegmentArguments::Free(_) => b"DosFreeSeg",
+        SegmentArguments::Size { .. } => b"DosSizeSeg",
+        SegmentArguments::Lock(_) => b"DosLockSeg",
+        SegmentArguments::Unlock(_) => b"DosUnlockSeg",
+        SegmentArguments::Alias { .. } => b"DosCreateCSAlias",
+        SegmentArguments::Shared(SharedArguments::Name { .. }) => b"DosAllocShrSeg",
+        SegmentArguments::Shared(SharedArguments::Share { .. }) => b"DosGetShrSeg",
+        SegmentArguments::Shared(SharedArguments::Give { .. }) => b"DosGiveSeg",
+        SegmentArguments::Shared(SharedArguments::Get(_)) => b"DosGetSeg",
+        SegmentArguments::Huge(HugeArguments::Alloc { .. }) => b"DosAllocHuge",
+        SegmentArguments::Huge(HugeArguments::Realloc { .. }) => b"DosReallocHuge",
+        SegmentArguments::Huge(HugeArguments::Shift { .. }) => b"DosGetHugeShift",
     }
 }
 
-/// Puts the line of what a call on segments holds more or less, where it came to no error and does.
-fn put_moved<R: Sink>(
-    line: &mut LineBuffer,
-    pid: u16,
-    arguments: SegmentArguments,
-    error: u16,
-    value: u32,
-    report: &mut R,
-) -> Put
-    requires value { IsValue arguments value }
-    ensures report { Takes (R.taken report.old) (R.taken report.new)
-        (lines_text (moved_by arguments pid error value)) result }
-    ensures puts { Puts (R.puts report.old) (R.puts report.new)
-        (length (moved_by arguments pid error value)) result }
-    ensures count { R.faults report.old ≤ R.faults report.new }
-    ensures cause { OnFailed result (Rose (R.faults report.old) (R.faults report.new)) }
-{
-    if error == 0 {
-        put_change(line, pid, arguments, value, report)
-    } else {
-        Put::Done
-    }
-}
-
-/// Puts the line of a call on segments, and behind it that of what it holds more or less, each by a put of its own.
+/// Puts the line of a call on segments, and behind it those of all that came or went by it, each by a put of its own.
 pub fn put_reply<R: Sink>(
     line: &mut LineBuffer,
     pid: u16,
     arguments: SegmentArguments,
     error: u16,
     value: u32,
+    moves: &Moves,
     report: &mut R,
 ) -> Put
     requires value { IsValue arguments value }
+    requires inside { AreInside moves.now }
     ensures report { Takes (R.taken report.old) (R.taken report.new)
-        (lines_text (lines_of arguments pid error value)) result }
+        (lines_text (lines_of arguments pid error value moves.now)) result }
     ensures puts { Puts (R.puts report.old) (R.puts report.new)
-        (length (lines_of arguments pid error value)) result }
+        (length (lines_of arguments pid error value moves.now)) result }
     ensures count { R.faults report.old ≤ R.faults report.new }
     ensures cause { OnFailed result (Rose (R.faults report.old) (R.faults report.new)) }
 {
     set_reply(line, pid, arguments, error, value);
     match report.put(line.as_slice()) {
         Put::Failed => Put::Failed,
-        Put::Done => put_moved(line, pid, arguments, error, value, report),
+        Put::Done => put_blocks(line, name(arguments), moves.blocks(), report),
     }
 }
 

@@ -1,18 +1,15 @@
 // The calls by which processes share segments: their arguments, their values and their lines.
-ghost use Rattle.std.specs.Prelude.{◌≡◌, ◌≤◌, ◌∷◌, [], ℕ, true, length};
-ghost use Rattle.o2_outer.specs.Texts.{Rose};
-ghost use Rattle.o2_outer.specs.Answers.{Takes, OnFailed, Puts};
+ghost use Rattle.std.specs.Prelude.{◌≡◌, ◌≤◌, ℕ, true};
 ghost use Rattle.o2_isa.specs.View.{Filling, whole};
 ghost use Rattle.o2_isa.specs.Pointers.{KeepsAllButBytes};
-ghost use Rattle.o2_world.specs.Text.{line_text, lines_text};
+ghost use Rattle.o2_world.specs.Text.{line_text};
 ghost use Rattle.o2_gate.specs.Pointed.{are_ready};
-ghost use Rattle.o2_gate.specs.SharedReplies.{IsSharedValue, holder_of, shared_bytes, shared_line, shared_moved, shared_name, shared_targets, shared_under, shared_words};
+ghost use Rattle.o2_gate.specs.SharedReplies.{IsSharedValue, shared_bytes, shared_line, shared_targets, shared_words};
 ghost use Rattle.o2_gate.specs.Writes.{WritesHeld};
 
-use crate::replying::{own_selector, put_hold, set_bare, set_valued, store_word};
+use crate::replying::{set_bare, set_valued, store_word};
 use crate::text::TextArgument;
 use o2_bus::Ranges;
-use o2_outer::{Put, Sink};
 use o2_report::LineBuffer;
 use o2_world::Argument;
 
@@ -140,37 +137,6 @@ pub(crate) fn set_shared(
         SharedArguments::Get(selector) => {
             let args = [Argument::Word(*selector)];
             set_bare(line, pid, b"DosGetSeg", &args, error);
-        }
-    }
-}
-
-/// Puts the line of the hold that came by a call without an error.
-pub(crate) fn put_share<R: Sink>(
-    line: &mut LineBuffer,
-    pid: u16,
-    arguments: &SharedArguments,
-    value: u32,
-    report: &mut R,
-) -> Put
-    requires value { IsSharedValue arguments.now value }
-    ensures report { Takes (R.taken report.old) (R.taken report.new)
-        (lines_text (shared_moved arguments.now pid 0 value)) result }
-    ensures puts { Puts (R.puts report.old) (R.puts report.new)
-        (length (shared_moved arguments.now pid 0 value)) result }
-    ensures count { R.faults report.old ≤ R.faults report.new }
-    ensures cause { OnFailed result (Rose (R.faults report.old) (R.faults report.new)) }
-{
-    match arguments {
-        SharedArguments::Name { .. } => {
-            put_hold(line, pid, value as u16, b"DosAllocShrSeg", report)
-        }
-        SharedArguments::Share { .. } => put_hold(line, pid, value as u16, b"DosGetShrSeg", report),
-        SharedArguments::Give { to, .. } => {
-            put_hold(line, *to, value as u16, b"DosGiveSeg", report)
-        }
-        SharedArguments::Get(selector) => {
-            let own = own_selector(*selector);
-            put_hold(line, pid, own, b"DosGetSeg", report)
         }
     }
 }

@@ -88,6 +88,28 @@ pub fn five_arguments<B: Bus>(bus: &B, cpu: &Cpu) -> Option<(u16, u16, u16, u16,
     Some((first, second, third, fourth, last))
 }
 
+/// Six arguments, in the order in which they were pushed. None exactly where they don't lie in SS.
+pub fn six_arguments<B: Bus>(bus: &B, cpu: &Cpu) -> Option<(u16, u16, u16, u16, u16, u16)>
+    ensures { (f : Filling) → IsBound (B.view bus.now) → let v = boundless f (B.view bus.now) in
+        result ≡ (if has_arguments v cpu.now 6
+        then Some (
+          argument v cpu.now 5,
+          argument v cpu.now 4,
+          argument v cpu.now 3,
+          argument v cpu.now 2,
+          argument v cpu.now 1,
+          argument v cpu.now 0,
+        ) else None) }
+{
+    let last = word(bus, cpu, 0)?;
+    let fifth = word(bus, cpu, 1)?;
+    let fourth = word(bus, cpu, 2)?;
+    let third = word(bus, cpu, 3)?;
+    let second = word(bus, cpu, 4)?;
+    let first = word(bus, cpu, 5)?;
+    Some((first, second, third, fourth, fifth, last))
+}
+
 /// The arguments of a transfer. None exactly where they don't lie in SS.
 pub fn transfer<B: Bus>(bus: &B, cpu: &Cpu) -> Option<Transfer>
     ensures { (f : Filling) → IsBound (B.view bus.now) → let v = boundless f (B.view bus.now) in

@@ -1,18 +1,20 @@
 -- What a step leaves of a world beside names, holds and reserved indexes: its texts, its input, its dispatch, and who lives.
-use Rattle.std.proofs.Common.{◌≡◌, ℕ, zero, suc, ◌-◌, ◌<◌, ◌≤◌, ◌==◌, Bool, true, false, List, [], ◌∷◌, ◌++◌, map, Option, Some, None, ap, sym, ◌∙◌, refl, subst, arith, slice_set, slice_index_or, if◌then◌else◌}
+use Rattle.std.proofs.Common.{◌≡◌, ℕ, zero, suc, ◌+◌, ◌-◌, ◌<◌, ◌≤◌, ◌==◌, Bool, true, false, List, [], ◌∷◌, ◌++◌, map, Option, Some, None, ap, sym, ◌∙◌, refl, subst, arith, slice_set, slice_index_or, if◌then◌else◌}
 use Rattle.std.specs.List.{list_any}
 use Rattle.o2_conf.specs.Dispatch.{Dispatch, lives}
 use Rattle.o2_isa.specs.declared.cpu.Cpu.{Cpu}
 use Rattle.o2_world.specs.declared.types.State.{State}
 use Rattle.o2_world.specs.Calls.{Before, Effect}
 use Rattle.o2_world.specs.Changes.{Change, Drops, Finishes, Frees, Holds, Locks, Makes, Marks, Names, Reserves, Resizes, at_number, at_place, swept, takes, with_all, with_change, with_changes}
-use Rattle.o2_world.specs.Known.{Known}
+use Rattle.o2_world.specs.HugeRulings.{all_dropped, all_hold, dropped_members, new_members, resized_members, resized_one, run_reserve}
+use Rattle.o2_world.specs.Known.{Known, Marks as SegmentMarks}
 use Rattle.o2_regions.specs.Maps.{Maps}
 use Rattle.o2_segs.specs.Sharing.{AreHeldAtMost}
 use Rattle.o2_shared.specs.Shares.{AreFew}
-use Rattle.o2_world.specs.Moves.{AllMoves, Moves, NoneMoves, OneAliased, OneLocked, OneMade, OneNamed, OneSized, OwnMoves, SomeFreed, SomeShared}
+use Rattle.o2_world.specs.Moves.{AllMoves, Moves, NoRun, NoneMoves, OneAliased, OneLocked, OneMade, OneNamed, OneRun, OneSized, OwnMoves, RunMade, RunMoves, RunSized, SomeFreed, SomeShared}
+use Rattle.o2_world.specs.Rulings.{full_size}
 use Rattle.o2_world.specs.Run.{all_changes, changed, live_flags, worked, working}
-use Rattle.o2_world.specs.SharedRulings.{each_more, one_more}
+use Rattle.o2_world.specs.SharedRulings.{each_more, marks_under, one_more}
 use Rattle.o2_world.specs.World.{Held, Line, Process, World, is_live}
 use Rattle.o2_world.proofs.Flags.{lives_some}
 use Rattle.o2_world.proofs.Numbers.{with_is}
@@ -119,9 +121,9 @@ drops_end_none n (i ∷ is) = (tt, drops_end_none n is)
 moves_end_none : (b : Before) (cpu : Cpu) (cs : List Change) → Moves b cpu cs → AreNoEnds cs
 moves_end_none b cpu cs (NoneMoves is) = subst AreNoEnds (sym is) tt
 moves_end_none b cpu cs (OneMade size flags i free is) = subst AreNoEnds (sym is) (tt, (tt, tt))
-moves_end_none b cpu cs (OneSized name size is) = subst AreNoEnds (sym is) (tt, tt)
+moves_end_none b cpu cs (OneSized name size alone is) = subst AreNoEnds (sym is) (tt, tt)
 moves_end_none b cpu cs (OneLocked name count is) = subst AreNoEnds (sym is) (tt, tt)
-moves_end_none b cpu cs (OneAliased index i h there free is) = subst AreNoEnds (sym is) (tt, tt)
+moves_end_none b cpu cs (OneAliased index i h there alone free is) = subst AreNoEnds (sym is) (tt, tt)
 moves_end_none b cpu cs (SomeFreed xs frees is) = subst AreNoEnds (sym is) (drops_end_none b.number xs)
 
 one_end_none : (to i : ℕ) (o : Option Held) (cs : List Change) → AreNoEnds cs → AreNoEnds (one_more to i o ++ cs)
@@ -132,10 +134,59 @@ shares_end_none : (k : Known) (from to : ℕ) (is : List ℕ) → AreNoEnds (eac
 shares_end_none k from to [] = tt
 shares_end_none k from to (i ∷ is) = one_end_none to i (k.held from i) (each_more k from to is) (shares_end_none k from to is)
 
+append_end_none : (xs ys : List Change) → AreNoEnds xs → AreNoEnds ys → AreNoEnds (xs ++ ys)
+append_end_none [] ys front back = back
+append_end_none (x ∷ xs) ys front back = (front.0, append_end_none xs ys front.1 back)
+
+holds_end_none : (name first count i : ℕ) (ps : List (ℕ × ℕ)) → AreNoEnds (all_hold name first count i ps)
+holds_end_none name first count i [] = tt
+holds_end_none name first count i (p ∷ ps) = (tt, holds_end_none name first count i ps)
+
+members_end_none : (name first count flags : ℕ) (ps : List (ℕ × ℕ)) (is zs : List ℕ) → AreNoEnds (new_members name first count flags ps is zs)
+members_end_none name first count flags ps [] zs = tt
+members_end_none name first count flags ps (i ∷ is) [] = tt
+members_end_none name first count flags ps (i ∷ is) (z ∷ zs) =
+    (tt, append_end_none (all_hold name first count i ps) (new_members (name + 1) first count flags ps is zs) (holds_end_none name first count i ps) (members_end_none (name + 1) first count flags ps is zs))
+
+resize_end_none : (size : ℕ) (o : Option Held) (x : Option SegmentMarks) → AreNoEnds (resized_one size o x)
+resize_end_none size None None = tt
+resize_end_none size None (Some x) = tt
+resize_end_none size (Some h) None = tt
+resize_end_none size (Some h) (Some x) = go (x.size == full_size size)
+  where
+    go : (t : Bool) → AreNoEnds (if t then [] else Resizes h.name (full_size size) ∷ [])
+    go true = tt
+    go false = (tt, tt)
+
+resizes_end_none : (k : Known) (n : ℕ) (is zs : List ℕ) → AreNoEnds (resized_members k n is zs)
+resizes_end_none k n [] zs = tt
+resizes_end_none k n (i ∷ is) [] = tt
+resizes_end_none k n (i ∷ is) (z ∷ zs) = append_end_none _ _ (resize_end_none z (k.held n i) (marks_under k (k.held n i))) (resizes_end_none k n is zs)
+
+all_drop_end_none : (n i : ℕ) (o : Option Held) → AreNoEnds (all_dropped n i o)
+all_drop_end_none n i None = tt
+all_drop_end_none n i (Some h) = (tt, tt)
+
+members_drop_end_none : (k : Known) (n : ℕ) (is : List ℕ) → AreNoEnds (dropped_members k n is)
+members_drop_end_none k n [] = tt
+members_drop_end_none k n (i ∷ is) = append_end_none _ _ (all_drop_end_none n i (k.held n i)) (members_drop_end_none k n is)
+
+run_end_none : (b : Before) (cpu : Cpu) (cs : List Change) → RunMoves b cpu cs → AreNoEnds cs
+run_end_none b cpu cs (NoRun is) = subst AreNoEnds (sym is) tt
+run_end_none b cpu cs (RunMade region first count flags i z is zs own some growth same) =
+    subst AreNoEnds (sym same)
+    (append_end_none (new_members b.known.next first count flags ((b.number, 1) ∷ []) (i ∷ is) (z ∷ zs)) (Reserves (run_reserve region first count) ∷ [])
+    (members_end_none b.known.next first count flags ((b.number, 1) ∷ []) (i ∷ is) (z ∷ zs)) (tt, tt))
+run_end_none b cpu cs (RunSized first count flags holds others kept sizes is zs gone growth cut same) =
+    subst AreNoEnds (sym same)
+    (append_end_none _ _ (resizes_end_none b.known b.number kept sizes)
+    (append_end_none _ _ (members_end_none b.known.next first count flags ((b.number, holds) ∷ others) is zs) (members_drop_end_none b.known b.number gone)))
+
 all_end_none : (b : Before) (cpu : Cpu) (cs : List Change) → AllMoves b cpu cs → AreNoEnds cs
 all_end_none b cpu cs (OwnMoves moves) = moves_end_none b cpu cs moves
 all_end_none b cpu cs (OneNamed size i name free is) = subst AreNoEnds (sym is) (tt, (tt, (tt, tt)))
 all_end_none b cpu cs (SomeShared from to xs shares is) = subst AreNoEnds (sym is) (shares_end_none b.known from to xs)
+all_end_none b cpu cs (OneRun moves ruled) = run_end_none b cpu cs moves
 
 one_lives : (w : World) (c : Change) → IsNoEnd c → live_flags (with_change w c).processes ≡ live_flags w.processes
 one_lives w (Makes s) none = refl

@@ -38,7 +38,6 @@ use Rattle.o2_space.specs.declared.space.Space.{Space}
 use Rattle.o2_space.specs.Parts.{parts_in, running_at, running_in}
 use Rattle.o2_machine.specs.declared.machine.Machine.{Machine}
 use Rattle.o2_machine.proofs.FirstNames.{started_few}
-use Rattle.o2_segs.specs.Answers.{AreAlone}
 use Rattle.o2_segs.specs.Sharing.{AreHeldAtMost, ShareOne}
 use Rattle.o2_calls.specs.SharedActs.{AreSpelled}
 use Rattle.o2_shared.specs.declared.names.Name.{Name}
@@ -171,7 +170,6 @@ module _ (o : Opened) (l : LinkedParts) (b : Built) (c : Conf) (blocks : ℕ) (m
           let d = ap (λ (x : Maps). x.processes) space.1.1.1.0 in
           omega (arith, a, count, processes, d));
       marked = λ n. marks n ∙ ap (λ (x : ℕ → Option Running). goes_on (x n)) (sym runs_are);
-      alone = subst AreAlone (sym space.1.1.1.0) (record { each = opened.alone });
       whole = subst AreWhole (sym space.1.1.1.0) opened.tables;
       one = subst ShareOne (sym space.1.1.1.0) (record { one = λ p q i h k high a d called. absurd (called (opened.loaded p i h a)) });
       places = subst (AreInPlace m.space.store m.space.regions) (sym bare) (none_in_place m.space.store m.space.regions 4096);

@@ -10,11 +10,13 @@ use Rattle.o2_isa.specs.declared.cpu.Stop.{Stop}
 use Rattle.o2_isa.specs.declared.cpu.Stop.TheVariants as stop
 use Rattle.o2_conf.specs.Dispatch.{Dispatch}
 use Rattle.o2_world.specs.declared.types.Row.{Row}
-use Rattle.o2_world.specs.declared.types.Row.TheVariants.{DosExit, DosGetPid, DosRead, DosWrite, DosMemAvail, OnSegments, OnShared}
+use Rattle.o2_world.specs.declared.types.Row.TheVariants.{DosExit, DosGetPid, DosRead, DosWrite, DosMemAvail, OnSegments, OnShared, OnRuns}
 use Rattle.o2_world.specs.declared.types.SegmentCall.{SegmentCall}
 use Rattle.o2_world.specs.declared.types.SegmentCall.TheVariants.{DosAllocSeg, DosReallocSeg, DosFreeSeg, DosSizeSeg, DosLockSeg, DosUnlockSeg, DosCreateCsAlias}
 use Rattle.o2_world.specs.declared.types.SharedCall.{SharedCall}
 use Rattle.o2_world.specs.declared.types.SharedCall.TheVariants.{DosAllocShrSeg, DosGetShrSeg, DosGiveSeg, DosGetSeg}
+use Rattle.o2_world.specs.declared.types.HugeCall.{HugeCall}
+use Rattle.o2_world.specs.declared.types.HugeCall.TheVariants.{DosAllocHuge, DosReallocHuge, DosGetHugeShift}
 use Rattle.o2_world.specs.Map.{Map, get}
 use Rattle.o2_world.specs.World.{World, Setting, Process, Segment, is_live}
 use Rattle.o2_world.specs.Holders.{process_at}
@@ -72,6 +74,11 @@ shared_pointers DosGetShrSeg v a = text_pointer v a 2 ∷ pointer_at a 0 2 is_wr
 shared_pointers DosGiveSeg v a = pointer_at a 0 2 is_writable ∷ []
 shared_pointers DosGetSeg v a = []
 
+abbrev pub huge_pointers : HugeCall → (ℕ → ℕ) → List Pointer
+huge_pointers DosAllocHuge a = pointer_at a 2 2 is_writable ∷ []
+huge_pointers DosReallocHuge a = []
+huge_pointers DosGetHugeShift a = pointer_at a 0 2 is_writable ∷ []
+
 abbrev pub pointers_of : Row → View → (ℕ → ℕ) → List Pointer
 pointers_of DosExit v a = []
 pointers_of DosGetPid v a = pointer_at a 0 6 is_writable ∷ []
@@ -80,6 +87,7 @@ pointers_of DosWrite v a = pointer_at a 3 (a 2) is_readable ∷ pointer_at a 0 2
 pointers_of DosMemAvail v a = pointer_at a 0 4 is_writable ∷ []
 pointers_of (OnSegments call) v a = segment_pointers call a
 pointers_of (OnShared call) v a = shared_pointers call v a
+pointers_of (OnRuns call) v a = huge_pointers call a
 
 -- a selector that passes counts even where the range behind it is refused, and nothing behind a refused pointer does; a range
 -- of no bytes is not looked at
@@ -111,6 +119,11 @@ shared_words DosGetShrSeg = 4
 shared_words DosGiveSeg = 4
 shared_words DosGetSeg = 1
 
+abbrev pub huge_words : HugeCall → ℕ
+huge_words DosAllocHuge = 6
+huge_words DosReallocHuge = 3
+huge_words DosGetHugeShift = 2
+
 abbrev pub words_of : Row → ℕ
 words_of DosRead = 6
 words_of DosWrite = 6
@@ -119,6 +132,7 @@ words_of DosGetPid = 2
 words_of DosMemAvail = 2
 words_of (OnSegments call) = segment_words call
 words_of (OnShared call) = shared_words call
+words_of (OnRuns call) = huge_words call
 
 abbrev pub call_names : Before → Option Row → List ℕ
 call_names b None = []

@@ -6,3 +6,7 @@ pub mod Making
 pub mod Idling
 pub mod Limits
 pub mod Sharing
+pub mod Members
+pub mod AloneFreed
+pub mod FreeingRuns
+pub mod RunFreed

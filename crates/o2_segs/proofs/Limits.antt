@@ -1,5 +1,5 @@
--- What single changes leave of how large a store is, and that nobody holds a run.
-use Rattle.std.proofs.Common.{◌≡◌, ◌≢◌, ℕ, ◌+◌, ◌-◌, ◌&&◌, ◌==◌, Bool, true, false, cond, List, length, Option, Some, None, IsSome, is_some, ap, refl, sym, ◌∙◌, subst, arith}
+-- What single changes leave of how large a store is.
+use Rattle.std.proofs.Common.{◌≡◌, ◌≢◌, ℕ, ◌+◌, Bool, true, false, List, length, Option, Some, None, IsSome, is_some, ap, refl, sym, ◌∙◌, subst, arith}
 use Rattle.std.proofs.lemmas.List.{length-set}
 use Rattle.o2_entries.specs.declared.Entry.{Entry}
 use Rattle.o2_entries.specs.Tables.{slot_at}
@@ -7,52 +7,16 @@ use Rattle.o2_place.specs.declared.seg_id.SegId.{SegId}
 use Rattle.o2_regions.specs.declared.answer.Roomed.{Roomed}
 use Rattle.o2_regions.specs.declared.answer.Roomed.TheVariants.{Done, NoRoom, SwapFull, SwapFault}
 use Rattle.o2_regions.specs.declared.held.Held.{Held}
-use Rattle.o2_regions.specs.Maps.{Maps, held_at, less_of, more_of}
+use Rattle.o2_regions.specs.Maps.{Maps, held_at}
 use Rattle.o2_service.specs.Told.{OnlyTables}
 use Rattle.o2_store.specs.Shelf.{Adds, IsShelf, Pictures, Removes, SameTables, Shelf, entry_of, entry_or}
 use Rattle.o2_store.specs.Sizes.{Resizes}
 use Rattle.o2_store.proofs.Tables.{slot-set_other}
 use Rattle.o2_changes.specs.Holding.{Goes, Grants, Remains, Sweeps, Takes}
 use Rattle.o2_changes.specs.Segments.{IsNewest, SetsLock}
-use Rattle.o2_segs.specs.Answers.{AreAlone}
 use Rattle.o2_segs.specs.Limits.{IsUndone, KeepsEntries, KeepsEntry, KeepsLimits, KeepsLimitsBy, KeepsOthers, made_in}
 use Rattle.o2_segs.specs.Made.{IsStop}
 use Rattle.o2_segs.proofs.Sharing.{IsNewHold, added_lived, aged_there, few_as, few_more, few_then, gone_lived, held_few, held_shares, held_told, less_few, less_shares, lived_but, lived_tables, shares_as, shares_refl, shares_then}
-
--- Nobody holds a run.
-
-alone_taken : (m n : Maps) (pid i : ℕ) → Takes m n pid i → AreAlone m → AreAlone n
-alone_taken m n pid i takes alone = record { each = λ q j h e. go q j h ((q == pid) && (j == i)) (sym (takes.held q j) ∙ e) }
-  where
-    less : (o : Option Held) (h : Held) → ((k : Held) → o ≡ Some k → k.reserved ≡ 0) → less_of o ≡ Some h → h.reserved ≡ 0
-    less None h f e = absurd (cc)
-    less (Some was) h f e = by_count (was.holds - 1 == 0) e
-      where
-        by_count : (b : Bool) → cond b None (Some (record was { holds = was.holds - 1 })) ≡ Some h → h.reserved ≡ 0
-        by_count true e = absurd (cc)
-        by_count false e = let same : record was { holds = was.holds - 1 } ≡ h = cc in sym (ap (λ (x : Held). x.reserved) same) ∙ f was refl
-
-    go : (q j : ℕ) (h : Held) (b : Bool) → cond b (less_of (held_at m pid i)) (held_at m q j) ≡ Some h → h.reserved ≡ 0
-    go q j h true e = less (held_at m pid i) h (alone.each pid i) e
-    go q j h false e = alone.each q j h e
-
-pub alone_granted : (m n : Maps) (pid i access : ℕ) (h : Held) → h.reserved ≡ 0 → Grants m n pid i h access → AreAlone m → AreAlone n
-alone_granted m n pid i access h one grants alone = record { each = λ q j k e. go q j k ((q == pid) && (j == i)) (sym (grants.held q j) ∙ e) }
-  where
-    more : (o : Option Held) (k : Held) → ((x : Held) → o ≡ Some x → x.reserved ≡ 0) → more_of o h ≡ Some k → k.reserved ≡ 0
-    more None k f e = by_count (h.holds == 0) e
-      where
-        by_count : (b : Bool) → cond b None (Some h) ≡ Some k → k.reserved ≡ 0
-        by_count true e = absurd (cc)
-        by_count false e = let same : h ≡ k = cc in sym (ap (λ (x : Held). x.reserved) same) ∙ one
-    more (Some was) k f e = let same : record was { holds = was.holds + h.holds } ≡ k = cc in sym (ap (λ (x : Held). x.reserved) same) ∙ f was refl
-
-    go : (q j : ℕ) (k : Held) (b : Bool) → cond b (more_of (held_at m pid i) h) (held_at m q j) ≡ Some k → k.reserved ≡ 0
-    go q j k true e = more (held_at m pid i) k (alone.each pid i) e
-    go q j k false e = alone.each q j k e
-
-alone_told : (m n : Maps) → OnlyTables m n → AreAlone m → AreAlone n
-alone_told m n only alone = record { each = λ q j h e. alone.each q j h (sym (ap (λ (x : Maps). held_at x q j) only.rest) ∙ e) }
 
 -- The limits.
 
@@ -62,7 +26,6 @@ limits_refl s m = record {
   count = refl;
   made = omega arith;
   grows = omega arith;
-  alone = λ a. a;
   few = λ k some. few_as m m (λ q j. refl) k;
   shares = shares_refl s m s.made;
 }
@@ -76,7 +39,6 @@ limits_then s t u m n o a b x y = record {
   count = y.count ∙ x.count;
   made = (let p = x.made in let q = y.made in omega (arith, p, q));
   grows = (let p = x.grows in let q = y.grows in omega (arith, p, q));
-  alone = λ was. y.alone (x.alone was);
   few = few_then m n o x.few y.few;
   shares = shares_then s t u m n o s.made t.made s.made (omega arith) x.grows x.shares y.shares;
 }
@@ -87,7 +49,6 @@ limits_more s t m n a b x = record {
   count = x.count;
   made = (let p = x.made in omega (arith, p));
   grows = x.grows;
-  alone = x.alone;
   few = x.few;
   shares = x.shares;
 }
@@ -106,7 +67,6 @@ limits_by s t m n more x = record {
   count = x.count;
   made = x.made;
   grows = x.grows;
-  alone = x.alone;
   few = λ k some most. few_more n (k + 0) (k + 1) (omega arith) (x.few k some most);
   shares = x.shares;
 }
@@ -124,7 +84,6 @@ limits_undone s t u m n o r stop one x y = subst (λ (k : ℕ). KeepsLimits s m 
   count = y.count ∙ x.count;
   made = (let p = y.made in omega (arith, one, p));
   grows = (let p = y.made in omega (arith, one, p));
-  alone = λ was. y.alone (x.alone was);
   few = few_then m n o x.few y.few;
   shares = shares_then s t u m n o s.made u.made s.made (omega arith) (let p = y.made in omega (arith, one, p)) x.shares y.shares;
 })
@@ -142,7 +101,6 @@ limits_moved s t m n tables only = record {
   count = tables.count;
   made = (let e = tables.made in omega (arith, e));
   grows = (let e = tables.made in omega (arith, e));
-  alone = alone_told m n only;
   few = λ k some. few_as m n (held_told m n only) k;
   shares = shares_as m n (held_told m n only) s t s.made (λ id old alive. lived_tables s t tables id alive);
 }
@@ -153,7 +111,6 @@ limits_added s t m id e young adds = record {
   count = ap (λ (x : Shelf). length x.entries) adds.shelf ∙ length-set s.entries id.key (Some e);
   made = (let made : t.made ≡ s.made + 1 = ap (λ (x : Shelf). x.made) adds.shelf in omega (arith, made));
   grows = (let made : t.made ≡ s.made + 1 = ap (λ (x : Shelf). x.made) adds.shelf in omega (arith, made));
-  alone = λ a. a;
   few = λ k some. few_as m m (λ q j. refl) k;
   shares = shares_as m m (λ q j. refl) s t s.made (added_lived s t id e adds young);
 }
@@ -164,7 +121,6 @@ limits_locked s t m id lock live sets = record {
   count = sets.count;
   made = (let made : t.made ≡ s.made = ap (λ (x : Shelf). x.made) sets.shelf in omega (arith, made));
   grows = (let made : t.made ≡ s.made = ap (λ (x : Shelf). x.made) sets.shelf in omega (arith, made));
-  alone = λ a. a;
   few = λ k some. few_as m m (λ q j. refl) k;
   shares = shares_as m m (λ q j. refl) s t s.made
       (λ w old alive. lived_but s t id.key (λ k apart. (ap is_some (sets.others k apart), ap (λ (o : Option Entry). (entry_or o).age) (sets.others k apart)))
@@ -177,20 +133,18 @@ limits_sized told pic s t before after m n key size sized only = record {
   count = sized.count;
   made = (let e = sized.made in omega (arith, e));
   grows = (let e = sized.made in omega (arith, e));
-  alone = alone_told m n only;
   few = λ k some. few_as m n (held_told m n only) k;
   shares = shares_as m n (held_told m n only) s t s.made
       (λ id old alive. lived_but s t key (λ k apart. ((sized.same k apart).live, (sized.same k apart).age)) sized.here.live sized.here.age id alive);
 }
 
 -- a segment is held where nothing was
-pub limits_held : (s : Shelf) (m n : Maps) (pid i access : ℕ) (h : Held) → h.reserved ≡ 0 → h.holds ≡ 1 → IsNewHold m pid i h.id → Grants m n pid i h access → KeepsLimits s m s n 0
-limits_held s m n pid i access h one once new grants = record {
+pub limits_held : (s : Shelf) (m n : Maps) (pid i access : ℕ) (h : Held) → h.holds ≡ 1 → IsNewHold m pid i h.id → Grants m n pid i h access → KeepsLimits s m s n 0
+limits_held s m n pid i access h once new grants = record {
   size = refl;
   count = refl;
   made = omega arith;
   grows = omega arith;
-  alone = alone_granted m n pid i access h one grants;
   few = held_few s m n pid i access h once new grants;
   shares = held_shares s m n pid i access h once new grants;
 }
@@ -212,10 +166,23 @@ limits_dropped s t m n pid i h is now at sweeps takes = record {
   count = (whole_swept s t n h.id is now sweeps).1;
   made = (let e = (whole_swept s t n h.id is now sweeps).2 in omega (arith, e));
   grows = (let e = (whole_swept s t n h.id is now sweeps).2 in omega (arith, e));
-  alone = alone_taken m n pid i takes;
   few = less_few s t m n h.id pid i h at refl sweeps takes;
   shares = less_shares s t m n h.id pid i h at refl sweeps takes;
 }
+
+-- what is reserved alone changes
+pub limits_reserved : (s t : Shelf) (m a n : Maps) → n ≡ record a { reserved = n.reserved } → KeepsLimits s m t a 0 → KeepsLimits s m t n 0
+limits_reserved s t m a n is x =
+    let held_same : (q j : ℕ) → held_at n q j ≡ held_at a q j = λ q j. ap (λ (y : Maps). held_at y q j) is in
+    let y : KeepsLimits t a t n 0 = record {
+      size = refl;
+      count = refl;
+      made = omega arith;
+      grows = omega arith;
+      few = λ k some. few_as a n held_same k;
+      shares = shares_as a n held_same t t t.made (λ id old alive. alive);
+    } in
+    limits_then s t t m a n 0 0 x y
 
 -- a segment that was made last, and moved, is unmade
 pub undone_made : (s t u : Shelf) (m n : Maps) (id : SegId) → SameTables s t → OnlyTables m n → IsShelf t → IsShelf u → Removes t (record u { made = t.made }) id.key → IsNewest t id → u.made ≡ id.age → IsUndone s m u n
@@ -223,7 +190,6 @@ undone_made s t u m n id tables only is now removes newest made = record {
   size = now.memory ∙ ap (λ (x : Shelf). length x.memory) removes.shelf ∙ sym is.memory ∙ tables.size;
   count = count_gone t (record u { made = t.made }) id.key removes ∙ tables.count;
   made = (let last = newest.last in let e = tables.made in omega (arith, last, made, e));
-  alone = alone_told m n only;
   few = λ k some. few_as m n (held_told m n only) k;
   shares = shares_as m n (held_told m n only) s u u.made (λ w old alive. lived_tables s t tables w (gone_lived t (record u { made = t.made }) id.key removes w alive));
 }

@@ -1,7 +1,6 @@
 -- What the rows come to, by what is held under a selector.
-use Rattle.std.proofs.Common.{◌≡◌, ℕ, zero, suc, ◌-◌, ◌/◌, ◌<◌, ◌≤◌, ◌&&◌, ◌||◌, ◌==◌, Option, Some, None, is_some, Bool, true, false, cond, eqb, nat_le, not, filter, option_map, List, [], ◌∷◌, refl, sym, ap, ◌∙◌, subst, arith}
-use Rattle.std.proofs.lemmas.Bool.{cond-true, cond-false, ne_eqb, eq-eqb}
-use Rattle.std.proofs.lemmas.Bool.Decides.{nat_tests}
+use Rattle.std.proofs.Common.{◌≡◌, ℕ, zero, suc, ◌/◌, ◌≤◌, ◌||◌, ◌==◌, Option, Some, None, Bool, true, false, eqb, nat_le, not, option_map, List, map, refl, sym, ap, ◌∙◌, subst, arith}
+use Rattle.std.proofs.lemmas.Bool.{cond-true, cond-false, ne_eqb}
 use Rattle.o2_base.specs.Selectors.{selector_of}
 use Rattle.o2_desc.specs.Bits.{is_writable, readable_code}
 use Rattle.o2_desc.specs.Choice.{chosen}
@@ -15,17 +14,18 @@ use Rattle.o2_regions.specs.Maps.{Maps, held_at, is_taken}
 use Rattle.o2_segbus.specs.Seen.{AreNamed}
 use Rattle.o2_store.specs.Shelf.{Shelf, entry}
 use Rattle.o2_changes.specs.Holding.{rights_at}
-use Rattle.o2_changes.specs.Worlds.{LosesOne, MatchesDrop, MatchesHold}
+use Rattle.o2_changes.specs.Worlds.{MatchesHold}
 use Rattle.o2_stands.specs.Stands.{Matches}
 use Rattle.o2_world.specs.World.{Held, Process, World}
 use Rattle.o2_world.specs.Holders.{process_at}
-use Rattle.o2_world.specs.Known.{Known, Marks}
+use Rattle.o2_world.specs.Known.{Marks}
 use Rattle.o2_world.specs.Changes.{Change, Drops, with_all, with_changes}
-use Rattle.o2_world.specs.Rulings.{Ruling, aliasing, aliasing_at, aliasing_of, by_load, free_index, freed_cpu, freeing, freeing_cpu, freeing_of, freeing_with, grants, indexes, is_index, is_last, dropped_indexes, refusal, sizing, sizing_of, sizing_with}
+use Rattle.o2_world.specs.Rulings.{Ruling, aliasing, aliasing_at, aliasing_of, free_index, freed_cpu, freeing, freeing_cpu, freeing_of, grants, dropped_indexes, refusal, sizing, sizing_of, sizing_with}
 use Rattle.o2_stands.specs.Knows.{Others, known_in, region_by}
-use Rattle.o2_stands.specs.Parts.{Parts, cause_of, held_in, held_of}
-use Rattle.o2_segs.specs.Answers.{Answers, AreAlone, alias_of}
-use Rattle.o2_segs.proofs.Selecting.{marks_are, under, under_held, under_is}
+use Rattle.o2_stands.specs.Parts.{Parts, held_of}
+use Rattle.o2_segs.specs.Answers.{Answers, alias_of}
+use Rattle.o2_segs.specs.Members.{MatchesFree, MayLose, members_in}
+use Rattle.o2_segs.proofs.Selecting.{marks_are, under, under_is}
 
 abbrev refused : ℕ → Answer
 refused error = record { error = error; value = 0 }
@@ -94,49 +94,6 @@ free_none p o pid s c e = ap (freeing_of (known_in p o) pid s c) (under_is p o p
 pub free_kept : (p : Parts) (o : Others) (pid s : ℕ) (c : Cpu) → freeing (known_in p o) pid s c ≡ refusal 5 → c ≡ freeing_cpu (known_in p o) pid s c
 free_kept p o pid s c e = ap (λ (r : Ruling). freed_cpu (known_in p o) pid (dropped_indexes r.changes) c) (sym e)
 
--- the row of a segment alone
-alone_of : (k : Known) (pid s : ℕ) (c : Cpu) (h : Held) → h.reserved ≡ 0
-    → freeing_of k pid s c (Some h) ≡ cond (by_load h.cause || (is_index c.cs (s / 8) || is_index c.ss (s / 8))) (refusal 5) (grants 0 (Drops pid (s / 8) 1 ∷ []))
-alone_of k pid s c h alone = go (h.reserved == 0) (eq-eqb h.reserved 0 alone) (by_load h.cause)
-  where
-    last : (b : Bool) → cond (b || false) (refusal 5) (grants 0 (Drops pid (s / 8) 1 ∷ [])) ≡ cond b (refusal 5) (grants 0 (Drops pid (s / 8) 1 ∷ []))
-    last true = refl
-    last false = refl
-
-    go : (z : Bool) → z ≡ true → (l : Bool)
-        → cond (l || (not z && not (h.first == s / 8))) (refusal 5) (freeing_with pid c (cond z ((s / 8) ∷ []) (filter (λ (i : ℕ). is_some (k.held pid i)) (indexes h.first h.reserved))))
-        ≡ cond (l || (is_index c.cs (s / 8) || is_index c.ss (s / 8))) (refusal 5) (grants 0 (Drops pid (s / 8) 1 ∷ []))
-    go true e true = refl
-    go true e false = last (is_index c.cs (s / 8) || is_index c.ss (s / 8))
-    go false e l = absurd (cc)
-
-pub free_is : (p : Parts) (o : Others) (pid s : ℕ) (c : Cpu) (h : HeldThere) → under p.maps pid s ≡ Some h → h.reserved ≡ 0
-    → freeing (known_in p o) pid s c ≡ cond (by_load (cause_of h.cause) || (is_index c.cs (s / 8) || is_index c.ss (s / 8))) (refusal 5) (grants 0 (Drops pid (s / 8) 1 ∷ []))
-free_is p o pid s c h e alone = ap (freeing_of (known_in p o) pid s c) (under_is p o pid s ∙ ap (option_map (held_of p.maps pid (s / 8))) e) ∙ alone_of (known_in p o) pid s c (held_of p.maps pid (s / 8) h) alone
-
--- DS and ES behind a drop
-abbrev pub cleared : Cpu → ℕ → ℕ → Cpu
-cleared c i left = record c { ds = cond (is_index c.ds i && eqb left 0) 0 c.ds; es = cond (is_index c.es i && eqb left 0) 0 c.es }
-
--- the registers behind a free of a segment alone
-left_one : (n left : ℕ) → 0 < n → left ≡ n - 1 → nat_le n 1 ≡ eqb left 0
-left_one n left some is = grind (arith, nat_tests)
-
-pub free_registers : (p : Parts) (o : Others) (pid s left : ℕ) (c : Cpu) (h : HeldThere) → freeing (known_in p o) pid s c ≡ grants 0 (Drops pid (s / 8) 1 ∷ []) → held_at p.maps pid (s / 8) ≡ Some h → 0 < h.holds → left ≡ h.holds - 1
-    → freeing_cpu (known_in p o) pid s c ≡ record c { ds = cond (is_index c.ds (s / 8) && eqb left 0) 0 c.ds; es = cond (is_index c.es (s / 8) && eqb left 0) 0 c.es }
-unfolding held_in
-free_registers p o pid s left c h e there some is =
-    ap (λ (r : Ruling). freed_cpu (known_in p o) pid (dropped_indexes r.changes) c) e
-    ∙ ap (λ (x : Option HeldThere). let y : Option Held = option_map (held_of p.maps pid (s / 8)) x in
-    record c { ds = cond ((is_index c.ds (s / 8) && is_last y) || false) 0 c.ds; es = cond ((is_index c.es (s / 8) && is_last y) || false) 0 c.es }) there
-    ∙ ap (λ (b : Bool). record c { ds = cond ((is_index c.ds (s / 8) && b) || false) 0 c.ds; es = cond ((is_index c.es (s / 8) && b) || false) 0 c.es }) (left_one h.holds left some is)
-    ∙ ap (λ (b : Bool). record c { ds = cond b 0 c.ds; es = cond ((is_index c.es (s / 8) && eqb left 0) || false) 0 c.es }) (or_no (is_index c.ds (s / 8) && eqb left 0))
-    ∙ ap (λ (b : Bool). record c { ds = cond (is_index c.ds (s / 8) && eqb left 0) 0 c.ds; es = cond b 0 c.es }) (or_no (is_index c.es (s / 8) && eqb left 0))
-  where
-    or_no : (b : Bool) → (b || false) ≡ b
-    or_no true = refl
-    or_no false = refl
-
 -- An error, and what it leaves.
 
 pub refusal_answers : (r : Ruling) (error : ℕ) (a : Answer) → r ≡ refusal error → a ≡ record { error = error; value = 0 } → Answers r a
@@ -185,21 +142,10 @@ alias_all_matches p o sh m n pid s h w x some es em e t full aliased at q =
     (subst (λ (y : Maps). (i : ℕ) → chosen (is_taken y (Private pid)) 1 4096 1 ≡ Some i → MatchesHold p.shelf y n pid i (alias_of h.id) readable_code) (sym em)
     (subst (λ (z : Shelf). (i : ℕ) → chosen (is_taken m (Private pid)) 1 4096 1 ≡ Some i → MatchesHold z m n pid i (alias_of h.id) readable_code) (sym es) aliased)) at q)
 
--- the free of a segment alone, by the maps of a machine
-pub free_refused : (p : Parts) (o : Others) (m : Maps) (pid s : ℕ) (c : Cpu) (h : HeldThere) → AreAlone m → p.maps ≡ m → under m pid s ≡ Some h
-    → (by_load (cause_of h.cause) || (is_index c.cs (s / 8) || is_index c.ss (s / 8))) ≡ true → freeing (known_in p o) pid s c ≡ refusal 5
-free_refused p o m pid s c h alone em e t =
-    free_is p o pid s c h (at_maps p m pid s (Some h) em e) (alone.each pid (s / 8) h (under_held m pid s h e).1)
-    ∙ cond-true (by_load (cause_of h.cause) || (is_index c.cs (s / 8) || is_index c.ss (s / 8))) (refusal 5) (grants 0 (Drops pid (s / 8) 1 ∷ [])) t
-
-pub free_done : (p : Parts) (o : Others) (m : Maps) (pid s : ℕ) (c : Cpu) (h : HeldThere) → AreAlone m → p.maps ≡ m → under m pid s ≡ Some h
-    → (by_load (cause_of h.cause) || (is_index c.cs (s / 8) || is_index c.ss (s / 8))) ≡ false → freeing (known_in p o) pid s c ≡ grants 0 (Drops pid (s / 8) 1 ∷ [])
-free_done p o m pid s c h alone em e t =
-    free_is p o pid s c h (at_maps p m pid s (Some h) em e) (alone.each pid (s / 8) h (under_held m pid s h e).1)
-    ∙ cond-false (by_load (cause_of h.cause) || (is_index c.cs (s / 8) || is_index c.ss (s / 8))) (refusal 5) (grants 0 (Drops pid (s / 8) 1 ∷ [])) t
-
-pub free_matches : (p : Parts) (o : Others) (sh t : Shelf) (m n : Maps) (pid s i : ℕ) (c : Cpu) (w : World) (x : Process) → freeing (known_in p o) pid s c ≡ grants 0 (Drops pid (s / 8) 1 ∷ []) → i ≡ s / 8 → MatchesDrop sh t m n pid i
-    → p.shelf ≡ sh → p.maps ≡ m → process_at w.processes pid ≡ Some x → LosesOne w pid (s / 8) → Matches p w → Matches (record p { shelf = t; maps = n }) (with_all w (freeing (known_in p o) pid s c).changes)
-free_matches p o sh t m n pid s i c w x e is drop es em at loses q =
+-- the free of all that is held under an index
+pub all_matches : (p : Parts) (o : Others) (sh t : Shelf) (m n : Maps) (pid s i : ℕ) (c : Cpu) (h : HeldThere) (w : World) (x : Process)
+    → freeing (known_in p o) pid s c ≡ grants 0 (map (λ (j : ℕ). Drops pid j 1) (members_in m pid i h)) → i ≡ s / 8 → MatchesFree sh t m n pid i h
+    → p.shelf ≡ sh → p.maps ≡ m → process_at w.processes pid ≡ Some x → MayLose w pid (s / 8) → Matches p w → Matches (record p { shelf = t; maps = n }) (with_all w (freeing (known_in p o) pid s c).changes)
+all_matches p o sh t m n pid s i c h w x e is frees es em at loses q =
     subst (λ (r : Ruling). Matches (record p { shelf = t; maps = n }) (with_all w r.changes)) (sym e)
-    ((subst (MatchesDrop sh t m n pid) is drop).world p w x es em at loses q)
+    (frees.world p w x es em at (subst (MayLose w pid) (sym is) loses) q)

@@ -8,7 +8,6 @@ use Rattle.o2_store.specs.declared.brought.Brought.TheVariants.{Here, Stale, NoR
 use Rattle.o2_place.specs.declared.seg_id.SegId.{SegId}
 use Rattle.o2_regions.specs.declared.held.Cause.TheVariants.{Alias}
 use Rattle.o2_regions.specs.declared.held.Held.{Held}
-use Rattle.o2_regions.specs.Maps.{Maps, held_at}
 use Rattle.o2_world.specs.Changes.{Change}
 use Rattle.o2_world.specs.Rulings.{Ruling}
 
@@ -16,10 +15,6 @@ use Rattle.o2_world.specs.Rulings.{Ruling}
 pub record Answers (r : Ruling) (a : Answer) : Type 0 where
   pub error : a.error ≡ r.error
   pub value : a.value ≡ r.value
-
--- nobody holds a run of a huge allocation
-pub record AreAlone (m : Maps) : Type 0 where
-  pub each : (pid i : ℕ) (h : Held) → held_at m pid i ≡ Some h → h.reserved ≡ 0
 
 -- a segment as it is held under an alias
 abbrev pub alias_of : SegId → Held

@@ -2,3 +2,4 @@ pub mod Answers
 pub mod Made
 pub mod Limits
 pub mod Sharing
+pub mod Members

@@ -6,17 +6,15 @@ use Rattle.o2_regions.specs.declared.answer.Roomed.{Roomed}
 use Rattle.o2_regions.specs.declared.answer.Roomed.TheVariants.{Done, NoRoom, SwapFull, SwapFault}
 use Rattle.o2_regions.specs.Maps.{Maps}
 use Rattle.o2_store.specs.Shelf.{Shelf, entry_or}
-use Rattle.o2_segs.specs.Answers.{AreAlone}
 use Rattle.o2_segs.specs.Sharing.{AreHeldAtMost, KeepsShares}
 
--- The memory is as large, as many segments may live, at most so many were made, and nobody holds a run of a huge allocation where
--- nobody did; nothing is held more often than before but for so many holds; and what processes share stays as it was.
+-- The memory is as large, as many segments may live, and at most so many were made; nothing is held more often than before but for so
+-- many holds; and what processes share stays as it was.
 pub record KeepsLimitsBy (s : Shelf) (m : Maps) (t : Shelf) (n : Maps) (more holds : ℕ) : Type 0 where
   pub size : t.places.size ≡ s.places.size
   pub count : length t.entries ≡ length s.entries
   pub made : t.made ≤ s.made + more
   pub grows : s.made ≤ t.made
-  pub alone : AreAlone m → AreAlone n
   pub few : (k : ℕ) → 1 ≤ k → AreHeldAtMost m k → AreHeldAtMost n (k + holds)
   pub shares : KeepsShares s m t n s.made
 
@@ -29,7 +27,6 @@ pub record IsUndone (s : Shelf) (m : Maps) (t : Shelf) (n : Maps) : Type 0 where
   pub size : t.places.size ≡ s.places.size
   pub count : length t.entries ≡ length s.entries
   pub made : s.made ≡ t.made + 1
-  pub alone : AreAlone m → AreAlone n
   pub few : (k : ℕ) → 1 ≤ k → AreHeldAtMost m k → AreHeldAtMost n (k + 0)
   pub shares : KeepsShares s m t n t.made
 

@@ -13,6 +13,6 @@ pub use allocating::alloc_seg;
 pub use asking::{
     ACCESS_DENIED, INVALID_PARAMETER, NOT_ENOUGH_MEMORY, done, held_under, refusal, stop_of,
 };
-pub use freeing::free_seg;
+pub use freeing::{end_of_run, free_seg, is_later};
 pub use reallocating::realloc_seg;
 pub use sizing::size_seg;

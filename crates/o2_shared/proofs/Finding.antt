@@ -1,12 +1,12 @@
 -- What is found among the names, and what a new name leaves.
-use Rattle.std.proofs.Common.{◌≡◌, ℕ, zero, suc, ◌+◌, ◌<◌, ◌==◌, ◌&&◌, Bool, true, false, cond, List, [], ◌∷◌, Option, Some, None, IsSome, is_some, length, get_or, set, drop, refl, sym, ap, ◌∙◌, subst, arith}
+use Rattle.std.proofs.Common.{◌≡◌, ℕ, zero, suc, ◌+◌, ◌<◌, ◌==◌, ◌&&◌, Bool, true, false, cond, List, [], ◌∷◌, Option, Some, None, IsSome, is_some, length, get_or, set, refl, sym, ap, ◌∙◌, subst, arith}
 use Rattle.std.proofs.lemmas.Bool.{and_parts, cond-false, cond-true, eq-eqb, eqb-true, false_from_ne_true}
-use Rattle.std.proofs.lemmas.List.{at_drop_more}
 use Rattle.o2_place.specs.declared.seg_id.SegId.{SegId}
 use Rattle.o2_store.specs.Shelf.{Shelf, entry_of}
 use Rattle.o2_world.specs.Known.{same_text}
 use Rattle.o2_shared.specs.declared.names.Name.{Name}
-use Rattle.o2_shared.specs.Texts.{IsNamed, age_of, found_from, found_or, live_in}
+use Rattle.o2_shared.specs.NameOrder.{LacksText, name_at}
+use Rattle.o2_shared.specs.Texts.{AreDistinct, IsNamed, age_of, found_from, found_or, live_in, live_of}
 
 -- Texts.
 
@@ -50,9 +50,6 @@ live_same s u t None same = refl
 live_same s u t (Some k) same = ap (λ (b : Bool). cond (same_text k.text t && b) (Some k.id) None) (same k refl)
 
 -- The names from a place on.
-
-pub found_step : (s : Shelf) (t : List ℕ) (names : List (Option Name)) (place index : ℕ) → place < length names → found_from s t (drop place names) index ≡ found_or index (live_in s t (get_or names place None)) (found_from s t (drop (place + 1) names) (index + 1))
-found_step s t names place index l = at_drop_more (λ (xs : List (Option Name)). found_from s t xs index) names place None l
 
 -- what is found is the name of a place
 pub record IsFound (s : Shelf) (t : List ℕ) (names : List (Option Name)) (index : ℕ) (f : ℕ × SegId) : Type 0 where
@@ -104,6 +101,47 @@ found_none s (o ∷ ks) index (suc place) k e named = found_none s ks (index + 1
     rest : (x : Option SegId) → found_or index x (found_from s k.text ks (index + 1)) ≡ None → found_from s k.text ks (index + 1) ≡ None
     rest None e = e
     rest (Some id) e = absurd (cc)
+
+-- Where no two names have one text, it is found where the one name that has it lives.
+
+pub found_nowhere : (s : Shelf) (t : List ℕ) (names : List (Option Name)) → LacksText names t → found_from s t names 4096 ≡ None
+found_nowhere s t names nobody = go (found_from s t names 4096) refl
+  where
+    go : (o : Option (ℕ × SegId)) → found_from s t names 4096 ≡ o → o ≡ None
+    go None e = refl
+    go (Some f) e = let x = found_is s t names 4096 f e in absurd (nobody.other x.place x.name x.named.there x.text)
+
+module _ (s : Shelf) (t : List ℕ) (names : List (Option Name)) (place : ℕ) (k : Name) (distinct : AreDistinct names) (there : name_at names place ≡ Some k) (text : k.text ≡ t) where
+  -- what is found is that name
+  only : (f : ℕ × SegId) → found_from s t names 4096 ≡ Some f → (f ≡ (4096 + place, k.id)) × IsSome (entry_of s k.id)
+  only f e =
+      let x = found_is s t names 4096 f e in
+      let same : x.place ≡ place = distinct.once x.place place x.name k x.named.there there (x.text ∙ sym text) in
+      let z : Some x.name ≡ Some k = sym x.named.there ∙ ap (name_at names) same ∙ there in
+      let name : x.name ≡ k = cc in
+      let index : f.0 ≡ 4096 + place = x.index_is ∙ ap (λ (i : ℕ). 4096 + i) same in
+      let id : f.1 ≡ k.id = x.id_is ∙ ap (λ (y : Name). y.id) name in
+      (ap (λ (i : ℕ). let p : ℕ × SegId = (i, f.1) in p) index ∙ ap (λ (j : SegId). let p : ℕ × SegId = (4096 + place, j) in p) id, ap (λ (y : Name). is_some (entry_of s y.id)) (sym name) ∙ x.named.lives)
+
+  by_life : (alive : Bool) → is_some (entry_of s k.id) ≡ alive → (o : Option (ℕ × SegId)) → found_from s t names 4096 ≡ o → o ≡ cond alive (Some (4096 + place, k.id)) None
+  by_life true is None e = absurd (found_none s names 4096 place k (ap (λ (u : List ℕ). found_from s u names 4096) text ∙ e) (record { there = there; lives = is }))
+  by_life true is (Some f) e = ap (λ (p : ℕ × SegId). Some p) (only f e).0
+  by_life false is None e = refl
+  by_life false is (Some f) e = absurd (let z : false ≡ true = sym is ∙ (only f e).1 in cc)
+
+  pub found_alive : (id : SegId) → live_of s (Some k) ≡ Some id → found_from s t names 4096 ≡ Some (4096 + place, id)
+  found_alive id e = go (is_some (entry_of s k.id)) refl e
+    where
+      go : (b : Bool) → is_some (entry_of s k.id) ≡ b → cond b (Some k.id) None ≡ Some id → found_from s t names 4096 ≡ Some (4096 + place, id)
+      go true is f = by_life true is (found_from s t names 4096) refl ∙ (let same : k.id ≡ id = cc in ap (λ (j : SegId). let p : Option (ℕ × SegId) = Some (4096 + place, j) in p) same)
+      go false is f = absurd (cc)
+
+  pub found_dead : live_of s (Some k) ≡ None → found_from s t names 4096 ≡ None
+  found_dead e = go (is_some (entry_of s k.id)) refl e
+    where
+      go : (b : Bool) → is_some (entry_of s k.id) ≡ b → cond b (Some k.id) None ≡ None → found_from s t names 4096 ≡ None
+      go true is f = absurd (cc)
+      go false is f = by_life false is (found_from s t names 4096) refl
 
 -- A new name.
 

@@ -10,10 +10,8 @@ use Rattle.o2_regions.specs.declared.held.Region.TheVariants.{Private, Shared}
 use Rattle.o2_regions.specs.Maps.{Maps, held_at, holds_of, more_of, region_of}
 use Rattle.o2_store.specs.Shelf.{Shelf}
 use Rattle.o2_changes.specs.Holding.{Grants}
-use Rattle.o2_segs.specs.Answers.{AreAlone}
 use Rattle.o2_segs.specs.Limits.{KeepsLimitsBy}
 use Rattle.o2_segs.specs.Sharing.{AreHeldAtMost, IsHeldOnly, ShareOne}
-use Rattle.o2_segs.proofs.Limits.{alone_granted}
 use Rattle.o2_world.specs.Rulings.{indexes}
 use Rattle.o2_shared.specs.declared.names.Name.{Name}
 use Rattle.o2_shared.specs.Shares.{StillHolds, share_of}
@@ -89,17 +87,12 @@ module _ (s : Shelf) (m n : Maps) (from to i access : ℕ) (h : Held) (at : held
       go q j true e = (let a : holds_of (held_at n q j) ≡ holds_of (more_of (held_at m to i) (share_of h)) = ap holds_of e in let b = more (held_at m to i) (most.each to i) in omega (arith, a, b))
       go q j false e = (let a : holds_of (held_at n q j) ≡ holds_of (held_at m q j) = ap holds_of e in let b = most.each q j in omega (arith, a, b))
 
-  -- nobody holds a run where nobody did
-  share_alone : AreAlone m → AreAlone n
-  share_alone alone = alone_granted m n to i access (share_of h) (alone.each from i h at) grants alone
-
   pub share_limits : KeepsLimitsBy s m s n 0 1
   share_limits = record {
     size = refl;
     count = refl;
     made = omega arith;
     grows = omega arith;
-    alone = share_alone;
     few = share_few;
     shares = record { one = share_one; lived = λ id old alive. alive; only = λ j id high old alive was. share_only j id was };
   }

@@ -3,6 +3,9 @@ pub mod Dying
 pub mod Finding
 pub mod Folding
 pub mod Holders
+pub mod Leaving
 pub mod NewNames
+pub mod Ordered
+pub mod Runs
 pub mod Shares
 pub mod Staying

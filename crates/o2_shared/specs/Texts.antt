@@ -1,12 +1,17 @@
 -- The names of shared segments as they are kept: a place for each shared index has the name of the segment that was last named
 -- under it, or nothing. A name counts as long as its segment lives.
-use Rattle.std.specs.Prelude.{◌≡◌, ℕ, ◌+◌, ◌<◌, ◌&&◌, List, [], ◌∷◌, Option, Some, None, IsSome, is_some, if◌then◌else◌, slice_index_or}
+use Rattle.std.specs.Prelude.{◌≡◌, ℕ, ◌+◌, ◌<◌, ◌&&◌, Bool, false, List, [], ◌∷◌, map, Option, Some, None, IsSome, is_some, if◌then◌else◌, slice_index_or}
 use Rattle.o2_place.specs.declared.seg_id.SegId.{SegId}
 use Rattle.o2_regions.specs.Maps.{Maps}
 use Rattle.o2_store.specs.Shelf.{Shelf, entry_of}
 use Rattle.o2_world.specs.Known.{same_text, text_name}
 use Rattle.o2_shared.specs.declared.names.Name.{Name}
 pub use Rattle.o2_segs.specs.Sharing.{IsHeldOnly}
+
+-- the segment of a name, where it lives
+abbrev pub live_of : Shelf → Option Name → Option SegId
+live_of s None = None
+live_of s (Some k) = if is_some (entry_of s k.id) then Some k.id else None
 
 -- the segment of a name, where it has the text and the segment lives
 abbrev pub live_in : Shelf → List ℕ → Option Name → Option SegId
@@ -39,6 +44,23 @@ pub record AreTexts (s : Shelf) (names : List (Option Name)) (text : List ℕ �
 pub record IsNamed (s : Shelf) (names : List (Option Name)) (place : ℕ) (k : Name) : Type 0 where
   pub there : slice_index_or names place None ≡ Some k
   pub lives : IsSome (entry_of s k.id)
+
+-- no two names have one text
+pub record AreDistinct (names : List (Option Name)) : Type 0 where
+  pub once : (place other : ℕ) (k l : Name) → slice_index_or names place None ≡ Some k → slice_index_or names other None ≡ Some l → k.text ≡ l.text → place ≡ other
+
+-- whether a place has a name of this text
+abbrev pub has_text : List ℕ → Option Name → Bool
+has_text text None = false
+has_text text (Some k) = same_text k.text text
+
+-- a place's name, unless it has this text
+abbrev pub other_than : List ℕ → Option Name → Option Name
+other_than text name = if has_text text name then None else name
+
+-- the names but that of this text
+abbrev pub without : List ℕ → List (Option Name) → List (Option Name)
+without text names = map (other_than text) names
 
 -- A named segment that lives is held under the shared index of its name alone, and no two of them have one text. What was named
 -- is older than what is made next.

@@ -10,26 +10,25 @@ ghost use Rattle.o2_world.specs.Changes.{with_all};
 ghost use Rattle.o2_world.specs.Holders.{process_at};
 ghost use Rattle.o2_world.specs.SharedRulings.{getting};
 ghost use Rattle.o2_world.specs.World.{Process, World};
-ghost use Rattle.o2_segs.specs.Answers.{Answers, AreAlone};
+ghost use Rattle.o2_segs.specs.Answers.{Answers};
 ghost use Rattle.o2_segs.specs.Limits.{KeepsLimitsBy};
 ghost use Rattle.o2_shared.specs.declared.names.Name.{Name};
 ghost use Rattle.o2_shared.specs.Shares.{AreFew, ShareOne, StillHolds};
 ghost use Rattle.o2_shared.specs.Texts.{AreInPlace};
 
-use crate::sharing::{first_held, is_gettable, share};
+use crate::sharing::{Flag, first_held, may_be_shared, share_all};
 use o2_base::Selector;
 use o2_regions::{Answer, Regions};
 use o2_segs::{ACCESS_DENIED, done, refusal};
 use o2_store::Store;
 
-/// DosGetSeg(sel): the caller holds once more what another process holds under that shared selector. 5 where nobody holds a
-/// gettable segment there. No run of a huge allocation is held.
+/// DosGetSeg(sel): the caller holds once more what another process holds under that shared selector, or each member of the run that
+/// begins there. 5 where nobody holds a gettable segment there, or one in a run but not its first.
 #[tactic(auto, using(crate::proofs::Holders::still_refl, o2_segs::proofs::Limits::limits_none))]
 pub fn get_seg(store: &mut Store, regions: &mut Regions, pid: u16, sel: u16) -> Answer
     requires process { IsProcess regions.old pid }
     requires named { AreNamed store.old regions.old }
     requires order { IsInOrder store.old regions.old }
-    requires alone { AreAlone regions.old }
     requires one { ShareOne regions.old }
     requires few { AreFew regions.old }
 
@@ -55,10 +54,10 @@ pub fn get_seg(store: &mut Store, regions: &mut Regions, pid: u16, sel: u16) -> 
     let index = selector.index();
     match first_held(regions, index) {
         Some((from, held)) => {
-            if !is_gettable(store, index, held) {
+            if !may_be_shared(store, regions, from, index, held, Flag::Gettable) {
                 return refusal(ACCESS_DENIED);
             }
-            share(store, regions, from, pid, index, held);
+            share_all(store, regions, from, pid, index, held);
             done(0)
         }
         None => refusal(ACCESS_DENIED),

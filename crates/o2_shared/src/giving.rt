@@ -10,20 +10,21 @@ ghost use Rattle.o2_stands.specs.Stands.{AreMarked, Matches};
 ghost use Rattle.o2_world.specs.Changes.{with_all};
 ghost use Rattle.o2_world.specs.SharedRulings.{giving};
 ghost use Rattle.o2_world.specs.World.{World};
-ghost use Rattle.o2_segs.specs.Answers.{Answers, AreAlone};
+ghost use Rattle.o2_segs.specs.Answers.{Answers};
 ghost use Rattle.o2_segs.specs.Limits.{KeepsLimitsBy};
 ghost use Rattle.o2_shared.specs.declared.names.Name.{Name};
 ghost use Rattle.o2_shared.specs.Shares.{AreFew, ShareOne, StillHolds};
 ghost use Rattle.o2_shared.specs.Texts.{AreInPlace};
 
-use crate::sharing::{INVALID_PROCESS, is_giveable, selector_at, share};
+use crate::sharing::{Flag, INVALID_PROCESS, may_be_shared, selector_at, share_all};
 use o2_base::Selector;
 use o2_regions::{Answer, Ends, Regions};
 use o2_segs::{ACCESS_DENIED, done, held_under, refusal};
 use o2_store::Store;
 
-/// DosGiveSeg(sel, pid, psel): the process `to` holds once more what the caller holds; its value is the same selector. 5 where
-/// the caller holds nothing there, or no giveable segment; 303 where no process `to` lives. No run of a huge allocation is held.
+/// DosGiveSeg(sel, pid, psel): the process `to` holds once more what the caller holds, or each member of the run that begins there;
+/// its value is the same selector. 5 where the caller holds nothing there, no giveable segment, or one in a run but not its first;
+/// 303 where no process `to` lives.
 #[tactic(auto, using(crate::proofs::Holders::still_refl, o2_segs::proofs::Limits::limits_none))]
 pub fn give_seg(
     store: &mut Store,
@@ -36,7 +37,6 @@ pub fn give_seg(
     requires process { IsProcess regions.old pid }
     requires named { AreNamed store.old regions.old }
     requires order { IsInOrder store.old regions.old }
-    requires alone { AreAlone regions.old }
     requires one { ShareOne regions.old }
     requires few { AreFew regions.old }
     requires living { (n : ℕ) → lives ends.now n ≡ true → IsProcess regions.old n }
@@ -59,13 +59,13 @@ pub fn give_seg(
     match held_under(regions, pid, sel) {
         Some(held) => {
             let index = Selector(sel).index();
-            if !is_giveable(store, index, held) {
+            if !may_be_shared(store, regions, pid, index, held, Flag::Giveable) {
                 return refusal(ACCESS_DENIED);
             }
             if !ends.is_live(to) {
                 return refusal(INVALID_PROCESS);
             }
-            share(store, regions, pid, to, index, held);
+            share_all(store, regions, pid, to, index, held);
             done(selector_at(index))
         }
         None => refusal(ACCESS_DENIED),

@@ -12,7 +12,7 @@ ghost use Rattle.o2_world.specs.Holders.{process_at};
 ghost use Rattle.o2_world.specs.SharedNames.{name_by};
 ghost use Rattle.o2_world.specs.SharedRulings.{index_of, sharing, sharing_at};
 ghost use Rattle.o2_world.specs.World.{Process, World};
-ghost use Rattle.o2_segs.specs.Answers.{Answers, AreAlone};
+ghost use Rattle.o2_segs.specs.Answers.{Answers};
 ghost use Rattle.o2_segs.specs.Limits.{KeepsLimitsBy};
 ghost use Rattle.o2_shared.specs.declared.names.Name.{Name};
 ghost use Rattle.o2_shared.specs.Shares.{AreFew, ShareOne, StillHolds, is_share_of};
@@ -32,7 +32,7 @@ const FILE_NOT_FOUND: u16 = 2;
 
 /// DosGetShrSeg(name, psel): the caller holds once more the segment that has a name; its value is the segment's shared selector.
 /// The text is that up to a zero, or 129 bytes where none of them is one. 123 where it is no name, 2 where no segment of that
-/// name lives. No run of a huge allocation is held.
+/// name lives.
 #[tactic(auto, using(crate::proofs::Holders::still_refl, o2_segs::proofs::Limits::limits_none))]
 pub fn get_shr_seg(
     store: &mut Store,
@@ -44,7 +44,6 @@ pub fn get_shr_seg(
     requires process { IsProcess regions.old pid }
     requires named { AreNamed store.old regions.old }
     requires order { IsInOrder store.old regions.old }
-    requires alone { AreAlone regions.old }
     requires one { ShareOne regions.old }
     requires few { AreFew regions.old }
     requires places { AreInPlace store.old regions.old names.old }
@@ -85,7 +84,6 @@ fn share_named(store: &Store, regions: &mut Regions, pid: u16, index: u16, id: S
     requires held { IsHeldOnly regions.old index id }
     requires named { AreNamed store.now regions.old }
     requires order { IsInOrder store.now regions.old }
-    requires alone { AreAlone regions.old }
     requires one { ShareOne regions.old }
     requires few { AreFew regions.old }
 

@@ -12,13 +12,16 @@ ghost use Rattle.o2_segs.specs.Limits.{KeepsLimitsBy};
 ghost use Rattle.o2_stands.specs.Parts.{cause_of};
 ghost use Rattle.o2_world.specs.Rulings.{by_load};
 ghost use Rattle.o2_shared.specs.declared.names.Name.{Name};
-ghost use Rattle.o2_shared.specs.Shares.{StillHolds, holder_in, is_share_of, is_shareable, share_of};
+ghost use Rattle.o2_segbus.specs.Seen.{AreNamed};
+ghost use Rattle.o2_segs.specs.Members.{members_in, run_in};
+ghost use Rattle.o2_shared.specs.Shares.{AllCalled, AreFew, IsCalledAt, MatchesShares, ShareOne, SharesAt, StillHolds, are_shareable, held_alone, holder_in, is_share_of, is_shareable, is_shareable_at, may_share_all, number_of, share_of};
 ghost use Rattle.o2_shared.specs.Texts.{AreInPlace};
 
 use o2_base::Selector;
 use o2_changes::hold_more;
 use o2_place::SegId;
 use o2_regions::{Cause, Held, Regions};
+use o2_segs::{end_of_run, is_later};
 use o2_store::{Attr, Store};
 
 /// ERROR_INVALID_PROCID: no process of that number lives.
@@ -60,6 +63,169 @@ pub(crate) fn is_gettable(store: &Store, index: u16, held: Held) -> bool
     match store.attr(held.id) {
         Some(attr) => is_given(attr, index, held.cause, attr.flags / GETTABLE % 2 == 1),
         None => false,
+    }
+}
+
+/// By which call a segment may come to another process.
+#[derive(Clone, Copy, Debug, PartialEq, Eq)]
+pub(crate) enum Flag {
+    /// Its holder may give it.
+    Giveable,
+    /// Any process may get it.
+    Gettable,
+}
+
+// Whether what is held at an index is a segment that a call made, that is shared and that has the flag.
+fn is_shared_with(store: &Store, index: u16, held: Held, flag: Flag) -> bool
+    requires live { IsSome (entry_of store.now held.id) }
+    ensures { result ≡ is_shareable store.now (number_of flag) index held }
+{
+    match flag {
+        Flag::Giveable => is_giveable(store, index, held),
+        Flag::Gettable => is_gettable(store, index, held),
+    }
+}
+
+/// Whether what a process holds at an index may come to another process: it isn't in a run or is its first, and all that is held
+/// under the index, the segment there or each member of its run, was made by calls, is shared and has the flag.
+pub(crate) fn may_be_shared(
+    store: &Store,
+    regions: &Regions,
+    pid: u16,
+    index: u16,
+    held: Held,
+    flag: Flag,
+) -> bool
+    requires process { IsProcess regions.now pid }
+    requires index { index < 8192 }
+    requires named { AreNamed store.now regions.now }
+    requires held { held_at regions.now pid index ≡ Some held }
+    ensures { result ≡ may_share_all store.now regions.now (number_of flag) pid index held }
+{
+    !is_later(index, held) && are_shared_with(store, regions, pid, index, held, flag)
+}
+
+// Whether all that a process holds under an index, the segment there or each member of its run, was made by calls, is shared and has
+// the flag.
+fn are_shared_with(
+    store: &Store,
+    regions: &Regions,
+    pid: u16,
+    index: u16,
+    held: Held,
+    flag: Flag,
+) -> bool
+    requires process { IsProcess regions.now pid }
+    requires index { index < 8192 }
+    requires named { AreNamed store.now regions.now }
+    requires held { held_at regions.now pid index ≡ Some held }
+    ensures { result ≡ are_shareable store.now regions.now (number_of flag) pid (members_in regions.now pid index held) }
+{
+    if held.reserved == 0 {
+        return is_shared_at(store, regions, pid, index, flag);
+    }
+    for at in held.first..end_of_run(held) {
+        if !is_shared_at(store, regions, pid, at, flag) {
+            return false;
+        }
+    }
+    true
+}
+
+// Whether what a process holds at an index, if it holds something there, was made by a call, is shared and has the flag.
+fn is_shared_at(store: &Store, regions: &Regions, pid: u16, index: u16, flag: Flag) -> bool
+    requires process { IsProcess regions.now pid }
+    requires index { index < 8192 }
+    requires named { AreNamed store.now regions.now }
+    ensures { result ≡ is_shareable_at store.now (number_of flag) index (held_at regions.now pid index) }
+{
+    match regions.held(pid, index) {
+        Some(held) => is_shared_with(store, index, held, flag),
+        None => true,
+    }
+}
+
+/// A process holds once more all that another one holds under a shared index: the segment there, or each member of its run.
+pub(crate) fn share_all(
+    store: &Store,
+    regions: &mut Regions,
+    from: u16,
+    to: u16,
+    index: u16,
+    held: Held,
+)
+    requires from { IsProcess regions.old from }
+    requires to { IsProcess regions.old to }
+    requires index { index < 8192 }
+    requires held { held_at regions.old from index ≡ Some held }
+    requires shared { AllCalled regions.old from (members_in regions.old from index held) }
+    requires one { ShareOne regions.old }
+    requires few { AreFew regions.old }
+    requires named { AreNamed store.now regions.old }
+    requires order { IsInOrder store.now regions.old }
+
+    ensures still { StillHolds regions.old regions.new }
+    ensures limits { KeepsLimitsBy store.now regions.old store.now regions.new 0 1 }
+    ensures places { (names : List (Option Name)) → AreInPlace store.now regions.old names
+        → AreInPlace store.now regions.new names }
+    ensures order { IsInOrder store.now regions.new }
+    ensures guards { IsGuarded store.now regions.old → IsGuarded store.now regions.new }
+    ensures processes { regions.new.processes ≡ regions.old.processes }
+    ensures matches { MatchesShares store.now regions.old regions.new from to (members_in regions.old from index held) }
+{
+    if held.reserved == 0 {
+        share_at(store, regions, from, to, index);
+    } else {
+        share_run(store, regions, from, to, held);
+    }
+}
+
+// A process holds once more each member of a run that another one holds.
+fn share_run(store: &Store, regions: &mut Regions, from: u16, to: u16, held: Held)
+    requires from { IsProcess regions.old from }
+    requires to { IsProcess regions.old to }
+    requires shared { AllCalled regions.old from (run_in regions.old from held) }
+    requires one { ShareOne regions.old }
+    requires few { AreFew regions.old }
+    requires named { AreNamed store.now regions.old }
+    requires order { IsInOrder store.now regions.old }
+
+    ensures still { StillHolds regions.old regions.new }
+    ensures limits { KeepsLimitsBy store.now regions.old store.now regions.new 0 1 }
+    ensures places { (names : List (Option Name)) → AreInPlace store.now regions.old names
+        → AreInPlace store.now regions.new names }
+    ensures order { IsInOrder store.now regions.new }
+    ensures guards { IsGuarded store.now regions.old → IsGuarded store.now regions.new }
+    ensures processes { regions.new.processes ≡ regions.old.processes }
+    ensures matches { MatchesShares store.now regions.old regions.new from to (run_in regions.old from held) }
+{
+    for at in held.first..end_of_run(held) {
+        share_at(store, regions, from, to, at);
+    }
+}
+
+// A process holds once more what another one holds at an index, if it holds something there.
+fn share_at(store: &Store, regions: &mut Regions, from: u16, to: u16, index: u16)
+    requires from { IsProcess regions.old from }
+    requires to { IsProcess regions.old to }
+    requires index { index < 8192 }
+    requires called { IsCalledAt regions.old from index }
+    requires one { ShareOne regions.old }
+    requires few { holds_of (held_at regions.old to index) + 1 < 2 ^ 32 }
+    requires named { AreNamed store.now regions.old }
+    requires order { IsInOrder store.now regions.old }
+
+    ensures shares { SharesAt regions.old regions.new from to index }
+    ensures still { StillHolds regions.old regions.new }
+    ensures limits { KeepsLimitsBy store.now regions.old store.now regions.new 0 1 }
+    ensures places { (names : List (Option Name)) → AreInPlace store.now regions.old names
+        → AreInPlace store.now regions.new names }
+    ensures order { IsInOrder store.now regions.new }
+    ensures guards { IsGuarded store.now regions.old → IsGuarded store.now regions.new }
+    ensures matches { MatchesShares store.now regions.old regions.new from to (held_alone regions.old from index) }
+{
+    if let Some(held) = regions.held(from, index) {
+        share(store, regions, from, to, index, held);
     }
 }
 

@@ -1,8 +1,11 @@
 // A text of at most 128 bytes.
 ghost use Rattle.std.specs.Prelude.{◌≡◌, ◌≤◌, length};
+ghost use Rattle.std.specs.Ordering.{nat_cmp};
+ghost use Rattle.std.specs.Cmp.Lexicographic.{slice_cmp};
 ghost use Rattle.o2_world.specs.Known.{same_text};
 ghost use Rattle.o2_world.specs.SharedNames.{folded};
 
+use std::cmp::Ordering;
 use std::marker::Model;
 
 /// The most bytes of a name, without its zero.
@@ -39,6 +42,15 @@ impl Text {
             bytes,
             len: text.len(),
         }
+    }
+
+    /// How it compares with another text, byte by byte.
+    pub(crate) fn compare(&self, other: &Text) -> Ordering
+        ensures { result ≡ slice_cmp nat_cmp self.now other.now }
+    {
+        let own = &self.bytes[..self.len];
+        let others = &other.bytes[..other.len];
+        own.cmp(&others)
     }
 
     /// Whether it is a text whose ASCII letters may be of either case.

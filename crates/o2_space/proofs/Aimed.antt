@@ -20,13 +20,14 @@ use Rattle.o2_service.specs.Told.{IsHeldWell}
 use Rattle.o2_place.specs.declared.seg_id.SegId.{SegId}
 use Rattle.o2_shared.specs.Shares.{StillHolds}
 use Rattle.o2_calls.proofs.SharedOver.{keeps_still}
+use Rattle.o2_gate.specs.declared.huge.HugeArguments.TheVariants as huge
 use Rattle.o2_gate.specs.declared.sharing.SharedArguments.TheVariants.{Name, Share, Give, Get}
 use Rattle.o2_gate.specs.declared.text.TextArgument.{TextArgument}
 use Rattle.o2_gate.specs.SharedReplies.{text_target}
 use Rattle.o2_ends.proofs.Letting.{live_id}
 use Rattle.o2_segs.specs.Limits.{KeepsEntries}
 use Rattle.o2_gate.specs.declared.gathering.SegmentArguments.{SegmentArguments}
-use Rattle.o2_gate.specs.declared.gathering.SegmentArguments.TheVariants.{Alloc, Realloc, Free, Size, Lock, Unlock, Alias, Shared}
+use Rattle.o2_gate.specs.declared.gathering.SegmentArguments.TheVariants.{Alloc, Realloc, Free, Size, Lock, Unlock, Alias, Shared, Huge}
 use Rattle.o2_gate.specs.Gathers.{targets}
 use Rattle.o2_gate.specs.Pointed.{are_ready, pointer}
 use Rattle.o2_calls.specs.Stops.{LeavesEntries, LeavesHolds}
@@ -180,6 +181,11 @@ module _ (s t : Shelf) (m n : Maps) (pid : ℕ) (well : IsHeldWell s m) (named :
   aimed_kept (Shared (Give y to z o)) a b holds entries stays ready =
       all_of (is_ready is_writable (seen t n pid b) z o 2) true true (pointer_kept z holds entries stays is_writable a b o 2 (left_of (is_ready is_writable (seen s m pid a) z o 2) true ready)) refl refl
   aimed_kept (Shared (Get z)) a b holds entries stays ready = refl
+  aimed_kept (Huge (huge.Alloc segs part z o most flags)) a b holds entries stays ready =
+      all_of (is_ready is_writable (seen t n pid b) z o 2) true true (pointer_kept z (keeps_still m n holds) entries stays is_writable a b o 2 (left_of (is_ready is_writable (seen s m pid a) z o 2) true ready)) refl refl
+  aimed_kept (Huge (huge.Realloc segs part z)) a b holds entries stays ready = refl
+  aimed_kept (Huge (huge.Shift z o)) a b holds entries stays ready =
+      all_of (is_ready is_writable (seen t n pid b) z o 2) true true (pointer_kept z (keeps_still m n holds) entries stays is_writable a b o 2 (left_of (is_ready is_writable (seen s m pid a) z o 2) true ready)) refl refl
 
 -- What a ready pointer names is held.
 
@@ -209,3 +215,6 @@ live_aimed s m pid (Shared (Name size x z o)) well = live_more s (pair_of (held_
 live_aimed s m pid (Shared (Share x z o)) well = live_more s (pair_of (held_under m pid x.selector)) (pair_of (held_under m pid z)) (live_pair s m pid x.selector well) (live_pair s m pid z well)
 live_aimed s m pid (Shared (Give y to z o)) well = live_pair s m pid z well
 live_aimed s m pid (Shared (Get z)) well = record { each = λ i p e. absurd (none_some e) }
+live_aimed s m pid (Huge (huge.Alloc segs part z o most flags)) well = live_pair s m pid z well
+live_aimed s m pid (Huge (huge.Realloc segs part z)) well = record { each = λ i p e. absurd (none_some e) }
+live_aimed s m pid (Huge (huge.Shift z o)) well = live_pair s m pid z well

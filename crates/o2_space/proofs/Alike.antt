@@ -31,4 +31,4 @@ module _ (s : Shelf) (m : Maps) (images : ImageList) (device : ℕ) (b c : ℕ �
 
 -- what goes together does so whatever the services work on
 pub retold : {m : Space} {device : ℕ} {services : Services} → GoTogether m device → GoTogether (record m { services = services }) device
-retold t = record { ready = t.ready; numbers = t.numbers; marked = t.marked; alone = t.alone; whole = t.whole; one = t.one; places = t.places }
+retold t = record { ready = t.ready; numbers = t.numbers; marked = t.marked; whole = t.whole; one = t.one; places = t.places }

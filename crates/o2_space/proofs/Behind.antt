@@ -20,7 +20,7 @@ use Rattle.o2_world.specs.Effect.{effect}
 use Rattle.o2_world.proofs.MapLemmas.{get-map}
 use Rattle.o2_stands.specs.Parts.{Parts}
 use Rattle.o2_stands.specs.Stands.{AreLawful, IsNamed, IsReady, IsSegment, IsSetTo, Stands, StandsIn}
-use Rattle.o2_stands.proofs.Moves.{SameFor, same_keys, stands_as, tidy_written}
+use Rattle.o2_stands.proofs.Moves.{SameFor, same_keys, sizes_kept, stands_as, tidy_written}
 use Rattle.o2_stepping.specs.Ran.{IsDone, IsStill}
 use Rattle.o2_stepping.specs.Shapes.{SameShape}
 use Rattle.o2_stepping.specs.Taken.{Takes, TakesFault}
@@ -98,12 +98,15 @@ module _ (p : Parts) (t : Shelf) (n : Maps) (device : ℕ) (block : ℕ → List
       key_is : (name : ℕ) → IsNamed p (key_of t name) (get w.names name)
       key_is name = subst (λ (o : Option ℕ). IsNamed p o (get w.names name)) (sym (same_keys p.shelf t shape.tables name)) (stands.segments name)
 
+      all_written : (name : ℕ) → IsNamed q (key_of t name) (get (with_bytes w.names bytes) name)
+      all_written name =
+          subst (λ (v : Option Segment). IsNamed q (key_of t name) v) (sym (get-map (λ (a : ℕ) (x : Segment). record x { bytes = bytes a }) w.names name))
+          (written name (key_of t name) (get w.names name) refl (key_is name))
+
       pub stands_written : StandsIn q w.processes (with_bytes w.names bytes) w.next_name w.reserved
       stands_written =
-          stands_as p q w.processes w.names (with_bytes w.names bytes) w.next_name w.reserved same_for ready stands
-          (λ name. subst (λ (v : Option Segment). IsNamed q (key_of t name) v) (sym (get-map (λ (a : ℕ) (x : Segment). record x { bytes = bytes a }) w.names name))
-          (written name (key_of t name) (get w.names name) refl (key_is name)))
-          (tidy_written w.processes w.names w.reserved bytes stands.tidy)
+          stands_as p q w.processes w.names (with_bytes w.names bytes) w.next_name w.reserved same_for ready stands all_written
+          (tidy_written w.processes w.names w.reserved bytes (sizes_kept p q w.names bytes same_for stands.segments all_written) stands.tidy)
 
       pub stands_unwritten : ((name : ℕ) → bytes name ≡ bytes_in w.names name) → Stands q w
       stands_unwritten b =

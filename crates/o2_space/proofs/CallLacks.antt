@@ -12,25 +12,25 @@ use Rattle.o2_store.specs.Loads.{live_load, live_load_at, memory_load, swap_load
 use Rattle.o2_store.specs.Needs.{all_wanted, named_in, wanted}
 use Rattle.o2_store.specs.Shelf.{entry, entry_or, rounded}
 use Rattle.o2_store.specs.Sizes.{all_wanted_at, stays, wanted_at}
-use Rattle.o2_swapmap.specs.Piles.{all_of}
 use Rattle.o2_segbus.specs.Seen.{hold_in, key_of, seen}
 use Rattle.o2_service.specs.Needs.{segments_of}
 use Rattle.o2_world.specs.Calls.{Before}
 use Rattle.o2_world.specs.Known.{known_of}
 use Rattle.o2_world.specs.Map.{Map, get}
-use Rattle.o2_world.specs.Rulings.{full_size}
+use Rattle.o2_world.specs.Rulings.{Ruling, full_size}
 use Rattle.o2_world.specs.Run.{next_dispatch}
 use Rattle.o2_world.specs.Tied.{IsSound}
 use Rattle.o2_world.specs.World.{Process, Segment, Setting, World, is_live}
 use Rattle.o2_gate.specs.declared.gathering.SegmentArguments.{SegmentArguments}
-use Rattle.o2_gate.specs.declared.gathering.SegmentArguments.TheVariants.{Alloc, Realloc, Free, Size, Lock, Unlock, Alias, Shared}
+use Rattle.o2_gate.specs.declared.gathering.SegmentArguments.TheVariants.{Alloc, Realloc, Free, Size, Lock, Unlock, Alias, Shared, Huge}
+use Rattle.o2_gate.specs.declared.huge.HugeArguments.TheVariants as huge
 use Rattle.o2_gate.specs.Gathers.{targets}
 use Rattle.o2_gate.specs.Pointed.{are_ready}
 use Rattle.o2_run.specs.Room.{is_locked, larger, live_load as world_live, load_between, load_next, of_both, room, room_between, seated, size_of, swap_load, touched}
 use Rattle.o2_run.specs.Stops.{IsSwapFull}
 use Rattle.o2_calls.specs.Acts.{MayStop, ruling_of}
-use Rattle.o2_calls.specs.Stops.{LacksMemory, LacksRoom, LacksSwap, held_by}
-use Rattle.o2_calls.specs.Tellings.{HoldsAlone}
+use Rattle.o2_calls.specs.Stops.{LacksMemory, LacksRoom, LacksRun, LacksRunMemory, LacksSwap, held_by}
+use Rattle.o2_regions.specs.declared.answer.Roomed.TheVariants.{NoRoom}
 use Rattle.o2_stands.specs.Parts.{Parts}
 use Rattle.o2_stands.specs.Sums.{AreAtLeast, counts}
 use Rattle.o2_stands.proofs.Rooms.{swap_is}
@@ -41,15 +41,31 @@ use Rattle.o2_stepping.proofs.Asked.{touched_asked}
 use Rattle.o2_stepping.proofs.Named.{both_in, one_of, or_back, or_front}
 use Rattle.o2_stepping.proofs.NextRooms.{live_least, no_room, takes_least}
 use Rattle.o2_space.proofs.CallRooms.{behind_is, holds, needed_wanted, room_is, v, want}
-use Rattle.o2_space.proofs.CallStops.{at_most, counted_larger, facts, lock_over, make_over, named_was, new_over, of_some, part_least, size_held, size_over, sized_least, slot_here, slot_other, same_size, there}
+use Rattle.o2_space.proofs.CallStops.{at_most, counted_larger, facts, lock_over, make_over, named_was, new_over, of_some, part_least, run_over, size_held, size_over, sized_least, slot_here, slot_other, same_size, there}
 use Rattle.o2_space.proofs.Keeps.{ages_need, named_age, passes_for}
 use Rattle.o2_space.proofs.Sides.{in_old, load_room}
+
+-- a call comes to no error; of one on a run this isn't asked
+abbrev pub HasNoError : SegmentArguments → Ruling → Type 0
+HasNoError (Huge y) r = Unit {0}
+HasNoError y r = r.error ≡ 0
+
+no_error : (y : SegmentArguments) (r : Ruling) → r.error ≡ 0 → HasNoError y r
+no_error (Alloc size z o flags) r none = none
+no_error (Realloc size z) r none = none
+no_error (Free z) r none = none
+no_error (Size q z o) r none = none
+no_error (Lock z) r none = none
+no_error (Unlock z) r none = none
+no_error (Alias q z o) r none = none
+no_error (Shared q) r none = none
+no_error (Huge q) r none = tt
 
 same_key : (k key : ℕ) (f : ℕ → ℕ) → (k == key) ≡ true → f k ≤ f key
 same_key k key f e = (let q = ap f (eqb-true k key e) in omega (arith, q))
 
 module _ (p : Parts) (s : Setting) (w : World) (x : Process) (next : IsNext p s w x) (live : is_live x.state ≡ true) (sound : IsSound w) (a : SegmentArguments) (following : ℕ)
-    (call : IsCallOf (next_start s w x) a following) (alone : (m i : ℕ) → HoldsAlone (known_of s w) m i) where
+    (call : IsCallOf (next_start s w x) a following) where
   abbrev pid : ℕ
   pid = (next_dispatch s w).current
 
@@ -57,10 +73,10 @@ module _ (p : Parts) (s : Setting) (w : World) (x : Process) (next : IsNext p s 
   b = next_start s w x
 
   abbrev behind : Map Segment
-  behind = (v p s w x next live sound a following call alone).names
+  behind = (v p s w x next live sound a following call).names
 
   abbrev wants : List ℕ
-  wants = want p s w x next live sound a following call alone
+  wants = want p s w x next live sound a following call
 
   -- Room.
 
@@ -83,17 +99,17 @@ module _ (p : Parts) (s : Setting) (w : World) (x : Process) (next : IsNext p s 
         by : (is_in n (seated (bound_registers (hold_in p.maps pid) c)) ≡ true) ⊎ (is_in n (ages_of (aimed_in p.maps pid a)) ≡ true) → (is_in n (seated b.view.registers) || is_in n (touched b)) ≡ true
         by (inl h) =
             or_front (is_in n (seated b.view.registers)) (is_in n (touched b))
-            (subst (λ (f : ℕ → Option Hold). is_in n (seated (bound_registers f x.cpu)) ≡ true) (sym (holds p s w x next live sound a following call alone))
+            (subst (λ (f : ℕ → Option Hold). is_in n (seated (bound_registers f x.cpu)) ≡ true) (sym (holds p s w x next live sound a following call))
             (subst (λ (r : Cpu). is_in n (seated (bound_registers (hold_in p.maps pid) r)) ≡ true) same h))
         by (inr h) =
             or_back (is_in n (seated b.view.registers)) (is_in n (touched b))
             (ap (is_in n) (touched_asked b a following call)
-            ∙ passes_for p.shelf p.maps pid c b.view (holds p s w x next live sound a following call alone) (λ k. refl) a stops n ready h)
+            ∙ passes_for p.shelf p.maps pid c b.view (holds p s w x next live sound a following call) (λ k. refl) a stops n ready h)
 
     named_wanted : (n k : ℕ) → key_of p.shelf n ≡ Some k → named_in p.shelf.entries (segments_of kept) k ≡ true → is_in n wants ≡ true
     named_wanted n k key named =
-        let f = facts p s w x next live sound a following call alone n k key in
-        needed_wanted p s w x next live sound a following call alone n (kept_needed n (ap (λ (m : ℕ). is_in m (ages_of kept)) (sym f.2) ∙ named_age p.shelf kept k named))
+        let f = facts p s w x next live sound a following call n k key in
+        needed_wanted p s w x next live sound a following call n (kept_needed n (ap (λ (m : ℕ). is_in m (ages_of kept)) (sym f.2) ∙ named_age p.shelf kept k named))
 
     abbrev stay_weight : ℕ → ℕ
     stay_weight k = if nat_lt 0 (entry p.shelf k).attr.lock || named_in p.shelf.entries (segments_of kept) k then rounded (entry p.shelf k).size else 0
@@ -102,22 +118,28 @@ module _ (p : Parts) (s : Setting) (w : World) (x : Process) (next : IsNext p s 
     stays_least = record {
       none = λ k gone. no_room (nat_lt 0 (entry p.shelf k).attr.lock || named_in p.shelf.entries (segments_of kept) k) (entry p.shelf k).size (ap (λ (o : Option Entry). (entry_or o).size) gone);
       each = λ n k key.
-          (let f = facts p s w x next live sound a following call alone n k key in
+          (let f = facts p s w x next live sound a following call n k key in
           takes_least (nat_lt 0 (entry p.shelf k).attr.lock) (named_in p.shelf.entries (segments_of kept) k) (is_in n wants) (is_locked (get w.names n)) (is_locked (get behind n))
           (size_of (get w.names n)) (size_of (get behind n)) (entry p.shelf k).size (named_wanted n k key) f.1 f.0);
     }
 
     more_than : (n : ℕ) → p.shelf.places.size < n → n ≤ room_between w.names behind wants → s.memory < room s w
     more_than n above below =
-        (let r = room_is p s w x next live sound a following call alone in
+        (let r = room_is p s w x next live sound a following call in
         let memory = next.set.memory in
         omega (arith, above, below, r, memory))
 
-    lacks_for : (z : SegmentArguments) → a ≡ z → (ruling_of z (known_of s w) pid x.cpu).error ≡ 0 → MayStop z → LacksRoom z p.shelf p.maps pid (segments_of kept) → s.memory < room s w
-    lacks_for (Alloc size o f flags) is none may lacks =
+    counted : (n k : ℕ) → key_of p.shelf n ≡ Some k → (nat_lt 0 (entry p.shelf k).attr.lock ≡ true) ⊎ (named_in p.shelf.entries (segments_of kept) k ≡ true) → counts w.names behind wants n ≡ true
+    counted n k at (inl locked) =
+        or_back (is_in n wants) _ (or_front (is_locked (get w.names n)) (is_locked (get behind n)) ((facts p s w x next live sound a following call n k at).1 ∙ locked))
+    counted n k at (inr named) = or_front (is_in n wants) _ (named_wanted n k at named)
+
+    lacks_for : (z : SegmentArguments) → a ≡ z → (ruling_of z (known_of s w) pid x.cpu).error ≡ 0 → MayStop z → LacksRoom z p.shelf p.maps pid (segments_of kept)
+        → LacksRun z p.shelf (known_of s w) pid x.cpu (segments_of kept) NoRoom → s.memory < room s w
+    lacks_for (Alloc size o f flags) is none may lacks run =
         let t = lacks.store in
         let id = lacks.id in
-        let made = make_over p s w x next live sound a following call alone wants stay_weight stays_least size o f flags is none may in
+        let made = make_over p s w x next live sound a following call wants stay_weight stays_least size o f flags is none may in
         let most =
         new_over p.shelf t id (full_size size) flags lacks.adds (wanted t id.key (segments_of kept)) stay_weight others (rounded (full_size size)) here in
         let whole_size = same_size p.shelf t id (full_size size) flags lacks.adds in
@@ -138,26 +160,21 @@ module _ (p : Parts) (s : Setting) (w : World) (x : Process) (next : IsNext p s 
             let size_is = ap (λ (o : Option Entry). rounded (entry_or o).size) slot in
             let l = at_most (nat_lt 0 (entry lacks.store lacks.id.key).attr.lock || (lacks.id.key == lacks.id.key || named_in lacks.store.entries (segments_of kept) lacks.id.key)) (rounded (entry lacks.store lacks.id.key).size) in
             omega (arith, size_is, l))
-    lacks_for (Realloc size z) is none may lacks =
-        let held = size_held p s w x next live sound a following call alone size z none in
+    lacks_for (Realloc size z) is none may lacks run =
+        let held = size_held p s w x next live sound a following call size z none in
         let h = held.0 in
         let both = of_some (λ y. (stays p.shelf y.id.key (segments_of kept) ≡ true) × (p.shelf.places.size < all_wanted_at p.shelf y.id.key (segments_of kept) (full_size size))) (held_by p.maps pid z) h held.1 lacks in
         let sized =
-        size_over p s w x next live sound a following call alone wants stay_weight stays_least size z is none h held.1
+        size_over p s w x next live sound a following call wants stay_weight stays_least size z is none h held.1
         (λ n key. counted n h.id.key key (one_of (nat_lt 0 (entry p.shelf h.id.key).attr.lock) (named_in p.shelf.entries (segments_of kept) h.id.key) both.0)) in
         let most =
         over-le (wanted_at p.shelf h.id.key (segments_of kept) (full_size size)) (λ k. if k == h.id.key then rounded (full_size size) else stay_weight k) (length p.shelf.entries)
         (λ k l. sized_least (nat_lt 0 (entry p.shelf k).attr.lock) (k == h.id.key) (named_in p.shelf.entries (segments_of kept) k) (rounded (entry p.shelf k).size) (rounded (full_size size))) in
         more_than (all_wanted_at p.shelf h.id.key (segments_of kept) (full_size size)) both.1 (omega (arith, sized, most))
-      where
-        counted : (n k : ℕ) → key_of p.shelf n ≡ Some k → (nat_lt 0 (entry p.shelf k).attr.lock ≡ true) ⊎ (named_in p.shelf.entries (segments_of kept) k ≡ true) → counts w.names behind wants n ≡ true
-        counted n k key (inl locked) =
-            or_back (is_in n wants) _ (or_front (is_locked (get w.names n)) (is_locked (get behind n)) ((facts p s w x next live sound a following call alone n k key).1 ∙ locked))
-        counted n k key (inr named) = or_front (is_in n wants) _ (named_wanted n k key named)
-    lacks_for (Free z) is none may lacks = absurd lacks
-    lacks_for (Size y z o) is none may lacks = absurd lacks
-    lacks_for (Lock z) is none may lacks =
-        let l = lock_over p s w x next live sound a following call alone wants stay_weight stays_least z is none in
+    lacks_for (Free z) is none may lacks run = absurd lacks
+    lacks_for (Size y z o) is none may lacks run = absurd lacks
+    lacks_for (Lock z) is none may lacks run =
+        let l = lock_over p s w x next live sound a following call wants stay_weight stays_least z is none in
         let h = l.1 in
         let key = h.held.id.key in
         let more = of_some (λ y. p.shelf.places.size < all_wanted p.shelf y.id.key (segments_of kept)) (held_by p.maps pid z) h.held h.under lacks in
@@ -166,12 +183,24 @@ module _ (p : Parts) (s : Setting) (w : World) (x : Process) (next : IsNext p s 
         (same_key k key (λ j. rounded (entry p.shelf j).size))) in
         let below = l.2 in
         more_than (all_wanted p.shelf key (segments_of kept)) more (omega (arith, below, most))
-    lacks_for (Unlock z) is none may lacks = absurd lacks
-    lacks_for (Alias y z o) is none may lacks = absurd lacks
-    lacks_for (Shared y) is none may lacks = absurd lacks
+    lacks_for (Unlock z) is none may lacks run = absurd lacks
+    lacks_for (Alias y z o) is none may lacks run = absurd lacks
+    lacks_for (Shared y) is none may lacks run = absurd lacks
+    lacks_for (Huge (huge.Alloc segs part z o most flags)) is none may lacks run = absurd may
+    lacks_for (Huge (huge.Realloc segs part z)) is none may lacks run =
+        let key = run.id.key in
+        let both = run.holds in
+        let sized =
+        run_over p s w x next live sound a following call wants stay_weight stays_least (huge.Realloc segs part z) is run.id run.size run.rest run.live run.change
+        (λ n at. counted n run.id.key at (one_of (nat_lt 0 (entry p.shelf run.id.key).attr.lock) (named_in p.shelf.entries (segments_of kept) run.id.key) both.0)) in
+        let most =
+        over-le (wanted_at p.shelf key (segments_of kept) run.size) (λ k. if k == key then rounded run.size else stay_weight k) (length p.shelf.entries)
+        (λ k l. sized_least (nat_lt 0 (entry p.shelf k).attr.lock) (k == key) (named_in p.shelf.entries (segments_of kept) k) (rounded (entry p.shelf k).size) (rounded run.size)) in
+        more_than (all_wanted_at p.shelf key (segments_of kept) run.size) both.1 (omega (arith, sized, most))
+    lacks_for (Huge (huge.Shift z o)) is none may lacks run = absurd may
 
-    pub lacks_call : (ruling_of a (known_of s w) pid x.cpu).error ≡ 0 → LacksRoom a p.shelf p.maps pid (segments_of kept) → s.memory < room s w
-    lacks_call none lacks = lacks_for a refl none stops lacks
+    pub lacks_call : (ruling_of a (known_of s w) pid x.cpu).error ≡ 0 → LacksRoom a p.shelf p.maps pid (segments_of kept) → LacksRun a p.shelf (known_of s w) pid x.cpu (segments_of kept) NoRoom → s.memory < room s w
+    lacks_call none lacks run = lacks_for a refl none stops lacks run
 
   -- Swap: all that lives counts.
 
@@ -182,8 +211,8 @@ module _ (p : Parts) (s : Setting) (w : World) (x : Process) (next : IsNext p s 
   loads_least = record {
     none = λ k gone. (let z : (entry p.shelf k).size ≡ 0 = ap (λ (o : Option Entry). (entry_or o).size) gone in omega (arith, z));
     each = λ n k key.
-        (let size = (facts p s w x next live sound a following call alone n k key).0 in
-        counted_larger (counts w.names behind all n) (memory_load p.shelf k) (larger w.names behind n) (or_front (is_in n all) _ (in_old w.names behind n (there p s w x next live sound a following call alone n k key)))
+        (let size = (facts p s w x next live sound a following call n k key).0 in
+        counted_larger (counts w.names behind all n) (memory_load p.shelf k) (larger w.names behind n) (or_front (is_in n all) _ (in_old w.names behind n (there p s w x next live sound a following call n k key)))
         (omega (arith, size)));
   }
 
@@ -191,7 +220,7 @@ module _ (p : Parts) (s : Setting) (w : World) (x : Process) (next : IsNext p s 
   unfolding world_live
   live_is =
       ap (load_next s w (next_dispatch s w)) next.chosen
-      ∙ ap (λ (z : World). load_between w.names z.names) (behind_is p s w x next live sound a following call alone)
+      ∙ ap (λ (z : World). load_between w.names z.names) (behind_is p s w x next live sound a following call)
 
   short_by : (n : ℕ) → p.shelf.places.size < n → n ≤ room_between w.names behind all → s.memory < world_live s w
   short_by n above below =
@@ -200,11 +229,12 @@ module _ (p : Parts) (s : Setting) (w : World) (x : Process) (next : IsNext p s 
       let rooms = load_room w.names behind in
       omega (arith, memory, live_all, rooms, above, below)
 
-  short_for : (z : SegmentArguments) → a ≡ z → (ruling_of z (known_of s w) pid x.cpu).error ≡ 0 → MayStop z → LacksMemory z p.shelf p.maps pid → s.memory < world_live s w
-  short_for (Alloc size o f flags) is none may lacks =
+  short_for : (z : SegmentArguments) → a ≡ z → HasNoError z (ruling_of z (known_of s w) pid x.cpu) → MayStop z → LacksMemory z p.shelf p.maps pid → LacksRunMemory z p.shelf (known_of s w) pid x.cpu
+      → s.memory < world_live s w
+  short_for (Alloc size o f flags) is none may lacks run =
       let t = lacks.store in
       let id = lacks.id in
-      let made = make_over p s w x next live sound a following call alone all (memory_load p.shelf) loads_least size o f flags is none may in
+      let made = make_over p s w x next live sound a following call all (memory_load p.shelf) loads_least size o f flags is none may in
       let most = new_over p.shelf t id (full_size size) flags lacks.adds (memory_load t) (memory_load p.shelf) others (rounded (full_size size)) here in
       let whole_size = same_size p.shelf t id (full_size size) flags lacks.adds in
       let more = lacks.holds in
@@ -215,30 +245,37 @@ module _ (p : Parts) (s : Setting) (w : World) (x : Process) (next : IsNext p s 
 
       here : memory_load lacks.store lacks.id.key ≤ rounded (full_size size)
       here = (let slot = ap (λ (o : Option Entry). rounded (entry_or o).size) (slot_here p.shelf lacks.store lacks.id (full_size size) flags lacks.adds) in omega (arith, slot))
-  short_for (Realloc size z) is none may lacks =
-      let held = size_held p s w x next live sound a following call alone size z none in
+  short_for (Realloc size z) is none may lacks run =
+      let held = size_held p s w x next live sound a following call size z none in
       let h = held.0 in
       let more = of_some (λ y. p.shelf.places.size < live_load_at p.shelf y.id.key (full_size size)) (held_by p.maps pid z) h held.1 lacks in
       let sized =
-      size_over p s w x next live sound a following call alone all (memory_load p.shelf) loads_least size z is none h held.1
-      (λ n key. or_front (is_in n all) _ (in_old w.names behind n (there p s w x next live sound a following call alone n h.id.key key))) in
+      size_over p s w x next live sound a following call all (memory_load p.shelf) loads_least size z is none h held.1
+      (λ n key. or_front (is_in n all) _ (in_old w.names behind n (there p s w x next live sound a following call n h.id.key key))) in
       short_by (live_load_at p.shelf h.id.key (full_size size)) more sized
-  short_for (Free z) is none may lacks = absurd lacks
-  short_for (Size y z o) is none may lacks = absurd lacks
-  short_for (Lock z) is none may lacks =
+  short_for (Free z) is none may lacks run = absurd lacks
+  short_for (Size y z o) is none may lacks run = absurd lacks
+  short_for (Lock z) is none may lacks run =
       (let live_all = live_least p s w next.lawful next.set next.stands in
       let memory = next.set.memory in
       omega (arith, live_all, memory, lacks))
-  short_for (Unlock z) is none may lacks = absurd lacks
-  short_for (Alias y z o) is none may lacks = absurd lacks
-  short_for (Shared y) is none may lacks = absurd lacks
+  short_for (Unlock z) is none may lacks run = absurd lacks
+  short_for (Alias y z o) is none may lacks run = absurd lacks
+  short_for (Shared y) is none may lacks run = absurd lacks
+  short_for (Huge (huge.Alloc segs part z o most flags)) is none may lacks run = absurd may
+  short_for (Huge (huge.Realloc segs part z)) is none may lacks run =
+      let sized =
+      run_over p s w x next live sound a following call all (memory_load p.shelf) loads_least (huge.Realloc segs part z) is run.id run.size run.rest run.live run.change
+      (λ n key. or_front (is_in n all) _ (in_old w.names behind n (there p s w x next live sound a following call n run.id.key key))) in
+      short_by (live_load_at p.shelf run.id.key run.size) run.holds sized
+  short_for (Huge (huge.Shift z o)) is none may lacks run = absurd may
 
-  pub short_call : (ruling_of a (known_of s w) pid x.cpu).error ≡ 0 → MayStop a → LacksMemory a p.shelf p.maps pid → s.memory < world_live s w
-  short_call none may lacks = short_for a refl none may lacks
+  pub short_call : HasNoError a (ruling_of a (known_of s w) pid x.cpu) → MayStop a → LacksMemory a p.shelf p.maps pid → LacksRunMemory a p.shelf (known_of s w) pid x.cpu → s.memory < world_live s w
+  short_call none may lacks run = short_for a refl none may lacks run
 
-  pub full_call : (ruling_of a (known_of s w) pid x.cpu).error ≡ 0 → MayStop a → LacksSwap a p.shelf p.maps pid → IsSwapFull p.device s w
-  full_call none may lacks =
+  pub full_call : (ruling_of a (known_of s w) pid x.cpu).error ≡ 0 → MayStop a → LacksSwap a p.shelf p.maps pid → LacksRunMemory a p.shelf (known_of s w) pid x.cpu → IsSwapFull p.device s w
+  full_call none may lacks run =
       let blocks = next.set.blocks in
       let load : swap_load w ≡ store_swap p.shelf = swap_is p w.processes w.names w.next_name w.reserved next.lawful next.stands in
       let more = lacks.0 in
-      record { swap = omega (arith, blocks, load, more); memory = short_call none may lacks.1 }
+      record { swap = omega (arith, blocks, load, more); memory = short_call (no_error a (ruling_of a (known_of s w) pid x.cpu) none) may lacks.1 run }

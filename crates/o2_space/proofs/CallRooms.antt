@@ -1,6 +1,7 @@
 -- The room of the world's next step that is a call on segments: it fits where the call is made.
 use Rattle.std.proofs.Common.{◌≡◌, ◌⊎◌, inl, inr, ℕ, ◌-◌, ◌/◌, ◌<◌, ◌≤◌, ◌||◌, Bool, true, false, cond, List, [], length, map, Option, Some, None, is_some, IsSome, ap, sym, ◌∙◌, refl, subst, arith, if◌then◌else◌}
 use Rattle.std.specs.Prelude.{nat_lt}
+use Rattle.std.specs.List.{list_any}
 use Rattle.std.proofs.lemmas.Bool.{false≢true}
 use mathlib.Core.Path.{fun_ext}
 use Rattle.o2_conf.specs.Dispatch.{Dispatch}
@@ -14,7 +15,7 @@ use Rattle.o2_segbus.specs.Seen.{hold_in, key_of}
 use Rattle.o2_shared.specs.Shares.{StillHolds}
 use Rattle.o2_calls.proofs.SharedOver.{keeps_still}
 use Rattle.o2_world.specs.Calls.{Before, Effect}
-use Rattle.o2_world.specs.Changes.{Change, Drops, with_all}
+use Rattle.o2_world.specs.Changes.{Change, Drops, takes, with_all}
 use Rattle.o2_world.specs.Holders.{process_at}
 use Rattle.o2_world.specs.Known.{Known, held_at, known_of}
 use Rattle.o2_world.specs.Map.{get}
@@ -28,12 +29,16 @@ use Rattle.o2_world.specs.World.{Held, Process, Segment, Setting, World, is_live
 use Rattle.o2_world.proofs.Numbers.{at_place_of}
 use Rattle.o2_world.proofs.StepMoves.{served_moves}
 use Rattle.o2_gate.specs.declared.gathering.SegmentArguments.{SegmentArguments}
-use Rattle.o2_gate.specs.declared.gathering.SegmentArguments.TheVariants.{Alloc, Realloc, Free, Size, Lock, Unlock, Alias, Shared}
+use Rattle.o2_world.specs.HugeRulings.{huge_reallocation, names_one}
+use Rattle.o2_gate.specs.declared.huge.HugeArguments.{HugeArguments}
+use Rattle.o2_gate.specs.declared.huge.HugeArguments.TheVariants as huge
+use Rattle.o2_gate.specs.declared.gathering.SegmentArguments.TheVariants.{Alloc, Realloc, Free, Size, Lock, Unlock, Alias, Shared, Huge}
 use Rattle.o2_gate.specs.Gathers.{row_for}
 use Rattle.o2_run.specs.Room.{Fits, behind, is_locked, need, room, room_between, room_next, seated, seated_in, size_of, untrapped}
 use Rattle.o2_calls.specs.Acts.{ruling_of}
-use Rattle.o2_calls.specs.Stops.{LeavesHolds}
-use Rattle.o2_calls.specs.Tellings.{HoldsAlone, replied_by}
+use Rattle.o2_calls.specs.HugeActs.{huge_ruling}
+use Rattle.o2_calls.specs.Stops.{LeavesHolds, LeavesRunHolds}
+use Rattle.o2_calls.specs.Tellings.{replied_by}
 use Rattle.o2_calls.proofs.Overs.{none_next}
 use Rattle.o2_calls.proofs.Replies.{asked_is}
 use Rattle.o2_stands.specs.Parts.{Parts}
@@ -48,7 +53,8 @@ use Rattle.o2_stepping.specs.Rooms.{needed_names, room_at, room_in}
 use Rattle.o2_stepping.proofs.Asked.{untrapped_asked}
 use Rattle.o2_stepping.proofs.Named.{both_in, one_of, or_front}
 use Rattle.o2_stepping.proofs.NextRooms.{IsLess, bytes_long, takes_most, untrapped_sizes}
-use Rattle.o2_space.proofs.Remains.{IsMore, NoneLess, NoneMore, Remains, all_remains, freed}
+use Rattle.o2_space.proofs.Remains.{IsMore, NoneLess, NoneMore, Remains, SizesRuns, all_remains, cut_less, freed}
+use Rattle.o2_space.proofs.RunSizing.{Cut, Grown, IsSizing, allocation_sizing, grown_takes, reallocation_sizing}
 use Rattle.o2_space.proofs.Seats.{KeepsNames, StaySelectors, all_names_kept, seats_of}
 use Rattle.o2_space.proofs.Sides.{room_from_behind}
 
@@ -66,16 +72,31 @@ free_changes k n z c = go (held_under k n z)
     go None = ([], refl)
     go (Some h) = by_tests (members k n (z / 8) h) (by_load h.cause || is_later (z / 8) h) (in_use c (members k n (z / 8) h))
 
+-- a call that cuts a run
+record CutsRun (a : SegmentArguments) (k : Known) (n : ℕ) (c : Cpu) : Type 0 where
+  run : HugeArguments
+  is : a ≡ Huge run
+  takes_holds : list_any takes (huge_ruling run k n c).changes ≡ true
+
 -- all other calls leave what is held
-frees_or_keeps : (a : SegmentArguments) (m n : Maps) → LeavesHolds a m n → ((z : ℕ) × (a ≡ Free z)) ⊎ StillHolds m n
-frees_or_keeps (Alloc size s o flags) m n h = inr (keeps_still m n h)
-frees_or_keeps (Realloc size z) m n h = inr (keeps_still m n h)
-frees_or_keeps (Free z) m n h = inl (z, refl)
-frees_or_keeps (Size y s o) m n h = inr (keeps_still m n h)
-frees_or_keeps (Lock z) m n h = inr (keeps_still m n h)
-frees_or_keeps (Unlock z) m n h = inr (keeps_still m n h)
-frees_or_keeps (Alias y s o) m n h = inr (keeps_still m n h)
-frees_or_keeps (Shared a) m n h = inr h
+frees_or_keeps : (a : SegmentArguments) (m n : Maps) (k : Known) (number : ℕ) (c : Cpu) → LeavesHolds a m n → LeavesRunHolds a m n k number c
+    → ((z : ℕ) × (a ≡ Free z)) ⊎ (CutsRun a k number c ⊎ StillHolds m n)
+frees_or_keeps (Alloc size s o flags) m n k number c h run = inr (inr (keeps_still m n h))
+frees_or_keeps (Realloc size z) m n k number c h run = inr (inr (keeps_still m n h))
+frees_or_keeps (Free z) m n k number c h run = inl (z, refl)
+frees_or_keeps (Size y s o) m n k number c h run = inr (inr (keeps_still m n h))
+frees_or_keeps (Lock z) m n k number c h run = inr (inr (keeps_still m n h))
+frees_or_keeps (Unlock z) m n k number c h run = inr (inr (keeps_still m n h))
+frees_or_keeps (Alias y s o) m n k number c h run = inr (inr (keeps_still m n h))
+frees_or_keeps (Shared a) m n k number c h run = inr (inr h)
+frees_or_keeps (Huge (huge.Alloc segs part s o most flags)) m n k number c h run = inr (inr (keeps_still m n h))
+frees_or_keeps (Huge (huge.Realloc segs part z)) m n k number c h run = by run
+  where
+    by : LeavesRunHolds (Huge (huge.Realloc segs part z)) m n k number c
+        → ((y : ℕ) × (Huge (huge.Realloc segs part z) ≡ Free y)) ⊎ (CutsRun (Huge (huge.Realloc segs part z)) k number c ⊎ StillHolds m n)
+    by (inl keeps) = inr (inr (keeps_still m n keeps))
+    by (inr cuts) = inr (inl (record { run = huge.Realloc segs part z; is = refl; takes_holds = cuts }))
+frees_or_keeps (Huge (huge.Shift s o)) m n k number c h run = inr (inr (keeps_still m n h))
 
 -- The registers behind a call.
 
@@ -99,6 +120,11 @@ selectors_stay (Lock z) b next = record { es = inl refl; cs = inl refl; ss = inl
 selectors_stay (Unlock z) b next = record { es = inl refl; cs = inl refl; ss = inl refl; ds = inl refl }
 selectors_stay (Alias y s o) b next = record { es = inl refl; cs = inl refl; ss = inl refl; ds = inl refl }
 selectors_stay (Shared a) b next = record { es = inl refl; cs = inl refl; ss = inl refl; ds = inl refl }
+selectors_stay (Huge (huge.Alloc segs part s o most flags)) b next = record { es = inl refl; cs = inl refl; ss = inl refl; ds = inl refl }
+selectors_stay (Huge (huge.Realloc segs part z)) b next =
+    let is : List ℕ = dropped_indexes (huge_reallocation b.known b.number segs part z b.cpu).changes in
+    record { es = cleared (names_one b.cpu.es is) b.cpu.es; cs = inl refl; ss = inl refl; ds = cleared (names_one b.cpu.ds is) b.cpu.ds }
+selectors_stay (Huge (huge.Shift s o)) b next = record { es = inl refl; cs = inl refl; ss = inl refl; ds = inl refl }
 
 lock_above : (k : ℕ) → nat_lt 0 k ≡ true → 0 < k
 lock_above k e = grind arith
@@ -106,7 +132,7 @@ lock_above k e = grind arith
 -- The next step of a world that is a call.
 
 module _ (p : Parts) (s : Setting) (w : World) (x : Process) (next : IsNext p s w x) (live : is_live x.state ≡ true) (sound : IsSound w) (a : SegmentArguments) (following : ℕ)
-    (call : IsCallOf (next_start s w x) a following) (alone : (m i : ℕ) → HoldsAlone (known_of s w) m i) where
+    (call : IsCallOf (next_start s w x) a following) where
   abbrev pub d : Dispatch
   d = next_dispatch s w
 
@@ -127,7 +153,7 @@ module _ (p : Parts) (s : Setting) (w : World) (x : Process) (next : IsNext p s 
   want = need b v.names (process_at v.processes d.current)
 
   effect_is : untrapped b ≡ e
-  effect_is = untrapped_asked b a following call ∙ asked_is b following a alone
+  effect_is = untrapped_asked b a following call ∙ asked_is b following a
 
   pub behind_is : behind w d x b ≡ v
   behind_is = ap (changed w d x) effect_is
@@ -143,7 +169,7 @@ module _ (p : Parts) (s : Setting) (w : World) (x : Process) (next : IsNext p s 
   world_is = refl
 
   moves : AllMoves b e.cpu e.changes
-  moves = subst (λ (f : Effect). AllMoves b f.cpu f.changes) (call.asks ∙ asked_is b following a alone) (served_moves (Some (row_for call.call)) b following)
+  moves = subst (λ (f : Effect). AllMoves b f.cpu f.changes) (call.asks ∙ asked_is b following a) (served_moves (Some (row_for call.call)) b following)
 
   pub sizes : (n : ℕ) → length (e.bytes n) ≡ size_of (get w.names n)
   sizes n = ap (λ (f : Effect). length (f.bytes n)) (sym effect_is) ∙ (untrapped_sizes b n ∙ bytes_long (get w.names n))
@@ -151,8 +177,42 @@ module _ (p : Parts) (s : Setting) (w : World) (x : Process) (next : IsNext p s 
   pub new : get w.names w.next_name ≡ None
   new = none_next w sound.tied
 
+  fresh : (n : ℕ) → w.next_name ≤ n → get w.names n ≡ None
+  fresh n low = go (get w.names n) refl
+    where
+      go : (o : Option Segment) → get w.names n ≡ o → o ≡ None
+      go None f = refl
+      go (Some y) f = absurd (let less = sound.tied.below n (ap is_some f) in omega (arith, less, low))
+
+  run_sizes : SizesRuns w.names b
+  run_sizes = record {
+    made = λ segs part most flags. allocation_sizing s w d.current segs part most flags;
+    sized = λ segs part selector. reallocation_sizing s w sound.tied next.stands.tidy d.current segs part selector x.cpu;
+  }
+
   left : Remains w.names v.names
-  left = subst (λ (z : World). Remains w.names z.names) (sym world_is) (all_remains w d x e sizes new b e.cpu e.changes moves)
+  left = subst (λ (z : World). Remains w.names z.names) (sym world_is) (all_remains w d x e sizes new fresh b run_sizes e.cpu e.changes moves)
+
+  -- a call on a run cuts what it sizes, or none of it
+  pub run_sizing : (y : HugeArguments) → IsSizing w.names (huge_ruling y (known_of s w) d.current x.cpu).changes
+  run_sizing (huge.Alloc segs part z o most flags) = allocation_sizing s w d.current segs part most flags
+  run_sizing (huge.Realloc segs part z) = reallocation_sizing s w sound.tied next.stands.tidy d.current segs part z x.cpu
+  run_sizing (huge.Shift z o) = Cut tt
+
+  pub run_changes_are : (y : HugeArguments) → a ≡ Huge y → e.changes ≡ (huge_ruling y (known_of s w) d.current x.cpu).changes
+  run_changes_are y is = ap (λ (r : SegmentArguments). (ruling_of r (known_of s w) d.current x.cpu).changes) is
+
+  cut_run_less : CutsRun a (known_of s w) d.current x.cpu → (n : ℕ) → IsLess (get v.names n) (get w.names n)
+  cut_run_less cuts n =
+      subst (λ (q : World). IsLess (get q.names n) (get w.names n)) (sym world_is)
+      (subst (λ (xs : List Change). IsLess (get (with_all u xs).names n) (get w.names n)) (sym (run_changes_are cuts.run cuts.is)) (by (run_sizing cuts.run)))
+    where
+      cs : List Change
+      cs = (huge_ruling cuts.run (known_of s w) d.current x.cpu).changes
+
+      by : IsSizing w.names cs → IsLess (get (with_all u cs).names n) (get w.names n)
+      by (Cut are) = cut_less w d x e sizes new cs are n
+      by (Grown z are) = absurd (false≢true (sym (grown_takes w.names z cs are) ∙ cuts.takes_holds))
 
   freed_less : (z : ℕ) → a ≡ Free z → (n : ℕ) → IsLess (get v.names n) (get w.names n)
   freed_less z is n =
@@ -274,16 +334,17 @@ module _ (p : Parts) (s : Setting) (w : World) (x : Process) (next : IsNext p s 
   pub fits_call : (y : Process) → process_at v.processes d.current ≡ Some y → y.cpu ≡ e.cpu
       → (list : List ℕ) → ((n : ℕ) → is_in n (needed_names b) ≡ true → is_in n list ≡ true) → room_in p.shelf list ≤ p.shelf.places.size
       → (q : Parts) → AreLawful q.shelf q.maps → StandsIn q v.processes v.names v.next_name v.reserved → q.shelf.places.size ≡ p.shelf.places.size
-      → (n : Maps) → LeavesHolds a p.maps n
+      → (n : Maps) → LeavesHolds a p.maps n → LeavesRunHolds a p.maps n (known_of s w) d.current x.cpu
       → (StillHolds p.maps n → (m k : ℕ) → key_of q.shelf m ≡ Some k → is_in m (needed_names b) ≡ true → IsSome (place_of q.shelf k)) → Fits true s w
-  fits_call y there cpu list among fit q lawful standing same n leaves here = by (frees_or_keeps a p.maps n leaves)
+  fits_call y there cpu list among fit q lawful standing same n leaves run here = by (frees_or_keeps a p.maps n (known_of s w) d.current x.cpu leaves run)
     where
       before : ((m : ℕ) → IsLess (get v.names m) (get w.names m)) → Fits true s w
       before less = fits_before list (λ m h. among m (wanted y there cpu m h)) less fit
 
-      by : ((z : ℕ) × (a ≡ Free z)) ⊎ StillHolds p.maps n → Fits true s w
+      by : ((z : ℕ) × (a ≡ Free z)) ⊎ (CutsRun a (known_of s w) d.current x.cpu ⊎ StillHolds p.maps n) → Fits true s w
       by (inl frees) = before (freed_less frees.0 frees.1)
-      by (inr keeps) = by_names left
+      by (inr (inl cuts)) = before (cut_run_less cuts)
+      by (inr (inr keeps)) = by_names left
         where
           by_names : Remains w.names v.names → Fits true s w
           by_names (NoneMore less) = before less

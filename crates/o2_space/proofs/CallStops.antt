@@ -1,7 +1,8 @@
 -- What lacks where a call on segments stops lacks in the world.
 use Rattle.std.proofs.Common.{◌≡◌, ◌≢◌, inl, inr, ℕ, ◌+◌, ◌/◌, ◌<◌, ◌≤◌, ◌==◌, ◌&&◌, ◌||◌, Bool, true, false, cond, eqb, List, [], ◌∷◌, length, min, Option, Some, None, is_some, IsSome, IfSome, option_map, ap, sym, ◌∙◌, refl, subst, arith, if◌then◌else◌}
 use Rattle.std.specs.Prelude.{max, nat_le, nat_lt}
-use Rattle.std.proofs.lemmas.Bool.{cases_eq, eqb-true, false≢true}
+use Rattle.std.specs.List.{list_any}
+use Rattle.std.proofs.lemmas.Bool.{cases_eq, cond-false, eqb-true, false≢true}
 use Rattle.std.proofs.lemmas.List.{length-replicate, length-set}
 use Rattle.o2_entries.specs.declared.Entry.{Entry}
 use Rattle.o2_entries.specs.Tables.{slot_at}
@@ -13,12 +14,12 @@ use Rattle.o2_place.proofs.Sums.{only, over-add, over-le, over-only}
 use Rattle.o2_regions.specs.declared.held.Held.{Held as HeldThere}
 use Rattle.o2_regions.specs.Maps.{Maps, held_at as held_there}
 use Rattle.o2_store.specs.Needs.{has_age, is_named, named_in}
-use Rattle.o2_store.specs.Shelf.{Adds, Shelf, entry, rounded}
+use Rattle.o2_store.specs.Shelf.{Adds, Shelf, entry, entry_of, rounded}
 use Rattle.o2_store.proofs.Tables.{slot-set_other, slot-set_same}
 use Rattle.o2_segbus.specs.Seen.{key_of}
 use Rattle.o2_service.specs.Told.{IsHeldWell}
 use Rattle.o2_world.specs.Calls.{Before}
-use Rattle.o2_world.specs.Changes.{Change, Holds, Locks, Makes, Resizes, with_all, with_changes}
+use Rattle.o2_world.specs.Changes.{Change, Drops, Finishes, Frees, Holds, Locks, Makes, Marks as MarksChange, Names, Reserves, Resizes, swept, takes, with_all, with_change, with_changes}
 use Rattle.o2_world.specs.Known.{Known, Marks, held_at, known_of}
 use Rattle.o2_world.specs.Map.{Map, at_key, get}
 use Rattle.o2_world.specs.Rulings.{allocation, allocation_at, free_index, full_size, grants, held_by_call, held_under, is_alias, is_discardable, is_in_run, keeps_its_size, locking, locking_of, locking_with, made_segment, reallocation, reallocation_of, reallocation_with, refusal, region_by}
@@ -28,12 +29,13 @@ use Rattle.o2_world.specs.World.{Held, Process, Segment, Setting, World, is_live
 use Rattle.o2_world.proofs.MapLemmas.{get-at_key}
 use Rattle.o2_ends.proofs.Letting.{live_id}
 use Rattle.o2_gate.specs.declared.gathering.SegmentArguments.{SegmentArguments}
-use Rattle.o2_gate.specs.declared.gathering.SegmentArguments.TheVariants.{Alloc, Realloc, Lock}
+use Rattle.o2_gate.specs.declared.gathering.SegmentArguments.TheVariants.{Alloc, Huge, Realloc, Lock}
+use Rattle.o2_gate.specs.declared.huge.HugeArguments.{HugeArguments}
 use Rattle.o2_run.specs.Room.{is_locked, larger, room_between, rounded as whole, size_of}
 use Rattle.o2_segs.specs.Made.{new_entry}
 use Rattle.o2_calls.specs.Acts.{MayStop, ruling_of}
+use Rattle.o2_calls.specs.HugeActs.{huge_ruling}
 use Rattle.o2_calls.specs.Stops.{held_by}
-use Rattle.o2_calls.specs.Tellings.{HoldsAlone}
 use Rattle.o2_stands.specs.Parts.{Parts, held_in, held_of}
 use Rattle.o2_stands.specs.Stands.{AreLawful, IsNamed, Stands}
 use Rattle.o2_stands.specs.Sums.{AreAtLeast, counts, part_of}
@@ -41,8 +43,9 @@ use Rattle.o2_stands.proofs.Rooms.{name_facts}
 use Rattle.o2_stepping.specs.Nexts.{IsNext, next_start}
 use Rattle.o2_stepping.specs.Ran.{IsCallOf}
 use Rattle.o2_stepping.proofs.Named.{age_is, or_back}
-use Rattle.o2_space.proofs.CallRooms.{e, new, sizes, u, v, want, world_is}
-use Rattle.o2_space.proofs.Remains.{locked_to, resized_size, sized_to, written_some}
+use Rattle.o2_space.proofs.CallRooms.{e, new, run_changes_are, run_sizing, sizes, u, v, want, world_is}
+use Rattle.o2_space.proofs.Remains.{by_key, locked_to, resized_size, sized_to, written_some}
+use Rattle.o2_space.proofs.RunSizing.{AllAre, Cut, Grown, IsCutBy, IsGrownBy, IsSizing, grown_takes}
 use Rattle.o2_space.proofs.Sides.{room_with_new, room_without_new}
 
 -- What a call that comes to no error changes.
@@ -287,10 +290,34 @@ put_same n y m = ap (λ (t : Bool). if t then Some y else get m n) (equal n)
     equal : (k : ℕ) → (k == k) ≡ true
     equal k = grind arith
 
+-- what has a size at least keeps it where a run grows
+has_floor : (names : Map Segment) (z : ℕ) (cs : List Change) → AllAre (IsGrownBy names z) cs → (y : World) (m : ℕ) → m < y.next_name → z ≤ size_of (get y.names m) → z ≤ size_of (get (with_changes y cs).names m)
+unfolding with_changes
+has_floor names z [] are y m low floor = floor
+has_floor names z (Makes g ∷ cs) are y m low floor = has_floor names z cs are.1 (with_change y (Makes g)) m (omega (arith, low)) (with_new (y.next_name == m) refl)
+  where
+    with_new : (b : Bool) → (y.next_name == m) ≡ b → z ≤ size_of (if b then Some g else get y.names m)
+    with_new true e = absurd (let same = eqb-true y.next_name m e in omega (arith, low, same))
+    with_new false e = floor
+has_floor names z (Resizes n size ∷ cs) are y m low floor =
+    has_floor names z cs are.1 (with_change y (Resizes n size)) m low (by_key (λ o. z ≤ size_of o) n m (sized_to size) y.names (λ same. sized (get y.names m) floor) floor)
+  where
+    sized : (o : Option Segment) → z ≤ size_of o → z ≤ size_of (option_map (sized_to size) o)
+    sized None l = l
+    sized (Some g) l = (let a = resized_size size g.bytes in let b = are.0.0 in omega (arith, a, b))
+has_floor names z (Locks n count ∷ cs) are y m low floor = absurd are.0
+has_floor names z (MarksChange n discarded ∷ cs) are y m low floor = absurd are.0
+has_floor names z (Holds q i h ∷ cs) are y m low floor = has_floor names z cs are.1 (with_change y (Holds q i h)) m low floor
+has_floor names z (Drops q i count ∷ cs) are y m low floor = absurd are.0
+has_floor names z (Finishes q state ∷ cs) are y m low floor = absurd are.0
+has_floor names z (Reserves r ∷ cs) are y m low floor = has_floor names z cs are.1 (with_change y (Reserves r)) m low floor
+has_floor names z (Frees region first ∷ cs) are y m low floor = absurd are.0
+has_floor names z (Names text n ∷ cs) are y m low floor = absurd are.0
+
 -- The next step of a world that is a call, which stops.
 
 module _ (p : Parts) (s : Setting) (w : World) (x : Process) (next : IsNext p s w x) (live : is_live x.state ≡ true) (sound : IsSound w) (a : SegmentArguments) (following : ℕ)
-    (call : IsCallOf (next_start s w x) a following) (alone : (m i : ℕ) → HoldsAlone (known_of s w) m i) where
+    (call : IsCallOf (next_start s w x) a following) where
   abbrev pid : ℕ
   pid = (next_dispatch s w).current
 
@@ -298,13 +325,13 @@ module _ (p : Parts) (s : Setting) (w : World) (x : Process) (next : IsNext p s 
   b = next_start s w x
 
   abbrev behind_it : World
-  behind_it = v p s w x next live sound a following call alone
+  behind_it = v p s w x next live sound a following call
 
   abbrev before_it : World
-  before_it = u p s w x next live sound a following call alone
+  before_it = u p s w x next live sound a following call
 
   abbrev wants : List ℕ
-  wants = want p s w x next live sound a following call alone
+  wants = want p s w x next live sound a following call
 
   well : IsHeldWell p.shelf p.maps
   well = next.stands.ready.held
@@ -319,7 +346,7 @@ module _ (p : Parts) (s : Setting) (w : World) (x : Process) (next : IsNext p s 
 
   still_there : (n : ℕ) → is_some (get w.names n) ≡ true → is_some (get before_it.names n) ≡ true
   still_there n some =
-      written_some w (next_dispatch s w) x (e p s w x next live sound a following call alone) (sizes p s w x next live sound a following call alone) (new p s w x next live sound a following call alone) n ∙ some
+      written_some w (next_dispatch s w) x (e p s w x next live sound a following call) (sizes p s w x next live sound a following call) (new p s w x next live sound a following call) n ∙ some
 
   pub facts : (n k : ℕ) → key_of p.shelf n ≡ Some k → (size_of (get w.names n) ≡ (entry p.shelf k).size) × (is_locked (get w.names n) ≡ nat_lt 0 (entry p.shelf k).attr.lock) × ((entry p.shelf k).age ≡ n)
   facts n k key = name_facts p w.processes w.names w.next_name w.reserved next.lawful next.stands n k key
@@ -339,10 +366,10 @@ module _ (p : Parts) (s : Setting) (w : World) (x : Process) (next : IsNext p s 
       (h.held, h.under)
 
   -- the names behind it
-  names_are : (cs : List Change) → (e p s w x next live sound a following call alone).changes ≡ cs → behind_it.names ≡ (with_all before_it cs).names
-  names_are cs is = ap (λ (q : World). q.names) (world_is p s w x next live sound a following call alone) ∙ ap (λ (xs : List Change). (with_all before_it xs).names) is
+  names_are : (cs : List Change) → (e p s w x next live sound a following call).changes ≡ cs → behind_it.names ≡ (with_all before_it cs).names
+  names_are cs is = ap (λ (q : World). q.names) (world_is p s w x next live sound a following call) ∙ ap (λ (xs : List Change). (with_all before_it xs).names) is
 
-  changes_are : (y : SegmentArguments) → a ≡ y → (e p s w x next live sound a following call alone).changes ≡ (ruling_of y (known_of s w) pid x.cpu).changes
+  changes_are : (y : SegmentArguments) → a ≡ y → (e p s w x next live sound a following call).changes ≡ (ruling_of y (known_of s w) pid x.cpu).changes
   changes_are y is = ap (λ (r : SegmentArguments). (ruling_of r (known_of s w) pid x.cpu).changes) is
 
   module _ (list : List ℕ) (base : ℕ → ℕ) (least : AreAtLeast p.shelf w.names behind_it.names list base) where
@@ -399,6 +426,52 @@ module _ (p : Parts) (s : Setting) (w : World) (x : Process) (next : IsNext p s 
         grown : (old now size : ℕ) → now ≡ size → rounded size ≤ whole (max old now)
         grown old now size e = omega (arith, e)
 
+    -- a member of a run that gets a size, and counts
+    pub run_over : (y : HugeArguments) → a ≡ Huge y → (id : SegId) (size : ℕ) (rest : List Change) → IsSome (entry_of p.shelf id)
+        → (huge_ruling y (known_of s w) pid x.cpu).changes ≡ Resizes id.age size ∷ rest → ((n : ℕ) → key_of p.shelf n ≡ Some id.key → counts w.names behind_it.names list n ≡ true)
+        → over (λ k. if k == id.key then rounded size else base k) (length p.shelf.entries) ≤ room_between w.names behind_it.names list
+    unfolding with_changes
+    run_over y is id size rest alive first counted =
+        top_least p w next.lawful next.stands behind_it.names list base least id.key (rounded size) (live_id p.shelf id alive).0
+        (λ n key.
+        counted_larger (counts w.names behind_it.names list n) (rounded size) (larger w.names behind_it.names n) (counted n key)
+        (subst (λ (m : ℕ). rounded size ≤ larger w.names behind_it.names m) (name_is n key) (seen (subst (λ (m : ℕ). is_some (get w.names m) ≡ true) (sym (name_is n key)) (there n id.key key)))))
+      where
+        name_is : (n : ℕ) → key_of p.shelf n ≡ Some id.key → id.age ≡ n
+        name_is n key = sym (age_is p.shelf id alive) ∙ (facts n id.key key).2
+
+        changes : List Change
+        changes = Resizes id.age size ∷ rest
+
+        by_old : (old now : ℕ) → size ≤ old → rounded size ≤ whole (max old now)
+        by_old old now l = omega (arith, l)
+
+        by_new : (old now : ℕ) → size ≤ now → rounded size ≤ whole (max old now)
+        by_new old now l = omega (arith, l)
+
+        names : behind_it.names ≡ (with_all before_it changes).names
+        names = names_are changes (run_changes_are p s w x next live sound a following call y is ∙ first)
+
+        seen : is_some (get w.names id.age) ≡ true → rounded size ≤ larger w.names behind_it.names id.age
+        seen some = by (subst (IsSizing w.names) first (run_sizing p s w x next live sound a following call y))
+          where
+            sized : World
+            sized = with_change before_it (Resizes id.age size)
+
+            size_now : size_of (get sized.names id.age) ≡ size
+            size_now = ap size_of (at_same id.age (sized_to size) before_it.names) ∙ size_there size (get before_it.names id.age) (still_there id.age some)
+
+            by : IsSizing w.names changes → rounded size ≤ larger w.names behind_it.names id.age
+            by (Cut are) = by_old (size_of (get w.names id.age)) (size_of (get behind_it.names id.age)) are.0
+            by (Grown z are) =
+                (let e = are.0.0 in
+                let now = size_now in
+                let floor = has_floor w.names z rest are.1 sized id.age (sound.tied.below id.age some) (omega (arith, e, now)) in
+                let last : (with_all before_it changes).names ≡ (with_changes sized rest).names =
+                ap (λ (q : World). q.names) (cond-false (list_any takes changes) (swept (with_changes before_it changes)) (with_changes before_it changes) (grown_takes w.names z changes are)) in
+                let same = ap (λ (m : Map Segment). size_of (get m id.age)) (names ∙ last) in
+                by_new (size_of (get w.names id.age)) (size_of (get behind_it.names id.age)) (omega (arith, e, floor, same)))
+
     -- a new segment that is locked
     pub make_over : (size o f flags : ℕ) → a ≡ Alloc size o f flags → (allocation (known_of s w) pid size flags).error ≡ 0 → MayStop (Alloc size o f flags)
         → over base (length p.shelf.entries) + rounded (full_size size) ≤ room_between w.names behind_it.names list
@@ -409,7 +482,7 @@ module _ (p : Parts) (s : Setting) (w : World) (x : Process) (next : IsNext p s 
         let got : get behind_it.names w.next_name ≡ Some (made_segment size flags) = ap (λ (m : Map Segment). get m w.next_name) names ∙ put_same w.next_name (made_segment size flags) before_it.names in
         let locked : is_locked (get behind_it.names w.next_name) ≡ true = ap is_locked got ∙ ap (λ (t : Bool). nat_lt 0 (if t then 1 else 0)) may in
         let size_new : size_of (get behind_it.names w.next_name) ≡ full_size size = ap size_of got ∙ length-replicate (full_size size) 0 in
-        new_least p w next.lawful next.stands behind_it.names list base least w.next_name (rounded (full_size size)) (new p s w x next live sound a following call alone) (ap is_some got)
+        new_least p w next.lawful next.stands behind_it.names list base least w.next_name (rounded (full_size size)) (new p s w x next live sound a following call) (ap is_some got)
         (counted_larger (counts w.names behind_it.names list w.next_name) (rounded (full_size size)) (larger w.names behind_it.names w.next_name)
         (or_back (is_in w.next_name list) _ (or_back (is_locked (get w.names w.next_name)) (is_locked (get behind_it.names w.next_name)) locked))
         (grown (size_of (get w.names w.next_name)) (size_of (get behind_it.names w.next_name)) (full_size size) size_new))

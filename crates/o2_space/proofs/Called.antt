@@ -28,9 +28,10 @@ use Rattle.o2_world.specs.SegmentCalls.{Written, written_long, written_word}
 use Rattle.o2_world.specs.Views.{bytes_in, holds_in}
 use Rattle.o2_world.specs.World.{Process, Setting, World}
 use Rattle.o2_gate.specs.declared.gathering.SegmentArguments.{SegmentArguments}
-use Rattle.o2_gate.specs.declared.gathering.SegmentArguments.TheVariants.{Alloc, Realloc, Free, Size, Lock, Unlock, Alias, Shared}
+use Rattle.o2_gate.specs.declared.gathering.SegmentArguments.TheVariants.{Alloc, Realloc, Free, Size, Lock, Unlock, Alias, Shared, Huge}
 use Rattle.o2_gate.specs.Gathers.{targets}
 use Rattle.o2_gate.specs.Pointed.{are_ready}
+use Rattle.o2_gate.specs.declared.huge.HugeArguments.TheVariants as huge
 use Rattle.o2_gate.specs.declared.sharing.SharedArguments.{SharedArguments}
 use Rattle.o2_gate.specs.declared.sharing.SharedArguments.TheVariants.{Name, Share, Give, Get}
 use Rattle.o2_gate.specs.SharedReplies.{shared_targets, shared_written}
@@ -83,12 +84,12 @@ module _ (p : Parts) (w : World) (x : Process) (pid : ℕ) (lawful : AreLawful p
         still =
             bound_is n pid t.selector
             ∙ (under_of p.maps n pid t.selector h holds found.1 ∙ ap (λ (z : Hold). Some z) (hold_same p.maps n pid i h holds here));
-        apart = λ same.
+        older =
             (let live = live_id p.shelf h.id (stands.ready.held.live pid i h here) in
             let age = ap (λ z. z.age) live.1 in
             let below = young p.shelf lawful.shelf h.id.key live.0 in
             let made = stands.made in
-            omega (arith, same, age, below, made));
+            omega (arith, age, below, made));
       }
 
   shared_at : (a : SharedArguments) (value : ℕ) → StillHolds p.maps n → are_ready (seen p.shelf p.maps pid c) (shared_targets a) ≡ true → (t : Written) → shared_written a value ≡ Some t
@@ -107,6 +108,9 @@ module _ (p : Parts) (w : World) (x : Process) (pid : ℕ) (lawful : AreLawful p
   written_at (Lock s) value holds ready t is = absurd (cc)
   written_at (Unlock s) value holds ready t is = absurd (cc)
   written_at (Shared a) value holds ready t is = shared_at a value holds ready t is
+  written_at (Huge (huge.Alloc segs part s o most flags)) value holds ready t is = subst (λ (z : Written). IsAimedAt (holds_in x.held) (hold_in n pid) w.next_name z) (some_is is) (aimed_at (written_word s o value) o 2 refl (keeps_still p.maps n holds) (and_left _ true ready))
+  written_at (Huge (huge.Realloc segs part s)) value holds ready t is = absurd (cc)
+  written_at (Huge (huge.Shift s o)) value holds ready t is = subst (λ (z : Written). IsAimedAt (holds_in x.held) (hold_in n pid) w.next_name z) (some_is is) (aimed_at (written_word s o value) o 2 refl (keeps_still p.maps n holds) (and_left _ true ready))
   written_at (Alias y s o) value holds ready t is = subst (λ (z : Written). IsAimedAt (holds_in x.held) (hold_in n pid) w.next_name z) (some_is is) (aimed_at (written_word s o value) o 2 refl (keeps_still p.maps n holds) (and_left _ true ready))
 
 -- What a machine that matches a world has in memory are the bytes of that world.

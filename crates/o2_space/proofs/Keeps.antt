@@ -23,7 +23,8 @@ use Rattle.o2_service.specs.Needs.{AreLive, needs, segments_of}
 use Rattle.o2_service.specs.Told.{IsHeldWell}
 use Rattle.o2_run.specs.Room.{Pointer, name_in, passed, pointed, seated}
 use Rattle.o2_gate.specs.declared.gathering.SegmentArguments.{SegmentArguments}
-use Rattle.o2_gate.specs.declared.gathering.SegmentArguments.TheVariants.{Alloc, Realloc, Free, Size, Lock, Unlock, Alias, Shared}
+use Rattle.o2_gate.specs.declared.gathering.SegmentArguments.TheVariants.{Alloc, Realloc, Free, Size, Lock, Unlock, Alias, Shared, Huge}
+use Rattle.o2_gate.specs.declared.huge.HugeArguments.TheVariants as huge
 use Rattle.o2_gate.specs.declared.sharing.SharedArguments.{SharedArguments}
 use Rattle.o2_gate.specs.declared.sharing.SharedArguments.TheVariants.{Name, Share, Give, Get}
 use Rattle.o2_gate.specs.declared.text.TextArgument.{TextArgument}
@@ -254,6 +255,9 @@ module _ (s : Shelf) (m : Maps) (pid : ℕ) (c : Cpu) where
     passes_for (Unlock z) may n ready e = absurd may
     passes_for (Alias y z o) may n ready e = absurd may
     passes_for (Shared a) may n ready e = absurd may
+    passes_for (Huge (huge.Alloc segs part z o most flags)) may n ready e = absurd may
+    passes_for (Huge (huge.Realloc segs part z)) may n ready e = absurd (false≢true e)
+    passes_for (Huge (huge.Shift z o)) may n ready e = absurd may
 
     -- the segment that a selector names
     named_for : (z n : ℕ) → is_in n (name_in (bound_in v.held z)) ≡ true → is_in n (ages_of (pair_of (held_under m pid z))) ≡ true
@@ -295,6 +299,9 @@ module _ (s : Shelf) (m : Maps) (pid : ℕ) (c : Cpu) where
     keeps_for (Unlock z) n e = absurd (false≢true e)
     keeps_for (Alias y z o) n e = kept_for z o 2 n e
     keeps_for (Shared a) n e = shared_for a n e
+    keeps_for (Huge (huge.Alloc segs part z o most flags)) n e = kept_for z o 2 n e
+    keeps_for (Huge (huge.Realloc segs part z)) n e = absurd (false≢true e)
+    keeps_for (Huge (huge.Shift z o)) n e = kept_for z o 2 n e
 
   word_there : (z o count n : ℕ) → (count == 0) ≡ false → is_ready is_writable (seen s m pid c) z o count ≡ true → is_in n (ages_of (pair_of (held_under m pid z))) ≡ true → present_in s n ≡ true
   word_there z o count n some ready e = aimed_there is_writable z n (aimed_by is_writable z o count n some ready (aged_pair z n e))
@@ -322,6 +329,9 @@ module _ (s : Shelf) (m : Maps) (pid : ℕ) (c : Cpu) where
   there_for (Unlock z) n ready e = absurd (false≢true e)
   there_for (Alias y z o) n ready e = word_there z o 2 n refl (left_true _ true ready) e
   there_for (Shared a) n ready e = shared_there a n ready e
+  there_for (Huge (huge.Alloc segs part z o most flags)) n ready e = word_there z o 2 n refl (left_true _ true ready) e
+  there_for (Huge (huge.Realloc segs part z)) n ready e = absurd (false≢true e)
+  there_for (Huge (huge.Shift z o)) n ready e = word_there z o 2 n refl (left_true _ true ready) e
 
   abbrev need : SegmentArguments → List (SegId × ℕ)
   need a = seated_in m pid c ++ aimed_in m pid a

@@ -4,7 +4,7 @@ pub mod Behind
 pub mod Commits
 pub mod Rooms
 pub mod Nexting
-pub mod Alone
+pub mod Whole
 pub mod Afters
 pub mod Askings
 pub mod Aimed
@@ -12,6 +12,7 @@ pub mod Called
 pub mod Making
 pub mod Replied
 pub mod Sides
+pub mod RunSizing
 pub mod Remains
 pub mod Seats
 pub mod Keeps

@@ -21,12 +21,15 @@ use Rattle.o2_changes.specs.Order.{IsGuarded, IsInOrder}
 use Rattle.o2_world.specs.Changes.{with_all, with_changes}
 use Rattle.o2_world.specs.World.{Setting, World}
 use Rattle.o2_gate.specs.declared.gathering.SegmentArguments.{SegmentArguments}
-use Rattle.o2_gate.specs.declared.gathering.SegmentArguments.TheVariants.{Alloc, Realloc, Free, Size, Lock, Unlock, Alias, Shared}
+use Rattle.o2_gate.specs.declared.gathering.SegmentArguments.TheVariants.{Alloc, Realloc, Free, Size, Lock, Unlock, Alias, Shared, Huge}
+use Rattle.o2_gate.specs.declared.huge.HugeArguments.{HugeArguments}
+use Rattle.o2_gate.specs.declared.huge.HugeArguments.TheVariants as huge
+use Rattle.o2_gate.specs.HugeReplies.{IsHugeValue}
 use Rattle.o2_gate.specs.declared.sharing.SharedArguments.{SharedArguments}
 use Rattle.o2_gate.specs.declared.sharing.SharedArguments.TheVariants.{Name, Share, Give, Get}
 use Rattle.o2_gate.specs.SharedReplies.{IsSharedValue}
 use Rattle.o2_gate.specs.Replies.{IsValue}
-use Rattle.o2_calls.specs.Stops.{IsGivable}
+use Rattle.o2_calls.specs.Stops.{IsGivable, IsRunGivable}
 use Rattle.o2_stands.specs.Moves.{moved}
 use Rattle.o2_stands.specs.Parts.{Parts, Running}
 use Rattle.o2_stands.specs.Stands.{IsReady, IsSetTo, Matches, Stands}
@@ -48,6 +51,11 @@ shared_value (Share t s o) value h = h
 shared_value (Give selector to s o) value h = h
 shared_value (Get selector) value h = tt
 
+huge_value : (a : HugeArguments) (x : Answer) → IsRunGivable a (Done x) → IsHugeValue a x.value
+huge_value (huge.Alloc segs part s o most flags) x h = h
+huge_value (huge.Realloc segs part selector) x h = tt
+huge_value (huge.Shift s o) x h = h
+
 pub value_of : (a : SegmentArguments) (x : Answer) → IsGivable a (Done x) → IsValue a x.value
 value_of (Alloc size s o flags) x h = h
 value_of (Realloc size s) x h = tt
@@ -57,6 +65,7 @@ value_of (Lock s) x h = tt
 value_of (Unlock s) x h = tt
 value_of (Alias y s o) x h = h
 value_of (Shared a) x h = shared_value a x.value h
+value_of (Huge a) x h = huge_value a x h
 
 -- What is behind the pointer is among what is kept in memory.
 

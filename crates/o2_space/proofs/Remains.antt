@@ -8,10 +8,11 @@ use Rattle.o2_conf.specs.Dispatch.{Dispatch}
 use Rattle.o2_isa.specs.declared.cpu.Cpu.{Cpu}
 use Rattle.o2_run.specs.Room.{is_locked, size_of}
 use Rattle.o2_world.specs.CallParts.{Before, Effect}
-use Rattle.o2_world.specs.Changes.{Change, Drops, Holds, resized, swept, takes, with_all, with_change, with_changes}
+use Rattle.o2_world.specs.Changes.{Change, Drops, Finishes, Frees, Holds, Locks, Makes, Marks, Names, Reserves, Resizes, resized, swept, takes, with_all, with_change, with_changes}
 use Rattle.o2_world.specs.Holders.{is_held}
 use Rattle.o2_world.specs.Map.{Map, at_key, get}
-use Rattle.o2_world.specs.Moves.{AllMoves, Moves, NoneMoves, OneAliased, OneLocked, OneMade, OneNamed, OneSized, OwnMoves, SomeFreed, SomeShared}
+use Rattle.o2_world.specs.HugeRulings.{huge_allocation, huge_reallocation}
+use Rattle.o2_world.specs.Moves.{AllMoves, AreOfRuling, Moves, NoneMoves, OfAllocation, OfNone, OfReallocation, OneAliased, OneLocked, OneMade, OneNamed, OneRun, OneSized, OwnMoves, SomeFreed, SomeShared}
 use Rattle.o2_world.specs.Rulings.{full_size, made_segment}
 use Rattle.o2_world.specs.Run.{worked}
 use Rattle.o2_world.specs.Known.{Known}
@@ -19,6 +20,7 @@ use Rattle.o2_world.specs.SharedRulings.{each_more, one_more, shared_segment}
 use Rattle.o2_world.specs.World.{ByCall, Held, Process, Segment, World}
 use Rattle.o2_world.proofs.MapLemmas.{get-at_key, get-filter, get-map}
 use Rattle.o2_stepping.proofs.NextRooms.{IsLess, less_kept}
+use Rattle.o2_space.proofs.RunSizing.{AllAre, Cut, Grown, IsCutBy, IsGrownBy, IsSizing, grown_takes}
 
 -- a name is there still, as large and as locked at least
 pub record IsMore (v o : Option Segment) : Type 0 where
@@ -99,6 +101,23 @@ size_more size (Some s) o l a = record {
   lock = λ e. a.lock ∙ e;
 }
 
+-- and where it has changed already
+less_sized : (size : ℕ) (v o : Option Segment) → size ≤ size_of o → IsLess v o → IsLess (option_map (λ (s : Segment). record s { bytes = resized size s.bytes }) v) o
+less_sized size None o l a = a
+less_sized size (Some s) o l a = record {
+  none = λ gone. absurd (false≢true (ap is_some (sym (a.none gone))));
+  size = (let z = resized_size size s.bytes in omega (arith, z, l));
+  lock = a.lock;
+}
+
+more_sized : (size : ℕ) (v o : Option Segment) → size_of o ≤ size → IsMore v o → IsMore (option_map (λ (s : Segment). record s { bytes = resized size s.bytes }) v) o
+more_sized size None o l a = a
+more_sized size (Some s) o l a = record {
+  some = λ e. refl;
+  size = (let z = resized_size size s.bytes in omega (arith, z, l));
+  lock = a.lock;
+}
+
 abbrev pub locked_to : ℕ → Segment → Segment
 locked_to count s = record s { lock = count }
 
@@ -112,6 +131,11 @@ by_key P k q f m here there = subst P (sym (get-at_key k q f m)) (go (k == q) re
     go : (b : Bool) → (k == q) ≡ b → P (if b then option_map f (get m k) else get m q)
     go true e = (let same = eqb-true k q e in subst (λ (j : ℕ). P (option_map f (get m j))) (sym same) (here same))
     go false e = there
+
+-- what the calls on huge allocations of a step's process come to cuts, or grows
+pub record SizesRuns (names : Map Segment) (b : Before) : Type 0 where
+  pub made : (segs part most flags : ℕ) → IsSizing names (huge_allocation b.known b.number segs part most flags).changes
+  pub sized : (segs part selector : ℕ) → IsSizing names (huge_reallocation b.known b.number segs part selector b.cpu).changes
 
 -- The changes of a call.
 
@@ -193,9 +217,9 @@ module _ (w : World) (d : Dispatch) (x : Process) (e : Effect) (sizes : (n : ℕ
   unfolding with_changes
   remains b cpu cs (NoneMoves is) = subst Left (sym is) (NoneMore (λ n. less_as (get u.names n) (get w.names n) (written n)))
   remains b cpu cs (OneMade size flags i free is) = subst Left (sym is) (NoneLess (made (made_segment size flags)))
-  remains b cpu cs (OneSized name size is) = subst Left (sym is) (sized name (full_size size))
+  remains b cpu cs (OneSized name size alone is) = subst Left (sym is) (sized name (full_size size))
   remains b cpu cs (OneLocked name count is) = subst Left (sym is) (locked name count)
-  remains b cpu cs (OneAliased index i h there free is) = subst Left (sym is) (NoneMore (λ n. less_as (get u.names n) (get w.names n) (written n)))
+  remains b cpu cs (OneAliased index i h there alone free is) = subst Left (sym is) (NoneMore (λ n. less_as (get u.names n) (get w.names n) (written n)))
   remains b cpu cs (SomeFreed xs frees is) = subst Left (sym is) (NoneMore (freed b.number xs))
 
   -- where a process holds more of what is shared
@@ -205,8 +229,75 @@ module _ (w : World) (d : Dispatch) (x : Process) (e : Effect) (sizes : (n : ℕ
       let same : (with_all u (each_more k from to is)).names ≡ u.names = ap (λ (v : World). v.names) (cond-false (list_any takes (each_more k from to is)) (swept (with_changes u (each_more k from to is))) (with_changes u (each_more k from to is)) more.0) ∙ more.1 in
       subst (λ (names : Map Segment). Remains w.names names) (sym same) (NoneMore (λ n. less_as (get u.names n) (get w.names n) (written n)))
 
-  pub all_remains : (b : Before) (cpu : Cpu) (cs : List Change) → AllMoves b cpu cs → Left cs
+  -- where a run is made, or gets other sizes
+  cut_names : (cs : List Change) → AllAre (IsCutBy w.names) cs → (y : World) → ((n : ℕ) → IsLess (get y.names n) (get w.names n)) → (n : ℕ) → IsLess (get (with_changes y cs).names n) (get w.names n)
   unfolding with_changes
-  all_remains b cpu cs (OwnMoves moves) = remains b cpu cs moves
-  all_remains b cpu cs (OneNamed size i name free is) = subst Left (sym is) (NoneLess (made (shared_segment size)))
-  all_remains b cpu cs (SomeShared from to xs shares is) = subst Left (sym is) (shared b.known from to xs)
+  cut_names [] are y less n = less n
+  cut_names (Makes s ∷ cs) are y less n = absurd are.0
+  cut_names (Resizes name size ∷ cs) are y less n =
+      cut_names cs are.1 (with_change y (Resizes name size))
+      (λ q. by_key (λ o. IsLess o (get w.names q)) name q (sized_to size) y.names
+      (λ same. (let z = ap (λ (k : ℕ). size_of (get w.names k)) same in let a = are.0 in less_sized size (get y.names q) (get w.names q) (omega (arith, z, a)) (less q)))
+      (less q)) n
+  cut_names (Locks name count ∷ cs) are y less n = absurd are.0
+  cut_names (Marks name discarded ∷ cs) are y less n = absurd are.0
+  cut_names (Holds p i h ∷ cs) are y less n = cut_names cs are.1 (with_change y (Holds p i h)) less n
+  cut_names (Drops p i count ∷ cs) are y less n = cut_names cs are.1 (with_change y (Drops p i count)) less n
+  cut_names (Finishes p state ∷ cs) are y less n = absurd are.0
+  cut_names (Reserves r ∷ cs) are y less n = cut_names cs are.1 (with_change y (Reserves r)) less n
+  cut_names (Frees region first ∷ cs) are y less n = absurd are.0
+  cut_names (Names text name ∷ cs) are y less n = absurd are.0
+
+  pub cut_less : (cs : List Change) → AllAre (IsCutBy w.names) cs → (n : ℕ) → IsLess (get (with_all u cs).names n) (get w.names n)
+  cut_less cs are n = go (list_any takes cs)
+    where
+      before : IsLess (get (with_changes u cs).names n) (get w.names n)
+      before = cut_names cs are u (λ q. less_as (get u.names q) (get w.names q) (written q)) n
+
+      go : (b : Bool) → IsLess (get (if b then swept (with_changes u cs) else with_changes u cs).names n) (get w.names n)
+      go true =
+          subst (λ (o : Option Segment). IsLess o (get w.names n)) (sym (get-filter (is_held (with_changes u cs).processes) (with_changes u cs).names n))
+          (less_kept (is_held (with_changes u cs).processes n) (get (with_changes u cs).names n) (get w.names n) before)
+      go false = before
+
+  module _ (fresh : (n : ℕ) → w.next_name ≤ n → get w.names n ≡ None) where
+    grown_names : (z : ℕ) (cs : List Change) → AllAre (IsGrownBy w.names z) cs → (y : World) → w.next_name ≤ y.next_name → ((n : ℕ) → IsMore (get y.names n) (get w.names n))
+        → (n : ℕ) → IsMore (get (with_changes y cs).names n) (get w.names n)
+    unfolding with_changes
+    grown_names z [] are y low more n = more n
+    grown_names z (Makes s ∷ cs) are y low more n = grown_names z cs are.1 (with_change y (Makes s)) (omega (arith, low)) (λ q. with_new q (y.next_name == q) refl) n
+      where
+        with_new : (q : ℕ) (b : Bool) → (y.next_name == q) ≡ b → IsMore (if b then Some s else get y.names q) (get w.names q)
+        with_new q true e = more_new (Some s) (get w.names q) (fresh q (let same = eqb-true y.next_name q e in omega (arith, low, same)))
+        with_new q false e = more q
+    grown_names z (Resizes name size ∷ cs) are y low more n =
+        grown_names z cs are.1 (with_change y (Resizes name size)) low
+        (λ q. by_key (λ o. IsMore o (get w.names q)) name q (sized_to size) y.names
+        (λ same. (let e = ap (λ (k : ℕ). size_of (get w.names k)) same in let a = are.0.0 in let b = are.0.1 in more_sized size (get y.names q) (get w.names q) (omega (arith, e, a, b)) (more q)))
+        (more q)) n
+    grown_names z (Locks name count ∷ cs) are y low more n = absurd are.0
+    grown_names z (Marks name discarded ∷ cs) are y low more n = absurd are.0
+    grown_names z (Holds p i h ∷ cs) are y low more n = grown_names z cs are.1 (with_change y (Holds p i h)) low more n
+    grown_names z (Drops p i count ∷ cs) are y low more n = absurd are.0
+    grown_names z (Finishes p state ∷ cs) are y low more n = absurd are.0
+    grown_names z (Reserves r ∷ cs) are y low more n = grown_names z cs are.1 (with_change y (Reserves r)) low more n
+    grown_names z (Frees region first ∷ cs) are y low more n = absurd are.0
+    grown_names z (Names text name ∷ cs) are y low more n = absurd are.0
+
+    sizing_remains : (cs : List Change) → IsSizing w.names cs → Left cs
+    sizing_remains cs (Cut are) = NoneMore (cut_less cs are)
+    sizing_remains cs (Grown z are) =
+        subst (λ (v : World). Remains w.names v.names) (sym (cond-false (list_any takes cs) (swept (with_changes u cs)) (with_changes u cs) (grown_takes w.names z cs are)))
+        (NoneLess (grown_names z cs are u (omega arith) (λ q. more_as (get u.names q) (get w.names q) (written q))))
+
+    run_remains : (b : Before) → SizesRuns w.names b → (cs : List Change) → AreOfRuling b cs → Left cs
+    run_remains b sizes cs (OfNone is) = subst Left (sym is) (sizing_remains [] (Cut tt))
+    run_remains b sizes cs (OfAllocation segs part most flags is) = subst Left (sym is) (sizing_remains _ (sizes.made segs part most flags))
+    run_remains b sizes cs (OfReallocation segs part selector is) = subst Left (sym is) (sizing_remains _ (sizes.sized segs part selector))
+
+    pub all_remains : (b : Before) → SizesRuns w.names b → (cpu : Cpu) (cs : List Change) → AllMoves b cpu cs → Left cs
+    unfolding with_changes
+    all_remains b sizes cpu cs (OwnMoves moves) = remains b cpu cs moves
+    all_remains b sizes cpu cs (OneNamed size i name free is) = subst Left (sym is) (NoneLess (made (shared_segment size)))
+    all_remains b sizes cpu cs (SomeShared from to xs shares is) = subst Left (sym is) (shared b.known from to xs)
+    all_remains b sizes cpu cs (OneRun moves ruled) = run_remains b sizes cs ruled

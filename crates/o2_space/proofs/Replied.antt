@@ -6,34 +6,33 @@ use Rattle.o2_conf.specs.Dispatch.{Dispatch, counted}
 use Rattle.o2_outer.proofs.TextLemmas.{gains_none}
 use Rattle.o2_isa.specs.declared.cpu.Cpu.{Cpu}
 use Rattle.o2_regions.specs.declared.answer.Answer.{Answer}
-use Rattle.o2_regions.specs.declared.held.Held.{Held as HeldThere}
-use Rattle.o2_regions.specs.Maps.{held_at as held_there}
 use Rattle.o2_world.specs.declared.types.State.{State}
 use Rattle.o2_world.specs.declared.types.State.TheVariants.{Live, Trapped}
 use Rattle.o2_world.specs.Calls.{Before, Effect}
-use Rattle.o2_world.specs.Changes.{Change, Drops, Finishes, Frees, Holds, Locks, Makes, Marks, Names, Reserves, Resizes, swept, takes, with_all, with_change, with_changes}
+use Rattle.o2_world.specs.Changes.{Change, Drops, Finishes, Frees, Holds, Locks, Makes, Marks, Names, Reserves, Resizes, moved_lines, swept, takes, with_all, with_change, with_changes}
 use Rattle.o2_world.specs.Effect.{effect, has_trap_flag, single_stepped}
 use Rattle.o2_world.specs.Holders.{process_at, with_process}
 use Rattle.o2_world.specs.Known.{known_of}
 use Rattle.o2_world.specs.Run.{all_changes, before, changed, next_dispatch, worked, working}
 use Rattle.o2_world.specs.Text.{lines_text}
 use Rattle.o2_world.specs.Tied.{IsSound}
-use Rattle.o2_world.specs.World.{Held, Line, Process, Setting, Traps, World, is_live}
+use Rattle.o2_world.specs.World.{Line, Process, Setting, Traps, World, is_live}
 use Rattle.o2_world.proofs.Flags.{live_is}
 use Rattle.o2_world.proofs.StepSound.{IsOrderly, effect_orderly}
 use Rattle.o2_gate.specs.declared.gathering.SegmentArguments.{SegmentArguments}
 use Rattle.o2_gate.specs.Gathers.{asked}
-use Rattle.o2_gate.specs.Replies.{lines_of}
-use Rattle.o2_segs.specs.Answers.{AreAlone}
+use Rattle.o2_gate.specs.declared.moves.Block.{Block}
+use Rattle.o2_gate.specs.MovedLines.{all_lines}
+use Rattle.o2_gate.specs.Replies.{call_line, lines_of, name_of}
 use Rattle.o2_shared.specs.declared.names.Name.{Name}
 use Rattle.o2_store.specs.Shelf.{Shelf}
 use Rattle.o2_calls.specs.Acts.{ruling_of}
 use Rattle.o2_calls.specs.SharedActs.{AreSpelled}
-use Rattle.o2_calls.specs.Tellings.{HoldsAlone, replied_by}
+use Rattle.o2_calls.specs.Tellings.{replied_by}
 use Rattle.o2_calls.proofs.Replies.{asked_is}
 use Rattle.o2_stands.specs.Moves.{with_running}
-use Rattle.o2_stands.specs.Parts.{Parts, Running, held_in, held_of, running_of}
-use Rattle.o2_stands.specs.Stands.{IsTidy, Matches, Stands, StandsIn}
+use Rattle.o2_stands.specs.Parts.{Parts, Running, running_of}
+use Rattle.o2_stands.specs.Stands.{IsTidy, Matches, StandsIn}
 use Rattle.o2_stands.proofs.Matching.{stood_by}
 use Rattle.o2_stands.proofs.TidySteps.{acted_tidy}
 use Rattle.o2_stepping.specs.Ran.{TakesText}
@@ -45,25 +44,12 @@ use Rattle.o2_space.specs.Calls.{IsCalled}
 use Rattle.o2_space.specs.Stands.{StandsCommitted}
 use Rattle.o2_space.proofs.Afters.{orderly_before, trapped_after}
 
--- Nobody holds a run of a huge allocation in the world, either.
-
-pub alone_known : (p : Parts) (s : Setting) (w : World) → Stands p w → AreAlone p.maps → (n i : ℕ) → HoldsAlone (known_of s w) n i
-unfolding held_in
-alone_known p s w stands alone n i h is = go (held_there p.maps n i) refl (sym (stands.held n i) ∙ is)
-  where
-    some_is : {x y : Held} → Some x ≡ Some y → x ≡ y
-    some_is e = cc
-
-    go : (o : Option HeldThere) → held_there p.maps n i ≡ o → option_map (held_of p.maps n i) o ≡ Some h → h.reserved ≡ 0
-    go None e f = absurd (cc)
-    go (Some x) e f = ap (λ (z : Held). z.reserved) (sym (some_is f)) ∙ alone.each n i x e
-
 -- what is put of a call, and what state it leaves
-pub record IsTold (pid : ℕ) (registers : Cpu) (a : SegmentArguments) (error value : ℕ) (report_old report_new : Option (List ℕ)) (ran : Ran) : Type 0 where
+pub record IsTold (pid : ℕ) (registers : Cpu) (a : SegmentArguments) (error value : ℕ) (moves : List Block) (report_old report_new : Option (List ℕ)) (ran : Ran) : Type 0 where
   pub state : ran.state ≡ state_behind registers
   pub bytes : ran.tally.bytes ≡ 0
-  pub lines : ran.tally.lines ≡ length (lines_of a pid error value ++ trap_lines pid registers)
-  pub report : TakesText ran.whole report_old report_new (lines_text (lines_of a pid error value ++ trap_lines pid registers))
+  pub lines : ran.tally.lines ≡ length (lines_of a pid error value moves ++ trap_lines pid registers)
+  pub report : TakesText ran.whole report_old report_new (lines_text (lines_of a pid error value moves ++ trap_lines pid registers))
 
 flag_clear : (c : Cpu) (z : State) → z ≡ state_behind c → is_live z ≡ true → has_trap_flag c.flags ≡ false
 flag_clear c z e live = go (has_trap_flag c.flags) refl
@@ -93,8 +79,8 @@ pub equal_self : (n : ℕ) → (n == n) ≡ true
 equal_self n = grind arith
 
 module _ (s : Setting) (w : World) (x : Process) (pid : ℕ) (a : SegmentArguments) (next : ℕ) (cpu : Cpu) (p : Parts) (answer : Answer) (called : IsCalled s w pid x a next cpu p answer)
-    (alone : (m i : ℕ) → HoldsAlone (known_of s w) m i) (registers : Cpu) (same : registers ≡ x.cpu)
-    (eff : let b = before s w pid x in effect b ≡ single_stepped b (asked a b next)) (r q i c : Option (List ℕ)) (ran : Ran) (told : IsTold pid registers a answer.error answer.value r q ran)
+    (moves : List Block) (moved : all_lines (name_of a) moves ≡ moved_lines (name_of a) (ruling_of a (known_of s w) pid x.cpu).changes) (registers : Cpu) (same : registers ≡ x.cpu)
+    (eff : let b = before s w pid x in effect b ≡ single_stepped b (asked a b next)) (r q i c : Option (List ℕ)) (ran : Ran) (told : IsTold pid registers a answer.error answer.value moves r q ran)
     (input : i ≡ Some w.input) where
   abbrev b : Before
   b = before s w pid x
@@ -103,15 +89,16 @@ module _ (s : Setting) (w : World) (x : Process) (pid : ℕ) (a : SegmentArgumen
   e = replied_by a b next
 
   abbrev lines : List Line
-  lines = lines_of a pid answer.error answer.value
+  lines = lines_of a pid answer.error answer.value moves
 
   effect_is : effect b ≡ single_stepped b e
-  effect_is = eff ∙ ap (single_stepped b) (asked_is b next a alone)
+  effect_is = eff ∙ ap (single_stepped b) (asked_is b next a)
 
   same_lines : lines ≡ e.lines
   same_lines =
-      ap (λ (n : ℕ). lines_of a pid n answer.value) called.answers.error
-      ∙ ap (λ (n : ℕ). lines_of a pid (ruling_of a (known_of s w) pid x.cpu).error n) called.answers.value
+      ap (λ (n : ℕ). lines_of a pid n answer.value moves) called.answers.error
+      ∙ (ap (λ (n : ℕ). lines_of a pid (ruling_of a (known_of s w) pid x.cpu).error n moves) called.answers.value
+      ∙ ap (λ (ls : List Line). call_line a pid (ruling_of a (known_of s w) pid x.cpu).error (ruling_of a (known_of s w) pid x.cpu).value ∷ ls) moved)
 
   -- without exception 1
 
@@ -140,11 +127,11 @@ module _ (s : Setting) (w : World) (x : Process) (pid : ℕ) (a : SegmentArgumen
   marked : is_live ran.state ≡ false → has_trap_flag b.cpu.flags ≡ true
   marked dead = ap (λ (z : Cpu). has_trap_flag z.flags) (sym same) ∙ flag_set registers ran.state told.state dead
 
-  abbrev all_lines : List Line
-  all_lines = e.lines ++ Traps b.number 1 b.cpu.cs b.cpu.ip ∷ []
+  abbrev trapped_lines : List Line
+  trapped_lines = e.lines ++ Traps b.number 1 b.cpu.cs b.cpu.ip ∷ []
 
   abbrev trapped_effect : Effect
-  trapped_effect = record e { state = Trapped 1; lines = all_lines }
+  trapped_effect = record e { state = Trapped 1; lines = trapped_lines }
 
   dead_effect : is_live ran.state ≡ false → effect b ≡ trapped_effect
   dead_effect dead = effect_is ∙ with_flag b e (marked dead) refl
@@ -152,7 +139,7 @@ module _ (s : Setting) (w : World) (x : Process) (pid : ℕ) (a : SegmentArgumen
   dead_state : is_live ran.state ≡ false → ran.state ≡ Trapped 1
   dead_state dead = dead_state_is registers ran.state told.state dead
 
-  with_trap : is_live ran.state ≡ false → lines ++ trap_lines pid registers ≡ all_lines
+  with_trap : is_live ran.state ≡ false → lines ++ trap_lines pid registers ≡ trapped_lines
   with_trap dead =
       rw (flag_set registers ran.state told.state dead)
       (ap (λ (l : List Line). l ++ Traps pid 1 registers.cs registers.ip ∷ []) same_lines ∙ ap (λ (z : Cpu). e.lines ++ Traps pid 1 z.cs z.ip ∷ []) same)
@@ -253,5 +240,5 @@ module _ (s : Setting) (w : World) (x : Process) (a : SegmentArguments) (next : 
   then_trapped pid chosen = subst (ThenTrapped s w x a next cpu p answer z) chosen at_current
 
 -- a step that is a call is orderly, whatever its effect is told by
-pub orderly_call : (b : Before) (a : SegmentArguments) (next : ℕ) → ((m i : ℕ) → HoldsAlone b.known m i) → effect b ≡ single_stepped b (asked a b next) → IsOrderly b (single_stepped b (replied_by a b next))
-orderly_call b a next alone eff = subst (λ (e : Effect). IsOrderly b e) (eff ∙ ap (single_stepped b) (asked_is b next a alone)) (effect_orderly b)
+pub orderly_call : (b : Before) (a : SegmentArguments) (next : ℕ) → effect b ≡ single_stepped b (asked a b next) → IsOrderly b (single_stepped b (replied_by a b next))
+orderly_call b a next eff = subst (λ (e : Effect). IsOrderly b e) (eff ∙ ap (single_stepped b) (asked_is b next a)) (effect_orderly b)

@@ -14,6 +14,7 @@ use Rattle.o2_world.specs.Changes.{Change, Drops, Finishes, Frees, Holds, Locks,
 use Rattle.o2_world.specs.Holders.{is_held, process_at}
 use Rattle.o2_world.specs.Known.{Known, Marks as SegmentMarks, same_text, text_name}
 use Rattle.o2_world.specs.Map.{Map, get}
+use Rattle.o2_world.proofs.TiedChanges.{flags_live}
 use Rattle.o2_world.specs.Rulings.{Ruling, aliasing_at, aliasing_of, allocation_at, by_load, free_index, freeing_of, full_size, held_under, in_use, is_alias, is_discardable, is_in_run, is_later, keeps_its_size, locking_of, locking_with, members, reallocation_of, reallocation_with, region_by, sizing_of, sizing_with, unlocking_of, unlocking_with}
 use Rattle.o2_world.specs.Run.{all_changes, before, changed, next_dispatch, worked}
 use Rattle.o2_world.specs.Tied.{AreLive, IsSound}
@@ -23,7 +24,7 @@ use Rattle.o2_world.proofs.BareChanges.{same_all, worked_bare}
 use Rattle.o2_world.proofs.StepSound.{IsOrderly, acted_sound}
 use Rattle.o2_desc.specs.Bits.{is_writable}
 use Rattle.o2_gate.specs.declared.gathering.SegmentArguments.{SegmentArguments}
-use Rattle.o2_gate.specs.declared.gathering.SegmentArguments.TheVariants.{Alloc, Realloc, Free, Size, Lock, Unlock, Alias, Shared}
+use Rattle.o2_gate.specs.declared.gathering.SegmentArguments.TheVariants.{Alloc, Realloc, Free, Size, Lock, Unlock, Alias, Shared, Huge}
 use Rattle.o2_stands.specs.Parts.{Parts}
 use Rattle.o2_stands.specs.Stands.{IsTidy, Matches, Stands}
 use Rattle.o2_stands.proofs.Matching.{matched_by}
@@ -33,6 +34,7 @@ use Rattle.o2_shared.specs.declared.names.Name.{Name}
 use Rattle.o2_shared.specs.Texts.{AreInPlace, AreOnce, AreTexts, IsBehind, age_of, found_from, found_or, live_in}
 use Rattle.o2_shared.proofs.Dying.{texts_die}
 use Rattle.o2_calls.specs.Acts.{MayStop, ruling_of}
+use Rattle.o2_calls.proofs.RunsOver.{AreOfRuns, IsOfRuns, runs_change}
 use Rattle.o2_calls.specs.SharedActs.{AreSpelled, LeavesSpelled}
 
 -- Where the same segments live, the same names count.
@@ -80,7 +82,7 @@ spelled_by t names other w same was = subst (λ (l : List (Option Name)). AreSpe
 
 told_each : (ps : List Process) (names : Map Segment) (texts : List (List ℕ × ℕ)) → AreLive names texts → ((q : ℕ) → is_some (get names q) ≡ true → is_held ps q ≡ true) → told_of ps texts ≡ texts
 told_each ps names [] live held = refl
-told_each ps names (t ∷ ts) live held = go (is_held ps t.1) (held t.1 live.0) (told_each ps names ts live.1 held)
+told_each ps names (t ∷ ts) live held = go (is_held ps t.1) (held t.1 (flags_live (get names t.1) live.0)) (told_each ps names ts live.1 held)
   where
     go : (b : Bool) → b ≡ true → told_of ps ts ≡ ts → cond b (t ∷ told_of ps ts) (told_of ps ts) ≡ t ∷ ts
     go true e rest = ap (λ (xs : List (List ℕ × ℕ)). t ∷ xs) rest
@@ -203,6 +205,22 @@ drops_no_name : (n : ℕ) (is : List ℕ) → NameNothing (map (λ (i : ℕ). Dr
 drops_no_name n [] = tt
 drops_no_name n (i ∷ is) = (tt, drops_no_name n is)
 
+run_no_name : (c : Change) → IsOfRuns c → NamesNothing c
+run_no_name (Makes s) is = tt
+run_no_name (Resizes m size) is = tt
+run_no_name (Locks m count) is = tt
+run_no_name (Marks m discarded) is = tt
+run_no_name (Holds p i h) is = tt
+run_no_name (Drops p i count) is = tt
+run_no_name (Finishes p state) is = tt
+run_no_name (Reserves r) is = tt
+run_no_name (Frees region first) is = tt
+run_no_name (Names text name) is = absurd is
+
+runs_no_name : (cs : List Change) → AreOfRuns cs → NameNothing cs
+runs_no_name [] are = tt
+runs_no_name (c ∷ cs) are = (run_no_name c are.0, runs_no_name cs are.1)
+
 module _ (k : Known) (n : ℕ) where
   alloc_at : (size flags : ℕ) (o : Option ℕ) → RulesNoName (allocation_at k n size flags o)
   alloc_at size flags None = tt
@@ -266,6 +284,7 @@ module _ (k : Known) (n : ℕ) where
   by_name P (Unlock selector) c t old new w leaves own shared = own leaves (unlock_of (held_under k n selector))
   by_name P (Alias selector s o) c t old new w leaves own shared = own leaves (alias_of (selector / 8) (held_under k n selector))
   by_name P (Shared a) c t old new w leaves own shared = shared leaves
+  by_name P (Huge a) c t old new w leaves own shared = own leaves (runs_no_name (ruling_of (Huge a) k n c).changes (runs_change a k n c))
 
 -- a call that may stop names nothing
 pub stops_unnamed : (a : SegmentArguments) → MayStop a → (t : Shelf) (old new : List (Option Name)) (w : World) → LeavesSpelled a t old new w → new ≡ old
@@ -277,6 +296,7 @@ stops_unnamed (Lock selector) may t old new w leaves = leaves
 stops_unnamed (Unlock selector) may t old new w leaves = leaves
 stops_unnamed (Alias selector s o) may t old new w leaves = leaves
 stops_unnamed (Shared a) may t old new w leaves = absurd may
+stops_unnamed (Huge a) may t old new w leaves = leaves
 
 -- a call whose value is written then
 pub leaves_written : (a : SegmentArguments) (s t : Shelf) → KeepsStore s t → (old new : List (Option Name)) (w : World) → LeavesSpelled a s old new w → LeavesSpelled a t old new w
@@ -288,3 +308,4 @@ leaves_written (Lock selector) s t store old new w leaves = leaves
 leaves_written (Unlock selector) s t store old new w leaves = leaves
 leaves_written (Alias selector z o) s t store old new w leaves = leaves
 leaves_written (Shared a) s t store old new w leaves = spelled_written s t store new w leaves
+leaves_written (Huge a) s t store old new w leaves = leaves

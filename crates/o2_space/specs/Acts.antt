@@ -72,8 +72,13 @@ Acts b w x p i j c d r q (Err f) = ActsFault b w p i j c d r q f
 
 -- how many segments a step makes at most: none where it isn't taken
 abbrev pub made_by : {T : Type 0} → Result T Fault → ℕ
-made_by (Ok x) = 1
+made_by (Ok x) = 4096
 made_by (Err f) = 0
+
+-- how many holds more it has of what is held, at most: one, and none where it isn't taken
+abbrev pub holds_by : {T : Type 0} → Result T Fault → ℕ
+holds_by (Ok x) = 1
+holds_by (Err f) = 0
 
 -- Who is marked live behind a step of a process: where the step ended it, all but this one that were, and else all that were.
 abbrev pub AreMarkedBehind : (old new : List Bool) → (pid : ℕ) → Result Ran Fault → Type 0

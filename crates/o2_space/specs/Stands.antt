@@ -8,7 +8,6 @@ use Rattle.o2_world.specs.Map.{Map}
 use Rattle.o2_world.specs.Run.{changed}
 use Rattle.o2_world.specs.World.{Process, Reserve, Segment, World, is_live}
 use Rattle.o2_regions.specs.Maps.{IsProcess, Maps, table_of}
-use Rattle.o2_segs.specs.Answers.{AreAlone}
 use Rattle.o2_segs.specs.Sharing.{ShareOne}
 use Rattle.o2_shared.specs.Texts.{AreInPlace}
 use Rattle.o2_stands.specs.Parts.{Parts, Running}
@@ -21,14 +20,12 @@ abbrev pub AreWhole : Maps → Type 0
 AreWhole m = (pid : ℕ) → IsProcess m pid → length (table_of m pid) ≡ 8192
 
 -- The parts go together, over a device of so many blocks: the calls of the store, of the service and of the bus may be made,
--- whatever the blocks hold; each process is one of the tables, of which no others are; those that live are marked so; nobody holds a
--- run of a huge allocation; each process has a whole table; under a shared index is one segment; and the names of shared segments
--- are in place.
+-- whatever the blocks hold; each process is one of the tables, of which no others are; those that live are marked so; each process has
+-- a whole table; under a shared index is one segment; and the names of shared segments are in place.
 pub record GoTogether (m : Space) (device : ℕ) : Type 0 where
   pub ready : (block : ℕ → List ℕ) → IsReady (parts_in m device block)
   pub numbers : length m.procs.items ≡ m.regions.processes
   pub marked : AreMarked m.ends (parts_in m device (λ n. []))
-  pub alone : AreAlone m.regions
   pub whole : AreWhole m.regions
   pub one : ShareOne m.regions
   pub places : AreInPlace m.store m.regions m.names

@@ -33,7 +33,7 @@ ghost use Rattle.o2_segs.specs.Sharing.{AreHeldAtMost};
 ghost use Rattle.o2_shared.specs.Shares.{AreFew};
 ghost use Rattle.o2_shared.specs.Texts.{IsBehind};
 ghost use Rattle.o2_calls.specs.SharedActs.{AreSpelled};
-ghost use Rattle.o2_space.specs.Acts.{Acts, AreMarkedBehind, SpellsBehind, made_by};
+ghost use Rattle.o2_space.specs.Acts.{Acts, AreMarkedBehind, SpellsBehind, holds_by, made_by};
 ghost use Rattle.o2_space.specs.Between.{Steps};
 ghost use Rattle.o2_space.specs.Nexts.{SaysRoom, SaysStep};
 ghost use Rattle.o2_space.specs.Parts.{parts_in};
@@ -238,7 +238,7 @@ impl Space {
         requires there { pid ≤ length self.old.procs.items }
         requires live { lives self.old.ends pid ≡ true }
         requires together { GoTogether self.old (S.blocks swap.old) }
-        requires made { self.old.store.made < 2 ^ 64 - 1 }
+        requires made { self.old.store.made + 4096 < 2 ^ 64 }
         requires few { AreFew self.old.regions }
 
         // From a machine that stands for a world, and keeps the names of its texts, the step of the boundless machine; or it stands for
@@ -300,7 +300,7 @@ impl Space {
         ensures processes { self.new.regions.processes ≡ self.old.regions.processes }
         ensures made { self.new.store.made ≤ self.old.store.made + made_by result }
         ensures held { (k : ℕ) → 1 ≤ k → AreHeldAtMost self.old.regions k
-            → AreHeldAtMost self.new.regions (k + made_by result) }
+            → AreHeldAtMost self.new.regions (k + holds_by result) }
         ensures avail { self.new.services.avail ≡ self.old.services.avail }
         ensures images { self.new.images ≡ self.old.images }
         ensures device { (S.blocks swap.new ≡ S.blocks swap.old)

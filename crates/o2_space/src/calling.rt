@@ -1,5 +1,5 @@
 // A call on segments by a process over a store.
-ghost use Rattle.std.specs.Prelude.{◌≡◌, ◌<◌, ◌≤◌, ◌+◌, ◌-◌, ◌^◌, ℕ, IfOk, List, length, Option, Some, IsTrue, true};
+ghost use Rattle.std.specs.Prelude.{◌≡◌, ◌<◌, ◌≤◌, ◌+◌, ◌-◌, ◌^◌, ℕ, IfOk, List, OnOk, length, Option, Some, IsTrue, true};
 ghost use Rattle.o2_outer.specs.Texts.{Rose};
 ghost use Rattle.o2_isa.specs.View.{bound_registers};
 ghost use Rattle.o2_regions.specs.Lives.{lives};
@@ -15,7 +15,8 @@ ghost use Rattle.o2_world.specs.Tied.{IsSound, IsTied};
 ghost use Rattle.o2_world.specs.World.{Process, Setting, World, is_live as lives_on};
 ghost use Rattle.o2_gate.specs.Gathers.{asked, targets};
 ghost use Rattle.o2_gate.specs.Pointed.{are_ready};
-ghost use Rattle.o2_gate.specs.Replies.{IsValue, bytes_of};
+ghost use Rattle.o2_gate.specs.MovedLines.{AreInside, all_lines};
+ghost use Rattle.o2_gate.specs.Replies.{IsValue, bytes_of, name_of};
 ghost use Rattle.o2_stands.specs.Stands.{IsSetTo, Stands};
 ghost use Rattle.o2_run.specs.Pieces.{counts};
 ghost use Rattle.o2_stepping.specs.Pieces.{RanHands};
@@ -23,14 +24,14 @@ ghost use Rattle.o2_stepping.specs.Ran.{IsCallOf};
 ghost use Rattle.o2_stepping.specs.Rooms.{all_names, room_in};
 ghost use Rattle.o2_stepping.specs.Taken.{IsSwapStop, OnErr, OnNoStep, OnBegun, OnSwapStop, TakenFor};
 ghost use Rattle.o2_stepping.specs.Worlds.{bytes_with};
-ghost use Rattle.o2_world.specs.Changes.{with_all};
+ghost use Rattle.o2_world.specs.Changes.{moved_lines, with_all};
 ghost use Rattle.o2_world.specs.Known.{known_of};
 ghost use Rattle.o2_segs.specs.Sharing.{AreHeldAtMost};
 ghost use Rattle.o2_shared.specs.Shares.{AreFew};
 ghost use Rattle.o2_shared.specs.Texts.{IsBehind};
 ghost use Rattle.o2_calls.specs.Acts.{ruling_of};
 ghost use Rattle.o2_calls.specs.SharedActs.{AreSpelled};
-ghost use Rattle.o2_space.specs.Acts.{Acts, AreMarkedBehind, SpellsBehind, made_by};
+ghost use Rattle.o2_space.specs.Acts.{Acts, AreMarkedBehind, SpellsBehind, holds_by, made_by};
 ghost use Rattle.o2_space.specs.Calls.{Makes, MakesNames, SaysCall, no_registers};
 ghost use Rattle.o2_space.specs.Nexts.{SaysRoom};
 ghost use Rattle.o2_space.specs.Parts.{parts_in};
@@ -40,7 +41,7 @@ ghost use Rattle.o2_run.specs.Room.{AllFits};
 
 use crate::acting::is_live;
 use crate::space::Space;
-use o2_calls::act;
+use o2_calls::{act, count, note};
 use o2_gate::{SegmentArguments, come_back, give_value};
 use o2_isa::Cpu;
 use o2_outer::{Sink, SwapDevice};
@@ -123,7 +124,7 @@ impl Space {
         swap: &mut S,
     ) -> Result<Answer, Fault>
         requires together { GoTogether self.old (S.blocks swap.old) }
-        requires made { self.old.store.made < 2 ^ 64 - 1 }
+        requires made { self.old.store.made + 4096 < 2 ^ 64 }
         requires few { AreFew self.old.regions }
         requires can_step { CanStep self.old.store self.old.regions pid cpu.old }
         requires aimed { are_ready (seen self.old.store self.old.regions pid cpu.old) (targets arguments) ≡ true }
@@ -158,6 +159,15 @@ impl Space {
         ensures stops { OnErr result (λ f. IsSwapStop f) }
         ensures fault { OnSwapStop result (Unit {0}) (Unit {0}) (Rose (S.faults swap.old) (S.faults swap.new)) }
         ensures value { IfOk result (λ a. IsValue arguments a.value) }
+        // What came and what went has the lines of what the call changes.
+        ensures moves { (s : Setting) (w : World) (x : Process) → IsTrue (S.told swap.new)
+            → Stands (parts_in self.old (S.blocks swap.old) (S.block swap.old)) w
+            → IsSetTo (parts_in self.old (S.blocks swap.old) (S.block swap.old)) s → IsTied w
+            → process_at w.processes pid ≡ Some x → cpu.old ≡ x.cpu
+            → AreSpelled self.old.store self.old.names w
+            → OnOk result (all_lines (name_of arguments) self.new.services.moves
+            ≡ moved_lines (name_of arguments) (ruling_of arguments (known_of s w) pid x.cpu).changes) }
+        ensures inside { OnOk result (AreInside self.new.services.moves) }
         ensures together { GoTogether self.new (S.blocks swap.new) }
         ensures set { (s : Setting)
             → IsSetTo (parts_in self.old (S.blocks swap.old) (S.block swap.old)) s
@@ -167,7 +177,7 @@ impl Space {
         ensures processes { self.new.regions.processes ≡ self.old.regions.processes }
         ensures made { self.new.store.made ≤ self.old.store.made + made_by result }
         ensures held { (k : ℕ) → 1 ≤ k → AreHeldAtMost self.old.regions k
-            → AreHeldAtMost self.new.regions (k + made_by result) }
+            → AreHeldAtMost self.new.regions (k + holds_by result) }
         ensures avail { self.new.services.avail ≡ self.old.services.avail }
         ensures images { self.new.images ≡ self.old.images }
         ensures device { (S.blocks swap.new ≡ S.blocks swap.old)
@@ -176,6 +186,7 @@ impl Space {
     {
         lawful(&self.store, &self.regions);
         let need = call_need(arguments, &self.regions, pid, cpu);
+        let counted = count(arguments, &self.regions, pid);
         match act(
             arguments,
             pid,
@@ -192,6 +203,8 @@ impl Space {
             Roomed::SwapFull => Err(Fault::Stopped(Stop::SwapFull)),
             Roomed::SwapFault => Err(Fault::Stopped(Stop::SwapFault)),
             Roomed::Done(answer) => {
+                let moves = &mut self.services.moves;
+                note(moves, arguments, pid, counted, &self.regions, &answer);
                 lawful(&self.store, &self.regions);
                 give(&mut self.store, &mut self.regions, pid, arguments, &answer);
                 lawful(&self.store, &self.regions);
@@ -219,7 +232,7 @@ impl Space {
         requires most { pid ≤ 64 }
         requires live { lives self.old.ends pid ≡ true }
         requires together { GoTogether self.old (S.blocks swap.old) }
-        requires made { self.old.store.made < 2 ^ 64 - 1 }
+        requires made { self.old.store.made + 4096 < 2 ^ 64 }
         requires few { AreFew self.old.regions }
         requires can_step { CanStep self.old.store self.old.regions pid registers }
         requires aimed { are_ready (seen self.old.store self.old.regions pid registers) (targets arguments) ≡ true }
@@ -265,7 +278,7 @@ impl Space {
         ensures processes { self.new.regions.processes ≡ self.old.regions.processes }
         ensures made { self.new.store.made ≤ self.old.store.made + made_by result }
         ensures held { (k : ℕ) → 1 ≤ k → AreHeldAtMost self.old.regions k
-            → AreHeldAtMost self.new.regions (k + made_by result) }
+            → AreHeldAtMost self.new.regions (k + holds_by result) }
         ensures avail { self.new.services.avail ≡ self.old.services.avail }
         ensures images { self.new.images ≡ self.old.images }
         ensures device { (S.blocks swap.new ≡ S.blocks swap.old)
@@ -279,8 +292,10 @@ impl Space {
         match self.make_call(pid, &mut cpu, arguments, next, swap) {
             Err(fault) => Err(fault),
             Ok(answer) => {
-                let line = &mut self.services.line;
-                let ran = reply(pid, &registers, arguments, &answer, line, report);
+                let services = &mut self.services;
+                let moves = &services.moves;
+                let line = &mut services.line;
+                let ran = reply(pid, &registers, arguments, &answer, moves, line, report);
                 self.commit(pid, &cpu, State::Live);
                 if !is_live(ran.state) {
                     self.commit(pid, &cpu, ran.state);

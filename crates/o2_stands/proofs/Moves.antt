@@ -27,6 +27,7 @@ use Rattle.o2_world.specs.Map.{Map, get}
 use Rattle.o2_world.specs.World.{Process, Reserve, Segment}
 use Rattle.o2_world.specs.Views.{segment_bytes, with_bytes}
 use Rattle.o2_world.proofs.MapLemmas.{get-map}
+use Rattle.o2_stands.proofs.RunsKept.{flags_written, full_written}
 use Rattle.o2_stands.specs.Parts.{Parts, byte_in, cause_of, held_in, held_of}
 use Rattle.o2_stands.specs.Stands.{AreOnce, IsIndex, IsNamed, IsReady, IsSegment, IsTidy, StandsIn}
 use Rattle.o2_stands.specs.Moves.{AreWritten, moved, stepped_to}
@@ -269,8 +270,27 @@ once_written (e ∷ es) bytes once =
     let put : ℕ → Segment → Segment = λ n s. record s { bytes = bytes n } in
     (get-map put es e.0 ∙ none_stays (put e.0) (get es e.0) once.0, once_written es bytes once.1)
 
-pub tidy_written : (ps : List Process) (names : Map Segment) (reserved : List Reserve) (bytes : ℕ → List ℕ) → IsTidy ps names reserved → IsTidy ps (with_bytes names bytes) reserved
-tidy_written ps names reserved bytes tidy =
+-- each name that lives keeps its size
+pub record KeepSizes (names : Map Segment) (bytes : ℕ → List ℕ) : Type 0 where
+  pub each : (n : ℕ) (s : Segment) → get names n ≡ Some s → length (bytes n) ≡ length s.bytes
+
+-- names that stand for segments of the same sizes have as many bytes as these
+pub sizes_kept : (p q : Parts) (names : Map Segment) (bytes : ℕ → List ℕ) → SameFor p q → ((n : ℕ) → IsNamed p (key_of p.shelf n) (get names n))
+    → ((n : ℕ) → IsNamed q (key_of q.shelf n) (get (with_bytes names bytes) n)) → KeepSizes names bytes
+sizes_kept p q names bytes w before behind = record { each = one }
+  where
+    of_key : (n : ℕ) (s : Segment) (o : Option ℕ) → IsNamed p o (Some s) → IsNamed q o (Some (record s { bytes = bytes n })) → length (bytes n) ≡ length s.bytes
+    of_key n s None a b = absurd a
+    of_key n s (Some k) a b = b.size ∙ (w.sizes k ∙ sym a.size)
+
+    one : (n : ℕ) (s : Segment) → get names n ≡ Some s → length (bytes n) ≡ length s.bytes
+    one n s there =
+        of_key n s (key_of p.shelf n) (subst (λ (o : Option Segment). IsNamed p (key_of p.shelf n) o) there (before n))
+        (subst (λ (o : Option ℕ). IsNamed q o (Some (record s { bytes = bytes n }))) (w.keys n)
+        (subst (λ (o : Option Segment). IsNamed q (key_of q.shelf n) o) (get-map (λ (m : ℕ) (x : Segment). record x { bytes = bytes m }) names n ∙ ap (option_map (λ (x : Segment). record x { bytes = bytes n })) there) (behind n)))
+
+pub tidy_written : (ps : List Process) (names : Map Segment) (reserved : List Reserve) (bytes : ℕ → List ℕ) → KeepSizes names bytes → IsTidy ps names reserved → IsTidy ps (with_bytes names bytes) reserved
+tidy_written ps names reserved bytes sizes tidy =
     let put : ℕ → Segment → Segment = λ n s. record s { bytes = bytes n } in
     record {
       once = once_written names bytes tidy.once;
@@ -278,16 +298,21 @@ tidy_written ps names reserved bytes tidy =
       ended = tidy.ended;
       stay = tidy.stay;
       shared = tidy.shared;
+      run = tidy.run;
       free = tidy.free;
+      disjoint = tidy.disjoint;
+      runs = tidy.runs;
+      flags = record { each = λ n i h m. flags_written (put h.name) i (get names h.name) (get-map put names h.name) (λ s. refl) (tidy.flags.each n i h m) };
+      full = record { each = λ n i h m s some. full_written (put h.name) (get names h.name) (get-map put names h.name) (λ x there. sizes.each h.name x there) (tidy.full.each n i h m s some) };
     }
 
 pub step_stands : (p : Parts) (t : Shelf) (m : Maps) (ps : List Process) (names : Map Segment) (next : ℕ) (reserved : List Reserve) (bytes : ℕ → List ℕ)
     → KeepsStore p.shelf t → KeepsMaps p.maps m → AreInside t → IsReady (stepped_to p t m) → StandsIn p ps names next reserved → AreWritten names t bytes
     → StandsIn (stepped_to p t m) ps (with_bytes names bytes) next reserved
 step_stands p t m ps names next reserved bytes f g inside ready stands written =
-    stands_as p (stepped_to p t m) ps names (with_bytes names bytes) next reserved (step_same p t m f g) ready stands
-    (written_at p t m f g inside names bytes stands.segments written)
-    (tidy_written ps names reserved bytes stands.tidy)
+    let named = written_at p t m f g inside names bytes stands.segments written in
+    stands_as p (stepped_to p t m) ps names (with_bytes names bytes) next reserved (step_same p t m f g) ready stands named
+    (tidy_written ps names reserved bytes (sizes_kept p (stepped_to p t m) names bytes (step_same p t m f g) stands.segments named) stands.tidy)
 
 pub step_ready : (p : Parts) (t : Shelf) (m : Maps) (pid : ℕ) (c : Cpu) → IsReady p → KeepsStore p.shelf t → KeepsMaps p.maps m → KeepsClean p.shelf p.maps t → CanStep t m pid c
     → IsReady (stepped_to p t m)

@@ -1,22 +1,25 @@
 -- The world before the first step is tidy.
-use Rattle.std.proofs.Common.{◌≡◌, ℕ, ◌+◌, ◌-◌, ◌<◌, ◌≤◌, Bool, true, false, cond, ◌==◌, List, [], ◌∷◌, length, map, Option, Some, None, is_some, refl, sym, ap, ◌∙◌, subst, arith}
-use Rattle.std.specs.Prelude.{Ok}
+use Rattle.std.proofs.Common.{◌≡◌, inl, ℕ, ◌+◌, ◌-◌, ◌<◌, ◌≤◌, Bool, true, false, cond, ◌&&◌, ◌||◌, ◌==◌, List, [], ◌∷◌, length, map, Option, Some, None, is_some, refl, sym, ap, ◌∙◌, subst, arith, if◌then◌else◌}
+use Rattle.std.specs.Prelude.{Ok, nat_le, nat_lt, not}
 use Rattle.std.specs.List.{list_any}
 use Rattle.std.proofs.lemmas.Bool.{false≢true}
 use Rattle.o2_conf.specs.declared.script.Word.{Word}
 use Rattle.o2_world.specs.Holders.{process_at}
-use Rattle.o2_world.specs.Known.{held_at, is_for_the_run, lives_at}
+use Rattle.o2_regions.specs.declared.held.Region.TheVariants.{Private, Shared}
+use Rattle.o2_world.specs.Known.{held_at, is_for_the_run, lives_at, reserves}
 use Rattle.o2_world.specs.Map.{Map, get}
 use Rattle.o2_world.specs.Opening.{held_by_load}
+use Rattle.o2_world.specs.Rulings.{is_in_run}
 use Rattle.o2_world.specs.Sound.{held_in, held_of}
 use Rattle.o2_world.specs.Starts.{Built, Holding, Start, all_started, for_the_run, holdings, holds_as, name_in, nothing_built, opening_of, segment_of, with_holding, with_holdings}
 use Rattle.o2_world.specs.Tied.{IsSound}
-use Rattle.o2_world.specs.World.{ByLoad, Held, Process, Setting, World}
+use Rattle.o2_world.specs.World.{ByLoad, Held, Process, Reserve, Setting, World}
 use Rattle.o2_world.proofs.Numbers.{at_place_of}
 use Rattle.o2_world.proofs.OpeningSound.{Keeps, SoFar, all_so_far, behind, either_of, opened}
 use Rattle.o2_world.proofs.Openings.{opening_reserves}
-use Rattle.o2_stands.specs.Stands.{AllStay, AreOnce, IsTidy, is_by_load}
-use Rattle.o2_stands.proofs.Worlds.{to_place}
+use Rattle.o2_stands.specs.Stands.{AllDisjoint, AllStay, AreOnce, IsDisjointFrom, IsTidy, is_by_load, number_of}
+use Rattle.o2_stands.proofs.RunsKept.{no_runs}
+use Rattle.o2_stands.proofs.Worlds.{held_number, to_place}
 
 -- between two starts each name stands once, and is below the next one
 record OnceSoFar (b : Built) : Type 0 where
@@ -58,21 +61,22 @@ opening_once s reserved script input starts w e =
     all_so_far OnceSoFar (λ (x : Start). Unit {0}) s.segments starts (Ok nothing_built) started_once (λ k d l. tt) (record { once = tt; below = λ q f. absurd (false≢true f) }) in
     opened (λ (x : World). AreOnce x.names) OnceSoFar reserved script s.budget input (all_started s.segments starts) w (λ b x. x.once) so_far e
 
--- all that is held is held by load
+-- all that is held is held by load, and in no run
 record AreLoads (b : Built) : Type 0 where
-  held : (place i : ℕ) (h : Held) → held_in b.processes place i ≡ Some h → h.cause ≡ ByLoad
-  so_far : (i : ℕ) (h : Held) → get b.held i ≡ Some h → h.cause ≡ ByLoad
+  held : (place i : ℕ) (h : Held) → held_in b.processes place i ≡ Some h → (h.cause ≡ ByLoad) × (h.reserved ≡ 0)
+  so_far : (i : ℕ) (h : Held) → get b.held i ≡ Some h → (h.cause ≡ ByLoad) × (h.reserved ≡ 0)
 
-load_more : (m : Map Held) (i : ℕ) (x : Held) → x.cause ≡ ByLoad → ((j : ℕ) (h : Held) → get m j ≡ Some h → h.cause ≡ ByLoad) → (j : ℕ) (h : Held) → get ((i, x) ∷ m) j ≡ Some h → h.cause ≡ ByLoad
-load_more m i x load old j h e = go (i == j) e
+load_more : (m : Map Held) (i : ℕ) (x : Held) → x.cause ≡ ByLoad → x.reserved ≡ 0 → ((j : ℕ) (h : Held) → get m j ≡ Some h → (h.cause ≡ ByLoad) × (h.reserved ≡ 0)) → (j : ℕ) (h : Held) → get ((i, x) ∷ m) j ≡ Some h
+    → (h.cause ≡ ByLoad) × (h.reserved ≡ 0)
+load_more m i x load alone old j h e = go (i == j) e
   where
-    go : (t : Bool) → cond t (Some x) (get m j) ≡ Some h → h.cause ≡ ByLoad
-    go true f = (let same : x ≡ h = cc in ap (λ (y : Held). y.cause) (sym same) ∙ load)
+    go : (t : Bool) → cond t (Some x) (get m j) ≡ Some h → (h.cause ≡ ByLoad) × (h.reserved ≡ 0)
+    go true f = (let same : x ≡ h = cc in (ap (λ (y : Held). y.cause) (sym same) ∙ load, ap (λ (y : Held). y.reserved) (sym same) ∙ alone))
     go false f = old j h f
 
 holding_loads : (b : Built) (h : Holding) (o : Option ℕ) → AreLoads b → AreLoads (holds_as b h o)
-holding_loads b h (Some name) x = record { held = x.held; so_far = load_more b.held h.index (held_by_load name h.rights) refl x.so_far }
-holding_loads b h None x = record { held = x.held; so_far = load_more b.held h.index (held_by_load b.next_name h.rights) refl x.so_far }
+holding_loads b h (Some name) x = record { held = x.held; so_far = load_more b.held h.index (held_by_load name h.rights) refl refl x.so_far }
+holding_loads b h None x = record { held = x.held; so_far = load_more b.held h.index (held_by_load b.next_name h.rights) refl refl x.so_far }
 
 holdings_load : (hs : List Holding) (b : Built) → AreLoads b → AreLoads (with_holdings b hs)
 holdings_load [] b x = x
@@ -88,16 +92,35 @@ started_loads b s u checked fit x =
     record { held = λ place i h e. either_of (behind c.processes _ place i h e) (y.held place i h) (y.so_far i h); so_far = λ i h e. absurd (no_hold h e) }
 
 opening_loads : (s : Setting) (reserved : List (ℕ × ℕ)) (script : List Word) (input : List ℕ) (starts : List Start) (w : World)
-    → opening_of s reserved script input starts ≡ Ok w → (place i : ℕ) (h : Held) → held_in w.processes place i ≡ Some h → h.cause ≡ ByLoad
+    → opening_of s reserved script input starts ≡ Ok w → (place i : ℕ) (h : Held) → held_in w.processes place i ≡ Some h → (h.cause ≡ ByLoad) × (h.reserved ≡ 0)
 unfolding all_started
 opening_loads s reserved script input starts w e =
     let so_far : SoFar AreLoads (all_started s.segments starts) =
     all_so_far AreLoads (λ (x : Start). Unit {0}) s.segments starts (Ok nothing_built) started_loads (λ k d l. tt) (record { held = λ place i h f. absurd (no_hold h f); so_far = λ i h f. absurd (no_hold h f) }) in
-    opened (λ (x : World). (place i : ℕ) (h : Held) → held_in x.processes place i ≡ Some h → h.cause ≡ ByLoad) AreLoads reserved script s.budget input (all_started s.segments starts) w (λ b x. x.held) so_far e
+    opened (λ (x : World). (place i : ℕ) (h : Held) → held_in x.processes place i ≡ Some h → (h.cause ≡ ByLoad) × (h.reserved ≡ 0)) AreLoads reserved script s.budget input (all_started s.segments starts) w (λ b x. x.held) so_far e
 
-all_for_the_run : (rs : List (ℕ × ℕ)) → AllStay (map for_the_run rs)
-all_for_the_run [] = tt
-all_for_the_run (r ∷ rs) = (refl, all_for_the_run rs)
+all_for_the_run : (ps : List Process) (rs : List (ℕ × ℕ)) → AllStay ps (map for_the_run rs)
+all_for_the_run ps [] = tt
+all_for_the_run ps (r ∷ rs) = (refl, all_for_the_run ps rs)
+
+disjoint_one : (r : ℕ × ℕ) (rs : List (ℕ × ℕ)) → IsDisjointFrom (for_the_run r) (map for_the_run rs)
+disjoint_one r [] = tt
+disjoint_one r (q ∷ rs) = (inl refl, disjoint_one r rs)
+
+all_disjoint : (rs : List (ℕ × ℕ)) → AllDisjoint (map for_the_run rs)
+all_disjoint [] = tt
+all_disjoint (r ∷ rs) = (disjoint_one r rs, all_disjoint rs)
+
+-- none is of a process's own region
+no_own : (rs : List (ℕ × ℕ)) (n i : ℕ) → 0 < n → list_any (reserves n i) (map for_the_run rs) ≡ false
+no_own [] n i some = refl
+no_own (r ∷ rs) n i some = ap (λ (b : Bool). (b && (nat_le r.0 i && nat_lt i (r.0 + r.1))) || list_any (reserves n i) (map for_the_run rs)) (other n some) ∙ no_own rs n i some
+  where
+    other : (n : ℕ) → 0 < n → (0 == n) ≡ false
+    other n h = grind arith
+
+high_is : (i : ℕ) → nat_lt i 4096 ≡ false → 4096 ≤ i
+high_is i e = grind arith
 
 -- who has ended holds nothing
 nothing_held : (w : World) → IsSound w → (n i : ℕ) → lives_at (process_at w.processes n) ≡ false → held_at w.processes n i ≡ None
@@ -117,7 +140,27 @@ opening_tidy s reserved script input starts w e sound shared = record {
   once = opening_once s reserved script input starts w e;
   used = sound.swept.named;
   ended = nothing_held w sound;
-  stay = subst AllStay (sym (opening_reserves s reserved script input starts w e)) (all_for_the_run reserved);
+  stay = subst (AllStay w.processes) (sym reserves_are) (all_for_the_run w.processes reserved);
   shared = λ n i h high there load. shared n i high (ap is_some there);
-  free = λ n i h high there other. absurd (false≢true (sym other ∙ ap is_by_load (opening_loads s reserved script input starts w e (n - 1) i h (to_place w.processes n i h there))));
+  run = λ n i h there run. absurd (out_of_runs n i h there run);
+  free = λ n i h there alone other. free n i h there other (nat_lt i 4096) refl;
+  disjoint = subst AllDisjoint (sym reserves_are) (all_disjoint reserved);
+  runs = no_runs (held_at w.processes) (λ n i h m. out_of_runs n i h m.there m.run);
+  flags = record { each = λ n i h m. absurd (out_of_runs n i h m.there m.run) };
+  full = record { each = λ n i h m s some. absurd (out_of_runs n i h m.there m.run) };
 }
+  where
+    reserves_are : w.reserved ≡ map for_the_run reserved
+    reserves_are = opening_reserves s reserved script input starts w e
+
+    held : (n i : ℕ) (h : Held) → held_at w.processes n i ≡ Some h → (h.cause ≡ ByLoad) × (h.reserved ≡ 0)
+    held n i h there = opening_loads s reserved script input starts w e (n - 1) i h (to_place w.processes n i h there)
+
+    out_of_runs : (n i : ℕ) (h : Held) → held_at w.processes n i ≡ Some h → is_in_run h ≡ true → ⊥
+    out_of_runs n i h there run = false≢true (sym (ap (λ (c : ℕ). not (c == 0)) (held n i h there).1) ∙ run)
+
+    free : (n i : ℕ) (h : Held) → held_at w.processes n i ≡ Some h → (4096 ≤ i → is_by_load h.cause ≡ false) → (b : Bool) → nat_lt i 4096 ≡ b
+        → list_any (reserves (number_of (if b then Private n else Shared)) i) w.reserved ≡ false
+    free n i h there other true low =
+        ap (λ (rs : List Reserve). list_any (reserves n i) rs) reserves_are ∙ no_own reserved n i (held_number w.processes n i h there)
+    free n i h there other false high = absurd (false≢true (sym (other (high_is i high)) ∙ ap is_by_load (held n i h there).0))

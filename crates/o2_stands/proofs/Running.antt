@@ -11,6 +11,9 @@ use Rattle.o2_world.specs.World.{Held, Process, Reserve, Segment, is_live}
 use Rattle.o2_stands.specs.Parts.{Parts, Running, running_of}
 use Rattle.o2_stands.specs.Stands.{IsNamed, IsReady, IsTidy, StandsIn, number_of, taken_by}
 use Rattle.o2_stands.specs.Moves.{with_running}
+use Rattle.o2_stands.proofs.Reserved.{stay_still}
+use Rattle.o2_stands.proofs.RunsKept.{flags_same, full_same, runs_same}
+use Rattle.o2_stands.proofs.Used.{used_by, used_found, used_still}
 use Rattle.o2_stands.proofs.Worlds.{holds_of, index_back, index_held, name_held, number_is, put_here, put_other}
 
 -- registers and state of a process are nothing that the calls go by
@@ -82,9 +85,14 @@ module _ (ps : List Process) (pid : ℕ) (x q : Process) (there : process_at ps 
     once = tidy.once;
     used = λ n s. used n (tidy.used n s);
     ended = λ n i e. holds_same n i ∙ tidy.ended n i (before n e);
-    stay = tidy.stay;
+    stay = stay_still ps qs (λ r goes e. used_found qs r (used_still ps qs (λ n i h there. holds_same n i ∙ there) r.region r.first (used_by ps r goes e))) reserved tidy.stay;
     shared = λ n i h high e load. tidy.shared n i h high (sym (holds_same n i) ∙ e) load;
-    free = λ n i h high e other. tidy.free n i h high (sym (holds_same n i) ∙ e) other;
+    run = λ n i h e run. tidy.run n i h (sym (holds_same n i) ∙ e) run;
+    free = λ n i h e alone other. tidy.free n i h (sym (holds_same n i) ∙ e) alone other;
+    disjoint = tidy.disjoint;
+    runs = runs_same (held_at ps) (held_at qs) holds_same tidy.runs;
+    flags = flags_same (held_at ps) (held_at qs) names holds_same tidy.flags;
+    full = full_same (held_at ps) (held_at qs) names holds_same tidy.full;
   }
     where
       used : (n : ℕ) → is_held ps n ≡ true → is_held qs n ≡ true

@@ -26,6 +26,16 @@ to_place ps n i h e = go (n == 0) e
     go true q = absurd (none_some h q)
     go false q = q
 
+pub held_number : (ps : List Process) (n i : ℕ) (h : Held) → held_at ps n i ≡ Some h → 0 < n
+held_number ps n i h e = go (n == 0) refl e
+  where
+    above : (n : ℕ) → (n == 0) ≡ false → 0 < n
+    above n e = grind arith
+
+    go : (b : Bool) → (n == 0) ≡ b → held_of (cond b None (slice_get ps (n - 1))) i ≡ Some h → 0 < n
+    go true is q = absurd (none_some h q)
+    go false is q = above n is
+
 -- who holds a name
 pub name_held : (ps : List Process) (n i : ℕ) (h : Held) → held_at ps n i ≡ Some h → is_held ps h.name ≡ true
 name_held ps n i h e = held_found ps (n - 1) i h (to_place ps n i h e)

@@ -1,4 +1,5 @@
 pub mod Parts
+pub mod Runs
 pub mod Stands
 pub mod Tidies
 pub mod Knows

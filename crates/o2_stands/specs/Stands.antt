@@ -1,12 +1,12 @@
 -- A machine over a store stands for a world: look-up by look-up, index by index and name by name. Its texts are left to the world.
-use Rattle.std.specs.Prelude.{◌≡◌, ℕ, ◌<◌, ◌≤◌, ◌&&◌, ◌||◌, ◌==◌, Bool, true, false, List, [], ◌∷◌, length, if◌then◌else◌, min, Option, Some, None, is_some, option_map, slice_index_or}
+use Rattle.std.specs.Prelude.{◌≡◌, ◌⊎◌, ℕ, ◌<◌, ◌≤◌, ◌&&◌, ◌||◌, ◌==◌, Bool, true, false, not, List, [], ◌∷◌, length, if◌then◌else◌, min, nat_le, nat_lt, Option, Some, None, is_some, option_map, slice_index_or}
 use Rattle.std.specs.List.{list_any}
 use Rattle.o2_place.specs.Layout.{len_of, over}
 use Rattle.o2_regions.specs.declared.held.Region.{Region}
 use Rattle.o2_regions.specs.declared.held.Region.TheVariants.{Private, Shared}
 use Rattle.o2_regions.specs.Kept.{AreKept}
 use Rattle.o2_regions.specs.Lives.{lives}
-use Rattle.o2_regions.specs.Maps.{Maps, IsRegion, end_of, first_of, is_taken}
+use Rattle.o2_regions.specs.Maps.{Maps, IsRegion, end_of, first_of, is_taken, region_of}
 use Rattle.o2_swapmap.specs.Piles.{all_of}
 use Rattle.o2_store.specs.Pictures.{picture, HasPicture}
 use Rattle.o2_store.specs.Shelf.{Shelf, IsShelf, AreClean, HasAll, entry, place_of}
@@ -18,8 +18,11 @@ use Rattle.o2_service.specs.Told.{IsHeldWell}
 use Rattle.o2_world.specs.Map.{Map, get}
 use Rattle.o2_world.specs.World.{Cause, Held, Process, Reserve, Segment, Setting, World, ByLoad, ByCall, ByAlias}
 use Rattle.o2_world.specs.Holders.{is_held, process_at}
+use Rattle.o2_world.specs.Changes.{is_used}
 use Rattle.o2_world.specs.Known.{held_at, holds_index, is_for_the_run, lives_at, reserves}
+use Rattle.o2_world.specs.Rulings.{is_in_run}
 use Rattle.o2_stands.specs.Parts.{Parts, byte_in, goes_on, held_in, running_of}
+use Rattle.o2_stands.specs.Runs.{HasFullMembers, HasRunFlags, HasRuns}
 
 -- what is true of every store and of all maps
 pub record AreLawful (s : Shelf) (m : Maps) : Type 0 where
@@ -79,10 +82,37 @@ abbrev pub AreOnce : Map Segment → Type 0
 AreOnce [] = Unit {0}
 AreOnce (e ∷ es) = (get es e.0 ≡ None) × AreOnce es
 
--- each is of shared indexes, and stays for the whole run
-abbrev pub AllStay : List Reserve → Type 0
-AllStay [] = Unit {0}
-AllStay (r ∷ rs) = (((r.region == 0) && r.stays) ≡ true) × AllStay rs
+-- the number of the region in which a process holds an index: its own one's, and 0 for the shared one
+abbrev pub region_at : (number index : ℕ) → ℕ
+region_at n i = number_of (region_of n i)
+
+-- it begins in its region
+abbrev pub is_placed : Reserve → Bool
+is_placed r = if r.region == 0 then nat_le 4096 r.first else nat_lt r.first 4096
+
+-- it is of shared indexes and stays for the whole run, or is of a huge allocation that is held
+abbrev pub stays_or_is_held : List Process → Reserve → Bool
+stays_or_is_held ps r = ((r.region == 0) && r.stays) || (not r.stays && (is_placed r && is_used ps r))
+
+abbrev pub AllStay : List Process → List Reserve → Type 0
+AllStay ps [] = Unit {0}
+AllStay ps (r ∷ rs) = (stays_or_is_held ps r ≡ true) × AllStay ps rs
+
+-- the indexes of a huge allocation: so many of a region from the first on
+abbrev pub is_stretch : (region first count : ℕ) → Reserve → Bool
+is_stretch region first count r = not r.stays && ((r.region == region) && ((r.first == first) && (r.count == count)))
+
+-- they have no index in common, or both stay
+abbrev pub AreDisjoint : Reserve → Reserve → Type 0
+AreDisjoint r q = ((r.stays && q.stays) ≡ true) ⊎ ((i : ℕ) → reserves r.region i r ≡ true → reserves r.region i q ≡ false)
+
+abbrev pub IsDisjointFrom : Reserve → List Reserve → Type 0
+IsDisjointFrom r [] = Unit {0}
+IsDisjointFrom r (q ∷ qs) = AreDisjoint r q × IsDisjointFrom r qs
+
+abbrev pub AllDisjoint : List Reserve → Type 0
+AllDisjoint [] = Unit {0}
+AllDisjoint (r ∷ rs) = IsDisjointFrom r rs × AllDisjoint rs
 
 abbrev pub is_by_load : Cause → Bool
 is_by_load ByLoad = true
@@ -90,15 +120,22 @@ is_by_load ByCall = false
 is_by_load ByAlias = false
 
 -- What the machine goes by that isn't its own: each name stands once and is held by somebody, who has ended holds nothing, and
--- what is reserved and not held is reserved for the whole run. A shared index that is held by load is one of those, and one that
--- is held otherwise is not.
+-- what is reserved stays for the whole run or is of a huge allocation that is held. A shared index that is held by load is
+-- reserved for the whole run. What is held in a run has a stretch that is reserved for it, and what is held otherwise is at an
+-- index that isn't reserved. Nothing is reserved twice. What is held in runs has the form of runs, and a member before another one has 65,536 bytes.
 pub record IsTidy (ps : List Process) (names : Map Segment) (reserved : List Reserve) : Type 0 where
   pub once : AreOnce names
   pub used : (n : ℕ) → is_some (get names n) ≡ true → is_held ps n ≡ true
   pub ended : (n i : ℕ) → lives_at (process_at ps n) ≡ false → held_at ps n i ≡ None
-  pub stay : AllStay reserved
+  pub stay : AllStay ps reserved
   pub shared : (n i : ℕ) (h : Held) → 4096 ≤ i → held_at ps n i ≡ Some h → is_by_load h.cause ≡ true → list_any (is_for_the_run i) reserved ≡ true
-  pub free : (n i : ℕ) (h : Held) → 4096 ≤ i → held_at ps n i ≡ Some h → is_by_load h.cause ≡ false → list_any (reserves 0 i) reserved ≡ false
+  pub run : (n i : ℕ) (h : Held) → held_at ps n i ≡ Some h → is_in_run h ≡ true → list_any (is_stretch (region_at n i) h.first h.reserved) reserved ≡ true
+  pub free : (n i : ℕ) (h : Held) → held_at ps n i ≡ Some h → is_in_run h ≡ false → (4096 ≤ i → is_by_load h.cause ≡ false)
+      → list_any (reserves (region_at n i) i) reserved ≡ false
+  pub disjoint : AllDisjoint reserved
+  pub runs : HasRuns (held_at ps)
+  pub flags : HasRunFlags (held_at ps) names
+  pub full : HasFullMembers (held_at ps) names
 
 -- The machine matches the processes, names, next name and reserved indexes of a world by look-ups: all of what it stands for, but
 -- for what is true of the world alone. Between the changes of a call no more than that holds.

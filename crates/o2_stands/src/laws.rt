@@ -27,12 +27,13 @@ ghost use Rattle.o2_world.specs.Known.{Known, held_at, is_for_the_run, known_of}
 ghost use Rattle.o2_world.specs.Rulings.{aliasing, allocation, freeing, freeing_cpu, locking, reallocation, sizing, unlocking};
 ghost use Rattle.o2_world.specs.Run.{step};
 ghost use Rattle.o2_world.specs.Starts.{Start, opening_of};
-ghost use Rattle.o2_world.specs.Changes.{Change, with_all, with_change};
+ghost use Rattle.o2_world.specs.Changes.{Change, with_all, with_change, with_changes};
 ghost use Rattle.o2_world.specs.Tied.{AreFitChanges, IsSound, IsSwept, IsTied};
 ghost use Rattle.o2_world.specs.Bare.{bare};
 ghost use Rattle.o2_world.specs.Views.{bytes_in, view_of, with_bytes};
 ghost use Rattle.o2_stands.specs.Parts.{Parts, Running as RunningThere, running_of};
 ghost use Rattle.o2_stands.specs.Stands.{AreLawful, AreOnce, IsReady, IsSetTo, IsTidy, Matches, MatchesIn, Stands, StandsIn};
+ghost use Rattle.o2_stands.specs.Runs.{AreFull, AreRuns, HasFullMembers, HasRunFlags, HasRuns};
 ghost use Rattle.o2_stands.specs.Tidies.{AreTidyChanges};
 ghost use Rattle.o2_stands.specs.Moves.{AreWritten, RunsAs, moved, stepped_to, with_running};
 ghost use Rattle.o2_stands.specs.Views.{Fills, boundless_view, filled};
@@ -76,11 +77,13 @@ pub fn names_stand_once()
         → AreOnce (with_all w cs).names }
 {}
 
-/// A tidy world stays tidy behind changes that are fit, where all that lives behind them is held and what is held anew under shared
-/// indexes is held as these are reserved.
+/// A tidy world stays tidy behind changes that are fit, where all that lives behind them is held, what is held anew is held as its index
+/// is reserved, and what is held in runs behind them has the form of runs.
 pub fn changes_keep_a_world_tidy()
     ensures { (w : World) (cs : List Change) → IsTied w → AreFitChanges w cs → AreTidyChanges w cs
         → IsTidy w.processes w.names w.reserved → IsSwept (with_all w cs)
+        → HasRuns (held_at (with_changes w cs).processes) → HasRunFlags (held_at (with_changes w cs).processes) (with_changes w cs).names
+        → HasFullMembers (held_at (with_changes w cs).processes) (with_changes w cs).names
         → IsTidy (with_all w cs).processes (with_all w cs).names (with_all w cs).reserved }
 {}
 
@@ -123,6 +126,14 @@ pub fn rulings_go_by_what_is_known()
 pub fn worlds_are_known()
     ensures { (p : Parts) (s : Setting) (w : World) → AreLawful p.shelf p.maps → IsSetTo p s
         → Stands p w → KnowsAs p.maps (known_of s w) (known_in p (others_of s w)) }
+{}
+
+/// What is held in runs in a tidy world is held so in a machine that matches it, with segments of these sizes.
+pub fn runs_are_seen()
+    ensures runs { (p : Parts) (ps : List Process) (names : Map Segment) (next : ℕ) (reserved : List Reserve)
+        → AreLawful p.shelf p.maps → MatchesIn p ps names next reserved → IsTidy ps names reserved → AreRuns p.maps }
+    ensures full { (p : Parts) (ps : List Process) (names : Map Segment) (next : ℕ) (reserved : List Reserve)
+        → AreLawful p.shelf p.maps → MatchesIn p ps names next reserved → IsTidy ps names reserved → AreFull p.shelf p.maps }
 {}
 
 /// Nobody sees that segments come into memory, go out of it or move in it.

@@ -12,13 +12,15 @@ use Rattle.o2_isa.specs.declared.cpu.Stop.TheVariants as stop
 use Rattle.o2_isa.proofs.StepLaws.{step_loads_few}
 use Rattle.o2_place.specs.declared.seg_id.SegId.{SegId}
 use Rattle.o2_world.specs.declared.types.Row.{Row}
-use Rattle.o2_world.specs.declared.types.Row.TheVariants.{DosExit, DosGetPid, DosRead, DosWrite, DosMemAvail, OnSegments, OnShared}
+use Rattle.o2_world.specs.declared.types.Row.TheVariants.{DosExit, DosGetPid, DosRead, DosWrite, DosMemAvail, OnSegments, OnShared, OnRuns}
 use Rattle.o2_world.specs.declared.types.SegmentCall.{SegmentCall}
 use Rattle.o2_world.specs.declared.types.SegmentCall.TheVariants.{DosAllocSeg, DosReallocSeg, DosFreeSeg, DosSizeSeg, DosLockSeg, DosUnlockSeg, DosCreateCsAlias}
+use Rattle.o2_world.specs.declared.types.HugeCall.{HugeCall}
+use Rattle.o2_world.specs.declared.types.HugeCall.TheVariants.{DosAllocHuge, DosReallocHuge, DosGetHugeShift}
 use Rattle.o2_world.specs.declared.types.SharedCall.{SharedCall}
 use Rattle.o2_world.specs.declared.types.SharedCall.TheVariants.{DosAllocShrSeg, DosGetShrSeg, DosGiveSeg, DosGetSeg}
 use Rattle.o2_world.specs.Calls.{Before, argument, has_arguments, row_of}
-use Rattle.o2_run.specs.Room.{Pointer, call_names, gate_names, passed, pointed, pointers_of, segment_pointers, shared_pointers, touched, words_of}
+use Rattle.o2_run.specs.Room.{Pointer, call_names, gate_names, huge_pointers, passed, pointed, pointers_of, segment_pointers, shared_pointers, touched, words_of}
 use Rattle.o2_stepping.specs.Rooms.{ages_of, left_in}
 use Rattle.o2_stepping.proofs.Named.{both_in}
 
@@ -51,6 +53,11 @@ few_on_segments DosLockSeg a = omega arith
 few_on_segments DosUnlockSeg a = omega arith
 few_on_segments DosCreateCsAlias a = omega arith
 
+few_on_runs : (call : HugeCall) (a : ℕ → ℕ) → length (huge_pointers call a) ≤ 2
+few_on_runs DosAllocHuge a = omega arith
+few_on_runs DosReallocHuge a = omega arith
+few_on_runs DosGetHugeShift a = omega arith
+
 few_on_shared : (call : SharedCall) (v : View) (a : ℕ → ℕ) → length (shared_pointers call v a) ≤ 2
 few_on_shared DosAllocShrSeg v a = omega arith
 few_on_shared DosGetShrSeg v a = omega arith
@@ -65,6 +72,7 @@ few_pointers DosWrite v a = omega arith
 few_pointers DosMemAvail v a = omega arith
 few_pointers (OnSegments call) v a = few_on_segments call a
 few_pointers (OnShared call) v a = few_on_shared call v a
+few_pointers (OnRuns call) v a = few_on_runs call a
 
 call_few : (b : Before) (o : Option Row) → length (call_names b o) ≤ 2
 call_few b None = omega arith

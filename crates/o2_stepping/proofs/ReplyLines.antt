@@ -1,6 +1,10 @@
 -- The lines of a call on segments, and that of exception 1 behind them.
-use Rattle.std.proofs.Common.{◌≡◌, ℕ, ◌+◌, ◌≤◌, ◌==◌, ◌&&◌, Bool, true, false, List, [], ◌∷◌, ◌++◌, length, Option, ap, sym, ◌∙◌, refl, arith, subst, append-nil, length-append}
+use Rattle.std.proofs.Common.{◌≡◌, ℕ, ◌+◌, ◌*◌, ◌≤◌, Bool, true, false, List, [], ◌∷◌, ◌++◌, length, Option, ap, sym, ◌∙◌, refl, arith, subst, append-nil, length-append}
 use Rattle.std.proofs.lemmas.Grind.{flat_map-append}
+use Rattle.std.proofs.lemmas.List.{length-replicate}
+use Rattle.std.proofs.lemmas.List.Sums.{sum_by-cons}
+use Rattle.std.proofs.Math.Nat.{suc-mul}
+use Rattle.std.specs.Prelude.{flat_map, map}
 use Rattle.o2_outer.specs.declared.sink.Put.TheVariants as put
 use Rattle.o2_outer.specs.Texts.{Gains, GainsSome, IsPrefix}
 use Rattle.o2_outer.proofs.TextLemmas.{puts_more, puts_front}
@@ -10,34 +14,42 @@ use Rattle.o2_world.specs.Effect.{has_trap_flag}
 use Rattle.o2_world.specs.Text.{line_text, lines_text}
 use Rattle.o2_world.specs.World.{Line, Traps}
 use Rattle.o2_gate.specs.declared.gathering.SegmentArguments.{SegmentArguments}
-use Rattle.o2_gate.specs.declared.gathering.SegmentArguments.TheVariants.{Alloc, Realloc, Free, Size, Lock, Unlock, Alias, Shared}
-use Rattle.o2_gate.specs.Replies.{lines_of}
+use Rattle.o2_world.specs.Rulings.{indexes}
+use Rattle.o2_gate.specs.declared.moves.Block.{Block}
+use Rattle.o2_gate.specs.MovedLines.{all_lines, block_lines, line_at, line_number, lines_at}
+use Rattle.o2_gate.specs.Replies.{lines_of, name_of}
+use Rattle.o2_gate.proofs.MovedLines.{indexes_length}
 use Rattle.o2_run.specs.Pieces.{Counts, counts}
 use Rattle.o2_stepping.specs.Pieces.{HandsWhole}
 use Rattle.o2_stepping.specs.Ran.{TakesText}
-use Rattle.o2_stepping.specs.Replied.{moves, state_behind, trap_lines}
+use Rattle.o2_stepping.specs.Replied.{state_behind, trap_lines}
 
 -- How many lines a call has.
 
-pub two_lines : (a : SegmentArguments) (pid error value : ℕ) → (moves a && (error == 0)) ≡ true → 2 ≡ length (lines_of a pid error value)
-two_lines (Alloc size s o flags) pid error value e = rw e refl
-two_lines (Realloc size selector) pid error value e = absurd (cc)
-two_lines (Free selector) pid error value e = rw e refl
-two_lines (Size selector s o) pid error value e = absurd (cc)
-two_lines (Lock selector) pid error value e = absurd (cc)
-two_lines (Unlock selector) pid error value e = absurd (cc)
-two_lines (Alias selector s o) pid error value e = rw e refl
-two_lines (Shared a) pid error value e = rw e refl
+index_lines : (cause : List ℕ) (b : Block) (is : List ℕ) → length (flat_map (lines_at cause b) is) ≡ length is * b.holds
+index_lines cause b [] = omega arith
+index_lines cause b (i ∷ is) =
+    (let whole = length-append (lines_at cause b i) (flat_map (lines_at cause b) is) in
+    let one = length-replicate b.holds (line_at cause b i) in
+    let rest = index_lines cause b is in
+    let more = suc-mul (length is) b.holds in
+    omega (arith, whole, one, rest, more))
 
-pub one_line : (a : SegmentArguments) (pid error value : ℕ) → (moves a && (error == 0)) ≡ false → 1 ≡ length (lines_of a pid error value)
-one_line (Alloc size s o flags) pid error value e = rw e refl
-one_line (Realloc size selector) pid error value e = refl
-one_line (Free selector) pid error value e = rw e refl
-one_line (Size selector s o) pid error value e = refl
-one_line (Lock selector) pid error value e = refl
-one_line (Unlock selector) pid error value e = refl
-one_line (Alias selector s o) pid error value e = rw e refl
-one_line (Shared a) pid error value e = rw e refl
+block_number : (cause : List ℕ) (b : Block) → length (block_lines cause b) ≡ b.count * b.holds
+block_number cause b = index_lines cause b (indexes b.index b.count) ∙ ap (λ (n : ℕ). n * b.holds) (indexes_length b.index b.count)
+
+blocks_number : (cause : List ℕ) (bs : List Block) → length (all_lines cause bs) ≡ line_number bs
+unfolding all_lines
+blocks_number cause [] = refl
+blocks_number cause (b ∷ bs) =
+    (let whole = length-append (block_lines cause b) (flat_map (block_lines cause) bs) in
+    let one = block_number cause b in
+    let rest = blocks_number cause bs in
+    let sums = sum_by-cons (λ (n : ℕ). n) (b.count * b.holds) (map (λ (x : Block). x.count * x.holds) bs) in
+    omega (arith, whole, one, rest, sums))
+
+pub call_lines : (a : SegmentArguments) (pid error value : ℕ) (bs : List Block) → 1 + line_number bs ≡ length (lines_of a pid error value bs)
+call_lines a pid error value bs = (let e = blocks_number (name_of a) bs in omega (arith, e))
 
 -- They are put, and nothing more.
 

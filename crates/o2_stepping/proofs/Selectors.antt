@@ -4,7 +4,7 @@ use Rattle.o2_isa.specs.declared.cpu.Cpu.{Cpu}
 use Rattle.o2_isa.specs.Presence.{SameSelectors}
 use Rattle.o2_world.specs.declared.types.Argument.{Argument}
 use Rattle.o2_world.specs.declared.types.Row.{Row}
-use Rattle.o2_world.specs.declared.types.Row.TheVariants.{DosExit, DosGetPid, DosRead, DosWrite, DosMemAvail, OnSegments, OnShared}
+use Rattle.o2_world.specs.declared.types.Row.TheVariants.{DosExit, DosGetPid, DosRead, DosWrite, DosMemAvail, OnSegments, OnShared, OnRuns}
 use Rattle.o2_world.specs.Calls.{Before, Effect, argument, dos_exit, dos_read, dos_write, has_arguments, is_console, IsPlain, may_give, may_take, may_write, returned, row_of, served_by, serviced, told, transfer_of}
 
 abbrev Stay : Before → Effect → Type 0
@@ -50,6 +50,7 @@ served_stays (Some DosWrite) b next plain = write_stays b next
 served_stays (Some DosMemAvail) b next plain = told_stays b next _ _ _
 served_stays (Some (OnSegments call)) b next plain = absurd plain
 served_stays (Some (OnShared call)) b next plain = absurd plain
+served_stays (Some (OnRuns call)) b next plain = absurd plain
 
 pub call_stays : (b : Before) (service next : ℕ) → IsPlain (row_of service) → SameSelectors (serviced b service next).cpu b.cpu
 call_stays b service next plain = served_stays (row_of service) b next plain

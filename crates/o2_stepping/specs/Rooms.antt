@@ -13,9 +13,11 @@ use Rattle.o2_store.specs.Shelf.{Shelf, entry, rounded}
 use Rattle.o2_segbus.specs.Bus.{held_under}
 use Rattle.o2_world.specs.Calls.{Before}
 use Rattle.o2_gate.specs.declared.gathering.SegmentArguments.{SegmentArguments}
+use Rattle.o2_gate.specs.declared.huge.HugeArguments.{HugeArguments}
+use Rattle.o2_gate.specs.declared.huge.HugeArguments.TheVariants as huge
 use Rattle.o2_gate.specs.declared.sharing.SharedArguments.{SharedArguments}
 use Rattle.o2_gate.specs.declared.sharing.SharedArguments.TheVariants.{Name, Share, Give, Get}
-use Rattle.o2_gate.specs.declared.gathering.SegmentArguments.TheVariants.{Alloc, Realloc, Free, Size, Lock, Unlock, Alias, Shared}
+use Rattle.o2_gate.specs.declared.gathering.SegmentArguments.TheVariants.{Alloc, Realloc, Free, Size, Lock, Unlock, Alias, Shared, Huge}
 use Rattle.o2_run.specs.Room.{seated, touched}
 
 -- the names that a step needs, as far as they are known before it: those in the segment registers, and those that it touches
@@ -47,6 +49,12 @@ shared_aimed m pid (Share t s o) = pair_of (held_under m pid t.selector) ++ pair
 shared_aimed m pid (Give selector to s o) = pair_of (held_under m pid s)
 shared_aimed m pid (Get selector) = []
 
+-- that behind the pointer of a call on a huge allocation
+abbrev pub huge_aimed : Maps → ℕ → HugeArguments → List (SegId × ℕ)
+huge_aimed m pid (huge.Alloc segs part s o most flags) = pair_of (held_under m pid s)
+huge_aimed m pid (huge.Realloc segs part selector) = []
+huge_aimed m pid (huge.Shift s o) = pair_of (held_under m pid s)
+
 -- that behind the pointer of a call on segments
 abbrev pub aimed_in : Maps → ℕ → SegmentArguments → List (SegId × ℕ)
 aimed_in m pid (Alloc size s o flags) = pair_of (held_under m pid s)
@@ -57,6 +65,7 @@ aimed_in m pid (Lock selector) = []
 aimed_in m pid (Unlock selector) = []
 aimed_in m pid (Alias selector s o) = pair_of (held_under m pid s)
 aimed_in m pid (Shared a) = shared_aimed m pid a
+aimed_in m pid (Huge a) = huge_aimed m pid a
 
 -- the names that a step needed, behind it: those that it needed before, and those in its segment registers
 abbrev pub all_names : Before → (after : Registers) → List ℕ

@@ -3,12 +3,12 @@ ghost use Rattle.std.specs.Prelude.{◌≡◌, ◌<◌, ◌≤◌, ◌+◌, ◌+
 ghost use Rattle.o2_regions.specs.declared.held.Held.{Held as HeldThere};
 ghost use Rattle.o2_regions.specs.Maps.{IsProcess};
 ghost use Rattle.o2_segbus.specs.Bus.{held_under};
-ghost use Rattle.o2_stepping.specs.Rooms.{aimed_in, pair_of, seated_in, shared_aimed};
+ghost use Rattle.o2_stepping.specs.Rooms.{aimed_in, huge_aimed, pair_of, seated_in, shared_aimed};
 ghost use Rattle.o2_stepping.specs.Here.{are_here, is_here};
 
 use o2_base::Selector;
 use o2_desc::Access;
-use o2_gate::{SegmentArguments, SharedArguments};
+use o2_gate::{HugeArguments, SegmentArguments, SharedArguments};
 use o2_isa::Cpu;
 use o2_place::SegId;
 use o2_regions::Regions;
@@ -82,6 +82,19 @@ fn seat_shared(need: &mut Need, regions: &Regions, pid: u16, arguments: &SharedA
     }
 }
 
+/// That behind the pointer of a call on a huge allocation.
+fn seat_huge(need: &mut Need, regions: &Regions, pid: u16, arguments: &HugeArguments)
+    requires process { IsProcess regions.now pid }
+    requires room { length need.old ≤ 4 }
+    ensures { need.new ≡ need.old ++ huge_aimed regions.now pid arguments.now }
+{
+    match arguments {
+        HugeArguments::Alloc { to_selector, .. } => seat(need, regions, pid, *to_selector),
+        HugeArguments::Realloc { .. } => {}
+        HugeArguments::Shift { to_selector, .. } => seat(need, regions, pid, *to_selector),
+    }
+}
+
 /// The segments that a call on segments keeps in memory: those in the segment registers, and that behind its pointer.
 pub fn call_need(arguments: SegmentArguments, regions: &Regions, pid: u16, cpu: &Cpu) -> Need
     requires { IsProcess regions.now pid }
@@ -110,6 +123,7 @@ pub fn call_need(arguments: SegmentArguments, regions: &Regions, pid: u16, cpu: 
             to_offset: _,
         } => seat(&mut need, regions, pid, to_selector),
         SegmentArguments::Shared(shared) => seat_shared(&mut need, regions, pid, &shared),
+        SegmentArguments::Huge(huge) => seat_huge(&mut need, regions, pid, &huge),
     }
     need
 }

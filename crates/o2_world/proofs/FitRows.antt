@@ -12,7 +12,7 @@ use Rattle.o2_world.specs.Calls.{Effect}
 use Rattle.o2_world.specs.Rulings.{full_size, made_segment, held_as_code, held_by_call}
 use Rattle.o2_world.specs.Sound.{held_in}
 use Rattle.o2_world.specs.Run.{worked, working}
-use Rattle.o2_world.specs.Tied.{HasSize, IsFitHold, AreFitChanges}
+use Rattle.o2_world.specs.Tied.{HasSize, IsFitHold, AreFitChanges, has_no_flags}
 use Rattle.o2_world.proofs.Keeps.{bytes_there}
 use Rattle.o2_world.proofs.MapLemmas.{if_yes}
 use Rattle.o2_world.proofs.StepReach.{same_at, own_at}
@@ -73,9 +73,15 @@ module _ (w : World) (d : Dispatch) (p : Process) (e : Effect) (new : Segment) (
       live_here x g = let z : x ≡ working p e = cc in ap (λ (y : Process). is_live y.state) z ∙ lives
 
   -- with a name, too
-  pub named_fit : (name : List ℕ) → HasSize new → e.changes ≡ Makes new ∷ Holds d.current i (held_by_call w.next_name) ∷ Names name w.next_name ∷ []
+  pub named_fit : (name : List ℕ) → HasSize new → new.flags ≡ 0 → e.changes ≡ Makes new ∷ Holds d.current i (held_by_call w.next_name) ∷ Names name w.next_name ∷ []
       → AreFitChanges (worked w d p e) e.changes
-  named_fit name sized is = subst (AreFitChanges (worked w d p e)) (sym is) (sized, (fit_hold, (fit_hold.lives, tt)))
+  named_fit name sized flags is = subst (AreFitChanges (worked w d p e)) (sym is) (sized, (fit_hold, (no_flags, tt)))
+    where
+      equal : (n : ℕ) → (n == n) ≡ true
+      equal n = grind arith
+
+      no_flags : has_no_flags (if w.next_name == w.next_name then Some new else get (worked w d p e).names w.next_name) ≡ true
+      no_flags = ap has_no_flags (if_yes (w.next_name == w.next_name) _ _ (equal w.next_name)) ∙ (ap (λ (n : ℕ). n == 0) flags)
 
 pub alloc_fit : (w : World) (d : Dispatch) (p : Process) (e : Effect) (size flags i : ℕ) → process_at w.processes d.current ≡ Some p → is_live (working p e).state ≡ true
     → e.changes ≡ Makes (made_segment size flags) ∷ Holds d.current i (held_by_call w.next_name) ∷ [] → (4096 ≤ i → taken_in w 0 i ≡ false)

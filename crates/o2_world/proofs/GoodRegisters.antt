@@ -22,9 +22,11 @@ use Rattle.o2_world.specs.declared.types.Row.{Row}
 use Rattle.o2_world.specs.declared.types.Transfer.{Transfer}
 use Rattle.o2_world.specs.declared.types.SegmentCall.{SegmentCall}
 use Rattle.o2_world.specs.declared.types.SegmentCall.TheVariants.{DosAllocSeg, DosReallocSeg, DosFreeSeg, DosSizeSeg, DosLockSeg, DosUnlockSeg, DosCreateCsAlias}
+use Rattle.o2_world.specs.declared.types.HugeCall.{HugeCall}
+use Rattle.o2_world.specs.declared.types.HugeCall.TheVariants.{DosAllocHuge, DosReallocHuge, DosGetHugeShift}
 use Rattle.o2_world.specs.declared.types.SharedCall.{SharedCall}
 use Rattle.o2_world.specs.declared.types.SharedCall.TheVariants.{DosAllocShrSeg, DosGetShrSeg, DosGiveSeg, DosGetSeg}
-use Rattle.o2_world.specs.declared.types.Row.TheVariants.{DosExit, DosGetPid, DosRead, DosWrite, DosMemAvail, OnSegments, OnShared}
+use Rattle.o2_world.specs.declared.types.Row.TheVariants.{DosExit, DosGetPid, DosRead, DosWrite, DosMemAvail, OnSegments, OnShared, OnRuns}
 use Rattle.o2_world.specs.declared.types.State.{State}
 use Rattle.o2_world.specs.Map.{Map, get}
 use Rattle.o2_world.specs.World.{World, Setting, Process, Segment, Held, is_live}
@@ -35,6 +37,8 @@ use Rattle.o2_world.specs.SegmentCalls.{Written, alloc_args, aliased, allocated,
 use Rattle.o2_world.specs.SharedNames.{may_read_text, name_by, text_at}
 use Rattle.o2_world.specs.SharedRulings.{giving, naming, sharing}
 use Rattle.o2_world.specs.SharedCalls.{dos_alloc_shr_seg, dos_get_seg, dos_get_shr_seg, dos_give_seg, give_args, given, got, name_args, named, on_shared, shared_by_name}
+use Rattle.o2_world.specs.HugeRulings.{huge_allocation, huge_shift}
+use Rattle.o2_world.specs.HugeCalls.{dos_alloc_huge, dos_get_huge_shift, dos_realloc_huge, huge_args, on_runs, reallocated_huge}
 use Rattle.o2_world.specs.Effect.{has_trap_flag, answered, single_stepped, effect}
 use Rattle.o2_world.specs.Run.{before}
 use Rattle.o2_world.specs.Sound.{has_rights, NamesHeld, HasGoodRegisters}
@@ -255,6 +259,32 @@ on_shared_keeps DosGiveSeg b next =
 on_shared_keeps DosGetSeg b next =
     either b.cpu (has_arguments b.view b.cpu 1) _ _ (returns b (got b next (argument b.view b.cpu 0)) next 1 _ refl) (traps b 12)
 
+realloc_ruled : (b : Before) (next segs part s : ℕ) → LoadsByRules b.view b.cpu (reallocated_huge b next segs part s).cpu
+realloc_ruled b next segs part s Es = cleared b.view _ b.cpu.es
+realloc_ruled b next segs part s Cs = inl refl
+realloc_ruled b next segs part s Ss = inl refl
+realloc_ruled b next segs part s Ds = cleared b.view _ b.cpu.ds
+
+pub on_runs_ruled : (call : HugeCall) (b : Before) (next : ℕ) → LoadsByRules b.view b.cpu (on_runs call b next).cpu
+unfolding dos_alloc_huge dos_realloc_huge dos_get_huge_shift
+on_runs_ruled DosAllocHuge b next =
+    let a : ℕ → ℕ = argument b.view b.cpu in
+    let r = huge_allocation b.known b.number (a 5) (a 4) (a 1) (a 0) in
+    kept_ruled b.view b.cpu _
+    (either b.cpu (has_arguments b.view b.cpu 6) _ _
+    (either b.cpu (may_write b.view (a 3) (a 2) 2) _ _
+    (ruled_keeps b next 6 (codes "DosAllocHuge") (huge_args (a 5) (a 4) (a 3) (a 2) (a 1) (a 0)) (written_word (a 3) (a 2) r.value) r) (traps b 13)) (traps b 12))
+on_runs_ruled DosReallocHuge b next =
+    let a : ℕ → ℕ = argument b.view b.cpu in
+    picked_ruled b.view b.cpu (has_arguments b.view b.cpu 3) _ _ (realloc_ruled b next (a 2) (a 1) (a 0)) (kept_ruled b.view b.cpu _ (traps b 12))
+on_runs_ruled DosGetHugeShift b next =
+    let a : ℕ → ℕ = argument b.view b.cpu in
+    kept_ruled b.view b.cpu _
+    (either b.cpu (has_arguments b.view b.cpu 2) _ _
+    (either b.cpu (may_write b.view (a 1) (a 0) 2) _ _
+    (ruled_keeps b next 2 (codes "DosGetHugeShift") (Far (a 1) (a 0) ∷ []) (written_word (a 1) (a 0) huge_shift) (record { error = 0; value = huge_shift; changes = [] })) (traps b 13))
+    (traps b 12))
+
 served_ruled : (row : Option Row) (b : Before) (next : ℕ) → LoadsByRules b.view b.cpu (served_by row b next).cpu
 served_ruled None b next = kept_ruled b.view b.cpu _ (traps b 13)
 served_ruled (Some DosExit) b next = kept_ruled b.view b.cpu _ (exit_keeps b)
@@ -264,6 +294,7 @@ served_ruled (Some DosWrite) b next = kept_ruled b.view b.cpu _ (write_keeps b n
 served_ruled (Some DosMemAvail) b next = kept_ruled b.view b.cpu _ (told_keeps b next _ _ _)
 served_ruled (Some (OnSegments call)) b next = on_segments_ruled call b next
 served_ruled (Some (OnShared call)) b next = kept_ruled b.view b.cpu _ (on_shared_keeps call b next)
+served_ruled (Some (OnRuns call)) b next = on_runs_ruled call b next
 
 answered_ruled : (b : Before) (r : Result Machine Stop) → stepped (state b.cpu b.view) ≡ r → LoadsByRules b.view b.cpu (answered b r).cpu
 answered_ruled b (Ok s) e = stepped_ruled outcome.Done s (state b.cpu b.view) e

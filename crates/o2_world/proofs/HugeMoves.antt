@@ -18,7 +18,7 @@ use Rattle.o2_world.specs.SegmentCalls.{Written, ruled_at, written_word}
 use Rattle.o2_world.specs.SharedRulings.{marks_under, shared_from}
 use Rattle.o2_world.specs.HugeRulings.{all_bytes, all_dropped, all_hold, bytes_of, dropped_members, flags_in, free_run, huge_allocation, huge_at, huge_reallocation, huge_reallocation_of, huge_shift, is_first, is_huge_fault, is_unheld, left_in_run, names_one, new_members, other_shares, resized_members, resized_one, run_changes, run_reserve, run_resized, segments_of, share_of, sizes_of, without}
 use Rattle.o2_world.specs.HugeCalls.{allocated_huge, dos_alloc_huge, dos_get_huge_shift, dos_realloc_huge, huge_args, on_runs, reallocated_huge}
-use Rattle.o2_world.specs.Moves.{AreApart, AreHolders, Each, IsFreeIndex, IsOpen, Maker, NoRun, RunMade, RunMoves, RunSized, Sharer}
+use Rattle.o2_world.specs.Moves.{AreApart, AreHolders, AreOfRuling, Each, IsFreeIndex, IsOpen, Maker, NoRun, OfAllocation, OfNone, OfReallocation, RunMade, RunMoves, RunSized, Sharer}
 use Rattle.o2_world.proofs.SegmentMoves.{above, apart_kept, held_there, indexes_apart, indexes_from, kept_are, members_apart, members_held, region_is}
 
 either : (b : Before) (t : Bool) (e f : Effect) → RunMoves b e.cpu e.changes → RunMoves b f.cpu f.changes
@@ -32,12 +32,12 @@ rules b cpu false r q h k = k refl
 
 -- The indexes of a run that is free.
 
-record IsFreeRun (taken : ℕ → Bool) (low end count i : ℕ) : Type 0 where
-  from : low ≤ i
-  below : i + count ≤ end
-  free : (k : ℕ) → i ≤ k → k < i + count → taken k ≡ false
+pub record IsFreeRun (taken : ℕ → Bool) (low end count i : ℕ) : Type 0 where
+  pub from : low ≤ i
+  pub below : i + count ≤ end
+  pub free : (k : ℕ) → i ≤ k → k < i + count → taken k ≡ false
 
-chosen_run : (taken : ℕ → Bool) (low end count i : ℕ) → chosen taken low end count ≡ Some i → IsFreeRun taken low end count i
+pub chosen_run : (taken : ℕ → Bool) (low end count i : ℕ) → chosen taken low end count ≡ Some i → IsFreeRun taken low end count i
 chosen_run taken low end count i e =
     let law : IsChosen taken low end count (Some i) = subst (IsChosen taken low end count) e (chosen_law taken low end count) in
     record { from = law.0.0; below = law.0.1; free = law.0.2 }
@@ -75,12 +75,12 @@ either_false : (a b : Bool) → (a || b) ≡ false → (a ≡ false) × (b ≡ f
 either_false true b e = absurd (cc)
 either_false false b e = (refl, e)
 
-some_of : (n : ℕ) → (n == 0) ≡ false → (m : ℕ) × (n ≡ suc m)
+pub some_of : (n : ℕ) → (n == 0) ≡ false → (m : ℕ) × (n ≡ suc m)
 some_of zero e = absurd (cc)
 some_of (suc n) e = (n, refl)
 
 -- sizes are as many as segments
-sizes_length : (segs part : ℕ) → length (sizes_of segs part) ≡ segments_of segs part
+pub sizes_length : (segs part : ℕ) → length (sizes_of segs part) ≡ segments_of segs part
 sizes_length zero part = go (part == 0)
   where
     go : (b : Bool) → length (if b then [] else part ∷ []) ≡ (if b then 0 else 1)
@@ -96,10 +96,10 @@ first_size : (zs : List ℕ) (m : ℕ) → length zs ≡ suc m → (z : ℕ) × 
 first_size [] m e = absurd (cc)
 first_size (z ∷ zs) m e = (z, zs, refl)
 
-at_most : (n m : ℕ) → n ≤ max n m
+pub at_most : (n m : ℕ) → n ≤ max n m
 at_most n m = omega arith
 
-above_zero : (n m : ℕ) → (n == 0) ≡ false → 0 < max n m
+pub above_zero : (n m : ℕ) → (n == 0) ≡ false → 0 < max n m
 above_zero n m e = let p : 0 < n = grind arith in omega (arith, p)
 
 module _ (b : Before) (cpu : Cpu) (segs part flags : ℕ) where
@@ -344,3 +344,32 @@ on_runs_moves DosGetHugeShift b next =
     either b (has_arguments b.view b.cpu 2) _ _
     (either b (may_write b.view (a 1) (a 0) 2) _ _
     (ruled_moves b next 2 (codes "DosGetHugeShift") (Far (a 1) (a 0) ∷ []) (written_word (a 1) (a 0) huge_shift) (record { error = 0; value = huge_shift; changes = [] }) (λ cpu. NoRun refl)) (NoRun refl)) (NoRun refl)
+
+-- They are those of a ruling.
+
+one_of : (b : Before) (t : Bool) (e f : Effect) → AreOfRuling b e.changes → AreOfRuling b f.changes → AreOfRuling b (cond t e f).changes
+one_of b true e f h k = h
+one_of b false e f h k = k
+
+ruled_of : (b : Before) (next words : ℕ) (name : List ℕ) (args : List Argument) (t : Written) (r : Ruling) → AreOfRuling b r.changes → AreOfRuling b (ruled_at b next words name args t r).changes
+ruled_of b next words name args t r h = one_of b (r.error == 0) _ _ h (OfNone refl)
+
+allocated_of : (b : Before) (next segs part s o most flags : ℕ) → AreOfRuling b (allocated_huge b next segs part s o most flags).changes
+allocated_of b next segs part s o most flags =
+    let r = huge_allocation b.known b.number segs part most flags in
+    one_of b (may_write b.view s o 2) _ _
+    (ruled_of b next 6 (codes "DosAllocHuge") (huge_args segs part s o most flags) (written_word s o r.value) r (OfAllocation segs part most flags refl)) (OfNone refl)
+
+pub on_runs_ruled : (call : HugeCall) (b : Before) (next : ℕ) → AreOfRuling b (on_runs call b next).changes
+unfolding dos_alloc_huge dos_realloc_huge dos_get_huge_shift
+on_runs_ruled DosAllocHuge b next =
+    let a : ℕ → ℕ = argument b.view b.cpu in
+    one_of b (has_arguments b.view b.cpu 6) _ _ (allocated_of b next (a 5) (a 4) (a 3) (a 2) (a 1) (a 0)) (OfNone refl)
+on_runs_ruled DosReallocHuge b next =
+    let a : ℕ → ℕ = argument b.view b.cpu in
+    one_of b (has_arguments b.view b.cpu 3) _ _ (OfReallocation (a 2) (a 1) (a 0) refl) (OfNone refl)
+on_runs_ruled DosGetHugeShift b next =
+    let a : ℕ → ℕ = argument b.view b.cpu in
+    one_of b (has_arguments b.view b.cpu 2) _ _
+    (one_of b (may_write b.view (a 1) (a 0) 2) _ _
+    (ruled_of b next 2 (codes "DosGetHugeShift") (Far (a 1) (a 0) ∷ []) (written_word (a 1) (a 0) huge_shift) (record { error = 0; value = huge_shift; changes = [] }) (OfNone refl)) (OfNone refl)) (OfNone refl)

@@ -15,6 +15,7 @@ pub mod FitRows
 pub mod FitFrees
 pub mod HoldsSwept
 pub mod OwnChanges
+pub mod RunParts
 pub mod Sparing
 pub mod SegmentMoves
 pub mod SharedMoves
@@ -24,8 +25,8 @@ pub mod FitRuns
 pub mod StepMoves
 pub mod MovesFit
 pub mod RunsFit
+pub mod AllFit
 pub mod RowsTold
-pub mod HugeRows
 pub mod BareChanges
 pub mod GoodRegisters
 pub mod Keeps
@@ -35,6 +36,7 @@ pub mod OpeningTied
 pub mod OpeningTold
 pub mod Openings
 pub mod StepSound
+pub mod Telling
 pub mod StepTold
 pub mod RunsTold
 pub mod Holding

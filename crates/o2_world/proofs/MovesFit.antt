@@ -12,13 +12,11 @@ use Rattle.o2_world.specs.Known.{held_at, holds_index, lives_at, reserves, taken
 use Rattle.o2_world.specs.CallParts.{Before, Effect}
 use Rattle.o2_world.specs.Known.{Marks, marks_of}
 use Rattle.o2_world.specs.Rulings.{full_size, held_as_code, held_by_call, made_segment}
-use Rattle.o2_world.specs.SharedRulings.{shared_segment}
 use Rattle.o2_world.specs.Run.{before, worked, working}
 use Rattle.o2_world.specs.Sound.{held_in, held_of, HasGoodRegisters}
 use Rattle.o2_world.specs.Tied.{AreFitChanges, IsFitDrop, IsSound, IsSwept, IsTied}
-use Rattle.o2_world.specs.Moves.{AllMoves, IsShared, OneNamed, OwnMoves, SomeShared, IsFreeIndex, IsFreeing, Moves, NoneMoves, OneAliased, OneLocked, OneMade, OneSized, SomeFreed}
-use Rattle.o2_world.proofs.FitRows.{alias_fit, alloc_fit, either_false, full_is, made_size, named_fit, nobody}
-use Rattle.o2_world.proofs.FitShares.{share_fit, share_swept, shares_known}
+use Rattle.o2_world.specs.Moves.{IsShared, IsFreeIndex, IsFreeing, Moves, NoneMoves, OneAliased, OneLocked, OneMade, OneSized, SomeFreed}
+use Rattle.o2_world.proofs.FitRows.{alias_fit, alloc_fit, either_false, full_is, nobody}
 use Rattle.o2_world.proofs.FitFrees.{drops_fit, each_among, free_fit}
 use Rattle.o2_world.proofs.HoldsSwept.{holds_swept}
 use Rattle.o2_world.proofs.MapLemmas.{get-map, if_no}
@@ -135,16 +133,16 @@ module _ (s : Setting) (w : World) (d : Dispatch) (p : Process) (e : Effect) (at
   pub moves_fit : Moves b e.cpu e.changes → AreFitChanges v e.changes
   moves_fit (NoneMoves is) = subst (AreFitChanges v) (sym is) tt
   moves_fit (OneMade size flags i free is) = alloc_fit w d p e size flags i at live_now is free.shared
-  moves_fit (OneSized name size is) = subst (AreFitChanges v) (sym is) (full_is size, tt)
+  moves_fit (OneSized name size alone is) = subst (AreFitChanges v) (sym is) (full_is size, tt)
   moves_fit (OneLocked name count is) = subst (AreFitChanges v) (sym is) (tt, tt)
-  moves_fit (OneAliased index i h there free is) = alias_fit w d p e h.name i at live_now is (names_live index h there) free.shared
+  moves_fit (OneAliased index i h there alone free is) = alias_fit w d p e h.name i at live_now is (names_live index h there) free.shared
   moves_fit (SomeFreed xs frees is) = subst (AreFitChanges v) (sym is) (drops xs frees)
 
   -- behind changes of a segment alone
   segment_swept : (n : ℕ) (f : Segment → Segment) → IsSwept (with_segment v n f)
   segment_swept n f = record { named = λ q x. swept.named q (sym (lives_same v.names n q f) ∙ x); used = swept.used }
 
-  made_swept : (new : Segment) (i : ℕ) → IsFreeIndex b.known b.number i
+  pub made_swept : (new : Segment) (i : ℕ) → IsFreeIndex b.known b.number i
       → IsSwept (with_change (with_change v (Makes new)) (Holds d.current i (held_by_call w.next_name)))
   made_swept new i free =
       holds_swept (with_change v (Makes new)) d.current i (working p e) (held_by_call w.next_name) own (free_in i free)
@@ -175,9 +173,9 @@ module _ (s : Setting) (w : World) (d : Dispatch) (p : Process) (e : Effect) (at
   unfolding with_changes
   moves_swept (NoneMoves is) = subst SweptBy (sym is) (λ _. swept)
   moves_swept (OneMade size flags i free is) = subst SweptBy (sym is) (λ _. made_swept (made_segment size flags) i free)
-  moves_swept (OneSized name size is) = subst SweptBy (sym is) (λ _. segment_swept name (λ (x : Segment). record x { bytes = resized (full_size size) x.bytes }))
+  moves_swept (OneSized name size alone is) = subst SweptBy (sym is) (λ _. segment_swept name (λ (x : Segment). record x { bytes = resized (full_size size) x.bytes }))
   moves_swept (OneLocked name count is) = subst SweptBy (sym is) (λ _. segment_swept name (λ (x : Segment). record x { lock = count }))
-  moves_swept (OneAliased index i h there free is) = subst SweptBy (sym is) (λ _. alias_swept h.name i free)
+  moves_swept (OneAliased index i h there alone free is) = subst SweptBy (sym is) (λ _. alias_swept h.name i free)
   moves_swept (SomeFreed xs frees is) = subst SweptBy (sym is) (λ none. freed_swept xs none)
 
   -- What one process gets of what another holds.
@@ -197,7 +195,7 @@ module _ (s : Setting) (w : World) (d : Dispatch) (p : Process) (e : Effect) (at
   marked None m f = absurd (cc)
   marked (Some x) m f = let z : m ≡ marks_of x = cc in (x, refl, sym (ap (λ (y : Marks). y.shared) z))
 
-  shared_there : (n i : ℕ) (s : IsShared b.known n i)
+  pub shared_there : (n i : ℕ) (s : IsShared b.known n i)
       → (held_in v.processes (n - 1) i ≡ Some s.held) × ((y : Segment) × (get v.names s.held.name ≡ Some y) × (y.shared ≡ true))
   shared_there n i s =
       let x = marked (get w.names s.held.name) s.marks s.segment in (
@@ -210,7 +208,7 @@ module _ (s : Setting) (w : World) (d : Dispatch) (p : Process) (e : Effect) (at
       )
 
   -- who gets it lives
-  lives_there : (to : ℕ) → (to ≡ b.number) ⊎ (b.known.lives to ≡ true) → (x : Process) × (process_at v.processes to ≡ Some x) × (is_live x.state ≡ true)
+  pub lives_there : (to : ℕ) → (to ≡ b.number) ⊎ (b.known.lives to ≡ true) → (x : Process) × (process_at v.processes to ≡ Some x) × (is_live x.state ≡ true)
   lives_there to (inl same) = (working p e, ap (process_at v.processes) same ∙ own, live_now)
   lives_there to (inr so) = go (to == d.current) refl (process_at w.processes to) refl
     where
@@ -225,19 +223,3 @@ module _ (s : Setting) (w : World) (d : Dispatch) (p : Process) (e : Effect) (at
       go true is o f = (working p e, ap (process_at v.processes) (same_number to d.current is) ∙ own, live_now)
       go false is None f = absurd (false≢true (sym (ap lives_at f) ∙ so))
       go false is (Some x) f = (x, other_number_at w.processes d.current to p (working p e) at (other to d.current is) ∙ f, sym (ap lives_at f) ∙ so)
-
-  pub all_moves_fit : AllMoves b e.cpu e.changes → AreFitChanges v e.changes
-  all_moves_fit (OwnMoves moves) = moves_fit moves
-  all_moves_fit (OneNamed size i name free is) = named_fit w d p e (shared_segment size) i at live_now refl free.shared name (made_size size 0) is
-  all_moves_fit (SomeShared from to xs shares is) =
-      let x = lives_there to shares.lives in
-      subst (AreFitChanges v) (sym is)
-      (share_fit v b.known from to xs x.0 shares.shared (shares_known v b.known from (shared_there from) xs shares.shared) (x.1, x.2) tied)
-
-  pub all_moves_swept : AllMoves b e.cpu e.changes → list_any takes e.changes ≡ false → IsSwept (with_changes v e.changes)
-  unfolding with_changes
-  all_moves_swept (OwnMoves moves) = moves_swept moves
-  all_moves_swept (OneNamed size i name free is) = subst SweptBy (sym is) (λ _. let s = made_swept (shared_segment size) i free in record { named = s.named; used = s.used })
-  all_moves_swept (SomeShared from to xs shares is) =
-      let x = lives_there to shares.lives in
-      subst SweptBy (sym is) (λ _. share_swept v b.known from to xs x.0 shares.shared (shares_known v b.known from (shared_there from) xs shares.shared) (x.1, x.2) swept)

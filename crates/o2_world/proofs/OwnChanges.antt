@@ -1,14 +1,14 @@
 -- What changes leave as it is: the dispatch, processes that get and lose nothing, and what is reserved for the whole run.
-use Rattle.std.proofs.Common.{◌≡◌, ◌≢◌, ℕ, zero, suc, ◌+◌, ◌-◌, ◌<◌, ◌==◌, Bool, true, false, List, [], ◌∷◌, ◌++◌, map, if◌then◌else◌, ap, sym, ◌∙◌, refl, arith, subst}
+use Rattle.std.proofs.Common.{◌≡◌, ◌≢◌, ℕ, zero, suc, ◌+◌, ◌-◌, ◌<◌, ◌==◌, ◌||◌, Bool, true, false, List, [], ◌∷◌, ◌++◌, map, if◌then◌else◌, ap, sym, ◌∙◌, refl, arith, subst}
 use Rattle.std.specs.Prelude.{slice_get}
 use Rattle.std.specs.List.{list_any}
 use Rattle.o2_isa.specs.declared.cpu.Cpu.{Cpu}
-use Rattle.o2_world.specs.World.{World, Process}
+use Rattle.o2_world.specs.World.{World, Process, Reserve}
 use Rattle.o2_world.specs.Changes.{Change, Makes, Resizes, Locks, Marks, Holds, Drops, Finishes, Reserves, Frees, Names, at_number, at_place, swept, takes, with_all, with_change, with_changes}
 use Rattle.o2_world.specs.CallParts.{Before, Effect}
 use Rattle.o2_world.specs.Run.{all_changes}
 use Rattle.o2_world.specs.World.{is_live}
-use Rattle.o2_world.specs.Moves.{AreOwn, IsOwn, Moves, NoneMoves, OneAliased, OneLocked, OneMade, OneSized, SomeFreed}
+use Rattle.o2_world.specs.Moves.{AreOwn, Moves, NoneMoves, OneAliased, OneLocked, OneMade, OneSized, SomeFreed}
 
 -- The dispatch, whatever changes.
 
@@ -115,7 +115,7 @@ all_leave place n e leave other = go (is_live e.state)
 
 -- Reserved indexes.
 
--- a change of no reserved index
+-- a change that frees no reserved index
 abbrev pub LeavesReserves : Change → Type 0
 LeavesReserves (Makes s) = Unit {0}
 LeavesReserves (Resizes m size) = Unit {0}
@@ -124,7 +124,7 @@ LeavesReserves (Marks m d) = Unit {0}
 LeavesReserves (Holds p i h) = Unit {0}
 LeavesReserves (Drops p i count) = Unit {0}
 LeavesReserves (Finishes p state) = Unit {0}
-LeavesReserves (Reserves r) = ⊥
+LeavesReserves (Reserves r) = Unit {0}
 LeavesReserves (Frees r first) = ⊥
 LeavesReserves (Names text m) = Unit {0}
 
@@ -132,22 +132,27 @@ abbrev pub LeaveReserves : List Change → Type 0
 LeaveReserves [] = Unit {0}
 LeaveReserves (c ∷ cs) = LeavesReserves c × LeaveReserves cs
 
-one_reserved : (w : World) (c : Change) → LeavesReserves c → (with_change w c).reserved ≡ w.reserved
-one_reserved w (Makes s) leaves = refl
-one_reserved w (Resizes m size) leaves = refl
-one_reserved w (Locks m count) leaves = refl
-one_reserved w (Marks m d) leaves = refl
-one_reserved w (Holds p i h) leaves = refl
-one_reserved w (Drops p i count) leaves = refl
-one_reserved w (Finishes p state) leaves = refl
-one_reserved w (Reserves r) leaves = absurd leaves
-one_reserved w (Frees r first) leaves = absurd leaves
-one_reserved w (Names text m) leaves = refl
+-- one more in front
+any_more : (b c : Bool) → c ≡ true → (b || c) ≡ true
+any_more true c e = refl
+any_more false c e = e
 
-pub changes_reserved : (w : World) (cs : List Change) → LeaveReserves cs → (with_changes w cs).reserved ≡ w.reserved
+one_reserved : (P : Reserve → Bool) (w : World) (c : Change) → LeavesReserves c → list_any P w.reserved ≡ true → list_any P (with_change w c).reserved ≡ true
+one_reserved P w (Makes s) leaves e = e
+one_reserved P w (Resizes m size) leaves e = e
+one_reserved P w (Locks m count) leaves e = e
+one_reserved P w (Marks m d) leaves e = e
+one_reserved P w (Holds p i h) leaves e = e
+one_reserved P w (Drops p i count) leaves e = e
+one_reserved P w (Finishes p state) leaves e = e
+one_reserved P w (Reserves r) leaves e = any_more (P r) (list_any P w.reserved) e
+one_reserved P w (Frees r first) leaves e = absurd leaves
+one_reserved P w (Names text m) leaves e = e
+
+pub changes_reserved : (P : Reserve → Bool) (w : World) (cs : List Change) → LeaveReserves cs → list_any P w.reserved ≡ true → list_any P (with_changes w cs).reserved ≡ true
 unfolding with_changes
-changes_reserved w [] leave = refl
-changes_reserved w (c ∷ cs) leave = changes_reserved (with_change w c) cs leave.1 ∙ one_reserved w c leave.0
+changes_reserved P w [] leave e = e
+changes_reserved P w (c ∷ cs) leave e = changes_reserved P (with_change w c) cs leave.1 (one_reserved P w c leave.0 e)
 
 reserves_more : (xs : List Change) (c : Change) → LeaveReserves xs → LeavesReserves c → LeaveReserves (xs ++ c ∷ [])
 reserves_more [] c leave one = (one, tt)
@@ -170,7 +175,7 @@ drops_own n (i ∷ is) = (refl, drops_own n is)
 pub moves_own : (b : Before) (cpu : Cpu) (cs : List Change) → Moves b cpu cs → AreOwn b.number cs
 moves_own b cpu cs (NoneMoves is) = subst (AreOwn b.number) (sym is) tt
 moves_own b cpu cs (OneMade size flags i free is) = subst (AreOwn b.number) (sym is) (tt, (refl, tt))
-moves_own b cpu cs (OneSized name size is) = subst (AreOwn b.number) (sym is) (tt, tt)
+moves_own b cpu cs (OneSized name size alone is) = subst (AreOwn b.number) (sym is) (tt, tt)
 moves_own b cpu cs (OneLocked name count is) = subst (AreOwn b.number) (sym is) (tt, tt)
-moves_own b cpu cs (OneAliased index i h there free is) = subst (AreOwn b.number) (sym is) (refl, tt)
+moves_own b cpu cs (OneAliased index i h there alone free is) = subst (AreOwn b.number) (sym is) (refl, tt)
 moves_own b cpu cs (SomeFreed xs frees is) = subst (AreOwn b.number) (sym is) (drops_own b.number xs)

@@ -3,7 +3,7 @@ use Rattle.std.proofs.Common.{◌≡◌, ℕ, zero, suc, ◌-◌, Bool, true, fa
 use Rattle.o2_conf.specs.Dispatch.{Dispatch}
 use Rattle.o2_world.specs.declared.types.Argument.{Argument}
 use Rattle.o2_world.specs.declared.types.Row.{Row}
-use Rattle.o2_world.specs.declared.types.Row.TheVariants.{DosExit, DosGetPid, DosRead, DosWrite, DosMemAvail, OnSegments, OnShared}
+use Rattle.o2_world.specs.declared.types.Row.TheVariants.{DosExit, DosGetPid, DosRead, DosWrite, DosMemAvail, OnSegments, OnShared, OnRuns}
 use Rattle.o2_world.specs.World.{World, Process, is_live}
 use Rattle.o2_world.specs.Holders.{with_process}
 use Rattle.o2_world.specs.Changes.{at_place, at_number, with_changes, swept}
@@ -69,6 +69,7 @@ served_quiet (Some DosWrite) b next plain = write_quiet b next
 served_quiet (Some DosMemAvail) b next plain = told_quiet b next _ _ _
 served_quiet (Some (OnSegments call)) b next plain = absurd plain
 served_quiet (Some (OnShared call)) b next plain = absurd plain
+served_quiet (Some (OnRuns call)) b next plain = absurd plain
 
 -- nor does exception 1 behind a step
 pub single_quiet : (b : Before) (e : Effect) → e.changes ≡ [] → (single_stepped b e).changes ≡ []

@@ -11,9 +11,11 @@ use Rattle.o2_world.specs.declared.types.Argument.{Argument}
 use Rattle.o2_world.specs.declared.types.Argument.TheVariants.{Word, Far}
 use Rattle.o2_world.specs.declared.types.State.TheVariants.{Trapped}
 use Rattle.o2_world.specs.declared.types.Row.{Row}
-use Rattle.o2_world.specs.declared.types.Row.TheVariants.{DosExit, DosGetPid, DosRead, DosWrite, DosMemAvail, OnSegments, OnShared}
+use Rattle.o2_world.specs.declared.types.Row.TheVariants.{DosExit, DosGetPid, DosRead, DosWrite, DosMemAvail, OnSegments, OnShared, OnRuns}
 use Rattle.o2_world.specs.declared.types.SegmentCall.{SegmentCall}
 use Rattle.o2_world.specs.declared.types.SegmentCall.TheVariants.{DosAllocSeg, DosReallocSeg, DosFreeSeg, DosSizeSeg, DosLockSeg, DosUnlockSeg, DosCreateCsAlias}
+use Rattle.o2_world.specs.declared.types.HugeCall.{HugeCall}
+use Rattle.o2_world.specs.declared.types.HugeCall.TheVariants.{DosAllocHuge, DosReallocHuge, DosGetHugeShift}
 use Rattle.o2_world.specs.declared.types.SharedCall.{SharedCall}
 use Rattle.o2_world.specs.declared.types.SharedCall.TheVariants.{DosAllocShrSeg, DosGetShrSeg, DosGiveSeg, DosGetSeg}
 use Rattle.o2_world.specs.declared.types.Transfer.{Transfer}
@@ -25,6 +27,8 @@ use Rattle.o2_world.specs.SegmentCalls.{Written, alloc_args, aliased, allocated,
 use Rattle.o2_world.specs.SharedNames.{may_read_text, name_by, text_at}
 use Rattle.o2_world.specs.SharedRulings.{giving, naming, sharing}
 use Rattle.o2_world.specs.SharedCalls.{dos_alloc_shr_seg, dos_get_seg, dos_get_shr_seg, dos_give_seg, give_args, given, name_args, named, on_shared, shared_by_name}
+use Rattle.o2_world.specs.HugeRulings.{huge_allocation, huge_shift}
+use Rattle.o2_world.specs.HugeCalls.{dos_alloc_huge, dos_get_huge_shift, dos_realloc_huge, huge_args, on_runs}
 use Rattle.o2_world.specs.Effect.{has_trap_flag, answered, single_stepped, effect}
 use Rattle.o2_world.specs.Reach.{came, went, tells_end, Tells}
 use Rattle.o2_world.proofs.Quiet.{exit_quiet, read_quiet, told_quiet, write_quiet}
@@ -248,6 +252,22 @@ on_shared_told DosGiveSeg b next =
     told_either b.number (has_arguments b.view b.cpu 4) _ _ (given_told b next (a 3) (a 2) (a 1) (a 0)) (trap_told b 12)
 on_shared_told DosGetSeg b next = told_either b.number (has_arguments b.view b.cpu 1) _ _ (back_told b _ _ _ _ _ _ _) (trap_told b 12)
 
+pub on_runs_told : (call : HugeCall) (b : Before) (next : ℕ) → IsToldBy b.number (on_runs call b next)
+unfolding dos_alloc_huge dos_realloc_huge dos_get_huge_shift
+on_runs_told DosAllocHuge b next =
+    let a : ℕ → ℕ = argument b.view b.cpu in
+    let r = huge_allocation b.known b.number (a 5) (a 4) (a 1) (a 0) in
+    told_either b.number (has_arguments b.view b.cpu 6) _ _
+    (told_either b.number (may_write b.view (a 3) (a 2) 2) _ _
+    (ruled_told b next 6 (codes "DosAllocHuge") (huge_args (a 5) (a 4) (a 3) (a 2) (a 1) (a 0)) (written_word (a 3) (a 2) r.value) r) (trap_told b 13)) (trap_told b 12)
+on_runs_told DosReallocHuge b next = told_either b.number (has_arguments b.view b.cpu 3) _ _ (back_told b _ _ _ _ _ _ _) (trap_told b 12)
+on_runs_told DosGetHugeShift b next =
+    let a : ℕ → ℕ = argument b.view b.cpu in
+    told_either b.number (has_arguments b.view b.cpu 2) _ _
+    (told_either b.number (may_write b.view (a 1) (a 0) 2) _ _
+    (ruled_told b next 2 (codes "DosGetHugeShift") (Far (a 1) (a 0) ∷ []) (written_word (a 1) (a 0) huge_shift) (record { error = 0; value = huge_shift; changes = [] })) (trap_told b 13))
+    (trap_told b 12)
+
 served_told : (row : Option Row) (b : Before) (next : ℕ) → IsToldBy b.number (served_by row b next)
 served_told None b next = trap_told b 13
 served_told (Some DosExit) b next = quiet_told b.number (dos_exit b) (exit_quiet b) (exit_plain b)
@@ -257,6 +277,7 @@ served_told (Some DosWrite) b next = quiet_told b.number (dos_write b next) (wri
 served_told (Some DosMemAvail) b next = quiet_told b.number _ (told_quiet b next _ _ _) (told_plain b next _ _ _)
 served_told (Some (OnSegments call)) b next = on_segments_told call b next
 served_told (Some (OnShared call)) b next = on_shared_told call b next
+served_told (Some (OnRuns call)) b next = on_runs_told call b next
 
 answered_told : (b : Before) (r : Result Machine Stop) → IsToldBy b.number (answered b r)
 answered_told b (Ok s) = quiet_told b.number (answered b (Ok s)) refl (record { comes = λ q t. refl; goes = λ q t. refl; ends = λ q. refl })

@@ -37,7 +37,7 @@ second_false false b e = e
 
 -- an index that is found free has no holder among the processes
 
-none_found : (f : ℕ → Bool) (from count n : ℕ) → is_some (find f (indexes from count)) ≡ false → from ≤ n → n < from + count → f n ≡ false
+pub none_found : (f : ℕ → Bool) (from count n : ℕ) → is_some (find f (indexes from count)) ≡ false → from ≤ n → n < from + count → f n ≡ false
 none_found f from zero n none low high = absurd (omega (arith, low, high))
 none_found f from (suc count) n none low high =
     go (λ e l. none_found f (from + 1) count n e l (omega (arith, high))) (f from) refl none (from == n) refl
@@ -113,7 +113,7 @@ sizes_each k n [] zs = []
 sizes_each k n (i ∷ is) [] = []
 sizes_each k n (i ∷ is) (z ∷ zs) = size_one z (k.held n i) (marks_under k (k.held n i)) ++ sizes_each k n is zs
 
-resized_are : (k : Known) (n : ℕ) (is zs : List ℕ) → resized_members k n is zs ≡ resizes_of (sizes_each k n is zs)
+pub resized_are : (k : Known) (n : ℕ) (is zs : List ℕ) → resized_members k n is zs ≡ resizes_of (sizes_each k n is zs)
 resized_are k n [] zs = refl
 resized_are k n (i ∷ is) [] = refl
 resized_are k n (i ∷ is) (z ∷ zs) =
@@ -136,7 +136,7 @@ unfolding with_changes
 resizes_same u [] = refl
 resizes_same u (r ∷ rs) = resizes_same (with_change u (Resizes r.0 r.1)) rs
 
-resizes_next : (u : World) (rs : List (ℕ × ℕ)) → (with_changes u (resizes_of rs)).next_name ≡ u.next_name
+pub resizes_next : (u : World) (rs : List (ℕ × ℕ)) → (with_changes u (resizes_of rs)).next_name ≡ u.next_name
 unfolding with_changes
 resizes_next u [] = refl
 resizes_next u (r ∷ rs) = resizes_next (with_change u (Resizes r.0 r.1)) rs
@@ -164,7 +164,7 @@ drops_append : (n : ℕ) (xs ys : List (ℕ × ℕ)) → drops_of n (xs ++ ys) �
 drops_append n [] ys = refl
 drops_append n (x ∷ xs) ys = ap (λ (cs : List Change). Drops n x.0 x.1 ∷ cs) (drops_append n xs ys)
 
-dropped_are : (k : Known) (n : ℕ) (is : List ℕ) → dropped_members k n is ≡ drops_of n (drops_each k n is)
+pub dropped_are : (k : Known) (n : ℕ) (is : List ℕ) → dropped_members k n is ≡ drops_of n (drops_each k n is)
 dropped_are k n [] = refl
 dropped_are k n (i ∷ is) =
     ap (λ (cs : List Change). all_dropped n i (k.held n i) ++ cs) (dropped_are k n is)

@@ -21,7 +21,7 @@ use Rattle.o2_world.proofs.MovesFit.{held_there}
 use Rattle.o2_world.proofs.Numbers.{at_place_of, number_some}
 use Rattle.o2_world.proofs.Reached.{get-put, held_at_place, held_then, number_holds}
 use Rattle.o2_world.proofs.RunsFit.{all_are, drops_each, drops_of, drop_one, holders_on, on, resizes_of, resizes_same, sizes_each}
-use Rattle.o2_world.proofs.StepTold.{below, number_length, there_behind}
+use Rattle.o2_world.proofs.Telling.{below, number_length, there_behind}
 use Rattle.o2_world.proofs.TiedWorld.{with_more}
 
 -- Changes behind one another.

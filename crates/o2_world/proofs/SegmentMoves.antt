@@ -16,7 +16,7 @@ use Rattle.o2_world.specs.Known.{Known, Marks}
 use Rattle.o2_world.specs.CallParts.{Before, Effect, argument, has_arguments, may_write, returned}
 use Rattle.o2_world.specs.Rulings.{Ruling, aliasing, aliasing_at, aliasing_of, allocation, allocation_at, by_load, dropped_indexes, free_index, freed_cpu, freeing, freeing_of, full_size, grants, held_under, in_use, indexes, is_alias, is_discardable, is_gone, is_in_run, is_later, keeps_its_size, locking_of, locking_with, members, reallocation_of, reallocation_with, refusal, region_by, sizing, sizing_of, sizing_with, unlocking_of, unlocking_with}
 use Rattle.o2_world.specs.SegmentCalls.{Written, alloc_args, aliased, allocated, dos_alloc_seg, dos_create_cs_alias, dos_free_seg, dos_lock_seg, dos_realloc_seg, dos_size_seg, dos_unlock_seg, freed, on_segments, ruled_at, sized, written_long, written_word}
-use Rattle.o2_world.specs.Moves.{AreApart, Each, IsFreeIndex, IsFreeing, Moves, NoneMoves, OneAliased, OneLocked, OneMade, OneSized, SomeFreed}
+use Rattle.o2_world.specs.Moves.{AreApart, AreMembers, Each, IsFreeIndex, IsFreeing, IsHeldAlone, Moves, NoneMoves, OneAliased, OneLocked, OneMade, OneSized, SomeFreed}
 
 either : (b : Before) (t : Bool) (e f : Effect) → Moves b e.cpu e.changes → Moves b f.cpu f.changes
     → Moves b (cond t e f).cpu (cond t e f).changes
@@ -78,13 +78,30 @@ allocation_moves b cpu size flags =
     rules b cpu (nat_lt 15 flags) _ _ (NoneMoves refl)
     (rules b cpu (nat_le b.known.most b.known.count) _ _ (NoneMoves refl) (at_moves b cpu size flags (free_index b.known (region_by b.number flags)) refl))
 
-resize_moves : (b : Before) (cpu : Cpu) (name size : ℕ) (o : Option Marks) → Moves b cpu (reallocation_with name (full_size size) o).changes
-resize_moves b cpu name size None = NoneMoves refl
-resize_moves b cpu name size (Some m) = rules b cpu (keeps_its_size (full_size size) m) _ _ (NoneMoves refl) (OneSized name size refl)
+resize_moves : (b : Before) (cpu : Cpu) (name size : ℕ) (o : Option Marks) → IsHeldAlone b.known b.number name → Moves b cpu (reallocation_with name (full_size size) o).changes
+resize_moves b cpu name size None alone = NoneMoves refl
+resize_moves b cpu name size (Some m) alone = rules b cpu (keeps_its_size (full_size size) m) _ _ (NoneMoves refl) (OneSized name size alone refl)
 
-realloc_moves : (b : Before) (cpu : Cpu) (size : ℕ) (o : Option Held) → Moves b cpu (reallocation_of b.known (full_size size) o).changes
-realloc_moves b cpu size None = NoneMoves refl
-realloc_moves b cpu size (Some h) = rules b cpu (is_alias h.cause || is_in_run h) _ _ (NoneMoves refl) (resize_moves b cpu h.name size (b.known.segment h.name))
+pub held_there : (k : Known) (n s : ℕ) (h : Held) → held_under k n s ≡ Some h → k.held n (s / 8) ≡ Some h
+held_there k n s h e = go (is_local s) e
+  where
+    go : (b : Bool) → (if b then k.held n (s / 8) else None) ≡ Some h → k.held n (s / 8) ≡ Some h
+    go true f = f
+    go false f = absurd (cc)
+
+no_right : (a b : Bool) → (a || b) ≡ false → b ≡ false
+no_right true b e = absurd (cc)
+no_right false b e = e
+
+realloc_moves : (b : Before) (cpu : Cpu) (size s : ℕ) (o : Option Held) → held_under b.known b.number s ≡ o → Moves b cpu (reallocation_of b.known (full_size size) o).changes
+realloc_moves b cpu size s None e = NoneMoves refl
+realloc_moves b cpu size s (Some h) e = go (is_alias h.cause || is_in_run h) refl
+  where
+    go : (t : Bool) → (is_alias h.cause || is_in_run h) ≡ t → Moves b cpu (cond t (refusal 5) (reallocation_with h.name (full_size size) (b.known.segment h.name))).changes
+    go true f = NoneMoves refl
+    go false f =
+        resize_moves b cpu h.name size (b.known.segment h.name)
+        (record { index = s / 8; held = h; there = held_there b.known b.number s h e; named = refl; alone = no_right (is_alias h.cause) (is_in_run h) f })
 
 marks_size : (b : Before) (cpu : Cpu) (o : Option Marks) → Moves b cpu (sizing_with o).changes
 marks_size b cpu None = NoneMoves refl
@@ -110,24 +127,22 @@ unlock_moves : (b : Before) (cpu : Cpu) (o : Option Held) → Moves b cpu (unloc
 unlock_moves b cpu None = NoneMoves refl
 unlock_moves b cpu (Some h) = marks_unlock b cpu h.name (b.known.segment h.name)
 
-pub held_there : (k : Known) (n s : ℕ) (h : Held) → held_under k n s ≡ Some h → k.held n (s / 8) ≡ Some h
-held_there k n s h e = go (is_local s) e
-  where
-    go : (b : Bool) → (if b then k.held n (s / 8) else None) ≡ Some h → k.held n (s / 8) ≡ Some h
-    go true f = f
-    go false f = absurd (cc)
-
-alias_at : (b : Before) (cpu : Cpu) (index : ℕ) (h : Held) (o : Option ℕ) → b.known.held b.number index ≡ Some h
+alias_at : (b : Before) (cpu : Cpu) (index : ℕ) (h : Held) (o : Option ℕ) → b.known.held b.number index ≡ Some h → is_in_run h ≡ false
     → free_index b.known b.number ≡ o → Moves b cpu (aliasing_at b.number h.name o).changes
-alias_at b cpu index h None there e = NoneMoves refl
-alias_at b cpu index h (Some i) there e = OneAliased index i h there (free_by b.known b.number b.number i (inl refl) e) refl
+alias_at b cpu index h None there alone e = NoneMoves refl
+alias_at b cpu index h (Some i) there alone e = OneAliased index i h there alone (free_by b.known b.number b.number i (inl refl) e) refl
 
 alias_moves : (b : Before) (cpu : Cpu) (s : ℕ) (o : Option Held) → held_under b.known b.number s ≡ o
     → Moves b cpu (aliasing_of b.known b.number (s / 8) o).changes
 alias_moves b cpu s None e = NoneMoves refl
 alias_moves b cpu s (Some h) e =
-    rules b cpu (nat_le 4096 (s / 8) || (not (is_writable h.rights) || is_in_run h)) _ _ (NoneMoves refl)
-    (alias_at b cpu (s / 8) h (free_index b.known b.number) (held_there b.known b.number s h e) refl)
+    go (nat_le 4096 (s / 8) || (not (is_writable h.rights) || is_in_run h)) refl
+  where
+    go : (t : Bool) → (nat_le 4096 (s / 8) || (not (is_writable h.rights) || is_in_run h)) ≡ t → Moves b cpu (cond t (refusal 5) (aliasing_at b.number h.name (free_index b.known b.number))).changes
+    go true f = NoneMoves refl
+    go false f =
+        alias_at b cpu (s / 8) h (free_index b.known b.number) (held_there b.known b.number s h e)
+        (no_right (not (is_writable h.rights)) (is_in_run h) (no_right (nat_le 4096 (s / 8)) (not (is_writable h.rights) || is_in_run h) f)) refl
 
 -- Which indexes a free is about.
 
@@ -191,10 +206,11 @@ module _ (b : Before) (next s : ℕ) where
   abbrev behind : Ruling → Cpu → Cpu
   behind r c = freed_cpu b.known b.number (dropped_indexes r.changes) c
 
-  freeing_is : (error : ℕ) (is : List ℕ) → AreApart is → Each (λ (j : ℕ). is_some (b.known.held b.number j) ≡ true) is
+  freeing_is : (error : ℕ) (is : List ℕ) → AreMembers b.known b.number is → AreApart is → Each (λ (j : ℕ). is_some (b.known.held b.number j) ≡ true) is
       → in_use b.cpu is ≡ false
       → IsFreeing b (behind (grants 0 (map (λ (i : ℕ). Drops b.number i 1) is)) (returned b.cpu next 1 error)) is
-  freeing_is error is apart held unused = record {
+  freeing_is error is all apart held unused = record {
+    members = all;
     apart = apart;
     held = held;
     unused = unused;
@@ -219,7 +235,7 @@ module _ (b : Before) (next s : ℕ) where
           → Moves b (behind (cond t (refusal 5) (cond u (refusal 5) ds)) (returned b.cpu next 1 error)) (cond t (refusal 5) (cond u (refusal 5) ds)).changes
       go true u f = NoneMoves refl
       go false true f = NoneMoves refl
-      go false false f = SomeFreed is (freeing_is error is (members_apart b.known b.number (s / 8) h) (members_held b.known b.number (s / 8) h (held_there b.known b.number s h e)) f) refl
+      go false false f = SomeFreed is (freeing_is error is (record { index = s / 8; held = h; there = held_there b.known b.number s h e; are = refl }) (members_apart b.known b.number (s / 8) h) (members_held b.known b.number (s / 8) h (held_there b.known b.number s h e)) f) refl
 
   freed_moves : Moves b (freed b next s).cpu (freed b next s).changes
   freed_moves = free_moves (freeing b.known b.number s b.cpu).error (held_under b.known b.number s) refl
@@ -258,7 +274,7 @@ on_segments_moves DosAllocSeg b next =
     either b (has_arguments b.view b.cpu 4) _ _ (allocated_moves b next (a 3) (a 2) (a 1) (a 0)) (NoneMoves refl)
 on_segments_moves DosReallocSeg b next =
     let a : ℕ → ℕ = argument b.view b.cpu in
-    either b (has_arguments b.view b.cpu 2) _ _ (realloc_moves b _ (a 1) (held_under b.known b.number (a 0))) (NoneMoves refl)
+    either b (has_arguments b.view b.cpu 2) _ _ (realloc_moves b _ (a 1) (a 0) (held_under b.known b.number (a 0)) refl) (NoneMoves refl)
 on_segments_moves DosFreeSeg b next = either b (has_arguments b.view b.cpu 1) _ _ (freed_moves b next (argument b.view b.cpu 0)) (NoneMoves refl)
 on_segments_moves DosSizeSeg b next =
     let a : ℕ → ℕ = argument b.view b.cpu in

@@ -1,5 +1,5 @@
 -- What each call that shares segments changes, by its shape.
-use Rattle.std.proofs.Common.{◌≡◌, inl, inr, ℕ, ◌≤◌, ◌==◌, ◌/◌, nat_le, not, ◌&&◌, ◌||◌, Bool, true, false, cond, List, [], ◌∷◌, Option, Some, None, if◌then◌else◌, refl, arith, subst}
+use Rattle.std.proofs.Common.{◌≡◌, inl, inr, ℕ, ◌≤◌, ◌==◌, ◌/◌, nat_le, not, ◌&&◌, ◌||◌, Bool, true, false, cond, List, [], ◌∷◌, Option, Some, None, if◌then◌else◌, ap, sym, ◌∙◌, refl, arith, subst}
 use Rattle.std.specs.Prelude.{codes, is_some}
 use Rattle.o2_base.specs.Selectors.{selector_of}
 use Rattle.o2_desc.specs.Bits.{has_bit}
@@ -19,8 +19,8 @@ use Rattle.o2_world.specs.SegmentCalls.{Written, ruled_at, written_word}
 use Rattle.o2_world.specs.SharedNames.{may_read_text, name_by, text_at}
 use Rattle.o2_world.specs.SharedRulings.{each_more, getting, getting_at, getting_from, giving, giving_of, held_by, holder, index_of, is_share, is_shared, is_shared_with, lacks_flag, marks_by_call, naming, naming_at, shared_from, sharing, sharing_at, sharing_from, sharing_of}
 use Rattle.o2_world.specs.SharedCalls.{dos_alloc_shr_seg, dos_get_seg, dos_get_shr_seg, dos_give_seg, give_args, given, name_args, named, on_shared, shared_by_name}
-use Rattle.o2_world.specs.Moves.{AllMoves, Each, IsShared, NoneMoves, OneNamed, OwnMoves, SomeShared}
-use Rattle.o2_world.proofs.SegmentMoves.{free_by}
+use Rattle.o2_world.specs.Moves.{AllMoves, Each, IsOfText, IsShared, NoneMoves, OneNamed, OwnMoves, SomeShared}
+use Rattle.o2_world.proofs.SegmentMoves.{free_by, held_there}
 
 pub none : (b : Before) (cpu : Cpu) → AllMoves b cpu []
 none b cpu = OwnMoves (NoneMoves refl)
@@ -102,30 +102,39 @@ module _ (b : Before) (cpu : Cpu) where
       by true is s = absurd (cc)
       by false is s = go is (k.segment h.name) refl s
 
-  from_moves : (q i : ℕ) (o : Option ℕ) → holder k i ≡ o → 4096 ≤ i → is_share k q (held_by k i o) ≡ true
-      → AllMoves b cpu (sharing_from k b.number i o).changes
-  from_moves q i None at high e = absurd (cc)
-  from_moves q i (Some from) at high e =
-      SomeShared from b.number (i ∷ []) (record { shared = (share_here q i from (k.held from i) refl high e, tt); lives = inl refl }) refl
+  share_named : (q i from : ℕ) (text : List ℕ) (o : Option Held) → k.held from i ≡ o → k.text text ≡ Some q → is_share k q o ≡ true → IsOfText k from (i ∷ [])
+  share_named q i from text None at named e = absurd (cc)
+  share_named q i from text (Some h) at named e =
+      record { index = i; held = h; there = at; text = text; named = named ∙ ap Some (sym (same_number h.name q (both (h.name == q) (is_shared (marks_by_call k (Some h))) e).0)); are = refl }
+    where
+      same_number : (n m : ℕ) → (n == m) ≡ true → n ≡ m
+      same_number n m f = grind arith
 
-  place_moves : (q : ℕ) (o : Option ℕ) → index_of k q ≡ o → AllMoves b cpu (sharing_at k b.number o).changes
-  place_moves q None e = none b cpu
-  place_moves q (Some i) e =
+  from_moves : (q i : ℕ) (text : List ℕ) (o : Option ℕ) → holder k i ≡ o → k.text text ≡ Some q → 4096 ≤ i → is_share k q (held_by k i o) ≡ true
+      → AllMoves b cpu (sharing_from k b.number i o).changes
+  from_moves q i text None at named high e = absurd (cc)
+  from_moves q i text (Some from) at named high e =
+      SomeShared from b.number (i ∷ [])
+      (record { whole = inr (share_named q i from text (k.held from i) refl named e); shared = (share_here q i from (k.held from i) refl high e, tt); lives = inl refl }) refl
+
+  place_moves : (q : ℕ) (text : List ℕ) (o : Option ℕ) → k.text text ≡ Some q → index_of k q ≡ o → AllMoves b cpu (sharing_at k b.number o).changes
+  place_moves q text None named e = none b cpu
+  place_moves q text (Some i) named e =
       let taken : ℕ → Bool = λ (i : ℕ). not (is_share k q (held_by k i (holder k i))) in
       let law : IsChosen taken 4096 8192 1 (Some i) = subst (IsChosen taken 4096 8192 1) e (chosen_law taken 4096 8192 1) in
-      from_moves q i (holder k i) refl law.0.0 (not_false _ (law.0.2 i (omega arith) (omega arith)))
+      from_moves q i text (holder k i) refl named law.0.0 (not_false _ (law.0.2 i (omega arith) (omega arith)))
 
-  text_moves : (o : Option ℕ) → AllMoves b cpu (sharing_of k b.number o).changes
-  text_moves None = none b cpu
-  text_moves (Some q) = place_moves q (index_of k q) refl
+  text_moves : (text : List ℕ) (o : Option ℕ) → k.text text ≡ o → AllMoves b cpu (sharing_of k b.number o).changes
+  text_moves text None named = none b cpu
+  text_moves text (Some q) named = place_moves q text (index_of k q) named refl
 
   sharing_moves : (o : Option (List ℕ)) → AllMoves b cpu (sharing k b.number o).changes
   sharing_moves None = none b cpu
-  sharing_moves (Some name) = text_moves (k.text name)
+  sharing_moves (Some name) = text_moves name (k.text name) refl
 
-  given_moves : (i pid : ℕ) (o : Option Held) → AllMoves b cpu (giving_of k b.number i pid o).changes
-  given_moves i pid None = none b cpu
-  given_moves i pid (Some h) = go (is_later i h || lacks_flag k 0 b.number is) (k.lives pid) refl refl
+  given_moves : (i pid : ℕ) (o : Option Held) → ((h : Held) → o ≡ Some h → k.held b.number i ≡ Some h) → AllMoves b cpu (giving_of k b.number i pid o).changes
+  given_moves i pid None at = none b cpu
+  given_moves i pid (Some h) at = go (is_later i h || lacks_flag k 0 b.number is) (k.lives pid) refl refl
     where
       is : List ℕ
       is = members k b.number i h
@@ -135,22 +144,22 @@ module _ (b : Before) (cpu : Cpu) where
       go true l e f = none b cpu
       go false false e f = none b cpu
       go false true e f =
-          SomeShared b.number pid is (record { shared = all_shared k 0 b.number is (both_false (is_later i h) (lacks_flag k 0 b.number is) e).1; lives = inr f }) refl
+          SomeShared b.number pid is (record { whole = inl (record { index = i; held = h; there = at h refl; are = refl }); shared = all_shared k 0 b.number is (both_false (is_later i h) (lacks_flag k 0 b.number is) e).1; lives = inr f }) refl
 
-  got_moves : (i from : ℕ) (o : Option Held) → AllMoves b cpu (getting_from k b.number i from o).changes
-  got_moves i from None = none b cpu
-  got_moves i from (Some h) = go (is_later i h || lacks_flag k 1 from (members k from i h)) refl
+  got_moves : (i from : ℕ) (o : Option Held) → k.held from i ≡ o → AllMoves b cpu (getting_from k b.number i from o).changes
+  got_moves i from None at = none b cpu
+  got_moves i from (Some h) at = go (is_later i h || lacks_flag k 1 from (members k from i h)) refl
     where
       go : (t : Bool) → (is_later i h || lacks_flag k 1 from (members k from i h)) ≡ t
           → let r : Ruling = if t then refusal 5 else grants 0 (each_more k from b.number (members k from i h)) in AllMoves b cpu r.changes
       go true e = none b cpu
       go false e =
           let is = members k from i h in
-          SomeShared from b.number is (record { shared = all_shared k 1 from is (both_false (is_later i h) (lacks_flag k 1 from is) e).1; lives = inl refl }) refl
+          SomeShared from b.number is (record { whole = inl (record { index = i; held = h; there = at; are = refl }); shared = all_shared k 1 from is (both_false (is_later i h) (lacks_flag k 1 from is) e).1; lives = inl refl }) refl
 
   holder_moves : (i : ℕ) (o : Option ℕ) → AllMoves b cpu (getting_at k b.number i o).changes
   holder_moves i None = none b cpu
-  holder_moves i (Some from) = got_moves i from (k.held from i)
+  holder_moves i (Some from) = got_moves i from (k.held from i) refl
 
   getting_moves : (s : ℕ) → AllMoves b cpu (getting k b.number s).changes
   getting_moves s = rules b cpu (is_local s) _ _ (holder_moves (s / 8) (holder k (s / 8))) (none b cpu)
@@ -179,7 +188,7 @@ gift_moves : (b : Before) (next selector pid s o : ℕ) → AllMoves b (given b 
 gift_moves b next selector pid s o =
     let r = giving b.known b.number selector pid in
     either b (may_write b.view s o 2) _ _
-    (ruled_moves b next 4 (codes "DosGiveSeg") (give_args selector pid s o) (written_word s o r.value) r (λ cpu. given_moves b cpu (selector / 8) pid (held_under b.known b.number selector)))
+    (ruled_moves b next 4 (codes "DosGiveSeg") (give_args selector pid s o) (written_word s o r.value) r (λ cpu. given_moves b cpu (selector / 8) pid (held_under b.known b.number selector) (λ h e. held_there b.known b.number selector h e)))
     (OwnMoves (NoneMoves refl))
 
 pub on_shared_moves : (call : SharedCall) (b : Before) (next : ℕ) → AllMoves b (on_shared call b next).cpu (on_shared call b next).changes

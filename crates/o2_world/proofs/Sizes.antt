@@ -18,9 +18,11 @@ use Rattle.o2_world.specs.declared.types.Row.{Row}
 use Rattle.o2_world.specs.declared.types.Transfer.{Transfer}
 use Rattle.o2_world.specs.declared.types.SegmentCall.{SegmentCall}
 use Rattle.o2_world.specs.declared.types.SegmentCall.TheVariants.{DosAllocSeg, DosReallocSeg, DosFreeSeg, DosSizeSeg, DosLockSeg, DosUnlockSeg, DosCreateCsAlias}
+use Rattle.o2_world.specs.declared.types.HugeCall.{HugeCall}
+use Rattle.o2_world.specs.declared.types.HugeCall.TheVariants.{DosAllocHuge, DosReallocHuge, DosGetHugeShift}
 use Rattle.o2_world.specs.declared.types.SharedCall.{SharedCall}
 use Rattle.o2_world.specs.declared.types.SharedCall.TheVariants.{DosAllocShrSeg, DosGetShrSeg, DosGiveSeg, DosGetSeg}
-use Rattle.o2_world.specs.declared.types.Row.TheVariants.{DosExit, DosGetPid, DosRead, DosWrite, DosMemAvail, OnSegments, OnShared}
+use Rattle.o2_world.specs.declared.types.Row.TheVariants.{DosExit, DosGetPid, DosRead, DosWrite, DosMemAvail, OnSegments, OnShared, OnRuns}
 use Rattle.o2_world.specs.World.{is_live}
 use Rattle.o2_world.specs.Calls.{Before, Effect, argument, has_arguments, transfer_of, may_write, may_give, put_at_pointer, word_bytes, is_console, written, dos_write, dos_exit, told_at, told, bytes_with, may_take, read_from, dos_read, row_of, served_by}
 use Rattle.o2_world.specs.Rulings.{Ruling, aliasing, allocation, sizing}
@@ -28,6 +30,8 @@ use Rattle.o2_world.specs.SegmentCalls.{Written, alloc_args, aliased, allocated,
 use Rattle.o2_world.specs.SharedNames.{may_read_text, name_by, text_at}
 use Rattle.o2_world.specs.SharedRulings.{giving, naming, sharing}
 use Rattle.o2_world.specs.SharedCalls.{dos_alloc_shr_seg, dos_get_seg, dos_get_shr_seg, dos_give_seg, give_args, given, name_args, named, on_shared, shared_by_name}
+use Rattle.o2_world.specs.HugeRulings.{huge_allocation, huge_shift}
+use Rattle.o2_world.specs.HugeCalls.{dos_alloc_huge, dos_get_huge_shift, dos_realloc_huge, huge_args, on_runs}
 use Rattle.o2_world.specs.Effect.{has_trap_flag, answered, effect}
 
 same_name : (n m : ℕ) → (n == m) ≡ true → n ≡ m
@@ -262,6 +266,23 @@ on_shared_sizes DosGiveSeg b next =
     by_test b (has_arguments b.view b.cpu 4) _ _ (λ _. given_sizes b next (a 3) (a 2) (a 1) (a 0)) (stays b.view.bytes)
 on_shared_sizes DosGetSeg b next = by_test b (has_arguments b.view b.cpu 1) _ _ (λ _. stays b.view.bytes) (stays b.view.bytes)
 
+pub on_runs_sizes : (call : HugeCall) (b : Before) (next : ℕ) → KeepsLengths b.view.bytes (on_runs call b next).bytes
+unfolding dos_alloc_huge dos_realloc_huge dos_get_huge_shift
+on_runs_sizes DosAllocHuge b next =
+    let a : ℕ → ℕ = argument b.view b.cpu in
+    let r = huge_allocation b.known b.number (a 5) (a 4) (a 1) (a 0) in
+    by_test b (has_arguments b.view b.cpu 6) _ _
+    (λ _. by_test b (may_write b.view (a 3) (a 2) 2) _ _
+    (λ good. ruled_sizes b next 6 (codes "DosAllocHuge") (huge_args (a 5) (a 4) (a 3) (a 2) (a 1) (a 0)) (written_word (a 3) (a 2) r.value) r good)
+    (stays b.view.bytes)) (stays b.view.bytes)
+on_runs_sizes DosReallocHuge b next = by_test b (has_arguments b.view b.cpu 3) _ _ (λ _. stays b.view.bytes) (stays b.view.bytes)
+on_runs_sizes DosGetHugeShift b next =
+    let a : ℕ → ℕ = argument b.view b.cpu in
+    by_test b (has_arguments b.view b.cpu 2) _ _
+    (λ _. by_test b (may_write b.view (a 1) (a 0) 2) _ _
+    (λ good. ruled_sizes b next 2 (codes "DosGetHugeShift") (Far (a 1) (a 0) ∷ []) (written_word (a 1) (a 0) huge_shift) (record { error = 0; value = huge_shift; changes = [] }) good)
+    (stays b.view.bytes)) (stays b.view.bytes)
+
 served_sizes : (row : Option Row) (b : Before) (next : ℕ) → Keeps b (served_by row b next)
 served_sizes None b next = stays b.view.bytes
 served_sizes (Some DosExit) b next = exit_sizes b
@@ -271,6 +292,7 @@ served_sizes (Some DosWrite) b next = write_sizes b next
 served_sizes (Some DosMemAvail) b next = told_sizes b next _ _ _
 served_sizes (Some (OnSegments call)) b next = on_segments_sizes call b next
 served_sizes (Some (OnShared call)) b next = on_shared_sizes call b next
+served_sizes (Some (OnRuns call)) b next = on_runs_sizes call b next
 
 answered_sizes : (b : Before) (r : Result Machine Stop) → stepped (state b.cpu b.view) ≡ r → Keeps b (answered b r)
 answered_sizes b (Ok s) e = stepped_lengths outcome.Done s (state b.cpu b.view) e

@@ -11,12 +11,13 @@ use Rattle.o2_world.specs.Changes.{Change, Makes, Resizes, Locks, Marks, Holds, 
 use Rattle.o2_world.specs.CallParts.{Before, Effect}
 use Rattle.o2_world.specs.Run.{all_changes, changed, worked, working}
 use Rattle.o2_world.specs.Giving.{gives}
-use Rattle.o2_world.specs.Moves.{AllMoves, AllSpare, AreOwn, AreSpared, IsAtLeast, IsOwn, IsSpared, OneNamed, OwnMoves, SomeShared, Spares}
+use Rattle.o2_world.specs.Moves.{AllMoves, AllSpare, AreOwn, AreSpared, IsAtLeast, IsOwn, IsSpared, OneNamed, OneRun, OwnMoves, SomeShared, Spares}
 use Rattle.o2_world.proofs.FitShares.{changes_are, held_each, least_of, shares_of}
 use Rattle.o2_world.proofs.Keeps.{other_number}
 use Rattle.o2_world.proofs.OwnChanges.{LeavePlace, LeaveReserves, LeavesPlace, LeavesReserves, moved_other, moves_own}
 use Rattle.o2_world.proofs.Reached.{get-place, get-put}
 use Rattle.o2_world.proofs.MapLemmas.{if_no, if_yes}
+use Rattle.o2_world.proofs.RunParts.{AllBy, run_parts}
 
 -- The rows.
 
@@ -40,11 +41,24 @@ shares_spare : (n to : ℕ) (ss : List (ℕ × Held)) → AllSpare n (shares_of 
 shares_spare n to [] = tt
 shares_spare n to (s ∷ ss) = (tt, shares_spare n to ss)
 
+spare_by : (n : ℕ) (cs : List Change) → AllBy (Spares n) cs → AllSpare n cs
+spare_by n [] all = tt
+spare_by n (c ∷ cs) all = (all.0, spare_by n cs all.1)
+
 pub moves_spare : (b : Before) (cpu : Cpu) (cs : List Change) → AllMoves b cpu cs → AllSpare b.number cs
 moves_spare b cpu cs (OwnMoves moves) = all_own_spare b.number cs (moves_own b cpu cs moves)
 moves_spare b cpu cs (OneNamed size i name free is) = subst (AllSpare b.number) (sym is) (tt, (tt, (tt, tt)))
 moves_spare b cpu cs (SomeShared from to xs shares is) =
     subst (AllSpare b.number) (sym (is ∙ changes_are b.known from to xs shares.shared)) (shares_spare b.number to (held_each b.known from xs shares.shared))
+moves_spare b cpu cs (OneRun moves ruled) =
+    spare_by b.number cs
+    (run_parts b (Spares b.number) (record {
+      makes = λ s. tt;
+      resizes = λ m size. tt;
+      holds = λ q i h holder. tt;
+      drops = λ i count. refl;
+      reserves = λ region first count which. tt;
+    }) cpu cs moves)
 
 -- What calls leave.
 
@@ -79,7 +93,7 @@ own_reserves n (Marks m d) own = tt
 own_reserves n (Holds p i h) own = tt
 own_reserves n (Drops p i count) own = tt
 own_reserves n (Finishes p state) own = tt
-own_reserves n (Reserves r) own = own
+own_reserves n (Reserves r) own = tt
 own_reserves n (Frees r first) own = own
 own_reserves n (Names text m) own = tt
 
@@ -91,12 +105,25 @@ shares_reserve : (to : ℕ) (ss : List (ℕ × Held)) → LeaveReserves (shares_
 shares_reserve to [] = tt
 shares_reserve to (s ∷ ss) = (tt, shares_reserve to ss)
 
+reserve_by : (cs : List Change) → AllBy LeavesReserves cs → LeaveReserves cs
+reserve_by [] all = tt
+reserve_by (c ∷ cs) all = (all.0, reserve_by cs all.1)
+
 -- all reserved indexes
 pub moves_reserve : (b : Before) (cpu : Cpu) (cs : List Change) → AllMoves b cpu cs → LeaveReserves cs
 moves_reserve b cpu cs (OwnMoves moves) = all_own_reserves b.number cs (moves_own b cpu cs moves)
 moves_reserve b cpu cs (OneNamed size i name free is) = subst LeaveReserves (sym is) (tt, (tt, (tt, tt)))
 moves_reserve b cpu cs (SomeShared from to xs shares is) =
     subst LeaveReserves (sym (is ∙ changes_are b.known from to xs shares.shared)) (shares_reserve to (held_each b.known from xs shares.shared))
+moves_reserve b cpu cs (OneRun moves ruled) =
+    reserve_by cs
+    (run_parts b LeavesReserves (record {
+      makes = λ s. tt;
+      resizes = λ m size. tt;
+      holds = λ q i h holder. tt;
+      drops = λ i count. tt;
+      reserves = λ region first count which. tt;
+    }) cpu cs moves)
 
 -- The world.
 

@@ -91,12 +91,12 @@ by_sweep : (w : World) (i : ℕ) (b : Bool) → list_any (is_for_the_run i) w.re
 by_sweep w i true e = any_used w.processes i w.reserved e
 by_sweep w i false e = e
 
--- what a step of process n changes, with the end of the process behind it, leaves each reserved index
-pub step_reserved : (s : Setting) (w : World) (d : Dispatch) (n : ℕ) (p : Process)
-    → let e = effect (before s w n p) in (with_changes (worked w d p e) (all_changes n e)).reserved ≡ w.reserved
-step_reserved s w d n p =
+-- what a step of process n changes, with the end of the process behind it, frees no reserved index
+pub step_reserved : (s : Setting) (w : World) (d : Dispatch) (n : ℕ) (p : Process) (P : Reserve → Bool) → list_any P w.reserved ≡ true
+    → let e = effect (before s w n p) in list_any P (with_changes (worked w d p e) (all_changes n e)).reserved ≡ true
+step_reserved s w d n p P some =
     let b = before s w n p in
-    changes_reserved (worked w d p (effect b)) (all_changes n (effect b)) (all_reserves n (effect b) (moves_reserve b (effect b).cpu (effect b).changes (effect_moves b)))
+    changes_reserved P (worked w d p (effect b)) (all_changes n (effect b)) (all_reserves n (effect b) (moves_reserve b (effect b).cpu (effect b).changes (effect_moves b))) some
 
 acted_stays : (s : Setting) (w : World) (d : Dispatch) (o : Option Process) (i : ℕ) → list_any (is_for_the_run i) w.reserved ≡ true
     → list_any (is_for_the_run i) (acted s w d o).reserved ≡ true
@@ -106,7 +106,7 @@ acted_stays s w d (Some p) i e =
     let f : Effect = effect (before s w d.current p) in
     let v : World = with_changes (worked w d p f) (all_changes d.current f) in
     by_sweep v i (list_any takes (all_changes d.current f))
-    (ap (λ (rs : List Reserve). list_any (is_for_the_run i) rs) (step_reserved s w d d.current p) ∙ e)
+    (step_reserved s w d d.current p (is_for_the_run i) e)
 
 pub step_stays : (s : Setting) (w : World) (i : ℕ) → list_any (is_for_the_run i) w.reserved ≡ true
     → list_any (is_for_the_run i) (step s w).reserved ≡ true

@@ -1,16 +1,17 @@
 -- What a step changes beside bytes and registers, by its shape.
-use Rattle.std.proofs.Common.{ℕ, Bool, true, false, cond, ◌&&◌, Option, Some, None, refl}
+use Rattle.std.proofs.Common.{ℕ, ◌&&◌, Option, Some, None, refl}
 use Rattle.std.specs.Prelude.{Result, Ok, Err}
 use Rattle.o2_isa.specs.declared.cpu.Stop.{Stop}
 use Rattle.o2_isa.specs.declared.cpu.Stop.TheVariants as stop
 use Rattle.o2_isa.specs.Steps.{State as Machine, state}
 use Rattle.o2_isa.specs.Step.{stepped}
 use Rattle.o2_world.specs.declared.types.Row.{Row}
-use Rattle.o2_world.specs.declared.types.Row.TheVariants.{DosExit, DosGetPid, DosRead, DosWrite, DosMemAvail, OnSegments, OnShared}
+use Rattle.o2_world.specs.declared.types.Row.TheVariants.{DosExit, DosGetPid, DosRead, DosWrite, DosMemAvail, OnSegments, OnShared, OnRuns}
 use Rattle.o2_world.specs.World.{is_live}
 use Rattle.o2_world.specs.Calls.{Before, Effect, row_of, served_by}
 use Rattle.o2_world.specs.Effect.{answered, effect, has_trap_flag, single_stepped}
-use Rattle.o2_world.specs.Moves.{AllMoves, NoneMoves, OwnMoves}
+use Rattle.o2_world.specs.Moves.{AllMoves, NoneMoves, OneRun, OwnMoves}
+use Rattle.o2_world.proofs.HugeMoves.{on_runs_moves, on_runs_ruled}
 use Rattle.o2_world.proofs.Quiet.{exit_quiet, read_quiet, told_quiet, write_quiet}
 use Rattle.o2_world.proofs.SegmentMoves.{on_segments_moves}
 use Rattle.o2_world.proofs.SharedMoves.{either, on_shared_moves}
@@ -24,6 +25,7 @@ served_moves (Some DosWrite) b next = OwnMoves (NoneMoves (write_quiet b next))
 served_moves (Some DosMemAvail) b next = OwnMoves (NoneMoves (told_quiet b next _ _ _))
 served_moves (Some (OnSegments call)) b next = OwnMoves (on_segments_moves call b next)
 served_moves (Some (OnShared call)) b next = on_shared_moves call b next
+served_moves (Some (OnRuns call)) b next = OneRun (on_runs_moves call b next) (on_runs_ruled call b next)
 
 answered_moves : (b : Before) (r : Result Machine Stop) → AllMoves b (answered b r).cpu (answered b r).changes
 answered_moves b (Ok s) = OwnMoves (NoneMoves refl)

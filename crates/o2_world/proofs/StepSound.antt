@@ -19,7 +19,7 @@ use Rattle.o2_conf.proofs.Choice.{chosen_lives}
 use Rattle.o2_world.proofs.Flags.{live_process}
 use Rattle.o2_world.proofs.GoodRegisters.{good_after, effect_ruled}
 use Rattle.o2_world.proofs.Numbers.{at_place_of}
-use Rattle.o2_world.proofs.MovesFit.{all_moves_fit, all_moves_swept}
+use Rattle.o2_world.proofs.AllFit.{all_moves_fit, all_moves_swept}
 use Rattle.o2_world.proofs.StepMoves.{effect_moves}
 use Rattle.o2_world.proofs.Sizes.{effect_sizes}
 use Rattle.o2_world.proofs.TiedWorld.{changed_tied, fit_more, still_live, worked_tied}

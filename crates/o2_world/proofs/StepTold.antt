@@ -6,17 +6,18 @@ use Rattle.o2_base.specs.Selectors.{selector_of}
 use Rattle.o2_conf.specs.Dispatch.{Dispatch}
 use Rattle.o2_isa.specs.View.{is_code}
 use Rattle.o2_world.specs.Map.{get, put}
-use Rattle.o2_world.specs.World.{World, Setting, Process, Held, HoldsBy, DropsBy, is_live}
+use Rattle.o2_world.specs.World.{World, Setting, Process, Segment, Held, HoldsBy, DropsBy, is_live}
 use Rattle.o2_world.specs.Holders.{process_at, with_process}
-use Rattle.o2_world.specs.Changes.{Change, Makes, Resizes, Locks, Marks, Holds, Drops, Finishes, Reserves, Frees, Names, at_number, at_place, fewer, hold_lines_of, more, with_change}
+use Rattle.o2_world.specs.Changes.{Change, Makes, Resizes, Locks, Marks, Holds, Drops, Finishes, Reserves, Frees, Names, fewer, hold_lines_of, with_change}
 use Rattle.o2_world.specs.Known.{lives_at}
 use Rattle.o2_world.specs.CallParts.{Before, Effect}
 use Rattle.o2_world.specs.Effect.{effect}
+use Rattle.o2_world.specs.Views.{segment_bytes}
 use Rattle.o2_world.specs.Run.{before, worked, working, acted, after, step, chosen_step, is_over, next_dispatch}
-use Rattle.o2_world.specs.Sound.{has_rights, held_in, held_of}
+use Rattle.o2_world.specs.Sound.{HasGoodRegisters, has_rights, held_in, held_of}
 use Rattle.o2_world.specs.Tied.{IsSound}
 use Rattle.o2_world.specs.Reach.{came, went, one_if, tells_end, holds_of, holds_at, IsThere, CanTellAll, IsTold}
-use Rattle.o2_world.specs.Moves.{AllMoves, OneNamed, OwnMoves, SomeShared, AreApart, AreOwn, Each, IsOwn, Moves, NoneMoves, OneAliased, OneLocked, OneMade, OneSized, SomeFreed}
+use Rattle.o2_world.specs.Moves.{AllMoves, IsHolder, Maker, OneNamed, OneRun, OwnMoves, Sharer, SomeShared, AreApart, AreOwn, Each, IsOwn, Moves, NoneMoves, OneAliased, OneLocked, OneMade, OneSized, SomeFreed}
 use Rattle.o2_world.proofs.FitFrees.{at_each, each_among}
 use Rattle.o2_world.proofs.FitShares.{changes_are, held_each, share, shares_of}
 use Rattle.o2_world.proofs.Numbers.{at_place_of, number_some}
@@ -27,20 +28,14 @@ use Rattle.o2_world.proofs.RunReach.{told_after_step}
 use Rattle.o2_world.proofs.StepMoves.{effect_moves}
 use Rattle.o2_world.proofs.StepReach.{own_at, same_at}
 use Rattle.o2_world.proofs.StepSound.{next_process, step_sound}
+use Rattle.o2_world.proofs.Telling.{below, number_length, there_behind}
+use Rattle.o2_world.proofs.TiedWorld.{still_live}
+use Rattle.o2_world.proofs.GoodRegisters.{effect_ruled, good_after}
+use Rattle.o2_world.proofs.Sizes.{effect_sizes}
+use Rattle.o2_world.proofs.RunParts.{AllBy, run_parts}
+use Rattle.o2_world.proofs.RunsTold.{run_can_tell}
 
 -- Drops of what is held can be told.
-
-place_length : (k : ℕ) (f : Process → Process) (ps : List Process) → length (at_place k f ps) ≡ length ps
-place_length k f [] = refl
-place_length zero f (p ∷ ps) = refl
-place_length (suc k) f (p ∷ ps) = ap suc (place_length k f ps)
-
-pub number_length : (n : ℕ) (f : Process → Process) (ps : List Process) → length (at_number n f ps) ≡ length ps
-number_length n f ps = go (n == 0)
-  where
-    go : (b : Bool) → length (if b then ps else at_place (n - 1) f ps) ≡ length ps
-    go true = refl
-    go false = place_length (n - 1) f ps
 
 still_there : (w : World) (n i : ℕ) → IsThere w n → IsThere (with_change w (Drops n i 1)) n
 still_there w n i there = (there.0, let l = number_length n (λ (p : Process). record p { held = put i (fewer 1 (get p.held i)) p.held }) w.processes in let h = there.1 in omega (arith, l, h))
@@ -93,12 +88,6 @@ set_length ps n x = go (n == 0)
     go true = refl
     go false = put_length (n - 1) x ps
 
--- a place that has a process
-pub below : (ps : List Process) (k : ℕ) (x : Process) → slice_get ps k ≡ Some x → k < length ps
-below [] k x e = absurd (cc)
-below (p ∷ ps) zero x e = omega arith
-below (p ∷ ps) (suc k) x e = let h = below ps k x e in omega (arith, h)
-
 -- Changes give no hold to a process that isn't among those to whom they give some.
 
 abbrev GivesTo : (ℕ → Type 0) → Change → Type 0
@@ -149,6 +138,10 @@ give_more : (P Q : ℕ → Type 0) → ((n : ℕ) → P n → Q n) → (cs : Lis
 give_more P Q f [] give = tt
 give_more P Q f (c ∷ cs) give = (gives_more P Q f c give.0, give_more P Q f cs give.1)
 
+give_by : (P : ℕ → Type 0) (cs : List Change) → AllBy (GivesTo P) cs → AllGiveTo P cs
+give_by P [] all = tt
+give_by P (c ∷ cs) all = (all.0, give_by P cs all.1)
+
 shares_give : (P : ℕ → Type 0) (to : ℕ) (ss : List (ℕ × Held)) → P to → AllGiveTo P (shares_of to ss)
 shares_give P to [] here = tt
 shares_give P to (s ∷ ss) here = (here, shares_give P to ss here)
@@ -177,10 +170,6 @@ none_come cause (c ∷ cs) q s other =
     omega (arith, a, x, y)
 
 -- holds more of a process that is there can be told
-
-pub there_behind : (w : World) (q n i : ℕ) (h : Held) → IsThere w n → IsThere (with_change w (Holds q i h)) n
-there_behind w q n i h there =
-    (there.0, let l = number_length q (λ (p : Process). record p { held = put i (more h (get p.held i)) p.held }) w.processes in let x = there.1 in omega (arith, l, x))
 
 shares_tell : (w : World) (to : ℕ) (ss : List (ℕ × Held)) → IsThere w to → CanTellAll w (shares_of to ss)
 shares_tell w to [] there = tt
@@ -269,9 +258,9 @@ module _ (s : Setting) (w : World) (p : Process) (d : Dispatch) (at : process_at
   can_tell : Moves b e.cpu e.changes → CanTellAll v e.changes
   can_tell (NoneMoves is) = subst (CanTellAll v) (sym is) tt
   can_tell (OneMade size flags i free is) = subst (CanTellAll v) (sym is) (tt, (there_now, tt))
-  can_tell (OneSized name size is) = subst (CanTellAll v) (sym is) (tt, tt)
+  can_tell (OneSized name size alone is) = subst (CanTellAll v) (sym is) (tt, tt)
   can_tell (OneLocked name count is) = subst (CanTellAll v) (sym is) (tt, tt)
-  can_tell (OneAliased index i h there free is) = subst (CanTellAll v) (sym is) (there_now, tt)
+  can_tell (OneAliased index i h there alone free is) = subst (CanTellAll v) (sym is) (there_now, tt)
   can_tell (SomeFreed xs frees is) =
       subst (CanTellAll v) (sym is) (drops_tell v d.current xs there_now frees.apart (each_among (λ (j : ℕ). 1 ≤ holds_at v d.current j) xs (λ j among. subst (λ (k : ℕ). 1 ≤ k) (sym (same_holds j)) (freed j (get p.held j) refl (at_each (λ (i : ℕ). is_some (b.known.held b.number i) ≡ true) xs j frees.held among)))))
     where
@@ -279,11 +268,45 @@ module _ (s : Setting) (w : World) (p : Process) (d : Dispatch) (at : process_at
       freed j None f g = absurd (false≢true (sym (ap is_some (ap (λ (x : Option Process). held_of x j) at ∙ f)) ∙ g))
       freed j (Some h) f g = held_some j h f
 
+  -- who holds something has not ended
+  holder_on : (n i : ℕ) (h : Held) → b.known.held n i ≡ Some h → tells_end w.lines n ≡ false
+  holder_on n i h held = go (process_at w.processes n) refl held
+    where
+      not_yet : (x : Process) → process_at w.processes n ≡ Some x → get x.held i ≡ Some h → (t : Bool) → tells_end w.lines n ≡ t → tells_end w.lines n ≡ false
+      not_yet x there has true f =
+          let here = number_some w.processes n x there in
+          let y : held_in w.processes (n - 1) i ≡ Some h = ap (λ (o : Option Process). held_of o i) (at_place_of w.processes n x there) ∙ has in
+          let z = (sound.tied.held (n - 1) i h y).1 in
+          let t = number_holds w n i here in
+          let u : holds_of (held_in w.processes (n - 1) i) ≡ h.holds = ap holds_of y in
+          let none = told.ended n i here f in
+          absurd (omega (arith, z, t, u, none))
+      not_yet x there has false f = f
+
+      go : (o : Option Process) → process_at w.processes n ≡ o → held_of o i ≡ Some h → tells_end w.lines n ≡ false
+      go None f g = absurd (cc)
+      go (Some x) f g = not_yet x f g (tells_end w.lines n) refl
+
+  run_holder_on : (q : ℕ × ℕ) → IsHolder b q → tells_end w.lines q.0 ≡ false
+  run_holder_on q (Maker same one) = ap (tells_end w.lines) same ∙ goes_on
+  run_holder_on q (Sharer index held there holds) = holder_on q.0 index held there
+
+  -- the step leaves good registers, and each name its size
+  sizes : (q : ℕ) (x : Segment) → get w.names q ≡ Some x → length (e.bytes q) ≡ length x.bytes
+  sizes q x there = effect_sizes b q ∙ ap (λ (o : Option Segment). length (segment_bytes o)) there
+
+  good : HasGoodRegisters (working p e)
+  good = good_after w.names p e.cpu (working p e).state (sound.tied.registers (d.current - 1) p (at_place_of w.processes d.current p at) lives) (effect_ruled b)
+
+  still : is_live (working p e).state ≡ true
+  still = still_live w d p e at lives good sizes
+
   all_can_tell : AllMoves b e.cpu e.changes → CanTellAll v e.changes
   all_can_tell (OwnMoves moves) = can_tell moves
   all_can_tell (OneNamed size i name free is) = subst (CanTellAll v) (sym is) (tt, (there_now, (tt, tt)))
   all_can_tell (SomeShared from to xs shares is) =
       subst (CanTellAll v) (sym (is ∙ changes_are b.known from to xs shares.shared)) (shares_tell v to (held_each b.known from xs shares.shared) (shared_there to shares.lives))
+  all_can_tell (OneRun moves ruled) = run_can_tell s w d p e at lives still good sizes sound moves
 
   -- holds come to processes alone that have not ended
   gives : AllMoves b e.cpu e.changes → AllGiveTo (λ (n : ℕ). tells_end w.lines n ≡ false) e.changes
@@ -292,6 +315,16 @@ module _ (s : Setting) (w : World) (p : Process) (d : Dispatch) (at : process_at
   gives (SomeShared from to xs shares is) =
       subst (AllGiveTo (λ (n : ℕ). tells_end w.lines n ≡ false)) (sym (is ∙ changes_are b.known from to xs shares.shared))
       (shares_give (λ (n : ℕ). tells_end w.lines n ≡ false) to (held_each b.known from xs shares.shared) (shared_on to shares.lives))
+  gives (OneRun moves ruled) =
+      let P : ℕ → Type 0 = λ (n : ℕ). tells_end w.lines n ≡ false in
+      give_by P e.changes
+      (run_parts b (GivesTo P) (record {
+        makes = λ g. tt;
+        resizes = λ m size. tt;
+        holds = λ q i h holder. run_holder_on q holder;
+        drops = λ i count. tt;
+        reserves = λ region first count which. tt;
+      }) e.cpu e.changes moves)
 
   -- a process that has ended gets nothing
   gives_none : (q i : ℕ) → tells_end w.lines q ≡ true → came e.lines q (selector_of i) ≡ 0

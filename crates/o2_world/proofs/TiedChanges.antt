@@ -7,7 +7,7 @@ use Rattle.o2_world.specs.Map.{Map, at_key, get, put}
 use Rattle.o2_world.specs.World.{World, Process, Segment, Held, Reserve, is_live}
 use Rattle.o2_world.specs.Changes.{Change, Makes, Resizes, Locks, Marks, Holds, Drops, Finishes, Reserves, Frees, Names, more, fewer, resized, at_place, at_number, with_segment, with_change}
 use Rattle.o2_world.specs.Sound.{held_of, held_in, has_rights, NamesHeld, HasGoodRegisters}
-use Rattle.o2_world.specs.Tied.{AreLive, lives_in, HasSize, IsOwnData, AreOne, IsTied, IsUnnamed, IsFitHold, IsFitDrop, IsFitChange}
+use Rattle.o2_world.specs.Tied.{AreLive, has_no_flags, lives_in, HasSize, IsOwnData, AreOne, IsTied, IsUnnamed, IsFitHold, IsFitDrop, IsFitChange}
 use Rattle.o2_world.proofs.Reached.{get-put, get-place, held_at_place, held_then}
 use Rattle.o2_world.proofs.MapLemmas.{get-at_key, if_yes, if_no}
 
@@ -75,6 +75,21 @@ lives_same m n q f = ap is_some (get-at_key n q f m) ∙ go (n == q) refl
     go true is = ap is_some (if_yes (n == q) _ _ is) ∙ is_some-map f (get m n) ∙ ap (λ k. is_some (get m k)) (same_number n q true is refl)
     go false is = ap is_some (if_no (n == q) _ _ is)
 
+flags_same : (m : Map Segment) (n q : ℕ) (f : Segment → Segment) → ((s : Segment) → (f s).flags ≡ s.flags) → has_no_flags (get (at_key n f m) q) ≡ has_no_flags (get m q)
+flags_same m n q f flags = ap has_no_flags (get-at_key n q f m) ∙ go (n == q) refl
+  where
+    mapped : (o : Option Segment) → has_no_flags (option_map f o) ≡ has_no_flags o
+    mapped None = refl
+    mapped (Some s) = ap (λ (x : ℕ). x == 0) (flags s)
+
+    go : (b : Bool) → (n == q) ≡ b → has_no_flags (if n == q then option_map f (get m n) else get m q) ≡ has_no_flags (get m q)
+    go true is = ap has_no_flags (if_yes (n == q) _ _ is) ∙ mapped (get m n) ∙ ap (λ k. has_no_flags (get m k)) (same_number n q true is refl)
+    go false is = ap has_no_flags (if_no (n == q) _ _ is)
+
+pub flags_live : (o : Option Segment) → has_no_flags o ≡ true → is_some o ≡ true
+flags_live None e = e
+flags_live (Some s) e = refl
+
 record IsNamedFrom (m : Map Segment) (q : ℕ) (f : Segment → Segment) (s : Segment) : Type 0 where
   pub old : Segment
   pub there : get m q ≡ Some old
@@ -93,7 +108,7 @@ named_from m n q f s e = go (n == q) refl (get m n) refl (sym (get-at_key n q f 
         record { old = y; there = ap (get m) (sym (same_number n q true is refl)) ∙ at; is = inr cc }
     go false is o at e = record { old = s; there = sym (if_no (n == q) _ _ is) ∙ e; is = inl refl }
 
-pub texts_live : (old new : Map Segment) (ts : List (List ℕ × ℕ)) → ((q : ℕ) → is_some (get old q) ≡ true → is_some (get new q) ≡ true)
+pub texts_live : (old new : Map Segment) (ts : List (List ℕ × ℕ)) → ((q : ℕ) → has_no_flags (get old q) ≡ true → has_no_flags (get new q) ≡ true)
     → AreLive old ts → AreLive new ts
 texts_live old new [] f h = h
 texts_live old new (t ∷ ts) f h = (f t.1 h.0, texts_live old new ts f h.1)
@@ -122,15 +137,15 @@ same_marks names n s e = record { old = s; there = e; clean = refl; shared = ref
 
 -- A change of a segment that leaves its marks clean and shared, and has a size.
 segment_tied : (w : World) (n : ℕ) (f : Segment → Segment) → ((s : Segment) → (f s).clean ≡ s.clean)
-    → ((s : Segment) → (f s).shared ≡ s.shared)
+    → ((s : Segment) → (f s).shared ≡ s.shared) → ((s : Segment) → (f s).flags ≡ s.flags)
     → ((s : Segment) → HasSize s → HasSize (f s)) → IsTied w → IsTied (with_segment w n f)
-segment_tied w n f clean shared sized tied = record {
+segment_tied w n f clean shared flags sized tied = record {
   held = λ place i h e. let old = tied.held place i h e in (lives_same w.names n h.name f ∙ old.0, old.1);
   below = λ q e. tied.below q (sym (lives_same w.names n q f) ∙ e);
   sized = λ q s e. let from = named_from w.names n q f s e in size_by s from.old from.is (tied.sized q from.old from.there);
   clean = λ place i h s e g c. let from = named_from w.names n h.name f s g in tied.clean place i h from.old e from.there (sym (clean_by s from.old from.is) ∙ c);
   one = λ place other i h k big e g. still_one w.names (at_key n f w.names) h k (marks h.name) (marks k.name) (tied.one place other i h k big e g);
-  texts = texts_live w.names (at_key n f w.names) w.texts (λ q e. lives_same w.names n q f ∙ e) tied.texts;
+  texts = texts_live w.names (at_key n f w.names) w.texts (λ q e. flags_same w.names n q f flags ∙ e) tied.texts;
   ended = tied.ended;
   registers = tied.registers;
 }
@@ -160,7 +175,7 @@ makes_tied w s sized tied = record {
   sized = λ q t e. size q t (w.next_name == q) refl e;
   clean = λ place i h t e g c. tied.clean place i h t e (sym (if_no (w.next_name == h.name) _ _ (other h.name (tied.held place i h e).0)) ∙ g) c;
   one = λ place other i h k big e f. still_one w.names new h k (marks h.name (tied.held place i h e).0) (marks k.name (tied.held other i k f).0) (tied.one place other i h k big e f);
-  texts = texts_live w.names (put w.next_name (Some s) w.names) w.texts more_live tied.texts;
+  texts = texts_live w.names (put w.next_name (Some s) w.names) w.texts no_more_flags tied.texts;
   ended = tied.ended;
   registers = tied.registers;
 }
@@ -176,6 +191,9 @@ makes_tied w s sized tied = record {
 
     more_live : (q : ℕ) → lives_in w q ≡ true → is_some (get new q) ≡ true
     more_live q e = ap is_some (if_no (w.next_name == q) (Some s) (get w.names q) (other q e)) ∙ e
+
+    no_more_flags : (q : ℕ) → has_no_flags (get w.names q) ≡ true → has_no_flags (get new q) ≡ true
+    no_more_flags q e = ap has_no_flags (if_no (w.next_name == q) (Some s) (get w.names q) (other q (flags_live (get w.names q) e))) ∙ e
 
     marks : (q : ℕ) → lives_in w q ≡ true → (t : Segment) → get new q ≡ Some t → KeepsMarks w.names q t
     marks q lives t e = same_marks w.names q t (sym (if_no (w.next_name == q) (Some s) (get w.names q) (other q lives)) ∙ e)
@@ -438,7 +456,7 @@ finishes_tied w p state ends tied = record {
 
 -- Texts, sizes, and the rest.
 
-names_tied : (w : World) (text : List ℕ) (name : ℕ) → lives_in w name ≡ true → IsTied w → IsTied (with_change w (Names text name))
+names_tied : (w : World) (text : List ℕ) (name : ℕ) → has_no_flags (get w.names name) ≡ true → IsTied w → IsTied (with_change w (Names text name))
 names_tied w text name lives tied = record { held = tied.held; below = tied.below; sized = tied.sized; clean = tied.clean; one = tied.one; texts = (lives, tied.texts); ended = tied.ended; registers = tied.registers }
 
 reserved_tied : (w : World) (rs : List Reserve) → IsTied w → IsTied (record w { reserved = rs })
@@ -474,9 +492,9 @@ numbered w p f there tied = go (p == 0) refl
 -- One change, by its kind.
 pub change_tied : (w : World) (c : Change) → IsFitChange w c → IsTied w → IsTied (with_change w c)
 change_tied w (Makes s) fit tied = makes_tied w s fit tied
-change_tied w (Resizes n size) fit tied = segment_tied w n (λ (s : Segment). record s { bytes = resized size s.bytes }) (λ s. refl) (λ s. refl) (λ s _. subst (λ k. (0 < k) × (k ≤ 65536)) (sym (resized_length size s.bytes)) fit) tied
-change_tied w (Locks n count) fit tied = segment_tied w n (λ (s : Segment). record s { lock = count }) (λ s. refl) (λ s. refl) (λ s h. h) tied
-change_tied w (Marks n d) fit tied = segment_tied w n (λ (s : Segment). record s { discarded = d }) (λ s. refl) (λ s. refl) (λ s h. h) tied
+change_tied w (Resizes n size) fit tied = segment_tied w n (λ (s : Segment). record s { bytes = resized size s.bytes }) (λ s. refl) (λ s. refl) (λ s. refl) (λ s _. subst (λ k. (0 < k) × (k ≤ 65536)) (sym (resized_length size s.bytes)) fit) tied
+change_tied w (Locks n count) fit tied = segment_tied w n (λ (s : Segment). record s { lock = count }) (λ s. refl) (λ s. refl) (λ s. refl) (λ s h. h) tied
+change_tied w (Marks n d) fit tied = segment_tied w n (λ (s : Segment). record s { discarded = d }) (λ s. refl) (λ s. refl) (λ s. refl) (λ s h. h) tied
 change_tied w (Holds p i h) fit tied = numbered w p (put_held (more h) i) (λ some. holds_tied w p i h some fit tied) tied
 change_tied w (Drops p i count) fit tied = numbered w p (put_held (fewer count) i) (λ some. drops_tied w p i count some fit tied) tied
 change_tied w (Finishes p state) fit tied = numbered w p (λ (x : Process). record x { state = state; held = [] }) (λ _. finishes_tied w p state fit tied) tied

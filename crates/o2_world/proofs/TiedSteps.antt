@@ -6,7 +6,7 @@ use Rattle.o2_world.specs.Map.{Map, get}
 use Rattle.o2_world.specs.World.{World, Process, Segment, Reserve}
 use Rattle.o2_world.specs.Holders.{is_held, kept}
 use Rattle.o2_world.specs.Changes.{Change, takes, used, is_used, told_of, swept, with_change, with_changes, with_all}
-use Rattle.o2_world.specs.Tied.{AreLive, IsTied, IsSwept, AreUsed, AreFitChanges}
+use Rattle.o2_world.specs.Tied.{AreLive, IsTied, has_no_flags, IsSwept, AreUsed, AreFitChanges}
 use Rattle.o2_world.proofs.MapLemmas.{get-filter, if_yes, if_no}
 use Rattle.o2_world.proofs.Keeps.{held_found}
 use Rattle.o2_world.proofs.TiedChanges.{KeepsMarks, still_one, same_marks, change_tied}
@@ -39,10 +39,14 @@ live_kept : (ps : List Process) (names : Map Segment) (q : ℕ) → is_held ps q
     → is_some (get (kept ps names) q) ≡ true
 live_kept ps names q held lives = ap is_some (get-filter (is_held ps) names q ∙ if_yes (is_held ps q) (get names q) None held) ∙ lives
 
+flags_kept : (ps : List Process) (names : Map Segment) (q : ℕ) → is_held ps q ≡ true → has_no_flags (get names q) ≡ true
+    → has_no_flags (get (kept ps names) q) ≡ true
+flags_kept ps names q held none = ap has_no_flags (get-filter (is_held ps) names q ∙ if_yes (is_held ps q) (get names q) None held) ∙ none
+
 told_by : (ps : List Process) (names : Map Segment) (t : List ℕ × ℕ) (ts : List (List ℕ × ℕ)) (b : Bool) → is_held ps t.1 ≡ b
-    → is_some (get names t.1) ≡ true → AreLive (kept ps names) ts → AreLive (kept ps names) (cond b (t ∷ ts) ts)
-told_by ps names t ts true is lives h = (live_kept ps names t.1 is lives, h)
-told_by ps names t ts false is lives h = h
+    → has_no_flags (get names t.1) ≡ true → AreLive (kept ps names) ts → AreLive (kept ps names) (cond b (t ∷ ts) ts)
+told_by ps names t ts true is none h = (flags_kept ps names t.1 is none, h)
+told_by ps names t ts false is none h = h
 
 told_live : (ps : List Process) (names : Map Segment) (ts : List (List ℕ × ℕ)) → AreLive names ts → AreLive (kept ps names) (told_of ps ts)
 told_live ps names [] h = tt

@@ -12,7 +12,7 @@ use Rattle.o2_world.specs.Changes.{Change, Finishes, takes, swept, used, is_used
 use Rattle.o2_world.specs.Calls.{Effect}
 use Rattle.o2_world.specs.Sound.{held_in, HasGoodRegisters}
 use Rattle.o2_world.specs.Run.{changed, working, worked}
-use Rattle.o2_world.specs.Tied.{HasSize, IsTied, IsSwept, AreUsed, AreFitChanges}
+use Rattle.o2_world.specs.Tied.{HasSize, IsTied, IsSwept, AreUsed, AreFitChanges, has_no_flags}
 use Rattle.o2_world.proofs.MapLemmas.{get-map, if_yes, if_no}
 use Rattle.o2_world.proofs.Keeps.{bytes_there, some_is, held_same_at, each_at}
 use Rattle.o2_world.proofs.Numbers.{not_zero, number_some, at_place_of, process_is, with_is, changed_is}
@@ -91,6 +91,14 @@ uses_same : (ps : List Process) (n : ℕ) (p new : Process) (rs : List Reserve) 
 uses_same ps n p new [] at same h = h
 uses_same ps n p new (r ∷ rs) at same h = (used_same ps n p new r at same ∙ h.0, uses_same ps n p new rs at same h.1)
 
+-- other bytes change no flags
+flags_there : (segments : Map Segment) (bytes : ℕ → List ℕ) (q : ℕ) → has_no_flags (get (with_bytes segments bytes) q) ≡ has_no_flags (get segments q)
+flags_there segments bytes q = ap has_no_flags (get-map (λ (n : ℕ) (s : Segment). record s { bytes = bytes n }) segments q) ∙ mapped (get segments q)
+  where
+    mapped : (o : Option Segment) → has_no_flags (option_map (λ (s : Segment). record s { bytes = bytes q }) o) ≡ has_no_flags o
+    mapped None = refl
+    mapped (Some s) = refl
+
 module _ (w : World) (d : Dispatch) (p : Process) (e : Effect) (at : process_at w.processes d.current ≡ Some p) (lives : is_live p.state ≡ true)
     (good : HasGoodRegisters (working p e)) (sizes : (q : ℕ) (s : Segment) → get w.names q ≡ Some s → length (e.bytes q) ≡ length s.bytes) where
   pub still_live : is_live (working p e).state ≡ true
@@ -108,7 +116,7 @@ module _ (w : World) (d : Dispatch) (p : Process) (e : Effect) (at : process_at 
         subst HasSize (sym r.is) (subst (λ n. (0 < n) × (n ≤ 65536)) (sym (sizes q r.old r.there)) (tied.sized q r.old r.there));
     clean = λ place i h s x g c. let r = rewritten w.names e.bytes h.name s g in tied.clean place i h r.old (before place i h x) r.there (ap (λ (y : Segment). y.clean) (sym r.is) ∙ c);
     one = λ place other i h k big x y. still_one w.names (with_bytes w.names e.bytes) h k (marks h.name) (marks k.name) (tied.one place other i h k big (before place i h x) (before other i k y));
-    texts = texts_live w.names (with_bytes w.names e.bytes) w.texts (λ q x. bytes_there w.names e.bytes q ∙ x) tied.texts;
+    texts = texts_live w.names (with_bytes w.names e.bytes) w.texts (λ q x. flags_there w.names e.bytes q ∙ x) tied.texts;
     ended = each_at {P = λ x. is_live x.state ≡ false → x.held ≡ []} w.processes d.current (working p e) (λ ends. absurd (dead_or_live (is_live (working p e).state) true still_live ends)) tied.ended;
     registers = each_at {P = λ x. is_live x.state ≡ true → HasGoodRegisters x} w.processes d.current (working p e) (λ _. good) tied.registers;
   }

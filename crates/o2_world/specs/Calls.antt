@@ -1,12 +1,12 @@
 -- The calls of DOSCALLS by the OS/2 1.3 Programmer's Reference: for each its pointers in order, its conditions in order, its
--- error number, what it changes, and its line. Those on segments, and those that share them, stand in files
--- of their own.
+-- error number, what it changes, and its line. Those on segments, those that share them, and those on huge allocations stand in
+-- files of their own.
 use Rattle.std.specs.Prelude.{ℕ, ◌/◌, ◌%◌, Bool, List, [], ◌∷◌, ◌++◌, length, take, drop, not, if◌then◌else◌, ◌==◌, ◌&&◌, ◌||◌, Option, Some, None, codes}
 use Rattle.o2_world.specs.declared.types.Argument.{Argument}
 use Rattle.o2_world.specs.declared.types.Argument.TheVariants.{Word, Long, Far}
 use Rattle.o2_world.specs.declared.types.Transfer.{Transfer}
 use Rattle.o2_world.specs.declared.types.Row.{Row}
-use Rattle.o2_world.specs.declared.types.Row.TheVariants.{DosExit, DosGetPid, DosRead, DosWrite, DosMemAvail, OnSegments, OnShared}
+use Rattle.o2_world.specs.declared.types.Row.TheVariants.{DosExit, DosGetPid, DosRead, DosWrite, DosMemAvail, OnSegments, OnShared, OnRuns}
 use Rattle.o2_world.specs.declared.types.State.TheVariants.{Live, Exited}
 use Rattle.o2_world.specs.Map.{get}
 use Rattle.o2_world.specs.World.{Line, Calls, Exits, Ends}
@@ -14,8 +14,10 @@ pub use Rattle.o2_world.specs.CallParts.{Effect, Before, trapped, trap_code, wor
 unfoldable pub use Rattle.o2_world.specs.CallParts.{argument, is_good, range_of, put_at_pointer}
 use Rattle.o2_world.specs.declared.types.SegmentCall.TheVariants.{DosAllocSeg, DosReallocSeg, DosFreeSeg, DosSizeSeg, DosLockSeg, DosUnlockSeg, DosCreateCsAlias}
 use Rattle.o2_world.specs.declared.types.SharedCall.TheVariants.{DosAllocShrSeg, DosGetShrSeg, DosGiveSeg, DosGetSeg}
+use Rattle.o2_world.specs.declared.types.HugeCall.TheVariants.{DosAllocHuge, DosReallocHuge, DosGetHugeShift}
 use Rattle.o2_world.specs.SegmentCalls.{on_segments}
 use Rattle.o2_world.specs.SharedCalls.{on_shared}
+use Rattle.o2_world.specs.HugeCalls.{on_runs}
 
 -- A transfer: what DosRead and DosWrite are given.
 abbrev pub transfer_of : (argument : ℕ → ℕ) → Transfer
@@ -188,6 +190,7 @@ rows =
     (5, OnSegments DosAllocSeg) ∷ (6, OnSegments DosReallocSeg) ∷ (7, OnSegments DosFreeSeg) ∷ (8, OnSegments DosSizeSeg) ∷
     (9, OnSegments DosLockSeg) ∷ (10, OnSegments DosUnlockSeg) ∷ (11, OnSegments DosCreateCsAlias) ∷
     (12, OnShared DosAllocShrSeg) ∷ (13, OnShared DosGetShrSeg) ∷ (14, OnShared DosGiveSeg) ∷ (15, OnShared DosGetSeg) ∷
+    (16, OnRuns DosAllocHuge) ∷ (17, OnRuns DosReallocHuge) ∷ (18, OnRuns DosGetHugeShift) ∷
     (19, DosMemAvail) ∷ []
 
 abbrev pub row_of : ℕ → Option Row
@@ -202,6 +205,7 @@ served DosWrite b next = dos_write b next
 served DosMemAvail b next = dos_mem_avail b next
 served (OnSegments call) b next = on_segments call b next
 served (OnShared call) b next = on_shared call b next
+served (OnRuns call) b next = on_runs call b next
 
 -- a number without a row is that of no call: its gate names nothing
 abbrev pub served_by : Option Row → Before → ℕ → Effect
@@ -222,3 +226,4 @@ IsPlain (Some DosWrite) = Unit {0}
 IsPlain (Some DosMemAvail) = Unit {0}
 IsPlain (Some (OnSegments call)) = ⊥
 IsPlain (Some (OnShared call)) = ⊥
+IsPlain (Some (OnRuns call)) = ⊥

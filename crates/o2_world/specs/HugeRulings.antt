@@ -1,7 +1,7 @@
 -- What the calls of DOSCALLS on huge allocations come to, by what is known of the machine. A huge allocation is a run of indexes
 -- that are reserved together as long as somebody holds one of them; its first ones are held, each a segment of 65,536 bytes, but
 -- for the last one, which may have fewer.
-use Rattle.std.specs.Prelude.{ℕ, ◌+◌, ◌-◌, ◌*◌, ◌/◌, Bool, false, not, List, [], ◌∷◌, ◌++◌, length, drop, filter, flat_map, replicate, max, if◌then◌else◌, ◌==◌, nat_le, nat_lt, ◌&&◌, ◌||◌, Option, Some, None, is_some}
+use Rattle.std.specs.Prelude.{ℕ, ◌+◌, ◌-◌, ◌*◌, ◌/◌, ◌%◌, Bool, false, not, List, [], ◌∷◌, ◌++◌, length, drop, filter, flat_map, replicate, max, if◌then◌else◌, ◌==◌, nat_le, nat_lt, ◌&&◌, ◌||◌, Option, Some, None, is_some}
 use Rattle.std.specs.List.{list_any}
 use Rattle.o2_base.specs.Selectors.{selector_of}
 use Rattle.o2_desc.specs.Bits.{has_bit, writable_data}
@@ -21,9 +21,9 @@ segments_of segs part = if part == 0 then segs else segs + 1
 abbrev pub sizes_of : (segs part : ℕ) → List ℕ
 sizes_of segs part = replicate segs 0 ++ (if part == 0 then [] else part ∷ [])
 
--- the bytes of all together
+-- the bytes of all together, where part is a word
 abbrev pub bytes_of : (segs part : ℕ) → ℕ
-bytes_of segs part = segs * 65536 + part
+bytes_of segs part = segs * 65536 + part % 65536
 
 -- what a process holds of a run: so many indexes from the first on are reserved for it
 abbrev pub held_in_run : (name first count holds : ℕ) → Held

@@ -6,9 +6,9 @@ use Rattle.o2_world.specs.World.{Held, Process}
 use Rattle.o2_world.specs.Changes.{Change, Makes, Resizes, Locks, Marks, Holds, Drops, Finishes, Reserves, Frees, Names}
 use Rattle.o2_world.specs.Known.{Known, Marks as SegmentMarks}
 use Rattle.o2_world.specs.CallParts.{Before}
-use Rattle.o2_world.specs.Rulings.{by_load, full_size, held_as_code, held_by_call, in_use, is_gone, made_segment}
+use Rattle.o2_world.specs.Rulings.{by_load, full_size, held_as_code, held_by_call, in_use, is_gone, is_in_run, made_segment, members}
 use Rattle.o2_world.specs.SharedRulings.{each_more, shared_segment}
-use Rattle.o2_world.specs.HugeRulings.{dropped_members, is_unheld, names_one, new_members, resized_members, run_reserve}
+use Rattle.o2_world.specs.HugeRulings.{dropped_members, huge_allocation, huge_reallocation, is_unheld, names_one, new_members, resized_members, run_reserve}
 
 -- an index that is neither held nor reserved: below 4096 of the process's own region, from there on of the one that all share
 pub record IsFreeIndex (k : Known) (number i : ℕ) : Type 0 where
@@ -24,9 +24,25 @@ abbrev pub AreApart : List ℕ → Type 0
 AreApart [] = Unit {0}
 AreApart (i ∷ is) = Each (λ (j : ℕ). i ≢ j) is × AreApart is
 
+-- all that a process holds under one index: this index, or the members of its run
+pub record AreMembers (k : Known) (process : ℕ) (is : List ℕ) : Type 0 where
+  pub index : ℕ
+  pub held : Held
+  pub there : k.held process index ≡ Some held
+  pub are : is ≡ members k process index held
+
+-- a process holds a segment outside runs
+pub record IsHeldAlone (k : Known) (process name : ℕ) : Type 0 where
+  pub index : ℕ
+  pub held : Held
+  pub there : k.held process index ≡ Some held
+  pub named : held.name ≡ name
+  pub alone : is_in_run held ≡ false
+
 -- one hold goes of each of these indexes: all are held, none is that of CS or SS, and DS and ES are 0 where they named one that
 -- isn't held any more
 pub record IsFreeing (b : Before) (cpu : Cpu) (is : List ℕ) : Type 0 where
+  pub members : AreMembers b.known b.number is
   pub apart : AreApart is
   pub held : Each (λ (i : ℕ). is_some (b.known.held b.number i) ≡ true) is
   pub unused : in_use b.cpu is ≡ false
@@ -41,10 +57,10 @@ pub data Moves (b : Before) (cpu : Cpu) (changes : List Change) : Type 0 where
   -- a new segment, held at a free index
   OneMade : (size flags i : ℕ) → IsFreeIndex b.known b.number i
       → changes ≡ Makes (made_segment size flags) ∷ Holds b.number i (held_by_call b.known.next) ∷ [] → Moves b cpu changes
-  OneSized : (name size : ℕ) → changes ≡ Resizes name (full_size size) ∷ [] → Moves b cpu changes
+  OneSized : (name size : ℕ) → IsHeldAlone b.known b.number name → changes ≡ Resizes name (full_size size) ∷ [] → Moves b cpu changes
   OneLocked : (name count : ℕ) → changes ≡ Locks name count ∷ [] → Moves b cpu changes
   -- a segment that is held, held at a free index too
-  OneAliased : (index i : ℕ) (held : Held) → b.known.held b.number index ≡ Some held → IsFreeIndex b.known b.number i
+  OneAliased : (index i : ℕ) (held : Held) → b.known.held b.number index ≡ Some held → is_in_run held ≡ false → IsFreeIndex b.known b.number i
       → changes ≡ Holds b.number i (held_as_code held.name) ∷ [] → Moves b cpu changes
   SomeFreed : (is : List ℕ) → IsFreeing b cpu is → changes ≡ map (λ (i : ℕ). Drops b.number i 1) is → Moves b cpu changes
 
@@ -58,10 +74,69 @@ pub record IsShared (k : Known) (process index : ℕ) : Type 0 where
   pub segment : k.segment held.name ≡ Some marks
   pub shared : marks.shared ≡ true
 
--- a process gets what another holds under these indexes: all of it is shared, and it is the caller, or lives
+-- what a process holds at an index is the segment of a text
+pub record IsOfText (k : Known) (process : ℕ) (is : List ℕ) : Type 0 where
+  pub index : ℕ
+  pub held : Held
+  pub there : k.held process index ≡ Some held
+  pub text : List ℕ
+  pub named : k.text text ≡ Some held.name
+  pub are : is ≡ index ∷ []
+
+-- a process gets what another holds under these indexes: all that this holds under one of them, or the segment of a text; all of it
+-- is shared, and it is the caller, or lives
 pub record IsSharing (b : Before) (from to : ℕ) (is : List ℕ) : Type 0 where
+  pub whole : AreMembers b.known from is ⊎ IsOfText b.known from is
   pub shared : Each (IsShared b.known from) is
   pub lives : (to ≡ b.number) ⊎ (b.known.lives to ≡ true)
+
+-- Runs of indexes. A process that is to hold new members of one: the caller, once, where it makes the run; or as often as it holds
+-- a member already.
+pub data IsHolder (b : Before) (p : ℕ × ℕ) : Type 0 where
+  Maker : p.0 ≡ b.number → p.1 ≡ 1 → IsHolder b p
+  Sharer : (index : ℕ) (held : Held) → b.known.held p.0 index ≡ Some held → p.1 ≡ held.holds → IsHolder b p
+
+abbrev pub AreHolders : Before → List (ℕ × ℕ) → Type 0
+AreHolders b [] = Unit {0}
+AreHolders b (p ∷ ps) = IsHolder b p × AreHolders b ps
+
+-- nobody who could hold the index holds it: it is free, or so it is found
+abbrev pub IsOpen : Before → ℕ → Type 0
+IsOpen b i = IsFreeIndex b.known b.number i ⊎ (is_unheld b.known b.number i ≡ true)
+
+-- new members of a run, which is held by its caller and by others
+pub record IsGrowth (b : Before) (holds : ℕ) (others : List (ℕ × ℕ)) (is : List ℕ) : Type 0 where
+  pub holders : AreHolders b ((b.number, holds) ∷ others)
+  pub apart : AreApart is
+  pub free : Each (IsOpen b) is
+
+-- members of a run that go with all holds of the caller
+pub record IsCut (b : Before) (cpu : Cpu) (is : List ℕ) : Type 0 where
+  pub apart : AreApart is
+  pub held : Each (λ (i : ℕ). is_some (b.known.held b.number i) ≡ true) is
+  pub unused : in_use b.cpu is ≡ false
+  pub cs : cpu.cs ≡ b.cpu.cs
+  pub ss : cpu.ss ≡ b.cpu.ss
+  pub ds : cpu.ds ≡ (if names_one b.cpu.ds is then 0 else b.cpu.ds)
+  pub es : cpu.es ≡ (if names_one b.cpu.es is then 0 else b.cpu.es)
+
+-- the changes of a call on a huge allocation, and its registers behind it
+pub data RunMoves (b : Before) (cpu : Cpu) (changes : List Change) : Type 0 where
+  NoRun : changes ≡ [] → RunMoves b cpu changes
+  -- a new run, of one member at least
+  RunMade : (region first count flags i z : ℕ) (is zs : List ℕ) → (region ≡ b.number) ⊎ (region ≡ 0) → 0 < count → IsGrowth b 1 [] (i ∷ is)
+      → changes ≡ new_members b.known.next first count flags ((b.number, 1) ∷ []) (i ∷ is) (z ∷ zs) ++ Reserves (run_reserve region first count) ∷ []
+      → RunMoves b cpu changes
+  -- members of a run get other sizes, new ones come, and others go
+  RunSized : (first count flags holds : ℕ) (others : List (ℕ × ℕ)) (kept sizes is zs gone : List ℕ) → IsGrowth b holds others is → IsCut b cpu gone
+      → changes ≡ resized_members b.known b.number kept sizes ++ (new_members b.known.next first count flags ((b.number, holds) ∷ others) is zs ++ dropped_members b.known b.number gone)
+      → RunMoves b cpu changes
+
+-- they are those of a ruling
+pub data AreOfRuling (b : Before) (changes : List Change) : Type 0 where
+  OfNone : changes ≡ [] → AreOfRuling b changes
+  OfAllocation : (segs part most flags : ℕ) → changes ≡ (huge_allocation b.known b.number segs part most flags).changes → AreOfRuling b changes
+  OfReallocation : (segs part selector : ℕ) → changes ≡ (huge_reallocation b.known b.number segs part selector b.cpu).changes → AreOfRuling b changes
 
 -- all changes of a step, those of other processes too, and its registers behind it
 pub data AllMoves (b : Before) (cpu : Cpu) (changes : List Change) : Type 0 where
@@ -71,6 +146,8 @@ pub data AllMoves (b : Before) (cpu : Cpu) (changes : List Change) : Type 0 wher
       → changes ≡ Makes (shared_segment size) ∷ Holds b.number i (held_by_call b.known.next) ∷ Names name b.known.next ∷ [] → AllMoves b cpu changes
   -- one hold more of each of some shared segments, for a process that may be another one
   SomeShared : (from to : ℕ) (is : List ℕ) → IsSharing b from to is → changes ≡ each_more b.known from to is → AllMoves b cpu changes
+  -- those of a run
+  OneRun : RunMoves b cpu changes → AreOfRuling b changes → AllMoves b cpu changes
 
 -- a change of no process but this one, and of no reserved index
 abbrev pub IsOwn : ℕ → Change → Type 0
@@ -129,45 +206,3 @@ AreSpared None None = Unit {0}
 AreSpared (Some old) (Some new) = IsSpared old new
 AreSpared None (Some new) = ⊥
 AreSpared (Some old) None = ⊥
-
--- Runs of indexes. A process that is to hold new members of one: the caller, once, where it makes the run; or as often as it holds
--- a member already.
-pub data IsHolder (b : Before) (p : ℕ × ℕ) : Type 0 where
-  Maker : p.0 ≡ b.number → p.1 ≡ 1 → IsHolder b p
-  Sharer : (index : ℕ) (held : Held) → b.known.held p.0 index ≡ Some held → p.1 ≡ held.holds → IsHolder b p
-
-abbrev pub AreHolders : Before → List (ℕ × ℕ) → Type 0
-AreHolders b [] = Unit {0}
-AreHolders b (p ∷ ps) = IsHolder b p × AreHolders b ps
-
--- nobody who could hold the index holds it: it is free, or so it is found
-abbrev pub IsOpen : Before → ℕ → Type 0
-IsOpen b i = IsFreeIndex b.known b.number i ⊎ (is_unheld b.known b.number i ≡ true)
-
--- new members of a run, which is held by its caller and by others
-pub record IsGrowth (b : Before) (holds : ℕ) (others : List (ℕ × ℕ)) (is : List ℕ) : Type 0 where
-  pub holders : AreHolders b ((b.number, holds) ∷ others)
-  pub apart : AreApart is
-  pub free : Each (IsOpen b) is
-
--- members of a run that go with all holds of the caller
-pub record IsCut (b : Before) (cpu : Cpu) (is : List ℕ) : Type 0 where
-  pub apart : AreApart is
-  pub held : Each (λ (i : ℕ). is_some (b.known.held b.number i) ≡ true) is
-  pub unused : in_use b.cpu is ≡ false
-  pub cs : cpu.cs ≡ b.cpu.cs
-  pub ss : cpu.ss ≡ b.cpu.ss
-  pub ds : cpu.ds ≡ (if names_one b.cpu.ds is then 0 else b.cpu.ds)
-  pub es : cpu.es ≡ (if names_one b.cpu.es is then 0 else b.cpu.es)
-
--- the changes of a call on a huge allocation, and its registers behind it
-pub data RunMoves (b : Before) (cpu : Cpu) (changes : List Change) : Type 0 where
-  NoRun : changes ≡ [] → RunMoves b cpu changes
-  -- a new run, of one member at least
-  RunMade : (region first count flags i z : ℕ) (is zs : List ℕ) → (region ≡ b.number) ⊎ (region ≡ 0) → 0 < count → IsGrowth b 1 [] (i ∷ is)
-      → changes ≡ new_members b.known.next first count flags ((b.number, 1) ∷ []) (i ∷ is) (z ∷ zs) ++ Reserves (run_reserve region first count) ∷ []
-      → RunMoves b cpu changes
-  -- members of a run get other sizes, new ones come, and others go
-  RunSized : (first count flags holds : ℕ) (others : List (ℕ × ℕ)) (kept sizes is zs gone : List ℕ) → IsGrowth b holds others is → IsCut b cpu gone
-      → changes ≡ resized_members b.known b.number kept sizes ++ (new_members b.known.next first count flags ((b.number, holds) ∷ others) is zs ++ dropped_members b.known b.number gone)
-      → RunMoves b cpu changes

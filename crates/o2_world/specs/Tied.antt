@@ -1,5 +1,5 @@
 -- What holds of every world of a run, between the changes of a step too; and of each change, when it keeps that.
-use Rattle.std.specs.Prelude.{◌⊎◌, ◌≡◌, ◌≢◌, ℕ, ◌<◌, ◌≤◌, ◌/◌, Bool, true, false, List, [], ◌∷◌, length, Some, is_some, slice_get}
+use Rattle.std.specs.Prelude.{◌⊎◌, ◌≡◌, ◌≢◌, ℕ, ◌<◌, ◌≤◌, ◌/◌, ◌==◌, Bool, true, false, List, [], ◌∷◌, length, Option, Some, None, is_some, slice_get}
 use Rattle.o2_isa.specs.declared.cpu.Cpu.{Cpu}
 use Rattle.o2_isa.specs.View.{is_null, is_writable}
 use Rattle.o2_world.specs.Map.{Map, get}
@@ -23,10 +23,15 @@ pub record IsOwnData (names : Map Segment) (h : Held) : Type 0 where
 abbrev pub AreOne : Map Segment → Held → Held → Type 0
 AreOne names h k = (h.name ≡ k.name) ⊎ (IsOwnData names h × IsOwnData names k)
 
--- each text is that of a live name, those that lie behind others too
+-- a segment lives that was made without flags
+abbrev pub has_no_flags : Option Segment → Bool
+has_no_flags None = false
+has_no_flags (Some s) = s.flags == 0
+
+-- each text is that of a live name, made without flags, those that lie behind others too
 abbrev pub AreLive : Map Segment → List (List ℕ × ℕ) → Type 0
 AreLive names [] = Unit {0}
-AreLive names (t ∷ ts) = (is_some (get names t.1) ≡ true) × AreLive names ts
+AreLive names (t ∷ ts) = (has_no_flags (get names t.1) ≡ true) × AreLive names ts
 
 pub record IsTied (w : World) : Type 0 where
   -- what is held is the name of a live segment, and held at least once
@@ -39,7 +44,7 @@ pub record IsTied (w : World) : Type 0 where
       → s.clean ≡ true → is_writable h.rights ≡ false
   pub one : (place other i : ℕ) (h k : Held) → 4096 ≤ i → held_in w.processes place i ≡ Some h
       → held_in w.processes other i ≡ Some k → AreOne w.names h k
-  -- texts are those of live names
+  -- texts are those of live names without flags
   pub texts : AreLive w.names w.texts
   -- a process that has ended holds nothing, and the registers of one that lives name what it holds
   pub ended : (place : ℕ) (p : Process) → slice_get w.processes place ≡ Some p → is_live p.state ≡ false → p.held ≡ []
@@ -88,7 +93,7 @@ IsFitChange w (Drops p i count) = IsFitDrop w p i count
 IsFitChange w (Finishes p state) = is_live state ≡ false
 IsFitChange w (Reserves r) = Unit {0}
 IsFitChange w (Frees region first) = Unit {0}
-IsFitChange w (Names text name) = lives_in w name ≡ true
+IsFitChange w (Names text name) = has_no_flags (get w.names name) ≡ true
 
 abbrev pub AreFitChanges : World → List Change → Type 0
 AreFitChanges w [] = Unit {0}

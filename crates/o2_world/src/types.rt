@@ -21,6 +21,7 @@ pub enum Row {
     DosMemAvail,
     OnSegments(SegmentCall),
     OnShared(SharedCall),
+    OnRuns(HugeCall),
 }
 
 /// A call that makes, sizes, frees, locks or aliases a segment.

@@ -1,8 +1,8 @@
 -- Each call is its row.
-use Rattle.std.proofs.Common.{inl, inr, ℕ, Option, IsSome, ap, refl, sym, subst, ◌≡◌}
+use Rattle.std.proofs.Common.{◌⊎◌, inl, inr, ℕ, Option, IsSome, ap, refl, sym, subst, ◌≡◌, arith}
 use Rattle.o2_regions.specs.declared.answer.Roomed.TheVariants.{Done}
 use Rattle.o2_regions.specs.Maps.{Maps}
-use Rattle.o2_gate.specs.declared.gathering.SegmentArguments.TheVariants.{Alloc, Realloc, Free, Size, Lock, Unlock, Alias, Shared}
+use Rattle.o2_gate.specs.declared.gathering.SegmentArguments.TheVariants.{Alloc, Realloc, Free, Size, Lock, Unlock, Alias, Shared, Huge}
 use Rattle.o2_stands.specs.Knows.{known_in, others_of}
 use Rattle.o2_stands.proofs.Matching.{matched_by}
 use Rattle.o2_calls.proofs.Givable.{alias_givable, alloc_givable, no_others, some_parts}
@@ -18,13 +18,14 @@ use Rattle.o2_world.specs.Changes.{with_all}
 use Rattle.o2_world.specs.Known.{known_of}
 use Rattle.o2_world.specs.Rulings.{aliasing, freeing, unlocking}
 use Rattle.o2_segs.specs.Answers.{Answers, AnswersRoomed, changes_roomed}
-use Rattle.o2_calls.specs.Acts.{cpu_of, ruling_of}
-use Rattle.o2_calls.specs.Stops.{IsGivable, IsShort, LacksSwap, LeavesEntries, LeavesHolds}
+use Rattle.o2_calls.specs.Acts.{MayStop, cpu_behind, cpu_of, ruling_of}
+use Rattle.o2_calls.specs.Stops.{IsGivable, IsShort, LacksRoom, LacksRun, LacksRunMemory, LacksSwap, LeavesEntries, LeavesHolds, LeavesRunHolds}
 use Rattle.o2_segs.proofs.Limits.{limits_more, limits_same, limits_in, entries_same}
 use Rattle.o2_shared.proofs.Staying.{stay_in_place}
 use Rattle.o2_calls.specs.SharedActs.{LeavesSpelled}
-use Rattle.o2_calls.proofs.SharedOver.{limits_by_made}
-use Rattle.o2_store.specs.Idle.{NoneTaken}
+use Rattle.o2_calls.proofs.SharedOver.{limits_by_made, limits_to}
+use Rattle.o2_store.specs.Idle.{IsIdle, NoneTaken}
+use Rattle.o2_calls.proofs.RunActs.{run_registers, still_registers}
 use Rattle.o2_calls.proofs.acting.act.Goals as goal
 
 pub returns-in-Alloc-clause-row : goal.returns-in-Alloc-clause-row
@@ -56,7 +57,7 @@ returns-in-Free-clause-row g c = λ p s w over spells.
 
 pub returns-in-Free-clause-registers : goal.returns-in-Free-clause-registers
 returns-in-Free-clause-registers g c = λ p s w over spells.
-    subst (λ (a : SegmentArguments). c.free_seg.new.cpu ≡ cpu_of a (known_of s w) c.args.pid c.args.cpu.now) (sym c.in-Free.is)
+    subst (λ (a : SegmentArguments). c.free_seg.new.cpu ≡ cpu_behind a (known_of s w) c.args.pid c.args.cpu.now (Done c.free_seg.result)) (sym c.in-Free.is)
     (cpu_by _ _ _ _ p s w over c.args.pid c.requires.process (Free c.in-Free.selector) c.args.cpu.now c.free_seg.new.cpu (c.free_seg.ensures.registers p (others_of s w) over.store over.regions))
 
 pub returns-in-Free-clause-matches : goal.returns-in-Free-clause-matches
@@ -212,6 +213,9 @@ pub returns-in-Alias-clause-entries : goal.returns-in-Alias-clause-entries
 returns-in-Alias-clause-entries g c =
     subst (λ (a : SegmentArguments). LeavesEntries a c.args.store.now c.create_cs_alias.new.store) (sym c.in-Alias.is) (entries_same c.args.store.now c.create_cs_alias.new.store c.create_cs_alias.ensures.store)
 
+pub returns-in-Shared-clause-limits : goal.returns-in-Shared-clause-limits
+returns-in-Shared-clause-limits g c = limits_to c.args.store.now c.share.new.store c.args.regions.now c.share.new.regions 1 4096 (omega arith) c.share.ensures.limits
+
 pub returns-in-Alloc-clause-limits : goal.returns-in-Alloc-clause-limits
 returns-in-Alloc-clause-limits g c = limits_by_made c.args.store.now c.alloc_seg.new.store c.args.regions.now c.alloc_seg.new.regions c.alloc_seg.result c.alloc_seg.ensures.limits
 
@@ -263,7 +267,7 @@ returns-in-Shared-clause-row g c = λ p s w over spells.
     (c.share.ensures.row c.args.images.now (g.S.SwapDevice.block c.args.swap.now) p s w over spells)
 
 pub returns-in-Shared-clause-registers : goal.returns-in-Shared-clause-registers
-returns-in-Shared-clause-registers g c = λ p s w over spells. subst (λ (a : SegmentArguments). c.args.cpu.now ≡ cpu_of a (known_of s w) c.args.pid c.args.cpu.now) (sym c.in-Shared.is) refl
+returns-in-Shared-clause-registers g c = λ p s w over spells. subst (λ (a : SegmentArguments). c.args.cpu.now ≡ cpu_behind a (known_of s w) c.args.pid c.args.cpu.now (Done c.share.result)) (sym c.in-Shared.is) refl
 
 pub returns-in-Shared-clause-matches : goal.returns-in-Shared-clause-matches
 returns-in-Shared-clause-matches g c = λ p s w x over spells told at tied.
@@ -329,3 +333,196 @@ returns-in-Alias-clause-idle g c = λ none. inl (record { device = refl; none = 
 
 pub returns-in-Shared-clause-idle : goal.returns-in-Shared-clause-idle
 returns-in-Shared-clause-idle g c = λ none. inl (record { device = refl; none = c.share.ensures.unused none })
+
+pub returns-in-Huge-clause-row : goal.returns-in-Huge-clause-row
+returns-in-Huge-clause-row g c = λ p s w over spells.
+    subst (λ (a : SegmentArguments). AnswersRoomed (ruling_of a (known_of s w) c.args.pid c.args.cpu.now) c.act_on_run.result) (sym c.in-Huge.is)
+    (c.act_on_run.ensures.row p s w over spells.processes)
+
+pub returns-in-Huge-clause-registers : goal.returns-in-Huge-clause-registers
+returns-in-Huge-clause-registers g c = λ p s w over spells.
+    subst (λ (a : SegmentArguments). c.act_on_run.new.cpu ≡ cpu_behind a (known_of s w) c.args.pid c.args.cpu.now c.act_on_run.result) (sym c.in-Huge.is)
+    (run_registers c.in-Huge.huge (known_of s w) c.args.pid c.args.cpu.now c.act_on_run.new.cpu c.act_on_run.result (c.act_on_run.ensures.registers p s w over spells.processes))
+
+pub returns-in-Huge-clause-matches : goal.returns-in-Huge-clause-matches
+returns-in-Huge-clause-matches g c = λ p s w x over spells told at tied.
+    subst (λ (a : SegmentArguments). Matches (moved p c.act_on_run.new.store c.act_on_run.new.regions (g.S.SwapDevice.block c.act_on_run.new.swap)) (with_all w (changes_roomed (ruling_of a (known_of s w) c.args.pid c.args.cpu.now) c.act_on_run.result))) (sym c.in-Huge.is)
+    (c.act_on_run.ensures.matches p s w x over spells.processes told at)
+
+pub returns-in-Huge-clause-spells : goal.returns-in-Huge-clause-spells
+returns-in-Huge-clause-spells g c = λ p s w over spells. subst (λ (a : SegmentArguments). LeavesSpelled a c.act_on_run.new.store c.args.names.now c.args.names.now (with_all w (ruling_of a (known_of s w) c.args.pid c.args.cpu.now).changes)) (sym c.in-Huge.is)
+    (refl)
+
+pub returns-in-Huge-clause-stops : goal.returns-in-Huge-clause-stops
+returns-in-Huge-clause-stops g c = λ stops. subst MayStop (sym c.in-Huge.is) (c.act_on_run.ensures.stops stops)
+
+pub returns-in-Huge-clause-holds : goal.returns-in-Huge-clause-holds
+returns-in-Huge-clause-holds g c = subst (λ (a : SegmentArguments). LeavesHolds a c.args.regions.now c.act_on_run.new.regions) (sym c.in-Huge.is)
+    (c.act_on_run.ensures.holds)
+
+pub returns-in-Huge-clause-entries : goal.returns-in-Huge-clause-entries
+returns-in-Huge-clause-entries g c = subst (λ (a : SegmentArguments). LeavesEntries a c.args.store.now c.act_on_run.new.store) (sym c.in-Huge.is)
+    (c.act_on_run.ensures.entries)
+
+pub returns-in-Huge-clause-no_room : goal.returns-in-Huge-clause-no_room
+returns-in-Huge-clause-no_room g c = λ e. subst (λ (a : SegmentArguments). LacksRoom a c.args.store.now c.args.regions.now c.args.pid c.args.keep.now) (sym c.in-Huge.is)
+    (tt)
+
+pub returns-in-Huge-clause-swap_full : goal.returns-in-Huge-clause-swap_full
+returns-in-Huge-clause-swap_full g c = λ e. subst (λ (a : SegmentArguments). LacksSwap a c.args.store.now c.args.regions.now c.args.pid) (sym c.in-Huge.is)
+    (c.act_on_run.ensures.load e, tt)
+
+pub returns-in-Huge-clause-places : goal.returns-in-Huge-clause-places
+returns-in-Huge-clause-places g c = (let k = c.act_on_run.ensures.limits in stay_in_place c.args.store.now c.act_on_run.new.store c.args.regions.now c.act_on_run.new.regions c.args.names.now c.requires.places k.shares k.grows)
+
+pub returns-in-Huge-clause-value : goal.returns-in-Huge-clause-value
+returns-in-Huge-clause-value g c = subst (λ (a : SegmentArguments). IsGivable a c.act_on_run.result) (sym c.in-Huge.is)
+    (c.act_on_run.ensures.value)
+
+pub returns-in-Huge-clause-pictures : goal.returns-in-Huge-clause-pictures
+returns-in-Huge-clause-pictures g c = c.act_on_run.ensures.pictures c.requires.pictures
+
+pub returns-in-Huge-clause-idle : goal.returns-in-Huge-clause-idle
+returns-in-Huge-clause-idle g c = λ none.
+    elim (c.act_on_run.ensures.idle none) [
+      | inl i ↦ inl i
+      | inr may ↦ inr (subst (λ (a : SegmentArguments). IsShort a c.args.store.now c.args.regions.now c.args.pid c.act_on_run.result) (sym c.in-Huge.is) (record { unrefused = tt; stops = may; lacks = tt }))
+    ]
+
+pub returns-in-Huge-clause-run_holds : goal.returns-in-Huge-clause-run_holds
+returns-in-Huge-clause-run_holds g c = λ p s w over spells.
+    subst (λ (a : SegmentArguments). LeavesRunHolds a c.args.regions.now c.act_on_run.new.regions (known_of s w) c.args.pid c.args.cpu.now) (sym c.in-Huge.is)
+    (c.act_on_run.ensures.run_holds p s w over spells.processes)
+
+pub returns-in-Huge-clause-run_lacks : goal.returns-in-Huge-clause-run_lacks
+returns-in-Huge-clause-run_lacks g c = λ p s w over spells.
+    subst (λ (a : SegmentArguments). LacksRun a c.args.store.now (known_of s w) c.args.pid c.args.cpu.now c.args.keep.now c.act_on_run.result) (sym c.in-Huge.is)
+    (c.act_on_run.ensures.run_lacks p s w over spells.processes)
+
+pub returns-in-Huge-clause-run_short : goal.returns-in-Huge-clause-run_short
+returns-in-Huge-clause-run_short g c = λ p s w over spells none.
+    subst (λ (a : SegmentArguments). IsIdle c.act_on_run.new.store c.args.swap.now c.act_on_run.new.swap ⊎ LacksRunMemory a c.args.store.now (known_of s w) c.args.pid c.args.cpu.now) (sym c.in-Huge.is)
+    (c.act_on_run.ensures.run_short p s w over spells.processes none)
+
+pub returns-in-Alloc-clause-run_holds : goal.returns-in-Alloc-clause-run_holds
+returns-in-Alloc-clause-run_holds g c = λ p s w over spells. subst (λ (a : SegmentArguments). LeavesRunHolds a c.args.regions.now c.alloc_seg.new.regions (known_of s w) c.args.pid c.args.cpu.now) (sym c.in-Alloc.is)
+    (tt)
+
+pub returns-in-Alloc-clause-run_lacks : goal.returns-in-Alloc-clause-run_lacks
+returns-in-Alloc-clause-run_lacks g c = λ p s w over spells. subst (λ (a : SegmentArguments). LacksRun a c.args.store.now (known_of s w) c.args.pid c.args.cpu.now c.args.keep.now c.alloc_seg.result) (sym c.in-Alloc.is)
+    (tt)
+
+pub returns-in-Alloc-clause-run_short : goal.returns-in-Alloc-clause-run_short
+returns-in-Alloc-clause-run_short g c = λ p s w over spells none. inr (subst (λ (a : SegmentArguments). LacksRunMemory a c.args.store.now (known_of s w) c.args.pid c.args.cpu.now) (sym c.in-Alloc.is)
+    (tt))
+
+pub returns-in-Realloc-clause-run_holds : goal.returns-in-Realloc-clause-run_holds
+returns-in-Realloc-clause-run_holds g c = λ p s w over spells. subst (λ (a : SegmentArguments). LeavesRunHolds a c.args.regions.now c.realloc_seg.new.regions (known_of s w) c.args.pid c.args.cpu.now) (sym c.in-Realloc.is)
+    (tt)
+
+pub returns-in-Realloc-clause-run_lacks : goal.returns-in-Realloc-clause-run_lacks
+returns-in-Realloc-clause-run_lacks g c = λ p s w over spells. subst (λ (a : SegmentArguments). LacksRun a c.args.store.now (known_of s w) c.args.pid c.args.cpu.now c.args.keep.now c.realloc_seg.result) (sym c.in-Realloc.is)
+    (tt)
+
+pub returns-in-Realloc-clause-run_short : goal.returns-in-Realloc-clause-run_short
+returns-in-Realloc-clause-run_short g c = λ p s w over spells none. inr (subst (λ (a : SegmentArguments). LacksRunMemory a c.args.store.now (known_of s w) c.args.pid c.args.cpu.now) (sym c.in-Realloc.is)
+    (tt))
+
+pub returns-in-Free-clause-run_holds : goal.returns-in-Free-clause-run_holds
+returns-in-Free-clause-run_holds g c = λ p s w over spells. subst (λ (a : SegmentArguments). LeavesRunHolds a c.args.regions.now c.free_seg.new.regions (known_of s w) c.args.pid c.args.cpu.now) (sym c.in-Free.is)
+    (tt)
+
+pub returns-in-Free-clause-run_lacks : goal.returns-in-Free-clause-run_lacks
+returns-in-Free-clause-run_lacks g c = λ p s w over spells. subst (λ (a : SegmentArguments). LacksRun a c.args.store.now (known_of s w) c.args.pid c.args.cpu.now c.args.keep.now (Done c.free_seg.result)) (sym c.in-Free.is)
+    (tt)
+
+pub returns-in-Free-clause-run_short : goal.returns-in-Free-clause-run_short
+returns-in-Free-clause-run_short g c = λ p s w over spells none. inr (subst (λ (a : SegmentArguments). LacksRunMemory a c.args.store.now (known_of s w) c.args.pid c.args.cpu.now) (sym c.in-Free.is)
+    (tt))
+
+pub returns-in-Size-clause-run_holds : goal.returns-in-Size-clause-run_holds
+returns-in-Size-clause-run_holds g c = λ p s w over spells. subst (λ (a : SegmentArguments). LeavesRunHolds a c.args.regions.now c.size_seg.new.regions (known_of s w) c.args.pid c.args.cpu.now) (sym c.in-Size.is)
+    (tt)
+
+pub returns-in-Size-clause-run_lacks : goal.returns-in-Size-clause-run_lacks
+returns-in-Size-clause-run_lacks g c = λ p s w over spells. subst (λ (a : SegmentArguments). LacksRun a c.args.store.now (known_of s w) c.args.pid c.args.cpu.now c.args.keep.now (Done c.size_seg.result)) (sym c.in-Size.is)
+    (tt)
+
+pub returns-in-Size-clause-run_short : goal.returns-in-Size-clause-run_short
+returns-in-Size-clause-run_short g c = λ p s w over spells none. inr (subst (λ (a : SegmentArguments). LacksRunMemory a c.args.store.now (known_of s w) c.args.pid c.args.cpu.now) (sym c.in-Size.is)
+    (tt))
+
+pub returns-in-Lock-clause-run_holds : goal.returns-in-Lock-clause-run_holds
+returns-in-Lock-clause-run_holds g c = λ p s w over spells. subst (λ (a : SegmentArguments). LeavesRunHolds a c.args.regions.now c.lock_seg.new.regions (known_of s w) c.args.pid c.args.cpu.now) (sym c.in-Lock.is)
+    (tt)
+
+pub returns-in-Lock-clause-run_lacks : goal.returns-in-Lock-clause-run_lacks
+returns-in-Lock-clause-run_lacks g c = λ p s w over spells. subst (λ (a : SegmentArguments). LacksRun a c.args.store.now (known_of s w) c.args.pid c.args.cpu.now c.args.keep.now c.lock_seg.result) (sym c.in-Lock.is)
+    (tt)
+
+pub returns-in-Lock-clause-run_short : goal.returns-in-Lock-clause-run_short
+returns-in-Lock-clause-run_short g c = λ p s w over spells none. inr (subst (λ (a : SegmentArguments). LacksRunMemory a c.args.store.now (known_of s w) c.args.pid c.args.cpu.now) (sym c.in-Lock.is)
+    (tt))
+
+pub returns-in-Unlock-clause-run_holds : goal.returns-in-Unlock-clause-run_holds
+returns-in-Unlock-clause-run_holds g c = λ p s w over spells. subst (λ (a : SegmentArguments). LeavesRunHolds a c.args.regions.now c.unlock_seg.new.regions (known_of s w) c.args.pid c.args.cpu.now) (sym c.in-Unlock.is)
+    (tt)
+
+pub returns-in-Unlock-clause-run_lacks : goal.returns-in-Unlock-clause-run_lacks
+returns-in-Unlock-clause-run_lacks g c = λ p s w over spells. subst (λ (a : SegmentArguments). LacksRun a c.args.store.now (known_of s w) c.args.pid c.args.cpu.now c.args.keep.now (Done c.unlock_seg.result)) (sym c.in-Unlock.is)
+    (tt)
+
+pub returns-in-Unlock-clause-run_short : goal.returns-in-Unlock-clause-run_short
+returns-in-Unlock-clause-run_short g c = λ p s w over spells none. inr (subst (λ (a : SegmentArguments). LacksRunMemory a c.args.store.now (known_of s w) c.args.pid c.args.cpu.now) (sym c.in-Unlock.is)
+    (tt))
+
+pub returns-in-Alias-clause-run_holds : goal.returns-in-Alias-clause-run_holds
+returns-in-Alias-clause-run_holds g c = λ p s w over spells. subst (λ (a : SegmentArguments). LeavesRunHolds a c.args.regions.now c.create_cs_alias.new.regions (known_of s w) c.args.pid c.args.cpu.now) (sym c.in-Alias.is)
+    (tt)
+
+pub returns-in-Alias-clause-run_lacks : goal.returns-in-Alias-clause-run_lacks
+returns-in-Alias-clause-run_lacks g c = λ p s w over spells. subst (λ (a : SegmentArguments). LacksRun a c.args.store.now (known_of s w) c.args.pid c.args.cpu.now c.args.keep.now (Done c.create_cs_alias.result)) (sym c.in-Alias.is)
+    (tt)
+
+pub returns-in-Alias-clause-run_short : goal.returns-in-Alias-clause-run_short
+returns-in-Alias-clause-run_short g c = λ p s w over spells none. inr (subst (λ (a : SegmentArguments). LacksRunMemory a c.args.store.now (known_of s w) c.args.pid c.args.cpu.now) (sym c.in-Alias.is)
+    (tt))
+
+pub returns-in-Shared-clause-run_holds : goal.returns-in-Shared-clause-run_holds
+returns-in-Shared-clause-run_holds g c = λ p s w over spells. subst (λ (a : SegmentArguments). LeavesRunHolds a c.args.regions.now c.share.new.regions (known_of s w) c.args.pid c.args.cpu.now) (sym c.in-Shared.is)
+    (tt)
+
+pub returns-in-Shared-clause-run_lacks : goal.returns-in-Shared-clause-run_lacks
+returns-in-Shared-clause-run_lacks g c = λ p s w over spells. subst (λ (a : SegmentArguments). LacksRun a c.args.store.now (known_of s w) c.args.pid c.args.cpu.now c.args.keep.now (Done c.share.result)) (sym c.in-Shared.is)
+    (tt)
+
+pub returns-in-Shared-clause-run_short : goal.returns-in-Shared-clause-run_short
+returns-in-Shared-clause-run_short g c = λ p s w over spells none. inr (subst (λ (a : SegmentArguments). LacksRunMemory a c.args.store.now (known_of s w) c.args.pid c.args.cpu.now) (sym c.in-Shared.is)
+    (tt))
+
+pub returns-in-Alloc-clause-registers : goal.returns-in-Alloc-clause-registers
+returns-in-Alloc-clause-registers g c = λ p s w over spells.
+    still_registers c.args.arguments (known_of s w) c.args.pid c.args.cpu.now c.alloc_seg.result
+    (subst (λ (a : SegmentArguments). cpu_of a (known_of s w) c.args.pid c.args.cpu.now ≡ c.args.cpu.now) (sym c.in-Alloc.is) refl)
+
+pub returns-in-Realloc-clause-registers : goal.returns-in-Realloc-clause-registers
+returns-in-Realloc-clause-registers g c = λ p s w over spells.
+    still_registers c.args.arguments (known_of s w) c.args.pid c.args.cpu.now c.realloc_seg.result
+    (subst (λ (a : SegmentArguments). cpu_of a (known_of s w) c.args.pid c.args.cpu.now ≡ c.args.cpu.now) (sym c.in-Realloc.is) refl)
+
+pub returns-in-Size-clause-registers : goal.returns-in-Size-clause-registers
+returns-in-Size-clause-registers g c = λ p s w over spells. subst (λ (a : SegmentArguments). c.args.cpu.now ≡ cpu_behind a (known_of s w) c.args.pid c.args.cpu.now (Done c.size_seg.result)) (sym c.in-Size.is)
+    (refl)
+
+pub returns-in-Lock-clause-registers : goal.returns-in-Lock-clause-registers
+returns-in-Lock-clause-registers g c = λ p s w over spells.
+    still_registers c.args.arguments (known_of s w) c.args.pid c.args.cpu.now c.lock_seg.result
+    (subst (λ (a : SegmentArguments). cpu_of a (known_of s w) c.args.pid c.args.cpu.now ≡ c.args.cpu.now) (sym c.in-Lock.is) refl)
+
+pub returns-in-Unlock-clause-registers : goal.returns-in-Unlock-clause-registers
+returns-in-Unlock-clause-registers g c = λ p s w over spells. subst (λ (a : SegmentArguments). c.args.cpu.now ≡ cpu_behind a (known_of s w) c.args.pid c.args.cpu.now (Done c.unlock_seg.result)) (sym c.in-Unlock.is)
+    (refl)
+
+pub returns-in-Alias-clause-registers : goal.returns-in-Alias-clause-registers
+returns-in-Alias-clause-registers g c = λ p s w over spells. subst (λ (a : SegmentArguments). c.args.cpu.now ≡ cpu_behind a (known_of s w) c.args.pid c.args.cpu.now (Done c.create_cs_alias.result)) (sym c.in-Alias.is)
+    (refl)

@@ -8,7 +8,7 @@ use Rattle.o2_machine.specs.StandsFor.{StandsFor}
 use Rattle.o2_machine.specs.Begins.{setting_of, first_world}
 use Rattle.o2_cli.proofs.Ample.{fits_from}
 use Rattle.o2_cli.proofs.Runs.{begin_input, begin_sink, begin_swap, has_started, no_refusal, stands_over, start_of}
-use Rattle.o2_cli.proofs.ImageStatuses.{run_sink, run_unrun}
+use Rattle.o2_cli.proofs.ImageStatuses.{run_input, run_sink, run_unrun}
 use Rattle.o2_cli.proofs.Benches.{bench_cut, bench_done, fails_bench, faulted_bench, has_last_line}
 use Rattle.o2_cli.proofs.bench.bench_session.Goals as goal
 
@@ -54,6 +54,10 @@ returns-in-Err-run_unseen-clause-same_report g c = run_unrun (Err c.in-Err-run_u
 
 pub returns-in-Err-run_unseen-clause-same_swap : goal.returns-in-Err-run_unseen-clause-same_swap
 returns-in-Err-run_unseen-clause-same_swap g c = run_unrun (Err c.in-Err-run_unseen.why) _ c.from.ensures _
+
+pub returns-in-Err-run_unseen-clause-input_fault : goal.returns-in-Err-run_unseen-clause-input_fault
+returns-in-Err-run_unseen-clause-input_fault g c =
+    run_input (Err c.in-Err-run_unseen.why) _ c.from.ensures _ _ _ (c.in-Err-run_unseen.ensures.cause (ap stopped_of c.in-Ok-begun.ensures.begins.fresh))
 
 pub returns-in-Err-run_unseen-clause-sink_fault : goal.returns-in-Err-run_unseen-clause-sink_fault
 returns-in-Err-run_unseen-clause-sink_fault g c =

@@ -8,6 +8,7 @@ use Rattle.o2_open.specs.Loads.{Contents}
 use Rattle.o2_run.specs.Pieces.{counts}
 use Rattle.o2_cli.specs.Checks.{Checks}
 use Rattle.o2_cli.specs.Done.{Completes, CompletesCheck, InMemory, IsUnswapped}
+use Rattle.o2_cli.specs.Reaches.{Reaches}
 use Rattle.o2_cli.specs.Top.{Refuses, Shows, holding}
 use Rattle.o2_cli.proofs.in_memory.os2run_in_memory.Goals as goal
 
@@ -35,6 +36,11 @@ returns-clause-untold_texts g c = λ text may.
     (g.C.Sink.taken a.console.now) (g.C.Sink.taken b.console) (g.R.Sink.taken a.report.now) (g.R.Sink.taken b.report) (Rose (g.R.Sink.faults a.report.now) (g.R.Sink.faults b.report))
     (counts (g.C.Sink.puts a.console.now) (g.C.Sink.puts b.console) (g.R.Sink.puts a.report.now) (g.R.Sink.puts b.report) 0) c.os2run.result) e
     (c.os2run.ensures.untold_texts (c.requires.tells b.swap) text may)
+
+pub returns-clause-reach : goal.returns-clause-reach
+returns-clause-reach g c =
+    let e : file_in (mem_files c.os2run.new.files) ≡ file_in (mem_files c.args.files.now) = c.os2run.ensures.files_earlier (file_in (mem_files c.os2run.new.files)) refl in
+    subst (λ (f : Contents). Reaches c.args.words.now (holding f) c.os2run.result) e c.os2run.ensures.reach
 
 pub returns-clause-lines : goal.returns-clause-lines
 returns-clause-lines g c =

@@ -1,4 +1,4 @@
-use Rattle.std.proofs.Common.{length, ap, refl}
+use Rattle.std.proofs.Common.{◌⊎◌, inl, inr, length, ap, refl}
 use Rattle.std.specs.Prelude.{Err}
 use Rattle.o2_run.proofs.Reached.{rose_since, whole_from}
 use Rattle.o2_world.specs.World.{Setting}
@@ -6,6 +6,7 @@ use Rattle.o2_machine.specs.Lasts.{machine_swaps, put_of, stopped_of}
 use Rattle.o2_machine.specs.StandsFor.{StandsFor}
 use Rattle.o2_machine.specs.Begins.{setting_of, first_world}
 use Rattle.o2_cli.proofs.Ample.{fits_from}
+use Rattle.o2_cli.proofs.ImageStatuses.{run_input, run_sink, run_swap, run_unrun}
 use Rattle.o2_run.proofs.StopLines.{texts_of_lined}
 use Rattle.o2_cli.proofs.Runs.{begin_input, begin_sink, begin_swap, fails_run, faulted_run, has_started, no_refusal, nothing_yet, stands_over, start_of}
 use Rattle.o2_cli.proofs.top.run_session.Goals as goal
@@ -21,6 +22,35 @@ returns-in-Err-clause-sink_fault g c = begin_sink _ _ c.in-Err.status c.in-Err.e
 
 pub returns-in-Err-clause-swap_fault : goal.returns-in-Err-clause-swap_fault
 returns-in-Err-clause-swap_fault g c = begin_swap c.args.session _ _ _ _ _ c.in-Err.status c.in-Err.ensures.failed
+
+pub returns-clause-same_input : goal.returns-clause-same_input
+returns-clause-same_input g c = run_unrun (Err c.in-Err-run.why) _ c.from.ensures _
+
+pub returns-clause-same_console : goal.returns-clause-same_console
+returns-clause-same_console g c = run_unrun (Err c.in-Err-run.why) _ c.from.ensures _
+
+pub returns-clause-same_report : goal.returns-clause-same_report
+returns-clause-same_report g c = run_unrun (Err c.in-Err-run.why) _ c.from.ensures _
+
+pub returns-clause-same_swap : goal.returns-clause-same_swap
+returns-clause-same_swap g c = run_unrun (Err c.in-Err-run.why) _ c.from.ensures _
+
+pub returns-clause-input_fault : goal.returns-clause-input_fault
+returns-clause-input_fault g c =
+    run_input (Err c.in-Err-run.why) _ c.from.ensures _ _ _ (c.in-Err-run.ensures.cause (ap stopped_of c.in-Ok.ensures.begins.fresh))
+
+either : (A B C : Type 0) → (B → C) → A ⊎ B → A ⊎ C
+either A B C f (inl a) = inl a
+either A B C f (inr b) = inr (f b)
+
+pub returns-clause-sink_fault : goal.returns-clause-sink_fault
+returns-clause-sink_fault g c =
+    run_sink (Err c.in-Err-run.why) _ c.from.ensures _ _ _ (c.in-Err-run.ensures.cause (ap stopped_of c.in-Ok.ensures.begins.fresh)) _
+    (either _ _ _ (rose_since _ _ _ c.in-Ok.ensures.count))
+
+pub returns-clause-swap_fault : goal.returns-clause-swap_fault
+returns-clause-swap_fault g c =
+    run_swap (Err c.in-Err-run.why) _ c.from.ensures _ _ _ (c.in-Err-run.ensures.cause (ap stopped_of c.in-Ok.ensures.begins.fresh)) _ (λ rose. rose)
 
 pub returns-clause-refused : goal.returns-clause-refused
 returns-clause-refused g c = no_refusal c.args.session c.in-Err-run.why _ c.from.ensures

@@ -1,7 +1,8 @@
 use Rattle.std.proofs.Common.{arith}
 use Rattle.std.specs.Prelude.{nat_lt}
 use Rattle.o2_ends.proofs.Behind.{behind_all}
-use Rattle.o2_ends.proofs.Letting.{empty_behind, gone_not, has_before, held_behind, lets_all, lets_more, sheds_more}
+use Rattle.o2_ends.proofs.Freed.{frees_all, frees_next, nothing_held}
+use Rattle.o2_ends.proofs.Letting.{empty_behind, gone_not, has_before, held_behind, lets_all, lets_more, lets_same, sheds_more, sheds_same}
 use Rattle.o2_ends.proofs.Next.{next_is, next_none}
 use Rattle.o2_ends.proofs.ending.let_go.Goals as goal
 
@@ -33,6 +34,7 @@ loop-index-preserved c =
       process = (p.0, (let a = p.1 in omega (arith, a, q)));
       low = omega (arith, x.high);
       maps = lets_more l m n pid c.loop-index.from at x.low x.clear i.bare i.maps e.maps;
+      frees = frees_next l m n pid c.loop-index.from at x.low x.high x.some x.clear i.maps e.maps i.frees e.frees;
       store = sheds_more c.args.store.now c.loop-index.store c.let_go_at.new.store l m n
           (gone_not l m pid (λ j. nat_lt j c.loop-index.from) i.maps) (has_before m n pid _ e.maps) i.store e.store;
       unused = λ none. e.unused (i.unused none);
@@ -40,16 +42,35 @@ loop-index-preserved c =
       bare = empty_behind m n pid _ i.bare e.maps;
     }
 
+pub release_own-requires-clause-none : goal.release_own-requires-clause-none
+release_own-requires-clause-none c =
+    let i = c.loop-index.invariant in
+    nothing_held c.args.regions.now c.loop-index.regions c.args.pid
+    (lets_all c.args.regions.now c.loop-index.regions c.args.pid c.loop-index.from (next_none c.loop-index.regions c.args.pid c.loop-index.from c.in_default.ensures) i.bare i.maps)
+
 pub returns-clause-maps : goal.returns-clause-maps
 returns-clause-maps c =
     let i = c.loop-index.invariant in
-    lets_all c.args.regions.now c.loop-index.regions c.args.pid c.loop-index.from
-    (next_none c.loop-index.regions c.args.pid c.loop-index.from c.in_default.ensures) i.bare i.maps
+    lets_same c.args.regions.now c.loop-index.regions c.release_own.new.regions c.args.pid _ c.release_own.ensures.maps
+    (lets_all c.args.regions.now c.loop-index.regions c.args.pid c.loop-index.from (next_none c.loop-index.regions c.args.pid c.loop-index.from c.in_default.ensures) i.bare i.maps)
+
+pub returns-clause-frees : goal.returns-clause-frees
+returns-clause-frees c =
+    let i = c.loop-index.invariant in
+    frees_all c.args.regions.now c.loop-index.regions c.release_own.new.regions c.args.pid c.loop-index.from
+    (next_none c.loop-index.regions c.args.pid c.loop-index.from c.in_default.ensures) i.maps i.frees c.release_own.ensures
+
+pub returns-clause-store : goal.returns-clause-store
+returns-clause-store c = sheds_same c.args.store.now c.loop-index.store c.args.regions.now c.loop-index.regions c.release_own.new.regions c.release_own.ensures.maps c.loop-index.invariant.store
 
 pub returns-clause-behind : goal.returns-clause-behind
 returns-clause-behind c =
     let i = c.loop-index.invariant in
-    behind_all c.args.store.now c.args.regions.now c.loop-index.store c.loop-index.regions c.args.pid c.law.ensures.shelf c.law-2.ensures c.law-3.ensures
-    (lets_all c.args.regions.now c.loop-index.regions c.args.pid c.loop-index.from
-    (next_none c.loop-index.regions c.args.pid c.loop-index.from c.in_default.ensures) i.bare i.maps)
-    i.store
+    let l = c.args.regions.now in
+    let m = c.loop-index.regions in
+    let n = c.release_own.new.regions in
+    let none = next_none m c.args.pid c.loop-index.from c.in_default.ensures in
+    behind_all c.args.store.now l c.loop-index.store n c.args.pid c.law.ensures.shelf c.law-2.ensures c.law-3.ensures
+    (lets_same l m n c.args.pid _ c.release_own.ensures.maps (lets_all l m c.args.pid c.loop-index.from none i.bare i.maps))
+    (sheds_same c.args.store.now c.loop-index.store l m n c.release_own.ensures.maps i.store)
+    (frees_all l m n c.args.pid c.loop-index.from none i.maps i.frees c.release_own.ensures)

@@ -8,7 +8,7 @@ use Rattle.o2_world.specs.declared.types.Row.TheVariants.{DosExit, DosGetPid, Do
 use Rattle.o2_world.specs.Calls.{Effect}
 use Rattle.o2_gate.specs.Befores.{boundless, before_call}
 use Rattle.o2_gate.specs.Called.{Does}
-use Rattle.o2_gate.proofs.Served.{by_row, not_plain, not_shared}
+use Rattle.o2_gate.proofs.Served.{by_row, not_on_runs, not_plain, not_shared}
 use Rattle.o2_gate.proofs.Named.{names_by_row}
 use Rattle.o2_run.specs.Pieces.{counts, PartHands}
 use Rattle.o2_gate.proofs.Lines.{by_line, told_line, read_line}
@@ -177,3 +177,6 @@ unreachable-requires g c = not_plain c.args.service c.row_of.result c.in-Some-On
 
 pub unreachable-requires-in-Some-OnShared : goal.unreachable-requires-in-Some-OnShared
 unreachable-requires-in-Some-OnShared g c = not_shared c.args.service c.row_of.result c.in-Some-OnShared.field-0 _ c.requires.plain c.row_of.ensures.row c.in-Some-OnShared.is c.in-Some-OnShared.field-0-is
+
+pub unreachable-requires-in-Some-OnRuns : goal.unreachable-requires-in-Some-OnRuns
+unreachable-requires-in-Some-OnRuns g c = not_on_runs c.args.service c.row_of.result c.in-Some-OnRuns.field-0 _ c.requires.plain c.row_of.ensures.row c.in-Some-OnRuns.is c.in-Some-OnRuns.field-0-is

@@ -5,4 +5,4 @@ pub returns-in-Failed-clause-report : goal.returns-in-Failed-clause-report
 returns-in-Failed-clause-report g c = puts_front _ _ _ _ (rw (c.as_slice.ensures, c.set_reply.ensures) at c.in-Failed.ensures.takes)
 
 pub returns-in-Done-clause-report : goal.returns-in-Done-clause-report
-returns-in-Done-clause-report g c = puts_more _ _ _ _ _ _ (rw (c.as_slice.ensures, c.set_reply.ensures) at c.in-Done.ensures.takes) c.put_moved.ensures.report
+returns-in-Done-clause-report g c = puts_more _ _ _ _ _ _ (rw (c.as_slice.ensures, c.set_reply.ensures) at c.in-Done.ensures.takes) (rw (c.name.ensures.name, c.blocks-in-Done.ensures.blocks) at c.put_blocks.ensures.report)

@@ -5,4 +5,4 @@ use Rattle.o2_segs.proofs.allocating.hold_made.Goals as goal
 
 pub returns-clause-limits : goal.returns-clause-limits
 returns-clause-limits c =
-    limits_held c.args.store.now c.args.regions.now c.hold_new.new.regions c.args.pid c.args.index _ _ refl refl (new_made c.args.regions.now c.args.pid c.args.index c.args.id c.law.ensures c.requires.free c.requires.unheld) c.hold_new.ensures.grants
+    limits_held c.args.store.now c.args.regions.now c.hold_new.new.regions c.args.pid c.args.index _ _ refl (new_made c.args.regions.now c.args.pid c.args.index c.args.id c.law.ensures c.requires.free c.requires.unheld) c.hold_new.ensures.grants

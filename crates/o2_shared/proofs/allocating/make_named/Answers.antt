@@ -14,7 +14,8 @@ use Rattle.o2_segs.proofs.Sharing.{new_made}
 use Rattle.o2_segs.proofs.Rows.{done_answers, refusal_answers, refusal_matches}
 use Rattle.o2_shared.specs.declared.names.Name.{Name}
 use Rattle.o2_shared.specs.Shares.{naming_to}
-use Rattle.o2_shared.specs.Texts.{AreInPlace, AreTexts}
+use Rattle.o2_shared.specs.Texts.{AreInPlace, AreTexts, without}
+use Rattle.o2_shared.proofs.Leaving.{length-without, none_without, places_without, texts_without}
 use Rattle.o2_shared.proofs.NewNames.{named_matches, named_once, named_texts, new_places, new_texts, once_none, run_shared, text_new, texts_none, to_full, to_some}
 use Rattle.o2_shared.proofs.Shares.{value_is}
 use Rattle.o2_store.specs.Idle.{NoneTaken}
@@ -43,29 +44,34 @@ returns-in-Some-clause-texts c = λ p o w es was.
     let t = c.make.new.store in
     let m = c.args.regions.now in
     let i = c.args.index in
+    let name = folded c.args.name.now in
     let adds = c.in-Some.ensures.added in
     let run = c.requires.free in
     let index : i ≡ 4096 + (i - 4096) = (let l = run.0 in omega (arith, l)) in
-    let long : i - 4096 < length c.args.names.now = (let l = run.1 in omega (arith, l, c.law-2.ensures)) in
-    subst (λ (x : List (Option Name)). AreTexts t x (text_name (with_all w (naming_to (known_in p o) c.args.pid c.args.size (folded c.args.name.now) (Some i)).changes).texts)) (sym c.put.ensures)
-    (named_texts t (set c.args.names.now (i - 4096) (Some (record { text = folded c.args.name.now; id = c.in-Some.id }))) w c.args.pid c.args.size i c.in-Some.id.age _ (folded c.args.name.now) _ (to_some p o s t c.in-Some.id _ c.args.pid c.args.size i (folded c.args.name.now) es adds)
-    (new_texts s t m c.hold_named.new.regions c.in-Some.id _ c.args.names.now (i - 4096) c.args.pid i (folded c.args.name.now) adds refl c.requires.places index long run c.law.ensures c.in-Some.ensures.unheld c.requires.new c.in-Some.ensures.live c.hold_named.ensures.grants c.hold_named.ensures.holds w.texts was)))
+    let long : i - 4096 < length (without name c.args.names.now) = (let l = run.1 in omega (arith, l, c.law-2.ensures.indexes, length-without name c.args.names.now)) in
+    subst (λ (x : List (Option Name)). AreTexts t x (text_name (with_all w (naming_to (known_in p o) c.args.pid c.args.size name (Some i)).changes).texts)) (sym c.put.ensures)
+    (named_texts t (set (without name c.args.names.now) (i - 4096) (Some (record { text = name; id = c.in-Some.id }))) w c.args.pid c.args.size i c.in-Some.id.age _ name _ (to_some p o s t c.in-Some.id _ c.args.pid c.args.size i name es adds)
+    (new_texts s t m c.hold_named.new.regions c.in-Some.id _ (without name c.args.names.now) (i - 4096) c.args.pid i name adds refl (places_without s m name c.args.names.now c.requires.places) index long run c.law.ensures c.in-Some.ensures.unheld
+    (none_without s name c.args.names.now c.requires.new) c.in-Some.ensures.live c.hold_named.ensures.grants c.hold_named.ensures.holds w.texts (texts_without s name c.args.names.now (text_name w.texts) c.requires.new was))))
 
 pub returns-in-Some-clause-places : goal.returns-in-Some-clause-places
 returns-in-Some-clause-places c =
     let s = c.args.store.now in
     let t = c.make.new.store in
+    let m = c.args.regions.now in
     let i = c.args.index in
+    let name = folded c.args.name.now in
     let run = c.requires.free in
     let index : i ≡ 4096 + (i - 4096) = (let l = run.0 in omega (arith, l)) in
-    let long : i - 4096 < length c.args.names.now = (let l = run.1 in omega (arith, l, c.law-2.ensures)) in
+    let long : i - 4096 < length (without name c.args.names.now) = (let l = run.1 in omega (arith, l, c.law-2.ensures.indexes, length-without name c.args.names.now)) in
     subst (AreInPlace t c.hold_named.new.regions) (sym c.put.ensures)
-    (new_places s t c.args.regions.now c.hold_named.new.regions c.in-Some.id _ c.args.names.now (i - 4096) c.args.pid i (folded c.args.name.now) c.in-Some.ensures.added refl c.requires.places index long run c.law.ensures c.in-Some.ensures.unheld c.requires.new c.in-Some.ensures.live c.hold_named.ensures.grants c.hold_named.ensures.holds)
+    (new_places s t m c.hold_named.new.regions c.in-Some.id _ (without name c.args.names.now) (i - 4096) c.args.pid i name c.in-Some.ensures.added refl (places_without s m name c.args.names.now c.requires.places) index long run c.law.ensures c.in-Some.ensures.unheld
+    (none_without s name c.args.names.now c.requires.new) c.in-Some.ensures.live c.hold_named.ensures.grants c.hold_named.ensures.holds)
 
 pub returns-in-Some-clause-limits : goal.returns-in-Some-clause-limits
 returns-in-Some-clause-limits c =
     limits_then c.args.store.now c.make.new.store c.make.new.store c.args.regions.now c.args.regions.now c.hold_named.new.regions 1 0 (limits_added c.args.store.now c.make.new.store c.args.regions.now c.in-Some.id _ refl c.in-Some.ensures.added)
-    (limits_held c.make.new.store c.args.regions.now c.hold_named.new.regions c.args.pid c.args.index _ _ refl refl (new_made c.args.regions.now c.args.pid c.args.index c.in-Some.id c.law.ensures (run_shared c.args.regions.now c.args.pid c.args.index c.requires.free) c.in-Some.ensures.unheld) c.hold_named.ensures.grants)
+    (limits_held c.make.new.store c.args.regions.now c.hold_named.new.regions c.args.pid c.args.index _ _ refl (new_made c.args.regions.now c.args.pid c.args.index c.in-Some.id c.law.ensures (run_shared c.args.regions.now c.args.pid c.args.index c.requires.free) c.in-Some.ensures.unheld) c.hold_named.ensures.grants)
 
 pub returns-in-Some-clause-entries : goal.returns-in-Some-clause-entries
 returns-in-Some-clause-entries c = entries_added c.args.store.now c.make.new.store c.in-Some.id _ c.in-Some.ensures.added

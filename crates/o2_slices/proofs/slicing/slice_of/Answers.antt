@@ -8,7 +8,7 @@ use Rattle.o2_slices.specs.Laters.{StandsLater}
 use Rattle.o2_space.specs.Parts.{parts_in, running_at}
 use Rattle.o2_shared.proofs.Staying.{stay_in_place}
 use Rattle.o2_space.proofs.SharedKept.{few_as, shape_grows, shape_shares}
-use Rattle.o2_space.proofs.Alone.{alone_held, whole_same}
+use Rattle.o2_space.proofs.Whole.{whole_same}
 use Rattle.o2_space.proofs.Alike.{made, ready_as, set_as}
 use Rattle.o2_space.proofs.Behind.{set_behind}
 use Rattle.o2_space.proofs.Commits.{count_put, marked_put, now}
@@ -60,7 +60,6 @@ returns-clause-together c = λ device together.
           (keeps.ready m.images device block (running_at m.procs.items) (together.ready block));
       numbers = (let a = together.numbers in let b = count_put m.procs.items pid x c.requires.some c.requires.there in let d = keeps.shape.holds.processes in omega (arith, a, b, d));
       marked = marked_put m.procs.items pid x c.requires.some c.requires.there m.ends together.marked c.requires.live;
-      alone = alone_held m.regions new.regions keeps.shape.holds.held together.alone;
       whole = whole_same m.regions new.regions keeps.shape.holds.processes keeps.shape.holds.lengths together.whole;
       one = (shape_shares m.store new.store m.regions new.regions keeps.shape).one together.one;
       places = stay_in_place m.store new.store m.regions new.regions m.names together.places (shape_shares m.store new.store m.regions new.regions keeps.shape) (shape_grows m.store new.store m.regions new.regions keeps.shape);

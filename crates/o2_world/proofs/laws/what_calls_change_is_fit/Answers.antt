@@ -1,4 +1,4 @@
-use Rattle.o2_world.proofs.MovesFit.{all_moves_fit, all_moves_swept}
+use Rattle.o2_world.proofs.AllFit.{all_moves_fit, all_moves_swept}
 use Rattle.o2_world.proofs.StepMoves.{effect_moves, served_moves}
 use Rattle.o2_world.proofs.laws.what_calls_change_is_fit.Goals as goal
 

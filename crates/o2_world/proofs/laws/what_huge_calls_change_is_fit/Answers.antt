@@ -1,5 +1,7 @@
 use Rattle.o2_world.proofs.HugeMoves.{on_runs_moves}
-use Rattle.o2_world.proofs.HugeRows.{on_runs_ruled, on_runs_sizes, on_runs_told}
+use Rattle.o2_world.proofs.GoodRegisters.{on_runs_ruled}
+use Rattle.o2_world.proofs.RowsTold.{on_runs_told}
+use Rattle.o2_world.proofs.Sizes.{on_runs_sizes}
 use Rattle.o2_world.proofs.RunsFit.{run_moves_fit, run_moves_swept}
 use Rattle.o2_world.proofs.RunsTold.{run_can_tell}
 use Rattle.o2_world.proofs.laws.what_huge_calls_change_is_fit.Goals as goal

@@ -13,7 +13,7 @@ use Rattle.o2_space.specs.Parts.{parts_in}
 use Rattle.o2_space.proofs.Commits.{lived}
 use Rattle.o2_space.proofs.Askings.{no_step, none_put, not_caused, not_begun, stops_stay, told_puts}
 use Rattle.o2_space.proofs.Alike.{retold}
-use Rattle.o2_space.proofs.Replied.{acts_live, acts_trapped, alone_known, dead_state_is, orderly_call, spells_live, spells_trapped, then_trapped}
+use Rattle.o2_space.proofs.Replied.{acts_live, acts_trapped, dead_state_is, orderly_call, spells_live, spells_trapped, then_trapped}
 use Rattle.o2_space.proofs.SpelledCalls.{called_spelled, trapped_spelled}
 use Rattle.o2_space.proofs.Spelling.{spelled_by, spelled_still}
 use Rattle.o2_space.proofs.space.Space.call.Goals as goal
@@ -58,6 +58,9 @@ commit-requires-clause-there g c = (let a = c.requires.there in let b = ap (λ v
 pub commit-requires-clause-process : goal.commit-requires-clause-process
 commit-requires-clause-process g c = (let p = c.requires.can_step.process in (p.0, (let a = p.1 in let b = c.make_call.ensures.processes in omega (arith, a, b))))
 
+pub reply-ran-requires-clause-inside : goal.reply-ran-requires-clause-inside
+reply-ran-requires-clause-inside g c = c.in-Ok.ensures.inside
+
 pub commit-requires-clause-held : goal.commit-requires-clause-held
 commit-requires-clause-held g c = (c.make_call.ensures.together.ready (λ k. [])).held
 
@@ -91,7 +94,7 @@ returns-else-not-is_live-clause-acts g c = λ s w x i k tells stands set sound c
     let q : Parts = parts_in made.self (S.blocks made.swap) (S.block made.swap) in
     let told = c.reply-ran.ensures in
     acts_live s w x c.args.pid c.args.arguments c.args.next made.cpu q c.in-Ok.answer (c.in-Ok.ensures.makes s w x tells stands set sound.tied there same spelled)
-    (alone_known p s w stands c.requires.together.alone) c.args.registers same eff _ _ i k c.reply-ran.result (record { state = told.state; bytes = told.bytes; lines = told.lines; report = told.report }) input
+    made.self.services.moves (c.in-Ok.ensures.moves s w x tells stands set sound.tied there same spelled) c.args.registers same eff _ _ i k c.reply-ran.result (record { state = told.state; bytes = told.bytes; lines = told.lines; report = told.report }) input
     (sym c.if-not-is_live.ensures) (parts_in c.commit.new.self (S.blocks made.swap) (S.block made.swap)) (c.commit.ensures.put refl (S.blocks made.swap) (S.block made.swap))
 
 pub returns-else-not-is_live-clause-next_room : goal.returns-else-not-is_live-clause-next_room
@@ -141,13 +144,12 @@ returns-then-not-is_live-clause-acts g c = λ s w x i k tells stands set sound c
     let z : Parts = parts_in c.commit-then-not-is_live.new.self (S.blocks made.swap) (S.block made.swap) in
     let told = c.reply-ran.ensures in
     let called = c.in-Ok.ensures.makes s w x tells stands set sound.tied there same spelled in
-    let alone = alone_known p s w stands c.requires.together.alone in
     let alive = lived m.procs.items pid w.processes x c.requires.can_step.process.0 c.requires.there (stands.processes pid) there m.ends c.requires.together.marked c.requires.live in
     let dead : is_live c.reply-ran.result.state ≡ false = sym c.if-not-is_live.ensures in
     let put = c.commit.ensures.put refl (S.blocks made.swap) (S.block made.swap) in
-    acts_trapped s w x pid c.args.arguments c.args.next made.cpu q c.in-Ok.answer called alone c.args.registers same eff _ _ i k c.reply-ran.result
+    acts_trapped s w x pid c.args.arguments c.args.next made.cpu q c.in-Ok.answer called made.self.services.moves (c.in-Ok.ensures.moves s w x tells stands set sound.tied there same spelled) c.args.registers same eff _ _ i k c.reply-ran.result
     (record { state = told.state; bytes = told.bytes; lines = told.lines; report = told.report }) input dead z
-    (then_trapped s w x c.args.arguments c.args.next made.cpu q c.in-Ok.answer z alive sound stands.tidy pid chosen called there (orderly_call (before s w pid x) c.args.arguments c.args.next alone eff)
+    (then_trapped s w x c.args.arguments c.args.next made.cpu q c.in-Ok.answer z alive sound stands.tidy pid chosen called there (orderly_call (before s w pid x) c.args.arguments c.args.next eff)
     (λ v y standing found live.
     c.commit-then-not-is_live.ensures.stands (S.blocks made.swap) (S.block made.swap) v.processes v.names v.next_name v.reserved y (record { cpu = made.cpu; state = Trapped 1 })
     (subst (λ (o : Parts). StandsIn o v.processes v.names v.next_name v.reserved) (sym put) standing) found live refl (sym (dead_state_is c.args.registers c.reply-ran.result.state told.state dead))))
@@ -222,16 +224,15 @@ returns-else-not-is_live-clause-spells g c = λ s w x tells stands set sound cho
     let q : Parts = parts_in made.self (S.blocks made.swap) (S.block made.swap) in
     let told = c.reply-ran.ensures in
     let called = c.in-Ok.ensures.makes s w x tells stands set sound.tied there same spelled in
-    let alone = alone_known p s w stands c.requires.together.alone in
     let alive = lived m.procs.items pid w.processes x c.requires.can_step.process.0 c.requires.there (stands.processes pid) there m.ends c.requires.together.marked c.requires.live in
     let behind =
     called_spelled s w x alive sound stands.tidy a next m.store m.regions made.cpu q c.in-Ok.answer m.names made.self.names (c.requires.together.ready (λ k. [])).aged c.requires.together.places
-    c.make_call.ensures.behind spelled pid chosen there (orderly_call (before s w pid x) a next alone eff) called (c.in-Ok.ensures.spells s w x stands set same spelled) in
+    c.make_call.ensures.behind spelled pid chosen there (orderly_call (before s w pid x) a next eff) called (c.in-Ok.ensures.spells s w x stands set same spelled) in
     let store = ap (λ (z : Parts). z.shelf) (c.commit.ensures.put refl (S.blocks made.swap) (S.block made.swap)) in
     λ d current.
     spelled_by c.commit.new.self.store made.self.names c.commit.new.self.names (changed w d x (effect (before s w pid x))) c.commit.ensures.names
     (subst (λ (z : Shelf). AreSpelled z made.self.names (changed w d x (effect (before s w pid x)))) (sym store)
-    (spells_live s w x pid a next made.cpu q c.in-Ok.answer called alone c.args.registers same eff _ _ (Some w.input) None c.reply-ran.result
+    (spells_live s w x pid a next made.cpu q c.in-Ok.answer called made.self.services.moves (c.in-Ok.ensures.moves s w x tells stands set sound.tied there same spelled) c.args.registers same eff _ _ (Some w.input) None c.reply-ran.result
     (record { state = told.state; bytes = told.bytes; lines = told.lines; report = told.report }) refl (sym c.if-not-is_live.ensures) made.self.store made.self.names behind d current))
 
 pub returns-then-not-is_live-clause-spells : goal.returns-then-not-is_live-clause-spells
@@ -248,9 +249,8 @@ returns-then-not-is_live-clause-spells g c = λ s w x tells stands set sound cho
     let z : Parts = parts_in last (S.blocks made.swap) (S.block made.swap) in
     let told = c.reply-ran.ensures in
     let called = c.in-Ok.ensures.makes s w x tells stands set sound.tied there same spelled in
-    let alone = alone_known p s w stands c.requires.together.alone in
     let alive = lived m.procs.items pid w.processes x c.requires.can_step.process.0 c.requires.there (stands.processes pid) there m.ends c.requires.together.marked c.requires.live in
-    let orderly = orderly_call (before s w pid x) a next alone eff in
+    let orderly = orderly_call (before s w pid x) a next eff in
     let behind =
     called_spelled s w x alive sound stands.tidy a next m.store m.regions made.cpu q c.in-Ok.answer m.names made.self.names (c.requires.together.ready (λ k. [])).aged c.requires.together.places
     c.make_call.ensures.behind spelled pid chosen there orderly called (c.in-Ok.ensures.spells s w x stands set same spelled) in
@@ -259,7 +259,7 @@ returns-then-not-is_live-clause-spells g c = λ s w x tells stands set sound cho
     let acts = returns-then-not-is_live-clause-acts g c s w x (Some w.input) None tells stands set sound chosen there same refl spelled eff in
     λ d current.
     spelled_by last.store made.self.names last.names (changed w d x (effect (before s w pid x))) (c.commit-then-not-is_live.ensures.names ∙ c.commit.ensures.names)
-    (spells_trapped s w x pid a next made.cpu q c.in-Ok.answer called alone c.args.registers same eff _ _ (Some w.input) None c.reply-ran.result
+    (spells_trapped s w x pid a next made.cpu q c.in-Ok.answer called made.self.services.moves (c.in-Ok.ensures.moves s w x tells stands set sound.tied there same spelled) c.args.registers same eff _ _ (Some w.input) None c.reply-ran.result
     (record { state = told.state; bytes = told.bytes; lines = told.lines; report = told.report }) refl (sym c.if-not-is_live.ensures) z made.self.names
     (λ matches. trapped_spelled s w x alive sound stands.tidy a next made.self.store made.self.regions made.self.names z (c.make_call.ensures.together.ready (λ k. [])).aged c.make_call.ensures.together.places gone
     pid chosen there orderly behind matches) acts.matches d current)

@@ -3,7 +3,7 @@ use Rattle.std.proofs.lemmas.Bool.{false≢true}
 use Rattle.o2_world.specs.World.{is_live as lives_on}
 use Rattle.o2_space.specs.declared.space.Proc.{Proc}
 use Rattle.o2_space.specs.Parts.{parts_in, running_at, running_in}
-use Rattle.o2_space.proofs.Alone.{alone_let_go, whole_same}
+use Rattle.o2_space.proofs.Whole.{whole_same}
 use Rattle.o2_shared.proofs.Staying.{stay_in_place}
 use Rattle.o2_space.proofs.SharedKept.{ended_few, ended_lived, ended_shares}
 use Rattle.o2_space.proofs.Alike.{ready_as, set_as}
@@ -38,7 +38,6 @@ returns-then-not-is_live-clause-together c = λ device here together.
       numbers = (let a = together.numbers in let b = count_put m.procs.items c.args.pid y c.requires.process.0 c.requires.there in let d = c.end.ensures.maps.processes in omega (arith, a, b, d));
       marked = marked_end m.procs.items c.args.pid y c.requires.process.0 c.requires.there c.end.new.ends (parts_in m device (λ k. [])) refl
           (c.end.ensures.marked (parts_in m device (λ k. [])) (running_in y) dead together.marked);
-      alone = alone_let_go m.regions n c.args.pid (λ i. true) c.end.ensures.maps together.alone;
       whole = whole_same m.regions n c.end.ensures.maps.processes c.end.ensures.maps.lengths together.whole;
       one = (ended_shares m.store t m.regions n c.args.pid c.end.ensures.maps c.end.ensures.store).one together.one;
       places = stay_in_place m.store t m.regions n m.names together.places (ended_shares m.store t m.regions n c.args.pid c.end.ensures.maps c.end.ensures.store) (let e = c.end.ensures.store.made in omega (arith, e));
@@ -53,7 +52,6 @@ returns-else-not-is_live-clause-together c = λ device here together.
       ready = λ block. ready_as m.store m.regions m.images device block block (running_at m.procs.items) (running_at (now m.procs.items c.args.pid y c.requires.process.0 c.requires.there)) (together.ready block);
       numbers = (let a = together.numbers in let b = count_put m.procs.items c.args.pid y c.requires.process.0 c.requires.there in omega (arith, a, b));
       marked = marked_put m.procs.items c.args.pid y c.requires.process.0 c.requires.there m.ends together.marked (here ∙ sym live);
-      alone = together.alone;
       whole = together.whole;
       one = together.one;
       places = together.places;

@@ -1,7 +1,8 @@
-use Rattle.std.proofs.Common.{◌+◌, inl, inr, ℕ, [], length, ap, sym, ◌∙◌, refl, arith, subst}
+use Rattle.std.proofs.Common.{◌≡◌, ◌+◌, inl, inr, ℕ, [], length, ap, sym, ◌∙◌, refl, arith, subst}
 use Rattle.o2_isa.specs.declared.cpu.Cpu.{Cpu}
 use Rattle.o2_world.specs.declared.types.State.TheVariants.{Live}
 use Rattle.o2_world.specs.Known.{known_of}
+use Rattle.o2_regions.specs.declared.answer.Roomed.TheVariants.{Done}
 use Rattle.o2_world.specs.Calls.{returned}
 use Rattle.o2_world.specs.Changes.{with_all}
 use Rattle.o2_world.specs.Run.{before, changed}
@@ -20,12 +21,17 @@ use Rattle.o2_shared.proofs.Staying.{stay_in_place}
 use Rattle.o2_space.proofs.SharedKept.{few_as, given_grows, given_shares, living_are, spells_of}
 use Rattle.o2_space.proofs.Spelling.{leaves_written, stops_unnamed}
 use Rattle.o2_calls.specs.SharedActs.{LeavesSpelled}
+use Rattle.o2_calls.specs.declared.noting.Counted.{Counted}
+use Rattle.o2_calls.specs.Noted.{counted_by, noted}
+use Rattle.o2_calls.proofs.NotedTold.{all_noted}
+use Rattle.o2_gate.specs.MovedLines.{all_lines}
+use Rattle.o2_gate.specs.Replies.{name_of}
+use Rattle.o2_world.specs.Changes.{moved_lines}
 use Rattle.o2_space.proofs.Aimed.{aimed_kept}
-use Rattle.o2_space.proofs.Alone.{alone_held, whole_same}
+use Rattle.o2_space.proofs.Whole.{whole_same}
 use Rattle.o2_space.proofs.Called.{called}
 use Rattle.o2_service.specs.Needs.{segments_of}
-use Rattle.o2_space.proofs.CallSays.{fits_at, full_at, lacks_at, short_at, unrefused_error}
-use Rattle.o2_space.proofs.Replied.{alone_known}
+use Rattle.o2_space.proofs.CallSays.{fits_at, full_at, lacks_at, run_full, short_at, unrefused_by}
 use Rattle.o2_space.proofs.Making.{kept_named, on_device, process_called, ready_called, ready_given, set_called, stays_at, value_of}
 use Rattle.o2_store.specs.Idle.{NoneTaken}
 use Rattle.o2_store.specs.Shelf.{Shelf}
@@ -48,9 +54,6 @@ act-requires-clause-clean g c = (c.requires.together.ready (λ k. [])).clean
 
 pub act-requires-clause-device : goal.act-requires-clause-device
 act-requires-clause-device g c = (c.requires.together.ready (λ k. [])).device
-
-pub act-requires-clause-alone : goal.act-requires-clause-alone
-act-requires-clause-alone g c = c.requires.together.alone
 
 pub act-requires-clause-one : goal.act-requires-clause-one
 act-requires-clause-one g c = c.requires.together.one
@@ -107,10 +110,10 @@ returns-in-NoRoom-clause-room g c = λ s w x tells stands set sound chosen there
     let S = g.S.SwapDevice in
     let p : Parts = parts_in c.args.self.now (S.blocks c.args.swap.now) (S.block c.args.swap.now) in
     lacks_at p s w x c.lawful.ensures set stands live sound c.args.arguments c.args.next c.args.cpu.now same _ c.args.pid chosen
-    (record { there = there; call = call; alone = alone_known p s w stands c.requires.together.alone; step = c.requires.can_step; ready = c.requires.aimed; keeps = c.ids.ensures ∙ ap segments_of c.call_need-need.ensures })
+    (record { there = there; call = call; step = c.requires.can_step; ready = c.requires.aimed; keeps = c.ids.ensures ∙ ap segments_of c.call_need-need.ensures })
     (c.in-NoRoom.ensures.row p s w (record { store = refl; regions = refl; pictures = refl; blocks = refl; lawful = c.lawful.ensures; set = set; stands = stands })
     (spells_of c.args.self.now (g.S.SwapDevice.blocks c.args.swap.now) (g.S.SwapDevice.block c.args.swap.now) w c.requires.together stands spelled))
-    (c.in-NoRoom.ensures.stops tt) (c.in-NoRoom.ensures.no_room refl)
+    (c.in-NoRoom.ensures.stops tt) (c.in-NoRoom.ensures.no_room refl) (c.in-NoRoom.ensures.run_lacks p s w (record { store = refl; regions = refl; pictures = refl; blocks = refl; lawful = c.lawful.ensures; set = set; stands = stands }) (spells_of c.args.self.now (S.blocks c.args.swap.now) (S.block c.args.swap.now) w c.requires.together stands spelled))
 
 pub returns-in-NoRoom-clause-together : goal.returns-in-NoRoom-clause-together
 returns-in-NoRoom-clause-together g c =
@@ -123,7 +126,6 @@ returns-in-NoRoom-clause-together g c =
           e.order e.guards e.clean e.pictures e.map (S.blocks c.act.new.swap) e.device.0;
       numbers = (let a = c.requires.together.numbers in let b = e.processes in omega (arith, a, b));
       marked = c.requires.together.marked;
-      alone = e.limits.alone c.requires.together.alone;
       whole = e.order.tables;
       one = e.limits.shares.one c.requires.together.one;
       places = e.places;
@@ -154,10 +156,11 @@ returns-in-SwapFull-clause-room g c = λ s w x tells stands set sound chosen the
     let S = g.S.SwapDevice in
     let p : Parts = parts_in c.args.self.now (S.blocks c.args.swap.now) (S.block c.args.swap.now) in
     full_at p s w x c.lawful.ensures set stands live sound c.args.arguments c.args.next c.args.cpu.now same _ c.args.pid chosen
-    (record { there = there; call = call; alone = alone_known p s w stands c.requires.together.alone; step = c.requires.can_step; ready = c.requires.aimed; keeps = c.ids.ensures ∙ ap segments_of c.call_need-need.ensures })
+    (record { there = there; call = call; step = c.requires.can_step; ready = c.requires.aimed; keeps = c.ids.ensures ∙ ap segments_of c.call_need-need.ensures })
     (c.in-SwapFull.ensures.row p s w (record { store = refl; regions = refl; pictures = refl; blocks = refl; lawful = c.lawful.ensures; set = set; stands = stands })
     (spells_of c.args.self.now (g.S.SwapDevice.blocks c.args.swap.now) (g.S.SwapDevice.block c.args.swap.now) w c.requires.together stands spelled))
     (c.in-SwapFull.ensures.stops tt) (c.in-SwapFull.ensures.swap_full refl)
+    (run_full c.args.arguments c.args.self.now.store (known_of s w) c.args.pid c.args.cpu.now _ (c.in-SwapFull.ensures.run_lacks p s w (record { store = refl; regions = refl; pictures = refl; blocks = refl; lawful = c.lawful.ensures; set = set; stands = stands }) (spells_of c.args.self.now (S.blocks c.args.swap.now) (S.block c.args.swap.now) w c.requires.together stands spelled)))
 
 pub returns-in-SwapFull-clause-together : goal.returns-in-SwapFull-clause-together
 returns-in-SwapFull-clause-together g c =
@@ -170,7 +173,6 @@ returns-in-SwapFull-clause-together g c =
           e.order e.guards e.clean e.pictures e.map (S.blocks c.act.new.swap) e.device.0;
       numbers = (let a = c.requires.together.numbers in let b = e.processes in omega (arith, a, b));
       marked = c.requires.together.marked;
-      alone = e.limits.alone c.requires.together.alone;
       whole = e.order.tables;
       one = e.limits.shares.one c.requires.together.one;
       places = e.places;
@@ -207,7 +209,6 @@ returns-in-SwapFault-clause-together g c =
           e.order e.guards e.clean e.pictures e.map (S.blocks c.act.new.swap) e.device.0;
       numbers = (let a = c.requires.together.numbers in let b = e.processes in omega (arith, a, b));
       marked = c.requires.together.marked;
-      alone = e.limits.alone c.requires.together.alone;
       whole = e.order.tables;
       one = e.limits.shares.one c.requires.together.one;
       places = e.places;
@@ -247,7 +248,7 @@ returns-in-Done-clause-makes g c = λ s w x tells stands set tied there same spe
     let behind = replied_by a (before s w pid x) c.args.next in
     let registers =
     c.come_back.ensures
-    ∙ (ap (λ (z : Cpu). returned z c.args.next (words_of a) c.in-Done.answer.error) (e.registers p s w over spells ∙ ap (cpu_of a (known_of s w) pid) same)
+    ∙ (ap (λ (z : Cpu). returned z c.args.next (words_of a) c.in-Done.answer.error) (c.in-Done.ensures.registers p s w over spells ∙ ap (cpu_of a (known_of s w) pid) same)
     ∙ ap (λ (k : ℕ). returned (cpu_of a (known_of s w) pid x.cpu) c.args.next (words_of a) k) answers.error) in
     let matches =
     subst (λ (z : Cpu). Matches (moved p t n block) (with_all w (ruling_of a (known_of s w) pid z).changes)) same
@@ -270,6 +271,26 @@ returns-in-Done-clause-makes g c = λ s w x tells stands set tied there same spe
 pub returns-in-Done-clause-value : goal.returns-in-Done-clause-value
 returns-in-Done-clause-value g c = value_of c.args.arguments c.in-Done.answer c.in-Done.ensures.value
 
+pub returns-in-Done-clause-inside : goal.returns-in-Done-clause-inside
+returns-in-Done-clause-inside g c = c.note.ensures.inside
+
+pub returns-in-Done-clause-moves : goal.returns-in-Done-clause-moves
+returns-in-Done-clause-moves g c = λ s w x tells stands set tied there same spelled.
+    let S = g.S.SwapDevice in
+    let m = c.args.self.now in
+    let pid = c.args.pid in
+    let a = c.args.arguments in
+    let n = c.act.new.regions in
+    let answer = c.in-Done.answer in
+    let p : Parts = parts_in m (S.blocks c.args.swap.now) (S.block c.args.swap.now) in
+    let over : IsOver m.store m.regions m.images (S.block c.args.swap.now) p s w = record { store = refl; regions = refl; pictures = refl; blocks = refl; lawful = c.lawful.ensures; set = set; stands = stands } in
+    let spells = spells_of m (S.blocks c.args.swap.now) (S.block c.args.swap.now) w c.requires.together stands spelled in
+    let told =
+    all_noted p n s w x pid c.args.cpu.now c.lawful.ensures set stands c.requires.can_step.process spells.processes c.act.ensures.processes there a answer
+    (moved p c.act.new.store n (S.block c.act.new.swap)) refl (c.in-Done.ensures.matches p s w x over spells tells there tied) (c.in-Done.ensures.row p s w over spells) in
+    let is : c.note.new.moves ≡ noted a pid (counted_by a m.regions pid) n (Done answer) = c.note.ensures.notes ∙ ap (λ (d : Counted). noted a pid d n (Done answer)) c.count-counted.ensures in
+    ap (all_lines (name_of a)) is ∙ (told.lines ∙ ap (λ (z : Cpu). moved_lines (name_of a) (ruling_of a (known_of s w) pid z).changes) same)
+
 pub returns-in-Done-clause-together : goal.returns-in-Done-clause-together
 returns-in-Done-clause-together g c =
     let S = g.S.SwapDevice in
@@ -287,7 +308,6 @@ returns-in-Done-clause-together g c =
           given.store given.maps given.clean given.settled;
       numbers = (let a = c.requires.together.numbers in let b = e.processes in let d = given.maps.processes in omega (arith, a, b, d));
       marked = c.requires.together.marked;
-      alone = alone_held n o given.maps.held (e.limits.alone c.requires.together.alone);
       whole = whole_same n o given.maps.processes given.maps.lengths e.order.tables;
       one = (given_shares t u n o given.store given.maps).one (e.limits.shares.one c.requires.together.one);
       places = stay_in_place t u n o c.act.new.names e.places (given_shares t u n o given.store given.maps) (given_grows t u given.store);
@@ -314,8 +334,8 @@ returns-in-Done-clause-room g c = λ s w x tells stands set sound chosen there l
     let q : Parts = parts_in (record c.args.self.now { store = c.give.new.store; regions = c.give.new.regions }) (S.blocks c.act.new.swap) (S.block c.act.new.swap) in
     let e = c.act.ensures in
     fits_at p s w x c.lawful.ensures set stands live sound c.args.arguments c.args.next c.args.cpu.now same _ c.args.pid chosen
-    (record { there = there; call = call; alone = alone_known p s w stands c.requires.together.alone; step = c.requires.can_step; ready = c.requires.aimed; keeps = c.ids.ensures ∙ ap segments_of c.call_need-need.ensures })
-    c.act.new.store c.act.new.regions e.holds e.limits.size q c.lawful-in-Done-2.ensures (record { kept = e.kept; store = c.give.ensures.store; maps = c.give.ensures.maps }) _ c.in-Done.answer
+    (record { there = there; call = call; step = c.requires.can_step; ready = c.requires.aimed; keeps = c.ids.ensures ∙ ap segments_of c.call_need-need.ensures })
+    c.act.new.store c.act.new.regions e.holds (e.run_holds p s w (record { store = refl; regions = refl; pictures = refl; blocks = refl; lawful = c.lawful.ensures; set = set; stands = stands }) (spells_of c.args.self.now (S.blocks c.args.swap.now) (S.block c.args.swap.now) w c.requires.together stands spelled)) e.limits.size q c.lawful-in-Done-2.ensures (record { kept = e.kept; store = c.give.ensures.store; maps = c.give.ensures.maps }) _ c.in-Done.answer
     (returns-in-Done-clause-makes g c s w x tells stands set sound.tied there same spelled) room
 
 pub returns-in-NoRoom-clause-held : goal.returns-in-NoRoom-clause-held
@@ -394,14 +414,17 @@ returns-in-NoRoom-clause-idle g c = λ s w x stands set sound chosen there live 
     let p : Parts = parts_in c.args.self.now (S.blocks c.args.swap.now) (S.block c.args.swap.now) in
     elim (c.act.ensures.idle none) [
       | inl i ↦ i
-      | inr short ↦ absurd
-          (let more = short_at p s w x c.lawful.ensures set stands live sound c.args.arguments c.args.next c.args.cpu.now same _ c.args.pid chosen
-          (record { there = there; call = call; alone = alone_known p s w stands c.requires.together.alone; step = c.requires.can_step; ready = c.requires.aimed; keeps = c.ids.ensures ∙ ap segments_of c.call_need-need.ensures })
-          (unrefused_error (ruling_of c.args.arguments (known_of s w) c.args.pid c.args.cpu.now) c.act.result
-          (c.act.ensures.row p s w (record { store = refl; regions = refl; pictures = refl; blocks = refl; lawful = c.lawful.ensures; set = set; stands = stands })
-          (spells_of c.args.self.now (S.blocks c.args.swap.now) (S.block c.args.swap.now) w c.requires.together stands spelled)) short.unrefused)
-          short.stops short.lacks in
-          omega (arith, more, fit))
+      | inr short ↦ elim (c.act.ensures.run_short p s w (record { store = refl; regions = refl; pictures = refl; blocks = refl; lawful = c.lawful.ensures; set = set; stands = stands }) (spells_of c.args.self.now (S.blocks c.args.swap.now) (S.block c.args.swap.now) w c.requires.together stands spelled) none) [
+        | inl i ↦ i
+        | inr run ↦ absurd
+            (let more = short_at p s w x c.lawful.ensures set stands live sound c.args.arguments c.args.next c.args.cpu.now same _ c.args.pid chosen
+            (record { there = there; call = call; step = c.requires.can_step; ready = c.requires.aimed; keeps = c.ids.ensures ∙ ap segments_of c.call_need-need.ensures })
+            (unrefused_by c.args.arguments (ruling_of c.args.arguments (known_of s w) c.args.pid c.args.cpu.now) c.act.result
+            (c.act.ensures.row p s w (record { store = refl; regions = refl; pictures = refl; blocks = refl; lawful = c.lawful.ensures; set = set; stands = stands })
+            (spells_of c.args.self.now (S.blocks c.args.swap.now) (S.block c.args.swap.now) w c.requires.together stands spelled)) short.unrefused)
+            short.stops short.lacks run in
+            omega (arith, more, fit))
+      ]
     ]
 
 pub returns-in-SwapFull-clause-idle : goal.returns-in-SwapFull-clause-idle
@@ -410,14 +433,17 @@ returns-in-SwapFull-clause-idle g c = λ s w x stands set sound chosen there liv
     let p : Parts = parts_in c.args.self.now (S.blocks c.args.swap.now) (S.block c.args.swap.now) in
     elim (c.act.ensures.idle none) [
       | inl i ↦ i
-      | inr short ↦ absurd
-          (let more = short_at p s w x c.lawful.ensures set stands live sound c.args.arguments c.args.next c.args.cpu.now same _ c.args.pid chosen
-          (record { there = there; call = call; alone = alone_known p s w stands c.requires.together.alone; step = c.requires.can_step; ready = c.requires.aimed; keeps = c.ids.ensures ∙ ap segments_of c.call_need-need.ensures })
-          (unrefused_error (ruling_of c.args.arguments (known_of s w) c.args.pid c.args.cpu.now) c.act.result
-          (c.act.ensures.row p s w (record { store = refl; regions = refl; pictures = refl; blocks = refl; lawful = c.lawful.ensures; set = set; stands = stands })
-          (spells_of c.args.self.now (S.blocks c.args.swap.now) (S.block c.args.swap.now) w c.requires.together stands spelled)) short.unrefused)
-          short.stops short.lacks in
-          omega (arith, more, fit))
+      | inr short ↦ elim (c.act.ensures.run_short p s w (record { store = refl; regions = refl; pictures = refl; blocks = refl; lawful = c.lawful.ensures; set = set; stands = stands }) (spells_of c.args.self.now (S.blocks c.args.swap.now) (S.block c.args.swap.now) w c.requires.together stands spelled) none) [
+        | inl i ↦ i
+        | inr run ↦ absurd
+            (let more = short_at p s w x c.lawful.ensures set stands live sound c.args.arguments c.args.next c.args.cpu.now same _ c.args.pid chosen
+            (record { there = there; call = call; step = c.requires.can_step; ready = c.requires.aimed; keeps = c.ids.ensures ∙ ap segments_of c.call_need-need.ensures })
+            (unrefused_by c.args.arguments (ruling_of c.args.arguments (known_of s w) c.args.pid c.args.cpu.now) c.act.result
+            (c.act.ensures.row p s w (record { store = refl; regions = refl; pictures = refl; blocks = refl; lawful = c.lawful.ensures; set = set; stands = stands })
+            (spells_of c.args.self.now (S.blocks c.args.swap.now) (S.block c.args.swap.now) w c.requires.together stands spelled)) short.unrefused)
+            short.stops short.lacks run in
+            omega (arith, more, fit))
+      ]
     ]
 
 pub returns-in-SwapFault-clause-idle : goal.returns-in-SwapFault-clause-idle
@@ -426,14 +452,17 @@ returns-in-SwapFault-clause-idle g c = λ s w x stands set sound chosen there li
     let p : Parts = parts_in c.args.self.now (S.blocks c.args.swap.now) (S.block c.args.swap.now) in
     elim (c.act.ensures.idle none) [
       | inl i ↦ i
-      | inr short ↦ absurd
-          (let more = short_at p s w x c.lawful.ensures set stands live sound c.args.arguments c.args.next c.args.cpu.now same _ c.args.pid chosen
-          (record { there = there; call = call; alone = alone_known p s w stands c.requires.together.alone; step = c.requires.can_step; ready = c.requires.aimed; keeps = c.ids.ensures ∙ ap segments_of c.call_need-need.ensures })
-          (unrefused_error (ruling_of c.args.arguments (known_of s w) c.args.pid c.args.cpu.now) c.act.result
-          (c.act.ensures.row p s w (record { store = refl; regions = refl; pictures = refl; blocks = refl; lawful = c.lawful.ensures; set = set; stands = stands })
-          (spells_of c.args.self.now (S.blocks c.args.swap.now) (S.block c.args.swap.now) w c.requires.together stands spelled)) short.unrefused)
-          short.stops short.lacks in
-          omega (arith, more, fit))
+      | inr short ↦ elim (c.act.ensures.run_short p s w (record { store = refl; regions = refl; pictures = refl; blocks = refl; lawful = c.lawful.ensures; set = set; stands = stands }) (spells_of c.args.self.now (S.blocks c.args.swap.now) (S.block c.args.swap.now) w c.requires.together stands spelled) none) [
+        | inl i ↦ i
+        | inr run ↦ absurd
+            (let more = short_at p s w x c.lawful.ensures set stands live sound c.args.arguments c.args.next c.args.cpu.now same _ c.args.pid chosen
+            (record { there = there; call = call; step = c.requires.can_step; ready = c.requires.aimed; keeps = c.ids.ensures ∙ ap segments_of c.call_need-need.ensures })
+            (unrefused_by c.args.arguments (ruling_of c.args.arguments (known_of s w) c.args.pid c.args.cpu.now) c.act.result
+            (c.act.ensures.row p s w (record { store = refl; regions = refl; pictures = refl; blocks = refl; lawful = c.lawful.ensures; set = set; stands = stands })
+            (spells_of c.args.self.now (S.blocks c.args.swap.now) (S.block c.args.swap.now) w c.requires.together stands spelled)) short.unrefused)
+            short.stops short.lacks run in
+            omega (arith, more, fit))
+      ]
     ]
 
 pub returns-in-Done-clause-idle : goal.returns-in-Done-clause-idle
@@ -442,12 +471,15 @@ returns-in-Done-clause-idle g c = λ s w x stands set sound chosen there live sa
     let p : Parts = parts_in c.args.self.now (S.blocks c.args.swap.now) (S.block c.args.swap.now) in
     elim (c.act.ensures.idle none) [
       | inl i ↦ record { device = i.device; none = subst NoneTaken (sym (ap (λ (z : Shelf). z.swap) c.give.ensures.store.store)) i.none }
-      | inr short ↦ absurd
-          (let more = short_at p s w x c.lawful.ensures set stands live sound c.args.arguments c.args.next c.args.cpu.now same _ c.args.pid chosen
-          (record { there = there; call = call; alone = alone_known p s w stands c.requires.together.alone; step = c.requires.can_step; ready = c.requires.aimed; keeps = c.ids.ensures ∙ ap segments_of c.call_need-need.ensures })
-          (unrefused_error (ruling_of c.args.arguments (known_of s w) c.args.pid c.args.cpu.now) c.act.result
-          (c.act.ensures.row p s w (record { store = refl; regions = refl; pictures = refl; blocks = refl; lawful = c.lawful.ensures; set = set; stands = stands })
-          (spells_of c.args.self.now (S.blocks c.args.swap.now) (S.block c.args.swap.now) w c.requires.together stands spelled)) short.unrefused)
-          short.stops short.lacks in
-          omega (arith, more, fit))
+      | inr short ↦ elim (c.act.ensures.run_short p s w (record { store = refl; regions = refl; pictures = refl; blocks = refl; lawful = c.lawful.ensures; set = set; stands = stands }) (spells_of c.args.self.now (S.blocks c.args.swap.now) (S.block c.args.swap.now) w c.requires.together stands spelled) none) [
+        | inl i ↦ record { device = i.device; none = subst NoneTaken (sym (ap (λ (z : Shelf). z.swap) c.give.ensures.store.store)) i.none }
+        | inr run ↦ absurd
+            (let more = short_at p s w x c.lawful.ensures set stands live sound c.args.arguments c.args.next c.args.cpu.now same _ c.args.pid chosen
+            (record { there = there; call = call; step = c.requires.can_step; ready = c.requires.aimed; keeps = c.ids.ensures ∙ ap segments_of c.call_need-need.ensures })
+            (unrefused_by c.args.arguments (ruling_of c.args.arguments (known_of s w) c.args.pid c.args.cpu.now) c.act.result
+            (c.act.ensures.row p s w (record { store = refl; regions = refl; pictures = refl; blocks = refl; lawful = c.lawful.ensures; set = set; stands = stands })
+            (spells_of c.args.self.now (S.blocks c.args.swap.now) (S.block c.args.swap.now) w c.requires.together stands spelled)) short.unrefused)
+            short.stops short.lacks run in
+            omega (arith, more, fit))
+      ]
     ]

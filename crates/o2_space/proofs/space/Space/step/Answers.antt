@@ -15,7 +15,7 @@ use Rattle.o2_stepping.specs.Worlds.{away_of, bytes_with}
 use Rattle.o2_stepping.proofs.Worlds.{same_map}
 use Rattle.o2_space.specs.Parts.{parts_in, running_at}
 use Rattle.o2_shared.proofs.Staying.{stay_in_place}
-use Rattle.o2_space.proofs.Alone.{alone_held, whole_same}
+use Rattle.o2_space.proofs.Whole.{whole_same}
 use Rattle.o2_space.proofs.SharedKept.{few_as, shape_grows, shape_shares}
 use Rattle.o2_space.proofs.Alike.{ready_as}
 use Rattle.o2_space.proofs.Behind.{set_behind, steps_by}
@@ -87,7 +87,6 @@ returns-clause-together g c =
       ready = λ block. ready_as new.store new.regions m.images (S.blocks new.swap) (S.block new.swap) block (λ k. None) (running_at m.procs.items) e.ready;
       numbers = (let a = c.requires.together.numbers in let b = e.shape.holds.processes in omega (arith, a, b));
       marked = c.requires.together.marked;
-      alone = alone_held m.regions new.regions e.shape.holds.held c.requires.together.alone;
       whole = whole_same m.regions new.regions e.shape.holds.processes e.shape.holds.lengths c.requires.together.whole;
       one = (shape_shares m.store new.store m.regions new.regions e.shape).one c.requires.together.one;
       places = stay_in_place m.store new.store m.regions new.regions m.names c.requires.together.places (shape_shares m.store new.store m.regions new.regions e.shape) (shape_grows m.store new.store m.regions new.regions e.shape);

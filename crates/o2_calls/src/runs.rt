@@ -1,0 +1,127 @@
+// A call on a huge allocation over a store and the tables of what processes hold.
+ghost use Rattle.std.specs.Prelude.{◌≡◌, ◌⊎◌, ℕ, ◌<◌, ◌≤◌, ◌+◌, ◌^◌, IsSome, IsTrue, Some, length, true};
+ghost use Rattle.o2_entries.specs.Tables.{slot_at};
+ghost use Rattle.o2_outer.specs.Texts.{Rose};
+ghost use Rattle.o2_regions.specs.Maps.{IsProcess};
+ghost use Rattle.o2_segbus.specs.Seen.{AreNamed};
+ghost use Rattle.o2_store.specs.Needs.{named_in};
+ghost use Rattle.o2_store.specs.Pictures.{HasPicture, picture};
+ghost use Rattle.o2_store.specs.Shelf.{AreClean, HasAll, place_of};
+ghost use Rattle.o2_swapmap.specs.Piles.{all_of};
+ghost use Rattle.o2_changes.specs.Order.{IsGuarded, IsInOrder};
+ghost use Rattle.o2_stands.specs.Moves.{moved};
+ghost use Rattle.o2_stands.specs.Parts.{Parts};
+ghost use Rattle.o2_stands.specs.Stands.{Matches};
+ghost use Rattle.o2_world.specs.Changes.{with_all};
+ghost use Rattle.o2_world.specs.Holders.{process_at};
+ghost use Rattle.o2_world.specs.Known.{known_of};
+ghost use Rattle.o2_world.specs.World.{Process, Setting, World};
+ghost use Rattle.o2_segs.specs.Answers.{AnswersRoomed, changes_roomed};
+ghost use Rattle.o2_segs.specs.Limits.{KeepsLimitsBy, made_in};
+ghost use Rattle.o2_segs.specs.Made.{IsStop};
+ghost use Rattle.o2_store.specs.Idle.{IsIdle, NoneTaken};
+ghost use Rattle.o2_store.specs.Loads.{swap_load};
+ghost use Rattle.o2_gate.specs.declared.gathering.SegmentArguments.TheVariants.{Huge};
+ghost use Rattle.o2_calls.specs.Acts.{IsOver, most_made};
+ghost use Rattle.o2_calls.specs.HugeActs.{MaySize, huge_behind, huge_ruling};
+ghost use Rattle.o2_calls.specs.Stops.{IsRunGivable, LacksRun, LacksRunMemory, LeavesRun, LeavesRunEntries, LeavesRunHolds};
+
+use o2_gate::HugeArguments;
+use o2_huge::{alloc_huge, huge_shift, realloc_huge};
+use o2_image::Images;
+use o2_isa::Cpu;
+use o2_outer::SwapDevice;
+use o2_place::SegId;
+use o2_regions::{Regions, Roomed};
+use o2_store::Store;
+
+/// A call by process `pid` on a huge allocation, with these registers and arguments, where its pointer is good. What it answers is
+/// the row's error number and value, and the machine then matches the world with the row's changes. Only a new size of one member
+/// wants room; where it lacks, nothing is changed.
+pub fn act_on_run<S: SwapDevice>(
+    arguments: &HugeArguments,
+    pid: u16,
+    cpu: &mut Cpu,
+    store: &mut Store,
+    regions: &mut Regions,
+    keep: &[SegId],
+    images: &Images,
+    swap: &mut S,
+) -> Roomed
+    requires process { IsProcess regions.old pid }
+    requires named { AreNamed store.old regions.old }
+    requires made { store.old.made + 4096 < 2 ^ 64 }
+    requires order { IsInOrder store.old regions.old }
+    requires clean { AreClean store.old (picture images.now) }
+    requires device { all_of store.old.swap ≤ S.blocks swap.old }
+
+    // The row of the call in the world for which the machine stands.
+    ensures row { (p : Parts) (s : Setting) (w : World)
+        → IsOver store.old regions.old images.now (S.block swap.old) p s w
+        → length w.processes ≡ regions.old.processes
+        → AnswersRoomed (huge_ruling arguments.now (known_of s w) pid cpu.old) result }
+    ensures registers { (p : Parts) (s : Setting) (w : World)
+        → IsOver store.old regions.old images.now (S.block swap.old) p s w
+        → length w.processes ≡ regions.old.processes
+        → cpu.new ≡ huge_behind arguments.now (known_of s w) pid cpu.old result }
+    ensures matches { (p : Parts) (s : Setting) (w : World) (x : Process)
+        → IsOver store.old regions.old images.now (S.block swap.old) p s w
+        → length w.processes ≡ regions.old.processes → IsTrue (S.told swap.new)
+        → process_at w.processes pid ≡ Some x
+        → Matches (moved p store.new regions.new (S.block swap.new))
+        (with_all w (changes_roomed (huge_ruling arguments.now (known_of s w) pid cpu.old) result)) }
+    ensures stops { IsStop result → MaySize arguments.now }
+    ensures value { IsRunGivable arguments.now result }
+
+    // What it leaves of holds, why it stops, and when the device is touched, by the world.
+    ensures run_holds { (p : Parts) (s : Setting) (w : World)
+        → IsOver store.old regions.old images.now (S.block swap.old) p s w
+        → length w.processes ≡ regions.old.processes
+        → LeavesRunHolds (Huge arguments.now) regions.old regions.new (known_of s w) pid cpu.old }
+    ensures run_lacks { (p : Parts) (s : Setting) (w : World)
+        → IsOver store.old regions.old images.now (S.block swap.old) p s w
+        → length w.processes ≡ regions.old.processes
+        → LacksRun (Huge arguments.now) store.old (known_of s w) pid cpu.old keep.now result }
+    ensures run_short { (p : Parts) (s : Setting) (w : World)
+        → IsOver store.old regions.old images.now (S.block swap.old) p s w
+        → length w.processes ≡ regions.old.processes
+        → NoneTaken store.old.swap → IsIdle store.new swap.old swap.new
+        ⊎ LacksRunMemory (Huge arguments.now) store.old (known_of s w) pid cpu.old }
+    ensures load { result ≡ Roomed.SwapFull → all_of store.old.swap < swap_load store.old }
+    ensures idle { NoneTaken store.old.swap → IsIdle store.new swap.old swap.new ⊎ MaySize arguments.now }
+
+    // What the calls of store, service and bus ask for goes on to hold.
+    ensures limits { KeepsLimitsBy store.old regions.old store.new regions.new (most_made result) (made_in result) }
+    ensures holds { LeavesRun arguments.now regions.old regions.new }
+    ensures entries { LeavesRunEntries arguments.now store.old store.new }
+    ensures processes { regions.new.processes ≡ regions.old.processes }
+    ensures kept { (k : ℕ) → named_in store.old.entries keep.now k ≡ true → IsSome (slot_at store.new.entries k)
+        → IsSome (place_of store.old k) → IsSome (place_of store.new k) }
+    ensures order { IsInOrder store.new regions.new }
+    ensures guards { IsGuarded store.old regions.old → IsGuarded store.new regions.new }
+    ensures clean { AreClean store.new (picture images.now) }
+    ensures pictures { HasAll (HasPicture images.now) store.old → HasAll (HasPicture images.now) store.new }
+    ensures map { all_of store.new.swap ≡ all_of store.old.swap }
+    ensures device { (S.blocks swap.new ≡ S.blocks swap.old)
+        × (IsTrue (S.told swap.new) → IsTrue (S.told swap.old)) }
+    ensures faults { S.faults swap.old ≤ S.faults swap.new }
+    ensures cause { result ≡ Roomed.SwapFault → Rose (S.faults swap.old) (S.faults swap.new) }
+{
+    match arguments {
+        HugeArguments::Alloc {
+            segs,
+            part,
+            most,
+            flags,
+            ..
+        } => Roomed::Done(alloc_huge(store, regions, pid, *segs, *part, *most, *flags)),
+        HugeArguments::Realloc {
+            segs,
+            part,
+            selector,
+        } => realloc_huge(
+            store, regions, pid, *segs, *part, *selector, cpu, keep, images, swap,
+        ),
+        HugeArguments::Shift { .. } => Roomed::Done(huge_shift(store, regions, pid)),
+    }
+}

@@ -1,0 +1,12 @@
+pub mod Growing
+pub mod Keeping
+pub mod Reserving
+pub mod Rows
+pub mod Shares
+pub mod Cutting
+pub mod Places
+pub mod Stretch
+pub mod Sizing
+pub mod Reallocs
+pub mod Changing
+pub mod Asking

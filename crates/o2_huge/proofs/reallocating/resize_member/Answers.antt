@@ -1,0 +1,98 @@
+use Rattle.std.proofs.Common.{inl, inr, ap, refl, subst, sym, ◌∙◌}
+use Rattle.o2_store.proofs.Idling.{idle_or}
+use Rattle.o2_segs.proofs.Limits.{limits_moved, limits_refl, limits_sized}
+use Rattle.o2_segs.proofs.Stops.{not_here, stop_fault, stop_full, stop_room, was_here}
+use Rattle.o2_huge.specs.Growth.{sized_there}
+use Rattle.o2_huge.specs.Resized.{MatchesSized}
+use Rattle.o2_huge.proofs.Sizing.{first_sized, is_sized, none_matches, not_sized, rest_moved, rest_same, rest_sized, same_stop, size_matches, stop_is}
+use Rattle.o2_huge.proofs.reallocating.resize_member.Goals as goal
+
+pub returns-then-has_size-clause-matches : goal.returns-then-has_size-clause-matches
+returns-then-has_size-clause-matches g c = λ e.
+    subst (MatchesSized _ _ _ _ _ _ _ _) (sym (ap (sized_there c.args.store.now c.args.size) (sym c.in-Some.ensures.held) ∙ not_sized c.args.store.now c.args.size c.full_size-bytes.result c.in-Some.held c.full_size-bytes.ensures.size (sym c.if-has_size.ensures)))
+    (none_matches _ _ _ _ _)
+
+pub returns-then-has_size-clause-rest : goal.returns-then-has_size-clause-rest
+returns-then-has_size-clause-rest g c = rest_same c.args.store.now
+
+pub returns-in-Some-stop_of-clause-stays : goal.returns-in-Some-stop_of-clause-stays
+returns-in-Some-stop_of-clause-stays g c = λ some. c.resize.ensures.stays (not_here c.resize.result c.in-Some-stop_of.stop c.in-Some-stop_of.ensures)
+
+pub returns-in-Some-stop_of-clause-stop : goal.returns-in-Some-stop_of-clause-stop
+returns-in-Some-stop_of-clause-stop g c = stop_is c.resize.result c.in-Some-stop_of.stop c.in-Some-stop_of.ensures
+
+pub returns-in-Some-stop_of-clause-rest : goal.returns-in-Some-stop_of-clause-rest
+returns-in-Some-stop_of-clause-rest g c = rest_moved c.args.store.now c.resize.new.store (c.resize.ensures.keeps (not_here c.resize.result c.in-Some-stop_of.stop c.in-Some-stop_of.ensures)).tables
+
+pub returns-in-Some-stop_of-clause-pictures : goal.returns-in-Some-stop_of-clause-pictures
+returns-in-Some-stop_of-clause-pictures g c = λ was. c.resize.ensures.pictures c.args.images.now was
+
+pub returns-in-Some-stop_of-clause-no_room : goal.returns-in-Some-stop_of-clause-no_room
+returns-in-Some-stop_of-clause-no_room g c = λ e.
+    (let lacks = c.resize.ensures.no_room (stop_room c.resize.result c.in-Some-stop_of.stop c.in-Some-stop_of.ensures (same_stop _ _ e)) in
+    first_sized c.args.store.now c.in-Some.held.id c.full_size-bytes.result _ _ (c.requires.order.held.live c.args.pid c.args.index c.in-Some.held (sym c.in-Some.ensures.held))
+    (ap (sized_there c.args.store.now c.args.size) (sym c.in-Some.ensures.held) ∙ is_sized c.args.store.now c.args.size c.full_size-bytes.result c.in-Some.held c.full_size-bytes.ensures.size (sym c.if-has_size.ensures))
+    (lacks.1, lacks.2))
+
+pub returns-in-Some-stop_of-clause-all_load : goal.returns-in-Some-stop_of-clause-all_load
+returns-in-Some-stop_of-clause-all_load g c = λ e.
+    first_sized c.args.store.now c.in-Some.held.id c.full_size-bytes.result _ _ (c.requires.order.held.live c.args.pid c.args.index c.in-Some.held (sym c.in-Some.ensures.held))
+    (ap (sized_there c.args.store.now c.args.size) (sym c.in-Some.ensures.held) ∙ is_sized c.args.store.now c.args.size c.full_size-bytes.result c.in-Some.held c.full_size-bytes.ensures.size (sym c.if-has_size.ensures))
+    (c.resize.ensures.loads (stop_full c.resize.result c.in-Some-stop_of.stop c.in-Some-stop_of.ensures (same_stop _ _ e))).1
+
+pub returns-in-Some-stop_of-clause-load : goal.returns-in-Some-stop_of-clause-load
+returns-in-Some-stop_of-clause-load g c = λ e. (c.resize.ensures.loads (stop_full c.resize.result c.in-Some-stop_of.stop c.in-Some-stop_of.ensures (same_stop _ _ e))).0
+
+pub returns-in-Some-stop_of-clause-cause : goal.returns-in-Some-stop_of-clause-cause
+returns-in-Some-stop_of-clause-cause g c = λ e. c.resize.ensures.cause (stop_fault c.resize.result c.in-Some-stop_of.stop c.in-Some-stop_of.ensures (same_stop _ _ e))
+
+pub returns-in-None-stop_of-clause-matches : goal.returns-in-None-stop_of-clause-matches
+returns-in-None-stop_of-clause-matches g c = λ e.
+    subst (MatchesSized _ _ _ _ _ _ _ _)
+    (sym (ap (sized_there c.args.store.now c.args.size) (sym c.in-Some.ensures.held) ∙ is_sized c.args.store.now c.args.size c.full_size-bytes.result c.in-Some.held c.full_size-bytes.ensures.size (sym c.if-has_size.ensures)))
+    (size_matches _ _ _ _ _ _ _ _ _ _ (c.resize.ensures.matches (was_here c.resize.result c.in-None-stop_of.ensures c.resize.ensures.never)))
+
+pub returns-in-None-stop_of-clause-rest : goal.returns-in-None-stop_of-clause-rest
+returns-in-None-stop_of-clause-rest g c = rest_sized _ _ c.args.store.now c.resize.new.store _ _ _ _ (c.resize.ensures.resized (was_here c.resize.result c.in-None-stop_of.ensures c.resize.ensures.never))
+
+pub returns-in-None-stop_of-clause-pictures : goal.returns-in-None-stop_of-clause-pictures
+returns-in-None-stop_of-clause-pictures g c = λ was. c.resize.ensures.pictures c.args.images.now was
+
+pub returns-in-None-clause-matches : goal.returns-in-None-clause-matches
+returns-in-None-clause-matches g c = λ e.
+    subst (MatchesSized _ _ _ _ _ _ _ _) (sym (ap (sized_there c.args.store.now c.args.size) (sym c.in-None.ensures.held))) (none_matches _ _ _ _ _)
+
+pub returns-in-None-clause-rest : goal.returns-in-None-clause-rest
+returns-in-None-clause-rest g c = rest_same c.args.store.now
+
+pub returns-then-has_size-clause-limits : goal.returns-then-has_size-clause-limits
+returns-then-has_size-clause-limits g c = limits_refl c.args.store.now c.args.regions.now
+
+pub returns-then-has_size-clause-idle : goal.returns-then-has_size-clause-idle
+returns-then-has_size-clause-idle g c = λ none. inl (record { device = refl; none = none })
+
+pub returns-in-None-clause-limits : goal.returns-in-None-clause-limits
+returns-in-None-clause-limits g c = limits_refl c.args.store.now c.args.regions.now
+
+pub returns-in-None-clause-idle : goal.returns-in-None-clause-idle
+returns-in-None-clause-idle g c = λ none. inl (record { device = refl; none = none })
+
+pub returns-in-Some-stop_of-clause-limits : goal.returns-in-Some-stop_of-clause-limits
+returns-in-Some-stop_of-clause-limits g c = limits_moved c.args.store.now c.resize.new.store c.args.regions.now c.resize.new.regions (c.resize.ensures.keeps (not_here c.resize.result c.in-Some-stop_of.stop c.in-Some-stop_of.ensures)).tables c.resize.ensures.maps
+
+pub returns-in-Some-stop_of-clause-idle : goal.returns-in-Some-stop_of-clause-idle
+returns-in-Some-stop_of-clause-idle g c = λ none.
+    elim (idle_or _ c.args.store.now c.resize.new.store _ _ c.resize.ensures.idle none) [
+      | inl i ↦ inl i
+      | inr more ↦ inr (first_sized c.args.store.now c.in-Some.held.id c.full_size-bytes.result _ _ (c.requires.order.held.live c.args.pid c.args.index c.in-Some.held (sym c.in-Some.ensures.held)) (ap (sized_there c.args.store.now c.args.size) (sym c.in-Some.ensures.held) ∙ is_sized c.args.store.now c.args.size c.full_size-bytes.result c.in-Some.held c.full_size-bytes.ensures.size (sym c.if-has_size.ensures)) more)
+    ]
+
+pub returns-in-None-stop_of-clause-limits : goal.returns-in-None-stop_of-clause-limits
+returns-in-None-stop_of-clause-limits g c = limits_sized _ _ c.args.store.now c.resize.new.store _ _ c.args.regions.now c.resize.new.regions _ _ (c.resize.ensures.resized (was_here c.resize.result c.in-None-stop_of.ensures c.resize.ensures.never)) c.resize.ensures.maps
+
+pub returns-in-None-stop_of-clause-idle : goal.returns-in-None-stop_of-clause-idle
+returns-in-None-stop_of-clause-idle g c = λ none.
+    elim (idle_or _ c.args.store.now c.resize.new.store _ _ c.resize.ensures.idle none) [
+      | inl i ↦ inl i
+      | inr more ↦ inr (first_sized c.args.store.now c.in-Some.held.id c.full_size-bytes.result _ _ (c.requires.order.held.live c.args.pid c.args.index c.in-Some.held (sym c.in-Some.ensures.held)) (ap (sized_there c.args.store.now c.args.size) (sym c.in-Some.ensures.held) ∙ is_sized c.args.store.now c.args.size c.full_size-bytes.result c.in-Some.held c.full_size-bytes.ensures.size (sym c.if-has_size.ensures)) more)
+    ]

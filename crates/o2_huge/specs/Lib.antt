@@ -1,0 +1,4 @@
+pub mod Members
+pub mod Growth
+pub mod Cuts
+pub mod Resized
