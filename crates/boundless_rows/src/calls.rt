@@ -1,7 +1,7 @@
 // Calls of one process, one behind another.
-use crate::opening::{process, segment};
 use o2_base::{Bytes, NoMemory};
 use o2_boundless::World;
+use o2_sequences::{process, segment};
 use std::alloc::Global;
 use std::test::Fail;
 
@@ -11,6 +11,10 @@ static CALLS: &str = "5 0 17 0 0 = 0
 8 23 17 4 = 5
 5 10 17 0 10 = 87
 5 10 17 0 F = 0
+E 8007 1 17 0 = 0
+F 8007 = 0
+D 17 0 17 C = 123
+C 10 17 0 17 C = 123
 6 F 8004 = 5
 6 0 8007 = 0
 A 8007 = 0
@@ -25,6 +29,28 @@ B 27 17 0 = 0
 3 0 17 0 9 17 C = 0
 2 17 0 = 0
 13 17 0 = 0
+10 1 1 17 0 3 0 = 0
+10 0 0 17 0 0 0 = 87
+10 1 0 17 0 0 4 = 87
+10 FFFF 1 17 0 0 0 = 8
+11 3 0 37 = 0
+11 4 0 37 = 8
+11 0 0 37 = 87
+11 1 0 3F = 5
+11 1 0 37 = 0
+12 17 0 = 0
+C 10 1F 0 17 C = 0
+C 20 1F C 17 C = 183
+D 1F C 17 C = 0
+D 1F 18 17 C = 2
+D 1F 23 17 C = 123
+7 8008 = 5
+7 800C = 0
+7 800F = 0
+D 1F 0 17 C = 2
+7 3F = 5
+7 37 = 0
+10 0 2 17 0 0 2 = 0
 4 1 F 0 3 F 0 = 0";
 
 /// What they tell.
@@ -35,6 +61,12 @@ static REPORT: &str = "1 call DosAllocSeg 0000 0017:0000 0000 = 0 0027
 1 call DosAllocSeg 0010 0017:0000 0010 = 87
 1 call DosAllocSeg 0010 0017:0000 000F = 0 8007
 1 hold 8007 by DosAllocSeg
+1 call DosGiveSeg 8007 0001 0017:0000 = 0 8007
+1 hold 8007 by DosGiveSeg
+1 call DosGetSeg 8007 = 0
+1 hold 8007 by DosGetSeg
+1 call DosGetShrSeg 0017:0000 0017:000C = 123
+1 call DosAllocShrSeg 0010 0017:0000 0017:000C = 123
 1 call DosReallocSeg 000F 8004 = 5
 1 call DosReallocSeg 0000 8007 = 0
 1 call DosUnlockSeg 8007 = 0
@@ -51,17 +83,53 @@ static REPORT: &str = "1 call DosAllocSeg 0000 0017:0000 0000 = 0 0027
 1 call DosRead 0000 0017:0000 0009 0017:000C = 0 0003
 1 call DosGetPID 0017:0000 = 0 0001 0001 0000
 1 call DosMemAvail 0017:0000 = 0 12345678
+1 call DosAllocHuge 0001 0001 0017:0000 0003 0000 = 0 0037
+1 hold 0037 by DosAllocHuge
+1 hold 003F by DosAllocHuge
+1 call DosAllocHuge 0000 0000 0017:0000 0000 0000 = 87
+1 call DosAllocHuge 0001 0000 0017:0000 0000 0004 = 87
+1 call DosAllocHuge FFFF 0001 0017:0000 0000 0000 = 8
+1 call DosReallocHuge 0003 0000 0037 = 0
+1 hold 0047 by DosReallocHuge
+1 call DosReallocHuge 0004 0000 0037 = 8
+1 call DosReallocHuge 0000 0000 0037 = 87
+1 call DosReallocHuge 0001 0000 003F = 5
+1 call DosReallocHuge 0001 0000 0037 = 0
+1 drop 003F by DosReallocHuge
+1 drop 0047 by DosReallocHuge
+1 call DosGetHugeShift 0017:0000 = 0 0003
+1 call DosAllocShrSeg 0010 001F:0000 0017:000C = 0 800F
+1 hold 800F by DosAllocShrSeg
+1 call DosAllocShrSeg 0020 001F:000C 0017:000C = 183
+1 call DosGetShrSeg 001F:000C 0017:000C = 0 800F
+1 hold 800F by DosGetShrSeg
+1 call DosGetShrSeg 001F:0018 0017:000C = 2
+1 call DosGetShrSeg 001F:0023 0017:000C = 123
+1 call DosFreeSeg 8008 = 5
+1 call DosFreeSeg 800C = 0
+1 drop 800F by DosFreeSeg
+1 call DosFreeSeg 800F = 0
+1 drop 800F by DosFreeSeg
+1 call DosGetShrSeg 001F:0000 0017:000C = 2
+1 call DosFreeSeg 003F = 5
+1 call DosFreeSeg 0037 = 0
+1 drop 0037 by DosFreeSeg
+1 call DosAllocHuge 0000 0002 0017:0000 0000 0002 = 0 800F
+1 hold 800F by DosAllocHuge
 1 end trap 13 at 000F:0100
 ";
 
-/// A world of one process with code, 16 bytes of data and an environment, under the indexes 1 to 3.
+/// Three texts, two of which are the same name.
+static TEXTS: &[u8; 36] = b"\\SHAREMEM\\A\0\\sharemem\\a\0\\SHAREMEM\\B\0";
+
+/// A world of one process with code, 16 bytes of data and an environment of these texts, under the indexes 1 to 3.
 fn world(alloc: Global) -> Result<World, NoMemory> {
     let mut world = World::new(alloc, 100, 0x1234_5678)?;
     let code = segment(alloc, b"code", 4, false)?;
     world.names.push((0, code))?;
     let data = segment(alloc, b"hello, world ...", 16, false)?;
     world.names.push((1, data))?;
-    let environment = segment(alloc, b"", 2, false)?;
+    let environment = segment(alloc, TEXTS, 36, false)?;
     world.names.push((2, environment))?;
     world.next_name = 3;
     let mut process = process(alloc, 1, 0)?;
@@ -109,7 +177,7 @@ fn run(alloc: Global, world: &mut World) -> Result<usize, NoMemory> {
 fn calls_answer_and_tell(rt: HostRuntime) -> Result<(), Fail> {
     let mut world = world(rt.alloc())?;
     let right = run(rt.alloc(), &mut world)?;
-    assert_eq!(rt; right, 20);
+    assert_eq!(rt; right, 46);
     assert_eq!(rt; world.lines.as_slice(), REPORT.as_bytes());
     assert_eq!(rt; world.console.as_slice(), b"...".as_slice());
     assert_eq!(rt; world.input.len(), 0);

@@ -1,6 +1,7 @@
 // The executables of such processes, and the machine file.
-use crate::opening::{AVAIL, CODE, FRONT, NAMES};
 use o2_base::{Bytes, NoMemory};
+use o2_sequences::{AVAIL, CODE, NAMES};
+use row_parts::add_bytes;
 use std::alloc::Global;
 
 // All numbers in these texts are hexadecimal, and `00*3A` is so many bytes in a row.
@@ -14,20 +15,6 @@ static IMPORTS: &str = "00 00 00 00 01 00 00 08 44 4F 53 43 41 4C 4C 53 00*C";
 
 /// The data: no bytes in the file, and 16 in memory.
 static DATA_ROW: &str = "00 00 00 00 01 0C 10 00 00*20";
-
-fn number_in(text: &str) -> usize {
-    usize::from_str_radix(text, 16).unwrap_or(0)
-}
-
-/// Adds the bytes of a text.
-fn add_bytes(bytes: &mut Vec<u8>, text: &str) -> Result<(), NoMemory> {
-    for token in text.split_ascii_whitespace() {
-        let (byte, times) = token.split_once('*').unwrap_or((token, "1"));
-        let len = bytes.len().saturating_add(number_in(times));
-        bytes.resize(len, (number_in(byte) % 256) as u8)?;
-    }
-    Ok(())
-}
 
 fn add_word(bytes: &mut Vec<u8>, word: u16) -> Result<(), NoMemory> {
     bytes.extend_from_slice(&word.to_le_bytes())?;
@@ -46,11 +33,6 @@ fn write_executable(file: &mut Vec<u8>, name: &str, code: &[u8]) -> Result<(), N
     add_bytes(file, DATA_ROW)?;
     file.extend_from_slice(code)?;
     Ok(())
-}
-
-/// The code of a process before its first call.
-pub fn front(alloc: Global) -> Result<Vec<u8>, NoMemory> {
-    Ok(Vec::from_slice(alloc, FRONT)?)
 }
 
 /// Adds an executable.
@@ -86,7 +68,7 @@ fn write_keys(alloc: Global, text: &mut String, keys: &Keys<'_>) -> Result<(), N
     write_number(alloc, text, "memory = ", keys.memory)?;
     write_number(alloc, text, "segments = ", keys.segments)?;
     write_number(alloc, text, "avail = ", AVAIL)?;
-    text.push_str("swap = 2048\nquantum = 1\nbudget = 1000000\nscript = [")?;
+    text.push_str("swap = 4608\nquantum = 1\nbudget = 1000000\nscript = [")?;
     text.push_str(keys.script)?;
     text.push_str("]\nmodules = [")?;
     Ok(())

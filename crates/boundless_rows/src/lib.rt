@@ -5,16 +5,10 @@
 #[cfg(test)]
 mod calls;
 #[cfg(test)]
-mod choices;
-#[cfg(test)]
-mod dice;
-#[cfg(test)]
 mod executables;
-#[cfg(test)]
-mod opening;
 #[cfg(test)]
 mod random;
 #[cfg(test)]
-mod runs;
+mod reach;
 #[cfg(test)]
-mod sequence;
+mod runs;

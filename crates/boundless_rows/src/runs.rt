@@ -1,52 +1,30 @@
 // Runs of a sequence's program, in one memory or another.
 use crate::executables::{Keys, files};
-use crate::opening::NAMES;
-use crate::sequence::Sequence;
+use crate::reach::tells;
 use o2_base::{Bytes, NoMemory};
-use o2_cli::{number, os2run};
 use o2_outer::{MemFiles, MemSink, MemSource, MemSwap};
+use o2_rows::{Answer, Outside, answer_of, words_in};
+use o2_sequences::{NAMES, Sequence};
 use std::alloc::Global;
 
-/// A memory for sixteen segments of 65,536 bytes, in paragraphs of 16.
-const AMPLE: u32 = 65_536;
+/// A memory for 32 segments of 65,536 bytes, in paragraphs of 16: more than a step names and all that processes can lock.
+const AMPLE: u32 = 131_072;
 
-/// What a run came to.
-#[derive(Drop)]
-struct Answer {
-    status: u8,
-    console: MemSink,
-    report: MemSink,
-}
-
-fn words(alloc: Global) -> Result<Vec<String>, NoMemory> {
-    let mut words = Vec::new(alloc);
-    words.push(String::from_str(alloc, "run")?)?;
-    words.push(String::from_str(alloc, "m")?)?;
-    Ok(words)
-}
+/// Blocks for all segments that may live.
+const BLOCKS: u32 = 4608;
 
 /// `run m` over these files.
 fn run_files(alloc: Global, files: Vec<(Bytes, Bytes)>, input: &[u8]) -> Result<Answer, NoMemory> {
-    let mut files = MemFiles::new(files, Vec::new(alloc));
-    let mut input = MemSource::new(Bytes::from_slice(alloc, input)?, Vec::new(alloc));
-    let mut console = MemSink::new(alloc, 4_194_304, Vec::new(alloc))?;
-    let mut report = MemSink::new(alloc, 1_048_576, Vec::new(alloc))?;
-    let mut swap = MemSwap::new(alloc, 2048, Vec::new(alloc))?;
-    let words = words(alloc)?;
-    let status = os2run(
-        alloc,
-        words.as_slice(),
-        &mut files,
-        &mut input,
-        &mut console,
-        &mut report,
-        &mut swap,
-    );
-    Ok(Answer {
-        status: number(&status),
-        console,
-        report,
-    })
+    let mut outside = Outside {
+        files: MemFiles::new(files, Vec::new(alloc)),
+        input: MemSource::new(Bytes::from_slice(alloc, input)?, Vec::new(alloc)),
+        console: MemSink::new(alloc, 4_194_304, Vec::new(alloc))?,
+        report: MemSink::new(alloc, 1_048_576, Vec::new(alloc))?,
+    };
+    let mut swap = MemSwap::new(alloc, BLOCKS, Vec::new(alloc))?;
+    let words = words_in(alloc, "run m")?;
+    let status = outside.run(alloc, words.as_slice(), &mut swap);
+    answer_of(alloc, &status, outside)
 }
 
 fn run(alloc: Global, sequence: &Sequence, memory: u32) -> Result<Answer, NoMemory> {
@@ -82,6 +60,15 @@ fn write_start(report: &mut Vec<u8>, processes: usize) -> Result<(), NoMemory> {
     Ok(())
 }
 
+/// Whether the lines of the boundless machine tell what it held when that was noted.
+fn is_told(alloc: Global, sequence: &Sequence) -> Result<bool, NoMemory> {
+    let mut report = Vec::new(alloc);
+    write_start(&mut report, sequence.codes.len())?;
+    let lines = sequence.world.lines.as_slice();
+    report.extend_from_slice(&lines[..sequence.told.min(lines.len())])?;
+    tells(alloc, &report, &sequence.noted)
+}
+
 /// The whole report of the boundless machine.
 fn report_of(alloc: Global, sequence: &Sequence) -> Result<Vec<u8>, NoMemory> {
     let mut report = Vec::new(alloc);
@@ -91,21 +78,14 @@ fn report_of(alloc: Global, sequence: &Sequence) -> Result<Vec<u8>, NoMemory> {
     Ok(report)
 }
 
-impl Answer {
-    /// It was done, with both texts of the boundless machine.
-    fn is_whole(&self, console: &[u8], report: &[u8]) -> bool {
-        self.status == 0 && self.console.taken() == console && self.report.taken() == report
-    }
-
-    /// It stopped for want of room, with fronts of both.
-    fn is_front(&self, console: &[u8], report: &[u8]) -> bool {
-        self.status == 8
-            && console.starts_with(self.console.taken())
-            && match self.report.taken().strip_suffix(b"stop room\n") {
-                Some(lines) => report.starts_with(lines),
-                None => false,
-            }
-    }
+/// Whether a run stopped for want of room, with fronts of both texts.
+fn is_front(answer: &Answer, console: &[u8], report: &[u8]) -> bool {
+    answer.status == 8
+        && console.starts_with(answer.console.taken())
+        && match answer.report.taken().strip_suffix(b"stop room\n") {
+            Some(lines) => report.starts_with(lines),
+            None => false,
+        }
 }
 
 /// What memories have shown: one that was too small, and one that wasn't, in paragraphs of 16 bytes.
@@ -127,13 +107,13 @@ fn closer(
         + (between.small % 2 + between.large % 2) / 2;
     let answer = run(alloc, sequence, middle.saturating_mul(16))?;
     let console = sequence.world.console.as_slice();
-    if answer.is_whole(console, report) {
+    if answer.is(0, console, report) {
         return Ok(Some(Between {
             large: middle,
             ..between
         }));
     }
-    if answer.is_front(console, report) {
+    if is_front(&answer, console, report) {
         return Ok(Some(Between {
             small: middle,
             ..between
@@ -147,7 +127,7 @@ fn closer(
 pub fn least(alloc: Global, sequence: &Sequence) -> Result<Option<Between>, NoMemory> {
     let report = report_of(alloc, sequence)?;
     let ample = run(alloc, sequence, AMPLE * 16)?;
-    if !ample.is_whole(sequence.world.console.as_slice(), &report) {
+    if !ample.is(0, sequence.world.console.as_slice(), &report) {
         return Ok(None);
     }
     let mut between = Between {
@@ -163,4 +143,12 @@ pub fn least(alloc: Global, sequence: &Sequence) -> Result<Option<Between>, NoMe
         }
     }
     Ok(Some(between))
+}
+
+/// Whether the program comes to what the calls come to, in ample memory and in the least, and the lines tell what is held behind them.
+pub fn is_shown(alloc: Global, sequence: &Sequence) -> Result<bool, NoMemory> {
+    if !is_told(alloc, sequence)? {
+        return Ok(false);
+    }
+    Ok(least(alloc, sequence)?.is_some())
 }

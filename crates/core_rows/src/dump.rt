@@ -1,30 +1,12 @@
 // Dumps over files, sinks and a swap device in memory.
 use o2_base::{Bytes, Fail, NoMemory};
-use o2_cli::{number, os2run};
-use o2_dump::{Core, CoreFault};
+use o2_dump::{Core, CoreFault, Place, State};
 use o2_gen::module;
 use o2_outer::{MemFiles, MemSink, MemSource, MemSwap};
+use o2_rows::executables::add_text;
+use o2_rows::{Answer, HELLO, Outside, add_file, answer_of, words_in};
 use std::alloc::Global;
 use std::test;
-
-/// The file of a program that writes `hello`.
-static HELLO: [u8; 240] = [
-    0x4D, 0x5A, 0x00, 0x00, 0x00, 0x00, 0x00, 0x00, 0x00, 0x00, 0x00, 0x00, 0x00, 0x00, 0x00, 0x00,
-    0x00, 0x00, 0x00, 0x00, 0x00, 0x00, 0x00, 0x00, 0x00, 0x00, 0x00, 0x00, 0x00, 0x00, 0x00, 0x00,
-    0x00, 0x00, 0x00, 0x00, 0x00, 0x00, 0x00, 0x00, 0x00, 0x00, 0x00, 0x00, 0x00, 0x00, 0x00, 0x00,
-    0x00, 0x00, 0x00, 0x00, 0x00, 0x00, 0x00, 0x00, 0x00, 0x00, 0x00, 0x00, 0x40, 0x00, 0x00, 0x00,
-    0x4E, 0x45, 0x05, 0x00, 0x65, 0x00, 0x00, 0x00, 0x00, 0x00, 0x00, 0x00, 0x02, 0x00, 0x02, 0x00,
-    0x00, 0x00, 0x00, 0x02, 0x00, 0x00, 0x01, 0x00, 0x00, 0x00, 0x02, 0x00, 0x02, 0x00, 0x01, 0x00,
-    0x00, 0x00, 0x40, 0x00, 0x50, 0x00, 0x50, 0x00, 0x59, 0x00, 0x5B, 0x00, 0x00, 0x00, 0x00, 0x00,
-    0x00, 0x00, 0x04, 0x00, 0x00, 0x00, 0x01, 0x00, 0x00, 0x00, 0x00, 0x00, 0x00, 0x00, 0x00, 0x00,
-    0x0B, 0x00, 0x19, 0x00, 0x00, 0x0D, 0x19, 0x00, 0x0E, 0x00, 0x10, 0x00, 0x01, 0x0C, 0x10, 0x00,
-    0x05, 0x48, 0x45, 0x4C, 0x4C, 0x4F, 0x00, 0x00, 0x00, 0x01, 0x00, 0x00, 0x08, 0x44, 0x4F, 0x53,
-    0x43, 0x41, 0x4C, 0x4C, 0x53, 0x00, 0x00, 0x00, 0x00, 0x00, 0x00, 0x00, 0x00, 0x00, 0x00, 0x00,
-    0x6A, 0x01, 0x1E, 0x68, 0x00, 0x00, 0x6A, 0x05, 0x1E, 0x6A, 0x06, 0x9A, 0xFF, 0xFF, 0x00, 0x00,
-    0x6A, 0x01, 0x6A, 0x00, 0x9A, 0xFF, 0xFF, 0x00, 0x00, 0x02, 0x00, 0x03, 0x01, 0x0C, 0x00, 0x01,
-    0x00, 0x8A, 0x00, 0x03, 0x01, 0x15, 0x00, 0x01, 0x00, 0x05, 0x00, 0x00, 0x00, 0x00, 0x00, 0x00,
-    0x68, 0x65, 0x6C, 0x6C, 0x6F, 0x00, 0x00, 0x00, 0x00, 0x00, 0x00, 0x00, 0x00, 0x00, 0x00, 0x00,
-];
 
 /// A machine file behind its memory and its swap, for the one program and for the other.
 static OF_HELLO: &str = "
@@ -46,7 +28,7 @@ module = \"BENCH\"
 ";
 
 /// The smallest memory, without swap.
-static SMALLEST: &str = "memory = 4096\nswap = 0";
+static SMALLEST: &str = "memory = 4096\nswap = 0\n";
 
 /// The front of the image of the first program in it, and the length of the whole.
 static FRONT: [u8; 25] = [
@@ -55,14 +37,6 @@ static FRONT: [u8; 25] = [
 ];
 
 const LENGTH: usize = 4178;
-
-/// What a dump came to.
-#[derive(Drop)]
-struct Answer {
-    status: u8,
-    console: MemSink,
-    report: MemSink,
-}
 
 fn sink(alloc: Global, call: u64, front: usize) -> Result<MemSink, NoMemory> {
     let mut fails = Vec::new(alloc);
@@ -78,19 +52,6 @@ fn device(alloc: Global, call: u64) -> Result<MemSwap, NoMemory> {
         fails.push(call)?;
     }
     MemSwap::new(alloc, 4_096, fails)
-}
-
-fn add_file(
-    alloc: Global,
-    files: &mut Vec<(Bytes, Bytes)>,
-    name: &[u8],
-    file: &[u8],
-) -> Result<(), NoMemory> {
-    files.push((
-        Bytes::from_slice(alloc, name)?,
-        Bytes::from_slice(alloc, file)?,
-    ))?;
-    Ok(())
 }
 
 /// The calls that fail, each 0 where none does: a put of the console behind three bytes, a put of the report at once, and a call of the device.
@@ -109,51 +70,27 @@ impl Failing {
     };
 }
 
-/// Both programs, and this machine file.
-fn files_of(alloc: Global, machine: &str) -> Result<MemFiles, NoMemory> {
+/// Both programs, and the machine file with these sizes and this rest.
+fn files_of(alloc: Global, sizes: &str, rest: &str) -> Result<MemFiles, NoMemory> {
     let mut list = Vec::new(alloc);
     add_file(alloc, &mut list, b"hello.exe", &HELLO)?;
     add_file(alloc, &mut list, b"bench.exe", module(alloc)?.as_slice())?;
-    add_file(alloc, &mut list, b"a.toml", machine.as_bytes())?;
+    add_text(alloc, &mut list, "a.toml", sizes, rest)?;
     Ok(MemFiles::new(list, Vec::new(alloc)))
-}
-
-fn words_of(alloc: Global) -> Result<Vec<String>, NoMemory> {
-    let mut words = Vec::new(alloc);
-    words.push(String::from_str(alloc, "dump")?)?;
-    words.push(String::from_str(alloc, "a.toml")?)?;
-    Ok(words)
-}
-
-/// The text of a machine file: memory and swap, and what stands behind them.
-fn machine_of(alloc: Global, sizes: &str, rest: &str) -> Result<String, NoMemory> {
-    let mut machine = String::from_str(alloc, sizes)?;
-    machine.push_str(rest)?;
-    Ok(machine)
 }
 
 /// A dump of a machine file with these sizes and this rest.
 fn dumped(alloc: Global, sizes: &str, rest: &str, failing: &Failing) -> Result<Answer, NoMemory> {
-    let mut files = files_of(alloc, machine_of(alloc, sizes, rest)?.as_str())?;
-    let words = words_of(alloc)?;
-    let mut input = MemSource::new(Bytes::new(Vec::new(alloc)), Vec::new(alloc));
-    let mut console = sink(alloc, failing.console, 3)?;
-    let mut report = sink(alloc, failing.report, 0)?;
+    let mut outside = Outside {
+        files: files_of(alloc, sizes, rest)?,
+        input: MemSource::new(Bytes::new(Vec::new(alloc)), Vec::new(alloc)),
+        console: sink(alloc, failing.console, 3)?,
+        report: sink(alloc, failing.report, 0)?,
+    };
     let mut swap = device(alloc, failing.swap)?;
-    let status = os2run(
-        alloc,
-        words.as_slice(),
-        &mut files,
-        &mut input,
-        &mut console,
-        &mut report,
-        &mut swap,
-    );
-    Ok(Answer {
-        status: number(&status),
-        console,
-        report,
-    })
+    let words = words_in(alloc, "dump a.toml")?;
+    let status = outside.run(alloc, words.as_slice(), &mut swap);
+    answer_of(alloc, &status, outside)
 }
 
 /// Whether it is the image of the program that has ended, whose report has all its lines.
@@ -168,6 +105,26 @@ fn is_whole(answer: &Answer) -> bool {
             .ends_with(b"1 end exit 0\nall ended\n")
 }
 
+/// Whether it has no segment, and one process, with the number 1, that has ended by DosExit with code 0.
+fn has_ended(core: &Core) -> bool {
+    let list = core.processes.as_slice();
+    let ended = match list.first() {
+        Some(process) => {
+            process.number == 1 && process.state == State::Exited && process.code == 0
+        }
+        None => false,
+    };
+    ended && list.len() == 1 && core.segments.as_slice().is_empty()
+}
+
+/// Whether some bytes are an image of that.
+fn shows_the_end(alloc: Global, image: &[u8]) -> bool {
+    match Core::read(alloc, image) {
+        Ok(core) => has_ended(&core),
+        Err(_) => false,
+    }
+}
+
 /// Why some bytes are no image; none where they are one, or there is no memory to read them.
 fn fault_of(alloc: Global, bytes: &[u8]) -> Option<CoreFault> {
     match Core::read(alloc, bytes) {
@@ -180,7 +137,7 @@ fn fault_of(alloc: Global, bytes: &[u8]) -> Option<CoreFault> {
 fn hello_is_dumped(rt: HostRuntime) -> Result<(), test::Fail> {
     let answer = dumped(rt.alloc(), SMALLEST, OF_HELLO, &Failing::NONE)?;
     assert!(rt; is_whole(&answer));
-    assert!(rt; fault_of(rt.alloc(), answer.console.taken()).is_none());
+    assert!(rt; shows_the_end(rt.alloc(), answer.console.taken()));
     assert!(rt; fault_of(rt.alloc(), &FRONT) == Some(CoreFault::Truncated(25)));
     Ok(())
 }
@@ -290,5 +247,72 @@ fn stops(rt: HostRuntime) -> Result<(), test::Fail> {
         }
     }
     assert!(rt; count == 6);
+    Ok(())
+}
+
+/// A memory for three segments of the bench, of which only the first word isn't zero, and a block each for three more: its run ends for want
+/// of blocks, with all in use.
+static FULL: &str = "memory = 32768\nswap = 3\n";
+
+fn blocks_of(core: &Core) -> u64 {
+    let mut count = 0u64;
+    for entry in core.segments.as_slice() {
+        if let Place::Swap(blocks) = &entry.place {
+            count = count.saturating_add(blocks.as_slice().len() as u64);
+        }
+    }
+    count
+}
+
+/// How many blocks an image has, none where some bytes are no image.
+fn blocks_in(alloc: Global, image: &[u8]) -> u64 {
+    match Core::read(alloc, image) {
+        Ok(core) => blocks_of(&core),
+        Err(_) => 0,
+    }
+}
+
+/// The dump of that machine where a call of the device fails, or none of them where this is 0.
+fn dump_full(alloc: Global, swap: u64) -> Result<Answer, NoMemory> {
+    let failing = Failing {
+        swap,
+        ..Failing::NONE
+    };
+    dumped(alloc, FULL, OF_BENCH, &failing)
+}
+
+/// Whether a dump failed behind its run: some bytes of the image are put, not all, and nothing more to the report.
+fn is_unread(answer: &Answer, whole: &Answer) -> bool {
+    let front = answer.console.taken();
+    answer.status == 10
+        && front.len() < whole.console.taken().len()
+        && whole.console.taken().starts_with(front)
+        && answer.report.taken() == whole.report.taken()
+}
+
+/// Whether a dump failed in its run, and has no image.
+fn has_stopped(answer: &Answer) -> bool {
+    answer.status == 10
+        && answer.console.taken().is_empty()
+        && answer.report.taken().ends_with(b"stop swap fault\n")
+}
+
+/// Each block in use is read once for the image of a run that was stopped, whose line stays the last one where such a read fails.
+#[test]
+fn each_read_of_an_image_fails(rt: HostRuntime) -> Result<(), test::Fail> {
+    let whole = dump_full(rt.alloc(), 0)?;
+    let blocks = blocks_in(rt.alloc(), whole.console.taken());
+    assert!(rt; whole.status == 9 && whole.report.taken().ends_with(b"stop swap full\n"));
+    let mut unread = 0u64;
+    for call in 1..200u64 {
+        let answer = dump_full(rt.alloc(), call)?;
+        if answer.is(9, whole.console.taken(), whole.report.taken()) {
+            break;
+        }
+        let is_cut = is_unread(&answer, &whole);
+        assert!(rt; is_cut || has_stopped(&answer), "call {call}");
+        unread = unread.saturating_add(u64::from(is_cut));
+    }
+    assert!(rt; blocks == 3 && unread == 3, "{unread} of {blocks}");
     Ok(())
 }

@@ -74,11 +74,14 @@ fn push_all(text: &mut String, before: &str, words: &str, behind: &str) -> Resul
 
 fn write_machine(
     text: &mut String,
+    memory: &str,
     modules: &str,
     segments: &str,
     processes: &str,
 ) -> Result<(), NoMemory> {
-    text.push_str("memory = 1048576\nswap = 0\nbudget = 1000\nquantum = 1000\nsegments = ")?;
+    text.push_str("memory = ")?;
+    text.push_str(memory)?;
+    text.push_str("\nswap = 0\nbudget = 1000\nquantum = 1000\nsegments = ")?;
     text.push_str(segments)?;
     text.push_str("\nmodules = [")?;
     push_all(text, "'", modules, "', ")?;
@@ -86,16 +89,30 @@ fn write_machine(
     push_all(text, "[[process]]\nmodule = '", processes, "'\n")
 }
 
-/// A machine file of these modules, parted by blanks, with processes of these names.
+/// An ample memory, and the smallest that there is, which is the least for each of these programs.
+static MEMORIES: &str = "1048576 4096";
+
+/// A machine file with this memory, of these modules, parted by blanks, with processes of these names.
+fn machine_in(
+    alloc: Global,
+    memory: &str,
+    modules: &str,
+    segments: &str,
+    processes: &str,
+) -> Result<String, NoMemory> {
+    let mut text = String::new(alloc);
+    write_machine(&mut text, memory, modules, segments, processes)?;
+    Ok(text)
+}
+
+/// One with an ample memory.
 fn machine(
     alloc: Global,
     modules: &str,
     segments: &str,
     processes: &str,
 ) -> Result<String, NoMemory> {
-    let mut text = String::new(alloc);
-    write_machine(&mut text, modules, segments, processes)?;
-    Ok(text)
+    machine_in(alloc, "1048576", modules, segments, processes)
 }
 
 /// Modules, the process's module, and the report.
@@ -109,12 +126,28 @@ through.exe outer.dll counter.dll | THROUGH | 1 start THROUGH / 1 hold 000F by l
 through.exe counter.dll outer.dll | THROUGH | 1 start THROUGH / 1 hold 000F by load / 1 hold 0017 by load / 1 hold 001F by load / 1 hold 8007 by load / 1 hold 800F by load / 1 hold 8017 by load / 1 hold 801F by load / 1 call DosExit 0001 0002 / 1 end exit 2 / all ended
 ";
 
-/// Whether a process over these modules has this report.
-fn reports(alloc: Global, modules: &str, name: &str, report: &str) -> Result<bool, NoMemory> {
-    let text = machine(alloc, modules, "64", name)?;
+/// Whether a process over these modules has this report in this memory.
+fn reports_in(
+    alloc: Global,
+    memory: &str,
+    modules: &str,
+    name: &str,
+    report: &str,
+) -> Result<bool, NoMemory> {
+    let text = machine_in(alloc, memory, modules, "64", name)?;
     let answer = over(alloc, "run", text.as_str(), "", &[])?;
     let wanted = lines_in(alloc, report)?;
     Ok(answer.is(0, &[], wanted.as_bytes()))
+}
+
+/// Whether it has in each memory.
+fn reports(alloc: Global, modules: &str, name: &str, report: &str) -> Result<bool, NoMemory> {
+    for memory in MEMORIES.split_ascii_whitespace() {
+        if !reports_in(alloc, memory, modules, name, report)? {
+            return Ok(false);
+        }
+    }
+    Ok(true)
 }
 
 #[test]
@@ -141,12 +174,22 @@ static COUNTS: &str = "
 4C=1 | own 1, all 1 / own 2, all 2
 ";
 
-/// Whether two processes that call COUNTER with these changes have this console.
-fn shows(alloc: Global, changes: &str, console: &str) -> Result<bool, NoMemory> {
-    let text = machine(alloc, "user.exe counter.dll", "64", "USER USER")?;
+/// Whether two processes that call COUNTER with these changes have this console in this memory.
+fn shows_in(alloc: Global, memory: &str, changes: &str, console: &str) -> Result<bool, NoMemory> {
+    let text = machine_in(alloc, memory, "user.exe counter.dll", "64", "USER USER")?;
     let answer = over(alloc, "run", text.as_str(), changes, &[])?;
     let wanted = lines_in(alloc, console)?;
     Ok(answer.status == 0 && answer.console.taken() == wanted.as_bytes())
+}
+
+/// Whether they have in each memory.
+fn shows(alloc: Global, changes: &str, console: &str) -> Result<bool, NoMemory> {
+    for memory in MEMORIES.split_ascii_whitespace() {
+        if !shows_in(alloc, memory, changes, console)? {
+            return Ok(false);
+        }
+    }
+    Ok(true)
 }
 
 #[test]

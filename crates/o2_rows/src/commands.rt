@@ -1,7 +1,8 @@
 // Commands over files, an input and sinks in memory.
 
+use crate::outside::Outside;
 use o2_base::{Bytes, NoMemory};
-use o2_cli::{number, os2run, text};
+use o2_cli::{Status, number, text};
 use o2_outer::{MemFiles, MemSink, MemSource, SureSwap};
 use std::alloc::Global;
 
@@ -99,24 +100,29 @@ pub fn command_sized(
     room: usize,
     blocks: u16,
 ) -> Result<Answer, NoMemory> {
-    let mut files = files;
-    let mut input = MemSource::new(Bytes::from_slice(alloc, input)?, takes.to_vec(alloc)?);
-    let mut console = MemSink::new(alloc, 4096, console_fails.to_vec(alloc)?)?;
-    let mut report = MemSink::new(alloc, room, report_fails.to_vec(alloc)?)?;
+    let mut outside = Outside {
+        files,
+        input: MemSource::new(Bytes::from_slice(alloc, input)?, takes.to_vec(alloc)?),
+        console: MemSink::new(alloc, 4096, console_fails.to_vec(alloc)?)?,
+        report: MemSink::new(alloc, room, report_fails.to_vec(alloc)?)?,
+    };
     let mut swap = SureSwap::new(alloc, u32::from(blocks))?;
     let list = words_of(alloc, words)?;
-    let status = os2run(
-        alloc,
-        list.as_slice(),
-        &mut files,
-        &mut input,
-        &mut console,
-        &mut report,
-        &mut swap,
-    );
+    let status = outside.run(alloc, list.as_slice(), &mut swap);
+    answer_of(alloc, &status, outside)
+}
+
+/// The answer of a command that came to a status.
+pub fn answer_of(alloc: Global, status: &Status, outside: Outside) -> Result<Answer, NoMemory> {
+    let line = text(alloc, status)?;
+    let Outside {
+        console,
+        report,
+        ..
+    } = outside;
     Ok(Answer {
-        status: number(&status),
-        line: text(alloc, &status)?,
+        status: number(status),
+        line,
         console,
         report,
     })

@@ -26,8 +26,8 @@ exe,hello.exe | | 0 | hello | 8
 exe,hello.exe | B0=D6 | 0 | | 4 1 end trap 6 at 000F:0000 / all ended
 exe,hello.exe | B0=EB B1=FE | 0 | | 4 budget spent
 exe,hello.exe | B1=3 | 0 | | 4 1 call DosWrite 0003 0017:0000 0005 0017:0006 = 6 / 1 call DosExit 0001 0000 / 1 end exit 0 / all ended
-- ordinal 40, DosAllocHuge
-exe,hello.exe | D1=28 | 4 | | 0
+- ordinal 146, DosSubSet
+exe,hello.exe | D1=92 | 4 | | 0
 - no MZ
 exe,hello.exe | 0=4E | 4 | | 0
 - no automatic data: SP is the header's 0, and the first push lies outside
@@ -120,8 +120,8 @@ CB=1 | 9
 0=4E | 1
 - another system's
 76=2 | 4
-- ordinal 40, which isn't there yet
-D1=28 | 11
+- ordinal 146, which isn't there yet
+D1=92 | 11
 - a reference to NOLIB
 9C=5 9D=4E 9E=4F 9F=4C A0=49 A1=42 | 10
 - no automatic data and no SS

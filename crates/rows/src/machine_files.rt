@@ -11,6 +11,9 @@ use std::test::Fail;
 
 const FRONT: &str = "memory = 1048576\nswap = 2048\nsegments = 1024\nmodules = [\"hello.exe\"]\n";
 
+/// The smallest memory, which is the least for programs of this size.
+const LEAST: &str = "memory = 4096\nswap = 0\nsegments = 1024\nmodules = [\"hello.exe\"]\n";
+
 const PROCESS: &str = "[[process]]\nmodule = \"HELLO\"\n";
 
 fn write_parts(text: &mut String, parts: &[&str]) -> Result<(), NoMemory> {
@@ -92,9 +95,14 @@ fn budgets(rt: HostRuntime) -> Result<(), Fail> {
 #[test]
 fn slices_of_processes_that_are_not_there_are_passed(rt: HostRuntime) -> Result<(), Fail> {
     let script = "budget = 20\nquantum = 1\nscript = [\"9:5\", \"1:10\", \"1:3\"]\n";
-    let answer = run_parts(rt.alloc(), &[FRONT, script, PROCESS])?;
     let wanted = report_of(rt.alloc(), LINES.len(), "")?;
-    assert!(rt; answer.is(0, b"hello".as_slice(), wanted.as_bytes()));
+    for front in [FRONT, LEAST] {
+        let answer = run_parts(rt.alloc(), &[front, script, PROCESS])?;
+        assert!(rt;
+            answer.is(0, b"hello".as_slice(), wanted.as_bytes()),
+            "{front}"
+        );
+    }
     Ok(())
 }
 
@@ -104,9 +112,14 @@ static TURNS: &str =
 
 #[test]
 fn two_processes_take_turns(rt: HostRuntime) -> Result<(), Fail> {
-    let front = "budget = 1000\nquantum = 1\n";
-    let answer = run_parts(rt.alloc(), &[FRONT, front, PROCESS, PROCESS])?;
-    assert!(rt; answer.is(0, b"hellohello".as_slice(), TURNS.as_bytes()));
+    let keys = "budget = 1000\nquantum = 1\n";
+    for front in [FRONT, LEAST] {
+        let answer = run_parts(rt.alloc(), &[front, keys, PROCESS, PROCESS])?;
+        assert!(rt;
+            answer.is(0, b"hellohello".as_slice(), TURNS.as_bytes()),
+            "{front}"
+        );
+    }
     Ok(())
 }
 

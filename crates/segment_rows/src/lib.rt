@@ -2,4 +2,6 @@
 #![tactic(auto)]
 
 #[cfg(test)]
+mod read_only;
+#[cfg(test)]
 mod segment_calls;

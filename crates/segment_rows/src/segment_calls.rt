@@ -75,9 +75,8 @@ fn console_of(alloc: Global, text: &str) -> Result<Vec<u8>, NoMemory> {
     Ok(bytes)
 }
 
-/// Whether a program of this code has these lines, and these bytes on the console where it comes to its end.
-fn comes_to(alloc: Global, code: &str, lines: &str, bytes: &str) -> Result<bool, NoMemory> {
-    let answer = answer_of(alloc, code)?;
+/// Whether an answer has these lines, and these bytes on the console where the program comes to its end.
+fn has(alloc: Global, answer: &Answer, lines: &str, bytes: &str) -> Result<bool, NoMemory> {
     let mut text = String::new(alloc);
     write_report(&mut text, lines)?;
     let report = report_in(alloc, text.as_str())?;
@@ -88,6 +87,12 @@ fn comes_to(alloc: Global, code: &str, lines: &str, bytes: &str) -> Result<bool,
         console_of(alloc, bytes)?
     };
     Ok(answer.is(0, console.as_slice(), report.as_bytes()))
+}
+
+/// Whether a program of this code comes to that.
+fn comes_to(alloc: Global, code: &str, lines: &str, bytes: &str) -> Result<bool, NoMemory> {
+    let answer = answer_of(alloc, code)?;
+    has(alloc, &answer, lines, bytes)
 }
 
 /// Runs the programs of a table, and counts them.
@@ -120,12 +125,18 @@ static DONE: &str = "
 5 10 17 0 0 ; 7 27 ; 5 20 17 10 0 | 1 call DosAllocSeg 0010 0017:0000 0000 = 0 0027 / 1 hold 0027 by DosAllocSeg / 1 call DosFreeSeg 0027 = 0 / 1 drop 0027 by DosFreeSeg / 1 call DosAllocSeg 0020 0017:0010 0000 = 0 0027 / 1 hold 0027 by DosAllocSeg | 27 0
 - a free clears DS and ES by index: ES 0024 names what goes, and DS doesn't
 5 10 17 0 0 ; x B8 24 00 8E C0 ; 7 27 ; x 8C 06 10 00 8C 1E 12 00 | 1 call DosAllocSeg 0010 0017:0000 0000 = 0 0027 / 1 hold 0027 by DosAllocSeg / 1 call DosFreeSeg 0027 = 0 / 1 drop 0027 by DosFreeSeg | 0 0 17 0
+- and DS where it names what goes: the word is one more than DS
+5 10 17 0 0 ; x B8 27 00 8E D8 ; 7 27 ; x 8C D8 40 36 A3 10 00 | 1 call DosAllocSeg 0010 0017:0000 0000 = 0 0027 / 1 hold 0027 by DosAllocSeg / 1 call DosFreeSeg 0027 = 0 / 1 drop 0027 by DosFreeSeg | 1 0
 - an alias of what is freed stays, with its bytes
 5 2 17 0 0 ; x 8E 06 00 00 26 C7 06 00 00 34 12 ; B 27 17 2 ; 7 27 ; x B8 2F 00 8E C0 26 A1 00 00 A3 10 00 | 1 call DosAllocSeg 0002 0017:0000 0000 = 0 0027 / 1 hold 0027 by DosAllocSeg / 1 call DosCreateCSAlias 0027 0017:0002 = 0 002F / 1 hold 002F by DosCreateCSAlias / 1 call DosFreeSeg 0027 = 0 / 1 drop 0027 by DosFreeSeg | 34 12
 - what a segment grows by is zeros, also where it was smaller in between
 5 4 17 0 0 ; x 8E 06 00 00 26 C7 06 02 00 34 12 ; 6 2 27 ; 6 4 27 ; x 26 A1 02 00 A3 10 00 C7 06 12 00 01 00 | 1 call DosAllocSeg 0004 0017:0000 0000 = 0 0027 / 1 hold 0027 by DosAllocSeg / 1 call DosReallocSeg 0002 0027 = 0 / 1 call DosReallocSeg 0004 0027 = 0 | 0 0 1 0
+- from 16 bytes to 8 and back: the last eight are zeros
+5 10 17 0 0 ; x 8E 06 00 00 26 C7 06 06 00 11 11 26 C7 06 08 00 22 22 26 C7 06 0E 00 33 33 ; 6 8 27 ; 6 10 27 ; x 26 A1 06 00 A3 10 00 26 A1 08 00 A3 12 00 26 A1 0E 00 A3 14 00 C7 06 16 00 01 00 | 1 call DosAllocSeg 0010 0017:0000 0000 = 0 0027 / 1 hold 0027 by DosAllocSeg / 1 call DosReallocSeg 0008 0027 = 0 / 1 call DosReallocSeg 0010 0027 = 0 | 11 11 0 0 0 0 1 0
 - a discardable segment starts locked once
 5 10 17 0 4 ; A 27 ; A 27 ; 9 27 ; A 27 | 1 call DosAllocSeg 0010 0017:0000 0004 = 0 0027 / 1 hold 0027 by DosAllocSeg / 1 call DosUnlockSeg 0027 = 0 / 1 call DosUnlockSeg 0027 = 158 / 1 call DosLockSeg 0027 = 0 / 1 call DosUnlockSeg 0027 = 0 |
+- its locks stay where it gets another size and back
+5 10 17 0 4 ; 9 27 ; 6 8 27 ; 6 10 27 ; A 27 ; A 27 ; A 27 | 1 call DosAllocSeg 0010 0017:0000 0004 = 0 0027 / 1 hold 0027 by DosAllocSeg / 1 call DosLockSeg 0027 = 0 / 1 call DosReallocSeg 0008 0027 = 0 / 1 call DosReallocSeg 0010 0027 = 0 / 1 call DosUnlockSeg 0027 = 0 / 1 call DosUnlockSeg 0027 = 0 / 1 call DosUnlockSeg 0027 = 158 |
 - a shared segment grows
 5 10 17 0 1 ; 6 20 8007 ; 6 20 8007 | 1 call DosAllocSeg 0010 0017:0000 0001 = 0 8007 / 1 hold 8007 by DosAllocSeg / 1 call DosReallocSeg 0020 8007 = 0 / 1 call DosReallocSeg 0020 8007 = 0 |
 - data that was loaded gets another size
@@ -189,7 +200,7 @@ x BC FC 01 ; B | 1 end trap 12 at 000F:0003 |
 #[test]
 fn calls_that_are_done(rt: HostRuntime) -> Result<(), Fail> {
     let count = all_come_to(&rt, rt.alloc(), DONE)?;
-    assert!(rt; count == 14);
+    assert!(rt; count == 17);
     Ok(())
 }
 
@@ -297,12 +308,16 @@ fn all_indexes(alloc: Global) -> Result<String, NoMemory> {
 
 #[test]
 fn no_more_segments_than_a_process_has_indexes(rt: HostRuntime) -> Result<(), Fail> {
-    let lines = "memory = 1048576\nswap = 2048\nsegments = 5000\n";
     // the call again, while AX is 0
     let code = "5 10 17 0 0 ; x 09 C0 74 EB ; B 27 17 0 ; 5 10 17 0 1 ; 7 27 ; 5 10 17 0 0";
-    let answer = run_by(rt.alloc(), lines, code)?;
     let report = all_indexes(rt.alloc())?;
-    assert!(rt; answer.status == 0 && answer.report.taken() == report.as_bytes());
+    for lines in [
+        "memory = 1048576\nswap = 2048\nsegments = 5000\n",
+        "memory = 4096\nswap = 64\nsegments = 5000\n",
+    ] {
+        let answer = run_by(rt.alloc(), lines, code)?;
+        assert!(rt; answer.status == 0 && answer.report.taken() == report.as_bytes());
+    }
     Ok(())
 }
 
@@ -324,30 +339,36 @@ fn comes_to_in_little(
     bytes: &str,
 ) -> Result<bool, NoMemory> {
     let answer = run_by(alloc, "memory = 4096\nswap = 64\nsegments = 1024\n", code)?;
-    let mut text = String::new(alloc);
-    write_report(&mut text, lines)?;
-    let report = report_in(alloc, text.as_str())?;
-    let console = console_of(alloc, bytes)?;
-    Ok(answer.is(0, console.as_slice(), report.as_bytes()))
+    has(alloc, &answer, lines, bytes)
+}
+
+/// Runs the programs of a table in a memory of this setting, and counts them.
+fn all_come_to_in(rt: &impl Abort, alloc: Global, setting: &str, rows: &str) -> Result<u32, Fail> {
+    let mut count = 0u32;
+    for row in rows.lines() {
+        if let Some((code, lines, bytes)) = three(row) {
+            let answer = run_by(alloc, setting, code)?;
+            assert!(rt; has(alloc, &answer, lines, bytes)?, "{row}");
+            count = count.saturating_add(1);
+        }
+    }
+    Ok(count)
 }
 
 #[test]
 fn the_same_in_little_memory(rt: HostRuntime) -> Result<(), Fail> {
-    let mut count = 0u32;
-    for rows in [DONE, ERRORS] {
-        for row in rows.lines() {
-            if let Some((code, lines, bytes)) = three(row) {
-                assert!(rt;
-                    comes_to_in_little(rt.alloc(), code, lines, bytes)?,
-                    "{row}"
-                );
-                count = count.saturating_add(1);
-            }
-        }
-    }
-    assert!(rt; count == 27);
+    let done = all_come_to_in(&rt, rt.alloc(), LITTLE, DONE)?;
+    let errors = all_come_to_in(&rt, rt.alloc(), LITTLE, ERRORS)?;
+    let ended = all_come_to_in(&rt, rt.alloc(), LITTLE_AND_ONE, ENDED)?;
+    assert!(rt; done == 17 && errors == 13 && ended == 18);
     Ok(())
 }
+
+/// A memory for all that a process of these programs names at once.
+const LITTLE: &str = "memory = 4096\nswap = 64\nsegments = 1024\n";
+
+/// The same, with a segment of 65,536 bytes.
+const LITTLE_AND_ONE: &str = "memory = 69632\nswap = 64\nsegments = 1024\n";
 
 /// A routine in a segment that is also held as code: called, written to, moved out of memory by others, and called again.
 static MOVED: &str =

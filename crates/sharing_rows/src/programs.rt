@@ -73,7 +73,7 @@ fn write_instructions(code: &mut Vec<u8>, count: &str, bytes: &str) -> Result<u3
 }
 
 /// What one process does: a call, `n` and a text, or `x` and instructions; how many steps it takes.
-fn write_act(code: &mut Vec<u8>, act: &str) -> Result<u32, NoMemory> {
+pub fn write_act(code: &mut Vec<u8>, act: &str) -> Result<u32, NoMemory> {
     let (front, rest) = act.split_once(' ').unwrap_or((act, ""));
     let (second, last) = rest.split_once(' ').unwrap_or((rest, ""));
     match front {
@@ -117,7 +117,7 @@ pub fn programs_of(alloc: Global, row: &str) -> Result<Programs, NoMemory> {
 }
 
 /// A program whose module is named JELLO.
-fn other_program(alloc: Global, code: &[u8]) -> Result<Vec<u8>, NoMemory> {
+pub fn other_program(alloc: Global, code: &[u8]) -> Result<Vec<u8>, NoMemory> {
     let file = program(alloc, code)?;
     let mut bytes = Vec::from_slice(alloc, file.as_slice())?;
     if let Some(letter) = bytes.get_mut(0x91) {

@@ -3,6 +3,7 @@ ghost use Rattle.std.specs.Prelude.{◌≤◌};
 
 use crate::sequence::{Sequence, Word, number};
 use o2_boundless::Held;
+use o2_desc::Access;
 use o2_isa::Cpu;
 
 /// PUSH of each register but SP, with the register.
@@ -62,7 +63,7 @@ impl Sequence {
     fn place_of(&self, pair: &(u16, Held)) -> Place {
         Place {
             index: pair.0,
-            is_writable: pair.1.rights == 0xF2,
+            is_writable: pair.1.rights == Access::WRITABLE_DATA.0,
             size: self.size_of(pair.1.name),
         }
     }
@@ -152,7 +153,7 @@ impl Sequence {
 
     fn good_place(&mut self, process: u16, writes: bool, count: u16) -> Option<Place> {
         let place = self.any_held(process)?;
-        // the code of a module is known in its first 16 bytes alone
+        // the code of a module is known in its front alone
         let is_code = place.index == 1;
         if place.size < count as usize || (writes && !place.is_writable) || is_code {
             None
@@ -201,6 +202,18 @@ impl Sequence {
             self.bad_pointer(process, count)
         } else {
             self.good_pointer(process, writes, count)
+        }
+    }
+
+    /// A pointer to a text: mostly to one of those in the code, at times to any bytes.
+    pub fn text(&mut self, process: u16) -> Pointer {
+        let which = self.dice.roll(6) as usize;
+        match crate::opening::TEXTS.get(which) {
+            Some(offset) => Pointer {
+                selector: number(0x0F - self.dice.roll(4)),
+                offset: *offset,
+            },
+            None => self.pointer(process, false, 1),
         }
     }
 }

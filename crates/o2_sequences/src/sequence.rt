@@ -2,8 +2,7 @@
 ghost use Rattle.std.specs.Prelude.{◌≤◌, ◌<◌};
 
 use crate::dice::Dice;
-use crate::executables::front;
-use crate::opening::{first_name, opening};
+use crate::opening::{first_name, front, opening};
 use o2_base::NoMemory;
 use o2_boundless::{Segment, World};
 use o2_isa::Cpu;
@@ -38,6 +37,9 @@ pub struct Sequence {
     /// How many calls there are, and which of them the world misses; 0 for none.
     pub calls: u32,
     misses: u32,
+    /// What processes held when that was noted: process, selector, and how often; and how long the lines were then.
+    pub noted: Vec<(u16, u16, u32)>,
+    pub told: usize,
 }
 
 /// So many bytes, none of them a zero.
@@ -75,7 +77,8 @@ impl Sequence {
         misses: u32,
     ) -> Result<Sequence, NoMemory> {
         let input = input_of(alloc, 400)?;
-        let world = opening(alloc, processes as usize, 16, &input)?;
+        let segments = u32::from(processes).saturating_mul(3).saturating_add(10);
+        let world = opening(alloc, processes as usize, segments, &input)?;
         let mut script = String::new(alloc);
         let mut codes = Vec::new(alloc);
         for k in 0..processes {
@@ -91,6 +94,8 @@ impl Sequence {
             args: Vec::new(alloc),
             calls: 0,
             misses,
+            noted: Vec::new(alloc),
+            told: 0,
         })
     }
 
@@ -108,6 +113,52 @@ impl Sequence {
         if place < self.world.processes.len() {
             self.world.processes[place].cpu = cpu;
         }
+    }
+
+    /// How many processes there are.
+    pub fn processes(&self) -> u16 {
+        (self.codes.len() % 65_536) as u16
+    }
+
+    /// The k-th of the indexes that a process holds, and how often it does.
+    fn hold(&self, process: u16, k: usize) -> Option<(u16, u32)> {
+        let process = self
+            .world
+            .processes
+            .get((process as usize).wrapping_sub(1))?;
+        let pair = process.held.get(k)?;
+        Some((pair.0, pair.1.holds))
+    }
+
+    fn is_noted(&self, process: u16, selector: u16) -> bool {
+        for row in self.noted.iter() {
+            if row.0 == process && row.1 == selector {
+                return true;
+            }
+        }
+        false
+    }
+
+    // Of two pairs of one index the first counts.
+    fn note_process(&mut self, process: u16) -> Result<(), NoMemory> {
+        for k in 0..self.holds(process) {
+            if let Some((index, holds)) = self.hold(process, k) {
+                let selector = (index % 8192) * 8 + 7;
+                if !self.is_noted(process, selector) {
+                    self.noted.push((process, selector, holds))?;
+                }
+            }
+        }
+        Ok(())
+    }
+
+    /// Notes what each process holds.
+    pub fn note(&mut self) -> Result<(), NoMemory> {
+        for before in 0..self.processes() {
+            self.note_process(before.saturating_add(1))?;
+        }
+        self.told = self.world.lines.len();
+        Ok(())
     }
 
     /// Writes code of a process.

@@ -1,6 +1,7 @@
 // The opening world of processes that hold their code, their data and their environment alone.
 use o2_base::{Bytes, NoMemory};
 use o2_boundless::{Held, How, Process, Segment, World};
+use o2_desc::Access;
 use o2_isa::Cpu;
 use o2_world::State;
 use std::alloc::Global;
@@ -8,8 +9,17 @@ use std::alloc::Global;
 /// How many bytes a segment of code has. The first ones are those of `FRONT`, and what comes behind them is never read by a call.
 pub const CODE: u16 = 0x6000;
 
-/// JMP over 14 bytes.
-pub static FRONT: &[u8; 16] = b"\xEB\x0Efrom the code!";
+/// JMP over 62 bytes, in which texts stand: four names of shared segments, of which two are the same, and one that is no name.
+pub static FRONT: &[u8; 64] =
+    b"\xEB\x3E\\SHAREMEM\\A\0\\sharemem\\a\0\\SHAREMEM\\B\0\\SHAREMEM\\AB\0\\SHAREMEM\\\0!!";
+
+/// Where they begin.
+pub static TEXTS: [u16; 5] = [2, 14, 26, 38, 51];
+
+/// The code of a process before its first call.
+pub fn front(alloc: Global) -> Result<Vec<u8>, NoMemory> {
+    Ok(Vec::from_slice(alloc, FRONT)?)
+}
 
 /// How many bytes the data has, of which the last 512 are the stack.
 pub const DATA: u16 = 528;
@@ -17,7 +27,7 @@ pub const DATA: u16 = 528;
 pub const AVAIL: u32 = 0x1234_5678;
 
 /// The names of the modules, each of one process.
-pub static NAMES: [&str; 2] = ["CAL", "CBL"];
+pub static NAMES: [&str; 8] = ["CAL", "CBL", "CCL", "CDL", "CEL", "CFL", "CGL", "CHL"];
 
 /// A segment of a module, or an environment: these bytes, and zeros behind them.
 pub fn segment(alloc: Global, front: &[u8], size: u16, is_code: bool) -> Result<Segment, NoMemory> {
@@ -70,9 +80,9 @@ fn start(place: u16) -> Cpu {
 /// A process at this place, whose three segments have names from this one on.
 pub fn process(alloc: Global, place: u16, name: u64) -> Result<Process, NoMemory> {
     let mut all = Vec::new(alloc);
-    all.push((1, held(name, 0xFA)))?;
-    all.push((2, held(name.saturating_add(1), 0xF2)))?;
-    all.push((3, held(name.saturating_add(2), 0xF2)))?;
+    all.push((1, held(name, Access::READABLE_CODE.0)))?;
+    all.push((2, held(name.saturating_add(1), Access::WRITABLE_DATA.0)))?;
+    all.push((3, held(name.saturating_add(2), Access::WRITABLE_DATA.0)))?;
     Ok(Process {
         cpu: start(place),
         state: State::Live,
