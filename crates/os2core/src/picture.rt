@@ -149,6 +149,8 @@ pub fn draw(rt: &HostRuntime, core: &Core) -> anyhow::Result<ExitCode> {
     println!(rt;
         "<svg xmlns=\"http://www.w3.org/2000/svg\" viewBox=\"-{MARGIN} 0 {width} {height}\" font-family=\"sans-serif\" font-size=\"12\">"
     )?;
+    // Without a ground of its own the margin's words can't be read on a dark page.
+    println!(rt; "<rect x=\"-{MARGIN}\" width=\"{width}\" height=\"{height}\" fill=\"#ffffff\"/>")?;
     let row = (core.memory.len() as u64).saturating_add(ROWS - 1) / ROWS;
     draw_memory(rt, core, row)?;
     draw_blocks(rt, core)?;
