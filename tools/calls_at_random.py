@@ -37,8 +37,9 @@ class Segment:
 
 
 class Hold:
-    def __init__(self, segment, kind, by_load=False):
-        self.segment, self.kind, self.by_load, self.count = segment, kind, by_load, 1
+    def __init__(self, segment, kind, by_load=False, run=(), count=1):
+        """What a process holds; in a run all its indexes, of which the first ones are held."""
+        self.segment, self.kind, self.by_load, self.run, self.count = segment, kind, by_load, run, count
 
 
 class Trap(Exception):
@@ -146,21 +147,33 @@ class Process:
         return front.split(b"\0")[0]
 
     def back(self, name, shown, error, value=None, moved=()):
-        """The lines of a call that comes back; what it moves are holds and drops of an index, of this process or another."""
+        """The lines of a call that comes back; what it moves are holds and drops of an index, of this process or another, in order."""
         self.ax = error
         self.lines.append(f"{self.pid} call {name} {shown} = {error}" + (f" {value}" if value and not error else ""))
         if not error:
             self.lines += [f"{(of or [self.pid])[0]} {what} {8 * index + 7:04X} by {name}" for what, index, *of in moved]
 
-    def free_index(self, shared):
-        taken = self.machine.shared() if shared else self.held
-        return next((i for i in (range(SHARED, 8192) if shared else range(1, SHARED)) if i not in taken), None)
+    def free_index(self, shared, count=1):
+        """The first of so many indexes in a row that are free."""
+        holders = self.machine.modules if shared else [self]
+        taken = {i for it in holders for index, hold in it.held.items() for i in (index, *hold.run)}
+        first, end = (SHARED, 8192) if shared else (1, SHARED)
+        return next((i for i in range(first, end - count + 1) if taken.isdisjoint(range(i, i + count))), None)
 
-    def hold_more(self, index, segment):
+    def hold_more(self, index, segment, run=()):
         if index in self.held:
             self.held[index].count += 1
         else:
-            self.held[index] = Hold(segment, "data")
+            self.held[index] = Hold(segment, "data", run=run)
+
+    def members(self, index):
+        """The index of a segment alone, or those of all segments that are held of the run of which it is the first; or none."""
+        run = self.held[index].run
+        return [i for i in run if i in self.held] if run and run[0] == index else [] if run else [index]
+
+    def forget(self, indexes):
+        """Selectors in DS and ES of what isn't held any more are 0."""
+        self.ds, self.es = (0 if it & 4 and it >> 3 in indexes else it for it in (self.ds, self.es))
 
     def alloc(self, size, selector, at, flags):
         put = self.pointer(selector, at, 2, True)
@@ -175,7 +188,7 @@ class Process:
 
     def realloc(self, size, selector):
         hold, full = self.under(selector), size or 65536
-        refused = not hold or hold.kind != "data" or selector >> 3 >= SHARED and full < len(hold.segment.bytes)
+        refused = not hold or hold.kind != "data" or hold.run or selector >> 3 >= SHARED and full < len(hold.segment.bytes)
         if not refused:
             del hold.segment.bytes[full:]
             hold.segment.bytes.extend(bytes(full - len(hold.segment.bytes)))
@@ -183,13 +196,14 @@ class Process:
 
     def free(self, selector):
         hold, index = self.under(selector), selector >> 3
-        error = 5 if not hold or hold.by_load else 0
-        if not error:
-            hold.count -= 1
-            if not hold.count:
-                del self.held[index]
-                self.ds, self.es = (0 if it & 4 and it >> 3 == index else it for it in (self.ds, self.es))
-        self.back("DosFreeSeg", f"{selector:04X}", error, None, [("drop", index)])
+        error = 5 if not hold or hold.by_load or not self.members(index) else 0
+        members = [] if error else self.members(index)
+        for i in members:
+            self.held[i].count -= 1
+            if not self.held[i].count:
+                del self.held[i]
+                self.forget([i])
+        self.back("DosFreeSeg", f"{selector:04X}", error, None, [("drop", i) for i in members])
 
     def size(self, selector, other, at):
         put, hold = self.pointer(other, at, 4, True), self.under(selector)
@@ -214,12 +228,56 @@ class Process:
 
     def alias(self, selector, other, at):
         put, hold, index = self.pointer(other, at, 2, True), self.under(selector), self.free_index(False)
-        error = 5 if not hold or selector >> 3 >= SHARED or hold.kind != "data" else 8 if index is None else 0
+        error = 5 if not hold or selector >> 3 >= SHARED or hold.kind != "data" or hold.run else 8 if index is None else 0
         value = 8 * (index or 0) + 7
         if not error:
             put[at : at + 2] = value.to_bytes(2, "little")
             self.held[index] = Hold(hold.segment, "alias")
         self.back("DosCreateCSAlias", f"{selector:04X} {other:04X}:{at:04X}", error, f"{value:04X}", [("hold", index)])
+
+    def alloc_huge(self, whole_ones, part, selector, at, most, flags):
+        put, sizes = self.pointer(selector, at, 2, True), [65536] * whole_ones + [part] * (part > 0)
+        count = max(len(sizes), most)
+        index = self.free_index(flags & 3, count)
+        wrong = flags > 15 or flags & 4 or not sizes or 0 < most < len(sizes)
+        error = 87 if wrong else 8 if index is None or self.machine.left() < len(sizes) else 0
+        value = 8 * (index or 0) + 7
+        if not error:
+            put[at : at + 2] = value.to_bytes(2, "little")
+            for k, size in enumerate(sizes):
+                self.held[index + k] = Hold(Segment(size, flags), "data", run=range(index, index + count))
+        shown = f"{whole_ones:04X} {part:04X} {selector:04X}:{at:04X} {most:04X} {flags:04X}"
+        self.back("DosAllocHuge", shown, error, f"{value:04X}", [("hold", (index or 0) + k) for k in range(len(sizes))])
+
+    def realloc_huge(self, whole_ones, part, selector):
+        hold, index, sizes = self.under(selector), selector >> 3, [65536] * whole_ones + [part] * (part > 0)
+        members = self.members(index) if hold and hold.run else []
+        shorter = index >= SHARED and sum(sizes) < sum(len(self.held[i].segment.bytes) for i in members)
+        going, new = members[len(sizes) :], range(index + len(members), index + len(sizes))
+        used = {self.cs >> 3, DATA} & set(going)
+        error = 5 if not members else 87 if not sizes else 8 if len(sizes) > len(hold.run) else 5 if shorter or used else 0
+        error = error or 8 * (self.machine.left() < len(new))
+        moved = []
+        if not error:
+            for i, size in zip(members, sizes):
+                held = self.held[i].segment.bytes
+                del held[size:]
+                held.extend(bytes(size - len(held)))
+            owners = [it for it in self.machine.modules if it is self or index >= SHARED and index in it.held]
+            for i, size in zip(new, sizes[len(members) :]):
+                segment = Segment(size, hold.segment.flags)
+                for it in owners:
+                    it.held[i] = Hold(segment, "data", run=hold.run, count=it.held[index].count)
+            moved = [("hold", i, it.pid) for it in owners for i in new for _ in range(it.held[index].count)]
+            moved += [("drop", i) for i in going for _ in range(hold.count)]
+            for i in going:
+                del self.held[i]
+            self.forget(going)
+        self.back("DosReallocHuge", f"{whole_ones:04X} {part:04X} {selector:04X}", error, None, moved)
+
+    def shift(self, selector, at):
+        self.pointer(selector, at, 2, True)[at : at + 2] = (3).to_bytes(2, "little")
+        self.back("DosGetHugeShift", f"{selector:04X}:{at:04X}", 0, "0003")
 
     def write(self, selector, at, count, other, to):
         piece = bytes(self.pointer(selector, at, count, False)[at : at + count])
@@ -259,7 +317,7 @@ class Process:
     def room_of(self, selector):
         """How many bytes of a segment are known, and are free for values."""
         hold = self.under(selector)
-        return 0 if not hold or hold.segment.is_code else FRONT if hold is self.held[DATA] else len(hold.segment.bytes)
+        return 0 if not hold or hold.segment.is_code else FRONT if hold.segment is self.held[DATA].segment else len(hold.segment.bytes)
 
     def place(self, selector, count):
         """Where in a segment some bytes may lie; by chance, and where there is no such place, past its end."""
@@ -293,7 +351,8 @@ class Process:
     def choices(self):
         return [self.choose_alloc, self.choose_alloc, self.choose_realloc, self.choose_free, self.choose_size, self.choose_lock,
                 self.choose_unlock, self.choose_alias, self.choose_load, self.choose_load, self.choose_null, self.choose_put,
-                self.choose_put, self.choose_add, self.choose_count, self.choose_write, self.choose_go]
+                self.choose_put, self.choose_add, self.choose_count, self.choose_write, self.choose_go, self.choose_alloc_huge,
+                self.choose_realloc_huge, self.choose_realloc_huge, self.choose_shift]
 
     def new_flags(self):
         dice = self.dice
@@ -310,6 +369,30 @@ class Process:
     def choose_free(self):
         selector = self.any([*self.made(), *self.made(), *self.made(), CODE, DATA, TEXTS, ENVIRONMENT])
         self.call(7, lambda: self.free(selector), selector)
+
+    def new_lengths(self):
+        """Full segments, and a part behind them."""
+        dice = self.dice
+        return dice.choice([0, 0, 1, 1, 2, 3, dice.randrange(65536) if dice.random() < 0.1 else 1]), dice.choice([0, self.new_size()])
+
+    def choose_alloc_huge(self):
+        dice, (whole_ones, part), (selector, at) = self.dice, self.new_lengths(), self.target(2)
+        count = whole_ones + (part > 0)
+        most = dice.choice([0, count, (count + 1) % 65536, (count + 2) % 65536, dice.randrange(6), dice.randrange(4000, 4200)])
+        flags = self.new_flags() & ~4 if dice.random() < 0.9 else self.new_flags()
+        self.call(16, lambda: self.alloc_huge(whole_ones, part, selector, at, most, flags), whole_ones, part, selector, at, most, flags)
+
+    def choose_realloc_huge(self):
+        runs = [index for index, hold in self.held.items() if hold.run]
+        first, (whole_ones, part) = [index for index in runs if self.held[index].run[0] == index], self.new_lengths()
+        if not runs and self.dice.random() < 0.9:
+            return
+        selector = self.any([*first, *first, *first, *first, *runs] if self.dice.random() < 0.9 else self.made())
+        self.call(17, lambda: self.realloc_huge(whole_ones, part, selector), whole_ones, part, selector)
+
+    def choose_shift(self):
+        selector, at = self.target(2)
+        self.call(18, lambda: self.shift(selector, at), selector, at)
 
     def choose_size(self):
         selector, (other, at) = self.any([*self.made(), DATA, TEXTS, ENVIRONMENT]), self.target(4)
@@ -369,7 +452,7 @@ class Process:
             self.emit("9A0000" + self.word(selector), lambda: self.go(selector))
             self.steps.append((0, lambda: self.go(8 * CODE + 7)))
             return
-        own = [index for index in self.made("data") if index < SHARED]
+        own = [index for index in self.made("data") if index < SHARED and not self.held[index].run]
         if own:
             selector = 8 * self.dice.choice(own) + 7
             self.emit("B8" + self.word(selector))
@@ -420,20 +503,23 @@ class Sharer(Process):
 
     def give(self, selector, number, other, at):
         put, hold, to, index = self.pointer(other, at, 2, True), self.under(selector), self.machine.living(number), selector >> 3
-        error = 5 if not hold or index < SHARED or not hold.segment.flags & 1 else 0 if to else 303
+        members = self.members(index) if hold and index >= SHARED and hold.segment.flags & 1 else []
+        error = 5 if not members else 0 if to else 303
         value = 8 * index + 7
         if not error:
             put[at : at + 2] = value.to_bytes(2, "little")
-            to.hold_more(index, hold.segment)
-        self.back("DosGiveSeg", f"{selector:04X} {number:04X} {other:04X}:{at:04X}", error, f"{value:04X}", [("hold", index, number)])
+            for i in members:
+                to.hold_more(i, self.held[i].segment, hold.run)
+        moved = [("hold", i, number) for i in members]
+        self.back("DosGiveSeg", f"{selector:04X} {number:04X} {other:04X}:{at:04X}", error, f"{value:04X}", moved)
 
     def get(self, selector):
         index = selector >> 3
-        segment = self.machine.under(index) if selector & 4 and index >= SHARED else None
-        error = 0 if segment and segment.flags & 2 else 5
-        if not error:
-            self.hold_more(index, segment)
-        self.back("DosGetSeg", f"{selector:04X}", error, None, [("hold", index)])
+        holder = self.machine.holder(index) if selector & 4 and index >= SHARED else None
+        members = holder.members(index) if holder and holder.held[index].segment.flags & 2 else []
+        for i, hold in [(i, holder.held[i]) for i in members]:
+            self.hold_more(i, hold.segment, hold.run)
+        self.back("DosGetSeg", f"{selector:04X}", 0 if members else 5, None, [("hold", i) for i in members])
 
     def move(self, source, target):
         byte = self.byte(self.ds, source, False).bytes[source]
@@ -587,8 +673,12 @@ class Callers:
         """Each segment but code with its size and its lock count, which calls and ends alone change: steps that have lines."""
         return {id(segment): (segment, len(segment.bytes), segment.lock) for segment in self.names() if not segment.is_code}
 
+    def left(self):
+        """How many segments more may live."""
+        return self.segments - len(self.names())
+
     def is_full(self):
-        return len(self.names()) >= self.segments
+        return self.left() < 1
 
     def shared(self):
         return {index for it in self.modules for index in it.held if index >= SHARED}
@@ -597,9 +687,14 @@ class Callers:
         """The process of this number, where it lives."""
         return next((it for it in self.modules if it.live and it.pid == number), None)
 
+    def holder(self, index):
+        """A process that holds something under a shared index."""
+        return next((it for it in self.modules if index in it.held), None)
+
     def under(self, index):
         """The segment that somebody holds under a shared index."""
-        return next((it.held[index].segment for it in self.modules if index in it.held), None)
+        holder = self.holder(index)
+        return holder and holder.held[index].segment
 
     def named(self, name):
         """The index of the segment that has a name, which goes with its last hold."""

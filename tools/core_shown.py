@@ -1,4 +1,5 @@
 """What os2core has to write of core images, from what core_image reads of them."""
+import re
 
 
 def selector(index):
@@ -89,6 +90,32 @@ def segment_lines(core, number):
     for at in range(0, entry.size, 16):
         line = held[at : at + 16]
         yield f"  {at:04X}  {line.hex().upper()}  {''.join(chr(byte) if 32 <= byte < 127 else '.' for byte in line)}"
+
+
+def picture_parts(core):
+    """Left, top, width and title of each part of the picture, 960 points wide: the memory in sixteen rows, 24 points apart, and the blocks in one more."""
+    row = -(-core.size // 16)
+    for number, entry in sorted(enumerate(core.segments), key=lambda it: it[1].place[1] if it[1].place and it[1].place[0] == "memory" else 0):
+        if entry.place and entry.place[0] == "memory":
+            at, end = entry.place[1], entry.place[1] + -(-entry.size // 16) * 16
+            while at < end:
+                line = at // row
+                to = min((line + 1) * row, end)
+                left, right = ((place - line * row) * 960 // row for place in (at, to))
+                yield left, 24 * line, max(right - left, 1), f"segment {number}, {at:06X}h"
+                at = to
+    for block, number, _ in uses(core):
+        left, right = (place * 960 // core.blocks for place in (block, block + 1))
+        yield left, 408, max(right - left, 1), f"segment {number}, block {block}"
+
+
+def picture_shown(text):
+    """The same of a picture that was drawn, whose first rectangle is as large as all of it; or None."""
+    box, ground = re.search(r'viewBox="(-\d+) 0 (\d+) (\d+)"', text), re.search(r'<rect x="(-\d+)" width="(\d+)" height="(\d+)" fill="#ffffff"/>', text)
+    if not box or not ground or box.groups() != ground.groups():
+        return None
+    found = re.findall(r'<rect x="(\d+)" y="(\d+)" width="(\d+)" [^>]*><title>([^<]*)</title></rect>', text)
+    return [(int(left), int(top), int(width), title) for left, top, width, title in found]
 
 
 def told(core):

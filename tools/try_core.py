@@ -147,7 +147,7 @@ def check_difference():
 
 
 def check_picture():
-    """Each segment in memory and each block in use has a rectangle with its number, which stands in it where it is wide enough; and each row
+    """Each segment in memory and each block in use has its rectangles with its number, which stands in it where it is wide enough; and each row
     its address."""
     trying.count()
     status, text = said("os2core", "svg", "small.core")
@@ -155,10 +155,10 @@ def check_picture():
     wanted = [f"{64 * row:06X}h" for row in range(16)] + ["1", "3", "3", "3", "3", "blocks", "2", "2"]
     if written != wanted:
         wrong(f"os2core svg: {written}; wanted {wanted}")
-    found = [line for line in text.splitlines() if "<title>" in line]
-    for title, many in (("segment 1, ", 1), ("segment 3, ", 4), ("segment 2, block 0", 1), ("segment 2, block 2", 1)):
-        if status or sum(f"<title>{title}" in line for line in found) != many:
-            wrong(f"os2core svg: status {status}, {title} isn't drawn {many} times: {text!r}")
+    parts = [(0, 24, 480, "segment 1, 000040h"), *((0, 24 * (4 + k), 960, f"segment 3, {256 + 64 * k:06X}h") for k in range(4)),
+             (0, 408, 240, "segment 2, block 0"), (480, 408, 240, "segment 2, block 2")]
+    if status or core_shown.picture_shown(text) != parts or list(core_shown.picture_parts(core_image.Read(core_image.small()))) != parts:
+        wrong(f"os2core svg: status {status}, {core_shown.picture_shown(text)}; wanted {parts}")
 
 
 def commands_of(page):

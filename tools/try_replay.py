@@ -13,10 +13,11 @@ PREFIXES = (0x26, 0x2E, 0x36, 0x3E, 0xF2, 0xF3)
 STRINGS = (0xA4, 0xA5, 0xA6, 0xA7, 0xAA, 0xAB, 0xAC, 0xAD, 0xAE, 0xAF)
 # The calls that are built, with their ordinals and the numbers of their gates.
 GATES = {"DosExit": 1, "DosGetPID": 2, "DosRead": 3, "DosWrite": 4, "DosAllocSeg": 5, "DosReallocSeg": 6, "DosFreeSeg": 7, "DosSizeSeg": 8,
-         "DosLockSeg": 9, "DosUnlockSeg": 10, "DosCreateCSAlias": 11, "DosAllocShrSeg": 12, "DosGetShrSeg": 13, "DosGiveSeg": 14, "DosGetSeg": 15, "DosMemAvail": 19}
+         "DosLockSeg": 9, "DosUnlockSeg": 10, "DosCreateCSAlias": 11, "DosAllocShrSeg": 12, "DosGetShrSeg": 13, "DosGiveSeg": 14, "DosGetSeg": 15,
+         "DosAllocHuge": 16, "DosReallocHuge": 17, "DosGetHugeShift": 18, "DosMemAvail": 19}
 ORDINALS = {5: "DosExit", 94: "DosGetPID", 137: "DosRead", 138: "DosWrite", 34: "DosAllocSeg", 38: "DosReallocSeg", 39: "DosFreeSeg", 126: "DosSizeSeg",
             122: "DosLockSeg", 123: "DosUnlockSeg", 43: "DosCreateCSAlias", 35: "DosAllocShrSeg", 36: "DosGetShrSeg", 37: "DosGiveSeg", 121: "DosGetSeg",
-            127: "DosMemAvail"}
+            40: "DosAllocHuge", 42: "DosReallocHuge", 41: "DosGetHugeShift", 127: "DosMemAvail"}
 GROUPS = (0x80, 0x81, 0x83, 0xC0, 0xC1, 0xD0, 0xD1, 0xD2, 0xD3, 0xF6, 0xF7)
 ARITHMETIC = 0x0CD5
 

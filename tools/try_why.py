@@ -29,7 +29,7 @@ TITLES = {
     "a reference to another module": "it refers to the module VIOCALLS, which is neither",
     "DOSCALLS.DosOpen": "it imports DOSCALLS.DosOpen, and this machine has no call of that name",
     "machine file, ordinals replace the whole list": "it imports DOSCALLS.5 (DosExit), which the table [ordinals] of the machine file leaves out",
-    "DOSCALLS.40": "it imports DOSCALLS.40 (DosAllocHuge), which isn't built yet", "DOSCALLS.70": "it imports DOSCALLS.70, and this machine has no call of that ordinal",
+    "DOSCALLS.146": "it imports DOSCALLS.146 (DosSubSet), which isn't built yet", "DOSCALLS.70": "it imports DOSCALLS.70, and this machine has no call of that ordinal",
     "DOSCALLS.999": "it imports DOSCALLS.999, and this machine has no call of that ordinal",
     "machine file, a process of no module": "a process runs the module hello.exe, which no file of `modules` is",
 }
@@ -194,8 +194,8 @@ def names(refusals):
     for target, line in (
         ("LIB.ONE", None), ("LIB.1", None), ("LIB.TWO", "  reason 12: it imports LIB.TWO, and LIB exports no such name"),
         ("LIB.2", "  reason 11: it imports LIB.2, and LIB has no entry of that ordinal"),
-        ("DOSCALLS.DosAllocHuge", "  reason 12: it imports DOSCALLS.DosAllocHuge, which isn't built yet"),
-        ("DOSCALLS.DOSALLOCHUGE", "  reason 12: it imports DOSCALLS.DOSALLOCHUGE, which isn't built yet"), ("DOSCALLS.DOSWRITE", None),
+        ("DOSCALLS.DosSubSet", "  reason 12: it imports DOSCALLS.DosSubSet, which isn't built yet"),
+        ("DOSCALLS.DOSSUBSET", "  reason 12: it imports DOSCALLS.DOSSUBSET, which isn't built yet"), ("DOSCALLS.DOSWRITE", None),
         ("DOSCALLS.DosAllocSeg", None), ("DOSCALLS.DosCreateCSAlias", None),
         ("A.B", "  reason 10: it refers to the module A, which is neither DOSCALLS nor a library among the files that are named"),
     ):
@@ -210,10 +210,10 @@ def names(refusals):
 def ordinals(refusals):
     """Imports by ordinal under a list of ordinals of the machine file's own."""
     with open("own.toml", "w") as file:
-        file.write(refusals.TOP.replace("hello.exe", "use.exe") + '[[process]]\nmodule = "USE"\n[ordinals]\nDosWrite = 138\nDosAllocHuge = 137\nDosReallocHuge = 200\n')
+        file.write(refusals.TOP.replace("hello.exe", "use.exe") + '[[process]]\nmodule = "USE"\n[ordinals]\nDosWrite = 138\nDosSubSet = 137\nDosSubAlloc = 200\n')
     for ordinal, line in (
-        (138, None), (137, "DOSCALLS.137 (DosAllocHuge), which isn't built yet"), (200, "DOSCALLS.200 (DosReallocHuge), which isn't built yet"),
-        (40, "DOSCALLS.40 (DosAllocHuge), which isn't built yet"), (34, "DOSCALLS.34 (DosAllocSeg), which the table [ordinals] of the machine file leaves out"), (94, "DOSCALLS.94 (DosGetPID), which the table [ordinals] of the machine file leaves out"),
+        (138, None), (137, "DOSCALLS.137 (DosSubSet), which isn't built yet"), (200, "DOSCALLS.200 (DosSubAlloc), which isn't built yet"),
+        (146, "DOSCALLS.146 (DosSubSet), which isn't built yet"), (34, "DOSCALLS.34 (DosAllocSeg), which the table [ordinals] of the machine file leaves out"), (94, "DOSCALLS.94 (DosGetPID), which the table [ordinals] of the machine file leaves out"),
         (201, "DOSCALLS.201, and this machine has no call of that ordinal"),
     ):
         trying.count()
@@ -255,7 +255,7 @@ def inventory(refusals):
     """What executables import, how many open, and what is missing most."""
     trying.count()
     records = refusals.HELLO.index(b"\x03\x01\x0c\x00")
-    for name, ordinal in (("one.exe", 40), ("two.exe", 40), ("three.exe", 70)):
+    for name, ordinal in (("one.exe", 146), ("two.exe", 146), ("three.exe", 70)):
         with open(name, "wb") as file:
             file.write(refusals.row(refusals.HELLO, records + 6, ordinal))
     with open("text.exe", "w") as file:
@@ -267,7 +267,7 @@ def inventory(refusals):
         wrong(f"os2why imports upper.exe: {said('os2why', 'imports', 'upper.exe')}; wanted {wanted}")
     status, text = said("os2why", "imports", "hello.exe", "one.exe", "two.exe", "three.exe", "text.exe")
     lines = text.splitlines()
-    wanted = ["1 of 5 files open", "     2 DOSCALLS.DosAllocHuge is missing", "     1 DOSCALLS.70 is missing", "     4 DOSCALLS.DosExit is built", "     1 DOSCALLS.DosWrite is built"]
+    wanted = ["1 of 5 files open", "     2 DOSCALLS.DosSubSet is missing", "     1 DOSCALLS.70 is missing", "     4 DOSCALLS.DosExit is built", "     1 DOSCALLS.DosWrite is built"]
     if status or lines[5:] != wanted or lines[1] != "one.exe: 1 of its imports are built, 1 are missing":
         wrong(f"os2why imports: status {status}, {text!r}; wanted {wanted}")
 
