@@ -15,7 +15,9 @@ pub fn bit_number(flag: Flag) -> u8
 }
 
 /// The flags word with one flag put, all other bits as they are.
-#[inline(always)]
+// A hint alone, as for the sums: an order is dropped where it makes who calls very large, and that took the orders from `binary`
+// and `unary`.
+#[inline]
 pub fn with_flag(f: u16, flag: Flag, on: bool) -> u16
     ensures { result ≡ put f flag on }
 {
@@ -36,7 +38,7 @@ pub fn with_flag(f: u16, flag: Flag, on: bool) -> u16
 }
 
 /// Whether a flag is set.
-#[inline(always)]
+#[inline]
 pub fn is_set(f: u16, flag: Flag) -> bool
     ensures { result ≡ is_set_of f flag }
 {

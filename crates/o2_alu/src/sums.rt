@@ -58,7 +58,7 @@ fn sum_overflow(w: Width, a: u16, b: u16, carry: bool) -> bool
 }
 
 /// ADD and, with CF for `carry`, ADC: the sum and the flags word.
-#[inline(always)]
+#[inline]
 #[tactic(auto, unfolding(o2_isa::specs::Sums::add_of))]
 pub fn add(w: Width, a: u16, b: u16, carry: bool, f: u16) -> (u16, u16)
     requires left { IsOfWidth w a }
@@ -115,7 +115,7 @@ fn difference_overflow(w: Width, a: u16, b: u16, borrow: bool) -> bool
 }
 
 /// SUB, CMP and, with CF for `borrow`, SBB: the difference and the flags word.
-#[inline(always)]
+#[inline]
 #[tactic(auto, unfolding(o2_isa::specs::Sums::sub_of))]
 pub fn sub(w: Width, a: u16, b: u16, borrow: bool, f: u16) -> (u16, u16)
     requires left { IsOfWidth w a }
@@ -134,7 +134,7 @@ pub fn sub(w: Width, a: u16, b: u16, borrow: bool, f: u16) -> (u16, u16)
 }
 
 /// INC: one more, and the flags word with CF as it is.
-#[inline(always)]
+#[inline]
 #[tactic(auto, unfolding(o2_isa::specs::Sums::increment_of))]
 pub fn increment(w: Width, a: u16, f: u16) -> (u16, u16)
     requires { IsOfWidth w a }
@@ -148,7 +148,7 @@ pub fn increment(w: Width, a: u16, f: u16) -> (u16, u16)
 }
 
 /// DEC: one less, and the flags word with CF as it is.
-#[inline(always)]
+#[inline]
 #[tactic(auto, unfolding(o2_isa::specs::Sums::decrement_of))]
 pub fn decrement(w: Width, a: u16, f: u16) -> (u16, u16)
     requires { IsOfWidth w a }
@@ -162,7 +162,7 @@ pub fn decrement(w: Width, a: u16, f: u16) -> (u16, u16)
 }
 
 /// NEG: the number with the other sign, and the flags word.
-#[inline(always)]
+#[inline]
 #[tactic(auto, unfolding(o2_isa::specs::Sums::negate_of))]
 pub fn negate(w: Width, a: u16, f: u16) -> (u16, u16)
     requires { IsOfWidth w a }
@@ -201,7 +201,7 @@ fn logic_result(op: LogicOp, w: Width, a: u16, b: u16) -> u16
 }
 
 /// AND, OR and XOR: the result and the flags word. TEST gives the flags word of AND.
-#[inline(always)]
+#[inline]
 #[tactic(auto, unfolding(o2_isa::specs::Sums::logic_of))]
 pub fn logic(op: LogicOp, w: Width, a: u16, b: u16, f: u16) -> (u16, u16)
     requires left { IsOfWidth w a }

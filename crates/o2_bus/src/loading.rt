@@ -36,6 +36,7 @@ pub fn shown(access: u8) -> u8
     Access(access).with_present(true).marked().0
 }
 
+#[inline(always)]
 fn passes(purpose: Purpose, access: u8) -> bool
     ensures { result ≡ passes_of purpose access }
 {
@@ -54,6 +55,7 @@ fn refuses(sel: u16) -> Loaded
     Loaded::Trap(13, sel - sel % 4)
 }
 
+#[inline(always)]
 fn tested(purpose: Purpose, sel: u16, target: Option<LoadTarget>) -> Loaded
     ensures { result ≡ tested_by sel (passes_of purpose) target }
 {
@@ -85,6 +87,7 @@ fn far_call(sel: u16, target: Option<LoadTarget>) -> Loaded
 }
 
 /// The load rules, and then the present test, for a selector and the segment that it names.
+#[inline(always)]
 pub fn load_by(purpose: Purpose, sel: u16, target: Option<LoadTarget>) -> Loaded
     ensures { result ≡ rules_of purpose sel target }
 {

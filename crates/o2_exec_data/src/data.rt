@@ -20,6 +20,8 @@ use o2_alu::is_set;
 use o2_bus::{Bus, check_unlocked, outcome_of};
 use o2_isa::{AdjustOp, BinaryOp, Cpu, Flag, Instr, Op, Outcome, ShiftOp, Sreg, Stop, UnaryOp};
 
+// In line with the step, as the two below: calls and answers on the way would cost a fifth of it.
+#[inline(always)]
 #[tactic(auto, unfolding(o2_isa::specs::Meaning::group_of))]
 fn execute_one<B: Bus>(cpu: &mut Cpu, bus: &mut B, i: &Instr, next: u16) -> Result<(), Stop>
     requires group { group_of i.now.op ≡ Data }
@@ -86,6 +88,7 @@ fn execute_one<B: Bus>(cpu: &mut Cpu, bus: &mut B, i: &Instr, next: u16) -> Resu
     }
 }
 
+#[inline(always)]
 #[tactic(auto, unfolding(o2_isa::specs::Meaning::meaning, o2_isa::specs::Meaning::steps_of))]
 fn execute_unlocked<B: Bus>(cpu: &mut Cpu, bus: &mut B, i: &Instr, next: u16) -> Result<(), Stop>
     requires group { group_of i.now.op ≡ Data }
@@ -96,6 +99,7 @@ fn execute_unlocked<B: Bus>(cpu: &mut Cpu, bus: &mut B, i: &Instr, next: u16) ->
 }
 
 /// One data instruction, with the IP behind it: what it means, or a miss that leaves registers and bytes as they were.
+#[inline(always)]
 #[tactic(auto, using(o2_isa::proofs::StepLaws::answers_from))]
 pub fn execute<B: Bus>(cpu: &mut Cpu, bus: &mut B, i: &Instr, next: u16) -> Outcome
     requires group { group_of i.now.op ≡ Data }

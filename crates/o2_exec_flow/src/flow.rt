@@ -34,6 +34,8 @@ fn execute_jcc<B: Bus>(
     execute_jmp_if(cpu, bus, taken, relative(&i.left, next), next)
 }
 
+// In line with the step, as the two below: calls and answers on the way would cost a fifth of it.
+#[inline(always)]
 #[tactic(auto, unfolding(o2_isa::specs::Meaning::group_of))]
 fn execute_one<B: Bus>(cpu: &mut Cpu, bus: &mut B, i: &Instr, next: u16) -> Result<(), Stop>
     requires group { group_of i.now.op ≡ Flow }
@@ -121,6 +123,7 @@ fn execute_one<B: Bus>(cpu: &mut Cpu, bus: &mut B, i: &Instr, next: u16) -> Resu
     }
 }
 
+#[inline(always)]
 #[tactic(auto, unfolding(o2_isa::specs::Meaning::meaning, o2_isa::specs::Meaning::steps_of))]
 fn execute_unlocked<B: Bus>(cpu: &mut Cpu, bus: &mut B, i: &Instr, next: u16) -> Result<(), Stop>
     requires group { group_of i.now.op ≡ Flow }
@@ -131,6 +134,7 @@ fn execute_unlocked<B: Bus>(cpu: &mut Cpu, bus: &mut B, i: &Instr, next: u16) ->
 }
 
 /// One flow instruction, with the IP behind it: what it means, or a miss that leaves registers and bytes as they were.
+#[inline(always)]
 #[tactic(auto, using(o2_isa::proofs::StepLaws::answers_from))]
 pub fn execute<B: Bus>(cpu: &mut Cpu, bus: &mut B, i: &Instr, next: u16) -> Outcome
     requires group { group_of i.now.op ≡ Flow }

@@ -13,6 +13,8 @@ use o2_bus::{Bus, check_unlocked, outcome_of};
 use o2_isa::{Cpu, Instr, Op, Outcome, Stop};
 
 /// One repetition, or none where CX is 0 behind a repeat prefix.
+// In line with the step, as the two below: calls and answers on the way would cost a fifth of it.
+#[inline(always)]
 #[tactic(auto, unfolding(o2_isa::specs::Meaning::group_of))]
 fn execute_counted<B: Bus>(cpu: &mut Cpu, bus: &mut B, i: &Instr, next: u16) -> Result<(), Stop>
     requires group { group_of i.now.op ≡ Strings }
@@ -33,6 +35,7 @@ fn execute_counted<B: Bus>(cpu: &mut Cpu, bus: &mut B, i: &Instr, next: u16) -> 
     }
 }
 
+#[inline(always)]
 #[tactic(auto, unfolding(o2_isa::specs::Meaning::meaning, o2_isa::specs::Meaning::steps_of))]
 fn execute_unlocked<B: Bus>(cpu: &mut Cpu, bus: &mut B, i: &Instr, next: u16) -> Result<(), Stop>
     requires group { group_of i.now.op ≡ Strings }
@@ -44,6 +47,7 @@ fn execute_unlocked<B: Bus>(cpu: &mut Cpu, bus: &mut B, i: &Instr, next: u16) ->
 
 /// One repetition of a string instruction, with the IP behind it: what it means; a trap leaves registers and bytes as they
 /// were. IP stays where more repetitions follow.
+#[inline(always)]
 #[tactic(auto, using(o2_isa::proofs::StepLaws::answers_from))]
 pub fn execute<B: Bus>(cpu: &mut Cpu, bus: &mut B, i: &Instr, next: u16) -> Outcome
     requires group { group_of i.now.op ≡ Strings }

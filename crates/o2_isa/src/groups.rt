@@ -16,6 +16,7 @@ pub enum Group {
 }
 
 /// The group of an instruction.
+#[inline(always)]
 #[tactic(auto, unfolding(crate::specs::Meaning::group_of))]
 pub fn instruction_group(op: Op) -> Group
     ensures { result ≡ group_of op }

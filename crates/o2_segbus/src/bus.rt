@@ -28,12 +28,15 @@ impl Bus for SegBus<'_, '_> {
         ten(self.store.memory(), &self.registers.cs.descriptor, ip)
     }
 
+    // In line, as the load behind it, so that both look the descriptor up once.
+    #[inline(always)]
     fn probe(&mut self, purpose: Purpose, sel: Selector) -> Loaded {
         let descriptor = named(self.regions, self.pid, sel.0);
         let wanted = target(descriptor);
         load_by(purpose, sel.0, wanted)
     }
 
+    #[inline(always)]
     fn load(&mut self, reg: Sreg, sel: Selector) {
         let descriptor = loaded(self.regions, self.pid, sel.0);
         mark_named(self.regions, self.pid, sel.0);
