@@ -1,8 +1,9 @@
 -- Steps of a turn that are done at once, as steps of the world.
-use Rattle.std.proofs.Common.{◌≡◌, ℕ, zero, suc, ◌-◌, ◌<◌, ◌≤◌, ◌==◌, ◌&&◌, nat_lt, if◌then◌else◌, Bool, true, false, List, length, ap, sym, ◌∙◌, refl, subst, arith}
+use Rattle.std.proofs.Common.{◌≡◌, ℕ, zero, suc, ◌<◌, ◌≤◌, ◌==◌, if◌then◌else◌, Bool, true, false, List, length, ap, sym, ◌∙◌, refl, subst, arith}
 use Rattle.std.specs.Prelude.{Option, Some, None, is_some, min}
 use Rattle.std.proofs.lemmas.Bool.{false≢true}
-use Rattle.o2_conf.specs.Dispatch.{Dispatch, live_script, lives, started}
+use Rattle.o2_conf.proofs.Choice.{chosen_lives}
+use Rattle.o2_conf.specs.Dispatch.{Dispatch, lives}
 use Rattle.o2_run.specs.Slice.{AreSilent, Slices}
 use Rattle.o2_sched.specs.Schedule.{Schedule, ahead_of, next_of}
 use Rattle.o2_slices.specs.Laters.{StandsLater, counted_by}
@@ -35,59 +36,51 @@ pub not_stopped : (o : Option Last) (turn : Turn) → is_some o ≡ false → st
 not_stopped None turn none e = cc
 not_stopped (Some last) turn none e = false≢true (sym none)
 
--- what may be taken at once is of a turn that was begun: fewer steps than it has left, and no more than the budget
-pub record IsBegun (s : Schedule) (k : ℕ) : Type 0 where
+-- what may be taken at once is of the turn that the next step is of: no more steps than it has left, and no more than the budget
+pub record IsAhead (s : Schedule) (k : ℕ) : Type 0 where
   pub any : any_of s ≡ true
-  pub live : lives s.flags s.dispatch.current ≡ true
-  pub turn : k < s.dispatch.left
+  pub live : lives s.flags (next_of s).current ≡ true
+  pub turn : k ≤ (next_of s).left
   pub budget : k ≤ s.dispatch.budget
-  pub next : next_of s ≡ s.dispatch
 
-kept_if : (b : Bool) (x y : Dispatch) → b ≡ true → (if b then x else y) ≡ x
-kept_if b x y e = rw e refl
+by_test : (a : Bool) (l n k : ℕ) → k ≡ (if a then min l n else 0) → 0 < k → (a ≡ true) × (k ≡ min l n)
+by_test true l n k e some = (refl, e)
+by_test false l n k e some = absurd (omega (arith, e, some))
 
-by_tests : (a b c : Bool) (l n k : ℕ) → k ≡ (if a && (b && c) then min (l - 1) n else 0) → 0 < k → (a ≡ true) × ((b ≡ true) × ((c ≡ true) × (k ≡ min (l - 1) n)))
-by_tests true true true l n k e some = (refl, (refl, (refl, e)))
-by_tests true true false l n k e some = absurd (omega (arith, e, some))
-by_tests true false c l n k e some = absurd (omega (arith, e, some))
-by_tests false b c l n k e some = absurd (omega (arith, e, some))
+in_turn : (l n k : ℕ) → k ≡ min l n → k ≤ l
+in_turn l n k e = omega (arith, e)
 
-fewer : (l n k : ℕ) → k ≡ min (l - 1) n → 0 < k → k < l
-fewer l n k e some = omega (arith, e, some)
+in_budget : (l n k : ℕ) → k ≡ min l n → k ≤ n
+in_budget l n k e = omega (arith, e)
 
-within : (l n k : ℕ) → k ≡ min (l - 1) n → k ≤ n
-within l n k e = omega (arith, e)
-
-pub is_begun : (s : Schedule) (k : ℕ) → k ≡ ahead_of s → 0 < k → IsBegun s k
-is_begun s k is some =
-    let t = by_tests (any_of s) (nat_lt 1 s.dispatch.left) (lives s.flags s.dispatch.current) s.dispatch.left s.dispatch.budget k is some in
-    let turn : k < s.dispatch.left = fewer s.dispatch.left s.dispatch.budget k t.1.1.1 some in
+pub is_ahead : (s : Schedule) (k : ℕ) → k ≡ ahead_of s → 0 < k → IsAhead s k
+is_ahead s k is some =
+    let t = by_test (any_of s) (next_of s).left s.dispatch.budget k is some in
     record {
       any = t.0;
-      live = t.1.1.0;
-      turn = turn;
-      budget = within s.dispatch.left s.dispatch.budget k t.1.1.1;
-      next = kept_if (nat_lt 0 s.dispatch.left && lives s.flags s.dispatch.current) s.dispatch (started s.quantum s.flags s.dispatch (live_script s.flags s.dispatch.script)) (rw t.1.1.0 (grind (arith, turn)));
+      live = chosen_lives s.quantum s.flags s.dispatch t.0;
+      turn = in_turn (next_of s).left s.dispatch.budget k t.1;
+      budget = in_budget (next_of s).left s.dispatch.budget k t.1;
     }
 
-module _ (m : Machine) (device : ℕ) (block : ℕ → List ℕ) (s : Setting) (w : World) (most : ℕ) (stands : StandsFor m device block s w) (begun : IsBegun m.sched most) (some : 0 < most) where
-  next_is : next_dispatch s w ≡ m.sched.dispatch
-  next_is = rw (stands.flags, stands.dispatch, stands.quantum) begun.next
+module _ (m : Machine) (device : ℕ) (block : ℕ → List ℕ) (s : Setting) (w : World) (most : ℕ) (stands : StandsFor m device block s w) (ahead : IsAhead m.sched most) (some : 0 < most) where
+  next_is : next_dispatch s w ≡ next_of m.sched
+  next_is = rw (stands.flags, stands.dispatch, stands.quantum) refl
 
   not_spent : (n : ℕ) → most ≤ n → (n == 0) ≡ false
   not_spent n below = grind (arith, some, below)
 
   pub runs_on : is_over w ≡ false
-  runs_on = rw (any_is m w true stands.flags begun.any, stands.dispatch, not_spent m.sched.dispatch.budget begun.budget) refl
+  runs_on = rw (any_is m w true stands.flags ahead.any, stands.dispatch, not_spent m.sched.dispatch.budget ahead.budget) refl
 
-  pub chosen_is : (next_dispatch s w).current ≡ m.sched.dispatch.current
+  pub chosen_is : (next_dispatch s w).current ≡ (next_of m.sched).current
   chosen_is = ap (λ (d : Dispatch). d.current) next_is
 
-  pub turn_left : most < (next_dispatch s w).left
-  turn_left = subst (λ (d : Dispatch). most < d.left) (sym next_is) begun.turn
+  pub turn_left : most ≤ (next_dispatch s w).left
+  turn_left = subst (λ (d : Dispatch). most ≤ d.left) (sym next_is) ahead.turn
 
   pub budget_left : most ≤ w.dispatch.budget
-  budget_left = subst (λ (d : Dispatch). most ≤ d.budget) (sym stands.dispatch) begun.budget
+  budget_left = subst (λ (d : Dispatch). most ≤ d.budget) (sym stands.dispatch) ahead.budget
 
   -- the machine behind them
   module _ (n : Machine) (left : Space) (k : ℕ) (later : StandsLater (parts_in left device block) s w k) (set : IsSetTo (parts_in left device block) s) (avail : left.services.avail ≡ m.space.services.avail)
@@ -110,7 +103,7 @@ module _ (m : Machine) (device : ℕ) (block : ℕ → List ℕ) (s : Setting) (
       lines = ap (λ (l : List Line). length l) (lines_stay s w k later.silent) ∙ (stands.lines ∙ sym lines);
     }
 
-    pub some_steps : 0 < k → n.sched ≡ record m.sched { dispatch = counted_by k m.sched.dispatch } → Slices (StandsFor n device block s) true s w k
+    pub some_steps : 0 < k → n.sched ≡ record m.sched { dispatch = counted_by k (next_of m.sched) } → Slices (StandsFor n device block s) true s w k
     some_steps some sched = record {
       silent = later.silent;
       stands =

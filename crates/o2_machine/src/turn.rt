@@ -209,10 +209,10 @@ impl Steps for Machine {
         if self.last.is_some() {
             return 0;
         }
-        let most = self.sched.ahead();
-        if most == 0 {
+        let ahead = self.sched.ahead();
+        if ahead.most == 0 {
             return 0;
         }
-        self.steps_at_once(most)
+        self.steps_at_once(ahead.process, ahead.most)
     }
 }

@@ -46,7 +46,7 @@ pub enum Turn {
     SwapFault,
 }
 
-/// A machine that does the boundless machine's steps, one a turn, and before it those that are done at once.
+/// A machine that does the boundless machine's steps: those that are done at once several at a time, and each other by a call of its own.
 pub trait Steps {
     /// The settings and worlds that it stands for, over a device of so many blocks, which hold this.
     ghost stands: { Self → (blocks : ℕ) → (ℕ → List ℕ) → Setting → World → Type 0 };
@@ -133,8 +133,8 @@ pub trait Steps {
         ensures left { OnRan result (left self.new < left self.old) };
 
     /// Steps of one process within its turn that are done at once, one behind another; how many. It stops before a step that
-    /// isn't done at once, as it misses a segment, calls a service or raises an exception, before the last step of the turn, and
-    /// where the trap flag is set. So there may be none.
+    /// isn't done at once, as it misses a segment, calls a service or raises an exception, at the end of the turn, and where the
+    /// trap flag is set. So there may be none.
     fn slice(&mut self) -> u32
         requires device { OverSome (fits self.old) }
         // They are as many steps of the boundless machine, none of which puts anything or takes anything from the input.

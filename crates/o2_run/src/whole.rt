@@ -13,8 +13,8 @@ ghost use Rattle.o2_run.specs.Ended.{EndsAs, StopsForInput, AllFitRun};
 use crate::{Fault, Steps};
 use o2_outer::{Sink, Source, SwapDevice};
 
-/// Runs a machine that stands for a world to its end, before each turn by the steps that are done at once: it is Ok where the last
-/// line is put. What both sinks took before the opening is `c` and `r`. At each end, and at each fault, the machine stands for the
+/// Runs a machine that stands for a world to its end, by the steps that are done at once, and by a call of `turn` where the next one
+/// isn't: it is Ok where the last line is put. What both sinks took before the opening is `c` and `r`. At each end, and at each fault, the machine stands for the
 /// world whose texts they have taken, and tells of a stop whether its line was put whole. Each line is one put, and so is the console's piece of each step that has one.
 #[tactic(auto, using(o2_outer::proofs::Inputs::goes_same))]
 pub fn run<M: Steps, I: Source, C: Sink, R: Sink, S: SwapDevice>(
@@ -61,7 +61,10 @@ pub fn run<M: Steps, I: Source, C: Sink, R: Sink, S: SwapDevice>(
         (Rose (I.faults input.old) (I.faults input.new)) (Unit {0}) (Rose (S.faults swap.old) (S.faults swap.new)) result }
 {
     'steps: loop {
-        machine.slice();
+        let done = machine.slice();
+        if done > 0 {
+            continue 'steps;
+        }
         let more = machine.turn(input, console, report, swap).goes_on()?;
         if !more {
             return Ok(());

@@ -1,5 +1,5 @@
 -- The schedule of a run.
-use Rattle.std.specs.Prelude.{◌≡◌, ℕ, ◌-◌, ◌&&◌, Bool, true, false, not, List, if◌then◌else◌, ◌==◌, min, nat_lt}
+use Rattle.std.specs.Prelude.{◌≡◌, ℕ, ◌-◌, Bool, true, false, not, List, if◌then◌else◌, ◌==◌, min}
 use Rattle.std.specs.List.{list_any}
 use Rattle.o2_conf.specs.declared.script.Word.{Word}
 use Rattle.o2_conf.specs.Dispatch.{Dispatch, lives, dispatched}
@@ -31,12 +31,9 @@ PicksLive flags (Step n) = lives flags n ≡ true
 PicksLive flags AllEnded = Unit {0}
 PicksLive flags BudgetSpent = Unit {0}
 
--- how many steps of the turn that was begun last may be taken at once: all that are left but its last one, within the budget
+-- how many steps of the turn that the next step is of may be taken at once: all that it has left, within the budget, where some process lives
 abbrev pub ahead_of : Schedule → ℕ
-ahead_of s =
-    if list_any (λ b. b) s.flags && (nat_lt 1 s.dispatch.left && lives s.flags s.dispatch.current)
-    then min (s.dispatch.left - 1) s.dispatch.budget
-    else 0
+ahead_of s = if list_any (λ b. b) s.flags then min (next_of s).left s.dispatch.budget else 0
 
 -- so many are done
 abbrev pub taken : ℕ → Dispatch → Dispatch

@@ -4,4 +4,4 @@
 mod place;
 mod sched;
 
-pub use sched::{Pick, Sched};
+pub use sched::{Ahead, Pick, Sched};

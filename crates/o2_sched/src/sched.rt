@@ -1,9 +1,9 @@
 // The schedule of a run.
-ghost use Rattle.std.specs.Prelude.{◌≡◌, ◌≤◌, ◌<◌, ◌-◌, true, false, length, map, slice_set, replicate, IfOk};
+ghost use Rattle.std.specs.Prelude.{◌≡◌, ◌≤◌, ◌<◌, ◌+◌, ◌-◌, true, false, length, map, slice_set, replicate, IfOk};
 ghost use Rattle.std.specs.List.{list_any};
 ghost use Rattle.o2_conf.specs.Dispatch.{counted};
 
-use crate::place::{Place, advanced, fill_turns, is_live};
+use crate::place::{Place, advanced, fill_turns};
 use o2_base::NoMemory;
 use o2_conf::{Conf, Word};
 use std::alloc::Global;
@@ -18,6 +18,13 @@ pub enum Pick {
     AllEnded,
     /// Nothing: the budget is spent.
     BudgetSpent,
+}
+
+/// Steps of one turn that may be taken at once: whose they are, and how many at most.
+#[derive(Clone, Copy, Debug, PartialEq, Eq)]
+pub struct Ahead {
+    pub process: u16,
+    pub most: u32,
 }
 
 /// The schedule of a run of 1 to 64 processes. After `new` no call takes memory.
@@ -141,33 +148,49 @@ impl Sched {
         self.budget -= 1;
     }
 
-    /// The process of the slice or turn that was begun last.
-    pub fn current(&self) -> u16
-        ensures { result ≡ self.now.dispatch.current }
-    {
-        self.place.current
-    }
-
-    /// How many steps of the turn that was begun last may be taken at once: all that are left but its last one, within the budget,
-    /// where its process lives.
-    pub fn ahead(&mut self) -> u32
-        ensures value { result ≡ ahead_of self.old }
+    /// The steps that may be taken at once: all that are left of the turn that the next step is of, within the budget. None where all
+    /// processes have ended.
+    pub fn ahead(&mut self) -> Ahead
+        ensures most { result.most ≡ ahead_of self.old }
+        ensures process { result.process ≡ (next_of self.old).current }
         ensures same { self.new ≡ self.old }
     {
-        if self.any_lives && self.place.left > 1 && is_live(&self.flags, self.place.current) {
-            (self.place.left - 1).min(self.budget)
+        let place = advanced(
+            self.place,
+            &self.script,
+            &self.flags,
+            &self.turns,
+            self.quantum,
+        );
+        let process = place.current;
+        if self.any_lives {
+            Ahead {
+                process,
+                most: place.left.min(self.budget),
+            }
         } else {
-            0
+            Ahead { process, most: 0 }
         }
     }
 
-    /// So many steps of the turn that was begun last are done.
+    /// So many steps of the turn that the next step is of are done.
     pub fn take(&mut self, steps: u32)
-        requires turn { steps ≤ self.old.dispatch.left }
+        requires turn { steps ≤ (next_of self.old).left }
         requires budget { steps ≤ self.old.dispatch.budget }
-        ensures { self.new ≡ record self.old { dispatch = taken steps self.old.dispatch } }
+        ensures taken { self.new ≡ record self.old { dispatch = taken steps (next_of self.old) } }
+        ensures left { self.new.dispatch.budget + steps ≡ self.old.dispatch.budget }
     {
-        self.place.left -= steps;
+        let place = advanced(
+            self.place,
+            &self.script,
+            &self.flags,
+            &self.turns,
+            self.quantum,
+        );
+        self.place = Place {
+            left: place.left - steps,
+            ..place
+        };
         self.budget -= steps;
     }
 

@@ -1,6 +1,8 @@
 -- The segment registers of a processor, with the descriptors that their selectors name.
-use Rattle.std.specs.Prelude.{ℕ}
+use Rattle.std.specs.Prelude.{ℕ, Bool, true, ◌&&◌, if◌then◌else◌}
+use Rattle.o2_desc.specs.Bits.{is_present}
 use Rattle.o2_isa.specs.declared.cpu.Cpu.{Cpu}
+use Rattle.o2_isa.specs.View.{is_null}
 use Rattle.o2_regions.specs.Maps.{Maps}
 use Rattle.o2_segbus.specs.declared.registers.SegmentRegister.{SegmentRegister}
 use Rattle.o2_segbus.specs.declared.registers.SegmentRegisters.{SegmentRegisters}
@@ -16,3 +18,11 @@ opened_registers m pid c = record {
   ss = opened_register m pid c.ss;
   ds = opened_register m pid c.ds;
 }
+
+-- a register holds nothing, or a segment that is in memory by its hidden part
+abbrev pub is_shown : SegmentRegister → Bool
+is_shown x = if is_null x.selector then true else is_present x.descriptor.access
+
+-- so do all four
+abbrev pub are_shown : SegmentRegisters → Bool
+are_shown x = is_shown x.es && is_shown x.cs && is_shown x.ss && is_shown x.ds

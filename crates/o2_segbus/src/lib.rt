@@ -13,6 +13,7 @@ mod seg_bus;
 mod step;
 
 pub use laws::{ages_are_names, calls_keep, frames_keep};
+pub use opening::{are_shown, registers_for};
 pub use registers::{SegmentRegister, SegmentRegisters};
 pub use seg_bus::SegBus;
 pub use step::attempt;

@@ -62,14 +62,14 @@ record IsNextAt (p : Parts) (s : Setting) (w : World) : Type 0 where
   flags : live_flags (step s w).processes ≡ live_flags w.processes
   dispatch : (step s w).dispatch ≡ counted (next_dispatch s w)
 
--- and for the one k steps later, whose next step would be of the same turn
+-- and for the one k steps later, whose next step would be of the same turn where that has steps left
 record IsLaterAt (p : Parts) (s : Setting) (w : World) (k : ℕ) : Type 0 where
   at : IsAt p s (after s w k)
   silent : AreSilent true s w k
   texts : (after s w k).texts ≡ w.texts
   flags : live_flags (after s w k).processes ≡ live_flags w.processes
   dispatch : 0 < k → (after s w k).dispatch ≡ counted_by k (next_dispatch s w)
-  next : next_dispatch s (after s w k) ≡ counted_by k (next_dispatch s w)
+  next : k < (next_dispatch s w).left → next_dispatch s (after s w k) ≡ counted_by k (next_dispatch s w)
 
 equal_self : (n : ℕ) → (n == n) ≡ true
 equal_self n = grind arith
@@ -323,16 +323,16 @@ module _ (pid : ℕ) (images : ImageList) (device : ℕ) (block : ℕ → List �
     lives_now : lives (live_flags w.processes) (next_dispatch s w).current ≡ true
     lives_now = chosen_lives s.quantum (live_flags w.processes) w.dispatch all_lives
 
-    step_later : (k : ℕ) (m b : Seat) → IsLaterAt (parts_at m) s w k → IsStep pid m b → suc k < (next_dispatch s w).left → suc k ≤ w.dispatch.budget → IsLaterAt (parts_at b) s w (suc k)
+    step_later : (k : ℕ) (m b : Seat) → IsLaterAt (parts_at m) s w k → IsStep pid m b → suc k ≤ (next_dispatch s w).left → suc k ≤ w.dispatch.budget → IsLaterAt (parts_at b) s w (suc k)
     step_later k m b h move turn budget = record {
       at = one.at;
       silent = λ j below. (let P : ℕ → Type 0 = λ i. IsSilent true s (after s w i) in below_more P k h.silent one.silent j (omega (arith, below)));
       texts = one.texts ∙ h.texts;
       flags = flags_now;
       dispatch = λ some. counted_now;
-      next =
+      next = λ more.
           ap (λ (f : List Bool). dispatched s.quantum f (after s w (suc k)).dispatch) flags_now
-          ∙ (ap (dispatched s.quantum (live_flags w.processes)) counted_now ∙ stays_turn s.quantum (live_flags w.processes) (counted_by (suc k) (next_dispatch s w)) (omega (arith, turn)) lives_now);
+          ∙ (ap (dispatched s.quantum (live_flags w.processes)) counted_now ∙ stays_turn s.quantum (live_flags w.processes) (counted_by (suc k) (next_dispatch s w)) (omega (arith, more)) lives_now);
     } where
       left : (after s w k).dispatch.budget + k ≡ w.dispatch.budget
       left = budget_after s w k (λ j below. (h.silent j below).runs)
@@ -340,8 +340,12 @@ module _ (pid : ℕ) (images : ImageList) (device : ℕ) (block : ℕ → List �
       runs_then : is_over (after s w k) ≡ false
       runs_then = over_not (live_flags (after s w k).processes) (after s w k).dispatch.budget (ap (λ (f : List Bool). list_any (λ (b : Bool). b) f) h.flags ∙ all_lives) (omega (arith, left, budget))
 
+      -- the step is of the same turn
+      next_then : next_dispatch s (after s w k) ≡ counted_by k (next_dispatch s w)
+      next_then = h.next (omega (arith, turn))
+
       chosen_then : (next_dispatch s (after s w k)).current ≡ pid
-      chosen_then = ap (λ (z : Dispatch). z.current) h.next ∙ chosen
+      chosen_then = ap (λ (z : Dispatch). z.current) next_then ∙ chosen
 
       one : IsNextAt (parts_at b) s (after s w k)
       one = one_step m b move (after s w k) h.at runs_then chosen_then
@@ -350,21 +354,21 @@ module _ (pid : ℕ) (images : ImageList) (device : ℕ) (block : ℕ → List �
       flags_now = one.flags ∙ h.flags
 
       counted_now : (after s w (suc k)).dispatch ≡ counted_by (suc k) (next_dispatch s w)
-      counted_now = one.dispatch ∙ (ap counted h.next ∙ counts_one k (next_dispatch s w))
+      counted_now = one.dispatch ∙ (ap counted next_then ∙ counts_one k (next_dispatch s w))
 
-    steps_later : (k : ℕ) (a b : Seat) → AreSteps pid k a b → IsAt (parts_at a) s w → k < (next_dispatch s w).left → k ≤ w.dispatch.budget → IsLaterAt (parts_at b) s w k
+    steps_later : (k : ℕ) (a b : Seat) → AreSteps pid k a b → IsAt (parts_at a) s w → k ≤ (next_dispatch s w).left → k ≤ w.dispatch.budget → IsLaterAt (parts_at b) s w k
     steps_later zero a b same here turn budget = record {
       at = subst (λ (z : Seat). IsAt (parts_at z) s w) same here;
       silent = λ j below. absurd (omega (arith, below));
       texts = refl;
       flags = refl;
       dispatch = λ some. absurd (omega (arith, some));
-      next = sym (counts_none (next_dispatch s w));
+      next = λ more. sym (counts_none (next_dispatch s w));
     }
     steps_later (suc k) a b steps here turn budget =
         step_later k steps.0 b (steps_later k a steps.0 steps.1.0 here (omega (arith, turn)) (omega (arith, budget))) steps.1.1 turn budget
 
-    pub sliced_later : (k : ℕ) (a b : Seat) → AreSliced pid k a b → IsAt (parts_at a) s w → k < (next_dispatch s w).left → k ≤ w.dispatch.budget → StandsLater (parts_at b) s w k
+    pub sliced_later : (k : ℕ) (a b : Seat) → AreSliced pid k a b → IsAt (parts_at a) s w → k ≤ (next_dispatch s w).left → k ≤ w.dispatch.budget → StandsLater (parts_at b) s w k
     sliced_later k a b sliced here turn budget = record { stands = (last_at sliced.behind).stands; silent = h.silent; texts = h.texts; flags = h.flags; dispatch = h.dispatch } where
       h : IsLaterAt (parts_at sliced.last) s w k
       h = steps_later k a sliced.last sliced.steps here turn budget

@@ -1,3 +1,4 @@
 pub mod OverBus
 pub mod Laters
 pub mod Seats
+pub mod Shown

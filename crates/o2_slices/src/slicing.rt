@@ -1,5 +1,5 @@
 // Steps of a process over a store that are done at once.
-ghost use Rattle.std.specs.Prelude.{◌≡◌, ◌<◌, ◌≤◌, ℕ, List, length, true, false};
+ghost use Rattle.std.specs.Prelude.{◌≡◌, ◌≤◌, ℕ, List, length, true, false};
 ghost use Rattle.o2_regions.specs.Lives.{lives};
 ghost use Rattle.o2_run.specs.Slice.{OverSome};
 ghost use Rattle.o2_stands.specs.Stands.{IsSetTo, Stands};
@@ -28,7 +28,7 @@ pub fn slice_of(space: &mut Space, pid: u16, most: u32) -> u32
     ensures later { (device : ℕ) (block : ℕ → List ℕ) (s : Setting) (w : World)
         → Stands (parts_in space.old device block) w → IsSetTo (parts_in space.old device block) s
         → is_over w ≡ false → (next_dispatch s w).current ≡ pid
-        → most < (next_dispatch s w).left → most ≤ w.dispatch.budget
+        → most ≤ (next_dispatch s w).left → most ≤ w.dispatch.budget
         → StandsLater (parts_in space.new device block) s w result }
     ensures within { result ≤ most }
 

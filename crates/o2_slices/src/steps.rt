@@ -5,6 +5,7 @@ ghost use Rattle.o2_isa.specs.Writes.{WritesData};
 ghost use Rattle.o2_regions.specs.Maps.{IsProcess};
 ghost use Rattle.o2_segbus.specs.Bus.{registers_of};
 ghost use Rattle.o2_segbus.specs.Frames.{CanStep};
+ghost use Rattle.o2_segbus.specs.Opening.{opened_registers};
 ghost use Rattle.o2_segbus.specs.Seen.{AreNamed, hold_in};
 ghost use Rattle.o2_segbus.specs.Settled.{IsSettled};
 ghost use Rattle.o2_world.specs.Known.{Known};
@@ -12,6 +13,7 @@ ghost use Rattle.o2_world.specs.Effect.{effect, has_trap_flag as trap_flag_of};
 ghost use Rattle.o2_gate.specs.Befores.{before_call, boundless};
 ghost use Rattle.o2_gate.specs.Pointed.{ArePresent};
 ghost use Rattle.o2_run.specs.Room.{touched};
+ghost use Rattle.o2_stepping.specs.Here.{are_here as all_here};
 ghost use Rattle.o2_stepping.specs.Ran.{IsDone};
 ghost use Rattle.o2_slices.specs.Slices.{AreSliced, IsStep, IsTry, quiet, seat};
 
@@ -19,7 +21,7 @@ use o2_bus::Bus;
 use o2_cache::{DecodeCache, step_cached};
 use o2_isa::{Cpu, Outcome};
 use o2_regions::Regions;
-use o2_segbus::SegBus;
+use o2_segbus::{SegBus, SegmentRegisters, are_shown, registers_for};
 use o2_stands::lawful;
 use o2_stepping::{are_here, has_trap_flag};
 use o2_store::Store;
@@ -99,22 +101,39 @@ fn steps_in(
     done
 }
 
-/// Such steps over store and tables, where what the segment registers name is in memory. Their descriptors are looked up once for
+/// Such steps over store and tables, where what the segment registers name is in memory. Their descriptors were looked up once for
 /// all these steps.
 fn slice_here(
     pid: u16,
     cpu: &mut Cpu,
+    registers: SegmentRegisters,
     store: &mut Store,
     regions: &mut Regions,
     cache: &mut DecodeCache,
     most: u32,
 ) -> u32
     requires ready { CanStep store.old regions.old pid cpu.old }
+    requires registers { registers ≡ opened_registers regions.old pid cpu.old }
     ensures sliced { AreSliced pid result (seat store.old regions.old cpu.old) (seat store.new regions.new cpu.new) }
     ensures within { result ≤ most }
 {
-    let mut bus = SegBus::new(store, regions, pid, cpu);
+    let mut bus = SegBus::over_registers(store, regions, pid, registers);
     steps_in(pid, cpu, &mut bus, cache, most)
+}
+
+/// Whether what the segment registers name is in memory: by what was looked up for them, or by the tables, where one of them names
+/// nothing.
+#[inline(always)]
+fn are_seated(registers: &SegmentRegisters, regions: &Regions, pid: u16, cpu: &Cpu) -> bool
+    requires process { IsProcess regions.now pid }
+    requires registers { registers.now ≡ opened_registers regions.now pid cpu.now }
+    ensures { result ≡ true → all_here regions.now pid cpu.now ≡ true }
+{
+    if are_shown(registers) {
+        true
+    } else {
+        are_here(regions, pid, cpu)
+    }
 }
 
 /// So many steps of process `pid` at most, over what is in memory, one behind another; how many are done. They end before a step
@@ -134,8 +153,9 @@ pub fn slice_in_store(
     ensures sliced { AreSliced pid result (seat store.old regions.old cpu.old) (seat store.new regions.new cpu.new) }
     ensures within { result ≤ most }
 {
-    if !are_here(regions, pid, cpu) {
+    let registers = registers_for(regions, pid, cpu);
+    if !are_seated(&registers, regions, pid, cpu) {
         return 0;
     }
-    slice_here(pid, cpu, store, regions, cache, most)
+    slice_here(pid, cpu, registers, store, regions, cache, most)
 }

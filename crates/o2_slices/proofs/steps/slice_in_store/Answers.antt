@@ -1,11 +1,11 @@
-use Rattle.std.proofs.Common.{sym, ◌∙◌, refl, inl}
+use Rattle.std.proofs.Common.{refl, inl}
 use Rattle.o2_stepping.proofs.Here.{may_step}
 use Rattle.o2_slices.proofs.steps.slice_in_store.Goals as goal
 
-pub slice_here-requires : goal.slice_here-requires
-slice_here-requires c =
+pub slice_here-requires-clause-ready : goal.slice_here-requires-clause-ready
+slice_here-requires-clause-ready c =
     let r = c.requires in
-    record { ready = may_step c.args.store.now c.args.regions.now c.args.pid r.named r.settled c.args.cpu.now r.process (sym c.are_here.ensures ∙ c.if-not-are_here.false) }
+    may_step c.args.store.now c.args.regions.now c.args.pid r.named r.settled c.args.cpu.now r.process (c.are_seated.ensures c.if-not-are_seated.false)
 
-pub returns-then-not-are_here-clause-sliced : goal.returns-then-not-are_here-clause-sliced
-returns-then-not-are_here-clause-sliced c = record { last = _; steps = refl; behind = inl refl }
+pub returns-then-not-are_seated-clause-sliced : goal.returns-then-not-are_seated-clause-sliced
+returns-then-not-are_seated-clause-sliced c = record { last = _; steps = refl; behind = inl refl }

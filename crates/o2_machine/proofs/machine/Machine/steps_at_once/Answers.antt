@@ -2,69 +2,69 @@ use Rattle.std.proofs.Common.{◌≤◌, ap, sym, ◌∙◌, refl, subst, arith,
 use Rattle.o2_conf.proofs.Choice.{lives_within}
 use Rattle.o2_conf.specs.Dispatch.{lives}
 use Rattle.o2_regions.specs.Lives.{lives as is_marked}
-use Rattle.o2_sched.specs.Schedule.{Schedule}
+use Rattle.o2_sched.specs.Schedule.{Schedule, next_of}
 use Rattle.o2_segs.proofs.Sharing.{few_more}
 use Rattle.o2_store.specs.Idle.{NoneTaken}
 use Rattle.o2_swapmap.specs.Piles.{Blocks}
 use Rattle.o2_machine.proofs.Marks.{some_number}
-use Rattle.o2_machine.proofs.Slicing.{budget_left, chosen_is, is_begun, none_done, runs_on, some_steps, turn_left}
+use Rattle.o2_machine.proofs.Slicing.{budget_left, chosen_is, is_ahead, none_done, runs_on, some_steps, turn_left}
 use Rattle.o2_machine.proofs.machine.Machine.steps_at_once.Goals as goal
 
 pub slice_of-done-requires-clause-some : goal.slice_of-done-requires-clause-some
 slice_of-done-requires-clause-some c =
-    let begun = is_begun c.args.self.now.sched c.args.most c.requires.most c.requires.some in
-    subst (λ n. 1 ≤ n) (sym c.current.ensures) (some_number c.args.self.now.sched.flags c.args.self.now.sched.dispatch.current begun.live)
+    let ahead = is_ahead c.args.self.now.sched c.args.most c.requires.most c.requires.some in
+    subst (λ n. 1 ≤ n) (sym c.requires.process) (some_number c.args.self.now.sched.flags (next_of c.args.self.now.sched).current ahead.live)
 
 pub slice_of-done-requires-clause-there : goal.slice_of-done-requires-clause-there
 slice_of-done-requires-clause-there c =
-    (let begun = is_begun c.args.self.now.sched c.args.most c.requires.most c.requires.some in
-    let within = (lives_within c.args.self.now.sched.flags c.args.self.now.sched.dispatch.current begun.live).1 in
+    (let ahead = is_ahead c.args.self.now.sched c.args.most c.requires.most c.requires.some in
+    let within = (lives_within c.args.self.now.sched.flags (next_of c.args.self.now.sched).current ahead.live).1 in
     let same = c.args.self.now.same in
-    let is = c.current.ensures in
+    let is = c.requires.process in
     omega (arith, within, same, is))
 
 pub slice_of-done-requires-clause-live : goal.slice_of-done-requires-clause-live
 slice_of-done-requires-clause-live c =
-    let begun = is_begun c.args.self.now.sched c.args.most c.requires.most c.requires.some in
-    ap (is_marked c.args.self.now.space.ends) c.current.ensures ∙ (c.requires.device.over.marked c.args.self.now.sched.dispatch.current ∙ begun.live)
+    let ahead = is_ahead c.args.self.now.sched c.args.most c.requires.most c.requires.some in
+    ap (is_marked c.args.self.now.space.ends) c.requires.process ∙ (c.requires.device.over.marked (next_of c.args.self.now.sched).current ∙ ahead.live)
 
 pub slice_of-done-requires-clause-together : goal.slice_of-done-requires-clause-together
 slice_of-done-requires-clause-together c = record { blocks = c.requires.device.blocks; over = c.requires.device.over.together }
 
 pub take-requires-clause-turn : goal.take-requires-clause-turn
 take-requires-clause-turn c =
-    (let begun = is_begun c.args.self.now.sched c.args.most c.requires.most c.requires.some in
-    let turn = begun.turn in
+    (let ahead = is_ahead c.args.self.now.sched c.args.most c.requires.most c.requires.some in
+    let turn = ahead.turn in
     let within = c.slice_of-done.ensures.within in
     omega (arith, turn, within))
 
 pub take-requires-clause-budget : goal.take-requires-clause-budget
 take-requires-clause-budget c =
-    (let begun = is_begun c.args.self.now.sched c.args.most c.requires.most c.requires.some in
-    let budget = begun.budget in
+    (let ahead = is_ahead c.args.self.now.sched c.args.most c.requires.most c.requires.some in
+    let budget = ahead.budget in
     let within = c.slice_of-done.ensures.within in
     omega (arith, budget, within))
 
 pub returns-then-done-gt0-clause-steps : goal.returns-then-done-gt0-clause-steps
 returns-then-done-gt0-clause-steps c = λ device block s w stands.
     let m = c.args.self.now in
-    let begun = is_begun m.sched c.args.most c.requires.most c.requires.some in
+    let ahead = is_ahead m.sched c.args.most c.requires.most c.requires.some in
     let e = c.slice_of-done.ensures in
-    let later = e.later device block s w stands.space stands.set (runs_on m device block s w c.args.most stands begun c.requires.some)
-    (chosen_is m device block s w c.args.most stands begun c.requires.some ∙ sym c.current.ensures)
-    (turn_left m device block s w c.args.most stands begun c.requires.some) (budget_left m device block s w c.args.most stands begun c.requires.some) in
-    some_steps m device block s w c.args.most stands begun c.requires.some _ c.slice_of-done.new.space c.slice_of-done.result later (e.set device block s stands.set) e.avail e.names e.tables refl refl refl refl
-    (omega (arith, c.if-done-gt0.true)) c.take.ensures
+    let later = e.later device block s w stands.space stands.set (runs_on m device block s w c.args.most stands ahead c.requires.some)
+    (chosen_is m device block s w c.args.most stands ahead c.requires.some ∙ sym c.requires.process)
+    (turn_left m device block s w c.args.most stands ahead c.requires.some) (budget_left m device block s w c.args.most stands ahead c.requires.some) in
+    some_steps m device block s w c.args.most stands ahead c.requires.some _ c.slice_of-done.new.space c.slice_of-done.result later (e.set device block s stands.set) e.avail e.names e.tables refl refl refl refl
+    (omega (arith, c.if-done-gt0.true)) c.take.ensures.taken
 
 pub returns-else-done-gt0-clause-steps : goal.returns-else-done-gt0-clause-steps
 returns-else-done-gt0-clause-steps c = λ device block s w stands.
     let m = c.args.self.now in
-    let begun = is_begun m.sched c.args.most c.requires.most c.requires.some in
+    let ahead = is_ahead m.sched c.args.most c.requires.most c.requires.some in
     let e = c.slice_of-done.ensures in
-    let later = e.later device block s w stands.space stands.set (runs_on m device block s w c.args.most stands begun c.requires.some)
-    (chosen_is m device block s w c.args.most stands begun c.requires.some ∙ sym c.current.ensures)
-    (turn_left m device block s w c.args.most stands begun c.requires.some) (budget_left m device block s w c.args.most stands begun c.requires.some) in
-    none_done m device block s w c.args.most stands begun c.requires.some _ c.slice_of-done.new.space c.slice_of-done.result later (e.set device block s stands.set) e.avail e.names e.tables refl refl refl refl
+    let later = e.later device block s w stands.space stands.set (runs_on m device block s w c.args.most stands ahead c.requires.some)
+    (chosen_is m device block s w c.args.most stands ahead c.requires.some ∙ sym c.requires.process)
+    (turn_left m device block s w c.args.most stands ahead c.requires.some) (budget_left m device block s w c.args.most stands ahead c.requires.some) in
+    none_done m device block s w c.args.most stands ahead c.requires.some _ c.slice_of-done.new.space c.slice_of-done.result later (e.set device block s stands.set) e.avail e.names e.tables refl refl refl refl
     (omega (arith, c.if-done-gt0.false)) refl
 
 pub returns-then-done-gt0-clause-device : goal.returns-then-done-gt0-clause-device
@@ -72,10 +72,10 @@ returns-then-done-gt0-clause-device c = λ blocks goes. record {
   together = c.slice_of-done.ensures.together blocks goes.together;
   marked = λ n.
       ap (λ (ends : List Bool). is_marked ends n) c.slice_of-done.ensures.ends
-      ∙ (goes.marked n ∙ ap (λ (z : Schedule). lives z.flags n) (sym c.take.ensures));
-  few = (let f = goes.few in let b = ap (λ (z : Schedule). z.dispatch.budget) c.take.ensures in let m = c.slice_of-done.ensures.made in omega (arith, f, b, m));
-  budget = (let f = goes.budget in let b = ap (λ (z : Schedule). z.dispatch.budget) c.take.ensures in omega (arith, f, b));
-  held = few_more _ _ _ (let b = ap (λ (z : Schedule). z.dispatch.budget) c.take.ensures in omega (arith, b)) (c.slice_of-done.ensures.held _ goes.held);
+      ∙ (goes.marked n ∙ ap (λ (z : Schedule). lives z.flags n) (sym c.take.ensures.taken));
+  few = (let f = goes.few in let b = c.take.ensures.left in let m = c.slice_of-done.ensures.made in omega (arith, f, b, m));
+  budget = (let f = goes.budget in let b = c.take.ensures.left in omega (arith, f, b));
+  held = few_more _ _ _ (let b = c.take.ensures.left in omega (arith, b)) (c.slice_of-done.ensures.held _ goes.held);
 }
 
 pub returns-else-done-gt0-clause-device : goal.returns-else-done-gt0-clause-device

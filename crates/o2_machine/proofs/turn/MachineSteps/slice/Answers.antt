@@ -9,19 +9,19 @@ use Rattle.o2_machine.proofs.turn.MachineSteps.slice.Goals as goal
 pub returns-then-is_some-clause-steps : goal.returns-then-is_some-clause-steps
 returns-then-is_some-clause-steps c = λ device block s w stands. record { silent = λ j below. absurd (omega (arith, below)); stands = stands }
 
-pub returns-then-most-eq0-clause-steps : goal.returns-then-most-eq0-clause-steps
-returns-then-most-eq0-clause-steps c = λ device block s w stands. record {
+pub returns-then-ahead-eq0-clause-steps : goal.returns-then-ahead-eq0-clause-steps
+returns-then-ahead-eq0-clause-steps c = λ device block s w stands. record {
   silent = λ j below. absurd (omega (arith, below));
-  stands = same_space _ c.args.self.now _ _ _ _ s w stands (record { sched = c.ahead-most.ensures.same; avail = refl; budget = refl; bytes = refl; lines = refl }) stands.space stands.set stands.spells;
+  stands = same_space _ c.args.self.now _ _ _ _ s w stands (record { sched = c.ahead-ahead.ensures.same; avail = refl; budget = refl; bytes = refl; lines = refl }) stands.space stands.set stands.spells;
 }
 
-pub returns-then-most-eq0-clause-same : goal.returns-then-most-eq0-clause-same
-returns-then-most-eq0-clause-same c = λ last e. absurd (not_stopped c.args.self.now.last last (sym c.is_some.ensures ∙ c.if-is_some.false) e)
+pub returns-then-ahead-eq0-clause-same : goal.returns-then-ahead-eq0-clause-same
+returns-then-ahead-eq0-clause-same c = λ last e. absurd (not_stopped c.args.self.now.last last (sym c.is_some.ensures ∙ c.if-is_some.false) e)
 
 pub returns-clause-steps : goal.returns-clause-steps
 returns-clause-steps c = λ device block s w stands.
     c.steps_at_once.ensures.steps device block s w
-    (same_space _ c.args.self.now _ _ _ _ s w stands (record { sched = c.ahead-most.ensures.same; avail = refl; budget = refl; bytes = refl; lines = refl }) stands.space stands.set stands.spells)
+    (same_space _ c.args.self.now _ _ _ _ s w stands (record { sched = c.ahead-ahead.ensures.same; avail = refl; budget = refl; bytes = refl; lines = refl }) stands.space stands.set stands.spells)
 
 pub returns-clause-same : goal.returns-clause-same
 returns-clause-same c = λ last e. absurd (not_stopped c.args.self.now.last last (sym c.is_some.ensures ∙ c.if-is_some.false) e)
@@ -30,10 +30,10 @@ pub returns-clause-device : goal.returns-clause-device
 returns-clause-device c = λ blocks goes.
     c.steps_at_once.ensures.device blocks (record {
       together = goes.together;
-      marked = λ n. goes.marked n ∙ ap (λ (z : Schedule). lives z.flags n) (sym c.ahead-most.ensures.same);
-      few = (let f = goes.few in let b = ap (λ (z : Schedule). z.dispatch.budget) c.ahead-most.ensures.same in omega (arith, f, b));
-      budget = (let f = goes.budget in let b = ap (λ (z : Schedule). z.dispatch.budget) c.ahead-most.ensures.same in omega (arith, f, b));
-      held = few_more _ _ _ (let b = ap (λ (z : Schedule). z.dispatch.budget) c.ahead-most.ensures.same in omega (arith, b)) goes.held;
+      marked = λ n. goes.marked n ∙ ap (λ (z : Schedule). lives z.flags n) (sym c.ahead-ahead.ensures.same);
+      few = (let f = goes.few in let b = ap (λ (z : Schedule). z.dispatch.budget) c.ahead-ahead.ensures.same in omega (arith, f, b));
+      budget = (let f = goes.budget in let b = ap (λ (z : Schedule). z.dispatch.budget) c.ahead-ahead.ensures.same in omega (arith, f, b));
+      held = few_more _ _ _ (let b = ap (λ (z : Schedule). z.dispatch.budget) c.ahead-ahead.ensures.same in omega (arith, b)) goes.held;
     })
 
 pub returns-clause-idle : goal.returns-clause-idle
