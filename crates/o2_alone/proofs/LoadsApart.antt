@@ -14,19 +14,20 @@ use Rattle.o2_world.specs.Sound.{held_in, held_of}
 use Rattle.o2_world.specs.Tied.{IsTied}
 use Rattle.o2_world.specs.Known.{Known, Marks as SegmentMarks, held_at, holds_index, known_of, marks_of, reserves, taken_in}
 use Rattle.o2_world.specs.CallParts.{Before, Effect}
-use Rattle.o2_world.specs.Changes.{Change, Makes, Resizes, Locks, Marks, Holds, Drops, Finishes, Reserves, Frees, Names, at_number, at_place, fewer, more, resized, swept, takes, with_change, with_changes}
+use Rattle.o2_world.specs.Changes.{Change, Makes, Resizes, Locks, Marks, Holds, Drops, Finishes, Reserves, Frees, Names, fewer, more, resized, swept, takes, with_change, with_changes}
 use Rattle.o2_world.specs.Rulings.{Ruling, by_load, full_size, held_as_code, held_under, in_use, indexes, is_in_run, members, region_by}
 use Rattle.o2_world.specs.SharedRulings.{marks_under, shared_from}
 use Rattle.o2_world.specs.HugeRulings.{all_bytes, all_dropped, all_hold, bytes_of, dropped_members, flags_in, free_run, held_in_run, huge_allocation, huge_at, huge_reallocation, huge_reallocation_of, is_first, is_huge_fault, is_unheld, left_in_run, new_members, other_shares, resized_members, resized_one, run_changes, run_resized, segments_of, sizes_of}
 use Rattle.o2_world.specs.Effect.{effect}
 use Rattle.o2_world.specs.Run.{all_changes, before, changed, worked, working}
 use Rattle.o2_world.specs.Moves.{AllMoves, AreOfRuling, Each, IsShared, Moves, NoneMoves, OfAllocation, OfNone, OfReallocation, OneAliased, OneLocked, OneMade, OneNamed, OneRun, OneSized, OwnMoves, SomeFreed, SomeShared}
+use Rattle.o2_world.proofs.ByNumber.{IsOf, from_number}
 use Rattle.o2_world.proofs.FitShares.{changes_are, held_each, share, shares_of}
 use Rattle.o2_world.proofs.HugeMoves.{above_zero, at_most, chosen_run}
 use Rattle.o2_world.proofs.MapLemmas.{get-at_key, get-filter, get-map}
 use Rattle.o2_world.proofs.Keeps.{other_number}
 use Rattle.o2_world.proofs.Numbers.{at_place_of, not_zero, number_some}
-use Rattle.o2_world.proofs.Reached.{get-place, get-put}
+use Rattle.o2_world.proofs.Reached.{get-put}
 use Rattle.o2_world.proofs.SegmentMoves.{held_there, indexes_from}
 use Rattle.o2_world.proofs.StepMoves.{effect_moves}
 use Rattle.o2_world.proofs.StepReach.{own_at}
@@ -392,41 +393,6 @@ module _ (s : Setting) (w : World) (n : ℕ) (p : Process) (at : process_at w.pr
       go false = good_append w e.changes (Finishes n e.state ∷ []) own (tt, tt)
 
 -- Behind changes.
-
--- what a process holds that is changed by its number
-record IsOf (ps : List Process) (k n i : ℕ) (f : Process → Process) (h : Held) : Type 0 where
-  same : n ≡ k
-  process : Process
-  there : process_at ps n ≡ Some process
-  is : get (f process).held i ≡ Some h
-
-module _ (ps : List Process) (k n i : ℕ) (f : Process → Process) (h : Held) where
-  at_place_there : (n == 0) ≡ false → (k == 0) ≡ false → (c : Bool) → (n - 1 == k - 1) ≡ c → (o : Option Process) → slice_get ps (n - 1) ≡ o → held_of (cond c (option_map f o) o) i ≡ Some h
-      → (held_at ps n i ≡ Some h) ⊎ IsOf ps k n i f h
-  at_place_there p q false r o s e = inl (ap (λ (c : Bool). held_of (cond c None (slice_get ps (n - 1))) i) p ∙ (ap (λ (z : Option Process). held_of z i) s ∙ e))
-  at_place_there p q true r None s e = absurd (none_some h e)
-  at_place_there p q true r (Some y) s e =
-      inr (record {
-        same = same_number n k p q (eqb-true (n - 1) (k - 1) r);
-        process = y;
-        there = ap (λ (c : Bool). cond c None (slice_get ps (n - 1))) p ∙ s;
-        is = e;
-      })
-    where
-      same_number : (n k : ℕ) → (n == 0) ≡ false → (k == 0) ≡ false → n - 1 ≡ k - 1 → n ≡ k
-      same_number n k a b e = grind arith
-
-  -- what is held behind was held before, or by the process that is changed
-  from_number : held_at (at_number k f ps) n i ≡ Some h → (held_at ps n i ≡ Some h) ⊎ IsOf ps k n i f h
-  from_number e = by (n == 0) refl (k == 0) refl e
-    where
-      by : (a : Bool) → (n == 0) ≡ a → (b : Bool) → (k == 0) ≡ b → held_of (cond a None (slice_get (cond b ps (at_place (k - 1) f ps)) (n - 1))) i ≡ Some h
-          → (held_at ps n i ≡ Some h) ⊎ IsOf ps k n i f h
-      by true p b q e = absurd (none_some h e)
-      by false p true q e = inl (ap (λ (c : Bool). held_of (cond c None (slice_get ps (n - 1))) i) p ∙ e)
-      by false p false q e =
-          at_place_there p q (n - 1 == k - 1) refl (slice_get ps (n - 1)) refl
-          (sym (ap (λ (o : Option Process). held_of o i) (get-place (k - 1) (n - 1) f ps)) ∙ e)
 
 -- what is held by load was held by load, and what is held otherwise is good
 record IsKept (w : World) (n i : ℕ) (h : Held) : Type 0 where

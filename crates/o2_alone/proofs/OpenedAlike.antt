@@ -12,17 +12,17 @@ use Rattle.o2_isa.specs.declared.cpu.Cpu.{Cpu}
 use Rattle.o2_isa.specs.View.{is_code, is_null, is_readable, is_writable}
 use Rattle.o2_world.specs.Map.{Map, get}
 use Rattle.o2_world.specs.World.{ByLoad, Cause, World, Setting, Process, Segment, Held, is_live}
-use Rattle.o2_world.specs.Opening.{held_by_load}
 use Rattle.o2_world.specs.Rulings.{by_load}
 use Rattle.o2_world.specs.Holders.{is_held}
 use Rattle.o2_world.specs.Known.{held_at, lives_at}
 use Rattle.o2_world.specs.Sound.{HasGoodRegisters, NamesHeld, has_rights, held_in, held_of}
 use Rattle.o2_world.specs.Starts.{Loaded, Start, Holding, Built, holdings, nothing_built, segment_of, named, holds_as, name_in, with_holding, with_holdings, first_process, start_check, with_started, within_names, where_checked, started_as, next_started, all_started, for_the_run, world_of, where_started, opening_of}
 use Rattle.o2_world.specs.Tied.{AreLive, AreUsed, IsSound, IsTied}
+use Rattle.o2_world.proofs.OpeningLoads.{opening_loads}
 use Rattle.o2_world.proofs.Keeps.{held_found, some_is}
 use Rattle.o2_world.proofs.Numbers.{at_place_of, process_is}
 use Rattle.o2_world.proofs.Openings.{opening_sound}
-use Rattle.o2_world.proofs.OpeningSound.{IsFitProgram, Keeps, behind, either_of, all_so_far, apart as starts_apart, free_at_first, opened}
+use Rattle.o2_world.proofs.OpeningSound.{IsFitProgram, all_so_far, apart as starts_apart, free_at_first, opened}
 use Rattle.o2_alone.specs.Renaming.{Renaming, renamed_held}
 use Rattle.o2_alone.specs.Alone.{before_it, ended, opening_alone}
 use Rattle.o2_alone.specs.Isolation.{AreFixed, AreLoadsApart, own_reserves, BeginsAlike, IsLike, IsOver, Isolation}
@@ -406,43 +406,8 @@ opened_fixed s reserved script input starts w e =
     opened (λ (w : World). AreFixed w.names) (λ (b : Built). AreFixed b.names) reserved script s.budget input (fold (next_started s.segments) (Ok nothing_built) starts) w (λ b fixed. fixed)
     (all_so_far (λ (b : Built). AreFixed b.names) (λ (s : Start). Unit {0}) s.segments starts (Ok nothing_built) (λ b s u is q fixed. fixed_all (holdings (length b.processes + 1) s) b fixed) (λ k d low. tt) (λ q z e. absurd (cc))) e
 
--- All that is held before the first step is held by load, and in no run.
-
-record AreLoads (b : Built) : Type 0 where
-  held : (place i : ℕ) (h : Held) → held_in b.processes place i ≡ Some h → (h.cause ≡ ByLoad) × (h.reserved ≡ 0)
-  so_far : (i : ℕ) (h : Held) → get b.held i ≡ Some h → (h.cause ≡ ByLoad) × (h.reserved ≡ 0)
-
-load_more : (m : Map Held) (i : ℕ) (x : Held) → x.cause ≡ ByLoad → x.reserved ≡ 0 → ((j : ℕ) (h : Held) → get m j ≡ Some h → (h.cause ≡ ByLoad) × (h.reserved ≡ 0)) → (j : ℕ) (h : Held) → get ((i, x) ∷ m) j ≡ Some h
-    → (h.cause ≡ ByLoad) × (h.reserved ≡ 0)
-load_more m i x load alone old j h e = go (i == j) e
-  where
-    go : (t : Bool) → cond t (Some x) (get m j) ≡ Some h → (h.cause ≡ ByLoad) × (h.reserved ≡ 0)
-    go true f = (let same : x ≡ h = cc in (ap (λ (y : Held). y.cause) (sym same) ∙ load, ap (λ (y : Held). y.reserved) (sym same) ∙ alone))
-    go false f = old j h f
-
-holding_loads : (b : Built) (h : Holding) (o : Option ℕ) → AreLoads b → AreLoads (holds_as b h o)
-holding_loads b h (Some name) x = record { held = x.held; so_far = load_more b.held h.index (held_by_load name h.rights) refl refl x.so_far }
-holding_loads b h None x = record { held = x.held; so_far = load_more b.held h.index (held_by_load b.next_name h.rights) refl refl x.so_far }
-
-holdings_load : (hs : List Holding) (b : Built) → AreLoads b → AreLoads (with_holdings b hs)
-holdings_load [] b x = x
-holdings_load (h ∷ hs) b x = holdings_load hs (with_holding b h) (holding_loads b h (cond h.common (name_in b.made h.place h.number) None) x)
-
 no_hold : (h : Held) → ◌≡◌ {A = Option Held} None (Some h) → ⊥
 no_hold h e = cc
-
-started_loads : Keeps AreLoads (λ (s : Start). Unit {0})
-started_loads b s u checked fit x =
-    let c : Built = with_holdings b (holdings (length b.processes + 1) s) in
-    let y = holdings_load (holdings (length b.processes + 1) s) b x in
-    record { held = λ place i h e. either_of (behind c.processes _ place i h e) (y.held place i h) (y.so_far i h); so_far = λ i h e. absurd (no_hold h e) }
-
-opening_loads : (s : Setting) (reserved : List (ℕ × ℕ)) (script : List Word) (input : List ℕ) (starts : List Start) (w : World)
-    → opening_of s reserved script input starts ≡ Ok w → (place i : ℕ) (h : Held) → held_in w.processes place i ≡ Some h → (h.cause ≡ ByLoad) × (h.reserved ≡ 0)
-unfolding all_started
-opening_loads s reserved script input starts w e =
-    opened (λ (x : World). (place i : ℕ) (h : Held) → held_in x.processes place i ≡ Some h → (h.cause ≡ ByLoad) × (h.reserved ≡ 0)) AreLoads reserved script s.budget input (fold (next_started s.segments) (Ok nothing_built) starts) w (λ b x. x.held)
-    (all_so_far AreLoads (λ (x : Start). Unit {0}) s.segments starts (Ok nothing_built) started_loads (λ k d l. tt) (record { held = λ place i h f. absurd (no_hold h f); so_far = λ i h f. absurd (no_hold h f) })) e
 
 opened_apart : (s : Setting) (reserved : List (ℕ × ℕ)) (script : List Word) (input : List ℕ) (starts : List Start) (w : World) → opening_of s reserved script input starts ≡ Ok w → AreLoadsApart w
 opened_apart s reserved script input starts w e = record {

@@ -18,7 +18,8 @@ use Rattle.o2_world.specs.SharedCalls.{dos_alloc_shr_seg, dos_get_shr_seg, dos_g
 use Rattle.o2_world.specs.HugeCalls.{dos_alloc_huge, dos_realloc_huge, dos_get_huge_shift}
 use Rattle.o2_world.specs.Run.{changed, worked, all_changes}
 use Rattle.o2_boundless.specs.Shown.{Shown}
-use Rattle.o2_boundless.specs.Called.{behind_effect, row_with, with_row, words_by, words_of}
+use Rattle.o2_world.specs.Words.{words_of}
+use Rattle.o2_boundless.specs.Called.{behind_effect, row_with, with_row, words_by}
 
 -- a world with this dispatch and these lines
 told_with : Dispatch → List Line → World → World

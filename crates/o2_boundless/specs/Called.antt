@@ -1,5 +1,6 @@
 -- The calls with arguments in the order in which a program pushes them, and the world behind them.
 use Rattle.std.specs.Prelude.{ℕ, ◌/◌, ◌%◌, List, [], ◌∷◌, ◌++◌, codes, slice_index, if◌then◌else◌, Option, Some, None}
+use Rattle.o2_world.specs.Words.{words_of}
 use Rattle.o2_world.specs.declared.types.Argument.TheVariants.{Word, Long}
 use Rattle.o2_world.specs.declared.types.Row.{Row}
 use Rattle.o2_world.specs.declared.types.Row.TheVariants.{DosExit, DosGetPid, DosRead, DosWrite, DosMemAvail, OnSegments, OnShared, OnRuns}
@@ -20,28 +21,6 @@ use Rattle.o2_world.specs.Run.{all_changes}
 use Rattle.o2_world.specs.Text.{lines_text}
 use Rattle.o2_boundless.specs.Shown.{Shown, before_call}
 use Rattle.o2_boundless.specs.Outcomes.{worked_slowly}
-
--- how many words a row's arguments have
-abbrev pub words_of : Row → ℕ
-words_of DosExit = 2
-words_of DosGetPid = 2
-words_of DosRead = 6
-words_of DosWrite = 6
-words_of DosMemAvail = 2
-words_of (OnSegments DosAllocSeg) = 4
-words_of (OnSegments DosReallocSeg) = 2
-words_of (OnSegments DosFreeSeg) = 1
-words_of (OnSegments DosSizeSeg) = 3
-words_of (OnSegments DosLockSeg) = 1
-words_of (OnSegments DosUnlockSeg) = 1
-words_of (OnSegments DosCreateCsAlias) = 3
-words_of (OnShared DosAllocShrSeg) = 5
-words_of (OnShared DosGetShrSeg) = 4
-words_of (OnShared DosGiveSeg) = 4
-words_of (OnShared DosGetSeg) = 1
-words_of (OnRuns DosAllocHuge) = 6
-words_of (OnRuns DosReallocHuge) = 3
-words_of (OnRuns DosGetHugeShift) = 2
 
 -- DosExit with its arguments
 abbrev pub exited : Before → (action code : ℕ) → Effect

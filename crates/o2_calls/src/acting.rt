@@ -1,14 +1,13 @@
 // A call on segments over a store and the tables of what processes hold.
 ghost use Rattle.std.specs.Prelude.{◌≡◌, ℕ, ◌+◌, ◌-◌, ◌<◌, ◌≤◌, ◌^◌, IsSome, IsTrue, Some, true, ◌⊎◌};
 ghost use Rattle.o2_entries.specs.Tables.{slot_at};
-ghost use Rattle.o2_outer.specs.Texts.{Rose};
 ghost use Rattle.o2_regions.specs.Maps.{IsProcess};
-ghost use Rattle.o2_segbus.specs.Seen.{AreNamed};
 ghost use Rattle.o2_store.specs.Needs.{named_in};
-ghost use Rattle.o2_store.specs.Pictures.{HasPicture, picture};
-ghost use Rattle.o2_store.specs.Shelf.{AreClean, HasAll, place_of};
-ghost use Rattle.o2_swapmap.specs.Piles.{all_of};
-ghost use Rattle.o2_changes.specs.Order.{IsGuarded, IsInOrder};
+ghost use Rattle.o2_store.specs.Pictures.{HasPicture};
+ghost use Rattle.o2_store.specs.Shelf.{HasAll, place_of};
+ghost use Rattle.o2_store.specs.Frames.{IsBacked, KeepsDevice};
+ghost use Rattle.o2_changes.specs.Frames.{KeepsOrderFor};
+ghost use Rattle.o2_segs.specs.Callers.{IsCaller};
 ghost use Rattle.o2_stands.specs.Moves.{moved};
 ghost use Rattle.o2_stands.specs.Parts.{Parts};
 ghost use Rattle.o2_stands.specs.Stands.{Matches};
@@ -57,13 +56,10 @@ pub fn act<S: SwapDevice>(
     images: &Images,
     swap: &mut S,
 ) -> Roomed
-    requires process { IsProcess regions.old pid }
-    requires named { AreNamed store.old regions.old }
+    requires caller { IsCaller store.old regions.old pid }
     requires made { store.old.made + 4096 < 2 ^ 64 }
-    requires order { IsInOrder store.old regions.old }
     requires pictures { HasAll (HasPicture images.now) store.old }
-    requires clean { AreClean store.old (picture images.now) }
-    requires device { all_of store.old.swap ≤ S.blocks swap.old }
+    requires backed { IsBacked store.old images.now (S.blocks swap.old) }
     requires one { ShareOne regions.old }
     requires few { AreFew regions.old }
     requires living { (n : ℕ) → lives ends.now n ≡ true → IsProcess regions.old n }
@@ -122,15 +118,9 @@ pub fn act<S: SwapDevice>(
     ensures limits { KeepsLimitsBy store.old regions.old store.new regions.new (most_made result) (made_in result) }
     ensures places { AreInPlace store.new regions.new names.new }
     ensures value { IsGivable arguments result }
-    ensures order { IsInOrder store.new regions.new }
-    ensures guards { IsGuarded store.old regions.old → IsGuarded store.new regions.new }
-    ensures clean { AreClean store.new (picture images.now) }
-    ensures pictures { HasAll (HasPicture images.now) store.new }
-    ensures map { all_of store.new.swap ≡ all_of store.old.swap }
-    ensures device { (S.blocks swap.new ≡ S.blocks swap.old)
-        × (IsTrue (S.told swap.new) → IsTrue (S.told swap.old)) }
-    ensures faults { S.faults swap.old ≤ S.faults swap.new }
-    ensures cause { result ≡ Roomed.SwapFault → Rose (S.faults swap.old) (S.faults swap.new) }
+    ensures goes_on { KeepsOrderFor images.now store.old regions.old store.new regions.new }
+    ensures device { KeepsDevice S.blocks S.told S.faults swap.old swap.new
+        (result ≡ Roomed.SwapFault) }
     // Where nothing is in swap blocks, the device isn't touched, unless all that lives with what the call changes doesn't fit the memory.
     ensures idle { NoneTaken store.old.swap → IsIdle store.new swap.old swap.new
         ⊎ IsShort arguments store.old regions.old pid result }

@@ -3,11 +3,9 @@ ghost use Rattle.std.specs.Prelude.{◌≡◌, ℕ, ◌-◌, ◌<◌, ◌≤◌,
 ghost use Rattle.o2_image.specs.ImageList.{ImageList};
 ghost use Rattle.o2_regions.specs.Lives.{lives};
 ghost use Rattle.o2_regions.specs.Maps.{IsProcess};
-ghost use Rattle.o2_segbus.specs.Seen.{AreNamed};
-ghost use Rattle.o2_store.specs.Pictures.{HasPicture};
-ghost use Rattle.o2_store.specs.Shelf.{AreClean, HasAll, Pictures, place_of};
-ghost use Rattle.o2_swapmap.specs.Piles.{all_of};
-ghost use Rattle.o2_changes.specs.Order.{IsGuarded, IsInOrder};
+ghost use Rattle.o2_store.specs.Shelf.{place_of};
+ghost use Rattle.o2_changes.specs.Frames.{KeepsOrder};
+ghost use Rattle.o2_segs.specs.Callers.{IsCaller};
 ghost use Rattle.o2_stands.specs.Stands.{Matches};
 ghost use Rattle.o2_stands.specs.Parts.{Parts};
 ghost use Rattle.o2_world.specs.Changes.{with_all};
@@ -20,7 +18,6 @@ ghost use Rattle.o2_shared.specs.Shares.{AreFew, ShareOne, StillHolds};
 ghost use Rattle.o2_shared.specs.Texts.{AreInPlace};
 ghost use Rattle.o2_calls.specs.Acts.{IsOver};
 ghost use Rattle.o2_calls.specs.SharedActs.{AreSpelled, Spells, shared_ruling};
-ghost use Rattle.o2_store.specs.Idle.{NoneTaken};
 
 use o2_gate::SharedArguments;
 use o2_regions::{Answer, Ends, Regions};
@@ -38,10 +35,8 @@ pub fn share(
     names: &mut Shared,
     ends: &Ends,
 ) -> Answer
-    requires process { IsProcess regions.old pid }
-    requires named { AreNamed store.old regions.old }
+    requires caller { IsCaller store.old regions.old pid }
     requires made { store.old.made < 2 ^ 64 - 1 }
-    requires order { IsInOrder store.old regions.old }
     requires one { ShareOne regions.old }
     requires few { AreFew regions.old }
     requires living { (n : ℕ) → lives ends.now n ≡ true → IsProcess regions.old n }
@@ -68,13 +63,7 @@ pub fn share(
     ensures limits { KeepsLimitsBy store.old regions.old store.new regions.new 1 1 }
     ensures entries { KeepsEntries store.old store.new }
     ensures kept { (k : ℕ) → IsSome (place_of store.old k) → IsSome (place_of store.new k) }
-    ensures order { IsInOrder store.new regions.new }
-    ensures guards { IsGuarded store.old regions.old → IsGuarded store.new regions.new }
-    ensures clean { (pic : Pictures) → AreClean store.old pic → AreClean store.new pic }
-    ensures pictures { (images : ImageList) → HasAll (HasPicture images) store.old
-        → HasAll (HasPicture images) store.new }
-    ensures map { all_of store.new.swap ≡ all_of store.old.swap }
-    ensures unused { NoneTaken store.old.swap → NoneTaken store.new.swap }
+    ensures goes_on { KeepsOrder store.old regions.old store.new regions.new }
 {
     match arguments {
         SharedArguments::Name { size, text, .. } => {

@@ -104,6 +104,10 @@ moved_pictures s t has same was k m n e = was k m n ((same.same k).image (m, n) 
 pub sized_pictures : (s t : Shelf) (has : ℕ → ℕ → Type 0) (told : Bool) (images : ImageList) (before after : ℕ → List ℕ) (key size : ℕ) → Resizes told (picture images) s before t after key size → HasAll has s → HasAll has t
 sized_pictures s t has told images before after key size r was k m n e = was k m n ((each s t told images before after key size r k).image (m, n) e)
 
+pub some_swap : (s t : Shelf) (o : Option SegId) (e : Entry) (X : Type 0) → IfNone o (X × (t ≡ s)) → IfSome o (λ id. Adds s t id e) → t.swap ≡ s.swap
+some_swap s t None e X none adds = ap (λ (x : Shelf). x.swap) none.1
+some_swap s t (Some id) e X none adds = ap (λ (x : Shelf). x.swap) adds.shelf
+
 pub locked_swap : (s t : Shelf) (id : SegId) (lock : ℕ) → SetsLock s t id lock → all_of t.swap ≡ all_of s.swap
 locked_swap s t id lock l = ap (λ (x : Shelf). all_of x.swap) l.shelf
 

@@ -1,4 +1,5 @@
 pub mod Settling
+pub mod Framing
 pub mod Granting
 pub mod Drops
 pub mod Freeing

@@ -1,4 +1,5 @@
 pub mod Order
+pub mod Frames
 pub mod Holding
 pub mod Segments
 pub mod Worlds

@@ -2,14 +2,11 @@
 ghost use Rattle.std.specs.Prelude.{◌≡◌, ◌≢◌, ℕ, ◌-◌, ◌<◌, ◌≤◌, Some, None, IsSome, is_some, true, false};
 ghost use Rattle.o2_regions.specs.declared.held.Held.{Held as HeldThere};
 ghost use Rattle.o2_regions.specs.Maps.{IsProcess, held_at, is_held, is_of, region_of, some_holds};
-ghost use Rattle.o2_image.specs.ImageList.{ImageList};
-ghost use Rattle.o2_store.specs.Pictures.{HasPicture};
-ghost use Rattle.o2_store.specs.Shelf.{AreClean, HasAll, Pictures, entry_of};
+ghost use Rattle.o2_store.specs.Shelf.{entry_of};
+ghost use Rattle.o2_changes.specs.Frames.{KeepsOrder};
 ghost use Rattle.o2_changes.specs.Holding.{FreesIndex, FreesRun, IsUnheld, KeepsPlaces, Sweeps, Takes};
-ghost use Rattle.o2_changes.specs.Order.{IsGuarded, IsInOrder};
+ghost use Rattle.o2_changes.specs.Order.{IsInOrder};
 ghost use Rattle.o2_changes.specs.Worlds.{MatchesDrop};
-ghost use Rattle.o2_swapmap.specs.Piles.{all_of};
-ghost use Rattle.o2_store.specs.Idle.{NoneTaken};
 
 use crate::holding::region_of;
 use o2_place::SegId;
@@ -131,13 +128,7 @@ pub fn sweep(store: &mut Store, regions: &Regions, id: SegId)
 
     ensures sweeps { Sweeps store.old store.new regions.now id }
     ensures places { KeepsPlaces store.old store.new }
-    ensures map { all_of store.new.swap ≡ all_of store.old.swap }
-    ensures unused { NoneTaken store.old.swap → NoneTaken store.new.swap }
-    ensures order { IsInOrder store.new regions.now }
-    ensures guards { IsGuarded store.old regions.now → IsGuarded store.new regions.now }
-    ensures clean { (pic : Pictures) → AreClean store.old pic → AreClean store.new pic }
-    ensures pictures { (images : ImageList) → HasAll (HasPicture images) store.old
-        → HasAll (HasPicture images) store.new }
+    ensures goes_on { KeepsOrder store.old regions.now store.new regions.now }
 {
     store.law();
     if is_unheld(regions, id) {
@@ -160,13 +151,7 @@ pub fn let_go(store: &mut Store, regions: &mut Regions, pid: u16, index: u16, he
     ensures sweeps { Sweeps store.old store.new regions.new held.id }
     ensures places { KeepsPlaces store.old store.new }
     ensures processes { regions.new.processes ≡ regions.old.processes }
-    ensures order { IsInOrder store.new regions.new }
-    ensures map { all_of store.new.swap ≡ all_of store.old.swap }
-    ensures unused { NoneTaken store.old.swap → NoneTaken store.new.swap }
-    ensures guards { IsGuarded store.old regions.old → IsGuarded store.new regions.new }
-    ensures clean { (pic : Pictures) → AreClean store.old pic → AreClean store.new pic }
-    ensures pictures { (images : ImageList) → HasAll (HasPicture images) store.old
-        → HasAll (HasPicture images) store.new }
+    ensures goes_on { KeepsOrder store.old regions.old store.new regions.new }
     ensures matches { MatchesDrop store.old store.new regions.old regions.new pid index }
 {
     store.law();

@@ -1,13 +1,9 @@
 // A process loses holds of a member of a run.
-ghost use Rattle.std.specs.Prelude.{◌≡◌, ℕ, ◌<◌, ◌≤◌, Some, IsSome};
-ghost use Rattle.o2_image.specs.ImageList.{ImageList};
+ghost use Rattle.std.specs.Prelude.{◌≡◌, ◌<◌, ◌≤◌, Some};
 ghost use Rattle.o2_regions.specs.Maps.{IsProcess, held_at};
-ghost use Rattle.o2_store.specs.Pictures.{HasPicture};
-ghost use Rattle.o2_store.specs.Shelf.{AreClean, HasAll, Pictures};
-ghost use Rattle.o2_swapmap.specs.Piles.{all_of};
-ghost use Rattle.o2_store.specs.Idle.{NoneTaken};
+ghost use Rattle.o2_changes.specs.Frames.{KeepsOrder};
 ghost use Rattle.o2_changes.specs.Holding.{KeepsPlaces, Sweeps, TakesSome};
-ghost use Rattle.o2_changes.specs.Order.{IsGuarded, IsInOrder};
+ghost use Rattle.o2_changes.specs.Order.{IsInOrder};
 ghost use Rattle.o2_changes.specs.Worlds.{MatchesLoss};
 
 use crate::dropping::{drop_hold, sweep};
@@ -45,13 +41,7 @@ pub fn lose(store: &mut Store, regions: &mut Regions, pid: u16, index: u16, held
     ensures reserved { regions.new.reserved ≡ regions.old.reserved }
     ensures sweeps { Sweeps store.old store.new regions.new held.id }
     ensures places { KeepsPlaces store.old store.new }
-    ensures order { IsInOrder store.new regions.new }
-    ensures map { all_of store.new.swap ≡ all_of store.old.swap }
-    ensures unused { NoneTaken store.old.swap → NoneTaken store.new.swap }
-    ensures guards { IsGuarded store.old regions.old → IsGuarded store.new regions.new }
-    ensures clean { (pic : Pictures) → AreClean store.old pic → AreClean store.new pic }
-    ensures pictures { (images : ImageList) → HasAll (HasPicture images) store.old
-        → HasAll (HasPicture images) store.new }
+    ensures goes_on { KeepsOrder store.old regions.old store.new regions.new }
     ensures matches { MatchesLoss store.old store.new regions.old regions.new pid index count }
 {
     store.law();

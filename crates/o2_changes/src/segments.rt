@@ -1,22 +1,22 @@
 // Segments are made, locked, sized and brought into memory, and descriptors say where they are.
-ghost use Rattle.std.specs.Prelude.{◌≡◌, ◌⊎◌, ℕ, List, ◌+◌, ◌-◌, ◌<◌, ◌≤◌, ◌^◌, length, IsSome, IsTrue, IfSome, None, true, false, nat_lt};
+ghost use Rattle.std.specs.Prelude.{◌≡◌, ◌⊎◌, ℕ, List, ◌+◌, ◌-◌, ◌<◌, ◌≤◌, ◌^◌, length, IsSome, IfSome, None, true, false};
 ghost use Rattle.std.specs.Option.{IfNone};
 ghost use Rattle.o2_entries.specs.Tables.{live_numbers};
-ghost use Rattle.o2_image.specs.ImageList.{ImageList};
-ghost use Rattle.o2_outer.specs.Texts.{Rose};
 ghost use Rattle.o2_service.specs.Told.{OnlyTables};
 ghost use Rattle.o2_store.specs.Leaving.{IsStuck};
 ghost use Rattle.o2_store.specs.Loads.{live_load, live_load_at, swap_load};
 ghost use Rattle.o2_store.specs.Needs.{all_wanted, named_in};
 ghost use Rattle.o2_store.specs.Pictures.{picture, HasPicture};
-ghost use Rattle.o2_store.specs.Shelf.{AreClean, Adds, HasAll, KeepsAll, Pictures, Removes, byte_at, entry, entry_of, place_of};
+ghost use Rattle.o2_store.specs.Shelf.{Adds, HasAll, KeepsAll, Pictures, Removes, byte_at, entry_of, place_of};
 ghost use Rattle.o2_store.specs.Sizes.{Resizes, all_wanted_at, stays};
 ghost use Rattle.o2_swapmap.specs.Piles.{all_of};
+ghost use Rattle.o2_store.specs.Frames.{IsBacked, KeepsDevice};
+ghost use Rattle.o2_changes.specs.Frames.{KeepsOrder, KeepsOrderFor};
 ghost use Rattle.o2_changes.specs.Holding.{IsUnheld};
-ghost use Rattle.o2_changes.specs.Order.{IsGuarded, IsInOrder};
+ghost use Rattle.o2_changes.specs.Order.{IsInOrder};
 ghost use Rattle.o2_changes.specs.Segments.{IsNewest, SetsLock};
 ghost use Rattle.o2_changes.specs.Worlds.{MatchesLock, MatchesMake, MatchesMove, MatchesSize, MatchesUnmake, new_segment};
-ghost use Rattle.o2_store.specs.Idle.{Idles, NoneTaken};
+ghost use Rattle.o2_store.specs.Idle.{Idles};
 
 use o2_image::Images;
 use o2_outer::SwapDevice;
@@ -42,10 +42,7 @@ pub fn make(
     ensures added { IfSome result (λ id. Adds store.old store.new id (record { age = store.old.made; size = size; kept = 0; image = None; attr = record { flags = flags; lock = 0; clean = false; shared = shared } })) }
     ensures zeros { IfSome result (λ id. (pic : Pictures) (block : ℕ → List ℕ) (j : ℕ)
         → byte_at store.new pic block id.key j ≡ 0) }
-    ensures clean { (pic : Pictures) → AreClean store.old pic → AreClean store.new pic }
-    ensures pictures { (images : ImageList) → HasAll (HasPicture images) store.old → HasAll (HasPicture images) store.new }
-    ensures order { IsInOrder store.new regions.now }
-    ensures guards { IsGuarded store.old regions.now → IsGuarded store.new regions.now }
+    ensures goes_on { KeepsOrder store.old regions.now store.new regions.now }
     ensures unheld { IfSome result (λ id. IsUnheld regions.now id) }
     ensures live { IfSome result (λ id. IsSome (entry_of store.new id)) }
     ensures newest { IfSome result (λ id. IsNewest store.new id) }
@@ -73,13 +70,7 @@ pub fn unmake(store: &mut Store, regions: &Regions, id: SegId)
 
     ensures removed { Removes store.old (record store.new { made = store.old.made }) id.key }
     ensures made { store.new.made ≡ id.age }
-    ensures map { all_of store.new.swap ≡ all_of store.old.swap }
-    ensures unused { NoneTaken store.old.swap → NoneTaken store.new.swap }
-    ensures clean { (pic : Pictures) → AreClean store.old pic → AreClean store.new pic }
-    ensures pictures { (images : ImageList) → HasAll (HasPicture images) store.old
-        → HasAll (HasPicture images) store.new }
-    ensures order { IsInOrder store.new regions.now }
-    ensures guards { IsGuarded store.old regions.now → IsGuarded store.new regions.now }
+    ensures goes_on { KeepsOrder store.old regions.now store.new regions.now }
     ensures matches { MatchesUnmake store.old store.new regions.now id }
 {
     store.law();
@@ -94,12 +85,7 @@ pub fn set_lock(store: &mut Store, regions: &Regions, id: SegId, lock: u8)
     requires order { IsInOrder store.old regions.now }
 
     ensures sets { SetsLock store.old store.new id lock }
-    ensures map { all_of store.new.swap ≡ all_of store.old.swap }
-    ensures clean { (pic : Pictures) → AreClean store.old pic → AreClean store.new pic }
-    ensures pictures { (images : ImageList) → HasAll (HasPicture images) store.old
-        → HasAll (HasPicture images) store.new }
-    ensures order { IsInOrder store.new regions.now }
-    ensures guards { IsGuarded store.old regions.now → IsGuarded store.new regions.now }
+    ensures goes_on { KeepsOrder store.old regions.now store.new regions.now }
     ensures matches { MatchesLock store.old store.new regions.now id lock }
 {
     if let Some(attr) = store.attr(id) {
@@ -121,20 +107,14 @@ pub fn bring_in<S: SwapDevice>(
     requires live { IsSome (entry_of store.old id) }
     requires order { IsInOrder store.old regions.old }
     requires pictures { HasAll (HasPicture images.now) store.old }
-    requires clean { AreClean store.old (picture images.now) }
-    requires device { all_of store.old.swap ≤ S.blocks swap.old }
+    requires backed { IsBacked store.old images.now (S.blocks swap.old) }
 
     ensures keeps { KeepsAll (S.told swap.new) (picture images.now)
         store.old (S.block swap.old) store.new (S.block swap.new) }
-    ensures clean { AreClean store.new (picture images.now) }
-    ensures device { (S.blocks swap.new ≡ S.blocks swap.old)
-        × (IsTrue (S.told swap.new) → IsTrue (S.told swap.old)) }
-    ensures map { all_of store.new.swap ≡ all_of store.old.swap }
+    ensures device { KeepsDevice S.blocks S.told S.faults swap.old swap.new
+        (result ≡ Brought.SwapFault) }
     ensures maps { OnlyTables regions.old regions.new }
-    ensures order { IsInOrder store.new regions.new }
-    ensures guards { IsGuarded store.old regions.old → IsGuarded store.new regions.new }
-    ensures pictures { (images : ImageList) → HasAll (HasPicture images) store.old
-        → HasAll (HasPicture images) store.new }
+    ensures goes_on { KeepsOrderFor images.now store.old regions.old store.new regions.new }
     ensures matches { MatchesMove store.old store.new regions.old regions.new images.now
         (S.told swap.new) (S.block swap.old) (S.block swap.new) }
     ensures kept { (k : ℕ) → named_in store.old.entries keep.now k ≡ true
@@ -147,8 +127,6 @@ pub fn bring_in<S: SwapDevice>(
         → (all_of store.old.swap < swap_load store.old)
         × (store.old.places.size < live_load store.old) }
     ensures stuck { result ≡ Brought.SwapFull → IsStuck store.old store.new id.key }
-    ensures faults { S.faults swap.old ≤ S.faults swap.new }
-    ensures cause { result ≡ Brought.SwapFault → Rose (S.faults swap.old) (S.faults swap.new) }
     ensures never { result ≡ Brought.Stale → ⊥ }
     // Where nothing is in swap blocks and all that lives fits the memory, the device isn't touched.
     ensures idle { Idles (live_load store.old) store.old store.new swap.old swap.new }
@@ -170,22 +148,16 @@ pub fn resize<S: SwapDevice>(
     requires live { IsSome (entry_of store.old id) }
     requires sizes { (0 < size) × (size ≤ 65536) }
     requires order { IsInOrder store.old regions.old }
-    requires clean { AreClean store.old (picture images.now) }
-    requires device { all_of store.old.swap ≤ S.blocks swap.old }
+    requires backed { IsBacked store.old images.now (S.blocks swap.old) }
 
     ensures resized { result ≡ Brought.Here → Resizes (S.told swap.new) (picture images.now)
         store.old (S.block swap.old) store.new (S.block swap.new) id.key size }
     ensures keeps { (result ≡ Brought.Here → ⊥) → KeepsAll (S.told swap.new) (picture images.now)
         store.old (S.block swap.old) store.new (S.block swap.new) }
-    ensures clean { AreClean store.new (picture images.now) }
-    ensures device { (S.blocks swap.new ≡ S.blocks swap.old)
-        × (IsTrue (S.told swap.new) → IsTrue (S.told swap.old)) }
-    ensures map { all_of store.new.swap ≡ all_of store.old.swap }
+    ensures device { KeepsDevice S.blocks S.told S.faults swap.old swap.new
+        (result ≡ Brought.SwapFault) }
     ensures maps { OnlyTables regions.old regions.new }
-    ensures order { IsInOrder store.new regions.new }
-    ensures guards { IsGuarded store.old regions.old → IsGuarded store.new regions.new }
-    ensures pictures { (images : ImageList) → HasAll (HasPicture images) store.old
-        → HasAll (HasPicture images) store.new }
+    ensures goes_on { KeepsOrderFor images.now store.old regions.old store.new regions.new }
     ensures matches { result ≡ Brought.Here → MatchesSize store.old store.new regions.old regions.new images.now
         (S.told swap.new) (S.block swap.old) (S.block swap.new) id size }
     ensures stays { (result ≡ Brought.Here → ⊥) → MatchesMove store.old store.new regions.old regions.new images.now
@@ -199,8 +171,6 @@ pub fn resize<S: SwapDevice>(
         × (store.old.places.size < all_wanted_at store.old id.key keep.now size) }
     ensures loads { result ≡ Brought.SwapFull → (all_of store.old.swap < swap_load store.old)
         × (store.old.places.size < live_load_at store.old id.key size) }
-    ensures faults { S.faults swap.old ≤ S.faults swap.new }
-    ensures cause { result ≡ Brought.SwapFault → Rose (S.faults swap.old) (S.faults swap.new) }
     ensures never { result ≡ Brought.Stale → ⊥ }
     // Where nothing is in swap blocks and all that lives, with the new size, fits the memory, the device isn't touched.
     ensures idle { Idles (live_load_at store.old id.key size) store.old store.new swap.old swap.new }

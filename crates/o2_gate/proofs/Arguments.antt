@@ -10,7 +10,8 @@ use Rattle.o2_world.specs.Calls.{Before, argument, has_arguments, may_write, tra
 use Rattle.o2_world.specs.Known.{Known}
 use Rattle.o2_world.specs.SegmentCalls.{aliased, allocated, dos_alloc_seg, dos_create_cs_alias, dos_free_seg, dos_lock_seg, dos_realloc_seg, dos_size_seg, dos_unlock_seg, freed, locked, on_segments, reallocated, sized, unlocked}
 use Rattle.o2_world.proofs.MapLemmas.{if_no}
-use Rattle.o2_run.specs.Room.{call_names, pointed, pointer_at, segment_pointers, segment_words}
+use Rattle.o2_world.specs.Words.{segment_words}
+use Rattle.o2_run.specs.Room.{call_names, pointed, pointer_at, segment_pointers}
 use Rattle.o2_gate.specs.declared.gathering.SegmentArguments.{SegmentArguments}
 use Rattle.o2_gate.specs.declared.gathering.SegmentArguments.TheVariants as given
 use Rattle.o2_gate.specs.declared.gathering.Gathered.{Gathered}

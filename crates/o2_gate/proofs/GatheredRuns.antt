@@ -10,7 +10,8 @@ use Rattle.o2_world.specs.Calls.{Before, argument, has_arguments, may_write, ser
 use Rattle.o2_world.specs.HugeCalls.{allocated_huge, dos_alloc_huge, dos_get_huge_shift, dos_realloc_huge, on_runs, reallocated_huge, shift_told}
 use Rattle.o2_world.specs.Known.{Known}
 use Rattle.o2_world.proofs.MapLemmas.{if_no}
-use Rattle.o2_run.specs.Room.{Pointer, call_names, huge_words, pointer_at}
+use Rattle.o2_world.specs.Words.{huge_words}
+use Rattle.o2_run.specs.Room.{Pointer, call_names, pointer_at}
 use Rattle.o2_gate.specs.declared.gathering.SegmentArguments.{SegmentArguments}
 use Rattle.o2_gate.specs.declared.gathering.SegmentArguments.TheVariants as asked
 use Rattle.o2_gate.specs.declared.gathering.Gathered.{Gathered}

@@ -13,7 +13,8 @@ use Rattle.o2_world.specs.Known.{Known}
 use Rattle.o2_world.specs.SharedCalls.{dos_alloc_shr_seg, dos_get_seg, dos_get_shr_seg, dos_give_seg, given, got, named, on_shared, shared_by_name}
 use Rattle.o2_world.specs.SharedNames.{looked_at, may_read_text, text_size}
 use Rattle.o2_world.proofs.MapLemmas.{if_no}
-use Rattle.o2_run.specs.Room.{Pointer, call_names, pointed, pointer_at, pointers_of, shared_pointers, shared_words, words_of}
+use Rattle.o2_world.specs.Words.{shared_words, words_of}
+use Rattle.o2_run.specs.Room.{Pointer, call_names, pointed, pointer_at, pointers_of, shared_pointers}
 use Rattle.o2_gate.specs.declared.gathering.SegmentArguments.{SegmentArguments}
 use Rattle.o2_gate.specs.declared.gathering.SegmentArguments.TheVariants as asked
 use Rattle.o2_gate.specs.declared.gathering.Gathered.{Gathered}

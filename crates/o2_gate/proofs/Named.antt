@@ -9,7 +9,8 @@ use Rattle.o2_world.specs.declared.types.Row.TheVariants.{DosExit, DosRead, DosW
 use Rattle.o2_world.specs.declared.types.Transfer.{Transfer}
 use Rattle.o2_world.specs.Calls.{Before, argument, has_arguments, transfer_of, row_of}
 use Rattle.o2_run.specs.declared.fault.Fault.{Fault}
-use Rattle.o2_run.specs.Room.{pointed, call_names, words_of}
+use Rattle.o2_world.specs.Words.{words_of}
+use Rattle.o2_run.specs.Room.{pointed, call_names}
 use Rattle.o2_gate.specs.declared.called.Called.{Called}
 use Rattle.o2_gate.specs.declared.called.Called.TheVariants.{Back, Exited, Trap, Missed}
 use Rattle.o2_gate.specs.Called.{OnMissed}

@@ -11,7 +11,7 @@ use Rattle.o2_isa.specs.Writes.{HoldsAsWritable, WritesData}
 use Rattle.o2_isa.proofs.Alike.{bound_made}
 use Rattle.o2_isa.specs.Pointers.{has_present_range, is_ready, put_in, put_at_pointer, with_part, KeepsAllButBytes}
 use Rattle.o2_isa.specs.Presence.{SameSelectors}
-use Rattle.o2_gate.specs.Writes.{HoldsForWriting, WritesHeld}
+use Rattle.o2_bus.specs.Writes.{HoldsForWriting, WritesHeld}
 use Rattle.o2_gate.proofs.Stores.{held_range}
 
 -- what a selector binds is held in the map

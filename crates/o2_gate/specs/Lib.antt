@@ -4,7 +4,6 @@ pub mod Called
 pub mod Names
 pub mod Gathers
 pub mod Replies
-pub mod Writes
 pub mod Pieces
 pub mod SharedReplies
 pub mod Texts

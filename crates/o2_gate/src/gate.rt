@@ -5,7 +5,7 @@ ghost use Rattle.o2_outer.specs.Inputs.{GoesOn, IsSeenAs, left_as};
 ghost use Rattle.o2_isa.specs.View.{Filling, IsBound};
 ghost use Rattle.o2_isa.specs.Pointers.{KeepsAllButBytes};
 ghost use Rattle.o2_isa.specs.Presence.{SameSelectors};
-ghost use Rattle.o2_gate.specs.Writes.{WritesHeld};
+ghost use Rattle.o2_bus.specs.Writes.{WritesHeld};
 ghost use Rattle.o2_world.specs.Known.{Known};
 ghost use Rattle.o2_world.specs.Calls.{serviced, row_of as number_row, IsPlain};
 ghost use Rattle.o2_gate.specs.Befores.{boundless, before_call, IsKnown};

@@ -7,7 +7,7 @@ ghost use Rattle.o2_world.specs.World.{Calls};
 ghost use Rattle.o2_gate.specs.Pointed.{are_ready};
 ghost use Rattle.o2_gate.specs.HugeReplies.{IsHugeValue, args_of_huge, huge_name, huge_targets, huge_words, huge_written};
 ghost use Rattle.o2_gate.specs.SharedReplies.{bytes_by, values_by};
-ghost use Rattle.o2_gate.specs.Writes.{WritesHeld};
+ghost use Rattle.o2_bus.specs.Writes.{WritesHeld};
 
 use crate::replying::{set_bare, set_valued, store_word};
 use o2_bus::Ranges;

@@ -2,7 +2,7 @@
 ghost use Rattle.std.specs.Prelude.{◌≡◌, ◌+◌, ◌==◌, ◌∷◌, [], ℕ, Bool, true, false, length};
 ghost use Rattle.o2_isa.specs.View.{Filling, is_readable, is_writable, whole, found};
 ghost use Rattle.o2_isa.specs.Pointers.{is_ready, range_of, put_at_pointer, KeepsAllButBytes};
-ghost use Rattle.o2_gate.specs.Writes.{WritesHeld};
+ghost use Rattle.o2_bus.specs.Writes.{WritesHeld};
 ghost use Rattle.o2_gate.specs.Pointed.{Tells, pointer, writes_to, lies_within, refuses};
 
 use o2_base::Selector;

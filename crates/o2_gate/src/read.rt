@@ -6,7 +6,7 @@ ghost use Rattle.o2_outer.specs.Inputs.{GoesOn, IsSeenAs, left_as};
 ghost use Rattle.o2_isa.specs.View.{Filling, IsBound, is_writable, whole};
 ghost use Rattle.o2_isa.specs.Pointers.{is_ready, KeepsAllButBytes};
 ghost use Rattle.o2_isa.specs.Presence.{SameSelectors};
-ghost use Rattle.o2_gate.specs.Writes.{WritesHeld};
+ghost use Rattle.o2_bus.specs.Writes.{WritesHeld};
 ghost use Rattle.o2_world.specs.Known.{Known};
 ghost use Rattle.o2_world.specs.Calls.{dos_read as dos_read_row, read_from as read_from_row, read_with, bytes_with, asks_input, argument};
 ghost use Rattle.o2_gate.specs.Befores.{boundless, before_call};

@@ -11,7 +11,7 @@ ghost use Rattle.o2_gate.specs.Gathers.{targets};
 ghost use Rattle.o2_gate.specs.Pointed.{are_ready};
 ghost use Rattle.o2_gate.specs.MovedLines.{AreInside, all_lines, block_lines, line_at, lines_at};
 ghost use Rattle.o2_gate.specs.Replies.{IsValue, bytes_of, call_line, lines_of, name_of, words_of};
-ghost use Rattle.o2_gate.specs.Writes.{WritesHeld};
+ghost use Rattle.o2_bus.specs.Writes.{WritesHeld};
 
 use crate::gathering::SegmentArguments;
 use crate::huge::{HugeArguments, huge_words, set_huge, store_huge};

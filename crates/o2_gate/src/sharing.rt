@@ -5,7 +5,7 @@ ghost use Rattle.o2_isa.specs.Pointers.{KeepsAllButBytes};
 ghost use Rattle.o2_world.specs.Text.{line_text};
 ghost use Rattle.o2_gate.specs.Pointed.{are_ready};
 ghost use Rattle.o2_gate.specs.SharedReplies.{IsSharedValue, shared_bytes, shared_line, shared_targets, shared_words};
-ghost use Rattle.o2_gate.specs.Writes.{WritesHeld};
+ghost use Rattle.o2_bus.specs.Writes.{WritesHeld};
 
 use crate::replying::{set_bare, set_valued, store_word};
 use crate::text::TextArgument;

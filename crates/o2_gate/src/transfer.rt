@@ -4,7 +4,7 @@ ghost use Rattle.o2_outer.specs.Texts.{Rose};
 ghost use Rattle.o2_outer.specs.Answers.{Takes, OnFailed};
 ghost use Rattle.o2_isa.specs.View.{Filling, is_writable, whole};
 ghost use Rattle.o2_isa.specs.Pointers.{is_ready, put_at_pointer, KeepsAllButBytes};
-ghost use Rattle.o2_gate.specs.Writes.{WritesHeld};
+ghost use Rattle.o2_bus.specs.Writes.{WritesHeld};
 ghost use Rattle.o2_world.specs.Text.{lines_text};
 ghost use Rattle.o2_world.specs.Calls.{transfer_line, word_bytes};
 ghost use Rattle.o2_gate.specs.Pointed.{Tells, transfer_pointers};

@@ -5,7 +5,7 @@ ghost use Rattle.o2_outer.specs.Answers.{Takes, OnDone, OnFailed};
 ghost use Rattle.o2_isa.specs.View.{Filling, IsBound, is_readable, whole};
 ghost use Rattle.o2_isa.specs.Pointers.{is_ready, range_of, KeepsAllButBytes};
 ghost use Rattle.o2_isa.specs.Presence.{SameSelectors};
-ghost use Rattle.o2_gate.specs.Writes.{WritesHeld};
+ghost use Rattle.o2_bus.specs.Writes.{WritesHeld};
 ghost use Rattle.o2_world.specs.Known.{Known};
 ghost use Rattle.o2_world.specs.Text.{lines_text};
 ghost use Rattle.o2_world.specs.Calls.{dos_write as dos_write_row, written as written_row, write_line, is_console, argument};

@@ -4,14 +4,11 @@ ghost use Rattle.o2_base.specs.Selectors.{selector_of};
 ghost use Rattle.o2_desc.specs.Bits.{has_bit};
 ghost use Rattle.o2_desc.specs.Choice.{IsRun, chosen};
 ghost use Rattle.o2_entries.specs.Tables.{live_numbers};
-ghost use Rattle.o2_image.specs.ImageList.{ImageList};
 ghost use Rattle.o2_regions.specs.Maps.{IsProcess, IsRegion, end_of, first_of, is_taken};
-ghost use Rattle.o2_store.specs.Idle.{NoneTaken};
-ghost use Rattle.o2_store.specs.Pictures.{HasPicture};
-ghost use Rattle.o2_store.specs.Shelf.{AreClean, HasAll, Pictures, place_of};
-ghost use Rattle.o2_swapmap.specs.Piles.{all_of};
+ghost use Rattle.o2_store.specs.Shelf.{place_of};
+ghost use Rattle.o2_changes.specs.Frames.{KeepsOrder};
 ghost use Rattle.o2_changes.specs.Holding.{KeepsHolds};
-ghost use Rattle.o2_changes.specs.Order.{IsGuarded, IsInOrder};
+ghost use Rattle.o2_changes.specs.Order.{IsInOrder};
 ghost use Rattle.o2_stands.specs.Knows.{Others, known_in};
 ghost use Rattle.o2_stands.specs.Parts.{Parts};
 ghost use Rattle.o2_stands.specs.Stands.{Matches, number_of};
@@ -127,16 +124,9 @@ pub fn alloc_huge(
         (with_all w (huge_allocation (known_in p o) pid segs part most flags).changes) }
     ensures holds { KeepsHolds regions.old regions.new }
     ensures limits { KeepsLimitsBy store.old regions.old store.new regions.new 4096 1 }
-    ensures processes { regions.new.processes ≡ regions.old.processes }
     ensures entries { KeepsEntries store.old store.new }
     ensures kept { (k : ℕ) → IsSome (place_of store.old k) → IsSome (place_of store.new k) }
-    ensures order { IsInOrder store.new regions.new }
-    ensures guards { IsGuarded store.old regions.old → IsGuarded store.new regions.new }
-    ensures clean { (pic : Pictures) → AreClean store.old pic → AreClean store.new pic }
-    ensures pictures { (images : ImageList) → HasAll (HasPicture images) store.old
-        → HasAll (HasPicture images) store.new }
-    ensures map { all_of store.new.swap ≡ all_of store.old.swap }
-    ensures unused { NoneTaken store.old.swap → NoneTaken store.new.swap }
+    ensures goes_on { KeepsOrder store.old regions.old store.new regions.new }
 {
     let segments = segments_of(segs, part);
     if is_fault(segments, most, flags) {

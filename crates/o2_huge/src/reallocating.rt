@@ -1,31 +1,29 @@
 // DosReallocHuge.
-ghost use Rattle.std.specs.Prelude.{◌⊎◌, ◌≡◌, ◌≢◌, ◌++◌, ℕ, ◌+◌, ◌-◌, ◌*◌, ◌/◌, ◌<◌, ◌≤◌, ◌^◌, ◌==◌, ◌&&◌, ◌||◌, false, true, length, min, nat_le, nat_lt, not, IfSome, IsSome, IsTrue, Option, Some, None, if◌then◌else◌};
+ghost use Rattle.std.specs.Prelude.{◌⊎◌, ◌≡◌, ◌≢◌, ◌++◌, ℕ, ◌+◌, ◌-◌, ◌*◌, ◌/◌, ◌<◌, ◌≤◌, ◌^◌, ◌==◌, ◌&&◌, ◌||◌, false, true, length, min, nat_le, nat_lt, IfSome, IsSome, IsTrue, Option, Some, None, if◌then◌else◌};
 ghost use Rattle.std.specs.List.{list_any};
 ghost use Rattle.std.specs.Option.{IfNone};
-ghost use Rattle.o2_desc.specs.Bits.{has_bit};
 ghost use Rattle.o2_entries.specs.Tables.{live_numbers, slot_at};
-ghost use Rattle.o2_image.specs.ImageList.{ImageList};
 ghost use Rattle.o2_isa.specs.View.{is_local};
-ghost use Rattle.o2_outer.specs.Texts.{Rose};
 ghost use Rattle.o2_regions.specs.Maps.{IsProcess, end_of, held_at, is_held, is_reserved, region_of};
-ghost use Rattle.o2_segbus.specs.Seen.{AreNamed};
 ghost use Rattle.o2_service.specs.Told.{OnlyTables};
 ghost use Rattle.o2_store.specs.Idle.{IsIdle, NoneTaken};
 ghost use Rattle.o2_store.specs.Loads.{live_load_at, swap_load};
 ghost use Rattle.o2_store.specs.Needs.{named_in};
-ghost use Rattle.o2_store.specs.Pictures.{picture, HasPicture};
-ghost use Rattle.o2_store.specs.Shelf.{AreClean, HasAll, Pictures, entry, entry_of, place_of};
+ghost use Rattle.o2_store.specs.Shelf.{entry, entry_of, place_of};
 ghost use Rattle.o2_store.specs.Sizes.{all_wanted_at, stays};
 ghost use Rattle.o2_swapmap.specs.Piles.{all_of};
+ghost use Rattle.o2_store.specs.Frames.{IsBacked, KeepsDevice};
+ghost use Rattle.o2_changes.specs.Frames.{KeepsOrder, KeepsOrderFor};
+ghost use Rattle.o2_segs.specs.Callers.{IsCaller};
 ghost use Rattle.o2_changes.specs.Holding.{KeepsHolds};
-ghost use Rattle.o2_changes.specs.Order.{IsGuarded, IsInOrder};
+ghost use Rattle.o2_changes.specs.Order.{IsInOrder};
 ghost use Rattle.o2_changes.specs.Worlds.{MatchesMove};
 ghost use Rattle.o2_regions.specs.declared.answer.Answer.{Answer};
 ghost use Rattle.o2_stands.specs.Knows.{Others, known_in};
 ghost use Rattle.o2_stands.specs.Moves.{moved};
 ghost use Rattle.o2_stands.specs.Parts.{Parts};
 ghost use Rattle.o2_stands.specs.Stands.{Matches};
-ghost use Rattle.o2_world.specs.Changes.{takes, with_all, with_changes};
+ghost use Rattle.o2_world.specs.Changes.{takes, with_all};
 ghost use Rattle.o2_world.specs.Holders.{process_at};
 ghost use Rattle.o2_world.specs.HugeRulings.{bytes_of, huge_reallocation, segments_of, without};
 ghost use Rattle.o2_world.specs.SharedRulings.{shared_from};
@@ -304,8 +302,7 @@ fn resize_member<S: SwapDevice>(
     requires process { IsProcess regions.old pid }
     requires index { index < 8192 }
     requires order { IsInOrder store.old regions.old }
-    requires clean { AreClean store.old (picture images.now) }
-    requires device { all_of store.old.swap ≤ S.blocks swap.old }
+    requires backed { IsBacked store.old images.now (S.blocks swap.old) }
 
     ensures matches { result ≡ None → MatchesSized store.old store.new regions.old regions.new images.now
         (S.told swap.new) (S.block swap.old) (S.block swap.new) (sized_there store.old size (held_at regions.old pid index)) }
@@ -315,13 +312,9 @@ fn resize_member<S: SwapDevice>(
     ensures rest { KeepsRest store.old store.new }
     ensures limits { KeepsLimits store.old regions.old store.new regions.new 0 }
     ensures maps { OnlyTables regions.old regions.new }
-    ensures order { IsInOrder store.new regions.new }
-    ensures guards { IsGuarded store.old regions.old → IsGuarded store.new regions.new }
-    ensures clean { AreClean store.new (picture images.now) }
-    ensures pictures { HasAll (HasPicture images.now) store.old → HasAll (HasPicture images.now) store.new }
-    ensures map { all_of store.new.swap ≡ all_of store.old.swap }
-    ensures device { (S.blocks swap.new ≡ S.blocks swap.old)
-        × (IsTrue (S.told swap.new) → IsTrue (S.told swap.old)) }
+    ensures goes_on { KeepsOrderFor images.now store.old regions.old store.new regions.new }
+    ensures device { KeepsDevice S.blocks S.told S.faults swap.old swap.new
+        (result ≡ Some Roomed.SwapFault) }
     ensures kept { (k : ℕ) → named_in store.old.entries keep.now k ≡ true
         → IsSome (place_of store.old k) → IsSome (place_of store.new k) }
 
@@ -330,8 +323,6 @@ fn resize_member<S: SwapDevice>(
     ensures all_load { result ≡ Some Roomed.SwapFull → FirstSized store.old (sized_there store.old size (held_at regions.old pid index))
         (λ id size. store.old.places.size < live_load_at store.old id.key size) }
     ensures load { result ≡ Some Roomed.SwapFull → all_of store.old.swap < swap_load store.old }
-    ensures faults { S.faults swap.old ≤ S.faults swap.new }
-    ensures cause { result ≡ Some Roomed.SwapFault → Rose (S.faults swap.old) (S.faults swap.new) }
     ensures idle { NoneTaken store.old.swap → IsIdle store.new swap.old swap.new
         ⊎ FirstSized store.old (sized_there store.old size (held_at regions.old pid index))
         (λ id size. store.old.places.size < live_load_at store.old id.key size) }
@@ -386,12 +377,7 @@ fn change_members(
     ensures holds { KeepsHolds regions.old regions.new
         ⊎ (list_any takes (changed_in store.old regions.old pid run.first run.count there segs part) ≡ true) }
     ensures kept { (k : ℕ) → IsSome (slot_at store.new.entries k) → IsSome (place_of store.old k) → IsSome (place_of store.new k) }
-    ensures order { IsInOrder store.new regions.new }
-    ensures guards { IsGuarded store.old regions.old → IsGuarded store.new regions.new }
-    ensures clean { (pic : Pictures) → AreClean store.old pic → AreClean store.new pic }
-    ensures pictures { (images : ImageList) → HasAll (HasPicture images) store.old → HasAll (HasPicture images) store.new }
-    ensures map { all_of store.new.swap ≡ all_of store.old.swap }
-    ensures unused { NoneTaken store.old.swap → NoneTaken store.new.swap }
+    ensures goes_on { KeepsOrder store.old regions.old store.new regions.new }
 {
     regions.law();
     let wanted = wanted_of(segs, part);
@@ -460,8 +446,7 @@ fn resize_run<S: SwapDevice>(
     requires short { run.count ≤ 4096 }
     requires room { length (live_numbers 0 store.old.entries) + (segments_of segs part - there) ≤ length store.old.entries }
     requires order { IsInOrder store.old regions.old }
-    requires clean { AreClean store.old (picture images.now) }
-    requires device { all_of store.old.swap ≤ S.blocks swap.old }
+    requires backed { IsBacked store.old images.now (S.blocks swap.old) }
 
     ensures done { (a : Answer) → result ≡ Roomed.Done a → a ≡ record { error = 0; value = 0 } }
     ensures matches { MatchesResized store.old store.new regions.old regions.new images.now (S.told swap.new) (S.block swap.old) (S.block swap.new)
@@ -471,13 +456,9 @@ fn resize_run<S: SwapDevice>(
     ensures holds { KeepsHolds regions.old regions.new
         ⊎ (list_any takes (sized_last store.old regions.old pid run.first there segs part ++ changed_in store.old regions.old pid run.first run.count there segs part) ≡ true) }
     ensures processes { regions.new.processes ≡ regions.old.processes }
-    ensures order { IsInOrder store.new regions.new }
-    ensures guards { IsGuarded store.old regions.old → IsGuarded store.new regions.new }
-    ensures clean { AreClean store.new (picture images.now) }
-    ensures pictures { HasAll (HasPicture images.now) store.old → HasAll (HasPicture images.now) store.new }
-    ensures map { all_of store.new.swap ≡ all_of store.old.swap }
-    ensures device { (S.blocks swap.new ≡ S.blocks swap.old)
-        × (IsTrue (S.told swap.new) → IsTrue (S.told swap.old)) }
+    ensures goes_on { KeepsOrderFor images.now store.old regions.old store.new regions.new }
+    ensures device { KeepsDevice S.blocks S.told S.faults swap.old swap.new
+        (result ≡ Roomed.SwapFault) }
     ensures kept { (k : ℕ) → named_in store.old.entries keep.now k ≡ true → IsSome (slot_at store.new.entries k)
         → IsSome (place_of store.old k) → IsSome (place_of store.new k) }
 
@@ -486,8 +467,6 @@ fn resize_run<S: SwapDevice>(
     ensures all_load { result ≡ Roomed.SwapFull → FirstSized store.old (sized_last store.old regions.old pid run.first there segs part)
         (λ id size. store.old.places.size < live_load_at store.old id.key size) }
     ensures load { result ≡ Roomed.SwapFull → all_of store.old.swap < swap_load store.old }
-    ensures faults { S.faults swap.old ≤ S.faults swap.new }
-    ensures cause { result ≡ Roomed.SwapFault → Rose (S.faults swap.old) (S.faults swap.new) }
     ensures idle { NoneTaken store.old.swap → IsIdle store.new swap.old swap.new
         ⊎ FirstSized store.old (sized_last store.old regions.old pid run.first there segs part)
         (λ id size. store.old.places.size < live_load_at store.old id.key size) }
@@ -522,12 +501,9 @@ pub fn realloc_huge<S: SwapDevice>(
     images: &Images,
     swap: &mut S,
 ) -> Roomed
-    requires process { IsProcess regions.old pid }
+    requires caller { IsCaller store.old regions.old pid }
     requires made { store.old.made + 4096 < 2 ^ 64 }
-    requires named { AreNamed store.old regions.old }
-    requires order { IsInOrder store.old regions.old }
-    requires clean { AreClean store.old (picture images.now) }
-    requires device { all_of store.old.swap ≤ S.blocks swap.old }
+    requires backed { IsBacked store.old images.now (S.blocks swap.old) }
 
     ensures answer { (p : Parts) (o : Others) → p.shelf ≡ store.old → p.maps ≡ regions.old → o.processes ≡ regions.old.processes
         → AreRuns regions.old → AreFull store.old regions.old
@@ -546,13 +522,9 @@ pub fn realloc_huge<S: SwapDevice>(
         → AreRuns regions.old → AreFull store.old regions.old
         → KeepsHolds regions.old regions.new ⊎ (list_any takes (huge_reallocation (known_in p o) pid segs part sel cpu.old).changes ≡ true) }
     ensures processes { regions.new.processes ≡ regions.old.processes }
-    ensures order { IsInOrder store.new regions.new }
-    ensures guards { IsGuarded store.old regions.old → IsGuarded store.new regions.new }
-    ensures clean { AreClean store.new (picture images.now) }
-    ensures pictures { HasAll (HasPicture images.now) store.old → HasAll (HasPicture images.now) store.new }
-    ensures map { all_of store.new.swap ≡ all_of store.old.swap }
-    ensures device { (S.blocks swap.new ≡ S.blocks swap.old)
-        × (IsTrue (S.told swap.new) → IsTrue (S.told swap.old)) }
+    ensures goes_on { KeepsOrderFor images.now store.old regions.old store.new regions.new }
+    ensures device { KeepsDevice S.blocks S.told S.faults swap.old swap.new
+        (result ≡ Roomed.SwapFault) }
     ensures kept { (k : ℕ) → named_in store.old.entries keep.now k ≡ true → IsSome (slot_at store.new.entries k)
         → IsSome (place_of store.old k) → IsSome (place_of store.new k) }
 
@@ -565,8 +537,6 @@ pub fn realloc_huge<S: SwapDevice>(
         → FirstSized store.old (huge_reallocation (known_in p o) pid segs part sel cpu.old).changes
         (λ id size. store.old.places.size < live_load_at store.old id.key size) }
     ensures load { result ≡ Roomed.SwapFull → all_of store.old.swap < swap_load store.old }
-    ensures faults { S.faults swap.old ≤ S.faults swap.new }
-    ensures cause { result ≡ Roomed.SwapFault → Rose (S.faults swap.old) (S.faults swap.new) }
     // Where nothing is in swap blocks, the device isn't touched, unless all that lives with the new size doesn't fit the memory.
     ensures idle { (p : Parts) (o : Others) → p.shelf ≡ store.old → p.maps ≡ regions.old → o.processes ≡ regions.old.processes
         → AreRuns regions.old → AreFull store.old regions.old → NoneTaken store.old.swap → IsIdle store.new swap.old swap.new
@@ -602,12 +572,9 @@ fn realloc_run<S: SwapDevice>(
     requires held { (if is_local sel then held_at regions.old pid (sel / 8) else None) ≡ Some held }
     requires first { is_of_run (sel / 8) held ≡ true }
     requires run { run ≡ record { first = sel / 8; count = run_count (sel / 8) held } }
-    requires process { IsProcess regions.old pid }
+    requires caller { IsCaller store.old regions.old pid }
     requires made { store.old.made + 4096 < 2 ^ 64 }
-    requires named { AreNamed store.old regions.old }
-    requires order { IsInOrder store.old regions.old }
-    requires clean { AreClean store.old (picture images.now) }
-    requires device { all_of store.old.swap ≤ S.blocks swap.old }
+    requires backed { IsBacked store.old images.now (S.blocks swap.old) }
 
     ensures answer { (p : Parts) (o : Others) → p.shelf ≡ store.old → p.maps ≡ regions.old → o.processes ≡ regions.old.processes
         → AreRuns regions.old → AreFull store.old regions.old
@@ -626,13 +593,9 @@ fn realloc_run<S: SwapDevice>(
         → AreRuns regions.old → AreFull store.old regions.old
         → KeepsHolds regions.old regions.new ⊎ (list_any takes (huge_reallocation (known_in p o) pid segs part sel cpu.old).changes ≡ true) }
     ensures processes { regions.new.processes ≡ regions.old.processes }
-    ensures order { IsInOrder store.new regions.new }
-    ensures guards { IsGuarded store.old regions.old → IsGuarded store.new regions.new }
-    ensures clean { AreClean store.new (picture images.now) }
-    ensures pictures { HasAll (HasPicture images.now) store.old → HasAll (HasPicture images.now) store.new }
-    ensures map { all_of store.new.swap ≡ all_of store.old.swap }
-    ensures device { (S.blocks swap.new ≡ S.blocks swap.old)
-        × (IsTrue (S.told swap.new) → IsTrue (S.told swap.old)) }
+    ensures goes_on { KeepsOrderFor images.now store.old regions.old store.new regions.new }
+    ensures device { KeepsDevice S.blocks S.told S.faults swap.old swap.new
+        (result ≡ Roomed.SwapFault) }
     ensures kept { (k : ℕ) → named_in store.old.entries keep.now k ≡ true → IsSome (slot_at store.new.entries k)
         → IsSome (place_of store.old k) → IsSome (place_of store.new k) }
 
@@ -645,8 +608,6 @@ fn realloc_run<S: SwapDevice>(
         → FirstSized store.old (huge_reallocation (known_in p o) pid segs part sel cpu.old).changes
         (λ id size. store.old.places.size < live_load_at store.old id.key size) }
     ensures load { result ≡ Roomed.SwapFull → all_of store.old.swap < swap_load store.old }
-    ensures faults { S.faults swap.old ≤ S.faults swap.new }
-    ensures cause { result ≡ Roomed.SwapFault → Rose (S.faults swap.old) (S.faults swap.new) }
     // Where nothing is in swap blocks, the device isn't touched, unless all that lives with the new size doesn't fit the memory.
     ensures idle { (p : Parts) (o : Others) → p.shelf ≡ store.old → p.maps ≡ regions.old → o.processes ≡ regions.old.processes
         → AreRuns regions.old → AreFull store.old regions.old → NoneTaken store.old.swap → IsIdle store.new swap.old swap.new

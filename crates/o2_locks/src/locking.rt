@@ -1,16 +1,17 @@
 // DosLockSeg.
 ghost use Rattle.std.specs.Prelude.{◌≡◌, ℕ, ◌<◌, ◌≤◌, ◌/◌, IsTrue, None, Some, IfSome, IsSome, true, if◌then◌else◌, ◌⊎◌};
 ghost use Rattle.o2_isa.specs.View.{is_local};
-ghost use Rattle.o2_outer.specs.Texts.{Rose};
-ghost use Rattle.o2_regions.specs.Maps.{IsProcess, held_at};
-ghost use Rattle.o2_segbus.specs.Seen.{AreNamed};
+ghost use Rattle.o2_regions.specs.Maps.{held_at};
 ghost use Rattle.o2_store.specs.Loads.{live_load, swap_load};
 ghost use Rattle.o2_store.specs.Needs.{all_wanted, named_in};
-ghost use Rattle.o2_store.specs.Pictures.{picture, HasPicture};
-ghost use Rattle.o2_store.specs.Shelf.{AreClean, HasAll, entry, entry_of, place_of};
+ghost use Rattle.o2_store.specs.Pictures.{HasPicture};
+ghost use Rattle.o2_store.specs.Shelf.{HasAll, entry, entry_of, place_of};
 ghost use Rattle.o2_swapmap.specs.Piles.{all_of};
+ghost use Rattle.o2_store.specs.Frames.{IsBacked, KeepsDevice};
+ghost use Rattle.o2_changes.specs.Frames.{KeepsOrderFor};
+ghost use Rattle.o2_segs.specs.Callers.{IsCaller};
 ghost use Rattle.o2_changes.specs.Holding.{KeepsHolds};
-ghost use Rattle.o2_changes.specs.Order.{IsGuarded, IsInOrder};
+ghost use Rattle.o2_changes.specs.Order.{IsInOrder};
 ghost use Rattle.o2_stands.specs.Stands.{Matches};
 ghost use Rattle.o2_segs.specs.Answers.{AnswersRoomed, changes_roomed, IsUnrefused};
 ghost use Rattle.o2_segs.specs.Limits.{KeepsLimits};
@@ -47,12 +48,9 @@ pub fn lock_seg<S: SwapDevice>(
     images: &Images,
     swap: &mut S,
 ) -> Roomed
-    requires process { IsProcess regions.old pid }
-    requires named { AreNamed store.old regions.old }
-    requires order { IsInOrder store.old regions.old }
+    requires caller { IsCaller store.old regions.old pid }
     requires pictures { HasAll (HasPicture images.now) store.old }
-    requires clean { AreClean store.old (picture images.now) }
-    requires device { all_of store.old.swap ≤ S.blocks swap.old }
+    requires backed { IsBacked store.old images.now (S.blocks swap.old) }
 
     ensures answer { (p : Parts) (o : Others) → p.shelf ≡ store.old → p.maps ≡ regions.old
         → AnswersRoomed (locking (known_in p o) pid sel) result }
@@ -64,14 +62,9 @@ pub fn lock_seg<S: SwapDevice>(
         → IfSome (if is_local sel then held_at regions.old pid (sel / 8) else None) (λ h. (entry store.old h.id.key).attr.lock ≡ 0) }
     ensures holds { KeepsHolds regions.old regions.new }
     ensures limits { KeepsLimits store.old regions.old store.new regions.new 0 }
-    ensures processes { regions.new.processes ≡ regions.old.processes }
-    ensures order { IsInOrder store.new regions.new }
-    ensures guards { IsGuarded store.old regions.old → IsGuarded store.new regions.new }
-    ensures clean { AreClean store.new (picture images.now) }
-    ensures pictures { HasAll (HasPicture images.now) store.new }
-    ensures map { all_of store.new.swap ≡ all_of store.old.swap }
-    ensures device { (S.blocks swap.new ≡ S.blocks swap.old)
-        × (IsTrue (S.told swap.new) → IsTrue (S.told swap.old)) }
+    ensures goes_on { KeepsOrderFor images.now store.old regions.old store.new regions.new }
+    ensures device { KeepsDevice S.blocks S.told S.faults swap.old swap.new
+        (result ≡ Roomed.SwapFault) }
     ensures kept { (k : ℕ) → named_in store.old.entries keep.now k ≡ true
         → IsSome (place_of store.old k) → IsSome (place_of store.new k) }
     ensures no_room { result ≡ Roomed.NoRoom → IfSome (if is_local sel then held_at regions.old pid (sel / 8) else None)
@@ -79,8 +72,6 @@ pub fn lock_seg<S: SwapDevice>(
     ensures loads { result ≡ Roomed.SwapFull
         → (all_of store.old.swap < swap_load store.old)
         × (store.old.places.size < live_load store.old) }
-    ensures faults { S.faults swap.old ≤ S.faults swap.new }
-    ensures cause { result ≡ Roomed.SwapFault → Rose (S.faults swap.old) (S.faults swap.new) }
     // Where nothing is in swap blocks, the device isn't touched, unless all that lives doesn't fit the memory.
     ensures idle { NoneTaken store.old.swap → IsIdle store.new swap.old swap.new
         ⊎ (IsUnrefused result × (store.old.places.size < live_load store.old)) }
@@ -104,8 +95,7 @@ fn lock<S: SwapDevice>(
     requires live { IsSome (entry_of store.old id) }
     requires order { IsInOrder store.old regions.old }
     requires pictures { HasAll (HasPicture images.now) store.old }
-    requires clean { AreClean store.old (picture images.now) }
-    requires device { all_of store.old.swap ≤ S.blocks swap.old }
+    requires backed { IsBacked store.old images.now (S.blocks swap.old) }
 
     ensures answer { (m : Marks) → IsMarked (entry store.old id.key).attr m
         → AnswersRoomed (locking_with id.age (Some m)) result }
@@ -116,22 +106,15 @@ fn lock<S: SwapDevice>(
     ensures stops { IsStop result → (entry store.old id.key).attr.lock ≡ 0 }
     ensures holds { KeepsHolds regions.old regions.new }
     ensures limits { KeepsLimits store.old regions.old store.new regions.new 0 }
-    ensures processes { regions.new.processes ≡ regions.old.processes }
-    ensures order { IsInOrder store.new regions.new }
-    ensures guards { IsGuarded store.old regions.old → IsGuarded store.new regions.new }
-    ensures clean { AreClean store.new (picture images.now) }
-    ensures pictures { HasAll (HasPicture images.now) store.new }
-    ensures map { all_of store.new.swap ≡ all_of store.old.swap }
-    ensures device { (S.blocks swap.new ≡ S.blocks swap.old)
-        × (IsTrue (S.told swap.new) → IsTrue (S.told swap.old)) }
+    ensures goes_on { KeepsOrderFor images.now store.old regions.old store.new regions.new }
+    ensures device { KeepsDevice S.blocks S.told S.faults swap.old swap.new
+        (result ≡ Roomed.SwapFault) }
     ensures kept { (k : ℕ) → named_in store.old.entries keep.now k ≡ true
         → IsSome (place_of store.old k) → IsSome (place_of store.new k) }
     ensures no_room { result ≡ Roomed.NoRoom → store.old.places.size < all_wanted store.old id.key keep.now }
     ensures loads { result ≡ Roomed.SwapFull
         → (all_of store.old.swap < swap_load store.old)
         × (store.old.places.size < live_load store.old) }
-    ensures faults { S.faults swap.old ≤ S.faults swap.new }
-    ensures cause { result ≡ Roomed.SwapFault → Rose (S.faults swap.old) (S.faults swap.new) }
     ensures idle { NoneTaken store.old.swap → IsIdle store.new swap.old swap.new
         ⊎ (IsUnrefused result × (store.old.places.size < live_load store.old)) }
 {

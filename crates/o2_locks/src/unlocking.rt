@@ -1,14 +1,11 @@
 // DosUnlockSeg.
 ghost use Rattle.std.specs.Prelude.{◌≡◌, ◌-◌, ◌<◌, ◌==◌, if◌then◌else◌, nat_lt, IsSome, Some};
 ghost use Rattle.o2_desc.specs.Bits.{has_bit};
-ghost use Rattle.o2_regions.specs.Maps.{IsProcess};
-ghost use Rattle.o2_segbus.specs.Seen.{AreNamed};
-ghost use Rattle.o2_image.specs.ImageList.{ImageList};
-ghost use Rattle.o2_store.specs.Pictures.{HasPicture};
-ghost use Rattle.o2_store.specs.Shelf.{AreClean, HasAll, Pictures, entry, entry_of};
-ghost use Rattle.o2_swapmap.specs.Piles.{all_of};
+ghost use Rattle.o2_store.specs.Shelf.{entry, entry_of};
+ghost use Rattle.o2_changes.specs.Frames.{KeepsOrder};
+ghost use Rattle.o2_segs.specs.Callers.{IsCaller};
 ghost use Rattle.o2_changes.specs.Holding.{KeepsPlaces};
-ghost use Rattle.o2_changes.specs.Order.{IsGuarded, IsInOrder};
+ghost use Rattle.o2_changes.specs.Order.{IsInOrder};
 ghost use Rattle.o2_stands.specs.Stands.{Matches};
 ghost use Rattle.o2_segs.specs.Answers.{Answers};
 ghost use Rattle.o2_segs.specs.Limits.{KeepsLimits};
@@ -19,7 +16,6 @@ ghost use Rattle.o2_world.specs.Known.{Marks};
 ghost use Rattle.o2_world.specs.Rulings.{unlocking, unlocking_with};
 ghost use Rattle.o2_world.specs.World.{World};
 ghost use Rattle.o2_locks.specs.Marked.{IsMarked};
-ghost use Rattle.o2_store.specs.Idle.{NoneTaken};
 
 use o2_changes::set_lock;
 use o2_place::SegId;
@@ -57,22 +53,14 @@ fn one_less(lock: u8) -> u8
 /// DosUnlockSeg(sel): a discardable segment that the caller holds is locked once less; one that is locked 255 times stays so. 5
 /// where no such segment is held, 158 where it isn't locked.
 pub fn unlock_seg(store: &mut Store, regions: &mut Regions, pid: u16, sel: u16) -> Answer
-    requires process { IsProcess regions.old pid }
-    requires named { AreNamed store.old regions.old }
-    requires order { IsInOrder store.old regions.old }
+    requires caller { IsCaller store.old regions.old pid }
 
     ensures answer { (p : Parts) (o : Others) → p.shelf ≡ store.old → p.maps ≡ regions.old
         → Answers (unlocking (known_in p o) pid sel) result }
     ensures limits { KeepsLimits store.old regions.old store.new regions.new 0 }
     ensures places { KeepsPlaces store.old store.new }
     ensures regions { regions.new ≡ regions.old }
-    ensures order { IsInOrder store.new regions.new }
-    ensures guards { IsGuarded store.old regions.old → IsGuarded store.new regions.new }
-    ensures clean { (pic : Pictures) → AreClean store.old pic → AreClean store.new pic }
-    ensures pictures { (images : ImageList) → HasAll (HasPicture images) store.old
-        → HasAll (HasPicture images) store.new }
-    ensures map { all_of store.new.swap ≡ all_of store.old.swap }
-    ensures unused { NoneTaken store.old.swap → NoneTaken store.new.swap }
+    ensures goes_on { KeepsOrder store.old regions.old store.new regions.new }
     ensures matches { (p : Parts) (o : Others) (w : World) → p.shelf ≡ store.old
         → p.maps ≡ regions.old → Matches p w → Matches (record p { shelf = store.new })
         (with_all w (unlocking (known_in p o) pid sel).changes) }
@@ -92,13 +80,7 @@ fn unlock(store: &mut Store, regions: &Regions, id: SegId) -> Answer
         → Answers (unlocking_with id.age (Some m)) result }
     ensures limits { KeepsLimits store.old regions.now store.new regions.now 0 }
     ensures places { KeepsPlaces store.old store.new }
-    ensures order { IsInOrder store.new regions.now }
-    ensures guards { IsGuarded store.old regions.now → IsGuarded store.new regions.now }
-    ensures clean { (pic : Pictures) → AreClean store.old pic → AreClean store.new pic }
-    ensures pictures { (images : ImageList) → HasAll (HasPicture images) store.old
-        → HasAll (HasPicture images) store.new }
-    ensures map { all_of store.new.swap ≡ all_of store.old.swap }
-    ensures unused { NoneTaken store.old.swap → NoneTaken store.new.swap }
+    ensures goes_on { KeepsOrder store.old regions.now store.new regions.now }
     ensures matches { (m : Marks) (p : Parts) (w : World) → IsMarked (entry store.old id.key).attr m → p.shelf ≡ store.old
         → p.maps ≡ regions.now → Matches p w → Matches (record p { shelf = store.new })
         (with_all w (unlocking_with id.age (Some m)).changes) }

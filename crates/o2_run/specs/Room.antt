@@ -9,6 +9,7 @@ use Rattle.o2_isa.specs.Step.{stepped, step_names}
 use Rattle.o2_isa.specs.declared.cpu.Stop.{Stop}
 use Rattle.o2_isa.specs.declared.cpu.Stop.TheVariants as stop
 use Rattle.o2_conf.specs.Dispatch.{Dispatch}
+use Rattle.o2_world.specs.Words.{words_of}
 use Rattle.o2_world.specs.declared.types.Row.{Row}
 use Rattle.o2_world.specs.declared.types.Row.TheVariants.{DosExit, DosGetPid, DosRead, DosWrite, DosMemAvail, OnSegments, OnShared, OnRuns}
 use Rattle.o2_world.specs.declared.types.SegmentCall.{SegmentCall}
@@ -104,36 +105,6 @@ pointed v (p ∷ ps) =
     if p.count == 0 then pointed v ps else passed v (bound_in v.held p.selector) p (pointed v ps)
 
 -- the words of a call's arguments must lie in the stack before a pointer is looked at
-abbrev pub segment_words : SegmentCall → ℕ
-segment_words DosAllocSeg = 4
-segment_words DosReallocSeg = 2
-segment_words DosFreeSeg = 1
-segment_words DosSizeSeg = 3
-segment_words DosLockSeg = 1
-segment_words DosUnlockSeg = 1
-segment_words DosCreateCsAlias = 3
-
-abbrev pub shared_words : SharedCall → ℕ
-shared_words DosAllocShrSeg = 5
-shared_words DosGetShrSeg = 4
-shared_words DosGiveSeg = 4
-shared_words DosGetSeg = 1
-
-abbrev pub huge_words : HugeCall → ℕ
-huge_words DosAllocHuge = 6
-huge_words DosReallocHuge = 3
-huge_words DosGetHugeShift = 2
-
-abbrev pub words_of : Row → ℕ
-words_of DosRead = 6
-words_of DosWrite = 6
-words_of DosExit = 2
-words_of DosGetPid = 2
-words_of DosMemAvail = 2
-words_of (OnSegments call) = segment_words call
-words_of (OnShared call) = shared_words call
-words_of (OnRuns call) = huge_words call
-
 abbrev pub call_names : Before → Option Row → List ℕ
 call_names b None = []
 call_names b (Some row) =

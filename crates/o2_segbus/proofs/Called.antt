@@ -13,7 +13,8 @@ use Rattle.o2_isa.specs.Registers.{sreg}
 use Rattle.o2_segbus.specs.declared.seg_bus.SegBus.{SegBus}
 use Rattle.o2_segbus.specs.Seen.{hold_in, seen_state, seen_with}
 use Rattle.o2_segbus.specs.Bus.{bus_view, registers_of}
-use Rattle.o2_segbus.specs.Calls.{HoldsInMap, LeavesBus, WritesHeld, view_of}
+use Rattle.o2_bus.specs.Writes.{HoldsForWriting, WritesHeld}
+use Rattle.o2_segbus.specs.Calls.{LeavesBus, view_of}
 use Rattle.o2_segbus.proofs.Attempts.{Framed, framed, agrees_at, bus_bound, seen_answers, keeps_store, keeps_maps, seen_bound, still}
 use Rattle.o2_segbus.proofs.Cleans.{keeps_clean_held}
 
@@ -66,7 +67,7 @@ by_register held c Cs = refl
 by_register held c Ss = refl
 by_register held c Ds = refl
 
-held_so : (v : View) (c : Cpu) (n : ℕ) → Agrees c v → HoldsAsWritable v n → HoldsInMap v n
+held_so : (v : View) (c : Cpu) (n : ℕ) → Agrees c v → HoldsAsWritable v n → HoldsForWriting v n
 held_so v c n a w = record {
   index = sreg c w.register / 8;
   hold = w.hold;

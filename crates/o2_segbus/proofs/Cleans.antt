@@ -18,7 +18,7 @@ use Rattle.o2_segbus.specs.Seen.{AreNamed, key_of, hold_in, hold_of, bytes_in, b
 use Rattle.o2_segbus.specs.Bus.{bus_view}
 use Rattle.o2_segbus.specs.Frames.{KeepsStore}
 use Rattle.o2_segbus.specs.Guards.{AreAged, AreGuarded}
-use Rattle.o2_segbus.specs.Calls.{HoldsInMap, WritesHeld}
+use Rattle.o2_bus.specs.Writes.{HoldsForWriting, WritesHeld}
 use Rattle.o2_segbus.proofs.Ages.{aged_key}
 
 -- what a process holds as data that can be written
@@ -50,7 +50,7 @@ held_by m pid i n h (Some x) e q a w = record {
     rights_or None = 0
     rights_or (Some y) = y.rights
 
-held_writable : (g t : GName) (s : Shelf) (m : Maps) (pid n : ℕ) (x : SegmentRegisters) → HoldsInMap (bus_view g t s m pid x) n → IsHeld m pid n
+held_writable : (g t : GName) (s : Shelf) (m : Maps) (pid n : ℕ) (x : SegmentRegisters) → HoldsForWriting (bus_view g t s m pid x) n → IsHeld m pid n
 unfolding bus_view seen_with hold_in
 held_writable g t s m pid n x w = held_by m pid w.index n w.hold (held_at m pid w.index) refl w.there w.named w.writable
 

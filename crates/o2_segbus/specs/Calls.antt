@@ -1,23 +1,12 @@
 -- What a call over a bus leaves of the store and of the tables that the bus borrows.
-use Rattle.std.specs.Prelude.{◌≡◌, ◌⊎◌, ℕ, true, Some}
+use Rattle.std.specs.Prelude.{◌≡◌}
 use Rattle.o2_isa.specs.declared.cpu.Cpu.{Cpu}
-use Rattle.o2_isa.specs.View.{View, Hold, Agrees, is_writable}
+use Rattle.o2_isa.specs.View.{View, Agrees}
+use Rattle.o2_bus.specs.Writes.{WritesHeld}
 use Rattle.o2_segbus.specs.declared.seg_bus.SegBus.{SegBus}
 use Rattle.o2_segbus.specs.Seen.{hold_in}
 use Rattle.o2_segbus.specs.Bus.{bus_view}
 use Rattle.o2_segbus.specs.Frames.{CanStep, KeepsClean, KeepsMaps, KeepsStore}
-
--- the process holds the name as data that can be written
-pub record HoldsInMap (v : View) (n : ℕ) : Type 0 where
-  pub index : ℕ
-  pub hold : Hold
-  pub there : v.held index ≡ Some hold
-  pub named : hold.name ≡ n
-  pub writable : is_writable hold.rights ≡ true
-
--- each name has its bytes of before, or the process holds it as data that can be written
-abbrev pub WritesHeld : View → View → Type 0
-WritesHeld old new = (n : ℕ) → (new.bytes n ≡ old.bytes n) ⊎ HoldsInMap old n
 
 -- what a bus shows
 abbrev pub view_of : SegBus → View

@@ -1,4 +1,5 @@
 pub mod Answers
+pub mod Callers
 pub mod Made
 pub mod Limits
 pub mod Sharing

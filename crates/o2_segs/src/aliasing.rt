@@ -4,10 +4,11 @@ ghost use Rattle.o2_base.specs.Selectors.{selector_of};
 ghost use Rattle.o2_desc.specs.Bits.{is_writable, readable_code};
 ghost use Rattle.o2_desc.specs.Choice.{chosen};
 ghost use Rattle.o2_regions.specs.Maps.{IsProcess, held_at, is_taken};
-ghost use Rattle.o2_segbus.specs.Seen.{AreNamed};
 ghost use Rattle.o2_store.specs.Shelf.{entry_of};
+ghost use Rattle.o2_changes.specs.Frames.{KeepsOrder};
+ghost use Rattle.o2_segs.specs.Callers.{IsCaller};
 ghost use Rattle.o2_changes.specs.Holding.{KeepsHolds, rights_at};
-ghost use Rattle.o2_changes.specs.Order.{IsGuarded, IsInOrder};
+ghost use Rattle.o2_changes.specs.Order.{IsInOrder};
 ghost use Rattle.o2_changes.specs.Worlds.{MatchesHold};
 ghost use Rattle.o2_stands.specs.Stands.{Matches};
 ghost use Rattle.o2_stands.specs.Knows.{Others, known_in};
@@ -33,17 +34,14 @@ use o2_store::Store;
 /// the process is free.
 #[tactic(auto, using(o2_changes::proofs::KeepingHolds::holds_refl))]
 pub fn create_cs_alias(store: &mut Store, regions: &mut Regions, pid: u16, sel: u16) -> Answer
-    requires process { IsProcess regions.old pid }
-    requires named { AreNamed store.old regions.old }
-    requires order { IsInOrder store.old regions.old }
+    requires caller { IsCaller store.old regions.old pid }
 
     ensures answer { (p : Parts) (o : Others) → p.shelf ≡ store.old → p.maps ≡ regions.old
         → Answers (aliasing (known_in p o) pid sel) result }
     ensures store { store.new ≡ store.old }
     ensures holds { KeepsHolds regions.old regions.new }
     ensures limits { KeepsLimits store.old regions.old store.new regions.new 0 }
-    ensures order { IsInOrder store.new regions.new }
-    ensures guards { IsGuarded store.old regions.old → IsGuarded store.new regions.new }
+    ensures goes_on { KeepsOrder store.old regions.old store.new regions.new }
     ensures matches { (p : Parts) (o : Others) (w : World) (x : Process) → p.shelf ≡ store.old
         → p.maps ≡ regions.old → process_at w.processes pid ≡ Some x → Matches p w
         → Matches (record p { maps = regions.new })
@@ -99,8 +97,7 @@ fn alias(store: &Store, regions: &mut Regions, pid: u16, id: SegId) -> Answer
         × MatchesHold store.now regions.old regions.new pid i (alias_of id) readable_code }
     ensures holds { KeepsHolds regions.old regions.new }
     ensures limits { KeepsLimits store.now regions.old store.now regions.new 0 }
-    ensures order { IsInOrder store.now regions.new }
-    ensures guards { IsGuarded store.now regions.old → IsGuarded store.now regions.new }
+    ensures goes_on { KeepsOrder store.now regions.old store.now regions.new }
 {
     match regions.lowest(Region::Private(pid), 1) {
         Some(index) => {

@@ -3,16 +3,17 @@ ghost use Rattle.std.specs.Prelude.{◌≡◌, ◌≢◌, ℕ, ◌-◌, ◌<◌,
 ghost use Rattle.o2_base.specs.Selectors.{selector_of};
 ghost use Rattle.o2_desc.specs.Bits.{has_bit, writable_data};
 ghost use Rattle.o2_desc.specs.Choice.{IsRun};
-ghost use Rattle.o2_outer.specs.Texts.{Rose};
 ghost use Rattle.o2_regions.specs.Maps.{IsProcess, end_of, first_of, is_taken, region_of};
 ghost use Rattle.o2_service.specs.Told.{OnlyTables};
-ghost use Rattle.o2_store.specs.Pictures.{picture, HasPicture};
+ghost use Rattle.o2_store.specs.Pictures.{HasPicture};
 ghost use Rattle.o2_store.specs.Loads.{live_load, swap_load, swap_load_but};
 ghost use Rattle.o2_store.specs.Needs.{all_wanted, named_in};
-ghost use Rattle.o2_store.specs.Shelf.{AreClean, HasAll, entry, entry_of, place_of};
+ghost use Rattle.o2_store.specs.Shelf.{HasAll, entry, entry_of, place_of};
 ghost use Rattle.o2_swapmap.specs.Piles.{all_of};
+ghost use Rattle.o2_store.specs.Frames.{IsBacked, KeepsDevice};
+ghost use Rattle.o2_changes.specs.Frames.{KeepsOrder, KeepsOrderFor};
 ghost use Rattle.o2_changes.specs.Holding.{IsUnheld, KeepsHolds};
-ghost use Rattle.o2_changes.specs.Order.{IsGuarded, IsInOrder};
+ghost use Rattle.o2_changes.specs.Order.{IsInOrder};
 ghost use Rattle.o2_changes.specs.Segments.{IsNewest};
 ghost use Rattle.o2_changes.specs.Worlds.{MatchesHold};
 ghost use Rattle.o2_stands.specs.Stands.{Matches};
@@ -88,8 +89,7 @@ pub fn alloc_seg<S: SwapDevice>(
     requires made { store.old.made < 2 ^ 64 - 1 }
     requires order { IsInOrder store.old regions.old }
     requires pictures { HasAll (HasPicture images.now) store.old }
-    requires clean { AreClean store.old (picture images.now) }
-    requires device { all_of store.old.swap ≤ S.blocks swap.old }
+    requires backed { IsBacked store.old images.now (S.blocks swap.old) }
 
     ensures answer { (p : Parts) (o : Others) → p.shelf ≡ store.old → p.maps ≡ regions.old
         → AnswersRoomed (allocation (known_in p o) pid size flags) result }
@@ -102,13 +102,9 @@ pub fn alloc_seg<S: SwapDevice>(
     ensures holds { KeepsHolds regions.old regions.new }
     ensures limits { KeepsLimits store.old regions.old store.new regions.new (made_in result) }
     ensures entries { KeepsEntries store.old store.new }
-    ensures order { IsInOrder store.new regions.new }
-    ensures guards { IsGuarded store.old regions.old → IsGuarded store.new regions.new }
-    ensures clean { AreClean store.new (picture images.now) }
-    ensures pictures { HasAll (HasPicture images.now) store.new }
-    ensures map { all_of store.new.swap ≡ all_of store.old.swap }
-    ensures device { (S.blocks swap.new ≡ S.blocks swap.old)
-        × (IsTrue (S.told swap.new) → IsTrue (S.told swap.old)) }
+    ensures goes_on { KeepsOrderFor images.now store.old regions.old store.new regions.new }
+    ensures device { KeepsDevice S.blocks S.told S.faults swap.old swap.new
+        (result ≡ Roomed.SwapFault) }
     ensures kept { (k : ℕ) → named_in store.old.entries keep.now k ≡ true
         → IsSome (place_of store.old k) → IsSome (place_of store.new k) }
 
@@ -116,8 +112,6 @@ pub fn alloc_seg<S: SwapDevice>(
         (λ t id. t.places.size < all_wanted t id.key keep.now) }
     ensures loads { result ≡ Roomed.SwapFull → (all_of store.old.swap < swap_load store.old)
         × IsWithNew store.old (full_size size) flags (λ t id. t.places.size < live_load t) }
-    ensures faults { S.faults swap.old ≤ S.faults swap.new }
-    ensures cause { result ≡ Roomed.SwapFault → Rose (S.faults swap.old) (S.faults swap.new) }
     // Where nothing is in swap blocks, the device isn't touched, unless the segment is to be locked and all that lives with it
     // doesn't fit the memory.
     ensures idle { NoneTaken store.old.swap → IsIdle store.new swap.old swap.new
@@ -160,8 +154,7 @@ fn allocate<S: SwapDevice>(
     requires made { store.old.made < 2 ^ 64 - 1 }
     requires order { IsInOrder store.old regions.old }
     requires pictures { HasAll (HasPicture images.now) store.old }
-    requires clean { AreClean store.old (picture images.now) }
-    requires device { all_of store.old.swap ≤ S.blocks swap.old }
+    requires backed { IsBacked store.old images.now (S.blocks swap.old) }
 
     ensures answer { (p : Parts) (o : Others) → p.shelf ≡ store.old
         → AnswersRoomed (allocation_to (known_in p o) pid size flags (Some index)) result }
@@ -174,13 +167,9 @@ fn allocate<S: SwapDevice>(
     ensures holds { KeepsHolds regions.old regions.new }
     ensures limits { KeepsLimits store.old regions.old store.new regions.new (made_in result) }
     ensures entries { KeepsEntries store.old store.new }
-    ensures order { IsInOrder store.new regions.new }
-    ensures guards { IsGuarded store.old regions.old → IsGuarded store.new regions.new }
-    ensures clean { AreClean store.new (picture images.now) }
-    ensures pictures { HasAll (HasPicture images.now) store.new }
-    ensures map { all_of store.new.swap ≡ all_of store.old.swap }
-    ensures device { (S.blocks swap.new ≡ S.blocks swap.old)
-        × (IsTrue (S.told swap.new) → IsTrue (S.told swap.old)) }
+    ensures goes_on { KeepsOrderFor images.now store.old regions.old store.new regions.new }
+    ensures device { KeepsDevice S.blocks S.told S.faults swap.old swap.new
+        (result ≡ Roomed.SwapFault) }
     ensures kept { (k : ℕ) → named_in store.old.entries keep.now k ≡ true
         → IsSome (place_of store.old k) → IsSome (place_of store.new k) }
 
@@ -188,8 +177,6 @@ fn allocate<S: SwapDevice>(
         (λ t id. t.places.size < all_wanted t id.key keep.now) }
     ensures loads { result ≡ Roomed.SwapFull → (all_of store.old.swap < swap_load store.old)
         × IsWithNew store.old (full_size size) flags (λ t id. t.places.size < live_load t) }
-    ensures faults { S.faults swap.old ≤ S.faults swap.new }
-    ensures cause { result ≡ Roomed.SwapFault → Rose (S.faults swap.old) (S.faults swap.new) }
     ensures idle { NoneTaken store.old.swap → IsIdle store.new swap.old swap.new
         ⊎ IsShortWithNew store.old (full_size size) flags result }
 {
@@ -222,8 +209,7 @@ fn lock_new<S: SwapDevice>(
     requires bare { ((entry store.old id.key).image ≡ None) × ((entry store.old id.key).kept ≡ 0) }
     requires order { IsInOrder store.old regions.old }
     requires pictures { HasAll (HasPicture images.now) store.old }
-    requires clean { AreClean store.old (picture images.now) }
-    requires device { all_of store.old.swap ≤ S.blocks swap.old }
+    requires backed { IsBacked store.old images.now (S.blocks swap.old) }
 
     ensures locked { result ≡ None → MatchesLocked store.old store.new regions.old regions.new images.now
         (S.told swap.new) (S.block swap.old) (S.block swap.new) id }
@@ -235,13 +221,9 @@ fn lock_new<S: SwapDevice>(
     ensures limits { result ≡ None → KeepsLimits store.old regions.old store.new regions.new 0 }
     ensures undone { IsSome result → IsUndone store.old regions.old store.new regions.new }
     ensures entries { KeepsOthers store.old store.new id.key }
-    ensures order { IsInOrder store.new regions.new }
-    ensures guards { IsGuarded store.old regions.old → IsGuarded store.new regions.new }
-    ensures clean { AreClean store.new (picture images.now) }
-    ensures pictures { HasAll (HasPicture images.now) store.new }
-    ensures map { all_of store.new.swap ≡ all_of store.old.swap }
-    ensures device { (S.blocks swap.new ≡ S.blocks swap.old)
-        × (IsTrue (S.told swap.new) → IsTrue (S.told swap.old)) }
+    ensures goes_on { KeepsOrderFor images.now store.old regions.old store.new regions.new }
+    ensures device { KeepsDevice S.blocks S.told S.faults swap.old swap.new
+        (result ≡ Some Roomed.SwapFault) }
     ensures kept { (k : ℕ) → k ≢ id.key → named_in store.old.entries keep.now k ≡ true
         → IsSome (place_of store.old k) → IsSome (place_of store.new k) }
 
@@ -250,8 +232,6 @@ fn lock_new<S: SwapDevice>(
     ensures loads { (r : Roomed) → result ≡ Some r → r ≡ Roomed.SwapFull
         → (all_of store.old.swap < swap_load_but store.old id.key)
         × (store.old.places.size < live_load store.old) }
-    ensures faults { S.faults swap.old ≤ S.faults swap.new }
-    ensures cause { (r : Roomed) → result ≡ Some r → r ≡ Roomed.SwapFault → Rose (S.faults swap.old) (S.faults swap.new) }
     ensures idle { Idles (live_load store.old) store.old store.new swap.old swap.new }
 {
     match stop_of(bring_in(store, regions, id, keep, images, swap)) {
@@ -280,8 +260,7 @@ fn hold_made(store: &Store, regions: &mut Regions, pid: u16, index: u16, id: Seg
     ensures answer { result ≡ Roomed.Done (record { error = 0; value = selector_of index }) }
     ensures holds { KeepsHolds regions.old regions.new }
     ensures limits { KeepsLimits store.now regions.old store.now regions.new 0 }
-    ensures order { IsInOrder store.now regions.new }
-    ensures guards { IsGuarded store.now regions.old → IsGuarded store.now regions.new }
+    ensures goes_on { KeepsOrder store.now regions.old store.now regions.new }
     ensures matches { MatchesHold store.now regions.old regions.new pid index (made_by_call id) writable_data }
 {
     let held = Held {

@@ -4,13 +4,10 @@ ghost use Rattle.o2_isa.specs.View.{is_local, is_null};
 ghost use Rattle.std.specs.List.{list_any};
 ghost use Rattle.o2_entries.specs.Tables.{slot_at};
 ghost use Rattle.o2_regions.specs.Maps.{IsProcess, held_at};
-ghost use Rattle.o2_image.specs.ImageList.{ImageList};
-ghost use Rattle.o2_segbus.specs.Seen.{AreNamed};
-ghost use Rattle.o2_store.specs.Pictures.{HasPicture};
-ghost use Rattle.o2_store.specs.Shelf.{AreClean, HasAll, Pictures};
-ghost use Rattle.o2_swapmap.specs.Piles.{all_of};
+ghost use Rattle.o2_changes.specs.Frames.{KeepsOrder};
+ghost use Rattle.o2_segs.specs.Callers.{IsCaller};
 ghost use Rattle.o2_changes.specs.Holding.{KeepsPlaces};
-ghost use Rattle.o2_changes.specs.Order.{IsGuarded, IsInOrder};
+ghost use Rattle.o2_changes.specs.Order.{IsInOrder};
 ghost use Rattle.o2_changes.specs.Holding.{TakesSome};
 ghost use Rattle.o2_changes.specs.Worlds.{MatchesLoss};
 ghost use Rattle.o2_stands.specs.Stands.{Matches};
@@ -22,7 +19,6 @@ ghost use Rattle.o2_world.specs.Rulings.{by_load, freeing, freeing_cpu, in_use, 
 ghost use Rattle.o2_world.specs.World.{Process, World};
 ghost use Rattle.o2_segs.specs.Answers.{Answers};
 ghost use Rattle.o2_segs.specs.Limits.{KeepsLimits};
-ghost use Rattle.o2_store.specs.Idle.{NoneTaken};
 ghost use Rattle.o2_segs.specs.Members.{MatchesFree, MatchesMembers, MayLose, TakesRun, end_in, freed_in, is_gone_in, is_last_in, is_later_in, members_in};
 
 use crate::asking::{ACCESS_DENIED, done, held_under, refusal};
@@ -45,9 +41,7 @@ pub fn free_seg(
     sel: u16,
     cpu: &mut Cpu,
 ) -> Answer
-    requires process { IsProcess regions.old pid }
-    requires named { AreNamed store.old regions.old }
-    requires order { IsInOrder store.old regions.old }
+    requires caller { IsCaller store.old regions.old pid }
 
     ensures answer { (p : Parts) (o : Others) → p.shelf ≡ store.old → p.maps ≡ regions.old
         → Answers (freeing (known_in p o) pid sel cpu.old) result }
@@ -56,13 +50,7 @@ pub fn free_seg(
     ensures limits { KeepsLimits store.old regions.old store.new regions.new 0 }
     ensures places { KeepsPlaces store.old store.new }
     ensures processes { regions.new.processes ≡ regions.old.processes }
-    ensures order { IsInOrder store.new regions.new }
-    ensures guards { IsGuarded store.old regions.old → IsGuarded store.new regions.new }
-    ensures clean { (pic : Pictures) → AreClean store.old pic → AreClean store.new pic }
-    ensures pictures { (images : ImageList) → HasAll (HasPicture images) store.old
-        → HasAll (HasPicture images) store.new }
-    ensures map { all_of store.new.swap ≡ all_of store.old.swap }
-    ensures unused { NoneTaken store.old.swap → NoneTaken store.new.swap }
+    ensures goes_on { KeepsOrder store.old regions.old store.new regions.new }
     ensures matches { (p : Parts) (o : Others) (w : World) (x : Process) → p.shelf ≡ store.old
         → p.maps ≡ regions.old → process_at w.processes pid ≡ Some x
         → ((freeing (known_in p o) pid sel cpu.old).error ≡ 0 → MayLose w pid (sel / 8))
@@ -225,13 +213,7 @@ fn free_held(
     ensures limits { KeepsLimits store.old regions.old store.new regions.new 0 }
     ensures places { KeepsPlaces store.old store.new }
     ensures processes { regions.new.processes ≡ regions.old.processes }
-    ensures order { IsInOrder store.new regions.new }
-    ensures guards { IsGuarded store.old regions.old → IsGuarded store.new regions.new }
-    ensures clean { (pic : Pictures) → AreClean store.old pic → AreClean store.new pic }
-    ensures pictures { (images : ImageList) → HasAll (HasPicture images) store.old
-        → HasAll (HasPicture images) store.new }
-    ensures map { all_of store.new.swap ≡ all_of store.old.swap }
-    ensures unused { NoneTaken store.old.swap → NoneTaken store.new.swap }
+    ensures goes_on { KeepsOrder store.old regions.old store.new regions.new }
     ensures matches { MatchesFree store.old store.new regions.old regions.new pid index held }
 {
     if held.reserved == 0 {
@@ -261,13 +243,7 @@ fn free_alone(
     ensures limits { KeepsLimits store.old regions.old store.new regions.new 0 }
     ensures places { KeepsPlaces store.old store.new }
     ensures processes { regions.new.processes ≡ regions.old.processes }
-    ensures order { IsInOrder store.new regions.new }
-    ensures guards { IsGuarded store.old regions.old → IsGuarded store.new regions.new }
-    ensures clean { (pic : Pictures) → AreClean store.old pic → AreClean store.new pic }
-    ensures pictures { (images : ImageList) → HasAll (HasPicture images) store.old
-        → HasAll (HasPicture images) store.new }
-    ensures map { all_of store.new.swap ≡ all_of store.old.swap }
-    ensures unused { NoneTaken store.old.swap → NoneTaken store.new.swap }
+    ensures goes_on { KeepsOrder store.old regions.old store.new regions.new }
     ensures matches { MatchesFree store.old store.new regions.old regions.new pid index held }
 {
     regions.law();
@@ -288,13 +264,7 @@ fn free_members(store: &mut Store, regions: &mut Regions, pid: u16, index: u16, 
     ensures limits { KeepsLimits store.old regions.old store.new regions.new 0 }
     ensures places { KeepsPlaces store.old store.new }
     ensures processes { regions.new.processes ≡ regions.old.processes }
-    ensures order { IsInOrder store.new regions.new }
-    ensures guards { IsGuarded store.old regions.old → IsGuarded store.new regions.new }
-    ensures clean { (pic : Pictures) → AreClean store.old pic → AreClean store.new pic }
-    ensures pictures { (images : ImageList) → HasAll (HasPicture images) store.old
-        → HasAll (HasPicture images) store.new }
-    ensures map { all_of store.new.swap ≡ all_of store.old.swap }
-    ensures unused { NoneTaken store.old.swap → NoneTaken store.new.swap }
+    ensures goes_on { KeepsOrder store.old regions.old store.new regions.new }
     ensures matches { MatchesFree store.old store.new regions.old regions.new pid index held }
 {
     regions.law();
@@ -313,13 +283,7 @@ fn drop_members(store: &mut Store, regions: &mut Regions, pid: u16, held: Held)
     ensures reserved { regions.new.reserved ≡ regions.old.reserved }
     ensures limits { KeepsLimits store.old regions.old store.new regions.new 0 }
     ensures places { KeepsPlaces store.old store.new }
-    ensures order { IsInOrder store.new regions.new }
-    ensures guards { IsGuarded store.old regions.old → IsGuarded store.new regions.new }
-    ensures clean { (pic : Pictures) → AreClean store.old pic → AreClean store.new pic }
-    ensures pictures { (images : ImageList) → HasAll (HasPicture images) store.old
-        → HasAll (HasPicture images) store.new }
-    ensures map { all_of store.new.swap ≡ all_of store.old.swap }
-    ensures unused { NoneTaken store.old.swap → NoneTaken store.new.swap }
+    ensures goes_on { KeepsOrder store.old regions.old store.new regions.new }
     ensures matches { MatchesMembers store.old store.new regions.old regions.new pid held }
 {
     let end = end_of_run(held).max(held.first);
@@ -338,13 +302,7 @@ fn drop_at(store: &mut Store, regions: &mut Regions, pid: u16, index: u16)
     ensures reserved { regions.new.reserved ≡ regions.old.reserved }
     ensures limits { KeepsLimits store.old regions.old store.new regions.new 0 }
     ensures places { KeepsPlaces store.old store.new }
-    ensures order { IsInOrder store.new regions.new }
-    ensures guards { IsGuarded store.old regions.old → IsGuarded store.new regions.new }
-    ensures clean { (pic : Pictures) → AreClean store.old pic → AreClean store.new pic }
-    ensures pictures { (images : ImageList) → HasAll (HasPicture images) store.old
-        → HasAll (HasPicture images) store.new }
-    ensures map { all_of store.new.swap ≡ all_of store.old.swap }
-    ensures unused { NoneTaken store.old.swap → NoneTaken store.new.swap }
+    ensures goes_on { KeepsOrder store.old regions.old store.new regions.new }
     ensures lives { (k : ℕ) → IsSome (slot_at store.new.entries k) → IsSome (slot_at store.old.entries k) }
     ensures held { IsSome (held_at regions.old pid index)
         → MatchesLoss store.old store.new regions.old regions.new pid index 1 }
@@ -368,13 +326,7 @@ fn drop_member(store: &mut Store, regions: &mut Regions, pid: u16, index: u16, m
     ensures reserved { regions.new.reserved ≡ regions.old.reserved }
     ensures limits { KeepsLimits store.old regions.old store.new regions.new 0 }
     ensures places { KeepsPlaces store.old store.new }
-    ensures order { IsInOrder store.new regions.new }
-    ensures guards { IsGuarded store.old regions.old → IsGuarded store.new regions.new }
-    ensures clean { (pic : Pictures) → AreClean store.old pic → AreClean store.new pic }
-    ensures pictures { (images : ImageList) → HasAll (HasPicture images) store.old
-        → HasAll (HasPicture images) store.new }
-    ensures map { all_of store.new.swap ≡ all_of store.old.swap }
-    ensures unused { NoneTaken store.old.swap → NoneTaken store.new.swap }
+    ensures goes_on { KeepsOrder store.old regions.old store.new regions.new }
     ensures lives { (k : ℕ) → IsSome (slot_at store.new.entries k) → IsSome (slot_at store.old.entries k) }
     ensures matches { MatchesLoss store.old store.new regions.old regions.new pid index 1 }
 {

@@ -1,17 +1,16 @@
 // DosReallocSeg.
 ghost use Rattle.std.specs.Prelude.{◌≡◌, ℕ, ◌<◌, ◌≤◌, ◌/◌, ◌==◌, ◌&&◌, ◌||◌, nat_lt, not, None, IfSome, IsSome, IsTrue, true, if◌then◌else◌, ◌⊎◌};
 ghost use Rattle.o2_isa.specs.View.{is_local};
-ghost use Rattle.o2_outer.specs.Texts.{Rose};
-ghost use Rattle.o2_regions.specs.Maps.{IsProcess, held_at};
-ghost use Rattle.o2_segbus.specs.Seen.{AreNamed};
+ghost use Rattle.o2_regions.specs.Maps.{held_at};
 ghost use Rattle.o2_store.specs.Loads.{live_load_at, swap_load};
 ghost use Rattle.o2_store.specs.Needs.{named_in};
-ghost use Rattle.o2_store.specs.Pictures.{picture, HasPicture};
-ghost use Rattle.o2_store.specs.Shelf.{AreClean, HasAll, entry, entry_of, place_of};
+ghost use Rattle.o2_store.specs.Shelf.{entry, entry_of, place_of};
 ghost use Rattle.o2_store.specs.Sizes.{all_wanted_at, stays};
 ghost use Rattle.o2_swapmap.specs.Piles.{all_of};
+ghost use Rattle.o2_store.specs.Frames.{IsBacked, KeepsDevice};
+ghost use Rattle.o2_changes.specs.Frames.{KeepsOrderFor};
+ghost use Rattle.o2_segs.specs.Callers.{IsCaller};
 ghost use Rattle.o2_changes.specs.Holding.{KeepsHolds};
-ghost use Rattle.o2_changes.specs.Order.{IsGuarded, IsInOrder};
 ghost use Rattle.o2_stands.specs.Stands.{Matches};
 ghost use Rattle.o2_stands.specs.Knows.{Others, known_in};
 ghost use Rattle.o2_stands.specs.Moves.{moved};
@@ -84,11 +83,8 @@ pub fn realloc_seg<S: SwapDevice>(
     images: &Images,
     swap: &mut S,
 ) -> Roomed
-    requires process { IsProcess regions.old pid }
-    requires named { AreNamed store.old regions.old }
-    requires order { IsInOrder store.old regions.old }
-    requires clean { AreClean store.old (picture images.now) }
-    requires device { all_of store.old.swap ≤ S.blocks swap.old }
+    requires caller { IsCaller store.old regions.old pid }
+    requires backed { IsBacked store.old images.now (S.blocks swap.old) }
 
     ensures answer { (p : Parts) (o : Others) → p.shelf ≡ store.old → p.maps ≡ regions.old
         → AnswersRoomed (reallocation (known_in p o) pid size sel) result }
@@ -98,14 +94,9 @@ pub fn realloc_seg<S: SwapDevice>(
         (with_all w (changes_roomed (reallocation (known_in p o) pid size sel) result)) }
     ensures holds { KeepsHolds regions.old regions.new }
     ensures limits { KeepsLimits store.old regions.old store.new regions.new 0 }
-    ensures processes { regions.new.processes ≡ regions.old.processes }
-    ensures order { IsInOrder store.new regions.new }
-    ensures guards { IsGuarded store.old regions.old → IsGuarded store.new regions.new }
-    ensures clean { AreClean store.new (picture images.now) }
-    ensures pictures { HasAll (HasPicture images.now) store.old → HasAll (HasPicture images.now) store.new }
-    ensures map { all_of store.new.swap ≡ all_of store.old.swap }
-    ensures device { (S.blocks swap.new ≡ S.blocks swap.old)
-        × (IsTrue (S.told swap.new) → IsTrue (S.told swap.old)) }
+    ensures goes_on { KeepsOrderFor images.now store.old regions.old store.new regions.new }
+    ensures device { KeepsDevice S.blocks S.told S.faults swap.old swap.new
+        (result ≡ Roomed.SwapFault) }
     ensures kept { (k : ℕ) → named_in store.old.entries keep.now k ≡ true
         → IsSome (place_of store.old k) → IsSome (place_of store.new k) }
 
@@ -115,8 +106,6 @@ pub fn realloc_seg<S: SwapDevice>(
     ensures all_load { result ≡ Roomed.SwapFull → IfSome (if is_local sel then held_at regions.old pid (sel / 8) else None)
         (λ h. store.old.places.size < live_load_at store.old h.id.key (full_size size)) }
     ensures load { result ≡ Roomed.SwapFull → all_of store.old.swap < swap_load store.old }
-    ensures faults { S.faults swap.old ≤ S.faults swap.new }
-    ensures cause { result ≡ Roomed.SwapFault → Rose (S.faults swap.old) (S.faults swap.new) }
     // Where nothing is in swap blocks, the device isn't touched, unless all that lives with the new size doesn't fit the memory.
     ensures idle { NoneTaken store.old.swap → IsIdle store.new swap.old swap.new
         ⊎ (IsUnrefused result × IfSome (if is_local sel then held_at regions.old pid (sel / 8) else None)

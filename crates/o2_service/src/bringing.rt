@@ -1,10 +1,10 @@
 // One segment comes in, and the descriptors of each one that moves for it say where it is.
-ghost use Rattle.std.specs.Prelude.{◌≡◌, ◌≢◌, ℕ, List, Bool, ◌+◌, ◌<◌, ◌≤◌, length, is_some, IsSome, IsTrue, None, true};
-ghost use Rattle.o2_outer.specs.Texts.{Rose};
+ghost use Rattle.std.specs.Prelude.{◌≡◌, ◌≢◌, ℕ, List, Bool, ◌+◌, ◌<◌, ◌≤◌, length, is_some, IsSome, None, true};
 ghost use Rattle.o2_entries.specs.Tables.{slot_at};
 ghost use Rattle.o2_place.specs.Layout.{IsFree, used};
 ghost use Rattle.o2_segbus.specs.Settled.{IsSettled};
 ghost use Rattle.o2_swapmap.specs.Piles.{all_of};
+ghost use Rattle.o2_store.specs.Frames.{IsBacked, KeepsDevice};
 ghost use Rattle.o2_store.specs.Loads.{live_load, swap_load};
 ghost use Rattle.o2_store.specs.Needs.{all_wanted, named_in};
 ghost use Rattle.o2_store.specs.Pictures.{picture, HasPicture};
@@ -40,8 +40,8 @@ fn make_way<S: SwapDevice>(
         store.old (S.block swap.old) store.new (S.block swap.new) }
     ensures clean { (pic : Pictures) → AreClean store.old pic → AreClean store.new pic }
     ensures tables { SameTables store.old store.new }
-    ensures device { (S.blocks swap.new ≡ S.blocks swap.old)
-        × (IsTrue (S.told swap.new) → IsTrue (S.told swap.old)) }
+    ensures device { KeepsDevice S.blocks S.told S.faults swap.old swap.new
+        (result ≡ Brought.SwapFault) }
     ensures map { all_of store.new.swap ≡ all_of store.old.swap }
     ensures follows { Follows regions.old store.new regions.new }
     ensures kept { (k : ℕ) → named_in store.old.entries keep.now k ≡ true
@@ -55,8 +55,6 @@ fn make_way<S: SwapDevice>(
         → (all_of store.old.swap < swap_load store.old)
         × (store.old.places.size < live_load store.old) }
     ensures full { result ≡ Brought.SwapFull → IsFull store.new }
-    ensures faults { S.faults swap.old ≤ S.faults swap.new }
-    ensures cause { result ≡ Brought.SwapFault → Rose (S.faults swap.old) (S.faults swap.new) }
     ensures never { (result ≡ Brought.NoRoom → ⊥) × (result ≡ Brought.Stale → ⊥) }
 {
     store.law();
@@ -87,8 +85,8 @@ fn make_room<S: SwapDevice>(
         store.old (S.block swap.old) store.new (S.block swap.new) }
     ensures clean { (pic : Pictures) → AreClean store.old pic → AreClean store.new pic }
     ensures tables { SameTables store.old store.new }
-    ensures device { (S.blocks swap.new ≡ S.blocks swap.old)
-        × (IsTrue (S.told swap.new) → IsTrue (S.told swap.old)) }
+    ensures device { KeepsDevice S.blocks S.told S.faults swap.old swap.new
+        (result ≡ Brought.SwapFault) }
     ensures map { all_of store.new.swap ≡ all_of store.old.swap }
     ensures follows { Follows regions.old store.new regions.new }
     ensures kept { (k : ℕ) → named_in store.old.entries keep.now k ≡ true
@@ -104,8 +102,6 @@ fn make_room<S: SwapDevice>(
         → (all_of store.old.swap < swap_load store.old)
         × (store.old.places.size < live_load store.old) }
     ensures full { result ≡ Brought.SwapFull → IsFull store.new }
-    ensures faults { S.faults swap.old ≤ S.faults swap.new }
-    ensures cause { result ≡ Brought.SwapFault → Rose (S.faults swap.old) (S.faults swap.new) }
     ensures never { (result ≡ Brought.NoRoom → ⊥) × (result ≡ Brought.Stale → ⊥) }
 {
     while store.lacks_room(id) {
@@ -157,21 +153,18 @@ fn fill_gap<S: SwapDevice>(
     requires held { IsHeldWell store.old regions.old }
     requires settled { IsSettled store.old regions.old }
     requires pictures { HasAll (HasPicture images.now) store.old }
-    requires clean { AreClean store.old (picture images.now) }
-    requires device { all_of store.old.swap ≤ S.blocks swap.old }
+    requires backed { IsBacked store.old images.now (S.blocks swap.old) }
 
     ensures keeps { KeepsAll (S.told swap.new) (picture images.now)
         store.old (S.block swap.old) store.new (S.block swap.new) }
     ensures clean { AreClean store.new (picture images.now) }
-    ensures device { (S.blocks swap.new ≡ S.blocks swap.old)
-        × (IsTrue (S.told swap.new) → IsTrue (S.told swap.old)) }
+    ensures device { KeepsDevice S.blocks S.told S.faults swap.old swap.new
+        (result ≡ Brought.SwapFault) }
     ensures map { all_of store.new.swap ≡ all_of store.old.swap }
     ensures follows { Follows regions.old store.new regions.new }
     ensures alone { (k : ℕ) → k ≢ id.key → place_of store.new k ≡ place_of store.old k }
 
     ensures here { result ≡ Brought.Here → IsSome (place_of store.new id.key) }
-    ensures faults { S.faults swap.old ≤ S.faults swap.new }
-    ensures cause { result ≡ Brought.SwapFault → Rose (S.faults swap.old) (S.faults swap.new) }
     ensures never { (result ≡ Brought.NoRoom → ⊥) × (result ≡ Brought.Stale → ⊥) × (result ≡ Brought.SwapFull → ⊥) }
     ensures idle { NoneTaken store.old.swap → IsIdle store.new swap.old swap.new }
 {
@@ -196,14 +189,13 @@ fn bring_in<S: SwapDevice>(
     requires held { IsHeldWell store.old regions.old }
     requires settled { IsSettled store.old regions.old }
     requires pictures { HasAll (HasPicture images.now) store.old }
-    requires clean { AreClean store.old (picture images.now) }
-    requires device { all_of store.old.swap ≤ S.blocks swap.old }
+    requires backed { IsBacked store.old images.now (S.blocks swap.old) }
 
     ensures keeps { KeepsAll (S.told swap.new) (picture images.now)
         store.old (S.block swap.old) store.new (S.block swap.new) }
     ensures clean { AreClean store.new (picture images.now) }
-    ensures device { (S.blocks swap.new ≡ S.blocks swap.old)
-        × (IsTrue (S.told swap.new) → IsTrue (S.told swap.old)) }
+    ensures device { KeepsDevice S.blocks S.told S.faults swap.old swap.new
+        (result ≡ Brought.SwapFault) }
     ensures map { all_of store.new.swap ≡ all_of store.old.swap }
     ensures follows { Follows regions.old store.new regions.new }
     ensures kept { (k : ℕ) → named_in store.old.entries keep.now k ≡ true
@@ -215,8 +207,6 @@ fn bring_in<S: SwapDevice>(
         → (all_of store.old.swap < swap_load store.old)
         × (store.old.places.size < live_load store.old) }
     ensures stuck { result ≡ Brought.SwapFull → IsStuck store.old store.new id.key }
-    ensures faults { S.faults swap.old ≤ S.faults swap.new }
-    ensures cause { result ≡ Brought.SwapFault → Rose (S.faults swap.old) (S.faults swap.new) }
     ensures never { (result ≡ Brought.NoRoom → ⊥) × (result ≡ Brought.Stale → ⊥) }
     ensures idle { Idles (live_load store.old) store.old store.new swap.old swap.new }
 {
@@ -246,14 +236,13 @@ pub fn bring<S: SwapDevice>(
     requires held { IsHeldWell store.old regions.old }
     requires settled { IsSettled store.old regions.old }
     requires pictures { HasAll (HasPicture images.now) store.old }
-    requires clean { AreClean store.old (picture images.now) }
-    requires device { all_of store.old.swap ≤ S.blocks swap.old }
+    requires backed { IsBacked store.old images.now (S.blocks swap.old) }
 
     ensures keeps { KeepsAll (S.told swap.new) (picture images.now)
         store.old (S.block swap.old) store.new (S.block swap.new) }
     ensures clean { AreClean store.new (picture images.now) }
-    ensures device { (S.blocks swap.new ≡ S.blocks swap.old)
-        × (IsTrue (S.told swap.new) → IsTrue (S.told swap.old)) }
+    ensures device { KeepsDevice S.blocks S.told S.faults swap.old swap.new
+        (result ≡ Brought.SwapFault) }
     ensures map { all_of store.new.swap ≡ all_of store.old.swap }
     ensures follows { Follows regions.old store.new regions.new }
     ensures kept { (k : ℕ) → named_in store.old.entries keep.now k ≡ true
@@ -267,8 +256,6 @@ pub fn bring<S: SwapDevice>(
         → (all_of store.old.swap < swap_load store.old)
         × (store.old.places.size < live_load store.old) }
     ensures stuck { result ≡ Brought.SwapFull → IsStuck store.old store.new id.key }
-    ensures faults { S.faults swap.old ≤ S.faults swap.new }
-    ensures cause { result ≡ Brought.SwapFault → Rose (S.faults swap.old) (S.faults swap.new) }
     ensures never { result ≡ Brought.Stale → ⊥ }
     // Where nothing is in swap blocks and all that lives fits the memory, the device isn't touched.
     ensures idle { Idles (live_load store.old) store.old store.new swap.old swap.new }

@@ -1,8 +1,8 @@
 // What is needed comes into memory, and the descriptors say so.
-ghost use Rattle.std.specs.Prelude.{◌≡◌, ℕ, ◌+◌, ◌<◌, ◌≤◌, length, None, true, false, IsSome, IsTrue};
-ghost use Rattle.o2_outer.specs.Texts.{Rose};
+ghost use Rattle.std.specs.Prelude.{◌≡◌, ℕ, ◌+◌, ◌<◌, ◌≤◌, length, None, true, false, IsSome};
 ghost use Rattle.o2_segbus.specs.Settled.{IsSettled};
 ghost use Rattle.o2_swapmap.specs.Piles.{all_of};
+ghost use Rattle.o2_store.specs.Frames.{IsBacked, KeepsDevice};
 ghost use Rattle.o2_store.specs.Loads.{live_load, swap_load};
 ghost use Rattle.o2_store.specs.Pictures.{picture, HasPicture};
 ghost use Rattle.o2_store.specs.Shelf.{AreClean, HasAll, KeepsAll, entry, entry_of, place_of};
@@ -52,14 +52,13 @@ pub fn serve<S: SwapDevice>(
     requires held { IsHeldWell store.old regions.old }
     requires settled { IsSettled store.old regions.old }
     requires pictures { HasAll (HasPicture images.now) store.old }
-    requires clean { AreClean store.old (picture images.now) }
-    requires device { all_of store.old.swap ≤ S.blocks swap.old }
+    requires backed { IsBacked store.old images.now (S.blocks swap.old) }
 
     ensures keeps { KeepsAll (S.told swap.new) (picture images.now)
         store.old (S.block swap.old) store.new (S.block swap.new) }
     ensures clean { AreClean store.new (picture images.now) }
-    ensures device { (S.blocks swap.new ≡ S.blocks swap.old)
-        × (IsTrue (S.told swap.new) → IsTrue (S.told swap.old)) }
+    ensures device { KeepsDevice S.blocks S.told S.faults swap.old swap.new
+        (result ≡ Served.SwapFault) }
     ensures map { all_of store.new.swap ≡ all_of store.old.swap }
     ensures maps { OnlyTables regions.old regions.new }
     ensures settled { IsSettled store.new regions.new }
@@ -80,8 +79,6 @@ pub fn serve<S: SwapDevice>(
     ensures loads { result ≡ Served.SwapFull
         → (all_of store.old.swap < swap_load store.old)
         × (store.old.places.size < live_load store.old) }
-    ensures faults { S.faults swap.old ≤ S.faults swap.new }
-    ensures cause { result ≡ Served.SwapFault → Rose (S.faults swap.old) (S.faults swap.new) }
     // Where nothing is in swap blocks and all that lives fits the memory, the device isn't touched.
     ensures idle { Idles (live_load store.old) store.old store.new swap.old swap.new }
 {
@@ -119,14 +116,13 @@ fn bring_all<S: SwapDevice>(
     requires held { IsHeldWell store.old regions.old }
     requires settled { IsSettled store.old regions.old }
     requires pictures { HasAll (HasPicture images.now) store.old }
-    requires clean { AreClean store.old (picture images.now) }
-    requires device { all_of store.old.swap ≤ S.blocks swap.old }
+    requires backed { IsBacked store.old images.now (S.blocks swap.old) }
 
     ensures keeps { KeepsAll (S.told swap.new) (picture images.now)
         store.old (S.block swap.old) store.new (S.block swap.new) }
     ensures clean { AreClean store.new (picture images.now) }
-    ensures device { (S.blocks swap.new ≡ S.blocks swap.old)
-        × (IsTrue (S.told swap.new) → IsTrue (S.told swap.old)) }
+    ensures device { KeepsDevice S.blocks S.told S.faults swap.old swap.new
+        (result ≡ Served.SwapFault) }
     ensures map { all_of store.new.swap ≡ all_of store.old.swap }
     ensures follows { Follows regions.old store.new regions.new }
     ensures stays { Stays need.now store.old store.new }
@@ -138,8 +134,6 @@ fn bring_all<S: SwapDevice>(
     ensures loads { result ≡ Served.SwapFull
         → (all_of store.old.swap < swap_load store.old)
         × (store.old.places.size < live_load store.old) }
-    ensures faults { S.faults swap.old ≤ S.faults swap.new }
-    ensures cause { result ≡ Served.SwapFault → Rose (S.faults swap.old) (S.faults swap.new) }
     ensures idle { Idles (live_load store.old) store.old store.new swap.old swap.new }
 {
     store.law();
@@ -182,14 +176,13 @@ fn bring_one<S: SwapDevice>(
     requires held { IsHeldWell store.old regions.old }
     requires settled { IsSettled store.old regions.old }
     requires pictures { HasAll (HasPicture images.now) store.old }
-    requires clean { AreClean store.old (picture images.now) }
-    requires device { all_of store.old.swap ≤ S.blocks swap.old }
+    requires backed { IsBacked store.old images.now (S.blocks swap.old) }
 
     ensures keeps { KeepsAll (S.told swap.new) (picture images.now)
         store.old (S.block swap.old) store.new (S.block swap.new) }
     ensures clean { AreClean store.new (picture images.now) }
-    ensures device { (S.blocks swap.new ≡ S.blocks swap.old)
-        × (IsTrue (S.told swap.new) → IsTrue (S.told swap.old)) }
+    ensures device { KeepsDevice S.blocks S.told S.faults swap.old swap.new
+        (result ≡ Served.SwapFault) }
     ensures map { all_of store.new.swap ≡ all_of store.old.swap }
     ensures follows { Follows regions.old store.new regions.new }
     ensures stays { Stays need.now store.old store.new }
@@ -200,8 +193,6 @@ fn bring_one<S: SwapDevice>(
     ensures loads { result ≡ Served.SwapFull
         → (all_of store.old.swap < swap_load store.old)
         × (store.old.places.size < live_load store.old) }
-    ensures faults { S.faults swap.old ≤ S.faults swap.new }
-    ensures cause { result ≡ Served.SwapFault → Rose (S.faults swap.old) (S.faults swap.new) }
     ensures idle { Idles (live_load store.old) store.old store.new swap.old swap.new }
 {
     match bring(id, need.ids(), store, regions, images, swap) {

@@ -16,6 +16,10 @@ use Rattle.o2_world.specs.Rulings.{indexes}
 use Rattle.o2_shared.specs.declared.names.Name.{Name}
 use Rattle.o2_shared.specs.Shares.{StillHolds, share_of}
 use Rattle.o2_shared.specs.Texts.{AreInPlace}
+use Rattle.o2_shared.specs.Frames.{SharesOnce}
+use Rattle.o2_segs.proofs.Limits.{limits_none}
+use Rattle.o2_changes.specs.Order.{IsInOrder}
+use Rattle.o2_changes.proofs.Framing.{order_refl}
 
 -- Each process has a shared index in the shared region.
 
@@ -110,3 +114,13 @@ next_from f a b l e = ap (λ (n : ℕ). find f (indexes a n)) (let n : b - a ≡
 pub find_same : (f g : ℕ → Bool) (ns : List ℕ) → ((n : ℕ) → f n ≡ g n) → find f ns ≡ find g ns
 find_same f g [] e = refl
 find_same f g (n ∷ ns) e = ap (λ (b : Bool). cond b (Some n) (find f ns)) (e n) ∙ ap (λ (o : Option ℕ). cond (g n) (Some n) o) (find_same f g ns e)
+
+-- nothing is shared
+pub shares_none : (s : Shelf) (m : Maps) → IsInOrder s m → SharesOnce s m s m
+shares_none s m order = record {
+  still = still_refl m;
+  limits = limits_none s m;
+  places = λ names a. a;
+  processes = refl;
+  goes_on = order_refl s m order;
+}

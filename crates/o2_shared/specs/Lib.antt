@@ -1,3 +1,4 @@
 pub mod NameOrder
 pub mod Shares
 pub mod Texts
+pub mod Frames

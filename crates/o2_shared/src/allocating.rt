@@ -2,13 +2,11 @@
 ghost use Rattle.std.specs.Prelude.{◌≡◌, ℕ, ◌-◌, ◌<◌, ◌≤◌, ◌^◌, length, IsSome, Some, None, false};
 ghost use Rattle.o2_desc.specs.Bits.{writable_data};
 ghost use Rattle.o2_desc.specs.Choice.{IsRun};
-ghost use Rattle.o2_image.specs.ImageList.{ImageList};
 ghost use Rattle.o2_regions.specs.Maps.{IsProcess, is_taken};
-ghost use Rattle.o2_store.specs.Pictures.{HasPicture};
-ghost use Rattle.o2_store.specs.Shelf.{AreClean, HasAll, Pictures, entry, entry_of, place_of};
-ghost use Rattle.o2_swapmap.specs.Piles.{all_of};
+ghost use Rattle.o2_store.specs.Shelf.{entry, entry_of, place_of};
+ghost use Rattle.o2_changes.specs.Frames.{KeepsOrder};
 ghost use Rattle.o2_changes.specs.Holding.{Grants, KeepsHolds};
-ghost use Rattle.o2_changes.specs.Order.{IsGuarded, IsInOrder};
+ghost use Rattle.o2_changes.specs.Order.{IsInOrder};
 ghost use Rattle.o2_changes.specs.Worlds.{MatchesHold};
 ghost use Rattle.o2_stands.specs.Knows.{Others, known_in};
 ghost use Rattle.o2_stands.specs.Parts.{Parts};
@@ -25,7 +23,6 @@ ghost use Rattle.o2_segs.specs.Limits.{KeepsEntries, KeepsLimits};
 ghost use Rattle.o2_segs.specs.Made.{made_by_call};
 ghost use Rattle.o2_shared.specs.Shares.{naming_to};
 ghost use Rattle.o2_shared.specs.Texts.{AreInPlace, AreOnce, AreTexts, found_from};
-ghost use Rattle.o2_store.specs.Idle.{NoneTaken};
 
 use crate::names::Shared;
 use crate::naming::is_name;
@@ -80,13 +77,7 @@ pub fn alloc_shr_seg(
     ensures limits { KeepsLimits store.old regions.old store.new regions.new 1 }
     ensures entries { KeepsEntries store.old store.new }
     ensures kept { (k : ℕ) → IsSome (place_of store.old k) → IsSome (place_of store.new k) }
-    ensures order { IsInOrder store.new regions.new }
-    ensures guards { IsGuarded store.old regions.old → IsGuarded store.new regions.new }
-    ensures clean { (pic : Pictures) → AreClean store.old pic → AreClean store.new pic }
-    ensures pictures { (images : ImageList) → HasAll (HasPicture images) store.old
-        → HasAll (HasPicture images) store.new }
-    ensures map { all_of store.new.swap ≡ all_of store.old.swap }
-    ensures unused { NoneTaken store.old.swap → NoneTaken store.new.swap }
+    ensures goes_on { KeepsOrder store.old regions.old store.new regions.new }
 {
     if !is_name(name) {
         return refusal(INVALID_NAME);
@@ -148,13 +139,7 @@ fn make_named(
     ensures limits { KeepsLimits store.old regions.old store.new regions.new 1 }
     ensures entries { KeepsEntries store.old store.new }
     ensures kept { (k : ℕ) → IsSome (place_of store.old k) → IsSome (place_of store.new k) }
-    ensures order { IsInOrder store.new regions.new }
-    ensures guards { IsGuarded store.old regions.old → IsGuarded store.new regions.new }
-    ensures clean { (pic : Pictures) → AreClean store.old pic → AreClean store.new pic }
-    ensures pictures { (images : ImageList) → HasAll (HasPicture images) store.old
-        → HasAll (HasPicture images) store.new }
-    ensures map { all_of store.new.swap ≡ all_of store.old.swap }
-    ensures unused { NoneTaken store.old.swap → NoneTaken store.new.swap }
+    ensures goes_on { KeepsOrder store.old regions.old store.new regions.new }
 {
     regions.law();
     names.law();
@@ -178,8 +163,7 @@ fn hold_named(store: &Store, regions: &mut Regions, pid: u16, index: u16, id: Se
 
     ensures grants { Grants regions.old regions.new pid index (made_by_call id) writable_data }
     ensures holds { KeepsHolds regions.old regions.new }
-    ensures order { IsInOrder store.now regions.new }
-    ensures guards { IsGuarded store.now regions.old → IsGuarded store.now regions.new }
+    ensures goes_on { KeepsOrder store.now regions.old store.now regions.new }
     ensures matches { MatchesHold store.now regions.old regions.new pid index (made_by_call id) writable_data }
 {
     let held = Held {

@@ -1,8 +1,6 @@
 // DosGetSeg.
-ghost use Rattle.std.specs.Prelude.{◌≡◌, ◌≤◌, List, Option, Some};
-ghost use Rattle.o2_regions.specs.Maps.{IsProcess};
-ghost use Rattle.o2_segbus.specs.Seen.{AreNamed};
-ghost use Rattle.o2_changes.specs.Order.{IsGuarded, IsInOrder};
+ghost use Rattle.std.specs.Prelude.{◌≡◌, ◌≤◌, Some};
+ghost use Rattle.o2_segs.specs.Callers.{IsCaller};
 ghost use Rattle.o2_stands.specs.Knows.{Others, known_in};
 ghost use Rattle.o2_stands.specs.Parts.{Parts};
 ghost use Rattle.o2_stands.specs.Stands.{Matches};
@@ -11,10 +9,8 @@ ghost use Rattle.o2_world.specs.Holders.{process_at};
 ghost use Rattle.o2_world.specs.SharedRulings.{getting};
 ghost use Rattle.o2_world.specs.World.{Process, World};
 ghost use Rattle.o2_segs.specs.Answers.{Answers};
-ghost use Rattle.o2_segs.specs.Limits.{KeepsLimitsBy};
-ghost use Rattle.o2_shared.specs.declared.names.Name.{Name};
-ghost use Rattle.o2_shared.specs.Shares.{AreFew, ShareOne, StillHolds};
-ghost use Rattle.o2_shared.specs.Texts.{AreInPlace};
+ghost use Rattle.o2_shared.specs.Frames.{SharesOnce};
+ghost use Rattle.o2_shared.specs.Shares.{AreFew, ShareOne};
 
 use crate::sharing::{Flag, first_held, may_be_shared, share_all};
 use o2_base::Selector;
@@ -24,11 +20,8 @@ use o2_store::Store;
 
 /// DosGetSeg(sel): the caller holds once more what another process holds under that shared selector, or each member of the run that
 /// begins there. 5 where nobody holds a gettable segment there, or one in a run but not its first.
-#[tactic(auto, using(crate::proofs::Holders::still_refl, o2_segs::proofs::Limits::limits_none))]
 pub fn get_seg(store: &mut Store, regions: &mut Regions, pid: u16, sel: u16) -> Answer
-    requires process { IsProcess regions.old pid }
-    requires named { AreNamed store.old regions.old }
-    requires order { IsInOrder store.old regions.old }
+    requires caller { IsCaller store.old regions.old pid }
     requires one { ShareOne regions.old }
     requires few { AreFew regions.old }
 
@@ -36,13 +29,7 @@ pub fn get_seg(store: &mut Store, regions: &mut Regions, pid: u16, sel: u16) -> 
         → Answers (getting (known_in p o) pid sel) result }
     ensures word { result.value ≤ 65535 }
     ensures store { store.new ≡ store.old }
-    ensures still { StillHolds regions.old regions.new }
-    ensures limits { KeepsLimitsBy store.old regions.old store.new regions.new 0 1 }
-    ensures processes { regions.new.processes ≡ regions.old.processes }
-    ensures places { (names : List (Option Name)) → AreInPlace store.old regions.old names
-        → AreInPlace store.new regions.new names }
-    ensures order { IsInOrder store.new regions.new }
-    ensures guards { IsGuarded store.old regions.old → IsGuarded store.new regions.new }
+    ensures more { SharesOnce store.old regions.old store.new regions.new }
     ensures matches { (p : Parts) (o : Others) (w : World) (x : Process) → p.shelf ≡ store.old → p.maps ≡ regions.old
         → o.processes ≡ regions.old.processes → process_at w.processes pid ≡ Some x → Matches p w
         → Matches (record p { maps = regions.new }) (with_all w (getting (known_in p o) pid sel).changes) }

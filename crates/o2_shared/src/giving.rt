@@ -1,9 +1,8 @@
 // DosGiveSeg.
-ghost use Rattle.std.specs.Prelude.{◌≡◌, ◌≤◌, ℕ, List, Option, true};
+ghost use Rattle.std.specs.Prelude.{◌≡◌, ◌≤◌, ℕ, true};
 ghost use Rattle.o2_regions.specs.Lives.{lives};
 ghost use Rattle.o2_regions.specs.Maps.{IsProcess};
-ghost use Rattle.o2_segbus.specs.Seen.{AreNamed};
-ghost use Rattle.o2_changes.specs.Order.{IsGuarded, IsInOrder};
+ghost use Rattle.o2_segs.specs.Callers.{IsCaller};
 ghost use Rattle.o2_stands.specs.Knows.{Others, known_in};
 ghost use Rattle.o2_stands.specs.Parts.{Parts};
 ghost use Rattle.o2_stands.specs.Stands.{AreMarked, Matches};
@@ -11,10 +10,8 @@ ghost use Rattle.o2_world.specs.Changes.{with_all};
 ghost use Rattle.o2_world.specs.SharedRulings.{giving};
 ghost use Rattle.o2_world.specs.World.{World};
 ghost use Rattle.o2_segs.specs.Answers.{Answers};
-ghost use Rattle.o2_segs.specs.Limits.{KeepsLimitsBy};
-ghost use Rattle.o2_shared.specs.declared.names.Name.{Name};
-ghost use Rattle.o2_shared.specs.Shares.{AreFew, ShareOne, StillHolds};
-ghost use Rattle.o2_shared.specs.Texts.{AreInPlace};
+ghost use Rattle.o2_shared.specs.Frames.{SharesOnce};
+ghost use Rattle.o2_shared.specs.Shares.{AreFew, ShareOne};
 
 use crate::sharing::{Flag, INVALID_PROCESS, may_be_shared, selector_at, share_all};
 use o2_base::Selector;
@@ -25,7 +22,6 @@ use o2_store::Store;
 /// DosGiveSeg(sel, pid, psel): the process `to` holds once more what the caller holds, or each member of the run that begins there;
 /// its value is the same selector. 5 where the caller holds nothing there, no giveable segment, or one in a run but not its first;
 /// 303 where no process `to` lives.
-#[tactic(auto, using(crate::proofs::Holders::still_refl, o2_segs::proofs::Limits::limits_none))]
 pub fn give_seg(
     store: &mut Store,
     regions: &mut Regions,
@@ -34,9 +30,7 @@ pub fn give_seg(
     to: u16,
     ends: &Ends,
 ) -> Answer
-    requires process { IsProcess regions.old pid }
-    requires named { AreNamed store.old regions.old }
-    requires order { IsInOrder store.old regions.old }
+    requires caller { IsCaller store.old regions.old pid }
     requires one { ShareOne regions.old }
     requires few { AreFew regions.old }
     requires living { (n : ℕ) → lives ends.now n ≡ true → IsProcess regions.old n }
@@ -45,13 +39,7 @@ pub fn give_seg(
         → Answers (giving (known_in p o) pid sel to) result }
     ensures word { result.value ≤ 65535 }
     ensures store { store.new ≡ store.old }
-    ensures still { StillHolds regions.old regions.new }
-    ensures limits { KeepsLimitsBy store.old regions.old store.new regions.new 0 1 }
-    ensures processes { regions.new.processes ≡ regions.old.processes }
-    ensures places { (names : List (Option Name)) → AreInPlace store.old regions.old names
-        → AreInPlace store.new regions.new names }
-    ensures order { IsInOrder store.new regions.new }
-    ensures guards { IsGuarded store.old regions.old → IsGuarded store.new regions.new }
+    ensures more { SharesOnce store.old regions.old store.new regions.new }
     ensures matches { (p : Parts) (o : Others) (w : World) → p.shelf ≡ store.old → p.maps ≡ regions.old
         → AreMarked ends.now p → Matches p w
         → Matches (record p { maps = regions.new }) (with_all w (giving (known_in p o) pid sel to).changes) }

@@ -1,9 +1,6 @@
 // DosGetShrSeg.
-ghost use Rattle.std.specs.Prelude.{◌≡◌, ℕ, ◌<◌, ◌≤◌, IsSome, Some, List, Option};
-ghost use Rattle.o2_regions.specs.Maps.{IsProcess};
-ghost use Rattle.o2_segbus.specs.Seen.{AreNamed};
-ghost use Rattle.o2_store.specs.Shelf.{entry_of};
-ghost use Rattle.o2_changes.specs.Order.{IsGuarded, IsInOrder};
+ghost use Rattle.std.specs.Prelude.{◌≡◌, ◌<◌, ◌≤◌, Some};
+ghost use Rattle.o2_segs.specs.Callers.{IsCaller};
 ghost use Rattle.o2_stands.specs.Knows.{Others, known_in};
 ghost use Rattle.o2_stands.specs.Parts.{Parts};
 ghost use Rattle.o2_stands.specs.Stands.{Matches};
@@ -13,9 +10,8 @@ ghost use Rattle.o2_world.specs.SharedNames.{name_by};
 ghost use Rattle.o2_world.specs.SharedRulings.{index_of, sharing, sharing_at};
 ghost use Rattle.o2_world.specs.World.{Process, World};
 ghost use Rattle.o2_segs.specs.Answers.{Answers};
-ghost use Rattle.o2_segs.specs.Limits.{KeepsLimitsBy};
-ghost use Rattle.o2_shared.specs.declared.names.Name.{Name};
-ghost use Rattle.o2_shared.specs.Shares.{AreFew, ShareOne, StillHolds, is_share_of};
+ghost use Rattle.o2_shared.specs.Frames.{SharesOnce};
+ghost use Rattle.o2_shared.specs.Shares.{AreFew, ShareOne};
 ghost use Rattle.o2_shared.specs.Texts.{AreInPlace, AreTexts, IsHeldOnly};
 
 use crate::allocating::INVALID_NAME;
@@ -33,7 +29,6 @@ const FILE_NOT_FOUND: u16 = 2;
 /// DosGetShrSeg(name, psel): the caller holds once more the segment that has a name; its value is the segment's shared selector.
 /// The text is that up to a zero, or 129 bytes where none of them is one. 123 where it is no name, 2 where no segment of that
 /// name lives.
-#[tactic(auto, using(crate::proofs::Holders::still_refl, o2_segs::proofs::Limits::limits_none))]
 pub fn get_shr_seg(
     store: &mut Store,
     regions: &mut Regions,
@@ -41,9 +36,7 @@ pub fn get_shr_seg(
     name: &[u8],
     names: &mut Shared,
 ) -> Answer
-    requires process { IsProcess regions.old pid }
-    requires named { AreNamed store.old regions.old }
-    requires order { IsInOrder store.old regions.old }
+    requires caller { IsCaller store.old regions.old pid }
     requires one { ShareOne regions.old }
     requires few { AreFew regions.old }
     requires places { AreInPlace store.old regions.old names.old }
@@ -55,11 +48,7 @@ pub fn get_shr_seg(
     ensures store { store.new ≡ store.old }
     ensures names { names.new ≡ names.old }
     ensures places { AreInPlace store.new regions.new names.new }
-    ensures still { StillHolds regions.old regions.new }
-    ensures limits { KeepsLimitsBy store.old regions.old store.new regions.new 0 1 }
-    ensures processes { regions.new.processes ≡ regions.old.processes }
-    ensures order { IsInOrder store.new regions.new }
-    ensures guards { IsGuarded store.old regions.old → IsGuarded store.new regions.new }
+    ensures more { SharesOnce store.old regions.old store.new regions.new }
     ensures matches { (p : Parts) (o : Others) (w : World) (x : Process) → p.shelf ≡ store.old → p.maps ≡ regions.old
         → o.processes ≡ regions.old.processes → AreTexts store.old names.old o.text
         → process_at w.processes pid ≡ Some x → Matches p w
@@ -76,14 +65,11 @@ pub fn get_shr_seg(
 }
 
 // A process holds once more what is held under a shared index, where that is the segment of a name, which is held there alone.
-#[tactic(auto, using(crate::proofs::Holders::still_refl, o2_segs::proofs::Limits::limits_none))]
 fn share_named(store: &Store, regions: &mut Regions, pid: u16, index: u16, id: SegId) -> Answer
-    requires process { IsProcess regions.old pid }
+    requires caller { IsCaller store.now regions.old pid }
     requires first { 4096 ≤ index }
     requires last { index < 8192 }
     requires held { IsHeldOnly regions.old index id }
-    requires named { AreNamed store.now regions.old }
-    requires order { IsInOrder store.now regions.old }
     requires one { ShareOne regions.old }
     requires few { AreFew regions.old }
 
@@ -91,13 +77,7 @@ fn share_named(store: &Store, regions: &mut Regions, pid: u16, index: u16, id: S
         → o.processes ≡ regions.old.processes
         → Answers (sharing_at (known_in p o) pid (index_of (known_in p o) id.age)) result }
     ensures word { result.value ≤ 65535 }
-    ensures places { (names : List (Option Name)) → AreInPlace store.now regions.old names
-        → AreInPlace store.now regions.new names }
-    ensures still { StillHolds regions.old regions.new }
-    ensures limits { KeepsLimitsBy store.now regions.old store.now regions.new 0 1 }
-    ensures processes { regions.new.processes ≡ regions.old.processes }
-    ensures order { IsInOrder store.now regions.new }
-    ensures guards { IsGuarded store.now regions.old → IsGuarded store.now regions.new }
+    ensures more { SharesOnce store.now regions.old store.now regions.new }
     ensures matches { (p : Parts) (o : Others) (w : World) (x : Process) → p.shelf ≡ store.now → p.maps ≡ regions.old
         → o.processes ≡ regions.old.processes → process_at w.processes pid ≡ Some x → Matches p w
         → Matches (record p { maps = regions.new })

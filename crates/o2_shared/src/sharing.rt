@@ -1,16 +1,18 @@
 // A process gets what another one holds.
-ghost use Rattle.std.specs.Prelude.{◌≡◌, ℕ, ◌+◌, ◌<◌, ◌≤◌, ◌^◌, ◌&&◌, nat_le, not, IfSome, IsSome, List, Option, Some, None};
+ghost use Rattle.std.specs.Prelude.{◌≡◌, ◌+◌, ◌<◌, ◌≤◌, ◌^◌, ◌&&◌, nat_le, not, IfSome, IsSome, List, Option, Some, None};
 ghost use Rattle.std.specs.Option.{IfNone};
 ghost use Rattle.o2_base.specs.Selectors.{selector_of};
 ghost use Rattle.o2_regions.specs.Maps.{IsProcess, held_at, holds_of};
 ghost use Rattle.o2_segbus.specs.Settled.{descriptor_at};
 ghost use Rattle.o2_store.specs.Shelf.{entry_of};
+ghost use Rattle.o2_changes.specs.Frames.{KeepsOrder};
 ghost use Rattle.o2_changes.specs.Holding.{Grants};
-ghost use Rattle.o2_changes.specs.Order.{IsGuarded, IsInOrder};
+ghost use Rattle.o2_changes.specs.Order.{IsInOrder};
 ghost use Rattle.o2_changes.specs.Worlds.{MatchesHold};
 ghost use Rattle.o2_segs.specs.Limits.{KeepsLimitsBy};
 ghost use Rattle.o2_stands.specs.Parts.{cause_of};
 ghost use Rattle.o2_world.specs.Rulings.{by_load};
+ghost use Rattle.o2_shared.specs.Frames.{SharesOnce};
 ghost use Rattle.o2_shared.specs.declared.names.Name.{Name};
 ghost use Rattle.o2_segbus.specs.Seen.{AreNamed};
 ghost use Rattle.o2_segs.specs.Members.{members_in, run_in};
@@ -164,13 +166,7 @@ pub(crate) fn share_all(
     requires named { AreNamed store.now regions.old }
     requires order { IsInOrder store.now regions.old }
 
-    ensures still { StillHolds regions.old regions.new }
-    ensures limits { KeepsLimitsBy store.now regions.old store.now regions.new 0 1 }
-    ensures places { (names : List (Option Name)) → AreInPlace store.now regions.old names
-        → AreInPlace store.now regions.new names }
-    ensures order { IsInOrder store.now regions.new }
-    ensures guards { IsGuarded store.now regions.old → IsGuarded store.now regions.new }
-    ensures processes { regions.new.processes ≡ regions.old.processes }
+    ensures more { SharesOnce store.now regions.old store.now regions.new }
     ensures matches { MatchesShares store.now regions.old regions.new from to (members_in regions.old from index held) }
 {
     if held.reserved == 0 {
@@ -190,13 +186,7 @@ fn share_run(store: &Store, regions: &mut Regions, from: u16, to: u16, held: Hel
     requires named { AreNamed store.now regions.old }
     requires order { IsInOrder store.now regions.old }
 
-    ensures still { StillHolds regions.old regions.new }
-    ensures limits { KeepsLimitsBy store.now regions.old store.now regions.new 0 1 }
-    ensures places { (names : List (Option Name)) → AreInPlace store.now regions.old names
-        → AreInPlace store.now regions.new names }
-    ensures order { IsInOrder store.now regions.new }
-    ensures guards { IsGuarded store.now regions.old → IsGuarded store.now regions.new }
-    ensures processes { regions.new.processes ≡ regions.old.processes }
+    ensures more { SharesOnce store.now regions.old store.now regions.new }
     ensures matches { MatchesShares store.now regions.old regions.new from to (run_in regions.old from held) }
 {
     for at in held.first..end_of_run(held) {
@@ -216,12 +206,7 @@ fn share_at(store: &Store, regions: &mut Regions, from: u16, to: u16, index: u16
     requires order { IsInOrder store.now regions.old }
 
     ensures shares { SharesAt regions.old regions.new from to index }
-    ensures still { StillHolds regions.old regions.new }
-    ensures limits { KeepsLimitsBy store.now regions.old store.now regions.new 0 1 }
-    ensures places { (names : List (Option Name)) → AreInPlace store.now regions.old names
-        → AreInPlace store.now regions.new names }
-    ensures order { IsInOrder store.now regions.new }
-    ensures guards { IsGuarded store.now regions.old → IsGuarded store.now regions.new }
+    ensures more { SharesOnce store.now regions.old store.now regions.new }
     ensures matches { MatchesShares store.now regions.old regions.new from to (held_alone regions.old from index) }
 {
     if let Some(held) = regions.held(from, index) {
@@ -300,8 +285,7 @@ pub(crate) fn share(
     ensures limits { KeepsLimitsBy store.now regions.old store.now regions.new 0 1 }
     ensures places { (names : List (Option Name)) → AreInPlace store.now regions.old names
         → AreInPlace store.now regions.new names }
-    ensures order { IsInOrder store.now regions.new }
-    ensures guards { IsGuarded store.now regions.old → IsGuarded store.now regions.new }
+    ensures goes_on { KeepsOrder store.now regions.old store.now regions.new }
     ensures processes { regions.new.processes ≡ regions.old.processes }
     ensures matches { MatchesHold store.now regions.old regions.new to index (share_of held)
         (descriptor_at regions.old from index).access }

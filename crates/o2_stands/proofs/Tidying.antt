@@ -1,18 +1,19 @@
 -- A world stays tidy behind changes.
-use Rattle.std.proofs.Common.{◌≡◌, ◌⊎◌, inl, inr, ℕ, ◌+◌, ◌-◌, ◌<◌, ◌≤◌, Bool, true, false, cond, ◌&&◌, ◌||◌, List, [], ◌∷◌, Option, Some, None, refl, sym, ap, ◌∙◌, subst, arith, if◌then◌else◌}
-use Rattle.std.specs.Prelude.{filter, not, option_map, nat_lt, slice_get, ◌==◌}
+use Rattle.std.proofs.Common.{◌≡◌, ◌⊎◌, inl, inr, ℕ, ◌+◌, ◌-◌, ◌≤◌, Bool, true, false, ◌&&◌, ◌||◌, List, [], ◌∷◌, Option, Some, None, refl, sym, ap, ◌∙◌, subst, arith, if◌then◌else◌}
+use Rattle.std.specs.Prelude.{filter, not, nat_lt, ◌==◌}
 use Rattle.std.specs.List.{list_any}
 use Rattle.std.proofs.lemmas.Bool.{false≢true}
-use Rattle.o2_world.specs.Changes.{Change, Drops, Finishes, Frees, Holds, Locks, Makes, Marks, Names, Reserves, Resizes, at_number, at_place, fewer, is_used, more, swept, takes, used, with_all, with_change, with_changes}
+use Rattle.o2_world.specs.Changes.{Change, Drops, Finishes, Frees, Holds, Locks, Makes, Marks, Names, Reserves, Resizes, at_number, fewer, is_used, more, swept, takes, used, with_all, with_change, with_changes}
 use Rattle.o2_world.specs.Holders.{is_held, kept, process_at}
 use Rattle.o2_world.specs.Known.{held_at, is_for_the_run, lives_at, reserves}
 use Rattle.o2_world.specs.Map.{Map, get, put}
 use Rattle.o2_world.specs.Sound.{held_of}
 use Rattle.o2_world.specs.Tied.{AreFitChanges, IsSwept, IsTied}
 use Rattle.o2_world.specs.World.{Held, Process, Reserve, Segment, World}
+use Rattle.o2_world.proofs.ByNumber.{IsOf, from_number}
 use Rattle.o2_world.proofs.MapLemmas.{get-filter}
 use Rattle.o2_world.proofs.Numbers.{at_place_of}
-use Rattle.o2_world.proofs.Reached.{get-place, get-put}
+use Rattle.o2_world.proofs.Reached.{get-put}
 use Rattle.o2_world.proofs.TiedSteps.{changes_tied, swept_tied}
 use Rattle.o2_world.specs.Rulings.{is_in_run}
 use Rattle.o2_stands.specs.Stands.{AllDisjoint, AreOnce, IsTidy, is_by_load, is_placed, is_stretch, region_at}
@@ -25,44 +26,8 @@ use Rattle.o2_stands.proofs.Used.{used_found}
 no_hold : (h : Held) → ◌≡◌ {A = Option Held} None (Some h) → ⊥
 no_hold h e = cc
 
--- What a process holds that is changed by its number.
-
-record IsOf (ps : List Process) (k n i : ℕ) (f : Process → Process) (h : Held) : Type 0 where
-  same : n ≡ k
-  process : Process
-  there : process_at ps n ≡ Some process
-  is : get (f process).held i ≡ Some h
-
-positive : (n : ℕ) → (n == 0) ≡ false → 0 < n
-positive n e = grind arith
-
 one_before : (n k : ℕ) → (n == k) ≡ true → n ≡ k
 one_before n k e = grind arith
-
-module _ (ps : List Process) (k n i : ℕ) (f : Process → Process) (h : Held) where
-  at_place_there : (n == 0) ≡ false → (k == 0) ≡ false → (c : Bool) → (n - 1 == k - 1) ≡ c → (o : Option Process) → slice_get ps (n - 1) ≡ o → held_of (cond c (option_map f o) o) i ≡ Some h
-      → (held_at ps n i ≡ Some h) ⊎ IsOf ps k n i f h
-  at_place_there p q false r o s e = inl (ap (λ (c : Bool). held_of (cond c None (slice_get ps (n - 1))) i) p ∙ (ap (λ (z : Option Process). held_of z i) s ∙ e))
-  at_place_there p q true r None s e = absurd (no_hold h e)
-  at_place_there p q true r (Some y) s e =
-      inr (record {
-        same = (let a = positive n p in let b = positive k q in let x = one_before (n - 1) (k - 1) r in omega (arith, a, b, x));
-        process = y;
-        there = ap (λ (c : Bool). cond c None (slice_get ps (n - 1))) p ∙ s;
-        is = e;
-      })
-
-  -- what is held behind was held before, or by the process that is changed
-  from_number : held_at (at_number k f ps) n i ≡ Some h → (held_at ps n i ≡ Some h) ⊎ IsOf ps k n i f h
-  from_number e = by (n == 0) refl (k == 0) refl e
-    where
-      by : (a : Bool) → (n == 0) ≡ a → (b : Bool) → (k == 0) ≡ b → held_of (cond a None (slice_get (cond b ps (at_place (k - 1) f ps)) (n - 1))) i ≡ Some h
-          → (held_at ps n i ≡ Some h) ⊎ IsOf ps k n i f h
-      by true p b q e = absurd (no_hold h e)
-      by false p true q e = inl (ap (λ (c : Bool). held_of (cond c None (slice_get ps (n - 1))) i) p ∙ e)
-      by false p false q e =
-          at_place_there p q (n - 1 == k - 1) refl (slice_get ps (n - 1)) refl
-          (sym (ap (λ (o : Option Process). held_of o i) (get-place (k - 1) (n - 1) f ps)) ∙ e)
 
 -- What is held is held as its index is reserved.
 

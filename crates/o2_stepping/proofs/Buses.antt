@@ -1,5 +1,5 @@
 -- What the boundless machine sees where a bus over a store shows its view.
-use Rattle.std.proofs.Common.{◌≡◌, ◌⊎◌, inl, inr, ℕ, ◌==◌, ◌&&◌, ◌||◌, Bool, true, false, List, [], ◌∷◌, Option, ap, sym, ◌∙◌, refl, subst}
+use Rattle.std.proofs.Common.{◌≡◌, ℕ, ◌==◌, ◌&&◌, ◌||◌, Bool, true, false, List, [], ◌∷◌, Option, ap, sym, ◌∙◌, refl, subst}
 use Rattle.std.specs.Prelude.{Result, Ok, Err}
 use Rattle.o2_base.specs.declared.selector.Selector.{Selector}
 use Rattle.o2_isa.specs.declared.cpu.Cpu.{Cpu}
@@ -10,7 +10,7 @@ use Rattle.o2_store.specs.Shelf.{Shelf}
 use Rattle.o2_segbus.specs.declared.seg_bus.SegBus.{SegBus}
 use Rattle.o2_segbus.specs.Seen.{hold_in, size_in, bytes_in, seen, seen_with}
 use Rattle.o2_segbus.specs.Bus.{bus_view}
-use Rattle.o2_segbus.specs.Calls.{view_of, HoldsInMap, WritesHeld as WritesThere}
+use Rattle.o2_segbus.specs.Calls.{view_of}
 use Rattle.o2_world.specs.Known.{Known}
 use Rattle.o2_world.specs.Calls.{Before}
 use Rattle.o2_world.specs.Effect.{effect}
@@ -21,7 +21,6 @@ use Rattle.o2_gate.specs.declared.gathering.SegmentArguments.{SegmentArguments}
 use Rattle.o2_gate.specs.Befores.{boundless, before_call}
 use Rattle.o2_gate.specs.Replies.{bytes_of}
 use Rattle.o2_gate.specs.Pointed.{ArePresent, are_ready}
-use Rattle.o2_gate.specs.Writes.{HoldsForWriting, WritesHeld}
 use Rattle.o2_stepping.specs.Ran.{Leaves, OnMissed}
 use Rattle.o2_stepping.specs.Worlds.{bytes_with, world_view}
 use Rattle.o2_stepping.specs.declared.one_step.Attempt.{Attempt}
@@ -97,14 +96,6 @@ module _ (away : ℕ → List ℕ) (a b : SegBus) (c d : Cpu) (number : ℕ) (in
 
   pub step_present : ArePresent (view_of a) (touched on_bus) → ArePresent (seen a.store.now a.regions.now a.pid c) (touched in_store)
   step_present h = present_there a c (touched in_store) (subst (λ (ns : List ℕ). ArePresent (view_of a) ns) touched_same h)
-
--- what is written is held so
-pub writes_there : (v w : View) → WritesHeld v w → WritesThere v w
-writes_there v w h n = go (h n)
-  where
-    go : (w.bytes n ≡ v.bytes n) ⊎ HoldsForWriting v n → (w.bytes n ≡ v.bytes n) ⊎ HoldsInMap v n
-    go (inl e) = inl e
-    go (inr k) = inr (record { index = k.index; hold = k.hold; there = k.there; named = k.named; writable = k.writable })
 
 -- the bytes in memory
 pub bytes_there : (a b : SegBus) → view_of b ≡ view_of a → (n : ℕ) → bytes_in b.store.now n ≡ bytes_in a.store.now n

@@ -20,7 +20,8 @@ use Rattle.o2_world.specs.declared.types.HugeCall.TheVariants.{DosAllocHuge, Dos
 use Rattle.o2_world.specs.declared.types.SharedCall.{SharedCall}
 use Rattle.o2_world.specs.declared.types.SharedCall.TheVariants.{DosAllocShrSeg, DosGetShrSeg, DosGiveSeg, DosGetSeg}
 use Rattle.o2_world.specs.Calls.{Before, argument, has_arguments, row_of}
-use Rattle.o2_run.specs.Room.{Pointer, call_names, gate_names, huge_pointers, passed, pointed, pointers_of, segment_pointers, shared_pointers, touched, words_of}
+use Rattle.o2_world.specs.Words.{words_of}
+use Rattle.o2_run.specs.Room.{Pointer, call_names, gate_names, huge_pointers, passed, pointed, pointers_of, segment_pointers, shared_pointers, touched}
 use Rattle.o2_stepping.specs.Rooms.{ages_of, left_in}
 use Rattle.o2_stepping.proofs.Named.{both_in}
 

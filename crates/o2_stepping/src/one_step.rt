@@ -18,7 +18,7 @@ ghost use Rattle.o2_gate.specs.Pointed.{IsAway, ArePresent, are_ready};
 ghost use Rattle.o2_gate.specs.Gathers.{row_for, targets};
 ghost use Rattle.o2_run.specs.Room.{call_names, touched};
 ghost use Rattle.o2_gate.specs.Called.{IsMade};
-ghost use Rattle.o2_gate.specs.Writes.{WritesHeld};
+ghost use Rattle.o2_bus.specs.Writes.{WritesHeld};
 ghost use Rattle.o2_stepping.specs.Ran.{Leaves, AttemptFor, RanFor, OnAsked, OnMissed, OnUndone, TellsTried, is_missed};
 ghost use Rattle.o2_run.specs.Pieces.{Counts, counts, Hands, SinkHands, PartHands, puts_of};
 ghost use Rattle.o2_stepping.specs.Pieces.{RanHands, AttemptHands};

@@ -1,3 +1,4 @@
+pub mod Frames
 pub mod Idle
 pub mod Leaving
 pub mod Lending

@@ -1,12 +1,12 @@
 // Room is made in memory, and segments are brought in.
-ghost use Rattle.std.specs.Prelude.{◌≡◌, ◌≢◌, ℕ, List, ◌+◌, ◌<◌, ◌≤◌, ◌↔◌, ◌||◌, ◌==◌, ◌⊎◌, length, Some, None, IsSome, IsTrue, IfSome, true, false};
+ghost use Rattle.std.specs.Prelude.{◌≡◌, ◌≢◌, ℕ, ◌+◌, ◌<◌, ◌≤◌, ◌↔◌, ◌||◌, ◌==◌, ◌⊎◌, length, Some, None, IsSome, IsTrue, IfSome, true};
 ghost use Rattle.std.specs.Option.{IfNone};
 ghost use Rattle.o2_entries.specs.Tables.{slot_at};
-ghost use Rattle.o2_outer.specs.Texts.{Rose};
 ghost use Rattle.o2_place.specs.Layout.{IsFree, used};
 ghost use Rattle.o2_place.specs.Marks.{IsKept, IsOutside, IsVictim, place_in};
 ghost use Rattle.o2_swapmap.specs.Piles.{all_of};
-ghost use Rattle.o2_store.specs.Shelf.{Shelf, Pictures, KeepsAll, AreClean, SameTables, place_of, entry, entry_of, rounded, HasAll, IsFull};
+ghost use Rattle.o2_store.specs.Frames.{IsBacked, KeepsDevice};
+ghost use Rattle.o2_store.specs.Shelf.{Pictures, KeepsAll, AreClean, SameTables, place_of, entry, entry_of, rounded, HasAll, IsFull};
 ghost use Rattle.o2_store.specs.Leaving.{WritesOut, Evicts, TakesVictim};
 ghost use Rattle.o2_store.specs.Loads.{swap_load, live_load};
 ghost use Rattle.o2_store.specs.Needs.{has, all_need, named_in, all_wanted};
@@ -45,7 +45,8 @@ impl Store {
         ensures keeps { (pic : Pictures) → AreClean self.old pic → KeepsAll (S.told swap.new) pic self.old (S.block swap.old) self.new (S.block swap.new) }
         ensures clean { (pic : Pictures) → AreClean self.old pic → AreClean self.new pic }
         ensures tables { SameTables self.old self.new }
-        ensures device { (S.blocks swap.new ≡ S.blocks swap.old) × (IsTrue (S.told swap.new) → IsTrue (S.told swap.old)) }
+        ensures device { KeepsDevice S.blocks S.told S.faults swap.old swap.new
+            (result ≡ Brought.SwapFault) }
         ensures map { all_of self.new.swap ≡ all_of self.old.swap }
         ensures keys { self.new.keys ≡ self.old.keys }
         ensures kept { (k : ℕ) → IsKept self.old.keys k → place_of self.new k ≡ place_of self.old k }
@@ -57,8 +58,6 @@ impl Store {
         ensures stays { (result ≡ Brought.Here → ⊥) → self.new.places ≡ self.old.places }
         ensures no_room { result ≡ Brought.NoRoom → (k : ℕ) → IsSome (place_of self.new k) → (entry self.new k).attr.lock ≡ 0 → IsKept self.new.keys k }
         ensures full { result ≡ Brought.SwapFull → IsFull self.new }
-        ensures faults { S.faults swap.old ≤ S.faults swap.new }
-        ensures cause { result ≡ Brought.SwapFault → Rose (S.faults swap.old) (S.faults swap.new) }
         ensures never { result ≡ Brought.Stale → ⊥ }
     {
         match self.next_victim() {
@@ -73,7 +72,8 @@ impl Store {
         ensures keeps { (pic : Pictures) → AreClean self.old pic → KeepsAll (S.told swap.new) pic self.old (S.block swap.old) self.new (S.block swap.new) }
         ensures clean { (pic : Pictures) → AreClean self.old pic → AreClean self.new pic }
         ensures tables { SameTables self.old self.new }
-        ensures device { (S.blocks swap.new ≡ S.blocks swap.old) × (IsTrue (S.told swap.new) → IsTrue (S.told swap.old)) }
+        ensures device { KeepsDevice S.blocks S.told S.faults swap.old swap.new
+            (result ≡ Brought.SwapFault) }
         ensures map { all_of self.new.swap ≡ all_of self.old.swap }
         ensures keys { self.new.keys ≡ self.old.keys }
         ensures kept { (k : ℕ) → IsKept self.old.keys k → place_of self.new k ≡ place_of self.old k }
@@ -86,8 +86,6 @@ impl Store {
         ensures short { (result ≡ Brought.Here → ⊥) → self.new.places.size < used self.new.places.ranges + len }
         ensures no_room { result ≡ Brought.NoRoom → (k : ℕ) → IsSome (place_of self.new k) → (entry self.new k).attr.lock ≡ 0 → IsKept self.new.keys k }
         ensures full { result ≡ Brought.SwapFull → IsFull self.new }
-        ensures faults { S.faults swap.old ≤ S.faults swap.new }
-        ensures cause { result ≡ Brought.SwapFault → Rose (S.faults swap.old) (S.faults swap.new) }
         ensures never { result ≡ Brought.Stale → ⊥ }
     {
         while self.is_short(len) {
@@ -121,7 +119,8 @@ impl Store {
         ensures keeps { AreClean self.old (picture images.now) → KeepsAll (S.told swap.new) (picture images.now) self.old (S.block swap.old) self.new (S.block swap.new) }
         ensures clean { AreClean self.old (picture images.now) → AreClean self.new (picture images.now) }
         ensures tables { SameTables self.old self.new }
-        ensures device { (S.blocks swap.new ≡ S.blocks swap.old) × (IsTrue (S.told swap.new) → IsTrue (S.told swap.old)) }
+        ensures device { KeepsDevice S.blocks S.told S.faults swap.old swap.new
+            (result ≡ Brought.SwapFault) }
         ensures map { all_of self.new.swap ≡ all_of self.old.swap }
         ensures here { result ≡ Brought.Here → IsSome (place_of self.new key) }
         ensures same { IsSome (place_of self.old key) → (result ≡ Brought.Here) × (self.new ≡ self.old) × (swap.new ≡ swap.old) }
@@ -131,8 +130,6 @@ impl Store {
         ensures kept { (k : ℕ) → has self.old.keys k ≡ true → IsSome (place_of self.old k) → IsSome (place_of self.new k) }
         ensures still { used self.old.places.ranges + rounded (entry self.old key).size ≤ self.old.places.size → (k : ℕ) → IsSome (place_of self.old k) → IsSome (place_of self.new k) }
         ensures full { result ≡ Brought.SwapFull → IsFull self.new × (self.new.places.size < used self.new.places.ranges + rounded (entry self.old key).size) }
-        ensures faults { S.faults swap.old ≤ S.faults swap.new }
-        ensures cause { result ≡ Brought.SwapFault → Rose (S.faults swap.old) (S.faults swap.new) }
         ensures never { (result ≡ Brought.NoRoom → ⊥) × (result ≡ Brought.Stale → ⊥) }
         ensures idle { Idles (live_load self.old) self.old self.new swap.old swap.new }
     {
@@ -167,7 +164,8 @@ impl Store {
         ensures keeps { KeepsAll (S.told swap.new) (picture images.now) self.old (S.block swap.old) self.new (S.block swap.new) }
         ensures clean { AreClean self.old (picture images.now) → AreClean self.new (picture images.now) }
         ensures tables { SameTables self.old self.new }
-        ensures device { (S.blocks swap.new ≡ S.blocks swap.old) × (IsTrue (S.told swap.new) → IsTrue (S.told swap.old)) }
+        ensures device { KeepsDevice S.blocks S.told S.faults swap.old swap.new
+            (result ≡ Brought.SwapFault) }
         ensures map { all_of self.new.swap ≡ all_of self.old.swap }
         ensures here { result ≡ Brought.Here → IsSome (place_of self.new key) }
         ensures out { (result ≡ Brought.Here → ⊥) → place_of self.new key ≡ None }
@@ -176,8 +174,6 @@ impl Store {
         ensures others { (k : ℕ) → IsSome (place_of self.old k) → IsSome (place_of self.new k) }
         ensures alone { (at : ℕ) → IsFree self.old.places.size self.old.places.ranges at len
             → (k : ℕ) → k ≢ key → place_of self.new k ≡ place_of self.old k }
-        ensures faults { S.faults swap.old ≤ S.faults swap.new }
-        ensures cause { result ≡ Brought.SwapFault → Rose (S.faults swap.old) (S.faults swap.new) }
         ensures never { (result ≡ Brought.NoRoom → ⊥) × (result ≡ Brought.Stale → ⊥) × (result ≡ Brought.SwapFull → ⊥) }
         ensures idle { NoneTaken self.old.swap → IsIdle self.new swap.old swap.new }
     {
@@ -199,13 +195,13 @@ impl Store {
         swap: &mut S,
     ) -> Brought
         requires pictures { HasAll (HasPicture images.now) self.old }
-        requires clean { AreClean self.old (picture images.now) }
-        requires device { all_of self.old.swap ≤ S.blocks swap.old }
+        requires backed { IsBacked self.old images.now (S.blocks swap.old) }
 
         ensures keeps { KeepsAll (S.told swap.new) (picture images.now) self.old (S.block swap.old) self.new (S.block swap.new) }
         ensures clean { AreClean self.new (picture images.now) }
         ensures tables { SameTables self.old self.new }
-        ensures device { (S.blocks swap.new ≡ S.blocks swap.old) × (IsTrue (S.told swap.new) → IsTrue (S.told swap.old)) }
+        ensures device { KeepsDevice S.blocks S.told S.faults swap.old swap.new
+            (result ≡ Brought.SwapFault) }
         ensures map { all_of self.new.swap ≡ all_of self.old.swap }
         ensures kept { (k : ℕ) → named_in self.old.entries keep.now k ≡ true → IsSome (place_of self.old k) → IsSome (place_of self.new k) }
         ensures locked { (k : ℕ) → 0 < (entry self.old k).attr.lock → IsSome (place_of self.new k) }
@@ -227,8 +223,6 @@ impl Store {
         ensures full { result ≡ Brought.SwapFull → IsFull self.new × (self.new.places.size < used self.new.places.ranges + rounded (entry self.old id.key).size) }
         ensures loads { result ≡ Brought.SwapFull
             → (all_of self.old.swap < swap_load self.old) × (self.old.places.size < live_load self.old) }
-        ensures faults { S.faults swap.old ≤ S.faults swap.new }
-        ensures cause { result ≡ Brought.SwapFault → Rose (S.faults swap.old) (S.faults swap.new) }
         // Where nothing is in swap blocks and all that lives fits the memory, the device isn't touched.
         ensures idle { Idles (live_load self.old) self.old self.new swap.old swap.new }
     {

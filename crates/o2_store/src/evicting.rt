@@ -2,12 +2,12 @@
 ghost use Rattle.std.specs.Prelude.{◌≡◌, ◌≢◌, ℕ, List, Bool, ◌+◌, ◌-◌, ◌<◌, ◌≤◌, length, Some, None, IsSome, IsTrue, IfSome, slice_index, slice_set, true, false};
 ghost use Rattle.o2_entries.specs.Tables.{slot_at};
 ghost use Rattle.o2_outer.specs.Answers.{HasCause};
-ghost use Rattle.o2_outer.specs.Texts.{Rose};
 ghost use Rattle.o2_place.specs.Layout.{Changes, used, len_of};
 ghost use Rattle.o2_swapmap.specs.Piles.{blocks_of, all_of, free, OnlyOf};
-ghost use Rattle.o2_store.specs.Leaving.{IsWrittenOut, WritesOut, Evicts};
+ghost use Rattle.o2_store.specs.Frames.{KeepsDevice};
+ghost use Rattle.o2_store.specs.Leaving.{IsWrittenOut, Evicts};
 ghost use Rattle.o2_store.specs.Loads.{swap_load};
-ghost use Rattle.o2_store.specs.Shelf.{Shelf, Pictures, KeepsAll, AreClean, place_of, entry_of, entry, rounded, blocks_for, byte_at, stored_byte, out_byte, IsOther, IsFull, IsSaved, SameTables};
+ghost use Rattle.o2_store.specs.Shelf.{Pictures, KeepsAll, AreClean, place_of, entry_of, entry, rounded, blocks_for, stored_byte, out_byte, IsOther, IsFull, IsSaved, SameTables};
 
 use crate::blocks::{trimmed, write_out};
 use crate::brought::Brought;
@@ -93,15 +93,14 @@ impl Store {
         ensures shelf { self.new ≡ record self.old { swap = self.new.swap; entries = self.new.entries } }
         ensures map { all_of self.new.swap ≡ all_of self.old.swap }
         ensures tables { SameTables self.old self.new }
-        ensures device { (S.blocks swap.new ≡ S.blocks swap.old) × (IsTrue (S.told swap.new) → IsTrue (S.told swap.old)) }
+        ensures device { KeepsDevice S.blocks S.told S.faults swap.old swap.new
+            (result ≡ Brought.SwapFault) }
         ensures saved { IsTrue (S.told swap.new) → result ≡ Brought.Here → (pic : Pictures) (j : ℕ) → j < (entry self.old key).size → out_byte self.new pic (S.block swap.new) key j ≡ slice_index self.new.memory (at + j) }
         ensures others { (k : ℕ) → k ≢ key → slot_at self.new.entries k ≡ slot_at self.old.entries k }
         ensures written { result ≡ Brought.Here → IsWrittenOut self.old self.new key }
         ensures full { result ≡ Brought.SwapFull → IsFull self.new }
         ensures lacks { result ≡ Brought.SwapFull → (self.new ≡ self.old) × (swap.new ≡ swap.old)
             × (length (free self.old.swap) < blocks_for (entry self.old key).size - length (blocks_of self.old.swap key)) }
-        ensures faults { S.faults swap.old ≤ S.faults swap.new }
-        ensures cause { result ≡ Brought.SwapFault → Rose (S.faults swap.old) (S.faults swap.new) }
         ensures never { (result ≡ Brought.NoRoom → ⊥) × (result ≡ Brought.Stale → ⊥) }
     {
         let kept = self.trimmed_size(key, at);
@@ -151,7 +150,8 @@ impl Store {
         ensures keeps { (pic : Pictures) → AreClean self.old pic → KeepsAll (S.told swap.new) pic self.old (S.block swap.old) self.new (S.block swap.new) }
         ensures clean { (pic : Pictures) → AreClean self.old pic → AreClean self.new pic }
         ensures tables { SameTables self.old self.new }
-        ensures device { (S.blocks swap.new ≡ S.blocks swap.old) × (IsTrue (S.told swap.new) → IsTrue (S.told swap.old)) }
+        ensures device { KeepsDevice S.blocks S.told S.faults swap.old swap.new
+            (result ≡ Brought.SwapFault) }
         ensures map { all_of self.new.swap ≡ all_of self.old.swap }
         ensures out { result ≡ Brought.Here → Changes self.old.places self.new.places key None }
         ensures used { result ≡ Brought.Here → used self.new.places.ranges + len_of (place_of self.old key) ≡ used self.old.places.ranges }
@@ -164,8 +164,6 @@ impl Store {
         ensures full { result ≡ Brought.SwapFull → IsFull self.new }
         ensures lacks { result ≡ Brought.SwapFull → (self.new ≡ self.old) × (swap.new ≡ swap.old)
             × (length (free self.old.swap) < blocks_for (entry self.old key).size - length (blocks_of self.old.swap key)) }
-        ensures faults { S.faults swap.old ≤ S.faults swap.new }
-        ensures cause { result ≡ Brought.SwapFault → Rose (S.faults swap.old) (S.faults swap.new) }
         ensures never { (result ≡ Brought.NoRoom → ⊥) × (result ≡ Brought.Stale → ⊥) }
     {
         self.law();
@@ -194,7 +192,8 @@ impl Store {
         ensures keeps { (pic : Pictures) → AreClean self.old pic → KeepsAll (S.told swap.new) pic self.old (S.block swap.old) self.new (S.block swap.new) }
         ensures clean { (pic : Pictures) → AreClean self.old pic → AreClean self.new pic }
         ensures tables { SameTables self.old self.new }
-        ensures device { (S.blocks swap.new ≡ S.blocks swap.old) × (IsTrue (S.told swap.new) → IsTrue (S.told swap.old)) }
+        ensures device { KeepsDevice S.blocks S.told S.faults swap.old swap.new
+            (result ≡ Brought.SwapFault) }
         ensures map { all_of self.new.swap ≡ all_of self.old.swap }
         ensures others { (k : ℕ) → k ≢ id.key → place_of self.new k ≡ place_of self.old k }
 
@@ -214,8 +213,6 @@ impl Store {
         ensures lacks { result ≡ Brought.SwapFull → (self.new ≡ self.old) × (swap.new ≡ swap.old)
             × (length (free self.old.swap) < blocks_for (entry self.old id.key).size - length (blocks_of self.old.swap id.key)) }
         ensures loads { result ≡ Brought.SwapFull → all_of self.old.swap < swap_load self.old }
-        ensures faults { S.faults swap.old ≤ S.faults swap.new }
-        ensures cause { result ≡ Brought.SwapFault → Rose (S.faults swap.old) (S.faults swap.new) }
         ensures never { result ≡ Brought.NoRoom → ⊥ }
     {
         if self.find(id).is_none() {

@@ -1,13 +1,13 @@
 // Segments come to a place in memory.
 ghost use Rattle.std.specs.Prelude.{◌≡◌, ◌≢◌, ◌⊎◌, ℕ, List, Bool, ◌+◌, ◌<◌, ◌≤◌, ◌^◌, length, Some, None, IsSome, IsTrue, slice_index, true, false};
-ghost use Rattle.o2_outer.specs.Texts.{Rose};
 ghost use Rattle.o2_compact.specs.Parts.{SlideBehind, StayInFront};
 ghost use Rattle.o2_entries.specs.Tables.{slot_at};
 ghost use Rattle.o2_outer.specs.Answers.{HasCause};
 ghost use Rattle.o2_place.specs.Layout.{Changes, IsFree, used};
 ghost use Rattle.o2_swapmap.specs.Piles.{all_of};
+ghost use Rattle.o2_store.specs.Frames.{KeepsDevice};
 ghost use Rattle.o2_store.specs.Pictures.{picture, HasPicture};
-ghost use Rattle.o2_store.specs.Shelf.{Shelf, Pictures, KeepsAll, AreClean, place_of, entry, rounded, out_byte, IsMoved, Tells, HasAll, SameTables};
+ghost use Rattle.o2_store.specs.Shelf.{Pictures, KeepsAll, AreClean, place_of, entry, rounded, out_byte, IsMoved, Tells, HasAll, SameTables};
 ghost use Rattle.o2_store.specs.Idle.{NoneTaken, IsIdle};
 
 use crate::blocks::read_in;
@@ -130,7 +130,8 @@ impl Store {
         ensures keeps { KeepsAll (S.told swap.new) (picture images.now) self.old (S.block swap.old) self.new (S.block swap.new) }
         ensures clean { AreClean self.old (picture images.now) → AreClean self.new (picture images.now) }
         ensures tables { SameTables self.old self.new }
-        ensures device { (S.blocks swap.new ≡ S.blocks swap.old) × (IsTrue (S.told swap.new) → IsTrue (S.told swap.old)) }
+        ensures device { KeepsDevice S.blocks S.told S.faults swap.old swap.new
+            (result ≡ false) }
         ensures map { all_of self.new.swap ≡ all_of self.old.swap }
         ensures here { result ≡ true → IsSome (place_of self.new key) }
         ensures out { result ≡ false → place_of self.new key ≡ None }
@@ -139,8 +140,6 @@ impl Store {
         ensures others { (k : ℕ) → IsSome (place_of self.old k) → IsSome (place_of self.new k) }
         ensures alone { (at : ℕ) → IsFree self.old.places.size self.old.places.ranges at len
             → (k : ℕ) → k ≢ key → place_of self.new k ≡ place_of self.old k }
-        ensures faults { S.faults swap.old ≤ S.faults swap.new }
-        ensures cause { result ≡ false → Rose (S.faults swap.old) (S.faults swap.new) }
         ensures idle { NoneTaken self.old.swap → IsIdle self.new swap.old swap.new }
     {
         self.law();

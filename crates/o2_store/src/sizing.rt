@@ -1,12 +1,11 @@
 // Segments get another size.
-ghost use Rattle.std.specs.Prelude.{◌≡◌, ◌≢◌, ℕ, List, Bool, ◌+◌, ◌-◌, ◌<◌, ◌≤◌, ◌↔◌, length, None, IsSome, is_some, IsTrue, true, false, min, nat_lt};
+ghost use Rattle.std.specs.Prelude.{◌≡◌, ◌≢◌, ℕ, List, Bool, ◌+◌, ◌-◌, ◌<◌, ◌≤◌, ◌↔◌, None, IsSome, is_some, true, false, min, nat_lt};
 ghost use Rattle.o2_entries.specs.declared.Entry.{Entry};
 ghost use Rattle.o2_entries.specs.Tables.{slot_at};
-ghost use Rattle.o2_outer.specs.Texts.{Rose};
 ghost use Rattle.o2_place.specs.Layout.{used};
-ghost use Rattle.o2_place.specs.Marks.{IsKept};
 ghost use Rattle.o2_swapmap.specs.Piles.{all_of};
-ghost use Rattle.o2_store.specs.Shelf.{Shelf, Pictures, KeepsAll, AreClean, place_of, entry, entry_of, rounded, IsFull};
+ghost use Rattle.o2_store.specs.Frames.{IsBacked, KeepsDevice};
+ghost use Rattle.o2_store.specs.Shelf.{Pictures, KeepsAll, AreClean, place_of, entry, entry_of, rounded, IsFull};
 ghost use Rattle.o2_store.specs.Leaving.{IsWrittenOut};
 ghost use Rattle.o2_store.specs.Loads.{swap_load, live_load_at};
 ghost use Rattle.o2_store.specs.Needs.{has, all_need, named_in};
@@ -58,7 +57,8 @@ impl Store {
         ensures resized { (pic : Pictures) → AreClean self.old pic → result ≡ Brought.Here → Resizes (S.told swap.new) pic self.old (S.block swap.old) self.new (S.block swap.new) key size }
         ensures keeps { (pic : Pictures) → AreClean self.old pic → (result ≡ Brought.Here → ⊥) → KeepsAll (S.told swap.new) pic self.old (S.block swap.old) self.new (S.block swap.new) }
         ensures clean { (pic : Pictures) → AreClean self.old pic → AreClean self.new pic }
-        ensures device { (S.blocks swap.new ≡ S.blocks swap.old) × (IsTrue (S.told swap.new) → IsTrue (S.told swap.old)) }
+        ensures device { KeepsDevice S.blocks S.told S.faults swap.old swap.new
+            (result ≡ Brought.SwapFault) }
         ensures map { all_of self.new.swap ≡ all_of self.old.swap }
         ensures others { (k : ℕ) → k ≢ key → is_some (place_of self.new k) ≡ is_some (place_of self.old k) }
         ensures still { used self.old.places.ranges + rounded size ≤ self.old.places.size + rounded (entry self.old key).size → IsSome (place_of self.new key) }
@@ -69,8 +69,6 @@ impl Store {
         ensures full { result ≡ Brought.SwapFull → IsFull self.new × (self.new.places.size + rounded (entry self.old key).size < used self.new.places.ranges + rounded size) }
         ensures loads { result ≡ Brought.SwapFull → (all_of self.old.swap < swap_load self.old)
             × (self.old.places.size < live_load_at self.old key size) }
-        ensures faults { S.faults swap.old ≤ S.faults swap.new }
-        ensures cause { result ≡ Brought.SwapFault → Rose (S.faults swap.old) (S.faults swap.new) }
         ensures never { (result ≡ Brought.NoRoom → ⊥) × (result ≡ Brought.Stale → ⊥) }
         ensures idle { Idles (live_load_at self.old key size) self.old self.new swap.old swap.new }
     {
@@ -104,7 +102,8 @@ impl Store {
         ensures resized { (pic : Pictures) → AreClean self.old pic → result ≡ Brought.Here → Resizes (S.told swap.new) pic self.old (S.block swap.old) self.new (S.block swap.new) key size }
         ensures keeps { (pic : Pictures) → AreClean self.old pic → (result ≡ Brought.Here → ⊥) → KeepsAll (S.told swap.new) pic self.old (S.block swap.old) self.new (S.block swap.new) }
         ensures clean { (pic : Pictures) → AreClean self.old pic → AreClean self.new pic }
-        ensures device { (S.blocks swap.new ≡ S.blocks swap.old) × (IsTrue (S.told swap.new) → IsTrue (S.told swap.old)) }
+        ensures device { KeepsDevice S.blocks S.told S.faults swap.old swap.new
+            (result ≡ Brought.SwapFault) }
         ensures map { all_of self.new.swap ≡ all_of self.old.swap }
         ensures out { (k : ℕ) → place_of self.old k ≡ None → place_of self.new k ≡ None }
         ensures here { IsSome (place_of self.new key) }
@@ -116,8 +115,6 @@ impl Store {
         ensures full { result ≡ Brought.SwapFull → IsFull self.new × (self.new.places.size + rounded (entry self.old key).size < used self.new.places.ranges + rounded size) }
         ensures loads { result ≡ Brought.SwapFull → (all_of self.old.swap < swap_load self.old)
             × (self.old.places.size < live_load_at self.old key size) }
-        ensures faults { S.faults swap.old ≤ S.faults swap.new }
-        ensures cause { result ≡ Brought.SwapFault → Rose (S.faults swap.old) (S.faults swap.new) }
         ensures refused { result ≡ Brought.NoRoom
             → (self.new ≡ record self.old { keys = self.new.keys }) × (swap.new ≡ swap.old) }
         ensures written { (k : ℕ) → k ≢ key → IsSome (place_of self.old k) → place_of self.new k ≡ None
@@ -148,13 +145,13 @@ impl Store {
         swap: &mut S,
     ) -> Brought
         requires sizes { (0 < size) × (size ≤ 65536) }
-        requires clean { AreClean self.old (picture images.now) }
-        requires device { all_of self.old.swap ≤ S.blocks swap.old }
+        requires backed { IsBacked self.old images.now (S.blocks swap.old) }
 
         ensures resized { result ≡ Brought.Here → Resizes (S.told swap.new) (picture images.now) self.old (S.block swap.old) self.new (S.block swap.new) id.key size }
         ensures keeps { (result ≡ Brought.Here → ⊥) → KeepsAll (S.told swap.new) (picture images.now) self.old (S.block swap.old) self.new (S.block swap.new) }
         ensures clean { AreClean self.new (picture images.now) }
-        ensures device { (S.blocks swap.new ≡ S.blocks swap.old) × (IsTrue (S.told swap.new) → IsTrue (S.told swap.old)) }
+        ensures device { KeepsDevice S.blocks S.told S.faults swap.old swap.new
+            (result ≡ Brought.SwapFault) }
         ensures map { all_of self.new.swap ≡ all_of self.old.swap }
         ensures out { (k : ℕ) → place_of self.old k ≡ None → place_of self.new k ≡ None }
         ensures kept { (k : ℕ) → named_in self.old.entries keep.now k ≡ true → IsSome (place_of self.old k) → IsSome (place_of self.new k) }
@@ -181,8 +178,6 @@ impl Store {
         ensures full { result ≡ Brought.SwapFull → IsFull self.new × (self.new.places.size + rounded (entry self.old id.key).size < used self.new.places.ranges + rounded size) }
         ensures loads { result ≡ Brought.SwapFull → (all_of self.old.swap < swap_load self.old)
             × (self.old.places.size < live_load_at self.old id.key size) }
-        ensures faults { S.faults swap.old ≤ S.faults swap.new }
-        ensures cause { result ≡ Brought.SwapFault → Rose (S.faults swap.old) (S.faults swap.new) }
         // Where nothing is in swap blocks and all that lives, with the new size, fits the memory, the device isn't touched.
         ensures idle { Idles (live_load_at self.old id.key size) self.old self.new swap.old swap.new }
     {
@@ -228,7 +223,8 @@ impl Store {
         ensures resized { (pic : Pictures) → AreClean self.old pic → result ≡ Brought.Here → Resizes (S.told swap.new) pic self.old (S.block swap.old) self.new (S.block swap.new) key size }
         ensures keeps { (pic : Pictures) → AreClean self.old pic → (result ≡ Brought.Here → ⊥) → KeepsAll (S.told swap.new) pic self.old (S.block swap.old) self.new (S.block swap.new) }
         ensures clean { (pic : Pictures) → AreClean self.old pic → AreClean self.new pic }
-        ensures device { (S.blocks swap.new ≡ S.blocks swap.old) × (IsTrue (S.told swap.new) → IsTrue (S.told swap.old)) }
+        ensures device { KeepsDevice S.blocks S.told S.faults swap.old swap.new
+            (result ≡ Brought.SwapFault) }
         ensures map { all_of self.new.swap ≡ all_of self.old.swap }
         ensures out { (k : ℕ) → place_of self.old k ≡ None → is_some (place_of self.new k) ≡ false }
         ensures kept { (k : ℕ) → has self.old.keys k ≡ true → IsSome (place_of self.old k) → IsSome (place_of self.new k) }
@@ -237,8 +233,6 @@ impl Store {
         ensures full { result ≡ Brought.SwapFull → IsFull self.new × (self.new.places.size + rounded (entry self.old key).size < used self.new.places.ranges + rounded size) }
         ensures loads { result ≡ Brought.SwapFull → (all_of self.old.swap < swap_load self.old)
             × (self.old.places.size < live_load_at self.old key size) }
-        ensures faults { S.faults swap.old ≤ S.faults swap.new }
-        ensures cause { result ≡ Brought.SwapFault → Rose (S.faults swap.old) (S.faults swap.new) }
         ensures written { (k : ℕ) → k ≢ key → IsSome (place_of self.old k) → place_of self.new k ≡ None
             → (entry self.old k).attr.clean ≡ false → IsWrittenOut self.old self.new k }
         ensures in_place { rounded size ≤ rounded (entry self.old key).size → KeepsStarts self.old.places self.new.places }

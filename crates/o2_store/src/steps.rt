@@ -1,8 +1,8 @@
 // A segment is brought in step by step, for those who want to know which other ones leave or slide.
 ghost use Rattle.std.specs.Prelude.{◌≡◌, ◌≢◌, ℕ, ◌+◌, ◌<◌, ◌≤◌, ◌↔◌, None, IsSome, IsTrue, IfSome, true, false};
 ghost use Rattle.std.specs.Option.{IfNone};
-ghost use Rattle.o2_outer.specs.Texts.{Rose};
 ghost use Rattle.o2_place.specs.Layout.{IsFree, IsLowestFree, used};
+ghost use Rattle.o2_store.specs.Frames.{IsBacked, KeepsDevice};
 ghost use Rattle.o2_store.specs.Leaving.{MayLeave};
 ghost use Rattle.o2_store.specs.Needs.{all_wanted};
 ghost use Rattle.o2_store.specs.Pictures.{picture, HasPicture};
@@ -80,19 +80,17 @@ impl Store {
         requires room { used self.old.places.ranges + rounded (entry self.old id.key).size ≤ self.old.places.size }
         requires gap { (at : ℕ) × IsFree self.old.places.size self.old.places.ranges at (rounded (entry self.old id.key).size) }
         requires pictures { HasAll (HasPicture images.now) self.old }
-        requires clean { AreClean self.old (picture images.now) }
-        requires device { all_of self.old.swap ≤ S.blocks swap.old }
+        requires backed { IsBacked self.old images.now (S.blocks swap.old) }
 
         ensures keeps { KeepsAll (S.told swap.new) (picture images.now) self.old (S.block swap.old) self.new (S.block swap.new) }
         ensures clean { AreClean self.new (picture images.now) }
-        ensures device { (S.blocks swap.new ≡ S.blocks swap.old) × (IsTrue (S.told swap.new) → IsTrue (S.told swap.old)) }
+        ensures device { KeepsDevice S.blocks S.told S.faults swap.old swap.new
+            (result ≡ Brought.SwapFault) }
         ensures map { all_of self.new.swap ≡ all_of self.old.swap }
         ensures alone { (k : ℕ) → k ≢ id.key → place_of self.new k ≡ place_of self.old k }
 
         ensures here { result ≡ Brought.Here → IsSome (place_of self.new id.key) }
         ensures out { (result ≡ Brought.Here → ⊥) → place_of self.new id.key ≡ None }
-        ensures faults { S.faults swap.old ≤ S.faults swap.new }
-        ensures cause { result ≡ Brought.SwapFault → Rose (S.faults swap.old) (S.faults swap.new) }
         ensures never { (result ≡ Brought.NoRoom → ⊥) × (result ≡ Brought.Stale → ⊥) × (result ≡ Brought.SwapFull → ⊥) }
         ensures idle { NoneTaken self.old.swap → IsIdle self.new swap.old swap.new }
     {

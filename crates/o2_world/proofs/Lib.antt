@@ -42,3 +42,5 @@ pub mod RunsTold
 pub mod Holding
 pub mod Budget
 pub mod UsesNames
+pub mod OpeningLoads
+pub mod ByNumber

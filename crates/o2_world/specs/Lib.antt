@@ -32,3 +32,4 @@ pub mod SharedWorked
 pub mod HugeWorked
 pub mod SharedMarks
 pub mod EndWorked
+pub mod Words

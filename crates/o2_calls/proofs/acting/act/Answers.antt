@@ -2,12 +2,11 @@
 use Rattle.std.proofs.Common.{◌⊎◌, inl, inr, ℕ, Option, IsSome, ap, refl, sym, subst, ◌≡◌, arith}
 use Rattle.o2_regions.specs.declared.answer.Roomed.TheVariants.{Done}
 use Rattle.o2_regions.specs.Maps.{Maps}
-use Rattle.o2_gate.specs.declared.gathering.SegmentArguments.TheVariants.{Alloc, Realloc, Free, Size, Lock, Unlock, Alias, Shared, Huge}
+use Rattle.o2_gate.specs.declared.gathering.SegmentArguments.TheVariants.{Alloc, Realloc, Free, Size, Lock, Unlock, Alias, Shared}
 use Rattle.o2_stands.specs.Knows.{known_in, others_of}
 use Rattle.o2_stands.proofs.Matching.{matched_by}
 use Rattle.o2_calls.proofs.Givable.{alias_givable, alloc_givable, no_others, some_parts}
 use Rattle.o2_calls.proofs.Overs.{behind_by, cpu_by, loses, maps_only, none_next, row_by, sized_only, store_only, unmoved}
-use Rattle.o2_store.specs.Pictures.{picture}
 use Rattle.o2_store.specs.Shelf.{Shelf, place_of}
 use Rattle.o2_changes.specs.Holding.{KeepsHolds}
 use Rattle.o2_changes.proofs.KeepingHolds.{holds_refl}
@@ -26,107 +25,94 @@ use Rattle.o2_calls.specs.SharedActs.{LeavesSpelled}
 use Rattle.o2_calls.proofs.SharedOver.{limits_by_made, limits_to}
 use Rattle.o2_store.specs.Idle.{IsIdle, NoneTaken}
 use Rattle.o2_calls.proofs.RunActs.{run_registers, still_registers}
+use Rattle.o2_store.proofs.Framing.{device_refl}
+use Rattle.o2_changes.proofs.Framing.{for_order, maps_as, order_as, order_refl}
 use Rattle.o2_calls.proofs.acting.act.Goals as goal
 
 pub returns-in-Alloc-clause-row : goal.returns-in-Alloc-clause-row
 returns-in-Alloc-clause-row g c = λ p s w over spells.
     subst (λ (a : SegmentArguments). AnswersRoomed (ruling_of a (known_of s w) c.args.pid c.args.cpu.now) c.alloc_seg.result) (sym c.in-Alloc.is)
-    (row_by _ _ _ _ p s w over c.args.pid c.requires.process (Alloc c.in-Alloc.size 0 0 c.in-Alloc.flags) c.args.cpu.now c.alloc_seg.result (c.alloc_seg.ensures.answer p (others_of s w) over.store over.regions))
+    (row_by _ _ _ _ p s w over c.args.pid c.requires.caller.process (Alloc c.in-Alloc.size 0 0 c.in-Alloc.flags) c.args.cpu.now c.alloc_seg.result (c.alloc_seg.ensures.answer p (others_of s w) over.store over.regions))
 
 pub returns-in-Alloc-clause-matches : goal.returns-in-Alloc-clause-matches
 returns-in-Alloc-clause-matches g c = λ p s w x over spells told at tied.
     subst (λ (a : SegmentArguments). Matches (moved p c.alloc_seg.new.store c.alloc_seg.new.regions (g.S.SwapDevice.block c.alloc_seg.new.swap)) (with_all w (changes_roomed (ruling_of a (known_of s w) c.args.pid c.args.cpu.now) c.alloc_seg.result))) (sym c.in-Alloc.is)
-    (behind_by _ _ _ _ p s w over c.args.pid c.requires.process (Alloc c.in-Alloc.size 0 0 c.in-Alloc.flags) c.args.cpu.now c.alloc_seg.result _
+    (behind_by _ _ _ _ p s w over c.args.pid c.requires.caller.process (Alloc c.in-Alloc.size 0 0 c.in-Alloc.flags) c.args.cpu.now c.alloc_seg.result _
     (c.alloc_seg.ensures.matches p (others_of s w) w x over.store over.regions over.pictures over.blocks told at (none_next w tied) (matched_by p w.processes w.names w.next_name w.reserved over.stands)))
 
 pub returns-in-Realloc-clause-row : goal.returns-in-Realloc-clause-row
 returns-in-Realloc-clause-row g c = λ p s w over spells.
     subst (λ (a : SegmentArguments). AnswersRoomed (ruling_of a (known_of s w) c.args.pid c.args.cpu.now) c.realloc_seg.result) (sym c.in-Realloc.is)
-    (row_by _ _ _ _ p s w over c.args.pid c.requires.process (Realloc c.in-Realloc.size c.in-Realloc.selector) c.args.cpu.now c.realloc_seg.result (c.realloc_seg.ensures.answer p (others_of s w) over.store over.regions))
+    (row_by _ _ _ _ p s w over c.args.pid c.requires.caller.process (Realloc c.in-Realloc.size c.in-Realloc.selector) c.args.cpu.now c.realloc_seg.result (c.realloc_seg.ensures.answer p (others_of s w) over.store over.regions))
 
 pub returns-in-Realloc-clause-matches : goal.returns-in-Realloc-clause-matches
 returns-in-Realloc-clause-matches g c = λ p s w x over spells told at tied.
     subst (λ (a : SegmentArguments). Matches (moved p c.realloc_seg.new.store c.realloc_seg.new.regions (g.S.SwapDevice.block c.realloc_seg.new.swap)) (with_all w (changes_roomed (ruling_of a (known_of s w) c.args.pid c.args.cpu.now) c.realloc_seg.result))) (sym c.in-Realloc.is)
-    (behind_by _ _ _ _ p s w over c.args.pid c.requires.process (Realloc c.in-Realloc.size c.in-Realloc.selector) c.args.cpu.now c.realloc_seg.result _
+    (behind_by _ _ _ _ p s w over c.args.pid c.requires.caller.process (Realloc c.in-Realloc.size c.in-Realloc.selector) c.args.cpu.now c.realloc_seg.result _
     (c.realloc_seg.ensures.matches p (others_of s w) w over.store over.regions over.pictures over.blocks told (matched_by p w.processes w.names w.next_name w.reserved over.stands)))
 
 pub returns-in-Free-clause-row : goal.returns-in-Free-clause-row
 returns-in-Free-clause-row g c = λ p s w over spells.
     subst (λ (a : SegmentArguments). Answers (ruling_of a (known_of s w) c.args.pid c.args.cpu.now) c.free_seg.result) (sym c.in-Free.is)
-    (row_by _ _ _ _ p s w over c.args.pid c.requires.process (Free c.in-Free.selector) c.args.cpu.now (Done c.free_seg.result) (c.free_seg.ensures.answer p (others_of s w) over.store over.regions))
+    (row_by _ _ _ _ p s w over c.args.pid c.requires.caller.process (Free c.in-Free.selector) c.args.cpu.now (Done c.free_seg.result) (c.free_seg.ensures.answer p (others_of s w) over.store over.regions))
 
 pub returns-in-Free-clause-registers : goal.returns-in-Free-clause-registers
 returns-in-Free-clause-registers g c = λ p s w over spells.
     subst (λ (a : SegmentArguments). c.free_seg.new.cpu ≡ cpu_behind a (known_of s w) c.args.pid c.args.cpu.now (Done c.free_seg.result)) (sym c.in-Free.is)
-    (cpu_by _ _ _ _ p s w over c.args.pid c.requires.process (Free c.in-Free.selector) c.args.cpu.now c.free_seg.new.cpu (c.free_seg.ensures.registers p (others_of s w) over.store over.regions))
+    (cpu_by _ _ _ _ p s w over c.args.pid c.requires.caller.process (Free c.in-Free.selector) c.args.cpu.now c.free_seg.new.cpu (c.free_seg.ensures.registers p (others_of s w) over.store over.regions))
 
 pub returns-in-Free-clause-matches : goal.returns-in-Free-clause-matches
 returns-in-Free-clause-matches g c = λ p s w x over spells told at tied.
     subst (λ (a : SegmentArguments). Matches (moved p c.free_seg.new.store c.free_seg.new.regions (g.S.SwapDevice.block c.args.swap.now)) (with_all w (ruling_of a (known_of s w) c.args.pid c.args.cpu.now).changes)) (sym c.in-Free.is)
-    (behind_by _ _ _ _ p s w over c.args.pid c.requires.process (Free c.in-Free.selector) c.args.cpu.now (Done c.free_seg.result) _
-    (unmoved _ _ _ _ p s w over c.args.pid c.requires.process _ _ (with_all w (freeing (known_in p (others_of s w)) c.args.pid c.in-Free.selector c.args.cpu.now).changes)
-    (c.free_seg.ensures.matches p (others_of s w) w x over.store over.regions at (loses _ _ _ _ p s w over c.args.pid c.requires.process c.in-Free.selector c.args.cpu.now) (matched_by p w.processes w.names w.next_name w.reserved over.stands))))
+    (behind_by _ _ _ _ p s w over c.args.pid c.requires.caller.process (Free c.in-Free.selector) c.args.cpu.now (Done c.free_seg.result) _
+    (unmoved _ _ _ _ p s w over c.args.pid c.requires.caller.process _ _ (with_all w (freeing (known_in p (others_of s w)) c.args.pid c.in-Free.selector c.args.cpu.now).changes)
+    (c.free_seg.ensures.matches p (others_of s w) w x over.store over.regions at (loses _ _ _ _ p s w over c.args.pid c.requires.caller.process c.in-Free.selector c.args.cpu.now) (matched_by p w.processes w.names w.next_name w.reserved over.stands))))
 
 pub returns-in-Size-clause-row : goal.returns-in-Size-clause-row
 returns-in-Size-clause-row g c = λ p s w over spells.
     subst (λ (a : SegmentArguments). Answers (ruling_of a (known_of s w) c.args.pid c.args.cpu.now) c.size_seg.result) (sym c.in-Size.is)
-    (row_by _ _ _ _ p s w over c.args.pid c.requires.process (Size c.in-Size.selector 0 0) c.args.cpu.now (Done c.size_seg.result) (c.size_seg.ensures.answer p (others_of s w) over.store over.regions))
+    (row_by _ _ _ _ p s w over c.args.pid c.requires.caller.process (Size c.in-Size.selector 0 0) c.args.cpu.now (Done c.size_seg.result) (c.size_seg.ensures.answer p (others_of s w) over.store over.regions))
 
 pub returns-in-Size-clause-matches : goal.returns-in-Size-clause-matches
 returns-in-Size-clause-matches g c = λ p s w x over spells told at tied.
     subst (λ (a : SegmentArguments). Matches (moved p c.size_seg.new.store c.size_seg.new.regions (g.S.SwapDevice.block c.args.swap.now)) (with_all w (ruling_of a (known_of s w) c.args.pid c.args.cpu.now).changes)) (sym c.in-Size.is)
-    (behind_by _ _ _ _ p s w over c.args.pid c.requires.process (Size c.in-Size.selector 0 0) c.args.cpu.now (Done c.size_seg.result) _
-    (sized_only _ _ _ _ p s w over c.args.pid c.requires.process c.in-Size.selector _ _ c.size_seg.ensures.store c.size_seg.ensures.regions))
+    (behind_by _ _ _ _ p s w over c.args.pid c.requires.caller.process (Size c.in-Size.selector 0 0) c.args.cpu.now (Done c.size_seg.result) _
+    (sized_only _ _ _ _ p s w over c.args.pid c.requires.caller.process c.in-Size.selector _ _ c.size_seg.ensures.store c.size_seg.ensures.regions))
 
 pub returns-in-Lock-clause-row : goal.returns-in-Lock-clause-row
 returns-in-Lock-clause-row g c = λ p s w over spells.
     subst (λ (a : SegmentArguments). AnswersRoomed (ruling_of a (known_of s w) c.args.pid c.args.cpu.now) c.lock_seg.result) (sym c.in-Lock.is)
-    (row_by _ _ _ _ p s w over c.args.pid c.requires.process (Lock c.in-Lock.selector) c.args.cpu.now c.lock_seg.result (c.lock_seg.ensures.answer p (others_of s w) over.store over.regions))
+    (row_by _ _ _ _ p s w over c.args.pid c.requires.caller.process (Lock c.in-Lock.selector) c.args.cpu.now c.lock_seg.result (c.lock_seg.ensures.answer p (others_of s w) over.store over.regions))
 
 pub returns-in-Lock-clause-matches : goal.returns-in-Lock-clause-matches
 returns-in-Lock-clause-matches g c = λ p s w x over spells told at tied.
     subst (λ (a : SegmentArguments). Matches (moved p c.lock_seg.new.store c.lock_seg.new.regions (g.S.SwapDevice.block c.lock_seg.new.swap)) (with_all w (changes_roomed (ruling_of a (known_of s w) c.args.pid c.args.cpu.now) c.lock_seg.result))) (sym c.in-Lock.is)
-    (behind_by _ _ _ _ p s w over c.args.pid c.requires.process (Lock c.in-Lock.selector) c.args.cpu.now c.lock_seg.result _
+    (behind_by _ _ _ _ p s w over c.args.pid c.requires.caller.process (Lock c.in-Lock.selector) c.args.cpu.now c.lock_seg.result _
     (c.lock_seg.ensures.matches p (others_of s w) w over.store over.regions over.pictures over.blocks told (matched_by p w.processes w.names w.next_name w.reserved over.stands)))
 
 pub returns-in-Unlock-clause-row : goal.returns-in-Unlock-clause-row
 returns-in-Unlock-clause-row g c = λ p s w over spells.
     subst (λ (a : SegmentArguments). Answers (ruling_of a (known_of s w) c.args.pid c.args.cpu.now) c.unlock_seg.result) (sym c.in-Unlock.is)
-    (row_by _ _ _ _ p s w over c.args.pid c.requires.process (Unlock c.in-Unlock.selector) c.args.cpu.now (Done c.unlock_seg.result) (c.unlock_seg.ensures.answer p (others_of s w) over.store over.regions))
+    (row_by _ _ _ _ p s w over c.args.pid c.requires.caller.process (Unlock c.in-Unlock.selector) c.args.cpu.now (Done c.unlock_seg.result) (c.unlock_seg.ensures.answer p (others_of s w) over.store over.regions))
 
 pub returns-in-Unlock-clause-matches : goal.returns-in-Unlock-clause-matches
 returns-in-Unlock-clause-matches g c = λ p s w x over spells told at tied.
     subst (λ (a : SegmentArguments). Matches (moved p c.unlock_seg.new.store c.unlock_seg.new.regions (g.S.SwapDevice.block c.args.swap.now)) (with_all w (ruling_of a (known_of s w) c.args.pid c.args.cpu.now).changes)) (sym c.in-Unlock.is)
-    (behind_by _ _ _ _ p s w over c.args.pid c.requires.process (Unlock c.in-Unlock.selector) c.args.cpu.now (Done c.unlock_seg.result) _
-    (store_only _ _ _ _ p s w over c.args.pid c.requires.process _ _ (with_all w (unlocking (known_in p (others_of s w)) c.args.pid c.in-Unlock.selector).changes) c.unlock_seg.ensures.regions
+    (behind_by _ _ _ _ p s w over c.args.pid c.requires.caller.process (Unlock c.in-Unlock.selector) c.args.cpu.now (Done c.unlock_seg.result) _
+    (store_only _ _ _ _ p s w over c.args.pid c.requires.caller.process _ _ (with_all w (unlocking (known_in p (others_of s w)) c.args.pid c.in-Unlock.selector).changes) c.unlock_seg.ensures.regions
     (c.unlock_seg.ensures.matches p (others_of s w) w over.store over.regions (matched_by p w.processes w.names w.next_name w.reserved over.stands))))
 
 pub returns-in-Alias-clause-row : goal.returns-in-Alias-clause-row
 returns-in-Alias-clause-row g c = λ p s w over spells.
     subst (λ (a : SegmentArguments). Answers (ruling_of a (known_of s w) c.args.pid c.args.cpu.now) c.create_cs_alias.result) (sym c.in-Alias.is)
-    (row_by _ _ _ _ p s w over c.args.pid c.requires.process (Alias c.in-Alias.selector 0 0) c.args.cpu.now (Done c.create_cs_alias.result) (c.create_cs_alias.ensures.answer p (others_of s w) over.store over.regions))
+    (row_by _ _ _ _ p s w over c.args.pid c.requires.caller.process (Alias c.in-Alias.selector 0 0) c.args.cpu.now (Done c.create_cs_alias.result) (c.create_cs_alias.ensures.answer p (others_of s w) over.store over.regions))
 
 pub returns-in-Alias-clause-matches : goal.returns-in-Alias-clause-matches
 returns-in-Alias-clause-matches g c = λ p s w x over spells told at tied.
     subst (λ (a : SegmentArguments). Matches (moved p c.create_cs_alias.new.store c.create_cs_alias.new.regions (g.S.SwapDevice.block c.args.swap.now)) (with_all w (ruling_of a (known_of s w) c.args.pid c.args.cpu.now).changes)) (sym c.in-Alias.is)
-    (behind_by _ _ _ _ p s w over c.args.pid c.requires.process (Alias c.in-Alias.selector 0 0) c.args.cpu.now (Done c.create_cs_alias.result) _
-    (maps_only _ _ _ _ p s w over c.args.pid c.requires.process _ _ (with_all w (aliasing (known_in p (others_of s w)) c.args.pid c.in-Alias.selector).changes) c.create_cs_alias.ensures.store
+    (behind_by _ _ _ _ p s w over c.args.pid c.requires.caller.process (Alias c.in-Alias.selector 0 0) c.args.cpu.now (Done c.create_cs_alias.result) _
+    (maps_only _ _ _ _ p s w over c.args.pid c.requires.caller.process _ _ (with_all w (aliasing (known_in p (others_of s w)) c.args.pid c.in-Alias.selector).changes) c.create_cs_alias.ensures.store
     (c.create_cs_alias.ensures.matches p (others_of s w) w x over.store over.regions at (matched_by p w.processes w.names w.next_name w.reserved over.stands))))
-
-pub returns-in-Realloc-clause-pictures : goal.returns-in-Realloc-clause-pictures
-returns-in-Realloc-clause-pictures g c = c.realloc_seg.ensures.pictures c.requires.pictures
-
-pub returns-in-Free-clause-clean : goal.returns-in-Free-clause-clean
-returns-in-Free-clause-clean g c = c.free_seg.ensures.clean (picture c.args.images.now) c.requires.clean
-
-pub returns-in-Free-clause-pictures : goal.returns-in-Free-clause-pictures
-returns-in-Free-clause-pictures g c = c.free_seg.ensures.pictures c.args.images.now c.requires.pictures
-
-pub returns-in-Unlock-clause-clean : goal.returns-in-Unlock-clause-clean
-returns-in-Unlock-clause-clean g c = c.unlock_seg.ensures.clean (picture c.args.images.now) c.requires.clean
-
-pub returns-in-Unlock-clause-pictures : goal.returns-in-Unlock-clause-pictures
-returns-in-Unlock-clause-pictures g c = c.unlock_seg.ensures.pictures c.args.images.now c.requires.pictures
 
 pub returns-in-Alloc-clause-kept : goal.returns-in-Alloc-clause-kept
 returns-in-Alloc-clause-kept g c = λ k named live here. c.alloc_seg.ensures.kept k named here
@@ -272,7 +258,7 @@ returns-in-Shared-clause-registers g c = λ p s w over spells. subst (λ (a : Se
 pub returns-in-Shared-clause-matches : goal.returns-in-Shared-clause-matches
 returns-in-Shared-clause-matches g c = λ p s w x over spells told at tied.
     subst (λ (a : SegmentArguments). Matches (moved p c.share.new.store c.share.new.regions (g.S.SwapDevice.block c.args.swap.now)) (with_all w (ruling_of a (known_of s w) c.args.pid c.args.cpu.now).changes)) (sym c.in-Shared.is)
-    (unmoved _ _ _ _ p s w over c.args.pid c.requires.process _ _ (with_all w (ruling_of (Shared c.in-Shared.shared) (known_of s w) c.args.pid c.args.cpu.now).changes)
+    (unmoved _ _ _ _ p s w over c.args.pid c.requires.caller.process _ _ (with_all w (ruling_of (Shared c.in-Shared.shared) (known_of s w) c.args.pid c.args.cpu.now).changes)
     (c.share.ensures.matches c.args.images.now (g.S.SwapDevice.block c.args.swap.now) p s w x over spells at))
 
 pub returns-in-Shared-clause-spells : goal.returns-in-Shared-clause-spells
@@ -291,12 +277,6 @@ returns-in-Shared-clause-entries g c = subst (λ (a : SegmentArguments). LeavesE
 
 pub returns-in-Shared-clause-value : goal.returns-in-Shared-clause-value
 returns-in-Shared-clause-value g c = subst (λ (a : SegmentArguments). IsGivable a (Done c.share.result)) (sym c.in-Shared.is) c.share.ensures.word
-
-pub returns-in-Shared-clause-clean : goal.returns-in-Shared-clause-clean
-returns-in-Shared-clause-clean g c = c.share.ensures.clean (picture c.args.images.now) c.requires.clean
-
-pub returns-in-Shared-clause-pictures : goal.returns-in-Shared-clause-pictures
-returns-in-Shared-clause-pictures g c = c.share.ensures.pictures c.args.images.now c.requires.pictures
 
 pub returns-in-Alloc-clause-idle : goal.returns-in-Alloc-clause-idle
 returns-in-Alloc-clause-idle g c = λ none.
@@ -320,19 +300,19 @@ returns-in-Lock-clause-idle g c = λ none.
     ]
 
 pub returns-in-Free-clause-idle : goal.returns-in-Free-clause-idle
-returns-in-Free-clause-idle g c = λ none. inl (record { device = refl; none = c.free_seg.ensures.unused none })
+returns-in-Free-clause-idle g c = λ none. inl (record { device = refl; none = c.free_seg.ensures.goes_on.unused none })
 
 pub returns-in-Size-clause-idle : goal.returns-in-Size-clause-idle
 returns-in-Size-clause-idle g c = λ none. inl (record { device = refl; none = subst (λ (x : Shelf). NoneTaken x.swap) (sym c.size_seg.ensures.store) none })
 
 pub returns-in-Unlock-clause-idle : goal.returns-in-Unlock-clause-idle
-returns-in-Unlock-clause-idle g c = λ none. inl (record { device = refl; none = c.unlock_seg.ensures.unused none })
+returns-in-Unlock-clause-idle g c = λ none. inl (record { device = refl; none = c.unlock_seg.ensures.goes_on.unused none })
 
 pub returns-in-Alias-clause-idle : goal.returns-in-Alias-clause-idle
 returns-in-Alias-clause-idle g c = λ none. inl (record { device = refl; none = subst (λ (x : Shelf). NoneTaken x.swap) (sym c.create_cs_alias.ensures.store) none })
 
 pub returns-in-Shared-clause-idle : goal.returns-in-Shared-clause-idle
-returns-in-Shared-clause-idle g c = λ none. inl (record { device = refl; none = c.share.ensures.unused none })
+returns-in-Shared-clause-idle g c = λ none. inl (record { device = refl; none = c.share.ensures.goes_on.unused none })
 
 pub returns-in-Huge-clause-row : goal.returns-in-Huge-clause-row
 returns-in-Huge-clause-row g c = λ p s w over spells.
@@ -378,9 +358,6 @@ returns-in-Huge-clause-places g c = (let k = c.act_on_run.ensures.limits in stay
 pub returns-in-Huge-clause-value : goal.returns-in-Huge-clause-value
 returns-in-Huge-clause-value g c = subst (λ (a : SegmentArguments). IsGivable a c.act_on_run.result) (sym c.in-Huge.is)
     (c.act_on_run.ensures.value)
-
-pub returns-in-Huge-clause-pictures : goal.returns-in-Huge-clause-pictures
-returns-in-Huge-clause-pictures g c = c.act_on_run.ensures.pictures c.requires.pictures
 
 pub returns-in-Huge-clause-idle : goal.returns-in-Huge-clause-idle
 returns-in-Huge-clause-idle g c = λ none.
@@ -526,3 +503,39 @@ returns-in-Unlock-clause-registers g c = λ p s w over spells. subst (λ (a : Se
 pub returns-in-Alias-clause-registers : goal.returns-in-Alias-clause-registers
 returns-in-Alias-clause-registers g c = λ p s w over spells. subst (λ (a : SegmentArguments). c.args.cpu.now ≡ cpu_behind a (known_of s w) c.args.pid c.args.cpu.now (Done c.create_cs_alias.result)) (sym c.in-Alias.is)
     (refl)
+
+pub returns-in-Realloc-clause-processes : goal.returns-in-Realloc-clause-processes
+returns-in-Realloc-clause-processes g c = c.realloc_seg.ensures.holds.processes
+
+pub returns-in-Lock-clause-processes : goal.returns-in-Lock-clause-processes
+returns-in-Lock-clause-processes g c = c.lock_seg.ensures.holds.processes
+
+pub returns-in-Free-clause-goes_on : goal.returns-in-Free-clause-goes_on
+returns-in-Free-clause-goes_on g c = for_order c.args.images.now c.args.store.now c.free_seg.new.store c.args.regions.now c.free_seg.new.regions c.free_seg.ensures.goes_on c.requires.backed.clean
+
+pub returns-in-Unlock-clause-goes_on : goal.returns-in-Unlock-clause-goes_on
+returns-in-Unlock-clause-goes_on g c = for_order c.args.images.now c.args.store.now c.unlock_seg.new.store c.args.regions.now c.unlock_seg.new.regions c.unlock_seg.ensures.goes_on c.requires.backed.clean
+
+pub returns-in-Alias-clause-goes_on : goal.returns-in-Alias-clause-goes_on
+returns-in-Alias-clause-goes_on g c = for_order c.args.images.now c.args.store.now c.create_cs_alias.new.store c.args.regions.now c.create_cs_alias.new.regions c.create_cs_alias.ensures.goes_on c.requires.backed.clean
+
+pub returns-in-Shared-clause-goes_on : goal.returns-in-Shared-clause-goes_on
+returns-in-Shared-clause-goes_on g c = for_order c.args.images.now c.args.store.now c.share.new.store c.args.regions.now c.share.new.regions c.share.ensures.goes_on c.requires.backed.clean
+
+pub returns-in-Size-clause-goes_on : goal.returns-in-Size-clause-goes_on
+returns-in-Size-clause-goes_on g c = for_order c.args.images.now c.args.store.now c.size_seg.new.store c.args.regions.now c.size_seg.new.regions (order_as c.args.store.now c.args.store.now c.size_seg.new.store c.args.regions.now c.size_seg.new.regions c.size_seg.ensures.store (maps_as c.args.store.now c.args.store.now c.args.regions.now c.args.regions.now c.size_seg.new.regions c.size_seg.ensures.regions (order_refl c.args.store.now c.args.regions.now c.requires.caller.order))) c.requires.backed.clean
+
+pub returns-in-Free-clause-device : goal.returns-in-Free-clause-device
+returns-in-Free-clause-device g c = device_refl _ _ _ _ _ (λ e. absurd (cc))
+
+pub returns-in-Size-clause-device : goal.returns-in-Size-clause-device
+returns-in-Size-clause-device g c = device_refl _ _ _ _ _ (λ e. absurd (cc))
+
+pub returns-in-Unlock-clause-device : goal.returns-in-Unlock-clause-device
+returns-in-Unlock-clause-device g c = device_refl _ _ _ _ _ (λ e. absurd (cc))
+
+pub returns-in-Alias-clause-device : goal.returns-in-Alias-clause-device
+returns-in-Alias-clause-device g c = device_refl _ _ _ _ _ (λ e. absurd (cc))
+
+pub returns-in-Shared-clause-device : goal.returns-in-Shared-clause-device
+returns-in-Shared-clause-device g c = device_refl _ _ _ _ _ (λ e. absurd (cc))

@@ -14,7 +14,6 @@ use Rattle.o2_segs.specs.Answers.{Answers}
 use Rattle.o2_segs.proofs.Limits.{limits_by}
 use Rattle.o2_calls.specs.SharedActs.{AreSpelled, shared_ruling}
 use Rattle.o2_calls.proofs.SharedOver.{get_texts, give_texts, keeps_still, limits_by_more, maps_now, matches_now, rule_by, share_texts, spelled_same}
-use Rattle.o2_store.specs.Idle.{NoneTaken}
 use Rattle.o2_calls.proofs.sharing.share.Goals as goal
 
 pub returns-in-Name-clause-row : goal.returns-in-Name-clause-row
@@ -62,7 +61,7 @@ returns-in-Share-clause-spells c = λ images block p s w over spells.
     (spelled_same c.args.store.now c.get_shr_seg.new.store c.args.regions.now c.args.names.now c.get_shr_seg.new.names c.args.ends.now p w (with_all w (shared_ruling (Share c.in-Share.text 0 0) (known_of s w) c.args.pid).changes) spells c.get_shr_seg.ensures.store c.get_shr_seg.ensures.names (share_texts w (known_of s w) c.args.pid (name_by (text_of c.in-Share.text))))
 
 pub returns-in-Share-clause-limits : goal.returns-in-Share-clause-limits
-returns-in-Share-clause-limits c = limits_by_more c.args.store.now c.get_shr_seg.new.store c.args.regions.now c.get_shr_seg.new.regions c.get_shr_seg.ensures.limits
+returns-in-Share-clause-limits c = limits_by_more c.args.store.now c.get_shr_seg.new.store c.args.regions.now c.get_shr_seg.new.regions c.get_shr_seg.ensures.more.limits
 
 pub returns-in-Give-clause-row : goal.returns-in-Give-clause-row
 returns-in-Give-clause-row c = λ images block p s w over spells.
@@ -81,7 +80,7 @@ returns-in-Give-clause-spells c = λ images block p s w over spells.
     (spelled_same c.args.store.now c.give_seg.new.store c.args.regions.now c.args.names.now c.args.names.now c.args.ends.now p w (with_all w (shared_ruling (Give c.in-Give.selector c.in-Give.to 0 0) (known_of s w) c.args.pid).changes) spells c.give_seg.ensures.store refl (give_texts w (known_of s w) c.args.pid c.in-Give.selector c.in-Give.to))
 
 pub returns-in-Give-clause-limits : goal.returns-in-Give-clause-limits
-returns-in-Give-clause-limits c = limits_by_more c.args.store.now c.give_seg.new.store c.args.regions.now c.give_seg.new.regions c.give_seg.ensures.limits
+returns-in-Give-clause-limits c = limits_by_more c.args.store.now c.give_seg.new.store c.args.regions.now c.give_seg.new.regions c.give_seg.ensures.more.limits
 
 pub returns-in-Get-clause-row : goal.returns-in-Get-clause-row
 returns-in-Get-clause-row c = λ images block p s w over spells.
@@ -100,7 +99,7 @@ returns-in-Get-clause-spells c = λ images block p s w over spells.
     (spelled_same c.args.store.now c.get_seg.new.store c.args.regions.now c.args.names.now c.args.names.now c.args.ends.now p w (with_all w (shared_ruling (Get c.in-Get.selector) (known_of s w) c.args.pid).changes) spells c.get_seg.ensures.store refl (get_texts w (known_of s w) c.args.pid c.in-Get.selector))
 
 pub returns-in-Get-clause-limits : goal.returns-in-Get-clause-limits
-returns-in-Get-clause-limits c = limits_by_more c.args.store.now c.get_seg.new.store c.args.regions.now c.get_seg.new.regions c.get_seg.ensures.limits
+returns-in-Get-clause-limits c = limits_by_more c.args.store.now c.get_seg.new.store c.args.regions.now c.get_seg.new.regions c.get_seg.ensures.more.limits
 
 pub returns-in-Share-clause-kept : goal.returns-in-Share-clause-kept
 returns-in-Share-clause-kept c = λ k here. subst (λ (x : Shelf). IsSome (place_of x k)) (sym c.get_shr_seg.ensures.store) here
@@ -111,11 +110,35 @@ returns-in-Give-clause-kept c = λ k here. subst (λ (x : Shelf). IsSome (place_
 pub returns-in-Get-clause-kept : goal.returns-in-Get-clause-kept
 returns-in-Get-clause-kept c = λ k here. subst (λ (x : Shelf). IsSome (place_of x k)) (sym c.get_seg.ensures.store) here
 
-pub returns-in-Share-clause-unused : goal.returns-in-Share-clause-unused
-returns-in-Share-clause-unused c = λ none. subst (λ (x : Shelf). NoneTaken x.swap) (sym c.get_shr_seg.ensures.store) none
+pub returns-in-Share-clause-still : goal.returns-in-Share-clause-still
+returns-in-Share-clause-still c = c.get_shr_seg.ensures.more.still
 
-pub returns-in-Give-clause-unused : goal.returns-in-Give-clause-unused
-returns-in-Give-clause-unused c = λ none. subst (λ (x : Shelf). NoneTaken x.swap) (sym c.give_seg.ensures.store) none
+pub returns-in-Share-clause-processes : goal.returns-in-Share-clause-processes
+returns-in-Share-clause-processes c = c.get_shr_seg.ensures.more.processes
 
-pub returns-in-Get-clause-unused : goal.returns-in-Get-clause-unused
-returns-in-Get-clause-unused c = λ none. subst (λ (x : Shelf). NoneTaken x.swap) (sym c.get_seg.ensures.store) none
+pub returns-in-Share-clause-goes_on : goal.returns-in-Share-clause-goes_on
+returns-in-Share-clause-goes_on c = c.get_shr_seg.ensures.more.goes_on
+
+pub returns-in-Give-clause-still : goal.returns-in-Give-clause-still
+returns-in-Give-clause-still c = c.give_seg.ensures.more.still
+
+pub returns-in-Give-clause-processes : goal.returns-in-Give-clause-processes
+returns-in-Give-clause-processes c = c.give_seg.ensures.more.processes
+
+pub returns-in-Give-clause-goes_on : goal.returns-in-Give-clause-goes_on
+returns-in-Give-clause-goes_on c = c.give_seg.ensures.more.goes_on
+
+pub returns-in-Give-clause-places : goal.returns-in-Give-clause-places
+returns-in-Give-clause-places c = c.give_seg.ensures.more.places c.args.names.now c.requires.places
+
+pub returns-in-Get-clause-still : goal.returns-in-Get-clause-still
+returns-in-Get-clause-still c = c.get_seg.ensures.more.still
+
+pub returns-in-Get-clause-processes : goal.returns-in-Get-clause-processes
+returns-in-Get-clause-processes c = c.get_seg.ensures.more.processes
+
+pub returns-in-Get-clause-goes_on : goal.returns-in-Get-clause-goes_on
+returns-in-Get-clause-goes_on c = c.get_seg.ensures.more.goes_on
+
+pub returns-in-Get-clause-places : goal.returns-in-Get-clause-places
+returns-in-Get-clause-places c = c.get_seg.ensures.more.places c.args.names.now c.requires.places

@@ -5,27 +5,34 @@ use Rattle.o2_store.specs.Pictures.{HasPicture}
 use Rattle.o2_changes.proofs.DropsStand.{removed_clean, removed_pictures}
 use Rattle.o2_changes.proofs.Guarding.{removed_guards}
 use Rattle.o2_changes.proofs.KeepingHolds.{removed_places}
+use Rattle.o2_changes.proofs.Framing.{order_refl}
 use Rattle.o2_changes.proofs.dropping.sweep.Goals as goal
-
-pub returns-then-is_unheld-clause-order : goal.returns-then-is_unheld-clause-order
-returns-then-is_unheld-clause-order c =
-    swept_order c.args.store.now c.remove.new.self c.args.regions.now c.args.id c.requires.live (c.if-is_unheld.ensures.none refl) (c.remove.ensures.removed (c.remove.ensures.live.1 c.requires.live)) c.requires.order
 
 pub returns-else-is_unheld-clause-sweeps : goal.returns-else-is_unheld-clause-sweeps
 returns-else-is_unheld-clause-sweeps c = (let x = c.if-is_unheld.ensures.some refl in Remains x.0 x.1.0 x.1.1 refl)
-
-pub returns-then-is_unheld-clause-guards : goal.returns-then-is_unheld-clause-guards
-returns-then-is_unheld-clause-guards c =
-    removed_guards c.args.store.now c.remove.new.self c.args.regions.now c.args.id c.requires.live (c.if-is_unheld.ensures.none refl) (c.remove.ensures.removed (c.remove.ensures.live.1 c.requires.live)) c.requires.order
-
-pub returns-then-is_unheld-clause-clean : goal.returns-then-is_unheld-clause-clean
-returns-then-is_unheld-clause-clean c = λ pic was. removed_clean c.args.store.now c.remove.new.self c.args.id.key pic c.law.ensures.shelf (c.remove.ensures.removed (c.remove.ensures.live.1 c.requires.live)) was
-
-pub returns-then-is_unheld-clause-pictures : goal.returns-then-is_unheld-clause-pictures
-returns-then-is_unheld-clause-pictures c = λ images was. removed_pictures c.args.store.now c.remove.new.self c.args.id.key (HasPicture images) (c.remove.ensures.removed (c.remove.ensures.live.1 c.requires.live)) was
 
 pub returns-then-is_unheld-clause-places : goal.returns-then-is_unheld-clause-places
 returns-then-is_unheld-clause-places c = removed_places c.args.store.now c.remove.new.self c.args.id c.requires.live (c.remove.ensures.removed (c.remove.ensures.live.1 c.requires.live))
 
 pub returns-else-is_unheld-clause-places : goal.returns-else-is_unheld-clause-places
 returns-else-is_unheld-clause-places c = λ k some. refl
+
+pub returns-then-is_unheld-clause-goes_on : goal.returns-then-is_unheld-clause-goes_on
+returns-then-is_unheld-clause-goes_on c =
+    let s = c.args.store.now in
+    let t = c.remove.new.self in
+    let m = c.args.regions.now in
+    let id = c.args.id in
+    let removed = c.remove.ensures.removed (c.remove.ensures.live.1 c.requires.live) in
+    let nobody = c.if-is_unheld.ensures.none refl in
+    record {
+      order = swept_order s t m id c.requires.live nobody removed c.requires.order;
+      guards = removed_guards s t m id c.requires.live nobody removed c.requires.order;
+      clean = λ pic was. removed_clean s t id.key pic c.law.ensures.shelf removed was;
+      pictures = λ images was. removed_pictures s t id.key (HasPicture images) removed was;
+      map = c.remove.ensures.map;
+      unused = c.remove.ensures.unused;
+    }
+
+pub returns-else-is_unheld-clause-goes_on : goal.returns-else-is_unheld-clause-goes_on
+returns-else-is_unheld-clause-goes_on c = order_refl c.args.store.now c.args.regions.now c.requires.order

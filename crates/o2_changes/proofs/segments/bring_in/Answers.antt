@@ -14,11 +14,6 @@ bring-requires-clause-settled g c = c.requires.order.settled
 pub returns-clause-maps : goal.returns-clause-maps
 returns-clause-maps g c = c.bring.ensures.follows.maps
 
-pub returns-clause-order : goal.returns-clause-order
-returns-clause-order g c =
-    told_order c.bring.new.store c.args.regions.now c.bring.new.regions (held_same c.args.store.now c.bring.new.store c.args.regions.now c.requires.order.held c.bring.ensures.keeps.tables)
-    c.requires.order.tables c.bring.ensures.follows.settled c.bring.ensures.follows.maps
-
 pub returns-clause-matches : goal.returns-clause-matches
 returns-clause-matches g c =
     let s = c.args.store.now in
@@ -29,8 +24,17 @@ returns-clause-matches g c =
           (told_order t m c.bring.new.regions (held_same s t m c.requires.order.held c.bring.ensures.keeps.tables) c.requires.order.tables c.bring.ensures.follows.settled c.bring.ensures.follows.maps) c.bring.ensures.map;
     }
 
-pub returns-clause-guards : goal.returns-clause-guards
-returns-clause-guards g c = moved_guards c.args.store.now c.bring.new.store c.args.regions.now c.bring.new.regions c.bring.ensures.keeps.tables c.bring.ensures.follows.maps
-
-pub returns-clause-pictures : goal.returns-clause-pictures
-returns-clause-pictures g c = λ images. moved_pictures c.args.store.now c.bring.new.store (HasPicture images) c.bring.ensures.keeps.tables
+pub returns-clause-goes_on : goal.returns-clause-goes_on
+returns-clause-goes_on g c =
+    let s = c.args.store.now in
+    let t = c.bring.new.store in
+    let m = c.args.regions.now in
+    let n = c.bring.new.regions in
+    let e = c.bring.ensures in
+    record {
+      order = told_order t m n (held_same s t m c.requires.order.held e.keeps.tables) c.requires.order.tables e.follows.settled e.follows.maps;
+      guards = moved_guards s t m n e.keeps.tables e.follows.maps;
+      clean = e.clean;
+      pictures = λ list. moved_pictures s t (HasPicture list) e.keeps.tables;
+      map = e.map;
+    }

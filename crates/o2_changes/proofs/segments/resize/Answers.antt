@@ -8,12 +8,6 @@ pub settle-requires-clause-held : goal.settle-requires-clause-held
 settle-requires-clause-held g c =
     resized_held c.args.store.now c.resize-answer.new.self c.args.regions.now _ _ _ _ _ _ c.resize-answer.result c.resize-answer.ensures.resized c.resize-answer.ensures.keeps c.requires.order.held
 
-pub returns-clause-order : goal.returns-clause-order
-returns-clause-order g c =
-    told_order c.resize-answer.new.self c.args.regions.now c.settle.new.regions
-    (resized_held c.args.store.now c.resize-answer.new.self c.args.regions.now _ _ _ _ _ _ c.resize-answer.result c.resize-answer.ensures.resized c.resize-answer.ensures.keeps c.requires.order.held)
-    c.requires.order.tables c.settle.ensures.settled c.settle.ensures.maps
-
 pub returns-clause-matches : goal.returns-clause-matches
 returns-clause-matches g c = λ here. record {
   world = size_matches c.args.store.now c.resize-answer.new.self c.args.regions.now c.settle.new.regions c.args.images.now _ _ _ c.args.id c.args.size c.requires.live (c.resize-answer.ensures.resized here) c.settle.ensures.maps c.resize-answer.ensures.clean
@@ -30,11 +24,17 @@ returns-clause-stays g c = λ other. record {
       c.requires.order.tables c.settle.ensures.settled c.settle.ensures.maps) c.resize-answer.ensures.map;
 }
 
-pub returns-clause-guards : goal.returns-clause-guards
-returns-clause-guards g c =
-    resized_guards_by c.args.store.now c.resize-answer.new.self _ c.args.images.now _ _ _ _ c.resize-answer.result c.resize-answer.ensures.resized c.resize-answer.ensures.keeps
-    c.args.regions.now c.settle.new.regions c.settle.ensures.maps
-
-pub returns-clause-pictures : goal.returns-clause-pictures
-returns-clause-pictures g c = λ images.
-    resized_pictures_by c.args.store.now c.resize-answer.new.self _ c.args.images.now _ _ _ _ c.resize-answer.result c.resize-answer.ensures.resized c.resize-answer.ensures.keeps (HasPicture images)
+pub returns-clause-goes_on : goal.returns-clause-goes_on
+returns-clause-goes_on g c =
+    let s = c.args.store.now in
+    let t = c.resize-answer.new.self in
+    let m = c.args.regions.now in
+    let n = c.settle.new.regions in
+    let e = c.resize-answer.ensures in
+    record {
+      order = told_order t m n (resized_held s t m _ _ _ _ _ _ c.resize-answer.result e.resized e.keeps c.requires.order.held) c.requires.order.tables c.settle.ensures.settled c.settle.ensures.maps;
+      guards = resized_guards_by s t _ c.args.images.now _ _ _ _ c.resize-answer.result e.resized e.keeps m n c.settle.ensures.maps;
+      clean = e.clean;
+      pictures = λ list. resized_pictures_by s t _ c.args.images.now _ _ _ _ c.resize-answer.result e.resized e.keeps (HasPicture list);
+      map = e.map;
+    }

@@ -1,7 +1,7 @@
-use Rattle.std.proofs.Common.{ap, refl, sym}
+use Rattle.std.proofs.Common.{ap, refl, sym, subst}
 use Rattle.o2_entries.specs.declared.Attr.{Attr}
 use Rattle.o2_entries.specs.Tables.{slot_at}
-use Rattle.o2_store.specs.Shelf.{entry_of}
+use Rattle.o2_store.specs.Shelf.{entry_of, Shelf}
 use Rattle.o2_changes.specs.Order.{IsInOrder}
 use Rattle.o2_changes.specs.Segments.{SetsLock}
 use Rattle.o2_store.specs.Pictures.{HasPicture}
@@ -9,6 +9,7 @@ use Rattle.o2_changes.proofs.Guarding.{locked_guards, locked_swap}
 use Rattle.o2_changes.proofs.LocksStand.{locked_clean, locked_pictures}
 use Rattle.o2_changes.proofs.Matching.{lock_matches}
 use Rattle.o2_changes.proofs.Segmenting.{attr_there, locked_order, sets_lock}
+use Rattle.o2_store.specs.Idle.{NoneTaken}
 use Rattle.o2_changes.proofs.segments.set_lock.Goals as goal
 
 pub returns-in-Some : goal.returns-in-Some
@@ -22,10 +23,13 @@ returns-in-Some c =
     let o : IsInOrder t c.args.regions.now = locked_order s t c.args.regions.now id c.args.lock l c.requires.order in
     record {
       sets = l;
-      map = locked_swap s t id c.args.lock l;
-      clean = λ pic was. locked_clean s t id c.args.lock c.requires.live l pic was;
-      pictures = λ images was. locked_pictures s t id c.args.lock c.requires.live l (HasPicture images) was;
-      order = o;
-      guards = locked_guards s t c.args.regions.now id c.args.lock c.requires.live l;
+      goes_on = record {
+        order = o;
+        guards = locked_guards s t c.args.regions.now id c.args.lock c.requires.live l;
+        clean = λ pic was. locked_clean s t id c.args.lock c.requires.live l pic was;
+        pictures = λ images was. locked_pictures s t id c.args.lock c.requires.live l (HasPicture images) was;
+        map = locked_swap s t id c.args.lock l;
+        unused = λ none. subst NoneTaken (sym (ap (λ (x : Shelf). x.swap) l.shelf)) none;
+      };
       matches = record { world = lock_matches s t c.args.regions.now id c.args.lock c.requires.live l o };
     }

@@ -1,15 +1,13 @@
 use Rattle.std.proofs.Common.{◌≡◌, ℕ, ◌-◌, ap, arith, sym, subst, ◌∙◌}
 use Rattle.o2_store.specs.Pictures.{HasPicture}
-use Rattle.o2_store.specs.Shelf.{Shelf, AreClean, HasAll, Removes}
-use Rattle.o2_swapmap.specs.Piles.{all_of}
+use Rattle.o2_store.specs.Shelf.{Shelf, Removes}
 use Rattle.o2_stands.specs.Stands.{Matches}
-use Rattle.o2_changes.specs.Order.{IsGuarded, IsInOrder}
 use Rattle.o2_changes.proofs.DropsStand.{removed_clean, removed_pictures}
 use Rattle.o2_changes.proofs.Freeing.{swept_order}
 use Rattle.o2_changes.proofs.Guarding.{removed_guards}
 use Rattle.o2_changes.proofs.MakesStand.{gone_newest, made_clean_any, unmade_age, unmade_guards, unmade_order}
 use Rattle.o2_changes.proofs.Matching.{unmake_matches}
-use Rattle.o2_store.specs.Idle.{NoneTaken}
+use Rattle.o2_changes.specs.Frames.{KeepsOrder}
 use Rattle.o2_changes.proofs.segments.unmake.Goals as goal
 
 pub unmake-requires-clause-some : goal.unmake-requires-clause-some
@@ -33,21 +31,6 @@ pub returns-clause-made : goal.returns-clause-made
 returns-clause-made c =
     unmade_age c.args.store.now c.remove.new.self c.unmake.new.self c.args.id c.requires.newest (c.remove.ensures.removed (c.remove.ensures.live.1 c.requires.live)) c.unmake.ensures
 
-pub returns-clause-order : goal.returns-clause-order
-returns-clause-order c =
-    subst (λ (x : Shelf). IsInOrder x c.args.regions.now) (sym c.unmake.ensures)
-    (unmade_order c.remove.new.self c.args.regions.now (c.remove.new.self.made - 1)
-    (swept_order c.args.store.now c.remove.new.self c.args.regions.now c.args.id c.requires.live c.requires.unheld (c.remove.ensures.removed (c.remove.ensures.live.1 c.requires.live)) c.requires.order))
-
-pub returns-clause-guards : goal.returns-clause-guards
-returns-clause-guards c = λ was.
-    subst (λ (x : Shelf). IsGuarded x c.args.regions.now) (sym c.unmake.ensures)
-    (unmade_guards c.remove.new.self c.args.regions.now (c.remove.new.self.made - 1)
-    (removed_guards c.args.store.now c.remove.new.self c.args.regions.now c.args.id c.requires.live c.requires.unheld (c.remove.ensures.removed (c.remove.ensures.live.1 c.requires.live)) c.requires.order was))
-
-pub returns-clause-map : goal.returns-clause-map
-returns-clause-map c = ap (λ (x : Shelf). all_of x.swap) c.unmake.ensures ∙ c.remove.ensures.map
-
 pub returns-clause-matches : goal.returns-clause-matches
 returns-clause-matches c =
     let s = c.args.store.now in
@@ -62,16 +45,18 @@ returns-clause-matches c =
           (swept_order s r c.args.regions.now c.args.id c.requires.live c.requires.unheld removed c.requires.order) c.remove.ensures.map p w sg es em older absent q));
     }
 
-pub returns-clause-clean : goal.returns-clause-clean
-returns-clause-clean c = λ pic a.
-    subst (λ (x : Shelf). AreClean x pic) (sym c.unmake.ensures)
-    (made_clean_any c.remove.new.self (c.remove.new.self.made - 1) pic
-    (removed_clean c.args.store.now c.remove.new.self c.args.id.key pic c.law.ensures.shelf (c.remove.ensures.removed (c.remove.ensures.live.1 c.requires.live)) a))
-
-pub returns-clause-pictures : goal.returns-clause-pictures
-returns-clause-pictures c = λ images was.
-    subst (λ (x : Shelf). HasAll (HasPicture images) x) (sym c.unmake.ensures)
-    (removed_pictures c.args.store.now c.remove.new.self c.args.id.key (HasPicture images) (c.remove.ensures.removed (c.remove.ensures.live.1 c.requires.live)) was)
-
-pub returns-clause-unused : goal.returns-clause-unused
-returns-clause-unused c = λ none. subst (λ (x : Shelf). NoneTaken x.swap) (sym c.unmake.ensures) (c.remove.ensures.unused none)
+pub returns-clause-goes_on : goal.returns-clause-goes_on
+returns-clause-goes_on c =
+    let s = c.args.store.now in
+    let t = c.remove.new.self in
+    let m = c.args.regions.now in
+    let id = c.args.id in
+    let removed = c.remove.ensures.removed (c.remove.ensures.live.1 c.requires.live) in
+    subst (λ (x : Shelf). KeepsOrder s m x m) (sym c.unmake.ensures) (record {
+      order = unmade_order t m (t.made - 1) (swept_order s t m id c.requires.live c.requires.unheld removed c.requires.order);
+      guards = λ was. unmade_guards t m (t.made - 1) (removed_guards s t m id c.requires.live c.requires.unheld removed c.requires.order was);
+      clean = λ pic a. made_clean_any t (t.made - 1) pic (removed_clean s t id.key pic c.law.ensures.shelf removed a);
+      pictures = λ images was. removed_pictures s t id.key (HasPicture images) removed was;
+      map = c.remove.ensures.map;
+      unused = c.remove.ensures.unused;
+    })

@@ -1,7 +1,7 @@
 use Rattle.std.proofs.Common.{◌≡◌, ◌==◌, true, false, length, arith, ◌∙◌, ap, sym, subst}
 use Rattle.o2_isa.specs.View.{View, whole}
 use Rattle.o2_isa.specs.Pointers.{is_ready}
-use Rattle.o2_gate.specs.Writes.{WritesHeld}
+use Rattle.o2_bus.specs.Writes.{WritesHeld}
 use Rattle.o2_gate.proofs.Writing.{put_writes}
 use Rattle.o2_gate.proofs.Stores.{put_whole, put_nothing, ready_behind}
 use Rattle.o2_gate.proofs.pointer.store.Goals as goal

@@ -13,8 +13,9 @@ use Rattle.o2_segs.specs.Answers.{Answers}
 use Rattle.o2_segs.specs.Made.{region_for}
 use Rattle.o2_segs.proofs.Limits.{entries_refl, limits_by}
 use Rattle.o2_segs.proofs.Rows.{refusal_answers, refusal_matches}
-use Rattle.o2_huge.proofs.Keeping.{limits_grown, limits_still}
+use Rattle.o2_huge.proofs.Keeping.{limits_grown, limits_still, grown_order}
 use Rattle.o2_huge.proofs.Rows.{all_wanted, alloc_at, alloc_fault, alloc_full, alloc_matches, chosen_as, faultless, region_there, room_left, some_wanted}
+use Rattle.o2_changes.proofs.Framing.{order_refl}
 use Rattle.o2_huge.proofs.allocating.alloc_huge.Goals as goal
 
 pub returns-then-is_fault-clause-answer : goal.returns-then-is_fault-clause-answer
@@ -119,12 +120,6 @@ returns-in-Some-clause-limits c =
     limits_by c.args.store.now c.make_run.new.store c.args.regions.now c.make_run.new.regions 4096
     (limits_grown c.args.store.now c.make_run.new.store c.args.regions.now c.make_run.new.regions (segments_of c.args.segs c.args.part) 4096 c.make_run.ensures.grows (omega (arith, few, all)) c.make_run.ensures.few c.make_run.ensures.shares)
 
-pub returns-in-Some-clause-processes : goal.returns-in-Some-clause-processes
-returns-in-Some-clause-processes c = c.make_run.ensures.grows.holds.processes
-
-pub returns-in-Some-clause-unused : goal.returns-in-Some-clause-unused
-returns-in-Some-clause-unused c = c.make_run.ensures.grows.unused
-
 pub returns-then-is_fault-clause-limits : goal.returns-then-is_fault-clause-limits
 returns-then-is_fault-clause-limits c = limits_still c.args.store.now c.args.regions.now 4096
 
@@ -140,14 +135,14 @@ returns-in-Some-clause-entries c = c.make_run.ensures.grows.entries
 pub returns-in-Some-clause-kept : goal.returns-in-Some-clause-kept
 returns-in-Some-clause-kept c = c.make_run.ensures.grows.kept
 
-pub returns-in-Some-clause-guards : goal.returns-in-Some-clause-guards
-returns-in-Some-clause-guards c = c.make_run.ensures.grows.guards
+pub returns-then-is_fault-clause-goes_on : goal.returns-then-is_fault-clause-goes_on
+returns-then-is_fault-clause-goes_on c = order_refl c.args.store.now c.args.regions.now c.requires.order
 
-pub returns-in-Some-clause-clean : goal.returns-in-Some-clause-clean
-returns-in-Some-clause-clean c = c.make_run.ensures.grows.clean
+pub returns-then-is_too_many-clause-goes_on : goal.returns-then-is_too_many-clause-goes_on
+returns-then-is_too_many-clause-goes_on c = order_refl c.args.store.now c.args.regions.now c.requires.order
 
-pub returns-in-Some-clause-pictures : goal.returns-in-Some-clause-pictures
-returns-in-Some-clause-pictures c = c.make_run.ensures.grows.pictures
+pub returns-in-None-clause-goes_on : goal.returns-in-None-clause-goes_on
+returns-in-None-clause-goes_on c = order_refl c.args.store.now c.args.regions.now c.requires.order
 
-pub returns-in-Some-clause-map : goal.returns-in-Some-clause-map
-returns-in-Some-clause-map c = c.make_run.ensures.grows.map
+pub returns-in-Some-clause-goes_on : goal.returns-in-Some-clause-goes_on
+returns-in-Some-clause-goes_on c = grown_order c.args.store.now c.make_run.new.store c.args.regions.now c.make_run.new.regions _ c.make_run.ensures.grows c.make_run.ensures.order

@@ -8,10 +8,10 @@ use Rattle.o2_huge.proofs.losing.cut_one.Goals as goal
 pub returns-in-Some-clause-shrinks : goal.returns-in-Some-clause-shrinks
 returns-in-Some-clause-shrinks c =
     shrunk c.args.store.now c.lose.new.store c.args.regions.now c.lose.new.regions c.args.pid c.args.index c.in-Some.held.holds c.in-Some.held.id c.law-2.ensures.shelf c.law-in-Some.ensures.shelf c.lose.ensures.takes c.lose.ensures.reserved c.lose.ensures.sweeps
-    c.lose.ensures.places c.lose.ensures.map c.lose.ensures.unused
+    c.lose.ensures.places c.lose.ensures.goes_on.map c.lose.ensures.goes_on.unused
     (lost_few c.args.store.now c.lose.new.store c.args.regions.now c.lose.new.regions c.args.pid c.args.index c.in-Some.held (sym c.in-Some.ensures.held) c.lose.ensures.sweeps (λ q i other. lost_others c.args.regions.now c.lose.new.regions c.args.pid c.args.index c.in-Some.held.holds q i c.lose.ensures.takes other) (lost_here c.args.regions.now c.lose.new.regions c.args.pid c.args.index c.in-Some.held c.lose.ensures.takes (sym c.in-Some.ensures.held)))
     (lost_shares c.args.store.now c.lose.new.store c.args.regions.now c.lose.new.regions c.args.pid c.args.index c.in-Some.held (sym c.in-Some.ensures.held) c.lose.ensures.sweeps (λ q i other. lost_others c.args.regions.now c.lose.new.regions c.args.pid c.args.index c.in-Some.held.holds q i c.lose.ensures.takes other) (lost_here c.args.regions.now c.lose.new.regions c.args.pid c.args.index c.in-Some.held c.lose.ensures.takes (sym c.in-Some.ensures.held)))
-    c.lose.ensures.guards c.lose.ensures.clean c.lose.ensures.pictures
+    c.lose.ensures.goes_on.guards c.lose.ensures.goes_on.clean c.lose.ensures.goes_on.pictures
 
 pub returns-in-Some-clause-others : goal.returns-in-Some-clause-others
 returns-in-Some-clause-others c = λ q i other. lost_others c.args.regions.now c.lose.new.regions c.args.pid c.args.index c.in-Some.held.holds q i c.lose.ensures.takes other

@@ -12,7 +12,7 @@ returns-in-Some-clause-grows c =
     let t = c.make.new.store in
     let adds = c.in-Some.ensures.added in
     member_grows c.args.store.now t c.args.regions.now c.hold_more.new.regions c.in-Some.id _ c.args.pid c.args.index _ _ adds refl c.hold_more.ensures.grants c.requires.open.free
-    (λ was. c.hold_more.ensures.guards (λ writable. ap (λ (x : Entry). x.attr.clean) (added_entry c.args.store.now t c.in-Some.id _ adds)) (c.make.ensures.guards was)) c.make.ensures.clean c.make.ensures.pictures
+    (λ was. c.hold_more.ensures.guards (λ writable. ap (λ (x : Entry). x.attr.clean) (added_entry c.args.store.now t c.in-Some.id _ adds)) (c.make.ensures.goes_on.guards was)) c.make.ensures.goes_on.clean c.make.ensures.goes_on.pictures
 
 pub returns-in-Some-clause-others : goal.returns-in-Some-clause-others
 returns-in-Some-clause-others c = λ q i other. member_others c.args.regions.now c.hold_more.new.regions c.args.pid c.args.index q i _ _ c.hold_more.ensures.grants other

@@ -3,7 +3,7 @@ use Rattle.o2_world.specs.HugeRulings.{segments_of, without}
 use Rattle.o2_world.specs.Rulings.{indexes}
 use Rattle.o2_huge.specs.Cuts.{MatchesCut}
 use Rattle.o2_huge.proofs.Changing.{cut_holds, cut_matches, grown_matches, without_none}
-use Rattle.o2_huge.proofs.Keeping.{few_held, limits_grown, limits_shrunk}
+use Rattle.o2_huge.proofs.Keeping.{few_held, limits_grown, limits_shrunk, grown_order, shrunk_order}
 use Rattle.o2_huge.proofs.Stretch.{more_wanted}
 use Rattle.o2_huge.proofs.reallocating.change_members.Goals as goal
 
@@ -67,26 +67,11 @@ returns-then-there-wanted-clause-limits c =
 pub returns-then-there-wanted-clause-holds : goal.returns-then-there-wanted-clause-holds
 returns-then-there-wanted-clause-holds c = inl c.grow.ensures.grows.holds
 
-pub returns-then-there-wanted-clause-unused : goal.returns-then-there-wanted-clause-unused
-returns-then-there-wanted-clause-unused c = c.grow.ensures.grows.unused
-
 pub returns-then-there-wanted-clause-processes : goal.returns-then-there-wanted-clause-processes
 returns-then-there-wanted-clause-processes c = c.grow.ensures.grows.holds.processes
 
 pub returns-then-there-wanted-clause-kept : goal.returns-then-there-wanted-clause-kept
 returns-then-there-wanted-clause-kept c = λ k some here. c.grow.ensures.grows.kept k here
-
-pub returns-then-there-wanted-clause-guards : goal.returns-then-there-wanted-clause-guards
-returns-then-there-wanted-clause-guards c = c.grow.ensures.grows.guards
-
-pub returns-then-there-wanted-clause-clean : goal.returns-then-there-wanted-clause-clean
-returns-then-there-wanted-clause-clean c = c.grow.ensures.grows.clean
-
-pub returns-then-there-wanted-clause-pictures : goal.returns-then-there-wanted-clause-pictures
-returns-then-there-wanted-clause-pictures c = c.grow.ensures.grows.pictures
-
-pub returns-then-there-wanted-clause-map : goal.returns-then-there-wanted-clause-map
-returns-then-there-wanted-clause-map c = c.grow.ensures.grows.map
 
 pub cut-requires-clause-head : goal.cut-requires-clause-head
 cut-requires-clause-head c = c.requires.members c.args.run.first (omega arith) (let a = c.requires.some in omega (arith, a))
@@ -116,26 +101,17 @@ returns-clause-holds c =
     cut_holds c.args.store.now c.args.regions.now c.cut.new.regions c.args.pid c.args.run.first c.args.run.count c.args.there c.args.segs c.args.part (omega (arith, l, w)) c.requires.members
     (λ none. c.cut.ensures.none (omega (arith, none, w)))
 
-pub returns-clause-unused : goal.returns-clause-unused
-returns-clause-unused c = c.cut.ensures.shrinks.unused
-
 pub returns-clause-processes : goal.returns-clause-processes
 returns-clause-processes c = c.cut.ensures.shrinks.processes
 
 pub returns-clause-kept : goal.returns-clause-kept
 returns-clause-kept c = λ k some here. subst (λ (o : Option (ℕ × ℕ)). IsSome o) (sym (c.cut.ensures.shrinks.places k some)) here
 
-pub returns-clause-guards : goal.returns-clause-guards
-returns-clause-guards c = c.cut.ensures.shrinks.guards
-
-pub returns-clause-clean : goal.returns-clause-clean
-returns-clause-clean c = c.cut.ensures.shrinks.clean
-
-pub returns-clause-pictures : goal.returns-clause-pictures
-returns-clause-pictures c = c.cut.ensures.shrinks.pictures
-
-pub returns-clause-map : goal.returns-clause-map
-returns-clause-map c = c.cut.ensures.shrinks.map
-
 pub grow-requires-clause-some : goal.grow-requires-clause-some
 grow-requires-clause-some c = c.law.ensures.counted c.args.pid c.args.run.first c.args.first c.requires.held
+
+pub returns-then-there-wanted-clause-goes_on : goal.returns-then-there-wanted-clause-goes_on
+returns-then-there-wanted-clause-goes_on c = grown_order c.args.store.now c.grow.new.store c.args.regions.now c.grow.new.regions _ c.grow.ensures.grows c.grow.ensures.order
+
+pub returns-clause-goes_on : goal.returns-clause-goes_on
+returns-clause-goes_on c = shrunk_order c.args.store.now c.cut.new.store c.args.regions.now c.cut.new.regions c.cut.ensures.shrinks c.cut.ensures.order

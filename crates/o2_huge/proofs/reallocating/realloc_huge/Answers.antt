@@ -6,6 +6,7 @@ use Rattle.o2_huge.specs.Growth.{is_of_run}
 use Rattle.o2_huge.specs.Resized.{run_count}
 use Rattle.o2_huge.proofs.Keeping.{limits_kept}
 use Rattle.o2_huge.proofs.Asking.{huge_none, huge_other, without_refused}
+use Rattle.o2_changes.proofs.Framing.{for_refl}
 use Rattle.o2_huge.proofs.reallocating.realloc_huge.Goals as goal
 
 pub realloc_run-requires-clause-held : goal.realloc_run-requires-clause-held
@@ -58,3 +59,9 @@ returns-in-None-clause-holds g c = λ p o es em count runs full. inl (holds_refl
 
 pub returns-in-None-clause-idle : goal.returns-in-None-clause-idle
 returns-in-None-clause-idle g c = λ p o es em count runs full none. inl (record { device = refl; none = none })
+
+pub returns-in-None-run_at-clause-goes_on : goal.returns-in-None-run_at-clause-goes_on
+returns-in-None-run_at-clause-goes_on g c = for_refl c.args.images.now c.args.store.now c.args.regions.now c.requires.caller.order c.requires.backed.clean
+
+pub returns-in-None-clause-goes_on : goal.returns-in-None-clause-goes_on
+returns-in-None-clause-goes_on g c = for_refl c.args.images.now c.args.store.now c.args.regions.now c.requires.caller.order c.requires.backed.clean

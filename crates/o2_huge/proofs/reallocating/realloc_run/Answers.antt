@@ -12,6 +12,7 @@ use Rattle.o2_huge.specs.Growth.{is_of_run}
 use Rattle.o2_stands.specs.Runs.{AreRuns}
 use Rattle.o2_huge.proofs.Keeping.{limits_kept}
 use Rattle.o2_huge.proofs.Asking.{answers_as, asked_by, asked_in, by_full, by_good, changes_as, dropped_all, enough_there, fault_by, first_changes, fixed_there, full_in, grants_answer, grants_changes, held_first, huge_fault, inside_there, room_there, run_some, small_index, some_there, some_wanted, wanted_vacant, without_done, without_refused}
+use Rattle.o2_changes.proofs.Framing.{for_refl}
 use Rattle.o2_huge.proofs.reallocating.realloc_run.Goals as goal
 
 pub members_of-there-requires-clause-inside : goal.members_of-there-requires-clause-inside
@@ -50,7 +51,7 @@ returns-in-Some-clause-answer g c = λ p o es em count runs full.
     let n = c.members_of-there.result in
     let s = c.args.store.now in
     let m = c.args.regions.now in
-    let asked = asked_in p s m c.args.pid c.args.sel n c.args.held es em (asked_by s m c.args.pid c.args.sel n c.args.run.first c.args.run.count c.args.held first most c.law.ensures c.requires.named c.requires.process c.requires.held c.requires.first c.members_of-there.ensures.few c.members_of-there.ensures.members c.members_of-there.ensures.last) in
+    let asked = asked_in p s m c.args.pid c.args.sel n c.args.held es em (asked_by s m c.args.pid c.args.sel n c.args.run.first c.args.run.count c.args.held first most c.law.ensures c.requires.caller.named c.requires.caller.process c.requires.held c.requires.first c.members_of-there.ensures.few c.members_of-there.ensures.members c.members_of-there.ensures.last) in
     let all = subst AreRuns (sym em) runs in
     let sized = full_in p s m es em full in
     let same = count ∙ ap (λ (x : Maps). x.processes) (sym em) in
@@ -64,7 +65,7 @@ returns-in-Some-clause-registers g c = λ p o es em count runs full.
     let n = c.members_of-there.result in
     let s = c.args.store.now in
     let m = c.args.regions.now in
-    let asked = asked_in p s m c.args.pid c.args.sel n c.args.held es em (asked_by s m c.args.pid c.args.sel n c.args.run.first c.args.run.count c.args.held first most c.law.ensures c.requires.named c.requires.process c.requires.held c.requires.first c.members_of-there.ensures.few c.members_of-there.ensures.members c.members_of-there.ensures.last) in
+    let asked = asked_in p s m c.args.pid c.args.sel n c.args.held es em (asked_by s m c.args.pid c.args.sel n c.args.run.first c.args.run.count c.args.held first most c.law.ensures c.requires.caller.named c.requires.caller.process c.requires.held c.requires.first c.members_of-there.ensures.few c.members_of-there.ensures.members c.members_of-there.ensures.last) in
     let all = subst AreRuns (sym em) runs in
     let sized = full_in p s m es em full in
     let same = count ∙ ap (λ (x : Maps). x.processes) (sym em) in
@@ -78,7 +79,7 @@ returns-in-Some-clause-matches g c = λ p o w x es em count runs full ei eb tell
     let n = c.members_of-there.result in
     let s = c.args.store.now in
     let m = c.args.regions.now in
-    let asked = asked_in p s m c.args.pid c.args.sel n c.args.held es em (asked_by s m c.args.pid c.args.sel n c.args.run.first c.args.run.count c.args.held first most c.law.ensures c.requires.named c.requires.process c.requires.held c.requires.first c.members_of-there.ensures.few c.members_of-there.ensures.members c.members_of-there.ensures.last) in
+    let asked = asked_in p s m c.args.pid c.args.sel n c.args.held es em (asked_by s m c.args.pid c.args.sel n c.args.run.first c.args.run.count c.args.held first most c.law.ensures c.requires.caller.named c.requires.caller.process c.requires.held c.requires.first c.members_of-there.ensures.few c.members_of-there.ensures.members c.members_of-there.ensures.last) in
     let all = subst AreRuns (sym em) runs in
     let sized = full_in p s m es em full in
     let same = count ∙ ap (λ (x : Maps). x.processes) (sym em) in
@@ -95,7 +96,7 @@ returns-then-is_full-clause-answer g c = λ p o es em count runs full.
     let n = c.members_of-there.result in
     let s = c.args.store.now in
     let m = c.args.regions.now in
-    let asked = asked_in p s m c.args.pid c.args.sel n c.args.held es em (asked_by s m c.args.pid c.args.sel n c.args.run.first c.args.run.count c.args.held first most c.law.ensures c.requires.named c.requires.process c.requires.held c.requires.first c.members_of-there.ensures.few c.members_of-there.ensures.members c.members_of-there.ensures.last) in
+    let asked = asked_in p s m c.args.pid c.args.sel n c.args.held es em (asked_by s m c.args.pid c.args.sel n c.args.run.first c.args.run.count c.args.held first most c.law.ensures c.requires.caller.named c.requires.caller.process c.requires.held c.requires.first c.members_of-there.ensures.few c.members_of-there.ensures.members c.members_of-there.ensures.last) in
     let all = subst AreRuns (sym em) runs in
     let sized = full_in p s m es em full in
     let same = count ∙ ap (λ (x : Maps). x.processes) (sym em) in
@@ -109,7 +110,7 @@ returns-then-is_full-clause-registers g c = λ p o es em count runs full.
     let n = c.members_of-there.result in
     let s = c.args.store.now in
     let m = c.args.regions.now in
-    let asked = asked_in p s m c.args.pid c.args.sel n c.args.held es em (asked_by s m c.args.pid c.args.sel n c.args.run.first c.args.run.count c.args.held first most c.law.ensures c.requires.named c.requires.process c.requires.held c.requires.first c.members_of-there.ensures.few c.members_of-there.ensures.members c.members_of-there.ensures.last) in
+    let asked = asked_in p s m c.args.pid c.args.sel n c.args.held es em (asked_by s m c.args.pid c.args.sel n c.args.run.first c.args.run.count c.args.held first most c.law.ensures c.requires.caller.named c.requires.caller.process c.requires.held c.requires.first c.members_of-there.ensures.few c.members_of-there.ensures.members c.members_of-there.ensures.last) in
     let all = subst AreRuns (sym em) runs in
     let sized = full_in p s m es em full in
     let same = count ∙ ap (λ (x : Maps). x.processes) (sym em) in
@@ -123,7 +124,7 @@ returns-then-is_full-clause-matches g c = λ p o w x es em count runs full ei eb
     let n = c.members_of-there.result in
     let s = c.args.store.now in
     let m = c.args.regions.now in
-    let asked = asked_in p s m c.args.pid c.args.sel n c.args.held es em (asked_by s m c.args.pid c.args.sel n c.args.run.first c.args.run.count c.args.held first most c.law.ensures c.requires.named c.requires.process c.requires.held c.requires.first c.members_of-there.ensures.few c.members_of-there.ensures.members c.members_of-there.ensures.last) in
+    let asked = asked_in p s m c.args.pid c.args.sel n c.args.held es em (asked_by s m c.args.pid c.args.sel n c.args.run.first c.args.run.count c.args.held first most c.law.ensures c.requires.caller.named c.requires.caller.process c.requires.held c.requires.first c.members_of-there.ensures.few c.members_of-there.ensures.members c.members_of-there.ensures.last) in
     let all = subst AreRuns (sym em) runs in
     let sized = full_in p s m es em full in
     let same = count ∙ ap (λ (x : Maps). x.processes) (sym em) in
@@ -140,7 +141,7 @@ returns-else-is_full-clause-answer g c = λ p o es em count runs full.
     let n = c.members_of-there.result in
     let s = c.args.store.now in
     let m = c.args.regions.now in
-    let asked = asked_in p s m c.args.pid c.args.sel n c.args.held es em (asked_by s m c.args.pid c.args.sel n c.args.run.first c.args.run.count c.args.held first most c.law.ensures c.requires.named c.requires.process c.requires.held c.requires.first c.members_of-there.ensures.few c.members_of-there.ensures.members c.members_of-there.ensures.last) in
+    let asked = asked_in p s m c.args.pid c.args.sel n c.args.held es em (asked_by s m c.args.pid c.args.sel n c.args.run.first c.args.run.count c.args.held first most c.law.ensures c.requires.caller.named c.requires.caller.process c.requires.held c.requires.first c.members_of-there.ensures.few c.members_of-there.ensures.members c.members_of-there.ensures.last) in
     let all = subst AreRuns (sym em) runs in
     let sized = full_in p s m es em full in
     let same = count ∙ ap (λ (x : Maps). x.processes) (sym em) in
@@ -154,7 +155,7 @@ returns-else-is_full-clause-registers g c = λ p o es em count runs full.
     let n = c.members_of-there.result in
     let s = c.args.store.now in
     let m = c.args.regions.now in
-    let asked = asked_in p s m c.args.pid c.args.sel n c.args.held es em (asked_by s m c.args.pid c.args.sel n c.args.run.first c.args.run.count c.args.held first most c.law.ensures c.requires.named c.requires.process c.requires.held c.requires.first c.members_of-there.ensures.few c.members_of-there.ensures.members c.members_of-there.ensures.last) in
+    let asked = asked_in p s m c.args.pid c.args.sel n c.args.held es em (asked_by s m c.args.pid c.args.sel n c.args.run.first c.args.run.count c.args.held first most c.law.ensures c.requires.caller.named c.requires.caller.process c.requires.held c.requires.first c.members_of-there.ensures.few c.members_of-there.ensures.members c.members_of-there.ensures.last) in
     let all = subst AreRuns (sym em) runs in
     let sized = full_in p s m es em full in
     let same = count ∙ ap (λ (x : Maps). x.processes) (sym em) in
@@ -168,7 +169,7 @@ returns-else-is_full-clause-matches g c = λ p o w x es em count runs full ei eb
     let n = c.members_of-there.result in
     let s = c.args.store.now in
     let m = c.args.regions.now in
-    let asked = asked_in p s m c.args.pid c.args.sel n c.args.held es em (asked_by s m c.args.pid c.args.sel n c.args.run.first c.args.run.count c.args.held first most c.law.ensures c.requires.named c.requires.process c.requires.held c.requires.first c.members_of-there.ensures.few c.members_of-there.ensures.members c.members_of-there.ensures.last) in
+    let asked = asked_in p s m c.args.pid c.args.sel n c.args.held es em (asked_by s m c.args.pid c.args.sel n c.args.run.first c.args.run.count c.args.held first most c.law.ensures c.requires.caller.named c.requires.caller.process c.requires.held c.requires.first c.members_of-there.ensures.few c.members_of-there.ensures.members c.members_of-there.ensures.last) in
     let all = subst AreRuns (sym em) runs in
     let sized = full_in p s m es em full in
     let same = count ∙ ap (λ (x : Maps). x.processes) (sym em) in
@@ -184,7 +185,7 @@ returns-else-is_full-clause-no_room g c = λ p o es em count runs full e.
     let n = c.members_of-there.result in
     let s = c.args.store.now in
     let m = c.args.regions.now in
-    let asked = asked_in p s m c.args.pid c.args.sel n c.args.held es em (asked_by s m c.args.pid c.args.sel n c.args.run.first c.args.run.count c.args.held first most c.law.ensures c.requires.named c.requires.process c.requires.held c.requires.first c.members_of-there.ensures.few c.members_of-there.ensures.members c.members_of-there.ensures.last) in
+    let asked = asked_in p s m c.args.pid c.args.sel n c.args.held es em (asked_by s m c.args.pid c.args.sel n c.args.run.first c.args.run.count c.args.held first most c.law.ensures c.requires.caller.named c.requires.caller.process c.requires.held c.requires.first c.members_of-there.ensures.few c.members_of-there.ensures.members c.members_of-there.ensures.last) in
     let all = subst AreRuns (sym em) runs in
     let sized = full_in p s m es em full in
     let same = count ∙ ap (λ (x : Maps). x.processes) (sym em) in
@@ -198,7 +199,7 @@ returns-else-is_full-clause-all_load g c = λ p o es em count runs full e.
     let n = c.members_of-there.result in
     let s = c.args.store.now in
     let m = c.args.regions.now in
-    let asked = asked_in p s m c.args.pid c.args.sel n c.args.held es em (asked_by s m c.args.pid c.args.sel n c.args.run.first c.args.run.count c.args.held first most c.law.ensures c.requires.named c.requires.process c.requires.held c.requires.first c.members_of-there.ensures.few c.members_of-there.ensures.members c.members_of-there.ensures.last) in
+    let asked = asked_in p s m c.args.pid c.args.sel n c.args.held es em (asked_by s m c.args.pid c.args.sel n c.args.run.first c.args.run.count c.args.held first most c.law.ensures c.requires.caller.named c.requires.caller.process c.requires.held c.requires.first c.members_of-there.ensures.few c.members_of-there.ensures.members c.members_of-there.ensures.last) in
     let all = subst AreRuns (sym em) runs in
     let sized = full_in p s m es em full in
     let same = count ∙ ap (λ (x : Maps). x.processes) (sym em) in
@@ -224,7 +225,7 @@ returns-else-is_full-clause-holds g c = λ p o es em count runs full.
     let n = c.members_of-there.result in
     let s = c.args.store.now in
     let m = c.args.regions.now in
-    let asked = asked_in p s m c.args.pid c.args.sel n c.args.held es em (asked_by s m c.args.pid c.args.sel n c.args.run.first c.args.run.count c.args.held first most c.law.ensures c.requires.named c.requires.process c.requires.held c.requires.first c.members_of-there.ensures.few c.members_of-there.ensures.members c.members_of-there.ensures.last) in
+    let asked = asked_in p s m c.args.pid c.args.sel n c.args.held es em (asked_by s m c.args.pid c.args.sel n c.args.run.first c.args.run.count c.args.held first most c.law.ensures c.requires.caller.named c.requires.caller.process c.requires.held c.requires.first c.members_of-there.ensures.few c.members_of-there.ensures.members c.members_of-there.ensures.last) in
     let all = subst AreRuns (sym em) runs in
     let sized = full_in p s m es em full in
     let same = count ∙ ap (λ (x : Maps). x.processes) (sym em) in
@@ -241,7 +242,7 @@ returns-else-is_full-clause-idle g c = λ p o es em count runs full none.
     let n = c.members_of-there.result in
     let s = c.args.store.now in
     let m = c.args.regions.now in
-    let asked = asked_in p s m c.args.pid c.args.sel n c.args.held es em (asked_by s m c.args.pid c.args.sel n c.args.run.first c.args.run.count c.args.held first most c.law.ensures c.requires.named c.requires.process c.requires.held c.requires.first c.members_of-there.ensures.few c.members_of-there.ensures.members c.members_of-there.ensures.last) in
+    let asked = asked_in p s m c.args.pid c.args.sel n c.args.held es em (asked_by s m c.args.pid c.args.sel n c.args.run.first c.args.run.count c.args.held first most c.law.ensures c.requires.caller.named c.requires.caller.process c.requires.held c.requires.first c.members_of-there.ensures.few c.members_of-there.ensures.members c.members_of-there.ensures.last) in
     let all = subst AreRuns (sym em) runs in
     let sized = full_in p s m es em full in
     let same = count ∙ ap (λ (x : Maps). x.processes) (sym em) in
@@ -250,3 +251,9 @@ returns-else-is_full-clause-idle g c = λ p o es em count runs full none.
       | inl i ↦ inl i
       | inr more ↦ inr (first_changes s _ _ _ _ (by_good p o c.args.pid c.args.segs c.args.part c.args.sel c.args.cpu.now n c.args.held asked all sized same c.args.run.first c.args.run.count c.saturating_sub-more.result s m es em first most (c.saturating_sub-more.ensures ∙ ap (λ (y : ℕ). y - n) c.wanted_of.ensures) fault (c.is_full.ensures.few c.if-is_full.false)) more)
     ])
+
+pub returns-in-Some-clause-goes_on : goal.returns-in-Some-clause-goes_on
+returns-in-Some-clause-goes_on g c = for_refl c.args.images.now c.args.store.now c.args.regions.now c.requires.caller.order c.requires.backed.clean
+
+pub returns-then-is_full-clause-goes_on : goal.returns-then-is_full-clause-goes_on
+returns-then-is_full-clause-goes_on g c = for_refl c.args.images.now c.args.store.now c.args.regions.now c.requires.caller.order c.requires.backed.clean

@@ -5,6 +5,8 @@ use Rattle.o2_segs.proofs.Stops.{not_here, stop_fault, stop_full, stop_room, was
 use Rattle.o2_huge.specs.Growth.{sized_there}
 use Rattle.o2_huge.specs.Resized.{MatchesSized}
 use Rattle.o2_huge.proofs.Sizing.{first_sized, is_sized, none_matches, not_sized, rest_moved, rest_same, rest_sized, same_stop, size_matches, stop_is}
+use Rattle.o2_store.proofs.Framing.{device_for}
+use Rattle.o2_changes.proofs.Framing.{for_refl}
 use Rattle.o2_huge.proofs.reallocating.resize_member.Goals as goal
 
 pub returns-then-has_size-clause-matches : goal.returns-then-has_size-clause-matches
@@ -24,9 +26,6 @@ returns-in-Some-stop_of-clause-stop g c = stop_is c.resize.result c.in-Some-stop
 pub returns-in-Some-stop_of-clause-rest : goal.returns-in-Some-stop_of-clause-rest
 returns-in-Some-stop_of-clause-rest g c = rest_moved c.args.store.now c.resize.new.store (c.resize.ensures.keeps (not_here c.resize.result c.in-Some-stop_of.stop c.in-Some-stop_of.ensures)).tables
 
-pub returns-in-Some-stop_of-clause-pictures : goal.returns-in-Some-stop_of-clause-pictures
-returns-in-Some-stop_of-clause-pictures g c = λ was. c.resize.ensures.pictures c.args.images.now was
-
 pub returns-in-Some-stop_of-clause-no_room : goal.returns-in-Some-stop_of-clause-no_room
 returns-in-Some-stop_of-clause-no_room g c = λ e.
     (let lacks = c.resize.ensures.no_room (stop_room c.resize.result c.in-Some-stop_of.stop c.in-Some-stop_of.ensures (same_stop _ _ e)) in
@@ -43,9 +42,6 @@ returns-in-Some-stop_of-clause-all_load g c = λ e.
 pub returns-in-Some-stop_of-clause-load : goal.returns-in-Some-stop_of-clause-load
 returns-in-Some-stop_of-clause-load g c = λ e. (c.resize.ensures.loads (stop_full c.resize.result c.in-Some-stop_of.stop c.in-Some-stop_of.ensures (same_stop _ _ e))).0
 
-pub returns-in-Some-stop_of-clause-cause : goal.returns-in-Some-stop_of-clause-cause
-returns-in-Some-stop_of-clause-cause g c = λ e. c.resize.ensures.cause (stop_fault c.resize.result c.in-Some-stop_of.stop c.in-Some-stop_of.ensures (same_stop _ _ e))
-
 pub returns-in-None-stop_of-clause-matches : goal.returns-in-None-stop_of-clause-matches
 returns-in-None-stop_of-clause-matches g c = λ e.
     subst (MatchesSized _ _ _ _ _ _ _ _)
@@ -54,9 +50,6 @@ returns-in-None-stop_of-clause-matches g c = λ e.
 
 pub returns-in-None-stop_of-clause-rest : goal.returns-in-None-stop_of-clause-rest
 returns-in-None-stop_of-clause-rest g c = rest_sized _ _ c.args.store.now c.resize.new.store _ _ _ _ (c.resize.ensures.resized (was_here c.resize.result c.in-None-stop_of.ensures c.resize.ensures.never))
-
-pub returns-in-None-stop_of-clause-pictures : goal.returns-in-None-stop_of-clause-pictures
-returns-in-None-stop_of-clause-pictures g c = λ was. c.resize.ensures.pictures c.args.images.now was
 
 pub returns-in-None-clause-matches : goal.returns-in-None-clause-matches
 returns-in-None-clause-matches g c = λ e.
@@ -96,3 +89,15 @@ returns-in-None-stop_of-clause-idle g c = λ none.
       | inl i ↦ inl i
       | inr more ↦ inr (first_sized c.args.store.now c.in-Some.held.id c.full_size-bytes.result _ _ (c.requires.order.held.live c.args.pid c.args.index c.in-Some.held (sym c.in-Some.ensures.held)) (ap (sized_there c.args.store.now c.args.size) (sym c.in-Some.ensures.held) ∙ is_sized c.args.store.now c.args.size c.full_size-bytes.result c.in-Some.held c.full_size-bytes.ensures.size (sym c.if-has_size.ensures)) more)
     ]
+
+pub returns-then-has_size-clause-goes_on : goal.returns-then-has_size-clause-goes_on
+returns-then-has_size-clause-goes_on g c = for_refl c.args.images.now c.args.store.now c.args.regions.now c.requires.order c.requires.backed.clean
+
+pub returns-in-None-clause-goes_on : goal.returns-in-None-clause-goes_on
+returns-in-None-clause-goes_on g c = for_refl c.args.images.now c.args.store.now c.args.regions.now c.requires.order c.requires.backed.clean
+
+pub returns-in-Some-stop_of-clause-device : goal.returns-in-Some-stop_of-clause-device
+returns-in-Some-stop_of-clause-device g c = device_for _ _ _ _ _ _ _ (λ e. stop_fault c.resize.result c.in-Some-stop_of.stop c.in-Some-stop_of.ensures (same_stop _ _ e)) c.resize.ensures.device
+
+pub returns-in-None-stop_of-clause-device : goal.returns-in-None-stop_of-clause-device
+returns-in-None-stop_of-clause-device g c = device_for _ _ _ _ _ _ _ (λ e. absurd (cc)) c.resize.ensures.device

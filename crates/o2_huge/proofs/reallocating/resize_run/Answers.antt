@@ -2,7 +2,6 @@ use Rattle.std.proofs.Common.{Bool, inl, inr, Some, ap, arith, cond, refl, subst
 use Rattle.std.proofs.lemmas.Bool.{cond-false}
 use Rattle.o2_regions.specs.Maps.{Maps}
 use Rattle.o2_stands.proofs.Moves.{held_same}
-use Rattle.o2_store.specs.Pictures.{picture}
 use Rattle.o2_huge.specs.Resized.{MatchesSized, changed_in, is_done, sized_last}
 use Rattle.std.specs.List.{list_any}
 use Rattle.o2_changes.proofs.KeepingHolds.{holds_trans, told_holds}
@@ -12,6 +11,8 @@ use Rattle.o2_world.specs.Changes.{takes}
 use Rattle.o2_huge.proofs.Changing.{changed_same, resized_matches, sized_last_is, stopped_matches, takes_behind}
 use Rattle.o2_huge.proofs.Shares.{vacant_still}
 use Rattle.o2_huge.proofs.Sizing.{done_is, first_as, never_done, not_done}
+use Rattle.o2_store.proofs.Framing.{device_for}
+use Rattle.o2_changes.proofs.Framing.{for_then}
 use Rattle.o2_huge.proofs.reallocating.resize_run.Goals as goal
 
 pub returns-in-Some-clause-done : goal.returns-in-Some-clause-done
@@ -58,9 +59,6 @@ returns-in-Some-clause-all_load g c = λ e.
 
 pub returns-in-Some-clause-load : goal.returns-in-Some-clause-load
 returns-in-Some-clause-load g c = λ e. c.in-Some.ensures.load (ap Some e)
-
-pub returns-in-Some-clause-cause : goal.returns-in-Some-clause-cause
-returns-in-Some-clause-cause g c = λ e. c.in-Some.ensures.cause (ap Some e)
 
 pub change_members-requires-clause-process : goal.change_members-requires-clause-process
 change_members-requires-clause-process g c = (c.requires.process.0, (let a = c.requires.process.1 in let e = ap (λ (x : Maps). x.processes) c.resize_member.ensures.maps.rest in omega (arith, a, e)))
@@ -126,24 +124,24 @@ returns-in-None-clause-holds g c =
 pub returns-in-None-clause-idle : goal.returns-in-None-clause-idle
 returns-in-None-clause-idle g c = λ none.
     elim (c.resize_member.ensures.idle none) [
-      | inl i ↦ inl (record { device = i.device; none = c.change_members.ensures.unused i.none })
+      | inl i ↦ inl (record { device = i.device; none = c.change_members.ensures.goes_on.unused i.none })
       | inr more ↦ inr (first_as c.args.store.now _ _ _ (sized_last_is c.args.store.now c.args.regions.now c.args.pid c.args.run.first c.args.there c.args.segs c.args.part c.size_of_last-size.result c.last_of-last.result c.size_of_last-size.ensures c.last_of-last.ensures) more)
     ]
 
 pub returns-in-None-clause-processes : goal.returns-in-None-clause-processes
 returns-in-None-clause-processes g c = c.change_members.ensures.processes ∙ ap (λ (x : Maps). x.processes) c.resize_member.ensures.maps.rest
 
-pub returns-in-None-clause-guards : goal.returns-in-None-clause-guards
-returns-in-None-clause-guards g c = λ was. c.change_members.ensures.guards (c.resize_member.ensures.guards was)
-
-pub returns-in-None-clause-clean : goal.returns-in-None-clause-clean
-returns-in-None-clause-clean g c = c.change_members.ensures.clean (picture c.args.images.now) c.resize_member.ensures.clean
-
-pub returns-in-None-clause-pictures : goal.returns-in-None-clause-pictures
-returns-in-None-clause-pictures g c = λ was. c.change_members.ensures.pictures c.args.images.now (c.resize_member.ensures.pictures was)
-
-pub returns-in-None-clause-map : goal.returns-in-None-clause-map
-returns-in-None-clause-map g c = c.change_members.ensures.map ∙ c.resize_member.ensures.map
-
 pub returns-in-None-clause-kept : goal.returns-in-None-clause-kept
 returns-in-None-clause-kept g c = λ k named some here. c.change_members.ensures.kept k some (c.resize_member.ensures.kept k named here)
+
+pub change_members-requires-clause-order : goal.change_members-requires-clause-order
+change_members-requires-clause-order g c = c.resize_member.ensures.goes_on.order
+
+pub returns-in-None-clause-goes_on : goal.returns-in-None-clause-goes_on
+returns-in-None-clause-goes_on g c = for_then c.args.images.now c.args.store.now c.resize_member.new.store c.change_members.new.store c.args.regions.now c.resize_member.new.regions c.change_members.new.regions c.resize_member.ensures.goes_on c.change_members.ensures.goes_on
+
+pub returns-in-Some-clause-device : goal.returns-in-Some-clause-device
+returns-in-Some-clause-device g c = device_for _ _ _ _ _ _ _ (λ e. ap Some e) c.in-Some.ensures.device
+
+pub returns-in-None-clause-device : goal.returns-in-None-clause-device
+returns-in-None-clause-device g c = device_for _ _ _ _ _ _ _ (λ e. absurd (cc)) c.resize_member.ensures.device

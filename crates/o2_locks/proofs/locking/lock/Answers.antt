@@ -5,25 +5,24 @@ use Rattle.o2_entries.specs.Tables.{slot_at}
 use Rattle.o2_changes.proofs.KeepingHolds.{told_holds}
 use Rattle.o2_changes.proofs.Segmenting.{attr_there}
 use Rattle.o2_service.proofs.Among.{live_same}
-use Rattle.o2_store.specs.Pictures.{picture}
-use Rattle.o2_changes.proofs.LocksStand.{locked_clean}
 use Rattle.o2_stands.specs.Moves.{moved}
 use Rattle.o2_world.specs.Rulings.{locking_with}
 use Rattle.o2_segs.proofs.Resizing.{refusal_moved, stopped_matches}
 use Rattle.o2_segs.proofs.Rows.{done_answers, refusal_answers}
-use Rattle.o2_segs.proofs.Stops.{error_none, stop_answers, stop_room, was_here}
+use Rattle.o2_segs.proofs.Stops.{error_none, stop_answers, stop_room, was_here, stop_fault}
 use Rattle.o2_store.proofs.Tables.{locked_at}
 use Rattle.o2_world.specs.Changes.{Locks, with_change}
 use Rattle.o2_segs.proofs.Making.{moved_made}
 use Rattle.o2_locks.proofs.Rows.{lock_done, lock_plain, locked_matches, none_less}
 use Rattle.o2_store.specs.Shelf.{Shelf, entry, entry_of, place_of}
-use Rattle.o2_regions.specs.Maps.{Maps}
 use Rattle.o2_segs.proofs.Sharing.{alive_tables}
 use Rattle.o2_segs.proofs.Limits.{limits_locked, limits_moved, limits_refl, limits_then}
 use Rattle.o2_store.specs.Idle.{NoneTaken}
 use Rattle.o2_store.proofs.Idling.{idle_or}
 use Rattle.o2_segs.proofs.Idling.{unrefused_by}
 use Rattle.o2_regions.specs.declared.answer.Answer.{Answer}
+use Rattle.o2_store.proofs.Framing.{device_for}
+use Rattle.o2_changes.proofs.Framing.{for_refl, for_order, for_then}
 use Rattle.o2_locks.proofs.locking.lock.Goals as goal
 
 pub returns-then-not-is_discardable-clause-answer : goal.returns-then-not-is_discardable-clause-answer
@@ -67,10 +66,6 @@ returns-in-None-stop_of-clause-matches g c = λ m p w is es em ei eb tells q.
     locked_matches p w c.set_lock-in-None-stop_of.new.store c.bring_in.new.regions (g.S.SwapDevice.block c.bring_in.new.swap) c.args.id (min ((entry s c.args.id.key).attr.lock + 1) 255) c.saturating_add-in-None-stop_of.result (locking_with c.args.id.age (Some m)) (lock_done c.args.id.age (entry s c.args.id.key).attr m is (ap (λ (a : Attr). has_bit a.flags 2) (sym at) ∙ sym c.if-not-is_discardable.ensures)) (c.saturating_add-in-None-stop_of.ensures ∙ ap (λ (a : Attr). min (a.lock + 1) 255) at)
     (c.set_lock-in-None-stop_of.ensures.matches.world (moved p c.bring_in.new.store c.bring_in.new.regions (g.S.SwapDevice.block c.bring_in.new.swap)) w refl refl (c.bring_in.ensures.matches.world p w es em ei eb tells q)))
 
-pub returns-in-None-stop_of-clause-clean : goal.returns-in-None-stop_of-clause-clean
-returns-in-None-stop_of-clause-clean g c =
-    locked_clean c.bring_in.new.store c.set_lock-in-None-stop_of.new.store c.args.id c.saturating_add-in-None-stop_of.result (live_same c.args.store.now c.bring_in.new.store c.args.id c.bring_in.ensures.keeps.tables c.requires.live) c.set_lock-in-None-stop_of.ensures.sets (picture c.args.images.now) c.bring_in.ensures.clean
-
 pub returns-in-Some-stop_of-clause-stops : goal.returns-in-Some-stop_of-clause-stops
 returns-in-Some-stop_of-clause-stops g c = λ stop.
     (let s = c.args.store.now in
@@ -96,22 +91,6 @@ returns-then-attr-gt0-clause-matches g c = λ m p w is es em ei eb tells q.
     locked_matches p w c.set_lock.new.store c.args.regions.now (g.S.SwapDevice.block c.args.swap.now) c.args.id (min ((entry s c.args.id.key).attr.lock + 1) 255) c.saturating_add.result (locking_with c.args.id.age (Some m)) (lock_done c.args.id.age (entry s c.args.id.key).attr m is (ap (λ (a : Attr). has_bit a.flags 2) (sym at) ∙ sym c.if-not-is_discardable.ensures)) (c.saturating_add.ensures ∙ ap (λ (a : Attr). min (a.lock + 1) 255) at)
     (moved_made p (with_change w (Locks c.args.id.age c.saturating_add.result)) c.set_lock.new.store c.args.regions.now (g.S.SwapDevice.block c.args.swap.now) em eb (c.set_lock.ensures.matches.world p w es em q)))
 
-pub returns-then-attr-gt0-clause-clean : goal.returns-then-attr-gt0-clause-clean
-returns-then-attr-gt0-clause-clean g c =
-    locked_clean c.args.store.now c.set_lock.new.store c.args.id c.saturating_add.result c.requires.live c.set_lock.ensures.sets (picture c.args.images.now) c.requires.clean
-
-pub returns-in-None-stop_of-clause-guards : goal.returns-in-None-stop_of-clause-guards
-returns-in-None-stop_of-clause-guards g c = λ was. c.set_lock-in-None-stop_of.ensures.guards (c.bring_in.ensures.guards was)
-
-pub returns-in-Some-stop_of-clause-pictures : goal.returns-in-Some-stop_of-clause-pictures
-returns-in-Some-stop_of-clause-pictures g c = c.bring_in.ensures.pictures c.args.images.now c.requires.pictures
-
-pub returns-in-None-stop_of-clause-pictures : goal.returns-in-None-stop_of-clause-pictures
-returns-in-None-stop_of-clause-pictures g c = c.set_lock-in-None-stop_of.ensures.pictures c.args.images.now (c.bring_in.ensures.pictures c.args.images.now c.requires.pictures)
-
-pub returns-then-attr-gt0-clause-pictures : goal.returns-then-attr-gt0-clause-pictures
-returns-then-attr-gt0-clause-pictures g c = c.set_lock.ensures.pictures c.args.images.now c.requires.pictures
-
 pub returns-in-None-stop_of-clause-kept : goal.returns-in-None-stop_of-clause-kept
 returns-in-None-stop_of-clause-kept g c = λ k named here. subst (λ (o : Option (ℕ × ℕ)). IsSome o) (sym (ap (λ (x : Shelf). place_of x k) c.set_lock-in-None-stop_of.ensures.sets.shelf)) (c.bring_in.ensures.kept k named here)
 
@@ -120,12 +99,6 @@ returns-then-attr-gt0-clause-kept g c = λ k named here. subst (λ (o : Option (
 
 pub returns-in-Some-stop_of-clause-no_room : goal.returns-in-Some-stop_of-clause-no_room
 returns-in-Some-stop_of-clause-no_room g c = λ e. c.bring_in.ensures.no_room (stop_room c.bring_in.result c.in-Some-stop_of.stop c.in-Some-stop_of.ensures e)
-
-pub returns-in-Some-stop_of-clause-processes : goal.returns-in-Some-stop_of-clause-processes
-returns-in-Some-stop_of-clause-processes g c = ap (λ (x : Maps). x.processes) c.bring_in.ensures.maps.rest
-
-pub returns-in-None-stop_of-clause-processes : goal.returns-in-None-stop_of-clause-processes
-returns-in-None-stop_of-clause-processes g c = ap (λ (x : Maps). x.processes) c.bring_in.ensures.maps.rest
 
 pub returns-then-not-is_discardable-clause-limits : goal.returns-then-not-is_discardable-clause-limits
 returns-then-not-is_discardable-clause-limits g c = limits_refl c.args.store.now c.args.regions.now
@@ -166,3 +139,21 @@ returns-in-None-stop_of-clause-idle g c = λ none.
       | inl i ↦ inl (record { device = i.device; none = subst NoneTaken (sym (ap (λ (x : Shelf). x.swap) c.set_lock-in-None-stop_of.ensures.sets.shelf)) i.none })
       | inr more ↦ inr (ap (λ (x : Answer). x.error) c.done-in-None-stop_of.ensures, more)
     ]
+
+pub returns-then-not-is_discardable-clause-goes_on : goal.returns-then-not-is_discardable-clause-goes_on
+returns-then-not-is_discardable-clause-goes_on g c = for_refl c.args.images.now c.args.store.now c.args.regions.now c.requires.order c.requires.backed.clean
+
+pub returns-in-None-clause-goes_on : goal.returns-in-None-clause-goes_on
+returns-in-None-clause-goes_on g c = for_refl c.args.images.now c.args.store.now c.args.regions.now c.requires.order c.requires.backed.clean
+
+pub returns-then-attr-gt0-clause-goes_on : goal.returns-then-attr-gt0-clause-goes_on
+returns-then-attr-gt0-clause-goes_on g c = for_order c.args.images.now c.args.store.now c.set_lock.new.store c.args.regions.now c.args.regions.now c.set_lock.ensures.goes_on c.requires.backed.clean
+
+pub returns-in-None-stop_of-clause-goes_on : goal.returns-in-None-stop_of-clause-goes_on
+returns-in-None-stop_of-clause-goes_on g c = for_then c.args.images.now c.args.store.now c.bring_in.new.store c.set_lock-in-None-stop_of.new.store c.args.regions.now c.bring_in.new.regions c.bring_in.new.regions c.bring_in.ensures.goes_on c.set_lock-in-None-stop_of.ensures.goes_on
+
+pub returns-in-Some-stop_of-clause-device : goal.returns-in-Some-stop_of-clause-device
+returns-in-Some-stop_of-clause-device g c = device_for _ _ _ _ _ _ _ (λ e. stop_fault c.bring_in.result c.in-Some-stop_of.stop c.in-Some-stop_of.ensures e) c.bring_in.ensures.device
+
+pub returns-in-None-stop_of-clause-device : goal.returns-in-None-stop_of-clause-device
+returns-in-None-stop_of-clause-device g c = device_for _ _ _ _ _ _ _ (λ e. absurd (cc)) c.bring_in.ensures.device

@@ -13,18 +13,19 @@ use Rattle.o2_world.specs.Changes.{with_all}
 use Rattle.o2_world.specs.Rulings.{Ruling}
 use Rattle.o2_locks.proofs.Rows.{lock_none, lock_some, marked}
 use Rattle.o2_segs.proofs.Limits.{limits_refl}
+use Rattle.o2_changes.proofs.Framing.{for_refl}
 use Rattle.o2_locks.proofs.locking.lock_seg.Goals as goal
 
 pub returns-in-Some-clause-answer : goal.returns-in-Some-clause-answer
 returns-in-Some-clause-answer g c = λ p o es em.
     (let id = c.in-Some.held.id in
-    subst (λ (r : Ruling). AnswersRoomed r c.lock.result) (sym (lock_some p o c.args.pid c.args.sel c.in-Some.held (named_in p c.args.store.now c.args.regions.now es em c.requires.named) (at_maps p c.args.regions.now c.args.pid c.args.sel _ em (sym c.in-Some.ensures))))
+    subst (λ (r : Ruling). AnswersRoomed r c.lock.result) (sym (lock_some p o c.args.pid c.args.sel c.in-Some.held (named_in p c.args.store.now c.args.regions.now es em c.requires.caller.named) (at_maps p c.args.regions.now c.args.pid c.args.sel _ em (sym c.in-Some.ensures))))
     (c.lock.ensures.answer (marks_under p o id.age id.key) (marked p o c.args.store.now id.age id.key es)))
 
 pub returns-in-Some-clause-matches : goal.returns-in-Some-clause-matches
 returns-in-Some-clause-matches g c = λ p o w es em ei eb tells q.
     (let id = c.in-Some.held.id in
-    subst (λ (r : Ruling). Matches (moved p c.lock.new.store c.lock.new.regions (g.S.SwapDevice.block c.lock.new.swap)) (with_all w (changes_roomed r c.lock.result))) (sym (lock_some p o c.args.pid c.args.sel c.in-Some.held (named_in p c.args.store.now c.args.regions.now es em c.requires.named) (at_maps p c.args.regions.now c.args.pid c.args.sel _ em (sym c.in-Some.ensures))))
+    subst (λ (r : Ruling). Matches (moved p c.lock.new.store c.lock.new.regions (g.S.SwapDevice.block c.lock.new.swap)) (with_all w (changes_roomed r c.lock.result))) (sym (lock_some p o c.args.pid c.args.sel c.in-Some.held (named_in p c.args.store.now c.args.regions.now es em c.requires.caller.named) (at_maps p c.args.regions.now c.args.pid c.args.sel _ em (sym c.in-Some.ensures))))
     (c.lock.ensures.matches (marks_under p o id.age id.key) p w (marked p o c.args.store.now id.age id.key es) es em ei eb tells q))
 
 pub returns-in-None-clause-answer : goal.returns-in-None-clause-answer
@@ -44,3 +45,6 @@ returns-in-Some-clause-no_room g c = λ e.
 
 pub returns-in-None-clause-limits : goal.returns-in-None-clause-limits
 returns-in-None-clause-limits g c = limits_refl c.args.store.now c.args.regions.now
+
+pub returns-in-None-clause-goes_on : goal.returns-in-None-clause-goes_on
+returns-in-None-clause-goes_on g c = for_refl c.args.images.now c.args.store.now c.args.regions.now c.requires.caller.order c.requires.backed.clean

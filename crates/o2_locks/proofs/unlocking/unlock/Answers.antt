@@ -8,7 +8,7 @@ use Rattle.o2_changes.proofs.Segmenting.{attr_there}
 use Rattle.o2_segs.proofs.Rows.{done_answers, refusal_answers, refusal_shelf}
 use Rattle.o2_locks.proofs.Rows.{done_matches, positive, unlock_done, unlock_open, unlock_plain}
 use Rattle.o2_segs.proofs.Limits.{limits_locked, limits_refl}
-use Rattle.o2_store.specs.Idle.{NoneTaken}
+use Rattle.o2_changes.proofs.Framing.{order_refl}
 use Rattle.o2_locks.proofs.unlocking.unlock.Goals as goal
 
 pub returns-then-not-is_discardable-clause-answer : goal.returns-then-not-is_discardable-clause-answer
@@ -78,5 +78,11 @@ returns-else-attr-eq0-clause-limits c = limits_locked c.args.store.now c.set_loc
 pub returns-in-None-clause-limits : goal.returns-in-None-clause-limits
 returns-in-None-clause-limits c = limits_refl c.args.store.now c.args.regions.now
 
-pub returns-else-attr-eq0-clause-unused : goal.returns-else-attr-eq0-clause-unused
-returns-else-attr-eq0-clause-unused c = λ none. subst NoneTaken (sym (ap (λ (x : Shelf). x.swap) c.set_lock.ensures.sets.shelf)) none
+pub returns-then-not-is_discardable-clause-goes_on : goal.returns-then-not-is_discardable-clause-goes_on
+returns-then-not-is_discardable-clause-goes_on c = order_refl c.args.store.now c.args.regions.now c.requires.order
+
+pub returns-then-attr-eq0-clause-goes_on : goal.returns-then-attr-eq0-clause-goes_on
+returns-then-attr-eq0-clause-goes_on c = order_refl c.args.store.now c.args.regions.now c.requires.order
+
+pub returns-in-None-clause-goes_on : goal.returns-in-None-clause-goes_on
+returns-in-None-clause-goes_on c = order_refl c.args.store.now c.args.regions.now c.requires.order

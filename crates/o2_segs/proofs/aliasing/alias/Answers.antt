@@ -1,6 +1,7 @@
 use Rattle.std.proofs.Common.{refl}
 use Rattle.o2_segs.proofs.Limits.{limits_held, limits_refl}
 use Rattle.o2_segs.proofs.Sharing.{new_alias, own_run}
+use Rattle.o2_changes.proofs.Framing.{order_refl}
 use Rattle.o2_segs.proofs.aliasing.alias.Goals as goal
 
 pub returns-in-Some-clause-limits : goal.returns-in-Some-clause-limits
@@ -8,3 +9,6 @@ returns-in-Some-clause-limits c = limits_held c.args.store.now c.args.regions.no
 
 pub returns-in-None-clause-limits : goal.returns-in-None-clause-limits
 returns-in-None-clause-limits c = limits_refl c.args.store.now c.args.regions.now
+
+pub returns-in-None-clause-goes_on : goal.returns-in-None-clause-goes_on
+returns-in-None-clause-goes_on c = order_refl c.args.store.now c.args.regions.now c.requires.order

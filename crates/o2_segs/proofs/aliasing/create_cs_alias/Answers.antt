@@ -2,6 +2,7 @@ use Rattle.std.proofs.Common.{true, sym}
 use Rattle.o2_segs.proofs.Rows.{alias_all_answers, alias_all_matches, alias_none, alias_refused, at_maps, at_rights, refusal_answers, refusal_maps}
 use Rattle.o2_segs.proofs.Limits.{limits_refl}
 use Rattle.o2_segs.proofs.Sharing.{low_under}
+use Rattle.o2_changes.proofs.Framing.{order_refl}
 use Rattle.o2_segs.proofs.aliasing.create_cs_alias.Goals as goal
 
 pub returns-then-has_no_alias-clause-answer : goal.returns-then-has_no_alias-clause-answer
@@ -14,12 +15,12 @@ returns-then-has_no_alias-clause-matches c = λ p o w x es em at q.
 
 pub returns-else-has_no_alias-clause-answer : goal.returns-else-has_no_alias-clause-answer
 returns-else-has_no_alias-clause-answer c = λ p o es em.
-    alias_all_answers p o c.args.regions.now c.args.pid c.args.sel c.in-Some.held c.alias.result c.requires.process.0 em (sym c.in-Some.ensures) (sym c.if-has_no_alias.ensures)
+    alias_all_answers p o c.args.regions.now c.args.pid c.args.sel c.in-Some.held c.alias.result c.requires.caller.process.0 em (sym c.in-Some.ensures) (sym c.if-has_no_alias.ensures)
     (λ e. (c.alias.ensures.full e).0) (λ i e. (c.alias.ensures.aliased i e).0)
 
 pub returns-else-has_no_alias-clause-matches : goal.returns-else-has_no_alias-clause-matches
 returns-else-has_no_alias-clause-matches c = λ p o w x es em at q.
-    alias_all_matches p o c.args.store.now c.args.regions.now c.alias.new.regions c.args.pid c.args.sel c.in-Some.held w x c.requires.process.0 es em (sym c.in-Some.ensures) (sym c.if-has_no_alias.ensures)
+    alias_all_matches p o c.args.store.now c.args.regions.now c.alias.new.regions c.args.pid c.args.sel c.in-Some.held w x c.requires.caller.process.0 es em (sym c.in-Some.ensures) (sym c.if-has_no_alias.ensures)
     (λ e. (c.alias.ensures.full e).1) (λ i e. (c.alias.ensures.aliased i e).1) at q
 
 pub returns-in-None-clause-answer : goal.returns-in-None-clause-answer
@@ -39,3 +40,9 @@ returns-in-None-clause-limits c = limits_refl c.args.store.now c.args.regions.no
 pub alias-requires-clause-own : goal.alias-requires-clause-own
 alias-requires-clause-own c =
     low_under c.args.regions.now c.args.pid c.args.sel c.in-Some.held _ (sym c.in-Some.ensures) (sym c.if-has_no_alias.ensures)
+
+pub returns-then-has_no_alias-clause-goes_on : goal.returns-then-has_no_alias-clause-goes_on
+returns-then-has_no_alias-clause-goes_on c = order_refl c.args.store.now c.args.regions.now c.requires.caller.order
+
+pub returns-in-None-clause-goes_on : goal.returns-in-None-clause-goes_on
+returns-in-None-clause-goes_on c = order_refl c.args.store.now c.args.regions.now c.requires.caller.order

@@ -12,6 +12,7 @@ use Rattle.o2_segs.proofs.Making.{alloc_refused, alloc_tried, to_none}
 use Rattle.o2_segs.proofs.Resizing.{refusal_moved}
 use Rattle.o2_segs.proofs.Rows.{refusal_answers}
 use Rattle.o2_segs.proofs.Limits.{entries_refl, limits_more, limits_refl}
+use Rattle.o2_changes.proofs.Framing.{for_refl}
 use Rattle.o2_segs.proofs.allocating.alloc_seg.Goals as goal
 
 pub returns-then-flags-gt-FLAGS-clause-matches : goal.returns-then-flags-gt-FLAGS-clause-matches
@@ -71,3 +72,9 @@ returns-in-Some-clause-idle g c = c.allocate.ensures.idle
 
 pub returns-in-None-clause-idle : goal.returns-in-None-clause-idle
 returns-in-None-clause-idle g c = λ none. inl (record { device = refl; none = none })
+
+pub returns-then-flags-gt-FLAGS-clause-goes_on : goal.returns-then-flags-gt-FLAGS-clause-goes_on
+returns-then-flags-gt-FLAGS-clause-goes_on g c = for_refl c.args.images.now c.args.store.now c.args.regions.now c.requires.order c.requires.backed.clean
+
+pub returns-in-None-clause-goes_on : goal.returns-in-None-clause-goes_on
+returns-in-None-clause-goes_on g c = for_refl c.args.images.now c.args.store.now c.args.regions.now c.requires.order c.requires.backed.clean

@@ -19,6 +19,8 @@ use Rattle.o2_segs.proofs.Limits.{entries_added, entries_behind, entries_same, l
 use Rattle.o2_store.specs.Idle.{NoneTaken}
 use Rattle.o2_store.proofs.Idling.{idle_or}
 use Rattle.o2_segs.proofs.Idling.{unrefused_stop, unrefused_done}
+use Rattle.o2_store.proofs.Framing.{device_for}
+use Rattle.o2_changes.proofs.Framing.{for_order, for_then, order_trans, then_for}
 use Rattle.o2_segs.proofs.allocating.allocate.Goals as goal
 
 pub returns-then-not-is_locked-clause-answer : goal.returns-then-not-is_locked-clause-answer
@@ -100,23 +102,8 @@ returns-in-None-lock_new-clause-stops g c = λ stop. no_stop c.hold_made-in-None
 pub returns-in-None-clause-stops : goal.returns-in-None-clause-stops
 returns-in-None-clause-stops g c = λ stop. absurd stop
 
-pub returns-then-not-is_locked-clause-guards : goal.returns-then-not-is_locked-clause-guards
-returns-then-not-is_locked-clause-guards g c = λ was. c.hold_made.ensures.guards (c.make.ensures.guards was)
-
-pub returns-then-not-is_locked-clause-pictures : goal.returns-then-not-is_locked-clause-pictures
-returns-then-not-is_locked-clause-pictures g c = c.make.ensures.pictures c.args.images.now c.requires.pictures
-
-pub returns-then-not-is_locked-clause-map : goal.returns-then-not-is_locked-clause-map
-returns-then-not-is_locked-clause-map g c = added_map c.args.store.now c.make.new.store c.in-Some.id _ c.in-Some.ensures.added
-
 pub returns-then-not-is_locked-clause-kept : goal.returns-then-not-is_locked-clause-kept
 returns-then-not-is_locked-clause-kept g c = λ k named here. added_place c.args.store.now c.make.new.store c.in-Some.id _ k c.in-Some.ensures.added here
-
-pub returns-in-Some-lock_new-clause-guards : goal.returns-in-Some-lock_new-clause-guards
-returns-in-Some-lock_new-clause-guards g c = λ was. c.lock_new.ensures.guards (c.make.ensures.guards was)
-
-pub returns-in-Some-lock_new-clause-map : goal.returns-in-Some-lock_new-clause-map
-returns-in-Some-lock_new-clause-map g c = c.lock_new.ensures.map ∙ added_map c.args.store.now c.make.new.store c.in-Some.id _ c.in-Some.ensures.added
 
 pub returns-in-Some-lock_new-clause-kept : goal.returns-in-Some-lock_new-clause-kept
 returns-in-Some-lock_new-clause-kept g c = λ k named here.
@@ -124,12 +111,6 @@ returns-in-Some-lock_new-clause-kept g c = λ k named here.
     let t = c.make.new.store in
     let apart = named_apart s t c.in-Some.id _ c.args.keep.now k c.in-Some.ensures.added named in
     c.lock_new.ensures.kept k apart (named_behind s t c.in-Some.id _ c.args.keep.now k c.in-Some.ensures.added apart named) (added_place s t c.in-Some.id _ k c.in-Some.ensures.added here))
-
-pub returns-in-None-lock_new-clause-guards : goal.returns-in-None-lock_new-clause-guards
-returns-in-None-lock_new-clause-guards g c = λ was. c.hold_made-in-None-lock_new.ensures.guards (c.lock_new.ensures.guards (c.make.ensures.guards was))
-
-pub returns-in-None-lock_new-clause-map : goal.returns-in-None-lock_new-clause-map
-returns-in-None-lock_new-clause-map g c = c.lock_new.ensures.map ∙ added_map c.args.store.now c.make.new.store c.in-Some.id _ c.in-Some.ensures.added
 
 pub returns-in-None-lock_new-clause-kept : goal.returns-in-None-lock_new-clause-kept
 returns-in-None-lock_new-clause-kept g c = λ k named here.
@@ -262,3 +243,28 @@ returns-in-None-lock_new-clause-idle g c = λ none.
         };
       })
     ])
+
+pub returns-then-not-is_locked-clause-goes_on : goal.returns-then-not-is_locked-clause-goes_on
+returns-then-not-is_locked-clause-goes_on g c = for_order c.args.images.now c.args.store.now c.make.new.store c.args.regions.now c.hold_made.new.regions (order_trans c.args.store.now c.make.new.store c.make.new.store c.args.regions.now c.args.regions.now c.hold_made.new.regions c.make.ensures.goes_on c.hold_made.ensures.goes_on) c.requires.backed.clean
+
+pub returns-in-Some-lock_new-clause-goes_on : goal.returns-in-Some-lock_new-clause-goes_on
+returns-in-Some-lock_new-clause-goes_on g c = then_for c.args.images.now c.args.store.now c.make.new.store c.lock_new.new.store c.args.regions.now c.args.regions.now c.lock_new.new.regions c.make.ensures.goes_on c.requires.backed.clean c.lock_new.ensures.goes_on
+
+pub returns-in-None-lock_new-clause-goes_on : goal.returns-in-None-lock_new-clause-goes_on
+returns-in-None-lock_new-clause-goes_on g c =
+    let images = c.args.images.now in
+    let s = c.args.store.now in
+    let u = c.lock_new.new.store in
+    let m = c.args.regions.now in
+    let n = c.lock_new.new.regions in
+    let o = c.hold_made-in-None-lock_new.new.regions in
+    for_then images s u u m n o (then_for images s c.make.new.store u m m n c.make.ensures.goes_on c.requires.backed.clean c.lock_new.ensures.goes_on) c.hold_made-in-None-lock_new.ensures.goes_on
+
+pub returns-in-None-clause-goes_on : goal.returns-in-None-clause-goes_on
+returns-in-None-clause-goes_on g c = for_order c.args.images.now c.args.store.now c.make.new.store c.args.regions.now c.args.regions.now c.make.ensures.goes_on c.requires.backed.clean
+
+pub returns-in-Some-lock_new-clause-device : goal.returns-in-Some-lock_new-clause-device
+returns-in-Some-lock_new-clause-device g c = device_for _ _ _ _ _ _ _ (λ e. ap Some e) c.in-Some-lock_new.ensures.device
+
+pub returns-in-None-lock_new-clause-device : goal.returns-in-None-lock_new-clause-device
+returns-in-None-lock_new-clause-device g c = device_for _ _ _ _ _ _ _ (λ e. absurd (let a = c.hold_made-in-None-lock_new.ensures.answer in cc)) c.lock_new.ensures.device

@@ -1,7 +1,5 @@
 use Rattle.std.proofs.Common.{arith, ℕ, Option, IsSome, ap, refl, subst, sym, ◌∙◌}
 use Rattle.o2_service.proofs.Among.{live_same}
-use Rattle.o2_store.specs.Pictures.{picture}
-use Rattle.o2_changes.proofs.LocksStand.{locked_clean}
 use Rattle.o2_changes.proofs.MakesStand.{new_locked, newest_still}
 use Rattle.o2_stands.specs.Stands.{Matches}
 use Rattle.o2_world.specs.Changes.{Locks, Makes, with_change}
@@ -16,6 +14,8 @@ use Rattle.o2_changes.proofs.LocksStand.{locked_entry}
 use Rattle.o2_segs.proofs.Sharing.{alive_tables}
 use Rattle.o2_segs.proofs.Limits.{limits_locked, limits_moved, limits_then, undone_made, others_moved, others_same, others_then}
 use Rattle.o2_store.specs.Idle.{NoneTaken}
+use Rattle.o2_store.proofs.Framing.{device_for}
+use Rattle.o2_changes.proofs.Framing.{for_then}
 use Rattle.o2_segs.proofs.allocating.lock_new.Goals as goal
 
 pub unmake-requires-clause-live : goal.unmake-requires-clause-live
@@ -36,12 +36,6 @@ returns-in-Some-clause-without g c = λ r e. (
   },
 )
 
-pub returns-in-Some-clause-clean : goal.returns-in-Some-clause-clean
-returns-in-Some-clause-clean g c = c.unmake.ensures.clean (picture c.args.images.now) c.bring_in.ensures.clean
-
-pub returns-in-Some-clause-cause : goal.returns-in-Some-clause-cause
-returns-in-Some-clause-cause g c = λ r e f. c.bring_in.ensures.cause (stop_fault c.bring_in.result c.in-Some.stop c.in-Some.ensures (same_stop c.in-Some.stop r _ e f))
-
 pub set_lock-requires-clause-live : goal.set_lock-requires-clause-live
 set_lock-requires-clause-live g c = live_same c.args.store.now c.bring_in.new.store c.args.id c.bring_in.ensures.keeps.tables c.requires.live
 
@@ -59,24 +53,8 @@ returns-in-None-clause-locked g c = λ e. record {
 pub returns-in-None-clause-live : goal.returns-in-None-clause-live
 returns-in-None-clause-live g c = λ e. set_live c.bring_in.new.store c.set_lock.new.store c.args.id 1 (live_same c.args.store.now c.bring_in.new.store c.args.id c.bring_in.ensures.keeps.tables c.requires.live) c.set_lock.ensures.sets
 
-pub returns-in-None-clause-clean : goal.returns-in-None-clause-clean
-returns-in-None-clause-clean g c =
-    locked_clean c.bring_in.new.store c.set_lock.new.store c.args.id 1 (live_same c.args.store.now c.bring_in.new.store c.args.id c.bring_in.ensures.keeps.tables c.requires.live) c.set_lock.ensures.sets (picture c.args.images.now) c.bring_in.ensures.clean
-
-pub returns-in-Some-clause-guards : goal.returns-in-Some-clause-guards
-returns-in-Some-clause-guards g c = λ was. c.unmake.ensures.guards (c.bring_in.ensures.guards was)
-
-pub returns-in-Some-clause-pictures : goal.returns-in-Some-clause-pictures
-returns-in-Some-clause-pictures g c = c.unmake.ensures.pictures c.args.images.now (c.bring_in.ensures.pictures c.args.images.now c.requires.pictures)
-
 pub returns-in-Some-clause-kept : goal.returns-in-Some-clause-kept
 returns-in-Some-clause-kept g c = λ k apart named here. subst (λ (o : Option (ℕ × ℕ)). IsSome o) (sym (c.unmake.ensures.removed.places k apart)) (c.bring_in.ensures.kept k named here)
-
-pub returns-in-None-clause-guards : goal.returns-in-None-clause-guards
-returns-in-None-clause-guards g c = λ was. c.set_lock.ensures.guards (c.bring_in.ensures.guards was)
-
-pub returns-in-None-clause-pictures : goal.returns-in-None-clause-pictures
-returns-in-None-clause-pictures g c = c.set_lock.ensures.pictures c.args.images.now (c.bring_in.ensures.pictures c.args.images.now c.requires.pictures)
 
 pub returns-in-None-clause-kept : goal.returns-in-None-clause-kept
 returns-in-None-clause-kept g c = λ k apart named here. subst (λ (o : Option (ℕ × ℕ)). IsSome o) (sym (ap (λ (x : Shelf). place_of x k) c.set_lock.ensures.sets.shelf)) (c.bring_in.ensures.kept k named here)
@@ -99,7 +77,7 @@ returns-in-Some-clause-loads g c = λ r e f.
     let l = full_load_but t key c.law.ensures.shelf c.law.ensures.blocks stuck.full stuck.out
     (ap (λ (o : Option Entry). (entry_or o).image) stuck.same ∙ c.requires.bare.0) (ap (λ (o : Option Entry). (entry_or o).kept) stuck.same ∙ c.requires.bare.1) in
     let m = same_load_but s t key c.bring_in.ensures.keeps.tables in
-    (omega (arith, l, m, c.bring_in.ensures.map), (c.bring_in.ensures.loads full).1))
+    (omega (arith, l, m, c.bring_in.ensures.goes_on.map), (c.bring_in.ensures.loads full).1))
 
 pub returns-in-Some-clause-limits : goal.returns-in-Some-clause-limits
 returns-in-Some-clause-limits g c = λ none. absurd (cc)
@@ -127,9 +105,21 @@ returns-in-None-clause-entries g c =
 pub returns-in-Some-clause-idle : goal.returns-in-Some-clause-idle
 returns-in-Some-clause-idle g c = λ none load.
     (let i = c.bring_in.ensures.idle none load in
-    record { device = i.device; none = c.unmake.ensures.unused i.none })
+    record { device = i.device; none = c.unmake.ensures.goes_on.unused i.none })
 
 pub returns-in-None-clause-idle : goal.returns-in-None-clause-idle
 returns-in-None-clause-idle g c = λ none load.
     (let i = c.bring_in.ensures.idle none load in
     record { device = i.device; none = subst NoneTaken (sym (ap (λ (x : Shelf). x.swap) c.set_lock.ensures.sets.shelf)) i.none })
+
+pub returns-in-Some-clause-goes_on : goal.returns-in-Some-clause-goes_on
+returns-in-Some-clause-goes_on g c = for_then c.args.images.now c.args.store.now c.bring_in.new.store c.unmake.new.store c.args.regions.now c.bring_in.new.regions c.bring_in.new.regions c.bring_in.ensures.goes_on c.unmake.ensures.goes_on
+
+pub returns-in-None-clause-goes_on : goal.returns-in-None-clause-goes_on
+returns-in-None-clause-goes_on g c = for_then c.args.images.now c.args.store.now c.bring_in.new.store c.set_lock.new.store c.args.regions.now c.bring_in.new.regions c.bring_in.new.regions c.bring_in.ensures.goes_on c.set_lock.ensures.goes_on
+
+pub returns-in-Some-clause-device : goal.returns-in-Some-clause-device
+returns-in-Some-clause-device g c = device_for _ _ _ _ _ _ _ (λ e. stop_fault c.bring_in.result c.in-Some.stop c.in-Some.ensures (same_stop c.in-Some.stop _ _ e refl)) c.bring_in.ensures.device
+
+pub returns-in-None-clause-device : goal.returns-in-None-clause-device
+returns-in-None-clause-device g c = device_for _ _ _ _ _ _ _ (λ e. absurd (cc)) c.bring_in.ensures.device

@@ -1,6 +1,7 @@
 use Rattle.std.proofs.Common.{refl, sym}
 use Rattle.o2_segs.proofs.FreeingRuns.{none_taken}
 use Rattle.o2_segs.proofs.Limits.{limits_refl}
+use Rattle.o2_changes.proofs.Framing.{order_refl}
 use Rattle.o2_segs.proofs.freeing.drop_at.Goals as goal
 
 pub returns-clause-takes : goal.returns-clause-takes
@@ -11,3 +12,6 @@ returns-clause-limits c = limits_refl c.args.store.now c.args.regions.now
 
 pub returns-clause-places : goal.returns-clause-places
 returns-clause-places c = λ k some. refl
+
+pub returns-clause-goes_on : goal.returns-clause-goes_on
+returns-clause-goes_on c = order_refl c.args.store.now c.args.regions.now c.requires.order

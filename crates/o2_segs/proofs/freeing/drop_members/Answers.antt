@@ -1,6 +1,7 @@
 use Rattle.std.proofs.Common.{ℕ, ◌∙◌, max, refl, ap, arith}
 use Rattle.o2_segs.proofs.FreeingRuns.{below_all, below_any, below_end, below_first, below_more, matches_all, none_below}
 use Rattle.o2_segs.proofs.Limits.{limits_refl, limits_then}
+use Rattle.o2_changes.proofs.Framing.{order_refl, order_trans}
 use Rattle.o2_segs.proofs.freeing.drop_members.Goals as goal
 
 pub loop-index-init : goal.loop-index-init
@@ -9,12 +10,7 @@ loop-index-init c = record {
   reserved = refl;
   limits = limits_refl c.args.store.now c.args.regions.now;
   places = λ k some. refl;
-  order = c.requires.order;
-  guards = λ g. g;
-  clean = λ pic a. a;
-  pictures = λ images a. a;
-  map = refl;
-  unused = λ none. none;
+  goes_on = order_refl c.args.store.now c.args.regions.now c.requires.order;
   matches = below_first c.args.store.now c.args.regions.now c.args.pid c.args.held;
 }
 
@@ -35,12 +31,7 @@ loop-index-preserved c =
       reserved = e.reserved ∙ i.reserved;
       limits = limits_then s t u l m n 0 0 i.limits e.limits;
       places = λ j some. e.places j some ∙ i.places j (e.lives j some);
-      order = e.order;
-      guards = λ g. e.guards (i.guards g);
-      clean = λ pic a. e.clean pic (i.clean pic a);
-      pictures = λ images a. e.pictures images (i.pictures images a);
-      map = e.map ∙ i.map;
-      unused = λ none. e.unused (i.unused none);
+      goes_on = order_trans s t u l m n i.goes_on e.goes_on;
       matches = below_any s t u l m n c.args.pid k c.args.held low (below_end c.args.held k c.max-end.result (c.max-end.ensures ∙ ap (λ (x : ℕ). max x c.args.held.first) c.end_of_run.ensures.end) low c.loop-index-test.true) i.takes i.matches e.held e.none;
     }
 
@@ -50,3 +41,9 @@ returns-clause-takes c = below_all c.args.regions.now c.loop-index.regions c.arg
 pub returns-clause-matches : goal.returns-clause-matches
 returns-clause-matches c =
     matches_all c.args.store.now c.loop-index.store c.args.regions.now c.loop-index.regions c.args.pid c.loop-index.index c.args.held (omega arith ∙ (c.max-end.ensures ∙ ap (λ (x : ℕ). max x c.args.held.first) c.end_of_run.ensures.end)) c.loop-index.invariant.matches
+
+pub drop_at-requires-clause-order : goal.drop_at-requires-clause-order
+drop_at-requires-clause-order c = c.loop-index.invariant.goes_on.order
+
+pub returns-clause-goes_on : goal.returns-clause-goes_on
+returns-clause-goes_on c = c.loop-index.invariant.goes_on

@@ -4,6 +4,7 @@ use Rattle.o2_changes.specs.Holding.{FreesRun}
 use Rattle.o2_changes.proofs.Guarding.{reserved_guards}
 use Rattle.o2_segs.proofs.Limits.{limits_reserved}
 use Rattle.o2_segs.proofs.RunFreed.{run_freed}
+use Rattle.o2_changes.proofs.Framing.{order_held, order_trans}
 use Rattle.o2_segs.proofs.freeing.free_members.Goals as goal
 
 pub returns-clause-matches : goal.returns-clause-matches
@@ -19,5 +20,9 @@ returns-clause-limits c = limits_reserved c.args.store.now c.drop_members.new.st
 pub returns-clause-processes : goal.returns-clause-processes
 returns-clause-processes c = ap (λ (x : Maps). x.processes) c.free_run.ensures.tables ∙ c.drop_members.ensures.takes.processes
 
-pub returns-clause-guards : goal.returns-clause-guards
-returns-clause-guards c = λ was. reserved_guards c.drop_members.new.store c.drop_members.new.regions c.free_run.new.regions c.free_run.ensures.tables (c.drop_members.ensures.guards was)
+pub returns-clause-goes_on : goal.returns-clause-goes_on
+returns-clause-goes_on c =
+    let t = c.drop_members.new.store in
+    let n = c.drop_members.new.regions in
+    let o = c.free_run.new.regions in
+    order_trans c.args.store.now t t c.args.regions.now n o c.drop_members.ensures.goes_on (order_held t n o c.free_run.ensures.order (λ was. reserved_guards t n o c.free_run.ensures.tables was))

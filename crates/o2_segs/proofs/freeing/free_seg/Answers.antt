@@ -3,6 +3,7 @@ use Rattle.o2_world.specs.Rulings.{Ruling}
 use Rattle.o2_segs.proofs.Members.{all_done, all_refused, all_registers}
 use Rattle.o2_segs.proofs.Rows.{all_matches, at_maps, done_answers, free_kept, free_none, refusal_answers, refusal_matches}
 use Rattle.o2_segs.proofs.Limits.{limits_refl}
+use Rattle.o2_changes.proofs.Framing.{order_refl}
 use Rattle.o2_segs.proofs.freeing.free_seg.Goals as goal
 
 pub returns-then-is_kept-clause-answer : goal.returns-then-is_kept-clause-answer
@@ -56,3 +57,9 @@ returns-then-is_kept-clause-limits c = limits_refl c.args.store.now c.args.regio
 
 pub returns-in-None-clause-limits : goal.returns-in-None-clause-limits
 returns-in-None-clause-limits c = limits_refl c.args.store.now c.args.regions.now
+
+pub returns-then-is_kept-clause-goes_on : goal.returns-then-is_kept-clause-goes_on
+returns-then-is_kept-clause-goes_on c = order_refl c.args.store.now c.args.regions.now c.requires.caller.order
+
+pub returns-in-None-clause-goes_on : goal.returns-in-None-clause-goes_on
+returns-in-None-clause-goes_on c = order_refl c.args.store.now c.args.regions.now c.requires.caller.order

@@ -3,16 +3,17 @@ use Rattle.o2_changes.proofs.KeepingHolds.{told_holds}
 use Rattle.o2_stands.specs.Knows.{known_in}
 use Rattle.o2_segs.proofs.Resizing.{keeps, realloc_done, realloc_fixed, realloc_kept, realloc_none, refusal_moved, sized_matches, stopped_matches}
 use Rattle.o2_segs.proofs.Rows.{done_answers, refusal_answers}
-use Rattle.o2_segs.proofs.Stops.{error_none, not_here, stop_answers, stop_full, stop_room, was_here}
+use Rattle.o2_segs.proofs.Stops.{error_none, not_here, stop_answers, stop_full, stop_room, was_here, stop_fault}
 use Rattle.o2_regions.specs.declared.held.Held.{Held}
 use Rattle.o2_store.specs.Loads.{live_load_at}
 use Rattle.o2_store.specs.Sizes.{all_wanted_at, stays}
 use Rattle.o2_world.specs.Rulings.{full_size, reallocation}
-use Rattle.o2_regions.specs.Maps.{Maps}
 use Rattle.o2_segs.proofs.Limits.{limits_moved, limits_refl, limits_sized}
 use Rattle.o2_store.proofs.Idling.{idle_or}
 use Rattle.o2_segs.proofs.Idling.{unrefused_by}
 use Rattle.o2_regions.specs.declared.answer.Answer.{Answer}
+use Rattle.o2_store.proofs.Framing.{device_for}
+use Rattle.o2_changes.proofs.Framing.{for_refl}
 use Rattle.o2_segs.proofs.reallocating.realloc_seg.Goals as goal
 
 pub returns-then-is_fixed-clause-answer : goal.returns-then-is_fixed-clause-answer
@@ -22,24 +23,24 @@ pub returns-then-is_fixed-clause-matches : goal.returns-then-is_fixed-clause-mat
 returns-then-is_fixed-clause-matches g c = λ p o w es em ei eb tells q. refusal_moved p c.args.store.now c.args.regions.now _ w _ 5 es em eb (realloc_fixed p o c.args.regions.now c.args.pid c.args.size c.args.sel c.in-Some.held em (sym c.in-Some.ensures) (sym c.if-is_fixed.ensures)) q
 
 pub returns-then-keeps_its_size-clause-answer : goal.returns-then-keeps_its_size-clause-answer
-returns-then-keeps_its_size-clause-answer g c = λ p o es em. refusal_answers _ 5 c.refusal-then-keeps_its_size.result (realloc_kept p o c.args.store.now c.args.regions.now c.args.pid c.args.size c.args.sel c.in-Some.held es em c.requires.named (sym c.in-Some.ensures) (sym c.if-is_fixed.ensures) (ap (keeps c.args.store.now c.in-Some.held.id.key) (sym c.full_size-bytes.ensures.size) ∙ sym c.if-keeps_its_size.ensures)) c.refusal-then-keeps_its_size.ensures
+returns-then-keeps_its_size-clause-answer g c = λ p o es em. refusal_answers _ 5 c.refusal-then-keeps_its_size.result (realloc_kept p o c.args.store.now c.args.regions.now c.args.pid c.args.size c.args.sel c.in-Some.held es em c.requires.caller.named (sym c.in-Some.ensures) (sym c.if-is_fixed.ensures) (ap (keeps c.args.store.now c.in-Some.held.id.key) (sym c.full_size-bytes.ensures.size) ∙ sym c.if-keeps_its_size.ensures)) c.refusal-then-keeps_its_size.ensures
 
 pub returns-then-keeps_its_size-clause-matches : goal.returns-then-keeps_its_size-clause-matches
-returns-then-keeps_its_size-clause-matches g c = λ p o w es em ei eb tells q. refusal_moved p c.args.store.now c.args.regions.now _ w _ 5 es em eb (realloc_kept p o c.args.store.now c.args.regions.now c.args.pid c.args.size c.args.sel c.in-Some.held es em c.requires.named (sym c.in-Some.ensures) (sym c.if-is_fixed.ensures) (ap (keeps c.args.store.now c.in-Some.held.id.key) (sym c.full_size-bytes.ensures.size) ∙ sym c.if-keeps_its_size.ensures)) q
+returns-then-keeps_its_size-clause-matches g c = λ p o w es em ei eb tells q. refusal_moved p c.args.store.now c.args.regions.now _ w _ 5 es em eb (realloc_kept p o c.args.store.now c.args.regions.now c.args.pid c.args.size c.args.sel c.in-Some.held es em c.requires.caller.named (sym c.in-Some.ensures) (sym c.if-is_fixed.ensures) (ap (keeps c.args.store.now c.in-Some.held.id.key) (sym c.full_size-bytes.ensures.size) ∙ sym c.if-keeps_its_size.ensures)) q
 
 pub returns-in-Some-stop_of-clause-answer : goal.returns-in-Some-stop_of-clause-answer
-returns-in-Some-stop_of-clause-answer g c = λ p o es em. stop_answers _ c.resize.result c.in-Some-stop_of.stop (error_none (realloc_done p o c.args.store.now c.args.regions.now c.args.pid c.args.size c.args.sel c.in-Some.held es em c.requires.named (sym c.in-Some.ensures) (sym c.if-is_fixed.ensures) (ap (keeps c.args.store.now c.in-Some.held.id.key) (sym c.full_size-bytes.ensures.size) ∙ sym c.if-keeps_its_size.ensures))) c.in-Some-stop_of.ensures
+returns-in-Some-stop_of-clause-answer g c = λ p o es em. stop_answers _ c.resize.result c.in-Some-stop_of.stop (error_none (realloc_done p o c.args.store.now c.args.regions.now c.args.pid c.args.size c.args.sel c.in-Some.held es em c.requires.caller.named (sym c.in-Some.ensures) (sym c.if-is_fixed.ensures) (ap (keeps c.args.store.now c.in-Some.held.id.key) (sym c.full_size-bytes.ensures.size) ∙ sym c.if-keeps_its_size.ensures))) c.in-Some-stop_of.ensures
 
 pub returns-in-Some-stop_of-clause-matches : goal.returns-in-Some-stop_of-clause-matches
 returns-in-Some-stop_of-clause-matches g c = λ p o w es em ei eb tells q.
     stopped_matches p w c.resize.new.store c.resize.new.regions _ (reallocation (known_in p o) c.args.pid c.args.size c.args.sel) c.resize.result c.in-Some-stop_of.stop c.in-Some-stop_of.ensures ((c.resize.ensures.stays (not_here c.resize.result c.in-Some-stop_of.stop c.in-Some-stop_of.ensures)).world p w es em ei eb tells q)
 
 pub returns-in-None-stop_of-clause-answer : goal.returns-in-None-stop_of-clause-answer
-returns-in-None-stop_of-clause-answer g c = λ p o es em. done_answers _ _ 0 c.done.result (realloc_done p o c.args.store.now c.args.regions.now c.args.pid c.args.size c.args.sel c.in-Some.held es em c.requires.named (sym c.in-Some.ensures) (sym c.if-is_fixed.ensures) (ap (keeps c.args.store.now c.in-Some.held.id.key) (sym c.full_size-bytes.ensures.size) ∙ sym c.if-keeps_its_size.ensures)) c.done.ensures
+returns-in-None-stop_of-clause-answer g c = λ p o es em. done_answers _ _ 0 c.done.result (realloc_done p o c.args.store.now c.args.regions.now c.args.pid c.args.size c.args.sel c.in-Some.held es em c.requires.caller.named (sym c.in-Some.ensures) (sym c.if-is_fixed.ensures) (ap (keeps c.args.store.now c.in-Some.held.id.key) (sym c.full_size-bytes.ensures.size) ∙ sym c.if-keeps_its_size.ensures)) c.done.ensures
 
 pub returns-in-None-stop_of-clause-matches : goal.returns-in-None-stop_of-clause-matches
 returns-in-None-stop_of-clause-matches g c = λ p o w es em ei eb tells q.
-    sized_matches p w c.resize.new.store c.resize.new.regions _ c.in-Some.held.id _ _ _ (realloc_done p o c.args.store.now c.args.regions.now c.args.pid c.args.size c.args.sel c.in-Some.held es em c.requires.named (sym c.in-Some.ensures) (sym c.if-is_fixed.ensures) (ap (keeps c.args.store.now c.in-Some.held.id.key) (sym c.full_size-bytes.ensures.size) ∙ sym c.if-keeps_its_size.ensures)) c.full_size-bytes.ensures.size
+    sized_matches p w c.resize.new.store c.resize.new.regions _ c.in-Some.held.id _ _ _ (realloc_done p o c.args.store.now c.args.regions.now c.args.pid c.args.size c.args.sel c.in-Some.held es em c.requires.caller.named (sym c.in-Some.ensures) (sym c.if-is_fixed.ensures) (ap (keeps c.args.store.now c.in-Some.held.id.key) (sym c.full_size-bytes.ensures.size) ∙ sym c.if-keeps_its_size.ensures)) c.full_size-bytes.ensures.size
     ((c.resize.ensures.matches (was_here c.resize.result c.in-None-stop_of.ensures c.resize.ensures.never)).world p w es em ei eb tells q)
 
 pub returns-in-None-clause-answer : goal.returns-in-None-clause-answer
@@ -47,12 +48,6 @@ returns-in-None-clause-answer g c = λ p o es em. refusal_answers _ 5 c.refusal-
 
 pub returns-in-None-clause-matches : goal.returns-in-None-clause-matches
 returns-in-None-clause-matches g c = λ p o w es em ei eb tells q. refusal_moved p c.args.store.now c.args.regions.now _ w _ 5 es em eb (realloc_none p o c.args.regions.now c.args.pid c.args.size c.args.sel em (sym c.in-None.ensures)) q
-
-pub returns-in-Some-stop_of-clause-pictures : goal.returns-in-Some-stop_of-clause-pictures
-returns-in-Some-stop_of-clause-pictures g c = λ was. c.resize.ensures.pictures c.args.images.now was
-
-pub returns-in-None-stop_of-clause-pictures : goal.returns-in-None-stop_of-clause-pictures
-returns-in-None-stop_of-clause-pictures g c = λ was. c.resize.ensures.pictures c.args.images.now was
 
 pub returns-in-Some-stop_of-clause-no_room : goal.returns-in-Some-stop_of-clause-no_room
 returns-in-Some-stop_of-clause-no_room g c = λ e.
@@ -66,12 +61,6 @@ returns-in-Some-stop_of-clause-all_load g c = λ e.
     (let s = c.args.store.now in
     subst (λ (y : Option Held). IfSome y (λ h. s.places.size < live_load_at s h.id.key (full_size c.args.size))) c.in-Some.ensures
     (subst (λ (n : ℕ). s.places.size < live_load_at s c.in-Some.held.id.key n) c.full_size-bytes.ensures.size (c.resize.ensures.loads (stop_full c.resize.result c.in-Some-stop_of.stop c.in-Some-stop_of.ensures e)).1))
-
-pub returns-in-Some-stop_of-clause-processes : goal.returns-in-Some-stop_of-clause-processes
-returns-in-Some-stop_of-clause-processes g c = ap (λ (x : Maps). x.processes) c.resize.ensures.maps.rest
-
-pub returns-in-None-stop_of-clause-processes : goal.returns-in-None-stop_of-clause-processes
-returns-in-None-stop_of-clause-processes g c = ap (λ (x : Maps). x.processes) c.resize.ensures.maps.rest
 
 pub returns-then-is_fixed-clause-limits : goal.returns-then-is_fixed-clause-limits
 returns-then-is_fixed-clause-limits g c = limits_refl c.args.store.now c.args.regions.now
@@ -128,3 +117,18 @@ returns-in-None-stop_of-clause-idle g c = λ none.
             (subst (λ (n : ℕ). s.places.size < live_load_at s c.in-Some.held.id.key n) c.full_size-bytes.ensures.size more),
       )
     ])
+
+pub returns-then-is_fixed-clause-goes_on : goal.returns-then-is_fixed-clause-goes_on
+returns-then-is_fixed-clause-goes_on g c = for_refl c.args.images.now c.args.store.now c.args.regions.now c.requires.caller.order c.requires.backed.clean
+
+pub returns-then-keeps_its_size-clause-goes_on : goal.returns-then-keeps_its_size-clause-goes_on
+returns-then-keeps_its_size-clause-goes_on g c = for_refl c.args.images.now c.args.store.now c.args.regions.now c.requires.caller.order c.requires.backed.clean
+
+pub returns-in-None-clause-goes_on : goal.returns-in-None-clause-goes_on
+returns-in-None-clause-goes_on g c = for_refl c.args.images.now c.args.store.now c.args.regions.now c.requires.caller.order c.requires.backed.clean
+
+pub returns-in-Some-stop_of-clause-device : goal.returns-in-Some-stop_of-clause-device
+returns-in-Some-stop_of-clause-device g c = device_for _ _ _ _ _ _ _ (λ e. stop_fault c.resize.result c.in-Some-stop_of.stop c.in-Some-stop_of.ensures e) c.resize.ensures.device
+
+pub returns-in-None-stop_of-clause-device : goal.returns-in-None-stop_of-clause-device
+returns-in-None-stop_of-clause-device g c = device_for _ _ _ _ _ _ _ (λ e. absurd (cc)) c.resize.ensures.device

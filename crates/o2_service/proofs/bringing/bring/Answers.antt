@@ -23,8 +23,8 @@ returns-then-not-fits g c =
     let a = S.block c.args.swap.now in
     record {
       keeps = keys_keep (S.told c.args.swap.now) pic s t t a a e (keeps_refl (S.told c.args.swap.now) pic t a);
-      clean = keys_clean pic s t e c.requires.clean;
-      device = (refl, λ w. w);
+      clean = keys_clean pic s t e c.requires.backed.clean;
+      device = record { blocks = refl; told = λ w. w; faults = omega arith; cause = λ r. absurd cc };
       map = ap (λ (z : Shelf). all_of z.swap) e;
       follows = follows_keys s t c.args.regions.now e c.requires.held c.requires.settled;
       kept = λ k n i. subst (λ (z : Shelf). IsSome (place_of z k)) (sym e) i;
@@ -33,8 +33,6 @@ returns-then-not-fits g c =
       no_room = λ r. c.fits.ensures.none c.if-not-fits.true;
       loads = λ r. absurd cc;
       stuck = λ r. absurd cc;
-      faults = omega arith;
-      cause = λ r. absurd cc;
       idle = λ none load. record { device = refl; none = subst (λ (z : Shelf). NoneTaken z.swap) (sym e) none };
       never = λ r. cc;
     }
@@ -52,8 +50,10 @@ bring_in-requires g c =
       held = held_keys s t c.args.regions.now e c.requires.held;
       settled = settled_keys s t c.args.regions.now e c.requires.settled;
       pictures = subst (λ (z : Shelf). HasAll (HasPicture c.args.images.now) z) (sym e) c.requires.pictures;
-      clean = keys_clean (picture c.args.images.now) s t e c.requires.clean;
-      device = subst (λ (z : Shelf). all_of z.swap ≤ g.S.SwapDevice.blocks c.args.swap.now) (sym e) c.requires.device;
+      backed = record {
+        clean = keys_clean (picture c.args.images.now) s t e c.requires.backed.clean;
+        device = subst (λ (z : Shelf). all_of z.swap ≤ g.S.SwapDevice.blocks c.args.swap.now) (sym e) c.requires.backed.device;
+      };
     }
 
 pub returns : goal.returns
@@ -76,8 +76,6 @@ returns g c =
       no_room = λ r. absurd (q.never.0 r);
       loads = λ r. subst (λ (z : Shelf). (all_of z.swap < swap_load z) × (z.places.size < live_load z)) e (q.loads r);
       stuck = λ r. let k = q.stuck r in record { full = k.full; out = k.out; same = k.same ∙ ap (λ (z : Shelf). slot_at z.entries c.args.id.key) e };
-      faults = q.faults;
-      cause = q.cause;
       idle = λ none load. q.idle (subst (λ (z : Shelf). NoneTaken z.swap) (sym e) none) (subst (λ (z : Shelf). live_load z ≤ z.places.size) (sym e) load);
       never = q.never.1;
     }

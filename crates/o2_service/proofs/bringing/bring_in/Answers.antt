@@ -1,4 +1,4 @@
-use Rattle.std.proofs.Common.{◌≡◌, ◌∙◌, ap, is_some, inl, inr, ℕ, None, rules, subst, sym, arith}
+use Rattle.std.proofs.Common.{◌≡◌, ◌∙◌, ap, is_some, inl, inr, ℕ, None, subst, sym, arith}
 use Rattle.std.proofs.lemmas.Bool.{cases_eq, false≢true}
 use Rattle.o2_store.specs.Pictures.{picture}
 use Rattle.o2_store.specs.Idle.{NoneTaken}
@@ -7,14 +7,15 @@ use Rattle.o2_store.proofs.Loads.{out_load}
 use Rattle.o2_store.proofs.Keeping.{keeps_trans, tables_trans, keeps_later}
 use Rattle.o2_service.proofs.Among.{live_same}
 use Rattle.o2_service.proofs.Movings.{follows_trans, not_there}
+use Rattle.o2_store.proofs.Framing.{device_behind}
 use Rattle.o2_service.proofs.bringing.bring_in.Goals as goal
 
 pub returns-in_default : goal.returns-in_default
 returns-in_default g c =
     let r = c.make_room.ensures in
     record {
-      keeps = r.keeps (picture c.args.images.now) c.requires.clean;
-      clean = r.clean (picture c.args.images.now) c.requires.clean;
+      keeps = r.keeps (picture c.args.images.now) c.requires.backed.clean;
+      clean = r.clean (picture c.args.images.now) c.requires.backed.clean;
       device = r.device;
       map = r.map;
       follows = r.follows;
@@ -23,8 +24,6 @@ returns-in_default g c =
       here = λ x. absurd (c.in_default.not-Here x);
       loads = r.loads;
       stuck = λ x. record { full = r.full x; out = r.none c.args.id.key c.requires.out; same = r.entry };
-      faults = r.faults;
-      cause = r.cause;
       idle = λ none load.
           (let l = out_load c.args.store.now c.args.id.key c.law.ensures.shelf c.law.ensures.sum c.requires.out in
           let same = r.idle (omega (arith, l, load)) in
@@ -61,8 +60,7 @@ fill_gap-requires g c =
       held = q.follows.held;
       settled = q.follows.settled;
       pictures = λ j m seg x. c.requires.pictures j m seg ((tables.same j).image (m, seg) x);
-      clean = q.clean pic (r.clean pic c.requires.clean);
-      device = omega (arith, q.map, r.map, r.device.0, c.requires.device);
+      backed = record { clean = q.clean pic (r.clean pic c.requires.backed.clean); device = omega (arith, q.map, r.map, r.device.blocks, c.requires.backed.device) };
     }
 
 pub returns-in-Here : goal.returns-in-Here
@@ -80,11 +78,11 @@ returns-in-Here g c =
     let a = S.block c.args.swap.now in
     let b = S.block c.make_room.new.swap in
     let d = S.block c.fill_gap.new.swap in
-    let first : KeepsAll told pic s a u b = keeps_trans told pic s t u a b b (keeps_later (S.told c.make_room.new.swap) told pic s t a b f.device.1 (r.keeps pic c.requires.clean)) (q.keeps told pic b) in
+    let first : KeepsAll told pic s a u b = keeps_trans told pic s t u a b b (keeps_later (S.told c.make_room.new.swap) told pic s t a b f.device.told (r.keeps pic c.requires.backed.clean)) (q.keeps told pic b) in
     record {
       keeps = keeps_trans told pic s u v a b d first f.keeps;
       clean = f.clean;
-      device = (f.device.0 ∙ r.device.0, λ w. r.device.1 (f.device.1 w));
+      device = device_behind _ _ _ _ _ _ _ r.device.blocks r.device.told r.device.faults f.device;
       map = f.map ∙ q.map ∙ r.map;
       follows = follows_trans c.args.regions.now c.make_gap.new.regions c.fill_gap.new.regions u v (follows_trans c.args.regions.now c.make_room.new.regions c.make_gap.new.regions t u r.follows q.follows) f.follows;
       kept = λ k n i. elim (cases_eq k c.args.id.key) [
@@ -95,8 +93,6 @@ returns-in-Here g c =
       here = f.here;
       loads = λ x. absurd (f.never.2 x);
       stuck = λ x. absurd (f.never.2 x);
-      faults = omega (arith, r.faults, f.faults);
-      cause = search rules;
       idle = λ none load.
           (let l = out_load s c.args.id.key c.law.ensures.shelf c.law.ensures.sum c.requires.out in
           let same = r.idle (omega (arith, l, load)) in

@@ -5,6 +5,7 @@ use Rattle.o2_store.proofs.Keeping.{keeps_refl, keeps_trans, same_tables, tables
 use Rattle.o2_store.proofs.Choosing.{same_named, same_wanted}
 use Rattle.o2_service.proofs.Among.{live_same, loads_after}
 use Rattle.o2_service.proofs.Movings.{follows_refl, follows_trans}
+use Rattle.o2_store.proofs.Framing.{device_behind}
 use Rattle.o2_service.proofs.bringing.make_room.Goals as goal
 
 pub loop-id-init : goal.loop-id-init
@@ -46,11 +47,11 @@ loop-id-preserved g c =
     let t = c.loop-id.store in
     let u = v.new.store in
     record {
-      keeps = λ pic q. keeps_trans told pic s t u a b d (keeps_later (S.told c.loop-id.swap) told pic s t a b e.device.1 (i.keeps pic q)) (e.keeps pic (i.clean pic q));
+      keeps = λ pic q. keeps_trans told pic s t u a b d (keeps_later (S.told c.loop-id.swap) told pic s t a b e.device.told (i.keeps pic q)) (e.keeps pic (i.clean pic q));
       clean = λ pic q. e.clean pic (i.clean pic q);
       tables = tables_trans s t u i.tables e.tables;
-      blocks = e.device.0 ∙ i.blocks;
-      told = λ w. i.told (e.device.1 w);
+      blocks = e.device.blocks ∙ i.blocks;
+      told = λ w. i.told (e.device.told w);
       map = e.map ∙ i.map;
       follows = follows_trans c.args.regions.now c.loop-id.regions v.new.regions t u i.follows e.follows;
       kept = λ k n. e.kept k (same_named s t c.args.keep.now k i.tables ∙ n) ∙ i.kept k n;
@@ -60,7 +61,7 @@ loop-id-preserved g c =
           let z = ap (λ (x : Shelf). x.places.size) (i.idle l).0 in
           omega (arith, w, z, l, c.lacks_room.ensures));
       entry = e.entry ∙ i.entry;
-      faults = omega (arith, i.faults, e.faults);
+      faults = omega (arith, i.faults, e.device.faults);
     }
 
 pub returns-then-not-matches : goal.returns-then-not-matches
@@ -77,10 +78,10 @@ returns-then-not-matches g c =
     let t = c.loop-id.store in
     let u = v.new.store in
     record {
-      keeps = λ pic q. keeps_trans told pic s t u a b d (keeps_later (S.told c.loop-id.swap) told pic s t a b e.device.1 (i.keeps pic q)) (e.keeps pic (i.clean pic q));
+      keeps = λ pic q. keeps_trans told pic s t u a b d (keeps_later (S.told c.loop-id.swap) told pic s t a b e.device.told (i.keeps pic q)) (e.keeps pic (i.clean pic q));
       clean = λ pic q. e.clean pic (i.clean pic q);
       tables = tables_trans s t u i.tables e.tables;
-      device = (e.device.0 ∙ i.blocks, λ w. i.told (e.device.1 w));
+      device = device_behind _ _ _ _ _ _ _ i.blocks i.told i.faults e.device;
       map = e.map ∙ i.map;
       follows = follows_trans c.args.regions.now c.loop-id.regions v.new.regions t u i.follows e.follows;
       kept = λ k n. e.kept k (same_named s t c.args.keep.now k i.tables ∙ n) ∙ i.kept k n;
@@ -93,7 +94,5 @@ returns-then-not-matches g c =
           (let w = ap (λ (x : Shelf). used x.places.ranges + rounded (entry x c.args.id.key).size) (i.idle l).0 in
           let z = ap (λ (x : Shelf). x.places.size) (i.idle l).0 in
           omega (arith, w, z, l, c.lacks_room.ensures));
-      faults = omega (arith, i.faults, e.faults);
-      cause = search rules;
       never = e.never;
     }

@@ -55,7 +55,5 @@ returns g c =
       fewer = λ r. fewer_leaving s t u key keep out e v (w.fewer r);
       loads = λ r. short_load s t key e c.law.ensures.shelf c.law.ensures.sum c.requires.out c.requires.short (w.loads r);
       full = w.full;
-      faults = w.faults;
-      cause = w.cause;
       never = (w.never, λ r. stale_never s t out e v.live (w.stale r));
     }

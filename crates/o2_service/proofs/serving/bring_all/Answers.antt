@@ -1,4 +1,4 @@
-use Rattle.std.proofs.Common.{◌<◌, ◌∙◌, ℕ, arith, refl, rules, length, get_or}
+use Rattle.std.proofs.Common.{◌<◌, ◌∙◌, ℕ, arith, refl, length, get_or}
 use Rattle.std.proofs.lemmas.Option.{slice_get-get_or}
 use Rattle.o2_place.specs.declared.seg_id.SegId.{SegId}
 use Rattle.o2_store.specs.Pictures.{picture}
@@ -6,12 +6,13 @@ use Rattle.o2_store.proofs.Keeping.{keeps_refl, keeps_trans, tables_trans, locke
 use Rattle.o2_store.proofs.Loads.{same_live_load}
 use Rattle.o2_service.proofs.Among.{all_live_same, loads_after, needs_at, only_refl, only_trans, present_more, same_needed, stays_refl, stays_trans}
 use Rattle.o2_service.proofs.Movings.{follows_refl, follows_trans}
+use Rattle.o2_store.proofs.Framing.{device_behind}
 use Rattle.o2_service.proofs.serving.bring_all.Goals as goal
 
 pub loop-k-init : goal.loop-k-init
 loop-k-init g c = record {
   keeps = keeps_refl _ _ c.args.store.now _;
-  clean = c.requires.clean;
+  clean = c.requires.backed.clean;
   blocks = refl;
   told = λ w. w;
   map = refl;
@@ -54,9 +55,9 @@ returns-in_default g c =
     let e = c.bring_one.ensures in
     record {
       keeps = keeps_trans (S.told c.bring_one.new.swap) pic s t u (S.block c.args.swap.now) (S.block c.loop-k.swap) (S.block c.bring_one.new.swap)
-          (keeps_later (S.told c.loop-k.swap) (S.told c.bring_one.new.swap) pic s t (S.block c.args.swap.now) (S.block c.loop-k.swap) e.device.1 i.keeps) e.keeps;
+          (keeps_later (S.told c.loop-k.swap) (S.told c.bring_one.new.swap) pic s t (S.block c.args.swap.now) (S.block c.loop-k.swap) e.device.told i.keeps) e.keeps;
       clean = e.clean;
-      device = (e.device.0 ∙ i.blocks, λ w. i.told (e.device.1 w));
+      device = device_behind _ _ _ _ _ _ _ i.blocks i.told i.faults e.device;
       map = e.map ∙ i.map;
       follows = follows_trans c.args.regions.now c.loop-k.regions c.bring_one.new.regions t u i.follows e.follows;
       stays = stays_trans need s t u i.stays e.stays;
@@ -70,8 +71,6 @@ returns-in_default g c =
           let size = i.keeps.tables.size in
           let now = e.idle before.none (omega (arith, load, size, same_live_load s t i.keeps.tables)) in
           record { device = now.device ∙ before.device; none = now.none });
-      faults = omega (arith, i.faults, e.faults);
-      cause = search rules;
     }
 
 pub loop-k-preserved : goal.loop-k-preserved
@@ -91,10 +90,10 @@ loop-k-preserved g c =
     let n = same_needed t u need q in
     record {
       keeps = keeps_trans (S.told c.bring_one.new.swap) pic s t u (S.block c.args.swap.now) (S.block c.loop-k.swap) (S.block c.bring_one.new.swap)
-          (keeps_later (S.told c.loop-k.swap) (S.told c.bring_one.new.swap) pic s t (S.block c.args.swap.now) (S.block c.loop-k.swap) e.device.1 i.keeps) e.keeps;
+          (keeps_later (S.told c.loop-k.swap) (S.told c.bring_one.new.swap) pic s t (S.block c.args.swap.now) (S.block c.loop-k.swap) e.device.told i.keeps) e.keeps;
       clean = e.clean;
-      blocks = e.device.0 ∙ i.blocks;
-      told = λ w. i.told (e.device.1 w);
+      blocks = e.device.blocks ∙ i.blocks;
+      told = λ w. i.told (e.device.told w);
       map = e.map ∙ i.map;
       follows = follows_trans c.args.regions.now c.loop-k.regions c.bring_one.new.regions t u i.follows e.follows;
       live = all_live_same t u need q i.live;
@@ -108,5 +107,8 @@ loop-k-preserved g c =
           let size = i.keeps.tables.size in
           let now = e.idle before.none (omega (arith, load, size, same_live_load s t i.keeps.tables)) in
           record { device = now.device ∙ before.device; none = now.none });
-      faults = omega (arith, i.faults, e.faults);
+      faults = omega (arith, i.faults, e.device.faults);
     }
+
+pub bring_one-requires-clause-backed : goal.bring_one-requires-clause-backed
+bring_one-requires-clause-backed g c = (let i = c.loop-k.invariant in record { clean = i.clean; device = omega (arith, i.map, i.blocks, c.requires.backed.device) })

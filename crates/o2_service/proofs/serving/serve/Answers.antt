@@ -21,8 +21,10 @@ bring_all-requires g c =
       held = held_learned s t c.args.regions.now c.learn.new.regions l c.requires.held;
       settled = settled_learned s t c.args.regions.now c.learn.new.regions l c.requires.settled;
       pictures = subst (λ (z : Shelf). HasAll (HasPicture c.args.images.now) z) (sym l.rest) c.requires.pictures;
-      clean = clean_marked s t (picture c.args.images.now) l.rest c.requires.clean;
-      device = subst (λ (z : Shelf). all_of z.swap ≤ g.S.SwapDevice.blocks c.args.swap.now) (sym l.rest) c.requires.device;
+      backed = record {
+        clean = clean_marked s t (picture c.args.images.now) l.rest c.requires.backed.clean;
+        device = subst (λ (z : Shelf). all_of z.swap ≤ g.S.SwapDevice.blocks c.args.swap.now) (sym l.rest) c.requires.backed.device;
+      };
     }
 
 pub returns-clause-held : goal.returns-clause-held

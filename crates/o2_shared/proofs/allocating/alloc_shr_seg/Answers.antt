@@ -10,6 +10,7 @@ use Rattle.o2_segs.proofs.Limits.{entries_refl, limits_more, limits_refl}
 use Rattle.o2_segs.proofs.Rows.{refusal_answers, refusal_matches}
 use Rattle.o2_shared.specs.Texts.{AreOnce, AreTexts}
 use Rattle.o2_shared.proofs.NewNames.{found_nothing, name_short, naming_bad, naming_known, naming_new, once_none, text_known, text_new, texts_none, to_none}
+use Rattle.o2_changes.proofs.Framing.{order_refl}
 use Rattle.o2_shared.proofs.allocating.alloc_shr_seg.Goals as goal
 
 pub returns-then-not-is_name-clause-answer : goal.returns-then-not-is_name-clause-answer
@@ -115,3 +116,12 @@ returns-in-None-clause-once c = λ p o w es em texts was once.
     once_none w _ 8
     (naming_new p o c.args.regions.now c.args.pid c.args.size c.args.name.now None (sym c.if-not-is_name.ensures) (text_new c.args.store.now c.args.names.now o.text (folded c.args.name.now) texts (found_nothing c.find.result _ c.find.ensures.found (sym c.if-is_some.ensures))) em c.in-None.ensures.lowest
     ∙ to_none (known_in p o) c.args.pid c.args.size (folded c.args.name.now)) once
+
+pub returns-then-not-is_name-clause-goes_on : goal.returns-then-not-is_name-clause-goes_on
+returns-then-not-is_name-clause-goes_on c = order_refl c.args.store.now c.args.regions.now c.requires.order
+
+pub returns-then-is_some-clause-goes_on : goal.returns-then-is_some-clause-goes_on
+returns-then-is_some-clause-goes_on c = order_refl c.args.store.now c.args.regions.now c.requires.order
+
+pub returns-in-None-clause-goes_on : goal.returns-in-None-clause-goes_on
+returns-in-None-clause-goes_on c = order_refl c.args.store.now c.args.regions.now c.requires.order

@@ -9,7 +9,7 @@ use Rattle.o2_world.specs.Changes.{Makes, with_all, with_change}
 use Rattle.o2_world.specs.Known.{text_name}
 use Rattle.o2_world.specs.SharedNames.{folded}
 use Rattle.o2_segs.proofs.Limits.{entries_added, entries_same, limits_added, limits_held, limits_more, limits_same, limits_then}
-use Rattle.o2_segs.proofs.Making.{added_entry, added_place, added_map, new_name}
+use Rattle.o2_segs.proofs.Making.{added_entry, added_place, new_name}
 use Rattle.o2_segs.proofs.Sharing.{new_made}
 use Rattle.o2_segs.proofs.Rows.{done_answers, refusal_answers, refusal_matches}
 use Rattle.o2_shared.specs.declared.names.Name.{Name}
@@ -18,7 +18,7 @@ use Rattle.o2_shared.specs.Texts.{AreInPlace, AreTexts, without}
 use Rattle.o2_shared.proofs.Leaving.{length-without, none_without, places_without, texts_without}
 use Rattle.o2_shared.proofs.NewNames.{named_matches, named_once, named_texts, new_places, new_texts, once_none, run_shared, text_new, texts_none, to_full, to_some}
 use Rattle.o2_shared.proofs.Shares.{value_is}
-use Rattle.o2_store.specs.Idle.{NoneTaken}
+use Rattle.o2_changes.proofs.Framing.{order_trans}
 use Rattle.o2_shared.proofs.allocating.make_named.Goals as goal
 
 pub hold_named-requires-clause-plain : goal.hold_named-requires-clause-plain
@@ -76,12 +76,6 @@ returns-in-Some-clause-limits c =
 pub returns-in-Some-clause-entries : goal.returns-in-Some-clause-entries
 returns-in-Some-clause-entries c = entries_added c.args.store.now c.make.new.store c.in-Some.id _ c.in-Some.ensures.added
 
-pub returns-in-Some-clause-guards : goal.returns-in-Some-clause-guards
-returns-in-Some-clause-guards c = λ was. c.hold_named.ensures.guards (c.make.ensures.guards was)
-
-pub returns-in-Some-clause-map : goal.returns-in-Some-clause-map
-returns-in-Some-clause-map c = added_map c.args.store.now c.make.new.store c.in-Some.id _ c.in-Some.ensures.added
-
 pub returns-in-None-clause-answer : goal.returns-in-None-clause-answer
 returns-in-None-clause-answer c = λ p o es. refusal_answers _ 8 c.refusal.result (to_full p o c.args.store.now c.args.pid c.args.size c.args.index (folded c.args.name.now) es c.in-None.ensures.none.0) c.refusal.ensures
 
@@ -117,8 +111,8 @@ returns-in-Some-clause-kept c = λ k here. added_place c.args.store.now c.make.n
 pub returns-in-None-clause-kept : goal.returns-in-None-clause-kept
 returns-in-None-clause-kept c = λ k here. subst (λ (x : Shelf). IsSome (place_of x k)) (sym c.in-None.ensures.none.1) here
 
-pub returns-in-Some-clause-unused : goal.returns-in-Some-clause-unused
-returns-in-Some-clause-unused c = λ none. subst NoneTaken (sym (ap (λ (x : Shelf). x.swap) c.in-Some.ensures.added.shelf)) none
+pub returns-in-Some-clause-goes_on : goal.returns-in-Some-clause-goes_on
+returns-in-Some-clause-goes_on c = order_trans c.args.store.now c.make.new.store c.make.new.store c.args.regions.now c.args.regions.now c.hold_named.new.regions c.make.ensures.goes_on c.hold_named.ensures.goes_on
 
-pub returns-in-None-clause-unused : goal.returns-in-None-clause-unused
-returns-in-None-clause-unused c = λ none. subst (λ (x : Shelf). NoneTaken x.swap) (sym c.in-None.ensures.none.1) none
+pub returns-in-None-clause-goes_on : goal.returns-in-None-clause-goes_on
+returns-in-None-clause-goes_on c = c.make.ensures.goes_on

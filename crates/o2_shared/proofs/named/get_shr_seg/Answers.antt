@@ -6,6 +6,7 @@ use Rattle.o2_stands.specs.Stands.{Matches}
 use Rattle.o2_world.specs.Changes.{with_all}
 use Rattle.o2_world.specs.Rulings.{Ruling}
 use Rattle.o2_shared.proofs.ByName.{found_held, sharing_bad, sharing_none, sharing_some}
+use Rattle.o2_shared.proofs.Holders.{shares_none}
 use Rattle.o2_shared.proofs.named.get_shr_seg.Goals as goal
 
 pub returns-then-not-is_name-clause-answer : goal.returns-then-not-is_name-clause-answer
@@ -36,3 +37,9 @@ returns-in-None-clause-answer c = λ p o es em count texts.
 pub returns-in-None-clause-matches : goal.returns-in-None-clause-matches
 returns-in-None-clause-matches c = λ p o w x es em count texts at q.
     refusal_maps p c.args.regions.now w _ 2 em (sharing_none p o c.args.store.now c.args.names.now c.args.pid c.args.name.now (sym c.if-not-is_name.ensures) texts c.in-None.ensures.found) q
+
+pub returns-then-not-is_name-clause-more : goal.returns-then-not-is_name-clause-more
+returns-then-not-is_name-clause-more c = shares_none c.args.store.now c.args.regions.now c.requires.caller.order
+
+pub returns-in-None-clause-more : goal.returns-in-None-clause-more
+returns-in-None-clause-more c = shares_none c.args.store.now c.args.regions.now c.requires.caller.order

@@ -1,7 +1,6 @@
 use Rattle.std.proofs.Common.{sym}
-use Rattle.o2_segs.proofs.Limits.{limits_none}
 use Rattle.o2_segs.proofs.Selecting.{named_live}
-use Rattle.o2_shared.proofs.Holders.{still_refl}
+use Rattle.o2_shared.proofs.Holders.{shares_none}
 use Rattle.o2_shared.proofs.Runs.{came_here, nobody_matches, one_matches, same_shared, shared_nothing, shared_one}
 use Rattle.o2_shared.proofs.sharing.share_at.Goals as goal
 
@@ -32,8 +31,8 @@ returns-in_default-clause-shares c = shared_nothing c.args.regions.now c.args.fr
 pub returns-in_default-clause-matches : goal.returns-in_default-clause-matches
 returns-in_default-clause-matches c = nobody_matches c.args.store.now c.args.regions.now c.args.from c.args.to c.args.index (sym c.in_default.ensures.held)
 
-pub returns-in_default-clause-still : goal.returns-in_default-clause-still
-returns-in_default-clause-still c = still_refl c.args.regions.now
+pub returns-in-Some-clause-more : goal.returns-in-Some-clause-more
+returns-in-Some-clause-more c = record { still = c.share.ensures.still; limits = c.share.ensures.limits; places = c.share.ensures.places; processes = c.share.ensures.processes; goes_on = c.share.ensures.goes_on }
 
-pub returns-in_default-clause-limits : goal.returns-in_default-clause-limits
-returns-in_default-clause-limits c = limits_none c.args.store.now c.args.regions.now
+pub returns-in_default-clause-more : goal.returns-in_default-clause-more
+returns-in_default-clause-more c = shares_none c.args.store.now c.args.regions.now c.requires.order

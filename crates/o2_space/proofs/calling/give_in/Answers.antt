@@ -3,7 +3,7 @@ use Rattle.o2_segbus.specs.Calls.{view_of}
 use Rattle.o2_segbus.proofs.Called.{agrees, leaves}
 use Rattle.o2_gate.specs.Gathers.{targets}
 use Rattle.o2_gate.proofs.Writing.{agrees_then}
-use Rattle.o2_stepping.proofs.Buses.{aimed_on, filling, given_there, writes_there}
+use Rattle.o2_stepping.proofs.Buses.{aimed_on, filling, given_there}
 use Rattle.o2_stepping.proofs.Gates.{frame_by}
 use Rattle.o2_space.specs.Calls.{no_registers}
 use Rattle.o2_space.proofs.calling.give_in.Goals as goal
@@ -30,7 +30,7 @@ returns-clause-maps c = (leaves c.args.bus.now c.give_value.new.bus (frame_by _ 
 pub returns-clause-clean : goal.returns-clause-clean
 returns-clause-clean c =
     (leaves c.args.bus.now c.give_value.new.bus (frame_by _ _ c.give_value.ensures.frame)).clean
-    (writes_there (view_of c.args.bus.now) (view_of c.give_value.new.bus) c.give_value.ensures.writes)
+    c.give_value.ensures.writes
 
 pub returns-clause-next : goal.returns-clause-next
 returns-clause-next c =

@@ -32,7 +32,7 @@ returns-clause-ready g c =
       holds = only_holds c.args.regions.now c.serve-served.new.regions c.serve-served.ensures.maps;
     } in
     ready_same c.args.images.now c.args.store.now c.serve-served.new.store c.args.regions.now c.serve-served.new.regions (S.blocks c.args.swap.now) (S.blocks c.serve-served.new.swap) (S.block c.args.swap.now) (S.block c.serve-served.new.swap)
-    c.requires.ready w c.serve-served.ensures.device.0 c.serve-served.ensures.settled c.serve-served.ensures.clean
+    c.requires.ready w c.serve-served.ensures.device.blocks c.serve-served.ensures.settled c.serve-served.ensures.clean
 
 pub returns-clause-can_step : goal.returns-clause-can_step
 returns-clause-can_step g c = λ here.
@@ -43,7 +43,7 @@ returns-clause-can_step g c = λ here.
       holds = only_holds c.args.regions.now c.serve-served.new.regions c.serve-served.ensures.maps;
     } in
     let ready = ready_same c.args.images.now c.args.store.now c.serve-served.new.store c.args.regions.now c.serve-served.new.regions (S.blocks c.args.swap.now) (S.blocks c.serve-served.new.swap) (S.block c.args.swap.now) (S.block c.serve-served.new.swap)
-    c.requires.ready w c.serve-served.ensures.device.0 c.serve-served.ensures.settled c.serve-served.ensures.clean in
+    c.requires.ready w c.serve-served.ensures.device.blocks c.serve-served.ensures.settled c.serve-served.ensures.clean in
     can_step c.serve-served.new.store c.args.regions.now c.serve-served.new.regions c.args.pid c.args.cpu.now c.args.need.now c.requires.process w.holds ready.named ready.settled
     (c.serve-served.ensures.here here) c.requires.seats
 
@@ -58,7 +58,10 @@ returns-clause-here g c = λ here n e.
       holds = only_holds c.args.regions.now c.serve-served.new.regions c.serve-served.ensures.maps;
     } in
     let ready = ready_same c.args.images.now c.args.store.now t c.args.regions.now c.serve-served.new.regions (S.blocks c.args.swap.now) (S.blocks c.serve-served.new.swap) (S.block c.args.swap.now) (S.block c.serve-served.new.swap)
-    c.requires.ready w c.serve-served.ensures.device.0 c.serve-served.ensures.settled c.serve-served.ensures.clean in
+    c.requires.ready w c.serve-served.ensures.device.blocks c.serve-served.ensures.settled c.serve-served.ensures.clean in
     let live = all_live_same c.args.store.now t need w.tables c.requires.live in
     let placed = c.serve-served.ensures.here here in
     ages_present t need ready.aged (λ i p f. live.each i p f) (λ i p f. placed.each i p (slice_get_within need i p f) f) n e
+
+pub serve-served-requires-clause-backed : goal.serve-served-requires-clause-backed
+serve-served-requires-clause-backed g c = record { clean = c.requires.ready.clean; device = c.requires.ready.device }

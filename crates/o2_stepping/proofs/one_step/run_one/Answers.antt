@@ -22,7 +22,7 @@ use Rattle.o2_world.proofs.Quiet.{served_quiet}
 use Rattle.o2_isa.specs.View.{Agrees, KeepsFrame}
 use Rattle.o2_gate.specs.Gathers.{row_for, targets}
 use Rattle.o2_gate.specs.Pointed.{are_ready}
-use Rattle.o2_gate.specs.Writes.{WritesHeld}
+use Rattle.o2_bus.specs.Writes.{WritesHeld}
 use Rattle.o2_stepping.specs.Ran.{OnAsked, OnMissed}
 use Rattle.o2_stepping.proofs.Gates.{done_boundless, trap_boundless, gate_boundless, away_by, whole_same, frame_by, frame_then, moved, by_answer, fault_by, still_of, missed_by, missed_of, none_asked, none_missed, none_undone, asks_by, asks_from, map_undone, wider_cause}
 use Rattle.o2_gate.proofs.Writing.{writes_data, writes_then, agrees_then}

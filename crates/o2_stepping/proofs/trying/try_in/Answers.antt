@@ -3,9 +3,8 @@ use Rattle.o2_isa.specs.View.{View}
 use Rattle.o2_gate.specs.Gathers.{targets}
 use Rattle.o2_gate.specs.Pointed.{are_ready}
 use Rattle.o2_run.specs.Pieces.{counts}
-use Rattle.o2_segbus.specs.Calls.{view_of}
 use Rattle.o2_segbus.proofs.Called.{agrees, bound, leaves}
-use Rattle.o2_stepping.proofs.Buses.{aimed_there, filling, leaves_there, part_there, step_missed, step_present, writes_there, bytes_there}
+use Rattle.o2_stepping.proofs.Buses.{aimed_there, filling, leaves_there, part_there, step_missed, step_present, bytes_there}
 use Rattle.o2_stepping.proofs.Gates.{both_asked, map_undone}
 use Rattle.o2_stepping.proofs.trying.try_in.Goals as goal
 
@@ -49,7 +48,7 @@ returns-clause-maps g c = (leaves c.args.bus.now c.run_one.new.bus c.run_one.ens
 pub returns-clause-clean : goal.returns-clause-clean
 returns-clause-clean g c =
     (leaves c.args.bus.now c.run_one.new.bus c.run_one.ensures.frame).clean
-    (writes_there (view_of c.args.bus.now) (view_of c.run_one.new.bus) (c.run_one.ensures.writes (agrees c.args.bus.now c.args.cpu.now c.requires)))
+    (c.run_one.ensures.writes (agrees c.args.bus.now c.args.cpu.now c.requires))
 
 pub returns-clause-next : goal.returns-clause-next
 returns-clause-next g c =

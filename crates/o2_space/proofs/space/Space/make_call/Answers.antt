@@ -37,23 +37,8 @@ use Rattle.o2_store.specs.Idle.{NoneTaken}
 use Rattle.o2_store.specs.Shelf.{Shelf}
 use Rattle.o2_space.proofs.space.Space.make_call.Goals as goal
 
-pub act-requires-clause-process : goal.act-requires-clause-process
-act-requires-clause-process g c = c.requires.can_step.process
-
-pub act-requires-clause-named : goal.act-requires-clause-named
-act-requires-clause-named g c = c.requires.can_step.named
-
-pub act-requires-clause-order : goal.act-requires-clause-order
-act-requires-clause-order g c = record { held = (c.requires.together.ready (λ k. [])).held; settled = c.requires.can_step.settled; tables = c.requires.together.whole }
-
 pub act-requires-clause-pictures : goal.act-requires-clause-pictures
 act-requires-clause-pictures g c = (c.requires.together.ready (λ k. [])).pictures
-
-pub act-requires-clause-clean : goal.act-requires-clause-clean
-act-requires-clause-clean g c = (c.requires.together.ready (λ k. [])).clean
-
-pub act-requires-clause-device : goal.act-requires-clause-device
-act-requires-clause-device g c = (c.requires.together.ready (λ k. [])).device
 
 pub act-requires-clause-one : goal.act-requires-clause-one
 act-requires-clause-one g c = c.requires.together.one
@@ -73,10 +58,10 @@ give-requires-clause-process g c = process_called c.args.self.now.regions c.act.
 pub give-requires-clause-named : goal.give-requires-clause-named
 give-requires-clause-named g c =
     let ready = c.requires.together.ready (λ k. []) in
-    named_by_age c.act.new.store c.act.new.regions (c.act.ensures.guards (record { aged = ready.aged; guarded = ready.guarded })).aged c.act.ensures.order.held.live
+    named_by_age c.act.new.store c.act.new.regions (c.act.ensures.goes_on.guards (record { aged = ready.aged; guarded = ready.guarded })).aged c.act.ensures.goes_on.order.held.live
 
 pub give-requires-clause-settled : goal.give-requires-clause-settled
-give-requires-clause-settled g c = c.act.ensures.order.settled
+give-requires-clause-settled g c = c.act.ensures.goes_on.order.settled
 
 pub give-requires-clause-ready : goal.give-requires-clause-ready
 give-requires-clause-ready g c =
@@ -85,7 +70,7 @@ give-requires-clause-ready g c =
     let n = c.act.new.regions in
     let pid = c.args.pid in
     let ready = c.requires.together.ready (λ k. []) in
-    aimed_kept m.store t m.regions n pid ready.held c.requires.can_step.named (named_by_age t n (c.act.ensures.guards (record { aged = ready.aged; guarded = ready.guarded })).aged c.act.ensures.order.held.live)
+    aimed_kept m.store t m.regions n pid ready.held c.requires.can_step.named (named_by_age t n (c.act.ensures.goes_on.guards (record { aged = ready.aged; guarded = ready.guarded })).aged c.act.ensures.goes_on.order.held.live)
     c.lawful.ensures.inside c.lawful-in-Done.ensures.inside c.args.arguments c.args.cpu.now no_registers c.act.ensures.holds c.act.ensures.entries
     (λ k needed slot place. c.act.ensures.kept k (kept_named m.store m.regions pid c.args.cpu.now c.args.arguments _ _ ready.held c.ids.ensures c.call_need-need.ensures k needed) slot place)
     c.requires.aimed
@@ -100,7 +85,7 @@ returns-in-NoRoom-clause-makes g c = λ s w x tells stands set tied there same s
     let S = g.S.SwapDevice in
     let m = c.args.self.now in
     let p : Parts = parts_in m (S.blocks c.args.swap.now) (S.block c.args.swap.now) in
-    on_device (moved p c.act.new.store c.act.new.regions (S.block c.act.new.swap)) (S.blocks c.act.new.swap) (λ (q : Parts). Stands q w) c.act.ensures.device.0
+    on_device (moved p c.act.new.store c.act.new.regions (S.block c.act.new.swap)) (S.blocks c.act.new.swap) (λ (q : Parts). Stands q w) c.act.ensures.device.blocks
     (stays_at p w c.act.new.store c.act.new.regions (S.block c.act.new.swap)
     (c.in-NoRoom.ensures.matches p s w x (record { store = refl; regions = refl; pictures = refl; blocks = refl; lawful = c.lawful.ensures; set = set; stands = stands })
     (spells_of c.args.self.now (g.S.SwapDevice.blocks c.args.swap.now) (g.S.SwapDevice.block c.args.swap.now) w c.requires.together stands spelled) tells there tied) stands)
@@ -123,10 +108,10 @@ returns-in-NoRoom-clause-together g c =
     record {
       ready = λ block.
           ready_called m.store c.act.new.store m.regions c.act.new.regions m.images (S.blocks c.args.swap.now) block block (running_at m.procs.items) (c.requires.together.ready block)
-          e.order e.guards e.clean e.pictures e.map (S.blocks c.act.new.swap) e.device.0;
+          e.goes_on.order e.goes_on.guards e.goes_on.clean (e.goes_on.pictures m.images (c.requires.together.ready (λ k. [])).pictures) e.goes_on.map (S.blocks c.act.new.swap) e.device.blocks;
       numbers = (let a = c.requires.together.numbers in let b = e.processes in omega (arith, a, b));
       marked = c.requires.together.marked;
-      whole = e.order.tables;
+      whole = e.goes_on.order.tables;
       one = e.limits.shares.one c.requires.together.one;
       places = e.places;
     }
@@ -136,7 +121,7 @@ returns-in-NoRoom-clause-set g c = λ s set.
     let S = g.S.SwapDevice in
     let e = c.act.ensures in
     set_called (parts_in c.args.self.now (S.blocks c.args.swap.now) (S.block c.args.swap.now)) c.act.new.store c.act.new.regions (S.blocks c.act.new.swap) (S.block c.act.new.swap)
-    e.limits.size e.limits.count e.map e.device.0 s set
+    e.limits.size e.limits.count e.goes_on.map e.device.blocks s set
 
 pub returns-in-NoRoom-clause-made : goal.returns-in-NoRoom-clause-made
 returns-in-NoRoom-clause-made g c = (let a = c.in-NoRoom.ensures.limits.made in omega (arith, a))
@@ -146,7 +131,7 @@ returns-in-SwapFull-clause-makes g c = λ s w x tells stands set tied there same
     let S = g.S.SwapDevice in
     let m = c.args.self.now in
     let p : Parts = parts_in m (S.blocks c.args.swap.now) (S.block c.args.swap.now) in
-    on_device (moved p c.act.new.store c.act.new.regions (S.block c.act.new.swap)) (S.blocks c.act.new.swap) (λ (q : Parts). Stands q w) c.act.ensures.device.0
+    on_device (moved p c.act.new.store c.act.new.regions (S.block c.act.new.swap)) (S.blocks c.act.new.swap) (λ (q : Parts). Stands q w) c.act.ensures.device.blocks
     (stays_at p w c.act.new.store c.act.new.regions (S.block c.act.new.swap)
     (c.in-SwapFull.ensures.matches p s w x (record { store = refl; regions = refl; pictures = refl; blocks = refl; lawful = c.lawful.ensures; set = set; stands = stands })
     (spells_of c.args.self.now (g.S.SwapDevice.blocks c.args.swap.now) (g.S.SwapDevice.block c.args.swap.now) w c.requires.together stands spelled) tells there tied) stands)
@@ -170,10 +155,10 @@ returns-in-SwapFull-clause-together g c =
     record {
       ready = λ block.
           ready_called m.store c.act.new.store m.regions c.act.new.regions m.images (S.blocks c.args.swap.now) block block (running_at m.procs.items) (c.requires.together.ready block)
-          e.order e.guards e.clean e.pictures e.map (S.blocks c.act.new.swap) e.device.0;
+          e.goes_on.order e.goes_on.guards e.goes_on.clean (e.goes_on.pictures m.images (c.requires.together.ready (λ k. [])).pictures) e.goes_on.map (S.blocks c.act.new.swap) e.device.blocks;
       numbers = (let a = c.requires.together.numbers in let b = e.processes in omega (arith, a, b));
       marked = c.requires.together.marked;
-      whole = e.order.tables;
+      whole = e.goes_on.order.tables;
       one = e.limits.shares.one c.requires.together.one;
       places = e.places;
     }
@@ -183,7 +168,7 @@ returns-in-SwapFull-clause-set g c = λ s set.
     let S = g.S.SwapDevice in
     let e = c.act.ensures in
     set_called (parts_in c.args.self.now (S.blocks c.args.swap.now) (S.block c.args.swap.now)) c.act.new.store c.act.new.regions (S.blocks c.act.new.swap) (S.block c.act.new.swap)
-    e.limits.size e.limits.count e.map e.device.0 s set
+    e.limits.size e.limits.count e.goes_on.map e.device.blocks s set
 
 pub returns-in-SwapFull-clause-made : goal.returns-in-SwapFull-clause-made
 returns-in-SwapFull-clause-made g c = (let a = c.in-SwapFull.ensures.limits.made in omega (arith, a))
@@ -193,7 +178,7 @@ returns-in-SwapFault-clause-makes g c = λ s w x tells stands set tied there sam
     let S = g.S.SwapDevice in
     let m = c.args.self.now in
     let p : Parts = parts_in m (S.blocks c.args.swap.now) (S.block c.args.swap.now) in
-    on_device (moved p c.act.new.store c.act.new.regions (S.block c.act.new.swap)) (S.blocks c.act.new.swap) (λ (q : Parts). Stands q w) c.act.ensures.device.0
+    on_device (moved p c.act.new.store c.act.new.regions (S.block c.act.new.swap)) (S.blocks c.act.new.swap) (λ (q : Parts). Stands q w) c.act.ensures.device.blocks
     (stays_at p w c.act.new.store c.act.new.regions (S.block c.act.new.swap)
     (c.in-SwapFault.ensures.matches p s w x (record { store = refl; regions = refl; pictures = refl; blocks = refl; lawful = c.lawful.ensures; set = set; stands = stands })
     (spells_of c.args.self.now (g.S.SwapDevice.blocks c.args.swap.now) (g.S.SwapDevice.block c.args.swap.now) w c.requires.together stands spelled) tells there tied) stands)
@@ -206,10 +191,10 @@ returns-in-SwapFault-clause-together g c =
     record {
       ready = λ block.
           ready_called m.store c.act.new.store m.regions c.act.new.regions m.images (S.blocks c.args.swap.now) block block (running_at m.procs.items) (c.requires.together.ready block)
-          e.order e.guards e.clean e.pictures e.map (S.blocks c.act.new.swap) e.device.0;
+          e.goes_on.order e.goes_on.guards e.goes_on.clean (e.goes_on.pictures m.images (c.requires.together.ready (λ k. [])).pictures) e.goes_on.map (S.blocks c.act.new.swap) e.device.blocks;
       numbers = (let a = c.requires.together.numbers in let b = e.processes in omega (arith, a, b));
       marked = c.requires.together.marked;
-      whole = e.order.tables;
+      whole = e.goes_on.order.tables;
       one = e.limits.shares.one c.requires.together.one;
       places = e.places;
     }
@@ -219,13 +204,13 @@ returns-in-SwapFault-clause-set g c = λ s set.
     let S = g.S.SwapDevice in
     let e = c.act.ensures in
     set_called (parts_in c.args.self.now (S.blocks c.args.swap.now) (S.block c.args.swap.now)) c.act.new.store c.act.new.regions (S.blocks c.act.new.swap) (S.block c.act.new.swap)
-    e.limits.size e.limits.count e.map e.device.0 s set
+    e.limits.size e.limits.count e.goes_on.map e.device.blocks s set
 
 pub returns-in-SwapFault-clause-made : goal.returns-in-SwapFault-clause-made
 returns-in-SwapFault-clause-made g c = (let a = c.in-SwapFault.ensures.limits.made in omega (arith, a))
 
 pub returns-in-SwapFault-clause-fault : goal.returns-in-SwapFault-clause-fault
-returns-in-SwapFault-clause-fault g c = c.in-SwapFault.ensures.cause refl
+returns-in-SwapFault-clause-fault g c = c.in-SwapFault.ensures.device.cause refl
 
 -- A call that is made.
 
@@ -255,7 +240,7 @@ returns-in-Done-clause-makes g c = λ s w x tells stands set tied there same spe
     (c.in-Done.ensures.matches p s w x over spells tells there tied) in
     let ready =
     ready_called m.store t m.regions n m.images (S.blocks c.args.swap.now) (S.block c.args.swap.now) block (running_at m.procs.items) (c.requires.together.ready (S.block c.args.swap.now))
-    e.order e.guards e.clean e.pictures e.map (S.blocks c.args.swap.now) refl in
+    e.goes_on.order e.goes_on.guards e.goes_on.clean (e.goes_on.pictures m.images (c.requires.together.ready (λ k. [])).pictures) e.goes_on.map (S.blocks c.args.swap.now) refl in
     let given = c.give.ensures in
     let good = ready_given t u n o m.images (S.blocks c.args.swap.now) block block (running_at m.procs.items) ready given.store given.maps given.clean given.settled in
     record {
@@ -263,7 +248,7 @@ returns-in-Done-clause-makes g c = λ s w x tells stands set tied there same spe
       cpu = registers;
       matches = λ d current.
           subst (λ (z : Cpu). Matches (with_running (record (stepped_to (moved p t n block) u o) { device = S.blocks c.act.new.swap }) pid (record { cpu = z; state = Live })) (changed w d x behind)) (sym registers)
-          (on_device (stepped_to (moved p t n block) u o) (S.blocks c.act.new.swap) (λ (q : Parts). Matches (with_running q pid (record { cpu = behind.cpu; state = Live })) (changed w d x behind)) e.device.0
+          (on_device (stepped_to (moved p t n block) u o) (S.blocks c.act.new.swap) (λ (q : Parts). Matches (with_running q pid (record { cpu = behind.cpu; state = Live })) (changed w d x behind)) e.device.blocks
           (called p s w x pid a c.args.next c.lawful.ensures stands there c.args.cpu.now c.requires.aimed t n block c.lawful-in-Done.ensures e.holds c.in-Done.answer.error c.in-Done.answer.value
           answers.error answers.value matches u o given.bytes given.store given.maps c.lawful-in-Done-2.ensures.inside good d current));
     }
@@ -304,11 +289,11 @@ returns-in-Done-clause-together g c =
     record {
       ready = λ block.
           ready_given t u n o m.images (S.blocks c.act.new.swap) block block (running_at m.procs.items)
-          (ready_called m.store t m.regions n m.images (S.blocks c.args.swap.now) block block (running_at m.procs.items) (c.requires.together.ready block) e.order e.guards e.clean e.pictures e.map (S.blocks c.act.new.swap) e.device.0)
+          (ready_called m.store t m.regions n m.images (S.blocks c.args.swap.now) block block (running_at m.procs.items) (c.requires.together.ready block) e.goes_on.order e.goes_on.guards e.goes_on.clean (e.goes_on.pictures m.images (c.requires.together.ready (λ k. [])).pictures) e.goes_on.map (S.blocks c.act.new.swap) e.device.blocks)
           given.store given.maps given.clean given.settled;
       numbers = (let a = c.requires.together.numbers in let b = e.processes in let d = given.maps.processes in omega (arith, a, b, d));
       marked = c.requires.together.marked;
-      whole = whole_same n o given.maps.processes given.maps.lengths e.order.tables;
+      whole = whole_same n o given.maps.processes given.maps.lengths e.goes_on.order.tables;
       one = (given_shares t u n o given.store given.maps).one (e.limits.shares.one c.requires.together.one);
       places = stay_in_place t u n o c.act.new.names e.places (given_shares t u n o given.store given.maps) (given_grows t u given.store);
     }
@@ -319,7 +304,7 @@ returns-in-Done-clause-set g c = λ s set.
     let e = c.act.ensures in
     let store = c.give.ensures.store.store in
     set_called (parts_in c.args.self.now (S.blocks c.args.swap.now) (S.block c.args.swap.now)) c.give.new.store c.give.new.regions (S.blocks c.act.new.swap) (S.block c.act.new.swap)
-    (ap (λ z. z.places.size) store ∙ e.limits.size) (ap (λ z. length z.entries) store ∙ e.limits.count) (ap (λ z. all_of z.swap) store ∙ e.map) e.device.0 s set
+    (ap (λ z. z.places.size) store ∙ e.limits.size) (ap (λ z. length z.entries) store ∙ e.limits.count) (ap (λ z. all_of z.swap) store ∙ e.goes_on.map) e.device.blocks s set
 
 pub returns-in-Done-clause-processes : goal.returns-in-Done-clause-processes
 returns-in-Done-clause-processes g c = c.give.ensures.maps.processes ∙ c.act.ensures.processes
@@ -483,3 +468,37 @@ returns-in-Done-clause-idle g c = λ s w x stands set sound chosen there live sa
             omega (arith, more, fit))
       ]
     ]
+
+pub act-requires-clause-caller : goal.act-requires-clause-caller
+act-requires-clause-caller g c = record {
+  process = c.requires.can_step.process;
+  named = c.requires.can_step.named;
+  order = record { held = (c.requires.together.ready (λ k. [])).held; settled = c.requires.can_step.settled; tables = c.requires.together.whole };
+}
+
+pub act-requires-clause-backed : goal.act-requires-clause-backed
+act-requires-clause-backed g c = record { clean = (c.requires.together.ready (λ k. [])).clean; device = (c.requires.together.ready (λ k. [])).device }
+
+pub returns-in-NoRoom-clause-device : goal.returns-in-NoRoom-clause-device
+returns-in-NoRoom-clause-device g c = (c.act.ensures.device.blocks, c.act.ensures.device.told)
+
+pub returns-in-NoRoom-clause-swap_count : goal.returns-in-NoRoom-clause-swap_count
+returns-in-NoRoom-clause-swap_count g c = c.act.ensures.device.faults
+
+pub returns-in-SwapFull-clause-device : goal.returns-in-SwapFull-clause-device
+returns-in-SwapFull-clause-device g c = (c.act.ensures.device.blocks, c.act.ensures.device.told)
+
+pub returns-in-SwapFull-clause-swap_count : goal.returns-in-SwapFull-clause-swap_count
+returns-in-SwapFull-clause-swap_count g c = c.act.ensures.device.faults
+
+pub returns-in-SwapFault-clause-device : goal.returns-in-SwapFault-clause-device
+returns-in-SwapFault-clause-device g c = (c.act.ensures.device.blocks, c.act.ensures.device.told)
+
+pub returns-in-SwapFault-clause-swap_count : goal.returns-in-SwapFault-clause-swap_count
+returns-in-SwapFault-clause-swap_count g c = c.act.ensures.device.faults
+
+pub returns-in-Done-clause-device : goal.returns-in-Done-clause-device
+returns-in-Done-clause-device g c = (c.act.ensures.device.blocks, c.act.ensures.device.told)
+
+pub returns-in-Done-clause-swap_count : goal.returns-in-Done-clause-swap_count
+returns-in-Done-clause-swap_count g c = c.act.ensures.device.faults

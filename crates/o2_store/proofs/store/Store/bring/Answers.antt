@@ -22,10 +22,10 @@ returns-clause-keeps g c =
     let t = c.list_keys-need.new.self in
     let e = c.list_keys-need.ensures.shelf in
     keys_keep (S.told c.bring_key-answer.new.swap) (picture c.args.images.now) s t c.bring_key-answer.new.self (S.block c.args.swap.now) (S.block c.bring_key-answer.new.swap) e
-    (c.bring_key-answer.ensures.keeps (keys_clean (picture c.args.images.now) s t e c.requires.clean))
+    (c.bring_key-answer.ensures.keeps (keys_clean (picture c.args.images.now) s t e c.requires.backed.clean))
 
 pub returns-clause-clean : goal.returns-clause-clean
-returns-clause-clean g c = c.bring_key-answer.ensures.clean (keys_clean (picture c.args.images.now) c.args.self.now c.list_keys-need.new.self c.list_keys-need.ensures.shelf c.requires.clean)
+returns-clause-clean g c = c.bring_key-answer.ensures.clean (keys_clean (picture c.args.images.now) c.args.self.now c.list_keys-need.new.self c.list_keys-need.ensures.shelf c.requires.backed.clean)
 
 pub returns-clause-locked : goal.returns-clause-locked
 returns-clause-locked g c =

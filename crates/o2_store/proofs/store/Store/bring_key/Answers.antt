@@ -9,6 +9,7 @@ use Rattle.o2_store.proofs.Collecting.{kept_has, need_exceeds, same_need}
 use Rattle.o2_store.proofs.Leaving.{some_not_none, written_in}
 use Rattle.o2_store.specs.Idle.{NoneTaken}
 use Rattle.o2_store.proofs.Loads.{out_load}
+use Rattle.o2_store.proofs.Framing.{device_behind}
 use Rattle.o2_store.proofs.store.Store.bring_key.Goals as goal
 
 pub returns-in-Here-clause-keeps : goal.returns-in-Here-clause-keeps
@@ -21,7 +22,7 @@ returns-in-Here-clause-keeps g c =
     let s = c.args.self.now in
     let v = c.evict_until-answer in
     let t = v.new.self in
-    λ q. keeps_trans told pic s t c.come_in.new.self a b (S.block c.come_in.new.swap) (keeps_later (S.told v.new.swap) told pic s t a b c.come_in.ensures.device.1 (v.ensures.keeps pic q)) c.come_in.ensures.keeps
+    λ q. keeps_trans told pic s t c.come_in.new.self a b (S.block c.come_in.new.swap) (keeps_later (S.told v.new.swap) told pic s t a b c.come_in.ensures.device.told (v.ensures.keeps pic q)) c.come_in.ensures.keeps
 
 pub returns-in-Here-clause-kept : goal.returns-in-Here-clause-kept
 returns-in-Here-clause-kept g c =
@@ -85,8 +86,6 @@ returns-in_default g c =
           let z : t.places.size ≡ s.places.size = ap (λ (x : Shelf). x.places.size) e in
           omega (arith, l, f, z, v.ensures.short c.in_default.not-Here));
       full = λ e. (v.ensures.full e, omega (arith, v.ensures.short c.in_default.not-Here, c.rounded_size-len.ensures.value));
-      faults = v.ensures.faults;
-      cause = v.ensures.cause;
       never = (
         λ e.
             (let l : key < length t.entries = omega (arith, v.ensures.tables.count, within_at s.entries key c.requires.live) in
@@ -100,3 +99,6 @@ returns-in_default g c =
         v.ensures.never,
       );
     }
+
+pub returns-in-Here-clause-device : goal.returns-in-Here-clause-device
+returns-in-Here-clause-device g c = (let v = c.evict_until-answer.ensures.device in device_behind _ _ _ _ _ _ _ v.blocks v.told v.faults c.come_in.ensures.device)

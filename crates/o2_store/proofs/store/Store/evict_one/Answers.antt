@@ -36,7 +36,5 @@ returns-in_default-save g c = record {
   dropped = search rules;
   full = search rules;
   lacks = search rules;
-  faults = c.save.ensures.faults;
-  cause = search rules;
   never = search rules;
 }

@@ -80,8 +80,6 @@ returns-in_default g c =
             omega (arith, a, v.ensures.map, same_swap_load s t v.ensures.tables),
             omega (arith, b, n, v.ensures.tables.size, same_load_at s t key c.args.size v.ensures.tables, v.ensures.short c.in_default.not-Here, grow, was, c.law-2.ensures.room),
           ));
-      faults = v.ensures.faults;
-      cause = v.ensures.cause;
       written = λ k d i n q. v.ensures.evicts.written k i n q;
       in_place = λ q. absurd
           (let l : used s.places.ranges + c.saturating_sub-growth.result ≤ s.places.size = omega (arith, q, grow, was, c.law.ensures.room) in
