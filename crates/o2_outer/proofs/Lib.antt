@@ -4,3 +4,4 @@ pub mod Booleans
 pub mod Readers
 pub mod Inputs
 pub mod Walks
+pub mod Windows

@@ -11,3 +11,5 @@ pub mod Streams
 pub mod Inputs
 pub mod Fetches
 pub mod Accesses
+pub mod Windows
+pub mod Ahead

@@ -10,6 +10,7 @@ use Rattle.o2_outer.specs.Inputs.{Past}
 use Rattle.o2_outer.specs.Fetches.{Fetched}
 use Rattle.o2_outer.specs.Accesses.{Accessed}
 use Rattle.o2_outer.specs.declared.file_swap.FileSwap.{FileSwap}
+use Rattle.o2_outer.specs.declared.window.Window.{Window}
 
 abbrev pub sink_stream : {W : Type 0} → StreamSink W → W
 sink_stream s = s.stream
@@ -67,3 +68,7 @@ swap_history s = s.noted.history.items
 
 abbrev pub swap_faults : {R F D : Type 0} → FileSwap R F D → ℕ
 swap_faults s = s.faults
+
+-- the blocks of its file that it has in memory
+abbrev pub swap_window : {R F D : Type 0} → FileSwap R F D → Window
+swap_window s = s.window

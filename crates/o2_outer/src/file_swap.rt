@@ -1,11 +1,12 @@
 // A swap device over a file of the system.
-ghost use Rattle.std.specs.Prelude.{◌≡◌, ◌≤◌, []};
+ghost use Rattle.std.specs.Prelude.{◌≡◌, ◌≤◌, ◌<◌, [], List, ℕ, true, false};
 ghost use Rattle.o2_outer.specs.Texts.{Rose, risen};
 ghost use Rattle.o2_outer.specs.Streams.{swap_history, swap_faults};
+ghost use Rattle.o2_outer.specs.Ahead.{has_block, IsAsBefore};
 
 use crate::noted::Noted;
-use crate::reading::read_on;
 use crate::streams::write_whole;
+use crate::window::Window;
 use crate::{Dev, Put, SwapDevice};
 use std::fs::OpenOptions;
 use std::io::{Seek, SeekFrom};
@@ -23,10 +24,16 @@ const BLOCK: u64 = 512;
 /// Blocks in the file `os2run.swp`, which is made, empty, at the first use. A block holds what was written last, and it tells whether
 /// each read gave that. Each error of the system is a fault, and so is a read of a block that wasn't written or whose last write failed,
 /// and of one of which the file has less than the whole: so a read gives other bytes only where the file changes by itself.
+///
+/// Up to 16 blocks that follow one another are written together, once one is read or another one is written, and read together. Those that
+/// wait are kept until the file has them: where it can't take them, that is a fault of the call that finds it, and they aren't lost.
 #[derive(Drop)]
 pub struct FileSwap<R: rt::Files + Drop> {
     system: R,
     file: Option<R::File>,
+    // the block before which the open file stands, where that is known
+    stands: Option<u32>,
+    window: Window,
     noted: Noted,
     faults: u64,
 }
@@ -40,6 +47,8 @@ impl<R: rt::Files + Drop> FileSwap<R> {
         FileSwap {
             system,
             file: None,
+            stands: None,
+            window: Window::new(),
             noted: Noted::new(),
             faults: 0,
         }
@@ -49,6 +58,7 @@ impl<R: rt::Files + Drop> FileSwap<R> {
     fn open(&mut self) -> bool
         ensures faults { self.new.faults ≡ self.old.faults }
         ensures noted { self.new.noted ≡ self.old.noted }
+        ensures window { self.new.window ≡ self.old.window }
     {
         if self.file.is_some() {
             return true;
@@ -76,35 +86,109 @@ impl<R: rt::Files + Drop> FileSwap<R> {
         Dev::Failed
     }
 
-    /// Reads a block from the open file, and tells whether it has the whole.
-    fn reads(&mut self, i: u32, into: &mut [u8; 512]) -> bool
+    /// Has the open file stand before a block, and tells whether it does.
+    fn find(&mut self, i: u32) -> bool
         ensures faults { self.new.faults ≡ self.old.faults }
         ensures noted { self.new.noted ≡ self.old.noted }
+        ensures window { self.new.window ≡ self.old.window }
     {
+        if self.stands == Some(i) {
+            return true;
+        }
         let Some(file) = &mut self.file else {
             return false;
         };
         file.seek(SeekFrom::Start(i as u64 * BLOCK)).is_ok()
-            && read_on(file, into, 0, 512) == (512, true)
     }
 
-    /// Writes a block to the open file, and tells whether it was taken whole.
-    fn writes(&mut self, i: u32, from: &[u8; 512]) -> bool
+    /// Writes the blocks that wait to the open file, and tells whether it took them whole. They wait on where it didn't.
+    fn flush(&mut self) -> bool
         ensures faults { self.new.faults ≡ self.old.faults }
         ensures noted { self.new.noted ≡ self.old.noted }
+        ensures window { IsAsBefore self.old.window self.new.window }
+        ensures done { result ≡ true → self.new.window.waits ≡ false }
     {
+        if !self.window.waits() {
+            return true;
+        }
+        let first = self.window.first();
+        let found = self.find(first);
+        self.stands = None;
         let Some(file) = &mut self.file else {
             return false;
         };
-        file.seek(SeekFrom::Start(i as u64 * BLOCK)).is_ok() && write_whole(file, from) == Put::Done
+        if !found || write_whole(file, self.window.bytes()) != Put::Done {
+            return false;
+        }
+        self.stands = self.window.end();
+        self.window.settle();
+        true
+    }
+
+    /// Reads a block and those that follow it from the open file, as far as they are known, where none waits.
+    fn fill(&mut self, i: u32) -> bool
+        requires block { i < 65536 }
+        requires done { self.old.window.waits ≡ false }
+        ensures faults { self.new.faults ≡ self.old.faults }
+        ensures noted { self.new.noted ≡ self.old.noted }
+    {
+        let found = self.find(i);
+        self.stands = None;
+        let count = self.noted.known_from(i);
+        let Some(file) = &mut self.file else {
+            return false;
+        };
+        if !found {
+            return false;
+        }
+        self.stands = self.window.fill(file, i, count);
+        true
+    }
+
+    /// Gives a block, and tells whether that was done. Those that wait are written before.
+    #[tactic(auto, using(crate::proofs::Windows::held_as))]
+    fn reads(&mut self, i: u32, into: &mut [u8; 512]) -> bool
+        requires { i < 65536 }
+        ensures held { (block : List ℕ) → has_block self.old.window i block → result ≡ true → into.new ≡ block }
+        ensures given { result ≡ true → has_block self.new.window i into.new }
+        ensures faults { self.new.faults ≡ self.old.faults }
+        ensures noted { self.new.noted ≡ self.old.noted }
+    {
+        if !self.flush() {
+            return false;
+        }
+        if self.window.get(i, into) {
+            return true;
+        }
+        if !self.fill(i) {
+            return false;
+        }
+        self.window.get(i, into)
+    }
+
+    /// Has a block wait to be written, and tells whether that was done. Those that wait are written first where it doesn't follow them.
+    fn writes(&mut self, i: u32, from: &[u8; 512]) -> bool
+        ensures waits { result ≡ true → has_block self.new.window i from.now }
+        ensures faults { self.new.faults ≡ self.old.faults }
+        ensures noted { self.new.noted ≡ self.old.noted }
+    {
+        if self.window.add(i, from) {
+            return true;
+        }
+        if !self.flush() {
+            return false;
+        }
+        self.window.begin(i, from);
+        true
     }
 }
 
 impl<R: rt::Files + Drop> SwapDevice for FileSwap<R> {
-    ghost use Rattle.std.specs.Prelude.{◌≢◌, ◌<◌, ◌∷◌, ℕ, IsTrue, false};
+    ghost use Rattle.std.specs.Prelude.{◌≢◌, ◌<◌, ◌∷◌, ℕ, List, IsTrue, false};
     ghost use Rattle.o2_outer.specs.Answers.{HasCause, CountsDev};
     ghost use Rattle.o2_outer.specs.Accesses.{all_agree, content, is_known, with_read, with_write};
-    ghost use Rattle.o2_outer.specs.Streams.{swap_history, swap_faults};
+    ghost use Rattle.o2_outer.specs.Streams.{swap_history, swap_faults, swap_window};
+    ghost use Rattle.o2_outer.specs.Ahead.{has_block};
 
     ghost blocks = { λ _. 65536 };
 
@@ -129,6 +213,8 @@ impl<R: rt::Files + Drop> SwapDevice for FileSwap<R> {
         ensures cause { HasCause (swap_faults self.old) (swap_faults self.new) result }
         ensures counts { CountsDev (swap_faults self.old) (swap_faults self.new) result }
         ensures unknown { is_known (swap_history self.old) i ≡ false → result ≡ Dev.Failed }
+        // What is in memory is given as it is there, whatever the file has.
+        ensures held { (block : List ℕ) → has_block (swap_window self.old) i block → result ≡ Dev.Done → into.new ≡ block }
     {
         if !(self.noted.knows(i) && self.open() && self.reads(i, into)) {
             return self.fault();
@@ -146,6 +232,7 @@ impl<R: rt::Files + Drop> SwapDevice for FileSwap<R> {
         ensures written { result ≡ Dev.Done → content (swap_history self.new) i ≡ from.now }
         ensures cause { HasCause (swap_faults self.old) (swap_faults self.new) result }
         ensures counts { CountsDev (swap_faults self.old) (swap_faults self.new) result }
+        ensures waits { result ≡ Dev.Done → has_block (swap_window self.new) i from.now }
     {
         if !(self.open() && self.writes(i, from)) {
             self.noted.lost(i, from);

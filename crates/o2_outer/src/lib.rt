@@ -22,6 +22,7 @@ mod stdin;
 mod streams;
 mod sure;
 mod swap;
+mod window;
 
 pub use file_swap::FileSwap;
 pub use files::{Fetch, Files};

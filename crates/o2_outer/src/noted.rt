@@ -33,6 +33,18 @@ impl Noted {
         self.known[i as usize]
     }
 
+    /// How many blocks from one on are known, of 16 at most.
+    pub(crate) fn known_from(&self, i: u32) -> u32
+        requires { i < 65536 }
+    {
+        for b in i..i + 16 {
+            if b >= 65536 || !self.knows(b) {
+                return b - i;
+            }
+        }
+        16
+    }
+
     /// A block was read.
     pub(crate) fn read(&mut self, i: u32, bytes: &[u8; 512])
         ensures { self.new.history.items ≡ (i, (Read, bytes.now)) ∷ self.old.history.items }

@@ -73,7 +73,7 @@ impl Store {
         let Some(entry) = self.entries.get(key) else {
             return Dev::Done;
         };
-        self.phys.clear(at, entry.size);
+        clear_behind(&mut self.phys, at, entry.kept, entry.size);
         if let Some((module, seg)) = entry.image {
             paint(&mut self.phys, at, entry.kept, images, module, seg);
             return Dev::Done;
@@ -151,6 +151,18 @@ impl Store {
         self.settle(key, at);
         true
     }
+}
+
+// Clears the bytes of a place behind so many of them, up to a size.
+fn clear_behind(phys: &mut Phys, at: u32, kept: u32, size: u32)
+    requires range { at + size ≤ length phys.old }
+    requires fits { at + size < 2 ^ 31 }
+    requires kept { kept ≤ size }
+    ensures length { length phys.new ≡ length phys.old }
+    ensures outside { (i : ℕ) → (i < at + kept) ⊎ (at + size ≤ i) → slice_index phys.new i ≡ slice_index phys.old i }
+    ensures zeros { (j : ℕ) → kept ≤ j → j < size → slice_index phys.new (at + j) ≡ 0 }
+{
+    phys.clear(at + kept, size - kept);
 }
 
 // Writes the first bytes of an image to a place.

@@ -180,30 +180,33 @@ walk_end bs o at n k h l =
     let e = length-pile bs (block bs at).below (n - 1) in
     ap (λ (xs : List ℕ). get_or xs k 0) t.4 ∙ grind (arith, places)
 
--- the first pile
-pub fresh_pile : (bs : List Block) (owner n : ℕ) → n ≤ length bs → ((j : ℕ) → j < length bs → block bs j ≡ record { below = j - 1; owner = owner; rank = j }) → IsPile bs owner (n - 1) n
-fresh_pile bs owner zero l h = tt
-fresh_pile bs owner (suc n) l h =
-    let e : suc n - 1 ≡ n = omega arith in
-    let b : block bs n ≡ record { below = n - 1; owner = owner; rank = n } = h n (omega arith) in
-    rw (e, b) (omega arith, refl, refl, fresh_pile bs owner n (omega arith) h)
+-- the first pile, from one of its blocks down
+fresh_from : (bs : List Block) (owner at n : ℕ) → at + n ≡ length bs → ((j : ℕ) → j < length bs → block bs j ≡ record { below = j + 1; owner = owner; rank = length bs - 1 - j }) → IsPile bs owner at n
+fresh_from bs owner at zero l h = tt
+fresh_from bs owner at (suc n) l h =
+    let w : at < length bs = omega arith in
+    let b : block bs at ≡ record { below = at + 1; owner = owner; rank = length bs - 1 - at } = h at w in
+    rw b (w, refl, omega arith, fresh_from bs owner (at + 1) n (omega arith) h)
+
+pub fresh_pile : (bs : List Block) (owner : ℕ) → ((j : ℕ) → j < length bs → block bs j ≡ record { below = j + 1; owner = owner; rank = length bs - 1 - j }) → IsPile bs owner 0 (length bs)
+fresh_pile bs owner h = fresh_from bs owner 0 (length bs) (omega arith) h
 
 no_counts : (n : ℕ) → sum_by (λ (r : Pile). r.count) (replicate n no_pile) ≡ 0
 no_counts zero = refl
 no_counts (suc n) = sum_by-cons (λ (r : Pile). r.count) no_pile (replicate n no_pile) ∙ (let e = no_counts n in omega (arith, e))
 
-pub fresh : (bs : List Block) (ps : List Pile) (most : ℕ) → ((j : ℕ) → j < length bs → block bs j ≡ record { below = j - 1; owner = most; rank = j }) → ps ≡ set (replicate (most + 1) no_pile) most (record { top = length bs - 1; count = length bs }) → ArePiles bs ps
+pub fresh : (bs : List Block) (ps : List Pile) (most : ℕ) → ((j : ℕ) → j < length bs → block bs j ≡ record { below = j + 1; owner = most; rank = length bs - 1 - j }) → ps ≡ set (replicate (most + 1) no_pile) most (record { top = 0; count = length bs }) → ArePiles bs ps
 fresh bs ps most h e = rw e (record {
   each = λ i l. elim (cases_eq i most) [
-    | inl same ↦ rw (same, get_or-set_same (replicate (most + 1) no_pile) most (record { top = length bs - 1; count = length bs }) no_pile (grind (arith, common_steps))) (fresh_pile bs most (length bs) (omega arith) h)
-    | inr n ↦ rw (get_or-set_other (replicate (most + 1) no_pile) most i (record { top = length bs - 1; count = length bs }) no_pile n, get_or-replicate (most + 1) i no_pile no_pile (simp (length-set, length-replicate) at l)) tt
+    | inl same ↦ rw (same, get_or-set_same (replicate (most + 1) no_pile) most (record { top = 0; count = length bs }) no_pile (grind (arith, common_steps))) (fresh_pile bs most h)
+    | inr n ↦ rw (get_or-set_other (replicate (most + 1) no_pile) most i (record { top = 0; count = length bs }) no_pile n, get_or-replicate (most + 1) i no_pile no_pile (simp (length-set, length-replicate) at l)) tt
   ];
   total =
       let n : most < length (replicate (most + 1) no_pile) = rw (length-replicate (most + 1) no_pile) (omega arith) in
-      let one = sum_by-set (λ (r : Pile). r.count) (replicate (most + 1) no_pile) most (record { top = length bs - 1; count = length bs }) no_pile n in
+      let one = sum_by-set (λ (r : Pile). r.count) (replicate (most + 1) no_pile) most (record { top = 0; count = length bs }) no_pile n in
       let old = ap (λ (r : Pile). r.count) (get_or-replicate (most + 1) most no_pile no_pile (omega arith)) in
       let none = no_counts (most + 1) in
-      let all : sum_by (λ (r : Pile). r.count) (set (replicate (most + 1) no_pile) most (record { top = length bs - 1; count = length bs })) ≡ length bs = omega (arith, one, old, none) in all;
+      let all : sum_by (λ (r : Pile). r.count) (set (replicate (most + 1) no_pile) most (record { top = 0; count = length bs })) ≡ length bs = omega (arith, one, old, none) in all;
 })
 
 past : (xs : List ℕ) (k : ℕ) → length xs ≤ k → slice_get xs k ≡ None
@@ -224,18 +227,18 @@ all_is bs ps h = sum-lists bs ps ∙ h.total
 pub free_le : (bs : List Block) (ps : List Pile) (i : ℕ) → ArePiles bs ps → i < length ps → length (get_or (lists_of bs ps) i []) ≤ length bs
 free_le bs ps i h l = rw (length-list bs ps i) (let b = get_or-le-sum_by (λ (r : Pile). r.count) ps i no_pile l in omega (arith, b, h.total))
 
-pub fresh_empty : (bs : List Block) (ps : List Pile) (most n k : ℕ) → ps ≡ set (replicate (most + 1) no_pile) most (record { top = n - 1; count = n }) → k < most → get_or (lists_of bs ps) k [] ≡ []
-fresh_empty bs ps most n k e l = list_at bs ps k ∙ ap (list_of bs) (ap (λ qs. at qs k) e ∙ get_or-set_other (replicate (most + 1) no_pile) most k (record { top = n - 1; count = n }) no_pile (omega arith) ∙ get_or-replicate (most + 1) k no_pile no_pile (omega arith))
+pub fresh_empty : (bs : List Block) (ps : List Pile) (most n k : ℕ) → ps ≡ set (replicate (most + 1) no_pile) most (record { top = 0; count = n }) → k < most → get_or (lists_of bs ps) k [] ≡ []
+fresh_empty bs ps most n k e l = list_at bs ps k ∙ ap (list_of bs) (ap (λ qs. at qs k) e ∙ get_or-set_other (replicate (most + 1) no_pile) most k (record { top = 0; count = n }) no_pile (omega arith) ∙ get_or-replicate (most + 1) k no_pile no_pile (omega arith))
 
-pub fresh_length : (ps : List Pile) (most n : ℕ) → ps ≡ set (replicate (most + 1) no_pile) most (record { top = n - 1; count = n }) → length ps - 1 ≡ most
-fresh_length ps most n e = rw (e, length-set (replicate (most + 1) no_pile) most (record { top = n - 1; count = n }), length-replicate (most + 1) no_pile) (omega arith)
+pub fresh_length : (ps : List Pile) (most n : ℕ) → ps ≡ set (replicate (most + 1) no_pile) most (record { top = 0; count = n }) → length ps - 1 ≡ most
+fresh_length ps most n e = rw (e, length-set (replicate (most + 1) no_pile) most (record { top = 0; count = n }), length-replicate (most + 1) no_pile) (omega arith)
 
-pub fresh_free : (bs : List Block) (ps : List Pile) (most n : ℕ) → ps ≡ set (replicate (most + 1) no_pile) most (record { top = n - 1; count = n }) → length (get_or (lists_of bs ps) (length ps - 1) []) ≡ n
-fresh_free bs ps most n e = rw (fresh_length ps most n e) (length-list bs ps most ∙ ap (λ (r : Pile). r.count) (ap (λ qs. at qs most) e ∙ get_or-set_same (replicate (most + 1) no_pile) most (record { top = n - 1; count = n }) no_pile (rw (length-replicate (most + 1) no_pile) (omega arith))))
+pub fresh_free : (bs : List Block) (ps : List Pile) (most n : ℕ) → ps ≡ set (replicate (most + 1) no_pile) most (record { top = 0; count = n }) → length (get_or (lists_of bs ps) (length ps - 1) []) ≡ n
+fresh_free bs ps most n e = rw (fresh_length ps most n e) (length-list bs ps most ∙ ap (λ (r : Pile). r.count) (ap (λ qs. at qs most) e ∙ get_or-set_same (replicate (most + 1) no_pile) most (record { top = 0; count = n }) no_pile (rw (length-replicate (most + 1) no_pile) (omega arith))))
 
-pub fresh_map : (bs : List Block) (ps : List Pile) (most n : ℕ) → length bs ≡ n → ((j : ℕ) → j < n → block bs j ≡ record { below = j - 1; owner = most; rank = j }) → ps ≡ set (replicate (most + 1) no_pile) most (record { top = n - 1; count = n }) → n ≤ 65536 → most < 2 ^ 32 - 1 → IsMap bs ps
+pub fresh_map : (bs : List Block) (ps : List Pile) (most n : ℕ) → length bs ≡ n → ((j : ℕ) → j < n → block bs j ≡ record { below = j + 1; owner = most; rank = n - 1 - j }) → ps ≡ set (replicate (most + 1) no_pile) most (record { top = 0; count = n }) → n ≤ 65536 → most < 2 ^ 32 - 1 → IsMap bs ps
 fresh_map bs ps most n size each e small few =
-    let l : length ps ≡ most + 1 = rw (e, length-set (replicate (most + 1) no_pile) most (record { top = n - 1; count = n }), length-replicate (most + 1) no_pile) refl in
+    let l : length ps ≡ most + 1 = rw (e, length-set (replicate (most + 1) no_pile) most (record { top = 0; count = n }), length-replicate (most + 1) no_pile) refl in
     record {
       piles = fresh bs ps most (rw (← size) at each) (rw (← size) at e);
       small = rw size small;

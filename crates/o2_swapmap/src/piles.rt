@@ -19,16 +19,17 @@ pub(crate) struct Pile {
     pub count: u32,
 }
 
-/// So many blocks, in one pile of the owner `most`.
+/// So many blocks, in one pile of the owner `most`: block 0 is at its top, and each lies on the one behind it in the device, so that those
+/// that are taken together follow one another there.
 pub(crate) fn free_blocks(alloc: Global, blocks: u32, most: u32) -> Result<Vec<Block>, AllocError>
-    ensures { IfOk result (λ v. (length v.items ≡ blocks) × ((j : ℕ) → j < blocks → block v.items j ≡ record { below = j - 1; owner = most; rank = j })) }
+    ensures { IfOk result (λ v. (length v.items ≡ blocks) × ((j : ℕ) → j < blocks → block v.items j ≡ record { below = j + 1; owner = most; rank = blocks - 1 - j })) }
 {
     let mut all = Vec::with_capacity(alloc, blocks as usize)?;
     for i in 0..blocks {
         all.push_reserved(Block {
-            below: i.saturating_sub(1),
+            below: i + 1,
             owner: most,
-            rank: i,
+            rank: blocks - 1 - i,
         });
     }
     Ok(all)
@@ -37,14 +38,14 @@ pub(crate) fn free_blocks(alloc: Global, blocks: u32, most: u32) -> Result<Vec<B
 /// An empty pile for each owner below `most`, and the pile of the free blocks behind them.
 pub(crate) fn first_piles(alloc: Global, blocks: u32, most: u32) -> Result<Vec<Pile>, AllocError>
     requires { most < 2 ^ 32 - 1 }
-    ensures { IfOk result (λ v. v.items ≡ slice_set (replicate (most + 1) no_pile) most (record { top = blocks - 1; count = blocks })) }
+    ensures { IfOk result (λ v. v.items ≡ slice_set (replicate (most + 1) no_pile) most (record { top = 0; count = blocks })) }
 {
     let mut piles = Vec::with_capacity(alloc, most as usize + 1)?;
     for _ in 0..most as usize + 1 {
         piles.push_reserved(Pile { top: 0, count: 0 });
     }
     piles[most as usize] = Pile {
-        top: blocks.saturating_sub(1),
+        top: 0,
         count: blocks,
     };
     Ok(piles)
