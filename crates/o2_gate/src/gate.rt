@@ -7,7 +7,7 @@ ghost use Rattle.o2_isa.specs.Pointers.{KeepsAllButBytes};
 ghost use Rattle.o2_isa.specs.Presence.{SameSelectors};
 ghost use Rattle.o2_bus.specs.Writes.{WritesHeld};
 ghost use Rattle.o2_world.specs.Known.{Known};
-ghost use Rattle.o2_world.specs.Calls.{serviced, row_of as number_row, IsPlain};
+ghost use Rattle.o2_world.specs.Calls.{argument, serviced, row_of as number_row, IsPlain};
 ghost use Rattle.o2_gate.specs.Befores.{boundless, before_call, IsKnown};
 ghost use Rattle.o2_gate.specs.Called.{Does, OnMissed};
 ghost use Rattle.o2_gate.specs.Gathers.{row_for};
@@ -123,6 +123,9 @@ pub fn call<B: Ranges, I: Source, C: Sink, R: Sink>(
     ensures avail { state.new.avail ≡ state.old.avail }
     // The input is touched in a DosRead alone, and the console in a DosWrite alone.
     ensures no_input { service ≢ 3 → input.new ≡ input.old }
+    // A DosRead of no bytes, or from a handle that isn't the input's, asks it for nothing.
+    ensures nothing { service ≡ 3 → (f : Filling) → IsBound (B.view bus.old) → argument (boundless f (B.view bus.old)) cpu.old 2 ≡ 0 → input.new ≡ input.old }
+    ensures refused { service ≡ 3 → (f : Filling) → IsBound (B.view bus.old) → argument (boundless f (B.view bus.old)) cpu.old 5 ≢ 0 → input.new ≡ input.old }
     ensures no_console { service ≢ 4 → console.new ≡ console.old }
     ensures input_count { I.faults input.old ≤ I.faults input.new }
     ensures console_count { C.faults console.old ≤ C.faults console.new }
