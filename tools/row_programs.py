@@ -1,17 +1,26 @@
-"""The programs of the tables in the crates of rows (crates/*_rows, crates/rows), which the proved tests run: their files, the machine file that
-each stands for, and what it must come to. tools/check_memory runs them in the least memory that each needs.
+"""The programs of the table of commands (crates/command_rows/stdin), which the proved program runs: their files, the machine file that each stands for,
+and what it must come to. tools/check_memory runs them in the least memory that each needs. The head of that table says what its statements do.
 """
 import os
 import re
 
 ROOT = os.path.dirname(os.path.dirname(os.path.realpath(__file__)))
+ROWS = os.path.join(ROOT, "crates", "command_rows")
+HEADINGS = (
+    "calls over an input",
+    "instructions",
+    "calls on segments",
+    "calls by which processes share segments",
+    "calls on huge allocations",
+    "memories that are too small, or just large enough",
+)
+EXE = "segments = 1024\nbudget = 1000000\nquantum = 1000\navail = 524288\n"
 
 
 class Row:
-    """One program or two: files by name, the machine file's lines without memory and swap, the input, and what is wanted of console and report; None
-    where the row doesn't say."""
+    """One program or more: files by name, the machine file's lines without memory and swap, the input, and what is wanted of console and report."""
 
-    def __init__(self, title, files, lines, console=None, report=None, given=b""):
+    def __init__(self, title, files, lines, console, report, given):
         self.title, self.files, self.lines = title, files, lines
         self.console, self.report, self.given = console, report, given
 
@@ -20,19 +29,8 @@ class Row:
 
 
 def source(name):
-    with open(os.path.join(ROOT, "crates", name), encoding="utf-8") as file:
+    with open(os.path.join(ROWS, name), encoding="utf-8") as file:
         return file.read()
-
-
-def text_of(code, name):
-    """What a `static` or `const` text holds."""
-    found = re.search(rf'(?s)\b{name}: &str =\s*"(.*?)(?<!\\)";', code)
-    return found[1].encode("latin-1").decode("unicode_escape")
-
-
-def table(code, name):
-    """The rows of a table, each in its parts."""
-    return [[part.strip() for part in row.split("|")] for row in text_of(code, name).split("\n") if "|" in row]
 
 
 def bytes_of(code, name):
@@ -41,6 +39,20 @@ def bytes_of(code, name):
     held = bytes(int(word, 16) for word in re.findall(r"0x([0-9A-F]{2})", found[2]))
     assert len(held) == int(found[1]), name
     return held
+
+
+PROGRAMS = source("src/programs.rt")
+FRONT, END = bytes_of(PROGRAMS, "FRONT"), bytes_of(PROGRAMS, "END")
+
+
+def program(code):
+    """A program of this code, behind which it writes 16 bytes and ends."""
+    file = bytearray(FRONT)
+    file[0x82:0x84] = file[0x86:0x88] = (len(code) + 30).to_bytes(2, "little")
+    file += code + END + b"\2\0"
+    for behind, ordinal in ((0x11, 138), (0x1A, 5)):
+        file += b"\3\1" + (len(code) + behind).to_bytes(2, "little") + b"\1\0" + ordinal.to_bytes(2, "little")
+    return bytes(file)
 
 
 def spelled(text):
@@ -53,132 +65,141 @@ def spelled(text):
 
 
 def lines_of(text):
-    return "".join(line + "\n" for line in text.split(" / ") if line)
+    return "".join(line.strip() + "\n" for line in text.split(" / ") if line.strip()).encode("latin-1")
 
 
-def sixteen(text):
-    """The bytes of a row, with zeros behind them."""
-    return bytes(int(word, 16) for word in text.split()).ljust(16, b"\0")
+def word(number):
+    return (number % 65536).to_bytes(2, "little")
 
 
-PROGRAMS, HELLO = source("o2_rows/src/programs.rt"), source("o2_rows/src/hello.rt")
-FIRST_LINES = re.findall(r'"((?:1 |all ).*?)\\n"', HELLO)
-ALONE = 'segments = 1024\nbudget = 1000000\nquantum = 1000\navail = 524288\nmodules = ["a.exe"]\n[[process]]\nmodule = "HELLO"\n'
+def acted(act):
+    """The code of what a process does, a call by its gate, a text that is written to DS or instructions, and how many steps it takes."""
+    front, _, rest = act.partition(" ")
+    second, _, last = rest.partition(" ")
+    if front == "n":
+        held, at = last.encode("latin-1"), int(second, 16)
+        words = [held[k : k + 2].ljust(2, b"\0") for k in range(0, len(held), 2)] + [b"\0\0"]
+        return b"".join(b"\xC7\x06" + word(at + 2 * k) + pair for k, pair in enumerate(words)), len(words)
+    if front == "x":
+        return spelled(last), 0 if second == "-" else int(second, 16)
+    pushed = rest.split()
+    code = b"".join(b"\x68" + word(int(number, 16)) for number in pushed)
+    return code + b"\x9A\0\0" + word(int(front, 16) % 64 * 8 + 0x83), len(pushed) + 1
 
 
-def program(code, letter=None):
-    """A program of this code, behind which it writes 16 bytes and ends."""
-    file = bytearray(bytes_of(PROGRAMS, "FRONT"))
-    length = (len(code) + 30).to_bytes(2, "little")
-    file[0x82:0x84] = file[0x86:0x88] = length
-    if letter:
-        file[0x91] = ord(letter)
-    file += code + bytes_of(PROGRAMS, "END") + b"\2\0"
-    for behind, ordinal in ((0x11, 138), (0x1A, 5)):
-        file += b"\3\1" + (len(code) + behind).to_bytes(2, "little") + b"\1\0" + ordinal.to_bytes(2, "little")
-    return bytes(file)
+def module_name(file):
+    """The own name of the module in an executable."""
+    header = int.from_bytes(file[0x3C:0x40], "little")
+    at = header + int.from_bytes(file[header + 0x26 : header + 0x28], "little")
+    return file[at + 1 : at + 1 + file[at]].decode("latin-1")
 
 
-def called(words):
-    """The code of a call, as `5 0 17 0 0`, and how many steps it takes."""
-    service, *pushed = words.split()
-    code = b"".join(b"\x68" + (int(word, 16) % 65536).to_bytes(2, "little") for word in pushed)
-    return code + b"\x9A\0\0" + (int(service, 16) % 64 * 8 + 0x83).to_bytes(2, "little"), len(pushed) + 1
+class Table:
+    """What the statements of the table have made so far: bytes under names, macros, whether a call of a device fails in the next run, and the runs."""
 
+    def __init__(self):
+        self.parts, self.macros, self.is_failing, self.runs = {}, {}, False, []
 
-def hello_report(text):
-    """As many of the lines of `hello` as the first number says, and other lines."""
-    first, _, rest = text.partition(" ")
-    return "".join(line + "\n" for line in FIRST_LINES[: int(first, 16)]) + lines_of(rest)
+    def part(self, name):
+        return self.parts.setdefault(name, bytearray())
 
+    def take(self, text):
+        """All lines of a table."""
+        heading, lines = None, None
+        for number, line in enumerate(text.split("\n"), 1):
+            if line.startswith("def "):
+                lines = self.macros[line[4:]] = []
+            elif line == "end":
+                lines = None
+            elif lines is not None:
+                lines.append(line)
+            elif line.startswith("= "):
+                heading = line[2:]
+            else:
+                self.step(line, heading, f"line {number}: {line[:120]}")
 
-def instructions():
-    start = text_of(source("instruction_rows/src/instructions.rt"), "START")
-    for kind in ("data", "flow"):
-        code = source(f"instruction_rows/src/instructions/{kind}.rt")
-        for name, spelling, held in table(code, "SHOWN"):
-            yield Row(name, {"a.exe": program(spelled(spelling))}, ALONE, sixteen(held))
-        for name, spelling, line in table(code, "ENDED"):
-            yield Row(name, {"a.exe": program(spelled(spelling))}, ALONE, report=f"{start}{line}\nall ended\n")
-
-
-def segment_calls():
-    source_text = source("segment_rows/src/segment_calls.rt")
-    end = text_of(source_text, "END")
-    rows = [row for name in ("DONE", "ERRORS", "ENDED") for row in table(source_text, name)]
-    for acts, lines, held in rows:
-        code = b""
-        for act in acts.split(" ; "):
-            code += spelled(act[2:]) if act.strip().startswith("x ") else called(act)[0]
-        traps = " end trap " in lines
-        report = hello_report(f"4 {lines} / {'all ended' if traps else end}")
-        yield Row(acts, {"a.exe": program(code)}, ALONE, b"" if traps else sixteen(held), report)
-    yield Row("MOVED", {"a.exe": program(b"".join(spelled(act[2:]) if act.startswith("x ") else called(act)[0] for act in text_of(source_text, "MOVED").split(" ; ")))}, ALONE, sixteen("1 0 2 0"))
-    only = source("segment_rows/src/read_only.rt")
-    lines = ALONE.replace("HELLO", "RDO")
-    yield Row("LETTERS", {"a.exe": spelled(text_of(only, "LETTERS"))}, lines, b"ABCDEFGHIJKLMNOP", lines_of(text_of(only, "LINES")))
-
-
-def acted(acts):
-    """The code of both programs of a row of what they do in turn, and the script."""
-    codes, script = {"1": b"", "2": b""}, []
-    for part in acts.split(" ; "):
-        process, _, act = part.strip().partition(" ")
-        front, _, rest = act.partition(" ")
-        if front == "n":
-            place, _, text = rest.partition(" ")
-            held, at = text.encode("latin-1"), int(place, 16)
-            words = [held[k : k + 2].ljust(2, b"\0") for k in range(0, len(held), 2)] + [b"\0\0"]
-            code = b"".join(b"\xC7\x06" + (at + 2 * k).to_bytes(2, "little") + word for k, word in enumerate(words))
-            steps = len(words)
-        elif front == "x":
-            count, _, text = rest.partition(" ")
-            code, steps = spelled(text), int(count, 16)
+    def step(self, statement, heading, line):
+        verb, _, rest = statement.partition(" ")
+        if verb in ("", "#", "blocks"):
+            return
+        if verb in self.macros:
+            held = [argument.strip() for argument in rest.split("|")] + [""] * 9
+            for inner in self.macros[verb]:
+                self.step(re.sub(r"\$(\d)", lambda found: held[int(found[1]) - 1], inner), heading, line)
+        elif verb == "each":
+            first, last, step, call = rest.split(" ", 3)
+            name, _, more = call.partition(" ")
+            for number in range(int(first), int(last) + 1, int(step)):
+                self.step(f"{name} {number} | {number:04X} | {more}", heading, line)
+        elif verb in ("run", "ends", "shows", "tells", "fronts"):
+            self.run(verb, rest, heading, line)
         else:
-            code, steps = called(act)
-        codes[process] += code
-        script.append(f'"{process}:{steps}"')
-    return codes["1"], codes["2"], ",".join(script)
+            self.change(verb, rest, line)
 
+    def change(self, verb, rest, line):
+        name, _, text = rest.partition(" ")
+        if verb == "new":
+            for name in rest.split():
+                self.part(name).clear()
+        elif verb == "acts":
+            for part in rest.split(" ; "):
+                process, _, act = part.strip().partition(" ")
+                code, steps = acted(act)
+                self.part(process).extend(code)
+                self.part("script").extend(f'"{process}:{steps}",'.encode("ascii"))
+        elif verb == "fail":
+            self.is_failing = True
+        elif verb == "program":
+            self.part(name).extend(program(bytes(self.part(text))))
+        elif verb == "copy":
+            self.part(name).extend(self.copied(*text.split(" ")))
+        elif verb == "set":
+            for change in text.split():
+                place, _, byte = change.partition("=")
+                self.part(name)[int(place, 16)] = int(byte, 16)
+        elif verb == "cut":
+            del self.part(name)[int(text) :]
+        elif verb == "fill":
+            part = self.part(name)
+            part[:] = part[: int(text)].ljust(int(text), b"\0")
+        else:
+            made = {"bytes": spelled, "lines": lines_of, "text": lambda text: text.encode("latin-1") + b"\n", "part": lambda text: text.encode("latin-1")}
+            if verb not in made:
+                raise SystemExit(f"{ROWS}/stdin: no statement {verb}, {line}")
+            self.part(name).extend(made[verb](text))
 
-def shared_calls():
-    rows_text = source("sharing_rows/src/rows.rt")
-    starts, first, second = (text_of(rows_text, name) for name in ("STARTS", "FIRST_END", "SECOND_END"))
-    tables = [("shared_calls", "DONE", 64), ("shared_calls", "ERRORS", 64), ("shared_calls", "FULL", 7), ("huge_calls", "DONE", 64), ("huge_calls", "ERRORS", 64)]
-    for file, name, segments in tables:
-        for acts, lines, held in table(source(f"sharing_rows/src/{file}.rt"), name):
-            one, two, script = acted(acts)
-            report, console = lines_of(starts) + lines_of(lines), b""
-            for number, end, part in (("1", first, held.partition("/")[0]), ("2", second, held.partition("/")[2])):
-                if f"{number} end " not in lines:
-                    report += lines_of(end)
-                    console += sixteen(part)
-            text = f"segments = {segments}\nbudget = 1000000\nquantum = 1000\nscript = [{script}]\n"
-            text += 'modules = ["a.exe", "b.exe"]\n[[process]]\nmodule = "HELLO"\n[[process]]\nmodule = "JELLO"\n'
-            yield Row(acts, {"a.exe": program(one), "b.exe": program(two, "J")}, text, console, report + "all ended\n")
+    def copied(self, name, lines="", more=""):
+        """All of what stands under a name, or so many lines of it and so many bytes behind them."""
+        held = bytes(self.part(name))
+        if not lines:
+            return held
+        front = b"".join(held.splitlines(True)[: int(lines)])
+        return held[: len(front) + int(more or "0")]
 
+    def run(self, verb, rest, heading, line):
+        status, _, words = rest.partition(" ")
+        if heading in HEADINGS and (verb, status) == ("run", "0") and not self.is_failing:
+            self.runs.append(self.row(line, *words.split(",")))
+        self.is_failing = False
+        for name in ("console", "report", "line", "lines", "stop", "counts"):
+            self.part(name).clear()
 
-def services():
-    for changes, lines in table(source("rows/src/calls.rt"), "ROWS"):
-        file = bytearray(bytes_of(HELLO, "HELLO"))
-        for change in changes.split():
-            place, _, byte = change.partition("=")
-            file[int(place, 16)] = int(byte, 16)
-        yield Row(changes, {"a.exe": bytes(file)}, ALONE, b"", hello_report(lines), b"abc")
-
-
-def memories():
-    """The programs that need more than a small memory has."""
-    parts, code = source("memory_rows/src/files.rt"), source("memory_rows/src/memories.rt")
-    header, start, tables, names = (spelled(text_of(parts, name)) for name in ("HEADER", "START", "TABLES", "NAMES"))
-    lines = ALONE.replace("HELLO", "MEM")
-    for name in ("LARGE", "POP", "RIGHTS", "IN_TURN", "NESTED", "WRITE"):
-        data, segments, letters, rest = (spelled(part) for part in text_of(code, name).split("|", 3))
-        wanted = [row for row in table(code, "ROWS") if row[0].split()[0] == name and row[1] == "0"]
-        report = "1 start MEM\n" + "".join(f"1 hold {8 * k + 7:04X} by load\n" for k in range(1, 1 + int(wanted[0][3]))) + lines_of(wanted[0][4])
-        yield Row(name, {"a.exe": header + data + start + segments + tables + letters + names + rest}, lines, wanted[0][2].encode(), report)
+    def row(self, line, command, name):
+        text = bytes(self.part(name)).decode("latin-1")
+        if command == "exe":
+            text = f'{EXE}modules = ["{name}"]\n[[process]]\nmodule = "{module_name(bytes(self.part(name)))}"\n'
+        modules = re.findall(r"[\"']([^\"']*)[\"']", re.search(r"(?m)^modules = \[(.*)\]$", text)[1])
+        files = {module: bytes(self.part(module)) for module in modules}
+        lines = re.sub(r"(?m)^(memory|swap) = \d+\n", "", text)
+        return Row(line, files, lines, bytes(self.part("console")), self.part("report").decode("latin-1"), bytes(self.part("input")))
 
 
 def all_rows():
-    for rows in (instructions, segment_calls, shared_calls, services, memories):
-        yield from rows()
+    """Each program once, however many memories the table runs it in."""
+    table, seen = Table(), set()
+    table.take(source("stdin"))
+    for row in table.runs:
+        key = (*row.files.items(), row.given)
+        if key not in seen:
+            seen.add(key)
+            yield row

@@ -24,7 +24,7 @@ fn run_files(alloc: Global, files: Vec<(Bytes, Bytes)>, input: &[u8]) -> Result<
     let mut swap = MemSwap::new(alloc, BLOCKS, Vec::new(alloc))?;
     let words = words_in(alloc, "run m")?;
     let status = outside.run(alloc, words.as_slice(), &mut swap);
-    answer_of(alloc, &status, outside)
+    Ok(answer_of(&status, outside))
 }
 
 fn run(alloc: Global, sequence: &Sequence, memory: u32) -> Result<Answer, NoMemory> {

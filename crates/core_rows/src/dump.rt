@@ -90,7 +90,7 @@ fn dumped(alloc: Global, sizes: &str, rest: &str, failing: &Failing) -> Result<A
     let mut swap = device(alloc, failing.swap)?;
     let words = words_in(alloc, "dump a.toml")?;
     let status = outside.run(alloc, words.as_slice(), &mut swap);
-    answer_of(alloc, &status, outside)
+    Ok(answer_of(&status, outside))
 }
 
 /// Whether it is the image of the program that has ended, whose report has all its lines.

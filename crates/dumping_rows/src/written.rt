@@ -86,49 +86,69 @@ fn written(bench: &mut Bench, console: &mut MemSink) -> Wrote
     )
 }
 
-/// A memory of 4,096 bytes with sixteen blocks, in which three segments of 2,000 bytes were made one after the other, of which one had
-/// to leave, and one of zeros that was never in memory.
+/// Makes three segments of 2,000 bytes one after the other, and one of zeros that is never in memory; whether there was room.
+fn fill(bench: &mut Bench) -> bool
+    requires { IsReady bench.old }
+    ensures { IsReady bench.new }
+{
+    for byte in [b'a', b'b', b'c'] {
+        if bench.insert(&[byte; 2_000], DATA).is_none() {
+            return false;
+        }
+    }
+    match bench.add(300) {
+        Some(id) => bench.hold(id, DATA).is_some(),
+        None => false,
+    }
+}
+
+/// A memory of 4,096 bytes with sixteen blocks, in which these segments were made, so that one had to leave.
 fn filled(alloc: Global) -> Result<Option<Bench>, NoMemory>
     ensures { IfOk result (λ b. IfSome b IsReady) }
 {
     let mut bench = Bench::new(alloc, 4_096, 16, 8)?;
-    for byte in [b'a', b'b', b'c'] {
-        if bench.insert(&[byte; 2_000], DATA).is_none() {
-            return Ok(None);
-        }
+    if fill(&mut bench) {
+        Ok(Some(bench))
+    } else {
+        Ok(None)
     }
-    let Some(id) = bench.add(300) else {
-        return Ok(None);
-    };
-    if bench.hold(id, DATA).is_none() {
-        return Ok(None);
-    }
-    Ok(Some(bench))
+}
+
+/// The head of the image of a machine without segments, and its process with what is behind.
+static FRONT: [u8; 25] = [
+    0x4F, 0x53, 0x32, 0x43, 0x4F, 0x52, 0x45, 0x31, 0x00, 0x10, 0, 0, 0, 0, 0, 0, 0, 0, 0, 0, 1, 0,
+    0, 0, 0x0A,
+];
+
+static BEHIND: [u8; 42] = [
+    1, 0, 1, 0, 7, 0, 2, 1, 4, 3, 6, 5, 8, 7, 10, 9, 12, 11, 14, 13, 16, 15, 18, 17, 20, 19, 22,
+    21, 24, 23, 26, 25, 28, 27, 0, 0, 0, 0, b'E', b'N', b'D', b'!',
+];
+
+/// Whether the image of a machine without segments is right.
+fn is_empty_right(alloc: Global) -> Result<bool, NoMemory> {
+    let mut console = sink(alloc, 0)?;
+    let mut bench = Bench::new(alloc, 4_096, 0, 8)?;
+    let wrote = written(&mut bench, &mut console);
+    let bytes = console.taken();
+    Ok(
+        wrote == Wrote::Done
+            && bytes.len() == 4_178
+            && bytes.starts_with(&FRONT)
+            && bytes.ends_with(&BEHIND),
+    )
 }
 
 #[test]
 fn a_machine_without_segments(rt: HostRuntime) -> Result<(), test::Fail> {
-    let mut bench = Bench::new(rt.alloc(), 4_096, 0, 8)?;
-    let mut console = sink(rt.alloc(), 0)?;
-    assert_eq!(rt; written(&mut bench, &mut console), Wrote::Done);
-    let bytes = console.taken();
-    assert_eq!(rt; bytes.len(), 4_178);
-    let front = [
-        0x4F, 0x53, 0x32, 0x43, 0x4F, 0x52, 0x45, 0x31, 0x00, 0x10, 0, 0, 0, 0, 0, 0, 0, 0, 0, 0,
-        1, 0, 0, 0, 0x0A,
-    ];
-    assert!(rt; bytes.starts_with(&front));
-    let behind = [
-        1, 0, 1, 0, 7, 0, 2, 1, 4, 3, 6, 5, 8, 7, 10, 9, 12, 11, 14, 13, 16, 15, 18, 17, 20, 19,
-        22, 21, 24, 23, 26, 25, 28, 27, 0, 0, 0, 0, b'E', b'N', b'D', b'!',
-    ];
-    assert!(rt; bytes.ends_with(&behind));
+    assert!(rt; is_empty_right(rt.alloc())?);
     Ok(())
 }
 
-/// How many segments of an image lie where, and whether their bytes are those that were put in.
+/// How many segments an image has, how many of them lie where, and of how many the bytes are those that were put in.
 #[derive(Clone, Copy, Debug, PartialEq, Eq)]
 struct Seen {
+    segments: usize,
     zeros: u32,
     memory: u32,
     swap: u32,
@@ -157,6 +177,7 @@ fn look(seen: &mut Seen, place: &Place, bytes: &Bytes, byte: u8) {
 /// What an image shows.
 fn what_is_seen(alloc: Global, core: &Core) -> Result<Seen, NoMemory> {
     let mut seen = Seen {
+        segments: core.segments.as_slice().len(),
         zeros: 0,
         memory: 0,
         swap: 0,
@@ -172,27 +193,49 @@ fn what_is_seen(alloc: Global, core: &Core) -> Result<Seen, NoMemory> {
     Ok(seen)
 }
 
+/// What some bytes show; none where they are no image.
+fn seen_in(alloc: Global, bytes: &[u8]) -> Result<Option<Seen>, NoMemory> {
+    match Core::read(alloc, bytes) {
+        Ok(core) => Ok(Some(what_is_seen(alloc, &core)?)),
+        Err(Fail::NoMemory) => Err(NoMemory),
+        Err(Fail::Bad(_)) => Ok(None),
+    }
+}
+
+/// The image of a bench; none where it isn't whole.
+fn image_of(alloc: Global, bench: &mut Bench) -> Result<Option<MemSink>, NoMemory>
+    requires { IsReady bench.old }
+    ensures { IsReady bench.new }
+{
+    let mut console = sink(alloc, 0)?;
+    match written(bench, &mut console) {
+        Wrote::Done => Ok(Some(console)),
+        _ => Ok(None),
+    }
+}
+
+/// What the image of the filled memory shows; none where there is none.
+fn filled_is_seen(alloc: Global) -> Result<Option<Seen>, NoMemory> {
+    let Some(mut bench) = filled(alloc)? else {
+        return Ok(None);
+    };
+    match image_of(alloc, &mut bench)? {
+        Some(console) => seen_in(alloc, console.taken()),
+        None => Ok(None),
+    }
+}
+
+const WANTED: Seen = Seen {
+    segments: 4,
+    zeros: 1,
+    memory: 2,
+    swap: 1,
+    same: 4,
+};
+
 #[test]
 fn segments_wherever_they_lie(rt: HostRuntime) -> Result<(), test::Fail> {
-    let mut bench = filled(rt.alloc())?.ok_or("no room")?;
-    let mut console = sink(rt.alloc(), 0)?;
-    assert_eq!(rt; written(&mut bench, &mut console), Wrote::Done);
-    let core = match Core::read(rt.alloc(), console.taken()) {
-        Ok(core) => core,
-        Err(Fail::NoMemory) => return Err(test::Fail::from("no memory")),
-        Err(Fail::Bad(fault)) => {
-            assert!(rt; false, "{fault:?}");
-            return Ok(());
-        }
-    };
-    let wanted = Seen {
-        zeros: 1,
-        memory: 2,
-        swap: 1,
-        same: 4,
-    };
-    assert_eq!(rt; what_is_seen(rt.alloc(), &core)?, wanted);
-    assert_eq!(rt; core.segments.as_slice().len(), 4);
+    assert_eq!(rt; filled_is_seen(rt.alloc())?, Some(WANTED));
     Ok(())
 }
 
@@ -201,26 +244,59 @@ fn is_cut(console: &MemSink, wrote: Wrote, wanted: &[u8]) -> bool {
     wrote == Wrote::SinkFault && wanted.starts_with(console.taken())
 }
 
-#[test]
-fn each_put_fails(rt: HostRuntime) -> Result<(), test::Fail> {
-    let mut bench = filled(rt.alloc())?.ok_or("no room")?;
-    let mut whole = sink(rt.alloc(), 0)?;
-    assert_eq!(rt; written(&mut bench, &mut whole), Wrote::Done);
-    let mut cut = 0u64;
+/// Whether this put of the image is cut where it fails; none where it is neither cut nor the whole image.
+fn is_cut_at(
+    alloc: Global,
+    bench: &mut Bench,
+    call: u64,
+    wanted: &[u8],
+) -> Result<Option<bool>, NoMemory>
+    requires { IsReady bench.old }
+    ensures { IsReady bench.new }
+{
+    let mut console = sink(alloc, call)?;
+    let wrote = written(bench, &mut console);
+    if is_cut(&console, wrote, wanted) {
+        Ok(Some(true))
+    } else if wrote == Wrote::Done && console.taken() == wanted {
+        Ok(Some(false))
+    } else {
+        Ok(None)
+    }
+}
+
+/// How many of 64 puts cut the image where they fail, where the others leave it whole; none where one does neither.
+fn count_cut(alloc: Global, bench: &mut Bench, wanted: &[u8]) -> Result<Option<u32>, NoMemory>
+    requires { IsReady bench.old }
+    ensures { IsReady bench.new }
+{
+    let mut count = 0u32;
     for call in 1..=64u64 {
-        let mut console = sink(rt.alloc(), call)?;
-        let wrote = written(&mut bench, &mut console);
-        if is_cut(&console, wrote, whole.taken()) {
-            cut = cut.saturating_add(1);
-        } else {
-            assert!(rt;
-                wrote == Wrote::Done && console.taken() == whole.taken(),
-                "put {call}"
-            );
+        match is_cut_at(alloc, bench, call, wanted)? {
+            Some(true) => count = count.saturating_add(1),
+            Some(false) => {}
+            None => return Ok(None),
         }
     }
+    Ok(Some(count))
+}
+
+/// The same of the filled memory.
+fn filled_is_cut(alloc: Global) -> Result<Option<u32>, NoMemory> {
+    let Some(mut bench) = filled(alloc)? else {
+        return Ok(None);
+    };
+    match image_of(alloc, &mut bench)? {
+        Some(console) => count_cut(alloc, &mut bench, console.taken()),
+        None => Ok(None),
+    }
+}
+
+#[test]
+fn each_put_fails(rt: HostRuntime) -> Result<(), test::Fail> {
     // the head; four segments, of which one has four blocks of two puts; the memory; the process, and what it holds; the end mark
-    assert_eq!(rt; cut, 1 + 4 + 8 + 1 + 1 + 4 + 1);
+    let puts = 1 + 4 + 8 + 1 + 1 + 4 + 1;
+    assert_eq!(rt; filled_is_cut(rt.alloc())?, Some(puts));
     Ok(())
 }
 
@@ -232,23 +308,48 @@ fn written_over(bench: &Bench, device: &mut MemSwap, console: &mut MemSink) -> W
     put(&bench.store, &bench.regions, 16, console, device)
 }
 
-#[test]
-fn each_read_fails(rt: HostRuntime) -> Result<(), test::Fail> {
-    let bench = filled(rt.alloc())?.ok_or("no room")?;
+/// What is written of a bench over a device of so many blocks, of which this read fails.
+fn written_without(alloc: Global, bench: &Bench, blocks: u32, call: u64) -> Result<Wrote, NoMemory>
+    requires ready { IsReady bench.now }
+    requires device { all_of bench.now.store.swap ≤ blocks }
+    requires small { blocks ≤ 65536 }
+{
+    let mut console = sink(alloc, 0)?;
+    let mut device = MemSwap::new(alloc, blocks, vec![in alloc; call]?)?;
+    Ok(written_over(bench, &mut device, &mut console))
+}
+
+/// Whether each of four reads may fail, and there is no fifth.
+fn each_is_read(alloc: Global, bench: &Bench) -> Result<bool, NoMemory>
+    requires { IsReady bench.now }
+{
     let blocks = bench.swap.count();
-    assert_eq!(rt; blocks, 16);
+    if blocks != 16 {
+        return Ok(false);
+    }
     for call in 1..=5u64 {
-        let mut fails = Vec::new(rt.alloc());
-        fails.push(call)?;
-        let mut device = MemSwap::new(rt.alloc(), blocks, fails)?;
-        let mut console = sink(rt.alloc(), 0)?;
-        let wrote = written_over(&bench, &mut device, &mut console);
         let wanted = if call < 5 {
             Wrote::SwapFault
         } else {
             Wrote::Done
         };
-        assert_eq!(rt; wrote, wanted, "read {call}");
+        if written_without(alloc, bench, blocks, call)? != wanted {
+            return Ok(false);
+        }
     }
+    Ok(true)
+}
+
+/// The same of the filled memory.
+fn filled_is_read(alloc: Global) -> Result<bool, NoMemory> {
+    match filled(alloc)? {
+        Some(bench) => each_is_read(alloc, &bench),
+        None => Ok(false),
+    }
+}
+
+#[test]
+fn each_read_fails(rt: HostRuntime) -> Result<(), test::Fail> {
+    assert!(rt; filled_is_read(rt.alloc())?);
     Ok(())
 }

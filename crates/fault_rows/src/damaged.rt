@@ -1,9 +1,10 @@
 // Modules cut and changed at each byte: each is refused by its name, with nothing written, or runs.
 
-use crate::files::{COUNTER, Files, HELLO, MIX, SMALL, add_file, add_text, file_of, mixed_files};
-use crate::runs::{Answer, Failing, run};
 use o2_base::{ModuleFault, NoMemory};
 use o2_cli::{Status, number};
+use o2_rows::executables::{COUNTER, Files, HELLO, MIX, MIXED, SMALL, add_file, add_text};
+use o2_rows::failing::{Answer, Failing, run};
+use row_parts::bytes_in;
 use std::alloc::Global;
 use std::test::Fail;
 
@@ -18,9 +19,9 @@ enum Which {
 /// Its file as it is.
 fn whole_of(alloc: Global, which: Which) -> Result<Vec<u8>, NoMemory> {
     match which {
-        Which::Hello => file_of(alloc, HELLO),
-        Which::Mix => file_of(alloc, MIX),
-        Which::Counter => file_of(alloc, COUNTER),
+        Which::Hello => bytes_in(alloc, HELLO),
+        Which::Mix => bytes_in(alloc, MIX),
+        Which::Counter => bytes_in(alloc, COUNTER),
     }
 }
 
@@ -42,12 +43,21 @@ fn alone_files(alloc: Global, file: Vec<u8>) -> Result<Files, NoMemory> {
     Ok(files)
 }
 
+/// `a.toml` of two processes of MIX in a small memory, and both modules.
+fn mixed_files(alloc: Global, mix: Vec<u8>, counter: Vec<u8>) -> Result<Files, NoMemory> {
+    let mut files = Vec::new(alloc);
+    add_text(alloc, &mut files, "a.toml", SMALL, MIXED)?;
+    add_file(alloc, &mut files, "mix.exe", mix)?;
+    add_file(alloc, &mut files, "counter.dll", counter)?;
+    Ok(files)
+}
+
 /// The files of a run of a module that has these bytes, with the others as they are.
 fn files_with(alloc: Global, which: Which, file: Vec<u8>) -> Result<Files, NoMemory> {
     match which {
         Which::Hello => alone_files(alloc, file),
-        Which::Mix => mixed_files(alloc, SMALL, file, file_of(alloc, COUNTER)?),
-        Which::Counter => mixed_files(alloc, SMALL, file_of(alloc, MIX)?, file),
+        Which::Mix => mixed_files(alloc, file, bytes_in(alloc, COUNTER)?),
+        Which::Counter => mixed_files(alloc, bytes_in(alloc, MIX)?, file),
     }
 }
 

@@ -1,15 +1,9 @@
-//! Rows: programs that need more than a small memory has, whole, with what they must come to, over swap devices that may fail.
+//! Rows: machines in a small memory turn by turn, over swap devices that change or fail.
 #![tactic(auto)]
 
 #[cfg(test)]
 mod changed;
 #[cfg(test)]
-mod faults;
-#[cfg(test)]
 mod files;
 #[cfg(test)]
 mod finals;
-#[cfg(test)]
-mod memories;
-#[cfg(test)]
-mod turns;

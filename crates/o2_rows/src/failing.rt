@@ -3,7 +3,7 @@
 use crate::executables::Files;
 use crate::outside::{Outside, words_in};
 use o2_base::{Bytes, NoMemory};
-use o2_cli::{Status, number, text};
+use o2_cli::{Status, number};
 use o2_outer::{MemFiles, MemSink, MemSource, MemSwap};
 use std::alloc::Global;
 
@@ -76,11 +76,6 @@ impl Answer {
     /// Whether nothing was written.
     pub fn is_quiet(&self) -> bool {
         self.console.taken().is_empty() && self.report.taken().is_empty() && self.writes == 0
-    }
-
-    /// The line of its status, as the program prints it.
-    pub fn line(&self, alloc: Global) -> Result<Bytes, NoMemory> {
-        text(alloc, &self.status)
     }
 }
 

@@ -22,18 +22,6 @@ pub static HELLO: [u8; 240] = [
     0x68, 0x65, 0x6C, 0x6C, 0x6F, 0x00, 0x00, 0x00, 0x00, 0x00, 0x00, 0x00, 0x00, 0x00, 0x00, 0x00,
 ];
 
-/// The lines of its report, each of which is put alone.
-pub static LINES: [&str; 8] = [
-    "1 start HELLO\n",
-    "1 hold 000F by load\n",
-    "1 hold 0017 by load\n",
-    "1 hold 001F by load\n",
-    "1 call DosWrite 0001 0017:0000 0005 0017:0006 = 0 0005\n",
-    "1 call DosExit 0001 0000\n",
-    "1 end exit 0\n",
-    "all ended\n",
-];
-
 /// The program with some bytes changed.
 pub fn changed(alloc: Global, changes: &[(usize, u8)]) -> Result<Bytes, NoMemory> {
     let mut file = HELLO.to_vec(alloc)?;
@@ -43,14 +31,4 @@ pub fn changed(alloc: Global, changes: &[(usize, u8)]) -> Result<Bytes, NoMemory
         }
     }
     Ok(Bytes::new(file))
-}
-
-/// The first lines of the report, with these texts behind them.
-pub fn report_of(alloc: Global, lines: usize, rest: &str) -> Result<String, NoMemory> {
-    let mut report = String::new(alloc);
-    for line in LINES.iter().take(lines) {
-        report.push_str(line)?;
-    }
-    report.push_str(rest)?;
-    Ok(report)
 }

@@ -1,4 +1,4 @@
-//! What the crates of rows share: whole commands over files, an input and sinks in memory, and programs and texts for them.
+//! What the crates of rows share: whole commands over files, an input and sinks in memory, and programs for them.
 #![tactic(auto)]
 
 mod commands;
@@ -6,13 +6,9 @@ pub mod executables;
 pub mod failing;
 mod hello;
 mod outside;
-mod programs;
 mod texts;
 
-pub use commands::{
-    Answer, Fails, add_file, answer_of, command, command_over, command_sized, one_file,
-};
-pub use hello::{HELLO, LINES, changed, report_of};
+pub use commands::{Answer, Fails, add_file, answer_of};
+pub use hello::{HELLO, changed};
 pub use outside::{Outside, words_in};
-pub use programs::program;
-pub use texts::{changes_in, hex, line_of, lines_in, report_in, three, two, write_lines};
+pub use texts::hex;

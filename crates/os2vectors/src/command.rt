@@ -4,21 +4,8 @@ ghost use Rattle.std.specs.Option.{ForSome};
 ghost use Rattle.os2vectors.specs.Words.{digit_value, pair_bytes, few, opcode_bytes};
 
 use clap::{Arg, ArgMatches, Command, value_parser};
+use o2_vectors::Wanted;
 use std::alloc::{AllocError, Global};
-
-/// Which vectors are wanted.
-#[derive(Drop)]
-pub struct Wanted {
-    /// The bytes that each instruction begins with, 1 to 10.
-    pub opcode: Vec<u8>,
-    /// What bits 3 to 5 of the byte behind them are, where that is asked for.
-    pub reg: Option<u8>,
-    /// How many vectors.
-    pub count: u32,
-    /// The seed: the same words give the same vectors.
-    pub seed: u64,
-    ghost short: { length opcode.items ≤ 10 },
-}
 
 /// The program's words.
 pub fn program<'a>(alloc: Global) -> Result<Command<'a>, AllocError> {
