@@ -1,17 +1,7 @@
 /* Takes single steps by libx86emu, for tools/check_programs. Each line of the input has decimal numbers: ax bx cx dx cs ss ds es sp bp si di
    ip flags, the bases of cs ss ds es, how many bytes of memory follow, and each one's address and value. A line of the output has the
    fourteen registers behind the step, and the values of these bytes. */
-#include <stdio.h>
-#include <stdlib.h>
-#include <x86emu.h>
-
-static unsigned next(void)
-{
-    unsigned value;
-    if (scanf("%u", &value) != 1)
-        exit(1);
-    return value;
-}
+#include "x86emu_step.h"
 
 int main(void)
 {
@@ -20,24 +10,8 @@ int main(void)
     while (scanf("%u", &first) == 1) {
         x86emu_t *emu = x86emu_new(X86EMU_PERM_RWX | X86EMU_PERM_VALID, 0);
         x86emu_regs_t *r = &emu->x86;
-        int order[4] = { R_CS_INDEX, R_SS_INDEX, R_DS_INDEX, R_ES_INDEX };
         unsigned k, count;
-        r->R_EAX = first;
-        r->R_EBX = next();
-        r->R_ECX = next();
-        r->R_EDX = next();
-        for (k = 0; k < 4; k++)
-            r->seg[order[k]].sel = next();
-        r->R_ESP = next();
-        r->R_EBP = next();
-        r->R_ESI = next();
-        r->R_EDI = next();
-        r->R_EIP = next();
-        r->R_EFLG = next();
-        for (k = 0; k < 4; k++) {
-            r->seg[order[k]].base = next();
-            r->seg[order[k]].limit = 0xffff;
-        }
+        take_registers(emu, first);
         count = next();
         if (count > 262144)
             return 1;
@@ -45,8 +19,7 @@ int main(void)
             address[k] = next();
             x86emu_write_byte(emu, address[k], next());
         }
-        emu->max_instr = 1;
-        x86emu_run(emu, X86EMU_RUN_MAX_INSTR);
+        take_step(emu);
         printf("%u %u %u %u", r->R_AX, r->R_BX, r->R_CX, r->R_DX);
         for (k = 0; k < 4; k++)
             printf(" %u", r->seg[order[k]].sel);
