@@ -5,29 +5,18 @@ mod calls;
 mod plain;
 mod sharing;
 
-use o2_image::Images;
-use o2_outer::SureSwap;
-use o2_store::Store;
-use sharing::{CHANGED, TWO, first_wrong};
+use sharing::{CHANGED, TWO, wrong};
 use std::test::Fail;
 
 #[test]
 fn segments_share_the_memory(rt: HostRuntime) -> Result<(), Fail> {
-    let mut store = Store::make(rt.alloc(), 1024, 16, 4)?;
-    let mut swap = SureSwap::new(rt.alloc(), 16)?;
-    let images = Images::new(Vec::new(rt.alloc()), Vec::new(rt.alloc()));
-    let wrong = first_wrong(&mut store, &images, &mut swap, (600, 700), TWO)?;
-    assert_eq!(rt; wrong, "");
+    assert_eq!(rt; wrong(rt.alloc(), (600, 700), TWO)?, "");
     Ok(())
 }
 
 #[test]
 fn the_device_at_hand_tells_the_bytes(rt: HostRuntime) -> Result<(), Fail> {
-    let mut store = Store::make(rt.alloc(), 1024, 16, 4)?;
-    let mut swap = SureSwap::new(rt.alloc(), 16)?;
-    let images = Images::new(Vec::new(rt.alloc()), Vec::new(rt.alloc()));
-    let wrong = first_wrong(&mut store, &images, &mut swap, (16, 16), CHANGED)?;
-    assert_eq!(rt; wrong, "");
+    assert_eq!(rt; wrong(rt.alloc(), (16, 16), CHANGED)?, "");
     Ok(())
 }
 

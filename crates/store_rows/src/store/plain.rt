@@ -1,5 +1,6 @@
 // A plain model of a store, a byte list for each segment, and long runs of both.
-ghost use Rattle.std.specs.Prelude.{◌≡◌, ◌+◌, ◌<◌, ◌≤◌, ◌^◌, IfOk};
+ghost use Rattle.std.specs.Prelude.{◌≡◌, ◌+◌, ◌<◌, ◌≤◌, ◌^◌, IfOk, length};
+ghost use Rattle.o2_outer.specs.Devices.{mem_blocks};
 ghost use Rattle.o2_store.specs.Pictures.{HasPicture};
 ghost use Rattle.o2_store.specs.Trials.{IsReady};
 
@@ -295,6 +296,62 @@ fn bring_each<S: SwapDevice>(
     Ok(())
 }
 
+/// So many calls at random on both, and each segment by itself behind them.
+fn rounds_of(
+    all: &mut Vec<Segment>,
+    store: &mut Store,
+    images: &Images,
+    swap: &mut MemSwap,
+    seed: u32,
+    rounds: u32,
+    alloc: Global,
+) -> Result<(), Fail>
+    requires ready { IsReady store.old images.now (length (mem_blocks swap.old)) }
+    requires image { HasPicture images.now 0 1 }
+    requires made { store.old.made ≡ 0 }
+{
+    let mut seed = seed;
+    for _round in 0..rounds {
+        step(all, store, images, swap, &mut seed, alloc)?;
+        compare(all, store)?;
+    }
+    bring_each(all, store, images, swap)
+}
+
+/// The rounds with a model of their own.
+fn with_model(
+    store: &mut Store,
+    images: &Images,
+    swap: &mut MemSwap,
+    seed: u32,
+    rounds: u32,
+    alloc: Global,
+) -> Result<(), Fail>
+    requires ready { IsReady store.old images.now (length (mem_blocks swap.old)) }
+    requires image { HasPicture images.now 0 1 }
+    requires made { store.old.made ≡ 0 }
+{
+    let mut all = Vec::new(alloc);
+    rounds_of(&mut all, store, images, swap, seed, rounds, alloc)
+}
+
+/// The rounds over a device of 12 blocks that fails at one call.
+fn with_device(
+    store: &mut Store,
+    images: &Images,
+    failing: u64,
+    seed: u32,
+    rounds: u32,
+    alloc: Global,
+) -> Result<(), Fail>
+    requires ready { IsReady store.old images.now 12 }
+    requires image { HasPicture images.now 0 1 }
+    requires made { store.old.made ≡ 0 }
+{
+    let mut swap = MemSwap::new(alloc, 12, vec![in alloc; failing]?)?;
+    with_model(store, images, &mut swap, seed, rounds, alloc)
+}
+
 /// A long run in a memory of so many bytes, over a device that fails at one call.
 pub fn run(
     alloc: Global,
@@ -307,12 +364,5 @@ pub fn run(
     requires memory { memory ≤ 65536 }
 {
     let mut store = Store::make(alloc, memory, 12, 6)?;
-    let mut swap = MemSwap::new(alloc, 12, vec![in alloc; failing]?)?;
-    let mut all = Vec::new(alloc);
-    let mut seed = memory;
-    for _round in 0..rounds {
-        step(&mut all, &mut store, images, &mut swap, &mut seed, alloc)?;
-        compare(&all, &store)?;
-    }
-    bring_each(&all, &mut store, images, &mut swap)
+    with_device(&mut store, images, failing, memory, rounds, alloc)
 }

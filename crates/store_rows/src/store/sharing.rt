@@ -4,9 +4,10 @@ ghost use Rattle.o2_store.specs.Trials.{IsReady};
 
 use super::calls::{add, bring, evict, resize, write};
 use o2_image::Images;
-use o2_outer::{Dev, SwapDevice};
+use o2_outer::{Dev, SureSwap, SwapDevice};
 use o2_place::SegId;
 use o2_store::{Brought, Place, Store};
+use std::alloc::Global;
 use std::test::Fail;
 
 /// Two segments of 600 and 700 bytes.
@@ -150,7 +151,7 @@ fn is_right<S: SwapDevice>(
 }
 
 /// The first line of a text of calls on two segments of these sizes that answers something else, or no text.
-pub fn first_wrong<S: SwapDevice>(
+fn first_wrong<S: SwapDevice>(
     store: &mut Store,
     images: &Images,
     swap: &mut S,
@@ -172,4 +173,44 @@ pub fn first_wrong<S: SwapDevice>(
         }
     }
     Ok("")
+}
+
+/// The same over a device of 16 blocks.
+fn wrong_over(
+    store: &mut Store,
+    images: &Images,
+    sizes: (u32, u32),
+    text: &'static str,
+    alloc: Global,
+) -> Result<&'static str, Fail>
+    requires ready { IsReady store.old images.now 16 }
+    requires few { store.old.made < 2 ^ 16 }
+    requires first { (0 < sizes.0) × (sizes.0 ≤ 65536) }
+    requires second { (0 < sizes.1) × (sizes.1 ≤ 65536) }
+{
+    let mut swap = SureSwap::new(alloc, 16)?;
+    first_wrong(store, images, &mut swap, sizes, text)
+}
+
+/// The same in a memory of 1024 bytes.
+fn wrong_in(
+    images: &Images,
+    sizes: (u32, u32),
+    text: &'static str,
+    alloc: Global,
+) -> Result<&'static str, Fail>
+    requires first { (0 < sizes.0) × (sizes.0 ≤ 65536) }
+    requires second { (0 < sizes.1) × (sizes.1 ≤ 65536) }
+{
+    let mut store = Store::make(alloc, 1024, 16, 4)?;
+    wrong_over(&mut store, images, sizes, text, alloc)
+}
+
+/// The first line of such a text that answers something else, without images; or no text.
+pub fn wrong(alloc: Global, sizes: (u32, u32), text: &'static str) -> Result<&'static str, Fail>
+    requires first { (0 < sizes.0) × (sizes.0 ≤ 65536) }
+    requires second { (0 < sizes.1) × (sizes.1 ≤ 65536) }
+{
+    let images = Images::new(Vec::new(alloc), Vec::new(alloc));
+    wrong_in(&images, sizes, text, alloc)
 }
