@@ -1,8 +1,9 @@
 // Calls of one process, one behind another.
 use o2_base::{Bytes, NoMemory};
-use o2_boundless::World;
+use o2_boundless::{Process, Segment, World};
 use o2_sequences::{process, segment};
 use std::alloc::Global;
+use std::process::Abort;
 use std::test::Fail;
 
 /// A service and its arguments in hexadecimal, and the error number.
@@ -122,21 +123,35 @@ static REPORT: &str = "1 call DosAllocSeg 0000 0017:0000 0000 = 0 0027
 /// Three texts, two of which are the same name.
 static TEXTS: &[u8; 36] = b"\\SHAREMEM\\A\0\\sharemem\\a\0\\SHAREMEM\\B\0";
 
-/// A world of one process with code, 16 bytes of data and an environment of these texts, under the indexes 1 to 3.
-fn world(alloc: Global) -> Result<World, NoMemory> {
-    let mut world = World::new(alloc, 100, 0x1234_5678)?;
-    let code = segment(alloc, b"code", 4, false)?;
-    world.names.push((0, code))?;
-    let data = segment(alloc, b"hello, world ...", 16, false)?;
-    world.names.push((1, data))?;
-    let environment = segment(alloc, TEXTS, 36, false)?;
-    world.names.push((2, environment))?;
-    world.next_name = 3;
+/// Adds a segment of this size that begins with these bytes.
+fn add_segment(
+    alloc: Global,
+    names: &mut Vec<(u64, Segment)>,
+    name: u64,
+    front: &[u8],
+    size: u16,
+) -> Result<(), NoMemory> {
+    names.push((name, segment(alloc, front, size, false)?))?;
+    Ok(())
+}
+
+/// Adds the process.
+fn add_process(alloc: Global, processes: &mut Vec<Process>) -> Result<(), NoMemory> {
     let mut process = process(alloc, 1, 0)?;
     process.cpu.ip = 0x100;
-    world.processes.push(process)?;
+    processes.push(process)?;
+    Ok(())
+}
+
+/// Gives a bare world one process with code, 16 bytes of data and an environment of these texts, under the indexes 1 to 3.
+fn begin(alloc: Global, world: &mut World) -> Result<(), NoMemory> {
+    add_segment(alloc, &mut world.names, 0, b"code", 4)?;
+    add_segment(alloc, &mut world.names, 1, b"hello, world ...", 16)?;
+    add_segment(alloc, &mut world.names, 2, TEXTS, 36)?;
+    world.next_name = 3;
+    add_process(alloc, &mut world.processes)?;
     world.input = Bytes::from_slice(alloc, b"abc")?;
-    Ok(world)
+    Ok(())
 }
 
 /// What a call of the first process answers; none where the row is none, or the process has ended.
@@ -173,10 +188,10 @@ fn run(alloc: Global, world: &mut World) -> Result<usize, NoMemory> {
     Ok(right)
 }
 
-#[test]
-fn calls_answer_and_tell(rt: HostRuntime) -> Result<(), Fail> {
-    let mut world = world(rt.alloc())?;
-    let right = run(rt.alloc(), &mut world)?;
+/// The calls of the rows, in a bare world.
+fn check_rows(rt: &impl Abort, alloc: Global, world: &mut World) -> Result<(), Fail> {
+    begin(alloc, world)?;
+    let right = run(alloc, world)?;
     assert_eq!(rt; right, 46);
     assert_eq!(rt; world.lines.as_slice(), REPORT.as_bytes());
     assert_eq!(rt; world.console.as_slice(), b"...".as_slice());
@@ -185,10 +200,10 @@ fn calls_answer_and_tell(rt: HostRuntime) -> Result<(), Fail> {
     Ok(())
 }
 
-#[test]
-fn a_number_without_a_row_ends_its_process(rt: HostRuntime) -> Result<(), Fail> {
-    let mut world = world(rt.alloc())?;
-    let answer = called(rt.alloc(), &mut world, "1F 1 2")?;
+/// A call of no row, in a bare world.
+fn check_other(rt: &impl Abort, alloc: Global, world: &mut World) -> Result<(), Fail> {
+    begin(alloc, world)?;
+    let answer = called(alloc, world, "1F 1 2")?;
     assert_eq!(rt; answer, Some(0));
     assert_eq!(rt;
         world.lines.as_slice(),
@@ -196,4 +211,16 @@ fn a_number_without_a_row_ends_its_process(rt: HostRuntime) -> Result<(), Fail> 
     );
     assert!(rt; !world.lives(1));
     Ok(())
+}
+
+#[test]
+fn calls_answer_and_tell(rt: HostRuntime) -> Result<(), Fail> {
+    let mut world = World::new(rt.alloc(), 100, 0x1234_5678)?;
+    check_rows(&rt, rt.alloc(), &mut world)
+}
+
+#[test]
+fn a_number_without_a_row_ends_its_process(rt: HostRuntime) -> Result<(), Fail> {
+    let mut world = World::new(rt.alloc(), 100, 0x1234_5678)?;
+    check_other(&rt, rt.alloc(), &mut world)
 }
