@@ -1,5 +1,5 @@
 -- A step that asks the input changes nothing but bytes, and leaves the segment registers as they are.
-use Rattle.std.proofs.Common.{◌≡◌, Bool, true, false, List, [], ◌∷◌, ◌++◌, ◌&&◌, if◌then◌else◌, sym, subst}
+use Rattle.std.proofs.Common.{◌≡◌, Bool, true, false, [], ◌∷◌, ◌++◌, ◌&&◌, if◌then◌else◌, sym, subst}
 use Rattle.std.specs.Prelude.{Err}
 use Rattle.o2_isa.specs.declared.cpu.Stop.TheVariants as stop
 use Rattle.o2_isa.specs.Presence.{SameSelectors}

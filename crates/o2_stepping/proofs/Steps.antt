@@ -1,6 +1,6 @@
 -- A step in a store, from its last try.
 use Rattle.std.proofs.Common.{◌≡◌, ℕ, ◌<◌, List, Option, ap, ◌∙◌, subst, arith}
-use Rattle.std.specs.Prelude.{Result, Ok, Err}
+use Rattle.std.specs.Prelude.{Result, Ok}
 use mathlib.Core.Path.{fun_ext}
 use Rattle.o2_isa.specs.declared.cpu.Cpu.{Cpu}
 use Rattle.o2_isa.specs.View.{View}
@@ -21,7 +21,7 @@ use Rattle.o2_store.proofs.Loads.{same_live_load, same_swap_load}
 use Rattle.o2_stepping.specs.Shapes.{SameShape}
 use Rattle.o2_gate.specs.declared.gathering.SegmentArguments.{SegmentArguments}
 use Rattle.o2_stepping.specs.Ran.{OnAsked, OnAsking, OnMissed, OnUndone, StepFor, StepLeaves}
-use Rattle.o2_stepping.specs.Taken.{OnAsks, OnDone, OnRan, OnBegun, OnBegunFault, OnSwapFault, OnSwapStop, Takes, TriedFor, Tries}
+use Rattle.o2_stepping.specs.Taken.{OnRan, OnBegunFault, OnSwapFault, TriedFor, Tries}
 use Rattle.o2_stepping.specs.Worlds.{before_in, bytes_with, world_view}
 use Rattle.o2_stepping.specs.declared.one_step.Attempt.{Attempt}
 use Rattle.o2_stepping.specs.declared.one_step.Attempt.TheVariants as attempt
@@ -38,7 +38,7 @@ module _ (a b : ℕ → List ℕ) (s t : Shelf) (m n : Maps) (pid : ℕ) (c : Cp
   first_from d e = ap (λ (z : Cpu). before_in b t n pid z bytes known) e ∙ first_same
 
   -- what is said of a step from the later state, said from the first one
-  pub said_first : (P : Before → (ℕ → List ℕ) → Type 0) (d : Cpu) → d ≡ c
+  said_first : (P : Before → (ℕ → List ℕ) → Type 0) (d : Cpu) → d ≡ c
       → P (before_in b t n pid d bytes known) (bytes_with b t) → P (before_in a s m pid c bytes known) (bytes_with a s)
   said_first P d e h =
       subst (λ (z : Before). P z (bytes_with a s)) (first_from d e)
@@ -52,15 +52,6 @@ module _ (a b : ℕ → List ℕ) (s t : Shelf) (m n : Maps) (pid : ℕ) (c : Cp
       (subst (λ (z : Option (List ℕ)). let e = before_in b t n pid d bytes known in Tries e (effect e) new (bytes_with b t) after z j x y r q result) input
       (subst (λ (z : Option (List ℕ)). let e = before_in b t n pid d bytes known in Tries e (effect e) new (bytes_with b t) after i' j z y r q result) console
       (subst (λ (z : Option (List ℕ)). let e = before_in b t n pid d bytes known in Tries e (effect e) new (bytes_with b t) after i' j x' y z q result) report h)))
-
-  pub takes_from : (d new : Cpu) (after : ℕ → List ℕ) (i' i j x' x y r' r q : Option (List ℕ)) (result : Result Stepped Fault) → d ≡ c → i' ≡ i → x' ≡ x → r' ≡ r
-      → (let e = before_in b t n pid d bytes known in Takes e (effect e) new (bytes_with b t) after i' j x' y r' q result)
-      → (let e = before_in a s m pid c bytes known in Takes e (effect e) new (bytes_with a s) after i j x y r q result)
-  takes_from d new after i' i j x' x y r' r q result cpu input console report h =
-      said_first (λ e f. Takes e (effect e) new f after i j x y r q result) d cpu
-      (subst (λ (z : Option (List ℕ)). let e = before_in b t n pid d bytes known in Takes e (effect e) new (bytes_with b t) after z j x y r q result) input
-      (subst (λ (z : Option (List ℕ)). let e = before_in b t n pid d bytes known in Takes e (effect e) new (bytes_with b t) after i' j z y r q result) console
-      (subst (λ (z : Option (List ℕ)). let e = before_in b t n pid d bytes known in Takes e (effect e) new (bytes_with b t) after i' j x' y z q result) report h)))
 
   pub part_from : (d : Cpu) → d ≡ c → (k : Counts) (result : Result Attempt Fault)
       → PartHands (effect (before_in b t n pid d bytes known)) k result → PartHands (effect (before_in a s m pid c bytes known)) k result
@@ -96,19 +87,6 @@ at_stop P Q R A B C (fault.Stopped stop.NoRoom) p q r h = p h
 at_stop P Q R A B C (fault.Stopped stop.SwapFull) p q r h = q h
 at_stop P Q R A B C (fault.Stopped stop.SwapFault) p q r h = r h
 
--- the same behind a call that answers what the step answers
-pub on_done : (P Q : Type 0) (r : Result Stepped Fault) → (P → Q) → OnDone r P → OnDone r Q
-on_done P Q (Ok ran) g h = g h
-on_done P Q (Err f) g h = tt
-
-pub on_begun : (P Q : Type 0) (r : Result Stepped Fault) → (P → Q) → OnBegun r P → OnBegun r Q
-on_begun P Q (Ok ran) g h = tt
-on_begun P Q (Err f) g h = at_begun P Q f g h
-
-pub on_stop : (P Q R A B C : Type 0) (r : Result Stepped Fault) → (P → A) → (Q → B) → (R → C) → OnSwapStop r P Q R → OnSwapStop r A B C
-on_stop P Q R A B C (Ok ran) p q r h = tt
-on_stop P Q R A B C (Err f) p q r h = at_stop P Q R A B C f p q r h
-
 pub ran_tries : (b : Before) (e : Effect) (cpu : Cpu) (old new : ℕ → List ℕ) (i j x y r q : Option (List ℕ)) (z : Attempt) (ran : Stepped) → z ≡ attempt.Stepped ran
     → Tries b e cpu old new i j x y r q (Ok z) → StepLeaves b e cpu old new i j x y r q ran
 ran_tries b e cpu old new i j x y r q z ran is h = subst (λ (w : Attempt). Tries b e cpu old new i j x y r q (Ok w)) is h
@@ -136,7 +114,3 @@ asks_at P z ran is h = subst (λ (w : Attempt). OnUndone (Ok w) P) is h
 pub map_asking : (P Q : SegmentArguments → Type 0) (x : Stepped) → ((a : SegmentArguments) → P a → Q a) → OnAsking x P → OnAsking x Q
 map_asking P Q (stepped.Ran ran) f p = tt
 map_asking P Q (stepped.Asked a next) f p = f a p
-
-pub map_asks : (P Q : SegmentArguments → Type 0) (r : Result Stepped Fault) → ((a : SegmentArguments) → P a → Q a) → OnAsks r P → OnAsks r Q
-map_asks P Q (Ok x) f p = map_asking P Q x f p
-map_asks P Q (Err e) f p = tt

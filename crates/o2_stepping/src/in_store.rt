@@ -1,4 +1,4 @@
-// A step of a process over a store: what it needs comes into memory, and it is tried until it misses nothing.
+// A step of a process over a store: it is tried until it misses nothing, once what it needs is in memory.
 ghost use Rattle.std.specs.Prelude.{◌≡◌, ◌<◌, ◌≤◌, ◌⊎◌, ◌++◌, ℕ, List, Option, Some, false, true, IsTrue, IsOk};
 ghost use Rattle.o2_outer.specs.Texts.{Rose};
 ghost use Rattle.o2_outer.specs.Inputs.{GoesOn, IsSeenAs, left_as};
@@ -27,7 +27,7 @@ ghost use Rattle.o2_stepping.specs.Worlds.{away_of, before_in, bytes_with, parts
 ghost use Rattle.o2_store.specs.Idle.{Idles};
 
 use crate::one_step::{Attempt, Stepped};
-use crate::seats::{add_missed, seats};
+use crate::seats::{add_missed, are_here, seats};
 use crate::trying::try_step;
 use o2_cache::DecodeCache;
 use o2_gate::State as Services;
@@ -74,8 +74,9 @@ fn bring<S: SwapDevice>(
     served
 }
 
-/// What is known to be needed comes into memory; or why not.
+/// What is known to be needed comes into memory, where not all of it is there; or why not.
 fn bring_in<S: SwapDevice>(
+    here: bool,
     need: &Need,
     pid: u16,
     cpu: &Cpu,
@@ -88,6 +89,8 @@ fn bring_in<S: SwapDevice>(
     requires ready { IsReady (parts_of store.old regions.old images.now (S.blocks swap.old) (S.block swap.old)) }
     requires live { AreLive store.old need.now }
     requires seats { AreNeeded need.now (seated_in regions.old pid cpu.now) }
+    requires can_step { here ≡ true → CanStep store.old regions.old pid cpu.now }
+    requires here { here ≡ true → (n : ℕ) → is_in n (ages_of need.now) ≡ true → present_in store.old n ≡ true }
     ensures bytes { IsTrue (S.told swap.new) → (n : ℕ)
         → bytes_with (away_of store.new regions.new images.now (S.blocks swap.new) (S.block swap.new)) store.new n
         ≡ bytes_with (away_of store.old regions.old images.now (S.blocks swap.old) (S.block swap.old)) store.old n }
@@ -103,6 +106,9 @@ fn bring_in<S: SwapDevice>(
     ensures count { S.faults swap.old ≤ S.faults swap.new }
     ensures idle { Idles (live_load store.old) store.old store.new swap.old swap.new }
 {
+    if here {
+        return Ok(());
+    }
     match bring(need, pid, cpu, store, regions, images, swap) {
         Served::Here => Ok(()),
         Served::NoRoom => Err(Fault::Stopped(Stop::NoRoom)),
@@ -114,6 +120,7 @@ fn bring_in<S: SwapDevice>(
 /// One try of a step, once all that is known to be needed is in memory.
 #[tactic(auto, using(o2_outer::proofs::Inputs::goes_same))]
 fn serve_and_try<S: SwapDevice, I: Source, C: Sink, R: Sink>(
+    here: bool,
     need: &Need,
     pid: u16,
     cpu: &mut Cpu,
@@ -131,6 +138,8 @@ fn serve_and_try<S: SwapDevice, I: Source, C: Sink, R: Sink>(
     requires ready { IsReady (parts_of store.old regions.old images.now (S.blocks swap.old) (S.block swap.old)) }
     requires live { AreLive store.old need.now }
     requires seats { AreNeeded need.now (seated_in regions.old pid cpu.old) }
+    requires can_step { here ≡ true → CanStep store.old regions.old pid cpu.old }
+    requires here { here ≡ true → (n : ℕ) → is_in n (ages_of need.now) ≡ true → present_in store.old n ≡ true }
 
     // The step of the boundless machine; where a segment is missed or cannot come in, nothing that it sees is changed.
     // However the input is seen: by what it tells, or as a text that the whole of it may be.
@@ -185,7 +194,7 @@ fn serve_and_try<S: SwapDevice, I: Source, C: Sink, R: Sink>(
         → let b = before_in (away_of store.old regions.old images.now (S.blocks swap.old) (S.block swap.old)) store.old regions.old pid cpu.old bytes known in
         PartHands (effect b) (counts (C.puts console.old) (C.puts console.new) (R.puts report.old) (R.puts report.new) 0) result }
 {
-    match bring_in(need, pid, cpu, store, regions, images, swap) {
+    match bring_in(here, need, pid, cpu, store, regions, images, swap) {
         Ok(()) => {}
         Err(fault) => return Err(fault),
     }
@@ -194,12 +203,14 @@ fn serve_and_try<S: SwapDevice, I: Source, C: Sink, R: Sink>(
     )
 }
 
-/// One step of process `pid`, all but what an end takes from it, over a store: what it needs comes into memory together, as far
-/// as it is known, and the step is tried; what it misses is needed too, and it is tried again. A try that misses puts nothing
-/// and takes nothing.
+/// One step of process `pid`, all but what an end takes from it, over a store. Where all that its segment registers name is in
+/// memory, it is tried at once. Otherwise, and where the try misses a segment, what it needs comes into memory together, as far as
+/// it is known, and the step is tried; what it misses is needed too, and it is tried again. A try that misses puts nothing and
+/// takes nothing.
 ///
-/// Where what it needs doesn't come in, the step isn't taken: `Stop::NoRoom`, `Stop::SwapFull` or `Stop::SwapFault`.
-pub(crate) fn step_as_needed<S: SwapDevice, I: Source, C: Sink, R: Sink>(
+/// Where what it needs doesn't come in, the step isn't taken: `Stop::NoRoom`, `Stop::SwapFull` or `Stop::SwapFault`. A call on
+/// segments isn't made yet: it is asked for, with all that it needs beside its own segment in memory.
+pub fn step_in_store<S: SwapDevice, I: Source, C: Sink, R: Sink>(
     pid: u16,
     cpu: &mut Cpu,
     store: &mut Store,
@@ -255,6 +266,7 @@ pub(crate) fn step_as_needed<S: SwapDevice, I: Source, C: Sink, R: Sink>(
     ensures swap_stops { OnSwapStop result (Unit {0})
         ((all_of store.old.swap < swap_load store.old) × (store.old.places.size < live_load store.old))
         (Rose (S.faults swap.old) (S.faults swap.new)) }
+    // Where nothing is in swap blocks and all that lives fits the memory, the device isn't touched.
     ensures idle { Idles (live_load store.old) store.old store.new swap.old swap.new }
 
     // Each segment keeps its size and its attributes, each process what it holds, and all goes on to agree.
@@ -279,9 +291,11 @@ pub(crate) fn step_as_needed<S: SwapDevice, I: Source, C: Sink, R: Sink>(
         PartHands (effect b) (counts (C.puts console.old) (C.puts console.new) (R.puts report.old) (R.puts report.new) 0) result }
 {
     let mut need = seats(regions, pid, cpu);
+    let mut here = are_here(regions, pid, cpu);
     'tries: loop {
         match serve_and_try(
-            &need, pid, cpu, store, regions, images, cache, services, input, console, report, swap,
+            here, &need, pid, cpu, store, regions, images, cache, services, input, console, report,
+            swap,
         ) {
             Err(fault) => {
                 store.law();
@@ -295,6 +309,7 @@ pub(crate) fn step_as_needed<S: SwapDevice, I: Source, C: Sink, R: Sink>(
                 if !add_missed(&mut need, regions, pid, sel) {
                     return Err(Fault::Stopped(Stop::NoRoom));
                 }
+                here = false;
             }
         }
     }

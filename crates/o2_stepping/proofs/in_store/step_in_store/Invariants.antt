@@ -1,6 +1,8 @@
 use Rattle.std.proofs.Common.{◌≡◌, ℕ, ◌+◌, ◌-◌, ◌≤◌, List, length, true}
 use Rattle.std.specs.Prelude.{IsTrue}
 use Rattle.o2_isa.specs.Presence.{is_in}
+use Rattle.o2_segbus.specs.Frames.{CanStep}
+use Rattle.o2_segbus.specs.Seen.{present_in}
 use Rattle.o2_service.specs.Needs.{AreLive, size_in}
 use Rattle.o2_stands.specs.Stands.{IsReady}
 use Rattle.o2_world.specs.Known.{Known}
@@ -10,7 +12,7 @@ use Rattle.o2_stepping.specs.Shapes.{SameShape}
 use Rattle.o2_stepping.specs.Worlds.{away_of, before_in, bytes_with, parts_of}
 use Rattle.o2_store.specs.Idle.{Idles}
 use Rattle.o2_store.specs.Loads.{live_load}
-use Rattle.o2_stepping.proofs.in_store.step_as_needed.Given as goal
+use Rattle.o2_stepping.proofs.in_store.step_in_store.Given as goal
 
 abbrev pub invariant-tries : goal.invariant-tries
 invariant-tries g l =
@@ -31,6 +33,8 @@ invariant-tries g l =
       idle : Idles (live_load l.fn.store) l.fn.store l.store l.fn.swap l.swap;
       live : AreLive l.store l.need;
       seats : AreNeeded l.need (seated_in l.regions l.pid l.cpu);
+      can_step : l.here ≡ true → CanStep l.store l.regions l.pid l.cpu;
+      here : l.here ≡ true → (n : ℕ) → is_in n (ages_of l.need) ≡ true → present_in l.store n ≡ true;
       sizes : (k : ℕ) → size_in l.need k ≡ 0;
       named : (bytes : List ℕ) (known : Known) → IsTrue (S.told l.swap) → (n : ℕ) → is_in n (ages_of l.need) ≡ true
           → is_in n (needed_names (before_in (away_of l.fn.store l.fn.regions l.images (S.blocks l.fn.swap) (S.block l.fn.swap)) l.fn.store l.fn.regions l.pid l.fn.cpu bytes known)) ≡ true;

@@ -1,10 +1,11 @@
 use Rattle.std.proofs.Common.{◌≡◌, ◌⊎◌, ℕ, ◌+◌, ◌≤◌, ◌<◌, List, length, None, ap, sym, ◌∙◌, refl, subst, arith}
-use Rattle.std.specs.Prelude.{Ok, Err, IsTrue}
+use Rattle.std.specs.Prelude.{Ok, Err, IsTrue, true}
+use Rattle.std.proofs.lemmas.Bool.{false≢true}
 use Rattle.o2_isa.specs.Presence.{is_in}
 use Rattle.o2_isa.specs.View.{Registers, bound_registers}
 use Rattle.o2_place.specs.declared.seg_id.SegId.{SegId}
 use Rattle.o2_segbus.specs.Bus.{held_under}
-use Rattle.o2_segbus.specs.Seen.{hold_in, seen}
+use Rattle.o2_segbus.specs.Seen.{hold_in, present_in, seen}
 use Rattle.o2_service.proofs.Among.{all_live_same}
 use Rattle.o2_service.specs.Needs.{AreLive, all_needed, size_in}
 use Rattle.o2_outer.specs.Texts.{Rose}
@@ -18,6 +19,7 @@ use Rattle.o2_world.specs.Effect.{effect}
 use Rattle.o2_run.specs.Room.{seated, touched}
 use Rattle.o2_stepping.specs.Rooms.{AreNeeded, IsWanted, ages_of, all_names, left_in, needed_names, pair_of, room_in, seated_in}
 use Rattle.o2_stepping.specs.Worlds.{away_of, before_in, bytes_with}
+use Rattle.o2_stepping.proofs.Here.{may_step, seats_here}
 use Rattle.o2_stepping.proofs.Keeping.{shape_refl, shape_trans}
 use Rattle.o2_stepping.proofs.Lefts.{left_less, left_most, touched_few}
 use Rattle.o2_stepping.proofs.Rounds.{ages_seated, lacks_room, length_one, length_some, no_place, own_in, live_more, live_pair, live_seated, named_more, needed_all, needed_more, none_more, none_pair, none_seated, seated_few, seated_same}
@@ -30,7 +32,7 @@ use Rattle.o2_stepping.proofs.Steps.{asked_at, asks_at, at_begun, at_stop, count
 use Rattle.o2_stepping.proofs.Rooms.{room_fits, room_same}
 use Rattle.o2_stepping.proofs.Worlds.{registers_are, seen_present, view_same}
 use Rattle.o2_store.proofs.Idling.{idle_then}
-use Rattle.o2_stepping.proofs.in_store.step_as_needed.Goals as goal
+use Rattle.o2_stepping.proofs.in_store.step_in_store.Goals as goal
 
 pub tries-init : goal.tries-init
 tries-init g c =
@@ -41,6 +43,7 @@ tries-init g c =
     let cpu = c.args.cpu.now in
     let need = c.seats-need.result in
     let e : need ≡ seated_in m pid cpu = c.seats-need.ensures.seated in
+    let r = c.requires.ready in
     let a : ℕ → List ℕ = away_of s m c.args.images.now (S.blocks c.args.swap.now) (S.block c.args.swap.now) in
     record {
       cpu = refl;
@@ -57,6 +60,9 @@ tries-init g c =
       idle = λ none load. record { device = refl; none = none };
       live = subst (λ (x : List (SegId × ℕ)). AreLive s x) (sym e) (live_seated s m pid cpu c.requires.ready.held);
       seats = subst (λ (x : List (SegId × ℕ)). AreNeeded x (seated_in m pid cpu)) (sym e) (needed_all (seated_in m pid cpu));
+      can_step = λ h. may_step s m pid r.named r.settled cpu c.requires.process (sym c.are_here-here.ensures ∙ h);
+      here = subst (λ (x : List (SegId × ℕ)). c.are_here-here.result ≡ true → (k : ℕ) → is_in k (ages_of x) ≡ true → present_in s k ≡ true) (sym e)
+          (λ h. seats_here s m pid r.named r.settled cpu (sym c.are_here-here.ensures ∙ h));
       sizes = λ k. ap (λ (x : List (SegId × ℕ)). size_in x k) e ∙ none_seated m pid cpu k;
       named = λ bytes known tells k h.
           let z = before_in a s m pid cpu bytes known in
@@ -116,6 +122,8 @@ tries-preserved g c =
       seats = subst (λ (x : List (SegId × ℕ)). AreNeeded x (seated_in o pid d)) (sym added)
           (needed_more old more (seated_in o pid d)
           (subst (λ (x : List (SegId × ℕ)). AreNeeded old x) (sym (seated_same n o pid d e.shape.holds ∙ ap (seated_in n pid) st.0)) i.seats));
+      can_step = λ h. absurd (false≢true h);
+      here = λ h. absurd (false≢true h);
       sizes = λ k. ap (λ (x : List (SegId × ℕ)). size_in x k) added ∙ none_more old more k (i.sizes k) (none_pair (held_under o pid sel.0) k);
       named = λ bytes known tells k h.
           (let z : Before = before_in a s m pid cpu bytes known in
