@@ -1,6 +1,6 @@
 -- A step in a store, from its last try.
 use Rattle.std.proofs.Common.{◌≡◌, ℕ, ◌<◌, List, Option, ap, ◌∙◌, subst, arith}
-use Rattle.std.specs.Prelude.{Result, Ok}
+use Rattle.std.specs.Prelude.{Result, Ok, Err}
 use mathlib.Core.Path.{fun_ext}
 use Rattle.o2_isa.specs.declared.cpu.Cpu.{Cpu}
 use Rattle.o2_isa.specs.View.{View}
@@ -21,7 +21,7 @@ use Rattle.o2_store.proofs.Loads.{same_live_load, same_swap_load}
 use Rattle.o2_stepping.specs.Shapes.{SameShape}
 use Rattle.o2_gate.specs.declared.gathering.SegmentArguments.{SegmentArguments}
 use Rattle.o2_stepping.specs.Ran.{OnAsked, OnAsking, OnMissed, OnUndone, StepFor, StepLeaves}
-use Rattle.o2_stepping.specs.Taken.{OnRan, OnBegunFault, OnSwapFault, TriedFor, Tries}
+use Rattle.o2_stepping.specs.Taken.{OnRan, OnBegunFault, OnSwapFault, OnSwapStop, TriedFor, Tries}
 use Rattle.o2_stepping.specs.Worlds.{before_in, bytes_with, world_view}
 use Rattle.o2_stepping.specs.declared.one_step.Attempt.{Attempt}
 use Rattle.o2_stepping.specs.declared.one_step.Attempt.TheVariants as attempt
@@ -86,6 +86,10 @@ at_stop P Q R A B C (fault.Stopped stop.Input) p q r h = tt
 at_stop P Q R A B C (fault.Stopped stop.NoRoom) p q r h = p h
 at_stop P Q R A B C (fault.Stopped stop.SwapFull) p q r h = q h
 at_stop P Q R A B C (fault.Stopped stop.SwapFault) p q r h = r h
+
+-- what holds where the device failed
+pub failed_at : (P Q R : Type 0) (r : Result Stepped Fault) → r ≡ Err (fault.Stopped stop.SwapFault) → OnSwapStop r P Q R → R
+failed_at P Q R r e h = subst (λ (z : Result Stepped Fault). OnSwapStop z P Q R) e h
 
 pub ran_tries : (b : Before) (e : Effect) (cpu : Cpu) (old new : ℕ → List ℕ) (i j x y r q : Option (List ℕ)) (z : Attempt) (ran : Stepped) → z ≡ attempt.Stepped ran
     → Tries b e cpu old new i j x y r q (Ok z) → StepLeaves b e cpu old new i j x y r q ran

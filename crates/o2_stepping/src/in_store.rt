@@ -1,11 +1,12 @@
 // A step of a process over a store: it is tried until it misses nothing, once what it needs is in memory.
-ghost use Rattle.std.specs.Prelude.{◌≡◌, ◌<◌, ◌≤◌, ◌⊎◌, ◌++◌, ℕ, List, Option, Some, false, true, IsTrue, IsOk};
+ghost use Rattle.std.specs.Prelude.{◌≡◌, ◌<◌, ◌≤◌, ◌⊎◌, ◌++◌, ℕ, List, Option, Err, Some, false, true, IsTrue, IsOk};
 ghost use Rattle.o2_outer.specs.Texts.{Rose};
 ghost use Rattle.o2_outer.specs.Inputs.{GoesOn, IsSeenAs, left_as};
 ghost use Rattle.o2_isa.specs.View.{bound_registers};
 ghost use Rattle.o2_isa.specs.Presence.{is_in};
 ghost use Rattle.o2_swapmap.specs.Piles.{all_of};
 ghost use Rattle.o2_regions.specs.Maps.{IsProcess};
+ghost use Rattle.o2_store.specs.Frames.{KeepsDevice};
 ghost use Rattle.o2_store.specs.Loads.{live_load, swap_load};
 ghost use Rattle.o2_segbus.specs.Frames.{CanStep};
 ghost use Rattle.o2_segbus.specs.Seen.{hold_in, present_in, seen};
@@ -263,9 +264,8 @@ pub fn step_in_store<S: SwapDevice, I: Source, C: Sink, R: Sink>(
     ensures no_room { (bytes : List ℕ) (known : Known) → IsTrue (S.told swap.new)
         → let b = before_in (away_of store.old regions.old images.now (S.blocks swap.old) (S.block swap.old)) store.old regions.old pid cpu.old bytes known in
         OnSwapStop result (store.old.places.size < room_in store.old (needed_names b)) (Unit {0}) (Unit {0}) }
-    ensures swap_stops { OnSwapStop result (Unit {0})
-        ((all_of store.old.swap < swap_load store.old) × (store.old.places.size < live_load store.old))
-        (Rose (S.faults swap.old) (S.faults swap.new)) }
+    ensures loads { OnSwapStop result (Unit {0})
+        ((all_of store.old.swap < swap_load store.old) × (store.old.places.size < live_load store.old)) (Unit {0}) }
     // Where nothing is in swap blocks and all that lives fits the memory, the device isn't touched.
     ensures idle { Idles (live_load store.old) store.old store.new swap.old swap.new }
 
@@ -274,14 +274,14 @@ pub fn step_in_store<S: SwapDevice, I: Source, C: Sink, R: Sink>(
     ensures ready { IsReady (parts_of store.new regions.new images.now (S.blocks swap.new) (S.block swap.new)) }
     ensures next { OnDone result (CanStep store.new regions.new pid cpu.new) }
     ensures avail { services.new.avail ≡ services.old.avail }
-    ensures device { (S.blocks swap.new ≡ S.blocks swap.old) × (IsTrue (S.told swap.new) → IsTrue (S.told swap.old)) }
+    ensures device { KeepsDevice S.blocks S.told S.faults swap.old swap.new
+        (result ≡ Err (Fault.Stopped Stop.SwapFault)) }
 
     ensures cause { SteppedFor (Rose (C.faults console.old) (C.faults console.new) ⊎ Rose (R.faults report.old) (R.faults report.new))
         (Rose (I.faults input.old) (I.faults input.new)) result }
     ensures input_count { I.faults input.old ≤ I.faults input.new }
     ensures console_count { C.faults console.old ≤ C.faults console.new }
     ensures report_count { R.faults report.old ≤ R.faults report.new }
-    ensures swap_count { S.faults swap.old ≤ S.faults swap.new }
 
     // Each line is one put, and so is the piece where it has bytes. Where a sink fails, no more lines were put than there are.
     ensures puts { StepHands (counts (C.puts console.old) (C.puts console.new) (R.puts report.old) (R.puts report.new) 0) result }

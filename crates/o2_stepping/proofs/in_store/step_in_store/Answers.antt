@@ -28,7 +28,7 @@ use Rattle.o2_run.specs.Pieces.{Counts, counts, Hands, PartHands}
 use Rattle.o2_stepping.specs.Pieces.{StepHands}
 use Rattle.o2_stepping.specs.declared.one_step.Stepped.{Stepped}
 use Rattle.o2_stepping.proofs.Puts.{missed_hands, part_fault, ran_fault, ran_hands}
-use Rattle.o2_stepping.proofs.Steps.{asked_at, asks_at, at_begun, at_stop, counts_from, first_from, full_then, map_asking, missed_at, missed_then, part_from, ran_at, ran_cause, ran_tries, tries_from}
+use Rattle.o2_stepping.proofs.Steps.{asked_at, asks_at, at_begun, at_stop, counts_from, failed_at, first_from, full_then, map_asking, missed_at, missed_then, part_from, ran_at, ran_cause, ran_tries, tries_from}
 use Rattle.o2_stepping.proofs.Rooms.{room_fits, room_same}
 use Rattle.o2_stepping.proofs.Worlds.{registers_are, seen_present, view_same}
 use Rattle.o2_store.proofs.Idling.{idle_then}
@@ -215,15 +215,51 @@ returns-in-Err-clause-no_room g c = λ bytes known tells.
     (s.places.size < room_in s names) (Unit {0}) (Unit {0}) c.in-Err.fault
     (λ p. lacks_room s t c.tries.need names i.shape.tables i.live i.sizes (i.named bytes known (c.in-Err.ensures.device.1 tells)) p) (λ p. tt) (λ p. tt) c.in-Err.ensures.causes
 
-pub returns-in-Err-clause-swap_stops : goal.returns-in-Err-clause-swap_stops
-returns-in-Err-clause-swap_stops g c =
+pub returns-in-Err-clause-loads : goal.returns-in-Err-clause-loads
+returns-in-Err-clause-loads g c =
     let S = g.S.SwapDevice in
     let i = c.tries.invariant in
     let s = c.args.store.now in
     let t = c.tries.store in
     at_stop (t.places.size < all_needed t c.tries.need) ((all_of t.swap < swap_load t) × (t.places.size < live_load t)) (Rose (S.faults c.tries.swap) (S.faults c.serve_and_try.new.swap))
-    (Unit {0}) ((all_of s.swap < swap_load s) × (s.places.size < live_load s)) (Rose (S.faults c.args.swap.now) (S.faults c.serve_and_try.new.swap)) c.in-Err.fault
-    (λ p. tt) (λ p. full_then s t i.shape p) (λ p. (let f = i.faults in omega (arith, f, p))) c.in-Err.ensures.causes
+    (Unit {0}) ((all_of s.swap < swap_load s) × (s.places.size < live_load s)) (Unit {0}) c.in-Err.fault
+    (λ p. tt) (λ p. full_then s t i.shape p) (λ p. tt) c.in-Err.ensures.causes
+
+pub returns-in-Err-clause-device : goal.returns-in-Err-clause-device
+returns-in-Err-clause-device g c =
+    let S = g.S.SwapDevice in
+    let i = c.tries.invariant in
+    let e = c.in-Err.ensures in
+    record {
+      blocks = e.device.0 ∙ i.blocks;
+      told = λ w. i.told (e.device.1 w);
+      faults = (let a = i.faults in let b = e.swap_count in omega (arith, a, b));
+      cause = λ failed. (let t = c.tries.store in let a = i.faults in let b = failed_at (t.places.size < all_needed t c.tries.need) ((all_of t.swap < swap_load t) × (t.places.size < live_load t)) (Rose (S.faults c.tries.swap) (S.faults c.serve_and_try.new.swap)) (Err c.in-Err.fault) failed e.causes in omega (arith, a, b));
+    }
+
+pub returns-in-Ok-Stepped-clause-device : goal.returns-in-Ok-Stepped-clause-device
+returns-in-Ok-Stepped-clause-device g c =
+    let S = g.S.SwapDevice in
+    let i = c.tries.invariant in
+    let e = c.in-Ok-Stepped.ensures in
+    record {
+      blocks = e.device.0 ∙ i.blocks;
+      told = λ w. i.told (e.device.1 w);
+      faults = (let a = i.faults in let b = e.swap_count in omega (arith, a, b));
+      cause = λ failed. failed_at (Unit {0}) (Unit {0}) (Rose (S.faults c.args.swap.now) (S.faults c.serve_and_try.new.swap)) _ failed tt;
+    }
+
+pub returns-then-not-add_missed-clause-device : goal.returns-then-not-add_missed-clause-device
+returns-then-not-add_missed-clause-device g c =
+    let S = g.S.SwapDevice in
+    let i = c.tries.invariant in
+    let e = c.in-Ok-Missed.ensures in
+    record {
+      blocks = e.device.0 ∙ i.blocks;
+      told = λ w. i.told (e.device.1 w);
+      faults = (let a = i.faults in let b = e.swap_count in omega (arith, a, b));
+      cause = λ failed. failed_at (Unit {0}) (Unit {0}) (Rose (S.faults c.args.swap.now) (S.faults c.serve_and_try.new.swap)) _ failed tt;
+    }
 
 pub returns-in-Err-clause-cause : goal.returns-in-Err-clause-cause
 returns-in-Err-clause-cause g c = rw (c.tries.invariant.console, c.tries.invariant.report, c.tries.invariant.input) at c.in-Err.ensures.cause

@@ -1,7 +1,10 @@
 use Rattle.std.proofs.Common.{ℕ, ◌≤◌, ◌<◌, List, None, ap, sym, ◌∙◌, subst, arith}
 use Rattle.o2_isa.specs.View.{bound_registers}
 use Rattle.o2_outer.specs.Inputs.{left_as}
+use Rattle.o2_outer.specs.Texts.{Rose}
 use Rattle.o2_segbus.specs.Seen.{hold_in}
+use Rattle.o2_store.specs.Loads.{live_load, swap_load}
+use Rattle.o2_swapmap.specs.Piles.{all_of}
 use Rattle.o2_world.specs.Calls.{Before}
 use Rattle.o2_world.specs.Effect.{effect}
 use Rattle.o2_world.specs.Known.{known_of}
@@ -20,7 +23,7 @@ use Rattle.o2_space.proofs.SharedKept.{few_as, shape_grows, shape_shares}
 use Rattle.o2_space.proofs.Alike.{ready_as}
 use Rattle.o2_space.proofs.Behind.{set_behind, steps_by}
 use Rattle.o2_space.proofs.Nexting.{says_room}
-use Rattle.o2_space.proofs.Rooms.{on_stop, room_by, room_in_part_by}
+use Rattle.o2_space.proofs.Rooms.{on_stop, room_by, room_in_part_by, with_failure}
 use Rattle.o2_space.proofs.Sights.{before_is}
 use Rattle.o2_stepping.proofs.NextRooms.{live_least}
 use Rattle.o2_space.proofs.space.Space.step.Goals as goal
@@ -97,7 +100,7 @@ returns-clause-set g c = λ s set.
     let S = g.S.SwapDevice in
     let new = c.step_in_store-result.new in
     let e = c.step_in_store-result.ensures in
-    set_behind (parts_in c.args.self.now (S.blocks c.args.swap.now) (S.block c.args.swap.now)) new.store new.regions (S.blocks new.swap) (S.block new.swap) e.shape s e.device.0 set
+    set_behind (parts_in c.args.self.now (S.blocks c.args.swap.now) (S.block c.args.swap.now)) new.store new.regions (S.blocks new.swap) (S.block new.swap) e.shape s e.device.blocks set
 
 pub returns-clause-processes : goal.returns-clause-processes
 returns-clause-processes g c = c.step_in_store-result.ensures.shape.holds.processes
@@ -134,6 +137,20 @@ returns-clause-part g c = λ text may s w x tells stands there same left known.
     subst (λ (z : Before). PartHands (effect z) n c.step_in_store-result.result)
     (before_is p w c.lawful.ensures stands s c.args.pid x c.args.cpu.now there same) (c.step_in_store-result.ensures.part text may w.input (known_of s w) tells left known)
 
+pub returns-clause-swap_stops : goal.returns-clause-swap_stops
+returns-clause-swap_stops g c =
+    let s = c.args.self.now.store in
+    let e = c.step_in_store-result.ensures in
+    let Loads : Type 0 = (all_of s.swap < swap_load s) × (s.places.size < live_load s) in
+    let Failed : Type 0 = Rose (g.S.SwapDevice.faults c.args.swap.now) (g.S.SwapDevice.faults c.step_in_store-result.new.swap) in
+    with_failure (Unit {0}) Loads Failed c.step_in_store-result.result e.loads e.device.cause
+
+pub returns-clause-device : goal.returns-clause-device
+returns-clause-device g c = (c.step_in_store-result.ensures.device.blocks, c.step_in_store-result.ensures.device.told)
+
+pub returns-clause-swap_count : goal.returns-clause-swap_count
+returns-clause-swap_count g c = c.step_in_store-result.ensures.device.faults
+
 pub returns-clause-next_room : goal.returns-clause-next_room
 returns-clause-next_room g c = λ text may s w x tells stands set chosen there same left known.
     let S = g.S.SwapDevice in
@@ -150,7 +167,7 @@ returns-clause-next_room g c = λ text may s w x tells stands set chosen there s
     (subst (λ (z : Before). Takes z (effect z) new.cpu old_bytes new_bytes (left_as text (g.I.Source.left c.args.input.now) (g.I.Source.past c.args.input.now)) (left_as text (g.I.Source.left new.input) (g.I.Source.past new.input))
     (g.C.Sink.taken c.args.console.now) (g.C.Sink.taken new.console) (g.R.Sink.taken c.args.report.now) (g.R.Sink.taken new.report) result) is (e.takes_as text may w.input (known_of s w) tells left known))
     (returns-clause-room g c text may s w x tells stands there same left known) (returns-clause-room_in_part g c text may s w x tells stands there same left known)
-    (returns-clause-no_room g c s w x tells stands there same) e.swap_stops
+    (returns-clause-no_room g c s w x tells stands there same) (returns-clause-swap_stops g c)
 
 pub returns-clause-made : goal.returns-clause-made
 returns-clause-made g c = c.step_in_store-result.ensures.shape.tables.made
