@@ -1,5 +1,5 @@
 -- The members of a run that a process holds are a front of its stretch, as many as are counted.
-use Rattle.std.proofs.Common.{◌≡◌, ◌≢◌, inl, ℕ, zero, suc, ◌+◌, ◌-◌, ◌/◌, ◌<◌, ◌≤◌, ◌==◌, ◌&&◌, nat_le, nat_lt, not, Bool, true, false, cond, List, [], ◌∷◌, Option, Some, None, IsSome, is_some, if◌then◌else◌, refl, sym, ap, ◌∙◌, subst, arith}
+use Rattle.std.proofs.Common.{◌≡◌, ◌≢◌, inl, ℕ, zero, suc, ◌+◌, ◌-◌, ◌<◌, ◌≤◌, ◌==◌, ◌&&◌, nat_le, nat_lt, not, Bool, true, false, cond, [], ◌∷◌, Option, Some, None, is_some, refl, sym, ap, ◌∙◌, subst, arith}
 use Rattle.std.specs.Prelude.{filter, slice_index_or}
 use Rattle.std.proofs.lemmas.Bool.{cond-true, cond-false}
 use Rattle.o2_regions.specs.declared.held.Held.{Held}
@@ -8,10 +8,9 @@ use Rattle.o2_regions.specs.Maps.{Maps, end_of, held_at, place, region_of}
 use Rattle.o2_world.specs.Rulings.{indexes}
 use Rattle.o2_stands.specs.Runs.{AreRuns, Covers, IsMember}
 use Rattle.o2_segs.specs.Members.{is_later_in, members_in, run_in}
-use Rattle.o2_huge.specs.Growth.{AreMembers, IsMemberAt, is_of_run}
+use Rattle.o2_huge.specs.Growth.{IsMemberAt, is_of_run}
 use Rattle.o2_huge.specs.Resized.{is_member, is_member_in}
 use Rattle.o2_huge.proofs.Stretch.{fronts}
-use Rattle.o2_calls.specs.declared.noting.Counted.{Counted}
 use Rattle.o2_calls.specs.Noted.{counted_there, members_from}
 
 pub different : false ≡ true → ⊥

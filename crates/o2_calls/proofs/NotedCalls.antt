@@ -11,7 +11,7 @@ use Rattle.o2_world.specs.HugeRulings.{free_run, huge_allocation, huge_at, huge_
 use Rattle.o2_world.specs.Known.{Known, Marks}
 use Rattle.o2_world.specs.Rulings.{Ruling, aliasing_at, aliasing_of, allocation, allocation_at, free_index, grants, indexes, is_alias, is_discardable, is_in_run, keeps_its_size, locking_of, locking_with, reallocation_of, reallocation_with, refusal, region_by, sizing_of, sizing_with, unlocking_of, unlocking_with}
 use Rattle.o2_world.specs.SharedRulings.{each_more, holder, index_of, is_share, held_by, naming, naming_at, sharing, sharing_at, sharing_from, sharing_of}
-use Rattle.o2_world.specs.World.{Held, Line}
+use Rattle.o2_world.specs.World.{Held}
 use Rattle.o2_gate.specs.declared.moves.Block.{Block}
 use Rattle.o2_gate.specs.MovedLines.{block_lines}
 use Rattle.o2_calls.specs.Noted.{AreTold, came}

@@ -3,14 +3,14 @@ use Rattle.std.proofs.Common.{◌≡◌, ℕ, zero, suc, ◌+◌, ◌*◌, ◌/�
 use Rattle.std.specs.Prelude.{flat_map, map, replicate}
 use Rattle.std.proofs.lemmas.Grind.{flat_map-append}
 use Rattle.o2_base.specs.Selectors.{selector_of}
-use Rattle.o2_world.specs.Changes.{Change, Drops, Holds, Makes, Reserves, drop_lines_of, hold_lines_of, in_order, moved_lines}
-use Rattle.o2_world.specs.HugeRulings.{all_hold, held_in_run, new_members, segments_of, sizes_of}
+use Rattle.o2_world.specs.Changes.{Change, Drops, drop_lines_of, hold_lines_of, in_order, moved_lines}
+use Rattle.o2_world.specs.HugeRulings.{all_hold, new_members, segments_of, sizes_of}
 use Rattle.o2_world.specs.Known.{Known}
-use Rattle.o2_world.specs.Rulings.{Ruling, indexes, made_segment, refusal}
+use Rattle.o2_world.specs.Rulings.{Ruling, indexes, refusal}
 use Rattle.o2_world.specs.SharedRulings.{each_more, one_more}
 use Rattle.o2_world.specs.World.{DropsBy, Held, HoldsBy, Line}
 use Rattle.o2_gate.specs.declared.moves.Block.{Block}
-use Rattle.o2_gate.specs.MovedLines.{AreInside, all_lines, block_lines}
+use Rattle.o2_gate.specs.MovedLines.{all_lines, block_lines}
 use Rattle.o2_calls.specs.Noted.{AreTold, came, went}
 use Rattle.o2_calls.proofs.Ordered.{Rise, in_order_still, rise_append, rise_times}
 

@@ -1,32 +1,24 @@
 -- What is noted of calls that free a segment or a run, or give it.
-use Rattle.std.proofs.Common.{◌≡◌, ◌⊎◌, inl, inr, ℕ, zero, suc, ◌+◌, ◌-◌, ◌/◌, ◌<◌, ◌≤◌, ◌==◌, ◌&&◌, ◌||◌, nat_le, nat_lt, not, Bool, true, false, cond, List, [], ◌∷◌, ◌++◌, Option, Some, None, is_some, IsSome, option_map, refl, sym, ap, ◌∙◌, subst, arith}
+use Rattle.std.proofs.Common.{◌≡◌, ℕ, ◌/◌, ◌||◌, Bool, true, false, cond, List, [], ◌∷◌, Option, Some, None, is_some, option_map, refl, sym, ap, ◌∙◌, subst, arith}
 use Rattle.std.specs.Prelude.{map}
-use Rattle.std.specs.List.{list_any}
 use Rattle.o2_base.specs.Selectors.{selector_of}
 use Rattle.o2_isa.specs.declared.cpu.Cpu.{Cpu}
-use Rattle.o2_isa.specs.View.{is_local}
 use Rattle.o2_regions.specs.declared.held.Held.{Held as HeldThere}
-use Rattle.o2_regions.specs.Maps.{Maps, end_of, held_at, region_of}
-use Rattle.o2_world.specs.Changes.{Change, Drops, Holds, more, with_change, with_changes}
-use Rattle.o2_world.specs.Holders.{process_at}
-use Rattle.o2_world.specs.HugeRulings.{is_first}
-use Rattle.o2_world.specs.Known.{Known, held_at as world_held}
-use Rattle.o2_world.specs.Rulings.{Ruling, by_load, freeing, freeing_of, grants, held_under, in_use, indexes, members, refusal}
-use Rattle.o2_world.specs.SharedRulings.{each_more, getting, getting_at, getting_from, giving, giving_of, holder, is_shared_with, lacks_flag, marks_by_call, one_more}
-use Rattle.o2_world.specs.World.{ByCall, Held, Process, World}
+use Rattle.o2_regions.specs.Maps.{Maps, held_at}
+use Rattle.o2_world.specs.Changes.{Drops}
+use Rattle.o2_world.specs.Known.{Known}
+use Rattle.o2_world.specs.Rulings.{by_load, freeing, freeing_of, grants, in_use, indexes, members, refusal}
+use Rattle.o2_world.specs.SharedRulings.{each_more, giving, giving_of, lacks_flag}
 use Rattle.o2_gate.specs.declared.moves.Block.{Block}
 use Rattle.o2_stands.specs.Knows.{Others, known_in}
 use Rattle.o2_stands.specs.Parts.{Parts, cause_of, held_in, held_of}
-use Rattle.o2_stands.specs.Runs.{AreRuns, Covers, IsMember, IsOneFor}
-use Rattle.o2_stands.proofs.Puts.{held_put, put_at, there_put, with_map}
+use Rattle.o2_stands.specs.Runs.{AreRuns}
 use Rattle.o2_segs.specs.Members.{is_later_in, members_in}
 use Rattle.o2_segs.proofs.Members.{free_all, members_are}
 use Rattle.o2_segs.proofs.Selecting.{under, under_held, under_is}
-use Rattle.o2_huge.specs.Growth.{is_of_run}
-use Rattle.o2_huge.specs.Resized.{is_member, is_member_in}
 use Rattle.o2_calls.specs.declared.noting.Counted.{Counted}
-use Rattle.o2_calls.specs.Noted.{AreTold, came, counted_there, counted_under, members_from, went}
-use Rattle.o2_calls.proofs.Fronts.{IsOf, counted_are, counted_held, counted_inside, counted_some, different, from_all, from_last, from_most, held_low, is_of, member_there, none_above, of_run, region_ends, same_end}
+use Rattle.o2_calls.specs.Noted.{AreTold, came, counted_there, counted_under, went}
+use Rattle.o2_calls.proofs.Fronts.{counted_are, counted_held, counted_inside, different}
 use Rattle.o2_calls.proofs.NotedLines.{Tells, drops_drop, drops_hold, each_drops, each_holds, either, five, refused, told_came, told_went}
 
 pub some_in : (m : Maps) (pid i : ℕ) → is_some (held_in m pid i) ≡ is_some (held_at m pid i)

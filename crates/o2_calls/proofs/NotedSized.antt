@@ -1,7 +1,7 @@
 -- What is noted of DosReallocHuge.
-use Rattle.std.proofs.Common.{◌≡◌, ◌≢◌, ℕ, zero, suc, ◌+◌, ◌-◌, ◌*◌, ◌/◌, ◌%◌, ◌<◌, ◌≤◌, ◌==◌, ◌&&◌, ◌||◌, nat_le, nat_lt, not, Bool, true, false, cond, List, [], ◌∷◌, ◌++◌, length, min, Option, Some, None, is_some, option_map, if◌then◌else◌, refl, sym, ap, ◌∙◌, subst, arith, append-nil, append_assoc}
+use Rattle.std.proofs.Common.{◌≡◌, ◌≢◌, ℕ, zero, suc, ◌+◌, ◌-◌, ◌*◌, ◌/◌, ◌%◌, ◌<◌, ◌≤◌, ◌==◌, nat_le, nat_lt, Bool, true, false, cond, List, [], ◌∷◌, ◌++◌, length, min, Option, Some, None, option_map, if◌then◌else◌, refl, sym, ap, ◌∙◌, subst, arith, append-nil}
 use Rattle.std.specs.Prelude.{flat_map, replicate}
-use Rattle.std.proofs.lemmas.Bool.{cond-true, cond-false, ne_eqb}
+use Rattle.std.proofs.lemmas.Bool.{cond-false, ne_eqb}
 use Rattle.std.proofs.lemmas.Grind.{flat_map-append}
 use Rattle.o2_base.specs.Selectors.{selector_of}
 use Rattle.o2_isa.specs.declared.cpu.Cpu.{Cpu}
@@ -16,7 +16,7 @@ use Rattle.o2_world.specs.Holders.{process_at}
 use Rattle.o2_world.specs.HugeRulings.{all_hold, huge_reallocation, is_first, new_members, segments_of, sizes_of}
 use Rattle.o2_world.specs.Known.{Known, held_at as world_held}
 use Rattle.o2_world.specs.Map.{Map, get, put}
-use Rattle.o2_world.specs.Rulings.{Ruling, full_size, grants, indexes, refusal}
+use Rattle.o2_world.specs.Rulings.{Ruling, full_size, grants, indexes}
 use Rattle.o2_world.specs.Sound.{held_of as held_under}
 use Rattle.o2_world.specs.World.{DropsBy, Held, HoldsBy, Line, Process, World}
 use Rattle.o2_world.proofs.Reached.{get-put}
@@ -33,7 +33,7 @@ use Rattle.o2_huge.proofs.Asking.{IsAsked, huge_fault, huge_full, huge_good, hug
 use Rattle.o2_huge.proofs.Stretch.{more_wanted}
 use Rattle.o2_calls.specs.declared.noting.Counted.{Counted}
 use Rattle.o2_calls.specs.Noted.{AreTold, came, counted_there, counted_under, grown, members_from, share_block, sized_blocks, went}
-use Rattle.o2_calls.proofs.Fronts.{as_often, counted_inside, counted_some, different, few, from_last, from_most, member_at, region_ends, same_end}
+use Rattle.o2_calls.proofs.Fronts.{as_often, counted_inside, counted_some, few, from_last, from_most, member_at, region_ends, same_end}
 use Rattle.o2_calls.proofs.NotedLines.{Tells, eight, five, members_drop, members_hold, one_holder, refused, rise_came, shares, sizes_length, told_came, told_nothing, told_went}
 use Rattle.o2_calls.proofs.Ordered.{AreBy, AreEachBy, Rise, all_among, but, by_append, by_times, first_of, in_order_among, in_order_still, rise_append, rise_high, rise_low, turned}
 

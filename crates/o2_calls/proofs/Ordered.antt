@@ -1,7 +1,6 @@
 -- Lines in order: those that rise stay as they are, and what comes first among lines that a number tells doesn't matter.
-use Rattle.std.proofs.Common.{◌≡◌, ℕ, zero, suc, ◌+◌, ◌*◌, ◌<◌, ◌≤◌, nat_le, Bool, true, false, cond, List, [], ◌∷◌, ◌++◌, ap, sym, ◌∙◌, refl, arith, append-nil}
+use Rattle.std.proofs.Common.{◌≡◌, ℕ, zero, suc, ◌+◌, ◌<◌, ◌≤◌, nat_le, Bool, true, false, cond, List, [], ◌∷◌, ◌++◌, ap, sym, ◌∙◌, refl, arith}
 use Rattle.std.specs.Prelude.{flat_map, replicate, ◌==◌, if◌then◌else◌}
-use Rattle.std.proofs.lemmas.Grind.{flat_map-append}
 use Rattle.o2_world.specs.Changes.{among, in_order, key_of}
 use Rattle.o2_world.specs.Rulings.{indexes}
 use Rattle.o2_world.specs.World.{Line}

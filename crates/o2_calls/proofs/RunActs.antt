@@ -1,6 +1,5 @@
 -- A call on a huge allocation over a machine that stands for a world.
-use Rattle.std.proofs.Common.{◌≡◌, ◌⊎◌, ℕ, ◌<◌, ◌&&◌, ◌||◌, ◌==◌, Bool, true, false, cond, not, nat_le, List, [], ◌∷◌, length, Option, Some, is_some, if◌then◌else◌, refl, sym, ap, ◌∙◌, subst, arith}
-use Rattle.std.specs.List.{list_any}
+use Rattle.std.proofs.Common.{◌≡◌, ℕ, ◌<◌, ◌&&◌, ◌||◌, ◌==◌, Bool, true, false, not, List, [], ◌∷◌, if◌then◌else◌, refl, sym, ap, ◌∙◌, subst}
 use Rattle.o2_image.specs.ImageList.{ImageList}
 use Rattle.o2_isa.specs.declared.cpu.Cpu.{Cpu}
 use Rattle.o2_place.specs.declared.seg_id.SegId.{SegId}
@@ -12,17 +11,17 @@ use Rattle.o2_store.specs.Shelf.{Shelf}
 use Rattle.o2_store.specs.Sizes.{all_wanted_at, stays}
 use Rattle.o2_world.specs.Changes.{is_used}
 use Rattle.o2_world.specs.HugeRulings.{huge_reallocation, without}
-use Rattle.o2_world.specs.Known.{Known, known_of, reserves}
-use Rattle.o2_world.specs.Rulings.{Ruling, dropped_indexes, is_in_run}
+use Rattle.o2_world.specs.Known.{Known, known_of}
+use Rattle.o2_world.specs.Rulings.{Ruling, dropped_indexes}
 use Rattle.o2_world.specs.Tied.{AreUsed}
-use Rattle.o2_world.specs.World.{Held, Process, Reserve, Setting, World}
+use Rattle.o2_world.specs.World.{Process, Reserve, Setting, World}
 use Rattle.o2_gate.specs.declared.gathering.SegmentArguments.{SegmentArguments}
 use Rattle.o2_gate.specs.declared.gathering.SegmentArguments.TheVariants.{Huge}
 use Rattle.o2_gate.specs.declared.huge.HugeArguments.{HugeArguments}
 use Rattle.o2_gate.specs.declared.huge.HugeArguments.TheVariants.{Realloc}
-use Rattle.o2_stands.specs.Knows.{KnowsAs, Others, known_in, others_of}
+use Rattle.o2_stands.specs.Knows.{known_in, others_of}
 use Rattle.o2_stands.specs.Parts.{Parts}
-use Rattle.o2_stands.specs.Runs.{AreFull, AreRuns, IsMemberOf}
+use Rattle.o2_stands.specs.Runs.{AreFull, AreRuns}
 use Rattle.o2_stands.specs.Stands.{AllStay, IsTidy, Matches, is_placed, region_at}
 use Rattle.o2_stands.proofs.Knowing.{known_is}
 use Rattle.o2_stands.proofs.Matching.{matched_by}
