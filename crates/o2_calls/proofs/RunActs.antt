@@ -1,14 +1,12 @@
 -- A call on a huge allocation over a machine that stands for a world.
-use Rattle.std.proofs.Common.{◌≡◌, ℕ, ◌<◌, ◌&&◌, ◌||◌, ◌==◌, Bool, true, false, not, List, [], ◌∷◌, if◌then◌else◌, refl, sym, ap, ◌∙◌, subst}
+use Rattle.std.proofs.Common.{◌≡◌, ℕ, ◌&&◌, ◌||◌, ◌==◌, Bool, true, false, not, length, List, [], ◌∷◌, if◌then◌else◌, refl, sym, ap, ◌∙◌, subst}
 use Rattle.o2_image.specs.ImageList.{ImageList}
 use Rattle.o2_isa.specs.declared.cpu.Cpu.{Cpu}
 use Rattle.o2_place.specs.declared.seg_id.SegId.{SegId}
 use Rattle.o2_regions.specs.declared.answer.Roomed.{Roomed}
 use Rattle.o2_regions.specs.declared.answer.Roomed.TheVariants.{Done, NoRoom, SwapFull, SwapFault}
 use Rattle.o2_regions.specs.Maps.{Maps, IsProcess}
-use Rattle.o2_store.specs.Loads.{live_load_at}
 use Rattle.o2_store.specs.Shelf.{Shelf}
-use Rattle.o2_store.specs.Sizes.{all_wanted_at, stays}
 use Rattle.o2_world.specs.Changes.{is_used}
 use Rattle.o2_world.specs.HugeRulings.{huge_reallocation, without}
 use Rattle.o2_world.specs.Known.{Known, known_of}
@@ -31,7 +29,7 @@ use Rattle.o2_segs.specs.Answers.{changes_roomed}
 use Rattle.o2_segs.specs.Limits.{KeepsLimitsBy, made_in}
 use Rattle.o2_segs.proofs.Limits.{limits_by}
 use Rattle.o2_huge.specs.Cuts.{MayLose}
-use Rattle.o2_huge.specs.Growth.{FirstSized}
+use Rattle.o2_huge.specs.Frames.{IsKnownBy, StopsFor}
 use Rattle.o2_huge.specs.Resized.{is_done}
 use Rattle.o2_calls.specs.Acts.{IsOver, cpu_behind, cpu_of, most_made}
 use Rattle.o2_calls.specs.HugeActs.{huge_behind, huge_ruling}
@@ -70,13 +68,17 @@ module _ (sh : Shelf) (m : Maps) (images : ImageList) (block : ℕ → List ℕ)
   abbrev matches : Matches p w
   matches = matched_by p w.processes w.names w.next_name w.reserved over.stands
 
-  pub runs_over : AreRuns m
+  runs_over : AreRuns m
   runs_over = subst AreRuns over.regions (runs_seen p w.processes w.names w.next_name w.reserved over.lawful.maps matches over.stands.tidy)
 
-  pub full_over : AreFull sh m
+  full_over : AreFull sh m
   full_over =
       subst (λ (t : Shelf). AreFull t m) over.store
       (subst (AreFull p.shelf) over.regions (full_seen p w.processes w.names w.next_name w.reserved over.lawful.maps matches over.stands.tidy))
+
+  -- what the parts of a machine know is what a call on a run asks of them
+  pub known_over : length w.processes ≡ m.processes → IsKnownBy sh m p (others_of s w)
+  known_over total = record { shelf = over.store; maps = over.regions; processes = total; runs = runs_over; full = full_over }
 
   pub lose_over : MayLose w
   lose_over = may_lose w over.stands.tidy
@@ -108,14 +110,12 @@ limits_sized s t m n SwapFull is = is
 limits_sized s t m n SwapFault is = is
 
 -- why it stops
-pub lacks_sized : (t : Shelf) (k : Known) (n segs part selector : ℕ) (c : Cpu) (keep : List SegId) (r : Roomed) → let cs = (huge_reallocation k n segs part selector c).changes in
-    (r ≡ NoRoom → FirstSized t cs (λ id size. (stays t id.key keep ≡ true) × (t.places.size < all_wanted_at t id.key keep size)))
-    → (r ≡ SwapFull → FirstSized t cs (λ id size. t.places.size < live_load_at t id.key size))
-    → LacksRun (Huge (Realloc segs part selector)) t k n c keep r
-lacks_sized t k n segs part selector c keep (Done x) room full = tt
-lacks_sized t k n segs part selector c keep NoRoom room full = room refl
-lacks_sized t k n segs part selector c keep SwapFull room full = full refl
-lacks_sized t k n segs part selector c keep SwapFault room full = tt
+pub lacks_sized : (t : Shelf) (k : Known) (n segs part selector : ℕ) (c : Cpu) (keep : List SegId) (r : Roomed) (idles : Type 0)
+    → StopsFor t keep (huge_reallocation k n segs part selector c).changes (r ≡ NoRoom) (r ≡ SwapFull) idles → LacksRun (Huge (Realloc segs part selector)) t k n c keep r
+lacks_sized t k n segs part selector c keep (Done x) idles stops = tt
+lacks_sized t k n segs part selector c keep NoRoom idles stops = stops.no_room refl
+lacks_sized t k n segs part selector c keep SwapFull idles stops = stops.all_load refl
+lacks_sized t k n segs part selector c keep SwapFault idles stops = tt
 
 -- of a call that changes none, come to what it may
 pub still_registers : (a : SegmentArguments) (k : Known) (n : ℕ) (c : Cpu) (r : Roomed) → cpu_of a k n c ≡ c → c ≡ cpu_behind a k n c r

@@ -25,8 +25,10 @@ use Rattle.o2_world.specs.Known.{Known}
 use Rattle.o2_world.specs.Rulings.{Ruling, dropped_indexes, full_size, grants, indexes, members, refusal}
 use Rattle.o2_world.specs.World.{World}
 use Rattle.o2_segs.specs.Answers.{AnswersRoomed, changes_roomed}
+use Rattle.o2_segs.specs.Callers.{IsCaller}
 use Rattle.o2_segs.proofs.Selecting.{under, under_held, under_is}
 use Rattle.o2_huge.specs.declared.members.Run.{Run}
+use Rattle.o2_huge.specs.Frames.{IsKnownBy}
 use Rattle.o2_huge.specs.Growth.{AreMembers, AreVacant, FirstSized, is_of_run, last_kept, last_size, lost_in, lost_there, shares_in, sized_there}
 use Rattle.o2_huge.specs.Resized.{changed_in, flags_there, is_done, is_member, is_member_in, run_count, run_fault, sized_last}
 use Rattle.o2_stands.specs.Runs.{AreFull, AreRuns}
@@ -330,3 +332,58 @@ inside_there run sel h e small =
             less : (x : ℕ) → nat_lt x 4096 ≡ true → x < 4096
             less x e = grind (arith, nat_tests)
         go false e = omega (arith, small)
+
+-- no region has more indexes
+pub short_there : (run : Run) (sel : ℕ) (h : Held) → run ≡ record { first = sel / 8; count = run_count (sel / 8) h } → run.count ≤ 4096
+short_there run sel h e =
+    let b : run.count ≡ run_count (sel / 8) h = ap (λ (r : Run). r.count) e in
+    let d = ends (sel / 8) in
+    omega (arith, b, d)
+  where
+    ends : (i : ℕ) → end_of (region_of 0 i) - i ≤ 4096
+    ends i = go (nat_lt i 4096) refl
+      where
+        go : (b : Bool) → nat_lt i 4096 ≡ b → end_of (cond b (Private 0) Shared) - i ≤ 4096
+        go true e = omega arith
+        go false e = (let l : 4096 ≤ i = above i e in omega (arith, l))
+          where
+            above : (x : ℕ) → nat_lt x 4096 ≡ false → 4096 ≤ x
+            above x e = grind (arith, nat_tests)
+
+-- the same of a run that was found under a selector
+pub asked_run : (s : Shelf) (m : Maps) (pid sel n : ℕ) (run : Run) (h : Held) → run ≡ record { first = sel / 8; count = run_count (sel / 8) h } → AreKept m → IsCaller s m pid → under m pid sel ≡ Some h
+    → is_of_run (sel / 8) h ≡ true → n ≤ run.count → AreMembers m pid run.first run.first (run.first + n) → (n < run.count → is_member_in m pid run.first (run.first + n) ≡ false) → IsAsked s m pid sel n h
+asked_run s m pid sel n run h is kept caller held first few members last =
+    asked_by s m pid sel n run.first run.count h (ap (λ (r : Run). r.first) is) (ap (λ (r : Run). r.count) is) kept caller.named caller.process held first few members last
+
+-- What the call comes to, by what its tests found over the store and the tables.
+module _ (s : Shelf) (m : Maps) (p : Parts) (o : Others) (known : IsKnownBy s m p o) (pid segs part sel : ℕ) (c : Cpu) (n : ℕ) (run : Run) (h : Held) (is : run ≡ record { first = sel / 8; count = run_count (sel / 8) h }) (asked : IsAsked s m pid sel n h) where
+  asked_there : IsAsked p.shelf p.maps pid sel n h
+  asked_there = asked_in p s m pid sel n h known.shelf known.maps asked
+
+  runs_there : AreRuns p.maps
+  runs_there = subst AreRuns (sym known.maps) known.runs
+
+  full_there : AreFull p.shelf p.maps
+  full_there = full_in p s m known.shelf known.maps known.full
+
+  count_there : o.processes ≡ p.maps.processes
+  count_there = known.processes ∙ ap (λ (x : Maps). x.processes) (sym known.maps)
+
+  fault_there : (x : Option ℕ) → x ≡ run_fault s m pid run.first run.count n segs part c → run_fault p.shelf p.maps pid (sel / 8) (run_count (sel / 8) h) n segs part c ≡ x
+  fault_there x found = fault_by p s m pid sel run.first run.count n segs part h c x known.shelf known.maps (ap (λ (r : Run). r.first) is) (ap (λ (r : Run). r.count) is) found
+
+  pub fault_known : (error : ℕ) → Some error ≡ run_fault s m pid run.first run.count n segs part c → huge_reallocation (known_in p o) pid segs part sel c ≡ refusal error
+  fault_known error found = huge_fault p o pid segs part sel c n h asked_there runs_there full_there count_there error (fault_there (Some error) found)
+
+  pub full_known : (more : ℕ) → more ≡ segments_of segs part - n → None ≡ run_fault s m pid run.first run.count n segs part c
+      → (nat_lt (length s.entries) (length (live_numbers 0 s.entries) + more) ≡ true)
+      ⊎ ((i : ℕ) × ((run.first + n ≤ i) × (i < run.first + n + more) × ((is_reserved m (region_of pid i) i ≡ false) ⊎ (is_held m (region_of pid i) i ≡ true))))
+      → huge_reallocation (known_in p o) pid segs part sel c ≡ refusal 8
+  full_known more more_is found =
+      by_full p o pid segs part sel c n h asked_there runs_there full_there count_there run.first run.count more s m known.shelf known.maps (ap (λ (r : Run). r.first) is) (ap (λ (r : Run). r.count) is) more_is (fault_there None found)
+
+  pub good_known : (more : ℕ) → more ≡ segments_of segs part - n → None ≡ run_fault s m pid run.first run.count n segs part c → nat_lt (length s.entries) (length (live_numbers 0 s.entries) + more) ≡ false
+      → huge_reallocation (known_in p o) pid segs part sel c ≡ grants 0 (sized_last s m pid run.first n segs part ++ changed_in s m pid run.first run.count n segs part)
+  good_known more more_is found =
+      by_good p o pid segs part sel c n h asked_there runs_there full_there count_there run.first run.count more s m known.shelf known.maps (ap (λ (r : Run). r.first) is) (ap (λ (r : Run). r.count) is) more_is (fault_there None found)

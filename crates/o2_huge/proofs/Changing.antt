@@ -70,6 +70,12 @@ lost_matches p w m pid is may a = elim (lost_takes m pid is) [
 
 -- Members that come or go.
 
+abbrev changed_by : Bool → Shelf → Maps → (pid first count members segs part : ℕ) → List Change
+changed_by more s m pid first count there segs part =
+    cond more
+    (new_members s.made first count (flags_there s (held_there m pid first)) ((pid, holds_of (held_there m pid first)) ∷ shares_in m pid first) (indexes (first + there) (segments_of segs part - there)) (sizes_of (segs - there) part))
+    (lost_in m pid (indexes (first + segments_of segs part) (there - segments_of segs part)))
+
 pub grown_matches : (s t : Shelf) (m n : Maps) (pid first count there segs part flags holds : ℕ) (h : HeldThere) → there < segments_of segs part → held_there m pid first ≡ Some h → flags ≡ (entry s h.id.key).attr.flags → holds ≡ h.holds
     → (has_bit flags 2 ≡ false → MatchesWith s t m n pid (new_members s.made first count flags ((pid, holds) ∷ shares_in m pid first) (indexes (first + there) (segments_of (segs - there) part)) (sizes_of (segs - there) part)))
     → MatchesChanged s t m n pid first count there segs part
@@ -82,7 +88,7 @@ grown_matches s t m n pid first count there segs part flags holds h more held fl
       ap (λ (y : ℕ). new_members s.made first count y ((pid, holds) ∷ shares_in m pid first) (indexes (first + there) (segments_of (segs - there) part)) (sizes_of (segs - there) part)) f
       ∙ ap (λ (y : ℕ). new_members s.made first count (flags_there s (held_there m pid first)) ((pid, y) ∷ shares_in m pid first) (indexes (first + there) (segments_of (segs - there) part)) (sizes_of (segs - there) part)) g
       ∙ ap (λ (y : ℕ). new_members s.made first count (flags_there s (held_there m pid first)) ((pid, holds_of (held_there m pid first)) ∷ shares_in m pid first) (indexes (first + there) y) (sizes_of (segs - there) part)) (more_wanted there segs part more)
-      ∙ sym (ap (λ (b : Bool). cond b (new_members s.made first count (flags_there s (held_there m pid first)) ((pid, holds_of (held_there m pid first)) ∷ shares_in m pid first) (indexes (first + there) (segments_of segs part - there)) (sizes_of (segs - there) part)) (lost_in m pid (indexes (first + segments_of segs part) (there - segments_of segs part)))) test) in
+      ∙ sym (ap (λ (b : Bool). changed_by b s m pid first count there segs part) test) in
       subst (λ (cs : List Change). Matches (record p { shelf = t; maps = n }) (with_all w cs)) is
       (subst (Matches (record p { shelf = t; maps = n })) (sym (members_all w s.made first count flags ((pid, holds) ∷ shares_in m pid first) (indexes (first + there) (segments_of (segs - there) part)) (sizes_of (segs - there) part)))
       ((a (ap (λ (y : ℕ). has_bit y 2) f ∙ fixed)).world p w x es em at q)));
@@ -97,7 +103,7 @@ cut_matches s t m n pid first count there segs part few a = record {
   world = λ p w x es em at fixed may q.
       (let test : nat_lt there (segments_of segs part) ≡ false = fails there (segments_of segs part) few in
       let is : lost_in m pid (indexes (first + segments_of segs part) (there - segments_of segs part)) ≡ changed_in s m pid first count there segs part =
-      sym (ap (λ (b : Bool). cond b (new_members s.made first count (flags_there s (held_there m pid first)) ((pid, holds_of (held_there m pid first)) ∷ shares_in m pid first) (indexes (first + there) (segments_of segs part - there)) (sizes_of (segs - there) part)) (lost_in m pid (indexes (first + segments_of segs part) (there - segments_of segs part)))) test) in
+      sym (ap (λ (b : Bool). changed_by b s m pid first count there segs part) test) in
       subst (λ (cs : List Change). Matches (record p { shelf = t; maps = n }) (with_all w cs)) is
       (lost_matches (record p { shelf = t; maps = n }) w m pid (indexes (first + segments_of segs part) (there - segments_of segs part)) may (a.world p w x es em at may q)));
 }
@@ -119,7 +125,7 @@ cut_holds s m n pid first count there segs part few members none = go (there - s
     go : (k : ℕ) → there - segments_of segs part ≡ k → KeepsHolds m n ⊎ (list_any takes (changed_in s m pid first count there segs part) ≡ true)
     go zero e = inl (none e)
     go (suc k) e = inr
-        (ap (λ (b : Bool). list_any takes (cond b (new_members s.made first count (flags_there s (held_there m pid first)) ((pid, holds_of (held_there m pid first)) ∷ shares_in m pid first) (indexes (first + there) (segments_of segs part - there)) (sizes_of (segs - there) part)) (lost_in m pid (indexes (first + segments_of segs part) (there - segments_of segs part))))) (fails there (segments_of segs part) few)
+        (ap (λ (b : Bool). list_any takes (changed_by b s m pid first count there segs part)) (fails there (segments_of segs part) few)
         ∙ ap (λ (c : ℕ). list_any takes (lost_in m pid (indexes (first + segments_of segs part) c))) e
         ∙ lost (first + segments_of segs part) k (members (first + segments_of segs part) (omega arith) (omega (arith, e))))
 

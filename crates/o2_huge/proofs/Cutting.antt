@@ -4,12 +4,8 @@ use Rattle.std.specs.List.{list_any}
 use Rattle.std.proofs.lemmas.Bool.{and_parts, cases_eq, cond-true, cond-false, eq-eqb, eqb-true, false≢true, ne_eqb}
 use Rattle.o2_regions.specs.declared.held.Held.{Held as HeldThere}
 use Rattle.o2_regions.specs.Maps.{Maps, held_at as held_there, region_of}
-use Rattle.o2_image.specs.ImageList.{ImageList}
 use Rattle.o2_place.specs.declared.seg_id.SegId.{SegId}
-use Rattle.o2_store.specs.Idle.{NoneTaken}
-use Rattle.o2_store.specs.Pictures.{HasPicture}
-use Rattle.o2_store.specs.Shelf.{AreClean, HasAll, IsShelf, Pictures, Shelf}
-use Rattle.o2_swapmap.specs.Piles.{all_of}
+use Rattle.o2_store.specs.Shelf.{IsShelf, Shelf}
 use Rattle.std.proofs.lemmas.List.{length-set}
 use Rattle.o2_segbus.specs.Seen.{key_of}
 use Rattle.o2_world.specs.Changes.{Change, Drops, fewer, is_used, holds_run, own_run_held, run_held, runs_from, swept, used, with_change, with_changes}
@@ -26,9 +22,11 @@ use Rattle.o2_world.proofs.TiedWorld.{with_more}
 use Rattle.o2_stands.specs.Parts.{Parts, held_in, held_of}
 use Rattle.o2_stands.specs.Stands.{IsNamed, Matches, MatchesIn, number_of, taken_by}
 use Rattle.o2_stands.proofs.Worlds.{number_is, to_place}
+use Rattle.o2_changes.specs.Frames.{KeepsOrder}
 use Rattle.o2_changes.specs.Holding.{Goes, KeepsPlaces, Remains, Sweeps, TakesSome, less_by}
-use Rattle.o2_changes.specs.Order.{IsGuarded}
+use Rattle.o2_changes.specs.Order.{IsInOrder}
 use Rattle.o2_changes.specs.Worlds.{MatchesLoss}
+use Rattle.o2_changes.proofs.Framing.{order_refl, order_trans}
 use Rattle.o2_changes.proofs.Keys.{removed_none}
 use Rattle.o2_changes.proofs.Taking.{held_yet}
 use Rattle.o2_entries.specs.Tables.{slot_at}
@@ -378,44 +376,35 @@ alive_before s t m id (Goes none r) k some = elim (cases_eq k id.key) [
 ]
 alive_before s t m id (Remains q j held same) k some = ap (λ (x : Shelf). is_some (slot_at x.entries k)) (sym same) ∙ some
 
-pub shrunk : (s t : Shelf) (m n : Maps) (pid i count : ℕ) (id : SegId) → IsShelf s → IsShelf t → TakesSome m n pid i count → n.reserved ≡ m.reserved → Sweeps s t n id → KeepsPlaces s t → all_of t.swap ≡ all_of s.swap → (NoneTaken s.swap → NoneTaken t.swap)
-    → ((k : ℕ) → AreHeldAtMost m k → AreHeldAtMost n k) → KeepsShares s m t n s.made
-    → (IsGuarded s m → IsGuarded t n) → ((pic : Pictures) → AreClean s pic → AreClean t pic) → ((images : ImageList) → HasAll (HasPicture images) s → HasAll (HasPicture images) t) → Shrinks s t m n
-shrunk s t m n pid i count id is now takes reserved sweeps places map unused few shares guards clean pictures =
+pub shrunk : (s t : Shelf) (m n : Maps) (pid i count : ℕ) (id : SegId) → IsShelf s → IsShelf t → TakesSome m n pid i count → n.reserved ≡ m.reserved → Sweeps s t n id → KeepsPlaces s t
+    → ((k : ℕ) → AreHeldAtMost m k → AreHeldAtMost n k) → KeepsShares s m t n s.made → KeepsOrder s m t n → Shrinks s t m n
+shrunk s t m n pid i count id is now takes reserved sweeps places few shares order =
     let z = swept_size s t n id is now sweeps in
     record {
       size = z.0;
       most = z.1;
       made = z.2;
-      map = map;
-      unused = unused;
       processes = takes.processes;
       reserved = reserved;
       alive = alive_before s t n id sweeps;
       places = places;
       few = few;
       shares = shares;
-      guards = guards;
-      clean = clean;
-      pictures = pictures;
+      goes_on = order;
     }
 
-pub shrinks_none : (s : Shelf) (m : Maps) → Shrinks s s m m
-shrinks_none s m = record {
+pub shrinks_none : (s : Shelf) (m : Maps) → IsInOrder s m → Shrinks s s m m
+shrinks_none s m order = record {
   size = refl;
   most = refl;
   made = refl;
-  map = refl;
-  unused = λ none. none;
   processes = refl;
   reserved = refl;
   alive = λ k some. some;
   places = λ k some. refl;
   few = λ k was. was;
   shares = shares_refl s m s.made;
-  guards = λ g. g;
-  clean = λ pic c. c;
-  pictures = λ images h. h;
+  goes_on = order_refl s m order;
 }
 
 pub shrinks_then : (s t u : Shelf) (l m n : Maps) → Shrinks s t l m → Shrinks t u m n → Shrinks s u l n
@@ -423,15 +412,11 @@ shrinks_then s t u l m n a b = record {
   size = b.size ∙ a.size;
   most = b.most ∙ a.most;
   made = b.made ∙ a.made;
-  map = b.map ∙ a.map;
-  unused = λ none. b.unused (a.unused none);
   processes = b.processes ∙ a.processes;
   reserved = b.reserved ∙ a.reserved;
   alive = λ k some. a.alive k (b.alive k some);
   places = λ k some. b.places k some ∙ a.places k (b.alive k some);
   few = λ k was. b.few k (a.few k was);
   shares = shares_then s t u l m n s.made t.made s.made (omega arith) (let e = a.made in omega (arith, e)) a.shares b.shares;
-  guards = λ g. b.guards (a.guards g);
-  clean = λ pic c. b.clean pic (a.clean pic c);
-  pictures = λ images h. b.pictures images (a.pictures images h);
+  goes_on = order_trans s t u l m n a.goes_on b.goes_on;
 }

@@ -1,20 +1,19 @@
 -- New members of a run, one behind another.
-use Rattle.std.proofs.Common.{◌≡◌, ◌≢◌, ℕ, zero, suc, ◌+◌, ◌<◌, ◌&&◌, ◌||◌, List, [], ◌∷◌, ◌++◌, length, replicate, set, Option, Some, None, IsSome, Bool, false, eqb, option_map, refl, sym, ap, ◌∙◌, subst, arith, append_assoc}
+use Rattle.std.proofs.Common.{◌≡◌, ◌≢◌, ℕ, zero, suc, ◌+◌, ◌<◌, ◌≤◌, ◌&&◌, ◌||◌, List, [], ◌∷◌, ◌++◌, length, replicate, set, Option, Some, None, IsSome, Bool, false, eqb, option_map, refl, sym, ap, ◌∙◌, subst, arith, append_assoc}
 use Rattle.std.proofs.lemmas.Bool.{cond-false}
 use Rattle.std.proofs.lemmas.List.{length-set}
 use Rattle.o2_desc.specs.Bits.{has_bit, writable_data}
 use Rattle.o2_entries.specs.declared.Entry.{Entry}
 use Rattle.o2_entries.specs.Tables.{live_numbers, slot_at}
-use Rattle.o2_image.specs.ImageList.{ImageList}
 use Rattle.o2_place.specs.declared.seg_id.SegId.{SegId}
 use Rattle.o2_regions.specs.declared.held.Held.{Held}
 use Rattle.o2_regions.specs.Maps.{Maps, held_at, more_of}
-use Rattle.o2_store.specs.Idle.{NoneTaken}
-use Rattle.o2_store.specs.Pictures.{HasPicture}
-use Rattle.o2_store.specs.Shelf.{Shelf, Adds, AreClean, HasAll, Pictures, entry_of}
+use Rattle.o2_store.specs.Shelf.{Shelf, Adds, entry_of}
+use Rattle.o2_changes.specs.Frames.{KeepsOrder}
 use Rattle.o2_changes.specs.Holding.{Grants}
-use Rattle.o2_changes.specs.Order.{IsGuarded}
+use Rattle.o2_changes.specs.Order.{IsInOrder}
 use Rattle.o2_changes.specs.Worlds.{MatchesHold, MatchesMake, new_segment}
+use Rattle.o2_changes.proofs.Framing.{order_refl, order_trans}
 use Rattle.o2_changes.proofs.KeepingHolds.{holds_refl, holds_trans, new_holds}
 use Rattle.o2_changes.proofs.MakesStand.{new_plain}
 use Rattle.o2_changes.proofs.Settling.{Here, Other, pair_is}
@@ -29,8 +28,8 @@ use Rattle.o2_world.proofs.TiedWorld.{with_more}
 use Rattle.o2_segs.specs.Limits.{KeepsEntries}
 use Rattle.o2_segs.proofs.Limits.{entries_added, entries_refl}
 use Rattle.o2_segs.proofs.Sharing.{added_lived}
-use Rattle.o2_segs.proofs.Making.{added_map, added_place, made_plain_by, new_name}
-use Rattle.o2_huge.specs.Members.{Grows, MatchesWith, member_of}
+use Rattle.o2_segs.proofs.Making.{added_place, made_plain_by, new_name}
+use Rattle.o2_huge.specs.Members.{Grows, KeepsFew, MatchesWith, MayMake, member_of}
 
 -- The list of changes.
 
@@ -136,21 +135,18 @@ listed_more first (Some f ∷ es) zero e l h = absurd (cc)
 listed_more first (None ∷ es) (suc n) e l h = listed_more (first + 1) es n e (omega (arith, l)) h
 listed_more first (Some f ∷ es) (suc n) e l h = ap suc (listed_more (first + 1) es n e (omega (arith, l)) h) ∙ suc_more (length (live_numbers (first + 1) es))
 
-pub grows_none : (s : Shelf) (m : Maps) → Grows s s m m 0
-grows_none s m = record {
+pub grows_none : (s : Shelf) (m : Maps) (times : ℕ) → IsInOrder s m → Grows s s m m 0 times
+grows_none s m times order = record {
   size = refl;
   most = refl;
   made = omega arith;
   live = omega arith;
-  map = refl;
-  unused = λ none. none;
   lived = λ id old alive. alive;
   holds = holds_refl m;
+  few = λ k most few. few;
   entries = entries_refl s;
   kept = λ k here. here;
-  guards = λ g. g;
-  clean = λ pic c. c;
-  pictures = λ images h. h;
+  goes_on = order_refl s m order;
 }
 
 pub entries_then : (s t u : Shelf) → KeepsEntries s t → KeepsEntries t u → KeepsEntries s u
@@ -161,39 +157,66 @@ entries_then s t u a b = record {
       (y.0, y.1 ∙ x.1, y.2 ∙ x.2));
 }
 
-pub grows_then : (s t u : Shelf) (l m n : Maps) (a b : ℕ) → Grows s t l m a → Grows t u m n b → Grows s u l n (a + b)
-grows_then s t u l m n a b x y = record {
+pub grows_then : (s t u : Shelf) (l m n : Maps) (a b times : ℕ) → Grows s t l m a times → Grows t u m n b times → Grows s u l n (a + b) times
+grows_then s t u l m n a b times x y = record {
   size = y.size ∙ x.size;
   most = y.most ∙ x.most;
   made = (let p = x.made in let q = y.made in omega (arith, p, q));
   live = (let p = x.live in let q = y.live in omega (arith, p, q));
-  map = y.map ∙ x.map;
-  unused = λ none. y.unused (x.unused none);
   lived = λ id old alive. (let p = x.made in x.lived id old (y.lived id (omega (arith, p, old)) alive));
   holds = holds_trans l m n x.holds y.holds;
+  few = λ k most few. y.few k most (x.few k most few);
   entries = entries_then s t u x.entries y.entries;
   kept = λ k here. y.kept k (x.kept k here);
-  guards = λ g. y.guards (x.guards g);
-  clean = λ pic c. y.clean pic (x.clean pic c);
-  pictures = λ images h. y.pictures images (x.pictures images h);
+  goes_on = order_trans s t u l m n x.goes_on y.goes_on;
 }
 
-pub member_grows : (s t : Shelf) (m n : Maps) (id : SegId) (e : Entry) (pid i access : ℕ) (h : Held) → Adds s t id e → e.age ≡ s.made → Grants m n pid i h access → held_at m pid i ≡ None → (IsGuarded s m → IsGuarded t n)
-    → ((pic : Pictures) → AreClean s pic → AreClean t pic) → ((images : ImageList) → HasAll (HasPicture images) s → HasAll (HasPicture images) t) → Grows s t m n 1
-member_grows s t m n id e pid i access h adds young grants none guards clean pictures = record {
+-- what is held no oftener than nothing is held no oftener than so often
+pub grows_few : (s t : Shelf) (m n : Maps) (count times : ℕ) → Grows s t m n count 0 → Grows s t m n count times
+grows_few s t m n count times x = record {
+  size = x.size;
+  most = x.most;
+  made = x.made;
+  live = x.live;
+  lived = x.lived;
+  holds = x.holds;
+  few = λ k most few. x.few k (omega arith) few;
+  entries = x.entries;
+  kept = x.kept;
+  goes_on = x.goes_on;
+}
+
+-- where so many may be made, fewer may be
+pub make_fewer : (s : Shelf) (m : Maps) (pid count k : ℕ) → MayMake s m pid count → k ≤ count → MayMake s m pid k
+make_fewer s m pid count k may few = record {
+  process = may.process;
+  order = may.order;
+  made = (let a = may.made in omega (arith, a, few));
+  room = (let a = may.room in omega (arith, a, few));
+}
+
+-- where so many may be made, and some were, the next one may be
+pub make_next : (s t : Shelf) (m n : Maps) (pid count k times : ℕ) → MayMake s m pid count → Grows s t m n k times → k < count → MayMake t n pid 1
+make_next s t m n pid count k times may grows less = record {
+  process = (may.process.0, (let a = may.process.1 in let e = grows.holds.processes in omega (arith, a, e)));
+  order = grows.goes_on.order;
+  made = (let a = may.made in let e = grows.made in omega (arith, a, e, less));
+  room = (let a = may.room in let e = grows.live in let d = grows.most in omega (arith, a, e, d, less));
+}
+
+pub member_grows : (s t : Shelf) (m n : Maps) (id : SegId) (e : Entry) (pid i access times : ℕ) (h : Held) → Adds s t id e → e.age ≡ s.made → Grants m n pid i h access → held_at m pid i ≡ None
+    → KeepsFew m n times → KeepsOrder s m t n → Grows s t m n 1 times
+member_grows s t m n id e pid i access times h adds young grants none few order = record {
   size = ap (λ (x : Shelf). x.places.size) adds.shelf;
   most = ap (λ (x : Shelf). length x.entries) adds.shelf ∙ length-set s.entries id.key (Some e);
   made = ap (λ (x : Shelf). x.made) adds.shelf;
   live = ap (λ (x : Shelf). length (live_numbers 0 x.entries)) adds.shelf ∙ listed_more 0 s.entries id.key e adds.within adds.vacant;
-  map = added_map s t id e adds;
-  unused = λ none. subst NoneTaken (sym (ap (λ (x : Shelf). x.swap) adds.shelf)) none;
   lived = added_lived s t id e adds young;
   holds = new_holds m n pid i access h grants none;
+  few = few;
   entries = entries_added s t id e adds;
   kept = λ k here. added_place s t id e k adds here;
-  guards = guards;
-  clean = clean;
-  pictures = pictures;
+  goes_on = order;
 }
 
 -- what is held elsewhere stays

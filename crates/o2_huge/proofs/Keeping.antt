@@ -8,8 +8,6 @@ use Rattle.o2_regions.specs.declared.held.Held.{Held}
 use Rattle.o2_regions.specs.Maps.{Maps, held_at, holds_of, is_of, more_of}
 use Rattle.o2_store.specs.Shelf.{Shelf, Removes, entry_of}
 use Rattle.o2_changes.proofs.Keys.{removed_none}
-use Rattle.o2_changes.specs.Frames.{KeepsOrder}
-use Rattle.o2_changes.specs.Order.{IsInOrder}
 use Rattle.o2_changes.specs.Holding.{Goes, Grants, KeepsHolds, Remains, Sweeps}
 use Rattle.o2_changes.proofs.Settling.{Here, Other, pair_is}
 use Rattle.o2_segs.specs.Limits.{KeepsLimits, KeepsLimitsBy}
@@ -99,8 +97,8 @@ limits_still s m most = (let x = limits_none s m in record { size = refl; count 
 pub limits_kept : (s : Shelf) (m : Maps) (most : ℕ) → KeepsLimits s m s m most
 limits_kept s m most = (let x = limits_refl s m in record { size = refl; count = refl; made = omega arith; grows = omega arith; few = x.few; shares = x.shares })
 
-pub limits_grown : (s t : Shelf) (m n : Maps) (count most : ℕ) → Grows s t m n count → count ≤ most → KeepsFew m n 1 → KeepsShares s m t n s.made → KeepsLimits s m t n most
-limits_grown s t m n count most grows enough few shares = record {
+pub limits_grown : (s t : Shelf) (m n : Maps) (count times most : ℕ) → Grows s t m n count times → count ≤ most → KeepsFew m n 1 → KeepsShares s m t n s.made → KeepsLimits s m t n most
+limits_grown s t m n count times most grows enough few shares = record {
   size = grows.size;
   count = grows.most;
   made = (let a = grows.made in omega (arith, a, enough));
@@ -176,24 +174,3 @@ module _ (s t : Shelf) (m n : Maps) (pid i : ℕ) (h : Held) (here : held_at m p
     lived = λ w old alive. lives w sweeps alive;
     only = λ j w high old alive x. still_only j w alive x;
   }
-
--- what goes on to hold behind a run's growth, and behind its cut
-pub grown_order : (s t : Shelf) (m n : Maps) (count : ℕ) → Grows s t m n count → IsInOrder t n → KeepsOrder s m t n
-grown_order s t m n count grows order = record {
-  order = order;
-  guards = grows.guards;
-  clean = grows.clean;
-  pictures = grows.pictures;
-  map = grows.map;
-  unused = grows.unused;
-}
-
-pub shrunk_order : (s t : Shelf) (m n : Maps) → Shrinks s t m n → IsInOrder t n → KeepsOrder s m t n
-shrunk_order s t m n shrinks order = record {
-  order = order;
-  guards = shrinks.guards;
-  clean = shrinks.clean;
-  pictures = shrinks.pictures;
-  map = shrinks.map;
-  unused = shrinks.unused;
-}

@@ -10,3 +10,4 @@ pub mod Sizing
 pub mod Reallocs
 pub mod Changing
 pub mod Asking
+pub mod Following

@@ -384,7 +384,8 @@ module _ (p : Parts) (o : Others) (kept : AreKept p.maps) (named : AreNamed p.sh
         ∙ ap (λ (cs : List Change). news (left_in_run k pid hold) (drop n zs) ++ cs) (lost_are (drop w (indexes first n)))
         ∙ behind (nat_lt n w) refl
         ∙ ap (λ (c : ℕ). cond (nat_lt n w) (new_members p.shelf.made first c (flags_there p.shelf (held_at p.maps pid first)) ((pid, h.holds) ∷ shares_in p.maps pid first) (indexes (first + n) (w - n)) (sizes_of (segs - n) part)) (lost_in p.maps pid (indexes (first + w) (n - w)))) (sym whole)
-        ∙ ap (λ (x : Option Held). cond (nat_lt n w) (new_members p.shelf.made first (run_count first h) (flags_there p.shelf (held_at p.maps pid first)) ((pid, holds_of x) ∷ shares_in p.maps pid first) (indexes (first + n) (w - n)) (sizes_of (segs - n) part)) (lost_in p.maps pid (indexes (first + w) (n - w)))) (sym here))
+        ∙ ap (λ (x : Option Held). cond (nat_lt n w) (new_members p.shelf.made first (run_count first h) (flags_there p.shelf (held_at p.maps pid first)) ((pid, holds_of x) ∷ shares_in p.maps pid first) (indexes (first + n) (w - n)) (sizes_of (segs - n) part))
+        (lost_in p.maps pid (indexes (first + w) (n - w)))) (sym here))
 
   -- The ruling.
 

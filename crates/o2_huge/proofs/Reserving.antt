@@ -12,6 +12,7 @@ use Rattle.o2_segbus.specs.Seen.{key_of}
 use Rattle.o2_store.specs.Shelf.{Shelf}
 use Rattle.o2_changes.specs.Holding.{KeepsHolds}
 use Rattle.o2_changes.specs.Order.{IsGuarded, IsInOrder}
+use Rattle.o2_changes.proofs.Framing.{order_held}
 use Rattle.o2_changes.proofs.Freeing.{not_held, taken_reserved}
 use Rattle.o2_changes.proofs.HoldsStand.{region_same}
 use Rattle.o2_changes.proofs.Named.{named_maps}
@@ -26,7 +27,8 @@ use Rattle.o2_segs.specs.Made.{region_for}
 use Rattle.o2_segs.proofs.Limits.{entries_refl}
 use Rattle.o2_segs.proofs.Making.{region_run, run_there}
 use Rattle.o2_segs.proofs.Sharing.{free_nobody}
-use Rattle.o2_huge.specs.Members.{AreOpen, Grows, IsOpenAt, MatchesWith}
+use Rattle.o2_huge.specs.Members.{AreOpen, Grows, IsOpenAt, MatchesWith, MayMake}
+use Rattle.o2_huge.proofs.Keeping.{few_same}
 
 -- The indexes of a region that are reserved.
 
@@ -113,21 +115,31 @@ reserve_order s m n g first count is o = subst (IsInOrder s) (sym is) (record { 
 reserve_guards : (s : Shelf) (m n : Maps) (g : Region) (first count : ℕ) → n ≡ with_reserved m g first count true → IsGuarded s m → IsGuarded s n
 reserve_guards s m n g first count is o = subst (IsGuarded s) (sym is) (record { aged = o.aged; guarded = o.guarded })
 
-pub reserve_grows : (s : Shelf) (m n : Maps) (g : Region) (first count : ℕ) → n ≡ with_reserved m g first count true → Grows s s m n 0
-reserve_grows s m n g first count is = record {
+pub reserve_grows : (s : Shelf) (m n : Maps) (g : Region) (first count times : ℕ) → n ≡ with_reserved m g first count true → IsInOrder s m → Grows s s m n 0 times
+reserve_grows s m n g first count times is order = record {
   size = refl;
   most = refl;
   made = omega arith;
   live = omega arith;
-  map = refl;
-  unused = λ none. none;
   lived = λ id old alive. alive;
   holds = subst (KeepsHolds m) (sym is) (record { processes = refl; held = λ q j h e. e; rights = λ q j some. refl });
+  few = λ k most few. few_same m n (reserved_same m n g first count is) k few;
   entries = entries_refl s;
   kept = λ k here. here;
-  guards = reserve_guards s m n g first count is;
-  clean = λ pic c. c;
-  pictures = λ images h. h;
+  goes_on = order_held s m n (reserve_order s m n g first count is order) (reserve_guards s m n g first count is);
+}
+
+-- the region is told as another one
+pub reserved_by : (m n : Maps) (g h : Region) (first count : ℕ) → n ≡ with_reserved m g first count true → g ≡ h → n ≡ with_reserved m h first count true
+reserved_by m n g h first count is same = is ∙ ap (λ (x : Region). with_reserved m x first count true) same
+
+-- as many may be made still
+pub reserve_make : (s : Shelf) (m n : Maps) (g : Region) (pid first count more : ℕ) → n ≡ with_reserved m g first count true → MayMake s m pid more → MayMake s n pid more
+reserve_make s m n g pid first count more is may = record {
+  process = subst (λ (x : Maps). IsProcess x pid) (sym is) may.process;
+  order = reserve_order s m n g first count is may.order;
+  made = may.made;
+  room = may.room;
 }
 
 -- The indexes of a run that was free are open once they are reserved.

@@ -10,8 +10,8 @@ use Rattle.o2_regions.specs.declared.held.Region.{Region}
 use Rattle.o2_regions.specs.Maps.{Maps, base_of, end_of, held_at, is_reserved, region_of}
 use Rattle.o2_regions.proofs.Reserves.{is_shared}
 use Rattle.o2_store.specs.Shelf.{Shelf, entry}
+use Rattle.o2_changes.specs.Frames.{KeepsOrder}
 use Rattle.o2_changes.specs.Holding.{Grants}
-use Rattle.o2_changes.specs.Order.{IsGuarded}
 use Rattle.o2_changes.specs.Worlds.{MatchesHold}
 use Rattle.o2_changes.proofs.KeepingHolds.{new_holds}
 use Rattle.o2_stands.specs.Parts.{held_in, held_of}
@@ -25,7 +25,7 @@ use Rattle.o2_world.specs.Sound.{held_of as held_under}
 use Rattle.o2_world.specs.World.{Held as WorldHeld, Process}
 use Rattle.o2_segs.proofs.Limits.{entries_refl}
 use Rattle.o2_huge.specs.Growth.{IsVacant, is_of_run, share_by, share_there, shares_in}
-use Rattle.o2_huge.specs.Members.{Grows, MatchesWith, member_of}
+use Rattle.o2_huge.specs.Members.{Grows, KeepsFew, MatchesWith, member_of}
 use Rattle.o2_huge.proofs.Growing.{indexes_more, matches_then}
 
 -- Lists of shares.
@@ -106,21 +106,18 @@ share_matches s m n id pid q i first count h there plain hold = record {
 }
 
 -- a hold where there was none
-pub share_grows : (s : Shelf) (m n : Maps) (q i access : ℕ) (h : Held) → Grants m n q i h access → held_at m q i ≡ None → (IsGuarded s m → IsGuarded s n) → Grows s s m n 0
-share_grows s m n q i access h grants none guards = record {
+pub share_grows : (s : Shelf) (m n : Maps) (q i access : ℕ) (h : Held) → Grants m n q i h access → held_at m q i ≡ None → KeepsFew m n 0 → KeepsOrder s m s n → Grows s s m n 0 0
+share_grows s m n q i access h grants none few order = record {
   size = refl;
   most = refl;
   made = omega arith;
   live = omega arith;
-  map = refl;
-  unused = λ none. none;
   lived = λ id old alive. alive;
   holds = new_holds m n q i access h grants none;
+  few = few;
   entries = entries_refl s;
   kept = λ k here. here;
-  guards = guards;
-  clean = λ pic c. c;
-  pictures = λ images h. h;
+  goes_on = order;
 }
 
 -- the caller's new member, and those of the others

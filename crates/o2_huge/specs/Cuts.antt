@@ -1,13 +1,9 @@
 -- What is left behind members of a run that go.
-use Rattle.std.specs.Prelude.{◌≡◌, ℕ, true, List, length, Some, IsSome, is_some}
+use Rattle.std.specs.Prelude.{◌≡◌, ℕ, ◌<◌, true, List, length, Some, IsSome, is_some}
 use Rattle.std.specs.List.{list_any}
 use Rattle.o2_entries.specs.Tables.{slot_at}
-use Rattle.o2_image.specs.ImageList.{ImageList}
-use Rattle.o2_regions.specs.Maps.{Maps, region_of}
-use Rattle.o2_store.specs.Idle.{NoneTaken}
-use Rattle.o2_store.specs.Pictures.{HasPicture}
-use Rattle.o2_store.specs.Shelf.{Shelf, AreClean, HasAll, Pictures}
-use Rattle.o2_swapmap.specs.Piles.{all_of}
+use Rattle.o2_regions.specs.Maps.{IsProcess, Maps, region_of}
+use Rattle.o2_store.specs.Shelf.{Shelf}
 use Rattle.o2_world.specs.Changes.{Change, swept, with_changes}
 use Rattle.o2_world.specs.Holders.{is_held, process_at}
 use Rattle.o2_world.specs.Known.{held_at as held_by, reserves}
@@ -15,29 +11,34 @@ use Rattle.o2_world.specs.Map.{get}
 use Rattle.o2_world.specs.Rulings.{is_in_run}
 use Rattle.o2_world.specs.Tied.{AreUsed}
 use Rattle.o2_world.specs.World.{Held as WorldHeld, Process, World}
+use Rattle.o2_changes.specs.Frames.{KeepsOrder}
 use Rattle.o2_changes.specs.Holding.{KeepsPlaces}
-use Rattle.o2_changes.specs.Order.{IsGuarded}
+use Rattle.o2_changes.specs.Order.{IsInOrder}
 use Rattle.o2_segs.specs.Sharing.{AreHeldAtMost, KeepsShares}
 use Rattle.o2_stands.specs.Parts.{Parts}
 use Rattle.o2_stands.specs.Stands.{Matches, number_of}
-use Rattle.o2_huge.specs.Growth.{lost_in}
+use Rattle.o2_huge.specs.Growth.{IsMemberAt, lost_in}
 
--- Segments may go, and all that stays is where it was; what is held less has less holds alone.
+-- Segments may go, and all that stays is where it was; what is held less has less holds alone, and what held of store and tables goes on
+-- to hold.
 pub record Shrinks (s t : Shelf) (m n : Maps) : Type 0 where
   pub size : t.places.size ≡ s.places.size
   pub most : length t.entries ≡ length s.entries
   pub made : t.made ≡ s.made
-  pub map : all_of t.swap ≡ all_of s.swap
-  pub unused : NoneTaken s.swap → NoneTaken t.swap
   pub processes : n.processes ≡ m.processes
   pub reserved : n.reserved ≡ m.reserved
   pub alive : (k : ℕ) → IsSome (slot_at t.entries k) → IsSome (slot_at s.entries k)
   pub places : KeepsPlaces s t
   pub few : (k : ℕ) → AreHeldAtMost m k → AreHeldAtMost n k
   pub shares : KeepsShares s m t n s.made
-  pub guards : IsGuarded s m → IsGuarded t n
-  pub clean : (pic : Pictures) → AreClean s pic → AreClean t pic
-  pub pictures : (images : ImageList) → HasAll (HasPicture images) s → HasAll (HasPicture images) t
+  pub goes_on : KeepsOrder s m t n
+
+-- A process may lose members of a run behind its first one, from an index on, over a store and tables that agree.
+pub record MayCut (s : Shelf) (m : Maps) (pid first from : ℕ) : Type 0 where
+  pub process : IsProcess m pid
+  pub behind : first < from
+  pub head : IsMemberAt m pid first first
+  pub order : IsInOrder s m
 
 -- A world may lose members of a run that is held still: each of its names is held, what is reserved is used, and the indexes of
 -- members are reserved.

@@ -1,5 +1,5 @@
 // DosAllocHuge.
-ghost use Rattle.std.specs.Prelude.{◌≡◌, ℕ, ◌+◌, ◌-◌, ◌<◌, ◌≤◌, ◌^◌, ◌∷◌, ◌++◌, [], false, length, nat_lt, IfSome, IsSome, Some, if◌then◌else◌};
+ghost use Rattle.std.specs.Prelude.{◌≡◌, ℕ, ◌+◌, ◌-◌, ◌<◌, ◌≤◌, ◌^◌, ◌∷◌, ◌++◌, [], false, length, nat_lt, IfSome, IsSome, Some};
 ghost use Rattle.o2_base.specs.Selectors.{selector_of};
 ghost use Rattle.o2_desc.specs.Bits.{has_bit};
 ghost use Rattle.o2_desc.specs.Choice.{IsRun, chosen};
@@ -21,7 +21,7 @@ ghost use Rattle.o2_segs.specs.Answers.{Answers};
 ghost use Rattle.o2_segs.specs.Limits.{KeepsEntries, KeepsLimitsBy};
 ghost use Rattle.o2_segs.specs.Made.{region_for};
 ghost use Rattle.o2_segs.specs.Sharing.{KeepsShares};
-ghost use Rattle.o2_huge.specs.Members.{Grows, KeepsFew, MatchesWith};
+ghost use Rattle.o2_huge.specs.Members.{Grows, MatchesWith, MayMake};
 
 use crate::members::{Run, add_full, add_member};
 use o2_base::Selector;
@@ -159,22 +159,17 @@ fn make_run(
     part: u16,
     flags: u16,
 )
-    requires process { IsProcess regions.old pid }
+    requires may_make { MayMake store.old regions.old pid (segments_of segs part) }
     requires free { IsRun (is_taken regions.old (region_for pid flags)) (first_of (region_for pid flags)) (end_of (region_for pid flags)) run.count run.first }
     requires few { segments_of segs part ≤ run.count }
-    requires made { store.old.made + 4096 < 2 ^ 64 }
-    requires room { length (live_numbers 0 store.old.entries) + segments_of segs part ≤ length store.old.entries }
     requires flags { flags ≤ 15 }
     requires unlocked { has_bit flags 2 ≡ false }
-    requires order { IsInOrder store.old regions.old }
 
     ensures matches { MatchesWith store.old store.new regions.old regions.new pid
         (new_members store.old.made run.first run.count flags ((pid, 1) ∷ []) (indexes run.first (segments_of segs part)) (sizes_of segs part)
         ++ Reserves (run_reserve (number_of (region_for pid flags)) run.first run.count) ∷ []) }
-    ensures grows { Grows store.old store.new regions.old regions.new (segments_of segs part) }
-    ensures few { KeepsFew regions.old regions.new 1 }
+    ensures grows { Grows store.old store.new regions.old regions.new (segments_of segs part) 1 }
     ensures shares { KeepsShares store.old regions.old store.new regions.new store.old.made }
-    ensures order { IsInOrder store.new regions.new }
 {
     regions.law();
     regions.reserve(region_for(pid, flags), run.first, run.count);

@@ -1,12 +1,11 @@
 // Members of a run that a process loses.
 ghost use Rattle.std.specs.Prelude.{◌≡◌, ◌≢◌, ℕ, ◌+◌, ◌<◌, ◌≤◌, ◌∷◌, [], ◌/◌, ◌&&◌, nat_le, nat_lt, not, None, if◌then◌else◌};
 ghost use Rattle.o2_isa.specs.View.{is_local, is_null};
-ghost use Rattle.o2_regions.specs.Maps.{IsProcess, held_at};
+ghost use Rattle.o2_regions.specs.Maps.{held_at};
 ghost use Rattle.o2_changes.specs.Holding.{KeepsHolds};
-ghost use Rattle.o2_changes.specs.Order.{IsInOrder};
 ghost use Rattle.o2_world.specs.HugeRulings.{names_one, without};
 ghost use Rattle.o2_world.specs.Rulings.{indexes};
-ghost use Rattle.o2_huge.specs.Cuts.{MatchesCut, Shrinks};
+ghost use Rattle.o2_huge.specs.Cuts.{MatchesCut, MayCut, Shrinks};
 ghost use Rattle.o2_huge.specs.Growth.{AreMembers, IsMemberAt};
 
 use o2_base::Selector;
@@ -17,17 +16,13 @@ use o2_store::Store;
 
 // All holds of a member go, and its segment with them where nobody else holds it.
 fn cut_one(store: &mut Store, regions: &mut Regions, pid: u16, first: u16, index: u16)
-    requires process { IsProcess regions.old pid }
+    requires may_cut { MayCut store.old regions.old pid first index }
     requires index { index < 8192 }
-    requires behind { first < index }
-    requires head { IsMemberAt regions.old pid first first }
     requires member { IsMemberAt regions.old pid first index }
-    requires order { IsInOrder store.old regions.old }
 
     ensures shrinks { Shrinks store.old store.new regions.old regions.new }
     ensures others { (q i : ℕ) → (q ≡ pid → i ≢ index) → held_at regions.new q i ≡ held_at regions.old q i }
     ensures gone { held_at regions.new pid index ≡ None }
-    ensures order { IsInOrder store.new regions.new }
     ensures matches { MatchesCut store.old store.new regions.old regions.new pid (index ∷ []) }
 {
     regions.law();
@@ -51,15 +46,11 @@ pub(crate) fn cut(
     from: u16,
     count: u16,
 )
-    requires process { IsProcess regions.old pid }
+    requires may_cut { MayCut store.old regions.old pid first from }
     requires inside { from + count ≤ 8192 }
-    requires behind { first < from }
-    requires head { IsMemberAt regions.old pid first first }
     requires members { AreMembers regions.old pid first from (from + count) }
-    requires order { IsInOrder store.old regions.old }
 
     ensures shrinks { Shrinks store.old store.new regions.old regions.new }
-    ensures order { IsInOrder store.new regions.new }
     ensures none { count ≡ 0 → KeepsHolds regions.old regions.new }
     ensures matches { MatchesCut store.old store.new regions.old regions.new pid (indexes from count) }
 {

@@ -1,14 +1,11 @@
 // New members of a run of indexes.
-ghost use Rattle.std.specs.Prelude.{◌≡◌, ◌≢◌, ℕ, ◌+◌, ◌-◌, ◌<◌, ◌≤◌, ◌^◌, ◌∷◌, [], ◌||◌, false, length, replicate, IfSome, IsSome, None};
+ghost use Rattle.std.specs.Prelude.{◌≡◌, ◌≢◌, ℕ, ◌+◌, ◌<◌, ◌≤◌, ◌∷◌, [], ◌||◌, false, replicate, IfSome, IsSome, None};
 ghost use Rattle.o2_desc.specs.Bits.{has_bit};
-ghost use Rattle.o2_entries.specs.Tables.{live_numbers};
-ghost use Rattle.o2_regions.specs.Maps.{IsProcess, held_at};
-ghost use Rattle.o2_store.specs.Shelf.{entry, entry_of};
-ghost use Rattle.o2_changes.specs.Order.{IsInOrder};
+ghost use Rattle.o2_regions.specs.Maps.{held_at};
 ghost use Rattle.o2_world.specs.HugeRulings.{new_members};
 ghost use Rattle.o2_world.specs.Rulings.{full_size, indexes};
 ghost use Rattle.o2_segs.specs.Sharing.{KeepsShares};
-ghost use Rattle.o2_huge.specs.Members.{AreOpen, Brings, Grows, IsOpenAt, KeepsFew, MatchesWith};
+ghost use Rattle.o2_huge.specs.Members.{AreOpen, Grows, IsNew, IsOpenAt, MatchesWith, MayMake};
 
 use o2_changes::{hold_more, make};
 use o2_desc::Access;
@@ -52,26 +49,18 @@ pub(crate) fn add_member(
     flags: u8,
     holds: u32,
 ) -> Option<SegId>
-    requires process { IsProcess regions.old pid }
+    requires may_make { MayMake store.old regions.old pid 1 }
     requires index { index < 8192 }
     requires open { IsOpenAt regions.old pid index }
-    requires made { store.old.made < 2 ^ 64 - 1 }
-    requires room { length (live_numbers 0 store.old.entries) < length store.old.entries }
     requires some { 0 < holds }
-    requires order { IsInOrder store.old regions.old }
 
     ensures made { IsSome result }
-    ensures live { IfSome result (λ id. IsSome (entry_of store.new id)) }
-    ensures age { IfSome result (λ id. id.age ≡ store.old.made) }
-    ensures plain { IfSome result (λ id. (entry store.new id.key).attr.clean ≡ false) }
-    ensures grows { Grows store.old store.new regions.old regions.new 1 }
-    ensures brings { IfSome result (λ id. Brings regions.old regions.new index id) }
-    ensures few { KeepsFew regions.old regions.new holds }
+    ensures adds { IfSome result (λ id. IsNew store.old store.new regions.old regions.new index id) }
+    ensures grows { Grows store.old store.new regions.old regions.new 1 holds }
     ensures shares { (4096 ≤ index → (q : ℕ) → held_at regions.old q index ≡ None)
         → KeepsShares store.old regions.old store.new regions.new store.old.made }
     ensures reserved { regions.new.reserved ≡ regions.old.reserved }
     ensures others { (q i : ℕ) → (q ≡ pid → i ≢ index) → held_at regions.new q i ≡ held_at regions.old q i }
-    ensures order { IsInOrder store.new regions.new }
     ensures matches { has_bit flags 2 ≡ false → MatchesWith store.old store.new regions.old regions.new pid
         (new_members store.old.made run.first run.count flags ((pid, holds) ∷ []) (index ∷ []) (size ∷ [])) }
 {
@@ -101,21 +90,16 @@ pub(crate) fn add_full(
     segs: u16,
     flags: u8,
 )
-    requires process { IsProcess regions.old pid }
+    requires may_make { MayMake store.old regions.old pid segs }
     requires inside { run.first + segs ≤ 8192 }
     requires open { AreOpen regions.old pid run.first segs }
-    requires made { store.old.made + segs < 2 ^ 64 }
-    requires room { length (live_numbers 0 store.old.entries) + segs ≤ length store.old.entries }
     requires unlocked { has_bit flags 2 ≡ false }
-    requires order { IsInOrder store.old regions.old }
 
-    ensures grows { Grows store.old store.new regions.old regions.new segs }
-    ensures few { KeepsFew regions.old regions.new 1 }
+    ensures grows { Grows store.old store.new regions.old regions.new segs 1 }
     ensures shares { ((q i : ℕ) → run.first ≤ i → i < run.first + segs → 4096 ≤ i → held_at regions.old q i ≡ None)
         → KeepsShares store.old regions.old store.new regions.new store.old.made }
     ensures reserved { regions.new.reserved ≡ regions.old.reserved }
     ensures others { (q i : ℕ) → run.first + segs ≤ i → held_at regions.new q i ≡ held_at regions.old q i }
-    ensures order { IsInOrder store.new regions.new }
     ensures matches { MatchesWith store.old store.new regions.old regions.new pid
         (new_members store.old.made run.first run.count flags ((pid, 1) ∷ []) (indexes run.first segs) (replicate segs 0)) }
 {

@@ -1,16 +1,15 @@
 // DosReallocHuge.
-ghost use Rattle.std.specs.Prelude.{◌⊎◌, ◌≡◌, ◌≢◌, ◌++◌, ℕ, ◌+◌, ◌-◌, ◌*◌, ◌/◌, ◌<◌, ◌≤◌, ◌^◌, ◌==◌, ◌&&◌, ◌||◌, false, true, length, min, nat_le, nat_lt, IfSome, IsSome, IsTrue, Option, Some, None, if◌then◌else◌};
+ghost use Rattle.std.specs.Prelude.{◌⊎◌, ◌≡◌, ◌++◌, ℕ, ◌+◌, ◌-◌, ◌*◌, ◌/◌, ◌<◌, ◌≤◌, ◌^◌, ◌==◌, ◌&&◌, ◌||◌, false, true, length, min, nat_le, nat_lt, IfSome, IsSome, Option, Some, None, if◌then◌else◌};
 ghost use Rattle.std.specs.List.{list_any};
 ghost use Rattle.std.specs.Option.{IfNone};
 ghost use Rattle.o2_entries.specs.Tables.{live_numbers, slot_at};
 ghost use Rattle.o2_isa.specs.View.{is_local};
 ghost use Rattle.o2_regions.specs.Maps.{IsProcess, end_of, held_at, is_held, is_reserved, region_of};
 ghost use Rattle.o2_service.specs.Told.{OnlyTables};
-ghost use Rattle.o2_store.specs.Idle.{IsIdle, NoneTaken};
-ghost use Rattle.o2_store.specs.Loads.{live_load_at, swap_load};
+ghost use Rattle.o2_store.specs.Idle.{IsIdle};
+ghost use Rattle.o2_store.specs.Loads.{swap_load};
 ghost use Rattle.o2_store.specs.Needs.{named_in};
 ghost use Rattle.o2_store.specs.Shelf.{entry, entry_of, place_of};
-ghost use Rattle.o2_store.specs.Sizes.{all_wanted_at, stays};
 ghost use Rattle.o2_swapmap.specs.Piles.{all_of};
 ghost use Rattle.o2_store.specs.Frames.{IsBacked, KeepsDevice};
 ghost use Rattle.o2_changes.specs.Frames.{KeepsOrder, KeepsOrderFor};
@@ -20,22 +19,18 @@ ghost use Rattle.o2_changes.specs.Order.{IsInOrder};
 ghost use Rattle.o2_changes.specs.Worlds.{MatchesMove};
 ghost use Rattle.o2_regions.specs.declared.answer.Answer.{Answer};
 ghost use Rattle.o2_stands.specs.Knows.{Others, known_in};
-ghost use Rattle.o2_stands.specs.Moves.{moved};
 ghost use Rattle.o2_stands.specs.Parts.{Parts};
-ghost use Rattle.o2_stands.specs.Stands.{Matches};
-ghost use Rattle.o2_world.specs.Changes.{takes, with_all};
-ghost use Rattle.o2_world.specs.Holders.{process_at};
+ghost use Rattle.o2_world.specs.Changes.{takes};
 ghost use Rattle.o2_world.specs.HugeRulings.{bytes_of, huge_reallocation, segments_of, without};
 ghost use Rattle.o2_world.specs.SharedRulings.{shared_from};
-ghost use Rattle.o2_world.specs.Rulings.{dropped_indexes, full_size, indexes};
-ghost use Rattle.o2_world.specs.World.{Process, World};
-ghost use Rattle.o2_segs.specs.Answers.{AnswersRoomed, changes_roomed, stop_of};
-ghost use Rattle.o2_segs.specs.Limits.{KeepsLimits, KeepsLimitsBy};
+ghost use Rattle.o2_world.specs.Rulings.{full_size, indexes};
+ghost use Rattle.o2_segs.specs.Answers.{stop_of};
+ghost use Rattle.o2_segs.specs.Limits.{KeepsLimits};
 ghost use Rattle.o2_segs.specs.Made.{IsStop};
-ghost use Rattle.o2_huge.specs.Cuts.{MayLose};
-ghost use Rattle.o2_huge.specs.Growth.{AreMembers, AreVacant, FirstSized, IsVacant, bytes_there, is_of_run, last_kept, last_size, size_there, sized_there};
+ghost use Rattle.o2_huge.specs.Frames.{FollowsRuling, HoldsRun, IsKnownBy, MayHave, SizesRun, StopsFor};
+ghost use Rattle.o2_huge.specs.Growth.{AreMembers, AreVacant, IsVacant, bytes_there, is_of_run, last_kept, last_size, size_there, sized_there};
+ghost use Rattle.o2_huge.specs.Members.{MayMake};
 ghost use Rattle.o2_huge.specs.Resized.{KeepsRest, MatchesChanged, MatchesResized, MatchesSized, changed_in, is_done, is_member_in, run_count, run_fault, sized_last};
-ghost use Rattle.o2_stands.specs.Runs.{AreFull, AreRuns};
 
 use crate::allocating::{is_too_many, segments_of};
 use crate::losing::{clear, cut, names_one};
@@ -318,14 +313,9 @@ fn resize_member<S: SwapDevice>(
     ensures kept { (k : ℕ) → named_in store.old.entries keep.now k ≡ true
         → IsSome (place_of store.old k) → IsSome (place_of store.new k) }
 
-    ensures no_room { result ≡ Some Roomed.NoRoom → FirstSized store.old (sized_there store.old size (held_at regions.old pid index))
-        (λ id size. (stays store.old id.key keep.now ≡ true) × (store.old.places.size < all_wanted_at store.old id.key keep.now size)) }
-    ensures all_load { result ≡ Some Roomed.SwapFull → FirstSized store.old (sized_there store.old size (held_at regions.old pid index))
-        (λ id size. store.old.places.size < live_load_at store.old id.key size) }
+    ensures stops { StopsFor store.old keep.now (sized_there store.old size (held_at regions.old pid index))
+        (result ≡ Some Roomed.NoRoom) (result ≡ Some Roomed.SwapFull) (IsIdle store.new swap.old swap.new) }
     ensures load { result ≡ Some Roomed.SwapFull → all_of store.old.swap < swap_load store.old }
-    ensures idle { NoneTaken store.old.swap → IsIdle store.new swap.old swap.new
-        ⊎ FirstSized store.old (sized_there store.old size (held_at regions.old pid index))
-        (λ id size. store.old.places.size < live_load_at store.old id.key size) }
 {
     regions.law();
     match regions.held(pid, index) {
@@ -356,19 +346,9 @@ fn change_members(
     first: Held,
     cpu: &mut Cpu,
 )
-    requires process { IsProcess regions.old pid }
-    requires inside { run.first + run.count ≤ 8192 }
-    requires wanted { 0 < segments_of segs part }
-    requires enough { segments_of segs part ≤ run.count }
-    requires some { 0 < there }
-    requires few { there ≤ run.count }
-    requires held { held_at regions.old pid run.first ≡ Some first }
-    requires members { AreMembers regions.old pid run.first run.first (run.first + there) }
-    requires vacant { AreVacant regions.old pid (run.first + there) (run.first + segments_of segs part) }
-    requires made { store.old.made + 4096 < 2 ^ 64 }
-    requires short { run.count ≤ 4096 }
-    requires room { length (live_numbers 0 store.old.entries) + (segments_of segs part - there) ≤ length store.old.entries }
-    requires order { IsInOrder store.old regions.old }
+    requires holds_run { HoldsRun regions.old pid run.first run.count there first }
+    requires may_have { MayHave regions.old pid run.first run.count there (segments_of segs part) }
+    requires may_make { MayMake store.old regions.old pid (segments_of segs part - there) }
 
     ensures matches { MatchesChanged store.old store.new regions.old regions.new pid run.first run.count there segs part }
     ensures registers { cpu.new ≡ without cpu.old (indexes (run.first + segments_of segs part) (there - segments_of segs part)) }
@@ -433,43 +413,24 @@ fn resize_run<S: SwapDevice>(
     images: &Images,
     swap: &mut S,
 ) -> Roomed
-    requires process { IsProcess regions.old pid }
-    requires inside { run.first + run.count ≤ 8192 }
-    requires wanted { 0 < segments_of segs part }
-    requires enough { segments_of segs part ≤ run.count }
-    requires some { 0 < there }
-    requires few { there ≤ run.count }
-    requires held { held_at regions.old pid run.first ≡ Some first }
-    requires members { AreMembers regions.old pid run.first run.first (run.first + there) }
-    requires vacant { AreVacant regions.old pid (run.first + there) (run.first + segments_of segs part) }
-    requires made { store.old.made + 4096 < 2 ^ 64 }
-    requires short { run.count ≤ 4096 }
-    requires room { length (live_numbers 0 store.old.entries) + (segments_of segs part - there) ≤ length store.old.entries }
-    requires order { IsInOrder store.old regions.old }
+    requires holds_run { HoldsRun regions.old pid run.first run.count there first }
+    requires may_have { MayHave regions.old pid run.first run.count there (segments_of segs part) }
+    requires may_make { MayMake store.old regions.old pid (segments_of segs part - there) }
     requires backed { IsBacked store.old images.now (S.blocks swap.old) }
 
     ensures done { (a : Answer) → result ≡ Roomed.Done a → a ≡ record { error = 0; value = 0 } }
     ensures matches { MatchesResized store.old store.new regions.old regions.new images.now (S.told swap.new) (S.block swap.old) (S.block swap.new)
         pid run.first run.count there segs part result }
     ensures registers { cpu.new ≡ (if is_done result then without cpu.old (indexes (run.first + segments_of segs part) (there - segments_of segs part)) else cpu.old) }
-    ensures limits { KeepsLimitsBy store.old regions.old store.new regions.new (if is_done result then 4096 else 0) 0 }
     ensures holds { KeepsHolds regions.old regions.new
         ⊎ (list_any takes (sized_last store.old regions.old pid run.first there segs part ++ changed_in store.old regions.old pid run.first run.count there segs part) ≡ true) }
-    ensures processes { regions.new.processes ≡ regions.old.processes }
-    ensures goes_on { KeepsOrderFor images.now store.old regions.old store.new regions.new }
+    ensures sizes { SizesRun images.now keep.now store.old regions.old store.new regions.new (if is_done result then 4096 else 0) }
     ensures device { KeepsDevice S.blocks S.told S.faults swap.old swap.new
         (result ≡ Roomed.SwapFault) }
-    ensures kept { (k : ℕ) → named_in store.old.entries keep.now k ≡ true → IsSome (slot_at store.new.entries k)
-        → IsSome (place_of store.old k) → IsSome (place_of store.new k) }
 
-    ensures no_room { result ≡ Roomed.NoRoom → FirstSized store.old (sized_last store.old regions.old pid run.first there segs part)
-        (λ id size. (stays store.old id.key keep.now ≡ true) × (store.old.places.size < all_wanted_at store.old id.key keep.now size)) }
-    ensures all_load { result ≡ Roomed.SwapFull → FirstSized store.old (sized_last store.old regions.old pid run.first there segs part)
-        (λ id size. store.old.places.size < live_load_at store.old id.key size) }
+    ensures stops { StopsFor store.old keep.now (sized_last store.old regions.old pid run.first there segs part)
+        (result ≡ Roomed.NoRoom) (result ≡ Roomed.SwapFull) (IsIdle store.new swap.old swap.new) }
     ensures load { result ≡ Roomed.SwapFull → all_of store.old.swap < swap_load store.old }
-    ensures idle { NoneTaken store.old.swap → IsIdle store.new swap.old swap.new
-        ⊎ FirstSized store.old (sized_last store.old regions.old pid run.first there segs part)
-        (λ id size. store.old.places.size < live_load_at store.old id.key size) }
 {
     let last = last_of(run.first, there, segs, part);
     let size = size_of_last(there, segs, part);
@@ -505,43 +466,16 @@ pub fn realloc_huge<S: SwapDevice>(
     requires made { store.old.made + 4096 < 2 ^ 64 }
     requires backed { IsBacked store.old images.now (S.blocks swap.old) }
 
-    ensures answer { (p : Parts) (o : Others) → p.shelf ≡ store.old → p.maps ≡ regions.old → o.processes ≡ regions.old.processes
-        → AreRuns regions.old → AreFull store.old regions.old
-        → AnswersRoomed (huge_reallocation (known_in p o) pid segs part sel cpu.old) result }
-    ensures registers { (p : Parts) (o : Others) → p.shelf ≡ store.old → p.maps ≡ regions.old → o.processes ≡ regions.old.processes
-        → AreRuns regions.old → AreFull store.old regions.old
-        → cpu.new ≡ without cpu.old (dropped_indexes (changes_roomed (huge_reallocation (known_in p o) pid segs part sel cpu.old) result)) }
-    ensures matches { (p : Parts) (o : Others) (w : World) (x : Process) → p.shelf ≡ store.old → p.maps ≡ regions.old
-        → o.processes ≡ regions.old.processes → AreRuns regions.old → AreFull store.old regions.old
-        → p.images ≡ images.now → p.block ≡ S.block swap.old → IsTrue (S.told swap.new)
-        → process_at w.processes pid ≡ Some x → MayLose w → Matches p w
-        → Matches (moved p store.new regions.new (S.block swap.new))
-        (with_all w (changes_roomed (huge_reallocation (known_in p o) pid segs part sel cpu.old) result)) }
-    ensures limits { KeepsLimitsBy store.old regions.old store.new regions.new (if is_done result then 4096 else 0) 0 }
-    ensures holds { (p : Parts) (o : Others) → p.shelf ≡ store.old → p.maps ≡ regions.old → o.processes ≡ regions.old.processes
-        → AreRuns regions.old → AreFull store.old regions.old
-        → KeepsHolds regions.old regions.new ⊎ (list_any takes (huge_reallocation (known_in p o) pid segs part sel cpu.old).changes ≡ true) }
-    ensures processes { regions.new.processes ≡ regions.old.processes }
-    ensures goes_on { KeepsOrderFor images.now store.old regions.old store.new regions.new }
+    ensures row { (p : Parts) (o : Others) → IsKnownBy store.old regions.old p o
+        → FollowsRuling (huge_reallocation (known_in p o) pid segs part sel cpu.old) p pid store.old store.new regions.old regions.new
+        images.now (S.told swap.new) (S.block swap.old) (S.block swap.new) cpu.old cpu.new result }
+    ensures stops { (p : Parts) (o : Others) → IsKnownBy store.old regions.old p o
+        → StopsFor store.old keep.now (huge_reallocation (known_in p o) pid segs part sel cpu.old).changes
+        (result ≡ Roomed.NoRoom) (result ≡ Roomed.SwapFull) (IsIdle store.new swap.old swap.new) }
+    ensures load { result ≡ Roomed.SwapFull → all_of store.old.swap < swap_load store.old }
+    ensures sizes { SizesRun images.now keep.now store.old regions.old store.new regions.new (if is_done result then 4096 else 0) }
     ensures device { KeepsDevice S.blocks S.told S.faults swap.old swap.new
         (result ≡ Roomed.SwapFault) }
-    ensures kept { (k : ℕ) → named_in store.old.entries keep.now k ≡ true → IsSome (slot_at store.new.entries k)
-        → IsSome (place_of store.old k) → IsSome (place_of store.new k) }
-
-    ensures no_room { (p : Parts) (o : Others) → p.shelf ≡ store.old → p.maps ≡ regions.old → o.processes ≡ regions.old.processes
-        → AreRuns regions.old → AreFull store.old regions.old → result ≡ Roomed.NoRoom
-        → FirstSized store.old (huge_reallocation (known_in p o) pid segs part sel cpu.old).changes
-        (λ id size. (stays store.old id.key keep.now ≡ true) × (store.old.places.size < all_wanted_at store.old id.key keep.now size)) }
-    ensures all_load { (p : Parts) (o : Others) → p.shelf ≡ store.old → p.maps ≡ regions.old → o.processes ≡ regions.old.processes
-        → AreRuns regions.old → AreFull store.old regions.old → result ≡ Roomed.SwapFull
-        → FirstSized store.old (huge_reallocation (known_in p o) pid segs part sel cpu.old).changes
-        (λ id size. store.old.places.size < live_load_at store.old id.key size) }
-    ensures load { result ≡ Roomed.SwapFull → all_of store.old.swap < swap_load store.old }
-    // Where nothing is in swap blocks, the device isn't touched, unless all that lives with the new size doesn't fit the memory.
-    ensures idle { (p : Parts) (o : Others) → p.shelf ≡ store.old → p.maps ≡ regions.old → o.processes ≡ regions.old.processes
-        → AreRuns regions.old → AreFull store.old regions.old → NoneTaken store.old.swap → IsIdle store.new swap.old swap.new
-        ⊎ FirstSized store.old (huge_reallocation (known_in p o) pid segs part sel cpu.old).changes
-        (λ id size. store.old.places.size < live_load_at store.old id.key size) }
 {
     match held_under(regions, pid, sel) {
         Some(held) => match run_at(Selector(sel).index(), held) {
@@ -576,43 +510,16 @@ fn realloc_run<S: SwapDevice>(
     requires made { store.old.made + 4096 < 2 ^ 64 }
     requires backed { IsBacked store.old images.now (S.blocks swap.old) }
 
-    ensures answer { (p : Parts) (o : Others) → p.shelf ≡ store.old → p.maps ≡ regions.old → o.processes ≡ regions.old.processes
-        → AreRuns regions.old → AreFull store.old regions.old
-        → AnswersRoomed (huge_reallocation (known_in p o) pid segs part sel cpu.old) result }
-    ensures registers { (p : Parts) (o : Others) → p.shelf ≡ store.old → p.maps ≡ regions.old → o.processes ≡ regions.old.processes
-        → AreRuns regions.old → AreFull store.old regions.old
-        → cpu.new ≡ without cpu.old (dropped_indexes (changes_roomed (huge_reallocation (known_in p o) pid segs part sel cpu.old) result)) }
-    ensures matches { (p : Parts) (o : Others) (w : World) (x : Process) → p.shelf ≡ store.old → p.maps ≡ regions.old
-        → o.processes ≡ regions.old.processes → AreRuns regions.old → AreFull store.old regions.old
-        → p.images ≡ images.now → p.block ≡ S.block swap.old → IsTrue (S.told swap.new)
-        → process_at w.processes pid ≡ Some x → MayLose w → Matches p w
-        → Matches (moved p store.new regions.new (S.block swap.new))
-        (with_all w (changes_roomed (huge_reallocation (known_in p o) pid segs part sel cpu.old) result)) }
-    ensures limits { KeepsLimitsBy store.old regions.old store.new regions.new (if is_done result then 4096 else 0) 0 }
-    ensures holds { (p : Parts) (o : Others) → p.shelf ≡ store.old → p.maps ≡ regions.old → o.processes ≡ regions.old.processes
-        → AreRuns regions.old → AreFull store.old regions.old
-        → KeepsHolds regions.old regions.new ⊎ (list_any takes (huge_reallocation (known_in p o) pid segs part sel cpu.old).changes ≡ true) }
-    ensures processes { regions.new.processes ≡ regions.old.processes }
-    ensures goes_on { KeepsOrderFor images.now store.old regions.old store.new regions.new }
+    ensures row { (p : Parts) (o : Others) → IsKnownBy store.old regions.old p o
+        → FollowsRuling (huge_reallocation (known_in p o) pid segs part sel cpu.old) p pid store.old store.new regions.old regions.new
+        images.now (S.told swap.new) (S.block swap.old) (S.block swap.new) cpu.old cpu.new result }
+    ensures stops { (p : Parts) (o : Others) → IsKnownBy store.old regions.old p o
+        → StopsFor store.old keep.now (huge_reallocation (known_in p o) pid segs part sel cpu.old).changes
+        (result ≡ Roomed.NoRoom) (result ≡ Roomed.SwapFull) (IsIdle store.new swap.old swap.new) }
+    ensures load { result ≡ Roomed.SwapFull → all_of store.old.swap < swap_load store.old }
+    ensures sizes { SizesRun images.now keep.now store.old regions.old store.new regions.new (if is_done result then 4096 else 0) }
     ensures device { KeepsDevice S.blocks S.told S.faults swap.old swap.new
         (result ≡ Roomed.SwapFault) }
-    ensures kept { (k : ℕ) → named_in store.old.entries keep.now k ≡ true → IsSome (slot_at store.new.entries k)
-        → IsSome (place_of store.old k) → IsSome (place_of store.new k) }
-
-    ensures no_room { (p : Parts) (o : Others) → p.shelf ≡ store.old → p.maps ≡ regions.old → o.processes ≡ regions.old.processes
-        → AreRuns regions.old → AreFull store.old regions.old → result ≡ Roomed.NoRoom
-        → FirstSized store.old (huge_reallocation (known_in p o) pid segs part sel cpu.old).changes
-        (λ id size. (stays store.old id.key keep.now ≡ true) × (store.old.places.size < all_wanted_at store.old id.key keep.now size)) }
-    ensures all_load { (p : Parts) (o : Others) → p.shelf ≡ store.old → p.maps ≡ regions.old → o.processes ≡ regions.old.processes
-        → AreRuns regions.old → AreFull store.old regions.old → result ≡ Roomed.SwapFull
-        → FirstSized store.old (huge_reallocation (known_in p o) pid segs part sel cpu.old).changes
-        (λ id size. store.old.places.size < live_load_at store.old id.key size) }
-    ensures load { result ≡ Roomed.SwapFull → all_of store.old.swap < swap_load store.old }
-    // Where nothing is in swap blocks, the device isn't touched, unless all that lives with the new size doesn't fit the memory.
-    ensures idle { (p : Parts) (o : Others) → p.shelf ≡ store.old → p.maps ≡ regions.old → o.processes ≡ regions.old.processes
-        → AreRuns regions.old → AreFull store.old regions.old → NoneTaken store.old.swap → IsIdle store.new swap.old swap.new
-        ⊎ FirstSized store.old (huge_reallocation (known_in p o) pid segs part sel cpu.old).changes
-        (λ id size. store.old.places.size < live_load_at store.old id.key size) }
 {
     regions.law();
     let there = members_of(regions, pid, run);

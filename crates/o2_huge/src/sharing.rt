@@ -1,15 +1,12 @@
 // New members of a run for all processes that hold it.
-ghost use Rattle.std.specs.Prelude.{◌⊎◌, ◌≡◌, ◌≢◌, ℕ, ◌+◌, ◌-◌, ◌<◌, ◌≤◌, ◌^◌, ◌∷◌, [], false, true, flat_map, length, replicate, IsSome};
+ghost use Rattle.std.specs.Prelude.{◌⊎◌, ◌≡◌, ◌≢◌, ℕ, ◌+◌, ◌<◌, ◌≤◌, ◌∷◌, [], false, true, flat_map, replicate, None};
 ghost use Rattle.o2_desc.specs.Bits.{has_bit};
-ghost use Rattle.o2_entries.specs.Tables.{live_numbers};
 ghost use Rattle.o2_regions.specs.Maps.{IsProcess, held_at, is_reserved, region_of};
-ghost use Rattle.o2_store.specs.Shelf.{entry, entry_of};
-ghost use Rattle.o2_changes.specs.Order.{IsInOrder};
 ghost use Rattle.o2_world.specs.HugeRulings.{all_hold, new_members, segments_of, sizes_of};
 ghost use Rattle.o2_world.specs.Rulings.{indexes};
 ghost use Rattle.o2_huge.specs.Growth.{AreVacant, IsVacant, is_of_run, share_by, shares_in};
 ghost use Rattle.o2_segs.specs.Sharing.{KeepsShares};
-ghost use Rattle.o2_huge.specs.Members.{Brings, Grows, KeepsFew, MatchesWith};
+ghost use Rattle.o2_huge.specs.Members.{Brings, Grows, MatchesWith, MayMake, MayShare};
 
 use crate::members::{Run, add_member};
 use o2_changes::hold_more;
@@ -38,23 +35,17 @@ fn share_with(
     index: u16,
     id: SegId,
 )
+    requires may_share { MayShare store.now regions.old index id }
     requires process { IsProcess regions.old other }
-    requires index { index < 8192 }
     requires first { run.first < 8192 }
-    requires high { 4096 ≤ index }
     requires reserved { is_reserved regions.old (region_of other index) index ≡ true }
     requires free { other ≢ pid → held_at regions.old other index ≡ None }
-    requires live { IsSome (entry_of store.now id) }
-    requires plain { (entry store.now id.key).attr.clean ≡ false }
-    requires order { IsInOrder store.now regions.old }
 
-    ensures grows { Grows store.now store.now regions.old regions.new 0 }
+    ensures grows { Grows store.now store.now regions.old regions.new 0 0 }
     ensures brings { Brings regions.old regions.new index id }
-    ensures few { KeepsFew regions.old regions.new 0 }
     ensures reserved { regions.new.reserved ≡ regions.old.reserved }
     ensures others { (q i : ℕ) → (q ≡ other → i ≢ index) → held_at regions.new q i ≡ held_at regions.old q i }
     ensures own { other ≡ pid → held_at regions.new pid index ≡ held_at regions.old pid index }
-    ensures order { IsInOrder store.now regions.new }
     ensures matches { MatchesWith store.now store.now regions.old regions.new pid
         (all_hold id.age run.first run.count index (share_by regions.old pid run.first other)) }
 {
@@ -81,22 +72,16 @@ fn share_with(
 
 // All other processes that hold a run hold a new member.
 fn share_member(store: &Store, regions: &mut Regions, pid: u16, run: Run, index: u16, id: SegId)
+    requires may_share { MayShare store.now regions.old index id }
     requires process { IsProcess regions.old pid }
-    requires index { index < 8192 }
     requires apart { run.first < index }
-    requires high { 4096 ≤ index }
     requires reserved { is_reserved regions.old (region_of pid index) index ≡ true }
     requires free { (q : ℕ) → q ≢ pid → held_at regions.old q index ≡ None }
-    requires live { IsSome (entry_of store.now id) }
-    requires plain { (entry store.now id.key).attr.clean ≡ false }
-    requires order { IsInOrder store.now regions.old }
 
-    ensures grows { Grows store.now store.now regions.old regions.new 0 }
+    ensures grows { Grows store.now store.now regions.old regions.new 0 0 }
     ensures brings { Brings regions.old regions.new index id }
-    ensures few { KeepsFew regions.old regions.new 0 }
     ensures reserved { regions.new.reserved ≡ regions.old.reserved }
     ensures others { (q i : ℕ) → i ≢ index → held_at regions.new q i ≡ held_at regions.old q i }
-    ensures order { IsInOrder store.now regions.new }
     ensures matches { MatchesWith store.now store.now regions.old regions.new pid
         (all_hold id.age run.first run.count index (flat_map (share_by regions.old pid run.first) (indexes 1 regions.old.processes))) }
 {
@@ -117,21 +102,16 @@ pub(crate) fn add_shared(
     flags: u8,
     holds: u32,
 )
-    requires process { IsProcess regions.old pid }
+    requires may_make { MayMake store.old regions.old pid 1 }
     requires index { index < 8192 }
     requires apart { run.first < index }
     requires vacant { IsVacant regions.old pid index }
-    requires made { store.old.made < 2 ^ 64 - 1 }
-    requires room { length (live_numbers 0 store.old.entries) < length store.old.entries }
     requires some { 0 < holds }
-    requires order { IsInOrder store.old regions.old }
 
-    ensures grows { Grows store.old store.new regions.old regions.new 1 }
-    ensures few { KeepsFew regions.old regions.new holds }
+    ensures grows { Grows store.old store.new regions.old regions.new 1 holds }
     ensures shares { KeepsShares store.old regions.old store.new regions.new store.old.made }
     ensures reserved { regions.new.reserved ≡ regions.old.reserved }
     ensures others { (q i : ℕ) → i ≢ index → held_at regions.new q i ≡ held_at regions.old q i }
-    ensures order { IsInOrder store.new regions.new }
     ensures matches { has_bit flags 2 ≡ false → MatchesWith store.old store.new regions.old regions.new pid
         (new_members store.old.made run.first run.count flags ((pid, holds) ∷ shares_in regions.old pid run.first) (index ∷ []) (size ∷ [])) }
 {
@@ -156,21 +136,16 @@ fn grow_full(
     flags: u8,
     holds: u32,
 )
-    requires process { IsProcess regions.old pid }
+    requires may_make { MayMake store.old regions.old pid count }
     requires inside { from + count ≤ 8192 }
     requires apart { run.first < from }
     requires vacant { AreVacant regions.old pid from (from + count) }
-    requires made { store.old.made + count < 2 ^ 64 }
-    requires room { length (live_numbers 0 store.old.entries) + count ≤ length store.old.entries }
     requires some { 0 < holds }
-    requires order { IsInOrder store.old regions.old }
 
-    ensures grows { Grows store.old store.new regions.old regions.new count }
-    ensures few { KeepsFew regions.old regions.new holds }
+    ensures grows { Grows store.old store.new regions.old regions.new count holds }
     ensures shares { KeepsShares store.old regions.old store.new regions.new store.old.made }
     ensures reserved { regions.new.reserved ≡ regions.old.reserved }
     ensures others { (q i : ℕ) → (i < from) ⊎ (from + count ≤ i) → held_at regions.new q i ≡ held_at regions.old q i }
-    ensures order { IsInOrder store.new regions.new }
     ensures matches { has_bit flags 2 ≡ false → MatchesWith store.old store.new regions.old regions.new pid
         (new_members store.old.made run.first run.count flags ((pid, holds) ∷ shares_in regions.old pid run.first) (indexes from count) (replicate count 0)) }
 {
@@ -191,19 +166,14 @@ pub(crate) fn grow(
     flags: u8,
     holds: u32,
 )
-    requires process { IsProcess regions.old pid }
+    requires may_make { MayMake store.old regions.old pid (segments_of count part) }
     requires inside { from + segments_of count part ≤ 8192 }
     requires apart { run.first < from }
     requires vacant { AreVacant regions.old pid from (from + segments_of count part) }
-    requires made { store.old.made + segments_of count part < 2 ^ 64 }
-    requires room { length (live_numbers 0 store.old.entries) + segments_of count part ≤ length store.old.entries }
     requires some { 0 < holds }
-    requires order { IsInOrder store.old regions.old }
 
-    ensures grows { Grows store.old store.new regions.old regions.new (segments_of count part) }
-    ensures few { KeepsFew regions.old regions.new holds }
+    ensures grows { Grows store.old store.new regions.old regions.new (segments_of count part) holds }
     ensures shares { KeepsShares store.old regions.old store.new regions.new store.old.made }
-    ensures order { IsInOrder store.new regions.new }
     ensures matches { has_bit flags 2 ≡ false → MatchesWith store.old store.new regions.old regions.new pid
         (new_members store.old.made run.first run.count flags ((pid, holds) ∷ shares_in regions.old pid run.first)
         (indexes from (segments_of count part)) (sizes_of count part)) }

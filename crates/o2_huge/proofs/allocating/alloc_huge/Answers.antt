@@ -13,7 +13,8 @@ use Rattle.o2_segs.specs.Answers.{Answers}
 use Rattle.o2_segs.specs.Made.{region_for}
 use Rattle.o2_segs.proofs.Limits.{entries_refl, limits_by}
 use Rattle.o2_segs.proofs.Rows.{refusal_answers, refusal_matches}
-use Rattle.o2_huge.proofs.Keeping.{limits_grown, limits_still, grown_order}
+use Rattle.o2_huge.specs.Members.{MayMake}
+use Rattle.o2_huge.proofs.Keeping.{limits_grown, limits_still}
 use Rattle.o2_huge.proofs.Rows.{all_wanted, alloc_at, alloc_fault, alloc_full, alloc_matches, chosen_as, faultless, region_there, room_left, some_wanted}
 use Rattle.o2_changes.proofs.Framing.{order_refl}
 use Rattle.o2_huge.proofs.allocating.alloc_huge.Goals as goal
@@ -50,19 +51,35 @@ returns-then-is_too_many-clause-entries c = entries_refl c.args.store.now
 
 pub returns-in-None-clause-answer : goal.returns-in-None-clause-answer
 returns-in-None-clause-answer c = λ p o es em.
-    refusal_answers _ 8 c.refusal-in-None.result
-    (alloc_at p o c.args.store.now c.args.regions.now c.args.pid c.args.segs c.args.part c.args.most c.args.flags None es em c.requires.process.0
-    (subst (λ (n : ℕ). is_huge_fault n c.args.most c.args.flags ≡ false) c.segments_of-segments.ensures (sym c.if-is_fault.ensures))
-    (subst (λ (n : ℕ). nat_lt (length c.args.store.now.entries) (length (live_numbers 0 c.args.store.now.entries) + n) ≡ false) c.segments_of-segments.ensures (sym c.if-is_too_many.ensures))
-    (chosen_as c.args.regions.now None c.region_for.result (region_for c.args.pid c.args.flags) c.max-count.result (max (segments_of c.args.segs c.args.part) c.args.most) c.region_for.ensures (c.max-count.ensures ∙ ap (λ (n : ℕ). max n c.from.result) c.segments_of-segments.ensures ∙ ap (max (segments_of c.args.segs c.args.part)) c.from.ensures) c.in-None.ensures.chosen)) c.refusal-in-None.ensures
+    (let s = c.args.store.now in
+    let m = c.args.regions.now in
+    let pid = c.args.pid in
+    let segs = c.args.segs in
+    let part = c.args.part in
+    let most = c.args.most in
+    let flags = c.args.flags in
+    let wanted = c.segments_of-segments.ensures in
+    let good = subst (λ (n : ℕ). is_huge_fault n most flags ≡ false) wanted (sym c.if-is_fault.ensures) in
+    let room = subst (λ (n : ℕ). nat_lt (length s.entries) (length (live_numbers 0 s.entries) + n) ≡ false) wanted (sym c.if-is_too_many.ensures) in
+    let count = c.max-count.ensures ∙ ap (λ (n : ℕ). max n c.from.result) wanted ∙ ap (max (segments_of segs part)) c.from.ensures in
+    let at = chosen_as m None c.region_for.result (region_for pid flags) c.max-count.result (max (segments_of segs part) most) c.region_for.ensures count c.in-None.ensures.chosen in
+    refusal_answers _ 8 c.refusal-in-None.result (alloc_at p o s m pid segs part most flags None es em c.requires.process.0 good room at) c.refusal-in-None.ensures)
 
 pub returns-in-None-clause-matches : goal.returns-in-None-clause-matches
-returns-in-None-clause-matches c = λ p o w x es em at q.
-    refusal_matches p c.args.store.now c.args.regions.now w _ 8 es em
-    (alloc_at p o c.args.store.now c.args.regions.now c.args.pid c.args.segs c.args.part c.args.most c.args.flags None es em c.requires.process.0
-    (subst (λ (n : ℕ). is_huge_fault n c.args.most c.args.flags ≡ false) c.segments_of-segments.ensures (sym c.if-is_fault.ensures))
-    (subst (λ (n : ℕ). nat_lt (length c.args.store.now.entries) (length (live_numbers 0 c.args.store.now.entries) + n) ≡ false) c.segments_of-segments.ensures (sym c.if-is_too_many.ensures))
-    (chosen_as c.args.regions.now None c.region_for.result (region_for c.args.pid c.args.flags) c.max-count.result (max (segments_of c.args.segs c.args.part) c.args.most) c.region_for.ensures (c.max-count.ensures ∙ ap (λ (n : ℕ). max n c.from.result) c.segments_of-segments.ensures ∙ ap (max (segments_of c.args.segs c.args.part)) c.from.ensures) c.in-None.ensures.chosen)) q
+returns-in-None-clause-matches c = λ p o w x es em at_pid q.
+    (let s = c.args.store.now in
+    let m = c.args.regions.now in
+    let pid = c.args.pid in
+    let segs = c.args.segs in
+    let part = c.args.part in
+    let most = c.args.most in
+    let flags = c.args.flags in
+    let wanted = c.segments_of-segments.ensures in
+    let good = subst (λ (n : ℕ). is_huge_fault n most flags ≡ false) wanted (sym c.if-is_fault.ensures) in
+    let room = subst (λ (n : ℕ). nat_lt (length s.entries) (length (live_numbers 0 s.entries) + n) ≡ false) wanted (sym c.if-is_too_many.ensures) in
+    let count = c.max-count.ensures ∙ ap (λ (n : ℕ). max n c.from.result) wanted ∙ ap (max (segments_of segs part)) c.from.ensures in
+    let at = chosen_as m None c.region_for.result (region_for pid flags) c.max-count.result (max (segments_of segs part) most) c.region_for.ensures count c.in-None.ensures.chosen in
+    refusal_matches p s m w _ 8 es em (alloc_at p o s m pid segs part most flags None es em c.requires.process.0 good room at) q)
 
 pub returns-in-None-clause-entries : goal.returns-in-None-clause-entries
 returns-in-None-clause-entries c = entries_refl c.args.store.now
@@ -79,10 +96,18 @@ make_run-requires-clause-free c = subst (λ (g : Region). IsRun (is_taken c.args
 pub make_run-requires-clause-few : goal.make_run-requires-clause-few
 make_run-requires-clause-few c = subst (λ (n : ℕ). n ≤ c.max-count.result) c.segments_of-segments.ensures (subst (λ (k : ℕ). c.segments_of-segments.result ≤ k) (sym c.max-count.ensures) (all_wanted c.segments_of-segments.result c.from.result))
 
-pub make_run-requires-clause-room : goal.make_run-requires-clause-room
-make_run-requires-clause-room c =
-    subst (λ (n : ℕ). length (live_numbers 0 c.args.store.now.entries) + n ≤ length c.args.store.now.entries) c.segments_of-segments.ensures
-    (room_left (length c.args.store.now.entries) (length (live_numbers 0 c.args.store.now.entries)) c.segments_of-segments.result (sym c.if-is_too_many.ensures))
+pub make_run-requires-clause-may_make : goal.make_run-requires-clause-may_make
+make_run-requires-clause-may_make c =
+    let s = c.args.store.now in
+    let few = c.in-Some.ensures.few in
+    let all = subst (λ (k : ℕ). c.segments_of-segments.result ≤ k) (sym c.max-count.ensures) (all_wanted c.segments_of-segments.result c.from.result) in
+    let made = c.requires.made in
+    subst (MayMake s c.args.regions.now c.args.pid) c.segments_of-segments.ensures (record {
+      process = c.requires.process;
+      order = c.requires.order;
+      made = omega (arith, few, all, made);
+      room = room_left (length s.entries) (length (live_numbers 0 s.entries)) c.segments_of-segments.result (sym c.if-is_too_many.ensures);
+    })
 
 pub make_run-requires-clause-flags : goal.make_run-requires-clause-flags
 make_run-requires-clause-flags c = (faultless c.segments_of-segments.result c.args.most c.args.flags (sym c.if-is_fault.ensures)).0
@@ -92,23 +117,41 @@ make_run-requires-clause-unlocked c = (faultless c.segments_of-segments.result c
 
 pub returns-in-Some-clause-answer : goal.returns-in-Some-clause-answer
 returns-in-Some-clause-answer c = λ p o es em.
-    (let given = c.done.ensures ∙ ap (λ (v : ℕ). record { error = 0; value = v }) c.selector_at.ensures in
-    subst (λ (r : Ruling). Answers r c.done.result)
-    (sym (alloc_at p o c.args.store.now c.args.regions.now c.args.pid c.args.segs c.args.part c.args.most c.args.flags (Some c.in-Some.first) es em c.requires.process.0
-    (subst (λ (n : ℕ). is_huge_fault n c.args.most c.args.flags ≡ false) c.segments_of-segments.ensures (sym c.if-is_fault.ensures))
-    (subst (λ (n : ℕ). nat_lt (length c.args.store.now.entries) (length (live_numbers 0 c.args.store.now.entries) + n) ≡ false) c.segments_of-segments.ensures (sym c.if-is_too_many.ensures))
-    (chosen_as c.args.regions.now (Some c.in-Some.first) c.region_for.result (region_for c.args.pid c.args.flags) c.max-count.result (max (segments_of c.args.segs c.args.part) c.args.most) c.region_for.ensures (c.max-count.ensures ∙ ap (λ (n : ℕ). max n c.from.result) c.segments_of-segments.ensures ∙ ap (max (segments_of c.args.segs c.args.part)) c.from.ensures) c.in-Some.ensures.chosen)))
+    (let s = c.args.store.now in
+    let m = c.args.regions.now in
+    let pid = c.args.pid in
+    let segs = c.args.segs in
+    let part = c.args.part in
+    let most = c.args.most in
+    let flags = c.args.flags in
+    let wanted = c.segments_of-segments.ensures in
+    let good = subst (λ (n : ℕ). is_huge_fault n most flags ≡ false) wanted (sym c.if-is_fault.ensures) in
+    let room = subst (λ (n : ℕ). nat_lt (length s.entries) (length (live_numbers 0 s.entries) + n) ≡ false) wanted (sym c.if-is_too_many.ensures) in
+    let count = c.max-count.ensures ∙ ap (λ (n : ℕ). max n c.from.result) wanted ∙ ap (max (segments_of segs part)) c.from.ensures in
+    let at = chosen_as m (Some c.in-Some.first) c.region_for.result (region_for pid flags) c.max-count.result (max (segments_of segs part) most) c.region_for.ensures count c.in-Some.ensures.chosen in
+    let given = c.done.ensures ∙ ap (λ (v : ℕ). record { error = 0; value = v }) c.selector_at.ensures in
+    subst (λ (r : Ruling). Answers r c.done.result) (sym (alloc_at p o s m pid segs part most flags (Some c.in-Some.first) es em c.requires.process.0 good room at))
     (record { error = ap (λ (a : Answer). a.error) given; value = ap (λ (a : Answer). a.value) given }))
 
 pub returns-in-Some-clause-matches : goal.returns-in-Some-clause-matches
-returns-in-Some-clause-matches c = λ p o w x es em at q.
-    subst (λ (r : Ruling). Matches (record p { shelf = c.make_run.new.store; maps = c.make_run.new.regions }) (with_all w r.changes))
-    (sym (alloc_at p o c.args.store.now c.args.regions.now c.args.pid c.args.segs c.args.part c.args.most c.args.flags (Some c.in-Some.first) es em c.requires.process.0
-    (subst (λ (n : ℕ). is_huge_fault n c.args.most c.args.flags ≡ false) c.segments_of-segments.ensures (sym c.if-is_fault.ensures))
-    (subst (λ (n : ℕ). nat_lt (length c.args.store.now.entries) (length (live_numbers 0 c.args.store.now.entries) + n) ≡ false) c.segments_of-segments.ensures (sym c.if-is_too_many.ensures))
-    (chosen_as c.args.regions.now (Some c.in-Some.first) c.region_for.result (region_for c.args.pid c.args.flags) c.max-count.result (max (segments_of c.args.segs c.args.part) c.args.most) c.region_for.ensures (c.max-count.ensures ∙ ap (λ (n : ℕ). max n c.from.result) c.segments_of-segments.ensures ∙ ap (max (segments_of c.args.segs c.args.part)) c.from.ensures) c.in-Some.ensures.chosen)
-    ∙ ap (λ (n : ℕ). huge_at (known_in p o) c.args.pid c.args.segs c.args.part n c.args.flags (Some c.in-Some.first)) (sym (c.max-count.ensures ∙ ap (λ (n : ℕ). max n c.from.result) c.segments_of-segments.ensures ∙ ap (max (segments_of c.args.segs c.args.part)) c.from.ensures))))
-    (alloc_matches p o w x c.args.store.now c.make_run.new.store c.args.regions.now c.make_run.new.regions c.args.pid c.args.segs c.args.part c.max-count.result c.args.flags c.in-Some.first es em at c.make_run.ensures.matches q)
+returns-in-Some-clause-matches c = λ p o w x es em at_pid q.
+    (let s = c.args.store.now in
+    let m = c.args.regions.now in
+    let pid = c.args.pid in
+    let segs = c.args.segs in
+    let part = c.args.part in
+    let most = c.args.most in
+    let flags = c.args.flags in
+    let wanted = c.segments_of-segments.ensures in
+    let good = subst (λ (n : ℕ). is_huge_fault n most flags ≡ false) wanted (sym c.if-is_fault.ensures) in
+    let room = subst (λ (n : ℕ). nat_lt (length s.entries) (length (live_numbers 0 s.entries) + n) ≡ false) wanted (sym c.if-is_too_many.ensures) in
+    let count = c.max-count.ensures ∙ ap (λ (n : ℕ). max n c.from.result) wanted ∙ ap (max (segments_of segs part)) c.from.ensures in
+    let at = chosen_as m (Some c.in-Some.first) c.region_for.result (region_for pid flags) c.max-count.result (max (segments_of segs part) most) c.region_for.ensures count c.in-Some.ensures.chosen in
+    let t = c.make_run.new.store in
+    let n = c.make_run.new.regions in
+    subst (λ (r : Ruling). Matches (record p { shelf = t; maps = n }) (with_all w r.changes))
+    (sym (alloc_at p o s m pid segs part most flags (Some c.in-Some.first) es em c.requires.process.0 good room at ∙ ap (λ (k : ℕ). huge_at (known_in p o) pid segs part k flags (Some c.in-Some.first)) (sym count)))
+    (alloc_matches p o w x s t m n pid segs part c.max-count.result flags c.in-Some.first es em at_pid c.make_run.ensures.matches q))
 
 pub returns-in-Some-clause-holds : goal.returns-in-Some-clause-holds
 returns-in-Some-clause-holds c = c.make_run.ensures.grows.holds
@@ -117,8 +160,12 @@ pub returns-in-Some-clause-limits : goal.returns-in-Some-clause-limits
 returns-in-Some-clause-limits c =
     let few = c.in-Some.ensures.few in
     let all = subst (λ (n : ℕ). n ≤ c.max-count.result) c.segments_of-segments.ensures (subst (λ (k : ℕ). c.segments_of-segments.result ≤ k) (sym c.max-count.ensures) (all_wanted c.segments_of-segments.result c.from.result)) in
-    limits_by c.args.store.now c.make_run.new.store c.args.regions.now c.make_run.new.regions 4096
-    (limits_grown c.args.store.now c.make_run.new.store c.args.regions.now c.make_run.new.regions (segments_of c.args.segs c.args.part) 4096 c.make_run.ensures.grows (omega (arith, few, all)) c.make_run.ensures.few c.make_run.ensures.shares)
+    let s = c.args.store.now in
+    let t = c.make_run.new.store in
+    let m = c.args.regions.now in
+    let n = c.make_run.new.regions in
+    let grows = c.make_run.ensures.grows in
+    limits_by s t m n 4096 (limits_grown s t m n (segments_of c.args.segs c.args.part) 1 4096 grows (omega (arith, few, all)) grows.few c.make_run.ensures.shares)
 
 pub returns-then-is_fault-clause-limits : goal.returns-then-is_fault-clause-limits
 returns-then-is_fault-clause-limits c = limits_still c.args.store.now c.args.regions.now 4096
@@ -145,4 +192,4 @@ pub returns-in-None-clause-goes_on : goal.returns-in-None-clause-goes_on
 returns-in-None-clause-goes_on c = order_refl c.args.store.now c.args.regions.now c.requires.order
 
 pub returns-in-Some-clause-goes_on : goal.returns-in-Some-clause-goes_on
-returns-in-Some-clause-goes_on c = grown_order c.args.store.now c.make_run.new.store c.args.regions.now c.make_run.new.regions _ c.make_run.ensures.grows c.make_run.ensures.order
+returns-in-Some-clause-goes_on c = c.make_run.ensures.grows.goes_on

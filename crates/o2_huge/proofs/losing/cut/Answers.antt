@@ -8,22 +8,22 @@ use Rattle.o2_huge.proofs.losing.cut.Goals as goal
 
 pub loop-place-init : goal.loop-place-init
 loop-place-init c = record {
-  shrinks = shrinks_none c.args.store.now c.args.regions.now;
+  shrinks = shrinks_none c.args.store.now c.args.regions.now c.requires.may_cut.order;
   others = λ q i other. refl;
   none = λ first. holds_refl c.args.regions.now;
-  order = c.requires.order;
   matches = cut_none c.args.store.now c.args.regions.now c.args.pid;
 }
 
-pub cut_one-requires-clause-process : goal.cut_one-requires-clause-process
-cut_one-requires-clause-process c = (c.requires.process.0, (let a = c.requires.process.1 in let e = c.loop-place.invariant.shrinks.processes in omega (arith, a, e)))
-
-pub cut_one-requires-clause-head : goal.cut_one-requires-clause-head
-cut_one-requires-clause-head c = record {
-  held = c.requires.head.held;
-  there = c.loop-place.invariant.others c.args.pid c.args.first (λ own. inl c.requires.behind) ∙ c.requires.head.there;
-  run = c.requires.head.run;
-}
+pub cut_one-requires-clause-may_cut : goal.cut_one-requires-clause-may_cut
+cut_one-requires-clause-may_cut c =
+    let may = c.requires.may_cut in
+    let i = c.loop-place.invariant in
+    record {
+      process = (may.process.0, (let a = may.process.1 in let e = i.shrinks.processes in omega (arith, a, e)));
+      behind = (let a = may.behind in omega (arith, a));
+      head = record { held = may.head.held; there = i.others c.args.pid c.args.first (λ own. inl may.behind) ∙ may.head.there; run = may.head.run };
+      order = i.shrinks.goes_on.order;
+    }
 
 pub cut_one-requires-clause-member : goal.cut_one-requires-clause-member
 cut_one-requires-clause-member c =
@@ -53,7 +53,6 @@ loop-place-preserved c =
           c.cut_one.ensures.others q j (λ own same. elim (other own) [ inl low ↦ omega (arith, low, same) | inr high ↦ omega (arith, high, same) ])
           ∙ i.others q j (λ own. elim (other own) [ inl low ↦ inl low | inr high ↦ inr (omega (arith, high)) ]);
       none = λ first. absurd (omega (arith, first));
-      order = c.cut_one.ensures.order;
       matches = subst (MatchesCut s u l n pid) (sym (indexes_more from k))
           (cut_then s t u l m n pid (from + k) _ x.held x.there (i.others pid (from + k) (λ own. inr (omega arith)) ∙ x.there) i.matches c.cut_one.ensures.matches);
     }

@@ -3,7 +3,8 @@ use Rattle.o2_world.specs.HugeRulings.{segments_of, without}
 use Rattle.o2_world.specs.Rulings.{indexes}
 use Rattle.o2_huge.specs.Cuts.{MatchesCut}
 use Rattle.o2_huge.proofs.Changing.{cut_holds, cut_matches, grown_matches, without_none}
-use Rattle.o2_huge.proofs.Keeping.{few_held, limits_grown, limits_shrunk, grown_order, shrunk_order}
+use Rattle.o2_huge.proofs.Growing.{make_fewer}
+use Rattle.o2_huge.proofs.Keeping.{few_held, limits_grown, limits_shrunk}
 use Rattle.o2_huge.proofs.Stretch.{more_wanted}
 use Rattle.o2_huge.proofs.reallocating.change_members.Goals as goal
 
@@ -11,8 +12,8 @@ pub grow-requires-clause-inside : goal.grow-requires-clause-inside
 grow-requires-clause-inside c =
     let w = c.wanted_of-wanted.ensures in
     let more = more_wanted c.args.there c.args.segs c.args.part (let l = c.if-there-wanted.true in omega (arith, l, w)) in
-    let a = c.requires.inside in
-    let b = c.requires.enough in
+    let a = c.requires.holds_run.inside in
+    let b = c.requires.may_have.enough in
     let l = c.if-there-wanted.true in
     omega (arith, w, more, a, b, l)
 
@@ -21,32 +22,21 @@ grow-requires-clause-vacant c = λ i low high.
     (let w = c.wanted_of-wanted.ensures in
     let l = c.if-there-wanted.true in
     let more = more_wanted c.args.there c.args.segs c.args.part (omega (arith, l, w)) in
-    c.requires.vacant i low (omega (arith, high, more, l, w)))
+    c.requires.may_have.vacant i low (omega (arith, high, more, l, w)))
 
-pub grow-requires-clause-made : goal.grow-requires-clause-made
-grow-requires-clause-made c =
+pub grow-requires-clause-may_make : goal.grow-requires-clause-may_make
+grow-requires-clause-may_make c =
     let w = c.wanted_of-wanted.ensures in
     let l = c.if-there-wanted.true in
     let more = more_wanted c.args.there c.args.segs c.args.part (omega (arith, l, w)) in
-    let a = c.requires.made in
-    let b = c.requires.enough in
-    let d = c.requires.short in
-    omega (arith, more, a, b, d)
-
-pub grow-requires-clause-room : goal.grow-requires-clause-room
-grow-requires-clause-room c =
-    let w = c.wanted_of-wanted.ensures in
-    let l = c.if-there-wanted.true in
-    let more = more_wanted c.args.there c.args.segs c.args.part (omega (arith, l, w)) in
-    let a = c.requires.room in
-    omega (arith, more, a)
+    make_fewer c.args.store.now c.args.regions.now c.args.pid (segments_of c.args.segs c.args.part - c.args.there) (segments_of (c.args.segs - c.args.there) c.args.part) c.requires.may_make (omega (arith, more))
 
 pub returns-then-there-wanted-clause-matches : goal.returns-then-there-wanted-clause-matches
 returns-then-there-wanted-clause-matches c =
     let w = c.wanted_of-wanted.ensures in
     let l = c.if-there-wanted.true in
     grown_matches c.args.store.now c.grow.new.store c.args.regions.now c.grow.new.regions c.args.pid c.args.run.first c.args.run.count c.args.there c.args.segs c.args.part c.flags_of-flags.result c.args.first.holds c.args.first
-    (omega (arith, l, w)) c.requires.held c.flags_of-flags.ensures refl c.grow.ensures.matches
+    (omega (arith, l, w)) c.requires.holds_run.held c.flags_of-flags.ensures refl c.grow.ensures.matches
 
 pub returns-then-there-wanted-clause-registers : goal.returns-then-there-wanted-clause-registers
 returns-then-there-wanted-clause-registers c =
@@ -59,10 +49,12 @@ returns-then-there-wanted-clause-limits c =
     let w = c.wanted_of-wanted.ensures in
     let l = c.if-there-wanted.true in
     let more = more_wanted c.args.there c.args.segs c.args.part (omega (arith, l, w)) in
-    let b = c.requires.enough in
-    let d = c.requires.short in
-    limits_grown c.args.store.now c.grow.new.store c.args.regions.now c.grow.new.regions (segments_of (c.args.segs - c.args.there) c.args.part) 4096 c.grow.ensures.grows (omega (arith, more, b, d))
-    (λ k some was. c.grow.ensures.few k (few_held c.args.regions.now c.args.pid c.args.run.first k c.args.first c.requires.held was) was) c.grow.ensures.shares
+    let b = c.requires.may_have.enough in
+    let d = c.requires.may_have.short in
+    let m = c.args.regions.now in
+    let h = c.args.first in
+    limits_grown c.args.store.now c.grow.new.store m c.grow.new.regions (segments_of (c.args.segs - c.args.there) c.args.part) h.holds 4096 c.grow.ensures.grows (omega (arith, more, b, d))
+    (λ k some was. c.grow.ensures.grows.few k (few_held m c.args.pid c.args.run.first k h c.requires.holds_run.held was) was) c.grow.ensures.shares
 
 pub returns-then-there-wanted-clause-holds : goal.returns-then-there-wanted-clause-holds
 returns-then-there-wanted-clause-holds c = inl c.grow.ensures.grows.holds
@@ -73,13 +65,18 @@ returns-then-there-wanted-clause-processes c = c.grow.ensures.grows.holds.proces
 pub returns-then-there-wanted-clause-kept : goal.returns-then-there-wanted-clause-kept
 returns-then-there-wanted-clause-kept c = λ k some here. c.grow.ensures.grows.kept k here
 
-pub cut-requires-clause-head : goal.cut-requires-clause-head
-cut-requires-clause-head c = c.requires.members c.args.run.first (omega arith) (let a = c.requires.some in omega (arith, a))
+pub cut-requires-clause-may_cut : goal.cut-requires-clause-may_cut
+cut-requires-clause-may_cut c = record {
+  process = c.requires.may_make.process;
+  behind = (let w = c.wanted_of-wanted.ensures in let some = c.requires.may_have.wanted in omega (arith, w, some));
+  head = (let some = c.requires.holds_run.some in c.requires.holds_run.all c.args.run.first (omega arith) (omega (arith, some)));
+  order = c.requires.may_make.order;
+}
 
 pub cut-requires-clause-members : goal.cut-requires-clause-members
 cut-requires-clause-members c = λ i low high.
     (let l = c.if-there-wanted.false in
-    c.requires.members i (omega (arith, low)) (omega (arith, high, l)))
+    c.requires.holds_run.all i (omega (arith, low)) (omega (arith, high, l)))
 
 pub returns-clause-matches : goal.returns-clause-matches
 returns-clause-matches c =
@@ -98,7 +95,7 @@ pub returns-clause-holds : goal.returns-clause-holds
 returns-clause-holds c =
     let w = c.wanted_of-wanted.ensures in
     let l = c.if-there-wanted.false in
-    cut_holds c.args.store.now c.args.regions.now c.cut.new.regions c.args.pid c.args.run.first c.args.run.count c.args.there c.args.segs c.args.part (omega (arith, l, w)) c.requires.members
+    cut_holds c.args.store.now c.args.regions.now c.cut.new.regions c.args.pid c.args.run.first c.args.run.count c.args.there c.args.segs c.args.part (omega (arith, l, w)) c.requires.holds_run.all
     (λ none. c.cut.ensures.none (omega (arith, none, w)))
 
 pub returns-clause-processes : goal.returns-clause-processes
@@ -108,10 +105,10 @@ pub returns-clause-kept : goal.returns-clause-kept
 returns-clause-kept c = λ k some here. subst (λ (o : Option (ℕ × ℕ)). IsSome o) (sym (c.cut.ensures.shrinks.places k some)) here
 
 pub grow-requires-clause-some : goal.grow-requires-clause-some
-grow-requires-clause-some c = c.law.ensures.counted c.args.pid c.args.run.first c.args.first c.requires.held
+grow-requires-clause-some c = c.law.ensures.counted c.args.pid c.args.run.first c.args.first c.requires.holds_run.held
 
 pub returns-then-there-wanted-clause-goes_on : goal.returns-then-there-wanted-clause-goes_on
-returns-then-there-wanted-clause-goes_on c = grown_order c.args.store.now c.grow.new.store c.args.regions.now c.grow.new.regions _ c.grow.ensures.grows c.grow.ensures.order
+returns-then-there-wanted-clause-goes_on c = c.grow.ensures.grows.goes_on
 
 pub returns-clause-goes_on : goal.returns-clause-goes_on
-returns-clause-goes_on c = shrunk_order c.args.store.now c.cut.new.store c.args.regions.now c.cut.new.regions c.cut.ensures.shrinks c.cut.ensures.order
+returns-clause-goes_on c = c.cut.ensures.shrinks.goes_on

@@ -1,15 +1,16 @@
-use Rattle.std.proofs.Common.{Bool, inl, inr, Some, ap, arith, cond, refl, subst, sym, ◌∙◌}
+use Rattle.std.proofs.Common.{◌-◌, Bool, List, inl, inr, Some, ap, cond, refl, subst, sym, ◌∙◌}
 use Rattle.std.proofs.lemmas.Bool.{cond-false}
-use Rattle.o2_regions.specs.Maps.{Maps}
-use Rattle.o2_stands.proofs.Moves.{held_same}
+use Rattle.o2_regions.specs.Maps.{Maps, held_at}
+use Rattle.o2_huge.specs.Growth.{sized_there}
 use Rattle.o2_huge.specs.Resized.{MatchesSized, changed_in, is_done, sized_last}
 use Rattle.std.specs.List.{list_any}
 use Rattle.o2_changes.proofs.KeepingHolds.{holds_trans, told_holds}
 use Rattle.o2_segs.specs.Limits.{KeepsLimitsBy}
 use Rattle.o2_segs.proofs.Limits.{limits_then}
-use Rattle.o2_world.specs.Changes.{takes}
+use Rattle.o2_world.specs.Changes.{Change, takes}
+use Rattle.o2_world.specs.HugeRulings.{segments_of}
 use Rattle.o2_huge.proofs.Changing.{changed_same, resized_matches, sized_last_is, stopped_matches, takes_behind}
-use Rattle.o2_huge.proofs.Shares.{vacant_still}
+use Rattle.o2_huge.proofs.Following.{may_have_still, may_make_still, run_held, stops_as}
 use Rattle.o2_huge.proofs.Sizing.{done_is, first_as, never_done, not_done}
 use Rattle.o2_store.proofs.Framing.{device_for}
 use Rattle.o2_changes.proofs.Framing.{for_then}
@@ -26,69 +27,11 @@ returns-in-Some-clause-matches g c =
 pub returns-in-Some-clause-registers : goal.returns-in-Some-clause-registers
 returns-in-Some-clause-registers g c = sym (cond-false (is_done c.in-Some.stop) _ c.args.cpu.now (not_done c.in-Some.stop c.in-Some.ensures.stop))
 
-pub returns-in-Some-clause-limits : goal.returns-in-Some-clause-limits
-returns-in-Some-clause-limits g c =
-    subst (λ (b : Bool). KeepsLimitsBy c.args.store.now c.args.regions.now c.resize_member.new.store c.resize_member.new.regions (cond b 4096 0) 0) (sym (not_done c.in-Some.stop c.in-Some.ensures.stop))
-    c.resize_member.ensures.limits
-
 pub returns-in-Some-clause-holds : goal.returns-in-Some-clause-holds
 returns-in-Some-clause-holds g c = inl (told_holds c.args.regions.now c.resize_member.new.regions c.resize_member.ensures.maps)
 
-pub returns-in-Some-clause-idle : goal.returns-in-Some-clause-idle
-returns-in-Some-clause-idle g c = λ none.
-    elim (c.resize_member.ensures.idle none) [
-      | inl i ↦ inl i
-      | inr more ↦ inr (first_as c.args.store.now _ _ _ (sized_last_is c.args.store.now c.args.regions.now c.args.pid c.args.run.first c.args.there c.args.segs c.args.part c.size_of_last-size.result c.last_of-last.result c.size_of_last-size.ensures c.last_of-last.ensures) more)
-    ]
-
-pub returns-in-Some-clause-processes : goal.returns-in-Some-clause-processes
-returns-in-Some-clause-processes g c = ap (λ (x : Maps). x.processes) c.resize_member.ensures.maps.rest
-
-pub returns-in-Some-clause-kept : goal.returns-in-Some-clause-kept
-returns-in-Some-clause-kept g c = λ k named some here. c.resize_member.ensures.kept k named here
-
-pub returns-in-Some-clause-no_room : goal.returns-in-Some-clause-no_room
-returns-in-Some-clause-no_room g c = λ e.
-    first_as c.args.store.now _ _ _ (sized_last_is c.args.store.now c.args.regions.now c.args.pid c.args.run.first c.args.there c.args.segs c.args.part c.size_of_last-size.result c.last_of-last.result c.size_of_last-size.ensures c.last_of-last.ensures)
-    (c.in-Some.ensures.no_room (ap Some e))
-
-pub returns-in-Some-clause-all_load : goal.returns-in-Some-clause-all_load
-returns-in-Some-clause-all_load g c = λ e.
-    first_as c.args.store.now _ _ _ (sized_last_is c.args.store.now c.args.regions.now c.args.pid c.args.run.first c.args.there c.args.segs c.args.part c.size_of_last-size.result c.last_of-last.result c.size_of_last-size.ensures c.last_of-last.ensures)
-    (c.in-Some.ensures.all_load (ap Some e))
-
 pub returns-in-Some-clause-load : goal.returns-in-Some-clause-load
 returns-in-Some-clause-load g c = λ e. c.in-Some.ensures.load (ap Some e)
-
-pub change_members-requires-clause-process : goal.change_members-requires-clause-process
-change_members-requires-clause-process g c = (c.requires.process.0, (let a = c.requires.process.1 in let e = ap (λ (x : Maps). x.processes) c.resize_member.ensures.maps.rest in omega (arith, a, e)))
-
-pub change_members-requires-clause-held : goal.change_members-requires-clause-held
-change_members-requires-clause-held g c = held_same c.args.regions.now c.resize_member.new.regions c.args.pid c.args.run.first (ap (λ (x : Maps). x.held) c.resize_member.ensures.maps.rest) ∙ c.requires.held
-
-pub change_members-requires-clause-members : goal.change_members-requires-clause-members
-change_members-requires-clause-members g c = λ i low high.
-    (let x = c.requires.members i low high in
-    record {
-      held = x.held;
-      there = held_same c.args.regions.now c.resize_member.new.regions c.args.pid i (ap (λ (y : Maps). y.held) c.resize_member.ensures.maps.rest) ∙ x.there;
-      run = x.run;
-    })
-
-pub change_members-requires-clause-vacant : goal.change_members-requires-clause-vacant
-change_members-requires-clause-vacant g c = λ i low high.
-    vacant_still c.args.regions.now c.resize_member.new.regions c.args.pid i (ap (λ (y : Maps). y.reserved) c.resize_member.ensures.maps.rest)
-    (λ q. held_same c.args.regions.now c.resize_member.new.regions q i (ap (λ (y : Maps). y.held) c.resize_member.ensures.maps.rest)) (c.requires.vacant i low high)
-
-pub change_members-requires-clause-made : goal.change_members-requires-clause-made
-change_members-requires-clause-made g c = let a = c.requires.made in let b = c.resize_member.ensures.rest.made in omega (arith, a, b)
-
-pub change_members-requires-clause-room : goal.change_members-requires-clause-room
-change_members-requires-clause-room g c =
-    let a = c.requires.room in
-    let b = c.resize_member.ensures.rest.live in
-    let d = c.resize_member.ensures.rest.most in
-    omega (arith, a, b, d)
 
 pub returns-in-None-clause-done : goal.returns-in-None-clause-done
 returns-in-None-clause-done g c = λ a e. done_is c.done.result a e ∙ c.done.ensures
@@ -99,14 +42,6 @@ returns-in-None-clause-matches g c =
     c.resize_member.ensures.rest c.resize_member.ensures.maps
     (subst (MatchesSized _ _ _ _ _ _ _ _) (sized_last_is c.args.store.now c.args.regions.now c.args.pid c.args.run.first c.args.there c.args.segs c.args.part c.size_of_last-size.result c.last_of-last.result c.size_of_last-size.ensures c.last_of-last.ensures)
     (c.in-None.ensures.matches refl)) c.change_members.ensures.matches
-
-pub returns-in-None-clause-limits : goal.returns-in-None-clause-limits
-returns-in-None-clause-limits g c =
-    let s = c.args.store.now in
-    let u = c.change_members.new.store in
-    let m = c.args.regions.now in
-    let o = c.change_members.new.regions in
-    limits_then s c.resize_member.new.store u m c.resize_member.new.regions o 0 4096 c.resize_member.ensures.limits c.change_members.ensures.limits
 
 pub returns-in-None-clause-holds : goal.returns-in-None-clause-holds
 returns-in-None-clause-holds g c =
@@ -121,27 +56,84 @@ returns-in-None-clause-holds g c =
       | inr some ↦ inr (takes_behind (sized_last s m c.args.pid c.args.run.first c.args.there c.args.segs c.args.part) (changed_in s m c.args.pid c.args.run.first c.args.run.count c.args.there c.args.segs c.args.part) (ap (list_any takes) (sym same) ∙ some))
     ]
 
-pub returns-in-None-clause-idle : goal.returns-in-None-clause-idle
-returns-in-None-clause-idle g c = λ none.
-    elim (c.resize_member.ensures.idle none) [
-      | inl i ↦ inl (record { device = i.device; none = c.change_members.ensures.goes_on.unused i.none })
-      | inr more ↦ inr (first_as c.args.store.now _ _ _ (sized_last_is c.args.store.now c.args.regions.now c.args.pid c.args.run.first c.args.there c.args.segs c.args.part c.size_of_last-size.result c.last_of-last.result c.size_of_last-size.ensures c.last_of-last.ensures) more)
-    ]
-
-pub returns-in-None-clause-processes : goal.returns-in-None-clause-processes
-returns-in-None-clause-processes g c = c.change_members.ensures.processes ∙ ap (λ (x : Maps). x.processes) c.resize_member.ensures.maps.rest
-
-pub returns-in-None-clause-kept : goal.returns-in-None-clause-kept
-returns-in-None-clause-kept g c = λ k named some here. c.change_members.ensures.kept k some (c.resize_member.ensures.kept k named here)
-
-pub change_members-requires-clause-order : goal.change_members-requires-clause-order
-change_members-requires-clause-order g c = c.resize_member.ensures.goes_on.order
-
-pub returns-in-None-clause-goes_on : goal.returns-in-None-clause-goes_on
-returns-in-None-clause-goes_on g c = for_then c.args.images.now c.args.store.now c.resize_member.new.store c.change_members.new.store c.args.regions.now c.resize_member.new.regions c.change_members.new.regions c.resize_member.ensures.goes_on c.change_members.ensures.goes_on
-
 pub returns-in-Some-clause-device : goal.returns-in-Some-clause-device
 returns-in-Some-clause-device g c = device_for _ _ _ _ _ _ _ (λ e. ap Some e) c.in-Some.ensures.device
 
 pub returns-in-None-clause-device : goal.returns-in-None-clause-device
 returns-in-None-clause-device g c = device_for _ _ _ _ _ _ _ (λ e. absurd (cc)) c.resize_member.ensures.device
+
+pub returns-in-Some-clause-sizes : goal.returns-in-Some-clause-sizes
+returns-in-Some-clause-sizes g c =
+    let m = c.args.regions.now in
+    let n = c.resize_member.new.regions in
+    let limits = c.resize_member.ensures.limits in
+    record {
+      limits = subst (λ (b : Bool). KeepsLimitsBy c.args.store.now m c.resize_member.new.store n (cond b 4096 0) 0) (sym (not_done c.in-Some.stop c.in-Some.ensures.stop)) limits;
+      processes = ap (λ (x : Maps). x.processes) c.resize_member.ensures.maps.rest;
+      kept = λ k named some here. c.resize_member.ensures.kept k named here;
+      goes_on = c.resize_member.ensures.goes_on;
+    }
+
+pub returns-in-None-clause-sizes : goal.returns-in-None-clause-sizes
+returns-in-None-clause-sizes g c =
+    let s = c.args.store.now in
+    let t = c.resize_member.new.store in
+    let u = c.change_members.new.store in
+    let m = c.args.regions.now in
+    let n = c.resize_member.new.regions in
+    let o = c.change_members.new.regions in
+    record {
+      limits = limits_then s t u m n o 0 4096 c.resize_member.ensures.limits c.change_members.ensures.limits;
+      processes = c.change_members.ensures.processes ∙ ap (λ (x : Maps). x.processes) c.resize_member.ensures.maps.rest;
+      kept = λ k named some here. c.change_members.ensures.kept k some (c.resize_member.ensures.kept k named here);
+      goes_on = for_then c.args.images.now s t u m n o c.resize_member.ensures.goes_on c.change_members.ensures.goes_on;
+    }
+
+pub returns-in-Some-clause-stops : goal.returns-in-Some-clause-stops
+returns-in-Some-clause-stops g c =
+    let s = c.args.store.now in
+    let m = c.args.regions.now in
+    let pid = c.args.pid in
+    let last = c.last_of-last.result in
+    let size = c.size_of_last-size.result in
+    let there : List Change = sized_there s size (held_at m pid last) in
+    let sized : List Change = sized_last s m pid c.args.run.first c.args.there c.args.segs c.args.part in
+    let same = sized_last_is s m pid c.args.run.first c.args.there c.args.segs c.args.part size last c.size_of_last-size.ensures c.last_of-last.ensures in
+    stops_as s c.args.keep.now there sized _ _ _ _ _ _ (λ says x. first_as s there sized says same x) (λ e. ap Some e) (λ e. ap Some e) (λ i. i) c.in-Some.ensures.stops
+
+pub returns-in-None-clause-stops : goal.returns-in-None-clause-stops
+returns-in-None-clause-stops g c =
+    let s = c.args.store.now in
+    let m = c.args.regions.now in
+    let pid = c.args.pid in
+    let last = c.last_of-last.result in
+    let size = c.size_of_last-size.result in
+    let there : List Change = sized_there s size (held_at m pid last) in
+    let sized : List Change = sized_last s m pid c.args.run.first c.args.there c.args.segs c.args.part in
+    let same = sized_last_is s m pid c.args.run.first c.args.there c.args.segs c.args.part size last c.size_of_last-size.ensures c.last_of-last.ensures in
+    record {
+      no_room = λ e. absurd (cc);
+      all_load = λ e. absurd (cc);
+      idle = λ none. elim (c.resize_member.ensures.stops.idle none) [
+        | inl i ↦ inl (record { device = i.device; none = c.change_members.ensures.goes_on.unused i.none })
+        | inr more ↦ inr (first_as s there sized _ same more)
+      ];
+    }
+
+pub change_members-requires-clause-holds_run : goal.change_members-requires-clause-holds_run
+change_members-requires-clause-holds_run g c =
+    run_held c.args.regions.now c.resize_member.new.regions c.args.pid c.args.run.first c.args.run.count c.args.there c.args.first (ap (λ (x : Maps). x.held) c.resize_member.ensures.maps.rest) c.requires.holds_run
+
+pub change_members-requires-clause-may_have : goal.change_members-requires-clause-may_have
+change_members-requires-clause-may_have g c =
+    let m = c.args.regions.now in
+    let n = c.resize_member.new.regions in
+    let rest = c.resize_member.ensures.maps.rest in
+    may_have_still m n c.args.pid c.args.run.first c.args.run.count c.args.there (segments_of c.args.segs c.args.part) (ap (λ (x : Maps). x.reserved) rest) (ap (λ (x : Maps). x.held) rest) c.requires.may_have
+
+pub change_members-requires-clause-may_make : goal.change_members-requires-clause-may_make
+change_members-requires-clause-may_make g c =
+    let m = c.args.regions.now in
+    let n = c.resize_member.new.regions in
+    let member = c.resize_member.ensures in
+    may_make_still c.args.store.now c.resize_member.new.store m n c.args.pid (segments_of c.args.segs c.args.part - c.args.there) member.rest (ap (λ (x : Maps). x.processes) member.maps.rest) member.goes_on.order c.requires.may_make
