@@ -460,7 +460,8 @@ module _ (cause : List ℕ) (p : Parts) (o : Others) (pid : ℕ) (runs : AreRuns
               sym (after q (s / 8))
               ∙ (all_apart (s / 8) w (size_change ++ comes_in (segments_of segs part - number))
               (apart_append (s / 8) size_change (comes_in (segments_of segs part - number)) (sized_apart (s / 8) p.shelf _ _)
-              (members_apart (s / 8) p.shelf.made (s / 8) (run_count (s / 8) h) (flags_there p.shelf (held_at m pid (s / 8))) ((pid, holds_of (held_at m pid (s / 8))) ∷ shares_in m pid (s / 8)) (s / 8 + number) (segments_of segs part - number) (sizes_of (segs - number) part) (let b = some in omega (arith, b)))) q
+              (members_apart (s / 8) p.shelf.made (s / 8) (run_count (s / 8) h) (flags_there p.shelf (held_at m pid (s / 8))) ((pid, holds_of (held_at m pid (s / 8))) ∷ shares_in m pid (s / 8))
+              (s / 8 + number) (segments_of segs part - number) (sizes_of (segs - number) part) (let b = some in omega (arith, b)))) q
               ∙ before q (s / 8))
 
       -- fewer members

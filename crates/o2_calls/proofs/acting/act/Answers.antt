@@ -174,22 +174,54 @@ pub returns-in-Alias-clause-processes : goal.returns-in-Alias-clause-processes
 returns-in-Alias-clause-processes g c = c.create_cs_alias.ensures.holds.processes
 
 pub returns-in-Realloc-clause-limits : goal.returns-in-Realloc-clause-limits
-returns-in-Realloc-clause-limits g c = limits_by_made c.args.store.now c.realloc_seg.new.store c.args.regions.now c.realloc_seg.new.regions c.realloc_seg.result (limits_in c.args.store.now c.realloc_seg.new.store c.args.regions.now c.realloc_seg.new.regions c.realloc_seg.result c.realloc_seg.ensures.limits)
+returns-in-Realloc-clause-limits g c =
+    let s = c.args.store.now in
+    let t = c.realloc_seg.new.store in
+    let m = c.args.regions.now in
+    let n = c.realloc_seg.new.regions in
+    let r = c.realloc_seg.result in
+    limits_by_made s t m n r (limits_in s t m n r c.realloc_seg.ensures.limits)
 
 pub returns-in-Free-clause-limits : goal.returns-in-Free-clause-limits
-returns-in-Free-clause-limits g c = limits_by_made c.args.store.now c.free_seg.new.store c.args.regions.now c.free_seg.new.regions (Done c.free_seg.result) (limits_more c.args.store.now c.free_seg.new.store c.args.regions.now c.free_seg.new.regions 0 1 c.free_seg.ensures.limits)
+returns-in-Free-clause-limits g c =
+    let s = c.args.store.now in
+    let t = c.free_seg.new.store in
+    let m = c.args.regions.now in
+    let n = c.free_seg.new.regions in
+    limits_by_made s t m n (Done c.free_seg.result) (limits_more s t m n 0 1 c.free_seg.ensures.limits)
 
 pub returns-in-Size-clause-limits : goal.returns-in-Size-clause-limits
-returns-in-Size-clause-limits g c = limits_by_made c.args.store.now c.size_seg.new.store c.args.regions.now c.size_seg.new.regions (Done c.size_seg.result) (limits_more c.args.store.now c.size_seg.new.store c.args.regions.now c.size_seg.new.regions 0 1 (limits_same c.args.store.now c.size_seg.new.store c.args.regions.now c.size_seg.new.regions c.size_seg.ensures.store c.size_seg.ensures.regions))
+returns-in-Size-clause-limits g c =
+    let s = c.args.store.now in
+    let t = c.size_seg.new.store in
+    let m = c.args.regions.now in
+    let n = c.size_seg.new.regions in
+    limits_by_made s t m n (Done c.size_seg.result) (limits_more s t m n 0 1 (limits_same s t m n c.size_seg.ensures.store c.size_seg.ensures.regions))
 
 pub returns-in-Lock-clause-limits : goal.returns-in-Lock-clause-limits
-returns-in-Lock-clause-limits g c = limits_by_made c.args.store.now c.lock_seg.new.store c.args.regions.now c.lock_seg.new.regions c.lock_seg.result (limits_in c.args.store.now c.lock_seg.new.store c.args.regions.now c.lock_seg.new.regions c.lock_seg.result c.lock_seg.ensures.limits)
+returns-in-Lock-clause-limits g c =
+    let s = c.args.store.now in
+    let t = c.lock_seg.new.store in
+    let m = c.args.regions.now in
+    let n = c.lock_seg.new.regions in
+    let r = c.lock_seg.result in
+    limits_by_made s t m n r (limits_in s t m n r c.lock_seg.ensures.limits)
 
 pub returns-in-Unlock-clause-limits : goal.returns-in-Unlock-clause-limits
-returns-in-Unlock-clause-limits g c = limits_by_made c.args.store.now c.unlock_seg.new.store c.args.regions.now c.unlock_seg.new.regions (Done c.unlock_seg.result) (limits_more c.args.store.now c.unlock_seg.new.store c.args.regions.now c.unlock_seg.new.regions 0 1 c.unlock_seg.ensures.limits)
+returns-in-Unlock-clause-limits g c =
+    let s = c.args.store.now in
+    let t = c.unlock_seg.new.store in
+    let m = c.args.regions.now in
+    let n = c.unlock_seg.new.regions in
+    limits_by_made s t m n (Done c.unlock_seg.result) (limits_more s t m n 0 1 c.unlock_seg.ensures.limits)
 
 pub returns-in-Alias-clause-limits : goal.returns-in-Alias-clause-limits
-returns-in-Alias-clause-limits g c = limits_by_made c.args.store.now c.create_cs_alias.new.store c.args.regions.now c.create_cs_alias.new.regions (Done c.create_cs_alias.result) (limits_more c.args.store.now c.create_cs_alias.new.store c.args.regions.now c.create_cs_alias.new.regions 0 1 c.create_cs_alias.ensures.limits)
+returns-in-Alias-clause-limits g c =
+    let s = c.args.store.now in
+    let t = c.create_cs_alias.new.store in
+    let m = c.args.regions.now in
+    let n = c.create_cs_alias.new.regions in
+    limits_by_made s t m n (Done c.create_cs_alias.result) (limits_more s t m n 0 1 c.create_cs_alias.ensures.limits)
 
 pub returns-in-Size-clause-entries : goal.returns-in-Size-clause-entries
 returns-in-Size-clause-entries g c =
@@ -224,7 +256,13 @@ pub returns-in-Free-clause-spells : goal.returns-in-Free-clause-spells
 returns-in-Free-clause-spells g c = λ p s w over spells. subst (λ (a : SegmentArguments). LeavesSpelled a c.free_seg.new.store c.args.names.now c.args.names.now (with_all w (ruling_of a (known_of s w) c.args.pid c.args.cpu.now).changes)) (sym c.in-Free.is) refl
 
 pub returns-in-Size-clause-places : goal.returns-in-Size-clause-places
-returns-in-Size-clause-places g c = (let k = (limits_same c.args.store.now c.size_seg.new.store c.args.regions.now c.size_seg.new.regions c.size_seg.ensures.store c.size_seg.ensures.regions) in stay_in_place c.args.store.now c.size_seg.new.store c.args.regions.now c.size_seg.new.regions c.args.names.now c.requires.places k.shares k.grows)
+returns-in-Size-clause-places g c =
+    let s = c.args.store.now in
+    let t = c.size_seg.new.store in
+    let m = c.args.regions.now in
+    let n = c.size_seg.new.regions in
+    let k = limits_same s t m n c.size_seg.ensures.store c.size_seg.ensures.regions in
+    stay_in_place s t m n c.args.names.now c.requires.places k.shares k.grows
 
 pub returns-in-Size-clause-spells : goal.returns-in-Size-clause-spells
 returns-in-Size-clause-spells g c = λ p s w over spells. subst (λ (a : SegmentArguments). LeavesSpelled a c.size_seg.new.store c.args.names.now c.args.names.now (with_all w (ruling_of a (known_of s w) c.args.pid c.args.cpu.now).changes)) (sym c.in-Size.is) refl
@@ -523,7 +561,13 @@ pub returns-in-Shared-clause-goes_on : goal.returns-in-Shared-clause-goes_on
 returns-in-Shared-clause-goes_on g c = for_order c.args.images.now c.args.store.now c.share.new.store c.args.regions.now c.share.new.regions c.share.ensures.goes_on c.requires.backed.clean
 
 pub returns-in-Size-clause-goes_on : goal.returns-in-Size-clause-goes_on
-returns-in-Size-clause-goes_on g c = for_order c.args.images.now c.args.store.now c.size_seg.new.store c.args.regions.now c.size_seg.new.regions (order_as c.args.store.now c.args.store.now c.size_seg.new.store c.args.regions.now c.size_seg.new.regions c.size_seg.ensures.store (maps_as c.args.store.now c.args.store.now c.args.regions.now c.args.regions.now c.size_seg.new.regions c.size_seg.ensures.regions (order_refl c.args.store.now c.args.regions.now c.requires.caller.order))) c.requires.backed.clean
+returns-in-Size-clause-goes_on g c =
+    let s = c.args.store.now in
+    let t = c.size_seg.new.store in
+    let m = c.args.regions.now in
+    let n = c.size_seg.new.regions in
+    let same = order_as s s t m n c.size_seg.ensures.store (maps_as s s m m n c.size_seg.ensures.regions (order_refl s m c.requires.caller.order)) in
+    for_order c.args.images.now s t m n same c.requires.backed.clean
 
 pub returns-in-Free-clause-device : goal.returns-in-Free-clause-device
 returns-in-Free-clause-device g c = device_refl _ _ _ _ _ (λ e. absurd (cc))
