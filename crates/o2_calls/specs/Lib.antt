@@ -5,3 +5,4 @@ pub mod Seen
 pub mod SharedActs
 pub mod HugeActs
 pub mod Noted
+pub mod RunRows

@@ -10,7 +10,7 @@ ghost use Rattle.o2_calls.specs.Noted.{blocks_of, came, counted_by, counted_ther
 use o2_base::Selector;
 use o2_gate::{Block, HugeArguments, Moves, SegmentArguments, SharedArguments};
 use o2_huge::{is_of_run, segments_of};
-use o2_regions::{Answer, Held, Regions, Roomed};
+use o2_regions::{Answer, Held, Regions};
 
 /// The first index that all processes share, and how many indexes a table has.
 const SHARED: u16 = 4096;

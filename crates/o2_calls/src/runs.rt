@@ -1,5 +1,5 @@
 // A call on a huge allocation over a store and the tables of what processes hold.
-ghost use Rattle.std.specs.Prelude.{◌≡◌, ◌⊎◌, ℕ, ◌<◌, ◌≤◌, ◌+◌, ◌^◌, IsSome, IsTrue, Some, length, true};
+ghost use Rattle.std.specs.Prelude.{◌≡◌, ◌⊎◌, ℕ, ◌<◌, ◌+◌, ◌^◌, IsSome, length, true};
 ghost use Rattle.o2_entries.specs.Tables.{slot_at};
 ghost use Rattle.o2_store.specs.Needs.{named_in};
 ghost use Rattle.o2_store.specs.Shelf.{place_of};
@@ -7,22 +7,16 @@ ghost use Rattle.o2_swapmap.specs.Piles.{all_of};
 ghost use Rattle.o2_store.specs.Frames.{IsBacked, KeepsDevice};
 ghost use Rattle.o2_changes.specs.Frames.{KeepsOrderFor};
 ghost use Rattle.o2_segs.specs.Callers.{IsCaller};
-ghost use Rattle.o2_stands.specs.Moves.{moved};
 ghost use Rattle.o2_stands.specs.Parts.{Parts};
-ghost use Rattle.o2_stands.specs.Stands.{Matches};
-ghost use Rattle.o2_world.specs.Changes.{with_all};
-ghost use Rattle.o2_world.specs.Holders.{process_at};
-ghost use Rattle.o2_world.specs.Known.{known_of};
-ghost use Rattle.o2_world.specs.World.{Process, Setting, World};
-ghost use Rattle.o2_segs.specs.Answers.{AnswersRoomed, changes_roomed};
+ghost use Rattle.o2_world.specs.World.{Setting, World};
 ghost use Rattle.o2_segs.specs.Limits.{KeepsLimitsBy, made_in};
 ghost use Rattle.o2_segs.specs.Made.{IsStop};
 ghost use Rattle.o2_store.specs.Idle.{IsIdle, NoneTaken};
 ghost use Rattle.o2_store.specs.Loads.{swap_load};
-ghost use Rattle.o2_gate.specs.declared.gathering.SegmentArguments.TheVariants.{Huge};
 ghost use Rattle.o2_calls.specs.Acts.{IsOver, most_made};
-ghost use Rattle.o2_calls.specs.HugeActs.{MaySize, huge_behind, huge_ruling};
-ghost use Rattle.o2_calls.specs.Stops.{IsRunGivable, LacksRun, LacksRunMemory, LeavesRun, LeavesRunEntries, LeavesRunHolds};
+ghost use Rattle.o2_calls.specs.HugeActs.{MaySize};
+ghost use Rattle.o2_calls.specs.RunRows.{IsRunRow};
+ghost use Rattle.o2_calls.specs.Stops.{IsRunGivable, LeavesRun, LeavesRunEntries};
 
 use o2_gate::HugeArguments;
 use o2_huge::{alloc_huge, huge_shift, realloc_huge};
@@ -54,34 +48,10 @@ pub fn act_on_run<S: SwapDevice>(
     ensures row { (p : Parts) (s : Setting) (w : World)
         → IsOver store.old regions.old images.now (S.block swap.old) p s w
         → length w.processes ≡ regions.old.processes
-        → AnswersRoomed (huge_ruling arguments.now (known_of s w) pid cpu.old) result }
-    ensures registers { (p : Parts) (s : Setting) (w : World)
-        → IsOver store.old regions.old images.now (S.block swap.old) p s w
-        → length w.processes ≡ regions.old.processes
-        → cpu.new ≡ huge_behind arguments.now (known_of s w) pid cpu.old result }
-    ensures matches { (p : Parts) (s : Setting) (w : World) (x : Process)
-        → IsOver store.old regions.old images.now (S.block swap.old) p s w
-        → length w.processes ≡ regions.old.processes → IsTrue (S.told swap.new)
-        → process_at w.processes pid ≡ Some x
-        → Matches (moved p store.new regions.new (S.block swap.new))
-        (with_all w (changes_roomed (huge_ruling arguments.now (known_of s w) pid cpu.old) result)) }
+        → IsRunRow arguments.now p s w pid store.old store.new regions.old regions.new keep.now
+        (S.told swap.new) (S.block swap.new) cpu.old cpu.new result (IsIdle store.new swap.old swap.new) }
     ensures stops { IsStop result → MaySize arguments.now }
     ensures value { IsRunGivable arguments.now result }
-
-    // What it leaves of holds, why it stops, and when the device is touched, by the world.
-    ensures run_holds { (p : Parts) (s : Setting) (w : World)
-        → IsOver store.old regions.old images.now (S.block swap.old) p s w
-        → length w.processes ≡ regions.old.processes
-        → LeavesRunHolds (Huge arguments.now) regions.old regions.new (known_of s w) pid cpu.old }
-    ensures run_lacks { (p : Parts) (s : Setting) (w : World)
-        → IsOver store.old regions.old images.now (S.block swap.old) p s w
-        → length w.processes ≡ regions.old.processes
-        → LacksRun (Huge arguments.now) store.old (known_of s w) pid cpu.old keep.now result }
-    ensures run_short { (p : Parts) (s : Setting) (w : World)
-        → IsOver store.old regions.old images.now (S.block swap.old) p s w
-        → length w.processes ≡ regions.old.processes
-        → NoneTaken store.old.swap → IsIdle store.new swap.old swap.new
-        ⊎ LacksRunMemory (Huge arguments.now) store.old (known_of s w) pid cpu.old }
     ensures load { result ≡ Roomed.SwapFull → all_of store.old.swap < swap_load store.old }
     ensures idle { NoneTaken store.old.swap → IsIdle store.new swap.old swap.new ⊎ MaySize arguments.now }
 

@@ -355,17 +355,17 @@ returns-in-Shared-clause-idle g c = λ none. inl (record { device = refl; none =
 pub returns-in-Huge-clause-row : goal.returns-in-Huge-clause-row
 returns-in-Huge-clause-row g c = λ p s w over spells.
     subst (λ (a : SegmentArguments). AnswersRoomed (ruling_of a (known_of s w) c.args.pid c.args.cpu.now) c.act_on_run.result) (sym c.in-Huge.is)
-    (c.act_on_run.ensures.row p s w over spells.processes)
+    (c.act_on_run.ensures.row p s w over spells.processes).answer
 
 pub returns-in-Huge-clause-registers : goal.returns-in-Huge-clause-registers
 returns-in-Huge-clause-registers g c = λ p s w over spells.
     subst (λ (a : SegmentArguments). c.act_on_run.new.cpu ≡ cpu_behind a (known_of s w) c.args.pid c.args.cpu.now c.act_on_run.result) (sym c.in-Huge.is)
-    (run_registers c.in-Huge.huge (known_of s w) c.args.pid c.args.cpu.now c.act_on_run.new.cpu c.act_on_run.result (c.act_on_run.ensures.registers p s w over spells.processes))
+    (run_registers c.in-Huge.huge (known_of s w) c.args.pid c.args.cpu.now c.act_on_run.new.cpu c.act_on_run.result (c.act_on_run.ensures.row p s w over spells.processes).registers)
 
 pub returns-in-Huge-clause-matches : goal.returns-in-Huge-clause-matches
 returns-in-Huge-clause-matches g c = λ p s w x over spells told at tied.
     subst (λ (a : SegmentArguments). Matches (moved p c.act_on_run.new.store c.act_on_run.new.regions (g.S.SwapDevice.block c.act_on_run.new.swap)) (with_all w (changes_roomed (ruling_of a (known_of s w) c.args.pid c.args.cpu.now) c.act_on_run.result))) (sym c.in-Huge.is)
-    (c.act_on_run.ensures.matches p s w x over spells.processes told at)
+    ((c.act_on_run.ensures.row p s w over spells.processes).world x told at)
 
 pub returns-in-Huge-clause-spells : goal.returns-in-Huge-clause-spells
 returns-in-Huge-clause-spells g c = λ p s w over spells. subst (λ (a : SegmentArguments). LeavesSpelled a c.act_on_run.new.store c.args.names.now c.args.names.now (with_all w (ruling_of a (known_of s w) c.args.pid c.args.cpu.now).changes)) (sym c.in-Huge.is)
@@ -407,17 +407,17 @@ returns-in-Huge-clause-idle g c = λ none.
 pub returns-in-Huge-clause-run_holds : goal.returns-in-Huge-clause-run_holds
 returns-in-Huge-clause-run_holds g c = λ p s w over spells.
     subst (λ (a : SegmentArguments). LeavesRunHolds a c.args.regions.now c.act_on_run.new.regions (known_of s w) c.args.pid c.args.cpu.now) (sym c.in-Huge.is)
-    (c.act_on_run.ensures.run_holds p s w over spells.processes)
+    (c.act_on_run.ensures.row p s w over spells.processes).holds
 
 pub returns-in-Huge-clause-run_lacks : goal.returns-in-Huge-clause-run_lacks
 returns-in-Huge-clause-run_lacks g c = λ p s w over spells.
     subst (λ (a : SegmentArguments). LacksRun a c.args.store.now (known_of s w) c.args.pid c.args.cpu.now c.args.keep.now c.act_on_run.result) (sym c.in-Huge.is)
-    (c.act_on_run.ensures.run_lacks p s w over spells.processes)
+    (c.act_on_run.ensures.row p s w over spells.processes).lacks
 
 pub returns-in-Huge-clause-run_short : goal.returns-in-Huge-clause-run_short
 returns-in-Huge-clause-run_short g c = λ p s w over spells none.
     subst (λ (a : SegmentArguments). IsIdle c.act_on_run.new.store c.args.swap.now c.act_on_run.new.swap ⊎ LacksRunMemory a c.args.store.now (known_of s w) c.args.pid c.args.cpu.now) (sym c.in-Huge.is)
-    (c.act_on_run.ensures.run_short p s w over spells.processes none)
+    ((c.act_on_run.ensures.row p s w over spells.processes).short none)
 
 pub returns-in-Alloc-clause-run_holds : goal.returns-in-Alloc-clause-run_holds
 returns-in-Alloc-clause-run_holds g c = λ p s w over spells. subst (λ (a : SegmentArguments). LeavesRunHolds a c.args.regions.now c.alloc_seg.new.regions (known_of s w) c.args.pid c.args.cpu.now) (sym c.in-Alloc.is)

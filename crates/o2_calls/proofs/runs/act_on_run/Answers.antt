@@ -18,11 +18,11 @@ use Rattle.o2_world.specs.Changes.{takes, with_all}
 use Rattle.o2_world.specs.HugeRulings.{huge_allocation}
 use Rattle.o2_world.specs.Known.{known_of}
 use Rattle.o2_world.specs.Rulings.{Ruling}
-use Rattle.o2_segs.specs.Answers.{AnswersRoomed, changes_roomed}
 use Rattle.o2_segs.proofs.Limits.{entries_same, limits_more, limits_same}
 use Rattle.o2_huge.specs.Frames.{StopsFor}
-use Rattle.o2_calls.specs.HugeActs.{MaySize, huge_behind, huge_ruling}
-use Rattle.o2_calls.specs.Stops.{IsRunGivable, LacksRun, LacksRunMemory, LeavesRun, LeavesRunEntries, LeavesRunHolds}
+use Rattle.o2_calls.specs.HugeActs.{MaySize}
+use Rattle.o2_calls.specs.RunRows.{IsRunRow}
+use Rattle.o2_calls.specs.Stops.{IsRunGivable, LeavesRun, LeavesRunEntries}
 use Rattle.o2_calls.proofs.Overs.{behind_by, nothing, row_by, store_only, unmoved}
 use Rattle.o2_calls.proofs.RunActs.{huge_over, known_over, lacks_sized, limits_sized, lose_over, sized_registers}
 use Rattle.o2_calls.proofs.SharedOver.{limits_by_made}
@@ -33,78 +33,85 @@ use Rattle.o2_calls.proofs.runs.act_on_run.Goals as goal
 pub returns-in-Alloc-clause-row : goal.returns-in-Alloc-clause-row
 returns-in-Alloc-clause-row g c = λ p s w over total.
     (let a = c.in-Alloc in
+    let b = Alloc a.segs a.part 0 0 a.most a.flags in
     let r = Done c.alloc_huge.result in
-    subst (λ (x : HugeArguments). AnswersRoomed (huge_ruling x (known_of s w) c.args.pid c.args.cpu.now) r) (sym a.is)
-    (row_by _ _ _ _ p s w over c.args.pid c.requires.caller.process (Huge (Alloc a.segs a.part 0 0 a.most a.flags)) c.args.cpu.now r (c.alloc_huge.ensures.answer p (others_of s w) over.store over.regions)))
+    let cpu = c.args.cpu.now in
+    let keep = c.args.keep.now in
+    let swap = c.args.swap.now in
+    let old = c.args.store.now in
+    let t = c.alloc_huge.new.store in
+    let m = c.args.regions.now in
+    let n = c.alloc_huge.new.regions in
+    let pid = c.args.pid in
+    let process = c.requires.caller.process in
+    let o = others_of s w in
+    let made = with_all w (huge_allocation (known_in p o) pid a.segs a.part a.most a.flags).changes in
+    let block = g.S.SwapDevice.block swap in
+    let told = g.S.SwapDevice.told swap in
+    let matches = matched_by p w.processes w.names w.next_name w.reserved over.stands in
+    subst (λ (x : HugeArguments). IsRunRow x p s w pid old t m n keep told block cpu cpu r (IsIdle t swap swap)) (sym a.is) (record {
+      answer = row_by _ _ _ _ p s w over pid process (Huge b) cpu r (c.alloc_huge.ensures.answer p o over.store over.regions);
+      registers = refl;
+      world = λ x told at.
+          behind_by _ _ _ _ p s w over pid process (Huge b) cpu r (moved p t n block) (unmoved _ _ _ _ p s w over pid process t n made (c.alloc_huge.ensures.matches p o w x over.store over.regions at matches));
+      holds = tt;
+      lacks = tt;
+      short = λ none. inl (record { device = refl; none = c.alloc_huge.ensures.goes_on.unused none });
+    }))
 
 pub returns-in-Realloc-clause-row : goal.returns-in-Realloc-clause-row
 returns-in-Realloc-clause-row g c = λ p s w over total.
     (let a = c.in-Realloc in
+    let b = Realloc a.segs a.part a.selector in
     let r = c.realloc_huge.result in
-    let row = c.realloc_huge.ensures.row p (others_of s w) (known_over _ _ _ _ p s w over total) in
-    subst (λ (x : HugeArguments). AnswersRoomed (huge_ruling x (known_of s w) c.args.pid c.args.cpu.now) r) (sym a.is)
-    (row_by _ _ _ _ p s w over c.args.pid c.requires.caller.process (Huge (Realloc a.segs a.part a.selector)) c.args.cpu.now r row.answer))
+    let cpu = c.args.cpu.now in
+    let keep = c.args.keep.now in
+    let old = c.args.store.now in
+    let t = c.realloc_huge.new.store in
+    let m = c.args.regions.now in
+    let n = c.realloc_huge.new.regions in
+    let pid = c.args.pid in
+    let process = c.requires.caller.process in
+    let idle = IsIdle t c.args.swap.now c.realloc_huge.new.swap in
+    let block = g.S.SwapDevice.block c.realloc_huge.new.swap in
+    let told = g.S.SwapDevice.told c.realloc_huge.new.swap in
+    let known = known_over _ _ _ _ p s w over total in
+    let same = huge_over _ _ _ _ p s w over pid process b cpu in
+    let row = c.realloc_huge.ensures.row p (others_of s w) known in
+    let stops = subst (λ (x : Ruling). StopsFor old keep x.changes (r ≡ NoRoom) (r ≡ SwapFull) idle) same (c.realloc_huge.ensures.stops p (others_of s w) known) in
+    let matches = matched_by p w.processes w.names w.next_name w.reserved over.stands in
+    subst (λ (x : HugeArguments). IsRunRow x p s w pid old t m n keep told block cpu c.realloc_huge.new.cpu r idle) (sym a.is) (record {
+      answer = row_by _ _ _ _ p s w over pid process (Huge b) cpu r row.answer;
+      registers = sized_registers (known_of s w) pid a.segs a.part a.selector cpu c.realloc_huge.new.cpu _ r same row.registers;
+      world = λ x told at. behind_by _ _ _ _ p s w over pid process (Huge b) cpu r (moved p t n block) (row.world w x over.pictures over.blocks told at (lose_over _ _ _ _ p s w over) matches);
+      holds = subst (λ (x : Ruling). KeepsHolds m n ⊎ (list_any takes x.changes ≡ true)) same row.holds;
+      lacks = lacks_sized old (known_of s w) pid a.segs a.part a.selector cpu keep r idle stops;
+      short = stops.idle;
+    }))
 
 pub returns-in-Shift-clause-row : goal.returns-in-Shift-clause-row
 returns-in-Shift-clause-row g c = λ p s w over total.
-    subst (λ (a : HugeArguments). AnswersRoomed (huge_ruling a (known_of s w) c.args.pid c.args.cpu.now) (Done c.huge_shift.result)) (sym c.in-Shift.is)
-    (c.huge_shift.ensures.answer)
-
-pub returns-in-Alloc-clause-registers : goal.returns-in-Alloc-clause-registers
-returns-in-Alloc-clause-registers g c = λ p s w over total.
-    subst (λ (a : HugeArguments). c.args.cpu.now ≡ huge_behind a (known_of s w) c.args.pid c.args.cpu.now (Done c.alloc_huge.result)) (sym c.in-Alloc.is)
-    (refl)
-
-pub returns-in-Shift-clause-registers : goal.returns-in-Shift-clause-registers
-returns-in-Shift-clause-registers g c = λ p s w over total.
-    subst (λ (a : HugeArguments). c.args.cpu.now ≡ huge_behind a (known_of s w) c.args.pid c.args.cpu.now (Done c.huge_shift.result)) (sym c.in-Shift.is)
-    (refl)
-
-pub returns-in-Realloc-clause-registers : goal.returns-in-Realloc-clause-registers
-returns-in-Realloc-clause-registers g c = λ p s w over total.
-    (let a = c.in-Realloc in
-    let r = c.realloc_huge.result in
+    (let r = Done c.huge_shift.result in
     let cpu = c.args.cpu.now in
-    let row = c.realloc_huge.ensures.row p (others_of s w) (known_over _ _ _ _ p s w over total) in
-    subst (λ (x : HugeArguments). c.realloc_huge.new.cpu ≡ huge_behind x (known_of s w) c.args.pid cpu r) (sym a.is)
-    (sized_registers (known_of s w) c.args.pid a.segs a.part a.selector cpu c.realloc_huge.new.cpu _ r (huge_over _ _ _ _ p s w over c.args.pid c.requires.caller.process (Realloc a.segs a.part a.selector) cpu) row.registers))
-
-pub returns-in-Alloc-clause-matches : goal.returns-in-Alloc-clause-matches
-returns-in-Alloc-clause-matches g c = λ p s w x over total told at.
-    (let a = c.in-Alloc in
-    let r = Done c.alloc_huge.result in
-    let cpu = c.args.cpu.now in
-    let t = c.alloc_huge.new.store in
-    let n = c.alloc_huge.new.regions in
-    let pid = c.args.pid in
-    let process = c.requires.caller.process in
-    let made = with_all w (huge_allocation (known_in p (others_of s w)) pid a.segs a.part a.most a.flags).changes in
-    let row = c.alloc_huge.ensures.matches p (others_of s w) w x over.store over.regions at (matched_by p w.processes w.names w.next_name w.reserved over.stands) in
-    subst (λ (y : HugeArguments). Matches (moved p t n (g.S.SwapDevice.block c.args.swap.now)) (with_all w (changes_roomed (huge_ruling y (known_of s w) pid cpu) r))) (sym a.is)
-    (behind_by _ _ _ _ p s w over pid process (Huge (Alloc a.segs a.part 0 0 a.most a.flags)) cpu r _ (unmoved _ _ _ _ p s w over pid process _ _ made row)))
-
-pub returns-in-Realloc-clause-matches : goal.returns-in-Realloc-clause-matches
-returns-in-Realloc-clause-matches g c = λ p s w x over total told at.
-    (let a = c.in-Realloc in
-    let r = c.realloc_huge.result in
-    let cpu = c.args.cpu.now in
-    let t = c.realloc_huge.new.store in
-    let n = c.realloc_huge.new.regions in
-    let pid = c.args.pid in
-    let row = c.realloc_huge.ensures.row p (others_of s w) (known_over _ _ _ _ p s w over total) in
-    let sized = row.world w x over.pictures over.blocks told at (lose_over _ _ _ _ p s w over) (matched_by p w.processes w.names w.next_name w.reserved over.stands) in
-    let q = moved p t n (g.S.SwapDevice.block c.realloc_huge.new.swap) in
-    subst (λ (y : HugeArguments). Matches q (with_all w (changes_roomed (huge_ruling y (known_of s w) pid cpu) r))) (sym a.is)
-    (behind_by _ _ _ _ p s w over pid c.requires.caller.process (Huge (Realloc a.segs a.part a.selector)) cpu r q sized))
-
-pub returns-in-Shift-clause-matches : goal.returns-in-Shift-clause-matches
-returns-in-Shift-clause-matches g c = λ p s w x over total told at.
-    (let t = c.huge_shift.new.store in
+    let swap = c.args.swap.now in
+    let old = c.args.store.now in
+    let t = c.huge_shift.new.store in
+    let m = c.args.regions.now in
     let n = c.huge_shift.new.regions in
-    let block = g.S.SwapDevice.block c.args.swap.now in
-    let same = subst (λ (z : Shelf). Matches (record p { shelf = z }) w) (over.store ∙ sym c.huge_shift.ensures.store) (matched_by p w.processes w.names w.next_name w.reserved over.stands) in
-    subst (λ (a : HugeArguments). Matches (moved p t n block) (with_all w (changes_roomed (huge_ruling a (known_of s w) c.args.pid c.args.cpu.now) (Done c.huge_shift.result)))) (sym c.in-Shift.is)
-    (subst (Matches (moved p t n block)) (sym (nothing w)) (store_only _ _ _ _ p s w over c.args.pid c.requires.caller.process _ _ w c.huge_shift.ensures.regions same)))
+    let pid = c.args.pid in
+    let block = g.S.SwapDevice.block swap in
+    let told = g.S.SwapDevice.told swap in
+    let store = c.huge_shift.ensures.store in
+    let matches = matched_by p w.processes w.names w.next_name w.reserved over.stands in
+    let same = subst (λ (z : Shelf). Matches (record p { shelf = z }) w) (over.store ∙ sym store) matches in
+    subst (λ (x : HugeArguments). IsRunRow x p s w pid old t m n c.args.keep.now told block cpu cpu r (IsIdle t swap swap)) (sym c.in-Shift.is) (record {
+      answer = c.huge_shift.ensures.answer;
+      registers = refl;
+      world = λ x told at. subst (Matches (moved p t n block)) (sym (nothing w)) (store_only _ _ _ _ p s w over pid c.requires.caller.process t n w c.huge_shift.ensures.regions same);
+      holds = tt;
+      lacks = tt;
+      short = λ none. inl (record { device = refl; none = subst (λ (z : Shelf). NoneTaken z.swap) (sym store) none });
+    }))
 
 pub returns-in-Realloc-clause-stops : goal.returns-in-Realloc-clause-stops
 returns-in-Realloc-clause-stops g c = λ stops. subst MaySize (sym c.in-Realloc.is) tt
@@ -121,71 +128,11 @@ pub returns-in-Shift-clause-value : goal.returns-in-Shift-clause-value
 returns-in-Shift-clause-value g c = subst (λ (a : HugeArguments). IsRunGivable a (Done c.huge_shift.result)) (sym c.in-Shift.is)
     (let is = c.huge_shift.ensures.answer.value in omega (arith, is))
 
-pub returns-in-Alloc-clause-run_holds : goal.returns-in-Alloc-clause-run_holds
-returns-in-Alloc-clause-run_holds g c = λ p s w over total.
-    subst (λ (a : HugeArguments). LeavesRunHolds (Huge a) c.args.regions.now c.alloc_huge.new.regions (known_of s w) c.args.pid c.args.cpu.now) (sym c.in-Alloc.is)
-    (tt)
-
-pub returns-in-Alloc-clause-run_lacks : goal.returns-in-Alloc-clause-run_lacks
-returns-in-Alloc-clause-run_lacks g c = λ p s w over total.
-    subst (λ (a : HugeArguments). LacksRun (Huge a) c.args.store.now (known_of s w) c.args.pid c.args.cpu.now c.args.keep.now (Done c.alloc_huge.result)) (sym c.in-Alloc.is)
-    (tt)
-
-pub returns-in-Alloc-clause-run_short : goal.returns-in-Alloc-clause-run_short
-returns-in-Alloc-clause-run_short g c = λ p s w over total none. inl (record { device = refl; none = c.alloc_huge.ensures.goes_on.unused none })
-
 pub returns-in-Alloc-clause-idle : goal.returns-in-Alloc-clause-idle
 returns-in-Alloc-clause-idle g c = λ none. inl (record { device = refl; none = c.alloc_huge.ensures.goes_on.unused none })
 
-pub returns-in-Shift-clause-run_holds : goal.returns-in-Shift-clause-run_holds
-returns-in-Shift-clause-run_holds g c = λ p s w over total.
-    subst (λ (a : HugeArguments). LeavesRunHolds (Huge a) c.args.regions.now c.huge_shift.new.regions (known_of s w) c.args.pid c.args.cpu.now) (sym c.in-Shift.is)
-    (tt)
-
-pub returns-in-Shift-clause-run_lacks : goal.returns-in-Shift-clause-run_lacks
-returns-in-Shift-clause-run_lacks g c = λ p s w over total.
-    subst (λ (a : HugeArguments). LacksRun (Huge a) c.args.store.now (known_of s w) c.args.pid c.args.cpu.now c.args.keep.now (Done c.huge_shift.result)) (sym c.in-Shift.is)
-    (tt)
-
-pub returns-in-Shift-clause-run_short : goal.returns-in-Shift-clause-run_short
-returns-in-Shift-clause-run_short g c = λ p s w over total none. inl (record { device = refl; none = subst (λ (x : Shelf). NoneTaken x.swap) (sym c.huge_shift.ensures.store) none })
-
 pub returns-in-Shift-clause-idle : goal.returns-in-Shift-clause-idle
 returns-in-Shift-clause-idle g c = λ none. inl (record { device = refl; none = subst (λ (x : Shelf). NoneTaken x.swap) (sym c.huge_shift.ensures.store) none })
-
-pub returns-in-Realloc-clause-run_holds : goal.returns-in-Realloc-clause-run_holds
-returns-in-Realloc-clause-run_holds g c = λ p s w over total.
-    (let a = c.in-Realloc in
-    let m = c.args.regions.now in
-    let n = c.realloc_huge.new.regions in
-    let row = c.realloc_huge.ensures.row p (others_of s w) (known_over _ _ _ _ p s w over total) in
-    let over_run = huge_over _ _ _ _ p s w over c.args.pid c.requires.caller.process (Realloc a.segs a.part a.selector) c.args.cpu.now in
-    subst (λ (x : HugeArguments). LeavesRunHolds (Huge x) m n (known_of s w) c.args.pid c.args.cpu.now) (sym a.is)
-    (subst (λ (r : Ruling). KeepsHolds m n ⊎ (list_any takes r.changes ≡ true)) over_run row.holds))
-
-pub returns-in-Realloc-clause-run_lacks : goal.returns-in-Realloc-clause-run_lacks
-returns-in-Realloc-clause-run_lacks g c = λ p s w over total.
-    (let a = c.in-Realloc in
-    let r = c.realloc_huge.result in
-    let cpu = c.args.cpu.now in
-    let old = c.args.store.now in
-    let keep = c.args.keep.now in
-    let over_run = huge_over _ _ _ _ p s w over c.args.pid c.requires.caller.process (Realloc a.segs a.part a.selector) cpu in
-    let stops = subst (λ (x : Ruling). StopsFor old keep x.changes (r ≡ NoRoom) (r ≡ SwapFull) (IsIdle c.realloc_huge.new.store c.args.swap.now c.realloc_huge.new.swap)) over_run
-    (c.realloc_huge.ensures.stops p (others_of s w) (known_over _ _ _ _ p s w over total)) in
-    subst (λ (x : HugeArguments). LacksRun (Huge x) old (known_of s w) c.args.pid cpu keep r) (sym a.is) (lacks_sized old (known_of s w) c.args.pid a.segs a.part a.selector cpu keep r _ stops))
-
-pub returns-in-Realloc-clause-run_short : goal.returns-in-Realloc-clause-run_short
-returns-in-Realloc-clause-run_short g c = λ p s w over total none.
-    (let a = c.in-Realloc in
-    let r = c.realloc_huge.result in
-    let cpu = c.args.cpu.now in
-    let old = c.args.store.now in
-    let keep = c.args.keep.now in
-    let over_run = huge_over _ _ _ _ p s w over c.args.pid c.requires.caller.process (Realloc a.segs a.part a.selector) cpu in
-    let stops = subst (λ (x : Ruling). StopsFor old keep x.changes (r ≡ NoRoom) (r ≡ SwapFull) (IsIdle c.realloc_huge.new.store c.args.swap.now c.realloc_huge.new.swap)) over_run
-    (c.realloc_huge.ensures.stops p (others_of s w) (known_over _ _ _ _ p s w over total)) in
-    subst (λ (x : HugeArguments). IsIdle c.realloc_huge.new.store c.args.swap.now c.realloc_huge.new.swap ⊎ LacksRunMemory (Huge x) old (known_of s w) c.args.pid cpu) (sym a.is) (stops.idle none))
 
 pub returns-in-Realloc-clause-idle : goal.returns-in-Realloc-clause-idle
 returns-in-Realloc-clause-idle g c = λ none. inr (subst MaySize (sym c.in-Realloc.is) tt)
