@@ -31,12 +31,12 @@ use Rattle.o2_run.specs.declared.steps.Turn.TheVariants as turn
 use Rattle.o2_sched.specs.Schedule.{Schedule, next_of, pick_of}
 use Rattle.o2_sched.specs.declared.sched.Pick.TheVariants.{Step, AllEnded, BudgetSpent}
 use Rattle.o2_stepping.specs.Ran.{TakesText}
-use Rattle.o2_stepping.specs.Taken.{OnSwapFault}
 use Rattle.o2_stands.specs.Stands.{IsSetTo, IsTidy, Stands}
 use Rattle.o2_stands.proofs.Matching.{stood_by}
 use Rattle.o2_stands.proofs.TidySteps.{step_tidy}
 use Rattle.o2_calls.specs.SharedActs.{AreSpelled}
 use Rattle.o2_space.specs.Acts.{ActsAll, ActsInPart, ActsFault, SpellsBehind, Stays}
+use Rattle.o2_space.specs.Begins.{Begins, HasTurn}
 use Rattle.o2_space.specs.Nexts.{FaultSays}
 use Rattle.o2_space.specs.Parts.{parts_in}
 use Rattle.o2_space.specs.Stands.{MatchesAfter}
@@ -233,6 +233,14 @@ same_space n m device count block holds s w stands same space set spells = recor
   lines = stands.lines ∙ sym same.lines;
 }
 
+-- from where a step of a process begins
+module _ {m : Machine} {device : ℕ} {block : ℕ → List ℕ} {s : Setting} {w : World} (stands : StandsFor m device block s w) where
+  pub begins_here : {number : ℕ} {p : Process} {left : Option (List ℕ)} → process_at w.processes number ≡ Some p → left ≡ Some w.input → Begins m.space device block s w number p left
+  begins_here at left = record { here = record { stands = stands.space; process = at }; input = left; known = stands.known }
+
+  pub turn_here : {number : ℕ} → (next_dispatch s w).current ≡ number → HasTurn m.space device block s w number
+  turn_here chosen = record { agrees = record { set = stands.set; spelled = stands.spells }; sound = stands.sound; turn = chosen }
+
 module _ (m : Machine) (device : ℕ) (block : ℕ → List ℕ) (s : Setting) (w : World) (number : ℕ) (c d r q : Option (List ℕ))
     (stands : StandsFor m device block s w) (pick : pick_of m.sched ≡ Step number) (live : lives m.sched.flags number ≡ true) where
   abbrev pub k : ℕ
@@ -385,15 +393,31 @@ module _ (m : Machine) (device : ℕ) (block : ℕ → List ℕ) (s : Setting) (
       late_puts hands = late_hands m device block s w here c d r q stands is.any is.some here_is a b x y tally.bytes tally.lines so.bytes so.lines hands
 
 -- what caused a step to stop
-pub caused_stop : (sink other input device full : Type 0) (f : Fault) (why : Stop) → f ≡ Stopped why → CauseOf sink input (Unit {0}) (Unit {0}) f → OnSwapFault (Unit {0}) full device f → Caused other input device (turn_of why)
-caused_stop sink other input device full f why is h t =
-    by_stop why (subst (λ (z : Fault). CauseOf sink input (Unit {0}) (Unit {0}) z) is h) (subst (λ (z : Fault). OnSwapFault (Unit {0}) full device z) is t)
+pub caused_stop : (sink other input full device : Type 0) (f : Fault) (why : Stop) → f ≡ Stopped why → CauseOf sink input full device f → Caused other input (Unit {0}) (turn_of why)
+caused_stop sink other input full device f why is h = by_stop why (subst (λ (z : Fault). CauseOf sink input full device z) is h)
   where
-    by_stop : (why : Stop) → CauseOf sink input (Unit {0}) (Unit {0}) (Stopped why) → OnSwapFault (Unit {0}) full device (Stopped why) → Caused other input device (turn_of why)
-    by_stop Input h t = h
-    by_stop NoRoom h t = tt
-    by_stop SwapFull h t = tt
-    by_stop SwapFault h t = t
+    by_stop : (why : Stop) → CauseOf sink input full device (Stopped why) → Caused other input (Unit {0}) (turn_of why)
+    by_stop Input h = h
+    by_stop NoRoom h = tt
+    by_stop SwapFull h = tt
+    by_stop SwapFault h = tt
+
+-- the device failed where a turn says so
+pub failed_stop : (f : Fault) (why : Stop) → f ≡ Stopped why → turn_of why ≡ turn.SwapFault → f ≡ Stopped SwapFault
+failed_stop f Input is h = absurd (cc)
+failed_stop f NoRoom is h = absurd (cc)
+failed_stop f SwapFull is h = absurd (cc)
+failed_stop f SwapFault is h = is
+
+pub caused_device : (sink input device : Type 0) (t : Turn) → Caused sink input (Unit {0}) t → (t ≡ turn.SwapFault → device) → Caused sink input device t
+caused_device sink input device turn.Ran h failed = h
+caused_device sink input device turn.AllEnded h failed = h
+caused_device sink input device turn.BudgetSpent h failed = h
+caused_device sink input device turn.InputFault h failed = h
+caused_device sink input device turn.SinkFault h failed = h
+caused_device sink input device turn.NoRoom h failed = h
+caused_device sink input device turn.SwapFull h failed = h
+caused_device sink input device turn.SwapFault h failed = failed refl
 
 pub line_of_stop : (put : Bool) (fault : Type 0) (why : Stop) → (put ≡ false → fault) → LineIs put fault (turn_of why)
 line_of_stop put fault Input h = h

@@ -2,9 +2,9 @@
 ghost use Rattle.std.specs.Prelude.{◌≡◌, ◌<◌, ◌≤◌, ◌+◌, ◌⊎◌, ℕ, List, IsTrue, true, false, length, Option, Some};
 ghost use Rattle.o2_outer.specs.Texts.{Rose};
 ghost use Rattle.o2_outer.specs.Inputs.{GoesOn, IsSeenAs, left_as};
-ghost use Rattle.o2_conf.specs.Dispatch.{counted, lives};
+ghost use Rattle.o2_conf.specs.Dispatch.{lives};
 ghost use Rattle.o2_world.specs.World.{World, Setting};
-ghost use Rattle.o2_sched.specs.Schedule.{next_of, pick_of, is_step};
+ghost use Rattle.o2_sched.specs.Schedule.{pick_of, is_step};
 ghost use Rattle.o2_run.specs.Turn.{Turns, LineIs, Caused, OnRan};
 ghost use Rattle.o2_machine.specs.Lasts.{answer_of, put_of};
 ghost use Rattle.o2_machine.specs.Steppeds.{stepped_sched};
@@ -12,6 +12,7 @@ ghost use Rattle.o2_world.specs.World.{is_live as lives_on};
 ghost use Rattle.o2_machine.specs.GoesOver.{GoesOver};
 ghost use Rattle.o2_machine.specs.StandsFor.{StandsFor};
 ghost use Rattle.o2_run.specs.Pieces.{counts, TurnHands};
+ghost use Rattle.o2_store.specs.Frames.{KeepsDevice};
 ghost use Rattle.o2_store.specs.Idle.{IsIdle, NoneTaken};
 ghost use Rattle.o2_run.specs.Room.{AllFits};
 ghost use Rattle.o2_world.specs.Run.{is_over};
@@ -69,7 +70,7 @@ impl Machine {
         ensures last { self.new.last ≡ self.old.last }
         ensures images { self.new.space.images ≡ self.old.space.images }
         ensures device { GoesOver self.new.space self.new.sched (S.blocks swap.new) }
-        ensures frame { (S.blocks swap.new ≡ S.blocks swap.old) × (IsTrue (S.told swap.new) → IsTrue (S.told swap.old)) }
+        ensures frame { KeepsDevice S.blocks S.told S.faults swap.old swap.new (answer_of result ≡ Turn.SwapFault) }
         ensures idle { IsTrue (S.told swap.old) → (text : Option (List ℕ)) → IsSeenAs text (I.past input.new) → (s : Setting) (w : World)
             → StandsFor self.old (S.blocks swap.old) (S.block swap.old) s w
             → left_as text (I.left input.old) (I.past input.old) ≡ Some w.input → (is_over w ≡ false → AllFits s w)
@@ -77,11 +78,9 @@ impl Machine {
         ensures input_count { I.faults input.old ≤ I.faults input.new }
         ensures console_count { C.faults console.old ≤ C.faults console.new }
         ensures report_count { R.faults report.old ≤ R.faults report.new }
-        ensures swap_count { S.faults swap.old ≤ S.faults swap.new }
         ensures cause { Caused
             (Rose (C.faults console.old) (C.faults console.new) ⊎ Rose (R.faults report.old) (R.faults report.new))
-            (Rose (I.faults input.old) (I.faults input.new))
-            (Rose (S.faults swap.old) (S.faults swap.new)) (answer_of result) }
+            (Rose (I.faults input.old) (I.faults input.new)) (Unit {0}) (answer_of result) }
         ensures line { LineIs (put_of result) (Rose (R.faults report.old) (R.faults report.new)) (answer_of result) }
         ensures left { OnRan (answer_of result) (self.new.sched.dispatch.budget < self.old.sched.dispatch.budget) }
         // Each line is one put, and so is the piece for the console, where it has bytes.
@@ -126,7 +125,7 @@ impl Machine {
         ensures last { self.new.last ≡ self.old.last }
         ensures images { self.new.space.images ≡ self.old.space.images }
         ensures device { GoesOver self.new.space self.new.sched (S.blocks swap.new) }
-        ensures frame { (S.blocks swap.new ≡ S.blocks swap.old) × (IsTrue (S.told swap.new) → IsTrue (S.told swap.old)) }
+        ensures frame { KeepsDevice S.blocks S.told S.faults swap.old swap.new (answer_of result ≡ Turn.SwapFault) }
         ensures idle { IsTrue (S.told swap.old) → (text : Option (List ℕ)) → IsSeenAs text (I.past input.new) → (s : Setting) (w : World)
             → StandsFor self.old (S.blocks swap.old) (S.block swap.old) s w
             → left_as text (I.left input.old) (I.past input.old) ≡ Some w.input → (is_over w ≡ false → AllFits s w)
@@ -134,11 +133,9 @@ impl Machine {
         ensures input_count { I.faults input.old ≤ I.faults input.new }
         ensures console_count { C.faults console.old ≤ C.faults console.new }
         ensures report_count { R.faults report.old ≤ R.faults report.new }
-        ensures swap_count { S.faults swap.old ≤ S.faults swap.new }
         ensures cause { Caused
             (Rose (C.faults console.old) (C.faults console.new) ⊎ Rose (R.faults report.old) (R.faults report.new))
-            (Rose (I.faults input.old) (I.faults input.new))
-            (Rose (S.faults swap.old) (S.faults swap.new)) (answer_of result) }
+            (Rose (I.faults input.old) (I.faults input.new)) (Unit {0}) (answer_of result) }
         ensures line { LineIs (put_of result) (Rose (R.faults report.old) (R.faults report.new)) (answer_of result) }
         ensures left { OnRan (answer_of result) (self.new.sched.dispatch.budget < self.old.sched.dispatch.budget) }
         // Each line is one put, and so is the piece for the console, where it has bytes.

@@ -6,8 +6,8 @@ ghost use Rattle.o2_stands.specs.Stands.{IsSetTo, Stands};
 ghost use Rattle.o2_store.specs.Shelf.{SameTables};
 ghost use Rattle.o2_world.specs.Run.{is_over, next_dispatch};
 ghost use Rattle.o2_world.specs.World.{Setting, World};
-ghost use Rattle.o2_segs.specs.Sharing.{AreHeldAtMost};
 ghost use Rattle.o2_slices.specs.Laters.{StandsLater};
+ghost use Rattle.o2_space.specs.Frames.{AddsNone, KeepsSpace};
 ghost use Rattle.o2_space.specs.Parts.{parts_in};
 ghost use Rattle.o2_space.specs.Stands.{GoTogether};
 
@@ -34,18 +34,13 @@ pub fn slice_of(space: &mut Space, pid: u16, most: u32) -> u32
 
     // The parts go on to go together, what a setting fixes stays, and who is marked live.
     ensures together { (device : ℕ) → GoTogether space.old device → GoTogether space.new device }
-    ensures set { (device : ℕ) (block : ℕ → List ℕ) (s : Setting)
-        → IsSetTo (parts_in space.old device block) s → IsSetTo (parts_in space.new device block) s }
+    ensures keeps { KeepsSpace space.old space.new }
+    ensures adds { AddsNone space.old space.new }
     ensures ends { space.new.ends ≡ space.old.ends }
-    ensures count { length space.new.procs.items ≡ length space.old.procs.items }
-    ensures avail { space.new.services.avail ≡ space.old.services.avail }
-    ensures images { space.new.images ≡ space.old.images }
-    ensures made { space.new.store.made ≡ space.old.store.made }
     ensures blocks { space.new.store.swap ≡ space.old.store.swap }
     // The same segments live, and the same names are kept.
     ensures names { space.new.names ≡ space.old.names }
     ensures tables { SameTables space.old.store space.new.store }
-    ensures held { (k : ℕ) → AreHeldAtMost space.old.regions k → AreHeldAtMost space.new.regions k }
 {
     lawful(&space.store, &space.regions);
     let mut cpu = space.procs[pid as usize - 1].cpu;

@@ -20,7 +20,7 @@ use Rattle.o2_stands.specs.Stands.{Stands}
 use Rattle.o2_stepping.specs.Pieces.{HandsWhole, RanHands, StepHands}
 use Rattle.o2_stepping.specs.Rooms.{all_names, room_in}
 use Rattle.o2_stepping.specs.Shapes.{SameShape}
-use Rattle.o2_stepping.specs.Taken.{IsSwapStop, OnAsks, OnNoStep, OnBegun, OnStep, OnSwapStop, SteppedFor, TakenFor}
+use Rattle.o2_stepping.specs.Taken.{IsSwapStop, OnAsks, OnNoStep, OnBegun, OnStep, SteppedFor, TakenFor}
 use Rattle.o2_stepping.specs.declared.one_step.Ran.{Ran}
 use Rattle.o2_stepping.specs.declared.one_step.Stepped.{Stepped}
 use Rattle.o2_stepping.specs.declared.one_step.Stepped.TheVariants as stepped
@@ -96,9 +96,9 @@ pub stop_same : (P Q : Type 0) (result : Result Ran Fault) → (P → Q) → OnN
 stop_same P Q (Ok ran) f h = tt
 stop_same P Q (Err x) f h = at_stop P P P Q Q Q x f f f h
 
-pub swap_fault : {T : Type 0} (A B P Q : Type 0) (result : Result T Fault) → (P → Q) → OnSwapStop result A B P → OnSwapStop result (Unit {0}) (Unit {0}) Q
-swap_fault A B P Q (Ok ran) f h = tt
-swap_fault A B P Q (Err x) f h = at_stop A B P (Unit {0}) (Unit {0}) Q x (λ z. tt) (λ z. tt) f h
+-- the same fault, of a step, of a call and of what it has done
+pub as_failed : {T U : Type 0} (f g : Fault) → (let r : Result T Fault = Err f in r ≡ Err g) → (let r : Result U Fault = Err f in r ≡ Err g)
+as_failed f g e = (let same : f ≡ g = cc in ap (λ z. Err z) same)
 
 -- a call on segments reads no input
 pub cause_by : (P Q R : Type 0) (result : Result Ran Fault) → (P → Q) → TakenFor P ⊥ result → TakenFor Q R result

@@ -11,15 +11,14 @@ use Rattle.o2_store.specs.Shelf.{Shelf}
 use Rattle.o2_world.specs.Changes.{used}
 use Rattle.o2_world.specs.Holders.{kept, process_at, with_process}
 use Rattle.o2_world.specs.Map.{Map}
-use Rattle.o2_world.specs.World.{Process, Reserve, Segment, Setting, is_live}
+use Rattle.o2_world.specs.World.{Process, Reserve, Segment, is_live}
 use Rattle.o2_world.specs.declared.types.State.{State}
 use Rattle.o2_world.proofs.Keeps.{at_other}
 use Rattle.o2_stands.specs.Parts.{Parts, Running, goes_on, running_of}
-use Rattle.o2_stands.specs.Stands.{AreMarked, IsSetTo, StandsIn}
+use Rattle.o2_stands.specs.Stands.{AreMarked, StandsIn}
 use Rattle.o2_stands.specs.Moves.{stepped_to, with_running}
 use Rattle.o2_stands.proofs.Running.{goes_on_stands}
 use Rattle.o2_ends.specs.Ended.{StandsBehind}
-use Rattle.o2_ends.specs.LetsGo.{Sheds}
 use Rattle.o2_space.specs.declared.space.Proc.{Proc}
 use Rattle.o2_space.specs.Parts.{running_at, running_in}
 use Rattle.o2_space.specs.Stands.{StandsCommitted}
@@ -114,14 +113,6 @@ module _ (procs : List Proc) (pid : ℕ) (x : Proc) (some : 0 < pid) (there : pi
         subst (StandsBy (put (stepped_to p t n))) (sym dead)
         (subst (λ (q : Parts). StandsBy q false) (parts_are (stepped_to p t n) at)
         (behind.stands p ps names next reserved y ended stands found refl dead))
-
--- what a setting fixes stays where a process lets go
-pub set_ended : (p : Parts) (t : Shelf) (n : Maps) (s : Setting) → Sheds p.shelf p.maps t n → IsSetTo p s → IsSetTo (stepped_to p t n) s
-set_ended p t n s sheds set = record {
-  memory = sheds.size ∙ set.memory;
-  segments = sheds.count ∙ set.segments;
-  blocks = sheds.map ∙ set.blocks;
-}
 
 -- The process before its step.
 

@@ -21,5 +21,7 @@ pub mod CallStops
 pub mod CallLacks
 pub mod CallSays
 pub mod SharedKept
+pub mod Framing
 pub mod Spelling
+pub mod Beginning
 pub mod SpelledCalls

@@ -1,6 +1,5 @@
 -- What a call on segments leaves of a space, and what it asks for.
-use Rattle.std.proofs.Common.{◌≡◌, ◌≤◌, ℕ, true, List, [], ◌++◌, length, Option, None, ap, sym, ◌∙◌, refl, subst, arith}
-use Rattle.std.specs.Prelude.{min}
+use Rattle.std.proofs.Common.{◌≡◌, ◌≤◌, ℕ, true, List, [], ◌++◌, Option, None, ap, sym, ◌∙◌, refl, subst, arith}
 use Rattle.o2_image.specs.ImageList.{ImageList}
 use Rattle.o2_isa.specs.declared.cpu.Cpu.{Cpu}
 use Rattle.o2_place.specs.declared.seg_id.SegId.{SegId}
@@ -19,7 +18,7 @@ use Rattle.o2_service.specs.Told.{IsHeldWell}
 use Rattle.o2_service.proofs.Among.{named_needed}
 use Rattle.o2_changes.specs.Order.{IsGuarded, IsInOrder}
 use Rattle.o2_world.specs.Changes.{with_all, with_changes}
-use Rattle.o2_world.specs.World.{Setting, World}
+use Rattle.o2_world.specs.World.{World}
 use Rattle.o2_gate.specs.declared.gathering.SegmentArguments.{SegmentArguments}
 use Rattle.o2_gate.specs.declared.gathering.SegmentArguments.TheVariants.{Alloc, Realloc, Free, Size, Lock, Unlock, Alias, Shared, Huge}
 use Rattle.o2_gate.specs.declared.huge.HugeArguments.{HugeArguments}
@@ -32,7 +31,7 @@ use Rattle.o2_gate.specs.Replies.{IsValue}
 use Rattle.o2_calls.specs.Stops.{IsGivable, IsRunGivable}
 use Rattle.o2_stands.specs.Moves.{moved}
 use Rattle.o2_stands.specs.Parts.{Parts, Running}
-use Rattle.o2_stands.specs.Stands.{IsReady, IsSetTo, Matches, Stands}
+use Rattle.o2_stands.specs.Stands.{IsReady, Matches, Stands}
 use Rattle.o2_stands.proofs.Matching.{stood_by}
 use Rattle.o2_stepping.specs.Rooms.{aimed_in, seated_in}
 use Rattle.o2_stepping.proofs.Bringing.{needs_both}
@@ -41,7 +40,6 @@ use Rattle.o2_stepping.proofs.Named.{or_back}
 use Rattle.o2_stepping.proofs.Rounds.{live_more, live_seated}
 use Rattle.o2_space.proofs.Aimed.{live_aimed}
 use Rattle.o2_space.proofs.Alike.{made, ready_as}
-use Rattle.o2_space.proofs.Behind.{after}
 
 -- A value that is given is a word where it is a selector.
 
@@ -116,16 +114,6 @@ pub ready_given : (t u : Shelf) (n o : Maps) (images : ImageList) (device : ℕ)
 ready_given t u n o images device block other r ready store maps clean settled =
     ready_as u o images device other other (λ k. None) r
     (ready_same images t u n o device device block other (ready_as t n images device block block r (λ k. None) ready) (try_shape t u n o store maps) refl settled (clean.clean (picture images) ready.aged ready.guarded ready.clean))
-
--- What a setting fixes.
-
-pub set_called : (p : Parts) (t : Shelf) (n : Maps) (device : ℕ) (block : ℕ → List ℕ) → t.places.size ≡ p.shelf.places.size → length t.entries ≡ length p.shelf.entries → all_of t.swap ≡ all_of p.shelf.swap → device ≡ p.device
-    → (z : Setting) → IsSetTo p z → IsSetTo (after p t n device block) z
-set_called p t n device block size count map same z set = record {
-  memory = size ∙ set.memory;
-  segments = count ∙ set.segments;
-  blocks = map ∙ (set.blocks ∙ ap (λ (d : ℕ). min z.swap d) (sym same));
-}
 
 pub process_called : (m n : Maps) (pid : ℕ) → n.processes ≡ m.processes → IsProcess m pid → IsProcess n pid
 process_called m n pid same process = (process.0, (let l = process.1 in omega (arith, l, same)))

@@ -24,7 +24,7 @@ use Rattle.o2_stepping.proofs.Reading.{reads_quietly}
 use Rattle.o2_stepping.proofs.NextRooms.{fits, fits_in_part, full, lacks}
 use Rattle.o2_space.specs.Nexts.{SaysStep}
 
-module _ (p : Parts) (s : Setting) (w : World) (x : Process) (next : IsNext p s w x) (cpu : Cpu) (old new : ℕ → List ℕ) (i j c d r u : Option (List ℕ)) (R : Type 0) where
+module _ (p : Parts) (s : Setting) (w : World) (x : Process) (next : IsNext p s w x) (cpu : Cpu) (old new : ℕ → List ℕ) (i j c d r u : Option (List ℕ)) where
   abbrev starts_at : ℕ → Before
   starts_at n = before s w n x
 
@@ -34,7 +34,7 @@ module _ (p : Parts) (s : Setting) (w : World) (x : Process) (next : IsNext p s 
       → OnStep result (λ z. room_in p.shelf (all_names (starts_at n) (bound_registers (hold_in p.maps n) z)) ≤ p.shelf.places.size) (effect (starts_at n)).cpu (starts_at n).cpu
       → OnBegun result (room_in p.shelf (all_names (starts_at n) (bound_registers (hold_in p.maps n) (starts_at n).cpu)) ≤ p.shelf.places.size)
       → OnSwapStop result (p.shelf.places.size < room_in p.shelf (needed_names (starts_at n))) (Unit {0}) (Unit {0})
-      → OnSwapStop result (Unit {0}) ((all_of p.shelf.swap < swap_load p.shelf) × (p.shelf.places.size < live_load p.shelf)) R
+      → OnSwapStop result (Unit {0}) ((all_of p.shelf.swap < swap_load p.shelf) × (p.shelf.places.size < live_load p.shelf)) (Unit {0})
       → SaysStep p.device s w result
 
   at_current : (result : Result Stepped Fault) → Says result (next_dispatch s w).current

@@ -1,5 +1,5 @@
 -- The room of a step, in words of the step of the world.
-use Rattle.std.proofs.Common.{◌≡◌, ℕ, ◌≤◌, List, Option, refl, subst}
+use Rattle.std.proofs.Common.{◌≡◌, ℕ, ◌≤◌, List, Option, subst}
 use Rattle.std.specs.Prelude.{Result, Ok, Err}
 use Rattle.o2_isa.specs.declared.cpu.Cpu.{Cpu}
 use Rattle.o2_isa.specs.View.{Hold, bound_registers}
@@ -9,7 +9,7 @@ use Rattle.o2_run.specs.declared.fault.Fault.{Fault}
 use Rattle.o2_run.specs.declared.fault.Fault.TheVariants as fault
 use Rattle.o2_world.specs.Calls.{Before, Effect}
 use Rattle.o2_stepping.specs.Rooms.{all_names, room_in}
-use Rattle.o2_stepping.specs.Taken.{OnDone, OnNoStep, OnBegun, OnStep, OnSwapStop, Takes}
+use Rattle.o2_stepping.specs.Taken.{OnDone, OnNoStep, OnBegun, OnStep, Takes}
 use Rattle.o2_stepping.specs.declared.one_step.Stepped.{Stepped}
 use Rattle.o2_stepping.specs.declared.one_step.Stepped.TheVariants as stepped
 use Rattle.o2_stepping.proofs.Steps.{at_stop}
@@ -46,12 +46,3 @@ room_in_part_by s b e held before cpu old new i j c d r u (Err (fault.Stopped st
 pub on_stop : (P Q : Type 0) (result : Result Stepped Fault) → (P → Q) → OnNoStep result P → OnNoStep result Q
 on_stop P Q (Ok ran) f h = tt
 on_stop P Q (Err x) f h = at_stop P P P Q Q Q x f f f h
-
--- why a step wasn't taken, with what holds where the device failed
-pub with_failure : (P Q R : Type 0) (result : Result Stepped Fault) → OnSwapStop result P Q (Unit {0}) → (result ≡ Err (fault.Stopped stop.SwapFault) → R) → OnSwapStop result P Q R
-with_failure P Q R (Ok x) h f = tt
-with_failure P Q R (Err fault.Sink) h f = tt
-with_failure P Q R (Err (fault.Stopped stop.Input)) h f = tt
-with_failure P Q R (Err (fault.Stopped stop.NoRoom)) h f = h
-with_failure P Q R (Err (fault.Stopped stop.SwapFull)) h f = h
-with_failure P Q R (Err (fault.Stopped stop.SwapFault)) h f = f refl

@@ -4,3 +4,5 @@ pub mod Acts
 pub mod Between
 pub mod Nexts
 pub mod Calls
+pub mod Frames
+pub mod Begins

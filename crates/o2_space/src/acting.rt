@@ -1,5 +1,5 @@
 // One step of a process over a store.
-ghost use Rattle.std.specs.Prelude.{◌≡◌, ◌<◌, ◌≤◌, ◌+◌, ◌-◌, ◌^◌, ◌==◌, ◌⊎◌, ℕ, List, length, Option, Some, true, false, if◌then◌else◌, IsTrue};
+ghost use Rattle.std.specs.Prelude.{◌≡◌, ◌<◌, ◌≤◌, ◌+◌, ◌-◌, ◌^◌, ◌==◌, ◌⊎◌, ℕ, List, length, Option, Err, Some, true, false, if◌then◌else◌, IsTrue};
 ghost use Rattle.o2_outer.specs.Texts.{Rose};
 ghost use Rattle.o2_outer.specs.Inputs.{GoesOn, IsSeenAs, left_as};
 ghost use Rattle.o2_isa.specs.View.{bound_registers};
@@ -13,12 +13,9 @@ ghost use Rattle.o2_store.specs.Loads.{live_load, swap_load};
 ghost use Rattle.o2_swapmap.specs.Piles.{all_of};
 ghost use Rattle.o2_world.specs.Effect.{effect};
 ghost use Rattle.o2_world.specs.Holders.{process_at};
-ghost use Rattle.o2_world.specs.Known.{known_of};
 ghost use Rattle.o2_world.specs.Run.{before, next_dispatch};
 ghost use Rattle.o2_world.specs.Map.{Map};
 ghost use Rattle.o2_world.specs.World.{Process, Reserve, Segment, Setting, World, is_live as lives_on};
-ghost use Rattle.o2_world.specs.Tied.{IsSound};
-ghost use Rattle.o2_gate.specs.Befores.{IsKnown};
 ghost use Rattle.o2_gate.specs.Gathers.{targets};
 ghost use Rattle.o2_gate.specs.Pointed.{are_ready};
 ghost use Rattle.o2_stands.specs.Moves.{with_running};
@@ -29,15 +26,16 @@ ghost use Rattle.o2_stepping.specs.Pieces.{RanHands, StepHands};
 ghost use Rattle.o2_stepping.specs.Shapes.{SameShape};
 ghost use Rattle.o2_stepping.specs.Rooms.{all_names, needed_names, room_in};
 ghost use Rattle.o2_stepping.specs.Taken.{OnAsks, OnDone, OnNoStep, OnBegun, OnStep, OnSwapStop, SteppedFor, TakenFor};
-ghost use Rattle.o2_segs.specs.Sharing.{AreHeldAtMost};
 ghost use Rattle.o2_shared.specs.Shares.{AreFew};
 ghost use Rattle.o2_shared.specs.Texts.{IsBehind};
-ghost use Rattle.o2_calls.specs.SharedActs.{AreSpelled};
 ghost use Rattle.o2_space.specs.Acts.{Acts, AreMarkedBehind, SpellsBehind, holds_by, made_by};
+ghost use Rattle.o2_space.specs.Begins.{Begins, HasTurn, StandsAt};
 ghost use Rattle.o2_space.specs.Between.{Steps};
+ghost use Rattle.o2_space.specs.Frames.{AddsAtMost, AddsNone, KeepsSpace};
 ghost use Rattle.o2_space.specs.Nexts.{SaysRoom, SaysStep};
 ghost use Rattle.o2_space.specs.Parts.{parts_in};
 ghost use Rattle.o2_space.specs.Stands.{GoTogether, StandsCommitted};
+ghost use Rattle.o2_store.specs.Frames.{KeepsDevice};
 ghost use Rattle.o2_store.specs.Idle.{IsIdle, NoneTaken};
 ghost use Rattle.o2_run.specs.Room.{AllFits};
 
@@ -45,7 +43,7 @@ use crate::space::{Proc, Space};
 use o2_ends::end;
 use o2_isa::Cpu;
 use o2_outer::{Sink, Source, SwapDevice};
-use o2_run::Fault;
+use o2_run::{Fault, Stop};
 use o2_stands::lawful;
 use o2_stepping::{Ran, Stepped, step_in_store};
 use o2_world::State;
@@ -76,19 +74,12 @@ impl Space {
             ≡ with_running (parts_in self.old device block) pid (record { cpu = cpu.now; state = state }) }
         ensures together { (device : ℕ) → lives self.old.ends pid ≡ true
             → GoTogether self.old device → GoTogether self.new device }
-        ensures set { (device : ℕ) (block : ℕ → List ℕ) (s : Setting)
-            → IsSetTo (parts_in self.old device block) s
-            → IsSetTo (parts_in self.new device block) s }
+        ensures keeps { KeepsSpace self.old self.new }
+        ensures adds { AddsNone self.old self.new }
         ensures marks { (n : ℕ) → lives self.new.ends n
             ≡ (if lives_on state then lives self.old.ends n else (if n == pid then false else lives self.old.ends n)) }
-        ensures count { length self.new.procs.items ≡ length self.old.procs.items }
-        ensures processes { self.new.regions.processes ≡ self.old.regions.processes }
-        ensures made { self.new.store.made ≡ self.old.store.made }
-        ensures held { (k : ℕ) → AreHeldAtMost self.old.regions k → AreHeldAtMost self.new.regions k }
         ensures names { self.new.names ≡ self.old.names }
         ensures behind { IsBehind self.old.store self.new.store }
-        ensures avail { self.new.services.avail ≡ self.old.services.avail }
-        ensures images { self.new.images ≡ self.old.images }
         ensures unused { NoneTaken self.old.store.swap → NoneTaken self.new.store.swap }
     {
         self.procs[pid as usize - 1] = Proc { cpu: *cpu, state };
@@ -112,9 +103,8 @@ impl Space {
         requires together { GoTogether self.old (S.blocks swap.old) }
         ensures steps { (text : Option (List ℕ)) → IsSeenAs text (I.past input.new)
             → (s : Setting) (w : World) (x : Process) → IsTrue (S.told swap.new)
-            → Stands (parts_in self.old (S.blocks swap.old) (S.block swap.old)) w
-            → process_at w.processes pid ≡ Some x → cpu.old ≡ x.cpu
-            → left_as text (I.left input.old) (I.past input.old) ≡ Some w.input → IsKnown (known_of s w) self.old.services
+            → Begins self.old (S.blocks swap.old) (S.block swap.old) s w pid x
+            (left_as text (I.left input.old) (I.past input.old)) → cpu.old ≡ x.cpu
             → Steps (before s w pid x) w cpu.new
             (parts_in self.new (S.blocks swap.new) (S.block swap.new))
             (left_as text (I.left input.old) (I.past input.old))
@@ -130,59 +120,46 @@ impl Space {
         ensures goes_on { GoesOn (I.past input.old) (I.past input.new) }
         ensures room { (text : Option (List ℕ)) → IsSeenAs text (I.past input.new)
             → (s : Setting) (w : World) (x : Process) → IsTrue (S.told swap.new)
-            → Stands (parts_in self.old (S.blocks swap.old) (S.block swap.old)) w
-            → process_at w.processes pid ≡ Some x → cpu.old ≡ x.cpu
-            → left_as text (I.left input.old) (I.past input.old) ≡ Some w.input → IsKnown (known_of s w) self.old.services
+            → Begins self.old (S.blocks swap.old) (S.block swap.old) s w pid x
+            (left_as text (I.left input.old) (I.past input.old)) → cpu.old ≡ x.cpu
             → let b = before s w pid x in
             OnStep result (λ c. room_in self.old.store
             (all_names b (bound_registers (hold_in self.old.regions pid) c))
             ≤ self.old.store.places.size) (effect b).cpu b.cpu }
         ensures room_in_part { (text : Option (List ℕ)) → IsSeenAs text (I.past input.new)
             → (s : Setting) (w : World) (x : Process) → IsTrue (S.told swap.new)
-            → Stands (parts_in self.old (S.blocks swap.old) (S.block swap.old)) w
-            → process_at w.processes pid ≡ Some x → cpu.old ≡ x.cpu
-            → left_as text (I.left input.old) (I.past input.old) ≡ Some w.input → IsKnown (known_of s w) self.old.services
+            → Begins self.old (S.blocks swap.old) (S.block swap.old) s w pid x
+            (left_as text (I.left input.old) (I.past input.old)) → cpu.old ≡ x.cpu
             → let b = before s w pid x in
             OnBegun result (room_in self.old.store
             (all_names b (bound_registers (hold_in self.old.regions pid) b.cpu))
             ≤ self.old.store.places.size) }
         ensures no_room { (s : Setting) (w : World) (x : Process) → IsTrue (S.told swap.new)
-            → Stands (parts_in self.old (S.blocks swap.old) (S.block swap.old)) w
-            → process_at w.processes pid ≡ Some x → cpu.old ≡ x.cpu
+            → StandsAt self.old (S.blocks swap.old) (S.block swap.old) w pid x → cpu.old ≡ x.cpu
             → OnSwapStop result (self.old.store.places.size
             < room_in self.old.store (needed_names (before s w pid x))) (Unit {0}) (Unit {0}) }
-        ensures swap_stops { OnSwapStop result (Unit {0})
+        ensures loads { OnSwapStop result (Unit {0})
             ((all_of self.old.store.swap < swap_load self.old.store)
-            × (self.old.store.places.size < live_load self.old.store))
-            (Rose (S.faults swap.old) (S.faults swap.new)) }
+            × (self.old.store.places.size < live_load self.old.store)) (Unit {0}) }
         ensures idle { (s : Setting) (w : World)
             → Stands (parts_in self.old (S.blocks swap.old) (S.block swap.old)) w
             → IsSetTo (parts_in self.old (S.blocks swap.old) (S.block swap.old)) s → AllFits s w
             → NoneTaken self.old.store.swap → IsIdle self.new.store swap.old swap.new }
         ensures next_room { (text : Option (List ℕ)) → IsSeenAs text (I.past input.new)
             → (s : Setting) (w : World) (x : Process) → IsTrue (S.told swap.new)
-            → Stands (parts_in self.old (S.blocks swap.old) (S.block swap.old)) w
+            → Begins self.old (S.blocks swap.old) (S.block swap.old) s w pid x
+            (left_as text (I.left input.old) (I.past input.old)) → cpu.old ≡ x.cpu
             → IsSetTo (parts_in self.old (S.blocks swap.old) (S.block swap.old)) s
-            → (next_dispatch s w).current ≡ pid
-            → process_at w.processes pid ≡ Some x → cpu.old ≡ x.cpu
-            → left_as text (I.left input.old) (I.past input.old) ≡ Some w.input → IsKnown (known_of s w) self.old.services
-            → SaysStep (S.blocks swap.old) s w result }
+            → (next_dispatch s w).current ≡ pid → SaysStep (S.blocks swap.old) s w result }
         ensures together { GoTogether self.new (S.blocks swap.new) }
-        ensures set { (s : Setting)
-            → IsSetTo (parts_in self.old (S.blocks swap.old) (S.block swap.old)) s
-            → IsSetTo (parts_in self.new (S.blocks swap.new) (S.block swap.new)) s }
+        ensures keeps { KeepsSpace self.old self.new }
+        ensures shape { SameShape self.old.store self.old.regions self.new.store self.new.regions }
         ensures procs { self.new.procs ≡ self.old.procs }
         ensures ends { self.new.ends ≡ self.old.ends }
-        ensures made { self.new.store.made ≡ self.old.store.made }
-        ensures held { (k : ℕ) → AreHeldAtMost self.old.regions k → AreHeldAtMost self.new.regions k }
         ensures names { self.new.names ≡ self.old.names }
-        ensures shape { SameShape self.old.store self.old.regions self.new.store self.new.regions }
-        ensures processes { self.new.regions.processes ≡ self.old.regions.processes }
         ensures most { self.new.regions.processes ≤ 64 }
-        ensures avail { self.new.services.avail ≡ self.old.services.avail }
-        ensures images { self.new.images ≡ self.old.images }
-        ensures device { (S.blocks swap.new ≡ S.blocks swap.old)
-            × (IsTrue (S.told swap.new) → IsTrue (S.told swap.old)) }
+        ensures device { KeepsDevice S.blocks S.told S.faults swap.old swap.new
+            (result ≡ Err (Fault.Stopped Stop.SwapFault)) }
         ensures cause { SteppedFor
             (Rose (C.faults console.old) (C.faults console.new)
             ⊎ Rose (R.faults report.old) (R.faults report.new))
@@ -190,14 +167,12 @@ impl Space {
         ensures input_count { I.faults input.old ≤ I.faults input.new }
         ensures console_count { C.faults console.old ≤ C.faults console.new }
         ensures report_count { R.faults report.old ≤ R.faults report.new }
-        ensures swap_count { S.faults swap.old ≤ S.faults swap.new }
         ensures puts { StepHands (counts (C.puts console.old) (C.puts console.new)
             (R.puts report.old) (R.puts report.new) 0) result }
         ensures part { (text : Option (List ℕ)) → IsSeenAs text (I.past input.new)
             → (s : Setting) (w : World) (x : Process) → IsTrue (S.told swap.new)
-            → Stands (parts_in self.old (S.blocks swap.old) (S.block swap.old)) w
-            → process_at w.processes pid ≡ Some x → cpu.old ≡ x.cpu
-            → left_as text (I.left input.old) (I.past input.old) ≡ Some w.input → IsKnown (known_of s w) self.old.services
+            → Begins self.old (S.blocks swap.old) (S.block swap.old) s w pid x
+            (left_as text (I.left input.old) (I.past input.old)) → cpu.old ≡ x.cpu
             → PartHands (effect (before s w pid x))
             (counts (C.puts console.old) (C.puts console.new)
             (R.puts report.old) (R.puts report.new) 0) result }
@@ -245,66 +220,47 @@ impl Space {
         // the same world. However the input is seen: by what it tells, or as a text that the whole of it may be.
         ensures acts { (text : Option (List ℕ)) → IsSeenAs text (I.past input.new)
             → (s : Setting) (w : World) (x : Process) → IsTrue (S.told swap.new)
-            → Stands (parts_in self.old (S.blocks swap.old) (S.block swap.old)) w
-            → IsSetTo (parts_in self.old (S.blocks swap.old) (S.block swap.old)) s → IsSound w
-            → (next_dispatch s w).current ≡ pid → process_at w.processes pid ≡ Some x
-            → left_as text (I.left input.old) (I.past input.old) ≡ Some w.input → IsKnown (known_of s w) self.old.services
-            → AreSpelled self.old.store self.old.names w
+            → Begins self.old (S.blocks swap.old) (S.block swap.old) s w pid x
+            (left_as text (I.left input.old) (I.past input.old))
+            → HasTurn self.old (S.blocks swap.old) (S.block swap.old) s w pid
             → Acts (before s w pid x) w x (parts_in self.new (S.blocks swap.new) (S.block swap.new))
             (left_as text (I.left input.old) (I.past input.old))
             (left_as text (I.left input.new) (I.past input.new)) (C.taken console.old) (C.taken console.new)
             (R.taken report.old) (R.taken report.new) result }
         ensures spells { (text : Option (List ℕ)) → IsSeenAs text (I.past input.new)
             → (s : Setting) (w : World) (x : Process) → IsTrue (S.told swap.new)
-            → Stands (parts_in self.old (S.blocks swap.old) (S.block swap.old)) w
-            → IsSetTo (parts_in self.old (S.blocks swap.old) (S.block swap.old)) s → IsSound w
-            → (next_dispatch s w).current ≡ pid → process_at w.processes pid ≡ Some x
-            → left_as text (I.left input.old) (I.past input.old) ≡ Some w.input → IsKnown (known_of s w) self.old.services
-            → AreSpelled self.old.store self.old.names w
+            → Begins self.old (S.blocks swap.old) (S.block swap.old) s w pid x
+            (left_as text (I.left input.old) (I.past input.old))
+            → HasTurn self.old (S.blocks swap.old) (S.block swap.old) s w pid
             → SpellsBehind (before s w pid x) w x self.new.store self.new.names result }
         ensures still { OnNoStep result
             ((input.new ≡ input.old) × (console.new ≡ console.old) × (report.new ≡ report.old)) }
         ensures goes_on { GoesOn (I.past input.old) (I.past input.new) }
 
-        // The swap device failed at SwapFault.
-        ensures swap_stops { OnSwapStop result (Unit {0}) (Unit {0})
-            (Rose (S.faults swap.old) (S.faults swap.new)) }
         // The room of the world's next step, where it is one of this process, is at most the memory where it is taken, and also where a
         // sink or the input fails in it; it is more than the memory at NoRoom. At SwapFull what swapping has to hold exceeds blocks and memory.
         ensures next_room { (text : Option (List ℕ)) → IsSeenAs text (I.past input.new)
             → (s : Setting) (w : World) (x : Process) → IsTrue (S.told swap.new)
-            → Stands (parts_in self.old (S.blocks swap.old) (S.block swap.old)) w
-            → IsSetTo (parts_in self.old (S.blocks swap.old) (S.block swap.old)) s → IsSound w
-            → (next_dispatch s w).current ≡ pid → process_at w.processes pid ≡ Some x
-            → left_as text (I.left input.old) (I.past input.old) ≡ Some w.input → IsKnown (known_of s w) self.old.services
-            → AreSpelled self.old.store self.old.names w
+            → Begins self.old (S.blocks swap.old) (S.block swap.old) s w pid x
+            (left_as text (I.left input.old) (I.past input.old))
+            → HasTurn self.old (S.blocks swap.old) (S.block swap.old) s w pid
             → SaysRoom (S.blocks swap.old) s w result }
         // Where nothing is in swap blocks and all that lives in the world's next step fits the memory, the device isn't touched.
         ensures idle { (text : Option (List ℕ)) → IsSeenAs text (I.past input.new)
             → (s : Setting) (w : World) (x : Process) → IsTrue (S.told swap.old)
-            → Stands (parts_in self.old (S.blocks swap.old) (S.block swap.old)) w
-            → IsSetTo (parts_in self.old (S.blocks swap.old) (S.block swap.old)) s → IsSound w
-            → (next_dispatch s w).current ≡ pid → process_at w.processes pid ≡ Some x
-            → left_as text (I.left input.old) (I.past input.old) ≡ Some w.input → IsKnown (known_of s w) self.old.services
-            → AreSpelled self.old.store self.old.names w → AllFits s w
+            → Begins self.old (S.blocks swap.old) (S.block swap.old) s w pid x
+            (left_as text (I.left input.old) (I.past input.old))
+            → HasTurn self.old (S.blocks swap.old) (S.block swap.old) s w pid → AllFits s w
             → NoneTaken self.old.store.swap → IsIdle self.new.store swap.old swap.new }
 
         // The parts go on to go together, whatever the device gives, and what a setting fixes stays. Who is marked live stays so, but
-        // for the process, where its step ended it.
+        // for the process, where its step ended it. The swap device failed at SwapFault.
         ensures together { GoTogether self.new (S.blocks swap.new) }
-        ensures set { (s : Setting)
-            → IsSetTo (parts_in self.old (S.blocks swap.old) (S.block swap.old)) s
-            → IsSetTo (parts_in self.new (S.blocks swap.new) (S.block swap.new)) s }
+        ensures keeps { KeepsSpace self.old self.new }
+        ensures adds { AddsAtMost (made_by result) (holds_by result) self.old self.new }
         ensures marks { AreMarkedBehind self.old.ends self.new.ends pid result }
-        ensures count { length self.new.procs.items ≡ length self.old.procs.items }
-        ensures processes { self.new.regions.processes ≡ self.old.regions.processes }
-        ensures made { self.new.store.made ≤ self.old.store.made + made_by result }
-        ensures held { (k : ℕ) → 1 ≤ k → AreHeldAtMost self.old.regions k
-            → AreHeldAtMost self.new.regions (k + holds_by result) }
-        ensures avail { self.new.services.avail ≡ self.old.services.avail }
-        ensures images { self.new.images ≡ self.old.images }
-        ensures device { (S.blocks swap.new ≡ S.blocks swap.old)
-            × (IsTrue (S.told swap.new) → IsTrue (S.told swap.old)) }
+        ensures device { KeepsDevice S.blocks S.told S.faults swap.old swap.new
+            (result ≡ Err (Fault.Stopped Stop.SwapFault)) }
 
         ensures cause { TakenFor
             (Rose (C.faults console.old) (C.faults console.new)
@@ -313,16 +269,14 @@ impl Space {
         ensures input_count { I.faults input.old ≤ I.faults input.new }
         ensures console_count { C.faults console.old ≤ C.faults console.new }
         ensures report_count { R.faults report.old ≤ R.faults report.new }
-        ensures swap_count { S.faults swap.old ≤ S.faults swap.new }
 
         // Each line is one put, and so is the piece where it has bytes. Where a sink fails, no more lines were put than there are.
         ensures puts { RanHands (counts (C.puts console.old) (C.puts console.new)
             (R.puts report.old) (R.puts report.new) 0) result }
         ensures part { (text : Option (List ℕ)) → IsSeenAs text (I.past input.new)
             → (s : Setting) (w : World) (x : Process) → IsTrue (S.told swap.new)
-            → Stands (parts_in self.old (S.blocks swap.old) (S.block swap.old)) w
-            → process_at w.processes pid ≡ Some x
-            → left_as text (I.left input.old) (I.past input.old) ≡ Some w.input → IsKnown (known_of s w) self.old.services
+            → Begins self.old (S.blocks swap.old) (S.block swap.old) s w pid x
+            (left_as text (I.left input.old) (I.past input.old))
             → PartHands (effect (before s w pid x))
             (counts (C.puts console.old) (C.puts console.new)
             (R.puts report.old) (R.puts report.new) 0) result }

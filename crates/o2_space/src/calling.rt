@@ -1,5 +1,5 @@
 // A call on segments by a process over a store.
-ghost use Rattle.std.specs.Prelude.{◌≡◌, ◌<◌, ◌≤◌, ◌+◌, ◌-◌, ◌^◌, ℕ, IfOk, List, OnOk, length, Option, Some, IsTrue, true};
+ghost use Rattle.std.specs.Prelude.{◌≡◌, ◌<◌, ◌≤◌, ◌+◌, ◌-◌, ◌^◌, ℕ, Err, IfOk, List, OnOk, length, Option, Some, IsTrue, true};
 ghost use Rattle.o2_outer.specs.Texts.{Rose};
 ghost use Rattle.o2_isa.specs.View.{bound_registers};
 ghost use Rattle.o2_regions.specs.Lives.{lives};
@@ -9,33 +9,33 @@ ghost use Rattle.o2_segbus.specs.Frames.{CanStep, KeepsClean, KeepsMaps, KeepsSt
 ghost use Rattle.o2_segbus.specs.Seen.{AreNamed, hold_in, seen};
 ghost use Rattle.o2_segbus.specs.Settled.{IsSettled};
 ghost use Rattle.o2_world.specs.Effect.{effect, single_stepped};
-ghost use Rattle.o2_world.specs.Holders.{process_at};
-ghost use Rattle.o2_world.specs.Run.{before, next_dispatch};
-ghost use Rattle.o2_world.specs.Tied.{IsSound, IsTied};
+ghost use Rattle.o2_world.specs.Run.{before};
+ghost use Rattle.o2_world.specs.Tied.{IsTied};
 ghost use Rattle.o2_world.specs.World.{Process, Setting, World, is_live as lives_on};
 ghost use Rattle.o2_gate.specs.Gathers.{asked, targets};
 ghost use Rattle.o2_gate.specs.Pointed.{are_ready};
 ghost use Rattle.o2_gate.specs.MovedLines.{AreInside, all_lines};
 ghost use Rattle.o2_gate.specs.Replies.{IsValue, bytes_of, name_of};
-ghost use Rattle.o2_stands.specs.Stands.{IsSetTo, Stands};
+ghost use Rattle.o2_stands.specs.Stands.{Stands};
 ghost use Rattle.o2_run.specs.Pieces.{counts};
 ghost use Rattle.o2_stepping.specs.Pieces.{RanHands};
 ghost use Rattle.o2_stepping.specs.Ran.{IsCallOf};
 ghost use Rattle.o2_stepping.specs.Rooms.{all_names, room_in};
-ghost use Rattle.o2_stepping.specs.Taken.{IsSwapStop, OnErr, OnNoStep, OnBegun, OnSwapStop, TakenFor};
+ghost use Rattle.o2_stepping.specs.Taken.{IsSwapStop, OnErr, OnNoStep, OnBegun, TakenFor};
 ghost use Rattle.o2_stepping.specs.Worlds.{bytes_with};
 ghost use Rattle.o2_world.specs.Changes.{moved_lines, with_all};
 ghost use Rattle.o2_world.specs.Known.{known_of};
-ghost use Rattle.o2_segs.specs.Sharing.{AreHeldAtMost};
 ghost use Rattle.o2_shared.specs.Shares.{AreFew};
 ghost use Rattle.o2_shared.specs.Texts.{IsBehind};
 ghost use Rattle.o2_calls.specs.Acts.{ruling_of};
-ghost use Rattle.o2_calls.specs.SharedActs.{AreSpelled};
 ghost use Rattle.o2_space.specs.Acts.{Acts, AreMarkedBehind, SpellsBehind, holds_by, made_by};
+ghost use Rattle.o2_space.specs.Begins.{AgreesWith, HasTurn, StandsAt};
 ghost use Rattle.o2_space.specs.Calls.{Makes, MakesNames, SaysCall, no_registers};
+ghost use Rattle.o2_space.specs.Frames.{AddsAtMost, KeepsSpace};
 ghost use Rattle.o2_space.specs.Nexts.{SaysRoom};
 ghost use Rattle.o2_space.specs.Parts.{parts_in};
 ghost use Rattle.o2_space.specs.Stands.{GoTogether};
+ghost use Rattle.o2_store.specs.Frames.{KeepsDevice};
 ghost use Rattle.o2_store.specs.Idle.{IsIdle, NoneTaken};
 ghost use Rattle.o2_run.specs.Room.{AllFits};
 
@@ -129,60 +129,47 @@ impl Space {
         requires can_step { CanStep self.old.store self.old.regions pid cpu.old }
         requires aimed { are_ready (seen self.old.store self.old.regions pid cpu.old) (targets arguments) ≡ true }
         ensures makes { (s : Setting) (w : World) (x : Process) → IsTrue (S.told swap.new)
-            → Stands (parts_in self.old (S.blocks swap.old) (S.block swap.old)) w
-            → IsSetTo (parts_in self.old (S.blocks swap.old) (S.block swap.old)) s → IsTied w
-            → process_at w.processes pid ≡ Some x → cpu.old ≡ x.cpu
-            → AreSpelled self.old.store self.old.names w
+            → StandsAt self.old (S.blocks swap.old) (S.block swap.old) w pid x
+            → AgreesWith self.old (S.blocks swap.old) (S.block swap.old) s w
+            → IsTied w → cpu.old ≡ x.cpu
             → Makes s w pid x arguments next cpu.new (parts_in self.new (S.blocks swap.new) (S.block swap.new)) result }
         ensures room { (s : Setting) (w : World) (x : Process) → IsTrue (S.told swap.new)
-            → Stands (parts_in self.old (S.blocks swap.old) (S.block swap.old)) w
-            → IsSetTo (parts_in self.old (S.blocks swap.old) (S.block swap.old)) s → IsSound w
-            → (next_dispatch s w).current ≡ pid → process_at w.processes pid ≡ Some x
-            → lives_on x.state ≡ true → cpu.old ≡ x.cpu → AreSpelled self.old.store self.old.names w
+            → StandsAt self.old (S.blocks swap.old) (S.block swap.old) w pid x
+            → HasTurn self.old (S.blocks swap.old) (S.block swap.old) s w pid
+            → lives_on x.state ≡ true → cpu.old ≡ x.cpu
             → let b = before s w pid x in IsCallOf b arguments next
             → room_in self.old.store (all_names b (bound_registers (hold_in self.old.regions pid) b.cpu)) ≤ self.old.store.places.size
             → SaysCall (S.blocks swap.old) s w result }
         ensures idle { (s : Setting) (w : World) (x : Process)
-            → Stands (parts_in self.old (S.blocks swap.old) (S.block swap.old)) w
-            → IsSetTo (parts_in self.old (S.blocks swap.old) (S.block swap.old)) s → IsSound w
-            → (next_dispatch s w).current ≡ pid → process_at w.processes pid ≡ Some x
-            → lives_on x.state ≡ true → cpu.old ≡ x.cpu → AreSpelled self.old.store self.old.names w
+            → StandsAt self.old (S.blocks swap.old) (S.block swap.old) w pid x
+            → HasTurn self.old (S.blocks swap.old) (S.block swap.old) s w pid
+            → lives_on x.state ≡ true → cpu.old ≡ x.cpu
             → IsCallOf (before s w pid x) arguments next → AllFits s w
             → NoneTaken self.old.store.swap → IsIdle self.new.store swap.old swap.new }
         ensures spells { (s : Setting) (w : World) (x : Process)
             → Stands (parts_in self.old (S.blocks swap.old) (S.block swap.old)) w
-            → IsSetTo (parts_in self.old (S.blocks swap.old) (S.block swap.old)) s
-            → cpu.old ≡ x.cpu → AreSpelled self.old.store self.old.names w
+            → AgreesWith self.old (S.blocks swap.old) (S.block swap.old) s w
+            → cpu.old ≡ x.cpu
             → MakesNames arguments self.new.store self.old.names self.new.names
             (with_all w (ruling_of arguments (known_of s w) pid x.cpu).changes) result }
         ensures behind { IsBehind self.old.store self.new.store }
         ensures stops { OnErr result (λ f. IsSwapStop f) }
-        ensures fault { OnSwapStop result (Unit {0}) (Unit {0}) (Rose (S.faults swap.old) (S.faults swap.new)) }
         ensures value { IfOk result (λ a. IsValue arguments a.value) }
         // What came and what went has the lines of what the call changes.
         ensures moves { (s : Setting) (w : World) (x : Process) → IsTrue (S.told swap.new)
-            → Stands (parts_in self.old (S.blocks swap.old) (S.block swap.old)) w
-            → IsSetTo (parts_in self.old (S.blocks swap.old) (S.block swap.old)) s → IsTied w
-            → process_at w.processes pid ≡ Some x → cpu.old ≡ x.cpu
-            → AreSpelled self.old.store self.old.names w
+            → StandsAt self.old (S.blocks swap.old) (S.block swap.old) w pid x
+            → AgreesWith self.old (S.blocks swap.old) (S.block swap.old) s w
+            → IsTied w → cpu.old ≡ x.cpu
             → OnOk result (all_lines (name_of arguments) self.new.services.moves
             ≡ moved_lines (name_of arguments) (ruling_of arguments (known_of s w) pid x.cpu).changes) }
         ensures inside { OnOk result (AreInside self.new.services.moves) }
         ensures together { GoTogether self.new (S.blocks swap.new) }
-        ensures set { (s : Setting)
-            → IsSetTo (parts_in self.old (S.blocks swap.old) (S.block swap.old)) s
-            → IsSetTo (parts_in self.new (S.blocks swap.new) (S.block swap.new)) s }
+        ensures keeps { KeepsSpace self.old self.new }
+        ensures adds { AddsAtMost (made_by result) (holds_by result) self.old self.new }
         ensures procs { self.new.procs ≡ self.old.procs }
         ensures ends { self.new.ends ≡ self.old.ends }
-        ensures processes { self.new.regions.processes ≡ self.old.regions.processes }
-        ensures made { self.new.store.made ≤ self.old.store.made + made_by result }
-        ensures held { (k : ℕ) → 1 ≤ k → AreHeldAtMost self.old.regions k
-            → AreHeldAtMost self.new.regions (k + holds_by result) }
-        ensures avail { self.new.services.avail ≡ self.old.services.avail }
-        ensures images { self.new.images ≡ self.old.images }
-        ensures device { (S.blocks swap.new ≡ S.blocks swap.old)
-            × (IsTrue (S.told swap.new) → IsTrue (S.told swap.old)) }
-        ensures swap_count { S.faults swap.old ≤ S.faults swap.new }
+        ensures device { KeepsDevice S.blocks S.told S.faults swap.old swap.new
+            (result ≡ Err (Fault.Stopped Stop.SwapFault)) }
     {
         lawful(&self.store, &self.regions);
         let need = call_need(arguments, &self.regions, pid, cpu);
@@ -237,55 +224,41 @@ impl Space {
         requires can_step { CanStep self.old.store self.old.regions pid registers }
         requires aimed { are_ready (seen self.old.store self.old.regions pid registers) (targets arguments) ≡ true }
         ensures acts { (s : Setting) (w : World) (x : Process) (i c : Option (List ℕ)) → IsTrue (S.told swap.new)
-            → Stands (parts_in self.old (S.blocks swap.old) (S.block swap.old)) w
-            → IsSetTo (parts_in self.old (S.blocks swap.old) (S.block swap.old)) s → IsSound w
-            → (next_dispatch s w).current ≡ pid → process_at w.processes pid ≡ Some x
-            → registers ≡ x.cpu → i ≡ Some w.input → AreSpelled self.old.store self.old.names w
+            → StandsAt self.old (S.blocks swap.old) (S.block swap.old) w pid x
+            → HasTurn self.old (S.blocks swap.old) (S.block swap.old) s w pid
+            → registers ≡ x.cpu → i ≡ Some w.input
             → let b = before s w pid x in effect b ≡ single_stepped b (asked arguments b next)
             → Acts b w x (parts_in self.new (S.blocks swap.new) (S.block swap.new))
             i i c c (R.taken report.old) (R.taken report.new) result }
         ensures next_room { (s : Setting) (w : World) (x : Process) → IsTrue (S.told swap.new)
-            → Stands (parts_in self.old (S.blocks swap.old) (S.block swap.old)) w
-            → IsSetTo (parts_in self.old (S.blocks swap.old) (S.block swap.old)) s → IsSound w
-            → (next_dispatch s w).current ≡ pid → process_at w.processes pid ≡ Some x → registers ≡ x.cpu
-            → AreSpelled self.old.store self.old.names w
+            → StandsAt self.old (S.blocks swap.old) (S.block swap.old) w pid x
+            → HasTurn self.old (S.blocks swap.old) (S.block swap.old) s w pid
+            → registers ≡ x.cpu
             → let b = before s w pid x in IsCallOf b arguments next
             → room_in self.old.store (all_names b (bound_registers (hold_in self.old.regions pid) b.cpu)) ≤ self.old.store.places.size
             → SaysRoom (S.blocks swap.old) s w result }
         ensures idle { (s : Setting) (w : World) (x : Process)
-            → Stands (parts_in self.old (S.blocks swap.old) (S.block swap.old)) w
-            → IsSetTo (parts_in self.old (S.blocks swap.old) (S.block swap.old)) s → IsSound w
-            → (next_dispatch s w).current ≡ pid → process_at w.processes pid ≡ Some x → registers ≡ x.cpu
-            → AreSpelled self.old.store self.old.names w
+            → StandsAt self.old (S.blocks swap.old) (S.block swap.old) w pid x
+            → HasTurn self.old (S.blocks swap.old) (S.block swap.old) s w pid
+            → registers ≡ x.cpu
             → IsCallOf (before s w pid x) arguments next → AllFits s w
             → NoneTaken self.old.store.swap → IsIdle self.new.store swap.old swap.new }
         ensures spells { (s : Setting) (w : World) (x : Process) → IsTrue (S.told swap.new)
-            → Stands (parts_in self.old (S.blocks swap.old) (S.block swap.old)) w
-            → IsSetTo (parts_in self.old (S.blocks swap.old) (S.block swap.old)) s → IsSound w
-            → (next_dispatch s w).current ≡ pid → process_at w.processes pid ≡ Some x
-            → registers ≡ x.cpu → AreSpelled self.old.store self.old.names w
+            → StandsAt self.old (S.blocks swap.old) (S.block swap.old) w pid x
+            → HasTurn self.old (S.blocks swap.old) (S.block swap.old) s w pid
+            → registers ≡ x.cpu
             → let b = before s w pid x in effect b ≡ single_stepped b (asked arguments b next)
             → SpellsBehind b w x self.new.store self.new.names result }
         ensures still { OnNoStep result (report.new ≡ report.old) }
         ensures not_begun { OnBegun result ⊥ }
-        ensures swap_stops { OnSwapStop result (Unit {0}) (Unit {0}) (Rose (S.faults swap.old) (S.faults swap.new)) }
         ensures together { GoTogether self.new (S.blocks swap.new) }
-        ensures set { (s : Setting)
-            → IsSetTo (parts_in self.old (S.blocks swap.old) (S.block swap.old)) s
-            → IsSetTo (parts_in self.new (S.blocks swap.new) (S.block swap.new)) s }
+        ensures keeps { KeepsSpace self.old self.new }
+        ensures adds { AddsAtMost (made_by result) (holds_by result) self.old self.new }
         ensures marks { AreMarkedBehind self.old.ends self.new.ends pid result }
-        ensures count { length self.new.procs.items ≡ length self.old.procs.items }
-        ensures processes { self.new.regions.processes ≡ self.old.regions.processes }
-        ensures made { self.new.store.made ≤ self.old.store.made + made_by result }
-        ensures held { (k : ℕ) → 1 ≤ k → AreHeldAtMost self.old.regions k
-            → AreHeldAtMost self.new.regions (k + holds_by result) }
-        ensures avail { self.new.services.avail ≡ self.old.services.avail }
-        ensures images { self.new.images ≡ self.old.images }
-        ensures device { (S.blocks swap.new ≡ S.blocks swap.old)
-            × (IsTrue (S.told swap.new) → IsTrue (S.told swap.old)) }
+        ensures device { KeepsDevice S.blocks S.told S.faults swap.old swap.new
+            (result ≡ Err (Fault.Stopped Stop.SwapFault)) }
         ensures cause { TakenFor (Rose (R.faults report.old) (R.faults report.new)) ⊥ result }
         ensures report_count { R.faults report.old ≤ R.faults report.new }
-        ensures swap_count { S.faults swap.old ≤ S.faults swap.new }
         ensures puts { (c : ℕ) → RanHands (counts c c (R.puts report.old) (R.puts report.new) 0) result }
     {
         let mut cpu = registers;

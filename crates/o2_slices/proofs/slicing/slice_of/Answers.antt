@@ -5,12 +5,11 @@ use Rattle.o2_stands.specs.Stands.{Stands}
 use Rattle.o2_slices.specs.Slices.{Seat, seat}
 use Rattle.o2_space.specs.declared.space.Proc.{Proc}
 use Rattle.o2_slices.specs.Laters.{StandsLater}
-use Rattle.o2_space.specs.Parts.{parts_in, running_at}
+use Rattle.o2_space.specs.Parts.{running_at}
 use Rattle.o2_shared.proofs.Staying.{stay_in_place}
 use Rattle.o2_space.proofs.SharedKept.{few_as, shape_grows, shape_shares}
 use Rattle.o2_space.proofs.Whole.{whole_same}
 use Rattle.o2_space.proofs.Alike.{made, ready_as, set_as}
-use Rattle.o2_space.proofs.Behind.{set_behind}
 use Rattle.o2_space.proofs.Commits.{count_put, marked_put, now}
 use Rattle.o2_slices.proofs.Laters.{sliced_later}
 use Rattle.o2_slices.proofs.Seats.{runs_before, runs_behind, sliced_keeps}
@@ -65,31 +64,6 @@ returns-clause-together c = λ device together.
       places = stay_in_place m.store new.store m.regions new.regions m.names together.places (shape_shares m.store new.store m.regions new.regions keeps.shape) (shape_grows m.store new.store m.regions new.regions keeps.shape);
     }
 
-pub returns-clause-set : goal.returns-clause-set
-returns-clause-set c = λ device block s set.
-    let m = c.args.space.now in
-    let pid = c.args.pid in
-    let y : Proc = c.index.result.now in
-    let new = c.slice_in_store-done.new in
-    let x : Proc = record { cpu = new.cpu; state = Live } in
-    let keeps = sliced_keeps pid c.slice_in_store-done.result (seat m.store m.regions y.cpu) (seat new.store new.regions new.cpu) c.slice_in_store-done.ensures.sliced in
-    set_as new.store new.regions m.images device block block (running_at m.procs.items) (running_at (now m.procs.items pid x c.requires.some c.requires.there)) s
-    (set_behind (parts_in m device block) new.store new.regions device block keeps.shape s refl set)
-
-pub returns-clause-made : goal.returns-clause-made
-returns-clause-made c =
-    let m = c.args.space.now in
-    let y : Proc = c.index.result.now in
-    let new = c.slice_in_store-done.new in
-    (sliced_keeps c.args.pid c.slice_in_store-done.result (seat m.store m.regions y.cpu) (seat new.store new.regions new.cpu) c.slice_in_store-done.ensures.sliced).shape.tables.made
-
-pub returns-clause-held : goal.returns-clause-held
-returns-clause-held c =
-    let m = c.args.space.now in
-    let new = c.slice_in_store-done.new in
-    let keeps = sliced_keeps c.args.pid c.slice_in_store-done.result (seat m.store m.regions c.index.result.now.cpu) (seat new.store new.regions new.cpu) c.slice_in_store-done.ensures.sliced in
-    few_as m.regions new.regions keeps.shape.holds.held
-
 pub returns-clause-tables : goal.returns-clause-tables
 returns-clause-tables c =
     let m = c.args.space.now in
@@ -103,3 +77,25 @@ returns-clause-blocks c =
     let y : Proc = c.index.result.now in
     let new = c.slice_in_store-done.new in
     (sliced_keeps c.args.pid c.slice_in_store-done.result (seat m.store m.regions y.cpu) (seat new.store new.regions new.cpu) c.slice_in_store-done.ensures.sliced).swap
+
+pub returns-clause-keeps : goal.returns-clause-keeps
+returns-clause-keeps c =
+    let m = c.args.space.now in
+    let new = c.slice_in_store-done.new in
+    let shape = (sliced_keeps c.args.pid c.slice_in_store-done.result (seat m.store m.regions c.index.result.now.cpu) (seat new.store new.regions new.cpu) c.slice_in_store-done.ensures.sliced).shape in
+    record {
+      memory = shape.tables.size;
+      segments = shape.tables.count;
+      blocks = shape.swap;
+      count = count_put m.procs.items c.args.pid (record { cpu = new.cpu; state = Live }) c.requires.some c.requires.there;
+      processes = shape.holds.processes;
+      avail = refl;
+      images = refl;
+    }
+
+pub returns-clause-adds : goal.returns-clause-adds
+returns-clause-adds c =
+    let m = c.args.space.now in
+    let new = c.slice_in_store-done.new in
+    let shape = (sliced_keeps c.args.pid c.slice_in_store-done.result (seat m.store m.regions c.index.result.now.cpu) (seat new.store new.regions new.cpu) c.slice_in_store-done.ensures.sliced).shape in
+    record { made = shape.tables.made; held = few_as m.regions new.regions shape.holds.held }

@@ -1,5 +1,6 @@
 use Rattle.std.proofs.Common.{sym, ◌∙◌, refl, inr}
 use Rattle.o2_machine.proofs.Turns.{same_space, closes_ended, ended_in_part, closes_spent, spent_in_part}
+use Rattle.o2_store.proofs.Framing.{device_refl}
 use Rattle.o2_machine.proofs.Hands.{one_line, failed_all, failed_spent}
 use Rattle.o2_machine.proofs.machine.Machine.advance.Goals as goal
 
@@ -54,3 +55,15 @@ returns-in-Failed-put-clause-idle g c = λ tells text may s w stands left fits n
 pub returns-in-Step-clause-idle : goal.returns-in-Step-clause-idle
 returns-in-Step-clause-idle g c = λ tells text may s w stands left fits none.
     c.step.ensures.idle tells text may s w (same_space _ c.args.self.now _ _ _ _ s w stands (record { sched = c.next.ensures.same; avail = refl; budget = refl; bytes = refl; lines = refl }) stands.space stands.set stands.spells) left fits none
+
+pub returns-in-Done-clause-frame : goal.returns-in-Done-clause-frame
+returns-in-Done-clause-frame g c = device_refl _ _ _ c.args.swap.now _ (λ failed. cc)
+
+pub returns-in-Failed-clause-frame : goal.returns-in-Failed-clause-frame
+returns-in-Failed-clause-frame g c = device_refl _ _ _ c.args.swap.now _ (λ failed. cc)
+
+pub returns-in-Done-put-clause-frame : goal.returns-in-Done-put-clause-frame
+returns-in-Done-put-clause-frame g c = device_refl _ _ _ c.args.swap.now _ (λ failed. cc)
+
+pub returns-in-Failed-put-clause-frame : goal.returns-in-Failed-put-clause-frame
+returns-in-Failed-put-clause-frame g c = device_refl _ _ _ c.args.swap.now _ (λ failed. cc)

@@ -7,11 +7,12 @@ use Rattle.o2_world.specs.Run.{before}
 use Rattle.o2_world.specs.World.{is_live}
 use Rattle.o2_run.specs.declared.fault.Fault.{Fault}
 use Rattle.o2_run.proofs.Reached.{rose_since}
-use Rattle.std.specs.Prelude.{length, None, Err, Bool}
+use Rattle.std.specs.Prelude.{length, None, Err, Bool, Result}
 use Rattle.o2_run.specs.Pieces.{counts, PartHands, puts_of}
 use Rattle.o2_stepping.specs.Pieces.{HandsWhole, RanHands}
 use Rattle.o2_stepping.specs.declared.one_step.Ran.{Ran}
 use Rattle.o2_sched.specs.Schedule.{Schedule}
+use Rattle.o2_space.proofs.Framing.{set_kept}
 use Rattle.o2_space.specs.Acts.{ActsFault}
 use Rattle.o2_space.specs.Nexts.{FaultSays}
 use Rattle.o2_space.specs.Parts.{parts_in}
@@ -23,7 +24,8 @@ use Rattle.o2_machine.proofs.Behinds.{few_left}
 use Rattle.o2_machine.proofs.Hands.{stop_line_put, by_stop}
 use Rattle.o2_machine.proofs.Marks.{marked_next, some_number}
 use Rattle.o2_store.specs.Idle.{IsIdle}
-use Rattle.o2_machine.proofs.Turns.{of_next, faulted, went, late, stopped_by, caused_stop, line_of_stop, left_at_stop, failed_puts, went_puts, late_puts}
+use Rattle.o2_store.proofs.Framing.{device_for}
+use Rattle.o2_machine.proofs.Turns.{begins_here, turn_here, failed_stop, of_next, faulted, went, late, stopped_by, caused_stop, line_of_stop, left_at_stop, failed_puts, went_puts, late_puts}
 use Rattle.o2_machine.proofs.machine.Machine.step.Goals as goal
 
 pub act-requires-clause-some : goal.act-requires-clause-some
@@ -46,14 +48,14 @@ returns-in-Err-Sink-clause-turns g c = λ tells text may s w stands left.
     let S = g.S.SwapDevice in
     let new = c.act.new in
     inl (faulted c.args.self.now _ _ s w c.args.pid _ _ _ _ stands c.requires.pick c.requires.live _ (S.blocks new.swap) (S.block new.swap) _ _
-    (record { sched = refl; avail = c.act.ensures.avail; budget = refl; bytes = refl; lines = refl }) left (c.act.ensures.set s stands.set)
+    (record { sched = refl; avail = c.act.ensures.keeps.avail; budget = refl; bytes = refl; lines = refl }) left (set_kept c.args.self.now.space new.self (S.blocks c.args.swap.now) (S.blocks new.swap) (S.block c.args.swap.now) (S.block new.swap) c.act.ensures.keeps c.act.ensures.device.blocks s stands.set)
     (λ chosen p at. subst (λ (f : Fault). ActsFault (before s w c.args.pid p) w (parts_in new.self (S.blocks new.swap) (S.block new.swap))
     (left_as text (g.I.Source.left c.args.input.now) (g.I.Source.past c.args.input.now)) (left_as text (g.I.Source.left new.input) (g.I.Source.past new.input))
     (g.C.Sink.taken c.args.console.now) (g.C.Sink.taken new.console) (g.R.Sink.taken c.args.report.now) (g.R.Sink.taken new.report) f) c.in-Err-Sink.field-0-is
-    (c.in-Err-Sink.ensures.acts text may s w p tells stands.space stands.set stands.sound chosen at left stands.known stands.spells))
+    (c.in-Err-Sink.ensures.acts text may s w p tells (begins_here stands at left) (turn_here stands chosen)))
     (λ chosen p at. subst (λ (f : Fault). FaultSays (S.blocks c.args.swap.now) s w f) c.in-Err-Sink.field-0-is
-    (c.in-Err-Sink.ensures.next_room text may s w p tells stands.space stands.set stands.sound chosen at left stands.known stands.spells))
-    (λ chosen p at. c.in-Err-Sink.ensures.spells text may s w p tells stands.space stands.set stands.sound chosen at left stands.known stands.spells))
+    (c.in-Err-Sink.ensures.next_room text may s w p tells (begins_here stands at left) (turn_here stands chosen)))
+    (λ chosen p at. c.in-Err-Sink.ensures.spells text may s w p tells (begins_here stands at left) (turn_here stands chosen)))
 
 pub returns-in-Err-Stopped-clause-turns : goal.returns-in-Err-Stopped-clause-turns
 returns-in-Err-Stopped-clause-turns g c = λ tells text may s w stands left.
@@ -61,14 +63,14 @@ returns-in-Err-Stopped-clause-turns g c = λ tells text may s w stands left.
     let new = c.act.new in
     stopped_by c.args.self.now _ _ s w c.args.pid _ _ _ _ stands c.requires.pick c.requires.live _ (S.blocks new.swap) (S.block new.swap)
     c.in-Err-Stopped.why c.put_stop.result _ _ _
-    (record { sched = refl; avail = c.act.ensures.avail; budget = refl; bytes = refl; lines = refl }) left (c.act.ensures.set s stands.set)
+    (record { sched = refl; avail = c.act.ensures.keeps.avail; budget = refl; bytes = refl; lines = refl }) left (set_kept c.args.self.now.space new.self (S.blocks c.args.swap.now) (S.blocks new.swap) (S.block c.args.swap.now) (S.block new.swap) c.act.ensures.keeps c.act.ensures.device.blocks s stands.set)
     (λ chosen p at. subst (λ (f : Fault). ActsFault (before s w c.args.pid p) w (parts_in new.self (S.blocks new.swap) (S.block new.swap))
     (left_as text (g.I.Source.left c.args.input.now) (g.I.Source.past c.args.input.now)) (left_as text (g.I.Source.left new.input) (g.I.Source.past new.input))
     (g.C.Sink.taken c.args.console.now) (g.C.Sink.taken new.console) (g.R.Sink.taken c.args.report.now) (g.R.Sink.taken new.report) f) c.in-Err-Stopped.field-0-is
-    (c.in-Err-Stopped.ensures.acts text may s w p tells stands.space stands.set stands.sound chosen at left stands.known stands.spells))
+    (c.in-Err-Stopped.ensures.acts text may s w p tells (begins_here stands at left) (turn_here stands chosen)))
     (λ chosen p at. subst (λ (f : Fault). FaultSays (S.blocks c.args.swap.now) s w f) c.in-Err-Stopped.field-0-is
-    (c.in-Err-Stopped.ensures.next_room text may s w p tells stands.space stands.set stands.sound chosen at left stands.known stands.spells))
-    (λ chosen p at. c.in-Err-Stopped.ensures.spells text may s w p tells stands.space stands.set stands.sound chosen at left stands.known stands.spells)
+    (c.in-Err-Stopped.ensures.next_room text may s w p tells (begins_here stands at left) (turn_here stands chosen)))
+    (λ chosen p at. c.in-Err-Stopped.ensures.spells text may s w p tells (begins_here stands at left) (turn_here stands chosen))
     c.put_stop.ensures.text c.put_stop.ensures.whole
 
 pub returns-then-ran-clause-turns : goal.returns-then-ran-clause-turns
@@ -76,23 +78,23 @@ returns-then-ran-clause-turns g c = λ tells text may s w stands left.
     let S = g.S.SwapDevice in
     let new = c.act.new in
     went c.args.self.now _ _ s w c.args.pid _ _ _ _ stands c.requires.pick c.requires.live c.stepped.new.self (S.blocks new.swap) (S.block new.swap) _ new.self c.in-Ok.ran
-    (record { space = c.stepped.ensures.space; avail = c.act.ensures.avail; budget = c.stepped.ensures.budget; bytes = c.stepped.ensures.bytes; lines = c.stepped.ensures.lines })
-    (c.act.ensures.set s stands.set) (λ chosen p at. c.in-Ok.ensures.acts text may s w p tells stands.space stands.set stands.sound chosen at left stands.known stands.spells)
-    (λ chosen p at. c.in-Ok.ensures.next_room text may s w p tells stands.space stands.set stands.sound chosen at left stands.known stands.spells)
-    (λ chosen p at. c.in-Ok.ensures.spells text may s w p tells stands.space stands.set stands.sound chosen at left stands.known stands.spells) c.stepped.ensures.sched c.if-ran.true
+    (record { space = c.stepped.ensures.space; avail = c.act.ensures.keeps.avail; budget = c.stepped.ensures.budget; bytes = c.stepped.ensures.bytes; lines = c.stepped.ensures.lines })
+    (set_kept c.args.self.now.space new.self (S.blocks c.args.swap.now) (S.blocks new.swap) (S.block c.args.swap.now) (S.block new.swap) c.act.ensures.keeps c.act.ensures.device.blocks s stands.set) (λ chosen p at. c.in-Ok.ensures.acts text may s w p tells (begins_here stands at left) (turn_here stands chosen))
+    (λ chosen p at. c.in-Ok.ensures.next_room text may s w p tells (begins_here stands at left) (turn_here stands chosen))
+    (λ chosen p at. c.in-Ok.ensures.spells text may s w p tells (begins_here stands at left) (turn_here stands chosen)) c.stepped.ensures.sched c.if-ran.true
 
 pub returns-else-ran-clause-turns : goal.returns-else-ran-clause-turns
 returns-else-ran-clause-turns g c = λ tells text may s w stands left.
     let S = g.S.SwapDevice in
     let new = c.act.new in
     inl (late c.args.self.now _ _ s w c.args.pid _ _ _ _ stands c.requires.pick c.requires.live c.stepped.new.self (S.blocks new.swap) (S.block new.swap) _ new.self c.in-Ok.ran
-    (record { space = c.stepped.ensures.space; avail = c.act.ensures.avail; budget = c.stepped.ensures.budget; bytes = c.stepped.ensures.bytes; lines = c.stepped.ensures.lines })
-    (c.act.ensures.set s stands.set) (λ chosen p at. c.in-Ok.ensures.acts text may s w p tells stands.space stands.set stands.sound chosen at left stands.known stands.spells)
-    (λ chosen p at. c.in-Ok.ensures.next_room text may s w p tells stands.space stands.set stands.sound chosen at left stands.known stands.spells)
-    (λ chosen p at. c.in-Ok.ensures.spells text may s w p tells stands.space stands.set stands.sound chosen at left stands.known stands.spells) c.stepped.ensures.sched c.if-ran.false)
+    (record { space = c.stepped.ensures.space; avail = c.act.ensures.keeps.avail; budget = c.stepped.ensures.budget; bytes = c.stepped.ensures.bytes; lines = c.stepped.ensures.lines })
+    (set_kept c.args.self.now.space new.self (S.blocks c.args.swap.now) (S.blocks new.swap) (S.block c.args.swap.now) (S.block new.swap) c.act.ensures.keeps c.act.ensures.device.blocks s stands.set) (λ chosen p at. c.in-Ok.ensures.acts text may s w p tells (begins_here stands at left) (turn_here stands chosen))
+    (λ chosen p at. c.in-Ok.ensures.next_room text may s w p tells (begins_here stands at left) (turn_here stands chosen))
+    (λ chosen p at. c.in-Ok.ensures.spells text may s w p tells (begins_here stands at left) (turn_here stands chosen)) c.stepped.ensures.sched c.if-ran.false)
 
 pub returns-in-Err-Stopped-clause-cause : goal.returns-in-Err-Stopped-clause-cause
-returns-in-Err-Stopped-clause-cause g c = caused_stop _ _ _ _ _ _ c.in-Err-Stopped.why c.in-Err-Stopped.field-0-is c.in-Err-Stopped.ensures.cause c.in-Err-Stopped.ensures.swap_stops
+returns-in-Err-Stopped-clause-cause g c = caused_stop _ _ _ _ _ _ c.in-Err-Stopped.why c.in-Err-Stopped.field-0-is c.in-Err-Stopped.ensures.cause
 
 pub returns-in-Err-Stopped-clause-line : goal.returns-in-Err-Stopped-clause-line
 returns-in-Err-Stopped-clause-line g c = line_of_stop _ _ c.in-Err-Stopped.why (λ e. rose_since _ _ _ c.act.ensures.report_count (c.put_stop.ensures.cause e))
@@ -107,18 +109,18 @@ pub returns-in-Err-Sink-clause-device : goal.returns-in-Err-Sink-clause-device
 returns-in-Err-Sink-clause-device g c = record {
   together = c.act.ensures.together;
   marked = λ n. c.in-Err-Sink.ensures.marks n ∙ c.requires.device.marked n;
-  few = (let f = c.requires.device.few in let m = c.in-Err-Sink.ensures.made in omega (arith, f, m));
+  few = (let f = c.requires.device.few in let m = c.in-Err-Sink.ensures.adds.made in omega (arith, f, m));
   budget = c.requires.device.budget;
-  held = few_more _ _ _ (omega arith) (c.in-Err-Sink.ensures.held (4294967290 - c.args.self.now.sched.dispatch.budget) (let b = c.requires.device.budget in omega (arith, b)) c.requires.device.held);
+  held = few_more _ _ _ (omega arith) (c.in-Err-Sink.ensures.adds.held (4294967290 - c.args.self.now.sched.dispatch.budget) (let b = c.requires.device.budget in omega (arith, b)) c.requires.device.held);
 }
 
 pub returns-in-Err-Stopped-clause-device : goal.returns-in-Err-Stopped-clause-device
 returns-in-Err-Stopped-clause-device g c = record {
   together = c.act.ensures.together;
   marked = λ n. c.in-Err-Stopped.ensures.marks n ∙ c.requires.device.marked n;
-  few = (let f = c.requires.device.few in let m = c.in-Err-Stopped.ensures.made in omega (arith, f, m));
+  few = (let f = c.requires.device.few in let m = c.in-Err-Stopped.ensures.adds.made in omega (arith, f, m));
   budget = c.requires.device.budget;
-  held = few_more _ _ _ (omega arith) (c.in-Err-Stopped.ensures.held (4294967290 - c.args.self.now.sched.dispatch.budget) (let b = c.requires.device.budget in omega (arith, b)) c.requires.device.held);
+  held = few_more _ _ _ (omega arith) (c.in-Err-Stopped.ensures.adds.held (4294967290 - c.args.self.now.sched.dispatch.budget) (let b = c.requires.device.budget in omega (arith, b)) c.requires.device.held);
 }
 
 pub returns-then-ran-clause-device : goal.returns-then-ran-clause-device
@@ -131,14 +133,14 @@ returns-then-ran-clause-device g c =
       marked = λ n. ap (λ (z : Space). is_marked z.ends n) c.stepped.ensures.space ∙ marks n ∙ ap (λ (z : Schedule). lives z.flags n) (sym c.stepped.ensures.sched);
       few =
           (let f = c.requires.device.few in
-          let m = c.in-Ok.ensures.made in
+          let m = c.in-Ok.ensures.adds.made in
           let l = c.stepped.ensures.left in
           let z = ap (λ (x : Space). x.store.made) c.stepped.ensures.space in
           omega (arith, f, m, l, z));
       budget = (let f = c.requires.device.budget in let l = c.stepped.ensures.left in omega (arith, f, l));
       held = subst (λ (z : Space). AreHeldAtMost z.regions (4294967290 - c.stepped.new.self.sched.dispatch.budget)) (sym c.stepped.ensures.space)
           (few_more new.self.regions (4294967290 - old.sched.dispatch.budget + 1) (4294967290 - c.stepped.new.self.sched.dispatch.budget) (let l = c.stepped.ensures.left in let b = c.requires.device.budget in omega (arith, l, b))
-          (c.in-Ok.ensures.held (4294967290 - old.sched.dispatch.budget) (let b = c.requires.device.budget in omega (arith, b)) c.requires.device.held));
+          (c.in-Ok.ensures.adds.held (4294967290 - old.sched.dispatch.budget) (let b = c.requires.device.budget in omega (arith, b)) c.requires.device.held));
     }
 
 pub returns-else-ran-clause-device : goal.returns-else-ran-clause-device
@@ -151,14 +153,14 @@ returns-else-ran-clause-device g c =
       marked = λ n. ap (λ (z : Space). is_marked z.ends n) c.stepped.ensures.space ∙ marks n ∙ ap (λ (z : Schedule). lives z.flags n) (sym c.stepped.ensures.sched);
       few =
           (let f = c.requires.device.few in
-          let m = c.in-Ok.ensures.made in
+          let m = c.in-Ok.ensures.adds.made in
           let l = c.stepped.ensures.left in
           let z = ap (λ (x : Space). x.store.made) c.stepped.ensures.space in
           omega (arith, f, m, l, z));
       budget = (let f = c.requires.device.budget in let l = c.stepped.ensures.left in omega (arith, f, l));
       held = subst (λ (z : Space). AreHeldAtMost z.regions (4294967290 - c.stepped.new.self.sched.dispatch.budget)) (sym c.stepped.ensures.space)
           (few_more new.self.regions (4294967290 - old.sched.dispatch.budget + 1) (4294967290 - c.stepped.new.self.sched.dispatch.budget) (let l = c.stepped.ensures.left in let b = c.requires.device.budget in omega (arith, l, b))
-          (c.in-Ok.ensures.held (4294967290 - old.sched.dispatch.budget) (let b = c.requires.device.budget in omega (arith, b)) c.requires.device.held));
+          (c.in-Ok.ensures.adds.held (4294967290 - old.sched.dispatch.budget) (let b = c.requires.device.budget in omega (arith, b)) c.requires.device.held));
     }
 
 pub returns-in-Err-Sink-clause-puts : goal.returns-in-Err-Sink-clause-puts
@@ -166,7 +168,7 @@ returns-in-Err-Sink-clause-puts g c = λ tells text may s w stands left.
     failed_puts c.args.self.now _ _ s w c.args.pid None None None None stands c.requires.pick c.requires.live _ _ _ _
     (λ p at. subst (λ (f : Fault). PartHands {T = Ran} (effect (before s w c.args.pid p))
     (counts (g.C.Sink.puts c.args.console.now) (g.C.Sink.puts c.act.new.console) (g.R.Sink.puts c.args.report.now) (g.R.Sink.puts c.act.new.report) 0) (Err f)) c.in-Err-Sink.field-0-is
-    (c.in-Err-Sink.ensures.part text may s w p tells stands.space at left stands.known))
+    (c.in-Err-Sink.ensures.part text may s w p tells (begins_here stands at left)))
 
 pub returns-in-Err-Stopped-clause-puts : goal.returns-in-Err-Stopped-clause-puts
 returns-in-Err-Stopped-clause-puts g c = λ tells text may s w stands left.
@@ -178,33 +180,46 @@ returns-in-Err-Stopped-clause-puts g c = λ tells text may s w stands left.
 pub returns-then-ran-clause-puts : goal.returns-then-ran-clause-puts
 returns-then-ran-clause-puts g c = λ tells text may s w stands left.
     went_puts c.args.self.now _ _ s w c.args.pid None None None None stands c.requires.pick c.requires.live _ _ _ _ c.in-Ok.ran.tally
-    (λ chosen p at. (c.in-Ok.ensures.acts text may s w p tells stands.space stands.set stands.sound chosen at left stands.known stands.spells).puts)
+    (λ chosen p at. (c.in-Ok.ensures.acts text may s w p tells (begins_here stands at left) (turn_here stands chosen)).puts)
     (subst (λ (z : Bool). HandsWhole z (counts (g.C.Sink.puts c.args.console.now) (g.C.Sink.puts c.act.new.console) (g.R.Sink.puts c.args.report.now) (g.R.Sink.puts c.act.new.report) 0) (puts_of c.in-Ok.ran.tally.bytes) c.in-Ok.ran.tally.lines) c.if-ran.true c.in-Ok.ensures.puts)
 
 pub returns-else-ran-clause-puts : goal.returns-else-ran-clause-puts
 returns-else-ran-clause-puts g c = λ tells text may s w stands left.
     late_puts c.args.self.now _ _ s w c.args.pid None None None None stands c.requires.pick c.requires.live _ _ _ _ c.in-Ok.ran.tally
-    (λ chosen p at. (c.in-Ok.ensures.acts text may s w p tells stands.space stands.set stands.sound chosen at left stands.known stands.spells).puts)
+    (λ chosen p at. (c.in-Ok.ensures.acts text may s w p tells (begins_here stands at left) (turn_here stands chosen)).puts)
     (subst (λ (z : Bool). HandsWhole z (counts (g.C.Sink.puts c.args.console.now) (g.C.Sink.puts c.act.new.console) (g.R.Sink.puts c.args.report.now) (g.R.Sink.puts c.act.new.report) 0) (puts_of c.in-Ok.ran.tally.bytes) c.in-Ok.ran.tally.lines) c.if-ran.false c.in-Ok.ensures.puts)
 
 pub returns-in-Err-Sink-clause-idle : goal.returns-in-Err-Sink-clause-idle
 returns-in-Err-Sink-clause-idle g c = λ tells text may s w stands left fits none.
     of_next c.args.self.now _ _ s w c.args.pid None None None None stands c.requires.pick c.requires.live _
-    (λ on chosen p at. c.act.ensures.idle text may s w p tells stands.space stands.set stands.sound chosen at left stands.known stands.spells (fits on) none)
+    (λ on chosen p at. c.act.ensures.idle text may s w p tells (begins_here stands at left) (turn_here stands chosen) (fits on) none)
 
 pub returns-in-Err-Stopped-clause-idle : goal.returns-in-Err-Stopped-clause-idle
 returns-in-Err-Stopped-clause-idle g c = λ tells text may s w stands left fits none.
     of_next c.args.self.now _ _ s w c.args.pid None None None None stands c.requires.pick c.requires.live _
-    (λ on chosen p at. c.act.ensures.idle text may s w p tells stands.space stands.set stands.sound chosen at left stands.known stands.spells (fits on) none)
+    (λ on chosen p at. c.act.ensures.idle text may s w p tells (begins_here stands at left) (turn_here stands chosen) (fits on) none)
 
 pub returns-then-ran-clause-idle : goal.returns-then-ran-clause-idle
 returns-then-ran-clause-idle g c = λ tells text may s w stands left fits none.
     subst (λ (z : Space). IsIdle z.store c.args.swap.now c.act.new.swap) (sym c.stepped.ensures.space)
     (of_next c.args.self.now _ _ s w c.args.pid None None None None stands c.requires.pick c.requires.live _
-    (λ on chosen p at. c.act.ensures.idle text may s w p tells stands.space stands.set stands.sound chosen at left stands.known stands.spells (fits on) none))
+    (λ on chosen p at. c.act.ensures.idle text may s w p tells (begins_here stands at left) (turn_here stands chosen) (fits on) none))
 
 pub returns-else-ran-clause-idle : goal.returns-else-ran-clause-idle
 returns-else-ran-clause-idle g c = λ tells text may s w stands left fits none.
     subst (λ (z : Space). IsIdle z.store c.args.swap.now c.act.new.swap) (sym c.stepped.ensures.space)
     (of_next c.args.self.now _ _ s w c.args.pid None None None None stands c.requires.pick c.requires.live _
-    (λ on chosen p at. c.act.ensures.idle text may s w p tells stands.space stands.set stands.sound chosen at left stands.known stands.spells (fits on) none))
+    (λ on chosen p at. c.act.ensures.idle text may s w p tells (begins_here stands at left) (turn_here stands chosen) (fits on) none))
+
+pub returns-in-Err-Sink-clause-frame : goal.returns-in-Err-Sink-clause-frame
+returns-in-Err-Sink-clause-frame g c = device_for _ _ _ _ _ _ _ (λ failed. absurd (cc)) c.in-Err-Sink.ensures.device
+
+pub returns-in-Err-Stopped-clause-frame : goal.returns-in-Err-Stopped-clause-frame
+returns-in-Err-Stopped-clause-frame g c =
+    device_for _ _ _ _ _ _ _ (λ failed. ap (λ (f : Fault). let r : Result Ran Fault = Err f in r) (failed_stop c.in-Err-Stopped.field-0 c.in-Err-Stopped.why c.in-Err-Stopped.field-0-is failed)) c.in-Err-Stopped.ensures.device
+
+pub returns-then-ran-clause-frame : goal.returns-then-ran-clause-frame
+returns-then-ran-clause-frame g c = device_for _ _ _ _ _ _ _ (λ failed. absurd (cc)) c.in-Ok.ensures.device
+
+pub returns-else-ran-clause-frame : goal.returns-else-ran-clause-frame
+returns-else-ran-clause-frame g c = device_for _ _ _ _ _ _ _ (λ failed. absurd (cc)) c.in-Ok.ensures.device

@@ -4,6 +4,7 @@ use Rattle.o2_conf.specs.Dispatch.{lives}
 use Rattle.o2_regions.specs.Lives.{lives as is_marked}
 use Rattle.o2_sched.specs.Schedule.{Schedule, next_of}
 use Rattle.o2_segs.proofs.Sharing.{few_more}
+use Rattle.o2_space.proofs.Framing.{set_kept}
 use Rattle.o2_store.specs.Idle.{NoneTaken}
 use Rattle.o2_swapmap.specs.Piles.{Blocks}
 use Rattle.o2_machine.proofs.Marks.{some_number}
@@ -53,7 +54,7 @@ returns-then-done-gt0-clause-steps c = λ device block s w stands.
     let later = e.later device block s w stands.space stands.set (runs_on m device block s w c.args.most stands ahead c.requires.some)
     (chosen_is m device block s w c.args.most stands ahead c.requires.some ∙ sym c.requires.process)
     (turn_left m device block s w c.args.most stands ahead c.requires.some) (budget_left m device block s w c.args.most stands ahead c.requires.some) in
-    some_steps m device block s w c.args.most stands ahead c.requires.some _ c.slice_of-done.new.space c.slice_of-done.result later (e.set device block s stands.set) e.avail e.names e.tables refl refl refl refl
+    some_steps m device block s w c.args.most stands ahead c.requires.some _ c.slice_of-done.new.space c.slice_of-done.result later (set_kept m.space c.slice_of-done.new.space device device block block e.keeps refl s stands.set) e.keeps.avail e.names e.tables refl refl refl refl
     (omega (arith, c.if-done-gt0.true)) c.take.ensures.taken
 
 pub returns-else-done-gt0-clause-steps : goal.returns-else-done-gt0-clause-steps
@@ -64,7 +65,7 @@ returns-else-done-gt0-clause-steps c = λ device block s w stands.
     let later = e.later device block s w stands.space stands.set (runs_on m device block s w c.args.most stands ahead c.requires.some)
     (chosen_is m device block s w c.args.most stands ahead c.requires.some ∙ sym c.requires.process)
     (turn_left m device block s w c.args.most stands ahead c.requires.some) (budget_left m device block s w c.args.most stands ahead c.requires.some) in
-    none_done m device block s w c.args.most stands ahead c.requires.some _ c.slice_of-done.new.space c.slice_of-done.result later (e.set device block s stands.set) e.avail e.names e.tables refl refl refl refl
+    none_done m device block s w c.args.most stands ahead c.requires.some _ c.slice_of-done.new.space c.slice_of-done.result later (set_kept m.space c.slice_of-done.new.space device device block block e.keeps refl s stands.set) e.keeps.avail e.names e.tables refl refl refl refl
     (omega (arith, c.if-done-gt0.false)) refl
 
 pub returns-then-done-gt0-clause-device : goal.returns-then-done-gt0-clause-device
@@ -73,18 +74,18 @@ returns-then-done-gt0-clause-device c = λ blocks goes. record {
   marked = λ n.
       ap (λ (ends : List Bool). is_marked ends n) c.slice_of-done.ensures.ends
       ∙ (goes.marked n ∙ ap (λ (z : Schedule). lives z.flags n) (sym c.take.ensures.taken));
-  few = (let f = goes.few in let b = c.take.ensures.left in let m = c.slice_of-done.ensures.made in omega (arith, f, b, m));
+  few = (let f = goes.few in let b = c.take.ensures.left in let m = c.slice_of-done.ensures.adds.made in omega (arith, f, b, m));
   budget = (let f = goes.budget in let b = c.take.ensures.left in omega (arith, f, b));
-  held = few_more _ _ _ (let b = c.take.ensures.left in omega (arith, b)) (c.slice_of-done.ensures.held _ goes.held);
+  held = few_more _ _ _ (let b = c.take.ensures.left in omega (arith, b)) (c.slice_of-done.ensures.adds.held _ goes.held);
 }
 
 pub returns-else-done-gt0-clause-device : goal.returns-else-done-gt0-clause-device
 returns-else-done-gt0-clause-device c = λ blocks goes. record {
   together = c.slice_of-done.ensures.together blocks goes.together;
   marked = λ n. ap (λ (ends : List Bool). is_marked ends n) c.slice_of-done.ensures.ends ∙ goes.marked n;
-  few = (let f = goes.few in let m = c.slice_of-done.ensures.made in omega (arith, f, m));
+  few = (let f = goes.few in let m = c.slice_of-done.ensures.adds.made in omega (arith, f, m));
   budget = goes.budget;
-  held = c.slice_of-done.ensures.held _ goes.held;
+  held = c.slice_of-done.ensures.adds.held _ goes.held;
 }
 
 pub returns-then-done-gt0-clause-idle : goal.returns-then-done-gt0-clause-idle

@@ -1,5 +1,5 @@
 use Rattle.o2_machine.specs.StandsFor.{StandsFor}
-use Rattle.o2_machine.proofs.Turns.{turns_answered, caused_answered}
+use Rattle.o2_machine.proofs.Turns.{turns_answered, caused_answered, caused_device}
 use Rattle.std.proofs.Common.{length, sym, subst}
 use Rattle.o2_run.specs.declared.steps.Turn.{Turn}
 use Rattle.o2_run.specs.Pieces.{counts, TurnHands}
@@ -11,7 +11,7 @@ returns-in-None-clause-turns g c = λ fresh tells text may s w stands left.
     _ _ s w _ _ _ _ _ _ _ _ c.answer-in-None.ensures (c.advance-last.ensures.turns tells text may s w stands left)
 
 pub returns-in-None-clause-cause : goal.returns-in-None-clause-cause
-returns-in-None-clause-cause g c = λ fresh. caused_answered _ _ _ _ _ c.answer-in-None.ensures c.advance-last.ensures.cause
+returns-in-None-clause-cause g c = λ fresh. caused_answered _ _ _ _ _ c.answer-in-None.ensures (caused_device _ _ _ _ c.advance-last.ensures.cause c.advance-last.ensures.frame.cause)
 
 pub returns-in-None-clause-puts : goal.returns-in-None-clause-puts
 returns-in-None-clause-puts g c = λ fresh tells text may s w stands left.

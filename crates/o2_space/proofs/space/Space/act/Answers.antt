@@ -1,4 +1,4 @@
-use Rattle.std.proofs.Common.{◌+◌, ◌≡◌, ◌==◌, ℕ, ◌≤◌, List, [], Bool, true, false, if◌then◌else◌, inr, length, ap, sym, ◌∙◌, arith, subst}
+use Rattle.std.proofs.Common.{◌≡◌, ◌==◌, ℕ, ◌≤◌, List, [], Bool, true, false, if◌then◌else◌, inr, length, ap, sym, ◌∙◌, arith, subst}
 use Rattle.std.specs.Prelude.{IsTrue}
 use Rattle.o2_outer.specs.Inputs.{left_as}
 use Rattle.o2_outer.specs.Texts.{Rose}
@@ -14,16 +14,17 @@ use Rattle.o2_world.specs.World.{is_live}
 use Rattle.o2_run.proofs.Reached.{rose_since}
 use Rattle.o2_stands.specs.Parts.{Running}
 use Rattle.o2_stepping.specs.Rooms.{all_names, room_in}
-use Rattle.o2_stepping.proofs.Steps.{at_stop}
 use Rattle.o2_space.specs.Nexts.{SaysRoom}
 use Rattle.o2_space.specs.Parts.{parts_in}
 use Rattle.o2_space.specs.declared.space.Proc.{Proc}
-use Rattle.o2_segs.proofs.Sharing.{few_more}
 use Rattle.o2_space.proofs.SharedKept.{held_few}
 use Rattle.o2_space.proofs.SpelledCalls.{plain_spelled}
 use Rattle.o2_space.proofs.Spelling.{spelled_by, spelled_shape}
 use Rattle.o2_space.proofs.Afters.{plain_after}
-use Rattle.o2_space.proofs.Askings.{acts_from, asked_at, asked_between, asked_room, cause_by, marks_from, part_none, puts_from, ran_between, ran_cause, ran_puts, ran_says, room_kept, stop_same, swap_fault}
+use Rattle.o2_space.proofs.Beginning.{turn_kept}
+use Rattle.o2_space.proofs.Framing.{adds_behind, keeps_behind, none_behind, none_within, shape_adds}
+use Rattle.o2_store.proofs.Framing.{device_behind, device_for}
+use Rattle.o2_space.proofs.Askings.{acts_from, asked_at, asked_between, asked_room, cause_by, as_failed, marks_from, part_none, puts_from, ran_between, ran_cause, ran_puts, ran_says, room_kept, stop_same}
 use Rattle.o2_space.proofs.Commits.{lived, process_was}
 use Rattle.o2_space.proofs.space.Space.act.Goals as goal
 
@@ -35,11 +36,11 @@ commit-requires-clause-there g c = (let a = c.requires.there in let b = ap (λ v
 
 pub commit-requires-clause-process : goal.commit-requires-clause-process
 commit-requires-clause-process g c =
-    (c.requires.some, (let a = c.requires.there in let b = c.requires.together.numbers in let d = c.step.ensures.processes in omega (arith, a, b, d)))
+    (c.requires.some, (let a = c.requires.there in let b = c.requires.together.numbers in let d = c.step.ensures.keeps.processes in omega (arith, a, b, d)))
 
 pub commit-requires-clause-most : goal.commit-requires-clause-most
 commit-requires-clause-most g c =
-    (let a = c.requires.there in let b = c.requires.together.numbers in let d = c.step.ensures.processes in let e = c.step.ensures.most in omega (arith, a, b, d, e))
+    (let a = c.requires.there in let b = c.requires.together.numbers in let d = c.step.ensures.keeps.processes in let e = c.step.ensures.most in omega (arith, a, b, d, e))
 
 pub commit-requires-clause-held : goal.commit-requires-clause-held
 commit-requires-clause-held g c = (c.step.ensures.together.ready (λ k. [])).held
@@ -52,13 +53,13 @@ call-requires-clause-there g c = (let a = c.requires.there in let b = ap (λ v. 
 
 pub call-requires-clause-most : goal.call-requires-clause-most
 call-requires-clause-most g c =
-    (let a = c.requires.there in let b = c.requires.together.numbers in let d = c.step.ensures.processes in let e = c.step.ensures.most in omega (arith, a, b, d, e))
+    (let a = c.requires.there in let b = c.requires.together.numbers in let d = c.step.ensures.keeps.processes in let e = c.step.ensures.most in omega (arith, a, b, d, e))
 
 pub call-requires-clause-live : goal.call-requires-clause-live
 call-requires-clause-live g c = ap (λ (ends : List Bool). lives ends c.args.pid) c.step.ensures.ends ∙ c.requires.live
 
 pub call-requires-clause-made : goal.call-requires-clause-made
-call-requires-clause-made g c = (let a = c.requires.made in let b = c.step.ensures.made in omega (arith, a, b))
+call-requires-clause-made g c = (let a = c.requires.made in let b = c.step.ensures.shape.tables.made in omega (arith, a, b))
 
 pub call-requires-clause-can_step : goal.call-requires-clause-can_step
 call-requires-clause-can_step g c = c.in-Ok-Asked.ensures.next
@@ -74,76 +75,64 @@ call-requires-clause-few g c = held_few c.args.self.now.regions c.step.new.self.
 -- A step that isn't taken.
 
 pub returns-in-Err-clause-acts : goal.returns-in-Err-clause-acts
-returns-in-Err-clause-acts g c = λ text may s w x tells stands set sound chosen there left known spelled.
+returns-in-Err-clause-acts g c = λ text may s w x tells begins turn.
     let y : Proc = c.index.result.now in
-    let was = process_was c.args.self.now.procs.items c.args.pid w.processes x c.requires.some c.requires.there (stands.processes c.args.pid) there y c.index.ensures in
-    c.in-Err.ensures.steps text may s w x tells stands there (ap (λ (r : Running). r.cpu) was) left known
+    let was = process_was c.args.self.now.procs.items c.args.pid w.processes x c.requires.some c.requires.there (begins.here.stands.processes c.args.pid) begins.here.process y c.index.ensures in
+    c.in-Err.ensures.steps text may s w x tells begins (ap (λ (r : Running). r.cpu) was)
 
 pub returns-in-Err-clause-part : goal.returns-in-Err-clause-part
-returns-in-Err-clause-part g c = λ text may s w x tells stands there left known.
+returns-in-Err-clause-part g c = λ text may s w x tells begins.
     let y : Proc = c.index.result.now in
-    let was = process_was c.args.self.now.procs.items c.args.pid w.processes x c.requires.some c.requires.there (stands.processes c.args.pid) there y c.index.ensures in
-    c.in-Err.ensures.part text may s w x tells stands there (ap (λ (r : Running). r.cpu) was) left known
+    let was = process_was c.args.self.now.procs.items c.args.pid w.processes x c.requires.some c.requires.there (begins.here.stands.processes c.args.pid) begins.here.process y c.index.ensures in
+    c.in-Err.ensures.part text may s w x tells begins (ap (λ (r : Running). r.cpu) was)
 
 pub returns-in-Err-clause-next_room : goal.returns-in-Err-clause-next_room
-returns-in-Err-clause-next_room g c = λ text may s w x tells stands set sound chosen there left known spelled.
+returns-in-Err-clause-next_room g c = λ text may s w x tells begins turn.
     let y : Proc = c.index.result.now in
-    let was = process_was c.args.self.now.procs.items c.args.pid w.processes x c.requires.some c.requires.there (stands.processes c.args.pid) there y c.index.ensures in
-    c.in-Err.ensures.next_room text may s w x tells stands set chosen there (ap (λ (r : Running). r.cpu) was) left known
-
-pub returns-in-Err-clause-swap_stops : goal.returns-in-Err-clause-swap_stops
-returns-in-Err-clause-swap_stops g c = at_stop _ _ _ (Unit {0}) (Unit {0}) _ c.in-Err.fault (λ z. tt) (λ z. tt) (λ z. z) c.in-Err.ensures.swap_stops
+    let was = process_was c.args.self.now.procs.items c.args.pid w.processes x c.requires.some c.requires.there (begins.here.stands.processes c.args.pid) begins.here.process y c.index.ensures in
+    c.in-Err.ensures.next_room text may s w x tells begins (ap (λ (r : Running). r.cpu) was) turn.agrees.set turn.turn
 
 pub returns-in-Err-clause-marks : goal.returns-in-Err-clause-marks
 returns-in-Err-clause-marks g c = λ n. ap (λ (ends : List Bool). lives ends n) c.step.ensures.ends
 
-pub returns-in-Err-clause-made : goal.returns-in-Err-clause-made
-returns-in-Err-clause-made g c = (let a = c.step.ensures.made in omega (arith, a))
-
 -- A step that is done.
 
 pub returns-in-Ok-Ran-clause-acts : goal.returns-in-Ok-Ran-clause-acts
-returns-in-Ok-Ran-clause-acts g c = λ text may s w x tells stands set sound chosen there left known spelled.
+returns-in-Ok-Ran-clause-acts g c = λ text may s w x tells begins turn.
     let S = g.S.SwapDevice in
     let m = c.args.self.now in
     let y : Proc = c.index.result.now in
-    let was = process_was m.procs.items c.args.pid w.processes x c.requires.some c.requires.there (stands.processes c.args.pid) there y c.index.ensures in
-    let alive = lived m.procs.items c.args.pid w.processes x c.requires.some c.requires.there (stands.processes c.args.pid) there m.ends c.requires.together.marked c.requires.live in
+    let was = process_was m.procs.items c.args.pid w.processes x c.requires.some c.requires.there (begins.here.stands.processes c.args.pid) begins.here.process y c.index.ensures in
+    let alive = lived m.procs.items c.args.pid w.processes x c.requires.some c.requires.there (begins.here.stands.processes c.args.pid) begins.here.process m.ends c.requires.together.marked c.requires.live in
     let b = before s w c.args.pid x in
     let e = effect b in
-    let steps = c.in-Ok-Ran.ensures.steps text may s w x tells stands there (ap (λ (r : Running). r.cpu) was) left known in
+    let steps = c.in-Ok-Ran.ensures.steps text may s w x tells begins (ap (λ (r : Running). r.cpu) was) in
     let between = ran_between _ c.in-Ok-Ran.ran c.in-Ok-Ran.field-0-is b w _ _ _ _ _ _ _ _ steps in
     record {
       state = between.state;
       puts = between.puts;
       matches = plain_after (parts_in c.commit.new.self (S.blocks c.step.new.swap) (S.block c.step.new.swap)) w c.args.pid x e between.changes
           (c.commit.ensures.stands (S.blocks c.step.new.swap) (S.block c.step.new.swap) w.processes (with_bytes w.names e.bytes) w.next_name w.reserved x
-          (record { cpu = e.cpu; state = e.state }) between.stands there alive between.cpu between.state);
+          (record { cpu = e.cpu; state = e.state }) between.stands begins.here.process alive between.cpu between.state);
       input = between.input;
       to_console = between.to_console;
       to_report = between.to_report;
     }
 
 pub returns-in-Ok-Ran-clause-next_room : goal.returns-in-Ok-Ran-clause-next_room
-returns-in-Ok-Ran-clause-next_room g c = λ text may s w x tells stands set sound chosen there left known spelled.
+returns-in-Ok-Ran-clause-next_room g c = λ text may s w x tells begins turn.
     let y : Proc = c.index.result.now in
-    let was = process_was c.args.self.now.procs.items c.args.pid w.processes x c.requires.some c.requires.there (stands.processes c.args.pid) there y c.index.ensures in
-    ran_says _ c.in-Ok-Ran.ran c.in-Ok-Ran.field-0-is (g.S.SwapDevice.blocks c.args.swap.now) s w (c.in-Ok-Ran.ensures.next_room text may s w x tells stands set chosen there (ap (λ (r : Running). r.cpu) was) left known)
+    let was = process_was c.args.self.now.procs.items c.args.pid w.processes x c.requires.some c.requires.there (begins.here.stands.processes c.args.pid) begins.here.process y c.index.ensures in
+    ran_says _ c.in-Ok-Ran.ran c.in-Ok-Ran.field-0-is (g.S.SwapDevice.blocks c.args.swap.now) s w (c.in-Ok-Ran.ensures.next_room text may s w x tells begins (ap (λ (r : Running). r.cpu) was) turn.agrees.set turn.turn)
 
 pub returns-in-Ok-Ran-clause-together : goal.returns-in-Ok-Ran-clause-together
 returns-in-Ok-Ran-clause-together g c =
     c.commit.ensures.together (g.S.SwapDevice.blocks c.step.new.swap) (ap (λ (ends : List Bool). lives ends c.args.pid) c.step.ensures.ends ∙ c.requires.live) c.step.ensures.together
 
-pub returns-in-Ok-Ran-clause-set : goal.returns-in-Ok-Ran-clause-set
-returns-in-Ok-Ran-clause-set g c = λ s set. c.commit.ensures.set _ _ s (c.step.ensures.set s set)
-
 pub returns-in-Ok-Ran-clause-marks : goal.returns-in-Ok-Ran-clause-marks
 returns-in-Ok-Ran-clause-marks g c = λ n.
     let is_so : List Bool → Type 0 = λ ends. lives c.commit.new.self.ends n ≡ (if is_live c.in-Ok-Ran.ran.state then lives ends n else (if n == c.args.pid then false else lives ends n)) in
     subst is_so c.step.ensures.ends (c.commit.ensures.marks n)
-
-pub returns-in-Ok-Ran-clause-made : goal.returns-in-Ok-Ran-clause-made
-returns-in-Ok-Ran-clause-made g c = (let a = c.step.ensures.made in let b = c.commit.ensures.made in omega (arith, a, b))
 
 pub returns-in-Ok-Ran-clause-puts : goal.returns-in-Ok-Ran-clause-puts
 returns-in-Ok-Ran-clause-puts g c = ran_puts _ c.in-Ok-Ran.ran c.in-Ok-Ran.field-0-is _ c.in-Ok-Ran.ensures.puts
@@ -155,20 +144,19 @@ returns-in-Ok-Ran-clause-cause g c =
 -- A call on segments that is asked for.
 
 pub returns-in-Ok-Asked-clause-acts : goal.returns-in-Ok-Asked-clause-acts
-returns-in-Ok-Asked-clause-acts g c = λ text may s w x tells stands set sound chosen there left known spelled.
+returns-in-Ok-Asked-clause-acts g c = λ text may s w x tells begins turn.
     let S = g.S.SwapDevice in
     let I = g.I.Source in
     let y : Proc = c.index.result.now in
-    let was = process_was c.args.self.now.procs.items c.args.pid w.processes x c.requires.some c.requires.there (stands.processes c.args.pid) there y c.index.ensures in
+    let was = process_was c.args.self.now.procs.items c.args.pid w.processes x c.requires.some c.requires.there (begins.here.stands.processes c.args.pid) begins.here.process y c.index.ensures in
     let b = before s w c.args.pid x in
-    let told = c.call.ensures.device.1 tells in
-    let steps = c.in-Ok-Asked.ensures.steps text may s w x told stands there (ap (λ (r : Running). r.cpu) was) left known in
+    let told = c.call.ensures.device.told tells in
+    let steps = c.in-Ok-Asked.ensures.steps text may s w x told begins (ap (λ (r : Running). r.cpu) was) in
     let asks = asked_between _ c.in-Ok-Asked.arguments c.in-Ok-Asked.next c.in-Ok-Asked.field-0-is b w _ _ _ _ _ _ _ _ steps in
+    let next = turn_kept c.args.self.now c.step.new.self (S.blocks c.args.swap.now) (S.blocks c.step.new.swap) (S.block c.args.swap.now) (S.block c.step.new.swap)
+    c.step.ensures.keeps c.step.ensures.device.blocks c.step.ensures.shape c.step.ensures.names s w c.args.pid turn in
     acts_from b w x (parts_in c.call.new.self (S.blocks c.call.new.swap) (S.block c.call.new.swap)) _ c.call.result asks.still.input asks.still.to_console asks.still.to_report
-    (c.call.ensures.acts s w x (left_as text (I.left c.args.input.now) (I.past c.args.input.now)) (g.C.Sink.taken c.args.console.now) tells asks.still.stands (c.step.ensures.set s set) sound chosen there
-    asks.cpu left
-    (spelled_by c.step.new.self.store c.args.self.now.names c.step.new.self.names w c.step.ensures.names (spelled_shape c.args.self.now.store c.step.new.self.store c.step.ensures.shape.tables c.args.self.now.names w spelled))
-    asks.effect)
+    (c.call.ensures.acts s w x (left_as text (I.left c.args.input.now) (I.past c.args.input.now)) (g.C.Sink.taken c.args.console.now) tells (record { stands = asks.still.stands; process = begins.here.process }) next asks.cpu begins.input asks.effect)
 
 pub returns-in-Ok-Asked-clause-still : goal.returns-in-Ok-Asked-clause-still
 returns-in-Ok-Asked-clause-still g c =
@@ -178,54 +166,30 @@ returns-in-Ok-Asked-clause-still g c =
     (λ a. (new.cpu ≡ c.index.result.now.cpu) × (new.input ≡ args.input.now) × (new.console ≡ args.console.now) × (new.report ≡ args.report.now)) c.in-Ok-Asked.ensures.asks in
     stop_same _ _ c.call.result (λ same. (asks.1, asks.2, same ∙ asks.3)) c.call.ensures.still
 
-pub returns-in-Ok-Asked-clause-swap_stops : goal.returns-in-Ok-Asked-clause-swap_stops
-returns-in-Ok-Asked-clause-swap_stops g c =
-    let S = g.S.SwapDevice in
-    swap_fault _ _ (Rose (S.faults c.step.new.swap) (S.faults c.call.new.swap)) (Rose (S.faults c.args.swap.now) (S.faults c.call.new.swap)) c.call.result
-    (λ rose. rose_since _ _ _ c.step.ensures.swap_count rose) c.call.ensures.swap_stops
-
 pub returns-in-Ok-Asked-clause-next_room : goal.returns-in-Ok-Asked-clause-next_room
-returns-in-Ok-Asked-clause-next_room g c = λ text may s w x tells stands set sound chosen there left known spelled.
+returns-in-Ok-Asked-clause-next_room g c = λ text may s w x tells begins turn.
     let S = g.S.SwapDevice in
     let m = c.args.self.now in
     let new = c.step.new in
     let pid = c.args.pid in
     let y : Proc = c.index.result.now in
-    let was = process_was m.procs.items pid w.processes x c.requires.some c.requires.there (stands.processes pid) there y c.index.ensures in
+    let was = process_was m.procs.items pid w.processes x c.requires.some c.requires.there (begins.here.stands.processes pid) begins.here.process y c.index.ensures in
     let cpu = ap (λ (r : Running). r.cpu) was in
     let b = before s w pid x in
-    let told = c.call.ensures.device.1 tells in
-    let steps = c.in-Ok-Asked.ensures.steps text may s w x told stands there cpu left known in
+    let told = c.call.ensures.device.told tells in
+    let steps = c.in-Ok-Asked.ensures.steps text may s w x told begins cpu in
     let asks = asked_between _ c.in-Ok-Asked.arguments c.in-Ok-Asked.next c.in-Ok-Asked.field-0-is b w _ _ _ _ _ _ _ _ steps in
+    let next = turn_kept c.args.self.now c.step.new.self (S.blocks c.args.swap.now) (S.blocks c.step.new.swap) (S.block c.args.swap.now) (S.block c.step.new.swap)
+    c.step.ensures.keeps c.step.ensures.device.blocks c.step.ensures.shape c.step.ensures.names s w c.args.pid turn in
     let room =
     asked_room _ c.in-Ok-Asked.arguments c.in-Ok-Asked.next c.in-Ok-Asked.field-0-is (λ z. room_in m.store (all_names b (bound_registers (hold_in m.regions pid) z)) ≤ m.store.places.size) (effect b).cpu b.cpu
-    (c.in-Ok-Asked.ensures.room text may s w x told stands there cpu left known) in
-    subst (λ (n : ℕ). SaysRoom n s w c.call.result) c.step.ensures.device.0
-    (c.call.ensures.next_room s w x tells asks.still.stands (c.step.ensures.set s set) sound chosen there asks.cpu
-    (spelled_by c.step.new.self.store c.args.self.now.names c.step.new.self.names w c.step.ensures.names (spelled_shape c.args.self.now.store c.step.new.self.store c.step.ensures.shape.tables c.args.self.now.names w spelled))
-    asks.called
+    (c.in-Ok-Asked.ensures.room text may s w x told begins cpu) in
+    subst (λ (n : ℕ). SaysRoom n s w c.call.result) c.step.ensures.device.blocks
+    (c.call.ensures.next_room s w x tells (record { stands = asks.still.stands; process = begins.here.process }) next asks.cpu asks.called
     (room_kept m.store new.self.store m.regions new.self.regions c.step.ensures.shape b pid b.cpu room))
-
-pub returns-in-Ok-Asked-clause-set : goal.returns-in-Ok-Asked-clause-set
-returns-in-Ok-Asked-clause-set g c = λ s set. c.call.ensures.set s (c.step.ensures.set s set)
 
 pub returns-in-Ok-Asked-clause-marks : goal.returns-in-Ok-Asked-clause-marks
 returns-in-Ok-Asked-clause-marks g c = marks_from c.call.new.self.ends c.args.pid c.call.result c.step.ensures.ends c.call.ensures.marks
-
-pub returns-in-Ok-Asked-clause-count : goal.returns-in-Ok-Asked-clause-count
-returns-in-Ok-Asked-clause-count g c = c.call.ensures.count ∙ ap (λ v. length v.items) c.step.ensures.procs
-
-pub returns-in-Ok-Asked-clause-processes : goal.returns-in-Ok-Asked-clause-processes
-returns-in-Ok-Asked-clause-processes g c = c.call.ensures.processes ∙ c.step.ensures.processes
-
-pub returns-in-Ok-Asked-clause-made : goal.returns-in-Ok-Asked-clause-made
-returns-in-Ok-Asked-clause-made g c = (let a = c.step.ensures.made in let b = c.call.ensures.made in omega (arith, a, b))
-
-pub returns-in-Ok-Asked-clause-avail : goal.returns-in-Ok-Asked-clause-avail
-returns-in-Ok-Asked-clause-avail g c = c.call.ensures.avail ∙ c.step.ensures.avail
-
-pub returns-in-Ok-Asked-clause-device : goal.returns-in-Ok-Asked-clause-device
-returns-in-Ok-Asked-clause-device g c = (c.call.ensures.device.0 ∙ c.step.ensures.device.0, λ told. c.step.ensures.device.1 (c.call.ensures.device.1 told))
 
 pub returns-in-Ok-Asked-clause-cause : goal.returns-in-Ok-Asked-clause-cause
 returns-in-Ok-Asked-clause-cause g c =
@@ -234,9 +198,6 @@ returns-in-Ok-Asked-clause-cause g c =
 
 pub returns-in-Ok-Asked-clause-report_count : goal.returns-in-Ok-Asked-clause-report_count
 returns-in-Ok-Asked-clause-report_count g c = (let a = c.step.ensures.report_count in let b = c.call.ensures.report_count in omega (arith, a, b))
-
-pub returns-in-Ok-Asked-clause-swap_count : goal.returns-in-Ok-Asked-clause-swap_count
-returns-in-Ok-Asked-clause-swap_count g c = (let a = c.step.ensures.swap_count in let b = c.call.ensures.swap_count in omega (arith, a, b))
 
 pub returns-in-Ok-Asked-clause-puts : goal.returns-in-Ok-Asked-clause-puts
 returns-in-Ok-Asked-clause-puts g c =
@@ -249,75 +210,97 @@ returns-in-Ok-Asked-clause-puts g c =
     puts_from (R.puts c.call.new.report) c.call.result (ap C.puts asks.2) (ap R.puts asks.3) (c.call.ensures.puts (C.puts args.console.now))
 
 pub returns-in-Ok-Asked-clause-part : goal.returns-in-Ok-Asked-clause-part
-returns-in-Ok-Asked-clause-part g c = λ text may s w x tells stands there left known. part_none (effect (before s w c.args.pid x)) _ c.call.result c.call.ensures.not_begun
-
-pub returns-in-Err-clause-held : goal.returns-in-Err-clause-held
-returns-in-Err-clause-held g c = λ k some most. few_more c.step.new.self.regions k (k + 0) (omega arith) (c.step.ensures.held k most)
-
-pub returns-in-Ok-Ran-clause-held : goal.returns-in-Ok-Ran-clause-held
-returns-in-Ok-Ran-clause-held g c = λ k some most. few_more c.commit.new.self.regions k (k + 1) (omega arith) (c.commit.ensures.held k (c.step.ensures.held k most))
-
-pub returns-in-Ok-Asked-clause-held : goal.returns-in-Ok-Asked-clause-held
-returns-in-Ok-Asked-clause-held g c = λ k some most. c.call.ensures.held k some (c.step.ensures.held k most)
+returns-in-Ok-Asked-clause-part g c = λ text may s w x tells begins. part_none (effect (before s w c.args.pid x)) _ c.call.result c.call.ensures.not_begun
 
 -- The names that are kept.
 
 pub returns-in-Err-clause-spells : goal.returns-in-Err-clause-spells
-returns-in-Err-clause-spells g c = λ text may s w x tells stands set sound chosen there left known spelled.
-    spelled_by c.step.new.self.store c.args.self.now.names c.step.new.self.names w c.step.ensures.names (spelled_shape c.args.self.now.store c.step.new.self.store c.step.ensures.shape.tables c.args.self.now.names w spelled)
+returns-in-Err-clause-spells g c = λ text may s w x tells begins turn.
+    spelled_by c.step.new.self.store c.args.self.now.names c.step.new.self.names w c.step.ensures.names (spelled_shape c.args.self.now.store c.step.new.self.store c.step.ensures.shape.tables c.args.self.now.names w turn.agrees.spelled)
 
 pub returns-in-Ok-Ran-clause-spells : goal.returns-in-Ok-Ran-clause-spells
-returns-in-Ok-Ran-clause-spells g c = λ text may s w x tells stands set sound chosen there left known spelled.
+returns-in-Ok-Ran-clause-spells g c = λ text may s w x tells begins turn.
     let S = g.S.SwapDevice in
     let m = c.args.self.now in
     let pid = c.args.pid in
     let stepped = c.step.new.self in
     let last = c.commit.new.self in
     let y : Proc = c.index.result.now in
-    let was = process_was m.procs.items pid w.processes x c.requires.some c.requires.there (stands.processes pid) there y c.index.ensures in
-    let alive = lived m.procs.items pid w.processes x c.requires.some c.requires.there (stands.processes pid) there m.ends c.requires.together.marked c.requires.live in
-    let steps = c.in-Ok-Ran.ensures.steps text may s w x tells stands there (ap (λ (r : Running). r.cpu) was) left known in
+    let was = process_was m.procs.items pid w.processes x c.requires.some c.requires.there (begins.here.stands.processes pid) begins.here.process y c.index.ensures in
+    let alive = lived m.procs.items pid w.processes x c.requires.some c.requires.there (begins.here.stands.processes pid) begins.here.process m.ends c.requires.together.marked c.requires.live in
+    let steps = c.in-Ok-Ran.ensures.steps text may s w x tells begins (ap (λ (r : Running). r.cpu) was) in
     let between = ran_between _ c.in-Ok-Ran.ran c.in-Ok-Ran.field-0-is (before s w pid x) w _ _ _ _ _ _ _ _ steps in
-    let acts = returns-in-Ok-Ran-clause-acts g c text may s w x tells stands set sound chosen there left known spelled in
+    let acts = returns-in-Ok-Ran-clause-acts g c text may s w x tells begins turn in
     λ d current.
     spelled_by last.store stepped.names last.names (changed w d x (effect (before s w pid x))) c.commit.ensures.names
-    (plain_spelled s w x alive sound stands.tidy stepped.store stepped.regions stepped.names (parts_in last (S.blocks c.step.new.swap) (S.block c.step.new.swap))
+    (plain_spelled s w x alive turn.sound begins.here.stands.tidy stepped.store stepped.regions stepped.names (parts_in last (S.blocks c.step.new.swap) (S.block c.step.new.swap))
     (c.step.ensures.together.ready (λ k. [])).aged c.step.ensures.together.places c.commit.ensures.behind
-    (spelled_by c.step.new.self.store c.args.self.now.names c.step.new.self.names w c.step.ensures.names (spelled_shape c.args.self.now.store c.step.new.self.store c.step.ensures.shape.tables c.args.self.now.names w spelled)) pid chosen there between.changes acts.matches d current)
+    (spelled_by stepped.store m.names stepped.names w c.step.ensures.names (spelled_shape m.store stepped.store c.step.ensures.shape.tables m.names w turn.agrees.spelled))
+    pid turn.turn begins.here.process between.changes acts.matches d current)
 
 pub returns-in-Ok-Asked-clause-spells : goal.returns-in-Ok-Asked-clause-spells
-returns-in-Ok-Asked-clause-spells g c = λ text may s w x tells stands set sound chosen there left known spelled.
+returns-in-Ok-Asked-clause-spells g c = λ text may s w x tells begins turn.
+    let S = g.S.SwapDevice in
     let y : Proc = c.index.result.now in
-    let was = process_was c.args.self.now.procs.items c.args.pid w.processes x c.requires.some c.requires.there (stands.processes c.args.pid) there y c.index.ensures in
+    let was = process_was c.args.self.now.procs.items c.args.pid w.processes x c.requires.some c.requires.there (begins.here.stands.processes c.args.pid) begins.here.process y c.index.ensures in
     let b = before s w c.args.pid x in
-    let told = c.call.ensures.device.1 tells in
-    let steps = c.in-Ok-Asked.ensures.steps text may s w x told stands there (ap (λ (r : Running). r.cpu) was) left known in
+    let told = c.call.ensures.device.told tells in
+    let steps = c.in-Ok-Asked.ensures.steps text may s w x told begins (ap (λ (r : Running). r.cpu) was) in
     let asks = asked_between _ c.in-Ok-Asked.arguments c.in-Ok-Asked.next c.in-Ok-Asked.field-0-is b w _ _ _ _ _ _ _ _ steps in
-    c.call.ensures.spells s w x tells asks.still.stands (c.step.ensures.set s set) sound chosen there asks.cpu
-    (spelled_by c.step.new.self.store c.args.self.now.names c.step.new.self.names w c.step.ensures.names (spelled_shape c.args.self.now.store c.step.new.self.store c.step.ensures.shape.tables c.args.self.now.names w spelled)) asks.effect
+    let next = turn_kept c.args.self.now c.step.new.self (S.blocks c.args.swap.now) (S.blocks c.step.new.swap) (S.block c.args.swap.now) (S.block c.step.new.swap)
+    c.step.ensures.keeps c.step.ensures.device.blocks c.step.ensures.shape c.step.ensures.names s w c.args.pid turn in
+    c.call.ensures.spells s w x tells (record { stands = asks.still.stands; process = begins.here.process }) next asks.cpu asks.effect
 
 -- The device.
 
 pub returns-in-Err-clause-idle : goal.returns-in-Err-clause-idle
-returns-in-Err-clause-idle g c = λ text may s w x tells stands set sound chosen there left known spelled fit none.
-    c.step.ensures.idle s w stands set fit none
+returns-in-Err-clause-idle g c = λ text may s w x tells begins turn fit none.
+    c.step.ensures.idle s w begins.here.stands turn.agrees.set fit none
 
 pub returns-in-Ok-Ran-clause-idle : goal.returns-in-Ok-Ran-clause-idle
-returns-in-Ok-Ran-clause-idle g c = λ text may s w x tells stands set sound chosen there left known spelled fit none.
-    let i = c.step.ensures.idle s w stands set fit none in
+returns-in-Ok-Ran-clause-idle g c = λ text may s w x tells begins turn fit none.
+    let i = c.step.ensures.idle s w begins.here.stands turn.agrees.set fit none in
     record { device = i.device; none = c.commit.ensures.unused i.none }
 
 pub returns-in-Ok-Asked-clause-idle : goal.returns-in-Ok-Asked-clause-idle
-returns-in-Ok-Asked-clause-idle g c = λ text may s w x tells stands set sound chosen there left known spelled fit none.
+returns-in-Ok-Asked-clause-idle g c = λ text may s w x tells begins turn fit none.
     let S = g.S.SwapDevice in
     let m = c.args.self.now in
-    let i = c.step.ensures.idle s w stands set fit none in
+    let i = c.step.ensures.idle s w begins.here.stands turn.agrees.set fit none in
     let y : Proc = c.index.result.now in
-    let was = process_was m.procs.items c.args.pid w.processes x c.requires.some c.requires.there (stands.processes c.args.pid) there y c.index.ensures in
+    let was = process_was m.procs.items c.args.pid w.processes x c.requires.some c.requires.there (begins.here.stands.processes c.args.pid) begins.here.process y c.index.ensures in
     let told = subst (λ (d : _). IsTrue (S.told d)) (sym i.device) tells in
-    let steps = c.in-Ok-Asked.ensures.steps text may s w x told stands there (ap (λ (r : Running). r.cpu) was) left known in
+    let steps = c.in-Ok-Asked.ensures.steps text may s w x told begins (ap (λ (r : Running). r.cpu) was) in
     let asks = asked_between _ c.in-Ok-Asked.arguments c.in-Ok-Asked.next c.in-Ok-Asked.field-0-is (before s w c.args.pid x) w _ _ _ _ _ _ _ _ steps in
-    let j = c.call.ensures.idle s w x asks.still.stands (c.step.ensures.set s set) sound chosen there asks.cpu
-    (spelled_by c.step.new.self.store c.args.self.now.names c.step.new.self.names w c.step.ensures.names (spelled_shape c.args.self.now.store c.step.new.self.store c.step.ensures.shape.tables c.args.self.now.names w spelled))
-    asks.called fit i.none in
+    let next = turn_kept c.args.self.now c.step.new.self (S.blocks c.args.swap.now) (S.blocks c.step.new.swap) (S.block c.args.swap.now) (S.block c.step.new.swap)
+    c.step.ensures.keeps c.step.ensures.device.blocks c.step.ensures.shape c.step.ensures.names s w c.args.pid turn in
+    let j = c.call.ensures.idle s w x (record { stands = asks.still.stands; process = begins.here.process }) next asks.cpu asks.called fit i.none in
     record { device = j.device ∙ i.device; none = j.none }
+
+pub returns-in-Err-clause-device : goal.returns-in-Err-clause-device
+returns-in-Err-clause-device g c = device_for _ _ _ _ _ _ _ (λ failed. as_failed c.in-Err.fault _ failed) c.in-Err.ensures.device
+
+pub returns-in-Ok-Ran-clause-device : goal.returns-in-Ok-Ran-clause-device
+returns-in-Ok-Ran-clause-device g c = device_for _ _ _ _ _ _ _ (λ failed. absurd (cc)) c.in-Ok-Ran.ensures.device
+
+pub returns-in-Ok-Asked-clause-device : goal.returns-in-Ok-Asked-clause-device
+returns-in-Ok-Asked-clause-device g c = (let d = c.step.ensures.device in device_behind _ _ _ _ _ _ _ d.blocks d.told d.faults c.call.ensures.device)
+
+-- What is kept, and what is made.
+
+pub returns-in-Ok-Ran-clause-keeps : goal.returns-in-Ok-Ran-clause-keeps
+returns-in-Ok-Ran-clause-keeps g c = keeps_behind c.args.self.now c.step.new.self c.commit.new.self c.commit.ensures.keeps c.step.ensures.keeps
+
+pub returns-in-Ok-Asked-clause-keeps : goal.returns-in-Ok-Asked-clause-keeps
+returns-in-Ok-Asked-clause-keeps g c = keeps_behind c.args.self.now c.step.new.self c.call.new.self c.call.ensures.keeps c.step.ensures.keeps
+
+pub returns-in-Err-clause-adds : goal.returns-in-Err-clause-adds
+returns-in-Err-clause-adds g c = none_within c.args.self.now c.step.new.self 0 0 (shape_adds c.args.self.now c.step.new.self c.step.ensures.shape)
+
+pub returns-in-Ok-Ran-clause-adds : goal.returns-in-Ok-Ran-clause-adds
+returns-in-Ok-Ran-clause-adds g c =
+    none_within c.args.self.now c.commit.new.self 4096 1
+    (none_behind c.args.self.now c.step.new.self c.commit.new.self c.commit.ensures.adds (shape_adds c.args.self.now c.step.new.self c.step.ensures.shape))
+
+pub returns-in-Ok-Asked-clause-adds : goal.returns-in-Ok-Asked-clause-adds
+returns-in-Ok-Asked-clause-adds g c = adds_behind c.args.self.now c.step.new.self c.call.new.self _ _ c.call.ensures.adds (shape_adds c.args.self.now c.step.new.self c.step.ensures.shape)

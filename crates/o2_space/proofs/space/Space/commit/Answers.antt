@@ -6,8 +6,8 @@ use Rattle.o2_space.specs.Parts.{parts_in, running_at, running_in}
 use Rattle.o2_space.proofs.Whole.{whole_same}
 use Rattle.o2_shared.proofs.Staying.{stay_in_place}
 use Rattle.o2_space.proofs.SharedKept.{ended_few, ended_lived, ended_shares}
-use Rattle.o2_space.proofs.Alike.{ready_as, set_as}
-use Rattle.o2_space.proofs.Commits.{count_put, marked_end, marked_put, now, parts_put, set_ended, stands_ended, stands_live}
+use Rattle.o2_space.proofs.Alike.{ready_as}
+use Rattle.o2_space.proofs.Commits.{count_put, marked_end, marked_put, now, parts_put, stands_ended, stands_live}
 use Rattle.o2_space.proofs.space.Space.commit.Goals as goal
 
 pub returns-then-not-is_live-clause-stands : goal.returns-then-not-is_live-clause-stands
@@ -57,22 +57,6 @@ returns-else-not-is_live-clause-together c = λ device here together.
       places = together.places;
     }
 
-pub returns-then-not-is_live-clause-set : goal.returns-then-not-is_live-clause-set
-returns-then-not-is_live-clause-set c = λ device block s set.
-    let m = c.args.self.now in
-    let y : Proc = record { cpu = c.args.cpu.now; state = c.args.state } in
-    set_as c.end.new.store c.end.new.regions m.images device block block (running_at m.procs.items) (running_at (now m.procs.items c.args.pid y c.requires.process.0 c.requires.there)) s
-    (set_ended (parts_in m device block) c.end.new.store c.end.new.regions s c.end.ensures.store set)
-
-pub returns-else-not-is_live-clause-set : goal.returns-else-not-is_live-clause-set
-returns-else-not-is_live-clause-set c = λ device block s set.
-    let m = c.args.self.now in
-    let y : Proc = record { cpu = c.args.cpu.now; state = c.args.state } in
-    set_as m.store m.regions m.images device block block (running_at m.procs.items) (running_at (now m.procs.items c.args.pid y c.requires.process.0 c.requires.there)) s set
-
-pub returns-then-not-is_live-clause-made : goal.returns-then-not-is_live-clause-made
-returns-then-not-is_live-clause-made c = c.end.ensures.store.made
-
 pub returns-then-not-is_live-clause-put : goal.returns-then-not-is_live-clause-put
 returns-then-not-is_live-clause-put c = λ live device block. absurd (false≢true (c.if-not-is_live.ensures ∙ live))
 
@@ -80,9 +64,6 @@ pub returns-else-not-is_live-clause-put : goal.returns-else-not-is_live-clause-p
 returns-else-not-is_live-clause-put c = λ live device block.
     let m = c.args.self.now in
     parts_put m.procs.items c.args.pid (record { cpu = c.args.cpu.now; state = c.args.state }) c.requires.process.0 c.requires.there (parts_in m device block) refl
-
-pub returns-then-not-is_live-clause-held : goal.returns-then-not-is_live-clause-held
-returns-then-not-is_live-clause-held c = ended_few c.args.self.now.store c.end.new.store c.args.self.now.regions c.end.new.regions c.args.pid c.end.ensures.maps c.end.ensures.store
 
 pub returns-then-not-is_live-clause-behind : goal.returns-then-not-is_live-clause-behind
 returns-then-not-is_live-clause-behind c = record {
@@ -97,3 +78,36 @@ returns-then-not-is_live-clause-unused c = c.end.ensures.unused
 
 pub returns-else-not-is_live-clause-unused : goal.returns-else-not-is_live-clause-unused
 returns-else-not-is_live-clause-unused c = λ none. none
+
+pub returns-then-not-is_live-clause-keeps : goal.returns-then-not-is_live-clause-keeps
+returns-then-not-is_live-clause-keeps c =
+    let e = c.end.ensures in
+    record {
+      memory = e.store.size;
+      segments = e.store.count;
+      blocks = e.store.map;
+      count = count_put c.args.self.now.procs.items c.args.pid (record { cpu = c.args.cpu.now; state = c.args.state }) c.requires.process.0 c.requires.there;
+      processes = e.maps.processes;
+      avail = refl;
+      images = refl;
+    }
+
+pub returns-else-not-is_live-clause-keeps : goal.returns-else-not-is_live-clause-keeps
+returns-else-not-is_live-clause-keeps c = record {
+  memory = refl;
+  segments = refl;
+  blocks = refl;
+  count = count_put c.args.self.now.procs.items c.args.pid (record { cpu = c.args.cpu.now; state = c.args.state }) c.requires.process.0 c.requires.there;
+  processes = refl;
+  avail = refl;
+  images = refl;
+}
+
+pub returns-then-not-is_live-clause-adds : goal.returns-then-not-is_live-clause-adds
+returns-then-not-is_live-clause-adds c =
+    let m = c.args.self.now in
+    let e = c.end.ensures in
+    record { made = e.store.made; held = ended_few m.store c.end.new.store m.regions c.end.new.regions c.args.pid e.maps e.store }
+
+pub returns-else-not-is_live-clause-adds : goal.returns-else-not-is_live-clause-adds
+returns-else-not-is_live-clause-adds c = record { made = refl; held = λ k most. most }

@@ -10,7 +10,7 @@ use Rattle.o2_swapmap.specs.Piles.{all_of}
 use Rattle.o2_segbus.proofs.Ages.{named_by_age}
 use Rattle.o2_gate.specs.Replies.{words_of}
 use Rattle.o2_segs.specs.Answers.{Answers}
-use Rattle.o2_calls.specs.Acts.{IsOver, cpu_of, ruling_of}
+use Rattle.o2_calls.specs.Acts.{cpu_of, ruling_of}
 use Rattle.o2_space.specs.Calls.{no_registers}
 use Rattle.o2_calls.specs.Tellings.{replied_by}
 use Rattle.o2_stands.specs.Moves.{moved, stepped_to, with_running}
@@ -18,7 +18,7 @@ use Rattle.o2_stands.specs.Parts.{Parts}
 use Rattle.o2_stands.specs.Stands.{Matches, Stands}
 use Rattle.o2_space.specs.Parts.{parts_in, running_at}
 use Rattle.o2_shared.proofs.Staying.{stay_in_place}
-use Rattle.o2_space.proofs.SharedKept.{few_as, given_grows, given_shares, living_are, spells_of}
+use Rattle.o2_space.proofs.SharedKept.{few_as, given_grows, given_shares, living_are}
 use Rattle.o2_space.proofs.Spelling.{leaves_written, stops_unnamed}
 use Rattle.o2_calls.specs.SharedActs.{LeavesSpelled}
 use Rattle.o2_calls.specs.declared.noting.Counted.{Counted}
@@ -32,9 +32,11 @@ use Rattle.o2_space.proofs.Whole.{whole_same}
 use Rattle.o2_space.proofs.Called.{called}
 use Rattle.o2_service.specs.Needs.{segments_of}
 use Rattle.o2_space.proofs.CallSays.{fits_at, full_at, lacks_at, run_full, short_at, unrefused_by}
-use Rattle.o2_space.proofs.Making.{kept_named, on_device, process_called, ready_called, ready_given, set_called, stays_at, value_of}
+use Rattle.o2_space.proofs.Beginning.{over_here, spells_here}
+use Rattle.o2_space.proofs.Making.{kept_named, on_device, process_called, ready_called, ready_given, stays_at, value_of}
 use Rattle.o2_store.specs.Idle.{NoneTaken}
 use Rattle.o2_store.specs.Shelf.{Shelf}
+use Rattle.o2_store.proofs.Framing.{device_for}
 use Rattle.o2_space.proofs.space.Space.make_call.Goals as goal
 
 pub act-requires-clause-pictures : goal.act-requires-clause-pictures
@@ -81,24 +83,27 @@ give-requires-clause-value g c = value_of c.args.arguments c.in-Done.answer c.in
 -- A call that stops.
 
 pub returns-in-NoRoom-clause-makes : goal.returns-in-NoRoom-clause-makes
-returns-in-NoRoom-clause-makes g c = λ s w x tells stands set tied there same spelled.
+returns-in-NoRoom-clause-makes g c = λ s w x tells here agrees tied same.
     let S = g.S.SwapDevice in
     let m = c.args.self.now in
     let p : Parts = parts_in m (S.blocks c.args.swap.now) (S.block c.args.swap.now) in
+    let over = over_here m (S.blocks c.args.swap.now) (S.block c.args.swap.now) s w here.stands agrees c.lawful.ensures in
+    let spells = spells_here m (S.blocks c.args.swap.now) (S.block c.args.swap.now) s w here.stands agrees c.requires.together in
     on_device (moved p c.act.new.store c.act.new.regions (S.block c.act.new.swap)) (S.blocks c.act.new.swap) (λ (q : Parts). Stands q w) c.act.ensures.device.blocks
     (stays_at p w c.act.new.store c.act.new.regions (S.block c.act.new.swap)
-    (c.in-NoRoom.ensures.matches p s w x (record { store = refl; regions = refl; pictures = refl; blocks = refl; lawful = c.lawful.ensures; set = set; stands = stands })
-    (spells_of c.args.self.now (g.S.SwapDevice.blocks c.args.swap.now) (g.S.SwapDevice.block c.args.swap.now) w c.requires.together stands spelled) tells there tied) stands)
+    (c.in-NoRoom.ensures.matches p s w x over spells tells here.process tied) here.stands)
 
 pub returns-in-NoRoom-clause-room : goal.returns-in-NoRoom-clause-room
-returns-in-NoRoom-clause-room g c = λ s w x tells stands set sound chosen there live same spelled call room.
+returns-in-NoRoom-clause-room g c = λ s w x tells here turn live same call room.
     let S = g.S.SwapDevice in
-    let p : Parts = parts_in c.args.self.now (S.blocks c.args.swap.now) (S.block c.args.swap.now) in
-    lacks_at p s w x c.lawful.ensures set stands live sound c.args.arguments c.args.next c.args.cpu.now same _ c.args.pid chosen
-    (record { there = there; call = call; step = c.requires.can_step; ready = c.requires.aimed; keeps = c.ids.ensures ∙ ap segments_of c.call_need-need.ensures })
-    (c.in-NoRoom.ensures.row p s w (record { store = refl; regions = refl; pictures = refl; blocks = refl; lawful = c.lawful.ensures; set = set; stands = stands })
-    (spells_of c.args.self.now (g.S.SwapDevice.blocks c.args.swap.now) (g.S.SwapDevice.block c.args.swap.now) w c.requires.together stands spelled))
-    (c.in-NoRoom.ensures.stops tt) (c.in-NoRoom.ensures.no_room refl) (c.in-NoRoom.ensures.run_lacks p s w (record { store = refl; regions = refl; pictures = refl; blocks = refl; lawful = c.lawful.ensures; set = set; stands = stands }) (spells_of c.args.self.now (S.blocks c.args.swap.now) (S.block c.args.swap.now) w c.requires.together stands spelled))
+    let m = c.args.self.now in
+    let p : Parts = parts_in m (S.blocks c.args.swap.now) (S.block c.args.swap.now) in
+    let over = over_here m (S.blocks c.args.swap.now) (S.block c.args.swap.now) s w here.stands turn.agrees c.lawful.ensures in
+    let spells = spells_here m (S.blocks c.args.swap.now) (S.block c.args.swap.now) s w here.stands turn.agrees c.requires.together in
+    lacks_at p s w x c.lawful.ensures turn.agrees.set here.stands live turn.sound c.args.arguments c.args.next c.args.cpu.now same _ c.args.pid turn.turn
+    (record { there = here.process; call = call; step = c.requires.can_step; ready = c.requires.aimed; keeps = c.ids.ensures ∙ ap segments_of c.call_need-need.ensures })
+    (c.in-NoRoom.ensures.row p s w over spells)
+    (c.in-NoRoom.ensures.stops tt) (c.in-NoRoom.ensures.no_room refl) (c.in-NoRoom.ensures.run_lacks p s w over spells)
 
 pub returns-in-NoRoom-clause-together : goal.returns-in-NoRoom-clause-together
 returns-in-NoRoom-clause-together g c =
@@ -116,36 +121,29 @@ returns-in-NoRoom-clause-together g c =
       places = e.places;
     }
 
-pub returns-in-NoRoom-clause-set : goal.returns-in-NoRoom-clause-set
-returns-in-NoRoom-clause-set g c = λ s set.
-    let S = g.S.SwapDevice in
-    let e = c.act.ensures in
-    set_called (parts_in c.args.self.now (S.blocks c.args.swap.now) (S.block c.args.swap.now)) c.act.new.store c.act.new.regions (S.blocks c.act.new.swap) (S.block c.act.new.swap)
-    e.limits.size e.limits.count e.goes_on.map e.device.blocks s set
-
-pub returns-in-NoRoom-clause-made : goal.returns-in-NoRoom-clause-made
-returns-in-NoRoom-clause-made g c = (let a = c.in-NoRoom.ensures.limits.made in omega (arith, a))
-
 pub returns-in-SwapFull-clause-makes : goal.returns-in-SwapFull-clause-makes
-returns-in-SwapFull-clause-makes g c = λ s w x tells stands set tied there same spelled.
+returns-in-SwapFull-clause-makes g c = λ s w x tells here agrees tied same.
     let S = g.S.SwapDevice in
     let m = c.args.self.now in
     let p : Parts = parts_in m (S.blocks c.args.swap.now) (S.block c.args.swap.now) in
+    let over = over_here m (S.blocks c.args.swap.now) (S.block c.args.swap.now) s w here.stands agrees c.lawful.ensures in
+    let spells = spells_here m (S.blocks c.args.swap.now) (S.block c.args.swap.now) s w here.stands agrees c.requires.together in
     on_device (moved p c.act.new.store c.act.new.regions (S.block c.act.new.swap)) (S.blocks c.act.new.swap) (λ (q : Parts). Stands q w) c.act.ensures.device.blocks
     (stays_at p w c.act.new.store c.act.new.regions (S.block c.act.new.swap)
-    (c.in-SwapFull.ensures.matches p s w x (record { store = refl; regions = refl; pictures = refl; blocks = refl; lawful = c.lawful.ensures; set = set; stands = stands })
-    (spells_of c.args.self.now (g.S.SwapDevice.blocks c.args.swap.now) (g.S.SwapDevice.block c.args.swap.now) w c.requires.together stands spelled) tells there tied) stands)
+    (c.in-SwapFull.ensures.matches p s w x over spells tells here.process tied) here.stands)
 
 pub returns-in-SwapFull-clause-room : goal.returns-in-SwapFull-clause-room
-returns-in-SwapFull-clause-room g c = λ s w x tells stands set sound chosen there live same spelled call room.
+returns-in-SwapFull-clause-room g c = λ s w x tells here turn live same call room.
     let S = g.S.SwapDevice in
-    let p : Parts = parts_in c.args.self.now (S.blocks c.args.swap.now) (S.block c.args.swap.now) in
-    full_at p s w x c.lawful.ensures set stands live sound c.args.arguments c.args.next c.args.cpu.now same _ c.args.pid chosen
-    (record { there = there; call = call; step = c.requires.can_step; ready = c.requires.aimed; keeps = c.ids.ensures ∙ ap segments_of c.call_need-need.ensures })
-    (c.in-SwapFull.ensures.row p s w (record { store = refl; regions = refl; pictures = refl; blocks = refl; lawful = c.lawful.ensures; set = set; stands = stands })
-    (spells_of c.args.self.now (g.S.SwapDevice.blocks c.args.swap.now) (g.S.SwapDevice.block c.args.swap.now) w c.requires.together stands spelled))
+    let m = c.args.self.now in
+    let p : Parts = parts_in m (S.blocks c.args.swap.now) (S.block c.args.swap.now) in
+    let over = over_here m (S.blocks c.args.swap.now) (S.block c.args.swap.now) s w here.stands turn.agrees c.lawful.ensures in
+    let spells = spells_here m (S.blocks c.args.swap.now) (S.block c.args.swap.now) s w here.stands turn.agrees c.requires.together in
+    full_at p s w x c.lawful.ensures turn.agrees.set here.stands live turn.sound c.args.arguments c.args.next c.args.cpu.now same _ c.args.pid turn.turn
+    (record { there = here.process; call = call; step = c.requires.can_step; ready = c.requires.aimed; keeps = c.ids.ensures ∙ ap segments_of c.call_need-need.ensures })
+    (c.in-SwapFull.ensures.row p s w over spells)
     (c.in-SwapFull.ensures.stops tt) (c.in-SwapFull.ensures.swap_full refl)
-    (run_full c.args.arguments c.args.self.now.store (known_of s w) c.args.pid c.args.cpu.now _ (c.in-SwapFull.ensures.run_lacks p s w (record { store = refl; regions = refl; pictures = refl; blocks = refl; lawful = c.lawful.ensures; set = set; stands = stands }) (spells_of c.args.self.now (S.blocks c.args.swap.now) (S.block c.args.swap.now) w c.requires.together stands spelled)))
+    (run_full c.args.arguments c.args.self.now.store (known_of s w) c.args.pid c.args.cpu.now _ (c.in-SwapFull.ensures.run_lacks p s w over spells))
 
 pub returns-in-SwapFull-clause-together : goal.returns-in-SwapFull-clause-together
 returns-in-SwapFull-clause-together g c =
@@ -163,25 +161,16 @@ returns-in-SwapFull-clause-together g c =
       places = e.places;
     }
 
-pub returns-in-SwapFull-clause-set : goal.returns-in-SwapFull-clause-set
-returns-in-SwapFull-clause-set g c = λ s set.
-    let S = g.S.SwapDevice in
-    let e = c.act.ensures in
-    set_called (parts_in c.args.self.now (S.blocks c.args.swap.now) (S.block c.args.swap.now)) c.act.new.store c.act.new.regions (S.blocks c.act.new.swap) (S.block c.act.new.swap)
-    e.limits.size e.limits.count e.goes_on.map e.device.blocks s set
-
-pub returns-in-SwapFull-clause-made : goal.returns-in-SwapFull-clause-made
-returns-in-SwapFull-clause-made g c = (let a = c.in-SwapFull.ensures.limits.made in omega (arith, a))
-
 pub returns-in-SwapFault-clause-makes : goal.returns-in-SwapFault-clause-makes
-returns-in-SwapFault-clause-makes g c = λ s w x tells stands set tied there same spelled.
+returns-in-SwapFault-clause-makes g c = λ s w x tells here agrees tied same.
     let S = g.S.SwapDevice in
     let m = c.args.self.now in
     let p : Parts = parts_in m (S.blocks c.args.swap.now) (S.block c.args.swap.now) in
+    let over = over_here m (S.blocks c.args.swap.now) (S.block c.args.swap.now) s w here.stands agrees c.lawful.ensures in
+    let spells = spells_here m (S.blocks c.args.swap.now) (S.block c.args.swap.now) s w here.stands agrees c.requires.together in
     on_device (moved p c.act.new.store c.act.new.regions (S.block c.act.new.swap)) (S.blocks c.act.new.swap) (λ (q : Parts). Stands q w) c.act.ensures.device.blocks
     (stays_at p w c.act.new.store c.act.new.regions (S.block c.act.new.swap)
-    (c.in-SwapFault.ensures.matches p s w x (record { store = refl; regions = refl; pictures = refl; blocks = refl; lawful = c.lawful.ensures; set = set; stands = stands })
-    (spells_of c.args.self.now (g.S.SwapDevice.blocks c.args.swap.now) (g.S.SwapDevice.block c.args.swap.now) w c.requires.together stands spelled) tells there tied) stands)
+    (c.in-SwapFault.ensures.matches p s w x over spells tells here.process tied) here.stands)
 
 pub returns-in-SwapFault-clause-together : goal.returns-in-SwapFault-clause-together
 returns-in-SwapFault-clause-together g c =
@@ -199,23 +188,10 @@ returns-in-SwapFault-clause-together g c =
       places = e.places;
     }
 
-pub returns-in-SwapFault-clause-set : goal.returns-in-SwapFault-clause-set
-returns-in-SwapFault-clause-set g c = λ s set.
-    let S = g.S.SwapDevice in
-    let e = c.act.ensures in
-    set_called (parts_in c.args.self.now (S.blocks c.args.swap.now) (S.block c.args.swap.now)) c.act.new.store c.act.new.regions (S.blocks c.act.new.swap) (S.block c.act.new.swap)
-    e.limits.size e.limits.count e.goes_on.map e.device.blocks s set
-
-pub returns-in-SwapFault-clause-made : goal.returns-in-SwapFault-clause-made
-returns-in-SwapFault-clause-made g c = (let a = c.in-SwapFault.ensures.limits.made in omega (arith, a))
-
-pub returns-in-SwapFault-clause-fault : goal.returns-in-SwapFault-clause-fault
-returns-in-SwapFault-clause-fault g c = c.in-SwapFault.ensures.device.cause refl
-
 -- A call that is made.
 
 pub returns-in-Done-clause-makes : goal.returns-in-Done-clause-makes
-returns-in-Done-clause-makes g c = λ s w x tells stands set tied there same spelled.
+returns-in-Done-clause-makes g c = λ s w x tells here agrees tied same.
     let S = g.S.SwapDevice in
     let m = c.args.self.now in
     let pid = c.args.pid in
@@ -227,8 +203,8 @@ returns-in-Done-clause-makes g c = λ s w x tells stands set tied there same spe
     let block = S.block c.act.new.swap in
     let e = c.act.ensures in
     let p : Parts = parts_in m (S.blocks c.args.swap.now) (S.block c.args.swap.now) in
-    let over : IsOver m.store m.regions m.images (S.block c.args.swap.now) p s w = record { store = refl; regions = refl; pictures = refl; blocks = refl; lawful = c.lawful.ensures; set = set; stands = stands } in
-    let spells = spells_of m (S.blocks c.args.swap.now) (S.block c.args.swap.now) w c.requires.together stands spelled in
+    let over = over_here m (S.blocks c.args.swap.now) (S.block c.args.swap.now) s w here.stands agrees c.lawful.ensures in
+    let spells = spells_here m (S.blocks c.args.swap.now) (S.block c.args.swap.now) s w here.stands agrees c.requires.together in
     let answers = subst (λ (z : Cpu). Answers (ruling_of a (known_of s w) pid z) c.in-Done.answer) same (c.in-Done.ensures.row p s w over spells) in
     let behind = replied_by a (before s w pid x) c.args.next in
     let registers =
@@ -237,7 +213,7 @@ returns-in-Done-clause-makes g c = λ s w x tells stands set tied there same spe
     ∙ ap (λ (k : ℕ). returned (cpu_of a (known_of s w) pid x.cpu) c.args.next (words_of a) k) answers.error) in
     let matches =
     subst (λ (z : Cpu). Matches (moved p t n block) (with_all w (ruling_of a (known_of s w) pid z).changes)) same
-    (c.in-Done.ensures.matches p s w x over spells tells there tied) in
+    (c.in-Done.ensures.matches p s w x over spells tells here.process tied) in
     let ready =
     ready_called m.store t m.regions n m.images (S.blocks c.args.swap.now) (S.block c.args.swap.now) block (running_at m.procs.items) (c.requires.together.ready (S.block c.args.swap.now))
     e.goes_on.order e.goes_on.guards e.goes_on.clean (e.goes_on.pictures m.images (c.requires.together.ready (λ k. [])).pictures) e.goes_on.map (S.blocks c.args.swap.now) refl in
@@ -249,7 +225,7 @@ returns-in-Done-clause-makes g c = λ s w x tells stands set tied there same spe
       matches = λ d current.
           subst (λ (z : Cpu). Matches (with_running (record (stepped_to (moved p t n block) u o) { device = S.blocks c.act.new.swap }) pid (record { cpu = z; state = Live })) (changed w d x behind)) (sym registers)
           (on_device (stepped_to (moved p t n block) u o) (S.blocks c.act.new.swap) (λ (q : Parts). Matches (with_running q pid (record { cpu = behind.cpu; state = Live })) (changed w d x behind)) e.device.blocks
-          (called p s w x pid a c.args.next c.lawful.ensures stands there c.args.cpu.now c.requires.aimed t n block c.lawful-in-Done.ensures e.holds c.in-Done.answer.error c.in-Done.answer.value
+          (called p s w x pid a c.args.next c.lawful.ensures here.stands here.process c.args.cpu.now c.requires.aimed t n block c.lawful-in-Done.ensures e.holds c.in-Done.answer.error c.in-Done.answer.value
           answers.error answers.value matches u o given.bytes given.store given.maps c.lawful-in-Done-2.ensures.inside good d current));
     }
 
@@ -260,7 +236,7 @@ pub returns-in-Done-clause-inside : goal.returns-in-Done-clause-inside
 returns-in-Done-clause-inside g c = c.note.ensures.inside
 
 pub returns-in-Done-clause-moves : goal.returns-in-Done-clause-moves
-returns-in-Done-clause-moves g c = λ s w x tells stands set tied there same spelled.
+returns-in-Done-clause-moves g c = λ s w x tells here agrees tied same.
     let S = g.S.SwapDevice in
     let m = c.args.self.now in
     let pid = c.args.pid in
@@ -268,11 +244,11 @@ returns-in-Done-clause-moves g c = λ s w x tells stands set tied there same spe
     let n = c.act.new.regions in
     let answer = c.in-Done.answer in
     let p : Parts = parts_in m (S.blocks c.args.swap.now) (S.block c.args.swap.now) in
-    let over : IsOver m.store m.regions m.images (S.block c.args.swap.now) p s w = record { store = refl; regions = refl; pictures = refl; blocks = refl; lawful = c.lawful.ensures; set = set; stands = stands } in
-    let spells = spells_of m (S.blocks c.args.swap.now) (S.block c.args.swap.now) w c.requires.together stands spelled in
+    let over = over_here m (S.blocks c.args.swap.now) (S.block c.args.swap.now) s w here.stands agrees c.lawful.ensures in
+    let spells = spells_here m (S.blocks c.args.swap.now) (S.block c.args.swap.now) s w here.stands agrees c.requires.together in
     let told =
-    all_noted p n s w x pid c.args.cpu.now c.lawful.ensures set stands c.requires.can_step.process spells.processes c.act.ensures.processes there a answer
-    (moved p c.act.new.store n (S.block c.act.new.swap)) refl (c.in-Done.ensures.matches p s w x over spells tells there tied) (c.in-Done.ensures.row p s w over spells) in
+    all_noted p n s w x pid c.args.cpu.now c.lawful.ensures agrees.set here.stands c.requires.can_step.process spells.processes c.act.ensures.processes here.process a answer
+    (moved p c.act.new.store n (S.block c.act.new.swap)) refl (c.in-Done.ensures.matches p s w x over spells tells here.process tied) (c.in-Done.ensures.row p s w over spells) in
     let is : c.note.new.moves ≡ noted a pid (counted_by a m.regions pid) n (Done answer) = c.note.ensures.notes ∙ ap (λ (d : Counted). noted a pid d n (Done answer)) c.count-counted.ensures in
     ap (all_lines (name_of a)) is ∙ (told.lines ∙ ap (λ (z : Cpu). moved_lines (name_of a) (ruling_of a (known_of s w) pid z).changes) same)
 
@@ -289,7 +265,8 @@ returns-in-Done-clause-together g c =
     record {
       ready = λ block.
           ready_given t u n o m.images (S.blocks c.act.new.swap) block block (running_at m.procs.items)
-          (ready_called m.store t m.regions n m.images (S.blocks c.args.swap.now) block block (running_at m.procs.items) (c.requires.together.ready block) e.goes_on.order e.goes_on.guards e.goes_on.clean (e.goes_on.pictures m.images (c.requires.together.ready (λ k. [])).pictures) e.goes_on.map (S.blocks c.act.new.swap) e.device.blocks)
+          (ready_called m.store t m.regions n m.images (S.blocks c.args.swap.now) block block (running_at m.procs.items) (c.requires.together.ready block)
+          e.goes_on.order e.goes_on.guards e.goes_on.clean (e.goes_on.pictures m.images (c.requires.together.ready (λ k. [])).pictures) e.goes_on.map (S.blocks c.act.new.swap) e.device.blocks)
           given.store given.maps given.clean given.settled;
       numbers = (let a = c.requires.together.numbers in let b = e.processes in let d = given.maps.processes in omega (arith, a, b, d));
       marked = c.requires.together.marked;
@@ -298,91 +275,72 @@ returns-in-Done-clause-together g c =
       places = stay_in_place t u n o c.act.new.names e.places (given_shares t u n o given.store given.maps) (given_grows t u given.store);
     }
 
-pub returns-in-Done-clause-set : goal.returns-in-Done-clause-set
-returns-in-Done-clause-set g c = λ s set.
-    let S = g.S.SwapDevice in
-    let e = c.act.ensures in
-    let store = c.give.ensures.store.store in
-    set_called (parts_in c.args.self.now (S.blocks c.args.swap.now) (S.block c.args.swap.now)) c.give.new.store c.give.new.regions (S.blocks c.act.new.swap) (S.block c.act.new.swap)
-    (ap (λ z. z.places.size) store ∙ e.limits.size) (ap (λ z. length z.entries) store ∙ e.limits.count) (ap (λ z. all_of z.swap) store ∙ e.goes_on.map) e.device.blocks s set
-
-pub returns-in-Done-clause-processes : goal.returns-in-Done-clause-processes
-returns-in-Done-clause-processes g c = c.give.ensures.maps.processes ∙ c.act.ensures.processes
-
-pub returns-in-Done-clause-made : goal.returns-in-Done-clause-made
-returns-in-Done-clause-made g c = (let a = c.in-Done.ensures.limits.made in let b = ap (λ z. z.made) c.give.ensures.store.store in omega (arith, a, b))
-
 pub returns-in-Done-clause-room : goal.returns-in-Done-clause-room
-returns-in-Done-clause-room g c = λ s w x tells stands set sound chosen there live same spelled call room.
-    let S = g.S.SwapDevice in
-    let p : Parts = parts_in c.args.self.now (S.blocks c.args.swap.now) (S.block c.args.swap.now) in
-    let q : Parts = parts_in (record c.args.self.now { store = c.give.new.store; regions = c.give.new.regions }) (S.blocks c.act.new.swap) (S.block c.act.new.swap) in
-    let e = c.act.ensures in
-    fits_at p s w x c.lawful.ensures set stands live sound c.args.arguments c.args.next c.args.cpu.now same _ c.args.pid chosen
-    (record { there = there; call = call; step = c.requires.can_step; ready = c.requires.aimed; keeps = c.ids.ensures ∙ ap segments_of c.call_need-need.ensures })
-    c.act.new.store c.act.new.regions e.holds (e.run_holds p s w (record { store = refl; regions = refl; pictures = refl; blocks = refl; lawful = c.lawful.ensures; set = set; stands = stands }) (spells_of c.args.self.now (S.blocks c.args.swap.now) (S.block c.args.swap.now) w c.requires.together stands spelled)) e.limits.size q c.lawful-in-Done-2.ensures (record { kept = e.kept; store = c.give.ensures.store; maps = c.give.ensures.maps }) _ c.in-Done.answer
-    (returns-in-Done-clause-makes g c s w x tells stands set sound.tied there same spelled) room
-
-pub returns-in-NoRoom-clause-held : goal.returns-in-NoRoom-clause-held
-returns-in-NoRoom-clause-held g c = c.in-NoRoom.ensures.limits.few
-
-pub returns-in-SwapFull-clause-held : goal.returns-in-SwapFull-clause-held
-returns-in-SwapFull-clause-held g c = c.in-SwapFull.ensures.limits.few
-
-pub returns-in-SwapFault-clause-held : goal.returns-in-SwapFault-clause-held
-returns-in-SwapFault-clause-held g c = c.in-SwapFault.ensures.limits.few
-
-pub returns-in-Done-clause-held : goal.returns-in-Done-clause-held
-returns-in-Done-clause-held g c = λ k some most. few_as c.act.new.regions c.give.new.regions c.give.ensures.maps.held (k + 1) (c.in-Done.ensures.limits.few k some most)
-
-pub returns-in-NoRoom-clause-spells : goal.returns-in-NoRoom-clause-spells
-returns-in-NoRoom-clause-spells g c = λ s w x stands set same spelled.
+returns-in-Done-clause-room g c = λ s w x tells here turn live same call room.
     let S = g.S.SwapDevice in
     let m = c.args.self.now in
     let p : Parts = parts_in m (S.blocks c.args.swap.now) (S.block c.args.swap.now) in
+    let over = over_here m (S.blocks c.args.swap.now) (S.block c.args.swap.now) s w here.stands turn.agrees c.lawful.ensures in
+    let spells = spells_here m (S.blocks c.args.swap.now) (S.block c.args.swap.now) s w here.stands turn.agrees c.requires.together in
+    let q : Parts = parts_in (record c.args.self.now { store = c.give.new.store; regions = c.give.new.regions }) (S.blocks c.act.new.swap) (S.block c.act.new.swap) in
+    let e = c.act.ensures in
+    fits_at p s w x c.lawful.ensures turn.agrees.set here.stands live turn.sound c.args.arguments c.args.next c.args.cpu.now same _ c.args.pid turn.turn
+    (record { there = here.process; call = call; step = c.requires.can_step; ready = c.requires.aimed; keeps = c.ids.ensures ∙ ap segments_of c.call_need-need.ensures })
+    c.act.new.store c.act.new.regions e.holds (e.run_holds p s w over spells) e.limits.size q c.lawful-in-Done-2.ensures (record { kept = e.kept; store = c.give.ensures.store; maps = c.give.ensures.maps }) _ c.in-Done.answer
+    (returns-in-Done-clause-makes g c s w x tells here turn.agrees turn.sound.tied same) room
+
+pub returns-in-NoRoom-clause-spells : goal.returns-in-NoRoom-clause-spells
+returns-in-NoRoom-clause-spells g c = λ s w x stands agrees same.
+    let S = g.S.SwapDevice in
+    let m = c.args.self.now in
+    let p : Parts = parts_in m (S.blocks c.args.swap.now) (S.block c.args.swap.now) in
+    let over = over_here m (S.blocks c.args.swap.now) (S.block c.args.swap.now) s w stands agrees c.lawful.ensures in
+    let spells = spells_here m (S.blocks c.args.swap.now) (S.block c.args.swap.now) s w stands agrees c.requires.together in
     stops_unnamed c.args.arguments (c.in-NoRoom.ensures.stops tt) c.act.new.store m.names c.act.new.names (with_all w (ruling_of c.args.arguments (known_of s w) c.args.pid c.args.cpu.now).changes)
-    (c.act.ensures.spells p s w (record { store = refl; regions = refl; pictures = refl; blocks = refl; lawful = c.lawful.ensures; set = set; stands = stands })
-    (spells_of m (S.blocks c.args.swap.now) (S.block c.args.swap.now) w c.requires.together stands spelled))
+    (c.act.ensures.spells p s w over spells)
 
 pub returns-in-NoRoom-clause-behind : goal.returns-in-NoRoom-clause-behind
 returns-in-NoRoom-clause-behind g c = record { lived = c.act.ensures.limits.shares.lived }
 
 pub returns-in-SwapFull-clause-spells : goal.returns-in-SwapFull-clause-spells
-returns-in-SwapFull-clause-spells g c = λ s w x stands set same spelled.
+returns-in-SwapFull-clause-spells g c = λ s w x stands agrees same.
     let S = g.S.SwapDevice in
     let m = c.args.self.now in
     let p : Parts = parts_in m (S.blocks c.args.swap.now) (S.block c.args.swap.now) in
+    let over = over_here m (S.blocks c.args.swap.now) (S.block c.args.swap.now) s w stands agrees c.lawful.ensures in
+    let spells = spells_here m (S.blocks c.args.swap.now) (S.block c.args.swap.now) s w stands agrees c.requires.together in
     stops_unnamed c.args.arguments (c.in-SwapFull.ensures.stops tt) c.act.new.store m.names c.act.new.names (with_all w (ruling_of c.args.arguments (known_of s w) c.args.pid c.args.cpu.now).changes)
-    (c.act.ensures.spells p s w (record { store = refl; regions = refl; pictures = refl; blocks = refl; lawful = c.lawful.ensures; set = set; stands = stands })
-    (spells_of m (S.blocks c.args.swap.now) (S.block c.args.swap.now) w c.requires.together stands spelled))
+    (c.act.ensures.spells p s w over spells)
 
 pub returns-in-SwapFull-clause-behind : goal.returns-in-SwapFull-clause-behind
 returns-in-SwapFull-clause-behind g c = record { lived = c.act.ensures.limits.shares.lived }
 
 pub returns-in-SwapFault-clause-spells : goal.returns-in-SwapFault-clause-spells
-returns-in-SwapFault-clause-spells g c = λ s w x stands set same spelled.
+returns-in-SwapFault-clause-spells g c = λ s w x stands agrees same.
     let S = g.S.SwapDevice in
     let m = c.args.self.now in
     let p : Parts = parts_in m (S.blocks c.args.swap.now) (S.block c.args.swap.now) in
+    let over = over_here m (S.blocks c.args.swap.now) (S.block c.args.swap.now) s w stands agrees c.lawful.ensures in
+    let spells = spells_here m (S.blocks c.args.swap.now) (S.block c.args.swap.now) s w stands agrees c.requires.together in
     stops_unnamed c.args.arguments (c.in-SwapFault.ensures.stops tt) c.act.new.store m.names c.act.new.names (with_all w (ruling_of c.args.arguments (known_of s w) c.args.pid c.args.cpu.now).changes)
-    (c.act.ensures.spells p s w (record { store = refl; regions = refl; pictures = refl; blocks = refl; lawful = c.lawful.ensures; set = set; stands = stands })
-    (spells_of m (S.blocks c.args.swap.now) (S.block c.args.swap.now) w c.requires.together stands spelled))
+    (c.act.ensures.spells p s w over spells)
 
 pub returns-in-SwapFault-clause-behind : goal.returns-in-SwapFault-clause-behind
 returns-in-SwapFault-clause-behind g c = record { lived = c.act.ensures.limits.shares.lived }
 
 pub returns-in-Done-clause-spells : goal.returns-in-Done-clause-spells
-returns-in-Done-clause-spells g c = λ s w x stands set same spelled.
+returns-in-Done-clause-spells g c = λ s w x stands agrees same.
     let S = g.S.SwapDevice in
     let m = c.args.self.now in
     let a = c.args.arguments in
     let t = c.act.new.store in
     let names = c.act.new.names in
     let p : Parts = parts_in m (S.blocks c.args.swap.now) (S.block c.args.swap.now) in
+    let over = over_here m (S.blocks c.args.swap.now) (S.block c.args.swap.now) s w stands agrees c.lawful.ensures in
+    let spells = spells_here m (S.blocks c.args.swap.now) (S.block c.args.swap.now) s w stands agrees c.requires.together in
     leaves_written a t c.give.new.store c.give.ensures.store m.names names (with_all w (ruling_of a (known_of s w) c.args.pid x.cpu).changes)
     (subst (λ (z : Cpu). LeavesSpelled a t m.names names (with_all w (ruling_of a (known_of s w) c.args.pid z).changes)) same
-    (c.act.ensures.spells p s w (record { store = refl; regions = refl; pictures = refl; blocks = refl; lawful = c.lawful.ensures; set = set; stands = stands })
-    (spells_of m (S.blocks c.args.swap.now) (S.block c.args.swap.now) w c.requires.together stands spelled)))
+    (c.act.ensures.spells p s w over spells))
 
 pub returns-in-Done-clause-behind : goal.returns-in-Done-clause-behind
 returns-in-Done-clause-behind g c = record {
@@ -394,76 +352,84 @@ returns-in-Done-clause-behind g c = record {
 }
 
 pub returns-in-NoRoom-clause-idle : goal.returns-in-NoRoom-clause-idle
-returns-in-NoRoom-clause-idle g c = λ s w x stands set sound chosen there live same spelled call fit none.
+returns-in-NoRoom-clause-idle g c = λ s w x here turn live same call fit none.
     let S = g.S.SwapDevice in
-    let p : Parts = parts_in c.args.self.now (S.blocks c.args.swap.now) (S.block c.args.swap.now) in
+    let m = c.args.self.now in
+    let p : Parts = parts_in m (S.blocks c.args.swap.now) (S.block c.args.swap.now) in
+    let over = over_here m (S.blocks c.args.swap.now) (S.block c.args.swap.now) s w here.stands turn.agrees c.lawful.ensures in
+    let spells = spells_here m (S.blocks c.args.swap.now) (S.block c.args.swap.now) s w here.stands turn.agrees c.requires.together in
     elim (c.act.ensures.idle none) [
       | inl i ↦ i
-      | inr short ↦ elim (c.act.ensures.run_short p s w (record { store = refl; regions = refl; pictures = refl; blocks = refl; lawful = c.lawful.ensures; set = set; stands = stands }) (spells_of c.args.self.now (S.blocks c.args.swap.now) (S.block c.args.swap.now) w c.requires.together stands spelled) none) [
+      | inr short ↦ elim (c.act.ensures.run_short p s w over spells none) [
         | inl i ↦ i
         | inr run ↦ absurd
-            (let more = short_at p s w x c.lawful.ensures set stands live sound c.args.arguments c.args.next c.args.cpu.now same _ c.args.pid chosen
-            (record { there = there; call = call; step = c.requires.can_step; ready = c.requires.aimed; keeps = c.ids.ensures ∙ ap segments_of c.call_need-need.ensures })
+            (let more = short_at p s w x c.lawful.ensures turn.agrees.set here.stands live turn.sound c.args.arguments c.args.next c.args.cpu.now same _ c.args.pid turn.turn
+            (record { there = here.process; call = call; step = c.requires.can_step; ready = c.requires.aimed; keeps = c.ids.ensures ∙ ap segments_of c.call_need-need.ensures })
             (unrefused_by c.args.arguments (ruling_of c.args.arguments (known_of s w) c.args.pid c.args.cpu.now) c.act.result
-            (c.act.ensures.row p s w (record { store = refl; regions = refl; pictures = refl; blocks = refl; lawful = c.lawful.ensures; set = set; stands = stands })
-            (spells_of c.args.self.now (S.blocks c.args.swap.now) (S.block c.args.swap.now) w c.requires.together stands spelled)) short.unrefused)
+            (c.act.ensures.row p s w over spells) short.unrefused)
             short.stops short.lacks run in
             omega (arith, more, fit))
       ]
     ]
 
 pub returns-in-SwapFull-clause-idle : goal.returns-in-SwapFull-clause-idle
-returns-in-SwapFull-clause-idle g c = λ s w x stands set sound chosen there live same spelled call fit none.
+returns-in-SwapFull-clause-idle g c = λ s w x here turn live same call fit none.
     let S = g.S.SwapDevice in
-    let p : Parts = parts_in c.args.self.now (S.blocks c.args.swap.now) (S.block c.args.swap.now) in
+    let m = c.args.self.now in
+    let p : Parts = parts_in m (S.blocks c.args.swap.now) (S.block c.args.swap.now) in
+    let over = over_here m (S.blocks c.args.swap.now) (S.block c.args.swap.now) s w here.stands turn.agrees c.lawful.ensures in
+    let spells = spells_here m (S.blocks c.args.swap.now) (S.block c.args.swap.now) s w here.stands turn.agrees c.requires.together in
     elim (c.act.ensures.idle none) [
       | inl i ↦ i
-      | inr short ↦ elim (c.act.ensures.run_short p s w (record { store = refl; regions = refl; pictures = refl; blocks = refl; lawful = c.lawful.ensures; set = set; stands = stands }) (spells_of c.args.self.now (S.blocks c.args.swap.now) (S.block c.args.swap.now) w c.requires.together stands spelled) none) [
+      | inr short ↦ elim (c.act.ensures.run_short p s w over spells none) [
         | inl i ↦ i
         | inr run ↦ absurd
-            (let more = short_at p s w x c.lawful.ensures set stands live sound c.args.arguments c.args.next c.args.cpu.now same _ c.args.pid chosen
-            (record { there = there; call = call; step = c.requires.can_step; ready = c.requires.aimed; keeps = c.ids.ensures ∙ ap segments_of c.call_need-need.ensures })
+            (let more = short_at p s w x c.lawful.ensures turn.agrees.set here.stands live turn.sound c.args.arguments c.args.next c.args.cpu.now same _ c.args.pid turn.turn
+            (record { there = here.process; call = call; step = c.requires.can_step; ready = c.requires.aimed; keeps = c.ids.ensures ∙ ap segments_of c.call_need-need.ensures })
             (unrefused_by c.args.arguments (ruling_of c.args.arguments (known_of s w) c.args.pid c.args.cpu.now) c.act.result
-            (c.act.ensures.row p s w (record { store = refl; regions = refl; pictures = refl; blocks = refl; lawful = c.lawful.ensures; set = set; stands = stands })
-            (spells_of c.args.self.now (S.blocks c.args.swap.now) (S.block c.args.swap.now) w c.requires.together stands spelled)) short.unrefused)
+            (c.act.ensures.row p s w over spells) short.unrefused)
             short.stops short.lacks run in
             omega (arith, more, fit))
       ]
     ]
 
 pub returns-in-SwapFault-clause-idle : goal.returns-in-SwapFault-clause-idle
-returns-in-SwapFault-clause-idle g c = λ s w x stands set sound chosen there live same spelled call fit none.
+returns-in-SwapFault-clause-idle g c = λ s w x here turn live same call fit none.
     let S = g.S.SwapDevice in
-    let p : Parts = parts_in c.args.self.now (S.blocks c.args.swap.now) (S.block c.args.swap.now) in
+    let m = c.args.self.now in
+    let p : Parts = parts_in m (S.blocks c.args.swap.now) (S.block c.args.swap.now) in
+    let over = over_here m (S.blocks c.args.swap.now) (S.block c.args.swap.now) s w here.stands turn.agrees c.lawful.ensures in
+    let spells = spells_here m (S.blocks c.args.swap.now) (S.block c.args.swap.now) s w here.stands turn.agrees c.requires.together in
     elim (c.act.ensures.idle none) [
       | inl i ↦ i
-      | inr short ↦ elim (c.act.ensures.run_short p s w (record { store = refl; regions = refl; pictures = refl; blocks = refl; lawful = c.lawful.ensures; set = set; stands = stands }) (spells_of c.args.self.now (S.blocks c.args.swap.now) (S.block c.args.swap.now) w c.requires.together stands spelled) none) [
+      | inr short ↦ elim (c.act.ensures.run_short p s w over spells none) [
         | inl i ↦ i
         | inr run ↦ absurd
-            (let more = short_at p s w x c.lawful.ensures set stands live sound c.args.arguments c.args.next c.args.cpu.now same _ c.args.pid chosen
-            (record { there = there; call = call; step = c.requires.can_step; ready = c.requires.aimed; keeps = c.ids.ensures ∙ ap segments_of c.call_need-need.ensures })
+            (let more = short_at p s w x c.lawful.ensures turn.agrees.set here.stands live turn.sound c.args.arguments c.args.next c.args.cpu.now same _ c.args.pid turn.turn
+            (record { there = here.process; call = call; step = c.requires.can_step; ready = c.requires.aimed; keeps = c.ids.ensures ∙ ap segments_of c.call_need-need.ensures })
             (unrefused_by c.args.arguments (ruling_of c.args.arguments (known_of s w) c.args.pid c.args.cpu.now) c.act.result
-            (c.act.ensures.row p s w (record { store = refl; regions = refl; pictures = refl; blocks = refl; lawful = c.lawful.ensures; set = set; stands = stands })
-            (spells_of c.args.self.now (S.blocks c.args.swap.now) (S.block c.args.swap.now) w c.requires.together stands spelled)) short.unrefused)
+            (c.act.ensures.row p s w over spells) short.unrefused)
             short.stops short.lacks run in
             omega (arith, more, fit))
       ]
     ]
 
 pub returns-in-Done-clause-idle : goal.returns-in-Done-clause-idle
-returns-in-Done-clause-idle g c = λ s w x stands set sound chosen there live same spelled call fit none.
+returns-in-Done-clause-idle g c = λ s w x here turn live same call fit none.
     let S = g.S.SwapDevice in
-    let p : Parts = parts_in c.args.self.now (S.blocks c.args.swap.now) (S.block c.args.swap.now) in
+    let m = c.args.self.now in
+    let p : Parts = parts_in m (S.blocks c.args.swap.now) (S.block c.args.swap.now) in
+    let over = over_here m (S.blocks c.args.swap.now) (S.block c.args.swap.now) s w here.stands turn.agrees c.lawful.ensures in
+    let spells = spells_here m (S.blocks c.args.swap.now) (S.block c.args.swap.now) s w here.stands turn.agrees c.requires.together in
     elim (c.act.ensures.idle none) [
       | inl i ↦ record { device = i.device; none = subst NoneTaken (sym (ap (λ (z : Shelf). z.swap) c.give.ensures.store.store)) i.none }
-      | inr short ↦ elim (c.act.ensures.run_short p s w (record { store = refl; regions = refl; pictures = refl; blocks = refl; lawful = c.lawful.ensures; set = set; stands = stands }) (spells_of c.args.self.now (S.blocks c.args.swap.now) (S.block c.args.swap.now) w c.requires.together stands spelled) none) [
+      | inr short ↦ elim (c.act.ensures.run_short p s w over spells none) [
         | inl i ↦ record { device = i.device; none = subst NoneTaken (sym (ap (λ (z : Shelf). z.swap) c.give.ensures.store.store)) i.none }
         | inr run ↦ absurd
-            (let more = short_at p s w x c.lawful.ensures set stands live sound c.args.arguments c.args.next c.args.cpu.now same _ c.args.pid chosen
-            (record { there = there; call = call; step = c.requires.can_step; ready = c.requires.aimed; keeps = c.ids.ensures ∙ ap segments_of c.call_need-need.ensures })
+            (let more = short_at p s w x c.lawful.ensures turn.agrees.set here.stands live turn.sound c.args.arguments c.args.next c.args.cpu.now same _ c.args.pid turn.turn
+            (record { there = here.process; call = call; step = c.requires.can_step; ready = c.requires.aimed; keeps = c.ids.ensures ∙ ap segments_of c.call_need-need.ensures })
             (unrefused_by c.args.arguments (ruling_of c.args.arguments (known_of s w) c.args.pid c.args.cpu.now) c.act.result
-            (c.act.ensures.row p s w (record { store = refl; regions = refl; pictures = refl; blocks = refl; lawful = c.lawful.ensures; set = set; stands = stands })
-            (spells_of c.args.self.now (S.blocks c.args.swap.now) (S.block c.args.swap.now) w c.requires.together stands spelled)) short.unrefused)
+            (c.act.ensures.row p s w over spells) short.unrefused)
             short.stops short.lacks run in
             omega (arith, more, fit))
       ]
@@ -479,26 +445,58 @@ act-requires-clause-caller g c = record {
 pub act-requires-clause-backed : goal.act-requires-clause-backed
 act-requires-clause-backed g c = record { clean = (c.requires.together.ready (λ k. [])).clean; device = (c.requires.together.ready (λ k. [])).device }
 
-pub returns-in-NoRoom-clause-device : goal.returns-in-NoRoom-clause-device
-returns-in-NoRoom-clause-device g c = (c.act.ensures.device.blocks, c.act.ensures.device.told)
+-- What the call keeps, and what becomes of the device.
 
-pub returns-in-NoRoom-clause-swap_count : goal.returns-in-NoRoom-clause-swap_count
-returns-in-NoRoom-clause-swap_count g c = c.act.ensures.device.faults
+pub returns-in-NoRoom-clause-keeps : goal.returns-in-NoRoom-clause-keeps
+returns-in-NoRoom-clause-keeps g c = (let e = c.act.ensures in record { memory = e.limits.size; segments = e.limits.count; blocks = e.goes_on.map; count = refl; processes = e.processes; avail = refl; images = refl })
+
+pub returns-in-NoRoom-clause-adds : goal.returns-in-NoRoom-clause-adds
+returns-in-NoRoom-clause-adds g c = (let l = c.in-NoRoom.ensures.limits in let made = l.made in record { made = omega (arith, made); held = l.few })
+
+pub returns-in-SwapFull-clause-keeps : goal.returns-in-SwapFull-clause-keeps
+returns-in-SwapFull-clause-keeps g c = (let e = c.act.ensures in record { memory = e.limits.size; segments = e.limits.count; blocks = e.goes_on.map; count = refl; processes = e.processes; avail = refl; images = refl })
+
+pub returns-in-SwapFull-clause-adds : goal.returns-in-SwapFull-clause-adds
+returns-in-SwapFull-clause-adds g c = (let l = c.in-SwapFull.ensures.limits in let made = l.made in record { made = omega (arith, made); held = l.few })
+
+pub returns-in-SwapFault-clause-keeps : goal.returns-in-SwapFault-clause-keeps
+returns-in-SwapFault-clause-keeps g c = (let e = c.act.ensures in record { memory = e.limits.size; segments = e.limits.count; blocks = e.goes_on.map; count = refl; processes = e.processes; avail = refl; images = refl })
+
+pub returns-in-SwapFault-clause-adds : goal.returns-in-SwapFault-clause-adds
+returns-in-SwapFault-clause-adds g c = (let l = c.in-SwapFault.ensures.limits in let made = l.made in record { made = omega (arith, made); held = l.few })
+
+pub returns-in-Done-clause-keeps : goal.returns-in-Done-clause-keeps
+returns-in-Done-clause-keeps g c =
+    let e = c.act.ensures in
+    let given = c.give.ensures in
+    let store = given.store.store in
+    record {
+      memory = ap (λ z. z.places.size) store ∙ e.limits.size;
+      segments = ap (λ z. length z.entries) store ∙ e.limits.count;
+      blocks = ap (λ z. all_of z.swap) store ∙ e.goes_on.map;
+      count = refl;
+      processes = given.maps.processes ∙ e.processes;
+      avail = refl;
+      images = refl;
+    }
+
+pub returns-in-Done-clause-adds : goal.returns-in-Done-clause-adds
+returns-in-Done-clause-adds g c =
+    let l = c.in-Done.ensures.limits in
+    let given = c.give.ensures in
+    record {
+      made = (let made = l.made in let same = ap (λ z. z.made) given.store.store in omega (arith, made, same));
+      held = λ k some most. few_as c.act.new.regions c.give.new.regions given.maps.held (k + 1) (l.few k some most);
+    }
+
+pub returns-in-NoRoom-clause-device : goal.returns-in-NoRoom-clause-device
+returns-in-NoRoom-clause-device g c = device_for g.S.SwapDevice.blocks g.S.SwapDevice.told g.S.SwapDevice.faults c.args.swap.now c.act.new.swap _ _ (λ failed. absurd (cc)) c.in-NoRoom.ensures.device
 
 pub returns-in-SwapFull-clause-device : goal.returns-in-SwapFull-clause-device
-returns-in-SwapFull-clause-device g c = (c.act.ensures.device.blocks, c.act.ensures.device.told)
-
-pub returns-in-SwapFull-clause-swap_count : goal.returns-in-SwapFull-clause-swap_count
-returns-in-SwapFull-clause-swap_count g c = c.act.ensures.device.faults
+returns-in-SwapFull-clause-device g c = device_for g.S.SwapDevice.blocks g.S.SwapDevice.told g.S.SwapDevice.faults c.args.swap.now c.act.new.swap _ _ (λ failed. absurd (cc)) c.in-SwapFull.ensures.device
 
 pub returns-in-SwapFault-clause-device : goal.returns-in-SwapFault-clause-device
-returns-in-SwapFault-clause-device g c = (c.act.ensures.device.blocks, c.act.ensures.device.told)
-
-pub returns-in-SwapFault-clause-swap_count : goal.returns-in-SwapFault-clause-swap_count
-returns-in-SwapFault-clause-swap_count g c = c.act.ensures.device.faults
+returns-in-SwapFault-clause-device g c = device_for g.S.SwapDevice.blocks g.S.SwapDevice.told g.S.SwapDevice.faults c.args.swap.now c.act.new.swap _ _ (λ failed. refl) c.in-SwapFault.ensures.device
 
 pub returns-in-Done-clause-device : goal.returns-in-Done-clause-device
-returns-in-Done-clause-device g c = (c.act.ensures.device.blocks, c.act.ensures.device.told)
-
-pub returns-in-Done-clause-swap_count : goal.returns-in-Done-clause-swap_count
-returns-in-Done-clause-swap_count g c = c.act.ensures.device.faults
+returns-in-Done-clause-device g c = device_for g.S.SwapDevice.blocks g.S.SwapDevice.told g.S.SwapDevice.faults c.args.swap.now c.act.new.swap _ _ (λ failed. absurd (cc)) c.in-Done.ensures.device

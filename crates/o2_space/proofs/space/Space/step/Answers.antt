@@ -1,10 +1,7 @@
-use Rattle.std.proofs.Common.{ℕ, ◌≤◌, ◌<◌, List, None, ap, sym, ◌∙◌, subst, arith}
+use Rattle.std.proofs.Common.{ℕ, ◌≤◌, ◌<◌, List, None, ap, sym, ◌∙◌, refl, subst, arith}
 use Rattle.o2_isa.specs.View.{bound_registers}
 use Rattle.o2_outer.specs.Inputs.{left_as}
-use Rattle.o2_outer.specs.Texts.{Rose}
 use Rattle.o2_segbus.specs.Seen.{hold_in}
-use Rattle.o2_store.specs.Loads.{live_load, swap_load}
-use Rattle.o2_swapmap.specs.Piles.{all_of}
 use Rattle.o2_world.specs.Calls.{Before}
 use Rattle.o2_world.specs.Effect.{effect}
 use Rattle.o2_world.specs.Known.{known_of}
@@ -19,11 +16,11 @@ use Rattle.o2_stepping.proofs.Worlds.{same_map}
 use Rattle.o2_space.specs.Parts.{parts_in, running_at}
 use Rattle.o2_shared.proofs.Staying.{stay_in_place}
 use Rattle.o2_space.proofs.Whole.{whole_same}
-use Rattle.o2_space.proofs.SharedKept.{few_as, shape_grows, shape_shares}
+use Rattle.o2_space.proofs.SharedKept.{shape_grows, shape_shares}
 use Rattle.o2_space.proofs.Alike.{ready_as}
-use Rattle.o2_space.proofs.Behind.{set_behind, steps_by}
+use Rattle.o2_space.proofs.Behind.{steps_by}
 use Rattle.o2_space.proofs.Nexting.{says_room}
-use Rattle.o2_space.proofs.Rooms.{on_stop, room_by, room_in_part_by, with_failure}
+use Rattle.o2_space.proofs.Rooms.{on_stop, room_by, room_in_part_by}
 use Rattle.o2_space.proofs.Sights.{before_is}
 use Rattle.o2_stepping.proofs.NextRooms.{live_least}
 use Rattle.o2_space.proofs.space.Space.step.Goals as goal
@@ -36,7 +33,7 @@ step_in_store-result-requires-clause-ready g c =
     (c.requires.together.ready (S.block c.args.swap.now))
 
 pub returns-clause-steps : goal.returns-clause-steps
-returns-clause-steps g c = λ text may s w x tells stands there same left known.
+returns-clause-steps g c = λ text may s w x tells begins same.
     let S = g.S.SwapDevice in
     let m = c.args.self.now in
     let new = c.step_in_store-result.new in
@@ -46,16 +43,16 @@ returns-clause-steps g c = λ text may s w x tells stands there same left known.
     let old_bytes : ℕ → List ℕ = bytes_with (away_of m.store m.regions m.images (S.blocks c.args.swap.now) (S.block c.args.swap.now)) m.store in
     let new_bytes : ℕ → List ℕ = bytes_with (away_of new.store new.regions m.images (S.blocks new.swap) (S.block new.swap)) new.store in
     let ready = ready_as new.store new.regions m.images (S.blocks new.swap) (S.block new.swap) (S.block new.swap) (λ k. None) (running_at m.procs.items) e.ready in
-    steps_by p new.store new.regions (S.blocks new.swap) (S.block new.swap) e.shape c.lawful.ensures c.lawful-2.ensures.inside ready w stands b new.cpu _ _ _ _ _ _ c.step_in_store-result.result
+    steps_by p new.store new.regions (S.blocks new.swap) (S.block new.swap) e.shape c.lawful.ensures c.lawful-2.ensures.inside ready w begins.here.stands b new.cpu _ _ _ _ _ _ c.step_in_store-result.result
     (subst (λ (z : Before). Takes z (effect z) new.cpu old_bytes new_bytes (left_as text (g.I.Source.left c.args.input.now) (g.I.Source.past c.args.input.now)) (left_as text (g.I.Source.left new.input) (g.I.Source.past new.input))
     (g.C.Sink.taken c.args.console.now) (g.C.Sink.taken new.console) (g.R.Sink.taken c.args.report.now) (g.R.Sink.taken new.report) c.step_in_store-result.result)
-    (before_is p w c.lawful.ensures stands s c.args.pid x c.args.cpu.now there same) (e.takes_as text may w.input (known_of s w) tells left known))
+    (before_is p w c.lawful.ensures begins.here.stands s c.args.pid x c.args.cpu.now begins.here.process same) (e.takes_as text may w.input (known_of s w) tells begins.input begins.known))
 
 pub returns-clause-still : goal.returns-clause-still
 returns-clause-still g c = on_stop _ _ c.step_in_store-result.result (λ p. (p.1, p.2, p.3)) c.step_in_store-result.ensures.still
 
 pub returns-clause-room : goal.returns-clause-room
-returns-clause-room g c = λ text may s w x tells stands there same left known.
+returns-clause-room g c = λ text may s w x tells begins same.
     let S = g.S.SwapDevice in
     let m = c.args.self.now in
     let pid = c.args.pid in
@@ -66,19 +63,19 @@ returns-clause-room g c = λ text may s w x tells stands there same left known.
     let b : Before = before s w pid x in
     let old_bytes : ℕ → List ℕ = bytes_with (away_of m.store m.regions m.images (S.blocks c.args.swap.now) (S.block c.args.swap.now)) m.store in
     let new_bytes : ℕ → List ℕ = bytes_with (away_of new.store new.regions m.images (S.blocks new.swap) (S.block new.swap)) new.store in
-    let is = before_is p w c.lawful.ensures stands s pid x c.args.cpu.now there same in
+    let is = before_is p w c.lawful.ensures begins.here.stands s pid x c.args.cpu.now begins.here.process same in
     room_by m.store b (effect b) (hold_in new.regions pid) (hold_in m.regions pid) new.cpu old_bytes new_bytes _ _ _ _ _ _ result (same_map m.regions new.regions pid e.shape.holds)
     (subst (λ (z : Before). Takes z (effect z) new.cpu old_bytes new_bytes (left_as text (g.I.Source.left c.args.input.now) (g.I.Source.past c.args.input.now)) (left_as text (g.I.Source.left new.input) (g.I.Source.past new.input))
-    (g.C.Sink.taken c.args.console.now) (g.C.Sink.taken new.console) (g.R.Sink.taken c.args.report.now) (g.R.Sink.taken new.report) result) is (e.takes_as text may w.input (known_of s w) tells left known))
+    (g.C.Sink.taken c.args.console.now) (g.C.Sink.taken new.console) (g.R.Sink.taken c.args.report.now) (g.R.Sink.taken new.report) result) is (e.takes_as text may w.input (known_of s w) tells begins.input begins.known))
     (subst (λ (z : Before). OnDone result (room_in m.store (all_names z (bound_registers (hold_in new.regions pid) new.cpu)) ≤ m.store.places.size)) is (e.room w.input (known_of s w) tells))
 
 pub returns-clause-no_room : goal.returns-clause-no_room
-returns-clause-no_room g c = λ s w x tells stands there same.
+returns-clause-no_room g c = λ s w x tells here same.
     let S = g.S.SwapDevice in
     let m = c.args.self.now in
     let p : Parts = parts_in m (S.blocks c.args.swap.now) (S.block c.args.swap.now) in
     subst (λ (z : Before). OnSwapStop c.step_in_store-result.result (m.store.places.size < room_in m.store (needed_names z)) (Unit {0}) (Unit {0}))
-    (before_is p w c.lawful.ensures stands s c.args.pid x c.args.cpu.now there same) (c.step_in_store-result.ensures.no_room w.input (known_of s w) tells)
+    (before_is p w c.lawful.ensures here.stands s c.args.pid x c.args.cpu.now here.process same) (c.step_in_store-result.ensures.no_room w.input (known_of s w) tells)
 
 pub returns-clause-together : goal.returns-clause-together
 returns-clause-together g c =
@@ -95,21 +92,11 @@ returns-clause-together g c =
       places = stay_in_place m.store new.store m.regions new.regions m.names c.requires.together.places (shape_shares m.store new.store m.regions new.regions e.shape) (shape_grows m.store new.store m.regions new.regions e.shape);
     }
 
-pub returns-clause-set : goal.returns-clause-set
-returns-clause-set g c = λ s set.
-    let S = g.S.SwapDevice in
-    let new = c.step_in_store-result.new in
-    let e = c.step_in_store-result.ensures in
-    set_behind (parts_in c.args.self.now (S.blocks c.args.swap.now) (S.block c.args.swap.now)) new.store new.regions (S.blocks new.swap) (S.block new.swap) e.shape s e.device.blocks set
-
-pub returns-clause-processes : goal.returns-clause-processes
-returns-clause-processes g c = c.step_in_store-result.ensures.shape.holds.processes
-
 pub returns-clause-most : goal.returns-clause-most
 returns-clause-most g c = c.lawful-2.ensures.maps.most
 
 pub returns-clause-room_in_part : goal.returns-clause-room_in_part
-returns-clause-room_in_part g c = λ text may s w x tells stands there same left known.
+returns-clause-room_in_part g c = λ text may s w x tells begins same.
     let S = g.S.SwapDevice in
     let m = c.args.self.now in
     let pid = c.args.pid in
@@ -120,14 +107,14 @@ returns-clause-room_in_part g c = λ text may s w x tells stands there same left
     let b : Before = before s w pid x in
     let old_bytes : ℕ → List ℕ = bytes_with (away_of m.store m.regions m.images (S.blocks c.args.swap.now) (S.block c.args.swap.now)) m.store in
     let new_bytes : ℕ → List ℕ = bytes_with (away_of new.store new.regions m.images (S.blocks new.swap) (S.block new.swap)) new.store in
-    let is = before_is p w c.lawful.ensures stands s pid x c.args.cpu.now there same in
+    let is = before_is p w c.lawful.ensures begins.here.stands s pid x c.args.cpu.now begins.here.process same in
     room_in_part_by m.store b (effect b) (hold_in new.regions pid) (hold_in m.regions pid) new.cpu old_bytes new_bytes _ _ _ _ _ _ result (same_map m.regions new.regions pid e.shape.holds)
     (subst (λ (z : Before). Takes z (effect z) new.cpu old_bytes new_bytes (left_as text (g.I.Source.left c.args.input.now) (g.I.Source.past c.args.input.now)) (left_as text (g.I.Source.left new.input) (g.I.Source.past new.input))
-    (g.C.Sink.taken c.args.console.now) (g.C.Sink.taken new.console) (g.R.Sink.taken c.args.report.now) (g.R.Sink.taken new.report) result) is (e.takes_as text may w.input (known_of s w) tells left known))
+    (g.C.Sink.taken c.args.console.now) (g.C.Sink.taken new.console) (g.R.Sink.taken c.args.report.now) (g.R.Sink.taken new.report) result) is (e.takes_as text may w.input (known_of s w) tells begins.input begins.known))
     (subst (λ (z : Before). OnBegun result (room_in m.store (all_names z (bound_registers (hold_in new.regions pid) new.cpu)) ≤ m.store.places.size)) is (e.room_in_part w.input (known_of s w) tells))
 
 pub returns-clause-part : goal.returns-clause-part
-returns-clause-part g c = λ text may s w x tells stands there same left known.
+returns-clause-part g c = λ text may s w x tells begins same.
     let S = g.S.SwapDevice in
     let C = g.C.Sink in
     let R = g.R.Sink in
@@ -135,24 +122,10 @@ returns-clause-part g c = λ text may s w x tells stands there same left known.
     let p : Parts = parts_in c.args.self.now (S.blocks c.args.swap.now) (S.block c.args.swap.now) in
     let n : Counts = counts (C.puts c.args.console.now) (C.puts new.console) (R.puts c.args.report.now) (R.puts new.report) 0 in
     subst (λ (z : Before). PartHands (effect z) n c.step_in_store-result.result)
-    (before_is p w c.lawful.ensures stands s c.args.pid x c.args.cpu.now there same) (c.step_in_store-result.ensures.part text may w.input (known_of s w) tells left known)
-
-pub returns-clause-swap_stops : goal.returns-clause-swap_stops
-returns-clause-swap_stops g c =
-    let s = c.args.self.now.store in
-    let e = c.step_in_store-result.ensures in
-    let Loads : Type 0 = (all_of s.swap < swap_load s) × (s.places.size < live_load s) in
-    let Failed : Type 0 = Rose (g.S.SwapDevice.faults c.args.swap.now) (g.S.SwapDevice.faults c.step_in_store-result.new.swap) in
-    with_failure (Unit {0}) Loads Failed c.step_in_store-result.result e.loads e.device.cause
-
-pub returns-clause-device : goal.returns-clause-device
-returns-clause-device g c = (c.step_in_store-result.ensures.device.blocks, c.step_in_store-result.ensures.device.told)
-
-pub returns-clause-swap_count : goal.returns-clause-swap_count
-returns-clause-swap_count g c = c.step_in_store-result.ensures.device.faults
+    (before_is p w c.lawful.ensures begins.here.stands s c.args.pid x c.args.cpu.now begins.here.process same) (c.step_in_store-result.ensures.part text may w.input (known_of s w) tells begins.input begins.known)
 
 pub returns-clause-next_room : goal.returns-clause-next_room
-returns-clause-next_room g c = λ text may s w x tells stands set chosen there same left known.
+returns-clause-next_room g c = λ text may s w x tells begins same set chosen.
     let S = g.S.SwapDevice in
     let m = c.args.self.now in
     let pid = c.args.pid in
@@ -162,18 +135,12 @@ returns-clause-next_room g c = λ text may s w x tells stands set chosen there s
     let p : Parts = parts_in m (S.blocks c.args.swap.now) (S.block c.args.swap.now) in
     let old_bytes : ℕ → List ℕ = bytes_with (away_of m.store m.regions m.images (S.blocks c.args.swap.now) (S.block c.args.swap.now)) m.store in
     let new_bytes : ℕ → List ℕ = bytes_with (away_of new.store new.regions m.images (S.blocks new.swap) (S.block new.swap)) new.store in
-    let is = before_is p w c.lawful.ensures stands s pid x c.args.cpu.now there same in
-    says_room p s w x (record { lawful = c.lawful.ensures; set = set; stands = stands; chosen = ap (process_at w.processes) chosen ∙ there }) new.cpu old_bytes new_bytes _ _ _ _ _ _ _ result pid (sym chosen)
+    let is = before_is p w c.lawful.ensures begins.here.stands s pid x c.args.cpu.now begins.here.process same in
+    says_room p s w x (record { lawful = c.lawful.ensures; set = set; stands = begins.here.stands; chosen = ap (process_at w.processes) chosen ∙ begins.here.process }) new.cpu old_bytes new_bytes _ _ _ _ _ _ result pid (sym chosen)
     (subst (λ (z : Before). Takes z (effect z) new.cpu old_bytes new_bytes (left_as text (g.I.Source.left c.args.input.now) (g.I.Source.past c.args.input.now)) (left_as text (g.I.Source.left new.input) (g.I.Source.past new.input))
-    (g.C.Sink.taken c.args.console.now) (g.C.Sink.taken new.console) (g.R.Sink.taken c.args.report.now) (g.R.Sink.taken new.report) result) is (e.takes_as text may w.input (known_of s w) tells left known))
-    (returns-clause-room g c text may s w x tells stands there same left known) (returns-clause-room_in_part g c text may s w x tells stands there same left known)
-    (returns-clause-no_room g c s w x tells stands there same) (returns-clause-swap_stops g c)
-
-pub returns-clause-made : goal.returns-clause-made
-returns-clause-made g c = c.step_in_store-result.ensures.shape.tables.made
-
-pub returns-clause-held : goal.returns-clause-held
-returns-clause-held g c = few_as c.args.self.now.regions c.step_in_store-result.new.regions c.step_in_store-result.ensures.shape.holds.held
+    (g.C.Sink.taken c.args.console.now) (g.C.Sink.taken new.console) (g.R.Sink.taken c.args.report.now) (g.R.Sink.taken new.report) result) is (e.takes_as text may w.input (known_of s w) tells begins.input begins.known))
+    (returns-clause-room g c text may s w x tells begins same) (returns-clause-room_in_part g c text may s w x tells begins same)
+    (returns-clause-no_room g c s w x tells begins.here same) e.loads
 
 pub returns-clause-idle : goal.returns-clause-idle
 returns-clause-idle g c = λ s w stands set fit none.
@@ -181,3 +148,8 @@ returns-clause-idle g c = λ s w stands set fit none.
     let least = live_least (parts_in c.args.self.now (S.blocks c.args.swap.now) (S.block c.args.swap.now)) s w c.lawful.ensures set stands in
     let memory = set.memory in
     c.step_in_store-result.ensures.idle none (omega (arith, least, memory, fit))
+
+pub returns-clause-keeps : goal.returns-clause-keeps
+returns-clause-keeps g c =
+    let e = c.step_in_store-result.ensures in
+    record { memory = e.shape.tables.size; segments = e.shape.tables.count; blocks = e.shape.swap; count = refl; processes = e.shape.holds.processes; avail = e.avail; images = refl }
