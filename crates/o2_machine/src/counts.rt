@@ -1,5 +1,5 @@
 // What a machine tells of itself.
-ghost use Rattle.std.specs.Prelude.{◌≡◌, ◌+◌, ◌-◌, ℕ, Bool, List, length, option_map};
+ghost use Rattle.std.specs.Prelude.{◌≡◌, ◌+◌, ◌-◌, ℕ, List, length, option_map};
 ghost use Rattle.o2_world.specs.World.{World, Setting};
 ghost use Rattle.o2_world.specs.Run.{steps_done};
 ghost use Rattle.o2_machine.specs.Lasts.{last_lines, stopped_of, put_of};

@@ -45,7 +45,7 @@ use Rattle.o2_stepping.specs.Ran.{IsCallOf}
 use Rattle.o2_stepping.proofs.Named.{age_is, or_back}
 use Rattle.o2_space.proofs.CallRooms.{e, new, run_changes_are, run_sizing, sizes, u, v, want, world_is}
 use Rattle.o2_space.proofs.Remains.{by_key, locked_to, resized_size, sized_to, written_some}
-use Rattle.o2_space.proofs.RunSizing.{AllAre, Cut, Grown, IsCutBy, IsGrownBy, IsSizing, grown_takes}
+use Rattle.o2_space.proofs.RunSizing.{AllAre, Cut, Grown, IsGrownBy, IsSizing, grown_takes}
 use Rattle.o2_space.proofs.Sides.{room_with_new, room_without_new}
 
 -- What a call that comes to no error changes.

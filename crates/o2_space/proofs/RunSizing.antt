@@ -1,22 +1,22 @@
 -- What a call on a huge allocation does to segments that live: all that it sizes get no larger, or none of them gets smaller and none goes.
-use Rattle.std.proofs.Common.{◌≡◌, ◌⊎◌, inl, inr, ℕ, zero, suc, ◌+◌, ◌-◌, ◌/◌, ◌<◌, ◌≤◌, ◌==◌, ◌&&◌, ◌||◌, not, nat_lt, Bool, true, false, cond, max, List, [], ◌∷◌, ◌++◌, length, filter, drop, replicate, Option, Some, None, is_some, IsSome, option_map, ap, sym, ◌∙◌, refl, subst, arith, if◌then◌else◌}
+use Rattle.std.proofs.Common.{◌≡◌, ◌⊎◌, inl, inr, ℕ, zero, suc, ◌+◌, ◌-◌, ◌/◌, ◌<◌, ◌≤◌, ◌==◌, ◌&&◌, ◌||◌, not, nat_lt, Bool, true, false, cond, max, List, [], ◌∷◌, ◌++◌, length, filter, drop, replicate, Option, Some, None, is_some, option_map, ap, sym, ◌∙◌, refl, subst, arith, if◌then◌else◌}
 use Rattle.std.specs.Prelude.{nat_le}
 use Rattle.std.specs.List.{list_any}
 use Rattle.std.proofs.lemmas.Bool.{and_parts, cases_lt, eqb-true, false≢true}
-use Rattle.std.proofs.lemmas.List.{length-drop, length-replicate}
+use Rattle.std.proofs.lemmas.List.{length-drop}
 use Rattle.o2_isa.specs.declared.cpu.Cpu.{Cpu}
 use Rattle.o2_isa.specs.View.{is_local}
 use Rattle.o2_run.specs.Room.{size_of}
 use Rattle.o2_world.specs.Changes.{Change, Drops, Finishes, Frees, Holds, Locks, Makes, Marks, Names, Reserves, Resizes, takes}
-use Rattle.o2_world.specs.HugeRulings.{all_bytes, all_dropped, all_hold, bytes_of, dropped_members, flags_in, free_run, held_in_run, huge_allocation, huge_at, huge_reallocation, huge_reallocation_of, is_first, is_huge_fault, left_in_run, new_members, other_shares, resized_members, resized_one, run_changes, run_reserve, run_resized, segments_of, sizes_of}
-use Rattle.o2_world.specs.Known.{Known, Marks as SegmentMarks, held_at, known_of, marks_of}
+use Rattle.o2_world.specs.HugeRulings.{all_bytes, all_dropped, all_hold, bytes_of, dropped_members, flags_in, free_run, huge_allocation, huge_at, huge_reallocation, huge_reallocation_of, is_first, is_huge_fault, left_in_run, new_members, other_shares, resized_members, resized_one, run_changes, run_resized, segments_of, sizes_of}
+use Rattle.o2_world.specs.Known.{Known, held_at, known_of, marks_of}
 use Rattle.o2_world.specs.Map.{Map, get}
 use Rattle.o2_world.specs.Rulings.{Ruling, full_size, held_under, in_use, indexes, is_in_run, members, region_by}
 use Rattle.o2_world.specs.SharedRulings.{marks_under, shared_from}
 use Rattle.o2_world.specs.Tied.{IsTied}
 use Rattle.o2_world.specs.World.{Held, Segment, Setting, World}
 use Rattle.o2_world.proofs.FitRows.{full_is}
-use Rattle.o2_stands.specs.Runs.{IsInStretch, IsMemberOf, is_full}
+use Rattle.o2_stands.specs.Runs.{IsMemberOf, is_full}
 use Rattle.o2_stands.specs.Stands.{IsTidy}
 
 -- a change by which no segment of these names grows
