@@ -47,63 +47,6 @@ impl Machine {
         }
     }
 
-    /// The step of this process, or a stop line.
-    fn step<I: Source, C: Sink, R: Sink, S: SwapDevice>(
-        &mut self,
-        pid: u16,
-        input: &mut I,
-        console: &mut C,
-        report: &mut R,
-        swap: &mut S,
-    ) -> Option<Last>
-        requires pick { pick_of self.old.sched ≡ Pick.Step pid }
-        requires live { lives self.old.sched.flags pid ≡ true }
-        requires device { GoesOver self.old.space self.old.sched (S.blocks swap.old) }
-        ensures turns { IsTrue (S.told swap.new) → (text : Option (List ℕ)) → IsSeenAs text (I.past input.new) → (s : Setting) (w : World)
-            → StandsFor self.old (S.blocks swap.old) (S.block swap.old) s w
-            → left_as text (I.left input.old) (I.past input.old) ≡ Some w.input
-            → Turns (StandsFor self.new (S.blocks swap.new) (S.block swap.new) s)
-            true (S.blocks swap.old) s w (put_of result)
-            (left_as text (I.left input.new) (I.past input.new))
-            (C.taken console.old) (C.taken console.new) (R.taken report.old) (R.taken report.new) (answer_of result) }
-        ensures goes_on { GoesOn (I.past input.old) (I.past input.new) }
-        ensures last { self.new.last ≡ self.old.last }
-        ensures images { self.new.space.images ≡ self.old.space.images }
-        ensures device { GoesOver self.new.space self.new.sched (S.blocks swap.new) }
-        ensures frame { KeepsDevice S.blocks S.told S.faults swap.old swap.new (answer_of result ≡ Turn.SwapFault) }
-        ensures idle { IsTrue (S.told swap.old) → (text : Option (List ℕ)) → IsSeenAs text (I.past input.new) → (s : Setting) (w : World)
-            → StandsFor self.old (S.blocks swap.old) (S.block swap.old) s w
-            → left_as text (I.left input.old) (I.past input.old) ≡ Some w.input → (is_over w ≡ false → AllFits s w)
-            → NoneTaken self.old.space.store.swap → IsIdle self.new.space.store swap.old swap.new }
-        ensures input_count { I.faults input.old ≤ I.faults input.new }
-        ensures console_count { C.faults console.old ≤ C.faults console.new }
-        ensures report_count { R.faults report.old ≤ R.faults report.new }
-        ensures cause { Caused
-            (Rose (C.faults console.old) (C.faults console.new) ⊎ Rose (R.faults report.old) (R.faults report.new))
-            (Rose (I.faults input.old) (I.faults input.new)) (Unit {0}) (answer_of result) }
-        ensures line { LineIs (put_of result) (Rose (R.faults report.old) (R.faults report.new)) (answer_of result) }
-        ensures left { OnRan (answer_of result) (self.new.sched.dispatch.budget < self.old.sched.dispatch.budget) }
-        // Each line is one put, and so is the piece for the console, where it has bytes.
-        ensures puts { IsTrue (S.told swap.new) → (text : Option (List ℕ)) → IsSeenAs text (I.past input.new) → (s : Setting) (w : World)
-            → StandsFor self.old (S.blocks swap.old) (S.block swap.old) s w
-            → left_as text (I.left input.old) (I.past input.old) ≡ Some w.input
-            → TurnHands s w (counts (C.puts console.old) (C.puts console.new)
-            (R.puts report.old) (R.puts report.new) (length w.lines)) (answer_of result) }
-    {
-        match self.space.act(pid, input, console, report, swap) {
-            Err(Fault::Sink) => Some(Last::SinkFault),
-            Err(Fault::Stopped(why)) => Some(Last::Stopped(why, put_stop(why, report))),
-            Ok(ran) => {
-                self.stepped(pid, &ran);
-                if ran.whole {
-                    None
-                } else {
-                    Some(Last::SinkFault)
-                }
-            }
-        }
-    }
-
     /// One step, or the last line, or a stop line.
     #[tactic(auto, using(o2_outer::proofs::Inputs::goes_same))]
     fn advance<I: Source, C: Sink, R: Sink, S: SwapDevice>(
@@ -154,7 +97,18 @@ impl Machine {
                 Put::Done => Some(Last::BudgetSpent),
                 Put::Failed => Some(Last::SinkFault),
             },
-            Pick::Step(pid) => self.step(pid, input, console, report, swap),
+            Pick::Step(pid) => match self.space.act(pid, input, console, report, swap) {
+                Err(Fault::Sink) => Some(Last::SinkFault),
+                Err(Fault::Stopped(why)) => Some(Last::Stopped(why, put_stop(why, report))),
+                Ok(ran) => {
+                    self.stepped(pid, &ran);
+                    if ran.whole {
+                        None
+                    } else {
+                        Some(Last::SinkFault)
+                    }
+                }
+            },
         }
     }
 }

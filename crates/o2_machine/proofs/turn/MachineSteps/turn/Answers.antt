@@ -7,7 +7,8 @@ use Rattle.o2_machine.proofs.turn.MachineSteps.turn.Goals as goal
 
 pub returns-in-None-clause-turns : goal.returns-in-None-clause-turns
 returns-in-None-clause-turns g c = λ fresh tells text may s w stands left.
-    turns_answered (StandsFor c.advance-last.new.self (g.S.SwapDevice.blocks c.advance-last.new.swap) (g.S.SwapDevice.block c.advance-last.new.swap) s) _ (λ v x. record { space = x.space; sound = x.sound; told = x.told; set = x.set; flags = x.flags; dispatch = x.dispatch; quantum = x.quantum; known = record { avail = x.known.avail }; spells = x.spells; budget = x.budget; console = x.console; lines = x.lines })
+    turns_answered (StandsFor c.advance-last.new.self (g.S.SwapDevice.blocks c.advance-last.new.swap) (g.S.SwapDevice.block c.advance-last.new.swap) s) _
+    (λ v x. record { space = x.space; sound = x.sound; told = x.told; set = x.set; flags = x.flags; dispatch = x.dispatch; quantum = x.quantum; known = record { avail = x.known.avail }; spells = x.spells; budget = x.budget; console = x.console; lines = x.lines })
     _ _ s w _ _ _ _ _ _ _ _ c.answer-in-None.ensures (c.advance-last.ensures.turns tells text may s w stands left)
 
 pub returns-in-None-clause-cause : goal.returns-in-None-clause-cause
