@@ -70,27 +70,54 @@ impl Failing {
     };
 }
 
-/// Both programs, and the machine file with these sizes and this rest.
+/// Adds both programs, and the machine file with these sizes and this rest.
+fn add_files(
+    alloc: Global,
+    list: &mut Vec<(Bytes, Bytes)>,
+    sizes: &str,
+    rest: &str,
+) -> Result<(), NoMemory> {
+    let bench = module(alloc)?;
+    add_file(alloc, list, b"bench.exe", bench.as_slice())?;
+    add_file(alloc, list, b"hello.exe", &HELLO)?;
+    add_text(alloc, list, "a.toml", sizes, rest)
+}
+
+/// Those files.
 fn files_of(alloc: Global, sizes: &str, rest: &str) -> Result<MemFiles, NoMemory> {
     let mut list = Vec::new(alloc);
-    add_file(alloc, &mut list, b"hello.exe", &HELLO)?;
-    add_file(alloc, &mut list, b"bench.exe", module(alloc)?.as_slice())?;
-    add_text(alloc, &mut list, "a.toml", sizes, rest)?;
+    add_files(alloc, &mut list, sizes, rest)?;
     Ok(MemFiles::new(list, Vec::new(alloc)))
+}
+
+/// These files, an empty input, and sinks that fail so.
+fn outside_over(alloc: Global, files: MemFiles, failing: &Failing) -> Result<Outside, NoMemory> {
+    Ok(Outside {
+        files,
+        input: MemSource::new(Bytes::new(Vec::new(alloc)), Vec::new(alloc)),
+        console: sink(alloc, failing.console, 3)?,
+        report: sink(alloc, failing.report, 0)?,
+    })
+}
+
+/// What a dump over this comes to, where this call of the device fails.
+fn dump_over(
+    alloc: Global,
+    outside: Outside,
+    words: &[String],
+    call: u64,
+) -> Result<Answer, NoMemory> {
+    let mut swap = device(alloc, call)?;
+    let mut outside = outside;
+    let status = outside.run(alloc, words, &mut swap);
+    Ok(answer_of(&status, outside))
 }
 
 /// A dump of a machine file with these sizes and this rest.
 fn dumped(alloc: Global, sizes: &str, rest: &str, failing: &Failing) -> Result<Answer, NoMemory> {
-    let mut outside = Outside {
-        files: files_of(alloc, sizes, rest)?,
-        input: MemSource::new(Bytes::new(Vec::new(alloc)), Vec::new(alloc)),
-        console: sink(alloc, failing.console, 3)?,
-        report: sink(alloc, failing.report, 0)?,
-    };
-    let mut swap = device(alloc, failing.swap)?;
     let words = words_in(alloc, "dump a.toml")?;
-    let status = outside.run(alloc, words.as_slice(), &mut swap);
-    Ok(answer_of(&status, outside))
+    let outside = outside_over(alloc, files_of(alloc, sizes, rest)?, failing)?;
+    dump_over(alloc, outside, words.as_slice(), failing.swap)
 }
 
 /// Whether it is the image of the program that has ended, whose report has all its lines.
@@ -133,42 +160,50 @@ fn fault_of(alloc: Global, bytes: &[u8]) -> Option<CoreFault> {
     }
 }
 
+/// The dump of the first program in the smallest memory, where this put of the console fails, or none of them where this is 0.
+fn dump_hello(alloc: Global, console: u64) -> Result<Answer, NoMemory> {
+    let failing = Failing {
+        console,
+        ..Failing::NONE
+    };
+    dumped(alloc, SMALLEST, OF_HELLO, &failing)
+}
+
 #[test]
 fn hello_is_dumped(rt: HostRuntime) -> Result<(), test::Fail> {
-    let answer = dumped(rt.alloc(), SMALLEST, OF_HELLO, &Failing::NONE)?;
-    assert!(rt; is_whole(&answer));
-    assert!(rt; shows_the_end(rt.alloc(), answer.console.taken()));
-    assert!(rt; fault_of(rt.alloc(), &FRONT) == Some(CoreFault::Truncated(25)));
+    let answer = dump_hello(rt.alloc(), 0)?;
+    assert!(rt; is_whole(&answer) && shows_the_end(rt.alloc(), answer.console.taken()));
     Ok(())
+}
+
+/// Whether some bytes are no image for this reason.
+fn is_refused(alloc: Global, bytes: &[u8], fault: CoreFault) -> bool {
+    fault_of(alloc, bytes) == Some(fault)
+}
+
+/// Whether the front of an image is refused, and an image with a byte more, with another last byte, and cut.
+fn is_refused_damaged(alloc: Global, bytes: &mut Vec<u8>) -> Result<bool, NoMemory> {
+    bytes.push(0)?;
+    let is_long = is_refused(alloc, bytes.as_slice(), CoreFault::TooLong(4178));
+    bytes.truncate(4177);
+    bytes.push(b'?')?;
+    let is_bad = is_refused(alloc, bytes.as_slice(), CoreFault::BadEntry(4174));
+    bytes.truncate(40);
+    let is_cut = is_refused(alloc, bytes.as_slice(), CoreFault::Truncated(40));
+    let is_short = is_refused(alloc, &FRONT, CoreFault::Truncated(25));
+    Ok(is_short && is_long && is_bad && is_cut)
+}
+
+/// The image of the first program.
+fn image_of_hello(alloc: Global) -> Result<Vec<u8>, NoMemory> {
+    let answer = dump_hello(alloc, 0)?;
+    Ok(answer.console.taken().to_vec(alloc)?)
 }
 
 #[test]
 fn a_damaged_image_is_refused(rt: HostRuntime) -> Result<(), test::Fail> {
-    let answer = dumped(rt.alloc(), SMALLEST, OF_HELLO, &Failing::NONE)?;
-    let mut bytes = answer.console.taken().to_vec(rt.alloc())?;
-    bytes.push(0)?;
-    assert!(rt; fault_of(rt.alloc(), &bytes) == Some(CoreFault::TooLong(4178)));
-    bytes.truncate(4177);
-    bytes.push(b'?')?;
-    assert!(rt; fault_of(rt.alloc(), &bytes) == Some(CoreFault::BadEntry(4174)));
-    bytes.truncate(40);
-    assert!(rt; fault_of(rt.alloc(), &bytes) == Some(CoreFault::Truncated(40)));
-    Ok(())
-}
-
-/// Each put of the console may fail: then it has a front of the image, and the report stays as it is.
-#[test]
-fn each_put_of_an_image_fails(rt: HostRuntime) -> Result<(), test::Fail> {
-    let whole = dumped(rt.alloc(), SMALLEST, OF_HELLO, &Failing::NONE)?;
-    for call in 1..8u64 {
-        let failing = Failing {
-            console: call,
-            report: 0,
-            swap: 0,
-        };
-        let answer = dumped(rt.alloc(), SMALLEST, OF_HELLO, &failing)?;
-        assert!(rt; is_cut(&answer, &whole), "put {call}");
-    }
+    let mut bytes = image_of_hello(rt.alloc())?;
+    assert!(rt; is_refused_damaged(rt.alloc(), &mut bytes)?);
     Ok(())
 }
 
@@ -178,6 +213,35 @@ fn is_cut(answer: &Answer, whole: &Answer) -> bool {
     let is_front = whole.console.taken().starts_with(front);
     let has_failed = answer.status == 7 && front.len() < LENGTH;
     is_front && (has_failed || is_whole(answer)) && answer.report.taken() == whole.report.taken()
+}
+
+/// Whether a dump is cut so where this put of the console fails.
+fn is_cut_at(alloc: Global, call: u64, whole: &Answer) -> Result<bool, NoMemory> {
+    let answer = dump_hello(alloc, call)?;
+    Ok(is_cut(&answer, whole))
+}
+
+/// The first of seven puts at which it isn't.
+fn first_whole(alloc: Global, whole: &Answer) -> Result<Option<u64>, NoMemory> {
+    for call in 1..8u64 {
+        if !is_cut_at(alloc, call, whole)? {
+            return Ok(Some(call));
+        }
+    }
+    Ok(None)
+}
+
+/// The same of that dump.
+fn first_uncut(alloc: Global) -> Result<Option<u64>, NoMemory> {
+    let whole = dump_hello(alloc, 0)?;
+    first_whole(alloc, &whole)
+}
+
+/// Each put of the console may fail: then it has a front of the image, and the report stays as it is.
+#[test]
+fn each_put_of_an_image_fails(rt: HostRuntime) -> Result<(), test::Fail> {
+    assert_eq!(rt; first_uncut(rt.alloc())?, None);
+    Ok(())
 }
 
 /// The sizes of a machine with one process of a bench; the put of the report and the call of the device that fail; and then the status, the end of the
@@ -199,14 +263,25 @@ fn number_at(row: &str, k: usize) -> u64 {
     field(row, k).parse().unwrap_or(0)
 }
 
-/// Two lines of sizes.
-fn sizes_of(alloc: Global, row: &str) -> Result<String, NoMemory> {
-    let mut sizes = String::new(alloc);
+/// Writes two lines of sizes.
+fn write_sizes(sizes: &mut String, row: &str) -> Result<(), NoMemory> {
     for line in field(row, 0).split(':') {
         sizes.push_str(line)?;
         sizes.push('\n')?;
     }
-    Ok(sizes)
+    Ok(())
+}
+
+/// The dump of the machine of a row.
+fn dump_row(alloc: Global, row: &str) -> Result<Answer, NoMemory> {
+    let failing = Failing {
+        console: 0,
+        report: number_at(row, 1),
+        swap: number_at(row, 2),
+    };
+    let mut sizes = String::new(alloc);
+    write_sizes(&mut sizes, row)?;
+    dumped(alloc, sizes.as_str(), OF_BENCH, &failing)
 }
 
 /// Whether there is an image, or nothing where there is to be none.
@@ -219,22 +294,19 @@ fn has_image(alloc: Global, answer: &Answer, wanted: &str) -> bool {
     }
 }
 
-/// Whether a dump comes to what its row says.
-fn is_as_told(alloc: Global, row: &str) -> Result<bool, NoMemory> {
-    let failing = Failing {
-        console: 0,
-        report: number_at(row, 1),
-        swap: number_at(row, 2),
-    };
-    let sizes = sizes_of(alloc, row)?;
-    let answer = dumped(alloc, sizes.as_str(), OF_BENCH, &failing)?;
+/// Whether an answer is what its row says.
+fn is_answer(alloc: Global, answer: &Answer, row: &str) -> bool {
     let report = answer.report.taken();
     let text = report.strip_suffix(b"\n".as_slice()).unwrap_or(report);
-    Ok(
-        u64::from(answer.status) == number_at(row, 3)
-            && text.ends_with(field(row, 4).as_bytes())
-            && has_image(alloc, &answer, field(row, 5)),
-    )
+    u64::from(answer.status) == number_at(row, 3)
+        && text.ends_with(field(row, 4).as_bytes())
+        && has_image(alloc, answer, field(row, 5))
+}
+
+/// Whether a dump comes to what its row says.
+fn is_as_told(alloc: Global, row: &str) -> Result<bool, NoMemory> {
+    let answer = dump_row(alloc, row)?;
+    Ok(is_answer(alloc, &answer, row))
 }
 
 #[test]
@@ -297,22 +369,68 @@ fn has_stopped(answer: &Answer) -> bool {
         && answer.report.taken().ends_with(b"stop swap fault\n")
 }
 
+/// What a dump comes to of which a read fails behind its run.
+#[derive(Clone, Copy, PartialEq, Eq)]
+enum Failed {
+    /// The read was one of the image.
+    Image,
+    /// The read was one of the run.
+    Run,
+    /// There was no such read, and the dump is whole.
+    Never,
+    /// Something else.
+    Else,
+}
+
+/// What a dump comes to beside the whole one.
+fn judged(answer: &Answer, whole: &Answer) -> Failed {
+    if answer.is(9, whole.console.taken(), whole.report.taken()) {
+        Failed::Never
+    } else if is_unread(answer, whole) {
+        Failed::Image
+    } else if has_stopped(answer) {
+        Failed::Run
+    } else {
+        Failed::Else
+    }
+}
+
+/// The same of the dump where this call of the device fails.
+fn failed_at(alloc: Global, call: u64, whole: &Answer) -> Result<Failed, NoMemory> {
+    let answer = dump_full(alloc, call)?;
+    Ok(judged(&answer, whole))
+}
+
+/// How many calls fail for the image alone; none where one comes to something else, or there is no end of them.
+fn count_unread(alloc: Global, whole: &Answer) -> Result<Option<u64>, NoMemory> {
+    let mut unread = 0u64;
+    for call in 1..200u64 {
+        match failed_at(alloc, call, whole)? {
+            Failed::Image => unread = unread.saturating_add(1),
+            Failed::Run => {}
+            Failed::Never => return Ok(Some(unread)),
+            Failed::Else => return Ok(None),
+        }
+    }
+    Ok(None)
+}
+
+/// How many blocks the whole image has, and how many of them are read for it; none where the run isn't stopped for want of blocks.
+fn blocks_and_reads(alloc: Global) -> Result<Option<(u64, u64)>, NoMemory> {
+    let whole = dump_full(alloc, 0)?;
+    if whole.status != 9 || !whole.report.taken().ends_with(b"stop swap full\n") {
+        return Ok(None);
+    }
+    let blocks = blocks_in(alloc, whole.console.taken());
+    match count_unread(alloc, &whole)? {
+        Some(unread) => Ok(Some((blocks, unread))),
+        None => Ok(None),
+    }
+}
+
 /// Each block in use is read once for the image of a run that was stopped, whose line stays the last one where such a read fails.
 #[test]
 fn each_read_of_an_image_fails(rt: HostRuntime) -> Result<(), test::Fail> {
-    let whole = dump_full(rt.alloc(), 0)?;
-    let blocks = blocks_in(rt.alloc(), whole.console.taken());
-    assert!(rt; whole.status == 9 && whole.report.taken().ends_with(b"stop swap full\n"));
-    let mut unread = 0u64;
-    for call in 1..200u64 {
-        let answer = dump_full(rt.alloc(), call)?;
-        if answer.is(9, whole.console.taken(), whole.report.taken()) {
-            break;
-        }
-        let is_cut = is_unread(&answer, &whole);
-        assert!(rt; is_cut || has_stopped(&answer), "call {call}");
-        unread = unread.saturating_add(u64::from(is_cut));
-    }
-    assert!(rt; blocks == 3 && unread == 3, "{unread} of {blocks}");
+    assert_eq!(rt; blocks_and_reads(rt.alloc())?, Some((3, 3)));
     Ok(())
 }

@@ -1,5 +1,5 @@
 // Images that are written, and what their reader finds in them.
-ghost use Rattle.std.specs.Prelude.{◌≡◌, ◌≤◌, IfOk, IfSome, length};
+ghost use Rattle.std.specs.Prelude.{◌≡◌, ◌≤◌, length};
 ghost use Rattle.bus_rows.specs.Trials.{IsReady};
 ghost use Rattle.o2_outer.specs.Devices.{mem_blocks};
 ghost use Rattle.o2_regions.specs.Maps.{IsProcess};
@@ -102,18 +102,6 @@ fn fill(bench: &mut Bench) -> bool
     }
 }
 
-/// A memory of 4,096 bytes with sixteen blocks, in which these segments were made, so that one had to leave.
-fn filled(alloc: Global) -> Result<Option<Bench>, NoMemory>
-    ensures { IfOk result (λ b. IfSome b IsReady) }
-{
-    let mut bench = Bench::new(alloc, 4_096, 16, 8)?;
-    if fill(&mut bench) {
-        Ok(Some(bench))
-    } else {
-        Ok(None)
-    }
-}
-
 /// The head of the image of a machine without segments, and its process with what is behind.
 static FRONT: [u8; 25] = [
     0x4F, 0x53, 0x32, 0x43, 0x4F, 0x52, 0x45, 0x31, 0x00, 0x10, 0, 0, 0, 0, 0, 0, 0, 0, 0, 0, 1, 0,
@@ -125,23 +113,28 @@ static BEHIND: [u8; 42] = [
     21, 24, 23, 26, 25, 28, 27, 0, 0, 0, 0, b'E', b'N', b'D', b'!',
 ];
 
-/// Whether the image of a machine without segments is right.
-fn is_empty_right(alloc: Global) -> Result<bool, NoMemory> {
+/// Whether the image of a bench without segments is right.
+fn is_empty_right(bench: &mut Bench, console: &mut MemSink) -> bool
+    requires { IsReady bench.old }
+{
+    let wrote = written(bench, console);
+    let bytes = console.taken();
+    wrote == Wrote::Done
+        && bytes.len() == 4_178
+        && bytes.starts_with(&FRONT)
+        && bytes.ends_with(&BEHIND)
+}
+
+/// The same of a new one.
+fn empty_is_right(alloc: Global) -> Result<bool, NoMemory> {
     let mut console = sink(alloc, 0)?;
     let mut bench = Bench::new(alloc, 4_096, 0, 8)?;
-    let wrote = written(&mut bench, &mut console);
-    let bytes = console.taken();
-    Ok(
-        wrote == Wrote::Done
-            && bytes.len() == 4_178
-            && bytes.starts_with(&FRONT)
-            && bytes.ends_with(&BEHIND),
-    )
+    Ok(is_empty_right(&mut bench, &mut console))
 }
 
 #[test]
 fn a_machine_without_segments(rt: HostRuntime) -> Result<(), test::Fail> {
-    assert!(rt; is_empty_right(rt.alloc())?);
+    assert!(rt; empty_is_right(rt.alloc())?);
     Ok(())
 }
 
@@ -157,7 +150,12 @@ struct Seen {
 
 /// Whether all of some bytes are this one.
 fn are_all(bytes: &[u8], byte: u8) -> bool {
-    bytes.iter().all(|other| *other == byte)
+    for other in bytes {
+        if *other != byte {
+            return false;
+        }
+    }
+    true
 }
 
 /// Adds a segment, which has 2,000 times this byte, or 300 zeros.
@@ -174,6 +172,22 @@ fn look(seen: &mut Seen, place: &Place, bytes: &Bytes, byte: u8) {
     }
 }
 
+/// Adds the segment of this number, where there is one.
+fn look_at(
+    alloc: Global,
+    core: &Core,
+    number: u32,
+    byte: u8,
+    seen: &mut Seen,
+) -> Result<(), NoMemory> {
+    if let Some(entry) = core.segments.as_slice().get(number as usize) {
+        if let Some(bytes) = core.segment(alloc, number)? {
+            look(seen, &entry.place, &bytes, byte);
+        }
+    }
+    Ok(())
+}
+
 /// What an image shows.
 fn what_is_seen(alloc: Global, core: &Core) -> Result<Seen, NoMemory> {
     let mut seen = Seen {
@@ -183,12 +197,8 @@ fn what_is_seen(alloc: Global, core: &Core) -> Result<Seen, NoMemory> {
         swap: 0,
         same: 0,
     };
-    for (number, byte) in [b'a', b'b', b'c', 0].iter().enumerate() {
-        if let Some(entry) = core.segments.as_slice().get(number) {
-            if let Some(bytes) = core.segment(alloc, (number % 4) as u32)? {
-                look(&mut seen, &entry.place, &bytes, *byte);
-            }
-        }
+    for (number, byte) in [(0u32, b'a'), (1, b'b'), (2, b'c'), (3, 0)] {
+        look_at(alloc, core, number, byte, &mut seen)?;
     }
     Ok(seen)
 }
@@ -202,29 +212,7 @@ fn seen_in(alloc: Global, bytes: &[u8]) -> Result<Option<Seen>, NoMemory> {
     }
 }
 
-/// The image of a bench; none where it isn't whole.
-fn image_of(alloc: Global, bench: &mut Bench) -> Result<Option<MemSink>, NoMemory>
-    requires { IsReady bench.old }
-    ensures { IsReady bench.new }
-{
-    let mut console = sink(alloc, 0)?;
-    match written(bench, &mut console) {
-        Wrote::Done => Ok(Some(console)),
-        _ => Ok(None),
-    }
-}
-
-/// What the image of the filled memory shows; none where there is none.
-fn filled_is_seen(alloc: Global) -> Result<Option<Seen>, NoMemory> {
-    let Some(mut bench) = filled(alloc)? else {
-        return Ok(None);
-    };
-    match image_of(alloc, &mut bench)? {
-        Some(console) => seen_in(alloc, console.taken()),
-        None => Ok(None),
-    }
-}
-
+/// What the image of the filled memory shows.
 const WANTED: Seen = Seen {
     segments: 4,
     zeros: 1,
@@ -232,12 +220,6 @@ const WANTED: Seen = Seen {
     swap: 1,
     same: 4,
 };
-
-#[test]
-fn segments_wherever_they_lie(rt: HostRuntime) -> Result<(), test::Fail> {
-    assert_eq!(rt; filled_is_seen(rt.alloc())?, Some(WANTED));
-    Ok(())
-}
 
 /// Whether the console failed, and took a front of what is wanted.
 fn is_cut(console: &MemSink, wrote: Wrote, wanted: &[u8]) -> bool {
@@ -281,24 +263,9 @@ fn count_cut(alloc: Global, bench: &mut Bench, wanted: &[u8]) -> Result<Option<u
     Ok(Some(count))
 }
 
-/// The same of the filled memory.
-fn filled_is_cut(alloc: Global) -> Result<Option<u32>, NoMemory> {
-    let Some(mut bench) = filled(alloc)? else {
-        return Ok(None);
-    };
-    match image_of(alloc, &mut bench)? {
-        Some(console) => count_cut(alloc, &mut bench, console.taken()),
-        None => Ok(None),
-    }
-}
-
-#[test]
-fn each_put_fails(rt: HostRuntime) -> Result<(), test::Fail> {
-    // the head; four segments, of which one has four blocks of two puts; the memory; the process, and what it holds; the end mark
-    let puts = 1 + 4 + 8 + 1 + 1 + 4 + 1;
-    assert_eq!(rt; filled_is_cut(rt.alloc())?, Some(puts));
-    Ok(())
-}
+/// How many puts of the image of the filled memory are cut: the head; four segments, of which one has four blocks of two puts; the memory; the
+/// process, and what it holds; the end mark.
+const PUTS: u32 = 1 + 4 + 8 + 1 + 1 + 4 + 1;
 
 /// What is written of a bench over another device, of which this read fails.
 fn written_over(bench: &Bench, device: &mut MemSwap, console: &mut MemSink) -> Wrote
@@ -340,16 +307,57 @@ fn each_is_read(alloc: Global, bench: &Bench) -> Result<bool, NoMemory>
     Ok(true)
 }
 
-/// The same of the filled memory.
-fn filled_is_read(alloc: Global) -> Result<bool, NoMemory> {
-    match filled(alloc)? {
-        Some(bench) => each_is_read(alloc, &bench),
-        None => Ok(false),
+/// What is tried of the filled memory.
+#[derive(Clone, Copy)]
+enum Trial {
+    Segments,
+    Puts,
+    Reads,
+}
+
+/// Whether the image of a bench is whole, and shows what it must, or is cut at each of its puts, or fails at each read.
+fn passes(
+    alloc: Global,
+    bench: &mut Bench,
+    console: &mut MemSink,
+    trial: Trial,
+) -> Result<bool, NoMemory>
+    requires { IsReady bench.old }
+{
+    if written(bench, console) != Wrote::Done {
+        return Ok(false);
     }
+    match trial {
+        Trial::Segments => Ok(seen_in(alloc, console.taken())? == Some(WANTED)),
+        Trial::Puts => Ok(count_cut(alloc, bench, console.taken())? == Some(PUTS)),
+        Trial::Reads => each_is_read(alloc, bench),
+    }
+}
+
+/// The same of a memory of 4,096 bytes with sixteen blocks, in which the segments are made, so that one has to leave.
+fn filled_passes(alloc: Global, trial: Trial) -> Result<bool, NoMemory> {
+    let mut console = sink(alloc, 0)?;
+    let mut bench = Bench::new(alloc, 4_096, 16, 8)?;
+    if !fill(&mut bench) {
+        return Ok(false);
+    }
+    passes(alloc, &mut bench, &mut console, trial)
+}
+
+#[test]
+fn segments_wherever_they_lie(rt: HostRuntime) -> Result<(), test::Fail> {
+    assert!(rt; filled_passes(rt.alloc(), Trial::Segments)?);
+    Ok(())
+}
+
+#[test]
+fn each_put_fails(rt: HostRuntime) -> Result<(), test::Fail> {
+    assert!(rt; filled_passes(rt.alloc(), Trial::Puts)?);
+    Ok(())
 }
 
 #[test]
 fn each_read_fails(rt: HostRuntime) -> Result<(), test::Fail> {
-    assert!(rt; filled_is_read(rt.alloc())?);
+    assert!(rt; filled_passes(rt.alloc(), Trial::Reads)?);
     Ok(())
 }

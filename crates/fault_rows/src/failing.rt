@@ -61,24 +61,25 @@ fn parts(row: &str) -> (&str, &str) {
     row.split_once(" | ").unwrap_or((row, ""))
 }
 
-/// Writes so many lines, each with its piece in front.
-fn write_front(texts: &mut Texts, lines: usize) -> Result<(), NoMemory> {
+/// Writes so many lines, each with its piece in front, and then the end of the report.
+fn write_front(texts: &mut Texts, lines: usize, rest: &[u8]) -> Result<(), NoMemory> {
     for row in WHOLE.lines().take(lines) {
         let (line, piece) = parts(row);
         texts.console.extend_from_slice(piece.as_bytes())?;
         texts.report.extend_from_slice(line.as_bytes())?;
         texts.report.push(b'\n')?;
     }
+    texts.report.extend_from_slice(rest)?;
     Ok(())
 }
 
-/// What the run has written with so many lines.
-fn front(alloc: Global, lines: usize) -> Result<Texts, NoMemory> {
+/// What the run has written with so many lines and that end.
+fn front(alloc: Global, lines: usize, rest: &[u8]) -> Result<Texts, NoMemory> {
     let mut texts = Texts {
         console: Vec::new(alloc),
         report: Vec::new(alloc),
     };
-    write_front(&mut texts, lines)?;
+    write_front(&mut texts, lines, rest)?;
     Ok(texts)
 }
 
@@ -100,8 +101,7 @@ fn ends(
     lines: usize,
     rest: &[u8],
 ) -> Result<bool, NoMemory> {
-    let mut texts = front(alloc, lines)?;
-    texts.report.extend_from_slice(rest)?;
+    let texts = front(alloc, lines, rest)?;
     Ok(answer.is(status, texts.console.as_slice(), texts.report.as_slice()))
 }
 
@@ -116,20 +116,34 @@ fn stopped_behind(alloc: Global, answer: &Answer) -> Result<Option<usize>, NoMem
     Ok(None)
 }
 
+/// Behind how many lines a run is where this call of the device fails: all of them if it doesn't come to that call, and none if it has written
+/// something else or more blocks than it can have by then.
+fn lines_behind(alloc: Global, answer: &Answer, k: u64) -> Result<usize, NoMemory> {
+    if ends(alloc, answer, 0, LINES, &[])? {
+        return Ok(LINES);
+    }
+    match stopped_behind(alloc, answer)? {
+        Some(lines) if answer.writes < k => Ok(lines),
+        _ => Ok(0),
+    }
+}
+
+/// The same of such a run.
+fn lines_before(alloc: Global, k: u64) -> Result<usize, NoMemory> {
+    let answer = run_mixed(alloc, Failing::Swap(k))?;
+    lines_behind(alloc, &answer, k)
+}
+
 #[test]
 fn each_call_of_the_swap_device_fails(rt: HostRuntime) -> Result<(), Fail> {
     let mut last = STARTS;
     let mut calls = 0u64;
     for k in 1..=5000u64 {
-        let answer = run_mixed(rt.alloc(), Failing::Swap(k))?;
-        if ends(rt.alloc(), &answer, 0, LINES, &[])? {
+        let lines = lines_before(rt.alloc(), k)?;
+        if lines == LINES {
             break;
         }
-        let lines = stopped_behind(rt.alloc(), &answer)?.unwrap_or(0);
-        assert!(rt;
-            last <= lines && answer.writes < k,
-            "at call {k} behind {lines} lines"
-        );
+        assert!(rt; last <= lines, "at call {k} behind {lines} lines");
         last = lines;
         calls = k;
     }

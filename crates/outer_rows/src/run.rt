@@ -136,53 +136,79 @@ impl Steps for Halting {
     }
 }
 
-/// How a run ends that is stopped so behind three steps, what it has put, and the same of a second run of the same machine.
-fn halted(
+/// Whether two runs of one machine, one after the other, are stopped so.
+fn are_stopped(
+    machine: &mut Halting,
+    input: &mut MemSource,
+    console: &mut MemSink,
+    report: &mut MemSink,
+    why: Stop,
+) -> bool {
+    let mut swap = Broken { faults: 0 };
+    for _run in 0..2 {
+        if run(machine, input, console, report, &mut swap) != Err(Fault::Stopped(why)) {
+            return false;
+        }
+    }
+    true
+}
+
+/// The same of a machine that is stopped so behind three steps, over an input whose first take fails.
+fn halts(
     alloc: Global,
     why: Stop,
-    fails: &[(u64, usize)],
-) -> Result<(Result<(), Fault>, MemSink, bool), NoMemory> {
+    console: &mut MemSink,
+    report: &mut MemSink,
+) -> Result<bool, NoMemory> {
     let mut machine = Halting {
         steps: 3,
         why,
         last: None,
     };
-    let mut input = MemSource::new(Bytes::from_slice(alloc, b"abc")?, [1].to_vec(alloc)?);
-    let mut console = MemSink::new(alloc, 64, Vec::new(alloc))?;
-    let mut report = MemSink::new(alloc, 64, fails.to_vec(alloc)?)?;
-    let mut swap = Broken { faults: 0 };
-    let ended = run(
-        &mut machine,
-        &mut input,
-        &mut console,
-        &mut report,
-        &mut swap,
-    );
-    let again = run(
-        &mut machine,
-        &mut input,
-        &mut console,
-        &mut report,
-        &mut swap,
-    );
-    Ok((ended, report, again == ended))
+    let fails = vec![in alloc; 1]?;
+    let mut input = MemSource::new(Bytes::from_slice(alloc, b"abc")?, fails);
+    Ok(are_stopped(&mut machine, &mut input, console, report, why))
 }
+
+/// No put.
+const NEVER: (u64, usize) = (0, 0);
+
+/// A sink with room for a line, of which this put fails behind so many bytes.
+fn sink(alloc: Global, fails: (u64, usize)) -> Result<MemSink, NoMemory> {
+    MemSink::new(alloc, 64, vec![in alloc; fails]?)
+}
+
+/// Whether both runs are stopped so, and the report is this.
+fn is_stopped(
+    alloc: Global,
+    why: Stop,
+    report: &mut MemSink,
+    line: &str,
+) -> Result<bool, NoMemory> {
+    let mut console = sink(alloc, NEVER)?;
+    let halts = halts(alloc, why, &mut console, report)?;
+    Ok(halts && report.taken() == line.as_bytes())
+}
+
+/// Whether a report of which this put fails is this behind both runs.
+fn puts(alloc: Global, why: Stop, fails: (u64, usize), line: &str) -> Result<bool, NoMemory> {
+    let mut report = sink(alloc, fails)?;
+    is_stopped(alloc, why, &mut report, line)
+}
+
+/// Each stop and its line.
+static STOPS: [(Stop, &str); 4] = [
+    (Stop::Input, "stop input fault\n"),
+    (Stop::NoRoom, "stop room\n"),
+    (Stop::SwapFull, "stop swap full\n"),
+    (Stop::SwapFault, "stop swap fault\n"),
+];
 
 #[test]
 fn each_stop(rt: HostRuntime) -> Result<(), Fail> {
-    let stops: [(Stop, &str); 4] = [
-        (Stop::Input, "stop input fault\n"),
-        (Stop::NoRoom, "stop room\n"),
-        (Stop::SwapFull, "stop swap full\n"),
-        (Stop::SwapFault, "stop swap fault\n"),
-    ];
-    for (why, line) in &stops {
-        let (ended, report, again) = halted(rt.alloc(), *why, &[])?;
-        let is_put = report.taken() == line.as_bytes();
-        assert!(rt; ended == Err(Fault::Stopped(*why)) && is_put && again);
-        let (ended, report, again) = halted(rt.alloc(), *why, &[(1, 4)])?;
-        let is_part = report.taken() == b"stop".as_slice();
-        assert!(rt; ended == Err(Fault::Stopped(*why)) && is_part && again);
+    for (why, line) in STOPS.iter() {
+        assert!(rt; puts(rt.alloc(), *why, NEVER, line)?, "{line}");
+        assert!(rt; puts(rt.alloc(), *why, (1, 4), "stop")?, "a part of {line}");
     }
     Ok(())
 }

@@ -1,12 +1,13 @@
 // Machines turn by turn: what they count, and that a stop or an end is final.
 
-ghost use Rattle.std.specs.Prelude.{IfOk, IfSome};
+ghost use Rattle.std.specs.Prelude.{IfSome};
 ghost use Rattle.turn_rows.specs.Going.{IsGoing};
 
 use o2_base::{Bytes, NoMemory};
 use o2_machine::{Machine, Steps, Turn};
 use o2_open::{Session, open};
 use o2_outer::{MemFiles, MemSink, MemSource, SureSwap, SwapDevice};
+use o2_rows::executables::add_text;
 use o2_rows::{Fails, add_file, changed};
 use o2_words::Verb;
 use std::alloc::Global;
@@ -23,6 +24,17 @@ struct Outside {
     report: MemSink,
 }
 
+/// An input of three bytes, of which these takes fail.
+fn source(alloc: Global, fails: &[u64]) -> Result<MemSource, NoMemory> {
+    let fails = fails.to_vec(alloc)?;
+    Ok(MemSource::new(Bytes::from_slice(alloc, b"abc")?, fails))
+}
+
+/// An empty sink, of which these puts fail.
+fn sink(alloc: Global, fails: Fails<'_>) -> Result<MemSink, NoMemory> {
+    MemSink::new(alloc, 4096, fails.to_vec(alloc)?)
+}
+
 /// An input of three bytes and empty sinks, which fail at these calls.
 fn made_outside(
     alloc: Global,
@@ -31,40 +43,48 @@ fn made_outside(
     report: Fails<'_>,
 ) -> Result<Outside, NoMemory> {
     Ok(Outside {
-        input: MemSource::new(Bytes::from_slice(alloc, b"abc")?, takes.to_vec(alloc)?),
-        console: MemSink::new(alloc, 4096, console.to_vec(alloc)?)?,
-        report: MemSink::new(alloc, 4096, report.to_vec(alloc)?)?,
+        input: source(alloc, takes)?,
+        console: sink(alloc, console)?,
+        report: sink(alloc, report)?,
     })
 }
 
-/// The machine of one process with this budget, of the program that writes `hello` with some bytes changed, over a device.
-fn begun(
+/// Adds the machine file of one process with this budget, and the program that writes `hello` with some bytes changed.
+fn add_files(
     alloc: Global,
+    files: &mut Vec<(Bytes, Bytes)>,
     budget: &str,
     changes: &[(usize, u8)],
+) -> Result<(), NoMemory> {
+    add_text(alloc, files, "a.toml", KEYS, budget)?;
+    let program = changed(alloc, changes)?;
+    add_file(alloc, files, b"a.exe", program.as_slice())
+}
+
+/// Those files.
+fn files_of(alloc: Global, budget: &str, changes: &[(usize, u8)]) -> Result<MemFiles, NoMemory> {
+    let mut files = Vec::new(alloc);
+    add_files(alloc, &mut files, budget, changes)?;
+    Ok(MemFiles::new(files, Vec::new(alloc)))
+}
+
+/// The machine of these files, over a device.
+fn begun(
+    alloc: Global,
+    files: &mut MemFiles,
+    name: &Bytes,
     report: &mut MemSink,
     swap: &SureSwap,
-) -> Result<Option<Machine>, NoMemory>
-    ensures { IfOk result (λ m. IfSome m (λ m. IsGoing m swap.now)) }
+) -> Option<Machine>
+    ensures { IfSome result (λ m. IsGoing m swap.now) }
 {
-    let mut text = String::new(alloc);
-    text.push_str(KEYS)?;
-    text.push_str(budget)?;
-    let mut files = Vec::new(alloc);
-    add_file(alloc, &mut files, b"a.toml", text.as_bytes())?;
-    files.push((
-        Bytes::from_slice(alloc, b"a.exe")?,
-        changed(alloc, changes)?,
-    ))?;
-    let mut files = MemFiles::new(files, Vec::new(alloc));
-    let name = Bytes::from_slice(alloc, b"a.toml")?;
-    let Ok(session) = open(alloc, Verb::Run, &mut files, &name) else {
-        return Ok(None);
+    let Ok(session) = open(alloc, Verb::Run, files, name) else {
+        return None;
     };
     let Session { conf, linked } = session;
     match Machine::begin(alloc, &conf, linked, swap.count(), report) {
-        Ok(machine) => Ok(Some(machine)),
-        Err(_) => Ok(None),
+        Ok(machine) => Some(machine),
+        Err(_) => None,
     }
 }
 
@@ -264,21 +284,15 @@ fn is_untouched(outside: &Outside) -> bool {
 }
 
 /// Whether a machine that has come to a row's answer gives it again at later turns, which touch nothing.
-fn is_final(
-    alloc: Global,
-    machine: &mut Machine,
-    swap: &mut SureSwap,
-    row: &Row,
-) -> Result<bool, NoMemory>
+fn is_final(machine: &mut Machine, later: &mut Outside, swap: &mut SureSwap, row: &Row) -> bool
     requires { IsGoing machine.old swap.old }
 {
-    let mut later = made_outside(alloc, &[], &[], &[])?;
     for _turn in 0..3 {
-        if turn(machine, &mut later, swap) != row.answer {
-            return Ok(false);
+        if turn(machine, later, swap) != row.answer {
+            return false;
         }
     }
-    Ok(is_untouched(&later) && is_told(machine, row))
+    is_untouched(later) && is_told(machine, row)
 }
 
 /// Whether a machine that has not stopped yet comes to what a row has.
@@ -296,37 +310,54 @@ fn comes_to(machine: &mut Machine, outside: &mut Outside, swap: &mut SureSwap, r
 
 /// What is wrong with a machine for a row, or no text.
 fn wrong_of(
-    alloc: Global,
     machine: &mut Machine,
     outside: &mut Outside,
+    later: &mut Outside,
     swap: &mut SureSwap,
     row: &Row,
-) -> Result<&'static str, NoMemory>
+) -> &'static str
     requires { IsGoing machine.old swap.old }
 {
     if !comes_to(machine, outside, swap, row) {
-        return Ok("another answer, other counts, another state or other processes");
+        return "another answer, other counts, another state or other processes";
     }
-    if !is_final(alloc, machine, swap, row)? {
-        return Ok("a later turn isn't the same");
+    if !is_final(machine, later, swap, row) {
+        return "a later turn isn't the same";
     }
-    Ok("")
+    ""
+}
+
+/// What is wrong with the machine of these files for a row, or no text.
+fn wrong_over(
+    alloc: Global,
+    files: &mut MemFiles,
+    outside: &mut Outside,
+    later: &mut Outside,
+    row: &Row,
+) -> Result<&'static str, NoMemory> {
+    let name = Bytes::from_slice(alloc, b"a.toml")?;
+    let mut swap = SureSwap::new(alloc, 1)?;
+    Ok(
+        match begun(alloc, files, &name, &mut outside.report, &swap) {
+            Some(mut machine) => wrong_of(&mut machine, outside, later, &mut swap, row),
+            None => "it doesn't begin",
+        },
+    )
 }
 
 /// What is wrong with a row, or no text.
 fn wrong(alloc: Global, row: &Row) -> Result<&'static str, NoMemory> {
+    let mut files = files_of(alloc, row.budget, row.changes)?;
     let mut first = made_outside(alloc, row.takes, row.console, row.report)?;
-    let mut swap = SureSwap::new(alloc, 1)?;
-    match begun(alloc, row.budget, row.changes, &mut first.report, &swap)? {
-        Some(mut machine) => wrong_of(alloc, &mut machine, &mut first, &mut swap, row),
-        None => Ok("it doesn't begin"),
-    }
+    let mut later = made_outside(alloc, &[], &[], &[])?;
+    wrong_over(alloc, &mut files, &mut first, &mut later, row)
 }
 
 #[test]
 fn counts_and_a_turn_after_a_stop(rt: HostRuntime) -> Result<(), Fail> {
     for row in ROWS.iter() {
-        assert_eq!(rt; wrong(rt.alloc(), row)?, "", "{}", row.name);
+        let wrong = wrong(rt.alloc(), row)?;
+        assert!(rt; wrong.is_empty(), "{}: {wrong}", row.name);
     }
     Ok(())
 }
