@@ -1,5 +1,8 @@
+ghost use Rattle.std.specs.Prelude.{◌≡◌, []};
+
 use o2_base::{Bytes, Fail as ReadFail, NoMemory};
 use o2_image::{Module, Resolved, SharedTargets};
+use row_parts::{bytes_in, number};
 use std::alloc::{AllocError, Global};
 use std::test::Fail;
 
@@ -46,7 +49,8 @@ static IMAGE: &str = "
 00*10
 ";
 
-// A line each: HELLO cut to a length, where one is given, and with some bytes changed, and how it is judged.
+// A line each: HELLO, or MIXED where the line says so, cut to a length, where one is given, and with some bytes changed, and how it is
+// judged. In the last line a chain meets itself.
 static JUDGED: &str = "
 0: NotMz
 1: NotMz
@@ -98,6 +102,7 @@ D5=0E: BadChain(1, 14)
 D5=16: BadChain(1, 22)
 CC=03 CD=FF: Ok
 : Ok
+MIXED E0=10 E1=00: BadChain(1, 16)
 ";
 
 // A library of two code segments, at B0h and C0h, of which the second has the last two of the first one's four records and one
@@ -113,13 +118,6 @@ static MEETS: &str = "
 00 00 02 00 01 00 22 00 00 00 03 00 01 00 23 00 00 00 04 00 01 00 24 00
 ";
 
-fn number(text: &str) -> usize {
-    match usize::from_str_radix(text, 16) {
-        Ok(value) => value,
-        Err(_) => 0xDEAD,
-    }
-}
-
 fn byte(text: &str) -> u8 {
     (number(text) % 256) as u8
 }
@@ -128,25 +126,8 @@ fn word(text: &str) -> u16 {
     (number(text) % 65536) as u16
 }
 
-// The bytes of a text.
-fn bytes_in(alloc: Global, text: &str) -> Result<Vec<u8>, NoMemory> {
-    let mut bytes = Vec::new(alloc);
-    for token in text.split_ascii_whitespace() {
-        match token.split_once('*') {
-            Some((one, times)) => {
-                for _ in 0..number(times) {
-                    bytes.push(byte(one))?;
-                }
-            }
-            None => bytes.push(byte(token))?,
-        }
-    }
-    Ok(bytes)
-}
-
-// A file with these changes.
-fn changed(alloc: Global, text: &str, changes: &str) -> Result<Vec<u8>, NoMemory> {
-    let mut file = bytes_in(alloc, text)?;
+// Changes a file: cuts it to a length, or puts a byte in a place.
+fn change(file: &mut Vec<u8>, changes: &str) {
     for change in changes.split_ascii_whitespace() {
         match change.split_once('=') {
             Some((place, other)) => {
@@ -157,7 +138,6 @@ fn changed(alloc: Global, text: &str, changes: &str) -> Result<Vec<u8>, NoMemory
             None => file.truncate(number(change)),
         }
     }
-    Ok(file)
 }
 
 // How a file is judged.
@@ -172,25 +152,49 @@ fn judged(alloc: Global, file: Vec<u8>) -> Result<String, AllocError> {
     }
 }
 
-#[test]
-fn the_first_fault_is_told(rt: HostRuntime) -> Result<(), Fail> {
+// Whether a file is judged so.
+pub fn is_judged(alloc: Global, file: Vec<u8>, expected: &str) -> Result<bool, NoMemory> {
+    Ok(judged(alloc, file)?.as_str() == expected)
+}
+
+// The text of the file that a line changes, and its changes.
+fn parted(changes: &str) -> (&'static str, &str) {
+    match changes.strip_prefix("MIXED ") {
+        Some(rest) => (MIXED, rest),
+        None => (HELLO, changes),
+    }
+}
+
+// Whether the file of a line is judged so.
+fn is_right(alloc: Global, changes: &str, expected: &str) -> Result<bool, NoMemory> {
+    let (text, changes) = parted(changes);
+    let mut file = bytes_in(alloc, text)?;
+    change(&mut file, changes);
+    is_judged(alloc, file, expected)
+}
+
+// How many lines there are up to the first one that isn't right, and that one, or no text.
+fn judged_lines(alloc: Global) -> Result<(u32, &'static str), NoMemory> {
     let mut count = 0u32;
     for line in JUDGED.lines() {
         if let Some((changes, expected)) = line.split_once(": ") {
-            let answer = judged(rt.alloc(), changed(rt.alloc(), HELLO, changes)?)?;
-            assert_eq!(rt; answer.as_str(), expected, "{line}");
+            if !is_right(alloc, changes, expected)? {
+                return Ok((count, line));
+            }
             count = count.saturating_add(1);
         }
     }
-    assert!(rt; count == 50);
+    Ok((count, ""))
+}
+
+#[test]
+fn the_first_fault_is_told(rt: HostRuntime) -> Result<(), Fail> {
+    assert_eq!(rt; judged_lines(rt.alloc())?, (51, ""));
     Ok(())
 }
 
 // The module in a file that passes its checks.
-fn module_of(alloc: Global, text: &str) -> Option<Module> {
-    let Ok(file) = bytes_in(alloc, text) else {
-        return None;
-    };
+pub fn module_in(alloc: Global, file: Vec<u8>) -> Option<Module> {
     if file.len() > 4_194_304 {
         return None;
     }
@@ -236,78 +240,132 @@ fn are_names_of_hello(module: &Module) -> bool {
         && module.imported(600).is_none()
 }
 
-#[test]
-fn the_parts_of_a_program(rt: HostRuntime) {
-    let Some(module) = module_of(rt.alloc(), HELLO) else {
-        panic!(rt; "refused");
-    };
-    let sizes_and_parts = are_sizes_of_hello(&module) && are_parts_of_hello(&module);
-    assert!(rt; sizes_and_parts && are_names_of_hello(&module));
+fn is_hello(module: &Module) -> bool {
+    are_sizes_of_hello(module) && are_parts_of_hello(module) && are_names_of_hello(module)
 }
 
-// Targets for the records of a first segment, and none for the second.
-fn resolved(alloc: Global, text: &str) -> Result<Resolved, NoMemory> {
-    let mut targets = Vec::new(alloc);
+#[test]
+fn the_parts_of_a_program(rt: HostRuntime) -> Result<(), Fail> {
+    let is_read = match module_in(rt.alloc(), bytes_in(rt.alloc(), HELLO)?) {
+        Some(module) => is_hello(&module),
+        None => false,
+    };
+    assert!(rt; is_read);
+    Ok(())
+}
+
+// Adds targets.
+fn add_targets(targets: &mut Vec<(u16, u16)>, text: &str) -> Result<(), NoMemory> {
     for target in text.split_ascii_whitespace() {
         if let Some((selector, offset)) = target.split_once(':') {
             targets.push((word(selector), word(offset)))?;
         }
     }
-    let mut lists = Vec::new(alloc);
+    Ok(())
+}
+
+// Adds the targets of a segment's records.
+fn add_list(alloc: Global, lists: &mut Vec<Vec<(u16, u16)>>, text: &str) -> Result<(), NoMemory> {
+    let mut targets = Vec::new(alloc);
+    add_targets(&mut targets, text)?;
     lists.push(targets)?;
-    lists.push(Vec::new(alloc))?;
+    Ok(())
+}
+
+// Adds targets for the records of a first segment, and none for the second.
+fn add_lists(alloc: Global, lists: &mut Vec<Vec<(u16, u16)>>, text: &str) -> Result<(), NoMemory> {
+    add_list(alloc, lists, text)?;
+    add_list(alloc, lists, "")
+}
+
+// These targets.
+fn resolved(alloc: Global, text: &str) -> Result<Resolved, NoMemory> {
+    let mut lists = Vec::new(alloc);
+    add_lists(alloc, &mut lists, text)?;
     Ok(Resolved::new(lists))
 }
 
-// The first bytes of the image of the first segment of a program, and EEh behind them.
-fn front_of(
-    alloc: Global,
-    module: &Module,
-    targets: &Resolved,
-    count: usize,
-) -> Result<Vec<u8>, NoMemory> {
-    let mut into = vec![in alloc; 0xEEu8; 96]?;
+// Whether bytes begin with so many bytes of an image, and have EEh behind them.
+fn is_front(bytes: &[u8], image: &[u8], count: usize) -> bool {
+    for (k, byte) in bytes.iter().enumerate() {
+        let expected = if k < count {
+            image.get(k).copied()
+        } else {
+            Some(0xEE)
+        };
+        if Some(*byte) != expected {
+            return false;
+        }
+    }
+    true
+}
+
+// Whether so many bytes of the image of a program's first segment are these, and no byte behind them is written.
+fn fills(module: &Module, targets: &Resolved, image: &[u8], count: usize) -> bool {
+    let mut into = [0xEEu8; 96];
     if count <= 96 && module.segment_count() == 2 && module.is_resolved_by(targets) {
         module.fill(1, targets, &mut into[..count]);
     }
-    Ok(into)
+    is_front(&into, image, count)
 }
 
-// Whether the first bytes of a program's image are these, and no byte behind them is written.
-fn fills(alloc: Global, text: &str, to: &str, image: &str, count: usize) -> Result<bool, NoMemory> {
-    let Some(module) = module_of(alloc, text) else {
-        return Ok(false);
-    };
+// The first of these counts for which that isn't so.
+fn wrong_count(
+    module: &Module,
+    targets: &Resolved,
+    image: &[u8],
+    counts: (usize, usize),
+) -> Option<usize> {
+    for count in counts.0..counts.1 {
+        if !fills(module, targets, image, count) {
+            return Some(count);
+        }
+    }
+    None
+}
+
+// The same with targets and an image as texts.
+fn wrong_fill(
+    alloc: Global,
+    module: &Module,
+    to: &str,
+    image: &str,
+    counts: (usize, usize),
+) -> Result<Option<usize>, NoMemory> {
+    let image = bytes_in(alloc, image)?;
     let targets = resolved(alloc, to)?;
-    let mut expected = bytes_in(alloc, image)?;
-    expected.truncate(count);
-    expected.resize(96, 0xEE)?;
-    let found = front_of(alloc, &module, &targets, count)?;
-    Ok(found.as_slice() == expected.as_slice())
+    Ok(wrong_count(module, &targets, image.as_slice(), counts))
+}
+
+// The same of a file as a text; 0 where it is refused.
+fn wrong_image(
+    alloc: Global,
+    text: &str,
+    to: &str,
+    image: &str,
+    counts: (usize, usize),
+) -> Result<Option<usize>, NoMemory> {
+    match module_in(alloc, bytes_in(alloc, text)?) {
+        Some(module) => wrong_fill(alloc, &module, to, image, counts),
+        None => Ok(Some(0)),
+    }
 }
 
 #[test]
 fn imports_become_gates(rt: HostRuntime) -> Result<(), Fail> {
-    assert!(rt; fills(rt.alloc(), HELLO, "A3:0 8B:0", GATES, 25)?);
+    assert_eq!(rt;
+        wrong_image(rt.alloc(), HELLO, "A3:0 8B:0", GATES, (25, 26))?,
+        None
+    );
     Ok(())
 }
 
 #[test]
 fn each_front_of_an_image(rt: HostRuntime) -> Result<(), Fail> {
-    for count in 0..81usize {
-        assert!(rt;
-            fills(rt.alloc(), MIXED, TARGETS, IMAGE, count)?,
-            "the first {count}"
-        );
-    }
-    Ok(())
-}
-
-#[test]
-fn a_chain_meets_itself(rt: HostRuntime) -> Result<(), Fail> {
-    let file = changed(rt.alloc(), MIXED, "E0=10 E1=00")?;
-    let answer = judged(rt.alloc(), file)?;
-    assert_eq!(rt; answer.as_str(), "BadChain(1, 16)");
+    assert_eq!(rt;
+        wrong_image(rt.alloc(), MIXED, TARGETS, IMAGE, (0, 81))?,
+        None
+    );
     Ok(())
 }
 
@@ -323,47 +381,58 @@ fn has_shared_records(module: &Module) -> bool {
 }
 
 #[test]
-fn segments_may_share_records(rt: HostRuntime) {
-    let Some(module) = module_of(rt.alloc(), MEETS) else {
-        panic!(rt; "refused");
+fn segments_may_share_records(rt: HostRuntime) -> Result<(), Fail> {
+    let are_shared = match module_in(rt.alloc(), bytes_in(rt.alloc(), MEETS)?) {
+        Some(module) => has_shared_records(&module),
+        None => false,
     };
-    assert!(rt; has_shared_records(&module));
+    assert!(rt; are_shared);
+    Ok(())
 }
 
 // Three targets of a segment, which the next one has too; a third has the last of them. A fourth has those of the second from its
-// second one on, and one more; those of a fifth can't follow the first one's. The first, the fourth and the third are kept.
-fn shared(alloc: Global) -> Result<Option<Resolved>, NoMemory> {
-    let mut found = SharedTargets::new(alloc);
+// second one on, and one more; those of a fifth can't follow the first one's.
+fn share(alloc: Global, found: &mut SharedTargets) -> Result<bool, NoMemory>
+    requires { found.old ≡ [] }
+{
     found.add(vec![in alloc; (7, 1), (7, 2), (7, 3)]?)?;
     found.add_within(0, 0, 3)?;
     found.add_within(0, 2, 1)?;
     if !found.add_behind(1, 1, vec![in alloc; (7, 4)]?)? {
-        return Ok(None);
+        return Ok(false);
     }
-    if found.add_behind(0, 1, vec![in alloc; (7, 5)]?)? {
-        return Ok(None);
-    }
-    Ok(Some(found.finish_in(alloc, &[0, 3, 2])?))
+    Ok(!found.add_behind(0, 1, vec![in alloc; (7, 5)]?)?)
 }
 
-fn is_target(found: Option<(u16, u16)>, offset: u16) -> bool {
-    match found {
-        Some(target) => target.1 == offset,
-        None => false,
+// Whether a segment has so many targets, with the offsets from the first one on.
+fn has_targets(targets: &Resolved, segment: u16, first: u16, count: u16) -> bool {
+    for k in 0..count {
+        if targets.get(segment, k) != Some((7, first.wrapping_add(k))) {
+            return false;
+        }
     }
+    targets.get(segment, count).is_none()
+}
+
+fn are_held(targets: &Resolved) -> bool {
+    has_targets(targets, 1, 1, 3)
+        && has_targets(targets, 2, 2, 3)
+        && has_targets(targets, 3, 3, 1)
+        && has_targets(targets, 4, 0, 0)
+}
+
+// Whether the targets of the first, the fourth and the third of these segments are held.
+fn are_held_once(alloc: Global) -> Result<bool, NoMemory> {
+    let mut found = SharedTargets::new(alloc);
+    if !share(alloc, &mut found)? {
+        return Ok(false);
+    }
+    let targets = found.finish_in(alloc, &[0, 3, 2])?;
+    Ok(are_held(&targets))
 }
 
 #[test]
 fn targets_are_held_once(rt: HostRuntime) -> Result<(), Fail> {
-    let Some(targets) = shared(rt.alloc())? else {
-        panic!(rt; "not shared");
-    };
-    for (segment, first, count) in [(1u16, 1u16, 3u16), (2, 2, 3), (3, 3, 1), (4, 0, 0)] {
-        let mut right = targets.get(segment, count).is_none();
-        for k in 0..count {
-            right = right && is_target(targets.get(segment, k), first + k);
-        }
-        assert!(rt; right, "{segment}");
-    }
+    assert!(rt; are_held_once(rt.alloc())?);
     Ok(())
 }

@@ -7,3 +7,7 @@ mod changed;
 mod files;
 #[cfg(test)]
 mod finals;
+#[cfg(test)]
+mod machines;
+#[cfg(test)]
+mod rows;

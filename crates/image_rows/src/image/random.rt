@@ -1,19 +1,29 @@
 // Random executables with every feature of the format, written from what they must be read as.
-use crate::image::{is_text, judged};
-use o2_base::{Bytes, NoMemory};
+use crate::image::{is_judged, is_text, module_in};
+use o2_base::NoMemory;
 use o2_image::Module;
 use o2_ne_segs::{Kind, Reloc, Segment};
+use row_parts::{add_bytes, below, next, word_below};
 use std::alloc::{AllocError, Global};
 use std::test::Fail;
 
-// A file with its header at 64 has its segment table at 128, for up to 8 rows, its references at 192, for up to 4, the imported
-// names at 200 and the entries at 224. Then come the resident names, the segments with their records, and the other names.
-static IMPORTED: &str = "\0\x08DOSCALLS\x05OTHER\x03abc\x01z";
+// A file up to its resident names: its header at 64, its segment table at 128, for up to 8 rows, its references at 192, for up to 4,
+// the imported names at 200, the entries at 224, and its own name. Then come the other resident names, the segments with their
+// records, and the nonresident names.
+static FRONT: &str = "
+4D 5A 00*3A 40 00 00 00
+4E 45 00 00 A0 00 22 00 00*4 00 80 00*14 40 00 00 00 C2 00 80 00 88 00 00*6 04 00 00 00 01 00*9
+00*48
+00 08 44 4F 53 43 41 4C 4C 53 05 4F 54 48 45 52 03 61 62 63 01 7A 00 00
+02 01 01 02 01 00 04 03 02 00 02 FF 01 CD 3F 02 06 05 00 CD 3F 01 08 07 FA 00 03 00 01 01 03 09 00 00
+04 4D 41 44 45 00 00
+";
 
-// The names among these, with their offsets.
+// The imported names, with their offsets.
 static CALLED: [(u16, &str); 4] = [(1, "DOSCALLS"), (10, "OTHER"), (16, "abc"), (20, "z")];
 
-// The ordinals that the entry table below defines, each with its segment and its offset.
+// The ordinals that the entry table defines, each with its segment and its offset: two of segment 1, two that aren't defined, two
+// movable ones, 253 that aren't defined in two bundles, and one of segment 1.
 static ENTRIES: [(u16, u8, u16); 5] = [
     (1, 1, 0x0102),
     (2, 1, 0x0304),
@@ -22,10 +32,12 @@ static ENTRIES: [(u16, u8, u16); 5] = [
     (260, 1, 9),
 ];
 
-// Two of segment 1, two that aren't defined, two movable ones, 253 that aren't defined in two bundles, and one of segment 1.
-static ENTRY_TABLE: [u8; 34] = [
-    2, 1, 1, 2, 1, 0, 4, 3, 2, 0, 2, 255, 1, 0xCD, 0x3F, 2, 6, 5, 0, 0xCD, 0x3F, 1, 8, 7, 250, 0,
-    3, 0, 1, 1, 3, 9, 0, 0,
+// The kinds of segments, with their flags.
+static KINDS: [(Kind, u16); 4] = [
+    (Kind::Code, 0),
+    (Kind::CodeOnly, 0x80),
+    (Kind::Writable, 1),
+    (Kind::ReadOnly, 0x81),
 ];
 
 // A record by its segment from 1 and its number from 0, and where it stands in the file.
@@ -37,50 +49,53 @@ struct Placed {
     reloc: Reloc,
 }
 
+// A name by where it stands in the file and how long it is, with its ordinal.
+#[derive(Clone, Copy)]
+struct Named {
+    at: usize,
+    len: usize,
+    ordinal: u16,
+}
+
 // What a file must be read as.
 #[derive(Drop)]
 struct Made {
     file: Vec<u8>,
     segments: Vec<Segment>,
     records: Vec<Placed>,
-    names: Vec<(Vec<u8>, u16)>,
+    names: Vec<Named>,
     references: Vec<u16>,
 }
 
-// The next number of a generator.
-fn next(seed: u32) -> u32 {
-    seed.wrapping_mul(1_103_515_245).wrapping_add(12_345)
-}
-
-// A number below a bound, at most 65,536, of a generator's.
-fn below(seed: u32, bound: u32) -> u32 {
-    match (seed / 65_536).checked_rem(bound) {
-        Some(rest) => rest,
-        None => 0,
+// Nothing yet.
+fn unmade(alloc: Global) -> Made {
+    Made {
+        file: Vec::new(alloc),
+        segments: Vec::new(alloc),
+        records: Vec::new(alloc),
+        names: Vec::new(alloc),
+        references: Vec::new(alloc),
     }
 }
 
-// The same as a word.
-fn word_below(seed: u32, bound: u32) -> u16 {
-    (below(seed, bound) % 65_536) as u16
+fn clear(made: &mut Made) {
+    made.file.clear();
+    made.segments.clear();
+    made.records.clear();
+    made.names.clear();
+    made.references.clear();
 }
 
-fn set_byte(file: &mut Vec<u8>, at: usize, byte: u8) {
-    if let Some(held) = file.get_mut(at) {
+fn set_byte(file: &mut Vec<u8>, at: u32, byte: u8) {
+    if let Some(held) = file.get_mut(at as usize) {
         *held = byte;
     }
 }
 
 fn set_word(file: &mut Vec<u8>, at: u32, n: u32) {
     let [low, high] = ((n % 65_536) as u16).to_le_bytes();
-    set_byte(file, at as usize, low);
-    set_byte(file, (at as usize).wrapping_add(1), high);
-}
-
-fn set_bytes(file: &mut Vec<u8>, at: usize, bytes: &[u8]) {
-    for (i, byte) in bytes.iter().enumerate() {
-        set_byte(file, at.wrapping_add(i), *byte);
-    }
+    set_byte(file, at, low);
+    set_byte(file, at.wrapping_add(1), high);
 }
 
 // The length of a file, which is short.
@@ -88,64 +103,32 @@ fn len_of(file: &Vec<u8>) -> u32 {
     (file.len() % 65_536) as u32
 }
 
-// A file up to its resident names, with so many segments and references.
-fn front(alloc: Global, segments: u32, references: u32) -> Result<Vec<u8>, NoMemory> {
-    let mut file = vec![in alloc; 0u8; 224]?;
-    set_bytes(&mut file, 0, b"MZ");
-    set_bytes(&mut file, 60, &[64]);
-    set_bytes(&mut file, 64, b"NE");
-    for (offset, n) in [
-        (4, 160u32),
-        (6, 34),
-        (12, 0x8000),
-        (28, segments),
-        (30, references),
-        (34, 64),
-        (38, 194),
-        (40, 128),
-        (42, 136),
-        (50, 4),
-        (54, 1),
-    ] {
-        set_word(&mut file, 64u32.wrapping_add(offset), n);
+// A name of 1 to 9 letters with its length before it and its ordinal behind: no two of a file are the same where their numbers differ.
+fn add_name(made: &mut Made, seed: u32, number: u16) -> Result<(), NoMemory> {
+    let more = below(seed, 9) % 9;
+    made.file.push((more + 1) as u8)?;
+    let at = made.file.len();
+    made.file.push(b'A' + (number % 26) as u8)?;
+    for i in 0..more {
+        made.file
+            .push(b'a' + (below(seed.wrapping_mul(i), 26) % 26) as u8)?;
     }
-    set_bytes(&mut file, 200, IMPORTED.as_bytes());
-    file.extend_from_slice(&ENTRY_TABLE)?;
-    Ok(file)
-}
-
-// A string with its length before and its ordinal behind.
-fn add_name(file: &mut Vec<u8>, text: &[u8], ordinal: u16) -> Result<(), NoMemory> {
-    file.push((text.len() % 256) as u8)?;
-    file.extend_from_slice(text)?;
-    file.extend_from_slice(&ordinal.to_le_bytes())?;
+    let ordinal = word_below(next(seed), 65_536);
+    made.file.extend_from_slice(&ordinal.to_le_bytes())?;
+    made.names.push(Named {
+        at,
+        len: (more + 1) as usize,
+        ordinal,
+    })?;
     Ok(())
 }
 
-// A name of 1 to 9 letters: no two of a file are the same where their numbers differ.
-fn name_of(alloc: Global, seed: u32, number: u16) -> Result<Vec<u8>, NoMemory> {
-    let mut text = vec![in alloc; b'A' + (number % 26) as u8]?;
-    for i in 0..below(seed, 9) {
-        text.push(b'a' + (below(seed.wrapping_mul(i), 26) % 26) as u8)?;
-    }
-    Ok(text)
-}
-
-// So many names from a number on, in the file and in a list.
-fn add_names(
-    alloc: Global,
-    made: &mut Made,
-    seed: u32,
-    from: u16,
-    count: u16,
-) -> Result<(), NoMemory> {
+// So many names from a number on, and the end of their table.
+fn add_names(made: &mut Made, seed: u32, from: u16, count: u16) -> Result<(), NoMemory> {
     let mut seed = seed;
     for number in from..from.wrapping_add(count) {
         seed = next(seed);
-        let text = name_of(alloc, seed, number)?;
-        let ordinal = word_below(next(seed), 65_536);
-        add_name(&mut made.file, text.as_slice(), ordinal)?;
-        made.names.push((text, ordinal))?;
+        add_name(made, seed, number)?;
     }
     made.file.push(0)?;
     Ok(())
@@ -192,17 +175,8 @@ fn target_of(seed: u32, kind: u32, segments: u32, references: u32) -> (u16, u16)
 fn record_of(seed: u32, place: u16, segments: u32, references: u32) -> Reloc {
     let kind = below(next(seed), 4);
     let (first, second) = target_of(next(next(seed)), kind, segments, references);
-    let source = match below(seed, 4) {
-        0 => 0u8,
-        1 => 2,
-        2 => 3,
-        _ => 5,
-    };
-    let additive = if below(seed.wrapping_mul(7), 2) == 0 {
-        4
-    } else {
-        0
-    };
+    let source = [0u8, 2, 3, 5][(below(seed, 4) % 4) as usize];
+    let additive = [4u8, 0][(below(seed.wrapping_mul(7), 2) % 2) as usize];
     Reloc {
         source,
         flags: (kind % 4) as u8 | additive,
@@ -213,19 +187,34 @@ fn record_of(seed: u32, place: u16, segments: u32, references: u32) -> Reloc {
 }
 
 // The bytes of a segment with so many records: a chain over the first and the fifth of eight bytes for each.
-fn bytes_for(alloc: Global, count: u32, more: u32) -> Result<Vec<u8>, NoMemory> {
-    let mut bytes = Vec::new(alloc);
+fn add_content(file: &mut Vec<u8>, count: u32, more: u32) -> Result<(), NoMemory> {
     for k in 0..count {
         let [low, high] = ((k.wrapping_mul(8).wrapping_add(4) % 65_536) as u16).to_le_bytes();
-        bytes.extend_from_slice(&[low, high, 0xEE, 0xEE, 0xFF, 0xFF, 0xEE, 0xEE])?;
+        file.extend_from_slice(&[low, high, 0xEE, 0xEE, 0xFF, 0xFF, 0xEE, 0xEE])?;
     }
     for k in 0..more {
-        bytes.push((k % 256) as u8)?;
+        file.push((k % 256) as u8)?;
     }
-    Ok(bytes)
+    Ok(())
 }
 
-// The records of a segment, in the file and in a list.
+// A record in the file and in a list.
+fn add_record(made: &mut Made, segment: u16, number: u16, reloc: Reloc) -> Result<(), NoMemory> {
+    let at = len_of(&made.file);
+    made.file.extend_from_slice(&[reloc.source, reloc.flags])?;
+    for part in [reloc.place, reloc.first, reloc.second] {
+        made.file.extend_from_slice(&part.to_le_bytes())?;
+    }
+    made.records.push(Placed {
+        segment,
+        number,
+        at,
+        reloc,
+    })?;
+    Ok(())
+}
+
+// The records of a segment, with their number before them.
 fn add_records(
     made: &mut Made,
     seed: u32,
@@ -241,30 +230,9 @@ fn add_records(
         seed = next(next(seed));
         let number = (k % 256) as u16;
         let reloc = record_of(seed, 8 * number, segments, references);
-        let at = len_of(&made.file);
-        made.file.extend_from_slice(&[reloc.source, reloc.flags])?;
-        for part in [reloc.place, reloc.first, reloc.second] {
-            made.file.extend_from_slice(&part.to_le_bytes())?;
-        }
-        made.records.push(Placed {
-            segment,
-            number,
-            at,
-            reloc,
-        })?;
+        add_record(made, segment, number, reloc)?;
     }
     Ok(())
-}
-
-// A kind of segment, and its flags with others that say how it is loaded.
-fn kind_of(seed: u32) -> (Kind, u16) {
-    let others = if below(next(seed), 2) == 0 { 0xC50 } else { 0 };
-    match below(seed, 4) {
-        0 => (Kind::Code, others),
-        1 => (Kind::CodeOnly, 0x80 | others),
-        2 => (Kind::Writable, 1 | others),
-        _ => (Kind::ReadOnly, 0x81 | others),
-    }
 }
 
 // The row of a segment, by its number from 0, and the segment in a list.
@@ -278,35 +246,40 @@ fn add_row(made: &mut Made, k: u32, segment: Segment) -> Result<(), NoMemory> {
     Ok(())
 }
 
-// A segment without bytes in the file, or with some and with up to 6 records behind them.
-fn add_segment(
-    alloc: Global,
-    made: &mut Made,
-    seed: u32,
-    k: u32,
-    of: (u32, u32),
-) -> Result<(), NoMemory> {
-    let (kind, flags) = kind_of(seed);
-    let least = below(next(seed), 400).wrapping_add(1);
-    let mut segment = Segment {
+// A segment without bytes in the file: a kind, with flags that say how it is loaded.
+fn segment_of(seed: u32) -> Segment {
+    let others = if below(next(seed), 2) == 0 { 0xC50 } else { 0 };
+    let (kind, flags) = KINDS[(below(seed, 4) % 4) as usize];
+    Segment {
         file_at: 0,
         file_len: 0,
-        size: least,
+        size: below(next(seed), 400).wrapping_add(1),
         kind,
         relocs: false,
-        flags,
-    };
+        flags: flags | others,
+    }
+}
+
+// The bytes of a segment, from a place of 16 bytes on, for so many records: where they begin, and how many they are.
+fn add_bytes_of(file: &mut Vec<u8>, seed: u32, count: u32) -> Result<(u32, u32), NoMemory> {
+    let places = file.len().div_ceil(16) * 16;
+    file.resize(places, 0)?;
+    let at = len_of(file);
+    add_content(file, count, below(next(seed), 20).wrapping_add(1))?;
+    Ok((at, len_of(file).wrapping_sub(at)))
+}
+
+// A segment without bytes in the file, or with some and with up to 6 records behind them.
+fn add_segment(made: &mut Made, seed: u32, k: u32, of: (u32, u32)) -> Result<(), NoMemory> {
+    let mut segment = segment_of(seed);
     if below(seed, 6) == 5 {
         return add_row(made, k, segment);
     }
     let count = below(seed, 7);
-    let bytes = bytes_for(alloc, count, below(next(seed), 20).wrapping_add(1))?;
-    let places = made.file.len().div_ceil(16) * 16;
-    made.file.resize(places, 0)?;
-    segment.file_at = len_of(&made.file);
-    segment.file_len = (bytes.len() % 65_536) as u32;
-    segment.size = least.max(segment.file_len);
-    made.file.extend_from_slice(bytes.as_slice())?;
+    let (at, len) = add_bytes_of(&mut made.file, seed, count)?;
+    segment.file_at = at;
+    segment.file_len = len;
+    segment.size = segment.size.max(len);
     if count > 0 {
         segment.relocs = true;
         segment.flags |= 0x100;
@@ -315,55 +288,39 @@ fn add_segment(
     add_row(made, k, segment)
 }
 
+// The segments of a file; what the generator is at behind them.
+fn add_segments(made: &mut Made, seed: u32, of: (u32, u32)) -> Result<u32, NoMemory> {
+    let mut seed = seed;
+    for k in 0..of.0 {
+        seed = next(next(next(seed)));
+        add_segment(made, seed, k, of)?;
+    }
+    Ok(seed)
+}
+
 // The nonresident names of a file, in half of them.
-fn add_others(alloc: Global, made: &mut Made, seed: u32) -> Result<(), NoMemory> {
+fn add_others(made: &mut Made, seed: u32) -> Result<(), NoMemory> {
     if below(seed, 2) == 0 {
         return Ok(());
     }
     let at = len_of(&made.file);
     set_word(&mut made.file, 96, 1);
     set_word(&mut made.file, 108, at);
-    add_names(alloc, made, seed, 14, (below(next(seed), 12) % 12) as u16)
+    add_names(made, seed, 14, (below(next(seed), 12) % 12) as u16)
 }
 
-// A random file, and what it must be read as.
-fn made_of(alloc: Global, seed: u32) -> Result<Made, NoMemory> {
+// Makes a random file, with what it must be read as.
+fn make(made: &mut Made, seed: u32) -> Result<(), NoMemory> {
     let segments = below(seed, 5).wrapping_add(2);
     let references = below(next(seed), 3).wrapping_add(1);
-    let mut made = Made {
-        file: front(alloc, segments, references)?,
-        segments: Vec::new(alloc),
-        records: Vec::new(alloc),
-        names: Vec::new(alloc),
-        references: Vec::new(alloc),
-    };
-    add_references(&mut made, seed, references)?;
-    add_name(&mut made.file, b"MADE", 0)?;
-    add_names(
-        alloc,
-        &mut made,
-        next(seed),
-        0,
-        (below(seed, 14) % 14) as u16,
-    )?;
-    let mut seed = seed;
-    for k in 0..segments {
-        seed = next(next(next(seed)));
-        add_segment(alloc, &mut made, seed, k, (segments, references))?;
-    }
-    add_others(alloc, &mut made, seed)?;
-    Ok(made)
-}
-
-// The module in a file.
-fn module_in(alloc: Global, file: &[u8]) -> Result<Option<Module>, NoMemory> {
-    if file.len() > 4_194_304 {
-        return Ok(None);
-    }
-    match Module::check(alloc, Bytes::from_slice(alloc, file)?) {
-        Ok(module) => Ok(Some(module)),
-        Err(_) => Ok(None),
-    }
+    clear(made);
+    add_bytes(&mut made.file, FRONT)?;
+    set_word(&mut made.file, 92, segments);
+    set_word(&mut made.file, 94, references);
+    add_references(made, seed, references)?;
+    add_names(made, next(seed), 0, (below(seed, 14) % 14) as u16)?;
+    let seed = add_segments(made, seed, (segments, references))?;
+    add_others(made, seed)
 }
 
 fn has_segments(module: &Module, made: &Made) -> bool {
@@ -386,25 +343,29 @@ fn has_records(module: &Module, made: &Made) -> bool {
     module.reloc_count() as usize == made.records.len()
 }
 
-// Whether a name is found, and so is it in other letters.
-fn has_name(alloc: Global, module: &Module, text: &[u8], ordinal: u16) -> Result<bool, NoMemory> {
-    let mut other = Vec::new(alloc);
-    for byte in text {
-        other.push(byte.to_ascii_uppercase())?;
-    }
-    Ok(
-        module.names().ordinal(text) == Some(ordinal)
-            && module.names().ordinal(other.as_slice()) == Some(ordinal),
-    )
-}
-
-fn has_names(alloc: Global, module: &Module, made: &Made) -> Result<bool, NoMemory> {
-    for (text, ordinal) in made.names.as_slice() {
-        if !has_name(alloc, module, text.as_slice(), *ordinal)? {
-            return Ok(false);
+// Whether names are found as they stand in these bytes.
+fn are_found(module: &Module, names: &[Named], bytes: &[u8]) -> bool {
+    for named in names {
+        let Some(text) = bytes.get(named.at..named.at.wrapping_add(named.len)) else {
+            return false;
+        };
+        if module.names().ordinal(text) != Some(named.ordinal) {
+            return false;
         }
     }
-    Ok(module.names().ordinal(b"?").is_none() && module.name().as_slice() == b"MADE".as_slice())
+    true
+}
+
+fn has_names(module: &Module, made: &Made) -> bool {
+    are_found(module, made.names.as_slice(), made.file.as_slice())
+        && module.names().ordinal(b"?").is_none()
+        && module.name().as_slice() == b"MADE".as_slice()
+}
+
+// Whether the names are found in capital letters too.
+fn has_capitals(alloc: Global, module: &Module, made: &Made) -> Result<bool, NoMemory> {
+    let bytes = made.file.as_slice().to_ascii_uppercase(alloc)?;
+    Ok(are_found(module, made.names.as_slice(), bytes.as_slice()))
 }
 
 // The text of a name by its offset among the imported ones.
@@ -438,72 +399,78 @@ fn has_entries(module: &Module) -> bool {
     module.entry_count() == 5 && others.iter().all(|n| module.entries().get(*n).is_none())
 }
 
+// Whether a module is what was made.
+fn is_as_made(alloc: Global, module: &Module, made: &Made) -> Result<bool, NoMemory> {
+    let is_so = has_segments(module, made)
+        && has_records(module, made)
+        && has_references(module, made)
+        && has_entries(module)
+        && has_names(module, made);
+    Ok(is_so && has_capitals(alloc, module, made)?)
+}
+
 // Whether a file is read as it was made.
 fn is_read(alloc: Global, made: &Made) -> Result<bool, NoMemory> {
-    let Some(module) = module_in(alloc, made.file.as_slice())? else {
-        return Ok(false);
-    };
-    Ok(
-        has_segments(&module, made)
-            && has_records(&module, made)
-            && has_references(&module, made)
-            && has_entries(&module)
-            && has_names(alloc, &module, made)?,
-    )
+    match module_in(alloc, made.file.clone()?) {
+        Some(module) => is_as_made(alloc, &module, made),
+        None => Ok(false),
+    }
 }
 
 // How many files are read as they were made.
-fn read_files(alloc: Global, count: u32) -> Result<u32, NoMemory> {
+fn read_files(alloc: Global, made: &mut Made, count: u32) -> Result<u32, NoMemory> {
     let mut read = 0u32;
     for n in 0..count {
-        let made = made_of(alloc, next(n.wrapping_mul(86_243)))?;
-        if is_read(alloc, &made)? {
+        make(made, next(n.wrapping_mul(86_243)))?;
+        if is_read(alloc, made)? {
             read = read.wrapping_add(1);
         }
     }
     Ok(read)
 }
 
+// The same of 60 files.
+fn read_all(alloc: Global) -> Result<u32, NoMemory> {
+    let mut made = unmade(alloc);
+    read_files(alloc, &mut made, 60)
+}
+
 #[test]
 fn random_files_are_read_as_they_were_written(rt: HostRuntime) -> Result<(), Fail> {
-    assert!(rt; read_files(rt.alloc(), 60)? == 60);
+    assert!(rt; read_all(rt.alloc())? == 60);
     Ok(())
 }
 
-// What is changed of a record, and how the file is then judged; none where such a record can't be changed so.
-fn damaged(
-    alloc: Global,
-    made: &Made,
-    placed: &Placed,
-    before: Option<Placed>,
-    kind: u32,
-) -> Result<Option<(u32, u32, String)>, AllocError> {
-    let Placed {
-        segment,
-        number,
-        at,
-        reloc,
-    } = *placed;
-    let target = format!(in alloc; "BadTarget({segment}, {number})")?;
-    let at = at.wrapping_add(kind);
-    match kind {
-        0 => Ok(Some((at, u32::from(reloc.flags) * 256 + 4, target))),
-        4 if reloc.flags & 3 != 3 => Ok(Some((at, 0, target))),
-        6 if reloc.flags & 3 == 0 && reloc.first % 256 == 255 => Ok(Some((at, 4, target))),
-        6 if reloc.flags & 3 == 2 => Ok(Some((at, len_of(&made.file).wrapping_sub(200), target))),
-        2 => damaged_place(alloc, placed, before),
-        _ => Ok(None),
-    }
+// A word of a file changed: where it stands, what it becomes, and the place that is then at fault, where it isn't the target.
+#[derive(Clone, Copy)]
+struct Change {
+    at: u32,
+    word: u32,
+    place: Option<u16>,
+}
+
+// A word of a record changed so that it leads nowhere, in a file of this length; none where such a record can't be changed so.
+fn damaged(placed: &Placed, before: Option<Placed>, kind: u32, len: u32) -> Option<Change> {
+    let Placed { at, reloc, .. } = *placed;
+    let word = match kind {
+        0 => u32::from(reloc.flags) * 256 + 4,
+        4 if reloc.flags & 3 != 3 => 0,
+        6 if reloc.flags & 3 == 0 && reloc.first % 256 == 255 => 4,
+        6 if reloc.flags & 3 == 2 => len.wrapping_sub(200),
+        2 => return damaged_place(placed, before),
+        _ => return None,
+    };
+    Some(Change {
+        at: at.wrapping_add(kind),
+        word,
+        place: None,
+    })
 }
 
 // A place outside the segment, or where the record before it patches.
-fn damaged_place(
-    alloc: Global,
-    placed: &Placed,
-    before: Option<Placed>,
-) -> Result<Option<(u32, u32, String)>, AllocError> {
+fn damaged_place(placed: &Placed, before: Option<Placed>) -> Option<Change> {
     if placed.reloc.flags & 3 == 3 {
-        return Ok(None);
+        return None;
     }
     let place = match before {
         Some(other) if other.segment == placed.segment && other.reloc.flags & 3 != 3 => other
@@ -511,55 +478,96 @@ fn damaged_place(
             .place,
         _ => 0xFFF0,
     };
-    let fault = format!(in alloc; "BadChain({}, {place})", placed.segment)?;
-    Ok(Some((placed.at.wrapping_add(2), u32::from(place), fault)))
+    Some(Change {
+        at: placed.at.wrapping_add(2),
+        word: u32::from(place),
+        place: Some(place),
+    })
+}
+
+// How a file with such a change of a record is judged.
+fn fault_of(alloc: Global, placed: &Placed, place: Option<u16>) -> Result<String, AllocError> {
+    match place {
+        Some(place) => format!(in alloc; "BadChain({}, {place})", placed.segment),
+        None => format!(in alloc; "BadTarget({}, {})", placed.segment, placed.number),
+    }
 }
 
 // Whether a file with a word changed is judged so.
-fn is_judged(
+fn is_changed(
     alloc: Global,
-    made: &Made,
-    at: u32,
-    word: u32,
+    file: &Vec<u8>,
+    change: Change,
     fault: &str,
-) -> Result<bool, AllocError> {
-    let mut file = made.file.clone()?;
-    set_word(&mut file, at, word);
-    Ok(judged(alloc, file)?.as_str() == fault)
+) -> Result<bool, NoMemory> {
+    let mut file = file.clone()?;
+    set_word(&mut file, change.at, change.word);
+    is_judged(alloc, file, fault)
 }
 
-// How many changes there are of the records of a file, and how many are judged as they must be.
-fn judged_as_must(alloc: Global, made: &Made) -> Result<(u32, u32), AllocError> {
+// Whether a file with a record changed is judged as it must be.
+fn is_told(
+    alloc: Global,
+    file: &Vec<u8>,
+    placed: &Placed,
+    change: Change,
+) -> Result<bool, NoMemory> {
+    let fault = fault_of(alloc, placed, change.place)?;
+    is_changed(alloc, file, change, fault.as_str())
+}
+
+// How many changes there are of a record, and how many are judged as they must be.
+fn judged_record(
+    alloc: Global,
+    file: &Vec<u8>,
+    placed: &Placed,
+    before: Option<Placed>,
+) -> Result<(u32, u32), NoMemory> {
+    let mut all = 0u32;
+    let mut right = 0u32;
+    for kind in [0u32, 2, 4, 6] {
+        if let Some(change) = damaged(placed, before, kind, len_of(file)) {
+            all = all.wrapping_add(1);
+            if is_told(alloc, file, placed, change)? {
+                right = right.wrapping_add(1);
+            }
+        }
+    }
+    Ok((all, right))
+}
+
+// The same of all records of a file.
+fn judged_records(alloc: Global, made: &Made) -> Result<(u32, u32), NoMemory> {
     let mut counts = (0u32, 0u32);
     let mut before = None;
     for placed in made.records.as_slice() {
-        for kind in [0u32, 2, 4, 6] {
-            if let Some((at, word, fault)) = damaged(alloc, made, placed, before, kind)? {
-                counts.0 = counts.0.wrapping_add(1);
-                if is_judged(alloc, made, at, word, fault.as_str())? {
-                    counts.1 = counts.1.wrapping_add(1);
-                }
-            }
-        }
+        let (all, right) = judged_record(alloc, &made.file, placed, before)?;
+        counts = (counts.0.wrapping_add(all), counts.1.wrapping_add(right));
         before = Some(*placed);
     }
     Ok(counts)
 }
 
 // The same of so many files.
-fn judged_files(alloc: Global, count: u32) -> Result<(u32, u32), Fail> {
+fn judged_files(alloc: Global, made: &mut Made, count: u32) -> Result<(u32, u32), NoMemory> {
     let mut counts = (0u32, 0u32);
     for n in 0..count {
-        let made = made_of(alloc, next(n.wrapping_mul(51_031)))?;
-        let (all, right) = judged_as_must(alloc, &made)?;
+        make(made, next(n.wrapping_mul(51_031)))?;
+        let (all, right) = judged_records(alloc, made)?;
         counts = (counts.0.wrapping_add(all), counts.1.wrapping_add(right));
     }
     Ok(counts)
 }
 
+// The same of 12 files.
+fn judged_all(alloc: Global) -> Result<(u32, u32), NoMemory> {
+    let mut made = unmade(alloc);
+    judged_files(alloc, &mut made, 12)
+}
+
 #[test]
 fn each_record_that_leads_nowhere_is_told(rt: HostRuntime) -> Result<(), Fail> {
-    let (all, right) = judged_files(rt.alloc(), 12)?;
+    let (all, right) = judged_all(rt.alloc())?;
     assert!(rt; all > 100 && right == all, "{right} of {all}");
     Ok(())
 }

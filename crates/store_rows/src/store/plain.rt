@@ -1,17 +1,16 @@
 // A plain model of a store, a byte list for each segment, and long runs of both.
-ghost use Rattle.std.specs.Prelude.{◌≡◌, ◌+◌, ◌<◌, ◌≤◌, ◌^◌, IfOk, length};
+ghost use Rattle.std.specs.Prelude.{◌≡◌, ◌+◌, ◌<◌, ◌≤◌, ◌^◌, IfOk, length, replicate};
 ghost use Rattle.o2_outer.specs.Devices.{mem_blocks};
 ghost use Rattle.o2_store.specs.Pictures.{HasPicture};
 ghost use Rattle.o2_store.specs.Trials.{IsReady};
 
 use super::calls::{add, add_environment, bring, evict, lock, remove, resize, touch, write};
-use o2_base::Bytes;
+use o2_base::{Bytes, NoMemory};
 use o2_image::Images;
 use o2_outer::{MemSwap, SwapDevice};
 use o2_place::SegId;
 use o2_store::{Brought, Store};
 use std::alloc::Global;
-use std::test::Fail;
 
 /// A segment as it should be.
 #[derive(Drop)]
@@ -21,14 +20,17 @@ struct Segment {
     locked: bool,
 }
 
-/// An error with this text, unless it holds.
-pub fn must(holds: bool, text: &'static str) -> Result<(), Fail> {
-    if holds {
-        return Ok(());
+/// What is wrong, unless it holds.
+fn must(holds: bool, text: &'static str) -> Result<(), &'static str> {
+    if holds { Ok(()) } else { Err(text) }
+}
+
+/// The same of a call that takes memory.
+fn had_memory(taken: Result<(), NoMemory>) -> Result<(), &'static str> {
+    match taken {
+        Ok(()) => Ok(()),
+        Err(_) => Err("no memory"),
     }
-    let none: Option<()> = None;
-    none.ok_or(text)?;
-    Ok(())
 }
 
 /// The next number below a bound that looks random.
@@ -48,24 +50,47 @@ fn environment_byte(k: u32) -> u8 {
     0
 }
 
-/// So many bytes of the environment, or of zeros.
-fn bytes_of(alloc: Global, size: u32, environment: bool) -> Result<Vec<u8>, Fail> {
-    let mut bytes = Vec::new(alloc);
+/// Adds so many bytes of the environment, or of zeros.
+fn fill(bytes: &mut Vec<u8>, size: u32, environment: bool) -> Result<(), NoMemory> {
     for k in 0..size {
         bytes.push(if environment { environment_byte(k) } else { 0 })?;
     }
+    Ok(())
+}
+
+/// So many bytes of the environment, or of zeros.
+fn bytes_of(alloc: Global, size: u32, environment: bool) -> Result<Vec<u8>, NoMemory> {
+    let mut bytes = Vec::new(alloc);
+    fill(&mut bytes, size, environment)?;
     Ok(bytes)
 }
 
 /// Images of no module and one environment.
 #[tactic(auto, using(o2_store::proofs::Ready::first_environment))]
-pub fn environment(alloc: Global) -> Result<Images, Fail>
+fn environment(alloc: Global) -> Result<Images, NoMemory>
     ensures { IfOk result (λ images. HasPicture images 0 1) }
 {
-    let bytes = Bytes::from_slice(alloc, &bytes_of(alloc, 700, true)?)?;
+    let bytes = Bytes::new(bytes_of(alloc, 700, true)?);
     let mut environments = Vec::new(alloc);
     environments.push(bytes)?;
     Ok(Images::new(Vec::new(alloc), environments))
+}
+
+/// Adds a segment to the model.
+fn begin_plain(
+    all: &mut Vec<Segment>,
+    id: SegId,
+    size: u32,
+    clean: bool,
+    alloc: Global,
+) -> Result<(), NoMemory> {
+    let bytes = bytes_of(alloc, size, clean)?;
+    all.push(Segment {
+        id,
+        bytes,
+        locked: false,
+    })?;
+    Ok(())
 }
 
 /// Adds a segment to both, of zeros or of the environment.
@@ -77,7 +102,7 @@ fn begin<S: SwapDevice>(
     size: u32,
     clean: bool,
     alloc: Global,
-) -> Result<(), Fail>
+) -> Result<(), &'static str>
     requires ready { IsReady store.old images.now (S.blocks swap.now) }
     requires image { HasPicture images.now 0 1 }
     requires size { (0 < size) × (size ≤ 65536) }
@@ -85,24 +110,19 @@ fn begin<S: SwapDevice>(
     ensures ready { IsReady store.new images.now (S.blocks swap.now) }
     ensures few { store.new.made ≤ store.old.made + 1 }
 {
-    let bytes = bytes_of(alloc, size, clean)?;
     let id = if clean {
         add_environment(store, images, swap, size)
     } else {
         add(store, images, swap, size)
     };
-    if let Some(id) = id {
-        all.push(Segment {
-            id,
-            bytes,
-            locked: false,
-        })?;
+    match id {
+        Some(id) => had_memory(begin_plain(all, id, size, clean, alloc)),
+        None => Ok(()),
     }
-    Ok(())
 }
 
 /// Whether the answer to a call on a live segment may be this one.
-fn is_answer(answer: Brought) -> Result<(), Fail> {
+fn is_answer(answer: Brought) -> Result<(), &'static str> {
     must(answer != Brought::Stale, "a live segment is stale")
 }
 
@@ -113,7 +133,7 @@ fn sizes<S: SwapDevice>(
     swap: &mut S,
     size: u32,
     keep: &[SegId],
-) -> Result<(), Fail>
+) -> Result<(), &'static str>
     requires ready { IsReady store.old images.now (S.blocks swap.old) }
     requires size { (0 < size) × (size ≤ 65536) }
     ensures ready { IsReady store.new images.now (S.blocks swap.new) }
@@ -123,8 +143,7 @@ fn sizes<S: SwapDevice>(
     let answer = resize(store, segment.id, size, keep, images, swap);
     is_answer(answer)?;
     if answer == Brought::Here {
-        segment.bytes.resize(size as usize, 0)?;
-        return Ok(());
+        return must(segment.bytes.resize(size as usize, 0).is_ok(), "no memory");
     }
     must(!out, "a segment out of memory needs no room")
 }
@@ -135,7 +154,7 @@ fn writes<S: SwapDevice>(
     images: &Images,
     swap: &S,
     offset: u32,
-) -> Result<(), Fail>
+) -> Result<(), &'static str>
     requires { IsReady store.old images.now (S.blocks swap.now) }
     ensures ready { IsReady store.new images.now (S.blocks swap.now) }
     ensures made { store.new.made ≡ store.old.made }
@@ -156,7 +175,7 @@ fn locks<S: SwapDevice>(
     store: &mut Store,
     images: &Images,
     swap: &S,
-) -> Result<(), Fail>
+) -> Result<(), &'static str>
     requires { IsReady store.old images.now (S.blocks swap.now) }
     ensures ready { IsReady store.new images.now (S.blocks swap.now) }
     ensures made { store.new.made ≡ store.old.made }
@@ -179,7 +198,7 @@ fn change<S: SwapDevice>(
     call: u32,
     size: u32,
     keep: &[SegId],
-) -> Result<(), Fail>
+) -> Result<(), &'static str>
     requires ready { IsReady store.old images.now (S.blocks swap.old) }
     requires size { (0 < size) × (size ≤ 65536) }
     ensures ready { IsReady store.new images.now (S.blocks swap.new) }
@@ -201,42 +220,58 @@ fn change<S: SwapDevice>(
     }
 }
 
+/// Removes a segment from the model.
+fn end_plain(all: &mut Vec<Segment>) -> Option<SegId> {
+    let segment = all.pop()?;
+    Some(segment.id)
+}
+
 /// Removes a segment from both.
 fn end<S: SwapDevice>(
     all: &mut Vec<Segment>,
     store: &mut Store,
     images: &Images,
     swap: &S,
-) -> Result<(), Fail>
+) -> Result<(), &'static str>
     requires { IsReady store.old images.now (S.blocks swap.now) }
     ensures ready { IsReady store.new images.now (S.blocks swap.now) }
     ensures made { store.new.made ≡ store.old.made }
 {
-    let Some(segment) = all.pop() else {
+    let Some(id) = end_plain(all) else {
         return Ok(());
     };
-    must(
-        remove(store, images, swap, segment.id),
-        "a live segment is stale",
-    )?;
-    must(
-        store.size(segment.id).is_none(),
-        "a removed segment is live",
-    )
+    must(remove(store, images, swap, id), "a live segment is stale")?;
+    must(store.size(id).is_none(), "a removed segment is live")
 }
 
-/// Whether the store's segments are those of the model, as far as they are in memory.
-fn compare(all: &[Segment], store: &Store) -> Result<(), Fail> {
+/// Whether a segment of the store is that of the model, as far as it is in memory.
+fn compare_one(segment: &Segment, store: &Store) -> Result<(), &'static str> {
+    let Some(size) = store.size(segment.id) else {
+        return Err("a live segment is stale");
+    };
+    if size as usize != segment.bytes.len() {
+        return Err("another size");
+    }
+    match store.window(segment.id) {
+        Some(window) => must(window == segment.bytes.as_slice(), "other bytes"),
+        None => Ok(()),
+    }
+}
+
+/// Whether all of them are.
+fn compare(all: &[Segment], store: &Store) -> Result<(), &'static str> {
     for segment in all {
-        let Some(size) = store.size(segment.id) else {
-            return must(false, "a live segment is stale");
-        };
-        must(size as usize == segment.bytes.len(), "another size")?;
-        if let Some(window) = store.window(segment.id) {
-            must(window == segment.bytes.as_slice(), "other bytes")?;
-        }
+        compare_one(segment, store)?;
     }
     Ok(())
+}
+
+/// The segment at a place, or a stale one.
+fn id_at(all: &[Segment], place: usize) -> SegId {
+    match all.get(place) {
+        Some(segment) => segment.id,
+        None => SegId { key: 0, age: 0 },
+    }
 }
 
 /// One call on both.
@@ -247,7 +282,7 @@ fn step<S: SwapDevice>(
     swap: &mut S,
     seed: &mut u32,
     alloc: Global,
-) -> Result<(), Fail>
+) -> Result<(), &'static str>
     requires ready { IsReady store.old images.now (S.blocks swap.old) }
     requires image { HasPicture images.now 0 1 }
     requires few { store.old.made < 2 ^ 32 }
@@ -264,33 +299,49 @@ fn step<S: SwapDevice>(
     }
     let one = roll(seed, 6) as usize;
     let other = roll(seed, 6) as usize;
-    let keep = match all.get(other) {
-        Some(segment) => [segment.id],
-        None => [SegId { key: 0, age: 0 }],
-    };
+    let keep = [id_at(all, other)];
     match all.get_mut(one) {
         Some(segment) => change(segment, store, images, swap, call - 3, size, &keep),
         None => Ok(()),
     }
 }
 
-/// Brings each segment in by itself, with one try more where the device fails.
+/// Takes the lock of each segment.
+fn unlock_each<S: SwapDevice>(all: &[Segment], store: &mut Store, images: &Images, swap: &S)
+    requires { IsReady store.old images.now (S.blocks swap.now) }
+    ensures { IsReady store.new images.now (S.blocks swap.now) }
+{
+    for segment in all {
+        let _ = lock(store, images, swap, segment.id, 0);
+    }
+}
+
+/// Brings a segment in, with one try more where the device fails.
+fn bring_one<S: SwapDevice>(
+    id: SegId,
+    store: &mut Store,
+    images: &Images,
+    swap: &mut S,
+) -> Result<(), &'static str>
+    requires { IsReady store.old images.now (S.blocks swap.old) }
+    ensures { IsReady store.new images.now (S.blocks swap.new) }
+{
+    let _ = bring(store, id, &[], images, swap);
+    let answer = bring(store, id, &[], images, swap);
+    must(answer == Brought::Here, "no room for one segment")
+}
+
+/// Brings each segment in by itself.
 fn bring_each<S: SwapDevice>(
     all: &[Segment],
     store: &mut Store,
     images: &Images,
     swap: &mut S,
-) -> Result<(), Fail>
+) -> Result<(), &'static str>
     requires { IsReady store.old images.now (S.blocks swap.old) }
-    ensures { IsReady store.new images.now (S.blocks swap.new) }
 {
     for segment in all {
-        let _ = lock(store, images, swap, segment.id, 0);
-    }
-    for segment in all {
-        let _ = bring(store, segment.id, &[], images, swap);
-        let answer = bring(store, segment.id, &[], images, swap);
-        must(answer == Brought::Here, "no room for one segment")?;
+        bring_one(segment.id, store, images, swap)?;
         compare(all, store)?;
     }
     Ok(())
@@ -305,7 +356,7 @@ fn rounds_of(
     seed: u32,
     rounds: u32,
     alloc: Global,
-) -> Result<(), Fail>
+) -> Result<(), &'static str>
     requires ready { IsReady store.old images.now (length (mem_blocks swap.old)) }
     requires image { HasPicture images.now 0 1 }
     requires made { store.old.made ≡ 0 }
@@ -315,6 +366,7 @@ fn rounds_of(
         step(all, store, images, swap, &mut seed, alloc)?;
         compare(all, store)?;
     }
+    unlock_each(all, store, images, swap);
     bring_each(all, store, images, swap)
 }
 
@@ -326,7 +378,7 @@ fn with_model(
     seed: u32,
     rounds: u32,
     alloc: Global,
-) -> Result<(), Fail>
+) -> Result<(), &'static str>
     requires ready { IsReady store.old images.now (length (mem_blocks swap.old)) }
     requires image { HasPicture images.now 0 1 }
     requires made { store.old.made ≡ 0 }
@@ -335,34 +387,89 @@ fn with_model(
     rounds_of(&mut all, store, images, swap, seed, rounds, alloc)
 }
 
-/// The rounds over a device of 12 blocks that fails at one call.
+/// A device of 12 blocks that fails at one call.
+fn failing_at(alloc: Global, call: u64) -> Result<MemSwap, NoMemory>
+    ensures { IfOk result (λ swap. mem_blocks swap ≡ replicate 12 (replicate 512 0)) }
+{
+    MemSwap::new(alloc, 12, vec![in alloc; call]?)
+}
+
+/// The rounds over such a device.
 fn with_device(
     store: &mut Store,
     images: &Images,
-    failing: u64,
+    call: u64,
     seed: u32,
     rounds: u32,
     alloc: Global,
-) -> Result<(), Fail>
+) -> Result<(), &'static str>
     requires ready { IsReady store.old images.now 12 }
     requires image { HasPicture images.now 0 1 }
     requires made { store.old.made ≡ 0 }
 {
-    let mut swap = MemSwap::new(alloc, 12, vec![in alloc; failing]?)?;
-    with_model(store, images, &mut swap, seed, rounds, alloc)
+    match failing_at(alloc, call) {
+        Ok(mut swap) => with_model(store, images, &mut swap, seed, rounds, alloc),
+        Err(_) => Err("no memory"),
+    }
 }
 
 /// A long run in a memory of so many bytes, over a device that fails at one call.
-pub fn run(
+fn run(
     alloc: Global,
     images: &Images,
     memory: u32,
-    failing: u64,
+    call: u64,
     rounds: u32,
-) -> Result<(), Fail>
+) -> Result<(), &'static str>
     requires image { HasPicture images.now 0 1 }
     requires memory { memory ≤ 65536 }
 {
-    let mut store = Store::make(alloc, memory, 12, 6)?;
-    with_device(&mut store, images, failing, memory, rounds, alloc)
+    match Store::make(alloc, memory, 12, 6) {
+        Ok(mut store) => with_device(&mut store, images, call, memory, rounds, alloc),
+        Err(_) => Err("no memory"),
+    }
+}
+
+/// A memory for one segment, and for more of them up to all.
+fn memory_of(k: u32) -> u32
+    requires { k ≤ 8 }
+    ensures { result ≤ 65536 }
+{
+    1024 * (1 + k)
+}
+
+/// Runs in each memory.
+fn run_memories(alloc: Global, images: &Images) -> Result<(), &'static str>
+    requires { HasPicture images.now 0 1 }
+{
+    for k in 0..7 {
+        run(alloc, images, memory_of(k), 0, 1000)?;
+    }
+    Ok(())
+}
+
+/// Runs over devices, at each of whose calls one fails.
+fn run_devices(alloc: Global, images: &Images) -> Result<(), &'static str>
+    requires { HasPicture images.now 0 1 }
+{
+    for call in 1..120 {
+        run(alloc, images, 2048, call, 150)?;
+    }
+    Ok(())
+}
+
+/// What is wrong with one of the runs.
+fn run_each(alloc: Global, images: &Images) -> Result<(), &'static str>
+    requires { HasPicture images.now 0 1 }
+{
+    run_memories(alloc, images)?;
+    run_devices(alloc, images)
+}
+
+/// The same, with their images.
+pub fn run_all(alloc: Global) -> Result<(), &'static str> {
+    match environment(alloc) {
+        Ok(images) => run_each(alloc, &images),
+        Err(_) => Err("no memory"),
+    }
 }

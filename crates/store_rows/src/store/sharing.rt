@@ -3,15 +3,15 @@ ghost use Rattle.std.specs.Prelude.{◌≡◌, ◌+◌, ◌<◌, ◌≤◌, ◌^
 ghost use Rattle.o2_store.specs.Trials.{IsReady};
 
 use super::calls::{add, bring, evict, resize, write};
+use o2_base::NoMemory;
 use o2_image::Images;
 use o2_outer::{Dev, SureSwap, SwapDevice};
 use o2_place::SegId;
 use o2_store::{Brought, Place, Store};
 use std::alloc::Global;
-use std::test::Fail;
 
 /// Two segments of 600 and 700 bytes.
-pub static TWO: &str = "
+static TWO: &str = "
 bring a = here
 write a 520 5 = here
 both b = room
@@ -29,7 +29,7 @@ byte a 1023 = 0
 ";
 
 /// A segment whose block is written behind the store's back.
-pub static CHANGED: &str = "
+static CHANGED: &str = "
 bring a = here
 write a 0 1 = here
 evict a = here
@@ -157,22 +157,26 @@ fn first_wrong<S: SwapDevice>(
     swap: &mut S,
     sizes: (u32, u32),
     text: &'static str,
-) -> Result<&'static str, Fail>
+) -> &'static str
     requires ready { IsReady store.old images.now (S.blocks swap.old) }
     requires few { store.old.made < 2 ^ 16 }
     requires first { (0 < sizes.0) × (sizes.0 ≤ 65536) }
     requires second { (0 < sizes.1) × (sizes.1 ≤ 65536) }
 {
-    let first = add(store, images, swap, sizes.0).ok_or("first")?;
-    let second = add(store, images, swap, sizes.1).ok_or("second")?;
+    let Some(first) = add(store, images, swap, sizes.0) else {
+        return "the first segment";
+    };
+    let Some(second) = add(store, images, swap, sizes.1) else {
+        return "the second segment";
+    };
     for line in text.lines() {
         if let Some((call, wanted)) = line.split_once(" = ") {
             if !is_right(store, images, swap, [first, second], call, wanted) {
-                return Ok(line);
+                return line;
             }
         }
     }
-    Ok("")
+    ""
 }
 
 /// The same over a device of 16 blocks.
@@ -182,14 +186,14 @@ fn wrong_over(
     sizes: (u32, u32),
     text: &'static str,
     alloc: Global,
-) -> Result<&'static str, Fail>
+) -> Result<&'static str, NoMemory>
     requires ready { IsReady store.old images.now 16 }
     requires few { store.old.made < 2 ^ 16 }
     requires first { (0 < sizes.0) × (sizes.0 ≤ 65536) }
     requires second { (0 < sizes.1) × (sizes.1 ≤ 65536) }
 {
     let mut swap = SureSwap::new(alloc, 16)?;
-    first_wrong(store, images, &mut swap, sizes, text)
+    Ok(first_wrong(store, images, &mut swap, sizes, text))
 }
 
 /// The same in a memory of 1024 bytes.
@@ -198,7 +202,7 @@ fn wrong_in(
     sizes: (u32, u32),
     text: &'static str,
     alloc: Global,
-) -> Result<&'static str, Fail>
+) -> Result<&'static str, NoMemory>
     requires first { (0 < sizes.0) × (sizes.0 ≤ 65536) }
     requires second { (0 < sizes.1) × (sizes.1 ≤ 65536) }
 {
@@ -207,10 +211,19 @@ fn wrong_in(
 }
 
 /// The first line of such a text that answers something else, without images; or no text.
-pub fn wrong(alloc: Global, sizes: (u32, u32), text: &'static str) -> Result<&'static str, Fail>
+fn wrong(alloc: Global, sizes: (u32, u32), text: &'static str) -> Result<&'static str, NoMemory>
     requires first { (0 < sizes.0) × (sizes.0 ≤ 65536) }
     requires second { (0 < sizes.1) × (sizes.1 ≤ 65536) }
 {
     let images = Images::new(Vec::new(alloc), Vec::new(alloc));
     wrong_in(&images, sizes, text, alloc)
+}
+
+/// The same of both texts.
+pub fn wrong_line(alloc: Global) -> Result<&'static str, NoMemory> {
+    let line = wrong(alloc, (600, 700), TWO)?;
+    if !line.is_empty() {
+        return Ok(line);
+    }
+    wrong(alloc, (16, 16), CHANGED)
 }

@@ -3,6 +3,3 @@ use Rattle.store_rows.proofs.store.plain.bring_each.Given as goal
 
 abbrev pub invariant-loop-segment : goal.invariant-loop-segment
 invariant-loop-segment g l = IsReady l.store l.images (g.S.SwapDevice.blocks l.swap)
-
-abbrev pub invariant-loop-segment-2 : goal.invariant-loop-segment-2
-invariant-loop-segment-2 g l = IsReady l.store l.images (g.S.SwapDevice.blocks l.swap)

@@ -4,6 +4,6 @@ use Rattle.store_rows.proofs.store.plain.run.Goals as goal
 
 pub with_device-requires-clause-ready : goal.with_device-requires-clause-ready
 with_device-requires-clause-ready c =
-    let s = c.in_ok-store.store in
-    let q = c.in_ok-store.ensures in
+    let s = c.in-Ok.store in
+    let q = c.in-Ok.ensures in
     record { pictured = pictured_fresh s c.args.images.now q.empty; clean = clean_fresh s c.args.images.now q.out; device = omega (arith, q.map) }
