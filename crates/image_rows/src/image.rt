@@ -1,12 +1,10 @@
 ghost use Rattle.std.specs.Prelude.{◌≡◌, []};
 
 use o2_base::{Bytes, Fail as ReadFail, NoMemory};
-use o2_image::{Module, Resolved, SharedTargets};
+use o2_image::{Module, ModuleFault, Resolved, SharedTargets};
 use row_parts::{bytes_in, number};
-use std::alloc::{AllocError, Global};
+use std::alloc::Global;
 use std::test::Fail;
-
-mod random;
 
 // The files and their changes are texts. All numbers in them are hexadecimal, and `00*3A` is so many bytes in a row.
 
@@ -140,21 +138,21 @@ fn change(file: &mut Vec<u8>, changes: &str) {
     }
 }
 
-// How a file is judged.
-fn judged(alloc: Global, file: Vec<u8>) -> Result<String, AllocError> {
-    if file.len() > 4_194_304 {
-        return String::from_str(alloc, "too long");
-    }
-    match Module::check(alloc, Bytes::new(file)) {
-        Ok(_) => String::from_str(alloc, "Ok"),
-        Err(ReadFail::NoMemory) => String::from_str(alloc, "NoMemory"),
-        Err(ReadFail::Bad(fault)) => format!(in alloc; "{fault:?}"),
-    }
+// Whether a fault is this one.
+fn is_fault(alloc: Global, fault: &ModuleFault, expected: &str) -> Result<bool, NoMemory> {
+    Ok(format!(in alloc; "{fault:?}")?.as_str() == expected)
 }
 
 // Whether a file is judged so.
-pub fn is_judged(alloc: Global, file: Vec<u8>, expected: &str) -> Result<bool, NoMemory> {
-    Ok(judged(alloc, file)?.as_str() == expected)
+fn is_judged(alloc: Global, file: Vec<u8>, expected: &str) -> Result<bool, NoMemory> {
+    if file.len() > 4_194_304 {
+        return Ok(false);
+    }
+    match Module::check(alloc, Bytes::new(file)) {
+        Ok(_) => Ok(expected == "Ok"),
+        Err(ReadFail::Bad(fault)) => is_fault(alloc, &fault, expected),
+        Err(ReadFail::NoMemory) => Ok(false),
+    }
 }
 
 // The text of the file that a line changes, and its changes.
@@ -194,7 +192,7 @@ fn the_first_fault_is_told(rt: HostRuntime) -> Result<(), Fail> {
 }
 
 // The module in a file that passes its checks.
-pub fn module_in(alloc: Global, file: Vec<u8>) -> Option<Module> {
+fn module_in(alloc: Global, file: Vec<u8>) -> Option<Module> {
     if file.len() > 4_194_304 {
         return None;
     }
@@ -242,16 +240,6 @@ fn are_names_of_hello(module: &Module) -> bool {
 
 fn is_hello(module: &Module) -> bool {
     are_sizes_of_hello(module) && are_parts_of_hello(module) && are_names_of_hello(module)
-}
-
-#[test]
-fn the_parts_of_a_program(rt: HostRuntime) -> Result<(), Fail> {
-    let is_read = match module_in(rt.alloc(), bytes_in(rt.alloc(), HELLO)?) {
-        Some(module) => is_hello(&module),
-        None => false,
-    };
-    assert!(rt; is_read);
-    Ok(())
 }
 
 // Adds targets.
@@ -309,64 +297,20 @@ fn fills(module: &Module, targets: &Resolved, image: &[u8], count: usize) -> boo
     is_front(&into, image, count)
 }
 
-// The first of these counts for which that isn't so.
-fn wrong_count(
+// The same for each of these counts.
+fn fills_each(
     module: &Module,
     targets: &Resolved,
     image: &[u8],
-    counts: (usize, usize),
-) -> Option<usize> {
-    for count in counts.0..counts.1 {
+    first: usize,
+    last: usize,
+) -> bool {
+    for count in first..last {
         if !fills(module, targets, image, count) {
-            return Some(count);
+            return false;
         }
     }
-    None
-}
-
-// The same with targets and an image as texts.
-fn wrong_fill(
-    alloc: Global,
-    module: &Module,
-    to: &str,
-    image: &str,
-    counts: (usize, usize),
-) -> Result<Option<usize>, NoMemory> {
-    let image = bytes_in(alloc, image)?;
-    let targets = resolved(alloc, to)?;
-    Ok(wrong_count(module, &targets, image.as_slice(), counts))
-}
-
-// The same of a file as a text; 0 where it is refused.
-fn wrong_image(
-    alloc: Global,
-    text: &str,
-    to: &str,
-    image: &str,
-    counts: (usize, usize),
-) -> Result<Option<usize>, NoMemory> {
-    match module_in(alloc, bytes_in(alloc, text)?) {
-        Some(module) => wrong_fill(alloc, &module, to, image, counts),
-        None => Ok(Some(0)),
-    }
-}
-
-#[test]
-fn imports_become_gates(rt: HostRuntime) -> Result<(), Fail> {
-    assert_eq!(rt;
-        wrong_image(rt.alloc(), HELLO, "A3:0 8B:0", GATES, (25, 26))?,
-        None
-    );
-    Ok(())
-}
-
-#[test]
-fn each_front_of_an_image(rt: HostRuntime) -> Result<(), Fail> {
-    assert_eq!(rt;
-        wrong_image(rt.alloc(), MIXED, TARGETS, IMAGE, (0, 81))?,
-        None
-    );
-    Ok(())
+    true
 }
 
 // Whether the first segment has two records before those that it shares with the second, and none with a third.
@@ -378,16 +322,6 @@ fn has_shared_records(module: &Module) -> bool {
         && module.records_before(1, 3).is_none()
         && matches!(module.records_within(1, 1), Some(0))
         && module.records_within(1, 2).is_none()
-}
-
-#[test]
-fn segments_may_share_records(rt: HostRuntime) -> Result<(), Fail> {
-    let are_shared = match module_in(rt.alloc(), bytes_in(rt.alloc(), MEETS)?) {
-        Some(module) => has_shared_records(&module),
-        None => false,
-    };
-    assert!(rt; are_shared);
-    Ok(())
 }
 
 // Three targets of a segment, which the next one has too; a third has the last of them. A fourth has those of the second from its
@@ -431,8 +365,101 @@ fn are_held_once(alloc: Global) -> Result<bool, NoMemory> {
     Ok(are_held(&targets))
 }
 
+// What is tried of a module.
+#[derive(Clone, Copy)]
+enum Trial {
+    // Its parts are those of HELLO.
+    Hello,
+    // Its segments share records as those of MEETS do.
+    Meets,
+    // With these targets so many bytes of its first segment's image, from a first count to below a last one, are those of this image.
+    Fills {
+        targets: &'static str,
+        image: &'static str,
+        first: usize,
+        last: usize,
+    },
+}
+
+// Whether so many bytes of the image of a program's first segment, with targets, are those of an image.
+fn is_filled(
+    alloc: Global,
+    module: &Module,
+    targets: &str,
+    image: &str,
+    first: usize,
+    last: usize,
+) -> Result<bool, NoMemory> {
+    let image = bytes_in(alloc, image)?;
+    let targets = resolved(alloc, targets)?;
+    Ok(fills_each(module, &targets, image.as_slice(), first, last))
+}
+
+fn holds_of(alloc: Global, module: &Module, trial: Trial) -> Result<bool, NoMemory> {
+    match trial {
+        Trial::Hello => Ok(is_hello(module)),
+        Trial::Meets => Ok(has_shared_records(module)),
+        Trial::Fills {
+            targets,
+            image,
+            first,
+            last,
+        } => is_filled(alloc, module, targets, image, first, last),
+    }
+}
+
+// Whether that holds of the module in a file.
+fn holds(alloc: Global, text: &str, trial: Trial) -> Result<bool, NoMemory> {
+    match module_in(alloc, bytes_in(alloc, text)?) {
+        Some(module) => holds_of(alloc, &module, trial),
+        None => Ok(false),
+    }
+}
+
+// Whether the imports of HELLO become gates.
+fn has_gates(alloc: Global) -> Result<bool, NoMemory> {
+    let trial = Trial::Fills {
+        targets: "A3:0 8B:0",
+        image: GATES,
+        first: 25,
+        last: 26,
+    };
+    holds(alloc, HELLO, trial)
+}
+
+// Whether each front of the image of MIXED is as it must be.
+fn has_fronts(alloc: Global) -> Result<bool, NoMemory> {
+    let trial = Trial::Fills {
+        targets: TARGETS,
+        image: IMAGE,
+        first: 0,
+        last: 81,
+    };
+    holds(alloc, MIXED, trial)
+}
+
+// What doesn't hold, or no text.
+fn first_wrong(alloc: Global) -> Result<&'static str, NoMemory> {
+    if !holds(alloc, HELLO, Trial::Hello)? {
+        return Ok("the parts of a program");
+    }
+    if !holds(alloc, MEETS, Trial::Meets)? {
+        return Ok("segments may share records");
+    }
+    if !has_gates(alloc)? {
+        return Ok("imports become gates");
+    }
+    if !has_fronts(alloc)? {
+        return Ok("each front of an image");
+    }
+    if !are_held_once(alloc)? {
+        return Ok("targets are held once");
+    }
+    Ok("")
+}
+
 #[test]
-fn targets_are_held_once(rt: HostRuntime) -> Result<(), Fail> {
-    assert!(rt; are_held_once(rt.alloc())?);
+fn modules_and_their_images(rt: HostRuntime) -> Result<(), Fail> {
+    assert_eq!(rt; first_wrong(rt.alloc())?, "");
     Ok(())
 }

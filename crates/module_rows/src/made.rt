@@ -1,11 +1,8 @@
 // Random executables with every feature of the format, written from what they must be read as.
-use crate::image::{is_judged, is_text, module_in};
 use o2_base::NoMemory;
-use o2_image::Module;
 use o2_ne_segs::{Kind, Reloc, Segment};
 use row_parts::{add_bytes, below, next, word_below};
-use std::alloc::{AllocError, Global};
-use std::test::Fail;
+use std::alloc::Global;
 
 // A file up to its resident names: its header at 64, its segment table at 128, for up to 8 rows, its references at 192, for up to 4,
 // the imported names at 200, the entries at 224, and its own name. Then come the other resident names, the segments with their
@@ -20,11 +17,11 @@ static FRONT: &str = "
 ";
 
 // The imported names, with their offsets.
-static CALLED: [(u16, &str); 4] = [(1, "DOSCALLS"), (10, "OTHER"), (16, "abc"), (20, "z")];
+pub static CALLED: [(u16, &str); 4] = [(1, "DOSCALLS"), (10, "OTHER"), (16, "abc"), (20, "z")];
 
 // The ordinals that the entry table defines, each with its segment and its offset: two of segment 1, two that aren't defined, two
 // movable ones, 253 that aren't defined in two bundles, and one of segment 1.
-static ENTRIES: [(u16, u8, u16); 5] = [
+pub static ENTRIES: [(u16, u8, u16); 5] = [
     (1, 1, 0x0102),
     (2, 1, 0x0304),
     (5, 2, 0x0506),
@@ -42,33 +39,33 @@ static KINDS: [(Kind, u16); 4] = [
 
 // A record by its segment from 1 and its number from 0, and where it stands in the file.
 #[derive(Clone, Copy)]
-struct Placed {
-    segment: u16,
-    number: u16,
-    at: u32,
-    reloc: Reloc,
+pub struct Placed {
+    pub segment: u16,
+    pub number: u16,
+    pub at: u32,
+    pub reloc: Reloc,
 }
 
 // A name by where it stands in the file and how long it is, with its ordinal.
 #[derive(Clone, Copy)]
-struct Named {
-    at: usize,
-    len: usize,
-    ordinal: u16,
+pub struct Named {
+    pub at: usize,
+    pub len: usize,
+    pub ordinal: u16,
 }
 
 // What a file must be read as.
 #[derive(Drop)]
-struct Made {
-    file: Vec<u8>,
-    segments: Vec<Segment>,
-    records: Vec<Placed>,
-    names: Vec<Named>,
-    references: Vec<u16>,
+pub struct Made {
+    pub file: Vec<u8>,
+    pub segments: Vec<Segment>,
+    pub records: Vec<Placed>,
+    pub names: Vec<Named>,
+    pub references: Vec<u16>,
 }
 
 // Nothing yet.
-fn unmade(alloc: Global) -> Made {
+pub fn unmade(alloc: Global) -> Made {
     Made {
         file: Vec::new(alloc),
         segments: Vec::new(alloc),
@@ -92,14 +89,14 @@ fn set_byte(file: &mut Vec<u8>, at: u32, byte: u8) {
     }
 }
 
-fn set_word(file: &mut Vec<u8>, at: u32, n: u32) {
+pub fn set_word(file: &mut Vec<u8>, at: u32, n: u32) {
     let [low, high] = ((n % 65_536) as u16).to_le_bytes();
     set_byte(file, at, low);
     set_byte(file, at.wrapping_add(1), high);
 }
 
 // The length of a file, which is short.
-fn len_of(file: &Vec<u8>) -> u32 {
+pub fn len_of(file: &Vec<u8>) -> u32 {
     (file.len() % 65_536) as u32
 }
 
@@ -310,7 +307,7 @@ fn add_others(made: &mut Made, seed: u32) -> Result<(), NoMemory> {
 }
 
 // Makes a random file, with what it must be read as.
-fn make(made: &mut Made, seed: u32) -> Result<(), NoMemory> {
+pub fn make(made: &mut Made, seed: u32) -> Result<(), NoMemory> {
     let segments = below(seed, 5).wrapping_add(2);
     let references = below(next(seed), 3).wrapping_add(1);
     clear(made);
@@ -321,253 +318,4 @@ fn make(made: &mut Made, seed: u32) -> Result<(), NoMemory> {
     add_names(made, next(seed), 0, (below(seed, 14) % 14) as u16)?;
     let seed = add_segments(made, seed, (segments, references))?;
     add_others(made, seed)
-}
-
-fn has_segments(module: &Module, made: &Made) -> bool {
-    let mut number = 0u16;
-    for segment in made.segments.as_slice() {
-        number = number.wrapping_add(1);
-        if module.segment(number) != Some(*segment) {
-            return false;
-        }
-    }
-    module.segment_count() == number && module.segment(0).is_none()
-}
-
-fn has_records(module: &Module, made: &Made) -> bool {
-    for placed in made.records.as_slice() {
-        if module.reloc(placed.segment, placed.number) != Some(placed.reloc) {
-            return false;
-        }
-    }
-    module.reloc_count() as usize == made.records.len()
-}
-
-// Whether names are found as they stand in these bytes.
-fn are_found(module: &Module, names: &[Named], bytes: &[u8]) -> bool {
-    for named in names {
-        let Some(text) = bytes.get(named.at..named.at.wrapping_add(named.len)) else {
-            return false;
-        };
-        if module.names().ordinal(text) != Some(named.ordinal) {
-            return false;
-        }
-    }
-    true
-}
-
-fn has_names(module: &Module, made: &Made) -> bool {
-    are_found(module, made.names.as_slice(), made.file.as_slice())
-        && module.names().ordinal(b"?").is_none()
-        && module.name().as_slice() == b"MADE".as_slice()
-}
-
-// Whether the names are found in capital letters too.
-fn has_capitals(alloc: Global, module: &Module, made: &Made) -> Result<bool, NoMemory> {
-    let bytes = made.file.as_slice().to_ascii_uppercase(alloc)?;
-    Ok(are_found(module, made.names.as_slice(), bytes.as_slice()))
-}
-
-// The text of a name by its offset among the imported ones.
-fn called(at: u16) -> &'static str {
-    for (offset, text) in CALLED {
-        if offset == at {
-            return text;
-        }
-    }
-    ""
-}
-
-fn has_references(module: &Module, made: &Made) -> bool {
-    let mut k = 0u16;
-    for at in made.references.as_slice() {
-        k = k.wrapping_add(1);
-        if !is_text(module.reference(k), called(*at).as_bytes()) {
-            return false;
-        }
-    }
-    module.reference(0).is_none() && module.reference(k.wrapping_add(1)).is_none()
-}
-
-fn has_entries(module: &Module) -> bool {
-    for (ordinal, segment, offset) in ENTRIES {
-        if module.entries().get(ordinal) != Some((segment, offset)) {
-            return false;
-        }
-    }
-    let others = [0u16, 3, 4, 7, 259, 261];
-    module.entry_count() == 5 && others.iter().all(|n| module.entries().get(*n).is_none())
-}
-
-// Whether a module is what was made.
-fn is_as_made(alloc: Global, module: &Module, made: &Made) -> Result<bool, NoMemory> {
-    let is_so = has_segments(module, made)
-        && has_records(module, made)
-        && has_references(module, made)
-        && has_entries(module)
-        && has_names(module, made);
-    Ok(is_so && has_capitals(alloc, module, made)?)
-}
-
-// Whether a file is read as it was made.
-fn is_read(alloc: Global, made: &Made) -> Result<bool, NoMemory> {
-    match module_in(alloc, made.file.clone()?) {
-        Some(module) => is_as_made(alloc, &module, made),
-        None => Ok(false),
-    }
-}
-
-// How many files are read as they were made.
-fn read_files(alloc: Global, made: &mut Made, count: u32) -> Result<u32, NoMemory> {
-    let mut read = 0u32;
-    for n in 0..count {
-        make(made, next(n.wrapping_mul(86_243)))?;
-        if is_read(alloc, made)? {
-            read = read.wrapping_add(1);
-        }
-    }
-    Ok(read)
-}
-
-// The same of 60 files.
-fn read_all(alloc: Global) -> Result<u32, NoMemory> {
-    let mut made = unmade(alloc);
-    read_files(alloc, &mut made, 60)
-}
-
-#[test]
-fn random_files_are_read_as_they_were_written(rt: HostRuntime) -> Result<(), Fail> {
-    assert!(rt; read_all(rt.alloc())? == 60);
-    Ok(())
-}
-
-// A word of a file changed: where it stands, what it becomes, and the place that is then at fault, where it isn't the target.
-#[derive(Clone, Copy)]
-struct Change {
-    at: u32,
-    word: u32,
-    place: Option<u16>,
-}
-
-// A word of a record changed so that it leads nowhere, in a file of this length; none where such a record can't be changed so.
-fn damaged(placed: &Placed, before: Option<Placed>, kind: u32, len: u32) -> Option<Change> {
-    let Placed { at, reloc, .. } = *placed;
-    let word = match kind {
-        0 => u32::from(reloc.flags) * 256 + 4,
-        4 if reloc.flags & 3 != 3 => 0,
-        6 if reloc.flags & 3 == 0 && reloc.first % 256 == 255 => 4,
-        6 if reloc.flags & 3 == 2 => len.wrapping_sub(200),
-        2 => return damaged_place(placed, before),
-        _ => return None,
-    };
-    Some(Change {
-        at: at.wrapping_add(kind),
-        word,
-        place: None,
-    })
-}
-
-// A place outside the segment, or where the record before it patches.
-fn damaged_place(placed: &Placed, before: Option<Placed>) -> Option<Change> {
-    if placed.reloc.flags & 3 == 3 {
-        return None;
-    }
-    let place = match before {
-        Some(other) if other.segment == placed.segment && other.reloc.flags & 3 != 3 => other
-            .reloc
-            .place,
-        _ => 0xFFF0,
-    };
-    Some(Change {
-        at: placed.at.wrapping_add(2),
-        word: u32::from(place),
-        place: Some(place),
-    })
-}
-
-// How a file with such a change of a record is judged.
-fn fault_of(alloc: Global, placed: &Placed, place: Option<u16>) -> Result<String, AllocError> {
-    match place {
-        Some(place) => format!(in alloc; "BadChain({}, {place})", placed.segment),
-        None => format!(in alloc; "BadTarget({}, {})", placed.segment, placed.number),
-    }
-}
-
-// Whether a file with a word changed is judged so.
-fn is_changed(
-    alloc: Global,
-    file: &Vec<u8>,
-    change: Change,
-    fault: &str,
-) -> Result<bool, NoMemory> {
-    let mut file = file.clone()?;
-    set_word(&mut file, change.at, change.word);
-    is_judged(alloc, file, fault)
-}
-
-// Whether a file with a record changed is judged as it must be.
-fn is_told(
-    alloc: Global,
-    file: &Vec<u8>,
-    placed: &Placed,
-    change: Change,
-) -> Result<bool, NoMemory> {
-    let fault = fault_of(alloc, placed, change.place)?;
-    is_changed(alloc, file, change, fault.as_str())
-}
-
-// How many changes there are of a record, and how many are judged as they must be.
-fn judged_record(
-    alloc: Global,
-    file: &Vec<u8>,
-    placed: &Placed,
-    before: Option<Placed>,
-) -> Result<(u32, u32), NoMemory> {
-    let mut all = 0u32;
-    let mut right = 0u32;
-    for kind in [0u32, 2, 4, 6] {
-        if let Some(change) = damaged(placed, before, kind, len_of(file)) {
-            all = all.wrapping_add(1);
-            if is_told(alloc, file, placed, change)? {
-                right = right.wrapping_add(1);
-            }
-        }
-    }
-    Ok((all, right))
-}
-
-// The same of all records of a file.
-fn judged_records(alloc: Global, made: &Made) -> Result<(u32, u32), NoMemory> {
-    let mut counts = (0u32, 0u32);
-    let mut before = None;
-    for placed in made.records.as_slice() {
-        let (all, right) = judged_record(alloc, &made.file, placed, before)?;
-        counts = (counts.0.wrapping_add(all), counts.1.wrapping_add(right));
-        before = Some(*placed);
-    }
-    Ok(counts)
-}
-
-// The same of so many files.
-fn judged_files(alloc: Global, made: &mut Made, count: u32) -> Result<(u32, u32), NoMemory> {
-    let mut counts = (0u32, 0u32);
-    for n in 0..count {
-        make(made, next(n.wrapping_mul(51_031)))?;
-        let (all, right) = judged_records(alloc, made)?;
-        counts = (counts.0.wrapping_add(all), counts.1.wrapping_add(right));
-    }
-    Ok(counts)
-}
-
-// The same of 12 files.
-fn judged_all(alloc: Global) -> Result<(u32, u32), NoMemory> {
-    let mut made = unmade(alloc);
-    judged_files(alloc, &mut made, 12)
-}
-
-#[test]
-fn each_record_that_leads_nowhere_is_told(rt: HostRuntime) -> Result<(), Fail> {
-    let (all, right) = judged_all(rt.alloc())?;
-    assert!(rt; all > 100 && right == all, "{right} of {all}");
-    Ok(())
 }
