@@ -123,7 +123,10 @@ fn begin<S: SwapDevice>(
 
 /// Whether the answer to a call on a live segment may be this one.
 fn is_answer(answer: Brought) -> Result<(), &'static str> {
-    must(answer != Brought::Stale, "a live segment is stale")
+    match answer {
+        Brought::Stale => Err("a live segment is stale"),
+        _ => Ok(()),
+    }
 }
 
 fn sizes<S: SwapDevice>(
@@ -140,12 +143,11 @@ fn sizes<S: SwapDevice>(
     ensures made { store.new.made ≡ store.old.made }
 {
     let out = store.base(segment.id).is_none();
-    let answer = resize(store, segment.id, size, keep, images, swap);
-    is_answer(answer)?;
-    if answer == Brought::Here {
-        return must(segment.bytes.resize(size as usize, 0).is_ok(), "no memory");
+    match resize(store, segment.id, size, keep, images, swap) {
+        Brought::Stale => Err("a live segment is stale"),
+        Brought::Here => must(segment.bytes.resize(size as usize, 0).is_ok(), "no memory"),
+        _ => must(!out, "a segment out of memory needs no room"),
     }
-    must(!out, "a segment out of memory needs no room")
 }
 
 fn writes<S: SwapDevice>(

@@ -45,8 +45,10 @@ fn number(text: &str) -> u32 {
 
 /// Up to two numbers, with 0 for those that are missing.
 fn numbers(text: &str) -> (u32, u32) {
-    let (first, second) = text.split_once(' ').unwrap_or((text, "0"));
-    (number(first), number(second))
+    match text.split_once(' ') {
+        Some((first, second)) => (number(first), number(second)),
+        None => (number(text), 0),
+    }
 }
 
 fn brought_of(word: &str) -> Option<Brought> {
@@ -65,15 +67,19 @@ fn place_of(word: &str) -> Place {
     }
 }
 
+/// A byte of a segment that is in memory.
+fn byte_at(store: &Store, id: SegId, offset: u32) -> Option<u8> {
+    let window = store.window(id)?;
+    window.get(offset as usize).copied()
+}
+
 /// Whether a call that looks at a segment answers so.
 fn is_seen(store: &Store, id: SegId, call: &str, offset: u32, wanted: &str) -> bool {
     match call {
         "place" => store.place(id) == Some(place_of(wanted)),
         "kept" => store.kept(id) == Some(number(wanted)),
-        _ => match store.window(id) {
-            Some(window) => {
-                window.get(offset as usize).map(|byte| u32::from(*byte)) == Some(number(wanted))
-            }
+        _ => match byte_at(store, id, offset) {
+            Some(byte) => u32::from(byte) == number(wanted),
             None => false,
         },
     }
@@ -84,10 +90,13 @@ fn write_block<S: SwapDevice>(store: &Store, swap: &mut S, id: SegId) -> Option<
     ensures { S.blocks swap.new ≡ S.blocks swap.old }
 {
     let block = store.block(id, 0)?;
-    if block < swap.count() && swap.write(block, &[2u8; 512]) == Dev::Done {
-        return Some(Brought::Here);
+    if swap.count() <= block {
+        return None;
     }
-    None
+    match swap.write(block, &[2u8; 512]) {
+        Dev::Done => Some(Brought::Here),
+        Dev::Failed => None,
+    }
 }
 
 /// A call that changes something, and its answer.
