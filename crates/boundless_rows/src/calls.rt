@@ -3,7 +3,6 @@ use o2_base::{Bytes, NoMemory};
 use o2_boundless::{Process, Segment, World};
 use o2_sequences::{process, segment};
 use std::alloc::Global;
-use std::process::Abort;
 use std::test::Fail;
 
 /// A service and its arguments in hexadecimal, and the error number.
@@ -154,15 +153,19 @@ fn begin(alloc: Global, world: &mut World) -> Result<(), NoMemory> {
     Ok(())
 }
 
-/// What a call of the first process answers; none where the row is none, or the process has ended.
-fn called(alloc: Global, world: &mut World, words: &str) -> Result<Option<u16>, NoMemory> {
-    let mut numbers = Vec::new(alloc);
+/// Writes hexadecimal words as numbers, and tells whether all of them are.
+fn write_numbers(numbers: &mut Vec<u16>, words: &str) -> Result<bool, NoMemory> {
     for word in words.split(' ') {
         match u16::from_str_radix(word, 16) {
             Ok(number) => numbers.push(number)?,
-            Err(_) => return Ok(None),
+            Err(_) => return Ok(false),
         }
     }
+    Ok(true)
+}
+
+/// What a call of the first process answers, by its service and arguments; none where it has ended.
+fn call(alloc: Global, world: &mut World, numbers: &[u16]) -> Result<Option<u16>, NoMemory> {
     let Some((service, args)) = numbers.split_first() else {
         return Ok(None);
     };
@@ -173,54 +176,71 @@ fn called(alloc: Global, world: &mut World, words: &str) -> Result<Option<u16>, 
     Ok(Some(error))
 }
 
-/// Whether each row answers as it says; the number of those that do.
-fn run(alloc: Global, world: &mut World) -> Result<usize, NoMemory> {
+/// Whether a row answers as it says.
+fn is_right(alloc: Global, world: &mut World, row: &str) -> Result<bool, NoMemory> {
+    let (words, error) = row.split_once(" = ").unwrap_or((row, ""));
+    let mut numbers = Vec::new(alloc);
+    if !write_numbers(&mut numbers, words)? {
+        return Ok(false);
+    }
+    let answer = call(alloc, world, &numbers)?;
+    Ok(answer.is_some() && answer == error.parse::<u16>().ok())
+}
+
+/// How many rows answer as they say.
+fn run(alloc: Global, world: &mut World, rows: &str) -> Result<usize, NoMemory> {
     let mut right = 0usize;
-    for row in CALLS.split('\n') {
-        let Some((words, error)) = row.split_once(" = ") else {
-            return Ok(0);
-        };
-        let answer = called(alloc, world, words)?;
-        if answer == error.parse::<u16>().ok() {
+    for row in rows.split('\n') {
+        if is_right(alloc, world, row)? {
             right = right.saturating_add(1);
         }
     }
     Ok(right)
 }
 
-/// The calls of the rows, in a bare world.
-fn check_rows(rt: &impl Abort, alloc: Global, world: &mut World) -> Result<(), Fail> {
-    begin(alloc, world)?;
-    let right = run(alloc, world)?;
-    assert_eq!(rt; right, 46);
-    assert_eq!(rt; world.lines.as_slice(), REPORT.as_bytes());
-    assert_eq!(rt; world.console.as_slice(), b"...".as_slice());
-    assert_eq!(rt; world.input.len(), 0);
-    assert!(rt; !world.lives(1));
-    Ok(())
+/// Whether the process has ended, and the world has these lines, this console and so many bytes of input.
+fn is_over(world: &World, lines: &str, console: &str, input: usize) -> bool {
+    !world.lives(1)
+        && world.lines.as_slice() == lines.as_bytes()
+        && world.console.as_slice() == console.as_bytes()
+        && world.input.len() == input
 }
 
-/// A call of no row, in a bare world.
-fn check_other(rt: &impl Abort, alloc: Global, world: &mut World) -> Result<(), Fail> {
+/// How many rows answer as they say in a bare world, and whether it is over behind them as it must.
+fn come_to(
+    alloc: Global,
+    world: &mut World,
+    rows: &str,
+    lines: &str,
+    console: &str,
+    input: usize,
+) -> Result<(usize, bool), NoMemory> {
     begin(alloc, world)?;
-    let answer = called(alloc, world, "1F 1 2")?;
-    assert_eq!(rt; answer, Some(0));
-    assert_eq!(rt;
-        world.lines.as_slice(),
-        b"1 end trap 13 at 000F:0100\n".as_slice()
-    );
-    assert!(rt; !world.lives(1));
-    Ok(())
+    let right = run(alloc, world, rows)?;
+    Ok((right, is_over(world, lines, console, input)))
+}
+
+/// The same in a world of its own.
+fn calls(
+    alloc: Global,
+    rows: &str,
+    lines: &str,
+    console: &str,
+    input: usize,
+) -> Result<(usize, bool), NoMemory> {
+    let mut world = World::new(alloc, 100, 0x1234_5678)?;
+    come_to(alloc, &mut world, rows, lines, console, input)
 }
 
 #[test]
 fn calls_answer_and_tell(rt: HostRuntime) -> Result<(), Fail> {
-    let mut world = World::new(rt.alloc(), 100, 0x1234_5678)?;
-    check_rows(&rt, rt.alloc(), &mut world)
+    assert_eq!(rt; calls(rt.alloc(), CALLS, REPORT, "...", 0)?, (46, true));
+    Ok(())
 }
 
 #[test]
 fn a_number_without_a_row_ends_its_process(rt: HostRuntime) -> Result<(), Fail> {
-    let mut world = World::new(rt.alloc(), 100, 0x1234_5678)?;
-    check_other(&rt, rt.alloc(), &mut world)
+    let report = "1 end trap 13 at 000F:0100\n";
+    assert_eq!(rt; calls(rt.alloc(), "1F 1 2 = 0", report, "", 3)?, (1, true));
+    Ok(())
 }
